@@ -2,7 +2,7 @@
 --
 -- It is total: where an operand is not of the form that it should be, a default stands in its place. No typed program meets one
 -- (`NoDefault`).
-use Rattle.std.specs.Prelude.{ℕ, zero, suc, ℤ, pos, ◌+ℤ◌, ◌-ℤ◌, ◌*ℤ◌, int_div, int_rem, int_lt, int_le, List, [], ◌∷◌, map, Bool, true, false, cond, not, ◌&&◌, ◌+◌, Option, Some, None}
+use Rattle.std.specs.Prelude.{ℕ, zero, suc, ℤ, pos, ◌+ℤ◌, ◌-ℤ◌, ◌*ℤ◌, int_div, int_rem, int_lt, int_le, List, [], ◌∷◌, map, Bool, true, false, cond, ◌&&◌, ◌+◌, Option, Some, None}
 use Rattle.std.specs.Int.{int_wrap, w64}
 use Rattle.std.specs.Str.{bytes_eq}
 use Rattle.raml_syntax.specs.declared.tree.ArithOp.TheVariants.{Add, Sub, Mul, Div, Mod}

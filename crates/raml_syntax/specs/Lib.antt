@@ -2,6 +2,8 @@ pub mod Tree
 pub mod Value
 pub mod Read
 pub mod Eval
+pub mod Place
 pub mod Types
 pub mod Default
 pub mod Laws
+pub mod Example

@@ -1,5 +1,6 @@
 -- What the code's types, trees and values are as plain data.
-use Rattle.std.specs.Prelude.{ℕ, List, [], ◌∷◌, map}
+use Rattle.std.specs.Prelude.{ℕ, List, [], ◌∷◌, map, Option}
+use Rattle.std.specs.Option.{option_map}
 use Rattle.raml_syntax.specs.Tree as t
 use Rattle.raml_syntax.specs.Value as v
 use Rattle.raml_syntax.specs.declared.ty.Ty.{Ty}
@@ -12,6 +13,7 @@ use Rattle.raml_syntax.specs.declared.tree.Form.TheOpen as f
 use Rattle.raml_syntax.specs.declared.tree.Form.TheFolds.{fold-Form, fold-Expr}
 use Rattle.raml_syntax.specs.declared.program.Param.{Param}
 use Rattle.raml_syntax.specs.declared.program.Fun.{Fun}
+use Rattle.raml_syntax.specs.declared.program.FunId.{FunId}
 use Rattle.raml_syntax.specs.declared.program.Program.{Program}
 use Rattle.raml_syntax.specs.declared.value.Value.{Value}
 use Rattle.raml_syntax.specs.declared.value.Value.TheOpen as o
@@ -76,6 +78,9 @@ function_of g = record { at = g.at.0; name = g.name; params = map parameter_of g
 
 abbrev pub program_of : Program → t.Prog
 program_of P = map function_of P.funs.items
+
+abbrev pub place_in : Option FunId → Option ℕ
+place_in = option_map (λ (f : FunId). f.0)
 
 abbrev pub list_value : List v.Value → v.Value
 list_value [] = v.Empty

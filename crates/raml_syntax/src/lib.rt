@@ -1,6 +1,7 @@
 //! The source language: types, trees and values, and what a program means.
 #![tactic(auto)]
 
+pub mod laws;
 mod name;
 mod program;
 mod tree;

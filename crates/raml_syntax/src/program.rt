@@ -1,4 +1,8 @@
 // Functions and programs.
+ghost use Rattle.std.specs.Prelude.{◌≡◌, ◌<◌, ◌^◌, ℕ, Option, length};
+ghost use Rattle.raml_syntax.specs.Read.{program_of, place_in};
+ghost use Rattle.raml_syntax.specs.Place.{place_of};
+
 use crate::name::Name;
 use crate::tree::{Expr, Pos};
 use crate::ty::Ty;
@@ -29,4 +33,21 @@ pub struct Fun {
 #[derive(Drop)]
 pub struct Program {
     pub funs: Vec<Fun>,
+}
+
+impl Program {
+    /// The first function of this name; `None` where there is none.
+    pub fn find(&self, name: &str) -> Option<FunId>
+        requires { length (program_of self.now) < 2 ^ 32 }
+        ensures { place_in result ≡ place_of name.now (program_of self.now) }
+    {
+        let mut place = 0;
+        for fun in &self.funs {
+            if fun.name.text() == name {
+                return Some(FunId(place));
+            }
+            place += 1;
+        }
+        None
+    }
 }

@@ -1,0 +1,3 @@
+pub mod Grow
+pub mod Keep
+mod Computed

@@ -1,0 +1,19 @@
+// Laws of the language: each is the contract of a function that does nothing.
+ghost use Rattle.raml_syntax.specs.Laws.{CostsGrowWithLimit, TypedRunsKeepTypes};
+ghost use Rattle.raml_syntax.specs.Example.{Examples};
+
+/// A greater depth limit costs no less, and where there is a value it stays with its costs.
+pub fn costs_grow_with_limit()
+    ensures { CostsGrowWithLimit }
+{}
+
+/// In a typed program each typed expression of typed values gives a value of its type or is cut,
+/// and never falls back on a default.
+pub fn typed_runs_keep_types()
+    ensures { TypedRunsKeepTypes }
+{}
+
+/// Small evaluations give what was worked out by hand.
+pub fn small_evaluations()
+    ensures { Examples }
+{}
