@@ -11,7 +11,8 @@ use Rattle.raml_syntax.specs.Value.{Value, Number, Truth, Both, Empty, Cons, Nod
 use Rattle.raml_syntax.specs.Eval.{Run, goes_on, and_then, Env, look, branch, negation, pair_case, list_case, tree_case, cut, Calls, walk, walk_all, find, names_of, bind_all, enter, calls_at}
 use Rattle.raml_syntax.specs.Types.{Context, type_at, bind_types, types_of, IsListType, IsTreeType, Way, Finding, Checking, OnlyChecked, HasType, CheckEach, Checks, Typed}
 use Rattle.raml_syntax.specs.Default.{IsNumber, IsTruth, IsBound, Taken, TakenPair, TakenList, TakenTree, Asked, NoDefault, NoDefaults, Enters, CallMeetsNone}
-use Rattle.raml_syntax.specs.Laws.{NumbersFit, AllNumbersFit, Keeps, Holds, TypedRunsKeepTypes}
+use Rattle.raml_syntax.specs.Node.{AllNodes, AllOf, NumberFits}
+use Rattle.raml_syntax.specs.Laws.{Keeps, Holds, TypedRunsKeepTypes}
 
 some_is : {A : Type 0} (x y : A) → Some x ≡ Some y → x ≡ y
 some_is x y e = cc
@@ -118,15 +119,15 @@ record KeepsAll (As : List Type') (r : Run (List Value)) (MeetsNone : Type 0) : 
 
 module _ (P : Prog) (call : Calls) (asked : Asked) (calls : CallsKeep P call asked) where
   mutual
-    walk_keeps : (e : t.Term) (way : Way) (G : Context) (env : Env) (T : Type') → NumbersFit e → HasType P way G e T → Holds G env → Keeps T (walk call e env) (NoDefault call asked e env)
+    walk_keeps : (e : t.Term) (way : Way) (G : Context) (env : Env) (T : Type') → AllNodes NumberFits e → HasType P way G e T → Holds G env → Keeps T (walk call e env) (NoDefault call asked e env)
     walk_keeps (t.Number p n) way G env T fits h k = record { value = λ v e. subst (Has v) (sym h) (gives Integer (Number n) v e fits); no_default = tt }
     walk_keeps (t.Truth p b) way G env T fits h k = record { value = λ v e. subst (Has v) (sym h) (gives Boolean (Truth b) v e tt); no_default = tt }
     walk_keeps (t.Nil p) way G env T fits h k = record { value = λ v e. gives T Empty v e (empty_list way T h); no_default = tt }
     walk_keeps (t.Leaf p) way G env T fits h k = record { value = λ v e. gives T Empty v e (empty_tree way T h); no_default = tt }
     walk_keeps (t.Var p x) way G env T fits h k = record { value = λ v e. gives T _ v e (k.at x T h).0; no_default = (k.at x T h).1 }
     walk_keeps (t.Arith p op a b) way G env T fits h k =
-        let ka = walk_keeps a Checking G env Integer fits.0 h.1 k in
-        let kb = walk_keeps b Checking G env Integer fits.1 h.2 k in
+        let ka = walk_keeps a Checking G env Integer fits.1 h.1 k in
+        let kb = walk_keeps b Checking G env Integer fits.2 h.2 k in
         record {
           value = λ v e.
               let p = then_inv (walk call a env) _ v e in
@@ -135,8 +136,8 @@ module _ (P : Prog) (call : Calls) (asked : Asked) (calls : CallsKeep P call ask
           no_default = (ka.no_default, kb.no_default, (λ v e. number_is v (ka.value v e)), (λ v e. number_is v (kb.value v e)));
         }
     walk_keeps (t.Compare p op a b) way G env T fits h k =
-        let ka = walk_keeps a Checking G env Integer fits.0 h.1 k in
-        let kb = walk_keeps b Checking G env Integer fits.1 h.2 k in
+        let ka = walk_keeps a Checking G env Integer fits.1 h.1 k in
+        let kb = walk_keeps b Checking G env Integer fits.2 h.2 k in
         record {
           value = λ v e.
               let p = then_inv (walk call a env) _ v e in
@@ -145,14 +146,14 @@ module _ (P : Prog) (call : Calls) (asked : Asked) (calls : CallsKeep P call ask
           no_default = (ka.no_default, kb.no_default, (λ v e. number_is v (ka.value v e)), (λ v e. number_is v (kb.value v e)));
         }
     walk_keeps (t.Not p a) way G env T fits h k =
-        let ka = walk_keeps a Checking G env Boolean fits h.1 k in
+        let ka = walk_keeps a Checking G env Boolean fits.1 h.1 k in
         record {
           value = λ v e. let p = then_inv (walk call a env) _ v e in subst (Has v) (sym h.0) (gives Boolean _ v p.2 (negation_has p.0));
           no_default = (ka.no_default, (λ v e. truth_is v (ka.value v e)));
         }
     walk_keeps (t.Pair p a b) way G env T fits h k =
-        let ka = walk_keeps a way G env h.0 fits.0 h.3 k in
-        let kb = walk_keeps b way G env h.1 fits.1 h.4 k in
+        let ka = walk_keeps a way G env h.0 fits.1 h.3 k in
+        let kb = walk_keeps b way G env h.1 fits.2 h.4 k in
         record {
           value = λ v e.
               let p = then_inv (walk call a env) _ v e in
@@ -161,8 +162,8 @@ module _ (P : Prog) (call : Calls) (asked : Asked) (calls : CallsKeep P call ask
           no_default = (ka.no_default, kb.no_default);
         }
     walk_keeps (t.Cons p a b) way G env T fits h k =
-        let ka = walk_keeps a way G env h.0 fits.0 h.2 k in
-        let kb = walk_keeps b Checking G env (ListOf h.0) fits.1 h.3 k in
+        let ka = walk_keeps a way G env h.0 fits.1 h.2 k in
+        let kb = walk_keeps b Checking G env (ListOf h.0) fits.2 h.3 k in
         record {
           value = λ v e.
               let p = then_inv (walk call a env) _ v e in
@@ -171,9 +172,9 @@ module _ (P : Prog) (call : Calls) (asked : Asked) (calls : CallsKeep P call ask
           no_default = (ka.no_default, kb.no_default);
         }
     walk_keeps (t.Node p a b c) way G env T fits h k =
-        let ka = walk_keeps a way G env h.0 fits.0 h.2 k in
-        let kb = walk_keeps b Checking G env (TreeOf h.0) fits.1 h.3 k in
-        let kc = walk_keeps c Checking G env (TreeOf h.0) fits.2 h.4 k in
+        let ka = walk_keeps a way G env h.0 fits.1 h.2 k in
+        let kb = walk_keeps b Checking G env (TreeOf h.0) fits.2 h.3 k in
+        let kc = walk_keeps c Checking G env (TreeOf h.0) fits.3 h.4 k in
         record {
           value = λ v e.
               let p = then_inv (walk call a env) _ v e in
@@ -183,7 +184,7 @@ module _ (P : Prog) (call : Calls) (asked : Asked) (calls : CallsKeep P call ask
           no_default = (ka.no_default, kb.no_default, kc.no_default);
         }
     walk_keeps (t.Call p f args) way G env T fits h k =
-        let ks = all_keep args G env (types_of h.0) fits h.3 k in
+        let ks = all_keep args G env (types_of h.0) fits.1 h.3 k in
         record {
           value = λ v e.
               let p = then_inv (walk_all call args env) _ v e in
@@ -192,9 +193,9 @@ module _ (P : Prog) (call : Calls) (asked : Asked) (calls : CallsKeep P call ask
         }
     walk_keeps (t.Let p x a b) way G env T fits h k =
         let A = h.0 in
-        let ka = walk_keeps a Finding G env A fits.0 h.1 k in
+        let ka = walk_keeps a Finding G env A fits.1 h.1 k in
         let kb : (v : Value) → Has v A → Keeps T (walk call b ((x.name, v) ∷ env)) (NoDefault call asked b ((x.name, v) ∷ env)) =
-        λ v hv. walk_keeps b way ((x.name, A) ∷ G) ((x.name, v) ∷ env) T fits.1 h.2 (holds_more x.name A v G env hv k) in
+        λ v hv. walk_keeps b way ((x.name, A) ∷ G) ((x.name, v) ∷ env) T fits.2 h.2 (holds_more x.name A v G env hv k) in
         record {
           value = λ v e. let p = then_inv (walk call a env) _ v e in (kb p.0 (ka.value p.0 p.1)).value v p.2;
           no_default = (ka.no_default, (λ v e. (kb v (ka.value v e)).no_default));
@@ -202,47 +203,47 @@ module _ (P : Prog) (call : Calls) (asked : Asked) (calls : CallsKeep P call ask
     walk_keeps (t.LetPair p x y a b) way G env T fits h k =
         let A = h.0 in
         let B = h.1 in
-        let ka = walk_keeps a Finding G env (PairOf A B) fits.0 h.3 k in
+        let ka = walk_keeps a Finding G env (PairOf A B) fits.1 h.3 k in
         let kb : (s r : Value) → Has s A → Has r B → Keeps T (walk call b ((y.name, r) ∷ (x.name, s) ∷ env)) (NoDefault call asked b ((y.name, r) ∷ (x.name, s) ∷ env)) =
-        λ s r hs hr. walk_keeps b way ((y.name, B) ∷ (x.name, A) ∷ G) ((y.name, r) ∷ (x.name, s) ∷ env) T fits.1 h.4 (holds_more y.name B r _ _ hr (holds_more x.name A s G env hs k)) in
+        λ s r hs hr. walk_keeps b way ((y.name, B) ∷ (x.name, A) ∷ G) ((y.name, r) ∷ (x.name, s) ∷ env) T fits.2 h.4 (holds_more y.name B r _ _ hr (holds_more x.name A s G env hs k)) in
         record {
           value = λ v e. let p = then_inv (walk call a env) _ v e in pair_has p.0 v A B T _ (ka.value p.0 p.1) (λ s r hs hr. (kb s r hs hr).value) p.2;
           no_default = (ka.no_default, (λ v e. taken_pair v A B _ (ka.value v e) (λ s r hs hr. (kb s r hs hr).no_default)));
         }
     walk_keeps (t.If p c a b) way G env T fits h k =
-        let kc = walk_keeps c Checking G env Boolean fits.0 h.0 k in
-        let ka = walk_keeps a way G env T fits.1 h.1 k in
-        let kb = walk_keeps b Checking G env T fits.2 h.2 k in
+        let kc = walk_keeps c Checking G env Boolean fits.1 h.0 k in
+        let ka = walk_keeps a way G env T fits.2 h.1 k in
+        let kb = walk_keeps b Checking G env T fits.3 h.2 k in
         record {
           value = λ v e. let p = then_inv (walk call c env) _ v e in branch_has p.0 v _ _ T ka.value kb.value p.2;
           no_default = (kc.no_default, (λ v e. taken v _ _ (kc.value v e) ka.no_default kb.no_default));
         }
     walk_keeps (t.MatchList p c a x y b) way G env T fits h k =
         let A = h.0 in
-        let kc = walk_keeps c Finding G env (ListOf A) fits.0 h.2 k in
-        let ka = walk_keeps a way G env T fits.1 h.3 k in
+        let kc = walk_keeps c Finding G env (ListOf A) fits.1 h.2 k in
+        let ka = walk_keeps a way G env T fits.2 h.3 k in
         let kb : (s r : Value) → Has s A → Has r (ListOf A) → Keeps T (walk call b ((y.name, r) ∷ (x.name, s) ∷ env)) (NoDefault call asked b ((y.name, r) ∷ (x.name, s) ∷ env)) =
-        λ s r hs hr. walk_keeps b Checking ((y.name, ListOf A) ∷ (x.name, A) ∷ G) ((y.name, r) ∷ (x.name, s) ∷ env) T fits.2 h.4 (holds_more y.name (ListOf A) r _ _ hr (holds_more x.name A s G env hs k)) in
+        λ s r hs hr. walk_keeps b Checking ((y.name, ListOf A) ∷ (x.name, A) ∷ G) ((y.name, r) ∷ (x.name, s) ∷ env) T fits.3 h.4 (holds_more y.name (ListOf A) r _ _ hr (holds_more x.name A s G env hs k)) in
         record {
           value = λ v e. let p = then_inv (walk call c env) _ v e in list_has p.0 v A T _ _ (kc.value p.0 p.1) ka.value (λ s r hs hr. (kb s r hs hr).value) p.2;
           no_default = (kc.no_default, (λ v e. taken_list v A _ _ (kc.value v e) ka.no_default (λ s r hs hr. (kb s r hs hr).no_default)));
         }
     walk_keeps (t.MatchTree p c a x y z b) way G env T fits h k =
         let A = h.0 in
-        let kc = walk_keeps c Finding G env (TreeOf A) fits.0 h.2 k in
-        let ka = walk_keeps a way G env T fits.1 h.3 k in
+        let kc = walk_keeps c Finding G env (TreeOf A) fits.1 h.2 k in
+        let ka = walk_keeps a way G env T fits.2 h.3 k in
         let kb : (s l r : Value) → Has s A → Has l (TreeOf A) → Has r (TreeOf A) → Keeps T (walk call b ((z.name, r) ∷ (y.name, l) ∷ (x.name, s) ∷ env)) (NoDefault call asked b ((z.name, r) ∷ (y.name, l) ∷ (x.name, s) ∷ env)) =
-        λ s l r hs hl hr. walk_keeps b Checking ((z.name, TreeOf A) ∷ (y.name, TreeOf A) ∷ (x.name, A) ∷ G) ((z.name, r) ∷ (y.name, l) ∷ (x.name, s) ∷ env) T fits.2 h.4 (holds_more z.name (TreeOf A) r _ _ hr (holds_more y.name (TreeOf A) l _ _ hl (holds_more x.name A s G env hs k))) in
+        λ s l r hs hl hr. walk_keeps b Checking ((z.name, TreeOf A) ∷ (y.name, TreeOf A) ∷ (x.name, A) ∷ G) ((z.name, r) ∷ (y.name, l) ∷ (x.name, s) ∷ env) T fits.3 h.4 (holds_more z.name (TreeOf A) r _ _ hr (holds_more y.name (TreeOf A) l _ _ hl (holds_more x.name A s G env hs k))) in
         record {
           value = λ v e. let p = then_inv (walk call c env) _ v e in tree_has p.0 v A T _ _ (kc.value p.0 p.1) ka.value (λ s l r hs hl hr. (kb s l r hs hl hr).value) p.2;
           no_default = (kc.no_default, (λ v e. taken_tree v A _ _ (kc.value v e) ka.no_default (λ s l r hs hl hr. (kb s l r hs hl hr).no_default)));
         }
-    walk_keeps (t.Tick p n a) way G env T fits h k = let ka = walk_keeps a way G env T fits h k in record { value = ka.value; no_default = ka.no_default }
+    walk_keeps (t.Tick p n a) way G env T fits h k = let ka = walk_keeps a way G env T fits.1 h k in record { value = ka.value; no_default = ka.no_default }
     walk_keeps (t.Typed p a A) way G env T fits h k =
-        let ka = walk_keeps a Checking G env A fits h.1 k in
+        let ka = walk_keeps a Checking G env A fits.1 h.1 k in
         record { value = λ v e. subst (Has v) (sym h.0) (ka.value v e); no_default = ka.no_default }
 
-    all_keep : (es : t.Terms) (G : Context) (env : Env) (As : List Type') → AllNumbersFit es → CheckEach P G es As → Holds G env → KeepsAll As (walk_all call es env) (NoDefaults call asked es env)
+    all_keep : (es : t.Terms) (G : Context) (env : Env) (As : List Type') → AllOf NumberFits es → CheckEach P G es As → Holds G env → KeepsAll As (walk_all call es env) (NoDefaults call asked es env)
     all_keep t.None G env [] fits h k = record { values = λ vs e. subst (λ ws. HaveTypes ws []) (some_is _ _ e) tt; no_default = tt }
     all_keep t.None G env (A ∷ As) fits h k = absurd h
     all_keep (t.More a es) G env [] fits h k = absurd h
@@ -266,11 +267,11 @@ found_is Q f g (d ∷ P) all e = by (λ h. found_is Q f g P (All-tail Q d P all)
     by later true e = subst Q (some_is d g e) (All-head Q d P all)
     by later false e = later e
 
-module _ (P : Prog) (typed : Typed P) (fits : All (λ (g : Function). NumbersFit g.body) P) where
+module _ (P : Prog) (typed : Typed P) (fits : All (λ (g : Function). AllNodes NumberFits g.body) P) where
   body_keeps : (call : Calls) (asked : Asked) → CallsKeep P call asked → (f : Text) (g : Function) (vs : List Value) → find f P ≡ Some g → HaveTypes vs (types_of g) → Keeps g.result (walk call g.body (bind_all [] (names_of g) vs)) (NoDefault call asked g.body (bind_all [] (names_of g) vs))
   body_keeps call asked calls f g vs e h =
       walk_keeps P call asked calls g.body Checking (bind_types [] g.params) (bind_all [] (names_of g) vs) g.result
-      (found_is (λ (g : Function). NumbersFit g.body) f g P fits e)
+      (found_is (λ (g : Function). AllNodes NumberFits g.body) f g P fits e)
       (found_is (λ (g : Function). Checks P (bind_types [] g.params) g.body g.result) f g P typed.bodies e)
       (holds_bound g.params vs [] [] h no_variable)
 

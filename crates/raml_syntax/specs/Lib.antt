@@ -5,5 +5,6 @@ pub mod Eval
 pub mod Place
 pub mod Types
 pub mod Default
+pub mod Node
 pub mod Laws
 pub mod Example
