@@ -1,5 +1,5 @@
 -- What a store holds.
-use Rattle.std.specs.Prelude.{◌≡◌, ℕ, List, Option, Some, None, take}
+use Rattle.std.specs.Prelude.{◌≡◌, ℕ, List, Option, Some, take}
 
 -- what each name holds
 abbrev pub Files : Type 0

@@ -1,5 +1,5 @@
 -- A sink in memory.
-use Rattle.std.specs.Prelude.{◌≡◌, ℕ, ◌-◌, ◌⊎◌, min, List, ◌++◌, length, take, Contains}
+use Rattle.std.specs.Prelude.{◌≡◌, ℕ, ◌-◌, ◌⊎◌, min, List, [], ◌++◌, length, take, Contains}
 use Rattle.raml_io.specs.Faults.{next_count}
 
 pub record SinkState : Type 0 where
@@ -14,6 +14,11 @@ pub record SinkState : Type 0 where
   -- how many puts have failed
   pub faults : ℕ
 
+-- a sink that nothing was put to yet
+abbrev pub new_sink : ℕ → ℕ → List ℕ → SinkState
+new_sink room most failing =
+    record { room = room; most = most; failing = failing; written = []; puts = 0; faults = 0 }
+
 -- the next put of a piece that is not empty fails
 abbrev pub FailsPut : SinkState → Type 0
 FailsPut s = Contains s.failing s.puts ⊎ (length s.written ≡ s.room)
@@ -24,7 +29,8 @@ taken s piece = min (length piece) (min s.most (s.room - length s.written))
 
 -- after a put of a piece that is not empty, without a fault
 abbrev pub after_put : SinkState → List ℕ → SinkState
-after_put s piece = record s { written = s.written ++ take (taken s piece) piece; puts = next_count s.puts }
+after_put s piece =
+    record s { written = s.written ++ take (taken s piece) piece; puts = next_count s.puts }
 
 -- after a put that failed
 abbrev pub after_fault : SinkState → SinkState

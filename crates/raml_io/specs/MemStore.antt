@@ -1,5 +1,5 @@
 -- A store in memory.
-use Rattle.std.specs.Prelude.{◌≡◌, ℕ, ◌⊎◌, List, [], ◌∷◌, map, Contains, Option, Some, None, if◌then◌else◌, String, Vec, string_bytes}
+use Rattle.std.specs.Prelude.{◌≡◌, ℕ, ◌⊎◌, List, [], ◌∷◌, map, Contains, Some, None, if◌then◌else◌, String, Vec, string_bytes}
 use Rattle.std.specs.Str.{bytes_eq}
 use Rattle.std.specs.declared.alloc.Global.{Global}
 use Rattle.raml_io.specs.declared.store.StoreFault.{StoreFault}
@@ -25,6 +25,10 @@ abbrev pub held : List (List ℕ × List ℕ) → Files
 held [] name = None
 held (f ∷ fs) name = if bytes_eq f.0 name then Some f.1 else held fs name
 
+-- a store that was not read yet
+abbrev pub new_store : List (List ℕ × List ℕ) → List ℕ → StoreState
+new_store files failing = record { files = files; failing = failing; reads = 0; faults = 0 }
+
 -- the next read fails, if it is of this name
 abbrev pub FailsRead : StoreState → List ℕ → Type 0
 FailsRead s name = Contains s.failing s.reads ⊎ (held s.files name ≡ None)
@@ -35,4 +39,5 @@ after_read s = record s { reads = next_count s.reads }
 
 -- after a read that was refused
 abbrev pub after_refusal : StoreFault → StoreState → StoreState
-after_refusal fault s = record s { reads = next_count s.reads; faults = count_after fault s.faults }
+after_refusal fault s =
+    record s { reads = next_count s.reads; faults = count_after fault s.faults }

@@ -82,3 +82,51 @@ fn read_up_to<F: Read>(alloc: Global, file: &mut F, most: u64) -> Result<Vec<u8>
     }
     Ok(bytes)
 }
+
+#[cfg(test)]
+mod tests {
+    use super::*;
+    use std::io;
+    use std::test::Fail;
+
+    // Gives its bytes two at a time, and then its end, or fails in its place.
+    #[derive(Drop)]
+    struct Pieces {
+        rest: &'static [u8],
+        is_broken: bool,
+    }
+
+    impl Read for Pieces {
+        fn read(&mut self, buf: &mut [u8]) -> io::Result<usize> {
+            if self.rest.is_empty() && self.is_broken {
+                return Err(io::ErrorKind::Other.into());
+            }
+            let count = self.rest.len().min(buf.len()).min(2);
+            buf[..count].copy_from_slice(&self.rest[..count]);
+            self.rest = &self.rest[count..];
+            Ok(count)
+        }
+    }
+
+    #[test]
+    fn reads_go_on_to_the_end_or_a_fault(rt: HostRuntime) -> Result<(), Fail> {
+        let alloc = rt.alloc();
+        for (most, is_broken, want) in [
+            (9, false, Some(b"abcde".as_slice())),
+            (3, true, Some(b"abc".as_slice())),
+            (5, true, Some(b"abcde".as_slice())),
+            (6, true, None),
+        ] {
+            let mut pieces = Pieces {
+                rest: b"abcde",
+                is_broken,
+            };
+            match (read_up_to(alloc, &mut pieces, most), want) {
+                (Ok(bytes), Some(content)) => assert_eq!(rt; bytes.as_slice(), content),
+                (Err(fault), None) => assert_eq!(rt; fault, StoreFault::Failed),
+                _ => assert!(rt; false, "{most}"),
+            }
+        }
+        Ok(())
+    }
+}

@@ -15,3 +15,6 @@ pub use mem_store::MemStore;
 pub use sink::{Sink, SinkFault, put_all};
 pub use std_sink::StdSink;
 pub use store::{Store, StoreFault};
+
+#[cfg(test)]
+mod tests;

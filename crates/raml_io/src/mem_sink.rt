@@ -1,7 +1,7 @@
 // Bytes that are written to memory.
-ghost use Rattle.std.specs.Prelude.{◌≡◌, ◌≤◌, ◌<◌, ◌↔◌, [], Some, length, IfOk, OnOk, OnErr, IsErr};
+ghost use Rattle.std.specs.Prelude.{◌≡◌, ◌≤◌, ◌<◌, ◌↔◌, Some, length, IfOk, OnOk, OnErr, IsErr};
 ghost use Rattle.raml_io.specs.Faults.{Rose};
-ghost use Rattle.raml_io.specs.MemSink.{FailsPut, taken, after_put, after_fault};
+ghost use Rattle.raml_io.specs.MemSink.{new_sink, FailsPut, taken, after_put, after_fault};
 
 use crate::sink::{Sink, SinkFault};
 use std::alloc::{AllocError, Global};
@@ -25,9 +25,17 @@ impl Model for MemSink {
 
     ghost Value = { SinkState };
 
-    ghost view = { λ s. record { room = s.room; most = s.most; failing = s.failing.items; written = s.written.items; puts = s.puts; faults = s.faults } };
+    ghost view = { λ s. record {
+      room = s.room;
+      most = s.most;
+      failing = s.failing.items;
+      written = s.written.items;
+      puts = s.puts;
+      faults = s.faults;
+    } };
 
-    ghost invariant = { λ s. (0 < s.most) × (vec_len s.written ≤ s.room) × (s.room ≤ vec_capacity s.written) };
+    ghost invariant = { λ s.
+        (0 < s.most) × (vec_len s.written ≤ s.room) × (s.room ≤ vec_capacity s.written) };
 }
 
 impl MemSink {
@@ -36,9 +44,14 @@ impl MemSink {
     /// Puts of pieces that are not empty are numbered from 0, up to `u64::MAX`, where the number
     /// stands. Such a put fails where its number is in `failing` or no room is left. Otherwise it
     /// takes as many bytes of its piece as there is room for, and at most `most`.
-    pub fn new(alloc: Global, room: usize, most: usize, failing: Vec<u64>) -> Result<MemSink, AllocError>
+    pub fn new(
+        alloc: Global,
+        room: usize,
+        most: usize,
+        failing: Vec<u64>,
+    ) -> Result<MemSink, AllocError>
         requires { 0 < most }
-        ensures { IfOk result (λ sink. sink ≡ record { room = room; most = most; failing = failing.items; written = []; puts = 0; faults = 0 }) }
+        ensures { IfOk result (λ sink. sink ≡ new_sink room most failing.items) }
     {
         let written = Vec::with_capacity(alloc, room)?;
         Ok(MemSink {

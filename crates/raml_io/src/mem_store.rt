@@ -3,7 +3,7 @@ ghost use Rattle.std.specs.Prelude.{◌≡◌, ◌≤◌, ◌↔◌, Some, List,
 ghost use Rattle.std.specs.Option.{option_copied};
 ghost use Rattle.raml_io.specs.Faults.{Rose};
 ghost use Rattle.raml_io.specs.Files.{IsFront};
-ghost use Rattle.raml_io.specs.MemStore.{listed, held, FailsRead, after_read, after_refusal};
+ghost use Rattle.raml_io.specs.MemStore.{listed, held, new_store, FailsRead, after_read, after_refusal};
 
 use crate::store::{Store, StoreFault};
 use std::alloc::{AllocError, Global};
@@ -23,7 +23,12 @@ impl Model for MemStore {
 
     ghost Value = { StoreState };
 
-    ghost view = { λ s. record { files = listed s.files.items; failing = s.failing.items; reads = s.reads; faults = s.faults } };
+    ghost view = { λ s. record {
+      files = listed s.files.items;
+      failing = s.failing.items;
+      reads = s.reads;
+      faults = s.faults;
+    } };
 }
 
 impl MemStore {
@@ -32,7 +37,7 @@ impl MemStore {
     /// Reads are numbered from 0, up to `u64::MAX`, where the number stands. A read whose number is
     /// in `failing` fails, and so does one of a name that is not held.
     pub fn new(files: Vec<(String, Vec<u8>)>, failing: Vec<u64>) -> MemStore
-        ensures { result ≡ record { files = listed files.items; failing = failing.items; reads = 0; faults = 0 } }
+        ensures { result ≡ new_store (listed files.items) failing.items }
     {
         MemStore {
             files,

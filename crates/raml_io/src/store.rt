@@ -35,11 +35,17 @@ pub trait Store {
     /// Reads the first bytes of the file of that name, at most `most` of them.
     fn read(&mut self, alloc: Global, name: &str, most: u64) -> Result<Vec<u8>, StoreFault>
         ensures short { IfOk result (λ bytes. vec_len bytes ≤ most) }
-        ensures front { IfSome (holds self.old) (λ files. IfOk result (λ bytes. IsFront files name.now most bytes.items)) }
-        ensures missing { IfSome (holds self.old) (λ files. files name.now ≡ None → IsErrOf result StoreFault.Failed) }
+
+        // Where it is told what the names hold, the bytes are the front of what this one holds, and
+        // a name that is not held is refused.
+        ensures front { IfSome (holds self.old) (λ files.
+            IfOk result (λ bytes. IsFront files name.now most bytes.items)) }
+        ensures missing { IfSome (holds self.old) (λ files.
+            files name.now ≡ None → IsErrOf result StoreFault.Failed) }
         ensures kept { holds self.new ≡ holds self.old }
 
         // A fault is counted under the name that was read. No count ever falls.
-        ensures failed { IsErrOf result StoreFault.Failed → Rose (faults self.old name.now) (faults self.new name.now) }
+        ensures failed { IsErrOf result StoreFault.Failed →
+            Rose (faults self.old name.now) (faults self.new name.now) }
         ensures later { (other : List ℕ) → faults self.old other ≤ faults self.new other };
 }

@@ -1,4 +1,4 @@
-use Rattle.std.proofs.Common.{rules, refl, inl, inr}
+use Rattle.std.proofs.Common.{rules, inl, inr}
 use Rattle.raml_io.proofs.mem_store.MemStoreStore.read.Goals as goal
 use Rattle.raml_io.proofs.mem_store.MemStoreStore.read.Goals.{then-contains, else-contains}
 
