@@ -28,6 +28,7 @@ impl<'a, R: Files> Model for DirStore<'a, R> {
 }
 
 impl<'a, R: Files> DirStore<'a, R> {
+    /// The files that this runtime opens. No read has failed yet.
     pub fn new(rt: &'a R) -> DirStore<'a, R>
         ensures { result ≡ 0 }
     {

@@ -24,6 +24,7 @@ impl<W: Write + Drop> Model for StdSink<W> {
 }
 
 impl<W: Write + Drop> StdSink<W> {
+    /// Over this writer. No put has failed yet.
     pub fn new(writer: W) -> StdSink<W>
         ensures { result ≡ 0 }
     {
