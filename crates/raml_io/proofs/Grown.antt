@@ -1,11 +1,7 @@
 -- What was written in parts.
-use Rattle.std.proofs.Common.{◌≡◌, ℕ, ◌+◌, ◌-◌, List, [], ◌++◌, Option, Some, None, take, drop, length, refl, sym, ap, ◌∙◌, arith, append_assoc, append-nil, take-add}
+use Rattle.std.proofs.Common.{◌≡◌, ℕ, ◌+◌, ◌-◌, List, ◌++◌, Option, Some, None, take, drop, length, refl, sym, ap, ◌∙◌, arith, append_assoc, take-add}
 use Rattle.std.proofs.lemmas.Grind.{common_steps}
 use Rattle.raml_io.specs.Written.{grown}
-
-pub grown-nil : (w : Option (List ℕ)) → grown w [] ≡ w
-grown-nil None = refl
-grown-nil (Some w) = ap Some (append-nil w)
 
 pub grown-grown : (w : Option (List ℕ)) (a b : List ℕ) → grown (grown w a) b ≡ grown w (a ++ b)
 grown-grown None a b = refl
