@@ -7,7 +7,8 @@ use Rattle.std.proofs.lemmas.Bool.Decides.{nat_tests}
 use Rattle.std.proofs.lemmas.List.{take_at, take_rest, nil_from_length}
 use Rattle.std.proofs.lemmas.Option.{none-some, same_Some}
 use Rattle.std.proofs.lemmas.Slice.Eq.{bytes_eq-Decides}
-use Rattle.raml_lex.specs.Lexemes.{Text, IsFront, Closes, done, opens, ends, other}
+use Rattle.raml_syntax.specs.Tree.{Text}
+use Rattle.raml_lex.specs.Lexemes.{IsFront, Closes, done, opens, ends, other}
 use Rattle.raml_lex.specs.Lexing.{OpensComment, IsOpenComment}
 use Rattle.raml_lex.specs.Pieces.{BeginsWithGap, comment_rest}
 use Rattle.raml_lex.proofs.Words.{clash, front_take}

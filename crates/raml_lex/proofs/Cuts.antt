@@ -2,11 +2,12 @@
 use Rattle.std.proofs.Common.{◌≡◌, ◌≤◌, ◌+◌, ◌-◌, ℕ, List, [], ◌∷◌, ◌++◌, length, take, drop, refl, sym, ap, subst, ◌∙◌, length-drop, length-take-le, arith}
 use Rattle.std.proofs.lemmas.List.{take_rest}
 use Rattle.raml_syntax.specs.declared.tree.Pos.{Pos}
+use Rattle.raml_syntax.specs.Tree.{Text}
 use Rattle.raml_lex.specs.declared.token.TokenKind.{TokenKind}
 use Rattle.raml_lex.specs.declared.token.Token.{Token}
 use Rattle.raml_lex.specs.declared.token.LexFault.{LexFault}
 use Rattle.raml_lex.specs.declared.token.LexFault.TheVariants.{BadChar, NumberTooWide, OpenComment, NoMemory}
-use Rattle.raml_lex.specs.Lexemes.{Text, IsInRange}
+use Rattle.raml_lex.specs.Lexemes.{IsInRange}
 use Rattle.raml_lex.specs.Lexing.{Cut, start, gap, token, word, IsLongest, IsBadChar, IsTooWide, IsOpenComment, FirstFault}
 use Rattle.raml_lex.specs.Pieces.{BeginsWithGap, BeginsWithToken, FaultAt}
 use Rattle.raml_lex.proofs.Words.{front_take}

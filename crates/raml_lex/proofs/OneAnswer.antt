@@ -4,12 +4,13 @@ use Rattle.std.proofs.lemmas.List.{append-nil, take_at, drop_all}
 use Rattle.std.proofs.lemmas.Option.{same_Some}
 use mathlib.Core.Logic.{◌⊎◌, inl, inr}
 use Rattle.raml_syntax.specs.declared.tree.Pos.{Pos}
+use Rattle.raml_syntax.specs.Tree.{Text}
 use Rattle.raml_lex.specs.declared.token.TokenKind.{TokenKind}
 use Rattle.raml_lex.specs.declared.token.TokenKind.TheVariants.{Name, Keyword, Number, Symbol}
 use Rattle.raml_lex.specs.declared.token.Token.{Token}
 use Rattle.raml_lex.specs.declared.token.LexFault.{LexFault}
 use Rattle.raml_lex.specs.declared.token.LexFault.TheVariants.{BadChar, NumberTooWide, OpenComment, NoMemory}
-use Rattle.raml_lex.specs.Lexemes.{Text, IsFront, is_space, IsLexeme, IsInRange, IsComment, number_value}
+use Rattle.raml_lex.specs.Lexemes.{IsFront, is_space, IsLexeme, IsInRange, IsComment, number_value}
 use Rattle.raml_lex.specs.Lexing.{IsLongest, IsGap, OpensComment, word, IsTokenOf, Cut, start, gap, token, IsBadChar, IsTooWide, IsOpenComment, FirstFault, Answers, HasOneAnswer}
 use Rattle.raml_lex.specs.Pieces.{comment_rest}
 use Rattle.raml_lex.proofs.Words.{clash, begins, begins_at, lexeme_begins, lower_no_space, lower_no_digit, lower_no_symbol, digit_no_symbol, digit_no_space, symbol_no_space, digit_no_comment}

@@ -8,10 +8,11 @@ use Rattle.std.proofs.lemmas.List.Elements.{All-push}
 use Rattle.std.proofs.lemmas.List.Quantifiers.{all_pairs_push}
 use Rattle.std.proofs.lemmas.Bool.Decides.{nat_tests}
 use Rattle.std.proofs.lemmas.Str.{IsCharBoundary-before_ascii, IsCharBoundary-after_ascii}
+use Rattle.raml_syntax.specs.Tree.{Text}
 use Rattle.raml_lex.specs.declared.token.TokenKind.{TokenKind}
 use Rattle.raml_lex.specs.declared.token.TokenKind.TheVariants.{Name, Keyword, Number, Symbol}
 use Rattle.raml_lex.specs.declared.token.Token.{Token}
-use Rattle.raml_lex.specs.Lexemes.{Text, is_digit, is_name_part, symbols, IsLexeme}
+use Rattle.raml_lex.specs.Lexemes.{is_digit, is_name_part, symbols, IsLexeme}
 use Rattle.raml_lex.specs.Lexing.{Cut, start, gap, token, word, IsTokenOf, StandsIn, AreInOrder}
 use Rattle.raml_lex.proofs.Cuts.{CutTo}
 use Rattle.raml_lex.proofs.Words.{contains_passes, keyword_is_word, word_passes, lexeme_begins, part_is_ascii}

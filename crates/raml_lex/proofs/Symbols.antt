@@ -5,9 +5,10 @@ use Rattle.std.specs.List.{list_any, starts_with, AllByRecursion}
 use Rattle.std.specs.Cmp.Lexicographic.{same_text}
 use Rattle.std.proofs.lemmas.Option.{none-some, same_Some}
 use Rattle.std.proofs.lemmas.Map.Views.{Contains-from_any}
+use Rattle.raml_syntax.specs.Tree.{Text}
 use Rattle.raml_lex.specs.declared.token.TokenKind.{TokenKind}
 use Rattle.raml_lex.specs.declared.token.TokenKind.TheVariants.{Name, Keyword, Number, Symbol}
-use Rattle.raml_lex.specs.Lexemes.{Text, IsFront, is_space, is_lower, is_digit, symbols, IsLexeme}
+use Rattle.raml_lex.specs.Lexemes.{IsFront, is_space, is_lower, is_digit, symbols, IsLexeme}
 use Rattle.raml_lex.specs.Lexing.{OpensComment, IsBadChar}
 use Rattle.raml_lex.specs.Pieces.{BeginsWithToken, symbol_len}
 use Rattle.std.proofs.lemmas.Bool.Decides.{nat_tests}

@@ -2,7 +2,8 @@
 use Rattle.std.proofs.Common.{◌≡◌, ◌≤◌, ◌<◌, ◌+◌, ◌-◌, ◌*◌, ◌^◌, ℕ, [], ◌∷◌, length, drop, get_or, sym, ap, ◌∙◌, arith}
 use Rattle.std.specs.Prelude.{fold}
 use Rattle.std.proofs.lemmas.List.{at_drop_more}
-use Rattle.raml_lex.specs.Lexemes.{Text, number_value}
+use Rattle.raml_syntax.specs.Tree.{Text}
+use Rattle.raml_lex.specs.Lexemes.{number_value}
 
 -- the value of digits that stand behind some of value n
 abbrev pub value_from : ℕ → Text → ℕ

@@ -9,9 +9,10 @@ use Rattle.std.proofs.lemmas.List.Folds.{length-prefix_len, list_any_at}
 use Rattle.std.proofs.lemmas.Slice.Eq.{bytes_eq-Decides}
 use Rattle.std.specs.Cmp.Lexicographic.{same_text}
 use Rattle.std.proofs.lemmas.Map.Views.{Contains-from_any}
+use Rattle.raml_syntax.specs.Tree.{Text}
 use Rattle.raml_lex.specs.declared.token.TokenKind.{TokenKind}
 use Rattle.raml_lex.specs.declared.token.TokenKind.TheVariants.{Name, Keyword, Number, Symbol}
-use Rattle.raml_lex.specs.Lexemes.{Text, IsFront, is_space, is_lower, is_digit, is_name_part, keywords, symbols, IsWord, IsDigits, IsLexeme, IsInRange, number_value}
+use Rattle.raml_lex.specs.Lexemes.{IsFront, is_space, is_lower, is_digit, is_name_part, keywords, symbols, IsWord, IsDigits, IsLexeme, IsInRange, number_value}
 use Rattle.raml_lex.specs.Lexing.{IsLongest, OpensComment, IsTooWide}
 use Rattle.raml_lex.specs.Pieces.{BeginsWithToken, word_kind}
 use Rattle.raml_lex.proofs.Runs.{passes-cons, passes-head, passes-tail, run_passes, run_longest}

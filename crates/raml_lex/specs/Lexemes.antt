@@ -1,11 +1,9 @@
 -- The words of the language, each as a whole. A text is its list of bytes.
 use Rattle.std.specs.Prelude.{◌≡◌, ◌≢◌, ◌+◌, ◌-◌, ◌*◌, ◌^◌, ◌<◌, ◌==◌, ◌&&◌, ◌||◌, ℕ, suc, Bool, List, [], ◌∷◌, ◌++◌, IsTrue, Contains, fold, nat_le, codes, ⊤}
 use Rattle.std.specs.List.{AllPass}
+use Rattle.raml_syntax.specs.Tree.{Text}
 use Rattle.raml_lex.specs.declared.token.TokenKind.{TokenKind}
 use Rattle.raml_lex.specs.declared.token.TokenKind.TheVariants.{Name, Keyword, Number, Symbol}
-
-abbrev pub Text : Type 0
-Text = List ℕ
 
 -- w stands at the front of s
 abbrev pub IsFront : Text → Text → Type 0

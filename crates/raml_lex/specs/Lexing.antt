@@ -1,11 +1,12 @@
 -- The tokens of a text by longest match, and its first lexical fault.
 use Rattle.std.specs.Prelude.{◌≡◌, ◌+◌, ◌^◌, ◌<◌, ◌≤◌, ◌⊎◌, ℕ, List, [], ◌∷◌, ◌++◌, length, drop, slice_range, IsTrue, IsCharBoundary, AllPairs, Result, Ok, Err, codes}
+use Rattle.raml_syntax.specs.Tree.{Text}
 use Rattle.raml_lex.specs.declared.token.TokenKind.{TokenKind}
 use Rattle.raml_lex.specs.declared.token.TokenKind.TheVariants.{Number}
 use Rattle.raml_lex.specs.declared.token.Token.{Token}
 use Rattle.raml_lex.specs.declared.token.LexFault.{LexFault}
 use Rattle.raml_lex.specs.declared.token.LexFault.TheVariants.{BadChar, NumberTooWide, OpenComment, NoMemory}
-use Rattle.raml_lex.specs.Lexemes.{Text, IsFront, is_space, IsLexeme, IsInRange, IsComment, number_value}
+use Rattle.raml_lex.specs.Lexemes.{IsFront, is_space, IsLexeme, IsInRange, IsComment, number_value}
 
 -- w stands at the front of s and is a lexeme of the kind, and no longer front of s is a lexeme
 pub record IsLongest (kind : TokenKind) (w s : Text) : Type 0 where

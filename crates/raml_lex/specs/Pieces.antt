@@ -2,13 +2,14 @@
 use Rattle.std.specs.Prelude.{◌≡◌, ◌+◌, ◌≤◌, ◌||◌, ℕ, zero, suc, Option, Some, None, [], ◌∷◌, length, take, nat_eq, if◌then◌else◌, option_map, codes, bytes_eq}
 use Rattle.std.specs.List.{starts_with, list_any}
 use Rattle.raml_syntax.specs.declared.tree.Pos.{Pos}
+use Rattle.raml_syntax.specs.Tree.{Text}
 use Rattle.raml_lex.specs.declared.token.TokenKind.{TokenKind}
 use Rattle.raml_lex.specs.declared.token.TokenKind.TheVariants.{Name, Keyword}
 use Rattle.raml_lex.specs.declared.token.LexFault.{LexFault}
 use Rattle.raml_lex.specs.declared.token.LexFault.TheVariants.{BadChar, NumberTooWide, OpenComment, NoMemory}
 use Rattle.raml_lex.specs.declared.piece.Piece.{Piece}
 use Rattle.raml_lex.specs.declared.piece.Piece.TheVariants.{Gap, Word}
-use Rattle.raml_lex.specs.Lexemes.{Text, IsInRange, keywords}
+use Rattle.raml_lex.specs.Lexemes.{IsInRange, keywords}
 use Rattle.raml_lex.specs.Lexing.{IsGap, IsLongest, OpensComment, IsBadChar, IsTooWide, IsOpenComment}
 
 -- the first n bytes of s are white space or a comment
