@@ -3,3 +3,4 @@ mod Decided
 mod Bounded
 mod Forcing
 mod Sourced
+mod Stepped

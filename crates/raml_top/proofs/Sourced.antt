@@ -5,7 +5,7 @@ use Rattle.raml_syntax.specs.Types.{Typed}
 use Rattle.raml_parse.specs.Spelling.{Spells, FirstFault, HasOneAnswer}
 use Rattle.raml_parse.specs.declared.fault.ParseFault.{ParseFault}
 use Rattle.raml_parse.specs.declared.fault.ParseFault.TheVariants.{NoMemory}
-use Rattle.raml_top.specs.Fragment.{IsOnly, IsSource, IsNoSource}
+use Rattle.raml_top.specs.Fragment.{IsOnly, IsNoSource}
 use Rattle.raml_top.specs.Promise.{SourceRefused, refusal_of}
 
 no_program : (source : List ℕ) (P : Prog) (fault : ParseFault) → HasOneAnswer source → FirstFault source fault → Spells source P → ⊥

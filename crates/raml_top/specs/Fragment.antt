@@ -1,26 +1,38 @@
 -- The programs that are analysed, and their bounds.
-use Rattle.std.specs.Prelude.{◌≡◌, ◌≤◌, ℕ, List, [], ◌∷◌, length, ◌+◌}
+use Rattle.std.specs.Prelude.{◌≡◌, ◌≤◌, ℕ, List, [], ◌∷◌, length, ◌+◌, max}
 use Rattle.std.specs.List.{All}
 use Rattle.raml_syntax.specs.Tree as t
-use Rattle.raml_syntax.specs.Tree.{Integer, Parameter, Function, Prog}
+use Rattle.raml_syntax.specs.Tree.{Type', Integer, Boolean, Bound, Parameter, Function, Prog}
 use Rattle.raml_syntax.specs.Value.{Value, HaveTypes}
 use Rattle.raml_syntax.specs.Eval.{run_of}
 use Rattle.raml_syntax.specs.Types.{types_of, Typed}
 use Rattle.raml_parse.specs.Spelling.{Spells}
 
--- numbers, variables and ticks
-abbrev pub IsPlain : t.Term → Type 0
-IsPlain (t.Number p n) = Unit {0}
-IsPlain (t.Var p x) = Unit {0}
-IsPlain (t.Tick p k a) = IsPlain a
-IsPlain _ = ⊥
+-- an integer or a truth
+abbrev pub IsScalar : Type' → Type 0
+IsScalar Integer = Unit {0}
+IsScalar Boolean = Unit {0}
+IsScalar _ = ⊥
 
--- this is the one function of the program, from integers to an integer, with a plain body
+-- neither calls nor data structures nor annotations
+abbrev pub IsStraight : t.Term → Type 0
+IsStraight (t.Number p n) = Unit {0}
+IsStraight (t.Truth p b) = Unit {0}
+IsStraight (t.Var p x) = Unit {0}
+IsStraight (t.Arith p op a b) = IsStraight a × IsStraight b
+IsStraight (t.Compare p op a b) = IsStraight a × IsStraight b
+IsStraight (t.Not p a) = IsStraight a
+IsStraight (t.Let p x a b) = IsStraight a × IsStraight b
+IsStraight (t.If p c a b) = IsStraight c × IsStraight a × IsStraight b
+IsStraight (t.Tick p k a) = IsStraight a
+IsStraight _ = ⊥
+
+-- this is the one function of the program, from scalars to a scalar, with a straight body
 pub record IsOnly (P : Prog) (fun : Function) : Type 0 where
   pub only : P ≡ fun ∷ []
-  pub params : All (λ (p : Parameter). p.type ≡ Integer) fun.params
-  pub result : fun.result ≡ Integer
-  pub body : IsPlain fun.body
+  pub params : All (λ (p : Parameter). IsScalar p.type) fun.params
+  pub result : IsScalar fun.result
+  pub body : IsStraight fun.body
 
 -- the limit of a source, in bytes
 abbrev pub most_bytes : ℕ
@@ -33,12 +45,17 @@ pub record IsSource (source : List ℕ) (P : Prog) (fun : Function) : Type 0 whe
   pub typed : Typed P
   pub fragment : IsOnly P fun
 
--- the source is too long, or spells no typed program of one plain function
+-- the source is too long, or spells no typed program of one straight function
 abbrev pub IsNoSource : List ℕ → Type 0
 IsNoSource source = (P : Prog) (fun : Function) → ¬ (IsSource source P fun)
 
--- the ticks of a plain body
+-- The most ticks of a straight expression: those of all its parts, of two branches the greater.
 abbrev pub most : t.Term → ℕ
+most (t.Arith p op a b) = most a + most b
+most (t.Compare p op a b) = most a + most b
+most (t.Not p a) = most a
+most (t.Let p x a b) = most a + most b
+most (t.If p c a b) = most c + max (most a) (most b)
 most (t.Tick p k a) = k + most a
 most _ = 0
 

@@ -1,6 +1,6 @@
 pub mod Words
 pub mod Asked
 pub mod Fragment
-pub mod Bound
+pub mod Tested
 pub mod Report
 pub mod Promise

@@ -1,15 +1,17 @@
 // The programs that are analysed.
 ghost use Rattle.std.specs.Prelude.{◌≡◌, ◌≤◌, ◌^◌, ◌*◌, map, IfSome, IfNone};
 ghost use Rattle.raml_syntax.specs.Tree.{Function};
-ghost use Rattle.raml_syntax.specs.Read.{ty_of, parameter_of, function_of, term_of, program_of};
+ghost use Rattle.raml_syntax.specs.Read.{parameter_of, function_of, term_of, program_of};
 ghost use Rattle.raml_syntax.specs.Node.{AllNodes, TickFits, nodes};
 ghost use Rattle.raml_syntax.specs.Types.{Typed};
-ghost use Rattle.raml_top.specs.Fragment.{IsPlain, IsOnly, most};
-ghost use Rattle.raml_top.specs.Bound.{is_integer, has_name, all_differ, all_integers, uses_only, passes};
+ghost use Rattle.raml_top.specs.Fragment.{IsStraight, IsOnly, most};
+ghost use Rattle.raml_top.specs.Tested.{has_name, all_differ, passes};
 
-use raml_syntax::{Expr, Form, Fun, Name, Param, Program, Ty};
+use crate::typing::{Scope, scalar_of, type_under};
+use raml_syntax::{Expr, Form, Fun, Name, Param, Program};
 
-/// The one function of a typed program over integers whose body is plain; `None` for every other program.
+/// The one function of a typed program, from scalars to a scalar and with a straight body; `None` for
+/// every other program.
 pub fn only_function(program: &Program) -> Option<&Fun>
     ensures some { IfSome result (λ fun. IsOnly (program_of program.now) (function_of fun.now) × Typed (program_of program.now)) }
     ensures none { IfNone result ((fun : Function) → IsOnly (program_of program.now) fun → ¬ (Typed (program_of program.now))) }
@@ -23,30 +25,8 @@ pub fn only_function(program: &Program) -> Option<&Fun>
 fn passes(fun: &Fun) -> bool
     ensures { result ≡ passes (function_of fun.now) }
 {
-    all_integers(&fun.params)
-        && is_integer(&fun.result)
-        && all_differ(&fun.params)
-        && uses_only(&fun.params, &fun.body)
-}
-
-fn is_integer(ty: &Ty) -> bool
-    ensures { result ≡ is_integer (ty_of ty.now) }
-{
-    match ty {
-        Ty::Int => true,
-        Ty::Bool | Ty::Pair(..) | Ty::List(_) | Ty::Tree(_) => false,
-    }
-}
-
-fn all_integers(params: &[Param]) -> bool
-    ensures { result ≡ all_integers (map parameter_of params.now) }
-{
-    for param in params {
-        if !is_integer(&param.ty) {
-            return false;
-        }
-    }
-    true
+    let found = type_under(&fun.params, &fun.body, &Scope::Empty);
+    all_differ(&fun.params) && found.is_some() && found == scalar_of(&fun.result)
 }
 
 // Whether no two parameters have one name.
@@ -73,28 +53,21 @@ fn has_name(name: &Name, params: &[Param]) -> bool
     false
 }
 
-// Whether the expression is plain, and its variables are among the parameters.
-fn uses_only(params: &[Param], expr: &Expr) -> bool
-    ensures { result ≡ uses_only (map parameter_of params.now) (term_of expr.now) }
-{
-    match &expr.form {
-        Form::Number(_) => true,
-        Form::Var(name) => has_name(name, params),
-        Form::Tick(_, rest) => uses_only(params, rest),
-        _ => false,
-    }
-}
-
-/// The ticks of a plain expression.
+/// The most ticks of a straight expression: those of all its parts, of two branches the greater.
 pub fn most_ticks(expr: &Expr) -> u64
-    requires plain { IsPlain (term_of expr.now) }
+    requires straight { IsStraight (term_of expr.now) }
     requires fits { AllNodes TickFits (term_of expr.now) }
     requires few { nodes (term_of expr.now) ≤ 2 ^ 31 }
     ensures most { result ≡ most (term_of expr.now) }
     ensures below { result ≤ 1000000 * nodes (term_of expr.now) }
 {
     match &expr.form {
-        Form::Tick(ticks, rest) => u64::from(*ticks) + most_ticks(rest),
+        Form::Arith(_, a, b) | Form::Compare(_, a, b) | Form::Let(_, a, b) => {
+            most_ticks(a) + most_ticks(b)
+        }
+        Form::Not(a) => most_ticks(a),
+        Form::If(condition, a, b) => most_ticks(condition) + most_ticks(a).max(most_ticks(b)),
+        Form::Tick(ticks, a) => u64::from(*ticks) + most_ticks(a),
         _ => 0,
     }
 }
