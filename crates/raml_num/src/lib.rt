@@ -19,16 +19,15 @@ pub fn gcd(a: u128, b: u128) -> u128
 {
     let mut x = a;
     let mut y = b;
-    while y > NARROW {
+    while y != 0 {
+        if x <= NARROW && y <= NARROW {
+            return u128::from(gcd_narrow(x as u64, y as u64));
+        }
         let rest = x % y;
         x = y;
         y = rest;
     }
-    if y == 0 {
-        x
-    } else {
-        u128::from(gcd_narrow(y as u64, (x % y) as u64))
-    }
+    x
 }
 
 /// The greatest common divisor of two numbers of 64 bits.
