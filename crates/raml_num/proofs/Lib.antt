@@ -1,6 +1,6 @@
 pub mod Differences
 pub mod Signed
 pub mod Dividing
-mod Multiples
+pub mod Multiples
 mod Quotients
 mod Totals

@@ -1,5 +1,5 @@
 -- The order of whole numbers under products.
-use Rattle.std.proofs.Common.{◌≡◌, refl, ℤ, pos, ◌-ℤ◌, ◌*ℤ◌, ◌≤ℤ◌, arith}
+use Rattle.std.proofs.Common.{◌≡◌, refl, zero, suc, ℤ, pos, ◌-ℤ◌, ◌*ℤ◌, ◌≤ℤ◌, arith}
 use Rattle.std.proofs.lemmas.Int.{ints}
 use lib.IntN.{negsuc}
 use Rattle.raml_num.proofs.Differences.{mul_over_minus}
@@ -17,4 +17,18 @@ le_mul a b k h p =
     let d : pos 0 ≤ℤ (b -ℤ a) = omega (arith, ints) in
     let m : pos 0 ≤ℤ (k *ℤ (b -ℤ a)) = none_mul k (b -ℤ a) p d in
     let e : k *ℤ (b -ℤ a) ≡ k *ℤ b -ℤ k *ℤ a = mul_over_minus k b a in
+    omega (arith, ints)
+
+-- a factor that is not 0 cancels
+none_left : (k d : ℤ) → (k ≡ pos 0 → ⊥) → k *ℤ d ≡ pos 0 → d ≡ pos 0
+none_left (pos zero) d n e = absurd (n refl)
+none_left (pos (suc k)) (pos m) n e = omega (arith, ints)
+none_left (pos (suc k)) (negsuc m) n e = absurd (omega (arith, ints))
+none_left (negsuc k) (pos m) n e = omega (arith, ints)
+none_left (negsuc k) (negsuc m) n e = absurd (omega (arith, ints))
+
+pub cancelled : (k a b : ℤ) → (k ≡ pos 0 → ⊥) → k *ℤ a ≡ k *ℤ b → a ≡ b
+cancelled k a b n e =
+    let s : k *ℤ (a -ℤ b) ≡ k *ℤ a -ℤ k *ℤ b = mul_over_minus k a b in
+    let z : a -ℤ b ≡ pos 0 = none_left k (a -ℤ b) n (omega (arith, ints)) in
     omega (arith, ints)

@@ -1,0 +1,4 @@
+mod Cancelling
+mod Quotients
+mod Signs
+mod Sums
