@@ -1,5 +1,5 @@
 -- Lowest terms, and products that are cancelled crosswise.
-use Rattle.std.proofs.Common.{◌≡◌, ap, subst, ℕ, ◌^◌, ◌*◌, ◌/◌, ◌≤◌, ◌<◌, arith, Some, None}
+use Rattle.std.proofs.Common.{◌≡◌, ap, subst, ℕ, ◌^◌, ◌*◌, ◌/◌, ◌<◌, arith, Some, None}
 use Rattle.std.proofs.Math.Nat.{dvd-mul_right, mul-div_cancel', eq_of_mul-eq-mul_right, mul-pos, div-le_self, eq-one_of_dvd-one}
 use Rattle.std.specs.Int.{IsGcd}
 use Prim.Native.Nat.{◌∣◌}

@@ -1,4 +1,5 @@
 mod Cancelling
+mod Comparing
 mod Quotients
 mod Signs
 mod Sums

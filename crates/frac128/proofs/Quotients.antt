@@ -1,5 +1,5 @@
 -- Quotients are products with the reciprocal.
-use Rattle.std.proofs.Common.{◌≡◌, refl, sym, ap, ◌∙◌, ℕ, ◌*◌, ◌<◌, ℤ, pos, ◌*ℤ◌, arith, Option, Some, None}
+use Rattle.std.proofs.Common.{◌≡◌, sym, ap, ◌∙◌, ℕ, ◌*◌, ◌<◌, ℤ, pos, ◌*ℤ◌, arith, Option, Some, None}
 use Rattle.std.proofs.lemmas.Int.{ints}
 use Rattle.raml_num.proofs.Differences.{diffs, diff-pos, is_diff, diff_same}
 use Rattle.raml_num.proofs.Signed.{cancelled}
@@ -17,7 +17,7 @@ gather : (r y : ℤ) (x z : ℕ) → (r *ℤ pos (x * z)) *ℤ y ≡ pos z *ℤ 
 gather r y x z = rw (is_diff r, is_diff y) (simp (diffs, diff-pos) (diff_same _ _ _ _ (omega arith)))
 
 turn : (a y : ℤ) → a *ℤ y ≡ y *ℤ a
-turn a y = rw (is_diff a, is_diff y) (simp (diffs, diff-pos) (diff_same _ _ _ _ (omega arith)))
+turn a y = rw (is_diff a, is_diff y) (simp diffs (diff_same _ _ _ _ (omega arith)))
 
 not_zero : (n : ℕ) → 0 < n → pos n ≡ pos 0 → ⊥
 not_zero n h e = omega (arith, ints)
@@ -31,7 +31,7 @@ from_quotient : (x y z r : Frac) → (y.num ≡ pos 0 → ⊥) → IsReciprocal 
 from_quotient x y z r n h e =
     cancelled y.num _ _ n
     (turn y.num (r.num *ℤ pos (x.den * z.den)) ∙ gather r.num y.num x.den z.den ∙ ap (λ (v : ℤ). pos z.den *ℤ v) (sym e) ∙ spread x.num r.den y.den z.den
-        ∙ ap (λ (v : ℤ). (x.num *ℤ pos r.den) *ℤ v) (sym h) ∙ swap x.num y.num z.num r.den ∙ turn ((x.num *ℤ z.num) *ℤ pos r.den) y.num)
+    ∙ ap (λ (v : ℤ). (x.num *ℤ pos r.den) *ℤ v) (sym h) ∙ swap x.num y.num z.num r.den ∙ turn ((x.num *ℤ z.num) *ℤ pos r.den) y.num)
 
 -- what multiplying by the reciprocal tells
 pub told : (x y z : Frac) (o : Option Frac) → (y.num ≡ pos 0 → ⊥) → IsReciprocal y z → Tells (IsProduct x z) o → Tells (IsQuotient x y) o

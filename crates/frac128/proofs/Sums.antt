@@ -1,9 +1,8 @@
 -- Sums over the least common denominator.
-use Rattle.std.proofs.Common.{◌≡◌, refl, sym, ap, subst, ◌∙◌, ℕ, ◌*◌, ◌/◌, ◌<◌, ◌^◌, ℤ, pos, ◌+ℤ◌, ◌*ℤ◌, ◌-ℤ◌, neg_ℤ, arith, Option, Some, None, IsSome, IfSome, ◌↔◌}
+use Rattle.std.proofs.Common.{◌≡◌, ap, ◌∙◌, ℕ, ◌*◌, ◌/◌, ◌<◌, ℤ, pos, ◌+ℤ◌, ◌*ℤ◌, ◌-ℤ◌, neg_ℤ, arith, Option, Some, None, IsSome, IfSome, ◌↔◌}
 use Rattle.std.proofs.lemmas.Int.{ints, unsigned_abs-mul}
 use Rattle.std.proofs.lemmas.Nat.Gcd.{dvd_antisymm, dvd_refl}
 use Rattle.std.specs.Int.{IsGcd}
-use Rattle.std.specs.Int.RustNames.{unsigned_abs}
 use Rattle.std.proofs.Math.Nat.{mul-div_cancel', mul-div_cancel, mul-div_cancel_left, mul-pos}
 use Rattle.raml_num.specs.Divisors.{IsLcm}
 use Rattle.raml_num.proofs.Differences.{diffs, diff-pos, is_diff, diff_same}
@@ -86,13 +85,15 @@ pub same_fits : (x y : Frac) (m : ℕ) (o : Option Frac) → x.den ≡ y.den →
 same_fits x y m o e l f =
     let n : m ≡ x.den = same_lcm x.den y.den m x.den l (rw (← e) (dvd_refl x.den, dvd_refl x.den, λ n p q. p)) in
     let first : m / x.den ≡ 1 = ap (λ (v : ℕ). v / x.den) n ∙ one_over x.den x.lowest.positive in
-    let second : m / y.den ≡ 1 = ap (λ (v : ℕ). v / y.den) (n ∙ e) ∙ one_over y.den y.lowest.positive in
-    (λ h. record {
+    let second : m / y.den ≡ 1 = ap (λ (v : ℕ). v / y.den) (n ∙ e) ∙ one_over y.den y.lowest.positive in (
+      λ h. record {
         common = rw n x.lowest.fits;
         left = rw (first, times_one x.num) x.lowest.small;
         right = rw (second, times_one y.num) y.lowest.small;
         both = rw (first, second, times_one x.num, times_one y.num) (f.0 h);
-    }, λ s. f.1 (rw (first, second, times_one x.num, times_one y.num) at s.both))
+      },
+      λ s. f.1 (rw (first, second, times_one x.num, times_one y.num) at s.both),
+    )
 
 -- a sum with the negative is a difference
 minus : (a c : ℤ) (b d : ℕ) → a *ℤ pos d +ℤ neg_ℤ c *ℤ pos b ≡ a *ℤ pos d -ℤ c *ℤ pos b

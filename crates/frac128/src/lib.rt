@@ -8,10 +8,11 @@ mod parts;
 
 use raml_num::gcd;
 use std::cmp::Ordering;
+use std::fmt;
 
 /// A fraction in lowest terms. Its numerator is from `-(2^127 - 1)` to `2^127 - 1`, its denominator
 /// from 1 to `2^127 - 1`. Zero is 0/1.
-#[derive(Clone, Copy, PartialEq, Eq, Debug)]
+#[derive(Clone, Copy, PartialEq, Eq, Hash, Debug)]
 pub struct Frac {
     num: i128,
     den: u128,
@@ -64,6 +65,12 @@ impl Frac {
     ghost use Rattle.std.specs.Prelude.{◌≡◌, ◌≢◌, ◌↔◌, ℕ, ℤ, pos, neg_ℤ, unsigned_abs, IsSome, IfSome, ◌+ℤ◌};
     ghost use Rattle.raml_num.specs.Divisors.{IsLcm};
     ghost use Rattle.frac128.specs.Values.{numerator, denominator, IsProduct, IsQuotient, IsSum, IsDifference, SumFits, DifferenceFits, Tells, Fits, IsReciprocal};
+
+    /// The number 0.
+    pub const ZERO: Frac = Frac { num: 0, den: 1 };
+
+    /// The number 1.
+    pub const ONE: Frac = Frac { num: 1, den: 1 };
 
     /// The whole number `n` as a fraction, or None for `-2^127`.
     pub fn whole(n: i128) -> Option<Frac>
@@ -193,5 +200,62 @@ impl Frac {
         ensures value { IfSome result (IsDifference self.now other.now) }
     {
         self.add(&other.neg())
+    }
+}
+
+/// The order of the values.
+impl Ord for Frac {
+    ghost use Rattle.std.specs.Prelude.{◌≡◌, refl};
+    ghost use Rattle.frac128.specs.Order.{order_of, order_is_total, order_matches_eq};
+
+    ghost cmp = { order_of };
+
+    ghost total = { order_is_total };
+
+    ghost matches_partial_cmp = { λ x y. refl };
+
+    ghost matches_eq = { order_matches_eq };
+
+    fn cmp(&self, other: &Frac) -> Ordering
+        ensures { result ≡ order_of self.now other.now }
+    {
+        if self.den == other.den {
+            self.num.cmp(&other.num)
+        } else {
+            parts::quotient_cmp(self.num, self.den, other.num, other.den)
+        }
+    }
+}
+
+impl PartialOrd for Frac {
+    ghost use Rattle.std.specs.Prelude.{refl};
+    ghost use Rattle.std.specs.Cmp.{partial_order_from_agreeing_total};
+    ghost use Rattle.std.specs.Ordering.{as_partial_cmp};
+    ghost use Rattle.frac128.specs.Order.{order_of, order_is_total, order_matches_eq};
+
+    ghost partial_cmp = { as_partial_cmp order_of };
+
+    ghost laws = { partial_order_from_agreeing_total order_of order_is_total (λ x y. refl) order_matches_eq };
+
+    fn partial_cmp(&self, other: &Frac) -> Option<Ordering> {
+        Some(self.cmp(other))
+    }
+}
+
+/// As `-3`, or `2/7` where the denominator is not 1.
+impl fmt::Display for Frac {
+    ghost use Rattle.std.specs.Prelude.{Some};
+    ghost use Rattle.frac128.specs.Text.{text_of};
+
+    ghost output = { λ x. Some (text_of x) };
+
+    fn fmt<W: fmt::Write>(&self, f: &mut fmt::Formatter<W>) -> fmt::Result {
+        let num = self.num;
+        let den = self.den;
+        if den == 1 {
+            write!(f, "{num}")
+        } else {
+            write!(f, "{num}/{den}")
+        }
     }
 }

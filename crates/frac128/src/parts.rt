@@ -1,11 +1,13 @@
 //! Numerators and denominators.
 
-ghost use Rattle.std.specs.Prelude.{◌≡◌, ◌<◌, ◌*◌, ◌/◌, ◌^◌, ◌*ℤ◌, ◌+ℤ◌, pos, unsigned_abs, ℕ};
+ghost use Rattle.std.specs.Prelude.{◌≡◌, ◌<◌, ◌*◌, ◌/◌, ◌^◌, ◌*ℤ◌, ◌+ℤ◌, ◌<ℤ◌, pos, unsigned_abs, ℕ};
 ghost use Rattle.std.specs.Option.{SomeIff};
+ghost use Rattle.std.specs.Ordering.{MatchOrdering};
 ghost use Rattle.std.specs.Int.{IsGcd};
 ghost use Rattle.frac128.specs.Lowest.{InLowestTerms, TellsLowest, JoinFits};
 
-use raml_num::gcd;
+use raml_num::{cross_cmp, gcd};
+use std::cmp::Ordering;
 
 /// The least number that is no numerator and no denominator.
 const LIMIT: u128 = 0x8000_0000_0000_0000_0000_0000_0000_0000;
@@ -88,4 +90,36 @@ pub(crate) fn over_least(a: i128, b: u128, c: i128, d: u128, g: u128) -> Option<
     let right = scaled(c, quotient(b, g))?;
     let sum = joined(left, right)?;
     Some((sum, bottom))
+}
+
+/// The order of `a/b` and `c/d`.
+pub(crate) fn quotient_cmp(a: i128, b: u128, c: i128, d: u128) -> Ordering
+    requires first { 0 < b }
+    requires second { 0 < d }
+    ensures { MatchOrdering result ((a *ℤ pos d) <ℤ (c *ℤ pos b)) (a *ℤ pos d ≡ c *ℤ pos b) ((c *ℤ pos b) <ℤ (a *ℤ pos d)) }
+{
+    if a < 0 {
+        if c < 0 {
+            magnitude_cmp(c.unsigned_abs(), d, a.unsigned_abs(), b)
+        } else {
+            Ordering::Less
+        }
+    } else if c < 0 {
+        Ordering::Greater
+    } else {
+        magnitude_cmp(a.unsigned_abs(), b, c.unsigned_abs(), d)
+    }
+}
+
+/// The order of `a/b` and `c/d`; numbers of 64 bits are multiplied out.
+fn magnitude_cmp(a: u128, b: u128, c: u128, d: u128) -> Ordering
+    requires first { 0 < b }
+    requires second { 0 < d }
+    ensures { MatchOrdering result (a * d < c * b) (a * d ≡ c * b) (c * b < a * d) }
+{
+    if a <= NARROW && b <= NARROW && c <= NARROW && d <= NARROW {
+        (a * d).cmp(&(c * b))
+    } else {
+        cross_cmp(a, b, c, d)
+    }
 }

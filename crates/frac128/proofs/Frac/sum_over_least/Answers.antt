@@ -1,7 +1,7 @@
 use Rattle.std.proofs.Common.{rules, ◌≡◌, refl, ℤ, FitsSigned, ℕ, ◌*◌, ◌/◌, ◌*ℤ◌, ◌+ℤ◌, pos, ap}
 use Rattle.std.proofs.lemmas.Int.{to_z-of_z}
 use Rattle.std.specs.Int.{w128}
-use Rattle.frac128.proofs.Sums.{IsShared, is_sum, bottom_positive, shared, fits_over, fits_back}
+use Rattle.frac128.proofs.Sums.{is_sum, bottom_positive, shared, fits_over, fits_back}
 use Rattle.frac128.proofs.Frac.sum_over_least.Goals as goal
 
 pub returns-in_err-num-clause-fits : goal.returns-in_err-num-clause-fits

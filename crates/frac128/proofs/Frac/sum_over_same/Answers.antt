@@ -11,4 +11,4 @@ returns-clause-value c =
     let k : FitsSigned w128 c.in_ok-num.num = search rules in
     let n = simp (to_z-of_z w128 _ f, to_z-of_z w128 _ g) at c.in_ok-num.ensures in
     rw (← c.requires) (same_sum c.args.self.now.num c.args.self.now.den c.args.other.now.num c.reduced.result.num c.reduced.result.den
-        (simp n.1 at (simp (to_z-of_z w128 _ k) at c.reduced.ensures)))
+    (simp n.1 at (simp (to_z-of_z w128 _ k) at c.reduced.ensures)))
