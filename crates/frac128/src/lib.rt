@@ -67,10 +67,20 @@ impl Frac {
     ghost use Rattle.frac128.specs.Values.{numerator, denominator, IsProduct, IsQuotient, IsSum, IsDifference, SumFits, DifferenceFits, Tells, Fits, IsReciprocal};
 
     /// The number 0.
-    pub const ZERO: Frac = Frac { num: 0, den: 1 };
+    pub fn zero() -> Frac
+        ensures num { numerator result ≡ pos 0 }
+        ensures den { denominator result ≡ 1 }
+    {
+        over_one(0)
+    }
 
     /// The number 1.
-    pub const ONE: Frac = Frac { num: 1, den: 1 };
+    pub fn one() -> Frac
+        ensures num { numerator result ≡ pos 1 }
+        ensures den { denominator result ≡ 1 }
+    {
+        over_one(1)
+    }
 
     /// The whole number `n` as a fraction, or None for `-2^127`.
     pub fn whole(n: i128) -> Option<Frac>
@@ -259,3 +269,6 @@ impl fmt::Display for Frac {
         }
     }
 }
+
+#[cfg(test)]
+mod tests;
