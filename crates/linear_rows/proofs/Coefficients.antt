@@ -1,5 +1,5 @@
 -- What stands at an unknown in a list of terms, and what an edit of the list does to it.
-use Rattle.std.proofs.Common.{◌≡◌, ℕ, zero, suc, ◌<◌, ◌≤◌, ◌≢◌, [], ◌∷◌, length, get_or, set, if◌then◌else◌, eqb, refl, arith, ℤ, pos, ◌+ℤ◌}
+use Rattle.std.proofs.Common.{◌≡◌, ℕ, zero, suc, ◌<◌, ◌≢◌, [], ◌∷◌, length, set, if◌then◌else◌, eqb, refl, arith, ℤ, pos}
 use Rattle.std.specs.List.{insert, remove}
 use Rattle.std.proofs.lemmas.Bool.Decides.{nat_tests}
 use Rattle.linear_rows.specs.Terms.{Terms, coefficient, unknown_at, number_at, IsAt}

@@ -1,4 +1,4 @@
 pub mod Coefficients
 pub mod Products
-mod Places
+pub mod Places
 mod Rowwise

@@ -1,5 +1,5 @@
 -- Where a term is among terms that ascend, and what an edit at that place does.
-use Rattle.std.proofs.Common.{◌≡◌, refl, Bool, true, false, if◌then◌else◌, OnOk, OnErr, ℕ, ◌+◌, ◌-◌, ◌<◌, ◌≤◌, ◌≢◌, length, get_or, set, Result, Ok, Err, IfOk, IfErr, sym, ap, subst, arith, ℤ, pos, ◌+ℤ◌}
+use Rattle.std.proofs.Common.{◌≡◌, refl, Bool, true, false, if◌then◌else◌, OnOk, OnErr, ℕ, ◌+◌, ◌-◌, ◌<◌, ◌≤◌, ◌≢◌, length, set, Result, Ok, Err, IfOk, IfErr, sym, ap, subst, arith, ℤ, pos, ◌+ℤ◌}
 use Rattle.std.specs.List.{insert, remove}
 use Rattle.std.specs.List.Sorted.{IsSearchInRange, IsBinarySearchResult, IsNonDecreasingBy}
 use Rattle.std.specs.Ordering.{nat_cmp, ordering_index, int_eq}

@@ -1,7 +1,7 @@
 -- Products of vectors and of matrices.
-use Rattle.std.proofs.Common.{◌≡◌, refl, sym, ap, subst, ◌∙◌, ℕ, zero, suc, ◌+◌, ◌*◌, ◌≤◌, ◌<◌, ℤ, pos, neg_ℤ, ◌+ℤ◌, ◌-ℤ◌, ◌*ℤ◌, ◌≤ℤ◌, ◌<ℤ◌, arith, List, [], ◌∷◌, length}
+use Rattle.std.proofs.Common.{◌≡◌, refl, sym, ap, ◌∙◌, ℕ, zero, suc, ℤ, pos, ◌+ℤ◌, ◌*ℤ◌, ◌≤ℤ◌, arith, List, [], ◌∷◌, length}
 use Rattle.std.proofs.lemmas.Int.{ints}
-use Rattle.raml_num.proofs.Differences.{diff, diffs, is_diff, diff_same, mul_assoc, mul_over}
+use Rattle.raml_num.proofs.Differences.{diffs, is_diff, diff_same}
 use Rattle.raml_num.proofs.Signed.{le_mul}
 use lib.IntN.{*ℤ_comm}
 use Rattle.raml_num.specs.Sums.{NoneNegative}

@@ -1,7 +1,7 @@
 -- Rows that are added to a system.
 use Rattle.std.proofs.Common.{◌≡◌, ℕ, ℤ, List, [], ◌∷◌, ◌++◌}
 use Rattle.linear_rows.specs.Terms.{SparseRow}
-use Rattle.linear_rows.specs.Systems.{LinearSystem, IsSystem, IsBelow, AllBelow}
+use Rattle.linear_rows.specs.Systems.{IsSystem, IsBelow, AllBelow}
 
 below-append : (n : ℕ) (rows : List SparseRow) (row : SparseRow) → AllBelow n rows → IsBelow n row → AllBelow n (rows ++ row ∷ [])
 below-append n [] row h k = (k, tt)

@@ -1,8 +1,8 @@
-use Rattle.std.proofs.Common.{◌≡◌, sym, ap, subst, ◌∙◌, rules, pos, FitsSigned, ℕ, ℤ}
+use Rattle.std.proofs.Common.{sym, ap, ◌∙◌, rules, pos, FitsSigned, ℕ, ℤ}
 use Rattle.std.proofs.lemmas.Int.{to_z-of_z}
 use Rattle.std.proofs.lemmas.List.{get_or_default}
 use Rattle.std.specs.Int.{w128}
-use Rattle.linear_rows.specs.Terms.{SparseRow, IsSparse, IsAt}
+use Rattle.linear_rows.specs.Terms.{IsAt}
 use Rattle.linear_rows.proofs.Places.{coefficient_at, coefficient_in_gap}
 use Rattle.linear_rows.proofs.row.Row.coefficient.Goals as goal
 
