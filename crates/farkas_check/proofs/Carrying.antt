@@ -1,7 +1,6 @@
 -- Totals that grow term by term.
-use Rattle.std.proofs.Common.{◌≡◌, refl, sym, ap, ◌∙◌, FitsSigned, List, [], ◌∷◌, ℤ, pos, ◌+ℤ◌, ◌≤ℤ◌, arith, Option, Some, None}
+use Rattle.std.proofs.Common.{◌≡◌, sym, ap, ◌∙◌, List, [], ◌∷◌, ℤ, pos, ◌+ℤ◌, ◌≤ℤ◌, arith, Some, None}
 use Rattle.std.proofs.lemmas.Int.{ints}
-use Rattle.std.specs.Int.{w128}
 use Rattle.farkas_check.specs.declared.totals.Totals.{Totals}
 use Rattle.farkas_check.specs.Totals.{gain, loss, gains, losses}
 use Rattle.farkas_check.specs.Sides.{MovedBy}

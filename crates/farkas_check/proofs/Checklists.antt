@@ -1,9 +1,9 @@
 -- Lists of checks from one place on.
-use Rattle.std.proofs.Common.{◌≡◌, refl, sym, ap, subst, ℕ, zero, suc, ◌+◌, ◌-◌, ◌<◌, length, List, [], ◌∷◌, get_or, drop, map, ℤ, pos, neg_ℤ, ◌*ℤ◌, arith}
+use Rattle.std.proofs.Common.{◌≡◌, refl, sym, ap, subst, ℕ, zero, suc, ◌+◌, ◌-◌, ◌<◌, length, List, [], ◌∷◌, get_or, drop, ℤ, pos, neg_ℤ, ◌*ℤ◌, arith}
 use Rattle.linear_rows.specs.Terms.{SparseRow}
 use Rattle.linear_rows.specs.Systems.{IsBelow, AllBelow}
 use Rattle.farkas_check.specs.Totals.{products}
-use Rattle.farkas_check.specs.Checks.{Check, NotAbove, column, refuting_columns, solving_row, solving_rows, dual_columns}
+use Rattle.farkas_check.specs.Checks.{NotAbove, column, refuting_columns, solving_row, solving_rows, dual_columns}
 use Rattle.farkas_check.proofs.Unrolling.{cut}
 
 pub columns_next : (u n : ℕ) (rows : List SparseRow) (y : List ℤ) → u < n

@@ -6,7 +6,7 @@ use Rattle.raml_num.specs.Sums.{NoneNegative}
 use Rattle.raml_num.proofs.Signed.{natural, lt_mul}
 use Rattle.linear_rows.specs.Terms.{SparseRow, Terms}
 use Rattle.linear_rows.specs.Systems.{LinearSystem, numbers_from, matrix, right_sides, Solves, Refutes, IsDual, IsLeast}
-use Rattle.linear_rows.specs.Vectors.{dot, scale, zeros, mix, times, AllWide, AtMost}
+use Rattle.linear_rows.specs.Vectors.{dot, scale, zeros, mix, AllWide, AtMost}
 use Rattle.linear_rows.proofs.Products.{dot-scale, dot-comm, dot-zeros, dual_below}
 
 width : (u n : ℕ) (ts : Terms) → length (numbers_from u n ts) ≡ n

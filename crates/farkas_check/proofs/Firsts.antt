@@ -1,9 +1,9 @@
 -- The first fault of a list of checks.
-use Rattle.std.proofs.Common.{◌≡◌, refl, sym, ap, ◌∙◌, subst, List, [], ◌∷◌, ◌++◌, Bool, true, false, Option, Some, None, is_some, ◌⊎◌, inl, inr, ◌↔◌, unwrap_or}
+use Rattle.std.proofs.Common.{◌≡◌, refl, sym, subst, List, [], ◌∷◌, ◌++◌, true, false, Option, Some, None, is_some, inl, inr, ◌↔◌, unwrap_or}
 use mathlib.Core.Bool.{false≢true}
 use Rattle.farkas_check.specs.declared.Verdict.{Verdict}
 use Rattle.farkas_check.specs.declared.Verdict.TheVariants.{Yes, No, Leaves}
-use Rattle.farkas_check.specs.Checks.{Check, Passes, EachPasses, IsFault, IsFirstFault, IsVerdict}
+use Rattle.farkas_check.specs.Checks.{Check, Passes, EachPasses, IsFirstFault, IsVerdict}
 use Rattle.farkas_check.specs.Faults.{FaultOf, FirstFaultOf}
 
 -- what is found in the rest is found in all

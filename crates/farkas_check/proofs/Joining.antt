@@ -1,10 +1,10 @@
 -- Totals of lists that are put together.
-use Rattle.std.proofs.Common.{◌≡◌, refl, sym, ap, ◌∙◌, subst, FitsSigned, List, [], ◌∷◌, ◌++◌, ℤ, pos, neg_ℤ, ◌+ℤ◌, ◌-ℤ◌, ◌*ℤ◌, ◌≤ℤ◌, arith, Option, Some, None}
+use Rattle.std.proofs.Common.{◌≡◌, sym, ap, ◌∙◌, subst, FitsSigned, List, [], ◌∷◌, ◌++◌, ℤ, pos, neg_ℤ, ◌+ℤ◌, ◌-ℤ◌, ◌*ℤ◌, arith, Option, Some, None}
 use Rattle.std.proofs.lemmas.Int.{ints}
 use Rattle.std.specs.Int.{w128}
 use Rattle.raml_num.proofs.Differences.{diffs, diff-pos, is_diff, diff_same}
 use Rattle.farkas_check.specs.declared.totals.Totals.{Totals}
-use Rattle.farkas_check.specs.Totals.{gain, loss, sum_of, gains, losses, TotalsFit}
+use Rattle.farkas_check.specs.Totals.{gain, loss, sum_of, gains, losses}
 use Rattle.farkas_check.specs.Sides.{IsTotals, MovedBy}
 use Rattle.farkas_check.proofs.Splitting.{gains_low, losses_high}
 

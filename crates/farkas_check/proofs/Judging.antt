@@ -1,8 +1,7 @@
 -- From totals to the verdict on a check.
-use Rattle.std.proofs.Common.{◌≡◌, sym, ap, subst, ◌∙◌, ℕ, List, ℤ, pos, ◌+ℤ◌, FitsSigned}
+use Rattle.std.proofs.Common.{◌≡◌, sym, ap, subst, ◌∙◌, List, ℤ, ◌+ℤ◌, FitsSigned}
 use Rattle.std.specs.Int.{w128}
 use Rattle.raml_num.specs.Sums.{total}
-use Rattle.farkas_check.specs.declared.totals.Totals.{Totals}
 use Rattle.farkas_check.specs.Totals.{gains, losses, TotalsFit}
 use Rattle.farkas_check.specs.Checks.{Demand, Meets}
 use Rattle.farkas_check.proofs.Splitting.{total_of}

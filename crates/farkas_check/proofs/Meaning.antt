@@ -1,12 +1,12 @@
 -- What it means that each check passes.
-use Rattle.std.proofs.Common.{◌≡◌, refl, sym, ap, ◌∙◌, subst, ℕ, zero, suc, ◌+◌, ◌<◌, length, List, [], ◌∷◌, ◌++◌, map, ℤ, pos, neg_ℤ, ◌+ℤ◌, ◌*ℤ◌, ◌≤ℤ◌, ◌<ℤ◌, arith}
+use Rattle.std.proofs.Common.{◌≡◌, refl, sym, ap, ◌∙◌, subst, ℕ, zero, suc, length, List, [], ◌∷◌, ◌++◌, map, ℤ, pos, neg_ℤ, ◌+ℤ◌, ◌*ℤ◌, ◌≤ℤ◌, ◌<ℤ◌, arith}
 use Rattle.std.proofs.lemmas.Int.{ints}
 use Rattle.raml_num.specs.Sums.{total, NoneNegative}
-use Rattle.linear_rows.specs.Terms.{SparseRow, Terms, coefficient}
-use Rattle.linear_rows.specs.Systems.{LinearSystem, numbers_from, matrix, right_sides, Solves, Refutes, IsDual}
+use Rattle.linear_rows.specs.Terms.{SparseRow, coefficient}
+use Rattle.linear_rows.specs.Systems.{LinearSystem, numbers_from, right_sides, Solves, Refutes, IsDual}
 use Rattle.linear_rows.specs.Vectors.{dot, scale, plus, zeros, mix, times, AtMost}
-use Rattle.farkas_check.specs.Totals.{TotalsFit, products}
-use Rattle.farkas_check.specs.Checks.{Check, Passes, EachPasses, EachFits, Meets, NotAbove, column, refuting_columns, refuting, solving_rows, solving_row, dual_columns, equal_sums, proving_least}
+use Rattle.farkas_check.specs.Totals.{products}
+use Rattle.farkas_check.specs.Checks.{Check, EachPasses, EachFits, column, refuting_columns, refuting, solving_rows, dual_columns, proving_least}
 
 pub total_products : (xs ys : List ℤ) → total (products xs ys) ≡ dot xs ys
 total_products [] ys = refl
@@ -130,13 +130,15 @@ level_back z a b e h = omega (arith, ints)
 pub refutes_if : (s : LinearSystem) (y : List ℤ) → length y ≡ length s.rows → NoneNegative y → EachPasses (refuting s y) → Refutes s y × EachFits (refuting s y)
 unfolding rows_from
 refutes_if s y e n p =
-    let q = passes_apart (refuting_columns 0 s.unknowns s.rows y) _ p in
-    (record {
+    let q = passes_apart (refuting_columns 0 s.unknowns s.rows y) _ p in (
+      record {
         one_each = e;
         natural = n;
         columns = subst (λ v. AtMost v (zeros s.unknowns)) (sym (mix-dots 0 s.unknowns y s.rows)) (not_above 0 s.unknowns s.rows y q.0);
         right = subst (λ v. pos 0 <ℤ v) (total_products y (right_sides s)) q.1.0.meets;
-    }, each_fits _ p)
+      },
+      each_fits _ p,
+    )
 
 pub refutes_only_if : (s : LinearSystem) (y : List ℤ) → Refutes s y × EachFits (refuting s y) → EachPasses (refuting s y)
 unfolding rows_from
@@ -156,15 +158,16 @@ pub least_if : (s : LinearSystem) (x y : List ℤ) (t : ℤ) → length s.weight
 unfolding rows_from
 least_if s x y t w ex ey nx ny p =
     let q = passes_apart (solving_rows s.unknowns x t s.rows) _ p in
-    let r = passes_apart (dual_columns 0 s.weights s.rows y t) _ q.1 in
-    (record { one_each = ex; natural = nx; rows = rows_at_least s.unknowns x t s.rows q.0 },
-        record {
-            one_each = ey;
-            natural = ny;
-            columns = subst (λ v. AtMost v (scale t s.weights)) (sym (mix-dots 0 s.unknowns y s.rows)) (subst (λ n. AtMost (dots 0 n y s.rows) (scale t s.weights)) w (dual_at_most 0 s.weights s.rows y t r.0));
-        },
-        level _ _ _ (difference (products y (right_sides s)) (products s.weights x) _ _ (total_products y (right_sides s)) (total_products s.weights x)) r.1.0.meets,
-        each_fits _ p)
+    let r = passes_apart (dual_columns 0 s.weights s.rows y t) _ q.1 in (
+      record { one_each = ex; natural = nx; rows = rows_at_least s.unknowns x t s.rows q.0 },
+      record {
+        one_each = ey;
+        natural = ny;
+        columns = subst (λ v. AtMost v (scale t s.weights)) (sym (mix-dots 0 s.unknowns y s.rows)) (subst (λ n. AtMost (dots 0 n y s.rows) (scale t s.weights)) w (dual_at_most 0 s.weights s.rows y t r.0));
+      },
+      level _ _ _ (difference (products y (right_sides s)) (products s.weights x) _ _ (total_products y (right_sides s)) (total_products s.weights x)) r.1.0.meets,
+      each_fits _ p,
+    )
 
 pub least_only_if : (s : LinearSystem) (x y : List ℤ) (t : ℤ) → length s.weights ≡ s.unknowns → IsProvedLeast s x y t → EachPasses (proving_least s x y t)
 unfolding rows_from
@@ -173,5 +176,5 @@ least_only_if s x y t w h =
     let g = fits_apart (dual_columns 0 s.weights s.rows y t) _ f.1 in
     passes_joined (solving_rows s.unknowns x t s.rows) _ (rows_back s.unknowns x t s.rows f.0 h.0.rows)
     (passes_joined (dual_columns 0 s.weights s.rows y t) _
-        (dual_back 0 s.weights s.rows y t g.0 (subst (λ n. AtMost (dots 0 n y s.rows) (scale t s.weights)) (sym w) (subst (λ v. AtMost v (scale t s.weights)) (mix-dots 0 s.unknowns y s.rows) h.1.columns)))
-        (record { fit = g.1.0; meets = level_back _ _ _ (difference (products y (right_sides s)) (products s.weights x) _ _ (total_products y (right_sides s)) (total_products s.weights x)) h.2 }, tt))
+    (dual_back 0 s.weights s.rows y t g.0 (subst (λ n. AtMost (dots 0 n y s.rows) (scale t s.weights)) (sym w) (subst (λ v. AtMost v (scale t s.weights)) (mix-dots 0 s.unknowns y s.rows) h.1.columns)))
+    (record { fit = g.1.0; meets = level_back _ _ _ (difference (products y (right_sides s)) (products s.weights x) _ _ (total_products y (right_sides s)) (total_products s.weights x)) h.2 }, tt))

@@ -1,9 +1,7 @@
 -- Numbers that count up and numbers that count down.
-use Rattle.std.proofs.Common.{◌≡◌, refl, FitsSigned, List, [], ◌∷◌, ℤ, pos, ◌+ℤ◌, ◌≤ℤ◌, arith}
+use Rattle.std.proofs.Common.{◌≡◌, refl, List, [], ◌∷◌, ℤ, pos, ◌+ℤ◌, ◌≤ℤ◌, arith}
 use Rattle.std.proofs.lemmas.Int.{ints}
-use Rattle.std.specs.Int.{w128}
 use lib.IntN.{negsuc}
-use lib.Signed.{lt_z}
 use Rattle.raml_num.specs.Sums.{total}
 use Rattle.farkas_check.specs.Totals.{gain, loss, gains, losses}
 

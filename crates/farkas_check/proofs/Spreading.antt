@@ -2,10 +2,10 @@
 use Rattle.std.proofs.Common.{◌≡◌, refl, sym, ap, ◌∙◌, subst, ℕ, zero, suc, ◌+◌, ◌<◌, ◌≤◌, length, List, [], ◌∷◌, get_or, drop, drop-cons, ℤ, pos, ◌+ℤ◌, ◌*ℤ◌, arith, ◌⊎◌, inl, inr}
 use Rattle.std.proofs.lemmas.Int.{ints}
 use Rattle.std.proofs.lemmas.Bool.Decides.{nat_tests}
-use Rattle.linear_rows.specs.Terms.{SparseRow, Terms, coefficient, unknown_at, number_at, IsSparse, IsAt}
+use Rattle.linear_rows.specs.Terms.{SparseRow, Terms, coefficient, unknown_at, IsSparse, IsAt}
 use Rattle.linear_rows.specs.Systems.{IsBelow, numbers_from}
 use Rattle.linear_rows.proofs.Places.{coefficient_at}
-use Rattle.farkas_check.specs.Totals.{sum_of, gain, loss, gains, losses, products}
+use Rattle.farkas_check.specs.Totals.{sum_of, products}
 use Rattle.farkas_check.specs.Sides.{sparse_products, AllInside}
 
 -- a term that stands has a number, so its unknown is one of the system's
@@ -14,6 +14,7 @@ all_inside n r s b i h = inside (unknown_at r.terms i < n) (below_or_not (unknow
   where
     below_or_not : (m n : ℕ) → (m < n) ⊎ (n ≤ m)
     below_or_not m n = grind arith
+
     inside : (P : Type 0) → P ⊎ (n ≤ unknown_at r.terms i) → P
     inside P (inl p) = p
     inside P (inr q) =
@@ -28,9 +29,11 @@ Rises k e ((v, c) ∷ ts) = (k ≤ v) × (v < e) × Rises (suc v) e ts
 rises_of : (k e : ℕ) (ts : Terms) → ((i : ℕ) → i < length ts → k ≤ unknown_at ts i) → ((i j : ℕ) → i < j → j < length ts → unknown_at ts i < unknown_at ts j) → AllInside ts e → Rises k e ts
 unfolding Rises
 rises_of k e [] low rise inside = tt
-rises_of k e ((v, c) ∷ ts) low rise inside =
-    (low 0 (omega arith), inside 0 (omega arith),
-        rises_of (suc v) e ts (λ i h. rise 0 (suc i) (omega arith) (omega arith)) (λ i j h l. rise (suc i) (suc j) (omega arith) (omega arith)) (λ i h. inside (suc i) (omega arith)))
+rises_of k e ((v, c) ∷ ts) low rise inside = (
+  low 0 (omega arith),
+  inside 0 (omega arith),
+  rises_of (suc v) e ts (λ i h. rise 0 (suc i) (omega arith) (omega arith)) (λ i j h l. rise (suc i) (suc j) (omega arith) (omega arith)) (λ i h. inside (suc i) (omega arith)),
+)
 
 absent_before : (k e u : ℕ) (ts : Terms) → Rises k e ts → u < k → coefficient u ts ≡ pos 0
 unfolding Rises

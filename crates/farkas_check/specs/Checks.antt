@@ -1,5 +1,5 @@
 -- What is checked of a vector, in order, and the verdict on it.
-use Rattle.std.specs.Prelude.{◌≡◌, ℕ, zero, suc, ℤ, pos, neg_ℤ, ◌*ℤ◌, ◌≤ℤ◌, ◌<ℤ◌, List, [], ◌∷◌, ◌++◌, map, Option, Some, None, ◌⊎◌}
+use Rattle.std.specs.Prelude.{◌≡◌, ℕ, zero, suc, ℤ, pos, neg_ℤ, ◌*ℤ◌, ◌≤ℤ◌, ◌<ℤ◌, List, [], ◌∷◌, ◌++◌, map, ◌⊎◌}
 use Rattle.raml_num.specs.Sums.{total}
 use Rattle.linear_rows.specs.Terms.{SparseRow, coefficient}
 use Rattle.linear_rows.specs.Systems.{LinearSystem, numbers_from, right_sides}

@@ -68,3 +68,6 @@ pub fn refuted_has_no_solution()
 pub fn equal_sums_are_least()
     ensures { EqualSumsAreLeast }
 {}
+
+#[cfg(test)]
+mod tests;

@@ -47,5 +47,5 @@ returns-clause-yes c =
     let w = c.in_default.ensures.sound.one_each in
     rw c.unwrap_or.ensures
     (yes_where (proving_least c.args.system.now c.args.x.now c.args.y.now c.args.scale) _ (IsProvedLeast c.args.system.now c.args.x.now c.args.y.now c.args.scale)
-        (least_if _ _ _ _ w c.requires.each_unknown c.requires.each_row c.requires.x_natural c.requires.y_natural) (least_only_if _ _ _ _ w)
-        (third_verdict _ _ _ c.of_sums.result p q c.of_sums.ensures))
+    (least_if _ _ _ _ w c.requires.each_unknown c.requires.each_row c.requires.x_natural c.requires.y_natural) (least_only_if _ _ _ _ w)
+    (third_verdict _ _ _ c.of_sums.result p q c.of_sums.ensures))

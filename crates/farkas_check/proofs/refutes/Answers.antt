@@ -19,5 +19,5 @@ pub returns-clause-yes : goal.returns-clause-yes
 returns-clause-yes c =
     rw c.unwrap_or.ensures
     (yes_where (refuting c.args.system.now c.args.y.now) _ (Refutes c.args.system.now c.args.y.now × EachFits (refuting c.args.system.now c.args.y.now))
-        (refutes_if c.args.system.now c.args.y.now c.requires.one_each c.requires.natural) (refutes_only_if c.args.system.now c.args.y.now)
-        (joined_verdict _ _ c.of_right_sides.result c.in_default.ensures c.of_right_sides.ensures))
+    (refutes_if c.args.system.now c.args.y.now c.requires.one_each c.requires.natural) (refutes_only_if c.args.system.now c.args.y.now)
+    (joined_verdict _ _ c.of_right_sides.result c.in_default.ensures c.of_right_sides.ensures))

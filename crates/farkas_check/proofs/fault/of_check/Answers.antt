@@ -1,9 +1,9 @@
-use Rattle.std.proofs.Common.{rules, refl, sym, FitsSigned, List, ℤ, ◌≡◌, ◌∙◌}
+use Rattle.std.proofs.Common.{rules, refl, sym, FitsSigned, ◌∙◌}
 use Rattle.std.proofs.lemmas.Int.{to_z-of_z}
 use Rattle.std.specs.Int.{w128}
 use mathlib.Core.Bool.{false≢true}
 use Rattle.farkas_check.specs.Faults.{demand_of}
-use Rattle.farkas_check.proofs.Judging.{Told, told, meets, meets_back}
+use Rattle.farkas_check.proofs.Judging.{told, meets, meets_back}
 use Rattle.farkas_check.proofs.fault.of_check.Goals as goal
 
 pub returns-then-is_met : goal.returns-then-is_met

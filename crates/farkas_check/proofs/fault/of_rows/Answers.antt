@@ -1,4 +1,4 @@
-use Rattle.std.proofs.Common.{sym, ap, length, ◌<◌, ◌≡◌, get_or}
+use Rattle.std.proofs.Common.{sym}
 use Rattle.std.proofs.lemmas.Int.{to_z-of_z}
 use Rattle.std.specs.Int.{w128}
 use Rattle.farkas_check.proofs.Firsts.{next, found}

@@ -1,4 +1,4 @@
-use Rattle.std.proofs.Common.{rules, FitsSigned, get_or, pos, ◌-ℤ◌, ◌≤ℤ◌, arith, ◌<◌, length}
+use Rattle.std.proofs.Common.{rules, FitsSigned, get_or, pos, ◌-ℤ◌, arith, ◌<◌, length}
 use Rattle.std.proofs.lemmas.Int.{to_z-of_z}
 use Rattle.std.specs.Int.{w128}
 use Rattle.farkas_check.proofs.Carrying.{further, too_far}
