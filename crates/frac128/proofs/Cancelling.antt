@@ -1,14 +1,24 @@
 -- Lowest terms, and products that are cancelled crosswise.
 use Rattle.std.proofs.Common.{◌≡◌, ap, subst, ℕ, ◌^◌, ◌*◌, ◌/◌, ◌<◌, arith, Some, None}
-use Rattle.std.proofs.Math.Nat.{dvd-mul_right, mul-div_cancel', eq_of_mul-eq-mul_right, mul-pos, div-le_self, eq-one_of_dvd-one}
+use Rattle.std.proofs.Math.Nat.{one-dvd, dvd-mul_right, mul-div_cancel', eq_of_mul-eq-mul_right, mul-pos, div-le_self, eq-one_of_dvd-one}
+use Rattle.std.proofs.lemmas.Nat.Gcd.{dvd_refl}
 use Rattle.std.specs.Int.{IsGcd}
 use Prim.Native.Nat.{◌∣◌}
 use Rattle.raml_num.specs.Divisors.{IsCoprime}
-use Rattle.raml_num.proofs.Dividing.{coprime_swap, coprime_parts, coprime_product, lowest_least, positive_part, reduced}
+use Rattle.raml_num.proofs.Dividing.{coprime_from, coprime_swap, coprime_parts, coprime_product, lowest_least, positive_part, reduced}
 use Rattle.frac128.specs.Lowest.{InLowestTerms, TellsLowest}
 
 pub over_one : (n : ℕ) → n < 2 ^ 127 → InLowestTerms n 1
 over_one n h = record { small = h; positive = omega arith; fits = omega arith; coprime = record { common = λ d p q. eq-one_of_dvd-one q } }
+
+-- where only 1 can be common, the terms are the lowest
+pub nothing_common : (n d s : ℕ) → n < 2 ^ 127 → 0 < d → d < 2 ^ 127 → ((k : ℕ) → IsGcd n s k → IsGcd n d k) → s ≡ 1 → InLowestTerms n d
+nothing_common n d s h p k f e = record {
+  small = h;
+  positive = p;
+  fits = k;
+  coprime = coprime_from n d (f 1 (rw e (one-dvd n, dvd_refl 1, λ e i j. j)));
+}
 
 pub lowest_terms : (n d g : ℕ) → n < 2 ^ 127 → 0 < d → d < 2 ^ 127 → IsGcd n d g → InLowestTerms (n / g) (d / g)
 lowest_terms n d g h p k i = record {

@@ -1,7 +1,8 @@
 //! Fractions in lowest terms, of 127 bits above and below. No call takes memory.
 #![tactic(auto)]
 
-ghost use Rattle.std.specs.Prelude.{◌≡◌, ◌<◌, ◌^◌, ◌*ℤ◌, pos, unsigned_abs};
+ghost use Rattle.std.specs.Prelude.{◌≡◌, ◌<◌, ◌^◌, ◌*ℤ◌, pos, unsigned_abs, ℕ};
+ghost use Rattle.std.specs.Int.{IsGcd};
 ghost use Rattle.frac128.specs.Lowest.{InLowestTerms, signed_by};
 
 mod parts;
@@ -42,18 +43,20 @@ fn signed(negative: bool, top: u128, bottom: u128) -> Frac
     Frac { num, den: bottom }
 }
 
-/// The lowest terms of a fraction whose parts are in the range.
-fn reduced(num: i128, den: u128) -> Frac
+/// The lowest terms of a fraction whose parts are in the range. What the numerator has in common with
+/// the denominator, it has in common with `shared`, which may be much smaller.
+fn reduced(num: i128, den: u128, shared: u128) -> Frac
     requires small { unsigned_abs num < 2 ^ 127 }
     requires positive { 0 < den }
     requires fits { den < 2 ^ 127 }
+    requires shared { (k : ℕ) → IsGcd (unsigned_abs num) shared k → IsGcd (unsigned_abs num) den k }
     ensures { result.num *ℤ pos den ≡ num *ℤ pos result.den }
 {
-    if den == 1 {
-        return over_one(num);
+    if shared == 1 {
+        return Frac { num, den };
     }
     let top = num.unsigned_abs();
-    let divisor = gcd(top, den);
+    let divisor = gcd(top, shared);
     signed(
         num < 0,
         parts::quotient(top, divisor),
@@ -191,7 +194,7 @@ impl Frac {
         ensures value { IfSome result (IsSum self.now other.now) }
     {
         let num = parts::joined(self.num, other.num)?;
-        Some(reduced(num, self.den))
+        Some(reduced(num, self.den, self.den))
     }
 
     /// The sum over the least common denominator.
@@ -201,7 +204,7 @@ impl Frac {
     {
         let divisor = gcd(self.den, other.den);
         let (num, den) = parts::over_least(self.num, self.den, other.num, other.den, divisor)?;
-        Some(reduced(num, den))
+        Some(reduced(num, den, divisor))
     }
 
     /// The difference: the sum with the other negated, or None where that is None.

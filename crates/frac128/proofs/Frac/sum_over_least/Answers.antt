@@ -2,6 +2,7 @@ use Rattle.std.proofs.Common.{rules, ◌≡◌, refl, ℤ, FitsSigned, ℕ, ◌*
 use Rattle.std.proofs.lemmas.Int.{to_z-of_z}
 use Rattle.std.specs.Int.{w128}
 use Rattle.frac128.proofs.Sums.{is_sum, bottom_positive, shared, fits_over, fits_back}
+use Rattle.frac128.proofs.Sharing.{shared_gcd}
 use Rattle.frac128.proofs.Frac.sum_over_least.Goals as goal
 
 pub returns-in_err-num-clause-fits : goal.returns-in_err-num-clause-fits
@@ -35,3 +36,15 @@ returns-clause-value c =
     let b : c.in_ok-num.den ≡ c.args.self.now.den * (c.args.other.now.den / c.gcd-divisor.result) = ap (λ (p : ℤ × ℕ). p.1) n.1 in
     is_sum c.args.self.now.num c.args.self.now.den c.args.other.now.num c.args.other.now.den c.gcd-divisor.result c.reduced.result.num c.reduced.result.den c.gcd-divisor.ensures
     (simp (t, b) at (simp (to_z-of_z w128 _ k) at c.reduced.ensures))
+
+pub reduced-requires-clause-shared : goal.reduced-requires-clause-shared
+reduced-requires-clause-shared c k h =
+    let f : FitsSigned w128 c.args.self.now.num = search rules in
+    let g : FitsSigned w128 c.args.other.now.num = search rules in
+    let n = simp (to_z-of_z w128 _ f, to_z-of_z w128 _ g) at c.in_ok-num.ensures in
+    let l : FitsSigned w128 c.in_ok-num.num = search rules in
+    let t : c.in_ok-num.num ≡ c.args.self.now.num *ℤ pos (c.args.other.now.den / c.gcd-divisor.result) +ℤ c.args.other.now.num *ℤ pos (c.args.self.now.den / c.gcd-divisor.result) = ap (λ (p : ℤ × ℕ). p.0) n.1 in
+    let b : c.in_ok-num.den ≡ c.args.self.now.den * (c.args.other.now.den / c.gcd-divisor.result) = ap (λ (p : ℤ × ℕ). p.1) n.1 in
+    let i = simp t at (simp (to_z-of_z w128 _ l) at h) in
+    rw (to_z-of_z w128 _ l, t, b)
+    (shared_gcd c.args.self.now.num c.args.self.now.den c.args.other.now.num c.args.other.now.den c.gcd-divisor.result k c.args.other.now.lowest.positive c.gcd-divisor.ensures c.args.self.now.lowest.coprime c.args.other.now.lowest.coprime i)
