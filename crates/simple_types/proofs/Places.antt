@@ -1,9 +1,9 @@
 -- The place of a name among the names of a program.
-use Rattle.std.proofs.Common.{◌≡◌, ◌∙◌, ℕ, suc, ◌+◌, ◌<◌, ◌≤◌, List, [], ◌∷◌, ◌++◌, length, map, drop, append_assoc, Result, Ok, Err, nat_lt, slice_index_or, Bool, true, false, not, ◌||◌, cond, if◌then◌else◌, Option, Some, None, refl, sym, ap, subst, arith, Bor}
-use Rattle.std.specs.List.{slice_get, prefix_len, position_or_len, list_any}
+use Rattle.std.proofs.Common.{◌≡◌, ◌∙◌, ℕ, suc, ◌+◌, ◌<◌, ◌≤◌, List, [], ◌∷◌, ◌++◌, length, map, drop, append_assoc, Result, Err, nat_lt, slice_index_or, Bool, true, false, not, ◌||◌, cond, if◌then◌else◌, Some, None, refl, sym, ap, subst, arith, Bor}
+use Rattle.std.specs.List.{slice_get, position_or_len, list_any}
 use Rattle.std.specs.Prelude.{position}
 use Rattle.std.specs.Str.{bytes_eq}
-use Rattle.std.proofs.lemmas.Bool.{ltb-true, ltb-false}
+use Rattle.std.proofs.lemmas.Bool.{ltb-false}
 use Rattle.std.proofs.lemmas.Option.{slice_get_past, slice_get-map, slice_get_read, slice_get_within, get_or_from_slice_get}
 use Rattle.std.specs.List.{All}
 use Rattle.std.proofs.lemmas.List.{length-map}

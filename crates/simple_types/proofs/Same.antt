@@ -1,7 +1,7 @@
 -- The test of two types tells whether they are equal.
 use Rattle.std.proofs.Common.{◌≡◌, ◌∙◌, Bool, true, false, refl, sym, ap, subst}
 use Rattle.std.proofs.lemmas.Bool.{and_parts, and_from}
-use Rattle.std.specs.Prelude.{◌↔◌, IsTrue, ◌&&◌}
+use Rattle.std.specs.Prelude.{◌↔◌, IsTrue}
 use Rattle.raml_syntax.specs.Tree.{Type', Integer, Boolean, PairOf, ListOf, TreeOf}
 use Rattle.simple_types.specs.Walk.{same_type}
 

@@ -1,17 +1,16 @@
 -- The walk gives a type exactly where the expression has it.
-use Rattle.std.proofs.Common.{◌≡◌, ◌∙◌, ℕ, suc, ◌+◌, List, [], ◌∷◌, length, map, nat_eq, Bool, true, false, cond, Option, Some, None, Result, Ok, Err, refl, sym, ap, subst, arith}
-use Rattle.std.specs.Prelude.{◌↔◌}
+use Rattle.std.proofs.Common.{◌≡◌, ◌∙◌, ℕ, suc, List, [], ◌∷◌, length, map, nat_eq, Bool, true, false, cond, Option, Some, None, Result, Ok, Err, refl, sym, ap, subst, arith}
 use Rattle.std.specs.List.{All}
 use Rattle.std.proofs.lemmas.Bool.{eqb-true, eq-eqb}
 use Rattle.std.proofs.lemmas.List.Elements.{All-nil, All-cons, All-head, All-tail}
 use Rattle.raml_syntax.specs.Tree as t
 use Rattle.raml_syntax.specs.Tree.{Text, Type', Integer, Boolean, PairOf, ListOf, TreeOf, Bound, Parameter, Function, Prog}
 use Rattle.raml_syntax.specs.Eval.{find, names_of}
-use Rattle.raml_syntax.specs.Types.{Context, type_at, bind_types, types_of, Differ, IsListType, IsTreeType, Way, Finding, Checking, HasType, CheckEach, Checks, Typed}
+use Rattle.raml_syntax.specs.Types.{Context, type_at, bind_types, types_of, Differ, Way, Finding, Checking, HasType, CheckEach, Checks, Typed}
 use Rattle.raml_syntax.specs.Node.{count}
 use Rattle.simple_types.specs.Fault.{Fault, Wanted, Is, SomeList, SomeTree, SomePair, Unknown, Arity}
 use Rattle.simple_types.specs.Walk.{and_then, or_fault, same_type, pair_parts, list_element, tree_element, place, distinct, settle, arity, walk, walk_each, checks, parameter_name, function_name, walk_headers, walk_bodies, walk_program}
-use Rattle.simple_types.specs.Laws.{WalkIsTyping, WalksAreTypings}
+use Rattle.simple_types.specs.Laws.{WalksAreTypings}
 use Rattle.std.specs.Option.{IsSome}
 use Rattle.simple_types.specs.Read.{fault_of, EndsWith}
 use Rattle.simple_types.specs.declared.fault.TypeFault.{TypeFault}

@@ -1,5 +1,5 @@
 -- What types at hand and scopes are as plain data.
-use Rattle.std.specs.Prelude.{List, [], ◌∷◌, Option, option_map, option_copied}
+use Rattle.std.specs.Prelude.{[], ◌∷◌, Option, option_map, option_copied}
 use Rattle.std.specs.Borrow.{Bor}
 use Rattle.raml_syntax.specs.Tree.{Type', Integer, Boolean, PairOf, ListOf, TreeOf}
 use Rattle.raml_syntax.specs.Types.{Context}

@@ -6,7 +6,7 @@ use Rattle.raml_syntax.specs.Tree.{Text, Type', Integer, Boolean, PairOf, ListOf
 use Rattle.raml_syntax.specs.Eval.{find}
 use Rattle.raml_syntax.specs.Types.{Context, type_at, bind_types, types_of}
 use Rattle.raml_syntax.specs.Node.{count}
-use Rattle.simple_types.specs.Fault.{Kind, Is, SomeList, SomeTree, SomePair, Fault, Unknown, Twice, Wanted, NeedsType, Arity}
+use Rattle.simple_types.specs.Fault.{Is, SomeList, SomeTree, SomePair, Fault, Unknown, Twice, Wanted, NeedsType, Arity}
 
 -- after a fault nothing more is looked at
 abbrev pub and_then : {A B : Type 0} → Result A Fault → (A → Result B Fault) → Result B Fault
