@@ -1,0 +1,5 @@
+pub mod Same
+mod Forms
+mod Names
+mod Places
+pub mod Typing

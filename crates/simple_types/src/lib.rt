@@ -1,0 +1,15 @@
+//! Types of programs: each expression's is found, or checked.
+#![tactic(auto)]
+
+mod fault;
+mod functions;
+mod known;
+pub mod laws;
+mod program;
+mod scope;
+#[cfg(test)]
+mod tests;
+mod walk;
+
+pub use fault::{Shape, TypeFault};
+pub use program::{Typed, check};

@@ -1,0 +1,184 @@
+// The check of a program.
+ghost use Rattle.std.specs.Prelude.{◌≡◌, ◌≤◌, IfOk, IfErr, IsSome, Some, [], length, map};
+ghost use Rattle.std.specs.List.{All};
+ghost use Rattle.raml_syntax.specs.Tree.{Function};
+ghost use Rattle.raml_syntax.specs.Types as types;
+ghost use Rattle.raml_syntax.specs.Types.{bind_types};
+ghost use Rattle.raml_syntax.specs.Node.{AllNodes, FewArguments};
+ghost use Rattle.raml_syntax.specs.Read.{program_of, function_of, parameter_of, term_of, ty_of};
+ghost use Rattle.simple_types.specs.Known.{context_of};
+ghost use Rattle.simple_types.specs.Headers.{names_in};
+ghost use Rattle.simple_types.specs.Read.{EndsWith, Gives, Passes, fault_of};
+ghost use Rattle.simple_types.specs.Walk.{among, distinct, parameter_name, walk, checks, walk_headers, walk_bodies, walk_program};
+
+use crate::fault::TypeFault;
+use crate::functions::Functions;
+use crate::known::Known;
+use crate::scope::Scope;
+use crate::walk::{Env, check_given};
+use raml_syntax::{Fun, Param, Program};
+use std::alloc::Global;
+use std::marker::Model;
+
+/// A typed program.
+#[derive(Drop)]
+pub struct Typed {
+    program: Program,
+}
+
+impl Model for Typed {
+    ghost use Rattle.raml_syntax.specs.declared.program.Program.{Program};
+    ghost use Rattle.raml_syntax.specs.Types as types;
+    ghost use Rattle.raml_syntax.specs.Read.{program_of};
+    ghost use Rattle.std.specs.Coded.{codes};
+    ghost use Rattle.raml_syntax.specs.contracts.ty.Ty as ty;
+    ghost use Rattle.raml_syntax.specs.contracts.tree.Form as form;
+    ghost use Rattle.raml_syntax.specs.contracts.tree.Expr as expr;
+
+    ghost Value = { Program };
+
+    ghost coded = { Prim.hlevel (codes, ty.the_row.coded, form.the_row.coded, expr.the_row.coded) };
+
+    ghost view = { λ typed. typed.program };
+
+    ghost invariant = { λ typed. types.Typed (program_of typed.program) };
+}
+
+impl Typed {
+    /// The program.
+    pub fn program(&self) -> &Program
+        ensures program { result.now ≡ self.now }
+        ensures typed { types.Typed (program_of self.now) }
+    {
+        &self.program
+    }
+}
+
+/// Whether the name is that of one of the parameters.
+fn stands_in(name: &str, params: &[Param]) -> bool
+    ensures { result ≡ among name.now (names_in params.now) }
+{
+    for param in params {
+        if name == param.name.text() {
+            return true;
+        }
+    }
+    false
+}
+
+/// Tells whether the names of all parameters differ.
+fn differ(params: &[Param]) -> Result<(), TypeFault>
+    ensures { Passes (distinct (map parameter_name (map parameter_of params.now))) result }
+{
+    for i in 0..params.len() {
+        let param = &params[i];
+        if stands_in(param.name.text(), &params[..i]) {
+            return Err(TypeFault::Twice { at: param.at });
+        }
+    }
+    Ok(())
+}
+
+/// Checks the parameters of functions in order.
+fn check_headers(funs: &[Fun]) -> Result<(), TypeFault>
+    ensures { Passes (walk_headers (map function_of funs.now)) result }
+{
+    for fun in funs {
+        differ(&fun.params)?;
+    }
+    Ok(())
+}
+
+/// Checks a body below its parameters, of which some are bound already.
+fn check_below<'s, 'a>(
+    alloc: Global,
+    env: Env<'s, 'a>,
+    params: &'a [Param],
+    fun: &'a Fun,
+) -> Result<Known<'a>, TypeFault>
+    requires few { AllNodes FewArguments (term_of fun.now.body) }
+    ensures { Gives (walk (program_of env.entry.functions.now.program.now) (Some (ty_of fun.now.result)) (bind_types (context_of env.entry.scope.now) (map parameter_of params.now)) (term_of fun.now.body)) result }
+{
+    match params {
+        [] => check_given(alloc, env, &fun.body, &fun.result),
+        [param, rest @ ..] => {
+            let ty = Known::Given(&param.ty);
+            let scope = Scope::Bound {
+                name: &param.name,
+                ty: &ty,
+                outer: env.scope,
+            };
+            let functions = env.functions;
+            check_below(
+                alloc,
+                Env {
+                    functions,
+                    scope: &scope,
+                },
+                rest,
+                fun,
+            )
+        }
+    }
+}
+
+/// Checks a body against the type of its function's result.
+fn check_body<'s, 'a>(
+    alloc: Global,
+    functions: &'s Functions<'a>,
+    fun: &'a Fun,
+) -> Result<Known<'a>, TypeFault>
+    requires few { AllNodes FewArguments (term_of fun.now.body) }
+    ensures { Gives (checks (program_of functions.now.program.now) (bind_types [] (function_of fun.now).params) (function_of fun.now).body (function_of fun.now).result) result }
+{
+    let scope = Scope::Empty;
+    check_below(
+        alloc,
+        Env {
+            functions,
+            scope: &scope,
+        },
+        &fun.params,
+        fun,
+    )
+}
+
+/// Checks the bodies of functions of the program in order.
+fn check_bodies<'a>(
+    alloc: Global,
+    functions: &Functions<'a>,
+    funs: &'a [Fun],
+) -> Result<(), TypeFault>
+    requires few { All (λ (g : Function). AllNodes FewArguments g.body) (map function_of funs.now) }
+    ensures { Passes (walk_bodies (program_of functions.now.program.now) (map function_of funs.now)) result }
+{
+    for fun in funs {
+        check_body(alloc, functions, fun)?;
+    }
+    Ok(())
+}
+
+/// Checks the names of functions, then the parameters, then the bodies.
+fn check_program(alloc: Global, program: &Program) -> Result<(), TypeFault>
+    requires few_parameters { All (λ (g : Function). length g.params ≤ 8) (program_of program.now) }
+    requires few_arguments { All (λ (g : Function). AllNodes FewArguments g.body) (program_of program.now) }
+    ensures { Passes (walk_program (program_of program.now)) result }
+{
+    let functions = Functions::new(alloc, program)?;
+    check_headers(&program.funs)?;
+    check_bodies(alloc, &functions, &program.funs)
+}
+
+/// Checks that the program is typed. Otherwise the fault is the first of the walk, and the program
+/// is dropped.
+#[tactic(auto, using(crate::proofs::Typing::refused_untyped))]
+pub fn check(alloc: Global, program: Program) -> Result<Typed, TypeFault>
+    requires few_parameters { All (λ (g : Function). length g.params ≤ 8) (program_of program) }
+    requires few_arguments { All (λ (g : Function). AllNodes FewArguments g.body) (program_of program) }
+    ensures typed { IfOk result (λ typed. (typed ≡ program) × types.Typed (program_of program)) }
+    ensures fault { IfErr result (EndsWith (walk_program (program_of program))) }
+    ensures refused { IfErr result (λ fault. IsSome (fault_of fault) → types.Typed (program_of program) → ⊥) }
+{
+    check_program(alloc, &program)?;
+    Ok(Typed { program })
+}
