@@ -1,1 +1,5 @@
 pub mod Many
+pub mod Among
+pub mod Exact
+pub mod Sums
+pub mod Multiplied

@@ -38,12 +38,16 @@ abbrev mutual
   base Unit' v = 1
   base (Pair i j) v = on_parts (base i) (base j) v
   base End v = 1
-  base (Then i r) v = total (led (base i) (along r)) (choices (1 + entries r) (elements v))
+  base (Then i r) v = total (led (base i) (along r)) (choices (suc (entries r)) (elements v))
 
   -- the product of a list index's entries at as many elements
   pub along : Plain → List Value → ℕ
   along (Then i r) vs = led (base i) (along r) vs
   along _ vs = 1
+
+-- a list index over the elements: what `base` is at the value that has them
+abbrev pub over : Plain → List Value → ℕ
+over x vs = total (along x) (choices (entries x) vs)
 
 -- the product over the components of a tuple
 abbrev pub bases : List Plain → List Value → ℕ

@@ -1,5 +1,6 @@
 pub mod Plain
 pub mod Indices
 pub mod Base
+pub mod Product
 pub mod Read
 pub mod Total

@@ -1,5 +1,5 @@
 -- Indices as plain data, and their order.
-use Rattle.std.specs.Prelude.{ℕ, ◌+◌, Bool, List, [], ◌∷◌, ◌++◌}
+use Rattle.std.specs.Prelude.{ℕ, zero, suc, ◌+◌, Bool, List, [], ◌∷◌, ◌++◌}
 use Rattle.std.specs.declared.cmp.Ordering.{Ordering}
 use Rattle.std.specs.declared.cmp.Ordering.TheVariants.{Less, Equal, Greater}
 use Rattle.std.specs.Ordering.{ordering_then, eq_by_cmp}
@@ -18,8 +18,8 @@ many (i ∷ is) = Then i (many is)
 
 -- how many entries a list index has
 abbrev pub entries : Plain → ℕ
-entries (Then i r) = 1 + entries r
-entries _ = 0
+entries (Then i r) = suc (entries r)
+entries _ = zero
 
 -- the unit has none, a pair those of its parts, and each entry counts for one beside its own
 abbrev pub deg : Plain → ℕ
