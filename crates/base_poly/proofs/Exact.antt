@@ -113,7 +113,7 @@ sound (TreeOf A) d i m =
     let r = sound_lists A (indices_up_to A) (sound A) d d p.0 p.1 in
     subst (λ q. IsIndex q (TreeOf A) × (deg q ≤ d)) p.2 (as_tree (many p.0) A r.0, r.1)
 
-sound_tuples : (As : List Type') (d : ℕ) (t : List Plain) → Among t (tuples_up_to As d) → AreIndices t As × (degrees t ≤ d)
+pub sound_tuples : (As : List Type') (d : ℕ) (t : List Plain) → Among t (tuples_up_to As d) → AreIndices t As × (degrees t ≤ d)
 sound_tuples [] d t m = ⊎_elim (λ e. subst (λ q. AreIndices q [] × (degrees q ≤ d)) e (tt, omega arith)) (λ n. absurd n) m
 sound_tuples (A ∷ As) d t m =
     let p = among_part (λ i. map (λ r. i ∷ r) (tuples_up_to As (d - deg i))) t (indices_up_to A d) m in
@@ -164,7 +164,7 @@ whole (TreeOf A) d i h k =
     subst (λ q. Among q (indices_up_to (TreeOf A) d)) (many_entries A i g)
       (mapped_among many (entries_of i) (lists (indices_up_to A) d d) (whole_lists A (indices_up_to A) (whole A) i d d g k k))
 
-whole_tuples : (As : List Type') (d : ℕ) (t : List Plain) → AreIndices t As → degrees t ≤ d → Among t (tuples_up_to As d)
+pub whole_tuples : (As : List Type') (d : ℕ) (t : List Plain) → AreIndices t As → degrees t ≤ d → Among t (tuples_up_to As d)
 whole_tuples [] d [] h k = inl refl
 whole_tuples [] d (i ∷ is) h k = absurd h
 whole_tuples (A ∷ As) d [] h k = absurd h

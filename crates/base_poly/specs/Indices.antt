@@ -61,6 +61,10 @@ pub record ListsTuples (As : List Type') (d : ℕ) (ts : List (List Plain)) : Ty
 abbrev pub led_by : (ℕ → List (List Plain)) → ℕ → List Plain → List (List Plain)
 led_by rests d firsts = flat_map (λ i. map (λ r. i ∷ r) (rests (d - deg i))) firsts
 
+-- the pairs of each of the firsts with each of the seconds that may follow it at degree d
+abbrev pub pairs_led : (ℕ → List Plain) → ℕ → List Plain → List Plain
+pairs_led seconds d firsts = flat_map (λ i. map (λ j. Pair i j) (seconds (d - deg i))) firsts
+
 -- the lists of degree at most d with at most n entries, whose entries are those of `items`
 abbrev pub lists : (ℕ → List Plain) → ℕ → ℕ → List (List Plain)
 lists items zero d = [] ∷ []
@@ -71,7 +75,7 @@ lists items (suc n) (suc d) = [] ∷ led_by (lists items n) d (items d)
 abbrev pub indices_up_to : Type' → ℕ → List Plain
 indices_up_to Integer d = Unit' ∷ []
 indices_up_to Boolean d = Unit' ∷ []
-indices_up_to (PairOf A B) d = flat_map (λ i. map (λ j. Pair i j) (indices_up_to B (d - deg i))) (indices_up_to A d)
+indices_up_to (PairOf A B) d = pairs_led (indices_up_to B) d (indices_up_to A d)
 indices_up_to (ListOf A) d = map many (lists (indices_up_to A) d d)
 indices_up_to (TreeOf A) d = map many (lists (indices_up_to A) d d)
 

@@ -4,3 +4,4 @@ pub mod Base
 pub mod Product
 pub mod Read
 pub mod Total
+pub mod Stored
