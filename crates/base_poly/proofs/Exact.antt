@@ -25,7 +25,7 @@ order_same (Pair a b) = ap (λ o. ordering_then o (order b b)) (order_same a) �
 order_same End = refl
 order_same (Then x r) = ap (λ o. ordering_then o (order r r)) (order_same x) ∙ order_same r
 
-order_many : (is js : List Plain) → order (many is) (many js) ≡ each_in_turn is js
+pub order_many : (is js : List Plain) → order (many is) (many js) ≡ each_in_turn is js
 order_many [] [] = refl
 order_many [] (j ∷ js) = refl
 order_many (i ∷ is) [] = refl

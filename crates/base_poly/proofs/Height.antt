@@ -7,6 +7,9 @@ use Rattle.raml_syntax.specs.declared.ty.Ty.TheOpen as o
 use Rattle.raml_syntax.specs.declared.ty.Ty.TheVariants.{Pair, rolls-Pair}
 use Rattle.raml_syntax.specs.declared.ty.Ty.TheFolds.{fold-roll-Ty}
 
+use Rattle.base_poly.specs.Plain as p
+use Rattle.base_poly.specs.Plain.{Plain, Unit', End, Then}
+
 abbrev pub nodes : Type' → ℕ
 nodes Integer = 1
 nodes Boolean = 1
@@ -20,3 +23,10 @@ ty_pair x a b h = ap ty_of h ∙ ap ty_of (sym (rolls-Pair a b)) ∙ fold-roll-T
 -- a pair type, with its parts where they were read
 pub pair_of_parts : (x f g : Ty) (a b : Box Ty Global) → x ≡ Pair a b → f ≡ a.value → g ≡ b.value → PairOf (ty_of f) (ty_of g) ≡ ty_of x
 pair_of_parts x f g a b h d e = (λ i. PairOf (ty_of (d i)) (ty_of (e i))) ∙ sym (ty_pair x a b h)
+
+-- how many parts an index has
+abbrev pub parts : Plain → ℕ
+parts Unit' = 1
+parts (p.Pair a b) = 1 + (parts a + parts b)
+parts End = 1
+parts (Then i r) = 1 + (parts i + parts r)

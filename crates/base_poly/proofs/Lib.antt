@@ -6,3 +6,7 @@ pub mod Multiplied
 pub mod Height
 pub mod Longer
 pub mod Graded
+pub mod Counted
+pub mod Recursion
+pub mod Only
+pub mod Computed

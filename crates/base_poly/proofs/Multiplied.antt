@@ -55,7 +55,10 @@ product_terms (Pair a b) (PairOf A B) End k hx hy m = absurd hy
 product_terms (Pair a b) (PairOf A B) (Then j s) k hx hy m = absurd hy
 product_terms (Pair a b) (ListOf A) y k hx hy m = absurd hx
 product_terms (Pair a b) (TreeOf A) y k hx hy m = absurd hx
-product_terms End A y k hx hy m = ⊎_elim (λ e. subst (λ q. IsIndex q A × (deg q ≤ 0 + deg y)) e (hy, omega arith)) (λ n. absurd n) m
+product_terms End A Unit' k hx hy m = absurd m
+product_terms End A (Pair c d) k hx hy m = absurd m
+product_terms End A End k hx hy m = ⊎_elim (λ e. subst (λ q. IsIndex q A × (deg q ≤ 0 + 0)) e (hy, omega arith)) (λ n. absurd n) m
+product_terms End A (Then j s) k hx hy m = ⊎_elim (λ e. subst (λ q. IsIndex q A × (deg q ≤ 0 + deg (Then j s))) e (hy, omega arith)) (λ n. absurd n) m
 product_terms (Then i r) Integer y k hx hy m = absurd hx
 product_terms (Then i r) Boolean y k hx hy m = absurd hx
 product_terms (Then i r) (PairOf A B) y k hx hy m = absurd hx
@@ -162,6 +165,21 @@ crossed a b c d = grind arith
 as_bases : (A : Type') (ks : List Plain) (v : Value) → ((k : Plain) → Among k ks → IsIndex k (ListOf A)) → total (λ k. over k (elements v)) ks ≡ total (λ k. base k v) ks
 as_bases A ks v h = total_same (λ k. over k (elements v)) (λ k. base k v) ks (λ k m. sym (base_over A k v (h k m)))
 
+-- a list index is no index of another kind
+not_unit : (A : Type') → IsIndex End A → IsIndex Unit' A → ⊥
+not_unit Integer h k = h
+not_unit Boolean h k = h
+not_unit (PairOf A B) h k = h
+not_unit (ListOf A) h k = k
+not_unit (TreeOf A) h k = k
+
+not_pair : (A : Type') (a b : Plain) → IsIndex End A → IsIndex (Pair a b) A → ⊥
+not_pair Integer a b h k = h
+not_pair Boolean a b h k = h
+not_pair (PairOf A B) a b h k = h
+not_pair (ListOf A) a b h k = k
+not_pair (TreeOf A) a b h k = k
+
 mutual
   pub product_worth : (x : Plain) (A : Type') (y : Plain) → IsIndex x A → IsIndex y A → (v : Value) → base x v * base y v ≡ total (λ k. base k v) (product x y)
   product_worth Unit' Integer Unit' hx hy v = refl
@@ -191,7 +209,10 @@ mutual
   product_worth (Pair a b) (PairOf A B) (Then j s) hx hy v = absurd hy
   product_worth (Pair a b) (ListOf A) y hx hy v = absurd hx
   product_worth (Pair a b) (TreeOf A) y hx hy v = absurd hx
-  product_worth End A y hx hy v = omega arith
+  product_worth End A Unit' hx hy v = absurd (not_unit A hx hy)
+  product_worth End A (Pair c d) hx hy v = absurd (not_pair A c d hx hy)
+  product_worth End A End hx hy v = omega arith
+  product_worth End A (Then j s) hx hy v = omega arith
   product_worth (Then i r) Integer y hx hy v = absurd hx
   product_worth (Then i r) Boolean y hx hy v = absurd hx
   product_worth (Then i r) (PairOf A B) y hx hy v = absurd hx
@@ -207,7 +228,10 @@ mutual
   pub product_over : (x : Plain) (A : Type') (y : Plain) → IsIndex x (ListOf A) → IsIndex y (ListOf A) → (vs : List Value) → over x vs * over y vs ≡ total (λ k. over k vs) (product x y)
   product_over Unit' A y hx hy vs = absurd hx
   product_over (Pair a b) A y hx hy vs = absurd hx
-  product_over End A y hx hy vs = omega arith
+  product_over End A Unit' hx hy vs = absurd hy
+  product_over End A (Pair c d) hx hy vs = absurd hy
+  product_over End A End hx hy vs = omega arith
+  product_over End A (Then j s) hx hy vs = omega arith
   product_over (Then i r) A y hx hy vs =
       mixed_worth A i r (product i) (product r) (λ j hj u. product_worth i A j hx.0 hj u) (λ z hz us. product_over r A z hx.1 hz us) y hy vs
 
@@ -265,5 +289,8 @@ product_few (Pair a b) (Pair c d) =
     omega (arith, e, f, g)
 product_few (Pair a b) End = omega arith
 product_few (Pair a b) (Then j s) = omega arith
-product_few End y = grows 0 (0 + deg y) (omega arith)
+product_few End Unit' = omega arith
+product_few End (Pair c d) = omega arith
+product_few End End = grows 0 (0 + 0) (omega arith)
+product_few End (Then j s) = grows 0 (0 + deg (Then j s)) (omega arith)
 product_few (Then i r) y = mixed_few i r (product i) (product r) (product_few i) (product_few r) y

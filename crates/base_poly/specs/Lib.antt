@@ -2,6 +2,9 @@ pub mod Plain
 pub mod Indices
 pub mod Base
 pub mod Product
+pub mod Count
+pub mod Laws
+pub mod Example
 pub mod Read
 pub mod Total
 pub mod Stored

@@ -9,9 +9,16 @@ mixed i r with_first with_rest (Then j s) =
 mixed i r with_first with_rest End = Then i r ∷ []
 mixed i r with_first with_rest _ = []
 
+-- a list index alone
+abbrev pub list_only : Plain → List Plain
+list_only End = End ∷ []
+list_only (Then j s) = Then j s ∷ []
+list_only _ = []
+
+-- of indices that no type has together there is none
 abbrev pub product : Plain → Plain → List Plain
 product Unit' j = Unit' ∷ []
 product (Pair a b) (Pair c d) = flat_map (λ h. map (λ k. Pair h k) (product b d)) (product a c)
 product (Pair a b) _ = []
-product End j = j ∷ []
+product End j = list_only j
 product (Then i r) j = mixed i r (product i) (product r) j

@@ -7,7 +7,7 @@ ghost use Rattle.base_poly.specs.Read.{index_of, plains_of, context_of};
 
 use crate::fault::IndexFault;
 use crate::index::Index;
-use crate::tuple::Tuple;
+use crate::tuple::{lead_all, Tuple};
 use raml_syntax::Ty;
 use std::alloc::{AllocError, Global};
 
@@ -141,10 +141,7 @@ fn append_led(
     if rests.len() > most - found.len() {
         return Err(IndexFault::TooMany);
     }
-    for rest in rests {
-        found.push(rest.led_by(alloc, first)?)?;
-    }
-    Ok(())
+    Ok(lead_all(alloc, found, first, rests)?)
 }
 
 // All indices of the type, in order.
@@ -242,7 +239,7 @@ fn append_paired(
 }
 
 // The pair of the two.
-fn pair(alloc: Global, first: &Index, second: Index) -> Result<Index, AllocError>
+pub fn pair(alloc: Global, first: &Index, second: Index) -> Result<Index, AllocError>
     ensures { IfOk result (λ pair. index_of pair ≡ Pair (index_of first.now) (index_of second)) }
 {
     Ok(Index::Pair(
@@ -312,7 +309,7 @@ fn append_lists(
 }
 
 // Each of them as a list index.
-fn as_lists(alloc: Global, tuples: Vec<Tuple>) -> Result<Vec<Index>, AllocError>
+pub fn as_lists(alloc: Global, tuples: Vec<Tuple>) -> Result<Vec<Index>, AllocError>
     ensures all { IfOk result (λ found. plains_of found.items ≡ map many tuples.items) }
     ensures len { IfOk result (λ found. vec_len found ≡ vec_len tuples) }
 {

@@ -1,5 +1,5 @@
 // Tuples of indices, and polynomials.
-ghost use Rattle.std.specs.Prelude.{◌≡◌, ◌<◌, ◌^◌, ◌∷◌, List, IfOk};
+ghost use Rattle.std.specs.Prelude.{◌≡◌, ◌<◌, ◌^◌, ◌+◌, ◌∷◌, ◌++◌, List, map, length, vec_len, IfOk, OnOk};
 ghost use Rattle.std.specs.Ordering.{on, eq_by_cmp};
 ghost use Rattle.std.specs.Cmp.{partial_equiv_from_equiv};
 ghost use Rattle.std.proofs.lemmas.Cmp.{on_equiv, eq_by_cmp_equiv};
@@ -87,6 +87,22 @@ impl Tuple {
     {
         Index::List(self.parts)
     }
+}
+
+// Appends the index before each of the tuples.
+pub fn lead_all(
+    alloc: Global,
+    found: &mut Vec<Tuple>,
+    first: &Index,
+    rests: &[Tuple],
+) -> Result<(), AllocError>
+    ensures all { OnOk result (found.new.items ≡ found.old.items ++ map (λ r. index_of first.now ∷ r) rests.now) }
+    ensures len { OnOk result (vec_len found.new ≡ vec_len found.old + length rests.now) }
+{
+    for rest in rests {
+        found.push(rest.led_by(alloc, first)?)?;
+    }
+    Ok(())
 }
 
 impl PartialEq for Tuple {

@@ -1,6 +1,6 @@
 use Rattle.std.proofs.Common.{◌≡◌, ◌++◌, ◌∷◌, ◌+◌, map, drop, length, vec_len}
 use Rattle.base_poly.specs.Read.{index_of}
-use Rattle.base_poly.proofs.list.append_led.Given as goal
+use Rattle.base_poly.proofs.tuple.lead_all.Given as goal
 
 abbrev pub invariant-loop-rest : goal.invariant-loop-rest
 invariant-loop-rest l = record {
