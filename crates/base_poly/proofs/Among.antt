@@ -1,7 +1,7 @@
 -- Elements of lists, and lists in order.
-use Rattle.std.proofs.Common.{◌≡◌, ℕ, ◌+◌, ◌⊎◌, inl, inr, ⊎_elim, Bool, true, false, cond, List, [], ◌∷◌, ◌++◌, map, filter, flat_map, Contains, refl, sym, ap, ◌∙◌, subst, arith}
+use Rattle.std.proofs.Common.{◌≡◌, ◌⊎◌, inl, inr, ⊎_elim, Bool, true, false, cond, List, [], ◌∷◌, ◌++◌, map, filter, flat_map, Contains, refl, sym, ap, ◌∙◌, subst, arith}
 use Rattle.std.specs.declared.cmp.Ordering.{Ordering}
-use Rattle.std.specs.declared.cmp.Ordering.TheVariants.{Less, Equal, Greater}
+use Rattle.std.specs.declared.cmp.Ordering.TheVariants.{Less, Equal}
 use Rattle.std.specs.Ordering.{ordering_then}
 use Rattle.std.proofs.lemmas.List.Elements.{Contains-append_left, Contains-append_right, Contains-push, Contains-push_cases, Contains-append_cases}
 use Rattle.base_poly.specs.Indices.{IsBefore, Ascends}
@@ -45,6 +45,7 @@ module _ {X : Type 0} where
     where
       apart : false ≡ true → ⊥
       apart q = cc
+
       by : (Among x ys → Among x (filter p ys)) → (b : Bool) → p y ≡ b → (y ≡ x) ⊎ Among x ys → Among x (cond b (y ∷ filter p ys) (filter p ys))
       by more true e m = ⊎_elim (λ s. inl s) (λ g. inr (more g)) m
       by more false e m = ⊎_elim (λ s. absurd (apart (sym e ∙ ap p s ∙ h))) more m
@@ -115,16 +116,18 @@ module _ {X Y Z : Type 0} (byX : X → X → Ordering) (byY : Y → Y → Orderi
     (one : (x : X) → byX x x ≡ Equal) (law : (x u : X) (y v : Y) → byZ (both x y) (both u v) ≡ ordering_then (byX x u) (byY y v)) where
   ascends_mapped : (x : X) (ys : List Y) → Ascends byY ys → Ascends byZ (map (λ y. both x y) ys)
   ascends_mapped x [] h = tt
-  ascends_mapped x (y ∷ ys) h =
-      (before_all byZ (both x y) (map (λ y. both x y) ys) (λ z m. let r = among_mapped (λ y. both x y) z ys m in
-        ap (byZ (both x y)) (sym r.2) ∙ law x x y r.0 ∙ ap (λ o. ordering_then o (byY y r.0)) (one x) ∙ before_one byY y r.0 ys h.0 r.1), ascends_mapped x ys h.1)
+  ascends_mapped x (y ∷ ys) h = (
+    before_all byZ (both x y) (map (λ y. both x y) ys) (λ z m. let r = among_mapped (λ y. both x y) z ys m in
+        ap (byZ (both x y)) (sym r.2) ∙ law x x y r.0 ∙ ap (λ o. ordering_then o (byY y r.0)) (one x) ∙ before_one byY y r.0 ys h.0 r.1),
+    ascends_mapped x ys h.1,
+  )
 
   pub ascends_led : (next : X → List Y) (xs : List X) → ((x : X) → Ascends byY (next x)) → Ascends byX xs → Ascends byZ (flat_map (λ x. map (λ y. both x y) (next x)) xs)
   ascends_led next [] f h = tt
   ascends_led next (x ∷ xs) f h =
       ascends_joined byZ (map (λ y. both x y) (next x)) (flat_map (λ x. map (λ y. both x y) (next x)) xs) (ascends_mapped x (next x) (f x)) (ascends_led next xs f h.1)
-        (λ z w m n.
-          let r = among_mapped (λ y. both x y) z (next x) m in
-          let p = among_part (λ x. map (λ y. both x y) (next x)) w xs n in
-          let q = among_mapped (λ y. both p.0 y) w (next p.0) p.2 in
-          (λ i. byZ (sym r.2 i) (sym q.2 i)) ∙ law x p.0 r.0 q.0 ∙ ap (λ o. ordering_then o (byY r.0 q.0)) (before_one byX x p.0 xs h.0 p.1))
+      (λ z w m n.
+      let r = among_mapped (λ y. both x y) z (next x) m in
+      let p = among_part (λ x. map (λ y. both x y) (next x)) w xs n in
+      let q = among_mapped (λ y. both p.0 y) w (next p.0) p.2 in
+      (λ i. byZ (sym r.2 i) (sym q.2 i)) ∙ law x p.0 r.0 q.0 ∙ ap (λ o. ordering_then o (byY r.0 q.0)) (before_one byX x p.0 xs h.0 p.1))

@@ -1,8 +1,7 @@
 -- Numbers kept by index.
-use Rattle.std.proofs.Common.{◌≡◌, ℕ, ◌+◌, ◌*◌, ◌^◌, ◌<◌, ◌≤◌, inl, inr, Bool, true, false, cond, List, [], ◌∷◌, ◌++◌, map, fold, length, suc, get_or, drop, drop-cons, Option, Some, None, unwrap_or, All, refl, sym, ap, ◌∙◌, subst, arith}
+use Rattle.std.proofs.Common.{◌≡◌, ℕ, ◌+◌, ◌*◌, ◌<◌, ◌≤◌, inl, inr, Bool, true, false, cond, List, [], ◌∷◌, fold, length, suc, get_or, drop, drop-cons, Some, unwrap_or, All, refl, sym, ap, ◌∙◌, arith}
 use Rattle.std.specs.Map.{lookup}
 use Rattle.std.proofs.lemmas.List.Elements.{All-nil, All-cons}
-use Rattle.std.proofs.lemmas.List.{map-append}
 use Rattle.std.proofs.Math.Nat.{pow-le-pow_right}
 use Rattle.indexmap.specs.IndexMap.{insert_entry}
 use Rattle.raml_syntax.specs.Tree.{Type'}
@@ -105,8 +104,8 @@ as_terms i j (e ∷ es) h = All-cons (IsTerm i j) e es (record { counts = h.0.0;
 pub product_counted : (i j : Plain) (A : Type') → IsIndex i A → IsIndex j A → All (IsTerm i j) (tallied (product i j))
 product_counted i j A hi hj =
     as_terms i j (tallied (product i j))
-      (all_each (λ k. ((B : Type') → IsIndex i B → IsIndex j B → IsIndex k B) × (deg k ≤ deg i + deg j)) [] (product i j)
-        (λ k m. ((λ B gi gj. (product_terms i B j k gi gj m).0), (product_terms i A j k hi hj m).1)) tt)
+    (all_each (λ k. ((B : Type') → IsIndex i B → IsIndex j B → IsIndex k B) × (deg k ≤ deg i + deg j)) [] (product i j)
+    (λ k m. ((λ B gi gj. (product_terms i B j k gi gj m).0), (product_terms i A j k hi hj m).1)) tt)
 
 pub product_weighed : (i j : Plain) (A : Type') → IsIndex i A → IsIndex j A → (v : Value) → base i v * base j v ≡ weighed v (tallied (product i j))
 product_weighed i j A hi hj v = product_worth i A j hi hj v ∙ sym (tallied_worth v (product i j))

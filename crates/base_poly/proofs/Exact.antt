@@ -1,7 +1,6 @@
 -- The list of tuples has exactly the tuples of the context and the degree, in order.
-use Rattle.std.proofs.Common.{◌≡◌, ℕ, zero, suc, ◌+◌, ◌-◌, ◌≤◌, ◌<◌, ◌↔◌, ◌⊎◌, inl, inr, ⊎_elim, Bool, true, false, List, [], ◌∷◌, ◌++◌, map, filter, flat_map, nat_eq, refl, sym, ap, ◌∙◌, subst, arith}
-use Rattle.std.specs.declared.cmp.Ordering.{Ordering}
-use Rattle.std.specs.declared.cmp.Ordering.TheVariants.{Less, Equal, Greater}
+use Rattle.std.proofs.Common.{◌≡◌, ℕ, zero, suc, ◌+◌, ◌-◌, ◌≤◌, ◌<◌, ◌⊎◌, inl, inr, ⊎_elim, Bool, List, [], ◌∷◌, map, filter, nat_eq, refl, sym, ap, ◌∙◌, subst, arith}
+use Rattle.std.specs.declared.cmp.Ordering.TheVariants.{Less, Equal}
 use Rattle.std.specs.Ordering.{ordering_then, nat_cmp}
 use Rattle.std.proofs.lemmas.Bool.{eqb-true, eq-eqb}
 use Rattle.std.proofs.lemmas.Bool.Decides.{nat_tests}
@@ -76,12 +75,12 @@ sound_lists A items f (suc n) zero r m = ⊎_elim (λ e. subst (λ q. IsIndex (m
 sound_lists A items f (suc n) (suc d) r m = ⊎_elim
     (λ e. subst (λ q. IsIndex (many q) (ListOf A) × (deg (many q) ≤ suc d)) e (tt, omega arith))
     (λ g.
-      let p = among_part (λ i. map (λ r. i ∷ r) (lists items n (d - deg i))) r (items d) g in
-      let q = among_mapped (λ r. p.0 ∷ r) r (lists items n (d - deg p.0)) p.2 in
-      let first = f d p.0 p.1 in
-      let rest = sound_lists A items f n (d - deg p.0) q.0 q.1 in
-      subst (λ q. IsIndex (many q) (ListOf A) × (deg (many q) ≤ suc d)) q.2
-        ((first.0, rest.0), (let a = first.1 in let b = rest.1 in omega arith))) m
+    let p = among_part (λ i. map (λ r. i ∷ r) (lists items n (d - deg i))) r (items d) g in
+    let q = among_mapped (λ r. p.0 ∷ r) r (lists items n (d - deg p.0)) p.2 in
+    let first = f d p.0 p.1 in
+    let rest = sound_lists A items f n (d - deg p.0) q.0 q.1 in
+    subst (λ q. IsIndex (many q) (ListOf A) × (deg (many q) ≤ suc d)) q.2
+    ((first.0, rest.0), (let a = first.1 in let b = rest.1 in omega arith))) m
 
 -- a list type and the tree type of the same elements have the same indices
 pub as_tree : (i : Plain) (A : Type') → IsIndex i (ListOf A) → IsIndex i (TreeOf A)
@@ -139,7 +138,7 @@ whole_lists A items f (Then i r) zero d h j k = absurd (omega (arith, j))
 whole_lists A items f (Then i r) (suc n) zero h j k = absurd (omega (arith, k))
 whole_lists A items f (Then i r) (suc n) (suc d) h j k =
     inr (part_among (λ i. map (λ r. i ∷ r) (lists items n (d - deg i))) i (i ∷ entries_of r) (items d) (f d i h.0 (omega arith))
-      (mapped_among (λ r. i ∷ r) (entries_of r) (lists items n (d - deg i)) (whole_lists A items f r n (d - deg i) h.1 (omega arith) (omega arith))))
+    (mapped_among (λ r. i ∷ r) (entries_of r) (lists items n (d - deg i)) (whole_lists A items f r n (d - deg i) h.1 (omega arith) (omega arith))))
 
 pub whole : (A : Type') (d : ℕ) (i : Plain) → IsIndex i A → deg i ≤ d → Among i (indices_up_to A d)
 whole Integer d Unit' h k = inl refl
@@ -153,16 +152,16 @@ whole Boolean d (Then i r) h k = absurd h
 whole (PairOf A B) d Unit' h k = absurd h
 whole (PairOf A B) d (Pair a b) h k =
     part_among (λ i. map (λ j. Pair i j) (indices_up_to B (d - deg i))) a (Pair a b) (indices_up_to A d) (whole A d a h.0 (omega arith))
-      (mapped_among (λ j. Pair a j) b (indices_up_to B (d - deg a)) (whole B (d - deg a) b h.1 (omega arith)))
+    (mapped_among (λ j. Pair a j) b (indices_up_to B (d - deg a)) (whole B (d - deg a) b h.1 (omega arith)))
 whole (PairOf A B) d End h k = absurd h
 whole (PairOf A B) d (Then i r) h k = absurd h
 whole (ListOf A) d i h k =
     subst (λ q. Among q (indices_up_to (ListOf A) d)) (many_entries A i h)
-      (mapped_among many (entries_of i) (lists (indices_up_to A) d d) (whole_lists A (indices_up_to A) (whole A) i d d h k k))
+    (mapped_among many (entries_of i) (lists (indices_up_to A) d d) (whole_lists A (indices_up_to A) (whole A) i d d h k k))
 whole (TreeOf A) d i h k =
     let g = as_list i A h in
     subst (λ q. Among q (indices_up_to (TreeOf A) d)) (many_entries A i g)
-      (mapped_among many (entries_of i) (lists (indices_up_to A) d d) (whole_lists A (indices_up_to A) (whole A) i d d g k k))
+    (mapped_among many (entries_of i) (lists (indices_up_to A) d d) (whole_lists A (indices_up_to A) (whole A) i d d g k k))
 
 pub whole_tuples : (As : List Type') (d : ℕ) (t : List Plain) → AreIndices t As → degrees t ≤ d → Among t (tuples_up_to As d)
 whole_tuples [] d [] h k = inl refl
@@ -170,7 +169,7 @@ whole_tuples [] d (i ∷ is) h k = absurd h
 whole_tuples (A ∷ As) d [] h k = absurd h
 whole_tuples (A ∷ As) d (i ∷ is) h k =
     part_among (λ i. map (λ r. i ∷ r) (tuples_up_to As (d - deg i))) i (i ∷ is) (indices_up_to A d) (whole A d i h.0 (omega arith))
-      (mapped_among (λ r. i ∷ r) is (tuples_up_to As (d - deg i)) (whole_tuples As (d - deg i) is h.1 (omega arith)))
+    (mapped_among (λ r. i ∷ r) is (tuples_up_to As (d - deg i)) (whole_tuples As (d - deg i) is h.1 (omega arith)))
 
 -- By degree
 
@@ -196,17 +195,20 @@ ascend_by_degree zero from ts h = tt
 ascend_by_degree (suc n) from ts h =
     let here : List Plain → Bool = λ t. nat_eq (degrees t) from in
     ascends_joined tuple_order (filter here ts) (by_degree n (1 + from) ts)
-      (ascends_as each_in_turn tuple_order (filter here ts)
-        (λ x y a b. within x y (eqb-true _ _ (among_kept here x ts a).1) (eqb-true _ _ (among_kept here y ts b).1)) (ascends_kept each_in_turn here ts h))
-      (ascend_by_degree n (1 + from) ts h)
-      (λ x y a b. across x y (eqb-true _ _ (among_kept here x ts a).1) (degree_there n (1 + from) y ts b).1)
+    (ascends_as each_in_turn tuple_order (filter here ts)
+    (λ x y a b. within x y (eqb-true _ _ (among_kept here x ts a).1) (eqb-true _ _ (among_kept here y ts b).1)) (ascends_kept each_in_turn here ts h))
+    (ascend_by_degree n (1 + from) ts h)
+    (λ x y a b. across x y (eqb-true _ _ (among_kept here x ts a).1) (degree_there n (1 + from) y ts b).1)
   where
     even : (m n : ℕ) → m ≡ n → nat_cmp m n ≡ Equal
     even m n e = grind (arith, nat_tests)
+
     below : (m n : ℕ) → m < n → nat_cmp m n ≡ Less
     below m n h = grind (arith, nat_tests)
+
     within : (x y : List Plain) → degrees x ≡ from → degrees y ≡ from → tuple_order x y ≡ each_in_turn x y
     within x y a b = ap (λ o. ordering_then o (each_in_turn x y)) (even (degrees x) (degrees y) (a ∙ sym b))
+
     across : (x y : List Plain) → degrees x ≡ from → 1 + from ≤ degrees y → tuple_order x y ≡ Less
     across x y a b = ap (λ o. ordering_then o (each_in_turn x y)) (below (degrees x) (degrees y) (omega arith))
 
@@ -215,5 +217,6 @@ exact As d = record {
   ascends = ascend_by_degree (1 + d) 0 (tuples_up_to As d) (tuples_ascend As d);
   exactly = λ t. (
     (λ m. sound_tuples As d t (degree_there (1 + d) 0 t (tuples_up_to As d) (contains_among t (index_list As d) m)).0),
-    (λ h. among_contains t (index_list As d) (there_degree (1 + d) 0 t (tuples_up_to As d) (whole_tuples As d t h.0 h.1) (omega arith) (let k = h.1 in omega arith))));
+    (λ h. among_contains t (index_list As d) (there_degree (1 + d) 0 t (tuples_up_to As d) (whole_tuples As d t h.0 h.1) (omega arith) (let k = h.1 in omega arith))),
+  );
 }

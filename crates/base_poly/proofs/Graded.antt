@@ -1,5 +1,5 @@
 -- Tuples by degree: none is lost.
-use Rattle.std.proofs.Common.{◌≡◌, ℕ, zero, suc, ◌+◌, ◌-◌, ◌≤◌, ◌<◌, ◌⊎◌, inl, inr, ⊎_elim, Bool, true, false, cond, List, [], ◌∷◌, ◌++◌, map, filter, length, nat_eq, All, Contains, refl, sym, ap, ◌∙◌, subst, arith, length-append, append_assoc, append-nil}
+use Rattle.std.proofs.Common.{◌≡◌, ℕ, zero, suc, ◌+◌, ◌-◌, ◌≤◌, ◌<◌, ◌⊎◌, inl, inr, ⊎_elim, Bool, true, false, cond, List, [], ◌∷◌, ◌++◌, filter, length, nat_eq, All, Contains, refl, sym, ap, ◌∙◌, subst, arith, length-append, append_assoc, append-nil}
 use Rattle.std.proofs.lemmas.List.Elements.{All-weaker, All-contains_itself}
 use Rattle.std.proofs.lemmas.Bool.{ne_eqb, eq-eqb}
 use Rattle.raml_syntax.specs.Tree.{Type'}
@@ -29,9 +29,9 @@ one_more (suc n) from t ts h k =
     let a = length-append (filter (λ t. nat_eq (degrees t) from) (t ∷ ts)) (by_degree n (1 + from) (t ∷ ts)) in
     let b = length-append (filter (λ t. nat_eq (degrees t) from) ts) (by_degree n (1 + from) ts) in
     ⊎_elim
-      (λ e. let c = kept_one from t ts true (eq-eqb (degrees t) from e) in let d = one_less n (1 + from) t ts (omega (arith, e)) in omega (arith, a, b, c, d))
-      (λ e. let c = kept_one from t ts false (ne_eqb (degrees t) from (λ f. omega (arith, e, f))) in let d = one_more n (1 + from) t ts e (omega (arith, k)) in omega (arith, a, b, c, d))
-      (here h)
+    (λ e. let c = kept_one from t ts true (eq-eqb (degrees t) from e) in let d = one_less n (1 + from) t ts (omega (arith, e)) in omega (arith, a, b, c, d))
+    (λ e. let c = kept_one from t ts false (ne_eqb (degrees t) from (λ f. omega (arith, e, f))) in let d = one_more n (1 + from) t ts e (omega (arith, k)) in omega (arith, a, b, c, d))
+    (here h)
   where
     here : from ≤ degrees t → (degrees t ≡ from) ⊎ (1 + from ≤ degrees t)
     here h = grind arith
@@ -51,7 +51,7 @@ as_many As d = all_kept d (tuples_up_to As d) (λ t m. (sound_tuples As d t m).1
 pub low_tuples : (As : List Type') (d : ℕ) (ts : List (List Plain)) → ts ≡ tuples_up_to As d → d ≤ 255 → All (λ t. degrees t ≤ 255) ts
 low_tuples As d ts same h =
     All-weaker (Contains ts) (λ t. degrees t ≤ 255)
-      (λ t m. let low = (sound_tuples As d t (subst (Among t) same (contains_among t ts m))).1 in omega (arith, low, h)) ts (All-contains_itself ts)
+    (λ t m. let low = (sound_tuples As d t (subst (Among t) same (contains_among t ts m))).1 in omega (arith, low, h)) ts (All-contains_itself ts)
 
 pub degree_done : (so_far now whole : List (List Plain)) (n m from : ℕ) (ts : List (List Plain)) → now ≡ so_far ++ filter (λ t. nat_eq (degrees t) from) ts → 0 < n → m ≡ n - 1 →
     so_far ++ by_degree n from ts ≡ whole → now ++ by_degree m (from + 1) ts ≡ whole

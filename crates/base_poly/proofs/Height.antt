@@ -6,7 +6,6 @@ use Rattle.raml_syntax.specs.declared.ty.Ty.{Ty}
 use Rattle.raml_syntax.specs.declared.ty.Ty.TheOpen as o
 use Rattle.raml_syntax.specs.declared.ty.Ty.TheVariants.{Pair, rolls-Pair}
 use Rattle.raml_syntax.specs.declared.ty.Ty.TheFolds.{fold-roll-Ty}
-
 use Rattle.base_poly.specs.Plain as p
 use Rattle.base_poly.specs.Plain.{Plain, Unit', End, Then}
 

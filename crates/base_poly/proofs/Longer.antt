@@ -1,14 +1,13 @@
 -- Lists that are made part by part are at least as long as their parts, and as what the parts are made for.
-use Rattle.std.proofs.Common.{◌≡◌, ℕ, zero, suc, ◌+◌, ◌-◌, ◌≤◌, ◌<◌, ◌⊎◌, inl, inr, ⊎_elim, List, [], ◌∷◌, ◌++◌, map, flat_map, filter, drop, length, get_or, nat_eq, All, refl, sym, ap, ◌∙◌, subst, arith, length-append, drop-cons, append_assoc}
+use Rattle.std.proofs.Common.{◌≡◌, ℕ, zero, suc, ◌+◌, ◌-◌, ◌≤◌, ◌<◌, inl, inr, List, [], ◌∷◌, ◌++◌, map, flat_map, filter, drop, length, get_or, nat_eq, refl, sym, ap, ◌∙◌, subst, arith, length-append, drop-cons, append_assoc}
 use Rattle.std.proofs.lemmas.List.{length-map}
-use Rattle.std.proofs.lemmas.Bool.Decides.{nat_tests}
 use Rattle.raml_syntax.specs.Tree.{Type', Integer, Boolean, PairOf, ListOf, TreeOf}
-use Rattle.base_poly.specs.Plain.{Plain, Unit', Pair, End, Then, deg, degrees}
-use Rattle.base_poly.specs.Indices.{IsIndex, AreIndices, zero_of, led_by, pairs_led, lists, indices_up_to, tuples_up_to, by_degree, index_list}
+use Rattle.base_poly.specs.Plain.{Plain, deg, degrees}
+use Rattle.base_poly.specs.Indices.{IsIndex, AreIndices, zero_of, led_by, lists, indices_up_to, tuples_up_to, by_degree}
 use Rattle.base_poly.specs.Read.{index_of, plains_of}
 use Rattle.base_poly.specs.declared.index.Index.{Index}
-use Rattle.base_poly.proofs.Among.{Among, among_contains}
-use Rattle.base_poly.proofs.Exact.{sound, whole, whole_tuples, sound_tuples}
+use Rattle.base_poly.proofs.Among.{Among}
+use Rattle.base_poly.proofs.Exact.{sound, whole, whole_tuples}
 
 -- Each type has its zero index
 
@@ -131,5 +130,6 @@ by_degree_step (suc n) from ts h = (λ i. filter (λ t. nat_eq (degrees t) from)
   where
     less : n ≡ suc n - 1
     less = omega arith
+
     more : 1 + from ≡ from + 1
     more = omega arith

@@ -1,5 +1,5 @@
 -- Where list indices stand among the others.
-use Rattle.std.proofs.Common.{◌≡◌, ◌⊎◌, ℕ, suc, ◌-◌, ◌≤◌, ◌<◌, List, [], ◌∷◌, ◌++◌, map, flat_map, length, get_or, take, drop, arith, append_assoc, Box, Vec, Global, ⊎_elim, refl, sym, ap, ◌∙◌}
+use Rattle.std.proofs.Common.{◌≡◌, ◌⊎◌, suc, ◌-◌, ◌≤◌, ◌<◌, List, [], ◌∷◌, ◌++◌, map, flat_map, length, get_or, take, drop, arith, append_assoc, Box, Vec, Global, ⊎_elim, refl, sym, ap, ◌∙◌}
 use Rattle.std.proofs.lemmas.List.{map-append}
 use Rattle.std.specs.declared.cmp.Ordering.TheVariants.{Less, Greater}
 use Rattle.base_poly.specs.Plain as p
@@ -82,7 +82,7 @@ pub gathered : (i j : p.Plain) (none first second third mine theirs tails : List
     map many third ≡ map (λ k. p.Then i k) (map many mine) ++ (map (λ k. p.Then j k) (map many theirs) ++ flat_map (λ h. map (λ k. p.Then h k) (map many tails)) heads)
 gathered i j none first second third mine theirs tails heads a b c d =
     let all = d ∙ ap (λ l. l ++ flat_map (λ h. map (λ r. h ∷ r) tails) heads) (c ∙ ap (λ l. l ++ map (λ r. j ∷ r) theirs) (b ∙ ap (λ l. l ++ map (λ r. i ∷ r) mine) a))
-      ∙ append_assoc (map (λ r. i ∷ r) mine) (map (λ r. j ∷ r) theirs) (flat_map (λ h. map (λ r. h ∷ r) tails) heads) in
+    ∙ append_assoc (map (λ r. i ∷ r) mine) (map (λ r. j ∷ r) theirs) (flat_map (λ h. map (λ r. h ∷ r) tails) heads) in
     ap (map many) all
     ∙ map-append many (map (λ r. i ∷ r) mine) (map (λ r. j ∷ r) theirs ++ flat_map (λ h. map (λ r. h ∷ r) tails) heads)
     ∙ ap (λ l. map many (map (λ r. i ∷ r) mine) ++ l) (map-append many (map (λ r. j ∷ r) theirs) (flat_map (λ h. map (λ r. h ∷ r) tails) heads))

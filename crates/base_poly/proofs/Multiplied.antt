@@ -1,14 +1,14 @@
 -- Products of indices.
-use Rattle.std.proofs.Common.{◌≡◌, ℕ, zero, suc, ◌+◌, ◌*◌, ◌^◌, ◌≤◌, inl, inr, ⊎_elim, List, [], ◌∷◌, ◌++◌, map, flat_map, length, refl, sym, ap, ◌∙◌, subst, arith}
+use Rattle.std.proofs.Common.{◌≡◌, ℕ, ◌+◌, ◌*◌, ◌^◌, ◌≤◌, ⊎_elim, List, [], ◌∷◌, ◌++◌, map, flat_map, length, refl, sym, ap, ◌∙◌, subst, arith}
 use Rattle.std.proofs.Common.{length-append}
 use Rattle.std.proofs.lemmas.List.{length-map}
 use Rattle.std.proofs.lemmas.Nat.{pow-add}
 use Rattle.std.proofs.Math.Nat.{pow-le-pow_right, mul-le-mul_left, mul-le-mul_right}
 use Rattle.raml_syntax.specs.Tree.{Type', Integer, Boolean, PairOf, ListOf, TreeOf}
 use Rattle.raml_syntax.specs.Value.{Value, Number, Truth, Both, Empty, Cons, Node}
-use Rattle.base_poly.specs.Plain.{Plain, Unit', Pair, End, Then, deg, entries}
+use Rattle.base_poly.specs.Plain.{Plain, Unit', Pair, End, Then, deg}
 use Rattle.base_poly.specs.Indices.{IsIndex}
-use Rattle.base_poly.specs.Base.{total, elements, choices, on_parts, base, along, over}
+use Rattle.base_poly.specs.Base.{total, elements, base, over}
 use Rattle.base_poly.specs.Product.{mixed, product}
 use Rattle.base_poly.proofs.Among.{Among, among_either, among_mapped, among_part}
 use Rattle.base_poly.proofs.Exact.{as_tree, as_list}
@@ -26,14 +26,14 @@ module _ (A : Type') (i r : Plain) (with_first with_rest : Plain → List Plain)
   mixed_terms End k h m = ⊎_elim (λ e. subst (λ q. IsIndex q (ListOf A) × (deg q ≤ 1 + deg i + deg r + 0)) e ((hi, hr), omega arith)) (λ n. absurd n) m
   mixed_terms (Then j s) k h m = ⊎_elim
       (λ g. let p = among_mapped (λ k. Then i k) k (with_rest (Then j s)) g in let t = rest (Then j s) p.0 h p.1 in
-        subst (λ q. IsIndex q (ListOf A) × (deg q ≤ 1 + deg i + deg r + (1 + deg j + deg s))) p.2 ((hi, t.0), (let b = t.1 in omega arith)))
+      subst (λ q. IsIndex q (ListOf A) × (deg q ≤ 1 + deg i + deg r + (1 + deg j + deg s))) p.2 ((hi, t.0), (let b = t.1 in omega arith)))
       (λ g. ⊎_elim
-        (λ g. let p = among_mapped (λ k. Then j k) k (mixed i r with_first with_rest s) g in let t = mixed_terms s p.0 h.1 p.1 in
-          subst (λ q. IsIndex q (ListOf A) × (deg q ≤ 1 + deg i + deg r + (1 + deg j + deg s))) p.2 ((h.0, t.0), (let b = t.1 in omega arith)))
-        (λ g. let p = among_part (λ h. map (λ k. Then h k) (with_rest s)) k (with_first j) g in let q = among_mapped (λ k. Then p.0 k) k (with_rest s) p.2 in
-          let t = first j p.0 h.0 p.1 in let u = rest s q.0 h.1 q.1 in
-          subst (λ q. IsIndex q (ListOf A) × (deg q ≤ 1 + deg i + deg r + (1 + deg j + deg s))) q.2 ((t.0, u.0), (let b = t.1 in let c = u.1 in omega arith)))
-        (among_either k (map (λ k. Then j k) (mixed i r with_first with_rest s)) (flat_map (λ h. map (λ k. Then h k) (with_rest s)) (with_first j)) g))
+      (λ g. let p = among_mapped (λ k. Then j k) k (mixed i r with_first with_rest s) g in let t = mixed_terms s p.0 h.1 p.1 in
+      subst (λ q. IsIndex q (ListOf A) × (deg q ≤ 1 + deg i + deg r + (1 + deg j + deg s))) p.2 ((h.0, t.0), (let b = t.1 in omega arith)))
+      (λ g. let p = among_part (λ h. map (λ k. Then h k) (with_rest s)) k (with_first j) g in let q = among_mapped (λ k. Then p.0 k) k (with_rest s) p.2 in
+      let t = first j p.0 h.0 p.1 in let u = rest s q.0 h.1 q.1 in
+      subst (λ q. IsIndex q (ListOf A) × (deg q ≤ 1 + deg i + deg r + (1 + deg j + deg s))) q.2 ((t.0, u.0), (let b = t.1 in let c = u.1 in omega arith)))
+      (among_either k (map (λ k. Then j k) (mixed i r with_first with_rest s)) (flat_map (λ h. map (λ k. Then h k) (with_rest s)) (with_first j)) g))
       (among_either k (map (λ k. Then i k) (with_rest (Then j s))) (map (λ k. Then j k) (mixed i r with_first with_rest s) ++ flat_map (λ h. map (λ k. Then h k) (with_rest s)) (with_first j)) m)
 
 pub product_terms : (x : Plain) (A : Type') (y k : Plain) → IsIndex x A → IsIndex y A → Among k (product x y) → IsIndex k A × (deg k ≤ deg x + deg y)
@@ -66,7 +66,7 @@ product_terms (Then i r) (ListOf A) y k hx hy m =
     mixed_terms A i r (product i) (product r) (λ j k. product_terms i A j k hx.0) (λ z k. product_terms r (ListOf A) z k hx.1) hx.0 hx.1 y k hy m
 product_terms (Then i r) (TreeOf A) y k hx hy m =
     let t = mixed_terms A i r (product i) (product r) (λ j k. product_terms i A j k hx.0)
-      (λ z k hz n. let u = product_terms r (TreeOf A) z k hx.1 (as_tree z A hz) n in (as_list k A u.0, u.1)) hx.0 (as_list r A hx.1) y k (as_list y A hy) m in
+    (λ z k hz n. let u = product_terms r (TreeOf A) z k hx.1 (as_tree z A hz) n in (as_list k A u.0, u.1)) hx.0 (as_list r A hx.1) y k (as_list y A hy) m in
     (as_tree k A t.0, t.1)
 
 -- What the product is worth
@@ -136,7 +136,7 @@ module _ (A : Type') (i r : Plain) (with_first with_rest : Plain → List Plain)
   at_more j s hj hs less [] = sym (no_kinds j (with_first j) (with_rest (Then j s)) (mixed i r with_first with_rest s) (with_rest s))
   at_more j s hj hs less (v ∷ vs) =
       let whole = spread (base i v) (base j v) (over r vs) (over s vs) (over (Then i r) vs) (over (Then j s) vs) (one_kind i (with_rest (Then j s)) vs) (one_kind j (mixed i r with_first with_rest s) vs) (both_kind (with_first j) (with_rest s) vs)
-        (sym (at_more j s hj hs less vs)) in
+      (sym (at_more j s hj hs less vs)) in
       let mine = ap (λ n. base i v * n + one_kind i (with_rest (Then j s)) vs) (rest (Then j s) (hj, hs) vs) ∙ sym (one_more i (with_rest (Then j s)) v vs) in
       let other = ap (λ n. base j v * n + one_kind j (mixed i r with_first with_rest s) vs) (less vs) ∙ sym (one_more j (mixed i r with_first with_rest s) v vs) in
       let both = (λ n. first j hj v n * rest s hs vs n + both_kind (with_first j) (with_rest s) vs) ∙ sym (both_more (with_first j) (with_rest s) v vs) in

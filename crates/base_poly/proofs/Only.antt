@@ -1,14 +1,13 @@
 -- No other list has the same tuples in order.
-use Rattle.std.proofs.Common.{◌≡◌, ℕ, ◌⊎◌, inl, inr, ⊎_elim, List, [], ◌∷◌, refl, sym, ap, ◌∙◌, subst}
+use Rattle.std.proofs.Common.{◌≡◌, ◌⊎◌, inl, inr, ⊎_elim, List, [], ◌∷◌, refl, sym, ap, ◌∙◌, subst}
 use Rattle.std.specs.declared.cmp.Ordering.{Ordering}
-use Rattle.std.specs.declared.cmp.Ordering.TheVariants.{Less, Equal, Greater}
+use Rattle.std.specs.declared.cmp.Ordering.TheVariants.{Less, Greater}
 use Rattle.std.specs.Ordering.{ordering_then, ordering_reverse, nat_cmp}
 use Rattle.std.specs.Cmp.{IsTotalOrder}
 use Rattle.std.proofs.lemmas.Cmp.{on_total, then_total, nat_cmp_total}
-use Rattle.raml_syntax.specs.Tree.{Type'}
 use Rattle.base_poly.specs.Plain.{Plain, many, degrees}
 use Rattle.base_poly.specs.Total.{order_total}
-use Rattle.base_poly.specs.Indices.{IsBefore, Ascends, tuple_order, ListsTuples}
+use Rattle.base_poly.specs.Indices.{IsBefore, Ascends, tuple_order}
 use Rattle.base_poly.specs.Laws.{IndicesAreListed}
 use Rattle.base_poly.proofs.Among.{Among, contains_among, among_contains, before_one}
 use Rattle.base_poly.proofs.Exact.{exact, order_many}
@@ -24,6 +23,7 @@ module _ {X : Type 0} (by : X → X → Ordering) (never : (x y : X) → by x y 
     where
       first : (y ≡ x) ⊎ Among x ys → (x ≡ y) ⊎ Among y xs → y ≡ x
       first m n = ⊎_elim (λ e. e) (λ p. ⊎_elim (λ e. sym e) (λ q. absurd (never x y (before_one by x y xs h.0 q) (before_one by y x ys g.0 p))) n) m
+
       rest_of : {u w z : X} (us ws : List X) → IsBefore by u us → u ≡ w → (w ≡ z) ⊎ Among z ws → Among z us → Among z ws
       rest_of {u} {w} {z} us ws before e m n = ⊎_elim (λ d. absurd (let less = before_one by u z us before n in let other : by u u ≡ Less = ap (by u) (e ∙ d) ∙ less in never u u other other)) (λ p. p) m
 

@@ -1,13 +1,13 @@
 -- Base polynomials by recursion on the value.
-use Rattle.std.proofs.Common.{◌≡◌, ℕ, zero, suc, ◌+◌, ◌*◌, List, [], ◌∷◌, ◌++◌, map, length, replicate, refl, sym, ap, ◌∙◌, arith}
+use Rattle.std.proofs.Common.{◌≡◌, ℕ, zero, suc, ◌+◌, ◌*◌, List, [], ◌∷◌, ◌++◌, length, replicate, refl, sym, ◌∙◌, arith}
 use Rattle.raml_syntax.specs.Tree.{Type', Integer, Boolean, PairOf, ListOf, TreeOf}
 use Rattle.raml_syntax.specs.Value.{Value, Number, Truth, Both, Empty, Cons, Node, Has}
 use Rattle.base_poly.specs.Plain.{Plain, Unit', Pair, End, Then, many, deg}
 use Rattle.base_poly.specs.Indices.{IsIndex, zero_of}
 use Rattle.base_poly.specs.Base.{total, elements, base, over}
-use Rattle.base_poly.specs.Laws.{HasZero, TypesHaveZero, BaseByValue, BinomialsAreBase, choose, cuts}
+use Rattle.base_poly.specs.Laws.{TypesHaveZero, BaseByValue, BinomialsAreBase, choose, cuts}
 use Rattle.base_poly.proofs.Longer.{zero_is_index, zero_degree}
-use Rattle.base_poly.proofs.Sums.{total_joined, total_same, total_scaled, total_sum, total_map, over_more}
+use Rattle.base_poly.proofs.Sums.{total_same, total_map, over_more}
 
 pub base_many : (is : List Plain) (v : Value) → base (many is) v ≡ over (many is) (elements v)
 base_many [] v = refl
@@ -36,6 +36,7 @@ over_joined (i ∷ is) (v ∷ vs) ws =
   where
     regroup : (a b c d e m : ℕ) → (a * b + c) * d + (a * e + m) ≡ a * (b * d + e) + (c * d + m)
     regroup a b c d e m = grind arith
+
     step : (cs : List (List Plain × List Plain)) → total (λ c. cut_over (v ∷ vs) ws (i ∷ c.0, c.1)) cs ≡ base i v * total (cut_over vs ws) cs + total (λ c. cut_over vs ws (i ∷ c.0, c.1)) cs
     step [] = grind arith
     step (c ∷ cs) =

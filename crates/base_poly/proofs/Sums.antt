@@ -1,8 +1,8 @@
 -- Sums over lists, and list indices over elements.
-use Rattle.std.proofs.Common.{◌≡◌, ℕ, zero, suc, ◌+◌, ◌*◌, inl, inr, List, [], ◌∷◌, ◌++◌, map, flat_map, refl, sym, ap, ◌∙◌, arith}
+use Rattle.std.proofs.Common.{◌≡◌, ℕ, suc, ◌+◌, ◌*◌, inl, inr, List, [], ◌∷◌, ◌++◌, map, flat_map, refl, ap, ◌∙◌, arith}
 use Rattle.raml_syntax.specs.Value.{Value}
 use Rattle.base_poly.specs.Plain.{Plain, Then, entries}
-use Rattle.base_poly.specs.Base.{total, led, base, along, over, choices}
+use Rattle.base_poly.specs.Base.{total, base, along, over, choices}
 use Rattle.base_poly.proofs.Among.{Among}
 
 module _ {X : Type 0} where

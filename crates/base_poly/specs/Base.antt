@@ -1,6 +1,6 @@
 -- Base polynomials.
 use Rattle.std.specs.Prelude.{ℕ, zero, suc, ◌+◌, ◌*◌, List, [], ◌∷◌, ◌++◌, map}
-use Rattle.raml_syntax.specs.Value.{Value, Both, Empty, Cons, Node}
+use Rattle.raml_syntax.specs.Value.{Value, Both, Cons, Node}
 use Rattle.base_poly.specs.Plain.{Plain, Unit', Pair, End, Then, entries}
 
 -- the sum of a number over a list

@@ -2,7 +2,7 @@
 use Rattle.std.specs.Prelude.{◌≡◌, ℕ, zero, suc, pos, List, [], ◌∷◌}
 use Rattle.raml_syntax.specs.Tree.{Integer, ListOf}
 use Rattle.raml_syntax.specs.Value.{Value, Number, Both, Empty, Cons, Node}
-use Rattle.base_poly.specs.Plain.{Plain, Unit', Pair, End, Then, many}
+use Rattle.base_poly.specs.Plain.{Plain, Unit', Pair, End, Then}
 use Rattle.base_poly.specs.Indices.{index_list}
 use Rattle.base_poly.specs.Base.{choices, base, bases}
 use Rattle.base_poly.specs.Product.{product}

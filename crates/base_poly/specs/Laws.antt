@@ -1,8 +1,8 @@
 -- Laws of indices and of base polynomials.
-use Rattle.std.specs.Prelude.{◌≡◌, ℕ, zero, suc, ◌+◌, ◌*◌, ◌≤◌, List, [], ◌∷◌, ◌++◌, map, length, replicate, Contains}
+use Rattle.std.specs.Prelude.{◌≡◌, ℕ, zero, suc, ◌+◌, ◌*◌, List, [], ◌∷◌, map, length, replicate}
 use Rattle.raml_syntax.specs.Tree.{Type'}
 use Rattle.raml_syntax.specs.Value.{Value, Has, Empty, Cons, Node}
-use Rattle.base_poly.specs.Plain.{Plain, Unit', End, Then, many, deg}
+use Rattle.base_poly.specs.Plain.{Plain, Unit', many, deg}
 use Rattle.base_poly.specs.Indices.{IsIndex, zero_of, ListsTuples, index_list}
 use Rattle.base_poly.specs.Base.{total, elements, base}
 

@@ -1,5 +1,5 @@
 -- What the code's indices and tuples are as plain data.
-use Rattle.std.specs.Prelude.{ℕ, List, [], ◌∷◌, map}
+use Rattle.std.specs.Prelude.{List, map}
 use Rattle.raml_syntax.specs.declared.ty.Ty.{Ty}
 use Rattle.raml_syntax.specs.Tree.{Type'}
 use Rattle.raml_syntax.specs.Read.{ty_of}

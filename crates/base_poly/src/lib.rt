@@ -13,3 +13,6 @@ pub use index::Index;
 pub use list::indices;
 pub use products::multiply;
 pub use tuple::{Poly, Tuple};
+
+#[cfg(test)]
+mod tests;

@@ -7,7 +7,7 @@ ghost use Rattle.base_poly.specs.Read.{index_of, plains_of, context_of};
 
 use crate::fault::IndexFault;
 use crate::index::Index;
-use crate::tuple::{lead_all, Tuple};
+use crate::tuple::{Tuple, lead_all};
 use raml_syntax::Ty;
 use std::alloc::{AllocError, Global};
 
@@ -15,12 +15,7 @@ use std::alloc::{AllocError, Global};
 /// component by component.
 ///
 /// `TooMany` where there are more than `most`.
-pub fn indices(
-    alloc: Global,
-    types: &[Ty],
-    d: u8,
-    most: usize,
-) -> Result<Vec<Tuple>, IndexFault>
+pub fn indices(alloc: Global, types: &[Ty], d: u8, most: usize) -> Result<Vec<Tuple>, IndexFault>
     ensures all { IfOk result (λ found. found.items ≡ index_list (context_of types.now) d) }
     ensures exact { IfOk result (λ found. ListsTuples (context_of types.now) d found.items) }
     ensures few { OnOk result (length (index_list (context_of types.now) d) ≤ most) }
@@ -54,12 +49,7 @@ fn append_of_degree(
 
 // All tuples of these types, component by component.
 #[cycle(of_types)]
-fn tuples_up_to(
-    alloc: Global,
-    types: &[Ty],
-    d: u32,
-    most: usize,
-) -> Result<Vec<Tuple>, IndexFault>
+fn tuples_up_to(alloc: Global, types: &[Ty], d: u32, most: usize) -> Result<Vec<Tuple>, IndexFault>
     ensures all { IfOk result (λ found. found.items ≡ tuples_up_to (context_of types.now) d) }
     ensures few { IfOk result (λ found. vec_len found ≤ most) }
     ensures many { IsErrOf result IndexFault.TooMany → most < length (tuples_up_to (context_of types.now) d) }
@@ -250,12 +240,7 @@ pub fn pair(alloc: Global, first: &Index, second: Index) -> Result<Index, AllocE
 
 // All entries that a list index of this element type may have together.
 #[cycle(of_type)]
-fn lists_up_to(
-    alloc: Global,
-    element: &Ty,
-    d: u32,
-    most: usize,
-) -> Result<Vec<Tuple>, IndexFault>
+fn lists_up_to(alloc: Global, element: &Ty, d: u32, most: usize) -> Result<Vec<Tuple>, IndexFault>
     ensures all { IfOk result (λ found. found.items ≡ lists (indices_up_to (ty_of element.now)) d d) }
     ensures few { IfOk result (λ found. vec_len found ≤ most) }
     ensures many { IsErrOf result IndexFault.TooMany → most < length (lists (indices_up_to (ty_of element.now)) d d) }

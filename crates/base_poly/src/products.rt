@@ -9,9 +9,9 @@ ghost use Rattle.base_poly.specs.Product.{product};
 ghost use Rattle.base_poly.specs.Count.{counts_of, count_at, count_one, tallied, weighed, IsTerm};
 ghost use Rattle.base_poly.specs.Read.{index_of, plains_of};
 
-use crate::index::{copy_all, Index};
+use crate::index::{Index, copy_all};
 use crate::list::{as_lists, pair};
-use crate::tuple::{lead_all, Tuple};
+use crate::tuple::{Tuple, lead_all};
 use indexmap::IndexMap;
 use std::alloc::{AllocError, Global};
 
@@ -34,13 +34,7 @@ pub fn multiply(
 }
 
 // How often each index stands in the list.
-#[tactic(
-    auto,
-    using(
-        crate::proofs::Counted::count_within,
-        crate::proofs::Counted::one_more_number,
-    )
-)]
+#[tactic(auto, using(crate::proofs::Counted::count_within, crate::proofs::Counted::one_more_number,))]
 fn tally(alloc: Global, terms: &[Index]) -> Result<IndexMap<Index, u64>, AllocError>
     requires { length terms.now < 2 ^ 32 }
     ensures { IfOk result (λ found. counts_of found.entries ≡ tallied (plains_of terms.now)) }
@@ -164,7 +158,10 @@ fn led_product(
     ensures { IfOk result (λ found. map many found.items ≡ product (Then (index_of first.now) (many (plains_of rest.now))) (many (plains_of right.now))) }
 {
     match right {
-        [] => only(alloc, Tuple::new(copy_all(alloc, rest)?).led_by(alloc, first)?),
+        [] => only(
+            alloc,
+            Tuple::new(copy_all(alloc, rest)?).led_by(alloc, first)?,
+        ),
         [other, others @ ..] => {
             let mine = lists_product(alloc, rest, right)?;
             mixed_product(alloc, first, rest, &mine, other, others)

@@ -7,7 +7,7 @@ ghost use Rattle.base_poly.specs.Plain.{Plain, many, degrees, order, writes};
 ghost use Rattle.base_poly.specs.Read.{index_of, plains_of};
 ghost use Rattle.base_poly.specs.Total.{order_total, writes_alike};
 
-use crate::index::{copy_all, feed_all, order_of_all, Index};
+use crate::index::{Index, copy_all, feed_all, order_of_all};
 use std::alloc::{AllocError, Global};
 use std::cmp::Ordering;
 use std::hash::{Hash, Hasher};

@@ -1,4 +1,4 @@
-use Rattle.std.proofs.Common.{◌≡◌, ◌+◌, ◌-◌, ◌<◌, ◌++◌, [], ◌∷◌, length, IfOk, IsErrOf, sym, ap, ◌∙◌, subst, rules, arith, length-append}
+use Rattle.std.proofs.Common.{◌≡◌, ◌-◌, ◌<◌, ◌++◌, ◌∷◌, length, IfOk, IsErrOf, sym, ap, ◌∙◌, subst, rules, arith, length-append}
 use Rattle.std.proofs.lemmas.Grind.{common_steps}
 use Rattle.raml_syntax.specs.Read.{ty_of}
 use Rattle.base_poly.specs.Plain.{Pair}
@@ -12,12 +12,12 @@ use Rattle.base_poly.proofs.list.+of_type.Goals as goal
 pub indices_up_to-returns-in-Pair-clause-all : goal.indices_up_to-returns-in-Pair-clause-all
 indices_up_to-returns-in-Pair-clause-all t c =
     subst (λ T. IfOk c.pairs_up_to.result (λ found. plains_of found.items ≡ indices_up_to T c.args.d))
-      (pair_of_parts _ _ _ _ _ c.in-Pair.is c.deref.ensures c.deref-in-Pair.ensures) c.pairs_up_to.ensures.all
+    (pair_of_parts _ _ _ _ _ c.in-Pair.is c.deref.ensures c.deref-in-Pair.ensures) c.pairs_up_to.ensures.all
 
 pub indices_up_to-returns-in-Pair-clause-many : goal.indices_up_to-returns-in-Pair-clause-many
 indices_up_to-returns-in-Pair-clause-many t c =
     subst (λ T. IsErrOf c.pairs_up_to.result TooMany → c.args.most < length (indices_up_to T c.args.d))
-      (pair_of_parts _ _ _ _ _ c.in-Pair.is c.deref.ensures c.deref-in-Pair.ensures) c.pairs_up_to.ensures.many
+    (pair_of_parts _ _ _ _ _ c.in-Pair.is c.deref.ensures c.deref-in-Pair.ensures) c.pairs_up_to.ensures.many
 
 pub pairs_up_to-returns-in_err-heads-clause-many : goal.pairs_up_to-returns-in_err-heads-clause-many
 pairs_up_to-returns-in_err-heads-clause-many t c =
@@ -60,7 +60,7 @@ pub lists_up_to-returns-clause-all : goal.lists_up_to-returns-clause-all
 lists_up_to-returns-clause-all t c =
     let items = indices_up_to (ty_of c.args.element.now) in
     subst (λ w. IfOk c.lists_led.result (λ found. found.items ≡ w))
-      ((λ i. c.in_ok-found.ensures.all i ++ led_by (λ k. lists items k k) (c.args.d - 1) (items (c.args.d - 1))) ∙ sym (lists_step items c.args.d (omega (arith, c.if-d-eq0.false)))) c.lists_led.ensures.all
+    ((λ i. c.in_ok-found.ensures.all i ++ led_by (λ k. lists items k k) (c.args.d - 1) (items (c.args.d - 1))) ∙ sym (lists_step items c.args.d (omega (arith, c.if-d-eq0.false)))) c.lists_led.ensures.all
 
 pub lists_up_to-returns-clause-many : goal.lists_up_to-returns-clause-many
 lists_up_to-returns-clause-many t c =

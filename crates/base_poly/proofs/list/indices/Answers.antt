@@ -28,7 +28,7 @@ returns-clause-exact c =
     let end = c.from-degree-end.ensures in
     let none : 1 + c.args.d - c.loop-degree.degree ≡ 0 = omega (arith, c.loop-degree-test.false, end) in
     all_done (context_of c.args.types.now) c.args.d c.loop-degree.ordered.items c.in_ok-found.found.items (1 + c.args.d - c.loop-degree.degree) c.loop-degree.degree none
-      (c.in_ok-found.ensures.all ∙ ap (tuples_up_to (context_of c.args.types.now)) c.from.ensures) c.loop-degree.invariant
+    (c.in_ok-found.ensures.all ∙ ap (tuples_up_to (context_of c.args.types.now)) c.from.ensures) c.loop-degree.invariant
 
 pub returns-clause-few : goal.returns-clause-few
 returns-clause-few c = let same = as_many (context_of c.args.types.now) c.args.d in grind (arith, common_steps, same)

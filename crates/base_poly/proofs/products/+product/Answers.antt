@@ -25,7 +25,7 @@ led_product-returns-in_ok-mine-in-len1-up t c =
     let whole = slice_parts c.args.right.now c.other-item.result c.in-len1-up.len_at_least c.other-item.is in
     let mine = ap (map many) c.deref.ensures.value ∙ c.in_ok-mine-in-len1-up.ensures ∙ ap (λ w. product r (many (plains_of w))) (sym whole) in
     let step = subst (λ w. IfOk c.mixed_product.result (λ found. map many found.items ≡ map (λ k. Then i k) w
-        ++ (map (λ k. Then j k) (product (Then i r) (many (plains_of others))) ++ flat_map (λ h. map (λ k. Then h k) (product r (many (plains_of others)))) (product i j)))) mine c.mixed_product.ensures in
+    ++ (map (λ k. Then j k) (product (Then i r) (many (plains_of others))) ++ flat_map (λ h. map (λ k. Then h k) (product r (many (plains_of others)))) (product i j)))) mine c.mixed_product.ensures in
     subst (λ w. IfOk c.mixed_product.result (λ found. map many found.items ≡ product (Then i r) (many (plains_of w)))) whole step
 
 pub mixed_product-returns : goal.mixed_product-returns
@@ -36,4 +36,4 @@ mixed_product-returns t c =
     let third = c.in_ok-lead_each.ensures ∙ (λ n. c.lead_all-2.new.found.items ++ flat_map (λ h. map (λ r. h ∷ r) (c.deref-3.ensures.value n)) (plains_of (c.deref-2.ensures.value n))) in
     gathered i j _ _ _ _ c.args.mine.now c.in_ok-theirs.theirs.items c.in_ok-tails.tails.items (plains_of c.in_ok-heads.heads.items) c.new-found.ensures.items c.in_ok-lead_all.ensures.all second third
     ∙ (λ n. map (λ k. Then i k) (map many c.args.mine.now)
-        ++ (map (λ k. Then j k) (c.in_ok-theirs.ensures n) ++ flat_map (λ h. map (λ k. Then h k) (c.in_ok-tails.ensures n)) (c.in_ok-heads.ensures n)))
+    ++ (map (λ k. Then j k) (c.in_ok-theirs.ensures n) ++ flat_map (λ h. map (λ k. Then h k) (c.in_ok-tails.ensures n)) (c.in_ok-heads.ensures n)))

@@ -1,7 +1,6 @@
-use Rattle.std.proofs.Common.{◌≡◌, ap, ◌∙◌, arith}
+use Rattle.std.proofs.Common.{ap, ◌∙◌, arith}
 use Rattle.base_poly.proofs.Counted.{numbers, one_more_number, counted_step}
 use Rattle.base_poly.specs.Count.{counts_of}
-use Rattle.base_poly.specs.Read.{index_of}
 use Rattle.base_poly.proofs.products.tally.Goals as goal
 
 pub loop-term-preserved : goal.loop-term-preserved

@@ -1,4 +1,4 @@
-use Rattle.std.proofs.Common.{◌≡◌, ◌+◌, ◌≤◌, drop, fold, length}
+use Rattle.std.proofs.Common.{◌≡◌, drop, fold}
 use Rattle.base_poly.specs.Count.{counts_of, count_one, tallied}
 use Rattle.base_poly.specs.Read.{plains_of}
 use Rattle.base_poly.proofs.Counted.{numbers}

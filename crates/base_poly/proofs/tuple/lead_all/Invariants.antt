@@ -1,4 +1,4 @@
-use Rattle.std.proofs.Common.{◌≡◌, ◌++◌, ◌∷◌, ◌+◌, map, drop, length, vec_len}
+use Rattle.std.proofs.Common.{◌≡◌, ◌++◌, ◌∷◌, ◌+◌, map, drop, vec_len}
 use Rattle.base_poly.specs.Read.{index_of}
 use Rattle.base_poly.proofs.tuple.lead_all.Given as goal
 
