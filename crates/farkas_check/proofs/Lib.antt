@@ -1,0 +1,10 @@
+mod Splitting
+mod Carrying
+mod Unrolling
+mod Judging
+mod Joining
+mod Firsts
+mod Checklists
+mod Spreading
+mod Meaning
+mod Duality

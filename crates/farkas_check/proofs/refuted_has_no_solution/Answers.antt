@@ -1,0 +1,5 @@
+use Rattle.farkas_check.proofs.Duality.{no_solution}
+use Rattle.farkas_check.proofs.refuted_has_no_solution.Goals as goal
+
+pub returns : goal.returns
+returns c = no_solution

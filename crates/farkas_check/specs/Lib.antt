@@ -1,0 +1,5 @@
+pub mod Totals
+pub mod Checks
+pub mod Sides
+pub mod Faults
+pub mod Laws

@@ -1,0 +1,158 @@
+//! The first check of a list that does not pass.
+
+ghost use Rattle.std.specs.Prelude.{◌≡◌, ◌<ℤ◌, ◌↔◌, IsTrue, pos, length, ℤ, ℕ, List, map, neg_ℤ, ◌*ℤ◌, ◌∷◌, [], ◌++◌};
+ghost use Rattle.raml_num.specs.Sums.{NoneNegative};
+ghost use Rattle.linear_rows.specs.Systems.{IsBelow, IsSystem, numbers_from, right_sides};
+ghost use Rattle.farkas_check.specs.Checks.{Meets, Demand, Check, column, refuting_columns, solving_row, solving_rows, dual_columns, equal_sums};
+ghost use Rattle.farkas_check.specs.Totals.{products};
+ghost use Rattle.farkas_check.specs.Sides.{IsTotals};
+ghost use Rattle.farkas_check.specs.Faults.{demand_of, FaultOf, FirstFaultOf};
+
+use crate::Verdict;
+use crate::totals::{Column, Totals};
+use linear_rows::{Row, System};
+
+/// What is asked of a total.
+#[derive(Clone, Copy)]
+enum Asked {
+    AtMostZero,
+    AtLeastZero,
+    MoreThanZero,
+    Zero,
+}
+
+impl Asked {
+    ghost use Rattle.std.specs.Prelude.{◌↔◌, IsTrue};
+    ghost use Rattle.farkas_check.specs.Checks.{Meets};
+    ghost use Rattle.farkas_check.specs.Faults.{demand_of};
+
+    fn is_met(self, total: i128) -> bool
+        ensures { IsTrue result ↔ Meets (demand_of self) total }
+    {
+        match self {
+            Asked::AtMostZero => total <= 0,
+            Asked::AtLeastZero => total >= 0,
+            Asked::MoreThanZero => total > 0,
+            Asked::Zero => total == 0,
+        }
+    }
+}
+
+/// The fault of a check, if it does not pass.
+fn of_check(totals: Option<Totals>, asked: Asked, column: u32) -> Option<Verdict>
+    ensures { (terms : List ℤ) → IsTotals terms totals → FaultOf (record { column = column; demand = demand_of asked; terms = terms }) result }
+{
+    match totals {
+        None => Some(Verdict::Leaves { column }),
+        Some(totals) => {
+            if asked.is_met(totals.sum()) {
+                None
+            } else {
+                Some(Verdict::No { column })
+            }
+        }
+    }
+}
+
+/// Of `y A`, which is to be at most 0.
+pub(crate) fn of_columns(system: &System, y: &[i128]) -> Option<Verdict>
+    requires { length y.now ≡ length system.now.rows }
+    ensures { FirstFaultOf (refuting_columns 0 system.now.unknowns system.now.rows y.now) result }
+{
+    let rows = system.rows();
+    for unknown in 0..system.unknowns() {
+        let totals = Totals::zero().with_column(y, Column::Unknown(unknown), rows);
+        let fault = of_check(totals, Asked::AtMostZero, unknown);
+        if fault.is_some() {
+            return fault;
+        }
+    }
+    None
+}
+
+/// Of `y b`, which is to be positive.
+pub(crate) fn of_right_sides(system: &System, y: &[i128]) -> Option<Verdict>
+    requires { length y.now ≡ length system.now.rows }
+    ensures { FaultOf (record { column = system.now.unknowns; demand = Demand.Above; terms = products y.now (right_sides system.now) }) result }
+{
+    let totals = Totals::zero().with_column(y, Column::Right, system.rows());
+    of_check(totals, Asked::MoreThanZero, system.unknowns())
+}
+
+/// The totals of `y A` less `scale` times the weight, at an unknown.
+fn dual_totals(rows: &[Row], y: &[i128], unknown: u32, weight: i128, scale: i128) -> Option<Totals>
+    requires one_each { length y.now ≡ length rows.now }
+    requires positive { pos 0 <ℤ scale }
+    ensures { IsTotals (neg_ℤ (scale *ℤ weight) ∷ products y.now (column unknown rows.now)) result }
+{
+    let totals = Totals::zero().with(-scale, weight)?;
+    totals.with_column(y, Column::Unknown(unknown), rows)
+}
+
+/// Of `y A`, which is to be at most `scale` times the weights.
+pub(crate) fn of_dual_columns(system: &System, y: &[i128], scale: i128) -> Option<Verdict>
+    requires one_each { length y.now ≡ length system.now.rows }
+    requires positive { pos 0 <ℤ scale }
+    ensures { FirstFaultOf (dual_columns 0 system.now.weights system.now.rows y.now scale) result }
+{
+    let rows = system.rows();
+    let weights = system.weights();
+    for unknown in 0..system.unknowns() {
+        let totals = dual_totals(rows, y, unknown, weights[unknown as usize], scale);
+        let fault = of_check(totals, Asked::AtMostZero, unknown);
+        if fault.is_some() {
+            return fault;
+        }
+    }
+    None
+}
+
+/// The totals of a row at `x`, less `scale` times the right side.
+fn row_totals(row: &Row, x: &[i128], scale: i128) -> Option<Totals>
+    requires below { IsBelow (length x.now) row.now }
+    requires positive { pos 0 <ℤ scale }
+    ensures { IsTotals (neg_ℤ (scale *ℤ row.now.right) ∷ products (numbers_from 0 (length x.now) row.now.terms) x.now) result }
+{
+    let totals = Totals::zero().with(-scale, row.right())?;
+    totals.with_terms(row.terms(), x)
+}
+
+/// Of the rows at `x`, which are to be at least `scale` times their right sides.
+pub(crate) fn of_rows(system: &System, x: &[i128], scale: i128) -> Option<Verdict>
+    requires one_each { length x.now ≡ system.now.unknowns }
+    requires positive { pos 0 <ℤ scale }
+    ensures first { FirstFaultOf (solving_rows system.now.unknowns x.now scale system.now.rows) result }
+    ensures sound { IsSystem system.now }
+{
+    let unknowns = system.unknowns();
+    let rows = system.rows();
+    for row in rows {
+        let totals = row_totals(row, x, scale);
+        let fault = of_check(totals, Asked::AtLeastZero, unknowns);
+        if fault.is_some() {
+            return fault;
+        }
+    }
+    None
+}
+
+/// The totals of `y b` less `c x`.
+fn sum_totals(system: &System, x: &[i128], y: &[i128]) -> Option<Totals>
+    requires each_unknown { length x.now ≡ system.now.unknowns }
+    requires each_row { length y.now ≡ length system.now.rows }
+    requires natural { NoneNegative x.now }
+    ensures { IsTotals (products y.now (right_sides system.now) ++ map neg_ℤ (products system.now.weights x.now)) result }
+{
+    let totals = Totals::zero().with_column(y, Column::Right, system.rows())?;
+    totals.without(system.weights(), x)
+}
+
+/// Of `y b`, which is to be `c x`.
+pub(crate) fn of_sums(system: &System, x: &[i128], y: &[i128]) -> Option<Verdict>
+    requires each_unknown { length x.now ≡ system.now.unknowns }
+    requires each_row { length y.now ≡ length system.now.rows }
+    requires natural { NoneNegative x.now }
+    ensures { FaultOf (equal_sums system.now x.now y.now) result }
+{
+    of_check(sum_totals(system, x, y), Asked::Zero, system.unknowns())
+}

@@ -1,0 +1,116 @@
+//! The total of the positive terms, and that of the negative ones.
+
+ghost use Rattle.std.specs.Prelude.{◌≤ℤ◌, pos};
+
+use linear_rows::Row;
+
+/// The numbers of an unknown in the rows, or their right sides.
+#[derive(Clone, Copy)]
+pub(crate) enum Column {
+    Unknown(u32),
+    Right,
+}
+
+impl Column {
+    ghost use Rattle.std.specs.Prelude.{◌≡◌};
+    ghost use Rattle.farkas_check.specs.Sides.{number_in};
+
+    /// The number of a row in the column.
+    fn of_row(self, row: &Row) -> i128
+        ensures { result ≡ number_in self row.now }
+    {
+        match self {
+            Column::Unknown(unknown) => row.coefficient(unknown),
+            Column::Right => row.right(),
+        }
+    }
+}
+
+/// Both totals.
+#[derive(Clone, Copy)]
+pub(crate) struct Totals {
+    positive: i128,
+    negative: i128,
+    ghost at_least: { pos 0 ≤ℤ positive },
+    ghost at_most: { negative ≤ℤ pos 0 },
+}
+
+impl Totals {
+    ghost use Rattle.std.specs.Prelude.{◌≡◌, ◌≤◌, ◌+ℤ◌, ◌*ℤ◌, pos, map, length, ◌∷◌, [], neg_ℤ};
+    ghost use Rattle.raml_num.specs.Sums.{NoneNegative};
+    ghost use Rattle.farkas_check.specs.Totals.{products};
+    ghost use Rattle.farkas_check.specs.Sides.{MovedBy, IsTotals, numbers_in, sparse_products, AllInside};
+
+    pub(crate) fn zero() -> Totals
+        ensures { IsTotals [] (Some result) }
+    {
+        Totals {
+            positive: 0,
+            negative: 0,
+        }
+    }
+
+    /// The sum of both, which always fits.
+    pub(crate) fn sum(self) -> i128
+        ensures { result ≡ self.positive +ℤ self.negative }
+    {
+        self.positive + self.negative
+    }
+
+    /// With the product of two numbers, where the totals fit.
+    pub(crate) fn with(self, a: i128, b: i128) -> Option<Totals>
+        ensures { MovedBy self ((a *ℤ b) ∷ []) result }
+    {
+        let product = a.checked_mul(b)?;
+        if product < 0 {
+            let negative = self.negative.checked_add(product)?;
+            Some(Totals {
+                positive: self.positive,
+                negative,
+            })
+        } else {
+            let positive = self.positive.checked_add(product)?;
+            Some(Totals {
+                positive,
+                negative: self.negative,
+            })
+        }
+    }
+
+    /// With the products of `y` and a column.
+    pub(crate) fn with_column(self, y: &[i128], column: Column, rows: &[Row]) -> Option<Totals>
+        requires { length y.now ≡ length rows.now }
+        ensures { MovedBy self (products y.now (numbers_in column rows.now)) result }
+    {
+        let mut totals = self;
+        for i in 0..rows.len() {
+            totals = totals.with(y[i], column.of_row(&rows[i]))?;
+        }
+        Some(totals)
+    }
+
+    /// With the products of the terms of a row and `x`.
+    pub(crate) fn with_terms(self, terms: &[(u32, i128)], x: &[i128]) -> Option<Totals>
+        requires { AllInside terms.now (length x.now) }
+        ensures { MovedBy self (sparse_products terms.now x.now) result }
+    {
+        let mut totals = self;
+        for term in terms {
+            totals = totals.with(term.1, x[term.0 as usize])?;
+        }
+        Some(totals)
+    }
+
+    /// Less the products of the weights and `x`, of which no number is negative.
+    pub(crate) fn without(self, weights: &[i128], x: &[i128]) -> Option<Totals>
+        requires one_each { length weights.now ≡ length x.now }
+        requires natural { NoneNegative x.now }
+        ensures { MovedBy self (map neg_ℤ (products weights.now x.now)) result }
+    {
+        let mut totals = self;
+        for i in 0..weights.len() {
+            totals = totals.with(weights[i], -x[i])?;
+        }
+        Some(totals)
+    }
+}

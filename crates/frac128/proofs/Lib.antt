@@ -1,0 +1,6 @@
+mod Cancelling
+mod Comparing
+mod Quotients
+mod Sharing
+mod Signs
+mod Sums

@@ -1,0 +1,4 @@
+pub mod Lowest
+pub mod Values
+pub mod Order
+pub mod Text

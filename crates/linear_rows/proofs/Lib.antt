@@ -1,0 +1,4 @@
+pub mod Coefficients
+pub mod Products
+pub mod Places
+mod Rowwise
