@@ -1,0 +1,11 @@
+//! Tokens of a source text, by longest match.
+#![tactic(auto)]
+
+mod lex;
+mod piece;
+#[cfg(test)]
+mod tests;
+mod token;
+
+pub use lex::tokens;
+pub use token::{LexFault, Token, TokenKind};

@@ -1,0 +1,4 @@
+pub mod Tokens
+pub mod Table
+pub mod Read
+pub mod Spelling

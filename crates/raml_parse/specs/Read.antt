@@ -1,0 +1,76 @@
+-- What the code's tokens and answers are as plain data.
+use Rattle.std.specs.Prelude.{◌≡◌, ℕ, List, map, reverse, Result, Ok, Err, Vec}
+use Rattle.std.specs.Borrow.{Bor}
+use Rattle.std.specs.Global.{Global}
+use Rattle.token_grammar.specs.Reading.{Fault}
+use Rattle.token_grammar.specs.declared.Kind.{Kind}
+use Rattle.token_grammar.specs.declared.Kind.TheVariants as d
+use Rattle.raml_syntax.specs.Read.{term_of, ty_of, parameter_of, program_of}
+use Rattle.raml_syntax.specs.declared.tree.Expr.{Expr}
+use Rattle.raml_syntax.specs.declared.ty.Ty.{Ty}
+use Rattle.raml_syntax.specs.declared.program.Param.{Param}
+use Rattle.raml_syntax.specs.declared.program.Program.{Program}
+use Rattle.raml_parse.specs.Tokens.{Token, Name, Number, Key}
+use Rattle.raml_parse.specs.Table.{Part, Phrase, Typing, Header, Whole}
+use Rattle.raml_parse.specs.declared.token.Word.{Word}
+use Rattle.raml_parse.specs.declared.token.Word.TheVariants as w
+use Rattle.raml_parse.specs.declared.token.Piece.{Piece}
+use Rattle.raml_parse.specs.Spelling.{place_in}
+use Rattle.raml_parse.specs.declared.fault.ParseFault.{ParseFault}
+use Rattle.raml_parse.specs.declared.fault.ParseFault.TheVariants as p
+use Rattle.raml_parse.specs.declared.stop.Stop.{Stop}
+use Rattle.raml_parse.specs.declared.stop.Stop.TheVariants as f
+
+abbrev pub word_at : Word → ℕ → Token
+word_at (w.Name x) p = Name p x
+word_at (w.Number n) p = Number p n
+word_at (w.Sign k) p = Key p k
+
+abbrev pub token_of : Piece → Token
+token_of q = word_at q.word q.at.0
+
+abbrev pub pieces : List Piece → List Token
+pieces = map token_of
+
+-- What a function returned is, by the view, what reading answers, unless memory ran out.
+abbrev pub Fails : {Y : Type 0} → Stop → Result Y (Fault Token) → Type 0
+Fails (f.Fault k u) read = read ≡ Err (k, pieces u.now)
+Fails f.NoMemory read = Unit {0}
+
+abbrev pub Gives : {X Y : Type 0} → (X → Y) → Result X Stop → Result Y (Fault Token) → Type 0
+Gives view (Ok x) read = read ≡ Ok (view x)
+Gives view (Err e) read = Fails e read
+
+abbrev pub rest : Bor (List Piece) → List Token
+rest u = pieces u.now
+
+abbrev pub phrase : Expr × ℕ × Bor (List Piece) → Part × ℕ × List Token
+phrase x = (Phrase (term_of x.0), x.1, rest x.2)
+
+abbrev pub typing : Ty × ℕ × Bor (List Piece) → Part × ℕ × List Token
+typing x = (Typing (ty_of x.0), x.1, rest x.2)
+
+abbrev pub header : Param × ℕ × Bor (List Piece) → Part × ℕ × List Token
+header x = (Header (parameter_of x.0), x.1, rest x.2)
+
+-- what the parameters are, the last one first
+abbrev pub headers_back : List Param → List Part
+headers_back ps = map Header (reverse (map parameter_of ps))
+
+abbrev pub headers : Vec Param Global × ℕ × Bor (List Piece) → List Part × ℕ × List Token
+headers x = (headers_back x.0.items, x.1, rest x.2)
+
+abbrev pub whole : Program × ℕ × Bor (List Piece) → Part × ℕ × List Token
+whole x = (Whole (program_of x.0), x.1, rest x.2)
+
+-- the fault is of this kind, at this place
+abbrev pub IsAt : Kind → ℕ → ParseFault → Type 0
+IsAt d.Syntax place (p.Syntax at) = at.0 ≡ place
+IsAt d.TooDeep place (p.TooDeep at) = at.0 ≡ place
+IsAt d.TooMany place (p.TooMany at) = at.0 ≡ place
+IsAt k place fault = ⊥
+
+-- the fault of a text of this length
+abbrev pub Reports : ℕ → Stop → ParseFault → Type 0
+Reports end (f.Fault k u) fault = IsAt k (place_in end (pieces u.now)) fault
+Reports end f.NoMemory fault = fault ≡ p.NoMemory

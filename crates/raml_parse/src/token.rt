@@ -1,0 +1,101 @@
+// Tokens as the grammar sees them.
+ghost use Rattle.std.specs.Prelude.{◌≡◌};
+ghost use Rattle.raml_parse.specs.Tokens.{sign_of};
+
+use raml_syntax::{Name, Pos};
+
+/// A keyword or a symbol.
+#[derive(Clone, Copy, PartialEq, Eq, Debug)]
+pub enum Sign {
+    Fun,
+    Let,
+    In,
+    If,
+    Then,
+    Else,
+    Match,
+    With,
+    Nil,
+    Leaf,
+    Node,
+    True,
+    False,
+    Not,
+    Tick,
+    Div,
+    Mod,
+    Int,
+    Bool,
+    List,
+    Tree,
+    Open,
+    Close,
+    Comma,
+    Colon,
+    Cons,
+    Equal,
+    Less,
+    AtMost,
+    Plus,
+    Minus,
+    Star,
+    Arrow,
+    Bar,
+}
+
+/// What a token is.
+#[derive(Drop)]
+pub enum Word {
+    Name(Name),
+    Number(u64),
+    Sign(Sign),
+}
+
+/// A token and the place where it begins.
+#[derive(Drop)]
+pub struct Piece {
+    pub at: Pos,
+    pub word: Word,
+}
+
+/// The keyword or symbol that a word spells.
+pub fn sign_named(word: &str) -> Sign
+    ensures { result ≡ sign_of word.now }
+{
+    match word {
+        "fun" => Sign::Fun,
+        "let" => Sign::Let,
+        "in" => Sign::In,
+        "if" => Sign::If,
+        "then" => Sign::Then,
+        "else" => Sign::Else,
+        "match" => Sign::Match,
+        "with" => Sign::With,
+        "nil" => Sign::Nil,
+        "leaf" => Sign::Leaf,
+        "node" => Sign::Node,
+        "true" => Sign::True,
+        "false" => Sign::False,
+        "not" => Sign::Not,
+        "tick" => Sign::Tick,
+        "div" => Sign::Div,
+        "mod" => Sign::Mod,
+        "int" => Sign::Int,
+        "bool" => Sign::Bool,
+        "list" => Sign::List,
+        "tree" => Sign::Tree,
+        "(" => Sign::Open,
+        ")" => Sign::Close,
+        "," => Sign::Comma,
+        ":" => Sign::Colon,
+        "::" => Sign::Cons,
+        "=" => Sign::Equal,
+        "<" => Sign::Less,
+        "<=" => Sign::AtMost,
+        "+" => Sign::Plus,
+        "-" => Sign::Minus,
+        "*" => Sign::Star,
+        "->" => Sign::Arrow,
+        _ => Sign::Bar,
+    }
+}

@@ -1,0 +1,5 @@
+mod Worded
+mod Decided
+mod Bounded
+mod Forcing
+mod Sourced

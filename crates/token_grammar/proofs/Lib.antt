@@ -1,0 +1,13 @@
+pub mod Items
+pub mod Basics
+pub mod Lifting
+pub mod Good
+pub mod Phrases
+pub mod Ends
+pub mod Complete
+pub mod Tails
+pub mod Local
+pub mod Places
+pub mod Only
+pub mod Steps
+pub mod Kept

@@ -1,0 +1,3 @@
+pub mod Rules
+pub mod Derives
+pub mod Reading
