@@ -1,0 +1,12 @@
+pub mod Many
+pub mod Among
+pub mod Exact
+pub mod Sums
+pub mod Multiplied
+pub mod Height
+pub mod Longer
+pub mod Graded
+pub mod Counted
+pub mod Recursion
+pub mod Only
+pub mod Computed

@@ -1,0 +1,47 @@
+-- Laws of indices and of base polynomials.
+use Rattle.std.specs.Prelude.{◌≡◌, ℕ, zero, suc, ◌+◌, ◌*◌, List, [], ◌∷◌, map, length, replicate}
+use Rattle.raml_syntax.specs.Tree.{Type'}
+use Rattle.raml_syntax.specs.Value.{Value, Has, Empty, Cons, Node}
+use Rattle.base_poly.specs.Plain.{Plain, Unit', many, deg}
+use Rattle.base_poly.specs.Indices.{IsIndex, zero_of, ListsTuples, index_list}
+use Rattle.base_poly.specs.Base.{total, elements, base}
+
+-- the list of tuples is all of them in order, and no other list is
+pub record IndicesAreListed : Type 0 where
+  pub listed : (As : List Type') (d : ℕ) → ListsTuples As d (index_list As d)
+  pub only : (As : List Type') (d : ℕ) (ts us : List (List Plain)) → ListsTuples As d ts → ListsTuples As d us → ts ≡ us
+
+-- the one index of degree 0, which is 1 at every value of its type
+pub record HasZero (A : Type') : Type 0 where
+  pub index : IsIndex (zero_of A) A
+  pub degree : deg (zero_of A) ≡ 0
+  pub only : (i : Plain) → IsIndex i A → deg i ≡ 0 → i ≡ zero_of A
+  pub one : (v : Value) → Has v A → base (zero_of A) v ≡ 1
+
+abbrev pub TypesHaveZero : Type 0
+TypesHaveZero = (A : Type') → HasZero A
+
+-- the ways to cut a list in two
+abbrev pub cuts : List Plain → List (List Plain × List Plain)
+cuts [] = ([], []) ∷ []
+cuts (i ∷ is) = ([], i ∷ is) ∷ map (λ c. (i ∷ c.0, c.1)) (cuts is)
+
+-- base polynomials by recursion on the value, in place of sums over positions
+pub record BaseByValue : Type 0 where
+  pub at_none : (v : Value) → base (many []) v ≡ 1
+  pub at_empty : (i : Plain) (is : List Plain) → base (many (i ∷ is)) Empty ≡ 0
+  -- the first entry stands at the head or not
+  pub at_cons : (i : Plain) (is : List Plain) (h t : Value) → base (many (i ∷ is)) (Cons h t) ≡ base i h * base (many is) t + base (many (i ∷ is)) t
+  -- the first entry stands at the node or not, and of the others the left tree has the first ones
+  pub at_node : (i : Plain) (is : List Plain) (a l r : Value) → base (many (i ∷ is)) (Node a l r)
+      ≡ base i a * total (λ c. base (many c.0) l * base (many c.1) r) (cuts is) + total (λ c. base (many c.0) l * base (many c.1) r) (cuts (i ∷ is))
+
+-- the number of ways to choose k of n
+abbrev pub choose : ℕ → ℕ → ℕ
+choose n zero = 1
+choose zero (suc k) = 0
+choose (suc n) (suc k) = choose n k + choose n (suc k)
+
+-- k entries that count 1 each
+abbrev pub BinomialsAreBase : Type 0
+BinomialsAreBase = (k : ℕ) (v : Value) → base (many (replicate k Unit')) v ≡ choose (length (elements v)) k

@@ -1,0 +1,10 @@
+pub mod Plain
+pub mod Indices
+pub mod Base
+pub mod Product
+pub mod Count
+pub mod Laws
+pub mod Example
+pub mod Read
+pub mod Total
+pub mod Stored

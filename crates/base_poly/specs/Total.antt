@@ -1,0 +1,109 @@
+-- The order of indices is total, and equal indices are one.
+use Rattle.std.specs.Prelude.{◌≡◌, ℕ, List, [], ◌∷◌, ◌++◌, refl, IsTrue}
+use Rattle.std.proofs.Common.{sym, ◌∙◌, ap, subst, append_assoc, append-nil}
+use Rattle.std.specs.declared.cmp.Ordering.{Ordering}
+use Rattle.std.specs.declared.cmp.Ordering.TheVariants.{Less, Equal, Greater}
+use Rattle.std.specs.Ordering.{ordering_then, is_eq, nat_cmp}
+use Rattle.std.specs.Cmp.{IsTotalOrder}
+use Rattle.std.specs.Cmp.Lexicographic.{slice_cmp}
+use Rattle.std.proofs.lemmas.Cmp.{on_total, nat_list_cmp_total}
+use Rattle.base_poly.specs.Plain.{Plain, Unit', Pair, End, Then, order, same, writes}
+
+-- an index as a list of numbers, which sorts as the index does
+abbrev spell : Plain → List ℕ
+spell Unit' = 1 ∷ []
+spell (Pair a b) = 2 ∷ (spell a ++ spell b)
+spell End = 3 ∷ []
+spell (Then x r) = 4 ∷ (spell x ++ spell r)
+
+then_assoc : (a b c : Ordering) → ordering_then (ordering_then a b) c ≡ ordering_then a (ordering_then b c)
+then_assoc Less b c = refl
+then_assoc Equal b c = refl
+then_assoc Greater b c = refl
+
+then_Equal : (a : Ordering) → ordering_then a Equal ≡ a
+then_Equal Less = refl
+then_Equal Equal = refl
+then_Equal Greater = refl
+
+-- two spellings one after the other on both sides
+two : (a b c d r s : List ℕ) (p q : Ordering) →
+    ((t u : List ℕ) → slice_cmp nat_cmp (a ++ t) (c ++ u) ≡ ordering_then p (slice_cmp nat_cmp t u)) →
+    ((t u : List ℕ) → slice_cmp nat_cmp (b ++ t) (d ++ u) ≡ ordering_then q (slice_cmp nat_cmp t u)) →
+    slice_cmp nat_cmp ((a ++ b) ++ r) ((c ++ d) ++ s) ≡ ordering_then (ordering_then p q) (slice_cmp nat_cmp r s)
+two a b c d r s p q f g =
+    rw (append_assoc a b r, append_assoc c d s, f (b ++ r) (d ++ s), g r s) (sym (then_assoc p q (slice_cmp nat_cmp r s)))
+
+by_spell : (x y : Plain) (r s : List ℕ) → slice_cmp nat_cmp (spell x ++ r) (spell y ++ s) ≡ ordering_then (order x y) (slice_cmp nat_cmp r s)
+by_spell Unit' Unit' r s = refl
+by_spell Unit' (Pair c d) r s = refl
+by_spell Unit' End r s = refl
+by_spell Unit' (Then y t) r s = refl
+by_spell (Pair a b) Unit' r s = refl
+by_spell (Pair a b) (Pair c d) r s = two (spell a) (spell b) (spell c) (spell d) r s (order a c) (order b d) (by_spell a c) (by_spell b d)
+by_spell (Pair a b) End r s = refl
+by_spell (Pair a b) (Then y t) r s = refl
+by_spell End Unit' r s = refl
+by_spell End (Pair c d) r s = refl
+by_spell End End r s = refl
+by_spell End (Then y t) r s = refl
+by_spell (Then x q) Unit' r s = refl
+by_spell (Then x q) (Pair c d) r s = refl
+by_spell (Then x q) End r s = refl
+by_spell (Then x q) (Then y t) r s = two (spell x) (spell q) (spell y) (spell t) r s (order x y) (order q t) (by_spell x y) (by_spell q t)
+
+is_order : (x y : Plain) → slice_cmp nat_cmp (spell x) (spell y) ≡ order x y
+is_order x y =
+    ap (λ l. slice_cmp nat_cmp l (spell y)) (sym (append-nil (spell x)))
+    ∙ ap (λ l. slice_cmp nat_cmp (spell x ++ []) l) (sym (append-nil (spell y)))
+    ∙ by_spell x y [] []
+    ∙ then_Equal (order x y)
+
+pub order_total : IsTotalOrder order
+order_total = subst IsTotalOrder (λ i x y. is_order x y i) (on_total spell nat_list_cmp_total)
+
+-- equal answers come from equal parts
+first_equal : (a b : Ordering) → ordering_then a b ≡ Equal → a ≡ Equal
+first_equal Less b h = h
+first_equal Equal b h = refl
+first_equal Greater b h = h
+
+second_equal : (a b : Ordering) → ordering_then a b ≡ Equal → b ≡ Equal
+second_equal Less b h = cc
+second_equal Equal b h = h
+second_equal Greater b h = cc
+
+pub equal_is_one : (x y : Plain) → order x y ≡ Equal → x ≡ y
+equal_is_one Unit' Unit' h = refl
+equal_is_one Unit' (Pair c d) h = cc
+equal_is_one Unit' End h = cc
+equal_is_one Unit' (Then y s) h = cc
+equal_is_one (Pair a b) Unit' h = cc
+equal_is_one (Pair a b) (Pair c d) h =
+    let e = equal_is_one a c (first_equal (order a c) (order b d) h) in
+    let f = equal_is_one b d (second_equal (order a c) (order b d) h) in
+    λ i. Pair (e i) (f i)
+equal_is_one (Pair a b) End h = cc
+equal_is_one (Pair a b) (Then y s) h = cc
+equal_is_one End Unit' h = cc
+equal_is_one End (Pair c d) h = cc
+equal_is_one End End h = refl
+equal_is_one End (Then y s) h = cc
+equal_is_one (Then x r) Unit' h = cc
+equal_is_one (Then x r) (Pair c d) h = cc
+equal_is_one (Then x r) End h = cc
+equal_is_one (Then x r) (Then y s) h =
+    let e = equal_is_one x y (first_equal (order x y) (order r s) h) in
+    let f = equal_is_one r s (second_equal (order x y) (order r s) h) in
+    λ i. Then (e i) (f i)
+
+is_Equal : (o : Ordering) → IsTrue (is_eq o) → o ≡ Equal
+is_Equal Less h = cc
+is_Equal Equal h = refl
+is_Equal Greater h = cc
+
+pub same_is : (x y : Plain) → IsTrue (same x y) → x ≡ y
+same_is x y h = equal_is_one x y (is_Equal (order x y) h)
+
+pub writes_alike : (x y : Plain) → IsTrue (same x y) → writes x ≡ writes y
+writes_alike x y h = ap writes (same_is x y h)

@@ -1,0 +1,28 @@
+// Laws of indices and of base polynomials: each is the contract of a function that does nothing.
+ghost use Rattle.base_poly.specs.Laws.{IndicesAreListed, TypesHaveZero, BaseByValue, BinomialsAreBase};
+ghost use Rattle.base_poly.specs.Example.{Examples};
+
+/// The tuples of a context up to a degree have one list in order.
+pub fn indices_are_listed()
+    ensures { IndicesAreListed }
+{}
+
+/// Each type has one index of degree 0, which counts 1 at every value.
+pub fn types_have_zero()
+    ensures { TypesHaveZero }
+{}
+
+/// Base polynomials by recursion on the value.
+pub fn base_by_value()
+    ensures { BaseByValue }
+{}
+
+/// On integers a list index is a binomial coefficient.
+pub fn binomials()
+    ensures { BinomialsAreBase }
+{}
+
+/// Small indices, sums and products are what was worked out by hand.
+pub fn small_examples()
+    ensures { Examples }
+{}

@@ -1,0 +1,306 @@
+// Lists of all indices up to a degree.
+ghost use Rattle.std.specs.Prelude.{◌≡◌, ◌<◌, ◌≤◌, ◌+◌, ◌-◌, [], ◌∷◌, ◌++◌, All, map, filter, length, nat_eq, vec_len, IfOk, OnOk, IsErrOf};
+ghost use Rattle.raml_syntax.specs.Read.{ty_of};
+ghost use Rattle.base_poly.specs.Plain.{Unit', Pair, many, deg, degrees};
+ghost use Rattle.base_poly.specs.Indices.{led_by, pairs_led, lists, indices_up_to, tuples_up_to, index_list, ListsTuples};
+ghost use Rattle.base_poly.specs.Read.{index_of, plains_of, context_of};
+
+use crate::fault::IndexFault;
+use crate::index::Index;
+use crate::tuple::{Tuple, lead_all};
+use raml_syntax::Ty;
+use std::alloc::{AllocError, Global};
+
+/// All tuples of indices of these types of degree at most `d`, in order: by degree, and then
+/// component by component.
+///
+/// `TooMany` where there are more than `most`.
+pub fn indices(alloc: Global, types: &[Ty], d: u8, most: usize) -> Result<Vec<Tuple>, IndexFault>
+    ensures all { IfOk result (λ found. found.items ≡ index_list (context_of types.now) d) }
+    ensures exact { IfOk result (λ found. ListsTuples (context_of types.now) d found.items) }
+    ensures few { OnOk result (length (index_list (context_of types.now) d) ≤ most) }
+    ensures many { IsErrOf result IndexFault.TooMany → most < length (index_list (context_of types.now) d) }
+{
+    let found = tuples_up_to(alloc, types, u32::from(d), most)?;
+    let mut ordered = Vec::new(alloc);
+    for degree in 0..u32::from(d) + 1 {
+        append_of_degree(alloc, &mut ordered, &found, degree)?;
+    }
+    Ok(ordered)
+}
+
+// Appends those of this degree.
+fn append_of_degree(
+    alloc: Global,
+    ordered: &mut Vec<Tuple>,
+    found: &[Tuple],
+    degree: u32,
+) -> Result<(), AllocError>
+    requires { All (λ t. degrees t ≤ 255) found.now }
+    ensures { OnOk result (ordered.new.items ≡ ordered.old.items ++ filter (λ t. nat_eq (degrees t) degree) found.now) }
+{
+    for tuple in found {
+        if tuple.degree() == degree {
+            ordered.push(tuple.copy(alloc)?)?;
+        }
+    }
+    Ok(())
+}
+
+// All tuples of these types, component by component.
+#[cycle(of_types)]
+fn tuples_up_to(alloc: Global, types: &[Ty], d: u32, most: usize) -> Result<Vec<Tuple>, IndexFault>
+    ensures all { IfOk result (λ found. found.items ≡ tuples_up_to (context_of types.now) d) }
+    ensures few { IfOk result (λ found. vec_len found ≤ most) }
+    ensures many { IsErrOf result IndexFault.TooMany → most < length (tuples_up_to (context_of types.now) d) }
+{
+    match types {
+        [] => only_empty(alloc, most),
+        [first, rest @ ..] => tuples_led(alloc, first, rest, d, most),
+    }
+}
+
+// All tuples of the first type and the rest.
+#[cycle(of_types)]
+fn tuples_led(
+    alloc: Global,
+    first: &Ty,
+    rest: &[Ty],
+    d: u32,
+    most: usize,
+) -> Result<Vec<Tuple>, IndexFault>
+    ensures all { IfOk result (λ found. found.items ≡ led_by (tuples_up_to (context_of rest.now)) d (indices_up_to (ty_of first.now) d)) }
+    ensures few { IfOk result (λ found. vec_len found ≤ most) }
+    ensures many { IsErrOf result IndexFault.TooMany → most < length (led_by (tuples_up_to (context_of rest.now)) d (indices_up_to (ty_of first.now) d)) }
+{
+    let heads = indices_up_to(alloc, first, d, most)?;
+    let mut found = Vec::new(alloc);
+    for head in &heads {
+        append_tuples(alloc, &mut found, head, rest, d, most)?;
+    }
+    Ok(found)
+}
+
+// Appends the index before each tuple of the rest that leaves the degree at most `d`.
+#[cycle(of_types)]
+fn append_tuples(
+    alloc: Global,
+    found: &mut Vec<Tuple>,
+    head: &Index,
+    rest: &[Ty],
+    d: u32,
+    most: usize,
+) -> Result<(), IndexFault>
+    requires room { vec_len found.old ≤ most }
+    requires low { deg (index_of head.now) ≤ d }
+    ensures all { OnOk result (found.new.items ≡ found.old.items ++ map (λ r. index_of head.now ∷ r) (tuples_up_to (context_of rest.now) (d - deg (index_of head.now)))) }
+    ensures few { OnOk result (vec_len found.new ≤ most) }
+    ensures many { IsErrOf result IndexFault.TooMany → most < length found.old.items + length (tuples_up_to (context_of rest.now) (d - deg (index_of head.now))) }
+{
+    let rests = tuples_up_to(alloc, rest, d - head.degree(), most)?;
+    append_led(alloc, found, head, &rests, most)
+}
+
+// The empty tuple alone.
+fn only_empty(alloc: Global, most: usize) -> Result<Vec<Tuple>, IndexFault>
+    ensures all { IfOk result (λ found. found.items ≡ [] ∷ []) }
+    ensures few { IfOk result (λ found. vec_len found ≤ most) }
+    ensures many { IsErrOf result IndexFault.TooMany → most < 1 }
+{
+    if most == 0 {
+        return Err(IndexFault::TooMany);
+    }
+    let mut found = Vec::new(alloc);
+    found.push(Tuple::new(Vec::new(alloc)))?;
+    Ok(found)
+}
+
+// Appends the index before each of the tuples.
+fn append_led(
+    alloc: Global,
+    found: &mut Vec<Tuple>,
+    first: &Index,
+    rests: &[Tuple],
+    most: usize,
+) -> Result<(), IndexFault>
+    requires { vec_len found.old ≤ most }
+    ensures all { OnOk result (found.new.items ≡ found.old.items ++ map (λ r. index_of first.now ∷ r) rests.now) }
+    ensures few { OnOk result (vec_len found.new ≤ most) }
+    ensures many { IsErrOf result IndexFault.TooMany → most < length found.old.items + length rests.now }
+{
+    if rests.len() > most - found.len() {
+        return Err(IndexFault::TooMany);
+    }
+    Ok(lead_all(alloc, found, first, rests)?)
+}
+
+// All indices of the type, in order.
+#[cycle(of_type)]
+fn indices_up_to(alloc: Global, ty: &Ty, d: u32, most: usize) -> Result<Vec<Index>, IndexFault>
+    ensures all { IfOk result (λ found. plains_of found.items ≡ indices_up_to (ty_of ty.now) d) }
+    ensures few { IfOk result (λ found. vec_len found ≤ most) }
+    ensures many { IsErrOf result IndexFault.TooMany → most < length (indices_up_to (ty_of ty.now) d) }
+{
+    match ty {
+        Ty::Int | Ty::Bool => only_unit(alloc, most),
+        Ty::Pair(first, second) => pairs_up_to(alloc, first, second, d, most),
+        Ty::List(element) | Ty::Tree(element) => {
+            let found = lists_up_to(alloc, element, d, most)?;
+            Ok(as_lists(alloc, found)?)
+        }
+    }
+}
+
+// The unit alone.
+fn only_unit(alloc: Global, most: usize) -> Result<Vec<Index>, IndexFault>
+    ensures all { IfOk result (λ found. plains_of found.items ≡ Unit' ∷ []) }
+    ensures few { IfOk result (λ found. vec_len found ≤ most) }
+    ensures many { IsErrOf result IndexFault.TooMany → most < 1 }
+{
+    if most == 0 {
+        return Err(IndexFault::TooMany);
+    }
+    let mut found = Vec::new(alloc);
+    found.push(Index::Unit)?;
+    Ok(found)
+}
+
+// All indices of the pairs of these two types.
+#[cycle(of_type)]
+fn pairs_up_to(
+    alloc: Global,
+    first: &Ty,
+    second: &Ty,
+    d: u32,
+    most: usize,
+) -> Result<Vec<Index>, IndexFault>
+    ensures all { IfOk result (λ found. plains_of found.items ≡ pairs_led (indices_up_to (ty_of second.now)) d (indices_up_to (ty_of first.now) d)) }
+    ensures few { IfOk result (λ found. vec_len found ≤ most) }
+    ensures many { IsErrOf result IndexFault.TooMany → most < length (pairs_led (indices_up_to (ty_of second.now)) d (indices_up_to (ty_of first.now) d)) }
+{
+    let heads = indices_up_to(alloc, first, d, most)?;
+    let mut found = Vec::new(alloc);
+    for head in &heads {
+        append_pairs(alloc, &mut found, head, second, d, most)?;
+    }
+    Ok(found)
+}
+
+// Appends the pairs of the index with each one of the second type that leaves the degree at most `d`.
+#[cycle(of_type)]
+fn append_pairs(
+    alloc: Global,
+    found: &mut Vec<Index>,
+    head: &Index,
+    second: &Ty,
+    d: u32,
+    most: usize,
+) -> Result<(), IndexFault>
+    requires room { vec_len found.old ≤ most }
+    requires low { deg (index_of head.now) ≤ d }
+    ensures all { OnOk result (plains_of found.new.items ≡ plains_of found.old.items ++ map (λ j. Pair (index_of head.now) j) (indices_up_to (ty_of second.now) (d - deg (index_of head.now)))) }
+    ensures few { OnOk result (vec_len found.new ≤ most) }
+    ensures many { IsErrOf result IndexFault.TooMany → most < length found.old.items + length (indices_up_to (ty_of second.now) (d - deg (index_of head.now))) }
+{
+    let seconds = indices_up_to(alloc, second, d - head.degree(), most)?;
+    append_paired(alloc, found, head, seconds, most)
+}
+
+// Appends the pairs of the first with each of the seconds.
+fn append_paired(
+    alloc: Global,
+    found: &mut Vec<Index>,
+    first: &Index,
+    seconds: Vec<Index>,
+    most: usize,
+) -> Result<(), IndexFault>
+    requires { vec_len found.old ≤ most }
+    ensures all { OnOk result (plains_of found.new.items ≡ plains_of found.old.items ++ map (λ j. Pair (index_of first.now) j) (plains_of seconds.items)) }
+    ensures few { OnOk result (vec_len found.new ≤ most) }
+    ensures many { IsErrOf result IndexFault.TooMany → most < length found.old.items + length seconds.items }
+{
+    if seconds.len() > most - found.len() {
+        return Err(IndexFault::TooMany);
+    }
+    for second in seconds {
+        found.push(pair(alloc, first, second)?)?;
+    }
+    Ok(())
+}
+
+// The pair of the two.
+pub fn pair(alloc: Global, first: &Index, second: Index) -> Result<Index, AllocError>
+    ensures { IfOk result (λ pair. index_of pair ≡ Pair (index_of first.now) (index_of second)) }
+{
+    Ok(Index::Pair(
+        Box::new(alloc, first.copy(alloc)?)?,
+        Box::new(alloc, second)?,
+    ))
+}
+
+// All entries that a list index of this element type may have together.
+#[cycle(of_type)]
+fn lists_up_to(alloc: Global, element: &Ty, d: u32, most: usize) -> Result<Vec<Tuple>, IndexFault>
+    ensures all { IfOk result (λ found. found.items ≡ lists (indices_up_to (ty_of element.now)) d d) }
+    ensures few { IfOk result (λ found. vec_len found ≤ most) }
+    ensures many { IsErrOf result IndexFault.TooMany → most < length (lists (indices_up_to (ty_of element.now)) d d) }
+{
+    let found = only_empty(alloc, most)?;
+    if d == 0 {
+        return Ok(found);
+    }
+    lists_led(alloc, found, element, d - 1, most)
+}
+
+// Those found, and after them all that have a first entry and degree at most `d` beside its place.
+#[cycle(of_type)]
+fn lists_led(
+    alloc: Global,
+    mut found: Vec<Tuple>,
+    element: &Ty,
+    d: u32,
+    most: usize,
+) -> Result<Vec<Tuple>, IndexFault>
+    requires { vec_len found ≤ most }
+    ensures all { IfOk result (λ all. all.items ≡ found.items ++ led_by (λ k. lists (indices_up_to (ty_of element.now)) k k) d (indices_up_to (ty_of element.now) d)) }
+    ensures few { IfOk result (λ all. vec_len all ≤ most) }
+    ensures many { IsErrOf result IndexFault.TooMany → most < length found.items + length (led_by (λ k. lists (indices_up_to (ty_of element.now)) k k) d (indices_up_to (ty_of element.now) d)) }
+{
+    let heads = indices_up_to(alloc, element, d, most)?;
+    for head in &heads {
+        append_lists(alloc, &mut found, head, element, d, most)?;
+    }
+    Ok(found)
+}
+
+// Appends the index before all entries that leave the degree at most `d`.
+#[cycle(of_type)]
+fn append_lists(
+    alloc: Global,
+    found: &mut Vec<Tuple>,
+    head: &Index,
+    element: &Ty,
+    d: u32,
+    most: usize,
+) -> Result<(), IndexFault>
+    requires room { vec_len found.old ≤ most }
+    requires low { deg (index_of head.now) ≤ d }
+    ensures all { OnOk result (found.new.items ≡ found.old.items ++ map (λ r. index_of head.now ∷ r) (lists (indices_up_to (ty_of element.now)) (d - deg (index_of head.now)) (d - deg (index_of head.now)))) }
+    ensures few { OnOk result (vec_len found.new ≤ most) }
+    ensures many { IsErrOf result IndexFault.TooMany → most < length found.old.items + length (lists (indices_up_to (ty_of element.now)) (d - deg (index_of head.now)) (d - deg (index_of head.now))) }
+{
+    let rests = lists_up_to(alloc, element, d - head.degree(), most)?;
+    append_led(alloc, found, head, &rests, most)
+}
+
+// Each of them as a list index.
+pub fn as_lists(alloc: Global, tuples: Vec<Tuple>) -> Result<Vec<Index>, AllocError>
+    ensures all { IfOk result (λ found. plains_of found.items ≡ map many tuples.items) }
+    ensures len { IfOk result (λ found. vec_len found ≡ vec_len tuples) }
+{
+    let mut found = Vec::new(alloc);
+    for tuple in tuples {
+        found.push(tuple.into_list())?;
+    }
+    Ok(found)
+}

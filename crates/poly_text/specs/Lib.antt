@@ -1,0 +1,4 @@
+pub mod Lowest
+pub mod Text
+pub mod Read
+pub mod Order

@@ -1,0 +1,11 @@
+//! Polynomials as text.
+#![tactic(auto)]
+
+pub mod laws;
+mod ranked;
+mod text;
+
+pub use text::print;
+
+#[cfg(test)]
+mod tests;
