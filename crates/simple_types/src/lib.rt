@@ -9,7 +9,9 @@ mod program;
 mod scope;
 #[cfg(test)]
 mod tests;
+mod text;
 mod walk;
 
 pub use fault::{Shape, TypeFault};
 pub use program::{Typed, check};
+pub use text::{push_shape, push_type};

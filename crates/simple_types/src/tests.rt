@@ -1,11 +1,11 @@
-// A program that is typed, and one that is not.
+// A program that is typed, one that is not, and the text of a shape.
 ghost use Rattle.std.specs.Prelude.{◌≤◌, IfOk, length};
 ghost use Rattle.std.specs.List.{All};
 ghost use Rattle.raml_syntax.specs.Tree.{Function};
 ghost use Rattle.raml_syntax.specs.Node.{AllNodes, FewArguments};
 ghost use Rattle.raml_syntax.specs.Read.{program_of, form_of};
 
-use crate::{Shape, TypeFault, check};
+use crate::{Shape, TypeFault, check, push_shape};
 use raml_syntax::{Expr, Form, Fun, Name, Param, Pos, Program, Ty};
 use std::alloc::{AllocError, Global};
 use std::test::Fail;
@@ -62,5 +62,16 @@ fn a_fault_has_its_place_and_shapes(rt: HostRuntime) -> Result<(), Fail> {
         Ok(_) => assert!(rt; false, "a leaf is no list"),
         Err(fault) => assert!(rt; is_leaf_for_list(&fault), "at its place"),
     }
+    Ok(())
+}
+
+#[test]
+fn the_text_of_a_type_has_few_parentheses(rt: HostRuntime) -> Result<(), Fail> {
+    let alloc = rt.alloc();
+    let pair = Ty::Pair(Box::new(alloc, Ty::Int)?, Box::new(alloc, Ty::Bool)?);
+    let shape = Shape::Is(Ty::List(Box::new(alloc, pair)?));
+    let mut text = String::new(alloc);
+    push_shape(&mut text, &shape)?;
+    assert_eq!(rt; text.as_str(), "(int * bool) list");
     Ok(())
 }
