@@ -11,7 +11,7 @@ use Rattle.base_poly.specs.declared.index.Index.TheOpen as o
 use Rattle.base_poly.specs.declared.index.Index.TheVariants.{Unit as One, Pair, List as Items, rolls-Unit, rolls-Pair, rolls-List}
 use Rattle.base_poly.specs.declared.index.Index.TheFolds.{fold-roll-Index}
 
-as_unit : (x : Index) → x ≡ One → index_of x ≡ p.Unit'
+pub as_unit : (x : Index) → x ≡ One → index_of x ≡ p.Unit'
 as_unit x h = ap index_of h ∙ ap index_of (sym rolls-Unit) ∙ fold-roll-Index p.Plain index_step o.Unit
 
 as_pair : (x : Index) (a b : Box Index Global) → x ≡ Pair a b → index_of x ≡ p.Pair (index_of a.value) (index_of b.value)

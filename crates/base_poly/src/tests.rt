@@ -1,3 +1,9 @@
+ghost use Rattle.std.specs.Prelude.{◌≡◌, ◌≤◌, ◌+◌, IfOk};
+ghost use Rattle.raml_syntax.specs.Tree.{Integer, ListOf};
+ghost use Rattle.base_poly.specs.Plain.{deg};
+ghost use Rattle.base_poly.specs.Indices.{IsIndex};
+ghost use Rattle.base_poly.specs.Read.{index_of};
+
 use crate::{Index, IndexFault, Tuple, indices, multiply};
 use indexmap::IndexMap;
 use raml_syntax::Ty;
@@ -22,18 +28,26 @@ fn lists(alloc: Global, count: usize) -> Result<Vec<Ty>, AllocError> {
 }
 
 // The list index with as many units.
-fn units(alloc: Global, count: usize) -> Result<Index, AllocError> {
+fn units(alloc: Global, count: usize) -> Result<Index, AllocError>
+    requires { count ≤ 4 }
+    ensures { IfOk result (λ made. IsIndex (index_of made) (ListOf Integer) × (deg (index_of made) ≡ count)) }
+{
     let mut entries = Vec::new(alloc);
-    for _ in 0..count {
+    while entries.len() < count {
         entries.push(Index::Unit)?;
     }
-    Ok(Index::List(entries))
+    Ok(Tuple::new(entries).into_list())
 }
 
-fn of(alloc: Global, first: Index) -> Result<Index, AllocError> {
+// The list index with such a list index alone.
+fn list_of_units(alloc: Global, count: usize) -> Result<Index, AllocError>
+    requires { count ≤ 3 }
+    ensures { IfOk result (λ made. IsIndex (index_of made) (ListOf (ListOf Integer)) × (deg (index_of made) ≡ 1 + count)) }
+{
+    let first = units(alloc, count)?;
     let mut entries = Vec::new(alloc);
     entries.push(first)?;
-    Ok(Index::List(entries))
+    Ok(Tuple::new(entries).into_list())
 }
 
 #[cycle(write)]
@@ -138,34 +152,45 @@ fn product_of(alloc: Global, found: &mut IndexMap<Index, u64>) -> Result<String,
     Ok(out)
 }
 
+// The product of two list indices of units.
+fn product_of_lists(alloc: Global, left: usize, right: usize) -> Result<String, AllocError>
+    requires { (left ≤ 4) × (right ≤ 4) }
+{
+    let left = units(alloc, left)?;
+    let right = units(alloc, right)?;
+    product_of(alloc, &mut multiply(alloc, &left, &right)?)
+}
+
+// The product of two indices with such an entry alone.
+fn product_of_entries(alloc: Global, left: usize, right: usize) -> Result<String, AllocError>
+    requires { (left ≤ 3) × (right ≤ 3) }
+{
+    let left = list_of_units(alloc, left)?;
+    let right = list_of_units(alloc, right)?;
+    product_of(alloc, &mut multiply(alloc, &left, &right)?)
+}
+
 #[test]
-fn products_are_sums(rt: HostRuntime) -> Result<(), Fail> {
+fn products_of_lists_are_sums(rt: HostRuntime) -> Result<(), Fail> {
     let alloc = rt.alloc();
-    let cases = [
-        (units(alloc, 0)?, units(alloc, 3)?, "1 [_, _, _];"),
-        (units(alloc, 1)?, units(alloc, 1)?, "1 [_];2 [_, _];"),
-        (units(alloc, 1)?, units(alloc, 2)?, "2 [_, _];3 [_, _, _];"),
-        (
-            units(alloc, 2)?,
-            units(alloc, 2)?,
-            "1 [_, _];6 [_, _, _];6 [_, _, _, _];",
-        ),
-        (
-            of(alloc, units(alloc, 1)?)?,
-            of(alloc, units(alloc, 1)?)?,
-            "1 [[_]];2 [[_], [_]];2 [[_, _]];",
-        ),
-        (
-            of(alloc, units(alloc, 0)?)?,
-            of(alloc, units(alloc, 2)?)?,
-            "1 [[], [_, _]];1 [[_, _]];1 [[_, _], []];",
-        ),
-    ];
-    for (left, right, want) in &cases {
-        let mut found = multiply(alloc, left, right)?;
-        let text = product_of(alloc, &mut found)?;
-        assert_eq!(rt; text.as_str(), *want);
-    }
+    let none = product_of_lists(alloc, 0, 3)?;
+    assert_eq!(rt; none.as_str(), "1 [_, _, _];");
+    let one = product_of_lists(alloc, 1, 1)?;
+    assert_eq!(rt; one.as_str(), "1 [_];2 [_, _];");
+    let two = product_of_lists(alloc, 1, 2)?;
+    assert_eq!(rt; two.as_str(), "2 [_, _];3 [_, _, _];");
+    let four = product_of_lists(alloc, 2, 2)?;
+    assert_eq!(rt; four.as_str(), "1 [_, _];6 [_, _, _];6 [_, _, _, _];");
+    Ok(())
+}
+
+#[test]
+fn products_of_entries_are_sums(rt: HostRuntime) -> Result<(), Fail> {
+    let alloc = rt.alloc();
+    let one = product_of_entries(alloc, 1, 1)?;
+    assert_eq!(rt; one.as_str(), "1 [[_]];2 [[_], [_]];2 [[_, _]];");
+    let two = product_of_entries(alloc, 0, 2)?;
+    assert_eq!(rt; two.as_str(), "1 [[], [_, _]];1 [[_, _]];1 [[_, _], []];");
     Ok(())
 }
 
@@ -179,6 +204,5 @@ fn tuples_are_keys(rt: HostRuntime) -> Result<(), Fail> {
     places.insert(second.led_by(alloc, &Index::Unit)?, 2)?;
     assert_eq!(rt; places.get(&first).copied(), Some(1));
     assert_eq!(rt; places.get(&second).copied(), None);
-    assert_eq!(rt; first.degree(), 1);
     Ok(())
 }
