@@ -1,8 +1,6 @@
 // Types.
-ghost use Rattle.std.specs.Prelude.{◌≡◌, ◌↔◌, IsTrue, IfOk};
+ghost use Rattle.std.specs.Prelude.{◌≡◌, ◌↔◌, IsTrue};
 ghost use Rattle.raml_syntax.specs.Read.{ty_of};
-
-use std::alloc::{AllocError, Global};
 
 /// A type.
 #[derive(Drop)]
@@ -38,22 +36,6 @@ impl Ty {
                 Ty::Tree(item) => element.same(item),
                 Ty::Int | Ty::Bool | Ty::Pair(..) | Ty::List(_) => false,
             },
-        }
-    }
-
-    /// An equal type.
-    pub fn copy(&self, alloc: Global) -> Result<Ty, AllocError>
-        ensures { IfOk result (λ ty. ty_of ty ≡ ty_of self.now) }
-    {
-        match self {
-            Ty::Int => Ok(Ty::Int),
-            Ty::Bool => Ok(Ty::Bool),
-            Ty::Pair(first, second) => Ok(Ty::Pair(
-                Box::new(alloc, first.copy(alloc)?)?,
-                Box::new(alloc, second.copy(alloc)?)?,
-            )),
-            Ty::List(element) => Ok(Ty::List(Box::new(alloc, element.copy(alloc)?)?)),
-            Ty::Tree(element) => Ok(Ty::Tree(Box::new(alloc, element.copy(alloc)?)?)),
         }
     }
 }

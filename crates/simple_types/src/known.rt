@@ -20,6 +20,22 @@ pub enum Known<'a> {
     Tree(Rc<Known<'a>>),
 }
 
+/// A type of the program once more.
+fn copy_of(alloc: Global, ty: &Ty) -> Result<Ty, AllocError>
+    ensures { IfOk result (λ copy. ty_of copy ≡ ty_of ty.now) }
+{
+    match ty {
+        Ty::Int => Ok(Ty::Int),
+        Ty::Bool => Ok(Ty::Bool),
+        Ty::Pair(first, second) => Ok(Ty::Pair(
+            Box::new(alloc, copy_of(alloc, first)?)?,
+            Box::new(alloc, copy_of(alloc, second)?)?,
+        )),
+        Ty::List(element) => Ok(Ty::List(Box::new(alloc, copy_of(alloc, element)?)?)),
+        Ty::Tree(element) => Ok(Ty::Tree(Box::new(alloc, copy_of(alloc, element)?)?)),
+    }
+}
+
 /// Whether both types of the program are equal.
 fn equal(first: &Ty, second: &Ty) -> bool
     ensures { result ≡ same_type (ty_of first.now) (ty_of second.now) }
@@ -47,7 +63,7 @@ impl<'a> Known<'a> {
         ensures { IfOk result (λ ty. ty_of ty ≡ known_of self.now) }
     {
         match self {
-            Known::Given(ty) => ty.copy(alloc),
+            Known::Given(ty) => copy_of(alloc, *ty),
             Known::Int => Ok(Ty::Int),
             Known::Bool => Ok(Ty::Bool),
             Known::Pair(first, second) => Ok(Ty::Pair(
