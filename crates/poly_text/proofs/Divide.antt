@@ -1,5 +1,5 @@
 -- The greatest common divisor by remainders.
-use Rattle.std.proofs.Common.{◌≡◌, ℕ, zero, suc, ◌%◌, ◌<◌, ◌≤◌, ◌/◌, ◌++◌, codes, decimal, ap, ◌∙◌, sym, [], Bool, true, false, cond, ◌==◌, refl, arith, mod-lt, append-nil}
+use Rattle.std.proofs.Common.{◌≡◌, ℕ, zero, suc, ◌%◌, ◌<◌, ◌/◌, ◌++◌, codes, decimal, ap, ◌∙◌, sym, [], Bool, true, false, cond, ◌==◌, refl, arith, mod-lt, append-nil}
 use Rattle.std.specs.Int.{IsGcd}
 use Rattle.std.proofs.lemmas.Bool.{eqb-true, eqb-false}
 use Rattle.std.proofs.lemmas.Nat.Gcd.{IsGcd-from_zero, IsGcd-from_mod, same_from_IsGcd}

@@ -1,2 +1,3 @@
 pub mod Divide
 pub mod Ordered
+pub mod Sampled

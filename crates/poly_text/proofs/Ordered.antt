@@ -1,5 +1,5 @@
 -- Terms after they are sorted.
-use Rattle.std.proofs.Common.{◌≡◌, ℕ, ◌+◌, ◌<◌, ◌≤◌, List, [], ◌∷◌, ◌++◌, map, length, codes, refl, ◌∙◌, arith}
+use Rattle.std.proofs.Common.{◌≡◌, ◌+◌, List, [], ◌∷◌, ◌++◌, codes, refl, ◌∙◌, arith}
 use Rattle.std.specs.Ordering.{on, is_lt}
 use Rattle.std.specs.List.Sorted.{IsSorted, IsSortedByKey}
 use Rattle.std.proofs.lemmas.List.{get_or-map, length-map}

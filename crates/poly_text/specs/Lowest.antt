@@ -1,5 +1,5 @@
 -- Quotients in lowest terms.
-use Rattle.std.specs.Prelude.{◌≡◌, ℕ, zero, suc, ◌*◌, ◌/◌, ◌%◌, ◌<◌, cond, ◌==◌}
+use Rattle.std.specs.Prelude.{ℕ, zero, suc, ◌%◌, cond, ◌==◌}
 use Rattle.std.specs.Int.{IsGcd}
 
 -- the greatest common divisor of a and b, by so many remainders at most

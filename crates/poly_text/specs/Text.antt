@@ -1,5 +1,5 @@
 -- The text of indices and of polynomials.
-use Rattle.std.specs.Prelude.{◌≡◌, ℕ, ◌/◌, cond, ◌==◌, not, List, [], ◌∷◌, ◌++◌, map, filter, codes, decimal, IsSortedByKey, IsPermutation}
+use Rattle.std.specs.Prelude.{◌≡◌, ℕ, ◌/◌, cond, ◌==◌, not, List, [], ◌∷◌, ◌++◌, filter, codes, decimal, IsSortedByKey, IsPermutation}
 use Rattle.raml_syntax.specs.Tree.{Text}
 use Rattle.base_poly.specs.Plain.{Plain, Unit', Pair, End, Then, many, degrees}
 use Rattle.base_poly.specs.Indices.{tuple_order}

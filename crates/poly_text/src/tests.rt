@@ -1,76 +1,103 @@
+ghost use Rattle.std.specs.Prelude.{◌≡◌, ◌≤◌, ◌<◌, ◌+◌, ◌<ℤ◌, ◌^◌, pos, IfOk, OnOk};
+ghost use Rattle.base_poly.specs.Plain.{deg, degrees};
+ghost use Rattle.base_poly.specs.Read.{index_of};
+ghost use Rattle.poly_text.specs.Read.{AreTerms};
+
 use crate::print;
 use base_poly::{Index, Poly, Tuple};
 use std::alloc::{AllocError, Global};
 use std::test::Fail;
 
-// The list index with as many units.
-fn units(alloc: Global, count: usize) -> Result<Index, AllocError> {
-    let mut entries = Vec::new(alloc);
-    for _ in 0..count {
-        entries.push(Index::Unit)?;
-    }
-    Ok(Index::List(entries))
+// The tuple of the empty list index.
+fn none(alloc: Global) -> Result<Tuple, AllocError>
+    ensures { IfOk result (λ made. degrees made ≡ 0) }
+{
+    let empty = Tuple::new(Vec::new(alloc)).into_list();
+    Tuple::new(Vec::new(alloc)).led_by(alloc, &empty)
 }
 
-fn one(alloc: Global, index: Index) -> Result<Tuple, AllocError> {
-    let mut parts = Vec::new(alloc);
-    parts.push(index)?;
-    Ok(Tuple::new(parts))
+// The tuple of the list index with a unit alone.
+fn one(alloc: Global) -> Result<Tuple, AllocError>
+    ensures { IfOk result (λ made. degrees made ≡ 1) }
+{
+    let entry = Tuple::new(Vec::new(alloc))
+        .led_by(alloc, &Index::Unit)?
+        .into_list();
+    Tuple::new(Vec::new(alloc)).led_by(alloc, &entry)
 }
 
-fn two(alloc: Global, first: Index, second: Index) -> Result<Tuple, AllocError> {
-    let mut parts = Vec::new(alloc);
-    parts.push(first)?;
-    parts.push(second)?;
-    Ok(Tuple::new(parts))
+// The tuple of the list index with two units.
+fn two(alloc: Global) -> Result<Tuple, AllocError>
+    ensures { IfOk result (λ made. degrees made ≡ 2) }
+{
+    let entry = Tuple::new(Vec::new(alloc))
+        .led_by(alloc, &Index::Unit)?
+        .led_by(alloc, &Index::Unit)?
+        .into_list();
+    Tuple::new(Vec::new(alloc)).led_by(alloc, &entry)
 }
 
-// A pair of a list of two lists and a unit.
-fn nested(alloc: Global) -> Result<Index, AllocError> {
-    let mut entries = Vec::new(alloc);
-    entries.push(units(alloc, 1)?)?;
-    entries.push(units(alloc, 0)?)?;
-    Ok(Index::Pair(
-        Box::new(alloc, Index::List(entries))?,
-        Box::new(alloc, Index::Unit)?,
-    ))
+// The tuple with a pair of both a list and a unit before the others.
+fn paired(alloc: Global, tuple: Tuple) -> Result<Tuple, AllocError>
+    requires { degrees tuple ≤ 8 }
+    ensures { IfOk result (λ made. degrees made ≤ 9) }
+{
+    let entry = Tuple::new(Vec::new(alloc))
+        .led_by(alloc, &Index::Unit)?
+        .into_list();
+    let pair = Index::Pair(Box::new(alloc, entry)?, Box::new(alloc, Index::Unit)?);
+    tuple.led_by(alloc, &pair)
 }
 
-fn of_one_list(alloc: Global, terms: &[(usize, i128)]) -> Result<Vec<(Tuple, i128)>, AllocError> {
-    let mut made = Vec::new(alloc);
-    for (count, number) in terms {
-        made.push((one(alloc, units(alloc, *count)?)?, *number))?;
-    }
-    Ok(made)
+fn add(terms: &mut Vec<(Tuple, i128)>, tuple: Tuple, number: u32) -> Result<(), AllocError>
+    requires before { AreTerms terms.old.items }
+    requires low { degrees tuple < 2 ^ 32 }
+    ensures { OnOk result (AreTerms terms.new.items) }
+{
+    terms.push((tuple, i128::from(number)))?;
+    Ok(())
+}
+
+fn text_of(alloc: Global, den: i128, terms: Vec<(Tuple, i128)>) -> Result<String, AllocError>
+    requires positive { pos 0 <ℤ den }
+    requires terms { AreTerms terms.items }
+{
+    print(alloc, &Poly { den, terms })
+}
+
+// The text of three terms, given in another order than theirs.
+fn of_three(alloc: Global, den: i128, numbers: [u32; 3]) -> Result<String, AllocError>
+    requires { pos 0 <ℤ den }
+{
+    let mut terms = Vec::new(alloc);
+    add(&mut terms, two(alloc)?, numbers[2])?;
+    add(&mut terms, none(alloc)?, numbers[0])?;
+    add(&mut terms, one(alloc)?, numbers[1])?;
+    text_of(alloc, den, terms)
 }
 
 #[test]
-fn bounds_are_written(rt: HostRuntime) -> Result<(), Fail> {
+fn sums_are_in_order(rt: HostRuntime) -> Result<(), Fail> {
     let alloc = rt.alloc();
-    let mut constant = Vec::new(alloc);
-    constant.push((one(alloc, Index::Unit)?, 3))?;
-    let mut append = Vec::new(alloc);
-    append.push((two(alloc, units(alloc, 0)?, units(alloc, 2)?)?, 0))?;
-    append.push((two(alloc, units(alloc, 1)?, units(alloc, 0)?)?, 1))?;
-    let mut deep = Vec::new(alloc);
-    deep.push((two(alloc, nested(alloc)?, units(alloc, 1)?)?, 4))?;
-    deep.push((two(alloc, units(alloc, 0)?, Index::Unit)?, 6))?;
-    let cases = [
-        (1, constant, "3"),
-        (1, Vec::new(alloc), "0"),
-        (1, append, "1*<[_], []>"),
-        (
-            1,
-            of_one_list(alloc, &[(2, 3), (0, 0), (1, 2)])?,
-            "2*<[_]> + 3*<[_, _]>",
-        ),
-        (2, of_one_list(alloc, &[(1, 1)])?, "1/2*<[_]>"),
-        (4, of_one_list(alloc, &[(1, 8), (0, 6)])?, "3/2 + 2*<[_]>"),
-        (6, deep, "1 + 2/3*<([[_], []], _), [_]>"),
-    ];
-    for (den, terms, want) in cases {
-        let text = print(alloc, &Poly { den, terms })?;
-        assert_eq!(rt; text.as_str(), want);
-    }
+    let constant = of_three(alloc, 1, [3, 0, 0])?;
+    assert_eq!(rt; constant.as_str(), "3");
+    let nothing = of_three(alloc, 7, [0, 0, 0])?;
+    assert_eq!(rt; nothing.as_str(), "0");
+    let sorting = of_three(alloc, 1, [0, 2, 3])?;
+    assert_eq!(rt; sorting.as_str(), "2*<[_]> + 3*<[_, _]>");
+    let half = of_three(alloc, 2, [0, 1, 0])?;
+    assert_eq!(rt; half.as_str(), "1/2*<[_]>");
+    let mixed = of_three(alloc, 4, [6, 8, 1])?;
+    assert_eq!(rt; mixed.as_str(), "3/2 + 2*<[_]> + 1/4*<[_, _]>");
+    Ok(())
+}
+
+#[test]
+fn components_are_in_order(rt: HostRuntime) -> Result<(), Fail> {
+    let alloc = rt.alloc();
+    let mut terms = Vec::new(alloc);
+    add(&mut terms, paired(alloc, two(alloc)?)?, 1)?;
+    let text = text_of(alloc, 1, terms)?;
+    assert_eq!(rt; text.as_str(), "1*<([_], _), [_, _]>");
     Ok(())
 }

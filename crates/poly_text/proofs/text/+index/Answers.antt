@@ -1,4 +1,4 @@
-use Rattle.std.proofs.Common.{◌≡◌, arith}
+use Rattle.std.proofs.Common.{arith}
 use Rattle.std.proofs.lemmas.Grind.{common_steps}
 use Rattle.base_poly.specs.Read.{plains_of}
 use Rattle.poly_text.proofs.Ordered.{bracketed}
