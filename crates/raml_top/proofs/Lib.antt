@@ -2,5 +2,5 @@ mod Worded
 mod Decided
 mod Bounded
 mod Forcing
-mod Sourced
+mod Pieced
 mod Stepped

@@ -1,12 +1,13 @@
 -- The programs that are analysed, and their bounds.
-use Rattle.std.specs.Prelude.{◌≡◌, ◌≤◌, ℕ, List, [], ◌∷◌, length, ◌+◌, max}
+use Rattle.std.specs.Prelude.{◌≡◌, ◌≤◌, ℕ, suc, List, [], ◌∷◌, length, ◌+◌, max}
 use Rattle.std.specs.List.{All}
 use Rattle.raml_syntax.specs.Tree as t
 use Rattle.raml_syntax.specs.Tree.{Type', Integer, Boolean, Bound, Parameter, Function, Prog}
 use Rattle.raml_syntax.specs.Value.{Value, HaveTypes}
 use Rattle.raml_syntax.specs.Eval.{run_of}
 use Rattle.raml_syntax.specs.Types.{types_of, Typed}
-use Rattle.raml_parse.specs.Spelling.{Spells}
+use Rattle.raml_parse.specs.Spelling.{Spells, FirstFault}
+use Rattle.raml_parse.specs.declared.fault.ParseFault.{ParseFault}
 
 -- an integer or a truth
 abbrev pub IsScalar : Type' → Type 0
@@ -45,9 +46,20 @@ pub record IsSource (source : List ℕ) (P : Prog) (fun : Function) : Type 0 whe
   pub typed : Typed P
   pub fragment : IsOnly P fun
 
--- the source is too long, or spells no typed program of one straight function
-abbrev pub IsNoSource : List ℕ → Type 0
-IsNoSource source = (P : Prog) (fun : Function) → ¬ (IsSource source P fun)
+-- the source spells a program that is no typed program of one straight function
+pub record IsOther (source : List ℕ) : Type 0 where
+  pub short : length source ≤ most_bytes
+  pub program : Prog
+  pub spelled : Spells source program
+  pub other : (fun : Function) → IsOnly program fun → ¬ (Typed program)
+
+-- the source spells no program, and this is its first fault
+pub record IsFaulty (source : List ℕ) (fault : ParseFault) : Type 0 where
+  pub short : length source ≤ most_bytes
+  pub first : FirstFault source fault
+
+abbrev pub IsTooLong : List ℕ → Type 0
+IsTooLong source = suc most_bytes ≤ length source
 
 -- The most ticks of a straight expression: those of all its parts, of two branches the greater.
 abbrev pub most : t.Term → ℕ

@@ -2,5 +2,6 @@ pub mod Words
 pub mod Asked
 pub mod Fragment
 pub mod Tested
+pub mod Joined
 pub mod Report
 pub mod Promise

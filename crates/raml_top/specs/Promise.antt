@@ -7,12 +7,12 @@ use Rattle.raml_io.specs.Written.{grown, GrewByFront}
 use Rattle.raml_parse.specs.declared.fault.ParseFault.{ParseFault}
 use Rattle.raml_parse.specs.declared.fault.ParseFault.TheVariants as p
 use Rattle.raml_top.specs.Words.{Analyse, Asks, AsksNothing}
-use Rattle.raml_top.specs.Fragment.{IsSource, IsNoSource, most_bytes, most, BoundsRuns}
+use Rattle.raml_top.specs.Fragment.{IsSource, IsTooLong, IsFaulty, IsOther, most_bytes, most, BoundsRuns}
 use Rattle.raml_top.specs.Report.{bound_lines, line_of}
 use Rattle.raml_top.specs.declared.status.Status.{Status}
-use Rattle.raml_top.specs.declared.status.Status.TheVariants.{Done, Usage, ReadFault, Source, WriteFault, NoMemory}
+use Rattle.raml_top.specs.declared.status.Status.TheVariants.{Done, Usage, ReadFault, TooLong, Source, WriteFault, NoMemory}
 use Rattle.raml_top.specs.declared.status.Which.TheVariants.{Program}
-use Rattle.raml_top.specs.declared.status.SourceFault.TheVariants.{NotInFragment}
+use Rattle.raml_top.specs.declared.status.SourceFault.TheVariants.{Parse, NotInFragment}
 
 -- The headline: the source spells a program, the text is the two lines of its function, and the bounds in them hold of every run.
 pub record Analysis (source text : List ℕ) : Type 0 where
@@ -52,17 +52,15 @@ pub record IsRead (holds : Option Files) (file source : List ℕ) : Type 0 where
   pub few : length source ≤ suc most_bytes
   pub front : IfSome holds (λ files. IsFront files file (suc most_bytes) source)
 
--- the text is the report on the bytes that were read of the file
-pub record ReportsFile (holds : Option Files) (file text : List ℕ) : Type 0 where
+-- of the bytes that were read of the file Q holds
+pub record ReadOf (holds : Option Files) (file : List ℕ) (Q : List ℕ → Type 0) : Type 0 where
   pub source : List ℕ
   pub read : IsRead holds file source
-  pub analysis : Analysis source text
+  pub is : Q source
 
--- the bytes that were read of the file are no source
-pub record HoldsNoSource (holds : Option Files) (file : List ℕ) : Type 0 where
-  pub source : List ℕ
-  pub read : IsRead holds file source
-  pub none : IsNoSource source
+-- the text is the report on the bytes that were read of the file
+abbrev pub ReportsFile : Option Files → List ℕ → List ℕ → Type 0
+ReportsFile holds file text = ReadOf holds file (λ source. Analysis source text)
 
 -- the words ask for the analysis of a file, of which Q holds
 pub record AskedOf (words : List Text) (Q : Text → Type 0) : Type 0 where
@@ -75,31 +73,30 @@ pub record AskedOf (words : List Text) (Q : Text → Type 0) : Type 0 where
 abbrev pub Reports : Outside → List ℕ → Type 0
 Reports o text = AskedOf o.words (λ file. ReportsFile o.holds file text)
 
--- why there is no report: the words ask for none, or the store's count rose for the file that they name, or the bytes that were read of
--- it are no source
-abbrev pub Refused : Outside → Status → Type 0
-Refused o Usage = AsksNothing o.words
-Refused o (ReadFault Program) = AskedOf o.words (λ file. Rises (o.reads file))
-Refused o (Source NotInFragment) = AskedOf o.words (HoldsNoSource o.holds)
-Refused o NoMemory = Unit {0}
-Refused o _ = ⊥
-
--- The same of a file, and of a source.
-abbrev pub FileRefused : Option Files → (Text → ℕ) → (Text → ℕ) → Text → Status → Type 0
-FileRefused holds before after file (ReadFault Program) = Rose (before file) (after file)
-FileRefused holds before after file (Source NotInFragment) = HoldsNoSource holds file
-FileRefused holds before after file NoMemory = Unit {0}
-FileRefused holds before after file _ = ⊥
-
+-- why there is no report on a source: it has too many bytes, or a first fault, or spells a program of another kind
 abbrev pub SourceRefused : List ℕ → Status → Type 0
-SourceRefused source (Source NotInFragment) = IsNoSource source
+SourceRefused source (TooLong Program) = IsTooLong source
+SourceRefused source (Source (Parse fault)) = IsFaulty source fault
+SourceRefused source (Source NotInFragment) = IsOther source
 SourceRefused source NoMemory = Unit {0}
 SourceRefused source _ = ⊥
+
+-- why there is none on a file: the store's count rose for it, or the bytes that were read of it are refused
+abbrev pub FileRefused : Option Files → Count → Text → Status → Type 0
+FileRefused holds reads file (ReadFault Program) = Rises reads
+FileRefused holds reads file NoMemory = Unit {0}
+FileRefused holds reads file status = ReadOf holds file (λ source. SourceRefused source status)
+
+-- why there is none at all: the words ask for none, or it is refused of the file that they name
+abbrev pub Refused : Outside → Status → Type 0
+Refused o Usage = AsksNothing o.words
+Refused o NoMemory = Unit {0}
+Refused o status = AskedOf o.words (λ file. FileRefused o.holds (o.reads file) file status)
 
 -- what a fault of the parser is here
 abbrev pub refusal_of : ParseFault → Status
 refusal_of p.NoMemory = NoMemory
-refusal_of _ = Source NotInFragment
+refusal_of fault = Source (Parse fault)
 
 -- why the call ends so, and what out has gained: the report, or a front of it where out's count rose, or nothing
 abbrev pub Cause : Outside → Option (List ℕ) → Option (List ℕ) → Status → Type 0
@@ -123,7 +120,9 @@ pub record Told (o : Outside) (file : Text) (content : Option (List ℕ)) : Type
 pub record Forced (o : Outside) (status : Status) : Type 0 where
   pub usage : AsksNothing o.words → EndsBy Usage status
   pub missing : (file : Text) → Told o file None → EndsBy (ReadFault Program) status
-  pub no_source : (file content : List ℕ) → Told o file (Some content) → ¬ (Rises (o.reads file)) → IsNoSource content → EndsBy (Source NotInFragment) status
+  pub too_long : (file content : List ℕ) → Told o file (Some content) → ¬ (Rises (o.reads file)) → IsTooLong content → EndsBy (TooLong Program) status
+  pub faulty : (file content : List ℕ) (fault : ParseFault) → Told o file (Some content) → ¬ (Rises (o.reads file)) → IsFaulty content fault → EndsBy (Source (Parse fault)) status
+  pub other : (file content : List ℕ) → Told o file (Some content) → ¬ (Rises (o.reads file)) → IsOther content → EndsBy (Source NotInFragment) status
   pub done : (file content : List ℕ) (P : Prog) (fun : Function) → Told o file (Some content) → ¬ (Rises (o.reads file)) → IsSource content P fun → ¬ (Rises o.writes) → EndsBy Done status
 
 -- the line is written, or a front of it where the count rose

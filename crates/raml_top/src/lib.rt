@@ -2,6 +2,7 @@
 #![tactic(auto)]
 
 mod fragment;
+mod line;
 mod report;
 mod request;
 mod status;

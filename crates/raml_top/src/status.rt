@@ -1,6 +1,11 @@
 // How a call ends.
 ghost use Rattle.std.specs.Prelude.{◌≡◌};
-ghost use Rattle.raml_top.specs.Report.{code_of, line_of};
+ghost use Rattle.raml_top.specs.Report.{code_of, line_of, IsPlain};
+ghost use Rattle.raml_top.specs.Promise.{refusal_of};
+ghost use Rattle.raml_top.specs.declared.status.Status.TheVariants.{NoMemory};
+
+use raml_parse::ParseFault;
+use std::alloc::AllocError;
 
 /// A file that a call reads.
 #[derive(Clone, Copy, Debug, PartialEq, Eq)]
@@ -11,7 +16,9 @@ pub enum Which {
 /// Why a source is not analysed.
 #[derive(Clone, Copy, Debug, PartialEq, Eq)]
 pub enum SourceFault {
-    /// It is too long, or spells no typed program that is analysed in this stage.
+    /// It spells no program: its first fault, which is never want of memory.
+    Parse(ParseFault),
+    /// It spells a program, but no typed one that is analysed in this stage.
     NotInFragment,
 }
 
@@ -24,6 +31,8 @@ pub enum Status {
     Usage,
     /// The store failed to read the file.
     ReadFault { which: Which },
+    /// The file has too many bytes.
+    TooLong { which: Which },
     /// The source is refused.
     Source(SourceFault),
     /// A front of the report is written: the rest was refused.
@@ -41,6 +50,7 @@ impl Status {
             Status::Done => 0,
             Status::Usage => 1,
             Status::ReadFault { .. } => 2,
+            Status::TooLong { .. } => 3,
             Status::Source(_) => 4,
             Status::WriteFault => 12,
             Status::NoMemory => 70,
@@ -48,18 +58,42 @@ impl Status {
     }
 
     /// The line that tells it on the error stream, with its line feed; empty where a report was written.
-    pub(crate) fn line(&self) -> &'static str
+    /// A fault of the text has a number in its line, and none here.
+    pub(crate) fn plain_line(&self) -> &'static str
+        requires { IsPlain self.now }
         ensures { result.now ≡ line_of self.now }
     {
         match self {
-            Status::Done => "",
+            Status::Done | Status::Source(SourceFault::Parse(_)) => "",
             Status::Usage => "raml: usage\n",
             Status::ReadFault {
                 which: Which::Program,
             } => "raml: cannot read program\n",
+            Status::TooLong {
+                which: Which::Program,
+            } => "raml: too long: program\n",
             Status::Source(SourceFault::NotInFragment) => "raml: source: not in this stage\n",
             Status::WriteFault => "raml: write failed\n",
             Status::NoMemory => "raml: out of memory\n",
         }
+    }
+}
+
+impl From<ParseFault> for Status {
+    ghost from_gives = { λ fault status. status ≡ refusal_of fault };
+
+    fn from(fault: ParseFault) -> Status {
+        match fault {
+            ParseFault::NoMemory => Status::NoMemory,
+            fault => Status::Source(SourceFault::Parse(fault)),
+        }
+    }
+}
+
+impl From<AllocError> for Status {
+    ghost from_gives = { λ _ status. status ≡ NoMemory };
+
+    fn from(_error: AllocError) -> Status {
+        Status::NoMemory
     }
 }

@@ -2,15 +2,15 @@
 ghost use Rattle.std.specs.Prelude.{◌≡◌, ◌≤◌, ℕ, List, string_bytes, IfOk, IfErr};
 ghost use Rattle.raml_syntax.specs.Tree.{Text};
 ghost use Rattle.raml_top.specs.Words.{texts};
-ghost use Rattle.raml_top.specs.Report.{line_of};
-ghost use Rattle.raml_top.specs.Promise.{Analysis, outside, ReportsFile, Reports, Refused, SourceRefused, FileRefused, Cause, Forced, Gains, ErrGains, refusal_of};
+ghost use Rattle.raml_top.specs.Promise.{Analysis, outside, ReportsFile, Reports, Refused, SourceRefused, FileRefused, Cause, Forced, ErrGains};
 
 use crate::fragment::{most_ticks, only_function};
+use crate::line::tell;
 use crate::report::bound_lines;
 use crate::request::{Request, read_words};
 use crate::status::{SourceFault, Status, Which};
 use raml_io::{Sink, Store, StoreFault, put_all};
-use raml_parse::{ParseFault, parse};
+use raml_parse::parse;
 use std::alloc::Global;
 
 /// The limit of a source, in bytes.
@@ -63,14 +63,6 @@ fn answer<S: Store, O: Sink>(alloc: Global, words: &[&str], store: &mut S, out: 
     }
 }
 
-// Writes the line of the status to `err`, as far as that takes it.
-fn tell<E: Sink>(err: &mut E, status: Status)
-    ensures gains { Gains (line_of status) (record { before = E.faults err.old; after = E.faults err.new }) (E.written err.old) (E.written err.new) }
-    ensures later { E.faults err.old ≤ E.faults err.new }
-{
-    let _ = put_all(err, status.line().as_bytes());
-}
-
 // The report that the words ask for.
 fn report_on<S: Store>(alloc: Global, words: &[&str], store: &mut S) -> Result<String, Status>
     ensures ok { (a b : ℕ) → IfOk result (λ text. Reports (outside (texts words.now) (S.holds store.old) (S.faults store.old) (S.faults store.new) a b) (string_bytes text)) }
@@ -87,7 +79,7 @@ fn report_on<S: Store>(alloc: Global, words: &[&str], store: &mut S) -> Result<S
 // The report on the bytes of a file.
 fn report_on_file<S: Store>(alloc: Global, store: &mut S, file: &str) -> Result<String, Status>
     ensures ok { IfOk result (λ text. ReportsFile (S.holds store.old) file.now (string_bytes text)) }
-    ensures err { IfErr result (FileRefused (S.holds store.old) (S.faults store.old) (S.faults store.new) file.now) }
+    ensures err { IfErr result (FileRefused (S.holds store.old) (record { before = S.faults store.old file.now; after = S.faults store.new file.now }) file.now) }
     ensures kept { S.holds store.new ≡ S.holds store.old }
     ensures later { (name : Text) → S.faults store.old name ≤ S.faults store.new name }
 {
@@ -106,27 +98,14 @@ fn report_on_source(alloc: Global, source: &[u8]) -> Result<String, Status>
     ensures err { IfErr result (SourceRefused source.now) }
 {
     if source.len() as u64 > MOST_BYTES {
-        return Err(Status::Source(SourceFault::NotInFragment));
+        return Err(Status::TooLong {
+            which: Which::Program,
+        });
     }
-    let program = match parse(alloc, source) {
-        Ok(program) => program,
-        Err(fault) => return Err(refusal(fault)),
-    };
+    let program = parse(alloc, source)?;
     let Some(fun) = only_function(&program) else {
         return Err(Status::Source(SourceFault::NotInFragment));
     };
-    match bound_lines(alloc, fun.name.text(), most_ticks(&fun.body), 0) {
-        Ok(text) => Ok(text),
-        Err(_) => Err(Status::NoMemory),
-    }
-}
-
-// How a call ends where the source is no program.
-fn refusal(fault: ParseFault) -> Status
-    ensures { result ≡ refusal_of fault }
-{
-    match fault {
-        ParseFault::NoMemory => Status::NoMemory,
-        _ => Status::Source(SourceFault::NotInFragment),
-    }
+    let text = bound_lines(alloc, fun.name.text(), most_ticks(&fun.body), 0)?;
+    Ok(text)
 }
