@@ -1,14 +1,14 @@
 -- The most ticks of a straight body bound each of its runs.
-use Rattle.std.proofs.Common.{◌≡◌, ◌≤◌, ◌+◌, max, ℕ, true, List, [], ◌∷◌, length, Option, Some, None, ap, ◌∙◌, arith}
+use Rattle.std.proofs.Common.{◌≡◌, ◌≤◌, ◌+◌, max, ℕ, true, List, [], ◌∷◌, Option, Some, None, sym, ap, subst, ◌∙◌, arith}
+use Rattle.std.specs.Prelude.{Result, Ok, Err, IfOk, IfErr, IsErrAnd}
 use Rattle.raml_syntax.specs.Tree as t
-use Rattle.raml_syntax.specs.Tree.{Bound, Function, Prog}
+use Rattle.raml_syntax.specs.Tree.{Text, Bound, Function, Prog}
 use Rattle.raml_syntax.specs.Value.{Value, Truth}
 use Rattle.raml_syntax.specs.Eval.{Run, costs, goes_on, and_then, node, done, branch, Env, Calls, walk, calls_at, names_of, bind_all}
-use Rattle.raml_syntax.specs.Types.{Typed}
-use Rattle.raml_parse.specs.Spelling.{Spells}
-use Rattle.raml_top.specs.Fragment.{IsStraight, IsOnly, most_bytes, most, BoundsRuns}
+use Rattle.raml_top.specs.Fragment.{IsStraight, IsOnly, IsTyped, most, BoundsRuns}
 use Rattle.raml_top.specs.Report.{bound_lines}
-use Rattle.raml_top.specs.Promise.{Analysis}
+use Rattle.raml_top.specs.Promise.{Analysis, ReportsBounds, ReportsSource}
+use Rattle.raml_top.specs.Words.{Request, Analyse}
 
 -- at most so many ticks, and no cell
 record Within {A : Type 0} (ticks : ℕ) (r : Run A) : Type 0 where
@@ -57,11 +57,24 @@ pub straight_bounds : (P : Prog) (fun : Function) → IsStraight fun.body → Bo
 straight_bounds P fun h = λ args limit typed.
     let w = straight_within (calls_at P limit) fun.body (bind_all [] (names_of fun) args) h in (omega (arith, w.spent), omega (arith, w.taken))
 
-pub analysed : (source text : List ℕ) (P : Prog) (fun : Function) (ticks : ℕ) → length source ≤ most_bytes → Spells source P → IsOnly P fun → Typed P → ticks ≡ most fun.body → text ≡ bound_lines fun.name ticks 0 → Analysis source text
-analysed source text P fun ticks short spelled only typed is printed = record {
+pub analysed : (source text : List ℕ) (P : Prog) → IsTyped source P → ReportsBounds P text → Analysis source text
+analysed source text P typed b = record {
   program = P;
-  fun = fun;
-  is = record { short = short; spelled = spelled; typed = typed; fragment = only };
-  printed = printed ∙ ap (λ k. bound_lines fun.name k 0) is;
-  bounds = straight_bounds P fun only.body;
+  fun = b.fun;
+  is = record { typed = typed; fragment = b.fragment };
+  printed = b.printed;
+  bounds = straight_bounds P b.fun b.fragment.body;
 }
+
+pub bounds_printed : (P : Prog) (fun : Function) (text : List ℕ) (ticks : ℕ) → IsOnly P fun → ticks ≡ most fun.body → text ≡ bound_lines fun.name ticks 0 → ReportsBounds P text
+bounds_printed P fun text ticks only is printed = record { fun = fun; fragment = only; printed = printed ∙ ap (λ k. bound_lines fun.name k 0) is }
+
+-- what is told of the bounds of a program is the report that was asked for
+pub bounds_reported : (request : Request) (file : Text) (degree : ℕ) (source : List ℕ) (P Q : Prog) {T E : Type 0} (bytes : T → List ℕ) (r : Result T E) → request ≡ Analyse file degree → IsTyped source P → Q ≡ P → IfOk r (λ text. ReportsBounds Q (bytes text)) → IfOk r (λ text. ReportsSource request source (bytes text))
+bounds_reported request file degree source P Q bytes (Ok text) is typed same h = subst (λ a. ReportsSource a source (bytes text)) (sym is) (analysed source (bytes text) P typed (subst (λ R. ReportsBounds R (bytes text)) same h))
+bounds_reported request file degree source P Q bytes (Err e) is typed same h = tt
+
+-- an error that is handed on
+pub handed_on : {T E : Type 0} (r : Result T E) (e : E) (Q : E → Type 0) → IsErrAnd r (λ f. f ≡ e) → Q e → IfErr r Q
+handed_on (Ok x) e Q same h = tt
+handed_on (Err f) e Q same h = subst Q (sym same) h

@@ -2,5 +2,3 @@ mod Worded
 mod Decided
 mod Bounded
 mod Forcing
-mod Pieced
-mod Stepped

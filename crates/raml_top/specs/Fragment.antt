@@ -1,5 +1,5 @@
 -- The programs that are analysed, and their bounds.
-use Rattle.std.specs.Prelude.{◌≡◌, ◌≤◌, ℕ, suc, List, [], ◌∷◌, length, ◌+◌, max}
+use Rattle.std.specs.Prelude.{◌≡◌, ◌≤◌, ℕ, suc, List, [], ◌∷◌, length, ◌+◌, max, Err}
 use Rattle.std.specs.List.{All}
 use Rattle.raml_syntax.specs.Tree as t
 use Rattle.raml_syntax.specs.Tree.{Type', Integer, Boolean, Bound, Parameter, Function, Prog}
@@ -8,6 +8,8 @@ use Rattle.raml_syntax.specs.Eval.{run_of}
 use Rattle.raml_syntax.specs.Types.{types_of, Typed}
 use Rattle.raml_parse.specs.Spelling.{Spells, FirstFault}
 use Rattle.raml_parse.specs.declared.fault.ParseFault.{ParseFault}
+use Rattle.simple_types.specs.Fault.{Fault}
+use Rattle.simple_types.specs.Walk.{walk_program}
 
 -- an integer or a truth
 abbrev pub IsScalar : Type' → Type 0
@@ -39,19 +41,29 @@ pub record IsOnly (P : Prog) (fun : Function) : Type 0 where
 abbrev pub most_bytes : ℕ
 most_bytes = 1048576
 
--- the source spells a typed program, and this is its one function
-pub record IsSource (source : List ℕ) (P : Prog) (fun : Function) : Type 0 where
+-- the source spells this typed program
+pub record IsTyped (source : List ℕ) (P : Prog) : Type 0 where
   pub short : length source ≤ most_bytes
   pub spelled : Spells source P
   pub typed : Typed P
+
+-- the source spells a typed program, and this is its one function
+pub record IsSource (source : List ℕ) (P : Prog) (fun : Function) : Type 0 where
+  pub typed : IsTyped source P
   pub fragment : IsOnly P fun
 
--- the source spells a program that is no typed program of one straight function
+-- the source spells a typed program of another kind
 pub record IsOther (source : List ℕ) : Type 0 where
+  pub program : Prog
+  pub typed : IsTyped source program
+  pub other : (fun : Function) → ¬ (IsOnly program fun)
+
+-- the source spells a program, and this is the first fault of its types
+pub record IsUntyped (source : List ℕ) (fault : Fault) : Type 0 where
   pub short : length source ≤ most_bytes
   pub program : Prog
   pub spelled : Spells source program
-  pub other : (fun : Function) → IsOnly program fun → ¬ (Typed program)
+  pub first : walk_program program ≡ Err fault
 
 -- the source spells no program, and this is its first fault
 pub record IsFaulty (source : List ℕ) (fault : ParseFault) : Type 0 where

@@ -2,6 +2,5 @@ pub mod Words
 pub mod Asked
 pub mod Fragment
 pub mod Tested
-pub mod Joined
 pub mod Report
 pub mod Promise

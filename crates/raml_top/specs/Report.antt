@@ -1,14 +1,18 @@
 -- The texts that are printed.
-use Rattle.std.specs.Prelude.{ℕ, List, [], ◌∷◌, ◌++◌, codes, decimal}
-use Rattle.raml_syntax.specs.Tree.{Text}
+use Rattle.std.specs.Prelude.{ℕ, List, [], ◌∷◌, ◌++◌, Option, Some, None, codes, decimal}
+use Rattle.raml_syntax.specs.Tree.{Text, Type', Function, Prog}
+use Rattle.raml_syntax.specs.Types.{types_of}
 use Rattle.raml_lex.specs.declared.token.LexFault.TheVariants as l
 use Rattle.raml_parse.specs.declared.fault.ParseFault.{ParseFault}
 use Rattle.raml_parse.specs.declared.fault.ParseFault.TheVariants as p
-use Rattle.raml_top.specs.Joined.{joined}
+use Rattle.simple_types.specs.Fault.{Fault, Unknown, Twice, Wanted, NeedsType, Arity}
+use Rattle.simple_types.specs.Read.{fault_of}
+use Rattle.simple_types.specs.Text.{type_text, kind_text}
 use Rattle.raml_top.specs.declared.status.Status.{Status}
-use Rattle.raml_top.specs.declared.status.Status.TheVariants.{Done, Usage, ReadFault, TooLong, Source, WriteFault, NoMemory}
+use Rattle.raml_top.specs.declared.status.Status.TheVariants.{Done, Usage, ReadFault, TooLong, Source, WriteFault, NotBuilt, NoMemory}
 use Rattle.raml_top.specs.declared.status.Which.TheVariants.{Program}
-use Rattle.raml_top.specs.declared.status.SourceFault.TheVariants.{Parse, NotInFragment}
+use Rattle.raml_top.specs.declared.status.SourceFault.{SourceFault}
+use Rattle.raml_top.specs.declared.status.SourceFault.TheVariants.{Parse, «Type»}
 
 -- NAME METER <= BOUND
 abbrev pub bound_line : Text → Text → ℕ → Text
@@ -18,21 +22,55 @@ bound_line name meter bound = name ++ codes " " ++ meter ++ codes " <= " ++ deci
 abbrev pub bound_lines : Text → ℕ → ℕ → Text
 bound_lines name ticks cells = bound_line name (codes "ticks") ticks ++ bound_line name (codes "cells") cells
 
--- what is wrong with a text, and at which byte
-abbrev pub named : Text → ℕ → List Text
-named name at = codes "raml: source: " ∷ name ∷ codes " at " ∷ decimal at ∷ codes "\n" ∷ []
+-- T1, T2
+abbrev pub types_behind : List Type' → Text
+types_behind [] = []
+types_behind (A ∷ As) = codes ", " ++ type_text A ++ types_behind As
 
--- the parts of the line of a fault of the text; want of memory is none, and has no line
-abbrev pub fault_parts : ParseFault → List Text
-fault_parts (p.NotUtf8 at) = named (codes "not utf-8") at.0
-fault_parts (p.Lex (l.BadChar at)) = named (codes "bad character") at.0
-fault_parts (p.Lex (l.NumberTooWide at)) = named (codes "number too wide") at.0
-fault_parts (p.Lex (l.OpenComment at)) = named (codes "open comment") at.0
-fault_parts (p.Lex l.NoMemory) = []
-fault_parts (p.Syntax at) = named (codes "syntax") at.0
-fault_parts (p.TooDeep at) = named (codes "too deep") at.0
-fault_parts (p.TooMany at) = named (codes "too many") at.0
-fault_parts p.NoMemory = []
+abbrev pub types_text : List Type' → Text
+types_text [] = []
+types_text (A ∷ As) = type_text A ++ types_behind As
+
+-- NAME (T1, T2) : T
+abbrev pub type_line : Function → Text
+type_line g = g.name ++ codes " (" ++ types_text (types_of g) ++ codes ") : " ++ type_text g.result ++ codes "\n"
+
+-- the lines of the functions in order
+abbrev pub type_lines : Prog → Text
+type_lines [] = []
+type_lines (g ∷ P) = type_line g ++ type_lines P
+
+-- what is wrong, and at which byte
+abbrev pub placed : Text → ℕ → Text
+placed name at = name ++ codes " at " ++ decimal at
+
+-- the first fault of a text; want of memory is none
+abbrev pub parse_text : ParseFault → Text
+parse_text (p.NotUtf8 at) = placed (codes "not utf-8") at.0
+parse_text (p.Lex (l.BadChar at)) = placed (codes "bad character") at.0
+parse_text (p.Lex (l.NumberTooWide at)) = placed (codes "number too wide") at.0
+parse_text (p.Lex (l.OpenComment at)) = placed (codes "open comment") at.0
+parse_text (p.Lex l.NoMemory) = []
+parse_text (p.Syntax at) = placed (codes "syntax") at.0
+parse_text (p.TooDeep at) = placed (codes "too deep") at.0
+parse_text (p.TooMany at) = placed (codes "too many") at.0
+parse_text p.NoMemory = []
+
+-- the first fault of the types of a program; want of memory is none
+abbrev pub fault_text : Option Fault → Text
+fault_text (Some (Unknown at)) = placed (codes "unknown") at
+fault_text (Some (Twice at)) = placed (codes "twice") at
+fault_text (Some (Wanted at want got)) = placed (codes "wanted " ++ kind_text want ++ codes ", got " ++ kind_text got) at
+fault_text (Some (NeedsType at)) = placed (codes "needs a type") at
+fault_text (Some (Arity at want got)) = placed (codes "arity") at ++ codes ": wanted " ++ decimal want ++ codes ", got " ++ decimal got
+fault_text None = []
+
+abbrev pub source_text : SourceFault → Text
+source_text (Parse fault) = parse_text fault
+source_text («Type» fault) = fault_text (fault_of fault)
+
+abbrev pub source_line : SourceFault → Text
+source_line fault = codes "raml: source: " ++ source_text fault ++ codes "\n"
 
 -- the line on err; a report has none
 abbrev pub line_of : Status → Text
@@ -40,14 +78,14 @@ line_of Done = codes ""
 line_of Usage = codes "raml: usage\n"
 line_of (ReadFault Program) = codes "raml: cannot read program\n"
 line_of (TooLong Program) = codes "raml: too long: program\n"
-line_of (Source (Parse fault)) = joined (fault_parts fault)
-line_of (Source NotInFragment) = codes "raml: source: not in this stage\n"
+line_of (Source fault) = source_line fault
 line_of WriteFault = codes "raml: write failed\n"
+line_of NotBuilt = codes "raml: not built\n"
 line_of NoMemory = codes "raml: out of memory\n"
 
--- the line of the status has no number in it
+-- the line is the same each time
 abbrev pub IsPlain : Status → Type 0
-IsPlain (Source (Parse fault)) = ⊥
+IsPlain (Source fault) = ⊥
 IsPlain status = Unit {0}
 
 -- the number that the program ends with
@@ -58,4 +96,5 @@ code_of (ReadFault which) = 2
 code_of (TooLong which) = 3
 code_of (Source fault) = 4
 code_of WriteFault = 12
+code_of NotBuilt = 20
 code_of NoMemory = 70

@@ -8,8 +8,15 @@ abbrev pub texts : List (Bor (List ℕ)) → List Text
 texts = map (λ (word : Bor (List ℕ)). word.now)
 
 pub data Request : Type 0 where
+  -- the types of the functions of the program in a file
+  Types : Text → Request
   -- the bounds of the program in a file, by polynomials of a degree
   Analyse : Text → ℕ → Request
+
+-- the file that the program is read from
+abbrev pub file_of : Request → Text
+file_of (Types file) = file
+file_of (Analyse file degree) = file
 
 -- a number below 10 as one digit
 abbrev pub digit : ℕ → Text
@@ -17,6 +24,7 @@ digit n = (48 + n) ∷ []
 
 -- the words ask for this
 abbrev pub Asks : List Text → Request → Type 0
+Asks words (Types file) = words ≡ codes "types" ∷ file ∷ []
 Asks words (Analyse file degree) = (1 ≤ degree) × (degree ≤ 4) × (words ≡ codes "analyse" ∷ file ∷ codes "--degree" ∷ digit degree ∷ [])
 
 -- the words ask for nothing that there is

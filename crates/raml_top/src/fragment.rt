@@ -1,20 +1,18 @@
 // The programs that are analysed.
 ghost use Rattle.std.specs.Prelude.{◌≡◌, ◌≤◌, ◌^◌, ◌*◌, map, IfSome, IfNone};
 ghost use Rattle.raml_syntax.specs.Tree.{Function};
-ghost use Rattle.raml_syntax.specs.Read.{parameter_of, function_of, term_of, program_of};
+ghost use Rattle.raml_syntax.specs.Read.{ty_of, parameter_of, function_of, term_of, program_of};
 ghost use Rattle.raml_syntax.specs.Node.{AllNodes, TickFits, nodes};
-ghost use Rattle.raml_syntax.specs.Types.{Typed};
 ghost use Rattle.raml_top.specs.Fragment.{IsStraight, IsOnly, most};
-ghost use Rattle.raml_top.specs.Tested.{has_name, all_differ, passes};
+ghost use Rattle.raml_top.specs.Tested.{is_scalar, are_scalars, is_straight, passes};
 
-use crate::typing::{Scope, scalar_of, type_under};
-use raml_syntax::{Expr, Form, Fun, Name, Param, Program};
+use raml_syntax::{Expr, Form, Fun, Param, Program, Ty};
 
-/// The one function of a typed program, from scalars to a scalar and with a straight body; `None` for
-/// every other program.
+/// The one function of a program, from scalars to a scalar and with a straight body; `None` for every
+/// other program.
 pub fn only_function(program: &Program) -> Option<&Fun>
-    ensures some { IfSome result (λ fun. IsOnly (program_of program.now) (function_of fun.now) × Typed (program_of program.now)) }
-    ensures none { IfNone result ((fun : Function) → IsOnly (program_of program.now) fun → ¬ (Typed (program_of program.now))) }
+    ensures some { IfSome result (λ fun. IsOnly (program_of program.now) (function_of fun.now)) }
+    ensures none { IfNone result ((fun : Function) → ¬ (IsOnly (program_of program.now) fun)) }
 {
     let [fun] = program.funs.as_slice() else {
         return None;
@@ -25,32 +23,41 @@ pub fn only_function(program: &Program) -> Option<&Fun>
 fn passes(fun: &Fun) -> bool
     ensures { result ≡ passes (function_of fun.now) }
 {
-    let found = type_under(&fun.params, &fun.body, &Scope::Empty);
-    all_differ(&fun.params) && found.is_some() && found == scalar_of(&fun.result)
+    are_scalars(&fun.params) && is_scalar(&fun.result) && is_straight(&fun.body)
 }
 
-// Whether no two parameters have one name.
-fn all_differ(params: &[Param]) -> bool
-    ensures { result ≡ all_differ (map parameter_of params.now) }
+// Whether all parameters are integers or truths.
+fn are_scalars(params: &[Param]) -> bool
+    ensures { result ≡ are_scalars (map parameter_of params.now) }
 {
-    for (place, param) in params.iter().enumerate() {
-        if has_name(&param.name, &params[place + 1..]) {
+    for param in params {
+        if !is_scalar(&param.ty) {
             return false;
         }
     }
     true
 }
 
-// Whether a parameter has this name.
-fn has_name(name: &Name, params: &[Param]) -> bool
-    ensures { result ≡ has_name name.now (map parameter_of params.now) }
+// Whether a type is that of integers or of truths.
+fn is_scalar(ty: &Ty) -> bool
+    ensures { result ≡ is_scalar (ty_of ty.now) }
 {
-    for param in params {
-        if param.name.text() == name.text() {
-            return true;
+    matches!(ty, Ty::Int | Ty::Bool)
+}
+
+// Whether an expression has neither calls nor data structures nor annotations.
+fn is_straight(expr: &Expr) -> bool
+    ensures { result ≡ is_straight (term_of expr.now) }
+{
+    match &expr.form {
+        Form::Number(_) | Form::Truth(_) | Form::Var(_) => true,
+        Form::Arith(_, a, b) | Form::Compare(_, a, b) | Form::Let(_, a, b) => {
+            is_straight(a) && is_straight(b)
         }
+        Form::Not(a) | Form::Tick(_, a) => is_straight(a),
+        Form::If(condition, a, b) => is_straight(condition) && is_straight(a) && is_straight(b),
+        _ => false,
     }
-    false
 }
 
 /// The most ticks of a straight expression: those of all its parts, of two branches the greater.

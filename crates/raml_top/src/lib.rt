@@ -7,7 +7,6 @@ mod report;
 mod request;
 mod status;
 mod top;
-mod typing;
 
 pub use status::{SourceFault, Status, Which};
 pub use top::raml;

@@ -1,82 +1,103 @@
-// The line that tells a status on the error stream. It takes no memory.
-ghost use Rattle.std.specs.Prelude.{◌≡◌, ◌≤◌, OnOk, OnErr};
-ghost use Rattle.raml_io.specs.Faults.{Rose};
-ghost use Rattle.raml_io.specs.Written.{grown, GrewByFront};
-ghost use Rattle.raml_top.specs.Words.{texts};
-ghost use Rattle.raml_top.specs.Joined.{joined};
-ghost use Rattle.raml_top.specs.Report.{line_of, named, fault_parts};
-ghost use Rattle.raml_top.specs.Promise.{Gains};
+// The line that tells a status on the error stream.
+ghost use Rattle.std.specs.Prelude.{◌≡◌, ◌++◌, OnOk, IfOk, string_bytes, decimal};
+ghost use Rattle.simple_types.specs.Read.{fault_of};
+ghost use Rattle.raml_top.specs.Report.{line_of, source_line, placed, parse_text, fault_text, IsPlain};
 
-use crate::status::{SourceFault, Status};
+use crate::status::{SourceFault, Status, Which};
 use itoa::Buffer;
-use raml_io::{Sink, SinkFault, put_all};
 use raml_lex::LexFault;
 use raml_parse::ParseFault;
 use raml_syntax::Pos;
+use simple_types::{TypeFault, push_shape};
+use std::alloc::{AllocError, Global};
 
-/// Writes the line of the status to `err`, as far as that takes it.
-pub fn tell<E: Sink>(err: &mut E, status: Status)
-    ensures gains { Gains (line_of status) (record { before = E.faults err.old; after = E.faults err.new }) (E.written err.old) (E.written err.new) }
-    ensures later { E.faults err.old ≤ E.faults err.new }
-{
-    let _ = put_line(err, status);
-}
-
-// Writes the line of the status.
-fn put_line<E: Sink>(err: &mut E, status: Status) -> Result<(), SinkFault>
-    ensures ok { OnOk result (E.written err.new ≡ grown (E.written err.old) (line_of status)) }
-    ensures err { OnErr result (GrewByFront (E.written err.old) (E.written err.new) (line_of status)) }
-    ensures failed { OnErr result (Rose (E.faults err.old) (E.faults err.new)) }
-    ensures later { E.faults err.old ≤ E.faults err.new }
+/// The line of a status whose words are the same each time, with its line feed; empty where a report
+/// was written.
+pub fn plain_line(status: &Status) -> &'static str
+    requires { IsPlain status.now }
+    ensures { result.now ≡ line_of status.now }
 {
     match status {
-        Status::Source(SourceFault::Parse(fault)) => put_fault(err, fault),
-        _ => put_all(err, status.plain_line().as_bytes()),
+        Status::Done | Status::Source(_) => "",
+        Status::Usage => "raml: usage\n",
+        Status::ReadFault {
+            which: Which::Program,
+        } => "raml: cannot read program\n",
+        Status::TooLong {
+            which: Which::Program,
+        } => "raml: too long: program\n",
+        Status::WriteFault => "raml: write failed\n",
+        Status::NotBuilt => "raml: not built\n",
+        Status::NoMemory => "raml: out of memory\n",
     }
 }
 
-// Writes the line of a fault of the text.
-fn put_fault<E: Sink>(err: &mut E, fault: ParseFault) -> Result<(), SinkFault>
-    ensures ok { OnOk result (E.written err.new ≡ grown (E.written err.old) (joined (fault_parts fault))) }
-    ensures err { OnErr result (GrewByFront (E.written err.old) (E.written err.new) (joined (fault_parts fault))) }
-    ensures failed { OnErr result (Rose (E.faults err.old) (E.faults err.new)) }
-    ensures later { E.faults err.old ≤ E.faults err.new }
+/// The line of a source that is refused.
+pub fn source_line(alloc: Global, fault: &SourceFault) -> Result<String, AllocError>
+    ensures { IfOk result (λ line. string_bytes line ≡ source_line fault.now) }
+{
+    let mut line = String::from_str(alloc, "raml: source: ")?;
+    match fault {
+        SourceFault::Parse(fault) => push_parse_fault(&mut line, *fault)?,
+        SourceFault::Type(fault) => push_type_fault(&mut line, fault)?,
+    }
+    line.push_str("\n")?;
+    Ok(line)
+}
+
+// Appends the first fault of a text.
+fn push_parse_fault(line: &mut String, fault: ParseFault) -> Result<(), AllocError>
+    ensures { OnOk result (string_bytes line.new ≡ string_bytes line.old ++ parse_text fault) }
 {
     match fault {
-        ParseFault::NotUtf8 { at } => put_named(err, "not utf-8", at),
-        ParseFault::Lex(LexFault::BadChar { at }) => put_named(err, "bad character", at),
-        ParseFault::Lex(LexFault::NumberTooWide { at }) => put_named(err, "number too wide", at),
-        ParseFault::Lex(LexFault::OpenComment { at }) => put_named(err, "open comment", at),
-        ParseFault::Syntax { at } => put_named(err, "syntax", at),
-        ParseFault::TooDeep { at } => put_named(err, "too deep", at),
-        ParseFault::TooMany { at } => put_named(err, "too many", at),
-        ParseFault::Lex(LexFault::NoMemory) | ParseFault::NoMemory => put_pieces(err, &[]),
+        ParseFault::NotUtf8 { at } => push_placed(line, "not utf-8", at),
+        ParseFault::Lex(LexFault::BadChar { at }) => push_placed(line, "bad character", at),
+        ParseFault::Lex(LexFault::NumberTooWide { at }) => push_placed(line, "number too wide", at),
+        ParseFault::Lex(LexFault::OpenComment { at }) => push_placed(line, "open comment", at),
+        ParseFault::Syntax { at } => push_placed(line, "syntax", at),
+        ParseFault::TooDeep { at } => push_placed(line, "too deep", at),
+        ParseFault::TooMany { at } => push_placed(line, "too many", at),
+        ParseFault::Lex(LexFault::NoMemory) | ParseFault::NoMemory => Ok(()),
     }
 }
 
-// Writes what is wrong with the text, and at which byte.
-fn put_named<E: Sink>(err: &mut E, name: &str, at: Pos) -> Result<(), SinkFault>
-    ensures ok { OnOk result (E.written err.new ≡ grown (E.written err.old) (joined (named name.now at.0))) }
-    ensures err { OnErr result (GrewByFront (E.written err.old) (E.written err.new) (joined (named name.now at.0))) }
-    ensures failed { OnErr result (Rose (E.faults err.old) (E.faults err.new)) }
-    ensures later { E.faults err.old ≤ E.faults err.new }
+// Appends the first fault of the types of a program.
+fn push_type_fault(line: &mut String, fault: &TypeFault) -> Result<(), AllocError>
+    ensures { OnOk result (string_bytes line.new ≡ string_bytes line.old ++ fault_text (fault_of fault.now)) }
 {
-    let mut digits = Buffer::new();
-    put_pieces(
-        err,
-        &["raml: source: ", name, " at ", digits.format(at.0), "\n"],
-    )
+    match fault {
+        TypeFault::Unknown { at } => push_placed(line, "unknown", *at),
+        TypeFault::Twice { at } => push_placed(line, "twice", *at),
+        TypeFault::NeedsType { at } => push_placed(line, "needs a type", *at),
+        TypeFault::Wanted { at, want, got } => {
+            line.push_str("wanted ")?;
+            push_shape(line, want)?;
+            line.push_str(", got ")?;
+            push_shape(line, got)?;
+            push_placed(line, "", *at)
+        }
+        TypeFault::Arity { at, want, got } => {
+            push_placed(line, "arity", *at)?;
+            line.push_str(": wanted ")?;
+            push_number(line, *want)?;
+            line.push_str(", got ")?;
+            push_number(line, *got)
+        }
+        TypeFault::NoMemory => Ok(()),
+    }
 }
 
-// Writes the pieces in order.
-fn put_pieces<E: Sink>(err: &mut E, pieces: &[&str]) -> Result<(), SinkFault>
-    ensures ok { OnOk result (E.written err.new ≡ grown (E.written err.old) (joined (texts pieces.now))) }
-    ensures err { OnErr result (GrewByFront (E.written err.old) (E.written err.new) (joined (texts pieces.now))) }
-    ensures failed { OnErr result (Rose (E.faults err.old) (E.faults err.new)) }
-    ensures later { E.faults err.old ≤ E.faults err.new }
+// Appends what is wrong, and at which byte.
+fn push_placed(line: &mut String, name: &str, at: Pos) -> Result<(), AllocError>
+    ensures { OnOk result (string_bytes line.new ≡ string_bytes line.old ++ placed name.now at.0) }
 {
-    for piece in pieces {
-        put_all(err, piece.as_bytes())?;
-    }
-    Ok(())
+    line.push_str(name)?;
+    line.push_str(" at ")?;
+    push_number(line, at.0)
+}
+
+fn push_number(line: &mut String, number: u32) -> Result<(), AllocError>
+    ensures { OnOk result (string_bytes line.new ≡ string_bytes line.old ++ decimal number) }
+{
+    line.push_str(Buffer::new().format(number))
 }

@@ -1,10 +1,11 @@
 // How a call ends.
 ghost use Rattle.std.specs.Prelude.{◌≡◌};
-ghost use Rattle.raml_top.specs.Report.{code_of, line_of, IsPlain};
-ghost use Rattle.raml_top.specs.Promise.{refusal_of};
+ghost use Rattle.raml_top.specs.Report.{code_of};
+ghost use Rattle.raml_top.specs.Promise.{parse_refusal, type_refusal};
 ghost use Rattle.raml_top.specs.declared.status.Status.TheVariants.{NoMemory};
 
 use raml_parse::ParseFault;
+use simple_types::TypeFault;
 use std::alloc::AllocError;
 
 /// A file that a call reads.
@@ -13,17 +14,17 @@ pub enum Which {
     Program,
 }
 
-/// Why a source is not analysed.
-#[derive(Clone, Copy, Debug, PartialEq, Eq)]
+/// Why a source is refused. No fault in it is want of memory.
+#[derive(Drop)]
 pub enum SourceFault {
-    /// It spells no program: its first fault, which is never want of memory.
+    /// It spells no program: its first fault.
     Parse(ParseFault),
-    /// It spells a program, but no typed one that is analysed in this stage.
-    NotInFragment,
+    /// The program that it spells is not typed: the first fault of its types.
+    Type(TypeFault),
 }
 
 /// How a call ends.
-#[derive(Clone, Copy, Debug, PartialEq, Eq)]
+#[derive(Drop)]
 pub enum Status {
     /// The report is written whole.
     Done,
@@ -37,6 +38,8 @@ pub enum Status {
     Source(SourceFault),
     /// A front of the report is written: the rest was refused.
     WriteFault,
+    /// The program is typed, and of a kind that is not analysed in this stage.
+    NotBuilt,
     /// Memory ran out, and nothing of the report is written.
     NoMemory,
 }
@@ -53,39 +56,30 @@ impl Status {
             Status::TooLong { .. } => 3,
             Status::Source(_) => 4,
             Status::WriteFault => 12,
+            Status::NotBuilt => 20,
             Status::NoMemory => 70,
-        }
-    }
-
-    /// The line that tells it on the error stream, with its line feed; empty where a report was written.
-    /// A fault of the text has a number in its line, and none here.
-    pub(crate) fn plain_line(&self) -> &'static str
-        requires { IsPlain self.now }
-        ensures { result.now ≡ line_of self.now }
-    {
-        match self {
-            Status::Done | Status::Source(SourceFault::Parse(_)) => "",
-            Status::Usage => "raml: usage\n",
-            Status::ReadFault {
-                which: Which::Program,
-            } => "raml: cannot read program\n",
-            Status::TooLong {
-                which: Which::Program,
-            } => "raml: too long: program\n",
-            Status::Source(SourceFault::NotInFragment) => "raml: source: not in this stage\n",
-            Status::WriteFault => "raml: write failed\n",
-            Status::NoMemory => "raml: out of memory\n",
         }
     }
 }
 
 impl From<ParseFault> for Status {
-    ghost from_gives = { λ fault status. status ≡ refusal_of fault };
+    ghost from_gives = { λ fault status. status ≡ parse_refusal fault };
 
     fn from(fault: ParseFault) -> Status {
         match fault {
             ParseFault::NoMemory => Status::NoMemory,
             fault => Status::Source(SourceFault::Parse(fault)),
+        }
+    }
+}
+
+impl From<TypeFault> for Status {
+    ghost from_gives = { λ fault status. status ≡ type_refusal fault };
+
+    fn from(fault: TypeFault) -> Status {
+        match fault {
+            TypeFault::NoMemory => Status::NoMemory,
+            fault => Status::Source(SourceFault::Type(fault)),
         }
     }
 }

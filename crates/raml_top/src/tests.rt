@@ -4,6 +4,7 @@ use raml_io::{MemSink, MemStore};
 use raml_lex::LexFault;
 use raml_parse::ParseFault;
 use raml_syntax::Pos;
+use simple_types::TypeFault;
 use std::alloc::{AllocError, Global};
 use std::fmt::Write;
 use std::test::Fail;
@@ -13,6 +14,8 @@ const FIRST: &[u8] = b"fun main (x : int) : int = tick 3 in x";
 const FIRST_REPORT: &[u8] = b"main ticks <= 3\nmain cells <= 0\n";
 
 const ANALYSE: [&str; 4] = ["analyse", "f.raml", "--degree", "1"];
+
+const TYPES: [&str; 2] = ["types", "f.raml"];
 
 // A store that holds one file, `f.raml`.
 fn store_of(alloc: Global, source: &[u8], failing: &[u64]) -> Result<MemStore, AllocError> {
@@ -82,50 +85,50 @@ fn sources_have_their_reports_and_refusals(rt: HostRuntime) -> Result<(), Fail> 
         ),
         (
             b"fun f (x : int) : int = y",
-            "4 raml: source: not in this stage\n",
+            "4 raml: source: unknown at 24\n",
         ),
         (
             b"fun f (x : int, x : int) : int = x",
-            "4 raml: source: not in this stage\n",
+            "4 raml: source: twice at 16\n",
         ),
     ];
     for (source, want) in cases {
         let found = answer(alloc, &ANALYSE, source)?;
         assert_eq!(rt; found.as_str(), want);
     }
+    let found = answer(alloc, &TYPES, FIRST)?;
+    assert_eq!(rt; found.as_str(), "0 main (int) : int\n");
     Ok(())
 }
 
 #[test]
 fn words_are_accepted_or_refused(rt: HostRuntime) -> Result<(), Fail> {
     let alloc = rt.alloc();
-    let cases: [(&[&str], Status); 13] = [
-        (&["analyse", "f.raml", "--degree", "1"], Status::Done),
-        (&["analyse", "f.raml", "--degree", "4"], Status::Done),
-        (&["analyse", "f.raml", "--degree", "0"], Status::Usage),
-        (&["analyse", "f.raml", "--degree", "5"], Status::Usage),
-        (&["analyse", "f.raml", "--degree", "01"], Status::Usage),
-        (&["analyse", "f.raml", "--degree", ""], Status::Usage),
-        (&["analyse", "f.raml", "--degree=1"], Status::Usage),
-        (&["analyse", "f.raml", "--degree"], Status::Usage),
-        (&["analyse", "f.raml", "--degrees", "1"], Status::Usage),
-        (&["analyse", "--degree", "1", "f.raml"], Status::Usage),
-        (&["Analyse", "f.raml", "--degree", "1"], Status::Usage),
-        (&["analyse", "f.raml", "--degree", "1", "1"], Status::Usage),
-        (&[], Status::Usage),
+    let bounds = "0 main ticks <= 3\nmain cells <= 0\n";
+    let types = "0 main (int) : int\n";
+    let usage = "1 raml: usage\n";
+    let cases: [(&[&str], &str); 17] = [
+        (&["analyse", "f.raml", "--degree", "1"], bounds),
+        (&["analyse", "f.raml", "--degree", "4"], bounds),
+        (&["analyse", "f.raml", "--degree", "0"], usage),
+        (&["analyse", "f.raml", "--degree", "5"], usage),
+        (&["analyse", "f.raml", "--degree", "01"], usage),
+        (&["analyse", "f.raml", "--degree", ""], usage),
+        (&["analyse", "f.raml", "--degree=1"], usage),
+        (&["analyse", "f.raml", "--degree"], usage),
+        (&["analyse", "f.raml", "--degrees", "1"], usage),
+        (&["analyse", "--degree", "1", "f.raml"], usage),
+        (&["Analyse", "f.raml", "--degree", "1"], usage),
+        (&["analyse", "f.raml", "--degree", "1", "1"], usage),
+        (&["types", "f.raml"], types),
+        (&["types"], usage),
+        (&["types", "f.raml", "f.raml"], usage),
+        (&["types", "f.raml", "--degree", "1"], usage),
+        (&[], usage),
     ];
     for (words, want) in cases {
-        let mut store = store_of(alloc, FIRST, &[])?;
-        let mut out = sink_of(alloc, &[])?;
-        let mut err = sink_of(alloc, &[])?;
-        let status = raml(alloc, words, &mut store, &mut out, &mut err);
-        assert_eq!(rt; status, want);
-        let (report, line): (&[u8], &[u8]) = match want {
-            Status::Done => (FIRST_REPORT, b""),
-            _ => (b"", b"raml: usage\n"),
-        };
-        assert_eq!(rt; out.bytes(), report);
-        assert_eq!(rt; err.bytes(), line);
+        let found = answer(alloc, words, FIRST)?;
+        assert_eq!(rt; found.as_str(), want);
     }
     Ok(())
 }
@@ -133,67 +136,18 @@ fn words_are_accepted_or_refused(rt: HostRuntime) -> Result<(), Fail> {
 #[test]
 fn faults_of_the_outside_have_their_status(rt: HostRuntime) -> Result<(), Fail> {
     let alloc = rt.alloc();
-    let read_fault = Status::ReadFault {
-        which: Which::Program,
-    };
+    let unread: &[u8] = b"raml: cannot read program\n";
+    let unwritten: &[u8] = b"raml: write failed\n";
     // The file's name; the reads, the puts on out and the puts on err that fail; and what comes of it.
-    let cases: [(&str, &[u64], &[u64], &[u64], Status, &[u8], &[u8]); 8] = [
-        ("f.raml", &[], &[], &[], Status::Done, FIRST_REPORT, b""),
-        (
-            "",
-            &[],
-            &[],
-            &[],
-            read_fault,
-            b"",
-            b"raml: cannot read program\n",
-        ),
-        (
-            "f.ram",
-            &[],
-            &[],
-            &[],
-            read_fault,
-            b"",
-            b"raml: cannot read program\n",
-        ),
-        (
-            "f.raml",
-            &[0],
-            &[],
-            &[],
-            read_fault,
-            b"",
-            b"raml: cannot read program\n",
-        ),
-        ("f.raml", &[1], &[], &[0], Status::Done, FIRST_REPORT, b""),
-        (
-            "f.raml",
-            &[],
-            &[0],
-            &[],
-            Status::WriteFault,
-            b"",
-            b"raml: write failed\n",
-        ),
-        (
-            "f.raml",
-            &[],
-            &[1],
-            &[],
-            Status::WriteFault,
-            b"main ticks",
-            b"raml: write failed\n",
-        ),
-        (
-            "f.raml",
-            &[],
-            &[1],
-            &[1],
-            Status::WriteFault,
-            b"main ticks",
-            b"raml: writ",
-        ),
+    let cases: [(&str, &[u64], &[u64], &[u64], u8, &[u8], &[u8]); 8] = [
+        ("f.raml", &[], &[], &[], 0, FIRST_REPORT, b""),
+        ("", &[], &[], &[], 2, b"", unread),
+        ("f.ram", &[], &[], &[], 2, b"", unread),
+        ("f.raml", &[0], &[], &[], 2, b"", unread),
+        ("f.raml", &[1], &[], &[0], 0, FIRST_REPORT, b""),
+        ("f.raml", &[], &[0], &[], 12, b"", unwritten),
+        ("f.raml", &[], &[1], &[], 12, b"main ticks", unwritten),
+        ("f.raml", &[], &[1], &[1], 12, b"main ticks", b"raml: writ"),
     ];
     for (name, reads, puts, lines, want, report, line) in cases {
         let mut store = store_of(alloc, FIRST, reads)?;
@@ -201,7 +155,7 @@ fn faults_of_the_outside_have_their_status(rt: HostRuntime) -> Result<(), Fail> 
         let mut err = sink_of(alloc, lines)?;
         let words = ["analyse", name, "--degree", "1"];
         let status = raml(alloc, &words, &mut store, &mut out, &mut err);
-        assert_eq!(rt; status, want);
+        assert_eq!(rt; status.code(), want);
         assert_eq!(rt; out.bytes(), report);
         assert_eq!(rt; err.bytes(), line);
     }
@@ -224,31 +178,6 @@ fn a_source_has_a_limit(rt: HostRuntime) -> Result<(), Fail> {
 }
 
 #[test]
-fn the_line_of_a_fault_stops_where_the_sink_does(rt: HostRuntime) -> Result<(), Fail> {
-    let alloc = rt.alloc();
-    let fault = Status::Source(SourceFault::Parse(ParseFault::Syntax { at: Pos(0) }));
-    // The put on err that fails, and what err then holds.
-    let cases: [(u64, &[u8]); 7] = [
-        (0, b""),
-        (1, b"raml: sour"),
-        (2, b"raml: source: "),
-        (3, b"raml: source: syntax"),
-        (4, b"raml: source: syntax at "),
-        (5, b"raml: source: syntax at 0"),
-        (6, b"raml: source: syntax at 0\n"),
-    ];
-    for (put, want) in cases {
-        let mut store = store_of(alloc, b"", &[])?;
-        let mut out = sink_of(alloc, &[])?;
-        let mut err = sink_of(alloc, &[put])?;
-        let status = raml(alloc, &ANALYSE, &mut store, &mut out, &mut err);
-        assert_eq!(rt; status, fault);
-        assert_eq!(rt; err.bytes(), want);
-    }
-    Ok(())
-}
-
-#[test]
 fn each_status_has_its_number(rt: HostRuntime) {
     let at = Pos(0);
     let which = Which::Program;
@@ -257,12 +186,16 @@ fn each_status_has_its_number(rt: HostRuntime) {
         (Status::Usage, 1),
         (Status::ReadFault { which }, 2),
         (Status::TooLong { which }, 3),
-        (Status::Source(SourceFault::NotInFragment), 4),
         (
             Status::Source(SourceFault::Parse(ParseFault::Lex(LexFault::BadChar { at }))),
             4,
         ),
+        (
+            Status::Source(SourceFault::Type(TypeFault::NeedsType { at })),
+            4,
+        ),
         (Status::WriteFault, 12),
+        (Status::NotBuilt, 20),
         (Status::NoMemory, 70),
     ];
     for (status, number) in cases {

@@ -7,8 +7,8 @@ returns-then-passes-clause-some c =
     passed _ _ (one_function _ _ _ c.in-len1.len_at_least c.in-len1.len_below c.fun-item.is c.as_slice.ensures.value) (sym c.passes.ensures ∙ c.if-passes.true)
 
 pub returns-else-passes-clause-none : goal.returns-else-passes-clause-none
-returns-else-passes-clause-none c = λ fun is typed.
+returns-else-passes-clause-none c = λ fun is.
     let only = one_function _ _ _ c.in-len1.len_at_least c.in-len1.len_below c.fun-item.is c.as_slice.ensures.value in
-    let passes = passes_test _ _ fun only is typed in
+    let passes = passes_test _ _ fun only is in
     let wrong = sym c.if-passes.false ∙ c.passes.ensures ∙ passes in
     absurd (cc)
