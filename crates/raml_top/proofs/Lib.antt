@@ -1,3 +1,4 @@
+mod Sorts
 mod Worded
 mod Decided
 mod Bounded

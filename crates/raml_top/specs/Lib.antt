@@ -1,4 +1,5 @@
 pub mod Words
+pub mod Sorting
 pub mod Asked
 pub mod Fragment
 pub mod Tested

@@ -13,9 +13,9 @@ const FIRST: &[u8] = b"fun main (x : int) : int = tick 3 in x";
 
 const FIRST_REPORT: &[u8] = b"main ticks <= 3\nmain cells <= 0\n";
 
-const ANALYSE: [&str; 4] = ["analyse", "f.raml", "--degree", "1"];
+pub const ANALYSE: [&str; 4] = ["analyse", "f.raml", "--degree", "1"];
 
-const TYPES: [&str; 2] = ["types", "f.raml"];
+pub const TYPES: [&str; 2] = ["types", "f.raml"];
 
 // A store that holds one file, `f.raml`.
 fn store_of(alloc: Global, source: &[u8], failing: &[u64]) -> Result<MemStore, AllocError> {
@@ -29,11 +29,11 @@ fn store_of(alloc: Global, source: &[u8], failing: &[u64]) -> Result<MemStore, A
 
 // A sink with ample room.
 fn sink_of(alloc: Global, failing: &[u64]) -> Result<MemSink, AllocError> {
-    MemSink::new(alloc, 1000, 10, Vec::from_slice(alloc, failing)?)
+    MemSink::new(alloc, 100_000, 10, Vec::from_slice(alloc, failing)?)
 }
 
 // What a call does with the file: the number of its status, and all that it writes.
-fn answer(alloc: Global, words: &[&str], source: &[u8]) -> Result<String, Fail> {
+pub fn answer(alloc: Global, words: &[&str], source: &[u8]) -> Result<String, Fail> {
     let mut store = store_of(alloc, source, &[])?;
     let mut out = sink_of(alloc, &[])?;
     let mut err = sink_of(alloc, &[])?;
@@ -101,35 +101,81 @@ fn sources_have_their_reports_and_refusals(rt: HostRuntime) -> Result<(), Fail> 
     Ok(())
 }
 
+// Words with one space between any two, and what comes of them.
+const WORDS: &str = "\
+analyse f.raml --degree 1 => bounds
+analyse f.raml --degree 4 => bounds
+analyse f.raml --degree 04 => bounds
+analyse f.raml --degree 0000000001 => bounds
+analyse f.raml --degree=1 => bounds
+analyse f.raml --degree=003 => bounds
+analyse --degree 1 f.raml => bounds
+analyse --degree=1 f.raml => bounds
+analyse --degree 1 -- f.raml => bounds
+analyse -- f.raml => usage
+analyse f.raml => usage
+analyse f.raml -- --degree 1 => usage
+analyse f.raml --degree => usage
+analyse f.raml --degree 0 => usage
+analyse f.raml --degree 5 => usage
+analyse f.raml --degree 00000000001 => usage
+analyse f.raml --degree +1 => usage
+analyse f.raml --degree 1x => usage
+analyse f.raml --degree  => usage
+analyse f.raml --degree= => usage
+analyse f.raml --degree -- => usage
+analyse --degree -- f.raml => usage
+analyse f.raml --degree --degree=1 => usage
+analyse f.raml --degrees 1 => usage
+analyse f.raml --degrees=1 => usage
+analyse f.raml --degre=1 => usage
+analyse f.raml -degree 1 => usage
+analyse f.raml --degree 1 1 => usage
+analyse f.raml --degree 1 --degree 1 => usage
+analyse f.raml --degree=1 --degree 1 => usage
+analyse f.raml --degree=1 - => usage
+analyse f.raml --degree=1 -x => usage
+analyse f.raml --degree=1 --help => usage
+analyse --degree=1 => usage
+analyse  --degree=1 => unread
+analyse --degree=1 -- -- => unread
+Analyse f.raml --degree 1 => usage
+--degree 1 analyse f.raml => usage
+types f.raml => types
+types -- f.raml => types
+types -- -f.raml => unread
+types -- -- => unread
+types  => unread
+types => usage
+types -- => usage
+types - => usage
+types -f.raml => usage
+types f.raml f.raml => usage
+types f.raml -- f.raml => usage
+types f.raml --degree 1 => usage
+types f.raml --degree=1 => usage
+type f.raml => usage
+ => usage";
+
 #[test]
 fn words_are_accepted_or_refused(rt: HostRuntime) -> Result<(), Fail> {
     let alloc = rt.alloc();
-    let bounds = "0 main ticks <= 3\nmain cells <= 0\n";
-    let types = "0 main (int) : int\n";
-    let usage = "1 raml: usage\n";
-    let cases: [(&[&str], &str); 17] = [
-        (&["analyse", "f.raml", "--degree", "1"], bounds),
-        (&["analyse", "f.raml", "--degree", "4"], bounds),
-        (&["analyse", "f.raml", "--degree", "0"], usage),
-        (&["analyse", "f.raml", "--degree", "5"], usage),
-        (&["analyse", "f.raml", "--degree", "01"], usage),
-        (&["analyse", "f.raml", "--degree", ""], usage),
-        (&["analyse", "f.raml", "--degree=1"], usage),
-        (&["analyse", "f.raml", "--degree"], usage),
-        (&["analyse", "f.raml", "--degrees", "1"], usage),
-        (&["analyse", "--degree", "1", "f.raml"], usage),
-        (&["Analyse", "f.raml", "--degree", "1"], usage),
-        (&["analyse", "f.raml", "--degree", "1", "1"], usage),
-        (&["types", "f.raml"], types),
-        (&["types"], usage),
-        (&["types", "f.raml", "f.raml"], usage),
-        (&["types", "f.raml", "--degree", "1"], usage),
-        (&[], usage),
-    ];
-    for (words, want) in cases {
-        let found = answer(alloc, words, FIRST)?;
-        assert_eq!(rt; found.as_str(), want);
+    for line in WORDS.lines() {
+        let Some((words, answers)) = line.split_once(" => ") else {
+            return Err(Fail::from("a line without an answer"));
+        };
+        let want = match answers {
+            "bounds" => "0 main ticks <= 3\nmain cells <= 0\n",
+            "types" => "0 main (int) : int\n",
+            "unread" => "2 raml: cannot read program\n",
+            _ => "1 raml: usage\n",
+        };
+        let words: Vec<&str> = words.split(' ').collect(alloc)?;
+        let found = answer(alloc, &words, FIRST)?;
+        assert_eq!(rt; found.as_str(), want, "at {line}");
     }
+    let found = answer(alloc, &[], FIRST)?;
+    assert_eq!(rt; found.as_str(), "1 raml: usage\n");
     Ok(())
 }
 
