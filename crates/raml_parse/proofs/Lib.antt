@@ -1,7 +1,4 @@
-pub mod Parts
-pub mod Values
+pub mod Limits
 pub mod Signs
 pub mod TheTable
-pub mod Limits
-pub mod Answered
-pub mod OneAnswer
+pub mod Values

@@ -1,4 +1,5 @@
 pub mod Tokens
 pub mod Table
+pub mod Forms
 pub mod Read
 pub mod Spelling
