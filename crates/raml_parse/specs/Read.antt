@@ -1,7 +1,7 @@
 -- What the code's tokens and answers are as plain data.
 use Rattle.std.specs.Prelude.{◌≡◌, ℕ, List, [], ◌∷◌, ◌++◌, map, reverse, Result, Ok, Err, Vec}
 use Rattle.std.specs.Borrow.{Bor}
-use Rattle.std.specs.Global.{Global}
+use Rattle.std.specs.Global.{Global, Box}
 use Rattle.token_grammar.specs.Reading.{Fault}
 use Rattle.token_grammar.specs.declared.Kind.{Kind}
 use Rattle.token_grammar.specs.declared.Kind.TheVariants as d
@@ -56,6 +56,9 @@ rest u = pieces u.now
 abbrev pub phrase : Expr × ℕ × Bor (List Piece) → Part × ℕ × List Token
 phrase x = (Phrase (term_of x.0), x.1, rest x.2)
 
+abbrev pub boxed : Box Expr × ℕ × Bor (List Piece) → Part × ℕ × List Token
+boxed x = (Phrase (term_of x.0.value), x.1, rest x.2)
+
 abbrev pub typing : Ty × ℕ × Bor (List Piece) → Part × ℕ × List Token
 typing x = (Typing (ty_of x.0), x.1, rest x.2)
 
@@ -92,6 +95,11 @@ marks (f ∷ fs) = marks fs ++ (headed f ∷ At f.at.0 ∷ [])
 abbrev pub functions_back : List Fun → List Part
 functions_back [] = []
 functions_back (f ∷ fs) = marks fs ++ (headed f ∷ [])
+
+-- the first function's `fun` stands there
+abbrev pub StartsAt : ℕ → List Fun → Type 0
+StartsAt p [] = ⊥
+StartsAt p (f ∷ fs) = f.at.0 ≡ p
 
 abbrev pub functions : Vec Fun Global × ℕ × Bor (List Piece) → List Part × ℕ × List Token
 functions x = (functions_back x.0.items, x.1, rest x.2)

@@ -101,7 +101,7 @@ abbrev pub pair_type_act : List Part → Part
 pair_type_act (Typing B ∷ Typing A ∷ ps) = Typing (PairOf A B)
 pair_type_act _ = Nothing
 
--- ( type )
+-- type ), behind (
 abbrev pub inner_type_rule : Rules
 inner_type_rule = type (sign s.Close (Done inner_type_act))
 
@@ -220,45 +220,64 @@ args_rule f = Many 7 (key s.Comma) (expr (Done inner_act)) (sign s.Close (Done (
 abbrev pub name_rule : Text → Rules
 name_rule f = Either (key s.Open) (args_rule f) (Done (var_act f))
 
--- node ( expr , expr , expr )
-abbrev pub node_rule : Rules
-node_rule = sign s.Open (expr (sign s.Comma (expr (sign s.Comma (expr (sign s.Close (Done node_act)))))))
+-- expr , expr ) behind a node's element
+abbrev pub trees_rule : Rules
+trees_rule = expr (sign s.Comma (expr (sign s.Close (Done node_act))))
 
--- not, and what needs no parentheses
+-- ( expr , expr , expr ) behind node
+abbrev pub node_rule : Rules
+node_rule = sign s.Open (expr (sign s.Comma trees_rule))
+
+-- what needs no parentheses, behind not
 abbrev pub not_rule : Rules
 not_rule = Sub Exprs 0 (Done not_act)
 
--- ( expr , expr ) or ( expr : type ) or ( expr )
-abbrev pub parens_rule : Rules
-parens_rule =
-    expr (
+-- , expr ) or : type ) or )
+abbrev pub closing_rule : Rules
+closing_rule =
     Either (key s.Comma) (expr (sign s.Close (Done pair_act))) (
     Either (key s.Colon) (type (sign s.Close (Done typed_act))) (
-    sign s.Close (Done inner_act))))
+    sign s.Close (Done inner_act)))
 
--- let ( name , name ) = expr in expr, or let name = expr in expr
+-- expr and one of these, behind (
+abbrev pub parens_rule : Rules
+parens_rule = expr closing_rule
+
+-- ) = expr in expr behind the two names of a let
+abbrev pub let_pair_rule : Rules
+let_pair_rule = sign s.Close (sign s.Equal (expr (sign s.In (expr (Done let_pair_act)))))
+
+-- ( name , name and the rest, or name = expr in expr, behind let
 abbrev pub let_rule : Rules
 let_rule =
-    Either (key s.Open) (named (sign s.Comma (named (sign s.Close (sign s.Equal (expr (sign s.In (expr (Done let_pair_act))))))))) (
+    Either (key s.Open) (named (sign s.Comma (named let_pair_rule))) (
     named (sign s.Equal (expr (sign s.In (expr (Done let_act))))))
 
--- if expr then expr else expr
+-- expr then expr else expr, behind if
 abbrev pub if_rule : Rules
 if_rule = expr (sign s.Then (expr (sign s.Else (expr (Done if_act)))))
 
--- nil -> expr | name :: name -> expr, its first token taken
-abbrev pub match_list_rule : Rules
-match_list_rule = sign s.Arrow (expr (sign s.Bar (named (sign s.Cons (named (sign s.Arrow (expr (Done match_list_act))))))))
+-- | name :: name -> expr
+abbrev pub list_case_rule : Rules
+list_case_rule = sign s.Bar (named (sign s.Cons (named (sign s.Arrow (expr (Done match_list_act))))))
 
--- leaf -> expr | node ( name , name , name ) -> expr, its first token taken
-abbrev pub match_tree_rule : Rules
-match_tree_rule = sign s.Arrow (expr (sign s.Bar (sign s.Node (sign s.Open (named (sign s.Comma (named (sign s.Comma (named (sign s.Close (sign s.Arrow (expr (Done match_tree_act)))))))))))))
+-- name , name ) -> expr behind a pattern's first name
+abbrev pub tree_names_rule : Rules
+tree_names_rule = named (sign s.Comma (named (sign s.Close (sign s.Arrow (expr (Done match_tree_act))))))
 
--- match expr with the one or the other
+-- | node ( name , name , name ) -> expr
+abbrev pub tree_case_rule : Rules
+tree_case_rule = sign s.Bar (sign s.Node (sign s.Open (named (sign s.Comma tree_names_rule))))
+
+-- nil -> expr and the case of a list, or leaf -> expr and that of a tree
+abbrev pub cases_rule : Rules
+cases_rule = Either (key s.Nil) (sign s.Arrow (expr list_case_rule)) (sign s.Leaf (sign s.Arrow (expr tree_case_rule)))
+
+-- expr with and the cases, behind match
 abbrev pub match_rule : Rules
-match_rule = expr (sign s.With (Either (key s.Nil) match_list_rule (sign s.Leaf match_tree_rule)))
+match_rule = expr (sign s.With cases_rule)
 
--- tick number in expr
+-- number in expr, behind tick
 abbrev pub tick_rule : Rules
 tick_rule = Take (number_to 1000000) (sign s.In (expr (Done tick_act)))
 

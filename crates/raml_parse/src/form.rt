@@ -9,7 +9,7 @@ ghost use Rattle.raml_parse.specs.Forms.{type_form, type_rule, suffix_rule, star
 ghost use Rattle.raml_parse.specs.Read.{token_of, pieces, rest};
 
 use crate::token::{Piece, Sign, Word};
-use raml_syntax::{ArithOp, CompareOp, Name, Pos};
+use raml_syntax::{ArithOp, CompareOp, Name};
 
 /// A form that its first token may be all of.
 #[derive(Clone, Copy)]
@@ -97,17 +97,16 @@ impl<'a> Start<'a> {
         }
     }
 
-    /// The form of this level that begins here: the place of its first token, the form, and the tokens
-    /// behind that token.
+    /// The form of this level that begins here, and the tokens behind its first token.
     #[tactic(auto, unfolding(crate::specs::Table::grammar))]
-    pub fn at(tokens: &'a [Piece], level: u32) -> Option<(Pos, Start<'a>, &'a [Piece])>
-        ensures { MatchOption result (starts_at grammar Exprs level (pieces tokens.now) ≡ None) (λ x. (starts_at grammar Exprs level (pieces tokens.now) ≡ Some (start_rule x.1)) × (opening grammar (pieces tokens.now) ≡ At x.0.0 ∷ []) × (rest_of (pieces tokens.now) ≡ rest x.2)) }
+    pub fn at(tokens: &'a [Piece], level: u32) -> Option<(Start<'a>, &'a [Piece])>
+        ensures { MatchOption result (starts_at grammar Exprs level (pieces tokens.now) ≡ None) (λ x. (starts_at grammar Exprs level (pieces tokens.now) ≡ Some (start_rule x.0)) × (rest_of (pieces tokens.now) ≡ rest x.1)) }
     {
         let [first, rest @ ..] = tokens else {
             return None;
         };
         match Start::of(first) {
-            Some(start) if start.level() == level => Some((first.at, start, rest)),
+            Some(start) if start.level() == level => Some((start, rest)),
             _ => None,
         }
     }

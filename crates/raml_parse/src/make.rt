@@ -1,9 +1,10 @@
 // Trees from their parts.
-ghost use Rattle.std.specs.Prelude.{◌≡◌, ◌≤◌, [], ◌∷◌, map, pos, IfOk};
+ghost use Rattle.std.specs.Prelude.{◌≡◌, ◌≤◌, [], ◌∷◌, ◌++◌, IfOk};
 ghost use Rattle.raml_syntax.specs.Tree as t;
-ghost use Rattle.raml_syntax.specs.Read.{term_of, terms_of, ty_of, bound_of, parameter_of, function_of};
-ghost use Rattle.raml_parse.specs.Table.{Phrase, At};
+ghost use Rattle.raml_syntax.specs.Read.{term_of, terms_of, ty_of, bound_of, parameter_of};
+ghost use Rattle.raml_parse.specs.Table.{Phrase, Typing, At, call_act, function_act};
 ghost use Rattle.raml_parse.specs.Forms.{infix_act};
+ghost use Rattle.raml_parse.specs.Read.{phrases_back, headers_back, headed, named_part};
 
 use crate::form::Infix;
 use crate::take::NameAt;
@@ -28,13 +29,12 @@ pub fn pair_type(alloc: Global, first: Ty, second: Ty) -> Result<Ty, AllocError>
     Ok(Ty::Pair(Box::new(alloc, first)?, Box::new(alloc, second)?))
 }
 
-pub fn number(at: Pos, value: u64) -> Expr
-    requires { value ≤ 9223372036854775807 }
-    ensures { term_of result ≡ t.Number at.0 (pos value) }
+pub fn number(at: Pos, value: i64) -> Expr
+    ensures { term_of result ≡ t.Number at.0 value }
 {
     Expr {
         at,
-        form: Form::Number(value as i64),
+        form: Form::Number(value),
     }
 }
 
@@ -74,18 +74,25 @@ pub fn variable(alloc: Global, at: Pos, name: &Name) -> Result<Expr, AllocError>
     })
 }
 
+fn call_of(at: Pos, function: Name, args: Vec<Expr>) -> Expr
+    ensures { term_of result ≡ t.Call at.0 function (terms_of args.items) }
+{
+    Expr {
+        at,
+        form: Form::Call(function, args),
+    }
+}
+
+#[tactic(auto, using(crate::proofs::Parts::call_is))]
 pub fn call(
     alloc: Global,
     at: Pos,
     function: &Name,
     args: Vec<Expr>,
 ) -> Result<Expr, AllocError>
-    ensures { IfOk result (λ e. term_of e ≡ t.Call at.0 function.now (terms_of args.items)) }
+    ensures { IfOk result (λ e. call_act function.now (phrases_back args.items ++ At at.0 ∷ []) ≡ Phrase (term_of e)) }
 {
-    Ok(Expr {
-        at,
-        form: Form::Call(Name::new(alloc, function.text())?, args),
-    })
+    Ok(call_of(at, Name::new(alloc, function.text())?, args))
 }
 
 pub fn node(at: Pos, element: Box<Expr>, left: Box<Expr>, right: Box<Expr>) -> Expr
@@ -220,19 +227,21 @@ pub fn parameter(alloc: Global, parameter: NameAt, ty: Ty) -> Result<Param, Allo
 }
 
 /// A function whose `fun` stands at `at`.
+#[tactic(auto, using(crate::proofs::Parts::function_is))]
 pub fn function(
     alloc: Global,
     at: Pos,
-    function: &Name,
+    function: NameAt,
     params: Vec<Param>,
     ty: Ty,
     body: Expr,
 ) -> Result<Fun, AllocError>
-    ensures { IfOk result (λ f. function_of f ≡ record { at = at.0; name = function.now; params = map parameter_of params.items; result = ty_of ty; body = term_of body }) }
+    ensures is { IfOk result (λ f. function_act (Phrase (term_of body) ∷ Typing (ty_of ty) ∷ (headers_back params.items ++ named_part function.entry ∷ [])) ≡ headed f) }
+    ensures place { IfOk result (λ f. f.at ≡ at) }
 {
     Ok(Fun {
         at,
-        name: Name::new(alloc, function.text())?,
+        name: Name::new(alloc, function.name.text())?,
         params,
         result: ty,
         body,

@@ -1,7 +1,8 @@
 // Tokens that must stand.
 ghost use Rattle.std.specs.Prelude.{◌≡◌, [], ◌∷◌, Some, None, MatchOption};
+ghost use Rattle.token_grammar.specs.Rules.{opening};
 ghost use Rattle.token_grammar.specs.Reading.{take_of, taken, rest_of};
-ghost use Rattle.raml_parse.specs.Table.{key, place, name, number_to, At, Counted};
+ghost use Rattle.raml_parse.specs.Table.{key, place, name, number_to, grammar, At, Counted};
 ghost use Rattle.raml_parse.specs.Read.{Gives, pieces, rest, named_part, binder_part};
 
 use crate::stop::Stop;
@@ -15,6 +16,17 @@ use token_grammar::Kind;
 pub struct NameAt<'a> {
     pub at: Pos,
     pub name: &'a Name,
+}
+
+/// The place of the first token.
+#[tactic(auto, unfolding(crate::specs::Table::grammar))]
+pub fn first_place(tokens: &[Piece]) -> Option<Pos>
+    ensures { MatchOption result (pieces tokens.now ≡ []) (λ at. opening grammar (pieces tokens.now) ≡ At at.0 ∷ []) }
+{
+    match tokens {
+        [first, ..] => Some(first.at),
+        [] => None,
+    }
 }
 
 /// The tokens behind this keyword or symbol, where it stands first.

@@ -129,7 +129,7 @@ module _ {T V C : Type 0} (g : Grammar T V C) (sub : C → ℕ → List T → An
     chain = chain_of g sub x d c n w (suc d)
 
     -- one step of a chain leaves a chain
-    chain_step : (e : V) (h : ℕ) (s : List T) → chain e h s ≡ more (again_of (g.chains c n) chain) (goes_at g c n s) e h s
+    pub chain_step : (e : V) (h : ℕ) (s : List T) → chain e h s ≡ more (again_of (g.chains c n) chain) (goes_at g c n s) e h s
     chain_step e h s =
         same_more (chain_of g sub x d c n w d) chain e h s
         (λ y. same_again (g.chains c n) (chain_of g sub x d c n w d) chain y.0 (suc (max h y.1)) y.2 (fuel d (suc d) y.0 (suc (max h y.1)) y.2 (omega arith) (omega arith)))
