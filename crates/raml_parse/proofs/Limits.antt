@@ -1,6 +1,6 @@
 -- A program that is spelled is within the limits, and has no more nodes than its text has tokens.
-use Rattle.std.proofs.Common.{◌≡◌, ◌≤◌, ◌<◌, ◌+◌, ◌∙◌, ℕ, suc, List, [], ◌∷◌, ◌++◌, length, refl, sym, ap, subst, arith}
-use Rattle.std.specs.Prelude.{ℤ, Option, Some, None, Bool, true, false, nat_le, if◌then◌else◌, pos}
+use Rattle.std.proofs.Common.{◌≡◌, ◌≤◌, ◌+◌, ◌∙◌, ℕ, suc, List, [], ◌∷◌, ◌++◌, length, refl, sym, ap, subst, arith}
+use Rattle.std.specs.Prelude.{ℤ, Some, None, Bool, true, false, nat_le, if◌then◌else◌, pos}
 use Rattle.std.specs.Int.{w64}
 use Rattle.std.specs.List.{All}
 use Rattle.std.proofs.lemmas.Bool.{leb-true}
@@ -16,8 +16,7 @@ use Rattle.raml_syntax.specs.declared.tree.ArithOp.{ArithOp}
 use Rattle.raml_syntax.specs.declared.tree.CompareOp.{CompareOp}
 use Rattle.raml_parse.specs.Tokens.{Sign, Token, Name, Number, Key, same}
 use Rattle.raml_parse.specs.declared.token.Sign.TheVariants as s
-use Rattle.raml_parse.specs.Table.{Part, At, Named, Counted, Typing, Phrase, Header, Headed, Whole, Nothing, Class, Types, Exprs, Rules, key, place, name, number_to, Test, mark, inner_type_act, list_act, tree_act, pair_type_act, number_act, truth_act, nil_act, leaf_act, var_act, call_of_parts, call_act, node_act, not_act, inner_act, pair_act, typed_act, let_act, let_pair_act, if_act, match_list_act, match_tree_act, tick_act, arith_act, compare_act, cons_act, param_act, function_of_parts, function_act, program_of_parts, program_act, params_rule, function_rule, functions_rule, text_rule, table, grammar, starts, goes}
-use Rattle.raml_parse.proofs.Signs.{key_is}
+use Rattle.raml_parse.specs.Table.{Part, At, Named, Counted, Typing, Phrase, Header, Headed, Whole, Nothing, Class, Rules, key, place, name, number_to, Test, mark, inner_type_act, list_act, tree_act, pair_type_act, number_act, truth_act, nil_act, leaf_act, var_act, call_of_parts, call_act, node_act, not_act, inner_act, pair_act, typed_act, let_act, let_pair_act, if_act, match_list_act, match_tree_act, tick_act, arith_act, compare_act, cons_act, param_act, function_of_parts, function_act, program_of_parts, program_act, function_rule, functions_rule, text_rule, table, grammar, starts, goes}
 use Rattle.raml_parse.proofs.TheTable.{Forms, forms, Goings, goings}
 
 -- an expression within the limits
@@ -268,12 +267,12 @@ starts_kept = record {
   negation = λ p. part (λ a u. end (not_fine p a u));
   parens = λ p. part (λ a u. either s.Comma (part (λ b v. sign s.Close (end (pair_fine p b a u v)))) (either s.Colon (part (λ A v. sign s.Close (end (typed_fine p A a u)))) (sign s.Close (end (inner_fine a (At p ∷ []) u)))));
   binding = λ p. either s.Open
-    (name' (λ q x. sign s.Comma (name' (λ r y. sign s.Close (sign s.Equal (part (λ a u. sign s.In (part (λ b v. end (let_pair_fine p q r x y b a u v))))))))))
-    (name' (λ q x. sign s.Equal (part (λ a u. sign s.In (part (λ b v. end (let_fine p q x b a u v)))))));
+      (name' (λ q x. sign s.Comma (name' (λ r y. sign s.Close (sign s.Equal (part (λ a u. sign s.In (part (λ b v. end (let_pair_fine p q r x y b a u v))))))))))
+      (name' (λ q x. sign s.Equal (part (λ a u. sign s.In (part (λ b v. end (let_fine p q x b a u v)))))));
   choice = λ p. part (λ c u. sign s.Then (part (λ a v. sign s.Else (part (λ b w. end (if_fine p b a c u v w))))));
   cases = λ p. part (λ c u. sign s.With (either s.Nil
-    (sign s.Arrow (part (λ a v. sign s.Bar (name' (λ q x. sign s.Cons (name' (λ r y. sign s.Arrow (part (λ b w. end (list_fine p q r x y b a c u v w))))))))))
-    (sign s.Leaf (sign s.Arrow (part (λ a v. sign s.Bar (sign s.Node (sign s.Open (name' (λ q x. sign s.Comma (name' (λ r y. sign s.Comma (name' (λ l z. sign s.Close (sign s.Arrow (part (λ b w. end (tree_fine p q r l x y z b a c u v w))))))))))))))))));
+      (sign s.Arrow (part (λ a v. sign s.Bar (name' (λ q x. sign s.Cons (name' (λ r y. sign s.Arrow (part (λ b w. end (list_fine p q r x y b a c u v w))))))))))
+      (sign s.Leaf (sign s.Arrow (part (λ a v. sign s.Bar (sign s.Node (sign s.Open (name' (λ q x. sign s.Comma (name' (λ r y. sign s.Comma (name' (λ l z. sign s.Close (sign s.Arrow (part (λ b w. end (tree_fine p q r l x y z b a c u v w))))))))))))))))));
   tick = λ p. count' 1000000 (λ n le. sign s.In (part (λ a u. end (tick_fine p n le a u))));
 }
 

@@ -1,15 +1,15 @@
 -- The grammar can be read with one token in view.
 use Rattle.std.proofs.Common.{◌≡◌, ◌≤◌, ◌⊎◌, inl, inr, ℕ, zero, suc, [], ◌∷◌, refl, subst, arith}
 use Rattle.std.proofs.lemmas.Bool.{leb-true}
-use Rattle.std.specs.Prelude.{Option, Some, None, Bool, true, false, pos, nat_le, if◌then◌else◌}
+use Rattle.std.specs.Prelude.{Some, None, Bool, true, false, pos, nat_le, if◌then◌else◌}
 use Rattle.raml_syntax.specs.Tree as t
 use Rattle.raml_syntax.specs.declared.tree.ArithOp.TheVariants as op
 use Rattle.raml_syntax.specs.declared.tree.CompareOp.TheVariants as cmp
-use Rattle.token_grammar.specs.Rules.{Rule, Done, Sub}
-use Rattle.token_grammar.proofs.Basics.{Atom, Sample, Filled, Takes, After, Ends, Wf, Behind, Readable}
+use Rattle.token_grammar.specs.Rules.{Done, Sub}
+use Rattle.token_grammar.proofs.Basics.{Atom, Sample, Filled, Takes, Ends, Wf, Behind, Readable}
 use Rattle.raml_parse.specs.Tokens.{Sign, Token, Name, Number, Key}
 use Rattle.raml_parse.specs.declared.token.Sign.TheVariants as s
-use Rattle.raml_parse.specs.Table.{Part, At, Named, Counted, Class, Types, Exprs, Rules, key, place, name, number_to, int_act, bool_act, inner_type_rule, list_act, tree_act, pair_type_act, number_act, truth_act, nil_act, leaf_act, name_rule, node_rule, not_rule, parens_rule, let_rule, if_rule, match_rule, tick_rule, arith_rule, cons_act, compare_rule, type, body_rule, starts, goes, chains, table, grammar}
+use Rattle.raml_parse.specs.Table.{At, Named, Counted, Class, Types, Exprs, Rules, key, place, name, number_to, int_act, bool_act, inner_type_rule, list_act, tree_act, pair_type_act, number_act, truth_act, nil_act, leaf_act, name_rule, node_rule, not_rule, parens_rule, let_rule, if_rule, match_rule, tick_rule, arith_rule, cons_act, compare_rule, type, starts, goes, chains, table, grammar}
 use Rattle.raml_parse.proofs.Signs.{key_is, place_is}
 
 -- a name may go on with a parenthesis, and no other form of level 0 with anything

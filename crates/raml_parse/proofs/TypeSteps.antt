@@ -2,14 +2,14 @@
 use Rattle.std.proofs.Common.{◌≡◌, ◌∙◌, ◌-◌, ℕ, zero, suc, List, [], ◌∷◌, refl, ap, sym, arith}
 use Rattle.std.specs.Prelude.{Option, Some, None, Bool, true, false, max, Ok, Err, nat_le, nat_eq, if◌then◌else◌}
 use Rattle.std.proofs.lemmas.Bool.{eqb-true}
-use Rattle.token_grammar.specs.Rules.{Rule, Grammar, Done, opening}
-use Rattle.token_grammar.specs.declared.Kind.TheVariants.{Syntax, TooDeep}
-use Rattle.token_grammar.specs.Reading.{Answer, ◌>>=◌, rest_of, formed, parts, goes_here, goes_at, starts_at, again_of, more_of, chain_of, rule_of, level_of, read}
+use Rattle.token_grammar.specs.Rules.{opening}
+use Rattle.token_grammar.specs.declared.Kind.TheVariants.{TooDeep}
+use Rattle.token_grammar.specs.Reading.{Answer, ◌>>=◌, rest_of, goes_here, goes_at, starts_at, again_of, more_of, chain_of, rule_of, level_of, read}
 use Rattle.token_grammar.proofs.Basics.{goes_is}
 use Rattle.token_grammar.proofs.Steps.{level_form, level_none, level_lower, read_step}
-use Rattle.raml_parse.specs.Tokens.{Token, Name, Number, Key}
+use Rattle.raml_parse.specs.Tokens.{Token, Key}
 use Rattle.raml_parse.specs.declared.token.Sign.TheVariants as s
-use Rattle.raml_parse.specs.Table.{Part, Class, Types, Exprs, Rules, Typing, list_act, tree_act, second_rule, pair_type_act, type_starts, table, grammar}
+use Rattle.raml_parse.specs.Table.{Part, Class, Types, Exprs, Rules, Typing, list_act, tree_act, pair_type_act, table, grammar}
 use Rattle.raml_parse.specs.Steps.{base_of, goes_on, postfix_of, second_of, product_of}
 use Rattle.raml_parse.proofs.Chains.{step, pair_once}
 use Rattle.raml_parse.proofs.TheTable.{Goings, goings}
@@ -96,7 +96,7 @@ module _ (d : ℕ) where
         go (Some r) q ih =
             ap (λ o. if nat_le h d then o else Err (TooDeep, s))
             (ap (λ o. o >>= (λ y. again_of (grammar.chains Types n) (chain_of grammar sub 0 d Types n w k) y.0 (suc (max h y.1)) y.2)) (rule_alone n s (rest_of s) r e q)
-              ∙ bound _ _ (λ y. same_again (grammar.chains Types n) (chain_of grammar sub 0 d Types n w k) (chain_of grammar sub 0 d Types n [] k) y (ih y)) (rule_of grammar sub 0 d r (e ∷ []) (rest_of s)))
+            ∙ bound _ _ (λ y. same_again (grammar.chains Types n) (chain_of grammar sub 0 d Types n w k) (chain_of grammar sub 0 d Types n [] k) y (ih y)) (rule_of grammar sub 0 d r (e ∷ []) (rest_of s)))
 
   base_is : (s : List Token) → level_of grammar sub 0 d Types 0 s ≡ base_of d s
   base_is s = go (starts_at grammar Types 0 s) refl

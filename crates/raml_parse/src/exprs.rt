@@ -34,12 +34,7 @@ type Boxed<'a> = Result<(Box<Expr>, u32, &'a [Piece]), Stop<'a>>;
 
 /// An expression of this level, of height `depth` at most.
 #[cycle(expression)]
-pub fn parse_expr<'a>(
-    alloc: Global,
-    level: u32,
-    depth: u32,
-    tokens: &'a [Piece],
-) -> Found<'a>
+pub fn parse_expr<'a>(alloc: Global, level: u32, depth: u32, tokens: &'a [Piece]) -> Found<'a>
     requires low { level ≤ 4 }
     requires shallow { depth < 2 ^ 30 }
     ensures same { Gives phrase result (read grammar 0 depth Exprs level (pieces tokens.now)) }
@@ -136,12 +131,7 @@ fn parse_chain<'a>(
 
 // The right operand of an operator.
 #[cycle(expression)]
-fn parse_right<'a>(
-    alloc: Global,
-    operator: Infix,
-    depth: u32,
-    tokens: &'a [Piece],
-) -> Boxed<'a>
+fn parse_right<'a>(alloc: Global, operator: Infix, depth: u32, tokens: &'a [Piece]) -> Boxed<'a>
     requires { depth < 2 ^ 30 }
     ensures same { Gives boxed result (read grammar 0 depth Exprs (right_level operator) (pieces tokens.now)) }
     ensures low { IfOk result (λ x. x.1 ≤ depth) }
@@ -220,13 +210,7 @@ fn parse_compound<'a>(
 
 // A variable, or a call.
 #[cycle(expression)]
-fn parse_name<'a>(
-    alloc: Global,
-    depth: u32,
-    at: Pos,
-    name: &Name,
-    tokens: &'a [Piece],
-) -> Found<'a>
+fn parse_name<'a>(alloc: Global, depth: u32, at: Pos, name: &Name, tokens: &'a [Piece]) -> Found<'a>
     requires { suc depth < 2 ^ 30 }
     ensures same { Gives phrase result (formed (rule_of grammar (read grammar 0 depth) 0 depth (name_rule name.now) (At at.0 ∷ []) (pieces tokens.now))) }
     ensures low { IfOk result (λ x. x.1 ≤ suc depth) }
@@ -240,13 +224,7 @@ fn parse_name<'a>(
 
 // The arguments of a call.
 #[cycle(expression)]
-fn parse_call<'a>(
-    alloc: Global,
-    depth: u32,
-    at: Pos,
-    name: &Name,
-    tokens: &'a [Piece],
-) -> Found<'a>
+fn parse_call<'a>(alloc: Global, depth: u32, at: Pos, name: &Name, tokens: &'a [Piece]) -> Found<'a>
     requires { suc depth < 2 ^ 30 }
     ensures same { Gives phrase result (formed (rule_of grammar (read grammar 0 depth) 0 depth (args_rule name.now) (At at.0 ∷ []) (pieces tokens.now))) }
     ensures low { IfOk result (λ x. x.1 ≤ suc depth) }
@@ -324,7 +302,11 @@ fn parse_trees<'a>(
     let rest = take_sign(rest, Sign::Comma)?;
     let (right, right_height, rest) = parse_part(alloc, depth, rest)?;
     let rest = take_sign(rest, Sign::Close)?;
-    Ok((make::node(at, element, left, right), left_height.max(right_height), rest))
+    Ok((
+        make::node(at, element, left, right),
+        left_height.max(right_height),
+        rest,
+    ))
 }
 
 // What stands behind `not`.
@@ -335,7 +317,11 @@ fn parse_not<'a>(alloc: Global, depth: u32, at: Pos, tokens: &'a [Piece]) -> Fou
     ensures low { IfOk result (λ x. x.1 ≤ suc depth) }
 {
     let (operand, height, rest) = parse_expr(alloc, 0, depth, tokens)?;
-    Ok((make::negation(at, Box::new(alloc, operand)?), 1 + height, rest))
+    Ok((
+        make::negation(at, Box::new(alloc, operand)?),
+        1 + height,
+        rest,
+    ))
 }
 
 // What stands behind a `(`.
@@ -400,7 +386,11 @@ fn parse_let<'a>(alloc: Global, depth: u32, at: Pos, tokens: &'a [Piece]) -> Fou
     let (bound, height, rest) = parse_part(alloc, depth, rest)?;
     let rest = take_sign(rest, Sign::In)?;
     let (body, body_height, rest) = parse_part(alloc, depth, rest)?;
-    Ok((make::binding(at, x, bound, body), 1 + height.max(body_height), rest))
+    Ok((
+        make::binding(at, x, bound, body),
+        1 + height.max(body_height),
+        rest,
+    ))
 }
 
 // What stands behind the two names of a `let`.
@@ -422,7 +412,11 @@ fn parse_let_pair<'a>(
     let (bound, height, rest) = parse_part(alloc, depth, rest)?;
     let rest = take_sign(rest, Sign::In)?;
     let (body, body_height, rest) = parse_part(alloc, depth, rest)?;
-    Ok((make::pair_binding(at, x, y, bound, body), height.max(body_height), rest))
+    Ok((
+        make::pair_binding(at, x, y, bound, body),
+        height.max(body_height),
+        rest,
+    ))
 }
 
 // What stands behind `if`.
@@ -502,7 +496,11 @@ fn parse_list_case<'a>(
     let (tail, rest) = take_binder(alloc, rest)?;
     let rest = take_sign(rest, Sign::Arrow)?;
     let (body, height, rest) = parse_part(alloc, depth, rest)?;
-    Ok((make::list_cases(at, subject, empty, head, tail, body), height, rest))
+    Ok((
+        make::list_cases(at, subject, empty, head, tail, body),
+        height,
+        rest,
+    ))
 }
 
 // The case of a tree with an element and two trees.
@@ -548,7 +546,11 @@ fn parse_tree_names<'a>(
     let rest = take_sign(rest, Sign::Close)?;
     let rest = take_sign(rest, Sign::Arrow)?;
     let (body, height, rest) = parse_part(alloc, depth, rest)?;
-    Ok((make::tree_cases(at, subject, empty, element, left, right, body), height, rest))
+    Ok((
+        make::tree_cases(at, subject, empty, element, left, right, body),
+        height,
+        rest,
+    ))
 }
 
 // What stands behind `tick`.

@@ -89,11 +89,9 @@ impl<'a> Start<'a> {
         ensures { result ≡ (start_form self.entry).0 }
     {
         match self {
-            Start::Compound(
-                Compound::Let | Compound::If | Compound::Match | Compound::Tick,
-            ) => 4,
-            Start::Compound(Compound::Node | Compound::Not | Compound::Parens)
-            | Start::Simple(_) => 0,
+            Start::Compound(Compound::Let | Compound::If | Compound::Match | Compound::Tick) => 4,
+            Start::Compound(Compound::Node | Compound::Not | Compound::Parens) | Start::Simple(_) =>
+                0,
         }
     }
 

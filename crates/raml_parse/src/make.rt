@@ -84,12 +84,7 @@ fn call_of(at: Pos, function: Name, args: Vec<Expr>) -> Expr
 }
 
 #[tactic(auto, using(crate::proofs::Parts::call_is))]
-pub fn call(
-    alloc: Global,
-    at: Pos,
-    function: &Name,
-    args: Vec<Expr>,
-) -> Result<Expr, AllocError>
+pub fn call(alloc: Global, at: Pos, function: &Name, args: Vec<Expr>) -> Result<Expr, AllocError>
     ensures { IfOk result (λ e. call_act function.now (phrases_back args.items ++ At at.0 ∷ []) ≡ Phrase (term_of e)) }
 {
     Ok(call_of(at, Name::new(alloc, function.text())?, args))

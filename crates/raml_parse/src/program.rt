@@ -106,12 +106,7 @@ fn parse_params_and_body<'a>(
 }
 
 // What stands behind the `fun` at `at`.
-fn parse_function<'a>(
-    alloc: Global,
-    depth: u32,
-    at: Pos,
-    tokens: &'a [Piece],
-) -> FoundFunction<'a>
+fn parse_function<'a>(alloc: Global, depth: u32, at: Pos, tokens: &'a [Piece]) -> FoundFunction<'a>
     requires { depth < 2 ^ 30 }
     ensures same { Gives function result (rule_of grammar (read grammar 0 depth) 0 depth function_rule [] (pieces tokens.now)) }
     ensures low { IfOk result (λ x. x.1 ≤ depth) }

@@ -43,8 +43,8 @@ parse_args-returns-in_err-arg-clause-same t c =
     let few : vec_len c.loop-next.args < 8 = omega (arith, c.loop-next.invariant.2, c.if-len-eq-MAX_ARGS.false, c.len.ensures) in
     refused phrases c.from_residual-in_err-arg.result _ c.in_err-arg.field-0.0 e.0 e.1
     (fails_as c.in_err-arg.field-0.0 (item (pieces c.in-Some.next.now)) _
-      (λ y q. c.loop-next.invariant.0 ∙ items_fail item (key Comma) (8 - vec_len c.loop-next.args) (phrases_back c.loop-next.args.items) [] c.loop-next.height (pieces c.loop-next.rest.now) y (λ z. omega (arith, z, few)) c.in-Some.ensures.0 (ap item c.in-Some.ensures.1 ∙ q))
-      c.in_err-arg.ensures.same)
+    (λ y q. c.loop-next.invariant.0 ∙ items_fail item (key Comma) (8 - vec_len c.loop-next.args) (phrases_back c.loop-next.args.items) [] c.loop-next.height (pieces c.loop-next.rest.now) y (λ z. omega (arith, z, few)) c.in-Some.ensures.0 (ap item c.in-Some.ensures.1 ∙ q))
+    c.in_err-arg.ensures.same)
 
 pub parse_args-loop-next-preserved : goal.parse_args-loop-next-preserved
 parse_args-loop-next-preserved t c =

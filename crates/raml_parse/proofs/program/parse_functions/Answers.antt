@@ -40,10 +40,9 @@ loop-next_at-init c =
     let one : vec_len new ≡ 1 = omega (arith, c.in_ok-push.ensures.len, c.new-funs.ensures.len) in
     let more : 255 ≡ 256 - vec_len new = omega (arith, one) in
     let room : vec_len new ≤ 256 = omega (arith, one) in
-    let some : 0 < vec_len new = omega (arith, one) in
-    (
+    let some : 0 < vec_len new = omega (arith, one) in (
       ap (λ o. o >>= (λ x. items_of item (place Fun) 255 (x.0 ∷ []) x.1 x.2)) c.in_ok-first.ensures.same
-      ∙ (λ i. items_of item (place Fun) (more i) (sym (ap functions_back only) i) c.in_ok-first.height (pieces c.in_ok-first.rest.now)),
+          ∙ (λ i. items_of item (place Fun) (more i) (sym (ap functions_back only) i) c.in_ok-first.height (pieces c.in_ok-first.rest.now)),
       c.in_ok-first.ensures.low,
       room,
       some,
@@ -57,5 +56,5 @@ returns-in_err-function-clause-same c =
     let few : vec_len c.loop-next_at.funs < 256 = omega (arith, c.loop-next_at.invariant.2, c.if-len-eq-MAX_FUNCTIONS.false, c.len.ensures) in
     refused functions c.from_residual-in_err-function.result _ c.in_err-function.field-0.0 e.0 e.1
     (fails_as c.in_err-function.field-0.0 (item (pieces c.in-Some.next.now)) _
-      (λ y q. c.loop-next_at.invariant.0 ∙ items_fail item (place Fun) (256 - vec_len c.loop-next_at.funs) (functions_back c.loop-next_at.funs.items) (At c.in-Some.next_at.0 ∷ []) c.loop-next_at.height (pieces c.loop-next_at.rest.now) y (λ z. omega (arith, z, few)) c.in-Some.ensures.0 (ap item c.in-Some.ensures.1 ∙ q))
-      c.in_err-function.ensures.same)
+    (λ y q. c.loop-next_at.invariant.0 ∙ items_fail item (place Fun) (256 - vec_len c.loop-next_at.funs) (functions_back c.loop-next_at.funs.items) (At c.in-Some.next_at.0 ∷ []) c.loop-next_at.height (pieces c.loop-next_at.rest.now) y (λ z. omega (arith, z, few)) c.in-Some.ensures.0 (ap item c.in-Some.ensures.1 ∙ q))
+    c.in_err-function.ensures.same)

@@ -1,4 +1,4 @@
-use Rattle.std.proofs.Common.{[], ◌∷◌, arith}
+use Rattle.std.proofs.Common.{[], arith}
 use Rattle.raml_syntax.specs.Read.{ty_of}
 use Rattle.raml_parse.specs.Table.{Types, Typing}
 use Rattle.raml_parse.specs.Forms.{suffix_rule}
