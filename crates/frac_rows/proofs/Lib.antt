@@ -1,0 +1,5 @@
+mod Differing
+mod Walking
+mod Pointwise
+mod Quotients
+mod Finding
