@@ -50,3 +50,17 @@ less_nothing x f q e = record {
   fits = λ m l. zero_fits x m l;
   is_difference = less_zero x.num x.den;
 }
+
+none_times : (a b : ℤ) (c : ℤ) (d : ℕ) → a ≡ pos 0 → pos 0 *ℤ c ≡ (a *ℤ b) *ℤ pos d
+none_times a b c d e =
+    let z : a *ℤ b ≡ pos 0 = rw e (omega (arith, ints)) in
+    rw z (omega (arith, ints))
+
+-- less nothing times a fraction
+pub less_none : (x f q : Frac) → f.num ≡ pos 0 → IsLess x f q x
+less_none x f q e = record {
+  product = nought;
+  is_product = none_times f.num q.num (pos (f.den * q.den)) 1 e;
+  fits = λ m l. zero_fits x m l;
+  is_difference = less_zero x.num x.den;
+}

@@ -1,5 +1,5 @@
-mod Differing
+pub mod Differing
 mod Walking
-mod Pointwise
+pub mod Pointwise
 mod Quotients
 mod Finding

@@ -1,8 +1,8 @@
-mod Rows
+pub mod Rows
 mod Columns
-mod Invariant
-mod Pivoting
-mod Opening
+pub mod Invariant
+pub mod Pivoting
+pub mod Opening
 mod Bases
 mod Ordered
 mod Falling

@@ -1,0 +1,4 @@
+mod Lifting
+mod Pivots
+mod Sweeping
+mod Tying
