@@ -2,3 +2,4 @@ mod Lifting
 mod Pivots
 mod Sweeping
 mod Tying
+mod Narrowing

@@ -1,10 +1,10 @@
 //! The row that leaves the basis.
 
-ghost use Rattle.std.specs.Prelude.{◌≡◌, ◌<ℤ◌, ℕ, pos, IfOk, OnOk, MatchOption};
+ghost use Rattle.std.specs.Prelude.{◌≡◌, ◌<◌, ◌≤◌, ◌<ℤ◌, ℕ, pos, length, IfOk, OnOk, MatchOption};
 ghost use Rattle.frac128.specs.Values.{numerator, IsQuotient};
 ghost use Rattle.frac128.specs.declared.Frac.{Frac};
 ghost use Rattle.frac_rows.specs.Entries.{at, QuotientLeaves};
-ghost use Rattle.simplex.specs.Ties.{Among, IsBounding, AreBounding, AreTied, RatioLeaves, Keeps, ratio_order};
+ghost use Rattle.simplex.specs.Ties.{Among, IsBounding, AreBounding, AreTied, RatioLeaves, Keeps, ratio_order, IsLeaving, SearchLeaves, columns_to};
 
 use crate::pivot::Fault;
 use frac_rows::FracRow;
@@ -81,4 +81,59 @@ fn ties(
         }
     }
     Ok(tied)
+}
+
+/// The row that leaves the basis for column `s`, or None where no row bounds that column. Rows are
+/// compared by their ratios at column `right`, and where these tie at the columns from `slack` on, until
+/// one is left.
+pub(crate) fn leaving(
+    alloc: Global,
+    rows: &[FracRow],
+    s: u32,
+    slack: u32,
+    right: u32,
+) -> Result<Option<usize>, Fault>
+    requires { slack ≤ right }
+    ensures row { (l : ℕ) → result ≡ Ok (Some l) → IsLeaving (columns_to right slack right) s rows.now l }
+    ensures none { (i : ℕ) → result ≡ Ok None → ¬ IsBounding s rows.now i }
+    ensures leaves { (i c : ℕ) → result ≡ Err (Fault.Leaves i c) → SearchLeaves (columns_to right slack right) s rows.now i c }
+{
+    let all = bounding(alloc, rows, s)?;
+    if all.is_empty() {
+        return Ok(None);
+    }
+    match narrowed(alloc, rows, s, slack, right, &all) {
+        Ok(row) => Ok(Some(row)),
+        Err(fault) => Err(fault),
+    }
+}
+
+/// The row that is left of these, which are all that bound column `s`.
+fn narrowed(
+    alloc: Global,
+    rows: &[FracRow],
+    s: u32,
+    slack: u32,
+    right: u32,
+    all: &[usize],
+) -> Result<usize, Fault>
+    requires order { slack ≤ right }
+    requires bounding { AreBounding s rows.now all.now }
+    requires some { 0 < length all.now }
+    ensures row { IfOk result (IsLeaving (columns_to right slack right) s rows.now) }
+    ensures leaves { (i c : ℕ) → result ≡ Err (Fault.Leaves i c) → SearchLeaves (columns_to right slack right) s rows.now i c }
+{
+    let mut tied = match ties(alloc, rows, s, right, all) {
+        Ok(tied) => tied,
+        Err(fault) => return Err(fault),
+    };
+    let mut column = slack;
+    while tied.len() > 1 && column < right {
+        match ties(alloc, rows, s, column, &tied) {
+            Ok(fewer) => tied = fewer,
+            Err(fault) => return Err(fault),
+        }
+        column += 1;
+    }
+    Ok(tied[0])
 }

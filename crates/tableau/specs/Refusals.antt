@@ -26,19 +26,19 @@ pub record DifferenceLeaves (n d m k : ℤ) : Type 0 where
   pub is_common : IsLcm b f common
   pub leaves : PartsFit a b (neg_ℤ e) f common → ⊥
 
--- the search for the row that leaves for column e looks at row i in column c: before that column of the
--- compared ones, row i is tied for the least, and with another row unless it is the first of them
-pub record IsCompared (s : LinearSystem) (t : Tableau) (e i c : ℕ) : Type 0 where
+-- the search for the row that leaves for column e, by the columns cs, looks at row i in column c: before
+-- that column row i is tied for the least, and with another row unless it is the first of them
+pub record IsCompared (cs : List ℕ) (t : Tableau) (e i c : ℕ) : Type 0 where
   pub before : List ℕ
   pub after : List ℕ
-  pub is_next : compared s ≡ before ++ c ∷ after
+  pub is_next : cs ≡ before ++ c ∷ after
   pub tied : IsLeastRow before e t i
   pub another : (before ≡ []) ⊎ ((m : ℕ) × (m ≢ i) × IsLeastRow before e t m)
 
 -- with the entering column e, a number at (i, c) leaves the range of fractions
 pub data Refused (s : LinearSystem) (t : Tableau) (e i c : ℕ) : Type 0 where
   -- its quotient by the number at (i, e), where the search for the leaving row looks at it
-  InSearch : IsCompared s t e i c → NoFraction (entry t i c) (entry t i e) → Refused s t e i c
+  InSearch : IsCompared (compared s) t e i c → NoFraction (entry t i c) (entry t i e) → Refused s t e i c
   -- that quotient in the leaving row
   InLeavingRow : Leaves s e t i → NoFraction (entry t i c) (entry t i e) → Refused s t e i c
   -- in another row, the product of the number at (i, e) and the leaving row's quotient at c
