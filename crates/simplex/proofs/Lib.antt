@@ -3,3 +3,4 @@ mod Pivots
 mod Sweeping
 mod Tying
 mod Narrowing
+mod Steps

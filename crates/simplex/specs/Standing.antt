@@ -22,6 +22,10 @@ pub record RowsStand (t : Tableau) (rows : List Entries) : Type 0 where
   pub count : length rows ≡ length t.rows
   pub each : (i : ℕ) → i < length t.rows → RowStands t.over (row_at t.rows i) (entries_at rows i)
 
+pub record TableStands (t : Tableau) (rows : List Entries) (gains : Entries) : Type 0 where
+  pub rows_stand : RowsStand t rows
+  pub gains_stand : RowStands t.over t.gains gains
+
 -- new is the row less its fraction at column s times the lead
 pub record IsSwept (s : ℕ) (lead old new : Entries) : Type 0 where
   pub each : (c : ℕ) → IsLess (at c old) (at s old) (at c lead) (at c new)
