@@ -7,3 +7,6 @@ mod walk;
 
 pub use fault::RowFault;
 pub use row::FracRow;
+
+#[cfg(test)]
+mod tests;
