@@ -7,4 +7,3 @@ mod Firsts
 mod Checklists
 mod Spreading
 mod Meaning
-mod Duality

@@ -1,4 +1,5 @@
 pub mod Coefficients
 pub mod Products
 pub mod Places
+pub mod Duality
 mod Rowwise

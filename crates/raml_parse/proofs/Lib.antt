@@ -1,7 +1,10 @@
+pub mod Answered
+pub mod Chains
+pub mod ExprSteps
+pub mod Limits
+pub mod OneAnswer
 pub mod Parts
-pub mod Values
 pub mod Signs
 pub mod TheTable
-pub mod Limits
-pub mod Answered
-pub mod OneAnswer
+pub mod TypeSteps
+pub mod Values

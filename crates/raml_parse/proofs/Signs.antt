@@ -1,10 +1,10 @@
 -- Each sign is known by its spelling.
-use Rattle.std.proofs.Common.{◌≡◌, ◌∙◌, refl, sym, ap, subst, [], List, ℕ}
+use Rattle.std.proofs.Common.{◌≡◌, ◌∙◌, refl, sym, ap, subst, [], ◌∷◌, List, ℕ}
 use Rattle.std.specs.Prelude.{Some, None, Bool, true, false, if◌then◌else◌}
 use Rattle.std.proofs.lemmas.Slice.Eq.{bytes_eq-Decides}
 use Rattle.raml_parse.specs.Tokens.{Sign, Token, Name, Number, Key, spelling, sign_of, same}
 use Rattle.raml_parse.specs.declared.token.Sign.TheVariants as s
-use Rattle.raml_parse.specs.Table.{Part, key}
+use Rattle.raml_parse.specs.Table.{Part, At, key, place}
 
 sign_back : (k : Sign) → sign_of (spelling k) ≡ k
 sign_back s.Fun = refl
@@ -54,3 +54,12 @@ key_is k P f (Key p j) ws e = go (same j k) refl e
     go false q e = absurd (cc)
 key_is k P f (Name p x) ws e = absurd (cc)
 key_is k P f (Number p n) ws e = absurd (cc)
+
+pub place_is : (k : Sign) (P : Token → Type 0) → ((p : ℕ) → P (Key p k)) → (t : Token) (ws : List Part) → place k t ≡ Some ws → P t
+place_is k P f (Key p j) ws e = go (same j k) refl e
+  where
+    go : (b : Bool) → same j k ≡ b → (if b then Some (At p ∷ []) else None) ≡ Some ws → P (Key p j)
+    go true q e = subst (λ j. P (Key p j)) (sym (same_is j k q)) (f p)
+    go false q e = absurd (cc)
+place_is k P f (Name p x) ws e = absurd (cc)
+place_is k P f (Number p n) ws e = absurd (cc)

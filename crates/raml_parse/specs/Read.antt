@@ -1,17 +1,20 @@
 -- What the code's tokens and answers are as plain data.
-use Rattle.std.specs.Prelude.{◌≡◌, ℕ, List, map, reverse, Result, Ok, Err, Vec}
+use Rattle.std.specs.Prelude.{◌≡◌, ℕ, List, [], ◌∷◌, ◌++◌, map, reverse, Result, Ok, Err, Vec}
 use Rattle.std.specs.Borrow.{Bor}
-use Rattle.std.specs.Global.{Global}
+use Rattle.std.specs.Global.{Global, Box}
 use Rattle.token_grammar.specs.Reading.{Fault}
 use Rattle.token_grammar.specs.declared.Kind.{Kind}
 use Rattle.token_grammar.specs.declared.Kind.TheVariants as d
+use Rattle.raml_syntax.specs.declared.tree.Binder.{Binder}
 use Rattle.raml_syntax.specs.Read.{term_of, ty_of, parameter_of, program_of}
 use Rattle.raml_syntax.specs.declared.tree.Expr.{Expr}
 use Rattle.raml_syntax.specs.declared.ty.Ty.{Ty}
 use Rattle.raml_syntax.specs.declared.program.Param.{Param}
+use Rattle.raml_syntax.specs.declared.program.Fun.{Fun}
 use Rattle.raml_syntax.specs.declared.program.Program.{Program}
 use Rattle.raml_parse.specs.Tokens.{Token, Name, Number, Key}
-use Rattle.raml_parse.specs.Table.{Part, Phrase, Typing, Header, Whole}
+use Rattle.raml_parse.specs.declared.take.NameAt.{NameAt}
+use Rattle.raml_parse.specs.Table.{Part, At, Named, Phrase, Typing, Header, Headed, Whole}
 use Rattle.raml_parse.specs.declared.token.Word.{Word}
 use Rattle.raml_parse.specs.declared.token.Word.TheVariants as w
 use Rattle.raml_parse.specs.declared.token.Piece.{Piece}
@@ -32,6 +35,12 @@ token_of q = word_at q.word q.at.0
 abbrev pub pieces : List Piece → List Token
 pieces = map token_of
 
+abbrev pub named_part : NameAt → Part
+named_part x = Named x.at.0 x.name.now
+
+abbrev pub binder_part : Binder → Part
+binder_part b = Named b.at.0 b.name
+
 -- What a function returned is, by the view, what reading answers, unless memory ran out.
 abbrev pub Fails : {Y : Type 0} → Stop → Result Y (Fault Token) → Type 0
 Fails (f.Fault k u) read = read ≡ Err (k, pieces u.now)
@@ -47,6 +56,9 @@ rest u = pieces u.now
 abbrev pub phrase : Expr × ℕ × Bor (List Piece) → Part × ℕ × List Token
 phrase x = (Phrase (term_of x.0), x.1, rest x.2)
 
+abbrev pub boxed : Box Expr × ℕ × Bor (List Piece) → Part × ℕ × List Token
+boxed x = (Phrase (term_of x.0.value), x.1, rest x.2)
+
 abbrev pub typing : Ty × ℕ × Bor (List Piece) → Part × ℕ × List Token
 typing x = (Typing (ty_of x.0), x.1, rest x.2)
 
@@ -59,6 +71,38 @@ headers_back ps = map Header (reverse (map parameter_of ps))
 
 abbrev pub headers : Vec Param Global × ℕ × Bor (List Piece) → List Part × ℕ × List Token
 headers x = (headers_back x.0.items, x.1, rest x.2)
+
+-- what the arguments are, the last one first
+abbrev pub phrases_back : List Expr → List Part
+phrases_back es = map Phrase (reverse (map term_of es))
+
+abbrev pub phrases : Vec Expr Global × ℕ × Bor (List Piece) → List Part × ℕ × List Token
+phrases x = (phrases_back x.0.items, x.1, rest x.2)
+
+-- a function without its place
+abbrev pub headed : Fun → Part
+headed f = Headed f.name (map parameter_of f.params.items) (ty_of f.result) (term_of f.body)
+
+abbrev pub function : Fun × ℕ × Bor (List Piece) → Part × ℕ × List Token
+function x = (headed x.0, x.1, rest x.2)
+
+-- each function behind its place, the last one first
+abbrev pub marks : List Fun → List Part
+marks [] = []
+marks (f ∷ fs) = marks fs ++ (headed f ∷ At f.at.0 ∷ [])
+
+-- the same without the place of the first
+abbrev pub functions_back : List Fun → List Part
+functions_back [] = []
+functions_back (f ∷ fs) = marks fs ++ (headed f ∷ [])
+
+-- the first function's `fun` stands there
+abbrev pub StartsAt : ℕ → List Fun → Type 0
+StartsAt p [] = ⊥
+StartsAt p (f ∷ fs) = f.at.0 ≡ p
+
+abbrev pub functions : Vec Fun Global × ℕ × Bor (List Piece) → List Part × ℕ × List Token
+functions x = (functions_back x.0.items, x.1, rest x.2)
 
 abbrev pub whole : Program × ℕ × Bor (List Piece) → Part × ℕ × List Token
 whole x = (Whole (program_of x.0), x.1, rest x.2)

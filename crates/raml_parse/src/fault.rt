@@ -16,7 +16,7 @@ pub enum ParseFault {
     Syntax { at: Pos },
     /// Each program that begins so has a type or a body of height above 200.
     TooDeep { at: Pos },
-    /// Each program that begins so has more than 8 parameters.
+    /// Each program that begins so has more than 256 functions, or 8 parameters or arguments.
     TooMany { at: Pos },
     NoMemory,
 }

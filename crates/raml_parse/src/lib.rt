@@ -3,6 +3,7 @@
 
 mod exprs;
 mod fault;
+mod form;
 mod make;
 mod pieces;
 mod program;

@@ -1,20 +1,67 @@
 // Trees from their parts.
-ghost use Rattle.std.specs.Prelude.{◌≡◌, ◌≤◌, [], ◌∷◌, ◌++◌, map, pos, IfOk};
+ghost use Rattle.std.specs.Prelude.{◌≡◌, ◌≤◌, [], ◌∷◌, ◌++◌, IfOk};
 ghost use Rattle.raml_syntax.specs.Tree as t;
-ghost use Rattle.raml_syntax.specs.Read.{term_of, ty_of, parameter_of, function_of, program_of};
-ghost use Rattle.raml_parse.specs.Table.{function_act, Phrase, Typing, Named, At, Whole};
-ghost use Rattle.raml_parse.specs.Read.{headers_back};
+ghost use Rattle.raml_syntax.specs.Read.{term_of, terms_of, ty_of, bound_of, parameter_of};
+ghost use Rattle.raml_parse.specs.Table.{Phrase, Typing, At, call_act, function_act};
+ghost use Rattle.raml_parse.specs.Forms.{infix_act};
+ghost use Rattle.raml_parse.specs.Read.{phrases_back, headers_back, headed, named_part};
 
-use raml_syntax::{Expr, Form, Fun, Name, Param, Pos, Program, Ty};
+use crate::form::Infix;
+use crate::take::NameAt;
+use raml_syntax::{Binder, Expr, Form, Fun, Name, Param, Pos, Ty};
 use std::alloc::{AllocError, Global};
 
-pub fn number(at: Pos, value: u64) -> Expr
-    requires { value ≤ 9223372036854775807 }
-    ensures { term_of result ≡ t.Number at.0 (pos value) }
+pub fn list_type(alloc: Global, element: Ty) -> Result<Ty, AllocError>
+    ensures { IfOk result (λ a. ty_of a ≡ t.ListOf (ty_of element)) }
+{
+    Ok(Ty::List(Box::new(alloc, element)?))
+}
+
+pub fn tree_type(alloc: Global, element: Ty) -> Result<Ty, AllocError>
+    ensures { IfOk result (λ a. ty_of a ≡ t.TreeOf (ty_of element)) }
+{
+    Ok(Ty::Tree(Box::new(alloc, element)?))
+}
+
+pub fn pair_type(alloc: Global, first: Ty, second: Ty) -> Result<Ty, AllocError>
+    ensures { IfOk result (λ a. ty_of a ≡ t.PairOf (ty_of first) (ty_of second)) }
+{
+    Ok(Ty::Pair(Box::new(alloc, first)?, Box::new(alloc, second)?))
+}
+
+pub fn number(at: Pos, value: i64) -> Expr
+    ensures { term_of result ≡ t.Number at.0 value }
 {
     Expr {
         at,
-        form: Form::Number(value as i64),
+        form: Form::Number(value),
+    }
+}
+
+pub fn truth(at: Pos, value: bool) -> Expr
+    ensures { term_of result ≡ t.Truth at.0 value }
+{
+    Expr {
+        at,
+        form: Form::Truth(value),
+    }
+}
+
+pub fn nil(at: Pos) -> Expr
+    ensures { term_of result ≡ t.Nil at.0 }
+{
+    Expr {
+        at,
+        form: Form::Nil,
+    }
+}
+
+pub fn leaf(at: Pos) -> Expr
+    ensures { term_of result ≡ t.Leaf at.0 }
+{
+    Expr {
+        at,
+        form: Form::Leaf,
     }
 }
 
@@ -27,66 +74,171 @@ pub fn variable(alloc: Global, at: Pos, name: &Name) -> Result<Expr, AllocError>
     })
 }
 
-pub fn tick(alloc: Global, at: Pos, count: u32, body: Expr) -> Result<Expr, AllocError>
-    ensures { IfOk result (λ e. term_of e ≡ t.Tick at.0 count (term_of body)) }
+fn call_of(at: Pos, function: Name, args: Vec<Expr>) -> Expr
+    ensures { term_of result ≡ t.Call at.0 function (terms_of args.items) }
 {
-    Ok(Expr {
+    Expr {
         at,
-        form: Form::Tick(count, Box::new(alloc, body)?),
-    })
+        form: Form::Call(function, args),
+    }
 }
 
-pub fn parameter(alloc: Global, at: Pos, name: &Name, ty: Ty) -> Result<Param, AllocError>
-    ensures { IfOk result (λ p. parameter_of p ≡ record { at = at.0; name = name.now; type = ty_of ty }) }
+#[tactic(auto, using(crate::proofs::Parts::call_is))]
+pub fn call(alloc: Global, at: Pos, function: &Name, args: Vec<Expr>) -> Result<Expr, AllocError>
+    ensures { IfOk result (λ e. call_act function.now (phrases_back args.items ++ At at.0 ∷ []) ≡ Phrase (term_of e)) }
+{
+    Ok(call_of(at, Name::new(alloc, function.text())?, args))
+}
+
+pub fn node(at: Pos, element: Box<Expr>, left: Box<Expr>, right: Box<Expr>) -> Expr
+    ensures { term_of result ≡ t.Node at.0 (term_of element.value) (term_of left.value) (term_of right.value) }
+{
+    Expr {
+        at,
+        form: Form::Node(element, left, right),
+    }
+}
+
+pub fn negation(at: Pos, operand: Box<Expr>) -> Expr
+    ensures { term_of result ≡ t.Not at.0 (term_of operand.value) }
+{
+    Expr {
+        at,
+        form: Form::Not(operand),
+    }
+}
+
+pub fn pair(at: Pos, first: Box<Expr>, second: Box<Expr>) -> Expr
+    ensures { term_of result ≡ t.Pair at.0 (term_of first.value) (term_of second.value) }
+{
+    Expr {
+        at,
+        form: Form::Pair(first, second),
+    }
+}
+
+pub fn typed(at: Pos, expr: Box<Expr>, ty: Ty) -> Expr
+    ensures { term_of result ≡ t.Typed at.0 (term_of expr.value) (ty_of ty) }
+{
+    Expr {
+        at,
+        form: Form::Typed(expr, ty),
+    }
+}
+
+/// `let x = bound in rest`.
+pub fn binding(at: Pos, x: Binder, bound: Box<Expr>, rest: Box<Expr>) -> Expr
+    ensures { term_of result ≡ t.Let at.0 (bound_of x) (term_of bound.value) (term_of rest.value) }
+{
+    Expr {
+        at,
+        form: Form::Let(x, bound, rest),
+    }
+}
+
+/// `let (x, y) = bound in rest`.
+pub fn pair_binding(at: Pos, x: Binder, y: Binder, bound: Box<Expr>, rest: Box<Expr>) -> Expr
+    ensures { term_of result ≡ t.LetPair at.0 (bound_of x) (bound_of y) (term_of bound.value) (term_of rest.value) }
+{
+    Expr {
+        at,
+        form: Form::LetPair(x, y, bound, rest),
+    }
+}
+
+pub fn choice(at: Pos, condition: Box<Expr>, first: Box<Expr>, second: Box<Expr>) -> Expr
+    ensures { term_of result ≡ t.If at.0 (term_of condition.value) (term_of first.value) (term_of second.value) }
+{
+    Expr {
+        at,
+        form: Form::If(condition, first, second),
+    }
+}
+
+/// The cases of a list: where it is empty, and where it has a head and a tail.
+pub fn list_cases(
+    at: Pos,
+    subject: Box<Expr>,
+    empty: Box<Expr>,
+    head: Binder,
+    tail: Binder,
+    rest: Box<Expr>,
+) -> Expr
+    ensures { term_of result ≡ t.MatchList at.0 (term_of subject.value) (term_of empty.value) (bound_of head) (bound_of tail) (term_of rest.value) }
+{
+    Expr {
+        at,
+        form: Form::MatchList(subject, empty, head, tail, rest),
+    }
+}
+
+/// The cases of a tree: where it is empty, and where it has an element, a left and a right tree.
+pub fn tree_cases(
+    at: Pos,
+    subject: Box<Expr>,
+    empty: Box<Expr>,
+    element: Binder,
+    left: Binder,
+    right: Binder,
+    rest: Box<Expr>,
+) -> Expr
+    ensures { term_of result ≡ t.MatchTree at.0 (term_of subject.value) (term_of empty.value) (bound_of element) (bound_of left) (bound_of right) (term_of rest.value) }
+{
+    Expr {
+        at,
+        form: Form::MatchTree(subject, empty, element, left, right, rest),
+    }
+}
+
+pub fn tick(at: Pos, count: u32, body: Box<Expr>) -> Expr
+    ensures { term_of result ≡ t.Tick at.0 count (term_of body.value) }
+{
+    Expr {
+        at,
+        form: Form::Tick(count, body),
+    }
+}
+
+/// An operator with its operands.
+pub fn operation(at: Pos, operator: Infix, left: Box<Expr>, right: Box<Expr>) -> Expr
+    ensures { infix_act operator (Phrase (term_of right.value) ∷ Phrase (term_of left.value) ∷ At at.0 ∷ []) ≡ Phrase (term_of result) }
+{
+    let form = match operator {
+        Infix::Arith(op) => Form::Arith(op, left, right),
+        Infix::Cons => Form::Cons(left, right),
+        Infix::Compare(op) => Form::Compare(op, left, right),
+    };
+    Expr { at, form }
+}
+
+pub fn parameter(alloc: Global, parameter: NameAt, ty: Ty) -> Result<Param, AllocError>
+    ensures { IfOk result (λ p. parameter_of p ≡ record { at = parameter.entry.at.0; name = parameter.entry.name.now; type = ty_of ty }) }
 {
     Ok(Param {
-        at,
-        name: Name::new(alloc, name.text())?,
+        at: parameter.at,
+        name: Name::new(alloc, parameter.name.text())?,
         ty,
     })
 }
 
-// The only function of a program.
-fn function(
+/// A function whose `fun` stands at `at`.
+#[tactic(auto, using(crate::proofs::Parts::function_is))]
+pub fn function(
     alloc: Global,
     at: Pos,
-    name: &Name,
+    function: NameAt,
     params: Vec<Param>,
     ty: Ty,
     body: Expr,
 ) -> Result<Fun, AllocError>
-    ensures { IfOk result (λ f. function_of f ≡ record { at = at.0; name = name.now; params = map parameter_of params.items; result = ty_of ty; body = term_of body }) }
+    ensures is { IfOk result (λ f. function_act (Phrase (term_of body) ∷ Typing (ty_of ty) ∷ (headers_back params.items ++ named_part function.entry ∷ [])) ≡ headed f) }
+    ensures place { IfOk result (λ f. f.at ≡ at) }
 {
     Ok(Fun {
         at,
-        name: Name::new(alloc, name.text())?,
+        name: Name::new(alloc, function.name.text())?,
         params,
         result: ty,
         body,
     })
-}
-
-fn one_function(alloc: Global, fun: Fun) -> Result<Program, AllocError>
-    ensures { IfOk result (λ p. program_of p ≡ function_of fun ∷ []) }
-{
-    let mut funs = Vec::new(alloc);
-    funs.push(fun)?;
-    Ok(Program { funs })
-}
-
-/// The program of one function, whose name stands at `name_at`.
-#[tactic(auto, using(crate::proofs::Parts::function_is))]
-pub fn program(
-    alloc: Global,
-    at: Pos,
-    name_at: Pos,
-    name: &Name,
-    params: Vec<Param>,
-    ty: Ty,
-    body: Expr,
-) -> Result<Program, AllocError>
-    ensures { IfOk result (λ p. function_act (Phrase (term_of body) ∷ Typing (ty_of ty) ∷ (headers_back params.items ++ Named name_at.0 name.now ∷ At at.0 ∷ [])) ≡ Whole (program_of p)) }
-{
-    let _ = name_at;
-    one_function(alloc, function(alloc, at, name, params, ty, body)?)
 }

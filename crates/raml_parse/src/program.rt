@@ -1,21 +1,26 @@
 // Functions and programs from tokens.
-ghost use Rattle.std.specs.Prelude.{◌≤◌, ◌<◌, ◌^◌, [], ◌∷◌, ◌++◌, IfOk};
+ghost use Rattle.std.specs.Prelude.{◌≡◌, ◌≤◌, ◌<◌, ◌^◌, [], ◌∷◌, ◌++◌, IfOk};
 ghost use Rattle.token_grammar.specs.Reading.{read, rule_of, list_of};
-ghost use Rattle.raml_parse.specs.Table.{grammar, param_rule, params_rule, body_rule, text_rule, key, Named, At};
-ghost use Rattle.raml_parse.specs.Read.{Gives, pieces, header, headers, headers_back, whole};
-ghost use Rattle.raml_parse.specs.declared.token.Sign.TheVariants.{Comma};
+ghost use Rattle.raml_parse.specs.Table.{grammar, param_rule, params_rule, body_rule, function_rule, functions_rule, text_rule, key, place, At};
+ghost use Rattle.raml_parse.specs.Read.{Gives, StartsAt, pieces, header, headers, headers_back, function, functions, whole, named_part};
+ghost use Rattle.raml_parse.specs.declared.token.Sign.TheVariants as s;
 
-use crate::exprs::parse_expr;
-use crate::make::{parameter, program};
+use crate::exprs::{EXPR, parse_expr};
+use crate::make;
 use crate::stop::Stop;
-use crate::take::{behind, take_name, take_place, take_sign};
+use crate::take::{NameAt, behind, place_behind, take_name, take_place, take_sign};
 use crate::token::{Piece, Sign};
 use crate::types::parse_type;
-use raml_syntax::{Name, Param, Pos, Program};
+use raml_syntax::{Fun, Param, Pos, Program};
 use std::alloc::Global;
 use token_grammar::Kind;
 
 const MAX_PARAMS: usize = 8;
+
+const MAX_FUNCTIONS: usize = 256;
+
+/// A function, the height of its types and its body, and the tokens behind it.
+type FoundFunction<'a> = Result<(Fun, u32, &'a [Piece]), Stop<'a>>;
 
 // A parameter with a type of height `depth` at most.
 fn parse_param<'a>(
@@ -23,23 +28,25 @@ fn parse_param<'a>(
     depth: u32,
     tokens: &'a [Piece],
 ) -> Result<(Param, u32, &'a [Piece]), Stop<'a>>
+    requires { depth < 2 ^ 30 }
     ensures same { Gives header result (rule_of grammar (read grammar 0 depth) 0 depth param_rule [] (pieces tokens.now)) }
     ensures low { IfOk result (λ x. x.1 ≤ depth) }
 {
-    let (at, name, rest) = take_name(tokens)?;
+    let (name, rest) = take_name(tokens)?;
     let rest = take_sign(rest, Sign::Colon)?;
-    let (ty, height, rest) = parse_type(depth, rest)?;
-    Ok((parameter(alloc, at, name, ty)?, height, rest))
+    let (ty, height, rest) = parse_type(alloc, depth, rest)?;
+    Ok((make::parameter(alloc, name, ty)?, height, rest))
 }
 
 // Parameters with commas between.
 #[tactic(auto, unfolding(token_grammar::specs::Reading::items_of))]
-pub fn parse_params<'a>(
+fn parse_params<'a>(
     alloc: Global,
     depth: u32,
     tokens: &'a [Piece],
 ) -> Result<(Vec<Param>, u32, &'a [Piece]), Stop<'a>>
-    ensures same { Gives headers result (list_of (rule_of grammar (read grammar 0 depth) 0 depth param_rule []) (key Comma) 7 (pieces tokens.now)) }
+    requires { depth < 2 ^ 30 }
+    ensures same { Gives headers result (list_of (rule_of grammar (read grammar 0 depth) 0 depth param_rule []) (key s.Comma) 7 (pieces tokens.now)) }
     ensures low { IfOk result (λ x. x.1 ≤ depth) }
 {
     let (first, mut height, mut rest) = parse_param(alloc, depth, tokens)?;
@@ -57,59 +64,99 @@ pub fn parse_params<'a>(
     Ok((params, height, rest))
 }
 
-// What comes behind the parameters of a function.
+// What stands behind the parameters of the function whose `fun` stands at `at`.
 fn parse_body<'a>(
     alloc: Global,
     depth: u32,
     at: Pos,
-    name_at: Pos,
-    name: &Name,
+    name: NameAt,
     params: Vec<Param>,
     tokens: &'a [Piece],
-) -> Result<(Program, u32, &'a [Piece]), Stop<'a>>
-    requires { depth < 2 ^ 31 }
-    ensures same { Gives whole result (rule_of grammar (read grammar 0 depth) 0 depth body_rule (headers_back params.items ++ Named name_at.0 name.now ∷ At at.0 ∷ []) (pieces tokens.now)) }
+) -> FoundFunction<'a>
+    requires { depth < 2 ^ 30 }
+    ensures same { Gives function result (rule_of grammar (read grammar 0 depth) 0 depth body_rule (headers_back params.items ++ named_part name.entry ∷ []) (pieces tokens.now)) }
     ensures low { IfOk result (λ x. x.1 ≤ depth) }
+    ensures place { IfOk result (λ x. x.0.at ≡ at) }
 {
     let rest = take_sign(tokens, Sign::Close)?;
     let rest = take_sign(rest, Sign::Colon)?;
-    let (ty, height, rest) = parse_type(depth, rest)?;
+    let (ty, height, rest) = parse_type(alloc, depth, rest)?;
     let rest = take_sign(rest, Sign::Equal)?;
-    let (body, body_height, rest) = parse_expr(alloc, depth, rest)?;
-    let program = program(alloc, at, name_at, name, params, ty, body)?;
-    Ok((program, height.max(body_height), rest))
+    let (body, body_height, rest) = parse_expr(alloc, EXPR, depth, rest)?;
+    let function = make::function(alloc, at, name, params, ty, body)?;
+    Ok((function, height.max(body_height), rest))
 }
 
-// What comes behind the `(` of a function.
+// What stands behind the `(` of a function.
 fn parse_params_and_body<'a>(
     alloc: Global,
     depth: u32,
     at: Pos,
-    name_at: Pos,
-    name: &Name,
+    name: NameAt,
     tokens: &'a [Piece],
-) -> Result<(Program, u32, &'a [Piece]), Stop<'a>>
-    requires { depth < 2 ^ 31 }
-    ensures same { Gives whole result (rule_of grammar (read grammar 0 depth) 0 depth params_rule (Named name_at.0 name.now ∷ At at.0 ∷ []) (pieces tokens.now)) }
+) -> FoundFunction<'a>
+    requires { depth < 2 ^ 30 }
+    ensures same { Gives function result (rule_of grammar (read grammar 0 depth) 0 depth params_rule (named_part name.entry ∷ []) (pieces tokens.now)) }
     ensures low { IfOk result (λ x. x.1 ≤ depth) }
+    ensures place { IfOk result (λ x. x.0.at ≡ at) }
 {
     let (params, height, rest) = parse_params(alloc, depth, tokens)?;
-    let (program, body_height, rest) = parse_body(alloc, depth, at, name_at, name, params, rest)?;
-    Ok((program, height.max(body_height), rest))
+    let (function, body_height, rest) = parse_body(alloc, depth, at, name, params, rest)?;
+    Ok((function, height.max(body_height), rest))
 }
 
-/// A program.
+// What stands behind the `fun` at `at`.
+fn parse_function<'a>(alloc: Global, depth: u32, at: Pos, tokens: &'a [Piece]) -> FoundFunction<'a>
+    requires { depth < 2 ^ 30 }
+    ensures same { Gives function result (rule_of grammar (read grammar 0 depth) 0 depth function_rule [] (pieces tokens.now)) }
+    ensures low { IfOk result (λ x. x.1 ≤ depth) }
+    ensures place { IfOk result (λ x. x.0.at ≡ at) }
+{
+    let (name, rest) = take_name(tokens)?;
+    let rest = take_sign(rest, Sign::Open)?;
+    parse_params_and_body(alloc, depth, at, name, rest)
+}
+
+// Functions, the first `fun` taken, which stood at `at`.
+#[tactic(auto, unfolding(token_grammar::specs::Reading::items_of))]
+fn parse_functions<'a>(
+    alloc: Global,
+    depth: u32,
+    at: Pos,
+    tokens: &'a [Piece],
+) -> Result<(Vec<Fun>, u32, &'a [Piece]), Stop<'a>>
+    requires { depth < 2 ^ 30 }
+    ensures same { Gives functions result (list_of (rule_of grammar (read grammar 0 depth) 0 depth function_rule []) (place s.Fun) 255 (pieces tokens.now)) }
+    ensures low { IfOk result (λ x. x.1 ≤ depth) }
+    ensures place { IfOk result (λ x. StartsAt at.0 x.0.items) }
+{
+    let (first, mut height, mut rest) = parse_function(alloc, depth, at, tokens)?;
+    let mut funs = Vec::new(alloc);
+    funs.push(first)?;
+    while let Some((next_at, next)) = place_behind(rest, Sign::Fun) {
+        if funs.len() == MAX_FUNCTIONS {
+            return Err(Stop::Fault(Kind::TooMany, rest));
+        }
+        let (function, part, after) = parse_function(alloc, depth, next_at, next)?;
+        funs.push(function)?;
+        height = height.max(part);
+        rest = after;
+    }
+    Ok((funs, height, rest))
+}
+
+/// A program with types and bodies of height `depth` at most, their height, and the tokens behind it.
+#[tactic(auto, using(crate::proofs::Parts::program_is))]
 pub fn parse_program<'a>(
     alloc: Global,
     depth: u32,
     tokens: &'a [Piece],
 ) -> Result<(Program, u32, &'a [Piece]), Stop<'a>>
-    requires { depth < 2 ^ 31 }
+    requires { depth < 2 ^ 30 }
     ensures same { Gives whole result (rule_of grammar (read grammar 0 depth) 0 depth text_rule [] (pieces tokens.now)) }
     ensures low { IfOk result (λ x. x.1 ≤ depth) }
 {
     let (at, rest) = take_place(tokens, Sign::Fun)?;
-    let (name_at, name, rest) = take_name(rest)?;
-    let rest = take_sign(rest, Sign::Open)?;
-    parse_params_and_body(alloc, depth, at, name_at, name, rest)
+    let (funs, height, rest) = parse_functions(alloc, depth, at, rest)?;
+    Ok((Program { funs }, height, rest))
 }

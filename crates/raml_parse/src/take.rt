@@ -1,13 +1,33 @@
 // Tokens that must stand.
 ghost use Rattle.std.specs.Prelude.{◌≡◌, [], ◌∷◌, Some, None, MatchOption};
+ghost use Rattle.token_grammar.specs.Rules.{opening};
 ghost use Rattle.token_grammar.specs.Reading.{take_of, taken, rest_of};
-ghost use Rattle.raml_parse.specs.Table.{key, place, name, number_to, At, Named, Counted};
-ghost use Rattle.raml_parse.specs.Read.{Gives, pieces, rest};
+ghost use Rattle.raml_parse.specs.Table.{key, place, name, number_to, grammar, At, Counted};
+ghost use Rattle.raml_parse.specs.Read.{Gives, pieces, rest, named_part, binder_part};
 
 use crate::stop::Stop;
 use crate::token::{Piece, Sign, Word};
-use raml_syntax::{Name, Pos};
+use raml_syntax::{Binder, Name, Pos};
+use std::alloc::Global;
 use token_grammar::Kind;
+
+/// A name, and the place where it stands.
+#[derive(Clone, Copy)]
+pub struct NameAt<'a> {
+    pub at: Pos,
+    pub name: &'a Name,
+}
+
+/// The place of the first token.
+#[tactic(auto, unfolding(crate::specs::Table::grammar))]
+pub fn first_place(tokens: &[Piece]) -> Option<Pos>
+    ensures { MatchOption result (pieces tokens.now ≡ []) (λ at. opening grammar (pieces tokens.now) ≡ At at.0 ∷ []) }
+{
+    match tokens {
+        [first, ..] => Some(first.at),
+        [] => None,
+    }
+}
 
 /// The tokens behind this keyword or symbol, where it stands first.
 pub fn behind<'a>(tokens: &'a [Piece], sign: Sign) -> Option<&'a [Piece]>
@@ -21,6 +41,22 @@ pub fn behind<'a>(tokens: &'a [Piece], sign: Sign) -> Option<&'a [Piece]>
             },
             rest @ ..,
         ] if *found == sign => Some(rest),
+        _ => None,
+    }
+}
+
+/// The place of this keyword or symbol, and the tokens behind it.
+pub fn place_behind<'a>(tokens: &'a [Piece], sign: Sign) -> Option<(Pos, &'a [Piece])>
+    ensures { MatchOption result (taken (place sign) (pieces tokens.now) ≡ None) (λ x. (taken (place sign) (pieces tokens.now) ≡ Some (At x.0.0 ∷ [])) × (rest_of (pieces tokens.now) ≡ rest x.1)) }
+{
+    match tokens {
+        [
+            Piece {
+                at,
+                word: Word::Sign(found),
+            },
+            rest @ ..,
+        ] if *found == sign => Some((*at, rest)),
         _ => None,
     }
 }
@@ -58,8 +94,8 @@ pub fn take_place<'a>(tokens: &'a [Piece], sign: Sign) -> Result<(Pos, &'a [Piec
 }
 
 /// A name and its place, and the tokens behind it.
-pub fn take_name<'a>(tokens: &'a [Piece]) -> Result<(Pos, &'a Name, &'a [Piece]), Stop<'a>>
-    ensures { Gives (λ x. (Named x.0.0 x.1.now ∷ [], rest x.2)) result (take_of name (pieces tokens.now)) }
+pub fn take_name<'a>(tokens: &'a [Piece]) -> Result<(NameAt<'a>, &'a [Piece]), Stop<'a>>
+    ensures { Gives (λ x. (named_part x.0 ∷ [], rest x.1)) result (take_of name (pieces tokens.now)) }
 {
     match tokens {
         [
@@ -68,23 +104,35 @@ pub fn take_name<'a>(tokens: &'a [Piece]) -> Result<(Pos, &'a Name, &'a [Piece])
                 word: Word::Name(name),
             },
             rest @ ..,
-        ] => Ok((*at, name, rest)),
+        ] => Ok((NameAt { at: *at, name }, rest)),
         _ => Err(Stop::Fault(Kind::Syntax, tokens)),
     }
 }
 
-/// A number of at most `most` and its place, and the tokens behind it.
-pub fn take_number<'a>(tokens: &'a [Piece], most: u32) -> Result<(Pos, u32, &'a [Piece]), Stop<'a>>
-    ensures { Gives (λ x. (Counted x.0.0 x.1 ∷ [], rest x.2)) result (take_of (number_to most) (pieces tokens.now)) }
+/// A name that is bound, and the tokens behind it.
+pub fn take_binder<'a>(
+    alloc: Global,
+    tokens: &'a [Piece],
+) -> Result<(Binder, &'a [Piece]), Stop<'a>>
+    ensures { Gives (λ x. (binder_part x.0 ∷ [], rest x.1)) result (take_of name (pieces tokens.now)) }
+{
+    let (found, rest) = take_name(tokens)?;
+    let name = Name::new(alloc, found.name.text())?;
+    Ok((Binder { at: found.at, name }, rest))
+}
+
+/// A number of at most `most`, and the tokens behind it.
+pub fn take_number<'a>(tokens: &'a [Piece], most: u32) -> Result<(u32, &'a [Piece]), Stop<'a>>
+    ensures { Gives (λ x. (Counted x.0 ∷ [], rest x.1)) result (take_of (number_to most) (pieces tokens.now)) }
 {
     match tokens {
         [
             Piece {
-                at,
                 word: Word::Number(value),
+                ..
             },
             rest @ ..,
-        ] if *value <= u64::from(most) => { Ok((*at, *value as u32, rest)) }
+        ] if *value <= u64::from(most) => { Ok((*value as u32, rest)) }
         _ => Err(Stop::Fault(Kind::Syntax, tokens)),
     }
 }

@@ -1,7 +1,8 @@
 // All the tokens of a text.
 ghost use Rattle.std.specs.Prelude.{◌≡◌, IfOk};
-ghost use Rattle.token_grammar.specs.Reading.{ended, parse_of};
-ghost use Rattle.raml_parse.specs.Table.{grammar, Whole};
+ghost use Rattle.token_grammar.specs.Reading.{ended};
+ghost use Rattle.raml_parse.specs.Table.{Whole};
+ghost use Rattle.raml_parse.specs.Steps.{program_in};
 ghost use Rattle.raml_syntax.specs.Read.{program_of};
 ghost use Rattle.raml_parse.specs.Read.{Gives, IsAt, Reports, pieces};
 ghost use Rattle.raml_parse.specs.Spelling.{place_in};
@@ -30,7 +31,7 @@ fn ended<'a>(program: Program, rest: &'a [Piece]) -> Result<Program, Stop<'a>>
 
 /// The program of all the tokens.
 pub fn parse_tokens<'a>(alloc: Global, tokens: &'a [Piece]) -> Result<Program, Stop<'a>>
-    ensures { Gives (λ p. Whole (program_of p)) result (parse_of grammar 0 200 (pieces tokens.now)) }
+    ensures { Gives (λ p. Whole (program_of p)) result (program_in 200 (pieces tokens.now)) }
 {
     let (program, _, rest) = parse_program(alloc, MAX_HEIGHT, tokens)?;
     ended(program, rest)

@@ -61,6 +61,11 @@ abbrev pub goes_here : {T V C : Type 0} → ℕ → Option (ℕ × Rule T V C) �
 goes_here n None = None
 goes_here n (Some x) = if nat_eq x.0 n then Some x.1 else None
 
+-- the form of level n that begins here
+abbrev pub starts_at : {T V C : Type 0} → Grammar T V C → C → ℕ → List T → Option (Rule T V C)
+starts_at g c n [] = None
+starts_at g c n (t ∷ s) = goes_here n (g.starts c t)
+
 abbrev pub goes_at : {T V C : Type 0} → Grammar T V C → C → ℕ → List T → Option (Rule T V C)
 goes_at g c n [] = None
 goes_at g c n (t ∷ s) = goes_here n (g.goes c t)

@@ -1,4 +1,4 @@
-use Rattle.farkas_check.proofs.Duality.{no_solution}
+use Rattle.linear_rows.proofs.Duality.{no_solution}
 use Rattle.farkas_check.proofs.refuted_has_no_solution.Goals as goal
 
 pub returns : goal.returns

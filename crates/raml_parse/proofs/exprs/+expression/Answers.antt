@@ -1,7 +1,71 @@
-use Rattle.token_grammar.proofs.Steps.{read_step}
-use Rattle.raml_parse.specs.Table.{grammar, Exprs, expr_level}
-use Rattle.raml_parse.specs.Read.{pieces}
+use Rattle.std.proofs.Common.{◌≡◌, ◌≤◌, ◌<◌, ◌-◌, ◌+◌, ◌∙◌, ap, sym, arith, suc, [], ◌∷◌}
+use Rattle.std.specs.Prelude.{vec_len, max}
+use Rattle.token_grammar.specs.Rules.{Done}
+use Rattle.token_grammar.specs.Reading.{read, rule_of, items_of}
+use Rattle.token_grammar.proofs.Steps.{items_end, items_fail, items_more}
+use Rattle.raml_syntax.specs.Read.{term_of}
+use Rattle.raml_parse.specs.Table.{grammar, Exprs, key, expr, inner_act, At, Phrase}
+use Rattle.raml_parse.specs.Forms.{start_rule, infix_act, right_level}
+use Rattle.raml_parse.specs.Steps.{more_on}
+use Rattle.raml_parse.specs.Read.{pieces, phrases, phrases_back}
+use Rattle.raml_parse.specs.declared.token.Sign.TheVariants.{Comma}
+use Rattle.raml_parse.proofs.Parts.{phrases_push}
+use Rattle.raml_parse.proofs.Chains.{goes_further, fails_as, refused}
+use Rattle.raml_parse.proofs.ExprSteps.{level_empty, level_begins, level_goes_on}
 use Rattle.raml_parse.proofs.exprs.+expression.Goals as goal
 
-pub parse_expr-returns-clause-same : goal.parse_expr-returns-clause-same
-parse_expr-returns-clause-same t c = rw (read_step grammar 0 c.args.depth Exprs expr_level (pieces c.args.tokens.now) c.if-depth-eq0.false) c.parse_form.ensures.same
+pub parse_level-returns-in_default-clause-same : goal.parse_level-returns-in_default-clause-same
+parse_level-returns-in_default-clause-same t c = level_empty c.args.depth c.args.level (pieces c.args.tokens.now) c.in_default.ensures
+
+pub parse_level-returns-in-Some-at-clause-same : goal.parse_level-returns-in-Some-at-clause-same
+parse_level-returns-in-Some-at-clause-same t c =
+    rw (level_begins c.args.depth c.args.level (pieces c.args.tokens.now) (pieces c.in-Some-at.rest.now) (At c.in-Some.at.0 ∷ []) (start_rule c.in-Some-at.start) c.in-Some-at.ensures.0 c.in-Some.ensures c.in-Some-at.ensures.1)
+    c.parse_form.ensures.same
+
+pub parse_level-returns-clause-same : goal.parse_level-returns-clause-same
+parse_level-returns-clause-same t c =
+    rw (level_goes_on c.args.depth c.args.level (pieces c.args.tokens.now) c.in-Some.at.0 c.if-level-eq0.false c.in_default-at.ensures c.in-Some.ensures)
+    c.parse_operators.ensures.same
+
+pub parse_chain-returns-then-chains-clause-same : goal.parse_chain-returns-then-chains-clause-same
+parse_chain-returns-then-chains-clause-same t c =
+    let le : c.args.height ≤ c.args.depth = omega (arith, c.if-height-depth.false) in
+    let joined : infix_act c.in-Some.operator (Phrase (term_of c.in_ok-right.right.value) ∷ Phrase (term_of c.args.left) ∷ At c.args.at.0 ∷ []) ≡ Phrase (term_of c.operation-joined.result) =
+    ap (λ e. infix_act c.in-Some.operator (Phrase (term_of c.in_ok-right.right.value) ∷ Phrase (term_of e) ∷ At c.args.at.0 ∷ [])) (sym c.in_ok-left.ensures.ok) ∙ c.operation-joined.ensures in
+    let e = goes_further Exprs c.args.depth c.args.level (right_level c.in-Some.operator) (infix_act c.in-Some.operator) (At c.args.at.0 ∷ []) (Phrase (term_of c.args.left)) c.args.height (pieces c.args.tokens.now) c.in-Some.ensures.0 le (ap (grammar.chains Exprs) (sym c.in-Some.ensures.1) ∙ sym c.chains.ensures ∙ c.if-chains.true) (Phrase (term_of c.in_ok-right.right.value)) (Phrase (term_of c.operation-joined.result)) c.in_ok-right.right_height (pieces c.in_ok-right.rest.now) (ap (read grammar 0 c.args.depth Exprs (right_level c.in-Some.operator)) c.in-Some.ensures.2 ∙ c.in_ok-right.ensures.same) joined in
+    let high : suc (max c.args.height c.in_ok-right.right_height) ≡ 1 + c.max-height.result = omega (arith, c.max-height.ensures) in
+    rw (e ∙ ap (λ h. more_on Exprs c.args.depth c.args.level (At c.args.at.0 ∷ []) (Phrase (term_of c.operation-joined.result)) h (pieces c.in_ok-right.rest.now)) high) c.parse_chain.ensures.same
+
+pub parse_args-returns-in_err-arg-clause-same : goal.parse_args-returns-in_err-arg-clause-same
+parse_args-returns-in_err-arg-clause-same t c =
+    let e = c.from_residual-in_err-arg.ensures in
+    let item = rule_of grammar (read grammar 0 c.args.depth) 0 c.args.depth (expr (Done inner_act)) [] in
+    let few : vec_len c.loop-next.args < 8 = omega (arith, c.loop-next.invariant.2, c.if-len-eq-MAX_ARGS.false, c.len.ensures) in
+    refused phrases c.from_residual-in_err-arg.result _ c.in_err-arg.field-0.0 e.0 e.1
+    (fails_as c.in_err-arg.field-0.0 (item (pieces c.in-Some.next.now)) _
+    (λ y q. c.loop-next.invariant.0 ∙ items_fail item (key Comma) (8 - vec_len c.loop-next.args) (phrases_back c.loop-next.args.items) [] c.loop-next.height (pieces c.loop-next.rest.now) y (λ z. omega (arith, z, few)) c.in-Some.ensures.0 (ap item c.in-Some.ensures.1 ∙ q))
+    c.in_err-arg.ensures.same)
+
+pub parse_args-loop-next-preserved : goal.parse_args-loop-next-preserved
+parse_args-loop-next-preserved t c =
+    let item = rule_of grammar (read grammar 0 c.args.depth) 0 c.args.depth (expr (Done inner_act)) [] in
+    let old = c.loop-next.args in
+    let new = c.push-in-Some.new.self in
+    let inv = c.loop-next.invariant in
+    let more = c.in_ok-push-2.ensures.len in
+    let seven = c.if-len-eq-MAX_ARGS.false in
+    let few : vec_len old < 8 = omega (arith, inv.2, seven, c.len.ensures) in
+    let one : 8 - vec_len old - 1 ≡ 8 - vec_len new = omega (arith, more) in
+    let high : c.max-height.result ≤ c.args.depth = omega (arith, c.max-height.ensures, inv.1, c.in_ok-arg.ensures.low) in
+    let room : vec_len new ≤ 8 = omega (arith, more, few) in
+    let some : 0 < vec_len new = omega (arith, more) in
+    let step = items_more item (key Comma) (8 - vec_len old) (phrases_back old.items) [] c.loop-next.height (pieces c.loop-next.rest.now) (Phrase (term_of c.in_ok-arg.arg)) c.in_ok-arg.part (pieces c.in_ok-arg.after.now)
+    (λ q. omega (arith, q, few)) c.in-Some.ensures.0 (ap item c.in-Some.ensures.1 ∙ c.in_ok-arg.ensures.same) in
+    let is : items_of item (key Comma) (8 - vec_len old - 1) (Phrase (term_of c.in_ok-arg.arg) ∷ phrases_back old.items) _ _ ≡ items_of item (key Comma) (8 - vec_len new) (phrases_back new.items) c.max-height.result _ =
+    λ i. items_of item (key Comma) (one i) (sym (ap phrases_back c.in_ok-push-2.ensures.items ∙ phrases_push old.items c.in_ok-arg.arg) i) (sym c.max-height.ensures i) (pieces c.in_ok-arg.after.now) in
+    (inv.0 ∙ step ∙ is, high, room, some)
+
+pub parse_args-returns-clause-same : goal.parse_args-returns-clause-same
+parse_args-returns-clause-same t c =
+    let item = rule_of grammar (read grammar 0 c.args.depth) 0 c.args.depth (expr (Done inner_act)) [] in
+    c.loop-next.invariant.0 ∙ items_end item (key Comma) (8 - vec_len c.loop-next.args) (phrases_back c.loop-next.args.items) c.loop-next.height (pieces c.loop-next.rest.now) c.in_default.ensures

@@ -9,13 +9,13 @@ use Rattle.linear_rows.specs.Systems.{LinearSystem, numbers_from, matrix, right_
 use Rattle.linear_rows.specs.Vectors.{dot, scale, zeros, mix, AllWide, AtMost}
 use Rattle.linear_rows.proofs.Products.{dot-scale, dot-comm, dot-zeros, dual_below}
 
-width : (u n : ℕ) (ts : Terms) → length (numbers_from u n ts) ≡ n
-width u zero ts = refl
-width u (suc n) ts = omega (arith, width (suc u) n ts)
+pub length-numbers : (u n : ℕ) (ts : Terms) → length (numbers_from u n ts) ≡ n
+length-numbers u zero ts = refl
+length-numbers u (suc n) ts = omega (arith, length-numbers (suc u) n ts)
 
-all_wide : (n : ℕ) (rows : List SparseRow) → AllWide n (map (λ row. numbers_from 0 n row.terms) rows)
+pub all_wide : (n : ℕ) (rows : List SparseRow) → AllWide n (map (λ row. numbers_from 0 n row.terms) rows)
 all_wide n [] = tt
-all_wide n (row ∷ rows) = (width 0 n row.terms, all_wide n rows)
+all_wide n (row ∷ rows) = (length-numbers 0 n row.terms, all_wide n rows)
 
 scaled_right : (k : ℤ) (xs ys : List ℤ) → dot xs (scale k ys) ≡ k *ℤ dot xs ys
 scaled_right k xs ys = dot-comm xs (scale k ys) ∙ dot-scale k ys xs ∙ ap (λ (v : ℤ). k *ℤ v) (dot-comm ys xs)

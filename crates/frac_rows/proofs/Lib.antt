@@ -1,0 +1,5 @@
+pub mod Differing
+mod Walking
+pub mod Pointwise
+mod Quotients
+mod Finding

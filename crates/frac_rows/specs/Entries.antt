@@ -1,0 +1,66 @@
+-- Rows of fractions, and fractions less a product.
+use Rattle.std.specs.Prelude.{◌≡◌, ◌≢◌, ℕ, suc, ◌≤◌, ◌<◌, List, [], ◌∷◌, length, slice_index_or, pos, ◌⊎◌, if◌then◌else◌, ◌==◌}
+use Rattle.std.proofs.Common.{arith}
+use Rattle.std.proofs.Math.Nat.{eq-one_of_dvd-one}
+use Rattle.raml_num.specs.Divisors.{IsLcm}
+use Rattle.frac128.specs.declared.Frac.{Frac}
+use Rattle.frac128.specs.Lowest.{InLowestTerms}
+use Rattle.frac128.specs.Values.{numerator, denominator, IsProduct, IsQuotient, IsDifference, DifferenceFits}
+
+pub zero_over_one : InLowestTerms 0 1
+zero_over_one = record { small = omega arith; positive = omega arith; fits = omega arith; coprime = record { common = λ d p q. eq-one_of_dvd-one q } }
+
+-- the number 0
+abbrev pub nought : Frac
+nought = record { num = pos 0; den = 1; lowest = zero_over_one }
+
+abbrev pub IsNought : Frac → Type 0
+IsNought x = (x.num ≡ pos 0) × (x.den ≡ 1)
+
+-- the fractions of a row that are not 0, each with its column
+abbrev pub Entries : Type 0
+Entries = List (ℕ × Frac)
+
+-- the fraction at a column
+abbrev pub at : ℕ → Entries → Frac
+at c [] = nought
+at c ((k, x) ∷ es) = if k == c then x else at c es
+
+-- the columns ascend from b on, and no fraction is 0
+abbrev pub SparseFrom : ℕ → Entries → Type 0
+SparseFrom b [] = Unit {0}
+SparseFrom b ((k, x) ∷ es) = (b ≤ k) × (x.num ≢ pos 0) × SparseFrom (suc k) es
+
+abbrev pub IsSparse : Entries → Type 0
+IsSparse es = SparseFrom 0 es
+
+-- r is x less f times q, and neither the product nor the difference leaves the range
+pub record IsLess (x f q r : Frac) : Type 0 where
+  pub product : Frac
+  pub is_product : IsProduct f q product
+  pub fits : (m : ℕ) → IsLcm x.den product.den m → DifferenceFits x product m
+  pub is_difference : IsDifference x product r
+
+-- f times q, or x less that product, leaves the range
+abbrev pub LessLeaves : Frac → Frac → Frac → Type 0
+LessLeaves x f q = ((p : Frac) → IsProduct f q p → ⊥) ⊎ ((p : Frac) × IsProduct f q p × ((m : ℕ) → IsLcm x.den p.den m → DifferenceFits x p m → ⊥))
+
+-- no fraction of the range is x over y
+abbrev pub QuotientLeaves : Frac → Frac → Type 0
+QuotientLeaves x y = (q : Frac) → IsQuotient x y q → ⊥
+
+-- each column is before c
+abbrev pub EndsBefore : ℕ → Entries → Type 0
+EndsBefore c [] = Unit {0}
+EndsBefore c ((k, x) ∷ es) = (k < c) × EndsBefore c es
+
+-- new has x at column c, and as old at the others
+pub record Adds (c : ℕ) (x : Frac) (old new : Entries) : Type 0 where
+  pub num : numerator (at c new) ≡ numerator x
+  pub den : denominator (at c new) ≡ denominator x
+  pub others : (k : ℕ) → k ≢ c → at k new ≡ at k old
+
+-- the entry at place i has the column
+pub record IsPlaceOf (c : ℕ) (es : Entries) (i : ℕ) : Type 0 where
+  pub in_range : i < length es
+  pub is : at c es ≡ (slice_index_or es i (0, nought)).1

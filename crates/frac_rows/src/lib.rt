@@ -1,0 +1,12 @@
+//! Sparse rows of fractions: those that are not 0, in order of column.
+#![tactic(auto)]
+
+mod fault;
+mod row;
+mod walk;
+
+pub use fault::RowFault;
+pub use row::FracRow;
+
+#[cfg(test)]
+mod tests;

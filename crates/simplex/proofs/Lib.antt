@@ -1,0 +1,6 @@
+mod Lifting
+mod Pivots
+mod Sweeping
+mod Tying
+mod Narrowing
+mod Steps

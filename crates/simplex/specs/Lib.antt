@@ -1,0 +1,4 @@
+pub mod Choosing
+pub mod Standing
+pub mod Ties
+pub mod Laws

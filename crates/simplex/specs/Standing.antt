@@ -1,0 +1,64 @@
+-- Rows of fractions that stand for a tableau over whole numbers.
+use Rattle.std.specs.Prelude.{◌≡◌, ◌≢◌, ℕ, ◌<◌, Bool, true, false, nat_eq, List, [], length, ℤ, pos, ◌*ℤ◌, slice_index_or}
+use Rattle.frac128.specs.declared.Frac.{Frac}
+use Rattle.frac128.specs.Values.{IsQuotient}
+use Rattle.frac_rows.specs.Entries.{Entries, at, IsLess, LessLeaves, QuotientLeaves}
+use Rattle.tableau.specs.Places.{row_at}
+use Rattle.tableau.specs.Places as places
+use Rattle.tableau.specs.Tableaux.{Tableau}
+
+-- x is n over d
+pub record Stands (d n : ℤ) (x : Frac) : Type 0 where
+  pub is : x.num *ℤ d ≡ n *ℤ pos x.den
+
+-- in each column, the row has the number over d
+pub record RowStands (d : ℤ) (ns : List ℤ) (es : Entries) : Type 0 where
+  pub each : (c : ℕ) → Stands d (places.at ns c) (at c es)
+
+abbrev pub entries_at : List Entries → ℕ → Entries
+entries_at rows i = slice_index_or rows i []
+
+pub record RowsStand (t : Tableau) (rows : List Entries) : Type 0 where
+  pub count : length rows ≡ length t.rows
+  pub each : (i : ℕ) → i < length t.rows → RowStands t.over (row_at t.rows i) (entries_at rows i)
+
+pub record TableStands (t : Tableau) (rows : List Entries) (gains : Entries) : Type 0 where
+  pub rows_stand : RowsStand t rows
+  pub gains_stand : RowStands t.over t.gains gains
+
+-- new is the row less its fraction at column s times the lead
+pub record IsSwept (s : ℕ) (lead old new : Entries) : Type 0 where
+  pub each : (c : ℕ) → IsLess (at c old) (at s old) (at c lead) (at c new)
+
+-- each row but that at l is swept, and that one is the lead
+pub record RowsSwept (l s : ℕ) (lead : Entries) (old new : List Entries) : Type 0 where
+  pub count : length new ≡ length old
+  pub here : entries_at new l ≡ lead
+  pub others : (i : ℕ) → i < length old → i ≢ l → IsSwept s lead (entries_at old i) (entries_at new i)
+
+-- the pivot in row l and column s, of the rows and the gains
+pub record IsPivoted (l s : ℕ) (rows : List Entries) (gains : Entries) (new : List Entries) (new_gains : Entries) : Type 0 where
+  pub lead : Entries
+  pub quotients : (c : ℕ) → IsQuotient (at c (entries_at rows l)) (at s (entries_at rows l)) (at c lead)
+  pub rows_swept : RowsSwept l s lead rows new
+  pub gains_swept : IsSwept s lead gains new_gains
+
+-- in the row es, the change at column c leaves the range
+pub record SweepLeaves (s c : ℕ) (lead es : Entries) : Type 0 where
+  pub leaves : LessLeaves (at c es) (at s es) (at c lead)
+
+-- the pivot leaves the range in row i and column c, where the gains come after the other rows
+pub data PivotLeaves (l s : ℕ) (rows : List Entries) (gains : Entries) (i c : ℕ) : Type 0 where
+  InLead : i ≡ l → QuotientLeaves (at c (entries_at rows l)) (at s (entries_at rows l)) → PivotLeaves l s rows gains i c
+  InRow : (lead : Entries) → ((k : ℕ) → IsQuotient (at k (entries_at rows l)) (at s (entries_at rows l)) (at k lead)) → i < length rows → i ≢ l → SweepLeaves s c lead (entries_at rows i) → PivotLeaves l s rows gains i c
+  InGains : (lead : Entries) → ((k : ℕ) → IsQuotient (at k (entries_at rows l)) (at s (entries_at rows l)) (at k lead)) → i ≡ length rows → SweepLeaves s c lead gains → PivotLeaves l s rows gains i c
+
+-- a row that is swept, or left as it is
+abbrev pub RowStep : Bool → ℕ → Entries → Entries → Entries → Type 0
+RowStep true s lead old new = new ≡ old
+RowStep false s lead old new = IsSwept s lead old new
+
+-- each row but that at l is swept
+pub record OthersSwept (l s : ℕ) (lead : Entries) (old new : List Entries) : Type 0 where
+  pub count : length new ≡ length old
+  pub each : (i : ℕ) → i < length old → RowStep (nat_eq i l) s lead (entries_at old i) (entries_at new i)

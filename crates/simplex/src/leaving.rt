@@ -1,0 +1,139 @@
+//! The row that leaves the basis.
+
+ghost use Rattle.std.specs.Prelude.{◌≡◌, ◌<◌, ◌≤◌, ◌<ℤ◌, ℕ, pos, length, IfOk, OnOk, MatchOption};
+ghost use Rattle.frac128.specs.Values.{numerator, IsQuotient};
+ghost use Rattle.frac128.specs.declared.Frac.{Frac};
+ghost use Rattle.frac_rows.specs.Entries.{at, QuotientLeaves};
+ghost use Rattle.simplex.specs.Ties.{Among, IsBounding, AreBounding, AreTied, RatioLeaves, Keeps, ratio_order, IsLeaving, SearchLeaves, columns_to};
+
+use crate::pivot::Fault;
+use frac_rows::FracRow;
+use frac128::Frac;
+use std::alloc::{AllocError, Global};
+use std::cmp::Ordering;
+
+/// The rows with a positive number at column `s`.
+fn bounding(alloc: Global, rows: &[FracRow], s: u32) -> Result<Vec<usize>, AllocError>
+    ensures { IfOk result (λ is. AreBounding s rows.now is.items) }
+{
+    let mut all = Vec::new(alloc);
+    for i in 0..rows.len() {
+        if rows[i].at(s).num() > 0 {
+            all.push(i)?;
+        }
+    }
+    Ok(all)
+}
+
+/// The ratio of a row's number at `column` to that at `s`, or None where it leaves the range.
+fn ratio_of(row: &FracRow, s: u32, column: u32) -> Option<Frac>
+    requires { pos 0 <ℤ numerator (at s row.now) }
+    ensures { MatchOption result (QuotientLeaves (at column row.now) (at s row.now)) (IsQuotient (at column row.now) (at s row.now)) }
+{
+    row.at(column).div(&row.at(s))
+}
+
+/// How a ratio compares with the least so far. Where there is none so far, it is less.
+fn order_to(none: bool, ratio: &Frac, least: &Frac) -> Ordering
+    ensures { result ≡ ratio_order none ratio.now least.now }
+{
+    if none {
+        Ordering::Less
+    } else {
+        ratio.cmp(least)
+    }
+}
+
+/// Brings a row to those that are tied for the least ratio.
+fn keep(tied: &mut Vec<usize>, least: &mut Frac, row: usize, ratio: Frac) -> Result<(), AllocError>
+    ensures { OnOk result (Keeps tied.old.items least.old row ratio tied.new.items least.new) }
+{
+    match order_to(tied.is_empty(), &ratio, least) {
+        Ordering::Less => {
+            tied.clear();
+            tied.push(row)?;
+            *least = ratio;
+        }
+        Ordering::Equal => tied.push(row)?,
+        Ordering::Greater => {}
+    }
+    Ok(())
+}
+
+/// Of these rows, those with the least ratio of the number at `column` to that at `s`.
+fn ties(
+    alloc: Global,
+    rows: &[FracRow],
+    s: u32,
+    column: u32,
+    among: &[usize],
+) -> Result<Vec<usize>, Fault>
+    requires { (i : ℕ) → Among i among.now → IsBounding s rows.now i }
+    ensures tied { IfOk result (λ is. (least : Frac) × AreTied s column rows.now among.now is.items least) }
+    ensures leaves { (i c : ℕ) → result ≡ Err (Fault.Leaves i c) → RatioLeaves s column rows.now among.now i c }
+{
+    let mut tied = Vec::new(alloc);
+    let mut least = Frac::zero();
+    for row in among {
+        match ratio_of(&rows[*row], s, column) {
+            Some(ratio) => keep(&mut tied, &mut least, *row, ratio)?,
+            None => return Err(Fault::Leaves { row: *row, column }),
+        }
+    }
+    Ok(tied)
+}
+
+/// The row that leaves the basis for column `s`, or None where no row bounds that column. Rows are
+/// compared by their ratios at column `right`, and where these tie at the columns from `slack` on, until
+/// one is left.
+pub(crate) fn leaving(
+    alloc: Global,
+    rows: &[FracRow],
+    s: u32,
+    slack: u32,
+    right: u32,
+) -> Result<Option<usize>, Fault>
+    requires { slack ≤ right }
+    ensures row { (l : ℕ) → result ≡ Ok (Some l) → IsLeaving (columns_to right slack right) s rows.now l }
+    ensures none { (i : ℕ) → result ≡ Ok None → ¬ IsBounding s rows.now i }
+    ensures leaves { (i c : ℕ) → result ≡ Err (Fault.Leaves i c) → SearchLeaves (columns_to right slack right) s rows.now i c }
+{
+    let all = bounding(alloc, rows, s)?;
+    if all.is_empty() {
+        return Ok(None);
+    }
+    match narrowed(alloc, rows, s, slack, right, &all) {
+        Ok(row) => Ok(Some(row)),
+        Err(fault) => Err(fault),
+    }
+}
+
+/// The row that is left of these, which are all that bound column `s`.
+fn narrowed(
+    alloc: Global,
+    rows: &[FracRow],
+    s: u32,
+    slack: u32,
+    right: u32,
+    all: &[usize],
+) -> Result<usize, Fault>
+    requires order { slack ≤ right }
+    requires bounding { AreBounding s rows.now all.now }
+    requires some { 0 < length all.now }
+    ensures row { IfOk result (IsLeaving (columns_to right slack right) s rows.now) }
+    ensures leaves { (i c : ℕ) → result ≡ Err (Fault.Leaves i c) → SearchLeaves (columns_to right slack right) s rows.now i c }
+{
+    let mut tied = match ties(alloc, rows, s, right, all) {
+        Ok(tied) => tied,
+        Err(fault) => return Err(fault),
+    };
+    let mut column = slack;
+    while tied.len() > 1 && column < right {
+        match ties(alloc, rows, s, column, &tied) {
+            Ok(fewer) => tied = fewer,
+            Err(fault) => return Err(fault),
+        }
+        column += 1;
+    }
+    Ok(tied[0])
+}

@@ -1,0 +1,29 @@
+//! Exact linear programming over fractions: what a step of the tableau needs.
+//!
+//! The rows of the tableau are sparse rows of fractions. `specs/` says what they stand for, and the laws
+//! here say that a step which is made is a step of a lawful course, and that one which is not made is
+//! refused there.
+#![tactic(auto)]
+
+ghost use Rattle.simplex.specs.Laws.{StepsAreLawful, PivotFaultsAreRefused, SearchFaultsAreRefused};
+
+mod chooser;
+mod leaving;
+mod pivot;
+
+pub use chooser::Chooser;
+
+/// A pivot that is made is one of a lawful course.
+pub fn steps_are_lawful()
+    ensures { StepsAreLawful }
+{}
+
+/// A pivot that is not made is refused.
+pub fn pivot_faults_are_refused()
+    ensures { PivotFaultsAreRefused }
+{}
+
+/// A search for the leaving row that finds none is refused.
+pub fn search_faults_are_refused()
+    ensures { SearchFaultsAreRefused }
+{}

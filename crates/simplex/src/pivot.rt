@@ -1,0 +1,134 @@
+//! One pivot.
+
+ghost use Rattle.std.specs.Prelude.{◌≡◌, ◌≢◌, ◌<◌, ℕ, pos, length, IfOk, OnOk, true};
+ghost use Rattle.frac128.specs.Values.{numerator, IsQuotient};
+ghost use Rattle.frac_rows.specs.Entries.{at, QuotientLeaves};
+ghost use Rattle.simplex.specs.Standing.{entries_at, IsSwept, SweepLeaves, RowStep, OthersSwept, IsPivoted, PivotLeaves};
+
+use frac_rows::{FracRow, RowFault};
+use frac128::Frac;
+use std::alloc::{AllocError, Global};
+
+/// Why a step of the tableau was not made.
+#[derive(Clone, Copy, Debug)]
+pub(crate) enum Fault {
+    /// A number in this row and column leaves the range of fractions. The gains come after the rows.
+    Leaves { row: usize, column: u32 },
+    NoMemory,
+}
+
+impl From<AllocError> for Fault {
+    ghost use Rattle.simplex.specs.declared.pivot.Fault.TheVariants.{NoMemory};
+
+    ghost from_gives = { λ _ e. e ≡ NoMemory };
+
+    fn from(_: AllocError) -> Self {
+        Fault::NoMemory
+    }
+}
+
+/// The fault of a row, in the tableau.
+fn in_row(row: usize, fault: RowFault) -> Fault
+    ensures { (i c : ℕ) → result ≡ Fault.Leaves i c → (i ≡ row) × (fault ≡ RowFault.Leaves c) }
+{
+    match fault {
+        RowFault::Leaves { column } => Fault::Leaves { row, column },
+        RowFault::NoMemory => Fault::NoMemory,
+    }
+}
+
+/// The row over its number at column `s`.
+fn lead_of(alloc: Global, row: &FracRow, s: u32) -> Result<FracRow, RowFault>
+    requires { numerator (at s row.now) ≢ pos 0 }
+    ensures each { IfOk result (λ r. (c : ℕ) → IsQuotient (at c row.now) (at s row.now) (at c r)) }
+    ensures leaves { (c : ℕ) → result ≡ Err (RowFault.Leaves c) → QuotientLeaves (at c row.now) (at s row.now) }
+{
+    let number = row.at(s);
+    row.over(alloc, &number)
+}
+
+/// The row less its number at column `s` times the lead. A row that has none there stays untouched.
+fn sweep(alloc: Global, row: &mut FracRow, s: u32, lead: &FracRow) -> Result<(), RowFault>
+    ensures swept { OnOk result (IsSwept s lead.now row.old row.new) }
+    ensures leaves { (c : ℕ) → result ≡ Err (RowFault.Leaves c) → SweepLeaves s c lead.now row.old }
+{
+    let times = row.at(s);
+    if times.num() == 0 {
+        return Ok(());
+    }
+    match row.less(alloc, &times, lead) {
+        Ok(new) => {
+            *row = new;
+            Ok(())
+        }
+        Err(fault) => Err(fault),
+    }
+}
+
+/// Sweeps a row, unless it is the one to skip.
+fn sweep_unless(
+    alloc: Global,
+    skip: bool,
+    row: &mut FracRow,
+    s: u32,
+    lead: &FracRow,
+) -> Result<(), RowFault>
+    ensures swept { OnOk result (RowStep skip s lead.now row.old row.new) }
+    ensures leaves { (c : ℕ) → result ≡ Err (RowFault.Leaves c) → SweepLeaves s c lead.now row.old }
+    ensures kept { skip ≡ true → result ≡ Ok tt }
+{
+    if skip {
+        Ok(())
+    } else {
+        sweep(alloc, row, s, lead)
+    }
+}
+
+/// Sweeps each row but that at `l`.
+fn sweep_rows(
+    alloc: Global,
+    rows: &mut [FracRow],
+    l: usize,
+    s: u32,
+    lead: &FracRow,
+) -> Result<(), Fault>
+    ensures swept { OnOk result (OthersSwept l s lead.now rows.old rows.new) }
+    ensures inside { (i c : ℕ) → result ≡ Err (Fault.Leaves i c) → i < length rows.old }
+    ensures other { (i c : ℕ) → result ≡ Err (Fault.Leaves i c) → i ≢ l }
+    ensures leaves { (i c : ℕ) → result ≡ Err (Fault.Leaves i c) → SweepLeaves s c lead.now (entries_at rows.old i) }
+{
+    for i in 0..rows.len() {
+        match sweep_unless(alloc, i == l, &mut rows[i], s, lead) {
+            Ok(()) => {}
+            Err(fault) => return Err(in_row(i, fault)),
+        }
+    }
+    Ok(())
+}
+
+/// The pivot in row `l` and column `s`, where the row's number is not 0.
+pub(crate) fn pivot(
+    alloc: Global,
+    rows: &mut [FracRow],
+    gains: &mut FracRow,
+    l: usize,
+    s: u32,
+) -> Result<(), Fault>
+    requires inside { l < length rows.old }
+    requires number { numerator (at s (entries_at rows.old l)) ≢ pos 0 }
+    ensures pivoted { OnOk result (IsPivoted l s rows.old gains.old rows.new gains.new) }
+    ensures leaves { (i c : ℕ) → result ≡ Err (Fault.Leaves i c) → PivotLeaves l s rows.old gains.old i c }
+{
+    let lead = match lead_of(alloc, &rows[l], s) {
+        Ok(lead) => lead,
+        Err(fault) => return Err(in_row(l, fault)),
+    };
+    if let Err(fault) = sweep_rows(alloc, rows, l, s, &lead) {
+        return Err(fault);
+    }
+    if let Err(fault) = sweep(alloc, gains, s, &lead) {
+        return Err(in_row(rows.len(), fault));
+    }
+    rows[l] = lead;
+    Ok(())
+}
