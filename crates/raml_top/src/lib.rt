@@ -12,4 +12,6 @@ pub use status::{SourceFault, Status, Which};
 pub use top::raml;
 
 #[cfg(test)]
+mod program_tests;
+#[cfg(test)]
 mod tests;

@@ -47,6 +47,13 @@ struct Sorting<'a> {
     degree: Option<&'a str>,
 }
 
+/// One operand, and the value of `--degree` where it is given.
+#[derive(Clone, Copy)]
+struct Operands<'a> {
+    file: &'a str,
+    degree: Option<&'a str>,
+}
+
 impl<'a> Sorting<'a> {
     // With one word more; `None` where it can't stand there.
     fn with_word(self, word: &'a str, takes_degree: bool) -> Option<Sorting<'a>>
@@ -113,6 +120,19 @@ impl<'a> Sorting<'a> {
         }
     }
 
+    fn with_degree(self, value: &'a str) -> Option<Sorting<'a>>
+        ensures { option_map state_of result ≡ with_degree (state_of self.entry) value.now }
+    {
+        match self.degree {
+            None => Some(Sorting {
+                next: Next::Any,
+                degree: Some(value),
+                ..self
+            }),
+            Some(_) => None,
+        }
+    }
+
     // What the words give; `None` where a value is missing, or the operand.
     fn whole(self) -> Option<Operands<'a>>
         ensures some { IfSome result (λ given. Settled self.entry.next × (lent self.entry.operand ≡ Some given.file.now) × (lent self.entry.degree ≡ lent given.degree)) }
@@ -125,19 +145,6 @@ impl<'a> Sorting<'a> {
                 Some(file) => Some(Operands { file, degree }),
                 None => None,
             },
-        }
-    }
-
-    fn with_degree(self, value: &'a str) -> Option<Sorting<'a>>
-        ensures { option_map state_of result ≡ with_degree (state_of self.entry) value.now }
-    {
-        match self.degree {
-            None => Some(Sorting {
-                next: Next::Any,
-                degree: Some(value),
-                ..self
-            }),
-            Some(_) => None,
         }
     }
 }
@@ -162,13 +169,6 @@ fn sort<'a>(words: &[&'a str], takes_degree: bool) -> Option<Sorting<'a>>
         sorting = sorting.with_word(*word, takes_degree)?;
     }
     Some(sorting)
-}
-
-/// One operand, and the value of `--degree` where it is given.
-#[derive(Clone, Copy)]
-struct Operands<'a> {
-    file: &'a str,
-    degree: Option<&'a str>,
 }
 
 // What the words behind a command give, where it has one operand and takes no option but `--degree`.
