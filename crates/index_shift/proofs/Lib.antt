@@ -1,0 +1,4 @@
+pub mod Brought
+pub mod Carried
+pub mod Kept
+pub mod Computed
