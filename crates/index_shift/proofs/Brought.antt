@@ -82,7 +82,7 @@ module _ {X : Type 0} where
 
 -- Positions
 
-many_items : (is : List Plain) → items (many is) ≡ is
+pub many_items : (is : List Plain) → items (many is) ≡ is
 many_items [] = refl
 many_items (i ∷ is) = ap (λ l. i ∷ l) (many_items is)
 

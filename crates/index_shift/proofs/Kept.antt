@@ -102,7 +102,7 @@ the_type (B ∷ As) zero A h = the_some B A h
 the_type (B ∷ As) (suc k) A h = the_type As k A h
 
 pub opening_keeps : OpeningKeeps
-opening_keeps As at d vs v h some q =
+opening_keeps As at d v some vs h q =
     let A = h.type in
     subst (λ B. potential (in_place at type_parts As) d (moved (entries (behind at (opens B)) As (in_place at type_parts As) d) q) (in_place at value_parts vs) ≡ potential As d q vs) (sym (the_type As at A h.there))
     (map_keeps (behind at (opens A)) As (in_place at type_parts As) d
@@ -124,14 +124,14 @@ leaving_keeps As at d vs h =
     (behind_worth leaves one none A ◌≡◌ equal_scale one none Empty (λ Bs u us k. leaves_worth A Bs u us h.has k) at As vs h.there h.value t (to_one (AreIndices t) at As g)))
 
 pub leaving_lowers : LeavingLowers
-leaving_lowers As at d vs v h =
+leaving_lowers As at d v vs h =
     let A = h.type in
     map_lowers (behind at leaves) As (in_place at none As) d (leaving_fits As at d A h.there) vs (in_place at none vs)
     (λ t g. as_one (λ us. carried_at (in_place at none vs) (behind at leaves t) ≤ bases t us) at vs
     (behind_worth leaves one none A ◌≤◌ less_scale one none v (λ Bs u us k. leaves_lower A Bs v u us h.has k) at As vs h.there h.value t (to_one (AreIndices t) at As g)))
 
 pub sharing_keeps : SharingKeeps
-sharing_keeps As at d vs v h =
+sharing_keeps As at d v vs h =
     let A = h.type in
     map_keeps (behind at joins) (in_place at twice As) As d
     (λ t g. as_one (λ Bs. Each (λ e. Fits Bs (degrees t) e.0) (behind at joins t)) at As (behind_fits joins twice one A (λ Bs u k. joins_fit A Bs u k) at As h.there t g))

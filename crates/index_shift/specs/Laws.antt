@@ -5,6 +5,7 @@ use Rattle.raml_syntax.specs.Value.{Value, Has, Empty}
 use Rattle.index_shift.specs.Parts.{type_parts, value_parts}
 use Rattle.index_shift.specs.Potential.{Annotation, potential, moved, Keeps}
 use Rattle.index_shift.specs.Maps.{in_place, none, twice, opening, leaving, sharing}
+use Rattle.index_shift.specs.declared.entry.Entry.{Entry}
 
 -- Among the values stands this one at the place, and it has the type there. Nothing is asked of the others.
 pub record IsAt (As : List Type') (vs : List Value) (at : ℕ) (v : Value) : Type 0 where
@@ -13,19 +14,31 @@ pub record IsAt (As : List Type') (vs : List Value) (at : ℕ) (v : Value) : Typ
   pub value : slice_get vs at ≡ Some v
   pub has : Has v type
 
--- a value that has parts is one with its parts
+-- A value at the place becomes its parts.
+abbrev pub KeepsParts : List Entry → List Type' → ℕ → ℕ → Value → Type 0
+KeepsParts es As at d v = (vs : List Value) → IsAt As vs at v → Keeps es d As vs (in_place at type_parts As) (in_place at value_parts vs)
+
+-- A value at the place leaves.
+abbrev pub KeepsRest : List Entry → List Type' → ℕ → ℕ → Value → Type 0
+KeepsRest es As at d v = (vs : List Value) → IsAt As vs at v → Keeps es d As vs (in_place at none As) (in_place at none vs)
+
+-- The same where the potential may fall.
+abbrev pub LowersRest : List Entry → List Type' → ℕ → ℕ → Value → Type 0
+LowersRest es As at d v = (vs : List Value) → IsAt As vs at v → (q : Annotation) → potential (in_place at none As) d (moved es q) (in_place at none vs) ≤ potential As d q vs
+
+-- A value twice becomes the value once.
+abbrev pub KeepsShared : List Entry → List Type' → ℕ → ℕ → Value → Type 0
+KeepsShared es As at d v = (vs : List Value) → IsAt As vs at v → Keeps es d (in_place at twice As) (in_place at twice vs) As vs
+
+-- all values but the empty one, numbers and truths have parts
 abbrev pub OpeningKeeps : Type 0
-OpeningKeeps = (As : List Type') (at d : ℕ) (vs : List Value) (v : Value) → IsAt As vs at v → value_parts v ≢ [] → Keeps (opening As at d) d As vs (in_place at type_parts As) (in_place at value_parts vs)
+OpeningKeeps = (As : List Type') (at d : ℕ) (v : Value) → value_parts v ≢ [] → KeepsParts (opening As at d) As at d v
 
--- an empty value is worth no more than none
 abbrev pub LeavingKeeps : Type 0
-LeavingKeeps = (As : List Type') (at d : ℕ) (vs : List Value) → IsAt As vs at Empty → Keeps (leaving As at d) d As vs (in_place at none As) (in_place at none vs)
+LeavingKeeps = (As : List Type') (at d : ℕ) → KeepsRest (leaving As at d) As at d Empty
 
--- and any other no less
 abbrev pub LeavingLowers : Type 0
-LeavingLowers = (As : List Type') (at d : ℕ) (vs : List Value) (v : Value) → IsAt As vs at v → (q : Annotation) →
-    potential (in_place at none As) d (moved (leaving As at d) q) (in_place at none vs) ≤ potential As d q vs
+LeavingLowers = (As : List Type') (at d : ℕ) (v : Value) → LowersRest (leaving As at d) As at d v
 
--- a value twice is one with the value once
 abbrev pub SharingKeeps : Type 0
-SharingKeeps = (As : List Type') (at d : ℕ) (vs : List Value) (v : Value) → IsAt As vs at v → Keeps (sharing As at d) d (in_place at twice As) (in_place at twice vs) As vs
+SharingKeeps = (As : List Type') (at d : ℕ) (v : Value) → KeepsShared (sharing As at d) As at d v

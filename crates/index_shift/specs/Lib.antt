@@ -3,3 +3,4 @@ pub mod Potential
 pub mod Maps
 pub mod Laws
 pub mod Example
+pub mod Read

@@ -1,5 +1,5 @@
 -- The maps.
-use Rattle.std.specs.Prelude.{ℕ, zero, suc, ◌==◌, Bool, if◌then◌else◌, List, [], ◌∷◌, ◌++◌, map, flat_map, position, slice_index_or, Option, None, Some}
+use Rattle.std.specs.Prelude.{ℕ, zero, suc, ◌<◌, ◌==◌, ◌⊎◌, Bool, if◌then◌else◌, List, [], ◌∷◌, ◌++◌, map, flat_map, length, position, slice_index_or, Option, None, Some}
 use Rattle.raml_syntax.specs.Tree.{Type', Integer}
 use Rattle.base_poly.specs.Plain.{Plain, many, deg, same}
 use Rattle.base_poly.specs.Indices.{index_list}
@@ -79,3 +79,7 @@ leaving As at d = entries (behind at leaves) As (in_place at none As) d
 -- from the context with the variable twice to the one that has it once
 abbrev pub sharing : List Type' → ℕ → ℕ → List Entry
 sharing As at d = entries (behind at joins) (in_place at twice As) As d
+
+-- one of two contexts has more than 2000 tuples
+abbrev pub IsTooLarge : List Type' → List Type' → ℕ → Type 0
+IsTooLarge As Bs d = (2000 < length (index_list As d)) ⊎ (2000 < length (index_list Bs d))

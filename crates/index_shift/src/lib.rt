@@ -2,7 +2,15 @@
 //! is shared.
 #![tactic(auto)]
 
+mod carry;
+mod context;
 mod entry;
+mod fault;
 pub mod laws;
+mod maps;
+mod parts;
+mod places;
 
 pub use entry::Entry;
+pub use fault::MapFault;
+pub use maps::{drop_var, empty_part, share_map, shift_list, shift_tree, split_pair};
