@@ -5,12 +5,11 @@ use Rattle.std.proofs.lemmas.Bool.{lt-ltb}
 use Rattle.std.proofs.lemmas.Bool.Decides.{nat_tests}
 use Rattle.std.proofs.lemmas.Cmp.{eq_by_cmp_equiv}
 use Rattle.std.specs.List.{position_or_len}
-use Rattle.base_poly.specs.Plain.{Plain, many}
+use Rattle.base_poly.specs.Plain.{Plain, many, entries_of}
 use Rattle.base_poly.specs.Base.{total}
 use Rattle.base_poly.specs.Total.{order_total, same_is}
 use Rattle.base_poly.proofs.Among.{Among}
 use Rattle.base_poly.proofs.Sums.{total_joined}
-use Rattle.index_shift.specs.Parts.{items}
 use Rattle.index_shift.specs.Potential.{Annotation, weighed, moved}
 use Rattle.index_shift.specs.Maps.{Carry, alike, entry_to, placed, entries_from}
 use Rattle.index_shift.specs.declared.entry.Entry.{Entry}
@@ -82,12 +81,12 @@ module _ {X : Type 0} where
 
 -- Positions
 
-pub many_items : (is : List Plain) → items (many is) ≡ is
-many_items [] = refl
-many_items (i ∷ is) = ap (λ l. i ∷ l) (many_items is)
+pub entries_of_many : (is : List Plain) → entries_of (many is) ≡ is
+entries_of_many [] = refl
+entries_of_many (i ∷ is) = ap (λ l. i ∷ l) (entries_of_many is)
 
 pub alike_is : (t u : List Plain) → alike t u ≡ true → t ≡ u
-alike_is t u h = sym (many_items t) ∙ ap items (same_is (many t) (many u) h) ∙ many_items u
+alike_is t u h = sym (entries_of_many t) ∙ ap entries_of (same_is (many t) (many u) h) ∙ entries_of_many u
 
 pub alike_self : (t : List Plain) → alike t t ≡ true
 alike_self t = (eq_by_cmp_equiv order_total).refl (many t)

@@ -3,17 +3,18 @@ use Rattle.std.proofs.Common.{◌≡◌, ◌≢◌, ◌≤◌, ℕ, suc, ◌+◌
 use Rattle.std.proofs.lemmas.Bool.{eqb-true, ne_eqb}
 use Rattle.raml_syntax.specs.Tree.{Type', Integer, Boolean, PairOf, ListOf, TreeOf}
 use Rattle.raml_syntax.specs.Value.{Value, Number, Truth, Both, Empty, Cons, Node, Has}
-use Rattle.base_poly.specs.Plain.{Plain, Unit', Pair, End, Then, many, deg, degrees}
+use Rattle.base_poly.specs.Plain.{Plain, Unit', Pair, End, Then, many, entries_of, deg, degrees}
 use Rattle.base_poly.specs.Indices.{IsIndex, AreIndices, zero_of}
 use Rattle.base_poly.specs.Base.{total, base, bases}
 use Rattle.base_poly.specs.Product.{product}
 use Rattle.base_poly.specs.Count.{tallied, weighed as counted_worth, IsTerm}
 use Rattle.base_poly.specs.Laws.{cuts}
 use Rattle.base_poly.proofs.Sums.{total_joined, total_map}
+use Rattle.base_poly.proofs.Exact.{many_entries, as_list}
 use Rattle.base_poly.proofs.Longer.{zero_is_index, zero_degree}
 use Rattle.base_poly.proofs.Recursion.{by_value, types_have_zero, zero_one}
 use Rattle.base_poly.proofs.Counted.{product_counted, product_weighed}
-use Rattle.index_shift.specs.Parts.{type_parts, value_parts, items, at_trees, list_parts, tree_parts, index_parts}
+use Rattle.index_shift.specs.Parts.{type_parts, value_parts, at_trees, list_parts, tree_parts, index_parts}
 use Rattle.index_shift.specs.Maps.{opens, leaves, joins}
 use Rattle.index_shift.proofs.Brought.{Each, each_joined}
 
@@ -41,17 +42,11 @@ degrees_joined (i ∷ r) t = let more = degrees_joined r t in omega (arith, more
 
 -- Indices of lists and trees are their entries
 
-many_of_list : (A : Type') (i : Plain) → IsIndex i (ListOf A) → i ≡ many (items i)
-many_of_list A Unit' h = absurd h
-many_of_list A (Pair a b) h = absurd h
-many_of_list A End h = refl
-many_of_list A (Then i r) h = ap (Then i) (many_of_list A r h.1)
+many_of_list : (A : Type') (i : Plain) → IsIndex i (ListOf A) → i ≡ many (entries_of i)
+many_of_list A i h = sym (many_entries A i h)
 
-many_of_tree : (A : Type') (i : Plain) → IsIndex i (TreeOf A) → i ≡ many (items i)
-many_of_tree A Unit' h = absurd h
-many_of_tree A (Pair a b) h = absurd h
-many_of_tree A End h = refl
-many_of_tree A (Then i r) h = ap (Then i) (many_of_tree A r h.1)
+many_of_tree : (A : Type') (i : Plain) → IsIndex i (TreeOf A) → i ≡ many (entries_of i)
+many_of_tree A i h = sym (many_entries A i (as_list i A h))
 
 -- Parts are indices of the types of the parts
 
@@ -92,10 +87,10 @@ parts_fit (PairOf A B) End h = absurd h
 parts_fit (PairOf A B) (Then i r) h = absurd h
 parts_fit (ListOf A) i h =
     let same = many_of_list A i h in
-    subst (λ n. Each (Fits (A ∷ ListOf A ∷ []) n) (list_parts (zero_of A) (items i))) (ap deg (sym same)) (list_fit A (items i) (subst (λ j. IsIndex j (ListOf A)) same h))
+    subst (λ n. Each (Fits (A ∷ ListOf A ∷ []) n) (list_parts (zero_of A) (entries_of i))) (ap deg (sym same)) (list_fit A (entries_of i) (subst (λ j. IsIndex j (ListOf A)) same h))
 parts_fit (TreeOf A) i h =
     let same = many_of_tree A i h in
-    subst (λ n. Each (Fits (A ∷ TreeOf A ∷ TreeOf A ∷ []) n) (tree_parts (zero_of A) (items i))) (ap deg (sym same)) (tree_fit A (items i) (subst (λ j. IsIndex j (TreeOf A)) same h))
+    subst (λ n. Each (Fits (A ∷ TreeOf A ∷ TreeOf A ∷ []) n) (tree_parts (zero_of A) (entries_of i))) (ap deg (sym same)) (tree_fit A (entries_of i) (subst (λ j. IsIndex j (TreeOf A)) same h))
 
 pub opens_fit : (A : Type') (As : List Type') (t : List Plain) → AreIndices t (A ∷ As) → Each (λ e. Fits (type_parts A ++ As) (degrees t) e.0) (opens A t)
 opens_fit A As [] h = tt
@@ -171,13 +166,13 @@ parts_worth (TreeOf A) i (Both v w) u us h has some = absurd has
 parts_worth Integer i (Cons h t) u us g has some = absurd has
 parts_worth Boolean i (Cons h t) u us g has some = absurd has
 parts_worth (PairOf A B) i (Cons h t) u us g has some = absurd has
-parts_worth (ListOf A) i (Cons h t) u us g has some = list_worth A (items i) h t u us has.0 ∙ ap (λ j. base j (Cons h t) * bases u us) (sym (many_of_list A i g))
+parts_worth (ListOf A) i (Cons h t) u us g has some = list_worth A (entries_of i) h t u us has.0 ∙ ap (λ j. base j (Cons h t) * bases u us) (sym (many_of_list A i g))
 parts_worth (TreeOf A) i (Cons h t) u us g has some = absurd has
 parts_worth Integer i (Node a l r) u us g has some = absurd has
 parts_worth Boolean i (Node a l r) u us g has some = absurd has
 parts_worth (PairOf A B) i (Node a l r) u us g has some = absurd has
 parts_worth (ListOf A) i (Node a l r) u us g has some = absurd has
-parts_worth (TreeOf A) i (Node a l r) u us g has some = tree_worth A (items i) a l r u us has.0 ∙ ap (λ j. base j (Node a l r) * bases u us) (sym (many_of_tree A i g))
+parts_worth (TreeOf A) i (Node a l r) u us g has some = tree_worth A (entries_of i) a l r u us has.0 ∙ ap (λ j. base j (Node a l r) * bases u us) (sym (many_of_tree A i g))
 
 -- what a tuple is carried to is worth at these values
 abbrev pub carried_at : List Value → List (List Plain × ℕ) → ℕ

@@ -9,7 +9,7 @@ use Rattle.std.specs.Ordering.{ordering_then, is_eq, nat_cmp}
 use Rattle.indexmap.specs.IndexSet.{insert_key}
 use Rattle.base_poly.specs.Plain.{Plain, degrees}
 use Rattle.base_poly.specs.Indices.{Ascends, each_in_turn, tuple_order}
-use Rattle.base_poly.proofs.Exact.{order_many}
+use Rattle.base_poly.proofs.Only.{never_both}
 use Rattle.base_poly.proofs.Among.{Among, before_one}
 use Rattle.index_shift.specs.Maps.{Carry, alike, entry_to, placed, entries_from}
 use Rattle.index_shift.specs.declared.entry.Entry.{Entry}
@@ -18,24 +18,12 @@ use Rattle.index_shift.proofs.Brought.{alike_is, alike_self}
 pub one_inserted : (ks : List (List Plain)) (ts : List (List Plain)) (t : List Plain) → fold (insert_key alike) ks (ts ++ t ∷ []) ≡ insert_key alike (fold (insert_key alike) ks ts) t
 one_inserted ks ts t = fold-append (insert_key alike) ks ts (t ∷ [])
 
-apart : true ≡ false → ⊥
-apart e = cc
-
--- no tuple is before itself
-not_before : (t : List Plain) → tuple_order t t ≡ Less → ⊥
-not_before t h = apart (sym (alike_self t) ∙ ap is_eq (order_many t t ∙ same ∙ h))
-  where
-    even : (n : ℕ) → nat_cmp n n ≡ Equal
-    even n = grind (arith, nat_tests)
-
-    same : each_in_turn t t ≡ tuple_order t t
-    same = sym (ap (λ o. ordering_then o (each_in_turn t t)) (even (degrees t)))
-
+-- what is before another is not alike to it
 other : (t u : List Plain) → tuple_order t u ≡ Less → alike u t ≡ false
 other t u h = by (alike u t) refl
   where
     by : (b : Bool) → alike u t ≡ b → alike u t ≡ false
-    by true e = absurd (not_before t (ap (tuple_order t) (sym (alike_is u t e)) ∙ h))
+    by true e = let again = ap (tuple_order t) (sym (alike_is u t e)) ∙ h in absurd (never_both t t again again)
     by false e = e
 
 placed_behind : (ks ts : List (List Plain)) → Ascends tuple_order ts → ((t : List Plain) → Among t ts → list_any (alike t) ks ≡ false) → fold (insert_key alike) ks ts ≡ ks ++ ts

@@ -2,7 +2,7 @@
 use Rattle.std.specs.Prelude.{List, [], ◌∷◌, ◌++◌, map}
 use Rattle.raml_syntax.specs.Tree.{Type', PairOf, ListOf, TreeOf}
 use Rattle.raml_syntax.specs.Value.{Value, Both, Cons, Node}
-use Rattle.base_poly.specs.Plain.{Plain, Pair, End, Then, many}
+use Rattle.base_poly.specs.Plain.{Plain, Pair, End, many, entries_of}
 use Rattle.base_poly.specs.Indices.{zero_of}
 use Rattle.base_poly.specs.Laws.{cuts}
 
@@ -18,11 +18,6 @@ value_parts (Both v w) = v ∷ w ∷ []
 value_parts (Cons h t) = h ∷ t ∷ []
 value_parts (Node a l r) = a ∷ l ∷ r ∷ []
 value_parts _ = []
-
--- the entries of a list index
-abbrev pub items : Plain → List Plain
-items (Then i r) = i ∷ items r
-items _ = []
 
 -- an index at an element, and indices at the trees of which the left one has the first entries
 abbrev pub at_trees : Plain → List Plain → List (List Plain)
@@ -45,6 +40,6 @@ pair_parts _ = []
 -- the tuples of indices of the parts that stand for an index of the type
 abbrev pub index_parts : Type' → Plain → List (List Plain)
 index_parts (PairOf A B) i = pair_parts i
-index_parts (ListOf A) i = list_parts (zero_of A) (items i)
-index_parts (TreeOf A) i = tree_parts (zero_of A) (items i)
+index_parts (ListOf A) i = list_parts (zero_of A) (entries_of i)
+index_parts (TreeOf A) i = tree_parts (zero_of A) (entries_of i)
 index_parts _ i = []

@@ -1,10 +1,10 @@
 // Indices of the parts of a variable that is taken apart.
 ghost use Rattle.std.specs.Prelude.{◌≡◌, [], ◌∷◌, ◌++◌, map, IfOk, OnOk};
 ghost use Rattle.raml_syntax.specs.Read.{ty_of};
-ghost use Rattle.base_poly.specs.Plain.{many};
+ghost use Rattle.base_poly.specs.Plain.{many, entries_of};
 ghost use Rattle.base_poly.specs.Indices.{zero_of};
 ghost use Rattle.base_poly.specs.Read.{index_of, plains_of};
-ghost use Rattle.index_shift.specs.Parts.{items, at_trees, list_parts, tree_parts, pair_parts, index_parts};
+ghost use Rattle.index_shift.specs.Parts.{at_trees, list_parts, tree_parts, pair_parts, index_parts};
 
 use base_poly::{Index, Tuple};
 use raml_syntax::Ty;
@@ -38,7 +38,7 @@ fn zero_of(alloc: Global, ty: &Ty) -> Result<Index, AllocError>
 
 // The entries of a list index.
 fn entries(index: &Index) -> &[Index]
-    ensures { plains_of result.now ≡ items (index_of index.now) }
+    ensures { plains_of result.now ≡ entries_of (index_of index.now) }
 {
     match index {
         Index::List(entries) => entries,
