@@ -1,19 +1,17 @@
 -- Places of tuples in a set.
 use Rattle.std.proofs.Common.{◌≡◌, ℕ, suc, ◌+◌, ◌<◌, inl, inr, Bool, true, false, ◌||◌, if◌then◌else◌, List, [], ◌∷◌, ◌++◌, fold, length, get_or, drop, drop-cons, position, refl, sym, ap, ◌∙◌, append_assoc, append-nil, arith}
-use Rattle.std.proofs.lemmas.Bool.Decides.{nat_tests}
 use Rattle.std.proofs.lemmas.List.Sums.{fold-append}
 use Rattle.std.proofs.lemmas.List.Folds.{list_any-append}
 use Rattle.std.specs.List.{list_any}
-use Rattle.std.specs.declared.cmp.Ordering.TheVariants.{Less, Equal}
-use Rattle.std.specs.Ordering.{ordering_then, is_eq, nat_cmp}
+use Rattle.std.specs.declared.cmp.Ordering.TheVariants.{Less}
 use Rattle.indexmap.specs.IndexSet.{insert_key}
-use Rattle.base_poly.specs.Plain.{Plain, degrees}
-use Rattle.base_poly.specs.Indices.{Ascends, each_in_turn, tuple_order}
+use Rattle.base_poly.specs.Plain.{Plain}
+use Rattle.base_poly.specs.Indices.{Ascends, tuple_order}
 use Rattle.base_poly.proofs.Only.{never_both}
 use Rattle.base_poly.proofs.Among.{Among, before_one}
 use Rattle.index_shift.specs.Maps.{Carry, alike, entry_to, placed, entries_from}
 use Rattle.index_shift.specs.declared.entry.Entry.{Entry}
-use Rattle.index_shift.proofs.Brought.{alike_is, alike_self}
+use Rattle.index_shift.proofs.Brought.{alike_is}
 
 pub one_inserted : (ks : List (List Plain)) (ts : List (List Plain)) (t : List Plain) → fold (insert_key alike) ks (ts ++ t ∷ []) ≡ insert_key alike (fold (insert_key alike) ks ts) t
 one_inserted ks ts t = fold-append (insert_key alike) ks ts (t ∷ [])

@@ -1,11 +1,11 @@
 -- Indices as they are read.
-use Rattle.std.proofs.Common.{◌≡◌, ◌⊎◌, ⊎_elim, List, [], ◌∷◌, Box, Vec, Global, refl, sym, ap, ◌∙◌}
+use Rattle.std.proofs.Common.{◌≡◌, ◌⊎◌, ⊎_elim, List, [], ◌∷◌, Vec, Global, refl, sym, ap, ◌∙◌}
 use Rattle.base_poly.specs.Plain as p
 use Rattle.base_poly.specs.Plain.{many, entries_of}
 use Rattle.base_poly.specs.Read.{index_of, plains_of}
 use Rattle.base_poly.specs.declared.index.Index.{Index}
-use Rattle.base_poly.specs.declared.index.Index.TheVariants.{Unit as One, Pair, List as Items}
-use Rattle.base_poly.proofs.Many.{as_unit, as_pair, as_list}
+use Rattle.base_poly.specs.declared.index.Index.TheVariants.{Unit as One, List as Items}
+use Rattle.base_poly.proofs.Many.{as_unit, as_list}
 use Rattle.index_shift.specs.Parts.{pair_parts}
 use Rattle.index_shift.proofs.Brought.{entries_of_many}
 
