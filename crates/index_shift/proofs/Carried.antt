@@ -213,6 +213,17 @@ leaves_lower A As v (i ∷ t) us has h = by (deg i == 0) refl
         let same : base i v * bases t us ≡ bases t us = grind (arith, one) in omega (arith, same)
     by false e = omega arith
 
+-- of the zero index the rest stays
+pub leaves_zero : (A : Type') (As : List Type') (v : Value) (i : Plain) (t : List Plain) (us : List Value) → Has v A → IsIndex i A →
+    carried_at us (leaves (i ∷ t)) ≡ (if deg i == 0 then bases (i ∷ t) (v ∷ us) else 0)
+leaves_zero A As v i t us has h = by (deg i == 0) refl
+  where
+    by : (b : Bool) → (deg i == 0) ≡ b → carried_at us (if b then (t, 1) ∷ [] else []) ≡ (if b then base i v * bases t us else 0)
+    by true e =
+        let zero = types_have_zero A in
+        let one = ap (λ j. base j v) (zero.only i h (eqb-true _ _ e)) ∙ zero.one v has in grind (arith, one)
+    by false e = refl
+
 pub joins_worth : (A : Type') (As : List Type') (v : Value) (t : List Plain) (us : List Value) → AreIndices t (A ∷ A ∷ As) → carried_at (v ∷ us) (joins t) ≡ bases t (v ∷ v ∷ us)
 joins_worth A As v [] us h = absurd h
 joins_worth A As v (i ∷ []) us h = absurd h.1

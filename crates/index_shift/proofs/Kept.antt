@@ -1,9 +1,9 @@
 -- The maps keep potential.
-use Rattle.std.proofs.Common.{◌≡◌, ◌≤◌, ℕ, zero, suc, ◌*◌, List, [], ◌∷◌, ◌++◌, map, slice_get, Some, refl, sym, ap, ◌∙◌, subst, arith}
+use Rattle.std.proofs.Common.{◌≡◌, ◌≤◌, ◌==◌, ℕ, zero, suc, ◌*◌, Bool, true, false, if◌then◌else◌, List, [], ◌∷◌, ◌++◌, map, slice_get, slice_index_or, Some, refl, sym, ap, ◌∙◌, subst, arith}
 use Rattle.std.proofs.Math.Nat.{mul-le-mul_left}
 use Rattle.raml_syntax.specs.Tree.{Type'}
-use Rattle.raml_syntax.specs.Value.{Value, Empty}
-use Rattle.base_poly.specs.Plain.{Plain, degrees}
+use Rattle.raml_syntax.specs.Value.{Value, Has, Empty}
+use Rattle.base_poly.specs.Plain.{Plain, Unit', deg, degrees}
 use Rattle.base_poly.specs.Indices.{AreIndices, index_list}
 use Rattle.base_poly.specs.Base.{base, bases}
 use Rattle.base_poly.proofs.Among.{Among, among_contains, contains_among}
@@ -11,9 +11,9 @@ use Rattle.base_poly.proofs.Exact.{exact}
 use Rattle.index_shift.specs.Parts.{type_parts, value_parts}
 use Rattle.index_shift.specs.Potential.{Annotation, weighed, potential, moved}
 use Rattle.index_shift.specs.Maps.{Carry, in_place, none, twice, behind, opens, leaves, joins, entries, type_at}
-use Rattle.index_shift.specs.Laws.{OpeningKeeps, LeavingKeeps, LeavingLowers, SharingKeeps}
+use Rattle.index_shift.specs.Laws.{OpeningKeeps, LeavingKeeps, LeavingKeepsZero, LeavingLowers, SharingKeeps}
 use Rattle.index_shift.proofs.Brought.{Each, each_weaker, each_among, weighed_same, weighed_less, carried_worth}
-use Rattle.index_shift.proofs.Carried.{Fits, each_map, carried_at, opens_fit, leaves_fit, joins_fit, opens_worth, leaves_worth, leaves_lower, joins_worth}
+use Rattle.index_shift.proofs.Carried.{Fits, each_map, carried_at, opens_fit, leaves_fit, joins_fit, opens_worth, leaves_worth, leaves_zero, leaves_lower, joins_worth}
 
 abbrev one : {X : Type 0} → X → List X
 one x = x ∷ []
@@ -25,6 +25,11 @@ in_place_one (suc k) (x ∷ xs) = ap (λ l. x ∷ l) (in_place_one k xs)
 
 the_some : {X : Type 0} (x y : X) → Some x ≡ Some y → x ≡ y
 the_some x y h = cc
+
+-- one more index before each, at one more value
+led : (i : Plain) (w : Value) (ws : List Value) (es : List (List Plain × ℕ)) → carried_at (w ∷ ws) (map (λ e. (i ∷ e.0, e.1)) es) ≡ base i w * carried_at ws es
+led i w ws [] = grind arith
+led i w ws (e ∷ es) = let more = led i w ws es in grind (arith, more)
 
 -- Behind other variables
 
@@ -53,12 +58,8 @@ module _ (c : Carry) (f g : Type' → List Type') (A : Type') where
     behind_worth head (suc k) (B ∷ As) [] there value t h = absurd (cc)
     behind_worth head (suc k) (B ∷ As) (w ∷ vs) there value [] h = absurd h
     behind_worth head (suc k) (B ∷ As) (w ∷ vs) there value (i ∷ t) h =
-        subst (λ n. R n (base i w * bases t (in_place k before vs))) (sym (led (behind k c t)))
+        subst (λ n. R n (base i w * bases t (in_place k before vs))) (sym (led i w (in_place k after vs) (behind k c t)))
         (scale (base i w) _ _ (behind_worth head k As vs there value t h.1))
-      where
-        led : (es : List (List Plain × ℕ)) → carried_at (w ∷ in_place k after vs) (map (λ e. (i ∷ e.0, e.1)) es) ≡ base i w * carried_at (in_place k after vs) es
-        led [] = grind arith
-        led (e ∷ es) = let more = led es in grind (arith, more)
 
 -- Whole maps
 
@@ -75,9 +76,13 @@ module _ (c : Carry) (As Bs : List Type') (d : ℕ) (fits : (t : List Plain) →
   map_worth : (ws : List Value) (q : Annotation) → potential Bs d (moved (entries c As Bs d) q) ws ≡ weighed (λ t. carried_at ws (c t)) (index_list As d) q
   map_worth ws q = carried_worth (λ t. bases t ws) (index_list Bs d) q c (index_list As d) carried_among
 
+  pub map_is : (ws : List Value) (f : List Plain → ℕ) → ((t : List Plain) → AreIndices t As → carried_at ws (c t) ≡ f t) → (q : Annotation) →
+      potential Bs d (moved (entries c As Bs d) q) ws ≡ weighed f (index_list As d) q
+  map_is ws f h q = map_worth ws q ∙ weighed_same _ _ (index_list As d) q (each_among _ (index_list As d) (λ t m. h t (listed t m).0))
+
   pub map_keeps : (vs ws : List Value) → ((t : List Plain) → AreIndices t As → carried_at ws (c t) ≡ bases t vs) → (q : Annotation) →
       potential Bs d (moved (entries c As Bs d) q) ws ≡ potential As d q vs
-  map_keeps vs ws h q = map_worth ws q ∙ weighed_same _ _ (index_list As d) q (each_among _ (index_list As d) (λ t m. h t (listed t m).0))
+  map_keeps vs ws h q = map_is ws (λ t. bases t vs) h q
 
   pub map_lowers : (vs ws : List Value) → ((t : List Plain) → AreIndices t As → carried_at ws (c t) ≤ bases t vs) → (q : Annotation) →
       potential Bs d (moved (entries c As Bs d) q) ws ≤ potential As d q vs
@@ -122,6 +127,27 @@ leaving_keeps As at d vs h =
     map_keeps (behind at leaves) As (in_place at none As) d (leaving_fits As at d A h.there) vs (in_place at none vs)
     (λ t g. as_one (λ us. carried_at (in_place at none vs) (behind at leaves t) ≡ bases t us) at vs
     (behind_worth leaves one none A ◌≡◌ equal_scale one none Empty (λ Bs u us k. leaves_worth A Bs u us h.has k) at As vs h.there h.value t (to_one (AreIndices t) at As g)))
+
+leaves_behind : (at : ℕ) (As : List Type') (vs : List Value) (A : Type') (v : Value) → slice_get As at ≡ Some A → slice_get vs at ≡ Some v → Has v A → (t : List Plain) → AreIndices t As →
+    carried_at (in_place at none vs) (behind at leaves t) ≡ (if deg (slice_index_or t at Unit') == 0 then bases t vs else 0)
+leaves_behind at [] vs A v there value has t h = absurd (cc)
+leaves_behind at (B ∷ As) [] A v there value has t h = absurd (cc)
+leaves_behind at (B ∷ As) (w ∷ vs) A v there value has [] h = absurd h
+leaves_behind zero (B ∷ As) (w ∷ vs) A v there value has (i ∷ t) h =
+    leaves_zero B As w i t vs (subst (λ u. Has u B) (sym (the_some w v value)) (subst (Has v) (sym (the_some B A there)) has)) h.0
+leaves_behind (suc k) (B ∷ As) (w ∷ vs) A v there value has (i ∷ t) h =
+    led i w (in_place k none vs) (behind k leaves t)
+    ∙ ap (λ n. base i w * n) (leaves_behind k As vs A v there value has t h.1)
+    ∙ by (deg (slice_index_or t k Unit') == 0)
+  where
+    by : (b : Bool) → base i w * (if b then bases t vs else 0) ≡ (if b then base i w * bases t vs else 0)
+    by true = refl
+    by false = grind arith
+
+pub leaving_keeps_zero : LeavingKeepsZero
+leaving_keeps_zero As at d v vs h =
+    map_is (behind at leaves) As (in_place at none As) d (leaving_fits As at d h.type h.there) (in_place at none vs) (λ t. if deg (slice_index_or t at Unit') == 0 then bases t vs else 0)
+    (leaves_behind at As vs h.type v h.there h.value h.has)
 
 pub leaving_lowers : LeavingLowers
 leaving_lowers As at d v vs h =

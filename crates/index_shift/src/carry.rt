@@ -1,13 +1,10 @@
 // How tuples are carried from one context to another.
-ghost use Rattle.std.specs.Prelude.{◌≡◌, ◌<◌, ◌≤◌, ◌+◌, ◌==◌, if◌then◌else◌, [], ◌∷◌, ◌++◌, map, length, IfOk, OnOk};
+ghost use Rattle.std.specs.Prelude.{◌≡◌, ◌≤◌, ◌+◌, ◌∷◌, ◌++◌, map, IfOk};
 ghost use Rattle.raml_syntax.specs.Read.{ty_of};
 ghost use Rattle.raml_syntax.specs.Tree.{Type'};
 ghost use Rattle.base_poly.specs.Plain.{deg};
-ghost use Rattle.base_poly.specs.Count.{counts_of, tallied};
 ghost use Rattle.base_poly.specs.Indices.{IsIndex};
-ghost use Rattle.base_poly.specs.Product.{product};
 ghost use Rattle.base_poly.specs.Read.{index_of, plains_of};
-ghost use Rattle.index_shift.specs.Parts.{index_parts};
 ghost use Rattle.index_shift.specs.Maps.{behind, opens, leaves, joins};
 ghost use Rattle.index_shift.specs.Read.{carry_of, CanJoin, CanCarry};
 

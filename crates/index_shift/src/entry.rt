@@ -1,5 +1,4 @@
 // Entries of maps.
-ghost use Rattle.std.specs.Prelude.{◌≡◌};
 
 /// One entry of a map: the number at the position `from` counts `times` at the position `to`.
 ///

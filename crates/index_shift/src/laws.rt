@@ -1,6 +1,6 @@
 // Laws of the maps: each is the contract of a function that does nothing.
 ghost use Rattle.index_shift.specs.Example.{Examples};
-ghost use Rattle.index_shift.specs.Laws.{OpeningKeeps, LeavingKeeps, LeavingLowers, SharingKeeps};
+ghost use Rattle.index_shift.specs.Laws.{OpeningKeeps, LeavingKeeps, LeavingKeepsZero, LeavingLowers, SharingKeeps};
 
 /// Where a variable is taken apart, the potential stays.
 pub fn opening_keeps()
@@ -10,6 +10,11 @@ pub fn opening_keeps()
 /// Where an empty variable leaves, the potential stays.
 pub fn leaving_keeps()
     ensures { LeavingKeeps }
+{}
+
+/// Where any variable leaves, what its zero index was worth stays.
+pub fn leaving_keeps_zero()
+    ensures { LeavingKeepsZero }
 {}
 
 /// Where any variable leaves, the potential does not rise.

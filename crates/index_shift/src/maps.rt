@@ -1,12 +1,12 @@
 // The maps.
-ghost use Rattle.std.specs.Prelude.{◌≡◌, ◌≢◌, ◌≤◌, ◌<◌, ◌⊎◌, All, List, [], length, slice_get, Some, IfOk, OnOk, IsErrOf};
+ghost use Rattle.std.specs.Prelude.{◌≡◌, ◌≢◌, ◌≤◌, ◌<◌, ◌⊎◌, All, [], length, slice_get, Some, IfOk, OnOk, IsErrOf};
 ghost use Rattle.raml_syntax.specs.Tree.{Type', PairOf, ListOf, TreeOf};
 ghost use Rattle.raml_syntax.specs.Value.{Value, Both, Empty, Cons, Node};
 ghost use Rattle.base_poly.specs.Indices.{index_list};
 ghost use Rattle.base_poly.specs.Read.{context_of};
 ghost use Rattle.index_shift.specs.Parts.{type_parts, value_parts};
 ghost use Rattle.index_shift.specs.Maps.{in_place, none, twice, behind, entries, opening, leaving, sharing, IsTooLarge};
-ghost use Rattle.index_shift.specs.Laws.{KeepsParts, KeepsRest, LowersRest, KeepsShared};
+ghost use Rattle.index_shift.specs.Laws.{KeepsParts, KeepsRest, KeepsZero, LowersRest, KeepsShared};
 ghost use Rattle.index_shift.specs.Read.{carry_of, CanCarry};
 
 use crate::carry::Carry;
@@ -85,6 +85,7 @@ pub fn drop_var(alloc: Global, context: &[Ty], at: usize, d: u8) -> Result<Vec<E
     requires there { at < length context.now }
     requires low { d ≤ 4 }
     ensures map { IfOk result (λ found. found.items ≡ leaving (context_of context.now) at d) }
+    ensures zero { IfOk result (λ found. (v : Value) → KeepsZero found.items (context_of context.now) at d v) }
     ensures lowered { IfOk result (λ found. (v : Value) → LowersRest found.items (context_of context.now) at d v) }
     ensures few { OnOk result (IsTooLarge (context_of context.now) (in_place at none (context_of context.now)) d → ⊥) }
     ensures many { IsErrOf result MapFault.TooMany → IsTooLarge (context_of context.now) (in_place at none (context_of context.now)) d }
@@ -131,6 +132,7 @@ fn leaving(alloc: Global, context: &[Ty], at: usize, d: u8) -> Result<Vec<Entry>
     requires low { d ≤ 4 }
     ensures map { IfOk result (λ found. found.items ≡ leaving (context_of context.now) at d) }
     ensures kept { IfOk result (λ found. KeepsRest found.items (context_of context.now) at d Empty) }
+    ensures zero { IfOk result (λ found. (v : Value) → KeepsZero found.items (context_of context.now) at d v) }
     ensures lowered { IfOk result (λ found. (v : Value) → LowersRest found.items (context_of context.now) at d v) }
     ensures few { OnOk result (IsTooLarge (context_of context.now) (in_place at none (context_of context.now)) d → ⊥) }
     ensures many { IsErrOf result MapFault.TooMany → IsTooLarge (context_of context.now) (in_place at none (context_of context.now)) d }

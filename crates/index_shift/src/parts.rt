@@ -1,5 +1,5 @@
 // Indices of the parts of a variable that is taken apart.
-ghost use Rattle.std.specs.Prelude.{◌≡◌, [], ◌∷◌, ◌++◌, map, IfOk, OnOk};
+ghost use Rattle.std.specs.Prelude.{◌≡◌, [], ◌∷◌, ◌++◌, IfOk, OnOk};
 ghost use Rattle.raml_syntax.specs.Read.{ty_of};
 ghost use Rattle.base_poly.specs.Plain.{many, entries_of};
 ghost use Rattle.base_poly.specs.Indices.{zero_of};

@@ -1,7 +1,6 @@
 // Entries between the places of tuples.
-ghost use Rattle.std.specs.Prelude.{◌≡◌, ◌≤◌, ◌<◌, ◌^◌, ◌++◌, All, length, IfOk, OnOk, IfSome};
+ghost use Rattle.std.specs.Prelude.{◌≡◌, ◌≤◌, ◌<◌, ◌++◌, All, length, IfOk, OnOk, IfSome};
 ghost use Rattle.base_poly.specs.Indices.{Ascends, tuple_order};
-ghost use Rattle.indexmap.specs.IndexSet.{index_set_len};
 ghost use Rattle.index_shift.specs.Maps.{behind, entry_to, placed, entries_from};
 ghost use Rattle.index_shift.specs.Read.{carry_of, CanCarry};
 

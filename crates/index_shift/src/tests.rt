@@ -1,7 +1,7 @@
 //! The maps against tables, and contexts that are just large enough.
 ghost use Rattle.std.specs.Prelude.{◌≡◌, ◌<◌, ◌^◌, ◌⊎◌, [], ◌∷◌, length, slice_get, Some, IfOk};
 ghost use Rattle.raml_syntax.specs.Read.{ty_of};
-ghost use Rattle.raml_syntax.specs.Tree.{Type', Integer, PairOf, ListOf, TreeOf};
+ghost use Rattle.raml_syntax.specs.Tree.{Type', PairOf, ListOf, TreeOf};
 ghost use Rattle.base_poly.specs.Read.{context_of};
 
 use super::*;

@@ -3,9 +3,9 @@ use Rattle.std.proofs.lemmas.Result.{IfOk-weaker}
 use Rattle.raml_syntax.specs.Value.{Value, Empty}
 use Rattle.base_poly.specs.Read.{context_of}
 use Rattle.index_shift.specs.Maps.{behind, leaves, entries, leaving, IsTooLarge}
-use Rattle.index_shift.specs.Laws.{KeepsRest, LowersRest}
+use Rattle.index_shift.specs.Laws.{KeepsRest, KeepsZero, LowersRest}
 use Rattle.index_shift.specs.declared.fault.MapFault.TheVariants.{TooMany}
-use Rattle.index_shift.proofs.Kept.{leaving_keeps, leaving_lowers}
+use Rattle.index_shift.proofs.Kept.{leaving_keeps, leaving_keeps_zero, leaving_lowers}
 use Rattle.index_shift.proofs.Listed.{can_leave, left_out}
 use Rattle.index_shift.proofs.maps.leaving.Goals as goal
 
@@ -22,6 +22,11 @@ pub returns-clause-kept : goal.returns-clause-kept
 returns-clause-kept c =
     IfOk-weaker c.between.result _ (λ found. KeepsRest found.items (context_of c.args.context.now) c.args.at c.args.d Empty)
     (λ found h. subst (λ es. KeepsRest es (context_of c.args.context.now) c.args.at c.args.d Empty) (sym h) (leaving_keeps (context_of c.args.context.now) c.args.at c.args.d)) (returns-clause-map c)
+
+pub returns-clause-zero : goal.returns-clause-zero
+returns-clause-zero c =
+    IfOk-weaker c.between.result _ (λ found. (v : Value) → KeepsZero found.items (context_of c.args.context.now) c.args.at c.args.d v)
+    (λ found h v. subst (λ es. KeepsZero es (context_of c.args.context.now) c.args.at c.args.d v) (sym h) (leaving_keeps_zero (context_of c.args.context.now) c.args.at c.args.d v)) (returns-clause-map c)
 
 pub returns-clause-lowered : goal.returns-clause-lowered
 returns-clause-lowered c =
