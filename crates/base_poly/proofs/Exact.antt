@@ -5,14 +5,10 @@ use Rattle.std.specs.Ordering.{ordering_then, nat_cmp}
 use Rattle.std.proofs.lemmas.Bool.{eqb-true, eq-eqb}
 use Rattle.std.proofs.lemmas.Bool.Decides.{nat_tests}
 use Rattle.raml_syntax.specs.Tree.{Type', Integer, Boolean, PairOf, ListOf, TreeOf}
-use Rattle.base_poly.specs.Plain.{Plain, Unit', Pair, End, Then, many, deg, degrees, order}
+use Rattle.base_poly.specs.Plain.{Plain, Unit', Pair, End, Then, many, entries_of, deg, degrees, order}
 use Rattle.base_poly.specs.Indices.{IsIndex, AreIndices, each_in_turn, tuple_order, IsBefore, Ascends, ListsTuples, led_by, lists, indices_up_to, tuples_up_to, by_degree, index_list}
+use Rattle.base_poly.specs.Total.{order_many}
 use Rattle.base_poly.proofs.Among.{Among, among_contains, contains_among, among_left, among_right, among_either, kept_among, among_kept, mapped_among, among_mapped, part_among, among_part, before_all, ascends_joined, ascends_kept, ascends_as, ascends_led}
-
--- the entries of a list index
-abbrev pub entries_of : Plain → List Plain
-entries_of (Then i r) = i ∷ entries_of r
-entries_of _ = []
 
 pub deg_many : (is : List Plain) → degrees is ≤ deg (many is)
 deg_many [] = omega arith
@@ -23,12 +19,6 @@ order_same Unit' = refl
 order_same (Pair a b) = ap (λ o. ordering_then o (order b b)) (order_same a) ∙ order_same b
 order_same End = refl
 order_same (Then x r) = ap (λ o. ordering_then o (order r r)) (order_same x) ∙ order_same r
-
-pub order_many : (is js : List Plain) → order (many is) (many js) ≡ each_in_turn is js
-order_many [] [] = refl
-order_many [] (j ∷ js) = refl
-order_many (i ∷ is) [] = refl
-order_many (i ∷ is) (j ∷ js) = ap (ordering_then (order i j)) (order_many is js)
 
 -- Order
 

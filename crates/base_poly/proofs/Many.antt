@@ -14,7 +14,7 @@ use Rattle.base_poly.specs.declared.index.Index.TheFolds.{fold-roll-Index}
 pub as_unit : (x : Index) → x ≡ One → index_of x ≡ p.Unit'
 as_unit x h = ap index_of h ∙ ap index_of (sym rolls-Unit) ∙ fold-roll-Index p.Plain index_step o.Unit
 
-as_pair : (x : Index) (a b : Box Index Global) → x ≡ Pair a b → index_of x ≡ p.Pair (index_of a.value) (index_of b.value)
+pub as_pair : (x : Index) (a b : Box Index Global) → x ≡ Pair a b → index_of x ≡ p.Pair (index_of a.value) (index_of b.value)
 as_pair x a b h = ap index_of h ∙ ap index_of (sym (rolls-Pair a b)) ∙ fold-roll-Index p.Plain index_step (o.Pair a b)
 
 pub as_list : (x : Index) (v : Vec Index Global) → x ≡ Items v → index_of x ≡ many (plains_of v.items)

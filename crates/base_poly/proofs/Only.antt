@@ -1,16 +1,14 @@
 -- No other list has the same tuples in order.
-use Rattle.std.proofs.Common.{◌≡◌, ◌⊎◌, inl, inr, ⊎_elim, List, [], ◌∷◌, refl, sym, ap, ◌∙◌, subst}
+use Rattle.std.proofs.Common.{◌≡◌, ◌⊎◌, inl, inr, ⊎_elim, List, [], ◌∷◌, refl, sym, ap, ◌∙◌}
 use Rattle.std.specs.declared.cmp.Ordering.{Ordering}
 use Rattle.std.specs.declared.cmp.Ordering.TheVariants.{Less, Greater}
-use Rattle.std.specs.Ordering.{ordering_then, ordering_reverse, nat_cmp}
-use Rattle.std.specs.Cmp.{IsTotalOrder}
-use Rattle.std.proofs.lemmas.Cmp.{on_total, then_total, nat_cmp_total}
-use Rattle.base_poly.specs.Plain.{Plain, many, degrees}
-use Rattle.base_poly.specs.Total.{order_total}
+use Rattle.std.specs.Ordering.{ordering_reverse}
+use Rattle.base_poly.specs.Plain.{Plain}
+use Rattle.base_poly.specs.Total.{tuple_total}
 use Rattle.base_poly.specs.Indices.{IsBefore, Ascends, tuple_order}
 use Rattle.base_poly.specs.Laws.{IndicesAreListed}
 use Rattle.base_poly.proofs.Among.{Among, contains_among, among_contains, before_one}
-use Rattle.base_poly.proofs.Exact.{exact, order_many}
+use Rattle.base_poly.proofs.Exact.{exact}
 
 module _ {X : Type 0} (by : X → X → Ordering) (never : (x y : X) → by x y ≡ Less → by y x ≡ Less → ⊥) where
   pub one_order : (xs ys : List X) → Ascends by xs → Ascends by ys → ((x : X) → Among x xs → Among x ys) → ((x : X) → Among x ys → Among x xs) → xs ≡ ys
@@ -27,10 +25,7 @@ module _ {X : Type 0} (by : X → X → Ordering) (never : (x y : X) → by x y 
       rest_of : {u w z : X} (us ws : List X) → IsBefore by u us → u ≡ w → (w ≡ z) ⊎ Among z ws → Among z us → Among z ws
       rest_of {u} {w} {z} us ws before e m n = ⊎_elim (λ d. absurd (let less = before_one by u z us before n in let other : by u u ≡ Less = ap (by u) (e ∙ d) ∙ less in never u u other other)) (λ p. p) m
 
-tuple_total : IsTotalOrder tuple_order
-tuple_total = subst IsTotalOrder (λ i x y. ordering_then (nat_cmp (degrees x) (degrees y)) (order_many x y i)) (then_total (on_total degrees nat_cmp_total) (on_total many order_total))
-
-never_both : (x y : List Plain) → tuple_order x y ≡ Less → tuple_order y x ≡ Less → ⊥
+pub never_both : (x y : List Plain) → tuple_order x y ≡ Less → tuple_order y x ≡ Less → ⊥
 never_both x y h g = apart (sym h ∙ tuple_total.antisymm x y ∙ ap ordering_reverse g)
   where
     apart : Less ≡ Greater → ⊥

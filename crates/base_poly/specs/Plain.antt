@@ -21,6 +21,11 @@ abbrev pub entries : Plain → ℕ
 entries (Then i r) = suc (entries r)
 entries _ = zero
 
+-- the entries of a list index
+abbrev pub entries_of : Plain → List Plain
+entries_of (Then i r) = i ∷ entries_of r
+entries_of _ = []
+
 -- the unit has none, a pair those of its parts, and each entry counts for one beside its own
 abbrev pub deg : Plain → ℕ
 deg Unit' = 0

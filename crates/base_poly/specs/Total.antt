@@ -1,4 +1,4 @@
--- The order of indices is total, and equal indices are one.
+-- The orders of indices and of tuples are total, and equal indices are one.
 use Rattle.std.specs.Prelude.{◌≡◌, ℕ, List, [], ◌∷◌, ◌++◌, refl, IsTrue}
 use Rattle.std.proofs.Common.{sym, ◌∙◌, ap, subst, append_assoc, append-nil}
 use Rattle.std.specs.declared.cmp.Ordering.{Ordering}
@@ -6,8 +6,9 @@ use Rattle.std.specs.declared.cmp.Ordering.TheVariants.{Less, Equal, Greater}
 use Rattle.std.specs.Ordering.{ordering_then, is_eq, nat_cmp}
 use Rattle.std.specs.Cmp.{IsTotalOrder}
 use Rattle.std.specs.Cmp.Lexicographic.{slice_cmp}
-use Rattle.std.proofs.lemmas.Cmp.{on_total, nat_list_cmp_total}
-use Rattle.base_poly.specs.Plain.{Plain, Unit', Pair, End, Then, order, same, writes}
+use Rattle.std.proofs.lemmas.Cmp.{on_total, then_total, nat_cmp_total, nat_list_cmp_total}
+use Rattle.base_poly.specs.Plain.{Plain, Unit', Pair, End, Then, many, degrees, order, same, writes}
+use Rattle.base_poly.specs.Indices.{each_in_turn, tuple_order}
 
 -- an index as a list of numbers, which sorts as the index does
 abbrev spell : Plain → List ℕ
@@ -61,6 +62,15 @@ is_order x y =
 
 pub order_total : IsTotalOrder order
 order_total = subst IsTotalOrder (λ i x y. is_order x y i) (on_total spell nat_list_cmp_total)
+
+pub order_many : (is js : List Plain) → order (many is) (many js) ≡ each_in_turn is js
+order_many [] [] = refl
+order_many [] (j ∷ js) = refl
+order_many (i ∷ is) [] = refl
+order_many (i ∷ is) (j ∷ js) = ap (ordering_then (order i j)) (order_many is js)
+
+pub tuple_total : IsTotalOrder tuple_order
+tuple_total = subst IsTotalOrder (λ n x y. ordering_then (nat_cmp (degrees x) (degrees y)) (order_many x y n)) (then_total (on_total degrees nat_cmp_total) (on_total many order_total))
 
 -- equal answers come from equal parts
 first_equal : (a b : Ordering) → ordering_then a b ≡ Equal → a ≡ Equal

@@ -27,6 +27,7 @@ pub fn multiply(
     requires one_type { (A : Type') × IsIndex (index_of left.now) A × IsIndex (index_of right.now) A }
     requires low { (deg (index_of left.now) ≤ 4) × (deg (index_of right.now) ≤ 4) }
     ensures worth { IfOk result (λ found. (v : Value) → base (index_of left.now) v * base (index_of right.now) v ≡ weighed v (counts_of found.entries)) }
+    ensures tallied { IfOk result (λ found. counts_of found.entries ≡ tallied (product (index_of left.now) (index_of right.now))) }
     ensures terms { IfOk result (λ found. All (IsTerm (index_of left.now) (index_of right.now)) (counts_of found.entries)) }
 {
     let terms = product(alloc, left, right)?;

@@ -1,4 +1,3 @@
 pub mod Lowest
 pub mod Text
 pub mod Read
-pub mod Order

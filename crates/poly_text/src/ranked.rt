@@ -6,7 +6,7 @@ ghost use Rattle.std.proofs.lemmas.Cmp.{on_total, on_equiv, eq_by_cmp_equiv};
 ghost use Rattle.base_poly.specs.Plain.{degrees};
 ghost use Rattle.base_poly.specs.Indices.{each_in_turn, tuple_order};
 ghost use Rattle.base_poly.specs.Read.{plains_of};
-ghost use Rattle.poly_text.specs.Order.{tuple_total};
+ghost use Rattle.base_poly.specs.Total.{tuple_total};
 
 use base_poly::{Index, Tuple};
 use std::cmp::Ordering;

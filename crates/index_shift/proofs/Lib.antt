@@ -1,0 +1,9 @@
+pub mod Brought
+pub mod Carried
+pub mod Kept
+pub mod Computed
+pub mod Readings
+pub mod Placed
+pub mod Cuts
+pub mod Behind
+pub mod Listed

@@ -1,0 +1,6 @@
+pub mod Parts
+pub mod Potential
+pub mod Maps
+pub mod Laws
+pub mod Example
+pub mod Read

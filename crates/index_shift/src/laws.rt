@@ -1,0 +1,33 @@
+// Laws of the maps: each is the contract of a function that does nothing.
+ghost use Rattle.index_shift.specs.Example.{Examples};
+ghost use Rattle.index_shift.specs.Laws.{OpeningKeeps, LeavingKeeps, LeavingKeepsZero, LeavingLowers, SharingKeeps};
+
+/// Where a variable is taken apart, the potential stays.
+pub fn opening_keeps()
+    ensures { OpeningKeeps }
+{}
+
+/// Where an empty variable leaves, the potential stays.
+pub fn leaving_keeps()
+    ensures { LeavingKeeps }
+{}
+
+/// Where any variable leaves, what its zero index was worth stays.
+pub fn leaving_keeps_zero()
+    ensures { LeavingKeepsZero }
+{}
+
+/// Where any variable leaves, the potential does not rise.
+pub fn leaving_lowers()
+    ensures { LeavingLowers }
+{}
+
+/// Where a variable is shared, the potential stays.
+pub fn sharing_keeps()
+    ensures { SharingKeeps }
+{}
+
+/// Small maps are what was worked out by hand.
+pub fn small_examples()
+    ensures { Examples }
+{}

@@ -1,0 +1,19 @@
+//! Maps on the indices of contexts, which move annotations where a variable is taken apart, leaves or
+//! is shared.
+#![tactic(auto)]
+
+mod carry;
+mod context;
+mod entry;
+mod fault;
+pub mod laws;
+mod maps;
+mod parts;
+mod places;
+
+pub use entry::Entry;
+pub use fault::MapFault;
+pub use maps::{drop_var, empty_part, share_map, shift_list, shift_tree, split_pair};
+
+#[cfg(test)]
+mod tests;

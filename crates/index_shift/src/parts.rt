@@ -1,0 +1,155 @@
+// Indices of the parts of a variable that is taken apart.
+ghost use Rattle.std.specs.Prelude.{◌≡◌, [], ◌∷◌, ◌++◌, IfOk, OnOk};
+ghost use Rattle.raml_syntax.specs.Read.{ty_of};
+ghost use Rattle.base_poly.specs.Plain.{many, entries_of};
+ghost use Rattle.base_poly.specs.Indices.{zero_of};
+ghost use Rattle.base_poly.specs.Read.{index_of, plains_of};
+ghost use Rattle.index_shift.specs.Parts.{at_trees, list_parts, tree_parts, pair_parts, index_parts};
+
+use base_poly::{Index, Tuple};
+use raml_syntax::Ty;
+use std::alloc::{AllocError, Global};
+
+/// The tuples of indices of the parts that stand for an index of the type.
+pub fn index_parts(alloc: Global, ty: &Ty, index: &Index) -> Result<Vec<Tuple>, AllocError>
+    ensures { IfOk result (λ found. found.items ≡ index_parts (ty_of ty.now) (index_of index.now)) }
+{
+    match ty {
+        Ty::Int | Ty::Bool => Ok(Vec::new(alloc)),
+        Ty::Pair(..) => pair_parts(alloc, index),
+        Ty::List(element) => list_parts(alloc, &zero_of(alloc, element)?, entries(index)),
+        Ty::Tree(element) => tree_parts(alloc, &zero_of(alloc, element)?, entries(index)),
+    }
+}
+
+// The index of degree 0.
+fn zero_of(alloc: Global, ty: &Ty) -> Result<Index, AllocError>
+    ensures { IfOk result (λ index. index_of index ≡ zero_of (ty_of ty.now)) }
+{
+    match ty {
+        Ty::Int | Ty::Bool => Ok(Index::Unit),
+        Ty::Pair(first, second) => Ok(Index::Pair(
+            Box::new(alloc, zero_of(alloc, first)?)?,
+            Box::new(alloc, zero_of(alloc, second)?)?,
+        )),
+        Ty::List(_) | Ty::Tree(_) => Ok(Index::List(Vec::new(alloc))),
+    }
+}
+
+// The entries of a list index.
+fn entries(index: &Index) -> &[Index]
+    ensures { plains_of result.now ≡ entries_of (index_of index.now) }
+{
+    match index {
+        Index::List(entries) => entries,
+        Index::Unit | Index::Pair(..) => &[],
+    }
+}
+
+// Both parts of a pair.
+fn pair_parts(alloc: Global, index: &Index) -> Result<Vec<Tuple>, AllocError>
+    ensures { IfOk result (λ found. found.items ≡ pair_parts (index_of index.now)) }
+{
+    match index {
+        Index::Pair(first, second) => {
+            let mut parts = Vec::new(alloc);
+            parts.push(first.copy(alloc)?)?;
+            parts.push(second.copy(alloc)?)?;
+            one(alloc, Tuple::new(parts))
+        }
+        Index::Unit | Index::List(_) => Ok(Vec::new(alloc)),
+    }
+}
+
+// The tuple alone.
+fn one(alloc: Global, tuple: Tuple) -> Result<Vec<Tuple>, AllocError>
+    ensures { IfOk result (λ found. found.items ≡ tuple ∷ []) }
+{
+    let mut found = Vec::new(alloc);
+    found.push(tuple)?;
+    Ok(found)
+}
+
+// The first entry at the head, or `none` there and all entries in the tail.
+fn list_parts(alloc: Global, none: &Index, entries: &[Index]) -> Result<Vec<Tuple>, AllocError>
+    ensures { IfOk result (λ found. found.items ≡ list_parts (index_of none.now) (plains_of entries.now)) }
+{
+    match entries {
+        [] => one(alloc, with_tail(alloc, none, entries)?),
+        [first, rest @ ..] => {
+            let mut found = one(alloc, with_tail(alloc, first, rest)?)?;
+            found.push(with_tail(alloc, none, entries)?)?;
+            Ok(found)
+        }
+    }
+}
+
+fn with_tail(alloc: Global, head: &Index, tail: &[Index]) -> Result<Tuple, AllocError>
+    ensures { IfOk result (λ tuple. tuple ≡ index_of head.now ∷ (many (plains_of tail.now) ∷ [])) }
+{
+    let mut parts = Vec::new(alloc);
+    parts.push(head.copy(alloc)?)?;
+    parts.push(list_of(alloc, tail)?)?;
+    Ok(Tuple::new(parts))
+}
+
+// The list index with these entries.
+fn list_of(alloc: Global, entries: &[Index]) -> Result<Index, AllocError>
+    ensures { IfOk result (λ index. index_of index ≡ many (plains_of entries.now)) }
+{
+    let mut copies = Vec::new(alloc);
+    append(alloc, &mut copies, entries)?;
+    Ok(Index::List(copies))
+}
+
+/// Appends copies of the indices.
+pub fn append(alloc: Global, whole: &mut Vec<Index>, indices: &[Index]) -> Result<(), AllocError>
+    ensures { OnOk result (plains_of whole.new.items ≡ plains_of whole.old.items ++ plains_of indices.now) }
+{
+    for index in indices {
+        whole.push(index.copy(alloc)?)?;
+    }
+    Ok(())
+}
+
+// The first entry at the element, or `none` there, and all others in the trees.
+fn tree_parts(alloc: Global, none: &Index, entries: &[Index]) -> Result<Vec<Tuple>, AllocError>
+    ensures { IfOk result (λ found. found.items ≡ tree_parts (index_of none.now) (plains_of entries.now)) }
+{
+    let mut found = Vec::new(alloc);
+    if let [first, rest @ ..] = entries {
+        append_trees(alloc, &mut found, first, rest)?;
+    }
+    append_trees(alloc, &mut found, none, entries)?;
+    Ok(found)
+}
+
+// Appends the tuples with this index at the element, for every cut of the entries in two.
+fn append_trees(
+    alloc: Global,
+    found: &mut Vec<Tuple>,
+    element: &Index,
+    entries: &[Index],
+) -> Result<(), AllocError>
+    ensures { OnOk result (found.new.items ≡ found.old.items ++ at_trees (index_of element.now) (plains_of entries.now)) }
+{
+    for cut in 0..entries.len() + 1 {
+        found.push(with_trees(alloc, element, &entries[..cut], &entries[cut..])?)?;
+    }
+    Ok(())
+}
+
+fn with_trees(
+    alloc: Global,
+    element: &Index,
+    left: &[Index],
+    right: &[Index],
+) -> Result<Tuple, AllocError>
+    ensures { IfOk result (λ tuple. tuple ≡ index_of element.now ∷ (many (plains_of left.now) ∷ (many (plains_of right.now) ∷ []))) }
+{
+    let mut parts = Vec::new(alloc);
+    parts.push(element.copy(alloc)?)?;
+    parts.push(list_of(alloc, left)?)?;
+    parts.push(list_of(alloc, right)?)?;
+    Ok(Tuple::new(parts))
+}
