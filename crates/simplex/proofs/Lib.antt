@@ -4,3 +4,4 @@ mod Sweeping
 mod Tying
 mod Narrowing
 mod Steps
+mod Opens

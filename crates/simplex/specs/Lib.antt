@@ -1,4 +1,5 @@
 pub mod Choosing
 pub mod Standing
 pub mod Ties
+pub mod Opening
 pub mod Laws

@@ -9,6 +9,7 @@ ghost use Rattle.simplex.specs.Laws.{StepsAreLawful, PivotFaultsAreRefused, Sear
 
 mod chooser;
 mod leaving;
+mod opening;
 mod pivot;
 
 pub use chooser::Chooser;
