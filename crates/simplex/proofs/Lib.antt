@@ -5,3 +5,4 @@ mod Tying
 mod Narrowing
 mod Steps
 mod Opens
+mod Listing

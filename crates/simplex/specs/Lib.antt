@@ -2,4 +2,5 @@ pub mod Choosing
 pub mod Standing
 pub mod Ties
 pub mod Opening
+pub mod Reading
 pub mod Laws

@@ -11,6 +11,7 @@ mod chooser;
 mod leaving;
 mod opening;
 mod pivot;
+mod reading;
 
 pub use chooser::Chooser;
 
