@@ -6,3 +6,4 @@ mod Narrowing
 mod Steps
 mod Opens
 mod Listing
+mod Solves

@@ -3,4 +3,5 @@ pub mod Standing
 pub mod Ties
 pub mod Opening
 pub mod Reading
+pub mod Solving
 pub mod Laws

@@ -7,12 +7,14 @@
 
 ghost use Rattle.simplex.specs.Laws.{StepsAreLawful, PivotFaultsAreRefused, SearchFaultsAreRefused};
 
+mod answer;
 mod chooser;
 mod leaving;
 mod opening;
 mod pivot;
 mod reading;
 
+pub use answer::Answer;
 pub use chooser::Chooser;
 
 /// A pivot that is made is one of a lawful course.

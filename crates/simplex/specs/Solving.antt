@@ -1,0 +1,56 @@
+-- The tableau that the code keeps, and what solving answers.
+use Rattle.std.specs.Prelude.{◌≡◌, ℕ, List, length, ℤ, pos, ◌<ℤ◌, Option}
+use Rattle.std.specs.Fn.{Shared, FnReturnsAt}
+use Rattle.std.specs.Borrow.{Bor}
+use Rattle.frac128.specs.declared.Frac.{Frac}
+use Rattle.frac_rows.specs.Entries.{Entries}
+use Rattle.linear_rows.specs.Systems.{LinearSystem, Refutes}
+use Rattle.tableau.specs.Tableaux.{Tableau, solution, dual, ray}
+use Rattle.tableau.specs.Courses.{Rule, Course, Ends, Rises, Follows, Answers, Refuses}
+use Rattle.tableau.specs.Laws.{ProvesLeast}
+use Rattle.simplex.specs.declared.chooser.Chooser.{Chooser}
+use Rattle.simplex.specs.declared.answer.Answer.{Answer}
+use Rattle.simplex.specs.declared.answer.Answer.TheVariants.{Best, NoSolution, Leaves}
+use Rattle.simplex.specs.Standing.{TableStands}
+use Rattle.simplex.specs.Reading.{AreOver}
+
+-- the answers to fractions, as a rule for whole numbers over d
+abbrev pub rule_over : (List Frac → Option ℕ → Type 0) → Rule
+rule_over answers ns d o = (fs : List Frac) × AreOver d ns fs × answers fs o
+
+-- the rule that the chooser keeps
+abbrev pub rule_of : {F : Type 0} → Shared F (Bor (List Frac) × Unit {0}) (Option ℕ) → Chooser F → Rule
+rule_of g chooser = rule_over (FnReturnsAt g chooser.rule)
+
+-- these pivots lead to t, and the rows, the gains and the basis are those of t
+pub record IsAfter (s : LinearSystem) (pivots : List (ℕ × ℕ)) (basis : List ℕ) (rows : List Entries) (gains : Entries) (t : Tableau) : Type 0 where
+  pub course : Course s pivots t
+  pub stand : TableStands t rows gains
+  pub basis_is : t.basis ≡ basis
+  pub height : length rows ≡ s.unknowns
+
+-- after these pivots no gain is left, and x and the dual solution are read there
+pub record IsBest (rule : Rule) (s : LinearSystem) (pivots : List (ℕ × ℕ)) (x y : List Frac) : Type 0 where
+  pub t : Tableau
+  pub ends : Ends s pivots t
+  pub follows : Follows rule s pivots
+  pub x_is : AreOver t.over (solution s t) x
+  pub y_is : AreOver t.over (dual s t) y
+  pub proves : ProvesLeast s (solution s t) (dual s t) t.over
+
+-- after these pivots no row bounds the rule's column, and the vector that refutes is read there
+pub record IsRefuted (rule : Rule) (s : LinearSystem) (pivots : List (ℕ × ℕ)) (y : List Frac) : Type 0 where
+  pub t : Tableau
+  pub column : ℕ
+  pub rises : Rises s pivots t column
+  pub follows : Follows rule s pivots
+  pub answers : Answers rule s t column
+  pub positive : pos 0 <ℤ t.over
+  pub y_is : AreOver t.over (ray s column t) y
+  pub refutes : Refutes s (ray s column t)
+
+-- each answer has its cause
+abbrev pub IsAnswer : Rule → LinearSystem → Answer → Type 0
+IsAnswer rule s (Best x dual pivots) = IsBest rule s pivots.items x.items dual.items
+IsAnswer rule s (NoSolution farkas pivots) = IsRefuted rule s pivots.items farkas.items
+IsAnswer rule s (Leaves pivots row column) = Refuses rule s pivots.items row column
