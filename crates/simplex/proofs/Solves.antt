@@ -1,6 +1,7 @@
 -- The loop of the solver, step by step.
-use Rattle.std.proofs.Common.{◌≡◌, ◌≢◌, refl, sym, ap, subst, ◌∙◌, ℕ, zero, suc, ◌+◌, ◌*◌, ◌^◌, ◌<◌, ◌≤◌, ℤ, pos, neg_ℤ, unsigned_abs, ◌*ℤ◌, ◌≤ℤ◌, ◌<ℤ◌, arith, List, [], ◌∷◌, ◌++◌, length, take, set, get_or, Option, Some, None, ◌⊎◌, inl, inr}
+use Rattle.std.proofs.Common.{◌≡◌, ◌≢◌, refl, sym, ap, subst, ◌∙◌, ℕ, zero, suc, ◌+◌, ◌*◌, ◌^◌, ◌<◌, ◌≤◌, ℤ, pos, neg_ℤ, unsigned_abs, ◌*ℤ◌, ◌≤ℤ◌, ◌<ℤ◌, arith, List, [], ◌∷◌, ◌++◌, length, take, set, get_or, Option, Some, None, Result, Ok, Err, IfOk, drop, ◌⊎◌, inl, inr}
 use Rattle.std.proofs.lemmas.Int.{ints, unsigned_abs-mul}
+use Rattle.std.specs.declared.alloc.AllocError.{AllocError}
 use Rattle.frac128.specs.declared.Frac.{Frac}
 use Rattle.frac128.specs.Values.{numerator, denominator}
 use Rattle.frac_rows.specs.Entries.{Entries, at, nought}
@@ -9,17 +10,22 @@ use Rattle.tableau.specs.Places.{row_at}
 use Rattle.tableau.specs.Places as places
 use Rattle.tableau.specs.Tableaux.{Tableau, right, opening, pivot, entry, compared}
 use Rattle.tableau.specs.Refusals.{least_number, Refused, InSearch, InLeavingRow, InProduct, InDifference}
-use Rattle.tableau.specs.Courses.{Rule, Enters, IsPivot, Leads, Course, Ends, Rises, Follows, FollowsFrom, Answers}
+use Rattle.tableau.specs.Courses.{Rule, Enters, IsPivot, Leads, Course, Ends, Rises, Follows, FollowsFrom, Answers, Refuses, AtPivot}
 use Rattle.tableau.proofs.Opening.{width, length-opened}
 use Rattle.tableau.proofs.Ending.{Good, good_course}
 use Rattle.tableau.proofs.Agreeing.{course_ends}
-use Rattle.simplex.specs.Standing.{Stands, RowStands, RowsStand, TableStands, IsPivoted, entries_at}
-use Rattle.simplex.specs.Ties.{IsBounding, IsLeaving}
+use Rattle.simplex.specs.Standing.{Stands, RowStands, RowsStand, TableStands, IsPivoted, PivotLeaves, entries_at}
+use Rattle.simplex.specs.Ties.{IsBounding, IsLeaving, SearchLeaves}
 use Rattle.simplex.specs.Choosing.{Chooses}
 use Rattle.simplex.specs.Reading.{AreOver, HaveParts, frac_at}
-use Rattle.simplex.specs.Solving.{rule_over, IsAfter}
+use Rattle.simplex.specs.declared.pivot.Fault.{Fault}
+use Rattle.simplex.specs.declared.solve.Table.{Table}
+use Rattle.simplex.specs.declared.solve.Step.{Step}
+use Rattle.simplex.specs.declared.solve.Step.TheVariants as step
+use Rattle.simplex.specs.Solving.{rule_over, IsAfter, Reached, ReachedEnd, ReachedRise, IsStep}
+use lib.ListN.{length-append}
 use Rattle.simplex.proofs.Narrowing.{same_sign, sign_back}
-use Rattle.simplex.proofs.Steps.{entry_in, entry_last, steps}
+use Rattle.simplex.proofs.Steps.{entry_in, entry_last, steps, pivot_faults, search_faults}
 
 -- a course's last pivot is by the rule
 follows_on : (rule : Rule) (s : LinearSystem) (t : Tableau) (ps : List (ℕ × ℕ)) (u : Tableau) (l c : ℕ) → Leads s t ps u → FollowsFrom rule s t ps → Answers rule s u c → FollowsFrom rule s t (ps ++ (l, c) ∷ [])
@@ -67,6 +73,12 @@ opening_course s rows gains r g = record {
 pub opening_after : (s : LinearSystem) (rows : List Entries) (gains : Entries) → RowsStand (opening s) rows → RowStands (pos 1) (opening s).gains gains → IsAfter s [] (opening s).basis rows gains (opening s)
 opening_after s rows gains r g = record { course = opening_course s rows gains r g; stand = record { rows_stand = r; gains_stand = g }; basis_is = refl; height = r.count ∙ length-opened s }
 
+pub refused_inside : (s : LinearSystem) (t : Tableau) (e i c : ℕ) → Refused s t e i c → i ≤ length t.rows
+refused_inside s t e i c (InSearch w n) = let h = w.tied.inside in omega arith
+refused_inside s t e i c (InLeavingRow w n) = let h = w.inside in omega arith
+refused_inside s t e i c (InProduct l w n h k) = h
+refused_inside s t e i c (InDifference l w n h d) = h
+
 -- the gains before the right side, as the rule sees them
 at-take : (xs : List ℤ) (n i : ℕ) → i < n → places.at (take n xs) i ≡ places.at xs i
 at-take xs zero i h = absurd (omega arith)
@@ -79,7 +91,7 @@ length-take xs zero h = refl
 length-take [] (suc n) h = absurd (omega arith)
 length-take (x ∷ xs) (suc n) h = ap suc (length-take xs n (omega arith))
 
-stands_with : (d n : ℤ) (x y : Frac) → numerator y ≡ numerator x → denominator y ≡ denominator x → Stands d n x → Stands d n y
+pub stands_with : (d n : ℤ) (x y : Frac) → numerator y ≡ numerator x → denominator y ≡ denominator x → Stands d n x → Stands d n y
 stands_with d n x y e f s = record { is = rw (e, f) s.is }
 
 module _ (s : LinearSystem) (system : IsSystem s) (pivots : List (ℕ × ℕ)) (basis : List ℕ) (rows : List Entries) (gains : Entries) (t : Tableau) (after : IsAfter s pivots basis rows gains t) where
@@ -142,11 +154,80 @@ module _ (s : LinearSystem) (system : IsSystem s) (pivots : List (ℕ × ℕ)) (
   pub follows_pivot : (rule : Rule) (l c : ℕ) → Follows rule s pivots → Answers rule s t c → Follows rule s (pivots ++ (l, c) ∷ [])
   follows_pivot rule l c f a = follows_on rule s (opening s) pivots t l c after.course.leads f a
 
+  inside_height : (e i c : ℕ) → Refused s t e i c → i ≤ s.unknowns
+  inside_height e i c r = let q = refused_inside s t e i c r in let n = after.stand.rows_stand.count in let m = after.height in omega arith
+
+  pub search_refused : (c i k : ℕ) → SearchLeaves (compared s) c rows i k → Refused s t c i k × (i ≤ s.unknowns)
+  search_refused c i k w = let r = search_faults s pivots t c rows gains i k system after.course after.stand w in (r, inside_height c i k r)
+
+  pub pivot_refused_at : (c l i k : ℕ) → IsLeaving (compared s) c rows l → PivotLeaves l c rows gains i k → Refused s t c i k × (i ≤ s.unknowns)
+  pivot_refused_at c l i k leaving w = let r = pivot_faults s pivots t c rows gains l i k system after.course after.stand leaving w in (r, inside_height c i k r)
+
   pub fewer : length pivots < 2 ^ right s
   fewer = course_ends s pivots t system after.course
 
-pub refused_inside : (s : LinearSystem) (t : Tableau) (e i c : ℕ) → Refused s t e i c → i ≤ length t.rows
-refused_inside s t e i c (InSearch w n) = let h = w.tied.inside in omega arith
-refused_inside s t e i c (InLeavingRow w n) = let h = w.inside in omega arith
-refused_inside s t e i c (InProduct l w n h k) = h
-refused_inside s t e i c (InDifference l w n h d) = h
+
+-- what comes of a step
+module _ (answers : List Frac → Option ℕ → Type 0) (chooses : Chooses answers) (s : LinearSystem) (system : IsSystem s) (table : Table) (r : Reached (rule_over answers) s table)
+    (fs : List Frac) (h : HaveParts (right s) (λ i. numerator (at (0 + i) table.gains)) (λ i. denominator (at (0 + i) table.gains)) fs) where
+  pub reaches_end : answers fs None → ReachedEnd (rule_over answers) s table
+  reaches_end a = record { reached = r; ends = ends_so s system table.pivots.items table.basis.items table.rows.items table.gains r.t r.after answers chooses fs h a }
+
+  module _ (c : ℕ) (a : answers fs (Some c)) where
+    enters : Enters s r.t c
+    enters = enters_so s system table.pivots.items table.basis.items table.rows.items table.gains r.t r.after answers chooses fs h c a
+
+    by_rule : Answers (rule_over answers) s r.t c
+    by_rule = answers_so s system table.pivots.items table.basis.items table.rows.items table.gains r.t r.after answers chooses fs h c a
+
+    pub reaches_rise : ((i : ℕ) → IsBounding c table.rows.items i → ⊥) → ReachedRise (rule_over answers) s table c
+    reaches_rise none = record { reached = r; rises = rises_so s system table.pivots.items table.basis.items table.rows.items table.gains r.t r.after c enters none; answers = by_rule }
+
+    pub search_refuses : (i k : ℕ) → SearchLeaves (compared s) c table.rows.items i k → Refuses (rule_over answers) s table.pivots.items i k × (i ≤ s.unknowns)
+    search_refuses i k w =
+        let q = search_refused s system table.pivots.items table.basis.items table.rows.items table.gains r.t r.after c i k w in
+        (AtPivot r.t c r.after.course r.follows enters by_rule q.0, q.1)
+
+    pub pivot_refuses : (l i k : ℕ) → IsLeaving (compared s) c table.rows.items l → PivotLeaves l c table.rows.items table.gains i k → Refuses (rule_over answers) s table.pivots.items i k × (i ≤ s.unknowns)
+    pivot_refuses l i k leaving w =
+        let q = pivot_refused_at s system table.pivots.items table.basis.items table.rows.items table.gains r.t r.after c l i k leaving w in
+        (AtPivot r.t c r.after.course r.follows enters by_rule q.0, q.1)
+
+    pub pivot_reaches : (l : ℕ) (new : Table) → IsLeaving (compared s) c table.rows.items l → IsPivoted l c table.rows.items table.gains new.rows.items new.gains
+        → new.basis.items ≡ set table.basis.items l c → new.pivots.items ≡ table.pivots.items ++ (l, c) ∷ [] → Reached (rule_over answers) s new
+    pivot_reaches l new leaving made e f = record {
+      t = pivot l c r.t;
+      after = rw (e, f) (after_pivot s system table.pivots.items table.basis.items table.rows.items table.gains r.t r.after l c new.rows.items new.gains enters leaving made);
+      follows = subst (Follows (rule_over answers) s) (sym f) (follows_pivot s system table.pivots.items table.basis.items table.rows.items table.gains r.t r.after (rule_over answers) l c r.follows by_rule);
+    }
+
+pub one_longer : (ps : List (ℕ × ℕ)) (p : ℕ × ℕ) → length (ps ++ p ∷ []) ≡ length ps + 1
+one_longer ps p = length-append ps (p ∷ [])
+
+-- a basis column for each row
+pub basis_long : (rule : Rule) (s : LinearSystem) (table : Table) → IsSystem s → Reached rule s table → length table.basis.items ≡ length table.rows.items
+basis_long rule s table system r =
+    let g = good_course s table.pivots.items r.t system r.after.course in
+    ap length (sym r.after.basis_is) ∙ sym g.sound.one_each ∙ sym r.after.stand.rows_stand.count
+
+-- a step that was stopped
+pub stops : (rule : Rule) (s : LinearSystem) (old new : Table) (fault : Fault) (r : Result Step AllocError) → ((i k : ℕ) → fault ≡ Fault.Leaves i k → Refuses rule s new.pivots.items i k)
+    → IfOk r (λ x. (i : ℕ) × (c : ℕ) × (fault ≡ Fault.Leaves i c) × (x ≡ step.Leaves i c)) → IfOk r (IsStep rule s old new)
+stops rule s old new fault (Ok x) f p = subst (IsStep rule s old new) (sym p.3) (f p.0 p.1 p.2)
+stops rule s old new fault (Err e) f p = tt
+
+take_all : (xs : List Entries) (n : ℕ) → n ≡ length xs → take n (xs ++ []) ≡ xs
+take_all [] zero e = refl
+take_all [] (suc n) e = absurd (omega arith)
+take_all (x ∷ xs) zero e = absurd (omega arith)
+take_all (x ∷ xs) (suc n) e = ap (λ (ys : List Entries). x ∷ ys) (take_all xs n (omega arith))
+
+drop_all : (xs : List Entries) (n : ℕ) → length xs ≤ n → drop n xs ≡ []
+drop_all [] zero h = refl
+drop_all [] (suc n) h = refl
+drop_all (x ∷ xs) zero h = absurd (omega arith)
+drop_all (x ∷ xs) (suc n) h = drop_all xs n (omega arith)
+
+-- rows that are written back
+pub written_back : (n : ℕ) (old new : List Entries) → n ≡ length old → length new ≡ length old → take n (new ++ drop (length new) old) ≡ new
+written_back n old new e f = ap (λ (ys : List Entries). take n (new ++ ys)) (drop_all old (length new) (omega arith)) ∙ take_all new n (e ∙ sym f)

@@ -1,5 +1,5 @@
 -- The tableau that the code keeps, and what solving answers.
-use Rattle.std.specs.Prelude.{◌≡◌, ℕ, List, length, ℤ, pos, ◌<ℤ◌, Option}
+use Rattle.std.specs.Prelude.{◌≡◌, ℕ, ◌+◌, List, length, ℤ, pos, ◌<ℤ◌, Option}
 use Rattle.std.specs.Fn.{Shared, FnReturnsAt}
 use Rattle.std.specs.Borrow.{Bor}
 use Rattle.frac128.specs.declared.Frac.{Frac}
@@ -11,6 +11,9 @@ use Rattle.tableau.specs.Laws.{ProvesLeast}
 use Rattle.simplex.specs.declared.chooser.Chooser.{Chooser}
 use Rattle.simplex.specs.declared.answer.Answer.{Answer}
 use Rattle.simplex.specs.declared.answer.Answer.TheVariants.{Best, NoSolution, Leaves}
+use Rattle.simplex.specs.declared.solve.Table.{Table}
+use Rattle.simplex.specs.declared.solve.Step.{Step}
+use Rattle.simplex.specs.declared.solve.Step.TheVariants as step
 use Rattle.simplex.specs.Standing.{TableStands}
 use Rattle.simplex.specs.Reading.{AreOver}
 
@@ -54,3 +57,27 @@ abbrev pub IsAnswer : Rule → LinearSystem → Answer → Type 0
 IsAnswer rule s (Best x dual pivots) = IsBest rule s pivots.items x.items dual.items
 IsAnswer rule s (NoSolution farkas pivots) = IsRefuted rule s pivots.items farkas.items
 IsAnswer rule s (Leaves pivots row column) = Refuses rule s pivots.items row column
+
+-- the table is that of a course by the rule
+pub record Reached (rule : Rule) (s : LinearSystem) (table : Table) : Type 0 where
+  pub t : Tableau
+  pub after : IsAfter s table.pivots.items table.basis.items table.rows.items table.gains t
+  pub follows : Follows rule s table.pivots.items
+
+-- the course ends there
+pub record ReachedEnd (rule : Rule) (s : LinearSystem) (table : Table) : Type 0 where
+  pub reached : Reached rule s table
+  pub ends : Ends s table.pivots.items reached.t
+
+-- no row bounds the rule's column there
+pub record ReachedRise (rule : Rule) (s : LinearSystem) (table : Table) (c : ℕ) : Type 0 where
+  pub reached : Reached rule s table
+  pub rises : Rises s table.pivots.items reached.t c
+  pub answers : Answers rule s reached.t c
+
+-- each step has its cause
+abbrev pub IsStep : Rule → LinearSystem → Table → Table → Step → Type 0
+IsStep rule s old new step.Pivot = Reached rule s new × (length new.pivots.items ≡ length old.pivots.items + 1)
+IsStep rule s old new step.Best = ReachedEnd rule s new
+IsStep rule s old new (step.Rises c) = ReachedRise rule s new c
+IsStep rule s old new (step.Leaves i c) = Refuses rule s new.pivots.items i c

@@ -13,6 +13,7 @@ mod leaving;
 mod opening;
 mod pivot;
 mod reading;
+mod solve;
 
 pub use answer::Answer;
 pub use chooser::Chooser;
