@@ -7,3 +7,4 @@ mod Steps
 mod Opens
 mod Listing
 mod Solves
+mod Tables

@@ -19,9 +19,9 @@ use Rattle.simplex.specs.Ties.{IsBounding, IsLeaving, SearchLeaves}
 use Rattle.simplex.specs.Choosing.{Chooses}
 use Rattle.simplex.specs.Reading.{AreOver, HaveParts, frac_at}
 use Rattle.simplex.specs.declared.pivot.Fault.{Fault}
-use Rattle.simplex.specs.declared.solve.Table.{Table}
-use Rattle.simplex.specs.declared.solve.Step.{Step}
-use Rattle.simplex.specs.declared.solve.Step.TheVariants as step
+use Rattle.simplex.specs.declared.solver.Table.{Table}
+use Rattle.simplex.specs.declared.solver.Step.{Step}
+use Rattle.simplex.specs.declared.solver.Step.TheVariants as step
 use Rattle.simplex.specs.Solving.{rule_over, IsAfter, Reached, ReachedEnd, ReachedRise, IsStep}
 use lib.ListN.{length-append}
 use Rattle.simplex.proofs.Narrowing.{same_sign, sign_back}
@@ -138,9 +138,9 @@ module _ (s : LinearSystem) (system : IsSystem s) (pivots : List (ℕ × ℕ)) (
     course = after.course;
     enters = e;
     none = λ i q. not_positive (places.at (row_at t.rows i) c) (λ p. none i (record {
-        inside = (let n = after.stand.rows_stand.count in omega arith);
-        positive = sign_back (at c (entries_at rows i)).num t.over (places.at (row_at t.rows i) c) (at c (entries_at rows i)).den good.sound.positive ((after.stand.rows_stand.each i q).each c).is (at c (entries_at rows i)).lowest.positive p;
-      }));
+      inside = (let n = after.stand.rows_stand.count in omega arith);
+      positive = sign_back (at c (entries_at rows i)).num t.over (places.at (row_at t.rows i) c) (at c (entries_at rows i)).den good.sound.positive ((after.stand.rows_stand.each i q).each c).is (at c (entries_at rows i)).lowest.positive p;
+    }));
   }
     where
       not_positive : (z : ℤ) → (pos 0 <ℤ z → ⊥) → z ≤ℤ pos 0
@@ -165,7 +165,6 @@ module _ (s : LinearSystem) (system : IsSystem s) (pivots : List (ℕ × ℕ)) (
 
   pub fewer : length pivots < 2 ^ right s
   fewer = course_ends s pivots t system after.course
-
 
 -- what comes of a step
 module _ (answers : List Frac → Option ℕ → Type 0) (chooses : Chooses answers) (s : LinearSystem) (system : IsSystem s) (table : Table) (r : Reached (rule_over answers) s table)
@@ -231,3 +230,7 @@ drop_all (x ∷ xs) (suc n) h = drop_all xs n (omega arith)
 -- rows that are written back
 pub written_back : (n : ℕ) (old new : List Entries) → n ≡ length old → length new ≡ length old → take n (new ++ drop (length new) old) ≡ new
 written_back n old new e f = ap (λ (ys : List Entries). take n (new ++ ys)) (drop_all old (length new) (omega arith)) ∙ take_all new n (e ∙ sym f)
+
+pub if_ok : {A E : Type 0} (r : Result A E) (P Q : A → Type 0) → ((x : A) → P x → Q x) → IfOk r P → IfOk r Q
+if_ok (Ok x) P Q f p = f x p
+if_ok (Err e) P Q f p = tt

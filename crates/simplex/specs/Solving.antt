@@ -1,20 +1,20 @@
 -- The tableau that the code keeps, and what solving answers.
-use Rattle.std.specs.Prelude.{◌≡◌, ℕ, ◌+◌, List, length, ℤ, pos, ◌<ℤ◌, Option}
+use Rattle.std.specs.Prelude.{◌≡◌, ℕ, ◌+◌, List, [], length, ℤ, pos, ◌<ℤ◌, Option}
 use Rattle.std.specs.Fn.{Shared, FnReturnsAt}
 use Rattle.std.specs.Borrow.{Bor}
 use Rattle.frac128.specs.declared.Frac.{Frac}
 use Rattle.frac_rows.specs.Entries.{Entries}
 use Rattle.linear_rows.specs.Systems.{LinearSystem, Refutes}
-use Rattle.tableau.specs.Tableaux.{Tableau, solution, dual, ray}
+use Rattle.tableau.specs.Tableaux.{Tableau, opening, slacks, solution, dual, ray}
 use Rattle.tableau.specs.Courses.{Rule, Course, Ends, Rises, Follows, Answers, Refuses}
 use Rattle.tableau.specs.Laws.{ProvesLeast}
 use Rattle.simplex.specs.declared.chooser.Chooser.{Chooser}
 use Rattle.simplex.specs.declared.answer.Answer.{Answer}
 use Rattle.simplex.specs.declared.answer.Answer.TheVariants.{Best, NoSolution, Leaves}
-use Rattle.simplex.specs.declared.solve.Table.{Table}
-use Rattle.simplex.specs.declared.solve.Step.{Step}
-use Rattle.simplex.specs.declared.solve.Step.TheVariants as step
-use Rattle.simplex.specs.Standing.{TableStands}
+use Rattle.simplex.specs.declared.solver.Table.{Table}
+use Rattle.simplex.specs.declared.solver.Step.{Step}
+use Rattle.simplex.specs.declared.solver.Step.TheVariants as step
+use Rattle.simplex.specs.Standing.{TableStands, RowsStand, RowStands}
 use Rattle.simplex.specs.Reading.{AreOver}
 
 -- the answers to fractions, as a rule for whole numbers over d
@@ -57,6 +57,16 @@ abbrev pub IsAnswer : Rule → LinearSystem → Answer → Type 0
 IsAnswer rule s (Best x dual pivots) = IsBest rule s pivots.items x.items dual.items
 IsAnswer rule s (NoSolution farkas pivots) = IsRefuted rule s pivots.items farkas.items
 IsAnswer rule s (Leaves pivots row column) = Refuses rule s pivots.items row column
+
+abbrev pub IsAt : LinearSystem → Table → Tableau → Type 0
+IsAt s table t = IsAfter s table.pivots.items table.basis.items table.rows.items table.gains t
+
+-- the table is the opening one
+pub record IsOpening (s : LinearSystem) (table : Table) : Type 0 where
+  pub rows : RowsStand (opening s) table.rows.items
+  pub gains : RowStands (pos 1) (opening s).gains table.gains
+  pub basis : table.basis.items ≡ slacks s
+  pub none : table.pivots.items ≡ []
 
 -- the table is that of a course by the rule
 pub record Reached (rule : Rule) (s : LinearSystem) (table : Table) : Type 0 where

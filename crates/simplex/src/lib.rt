@@ -13,10 +13,11 @@ mod leaving;
 mod opening;
 mod pivot;
 mod reading;
-mod solve;
+mod solver;
 
 pub use answer::Answer;
 pub use chooser::Chooser;
+pub use solver::solve;
 
 /// A pivot that is made is one of a lawful course.
 pub fn steps_are_lawful()

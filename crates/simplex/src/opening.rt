@@ -1,6 +1,6 @@
 //! The opening tableau of a system.
 
-ghost use Rattle.std.specs.Prelude.{◌≡◌, ◌<◌, ◌+◌, ◌^◌, ℕ, length, map, pos, neg_ℤ, OnOk, IfOk};
+ghost use Rattle.std.specs.Prelude.{◌≡◌, ◌<◌, ◌≤◌, ◌+◌, ◌^◌, ℕ, length, map, pos, neg_ℤ, OnOk, IfOk};
 ghost use Rattle.frac_rows.specs.Entries.{EndsBefore};
 ghost use Rattle.linear_rows.specs.Terms.{coefficient};
 ghost use Rattle.tableau.specs.Tableaux.{opening_row, opening, entry};
@@ -73,6 +73,7 @@ pub(crate) fn opening_rows(alloc: Global, system: &System) -> Result<Vec<FracRow
     requires { length system.now.rows + system.now.unknowns < 2 ^ 32 }
     ensures rows { IfOk result (λ rows. RowsStand (opening system.now) rows.items) }
     ensures leaves { (i c : ℕ) → result ≡ Err (Fault.Leaves i c) → entry (opening system.now) i c ≡ least_number }
+    ensures inside { (i c : ℕ) → result ≡ Err (Fault.Leaves i c) → i ≤ system.now.unknowns }
 {
     let mut rows = Vec::new(alloc);
     for unknown in 0..system.unknowns() {
@@ -104,6 +105,7 @@ pub(crate) fn opening_gains(alloc: Global, system: &System) -> Result<FracRow, F
     requires { length system.now.rows + system.now.unknowns < 2 ^ 32 }
     ensures row { IfOk result (RowStands (pos 1) (opening system.now).gains) }
     ensures leaves { (i c : ℕ) → result ≡ Err (Fault.Leaves i c) → entry (opening system.now) i c ≡ least_number }
+    ensures inside { (i c : ℕ) → result ≡ Err (Fault.Leaves i c) → i ≤ system.now.unknowns }
 {
     match right_sides(alloc, system.rows()) {
         Ok(row) => Ok(row),

@@ -5,7 +5,7 @@ use Rattle.simplex.specs.declared.pivot.Fault.{Fault}
 use Rattle.simplex.specs.Solving.{rule_of}
 use Rattle.simplex.proofs.Steps.{columns_compared}
 use Rattle.simplex.proofs.Solves.{reaches_end, reaches_rise, search_refuses, pivot_refuses, pivot_reaches, one_longer, basis_long, stops, written_back}
-use Rattle.simplex.proofs.solve.make_step.Goals as goal
+use Rattle.simplex.proofs.solver.make_step.Goals as goal
 
 pub returns-in-Ok-None : goal.returns-in-Ok-None
 returns-in-Ok-None g c =
@@ -29,10 +29,10 @@ stopped-requires g c i k e =
 
 pub returns-in-Err-leaving : goal.returns-in-Err-leaving
 returns-in-Err-leaving g c = stops (rule_of g.F.Fn c.args.chooser.now) c.args.system.now c.args.table.now c.args.table.now c.in-Err-leaving.fault c.stopped.result (λ i k e.
-      let o = rw (c.rows.ensures.all, c.unknowns.ensures) at c.in-Ok-Some.ensures in
-      let w = rw (c.rows.ensures.all, c.unknowns.ensures, c.deref.ensures.value, columns_compared c.args.system.now) at c.in-Err-leaving.ensures.leaves i k (ap Err e) in
-      let q = search_refuses (FnReturnsAt g.F.Fn c.args.chooser.now.rule) c.requires.chooses c.args.system.now c.rows.ensures.sound c.args.table.now c.requires.reached o.0 o.1 c.in-Ok-Some.column (rw c.in-Ok-Some.field-0-is at o.2) i k w in
-      q.0) c.stopped.ensures
+    let o = rw (c.rows.ensures.all, c.unknowns.ensures) at c.in-Ok-Some.ensures in
+    let w = rw (c.rows.ensures.all, c.unknowns.ensures, c.deref.ensures.value, columns_compared c.args.system.now) at c.in-Err-leaving.ensures.leaves i k (ap Err e) in
+    let q = search_refuses (FnReturnsAt g.F.Fn c.args.chooser.now.rule) c.requires.chooses c.args.system.now c.rows.ensures.sound c.args.table.now c.requires.reached o.0 o.1 c.in-Ok-Some.column (rw c.in-Ok-Some.field-0-is at o.2) i k w in
+    q.0) c.stopped.ensures
 
 pub pivot-requires-clause-inside : goal.pivot-requires-clause-inside
 pivot-requires-clause-inside g c =
@@ -52,11 +52,11 @@ stopped-requires-in-Err-pivot g c i k e =
 pub returns-in-Err-pivot : goal.returns-in-Err-pivot
 returns-in-Err-pivot g c = stops (rule_of g.F.Fn c.args.chooser.now) c.args.system.now c.args.table.now (record { rows = with_items c.args.table.now.rows c.pivot.new.rows; gains = c.pivot.new.gains; basis = c.args.table.now.basis; pivots = c.args.table.now.pivots })
     c.in-Err-pivot.fault c.stopped-in-Err-pivot.result (λ i k e.
-      let o = rw (c.rows.ensures.all, c.unknowns.ensures) at c.in-Ok-Some.ensures in
-      let l = rw (c.rows.ensures.all, c.unknowns.ensures, c.deref.ensures.value, columns_compared c.args.system.now) at c.in-Ok-Some-leaving.ensures.row c.in-Ok-Some-leaving.row (ap Ok c.in-Ok-Some-leaving.field-0-is) in
-      let w = rw c.deref_mut.ensures.value at c.in-Err-pivot.ensures.leaves i k (ap Err e) in
-      let q = pivot_refuses (FnReturnsAt g.F.Fn c.args.chooser.now.rule) c.requires.chooses c.args.system.now c.rows.ensures.sound c.args.table.now c.requires.reached o.0 o.1 c.in-Ok-Some.column (rw c.in-Ok-Some.field-0-is at o.2) c.in-Ok-Some-leaving.row i k l w in
-      q.0) c.stopped-in-Err-pivot.ensures
+    let o = rw (c.rows.ensures.all, c.unknowns.ensures) at c.in-Ok-Some.ensures in
+    let l = rw (c.rows.ensures.all, c.unknowns.ensures, c.deref.ensures.value, columns_compared c.args.system.now) at c.in-Ok-Some-leaving.ensures.row c.in-Ok-Some-leaving.row (ap Ok c.in-Ok-Some-leaving.field-0-is) in
+    let w = rw c.deref_mut.ensures.value at c.in-Err-pivot.ensures.leaves i k (ap Err e) in
+    let q = pivot_refuses (FnReturnsAt g.F.Fn c.args.chooser.now.rule) c.requires.chooses c.args.system.now c.rows.ensures.sound c.args.table.now c.requires.reached o.0 o.1 c.in-Ok-Some.column (rw c.in-Ok-Some.field-0-is at o.2) c.in-Ok-Some-leaving.row i k l w in
+    q.0) c.stopped-in-Err-pivot.ensures
 
 pub index_mut-requires : goal.index_mut-requires
 index_mut-requires g c =
@@ -72,6 +72,6 @@ returns g c =
     let made = rw c.deref_mut.ensures.value at c.in_default.ensures.pivoted in
     let back = written_back c.args.table.now.rows.len c.args.table.now.rows.items c.pivot.new.rows c.args.table.now.rows.ok.0 made.rows_swept.count in (
       pivot_reaches (FnReturnsAt g.F.Fn c.args.chooser.now.rule) c.requires.chooses c.args.system.now c.rows.ensures.sound c.args.table.now c.requires.reached o.0 o.1 c.in-Ok-Some.column (rw c.in-Ok-Some.field-0-is at o.2) c.in-Ok-Some-leaving.row
-      (record { rows = with_items c.args.table.now.rows c.pivot.new.rows; gains = c.pivot.new.gains; basis = with_item c.args.table.now.basis c.in-Ok-Some-leaving.row c.in-Ok-Some.column; pivots = c.push.new.self }) l (rw back made) refl c.in_ok-push.ensures.items,
+          (record { rows = with_items c.args.table.now.rows c.pivot.new.rows; gains = c.pivot.new.gains; basis = with_item c.args.table.now.basis c.in-Ok-Some-leaving.row c.in-Ok-Some.column; pivots = c.push.new.self }) l (rw back made) refl c.in_ok-push.ensures.items,
       ap length c.in_ok-push.ensures.items ∙ one_longer c.args.table.now.pivots.items (c.in-Ok-Some-leaving.row, c.in-Ok-Some.column),
     )
