@@ -8,3 +8,4 @@ mod Opens
 mod Listing
 mod Solves
 mod Tables
+mod Agreement

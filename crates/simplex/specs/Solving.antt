@@ -1,10 +1,11 @@
 -- The tableau that the code keeps, and what solving answers.
-use Rattle.std.specs.Prelude.{◌≡◌, ℕ, ◌+◌, List, [], length, ℤ, pos, ◌<ℤ◌, Option}
+use Rattle.std.specs.Prelude.{◌≡◌, ℕ, ◌+◌, List, [], length, ℤ, pos, ◌*ℤ◌, ◌<ℤ◌, Option}
 use Rattle.std.specs.Fn.{Shared, FnReturnsAt}
 use Rattle.std.specs.Borrow.{Bor}
 use Rattle.frac128.specs.declared.Frac.{Frac}
 use Rattle.frac_rows.specs.Entries.{Entries}
-use Rattle.linear_rows.specs.Systems.{LinearSystem, Refutes}
+use Rattle.linear_rows.specs.Systems.{LinearSystem, Solves, Refutes}
+use Rattle.linear_rows.specs.Vectors.{dot}
 use Rattle.tableau.specs.Tableaux.{Tableau, opening, slacks, solution, dual, ray}
 use Rattle.tableau.specs.Courses.{Rule, Course, Ends, Rises, Follows, Answers, Refuses}
 use Rattle.tableau.specs.Laws.{ProvesLeast}
@@ -91,3 +92,26 @@ IsStep rule s old new step.Pivot = Reached rule s new × (length new.pivots.item
 IsStep rule s old new step.Best = ReachedEnd rule s new
 IsStep rule s old new (step.Rises c) = ReachedRise rule s new c
 IsStep rule s old new (step.Leaves i c) = Refuses rule s new.pivots.items i c
+
+-- x and z are solutions over t and u, and their weighted sums are equal
+pub record EqualSums (s : LinearSystem) (x z : List Frac) : Type 0 where
+  pub t : ℤ
+  pub xs : List ℤ
+  pub x_is : AreOver t xs x
+  pub solves : Solves s xs t
+  pub u : ℤ
+  pub zs : List ℤ
+  pub z_is : AreOver u zs z
+  pub other_solves : Solves s zs u
+  pub positive : (pos 0 <ℤ t) × (pos 0 <ℤ u)
+  pub equal : u *ℤ dot s.weights xs ≡ t *ℤ dot s.weights zs
+
+-- unless a number leaves the range, both are best with equal sums, or both say that there is no solution
+abbrev pub Agree : LinearSystem → Answer → Answer → Type 0
+Agree s (Leaves ps i c) b = Unit {0}
+Agree s (Best x y ps) (Best z w qs) = EqualSums s x.items z.items
+Agree s (Best x y ps) (NoSolution z qs) = ⊥
+Agree s (Best x y ps) (Leaves qs i c) = Unit {0}
+Agree s (NoSolution y ps) (Best z w qs) = ⊥
+Agree s (NoSolution y ps) (NoSolution z qs) = Unit {0}
+Agree s (NoSolution y ps) (Leaves qs i c) = Unit {0}

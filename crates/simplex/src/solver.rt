@@ -13,7 +13,7 @@ ghost use Rattle.tableau.specs.Courses.{Ends, Rises, Follows, Answers, Refuses};
 ghost use Rattle.tableau.specs.Tableaux.{entry};
 ghost use Rattle.simplex.specs.Choosing.{IsChooser};
 ghost use Rattle.simplex.specs.Reading.{HaveParts, NoneTwice, AreOver};
-ghost use Rattle.simplex.specs.Solving.{rule_of, Reached, IsStep, IsOpening, IsAt, IsAnswer};
+ghost use Rattle.simplex.specs.Solving.{rule_of, Reached, IsStep, IsOpening, IsAt, IsAnswer, Agree};
 
 use crate::answer::Answer;
 use crate::chooser::Chooser;
@@ -243,4 +243,25 @@ pub fn solve<F: Fn(&[Frac]) -> Option<usize>>(
             Err(error) => return Err(error),
         }
     }
+}
+
+/// Solves a system with two choosers. Unless a number leaves the range of fractions, both answers are best,
+/// with equal weighted sums, or both say that there is no solution.
+pub fn agree<F: Fn(&[Frac]) -> Option<usize>, G: Fn(&[Frac]) -> Option<usize>>(
+    alloc: Global,
+    system: &System,
+    first: &Chooser<F>,
+    second: &Chooser<G>,
+) -> Result<(Answer, Answer), AllocError>
+    requires first_callable { F.IsAlwaysCallable first.now.rule }
+    requires first_chooses { IsChooser F.Fn first.now }
+    requires second_callable { G.IsAlwaysCallable second.now.rule }
+    requires second_chooses { IsChooser G.Fn second.now }
+    ensures first { IfOk result (λ pair. IsAnswer (rule_of F.Fn first.now) system.now pair.0) }
+    ensures second { IfOk result (λ pair. IsAnswer (rule_of G.Fn second.now) system.now pair.1) }
+    ensures agree { IfOk result (λ pair. Agree system.now pair.0 pair.1) }
+{
+    let one = solve(alloc, system, first)?;
+    let other = solve(alloc, system, second)?;
+    Ok((one, other))
 }
