@@ -4,3 +4,8 @@ mod Sweeping
 mod Tying
 mod Narrowing
 mod Steps
+mod Opens
+mod Listing
+mod Solves
+mod Tables
+mod Agreement

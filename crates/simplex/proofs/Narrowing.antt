@@ -124,14 +124,14 @@ is_tied t s cs tied i h r = elim (among_or_not i tied) [
 positive-natural : (x : ℤ) → pos 0 <ℤ x → x ≡ pos (up x)
 positive-natural x h = natural x (omega (arith, ints))
 
-same_sign : (X D N : ℤ) (d : ℕ) → pos 0 <ℤ D → X *ℤ D ≡ N *ℤ pos d → 0 < d → pos 0 <ℤ X → pos 0 <ℤ N
+pub same_sign : (X D N : ℤ) (d : ℕ) → pos 0 <ℤ D → X *ℤ D ≡ N *ℤ pos d → 0 < d → pos 0 <ℤ X → pos 0 <ℤ N
 same_sign X D N d hd e h p =
     let c : N *ℤ pos d ≡ pos d *ℤ N = *ℤ_comm N (pos d) in
     let z : pos d *ℤ pos 0 ≡ pos 0 = omega (arith, ints) in
     let a : pos 0 <ℤ (X *ℤ D) = above X D p hd in
     lt_cancel (pos 0) N d (omega (arith, ints))
 
-sign_back : (X D N : ℤ) (d : ℕ) → pos 0 <ℤ D → X *ℤ D ≡ N *ℤ pos d → 0 < d → pos 0 <ℤ N → pos 0 <ℤ X
+pub sign_back : (X D N : ℤ) (d : ℕ) → pos 0 <ℤ D → X *ℤ D ≡ N *ℤ pos d → 0 < d → pos 0 <ℤ N → pos 0 <ℤ X
 sign_back X D N d hd e h p =
     let k : D ≡ pos (up D) = positive-natural D hd in
     let c : X *ℤ D ≡ D *ℤ X = *ℤ_comm X D in

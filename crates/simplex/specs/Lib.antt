@@ -1,4 +1,7 @@
 pub mod Choosing
 pub mod Standing
 pub mod Ties
+pub mod Opening
+pub mod Reading
+pub mod Solving
 pub mod Laws

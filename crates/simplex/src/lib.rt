@@ -1,17 +1,24 @@
-//! Exact linear programming over fractions: what a step of the tableau needs.
+//! Exact linear programming over fractions, by the simplex method.
 //!
-//! The rows of the tableau are sparse rows of fractions. `specs/` says what they stand for, and the laws
-//! here say that a step which is made is a step of a lawful course, and that one which is not made is
-//! refused there.
+//! The rows of the tableau are sparse rows of fractions. `specs/` says what they stand for, and what each
+//! answer tells. The laws here say that a step which is made is a step of a lawful course, and that one
+//! which is not made is refused there. Solving ends with every rule that chooses columns with gain, since
+//! no basis comes twice.
 #![tactic(auto)]
 
 ghost use Rattle.simplex.specs.Laws.{StepsAreLawful, PivotFaultsAreRefused, SearchFaultsAreRefused};
 
+mod answer;
 mod chooser;
 mod leaving;
+mod opening;
 mod pivot;
+mod reading;
+mod solver;
 
+pub use answer::Answer;
 pub use chooser::Chooser;
+pub use solver::{agree, solve};
 
 /// A pivot that is made is one of a lawful course.
 pub fn steps_are_lawful()

@@ -7,7 +7,7 @@ ghost use Rattle.simplex.specs.Standing.{entries_at, IsSwept, SweepLeaves, RowSt
 
 use frac_rows::{FracRow, RowFault};
 use frac128::Frac;
-use std::alloc::{AllocError, Global};
+use std::alloc::{AllocError, AllocFailed, Global};
 
 /// Why a step of the tableau was not made.
 #[derive(Clone, Copy, Debug)]
@@ -27,8 +27,18 @@ impl From<AllocError> for Fault {
     }
 }
 
+impl<T: Drop> From<AllocFailed<T>> for Fault {
+    ghost use Rattle.simplex.specs.declared.pivot.Fault.TheVariants.{NoMemory};
+
+    ghost from_gives = { λ _ e. e ≡ NoMemory };
+
+    fn from(_: AllocFailed<T>) -> Self {
+        Fault::NoMemory
+    }
+}
+
 /// The fault of a row, in the tableau.
-fn in_row(row: usize, fault: RowFault) -> Fault
+pub(crate) fn in_row(row: usize, fault: RowFault) -> Fault
     ensures { (i c : ℕ) → result ≡ Fault.Leaves i c → (i ≡ row) × (fault ≡ RowFault.Leaves c) }
 {
     match fault {

@@ -1,0 +1,117 @@
+-- The tableau that the code keeps, and what solving answers.
+use Rattle.std.specs.Prelude.{◌≡◌, ℕ, ◌+◌, List, [], length, ℤ, pos, ◌*ℤ◌, ◌<ℤ◌, Option}
+use Rattle.std.specs.Fn.{Shared, FnReturnsAt}
+use Rattle.std.specs.Borrow.{Bor}
+use Rattle.frac128.specs.declared.Frac.{Frac}
+use Rattle.frac_rows.specs.Entries.{Entries}
+use Rattle.linear_rows.specs.Systems.{LinearSystem, Solves, Refutes}
+use Rattle.linear_rows.specs.Vectors.{dot}
+use Rattle.tableau.specs.Tableaux.{Tableau, opening, slacks, solution, dual, ray}
+use Rattle.tableau.specs.Courses.{Rule, Course, Ends, Rises, Follows, Answers, Refuses}
+use Rattle.tableau.specs.Laws.{ProvesLeast}
+use Rattle.simplex.specs.declared.chooser.Chooser.{Chooser}
+use Rattle.simplex.specs.declared.answer.Answer.{Answer}
+use Rattle.simplex.specs.declared.answer.Answer.TheVariants.{Best, NoSolution, Leaves}
+use Rattle.simplex.specs.declared.solver.Table.{Table}
+use Rattle.simplex.specs.declared.solver.Step.{Step}
+use Rattle.simplex.specs.declared.solver.Step.TheVariants as step
+use Rattle.simplex.specs.Standing.{TableStands, RowsStand, RowStands}
+use Rattle.simplex.specs.Reading.{AreOver}
+
+-- the answers to fractions, as a rule for whole numbers over d
+abbrev pub rule_over : (List Frac → Option ℕ → Type 0) → Rule
+rule_over answers ns d o = (fs : List Frac) × AreOver d ns fs × answers fs o
+
+-- the rule that the chooser keeps
+abbrev pub rule_of : {F : Type 0} → Shared F (Bor (List Frac) × Unit {0}) (Option ℕ) → Chooser F → Rule
+rule_of g chooser = rule_over (FnReturnsAt g chooser.rule)
+
+-- these pivots lead to t, and the rows, the gains and the basis are those of t
+pub record IsAfter (s : LinearSystem) (pivots : List (ℕ × ℕ)) (basis : List ℕ) (rows : List Entries) (gains : Entries) (t : Tableau) : Type 0 where
+  pub course : Course s pivots t
+  pub stand : TableStands t rows gains
+  pub basis_is : t.basis ≡ basis
+  pub height : length rows ≡ s.unknowns
+
+-- after these pivots no gain is left, and x and the dual solution are read there
+pub record IsBest (rule : Rule) (s : LinearSystem) (pivots : List (ℕ × ℕ)) (x y : List Frac) : Type 0 where
+  pub t : Tableau
+  pub ends : Ends s pivots t
+  pub follows : Follows rule s pivots
+  pub x_is : AreOver t.over (solution s t) x
+  pub y_is : AreOver t.over (dual s t) y
+  pub proves : ProvesLeast s (solution s t) (dual s t) t.over
+
+-- after these pivots no row bounds the rule's column, and the vector that refutes is read there
+pub record IsRefuted (rule : Rule) (s : LinearSystem) (pivots : List (ℕ × ℕ)) (y : List Frac) : Type 0 where
+  pub t : Tableau
+  pub column : ℕ
+  pub rises : Rises s pivots t column
+  pub follows : Follows rule s pivots
+  pub answers : Answers rule s t column
+  pub positive : pos 0 <ℤ t.over
+  pub y_is : AreOver t.over (ray s column t) y
+  pub refutes : Refutes s (ray s column t)
+
+-- each answer has its cause
+abbrev pub IsAnswer : Rule → LinearSystem → Answer → Type 0
+IsAnswer rule s (Best x dual pivots) = IsBest rule s pivots.items x.items dual.items
+IsAnswer rule s (NoSolution farkas pivots) = IsRefuted rule s pivots.items farkas.items
+IsAnswer rule s (Leaves pivots row column) = Refuses rule s pivots.items row column
+
+abbrev pub IsAt : LinearSystem → Table → Tableau → Type 0
+IsAt s table t = IsAfter s table.pivots.items table.basis.items table.rows.items table.gains t
+
+-- the table is the opening one
+pub record IsOpening (s : LinearSystem) (table : Table) : Type 0 where
+  pub rows : RowsStand (opening s) table.rows.items
+  pub gains : RowStands (pos 1) (opening s).gains table.gains
+  pub basis : table.basis.items ≡ slacks s
+  pub none : table.pivots.items ≡ []
+
+-- the table is that of a course by the rule
+pub record Reached (rule : Rule) (s : LinearSystem) (table : Table) : Type 0 where
+  pub t : Tableau
+  pub after : IsAfter s table.pivots.items table.basis.items table.rows.items table.gains t
+  pub follows : Follows rule s table.pivots.items
+
+-- the course ends there
+pub record ReachedEnd (rule : Rule) (s : LinearSystem) (table : Table) : Type 0 where
+  pub reached : Reached rule s table
+  pub ends : Ends s table.pivots.items reached.t
+
+-- no row bounds the rule's column there
+pub record ReachedRise (rule : Rule) (s : LinearSystem) (table : Table) (c : ℕ) : Type 0 where
+  pub reached : Reached rule s table
+  pub rises : Rises s table.pivots.items reached.t c
+  pub answers : Answers rule s reached.t c
+
+-- each step has its cause
+abbrev pub IsStep : Rule → LinearSystem → Table → Table → Step → Type 0
+IsStep rule s old new step.Pivot = Reached rule s new × (length new.pivots.items ≡ length old.pivots.items + 1)
+IsStep rule s old new step.Best = ReachedEnd rule s new
+IsStep rule s old new (step.Rises c) = ReachedRise rule s new c
+IsStep rule s old new (step.Leaves i c) = Refuses rule s new.pivots.items i c
+
+-- x and z are solutions over t and u, and their weighted sums are equal
+pub record EqualSums (s : LinearSystem) (x z : List Frac) : Type 0 where
+  pub t : ℤ
+  pub xs : List ℤ
+  pub x_is : AreOver t xs x
+  pub solves : Solves s xs t
+  pub u : ℤ
+  pub zs : List ℤ
+  pub z_is : AreOver u zs z
+  pub other_solves : Solves s zs u
+  pub positive : (pos 0 <ℤ t) × (pos 0 <ℤ u)
+  pub equal : u *ℤ dot s.weights xs ≡ t *ℤ dot s.weights zs
+
+-- unless a number leaves the range, both are best with equal sums, or both say that there is no solution
+abbrev pub Agree : LinearSystem → Answer → Answer → Type 0
+Agree s (Leaves ps i c) b = Unit {0}
+Agree s (Best x y ps) (Best z w qs) = EqualSums s x.items z.items
+Agree s (Best x y ps) (NoSolution z qs) = ⊥
+Agree s (Best x y ps) (Leaves qs i c) = Unit {0}
+Agree s (NoSolution y ps) (Best z w qs) = ⊥
+Agree s (NoSolution y ps) (NoSolution z qs) = Unit {0}
+Agree s (NoSolution y ps) (Leaves qs i c) = Unit {0}

@@ -1,0 +1,87 @@
+//! Numbers that are read from rows.
+
+ghost use Rattle.std.specs.Prelude.{◌≡◌, ◌+◌, ◌≤◌, ◌<◌, ◌^◌, ℕ, length, pos, neg_ℤ, IfOk};
+ghost use Rattle.frac128.specs.Values.{numerator, denominator};
+ghost use Rattle.frac_rows.specs.Entries.{at};
+ghost use Rattle.simplex.specs.Standing.{entries_at};
+ghost use Rattle.simplex.specs.Reading.{HaveParts, NoneTwice, IsSpreadTo, frac_at};
+
+use frac_rows::FracRow;
+use frac128::Frac;
+use std::alloc::{AllocError, Global};
+
+/// The fractions of a row at `count` columns from `first` on.
+pub(crate) fn fractions(
+    alloc: Global,
+    row: &FracRow,
+    first: u32,
+    count: u32,
+) -> Result<Vec<Frac>, AllocError>
+    requires { first + count < 2 ^ 32 }
+    ensures { IfOk result (λ xs. HaveParts count (λ i. numerator (at (first + i) row.now)) (λ i. denominator (at (first + i) row.now)) xs.items) }
+{
+    let mut all = Vec::new(alloc);
+    for i in 0..count {
+        all.push(row.at(first + i))?;
+    }
+    Ok(all)
+}
+
+/// The fractions of the rows at a column.
+pub(crate) fn column_of(
+    alloc: Global,
+    rows: &[FracRow],
+    column: u32,
+) -> Result<Vec<Frac>, AllocError>
+    ensures { IfOk result (λ xs. HaveParts (length rows.now) (λ i. numerator (at column (entries_at rows.now i))) (λ i. denominator (at column (entries_at rows.now i))) xs.items) }
+{
+    let mut all = Vec::new(alloc);
+    for i in 0..rows.len() {
+        all.push(rows[i].at(column))?;
+    }
+    Ok(all)
+}
+
+/// The fractions with the other sign.
+pub(crate) fn negated(alloc: Global, numbers: &[Frac]) -> Result<Vec<Frac>, AllocError>
+    ensures { IfOk result (λ xs. HaveParts (length numbers.now) (λ i. neg_ℤ (numerator (frac_at numbers.now i))) (λ i. denominator (frac_at numbers.now i)) xs.items) }
+{
+    let mut all = Vec::new(alloc);
+    for i in 0..numbers.len() {
+        all.push(numbers[i].neg())?;
+    }
+    Ok(all)
+}
+
+/// `count` fractions: each of these numbers at its column, where that is below `count`, and 0 at the
+/// others.
+pub(crate) fn spread(
+    alloc: Global,
+    count: usize,
+    columns: &[u32],
+    numbers: &[Frac],
+) -> Result<Vec<Frac>, AllocError>
+    requires one_each { length numbers.now ≡ length columns.now }
+    requires once { NoneTwice columns.now }
+    ensures { IfOk result (λ xs. IsSpreadTo (length columns.now) count columns.now numbers.now xs.items) }
+{
+    let mut all = zeros(alloc, count)?;
+    for i in 0..columns.len() {
+        let column = columns[i] as usize;
+        if column < count {
+            all[column] = numbers[i];
+        }
+    }
+    Ok(all)
+}
+
+/// `count` times 0.
+fn zeros(alloc: Global, count: usize) -> Result<Vec<Frac>, AllocError>
+    ensures { IfOk result (λ xs. HaveParts count (λ _. pos 0) (λ _. 1) xs.items) }
+{
+    let mut all = Vec::new(alloc);
+    for _ in 0..count {
+        all.push(Frac::zero())?;
+    }
+    Ok(all)
+}
