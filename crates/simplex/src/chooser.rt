@@ -8,6 +8,7 @@ use frac128::Frac;
 
 /// A rule that chooses the column which enters the basis: of the gains, one that is positive, or None
 /// where none is.
+#[derive(Drop)]
 pub struct Chooser<F: Fn(&[Frac]) -> Option<usize>> {
     rule: F,
 }

@@ -15,6 +15,8 @@ mod opening;
 mod pivot;
 mod reading;
 mod solver;
+#[cfg(test)]
+mod tests;
 
 pub use answer::Answer;
 pub use chooser::Chooser;
