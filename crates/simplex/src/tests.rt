@@ -158,10 +158,7 @@ fn small_systems(rt: HostRuntime) -> Result<(), Fail> {
     let cases = [
         (at_least_three(alloc)?, "best 3 dual 1 pivots 0:0"),
         (never(alloc)?, "none 1 pivots"),
-        (
-            two_rows(alloc)?,
-            "best 6/5 8/5 dual 3/5 4/5 pivots 0:0 1:1",
-        ),
+        (two_rows(alloc)?, "best 6/5 8/5 dual 3/5 4/5 pivots 0:0 1:1"),
         (tied_rows(alloc)?, "best 1 1 dual 1 1 0 pivots 1:0 0:1"),
         (too_large(alloc)?, "leaves 5 4 pivots 0:0 2:2"),
     ];
