@@ -22,7 +22,7 @@ bound_line name meter bound = name ++ codes " " ++ meter ++ codes " <= " ++ deci
 abbrev pub bound_lines : Text → ℕ → ℕ → Text
 bound_lines name ticks cells = bound_line name (codes "ticks") ticks ++ bound_line name (codes "cells") cells
 
--- T1, T2
+-- the types, with commas between
 abbrev pub types_behind : List Type' → Text
 types_behind [] = []
 types_behind (A ∷ As) = codes ", " ++ type_text A ++ types_behind As
@@ -31,7 +31,7 @@ abbrev pub types_text : List Type' → Text
 types_text [] = []
 types_text (A ∷ As) = type_text A ++ types_behind As
 
--- NAME (T1, T2) : T
+-- the name, the parameters' types in parentheses, and the type of the result
 abbrev pub type_line : Function → Text
 type_line g = g.name ++ codes " (" ++ types_text (types_of g) ++ codes ") : " ++ type_text g.result ++ codes "\n"
 
