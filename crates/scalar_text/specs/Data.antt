@@ -1,5 +1,6 @@
 -- The text of integers and truths, and of arguments that are such.
-use Rattle.std.specs.Prelude.{◌≡◌, ◌⊎◌, List, [], ◌∷◌, ◌++◌, true, false, codes, ℤ, pos, neg_ℤ, signed_decimal, FitsSigned}
+use Rattle.std.specs.Prelude.{◌≡◌, ◌⊎◌, List, [], ◌∷◌, ◌++◌, true, false, codes, ℤ, pos, neg_ℤ, FitsSigned}
+use Rattle.std.specs.Fmt.{signed_decimal}
 use Rattle.std.specs.Int.{w64}
 use Rattle.std.specs.List.{AllPass}
 use Rattle.raml_syntax.specs.Tree.{Text}
