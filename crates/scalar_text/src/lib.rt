@@ -1,0 +1,2 @@
+//! The text of integers and truths: arguments are read from data, and values printed.
+#![tactic(auto)]
