@@ -1,0 +1,4 @@
+mod Stands
+mod Follows
+mod Walk
+pub mod Linked
