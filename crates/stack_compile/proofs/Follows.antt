@@ -1,20 +1,14 @@
 -- That a machine follows a run, and how such courses are put together.
-use Rattle.std.proofs.Common.{◌≡◌, ℕ, zero, suc, ◌+◌, ◌-◌, ◌*◌, ◌<◌, ◌≤◌, List, Option, Some, None, refl, sym, ap, ◌∙◌, subst, ⊎_elim, arith}
+use Rattle.std.proofs.Common.{◌≡◌, ℕ, suc, ◌+◌, ◌-◌, ◌*◌, ◌<◌, ◌≤◌, List, Option, Some, None, refl, sym, ap, ◌∙◌, subst, ⊎_elim, arith}
 use Rattle.std.proofs.lemmas.Bool.{cases_lt}
 use Rattle.raml_syntax.specs.Value.{Value}
 use Rattle.raml_syntax.specs.Eval.{Run, done, costs, goes_on, and_then, node}
 use Rattle.stack_compile.specs.Code.{Body}
-use Rattle.stack_compile.specs.Machine.{Config, Going, Frame, Move, act, fetch, State, moved, step, after}
+use Rattle.stack_compile.specs.Machine.{Config, Going, Frame, Move, act, fetch, State, moved, after}
 use Rattle.stack_compile.specs.Ready.{Finds, Ready}
 use Rattle.stack_compile.specs.Laws.{IsGoing}
 use Rattle.stack_compile.specs.declared.instr.Instr.{Instr}
-
-abbrev pub state : Config → ℕ → ℕ → ℕ → State
-state c a b m = record { at = c; ticks = a; cells = b; made = m }
-
-pub after_add : (code : List Body) (i j : ℕ) (s : State) → after code (i + j) s ≡ after code j (after code i s)
-after_add code zero j s = let e : 0 + j ≡ j = omega arith in ap (λ n. after code n s) e
-after_add code (suc i) j s = let e : suc i + j ≡ suc (i + j) = omega arith in ap (λ n. after code n s) e ∙ after_add code i j (step code s)
+use Rattle.stack_compile.proofs.After.{state, after_add}
 
 -- from c the machine comes to d in j instructions with t ticks and u cells, and each of them finds what it takes
 pub record Comes (code : List Body) (c : Config) (j t u : ℕ) (d : Config) : Type 0 where

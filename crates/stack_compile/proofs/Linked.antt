@@ -1,5 +1,5 @@
 -- Calls, whole runs, and the law.
-use Rattle.std.proofs.Common.{◌≡◌, ℕ, zero, suc, ◌+◌, ◌-◌, ◌*◌, ◌<◌, ◌≤◌, List, [], ◌∷◌, length, Option, Some, None, refl, sym, ap, ◌∙◌, subst, ⊎_elim, arith}
+use Rattle.std.proofs.Common.{◌≡◌, ℕ, zero, suc, ◌+◌, ◌*◌, ◌<◌, ◌≤◌, List, [], ◌∷◌, length, Option, Some, None, refl, sym, ap, ◌∙◌, subst, ⊎_elim, arith}
 use Rattle.std.specs.Prelude.{slice_get, option_map, unwrap_or}
 use Rattle.std.proofs.lemmas.Bool.{cases_lt}
 use Rattle.std.proofs.lemmas.List.{append-nil, length-map}
@@ -12,12 +12,13 @@ use Rattle.raml_syntax.specs.Default.{NoDefault, Enters, CallMeetsNone}
 use Rattle.raml_syntax.proofs.Keep.{typed_runs_keep}
 use Rattle.raml_syntax.proofs.Places.{functions_have_places}
 use Rattle.stack_compile.specs.Code.{seq, one, fun_of, code_of, Body, body_of, bodies_of}
-use Rattle.stack_compile.specs.Machine.{Config, Going, Halted, Frame, goes, act, fetch, fetch_in, left, popped, entered, State, step, after, start}
+use Rattle.stack_compile.specs.Machine.{Config, Going, Halted, Frame, goes, act, fetch, fetch_in, left, popped, entered, State, start}
 use Rattle.stack_compile.specs.Ready.{HasArguments, Ready}
 use Rattle.stack_compile.specs.Laws.{at, IsGoing, Gives, Halts, Linked, MachineIsLinked}
 use Rattle.stack_compile.specs.declared.instr.Instr.TheVariants as i
 use Rattle.stack_compile.proofs.Stands.{Stands, stands_front, stands_back, stands_as, stands_all, bind_names, bind_values, push_all, popped_all, left_all, length_pushed}
-use Rattle.stack_compile.proofs.Follows.{state, after_add, Follows, Lands, comes_none, comes_one, follows_node, follows_enter, follows_last}
+use Rattle.stack_compile.proofs.After.{state, stays, Grows, after_grows, later_grows}
+use Rattle.stack_compile.proofs.Follows.{Follows, Lands, comes_none, comes_one, follows_node, follows_enter, follows_last}
 use Rattle.stack_compile.proofs.Walk.{CallsFollow, walk_follows}
 
 -- where evaluation finds a function, the machine finds it too
@@ -90,38 +91,6 @@ module _ (P : Prog) where
       follows_node code 1 n _ _ _ (omega arith)
       (follows_last code 0 n _ (eval P n (bind_all [] (names_of g) args) g.body) _ Halted (body_follows n (calls_follow n) k g args [] [] e none.0 none.1) (λ v.
       comes_one code i.Return k (end_of g) (v ∷ []) args [] 0 0 _ (body_ends k g e) (omega arith) refl))
-
--- a halted machine stays as it is
-halted_stays : (code : List Body) (j : ℕ) (v : Value) (a b m : ℕ) → after code j (state (Halted v) a b m) ≡ state (Halted v) a b m
-halted_stays code zero v a b m = refl
-halted_stays code (suc j) v a b m =
-    let x : a + 0 ≡ a = omega arith in
-    let y : b + 0 ≡ b = omega arith in
-    let z : m + 0 ≡ m = omega arith in
-    let same : step code (state (Halted v) a b m) ≡ state (Halted v) a b m = λ i. state (Halted v) (x i) (y i) (z i) in
-    ap (after code j) same ∙ halted_stays code j v a b m
-
-stays : (code : List Body) (m j : ℕ) (s : State) (v : Value) → m ≤ j → (after code m s).at ≡ Halted v → after code j s ≡ after code m s
-stays code m j s v le e =
-    let n : j ≡ m + (j - m) = omega (arith, le) in
-    let t = after code m s in
-    let halted : t ≡ state (Halted v) t.ticks t.cells t.made = ap (λ c. state c t.ticks t.cells t.made) e in
-    ap (λ q. after code q s) n ∙ after_add code m (j - m) s ∙ ap (after code (j - m)) halted ∙ halted_stays code (j - m) v t.ticks t.cells t.made ∙ sym halted
-
--- the second state costs no less
-record Grows (s t : State) : Type 0 where
-  ticks : s.ticks ≤ t.ticks
-  cells : s.cells ≤ t.cells
-
-after_grows : (code : List Body) (m : ℕ) (s : State) → Grows s (after code m s)
-after_grows code zero s = record { ticks = omega arith; cells = omega arith }
-after_grows code (suc m) s = let h = after_grows code m (step code s) in record { ticks = omega (arith, h.ticks); cells = omega (arith, h.cells) }
-
-later_grows : (code : List Body) (m j : ℕ) (s : State) → m ≤ j → Grows (after code m s) (after code j s)
-later_grows code m j s le =
-    let n : m + (j - m) ≡ j = omega (arith, le) in
-    let same = sym (after_add code m (j - m) s) ∙ ap (λ q. after code q s) n in
-    subst (λ t. Grows (after code m s) t) same (after_grows code (j - m) (after code m s))
 
 not_going : (c : Config) (v : Value) → c ≡ Halted v → IsGoing c → ⊥
 not_going c v e h = subst IsGoing e h
