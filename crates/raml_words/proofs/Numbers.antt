@@ -4,12 +4,12 @@ use Rattle.std.proofs.lemmas.List.Elements.{All-nil, All-cons, All-head, All-tai
 use Rattle.std.proofs.Math.Nat.{pow-le-pow_right}
 use Rattle.std.proofs.lemmas.Grind.{pow_more}
 use Rattle.std.specs.Prelude.{nat_le, ◌&&◌}
-use Rattle.std.specs.List.{AllPass}
+use Rattle.std.specs.List.{AllPass, list_all}
 use Rattle.raml_syntax.specs.Tree.{Text}
 use Rattle.raml_lex.specs.Lexemes.{is_digit, number_value}
 use Rattle.raml_lex.proofs.Values.{value_from, value_step}
 use Rattle.raml_words.specs.Words.{IsNumber}
-use Rattle.raml_words.specs.Sorting.{all_digits, is_number, up_to, number_up_to}
+use Rattle.raml_words.specs.Sorting.{is_number, up_to, number_up_to}
 
 both : (a b : Bool) → (a && b) ≡ true → (a ≡ true) × (b ≡ true)
 both true b e = (refl, e)
@@ -56,16 +56,16 @@ stays_small s n i few h l e =
     let small = value_small s few h in
     omega (arith, step, grows, small)
 
-digits_pass : (s : Text) → all_digits s ≡ true → AllPass is_digit s
+digits_pass : (s : Text) → list_all is_digit s ≡ true → AllPass is_digit s
 digits_pass [] e = All-nil IsDigit
-digits_pass (c ∷ s) e = let h = both (is_digit c) (all_digits s) e in All-cons IsDigit c s h.0 (digits_pass s h.1)
+digits_pass (c ∷ s) e = let h = both (is_digit c) (list_all is_digit s) e in All-cons IsDigit c s h.0 (digits_pass s h.1)
 
-pass_digits : (s : Text) → AllPass is_digit s → all_digits s ≡ true
+pass_digits : (s : Text) → AllPass is_digit s → list_all is_digit s ≡ true
 pass_digits [] h = refl
 pass_digits (c ∷ s) h = rw (All-head IsDigit c s h) (pass_digits s (All-tail IsDigit c s h))
 
 number_is : (s : Text) → is_number s ≡ true → IsNumber s (number_value s)
-number_is s e = let h = both (nat_le 1 (length s) && nat_le (length s) 10) (all_digits s) e in let k = both (nat_le 1 (length s)) (nat_le (length s) 10) h.0 in record { some = grind (arith, k.0); few = grind (arith, k.1); digits = digits_pass s h.1; is = refl }
+number_is s e = let h = both (nat_le 1 (length s) && nat_le (length s) 10) (list_all is_digit s) e in let k = both (nat_le 1 (length s)) (nat_le (length s) 10) h.0 in record { some = grind (arith, k.0); few = grind (arith, k.1); digits = digits_pass s h.1; is = refl }
 
 is_number_of : (s : Text) (n : ℕ) → IsNumber s n → is_number s ≡ true
 is_number_of s n h =

@@ -1,8 +1,8 @@
 // Numbers in words.
 ghost use Rattle.std.specs.Prelude.{◌≡◌, ◌≤◌, length};
-ghost use Rattle.std.specs.List.{AllPass};
+ghost use Rattle.std.specs.List.{AllPass, list_all};
 ghost use Rattle.raml_lex.specs.Lexemes.{is_digit, number_value};
-ghost use Rattle.raml_words.specs.Sorting.{all_digits, is_number, number_up_to};
+ghost use Rattle.raml_words.specs.Sorting.{is_number, number_up_to};
 
 /// The number that one to ten digits spell, where it is positive and not greater than `most`.
 pub fn number_up_to(most: u64, word: &str) -> Option<u64>
@@ -13,11 +13,7 @@ pub fn number_up_to(most: u64, word: &str) -> Option<u64>
         return None;
     }
     let value = value_of(digits);
-    if 1 <= value && value <= most {
-        Some(value)
-    } else {
-        None
-    }
+    (1..=most).contains(&value).then_some(value)
 }
 
 // Whether these are one to ten digits.
@@ -28,14 +24,9 @@ fn is_number(bytes: &[u8]) -> bool
 }
 
 fn are_digits(bytes: &[u8]) -> bool
-    ensures { result ≡ all_digits bytes.now }
+    ensures { result ≡ list_all is_digit bytes.now }
 {
-    for byte in bytes {
-        if !matches!(*byte, b'0'..=b'9') {
-            return false;
-        }
-    }
-    true
+    bytes.iter().all(|byte| byte.is_ascii_digit())
 }
 
 // The value of so few digits.
