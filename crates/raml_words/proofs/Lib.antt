@@ -1,0 +1,4 @@
+pub mod Pieces
+pub mod Numbers
+pub mod Sorts
+pub mod Worded

@@ -1,2 +1,4 @@
 pub mod Words
+pub mod Sorting
 pub mod Asked
+pub mod Laws

@@ -1,6 +1,12 @@
 //! The words of a call, and what they ask for.
 #![tactic(auto)]
 
+pub mod laws;
+mod number;
 mod request;
+mod sorting;
 
-pub use request::Request;
+pub use request::{Request, read_words};
+
+#[cfg(test)]
+mod tests;
