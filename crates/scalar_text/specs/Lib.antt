@@ -1,1 +1,3 @@
 pub mod Data
+pub mod Scalar
+pub mod Parts

@@ -1,0 +1,11 @@
+//! Values as words and cells: the heap that the machine works on.
+#![tactic(auto)]
+
+mod heap;
+mod word;
+
+pub use heap::DataHeap;
+pub use word::{Cell, Word};
+
+#[cfg(test)]
+mod tests;
