@@ -2,3 +2,5 @@ pub mod Code
 pub mod Machine
 pub mod Ready
 pub mod Laws
+pub mod Read
+pub mod Kept

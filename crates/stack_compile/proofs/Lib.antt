@@ -1,0 +1,2 @@
+mod Patch
+mod Places
