@@ -2,7 +2,12 @@
 //! it to evaluation.
 #![tactic(auto)]
 
+mod code;
+mod emit;
+mod functions;
 mod instr;
 pub mod laws;
+mod scope;
 
+pub use code::{Body, Code, compile};
 pub use instr::Instr;
