@@ -10,7 +10,7 @@ use Rattle.scalar_text.specs.declared.fault.DataFault.{DataFault}
 use Rattle.scalar_text.specs.declared.fault.DataFault.TheVariants.{NotInFragment, NoMemory}
 use Rattle.scalar_text.specs.Data.{Padded, SpellsArguments}
 use Rattle.scalar_text.specs.Parts.{trimmed, enclosed, parts_of, SpellEach, ReadEach, RefusesEach}
-use Rattle.scalar_text.specs.Scalar.{scalar_value, types_of, AreRead, Refuses}
+use Rattle.scalar_text.specs.Scalar.{scalar_value, types_in, AreRead, Refuses}
 use Rattle.scalar_text.proofs.Trimming.{padded}
 use Rattle.scalar_text.proofs.Cutting.{items_parts, parts_items}
 use Rattle.scalar_text.proofs.OneData.{inner_enclosed, inner, many_trimmed}
@@ -67,7 +67,7 @@ open_refused s types none n [] has h = h
 open_refused s types none n (v ∷ []) has h = n (sym (have_length (v ∷ []) types has))
 open_refused s types none n (v ∷ w ∷ vs) has h = none h.0 (many_trimmed s h.0 h.1)
 
-pub length-types : (qs : List Param) → length (types_of qs) ≡ length qs
+pub length-types : (qs : List Param) → length (types_in qs) ≡ length qs
 length-types [] = refl
 length-types (q ∷ qs) = let l = length-types qs in omega (arith, l)
 
@@ -76,10 +76,10 @@ pub one_read_if : (s : Text) (types : List Type') (r : Result (Vec Word) DataFau
 one_read_if s types (Ok words) h = one_read s types words.items h
 one_read_if s types (Err fault) h = h
 
-pub many_read_if : (s items : Text) (parts : List Text) (qs : List Param) (r : Result (Vec Word) DataFault) → trimmed s ≡ enclosed items → parts ≡ parts_of items → length qs ≢ 1 → IfOk r (λ words. ReadEach parts (types_of qs) words.items) → IfOk r (λ words. AreRead s (types_of qs) words.items)
-many_read_if s items parts qs (Ok words) e p n h = many_read s items parts (types_of qs) words.items e p (λ l. n (sym (length-types qs) ∙ l)) h
+pub many_read_if : (s items : Text) (parts : List Text) (qs : List Param) (r : Result (Vec Word) DataFault) → trimmed s ≡ enclosed items → parts ≡ parts_of items → length qs ≢ 1 → IfOk r (λ words. ReadEach parts (types_in qs) words.items) → IfOk r (λ words. AreRead s (types_in qs) words.items)
+many_read_if s items parts qs (Ok words) e p n h = many_read s items parts (types_in qs) words.items e p (λ l. n (sym (length-types qs) ∙ l)) h
 many_read_if s items parts qs (Err fault) e p n h = h
 
-pub many_refused_if : (s items : Text) (parts : List Text) (qs : List Param) (r : Result (Vec Word) DataFault) → trimmed s ≡ enclosed items → parts ≡ parts_of items → length qs ≢ 1 → IfErr r (RefusesEach parts (types_of qs)) → IfErr r (Refuses s (types_of qs))
+pub many_refused_if : (s items : Text) (parts : List Text) (qs : List Param) (r : Result (Vec Word) DataFault) → trimmed s ≡ enclosed items → parts ≡ parts_of items → length qs ≢ 1 → IfErr r (RefusesEach parts (types_in qs)) → IfErr r (Refuses s (types_in qs))
 many_refused_if s items parts qs (Ok words) e p n h = h
-many_refused_if s items parts qs (Err fault) e p n h = many_refused s items parts (types_of qs) fault e p (λ l. n (sym (length-types qs) ∙ l)) h
+many_refused_if s items parts qs (Err fault) e p n h = many_refused s items parts (types_in qs) fault e p (λ l. n (sym (length-types qs) ∙ l)) h

@@ -18,7 +18,7 @@ use Rattle.value_text.specs.declared.word.Word.{Word}
 use Rattle.value_text.specs.declared.word.Word.TheVariants as is
 use Rattle.scalar_text.specs.Data.{SpellsScalar, SpellsOne}
 use Rattle.scalar_text.specs.Parts.{trimmed, texts_in, SpellEach, ReadsTo, ReadEach}
-use Rattle.scalar_text.specs.Scalar.{scalar_value, types_of}
+use Rattle.scalar_text.specs.Scalar.{scalar_value, types_in}
 use Rattle.scalar_text.proofs.Words.{one_trimmed, trimmed_one}
 
 pub is_integer : (x : Ty) → x ≡ y.Int → ty_of x ≡ Integer
@@ -95,7 +95,7 @@ each_stands (s ∷ parts) (A ∷ As) (word ∷ words) cells h = (word_stands s w
 
 -- the loop over parts and parameters, which has made k words
 abbrev pub Front : List (Bor Text) → List Param → ℕ → List Word → Type 0
-Front ps qs k words = ReadEach (texts_in (take k ps)) (types_of (take k qs)) words
+Front ps qs k words = ReadEach (texts_in (take k ps)) (types_in (take k qs)) words
 
 pub reads_more : (k : ℕ) (ps : List (Bor Text)) (qs : List Param) (words : List Word) (p : Bor Text) (q : Param) (word : Word) → k < length ps → k < length qs → ((d : Bor Text) → p ≡ get_or ps k d) → ((d : Param) → q ≡ get_or qs k d) → Front ps qs k words → ReadsTo p.now (ty_of q.ty) word → Front ps qs (suc k) (words ++ word ∷ [])
 reads_more k [] qs words p q word l m e f h r = absurd (omega (arith, l))
@@ -106,7 +106,7 @@ reads_more (suc k) (p' ∷ ps) (q' ∷ qs) [] p q word l m e f h r = absurd h
 reads_more (suc k) (p' ∷ ps) (q' ∷ qs) (w ∷ words) p q word l m e f h r = (h.0, reads_more k ps qs words p q word (omega (arith, l)) (omega (arith, m)) e f h.1 r)
 
 -- where a part is refused, all are
-pub part_refused : (k : ℕ) (ps : List (Bor Text)) (qs : List Param) (p : Bor Text) (q : Param) → k < length ps → k < length qs → ((d : Bor Text) → p ≡ get_or ps k d) → ((d : Param) → q ≡ get_or qs k d) → ((v : Value) → Has v (ty_of q.ty) → ¬ (SpellsOne p.now v)) → (vs : List Value) → HaveTypes vs (types_of qs) → ¬ (SpellEach (texts_in ps) vs)
+pub part_refused : (k : ℕ) (ps : List (Bor Text)) (qs : List Param) (p : Bor Text) (q : Param) → k < length ps → k < length qs → ((d : Bor Text) → p ≡ get_or ps k d) → ((d : Param) → q ≡ get_or qs k d) → ((v : Value) → Has v (ty_of q.ty) → ¬ (SpellsOne p.now v)) → (vs : List Value) → HaveTypes vs (types_in qs) → ¬ (SpellEach (texts_in ps) vs)
 part_refused k [] qs p q l m e f none vs has h = omega (arith, l)
 part_refused k (p' ∷ ps) [] p q l m e f none vs has h = omega (arith, m)
 part_refused k (p' ∷ ps) (q' ∷ qs) p q l m e f none [] has h = h
@@ -114,7 +114,7 @@ part_refused zero (p' ∷ ps) (q' ∷ qs) p q l m e f none (v ∷ vs) has h = no
 part_refused (suc k) (p' ∷ ps) (q' ∷ qs) p q l m e f none (v ∷ vs) has h = part_refused k ps qs p q (omega (arith, l)) (omega (arith, m)) e f none vs has.1 h.1
 
 -- there are as many values as parts and as types
-pub as_many : (ps : List (Bor Text)) (qs : List Param) (vs : List Value) → HaveTypes vs (types_of qs) → SpellEach (texts_in ps) vs → length ps ≡ length qs
+pub as_many : (ps : List (Bor Text)) (qs : List Param) (vs : List Value) → HaveTypes vs (types_in qs) → SpellEach (texts_in ps) vs → length ps ≡ length qs
 as_many [] [] vs has h = refl
 as_many [] (q ∷ qs) [] has h = absurd has
 as_many [] (q ∷ qs) (v ∷ vs) has h = absurd h
@@ -128,5 +128,5 @@ turn_reads xs x ps qs words more p q word e t h r =
     let long : suc (length xs) ≡ length (xs ++ x ∷ []) = (let l = length-append xs (x ∷ []) in omega (arith, l)) in
     subst (λ k. Front ps qs k more) long (subst (λ more. Front ps qs (suc (length xs)) more) (sym e) (reads_more (length xs) ps qs words p q word t.0 t.1 t.2 t.3 h r))
 
-pub turn_refused : {X : Type 0} → (xs : List X) (ps : List (Bor Text)) (qs : List Param) (p : Bor Text) (q : Param) → (length xs < length ps) × (length xs < length qs) × ((d : Bor Text) → p ≡ get_or ps (length xs) d) × ((d : Param) → q ≡ get_or qs (length xs) d) → ((v : Value) → Has v (ty_of q.ty) → ¬ (SpellsOne p.now v)) → (vs : List Value) → HaveTypes vs (types_of qs) → ¬ (SpellEach (texts_in ps) vs)
+pub turn_refused : {X : Type 0} → (xs : List X) (ps : List (Bor Text)) (qs : List Param) (p : Bor Text) (q : Param) → (length xs < length ps) × (length xs < length qs) × ((d : Bor Text) → p ≡ get_or ps (length xs) d) × ((d : Param) → q ≡ get_or qs (length xs) d) → ((v : Value) → Has v (ty_of q.ty) → ¬ (SpellsOne p.now v)) → (vs : List Value) → HaveTypes vs (types_in qs) → ¬ (SpellEach (texts_in ps) vs)
 turn_refused xs ps qs p q t none = part_refused (length xs) ps qs p q t.0 t.1 t.2 t.3 none

@@ -32,8 +32,8 @@ scalar_value (Bool b) = v.Truth b
 scalar_value _ = v.Empty
 
 -- the types of parameters
-abbrev pub types_of : List Param → List Type'
-types_of params = map (λ (p : Parameter). p.type) (map parameter_of params)
+abbrev pub types_in : List Param → List Type'
+types_in params = map (λ (p : Parameter). p.type) (map parameter_of params)
 
 -- the text spells arguments of these types, for which the words stand whatever the cells are
 pub record AreRead (text : Text) (types : List Type') (words : List Word) : Type 0 where

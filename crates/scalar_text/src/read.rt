@@ -2,7 +2,7 @@
 ghost use Rattle.std.specs.Prelude.{◌≡◌, ◌≢◌, IfOk, IfErr, MatchOption};
 ghost use Rattle.raml_syntax.specs.Tree.{Text};
 ghost use Rattle.scalar_text.specs.Parts.{enclosed, parts_of, texts_in, ReadEach, RefusesEach};
-ghost use Rattle.scalar_text.specs.Scalar.{types_of, AreRead, Refuses, SpellsOnce};
+ghost use Rattle.scalar_text.specs.Scalar.{types_in, AreRead, Refuses, SpellsOnce};
 
 use crate::fault::DataFault;
 use crate::scalar::{scalar, trim};
@@ -12,8 +12,8 @@ use value_text::Word;
 
 // The words that the parts spell, one for each parameter.
 fn words_of(alloc: Global, parts: &[&[u8]], params: &[Param]) -> Result<Vec<Word>, DataFault>
-    ensures ok { IfOk result (λ words. ReadEach (texts_in parts.now) (types_of params.now) words.items) }
-    ensures refused { IfErr result (RefusesEach (texts_in parts.now) (types_of params.now)) }
+    ensures ok { IfOk result (λ words. ReadEach (texts_in parts.now) (types_in params.now) words.items) }
+    ensures refused { IfErr result (RefusesEach (texts_in parts.now) (types_in params.now)) }
 {
     if parts.len() != params.len() {
         return Err(DataFault::NotInFragment);
@@ -56,8 +56,8 @@ fn parts_of(alloc: Global, items: &[u8]) -> Result<Vec<&[u8]>, AllocError>
 /// `NotInFragment` exactly where data spells no arguments of the types, or `NoMemory`.
 #[tactic(auto, using(crate::proofs::OneData::one_data))]
 pub fn read_scalars(alloc: Global, data: &[u8], params: &[Param]) -> Result<Vec<Word>, DataFault>
-    ensures ok { IfOk result (λ words. AreRead «data».now (types_of params.now) words.items) }
-    ensures refused { IfErr result (Refuses «data».now (types_of params.now)) }
+    ensures ok { IfOk result (λ words. AreRead «data».now (types_in params.now) words.items) }
+    ensures refused { IfErr result (Refuses «data».now (types_in params.now)) }
     ensures one_answer { SpellsOnce «data».now }
 {
     if params.len() == 1 {

@@ -1,11 +1,11 @@
 use Rattle.std.proofs.Common.{sym, ap, ◌∙◌}
 use Rattle.scalar_text.specs.Parts.{texts_in}
-use Rattle.scalar_text.specs.Scalar.{types_of}
+use Rattle.scalar_text.specs.Scalar.{types_in}
 use Rattle.scalar_text.proofs.Arguments.{one_read_if, many_read_if, many_refused_if, open_refused, length-types}
 use Rattle.scalar_text.proofs.read.read_scalars.Goals as goal
 
 pub returns-then-params-eq1-clause-ok : goal.returns-then-params-eq1-clause-ok
-returns-then-params-eq1-clause-ok c = one_read_if c.args.data.now (types_of c.args.params.now) c.words_of.result c.words_of.ensures.ok
+returns-then-params-eq1-clause-ok c = one_read_if c.args.data.now (types_in c.args.params.now) c.words_of.result c.words_of.ensures.ok
 
 pub returns-in_ok-parts_of-in-Some-clause-ok : goal.returns-in_ok-parts_of-in-Some-clause-ok
 returns-in_ok-parts_of-in-Some-clause-ok c =
@@ -17,4 +17,4 @@ returns-in_ok-parts_of-in-Some-clause-refused c =
 
 pub returns-in-None-clause-refused : goal.returns-in-None-clause-refused
 returns-in-None-clause-refused c =
-    open_refused c.args.data.now (types_of c.args.params.now) (λ items e. c.in-None.ensures items (c.trim.ensures ∙ e)) (λ l. c.if-params-eq1.false (sym (length-types c.args.params.now) ∙ l))
+    open_refused c.args.data.now (types_in c.args.params.now) (λ items e. c.in-None.ensures items (c.trim.ensures ∙ e)) (λ l. c.if-params-eq1.false (sym (length-types c.args.params.now) ∙ l))
