@@ -1,14 +1,16 @@
 -- The most ticks of a straight body bound each of its runs.
 use Rattle.std.proofs.Common.{◌≡◌, ◌≤◌, ◌+◌, max, ℕ, true, List, [], ◌∷◌, Option, Some, None, sym, ap, subst, ◌∙◌, arith}
-use Rattle.std.specs.Prelude.{Result, Ok, Err, IfOk, IfErr, IsErrAnd}
 use Rattle.raml_syntax.specs.Tree as t
 use Rattle.raml_syntax.specs.Tree.{Text, Bound, Function, Prog}
 use Rattle.raml_syntax.specs.Value.{Value, Truth}
 use Rattle.raml_syntax.specs.Eval.{Run, costs, goes_on, and_then, node, done, branch, Env, Calls, walk, calls_at, names_of, bind_all}
-use Rattle.raml_top.specs.Fragment.{IsStraight, IsOnly, IsTyped, most, BoundsRuns}
+use Rattle.raml_syntax.specs.Types.{Typed}
+use Rattle.raml_syntax.specs.Node.{AllNodes, NumberFits}
+use Rattle.std.specs.List.{All}
+use Rattle.stack_compile.proofs.Linked.{machine_is_linked}
+use Rattle.raml_top.specs.Fragment.{IsStraight, IsOnly, most, BoundsRuns, BoundsMachine}
 use Rattle.raml_top.specs.Report.{bound_lines}
-use Rattle.raml_top.specs.Promise.{Analysis, ReportsBounds, ReportsSource}
-use Rattle.raml_top.specs.Words.{Request, Analyse}
+use Rattle.raml_top.specs.Promise.{Analysis}
 
 -- at most so many ticks, and no cell
 record Within {A : Type 0} (ticks : ℕ) (r : Run A) : Type 0 where
@@ -57,24 +59,22 @@ pub straight_bounds : (P : Prog) (fun : Function) → IsStraight fun.body → Bo
 straight_bounds P fun h = λ args limit typed.
     let w = straight_within (calls_at P limit) fun.body (bind_all [] (names_of fun) args) h in (omega (arith, w.spent), omega (arith, w.taken))
 
-pub analysed : (source text : List ℕ) (P : Prog) → IsTyped source P → ReportsBounds P text → Analysis source text
-analysed source text P typed b = record {
-  program = P;
-  fun = b.fun;
-  is = record { typed = typed; fragment = b.fragment };
-  printed = b.printed;
-  bounds = straight_bounds P b.fun b.fragment.body;
-}
+-- what bounds runs at every limit bounds the machine after every number of instructions
+pub machine_bounds : (P : Prog) (fun : Function) (ticks cells : ℕ) → Typed P → All (λ (g : Function). AllNodes NumberFits g.body) P → BoundsRuns P fun ticks cells → BoundsMachine P fun ticks cells
+machine_bounds P fun ticks cells typed numbers h = λ f args m there types.
+    let linked = machine_is_linked P typed numbers f fun args there types in
+    let same : m ≤ m = omega arith in
+    let below = linked.at_most m m same in
+    let bound = h args m types in
+    (omega (arith, below.0, bound.0), omega (arith, below.1, bound.1))
 
-pub bounds_printed : (P : Prog) (fun : Function) (text : List ℕ) (ticks : ℕ) → IsOnly P fun → ticks ≡ most fun.body → text ≡ bound_lines fun.name ticks 0 → ReportsBounds P text
-bounds_printed P fun text ticks only is printed = record { fun = fun; fragment = only; printed = printed ∙ ap (λ k. bound_lines fun.name k 0) is }
-
--- what is told of the bounds of a program is the report that was asked for
-pub bounds_reported : (request : Request) (file : Text) (degree : ℕ) (source : List ℕ) (P Q : Prog) {T E : Type 0} (bytes : T → List ℕ) (r : Result T E) → request ≡ Analyse file degree → IsTyped source P → Q ≡ P → IfOk r (λ text. ReportsBounds Q (bytes text)) → IfOk r (λ text. ReportsSource request source (bytes text))
-bounds_reported request file degree source P Q bytes (Ok text) is typed same h = subst (λ a. ReportsSource a source (bytes text)) (sym is) (analysed source (bytes text) P typed (subst (λ R. ReportsBounds R (bytes text)) same h))
-bounds_reported request file degree source P Q bytes (Err e) is typed same h = tt
-
--- an error that is handed on
-pub handed_on : {T E : Type 0} (r : Result T E) (e : E) (Q : E → Type 0) → IsErrAnd r (λ f. f ≡ e) → Q e → IfErr r Q
-handed_on (Ok x) e Q same h = tt
-handed_on (Err f) e Q same h = subst Q (sym same) h
+pub analysed : (P : Prog) (fun : Function) (text : List ℕ) (ticks : ℕ) → Typed P → All (λ (g : Function). AllNodes NumberFits g.body) P → IsOnly P fun → ticks ≡ most fun.body → text ≡ bound_lines fun.name ticks 0 → Analysis P text
+analysed P fun text ticks typed numbers only is printed =
+    let bounds = straight_bounds P fun only.body in
+    record {
+      fun = fun;
+      only = only;
+      printed = printed ∙ ap (λ k. bound_lines fun.name k 0) is;
+      bounds = bounds;
+      bounds_machine = machine_bounds P fun (most fun.body) 0 typed numbers bounds;
+    }

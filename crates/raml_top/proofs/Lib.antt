@@ -1,5 +1,6 @@
-mod Sorts
-mod Worded
-mod Decided
-mod Bounded
+mod Told
+mod Turns
 mod Forcing
+mod Bounded
+mod Decided
+mod Calling

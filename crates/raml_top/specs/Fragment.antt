@@ -1,11 +1,12 @@
 -- The programs that are analysed, and their bounds.
-use Rattle.std.specs.Prelude.{◌≡◌, ◌≤◌, ℕ, suc, List, [], ◌∷◌, length, ◌+◌, max, Err}
+use Rattle.std.specs.Prelude.{◌≡◌, ◌≤◌, ℕ, suc, List, [], ◌∷◌, length, ◌+◌, max, Err, Some, slice_get}
 use Rattle.std.specs.List.{All}
 use Rattle.raml_syntax.specs.Tree as t
 use Rattle.raml_syntax.specs.Tree.{Type', Integer, Boolean, Bound, Parameter, Function, Prog}
 use Rattle.raml_syntax.specs.Value.{Value, HaveTypes}
 use Rattle.raml_syntax.specs.Eval.{run_of}
 use Rattle.raml_syntax.specs.Types.{types_of, Typed}
+use Rattle.stack_compile.specs.Laws.{at}
 use Rattle.raml_parse.specs.Spelling.{Spells, FirstFault}
 use Rattle.raml_parse.specs.declared.fault.ParseFault.{ParseFault}
 use Rattle.simple_types.specs.Fault.{Fault}
@@ -47,17 +48,6 @@ pub record IsTyped (source : List ℕ) (P : Prog) : Type 0 where
   pub spelled : Spells source P
   pub typed : Typed P
 
--- the source spells a typed program, and this is its one function
-pub record IsSource (source : List ℕ) (P : Prog) (fun : Function) : Type 0 where
-  pub typed : IsTyped source P
-  pub fragment : IsOnly P fun
-
--- the source spells a typed program of another kind
-pub record IsOther (source : List ℕ) : Type 0 where
-  pub program : Prog
-  pub typed : IsTyped source program
-  pub other : (fun : Function) → ¬ (IsOnly program fun)
-
 -- the source spells a program, and this is the first fault of its types
 pub record IsUntyped (source : List ℕ) (fault : Fault) : Type 0 where
   pub short : length source ≤ most_bytes
@@ -88,3 +78,9 @@ most _ = 0
 abbrev pub BoundsRuns : Prog → Function → ℕ → ℕ → Type 0
 BoundsRuns P fun ticks cells =
     (args : List Value) (limit : ℕ) → HaveTypes args (types_of fun) → ((run_of P fun args limit).ticks ≤ ticks) × ((run_of P fun args limit).cells ≤ cells)
+
+-- On all arguments of the parameters' types and after every number of instructions, whether the machine ever halts or not, the machine's
+-- run of the function costs no more either.
+abbrev pub BoundsMachine : Prog → Function → ℕ → ℕ → Type 0
+BoundsMachine P fun ticks cells =
+    (f : ℕ) (args : List Value) (m : ℕ) → slice_get P f ≡ Some fun → HaveTypes args (types_of fun) → ((at P f args m).ticks ≤ ticks) × ((at P f args m).cells ≤ cells)

@@ -1,7 +1,6 @@
-pub mod Words
-pub mod Sorting
-pub mod Asked
 pub mod Fragment
 pub mod Tested
 pub mod Report
+pub mod Call
 pub mod Promise
+pub mod Steps

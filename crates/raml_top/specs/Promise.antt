@@ -10,44 +10,29 @@ use Rattle.simple_types.specs.Fault.{Fault}
 use Rattle.simple_types.specs.Read.{fault_of}
 use Rattle.simple_types.specs.declared.fault.TypeFault.{TypeFault}
 use Rattle.simple_types.specs.declared.fault.TypeFault.TheVariants as y
-use Rattle.raml_top.specs.Words.{Request, Types, Analyse, file_of, Asks, AsksNothing}
-use Rattle.raml_top.specs.Fragment.{IsOnly, IsTyped, IsSource, IsTooLong, IsFaulty, IsUntyped, IsOther, most_bytes, most, BoundsRuns}
+use Rattle.raml_words.specs.Words.{Request, Types, Analyse, Run, file_of, Asks, AsksNothing}
+use Rattle.scalar_text.specs.declared.fault.DataFault.{DataFault}
+use Rattle.scalar_text.specs.declared.fault.DataFault.TheVariants as d
+use Rattle.scalar_text.specs.declared.fault.DataFault.TheVariants.{NotInFragment}
+use Rattle.stack_compile.specs.Machine.{Halted}
+use Rattle.stack_compile.specs.Laws.{IsGoing}
+use Rattle.raml_syntax.specs.Value.{Value}
+use Rattle.raml_top.specs.Fragment.{IsOnly, IsTyped, IsTooLong, IsFaulty, IsUntyped, most_bytes, most, BoundsRuns, BoundsMachine}
+use Rattle.raml_top.specs.Call.{IsNamed, LacksFunction, SpellsNone, Call, Finishes, Stops, machine_at, most_data}
 use Rattle.raml_top.specs.Report.{type_lines, bound_lines, line_of}
 use Rattle.raml_top.specs.declared.status.Status.{Status}
-use Rattle.raml_top.specs.declared.status.Status.TheVariants.{Done, Usage, ReadFault, TooLong, Source, WriteFault, NotBuilt, NoMemory}
-use Rattle.raml_top.specs.declared.status.Which.TheVariants.{Program}
+use Rattle.raml_top.specs.declared.status.Status.TheVariants.{Done, Usage, ReadFault, TooLong, Source, Data, NoFunction, Stopped, WriteFault, NotBuilt, NoMemory}
+use Rattle.raml_top.specs.declared.status.Which.TheVariants as w
 use Rattle.raml_top.specs.declared.status.SourceFault.TheVariants.{Parse, «Type»}
 
--- The headline: the source spells a program, the text is the two lines of its function, and the bounds in them hold of every run.
-pub record Analysis (source text : List ℕ) : Type 0 where
-  pub program : Prog
+-- The headline: the text is the two lines of the one function of the program, and the bounds in them hold of every run, at every depth
+-- limit and after every number of instructions.
+pub record Analysis (P : Prog) (text : List ℕ) : Type 0 where
   pub fun : Function
-  pub is : IsSource source program fun
+  pub only : IsOnly P fun
   pub printed : text ≡ bound_lines fun.name (most fun.body) 0
-  pub bounds : BoundsRuns program fun (most fun.body) 0
-
--- the text is the bounds of the one function of the program
-pub record ReportsBounds (P : Prog) (text : List ℕ) : Type 0 where
-  pub fun : Function
-  pub fragment : IsOnly P fun
-  pub printed : text ≡ bound_lines fun.name (most fun.body) 0
-
--- why there are none
-abbrev pub BoundsRefused : Prog → Status → Type 0
-BoundsRefused P NotBuilt = (fun : Function) → ¬ (IsOnly P fun)
-BoundsRefused P NoMemory = Unit {0}
-BoundsRefused P _ = ⊥
-
--- the source spells a typed program, and the text is the lines of its functions
-pub record Listing (source text : List ℕ) : Type 0 where
-  pub program : Prog
-  pub is : IsTyped source program
-  pub printed : text ≡ type_lines program
-
--- the text is the report on a source that is asked for
-abbrev pub ReportsSource : Request → List ℕ → List ℕ → Type 0
-ReportsSource (Types file) source text = Listing source text
-ReportsSource (Analyse file degree) source text = Analysis source text
+  pub bounds : BoundsRuns P fun (most fun.body) 0
+  pub bounds_machine : BoundsMachine P fun (most fun.body) 0
 
 -- a count of faults before the call and after it
 pub record Count : Type 0 where
@@ -65,25 +50,29 @@ pub record Outside : Type 0 where
   pub reads : Text → Count
   pub writes : Count
 
+-- the store's counts before and after
+abbrev pub counts : (Text → ℕ) → (Text → ℕ) → Text → Count
+counts before after name = record { before = before name; after = after name }
+
 -- from the store's counts before and after the call, and from those of out
 abbrev pub outside : List Text → Option Files → (Text → ℕ) → (Text → ℕ) → ℕ → ℕ → Outside
 outside words holds before after out_before out_after = record {
   words = words;
   holds = holds;
-  reads = λ name. record { before = before name; after = after name };
+  reads = counts before after;
   writes = record { before = out_before; after = out_after };
 }
 
 -- these bytes were read of a file: one more than the limit at most, and the first bytes of what it holds, where that is told
-pub record IsRead (holds : Option Files) (file source : List ℕ) : Type 0 where
-  pub few : length source ≤ suc most_bytes
-  pub front : IfSome holds (λ files. IsFront files file (suc most_bytes) source)
+pub record IsRead (holds : Option Files) (limit : ℕ) (file bytes : List ℕ) : Type 0 where
+  pub few : length bytes ≤ suc limit
+  pub front : IfSome holds (λ files. IsFront files file (suc limit) bytes)
 
 -- of the bytes that were read of the file Q holds
-pub record ReadOf (holds : Option Files) (file : List ℕ) (Q : List ℕ → Type 0) : Type 0 where
-  pub source : List ℕ
-  pub read : IsRead holds file source
-  pub is : Q source
+pub record ReadOf (holds : Option Files) (limit : ℕ) (file : List ℕ) (Q : List ℕ → Type 0) : Type 0 where
+  pub bytes : List ℕ
+  pub read : IsRead holds limit file bytes
+  pub is : Q bytes
 
 -- the words ask for something of which Q holds
 pub record AskedOf (words : List Text) (Q : Request → Type 0) : Type 0 where
@@ -91,13 +80,46 @@ pub record AskedOf (words : List Text) (Q : Request → Type 0) : Type 0 where
   pub asked : Asks words request
   pub is : Q request
 
--- the text is the report on the bytes that were read of the file
-abbrev pub ReportsFile : Option Files → Request → List ℕ → Type 0
-ReportsFile holds request text = ReadOf holds (file_of request) (λ source. ReportsSource request source text)
+-- the source spells a typed program of which Q holds
+pub record TypedOf (source : List ℕ) (Q : Prog → Type 0) : Type 0 where
+  pub program : Prog
+  pub typed : IsTyped source program
+  pub is : Q program
+
+-- the program has a function of the name, of which Q holds
+pub record NamedOf (P : Prog) (name : Text) (Q : Function → Type 0) : Type 0 where
+  pub place : ℕ
+  pub fun : Function
+  pub named : IsNamed P name place fun
+  pub is : Q fun
+
+-- how a run ends whose report is written: the machine has halted, or was stopped
+abbrev pub Ran : Prog → ℕ → Function → List Value → ℕ → Status → List ℕ → Type 0
+Ran P f fun args steps Done text = Finishes P f fun args steps text
+Ran P f fun args steps Stopped text = Stops P f fun args steps text
+Ran P f fun args steps _ text = ⊥
+
+-- the text is the report of the run on these bytes, and the call ends so
+pub record ReportsRun (P : Prog) (name data_bytes : List ℕ) (steps : ℕ) (status : Status) (text : List ℕ) : Type 0 where
+  pub call : Call P name data_bytes
+  pub ran : Ran P call.place call.fun call.args steps status text
+
+-- the text is what is asked of the program, and the call ends so
+abbrev pub ReportsProgram : Option Files → Request → Status → List ℕ → Prog → Type 0
+ReportsProgram holds (Types file) Done text P = text ≡ type_lines P
+ReportsProgram holds (Analyse file degree) Done text P = Analysis P text
+ReportsProgram holds (Run file name data_file steps) status text P =
+    ReadOf holds most_data data_file (λ data_bytes. ReportsRun P name data_bytes steps status text)
+ReportsProgram holds _ status text P = ⊥
+
+-- of the bytes that were read of the file
+abbrev pub ReportsFile : Option Files → Status → List ℕ → Request → Type 0
+ReportsFile holds status text request =
+    ReadOf holds most_bytes (file_of request) (λ source. TypedOf source (ReportsProgram holds request status text))
 
 -- the text is the report that the words ask for
-abbrev pub Reports : Outside → List ℕ → Type 0
-Reports o text = AskedOf o.words (λ request. ReportsFile o.holds request text)
+abbrev pub Reports : Outside → Status → List ℕ → Type 0
+Reports o status text = AskedOf o.words (ReportsFile o.holds status text)
 
 -- the first fault of the types of the program that the source spells; so it is not want of memory
 pub record IsIllTyped (source : List ℕ) (fault : TypeFault) : Type 0 where
@@ -105,34 +127,52 @@ pub record IsIllTyped (source : List ℕ) (fault : TypeFault) : Type 0 where
   pub is : fault_of fault ≡ Some first
   pub untyped : IsUntyped source first
 
--- bounds are asked for of a typed program of another kind
-abbrev pub IsNotBuilt : Request → List ℕ → Type 0
-IsNotBuilt (Types file) source = ⊥
-IsNotBuilt (Analyse file degree) source = IsOther source
+-- bounds or a run are asked for of a program of another kind
+abbrev pub IsNotBuilt : Request → Prog → Type 0
+IsNotBuilt (Types file) P = ⊥
+IsNotBuilt _ P = (fun : Function) → ¬ (IsOnly P fun)
 
--- why there is no report on a source: it has too many bytes, or a first fault, or its program has one, or bounds are asked for of a
--- typed program of another kind
-abbrev pub SourceRefused : Request → List ℕ → Status → Type 0
-SourceRefused request source (TooLong Program) = IsTooLong source
-SourceRefused request source (Source (Parse fault)) = IsFaulty source fault
-SourceRefused request source (Source («Type» fault)) = IsIllTyped source fault
-SourceRefused request source NotBuilt = IsNotBuilt request source
-SourceRefused request source NoMemory = Unit {0}
-SourceRefused request source _ = ⊥
+-- too many bytes for the limit
+abbrev pub IsOver : ℕ → List ℕ → Type 0
+IsOver limit bytes = suc limit ≤ length bytes
+
+-- why a program is not run: it has no function of the name; or else the store's count rose for the data, or its bytes are too many, or
+-- spell no arguments
+abbrev pub RunRefused : Option Files → Count → Text → Text → Status → Prog → Type 0
+RunRefused holds reads name data_file NoFunction P = LacksFunction P name
+RunRefused holds reads name data_file (ReadFault w.Data) P = NamedOf P name (λ fun. Rises reads)
+RunRefused holds reads name data_file (TooLong w.Data) P = NamedOf P name (λ fun. ReadOf holds most_data data_file (IsOver most_data))
+RunRefused holds reads name data_file (Data NotInFragment) P =
+    NamedOf P name (λ fun. ReadOf holds most_data data_file (λ data_bytes. SpellsNone data_bytes fun))
+RunRefused holds reads name data_file _ P = ⊥
+
+-- why there is no report on a program: it is of another kind, or is not run
+abbrev pub ProgramRefused : Option Files → (Text → Count) → Request → Status → Prog → Type 0
+ProgramRefused holds reads request NotBuilt P = IsNotBuilt request P
+ProgramRefused holds reads (Run file name data_file steps) status P = RunRefused holds (reads data_file) name data_file status P
+ProgramRefused holds reads _ status P = ⊥
+
+-- why there is none on a source: it has too many bytes, or a first fault, or its program has one, or is refused
+abbrev pub SourceRefused : Option Files → (Text → Count) → Request → Status → List ℕ → Type 0
+SourceRefused holds reads request (TooLong w.Program) source = IsTooLong source
+SourceRefused holds reads request (Source (Parse fault)) source = IsFaulty source fault
+SourceRefused holds reads request (Source («Type» fault)) source = IsIllTyped source fault
+SourceRefused holds reads request NoMemory source = Unit {0}
+SourceRefused holds reads request status source = TypedOf source (ProgramRefused holds reads request status)
 
 -- why there is none on a file: the store's count rose for it, or the bytes that were read of it are refused
-abbrev pub FileRefused : Option Files → Count → Request → Status → Type 0
-FileRefused holds reads request (ReadFault Program) = Rises reads
-FileRefused holds reads request NoMemory = Unit {0}
-FileRefused holds reads request status = ReadOf holds (file_of request) (λ source. SourceRefused request source status)
+abbrev pub FileRefused : Option Files → (Text → Count) → Status → Request → Type 0
+FileRefused holds reads (ReadFault w.Program) request = Rises (reads (file_of request))
+FileRefused holds reads NoMemory request = Unit {0}
+FileRefused holds reads status request = ReadOf holds most_bytes (file_of request) (SourceRefused holds reads request status)
 
 -- why there is none at all: the words ask for none, or it is refused of the file that they name
 abbrev pub Refused : Outside → Status → Type 0
 Refused o Usage = AsksNothing o.words
 Refused o NoMemory = Unit {0}
-Refused o status = AskedOf o.words (λ request. FileRefused o.holds (o.reads (file_of request)) request status)
+Refused o status = AskedOf o.words (FileRefused o.holds o.reads status)
 
--- what the faults of the parser and of the check of types are here
+-- what the faults of the parser, of the check of types and of the reader of data are here
 abbrev pub parse_refusal : ParseFault → Status
 parse_refusal p.NoMemory = NoMemory
 parse_refusal fault = Source (Parse fault)
@@ -141,10 +181,15 @@ abbrev pub type_refusal : TypeFault → Status
 type_refusal y.NoMemory = NoMemory
 type_refusal fault = Source («Type» fault)
 
+abbrev pub data_refusal : DataFault → Status
+data_refusal d.NoMemory = NoMemory
+data_refusal fault = Data fault
+
 -- why the call ends so, and what out has gained: the report, or a front of it where out's count rose, or nothing
 abbrev pub Cause : Outside → Option (List ℕ) → Option (List ℕ) → Status → Type 0
-Cause o old new Done = (text : List ℕ) × Reports o text × (new ≡ grown old text)
-Cause o old new WriteFault = (text : List ℕ) × Reports o text × GrewByFront old new text × Rises o.writes
+Cause o old new Done = (text : List ℕ) × Reports o Done text × (new ≡ grown old text)
+Cause o old new Stopped = (text : List ℕ) × Reports o Stopped text × (new ≡ grown old text)
+Cause o old new WriteFault = (status : Status) × (text : List ℕ) × Reports o status text × GrewByFront old new text × Rises o.writes
 Cause o old new status = Refused o status × (new ≡ old)
 
 abbrev pub IsSourceFault : Status → Type 0
@@ -171,16 +216,42 @@ pub record Read (o : Outside) (request : Request) (content : List ℕ) : Type 0 
   pub told : Told o request (Some content)
   pub calm : ¬ (Rises (o.reads (file_of request)))
 
+-- and they spell this typed program
+pub record ReadProgram (o : Outside) (request : Request) (P : Prog) : Type 0 where
+  pub content : List ℕ
+  pub read : Read o request content
+  pub typed : IsTyped content P
+
+-- a run of this function is asked for, and the store tells what the file of data holds
+pub record ToldData (o : Outside) (name : Text) (steps : ℕ) (P : Prog) (fun : Function) (content : Option (List ℕ)) : Type 0 where
+  pub file : List ℕ
+  pub data_file : List ℕ
+  pub program : ReadProgram o (Run file name data_file steps) P
+  pub place : ℕ
+  pub named : IsNamed P name place fun
+  pub held : program.read.told.files data_file ≡ content
+
+-- the same, it holds these bytes, and the store's count for it does not rise
+pub record ReadData (o : Outside) (name : Text) (steps : ℕ) (P : Prog) (fun : Function) (content : List ℕ) : Type 0 where
+  pub told : ToldData o name steps P fun (Some content)
+  pub calm : ¬ (Rises (o.reads told.data_file))
+
 -- where the causes leave no other answer
 pub record Forced (o : Outside) (status : Status) : Type 0 where
   pub usage : AsksNothing o.words → EndsBy Usage status
-  pub missing : (request : Request) → Told o request None → EndsBy (ReadFault Program) status
-  pub too_long : (request : Request) (content : List ℕ) → Read o request content → IsTooLong content → EndsBy (TooLong Program) status
+  pub missing : (request : Request) → Told o request None → EndsBy (ReadFault w.Program) status
+  pub too_long : (request : Request) (content : List ℕ) → Read o request content → IsTooLong content → EndsBy (TooLong w.Program) status
   pub faulty : (request : Request) (content : List ℕ) (fault : ParseFault) → Read o request content → IsFaulty content fault → EndsBy (Source (Parse fault)) status
   pub untyped : (request : Request) (content : List ℕ) (first : Fault) → Read o request content → IsUntyped content first → EndsByType first status
-  pub listed : (file content : List ℕ) (P : Prog) → Read o (Types file) content → IsTyped content P → ¬ (Rises o.writes) → EndsBy Done status
-  pub other : (file content : List ℕ) (degree : ℕ) → Read o (Analyse file degree) content → IsOther content → EndsBy NotBuilt status
-  pub analysed : (file content : List ℕ) (degree : ℕ) (P : Prog) (fun : Function) → Read o (Analyse file degree) content → IsSource content P fun → ¬ (Rises o.writes) → EndsBy Done status
+  pub other : (request : Request) (P : Prog) → ReadProgram o request P → IsNotBuilt request P → EndsBy NotBuilt status
+  pub listed : (file : Text) (P : Prog) → ReadProgram o (Types file) P → ¬ (Rises o.writes) → EndsBy Done status
+  pub analysed : (file : Text) (degree : ℕ) (P : Prog) (fun : Function) → ReadProgram o (Analyse file degree) P → IsOnly P fun → ¬ (Rises o.writes) → EndsBy Done status
+  pub no_function : (file name data_file : Text) (steps : ℕ) (P : Prog) → ReadProgram o (Run file name data_file steps) P → LacksFunction P name → EndsBy NoFunction status
+  pub data_missing : (name : Text) (steps : ℕ) (P : Prog) (fun : Function) → ToldData o name steps P fun None → EndsBy (ReadFault w.Data) status
+  pub data_too_long : (name : Text) (steps : ℕ) (P : Prog) (fun : Function) (content : List ℕ) → ReadData o name steps P fun content → IsOver most_data content → EndsBy (TooLong w.Data) status
+  pub no_arguments : (name : Text) (steps : ℕ) (P : Prog) (fun : Function) (content : List ℕ) → ReadData o name steps P fun content → SpellsNone content fun → EndsBy (Data NotInFragment) status
+  pub halted : (name : Text) (steps : ℕ) (P : Prog) (content : List ℕ) (call : Call P name content) (v : Value) → ReadData o name steps P call.fun content → (machine_at call steps).at ≡ Halted v → ¬ (Rises o.writes) → EndsBy Done status
+  pub stopped : (name : Text) (steps : ℕ) (P : Prog) (content : List ℕ) (call : Call P name content) → ReadData o name steps P call.fun content → IsGoing (machine_at call steps).at → ¬ (Rises o.writes) → EndsBy Stopped status
 
 -- the line is written, or a front of it where the count rose
 abbrev pub Gains : Text → Count → Option (List ℕ) → Option (List ℕ) → Type 0
@@ -189,6 +260,7 @@ Gains line count old new = (new ≡ grown old line) ⊎ (GrewByFront old new lin
 -- what err has gained: nothing beside a report, and otherwise the line of the status
 abbrev pub ErrGains : Status → Count → Option (List ℕ) → Option (List ℕ) → Type 0
 ErrGains Done count old new = new ≡ old
+ErrGains Stopped count old new = new ≡ old
 ErrGains status count old new = Gains (line_of status) count old new
 
 -- how a call ends that was to end so, once that is told: for the line of a source that is refused memory may be wanting

@@ -8,9 +8,12 @@ use Rattle.raml_parse.specs.declared.fault.ParseFault.TheVariants as p
 use Rattle.simple_types.specs.Fault.{Fault, Unknown, Twice, Wanted, NeedsType, Arity}
 use Rattle.simple_types.specs.Read.{fault_of}
 use Rattle.simple_types.specs.Text.{type_text, kind_text}
+use Rattle.scalar_text.specs.Data.{scalar_text}
+use Rattle.stack_compile.specs.Machine.{State}
+use Rattle.raml_syntax.specs.Value.{Value}
 use Rattle.raml_top.specs.declared.status.Status.{Status}
-use Rattle.raml_top.specs.declared.status.Status.TheVariants.{Done, Usage, ReadFault, TooLong, Source, WriteFault, NotBuilt, NoMemory}
-use Rattle.raml_top.specs.declared.status.Which.TheVariants.{Program}
+use Rattle.raml_top.specs.declared.status.Status.TheVariants.{Done, Usage, ReadFault, TooLong, Source, Data, NoFunction, Stopped, WriteFault, NotBuilt, NoMemory}
+use Rattle.raml_top.specs.declared.status.Which.TheVariants as w
 use Rattle.raml_top.specs.declared.status.SourceFault.{SourceFault}
 use Rattle.raml_top.specs.declared.status.SourceFault.TheVariants.{Parse, «Type»}
 
@@ -39,6 +42,22 @@ type_line g = g.name ++ codes " (" ++ types_text (types_of g) ++ codes ") : " ++
 abbrev pub type_lines : Prog → Text
 type_lines [] = []
 type_lines (g ∷ P) = type_line g ++ type_lines P
+
+-- METER N
+abbrev pub meter_line : Text → ℕ → Text
+meter_line meter count = meter ++ codes " " ++ decimal count ++ codes "\n"
+
+-- the three meters of a machine
+abbrev pub meter_lines : State → Text
+meter_lines s =
+    meter_line (codes "ticks") s.ticks ++ meter_line (codes "cells") s.cells ++ meter_line (codes "instructions") s.made
+
+-- the report of a machine that has halted with a value, and of one that was stopped
+abbrev pub value_lines : Value → State → Text
+value_lines v s = codes "value " ++ scalar_text v ++ codes "\n" ++ meter_lines s
+
+abbrev pub stopped_lines : State → Text
+stopped_lines s = codes "stopped\n" ++ meter_lines s
 
 -- what is wrong, and at which byte
 abbrev pub placed : Text → ℕ → Text
@@ -76,9 +95,14 @@ source_line fault = codes "raml: source: " ++ source_text fault ++ codes "\n"
 abbrev pub line_of : Status → Text
 line_of Done = codes ""
 line_of Usage = codes "raml: usage\n"
-line_of (ReadFault Program) = codes "raml: cannot read program\n"
-line_of (TooLong Program) = codes "raml: too long: program\n"
+line_of (ReadFault w.Program) = codes "raml: cannot read program\n"
+line_of (ReadFault w.Data) = codes "raml: cannot read data\n"
+line_of (TooLong w.Program) = codes "raml: too long: program\n"
+line_of (TooLong w.Data) = codes "raml: too long: data\n"
 line_of (Source fault) = source_line fault
+line_of (Data fault) = codes "raml: data: not in this stage\n"
+line_of NoFunction = codes "raml: no function\n"
+line_of Stopped = codes ""
 line_of WriteFault = codes "raml: write failed\n"
 line_of NotBuilt = codes "raml: not built\n"
 line_of NoMemory = codes "raml: out of memory\n"
@@ -95,6 +119,9 @@ code_of Usage = 1
 code_of (ReadFault which) = 2
 code_of (TooLong which) = 3
 code_of (Source fault) = 4
+code_of (Data fault) = 5
+code_of NoFunction = 6
+code_of Stopped = 10
 code_of WriteFault = 12
 code_of NotBuilt = 20
 code_of NoMemory = 70

@@ -1,17 +1,14 @@
-//! The top call: what the words ask for is read, analysed and reported.
+//! The top call: what the words ask for is read, analysed or run, and reported.
 #![tactic(auto)]
 
+mod file;
 mod fragment;
 mod line;
 mod report;
-mod request;
+mod run;
 mod status;
 mod top;
 
 pub use status::{SourceFault, Status, Which};
 pub use top::raml;
 
-#[cfg(test)]
-mod program_tests;
-#[cfg(test)]
-mod tests;

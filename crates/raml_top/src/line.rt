@@ -18,14 +18,18 @@ pub fn plain_line(status: &Status) -> &'static str
     ensures { result.now ≡ line_of status.now }
 {
     match status {
-        Status::Done | Status::Source(_) => "",
+        Status::Done | Status::Stopped | Status::Source(_) => "",
         Status::Usage => "raml: usage\n",
         Status::ReadFault {
             which: Which::Program,
         } => "raml: cannot read program\n",
+        Status::ReadFault { which: Which::Data } => "raml: cannot read data\n",
         Status::TooLong {
             which: Which::Program,
         } => "raml: too long: program\n",
+        Status::TooLong { which: Which::Data } => "raml: too long: data\n",
+        Status::Data(_) => "raml: data: not in this stage\n",
+        Status::NoFunction => "raml: no function\n",
         Status::WriteFault => "raml: write failed\n",
         Status::NotBuilt => "raml: not built\n",
         Status::NoMemory => "raml: out of memory\n",

@@ -2,12 +2,42 @@
 ghost use Rattle.std.specs.Prelude.{◌≡◌, ◌++◌, codes, map, IfOk, OnOk, string_bytes};
 ghost use Rattle.raml_syntax.specs.Read.{parameter_of, function_of, program_of};
 ghost use Rattle.simple_types.specs.Read.{types_in};
-ghost use Rattle.raml_top.specs.Report.{bound_line, bound_lines, types_behind, types_text, type_line, type_lines};
+ghost use Rattle.raml_top.specs.Report.{bound_line, bound_lines, types_behind, types_text, type_line, type_lines, meter_line, meter_lines, value_lines, stopped_lines};
+ghost use Rattle.raml_top.specs.declared.status.Status.TheVariants.{Done, Stopped};
 
+use crate::status::Status;
 use itoa::Buffer;
 use raml_syntax::{Fun, Param, Program};
 use simple_types::push_type;
 use std::alloc::{AllocError, Global};
+
+/// A report, and how the call ends that writes it.
+#[derive(Drop)]
+pub struct Report {
+    pub text: String,
+    pub status: Status,
+}
+
+impl Report {
+    /// The report of a call that ends with `Done`.
+    pub fn done(text: String) -> Report
+        ensures { result ≡ record { text = text; status = Done } }
+    {
+        Report {
+            text,
+            status: Status::Done,
+        }
+    }
+}
+
+fn push_meter(text: &mut String, meter: &str, count: u64) -> Result<(), AllocError>
+    ensures { OnOk result (string_bytes text.new ≡ string_bytes text.old ++ meter_line meter.now count) }
+{
+    text.push_str(meter)?;
+    text.push_str(" ")?;
+    text.push_str(Buffer::new().format(count))?;
+    text.push_str("\n")
+}
 
 /// The lines of the functions of a program: each function's name and types.
 pub fn type_lines(alloc: Global, program: &Program) -> Result<String, AllocError>

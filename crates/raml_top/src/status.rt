@@ -1,10 +1,11 @@
 // How a call ends.
 ghost use Rattle.std.specs.Prelude.{◌≡◌};
 ghost use Rattle.raml_top.specs.Report.{code_of};
-ghost use Rattle.raml_top.specs.Promise.{parse_refusal, type_refusal};
+ghost use Rattle.raml_top.specs.Promise.{parse_refusal, type_refusal, data_refusal};
 ghost use Rattle.raml_top.specs.declared.status.Status.TheVariants.{NoMemory};
 
 use raml_parse::ParseFault;
+use scalar_text::DataFault;
 use simple_types::TypeFault;
 use std::alloc::AllocError;
 
@@ -12,6 +13,7 @@ use std::alloc::AllocError;
 #[derive(Clone, Copy, Debug, PartialEq, Eq)]
 pub enum Which {
     Program,
+    Data,
 }
 
 /// Why a source is refused. No fault in it is want of memory.
@@ -36,9 +38,15 @@ pub enum Status {
     TooLong { which: Which },
     /// The source is refused.
     Source(SourceFault),
+    /// The data is refused. The fault is no want of memory.
+    Data(DataFault),
+    /// The program has no function of the name.
+    NoFunction,
+    /// The report is written whole: the machine has not halted within its instructions.
+    Stopped,
     /// A front of the report is written: the rest was refused.
     WriteFault,
-    /// The program is typed, and of a kind that is not analysed in this stage.
+    /// The program is typed, and of a kind that is neither analysed nor run in this stage.
     NotBuilt,
     /// Memory ran out, and nothing of the report is written.
     NoMemory,
@@ -55,6 +63,9 @@ impl Status {
             Status::ReadFault { .. } => 2,
             Status::TooLong { .. } => 3,
             Status::Source(_) => 4,
+            Status::Data(_) => 5,
+            Status::NoFunction => 6,
+            Status::Stopped => 10,
             Status::WriteFault => 12,
             Status::NotBuilt => 20,
             Status::NoMemory => 70,
@@ -80,6 +91,17 @@ impl From<TypeFault> for Status {
         match fault {
             TypeFault::NoMemory => Status::NoMemory,
             fault => Status::Source(SourceFault::Type(fault)),
+        }
+    }
+}
+
+impl From<DataFault> for Status {
+    ghost from_gives = { λ fault status. status ≡ data_refusal fault };
+
+    fn from(fault: DataFault) -> Status {
+        match fault {
+            DataFault::NoMemory => Status::NoMemory,
+            fault => Status::Data(fault),
         }
     }
 }

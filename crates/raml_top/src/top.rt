@@ -1,22 +1,23 @@
 // The top call.
-ghost use Rattle.std.specs.Prelude.{◌≡◌, ◌≤◌, ℕ, List, string_bytes, IfOk, IfErr};
+ghost use Rattle.std.specs.Prelude.{◌≡◌, ◌≤◌, ℕ, List, length, string_bytes, IfOk, IfErr};
 ghost use Rattle.raml_syntax.specs.Tree.{Text};
 ghost use Rattle.raml_syntax.specs.Node.{WithinLimits, program_nodes};
 ghost use Rattle.raml_syntax.specs.Read.{program_of};
-ghost use Rattle.raml_top.specs.Words as w;
-ghost use Rattle.raml_top.specs.Words.{texts, file_of};
-ghost use Rattle.raml_top.specs.Asked.{request_of};
+ghost use Rattle.raml_words.specs.Words.{texts};
+ghost use Rattle.raml_words.specs.Asked.{request_of};
 ghost use Rattle.raml_top.specs.Fragment.{IsTyped, most_bytes};
-ghost use Rattle.raml_top.specs.Promise.{outside, ReportsSource, ReportsFile, Reports, Refused, SourceRefused, FileRefused, ReportsBounds, BoundsRefused, Cause, Forced, Gains, ErrGains, EndsAs};
+ghost use Rattle.raml_top.specs.Promise.{outside, counts, Analysis, ReportsProgram, ReportsFile, Reports, Refused, FileRefused, Cause, Forced, Gains, ErrGains, EndsAs};
+ghost use Rattle.raml_top.specs.Steps.{HasFewSteps, TypedRefused, ProgramAnswered, BoundsRefused};
 
+use crate::file::read_file;
 use crate::fragment::{most_ticks, only_function};
 use crate::line::{plain_line, source_line};
-use crate::report::{bound_lines, type_lines};
-use crate::request::{Request, read_words};
+use crate::report::{Report, bound_lines, type_lines};
+use crate::run::{Call, run};
 use crate::status::{Status, Which};
-use raml_io::{Sink, Store, StoreFault, put_all};
+use raml_io::{Sink, Store, put_all};
 use raml_parse::parse;
-use raml_syntax::Program;
+use raml_words::{Request, read_words};
 use simple_types::{Typed, check};
 use std::alloc::Global;
 
@@ -59,6 +60,7 @@ fn tell<E: Sink>(alloc: Global, err: &mut E, status: Status) -> Status
 {
     match status {
         Status::Done => Status::Done,
+        Status::Stopped => Status::Stopped,
         Status::Source(fault) => match source_line(alloc, &fault) {
             Ok(line) => {
                 put_line(err, line.as_str());
@@ -93,8 +95,8 @@ fn answer<S: Store, O: Sink>(alloc: Global, words: &[&str], store: &mut S, out: 
     ensures out_later { O.faults out.old ≤ O.faults out.new }
 {
     match report_on(alloc, words, store) {
-        Ok(text) => match put_all(out, text.as_bytes()) {
-            Ok(()) => Status::Done,
+        Ok(report) => match put_all(out, report.text.as_bytes()) {
+            Ok(()) => report.status,
             Err(_) => Status::WriteFault,
         },
         Err(status) => status,
@@ -102,8 +104,8 @@ fn answer<S: Store, O: Sink>(alloc: Global, words: &[&str], store: &mut S, out: 
 }
 
 // The report that the words ask for.
-fn report_on<S: Store>(alloc: Global, words: &[&str], store: &mut S) -> Result<String, Status>
-    ensures ok { (a b : ℕ) → IfOk result (λ text. Reports (outside (texts words.now) (S.holds store.old) (S.faults store.old) (S.faults store.new) a b) (string_bytes text)) }
+fn report_on<S: Store>(alloc: Global, words: &[&str], store: &mut S) -> Result<Report, Status>
+    ensures ok { (a b : ℕ) → IfOk result (λ report. Reports (outside (texts words.now) (S.holds store.old) (S.faults store.old) (S.faults store.new) a b) report.status (string_bytes report.text)) }
     ensures err { (a b : ℕ) → IfErr result (Refused (outside (texts words.now) (S.holds store.old) (S.faults store.old) (S.faults store.new) a b)) }
     ensures kept { S.holds store.new ≡ S.holds store.old }
     ensures later { (name : Text) → S.faults store.old name ≤ S.faults store.new name }
@@ -114,63 +116,67 @@ fn report_on<S: Store>(alloc: Global, words: &[&str], store: &mut S) -> Result<S
     }
 }
 
-// The report on the bytes of a file.
+// The report on a file.
 fn report_on_file<S: Store>(
     alloc: Global,
     store: &mut S,
     request: Request<'_>,
-) -> Result<String, Status>
-    ensures ok { IfOk result (λ text. ReportsFile (S.holds store.old) (request_of request.entry) (string_bytes text)) }
-    ensures err { let file = file_of (request_of request.entry) in
-        IfErr result (FileRefused (S.holds store.old) (record { before = S.faults store.old file; after = S.faults store.new file }) (request_of request.entry)) }
+) -> Result<Report, Status>
+    requires few_steps { HasFewSteps (request_of request) }
+    ensures ok { IfOk result (λ report. ReportsFile (S.holds store.old) report.status (string_bytes report.text) (request_of request.entry)) }
+    ensures err { IfErr result (λ status. FileRefused (S.holds store.old) (counts (S.faults store.old) (S.faults store.new)) status (request_of request.entry)) }
     ensures kept { S.holds store.new ≡ S.holds store.old }
     ensures later { (name : Text) → S.faults store.old name ≤ S.faults store.new name }
 {
-    match store.read(alloc, request.file(), MOST_BYTES + 1) {
-        Ok(source) => report_on_source(alloc, request, &source),
-        Err(StoreFault::Failed) => Err(Status::ReadFault {
-            which: Which::Program,
-        }),
-        Err(StoreFault::NoMemory) => Err(Status::NoMemory),
-    }
+    let source = read_file(alloc, store, request.file(), MOST_BYTES, Which::Program)?;
+    let typed = typed_program(alloc, &source)?;
+    report_on_program(alloc, store, &typed, request)
 }
 
-// The report on a source.
-fn report_on_source(alloc: Global, request: Request<'_>, source: &[u8]) -> Result<String, Status>
-    ensures ok { IfOk result (λ text. ReportsSource (request_of request.entry) source.now (string_bytes text)) }
-    ensures err { IfErr result (SourceRefused (request_of request.entry) source.now) }
-{
-    let typed = typed_program(alloc, source)?;
-    match request {
-        Request::Types { .. } => Ok(type_lines(alloc, typed.program())?),
-        Request::Analyse { .. } => bounds(alloc, typed.program()),
-    }
-}
-
-// The typed program that a source spells.
+// The typed program that a source within its limit spells.
 fn typed_program(alloc: Global, source: &[u8]) -> Result<Typed, Status>
+    requires short { length source.now ≤ most_bytes }
     ensures ok { IfOk result (λ typed. IsTyped source.now (program_of typed)) }
     ensures limits { IfOk result (λ typed. WithinLimits (program_of typed)) }
     ensures few_nodes { IfOk result (λ typed. program_nodes (program_of typed) ≤ most_bytes) }
-    ensures err { IfErr result (λ status. (request : w.Request) → SourceRefused request source.now status) }
+    ensures err { IfErr result (TypedRefused source.now) }
 {
-    if source.len() as u64 > MOST_BYTES {
-        return Err(Status::TooLong {
-            which: Which::Program,
-        });
-    }
     let program = parse(alloc, source)?;
     Ok(check(alloc, program)?)
 }
 
-// The bounds of a program.
-fn bounds(alloc: Global, program: &Program) -> Result<String, Status>
-    requires limits { WithinLimits (program_of program.now) }
-    requires few_nodes { program_nodes (program_of program.now) ≤ most_bytes }
-    ensures ok { IfOk result (λ text. ReportsBounds (program_of program.now) (string_bytes text)) }
-    ensures err { IfErr result (BoundsRefused (program_of program.now)) }
+// The report on a program.
+fn report_on_program<S: Store>(
+    alloc: Global,
+    store: &mut S,
+    typed: &Typed,
+    request: Request<'_>,
+) -> Result<Report, Status>
+    requires limits { WithinLimits (program_of typed.now) }
+    requires few_nodes { program_nodes (program_of typed.now) ≤ most_bytes }
+    requires few_steps { HasFewSteps (request_of request) }
+    ensures ok { IfOk result (λ report. ReportsProgram (S.holds store.old) (request_of request.entry) report.status (string_bytes report.text) (program_of typed.now)) }
+    ensures err { IfErr result (λ status. ProgramAnswered (S.holds store.old) (counts (S.faults store.old) (S.faults store.new)) (request_of request.entry) status (program_of typed.now)) }
+    ensures kept { S.holds store.new ≡ S.holds store.old }
+    ensures later { (name : Text) → S.faults store.old name ≤ S.faults store.new name }
 {
-    let Some(fun) = only_function(program) else {
+    match request {
+        Request::Types { .. } => Ok(Report::done(type_lines(alloc, typed.program())?)),
+        Request::Analyse { .. } => Ok(Report::done(bounds(alloc, typed)?)),
+        Request::Run {
+            name, data, steps, ..
+        } => run(alloc, store, typed, Call { name, data, steps }),
+    }
+}
+
+// The bounds of a program.
+fn bounds(alloc: Global, typed: &Typed) -> Result<String, Status>
+    requires limits { WithinLimits (program_of typed.now) }
+    requires few_nodes { program_nodes (program_of typed.now) ≤ most_bytes }
+    ensures ok { IfOk result (λ text. Analysis (program_of typed.now) (string_bytes text)) }
+    ensures err { IfErr result (BoundsRefused (program_of typed.now)) }
+{
+    let Some(fun) = only_function(typed.program()) else {
         return Err(Status::NotBuilt);
     };
     let text = bound_lines(alloc, fun.name.text(), most_ticks(&fun.body), 0)?;

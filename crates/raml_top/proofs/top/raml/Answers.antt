@@ -1,4 +1,4 @@
-use Rattle.raml_top.specs.Words.{texts}
+use Rattle.raml_words.specs.Words.{texts}
 use Rattle.raml_top.specs.Promise.{outside}
 use Rattle.raml_top.proofs.Forcing.{causes_force, told_cause}
 use Rattle.raml_top.proofs.top.raml.Goals as goal
