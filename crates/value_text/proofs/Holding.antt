@@ -76,3 +76,7 @@ read hs (x ∷ cells) (suc i) cell h is =
 -- a cell holds what its words stand for in the whole list
 pub held_is : (cells : List c.Cell) (i : ℕ) (cell : c.Cell) → NameEarlier cells → slice_get cells i ≡ Some cell → held_at (held cells) i ≡ held_of (held cells) cell
 held_is cells i cell h is = let n : i ≡ 0 + i = omega arith in ap (held_at (held cells)) n ∙ read [] cells i cell h is
+
+-- the newest cell's
+pub at_last : (hs : List Held) (h : Held) → held_at (hs ++ h ∷ []) (length hs) ≡ h
+at_last hs h = at_front hs [] h

@@ -76,7 +76,8 @@ impl DataHeap {
     /// The cell of a number.
     pub fn get(&self, number: u32) -> Cell
         requires { number < length self.now.cells }
-        ensures { slice_get self.now.cells number ≡ Some result }
+        ensures cell { slice_get self.now.cells number ≡ Some result }
+        ensures earlier { NameEarlier self.now.cells }
     {
         self.cells[number as usize]
     }

@@ -1,0 +1,4 @@
+pub mod CellKinds
+pub mod Lists
+pub mod Acting
+pub mod Arithmetic

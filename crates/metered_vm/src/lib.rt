@@ -1,0 +1,6 @@
+//! The stack machine that runs the code of a program on words and a heap, and counts what it costs.
+#![tactic(auto)]
+
+mod acts;
+mod machine;
+mod operands;
