@@ -1,3 +1,4 @@
 pub mod Grow
 pub mod Keep
+pub mod Places
 mod Computed

@@ -1,5 +1,5 @@
 // Laws of the language: each is the contract of a function that does nothing.
-ghost use Rattle.raml_syntax.specs.Laws.{CostsGrowWithLimit, TypedRunsKeepTypes};
+ghost use Rattle.raml_syntax.specs.Laws.{CostsGrowWithLimit, FunctionsHavePlaces, TypedRunsKeepTypes};
 ghost use Rattle.raml_syntax.specs.Example.{Examples};
 
 /// A greater depth limit costs no less, and where there is a value it stays with its costs.
@@ -11,6 +11,11 @@ pub fn costs_grow_with_limit()
 /// and never falls back on a default.
 pub fn typed_runs_keep_types()
     ensures { TypedRunsKeepTypes }
+{}
+
+/// A function is found by its name where it is found by its place.
+pub fn functions_have_places()
+    ensures { FunctionsHavePlaces }
 {}
 
 /// Small evaluations give what was worked out by hand.

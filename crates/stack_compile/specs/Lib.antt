@@ -2,3 +2,4 @@ pub mod Code
 pub mod Machine
 pub mod Ready
 pub mod Laws
+pub mod Example

@@ -1,0 +1,6 @@
+pub mod After
+mod Stands
+mod Follows
+mod Walk
+pub mod Linked
+mod Computed
