@@ -2,3 +2,4 @@ pub mod CellKinds
 pub mod Lists
 pub mod Acting
 pub mod Arithmetic
+pub mod Calling

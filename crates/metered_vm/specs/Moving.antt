@@ -1,7 +1,7 @@
 -- Single instructions.
 use Rattle.std.specs.Prelude.{◌≡◌, ℕ, ◌+◌, List, [], ◌∷◌, Option, Some, None, length}
 use Rattle.raml_syntax.specs.Value.{Value}
-use Rattle.value_text.specs.Heap.{IsBelow}
+use Rattle.raml_syntax.specs.declared.program.FunId.{FunId}
 use Rattle.value_text.specs.declared.word.Word.{Word}
 use Rattle.stack_compile.specs.Code.{Body}
 use Rattle.stack_compile.specs.Machine as m
@@ -12,12 +12,7 @@ use Rattle.stack_compile.specs.declared.instr.Instr.TheVariants.{Pair, Cons, Nod
 use Rattle.metered_vm.specs.Running.{state_of, halted_of, stack_in, locals_in, IsSound, Grew, Stays}
 use Rattle.metered_vm.specs.declared.machine.Machine.{Machine}
 
--- an instruction that needs no code, as all but calls
-abbrev pub IsAlone : Instr → Type 0
-IsAlone (Call g) = ⊥
-IsAlone _ = Unit {0}
-
--- what it does
+-- what an instruction does that needs no code, as all but calls
 abbrev pub acts_at : Instr → Config → Move
 acts_at i (Going f p st ls fs) = act [] (Some i) f p st ls fs
 acts_at i (Halted v) = record { next = Halted v; ticks = 0; cells = 0; made = 0 }
@@ -25,10 +20,18 @@ acts_at i (Halted v) = record { next = Halted v; ticks = 0; cells = 0; made = 0 
 abbrev pub acts : Instr → State → State
 acts i s = moved s (acts_at i s.at)
 
--- a call, where these are the bodies
-abbrev pub calls_at : List Body → Instr → Config → Move
-calls_at code i (Going f p st ls fs) = act code (Some i) f p st ls fs
-calls_at code i (Halted v) = record { next = Halted v; ticks = 0; cells = 0; made = 0 }
+-- what a call of a function does, where these are the bodies
+abbrev pub calls_at : List Body → FunId → Config → Move
+calls_at code g (Going f p st ls fs) = act code (Some (Call g)) f p st ls fs
+calls_at code g (Halted v) = record { next = Halted v; ticks = 0; cells = 0; made = 0 }
+
+abbrev pub calls : List Body → FunId → State → State
+calls code g s = moved s (calls_at code g s.at)
+
+-- the machine is in this state, or, where there is a word, it has halted with that
+abbrev pub Came : Option Word → Machine → State → Type 0
+Came None y s = state_of y ≡ s
+Came (Some w) y s = halted_of w y ≡ s
 
 -- the machine finds what the instruction takes
 abbrev pub CanMake : Instr → Machine → Type 0

@@ -2,5 +2,6 @@
 #![tactic(auto)]
 
 mod acts;
+mod calls;
 mod machine;
 mod operands;
