@@ -3,3 +3,5 @@ pub mod Lists
 pub mod Acting
 pub mod Arithmetic
 pub mod Calling
+pub mod Fetching
+pub mod Going

@@ -3,5 +3,7 @@
 
 mod acts;
 mod calls;
+mod end;
 mod machine;
 mod operands;
+mod steps;
