@@ -70,7 +70,7 @@ stack_more : (hs more : List Held) (ws : List Word) (vs : List Value) → AllBel
 stack_more hs more [] vs h = refl
 stack_more hs more (w ∷ ws) vs h = ap (λ v. stack_of (hs ++ more) ws (v ∷ vs)) (value_more hs more w h.0) ∙ stack_more hs more ws (value_of hs w ∷ vs) h.1
 
-values_more : (hs more : List Held) (ws : List Word) → AllBelow (length hs) ws → values_of (hs ++ more) ws ≡ values_of hs ws
+pub values_more : (hs more : List Held) (ws : List Word) → AllBelow (length hs) ws → values_of (hs ++ more) ws ≡ values_of hs ws
 values_more hs more [] h = refl
 values_more hs more (w ∷ ws) h = λ i. value_more hs more w h.0 i ∷ values_more hs more ws h.1 i
 

@@ -5,3 +5,4 @@ pub mod Arithmetic
 pub mod Calling
 pub mod Fetching
 pub mod Going
+pub mod Keeping

@@ -1,5 +1,5 @@
 -- Single instructions.
-use Rattle.std.specs.Prelude.{◌≡◌, ℕ, ◌+◌, List, [], ◌∷◌, Option, Some, None, length}
+use Rattle.std.specs.Prelude.{◌≡◌, ℕ, ◌+◌, List, [], ◌∷◌, Option, Some}
 use Rattle.raml_syntax.specs.Value.{Value}
 use Rattle.raml_syntax.specs.declared.program.FunId.{FunId}
 use Rattle.value_text.specs.declared.word.Word.{Word}
@@ -9,7 +9,7 @@ use Rattle.stack_compile.specs.Machine.{Config, Going, Halted, State, Move, act,
 use Rattle.stack_compile.specs.Ready.{Finds}
 use Rattle.stack_compile.specs.declared.instr.Instr.{Instr}
 use Rattle.stack_compile.specs.declared.instr.Instr.TheVariants.{Pair, Cons, Node, Call}
-use Rattle.metered_vm.specs.Running.{state_of, halted_of, stack_in, locals_in, IsSound, Grew, Stays}
+use Rattle.metered_vm.specs.Running.{state_of, state_with, stack_in, locals_in}
 use Rattle.metered_vm.specs.declared.machine.Machine.{Machine}
 
 -- what an instruction does that needs no code, as all but calls
@@ -30,8 +30,7 @@ calls code g s = moved s (calls_at code g s.at)
 
 -- the machine is in this state, or, where there is a word, it has halted with that
 abbrev pub Came : Option Word → Machine → State → Type 0
-Came None y s = state_of y ≡ s
-Came (Some w) y s = halted_of w y ≡ s
+Came o y s = state_with o y ≡ s
 
 -- the machine finds what the instruction takes
 abbrev pub CanMake : Instr → Machine → Type 0

@@ -82,3 +82,8 @@ Grew x y = (y.made ≡ x.made + 1) × (y.ticks ≤ x.ticks + 2 ^ 32) × (y.limit
 -- nothing is changed that is told
 abbrev pub Stays : Machine → Machine → Type 0
 Stays x y = (state_of y ≡ state_of x) × (y.heap ≡ x.heap) × (y.limit ≡ x.limit)
+
+-- the state of a machine, which has halted where there is a word
+abbrev pub state_with : Option Word → Machine → State
+state_with None x = state_of x
+state_with (Some w) x = halted_of w x

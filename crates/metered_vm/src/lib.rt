@@ -7,3 +7,7 @@ mod end;
 mod machine;
 mod operands;
 mod steps;
+mod vm;
+
+pub use end::End;
+pub use vm::Vm;

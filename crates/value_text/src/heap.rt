@@ -51,6 +51,7 @@ impl DataHeap {
         ensures spare { OnOk result (cells ≤ self.new.spare) }
         ensures more { self.old.spare ≤ self.new.spare }
         ensures cells { self.new.cells ≡ self.old.cells }
+        ensures earlier { NameEarlier self.new.cells }
     {
         if self.spare < cells {
             self.cells.reserve(cells as usize)?;
