@@ -1,5 +1,5 @@
 pub mod Same
 mod Forms
 mod Names
-mod Places
+pub mod Places
 pub mod Typing

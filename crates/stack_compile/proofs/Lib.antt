@@ -4,3 +4,5 @@ mod Follows
 mod Walk
 pub mod Linked
 mod Computed
+mod Patch
+mod Places

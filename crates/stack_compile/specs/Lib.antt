@@ -3,3 +3,5 @@ pub mod Machine
 pub mod Ready
 pub mod Laws
 pub mod Example
+pub mod Read
+pub mod Kept

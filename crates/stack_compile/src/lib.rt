@@ -2,7 +2,14 @@
 //! it to evaluation.
 #![tactic(auto)]
 
+mod code;
+mod emit;
+mod functions;
 mod instr;
 pub mod laws;
+mod scope;
+#[cfg(test)]
+mod tests;
 
+pub use code::{Body, Code, compile};
 pub use instr::Instr;
