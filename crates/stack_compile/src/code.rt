@@ -1,5 +1,5 @@
 // The code of a program.
-ghost use Rattle.std.specs.Prelude.{◌≡◌, ◌≤◌, ◌<◌, ◌+◌, ◌*◌, ◌^◌, ◌++◌, IfOk, OnOk, Some, length, map, vec_len, slice_get};
+ghost use Rattle.std.specs.Prelude.{◌≡◌, ◌≤◌, ◌<◌, ◌+◌, ◌^◌, ◌++◌, IfOk, OnOk, Some, length, map, vec_len, slice_get};
 ghost use Rattle.std.specs.List.{All};
 ghost use Rattle.raml_syntax.specs.Tree.{Function, Parameter};
 ghost use Rattle.raml_syntax.specs.Types as types;

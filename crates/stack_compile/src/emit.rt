@@ -1,13 +1,10 @@
 // The code of expressions. Jumps are written once the code that they pass is there.
-ghost use Rattle.std.specs.Prelude.{◌≡◌, ◌≤◌, ◌+◌, ◌*◌, [], ◌∷◌, ◌++◌, length, map, OnOk, vec_len};
-ghost use Rattle.raml_syntax.specs.Read.{term_of, terms_of, bound_of, parameter_of};
+ghost use Rattle.std.specs.Prelude.{◌≡◌, ◌≤◌, ◌+◌, ◌*◌, [], ◌∷◌, ◌++◌, length, OnOk, vec_len};
+ghost use Rattle.raml_syntax.specs.Read.{term_of, terms_of, bound_of};
 ghost use Rattle.raml_syntax.specs.Tree as t;
 ghost use Rattle.raml_syntax.specs.Node.{nodes, nodes_of_all, AllNodes, AllOf, NumberFits};
-ghost use Rattle.raml_syntax.specs.Tree.{Parameter};
-ghost use Rattle.raml_syntax.specs.Eval.{names_of};
 ghost use Rattle.stack_compile.specs.Code as c;
-ghost use Rattle.stack_compile.specs.Code.{code_of, codes_of, one, seq, fork, bind_one, fun_of};
-ghost use Rattle.stack_compile.specs.declared.instr.Instr.TheVariants.{Bind, Unbind, Unpair, CaseList, CaseTree, Branch, Call, Tick};
+ghost use Rattle.stack_compile.specs.Code.{code_of, codes_of, one, seq, bind_one};
 ghost use Rattle.stack_compile.specs.Read.{here, locals_in, program_in, Fits};
 
 use crate::instr::Instr;

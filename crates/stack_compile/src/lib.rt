@@ -8,6 +8,8 @@ mod functions;
 mod instr;
 pub mod laws;
 mod scope;
+#[cfg(test)]
+mod tests;
 
 pub use code::{Body, Code, compile};
 pub use instr::Instr;

@@ -51,6 +51,7 @@ impl DataHeap {
         ensures spare { OnOk result (cells ≤ self.new.spare) }
         ensures more { self.old.spare ≤ self.new.spare }
         ensures cells { self.new.cells ≡ self.old.cells }
+        ensures earlier { NameEarlier self.new.cells }
     {
         if self.spare < cells {
             self.cells.reserve(cells as usize)?;
@@ -76,7 +77,8 @@ impl DataHeap {
     /// The cell of a number.
     pub fn get(&self, number: u32) -> Cell
         requires { number < length self.now.cells }
-        ensures { slice_get self.now.cells number ≡ Some result }
+        ensures cell { slice_get self.now.cells number ≡ Some result }
+        ensures earlier { NameEarlier self.now.cells }
     {
         self.cells[number as usize]
     }

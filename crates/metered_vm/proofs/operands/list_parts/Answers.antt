@@ -1,0 +1,12 @@
+use Rattle.stack_compile.specs.Ready.{IsList}
+use Rattle.metered_vm.proofs.CellKinds.{read_word, cell_is}
+use Rattle.metered_vm.proofs.operands.list_parts.Goals as goal
+
+pub unreachable-requires : goal.unreachable-requires
+unreachable-requires c = cell_is IsList _ _ _ _ c.in-Cell.is c.in-Pair.ensures.earlier c.in-Pair.ensures.cell c.requires.list
+
+pub unreachable-requires-in-Node : goal.unreachable-requires-in-Node
+unreachable-requires-in-Node c = cell_is IsList _ _ _ _ c.in-Cell.is c.in-Node.ensures.earlier c.in-Node.ensures.cell c.requires.list
+
+pub returns-in-Cons : goal.returns-in-Cons
+returns-in-Cons c = let r = read_word _ _ _ _ c.in-Cell.is c.in-Cons.ensures.earlier c.in-Cons.ensures.cell in (r.0, r.1.0, r.1.1)

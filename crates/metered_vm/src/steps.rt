@@ -1,0 +1,117 @@
+// Steps and runs of a machine that goes on.
+ghost use Rattle.std.specs.Prelude.{◌≡◌, ℕ, ◌+◌, ◌-◌, ◌*◌, ◌^◌, ◌<◌, ◌≤◌, Some, IfOk, OnErr};
+ghost use Rattle.raml_syntax.specs.Read.{program_of};
+ghost use Rattle.stack_compile.specs.Code.{bodies_of};
+ghost use Rattle.stack_compile.specs.Machine.{fetch, after};
+ghost use Rattle.stack_compile.specs.Ready.{Ready};
+ghost use Rattle.stack_compile.specs.declared.instr.Instr.{Instr};
+ghost use Rattle.metered_vm.specs.Running.{IsSound, Stays, state_of};
+ghost use Rattle.metered_vm.specs.Stepping.{Steps, Came, EndsAt, Goes, word_of};
+
+use crate::acts;
+use crate::calls::{call, leave};
+use crate::end::End;
+use crate::machine::Machine;
+use raml_syntax::{ArithOp, FunId};
+use stack_compile::{Code, Instr};
+use std::alloc::AllocError;
+use value_text::Word;
+
+/// What comes of a step.
+pub enum Outcome {
+    /// The instruction is made.
+    Made,
+    /// It is made, and the machine has halted with the word.
+    Halted(Word),
+    /// It takes a cell, and none is left.
+    Full,
+}
+
+/// The instruction at a place of a function.
+#[tactic(auto, using(crate::proofs::Fetching::fetched))]
+fn fetch(code: &Code, fun: FunId, place: usize) -> Instr
+    requires { (i : Instr) × (fetch (bodies_of (program_of code.now)) fun.0 place ≡ Some i) }
+    ensures is { fetch (bodies_of (program_of code.now)) fun.0 place ≡ Some result }
+    ensures fits { place + 1 < 2 ^ 64 }
+{
+    code.body(fun)[place]
+}
+
+/// Makes the next instruction.
+#[tactic(auto, using(crate::proofs::Fetching::step_is, crate::proofs::Fetching::finds_at, crate::proofs::Fetching::there_at))]
+fn step(code: &Code, m: &mut Machine) -> Result<Outcome, AllocError>
+    requires sound { IsSound m.old }
+    requires ready { Ready (bodies_of (program_of code.now)) (state_of m.old).at }
+    requires room { (m.old.made + 1 < 2 ^ 64) × (m.old.ticks + 2 ^ 32 < 2 ^ 64) }
+    ensures does { IfOk result (Steps (bodies_of (program_of code.now)) m.old m.new) }
+    ensures stays { OnErr result (Stays m.old m.new) }
+    ensures sound { IsSound m.new }
+{
+    match fetch(code, m.fun, m.place) {
+        Instr::Int(n) => acts::push(m, Word::Int(n))?,
+        Instr::Bool(b) => acts::push(m, Word::Bool(b))?,
+        Instr::Empty => acts::push(m, Word::Empty)?,
+        Instr::Load(k) => acts::load(m, k)?,
+        Instr::Bind => acts::bind(m)?,
+        Instr::Unbind(k) => acts::unbind(m, k),
+        Instr::Add => acts::arith(m, ArithOp::Add),
+        Instr::Sub => acts::arith(m, ArithOp::Sub),
+        Instr::Mul => acts::arith(m, ArithOp::Mul),
+        Instr::Div => acts::arith(m, ArithOp::Div),
+        Instr::Mod => acts::arith(m, ArithOp::Mod),
+        Instr::Compare(op) => acts::compare(m, op),
+        Instr::Not => acts::negate(m),
+        Instr::Pair => {
+            if m.cells == m.limit {
+                return Ok(Outcome::Full);
+            }
+            acts::pair(m);
+        }
+        Instr::Cons => {
+            if m.cells == m.limit {
+                return Ok(Outcome::Full);
+            }
+            acts::cons(m);
+        }
+        Instr::Node => {
+            if m.cells == m.limit {
+                return Ok(Outcome::Full);
+            }
+            acts::node(m);
+        }
+        Instr::Unpair => acts::unpair(m)?,
+        Instr::CaseList(to) => acts::case_list(m, to)?,
+        Instr::CaseTree(to) => acts::case_tree(m, to)?,
+        Instr::Branch(to) => acts::fork(m, to),
+        Instr::Jump(to) => acts::jump(m, to),
+        Instr::Call(fun) => call(code, m, fun)?,
+        Instr::Return => {
+            if let Some(word) = leave(m) {
+                return Ok(Outcome::Halted(word));
+            }
+        }
+        Instr::Tick(n) => acts::tick(m, n),
+    }
+    Ok(Outcome::Made)
+}
+
+/// Makes instructions until `steps` are made in all, the machine halts, or the next one takes a cell that is
+/// not left.
+pub fn run(code: &Code, m: &mut Machine, steps: u64) -> Result<End, AllocError>
+    requires sound { IsSound m.old }
+    requires ready { (k : ℕ) → Ready (bodies_of (program_of code.now)) (after (bodies_of (program_of code.now)) k (state_of m.old)).at }
+    requires few { (m.old.made ≤ steps) × (steps ≤ 1000000000) × (m.old.ticks ≤ m.old.made * 2 ^ 32) }
+    ensures state { Came (word_of result) m.new (after (bodies_of (program_of code.now)) (m.new.made - m.old.made) (state_of m.old)) }
+    ensures ends { IfOk result (EndsAt (bodies_of (program_of code.now)) steps m.new) }
+    ensures goes { Goes steps m.old m.new }
+    ensures sound { IsSound m.new }
+{
+    while m.made < steps {
+        match step(code, m)? {
+            Outcome::Made => {}
+            Outcome::Halted(word) => return Ok(End::Halted { word }),
+            Outcome::Full => return Ok(End::HeapFull),
+        }
+    }
+    Ok(End::Stopped)
+}
