@@ -4,3 +4,4 @@ mod Forcing
 mod Bounded
 mod Decided
 mod Calling
+mod Running

@@ -2,14 +2,19 @@
 ghost use Rattle.std.specs.Prelude.{◌≡◌, ◌++◌, codes, map, IfOk, OnOk, string_bytes};
 ghost use Rattle.raml_syntax.specs.Read.{parameter_of, function_of, program_of};
 ghost use Rattle.simple_types.specs.Read.{types_in};
+ghost use Rattle.scalar_text.specs.Scalar.{IsScalarWord, scalar_value};
+ghost use Rattle.metered_vm.specs.Seen.{state_in};
 ghost use Rattle.raml_top.specs.Report.{bound_line, bound_lines, types_behind, types_text, type_line, type_lines, meter_line, meter_lines, value_lines, stopped_lines};
 ghost use Rattle.raml_top.specs.declared.status.Status.TheVariants.{Done, Stopped};
 
 use crate::status::Status;
 use itoa::Buffer;
+use metered_vm::Vm;
 use raml_syntax::{Fun, Param, Program};
+use scalar_text::push_word;
 use simple_types::push_type;
 use std::alloc::{AllocError, Global};
+use value_text::Word;
 
 /// A report, and how the call ends that writes it.
 #[derive(Drop)]
@@ -28,6 +33,40 @@ impl Report {
             status: Status::Done,
         }
     }
+}
+
+/// The report of a machine that has halted with the word, which is an integer or a truth.
+pub fn value_report(alloc: Global, word: Word, vm: &Vm<'_>) -> Result<Report, AllocError>
+    requires { IsScalarWord word }
+    ensures status { IfOk result (λ report. report.status ≡ Done) }
+    ensures text { IfOk result (λ report. string_bytes report.text ≡ value_lines (scalar_value word) (state_in vm.now)) }
+{
+    let mut text = String::from_str(alloc, "value ")?;
+    push_word(&mut text, word)?;
+    text.push_str("\n")?;
+    push_meters(&mut text, vm)?;
+    Ok(Report::done(text))
+}
+
+/// The report of a machine that was stopped.
+pub fn stopped_report(alloc: Global, vm: &Vm<'_>) -> Result<Report, AllocError>
+    ensures status { IfOk result (λ report. report.status ≡ Stopped) }
+    ensures text { IfOk result (λ report. string_bytes report.text ≡ stopped_lines (state_in vm.now)) }
+{
+    let mut text = String::from_str(alloc, "stopped\n")?;
+    push_meters(&mut text, vm)?;
+    Ok(Report {
+        text,
+        status: Status::Stopped,
+    })
+}
+
+fn push_meters(text: &mut String, vm: &Vm<'_>) -> Result<(), AllocError>
+    ensures { OnOk result (string_bytes text.new ≡ string_bytes text.old ++ meter_lines (state_in vm.now)) }
+{
+    push_meter(text, "ticks", vm.ticks())?;
+    push_meter(text, "cells", u64::from(vm.cells()))?;
+    push_meter(text, "instructions", vm.instructions())
 }
 
 fn push_meter(text: &mut String, meter: &str, count: u64) -> Result<(), AllocError>

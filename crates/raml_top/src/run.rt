@@ -9,15 +9,16 @@ ghost use Rattle.raml_top.specs.Steps.{CanRun, RanOn, RunReported, RunAnswered};
 
 use crate::file::read_file;
 use crate::fragment::only_function;
-use crate::report::Report;
+use crate::report::{Report, stopped_report, value_report};
 use crate::status::{Status, Which};
+use metered_vm::{End, Vm};
 use raml_io::Store;
 use raml_syntax::FunId;
 use scalar_text::read_scalars;
 use simple_types::Typed;
 use stack_compile::compile;
 use std::alloc::{AllocError, Global};
-use value_text::Word;
+use value_text::{DataHeap, Word};
 
 /// The limit of data, in bytes.
 const MOST_BYTES: u64 = 4_194_304;
@@ -75,6 +76,11 @@ fn execute(
     requires can { CanRun (program_of typed.now) place.0 args.items }
     ensures { IfOk result (λ report. RanOn (program_of typed.now) place.0 args.items steps report.status (string_bytes report.text)) }
 {
-    let _code = compile(alloc, typed)?;
-    Err(AllocError)
+    let code = compile(alloc, typed)?;
+    let mut vm = Vm::new(alloc, &code, place, DataHeap::new(alloc), args, MOST_CELLS)?;
+    match vm.run(steps)? {
+        End::Halted { word } => value_report(alloc, word, &vm),
+        End::Stopped => stopped_report(alloc, &vm),
+        End::HeapFull => unreachable!(),
+    }
 }
