@@ -1,5 +1,5 @@
 -- The most ticks of a straight body bound each of its runs.
-use Rattle.std.proofs.Common.{◌≡◌, ◌≤◌, ◌+◌, max, ℕ, true, List, [], ◌∷◌, Option, Some, None, sym, ap, subst, ◌∙◌, arith}
+use Rattle.std.proofs.Common.{◌≡◌, ◌≤◌, ◌+◌, max, ℕ, true, List, [], ◌∷◌, Option, Some, None, ap, ◌∙◌, arith}
 use Rattle.raml_syntax.specs.Tree as t
 use Rattle.raml_syntax.specs.Tree.{Text, Bound, Function, Prog}
 use Rattle.raml_syntax.specs.Value.{Value, Truth}

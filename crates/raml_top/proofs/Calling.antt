@@ -1,5 +1,5 @@
 -- What is called, and why it is not.
-use Rattle.std.proofs.Common.{◌≡◌, ◌≤◌, ℕ, zero, suc, List, [], ◌∷◌, length, Option, Some, Result, Ok, Err, sym, subst, ap, ◌∙◌}
+use Rattle.std.proofs.Common.{◌≡◌, ℕ, zero, suc, List, [], ◌∷◌, Option, Some, Result, Ok, Err, sym, subst, ap, ◌∙◌}
 use Rattle.std.specs.Prelude.{IfErr, IsErrAnd, slice_get}
 use Rattle.raml_syntax.specs.Tree.{Text, Function, Prog}
 use Rattle.raml_syntax.specs.Read.{function_of}
@@ -12,11 +12,11 @@ use Rattle.scalar_text.specs.Scalar.{AreRead, Refuses, types_in}
 use Rattle.scalar_text.specs.declared.fault.DataFault.{DataFault}
 use Rattle.scalar_text.specs.declared.fault.DataFault.TheVariants as d
 use Rattle.raml_top.specs.Fragment.{IsOnly}
-use Rattle.raml_top.specs.Call.{IsNamed, SpellsNone, most_data}
-use Rattle.raml_top.specs.Promise.{Count, IsRead, Ran, data_refusal}
+use Rattle.raml_top.specs.Call.{IsNamed, most_data}
+use Rattle.raml_top.specs.Promise.{Count, data_refusal}
 use Rattle.raml_top.specs.Steps.{IsWhole, ReadRefused, CanRun, RanOn, RunReported, RunAnswered}
 use Rattle.raml_top.specs.declared.status.Status.{Status}
-use Rattle.raml_top.specs.declared.status.Status.TheVariants.{Done, Usage, ReadFault, TooLong, Source, Data, NoFunction, Stopped, WriteFault, NotBuilt, NoMemory}
+use Rattle.raml_top.specs.declared.status.Status.TheVariants.{ReadFault, TooLong, NoMemory}
 use Rattle.raml_top.specs.declared.status.Which.TheVariants as w
 
 -- an error that is handed on

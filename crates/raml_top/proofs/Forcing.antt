@@ -1,5 +1,5 @@
 -- The causes of the answers exclude each other where the store tells what it holds, so that each brings its answer.
-use Rattle.std.proofs.Common.{◌≡◌, ◌≤◌, ◌⊎◌, ℕ, suc, List, Option, Some, None, refl, sym, ap, subst, ◌∙◌, arith, inl, inr}
+use Rattle.std.proofs.Common.{◌≡◌, ℕ, List, Option, Some, None, refl, sym, ap, subst, ◌∙◌, inl, inr}
 use Rattle.raml_syntax.specs.Tree.{Text, Function, Prog}
 use Rattle.raml_syntax.specs.Value.{Value}
 use Rattle.raml_io.specs.Files.{Files}
@@ -10,9 +10,9 @@ use Rattle.simple_types.specs.declared.fault.TypeFault.{TypeFault}
 use Rattle.scalar_text.specs.declared.fault.DataFault.TheVariants.{NotInFragment}
 use Rattle.scalar_text.specs.declared.fault.DataFault.TheVariants as d
 use Rattle.raml_words.specs.Words.{Request, Types, Analyse, Run, file_of, Asks, AsksNothing}
-use Rattle.raml_top.specs.Fragment.{IsTyped, IsUntyped, most_bytes}
+use Rattle.raml_top.specs.Fragment.{IsTyped, most_bytes}
 use Rattle.raml_top.specs.Call.{Call, most_data}
-use Rattle.raml_top.specs.Promise.{Count, Outside, Rises, IsRead, ReadOf, AskedOf, TypedOf, NamedOf, ReportsProgram, Ran, Reports, RunRefused, ProgramRefused, Refused, IsIllTyped, Cause, EndsBy, EndsByType, EndsAs, Told, Read, ReadProgram, ToldData, ReadData, Forced}
+use Rattle.raml_top.specs.Promise.{Outside, Rises, IsRead, ReadOf, AskedOf, TypedOf, NamedOf, ReportsProgram, Ran, Reports, ProgramRefused, Refused, IsIllTyped, Cause, EndsBy, EndsByType, EndsAs, Read, ReadProgram, ToldData, ReadData, Forced}
 use Rattle.raml_top.specs.declared.status.Status.{Status}
 use Rattle.raml_top.specs.declared.status.Status.TheVariants.{Done, Usage, ReadFault, TooLong, Source, Data, NoFunction, Stopped, WriteFault, NotBuilt, NoMemory}
 use Rattle.raml_top.specs.declared.status.Which.TheVariants as w
@@ -41,11 +41,15 @@ asked_program : (o : Outside) (Q R : Request → Prog → Type 0) → ((request 
 asked_program o Q R go h = record {
   request = h.request;
   asked = h.asked;
-  is = record { bytes = h.is.bytes; read = h.is.read; is = record {
-    program = h.is.is.program;
-    typed = h.is.is.typed;
-    is = go h.request h.is.is.program h.is.is.is;
-  } };
+  is = record {
+    bytes = h.is.bytes;
+    read = h.is.read;
+    is = record {
+      program = h.is.is.program;
+      typed = h.is.is.typed;
+      is = go h.request h.is.is.program h.is.is.is;
+    };
+  };
 }
 
 fine_inverse : (P Q : Prog) → ◌≡◌ {A = Sort} (Fine P) (Fine Q) → P ≡ Q

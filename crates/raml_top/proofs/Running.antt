@@ -1,23 +1,21 @@
 -- What a machine ends with is what is reported of the run.
-use Rattle.std.proofs.Common.{◌≡◌, ◌≤◌, ◌<◌, ◌*◌, ℕ, suc, List, [], Option, Some, Result, Ok, Err, string_bytes, sym, ap, subst, ◌∙◌, arith}
+use Rattle.std.proofs.Common.{◌≡◌, ◌<◌, ◌*◌, ℕ, suc, List, [], Some, Result, Ok, Err, string_bytes, sym, ap, subst, ◌∙◌, arith}
 use Rattle.std.specs.Prelude.{slice_get, IfOk}
 use Rattle.std.specs.List.{All}
 use Rattle.raml_syntax.specs.Tree.{Function, Prog}
-use Rattle.raml_syntax.specs.Value.{Value, Has}
+use Rattle.raml_syntax.specs.Value.{Value}
 use Rattle.raml_syntax.specs.Eval.{find, run_of}
 use Rattle.raml_syntax.specs.Types.{Typed}
 use Rattle.raml_syntax.specs.Node.{AllNodes, NumberFits}
-use Rattle.raml_syntax.specs.Place.{place_of}
 use Rattle.raml_syntax.proofs.Keep.{typed_runs_keep}
 use Rattle.raml_syntax.proofs.Places.{functions_have_places}
 use Rattle.stack_compile.specs.Machine.{State}
 use Rattle.stack_compile.specs.Laws.{at, IsGoing, Gives}
 use Rattle.value_text.specs.declared.word.Word.{Word}
 use Rattle.value_text.specs.declared.word.Cell.{Cell}
-use Rattle.value_text.specs.Stands.{StandsFor}
 use Rattle.scalar_text.specs.Scalar.{IsScalarWord, scalar_value}
 use Rattle.scalar_text.proofs.Standing.{scalar_stands}
-use Rattle.metered_vm.specs.Seen.{Seen, program_in, fun_in, args_in, cells_in, limit_in, state_in, Kept, Begins, GoesOn}
+use Rattle.metered_vm.specs.Seen.{Seen, program_in, fun_in, args_in, cells_in, state_in, Kept, Begins, GoesOn}
 use Rattle.metered_vm.specs.Ending.{HasHalted, HasStopped, IsFull}
 use Rattle.raml_top.specs.Report.{value_lines, stopped_lines}
 use Rattle.raml_top.specs.Call.{Finishes, Stops}

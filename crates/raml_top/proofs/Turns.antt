@@ -1,5 +1,5 @@
 -- What a source is, what is asked of its program, and how the run of a function of it comes out: one thing each.
-use Rattle.std.proofs.Common.{◌≡◌, ◌≤◌, ℕ, suc, List, length, take, Result, Ok, Err, Some, refl, sym, ap, subst, ◌∙◌, arith}
+use Rattle.std.proofs.Common.{◌≡◌, ◌≤◌, ℕ, suc, List, length, take, Result, Ok, Err, refl, sym, ap, subst, ◌∙◌, arith}
 use Rattle.raml_syntax.specs.Tree.{Text, Function, Prog}
 use Rattle.raml_syntax.specs.Value.{Value}
 use Rattle.raml_parse.specs.Spelling.{Spells, FirstFault}
@@ -8,14 +8,14 @@ use Rattle.raml_parse.proofs.OneAnswer.{one_answer}
 use Rattle.simple_types.specs.Fault.{Fault}
 use Rattle.simple_types.specs.Walk.{walk_program}
 use Rattle.simple_types.proofs.Typing.{program_complete}
-use Rattle.stack_compile.specs.Machine.{Config, State, Halted, start}
+use Rattle.stack_compile.specs.Machine.{State, Halted, start}
 use Rattle.stack_compile.specs.Code.{bodies_of}
 use Rattle.stack_compile.specs.Laws.{at, IsGoing}
 use Rattle.stack_compile.proofs.After.{stays}
 use Rattle.scalar_text.proofs.OneData.{one_data}
 use Rattle.raml_words.specs.Words.{Request, Types, Analyse, Run}
 use Rattle.raml_top.specs.Fragment.{IsTyped, IsTooLong, IsFaulty, IsUntyped, IsOnly, most_bytes}
-use Rattle.raml_top.specs.Call.{IsNamed, LacksFunction, SpellsNone, AreArguments, Call, machine_at, most_data}
+use Rattle.raml_top.specs.Call.{IsNamed, LacksFunction, SpellsNone, Call, machine_at, most_data}
 use Rattle.raml_top.specs.Promise.{IsNotBuilt, NamedOf, IsOver}
 use Rattle.raml_top.proofs.Told.{front_length, short_whole}
 

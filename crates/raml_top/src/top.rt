@@ -164,7 +164,10 @@ fn report_on_program<S: Store>(
         Request::Types { .. } => Ok(Report::done(type_lines(alloc, typed.program())?)),
         Request::Analyse { .. } => Ok(Report::done(bounds(alloc, typed)?)),
         Request::Run {
-            name, data, steps, ..
+            name,
+            data,
+            steps,
+            ..
         } => run(alloc, store, typed, Call { name, data, steps }),
     }
 }

@@ -1,4 +1,4 @@
-use Rattle.std.proofs.Common.{◌≡◌, ◌∙◌, ap, subst, sym, string_bytes}
+use Rattle.std.proofs.Common.{◌∙◌, ap, subst, string_bytes}
 use Rattle.raml_syntax.specs.Read.{program_of, function_of}
 use Rattle.raml_syntax.specs.Place.{place_of}
 use Rattle.scalar_text.specs.Scalar.{AreRead, Refuses, types_in}
