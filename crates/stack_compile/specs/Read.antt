@@ -4,7 +4,7 @@ use Rattle.raml_syntax.specs.Tree as t
 use Rattle.raml_syntax.specs.Tree.{Text, Prog}
 use Rattle.raml_syntax.specs.Read.{program_of}
 use Rattle.stack_compile.specs.Code as c
-use Rattle.stack_compile.specs.Code.{code_of, codes_of}
+use Rattle.stack_compile.specs.Code.{code_of}
 use Rattle.stack_compile.specs.declared.instr.Instr.{Instr}
 use Rattle.stack_compile.specs.declared.code.Body.{Body}
 use Rattle.stack_compile.specs.declared.scope.Scope.{Scope}
