@@ -1,5 +1,5 @@
 // Lists of all indices up to a degree.
-ghost use Rattle.std.specs.Prelude.{◌≡◌, ◌<◌, ◌≤◌, ◌+◌, ◌-◌, [], ◌∷◌, ◌++◌, All, map, filter, length, nat_eq, vec_len, IfOk, OnOk, IsErrOf};
+ghost use Rattle.std.specs.Prelude.{◌≡◌, ◌<◌, ◌≤◌, ◌+◌, ◌-◌, [], ◌∷◌, ◌++◌, All, map, filter, not, length, nat_eq, vec_len, IfOk, OnOk, IsErrOf};
 ghost use Rattle.raml_syntax.specs.Read.{ty_of};
 ghost use Rattle.base_poly.specs.Plain.{Unit', Pair, many, deg, degrees};
 ghost use Rattle.base_poly.specs.Indices.{led_by, pairs_led, lists, indices_up_to, tuples_up_to, index_list, ListsTuples};
@@ -21,30 +21,34 @@ pub fn indices(alloc: Global, types: &[Ty], d: u8, most: usize) -> Result<Vec<Tu
     ensures few { OnOk result (length (index_list (context_of types.now) d) ≤ most) }
     ensures many { IsErrOf result IndexFault.TooMany → most < length (index_list (context_of types.now) d) }
 {
-    let found = tuples_up_to(alloc, types, u32::from(d), most)?;
-    let mut ordered = Vec::new(alloc);
+    let mut found = tuples_up_to(alloc, types, u32::from(d), most)?;
+    let mut ordered = Vec::with_capacity(alloc, found.len())?;
     for degree in 0..u32::from(d) + 1 {
-        append_of_degree(alloc, &mut ordered, &found, degree)?;
+        found = take_degree(alloc, &mut ordered, found, degree)?;
     }
     Ok(ordered)
 }
 
-// Appends those of this degree.
-fn append_of_degree(
+// Moves the tuples of this degree behind those in order, and gives back the others.
+fn take_degree(
     alloc: Global,
     ordered: &mut Vec<Tuple>,
-    found: &[Tuple],
+    found: Vec<Tuple>,
     degree: u32,
-) -> Result<(), AllocError>
-    requires { All (λ t. degrees t ≤ 255) found.now }
-    ensures { OnOk result (ordered.new.items ≡ ordered.old.items ++ filter (λ t. nat_eq (degrees t) degree) found.now) }
+) -> Result<Vec<Tuple>, AllocError>
+    requires { All (λ t. degrees t ≤ 255) found.items }
+    ensures moved { OnOk result (ordered.new.items ≡ ordered.old.items ++ filter (λ t. nat_eq (degrees t) degree) found.items) }
+    ensures left { IfOk result (λ left. left.items ≡ filter (λ t. not (nat_eq (degrees t) degree)) found.items) }
 {
+    let mut left = Vec::new(alloc);
     for tuple in found {
         if tuple.degree() == degree {
-            ordered.push(tuple.copy(alloc)?)?;
+            ordered.push(tuple)?;
+        } else {
+            left.push(tuple)?;
         }
     }
-    Ok(())
+    Ok(left)
 }
 
 // All tuples of these types, component by component.
