@@ -1,9 +1,10 @@
 -- The list of tuples has exactly the tuples of the context and the degree, in order.
-use Rattle.std.proofs.Common.{◌≡◌, ℕ, zero, suc, ◌+◌, ◌-◌, ◌≤◌, ◌<◌, ◌⊎◌, inl, inr, ⊎_elim, Bool, List, [], ◌∷◌, map, filter, nat_eq, refl, sym, ap, ◌∙◌, subst, arith}
+use Rattle.std.proofs.Common.{◌≡◌, ℕ, zero, suc, ◌+◌, ◌-◌, ◌≤◌, ◌<◌, ◌⊎◌, inl, inr, ⊎_elim, Bool, List, [], ◌∷◌, map, filter, nat_eq, All, Contains, refl, sym, ap, ◌∙◌, subst, arith}
 use Rattle.std.specs.declared.cmp.Ordering.TheVariants.{Less, Equal}
 use Rattle.std.specs.Ordering.{ordering_then, nat_cmp}
 use Rattle.std.proofs.lemmas.Bool.{eqb-true, eq-eqb}
 use Rattle.std.proofs.lemmas.Bool.Decides.{nat_tests}
+use Rattle.std.proofs.lemmas.List.Elements.{All-weaker, All-contains_itself}
 use Rattle.raml_syntax.specs.Tree.{Type', Integer, Boolean, PairOf, ListOf, TreeOf}
 use Rattle.base_poly.specs.Plain.{Plain, Unit', Pair, End, Then, many, entries_of, deg, degrees, order}
 use Rattle.base_poly.specs.Indices.{IsIndex, AreIndices, each_in_turn, tuple_order, IsBefore, Ascends, ListsTuples, led_by, lists, indices_up_to, tuples_up_to, by_degree, index_list}
@@ -210,3 +211,8 @@ exact As d = record {
     (λ h. among_contains t (index_list As d) (there_degree (1 + d) 0 t (tuples_up_to As d) (whole_tuples As d t h.0 h.1) (omega arith) (let k = h.1 in omega arith))),
   );
 }
+
+-- what all tuples of the context and the degree have, those of the list have
+pub each_listed : (P : List Plain → Type 0) (As : List Type') (d : ℕ) → ((t : List Plain) → AreIndices t As → degrees t ≤ d → P t) → All P (index_list As d)
+each_listed P As d h =
+    All-weaker (Contains (index_list As d)) P (λ t m. let g = ((exact As d).exactly t).0 m in h t g.0 g.1) (index_list As d) (All-contains_itself (index_list As d))

@@ -10,4 +10,4 @@ pub mod Counted
 pub mod Recursion
 pub mod Only
 pub mod Computed
-pub mod Samples
+pub mod Bounded

@@ -1,10 +1,13 @@
 -- Lists that are made part by part are at least as long as their parts, and as what the parts are made for.
-use Rattle.std.proofs.Common.{◌≡◌, ℕ, zero, suc, ◌+◌, ◌-◌, ◌≤◌, ◌<◌, inl, inr, List, [], ◌∷◌, ◌++◌, map, flat_map, filter, drop, length, get_or, nat_eq, refl, sym, ap, ◌∙◌, subst, arith, length-append, drop-cons, append_assoc}
-use Rattle.std.proofs.lemmas.List.{length-map}
+use Rattle.std.proofs.Common.{◌≡◌, ℕ, zero, suc, ◌+◌, ◌-◌, ◌≤◌, ◌<◌, inl, inr, List, [], ◌∷◌, ◌++◌, map, flat_map, filter, take, drop, length, get_or, nat_eq, refl, sym, ap, ◌∙◌, subst, arith, length-append, drop-cons, append_assoc, append-nil}
+use Rattle.std.proofs.lemmas.List.{length-map, map-append, drop_all, take_all}
+use Rattle.std.proofs.lemmas.Simd.{map-map}
+use Rattle.raml_syntax.specs.declared.ty.Ty.{Ty}
 use Rattle.raml_syntax.specs.Tree.{Type', Integer, Boolean, PairOf, ListOf, TreeOf}
+use Rattle.raml_syntax.specs.Read.{ty_of}
 use Rattle.base_poly.specs.Plain.{Plain, deg, degrees}
 use Rattle.base_poly.specs.Indices.{IsIndex, AreIndices, zero_of, led_by, lists, indices_up_to, tuples_up_to, by_degree}
-use Rattle.base_poly.specs.Read.{index_of, plains_of}
+use Rattle.base_poly.specs.Read.{index_of, plains_of, context_of}
 use Rattle.base_poly.specs.declared.index.Index.{Index}
 use Rattle.base_poly.proofs.Among.{Among}
 use Rattle.base_poly.proofs.Exact.{sound, whole, whole_tuples}
@@ -37,21 +40,17 @@ some_list items zero d = omega arith
 some_list items (suc n) zero = omega arith
 some_list items (suc n) (suc d) = omega arith
 
-abbrev zeros : List Type' → List Plain
-zeros [] = []
-zeros (A ∷ As) = zero_of A ∷ zeros As
-
-some_zeros : (As : List Type') → AreIndices (zeros As) As × (degrees (zeros As) ≡ 0)
+pub some_zeros : (As : List Type') → AreIndices (map zero_of As) As × (degrees (map zero_of As) ≡ 0)
 some_zeros [] = (tt, refl)
 some_zeros (A ∷ As) = let r = some_zeros As in let z = zero_degree A in ((zero_is_index A, r.0), (let s = r.1 in omega arith))
 
 pub some_tuple : (As : List Type') (d : ℕ) → 0 < length (tuples_up_to As d)
-some_tuple As d = let r = some_zeros As in there (zeros As) (tuples_up_to As d) (whole_tuples As d (zeros As) r.0 (let s = r.1 in omega arith))
+some_tuple As d = let r = some_zeros As in there (map zero_of As) (tuples_up_to As d) (whole_tuples As d (map zero_of As) r.0 (let s = r.1 in omega arith))
 
 -- Parts
 
 module _ {Y Z : Type 0} (rests : ℕ → List Y) (both : Plain → Y → Z) (d : ℕ) where
-  abbrev joined : List Plain → List Z
+  abbrev pub joined : List Plain → List Z
   joined firsts = flat_map (λ i. map (λ r. both i r) (rests (d - deg i))) firsts
 
   pub longer : ((k : ℕ) → 0 < length (rests k)) → (firsts : List Plain) → length firsts ≤ length (joined firsts)
@@ -85,8 +84,6 @@ module _ {Y Z : Type 0} (rests : ℕ → List Y) (both : Plain → Y → Z) (d :
       ∙ append_assoc so_far (map (λ r. both (index_of head) r) (rests (d - deg (index_of head)))) (joined (plains_of (drop (k + 1) heads)))
       ∙ ap (λ l. so_far ++ l) (sym (at_head heads k head h e)) ∙ done
 
--- a list with one more in front
-
 pub low_head : (A : Type') (d : ℕ) (heads : List Index) (k : ℕ) (head : Index) → plains_of heads ≡ indices_up_to A d → k < length heads → head ≡ get_or heads k head → deg (index_of head) ≤ d
 low_head A d heads k head same h e = (sound A d (index_of head) (subst (Among (index_of head)) same (found heads k head h e))).1
   where
@@ -94,6 +91,40 @@ low_head A d heads k head same h e = (sound A d (index_of head) (subst (Among (i
     found [] k head h e = absurd (omega arith)
     found (x ∷ xs) zero head h e = inl (ap index_of (sym e))
     found (x ∷ xs) (suc k) head h e = inr (found xs k head (omega arith) e)
+
+-- tuples behind other indices
+
+abbrev pub behind : List Plain → Plain → List Plain → List Plain
+behind before i r = before ++ i ∷ r
+
+pub led_behind : (before : List Plain) (rests : ℕ → List (List Plain)) (d : ℕ) (firsts : List Plain) → joined rests (behind before) d firsts ≡ map (λ t. before ++ t) (led_by rests d firsts)
+led_behind before rests d [] = refl
+led_behind before rests d (i ∷ is) =
+    (λ n. sym (map-map (λ t. before ++ t) (λ r. i ∷ r) (rests (d - deg i))) n ++ led_behind before rests d is n)
+    ∙ sym (map-append (λ t. before ++ t) (map (λ r. i ∷ r) (rests (d - deg i))) (led_by rests d is))
+
+pub behind_more : (before : List Plain) (i : Plain) (ts : List (List Plain)) → map (λ t. (before ++ i ∷ []) ++ t) ts ≡ map (behind before i) ts
+behind_more before i [] = refl
+behind_more before i (t ∷ ts) = λ n. append_assoc before (i ∷ []) t n ∷ behind_more before i ts n
+
+pub all_led : (before : List Plain) (rests : ℕ → List (List Plain)) (d : ℕ) (firsts : List Plain) (heads : List Index) (k : ℕ) (now old : List (List Plain)) →
+    length heads ≤ k → plains_of heads ≡ firsts → now ++ joined rests (behind before) d (plains_of (drop k heads)) ≡ old ++ joined rests (behind before) d (plains_of heads) →
+    now ≡ old ++ map (λ t. before ++ t) (led_by rests d firsts)
+all_led before rests d firsts heads k now old end same done =
+    sym (append-nil now) ∙ ap (λ hs. now ++ joined rests (behind before) d (plains_of hs)) (sym (drop_all k heads end)) ∙ done
+    ∙ ap (λ is. old ++ joined rests (behind before) d is) same ∙ ap (λ ts. old ++ ts) (led_behind before rests d firsts)
+
+pub tuples_step : (types : List Ty) (first : Ty) (d : ℕ) → 1 ≤ length types → first ≡ get_or types 0 first →
+    tuples_up_to (context_of types) d ≡ led_by (tuples_up_to (context_of (take (length types - 1) (drop 1 types)))) d (indices_up_to (ty_of first) d)
+tuples_step [] first d h e = absurd (omega (arith, h))
+tuples_step (A ∷ As) first d h e = λ n. led_by (tuples_up_to (context_of (sym (take_all (length (A ∷ As) - 1) As (omega arith)) n))) d (indices_up_to (ty_of (sym e n)) d)
+
+pub behind_none : (found now ts : List (List Plain)) (before : List Index) → found ≡ [] → before ≡ [] → now ≡ found ++ map (λ t. plains_of before ++ t) ts → now ≡ ts
+behind_none found now ts before h g new = new ∙ (λ n. h n ++ map (λ t. plains_of (g n) ++ t) ts) ∙ alone ts
+  where
+    alone : (ts : List (List Plain)) → map (λ t. [] ++ t) ts ≡ ts
+    alone [] = refl
+    alone (t ∷ ts) = ap (λ us. t ∷ us) (alone ts)
 
 -- a list of entries is as long as the degree allows, however many entries are let in
 

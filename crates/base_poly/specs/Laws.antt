@@ -1,14 +1,15 @@
 -- Laws of indices and of base polynomials.
-use Rattle.std.specs.Prelude.{◌≡◌, ℕ, zero, suc, ◌+◌, ◌*◌, List, [], ◌∷◌, map, length, replicate}
+use Rattle.std.specs.Prelude.{◌≡◌, ◌≤◌, ℕ, zero, suc, ◌+◌, ◌*◌, ◌^◌, List, [], ◌∷◌, map, length, replicate, slice_get, Some}
 use Rattle.raml_syntax.specs.Tree.{Type'}
-use Rattle.raml_syntax.specs.Value.{Value, Has, Empty, Cons, Node}
-use Rattle.base_poly.specs.Plain.{Plain, Unit', many, deg}
+use Rattle.raml_syntax.specs.Value.{Value, Has, Empty, Cons, Node, size}
+use Rattle.base_poly.specs.Plain.{Plain, Unit', many, deg, degrees}
 use Rattle.base_poly.specs.Indices.{IsIndex, zero_of, ListsTuples, index_list}
-use Rattle.base_poly.specs.Base.{total, elements, base}
+use Rattle.base_poly.specs.Base.{total, elements, base, bases}
 
--- the list of tuples is all of them in order, and no other list is
+-- the list of tuples is all of them in order, and no other list is; the first of them has the zero index of each type
 pub record IndicesAreListed : Type 0 where
   pub listed : (As : List Type') (d : ℕ) → ListsTuples As d (index_list As d)
+  pub first : (As : List Type') (d : ℕ) → slice_get (index_list As d) 0 ≡ Some (map zero_of As)
   pub only : (As : List Type') (d : ℕ) (ts us : List (List Plain)) → ListsTuples As d ts → ListsTuples As d us → ts ≡ us
 
 -- the one index of degree 0, which is 1 at every value of its type
@@ -45,3 +46,10 @@ choose (suc n) (suc k) = choose n k + choose n (suc k)
 -- k entries that count 1 each
 abbrev pub BinomialsAreBase : Type 0
 BinomialsAreBase = (k : ℕ) (v : Value) → base (many (replicate k Unit')) v ≡ choose (length (elements v)) k
+
+-- A base polynomial is no more than the degree's power of the number of cells.
+pub record BaseIsBounded : Type 0 where
+  pub power : (i : Plain) (v : Value) → base i v ≤ size v ^ deg i
+  pub powers : (is : List Plain) (vs : List Value) → bases is vs ≤ total size vs ^ degrees is
+  -- at most 2^20 cells, and degree at most 4
+  pub limit : (is : List Plain) (vs : List Value) → total size vs ≤ 2 ^ 20 → degrees is ≤ 4 → bases is vs ≤ 2 ^ 80

@@ -95,7 +95,7 @@ fn degree_of_entries(entries: &[Index]) -> u32
 pub fn copy_all(alloc: Global, indices: &[Index]) -> Result<Vec<Index>, AllocError>
     ensures { IfOk result (λ copies. plains_of copies.items ≡ plains_of indices.now) }
 {
-    let mut copies = Vec::new(alloc);
+    let mut copies = Vec::with_capacity(alloc, indices.len())?;
     for index in indices {
         copies.push(index.copy(alloc)?)?;
     }

@@ -1,5 +1,5 @@
 // Laws of indices and of base polynomials: each is the contract of a function that does nothing.
-ghost use Rattle.base_poly.specs.Laws.{IndicesAreListed, TypesHaveZero, BaseByValue, BinomialsAreBase};
+ghost use Rattle.base_poly.specs.Laws.{IndicesAreListed, TypesHaveZero, BaseByValue, BinomialsAreBase, BaseIsBounded};
 ghost use Rattle.base_poly.specs.Example.{Examples};
 
 /// The tuples of a context up to a degree have one list in order.
@@ -20,6 +20,11 @@ pub fn base_by_value()
 /// On integers a list index is a binomial coefficient.
 pub fn binomials()
     ensures { BinomialsAreBase }
+{}
+
+/// Base polynomials are bounded by powers of the number of cells.
+pub fn base_is_bounded()
+    ensures { BaseIsBounded }
 {}
 
 /// Small indices, sums and products are what was worked out by hand.

@@ -1,12 +1,12 @@
 // Lists of all indices up to a degree.
-ghost use Rattle.std.specs.Prelude.{◌≡◌, ◌<◌, ◌≤◌, ◌+◌, ◌-◌, [], ◌∷◌, ◌++◌, All, map, filter, length, nat_eq, vec_len, IfOk, OnOk, IsErrOf};
+ghost use Rattle.std.specs.Prelude.{◌≡◌, ◌<◌, ◌≤◌, ◌+◌, ◌-◌, [], ◌∷◌, ◌++◌, All, map, filter, not, length, nat_eq, vec_len, IfOk, OnOk, IsErrOf};
 ghost use Rattle.raml_syntax.specs.Read.{ty_of};
 ghost use Rattle.base_poly.specs.Plain.{Unit', Pair, many, deg, degrees};
 ghost use Rattle.base_poly.specs.Indices.{led_by, pairs_led, lists, indices_up_to, tuples_up_to, index_list, ListsTuples};
 ghost use Rattle.base_poly.specs.Read.{index_of, plains_of, context_of};
 
 use crate::fault::IndexFault;
-use crate::index::Index;
+use crate::index::{Index, copy_all};
 use crate::tuple::{Tuple, lead_all};
 use raml_syntax::Ty;
 use std::alloc::{AllocError, Global};
@@ -21,71 +21,99 @@ pub fn indices(alloc: Global, types: &[Ty], d: u8, most: usize) -> Result<Vec<Tu
     ensures few { OnOk result (length (index_list (context_of types.now) d) ≤ most) }
     ensures many { IsErrOf result IndexFault.TooMany → most < length (index_list (context_of types.now) d) }
 {
-    let found = tuples_up_to(alloc, types, u32::from(d), most)?;
-    let mut ordered = Vec::new(alloc);
+    let mut found = tuples_up_to(alloc, types, u32::from(d), most)?;
+    let mut ordered = Vec::with_capacity(alloc, found.len())?;
     for degree in 0..u32::from(d) + 1 {
-        append_of_degree(alloc, &mut ordered, &found, degree)?;
+        found = take_degree(alloc, &mut ordered, found, degree)?;
     }
     Ok(ordered)
 }
 
-// Appends those of this degree.
-fn append_of_degree(
+// Moves the tuples of this degree behind those in order, and gives back the others.
+fn take_degree(
     alloc: Global,
     ordered: &mut Vec<Tuple>,
-    found: &[Tuple],
+    found: Vec<Tuple>,
     degree: u32,
-) -> Result<(), AllocError>
-    requires { All (λ t. degrees t ≤ 255) found.now }
-    ensures { OnOk result (ordered.new.items ≡ ordered.old.items ++ filter (λ t. nat_eq (degrees t) degree) found.now) }
+) -> Result<Vec<Tuple>, AllocError>
+    requires { All (λ t. degrees t ≤ 255) found.items }
+    ensures moved { OnOk result (ordered.new.items ≡ ordered.old.items ++ filter (λ t. nat_eq (degrees t) degree) found.items) }
+    ensures left { IfOk result (λ left. left.items ≡ filter (λ t. not (nat_eq (degrees t) degree)) found.items) }
 {
+    let mut left = Vec::new(alloc);
     for tuple in found {
         if tuple.degree() == degree {
-            ordered.push(tuple.copy(alloc)?)?;
+            ordered.push(tuple)?;
+        } else {
+            left.push(tuple)?;
         }
     }
-    Ok(())
+    Ok(left)
 }
 
 // All tuples of these types, component by component.
-#[cycle(of_types)]
 fn tuples_up_to(alloc: Global, types: &[Ty], d: u32, most: usize) -> Result<Vec<Tuple>, IndexFault>
     ensures all { IfOk result (λ found. found.items ≡ tuples_up_to (context_of types.now) d) }
-    ensures few { IfOk result (λ found. vec_len found ≤ most) }
     ensures many { IsErrOf result IndexFault.TooMany → most < length (tuples_up_to (context_of types.now) d) }
-{
-    match types {
-        [] => only_empty(alloc, most),
-        [first, rest @ ..] => tuples_led(alloc, first, rest, d, most),
-    }
-}
-
-// All tuples of the first type and the rest.
-#[cycle(of_types)]
-fn tuples_led(
-    alloc: Global,
-    first: &Ty,
-    rest: &[Ty],
-    d: u32,
-    most: usize,
-) -> Result<Vec<Tuple>, IndexFault>
-    ensures all { IfOk result (λ found. found.items ≡ led_by (tuples_up_to (context_of rest.now)) d (indices_up_to (ty_of first.now) d)) }
     ensures few { IfOk result (λ found. vec_len found ≤ most) }
-    ensures many { IsErrOf result IndexFault.TooMany → most < length (led_by (tuples_up_to (context_of rest.now)) d (indices_up_to (ty_of first.now) d)) }
 {
-    let heads = indices_up_to(alloc, first, d, most)?;
     let mut found = Vec::new(alloc);
-    for head in &heads {
-        append_tuples(alloc, &mut found, head, rest, d, most)?;
-    }
+    append_tuples(alloc, &mut found, &mut Vec::new(alloc), types, d, most)?;
     Ok(found)
 }
 
-// Appends the index before each tuple of the rest that leaves the degree at most `d`.
+// Appends all tuples of these types behind the indices `before`, component by component.
 #[cycle(of_types)]
 fn append_tuples(
     alloc: Global,
     found: &mut Vec<Tuple>,
+    before: &mut Vec<Index>,
+    types: &[Ty],
+    d: u32,
+    most: usize,
+) -> Result<(), IndexFault>
+    requires { vec_len found.old ≤ most }
+    ensures all { OnOk result (found.new.items ≡ found.old.items ++ map (λ t. plains_of before.old.items ++ t) (tuples_up_to (context_of types.now) d)) }
+    ensures kept { OnOk result (before.new.items ≡ before.old.items) }
+    ensures few { OnOk result (vec_len found.new ≤ most) }
+    ensures many { IsErrOf result IndexFault.TooMany → most < length found.old.items + length (tuples_up_to (context_of types.now) d) }
+{
+    match types {
+        [] => append_tuple(alloc, found, before, most),
+        [first, rest @ ..] => append_led(alloc, found, before, first, rest, d, most),
+    }
+}
+
+// Appends those of the first type and the rest.
+#[cycle(of_types)]
+fn append_led(
+    alloc: Global,
+    found: &mut Vec<Tuple>,
+    before: &mut Vec<Index>,
+    first: &Ty,
+    rest: &[Ty],
+    d: u32,
+    most: usize,
+) -> Result<(), IndexFault>
+    requires { vec_len found.old ≤ most }
+    ensures all { OnOk result (found.new.items ≡ found.old.items ++ map (λ t. plains_of before.old.items ++ t) (led_by (tuples_up_to (context_of rest.now)) d (indices_up_to (ty_of first.now) d))) }
+    ensures kept { OnOk result (before.new.items ≡ before.old.items) }
+    ensures few { OnOk result (vec_len found.new ≤ most) }
+    ensures many { IsErrOf result IndexFault.TooMany → most < length found.old.items + length (led_by (tuples_up_to (context_of rest.now)) d (indices_up_to (ty_of first.now) d)) }
+{
+    let heads = indices_up_to(alloc, first, d, most)?;
+    for head in &heads {
+        append_with(alloc, found, before, head, rest, d, most)?;
+    }
+    Ok(())
+}
+
+// Appends those that have this index behind `before`, and leave the degree at most `d`.
+#[cycle(of_types)]
+fn append_with(
+    alloc: Global,
+    found: &mut Vec<Tuple>,
+    before: &mut Vec<Index>,
     head: &Index,
     rest: &[Ty],
     d: u32,
@@ -93,12 +121,35 @@ fn append_tuples(
 ) -> Result<(), IndexFault>
     requires room { vec_len found.old ≤ most }
     requires low { deg (index_of head.now) ≤ d }
-    ensures all { OnOk result (found.new.items ≡ found.old.items ++ map (λ r. index_of head.now ∷ r) (tuples_up_to (context_of rest.now) (d - deg (index_of head.now)))) }
+    ensures all { OnOk result (found.new.items ≡ found.old.items ++ map (λ r. plains_of before.old.items ++ index_of head.now ∷ r) (tuples_up_to (context_of rest.now) (d - deg (index_of head.now)))) }
+    ensures kept { OnOk result (before.new.items ≡ before.old.items) }
     ensures few { OnOk result (vec_len found.new ≤ most) }
     ensures many { IsErrOf result IndexFault.TooMany → most < length found.old.items + length (tuples_up_to (context_of rest.now) (d - deg (index_of head.now))) }
 {
-    let rests = tuples_up_to(alloc, rest, d - head.degree(), most)?;
-    append_led(alloc, found, head, &rests, most)
+    let place = before.len();
+    before.push(head.copy(alloc)?)?;
+    append_tuples(alloc, found, before, rest, d - head.degree(), most)?;
+    before.truncate(place);
+    Ok(())
+}
+
+// Appends the tuple of these indices.
+fn append_tuple(
+    alloc: Global,
+    found: &mut Vec<Tuple>,
+    parts: &[Index],
+    most: usize,
+) -> Result<(), IndexFault>
+    requires { vec_len found.old ≤ most }
+    ensures all { OnOk result (found.new.items ≡ found.old.items ++ plains_of parts.now ∷ []) }
+    ensures few { OnOk result (vec_len found.new ≤ most) }
+    ensures many { IsErrOf result IndexFault.TooMany → most < length found.old.items + 1 }
+{
+    if found.len() == most {
+        return Err(IndexFault::TooMany);
+    }
+    found.push(Tuple::new(copy_all(alloc, parts)?))?;
+    Ok(())
 }
 
 // The empty tuple alone.
@@ -116,7 +167,7 @@ fn only_empty(alloc: Global, most: usize) -> Result<Vec<Tuple>, IndexFault>
 }
 
 // Appends the index before each of the tuples.
-fn append_led(
+fn append_lists_led(
     alloc: Global,
     found: &mut Vec<Tuple>,
     first: &Index,
@@ -290,7 +341,7 @@ fn append_lists(
     ensures many { IsErrOf result IndexFault.TooMany → most < length found.old.items + length (lists (indices_up_to (ty_of element.now)) (d - deg (index_of head.now)) (d - deg (index_of head.now))) }
 {
     let rests = lists_up_to(alloc, element, d - head.degree(), most)?;
-    append_led(alloc, found, head, &rests, most)
+    append_lists_led(alloc, found, head, &rests, most)
 }
 
 // Each of them as a list index.

@@ -73,7 +73,7 @@ impl Tuple {
     pub fn led_by(&self, alloc: Global, first: &Index) -> Result<Tuple, AllocError>
         ensures { IfOk result (λ led. led ≡ index_of first.now ∷ self.now) }
     {
-        let mut parts = Vec::new(alloc);
+        let mut parts = Vec::with_capacity(alloc, self.parts.len() + 1)?;
         parts.push(first.copy(alloc)?)?;
         for part in &self.parts {
             parts.push(part.copy(alloc)?)?;

@@ -7,3 +7,4 @@ pub mod Placed
 pub mod Cuts
 pub mod Behind
 pub mod Listed
+pub mod Between

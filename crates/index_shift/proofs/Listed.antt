@@ -1,7 +1,6 @@
 -- The tuples of a context can be carried.
-use Rattle.std.proofs.Common.{◌≡◌, ◌≢◌, ℕ, zero, suc, ◌+◌, ◌<◌, ◌≤◌, List, [], ◌∷◌, ◌++◌, length, take, drop, get_or, slice_get, Some, All, Contains, Bor, refl, sym, ap, ◌∙◌, subst, arith}
+use Rattle.std.proofs.Common.{◌≡◌, ◌≢◌, ℕ, zero, suc, ◌+◌, ◌<◌, ◌≤◌, List, [], ◌∷◌, ◌++◌, length, take, drop, get_or, slice_get, Some, All, Bor, refl, sym, ap, ◌∙◌, subst, arith}
 use Rattle.std.proofs.lemmas.List.{length-map}
-use Rattle.std.proofs.lemmas.List.Elements.{All-weaker, All-contains_itself}
 use Rattle.std.proofs.lemmas.Option.{slice_get_within}
 use Rattle.raml_syntax.specs.declared.ty.Ty.{Ty}
 use Rattle.raml_syntax.specs.Tree.{Type'}
@@ -9,15 +8,11 @@ use Rattle.raml_syntax.specs.Read.{ty_of}
 use Rattle.base_poly.specs.Plain.{Plain, degrees}
 use Rattle.base_poly.specs.Indices.{AreIndices, index_list}
 use Rattle.base_poly.specs.Read.{context_of}
-use Rattle.base_poly.proofs.Exact.{exact}
+use Rattle.base_poly.proofs.Exact.{each_listed}
 use Rattle.index_shift.specs.Maps.{in_place, none, twice, type_at}
 use Rattle.index_shift.specs.Read.{CanCarryFirst, CanCarry}
 use Rattle.index_shift.specs.declared.carry.Carry.TheVariants.{Open, Leave, Join}
 use Rattle.index_shift.proofs.Behind.{context_in_place}
-
-listed : (P : List Plain → Type 0) (As : List Type') (d : ℕ) → ((t : List Plain) → AreIndices t As → degrees t ≤ d → P t) → All P (index_list As d)
-listed P As d h =
-    All-weaker (Contains (index_list As d)) P (λ t m. let g = ((exact As d).exactly t).0 m in h t g.0 g.1) (index_list As d) (All-contains_itself (index_list As d))
 
 as_long : (t : List Plain) (As : List Type') → AreIndices t As → length t ≡ length As
 as_long [] [] h = refl
@@ -50,17 +45,17 @@ module _ (As : List Ty) (at d : ℕ) (there : at < length As) where
   within = subst (λ n. at < n) (sym (length-map As ty_of)) there
 
   pub can_open : (ty : Bor Ty) → All (CanCarry (Open ty) at) (index_list (context_of As) d)
-  can_open ty = listed (CanCarry (Open ty) at) (context_of As) d (λ t h low.
+  can_open ty = each_listed (CanCarry (Open ty) at) (context_of As) d (λ t h low.
       let below = subst (λ n. at < n) (sym (as_long t (context_of As) h)) within in (below, open_first ty at t below))
 
   pub can_leave : d ≤ 4 → All (CanCarry Leave at) (index_list (context_of As) d)
-  can_leave few = listed (CanCarry Leave at) (context_of As) d (λ t h low.
+  can_leave few = each_listed (CanCarry Leave at) (context_of As) d (λ t h low.
       let below = subst (λ n. at < n) (sym (as_long t (context_of As) h)) within in (below, leave_first at t below (omega (arith, low, few))))
 
   pub can_join : (Bs : List Type') → Bs ≡ in_place at twice (context_of As) → d ≤ 4 → All (CanCarry Join at) (index_list Bs d)
   can_join Bs same few =
       subst (λ Cs. All (CanCarry Join at) (index_list Cs d)) (sym same)
-      (listed (CanCarry Join at) (in_place at twice (context_of As)) d (λ t h low. join_first at (context_of As) t within h (omega (arith, low, few))))
+      (each_listed (CanCarry Join at) (in_place at twice (context_of As)) d (λ t h low. join_first at (context_of As) t within h (omega (arith, low, few))))
 
 pub changed : (f : Type' → List Type') (As parts whole : List Ty) (at : ℕ) (A : Ty) → at < length As → A ≡ get_or As at A → context_of parts ≡ f (ty_of A) →
     context_of whole ≡ context_of (take at As) ++ (context_of parts ++ context_of (drop (at + 1) As)) → context_of whole ≡ in_place at f (context_of As)

@@ -1,5 +1,5 @@
 -- What the maps do to potential.
-use Rattle.std.specs.Prelude.{◌≡◌, ◌≢◌, ◌≤◌, ◌==◌, ℕ, if◌then◌else◌, List, [], slice_get, slice_index_or, Some}
+use Rattle.std.specs.Prelude.{◌≡◌, ◌≢◌, ◌≤◌, ◌<◌, ◌==◌, ℕ, if◌then◌else◌, List, [], All, length, slice_get, slice_index_or, Some}
 use Rattle.raml_syntax.specs.Tree.{Type'}
 use Rattle.raml_syntax.specs.Value.{Value, Has, Empty}
 use Rattle.base_poly.specs.Plain.{Unit', deg}
@@ -7,7 +7,7 @@ use Rattle.base_poly.specs.Indices.{index_list}
 use Rattle.base_poly.specs.Base.{bases}
 use Rattle.index_shift.specs.Parts.{type_parts, value_parts}
 use Rattle.index_shift.specs.Potential.{Annotation, weighed, potential, moved, Keeps}
-use Rattle.index_shift.specs.Maps.{in_place, none, twice, opening, leaving, sharing}
+use Rattle.index_shift.specs.Maps.{in_place, none, twice, Carry, entries, opening, leaving, sharing}
 use Rattle.index_shift.specs.declared.entry.Entry.{Entry}
 
 -- Among the values stands this one at the place, and it has the type there. Nothing is asked of the others.
@@ -53,3 +53,11 @@ LeavingLowers = (As : List Type') (at d : ℕ) (v : Value) → LowersRest (leavi
 
 abbrev pub SharingKeeps : Type 0
 SharingKeeps = (As : List Type') (at d : ℕ) (v : Value) → KeepsShared (sharing As at d) As at d v
+
+-- An entry goes from a position of the first context to one of the second.
+pub record IsBetween (As Bs : List Type') (d : ℕ) (e : Entry) : Type 0 where
+  pub from : e.from < length (index_list As d)
+  pub to : e.to < length (index_list Bs d)
+
+abbrev pub EntriesAreBetween : Type 0
+EntriesAreBetween = (c : Carry) (As Bs : List Type') (d : ℕ) → All (IsBetween As Bs d) (entries c As Bs d)

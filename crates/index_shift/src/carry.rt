@@ -124,7 +124,7 @@ fn with_index(
 ) -> Result<Tuple, AllocError>
     ensures { IfOk result (λ tuple. tuple ≡ plains_of before.now ++ (index_of index.now ∷ plains_of after.now)) }
 {
-    let mut parts = Vec::new(alloc);
+    let mut parts = Vec::with_capacity(alloc, before.len() + 1 + after.len())?;
     append(alloc, &mut parts, before)?;
     parts.push(index.copy(alloc)?)?;
     append(alloc, &mut parts, after)?;
@@ -139,7 +139,7 @@ fn between(
 ) -> Result<Tuple, AllocError>
     ensures { IfOk result (λ tuple. tuple ≡ plains_of before.now ++ (plains_of middle.now ++ plains_of after.now)) }
 {
-    let mut parts = Vec::new(alloc);
+    let mut parts = Vec::with_capacity(alloc, before.len() + middle.len() + after.len())?;
     append(alloc, &mut parts, before)?;
     append(alloc, &mut parts, middle)?;
     append(alloc, &mut parts, after)?;

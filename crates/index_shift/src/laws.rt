@@ -1,6 +1,11 @@
 // Laws of the maps: each is the contract of a function that does nothing.
 ghost use Rattle.index_shift.specs.Example.{Examples};
-ghost use Rattle.index_shift.specs.Laws.{OpeningKeeps, LeavingKeeps, LeavingKeepsZero, LeavingLowers, SharingKeeps};
+ghost use Rattle.index_shift.specs.Laws.{EntriesAreBetween, OpeningKeeps, LeavingKeeps, LeavingKeepsZero, LeavingLowers, SharingKeeps};
+
+/// The entries of each map go from positions of one context to positions of the other.
+pub fn entries_are_between()
+    ensures { EntriesAreBetween }
+{}
 
 /// Where a variable is taken apart, the potential stays.
 pub fn opening_keeps()

@@ -97,7 +97,7 @@ fn with_tail(alloc: Global, head: &Index, tail: &[Index]) -> Result<Tuple, Alloc
 fn list_of(alloc: Global, entries: &[Index]) -> Result<Index, AllocError>
     ensures { IfOk result (λ index. index_of index ≡ many (plains_of entries.now)) }
 {
-    let mut copies = Vec::new(alloc);
+    let mut copies = Vec::with_capacity(alloc, entries.len())?;
     append(alloc, &mut copies, entries)?;
     Ok(Index::List(copies))
 }

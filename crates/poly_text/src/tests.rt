@@ -83,12 +83,58 @@ fn sums_are_in_order(rt: HostRuntime) -> Result<(), Fail> {
     assert_eq!(rt; constant.as_str(), "3");
     let nothing = of_three(alloc, 7, [0, 0, 0])?;
     assert_eq!(rt; nothing.as_str(), "0");
-    let sorting = of_three(alloc, 1, [0, 2, 3])?;
-    assert_eq!(rt; sorting.as_str(), "2*<[_]> + 3*<[_, _]>");
     let half = of_three(alloc, 2, [0, 1, 0])?;
     assert_eq!(rt; half.as_str(), "1/2*<[_]>");
     let mixed = of_three(alloc, 4, [6, 8, 1])?;
     assert_eq!(rt; mixed.as_str(), "3/2 + 2*<[_]> + 1/4*<[_, _]>");
+    Ok(())
+}
+
+// The tuple of a list index with a unit, and of an empty one.
+fn one_and_none(alloc: Global) -> Result<Tuple, AllocError>
+    ensures { IfOk result (λ made. degrees made ≡ 1) }
+{
+    let entry = Tuple::new(Vec::new(alloc))
+        .led_by(alloc, &Index::Unit)?
+        .into_list();
+    none(alloc)?.led_by(alloc, &entry)
+}
+
+// The tuple of a unit, and of a list index with a unit.
+fn unit_and_one(alloc: Global) -> Result<Tuple, AllocError>
+    ensures { IfOk result (λ made. degrees made ≡ 1) }
+{
+    one(alloc)?.led_by(alloc, &Index::Unit)
+}
+
+// The text of a constant and the term.
+fn with_constant(
+    alloc: Global,
+    constant: u32,
+    number: u32,
+    tuple: Tuple,
+) -> Result<String, AllocError>
+    requires { degrees tuple < 2 ^ 32 }
+{
+    let mut terms = Vec::new(alloc);
+    add(&mut terms, tuple, number)?;
+    add(&mut terms, none(alloc)?, constant)?;
+    text_of(alloc, 1, terms)
+}
+
+#[test]
+fn costs_of_lists_are_printed(rt: HostRuntime) -> Result<(), Fail> {
+    let alloc = rt.alloc();
+    let append = with_constant(alloc, 0, 1, one_and_none(alloc)?)?;
+    assert_eq!(rt; append.as_str(), "1*<[_], []>");
+    let part_ticks = with_constant(alloc, 0, 1, unit_and_one(alloc)?)?;
+    assert_eq!(rt; part_ticks.as_str(), "1*<_, [_]>");
+    let part_cells = with_constant(alloc, 1, 2, unit_and_one(alloc)?)?;
+    assert_eq!(rt; part_cells.as_str(), "1 + 2*<_, [_]>");
+    let sort_ticks = of_three(alloc, 1, [0, 0, 1])?;
+    assert_eq!(rt; sort_ticks.as_str(), "1*<[_, _]>");
+    let sort_cells = of_three(alloc, 1, [0, 2, 3])?;
+    assert_eq!(rt; sort_cells.as_str(), "2*<[_]> + 3*<[_, _]>");
     Ok(())
 }
 
