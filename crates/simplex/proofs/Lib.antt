@@ -9,3 +9,4 @@ mod Listing
 mod Solves
 mod Tables
 mod Agreement
+mod Spelling

@@ -29,8 +29,8 @@ use std::alloc::{AllocError, Global};
 /// A tableau as sparse rows, with the basis column of each row, and the pivots that led to it.
 #[derive(Drop)]
 pub(crate) struct Table {
-    rows: Vec<FracRow>,
-    gains: FracRow,
+    pub(crate) rows: Vec<FracRow>,
+    pub(crate) gains: FracRow,
     basis: Vec<u32>,
     pivots: Vec<(u32, u32)>,
 }
@@ -81,7 +81,7 @@ fn stopped(fault: Fault) -> Result<Step, AllocError>
 }
 
 /// One step: a pivot by the rule, or how the course ends.
-fn make_step<F: Fn(&[Frac]) -> Option<usize>>(
+pub(crate) fn make_step<F: Fn(&[Frac]) -> Option<usize>>(
     alloc: Global,
     system: &System,
     chooser: &Chooser<F>,
@@ -114,7 +114,7 @@ fn make_step<F: Fn(&[Frac]) -> Option<usize>>(
 }
 
 /// The opening table of a system.
-fn opening(alloc: Global, system: &System) -> Result<Table, Fault>
+pub(crate) fn opening(alloc: Global, system: &System) -> Result<Table, Fault>
     requires { right system.now < 2 ^ 32 }
     ensures table { IfOk result (IsOpening system.now) }
     ensures leaves { (i c : ℕ) → result ≡ Err (Fault.Leaves i c) → entry (opening system.now) i c ≡ least_number }

@@ -8,7 +8,13 @@ use frac128::Frac;
 use linear_rows::{Row, System};
 use std::alloc::{AllocError, Global};
 use std::fmt::Write;
+use std::process::Abort;
 use std::test::Fail;
+
+mod entries;
+mod plain;
+mod tables;
+mod text;
 
 /// The least column with gain.
 fn least_column(gains: &[Frac]) -> Option<usize>
@@ -23,18 +29,20 @@ fn least_column(gains: &[Frac]) -> Option<usize>
     None
 }
 
-/// The last column with gain.
-fn last_column(gains: &[Frac]) -> Option<usize>
+/// The least of the columns with the greatest gain.
+fn greatest_column(gains: &[Frac]) -> Option<usize>
     ensures some { IfSome result (λ c. (c < length gains.now) × (pos 0 <ℤ numerator (slice_index_or gains.now c nought))) }
     ensures none { IfNone result ((c : ℕ) → c < length gains.now → numerator (slice_index_or gains.now c nought) ≤ℤ pos 0) }
 {
-    let mut last = None;
+    let mut greatest = None;
+    let mut most = Frac::zero();
     for c in 0..gains.len() {
-        if gains[c].num() > 0 {
-            last = Some(c);
+        if gains[c].num() > 0 && (greatest.is_none() || gains[c] > most) {
+            greatest = Some(c);
+            most = gains[c];
         }
     }
-    last
+    greatest
 }
 
 fn numbers(out: &mut String, name: &str, fracs: &[Frac]) -> Result<(), Fail> {
@@ -87,6 +95,27 @@ fn at_least_three(alloc: Global) -> Result<System, Fail> {
 fn never(alloc: Global) -> Result<System, Fail> {
     let mut system = System::new(1, Vec::new(alloc), vec![in alloc; 0]?);
     let mut row = Row::new(alloc);
+    row.add_right(1)?;
+    system.add_row(row)?;
+    Ok(system)
+}
+
+/// One unknown of weight 1, of which the row has -2^127.
+fn least_number(alloc: Global) -> Result<System, Fail> {
+    let mut system = System::new(1, Vec::new(alloc), vec![in alloc; 1]?);
+    let mut row = Row::new(alloc);
+    row.add(0, i128::MIN)?;
+    system.add_row(row)?;
+    Ok(system)
+}
+
+/// Three unknowns of weight 0, which add up to at least 1: all ratios tie.
+fn all_tied(alloc: Global) -> Result<System, Fail> {
+    let mut system = System::new(3, Vec::new(alloc), vec![in alloc; 0, 0, 0]?);
+    let mut row = Row::new(alloc);
+    row.add(0, 1)?;
+    row.add(1, 1)?;
+    row.add(2, 1)?;
     row.add_right(1)?;
     system.add_row(row)?;
     Ok(system)
@@ -158,6 +187,8 @@ fn small_systems(rt: HostRuntime) -> Result<(), Fail> {
     let cases = [
         (at_least_three(alloc)?, "best 3 dual 1 pivots 0:0"),
         (never(alloc)?, "none 1 pivots"),
+        (least_number(alloc)?, "leaves 0 0 pivots"),
+        (all_tied(alloc)?, "best 0 0 1 dual 0 pivots 2:0"),
         (two_rows(alloc)?, "best 6/5 8/5 dual 3/5 4/5 pivots 0:0 1:1"),
         (tied_rows(alloc)?, "best 1 1 dual 1 1 0 pivots 1:0 0:1"),
         (too_large(alloc)?, "leaves 5 4 pivots 0:0 2:2"),
@@ -169,20 +200,37 @@ fn small_systems(rt: HostRuntime) -> Result<(), Fail> {
     Ok(())
 }
 
+/// Solves a system with both rules.
+fn check_both(
+    rt: &impl Abort,
+    alloc: Global,
+    system: &System,
+    wants: [&str; 2],
+) -> Result<(), Fail> {
+    let least = Chooser::new(|gains: &[Frac]| least_column(gains));
+    let greatest = Chooser::new(|gains: &[Frac]| greatest_column(gains));
+    let (one, other) = agree(alloc, system, &least, &greatest)?;
+    assert_eq!(rt; show(alloc, &one)?.as_str(), wants[0]);
+    assert_eq!(rt; show(alloc, &other)?.as_str(), wants[1]);
+    Ok(())
+}
+
 #[test]
 fn choosers_agree(rt: HostRuntime) -> Result<(), Fail> {
     let alloc = rt.alloc();
-    let first = Chooser::new(|gains: &[Frac]| least_column(gains));
-    let last = Chooser::new(|gains: &[Frac]| last_column(gains));
-    let (one, other) = agree(alloc, &two_rows(alloc)?, &first, &last)?;
-    let shown = show(alloc, &one)?;
-    assert_eq!(rt; shown.as_str(), "best 6/5 8/5 dual 3/5 4/5 pivots 0:0 1:1");
-    let shown = show(alloc, &other)?;
-    assert_eq!(rt; shown.as_str(), "best 6/5 8/5 dual 3/5 4/5 pivots 1:1 0:0");
-    let (one, other) = agree(alloc, &never(alloc)?, &first, &last)?;
-    let shown = show(alloc, &one)?;
-    assert_eq!(rt; shown.as_str(), "none 1 pivots");
-    let shown = show(alloc, &other)?;
-    assert_eq!(rt; shown.as_str(), "none 1 pivots");
-    Ok(())
+    let three = "best 3 dual 1 pivots 0:0";
+    check_both(&rt, alloc, &at_least_three(alloc)?, [three, three])?;
+    let last = "best 0 0 1 dual 0 pivots 2:0";
+    check_both(&rt, alloc, &all_tied(alloc)?, [last, last])?;
+    check_both(
+        &rt,
+        alloc,
+        &two_rows(alloc)?,
+        [
+            "best 6/5 8/5 dual 3/5 4/5 pivots 0:0 1:1",
+            "best 6/5 8/5 dual 3/5 4/5 pivots 1:1 0:0",
+        ],
+    )?;
+    let none = "none 1 pivots";
+    check_both(&rt, alloc, &never(alloc)?, [none, none])
 }
