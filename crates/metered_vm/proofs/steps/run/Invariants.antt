@@ -10,7 +10,7 @@ abbrev pub invariant-loop-m : goal.invariant-loop-m
 invariant-loop-m l = record {
   state : state_of l.m ≡ after (bodies_of (program_of l.code)) (l.m.made - l.fn.m.made) (state_of l.fn.m);
   goes : Goes l.steps l.fn.m l.m;
-  sound : IsSound l.m
+  sound : IsSound l.m;
 }
 
 abbrev pub decreases-loop-m : goal.decreases-loop-m
