@@ -12,10 +12,9 @@ use Rattle.value_text.specs.declared.word.Cell.{Cell}
 use Rattle.value_text.proofs.Earlier.{earlier_added}
 use Rattle.value_text.proofs.Holding.{value_more, held_snoc, length_held, at_last}
 use Rattle.metered_vm.specs.declared.machine.Frame.{Frame}
-use Rattle.metered_vm.specs.declared.machine.Machine.{Machine}
-use Rattle.metered_vm.specs.Running.{values_of, stack_of, locals_below, frames_of, stack_in, locals_in, frames_in, state, AllBelow, Sound}
+use Rattle.metered_vm.specs.Running.{values_of, stack_of, locals_below, frames_of, state, AllBelow, Sound}
 use Rattle.metered_vm.specs.Moving.{acts}
-use Rattle.metered_vm.proofs.Lists.{stack_snoc, length_values, values_take, locals_append, frames_append, locals_take, frames_take, below_snoc, below_init_is, below_last_is, all_more}
+use Rattle.metered_vm.proofs.Lists.{stack_snoc, length_values, locals_append, frames_append, locals_take, frames_take, below_snoc, below_init_is, all_more}
 
 -- an instruction that adds no ticks and no cells
 pub same : (f p : ℕ) (st st' ls ls' : List Value) (fs fs' : List m.Frame) (a b n : ℕ) → st ≡ st' → ls ≡ ls' → fs ≡ fs' → ◌≡◌ {A = State} (state (Going f p st ls fs) a b n) (state (Going f p st' ls' fs') (a + 0) (b + 0) n)

@@ -3,7 +3,7 @@ use Rattle.std.proofs.Common.{◌≡◌, ℕ, zero, suc, ◌<◌, List, [], ◌�
 use Rattle.std.specs.Prelude.{slice_get, map}
 use Rattle.raml_syntax.specs.Tree.{Prog}
 use Rattle.stack_compile.specs.Code.{Body, body_of, bodies_of}
-use Rattle.stack_compile.specs.Machine.{State, act, fetch, fetch_in, step, moved}
+use Rattle.stack_compile.specs.Machine.{act, fetch, fetch_in, step, moved}
 use Rattle.stack_compile.specs.Read.{code_in, code_at}
 use Rattle.stack_compile.specs.Ready.{Finds, Ready}
 use Rattle.stack_compile.specs.declared.instr.Instr.{Instr}

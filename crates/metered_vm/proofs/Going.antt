@@ -1,5 +1,5 @@
 -- A machine that goes on.
-use Rattle.std.proofs.Common.{◌≡◌, ℕ, ◌+◌, ◌-◌, ◌≤◌, List, ◌++◌, sym, ap, subst, ◌∙◌, arith, append_assoc}
+use Rattle.std.proofs.Common.{◌≡◌, ℕ, ◌+◌, ◌-◌, ◌≤◌, List, ◌++◌, sym, ap, ◌∙◌, arith, append_assoc}
 use Rattle.value_text.specs.declared.word.Cell.{Cell}
 use Rattle.stack_compile.specs.Code.{Body}
 use Rattle.stack_compile.specs.Machine.{State, step, after}

@@ -1,5 +1,5 @@
 -- A machine keeps what is true of every machine.
-use Rattle.std.proofs.Common.{◌≡◌, ℕ, suc, ◌+◌, ◌-◌, ◌*◌, ◌<◌, ◌≤◌, ◌^◌, List, [], ◌∷◌, ◌++◌, length, Option, Some, None, refl, sym, ap, subst, ◌∙◌, arith, length-append}
+use Rattle.std.proofs.Common.{◌≡◌, ℕ, suc, ◌+◌, ◌-◌, ◌*◌, ◌<◌, ◌≤◌, List, [], ◌∷◌, length, Option, Some, None, refl, sym, ap, subst, ◌∙◌, arith, length-append}
 use Rattle.std.specs.Prelude.{Result, Ok, Err, IfOk, IfSome, slice_get}
 use Rattle.std.specs.List.{All}
 use Rattle.std.specs.declared.alloc.AllocError.{AllocError}
@@ -21,12 +21,11 @@ use Rattle.value_text.specs.Held.{value_of, held}
 use Rattle.value_text.specs.Stands.{StandForAll}
 use Rattle.value_text.specs.declared.word.Word.{Word}
 use Rattle.value_text.specs.declared.word.Cell.{Cell}
-use Rattle.value_text.proofs.Earlier.{below_more}
 use Rattle.value_text.proofs.Holding.{length_held, held_front}
 use Rattle.value_text.proofs.Standing.{stands_there, stands_word, stand_is}
 use Rattle.metered_vm.specs.Running.{values_of, AllBelow, IsSound, state_of, state_with}
 use Rattle.metered_vm.specs.Stepping.{Came, EndsAt, Goes, word_of}
-use Rattle.metered_vm.specs.Seen.{Seen, program_in, fun_in, cells_in, args_in, limit_in, word_in, state_in, HaveArguments, Kept, Begins, GoesOn}
+use Rattle.metered_vm.specs.Seen.{Seen, program_in, fun_in, cells_in, args_in, word_in, state_in, HaveArguments, Kept, Begins, GoesOn}
 use Rattle.metered_vm.specs.Ending.{HasHalted, Ended}
 use Rattle.metered_vm.specs.Keeping.{Holds}
 use Rattle.metered_vm.specs.declared.machine.Machine.{Machine}

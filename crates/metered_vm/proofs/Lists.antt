@@ -1,7 +1,6 @@
 -- What the lists of a machine stand for, as they grow and shrink.
-use Rattle.std.proofs.Common.{◌≡◌, ℕ, zero, suc, ◌+◌, ◌-◌, ◌<◌, ◌≤◌, List, [], ◌∷◌, ◌++◌, length, get_or, take, drop, refl, sym, ap, subst, ◌∙◌, arith, length-append, length-drop, length-take}
+use Rattle.std.proofs.Common.{◌≡◌, ℕ, zero, suc, ◌+◌, ◌<◌, ◌≤◌, List, [], ◌∷◌, ◌++◌, length, get_or, take, drop, refl, sym, ap, subst, ◌∙◌, arith, length-drop, length-take}
 use Rattle.std.proofs.lemmas.List.{take-append-drop, drop-drop}
-use Rattle.std.specs.Prelude.{map}
 use Rattle.raml_syntax.specs.Value.{Value}
 use Rattle.value_text.specs.declared.word.Word.{Word}
 use Rattle.value_text.specs.Heap.{IsBelow}

@@ -1,10 +1,9 @@
 -- Single instructions.
-use Rattle.std.specs.Prelude.{◌≡◌, ℕ, ◌+◌, List, [], ◌∷◌, Option, Some}
+use Rattle.std.specs.Prelude.{◌≡◌, ◌+◌, List, [], ◌∷◌, Option, Some}
 use Rattle.raml_syntax.specs.Value.{Value}
 use Rattle.raml_syntax.specs.declared.program.FunId.{FunId}
 use Rattle.value_text.specs.declared.word.Word.{Word}
 use Rattle.stack_compile.specs.Code.{Body}
-use Rattle.stack_compile.specs.Machine as m
 use Rattle.stack_compile.specs.Machine.{Config, Going, Halted, State, Move, act, moved}
 use Rattle.stack_compile.specs.Ready.{Finds}
 use Rattle.stack_compile.specs.declared.instr.Instr.{Instr}

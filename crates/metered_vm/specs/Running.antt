@@ -1,11 +1,10 @@
 -- What the machine's fields stand for.
-use Rattle.std.specs.Prelude.{◌≡◌, ◌≤◌, ◌<◌, ℕ, List, [], ◌∷◌, ◌++◌, length, map, take, drop, ◌+◌, ◌*◌, ◌^◌, Option, Some, None}
+use Rattle.std.specs.Prelude.{◌≡◌, ◌≤◌, ◌<◌, ℕ, List, [], ◌∷◌, ◌++◌, length, map, take, drop, ◌+◌, ◌^◌, Option, Some, None}
 use Rattle.raml_syntax.specs.Value.{Value}
 use Rattle.value_text.specs.Heap.{Heap, IsBelow, NameEarlier}
 use Rattle.value_text.specs.Held.{Held, value_of, held}
 use Rattle.value_text.specs.declared.word.Word.{Word}
 use Rattle.value_text.specs.declared.word.Cell.{Cell}
-use Rattle.stack_compile.specs.Code.{Body}
 use Rattle.stack_compile.specs.Machine as m
 use Rattle.stack_compile.specs.Machine.{Config, Going, Halted, State}
 use Rattle.metered_vm.specs.declared.machine.Frame.{Frame}

@@ -1,9 +1,9 @@
 -- Steps and runs.
-use Rattle.std.specs.Prelude.{◌≡◌, ℕ, ◌+◌, ◌*◌, ◌^◌, ◌<◌, ◌≤◌, List, length, Option, Some, None, Result, Ok, Err}
+use Rattle.std.specs.Prelude.{◌≡◌, ℕ, ◌*◌, ◌^◌, ◌<◌, ◌≤◌, List, length, Option, Some, None, Result, Ok}
 use Rattle.value_text.specs.Heap.{IsBelow}
 use Rattle.value_text.specs.declared.word.Word.{Word}
 use Rattle.stack_compile.specs.Code.{Body}
-use Rattle.stack_compile.specs.Machine.{State, fetch, step}
+use Rattle.stack_compile.specs.Machine.{fetch, step}
 use Rattle.metered_vm.specs.Running.{state_of, halted_of, IsFront, Grew, Stays}
 use Rattle.metered_vm.specs.Moving.{TakesCell}
 use Rattle.metered_vm.specs.declared.machine.Machine.{Machine}

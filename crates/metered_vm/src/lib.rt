@@ -11,3 +11,6 @@ mod vm;
 
 pub use end::End;
 pub use vm::Vm;
+
+#[cfg(test)]
+mod tests;

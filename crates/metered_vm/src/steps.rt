@@ -1,5 +1,5 @@
 // Steps and runs of a machine that goes on.
-ghost use Rattle.std.specs.Prelude.{◌≡◌, ℕ, ◌+◌, ◌-◌, ◌*◌, ◌^◌, ◌<◌, ◌≤◌, Some, IfOk, OnErr};
+ghost use Rattle.std.specs.Prelude.{◌≡◌, ℕ, ◌+◌, ◌-◌, ◌*◌, ◌^◌, ◌<◌, ◌≤◌, ◌↔◌, Some, IsTrue, IfOk, OnErr};
 ghost use Rattle.raml_syntax.specs.Read.{program_of};
 ghost use Rattle.stack_compile.specs.Code.{bodies_of};
 ghost use Rattle.stack_compile.specs.Machine.{fetch, after};
@@ -37,6 +37,13 @@ fn fetch(code: &Code, fun: FunId, place: usize) -> Instr
     code.body(fun)[place]
 }
 
+/// Whether no cell is left.
+fn is_full(m: &Machine) -> bool
+    ensures { IsTrue result ↔ (m.now.cells ≡ m.now.limit) }
+{
+    m.cells == m.limit
+}
+
 /// Makes the next instruction.
 #[tactic(auto, using(crate::proofs::Fetching::step_is, crate::proofs::Fetching::finds_at, crate::proofs::Fetching::there_at))]
 fn step(code: &Code, m: &mut Machine) -> Result<Outcome, AllocError>
@@ -62,19 +69,19 @@ fn step(code: &Code, m: &mut Machine) -> Result<Outcome, AllocError>
         Instr::Compare(op) => acts::compare(m, op),
         Instr::Not => acts::negate(m),
         Instr::Pair => {
-            if m.cells == m.limit {
+            if is_full(m) {
                 return Ok(Outcome::Full);
             }
             acts::pair(m);
         }
         Instr::Cons => {
-            if m.cells == m.limit {
+            if is_full(m) {
                 return Ok(Outcome::Full);
             }
             acts::cons(m);
         }
         Instr::Node => {
-            if m.cells == m.limit {
+            if is_full(m) {
                 return Ok(Outcome::Full);
             }
             acts::node(m);

@@ -1,5 +1,5 @@
 use Rattle.std.proofs.Common.{[], drop, ◌∷◌, ◌++◌, length, refl, ap, subst, sym, ◌∙◌}
-use Rattle.value_text.specs.Held.{value_of, held}
+use Rattle.value_text.specs.Held.{held}
 use Rattle.stack_compile.specs.Ready.{TopIs, IsTree}
 use Rattle.stack_compile.specs.declared.instr.Instr.TheVariants as i
 use Rattle.metered_vm.specs.Running.{values_of, stack_of, frames_of, AllBelow, Sound}

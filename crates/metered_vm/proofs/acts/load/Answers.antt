@@ -1,4 +1,4 @@
-use Rattle.std.proofs.Common.{◌≡◌, ◌+◌, ◌<◌, ◌∷◌, length, refl, sym, ap, ◌∙◌, arith, length-drop}
+use Rattle.std.proofs.Common.{◌+◌, ◌<◌, ◌∷◌, length, refl, sym, ap, ◌∙◌, arith, length-drop}
 use Rattle.value_text.specs.Held.{held}
 use Rattle.std.proofs.lemmas.Result.{on_ok_weaker}
 use Rattle.metered_vm.specs.Running.{values_of, stack_in}

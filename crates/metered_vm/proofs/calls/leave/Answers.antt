@@ -1,4 +1,4 @@
-use Rattle.std.proofs.Common.{◌≡◌, ◌+◌, ◌-◌, ◌≤◌, [], ◌∷◌, ◌++◌, length, refl, ap, subst, sym, ◌∙◌, arith, length-take}
+use Rattle.std.proofs.Common.{◌+◌, [], length, refl, ap, subst, sym, ◌∙◌, arith, length-take}
 use Rattle.value_text.specs.Held.{value_of, held}
 use Rattle.stack_compile.specs.Machine.{Going}
 use Rattle.stack_compile.specs.declared.instr.Instr.TheVariants as i

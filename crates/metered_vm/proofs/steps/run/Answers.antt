@@ -1,7 +1,6 @@
 use Rattle.std.proofs.Common.{◌∙◌, arith}
 use Rattle.raml_syntax.specs.Read.{program_of}
 use Rattle.stack_compile.specs.Code.{bodies_of}
-use Rattle.metered_vm.specs.Running.{state_of, halted_of}
 use Rattle.metered_vm.proofs.Going.{after_more, front_on}
 use Rattle.metered_vm.proofs.steps.run.Goals as goal
 
