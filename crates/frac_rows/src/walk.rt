@@ -22,7 +22,7 @@ pub(crate) fn merged(
 {
     let mut row = row;
     let mut lead = lead;
-    let mut all = Vec::new(alloc);
+    let mut all = Vec::with_capacity(alloc, row.len().saturating_add(lead.len()))?;
     while let Some(column) = least(row, lead) {
         let (x, row_rest) = take(row, column);
         let (q, lead_rest) = take(lead, column);

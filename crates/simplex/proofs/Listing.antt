@@ -1,10 +1,11 @@
 -- Lists of fractions that are made one by one.
-use Rattle.std.proofs.Common.{◌≡◌, ◌≢◌, refl, sym, ap, subst, ◌∙◌, ℕ, zero, suc, ◌+◌, ◌-◌, ◌<◌, ◌≤◌, ℤ, pos, arith, List, [], ◌∷◌, ◌++◌, length, get_or, set, ◌⊎◌, inl, inr}
+use Rattle.std.proofs.Common.{◌≡◌, ◌≢◌, refl, sym, ap, subst, ◌∙◌, ℕ, zero, suc, ◌+◌, ◌-◌, ◌<◌, ◌≤◌, ℤ, pos, arith, List, [], ◌∷◌, ◌++◌, length, get_or, set, take, true, false, ◌==◌, if◌then◌else◌, ◌⊎◌, inl, inr}
+use Rattle.std.proofs.lemmas.Bool.Decides.{nat_tests}
 use lib.ListN.{length-append}
 use Rattle.frac128.specs.declared.Frac.{Frac}
 use Rattle.frac128.specs.Values.{numerator, denominator}
-use Rattle.frac_rows.specs.Entries.{nought}
-use Rattle.simplex.specs.Reading.{frac_at, column_at, HaveParts, NoneTwice, IsSpreadTo}
+use Rattle.frac_rows.specs.Entries.{Entries, at, nought, SparseFrom}
+use Rattle.simplex.specs.Reading.{frac_at, column_at, HaveParts, AreEntries, NoneTwice, IsSpreadTo, IsPut}
 
 appended_before : (xs : List Frac) (x : Frac) (i : ℕ) → i < length xs → frac_at (xs ++ x ∷ []) i ≡ frac_at xs i
 appended_before [] x i h = absurd (omega arith)
@@ -77,3 +78,85 @@ spread_skip k n cs xs ys past h = record {
   elsewhere = λ c q f. h.elsewhere c q (λ i l e. f i (omega arith) e);
   whole = λ c q f. h.whole c q (λ i l e. f i (omega arith) e);
 }
+
+-- one entry more
+abbrev pub entry_column : Entries → ℕ → ℕ
+entry_column es i = let e = get_or es i (0, nought) in e.0
+
+abbrev pub entry_number : Entries → ℕ → Frac
+entry_number es i = let e = get_or es i (0, nought) in e.1
+
+column_after : (b : ℕ) (es : Entries) (k : ℕ) → SparseFrom b es → k < length es → b ≤ entry_column es k
+column_after b [] k s h = absurd (omega arith)
+column_after b (e ∷ es) zero s h = s.0
+column_after b (e ∷ es) (suc k) s h = let l = s.0 in let m = column_after (suc e.0) es k s.2 (omega arith) in omega arith
+
+more_here : (b : ℕ) (es : Entries) (k : ℕ) → SparseFrom b es → k < length es → at (entry_column es k) (take (suc k) es) ≡ entry_number es k
+more_here b [] k s h = absurd (omega arith)
+more_here b (e ∷ es) zero s h = let t : (e.0 == e.0) ≡ true = grind (arith, nat_tests) in rw t refl
+more_here b (e ∷ es) (suc k) s h =
+    let m = column_after (suc e.0) es k s.2 (omega arith) in
+    let t : (e.0 == entry_column es k) ≡ false = grind (arith, nat_tests) in
+    rw t (more_here (suc e.0) es k s.2 (omega arith))
+
+more_there : (es : Entries) (k c : ℕ) → k < length es → entry_column es k ≢ c → at c (take (suc k) es) ≡ at c (take k es)
+more_there [] k c h n = absurd (omega arith)
+more_there (e ∷ es) zero c h n = let t : (e.0 == c) ≡ false = grind (arith, nat_tests) in rw t refl
+more_there (e ∷ es) (suc k) c h n = ap (λ (y : Frac). if e.0 == c then e.1 else y) (more_there es k c (omega arith) n)
+
+same_or_not : (a b : ℕ) → (a ≡ b) ⊎ (a ≢ b)
+same_or_not a b = grind arith
+
+pub entry_put : (first n k j : ℕ) (es : Entries) (xs : List Frac) → SparseFrom 0 es → k < length es → first + j ≡ entry_column es k → j < n → AreEntries first n (take k es) xs → AreEntries first n (take (k + 1) es) (set xs j (entry_number es k))
+entry_put first n k j es xs s inside here below h = subst (λ (m : ℕ). AreEntries first n (take m es) (set xs j (entry_number es k))) (let e : suc k ≡ k + 1 = omega arith in e) (record {
+  count = length-set xs j (entry_number es k) ∙ h.count;
+  nums = λ i q. elim (same_or_not i j) [
+    | inl e ↦ ap numerator (ap (frac_at (set xs j (entry_number es k))) e ∙ set_here xs j (entry_number es k) (let c = h.count in omega arith)) ∙ sym (ap numerator (ap (λ (c : ℕ). at c (take (suc k) es)) (ap (λ (z : ℕ). first + z) e ∙ here) ∙ more_here 0 es k s inside))
+    | inr d ↦ ap numerator (set_there xs j i (entry_number es k) d) ∙ h.nums i q ∙ sym (ap numerator (more_there es k (first + i) inside (λ e. d (omega arith))))
+  ];
+  dens = λ i q. elim (same_or_not i j) [
+    | inl e ↦ ap denominator (ap (frac_at (set xs j (entry_number es k))) e ∙ set_here xs j (entry_number es k) (let c = h.count in omega arith)) ∙ sym (ap denominator (ap (λ (c : ℕ). at c (take (suc k) es)) (ap (λ (z : ℕ). first + z) e ∙ here) ∙ more_here 0 es k s inside))
+    | inr d ↦ ap denominator (set_there xs j i (entry_number es k) d) ∙ h.dens i q ∙ sym (ap denominator (more_there es k (first + i) inside (λ e. d (omega arith))))
+  ];
+})
+
+pub entry_skip : (first n k : ℕ) (es : Entries) (xs : List Frac) → k < length es → ((i : ℕ) → i < n → entry_column es k ≢ first + i) → AreEntries first n (take k es) xs → AreEntries first n (take (k + 1) es) xs
+entry_skip first n k es xs inside elsewhere h = subst (λ (m : ℕ). AreEntries first n (take m es) xs) (let e : suc k ≡ k + 1 = omega arith in e) (record {
+  count = h.count;
+  nums = λ i q. h.nums i q ∙ sym (ap numerator (more_there es k (first + i) inside (elsewhere i q)));
+  dens = λ i q. h.dens i q ∙ sym (ap denominator (more_there es k (first + i) inside (elsewhere i q)));
+})
+
+pub set_past : (xs : List Frac) (j : ℕ) (x : Frac) → length xs ≤ j → set xs j x ≡ xs
+set_past [] j x h = refl
+set_past (y ∷ xs) zero x h = absurd (omega arith)
+set_past (y ∷ xs) (suc j) x h = ap (λ (zs : List Frac). y ∷ zs) (set_past xs j x (omega arith))
+
+below_or_from : (m n : ℕ) → (m < n) ⊎ ((j : ℕ) × (n + j ≡ m))
+below_or_from m n = elim (compared m n) [
+  | inl l ↦ inl l
+  | inr g ↦ inr (m - n, omega arith)
+]
+  where
+    compared : (m n : ℕ) → (m < n) ⊎ (n ≤ m)
+    compared m n = grind arith
+
+less_or_not : (m n : ℕ) → (m < n) ⊎ (n ≤ m)
+less_or_not m n = grind arith
+
+pub entry_next : (first n k : ℕ) (es : Entries) (xs ys : List Frac) → SparseFrom 0 es → k < length es → IsPut first (entry_column es k) (entry_number es k) xs ys → AreEntries first n (take k es) xs → AreEntries first n (take (k + 1) es) ys
+entry_next first n k es xs ys s inside put h = elim (below_or_from (entry_column es k) first) [
+  | inl l ↦ subst (AreEntries first n (take (k + 1) es)) (sym (put.before l)) (entry_skip first n k es xs inside (λ i q e. omega arith) h)
+  | inr f ↦ subst (AreEntries first n (take (k + 1) es)) (sym (put.here f.0 f.1)) (elim (less_or_not f.0 n) [
+    | inl l ↦ entry_put first n k f.0 es xs s inside f.1 l h
+    | inr g ↦ subst (AreEntries first n (take (k + 1) es)) (sym (set_past xs f.0 (entry_number es k) (let c = h.count in omega arith))) (entry_skip first n k es xs inside (λ i q e. let d = f.1 in omega arith) h)
+  ])
+]
+
+same_entry : (es : Entries) (k : ℕ) (d e : ℕ × Frac) → k < length es → get_or es k d ≡ get_or es k e
+same_entry [] k d e h = absurd (omega arith)
+same_entry (x ∷ es) zero d e h = refl
+same_entry (x ∷ es) (suc k) d e h = same_entry es k d e (omega arith)
+
+pub entry_next_of : (first n k : ℕ) (es : Entries) (xs ys : List Frac) (d e : ℕ × Frac) → SparseFrom 0 es → k < length es → IsPut first (let z = get_or es k d in z.0) (let z = get_or es k e in z.1) xs ys → AreEntries first n (take k es) xs → AreEntries first n (take (k + 1) es) ys
+entry_next_of first n k es xs ys d e s inside put h = entry_next first n k es xs ys s inside (subst (λ (z : ℕ × Frac). IsPut first z.0 (entry_number es k) xs ys) (same_entry es k d (0, nought) inside) (subst (λ (z : ℕ × Frac). IsPut first (let w = get_or es k d in w.0) z.1 xs ys) (same_entry es k e (0, nought) inside) put)) h

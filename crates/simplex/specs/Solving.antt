@@ -9,7 +9,6 @@ use Rattle.linear_rows.specs.Vectors.{dot}
 use Rattle.tableau.specs.Tableaux.{Tableau, opening, slacks, solution, dual, ray}
 use Rattle.tableau.specs.Courses.{Rule, Course, Ends, Rises, Follows, Answers, Refuses}
 use Rattle.tableau.specs.Laws.{ProvesLeast}
-use Rattle.simplex.specs.declared.chooser.Chooser.{Chooser}
 use Rattle.simplex.specs.declared.answer.Answer.{Answer}
 use Rattle.simplex.specs.declared.answer.Answer.TheVariants.{Best, NoSolution, Leaves}
 use Rattle.simplex.specs.declared.solver.Table.{Table}
@@ -23,8 +22,8 @@ abbrev pub rule_over : (List Frac → Option ℕ → Type 0) → Rule
 rule_over answers ns d o = (fs : List Frac) × AreOver d ns fs × answers fs o
 
 -- the rule that the chooser keeps
-abbrev pub rule_of : {F : Type 0} → Shared F (Bor (List Frac) × Unit {0}) (Option ℕ) → Chooser F → Rule
-rule_of g chooser = rule_over (FnReturnsAt g chooser.rule)
+abbrev pub rule_of : {F : Type 0} → Shared F (Bor (List Frac) × Unit {0}) (Option ℕ) → F → Rule
+rule_of g rule = rule_over (FnReturnsAt g rule)
 
 -- these pivots lead to t, and the rows, the gains and the basis are those of t
 pub record IsAfter (s : LinearSystem) (pivots : List (ℕ × ℕ)) (basis : List ℕ) (rows : List Entries) (gains : Entries) (t : Tableau) : Type 0 where

@@ -2,9 +2,9 @@
 
 ghost use Rattle.std.specs.Prelude.{◌≡◌, ◌+◌, ◌≤◌, ◌<◌, ◌^◌, ℕ, length, pos, neg_ℤ, IfOk};
 ghost use Rattle.frac128.specs.Values.{numerator, denominator};
-ghost use Rattle.frac_rows.specs.Entries.{at};
+ghost use Rattle.frac_rows.specs.Entries.{at, IsSparse};
 ghost use Rattle.simplex.specs.Standing.{entries_at};
-ghost use Rattle.simplex.specs.Reading.{HaveParts, NoneTwice, IsSpreadTo, frac_at};
+ghost use Rattle.simplex.specs.Reading.{HaveParts, NoneTwice, AreEntries, IsSpreadTo, IsPut, frac_at};
 
 use frac_rows::FracRow;
 use frac128::Frac;
@@ -18,13 +18,33 @@ pub(crate) fn fractions(
     count: u32,
 ) -> Result<Vec<Frac>, AllocError>
     requires { first + count < 2 ^ 32 }
-    ensures { IfOk result (λ xs. HaveParts count (λ i. numerator (at (first + i) row.now)) (λ i. denominator (at (first + i) row.now)) xs.items) }
+    ensures { IfOk result (λ xs. AreEntries first count row.now xs.items) }
 {
-    let mut all = Vec::new(alloc);
-    for i in 0..count {
-        all.push(row.at(first + i))?;
-    }
+    let mut all = zeros(alloc, count as usize)?;
+    fill(&mut all, first, row.entries());
     Ok(all)
+}
+
+/// Puts each entry at its column's place, counted from `first`, among fractions that are 0.
+fn fill(all: &mut [Frac], first: u32, entries: &[(u32, Frac)])
+    requires sparse { IsSparse entries.now }
+    requires zeros { HaveParts (length all.old) (λ _. pos 0) (λ _. 1) all.old }
+    ensures { AreEntries first (length all.old) entries.now all.new }
+{
+    for i in 0..entries.len() {
+        put(all, first, entries[i].0, entries[i].1);
+    }
+}
+
+/// Puts a number at its column's place, counted from `first`, where it has one.
+fn put(all: &mut [Frac], first: u32, column: u32, number: Frac)
+    ensures { IsPut first column number all.old all.new }
+{
+    if let Some(place) = column.checked_sub(first) {
+        if (place as usize) < all.len() {
+            all[place as usize] = number;
+        }
+    }
 }
 
 /// The fractions of the rows at a column.
@@ -79,7 +99,7 @@ pub(crate) fn spread(
 fn zeros(alloc: Global, count: usize) -> Result<Vec<Frac>, AllocError>
     ensures { IfOk result (λ xs. HaveParts count (λ _. pos 0) (λ _. 1) xs.items) }
 {
-    let mut all = Vec::new(alloc);
+    let mut all = Vec::with_capacity(alloc, count)?;
     for _ in 0..count {
         all.push(Frac::zero())?;
     }

@@ -3,8 +3,6 @@
 ghost use Rattle.std.specs.Prelude.{◌≡◌, ◌+◌, ◌<◌, ◌≤◌, ◌^◌, ◌++◌, ◌∷◌, [], ℕ, List, length, Option, None, Some, IfOk, OnOk, pos, ◌<ℤ◌};
 ghost use Rattle.std.specs.Fn.{FnReturnsAt};
 ghost use Rattle.frac128.specs.declared.Frac.{Frac};
-ghost use Rattle.frac128.specs.Values.{numerator, denominator};
-ghost use Rattle.frac_rows.specs.Entries.{at};
 ghost use Rattle.tableau.specs.Tableaux.{Tableau, opening, right, slacks, solution, dual, ray};
 ghost use Rattle.tableau.specs.Places.{counted};
 ghost use Rattle.tableau.specs.Places as places;
@@ -12,7 +10,7 @@ ghost use Rattle.tableau.specs.Refusals.{least_number};
 ghost use Rattle.tableau.specs.Courses.{Ends, Rises, Follows, Answers, Refuses};
 ghost use Rattle.tableau.specs.Tableaux.{entry};
 ghost use Rattle.simplex.specs.Choosing.{IsChooser};
-ghost use Rattle.simplex.specs.Reading.{HaveParts, NoneTwice, AreOver};
+ghost use Rattle.simplex.specs.Reading.{AreEntries, NoneTwice, AreOver};
 ghost use Rattle.simplex.specs.Solving.{rule_of, Reached, IsStep, IsOpening, IsAt, IsAnswer, Agree};
 
 use crate::answer::Answer;
@@ -55,9 +53,9 @@ fn entering<F: Fn(&[Frac]) -> Option<usize>>(
     gains: &FracRow,
     right: u32,
 ) -> Result<Option<u32>, AllocError>
-    requires callable { F.IsAlwaysCallable chooser.now.rule }
+    requires callable { F.IsAlwaysCallable chooser.now }
     requires chooses { IsChooser F.Fn chooser.now }
-    ensures { IfOk result (λ o. (fs : List Frac) × HaveParts right (λ i. numerator (at (0 + i) gains.now)) (λ i. denominator (at (0 + i) gains.now)) fs × FnReturnsAt F.Fn chooser.now.rule fs o) }
+    ensures { IfOk result (λ o. (fs : List Frac) × AreEntries 0 right gains.now fs × FnReturnsAt F.Fn chooser.now fs o) }
 {
     let seen = fractions(alloc, gains, 0, right)?;
     match chooser.choose(&seen) {
@@ -87,7 +85,7 @@ pub(crate) fn make_step<F: Fn(&[Frac]) -> Option<usize>>(
     chooser: &Chooser<F>,
     table: &mut Table,
 ) -> Result<Step, AllocError>
-    requires callable { F.IsAlwaysCallable chooser.now.rule }
+    requires callable { F.IsAlwaysCallable chooser.now }
     requires chooses { IsChooser F.Fn chooser.now }
     requires columns { right system.now < 2 ^ 32 }
     requires reached { Reached (rule_of F.Fn chooser.now) system.now table.old }
@@ -196,7 +194,7 @@ pub fn solve<F: Fn(&[Frac]) -> Option<usize>>(
     system: &System,
     chooser: &Chooser<F>,
 ) -> Result<Answer, AllocError>
-    requires callable { F.IsAlwaysCallable chooser.now.rule }
+    requires callable { F.IsAlwaysCallable chooser.now }
     requires chooses { IsChooser F.Fn chooser.now }
     ensures { IfOk result (IsAnswer (rule_of F.Fn chooser.now) system.now) }
 {
@@ -253,9 +251,9 @@ pub fn agree<F: Fn(&[Frac]) -> Option<usize>, G: Fn(&[Frac]) -> Option<usize>>(
     first: &Chooser<F>,
     second: &Chooser<G>,
 ) -> Result<(Answer, Answer), AllocError>
-    requires first_callable { F.IsAlwaysCallable first.now.rule }
+    requires first_callable { F.IsAlwaysCallable first.now }
     requires first_chooses { IsChooser F.Fn first.now }
-    requires second_callable { G.IsAlwaysCallable second.now.rule }
+    requires second_callable { G.IsAlwaysCallable second.now }
     requires second_chooses { IsChooser G.Fn second.now }
     ensures first { IfOk result (λ pair. IsAnswer (rule_of F.Fn first.now) system.now pair.0) }
     ensures second { IfOk result (λ pair. IsAnswer (rule_of G.Fn second.now) system.now pair.1) }

@@ -31,7 +31,7 @@ fn table_after<F: Fn(&[Frac]) -> Option<usize>>(
     chooser: &Chooser<F>,
     pivots: u32,
 ) -> Result<Table, Fail>
-    requires callable { F.IsAlwaysCallable chooser.now.rule }
+    requires callable { F.IsAlwaysCallable chooser.now }
     requires chooses { IsChooser F.Fn chooser.now }
 {
     if system.rows().len() > (u32::MAX - system.unknowns()) as usize {

@@ -10,19 +10,19 @@ use Rattle.simplex.proofs.solver.make_step.Goals as goal
 pub returns-in-Ok-None : goal.returns-in-Ok-None
 returns-in-Ok-None g c =
     let o = rw (c.rows.ensures.all, c.unknowns.ensures) at c.in-Ok-None.ensures in
-    reaches_end (FnReturnsAt g.F.Fn c.args.chooser.now.rule) c.requires.chooses c.args.system.now c.rows.ensures.sound c.args.table.now c.requires.reached o.0 o.1 (rw c.in-Ok-None.field-0-is at o.2)
+    reaches_end (FnReturnsAt g.F.Fn c.args.chooser.now) c.requires.chooses c.args.system.now c.rows.ensures.sound c.args.table.now c.requires.reached o.0 o.1 (rw c.in-Ok-None.field-0-is at o.2)
 
 pub returns-in-Ok-None-leaving : goal.returns-in-Ok-None-leaving
 returns-in-Ok-None-leaving g c =
     let o = rw (c.rows.ensures.all, c.unknowns.ensures) at c.in-Ok-Some.ensures in
-    reaches_rise (FnReturnsAt g.F.Fn c.args.chooser.now.rule) c.requires.chooses c.args.system.now c.rows.ensures.sound c.args.table.now c.requires.reached o.0 o.1 c.in-Ok-Some.column (rw c.in-Ok-Some.field-0-is at o.2)
+    reaches_rise (FnReturnsAt g.F.Fn c.args.chooser.now) c.requires.chooses c.args.system.now c.rows.ensures.sound c.args.table.now c.requires.reached o.0 o.1 c.in-Ok-Some.column (rw c.in-Ok-Some.field-0-is at o.2)
     (λ i b. c.in-Ok-None-leaving.ensures.none i (ap Ok c.in-Ok-None-leaving.field-0-is) (rw c.deref.ensures.value b))
 
 pub stopped-requires : goal.stopped-requires
 stopped-requires g c i k e =
     let o = rw (c.rows.ensures.all, c.unknowns.ensures) at c.in-Ok-Some.ensures in
     let w = rw (c.rows.ensures.all, c.unknowns.ensures, c.deref.ensures.value, columns_compared c.args.system.now) at c.in-Err-leaving.ensures.leaves i k (ap Err e) in
-    let q = search_refuses (FnReturnsAt g.F.Fn c.args.chooser.now.rule) c.requires.chooses c.args.system.now c.rows.ensures.sound c.args.table.now c.requires.reached o.0 o.1 c.in-Ok-Some.column (rw c.in-Ok-Some.field-0-is at o.2) i k w in
+    let q = search_refuses (FnReturnsAt g.F.Fn c.args.chooser.now) c.requires.chooses c.args.system.now c.rows.ensures.sound c.args.table.now c.requires.reached o.0 o.1 c.in-Ok-Some.column (rw c.in-Ok-Some.field-0-is at o.2) i k w in
     let most = q.1 in
     let columns = c.requires.columns in
     omega arith
@@ -31,7 +31,7 @@ pub returns-in-Err-leaving : goal.returns-in-Err-leaving
 returns-in-Err-leaving g c = stops (rule_of g.F.Fn c.args.chooser.now) c.args.system.now c.args.table.now c.args.table.now c.in-Err-leaving.fault c.stopped.result (λ i k e.
     let o = rw (c.rows.ensures.all, c.unknowns.ensures) at c.in-Ok-Some.ensures in
     let w = rw (c.rows.ensures.all, c.unknowns.ensures, c.deref.ensures.value, columns_compared c.args.system.now) at c.in-Err-leaving.ensures.leaves i k (ap Err e) in
-    let q = search_refuses (FnReturnsAt g.F.Fn c.args.chooser.now.rule) c.requires.chooses c.args.system.now c.rows.ensures.sound c.args.table.now c.requires.reached o.0 o.1 c.in-Ok-Some.column (rw c.in-Ok-Some.field-0-is at o.2) i k w in
+    let q = search_refuses (FnReturnsAt g.F.Fn c.args.chooser.now) c.requires.chooses c.args.system.now c.rows.ensures.sound c.args.table.now c.requires.reached o.0 o.1 c.in-Ok-Some.column (rw c.in-Ok-Some.field-0-is at o.2) i k w in
     q.0) c.stopped.ensures
 
 pub pivot-requires-clause-inside : goal.pivot-requires-clause-inside
@@ -44,7 +44,7 @@ stopped-requires-in-Err-pivot g c i k e =
     let o = rw (c.rows.ensures.all, c.unknowns.ensures) at c.in-Ok-Some.ensures in
     let l = rw (c.rows.ensures.all, c.unknowns.ensures, c.deref.ensures.value, columns_compared c.args.system.now) at c.in-Ok-Some-leaving.ensures.row c.in-Ok-Some-leaving.row (ap Ok c.in-Ok-Some-leaving.field-0-is) in
     let w = rw c.deref_mut.ensures.value at c.in-Err-pivot.ensures.leaves i k (ap Err e) in
-    let q = pivot_refuses (FnReturnsAt g.F.Fn c.args.chooser.now.rule) c.requires.chooses c.args.system.now c.rows.ensures.sound c.args.table.now c.requires.reached o.0 o.1 c.in-Ok-Some.column (rw c.in-Ok-Some.field-0-is at o.2) c.in-Ok-Some-leaving.row i k l w in
+    let q = pivot_refuses (FnReturnsAt g.F.Fn c.args.chooser.now) c.requires.chooses c.args.system.now c.rows.ensures.sound c.args.table.now c.requires.reached o.0 o.1 c.in-Ok-Some.column (rw c.in-Ok-Some.field-0-is at o.2) c.in-Ok-Some-leaving.row i k l w in
     let most = q.1 in
     let columns = c.requires.columns in
     omega arith
@@ -55,7 +55,7 @@ returns-in-Err-pivot g c = stops (rule_of g.F.Fn c.args.chooser.now) c.args.syst
     let o = rw (c.rows.ensures.all, c.unknowns.ensures) at c.in-Ok-Some.ensures in
     let l = rw (c.rows.ensures.all, c.unknowns.ensures, c.deref.ensures.value, columns_compared c.args.system.now) at c.in-Ok-Some-leaving.ensures.row c.in-Ok-Some-leaving.row (ap Ok c.in-Ok-Some-leaving.field-0-is) in
     let w = rw c.deref_mut.ensures.value at c.in-Err-pivot.ensures.leaves i k (ap Err e) in
-    let q = pivot_refuses (FnReturnsAt g.F.Fn c.args.chooser.now.rule) c.requires.chooses c.args.system.now c.rows.ensures.sound c.args.table.now c.requires.reached o.0 o.1 c.in-Ok-Some.column (rw c.in-Ok-Some.field-0-is at o.2) c.in-Ok-Some-leaving.row i k l w in
+    let q = pivot_refuses (FnReturnsAt g.F.Fn c.args.chooser.now) c.requires.chooses c.args.system.now c.rows.ensures.sound c.args.table.now c.requires.reached o.0 o.1 c.in-Ok-Some.column (rw c.in-Ok-Some.field-0-is at o.2) c.in-Ok-Some-leaving.row i k l w in
     q.0) c.stopped-in-Err-pivot.ensures
 
 pub index_mut-requires : goal.index_mut-requires
@@ -71,7 +71,7 @@ returns g c =
     let l = rw (c.rows.ensures.all, c.unknowns.ensures, c.deref.ensures.value, columns_compared c.args.system.now) at c.in-Ok-Some-leaving.ensures.row c.in-Ok-Some-leaving.row (ap Ok c.in-Ok-Some-leaving.field-0-is) in
     let made = rw c.deref_mut.ensures.value at c.in_default.ensures.pivoted in
     let back = written_back c.args.table.now.rows.len c.args.table.now.rows.items c.pivot.new.rows c.args.table.now.rows.ok.0 made.rows_swept.count in (
-      pivot_reaches (FnReturnsAt g.F.Fn c.args.chooser.now.rule) c.requires.chooses c.args.system.now c.rows.ensures.sound c.args.table.now c.requires.reached o.0 o.1 c.in-Ok-Some.column (rw c.in-Ok-Some.field-0-is at o.2) c.in-Ok-Some-leaving.row
+      pivot_reaches (FnReturnsAt g.F.Fn c.args.chooser.now) c.requires.chooses c.args.system.now c.rows.ensures.sound c.args.table.now c.requires.reached o.0 o.1 c.in-Ok-Some.column (rw c.in-Ok-Some.field-0-is at o.2) c.in-Ok-Some-leaving.row
           (record { rows = with_items c.args.table.now.rows c.pivot.new.rows; gains = c.pivot.new.gains; basis = with_item c.args.table.now.basis c.in-Ok-Some-leaving.row c.in-Ok-Some.column; pivots = c.push.new.self }) l (rw back made) refl c.in_ok-push.ensures.items,
       ap length c.in_ok-push.ensures.items ∙ one_longer c.args.table.now.pivots.items (c.in-Ok-Some-leaving.row, c.in-Ok-Some.column),
     )
