@@ -83,6 +83,20 @@ impl FracRow {
         }
     }
 
+    /// Takes `times` times the lead from the row. The new row is made in `spare`.
+    pub fn subtract(
+        &mut self,
+        times: &Frac,
+        lead: &FracRow,
+        spare: &mut FracRow,
+    ) -> Result<(), RowFault>
+        ensures each { OnOk result ((c : ℕ) → IsLess (at c self.old) times.now (at c lead.now) (at c self.new)) }
+        ensures leaves { (c : ℕ) → result ≡ Err (RowFault.Leaves c) → LessLeaves (at c self.old) times.now (at c lead.now) }
+        ensures kept { OnErr result (self.new ≡ self.old) }
+    {
+        Err(RowFault::NoMemory)
+    }
+
     /// The row less `times` times the lead.
     pub fn less(&self, alloc: Global, times: &Frac, lead: &FracRow) -> Result<FracRow, RowFault>
         ensures each { IfOk result (λ r. (c : ℕ) → IsLess (at c self.now) times.now (at c lead.now) (at c r)) }

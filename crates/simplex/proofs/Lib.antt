@@ -1,5 +1,6 @@
 mod Lifting
 mod Pivots
+mod Rows
 mod Sweeping
 mod Tying
 mod Narrowing

@@ -9,7 +9,8 @@ use lib.IntN.{*ℤ_comm}
 use Rattle.raml_num.proofs.Differences.{diffs, diff-pos, is_diff, diff_same}
 use Rattle.raml_num.proofs.Signed.{cancelled, natural, lt_mul, lt_cancel}
 use Rattle.frac128.specs.declared.Frac.{Frac}
-use Rattle.frac_rows.specs.Entries.{Entries, at}
+use Rattle.frac128.specs.Values.{IsQuotient}
+use Rattle.frac_rows.specs.Entries.{Entries, at, nought}
 use Rattle.linear_rows.specs.Vectors.{scale}
 use Rattle.tableau.specs.Places.{row_at, at_each, counted}
 use Rattle.tableau.specs.Places as places
@@ -17,8 +18,9 @@ use Rattle.tableau.specs.Tableaux.{Tableau, LexAtMost, IsLeastRow}
 use Rattle.tableau.specs.Refusals.{NoFraction, IsCompared}
 use Rattle.tableau.proofs.Pivoting.{above, same_or_not}
 use Rattle.simplex.specs.Standing.{Stands, RowsStand, entries_at}
-use Rattle.simplex.specs.Ties.{Among, AllDiffer, IsBounding, AreBounding, IsRatio, AreTied, RatioLeaves, IsLeaving, SearchLeaves, columns_to}
-use Rattle.simplex.proofs.Tying.{among_or_not}
+use Rattle.simplex.specs.Among.{Among, AllDiffer}
+use Rattle.simplex.specs.Ties.{IsBounding, AreBounding, IsRatio, AreTied, RatioLeaves, IsLeaving, SearchLeaves, columns_to}
+use Rattle.simplex.proofs.Rows.{among_or_not}
 use Rattle.simplex.proofs.Lifting.{quotient_stands, quotient_is_there, no_quotient}
 
 -- as far as both go: less where they first differ, and they differ
@@ -341,6 +343,28 @@ columns_at right slack column h l =
     let e : right - column ≡ suc (right - (column + 1)) = omega arith in
     let f : suc column ≡ column + 1 = omega arith in
     columns_rest right slack column h (omega arith) ∙ ap (λ (n : ℕ). columns_to right slack column ++ counted column n) e ∙ ap (λ (n : ℕ). columns_to right slack column ++ column ∷ counted n (right - (column + 1))) f
+
+-- where all that are tied have 0, all stay tied
+none_over : (by : Frac) → IsQuotient nought by nought
+none_over by = omega (arith, ints)
+
+all_tie : (c s : ℕ) (rows : List Entries) (tied : List ℕ) → ((i : ℕ) → Among i tied → at c (entries_at rows i) ≡ nought) → AreTied s c rows tied tied nought
+all_tie c s rows tied none = record {
+  subset = λ i a. a;
+  least_ratio = λ i a. subst (λ (x : Frac). IsQuotient x (at s (entries_at rows i)) nought) (sym (none i a)) (none_over (at s (entries_at rows i)));
+  greater = λ i a n. absurd (n a);
+  some = λ i a. (i, a);
+  differ = λ d. d;
+}
+
+pub narrowed_past : (n right slack column s : ℕ) (rows : List Entries) (tied : List ℕ) → slack ≤ column → ((i k : ℕ) → Among i tied → column ≤ k → k < column + n → at k (entries_at rows i) ≡ nought) → Narrowed (columns_to right slack column) s rows tied
+    → Narrowed (columns_to right slack (column + n)) s rows tied
+narrowed_past zero right slack column s rows tied h none narrowed = let e : column ≡ column + 0 = omega arith in subst (λ (c : ℕ). Narrowed (columns_to right slack c) s rows tied) e narrowed
+narrowed_past (suc n) right slack column s rows tied h none narrowed =
+    let e : (column + 1) + n ≡ column + suc n = omega arith in
+    let one : Narrowed (columns_to right slack (column + 1)) s rows tied =
+    subst (λ (cs : List ℕ). Narrowed cs s rows tied) (sym (columns_next right slack column h)) (narrowed_next (columns_to right slack column) column s rows tied tied nought narrowed (all_tie column s rows tied (λ i a. none i column a (omega arith) (omega arith)))) in
+    subst (λ (c : ℕ). Narrowed (columns_to right slack c) s rows tied) e (narrowed_past n right slack (column + 1) s rows tied (omega arith) (λ i k a l m. none i k a (omega arith) (omega arith)) one)
 
 -- another row that is tied
 pub another_tied : (tied : List ℕ) (i : ℕ) → AllDiffer tied → 1 < length tied → (m : ℕ) × (m ≢ i) × Among m tied

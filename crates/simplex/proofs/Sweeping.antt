@@ -1,17 +1,14 @@
 -- Rows that are swept one after the other.
-use Rattle.std.proofs.Common.{◌≡◌, ◌≢◌, refl, sym, ap, subst, ◌∙◌, ℕ, zero, suc, ◌+◌, ◌<◌, ◌≤◌, pos, arith, List, [], ◌∷◌, length, get_or, slice_set, false, nat_eq, ◌⊎◌, inl, inr}
-use Rattle.std.proofs.lemmas.Bool.Decides.{nat_tests}
+use Rattle.std.proofs.Common.{◌≡◌, ◌≢◌, refl, sym, ap, subst, ◌∙◌, ℕ, zero, suc, ◌+◌, ◌<◌, ◌≤◌, pos, arith, List, [], ◌∷◌, length, get_or, slice_set, take, ◌++◌, ◌⊎◌, inl, inr, Result, Ok, Err, OnOk}
+use Rattle.std.proofs.lemmas.Int.{ints}
 use Rattle.frac128.specs.declared.Frac.{Frac}
 use Rattle.frac128.specs.Values.{IsQuotient}
 use Rattle.frac_rows.specs.Entries.{Entries, at, IsLess, LessLeaves, QuotientLeaves}
 use Rattle.frac_rows.proofs.Differing.{less_none}
-use Rattle.simplex.specs.Standing.{entries_at, IsSwept, SweepLeaves, RowStep, OthersSwept, RowsSwept, IsPivoted, PivotLeaves, InLead, InRow, InGains}
-
--- the rows below i are done, and the others are as they were
-pub record SweptTo (i l s : ℕ) (lead : Entries) (old rows : List Entries) : Type 0 where
-  pub count : length rows ≡ length old
-  pub done : (j : ℕ) → j < i → j < length old → RowStep (nat_eq j l) s lead (entries_at old j) (entries_at rows j)
-  pub rest : (j : ℕ) → i ≤ j → entries_at rows j ≡ entries_at old j
+use Rattle.frac_rows.specs.declared.fault.RowFault.{RowFault}
+use Rattle.simplex.specs.Among.{Among, AllDiffer}
+use Rattle.simplex.proofs.Rows.{among_or_not, among_take, among_taken, among_take_more, not_yet, take_whole, value_of}
+use Rattle.simplex.specs.Standing.{entries_at, IsSwept, SweepLeaves, AreTouching, AmongSwept, RowLeaves, RowsSwept, IsPivoted, PivotLeaves, InLead, InRow, InGains}
 
 pub here : (rows : List Entries) (i : ℕ) (x : Entries) → i < length rows → entries_at (slice_set rows i x) i ≡ x
 here [] i x h = absurd (omega arith)
@@ -30,25 +27,41 @@ length-slice_set [] i x = refl
 length-slice_set (r ∷ rows) zero x = refl
 length-slice_set (r ∷ rows) (suc i) x = omega (arith, length-slice_set rows i x)
 
-earlier_or_here : (j i : ℕ) → j < i + 1 → (j < i) ⊎ (j ≡ i)
-earlier_or_here j i h = grind arith
+same_or_not : (a b : ℕ) → (a ≡ b) ⊎ (a ≢ b)
+same_or_not a b = grind arith
 
-pub one_more : (i l s : ℕ) (lead : Entries) (old rows : List Entries) (x : Entries) → SweptTo i l s lead old rows → i < length old → RowStep (nat_eq i l) s lead (entries_at rows i) x → SweptTo (i + 1) l s lead old (slice_set rows i x)
-one_more i l s lead old rows x t h step = record {
+pub none_swept : (among : List ℕ) (s : ℕ) (lead : Entries) (rows : List Entries) → AmongSwept (take 0 among) s lead rows rows
+none_swept among s lead rows = record { count = refl; swept = λ i a. absurd a; others = λ i n. refl }
+
+-- the row that comes is as it was, and is swept now
+pub one_more : (k i s : ℕ) (among : List ℕ) (lead : Entries) (old rows : List Entries) (x : Entries) → k < length among → AllDiffer among → i ≡ get_or among k 0 → i < length old → AmongSwept (take k among) s lead old rows
+    → (was : Entries) → IsSwept s lead (get_or rows i was) x → AmongSwept (take (k + 1) among) s lead old (slice_set rows i x)
+one_more k i s among lead old rows x h d e inside t was q = let w = subst (λ (es : Entries). IsSwept s lead es x) (value_of rows i was (let n = t.count in omega arith)) q in record {
   count = length-slice_set rows i x ∙ t.count;
-  done = λ j k m. elim (earlier_or_here j i k) [
-    | inl e ↦ subst (RowStep (nat_eq j l) s lead (entries_at old j)) (sym (there rows i x j (λ q. omega arith))) (t.done j e m)
-    | inr e ↦
-        let c = t.count in
-        let q : RowStep (nat_eq i l) s lead (entries_at old i) (entries_at (slice_set rows i x) i) =
-        subst (RowStep (nat_eq i l) s lead (entries_at old i)) (sym (here rows i x (omega arith))) (subst (λ (es : Entries). RowStep (nat_eq i l) s lead es x) (t.rest i (omega arith)) step) in
-        subst (λ (z : ℕ). RowStep (nat_eq z l) s lead (entries_at old z) (entries_at (slice_set rows i x) z)) (sym e) q
+  swept = λ j a. elim (same_or_not j i) [
+    | inl q ↦ subst (λ (z : ℕ). IsSwept s lead (entries_at old z) (entries_at (slice_set rows i x) z)) (sym q)
+        (subst (IsSwept s lead (entries_at old i)) (sym (here rows i x (let c = t.count in omega arith))) (subst (λ (es : Entries). IsSwept s lead es x) (t.others i (λ b. not_yet k among h d (subst (λ (z : ℕ). Among z (take k among)) e b))) w))
+    | inr n ↦ subst (IsSwept s lead (entries_at old j)) (sym (there rows i x j n)) (t.swept j (elim (among_take_more k among j h a) [ inl b ↦ b | inr q ↦ absurd (n (q ∙ sym e)) ]))
   ];
-  rest = λ j k. there rows i x j (λ q. omega arith) ∙ t.rest j (omega arith);
+  others = λ j n. there rows i x j (λ q. n (subst (λ (z : ℕ). Among z (take (k + 1) among)) (sym (q ∙ e)) (among_taken k among h)))
+      ∙ t.others j (λ b. n (among_take k among j h b));
 }
 
-pub all_done : (i l s : ℕ) (lead : Entries) (old rows : List Entries) → SweptTo i l s lead old rows → length old ≤ i → OthersSwept l s lead old rows
-all_done i l s lead old rows t h = record { count = t.count; each = λ j k. t.done j (omega arith) k }
+pub as_before : (k i s : ℕ) (among : List ℕ) (lead : Entries) (old rows : List Entries) → k < length among → AllDiffer among → i ≡ get_or among k 0 → AmongSwept (take k among) s lead old rows → entries_at rows i ≡ entries_at old i
+as_before k i s among lead old rows h d e t = t.others i (λ b. not_yet k among h d (subst (λ (z : ℕ). Among z (take k among)) e b))
+
+pub row_leaves : (k j i c s : ℕ) (among : List ℕ) (lead : Entries) (old rows : List Entries) (d : Entries) → k < length among → AllDiffer among → j ≡ get_or among k 0 → j < length old → AmongSwept (take k among) s lead old rows
+    → i ≡ j → (at s (get_or rows j d)).num ≢ pos 0 → SweepLeaves s c lead (get_or rows j d) → RowLeaves s lead old i c
+row_leaves k j i c s among lead old rows d h differ e inside t same touched leaves =
+    let row : get_or rows j d ≡ entries_at old j = value_of rows j d (let n = t.count in omega arith) ∙ as_before k j s among lead old rows h differ e t in
+    subst (λ (z : ℕ). RowLeaves s lead old z c) (sym same) (record {
+      inside = inside;
+      touched = subst (λ (es : Entries). (at s es).num ≢ pos 0) row touched;
+      leaves = subst (SweepLeaves s c lead) row leaves;
+    })
+
+pub all_swept : (k s : ℕ) (among : List ℕ) (lead : Entries) (old rows : List Entries) → length among ≤ k → AmongSwept (take k among) s lead old rows → AmongSwept among s lead old rows
+all_swept k s among lead old rows h t = subst (λ (is : List ℕ). AmongSwept is s lead old rows) (take_whole k among h) t
 
 -- the factor by its parts
 pub swept_by : (s : ℕ) (lead old new : Entries) (f : Frac) → f.num ≡ (at s old).num → f.den ≡ (at s old).den → ((c : ℕ) → IsLess (at c old) f (at c lead) (at c new)) → IsSwept s lead old new
@@ -56,6 +69,10 @@ swept_by s lead old new f e g h = record { each = λ c. factor_same (at c old) f
   where
     factor_same : (x f q r k : Frac) → f.num ≡ k.num → f.den ≡ k.den → IsLess x f q r → IsLess x k q r
     factor_same x f q r k e g l = record { product = l.product; is_product = rw (← e, ← g) l.is_product; fits = l.fits; is_difference = l.is_difference }
+
+pub swept_where_made : (s : ℕ) (lead old new : Entries) (f : Frac) (r : Result (Unit {0}) RowFault) → f.num ≡ (at s old).num → f.den ≡ (at s old).den → OnOk r ((c : ℕ) → IsLess (at c old) f (at c lead) (at c new)) → OnOk r (IsSwept s lead old new)
+swept_where_made s lead old new f (Ok u) e g h = swept_by s lead old new f e g h
+swept_where_made s lead old new f (Err x) e g h = tt
 
 pub left_by : (s c : ℕ) (lead old : Entries) (f : Frac) → f.num ≡ (at s old).num → f.den ≡ (at s old).den → LessLeaves (at c old) f (at c lead) → SweepLeaves s c lead old
 left_by s c lead old f e g l = record { leaves = factor_left (at c old) f (at c lead) (at s old) e g l }
@@ -68,36 +85,43 @@ left_by s c lead old f e g l = record { leaves = factor_left (at c old) f (at c 
 pub stays : (s : ℕ) (lead old : Entries) → (at s old).num ≡ pos 0 → IsSwept s lead old old
 stays s lead old e = record { each = λ c. less_none (at c old) (at s old) (at c lead) e }
 
-pub value_of : (rows : List Entries) (i : ℕ) (d : Entries) → i < length rows → get_or rows i d ≡ entries_at rows i
-value_of [] i d h = absurd (omega arith)
-value_of (r ∷ rows) zero d h = refl
-value_of (r ∷ rows) (suc i) d h = value_of rows i d (omega arith)
+-- row l is taken out, those that the column touches are swept, and the lead is put at its place
+module _ (l s : ℕ) (old : List Entries) (d : Entries) (h : l < length old) (touching : List ℕ) (touches : AreTouching s old touching) where
+  pub inside_still : (i : ℕ) → Among i touching → i < length (slice_set old l [])
+  inside_still i a = let m = touches.inside i a in let n = length-slice_set old l [] in omega arith
 
--- the others swept, and the lead put at its place
-unskipped : (i l : ℕ) (s : ℕ) (lead old new : Entries) → i ≢ l → RowStep (nat_eq i l) s lead old new → IsSwept s lead old new
-unskipped i l s lead old new n step = let e : nat_eq i l ≡ false = grind (arith, nat_tests) in rw e at step
+  swept_still : (lead : Entries) (new : List Entries) → AmongSwept touching s lead (slice_set old l []) new → (i : ℕ) → i < length old → i ≢ l → IsSwept s lead (entries_at old i) (entries_at new i)
+  swept_still lead new w i k n = elim (among_or_not i touching) [
+    | inl a ↦ subst (λ (es : Entries). IsSwept s lead es (entries_at new i)) (there old l [] i n) (w.swept i a)
+    | inr b ↦ subst (IsSwept s lead (entries_at old i)) (sym (w.others i b ∙ there old l [] i n)) (stays s lead (entries_at old i) (zero_or_not (entries_at old i) (λ z. b (touches.all i k z))))
+  ]
+    where
+      zero_or_not : (es : Entries) → ((at s es).num ≢ pos 0 → ⊥) → (at s es).num ≡ pos 0
+      zero_or_not es z = grind (arith, ints)
 
-pub lead_put : (l s : ℕ) (lead : Entries) (old new : List Entries) → l < length old → OthersSwept l s lead old new → RowsSwept l s lead old (slice_set new l lead)
-lead_put l s lead old new h o = record {
-  count = length-slice_set new l lead ∙ o.count;
-  here = here new l lead (let c = o.count in omega arith);
-  others = λ i k n. subst (IsSwept s lead (entries_at old i)) (sym (there new l lead i n)) (unskipped i l s lead (entries_at old i) (entries_at new i) n (o.each i k));
-}
+  pub pivot_made : (gains lead : Entries) (new : List Entries) (new_gains : Entries) → ((c : ℕ) → IsQuotient (at c (get_or old l d)) (at s (get_or old l d)) (at c lead))
+      → AmongSwept touching s lead (slice_set old l []) new → IsSwept s lead gains new_gains → IsPivoted l s old gains (slice_set new l lead) new_gains
+  pivot_made gains lead new new_gains q w g = record {
+    lead = lead;
+    quotients = λ c. subst (λ (es : Entries). IsQuotient (at c es) (at s es) (at c lead)) (value_of old l d h) (q c);
+    rows_swept = record {
+      count = length-slice_set new l lead ∙ w.count ∙ length-slice_set old l [];
+      here = here new l lead (let c = w.count in let n = length-slice_set old l [] in omega arith);
+      others = λ i k n. subst (IsSwept s lead (entries_at old i)) (sym (there new l lead i n)) (swept_still lead new w i k n);
+    };
+    gains_swept = g;
+  }
 
-pub pivot_made : (l s : ℕ) (lead : Entries) (old : List Entries) (gains : Entries) (new : List Entries) (new_gains d : Entries) → l < length old → ((c : ℕ) → IsQuotient (at c (get_or old l d)) (at s (get_or old l d)) (at c lead))
-    → OthersSwept l s lead old new → IsSwept s lead gains new_gains → IsPivoted l s old gains (slice_set new l lead) new_gains
-pivot_made l s lead old gains new new_gains d h q o g = record {
-  lead = lead;
-  quotients = λ c. subst (λ (es : Entries). IsQuotient (at c es) (at s es) (at c lead)) (value_of old l d h) (q c);
-  rows_swept = lead_put l s lead old new h o;
-  gains_swept = g;
-}
+  pub lead_left : (gains : Entries) (c : ℕ) → QuotientLeaves (at c (get_or old l d)) (at s (get_or old l d)) → PivotLeaves l s old gains l c
+  lead_left gains c q = InLead refl (subst (λ (es : Entries). QuotientLeaves (at c es) (at s es)) (value_of old l d h) q)
 
-pub lead_left : (l s : ℕ) (old : List Entries) (gains d : Entries) (c : ℕ) → l < length old → QuotientLeaves (at c (get_or old l d)) (at s (get_or old l d)) → PivotLeaves l s old gains l c
-lead_left l s old gains d c h q = InLead refl (subst (λ (es : Entries). QuotientLeaves (at c es) (at s es)) (value_of old l d h) q)
+  -- a row that leaves the range is another one
+  pub row_left : (gains lead : Entries) (i c : ℕ) → ((k : ℕ) → IsQuotient (at k (get_or old l d)) (at s (get_or old l d)) (at k lead)) → RowLeaves s lead (slice_set old l []) i c → PivotLeaves l s old gains i c
+  row_left gains lead i c q w = elim (same_or_not i l) [
+    | inl e ↦ absurd (w.touched (ap (λ (es : Entries). (at s es).num) (ap (entries_at (slice_set old l [])) e ∙ here old l [] h)))
+    | inr n ↦ InRow lead (λ k. subst (λ (es : Entries). IsQuotient (at k es) (at s es) (at k lead)) (value_of old l d h) (q k)) (let m = w.inside in let k = length-slice_set old l [] in omega arith) n
+        (subst (SweepLeaves s c lead) (there old l [] i n) w.leaves)
+  ]
 
-pub row_left : (l s : ℕ) (old : List Entries) (gains d lead : Entries) (i c : ℕ) → l < length old → ((k : ℕ) → IsQuotient (at k (get_or old l d)) (at s (get_or old l d)) (at k lead)) → i < length old → i ≢ l → SweepLeaves s c lead (entries_at old i) → PivotLeaves l s old gains i c
-row_left l s old gains d lead i c h q k n w = InRow lead (λ k. subst (λ (es : Entries). IsQuotient (at k es) (at s es) (at k lead)) (value_of old l d h) (q k)) k n w
-
-pub gains_left : (l s : ℕ) (old : List Entries) (gains d lead : Entries) (i c : ℕ) → l < length old → ((k : ℕ) → IsQuotient (at k (get_or old l d)) (at s (get_or old l d)) (at k lead)) → i ≡ length old → SweepLeaves s c lead gains → PivotLeaves l s old gains i c
-gains_left l s old gains d lead i c h q e w = InGains lead (λ k. subst (λ (es : Entries). IsQuotient (at k es) (at s es) (at k lead)) (value_of old l d h) (q k)) e w
+  pub gains_left : (gains lead : Entries) (i c : ℕ) → ((k : ℕ) → IsQuotient (at k (get_or old l d)) (at s (get_or old l d)) (at k lead)) → i ≡ length old → SweepLeaves s c lead gains → PivotLeaves l s old gains i c
+  gains_left gains lead i c q e w = InGains lead (λ k. subst (λ (es : Entries). IsQuotient (at k es) (at s es) (at k lead)) (value_of old l d h) (q k)) e w

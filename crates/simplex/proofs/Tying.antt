@@ -9,85 +9,11 @@ use Rattle.frac128.specs.declared.Frac.{Frac}
 use Rattle.frac128.specs.Order.{order_of, order_is_total, same_parts}
 use Rattle.frac_rows.specs.Entries.{Entries, at}
 use Rattle.simplex.specs.Standing.{entries_at}
-use Rattle.simplex.proofs.Sweeping.{value_of}
-use Rattle.simplex.specs.Ties.{Among, AllDiffer, IsBounding, AreBounding, IsRatio, AreTied, Keeps, KeepsBy}
-
-pub among_front : (i : ℕ) (xs ys : List ℕ) → Among i xs → Among i (xs ++ ys)
-among_front i [] ys a = absurd a
-among_front i (x ∷ xs) ys (inl e) = inl e
-among_front i (x ∷ xs) ys (inr a) = inr (among_front i xs ys a)
-
-pub among_last : (i : ℕ) (xs : List ℕ) → Among i (xs ++ i ∷ [])
-among_last i [] = inl refl
-among_last i (x ∷ xs) = inr (among_last i xs)
-
-pub among_either : (i : ℕ) (xs : List ℕ) (y : ℕ) → Among i (xs ++ y ∷ []) → Among i xs ⊎ (i ≡ y)
-among_either i [] y (inl e) = inr e
-among_either i [] y (inr a) = absurd a
-among_either i (x ∷ xs) y (inl e) = inl (inl e)
-among_either i (x ∷ xs) y (inr a) = elim (among_either i xs y a) [ inl b ↦ inl (inr b) | inr e ↦ inr e ]
-
--- numbers that differ
-pub differ_front : (xs : List ℕ) (y : ℕ) → AllDiffer (xs ++ y ∷ []) → AllDiffer xs
-differ_front [] y d = tt
-differ_front (x ∷ xs) y d = ((λ a. d.0 (among_front x xs (y ∷ []) a)), differ_front xs y d.1)
-
-pub differ_last : (xs : List ℕ) (y : ℕ) → AllDiffer (xs ++ y ∷ []) → Among y xs → ⊥
-differ_last [] y d a = a
-differ_last (x ∷ xs) y d (inl e) = d.0 (subst (λ (z : ℕ). Among z (xs ++ y ∷ [])) e (among_last y xs))
-differ_last (x ∷ xs) y d (inr a) = differ_last xs y d.1 a
-
-pub differ_more : (xs : List ℕ) (y : ℕ) → AllDiffer xs → (Among y xs → ⊥) → AllDiffer (xs ++ y ∷ [])
-differ_more [] y d n = ((λ a. a), tt)
-differ_more (x ∷ xs) y d n = ((λ a. elim (among_either x xs y a) [ inl b ↦ d.0 b | inr e ↦ n (inl (sym e)) ]), differ_more xs y d.1 (λ a. n (inr a)))
-
--- the rows below k are looked at
-pub record BoundingTo (k s : ℕ) (rows : List Entries) (is : List ℕ) : Type 0 where
-  pub below : (i : ℕ) → Among i is → i < k
-  pub differ : AllDiffer is
-  pub only : (i : ℕ) → Among i is → IsBounding s rows i
-  pub all : (i : ℕ) → i < k → IsBounding s rows i → Among i is
-
-earlier_or_here : (j i : ℕ) → j < i + 1 → (j < i) ⊎ (j ≡ i)
-earlier_or_here j i h = grind arith
-
-pub bounding_more : (k s : ℕ) (rows : List Entries) (is new : List ℕ) → BoundingTo k s rows is → IsBounding s rows k → new ≡ is ++ k ∷ [] → BoundingTo (k + 1) s rows new
-bounding_more k s rows is new b h e = record {
-  below = λ i a. elim (among_either i is k (subst (Among i) e a)) [ inl c ↦ (let l = b.below i c in omega arith) | inr g ↦ omega arith ];
-  differ = subst AllDiffer (sym e) (differ_more is k b.differ (λ a. let l = b.below k a in omega arith));
-  only = λ i a. elim (among_either i is k (subst (Among i) e a)) [ inl c ↦ b.only i c | inr g ↦ subst (IsBounding s rows) (sym g) h ];
-  all = λ i l g. subst (Among i) (sym e) (elim (earlier_or_here i k l) [ inl c ↦ among_front i is (k ∷ []) (b.all i c g) | inr q ↦ subst (λ (z : ℕ). Among z (is ++ k ∷ [])) (sym q) (among_last k is) ]);
-}
-
-pub bounding_same : (k s : ℕ) (rows : List Entries) (is : List ℕ) → BoundingTo k s rows is → ((at s (entries_at rows k)).num ≤ℤ pos 0) → BoundingTo (k + 1) s rows is
-bounding_same k s rows is b h = record {
-  below = λ i a. let l = b.below i a in omega arith;
-  differ = b.differ;
-  only = b.only;
-  all = λ i l g. elim (earlier_or_here i k l) [ inl c ↦ b.all i c g | inr q ↦ absurd (let p = subst (IsBounding s rows) q g in let z = p.positive in omega (arith, ints)) ];
-}
-
-pub bounding_all : (k s : ℕ) (rows : List Entries) (is : List ℕ) → BoundingTo k s rows is → length rows ≤ k → AreBounding s rows is
-bounding_all k s rows is b h = record { differ = b.differ; only = b.only; all = λ i g. b.all i (let l = g.inside in omega arith) g }
-
--- the row that was read
-pub row_is : (rows : List Entries) (k : ℕ) (d : Entries) → k < length rows → d ≡ get_or rows k d → d ≡ entries_at rows k
-row_is rows k d h e = e ∙ value_of rows k d h
-
-pub is_bounding : (s : ℕ) (rows : List Entries) (k : ℕ) (n : ℤ) → k < length rows → n ≡ (at s (entries_at rows k)).num → pos 0 <ℤ n → IsBounding s rows k
-is_bounding s rows k n h e p = record { inside = h; positive = subst (λ (z : ℤ). pos 0 <ℤ z) e p }
+use Rattle.simplex.proofs.Rows.{among_front, among_last, among_either, differ_front, differ_last, differ_more, among_or_not}
+use Rattle.simplex.specs.Among.{Among, AllDiffer}
+use Rattle.simplex.specs.Ties.{IsBounding, AreBounding, IsRatio, AreTied, Keeps, KeepsBy}
 
 -- the ratio that comes
-pub among_or_not : (i : ℕ) (xs : List ℕ) → Among i xs ⊎ (Among i xs → ⊥)
-among_or_not i [] = inr (λ a. a)
-among_or_not i (x ∷ xs) = elim (same_or_not i x) [
-  | inl e ↦ inl (inl e)
-  | inr n ↦ elim (among_or_not i xs) [ inl a ↦ inl (inr a) | inr m ↦ inr (λ a. elim a [ inl e ↦ n e | inr b ↦ m b ]) ]
-]
-  where
-    same_or_not : (a b : ℕ) → (a ≡ b) ⊎ (a ≢ b)
-    same_or_not a b = grind arith
-
 ratio_same : (s c : ℕ) (rows : List Entries) (i : ℕ) (x y : Frac) → x.num ≡ y.num → x.den ≡ y.den → IsRatio s c rows i x → IsRatio s c rows i y
 ratio_same s c rows i x y e f r = rw (← e, ← f) r
 
@@ -149,21 +75,3 @@ tied_more s c rows among (k ∷ ks) least i x new new_least t r h = kept_by s c 
 pub none_tied : (s c : ℕ) (rows : List Entries) (least : Frac) → AreTied s c rows [] [] least
 none_tied s c rows least = record { subset = λ i a. a; least_ratio = λ i a. absurd a; greater = λ i a n. absurd a; some = λ i a. absurd a; differ = λ d. d }
 
--- one row more is looked at
-pub take_more : (xs : List ℕ) (k d : ℕ) → k < length xs → take (k + 1) xs ≡ take k xs ++ get_or xs k d ∷ []
-take_more [] k d h = absurd (omega arith)
-take_more (x ∷ xs) zero d h = refl
-take_more (x ∷ xs) (suc k) d h =
-    let e : suc k + 1 ≡ suc (k + 1) = omega arith in
-    ap (λ (n : ℕ). take n (x ∷ xs)) e ∙ ap (λ (ys : List ℕ). x ∷ ys) (take_more xs k d (omega arith))
-
-pub among_at : (xs : List ℕ) (k d : ℕ) → k < length xs → Among (get_or xs k d) xs
-among_at [] k d h = absurd (omega arith)
-among_at (x ∷ xs) zero d h = inl refl
-among_at (x ∷ xs) (suc k) d h = inr (among_at xs k d (omega arith))
-
-pub take_whole : (k : ℕ) (xs : List ℕ) → length xs ≤ k → take k xs ≡ xs
-take_whole zero [] h = refl
-take_whole zero (x ∷ xs) h = absurd (omega arith)
-take_whole (suc k) [] h = refl
-take_whole (suc k) (x ∷ xs) h = ap (λ (ys : List ℕ). x ∷ ys) (take_whole k xs (omega arith))

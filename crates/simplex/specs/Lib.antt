@@ -1,3 +1,4 @@
+pub mod Among
 pub mod Choosing
 pub mod Standing
 pub mod Ties

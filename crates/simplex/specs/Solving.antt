@@ -12,10 +12,11 @@ use Rattle.tableau.specs.Laws.{ProvesLeast}
 use Rattle.simplex.specs.declared.answer.Answer.{Answer}
 use Rattle.simplex.specs.declared.answer.Answer.TheVariants.{Best, NoSolution, Leaves}
 use Rattle.simplex.specs.declared.solver.Table.{Table}
+use Rattle.simplex.specs.declared.solver.Memory.{Memory}
 use Rattle.simplex.specs.declared.solver.Step.{Step}
 use Rattle.simplex.specs.declared.solver.Step.TheVariants as step
 use Rattle.simplex.specs.Standing.{TableStands, RowsStand, RowStands}
-use Rattle.simplex.specs.Reading.{AreOver}
+use Rattle.simplex.specs.Reading.{AreEntries, AreOver}
 
 -- the answers to fractions, as a rule for whole numbers over d
 abbrev pub rule_over : (List Frac → Option ℕ → Type 0) → Rule
@@ -57,6 +58,10 @@ abbrev pub IsAnswer : Rule → LinearSystem → Answer → Type 0
 IsAnswer rule s (Best x dual pivots) = IsBest rule s pivots.items x.items dual.items
 IsAnswer rule s (NoSolution farkas pivots) = IsRefuted rule s pivots.items farkas.items
 IsAnswer rule s (Leaves pivots row column) = Refuses rule s pivots.items row column
+
+-- n gains, which are 0
+abbrev pub IsCleared : ℕ → Memory → Type 0
+IsCleared n memory = AreEntries 0 n [] memory.gains.items
 
 abbrev pub IsAt : LinearSystem → Table → Tableau → Type 0
 IsAt s table t = IsAfter s table.pivots.items table.basis.items table.rows.items table.gains t

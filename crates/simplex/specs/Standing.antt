@@ -1,11 +1,12 @@
 -- Rows of fractions that stand for a tableau over whole numbers.
-use Rattle.std.specs.Prelude.{◌≡◌, ◌≢◌, ℕ, ◌<◌, Bool, true, false, nat_eq, List, [], length, ℤ, pos, ◌*ℤ◌, slice_index_or}
+use Rattle.std.specs.Prelude.{◌≡◌, ◌≢◌, ℕ, ◌<◌, List, [], length, ℤ, pos, ◌*ℤ◌, slice_index_or}
 use Rattle.frac128.specs.declared.Frac.{Frac}
 use Rattle.frac128.specs.Values.{IsQuotient}
 use Rattle.frac_rows.specs.Entries.{Entries, at, IsLess, LessLeaves, QuotientLeaves}
 use Rattle.tableau.specs.Places.{row_at}
 use Rattle.tableau.specs.Places as places
 use Rattle.tableau.specs.Tableaux.{Tableau}
+use Rattle.simplex.specs.Among.{Among, AllDiffer}
 
 -- x is n over d
 pub record Stands (d n : ℤ) (x : Frac) : Type 0 where
@@ -53,12 +54,21 @@ pub data PivotLeaves (l s : ℕ) (rows : List Entries) (gains : Entries) (i c : 
   InRow : (lead : Entries) → ((k : ℕ) → IsQuotient (at k (entries_at rows l)) (at s (entries_at rows l)) (at k lead)) → i < length rows → i ≢ l → SweepLeaves s c lead (entries_at rows i) → PivotLeaves l s rows gains i c
   InGains : (lead : Entries) → ((k : ℕ) → IsQuotient (at k (entries_at rows l)) (at s (entries_at rows l)) (at k lead)) → i ≡ length rows → SweepLeaves s c lead gains → PivotLeaves l s rows gains i c
 
--- a row that is swept, or left as it is
-abbrev pub RowStep : Bool → ℕ → Entries → Entries → Entries → Type 0
-RowStep true s lead old new = new ≡ old
-RowStep false s lead old new = IsSwept s lead old new
+-- these are the rows with a number at column s that is not 0
+pub record AreTouching (s : ℕ) (rows : List Entries) (is : List ℕ) : Type 0 where
+  pub inside : (i : ℕ) → Among i is → i < length rows
+  pub only : (i : ℕ) → Among i is → (at s (entries_at rows i)).num ≢ pos 0
+  pub all : (i : ℕ) → i < length rows → (at s (entries_at rows i)).num ≢ pos 0 → Among i is
+  pub differ : AllDiffer is
 
--- each row but that at l is swept
-pub record OthersSwept (l s : ℕ) (lead : Entries) (old new : List Entries) : Type 0 where
+-- these rows are swept, and the others stay
+pub record AmongSwept (among : List ℕ) (s : ℕ) (lead : Entries) (old new : List Entries) : Type 0 where
   pub count : length new ≡ length old
-  pub each : (i : ℕ) → i < length old → RowStep (nat_eq i l) s lead (entries_at old i) (entries_at new i)
+  pub swept : (i : ℕ) → Among i among → IsSwept s lead (entries_at old i) (entries_at new i)
+  pub others : (i : ℕ) → (Among i among → ⊥) → entries_at new i ≡ entries_at old i
+
+-- row i has a number at column s that is not 0, and its change at column c leaves the range
+pub record RowLeaves (s : ℕ) (lead : Entries) (rows : List Entries) (i c : ℕ) : Type 0 where
+  pub inside : i < length rows
+  pub touched : (at s (entries_at rows i)).num ≢ pos 0
+  pub leaves : SweepLeaves s c lead (entries_at rows i)

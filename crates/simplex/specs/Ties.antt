@@ -10,15 +10,8 @@ use Rattle.tableau.specs.Places.{row_at, counted}
 use Rattle.tableau.specs.Places as places
 use Rattle.tableau.specs.Tableaux.{Tableau, IsLeastRow}
 use Rattle.tableau.specs.Refusals.{NoFraction, IsCompared}
+use Rattle.simplex.specs.Among.{Among, AllDiffer}
 use Rattle.simplex.specs.Standing.{entries_at, RowsStand}
-
-abbrev pub Among : ℕ → List ℕ → Type 0
-Among i [] = ⊥
-Among i (j ∷ js) = (i ≡ j) ⊎ Among i js
-
-abbrev pub AllDiffer : List ℕ → Type 0
-AllDiffer [] = Unit {0}
-AllDiffer (i ∷ is) = (Among i is → ⊥) × AllDiffer is
 
 -- row i has a positive number at column s
 pub record IsBounding (s : ℕ) (rows : List Entries) (i : ℕ) : Type 0 where

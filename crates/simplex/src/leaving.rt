@@ -3,8 +3,10 @@
 ghost use Rattle.std.specs.Prelude.{◌≡◌, ◌<◌, ◌≤◌, ◌<ℤ◌, ℕ, pos, length, IfOk, OnOk, MatchOption};
 ghost use Rattle.frac128.specs.Values.{numerator, IsQuotient};
 ghost use Rattle.frac128.specs.declared.Frac.{Frac};
-ghost use Rattle.frac_rows.specs.Entries.{at, QuotientLeaves};
-ghost use Rattle.simplex.specs.Ties.{Among, IsBounding, AreBounding, AreTied, RatioLeaves, Keeps, ratio_order, IsLeaving, SearchLeaves, columns_to};
+ghost use Rattle.frac_rows.specs.Entries.{at, nought, QuotientLeaves};
+ghost use Rattle.simplex.specs.Among.{Among};
+ghost use Rattle.simplex.specs.Standing.{entries_at, AreTouching};
+ghost use Rattle.simplex.specs.Ties.{IsBounding, AreBounding, AreTied, RatioLeaves, Keeps, ratio_order, IsLeaving, SearchLeaves, columns_to};
 
 use crate::pivot::Fault;
 use frac_rows::FracRow;
@@ -12,14 +14,33 @@ use frac128::Frac;
 use std::alloc::{AllocError, Global};
 use std::cmp::Ordering;
 
-/// The rows with a positive number at column `s`.
-fn bounding(alloc: Global, rows: &[FracRow], s: u32) -> Result<Vec<usize>, AllocError>
-    ensures { IfOk result (λ is. AreBounding s rows.now is.items) }
+/// The rows with a number at column `s` that is not 0.
+pub(crate) fn touching(alloc: Global, rows: &[FracRow], s: u32) -> Result<Vec<usize>, AllocError>
+    ensures { IfOk result (λ is. AreTouching s rows.now is.items) }
 {
     let mut all = Vec::new(alloc);
     for i in 0..rows.len() {
-        if rows[i].at(s).num() > 0 {
+        if rows[i].at(s).num() != 0 {
             all.push(i)?;
+        }
+    }
+    Ok(all)
+}
+
+/// The rows with a positive number at column `s`, of those that have one there.
+fn bounding(
+    alloc: Global,
+    rows: &[FracRow],
+    s: u32,
+    touching: &[usize],
+) -> Result<Vec<usize>, AllocError>
+    requires { AreTouching s rows.now touching.now }
+    ensures { IfOk result (λ is. AreBounding s rows.now is.items) }
+{
+    let mut all = Vec::new(alloc);
+    for row in touching {
+        if rows[*row].at(s).num() > 0 {
+            all.push(*row)?;
         }
     }
     Ok(all)
@@ -89,16 +110,18 @@ fn ties(
 pub(crate) fn leaving(
     alloc: Global,
     rows: &[FracRow],
+    touching: &[usize],
     s: u32,
     slack: u32,
     right: u32,
 ) -> Result<Option<usize>, Fault>
-    requires { slack ≤ right }
+    requires order { slack ≤ right }
+    requires touching { AreTouching s rows.now touching.now }
     ensures row { (l : ℕ) → result ≡ Ok (Some l) → IsLeaving (columns_to right slack right) s rows.now l }
     ensures none { (i : ℕ) → result ≡ Ok None → ¬ IsBounding s rows.now i }
     ensures leaves { (i c : ℕ) → result ≡ Err (Fault.Leaves i c) → SearchLeaves (columns_to right slack right) s rows.now i c }
 {
-    let all = bounding(alloc, rows, s)?;
+    let all = bounding(alloc, rows, s, touching)?;
     if all.is_empty() {
         return Ok(None);
     }
@@ -127,13 +150,30 @@ fn narrowed(
         Ok(tied) => tied,
         Err(fault) => return Err(fault),
     };
-    let mut column = slack;
+    let mut column = next_column(rows, &tied, slack, right);
     while tied.len() > 1 && column < right {
         match ties(alloc, rows, s, column, &tied) {
             Ok(fewer) => tied = fewer,
             Err(fault) => return Err(fault),
         }
-        column += 1;
+        column = next_column(rows, &tied, column + 1, right);
     }
     Ok(tied[0])
+}
+
+/// The first column from `from` on, and before `right`, at which one of these rows has a number, or `right`.
+fn next_column(rows: &[FracRow], among: &[usize], from: u32, right: u32) -> u32
+    requires inside { (i : ℕ) → Among i among.now → i < length rows.now }
+    requires order { from ≤ right }
+    ensures after { from ≤ result }
+    ensures before { result ≤ right }
+    ensures none { (i k : ℕ) → Among i among.now → from ≤ k → k < result → at k (entries_at rows.now i) ≡ nought }
+{
+    let mut least = right;
+    for row in among {
+        if let Some(column) = rows[*row].next_column(from) {
+            least = least.min(column);
+        }
+    }
+    least
 }

@@ -3,11 +3,13 @@
 ghost use Rattle.std.specs.Prelude.{◌≡◌, ◌≢◌, ◌<◌, ℕ, pos, length, IfOk, OnOk, true};
 ghost use Rattle.frac128.specs.Values.{numerator, IsQuotient};
 ghost use Rattle.frac_rows.specs.Entries.{at, QuotientLeaves};
-ghost use Rattle.simplex.specs.Standing.{entries_at, IsSwept, SweepLeaves, RowStep, OthersSwept, IsPivoted, PivotLeaves};
+ghost use Rattle.simplex.specs.Among.{Among, AllDiffer};
+ghost use Rattle.simplex.specs.Standing.{entries_at, IsSwept, SweepLeaves, AreTouching, AmongSwept, RowLeaves, IsPivoted, PivotLeaves};
 
 use frac_rows::{FracRow, RowFault};
 use frac128::Frac;
 use std::alloc::{AllocError, AllocFailed, Global};
+use std::mem;
 
 /// Why a step of the tableau was not made.
 #[derive(Clone, Copy, Debug)]
@@ -58,85 +60,64 @@ fn lead_of(alloc: Global, row: &FracRow, s: u32) -> Result<FracRow, RowFault>
 }
 
 /// The row less its number at column `s` times the lead. A row that has none there stays untouched.
-fn sweep(alloc: Global, row: &mut FracRow, s: u32, lead: &FracRow) -> Result<(), RowFault>
+fn sweep(row: &mut FracRow, s: u32, lead: &FracRow, spare: &mut FracRow) -> Result<(), RowFault>
     ensures swept { OnOk result (IsSwept s lead.now row.old row.new) }
     ensures leaves { (c : ℕ) → result ≡ Err (RowFault.Leaves c) → SweepLeaves s c lead.now row.old }
+    ensures touched { (c : ℕ) → result ≡ Err (RowFault.Leaves c) → numerator (at s row.old) ≢ pos 0 }
 {
     let times = row.at(s);
     if times.num() == 0 {
         return Ok(());
     }
-    match row.less(alloc, &times, lead) {
-        Ok(new) => {
-            *row = new;
-            Ok(())
-        }
-        Err(fault) => Err(fault),
-    }
+    row.subtract(&times, lead, spare)
 }
 
-/// Sweeps a row, unless it is the one to skip.
-fn sweep_unless(
-    alloc: Global,
-    skip: bool,
-    row: &mut FracRow,
-    s: u32,
-    lead: &FracRow,
-) -> Result<(), RowFault>
-    ensures swept { OnOk result (RowStep skip s lead.now row.old row.new) }
-    ensures leaves { (c : ℕ) → result ≡ Err (RowFault.Leaves c) → SweepLeaves s c lead.now row.old }
-    ensures kept { skip ≡ true → result ≡ Ok tt }
-{
-    if skip {
-        Ok(())
-    } else {
-        sweep(alloc, row, s, lead)
-    }
-}
-
-/// Sweeps each row but that at `l`.
+/// Sweeps these rows.
 fn sweep_rows(
-    alloc: Global,
     rows: &mut [FracRow],
-    l: usize,
+    among: &[usize],
     s: u32,
     lead: &FracRow,
+    spare: &mut FracRow,
 ) -> Result<(), Fault>
-    ensures swept { OnOk result (OthersSwept l s lead.now rows.old rows.new) }
-    ensures inside { (i c : ℕ) → result ≡ Err (Fault.Leaves i c) → i < length rows.old }
-    ensures other { (i c : ℕ) → result ≡ Err (Fault.Leaves i c) → i ≢ l }
-    ensures leaves { (i c : ℕ) → result ≡ Err (Fault.Leaves i c) → SweepLeaves s c lead.now (entries_at rows.old i) }
+    requires inside { (i : ℕ) → Among i among.now → i < length rows.old }
+    requires differ { AllDiffer among.now }
+    ensures swept { OnOk result (AmongSwept among.now s lead.now rows.old rows.new) }
+    ensures leaves { (i c : ℕ) → result ≡ Err (Fault.Leaves i c) → RowLeaves s lead.now rows.old i c }
 {
-    for i in 0..rows.len() {
-        match sweep_unless(alloc, i == l, &mut rows[i], s, lead) {
-            Ok(()) => {}
-            Err(fault) => return Err(in_row(i, fault)),
+    for row in among {
+        if let Err(fault) = sweep(&mut rows[*row], s, lead, spare) {
+            return Err(in_row(*row, fault));
         }
     }
     Ok(())
 }
 
-/// The pivot in row `l` and column `s`, where the row's number is not 0.
+/// The pivot in row `l` and column `s`, where the row's number is not 0. New rows are made in `spare`.
 pub(crate) fn pivot(
     alloc: Global,
     rows: &mut [FracRow],
     gains: &mut FracRow,
+    touching: &[usize],
     l: usize,
     s: u32,
+    spare: &mut FracRow,
 ) -> Result<(), Fault>
     requires inside { l < length rows.old }
     requires number { numerator (at s (entries_at rows.old l)) ≢ pos 0 }
+    requires touching { AreTouching s rows.old touching.now }
     ensures pivoted { OnOk result (IsPivoted l s rows.old gains.old rows.new gains.new) }
     ensures leaves { (i c : ℕ) → result ≡ Err (Fault.Leaves i c) → PivotLeaves l s rows.old gains.old i c }
 {
-    let lead = match lead_of(alloc, &rows[l], s) {
+    let row = mem::replace(&mut rows[l], FracRow::new(alloc));
+    let lead = match lead_of(alloc, &row, s) {
         Ok(lead) => lead,
         Err(fault) => return Err(in_row(l, fault)),
     };
-    if let Err(fault) = sweep_rows(alloc, rows, l, s, &lead) {
+    if let Err(fault) = sweep_rows(rows, touching, s, &lead, spare) {
         return Err(fault);
     }
-    if let Err(fault) = sweep(alloc, gains, s, &lead) {
+    if let Err(fault) = sweep(gains, s, &lead, spare) {
         return Err(in_row(rows.len(), fault));
     }
     rows[l] = lead;

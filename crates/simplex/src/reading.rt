@@ -1,8 +1,8 @@
 //! Numbers that are read from rows.
 
-ghost use Rattle.std.specs.Prelude.{◌≡◌, ◌+◌, ◌≤◌, ◌<◌, ◌^◌, ℕ, length, pos, neg_ℤ, IfOk};
+ghost use Rattle.std.specs.Prelude.{[], ◌≡◌, ◌+◌, ◌≤◌, ◌<◌, ◌^◌, ℕ, length, pos, neg_ℤ, IfOk};
 ghost use Rattle.frac128.specs.Values.{numerator, denominator};
-ghost use Rattle.frac_rows.specs.Entries.{at, IsSparse};
+ghost use Rattle.frac_rows.specs.Entries.{at};
 ghost use Rattle.simplex.specs.Standing.{entries_at};
 ghost use Rattle.simplex.specs.Reading.{HaveParts, NoneTwice, AreEntries, IsSpreadTo, IsPut, frac_at};
 
@@ -21,18 +21,29 @@ pub(crate) fn fractions(
     ensures { IfOk result (λ xs. AreEntries first count row.now xs.items) }
 {
     let mut all = zeros(alloc, count as usize)?;
-    fill(&mut all, first, row.entries());
+    fill(&mut all, first, row);
     Ok(all)
 }
 
-/// Puts each entry at its column's place, counted from `first`, among fractions that are 0.
-fn fill(all: &mut [Frac], first: u32, entries: &[(u32, Frac)])
-    requires sparse { IsSparse entries.now }
-    requires zeros { HaveParts (length all.old) (λ _. pos 0) (λ _. 1) all.old }
-    ensures { AreEntries first (length all.old) entries.now all.new }
+/// Puts each fraction of the row at its column's place, counted from `first`, among fractions that are 0.
+pub(crate) fn fill(all: &mut [Frac], first: u32, row: &FracRow)
+    requires { AreEntries first (length all.old) [] all.old }
+    ensures { AreEntries first (length all.old) row.now all.new }
 {
+    let entries = row.entries();
     for i in 0..entries.len() {
         put(all, first, entries[i].0, entries[i].1);
+    }
+}
+
+/// Puts 0 at the place of each fraction of the row.
+pub(crate) fn clear(all: &mut [Frac], row: &FracRow)
+    requires { AreEntries 0 (length all.old) row.now all.old }
+    ensures { AreEntries 0 (length all.old) [] all.new }
+{
+    let entries = row.entries();
+    for i in 0..entries.len() {
+        put(all, 0, entries[i].0, Frac::zero());
     }
 }
 
@@ -96,7 +107,7 @@ pub(crate) fn spread(
 }
 
 /// `count` times 0.
-fn zeros(alloc: Global, count: usize) -> Result<Vec<Frac>, AllocError>
+pub(crate) fn zeros(alloc: Global, count: usize) -> Result<Vec<Frac>, AllocError>
     ensures { IfOk result (λ xs. HaveParts count (λ _. pos 0) (λ _. 1) xs.items) }
 {
     let mut all = Vec::with_capacity(alloc, count)?;

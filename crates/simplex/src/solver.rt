@@ -11,14 +11,14 @@ ghost use Rattle.tableau.specs.Courses.{Ends, Rises, Follows, Answers, Refuses};
 ghost use Rattle.tableau.specs.Tableaux.{entry};
 ghost use Rattle.simplex.specs.Choosing.{IsChooser};
 ghost use Rattle.simplex.specs.Reading.{AreEntries, NoneTwice, AreOver};
-ghost use Rattle.simplex.specs.Solving.{rule_of, Reached, IsStep, IsOpening, IsAt, IsAnswer, Agree};
+ghost use Rattle.simplex.specs.Solving.{rule_of, Reached, IsCleared, IsStep, IsOpening, IsAt, IsAnswer, Agree};
 
 use crate::answer::Answer;
 use crate::chooser::Chooser;
-use crate::leaving::leaving;
+use crate::leaving::{leaving, touching};
 use crate::opening::{opening_gains, opening_rows};
 use crate::pivot::{Fault, pivot};
-use crate::reading::{column_of, fractions, negated, spread};
+use crate::reading::{clear, column_of, fill, fractions, negated, spread, zeros};
 use frac_rows::FracRow;
 use frac128::Frac;
 use linear_rows::System;
@@ -31,6 +31,14 @@ pub(crate) struct Table {
     pub(crate) gains: FracRow,
     basis: Vec<u32>,
     pivots: Vec<(u32, u32)>,
+}
+
+/// What all steps use again: the gains as the rule sees them, which are 0 between steps, and a row in which
+/// new rows are made.
+#[derive(Drop)]
+pub(crate) struct Memory {
+    gains: Vec<Frac>,
+    row: FracRow,
 }
 
 /// What comes of a step.
@@ -46,21 +54,25 @@ pub(crate) enum Step {
     Leaves { row: u32, column: u32 },
 }
 
-/// The column that the rule answers for these gains.
+/// The column that the rule answers for these gains. It sees them in `seen`, where all is 0 before and after.
 fn entering<F: Fn(&[Frac]) -> Option<usize>>(
-    alloc: Global,
     chooser: &Chooser<F>,
     gains: &FracRow,
-    right: u32,
-) -> Result<Option<u32>, AllocError>
+    seen: &mut [Frac],
+) -> Option<u32>
     requires callable { F.IsAlwaysCallable chooser.now }
     requires chooses { IsChooser F.Fn chooser.now }
-    ensures { IfOk result (λ o. (fs : List Frac) × AreEntries 0 right gains.now fs × FnReturnsAt F.Fn chooser.now fs o) }
+    requires columns { length seen.old < 2 ^ 32 }
+    requires cleared { AreEntries 0 (length seen.old) [] seen.old }
+    ensures chosen { (fs : List Frac) × AreEntries 0 (length seen.old) gains.now fs × FnReturnsAt F.Fn chooser.now fs result }
+    ensures cleared { AreEntries 0 (length seen.old) [] seen.new }
 {
-    let seen = fractions(alloc, gains, 0, right)?;
-    match chooser.choose(&seen) {
-        Some(column) => Ok(Some(column as u32)),
-        None => Ok(None),
+    fill(seen, 0, gains);
+    let chosen = chooser.choose(seen);
+    clear(seen, gains);
+    match chosen {
+        Some(column) => Some(column as u32),
+        None => None,
     }
 }
 
@@ -84,31 +96,45 @@ pub(crate) fn make_step<F: Fn(&[Frac]) -> Option<usize>>(
     system: &System,
     chooser: &Chooser<F>,
     table: &mut Table,
+    memory: &mut Memory,
 ) -> Result<Step, AllocError>
     requires callable { F.IsAlwaysCallable chooser.now }
     requires chooses { IsChooser F.Fn chooser.now }
     requires columns { right system.now < 2 ^ 32 }
     requires reached { Reached (rule_of F.Fn chooser.now) system.now table.old }
-    ensures { IfOk result (IsStep (rule_of F.Fn chooser.now) system.now table.old table.new) }
+    requires cleared { IsCleared (right system.now) memory.old }
+    ensures step { IfOk result (IsStep (rule_of F.Fn chooser.now) system.now table.old table.new) }
+    ensures cleared { IsCleared (right system.now) memory.new }
 {
     let slack = system.rows().len() as u32;
     let right = slack + system.unknowns();
-    let column = match entering(alloc, chooser, &table.gains, right) {
-        Ok(Some(column)) => column,
-        Ok(None) => return Ok(Step::Best),
-        Err(error) => return Err(error),
+    let column = match entering(chooser, &table.gains, &mut memory.gains) {
+        Some(column) => column,
+        None => return Ok(Step::Best),
     };
-    let row = match leaving(alloc, &table.rows, column, slack, right) {
+    let touching = touching(alloc, &table.rows, column)?;
+    let row = match leaving(alloc, &table.rows, &touching, column, slack, right) {
         Ok(Some(row)) => row,
         Ok(None) => return Ok(Step::Rises { column }),
         Err(fault) => return stopped(fault),
     };
-    if let Err(fault) = pivot(alloc, &mut table.rows, &mut table.gains, row, column) {
+    let rows = &mut table.rows;
+    if let Err(fault) = pivot(alloc, rows, &mut table.gains, &touching, row, column, &mut memory.row) {
         return stopped(fault);
     }
     table.basis[row] = column;
     table.pivots.push((row as u32, column))?;
     Ok(Step::Pivot)
+}
+
+/// The memory of steps over this many columns.
+pub(crate) fn new_memory(alloc: Global, columns: usize) -> Result<Memory, AllocError>
+    ensures { IfOk result (IsCleared columns) }
+{
+    Ok(Memory {
+        gains: zeros(alloc, columns)?,
+        row: FracRow::new(alloc),
+    })
 }
 
 /// The opening table of a system.
@@ -198,9 +224,11 @@ pub fn solve<F: Fn(&[Frac]) -> Option<usize>>(
     requires chooses { IsChooser F.Fn chooser.now }
     ensures { IfOk result (IsAnswer (rule_of F.Fn chooser.now) system.now) }
 {
-    if system.rows().len() > (u32::MAX - system.unknowns()) as usize {
+    let unknowns = system.unknowns();
+    if system.rows().len() > (u32::MAX - unknowns) as usize {
         return Err(AllocError);
     }
+    let mut memory = new_memory(alloc, system.rows().len() + unknowns as usize)?;
     let mut table = match opening(alloc, system) {
         Ok(table) => table,
         Err(Fault::NoMemory) => return Err(AllocError),
@@ -213,7 +241,7 @@ pub fn solve<F: Fn(&[Frac]) -> Option<usize>>(
         }
     };
     loop {
-        match make_step(alloc, system, chooser, &mut table) {
+        match make_step(alloc, system, chooser, &mut table, &mut memory) {
             Ok(Step::Pivot) => {}
             Ok(Step::Best) => {
                 let x = solution(alloc, system, &table)?;

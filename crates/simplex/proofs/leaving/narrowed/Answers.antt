@@ -1,7 +1,8 @@
 use Rattle.std.proofs.Common.{◌≡◌, refl, sym, ap, subst, Err, arith, ◌<◌, ◌≤◌, ◌+◌, ◌-◌, length, get_or, ℕ, List}
 use Rattle.tableau.specs.Places.{counted}
 use Rattle.simplex.specs.declared.pivot.Fault.{Fault}
-use Rattle.simplex.specs.Ties.{Among, AreTied, RatioLeaves, columns_to}
+use Rattle.simplex.specs.Among.{Among}
+use Rattle.simplex.specs.Ties.{AreTied, RatioLeaves, columns_to}
 use Rattle.simplex.proofs.Narrowing.{Narrowed, narrowed_first, narrowed_next, columns_first, columns_next, columns_at, search_first, search_next, search_ends, first_among}
 use Rattle.simplex.proofs.leaving.narrowed.Goals.{then-loop-alloc-test+else-column-right, else-loop-alloc-test}
 use Rattle.simplex.proofs.leaving.narrowed.Goals as goal

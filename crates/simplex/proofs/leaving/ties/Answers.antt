@@ -3,8 +3,10 @@ use Rattle.frac128.specs.Values.{IsQuotient}
 use Rattle.frac_rows.specs.Entries.{Entries, at, QuotientLeaves}
 use Rattle.simplex.specs.declared.pivot.Fault.{Fault}
 use Rattle.simplex.specs.Standing.{entries_at}
-use Rattle.simplex.specs.Ties.{Among, IsBounding, AreTied, RatioLeaves}
-use Rattle.simplex.proofs.Tying.{row_is, tied_more, take_more, take_whole, among_at}
+use Rattle.simplex.specs.Among.{Among}
+use Rattle.simplex.specs.Ties.{IsBounding, AreTied, RatioLeaves}
+use Rattle.simplex.proofs.Rows.{row_is, take_more, take_whole, among_at}
+use Rattle.simplex.proofs.Tying.{tied_more}
 use Rattle.simplex.proofs.leaving.ties.Goals as goal
 
 pub bounds-rows-row : goal.bounds-rows-row

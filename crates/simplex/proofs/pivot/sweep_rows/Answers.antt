@@ -1,13 +1,33 @@
-use Rattle.std.proofs.Common.{◌≡◌, sym, ap, ◌∙◌, subst, Err, arith, ℕ}
-use Rattle.simplex.specs.declared.pivot.Fault.{Fault}
-use Rattle.simplex.specs.Standing.{entries_at, SweepLeaves}
-use Rattle.simplex.proofs.Sweeping.{value_of}
+use Rattle.std.proofs.Common.{rules, ◌≡◌, refl, ◌∙◌, sym, ap, subst, Err, arith, ℕ, ◌<◌, ◌≤◌, length, get_or}
+use Rattle.simplex.proofs.Rows.{among_at}
+use Rattle.simplex.proofs.Sweeping.{none_swept, one_more, row_leaves, all_swept}
 use Rattle.simplex.proofs.pivot.sweep_rows.Goals as goal
+
+pub bounds-rows-row : goal.bounds-rows-row
+bounds-rows-row c = let h = c.requires.inside (get_or c.args.among.now c.loop-row.row-index 0) (among_at c.args.among.now c.loop-row.row-index 0 (omega arith)) in let n = c.loop-row.invariant.count in omega arith
+
+pub offset_bounds-rows-row : goal.offset_bounds-rows-row
+offset_bounds-rows-row c =
+    let h = c.requires.inside (get_or c.args.among.now c.loop-row.row-index 0) (among_at c.args.among.now c.loop-row.row-index 0 (omega arith)) in
+    let n = c.loop-row.invariant.count in
+    let inside : get_or c.args.among.now c.loop-row.row-index 0 < length c.loop-row.rows = omega arith in
+    search rules
 
 pub returns-in-Err-clause-leaves : goal.returns-in-Err-clause-leaves
 returns-in-Err-clause-leaves c i k e =
-    let same : c.in_row.result ≡ Fault.Leaves i k = cc in
-    let f = c.in_row.ensures i k same in
-    let l = c.in-Err.ensures.leaves k (ap Err f.1) in
-    let row = value_of c.loop-i.rows c.loop-i.i c.index-rows-i.result (omega arith) ∙ c.loop-i.invariant.rest c.loop-i.i (omega arith) in
-    subst (λ (z : ℕ). SweepLeaves c.args.s k c.args.lead.now (entries_at c.args.rows.now z)) (sym f.0) (subst (SweepLeaves c.args.s k c.args.lead.now) row l)
+    let j : ℕ = get_or c.args.among.now c.loop-row.row-index 0 in
+    let inside = c.requires.inside j (among_at c.args.among.now c.loop-row.row-index 0 (omega arith)) in
+    let f = c.in_row.ensures i k (cc) in
+    let g = ap Err f.1 in
+    row_leaves c.loop-row.row-index j i k c.args.s c.args.among.now c.args.lead.now c.args.rows.now c.loop-row.rows c.index-rows-row.result (omega arith) c.requires.differ refl inside c.loop-row.invariant f.0 (c.in-Err.ensures.touched k g) (c.in-Err.ensures.leaves k g)
+
+pub loop-row-preserved : goal.loop-row-preserved
+loop-row-preserved c =
+    let j : ℕ = get_or c.args.among.now c.loop-row.row-index 0 in
+    let inside = c.requires.inside j (among_at c.args.among.now c.loop-row.row-index 0 (omega arith)) in
+    one_more c.loop-row.row-index j c.args.s c.args.among.now c.args.lead.now c.args.rows.now c.loop-row.rows c.sweep.new.row (omega arith) c.requires.differ refl inside c.loop-row.invariant c.index-rows-row.result c.in_default.ensures.swept
+
+pub returns-clause-swept : goal.returns-clause-swept
+returns-clause-swept c =
+    let past : length c.args.among.now ≤ c.loop-row.row-index = omega arith in
+    all_swept c.loop-row.row-index c.args.s c.args.among.now c.args.lead.now c.args.rows.now c.loop-row.rows past c.loop-row.invariant

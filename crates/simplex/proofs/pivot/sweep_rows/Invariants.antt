@@ -1,5 +1,6 @@
-use Rattle.simplex.proofs.Sweeping.{SweptTo}
+use Rattle.std.proofs.Common.{take}
+use Rattle.simplex.specs.Standing.{AmongSwept}
 use Rattle.simplex.proofs.pivot.sweep_rows.Given as goal
 
-abbrev pub invariant-loop-i : goal.invariant-loop-i
-invariant-loop-i l = SweptTo l.i l.l l.s l.lead l.initial.rows l.rows
+abbrev pub invariant-loop-row : goal.invariant-loop-row
+invariant-loop-row l = AmongSwept (take l.row-index l.among) l.s l.lead l.initial.rows l.rows

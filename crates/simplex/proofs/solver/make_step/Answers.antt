@@ -7,71 +7,71 @@ use Rattle.simplex.proofs.Steps.{columns_compared}
 use Rattle.simplex.proofs.Solves.{reaches_end, reaches_rise, search_refuses, pivot_refuses, pivot_reaches, one_longer, basis_long, stops, written_back}
 use Rattle.simplex.proofs.solver.make_step.Goals as goal
 
-pub returns-in-Ok-None : goal.returns-in-Ok-None
-returns-in-Ok-None g c =
-    let o = rw (c.rows.ensures.all, c.unknowns.ensures) at c.in-Ok-None.ensures in
-    reaches_end (FnReturnsAt g.F.Fn c.args.chooser.now) c.requires.chooses c.args.system.now c.rows.ensures.sound c.args.table.now c.requires.reached o.0 o.1 (rw c.in-Ok-None.field-0-is at o.2)
+pub returns-in-None-clause-step : goal.returns-in-None-clause-step
+returns-in-None-clause-step g c =
+    let o = rw (c.deref_mut.ensures.value, c.requires.cleared.count) at c.in-None.ensures.chosen in
+    reaches_end (FnReturnsAt g.F.Fn c.args.chooser.now) c.requires.chooses c.args.system.now c.rows.ensures.sound c.args.table.now c.requires.reached o.0 o.1 o.2
 
-pub returns-in-Ok-None-leaving : goal.returns-in-Ok-None-leaving
-returns-in-Ok-None-leaving g c =
-    let o = rw (c.rows.ensures.all, c.unknowns.ensures) at c.in-Ok-Some.ensures in
-    reaches_rise (FnReturnsAt g.F.Fn c.args.chooser.now) c.requires.chooses c.args.system.now c.rows.ensures.sound c.args.table.now c.requires.reached o.0 o.1 c.in-Ok-Some.column (rw c.in-Ok-Some.field-0-is at o.2)
-    (λ i b. c.in-Ok-None-leaving.ensures.none i (ap Ok c.in-Ok-None-leaving.field-0-is) (rw c.deref.ensures.value b))
+pub returns-in-Ok-None-clause-step : goal.returns-in-Ok-None-clause-step
+returns-in-Ok-None-clause-step g c =
+    let o = rw (c.deref_mut.ensures.value, c.requires.cleared.count) at c.in-Some.ensures.chosen in
+    reaches_rise (FnReturnsAt g.F.Fn c.args.chooser.now) c.requires.chooses c.args.system.now c.rows.ensures.sound c.args.table.now c.requires.reached o.0 o.1 c.in-Some.column o.2
+    (λ i b. c.in-Ok-None.ensures.none i (ap Ok c.in-Ok-None.field-0-is) (rw c.deref-2.ensures.value b))
 
 pub stopped-requires : goal.stopped-requires
 stopped-requires g c i k e =
-    let o = rw (c.rows.ensures.all, c.unknowns.ensures) at c.in-Ok-Some.ensures in
-    let w = rw (c.rows.ensures.all, c.unknowns.ensures, c.deref.ensures.value, columns_compared c.args.system.now) at c.in-Err-leaving.ensures.leaves i k (ap Err e) in
-    let q = search_refuses (FnReturnsAt g.F.Fn c.args.chooser.now) c.requires.chooses c.args.system.now c.rows.ensures.sound c.args.table.now c.requires.reached o.0 o.1 c.in-Ok-Some.column (rw c.in-Ok-Some.field-0-is at o.2) i k w in
+    let o = rw (c.deref_mut.ensures.value, c.requires.cleared.count) at c.in-Some.ensures.chosen in
+    let w = rw (c.rows.ensures.all, c.unknowns.ensures, c.deref-2.ensures.value, columns_compared c.args.system.now) at c.in-Err.ensures.leaves i k (ap Err e) in
+    let q = search_refuses (FnReturnsAt g.F.Fn c.args.chooser.now) c.requires.chooses c.args.system.now c.rows.ensures.sound c.args.table.now c.requires.reached o.0 o.1 c.in-Some.column o.2 i k w in
     let most = q.1 in
     let columns = c.requires.columns in
     omega arith
 
-pub returns-in-Err-leaving : goal.returns-in-Err-leaving
-returns-in-Err-leaving g c = stops (rule_of g.F.Fn c.args.chooser.now) c.args.system.now c.args.table.now c.args.table.now c.in-Err-leaving.fault c.stopped.result (λ i k e.
-    let o = rw (c.rows.ensures.all, c.unknowns.ensures) at c.in-Ok-Some.ensures in
-    let w = rw (c.rows.ensures.all, c.unknowns.ensures, c.deref.ensures.value, columns_compared c.args.system.now) at c.in-Err-leaving.ensures.leaves i k (ap Err e) in
-    let q = search_refuses (FnReturnsAt g.F.Fn c.args.chooser.now) c.requires.chooses c.args.system.now c.rows.ensures.sound c.args.table.now c.requires.reached o.0 o.1 c.in-Ok-Some.column (rw c.in-Ok-Some.field-0-is at o.2) i k w in
+pub returns-in-Err-clause-step : goal.returns-in-Err-clause-step
+returns-in-Err-clause-step g c = stops (rule_of g.F.Fn c.args.chooser.now) c.args.system.now c.args.table.now c.args.table.now c.in-Err.fault c.stopped.result (λ i k e.
+    let o = rw (c.deref_mut.ensures.value, c.requires.cleared.count) at c.in-Some.ensures.chosen in
+    let w = rw (c.rows.ensures.all, c.unknowns.ensures, c.deref-2.ensures.value, columns_compared c.args.system.now) at c.in-Err.ensures.leaves i k (ap Err e) in
+    let q = search_refuses (FnReturnsAt g.F.Fn c.args.chooser.now) c.requires.chooses c.args.system.now c.rows.ensures.sound c.args.table.now c.requires.reached o.0 o.1 c.in-Some.column o.2 i k w in
     q.0) c.stopped.ensures
 
 pub pivot-requires-clause-inside : goal.pivot-requires-clause-inside
 pivot-requires-clause-inside g c =
-    let l = rw c.deref.ensures.value at c.in-Ok-Some-leaving.ensures.row c.in-Ok-Some-leaving.row (ap Ok c.in-Ok-Some-leaving.field-0-is) in
-    rw c.deref_mut.ensures.value l.bounding.inside
+    let l = rw c.deref-2.ensures.value at c.in-Ok-Some.ensures.row c.in-Ok-Some.row (ap Ok c.in-Ok-Some.field-0-is) in
+    rw c.deref_mut-2.ensures.value l.bounding.inside
 
 pub stopped-requires-in-Err-pivot : goal.stopped-requires-in-Err-pivot
 stopped-requires-in-Err-pivot g c i k e =
-    let o = rw (c.rows.ensures.all, c.unknowns.ensures) at c.in-Ok-Some.ensures in
-    let l = rw (c.rows.ensures.all, c.unknowns.ensures, c.deref.ensures.value, columns_compared c.args.system.now) at c.in-Ok-Some-leaving.ensures.row c.in-Ok-Some-leaving.row (ap Ok c.in-Ok-Some-leaving.field-0-is) in
-    let w = rw c.deref_mut.ensures.value at c.in-Err-pivot.ensures.leaves i k (ap Err e) in
-    let q = pivot_refuses (FnReturnsAt g.F.Fn c.args.chooser.now) c.requires.chooses c.args.system.now c.rows.ensures.sound c.args.table.now c.requires.reached o.0 o.1 c.in-Ok-Some.column (rw c.in-Ok-Some.field-0-is at o.2) c.in-Ok-Some-leaving.row i k l w in
+    let o = rw (c.deref_mut.ensures.value, c.requires.cleared.count) at c.in-Some.ensures.chosen in
+    let l = rw (c.rows.ensures.all, c.unknowns.ensures, c.deref-2.ensures.value, columns_compared c.args.system.now) at c.in-Ok-Some.ensures.row c.in-Ok-Some.row (ap Ok c.in-Ok-Some.field-0-is) in
+    let w = rw c.deref_mut-2.ensures.value at c.in-Err-pivot.ensures.leaves i k (ap Err e) in
+    let q = pivot_refuses (FnReturnsAt g.F.Fn c.args.chooser.now) c.requires.chooses c.args.system.now c.rows.ensures.sound c.args.table.now c.requires.reached o.0 o.1 c.in-Some.column o.2 c.in-Ok-Some.row i k l w in
     let most = q.1 in
     let columns = c.requires.columns in
     omega arith
 
-pub returns-in-Err-pivot : goal.returns-in-Err-pivot
-returns-in-Err-pivot g c = stops (rule_of g.F.Fn c.args.chooser.now) c.args.system.now c.args.table.now (record { rows = with_items c.args.table.now.rows c.pivot.new.rows; gains = c.pivot.new.gains; basis = c.args.table.now.basis; pivots = c.args.table.now.pivots })
+pub returns-in-Err-pivot-clause-step : goal.returns-in-Err-pivot-clause-step
+returns-in-Err-pivot-clause-step g c = stops (rule_of g.F.Fn c.args.chooser.now) c.args.system.now c.args.table.now (record { rows = with_items c.args.table.now.rows c.pivot.new.rows; gains = c.pivot.new.gains; basis = c.args.table.now.basis; pivots = c.args.table.now.pivots })
     c.in-Err-pivot.fault c.stopped-in-Err-pivot.result (λ i k e.
-    let o = rw (c.rows.ensures.all, c.unknowns.ensures) at c.in-Ok-Some.ensures in
-    let l = rw (c.rows.ensures.all, c.unknowns.ensures, c.deref.ensures.value, columns_compared c.args.system.now) at c.in-Ok-Some-leaving.ensures.row c.in-Ok-Some-leaving.row (ap Ok c.in-Ok-Some-leaving.field-0-is) in
-    let w = rw c.deref_mut.ensures.value at c.in-Err-pivot.ensures.leaves i k (ap Err e) in
-    let q = pivot_refuses (FnReturnsAt g.F.Fn c.args.chooser.now) c.requires.chooses c.args.system.now c.rows.ensures.sound c.args.table.now c.requires.reached o.0 o.1 c.in-Ok-Some.column (rw c.in-Ok-Some.field-0-is at o.2) c.in-Ok-Some-leaving.row i k l w in
+    let o = rw (c.deref_mut.ensures.value, c.requires.cleared.count) at c.in-Some.ensures.chosen in
+    let l = rw (c.rows.ensures.all, c.unknowns.ensures, c.deref-2.ensures.value, columns_compared c.args.system.now) at c.in-Ok-Some.ensures.row c.in-Ok-Some.row (ap Ok c.in-Ok-Some.field-0-is) in
+    let w = rw c.deref_mut-2.ensures.value at c.in-Err-pivot.ensures.leaves i k (ap Err e) in
+    let q = pivot_refuses (FnReturnsAt g.F.Fn c.args.chooser.now) c.requires.chooses c.args.system.now c.rows.ensures.sound c.args.table.now c.requires.reached o.0 o.1 c.in-Some.column o.2 c.in-Ok-Some.row i k l w in
     q.0) c.stopped-in-Err-pivot.ensures
 
 pub index_mut-requires : goal.index_mut-requires
 index_mut-requires g c =
-    let l = rw c.deref.ensures.value at c.in-Ok-Some-leaving.ensures.row c.in-Ok-Some-leaving.row (ap Ok c.in-Ok-Some-leaving.field-0-is) in
+    let l = rw c.deref-2.ensures.value at c.in-Ok-Some.ensures.row c.in-Ok-Some.row (ap Ok c.in-Ok-Some.field-0-is) in
     let h = l.bounding.inside in
     let n = basis_long (rule_of g.F.Fn c.args.chooser.now) c.args.system.now c.args.table.now c.rows.ensures.sound c.requires.reached in
     omega arith
 
-pub returns : goal.returns
-returns g c =
-    let o = rw (c.rows.ensures.all, c.unknowns.ensures) at c.in-Ok-Some.ensures in
-    let l = rw (c.rows.ensures.all, c.unknowns.ensures, c.deref.ensures.value, columns_compared c.args.system.now) at c.in-Ok-Some-leaving.ensures.row c.in-Ok-Some-leaving.row (ap Ok c.in-Ok-Some-leaving.field-0-is) in
-    let made = rw c.deref_mut.ensures.value at c.in_default.ensures.pivoted in
+pub returns-clause-step : goal.returns-clause-step
+returns-clause-step g c =
+    let o = rw (c.deref_mut.ensures.value, c.requires.cleared.count) at c.in-Some.ensures.chosen in
+    let l = rw (c.rows.ensures.all, c.unknowns.ensures, c.deref-2.ensures.value, columns_compared c.args.system.now) at c.in-Ok-Some.ensures.row c.in-Ok-Some.row (ap Ok c.in-Ok-Some.field-0-is) in
+    let made = rw c.deref_mut-2.ensures.value at c.in_default.ensures.pivoted in
     let back = written_back c.args.table.now.rows.len c.args.table.now.rows.items c.pivot.new.rows c.args.table.now.rows.ok.0 made.rows_swept.count in (
-      pivot_reaches (FnReturnsAt g.F.Fn c.args.chooser.now) c.requires.chooses c.args.system.now c.rows.ensures.sound c.args.table.now c.requires.reached o.0 o.1 c.in-Ok-Some.column (rw c.in-Ok-Some.field-0-is at o.2) c.in-Ok-Some-leaving.row
-          (record { rows = with_items c.args.table.now.rows c.pivot.new.rows; gains = c.pivot.new.gains; basis = with_item c.args.table.now.basis c.in-Ok-Some-leaving.row c.in-Ok-Some.column; pivots = c.push.new.self }) l (rw back made) refl c.in_ok-push.ensures.items,
-      ap length c.in_ok-push.ensures.items ∙ one_longer c.args.table.now.pivots.items (c.in-Ok-Some-leaving.row, c.in-Ok-Some.column),
+      pivot_reaches (FnReturnsAt g.F.Fn c.args.chooser.now) c.requires.chooses c.args.system.now c.rows.ensures.sound c.args.table.now c.requires.reached o.0 o.1 c.in-Some.column o.2 c.in-Ok-Some.row
+          (record { rows = with_items c.args.table.now.rows c.pivot.new.rows; gains = c.pivot.new.gains; basis = with_item c.args.table.now.basis c.in-Ok-Some.row c.in-Some.column; pivots = c.push.new.self }) l (rw back made) refl c.in_ok-push.ensures.items,
+      ap length c.in_ok-push.ensures.items ∙ one_longer c.args.table.now.pivots.items (c.in-Ok-Some.row, c.in-Some.column),
     )
