@@ -1,10 +1,11 @@
 -- Lists of fractions that are made one by one.
-use Rattle.std.proofs.Common.{◌≡◌, ◌≢◌, refl, sym, ap, subst, ◌∙◌, ℕ, zero, suc, ◌+◌, ◌-◌, ◌<◌, ◌≤◌, ℤ, pos, arith, List, [], ◌∷◌, ◌++◌, length, get_or, set, take, true, false, ◌==◌, if◌then◌else◌, ◌⊎◌, inl, inr}
+use Rattle.std.proofs.Common.{◌≡◌, ◌≢◌, refl, sym, ap, subst, ◌∙◌, ℕ, zero, suc, ◌+◌, ◌-◌, ◌<◌, ◌≤◌, ℤ, pos, arith, List, [], ◌∷◌, ◌++◌, length, get_or, set, take, drop, true, false, ◌==◌, if◌then◌else◌, ◌⊎◌, inl, inr}
 use Rattle.std.proofs.lemmas.Bool.Decides.{nat_tests}
+use Rattle.std.proofs.lemmas.List.{drop_all}
 use lib.ListN.{length-append}
 use Rattle.frac128.specs.declared.Frac.{Frac}
 use Rattle.frac128.specs.Values.{numerator, denominator}
-use Rattle.frac_rows.specs.Entries.{Entries, at, nought, SparseFrom}
+use Rattle.frac_rows.specs.Entries.{Entries, at, nought, columns_of, numbers_of, SparseFrom}
 use Rattle.simplex.specs.Reading.{frac_at, column_at, HaveParts, AreEntries, NoneTwice, IsSpreadTo, IsPut}
 
 appended_before : (xs : List Frac) (x : Frac) (i : ℕ) → i < length xs → frac_at (xs ++ x ∷ []) i ≡ frac_at xs i
@@ -153,10 +154,74 @@ entry_next first n k es xs ys s inside put h = elim (below_or_from (entry_column
   ])
 ]
 
-same_entry : (es : Entries) (k : ℕ) (d e : ℕ × Frac) → k < length es → get_or es k d ≡ get_or es k e
-same_entry [] k d e h = absurd (omega arith)
-same_entry (x ∷ es) zero d e h = refl
-same_entry (x ∷ es) (suc k) d e h = same_entry es k d e (omega arith)
+-- the columns and the numbers of a row
+pub column_read : (es : Entries) (k d : ℕ) → k < length es → get_or (columns_of es) k d ≡ entry_column es k
+column_read [] k d h = absurd (omega arith)
+column_read (e ∷ es) zero d h = refl
+column_read (e ∷ es) (suc k) d h = column_read es k d (omega arith)
 
-pub entry_next_of : (first n k : ℕ) (es : Entries) (xs ys : List Frac) (d e : ℕ × Frac) → SparseFrom 0 es → k < length es → IsPut first (let z = get_or es k d in z.0) (let z = get_or es k e in z.1) xs ys → AreEntries first n (take k es) xs → AreEntries first n (take (k + 1) es) ys
-entry_next_of first n k es xs ys d e s inside put h = entry_next first n k es xs ys s inside (subst (λ (z : ℕ × Frac). IsPut first z.0 (entry_number es k) xs ys) (same_entry es k d (0, nought) inside) (subst (λ (z : ℕ × Frac). IsPut first (let w = get_or es k d in w.0) z.1 xs ys) (same_entry es k e (0, nought) inside) put)) h
+pub number_read : (es : Entries) (k : ℕ) (d : Frac) → k < length es → get_or (numbers_of es) k d ≡ entry_number es k
+number_read [] k d h = absurd (omega arith)
+number_read (e ∷ es) zero d h = refl
+number_read (e ∷ es) (suc k) d h = number_read es k d (omega arith)
+
+pub columns_count : (es : Entries) → length (columns_of es) ≡ length es
+columns_count [] = refl
+columns_count (e ∷ es) = omega (arith, columns_count es)
+
+pub numbers_count : (es : Entries) → length (numbers_of es) ≡ length es
+numbers_count [] = refl
+numbers_count (e ∷ es) = omega (arith, numbers_count es)
+
+pub entry_next_of : (first n k : ℕ) (es : Entries) (columns : List ℕ) (numbers xs ys : List Frac) (d : ℕ) (e : Frac) → SparseFrom 0 es → columns ≡ columns_of es → numbers ≡ numbers_of es → k < length columns
+    → IsPut first (get_or columns k d) (get_or numbers k e) xs ys → AreEntries first n (take k es) xs → AreEntries first n (take (k + 1) es) ys
+entry_next_of first n k es columns numbers xs ys d e s c m inside put h =
+    let within : k < length es = (let l = ap length c in let q = columns_count es in omega arith) in
+    entry_next first n k es xs ys s within
+    (subst (λ (x : Frac). IsPut first (entry_column es k) x xs ys) (ap (λ (zs : List Frac). get_or zs k e) m ∙ number_read es k e within)
+    (subst (λ (z : ℕ). IsPut first z (get_or numbers k e) xs ys) (ap (λ (zs : List ℕ). get_or zs k d) c ∙ column_read es k d within) put)) h
+
+-- one entry less
+before_all : (b c : ℕ) (es : Entries) → SparseFrom b es → c < b → at c es ≡ nought
+before_all b c [] s h = refl
+before_all b c (e ∷ es) s h =
+    let l = s.0 in
+    let t : (e.0 == c) ≡ false = grind (arith, nat_tests) in
+    rw t (before_all (suc e.0) c es s.2 (omega arith))
+
+less_here : (b : ℕ) (es : Entries) (k : ℕ) → SparseFrom b es → k < length es → at (entry_column es k) (drop (suc k) es) ≡ nought
+less_here b [] k s h = absurd (omega arith)
+less_here b (e ∷ es) zero s h = before_all (suc e.0) e.0 es s.2 (omega arith)
+less_here b (e ∷ es) (suc k) s h = less_here (suc e.0) es k s.2 (omega arith)
+
+less_there : (es : Entries) (k c : ℕ) → k < length es → entry_column es k ≢ c → at c (drop k es) ≡ at c (drop (suc k) es)
+less_there [] k c h n = absurd (omega arith)
+less_there (e ∷ es) zero c h n = let t : (e.0 == c) ≡ false = grind (arith, nat_tests) in rw t refl
+less_there (e ∷ es) (suc k) c h n = less_there es k c (omega arith) n
+
+entry_cleared : (n k : ℕ) (es : Entries) (xs ys : List Frac) (z : Frac) → SparseFrom 0 es → k < length es → numerator z ≡ pos 0 → denominator z ≡ 1 → IsPut 0 (entry_column es k) z xs ys → AreEntries 0 n (drop k es) xs → AreEntries 0 n (drop (suc k) es) ys
+entry_cleared n k es xs ys z s inside num den put h =
+    subst (AreEntries 0 n (drop (suc k) es)) (sym (put.here (entry_column es k) (omega arith))) (record {
+      count = length-set xs (entry_column es k) z ∙ h.count;
+      nums = λ i q. elim (same_or_not i (entry_column es k)) [
+        | inl e ↦ ap numerator (ap (frac_at (set xs (entry_column es k) z)) e ∙ set_here xs (entry_column es k) z (let c = h.count in omega arith)) ∙ num ∙ sym (ap numerator (ap (λ (c : ℕ). at c (drop (suc k) es)) (from_zero i ∙ e) ∙ less_here 0 es k s inside))
+        | inr d ↦ ap numerator (set_there xs (entry_column es k) i z d) ∙ h.nums i q ∙ ap numerator (less_there es k (0 + i) inside (λ e. d (sym (e ∙ from_zero i))))
+      ];
+      dens = λ i q. elim (same_or_not i (entry_column es k)) [
+        | inl e ↦ ap denominator (ap (frac_at (set xs (entry_column es k) z)) e ∙ set_here xs (entry_column es k) z (let c = h.count in omega arith)) ∙ den ∙ sym (ap denominator (ap (λ (c : ℕ). at c (drop (suc k) es)) (from_zero i ∙ e) ∙ less_here 0 es k s inside))
+        | inr d ↦ ap denominator (set_there xs (entry_column es k) i z d) ∙ h.dens i q ∙ ap denominator (less_there es k (0 + i) inside (λ e. d (sym (e ∙ from_zero i))))
+      ];
+    })
+  where
+    from_zero : (i : ℕ) → 0 + i ≡ i
+    from_zero i = omega arith
+
+pub entry_cleared_of : (n k : ℕ) (es : Entries) (columns : List ℕ) (xs ys : List Frac) (d : ℕ) (z : Frac) → SparseFrom 0 es → columns ≡ columns_of es → k < length columns → numerator z ≡ pos 0 → denominator z ≡ 1
+    → IsPut 0 (get_or columns k d) z xs ys → AreEntries 0 n (drop k es) xs → AreEntries 0 n (drop (k + 1) es) ys
+entry_cleared_of n k es columns xs ys d z s c inside num den put h =
+    let within : k < length es = (let l = ap length c in let q = columns_count es in omega arith) in
+    subst (λ (m : ℕ). AreEntries 0 n (drop m es) ys) (let e : suc k ≡ k + 1 = omega arith in e)
+    (entry_cleared n k es xs ys z s within num den (subst (λ (q : ℕ). IsPut 0 q z xs ys) (ap (λ (zs : List ℕ). get_or zs k d) c ∙ column_read es k d within) put) h)
+
+pub all_cleared : (n k : ℕ) (es : Entries) (columns : List ℕ) (xs : List Frac) → columns ≡ columns_of es → length columns ≤ k → AreEntries 0 n (drop k es) xs → AreEntries 0 n [] xs
+all_cleared n k es columns xs c h a = subst (λ (zs : Entries). AreEntries 0 n zs xs) (drop_all k es (let l = ap length c in let q = columns_count es in omega arith)) a

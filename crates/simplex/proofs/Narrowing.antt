@@ -1,5 +1,5 @@
 -- Rows that are tied in some columns, and in one column more.
-use Rattle.std.proofs.Common.{◌≡◌, ◌≢◌, refl, sym, ap, subst, ◌∙◌, ℕ, zero, suc, ◌+◌, ◌-◌, ◌*◌, ◌<◌, ◌≤◌, ℤ, pos, ◌*ℤ◌, ◌<ℤ◌, arith, List, [], ◌∷◌, ◌++◌, length, get_or, ◌⊎◌, inl, inr}
+use Rattle.std.proofs.Common.{◌≡◌, ◌≢◌, refl, sym, ap, subst, ◌∙◌, ℕ, zero, suc, ◌+◌, ◌-◌, ◌*◌, ◌<◌, ◌≤◌, ℤ, pos, ◌*ℤ◌, ◌<ℤ◌, arith, List, [], ◌∷◌, ◌++◌, length, get_or, take, ◌⊎◌, inl, inr}
 use Rattle.std.proofs.lemmas.Int.{ints}
 use Rattle.std.proofs.lemmas.Cmp.{int_ranked}
 use Rattle.std.specs.declared.cmp.Ordering.TheVariants.{Less}
@@ -20,7 +20,7 @@ use Rattle.tableau.proofs.Pivoting.{above, same_or_not}
 use Rattle.simplex.specs.Standing.{Stands, RowsStand, entries_at}
 use Rattle.simplex.specs.Among.{Among, AllDiffer}
 use Rattle.simplex.specs.Ties.{IsBounding, AreBounding, IsRatio, AreTied, RatioLeaves, IsLeaving, SearchLeaves, columns_to}
-use Rattle.simplex.proofs.Rows.{among_or_not}
+use Rattle.simplex.proofs.Rows.{among_or_not, among_take_more, take_whole}
 use Rattle.simplex.proofs.Lifting.{quotient_stands, quotient_is_there, no_quotient}
 
 -- as far as both go: less where they first differ, and they differ
@@ -344,6 +344,25 @@ columns_at right slack column h l =
     let f : suc column ≡ column + 1 = omega arith in
     columns_rest right slack column h (omega arith) ∙ ap (λ (n : ℕ). columns_to right slack column ++ counted column n) e ∙ ap (λ (n : ℕ). columns_to right slack column ++ column ∷ counted n (right - (column + 1))) f
 
+-- from one column to another these rows have 0
+pub record NoneBetween (from to : ℕ) (rows : List Entries) (is : List ℕ) : Type 0 where
+  pub none : (i k : ℕ) → Among i is → from ≤ k → k < to → at k (entries_at rows i) ≡ nought
+
+pub none_at_first : (from to : ℕ) (rows : List Entries) → NoneBetween from to rows []
+none_at_first from to rows = record { none = λ i k a h l. absurd a }
+
+pub none_more : (k from least new : ℕ) (rows : List Entries) (among : List ℕ) (es : Entries) → k < length among → es ≡ entries_at rows (get_or among k 0) → NoneBetween from least rows (take k among) → new ≤ least → ((q : ℕ) → from ≤ q → q < new → at q es ≡ nought)
+    → NoneBetween from new rows (take (k + 1) among)
+none_more k from least new rows among es h e b l none = record {
+  none = λ i q a f m. elim (among_take_more k among i h a) [
+    | inl c ↦ b.none i q c f (omega arith)
+    | inr s ↦ ap (λ (z : ℕ). at q (entries_at rows z)) s ∙ ap (at q) (sym e) ∙ none q f m
+  ];
+}
+
+pub none_whole : (k from to : ℕ) (rows : List Entries) (among : List ℕ) → length among ≤ k → NoneBetween from to rows (take k among) → NoneBetween from to rows among
+none_whole k from to rows among h b = subst (NoneBetween from to rows) (take_whole k among h) b
+
 -- where all that are tied have 0, all stay tied
 none_over : (by : Frac) → IsQuotient nought by nought
 none_over by = omega (arith, ints)
@@ -365,6 +384,12 @@ narrowed_past (suc n) right slack column s rows tied h none narrowed =
     let one : Narrowed (columns_to right slack (column + 1)) s rows tied =
     subst (λ (cs : List ℕ). Narrowed cs s rows tied) (sym (columns_next right slack column h)) (narrowed_next (columns_to right slack column) column s rows tied tied nought narrowed (all_tie column s rows tied (λ i a. none i column a (omega arith) (omega arith)))) in
     subst (λ (c : ℕ). Narrowed (columns_to right slack c) s rows tied) e (narrowed_past n right slack (column + 1) s rows tied (omega arith) (λ i k a l m. none i k a (omega arith) (omega arith)) one)
+
+pub narrowed_to : (right slack from to s : ℕ) (rows : List Entries) (tied : List ℕ) → slack ≤ from → from ≤ to → ((i k : ℕ) → Among i tied → from ≤ k → k < to → at k (entries_at rows i) ≡ nought) → Narrowed (columns_to right slack from) s rows tied
+    → Narrowed (columns_to right slack to) s rows tied
+narrowed_to right slack from to s rows tied h l none narrowed =
+    let e : from + (to - from) ≡ to = omega arith in
+    subst (λ (c : ℕ). Narrowed (columns_to right slack c) s rows tied) e (narrowed_past (to - from) right slack from s rows tied h (λ i k a f m. none i k a f (omega arith)) narrowed)
 
 -- another row that is tied
 pub another_tied : (tied : List ℕ) (i : ℕ) → AllDiffer tied → 1 < length tied → (m : ℕ) × (m ≢ i) × Among m tied

@@ -49,14 +49,14 @@ pub(crate) fn in_row(row: usize, fault: RowFault) -> Fault
     }
 }
 
-/// The row over its number at column `s`.
-fn lead_of(alloc: Global, row: &FracRow, s: u32) -> Result<FracRow, RowFault>
-    requires { numerator (at s row.now) ≢ pos 0 }
-    ensures each { IfOk result (λ r. (c : ℕ) → IsQuotient (at c row.now) (at s row.now) (at c r)) }
-    ensures leaves { (c : ℕ) → result ≡ Err (RowFault.Leaves c) → QuotientLeaves (at c row.now) (at s row.now) }
+/// The row over its number at column `s`, or the column at which a quotient leaves the range.
+fn lead_of(row: FracRow, s: u32) -> Result<FracRow, u32>
+    requires { numerator (at s row) ≢ pos 0 }
+    ensures each { IfOk result (λ r. (c : ℕ) → IsQuotient (at c row) (at s row) (at c r)) }
+    ensures leaves { (c : ℕ) → result ≡ Err c → QuotientLeaves (at c row) (at s row) }
 {
     let number = row.at(s);
-    row.over(alloc, &number)
+    row.over(&number)
 }
 
 /// The row less its number at column `s` times the lead. A row that has none there stays untouched.
@@ -110,9 +110,9 @@ pub(crate) fn pivot(
     ensures leaves { (i c : ℕ) → result ≡ Err (Fault.Leaves i c) → PivotLeaves l s rows.old gains.old i c }
 {
     let row = mem::replace(&mut rows[l], FracRow::new(alloc));
-    let lead = match lead_of(alloc, &row, s) {
+    let lead = match lead_of(row, s) {
         Ok(lead) => lead,
-        Err(fault) => return Err(in_row(l, fault)),
+        Err(column) => return Err(Fault::Leaves { row: l, column }),
     };
     if let Err(fault) = sweep_rows(rows, touching, s, &lead, spare) {
         return Err(fault);

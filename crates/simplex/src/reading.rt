@@ -30,9 +30,10 @@ pub(crate) fn fill(all: &mut [Frac], first: u32, row: &FracRow)
     requires { AreEntries first (length all.old) [] all.old }
     ensures { AreEntries first (length all.old) row.now all.new }
 {
-    let entries = row.entries();
-    for i in 0..entries.len() {
-        put(all, first, entries[i].0, entries[i].1);
+    let columns = row.columns();
+    let numbers = row.numbers();
+    for i in 0..columns.len() {
+        put(all, first, columns[i], numbers[i]);
     }
 }
 
@@ -41,9 +42,9 @@ pub(crate) fn clear(all: &mut [Frac], row: &FracRow)
     requires { AreEntries 0 (length all.old) row.now all.old }
     ensures { AreEntries 0 (length all.old) [] all.new }
 {
-    let entries = row.entries();
-    for i in 0..entries.len() {
-        put(all, 0, entries[i].0, Frac::zero());
+    let columns = row.columns();
+    for i in 0..columns.len() {
+        put(all, 0, columns[i], Frac::zero());
     }
 }
 

@@ -20,8 +20,8 @@ returns-in-Err-sweep_rows-clause-leaves c i k e =
 
 pub returns-in-Err-sweep-clause-leaves : goal.returns-in-Err-sweep-clause-leaves
 returns-in-Err-sweep-clause-leaves c i k e =
-    let same : c.in_row-in-Err-sweep.result ≡ Fault.Leaves i k = cc in
-    let f = c.in_row-in-Err-sweep.ensures i k same in
+    let same : c.in_row.result ≡ Fault.Leaves i k = cc in
+    let f = c.in_row.ensures i k same in
     gains_left c.args.l c.args.s c.args.rows.now c.index-rows-l.result c.requires.inside c.args.touching.now c.requires.touching c.args.gains.now c.in-Ok.lead i k (rw c.replace-row.ensures.value at c.in-Ok.ensures.each)
     (f.0 ∙ c.in_default.ensures.swept.count ∙ length-slice_set c.args.rows.now c.args.l c.replace-row.new.dest) (c.in-Err-sweep.ensures.leaves k (ap Err f.1))
 

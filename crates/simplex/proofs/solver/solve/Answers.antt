@@ -6,7 +6,7 @@ use Rattle.simplex.proofs.Tables.{opened_reached, fewer_pivots, shrinks, differ_
 use Rattle.simplex.proofs.solver.solve.Goals as goal
 
 pub loop-table-init : goal.loop-table-init
-loop-table-init g c = (opened_reached (rule_of g.F.Fn c.args.chooser.now) c.args.system.now c.in-Ok.table c.in-Ok.ensures.table, rw (c.rows.ensures.all, c.unknowns.ensures) at c.in_ok-memory.ensures)
+loop-table-init g c = (opened_reached (rule_of g.F.Fn c.args.chooser.now) c.args.system.now c.in-Ok.table c.in-Ok.ensures.table, rw (c.rows-2.ensures.all, c.unknowns-unknowns.ensures) at c.in_ok-memory.ensures)
 
 pub loop-table-smaller : goal.loop-table-smaller
 loop-table-smaller g c =

@@ -1,0 +1,9 @@
+use Rattle.std.proofs.Common.{◌≡◌, ◌<◌, ◌≤◌, ℕ, take}
+use Rattle.frac_rows.specs.Entries.{at, nought}
+use Rattle.simplex.specs.Among.{Among}
+use Rattle.simplex.specs.Standing.{entries_at}
+use Rattle.simplex.proofs.Narrowing.{NoneBetween}
+use Rattle.simplex.proofs.leaving.next_column.Given as goal
+
+abbrev pub invariant-loop-row : goal.invariant-loop-row
+invariant-loop-row l = (l.from ≤ l.least) × (l.least ≤ l.right) × NoneBetween l.from l.least l.rows (take l.row-index l.among)
