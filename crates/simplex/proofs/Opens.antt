@@ -1,18 +1,20 @@
 -- A row that is made column by column.
-use Rattle.std.proofs.Common.{◌≡◌, ◌≢◌, refl, sym, ap, subst, ◌∙◌, ℕ, zero, suc, ◌+◌, ◌-◌, ◌<◌, ◌≤◌, ◌==◌, false, ℤ, pos, arith, List, [], ◌∷◌, ◌++◌, length, map, get_or, ◌⊎◌, inl, inr}
+use Rattle.std.proofs.Common.{◌≡◌, ◌≢◌, refl, sym, ap, subst, ◌∙◌, ℕ, zero, suc, ◌+◌, ◌-◌, ◌<◌, ◌≤◌, ◌==◌, false, ℤ, pos, arith, List, [], ◌∷◌, ◌++◌, length, map, get_or, slice_set, take, Result, Ok, Err, OnOk, ◌⊎◌, inl, inr}
 use Rattle.frac128.specs.declared.Frac.{Frac}
 use Rattle.frac_rows.specs.Entries.{Entries, at, nought, EndsBefore}
-use Rattle.linear_rows.specs.Terms.{SparseRow, coefficient}
+use Rattle.linear_rows.specs.Terms.{Terms, SparseRow, coefficient, unknown_at, number_at, IsSparse}
+use Rattle.linear_rows.proofs.Places.{coefficient_at as coefficient_of}
 use Rattle.tableau.specs.Places as places
 use Rattle.std.proofs.lemmas.Bool.Decides.{nat_tests}
-use Rattle.linear_rows.specs.Systems.{LinearSystem}
+use Rattle.linear_rows.specs.Systems.{LinearSystem, AllBelow}
 use lib.ListN.{length-append}
 use Rattle.tableau.specs.Tableaux.{right, opening_row, opening, entry}
 use Rattle.tableau.specs.Refusals.{least_number}
 use Rattle.tableau.proofs.Opening.{coefficients, at_slack, at_right, only_here, only_there, at-front, length-map, length-opening_row, length-opened, row_opened, value_at_slack}
 use Rattle.simplex.specs.Standing.{Stands, RowStands, RowsStand, entries_at}
 use Rattle.simplex.proofs.Steps.{entry_in, entry_last}
-use Rattle.simplex.specs.Opening.{AddsWhole, OpensTo, OpeningLeaves}
+use Rattle.simplex.proofs.Sweeping.{here, there, length-slice_set, value_of}
+use Rattle.simplex.specs.Opening.{AddsWhole, OpensTo, OpeningLeaves, AreEmpty, AddsInRow, AddsColumn, ColumnsOpen}
 
 whole_stands : (x : Frac) (n : ℤ) → x.num ≡ n → x.den ≡ 1 → Stands (pos 1) n x
 whole_stands x n e f = record { is = rw (e, f) refl }
@@ -92,36 +94,158 @@ pub ends_later : (c k : ℕ) (es : Entries) → EndsBefore c es → c ≤ k → 
 ends_later c k [] e h = tt
 ends_later c k (d ∷ es) e h = (let l = e.0 in omega arith, ends_later c k es e.1 h)
 
--- the first n rows
-pub record RowsOpen (n : ℕ) (s : LinearSystem) (rows : List Entries) : Type 0 where
-  pub count : length rows ≡ n
-  pub each : (i : ℕ) → i < n → RowStands (pos 1) (opening_row s i) (entries_at rows i)
+-- rows without numbers
+empty_appended : (rows : List Entries) → ((i : ℕ) → entries_at rows i ≡ []) → (i : ℕ) → entries_at (rows ++ [] ∷ []) i ≡ []
+empty_appended [] h zero = refl
+empty_appended [] h (suc i) = refl
+empty_appended (r ∷ rows) h zero = h zero
+empty_appended (r ∷ rows) h (suc i) = empty_appended rows (λ k. h (suc k)) i
 
-appended_before : (rows : List Entries) (r : Entries) (i : ℕ) → i < length rows → entries_at (rows ++ r ∷ []) i ≡ entries_at rows i
-appended_before [] r i h = absurd (omega arith)
-appended_before (x ∷ rows) r zero h = refl
-appended_before (x ∷ rows) r (suc i) h = appended_before rows r i (omega arith)
-
-appended_last : (rows : List Entries) (r : Entries) (i : ℕ) → i ≡ length rows → entries_at (rows ++ r ∷ []) i ≡ r
-appended_last [] r zero h = refl
-appended_last [] r (suc i) h = absurd (omega arith)
-appended_last (x ∷ rows) r zero h = absurd (omega arith)
-appended_last (x ∷ rows) r (suc i) h = appended_last rows r i (omega arith)
-
-pub rows_open_more : (n : ℕ) (s : LinearSystem) (rows : List Entries) (r : Entries) → RowsOpen n s rows → RowStands (pos 1) (opening_row s n) r → RowsOpen (n + 1) s (rows ++ r ∷ [])
-rows_open_more n s rows r o h = record {
-  count = length-append rows (r ∷ []) ∙ (let e = o.count in omega arith);
-  each = λ i q. elim (earlier_or_here i n q) [
-    | inl l ↦ subst (RowStands (pos 1) (opening_row s i)) (sym (appended_before rows r i (let e = o.count in omega arith))) (o.each i l)
-    | inr e ↦ subst (λ (z : ℕ). RowStands (pos 1) (opening_row s z) (entries_at (rows ++ r ∷ []) i)) (sym e) (subst (RowStands (pos 1) (opening_row s n)) (sym (appended_last rows r i (e ∙ sym o.count))) h)
-  ];
+pub empty_more : (n : ℕ) (rows : List Entries) → AreEmpty n rows → AreEmpty (n + 1) (rows ++ [] ∷ [])
+empty_more n rows h = record {
+  count = length-append rows ([] ∷ []) ∙ (let e = h.count in omega arith);
+  each = empty_appended rows h.each;
 }
 
-pub rows_open : (s : LinearSystem) (rows : List Entries) → RowsOpen s.unknowns s rows → RowsStand (opening s) rows
-rows_open s rows o = record {
+pub no_columns : (n : ℕ) (inequalities : List SparseRow) (rows : List Entries) → AreEmpty n rows → ColumnsOpen 0 n inequalities rows
+no_columns n inequalities rows h = record {
+  count = h.count;
+  each = λ i q. subst (OpensTo 0 (map (λ row. coefficient i row.terms) inequalities)) (sym (h.each i)) (record { before = tt; each = λ c l. absurd (omega arith) });
+}
+
+-- one number more, in its row
+pub row_added : (c i : ℕ) (n : ℤ) (old : List Entries) (d new : Entries) → i < length old → d ≡ get_or old i d → AddsWhole c n d new → EndsBefore (c + 1) new → AddsInRow c i n old (slice_set old i new)
+row_added c i n old d new h e a b = record {
+  count = length-slice_set old i new;
+  here = subst (AddsWhole c n (entries_at old i)) (sym (here old i new h)) (subst (λ (es : Entries). AddsWhole c n es new) (e ∙ value_of old i d h) a);
+  before = subst (EndsBefore (c + 1)) (sym (here old i new h)) b;
+  others = there old i new;
+}
+
+-- the first terms
+first_none : (ts : Terms) (k u : ℕ) → ((m : ℕ) → m < k → unknown_at ts m ≢ u) → coefficient u (take k ts) ≡ pos 0
+first_none ts zero u h = refl
+first_none [] (suc k) u h = refl
+first_none (t ∷ ts) (suc k) u h = grind (arith, nat_tests, h 0 (omega arith), first_none ts k u (λ m l. h (suc m) (omega arith)))
+
+first_last : (ts : Terms) (k u : ℕ) → k < length ts → unknown_at ts k ≡ u → ((m : ℕ) → m < k → unknown_at ts m ≢ u) → coefficient u (take (suc k) ts) ≡ number_at ts k
+first_last [] k u h e n = absurd (omega arith)
+first_last (t ∷ ts) zero u h e n = grind (arith, nat_tests)
+first_last (t ∷ ts) (suc k) u h e n = grind (arith, nat_tests, n 0 (omega arith), first_last ts k u (omega arith) e (λ m l. n (suc m) (omega arith)))
+
+first_other : (ts : Terms) (k u : ℕ) → k < length ts → unknown_at ts k ≢ u → coefficient u (take (suc k) ts) ≡ coefficient u (take k ts)
+first_other [] k u h n = absurd (omega arith)
+first_other (t ∷ ts) zero u h n = grind (arith, nat_tests)
+first_other (t ∷ ts) (suc k) u h n = grind (arith, nat_tests, first_other ts k u (omega arith) n)
+
+-- an unknown with a term is among the n
+pub term_inside : (n k : ℕ) (ts : Terms) → IsSparse ts → ((u : ℕ) → n ≤ u → coefficient u ts ≡ pos 0) → k < length ts → unknown_at ts k < n
+term_inside n k ts sparse below h = elim (less_or_not (unknown_at ts k) n) [
+  | inl l ↦ l
+  | inr g ↦ absurd (sparse.none_zero k h (sym (coefficient_of ts sparse (unknown_at ts k) k (record { in_range = h; has_unknown = refl })) ∙ below (unknown_at ts k) g))
+]
+  where
+    less_or_not : (m n : ℕ) → (m < n) ⊎ (n ≤ m)
+    less_or_not m n = grind arith
+
+pub term_leaves : (n k i : ℕ) (ts : Terms) → IsSparse ts → ((u : ℕ) → n ≤ u → coefficient u ts ≡ pos 0) → k < length ts → i ≡ unknown_at ts k → number_at ts k ≡ least_number → (i < n) × (coefficient i ts ≡ least_number)
+term_leaves n k i ts sparse below h e l = (let b = term_inside n k ts sparse below h in omega arith, coefficient_of ts sparse i k (record { in_range = h; has_unknown = sym e }) ∙ l)
+
+no_number : (c : ℕ) (es : Entries) → EndsBefore c es → AddsWhole c (pos 0) es es
+no_number c es h = let e = none_from c c es h (omega arith) in record {
+  num = ap (λ (x : Frac). x.num) e;
+  den = ap (λ (x : Frac). x.den) e;
+  others = λ k n. refl;
+}
+
+pub no_term : (c : ℕ) (rows : List Entries) → ((i : ℕ) → i < length rows → EndsBefore c (entries_at rows i)) → AddsColumn c [] rows rows
+no_term c rows h = record {
+  count = refl;
+  added = λ i q. no_number c (entries_at rows i) (h i q);
+  before = λ i q. ends_later c (c + 1) (entries_at rows i) (h i q) (omega arith);
+  kept = λ i e. refl;
+}
+
+module _ (c k : ℕ) (ts : Terms) (old rows : List Entries) (sparse : IsSparse ts) (inside : k < length ts) (a : AddsColumn c (take k ts) old rows) where
+  not_before : (m : ℕ) → m < k → unknown_at ts m ≢ unknown_at ts k
+  not_before m l e = let s = sparse.ascending m k l inside in omega arith
+
+  -- the term's row is as it was
+  pub untouched : entries_at rows (unknown_at ts k) ≡ entries_at old (unknown_at ts k)
+  untouched = a.kept (unknown_at ts k) (first_none ts k (unknown_at ts k) not_before)
+
+module _ (c k : ℕ) (ts : Terms) (old rows new : List Entries) (sparse : IsSparse ts) (inside : k < length ts) (a : AddsColumn c (take k ts) old rows) (r : AddsInRow c (unknown_at ts k) (number_at ts k) rows new) where
+  none_before : (m : ℕ) → m < k → unknown_at ts m ≢ unknown_at ts k
+  none_before = not_before c k ts old rows sparse inside a
+
+  here_added : AddsWhole c (coefficient (unknown_at ts k) (take (suc k) ts)) (entries_at old (unknown_at ts k)) (entries_at new (unknown_at ts k))
+  here_added = subst (λ (z : ℤ). AddsWhole c z (entries_at old (unknown_at ts k)) (entries_at new (unknown_at ts k))) (sym (first_last ts k (unknown_at ts k) inside refl none_before))
+      (subst (λ (es : Entries). AddsWhole c (number_at ts k) es (entries_at new (unknown_at ts k))) (untouched c k ts old rows sparse inside a) r.here)
+
+  others_added : (i : ℕ) → i ≢ unknown_at ts k → AddsWhole c (coefficient i (take k ts)) (entries_at old i) (entries_at rows i) → AddsWhole c (coefficient i (take (suc k) ts)) (entries_at old i) (entries_at new i)
+  others_added i n h = subst (λ (z : ℤ). AddsWhole c z (entries_at old i) (entries_at new i)) (sym (first_other ts k i inside (λ e. n (sym e)))) (subst (AddsWhole c (coefficient i (take k ts)) (entries_at old i)) (sym (r.others i n)) h)
+
+  pub term_more : AddsColumn c (take (k + 1) ts) old new
+  term_more = subst (λ (m : ℕ). AddsColumn c (take m ts) old new) (let e : suc k ≡ k + 1 = omega arith in e) (record {
+    count = r.count ∙ a.count;
+    added = λ i q. elim (same_or_not i (unknown_at ts k)) [
+      | inl e ↦ subst (λ (z : ℕ). AddsWhole c (coefficient z (take (suc k) ts)) (entries_at old z) (entries_at new z)) (sym e) here_added
+      | inr n ↦ others_added i n (a.added i q)
+    ];
+    before = λ i q. elim (same_or_not i (unknown_at ts k)) [
+      | inl e ↦ subst (λ (z : ℕ). EndsBefore (c + 1) (entries_at new z)) (sym e) r.before
+      | inr n ↦ subst (EndsBefore (c + 1)) (sym (r.others i n)) (a.before i q)
+    ];
+    kept = λ i z. elim (same_or_not i (unknown_at ts k)) [
+      | inl e ↦ absurd (sparse.none_zero k inside (sym (first_last ts k i inside (sym e) (subst (λ (v : ℕ). (m : ℕ) → m < k → unknown_at ts m ≢ v) (sym e) none_before)) ∙ z))
+      | inr n ↦ r.others i n ∙ a.kept i (sym (first_other ts k i inside (λ e. n (sym e))) ∙ z)
+    ];
+  })
+
+-- one column more
+pub column_more : (j n : ℕ) (inequalities : List SparseRow) (d : SparseRow) (rows new : List Entries) → j < length inequalities → d ≡ get_or inequalities j d → ColumnsOpen j n inequalities rows → AddsColumn j d.terms rows new → ColumnsOpen (j + 1) n inequalities new
+column_more j n inequalities d rows new h e o a = record {
+  count = a.count ∙ o.count;
+  each = λ i q. let l : i < length rows = (let c = o.count in omega arith) in
+      opens_more j (coefficient i d.terms) (map (λ row. coefficient i row.terms) inequalities) (entries_at rows i) (entries_at new i) (o.each i q) (a.added i l) (coefficient_at i inequalities j d h e) (a.before i l);
+}
+
+pub below_at : (n : ℕ) (inequalities : List SparseRow) (j : ℕ) (d : SparseRow) → AllBelow n inequalities → j < length inequalities → d ≡ get_or inequalities j d → (u : ℕ) → n ≤ u → coefficient u d.terms ≡ pos 0
+below_at n [] j d b h e = absurd (omega arith)
+below_at n (r ∷ inequalities) zero d b h e = λ u q. ap (λ (row : SparseRow). coefficient u row.terms) e ∙ b.0 u q
+below_at n (r ∷ inequalities) (suc j) d b h e = below_at n inequalities j d b.1 (omega arith) e
+
+pub column_leaves : (i j c : ℕ) (inequalities : List SparseRow) (d : SparseRow) (ts : Terms) → j < length inequalities → d ≡ get_or inequalities j d → ts ≡ d.terms → c ≡ j → coefficient i ts ≡ least_number → OpeningLeaves (map (λ row. coefficient i row.terms) inequalities) c
+column_leaves i j c inequalities d ts h e t q l = record { is = ap (places.at (map (λ row. coefficient i row.terms) inequalities)) q ∙ sym (coefficient_at i inequalities j d h e) ∙ ap (coefficient i) (sym t) ∙ l }
+
+pub on_ok : {A E P Q : Type 0} (r : Result A E) → (P → Q) → OnOk r P → OnOk r Q
+on_ok (Ok a) f h = f h
+on_ok (Err e) f h = tt
+
+-- the slacks and weights of the first k rows, while the others have none
+pub record RowsOpen (k : ℕ) (s : LinearSystem) (rows : List Entries) : Type 0 where
+  pub count : length rows ≡ s.unknowns
+  pub done : (i : ℕ) → i < k → RowStands (pos 1) (opening_row s i) (entries_at rows i)
+  pub rest : (i : ℕ) → k ≤ i → i < s.unknowns → OpensTo (length s.rows) (coefficients s i) (entries_at rows i)
+
+pub rows_open_none : (s : LinearSystem) (rows : List Entries) → ColumnsOpen (length s.rows) s.unknowns s.rows rows → RowsOpen 0 s rows
+rows_open_none s rows o = record { count = o.count; done = λ i q. absurd (omega arith); rest = λ i g q. o.each i q }
+
+pub rows_open_more : (k : ℕ) (s : LinearSystem) (rows : List Entries) (new : Entries) → k < s.unknowns → RowsOpen k s rows → RowStands (pos 1) (opening_row s k) new → RowsOpen (k + 1) s (slice_set rows k new)
+rows_open_more k s rows new h o r = record {
+  count = length-slice_set rows k new ∙ o.count;
+  done = λ i q. elim (earlier_or_here i k q) [
+    | inl l ↦ subst (RowStands (pos 1) (opening_row s i)) (sym (there rows k new i (λ e. omega arith))) (o.done i l)
+    | inr e ↦ subst (λ (z : ℕ). RowStands (pos 1) (opening_row s z) (entries_at (slice_set rows k new) z)) (sym e) (subst (RowStands (pos 1) (opening_row s k)) (sym (here rows k new (let c = o.count in omega arith))) r)
+  ];
+  rest = λ i g q. subst (OpensTo (length s.rows) (coefficients s i)) (sym (there rows k new i (λ e. omega arith))) (o.rest i (omega arith) q);
+}
+
+pub rows_open : (k : ℕ) (s : LinearSystem) (rows : List Entries) → s.unknowns ≤ k → RowsOpen k s rows → RowsStand (opening s) rows
+rows_open k s rows g o = record {
   count = o.count ∙ sym (length-opened s);
   each = λ i h. let q : i < s.unknowns = (let l = length-opened s in omega arith) in
-      subst (λ (ns : List ℤ). RowStands (pos 1) ns (entries_at rows i)) (sym (row_opened s i q)) (o.each i q);
+      subst (λ (ns : List ℤ). RowStands (pos 1) ns (entries_at rows i)) (sym (row_opened s i q)) (o.done i (omega arith));
 }
 
 -- where a number of the opening leaves the range

@@ -2,17 +2,18 @@
 
 ghost use Rattle.std.specs.Prelude.{◌≡◌, ◌<◌, ◌≤◌, ◌+◌, ◌^◌, ℕ, length, map, pos, neg_ℤ, OnOk, IfOk};
 ghost use Rattle.frac_rows.specs.Entries.{EndsBefore};
-ghost use Rattle.linear_rows.specs.Terms.{coefficient};
+ghost use Rattle.linear_rows.specs.Terms.{coefficient, IsSparse};
+ghost use Rattle.linear_rows.specs.Systems.{AllBelow};
 ghost use Rattle.tableau.specs.Tableaux.{opening_row, opening, entry};
 ghost use Rattle.tableau.specs.Refusals.{least_number};
-ghost use Rattle.simplex.specs.Standing.{RowStands, RowsStand};
-ghost use Rattle.simplex.specs.Opening.{AddsWhole, OpensTo, OpeningLeaves};
+ghost use Rattle.simplex.specs.Standing.{entries_at, RowStands, RowsStand};
+ghost use Rattle.simplex.specs.Opening.{AddsWhole, OpensTo, OpeningLeaves, AreEmpty, AddsInRow, AddsColumn, ColumnsOpen};
 
 use crate::pivot::{Fault, in_row};
 use frac_rows::{FracRow, RowFault};
 use frac128::Frac;
 use linear_rows::{Row, System};
-use std::alloc::Global;
+use std::alloc::{AllocError, Global};
 
 /// Adds a whole number at a column after the others.
 fn push_whole(row: &mut FracRow, column: u32, n: i128) -> Result<(), RowFault>
@@ -30,57 +31,108 @@ fn push_whole(row: &mut FracRow, column: u32, n: i128) -> Result<(), RowFault>
     }
 }
 
-/// The numbers of an unknown in the rows, column by column.
-fn coefficients(alloc: Global, rows: &[Row], unknown: u32) -> Result<FracRow, RowFault>
-    requires { length rows.now < 2 ^ 32 }
-    ensures row { IfOk result (OpensTo (length rows.now) (map (λ row. coefficient unknown row.terms) rows.now)) }
-    ensures leaves { (c : ℕ) → result ≡ Err (RowFault.Leaves c) → (c < length rows.now) × OpeningLeaves (map (λ row. coefficient unknown row.terms) rows.now) c }
+/// `count` rows in which each number is 0.
+fn empty_rows(alloc: Global, count: u32) -> Result<Vec<FracRow>, AllocError>
+    ensures { IfOk result (λ rows. AreEmpty count rows.items) }
 {
-    let mut all = FracRow::new(alloc);
-    for j in 0..rows.len() {
-        if let Err(fault) = push_whole(&mut all, j as u32, rows[j].coefficient(unknown)) {
+    let mut rows = Vec::new(alloc);
+    for _ in 0..count {
+        rows.push(FracRow::new(alloc))?;
+    }
+    Ok(rows)
+}
+
+/// Adds an unknown's number to its row, at a column after the others.
+fn push_term(rows: &mut [FracRow], column: u32, unknown: u32, number: i128) -> Result<(), Fault>
+    requires inside { unknown < length rows.old }
+    requires before { EndsBefore column (entries_at rows.old unknown) }
+    ensures added { OnOk result (AddsInRow column unknown number rows.old rows.new) }
+    ensures leaves { (i c : ℕ) → result ≡ Err (Fault.Leaves i c) → (i ≡ unknown) × (c ≡ column) × (number ≡ least_number) }
+{
+    match push_whole(&mut rows[unknown as usize], column, number) {
+        Ok(()) => Ok(()),
+        Err(fault) => Err(in_row(unknown as usize, fault)),
+    }
+}
+
+/// Adds a column after the others: the number of each term, in its unknown's row.
+fn push_terms(rows: &mut [FracRow], column: u32, terms: &[(u32, i128)]) -> Result<(), Fault>
+    requires sparse { IsSparse terms.now }
+    requires below { (u : ℕ) → length rows.old ≤ u → coefficient u terms.now ≡ pos 0 }
+    requires before { (i : ℕ) → i < length rows.old → EndsBefore column (entries_at rows.old i) }
+    ensures added { OnOk result (AddsColumn column terms.now rows.old rows.new) }
+    ensures leaves { (i c : ℕ) → result ≡ Err (Fault.Leaves i c) → (i < length rows.old) × (c ≡ column) × (coefficient i terms.now ≡ least_number) }
+{
+    for term in terms {
+        if let Err(fault) = push_term(rows, column, term.0, term.1) {
             return Err(fault);
         }
     }
-    Ok(all)
+    Ok(())
 }
 
-/// The opening row of an unknown: its numbers in the system's rows, its slack, and its weight.
-fn opening_row(alloc: Global, system: &System, unknown: u32) -> Result<FracRow, RowFault>
+/// Adds a column for each inequality, in order.
+fn push_columns(rows: &mut [FracRow], inequalities: &[Row]) -> Result<(), Fault>
+    requires columns { length inequalities.now < 2 ^ 32 }
+    requires below { AllBelow (length rows.old) inequalities.now }
+    requires empty { AreEmpty (length rows.old) rows.old }
+    ensures opened { OnOk result (ColumnsOpen (length inequalities.now) (length rows.old) inequalities.now rows.new) }
+    ensures leaves { (i c : ℕ) → result ≡ Err (Fault.Leaves i c) → (i < length rows.old) × (c < length inequalities.now) × OpeningLeaves (map (λ row. coefficient i row.terms) inequalities.now) c }
+{
+    for j in 0..inequalities.len() {
+        if let Err(fault) = push_terms(rows, j as u32, inequalities[j].terms()) {
+            return Err(fault);
+        }
+    }
+    Ok(())
+}
+
+/// Adds an unknown's slack and its weight to its row.
+fn push_slack_and_weight(row: &mut FracRow, system: &System, unknown: u32) -> Result<(), RowFault>
     requires inside { unknown < system.now.unknowns }
     requires columns { length system.now.rows + system.now.unknowns < 2 ^ 32 }
-    ensures row { IfOk result (RowStands (pos 1) (opening_row system.now unknown)) }
+    requires opened { OpensTo (length system.now.rows) (map (λ row. coefficient unknown row.terms) system.now.rows) row.old }
+    ensures row { OnOk result (RowStands (pos 1) (opening_row system.now unknown) row.new) }
     ensures leaves { (c : ℕ) → result ≡ Err (RowFault.Leaves c) → OpeningLeaves (opening_row system.now unknown) c }
 {
-    let rows = system.rows();
-    let mut row = match coefficients(alloc, rows, unknown) {
-        Ok(row) => row,
-        Err(fault) => return Err(fault),
-    };
-    let slack = rows.len() as u32;
-    if let Err(fault) = push_whole(&mut row, slack + unknown, 1) {
+    let slack = system.rows().len() as u32;
+    if let Err(fault) = push_whole(row, slack + unknown, 1) {
         return Err(fault);
     }
     let weight = system.weights()[unknown as usize];
-    if let Err(fault) = push_whole(&mut row, slack + system.unknowns(), weight) {
-        return Err(fault);
-    }
-    Ok(row)
+    push_whole(row, slack + system.unknowns(), weight)
 }
 
-/// The opening rows, one for each unknown.
+/// Adds its slack and its weight to each unknown's row.
+fn push_slacks_and_weights(rows: &mut [FracRow], system: &System) -> Result<(), Fault>
+    requires columns { length system.now.rows + system.now.unknowns < 2 ^ 32 }
+    requires opened { ColumnsOpen (length system.now.rows) system.now.unknowns system.now.rows rows.old }
+    ensures rows { OnOk result (RowsStand (opening system.now) rows.new) }
+    ensures leaves { (i c : ℕ) → result ≡ Err (Fault.Leaves i c) → entry (opening system.now) i c ≡ least_number }
+    ensures inside { (i c : ℕ) → result ≡ Err (Fault.Leaves i c) → i ≤ system.now.unknowns }
+{
+    for unknown in 0..system.unknowns() {
+        match push_slack_and_weight(&mut rows[unknown as usize], system, unknown) {
+            Ok(()) => {}
+            Err(fault) => return Err(in_row(unknown as usize, fault)),
+        }
+    }
+    Ok(())
+}
+
+/// The opening rows, one for each unknown. Each number of the system is met once.
 pub(crate) fn opening_rows(alloc: Global, system: &System) -> Result<Vec<FracRow>, Fault>
     requires { length system.now.rows + system.now.unknowns < 2 ^ 32 }
     ensures rows { IfOk result (λ rows. RowsStand (opening system.now) rows.items) }
     ensures leaves { (i c : ℕ) → result ≡ Err (Fault.Leaves i c) → entry (opening system.now) i c ≡ least_number }
     ensures inside { (i c : ℕ) → result ≡ Err (Fault.Leaves i c) → i ≤ system.now.unknowns }
 {
-    let mut rows = Vec::new(alloc);
-    for unknown in 0..system.unknowns() {
-        match opening_row(alloc, system, unknown) {
-            Ok(row) => rows.push(row)?,
-            Err(fault) => return Err(in_row(unknown as usize, fault)),
-        }
+    let mut rows = empty_rows(alloc, system.unknowns())?;
+    if let Err(fault) = push_columns(&mut rows, system.rows()) {
+        return Err(fault);
+    }
+    if let Err(fault) = push_slacks_and_weights(&mut rows, system) {
+        return Err(fault);
     }
     Ok(rows)
 }

@@ -1,21 +1,19 @@
-use Rattle.std.proofs.Common.{◌≡◌, ap, subst, Err, arith, ℕ}
+use Rattle.std.proofs.Common.{◌≡◌, ◌<◌, refl, ap, ◌∙◌, Err, arith, length}
 use Rattle.simplex.specs.declared.pivot.Fault.{Fault}
-use Rattle.simplex.proofs.Opens.{RowsOpen, rows_open, row_leaves}
+use Rattle.simplex.proofs.Opens.{coefficient_leaves, row_leaves}
 use Rattle.simplex.proofs.opening.opening_rows.Goals as goal
 
 pub returns-in-Err-clause-leaves : goal.returns-in-Err-clause-leaves
 returns-in-Err-clause-leaves c i k e =
-    let same : c.in_row.result ≡ Fault.Leaves i k = cc in
-    let f = c.in_row.ensures i k same in
-    row_leaves c.args.system.now c.loop-unknown.unknown i k (let q = c.unknowns-unknown-end.ensures in omega arith) f.0 (c.in-Err.ensures.leaves k (ap Err f.1))
-
-pub returns-clause-rows : goal.returns-clause-rows
-returns-clause-rows c = rows_open c.args.system.now c.loop-unknown.rows.items (let n : c.loop-unknown.unknown ≡ c.args.system.now.unknowns = omega arith in subst (λ (z : ℕ). RowsOpen z c.args.system.now c.loop-unknown.rows.items) n c.loop-unknown.invariant)
+    let same : c.in-Err.fault ≡ Fault.Leaves i k = cc in
+    let f = rw c.rows.ensures.all at (c.in-Err.ensures.leaves i k (ap Err same)) in
+    let inside : i < c.args.system.now.unknowns = (let l = f.0 in let count = ap length c.deref_mut.ensures.value ∙ c.in_ok-rows.ensures.count ∙ c.unknowns.ensures in omega arith) in
+    row_leaves c.args.system.now i i k inside refl (coefficient_leaves c.args.system.now i k f.1 f.2)
 
 pub returns-in-Err-clause-inside : goal.returns-in-Err-clause-inside
 returns-in-Err-clause-inside c i k e =
-    let same : c.in_row.result ≡ Fault.Leaves i k = cc in
-    let f = c.in_row.ensures i k same in
-    let at = f.0 in
-    let most = c.unknowns-unknown-end.ensures in
+    let same : c.in-Err.fault ≡ Fault.Leaves i k = cc in
+    let f = c.in-Err.ensures.leaves i k (ap Err same) in
+    let l = f.0 in
+    let count = ap length c.deref_mut.ensures.value ∙ c.in_ok-rows.ensures.count ∙ c.unknowns.ensures in
     omega arith

@@ -1,0 +1,19 @@
+use Rattle.std.proofs.Common.{◌≡◌, ap, ◌∙◌, Err, arith, length}
+use Rattle.linear_rows.specs.Terms.{coefficient}
+use Rattle.simplex.specs.declared.pivot.Fault.{Fault}
+use Rattle.simplex.proofs.Opens.{below_at, column_leaves}
+use Rattle.simplex.proofs.opening.push_columns.Goals as goal
+
+pub push_terms-requires-clause-below : goal.push_terms-requires-clause-below
+push_terms-requires-clause-below c u q =
+    ap (coefficient u) c.terms.ensures.all
+    ∙ below_at (length c.args.rows.now) c.args.inequalities.now c.loop-j.j c.index-inequalities-j.result c.requires.below c.loop-j-test.true c.index-inequalities-j.is u (let l = c.loop-j.invariant.count in omega arith)
+
+pub returns-in-Err-clause-leaves : goal.returns-in-Err-clause-leaves
+returns-in-Err-clause-leaves c i k e =
+    let same : c.in-Err.fault ≡ Fault.Leaves i k = cc in
+    let f = c.in-Err.ensures.leaves i k (ap Err same) in
+    let count = c.loop-j.invariant.count in
+    let inside = f.0 in
+    let column = f.1 in
+    (omega arith, omega arith, column_leaves i c.loop-j.j k c.args.inequalities.now c.index-inequalities-j.result c.terms.result.now c.loop-j-test.true c.index-inequalities-j.is c.terms.ensures.all f.1 f.2)
