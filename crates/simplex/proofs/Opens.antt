@@ -13,7 +13,8 @@ use Rattle.tableau.specs.Refusals.{least_number}
 use Rattle.tableau.proofs.Opening.{coefficients, at_slack, at_right, only_here, only_there, at-front, length-map, length-opening_row, length-opened, row_opened, value_at_slack}
 use Rattle.simplex.specs.Standing.{Stands, RowStands, RowsStand, entries_at}
 use Rattle.simplex.proofs.Steps.{entry_in, entry_last}
-use Rattle.simplex.proofs.Sweeping.{here, there, length-slice_set, value_of}
+use Rattle.simplex.proofs.Rows.{value_of}
+use Rattle.simplex.proofs.Sweeping.{here, there, length-slice_set}
 use Rattle.simplex.specs.Opening.{AddsWhole, OpensTo, OpeningLeaves, AreEmpty, AddsInRow, AddsColumn, ColumnsOpen}
 
 whole_stands : (x : Frac) (n : ℤ) → x.num ≡ n → x.den ≡ 1 → Stands (pos 1) n x

@@ -4,7 +4,7 @@ ghost use Rattle.simplex.specs.Choosing.{IsChooser};
 
 use super::{least_column, text};
 use crate::chooser::Chooser;
-use crate::solver::{Step, Table, make_step, opening};
+use crate::solver::{Step, Table, make_step, new_memory, opening};
 use frac128::Frac;
 use linear_rows::System;
 use std::alloc::Global;
@@ -34,15 +34,17 @@ fn table_after<F: Fn(&[Frac]) -> Option<usize>>(
     requires callable { F.IsAlwaysCallable chooser.now }
     requires chooses { IsChooser F.Fn chooser.now }
 {
-    if system.rows().len() > (u32::MAX - system.unknowns()) as usize {
+    let unknowns = system.unknowns();
+    if system.rows().len() > (u32::MAX - unknowns) as usize {
         return Err(Fail::new("too many columns"));
     }
     let mut table = match opening(alloc, system) {
         Ok(table) => table,
         Err(_) => return Err(Fail::new("no table")),
     };
+    let mut memory = new_memory(alloc, system.rows().len() + unknowns as usize)?;
     for _ in 0..pivots {
-        match make_step(alloc, system, chooser, &mut table)? {
+        match make_step(alloc, system, chooser, &mut table, &mut memory)? {
             Step::Pivot => {}
             _ => return Err(Fail::new("no pivot")),
         }
@@ -54,9 +56,9 @@ fn table_after<F: Fn(&[Frac]) -> Option<usize>>(
 fn stored(table: &Table) -> (usize, usize) {
     let mut count: usize = 0;
     for row in &table.rows {
-        count = count.saturating_add(row.entries().len());
+        count = count.saturating_add(row.columns().len());
     }
-    (count, table.gains.entries().len())
+    (count, table.gains.columns().len())
 }
 
 #[test]

@@ -1,5 +1,6 @@
-use Rattle.simplex.specs.Solving.{rule_of, Reached}
+use Rattle.tableau.specs.Tableaux.{right}
+use Rattle.simplex.specs.Solving.{rule_of, Reached, IsCleared}
 use Rattle.simplex.proofs.tests.entries.table_after.Given as goal
 
 abbrev pub invariant-loop : goal.invariant-loop
-invariant-loop g l = Reached (rule_of g.F.Fn l.chooser) l.system l.table
+invariant-loop g l = Reached (rule_of g.F.Fn l.chooser) l.system l.table × IsCleared (right l.system) l.memory
