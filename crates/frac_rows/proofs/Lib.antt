@@ -1,5 +1,7 @@
 pub mod Differing
-mod Walking
 pub mod Pointwise
-mod Quotients
+mod Pairs
 mod Finding
+mod Appending
+mod Walking
+mod Quotients

@@ -1,5 +1,6 @@
 -- What a walk over two rows says of each column.
-use Rattle.std.proofs.Common.{◌≡◌, ◌≢◌, refl, sym, ap, subst, ◌∙◌, ℕ, suc, ◌<◌, ◌≤◌, min, [], ◌∷◌, arith, pos, Bool, true, false, Some, None, ◌==◌, if◌then◌else◌, ◌⊎◌, inl, inr}
+use Rattle.frac_rows.specs.declared.fault.RowFault.{RowFault}
+use Rattle.std.proofs.Common.{◌≡◌, ◌≢◌, refl, sym, ap, subst, ◌∙◌, ℕ, suc, ◌<◌, ◌≤◌, min, [], ◌∷◌, Result, Ok, Err, IsErrAnd, arith, pos, Bool, true, false, Some, None, ◌==◌, if◌then◌else◌, ◌⊎◌, inl, inr}
 use Rattle.std.proofs.lemmas.Bool.Decides.{nat_tests}
 use Rattle.std.specs.Ordering.{int_eq}
 use Rattle.std.proofs.lemmas.Nat.Gcd.{dvd_refl}
@@ -72,7 +73,7 @@ takes_sparse c [] x rest s t = subst (SparseFrom (suc c)) (sym t.1) tt
 takes_sparse c (e ∷ es) x rest s t = taken_sparse (e.0 == c) c e es x rest refl s t
 
 -- both rows are from the least column on
-both_from : (b : ℕ) (xs qs : Entries) (c : ℕ) → SparseFrom b xs → SparseFrom b qs → least_column xs qs ≡ Some c → (b ≤ c) × SparseFrom c xs × SparseFrom c qs
+pub both_from : (b : ℕ) (xs qs : Entries) (c : ℕ) → SparseFrom b xs → SparseFrom b qs → least_column xs qs ≡ Some c → (b ≤ c) × SparseFrom c xs × SparseFrom c qs
 both_from b [] [] c s t e = absurd (cc)
 both_from b (x ∷ xs) [] c s t e = let p : x.0 ≡ c = cc in let l = s.0 in (omega arith, (omega arith, s.1, s.2), tt)
 both_from b [] (q ∷ qs) c s t e = let p : q.0 ≡ c = cc in let l = t.0 in (omega arith, tt, (omega arith, t.1, t.2))
@@ -151,3 +152,8 @@ leaves_at f b xs qs k s t (There {xs' = xs'} {qs' = qs'} {c = c} {x = x} {q = q}
     let high = more.0 in
     let n : k ≢ c = (λ e. omega arith) in
     (omega arith, leaves_same (at k xs') f (at k qs') (at k xs) (at k qs) (of_path _ _ (takes_other c k xs x xs' n step.first)) (of_path _ _ (takes_other c k qs q qs' n step.second)) more.1)
+
+-- the error of an answer
+pub of_error : (r : Result (Unit {0}) RowFault) (e f : RowFault) → IsErrAnd r (λ x. x ≡ e) → r ≡ Err f → e ≡ f
+of_error (Ok u) e f h g = absurd (cc)
+of_error (Err x) e f h g = sym h ∙ (let p : x ≡ f = cc in p)

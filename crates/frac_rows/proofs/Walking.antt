@@ -1,79 +1,136 @@
 -- A walk over two rows, step by step.
-use Rattle.std.proofs.Common.{◌≡◌, refl, sym, ap, subst, ◌∙◌, ℕ, suc, ◌+◌, ◌<◌, min, length, [], ◌∷◌, ◌++◌, arith, pos, Bool, true, false, Some, None, ◌==◌, if◌then◌else◌, ◌⊎◌, inl, inr}
+use Rattle.std.proofs.Common.{◌≡◌, ◌≢◌, refl, sym, ap, subst, ◌∙◌, ℕ, suc, ◌+◌, ◌<◌, ◌≤◌, min, length, [], ◌∷◌, ◌++◌, arith, pos, Bool, true, false, Some, None, ◌==◌, if◌then◌else◌, ◌⊎◌, inl, inr}
 use Rattle.std.proofs.lemmas.Bool.Decides.{nat_tests}
 use Rattle.std.specs.Ordering.{int_eq}
 use Rattle.frac128.specs.declared.Frac.{Frac}
-use Rattle.frac_rows.specs.Entries.{Entries, IsLess}
-use Rattle.frac_rows.specs.Merging.{least_column, Takes, TakesIf, put, Steps, Merges, End, Step, MergeLeaves, There}
+use Rattle.frac_rows.specs.Entries.{Entries, nought, IsLess, LessLeaves, SparseFrom, IsSparse, EndsBefore, StartsAt}
+use Rattle.frac_rows.specs.Merging.{least_column, Takes, put, Steps, Merges, End, Step, MergeLeaves, Here, There}
+use Rattle.frac_rows.proofs.Differing.{less_nothing}
+use Rattle.frac_rows.proofs.Pointwise.{weaker, both_from, takes_sparse}
+use Rattle.frac_rows.proofs.Appending.{none_after, before_up_to, pushed_to}
 
 -- after a front of the walk: what ends the rest, ends all, and what leaves in the rest, leaves in all
 pub record Reached (f : Frac) (xs qs rest_x rest_q out : Entries) : Type 0 where
   pub ends : (rs : Entries) → Merges f rest_x rest_q rs → Merges f xs qs (out ++ rs)
   pub leaves : (c : ℕ) → MergeLeaves f rest_x rest_q c → MergeLeaves f xs qs c
+  pub from : ℕ
+  pub row : SparseFrom from rest_x
+  pub lead : SparseFrom from rest_q
+  pub made : IsSparse out
+  pub before : EndsBefore from out
 
-pub begins : (f : Frac) (xs qs : Entries) → Reached f xs qs xs qs []
-begins f xs qs = record { ends = λ rs m. m; leaves = λ c m. m }
+pub begins : (f : Frac) (xs qs out : Entries) → out ≡ [] → IsSparse xs → IsSparse qs → Reached f xs qs xs qs out
+begins f xs qs out e s t = rw e (record { ends = λ rs m. m; leaves = λ c m. m; from = 0; row = s; lead = t; made = tt; before = tt })
+
+snoc : (out : Entries) (x : ℕ × Frac) (rs : Entries) → (out ++ x ∷ []) ++ rs ≡ out ++ x ∷ rs
+snoc [] x rs = refl
+snoc (o ∷ out) x rs = ap (λ (es : Entries). o ∷ es) (snoc out x rs)
 
 append_put : (c : ℕ) (r : Frac) (out rs : Entries) → (out ++ put c r []) ++ rs ≡ out ++ put c r rs
-append_put c r out rs = by (int_eq r.num (pos 0)) refl
+append_put c r out rs = by (int_eq r.num (pos 0))
   where
-    by : (b : Bool) → int_eq r.num (pos 0) ≡ b → (out ++ (if b then [] else (c, r) ∷ [])) ++ rs ≡ out ++ (if b then rs else (c, r) ∷ rs)
-    by true e = ends out
-      where
-        ends : (o : Entries) → (o ++ []) ++ rs ≡ o ++ rs
-        ends [] = refl
-        ends (x ∷ o) = ap (λ (es : Entries). x ∷ es) (ends o)
-    by false e = ends out
-      where
-        ends : (o : Entries) → (o ++ (c, r) ∷ []) ++ rs ≡ o ++ (c, r) ∷ rs
-        ends [] = refl
-        ends (x ∷ o) = ap (λ (es : Entries). x ∷ es) (ends o)
+    by : (b : Bool) → (out ++ (if b then [] else (c, r) ∷ [])) ++ rs ≡ out ++ (if b then rs else (c, r) ∷ rs)
+    by true = ap (λ (es : Entries). es ++ rs) (none_after out)
+    by false = snoc out (c, r) rs
 
-pub goes_on : (f : Frac) (xs qs rest_x rest_q out : Entries) (c : ℕ) (x q r : Frac) (xs' qs' new : Entries) → Reached f xs qs rest_x rest_q out → Steps rest_x rest_q c x q xs' qs' → IsLess x f q r → new ≡ out ++ put c r []
+stepped : (f : Frac) (xs qs rest_x rest_q out : Entries) (c : ℕ) (x q r : Frac) (xs' qs' new : Entries) → Reached f xs qs rest_x rest_q out → Steps rest_x rest_q c x q xs' qs' → IsLess x f q r → new ≡ out ++ put c r []
     → Reached f xs qs xs' qs' new
-goes_on f xs qs rest_x rest_q out c x q r xs' qs' new reached step less e = record {
-  ends = λ rs m. subst (λ (es : Entries). Merges f xs qs es) (sym (ap (λ (es : Entries). es ++ rs) e ∙ append_put c r out rs)) (reached.ends (put c r rs) (Step step less m));
-  leaves = λ k m. reached.leaves k (There step m);
+stepped f xs qs rest_x rest_q out c x q r xs' qs' new reached step less e =
+    let at_c = both_from reached.from rest_x rest_q c reached.row reached.lead step.least in
+    let put_there = pushed_to c r out new (before_up_to reached.from c out reached.before at_c.0) e in
+    record {
+      ends = λ rs m. subst (λ (es : Entries). Merges f xs qs es) (sym (ap (λ (es : Entries). es ++ rs) e ∙ append_put c r out rs)) (reached.ends (put c r rs) (Step step less m));
+      leaves = λ k m. reached.leaves k (There step m);
+      from = suc c;
+      row = takes_sparse c rest_x x xs' at_c.1 step.first;
+      lead = takes_sparse c rest_q q qs' at_c.2 step.second;
+      made = put_there.sparse reached.made;
+      before = put_there.before (suc c) (let n : c < suc c = omega arith in n);
+    }
+
+-- a fraction that only the row has
+abbrev StartsAfter : ℕ → Entries → Type 0
+StartsAfter k [] = Unit {0}
+StartsAfter k (q ∷ qs) = k < q.0
+
+only_row : (k : ℕ) (x : Frac) (xs qs : Entries) → StartsAfter k qs → Steps ((k, x) ∷ xs) qs k x nought xs qs
+only_row k x xs [] h = record { least = refl; first = let t : (k == k) ≡ true = grind (arith, nat_tests) in rw t (refl, refl); second = ((refl, refl), refl) }
+only_row k x xs (q ∷ qs) h = record {
+  least = ap Some (let m : min k q.0 ≡ k = omega arith in m);
+  first = let t : (k == k) ≡ true = grind (arith, nat_tests) in rw t (refl, refl);
+  second = let t : (q.0 == k) ≡ false = grind (arith, nat_tests) in rw t ((refl, refl), refl);
 }
 
-pub ended : (f : Frac) (xs qs rest_x rest_q out : Entries) → Reached f xs qs rest_x rest_q out → least_column rest_x rest_q ≡ None → Merges f xs qs out
-ended f xs qs rest_x rest_q out reached e = subst (λ (es : Entries). Merges f xs qs es) (none_after out) (reached.ends [] (End e refl))
-  where
-    none_after : (o : Entries) → o ++ [] ≡ o
-    none_after [] = refl
-    none_after (x ∷ o) = ap (λ (es : Entries). x ∷ es) (none_after o)
+put_whole : (k : ℕ) (x : Frac) → x.num ≢ pos 0 → put k x [] ≡ (k, x) ∷ []
+put_whole k x n = let t : int_eq x.num (pos 0) ≡ false = grind (arith, nat_tests) in rw t refl
 
--- one of the two rows gets shorter
-taken_if : (b : Bool) (e : ℕ × Frac) (es : Entries) (x : Frac) (rest : Entries) → TakesIf b e es x rest → length rest + (if b then 1 else 0) ≡ suc (length es)
-taken_if true e es x rest t = let l = ap length t.1 in omega arith
-taken_if false e es x rest t = let l = ap length t.1 in omega arith
+abbrev AllStartAfter : Entries → Entries → Type 0
+AllStartAfter [] qs = Unit {0}
+AllStartAfter (e ∷ es) qs = StartsAfter e.0 qs × AllStartAfter es qs
 
-first_of : (m n : ℕ) → ((m == min m n) ≡ true) ⊎ ((n == min m n) ≡ true)
-first_of m n = grind (arith, nat_tests)
+passes : (f : Frac) (xs qs front rest_x rest_q out : Entries) → Reached f xs qs (front ++ rest_x) rest_q out → AllStartAfter front rest_q → Reached f xs qs rest_x rest_q (out ++ front)
+passes f xs qs [] rest_x rest_q out reached h = rw (none_after out) reached
+passes f xs qs ((k, x) ∷ front) rest_x rest_q out reached h =
+    let next = stepped f xs qs ((k, x) ∷ (front ++ rest_x)) rest_q out k x nought x (front ++ rest_x) rest_q (out ++ (k, x) ∷ []) reached
+    (only_row k x (front ++ rest_x) rest_q h.0) (less_nothing x f nought refl) (ap (λ (es : Entries). out ++ es) (sym (put_whole k x reached.row.1))) in
+    subst (Reached f xs qs rest_x rest_q) (snoc out (k, x) front) (passes f xs qs front rest_x rest_q (out ++ (k, x) ∷ []) next h.1)
 
-pub shorter : (xs qs : Entries) (c : ℕ) (x q : Frac) (xs' qs' : Entries) → Steps xs qs c x q xs' qs' → length xs' + length qs' < length xs + length qs
-shorter [] [] c x q xs' qs' s = absurd (let e : None ≡ Some c = s.least in (cc))
-shorter (e ∷ xs) [] c x q xs' qs' s = one e xs c x xs' s.first (let p : Some e.0 ≡ Some c = s.least in cc) (ap length s.second.1)
-  where
-    one : (e : ℕ × Frac) (xs : Entries) (c : ℕ) (x : Frac) (xs' : Entries) → Takes c (e ∷ xs) x xs' → e.0 ≡ c → length qs' ≡ 0 → length xs' + length qs' < length (e ∷ xs) + 0
-    one e xs c x xs' t p l = let b : (e.0 == c) ≡ true = grind (arith, nat_tests) in let m = taken_if true e xs x xs' (rw b at t) in omega arith
-shorter [] (d ∷ qs) c x q xs' qs' s = one d qs c q qs' s.second (let p : Some d.0 ≡ Some c = s.least in cc) (ap length s.first.1)
-  where
-    one : (d : ℕ × Frac) (qs : Entries) (c : ℕ) (q : Frac) (qs' : Entries) → Takes c (d ∷ qs) q qs' → d.0 ≡ c → length xs' ≡ 0 → length xs' + length qs' < 0 + length (d ∷ qs)
-    one d qs c q qs' t p l = let b : (d.0 == c) ≡ true = grind (arith, nat_tests) in let m = taken_if true d qs q qs' (rw b at t) in omega arith
-shorter (e ∷ xs) (d ∷ qs) c x q xs' qs' s = by (e.0 == c) refl (d.0 == c) refl
-  where
-    m : min e.0 d.0 ≡ c
-    m = let p : Some (min e.0 d.0) ≡ Some c = s.least in cc
+-- the fractions of the row before a column of the lead
+all_after : (c : ℕ) (front qs : Entries) (q : Frac) → EndsBefore c front → AllStartAfter front ((c, q) ∷ qs)
+all_after c [] qs q h = tt
+all_after c (e ∷ front) qs q h = (h.0, all_after c front qs q h.1)
 
-    by : (a : Bool) → (e.0 == c) ≡ a → (b : Bool) → (d.0 == c) ≡ b → length xs' + length qs' < length (e ∷ xs) + length (d ∷ qs)
-    by true g b h = let i = taken_if true e xs x xs' (rw g at s.first) in let j = taken_if b d qs q qs' (rw h at s.second) in at_most b i j
-      where
-        at_most : (b : Bool) → length xs' + 1 ≡ suc (length xs) → length qs' + (if b then 1 else 0) ≡ suc (length qs) → length xs' + length qs' < length (e ∷ xs) + length (d ∷ qs)
-        at_most true i j = omega arith
-        at_most false i j = omega arith
-    by false g true h = let i = taken_if false e xs x xs' (rw g at s.first) in let j = taken_if true d qs q qs' (rw h at s.second) in omega arith
-    by false g false h = absurd (elim (first_of e.0 d.0) [
-      | inl p ↦ let z : (e.0 == c) ≡ true = ap (λ (n : ℕ). e.0 == n) (sym m) ∙ p in let w : true ≡ false = sym z ∙ g in (cc)
-      | inr p ↦ let z : (d.0 == c) ≡ true = ap (λ (n : ℕ). d.0 == n) (sym m) ∙ p in let w : true ≡ false = sym z ∙ h in (cc)
-    ])
+none_after_none : (front : Entries) → AllStartAfter front []
+none_after_none [] = tt
+none_after_none (e ∷ front) = (tt, none_after_none front)
+
+least_is : (c : ℕ) (q : Frac) (rest_x qs : Entries) → StartsAt c rest_x → least_column rest_x ((c, q) ∷ qs) ≡ Some c
+least_is c q [] qs h = refl
+least_is c q (x ∷ xs) qs h = ap Some (let m : min x.0 c ≡ c = omega arith in m)
+
+-- the sparse parts of a row that is sparse
+front_sparse : (b : ℕ) (front rest : Entries) → SparseFrom b (front ++ rest) → SparseFrom b front
+front_sparse b [] rest s = tt
+front_sparse b (e ∷ front) rest s = (s.0, s.1, front_sparse (suc e.0) front rest s.2)
+
+joined_sparse : (a b : ℕ) (out es : Entries) → SparseFrom a out → EndsBefore b out → a ≤ b → SparseFrom b es → SparseFrom a (out ++ es)
+joined_sparse a b [] es s e h t = weaker b a es t h
+joined_sparse a b (o ∷ out) es s e h t = (s.0, s.1, joined_sparse (suc o.0) b out es s.2 e.1 (let l = e.0 in omega arith) t)
+
+both_before : (c : ℕ) (out es : Entries) → EndsBefore c out → EndsBefore c es → EndsBefore c (out ++ es)
+both_before c [] es h g = g
+both_before c (o ∷ out) es h g = (h.0, both_before c out es h.1 g)
+
+-- a turn of the walk: the lead's next fraction q is at c, and the row's fractions before c come first
+module _ (f : Frac) (xs qs row lead out : Entries) (reached : Reached f xs qs row lead out) (c : ℕ) (q : Frac) (later : Entries) (lead_is : lead ≡ (c, q) ∷ later) (front rest : Entries) (row_is : row ≡ front ++ rest) (before : EndsBefore c front) where
+  passed : Reached f xs qs rest ((c, q) ∷ later) (out ++ front)
+  passed = passes f xs qs front rest ((c, q) ∷ later) out (rw (← row_is, ← lead_is) reached) (all_after c front later q before)
+
+  pub room : IsSparse (out ++ front)
+  room = passed.made
+
+  pub ends_there : EndsBefore c (out ++ front)
+  ends_there =
+      let l : reached.from ≤ c = (subst (SparseFrom reached.from) lead_is reached.lead).0 in
+      both_before c out front (before_up_to reached.from c out reached.before l) before
+
+  module _ (starts : StartsAt c rest) (x : Frac) (rest' : Entries) (takes : Takes c rest x rest') where
+    here : Steps rest ((c, q) ∷ later) c x q rest' later
+    here = record { least = least_is c q rest later starts; first = takes; second = let t : (c == c) ≡ true = grind (arith, nat_tests) in rw t (refl, refl) }
+
+    pub goes_on : (r : Frac) (new : Entries) → IsLess x f q r → new ≡ (out ++ front) ++ put c r [] → Reached f xs qs rest' later new
+    goes_on r new less e = stepped f xs qs rest ((c, q) ∷ later) (out ++ front) c x q r rest' later new passed here less e
+
+    pub stops : LessLeaves x f q → MergeLeaves f xs qs c
+    stops l = passed.leaves c (Here here l)
+
+-- the end of the walk, where the lead has no more
+module _ (f : Frac) (xs qs row lead out : Entries) (reached : Reached f xs qs row lead out) (lead_is : lead ≡ []) where
+  all_passed : Reached f xs qs [] [] (out ++ row)
+  all_passed = passes f xs qs row [] [] out (rw (none_after row, ← lead_is) reached) (none_after_none row)
+
+  pub last_room : IsSparse (out ++ row)
+  last_room = all_passed.made
+
+  pub ended : Merges f xs qs (out ++ row)
+  ended = subst (λ (es : Entries). Merges f xs qs es) (none_after (out ++ row)) (all_passed.ends [] (End refl refl))

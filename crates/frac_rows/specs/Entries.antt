@@ -1,5 +1,6 @@
 -- Rows of fractions, and fractions less a product.
-use Rattle.std.specs.Prelude.{◌≡◌, ◌≢◌, ℕ, suc, ◌≤◌, ◌<◌, List, [], ◌∷◌, length, slice_index_or, pos, ◌⊎◌, if◌then◌else◌, ◌==◌}
+use Rattle.std.specs.Prelude.{◌≡◌, ◌≢◌, ℕ, suc, ◌≤◌, ◌<◌, List, [], ◌∷◌, length, map, Option, Some, None, slice_index_or, pos, ◌⊎◌, if◌then◌else◌, ◌==◌}
+use Rattle.std.specs.List.{zip}
 use Rattle.std.proofs.Common.{arith}
 use Rattle.std.proofs.Math.Nat.{eq-one_of_dvd-one}
 use Rattle.raml_num.specs.Divisors.{IsLcm}
@@ -26,6 +27,13 @@ abbrev pub at : ℕ → Entries → Frac
 at c [] = nought
 at c ((k, x) ∷ es) = if k == c then x else at c es
 
+-- the columns of a row's fractions, and the fractions
+abbrev pub columns_of : Entries → List ℕ
+columns_of es = map (λ e. e.0) es
+
+abbrev pub numbers_of : Entries → List Frac
+numbers_of es = map (λ e. e.1) es
+
 -- the columns ascend from b on, and no fraction is 0
 abbrev pub SparseFrom : ℕ → Entries → Type 0
 SparseFrom b [] = Unit {0}
@@ -33,6 +41,16 @@ SparseFrom b ((k, x) ∷ es) = (b ≤ k) × (x.num ≢ pos 0) × SparseFrom (suc
 
 abbrev pub IsSparse : Entries → Type 0
 IsSparse es = SparseFrom 0 es
+
+-- a row's columns, and its numbers
+pub record IsRow (columns : List ℕ) (numbers : List Frac) : Type 0 where
+  pub sparse : IsSparse (zip columns numbers)
+  pub as_long : length columns ≡ length numbers
+
+-- the first column from `from` on at which the fraction is not 0, or None where it is 0 at all of these
+abbrev pub IsNextColumn : ℕ → Entries → Option ℕ → Type 0
+IsNextColumn from es None = (k : ℕ) → from ≤ k → at k es ≡ nought
+IsNextColumn from es (Some c) = (from ≤ c) × (numerator (at c es) ≢ pos 0) × ((k : ℕ) → from ≤ k → k < c → at k es ≡ nought)
 
 -- r is x less f times q, and neither the product nor the difference leaves the range
 pub record IsLess (x f q r : Frac) : Type 0 where
@@ -54,13 +72,13 @@ abbrev pub EndsBefore : ℕ → Entries → Type 0
 EndsBefore c [] = Unit {0}
 EndsBefore c ((k, x) ∷ es) = (k < c) × EndsBefore c es
 
+-- the first column, if there is one, is c or comes after it
+abbrev pub StartsAt : ℕ → Entries → Type 0
+StartsAt c [] = Unit {0}
+StartsAt c ((k, x) ∷ es) = c ≤ k
+
 -- new has x at column c, and as old at the others
 pub record Adds (c : ℕ) (x : Frac) (old new : Entries) : Type 0 where
   pub num : numerator (at c new) ≡ numerator x
   pub den : denominator (at c new) ≡ denominator x
   pub others : (k : ℕ) → k ≢ c → at k new ≡ at k old
-
--- the entry at place i has the column
-pub record IsPlaceOf (c : ℕ) (es : Entries) (i : ℕ) : Type 0 where
-  pub in_range : i < length es
-  pub is : at c es ≡ (slice_index_or es i (0, nought)).1

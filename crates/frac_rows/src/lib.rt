@@ -2,8 +2,9 @@
 #![tactic(auto)]
 
 mod fault;
+mod numbers;
+mod rest;
 mod row;
-mod walk;
 
 pub use fault::RowFault;
 pub use row::FracRow;

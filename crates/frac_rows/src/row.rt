@@ -1,27 +1,33 @@
 //! A row.
 
-ghost use Rattle.std.specs.Prelude.{◌≡◌, ◌≢◌, ◌<◌, [], ℕ, pos, IfOk, IfErr, OnOk, OnErr};
+ghost use Rattle.std.specs.Prelude.{◌≡◌, ◌≢◌, ◌<◌, ◌++◌, [], ℕ, pos, IfOk, IfErr, OnOk, OnErr};
+ghost use Rattle.std.specs.List.{zip};
 ghost use Rattle.frac128.specs.Values.{numerator, denominator, IsQuotient};
-ghost use Rattle.frac_rows.specs.Entries.{Entries, at, nought, IsPlaceOf, IsSparse, EndsBefore, Adds, IsLess, LessLeaves, QuotientLeaves};
+ghost use Rattle.frac_rows.specs.Entries.{Entries, at, nought, columns_of, numbers_of, IsNextColumn, IsSparse, IsRow, EndsBefore, Adds, IsLess, LessLeaves, QuotientLeaves};
+ghost use Rattle.frac_rows.specs.Merging.{put, Merges, MergeLeaves};
 
 use crate::fault::RowFault;
-use crate::walk;
+use crate::numbers::{divide, less};
+use crate::rest::Rest;
 use frac128::Frac;
 use std::alloc::{AllocError, Global};
 use std::marker::Model;
+use std::mem;
 
-/// A row of fractions. It keeps those that are not 0, in order of column.
+/// A row of fractions. It keeps those that are not 0, in order of column: the columns in one vector, and
+/// the numbers in another.
 #[derive(Debug, Drop)]
 pub struct FracRow {
-    entries: Vec<(u32, Frac)>,
+    columns: Vec<u32>,
+    numbers: Vec<Frac>,
 }
 
 impl Model for FracRow {
     ghost Value = { Entries };
 
-    ghost view = { λ r. r.entries.items };
+    ghost view = { λ r. zip r.columns.items r.numbers.items };
 
-    ghost invariant = { λ r. IsSparse r.entries.items };
+    ghost invariant = { λ r. IsRow r.columns.items r.numbers.items };
 }
 
 impl FracRow {
@@ -30,16 +36,24 @@ impl FracRow {
         ensures { result ≡ [] }
     {
         FracRow {
-            entries: Vec::new(alloc),
+            columns: Vec::new(alloc),
+            numbers: Vec::new(alloc),
         }
     }
 
-    /// The fractions that are not 0, each with its column.
-    pub fn entries(&self) -> &[(u32, Frac)]
-        ensures all { result.now ≡ self.now }
+    /// The columns at which the fraction is not 0.
+    pub fn columns(&self) -> &[u32]
+        ensures all { result.now ≡ columns_of self.now }
         ensures sparse { IsSparse self.now }
     {
-        &self.entries
+        &self.columns
+    }
+
+    /// The fractions that are not 0, in order of column.
+    pub fn numbers(&self) -> &[Frac]
+        ensures all { result.now ≡ numbers_of self.now }
+    {
+        &self.numbers
     }
 
     /// The fraction at a column.
@@ -47,18 +61,18 @@ impl FracRow {
         ensures num { numerator result ≡ numerator (at column self.now) }
         ensures den { denominator result ≡ denominator (at column self.now) }
     {
-        match self.search(column) {
-            Ok(place) => self.entries[place].1,
+        match self.columns.binary_search(&column) {
+            Ok(place) => self.numbers[place],
             Err(_) => Frac::zero(),
         }
     }
 
-    /// Where the entry of a column is, or where it would go.
-    fn search(&self, column: u32) -> Result<usize, usize>
-        ensures found { IfOk result (IsPlaceOf column self.now) }
-        ensures absent { IfErr result (λ _. at column self.now ≡ nought) }
+    /// The first column from `from` on at which the fraction is not 0.
+    pub fn next_column(&self, from: u32) -> Option<u32>
+        ensures { IsNextColumn from self.now result }
     {
-        self.entries.binary_search_by_key(&column, |entry| entry.0)
+        let place = self.columns.partition_point(|column| *column < from);
+        self.columns.get(place).copied()
     }
 
     /// Adds a fraction at a column after the others.
@@ -68,29 +82,124 @@ impl FracRow {
         ensures before { (c : ℕ) → column < c → OnOk result (EndsBefore c self.new) }
         ensures kept { OnErr result (self.new ≡ self.old) }
     {
-        walk::push(&mut self.entries, column, number)
+        self.put(column, number)
     }
 
-    /// Each fraction over `by`.
-    pub fn over(&self, alloc: Global, by: &Frac) -> Result<FracRow, RowFault>
+    /// Each fraction over `by`, or the first column at which the quotient leaves the range. Takes no
+    /// memory.
+    pub fn over(self, by: &Frac) -> Result<FracRow, u32>
         requires { numerator by.now ≢ pos 0 }
-        ensures each { IfOk result (λ r. (c : ℕ) → IsQuotient (at c self.now) by.now (at c r)) }
-        ensures leaves { (c : ℕ) → result ≡ Err (RowFault.Leaves c) → QuotientLeaves (at c self.now) by.now }
+        ensures each { IfOk result (λ r. (c : ℕ) → IsQuotient (at c self) by.now (at c r)) }
+        ensures leaves { (c : ℕ) → result ≡ Err c → QuotientLeaves (at c self) by.now }
     {
-        match walk::divided(alloc, &self.entries, by) {
-            Ok(entries) => Ok(FracRow { entries }),
-            Err(fault) => Err(fault),
+        let FracRow {
+            columns,
+            mut numbers,
+        } = self;
+        match divide(&mut numbers, by) {
+            Ok(()) => Ok(FracRow { columns, numbers }),
+            Err(place) => Err(columns[place]),
         }
     }
 
-    /// The row less `times` times the lead.
-    pub fn less(&self, alloc: Global, times: &Frac, lead: &FracRow) -> Result<FracRow, RowFault>
-        ensures each { IfOk result (λ r. (c : ℕ) → IsLess (at c self.now) times.now (at c lead.now) (at c r)) }
-        ensures leaves { (c : ℕ) → result ≡ Err (RowFault.Leaves c) → LessLeaves (at c self.now) times.now (at c lead.now) }
+    /// Takes `times` times the lead from the row. The new row is made in `spare`, whose memory it takes;
+    /// `spare` gets the memory of the old one.
+    pub fn subtract(
+        &mut self,
+        times: &Frac,
+        lead: &FracRow,
+        spare: &mut FracRow,
+    ) -> Result<(), RowFault>
+        ensures each { OnOk result ((c : ℕ) → IsLess (at c self.old) times.now (at c lead.now) (at c self.new)) }
+        ensures leaves { (c : ℕ) → result ≡ Err (RowFault.Leaves c) → LessLeaves (at c self.old) times.now (at c lead.now) }
+        ensures kept { OnErr result (self.new ≡ self.old) }
     {
-        match walk::merged(alloc, &self.entries, times, &lead.entries) {
-            Ok(entries) => Ok(FracRow { entries }),
-            Err(fault) => Err(fault),
+        spare.clear();
+        spare.reserve(self.columns.len() + lead.columns.len())?;
+        spare.put_difference(self.rest(), times, lead.rest())?;
+        mem::swap(self, spare);
+        Ok(())
+    }
+
+    /// The whole row, for a walk.
+    fn rest(&self) -> Rest<'_>
+        ensures all { result ≡ self.now }
+        ensures sparse { IsSparse self.now }
+    {
+        Rest::new(&self.columns, &self.numbers)
+    }
+
+    /// Lets go of all fractions, and keeps the memory.
+    fn clear(&mut self)
+        ensures { self.new ≡ [] }
+    {
+        self.columns.clear();
+        self.numbers.clear();
+    }
+
+    /// Makes room for `count` more fractions.
+    fn reserve(&mut self, count: usize) -> Result<(), AllocError>
+        ensures { self.new ≡ self.old }
+    {
+        self.columns.reserve(count)?;
+        self.numbers.reserve(count)
+    }
+
+    /// Puts a fraction after the others, unless it is 0.
+    fn put(&mut self, column: u32, number: Frac) -> Result<(), AllocError>
+        requires { EndsBefore column self.old }
+        ensures added { OnOk result (self.new ≡ self.old ++ put column number []) }
+        ensures kept { OnErr result (self.new ≡ self.old) }
+    {
+        if number.num() == 0 {
+            return Ok(());
         }
+        self.columns.push(column)?;
+        if let Err(failed) = self.numbers.push(number) {
+            self.columns.pop();
+            return Err(failed.into());
+        }
+        Ok(())
+    }
+
+    /// Puts what is left of another row after the others.
+    fn put_all(&mut self, rest: Rest<'_>) -> Result<(), AllocError>
+        requires { IsSparse (self.old ++ rest) }
+        ensures added { OnOk result (self.new ≡ self.old ++ rest.entry) }
+    {
+        let count = self.columns.len();
+        self.columns.extend_from_slice(rest.columns())?;
+        if let Err(failed) = self.numbers.extend_from_slice(rest.numbers()) {
+            self.columns.truncate(count);
+            return Err(failed);
+        }
+        Ok(())
+    }
+
+    /// Puts a row less `times` times a lead, column by column.
+    fn put_difference(
+        &mut self,
+        row: Rest<'_>,
+        times: &Frac,
+        lead: Rest<'_>,
+    ) -> Result<(), RowFault>
+        requires empty { self.old ≡ [] }
+        requires row { IsSparse row }
+        requires lead { IsSparse lead }
+        ensures merged { OnOk result (Merges times.now row.entry lead.entry self.new) }
+        ensures leaves { (c : ℕ) → result ≡ Err (RowFault.Leaves c) → MergeLeaves times.now row.entry lead.entry c }
+    {
+        let mut row = row;
+        let mut lead = lead;
+        while let Some((column, q)) = lead.take_first() {
+            self.put_all(row.take_before(column))?;
+            let x = row.take(column);
+            match less(&x, times, &q) {
+                Some(number) => self.put(column, number)?,
+                None => return Err(RowFault::Leaves { column }),
+            }
+        }
+        self.put_all(row)?;
+        Ok(())
     }
 }

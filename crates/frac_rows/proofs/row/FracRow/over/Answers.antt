@@ -1,17 +1,28 @@
-use Rattle.std.proofs.Common.{◌≡◌, ap, Err}
-use Rattle.frac_rows.specs.declared.fault.RowFault.TheVariants.{Leaves}
-use Rattle.frac_rows.specs.Dividing.{DivideLeaves}
-use Rattle.frac_rows.proofs.Quotients.{divided_sparse, quotient_at, leaves_at}
+use Rattle.std.proofs.Common.{◌≡◌, ◌∙◌, ap, sym, take, drop, length, ◌++◌}
+use Rattle.frac_rows.specs.Dividing.{AreQuotients}
+use Rattle.frac_rows.proofs.Finding.{in_place}
+use Rattle.frac_rows.proofs.Pairs.{written_back}
+use Rattle.frac_rows.proofs.Quotients.{divided_row, quotient_at, same_length}
 use Rattle.frac_rows.proofs.row.FracRow.over.Goals as goal
 
 pub invariant_of-result : goal.invariant_of-result
-invariant_of-result c = divided_sparse c.args.by.now 0 c.self.inside.entries.items c.in-Ok.entries.items c.self.invariant (rw c.deref.ensures.value at c.in-Ok.ensures.divided)
+invariant_of-result c =
+    let numbers = c.self.inside.numbers in
+    let divided = rw c.deref_mut.ensures.value at c.in-Ok.ensures.divided in
+    let long : numbers.len ≡ length numbers.items = sym c.deref_mut.ensures.len ∙ ap length c.deref_mut.ensures.value in
+    let new : length c.divide.new.numbers ≡ numbers.len = sym (same_length c.args.by.now _ _ divided) ∙ sym long in
+    rw (written_back numbers.len numbers.items c.divide.new.numbers long new) (divided_row c.args.by.now _ _ _ c.self.invariant divided)
 
 pub returns-in-Ok-clause-each : goal.returns-in-Ok-clause-each
-returns-in-Ok-clause-each c k = rw (← c.self.view_is) (quotient_at c.args.by.now c.self.inside.entries.items c.in-Ok.entries.items k (rw c.deref.ensures.value at c.in-Ok.ensures.divided))
+returns-in-Ok-clause-each c k =
+    let numbers = c.self.inside.numbers in
+    let divided = rw c.deref_mut.ensures.value at c.in-Ok.ensures.divided in
+    let long : numbers.len ≡ length numbers.items = sym c.deref_mut.ensures.len ∙ ap length c.deref_mut.ensures.value in
+    let new : length c.divide.new.numbers ≡ numbers.len = sym (same_length c.args.by.now _ _ divided) ∙ sym long in
+    rw (written_back numbers.len numbers.items c.divide.new.numbers long new, ← c.self.view_is) (quotient_at c.args.by.now c.self.inside.columns.items _ _ k divided)
 
 pub returns-in-Err-clause-leaves : goal.returns-in-Err-clause-leaves
 returns-in-Err-clause-leaves c k e =
-    let same : c.in-Err.fault ≡ Leaves k = cc in
-    let d : DivideLeaves c.args.by.now c.deref.result.now k = c.in-Err.ensures.leaves k (ap Err same) in
-    rw (← c.self.view_is) ((leaves_at c.args.by.now 0 c.self.inside.entries.items k c.self.invariant (rw c.deref.ensures.value at d)).1)
+    let same : c.index.result.now ≡ k = cc in
+    let there = in_place _ _ c.self.invariant c.index.result.now c.in-Err.place (rw c.deref_mut.ensures.value at c.in-Err.ensures.in_range) c.index.ensures in
+    rw (← same, ← c.self.view_is, there) (rw c.deref_mut.ensures.value at c.in-Err.ensures.leaves)

@@ -1,0 +1,101 @@
+-- A fraction after the others.
+use Rattle.std.proofs.Common.{◌≡◌, ◌≢◌, refl, sym, ap, subst, ◌∙◌, ℕ, suc, ◌<◌, ◌≤◌, length, List, [], ◌∷◌, ◌++◌, arith, pos, Bool, true, false, ◌==◌, if◌then◌else◌, Result, Ok, Err, OnOk}
+use Rattle.std.specs.declared.alloc.AllocError.{AllocError}
+use Rattle.std.specs.List.{zip}
+use Rattle.std.specs.Ordering.{int_eq}
+use Rattle.std.proofs.lemmas.Bool.Decides.{nat_tests}
+use Rattle.std.proofs.lemmas.List.{length-append}
+use Rattle.frac128.specs.declared.Frac.{Frac}
+use Rattle.frac_rows.specs.Entries.{Entries, at, nought, columns_of, numbers_of, SparseFrom, IsSparse, IsRow, EndsBefore, Adds}
+use Rattle.frac_rows.specs.Merging.{put}
+use Rattle.frac_rows.proofs.Pairs.{zip_append, zip_parts, as_many}
+use Rattle.frac_rows.proofs.Pointwise.{over_one}
+
+append_sparse : (b c : ℕ) (x : Frac) (es : Entries) → SparseFrom b es → EndsBefore c es → b ≤ c → x.num ≢ pos 0 → SparseFrom b (es ++ (c, x) ∷ [])
+append_sparse b c x [] s e l n = (l, n, tt)
+append_sparse b c x (d ∷ es) s e l n = (s.0, s.1, append_sparse (suc d.0) c x es s.2 e.1 (let h = e.0 in omega arith) n)
+
+-- the same, in columns and numbers
+pub put_row : (c : ℕ) (x : Frac) (ks : List ℕ) (xs : List Frac) → IsRow ks xs → EndsBefore c (zip ks xs) → x.num ≢ pos 0 → IsRow (ks ++ c ∷ []) (xs ++ x ∷ [])
+put_row c x ks xs row e n = record {
+  sparse = rw (zip_append ks (c ∷ []) xs (x ∷ []) row.as_long) (append_sparse 0 c x (zip ks xs) row.sparse e (omega arith) n);
+  as_long = let l = row.as_long in simp length-append (omega arith);
+}
+
+pub put_view : (c : ℕ) (x : Frac) (ks : List ℕ) (xs : List Frac) → length ks ≡ length xs → x.num ≢ pos 0 → zip (ks ++ c ∷ []) (xs ++ x ∷ []) ≡ zip ks xs ++ put c x []
+put_view c x ks xs l n = let t : int_eq x.num (pos 0) ≡ false = grind (arith, nat_tests) in rw t (zip_append ks (c ∷ []) xs (x ∷ []) l)
+
+pub put_all_view : (ks : List ℕ) (xs : List Frac) (es : Entries) → length ks ≡ length xs → zip (ks ++ columns_of es) (xs ++ numbers_of es) ≡ zip ks xs ++ es
+put_all_view ks xs es l = zip_append ks (columns_of es) xs (numbers_of es) l ∙ ap (λ (ds : Entries). zip ks xs ++ ds) (zip_parts es)
+
+pub put_all_row : (ks : List ℕ) (xs : List Frac) (es : Entries) → IsRow ks xs → IsSparse (zip ks xs ++ es) → IsRow (ks ++ columns_of es) (xs ++ numbers_of es)
+put_all_row ks xs es row s = record {
+  sparse = rw (put_all_view ks xs es row.as_long) s;
+  as_long = let l = row.as_long in let m = as_many es in simp length-append (omega arith);
+}
+
+none_from : (c k : ℕ) (es : Entries) → EndsBefore c es → c ≤ k → at k es ≡ nought
+none_from c k [] e h = refl
+none_from c k (d ∷ es) e h =
+    let l = e.0 in
+    let t : (d.0 == k) ≡ false = grind (arith, nat_tests) in
+    rw t (none_from c k es e.1 h)
+
+append_here : (c : ℕ) (x : Frac) (es : Entries) → EndsBefore c es → at c (es ++ (c, x) ∷ []) ≡ x
+append_here c x [] e = let t : (c == c) ≡ true = grind (arith, nat_tests) in rw t refl
+append_here c x (d ∷ es) e =
+    let l = e.0 in
+    let t : (d.0 == c) ≡ false = grind (arith, nat_tests) in
+    rw t (append_here c x es e.1)
+
+append_other : (c k : ℕ) (x : Frac) (es : Entries) → k ≢ c → at k (es ++ (c, x) ∷ []) ≡ at k es
+append_other c k x [] n = let t : (c == k) ≡ false = grind (arith, nat_tests) in rw t refl
+append_other c k x (d ∷ es) n = ap (λ (y : Frac). if d.0 == k then d.1 else y) (append_other c k x es n)
+
+append_before : (c k : ℕ) (x : Frac) (es : Entries) → EndsBefore c es → c < k → EndsBefore k (es ++ (c, x) ∷ [])
+append_before c k x [] e h = (h, tt)
+append_before c k x (d ∷ es) e h = (let l = e.0 in omega arith, append_before c k x es e.1 h)
+
+pub before_up_to : (c k : ℕ) (es : Entries) → EndsBefore c es → c ≤ k → EndsBefore k es
+before_up_to c k [] e h = tt
+before_up_to c k (d ∷ es) e h = (let l = e.0 in omega arith, before_up_to c k es e.1 h)
+
+pub none_after : (o : Entries) → o ++ [] ≡ o
+none_after [] = refl
+none_after (x ∷ o) = ap (λ (es : Entries). x ∷ es) (none_after o)
+
+-- what is put after the others
+pub record Pushed (c : ℕ) (x : Frac) (es new : Entries) : Type 0 where
+  pub sparse : SparseFrom 0 es → SparseFrom 0 new
+  pub adds : Adds c x es new
+  pub before : (k : ℕ) → c < k → EndsBefore k new
+
+pub pushed : (c : ℕ) (x : Frac) (es : Entries) → EndsBefore c es → Pushed c x es (es ++ put c x [])
+pushed c x es e = by (int_eq x.num (pos 0)) refl
+  where
+    by : (b : Bool) → int_eq x.num (pos 0) ≡ b → Pushed c x es (es ++ (if b then [] else (c, x) ∷ []))
+    by true z =
+        let n : x.num ≡ pos 0 = grind (arith, nat_tests) in
+        let a = none_from c c es e (omega arith) in
+        subst (Pushed c x es) (sym (none_after es)) (record {
+          sparse = λ s. s;
+          adds = record { num = ap (λ (y : Frac). y.num) a ∙ sym n; den = ap (λ (y : Frac). y.den) a ∙ sym (over_one x n); others = λ k m. refl };
+          before = λ k h. before_up_to c k es e (omega arith);
+        })
+    by false z = record {
+      sparse = λ s. append_sparse 0 c x es s e (omega arith) (λ n. grind (arith, nat_tests));
+      adds = let a = append_here c x es e in record { num = ap (λ (y : Frac). y.num) a; den = ap (λ (y : Frac). y.den) a; others = λ k m. append_other c k x es m };
+      before = λ k h. append_before c k x es e h;
+    }
+
+pub pushed_to : (c : ℕ) (x : Frac) (es new : Entries) → EndsBefore c es → new ≡ es ++ put c x [] → Pushed c x es new
+pushed_to c x es new e g = subst (Pushed c x es) (sym g) (pushed c x es e)
+
+-- what that says where it was pushed
+pub it_adds : (c : ℕ) (x : Frac) (es new : Entries) (r : Result (Unit {0}) AllocError) → EndsBefore c es → OnOk r (new ≡ es ++ put c x []) → OnOk r (Adds c x es new)
+it_adds c x es new (Ok u) e ok = (pushed_to c x es new e ok).adds
+it_adds c x es new (Err a) e ok = tt
+
+pub it_ends : (c k : ℕ) (x : Frac) (es new : Entries) (r : Result (Unit {0}) AllocError) → EndsBefore c es → c < k → OnOk r (new ≡ es ++ put c x []) → OnOk r (EndsBefore k new)
+it_ends c k x es new (Ok u) e h ok = (pushed_to c x es new e ok).before k h
+it_ends c k x es new (Err a) e h ok = tt

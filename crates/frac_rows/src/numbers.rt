@@ -1,0 +1,32 @@
+//! Fractions, one by one.
+
+ghost use Rattle.std.specs.Prelude.{◌≡◌, ◌≢◌, ◌<◌, pos, length, slice_index_or, MatchOption, OnOk, IfErr};
+ghost use Rattle.frac128.specs.Values.{numerator};
+ghost use Rattle.frac_rows.specs.Entries.{IsLess, LessLeaves, nought, QuotientLeaves};
+ghost use Rattle.frac_rows.specs.Dividing.{AreQuotients};
+
+use frac128::Frac;
+
+/// `x` less `times` times `q`, or None where the product or the difference leaves the range.
+pub(crate) fn less(x: &Frac, times: &Frac, q: &Frac) -> Option<Frac>
+    ensures { MatchOption result (LessLeaves x.now times.now q.now) (IsLess x.now times.now q.now) }
+{
+    let product = times.mul(q)?;
+    x.sub(&product)
+}
+
+/// Divides each number by `by`, or gives the first place at which the quotient leaves the range.
+pub(crate) fn divide(numbers: &mut [Frac], by: &Frac) -> Result<(), usize>
+    requires { numerator by.now ≢ pos 0 }
+    ensures divided { OnOk result (AreQuotients by.now numbers.old numbers.new) }
+    ensures in_range { IfErr result (λ place. place < length numbers.old) }
+    ensures leaves { IfErr result (λ place. QuotientLeaves (slice_index_or numbers.old place nought) by.now) }
+{
+    for place in 0..numbers.len() {
+        match numbers[place].div(by) {
+            Some(quotient) => numbers[place] = quotient,
+            None => return Err(place),
+        }
+    }
+    Ok(())
+}
