@@ -1,19 +1,15 @@
 -- Where a column is among entries that ascend.
-use Rattle.std.proofs.Common.{◌≡◌, ◌≢◌, refl, sym, ap, subst, ◌∙◌, ℕ, zero, suc, ◌<◌, ◌≤◌, List, length, [], ◌∷◌, ◌++◌, get_or, arith, pos, Bool, true, false, ◌==◌, nat_lt, Bor, Option, Some, None, MatchOption, if◌then◌else◌, ◌⊎◌, inl, inr, Result, Ok, Err, IfOk, IfErr, OnOk, OnErr}
-use Rattle.std.specs.declared.alloc.AllocError.{AllocError}
+use Rattle.std.proofs.Common.{◌≡◌, ◌≢◌, refl, sym, subst, ◌∙◌, ℕ, zero, suc, ◌<◌, ◌≤◌, List, length, [], ◌∷◌, get_or, arith, pos, true, false, ◌==◌, nat_lt, Bor, Option, Some, None, MatchOption, ◌⊎◌, inl, inr, Ok, Err}
 use Rattle.std.proofs.lemmas.Bool.Decides.{nat_tests}
 use Rattle.std.proofs.lemmas.Cmp.{ranked}
-use Rattle.std.proofs.lemmas.List.{get_or_default, length-append}
+use Rattle.std.proofs.lemmas.List.{get_or_default}
 use Rattle.std.proofs.lemmas.List.Sorted.{IsNonDecreasingBy-from_default}
 use Rattle.std.specs.List.Sorted.{IsSearchInRange, IsBinarySearchResult, IsNonDecreasingBy, IsPartitionedBy, IsPartitionPoint}
 use Rattle.std.specs.List.{zip, HoldsAt}
 use Rattle.std.specs.Option.{option_copied}
-use Rattle.frac_rows.proofs.Pairs.{zip_append, zip_parts, as_many}
-use Rattle.std.specs.Ordering.{nat_cmp, ordering_index, int_eq}
+use Rattle.std.specs.Ordering.{nat_cmp, ordering_index}
 use Rattle.frac128.specs.declared.Frac.{Frac}
-use Rattle.frac_rows.specs.Entries.{Entries, at, nought, columns_of, numbers_of, SparseFrom, IsSparse, IsRow, IsNextColumn, EndsBefore, Adds}
-use Rattle.frac_rows.specs.Merging.{put}
-use Rattle.frac_rows.proofs.Pointwise.{over_one}
+use Rattle.frac_rows.specs.Entries.{at, nought, SparseFrom, IsRow, IsNextColumn}
 
 columns_from : (b : ℕ) (ks : List ℕ) (xs : List Frac) (i : ℕ) → SparseFrom b (zip ks xs) → length ks ≡ length xs → i < length ks → b ≤ get_or ks i 0
 columns_from b [] xs i s l h = absurd (omega arith)

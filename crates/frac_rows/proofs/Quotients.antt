@@ -1,5 +1,5 @@
 -- Numbers that are divided one by one.
-use Rattle.std.proofs.Common.{◌≡◌, ◌≢◌, refl, sym, ap, subst, ◌∙◌, ℕ, zero, suc, ◌+◌, ◌*◌, ◌<◌, ◌≤◌, List, [], ◌∷◌, length, get_or, set, arith, ℤ, pos, ◌*ℤ◌, Bool, true, false, ◌==◌, if◌then◌else◌, ◌⊎◌, inl, inr}
+use Rattle.std.proofs.Common.{◌≡◌, ◌≢◌, refl, sym, ap, subst, ◌∙◌, ℕ, suc, ◌+◌, ◌*◌, ◌<◌, ◌≤◌, List, [], ◌∷◌, length, get_or, set, arith, ℤ, pos, ◌*ℤ◌, Bool, true, false, ◌==◌, if◌then◌else◌, ◌⊎◌, inl, inr}
 use Rattle.std.proofs.lemmas.Int.{ints}
 use Rattle.std.proofs.lemmas.List.{length-set, get_or-set_same, get_or-set_other}
 use Rattle.std.proofs.Math.Nat.{mul-pos}
@@ -8,7 +8,7 @@ use lib.IntN.{*ℤ_comm}
 use Rattle.raml_num.proofs.Signed.{cancelled}
 use Rattle.frac128.specs.declared.Frac.{Frac}
 use Rattle.frac128.specs.Values.{IsQuotient}
-use Rattle.frac_rows.specs.Entries.{Entries, at, nought, SparseFrom, IsRow, QuotientLeaves}
+use Rattle.frac_rows.specs.Entries.{at, nought, SparseFrom, IsRow}
 use Rattle.frac_rows.specs.Dividing.{AreQuotients}
 
 -- those before place i are divided, and the others are as they were

@@ -1,5 +1,5 @@
 -- A walk over two rows, step by step.
-use Rattle.std.proofs.Common.{◌≡◌, ◌≢◌, refl, sym, ap, subst, ◌∙◌, ℕ, suc, ◌+◌, ◌<◌, ◌≤◌, min, length, [], ◌∷◌, ◌++◌, arith, pos, Bool, true, false, Some, None, ◌==◌, if◌then◌else◌, ◌⊎◌, inl, inr}
+use Rattle.std.proofs.Common.{◌≡◌, ◌≢◌, refl, sym, ap, subst, ◌∙◌, ℕ, suc, ◌<◌, ◌≤◌, min, [], ◌∷◌, ◌++◌, arith, pos, Bool, true, false, Some, ◌==◌, if◌then◌else◌}
 use Rattle.std.proofs.lemmas.Bool.Decides.{nat_tests}
 use Rattle.std.specs.Ordering.{int_eq}
 use Rattle.frac128.specs.declared.Frac.{Frac}

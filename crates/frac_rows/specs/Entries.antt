@@ -1,5 +1,5 @@
 -- Rows of fractions, and fractions less a product.
-use Rattle.std.specs.Prelude.{◌≡◌, ◌≢◌, ℕ, suc, ◌≤◌, ◌<◌, List, [], ◌∷◌, length, map, Option, Some, None, slice_index_or, pos, ◌⊎◌, if◌then◌else◌, ◌==◌}
+use Rattle.std.specs.Prelude.{◌≡◌, ◌≢◌, ℕ, suc, ◌≤◌, ◌<◌, List, [], ◌∷◌, length, map, Option, Some, None, pos, ◌⊎◌, if◌then◌else◌, ◌==◌}
 use Rattle.std.specs.List.{zip}
 use Rattle.std.proofs.Common.{arith}
 use Rattle.std.proofs.Math.Nat.{eq-one_of_dvd-one}

@@ -15,7 +15,7 @@ pub(crate) fn less(x: &Frac, times: &Frac, q: &Frac) -> Option<Frac>
     x.sub(&product)
 }
 
-/// Divides each number by `by`, or gives the first place at which the quotient leaves the range.
+/// Divides each number by `by`, or gives a place at which the quotient leaves the range.
 pub(crate) fn divide(numbers: &mut [Frac], by: &Frac) -> Result<(), usize>
     requires { numerator by.now ≢ pos 0 }
     ensures divided { OnOk result (AreQuotients by.now numbers.old numbers.new) }

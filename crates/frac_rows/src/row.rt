@@ -85,8 +85,7 @@ impl FracRow {
         self.put(column, number)
     }
 
-    /// Each fraction over `by`, or the first column at which the quotient leaves the range. Takes no
-    /// memory.
+    /// Each fraction over `by`, or a column at which the quotient leaves the range. Takes no memory.
     pub fn over(self, by: &Frac) -> Result<FracRow, u32>
         requires { numerator by.now ≢ pos 0 }
         ensures each { IfOk result (λ r. (c : ℕ) → IsQuotient (at c self) by.now (at c r)) }

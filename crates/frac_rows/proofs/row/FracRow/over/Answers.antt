@@ -1,5 +1,4 @@
-use Rattle.std.proofs.Common.{◌≡◌, ◌∙◌, ap, sym, take, drop, length, ◌++◌}
-use Rattle.frac_rows.specs.Dividing.{AreQuotients}
+use Rattle.std.proofs.Common.{◌≡◌, ◌∙◌, ap, sym, length}
 use Rattle.frac_rows.proofs.Finding.{in_place}
 use Rattle.frac_rows.proofs.Pairs.{written_back}
 use Rattle.frac_rows.proofs.Quotients.{divided_row, quotient_at, same_length}

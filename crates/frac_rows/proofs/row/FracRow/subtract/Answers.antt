@@ -1,4 +1,4 @@
-use Rattle.std.proofs.Common.{◌≡◌, ◌∙◌, ap, Err}
+use Rattle.std.proofs.Common.{◌≡◌, ap, Err}
 use Rattle.frac_rows.specs.declared.fault.RowFault.TheVariants.{Leaves}
 use Rattle.frac_rows.specs.Merging.{MergeLeaves}
 use Rattle.frac_rows.proofs.Pointwise.{columns_of, leaves_at, of_error}
