@@ -2,6 +2,7 @@ mod Lifting
 mod Pivots
 mod Rows
 mod Sweeping
+mod Covers
 mod Tying
 mod Narrowing
 mod Steps

@@ -215,21 +215,22 @@ pub stops : (rule : Rule) (s : LinearSystem) (old new : Table) (fault : Fault) (
 stops rule s old new fault (Ok x) f p = subst (IsStep rule s old new) (sym p.3) (f p.0 p.1 p.2)
 stops rule s old new fault (Err e) f p = tt
 
-take_all : (xs : List Entries) (n : ℕ) → n ≡ length xs → take n (xs ++ []) ≡ xs
-take_all [] zero e = refl
-take_all [] (suc n) e = absurd (omega arith)
-take_all (x ∷ xs) zero e = absurd (omega arith)
-take_all (x ∷ xs) (suc n) e = ap (λ (ys : List Entries). x ∷ ys) (take_all xs n (omega arith))
+-- what is written back
+module _ {X : Type 0} where
+  take_all : (xs : List X) (n : ℕ) → n ≡ length xs → take n (xs ++ []) ≡ xs
+  take_all [] zero e = refl
+  take_all [] (suc n) e = absurd (omega arith)
+  take_all (x ∷ xs) zero e = absurd (omega arith)
+  take_all (x ∷ xs) (suc n) e = ap (λ (ys : List X). x ∷ ys) (take_all xs n (omega arith))
 
-drop_all : (xs : List Entries) (n : ℕ) → length xs ≤ n → drop n xs ≡ []
-drop_all [] zero h = refl
-drop_all [] (suc n) h = refl
-drop_all (x ∷ xs) zero h = absurd (omega arith)
-drop_all (x ∷ xs) (suc n) h = drop_all xs n (omega arith)
+  drop_all : (xs : List X) (n : ℕ) → length xs ≤ n → drop n xs ≡ []
+  drop_all [] zero h = refl
+  drop_all [] (suc n) h = refl
+  drop_all (x ∷ xs) zero h = absurd (omega arith)
+  drop_all (x ∷ xs) (suc n) h = drop_all xs n (omega arith)
 
--- rows that are written back
-pub written_back : (n : ℕ) (old new : List Entries) → n ≡ length old → length new ≡ length old → take n (new ++ drop (length new) old) ≡ new
-written_back n old new e f = ap (λ (ys : List Entries). take n (new ++ ys)) (drop_all old (length new) (omega arith)) ∙ take_all new n (e ∙ sym f)
+  pub written_back : (n : ℕ) (old new : List X) → n ≡ length old → length new ≡ length old → take n (new ++ drop (length new) old) ≡ new
+  written_back n old new e f = ap (λ (ys : List X). take n (new ++ ys)) (drop_all old (length new) (omega arith)) ∙ take_all new n (e ∙ sym f)
 
 pub if_ok : {A E : Type 0} (r : Result A E) (P Q : A → Type 0) → ((x : A) → P x → Q x) → IfOk r P → IfOk r Q
 if_ok (Ok x) P Q f p = f x p

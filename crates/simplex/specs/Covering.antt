@@ -30,3 +30,9 @@ pub record HasOne (c i : ℕ) (old new : List (BTreeSet ℕ)) : Type 0 where
   pub here : Among i (rows_in new c)
   pub alone : (j : ℕ) → Among j (rows_in new c) → j ≡ i
   pub others : (k : ℕ) → k ≢ c → rows_in new k ≡ rows_in old k
+
+-- new has these rows more in these columns, but for column c, which has one row
+pub record Follows (columns rows : List ℕ) (c i : ℕ) (old new : List (BTreeSet ℕ)) : Type 0 where
+  pub grown : List (BTreeSet ℕ)
+  pub grow : Grow columns rows old grown
+  pub one : HasOne c i grown new

@@ -17,6 +17,7 @@ use Rattle.simplex.specs.declared.solver.Step.{Step}
 use Rattle.simplex.specs.declared.solver.Step.TheVariants as step
 use Rattle.simplex.specs.Standing.{TableStands, RowsStand, RowStands}
 use Rattle.simplex.specs.Reading.{AreEntries, AreOver}
+use Rattle.simplex.specs.Covering.{Cover}
 
 -- the answers to fractions, as a rule for whole numbers over d
 abbrev pub rule_over : (List Frac → Option ℕ → Type 0) → Rule
@@ -59,9 +60,10 @@ IsAnswer rule s (Best x dual pivots) = IsBest rule s pivots.items x.items dual.i
 IsAnswer rule s (NoSolution farkas pivots) = IsRefuted rule s pivots.items farkas.items
 IsAnswer rule s (Leaves pivots row column) = Refuses rule s pivots.items row column
 
--- n gains, which are 0
-abbrev pub IsCleared : ℕ → Memory → Type 0
-IsCleared n memory = AreEntries 0 n [] memory.gains.items
+-- n gains, which are 0, and sets of n columns for the rows
+pub record IsReady (n : ℕ) (rows : List Entries) (memory : Memory) : Type 0 where
+  pub cleared : AreEntries 0 n [] memory.gains.items
+  pub cover : Cover n rows memory.sets.items
 
 abbrev pub IsAt : LinearSystem → Table → Tableau → Type 0
 IsAt s table t = IsAfter s table.pivots.items table.basis.items table.rows.items table.gains t

@@ -4,7 +4,7 @@ ghost use Rattle.std.specs.Prelude.{◌≡◌, ◌≢◌, ◌<◌, ◌^◌, ℕ,
 ghost use Rattle.frac_rows.specs.Entries.{at};
 ghost use Rattle.simplex.specs.Among.{Among};
 ghost use Rattle.simplex.specs.Standing.{entries_at, AreTouching};
-ghost use Rattle.simplex.specs.Covering.{Cover, Grow, HasOne, rows_in};
+ghost use Rattle.simplex.specs.Covering.{Cover, Grow, HasOne, Follows};
 
 use frac_rows::FracRow;
 use std::alloc::{AllocError, Global};
@@ -23,7 +23,7 @@ pub(crate) fn covering(
 }
 
 /// Adds these rows to the sets of these columns. A column past the sets has none.
-pub(crate) fn insert_rows(
+fn insert_rows(
     sets: &mut [BTreeSet<u32>],
     columns: &[u32],
     rows: &[usize],
@@ -35,11 +35,28 @@ pub(crate) fn insert_rows(
 }
 
 /// Leaves one row in a column's set.
-pub(crate) fn keep_one(sets: &mut [BTreeSet<u32>], column: u32, row: u32) -> Result<(), AllocError>
+fn keep_one(sets: &mut [BTreeSet<u32>], column: u32, row: u32) -> Result<(), AllocError>
     requires { column < length sets.old }
     ensures { OnOk result (HasOne column row sets.old sets.new) }
 {
     Err(AllocError)
+}
+
+/// Follows the pivot in this row and column: these rows may have numbers in the lead's columns, and in the
+/// entering column the lead alone has one.
+pub(crate) fn follow(
+    sets: &mut [BTreeSet<u32>],
+    columns: &[u32],
+    rows: &[usize],
+    column: u32,
+    row: u32,
+) -> Result<(), AllocError>
+    requires rows { (i : ℕ) → Among i rows.now → i < 2 ^ 32 }
+    requires column { column < length sets.old }
+    ensures { OnOk result (Follows columns.now rows.now column row sets.old sets.new) }
+{
+    insert_rows(sets, columns, rows)?;
+    keep_one(sets, column, row)
 }
 
 /// The rows with a number at column `s` that is not 0.

@@ -14,19 +14,6 @@ use frac128::Frac;
 use std::alloc::{AllocError, Global};
 use std::cmp::Ordering;
 
-/// The rows with a number at column `s` that is not 0.
-pub(crate) fn touching(alloc: Global, rows: &[FracRow], s: u32) -> Result<Vec<usize>, AllocError>
-    ensures { IfOk result (λ is. AreTouching s rows.now is.items) }
-{
-    let mut all = Vec::new(alloc);
-    for i in 0..rows.len() {
-        if rows[i].at(s).num() != 0 {
-            all.push(i)?;
-        }
-    }
-    Ok(all)
-}
-
 /// The rows with a positive number at column `s`, of those that have one there.
 fn bounding(
     alloc: Global,

@@ -11,11 +11,12 @@ ghost use Rattle.tableau.specs.Courses.{Ends, Rises, Follows, Answers, Refuses};
 ghost use Rattle.tableau.specs.Tableaux.{entry};
 ghost use Rattle.simplex.specs.Choosing.{IsChooser};
 ghost use Rattle.simplex.specs.Reading.{AreEntries, NoneTwice, AreOver};
-ghost use Rattle.simplex.specs.Solving.{rule_of, Reached, IsCleared, IsStep, IsOpening, IsAt, IsAnswer, Agree};
+ghost use Rattle.simplex.specs.Solving.{rule_of, Reached, IsReady, IsStep, IsOpening, IsAt, IsAnswer, Agree};
 
 use crate::answer::Answer;
 use crate::chooser::Chooser;
-use crate::leaving::{leaving, touching};
+use crate::covering::{covering, follow, touching};
+use crate::leaving::leaving;
 use crate::opening::{opening_gains, opening_rows};
 use crate::pivot::{Fault, pivot};
 use crate::reading::{clear, column_of, fill, fractions, negated, spread, zeros};
@@ -23,6 +24,7 @@ use frac_rows::FracRow;
 use frac128::Frac;
 use linear_rows::System;
 use std::alloc::{AllocError, Global};
+use std::collections::BTreeSet;
 
 /// A tableau as sparse rows, with the basis column of each row, and the pivots that led to it.
 #[derive(Drop)]
@@ -33,12 +35,13 @@ pub(crate) struct Table {
     pivots: Vec<(u32, u32)>,
 }
 
-/// What all steps use again: the gains as the rule sees them, which are 0 between steps, and a row in which
-/// new rows are made.
+/// What steps hand on beside the table: the gains as the rule sees them, which are 0 between steps, a row in
+/// which new rows are made, and for each column before the right sides the rows that may have a number there.
 #[derive(Drop)]
 pub(crate) struct Memory {
     gains: Vec<Frac>,
     row: FracRow,
+    sets: Vec<BTreeSet<u32>>,
 }
 
 /// What comes of a step.
@@ -102,9 +105,9 @@ pub(crate) fn make_step<F: Fn(&[Frac]) -> Option<usize>>(
     requires chooses { IsChooser F.Fn chooser.now }
     requires columns { right system.now < 2 ^ 32 }
     requires reached { Reached (rule_of F.Fn chooser.now) system.now table.old }
-    requires cleared { IsCleared (right system.now) memory.old }
+    requires ready { IsReady (right system.now) table.old.rows.items memory.old }
     ensures step { IfOk result (IsStep (rule_of F.Fn chooser.now) system.now table.old table.new) }
-    ensures cleared { IsCleared (right system.now) memory.new }
+    ensures ready { result ≡ Ok Step.Pivot → IsReady (right system.now) table.new.rows.items memory.new }
 {
     let slack = system.rows().len() as u32;
     let right = slack + system.unknowns();
@@ -112,7 +115,7 @@ pub(crate) fn make_step<F: Fn(&[Frac]) -> Option<usize>>(
         Some(column) => column,
         None => return Ok(Step::Best),
     };
-    let touching = touching(alloc, &table.rows, column)?;
+    let touching = touching(alloc, &table.rows, &memory.sets, column)?;
     let row = match leaving(alloc, &table.rows, &touching, column, slack, right) {
         Ok(Some(row)) => row,
         Ok(None) => return Ok(Step::Rises { column }),
@@ -122,18 +125,26 @@ pub(crate) fn make_step<F: Fn(&[Frac]) -> Option<usize>>(
     if let Err(fault) = pivot(alloc, rows, &mut table.gains, &touching, row, column, &mut memory.row) {
         return stopped(fault);
     }
+    let columns = table.rows[row].columns();
+    follow(&mut memory.sets, columns, &touching, column, row as u32)?;
     table.basis[row] = column;
     table.pivots.push((row as u32, column))?;
     Ok(Step::Pivot)
 }
 
-/// The memory of steps over this many columns.
-pub(crate) fn new_memory(alloc: Global, columns: usize) -> Result<Memory, AllocError>
-    ensures { IfOk result (IsCleared columns) }
+/// The memory of steps from these rows on, over this many columns.
+pub(crate) fn new_memory(
+    alloc: Global,
+    rows: &[FracRow],
+    columns: usize,
+) -> Result<Memory, AllocError>
+    requires { length rows.now < 2 ^ 32 }
+    ensures { IfOk result (IsReady columns rows.now) }
 {
     Ok(Memory {
         gains: zeros(alloc, columns)?,
         row: FracRow::new(alloc),
+        sets: covering(alloc, rows, columns)?,
     })
 }
 
@@ -228,7 +239,6 @@ pub fn solve<F: Fn(&[Frac]) -> Option<usize>>(
     if system.rows().len() > (u32::MAX - unknowns) as usize {
         return Err(AllocError);
     }
-    let mut memory = new_memory(alloc, system.rows().len() + unknowns as usize)?;
     let mut table = match opening(alloc, system) {
         Ok(table) => table,
         Err(Fault::NoMemory) => return Err(AllocError),
@@ -240,6 +250,7 @@ pub fn solve<F: Fn(&[Frac]) -> Option<usize>>(
             });
         }
     };
+    let mut memory = new_memory(alloc, &table.rows, system.rows().len() + unknowns as usize)?;
     loop {
         match make_step(alloc, system, chooser, &mut table, &mut memory) {
             Ok(Step::Pivot) => {}

@@ -42,7 +42,7 @@ fn table_after<F: Fn(&[Frac]) -> Option<usize>>(
         Ok(table) => table,
         Err(_) => return Err(Fail::new("no table")),
     };
-    let mut memory = new_memory(alloc, system.rows().len() + unknowns as usize)?;
+    let mut memory = new_memory(alloc, &table.rows, system.rows().len() + unknowns as usize)?;
     for _ in 0..pivots {
         match make_step(alloc, system, chooser, &mut table, &mut memory)? {
             Step::Pivot => {}

@@ -3,25 +3,32 @@ use Rattle.std.specs.Fn.{FnReturnsAt}
 use Rattle.std.specs.Vec.{with_items, with_item}
 use Rattle.simplex.specs.declared.pivot.Fault.{Fault}
 use Rattle.simplex.specs.Solving.{rule_of}
+use Rattle.simplex.specs.Among.{Among}
+use Rattle.tableau.specs.Tableaux.{right}
+use Rattle.frac_rows.specs.Entries.{Entries, columns_of}
+use Rattle.simplex.specs.Standing.{entries_at}
+use Rattle.simplex.specs.Covering.{Grow}
+use Rattle.simplex.proofs.Rows.{row_is}
+use Rattle.simplex.proofs.Covers.{covered, positive_not_none}
 use Rattle.simplex.proofs.Steps.{columns_compared}
 use Rattle.simplex.proofs.Solves.{reaches_end, reaches_rise, search_refuses, pivot_refuses, pivot_reaches, one_longer, basis_long, stops, written_back}
 use Rattle.simplex.proofs.solver.make_step.Goals as goal
 
 pub returns-in-None-clause-step : goal.returns-in-None-clause-step
 returns-in-None-clause-step g c =
-    let o = rw (c.deref_mut.ensures.value, c.requires.cleared.count) at c.in-None.ensures.chosen in
+    let o = rw (c.deref_mut.ensures.value, c.requires.ready.cleared.count) at c.in-None.ensures.chosen in
     reaches_end (FnReturnsAt g.F.Fn c.args.chooser.now) c.requires.chooses c.args.system.now c.rows.ensures.sound c.args.table.now c.requires.reached o.0 o.1 o.2
 
 pub returns-in-Ok-None-clause-step : goal.returns-in-Ok-None-clause-step
 returns-in-Ok-None-clause-step g c =
-    let o = rw (c.deref_mut.ensures.value, c.requires.cleared.count) at c.in-Some.ensures.chosen in
+    let o = rw (c.deref_mut.ensures.value, c.requires.ready.cleared.count) at c.in-Some.ensures.chosen in
     reaches_rise (FnReturnsAt g.F.Fn c.args.chooser.now) c.requires.chooses c.args.system.now c.rows.ensures.sound c.args.table.now c.requires.reached o.0 o.1 c.in-Some.column o.2
-    (λ i b. c.in-Ok-None.ensures.none i (ap Ok c.in-Ok-None.field-0-is) (rw c.deref-2.ensures.value b))
+    (λ i b. c.in-Ok-None.ensures.none i (ap Ok c.in-Ok-None.field-0-is) (rw c.deref-3.ensures.value b))
 
 pub stopped-requires : goal.stopped-requires
 stopped-requires g c i k e =
-    let o = rw (c.deref_mut.ensures.value, c.requires.cleared.count) at c.in-Some.ensures.chosen in
-    let w = rw (c.rows.ensures.all, c.unknowns.ensures, c.deref-2.ensures.value, columns_compared c.args.system.now) at c.in-Err.ensures.leaves i k (ap Err e) in
+    let o = rw (c.deref_mut.ensures.value, c.requires.ready.cleared.count) at c.in-Some.ensures.chosen in
+    let w = rw (c.rows.ensures.all, c.unknowns.ensures, c.deref-3.ensures.value, columns_compared c.args.system.now) at c.in-Err.ensures.leaves i k (ap Err e) in
     let q = search_refuses (FnReturnsAt g.F.Fn c.args.chooser.now) c.requires.chooses c.args.system.now c.rows.ensures.sound c.args.table.now c.requires.reached o.0 o.1 c.in-Some.column o.2 i k w in
     let most = q.1 in
     let columns = c.requires.columns in
@@ -29,20 +36,20 @@ stopped-requires g c i k e =
 
 pub returns-in-Err-clause-step : goal.returns-in-Err-clause-step
 returns-in-Err-clause-step g c = stops (rule_of g.F.Fn c.args.chooser.now) c.args.system.now c.args.table.now c.args.table.now c.in-Err.fault c.stopped.result (λ i k e.
-    let o = rw (c.deref_mut.ensures.value, c.requires.cleared.count) at c.in-Some.ensures.chosen in
-    let w = rw (c.rows.ensures.all, c.unknowns.ensures, c.deref-2.ensures.value, columns_compared c.args.system.now) at c.in-Err.ensures.leaves i k (ap Err e) in
+    let o = rw (c.deref_mut.ensures.value, c.requires.ready.cleared.count) at c.in-Some.ensures.chosen in
+    let w = rw (c.rows.ensures.all, c.unknowns.ensures, c.deref-3.ensures.value, columns_compared c.args.system.now) at c.in-Err.ensures.leaves i k (ap Err e) in
     let q = search_refuses (FnReturnsAt g.F.Fn c.args.chooser.now) c.requires.chooses c.args.system.now c.rows.ensures.sound c.args.table.now c.requires.reached o.0 o.1 c.in-Some.column o.2 i k w in
     q.0) c.stopped.ensures
 
 pub pivot-requires-clause-inside : goal.pivot-requires-clause-inside
 pivot-requires-clause-inside g c =
-    let l = rw c.deref-2.ensures.value at c.in-Ok-Some.ensures.row c.in-Ok-Some.row (ap Ok c.in-Ok-Some.field-0-is) in
+    let l = rw c.deref-3.ensures.value at c.in-Ok-Some.ensures.row c.in-Ok-Some.row (ap Ok c.in-Ok-Some.field-0-is) in
     rw c.deref_mut-2.ensures.value l.bounding.inside
 
 pub stopped-requires-in-Err-pivot : goal.stopped-requires-in-Err-pivot
 stopped-requires-in-Err-pivot g c i k e =
-    let o = rw (c.deref_mut.ensures.value, c.requires.cleared.count) at c.in-Some.ensures.chosen in
-    let l = rw (c.rows.ensures.all, c.unknowns.ensures, c.deref-2.ensures.value, columns_compared c.args.system.now) at c.in-Ok-Some.ensures.row c.in-Ok-Some.row (ap Ok c.in-Ok-Some.field-0-is) in
+    let o = rw (c.deref_mut.ensures.value, c.requires.ready.cleared.count) at c.in-Some.ensures.chosen in
+    let l = rw (c.rows.ensures.all, c.unknowns.ensures, c.deref-3.ensures.value, columns_compared c.args.system.now) at c.in-Ok-Some.ensures.row c.in-Ok-Some.row (ap Ok c.in-Ok-Some.field-0-is) in
     let w = rw c.deref_mut-2.ensures.value at c.in-Err-pivot.ensures.leaves i k (ap Err e) in
     let q = pivot_refuses (FnReturnsAt g.F.Fn c.args.chooser.now) c.requires.chooses c.args.system.now c.rows.ensures.sound c.args.table.now c.requires.reached o.0 o.1 c.in-Some.column o.2 c.in-Ok-Some.row i k l w in
     let most = q.1 in
@@ -52,26 +59,70 @@ stopped-requires-in-Err-pivot g c i k e =
 pub returns-in-Err-pivot-clause-step : goal.returns-in-Err-pivot-clause-step
 returns-in-Err-pivot-clause-step g c = stops (rule_of g.F.Fn c.args.chooser.now) c.args.system.now c.args.table.now (record { rows = with_items c.args.table.now.rows c.pivot.new.rows; gains = c.pivot.new.gains; basis = c.args.table.now.basis; pivots = c.args.table.now.pivots })
     c.in-Err-pivot.fault c.stopped-in-Err-pivot.result (λ i k e.
-    let o = rw (c.deref_mut.ensures.value, c.requires.cleared.count) at c.in-Some.ensures.chosen in
-    let l = rw (c.rows.ensures.all, c.unknowns.ensures, c.deref-2.ensures.value, columns_compared c.args.system.now) at c.in-Ok-Some.ensures.row c.in-Ok-Some.row (ap Ok c.in-Ok-Some.field-0-is) in
+    let o = rw (c.deref_mut.ensures.value, c.requires.ready.cleared.count) at c.in-Some.ensures.chosen in
+    let l = rw (c.rows.ensures.all, c.unknowns.ensures, c.deref-3.ensures.value, columns_compared c.args.system.now) at c.in-Ok-Some.ensures.row c.in-Ok-Some.row (ap Ok c.in-Ok-Some.field-0-is) in
     let w = rw c.deref_mut-2.ensures.value at c.in-Err-pivot.ensures.leaves i k (ap Err e) in
     let q = pivot_refuses (FnReturnsAt g.F.Fn c.args.chooser.now) c.requires.chooses c.args.system.now c.rows.ensures.sound c.args.table.now c.requires.reached o.0 o.1 c.in-Some.column o.2 c.in-Ok-Some.row i k l w in
     q.0) c.stopped-in-Err-pivot.ensures
 
 pub index_mut-requires : goal.index_mut-requires
 index_mut-requires g c =
-    let l = rw c.deref-2.ensures.value at c.in-Ok-Some.ensures.row c.in-Ok-Some.row (ap Ok c.in-Ok-Some.field-0-is) in
+    let l = rw c.deref-3.ensures.value at c.in-Ok-Some.ensures.row c.in-Ok-Some.row (ap Ok c.in-Ok-Some.field-0-is) in
     let h = l.bounding.inside in
     let n = basis_long (rule_of g.F.Fn c.args.chooser.now) c.args.system.now c.args.table.now c.rows.ensures.sound c.requires.reached in
     omega arith
 
 pub returns-clause-step : goal.returns-clause-step
 returns-clause-step g c =
-    let o = rw (c.deref_mut.ensures.value, c.requires.cleared.count) at c.in-Some.ensures.chosen in
-    let l = rw (c.rows.ensures.all, c.unknowns.ensures, c.deref-2.ensures.value, columns_compared c.args.system.now) at c.in-Ok-Some.ensures.row c.in-Ok-Some.row (ap Ok c.in-Ok-Some.field-0-is) in
+    let o = rw (c.deref_mut.ensures.value, c.requires.ready.cleared.count) at c.in-Some.ensures.chosen in
+    let l = rw (c.rows.ensures.all, c.unknowns.ensures, c.deref-3.ensures.value, columns_compared c.args.system.now) at c.in-Ok-Some.ensures.row c.in-Ok-Some.row (ap Ok c.in-Ok-Some.field-0-is) in
     let made = rw c.deref_mut-2.ensures.value at c.in_default.ensures.pivoted in
     let back = written_back c.args.table.now.rows.len c.args.table.now.rows.items c.pivot.new.rows c.args.table.now.rows.ok.0 made.rows_swept.count in (
       pivot_reaches (FnReturnsAt g.F.Fn c.args.chooser.now) c.requires.chooses c.args.system.now c.rows.ensures.sound c.args.table.now c.requires.reached o.0 o.1 c.in-Some.column o.2 c.in-Ok-Some.row
           (record { rows = with_items c.args.table.now.rows c.pivot.new.rows; gains = c.pivot.new.gains; basis = with_item c.args.table.now.basis c.in-Ok-Some.row c.in-Some.column; pivots = c.push.new.self }) l (rw back made) refl c.in_ok-push.ensures.items,
       ap length c.in_ok-push.ensures.items ∙ one_longer c.args.table.now.pivots.items (c.in-Ok-Some.row, c.in-Some.column),
     )
+
+pub touching-requires-clause-column : goal.touching-requires-clause-column
+touching-requires-clause-column g c =
+    let o = rw (c.deref_mut.ensures.value, c.requires.ready.cleared.count) at c.in-Some.ensures.chosen in
+    let inside = (c.requires.chooses.some o.0 c.in-Some.column o.2).0 in
+    let count = o.1.count in
+    let sets = c.requires.ready.cover.count in
+    rw c.deref-2.ensures.value (omega arith)
+
+pub follow-requires-clause-rows : goal.follow-requires-clause-rows
+follow-requires-clause-rows g c i a =
+    let t = rw c.deref.ensures.value at c.in_ok-touching.ensures in
+    let inside = t.inside i (subst (Among i) c.deref-6.ensures.value a) in
+    let height = c.requires.reached.after.height in
+    let columns = c.requires.columns in
+    omega arith
+
+pub follow-requires-clause-column : goal.follow-requires-clause-column
+follow-requires-clause-column g c =
+    let o = rw (c.deref_mut.ensures.value, c.requires.ready.cleared.count) at c.in-Some.ensures.chosen in
+    let inside = (c.requires.chooses.some o.0 c.in-Some.column o.2).0 in
+    let count = o.1.count in
+    let sets = c.requires.ready.cover.count in
+    rw c.deref_mut-3.ensures.value (omega arith)
+
+pub returns-clause-ready : goal.returns-clause-ready
+returns-clause-ready g c e =
+    let touches = rw c.deref.ensures.value at c.in_ok-touching.ensures in
+    let l = rw (c.rows.ensures.all, c.unknowns.ensures, c.deref-3.ensures.value, columns_compared c.args.system.now) at c.in-Ok-Some.ensures.row c.in-Ok-Some.row (ap Ok c.in-Ok-Some.field-0-is) in
+    let made = rw c.deref_mut-2.ensures.value at c.in_default.ensures.pivoted in
+    let back = written_back c.args.table.now.rows.len c.args.table.now.rows.items c.pivot.new.rows c.args.table.now.rows.ok.0 made.rows_swept.count in
+    let cleared = rw (c.deref_mut.ensures.value, c.requires.ready.cleared.count) at c.entering.ensures.cleared in
+    let gains_back = written_back c.args.memory.now.gains.len c.args.memory.now.gains.items c.entering.new.seen c.args.memory.now.gains.ok.0 (cleared.count ∙ sym c.requires.ready.cleared.count) in
+    let follows = rw (c.deref_mut-3.ensures.value, c.deref-6.ensures.value, c.columns-columns.ensures.all) at c.in_ok-follow.ensures in
+    let sets_back = written_back c.args.memory.now.sets.len c.args.memory.now.sets.items c.follow.new.sets c.args.memory.now.sets.ok.0 (follows.one.count ∙ follows.grow.count) in
+    let inside = l.bounding.inside in
+    let count = made.rows_swept.count in
+    let lead : c.index.result.now ≡ entries_at c.pivot.new.rows c.in-Ok-Some.row = row_is c.pivot.new.rows c.in-Ok-Some.row c.index.result.now (omega arith) (rw back at c.index.ensures) in
+    record {
+      cleared = rw gains_back cleared;
+      cover = rw (back, sets_back) (covered (right c.args.system.now) c.in-Ok-Some.row c.in-Some.column c.args.table.now.rows.items c.args.table.now.gains c.pivot.new.rows c.pivot.new.gains c.in_ok-touching.touching.items
+      c.args.memory.now.sets.items follows.grown c.follow.new.sets inside (positive_not_none l.bounding.positive) c.requires.ready.cover touches made
+      (subst (λ (es : Entries). Grow (columns_of es) c.in_ok-touching.touching.items c.args.memory.now.sets.items follows.grown) lead follows.grow) follows.one);
+    }

@@ -1,12 +1,13 @@
-use Rattle.std.proofs.Common.{◌≡◌, sym, length, ◌^◌}
+use Rattle.std.proofs.Common.{◌≡◌, sym, length, ◌^◌, arith}
 use Rattle.tableau.specs.Tableaux.{right}
+use Rattle.tableau.proofs.Opening.{length-opened}
 use Rattle.simplex.specs.Solving.{rule_of}
 use Rattle.simplex.proofs.Solves.{basis_long}
 use Rattle.simplex.proofs.Tables.{opened_reached, fewer_pivots, shrinks, differ_at, differ_rising, best_of, refuted_of}
 use Rattle.simplex.proofs.solver.solve.Goals as goal
 
 pub loop-table-init : goal.loop-table-init
-loop-table-init g c = (opened_reached (rule_of g.F.Fn c.args.chooser.now) c.args.system.now c.in-Ok.table c.in-Ok.ensures.table, rw (c.rows-2.ensures.all, c.unknowns-unknowns.ensures) at c.in_ok-memory.ensures)
+loop-table-init g c = (opened_reached (rule_of g.F.Fn c.args.chooser.now) c.args.system.now c.in-Ok.table c.in-Ok.ensures.table, rw (c.deref.ensures.value, c.rows-2.ensures.all, c.unknowns-unknowns.ensures) at c.in_ok-memory.ensures)
 
 pub loop-table-smaller : goal.loop-table-smaller
 loop-table-smaller g c =
@@ -45,3 +46,11 @@ returns-in-Ok-Rises g c =
 
 pub returns-in-Ok-Leaves : goal.returns-in-Ok-Leaves
 returns-in-Ok-Leaves g c = rw c.in-Ok-Leaves.field-0-is at c.in-Ok-Leaves.ensures.step
+
+pub new_memory-requires : goal.new_memory-requires
+new_memory-requires g c =
+    let count = c.in-Ok.ensures.table.rows.count in
+    let opened = length-opened c.args.system.now in
+    let unknowns = c.unknowns-unknowns.ensures in
+    let fits = c.unknowns-unknowns.type_inv in
+    rw c.deref.ensures.value (omega arith)
