@@ -11,3 +11,4 @@ mod Solves
 mod Tables
 mod Agreement
 mod Spelling
+mod Sets
