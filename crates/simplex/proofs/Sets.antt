@@ -7,7 +7,6 @@ use Rattle.std.specs.List.Sorted.{IsStrictlySortedBy}
 use Rattle.std.specs.Ordering.{nat_cmp, match_ordering}
 use Rattle.std.proofs.lemmas.Map.Keys.{sorted_head, sorted_tail}
 use Rattle.std.proofs.lemmas.Map.Lookups.{exact_unsigned}
-use Rattle.frac128.specs.declared.Frac.{Frac}
 use Rattle.frac_rows.specs.Entries.{Entries, at, columns_of}
 use Rattle.simplex.specs.Among.{Among, AllDiffer}
 use Rattle.simplex.specs.Standing.{entries_at, AreTouching}
@@ -106,16 +105,16 @@ row_inserted c i old d s h k =
       ];
       has = λ b j l m a. elim m [
         | inl q ↦ elim a [
-            | inl r ↦ subst (λ (z : ℕ). Among j (rows_in (slice_set old c s) z)) (sym q) (subst (λ (z : ℕ). Among z (rows_in (slice_set old c s) c)) (sym r) (subst (Among i) (sym is) (inserted_has keys i)))
-            | inr r ↦ absurd r
-          ]
+          | inl r ↦ subst (λ (z : ℕ). Among j (rows_in (slice_set old c s) z)) (sym q) (subst (λ (z : ℕ). Among z (rows_in (slice_set old c s) c)) (sym r) (subst (Among i) (sym is) (inserted_has keys i)))
+          | inr r ↦ absurd r
+        ]
         | inr q ↦ absurd q
       ];
       only = λ b j a. elim (same_or_not b c) [
         | inl q ↦ elim (inserted_only keys i j (subst (Among j) is (subst (λ (z : ℕ). Among j (rows_in (slice_set old c s) z)) q a))) [
-            | inl w ↦ inl (subst (λ (z : ℕ). Among j (rows_in old z)) (sym q) (subst (Among j) (sym was) w))
-            | inr r ↦ inr (inl r)
-          ]
+          | inl w ↦ inl (subst (λ (z : ℕ). Among j (rows_in old z)) (sym q) (subst (Among j) (sym was) w))
+          | inr r ↦ inr (inl r)
+        ]
         | inr n ↦ inl (subst (Among j) (rows_in_there old c s b n) a)
       ];
     }
@@ -237,11 +236,11 @@ covered_more n k rows d columns old new h e f o g =
         | inr b ↦ elim b [ inl q ↦ omega arith | inr q ↦ absurd q ]
       ];
       all = λ c i l m z.
-        let row : (at c (entries_at rows i)).num ≢ pos 0 = subst (λ (es : Entries). (at c es).num ≢ pos 0) (entries-taken (k + 1) rows i (omega arith)) z in
-        elim (earlier_or_here i k (omega arith)) [
-          | inl b ↦ g.kept c i (o.all c i l (omega arith) (subst (λ (es : Entries). (at c es).num ≢ pos 0) (sym (entries-taken k rows i b)) row))
-          | inr q ↦ g.has c i (omega arith) (subst (Among c) (sym f) (listed c d (subst (λ (es : Entries). (at c es).num ≢ pos 0) (ap (entries_at rows) q ∙ is) row))) (inl q)
-        ];
+          let row : (at c (entries_at rows i)).num ≢ pos 0 = subst (λ (es : Entries). (at c es).num ≢ pos 0) (entries-taken (k + 1) rows i (omega arith)) z in
+          elim (earlier_or_here i k (omega arith)) [
+            | inl b ↦ g.kept c i (o.all c i l (omega arith) (subst (λ (es : Entries). (at c es).num ≢ pos 0) (sym (entries-taken k rows i b)) row))
+            | inr q ↦ g.has c i (omega arith) (subst (Among c) (sym f) (listed c d (subst (λ (es : Entries). (at c es).num ≢ pos 0) (ap (entries_at rows) q ∙ is) row))) (inl q)
+          ];
     }
 
 -- of the keys that come before those that are left, these have P

@@ -1,4 +1,3 @@
-use Rattle.std.proofs.Common.{arith}
 use Rattle.simplex.proofs.Sets.{one_kept}
 use Rattle.simplex.proofs.covering.keep_one.Goals as goal
 

@@ -1,4 +1,4 @@
-use Rattle.std.proofs.Common.{rules, FitsSigned, ◌≡◌, ◌≢◌, sym, ap, ◌∙◌, subst, arith, ℕ, List, ◌∷◌, ℤ, pos, ◌<◌, length, get_or}
+use Rattle.std.proofs.Common.{rules, FitsSigned, ◌≡◌, ◌≢◌, sym, ap, ◌∙◌, subst, arith, ℕ, List, ◌∷◌, pos, ◌<◌, length}
 use Rattle.std.proofs.lemmas.Int.{ints, to_z-of_z}
 use Rattle.std.proofs.lemmas.Map.Iter.{rest_more, rest_all}
 use Rattle.std.specs.BTreeSet.{BTreeSet}
@@ -6,7 +6,7 @@ use Rattle.std.specs.Int.{w128}
 use Rattle.std.specs.List.Sorted.{IsStrictlySortedBy}
 use Rattle.std.specs.Map.Iter.{deref}
 use Rattle.std.specs.Ordering.{nat_cmp}
-use Rattle.frac_rows.specs.Entries.{Entries, at}
+use Rattle.frac_rows.specs.Entries.{at}
 use Rattle.simplex.specs.Standing.{entries_at}
 use Rattle.simplex.specs.Covering.{rows_in}
 use Rattle.simplex.proofs.Rows.{number_read}
@@ -16,9 +16,12 @@ use Rattle.simplex.proofs.covering.touching.Goals as goal
 pub loop-row-init : goal.loop-row-init
 loop-row-init c =
     let gives = c.into_iter-row-iterator.ensures.into_iter_gives in
-    let keys : rows_in c.args.sets.now c.args.s ≡ c.index-sets-s.result.keys = rows_in_is c.args.sets.now c.args.s c.index-sets-s.result c.requires.column ∙ sym (ap (λ (set : BTreeSet ℕ). set.keys) c.index-sets-s.is) in
-    (tt, tt, none_before (rows_in c.args.sets.now c.args.s) c.into_iter-row-iterator.result (λ i. (at c.args.s (entries_at c.args.rows.now i)).num ≢ pos 0) c.new-all.result.items
-        (subst (IsStrictlySortedBy nat_cmp) (sym keys) gives.4) (gives.0 ∙ sym keys) c.new-all.ensures.items)
+    let keys : rows_in c.args.sets.now c.args.s ≡ c.index-sets-s.result.keys = rows_in_is c.args.sets.now c.args.s c.index-sets-s.result c.requires.column ∙ sym (ap (λ (set : BTreeSet ℕ). set.keys) c.index-sets-s.is) in (
+      tt,
+      tt,
+      none_before (rows_in c.args.sets.now c.args.s) c.into_iter-row-iterator.result (λ i. (at c.args.s (entries_at c.args.rows.now i)).num ≢ pos 0) c.new-all.result.items
+          (subst (IsStrictlySortedBy nat_cmp) (sym keys) gives.4) (gives.0 ∙ sym keys) c.new-all.ensures.items,
+    )
 
 pub bounds-rows-row : goal.bounds-rows-row
 bounds-rows-row c =
