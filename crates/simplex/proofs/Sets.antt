@@ -62,11 +62,6 @@ rows_in_is [] c d h = absurd (omega arith)
 rows_in_is (s ∷ sets) zero d h = refl
 rows_in_is (s ∷ sets) (suc c) d h = rows_in_is sets c d (omega arith)
 
-pub rows_in_past : (sets : List (BTreeSet ℕ)) (c : ℕ) → length sets ≤ c → rows_in sets c ≡ []
-rows_in_past [] c h = refl
-rows_in_past (s ∷ sets) zero h = absurd (omega arith)
-rows_in_past (s ∷ sets) (suc c) h = rows_in_past sets c (omega arith)
-
 pub rows_in_here : (sets : List (BTreeSet ℕ)) (c : ℕ) (s : BTreeSet ℕ) → c < length sets → rows_in (slice_set sets c s) c ≡ s.keys
 rows_in_here [] c s h = absurd (omega arith)
 rows_in_here (t ∷ sets) zero s h = refl
@@ -119,15 +114,6 @@ row_inserted c i old d s h k =
       ];
     }
 
--- a column past the sets has none
-pub past_sets : (c i : ℕ) (sets : List (BTreeSet ℕ)) → length sets ≤ c → Grow (c ∷ []) (i ∷ []) sets sets
-past_sets c i sets h = record {
-  count = refl;
-  kept = λ b j a. a;
-  has = λ b j l m a. elim m [ inl q ↦ absurd (let r : b ≡ c = q in omega arith) | inr q ↦ absurd q ];
-  only = λ b j a. inl a;
-}
-
 -- the set is cleared, and has one row then
 pub one_kept : (c i : ℕ) (old : List (BTreeSet ℕ)) (d s : BTreeSet ℕ) → c < length old → d.keys ≡ [] → s.keys ≡ insert_key nat_cmp d.keys i → HasOne c i old (slice_set old c s)
 one_kept c i old d s h e k =
@@ -138,13 +124,6 @@ one_kept c i old d s h e k =
       alone = λ j a. elim (subst (Among j) is a) [ inl q ↦ q | inr q ↦ absurd q ];
       others = λ b n. rows_in_there old c s b n;
     }
-
--- no column, and no row
-pub no_column : (columns rows : List ℕ) (sets : List (BTreeSet ℕ)) → Grow (take 0 columns) rows sets sets
-no_column columns rows sets = record { count = refl; kept = λ c i a. a; has = λ c i l m a. absurd m; only = λ c i a. inl a }
-
-pub no_row : (columns rows : List ℕ) (sets : List (BTreeSet ℕ)) → Grow columns (take 0 rows) sets sets
-no_row columns rows sets = record { count = refl; kept = λ c i a. a; has = λ c i l m a. absurd a; only = λ c i a. inl a }
 
 -- one column more
 pub column_more : (k : ℕ) (columns rows : List ℕ) (old mid new : List (BTreeSet ℕ)) → k < length columns → Grow (take k columns) rows old mid → Grow (get_or columns k 0 ∷ []) rows mid new → Grow (take (k + 1) columns) rows old new
@@ -181,10 +160,7 @@ lent_whole n old new e l = ap (λ (m : ℕ). take m (new ++ drop (length new) ol
     front [] ys = refl
     front (x ∷ xs) ys = ap (λ (zs : List (BTreeSet ℕ)). x ∷ zs) (front xs ys)
 
--- sets with no row, and one more of these
-pub no_sets : Cover 0 [] []
-no_sets = record { count = refl; inside = λ c i a. absurd a; all = λ c i l m n. absurd (omega arith) }
-
+-- one set more, with no row
 rows_in_more : (sets : List (BTreeSet ℕ)) (s : BTreeSet ℕ) (c i : ℕ) → s.keys ≡ [] → Among i (rows_in (sets ++ s ∷ []) c) → Among i (rows_in sets c)
 rows_in_more [] s zero i e a = subst (Among i) e a
 rows_in_more [] s (suc c) i e a = a
