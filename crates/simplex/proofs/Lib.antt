@@ -12,3 +12,4 @@ mod Solves
 mod Tables
 mod Agreement
 mod Spelling
+mod Sets

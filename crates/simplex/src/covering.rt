@@ -1,9 +1,8 @@
 //! For each column, the rows that may have a number there, so that a pivot looks at no other row.
 
-ghost use Rattle.std.specs.Prelude.{◌≡◌, ◌≢◌, ◌<◌, ◌^◌, ℕ, pos, length, IfOk, OnOk};
-ghost use Rattle.frac_rows.specs.Entries.{at};
+ghost use Rattle.std.specs.Prelude.{◌<◌, ◌^◌, ℕ, [], ◌∷◌, length, IfOk, OnOk};
 ghost use Rattle.simplex.specs.Among.{Among};
-ghost use Rattle.simplex.specs.Standing.{entries_at, AreTouching};
+ghost use Rattle.simplex.specs.Standing.{AreTouching};
 ghost use Rattle.simplex.specs.Covering.{Cover, Grow, HasOne, Follows};
 
 use frac_rows::FracRow;
@@ -19,7 +18,22 @@ pub(crate) fn covering(
     requires { length rows.now < 2 ^ 32 }
     ensures { IfOk result (λ sets. Cover columns rows.now sets.items) }
 {
-    Err(AllocError)
+    let mut sets = empty_sets(alloc, columns)?;
+    for i in 0..rows.len() {
+        insert_row(&mut sets, rows[i].columns(), i as u32)?;
+    }
+    Ok(sets)
+}
+
+/// An empty set for each of the first columns.
+fn empty_sets(alloc: Global, columns: usize) -> Result<Vec<BTreeSet<u32>>, AllocError>
+    ensures { IfOk result (λ sets. Cover columns [] sets.items) }
+{
+    let mut sets = Vec::with_capacity(alloc, columns)?;
+    for _ in 0..columns {
+        sets.push(BTreeSet::new(alloc))?;
+    }
+    Ok(sets)
 }
 
 /// Adds these rows to the sets of these columns. A column past the sets has none.
@@ -31,7 +45,31 @@ fn insert_rows(
     requires { (i : ℕ) → Among i rows.now → i < 2 ^ 32 }
     ensures { OnOk result (Grow columns.now rows.now sets.old sets.new) }
 {
-    Err(AllocError)
+    for row in rows {
+        insert_row(sets, columns, *row as u32)?;
+    }
+    Ok(())
+}
+
+/// Adds a row to the sets of these columns.
+fn insert_row(sets: &mut [BTreeSet<u32>], columns: &[u32], row: u32) -> Result<(), AllocError>
+    ensures { OnOk result (Grow columns.now (row ∷ []) sets.old sets.new) }
+{
+    for column in columns {
+        insert_at(sets, *column, row)?;
+    }
+    Ok(())
+}
+
+/// Adds a row to a column's set, where the column has one.
+fn insert_at(sets: &mut [BTreeSet<u32>], column: u32, row: u32) -> Result<(), AllocError>
+    ensures { OnOk result (Grow (column ∷ []) (row ∷ []) sets.old sets.new) }
+{
+    let place = column as usize;
+    if place < sets.len() {
+        sets[place].insert(row)?;
+    }
+    Ok(())
 }
 
 /// Leaves one row in a column's set.
@@ -39,7 +77,10 @@ fn keep_one(sets: &mut [BTreeSet<u32>], column: u32, row: u32) -> Result<(), All
     requires { column < length sets.old }
     ensures { OnOk result (HasOne column row sets.old sets.new) }
 {
-    Err(AllocError)
+    let set = &mut sets[column as usize];
+    set.clear();
+    set.insert(row)?;
+    Ok(())
 }
 
 /// Follows the pivot in this row and column: these rows may have numbers in the lead's columns, and in the
@@ -70,5 +111,11 @@ pub(crate) fn touching(
     requires covers { Cover (length sets.now) rows.now sets.now }
     ensures { IfOk result (λ is. AreTouching s rows.now is.items) }
 {
-    Err(AllocError)
+    let mut all = Vec::new(alloc);
+    for row in &sets[s as usize] {
+        if rows[*row as usize].at(s).num() != 0 {
+            all.push(*row as usize)?;
+        }
+    }
+    Ok(all)
 }
