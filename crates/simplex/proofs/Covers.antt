@@ -1,5 +1,5 @@
 -- Where numbers stand after a pivot.
-use Rattle.std.proofs.Common.{◌≡◌, ◌≢◌, refl, sym, ap, subst, ◌∙◌, ℕ, suc, ◌+◌, ◌*◌, ◌<◌, ◌≤◌, ℤ, pos, ◌-ℤ◌, ◌*ℤ◌, ◌<ℤ◌, arith, List, [], ◌∷◌, length, ◌==◌, true, false, ◌⊎◌, inl, inr, Result, Ok, Err, OnOk}
+use Rattle.std.proofs.Common.{◌≡◌, ◌≢◌, refl, sym, ap, subst, ◌∙◌, ℕ, ◌*◌, ◌<◌, ℤ, pos, ◌-ℤ◌, ◌*ℤ◌, ◌<ℤ◌, arith, List, [], ◌∷◌, length, ◌==◌, false, ◌⊎◌, inl, inr}
 use Rattle.std.proofs.lemmas.Int.{ints}
 use Rattle.std.proofs.lemmas.Bool.Decides.{nat_tests}
 use Rattle.std.proofs.Math.Nat.{mul-pos}
@@ -7,7 +7,7 @@ use Rattle.std.specs.BTreeSet.{BTreeSet}
 use Rattle.raml_num.proofs.Differences.{diffs, diff-pos, is_diff, diff_same}
 use Rattle.raml_num.proofs.Signed.{cancelled}
 use Rattle.frac128.specs.declared.Frac.{Frac}
-use Rattle.frac128.specs.Values.{IsQuotient, IsProduct}
+use Rattle.frac128.specs.Values.{IsQuotient}
 use Rattle.frac_rows.specs.Entries.{Entries, at, columns_of, IsLess}
 use Rattle.simplex.specs.Among.{Among}
 use Rattle.simplex.specs.Standing.{entries_at, AreTouching, IsPivoted}
@@ -18,6 +18,7 @@ gone a d h e = cancelled (pos d) a (pos 0) (λ z. omega (arith, ints)) (turned a
   where
     turned : (a : ℤ) (d : ℕ) → pos d *ℤ a ≡ a *ℤ pos d
     turned a d = omega (arith, ints)
+
     nothing : (d : ℕ) → pos 0 ≡ pos d *ℤ pos 0
     nothing d = omega (arith, ints)
 
@@ -35,6 +36,7 @@ quotient_of_none x y q e z n =
   where
     turned : (a b : ℤ) → a *ℤ b ≡ b *ℤ a
     turned a b = omega (arith, ints)
+
     nothing : (a : ℤ) → pos 0 ≡ a *ℤ pos 0
     nothing a = omega (arith, ints)
 
@@ -75,7 +77,7 @@ less_itself : (x q r : Frac) → IsLess x x q r → q.num ≡ pos q.den → r.nu
 less_itself x q r l e =
     let p : Frac = l.product in
     let m : p.num *ℤ pos x.den ≡ x.num *ℤ pos p.den = cancelled (pos q.den) (p.num *ℤ pos x.den) (x.num *ℤ pos p.den) (positive q.den q.lowest.positive)
-        (product_left p.num x.den q.den ∙ l.is_product ∙ ap (λ (z : ℤ). (x.num *ℤ z) *ℤ pos p.den) e ∙ product_right x.num q.den p.den) in
+    (product_left p.num x.den q.den ∙ l.is_product ∙ ap (λ (z : ℤ). (x.num *ℤ z) *ℤ pos p.den) e ∙ product_right x.num q.den p.den) in
     difference_none x p r (sym m) l.is_difference
 
 -- a number that is not 0 has its column among the row's

@@ -1,5 +1,5 @@
 -- The loop of the solver, step by step.
-use Rattle.std.proofs.Common.{◌≡◌, ◌≢◌, refl, sym, ap, subst, ◌∙◌, ℕ, zero, suc, ◌+◌, ◌*◌, ◌^◌, ◌<◌, ◌≤◌, ℤ, pos, neg_ℤ, unsigned_abs, ◌*ℤ◌, ◌≤ℤ◌, ◌<ℤ◌, arith, List, [], ◌∷◌, ◌++◌, length, take, set, get_or, Option, Some, None, Result, Ok, Err, IfOk, drop, ◌⊎◌, inl, inr}
+use Rattle.std.proofs.Common.{◌≡◌, ◌≢◌, refl, sym, ap, subst, ◌∙◌, ℕ, zero, suc, ◌+◌, ◌*◌, ◌^◌, ◌<◌, ◌≤◌, ℤ, pos, neg_ℤ, unsigned_abs, ◌*ℤ◌, ◌≤ℤ◌, ◌<ℤ◌, arith, List, [], ◌∷◌, ◌++◌, length, take, set, Option, Some, None, Result, Ok, Err, IfOk, drop, ◌⊎◌, inl, inr}
 use Rattle.std.proofs.lemmas.Int.{ints, unsigned_abs-mul}
 use Rattle.std.specs.declared.alloc.AllocError.{AllocError}
 use Rattle.frac128.specs.declared.Frac.{Frac}
@@ -10,11 +10,11 @@ use Rattle.tableau.specs.Places.{row_at}
 use Rattle.tableau.specs.Places as places
 use Rattle.tableau.specs.Tableaux.{Tableau, right, opening, pivot, entry, compared}
 use Rattle.tableau.specs.Refusals.{least_number, Refused, InSearch, InLeavingRow, InProduct, InDifference}
-use Rattle.tableau.specs.Courses.{Rule, Enters, IsPivot, Leads, Course, Ends, Rises, Follows, FollowsFrom, Answers, Refuses, AtPivot}
-use Rattle.tableau.proofs.Opening.{width, length-opened}
+use Rattle.tableau.specs.Courses.{Rule, Enters, Leads, Course, Ends, Rises, Follows, FollowsFrom, Answers, Refuses, AtPivot}
+use Rattle.tableau.proofs.Opening.{length-opened}
 use Rattle.tableau.proofs.Ending.{Good, good_course}
 use Rattle.tableau.proofs.Agreeing.{course_ends}
-use Rattle.simplex.specs.Standing.{Stands, RowStands, RowsStand, TableStands, IsPivoted, PivotLeaves, entries_at}
+use Rattle.simplex.specs.Standing.{Stands, RowStands, RowsStand, IsPivoted, PivotLeaves, entries_at}
 use Rattle.simplex.specs.Ties.{IsBounding, IsLeaving, SearchLeaves}
 use Rattle.simplex.specs.Choosing.{Chooses}
 use Rattle.simplex.specs.Reading.{AreOver, HaveParts, frac_at}

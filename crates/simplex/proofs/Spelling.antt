@@ -1,5 +1,5 @@
 -- Systems that are read from text.
-use Rattle.std.proofs.Common.{◌≢◌, ◌∙◌, ℕ, ◌<◌, ℤ, pos, ◌≤ℤ◌, arith, List, [], ◌∷◌, ◌++◌}
+use Rattle.std.proofs.Common.{◌∙◌, ℕ, ◌<◌, ℤ, pos, ◌≤ℤ◌, arith, List, [], ◌∷◌, ◌++◌}
 use Rattle.raml_num.specs.Sums.{NoneNegative}
 use Rattle.linear_rows.specs.Terms.{SparseRow, AddsAt}
 use Rattle.linear_rows.specs.Systems.{IsBelow}

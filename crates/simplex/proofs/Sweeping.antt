@@ -1,5 +1,5 @@
 -- Rows that are swept one after the other.
-use Rattle.std.proofs.Common.{◌≡◌, ◌≢◌, refl, sym, ap, subst, ◌∙◌, ℕ, zero, suc, ◌+◌, ◌<◌, ◌≤◌, pos, arith, List, [], ◌∷◌, length, get_or, slice_set, take, ◌++◌, ◌⊎◌, inl, inr, Result, Ok, Err, OnOk}
+use Rattle.std.proofs.Common.{◌≡◌, ◌≢◌, refl, sym, ap, subst, ◌∙◌, ℕ, zero, suc, ◌+◌, ◌<◌, ◌≤◌, pos, arith, List, [], ◌∷◌, length, get_or, slice_set, take, ◌⊎◌, inl, inr, Result, Ok, Err, OnOk}
 use Rattle.std.proofs.lemmas.Int.{ints}
 use Rattle.frac128.specs.declared.Frac.{Frac}
 use Rattle.frac128.specs.Values.{IsQuotient}
@@ -8,7 +8,7 @@ use Rattle.frac_rows.proofs.Differing.{less_none}
 use Rattle.frac_rows.specs.declared.fault.RowFault.{RowFault}
 use Rattle.simplex.specs.Among.{Among, AllDiffer}
 use Rattle.simplex.proofs.Rows.{among_or_not, among_take, among_taken, among_take_more, not_yet, take_whole, value_of}
-use Rattle.simplex.specs.Standing.{entries_at, IsSwept, SweepLeaves, AreTouching, AmongSwept, RowLeaves, RowsSwept, IsPivoted, PivotLeaves, InLead, InRow, InGains}
+use Rattle.simplex.specs.Standing.{entries_at, IsSwept, SweepLeaves, AreTouching, AmongSwept, RowLeaves, IsPivoted, PivotLeaves, InLead, InRow, InGains}
 
 pub here : (rows : List Entries) (i : ℕ) (x : Entries) → i < length rows → entries_at (slice_set rows i x) i ≡ x
 here [] i x h = absurd (omega arith)

@@ -1,24 +1,22 @@
 -- Solutions, dual solutions and vectors that refute, as they are read from a table.
-use Rattle.std.proofs.Common.{◌≡◌, ◌≢◌, refl, sym, ap, subst, ◌∙◌, ℕ, zero, suc, ◌+◌, ◌-◌, ◌^◌, ◌<◌, ◌≤◌, ℤ, pos, neg_ℤ, ◌+ℤ◌, ◌*ℤ◌, ◌<ℤ◌, arith, List, [], ◌∷◌, ◌++◌, length, map, get_or, ◌⊎◌, inl, inr}
+use Rattle.std.proofs.Common.{◌≡◌, ◌≢◌, refl, sym, ap, subst, ◌∙◌, ℕ, zero, suc, ◌+◌, ◌-◌, ◌^◌, ◌<◌, ℤ, pos, neg_ℤ, ◌+ℤ◌, ◌*ℤ◌, ◌<ℤ◌, arith, List, [], ◌∷◌, ◌++◌, length, map, ◌⊎◌, inl, inr}
 use Rattle.std.proofs.lemmas.Int.{ints}
 use Rattle.raml_num.proofs.Differences.{diffs, diff-pos, is_diff, diff_same}
 use Rattle.frac128.specs.declared.Frac.{Frac}
 use Rattle.frac128.specs.Values.{numerator, denominator}
 use Rattle.frac_rows.specs.Entries.{Entries, at, nought}
 use Rattle.linear_rows.specs.Systems.{LinearSystem, IsSystem}
-use Rattle.linear_rows.specs.Vectors.{plus, zeros}
-use Rattle.linear_rows.proofs.Products.{length-zeros}
+use Rattle.linear_rows.specs.Vectors.{plus}
 use Rattle.tableau.specs.Places.{row_at, at_each, column, counted, only, spread}
 use Rattle.tableau.specs.Places as places
 use Rattle.tableau.specs.Tableaux.{Tableau, right, slacks, opening, solution, dual, ray}
-use Rattle.tableau.proofs.Invariant.{Based, basis_at}
 use Rattle.tableau.proofs.Rows.{at-zeros, length-column}
 use Rattle.tableau.proofs.Opening.{length-only, only_here, only_there, length-map, length-counted}
 use Rattle.tableau.proofs.Reading.{length-spread}
 use Rattle.tableau.proofs.Ending.{Good, good_course}
 use Rattle.tableau.proofs.Agreeing.{ends_least, rise_refutes}
 use Rattle.tableau.specs.Courses.{Rule, Course, Follows}
-use Rattle.simplex.specs.Standing.{Stands, RowStands, RowsStand, TableStands, entries_at}
+use Rattle.simplex.specs.Standing.{Stands, RowStands, RowsStand, entries_at}
 use Rattle.simplex.specs.Reading.{AreOver, HaveParts, NoneTwice, IsSpreadTo, frac_at, column_at}
 use Rattle.simplex.specs.declared.solver.Table.{Table}
 use Rattle.simplex.specs.Solving.{IsAfter, IsAt, IsOpening, Reached, ReachedEnd, ReachedRise, IsBest, IsRefuted}

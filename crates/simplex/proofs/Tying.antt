@@ -1,17 +1,15 @@
 -- Rows that are tied, found one after the other.
-use Rattle.std.proofs.Common.{◌≡◌, ◌≢◌, refl, sym, ap, subst, ◌∙◌, ℕ, zero, suc, ◌+◌, ◌<◌, ◌≤◌, ℤ, pos, ◌*ℤ◌, ◌<ℤ◌, ◌≤ℤ◌, arith, List, [], ◌∷◌, ◌++◌, length, get_or, take, ◌⊎◌, inl, inr}
-use Rattle.std.proofs.lemmas.Int.{ints}
+use Rattle.std.proofs.Common.{◌≡◌, refl, sym, ap, subst, ◌∙◌, ℕ, pos, ◌*ℤ◌, List, [], ◌∷◌, ◌++◌, inl, inr}
 use Rattle.std.proofs.lemmas.Cmp.{int_ranked}
 use Rattle.std.specs.Ordering.{ordering_reverse}
 use Rattle.std.specs.declared.cmp.Ordering.{Ordering}
 use Rattle.std.specs.declared.cmp.Ordering.TheVariants.{Less, Equal, Greater}
 use Rattle.frac128.specs.declared.Frac.{Frac}
 use Rattle.frac128.specs.Order.{order_of, order_is_total, same_parts}
-use Rattle.frac_rows.specs.Entries.{Entries, at}
-use Rattle.simplex.specs.Standing.{entries_at}
+use Rattle.frac_rows.specs.Entries.{Entries}
 use Rattle.simplex.proofs.Rows.{among_front, among_last, among_either, differ_front, differ_last, differ_more, among_or_not}
-use Rattle.simplex.specs.Among.{Among, AllDiffer}
-use Rattle.simplex.specs.Ties.{IsBounding, AreBounding, IsRatio, AreTied, Keeps, KeepsBy}
+use Rattle.simplex.specs.Among.{Among}
+use Rattle.simplex.specs.Ties.{IsRatio, AreTied, Keeps, KeepsBy}
 
 -- the ratio that comes
 ratio_same : (s c : ℕ) (rows : List Entries) (i : ℕ) (x y : Frac) → x.num ≡ y.num → x.den ≡ y.den → IsRatio s c rows i x → IsRatio s c rows i y
@@ -74,4 +72,3 @@ tied_more s c rows among (k ∷ ks) least i x new new_least t r h = kept_by s c 
 
 pub none_tied : (s c : ℕ) (rows : List Entries) (least : Frac) → AreTied s c rows [] [] least
 none_tied s c rows least = record { subset = λ i a. a; least_ratio = λ i a. absurd a; greater = λ i a n. absurd a; some = λ i a. absurd a; differ = λ d. d }
-

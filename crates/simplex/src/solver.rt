@@ -122,7 +122,15 @@ pub(crate) fn make_step<F: Fn(&[Frac]) -> Option<usize>>(
         Err(fault) => return stopped(fault),
     };
     let rows = &mut table.rows;
-    if let Err(fault) = pivot(alloc, rows, &mut table.gains, &touching, row, column, &mut memory.row) {
+    if let Err(fault) = pivot(
+        alloc,
+        rows,
+        &mut table.gains,
+        &touching,
+        row,
+        column,
+        &mut memory.row,
+    ) {
         return stopped(fault);
     }
     let columns = table.rows[row].columns();

@@ -1,7 +1,4 @@
-use Rattle.std.proofs.Common.{◌≡◌, ◌<◌, ◌≤◌, ℕ, take}
-use Rattle.frac_rows.specs.Entries.{at, nought}
-use Rattle.simplex.specs.Among.{Among}
-use Rattle.simplex.specs.Standing.{entries_at}
+use Rattle.std.proofs.Common.{◌≤◌, take}
 use Rattle.simplex.proofs.Narrowing.{NoneBetween}
 use Rattle.simplex.proofs.leaving.next_column.Given as goal
 

@@ -1,9 +1,8 @@
-use Rattle.std.proofs.Common.{◌≡◌, ap, sym, subst, ◌∙◌, Err, ℕ, List, [], ◌<◌, length, slice_set}
-use Rattle.frac128.specs.Values.{IsQuotient}
-use Rattle.frac_rows.specs.Entries.{Entries, at}
+use Rattle.std.proofs.Common.{◌≡◌, ap, sym, subst, ◌∙◌, Err, [], ◌<◌, length, slice_set}
+use Rattle.frac_rows.specs.Entries.{Entries}
 use Rattle.simplex.specs.declared.pivot.Fault.{Fault}
 use Rattle.simplex.specs.Standing.{AmongSwept, RowLeaves}
-use Rattle.simplex.proofs.Sweeping.{inside_still, pivot_made, row_left, gains_left, lead_left, length-slice_set}
+use Rattle.simplex.proofs.Sweeping.{inside_still, pivot_made, row_left, gains_left, length-slice_set}
 use Rattle.simplex.proofs.pivot.pivot.Goals as goal
 
 pub sweep_rows-requires-clause-inside : goal.sweep_rows-requires-clause-inside

@@ -1,6 +1,6 @@
-use Rattle.std.proofs.Common.{rules, ◌≡◌, refl, ◌∙◌, sym, ap, subst, Err, arith, ℕ, ◌<◌, ◌≤◌, length, get_or}
+use Rattle.std.proofs.Common.{rules, refl, ap, Err, arith, ℕ, ◌<◌, ◌≤◌, length, get_or}
 use Rattle.simplex.proofs.Rows.{among_at}
-use Rattle.simplex.proofs.Sweeping.{none_swept, one_more, row_leaves, all_swept}
+use Rattle.simplex.proofs.Sweeping.{one_more, row_leaves, all_swept}
 use Rattle.simplex.proofs.pivot.sweep_rows.Goals as goal
 
 pub bounds-rows-row : goal.bounds-rows-row

@@ -1,4 +1,4 @@
-use Rattle.std.proofs.Common.{◌≡◌, refl, ap, length, ◌+◌}
+use Rattle.std.proofs.Common.{refl, ap, length, ◌+◌}
 use Rattle.simplex.proofs.Solves.{if_ok}
 use Rattle.simplex.proofs.Tables.{dual_read}
 use Rattle.simplex.proofs.solver.dual.Goals as goal

@@ -1,7 +1,6 @@
-use Rattle.std.proofs.Common.{◌≡◌, refl, sym, ap, subst, ◌∙◌, ℕ, ◌+◌, ◌<◌, ◌≤◌, arith, length, Ok, Err, List}
+use Rattle.std.proofs.Common.{◌≡◌, refl, sym, ap, subst, ◌∙◌, arith, length, Ok, Err}
 use Rattle.std.specs.Fn.{FnReturnsAt}
 use Rattle.std.specs.Vec.{with_items, with_item}
-use Rattle.simplex.specs.declared.pivot.Fault.{Fault}
 use Rattle.simplex.specs.Solving.{rule_of}
 use Rattle.simplex.specs.Among.{Among}
 use Rattle.tableau.specs.Tableaux.{right}
@@ -123,6 +122,6 @@ returns-clause-ready g c e =
     record {
       cleared = rw gains_back cleared;
       cover = rw (back, sets_back) (covered (right c.args.system.now) c.in-Ok-Some.row c.in-Some.column c.args.table.now.rows.items c.args.table.now.gains c.pivot.new.rows c.pivot.new.gains c.in_ok-touching.touching.items
-      c.args.memory.now.sets.items follows.grown c.follow.new.sets inside (positive_not_none l.bounding.positive) c.requires.ready.cover touches made
-      (subst (λ (es : Entries). Grow (columns_of es) c.in_ok-touching.touching.items c.args.memory.now.sets.items follows.grown) lead follows.grow) follows.one);
+          c.args.memory.now.sets.items follows.grown c.follow.new.sets inside (positive_not_none l.bounding.positive) c.requires.ready.cover touches made
+          (subst (λ (es : Entries). Grow (columns_of es) c.in_ok-touching.touching.items c.args.memory.now.sets.items follows.grown) lead follows.grow) follows.one);
     }

@@ -1,4 +1,4 @@
-use Rattle.std.proofs.Common.{◌≡◌, ◌∙◌, refl, ap, length, ◌+◌, ◌∷◌, List, ℕ}
+use Rattle.std.proofs.Common.{◌∙◌, ap, length, ◌∷◌, List, ℕ}
 use Rattle.simplex.proofs.Solves.{if_ok}
 use Rattle.simplex.proofs.Tables.{ray_read}
 use Rattle.simplex.proofs.solver.ray.Goals as goal

@@ -1,4 +1,4 @@
-use Rattle.std.proofs.Common.{◌≡◌, ap, length}
+use Rattle.std.proofs.Common.{ap, length}
 use Rattle.simplex.proofs.Solves.{if_ok}
 use Rattle.simplex.proofs.Tables.{solution_read}
 use Rattle.simplex.proofs.solver.solution.Goals as goal

@@ -1,4 +1,4 @@
-use Rattle.std.proofs.Common.{◌≡◌, sym, length, ◌^◌, arith}
+use Rattle.std.proofs.Common.{sym, length, ◌^◌, arith}
 use Rattle.tableau.specs.Tableaux.{right}
 use Rattle.tableau.proofs.Opening.{length-opened}
 use Rattle.simplex.specs.Solving.{rule_of}
