@@ -12,6 +12,7 @@ use Rattle.frac_rows.specs.Entries.{Entries, at, columns_of, IsLess}
 use Rattle.simplex.specs.Among.{Among}
 use Rattle.simplex.specs.Standing.{entries_at, AreTouching, IsPivoted}
 use Rattle.simplex.specs.Covering.{rows_in, Cover, Grow, HasOne}
+use Rattle.tableau.proofs.Pivoting.{same_or_not}
 
 gone : (a : ℤ) (d : ℕ) → 0 < d → a *ℤ pos d ≡ pos 0 → a ≡ pos 0
 gone a d h e = cancelled (pos d) a (pos 0) (λ z. omega (arith, ints)) (turned a d ∙ e ∙ nothing d)
@@ -87,18 +88,12 @@ among_columns (e ∷ es) c n = elim (same_or_not c e.0) [
   | inl s ↦ inl s
   | inr d ↦ inr (among_columns es c (let t : (e.0 == c) ≡ false = grind (arith, nat_tests) in rw t at n))
 ]
-  where
-    same_or_not : (a b : ℕ) → (a ≡ b) ⊎ (a ≢ b)
-    same_or_not a b = grind arith
 
 pub positive_not_none : {z : ℤ} → pos 0 <ℤ z → z ≢ pos 0
 positive_not_none h e = omega (arith, ints)
 
 none_or_not : (z : ℤ) → (z ≡ pos 0) ⊎ (z ≢ pos 0)
 none_or_not z = grind (arith, ints)
-
-same_or_not : (a b : ℕ) → (a ≡ b) ⊎ (a ≢ b)
-same_or_not a b = grind arith
 
 -- sets that cover the rows before a pivot, with the rows that it touches in the lead's columns, and the lead
 -- alone in the entering column, cover them after it

@@ -7,6 +7,8 @@ use Rattle.frac128.specs.declared.Frac.{Frac}
 use Rattle.frac128.specs.Values.{numerator, denominator}
 use Rattle.frac_rows.specs.Entries.{Entries, at, nought, columns_of, numbers_of, SparseFrom}
 use Rattle.simplex.specs.Reading.{frac_at, column_at, HaveParts, AreEntries, NoneTwice, IsSpreadTo, IsPut}
+use Rattle.tableau.proofs.Pivoting.{same_or_not}
+use Rattle.simplex.proofs.Rows.{earlier_or_here}
 
 appended_before : (xs : List Frac) (x : Frac) (i : ℕ) → i < length xs → frac_at (xs ++ x ∷ []) i ≡ frac_at xs i
 appended_before [] x i h = absurd (omega arith)
@@ -18,9 +20,6 @@ appended_last [] x zero h = refl
 appended_last [] x (suc i) h = absurd (omega arith)
 appended_last (y ∷ xs) x zero h = absurd (omega arith)
 appended_last (y ∷ xs) x (suc i) h = appended_last xs x i (omega arith)
-
-earlier_or_here : (c j : ℕ) → c < j + 1 → (c < j) ⊎ (c ≡ j)
-earlier_or_here c j h = grind arith
 
 -- one fraction more
 pub parts_more : (n : ℕ) (num : ℕ → ℤ) (den : ℕ → ℕ) (xs : List Frac) (x : Frac) → HaveParts n num den xs → numerator x ≡ num n → denominator x ≡ den n → HaveParts (n + 1) num den (xs ++ x ∷ [])
@@ -104,9 +103,6 @@ more_there : (es : Entries) (k c : ℕ) → k < length es → entry_column es k 
 more_there [] k c h n = absurd (omega arith)
 more_there (e ∷ es) zero c h n = let t : (e.0 == c) ≡ false = grind (arith, nat_tests) in rw t refl
 more_there (e ∷ es) (suc k) c h n = ap (λ (y : Frac). if e.0 == c then e.1 else y) (more_there es k c (omega arith) n)
-
-same_or_not : (a b : ℕ) → (a ≡ b) ⊎ (a ≢ b)
-same_or_not a b = grind arith
 
 pub entry_put : (first n k j : ℕ) (es : Entries) (xs : List Frac) → SparseFrom 0 es → k < length es → first + j ≡ entry_column es k → j < n → AreEntries first n (take k es) xs → AreEntries first n (take (k + 1) es) (set xs j (entry_number es k))
 entry_put first n k j es xs s inside here below h = subst (λ (m : ℕ). AreEntries first n (take m es) (set xs j (entry_number es k))) (let e : suc k ≡ k + 1 = omega arith in e) (record {

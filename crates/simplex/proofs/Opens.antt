@@ -16,12 +16,11 @@ use Rattle.simplex.proofs.Steps.{entry_in, entry_last}
 use Rattle.simplex.proofs.Rows.{value_of}
 use Rattle.simplex.proofs.Sweeping.{here, there, length-slice_set}
 use Rattle.simplex.specs.Opening.{AddsWhole, OpensTo, OpeningLeaves, AreEmpty, AddsInRow, AddsColumn, ColumnsOpen}
+use Rattle.tableau.proofs.Pivoting.{same_or_not}
+use Rattle.simplex.proofs.Rows.{earlier_or_here}
 
 whole_stands : (x : Frac) (n : ℤ) → x.num ≡ n → x.den ≡ 1 → Stands (pos 1) n x
 whole_stands x n e f = record { is = rw (e, f) refl }
-
-earlier_or_here : (c j : ℕ) → c < j + 1 → (c < j) ⊎ (c ≡ j)
-earlier_or_here c j h = grind arith
 
 pub opens_more : (j : ℕ) (n : ℤ) (ns : List ℤ) (es new : Entries) → OpensTo j ns es → AddsWhole j n es new → n ≡ places.at ns j → EndsBefore (j + 1) new → OpensTo (j + 1) ns new
 opens_more j n ns es new o a e b = record {
@@ -49,9 +48,6 @@ past : (xs : List ℤ) (c : ℕ) → length xs ≤ c → places.at xs c ≡ pos 
 past [] c h = refl
 past (x ∷ xs) zero h = absurd (omega arith)
 past (x ∷ xs) (suc c) h = past xs c (omega arith)
-
-same_or_not : (a b : ℕ) → (a ≡ b) ⊎ (a ≢ b)
-same_or_not a b = grind arith
 
 front_or_back : (c n : ℕ) → (c < n) ⊎ ((i : ℕ) × (c ≡ n + i))
 front_or_back c n = elim (there c n) [ inl h ↦ inl h | inr h ↦ inr (c - n, omega arith) ]

@@ -5,6 +5,7 @@ use Rattle.frac_rows.specs.Entries.{Entries, at}
 use Rattle.simplex.specs.Among.{Among, AllDiffer}
 use Rattle.simplex.specs.Standing.{entries_at, AreTouching}
 use Rattle.simplex.specs.Ties.{IsBounding, AreBounding}
+use Rattle.tableau.proofs.Pivoting.{same_or_not}
 
 pub among_front : (i : ℕ) (xs ys : List ℕ) → Among i xs → Among i (xs ++ ys)
 among_front i [] ys a = absurd a
@@ -50,9 +51,6 @@ among_or_not i (x ∷ xs) = elim (same_or_not i x) [
   | inl e ↦ inl (inl e)
   | inr n ↦ elim (among_or_not i xs) [ inl a ↦ inl (inr a) | inr m ↦ inr (λ a. elim a [ inl e ↦ n e | inr b ↦ m b ]) ]
 ]
-  where
-    same_or_not : (a b : ℕ) → (a ≡ b) ⊎ (a ≢ b)
-    same_or_not a b = grind arith
 
 -- one row more is looked at
 pub take_more : (xs : List ℕ) (k d : ℕ) → k < length xs → take (k + 1) xs ≡ take k xs ++ get_or xs k d ∷ []

@@ -12,6 +12,8 @@ use Rattle.simplex.specs.Among.{Among, AllDiffer}
 use Rattle.simplex.specs.Standing.{entries_at, AreTouching}
 use Rattle.simplex.specs.Covering.{Cover, Grow, HasOne, rows_in}
 use Rattle.simplex.proofs.Rows.{Picked, picked_more, picked_same, row_is, among_take, among_taken, among_take_more}
+use Rattle.tableau.proofs.Pivoting.{same_or_not}
+use Rattle.simplex.proofs.Rows.{earlier_or_here}
 
 -- a key that is inserted
 pub inserted_has : (xs : List ℕ) (k : ℕ) → Among k (insert_key nat_cmp xs k)
@@ -78,12 +80,6 @@ pub length-sets : (sets : List (BTreeSet ℕ)) (c : ℕ) (s : BTreeSet ℕ) → 
 length-sets [] c s = refl
 length-sets (t ∷ sets) zero s = refl
 length-sets (t ∷ sets) (suc c) s = omega (arith, length-sets sets c s)
-
-same_or_not : (a b : ℕ) → (a ≡ b) ⊎ (a ≢ b)
-same_or_not a b = grind arith
-
-earlier_or_here : (j i : ℕ) → j < i + 1 → (j < i) ⊎ (j ≡ i)
-earlier_or_here j i h = grind arith
 
 -- one row more, in one column's set
 pub row_inserted : (c i : ℕ) (old : List (BTreeSet ℕ)) (d s : BTreeSet ℕ) → c < length old → s.keys ≡ insert_key nat_cmp (get_or old c d).keys i → Grow (c ∷ []) (i ∷ []) old (slice_set old c s)

@@ -9,6 +9,7 @@ use Rattle.frac_rows.specs.declared.fault.RowFault.{RowFault}
 use Rattle.simplex.specs.Among.{Among, AllDiffer}
 use Rattle.simplex.proofs.Rows.{among_or_not, among_take, among_taken, among_take_more, not_yet, take_whole, value_of}
 use Rattle.simplex.specs.Standing.{entries_at, IsSwept, SweepLeaves, AreTouching, AmongSwept, RowLeaves, IsPivoted, PivotLeaves, InLead, InRow, InGains}
+use Rattle.tableau.proofs.Pivoting.{same_or_not}
 
 pub here : (rows : List Entries) (i : ℕ) (x : Entries) → i < length rows → entries_at (slice_set rows i x) i ≡ x
 here [] i x h = absurd (omega arith)
@@ -26,9 +27,6 @@ pub length-slice_set : (rows : List Entries) (i : ℕ) (x : Entries) → length 
 length-slice_set [] i x = refl
 length-slice_set (r ∷ rows) zero x = refl
 length-slice_set (r ∷ rows) (suc i) x = omega (arith, length-slice_set rows i x)
-
-same_or_not : (a b : ℕ) → (a ≡ b) ⊎ (a ≢ b)
-same_or_not a b = grind arith
 
 pub none_swept : (among : List ℕ) (s : ℕ) (lead : Entries) (rows : List Entries) → AmongSwept (take 0 among) s lead rows rows
 none_swept among s lead rows = record { count = refl; swept = λ i a. absurd a; others = λ i n. refl }

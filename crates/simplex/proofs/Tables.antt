@@ -21,6 +21,7 @@ use Rattle.simplex.specs.Reading.{AreOver, HaveParts, NoneTwice, IsSpreadTo, fra
 use Rattle.simplex.specs.declared.solver.Table.{Table}
 use Rattle.simplex.specs.Solving.{IsAfter, IsAt, IsOpening, Reached, ReachedEnd, ReachedRise, IsBest, IsRefuted}
 use Rattle.simplex.proofs.Solves.{stands_with, opening_after, fewer}
+use Rattle.tableau.proofs.Pivoting.{same_or_not}
 
 -- the numbers of a spread list
 at-plus : (xs ys : List ℤ) (c : ℕ) → length xs ≡ length ys → places.at (plus xs ys) c ≡ places.at xs c +ℤ places.at ys c
@@ -68,9 +69,6 @@ seek (b ∷ cs) c = elim (same_or_not b c) [
   ]
 ]
   where
-    same_or_not : (a b : ℕ) → (a ≡ b) ⊎ (a ≢ b)
-    same_or_not a b = grind arith
-
     nowhere : (b c : ℕ) (cs : List ℕ) → b ≢ c → ((i : ℕ) → i < length cs → column_at cs i ≡ c → ⊥) → (i : ℕ) → i < length (b ∷ cs) → column_at (b ∷ cs) i ≡ c → ⊥
     nowhere b c cs n g zero h e = n e
     nowhere b c cs n g (suc i) h e = g i (omega arith) e

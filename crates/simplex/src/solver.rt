@@ -121,10 +121,9 @@ pub(crate) fn make_step<F: Fn(&[Frac]) -> Option<usize>>(
         Ok(None) => return Ok(Step::Rises { column }),
         Err(fault) => return stopped(fault),
     };
-    let rows = &mut table.rows;
     if let Err(fault) = pivot(
         alloc,
-        rows,
+        &mut table.rows,
         &mut table.gains,
         &touching,
         row,
