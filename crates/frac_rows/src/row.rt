@@ -162,12 +162,17 @@ impl FracRow {
     }
 
     /// Puts what is left of another row after the others.
+    #[inline]
     fn put_all(&mut self, rest: Rest<'_>) -> Result<(), AllocError>
         requires { IsSparse (self.old ++ rest) }
         ensures added { OnOk result (self.new ≡ self.old ++ rest.entry) }
     {
+        let columns = rest.columns();
+        if columns.is_empty() {
+            return Ok(());
+        }
         let count = self.columns.len();
-        self.columns.extend_from_slice(rest.columns())?;
+        self.columns.extend_from_slice(columns)?;
         if let Err(failed) = self.numbers.extend_from_slice(rest.numbers()) {
             self.columns.truncate(count);
             return Err(failed);
