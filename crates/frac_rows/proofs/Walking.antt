@@ -1,5 +1,5 @@
 -- A walk over two rows, step by step.
-use Rattle.std.proofs.Common.{◌≡◌, ◌≢◌, refl, sym, ap, subst, ◌∙◌, ℕ, suc, ◌<◌, ◌≤◌, min, [], ◌∷◌, ◌++◌, arith, pos, Bool, true, false, Some, ◌==◌, if◌then◌else◌}
+use Rattle.std.proofs.Common.{◌≡◌, refl, sym, ap, subst, ◌∙◌, ℕ, suc, ◌<◌, ◌≤◌, min, [], ◌∷◌, ◌++◌, arith, pos, Bool, true, false, Some, ◌==◌, if◌then◌else◌}
 use Rattle.std.proofs.lemmas.Bool.Decides.{nat_tests}
 use Rattle.std.specs.Ordering.{int_eq}
 use Rattle.frac128.specs.declared.Frac.{Frac}
@@ -7,7 +7,7 @@ use Rattle.frac_rows.specs.Entries.{Entries, nought, IsLess, LessLeaves, SparseF
 use Rattle.frac_rows.specs.Merging.{least_column, Takes, put, Steps, Merges, End, Step, MergeLeaves, Here, There}
 use Rattle.frac_rows.proofs.Differing.{less_nothing}
 use Rattle.frac_rows.proofs.Pointwise.{both_from, takes_sparse}
-use Rattle.frac_rows.proofs.Appending.{none_after, before_up_to, pushed_to}
+use Rattle.frac_rows.proofs.Appending.{none_after, snoc, whole_put, before_up_to, pushed_to}
 
 -- after a front of the walk: what ends the rest, ends all, and what leaves in the rest, leaves in all
 pub record Reached (f : Frac) (xs qs rest_x rest_q out : Entries) : Type 0 where
@@ -18,10 +18,6 @@ pub record Reached (f : Frac) (xs qs rest_x rest_q out : Entries) : Type 0 where
   pub lead : SparseFrom from rest_q
   pub made : IsSparse out
   pub before : EndsBefore from out
-
-snoc : (out : Entries) (x : ℕ × Frac) (rs : Entries) → (out ++ x ∷ []) ++ rs ≡ out ++ x ∷ rs
-snoc [] x rs = refl
-snoc (o ∷ out) x rs = ap (λ (es : Entries). o ∷ es) (snoc out x rs)
 
 append_put : (c : ℕ) (r : Frac) (out rs : Entries) → (out ++ put c r []) ++ rs ≡ out ++ put c r rs
 append_put c r out rs = by (int_eq r.num (pos 0))
@@ -59,9 +55,6 @@ only_row k x xs (q ∷ qs) h = record {
   second = let t : (q.0 == k) ≡ false = grind (arith, nat_tests) in rw t ((refl, refl), refl);
 }
 
-put_whole : (k : ℕ) (x : Frac) → x.num ≢ pos 0 → put k x [] ≡ (k, x) ∷ []
-put_whole k x n = let t : int_eq x.num (pos 0) ≡ false = grind (arith, nat_tests) in rw t refl
-
 -- each of the first fractions comes before those of the second row
 abbrev AllStartAfter : Entries → Entries → Type 0
 AllStartAfter [] qs = Unit {0}
@@ -72,7 +65,7 @@ passes : (f : Frac) (xs qs front rest_x rest_q out : Entries) → Reached f xs q
 passes f xs qs [] rest_x rest_q out reached h = rw (none_after out) reached
 passes f xs qs ((k, x) ∷ front) rest_x rest_q out reached h =
     let next = stepped f xs qs ((k, x) ∷ (front ++ rest_x)) rest_q out k x nought x (front ++ rest_x) rest_q (out ++ (k, x) ∷ []) reached
-    (only_row k x (front ++ rest_x) rest_q h.0) (less_nothing x f nought refl) (ap (λ (es : Entries). out ++ es) (sym (put_whole k x reached.row.1))) in
+    (only_row k x (front ++ rest_x) rest_q h.0) (less_nothing x f nought refl) (ap (λ (es : Entries). out ++ es) (sym (whole_put k x reached.row.1))) in
     subst (Reached f xs qs rest_x rest_q) (snoc out (k, x) front) (passes f xs qs front rest_x rest_q (out ++ (k, x) ∷ []) next h.1)
 
 -- the fractions of the row before a column of the lead
