@@ -64,6 +64,10 @@ pub none_after : (o : Entries) → o ++ [] ≡ o
 none_after [] = refl
 none_after (x ∷ o) = ap (λ (es : Entries). x ∷ es) (none_after o)
 
+pub snoc : (es : Entries) (x : ℕ × Frac) (rest : Entries) → (es ++ x ∷ []) ++ rest ≡ es ++ x ∷ rest
+snoc [] x rest = refl
+snoc (e ∷ es) x rest = ap (λ (ds : Entries). e ∷ ds) (snoc es x rest)
+
 -- what is put after the others
 pub record Pushed (c : ℕ) (x : Frac) (es new : Entries) : Type 0 where
   pub sparse : SparseFrom 0 es → SparseFrom 0 new
@@ -99,3 +103,33 @@ it_adds c x es new (Err a) e ok = tt
 pub it_ends : (c k : ℕ) (x : Frac) (es new : Entries) (r : Result (Unit {0}) AllocError) → EndsBefore c es → c < k → OnOk r (new ≡ es ++ put c x []) → OnOk r (EndsBefore k new)
 it_ends c k x es new (Ok u) e h ok = (pushed_to c x es new e ok).before k h
 it_ends c k x es new (Err a) e h ok = tt
+
+-- fractions put one by one
+pub whole_put : (c : ℕ) (x : Frac) → x.num ≢ pos 0 → put c x [] ≡ (c, x) ∷ []
+whole_put c x n = let t : int_eq x.num (pos 0) ≡ false = grind (arith, nat_tests) in rw t refl
+
+-- the first of those that are left
+next_ends : (b c : ℕ) (x : Frac) (es rest : Entries) → SparseFrom b (es ++ (c, x) ∷ rest) → (b ≤ c) × (x.num ≢ pos 0) × EndsBefore c es
+next_ends b c x [] rest s = (s.0, s.1, tt)
+next_ends b c x (d ∷ es) rest s =
+    let more = next_ends (suc d.0) c x es rest s.2 in
+    let l = s.0 in
+    let h = more.0 in
+    (omega arith, more.1, (omega arith, more.2))
+
+pub record Putting (all es rest : Entries) : Type 0 where
+  pub sparse : IsSparse all
+  pub joined : es ++ rest ≡ all
+
+module _ (all es rest : Entries) (putting : Putting all es rest) (c : ℕ) (x : Frac) (later : Entries) (rest_is : rest ≡ (c, x) ∷ later) where
+  here : (0 ≤ c) × (x.num ≢ pos 0) × EndsBefore c es
+  here = next_ends 0 c x es later (subst IsSparse (sym putting.joined ∙ ap (λ (z : Entries). es ++ z) rest_is) putting.sparse)
+
+  pub next_before : EndsBefore c es
+  next_before = here.2
+
+  pub put_next : (new : Entries) → new ≡ es ++ put c x [] → Putting all new later
+  put_next new e = record {
+    sparse = putting.sparse;
+    joined = ap (λ (z : Entries). z ++ later) (e ∙ ap (λ (z : Entries). es ++ z) (whole_put c x here.1)) ∙ snoc es (c, x) later ∙ ap (λ (z : Entries). es ++ z) (sym rest_is) ∙ putting.joined;
+  }

@@ -120,16 +120,16 @@ pub record Columns (f : Frac) (b : ℕ) (xs qs rs : Entries) : Type 0 where
   pub sparse : SparseFrom b rs
   pub each : (k : ℕ) → IsLess (at k xs) f (at k qs) (at k rs)
 
-pub columns_of : (f : Frac) (b : ℕ) (xs qs rs : Entries) → SparseFrom b xs → SparseFrom b qs → Merges f xs qs rs → Columns f b xs qs rs
-columns_of f b xs qs rs s t (End e g) =
+pub each_column : (f : Frac) (b : ℕ) (xs qs rs : Entries) → SparseFrom b xs → SparseFrom b qs → Merges f xs qs rs → Columns f b xs qs rs
+each_column f b xs qs rs s t (End e g) =
     let n = no_columns xs qs e in
     record {
       sparse = subst (SparseFrom b) (sym g) tt;
       each = λ k. less_same nought f nought nought (at k xs) (at k qs) (at k rs) (of_path _ _ (ap (at k) n.0)) (of_path _ _ (ap (at k) n.1)) (of_path _ _ (ap (at k) g)) (less_nothing nought f nought refl);
     }
-columns_of f b xs qs rs s t (Step {xs' = xs'} {qs' = qs'} {rs = rest} {c = c} {x = x} {q = q} {r = r} step less m) =
+each_column f b xs qs rs s t (Step {xs' = xs'} {qs' = qs'} {rs = rest} {c = c} {x = x} {q = q} {r = r} step less m) =
     let from = both_from b xs qs c s t step.least in
-    let more = columns_of f (suc c) xs' qs' rest (takes_sparse c xs x xs' from.1 step.first) (takes_sparse c qs q qs' from.2 step.second) m in
+    let more = each_column f (suc c) xs' qs' rest (takes_sparse c xs x xs' from.1 step.first) (takes_sparse c qs q qs' from.2 step.second) m in
     record {
       sparse = put_sparse c r rest b from.0 more.sparse;
       each = λ k. elim (same_or_not k c) [

@@ -1,5 +1,5 @@
 -- Numbers that are divided one by one.
-use Rattle.std.proofs.Common.{◌≡◌, ◌≢◌, refl, sym, ap, subst, ◌∙◌, ℕ, suc, ◌+◌, ◌*◌, ◌<◌, ◌≤◌, List, [], ◌∷◌, length, get_or, set, arith, ℤ, pos, ◌*ℤ◌, Bool, true, false, ◌==◌, if◌then◌else◌, ◌⊎◌, inl, inr}
+use Rattle.std.proofs.Common.{◌≡◌, ◌≢◌, refl, sym, ap, subst, ◌∙◌, ℕ, suc, ◌+◌, ◌*◌, ◌<◌, ◌≤◌, List, [], ◌∷◌, length, take, drop, ◌++◌, get_or, set, arith, ℤ, pos, ◌*ℤ◌, Bool, true, false, ◌==◌, if◌then◌else◌, ◌⊎◌, inl, inr}
 use Rattle.std.proofs.lemmas.Int.{ints}
 use Rattle.std.proofs.lemmas.List.{length-set, get_or-set_same, get_or-set_other}
 use Rattle.std.proofs.Math.Nat.{mul-pos}
@@ -10,6 +10,7 @@ use Rattle.frac128.specs.declared.Frac.{Frac}
 use Rattle.frac128.specs.Values.{IsQuotient}
 use Rattle.frac_rows.specs.Entries.{at, nought, SparseFrom, IsRow}
 use Rattle.frac_rows.specs.Dividing.{AreQuotients}
+use Rattle.frac_rows.proofs.Pairs.{written_back}
 
 -- those before place i are divided, and the others are as they were
 pub record Divided (by : Frac) (xs ys : List Frac) (i : ℕ) : Type 0 where
@@ -73,7 +74,7 @@ divided_sparse by b (k ∷ ks) [] (y ∷ ys) s d = absurd d
 divided_sparse by b (k ∷ ks) (x ∷ xs) [] s d = absurd d
 divided_sparse by b (k ∷ ks) (x ∷ xs) (y ∷ ys) s d = (s.0, not_zero x by y s.1 d.0, divided_sparse by (suc k) ks xs ys s.2 d.1)
 
-pub same_length : (by : Frac) (xs ys : List Frac) → AreQuotients by xs ys → length xs ≡ length ys
+same_length : (by : Frac) (xs ys : List Frac) → AreQuotients by xs ys → length xs ≡ length ys
 same_length by [] [] d = refl
 same_length by [] (y ∷ ys) d = absurd d
 same_length by (x ∷ xs) [] d = absurd d
@@ -81,3 +82,14 @@ same_length by (x ∷ xs) (y ∷ ys) d = ap suc (same_length by xs ys d.1)
 
 pub divided_row : (by : Frac) (ks : List ℕ) (xs ys : List Frac) → IsRow ks xs → AreQuotients by xs ys → IsRow ks ys
 divided_row by ks xs ys row d = record { sparse = divided_sparse by 0 ks xs ys row.sparse d; as_long = row.as_long ∙ same_length by xs ys d }
+
+-- a vector whose numbers were all divided in place
+pub record WrittenBack (by : Frac) (n : ℕ) (xs ys : List Frac) : Type 0 where
+  pub all : take n (ys ++ drop (length ys) xs) ≡ ys
+  pub divided : AreQuotients by xs ys
+
+pub in_vector : (by : Frac) (n : ℕ) (xs slice ys : List Frac) → slice ≡ xs → length slice ≡ n → AreQuotients by slice ys → WrittenBack by n xs ys
+in_vector by n xs slice ys e l d =
+    let long = same_length by slice ys d in
+    let same = ap length e in
+    record { all = written_back n xs ys (omega arith) (omega arith); divided = subst (λ z. AreQuotients by z ys) e d }

@@ -1,13 +1,13 @@
 -- A walk over two rows, step by step.
-use Rattle.std.proofs.Common.{◌≡◌, ◌≢◌, refl, sym, ap, subst, ◌∙◌, ℕ, suc, ◌<◌, ◌≤◌, min, [], ◌∷◌, ◌++◌, arith, pos, Bool, true, false, Some, ◌==◌, if◌then◌else◌}
+use Rattle.std.proofs.Common.{◌≡◌, refl, sym, ap, subst, ◌∙◌, ℕ, suc, ◌<◌, ◌≤◌, min, [], ◌∷◌, ◌++◌, arith, pos, Bool, true, false, Some, ◌==◌, if◌then◌else◌}
 use Rattle.std.proofs.lemmas.Bool.Decides.{nat_tests}
 use Rattle.std.specs.Ordering.{int_eq}
 use Rattle.frac128.specs.declared.Frac.{Frac}
 use Rattle.frac_rows.specs.Entries.{Entries, nought, IsLess, LessLeaves, SparseFrom, IsSparse, EndsBefore, StartsAt}
 use Rattle.frac_rows.specs.Merging.{least_column, Takes, put, Steps, Merges, End, Step, MergeLeaves, Here, There}
 use Rattle.frac_rows.proofs.Differing.{less_nothing}
-use Rattle.frac_rows.proofs.Pointwise.{weaker, both_from, takes_sparse}
-use Rattle.frac_rows.proofs.Appending.{none_after, before_up_to, pushed_to}
+use Rattle.frac_rows.proofs.Pointwise.{both_from, takes_sparse}
+use Rattle.frac_rows.proofs.Appending.{none_after, snoc, whole_put, before_up_to, pushed_to}
 
 -- after a front of the walk: what ends the rest, ends all, and what leaves in the rest, leaves in all
 pub record Reached (f : Frac) (xs qs rest_x rest_q out : Entries) : Type 0 where
@@ -18,13 +18,6 @@ pub record Reached (f : Frac) (xs qs rest_x rest_q out : Entries) : Type 0 where
   pub lead : SparseFrom from rest_q
   pub made : IsSparse out
   pub before : EndsBefore from out
-
-pub begins : (f : Frac) (xs qs out : Entries) → out ≡ [] → IsSparse xs → IsSparse qs → Reached f xs qs xs qs out
-begins f xs qs out e s t = rw e (record { ends = λ rs m. m; leaves = λ c m. m; from = 0; row = s; lead = t; made = tt; before = tt })
-
-snoc : (out : Entries) (x : ℕ × Frac) (rs : Entries) → (out ++ x ∷ []) ++ rs ≡ out ++ x ∷ rs
-snoc [] x rs = refl
-snoc (o ∷ out) x rs = ap (λ (es : Entries). o ∷ es) (snoc out x rs)
 
 append_put : (c : ℕ) (r : Frac) (out rs : Entries) → (out ++ put c r []) ++ rs ≡ out ++ put c r rs
 append_put c r out rs = by (int_eq r.num (pos 0))
@@ -48,11 +41,12 @@ stepped f xs qs rest_x rest_q out c x q r xs' qs' new reached step less e =
       before = put_there.before (suc c) (let n : c < suc c = omega arith in n);
     }
 
--- a fraction that only the row has
+-- the columns of the second row, if it has one, come after k
 abbrev StartsAfter : ℕ → Entries → Type 0
 StartsAfter k [] = Unit {0}
 StartsAfter k (q ∷ qs) = k < q.0
 
+-- a step that takes a fraction only the first row has
 only_row : (k : ℕ) (x : Frac) (xs qs : Entries) → StartsAfter k qs → Steps ((k, x) ∷ xs) qs k x nought xs qs
 only_row k x xs [] h = record { least = refl; first = let t : (k == k) ≡ true = grind (arith, nat_tests) in rw t (refl, refl); second = ((refl, refl), refl) }
 only_row k x xs (q ∷ qs) h = record {
@@ -61,18 +55,17 @@ only_row k x xs (q ∷ qs) h = record {
   second = let t : (q.0 == k) ≡ false = grind (arith, nat_tests) in rw t ((refl, refl), refl);
 }
 
-put_whole : (k : ℕ) (x : Frac) → x.num ≢ pos 0 → put k x [] ≡ (k, x) ∷ []
-put_whole k x n = let t : int_eq x.num (pos 0) ≡ false = grind (arith, nat_tests) in rw t refl
-
+-- each of the first fractions comes before those of the second row
 abbrev AllStartAfter : Entries → Entries → Type 0
 AllStartAfter [] qs = Unit {0}
 AllStartAfter (e ∷ es) qs = StartsAfter e.0 qs × AllStartAfter es qs
 
+-- the walk past fractions that only the first row has
 passes : (f : Frac) (xs qs front rest_x rest_q out : Entries) → Reached f xs qs (front ++ rest_x) rest_q out → AllStartAfter front rest_q → Reached f xs qs rest_x rest_q (out ++ front)
 passes f xs qs [] rest_x rest_q out reached h = rw (none_after out) reached
 passes f xs qs ((k, x) ∷ front) rest_x rest_q out reached h =
     let next = stepped f xs qs ((k, x) ∷ (front ++ rest_x)) rest_q out k x nought x (front ++ rest_x) rest_q (out ++ (k, x) ∷ []) reached
-    (only_row k x (front ++ rest_x) rest_q h.0) (less_nothing x f nought refl) (ap (λ (es : Entries). out ++ es) (sym (put_whole k x reached.row.1))) in
+    (only_row k x (front ++ rest_x) rest_q h.0) (less_nothing x f nought refl) (ap (λ (es : Entries). out ++ es) (sym (whole_put k x reached.row.1))) in
     subst (Reached f xs qs rest_x rest_q) (snoc out (k, x) front) (passes f xs qs front rest_x rest_q (out ++ (k, x) ∷ []) next h.1)
 
 -- the fractions of the row before a column of the lead
@@ -87,15 +80,6 @@ none_after_none (e ∷ front) = (tt, none_after_none front)
 least_is : (c : ℕ) (q : Frac) (rest_x qs : Entries) → StartsAt c rest_x → least_column rest_x ((c, q) ∷ qs) ≡ Some c
 least_is c q [] qs h = refl
 least_is c q (x ∷ xs) qs h = ap Some (let m : min x.0 c ≡ c = omega arith in m)
-
--- the sparse parts of a row that is sparse
-front_sparse : (b : ℕ) (front rest : Entries) → SparseFrom b (front ++ rest) → SparseFrom b front
-front_sparse b [] rest s = tt
-front_sparse b (e ∷ front) rest s = (s.0, s.1, front_sparse (suc e.0) front rest s.2)
-
-joined_sparse : (a b : ℕ) (out es : Entries) → SparseFrom a out → EndsBefore b out → a ≤ b → SparseFrom b es → SparseFrom a (out ++ es)
-joined_sparse a b [] es s e h t = weaker b a es t h
-joined_sparse a b (o ∷ out) es s e h t = (s.0, s.1, joined_sparse (suc o.0) b out es s.2 e.1 (let l = e.0 in omega arith) t)
 
 both_before : (c : ℕ) (out es : Entries) → EndsBefore c out → EndsBefore c es → EndsBefore c (out ++ es)
 both_before c [] es h g = g

@@ -14,6 +14,9 @@ use std::alloc::{AllocError, Global};
 use std::marker::Model;
 use std::mem;
 
+/// Up to so many fractions are put one by one, and more in one piece.
+const FEW: usize = 3;
+
 /// A row of fractions. It keeps those that are not 0, in order of column: the columns in one vector, and
 /// the numbers in another.
 #[derive(Debug, Drop)]
@@ -162,7 +165,37 @@ impl FracRow {
     }
 
     /// Puts what is left of another row after the others.
+    #[inline(always)]
     fn put_all(&mut self, rest: Rest<'_>) -> Result<(), AllocError>
+        requires { IsSparse (self.old ++ rest) }
+        ensures added { OnOk result (self.new ≡ self.old ++ rest.entry) }
+    {
+        let count = rest.columns().len();
+        if count == 0 {
+            Ok(())
+        } else if count <= FEW {
+            self.put_each(rest)
+        } else {
+            self.put_slices(rest)
+        }
+    }
+
+    /// The same one by one, which is quicker for a few.
+    #[inline(never)]
+    fn put_each(&mut self, rest: Rest<'_>) -> Result<(), AllocError>
+        requires { IsSparse (self.old ++ rest) }
+        ensures added { OnOk result (self.new ≡ self.old ++ rest.entry) }
+    {
+        let mut rest = rest;
+        while let Some((column, number)) = rest.take_first() {
+            self.put(column, number)?;
+        }
+        Ok(())
+    }
+
+    /// The same in one piece, which is quicker for many.
+    #[inline(never)]
+    fn put_slices(&mut self, rest: Rest<'_>) -> Result<(), AllocError>
         requires { IsSparse (self.old ++ rest) }
         ensures added { OnOk result (self.new ≡ self.old ++ rest.entry) }
     {

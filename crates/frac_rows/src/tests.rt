@@ -29,15 +29,16 @@ fn a_row_less_a_lead(rt: HostRuntime) -> Result<(), Fail> {
     row.push(2, number(0)?)?;
     row.push(3, number(4)?)?;
     row.push(7, number(1)?)?;
+    row.push(8, number(1)?)?;
+    row.push(9, number(1)?)?;
+    row.push(12, number(3)?)?;
     let lead = pair(rt.alloc(), (1, 5), (3, 2))?;
     let mut spare = pair(rt.alloc(), (8, 8), (9, 9))?;
     row.subtract(&number(2)?, &lead, &mut spare)?;
-    assert_eq!(rt; row.columns(), [0, 1, 7].as_slice());
-    assert_eq!(rt;
-        row.numbers(),
-        [number(6)?, number(-10)?, number(1)?].as_slice()
-    );
+    assert_eq!(rt; row.columns(), [0, 1, 7, 8, 9, 12].as_slice());
+    assert_eq!(rt; row.at(0), number(6)?);
     assert_eq!(rt; row.at(1), number(-10)?);
+    assert_eq!(rt; row.at(12), number(3)?);
     assert_eq!(rt; row.at(3), number(0)?);
     Ok(())
 }

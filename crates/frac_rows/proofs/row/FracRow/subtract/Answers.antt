@@ -1,7 +1,7 @@
 use Rattle.std.proofs.Common.{◌≡◌, ap, Err}
 use Rattle.frac_rows.specs.declared.fault.RowFault.TheVariants.{Leaves}
 use Rattle.frac_rows.specs.Merging.{MergeLeaves}
-use Rattle.frac_rows.proofs.Pointwise.{columns_of, leaves_at, of_error}
+use Rattle.frac_rows.proofs.Pointwise.{each_column, leaves_at, of_error}
 use Rattle.frac_rows.proofs.row.FracRow.subtract.Goals as goal
 
 pub returns-in_err-put_difference-clause-leaves : goal.returns-in_err-put_difference-clause-leaves
@@ -12,4 +12,4 @@ returns-in_err-put_difference-clause-leaves c k e =
 
 pub returns-clause-each : goal.returns-clause-each
 returns-clause-each c k =
-    rw c.swap.ensures.x_after ((columns_of c.args.times.now 0 c.args.self.now c.args.lead.now c.put_difference.new.self c.rest.ensures.sparse c.rest-2.ensures.sparse (rw (c.rest.ensures.all, c.rest-2.ensures.all) at c.in_ok-put_difference.ensures.merged)).each k)
+    rw c.swap.ensures.x_after ((each_column c.args.times.now 0 c.args.self.now c.args.lead.now c.put_difference.new.self c.rest.ensures.sparse c.rest-2.ensures.sparse (rw (c.rest.ensures.all, c.rest-2.ensures.all) at c.in_ok-put_difference.ensures.merged)).each k)

@@ -1,5 +1,5 @@
 use Rattle.frac_rows.proofs.Appending.{put_all_row, put_all_view}
-use Rattle.frac_rows.proofs.row.FracRow.put_all.Goals as goal
+use Rattle.frac_rows.proofs.row.FracRow.put_slices.Goals as goal
 
 pub invariant_of-self-in_default : goal.invariant_of-self-in_default
 invariant_of-self-in_default c =
