@@ -11,3 +11,8 @@ pub record GrewByFront (before now : Option (List ℕ)) (bytes : List ℕ) : Typ
   pub count : ℕ
   pub short : count < length bytes
   pub front : now ≡ grown before (take count bytes)
+
+-- a writer, and how often a put on it has failed
+pub record CountedWriter (W : Type 0) : Type 0 where
+  pub writer : W
+  pub faults : ℕ

@@ -1,5 +1,5 @@
 // The real files.
-ghost use Rattle.std.specs.Prelude.{◌≡◌, ◌≤◌, None, IfOk, OnOk, IfErr, IsErrOf, vec_len};
+ghost use Rattle.std.specs.Prelude.{◌≡◌, ◌≤◌, None, IfOk, IfSome, OnOk, IfErr, IsErrOf, take, vec_len};
 ghost use Rattle.raml_io.specs.Faults.{Rose, count_after};
 
 use crate::store::{Store, StoreFault};
@@ -68,7 +68,8 @@ fn read_file<R: Files>(rt: &R, alloc: Global, name: &str, most: u64) -> Result<V
 
 // The first bytes that a reader gives. A read of no bytes is its end.
 fn read_up_to<F: Read>(alloc: Global, file: &mut F, most: u64) -> Result<Vec<u8>, StoreFault>
-    ensures { IfOk result (λ bytes. vec_len bytes ≤ most) }
+    ensures short { IfOk result (λ bytes. vec_len bytes ≤ most) }
+    ensures front { IfOk result (λ bytes. IfSome (F.remaining file.old) (λ left. bytes.items ≡ take most left)) }
 {
     let mut bytes = Vec::new(alloc);
     let mut buffer = [0u8; 4096];

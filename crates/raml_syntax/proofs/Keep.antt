@@ -296,6 +296,6 @@ typed_runs_keep P typed fits = record {
   expressions = λ n way G env e T nf h k. walk_keeps P (calls_at P n) (CallMeetsNone P n) (calls_keep P typed fits n) e way G env T nf h k;
   runs = λ n f g args e h. record {
     value = (body_keeps P typed fits (calls_at P n) (CallMeetsNone P n) (calls_keep P typed fits n) f g args e h).value;
-    no_default = ((calls_keep P typed fits n).by f g args e h).no_default;
+    no_default = ((calls_keep P typed fits (suc n)).by f g args e h).no_default;
   };
 }

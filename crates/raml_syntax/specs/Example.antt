@@ -3,8 +3,8 @@ use Rattle.std.specs.Prelude.{◌≡◌, ℕ, pos, negsuc, [], ◌∷◌, true, 
 use Rattle.raml_syntax.specs.declared.tree.ArithOp.TheVariants.{Add, Sub, Mul, Div, Mod}
 use Rattle.raml_syntax.specs.declared.tree.CompareOp.TheVariants.{Equal, Less, AtMost}
 use Rattle.raml_syntax.specs.Tree as t
-use Rattle.raml_syntax.specs.Tree.{Text, Integer, Bound, Function, Prog}
-use Rattle.raml_syntax.specs.Value.{Value, Number, Truth, Empty, Cons}
+use Rattle.raml_syntax.specs.Tree.{Text, Integer, Bound, Parameter, Function, Prog}
+use Rattle.raml_syntax.specs.Value.{Value, Number, Truth, Both, Empty, Cons, Node, size}
 use Rattle.raml_syntax.specs.Eval.{Run, arith, compare, eval, run_of}
 
 -- a value, and a cut, with ticks, cells and work
@@ -56,8 +56,11 @@ bound a = record { at = 0; name = a }
 abbrev call : Text → t.Term → t.Term
 call g a = t.Call 0 g (t.More a t.None)
 
+abbrev integer : Text → Parameter
+integer a = record { at = 0; name = a; type = Integer }
+
 abbrev function : Text → t.Term → Function
-function g body = record { at = 0; name = g; params = record { at = 0; name = x; type = Integer } ∷ []; result = Integer; body = body }
+function g body = record { at = 0; name = g; params = integer x ∷ []; result = Integer; body = body }
 
 -- fun f (x : int) : int = tick 3 in x
 abbrev three : Function
@@ -72,6 +75,10 @@ program = three ∷ spin ∷ []
 
 abbrev at : ℕ → t.Term → Run Value
 at n e = eval program n [] e
+
+-- node(2, leaf, node(1, leaf, leaf))
+abbrev two_nodes : t.Term
+two_nodes = t.Node 0 (num 2) (t.Leaf 0) (t.Node 0 (num 1) (t.Leaf 0) (t.Leaf 0))
 
 pub record Examples : Type 0 where
   -- + - * wrap
@@ -89,7 +96,8 @@ pub record Examples : Type 0 where
   pub less : compare Less least one ≡ Truth true
   pub not_less : compare Less one one ≡ Truth false
   pub at_most : compare AtMost one one ≡ Truth true
-  pub equal : compare Equal one least ≡ Truth false
+  pub equal : compare Equal one one ≡ Truth true
+  pub not_equal : compare Equal one least ≡ Truth false
   -- tick 3 in 1
   pub ticks : at 0 (t.Tick 0 3 (num 1)) ≡ gives one 3 0 2
   -- let x = 2 in let x = 1 in x
@@ -110,6 +118,16 @@ pub record Examples : Type 0 where
   pub list : at 0 (t.MatchList 0 (t.Cons 0 (num 2) (t.Nil 0)) (num 0) (bound x) (bound y) (var y)) ≡ gives Empty 0 1 5
   -- match node(1, leaf, leaf) with leaf -> 0 | node(x, y, z) -> x
   pub tree : at 0 (t.MatchTree 0 (t.Node 0 (num 1) (t.Leaf 0) (t.Leaf 0)) (num 0) (bound x) (bound y) (bound z) (var x)) ≡ gives one 0 1 6
+  -- match node(2, leaf, node(1, leaf, leaf)) with leaf -> leaf | node(x, y, z) -> z
+  pub right_tree : at 0 (t.MatchTree 0 two_nodes (t.Leaf 0) (bound x) (bound y) (bound z) (var z)) ≡ gives (Node one Empty Empty) 0 2 9
+  -- of a name that a pattern or the parameters have twice, the last is meant: let (x, x) = (2, 1) in x
+  pub pair_of_one_name : at 0 (t.LetPair 0 (bound x) (bound x) (t.Pair 0 (num 2) (num 1)) (var x)) ≡ gives one 0 1 5
+  -- match 2 :: nil with nil -> 0 | x :: x -> x
+  pub list_of_one_name : at 0 (t.MatchList 0 (t.Cons 0 (num 2) (t.Nil 0)) (num 0) (bound x) (bound x) (var x)) ≡ gives Empty 0 1 5
+  -- match node(2, leaf, node(1, leaf, leaf)) with leaf -> leaf | node(x, x, x) -> x
+  pub tree_of_one_name : at 0 (t.MatchTree 0 two_nodes (t.Leaf 0) (bound x) (bound x) (bound x) (var x)) ≡ gives (Node one Empty Empty) 0 2 9
+  -- fun f (x : int, x : int) : int = x, run on (2, 1)
+  pub parameters_of_one_name : run_of [] (record { at = 0; name = f; params = integer x ∷ integer x ∷ []; result = Integer; body = var x }) (Number (pos 2) ∷ one ∷ []) 0 ≡ gives one 0 0 2
   -- if not true then 2 else 1
   pub branch : at 0 (t.If 0 (t.Not 0 (t.Truth 0 true)) (num 2) (num 1)) ≡ gives one 0 0 4
   -- (1 : int) is no more work than 1
@@ -118,3 +136,9 @@ pub record Examples : Type 0 where
   pub run : run_of program three (one ∷ []) 0 ≡ gives one 3 0 3
   -- a run that never ends is cut at every limit
   pub never_ends : run_of program spin (one ∷ []) 2 ≡ cuts 3 0 10
+  -- sizes: 1, the empty list, (1, (1, 1)), [[1], [1, 1]], and a tree of two nodes
+  pub size_of_number : size one ≡ 0
+  pub size_of_empty : size Empty ≡ 0
+  pub size_of_pairs : size (Both one (Both one one)) ≡ 2
+  pub size_of_lists : size (Cons (Cons one Empty) (Cons (Cons one (Cons one Empty)) Empty)) ≡ 5
+  pub size_of_tree : size (Node one (Node one Empty Empty) Empty) ≡ 2

@@ -1,5 +1,5 @@
 -- Laws of evaluation.
-use Rattle.std.specs.Prelude.{◌≡◌, ◌≤◌, ℕ, List, map, Some, None, slice_get}
+use Rattle.std.specs.Prelude.{◌≡◌, ◌≤◌, ℕ, suc, List, map, Some, None, slice_get}
 use Rattle.std.specs.List.{All}
 use Rattle.raml_syntax.specs.Tree as t
 use Rattle.raml_syntax.specs.Tree.{Text, Type', Function, Prog}
@@ -32,10 +32,17 @@ pub record Holds (G : Context) (env : Env) : Type 0 where
   pub at : (x : Text) (A : Type') → type_at x G ≡ Some A → Has (look x env) A × IsBound x env
 
 -- In a typed program whose numbers fit: a typed expression of typed values gives a value of its type or is cut, and so does the run of a function on
--- arguments of its parameters' types; neither meets a default
+-- arguments of its parameters' types, which is what a call does at one limit more; neither meets a default
 pub record TypesAreKept (P : Prog) : Type 0 where
-  pub expressions : (n : ℕ) (way : Way) (G : Context) (env : Env) (e : t.Term) (T : Type') → AllNodes NumberFits e → HasType P way G e T → Holds G env → Keeps T (eval P n env e) (NoDefault (calls_at P n) (CallMeetsNone P n) e env)
-  pub runs : (n : ℕ) (f : Text) (g : Function) (args : List Value) → find f P ≡ Some g → HaveTypes args (types_of g) → Keeps g.result (run_of P g args n) (CallMeetsNone P n f args)
+  pub expressions : (n : ℕ) (way : Way) (G : Context) (env : Env) (e : t.Term) (T : Type') →
+      AllNodes NumberFits e →
+      HasType P way G e T →
+      Holds G env →
+      Keeps T (eval P n env e) (NoDefault (calls_at P n) (CallMeetsNone P n) e env)
+  pub runs : (n : ℕ) (f : Text) (g : Function) (args : List Value) →
+      find f P ≡ Some g →
+      HaveTypes args (types_of g) →
+      Keeps g.result (run_of P g args n) (CallMeetsNone P (suc n) f args)
 
 -- at the place of a name stands the function that is found for the name, and none is found where it has no place; where the names differ, each function
 -- stands at the place of its name

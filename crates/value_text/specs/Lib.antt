@@ -1,3 +1,4 @@
 pub mod Heap
 pub mod Stands
 pub mod Held
+pub mod Laws

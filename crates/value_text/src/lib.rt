@@ -2,6 +2,7 @@
 #![tactic(auto)]
 
 mod heap;
+pub mod laws;
 mod word;
 
 pub use heap::DataHeap;

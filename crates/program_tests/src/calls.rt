@@ -1,0 +1,298 @@
+// Whole calls over files and streams in memory.
+use raml_top::{SourceFault, Status, Which, raml};
+use raml_io::{MemSink, MemStore};
+use raml_lex::LexFault;
+use raml_parse::ParseFault;
+use raml_syntax::Pos;
+use scalar_text::DataFault;
+use simple_types::TypeFault;
+use std::alloc::{AllocError, Global};
+use std::fmt::Write;
+use std::test::Fail;
+
+const FIRST: &[u8] = b"fun main (x : int) : int = tick 3 in x";
+
+const FIRST_REPORT: &[u8] = b"main ticks <= 3\nmain cells <= 0\n";
+
+pub const ANALYSE: [&str; 4] = ["analyse", "f.raml", "--degree", "1"];
+
+pub const TYPES: [&str; 2] = ["types", "f.raml"];
+
+// A store that holds two files: `f.raml`, and `d` with data.
+fn store_of(
+    alloc: Global,
+    source: &[u8],
+    data: &[u8],
+    failing: &[u64],
+) -> Result<MemStore, AllocError> {
+    let mut files = Vec::new(alloc);
+    for (name, content) in [("f.raml", source), ("d", data)] {
+        files.push((
+            String::from_str(alloc, name)?,
+            Vec::from_slice(alloc, content)?,
+        ))?;
+    }
+    Ok(MemStore::new(files, Vec::from_slice(alloc, failing)?))
+}
+
+// A sink with ample room.
+fn sink_of(alloc: Global, failing: &[u64]) -> Result<MemSink, AllocError> {
+    MemSink::new(alloc, 100_000, 10, Vec::from_slice(alloc, failing)?)
+}
+
+// What a call does with the source: the number of its status, and all that it writes.
+pub fn answer(alloc: Global, words: &[&str], source: &[u8]) -> Result<String, Fail> {
+    answer_on(alloc, words, source, b"")
+}
+
+// And what it does with the source and the data.
+pub fn answer_on(
+    alloc: Global,
+    words: &[&str],
+    source: &[u8],
+    data: &[u8],
+) -> Result<String, Fail> {
+    let mut store = store_of(alloc, source, data, &[])?;
+    let mut out = sink_of(alloc, &[])?;
+    let mut err = sink_of(alloc, &[])?;
+    let status = raml(alloc, words, &mut store, &mut out, &mut err);
+    let mut text = String::new(alloc);
+    write!(text, "{} ", status.code())?;
+    for bytes in [out.bytes(), err.bytes()] {
+        match std::str::from_utf8(bytes) {
+            Ok(written) => text.push_str(written)?,
+            Err(_) => return Err(Fail::from("no text is written")),
+        }
+    }
+    Ok(text)
+}
+
+#[test]
+fn sources_have_their_reports_and_refusals(rt: HostRuntime) -> Result<(), Fail> {
+    let alloc = rt.alloc();
+    let cases: [(&[u8], &str); 14] = [
+        (FIRST, "0 main ticks <= 3\nmain cells <= 0\n"),
+        (
+            b"fun f(a:int,b:int):int=tick 1000000 in tick 1 in b",
+            "0 f ticks <= 1000001\nf cells <= 0\n",
+        ),
+        (
+            b" fun (* a (* b *) *) f' (x : int)\n: int =\r\n\ttick 007 in x (**)",
+            "0 f' ticks <= 7\nf' cells <= 0\n",
+        ),
+        (
+            b"fun f (x : int) : int = tick 0 in 9223372036854775807",
+            "0 f ticks <= 0\nf cells <= 0\n",
+        ),
+        (b"", "4 raml: source: syntax at 0\n"),
+        (b"\xff", "4 raml: source: not utf-8 at 0\n"),
+        (b"fun f (* x", "4 raml: source: open comment at 6\n"),
+        (b"fun f ? x", "4 raml: source: bad character at 6\n"),
+        (
+            b"fun main (x : int) : int = 9223372036854775808",
+            "4 raml: source: number too wide at 27\n",
+        ),
+        (
+            b"fun main (x : int) : int = tick 1000001 in x",
+            "4 raml: source: syntax at 32\n",
+        ),
+        (b"fun f () : int = 0", "4 raml: source: syntax at 7\n"),
+        (
+            b"fun f (a:int,b:int,c:int,d:int,e:int,g:int,h:int,i:int,j:int) : int = a",
+            "4 raml: source: too many at 54\n",
+        ),
+        (
+            b"fun f (x : int) : int = y",
+            "4 raml: source: unknown at 24\n",
+        ),
+        (
+            b"fun f (x : int, x : int) : int = x",
+            "4 raml: source: twice at 16\n",
+        ),
+    ];
+    for (source, want) in cases {
+        let found = answer(alloc, &ANALYSE, source)?;
+        assert_eq!(rt; found.as_str(), want);
+    }
+    let found = answer(alloc, &TYPES, FIRST)?;
+    assert_eq!(rt; found.as_str(), "0 main (int) : int\n");
+    Ok(())
+}
+
+// Words with one space between any two, and what comes of them.
+const WORDS: &str = "\
+analyse f.raml --degree 1 => bounds
+analyse --degree=4 -- f.raml => bounds
+analyse f.raml => usage
+analyse f.raml --degree 5 => usage
+analyse f.raml --steps 1 => usage
+types f.raml => types
+types -- -f.raml => unread
+types f.raml --degree 1 => usage
+run f.raml main d => value
+run --steps 3 f.raml main d => value
+run f.raml --steps=0000000003 main -- d => value
+run f.raml main d --steps 2 => stopped
+run f.raml main d --steps=1000000000 => value
+run f.raml main d --steps 1000000001 => usage
+run f.raml main d --steps 0 => usage
+run f.raml main d --steps 1 --steps 1 => usage
+run f.raml main d --degree 1 => usage
+run f.raml main => usage
+run f.raml main d d => usage
+run d main f.raml => unspelled
+run f.raml mai d => nameless
+run f.raml  d => nameless
+run g.raml main d => unread
+run f.raml main f => no data
+run f.raml nope f => nameless
+run f.raml main f.raml => no arguments
+=> usage";
+
+#[test]
+fn words_have_their_answers(rt: HostRuntime) -> Result<(), Fail> {
+    let alloc = rt.alloc();
+    for line in WORDS.lines() {
+        let Some((words, answers)) = line.split_once("=> ") else {
+            return Err(Fail::from("a line without an answer"));
+        };
+        let want = match answers {
+            "bounds" => "0 main ticks <= 3\nmain cells <= 0\n",
+            "types" => "0 main (int) : int\n",
+            "value" => "0 value 5\nticks 3\ncells 0\ninstructions 3\n",
+            "stopped" => "10 stopped\nticks 3\ncells 0\ninstructions 2\n",
+            "unread" => "2 raml: cannot read program\n",
+            "no data" => "2 raml: cannot read data\n",
+            "unspelled" => "4 raml: source: syntax at 0\n",
+            "no arguments" => "5 raml: data: not in this stage\n",
+            "nameless" => "6 raml: no function\n",
+            _ => "1 raml: usage\n",
+        };
+        let words: Vec<&str> = words.trim_end_matches(' ').split(' ').collect(alloc)?;
+        let found = answer_on(alloc, &words, FIRST, b"5")?;
+        assert_eq!(rt; found.as_str(), want, "at {line}");
+    }
+    let found = answer(alloc, &[], FIRST)?;
+    assert_eq!(rt; found.as_str(), "1 raml: usage\n");
+    Ok(())
+}
+
+#[test]
+fn faults_of_the_outside_have_their_status(rt: HostRuntime) -> Result<(), Fail> {
+    let alloc = rt.alloc();
+    let unread: &[u8] = b"raml: cannot read program\n";
+    let unwritten: &[u8] = b"raml: write failed\n";
+    // The file's name; the reads, the puts on out and the puts on err that fail; and what comes of it.
+    let cases: [(&str, &[u64], &[u64], &[u64], u8, &[u8], &[u8]); 8] = [
+        ("f.raml", &[], &[], &[], 0, FIRST_REPORT, b""),
+        ("", &[], &[], &[], 2, b"", unread),
+        ("f.ram", &[], &[], &[], 2, b"", unread),
+        ("f.raml", &[0], &[], &[], 2, b"", unread),
+        ("f.raml", &[1], &[], &[0], 0, FIRST_REPORT, b""),
+        ("f.raml", &[], &[0], &[], 12, b"", unwritten),
+        ("f.raml", &[], &[1], &[], 12, b"main ticks", unwritten),
+        ("f.raml", &[], &[1], &[1], 12, b"main ticks", b"raml: writ"),
+    ];
+    for (name, reads, puts, lines, want, report, line) in cases {
+        let mut store = store_of(alloc, FIRST, b"5", reads)?;
+        let mut out = sink_of(alloc, puts)?;
+        let mut err = sink_of(alloc, lines)?;
+        let words = ["analyse", name, "--degree", "1"];
+        let status = raml(alloc, &words, &mut store, &mut out, &mut err);
+        assert_eq!(rt; status.code(), want);
+        assert_eq!(rt; out.bytes(), report);
+        assert_eq!(rt; err.bytes(), line);
+    }
+    Ok(())
+}
+
+#[test]
+fn faults_of_the_data_have_their_status(rt: HostRuntime) -> Result<(), Fail> {
+    let alloc = rt.alloc();
+    let report: &[u8] = b"value 5\nticks 3\ncells 0\ninstructions 3\n";
+    let stopped: &[u8] = b"stopped\nticks 3\ncells 0\ninstructions 1\n";
+    // The reads and the puts on out that fail, the steps, and what comes of it.
+    let cases: [(&[u64], &[u64], &str, u8, &[u8], &[u8]); 7] = [
+        (&[], &[], "3", 0, report, b""),
+        (&[], &[], "1", 10, stopped, b""),
+        (&[0], &[], "3", 2, b"", b"raml: cannot read program\n"),
+        (&[1], &[], "3", 2, b"", b"raml: cannot read data\n"),
+        (&[2], &[], "3", 0, report, b""),
+        (&[], &[1], "3", 12, b"value 5\nti", b"raml: write failed\n"),
+        (&[], &[1], "1", 12, b"stopped\nti", b"raml: write failed\n"),
+    ];
+    for (reads, puts, steps, want, report, line) in cases {
+        let mut store = store_of(alloc, FIRST, b"5", reads)?;
+        let mut out = sink_of(alloc, puts)?;
+        let mut err = sink_of(alloc, &[])?;
+        let words = ["run", "f.raml", "main", "d", "--steps", steps];
+        let status = raml(alloc, &words, &mut store, &mut out, &mut err);
+        assert_eq!(rt; status.code(), want);
+        assert_eq!(rt; out.bytes(), report);
+        assert_eq!(rt; err.bytes(), line);
+    }
+    Ok(())
+}
+
+#[test]
+fn data_has_a_limit(rt: HostRuntime) -> Result<(), Fail> {
+    let alloc = rt.alloc();
+    let mut data = Vec::from_slice(alloc, b"5")?;
+    for _ in 0..4_194_303 {
+        data.push(b' ')?;
+    }
+    let words = ["run", "f.raml", "main", "d"];
+    let found = answer_on(alloc, &words, FIRST, &data)?;
+    assert_eq!(rt;
+        found.as_str(),
+        "0 value 5\nticks 3\ncells 0\ninstructions 3\n"
+    );
+    data.push(b' ')?;
+    let found = answer_on(alloc, &words, FIRST, &data)?;
+    assert_eq!(rt; found.as_str(), "3 raml: too long: data\n");
+    Ok(())
+}
+
+#[test]
+fn a_source_has_a_limit(rt: HostRuntime) -> Result<(), Fail> {
+    let alloc = rt.alloc();
+    let mut source = Vec::from_slice(alloc, FIRST)?;
+    for _ in 0..1_048_538 {
+        source.push(b' ')?;
+    }
+    let found = answer(alloc, &ANALYSE, &source)?;
+    assert_eq!(rt; found.as_str(), "0 main ticks <= 3\nmain cells <= 0\n");
+    source.push(b' ')?;
+    let found = answer(alloc, &ANALYSE, &source)?;
+    assert_eq!(rt; found.as_str(), "3 raml: too long: program\n");
+    Ok(())
+}
+
+#[test]
+fn each_status_has_its_number(rt: HostRuntime) {
+    let at = Pos(0);
+    let which = Which::Program;
+    let cases = [
+        (Status::Done, 0),
+        (Status::Usage, 1),
+        (Status::ReadFault { which }, 2),
+        (Status::TooLong { which }, 3),
+        (
+            Status::Source(SourceFault::Parse(ParseFault::Lex(LexFault::BadChar { at }))),
+            4,
+        ),
+        (
+            Status::Source(SourceFault::Type(TypeFault::NeedsType { at })),
+            4,
+        ),
+        (Status::Data(DataFault::NotInFragment), 5),
+        (Status::NoFunction, 6),
+        (Status::Stopped, 10),
+        (Status::WriteFault, 12),
+        (Status::NotBuilt, 20),
+        (Status::NoMemory, 70),
+    ];
+    for (status, number) in cases {
+        assert_eq!(rt; status.code(), number);
+    }
+}
