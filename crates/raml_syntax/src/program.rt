@@ -12,7 +12,7 @@ use crate::ty::Ty;
 pub struct FunId(pub u32);
 
 /// A parameter, with the place of its name.
-#[derive(Drop)]
+#[derive(Debug, Drop)]
 pub struct Param {
     pub at: Pos,
     pub name: Name,
@@ -20,7 +20,7 @@ pub struct Param {
 }
 
 /// A function, with the place of its `fun`.
-#[derive(Drop)]
+#[derive(Debug, Drop)]
 pub struct Fun {
     pub at: Pos,
     pub name: Name,
@@ -30,7 +30,7 @@ pub struct Fun {
 }
 
 /// A program: its functions in the order of the source.
-#[derive(Drop)]
+#[derive(Debug, Drop)]
 pub struct Program {
     pub funs: Vec<Fun>,
 }

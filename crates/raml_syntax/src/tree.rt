@@ -7,7 +7,7 @@ use crate::ty::Ty;
 pub struct Pos(pub u32);
 
 /// A name that is bound, and the place where it stands.
-#[derive(Drop)]
+#[derive(Debug, Drop)]
 pub struct Binder {
     pub at: Pos,
     pub name: Name,
@@ -33,7 +33,7 @@ pub enum CompareOp {
 
 /// An expression, with the place of its first token.
 #[cycle(expression)]
-#[derive(Drop)]
+#[derive(Debug, Drop)]
 pub struct Expr {
     pub at: Pos,
     pub form: Form,
@@ -41,7 +41,7 @@ pub struct Expr {
 
 /// The form of an expression.
 #[cycle(expression)]
-#[derive(Drop)]
+#[derive(Debug, Drop)]
 pub enum Form {
     Number(i64),
     Truth(bool),

@@ -3,7 +3,7 @@ ghost use Rattle.std.specs.Prelude.{◌≡◌, ◌↔◌, IsTrue};
 ghost use Rattle.raml_syntax.specs.Read.{ty_of};
 
 /// A type.
-#[derive(Drop)]
+#[derive(Debug, Drop)]
 pub enum Ty {
     /// Integers of 64 bits, signed.
     Int,

@@ -1,7 +1,7 @@
 // Values.
 
 /// A value of the language.
-#[derive(Drop)]
+#[derive(Debug, Drop)]
 pub enum Value {
     Int(i64),
     Bool(bool),
