@@ -240,18 +240,50 @@ pub record ReadData (o : Outside) (name : Text) (steps : ℕ) (P : Prog) (fun : 
 pub record Forced (o : Outside) (status : Status) : Type 0 where
   pub usage : AsksNothing o.words → EndsBy Usage status
   pub missing : (request : Request) → Told o request None → EndsBy (ReadFault w.Program) status
-  pub too_long : (request : Request) (content : List ℕ) → Read o request content → IsTooLong content → EndsBy (TooLong w.Program) status
-  pub faulty : (request : Request) (content : List ℕ) (fault : ParseFault) → Read o request content → IsFaulty content fault → EndsBy (Source (Parse fault)) status
-  pub untyped : (request : Request) (content : List ℕ) (first : Fault) → Read o request content → IsUntyped content first → EndsByType first status
+  pub too_long : (request : Request) (content : List ℕ) →
+      Read o request content →
+      IsTooLong content →
+      EndsBy (TooLong w.Program) status
+  pub faulty : (request : Request) (content : List ℕ) (fault : ParseFault) →
+      Read o request content →
+      IsFaulty content fault →
+      EndsBy (Source (Parse fault)) status
+  pub untyped : (request : Request) (content : List ℕ) (first : Fault) →
+      Read o request content →
+      IsUntyped content first →
+      EndsByType first status
   pub other : (request : Request) (P : Prog) → ReadProgram o request P → IsNotBuilt request P → EndsBy NotBuilt status
   pub listed : (file : Text) (P : Prog) → ReadProgram o (Types file) P → ¬ (Rises o.writes) → EndsBy Done status
-  pub analysed : (file : Text) (degree : ℕ) (P : Prog) (fun : Function) → ReadProgram o (Analyse file degree) P → IsOnly P fun → ¬ (Rises o.writes) → EndsBy Done status
-  pub no_function : (file name data_file : Text) (steps : ℕ) (P : Prog) → ReadProgram o (Run file name data_file steps) P → LacksFunction P name → EndsBy NoFunction status
-  pub data_missing : (name : Text) (steps : ℕ) (P : Prog) (fun : Function) → ToldData o name steps P fun None → EndsBy (ReadFault w.Data) status
-  pub data_too_long : (name : Text) (steps : ℕ) (P : Prog) (fun : Function) (content : List ℕ) → ReadData o name steps P fun content → IsOver most_data content → EndsBy (TooLong w.Data) status
-  pub no_arguments : (name : Text) (steps : ℕ) (P : Prog) (fun : Function) (content : List ℕ) → ReadData o name steps P fun content → SpellsNone content fun → EndsBy (Data NotInFragment) status
-  pub halted : (name : Text) (steps : ℕ) (P : Prog) (content : List ℕ) (call : Call P name content) (v : Value) → ReadData o name steps P call.fun content → (machine_at call steps).at ≡ Halted v → ¬ (Rises o.writes) → EndsBy Done status
-  pub stopped : (name : Text) (steps : ℕ) (P : Prog) (content : List ℕ) (call : Call P name content) → ReadData o name steps P call.fun content → IsGoing (machine_at call steps).at → ¬ (Rises o.writes) → EndsBy Stopped status
+  pub analysed : (file : Text) (degree : ℕ) (P : Prog) (fun : Function) →
+      ReadProgram o (Analyse file degree) P →
+      IsOnly P fun →
+      ¬ (Rises o.writes) →
+      EndsBy Done status
+  pub no_function : (file name data_file : Text) (steps : ℕ) (P : Prog) →
+      ReadProgram o (Run file name data_file steps) P →
+      LacksFunction P name →
+      EndsBy NoFunction status
+  pub data_missing : (name : Text) (steps : ℕ) (P : Prog) (fun : Function) →
+      ToldData o name steps P fun None →
+      EndsBy (ReadFault w.Data) status
+  pub data_too_long : (name : Text) (steps : ℕ) (P : Prog) (fun : Function) (content : List ℕ) →
+      ReadData o name steps P fun content →
+      IsOver most_data content →
+      EndsBy (TooLong w.Data) status
+  pub no_arguments : (name : Text) (steps : ℕ) (P : Prog) (fun : Function) (content : List ℕ) →
+      ReadData o name steps P fun content →
+      SpellsNone content fun →
+      EndsBy (Data NotInFragment) status
+  pub halted : (name : Text) (steps : ℕ) (P : Prog) (content : List ℕ) (call : Call P name content) (v : Value) →
+      ReadData o name steps P call.fun content →
+      (machine_at call steps).at ≡ Halted v →
+      ¬ (Rises o.writes) →
+      EndsBy Done status
+  pub stopped : (name : Text) (steps : ℕ) (P : Prog) (content : List ℕ) (call : Call P name content) →
+      ReadData o name steps P call.fun content →
+      IsGoing (machine_at call steps).at →
+      ¬ (Rises o.writes) →
+      EndsBy Stopped status
 
 -- the line is written, or a front of it where the count rose
 abbrev pub Gains : Text → Count → Option (List ℕ) → Option (List ℕ) → Type 0
