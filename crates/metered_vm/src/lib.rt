@@ -11,6 +11,3 @@ mod vm;
 
 pub use end::End;
 pub use vm::Vm;
-
-#[cfg(test)]
-mod tests;

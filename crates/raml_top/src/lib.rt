@@ -11,10 +11,3 @@ mod top;
 
 pub use status::{SourceFault, Status, Which};
 pub use top::raml;
-
-#[cfg(test)]
-mod program_tests;
-#[cfg(test)]
-mod run_tests;
-#[cfg(test)]
-mod tests;

@@ -189,4 +189,4 @@ machine_is_linked P typed fits f g args there types =
     let named = (functions_have_places P).placed g.name f ((functions_have_places P).own typed.functions f g there) in
     let same : find g.name P ≡ Some g = named.3 ∙ sym named.1 ∙ there in
     let keeps = typed_runs_keep P typed fits in
-    linked P f g args there (λ n. subst (λ o. Enters (NoDefault (calls_at P n) (CallMeetsNone P n)) o args) same (keeps.runs (suc n) g.name g args same types).no_default)
+    linked P f g args there (λ n. subst (λ o. Enters (NoDefault (calls_at P n) (CallMeetsNone P n)) o args) same (keeps.runs n g.name g args same types).no_default)

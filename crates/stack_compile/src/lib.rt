@@ -8,8 +8,6 @@ mod functions;
 mod instr;
 pub mod laws;
 mod scope;
-#[cfg(test)]
-mod tests;
 
 pub use code::{Body, Code, compile};
 pub use instr::Instr;

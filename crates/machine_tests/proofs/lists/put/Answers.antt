@@ -7,7 +7,7 @@ use Rattle.value_text.specs.declared.word.Word.TheVariants.{Int}
 use Rattle.value_text.specs.declared.word.Cell.{Cell}
 use Rattle.value_text.specs.Stands.{StandsFor}
 use Rattle.value_text.proofs.Standing.{stands_more, stands_there}
-use Rattle.metered_vm.proofs.tests.lists.put.Goals as goal
+use Rattle.machine_tests.proofs.lists.put.Goals as goal
 
 get_last : (cells : List Cell) (cell : Cell) → slice_get (cells ++ cell ∷ []) (length cells) ≡ Some cell
 get_last [] cell = refl

@@ -3,7 +3,7 @@ use Rattle.std.specs.Prelude.{List, slice_get}
 use Rattle.raml_syntax.specs.Value.{Value, HaveTypes}
 use Rattle.raml_syntax.specs.Read.{function_of}
 use Rattle.value_text.specs.Stands.{StandForAll}
-use Rattle.metered_vm.proofs.tests.lists.appended.Goals as goal
+use Rattle.machine_tests.proofs.lists.appended.Goals as goal
 
 pub run-requires-clause-arguments : goal.run-requires-clause-arguments
 run-requires-clause-arguments c =
