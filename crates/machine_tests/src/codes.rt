@@ -1,37 +1,29 @@
 // Codes of small programs, worked out by hand.
-use raml_parse::parse;
+use crate::programs::typed_program;
 use raml_syntax::{CompareOp, FunId};
-use simple_types::check;
 use stack_compile::{Instr, compile};
 use std::alloc::Global;
 use std::process::Abort;
 use std::test::Fail;
 
-// A program, and what is wanted of each of its functions: how many parameters it has, and its code.
-fn compare(
-    rt: &impl Abort,
-    alloc: Global,
-    source: &str,
-    want: &[(u32, &[Instr])],
-) -> Result<(), Fail> {
-    if source.len() > 1000 {
-        return Err(Fail::from("the source is long"));
-    }
-    let Ok(program) = parse(alloc, source.as_bytes()) else {
-        return Err(Fail::from("it is no program"));
-    };
-    let Ok(typed) = check(alloc, program) else {
-        return Err(Fail::from("it is not typed"));
-    };
+// What is wanted of a function: how many parameters it has, and its code.
+type Wanted = (u32, &'static [Instr]);
+
+fn are_same(code: &[Instr], wanted: &[Instr]) -> bool {
+    code == wanted
+}
+
+// Compares the code of each function of a program.
+fn compare(rt: &impl Abort, alloc: Global, source: &str, want: &[Wanted]) -> Result<(), Fail> {
+    let typed = typed_program(alloc, source)?;
     let code = compile(alloc, &typed)?;
     assert_eq!(rt; code.len(), want.len());
     assert_eq!(rt; code.program().funs.len(), want.len());
-    for (number, (arity, body)) in want.iter().enumerate() {
-        if number < code.len() {
-            let fun = FunId(number as u32);
-            assert_eq!(rt; code.function(fun).arity, *arity);
-            assert_eq!(rt; code.body(fun), *body);
-        }
+    for number in 0..code.len().min(want.len()) {
+        let body = code.function(FunId(number as u32));
+        let (arity, wanted) = want[number];
+        assert_eq!(rt; body.arity, arity);
+        assert!(rt; are_same(&body.code, wanted), "function {number}");
     }
     Ok(())
 }

@@ -9,6 +9,6 @@ mod lists;
 #[cfg(test)]
 mod numbers;
 #[cfg(test)]
-mod runs;
+mod programs;
 #[cfg(test)]
-mod terms;
+mod runs;

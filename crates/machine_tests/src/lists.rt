@@ -1,18 +1,14 @@
-// Lists, pairs and trees.
-ghost use Rattle.std.specs.Prelude.{◌≡◌, ◌≤◌, ◌<◌, ◌+◌, [], ◌∷◌, length, IfOk};
+// Lists.
+ghost use Rattle.std.specs.Prelude.{◌≡◌, ◌≤◌, ◌<◌, ◌+◌, length};
 ghost use Rattle.raml_syntax.specs.Tree.{Integer, ListOf};
-ghost use Rattle.raml_syntax.specs.Types.{types_of};
 ghost use Rattle.raml_syntax.specs.Value.{Value, Has};
-ghost use Rattle.raml_syntax.specs.Node.{nodes, AllNodes, FewArguments};
-ghost use Rattle.raml_syntax.specs.Read.{function_of, term_of};
 ghost use Rattle.value_text.specs.Stands.{StandsFor};
 ghost use Rattle.value_text.specs.declared.word.Word.{Word};
 
-use metered_vm::End;
+use crate::programs::{ints, takes_two, typed_program};
 use crate::runs::{Ran, run};
-use crate::terms::{alone, call_with, cons, ints, match_list, of_two, param, var};
-use raml_syntax::{Expr, Fun};
-use std::alloc::{AllocError, Global};
+use metered_vm::End;
+use std::alloc::Global;
 use std::test::Fail;
 use value_text::{Cell, DataHeap, Word};
 
@@ -28,40 +24,28 @@ fn put(heap: &mut DataHeap, head: i64, tail: Word) -> Word
     Word::Cell(heap.add(Cell::Cons(Word::Int(head), tail)))
 }
 
-/// `match x with nil -> y | h :: t -> h :: append(t, y)`
-fn by_cases(alloc: Global) -> Result<Expr, AllocError>
-    ensures nodes { IfOk result (λ e. nodes (term_of e) ≤ 20) }
-    ensures few { IfOk result (λ e. AllNodes FewArguments (term_of e)) }
-{
-    let rest = call_with(alloc, "append", var(alloc, "t")?, var(alloc, "y")?)?;
-    let longer = cons(alloc, var(alloc, "h")?, rest)?;
-    match_list(alloc, "x", var(alloc, "y")?, longer)
-}
-
-/// `fun append (x : int list, y : int list) : int list =` and the match
-fn append(alloc: Global) -> Result<Fun, AllocError>
-    ensures types { IfOk result (λ fun. types_of (function_of fun) ≡ ListOf Integer ∷ ListOf Integer ∷ []) }
-    ensures nodes { IfOk result (λ fun. nodes (function_of fun).body ≤ 20) }
-    ensures few { IfOk result (λ fun. AllNodes FewArguments (function_of fun).body) }
-{
-    let x = param(alloc, "x", ints(alloc)?)?;
-    let y = param(alloc, "y", ints(alloc)?)?;
-    of_two(alloc, "append", x, y, ints(alloc)?, by_cases(alloc)?)
-}
+const APPEND: &str = "fun append (x : int list, y : int list) : int list =
+    match x with nil -> y | h :: t -> h :: append(t, y)";
 
 /// `append` on `([1, 2, 3], [4])` with so many cells.
 fn appended(alloc: Global, cells: u32) -> Result<Ran, Fail>
     requires { cells ≤ 1000 }
 {
-    let program = alone(alloc, append(alloc)?)?;
-    let mut heap = DataHeap::new(alloc);
-    heap.reserve(4)?;
-    let three = put(&mut heap, 3, Word::Empty);
-    let two = put(&mut heap, 2, three);
-    let one = put(&mut heap, 1, two);
-    let four = put(&mut heap, 4, Word::Empty);
-    let args = vec![in alloc; one, four]?;
-    run(alloc, program, heap, args, cells, 30, 1000)
+    let typed = typed_program(alloc, APPEND)?;
+    let ints = ints(alloc)?;
+    match typed.program().funs.as_slice() {
+        [append] if takes_two(append, &ints) => {
+            let mut heap = DataHeap::new(alloc);
+            heap.reserve(4)?;
+            let three = put(&mut heap, 3, Word::Empty);
+            let two = put(&mut heap, 2, three);
+            let one = put(&mut heap, 1, two);
+            let four = put(&mut heap, 4, Word::Empty);
+            let args = vec![in alloc; one, four]?;
+            run(alloc, &typed, heap, args, cells, 30, 1000)
+        }
+        _ => Err(Fail::from("not one function of two lists")),
+    }
 }
 
 #[test]

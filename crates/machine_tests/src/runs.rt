@@ -1,16 +1,13 @@
 // Runs of programs on words.
-ghost use Rattle.std.specs.Prelude.{◌≡◌, ◌≤◌, ◌<◌, ◌+◌, ◌^◌, [], ◌∷◌, length};
-ghost use Rattle.std.specs.List.{All};
-ghost use Rattle.raml_syntax.specs.Tree.{Function, Integer};
-ghost use Rattle.raml_syntax.specs.Types.{types_of};
-ghost use Rattle.raml_syntax.specs.Node.{nodes, program_nodes, AllNodes, FewArguments};
-ghost use Rattle.raml_syntax.specs.Read.{program_of, function_of};
+ghost use Rattle.std.specs.Prelude.{◌≤◌, ◌<◌, ◌^◌, length};
+ghost use Rattle.raml_syntax.specs.Node.{WithinLimits, program_nodes};
+ghost use Rattle.raml_syntax.specs.Read.{program_of};
 ghost use Rattle.metered_vm.specs.Seen.{HaveArguments};
 
-use crate::terms::alone;
+use crate::programs::{int, takes_one, takes_two, typed_program};
 use metered_vm::{End, Vm};
-use raml_syntax::{Fun, FunId, Program};
-use simple_types::check;
+use raml_syntax::FunId;
+use simple_types::Typed;
 use stack_compile::compile;
 use std::alloc::Global;
 use std::test::Fail;
@@ -51,27 +48,21 @@ fn numbers_of(alloc: Global, heap: &DataHeap, end: End) -> Result<Vec<i64>, Fail
 /// Runs the first function of a program to so many instructions, and then to so many more.
 pub fn run(
     alloc: Global,
-    program: Program,
+    typed: &Typed,
     heap: DataHeap,
     args: Vec<Word>,
     cells: u32,
     first: u64,
     steps: u64,
 ) -> Result<Ran, Fail>
-    requires functions { length (program_of program) ≤ 256 }
-    requires parameters { All (λ (g : Function). length g.params ≤ 8) (program_of program) }
-    requires few { All (λ (g : Function). AllNodes FewArguments g.body) (program_of program) }
-    requires nodes { program_nodes (program_of program) < 2 ^ 28 }
-    requires arguments { HaveArguments (program_of program) 0 heap.cells args.items }
+    requires limits { WithinLimits (program_of typed.now) }
+    requires nodes { program_nodes (program_of typed.now) < 2 ^ 28 }
+    requires arguments { HaveArguments (program_of typed.now) 0 heap.cells args.items }
     requires heap { length heap.cells < 2 ^ 31 }
     requires cells { cells ≤ 1000 }
     requires steps { (first ≤ steps) × (steps ≤ 1000) }
 {
-    let typed = match check(alloc, program) {
-        Ok(typed) => typed,
-        Err(_) => return Err(Fail::from("it is typed")),
-    };
-    let code = compile(alloc, &typed)?;
+    let code = compile(alloc, typed)?;
     let mut vm = Vm::new(alloc, &code, FunId(0), heap, args, cells)?;
     let first = vm.run(first)?;
     let end = vm.run(steps)?;
@@ -86,33 +77,31 @@ pub fn run(
 }
 
 /// Runs a function of one number.
-pub fn run_on(alloc: Global, main: Fun, x: i64, first: u64, steps: u64) -> Result<Ran, Fail>
-    requires types { types_of (function_of main) ≡ Integer ∷ [] }
-    requires few { AllNodes FewArguments (function_of main).body }
-    requires nodes { nodes (function_of main).body < 1000 }
+pub fn run_on(alloc: Global, source: &str, x: i64, first: u64, steps: u64) -> Result<Ran, Fail>
     requires steps { (first ≤ steps) × (steps ≤ 1000) }
 {
-    let program = alone(alloc, main)?;
-    let args = vec![in alloc; Word::Int(x)]?;
-    run(alloc, program, DataHeap::new(alloc), args, 0, first, steps)
+    let typed = typed_program(alloc, source)?;
+    let int = int();
+    match typed.program().funs.as_slice() {
+        [main] if takes_one(main, &int) => {
+            let args = vec![in alloc; Word::Int(x)]?;
+            run(alloc, &typed, DataHeap::new(alloc), args, 0, first, steps)
+        }
+        _ => Err(Fail::from("not one function of a number")),
+    }
 }
 
 /// Runs a function of two numbers with so many cells.
-pub fn run_on_two(alloc: Global, main: Fun, x: i64, y: i64, cells: u32) -> Result<Ran, Fail>
-    requires types { types_of (function_of main) ≡ Integer ∷ Integer ∷ [] }
-    requires few { AllNodes FewArguments (function_of main).body }
-    requires nodes { nodes (function_of main).body < 1000 }
+pub fn run_on_two(alloc: Global, source: &str, x: i64, y: i64, cells: u32) -> Result<Ran, Fail>
     requires cells { cells ≤ 1000 }
 {
-    let program = alone(alloc, main)?;
-    let args = vec![in alloc; Word::Int(x), Word::Int(y)]?;
-    run(
-        alloc,
-        program,
-        DataHeap::new(alloc),
-        args,
-        cells,
-        1000,
-        1000,
-    )
+    let typed = typed_program(alloc, source)?;
+    let int = int();
+    match typed.program().funs.as_slice() {
+        [main] if takes_two(main, &int) => {
+            let args = vec![in alloc; Word::Int(x), Word::Int(y)]?;
+            run(alloc, &typed, DataHeap::new(alloc), args, cells, 1000, 1000)
+        }
+        _ => Err(Fail::from("not one function of two numbers")),
+    }
 }

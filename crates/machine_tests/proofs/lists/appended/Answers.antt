@@ -1,8 +1,9 @@
-use Rattle.std.proofs.Common.{[], ◌∷◌, sym, ap, subst}
-use Rattle.std.specs.Prelude.{List, slice_get}
+use Rattle.std.proofs.Common.{[], ◌∷◌, ◌∙◌, List, sym, ap, subst, arith}
+use Rattle.raml_syntax.specs.Tree.{Type'}
 use Rattle.raml_syntax.specs.Value.{Value, HaveTypes}
 use Rattle.raml_syntax.specs.Read.{function_of}
 use Rattle.value_text.specs.Stands.{StandForAll}
+use Rattle.machine_tests.proofs.Alone.{first_there}
 use Rattle.machine_tests.proofs.lists.appended.Goals as goal
 
 pub run-requires-clause-arguments : goal.run-requires-clause-arguments
@@ -11,9 +12,9 @@ run-requires-clause-arguments c =
     let four = c.put-four.ensures.list in
     let values : List Value = one.0 ∷ four.0 ∷ [] in
     record {
-      function = function_of c.in_ok-append.field-0;
-      there = ap (λ P. slice_get P 0) c.in_ok-program.ensures;
+      function = function_of c.append-item.result;
+      there = first_there _ _ c.as_slice.result.now _ (omega (arith, c.in-len1.len_at_least)) c.append-item.is c.as_slice.ensures.value c.program.ensures.program;
       values = values;
-      stand = subst (λ ws. StandForAll c.put-four.new.heap.cells ws values) (sym c.in_ok-args.ensures.items) (c.put-four.ensures.more _ _ one.1, (four.1, tt));
-      types = subst (HaveTypes values) (sym c.in_ok-append.ensures.types) (one.2, (four.2, tt));
+      stand = subst (λ ws. StandForAll c.put-four.new.heap.cells ws values) (sym c.in_ok-args-in-len1.ensures.items) (c.put-four.ensures.more _ _ one.1, (four.1, tt));
+      types = subst (HaveTypes values) (sym (c.takes_two.ensures c.if-takes_two.true ∙ ap (λ (T : Type'). T ∷ T ∷ []) c.in_ok-ints.ensures)) (one.2, (four.2, tt));
     }
