@@ -3,7 +3,7 @@ use Rattle.raml_syntax.specs.Read.{ty_of}
 use Rattle.base_poly.specs.Plain.{degrees}
 use Rattle.base_poly.specs.Indices.{AreIndices}
 use Rattle.base_poly.proofs.Exact.{each_listed}
-use Rattle.base_poly.proofs.tests.products_of.Goals as goal
+use Rattle.potential_tests.proofs.products.products_of.Goals as goal
 
 pub multiplied-requires : goal.multiplied-requires
 multiplied-requires c =

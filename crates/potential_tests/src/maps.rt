@@ -1,51 +1,18 @@
-//! The maps against tables, and contexts that are just large enough.
-ghost use Rattle.std.specs.Prelude.{◌≡◌, ◌<◌, ◌^◌, ◌⊎◌, [], ◌∷◌, length, slice_get, Some, IfOk};
-ghost use Rattle.raml_syntax.specs.Read.{ty_of};
+//! Maps between contexts.
+ghost use Rattle.std.specs.Prelude.{◌≡◌, ◌<◌, ◌⊎◌, length, slice_get, Some};
 ghost use Rattle.raml_syntax.specs.Tree.{Type', PairOf, ListOf, TreeOf};
 ghost use Rattle.base_poly.specs.Read.{context_of};
 
-use super::*;
+use crate::types::{list, lists, one, pair, tree, two};
+use index_shift::{
+    Entry, MapFault, drop_var, empty_part, share_map, shift_list, shift_tree, split_pair,
+};
 use raml_syntax::Ty;
-use std::alloc::{AllocError, Global};
+use std::alloc::Global;
 use std::process::Abort;
 use std::test::Fail;
 
 mod tables;
-
-fn list(alloc: Global, element: Ty) -> Result<Ty, AllocError>
-    ensures { IfOk result (λ ty. ty_of ty ≡ ListOf (ty_of element)) }
-{
-    Ok(Ty::List(Box::new(alloc, element)?))
-}
-
-fn tree(alloc: Global, element: Ty) -> Result<Ty, AllocError>
-    ensures { IfOk result (λ ty. ty_of ty ≡ TreeOf (ty_of element)) }
-{
-    Ok(Ty::Tree(Box::new(alloc, element)?))
-}
-
-fn pair(alloc: Global, first: Ty, second: Ty) -> Result<Ty, AllocError>
-    ensures { IfOk result (λ ty. ty_of ty ≡ PairOf (ty_of first) (ty_of second)) }
-{
-    Ok(Ty::Pair(Box::new(alloc, first)?, Box::new(alloc, second)?))
-}
-
-fn one(alloc: Global, ty: Ty) -> Result<Vec<Ty>, AllocError>
-    ensures { IfOk result (λ types. context_of types.items ≡ ty_of ty ∷ []) }
-{
-    let mut types = Vec::new(alloc);
-    types.push(ty)?;
-    Ok(types)
-}
-
-fn two(alloc: Global, first: Ty, second: Ty) -> Result<Vec<Ty>, AllocError>
-    ensures { IfOk result (λ types. context_of types.items ≡ ty_of first ∷ (ty_of second ∷ [])) }
-{
-    let mut types = Vec::new(alloc);
-    types.push(first)?;
-    types.push(second)?;
-    Ok(types)
-}
 
 /// The degree and the entry of a line of a table.
 fn read(line: &str) -> Option<(u8, Entry)> {
@@ -236,18 +203,6 @@ fn pairs_are_shared(rt: HostRuntime) -> Result<(), Fail> {
     shares(&rt, alloc, &third, 0, tables::SHARE_THREE)
 }
 
-/// More lists of integers than that.
-fn lists(alloc: Global, more: usize) -> Result<Vec<Ty>, AllocError>
-    requires { more < 2 ^ 16 }
-    ensures { IfOk result (λ types. more < length types.items) }
-{
-    let mut types = Vec::new(alloc);
-    while types.len() <= more {
-        types.push(list(alloc, Ty::Int)?)?;
-    }
-    Ok(types)
-}
-
 /// The number of entries, or the fault.
 fn entries_of(map: Result<Vec<Entry>, MapFault>) -> Result<usize, MapFault> {
     Ok(map?.len())
@@ -257,8 +212,8 @@ fn entries_of(map: Result<Vec<Entry>, MapFault>) -> Result<usize, MapFault> {
 fn either_context_may_be_too_large(rt: HostRuntime) -> Result<(), Fail> {
     let alloc = rt.alloc();
     // 12 lists have 1820 indices of degree at most 4, and 13 have 2380.
-    let twelve = lists(alloc, 11)?;
-    let thirteen = lists(alloc, 12)?;
+    let twelve = lists(alloc, 12)?;
+    let thirteen = lists(alloc, 13)?;
     let kept = entries_of(drop_var(alloc, &twelve, 3, 4));
     assert_eq!(rt; kept, Ok(1365));
     let old = entries_of(drop_var(alloc, &thirteen, 3, 4));
