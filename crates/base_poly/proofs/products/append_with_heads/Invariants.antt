@@ -1,6 +1,6 @@
 use Rattle.std.proofs.Common.{◌≡◌, ◌++◌, ◌∷◌, drop, map, flat_map}
 use Rattle.base_poly.specs.Read.{plains_of}
-use Rattle.base_poly.proofs.products.lead_each.Given as goal
+use Rattle.base_poly.proofs.products.append_with_heads.Given as goal
 
 abbrev pub invariant-loop-first : goal.invariant-loop-first
 invariant-loop-first l =

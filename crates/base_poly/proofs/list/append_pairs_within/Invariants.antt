@@ -1,7 +1,7 @@
 use Rattle.std.proofs.Common.{◌≡◌, ◌++◌, ◌+◌, map, length, vec_len}
 use Rattle.base_poly.specs.Plain.{Pair}
 use Rattle.base_poly.specs.Read.{index_of, plains_of}
-use Rattle.base_poly.proofs.list.append_paired.Given as goal
+use Rattle.base_poly.proofs.list.append_pairs_within.Given as goal
 
 abbrev pub invariant-loop-second : goal.invariant-loop-second
 invariant-loop-second l = record {
