@@ -15,7 +15,7 @@ use std::cmp::Ordering;
 use std::hash::{Hash, Hasher};
 
 /// An index of a type. It names a base polynomial of the type's values.
-#[derive(Drop)]
+#[derive(Debug, Drop)]
 pub enum Index {
     /// The index of integers and of booleans.
     Unit,

@@ -73,7 +73,9 @@ fn append_tuples(
     most: usize,
 ) -> Result<(), IndexFault>
     requires { vec_len found.old ≤ most }
-    ensures all { OnOk result (found.new.items ≡ found.old.items ++ map (λ t. plains_of before.old.items ++ t) (tuples_up_to (context_of types.now) d)) }
+    ensures all { OnOk result (found.new.items
+        ≡ found.old.items
+        ++ map (λ t. plains_of before.old.items ++ t) (tuples_up_to (context_of types.now) d)) }
     ensures kept { OnOk result (before.new.items ≡ before.old.items) }
     ensures few { OnOk result (vec_len found.new ≤ most) }
     ensures many { IsErrOf result IndexFault.TooMany → most < length found.old.items + length (tuples_up_to (context_of types.now) d) }
@@ -96,10 +98,14 @@ fn append_by_first_type(
     most: usize,
 ) -> Result<(), IndexFault>
     requires { vec_len found.old ≤ most }
-    ensures all { OnOk result (found.new.items ≡ found.old.items ++ map (λ t. plains_of before.old.items ++ t) (tuples_led (tuples_up_to (context_of rest.now)) d (indices_up_to (ty_of first.now) d))) }
+    ensures all { OnOk result (found.new.items
+        ≡ found.old.items
+        ++ map (λ t. plains_of before.old.items ++ t) (tuples_led (tuples_up_to (context_of rest.now)) d (indices_up_to (ty_of first.now) d))) }
     ensures kept { OnOk result (before.new.items ≡ before.old.items) }
     ensures few { OnOk result (vec_len found.new ≤ most) }
-    ensures many { IsErrOf result IndexFault.TooMany → most < length found.old.items + length (tuples_led (tuples_up_to (context_of rest.now)) d (indices_up_to (ty_of first.now) d)) }
+    ensures many { IsErrOf result IndexFault.TooMany →
+        most < length found.old.items
+        + length (tuples_led (tuples_up_to (context_of rest.now)) d (indices_up_to (ty_of first.now) d)) }
 {
     let heads = indices_up_to(alloc, first, d, most)?;
     for head in &heads {
@@ -121,10 +127,13 @@ fn append_by_first_index(
 ) -> Result<(), IndexFault>
     requires room { vec_len found.old ≤ most }
     requires low { deg (index_of head.now) ≤ d }
-    ensures all { OnOk result (found.new.items ≡ found.old.items ++ map (λ r. plains_of before.old.items ++ index_of head.now ∷ r) (tuples_up_to (context_of rest.now) (d - deg (index_of head.now)))) }
+    ensures all { OnOk result (found.new.items
+        ≡ found.old.items
+        ++ map (λ r. plains_of before.old.items ++ index_of head.now ∷ r) (tuples_up_to (context_of rest.now) (d - deg (index_of head.now)))) }
     ensures kept { OnOk result (before.new.items ≡ before.old.items) }
     ensures few { OnOk result (vec_len found.new ≤ most) }
-    ensures many { IsErrOf result IndexFault.TooMany → most < length found.old.items + length (tuples_up_to (context_of rest.now) (d - deg (index_of head.now))) }
+    ensures many { IsErrOf result IndexFault.TooMany →
+        most < length found.old.items + length (tuples_up_to (context_of rest.now) (d - deg (index_of head.now))) }
 {
     let place = before.len();
     before.push(head.copy(alloc)?)?;
@@ -223,7 +232,8 @@ fn pairs_up_to(
 ) -> Result<Vec<Index>, IndexFault>
     ensures all { IfOk result (λ found. plains_of found.items ≡ pairs_led (indices_up_to (ty_of second.now)) d (indices_up_to (ty_of first.now) d)) }
     ensures few { IfOk result (λ found. vec_len found ≤ most) }
-    ensures many { IsErrOf result IndexFault.TooMany → most < length (pairs_led (indices_up_to (ty_of second.now)) d (indices_up_to (ty_of first.now) d)) }
+    ensures many { IsErrOf result IndexFault.TooMany →
+        most < length (pairs_led (indices_up_to (ty_of second.now)) d (indices_up_to (ty_of first.now) d)) }
 {
     let heads = indices_up_to(alloc, first, d, most)?;
     let mut found = Vec::new(alloc);
@@ -245,9 +255,12 @@ fn append_pairs_by_head(
 ) -> Result<(), IndexFault>
     requires room { vec_len found.old ≤ most }
     requires low { deg (index_of head.now) ≤ d }
-    ensures all { OnOk result (plains_of found.new.items ≡ plains_of found.old.items ++ map (λ j. Pair (index_of head.now) j) (indices_up_to (ty_of second.now) (d - deg (index_of head.now)))) }
+    ensures all { OnOk result (plains_of found.new.items
+        ≡ plains_of found.old.items
+        ++ map (λ j. Pair (index_of head.now) j) (indices_up_to (ty_of second.now) (d - deg (index_of head.now)))) }
     ensures few { OnOk result (vec_len found.new ≤ most) }
-    ensures many { IsErrOf result IndexFault.TooMany → most < length found.old.items + length (indices_up_to (ty_of second.now) (d - deg (index_of head.now))) }
+    ensures many { IsErrOf result IndexFault.TooMany →
+        most < length found.old.items + length (indices_up_to (ty_of second.now) (d - deg (index_of head.now))) }
 {
     let seconds = indices_up_to(alloc, second, d - head.degree(), most)?;
     append_pairs_within(alloc, found, head, seconds, most)
@@ -262,7 +275,8 @@ fn append_pairs_within(
     most: usize,
 ) -> Result<(), IndexFault>
     requires { vec_len found.old ≤ most }
-    ensures all { OnOk result (plains_of found.new.items ≡ plains_of found.old.items ++ map (λ j. Pair (index_of first.now) j) (plains_of seconds.items)) }
+    ensures all { OnOk result (plains_of found.new.items
+        ≡ plains_of found.old.items ++ map (λ j. Pair (index_of first.now) j) (plains_of seconds.items)) }
     ensures few { OnOk result (vec_len found.new ≤ most) }
     ensures many { IsErrOf result IndexFault.TooMany → most < length found.old.items + length seconds.items }
 {
@@ -309,9 +323,12 @@ fn with_nonempty_lists(
     most: usize,
 ) -> Result<Vec<Tuple>, IndexFault>
     requires { vec_len found ≤ most }
-    ensures all { IfOk result (λ all. all.items ≡ found.items ++ tuples_led (λ k. lists (indices_up_to (ty_of element.now)) k k) d (indices_up_to (ty_of element.now) d)) }
+    ensures all { IfOk result (λ all. all.items
+        ≡ found.items ++ tuples_led (λ k. lists (indices_up_to (ty_of element.now)) k k) d (indices_up_to (ty_of element.now) d)) }
     ensures few { IfOk result (λ all. vec_len all ≤ most) }
-    ensures many { IsErrOf result IndexFault.TooMany → most < length found.items + length (tuples_led (λ k. lists (indices_up_to (ty_of element.now)) k k) d (indices_up_to (ty_of element.now) d)) }
+    ensures many { IsErrOf result IndexFault.TooMany →
+        most < length found.items
+        + length (tuples_led (λ k. lists (indices_up_to (ty_of element.now)) k k) d (indices_up_to (ty_of element.now) d)) }
 {
     let heads = indices_up_to(alloc, element, d, most)?;
     for head in &heads {
@@ -332,9 +349,13 @@ fn append_lists_by_head(
 ) -> Result<(), IndexFault>
     requires room { vec_len found.old ≤ most }
     requires low { deg (index_of head.now) ≤ d }
-    ensures all { OnOk result (found.new.items ≡ found.old.items ++ map (λ r. index_of head.now ∷ r) (lists (indices_up_to (ty_of element.now)) (d - deg (index_of head.now)) (d - deg (index_of head.now)))) }
+    ensures all { OnOk result (found.new.items
+        ≡ found.old.items
+        ++ map (λ r. index_of head.now ∷ r) (lists (indices_up_to (ty_of element.now)) (d - deg (index_of head.now)) (d - deg (index_of head.now)))) }
     ensures few { OnOk result (vec_len found.new ≤ most) }
-    ensures many { IsErrOf result IndexFault.TooMany → most < length found.old.items + length (lists (indices_up_to (ty_of element.now)) (d - deg (index_of head.now)) (d - deg (index_of head.now))) }
+    ensures many { IsErrOf result IndexFault.TooMany →
+        most < length found.old.items
+        + length (lists (indices_up_to (ty_of element.now)) (d - deg (index_of head.now)) (d - deg (index_of head.now))) }
 {
     let rests = lists_up_to(alloc, element, d - head.degree(), most)?;
     append_with_head_within(alloc, found, head, &rests, most)

@@ -26,7 +26,8 @@ pub fn multiply(
 ) -> Result<IndexMap<Index, u64>, AllocError>
     requires one_type { (A : Type') × IsIndex (index_of left.now) A × IsIndex (index_of right.now) A }
     requires low { (deg (index_of left.now) ≤ 4) × (deg (index_of right.now) ≤ 4) }
-    ensures worth { IfOk result (λ found. (v : Value) → base (index_of left.now) v * base (index_of right.now) v ≡ counted_worth v (counts_of found.entries)) }
+    ensures worth { IfOk result (λ found. (v : Value) → base (index_of left.now) v * base (index_of right.now) v
+        ≡ counted_worth v (counts_of found.entries)) }
     ensures tallied { IfOk result (λ found. counts_of found.entries ≡ tallied (product (index_of left.now) (index_of right.now))) }
     ensures terms { IfOk result (λ found. All (IsTerm (index_of left.now) (index_of right.now)) (counts_of found.entries)) }
 {
@@ -138,7 +139,8 @@ fn led_product(
     rest: &[Index],
     right: &[Index],
 ) -> Result<Vec<Tuple>, AllocError>
-    ensures { IfOk result (λ found. map many found.items ≡ product (Then (index_of first.now) (many (plains_of rest.now))) (many (plains_of right.now))) }
+    ensures { IfOk result (λ found. map many found.items
+        ≡ product (Then (index_of first.now) (many (plains_of rest.now))) (many (plains_of right.now))) }
 {
     match right {
         [] => {

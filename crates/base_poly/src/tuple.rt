@@ -15,7 +15,7 @@ use std::hash::{Hash, Hasher};
 use std::marker::Model;
 
 /// Indices, one for each variable or argument, seen by contracts as their list.
-#[derive(Drop)]
+#[derive(Debug, Drop)]
 pub struct Tuple {
     parts: Vec<Index>,
 }
@@ -177,7 +177,7 @@ impl Hash for Tuple {
 
 /// A polynomial in base polynomials: the sum of its coefficients times the base polynomials of its
 /// tuples, over a denominator.
-#[derive(Drop)]
+#[derive(Debug, Drop)]
 pub struct Poly {
     pub den: i128,
     pub terms: Vec<(Tuple, i128)>,

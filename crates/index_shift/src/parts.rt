@@ -16,13 +16,13 @@ pub fn index_parts(alloc: Global, ty: &Ty, index: &Index) -> Result<Vec<Tuple>, 
     match ty {
         Ty::Int | Ty::Bool => Ok(Vec::new(alloc)),
         Ty::Pair(..) => pair_parts(alloc, index),
-        Ty::List(element) => list_parts(alloc, &Index::zero(alloc, element)?, entries(index)),
-        Ty::Tree(element) => tree_parts(alloc, &Index::zero(alloc, element)?, entries(index)),
+        Ty::List(element) => list_parts(alloc, &Index::zero(alloc, element)?, list_entries(index)),
+        Ty::Tree(element) => tree_parts(alloc, &Index::zero(alloc, element)?, list_entries(index)),
     }
 }
 
 // The entries of a list index.
-fn entries(index: &Index) -> &[Index]
+fn list_entries(index: &Index) -> &[Index]
     ensures { plains_of result.now ≡ entries_of (index_of index.now) }
 {
     match index {
@@ -74,12 +74,16 @@ fn list_of(alloc: Global, entries: &[Index]) -> Result<Index, AllocError>
     ensures { IfOk result (λ index. index_of index ≡ many (plains_of entries.now)) }
 {
     let mut copies = Vec::with_capacity(alloc, entries.len())?;
-    append(alloc, &mut copies, entries)?;
+    append_copies(alloc, &mut copies, entries)?;
     Ok(Index::List(copies))
 }
 
 /// Appends copies of the indices.
-pub fn append(alloc: Global, whole: &mut Vec<Index>, indices: &[Index]) -> Result<(), AllocError>
+pub fn append_copies(
+    alloc: Global,
+    whole: &mut Vec<Index>,
+    indices: &[Index],
+) -> Result<(), AllocError>
     ensures { OnOk result (plains_of whole.new.items ≡ plains_of whole.old.items ++ plains_of indices.now) }
 {
     for index in indices {

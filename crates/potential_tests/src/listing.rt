@@ -1,5 +1,5 @@
 //! Lists of the tuples of contexts.
-use crate::index_text::write_tuple;
+use crate::index_text::{write, write_tuple};
 use crate::types::{list, lists, pair, tree};
 use base_poly::{Index, IndexFault, Tuple, indices};
 use indexmap::IndexMap;
@@ -125,8 +125,30 @@ fn tuples_are_keys(rt: HostRuntime) -> Result<(), Fail> {
     let second = Tuple::new(vec![in alloc; one_unit(alloc)?]?);
     let mut places = IndexMap::new(alloc);
     places.insert(first.copy(alloc)?, 1)?;
-    places.insert(second.led_by(alloc, &Index::Unit)?, 2)?;
+    places.insert(second.with_first(alloc, &Index::Unit)?, 2)?;
     assert_eq!(rt; places.get(&first).copied(), Some(1));
     assert_eq!(rt; places.get(&second).copied(), None);
+    Ok(())
+}
+
+#[test]
+fn tuples_sort_as_they_are_listed(rt: HostRuntime) -> Result<(), Fail> {
+    let alloc = rt.alloc();
+    let types = lists(alloc, 3)?;
+    let listed = indices(alloc, &types, 2, 10)?;
+    let mut sorted = indices(alloc, &types, 2, 10)?;
+    sorted.reverse();
+    sorted.sort()?;
+    assert!(rt; sorted == listed);
+    Ok(())
+}
+
+#[test]
+fn zero_indices_have_no_entries(rt: HostRuntime) -> Result<(), Fail> {
+    let alloc = rt.alloc();
+    let ty = pair(alloc, list(alloc, Ty::Int)?, Ty::Bool)?;
+    let mut out = String::new(alloc);
+    write(&mut out, &Index::zero(alloc, &ty)?)?;
+    assert_eq!(rt; out.as_str(), "([], _)");
     Ok(())
 }

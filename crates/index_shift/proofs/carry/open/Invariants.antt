@@ -1,7 +1,7 @@
 use Rattle.std.proofs.Common.{◌≡◌, ℕ, List, ◌++◌, map, drop}
 use Rattle.base_poly.specs.Plain.{Plain}
 use Rattle.base_poly.specs.Read.{plains_of}
-use Rattle.index_shift.proofs.carry.opened.Given as goal
+use Rattle.index_shift.proofs.carry.open.Given as goal
 
 abbrev pub invariant-loop-parts : goal.invariant-loop-parts
 invariant-loop-parts l =
