@@ -1,5 +1,5 @@
 -- Terms in the order of their tuples.
-use Rattle.std.proofs.Common.{◌≡◌, ◌<◌, ◌+◌, ◌^◌, ◌==◌, Bool, false, not, filter, ℤ, ℕ, List, [], ◌∷◌, ◌++◌, All, codes, refl, sym, ap, ◌∙◌, arith, slice_index_or}
+use Rattle.std.proofs.Common.{◌≡◌, ◌<◌, ◌+◌, ◌^◌, ◌==◌, false, not, filter, ℤ, List, [], ◌∷◌, ◌++◌, All, codes, refl, sym, ap, ◌∙◌, arith, slice_index_or}
 use Rattle.std.specs.declared.cmp.Ordering.{Ordering}
 use Rattle.std.specs.declared.cmp.Ordering.TheVariants.{Less, Equal, Greater}
 use Rattle.std.specs.Ordering.{ordering_then, nat_cmp, is_lt}

@@ -1,7 +1,6 @@
 -- Terms of given tuples, for tests.
-use Rattle.std.proofs.Common.{◌≡◌, ℕ, zero, suc, ℤ, ◌<◌, ◌^◌, ◌≤ℤ◌, pos, false, List, [], ◌∷◌, map, length, All, refl, ap, sym, subst, arith}
+use Rattle.std.proofs.Common.{◌≡◌, zero, suc, ℤ, ◌<◌, ◌^◌, ◌≤ℤ◌, pos, false, List, [], ◌∷◌, map, length, All, refl, sym, subst, arith}
 use Rattle.std.specs.List.{IsDistinct}
-use Rattle.std.proofs.lemmas.List.Elements.{All-map}
 use Rattle.base_poly.specs.Plain.{Plain, Unit', Pair, End, Then, degrees, alike}
 use Rattle.base_poly.specs.Poly.{AreTerms}
 

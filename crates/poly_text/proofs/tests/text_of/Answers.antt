@@ -1,7 +1,7 @@
 use Rattle.std.proofs.Common.{SFits, rules}
 use Rattle.std.specs.Int.{w128}
 use Rattle.std.proofs.lemmas.Int.{to_z-of_z}
-use Rattle.std.proofs.Common.{◌≡◌, ◌<ℤ◌, pos, sym, subst}
+use Rattle.std.proofs.Common.{◌<ℤ◌, pos, sym, subst}
 use Rattle.poly_text.proofs.Sampled.{terms_are}
 use Rattle.poly_text.proofs.tests.text_of.Goals as goal
 
