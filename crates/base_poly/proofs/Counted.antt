@@ -10,7 +10,7 @@ use Rattle.base_poly.specs.Plain.{Plain, deg, same}
 use Rattle.base_poly.specs.Indices.{IsIndex}
 use Rattle.base_poly.specs.Base.{total, base}
 use Rattle.base_poly.specs.Product.{product}
-use Rattle.base_poly.specs.Count.{counts_of, count_at, count_one, tallied, weighed, IsTerm}
+use Rattle.base_poly.specs.Count.{counts_of, count_at, count_one, tallied, counted_worth, IsTerm}
 use Rattle.base_poly.specs.Read.{index_of, plains_of}
 use Rattle.base_poly.specs.Total.{same_is}
 use Rattle.base_poly.specs.declared.index.Index.{Index}
@@ -55,7 +55,7 @@ all_counted : (f : Plain → ℕ) (es : List (Plain × ℕ)) (ps : List Plain) �
 all_counted f es [] = omega arith
 all_counted f es (p ∷ ps) = let more = all_counted f (count_one es p) ps in let one = one_counted f es p in omega (arith, more, one)
 
-pub tallied_worth : (v : Value) (ps : List Plain) → weighed v (tallied ps) ≡ total (λ k. base k v) ps
+pub tallied_worth : (v : Value) (ps : List Plain) → counted_worth v (tallied ps) ≡ total (λ k. base k v) ps
 tallied_worth v ps = let all = all_counted (λ k. base k v) [] ps in omega (arith, all)
 
 -- No number is more than all of them
@@ -107,7 +107,7 @@ product_counted i j A hi hj =
     (all_each (λ k. ((B : Type') → IsIndex i B → IsIndex j B → IsIndex k B) × (deg k ≤ deg i + deg j)) [] (product i j)
     (λ k m. ((λ B gi gj. (product_terms i B j k gi gj m).0), (product_terms i A j k hi hj m).1)) tt)
 
-pub product_weighed : (i j : Plain) (A : Type') → IsIndex i A → IsIndex j A → (v : Value) → base i v * base j v ≡ weighed v (tallied (product i j))
+pub product_weighed : (i j : Plain) (A : Type') → IsIndex i A → IsIndex j A → (v : Value) → base i v * base j v ≡ counted_worth v (tallied (product i j))
 product_weighed i j A hi hj v = product_worth i A j hi hj v ∙ sym (tallied_worth v (product i j))
 
 pub product_short : (i j : Plain) → deg i ≤ 4 → deg j ≤ 4 → length (product i j) ≤ 6561

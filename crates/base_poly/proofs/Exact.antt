@@ -7,7 +7,7 @@ use Rattle.std.proofs.lemmas.Bool.Decides.{nat_tests}
 use Rattle.std.proofs.lemmas.List.Elements.{All-weaker, All-contains_itself}
 use Rattle.raml_syntax.specs.Tree.{Type', Integer, Boolean, PairOf, ListOf, TreeOf}
 use Rattle.base_poly.specs.Plain.{Plain, Unit', Pair, End, Then, many, entries_of, deg, degrees, order}
-use Rattle.base_poly.specs.Indices.{IsIndex, AreIndices, each_in_turn, tuple_order, IsBefore, Ascends, ListsTuples, led_by, lists, indices_up_to, tuples_up_to, by_degree, index_list}
+use Rattle.base_poly.specs.Indices.{IsIndex, AreIndices, each_in_turn, tuple_order, IsBefore, Ascends, ListsTuples, tuples_led, lists, indices_up_to, tuples_up_to, by_degree, index_list}
 use Rattle.base_poly.specs.Total.{order_many}
 use Rattle.base_poly.proofs.Among.{Among, among_contains, contains_among, among_left, among_right, among_either, kept_among, among_kept, mapped_among, among_mapped, part_among, among_part, before_all, ascends_joined, ascends_kept, ascends_as, ascends_led}
 
@@ -23,12 +23,12 @@ order_same (Then x r) = ap (λ o. ordering_then o (order r r)) (order_same x) �
 
 -- Order
 
-led_ascends : (rests : ℕ → List (List Plain)) (d : ℕ) (firsts : List Plain) → ((k : ℕ) → Ascends each_in_turn (rests k)) → Ascends order firsts → Ascends each_in_turn (led_by rests d firsts)
+led_ascends : (rests : ℕ → List (List Plain)) (d : ℕ) (firsts : List Plain) → ((k : ℕ) → Ascends each_in_turn (rests k)) → Ascends order firsts → Ascends each_in_turn (tuples_led rests d firsts)
 led_ascends rests d firsts f h =
     ascends_led order each_in_turn each_in_turn (λ i r. i ∷ r) order_same (λ x u y v. refl) (λ i. rests (d - deg i)) firsts (λ i. f (d - deg i)) h
 
-led_after_none : (rests : ℕ → List (List Plain)) (d : ℕ) (firsts : List Plain) → IsBefore each_in_turn [] (led_by rests d firsts)
-led_after_none rests d firsts = before_all each_in_turn [] (led_by rests d firsts) (λ t m.
+led_after_none : (rests : ℕ → List (List Plain)) (d : ℕ) (firsts : List Plain) → IsBefore each_in_turn [] (tuples_led rests d firsts)
+led_after_none rests d firsts = before_all each_in_turn [] (tuples_led rests d firsts) (λ t m.
     let p = among_part (λ i. map (λ r. i ∷ r) (rests (d - deg i))) t firsts m in
     let q = among_mapped (λ r. p.0 ∷ r) t (rests (d - deg p.0)) p.2 in ap (each_in_turn []) (sym q.2))
 

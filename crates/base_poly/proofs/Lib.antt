@@ -9,5 +9,7 @@ pub mod Graded
 pub mod Counted
 pub mod Recursion
 pub mod Only
+pub mod Front
+pub mod Capped
 pub mod Computed
 pub mod Bounded

@@ -6,7 +6,7 @@ use Rattle.raml_syntax.specs.declared.ty.Ty.{Ty}
 use Rattle.raml_syntax.specs.Tree.{Type', Integer, Boolean, PairOf, ListOf, TreeOf}
 use Rattle.raml_syntax.specs.Read.{ty_of}
 use Rattle.base_poly.specs.Plain.{Plain, deg, degrees}
-use Rattle.base_poly.specs.Indices.{IsIndex, AreIndices, zero_of, led_by, lists, indices_up_to, tuples_up_to, by_degree}
+use Rattle.base_poly.specs.Indices.{IsIndex, AreIndices, zero_of, tuples_led, lists, indices_up_to, tuples_up_to, by_degree}
 use Rattle.base_poly.specs.Read.{index_of, plains_of, context_of}
 use Rattle.base_poly.specs.declared.index.Index.{Index}
 use Rattle.base_poly.proofs.Among.{Among}
@@ -97,11 +97,11 @@ low_head A d heads k head same h e = (sound A d (index_of head) (subst (Among (i
 abbrev pub behind : List Plain → Plain → List Plain → List Plain
 behind before i r = before ++ i ∷ r
 
-pub led_behind : (before : List Plain) (rests : ℕ → List (List Plain)) (d : ℕ) (firsts : List Plain) → joined rests (behind before) d firsts ≡ map (λ t. before ++ t) (led_by rests d firsts)
+pub led_behind : (before : List Plain) (rests : ℕ → List (List Plain)) (d : ℕ) (firsts : List Plain) → joined rests (behind before) d firsts ≡ map (λ t. before ++ t) (tuples_led rests d firsts)
 led_behind before rests d [] = refl
 led_behind before rests d (i ∷ is) =
     (λ n. sym (map-map (λ t. before ++ t) (λ r. i ∷ r) (rests (d - deg i))) n ++ led_behind before rests d is n)
-    ∙ sym (map-append (λ t. before ++ t) (map (λ r. i ∷ r) (rests (d - deg i))) (led_by rests d is))
+    ∙ sym (map-append (λ t. before ++ t) (map (λ r. i ∷ r) (rests (d - deg i))) (tuples_led rests d is))
 
 pub behind_more : (before : List Plain) (i : Plain) (ts : List (List Plain)) → map (λ t. (before ++ i ∷ []) ++ t) ts ≡ map (behind before i) ts
 behind_more before i [] = refl
@@ -109,15 +109,15 @@ behind_more before i (t ∷ ts) = λ n. append_assoc before (i ∷ []) t n ∷ b
 
 pub all_led : (before : List Plain) (rests : ℕ → List (List Plain)) (d : ℕ) (firsts : List Plain) (heads : List Index) (k : ℕ) (now old : List (List Plain)) →
     length heads ≤ k → plains_of heads ≡ firsts → now ++ joined rests (behind before) d (plains_of (drop k heads)) ≡ old ++ joined rests (behind before) d (plains_of heads) →
-    now ≡ old ++ map (λ t. before ++ t) (led_by rests d firsts)
+    now ≡ old ++ map (λ t. before ++ t) (tuples_led rests d firsts)
 all_led before rests d firsts heads k now old end same done =
     sym (append-nil now) ∙ ap (λ hs. now ++ joined rests (behind before) d (plains_of hs)) (sym (drop_all k heads end)) ∙ done
     ∙ ap (λ is. old ++ joined rests (behind before) d is) same ∙ ap (λ ts. old ++ ts) (led_behind before rests d firsts)
 
 pub tuples_step : (types : List Ty) (first : Ty) (d : ℕ) → 1 ≤ length types → first ≡ get_or types 0 first →
-    tuples_up_to (context_of types) d ≡ led_by (tuples_up_to (context_of (take (length types - 1) (drop 1 types)))) d (indices_up_to (ty_of first) d)
+    tuples_up_to (context_of types) d ≡ tuples_led (tuples_up_to (context_of (take (length types - 1) (drop 1 types)))) d (indices_up_to (ty_of first) d)
 tuples_step [] first d h e = absurd (omega (arith, h))
-tuples_step (A ∷ As) first d h e = λ n. led_by (tuples_up_to (context_of (sym (take_all (length (A ∷ As) - 1) As (omega arith)) n))) d (indices_up_to (ty_of (sym e n)) d)
+tuples_step (A ∷ As) first d h e = λ n. tuples_led (tuples_up_to (context_of (sym (take_all (length (A ∷ As) - 1) As (omega arith)) n))) d (indices_up_to (ty_of (sym e n)) d)
 
 pub behind_none : (found now ts : List (List Plain)) (before : List Index) → found ≡ [] → before ≡ [] → now ≡ found ++ map (λ t. plains_of before ++ t) ts → now ≡ ts
 behind_none found now ts before h g new = new ∙ (λ n. h n ++ map (λ t. plains_of (g n) ++ t) ts) ∙ alone ts
@@ -144,11 +144,11 @@ enough_entries items (suc n) (suc m) zero h k = refl
 enough_entries items (suc n) (suc m) (suc d) h k =
     ap (λ l. [] ∷ l) (same_parts (lists items n) (lists items m) (λ i r. i ∷ r) d (items d) (λ e g. enough_entries items n m e (omega arith) (omega arith)))
 
-pub lists_step : (items : ℕ → List Plain) (d : ℕ) → 0 < d → lists items d d ≡ [] ∷ led_by (λ k. lists items k k) (d - 1) (items (d - 1))
+pub lists_step : (items : ℕ → List Plain) (d : ℕ) → 0 < d → lists items d d ≡ [] ∷ tuples_led (λ k. lists items k k) (d - 1) (items (d - 1))
 lists_step items zero h = absurd (omega (arith, h))
 lists_step items (suc d) h =
     ap (λ l. [] ∷ l) (same_parts (lists items d) (λ k. lists items k k) (λ i r. i ∷ r) d (items d) (λ k g. enough_entries items d k k (omega arith) (omega arith)))
-    ∙ ap (λ e. [] ∷ led_by (λ k. lists items k k) e (items e)) back
+    ∙ ap (λ e. [] ∷ tuples_led (λ k. lists items k k) e (items e)) back
   where
     back : d ≡ suc d - 1
     back = omega arith

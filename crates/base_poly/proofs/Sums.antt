@@ -1,7 +1,7 @@
 -- Sums over lists, and list indices over elements.
 use Rattle.std.proofs.Common.{◌≡◌, ℕ, suc, ◌+◌, ◌*◌, inl, inr, List, [], ◌∷◌, ◌++◌, map, flat_map, refl, ap, ◌∙◌, arith}
 use Rattle.raml_syntax.specs.Value.{Value}
-use Rattle.base_poly.specs.Plain.{Plain, Then, entries}
+use Rattle.base_poly.specs.Plain.{Plain, Then, entry_count}
 use Rattle.base_poly.specs.Base.{total, base, along, over, choices}
 use Rattle.base_poly.proofs.Among.{Among}
 
@@ -44,5 +44,5 @@ total_products f g (x ∷ xs) ys =
 -- the first position is the first element's, or a later one
 pub over_more : (i r : Plain) (v : Value) (vs : List Value) → over (Then i r) (v ∷ vs) ≡ base i v * over r vs + over (Then i r) vs
 over_more i r v vs =
-    total_joined (along (Then i r)) (map (λ c. v ∷ c) (choices (entries r) vs)) (choices (suc (entries r)) vs)
-    ∙ ap (λ n. n + over (Then i r) vs) (total_map (along (Then i r)) (λ c. v ∷ c) (choices (entries r) vs) ∙ total_scaled (base i v) (along r) (choices (entries r) vs))
+    total_joined (along (Then i r)) (map (λ c. v ∷ c) (choices (entry_count r) vs)) (choices (suc (entry_count r)) vs)
+    ∙ ap (λ n. n + over (Then i r) vs) (total_map (along (Then i r)) (λ c. v ∷ c) (choices (entry_count r) vs) ∙ total_scaled (base i v) (along r) (choices (entry_count r) vs))

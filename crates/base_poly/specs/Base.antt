@@ -1,7 +1,7 @@
 -- Base polynomials.
 use Rattle.std.specs.Prelude.{ℕ, zero, suc, ◌+◌, ◌*◌, List, [], ◌∷◌, ◌++◌, map}
 use Rattle.raml_syntax.specs.Value.{Value, Both, Cons, Node}
-use Rattle.base_poly.specs.Plain.{Plain, Unit', Pair, End, Then, entries}
+use Rattle.base_poly.specs.Plain.{Plain, Unit', Pair, End, Then, entry_count}
 
 -- the sum of a number over a list
 abbrev pub total : {X : Type 0} → (X → ℕ) → List X → ℕ
@@ -21,9 +21,9 @@ choices (suc k) [] = []
 choices (suc k) (x ∷ xs) = map (λ c. x ∷ c) (choices k xs) ++ choices (suc k) xs
 
 -- the product of a number of the first with one of the others
-abbrev pub led : {X : Type 0} → (X → ℕ) → (List X → ℕ) → List X → ℕ
-led f g [] = 0
-led f g (x ∷ xs) = f x * g xs
+abbrev pub first_times_rest : {X : Type 0} → (X → ℕ) → (List X → ℕ) → List X → ℕ
+first_times_rest f g [] = 0
+first_times_rest f g (x ∷ xs) = f x * g xs
 
 -- the product over the parts of a pair
 abbrev pub on_parts : (Value → ℕ) → (Value → ℕ) → Value → ℕ
@@ -38,16 +38,16 @@ abbrev mutual
   base Unit' v = 1
   base (Pair i j) v = on_parts (base i) (base j) v
   base End v = 1
-  base (Then i r) v = total (led (base i) (along r)) (choices (suc (entries r)) (elements v))
+  base (Then i r) v = total (first_times_rest (base i) (along r)) (choices (suc (entry_count r)) (elements v))
 
   -- the product of a list index's entries at as many elements
   pub along : Plain → List Value → ℕ
-  along (Then i r) vs = led (base i) (along r) vs
+  along (Then i r) vs = first_times_rest (base i) (along r) vs
   along _ vs = 1
 
 -- a list index over the elements: what `base` is at the value that has them
 abbrev pub over : Plain → List Value → ℕ
-over x vs = total (along x) (choices (entries x) vs)
+over x vs = total (along x) (choices (entry_count x) vs)
 
 -- the product over the components of a tuple
 abbrev pub bases : List Plain → List Value → ℕ

@@ -26,8 +26,8 @@ abbrev pub tallied : List Plain → List (Plain × ℕ)
 tallied ps = fold count_one [] ps
 
 -- the sum of the base polynomials, each times its number
-abbrev pub weighed : Value → List (Plain × ℕ) → ℕ
-weighed v es = total (λ e. e.1 * base e.0 v) es
+abbrev pub counted_worth : Value → List (Plain × ℕ) → ℕ
+counted_worth v es = total (λ e. e.1 * base e.0 v) es
 
 -- it counts, and it is an index of each type that both have, of no higher degree than theirs together
 pub record IsTerm (i j : Plain) (e : Plain × ℕ) : Type 0 where

@@ -4,7 +4,7 @@ use Rattle.std.specs.declared.cmp.Ordering.{Ordering}
 use Rattle.std.specs.declared.cmp.Ordering.TheVariants.{Less, Equal, Greater}
 use Rattle.std.specs.Ordering.{ordering_then, nat_cmp}
 use Rattle.raml_syntax.specs.Tree.{Type', Integer, Boolean, PairOf, ListOf, TreeOf}
-use Rattle.base_poly.specs.Plain.{Plain, Unit', Pair, End, Then, many, deg, degrees, order}
+use Rattle.base_poly.specs.Plain.{Plain, Unit', Pair, End, Then, many, deg, degrees, capped, order}
 
 -- it is an index of the type
 abbrev pub IsIndex : Plain → Type' → Type 0
@@ -42,6 +42,10 @@ each_in_turn (i ∷ is) (j ∷ js) = ordering_then (order i j) (each_in_turn is 
 abbrev pub tuple_order : List Plain → List Plain → Ordering
 tuple_order is js = ordering_then (nat_cmp (degrees is) (degrees js)) (each_in_turn is js)
 
+-- The order of tuples in the code: degrees past 32 bits count as one. The components are compared as the entries of a list index.
+abbrev pub capped_order : List Plain → List Plain → Ordering
+capped_order is js = ordering_then (nat_cmp (capped (degrees is)) (capped (degrees js))) (order (many is) (many js))
+
 -- each is less than all behind it
 module _ {X : Type 0} (by : X → X → Ordering) where
   abbrev pub IsBefore : X → List X → Type 0
@@ -58,8 +62,8 @@ pub record ListsTuples (As : List Type') (d : ℕ) (ts : List (List Plain)) : Ty
   pub exactly : (t : List Plain) → Contains ts t ↔ (AreIndices t As × (degrees t ≤ d))
 
 -- each of the firsts before each of those that may follow it at degree d
-abbrev pub led_by : (ℕ → List (List Plain)) → ℕ → List Plain → List (List Plain)
-led_by rests d firsts = flat_map (λ i. map (λ r. i ∷ r) (rests (d - deg i))) firsts
+abbrev pub tuples_led : (ℕ → List (List Plain)) → ℕ → List Plain → List (List Plain)
+tuples_led rests d firsts = flat_map (λ i. map (λ r. i ∷ r) (rests (d - deg i))) firsts
 
 -- the pairs of each of the firsts with each of the seconds that may follow it at degree d
 abbrev pub pairs_led : (ℕ → List Plain) → ℕ → List Plain → List Plain
@@ -69,7 +73,7 @@ pairs_led seconds d firsts = flat_map (λ i. map (λ j. Pair i j) (seconds (d - 
 abbrev pub lists : (ℕ → List Plain) → ℕ → ℕ → List (List Plain)
 lists items zero d = [] ∷ []
 lists items (suc n) zero = [] ∷ []
-lists items (suc n) (suc d) = [] ∷ led_by (lists items n) d (items d)
+lists items (suc n) (suc d) = [] ∷ tuples_led (lists items n) d (items d)
 
 -- the indices of a type of at most this degree, in order
 abbrev pub indices_up_to : Type' → ℕ → List Plain
@@ -82,7 +86,7 @@ indices_up_to (TreeOf A) d = map many (lists (indices_up_to A) d d)
 -- the tuples of a context of at most this degree, component by component
 abbrev pub tuples_up_to : List Type' → ℕ → List (List Plain)
 tuples_up_to [] d = [] ∷ []
-tuples_up_to (A ∷ As) d = led_by (tuples_up_to As) d (indices_up_to A d)
+tuples_up_to (A ∷ As) d = tuples_led (tuples_up_to As) d (indices_up_to A d)
 
 -- those of each degree from `from` on, for n degrees
 abbrev pub by_degree : ℕ → ℕ → List (List Plain) → List (List Plain)

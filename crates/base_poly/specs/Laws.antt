@@ -1,9 +1,9 @@
 -- Laws of indices and of base polynomials.
-use Rattle.std.specs.Prelude.{◌≡◌, ◌≤◌, ℕ, zero, suc, ◌+◌, ◌*◌, ◌^◌, List, [], ◌∷◌, map, length, replicate, slice_get, Some}
+use Rattle.std.specs.Prelude.{◌≡◌, ◌≤◌, ◌<◌, ℕ, zero, suc, ◌+◌, ◌*◌, ◌^◌, List, [], ◌∷◌, ◌++◌, map, length, replicate, slice_get, Some}
 use Rattle.raml_syntax.specs.Tree.{Type'}
 use Rattle.raml_syntax.specs.Value.{Value, Has, Empty, Cons, Node, size}
 use Rattle.base_poly.specs.Plain.{Plain, Unit', many, deg, degrees}
-use Rattle.base_poly.specs.Indices.{IsIndex, zero_of, ListsTuples, index_list}
+use Rattle.base_poly.specs.Indices.{IsIndex, zero_of, ListsTuples, tuple_order, capped_order, index_list}
 use Rattle.base_poly.specs.Base.{total, elements, base, bases}
 
 -- the list of tuples is all of them in order, and no other list is; the first of them has the zero index of each type
@@ -11,6 +11,14 @@ pub record IndicesAreListed : Type 0 where
   pub listed : (As : List Type') (d : ℕ) → ListsTuples As d (index_list As d)
   pub first : (As : List Type') (d : ℕ) → slice_get (index_list As d) 0 ≡ Some (map zero_of As)
   pub only : (As : List Type') (d : ℕ) (ts us : List (List Plain)) → ListsTuples As d ts → ListsTuples As d us → ts ≡ us
+
+-- The tuples of a lower degree stand first in the list, at the same positions.
+abbrev pub LowerStandFirst : Type 0
+LowerStandFirst = (As : List Type') (low high : ℕ) → low ≤ high → (more : List (List Plain)) × (index_list As high ≡ index_list As low ++ more)
+
+-- Tuples whose degrees fit 32 bits are ordered by degree, and then component by component.
+abbrev pub TuplesAreOrdered : Type 0
+TuplesAreOrdered = (t u : List Plain) → degrees t < 2 ^ 32 → degrees u < 2 ^ 32 → capped_order t u ≡ tuple_order t u
 
 -- the one index of degree 0, which is 1 at every value of its type
 pub record HasZero (A : Type') : Type 0 where

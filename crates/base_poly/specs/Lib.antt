@@ -8,3 +8,4 @@ pub mod Example
 pub mod Read
 pub mod Total
 pub mod Stored
+pub mod Poly

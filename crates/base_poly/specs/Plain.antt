@@ -1,5 +1,5 @@
 -- Indices as plain data, and their order.
-use Rattle.std.specs.Prelude.{ℕ, zero, suc, ◌+◌, Bool, List, [], ◌∷◌, ◌++◌}
+use Rattle.std.specs.Prelude.{ℕ, zero, suc, ◌+◌, ◌-◌, ◌^◌, min, Bool, List, [], ◌∷◌, ◌++◌}
 use Rattle.std.specs.declared.cmp.Ordering.{Ordering}
 use Rattle.std.specs.declared.cmp.Ordering.TheVariants.{Less, Equal, Greater}
 use Rattle.std.specs.Ordering.{ordering_then, eq_by_cmp}
@@ -17,9 +17,9 @@ many [] = End
 many (i ∷ is) = Then i (many is)
 
 -- how many entries a list index has
-abbrev pub entries : Plain → ℕ
-entries (Then i r) = suc (entries r)
-entries _ = zero
+abbrev pub entry_count : Plain → ℕ
+entry_count (Then i r) = suc (entry_count r)
+entry_count _ = zero
 
 -- the entries of a list index
 abbrev pub entries_of : Plain → List Plain
@@ -37,6 +37,10 @@ deg (Then i r) = 1 + deg i + deg r
 abbrev pub degrees : List Plain → ℕ
 degrees [] = 0
 degrees (i ∷ is) = deg i + degrees is
+
+-- a degree as the code compares it, in 32 bits
+abbrev pub capped : ℕ → ℕ
+capped n = min n (2 ^ 32 - 1)
 
 -- the unit before pairs before lists; pairs by first part, then second; lists entry by entry, a proper prefix first
 abbrev pub order : Plain → Plain → Ordering
@@ -59,6 +63,10 @@ order (Then x r) (Then y s) = ordering_then (order x y) (order r s)
 
 abbrev pub same : Plain → Plain → Bool
 same = eq_by_cmp order
+
+-- the same for tuples
+abbrev pub alike : List Plain → List Plain → Bool
+alike t u = same (many t) (many u)
 
 -- what is hashed: each list is closed, so that the writes of two indices differ
 abbrev pub writes : Plain → List (List ℕ)

@@ -1,14 +1,14 @@
 -- The orders of indices and of tuples are total, and equal indices are one.
-use Rattle.std.specs.Prelude.{◌≡◌, ℕ, List, [], ◌∷◌, ◌++◌, refl, IsTrue}
+use Rattle.std.specs.Prelude.{◌≡◌, ℕ, Bool, List, [], ◌∷◌, ◌++◌, true, refl, IsTrue}
 use Rattle.std.proofs.Common.{sym, ◌∙◌, ap, subst, append_assoc, append-nil}
 use Rattle.std.specs.declared.cmp.Ordering.{Ordering}
 use Rattle.std.specs.declared.cmp.Ordering.TheVariants.{Less, Equal, Greater}
-use Rattle.std.specs.Ordering.{ordering_then, is_eq, nat_cmp}
+use Rattle.std.specs.Ordering.{ordering_then, ordering_reverse, is_eq, eq_by_cmp, nat_cmp}
 use Rattle.std.specs.Cmp.{IsTotalOrder}
 use Rattle.std.specs.Cmp.Lexicographic.{slice_cmp}
-use Rattle.std.proofs.lemmas.Cmp.{on_total, then_total, nat_cmp_total, nat_list_cmp_total}
-use Rattle.base_poly.specs.Plain.{Plain, Unit', Pair, End, Then, many, degrees, order, same, writes}
-use Rattle.base_poly.specs.Indices.{each_in_turn, tuple_order}
+use Rattle.std.proofs.lemmas.Cmp.{on_total, then_total, nat_cmp_total, nat_list_cmp_total, eq_by_cmp_equiv}
+use Rattle.base_poly.specs.Plain.{Plain, Unit', Pair, End, Then, many, entries_of, degrees, capped, order, same, alike, writes}
+use Rattle.base_poly.specs.Indices.{each_in_turn, tuple_order, capped_order}
 
 -- an index as a list of numbers, which sorts as the index does
 abbrev spell : Plain → List ℕ
@@ -72,6 +72,9 @@ order_many (i ∷ is) (j ∷ js) = ap (ordering_then (order i j)) (order_many is
 pub tuple_total : IsTotalOrder tuple_order
 tuple_total = subst IsTotalOrder (λ n x y. ordering_then (nat_cmp (degrees x) (degrees y)) (order_many x y n)) (then_total (on_total degrees nat_cmp_total) (on_total many order_total))
 
+pub capped_total : IsTotalOrder capped_order
+capped_total = then_total (on_total (λ t. capped (degrees t)) nat_cmp_total) (on_total many order_total)
+
 -- equal answers come from equal parts
 first_equal : (a b : Ordering) → ordering_then a b ≡ Equal → a ≡ Equal
 first_equal Less b h = h
@@ -117,3 +120,46 @@ same_is x y h = equal_is_one x y (is_Equal (order x y) h)
 
 pub writes_alike : (x y : Plain) → IsTrue (same x y) → writes x ≡ writes y
 writes_alike x y h = ap writes (same_is x y h)
+
+-- Tuples
+
+pub entries_of_many : (is : List Plain) → entries_of (many is) ≡ is
+entries_of_many [] = refl
+entries_of_many (i ∷ is) = ap (λ l. i ∷ l) (entries_of_many is)
+
+pub alike_is : (t u : List Plain) → alike t u ≡ true → t ≡ u
+alike_is t u h = sym (entries_of_many t) ∙ ap entries_of (same_is (many t) (many u) h) ∙ entries_of_many u
+
+pub alike_self : (t : List Plain) → alike t t ≡ true
+alike_self t = (eq_by_cmp_equiv order_total).refl (many t)
+
+tied : (o : Ordering) → o ≡ ordering_reverse o → o ≡ Equal
+tied Less h = cc
+tied Equal h = refl
+tied Greater h = cc
+
+-- equal tuples are those that their order does not tell apart
+pub alike_capped : (x y : List Plain) → alike x y ≡ eq_by_cmp capped_order x y
+alike_capped x y = at (order (many x) (many y)) refl
+  where
+    with_degrees : Ordering → Bool
+    with_degrees o = is_eq (ordering_then (nat_cmp (capped (degrees x)) (capped (degrees y))) o)
+
+    not_less : (o : Ordering) → is_eq Less ≡ is_eq (ordering_then o Less)
+    not_less Less = refl
+    not_less Equal = refl
+    not_less Greater = refl
+
+    not_greater : (o : Ordering) → is_eq Greater ≡ is_eq (ordering_then o Greater)
+    not_greater Less = refl
+    not_greater Equal = refl
+    not_greater Greater = refl
+
+    at : (o : Ordering) → order (many x) (many y) ≡ o → is_eq o ≡ with_degrees o
+    at Less e = not_less (nat_cmp (capped (degrees x)) (capped (degrees y)))
+    at Greater e = not_greater (nat_cmp (capped (degrees x)) (capped (degrees y)))
+    at Equal e =
+        let one = sym (entries_of_many x) ∙ ap entries_of (equal_is_one (many x) (many y) e) ∙ entries_of_many y in
+        let n = capped (degrees x) in
+        let same = tied (nat_cmp n n) (nat_cmp_total.antisymm n n) in
+        sym (ap (λ o. is_eq (ordering_then o Equal)) ((λ i. nat_cmp n (capped (degrees (sym one i)))) ∙ same))

@@ -3,16 +3,19 @@ ghost use Rattle.std.specs.Prelude.{◌≡◌, ◌<◌, ◌^◌, refl, fold, IfO
 ghost use Rattle.std.specs.Ordering.{on, eq_by_cmp, as_partial_cmp};
 ghost use Rattle.std.specs.Cmp.{partial_equiv_from_equiv, partial_order_from_total};
 ghost use Rattle.std.proofs.lemmas.Cmp.{on_total, on_equiv, eq_by_cmp_equiv};
-ghost use Rattle.base_poly.specs.Plain.{many, deg, degrees, order, writes};
+ghost use Rattle.raml_syntax.specs.Read.{ty_of};
+ghost use Rattle.base_poly.specs.Plain.{many, deg, capped, order, writes};
+ghost use Rattle.base_poly.specs.Indices.{zero_of};
 ghost use Rattle.base_poly.specs.Read.{index_of, plains_of};
 ghost use Rattle.base_poly.specs.Total.{order_total, writes_alike};
 
+use raml_syntax::Ty;
 use std::alloc::{AllocError, Global};
 use std::cmp::Ordering;
 use std::hash::{Hash, Hasher};
 
 /// An index of a type. It names a base polynomial of the type's values.
-#[derive(Drop)]
+#[derive(Debug, Drop)]
 pub enum Index {
     /// The index of integers and of booleans.
     Unit,
@@ -23,15 +26,38 @@ pub enum Index {
 }
 
 impl Index {
+    /// The index of degree 0 of a type, which it has alone, and which counts 1 at every value.
+    pub fn zero(alloc: Global, ty: &Ty) -> Result<Index, AllocError>
+        ensures { IfOk result (λ found. index_of found ≡ zero_of (ty_of ty.now)) }
+    {
+        match ty {
+            Ty::Int | Ty::Bool => Ok(Index::Unit),
+            Ty::Pair(first, second) => Ok(Index::Pair(
+                Box::new(alloc, Index::zero(alloc, first)?)?,
+                Box::new(alloc, Index::zero(alloc, second)?)?,
+            )),
+            Ty::List(_) | Ty::Tree(_) => Ok(Index::List(Vec::new(alloc))),
+        }
+    }
+
     /// The degree: the number of entries of all lists in the index.
-    #[cycle(degree)]
     pub fn degree(&self) -> u32
         requires { deg (index_of self.now) < 2 ^ 32 }
         ensures { result ≡ deg (index_of self.now) }
     {
+        self.capped_degree()
+    }
+
+    /// The degree, or 2^32 - 1 where it is greater.
+    #[cycle(degree)]
+    pub(crate) fn capped_degree(&self) -> u32
+        ensures { result ≡ capped (deg (index_of self.now)) }
+    {
         match self {
             Index::Unit => 0,
-            Index::Pair(first, second) => first.degree() + second.degree(),
+            Index::Pair(first, second) => {
+                first.capped_degree().saturating_add(second.capped_degree())
+            }
             Index::List(entries) => degree_of_entries(entries),
         }
     }
@@ -81,12 +107,11 @@ impl Index {
 // Each entry counts for one beside its own degree.
 #[cycle(degree)]
 fn degree_of_entries(entries: &[Index]) -> u32
-    requires { deg (many (plains_of entries.now)) < 2 ^ 32 }
-    ensures { result ≡ deg (many (plains_of entries.now)) }
+    ensures { result ≡ capped (deg (many (plains_of entries.now))) }
 {
-    let mut sum = 0;
+    let mut sum: u32 = 0;
     for entry in entries {
-        sum += 1 + entry.degree();
+        sum = sum.saturating_add(1).saturating_add(entry.capped_degree());
     }
     sum
 }

@@ -1,10 +1,20 @@
 // Laws of indices and of base polynomials: each is the contract of a function that does nothing.
-ghost use Rattle.base_poly.specs.Laws.{IndicesAreListed, TypesHaveZero, BaseByValue, BinomialsAreBase, BaseIsBounded};
+ghost use Rattle.base_poly.specs.Laws.{IndicesAreListed, LowerStandFirst, TuplesAreOrdered, TypesHaveZero, BaseByValue, BinomialsAreBase, BaseIsBounded};
 ghost use Rattle.base_poly.specs.Example.{Examples};
 
 /// The tuples of a context up to a degree have one list in order.
 pub fn indices_are_listed()
     ensures { IndicesAreListed }
+{}
+
+/// The list of a lower degree is the front of that of a higher one.
+pub fn lower_stand_first()
+    ensures { LowerStandFirst }
+{}
+
+/// The code's order of tuples is that of the lists, where degrees fit 32 bits.
+pub fn tuples_are_ordered()
+    ensures { TuplesAreOrdered }
 {}
 
 /// Each type has one index of degree 0, which counts 1 at every value.

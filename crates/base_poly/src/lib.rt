@@ -13,6 +13,3 @@ pub use index::Index;
 pub use list::indices;
 pub use products::multiply;
 pub use tuple::{Poly, Tuple};
-
-#[cfg(test)]
-mod tests;

@@ -2,12 +2,12 @@
 ghost use Rattle.std.specs.Prelude.{◌≡◌, ◌<◌, ◌≤◌, ◌+◌, ◌-◌, [], ◌∷◌, ◌++◌, All, map, filter, not, length, nat_eq, vec_len, IfOk, OnOk, IsErrOf};
 ghost use Rattle.raml_syntax.specs.Read.{ty_of};
 ghost use Rattle.base_poly.specs.Plain.{Unit', Pair, many, deg, degrees};
-ghost use Rattle.base_poly.specs.Indices.{led_by, pairs_led, lists, indices_up_to, tuples_up_to, index_list, ListsTuples};
+ghost use Rattle.base_poly.specs.Indices.{tuples_led, pairs_led, lists, indices_up_to, tuples_up_to, index_list, ListsTuples};
 ghost use Rattle.base_poly.specs.Read.{index_of, plains_of, context_of};
 
 use crate::fault::IndexFault;
 use crate::index::{Index, copy_all};
-use crate::tuple::{Tuple, lead_all};
+use crate::tuple::{Tuple, append_with_head};
 use raml_syntax::Ty;
 use std::alloc::{AllocError, Global};
 
@@ -73,20 +73,22 @@ fn append_tuples(
     most: usize,
 ) -> Result<(), IndexFault>
     requires { vec_len found.old ≤ most }
-    ensures all { OnOk result (found.new.items ≡ found.old.items ++ map (λ t. plains_of before.old.items ++ t) (tuples_up_to (context_of types.now) d)) }
+    ensures all { OnOk result (found.new.items
+        ≡ found.old.items
+        ++ map (λ t. plains_of before.old.items ++ t) (tuples_up_to (context_of types.now) d)) }
     ensures kept { OnOk result (before.new.items ≡ before.old.items) }
     ensures few { OnOk result (vec_len found.new ≤ most) }
     ensures many { IsErrOf result IndexFault.TooMany → most < length found.old.items + length (tuples_up_to (context_of types.now) d) }
 {
     match types {
         [] => append_tuple(alloc, found, before, most),
-        [first, rest @ ..] => append_led(alloc, found, before, first, rest, d, most),
+        [first, rest @ ..] => append_by_first_type(alloc, found, before, first, rest, d, most),
     }
 }
 
 // Appends those of the first type and the rest.
 #[cycle(of_types)]
-fn append_led(
+fn append_by_first_type(
     alloc: Global,
     found: &mut Vec<Tuple>,
     before: &mut Vec<Index>,
@@ -96,21 +98,25 @@ fn append_led(
     most: usize,
 ) -> Result<(), IndexFault>
     requires { vec_len found.old ≤ most }
-    ensures all { OnOk result (found.new.items ≡ found.old.items ++ map (λ t. plains_of before.old.items ++ t) (led_by (tuples_up_to (context_of rest.now)) d (indices_up_to (ty_of first.now) d))) }
+    ensures all { OnOk result (found.new.items
+        ≡ found.old.items
+        ++ map (λ t. plains_of before.old.items ++ t) (tuples_led (tuples_up_to (context_of rest.now)) d (indices_up_to (ty_of first.now) d))) }
     ensures kept { OnOk result (before.new.items ≡ before.old.items) }
     ensures few { OnOk result (vec_len found.new ≤ most) }
-    ensures many { IsErrOf result IndexFault.TooMany → most < length found.old.items + length (led_by (tuples_up_to (context_of rest.now)) d (indices_up_to (ty_of first.now) d)) }
+    ensures many { IsErrOf result IndexFault.TooMany →
+        most < length found.old.items
+        + length (tuples_led (tuples_up_to (context_of rest.now)) d (indices_up_to (ty_of first.now) d)) }
 {
     let heads = indices_up_to(alloc, first, d, most)?;
     for head in &heads {
-        append_with(alloc, found, before, head, rest, d, most)?;
+        append_by_first_index(alloc, found, before, head, rest, d, most)?;
     }
     Ok(())
 }
 
 // Appends those that have this index behind `before`, and leave the degree at most `d`.
 #[cycle(of_types)]
-fn append_with(
+fn append_by_first_index(
     alloc: Global,
     found: &mut Vec<Tuple>,
     before: &mut Vec<Index>,
@@ -121,10 +127,13 @@ fn append_with(
 ) -> Result<(), IndexFault>
     requires room { vec_len found.old ≤ most }
     requires low { deg (index_of head.now) ≤ d }
-    ensures all { OnOk result (found.new.items ≡ found.old.items ++ map (λ r. plains_of before.old.items ++ index_of head.now ∷ r) (tuples_up_to (context_of rest.now) (d - deg (index_of head.now)))) }
+    ensures all { OnOk result (found.new.items
+        ≡ found.old.items
+        ++ map (λ r. plains_of before.old.items ++ index_of head.now ∷ r) (tuples_up_to (context_of rest.now) (d - deg (index_of head.now)))) }
     ensures kept { OnOk result (before.new.items ≡ before.old.items) }
     ensures few { OnOk result (vec_len found.new ≤ most) }
-    ensures many { IsErrOf result IndexFault.TooMany → most < length found.old.items + length (tuples_up_to (context_of rest.now) (d - deg (index_of head.now))) }
+    ensures many { IsErrOf result IndexFault.TooMany →
+        most < length found.old.items + length (tuples_up_to (context_of rest.now) (d - deg (index_of head.now))) }
 {
     let place = before.len();
     before.push(head.copy(alloc)?)?;
@@ -161,13 +170,11 @@ fn only_empty(alloc: Global, most: usize) -> Result<Vec<Tuple>, IndexFault>
     if most == 0 {
         return Err(IndexFault::TooMany);
     }
-    let mut found = Vec::new(alloc);
-    found.push(Tuple::new(Vec::new(alloc)))?;
-    Ok(found)
+    Ok(vec![in alloc; Tuple::new(Vec::new(alloc))]?)
 }
 
 // Appends the index before each of the tuples.
-fn append_lists_led(
+fn append_with_head_within(
     alloc: Global,
     found: &mut Vec<Tuple>,
     first: &Index,
@@ -182,7 +189,7 @@ fn append_lists_led(
     if rests.len() > most - found.len() {
         return Err(IndexFault::TooMany);
     }
-    Ok(lead_all(alloc, found, first, rests)?)
+    Ok(append_with_head(alloc, found, first, rests)?)
 }
 
 // All indices of the type, in order.
@@ -211,9 +218,7 @@ fn only_unit(alloc: Global, most: usize) -> Result<Vec<Index>, IndexFault>
     if most == 0 {
         return Err(IndexFault::TooMany);
     }
-    let mut found = Vec::new(alloc);
-    found.push(Index::Unit)?;
-    Ok(found)
+    Ok(vec![in alloc; Index::Unit]?)
 }
 
 // All indices of the pairs of these two types.
@@ -227,19 +232,20 @@ fn pairs_up_to(
 ) -> Result<Vec<Index>, IndexFault>
     ensures all { IfOk result (λ found. plains_of found.items ≡ pairs_led (indices_up_to (ty_of second.now)) d (indices_up_to (ty_of first.now) d)) }
     ensures few { IfOk result (λ found. vec_len found ≤ most) }
-    ensures many { IsErrOf result IndexFault.TooMany → most < length (pairs_led (indices_up_to (ty_of second.now)) d (indices_up_to (ty_of first.now) d)) }
+    ensures many { IsErrOf result IndexFault.TooMany →
+        most < length (pairs_led (indices_up_to (ty_of second.now)) d (indices_up_to (ty_of first.now) d)) }
 {
     let heads = indices_up_to(alloc, first, d, most)?;
     let mut found = Vec::new(alloc);
     for head in &heads {
-        append_pairs(alloc, &mut found, head, second, d, most)?;
+        append_pairs_by_head(alloc, &mut found, head, second, d, most)?;
     }
     Ok(found)
 }
 
 // Appends the pairs of the index with each one of the second type that leaves the degree at most `d`.
 #[cycle(of_type)]
-fn append_pairs(
+fn append_pairs_by_head(
     alloc: Global,
     found: &mut Vec<Index>,
     head: &Index,
@@ -249,16 +255,19 @@ fn append_pairs(
 ) -> Result<(), IndexFault>
     requires room { vec_len found.old ≤ most }
     requires low { deg (index_of head.now) ≤ d }
-    ensures all { OnOk result (plains_of found.new.items ≡ plains_of found.old.items ++ map (λ j. Pair (index_of head.now) j) (indices_up_to (ty_of second.now) (d - deg (index_of head.now)))) }
+    ensures all { OnOk result (plains_of found.new.items
+        ≡ plains_of found.old.items
+        ++ map (λ j. Pair (index_of head.now) j) (indices_up_to (ty_of second.now) (d - deg (index_of head.now)))) }
     ensures few { OnOk result (vec_len found.new ≤ most) }
-    ensures many { IsErrOf result IndexFault.TooMany → most < length found.old.items + length (indices_up_to (ty_of second.now) (d - deg (index_of head.now))) }
+    ensures many { IsErrOf result IndexFault.TooMany →
+        most < length found.old.items + length (indices_up_to (ty_of second.now) (d - deg (index_of head.now))) }
 {
     let seconds = indices_up_to(alloc, second, d - head.degree(), most)?;
-    append_paired(alloc, found, head, seconds, most)
+    append_pairs_within(alloc, found, head, seconds, most)
 }
 
 // Appends the pairs of the first with each of the seconds.
-fn append_paired(
+fn append_pairs_within(
     alloc: Global,
     found: &mut Vec<Index>,
     first: &Index,
@@ -266,7 +275,8 @@ fn append_paired(
     most: usize,
 ) -> Result<(), IndexFault>
     requires { vec_len found.old ≤ most }
-    ensures all { OnOk result (plains_of found.new.items ≡ plains_of found.old.items ++ map (λ j. Pair (index_of first.now) j) (plains_of seconds.items)) }
+    ensures all { OnOk result (plains_of found.new.items
+        ≡ plains_of found.old.items ++ map (λ j. Pair (index_of first.now) j) (plains_of seconds.items)) }
     ensures few { OnOk result (vec_len found.new ≤ most) }
     ensures many { IsErrOf result IndexFault.TooMany → most < length found.old.items + length seconds.items }
 {
@@ -300,12 +310,12 @@ fn lists_up_to(alloc: Global, element: &Ty, d: u32, most: usize) -> Result<Vec<T
     if d == 0 {
         return Ok(found);
     }
-    lists_led(alloc, found, element, d - 1, most)
+    with_nonempty_lists(alloc, found, element, d - 1, most)
 }
 
 // Those found, and after them all that have a first entry and degree at most `d` beside its place.
 #[cycle(of_type)]
-fn lists_led(
+fn with_nonempty_lists(
     alloc: Global,
     mut found: Vec<Tuple>,
     element: &Ty,
@@ -313,20 +323,23 @@ fn lists_led(
     most: usize,
 ) -> Result<Vec<Tuple>, IndexFault>
     requires { vec_len found ≤ most }
-    ensures all { IfOk result (λ all. all.items ≡ found.items ++ led_by (λ k. lists (indices_up_to (ty_of element.now)) k k) d (indices_up_to (ty_of element.now) d)) }
+    ensures all { IfOk result (λ all. all.items
+        ≡ found.items ++ tuples_led (λ k. lists (indices_up_to (ty_of element.now)) k k) d (indices_up_to (ty_of element.now) d)) }
     ensures few { IfOk result (λ all. vec_len all ≤ most) }
-    ensures many { IsErrOf result IndexFault.TooMany → most < length found.items + length (led_by (λ k. lists (indices_up_to (ty_of element.now)) k k) d (indices_up_to (ty_of element.now) d)) }
+    ensures many { IsErrOf result IndexFault.TooMany →
+        most < length found.items
+        + length (tuples_led (λ k. lists (indices_up_to (ty_of element.now)) k k) d (indices_up_to (ty_of element.now) d)) }
 {
     let heads = indices_up_to(alloc, element, d, most)?;
     for head in &heads {
-        append_lists(alloc, &mut found, head, element, d, most)?;
+        append_lists_by_head(alloc, &mut found, head, element, d, most)?;
     }
     Ok(found)
 }
 
 // Appends the index before all entries that leave the degree at most `d`.
 #[cycle(of_type)]
-fn append_lists(
+fn append_lists_by_head(
     alloc: Global,
     found: &mut Vec<Tuple>,
     head: &Index,
@@ -336,12 +349,16 @@ fn append_lists(
 ) -> Result<(), IndexFault>
     requires room { vec_len found.old ≤ most }
     requires low { deg (index_of head.now) ≤ d }
-    ensures all { OnOk result (found.new.items ≡ found.old.items ++ map (λ r. index_of head.now ∷ r) (lists (indices_up_to (ty_of element.now)) (d - deg (index_of head.now)) (d - deg (index_of head.now)))) }
+    ensures all { OnOk result (found.new.items
+        ≡ found.old.items
+        ++ map (λ r. index_of head.now ∷ r) (lists (indices_up_to (ty_of element.now)) (d - deg (index_of head.now)) (d - deg (index_of head.now)))) }
     ensures few { OnOk result (vec_len found.new ≤ most) }
-    ensures many { IsErrOf result IndexFault.TooMany → most < length found.old.items + length (lists (indices_up_to (ty_of element.now)) (d - deg (index_of head.now)) (d - deg (index_of head.now))) }
+    ensures many { IsErrOf result IndexFault.TooMany →
+        most < length found.old.items
+        + length (lists (indices_up_to (ty_of element.now)) (d - deg (index_of head.now)) (d - deg (index_of head.now))) }
 {
     let rests = lists_up_to(alloc, element, d - head.degree(), most)?;
-    append_lists_led(alloc, found, head, &rests, most)
+    append_with_head_within(alloc, found, head, &rests, most)
 }
 
 // Each of them as a list index.

@@ -6,12 +6,12 @@ ghost use Rattle.base_poly.specs.Plain.{Unit', Pair, Then, many, deg};
 ghost use Rattle.base_poly.specs.Indices.{IsIndex};
 ghost use Rattle.base_poly.specs.Base.{base};
 ghost use Rattle.base_poly.specs.Product.{product};
-ghost use Rattle.base_poly.specs.Count.{counts_of, count_at, count_one, tallied, weighed, IsTerm};
+ghost use Rattle.base_poly.specs.Count.{counts_of, count_at, count_one, tallied, counted_worth, IsTerm};
 ghost use Rattle.base_poly.specs.Read.{index_of, plains_of};
 
 use crate::index::{Index, copy_all};
 use crate::list::{as_lists, pair};
-use crate::tuple::{Tuple, lead_all};
+use crate::tuple::{Tuple, append_with_head};
 use indexmap::IndexMap;
 use std::alloc::{AllocError, Global};
 
@@ -26,7 +26,8 @@ pub fn multiply(
 ) -> Result<IndexMap<Index, u64>, AllocError>
     requires one_type { (A : Type') × IsIndex (index_of left.now) A × IsIndex (index_of right.now) A }
     requires low { (deg (index_of left.now) ≤ 4) × (deg (index_of right.now) ≤ 4) }
-    ensures worth { IfOk result (λ found. (v : Value) → base (index_of left.now) v * base (index_of right.now) v ≡ weighed v (counts_of found.entries)) }
+    ensures worth { IfOk result (λ found. (v : Value) → base (index_of left.now) v * base (index_of right.now) v
+        ≡ counted_worth v (counts_of found.entries)) }
     ensures tallied { IfOk result (λ found. counts_of found.entries ≡ tallied (product (index_of left.now) (index_of right.now))) }
     ensures terms { IfOk result (λ found. All (IsTerm (index_of left.now) (index_of right.now)) (counts_of found.entries)) }
 {
@@ -74,7 +75,7 @@ fn product(alloc: Global, left: &Index, right: &Index) -> Result<Vec<Index>, All
     ensures { IfOk result (λ found. plains_of found.items ≡ product (index_of left.now) (index_of right.now)) }
 {
     match left {
-        Index::Unit => only_unit(alloc),
+        Index::Unit => Ok(vec![in alloc; Index::Unit]?),
         Index::Pair(first, second) => match right {
             Index::Pair(other, another) => {
                 let heads = product(alloc, first, other)?;
@@ -91,15 +92,6 @@ fn product(alloc: Global, left: &Index, right: &Index) -> Result<Vec<Index>, All
             Index::Unit | Index::Pair(..) => Ok(Vec::new(alloc)),
         },
     }
-}
-
-// The unit alone.
-fn only_unit(alloc: Global) -> Result<Vec<Index>, AllocError>
-    ensures { IfOk result (λ found. plains_of found.items ≡ Unit' ∷ []) }
-{
-    let mut found = Vec::new(alloc);
-    found.push(Index::Unit)?;
-    Ok(found)
 }
 
 // The pairs of each first with each second.
@@ -134,18 +126,9 @@ fn lists_product(alloc: Global, left: &[Index], right: &[Index]) -> Result<Vec<T
     ensures { IfOk result (λ found. map many found.items ≡ product (many (plains_of left.now)) (many (plains_of right.now))) }
 {
     match left {
-        [] => only(alloc, Tuple::new(copy_all(alloc, right)?)),
+        [] => Ok(vec![in alloc; Tuple::new(copy_all(alloc, right)?)]?),
         [first, rest @ ..] => led_product(alloc, first, rest, right),
     }
-}
-
-// The tuple alone.
-fn only(alloc: Global, tuple: Tuple) -> Result<Vec<Tuple>, AllocError>
-    ensures { IfOk result (λ found. found.items ≡ tuple ∷ []) }
-{
-    let mut found = Vec::new(alloc);
-    found.push(tuple)?;
-    Ok(found)
 }
 
 // The products of the list index with this first entry and this rest.
@@ -156,13 +139,14 @@ fn led_product(
     rest: &[Index],
     right: &[Index],
 ) -> Result<Vec<Tuple>, AllocError>
-    ensures { IfOk result (λ found. map many found.items ≡ product (Then (index_of first.now) (many (plains_of rest.now))) (many (plains_of right.now))) }
+    ensures { IfOk result (λ found. map many found.items
+        ≡ product (Then (index_of first.now) (many (plains_of rest.now))) (many (plains_of right.now))) }
 {
     match right {
-        [] => only(
-            alloc,
-            Tuple::new(copy_all(alloc, rest)?).led_by(alloc, first)?,
-        ),
+        [] => {
+            let tuple = Tuple::new(copy_all(alloc, rest)?).with_first(alloc, first)?;
+            Ok(vec![in alloc; tuple]?)
+        }
         [other, others @ ..] => {
             let mine = lists_product(alloc, rest, right)?;
             mixed_product(alloc, first, rest, &mine, other, others)
@@ -189,14 +173,14 @@ fn mixed_product(
     let heads = product(alloc, first, other)?;
     let tails = lists_product(alloc, rest, others)?;
     let mut found = Vec::new(alloc);
-    lead_all(alloc, &mut found, first, mine)?;
-    lead_all(alloc, &mut found, other, &theirs)?;
-    lead_each(alloc, &mut found, &heads, &tails)?;
+    append_with_head(alloc, &mut found, first, mine)?;
+    append_with_head(alloc, &mut found, other, &theirs)?;
+    append_with_heads(alloc, &mut found, &heads, &tails)?;
     Ok(found)
 }
 
 // Appends each of the firsts before each of the tuples.
-fn lead_each(
+fn append_with_heads(
     alloc: Global,
     found: &mut Vec<Tuple>,
     firsts: &[Index],
@@ -205,7 +189,7 @@ fn lead_each(
     ensures { OnOk result (found.new.items ≡ found.old.items ++ flat_map (λ h. map (λ r. h ∷ r) tuples.now) (plains_of firsts.now)) }
 {
     for first in firsts {
-        lead_all(alloc, found, first, tuples)?;
+        append_with_head(alloc, found, first, tuples)?;
     }
     Ok(())
 }

@@ -1,11 +1,12 @@
 // Tuples of indices, and polynomials.
-ghost use Rattle.std.specs.Prelude.{◌≡◌, ◌<◌, ◌^◌, ◌+◌, ◌∷◌, ◌++◌, List, map, length, vec_len, IfOk, OnOk};
-ghost use Rattle.std.specs.Ordering.{on, eq_by_cmp};
-ghost use Rattle.std.specs.Cmp.{partial_equiv_from_equiv};
+ghost use Rattle.std.specs.Prelude.{◌≡◌, ◌<◌, ◌^◌, ◌+◌, ◌∷◌, ◌++◌, List, map, length, vec_len, refl, IfOk, OnOk};
+ghost use Rattle.std.specs.Ordering.{on, eq_by_cmp, as_partial_cmp};
+ghost use Rattle.std.specs.Cmp.{partial_equiv_from_equiv, partial_order_from_agreeing_total};
 ghost use Rattle.std.proofs.lemmas.Cmp.{on_equiv, eq_by_cmp_equiv};
-ghost use Rattle.base_poly.specs.Plain.{Plain, many, degrees, order, writes};
+ghost use Rattle.base_poly.specs.Plain.{Plain, many, degrees, capped, order, writes};
+ghost use Rattle.base_poly.specs.Indices.{capped_order};
 ghost use Rattle.base_poly.specs.Read.{index_of, plains_of};
-ghost use Rattle.base_poly.specs.Total.{order_total, writes_alike};
+ghost use Rattle.base_poly.specs.Total.{order_total, capped_total, alike_capped, writes_alike};
 
 use crate::index::{Index, copy_all, feed_all, order_of_all};
 use std::alloc::{AllocError, Global};
@@ -14,7 +15,7 @@ use std::hash::{Hash, Hasher};
 use std::marker::Model;
 
 /// Indices, one for each variable or argument, seen by contracts as their list.
-#[derive(Drop)]
+#[derive(Debug, Drop)]
 pub struct Tuple {
     parts: Vec<Index>,
 }
@@ -53,11 +54,29 @@ impl Tuple {
         requires { degrees self.now < 2 ^ 32 }
         ensures { result ≡ degrees self.now }
     {
-        let mut sum = 0;
+        self.capped_degree()
+    }
+
+    // The same, or 2^32 - 1 where it is greater.
+    fn capped_degree(&self) -> u32
+        ensures { result ≡ capped (degrees self.now) }
+    {
+        let mut sum: u32 = 0;
         for part in &self.parts {
-            sum += part.degree();
+            sum = sum.saturating_add(part.capped_degree());
         }
         sum
+    }
+
+    // By degree, and then component by component.
+    fn order(&self, other: &Tuple) -> Ordering
+        ensures { result ≡ capped_order self.now other.now }
+    {
+        match self.capped_degree().cmp(&other.capped_degree()) {
+            Ordering::Less => Ordering::Less,
+            Ordering::Equal => order_of_all(&self.parts, &other.parts),
+            Ordering::Greater => Ordering::Greater,
+        }
     }
 
     /// A copy.
@@ -70,7 +89,7 @@ impl Tuple {
     }
 
     /// The tuple with this index before the others.
-    pub fn led_by(&self, alloc: Global, first: &Index) -> Result<Tuple, AllocError>
+    pub fn with_first(&self, alloc: Global, first: &Index) -> Result<Tuple, AllocError>
         ensures { IfOk result (λ led. led ≡ index_of first.now ∷ self.now) }
     {
         let mut parts = Vec::with_capacity(alloc, self.parts.len() + 1)?;
@@ -90,7 +109,7 @@ impl Tuple {
 }
 
 // Appends the index before each of the tuples.
-pub fn lead_all(
+pub fn append_with_head(
     alloc: Global,
     found: &mut Vec<Tuple>,
     first: &Index,
@@ -100,7 +119,7 @@ pub fn lead_all(
     ensures len { OnOk result (vec_len found.new ≡ vec_len found.old + length rests.now) }
 {
     for rest in rests {
-        found.push(rest.led_by(alloc, first)?)?;
+        found.push(rest.with_first(alloc, first)?)?;
     }
     Ok(())
 }
@@ -122,6 +141,30 @@ impl Eq for Tuple {
     ghost laws = { on_equiv many (eq_by_cmp_equiv order_total) };
 }
 
+impl PartialOrd for Tuple {
+    ghost partial_cmp = { as_partial_cmp capped_order };
+
+    ghost laws = { partial_order_from_agreeing_total capped_order capped_total (λ x y. refl) alike_capped };
+
+    fn partial_cmp(&self, other: &Tuple) -> Option<Ordering> {
+        Some(self.order(other))
+    }
+}
+
+impl Ord for Tuple {
+    ghost cmp = { capped_order };
+
+    ghost total = { capped_total };
+
+    ghost matches_partial_cmp = { λ x y. refl };
+
+    ghost matches_eq = { alike_capped };
+
+    fn cmp(&self, other: &Tuple) -> Ordering {
+        self.order(other)
+    }
+}
+
 impl Hash for Tuple {
     ghost hash_input = { λ t. writes (many t) };
 
@@ -134,7 +177,7 @@ impl Hash for Tuple {
 
 /// A polynomial in base polynomials: the sum of its coefficients times the base polynomials of its
 /// tuples, over a denominator.
-#[derive(Drop)]
+#[derive(Debug, Drop)]
 pub struct Poly {
     pub den: i128,
     pub terms: Vec<(Tuple, i128)>,

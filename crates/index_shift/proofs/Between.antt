@@ -2,9 +2,9 @@
 use Rattle.std.proofs.Common.{◌≡◌, ℕ, suc, ◌+◌, ◌<◌, ◌≤◌, List, [], ◌∷◌, length, position, Option, None, Some, All, refl, arith}
 use Rattle.std.proofs.lemmas.List.Elements.{All-nil, All-cons, All-append, All-weaker}
 use Rattle.std.proofs.lemmas.List.Quantifiers.{position-Some}
-use Rattle.base_poly.specs.Plain.{Plain}
+use Rattle.base_poly.specs.Plain.{Plain, alike}
 use Rattle.base_poly.specs.Indices.{index_list}
-use Rattle.index_shift.specs.Maps.{Carry, alike, entry_to, placed, entries_from}
+use Rattle.index_shift.specs.Maps.{Carry, entry_to, placed, entries_from}
 use Rattle.index_shift.specs.Laws.{IsBetween, EntriesAreBetween}
 use Rattle.index_shift.specs.declared.entry.Entry.{Entry}
 

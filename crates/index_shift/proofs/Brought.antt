@@ -3,15 +3,14 @@ use Rattle.std.proofs.Common.{◌≡◌, ◌≤◌, ◌<◌, ℕ, zero, suc, ◌
 use Rattle.std.proofs.Math.Nat.{mul-le-mul_left}
 use Rattle.std.proofs.lemmas.Bool.{lt-ltb}
 use Rattle.std.proofs.lemmas.Bool.Decides.{nat_tests}
-use Rattle.std.proofs.lemmas.Cmp.{eq_by_cmp_equiv}
 use Rattle.std.specs.List.{position_or_len}
-use Rattle.base_poly.specs.Plain.{Plain, many, entries_of}
+use Rattle.base_poly.specs.Plain.{Plain, alike}
 use Rattle.base_poly.specs.Base.{total}
-use Rattle.base_poly.specs.Total.{order_total, same_is}
+use Rattle.base_poly.specs.Total.{alike_is, alike_self}
 use Rattle.base_poly.proofs.Among.{Among}
 use Rattle.base_poly.proofs.Sums.{total_joined}
 use Rattle.index_shift.specs.Potential.{Annotation, weighed, moved}
-use Rattle.index_shift.specs.Maps.{Carry, alike, entry_to, placed, entries_from}
+use Rattle.index_shift.specs.Maps.{Carry, entry_to, placed, entries_from}
 use Rattle.index_shift.specs.declared.entry.Entry.{Entry}
 
 -- P of each element
@@ -80,16 +79,6 @@ module _ {X : Type 0} where
       ∙ (λ n. one_moved f xs e.to (e.times * q e.from) n + moved_worth f xs es q n)
 
 -- Positions
-
-pub entries_of_many : (is : List Plain) → entries_of (many is) ≡ is
-entries_of_many [] = refl
-entries_of_many (i ∷ is) = ap (λ l. i ∷ l) (entries_of_many is)
-
-pub alike_is : (t u : List Plain) → alike t u ≡ true → t ≡ u
-alike_is t u h = sym (entries_of_many t) ∙ ap entries_of (same_is (many t) (many u) h) ∙ entries_of_many u
-
-pub alike_self : (t : List Plain) → alike t t ≡ true
-alike_self t = (eq_by_cmp_equiv order_total).refl (many t)
 
 -- a tuple of the list has a position, at which the tuple stands
 record Stands (f : List Plain → ℕ) (t : List Plain) (us : List (List Plain)) : Type 0 where

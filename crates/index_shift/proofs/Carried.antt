@@ -1,5 +1,5 @@
 -- How the parts of a tuple are carried.
-use Rattle.std.proofs.Common.{◌≡◌, ◌≢◌, ◌≤◌, ℕ, suc, ◌+◌, ◌*◌, ◌==◌, if◌then◌else◌, Bool, true, false, List, [], ◌∷◌, ◌++◌, map, All, refl, sym, ap, ◌∙◌, subst, arith}
+use Rattle.std.proofs.Common.{◌≡◌, ◌≢◌, ◌≤◌, ℕ, suc, ◌+◌, ◌*◌, ◌==◌, if◌then◌else◌, Bool, true, false, List, [], ◌∷◌, ◌++◌, map, length, All, refl, sym, ap, ◌∙◌, subst, arith}
 use Rattle.std.proofs.lemmas.Bool.{eqb-true, ne_eqb}
 use Rattle.raml_syntax.specs.Tree.{Type', Integer, Boolean, PairOf, ListOf, TreeOf}
 use Rattle.raml_syntax.specs.Value.{Value, Number, Truth, Both, Empty, Cons, Node, Has}
@@ -7,7 +7,7 @@ use Rattle.base_poly.specs.Plain.{Plain, Unit', Pair, End, Then, many, entries_o
 use Rattle.base_poly.specs.Indices.{IsIndex, AreIndices, zero_of}
 use Rattle.base_poly.specs.Base.{total, base, bases}
 use Rattle.base_poly.specs.Product.{product}
-use Rattle.base_poly.specs.Count.{tallied, weighed as counted_worth, IsTerm}
+use Rattle.base_poly.specs.Count.{tallied, counted_worth, IsTerm}
 use Rattle.base_poly.specs.Laws.{cuts}
 use Rattle.base_poly.proofs.Sums.{total_joined, total_map}
 use Rattle.base_poly.proofs.Exact.{many_entries, as_list}
@@ -35,6 +35,12 @@ are_joined [] t [] Bs h g = g
 are_joined [] t (A ∷ As) Bs h g = absurd h
 are_joined (i ∷ r) t [] Bs h g = absurd h
 are_joined (i ∷ r) t (A ∷ As) Bs h g = (h.0, are_joined r t As Bs h.1 g)
+
+pub as_long : (t : List Plain) (As : List Type') → AreIndices t As → length t ≡ length As
+as_long [] [] h = refl
+as_long [] (A ∷ As) h = absurd h
+as_long (i ∷ t) [] h = absurd h
+as_long (i ∷ t) (A ∷ As) h = ap suc (as_long t As h.1)
 
 degrees_joined : (r t : List Plain) → degrees (r ++ t) ≡ degrees r + degrees t
 degrees_joined [] t = omega arith

@@ -10,7 +10,7 @@ use Rattle.base_poly.proofs.Among.{Among, among_contains, contains_among}
 use Rattle.base_poly.proofs.Exact.{exact}
 use Rattle.index_shift.specs.Parts.{type_parts, value_parts}
 use Rattle.index_shift.specs.Potential.{Annotation, weighed, potential, moved}
-use Rattle.index_shift.specs.Maps.{Carry, in_place, none, twice, behind, opens, leaves, joins, entries, type_at}
+use Rattle.index_shift.specs.Maps.{Carry, in_place, none, twice, behind, opens, leaves, joins, entries, variable_type}
 use Rattle.index_shift.specs.Laws.{OpeningKeeps, LeavingKeeps, LeavingKeepsZero, LeavingLowers, SharingKeeps}
 use Rattle.index_shift.proofs.Brought.{Each, each_weaker, each_among, weighed_same, weighed_less, carried_worth}
 use Rattle.index_shift.proofs.Carried.{Fits, each_map, carried_at, opens_fit, leaves_fit, joins_fit, opens_worth, leaves_worth, leaves_zero, leaves_lower, joins_worth}
@@ -101,7 +101,7 @@ as_one P at xs h = subst P (in_place_one at xs) h
 to_one : {X : Type 0} (P : List X → Type 0) (at : ℕ) (xs : List X) → P xs → P (in_place at one xs)
 to_one P at xs h = subst P (sym (in_place_one at xs)) h
 
-the_type : (As : List Type') (at : ℕ) (A : Type') → slice_get As at ≡ Some A → type_at As at ≡ A
+the_type : (As : List Type') (at : ℕ) (A : Type') → slice_get As at ≡ Some A → variable_type As at ≡ A
 the_type [] at A h = absurd (cc)
 the_type (B ∷ As) zero A h = the_some B A h
 the_type (B ∷ As) (suc k) A h = the_type As k A h

@@ -1,6 +1,8 @@
 pub mod Brought
 pub mod Carried
 pub mod Kept
+pub mod Split
+pub mod Permuted
 pub mod Computed
 pub mod Readings
 pub mod Placed

@@ -9,7 +9,7 @@ use Rattle.base_poly.specs.Plain.{Plain, degrees}
 use Rattle.base_poly.specs.Indices.{AreIndices, index_list}
 use Rattle.base_poly.specs.Read.{context_of}
 use Rattle.base_poly.proofs.Exact.{each_listed}
-use Rattle.index_shift.specs.Maps.{in_place, none, twice, type_at}
+use Rattle.index_shift.specs.Maps.{in_place, none, twice, variable_type}
 use Rattle.index_shift.specs.Read.{CanCarryFirst, CanCarry}
 use Rattle.index_shift.specs.declared.carry.Carry.TheVariants.{Open, Leave, Join}
 use Rattle.index_shift.proofs.Behind.{context_in_place}
@@ -62,7 +62,7 @@ pub changed : (f : Type' → List Type') (As parts whole : List Ty) (at : ℕ) (
 changed f As parts whole at A h e new made =
     made ∙ ap (λ l. context_of (take at As) ++ (l ++ context_of (drop (at + 1) As))) new ∙ context_in_place f at As A h e
 
-pub type_there : (As : List Ty) (at : ℕ) (A : Ty) → at < length As → A ≡ get_or As at A → type_at (context_of As) at ≡ ty_of A
+pub type_there : (As : List Ty) (at : ℕ) (A : Ty) → at < length As → A ≡ get_or As at A → variable_type (context_of As) at ≡ ty_of A
 type_there [] at A h e = absurd (omega (arith, h))
 type_there (B ∷ As) zero A h e = ap ty_of (sym e)
 type_there (B ∷ As) (suc k) A h e = type_there As k A (omega (arith, h)) e

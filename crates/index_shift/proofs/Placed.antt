@@ -5,13 +5,13 @@ use Rattle.std.proofs.lemmas.List.Folds.{list_any-append}
 use Rattle.std.specs.List.{list_any}
 use Rattle.std.specs.declared.cmp.Ordering.TheVariants.{Less}
 use Rattle.indexmap.specs.IndexSet.{insert_key}
-use Rattle.base_poly.specs.Plain.{Plain}
+use Rattle.base_poly.specs.Plain.{Plain, alike}
 use Rattle.base_poly.specs.Indices.{Ascends, tuple_order}
 use Rattle.base_poly.proofs.Only.{never_both}
 use Rattle.base_poly.proofs.Among.{Among, before_one}
-use Rattle.index_shift.specs.Maps.{Carry, alike, entry_to, placed, entries_from}
+use Rattle.index_shift.specs.Maps.{Carry, entry_to, placed, entries_from}
 use Rattle.index_shift.specs.declared.entry.Entry.{Entry}
-use Rattle.index_shift.proofs.Brought.{alike_is}
+use Rattle.base_poly.specs.Total.{alike_is}
 
 pub one_inserted : (ks : List (List Plain)) (ts : List (List Plain)) (t : List Plain) → fold (insert_key alike) ks (ts ++ t ∷ []) ≡ insert_key alike (fold (insert_key alike) ks ts) t
 one_inserted ks ts t = fold-append (insert_key alike) ks ts (t ∷ [])

@@ -7,7 +7,7 @@ use Rattle.base_poly.specs.declared.index.Index.{Index}
 use Rattle.base_poly.specs.declared.index.Index.TheVariants.{Unit as One, List as Items}
 use Rattle.base_poly.proofs.Many.{as_unit, as_list}
 use Rattle.index_shift.specs.Parts.{pair_parts}
-use Rattle.index_shift.proofs.Brought.{entries_of_many}
+use Rattle.base_poly.specs.Total.{entries_of_many}
 
 pub entries_read : (x : Index) (v : Vec Index Global) (is : List Index) → x ≡ Items v → is ≡ v.items → plains_of is ≡ entries_of (index_of x)
 entries_read x v is h e = ap plains_of e ∙ sym (ap entries_of (as_list x v h) ∙ entries_of_many (plains_of v.items))

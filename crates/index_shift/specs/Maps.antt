@@ -1,7 +1,7 @@
 -- The maps.
 use Rattle.std.specs.Prelude.{ℕ, zero, suc, ◌<◌, ◌==◌, ◌⊎◌, Bool, if◌then◌else◌, List, [], ◌∷◌, ◌++◌, map, flat_map, length, position, slice_index_or, Option, None, Some}
 use Rattle.raml_syntax.specs.Tree.{Type', Integer}
-use Rattle.base_poly.specs.Plain.{Plain, many, deg, same}
+use Rattle.base_poly.specs.Plain.{Plain, deg, alike}
 use Rattle.base_poly.specs.Indices.{index_list}
 use Rattle.base_poly.specs.Product.{product}
 use Rattle.base_poly.specs.Count.{tallied}
@@ -45,9 +45,6 @@ abbrev pub joins : Carry
 joins (i ∷ j ∷ t) = map (λ e. (e.0 ∷ t, e.1)) (tallied (product i j))
 joins _ = []
 
-abbrev pub alike : List Plain → List Plain → Bool
-alike t u = same (many t) (many u)
-
 abbrev pub entry_to : ℕ → ℕ → Option ℕ → List Entry
 entry_to from times None = []
 entry_to from times (Some to) = record { from = from; to = to; times = times } ∷ []
@@ -65,12 +62,12 @@ abbrev pub entries : Carry → List Type' → List Type' → ℕ → List Entry
 entries c As Bs d = entries_from 0 c (index_list As d) (index_list Bs d)
 
 -- the type at the place
-abbrev pub type_at : List Type' → ℕ → Type'
-type_at As at = slice_index_or As at Integer
+abbrev pub variable_type : List Type' → ℕ → Type'
+variable_type As at = slice_index_or As at Integer
 
 -- from the context to the one with the parts of the variable in its place
 abbrev pub opening : List Type' → ℕ → ℕ → List Entry
-opening As at d = entries (behind at (opens (type_at As at))) As (in_place at type_parts As) d
+opening As at d = entries (behind at (opens (variable_type As at))) As (in_place at type_parts As) d
 
 -- from the context to the one without the variable
 abbrev pub leaving : List Type' → ℕ → ℕ → List Entry

@@ -8,7 +8,7 @@ ghost use Rattle.base_poly.specs.Read.{index_of, plains_of};
 ghost use Rattle.index_shift.specs.Maps.{behind, opens, leaves, joins};
 ghost use Rattle.index_shift.specs.Read.{carry_of, CanJoin, CanCarry};
 
-use crate::parts::{append, index_parts};
+use crate::parts::{append_copies, index_parts};
 use base_poly::{Index, Tuple, multiply};
 use raml_syntax::Ty;
 use std::alloc::{AllocError, Global};
@@ -26,7 +26,7 @@ pub enum Carry<'a> {
 
 impl<'a> Carry<'a> {
     /// The tuples to which a tuple is carried, and how often each counts.
-    pub fn carried(
+    pub fn targets(
         &self,
         alloc: Global,
         at: usize,
@@ -40,49 +40,51 @@ impl<'a> Carry<'a> {
         let index = &parts[at];
         let after = &parts[at + 1..];
         match self {
-            Carry::Open(ty) => opened(alloc, before, *ty, index, after),
-            Carry::Leave => left(alloc, before, index, after),
-            Carry::Join => joined(alloc, before, index, after),
+            Carry::Open(ty) => open(alloc, before, *ty, index, after),
+            Carry::Leave => leave(alloc, before, index, after),
+            Carry::Join => join(alloc, before, index, after),
         }
     }
 }
 
 // The parts of the index in its place.
-fn opened(
+fn open(
     alloc: Global,
     before: &[Index],
     ty: &Ty,
     index: &Index,
     after: &[Index],
 ) -> Result<Vec<(Tuple, u64)>, AllocError>
-    ensures { IfOk result (λ found. found.items ≡ map (λ e. (plains_of before.now ++ e.0, e.1)) (opens (ty_of ty.now) (index_of index.now ∷ plains_of after.now))) }
+    ensures { IfOk result (λ found. found.items
+        ≡ map (λ e. (plains_of before.now ++ e.0, e.1)) (opens (ty_of ty.now) (index_of index.now ∷ plains_of after.now))) }
 {
     let mut found = Vec::new(alloc);
     for parts in &index_parts(alloc, ty, index)? {
-        found.push((between(alloc, before, parts.parts(), after)?, 1))?;
+        found.push((with_indices(alloc, before, parts.parts(), after)?, 1))?;
     }
     Ok(found)
 }
 
 // The others, where the index has degree 0.
-fn left(
+fn leave(
     alloc: Global,
     before: &[Index],
     index: &Index,
     after: &[Index],
 ) -> Result<Vec<(Tuple, u64)>, AllocError>
     requires { deg (index_of index.now) ≤ 4 }
-    ensures { IfOk result (λ found. found.items ≡ map (λ e. (plains_of before.now ++ e.0, e.1)) (leaves (index_of index.now ∷ plains_of after.now))) }
+    ensures { IfOk result (λ found. found.items
+        ≡ map (λ e. (plains_of before.now ++ e.0, e.1)) (leaves (index_of index.now ∷ plains_of after.now))) }
 {
     let mut found = Vec::new(alloc);
     if index.degree() == 0 {
-        found.push((between(alloc, before, &[], after)?, 1))?;
+        found.push((with_indices(alloc, before, &[], after)?, 1))?;
     }
     Ok(found)
 }
 
 // Each term of the product in place of both indices.
-fn joined(
+fn join(
     alloc: Global,
     before: &[Index],
     index: &Index,
@@ -106,7 +108,8 @@ fn product(
 ) -> Result<Vec<(Tuple, u64)>, AllocError>
     requires one_type { (A : Type') × IsIndex (index_of first.now) A × IsIndex (index_of second.now) A }
     requires low { (deg (index_of first.now) ≤ 4) × (deg (index_of second.now) ≤ 4) }
-    ensures { IfOk result (λ found. found.items ≡ map (λ e. (plains_of before.now ++ e.0, e.1)) (joins (index_of first.now ∷ (index_of second.now ∷ plains_of after.now)))) }
+    ensures { IfOk result (λ found. found.items
+        ≡ map (λ e. (plains_of before.now ++ e.0, e.1)) (joins (index_of first.now ∷ (index_of second.now ∷ plains_of after.now)))) }
 {
     let mut found = Vec::new(alloc);
     let terms = multiply(alloc, first, second)?;
@@ -125,13 +128,13 @@ fn with_index(
     ensures { IfOk result (λ tuple. tuple ≡ plains_of before.now ++ (index_of index.now ∷ plains_of after.now)) }
 {
     let mut parts = Vec::with_capacity(alloc, before.len() + 1 + after.len())?;
-    append(alloc, &mut parts, before)?;
+    append_copies(alloc, &mut parts, before)?;
     parts.push(index.copy(alloc)?)?;
-    append(alloc, &mut parts, after)?;
+    append_copies(alloc, &mut parts, after)?;
     Ok(Tuple::new(parts))
 }
 
-fn between(
+fn with_indices(
     alloc: Global,
     before: &[Index],
     middle: &[Index],
@@ -140,8 +143,8 @@ fn between(
     ensures { IfOk result (λ tuple. tuple ≡ plains_of before.now ++ (plains_of middle.now ++ plains_of after.now)) }
 {
     let mut parts = Vec::with_capacity(alloc, before.len() + middle.len() + after.len())?;
-    append(alloc, &mut parts, before)?;
-    append(alloc, &mut parts, middle)?;
-    append(alloc, &mut parts, after)?;
+    append_copies(alloc, &mut parts, before)?;
+    append_copies(alloc, &mut parts, middle)?;
+    append_copies(alloc, &mut parts, after)?;
     Ok(Tuple::new(parts))
 }

@@ -57,17 +57,18 @@ pub fn in_place(
     types: &[Ty],
 ) -> Result<Vec<Ty>, AllocError>
     requires { at < length context.now }
-    ensures { IfOk result (λ whole. context_of whole.items ≡ context_of (take at context.now) ++ (context_of types.now ++ context_of (drop (at + 1) context.now))) }
+    ensures { IfOk result (λ whole. context_of whole.items
+        ≡ context_of (take at context.now) ++ (context_of types.now ++ context_of (drop (at + 1) context.now))) }
 {
     let mut whole = Vec::new(alloc);
-    append(alloc, &mut whole, &context[..at])?;
-    append(alloc, &mut whole, types)?;
-    append(alloc, &mut whole, &context[at + 1..])?;
+    append_types(alloc, &mut whole, &context[..at])?;
+    append_types(alloc, &mut whole, types)?;
+    append_types(alloc, &mut whole, &context[at + 1..])?;
     Ok(whole)
 }
 
 // Appends copies of the types.
-fn append(alloc: Global, whole: &mut Vec<Ty>, types: &[Ty]) -> Result<(), AllocError>
+fn append_types(alloc: Global, whole: &mut Vec<Ty>, types: &[Ty]) -> Result<(), AllocError>
     ensures { OnOk result (context_of whole.new.items ≡ context_of whole.old.items ++ context_of types.now) }
 {
     for ty in types {

@@ -1,4 +1,5 @@
 // Laws of the maps: each is the contract of a function that does nothing.
+ghost use Rattle.index_shift.specs.Contexts.{PotentialSplits, PermutingKeeps};
 ghost use Rattle.index_shift.specs.Example.{Examples};
 ghost use Rattle.index_shift.specs.Laws.{EntriesAreBetween, OpeningKeeps, LeavingKeeps, LeavingKeepsZero, LeavingLowers, SharingKeeps};
 
@@ -30,6 +31,16 @@ pub fn leaving_lowers()
 /// Where a variable is shared, the potential stays.
 pub fn sharing_keeps()
     ensures { SharingKeeps }
+{}
+
+/// Potential splits over some of the variables and the others.
+pub fn potential_splits()
+    ensures { PotentialSplits }
+{}
+
+/// Where a context is put in another order, the potential stays.
+pub fn permuting_keeps()
+    ensures { PermutingKeeps }
 {}
 
 /// Small maps are what was worked out by hand.

@@ -53,7 +53,8 @@ pub fn shift_tree(alloc: Global, context: &[Ty], at: usize, d: u8) -> Result<Vec
 ///
 /// `TooMany` where one of the two contexts has more than 2000 indices of degree at most `d`.
 pub fn empty_part(alloc: Global, context: &[Ty], at: usize, d: u8) -> Result<Vec<Entry>, MapFault>
-    requires list_or_tree { (A : Type') × ((slice_get (context_of context.now) at ≡ Some (ListOf A)) ⊎ (slice_get (context_of context.now) at ≡ Some (TreeOf A))) }
+    requires list_or_tree { (A : Type') × ((slice_get (context_of context.now) at
+        ≡ Some (ListOf A)) ⊎ (slice_get (context_of context.now) at ≡ Some (TreeOf A))) }
     requires low { d ≤ 4 }
     ensures map { IfOk result (λ found. found.items ≡ leaving (context_of context.now) at d) }
     ensures kept { IfOk result (λ found. KeepsRest found.items (context_of context.now) at d Empty) }
@@ -108,7 +109,7 @@ pub fn share_map(alloc: Global, context: &[Ty], at: usize, d: u8) -> Result<Vec<
     let ty = &context[at];
     let both = two(alloc, ty, ty)?;
     let shared = in_place(alloc, context, at, &both)?;
-    between(alloc, Carry::Join, at, &shared, context, d)
+    entries_between(alloc, Carry::Join, at, &shared, context, d)
 }
 
 // From the context to the one with the parts of the variable in its place.
@@ -123,7 +124,7 @@ fn opening(alloc: Global, context: &[Ty], at: usize, d: u8) -> Result<Vec<Entry>
     let ty = &context[at];
     let parts = type_parts(alloc, ty)?;
     let opened = in_place(alloc, context, at, &parts)?;
-    between(alloc, Carry::Open(ty), at, context, &opened, d)
+    entries_between(alloc, Carry::Open(ty), at, context, &opened, d)
 }
 
 // From the context to the one without the variable.
@@ -138,11 +139,11 @@ fn leaving(alloc: Global, context: &[Ty], at: usize, d: u8) -> Result<Vec<Entry>
     ensures many { IsErrOf result MapFault.TooMany → IsTooLarge (context_of context.now) (in_place at none (context_of context.now)) d }
 {
     let left = in_place(alloc, context, at, &[])?;
-    between(alloc, Carry::Leave, at, context, &left, d)
+    entries_between(alloc, Carry::Leave, at, context, &left, d)
 }
 
 // The entries between two contexts.
-fn between(
+fn entries_between(
     alloc: Global,
     carry: Carry<'_>,
     at: usize,

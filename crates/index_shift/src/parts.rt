@@ -2,7 +2,6 @@
 ghost use Rattle.std.specs.Prelude.{◌≡◌, [], ◌∷◌, ◌++◌, IfOk, OnOk};
 ghost use Rattle.raml_syntax.specs.Read.{ty_of};
 ghost use Rattle.base_poly.specs.Plain.{many, entries_of};
-ghost use Rattle.base_poly.specs.Indices.{zero_of};
 ghost use Rattle.base_poly.specs.Read.{index_of, plains_of};
 ghost use Rattle.index_shift.specs.Parts.{at_trees, list_parts, tree_parts, pair_parts, index_parts};
 
@@ -17,27 +16,13 @@ pub fn index_parts(alloc: Global, ty: &Ty, index: &Index) -> Result<Vec<Tuple>, 
     match ty {
         Ty::Int | Ty::Bool => Ok(Vec::new(alloc)),
         Ty::Pair(..) => pair_parts(alloc, index),
-        Ty::List(element) => list_parts(alloc, &zero_of(alloc, element)?, entries(index)),
-        Ty::Tree(element) => tree_parts(alloc, &zero_of(alloc, element)?, entries(index)),
-    }
-}
-
-// The index of degree 0.
-fn zero_of(alloc: Global, ty: &Ty) -> Result<Index, AllocError>
-    ensures { IfOk result (λ index. index_of index ≡ zero_of (ty_of ty.now)) }
-{
-    match ty {
-        Ty::Int | Ty::Bool => Ok(Index::Unit),
-        Ty::Pair(first, second) => Ok(Index::Pair(
-            Box::new(alloc, zero_of(alloc, first)?)?,
-            Box::new(alloc, zero_of(alloc, second)?)?,
-        )),
-        Ty::List(_) | Ty::Tree(_) => Ok(Index::List(Vec::new(alloc))),
+        Ty::List(element) => list_parts(alloc, &Index::zero(alloc, element)?, list_entries(index)),
+        Ty::Tree(element) => tree_parts(alloc, &Index::zero(alloc, element)?, list_entries(index)),
     }
 }
 
 // The entries of a list index.
-fn entries(index: &Index) -> &[Index]
+fn list_entries(index: &Index) -> &[Index]
     ensures { plains_of result.now ≡ entries_of (index_of index.now) }
 {
     match index {
@@ -55,19 +40,10 @@ fn pair_parts(alloc: Global, index: &Index) -> Result<Vec<Tuple>, AllocError>
             let mut parts = Vec::new(alloc);
             parts.push(first.copy(alloc)?)?;
             parts.push(second.copy(alloc)?)?;
-            one(alloc, Tuple::new(parts))
+            Ok(vec![in alloc; Tuple::new(parts)]?)
         }
         Index::Unit | Index::List(_) => Ok(Vec::new(alloc)),
     }
-}
-
-// The tuple alone.
-fn one(alloc: Global, tuple: Tuple) -> Result<Vec<Tuple>, AllocError>
-    ensures { IfOk result (λ found. found.items ≡ tuple ∷ []) }
-{
-    let mut found = Vec::new(alloc);
-    found.push(tuple)?;
-    Ok(found)
 }
 
 // The first entry at the head, or `none` there and all entries in the tail.
@@ -75,9 +51,9 @@ fn list_parts(alloc: Global, none: &Index, entries: &[Index]) -> Result<Vec<Tupl
     ensures { IfOk result (λ found. found.items ≡ list_parts (index_of none.now) (plains_of entries.now)) }
 {
     match entries {
-        [] => one(alloc, with_tail(alloc, none, entries)?),
+        [] => Ok(vec![in alloc; with_tail(alloc, none, entries)?]?),
         [first, rest @ ..] => {
-            let mut found = one(alloc, with_tail(alloc, first, rest)?)?;
+            let mut found = vec![in alloc; with_tail(alloc, first, rest)?]?;
             found.push(with_tail(alloc, none, entries)?)?;
             Ok(found)
         }
@@ -98,12 +74,16 @@ fn list_of(alloc: Global, entries: &[Index]) -> Result<Index, AllocError>
     ensures { IfOk result (λ index. index_of index ≡ many (plains_of entries.now)) }
 {
     let mut copies = Vec::with_capacity(alloc, entries.len())?;
-    append(alloc, &mut copies, entries)?;
+    append_copies(alloc, &mut copies, entries)?;
     Ok(Index::List(copies))
 }
 
 /// Appends copies of the indices.
-pub fn append(alloc: Global, whole: &mut Vec<Index>, indices: &[Index]) -> Result<(), AllocError>
+pub fn append_copies(
+    alloc: Global,
+    whole: &mut Vec<Index>,
+    indices: &[Index],
+) -> Result<(), AllocError>
     ensures { OnOk result (plains_of whole.new.items ≡ plains_of whole.old.items ++ plains_of indices.now) }
 {
     for index in indices {

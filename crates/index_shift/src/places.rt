@@ -38,14 +38,14 @@ pub fn entries(
 {
     let mut found = Vec::new(alloc);
     for (from, tuple) in tuples.iter().enumerate() {
-        let carried = carry.carried(alloc, at, tuple)?;
-        append(&mut found, from as u32, &carried, places)?;
+        let targets = carry.targets(alloc, at, tuple)?;
+        append_entries(&mut found, from as u32, &targets, places)?;
     }
     Ok(found)
 }
 
 // Appends an entry for each of the tuples that has a place.
-fn append(
+fn append_entries(
     found: &mut Vec<Entry>,
     from: u32,
     carried: &[(Tuple, u64)],
@@ -55,13 +55,13 @@ fn append(
     ensures { OnOk result (found.new.items ≡ found.old.items ++ placed places.now.keys from carried.now) }
 {
     for (tuple, times) in carried {
-        append_to(found, from, *times, places.get_index_of(tuple))?;
+        append_entry(found, from, *times, places.get_index_of(tuple))?;
     }
     Ok(())
 }
 
 // Appends the entry, where the tuple has a place.
-fn append_to(
+fn append_entry(
     found: &mut Vec<Entry>,
     from: u32,
     times: u64,

@@ -1,3 +1,4 @@
 pub mod Divide
+pub mod OneText
 pub mod Ordered
 pub mod Sampled

@@ -1,3 +1,2 @@
 pub mod Lowest
 pub mod Text
-pub mod Read

@@ -3,6 +3,8 @@ use Rattle.std.specs.Prelude.{◌≡◌, ℕ, ◌/◌, cond, ◌==◌, not, List
 use Rattle.raml_syntax.specs.Tree.{Text}
 use Rattle.base_poly.specs.Plain.{Plain, Unit', Pair, End, Then, many, degrees}
 use Rattle.base_poly.specs.Indices.{tuple_order}
+use Rattle.base_poly.specs.Poly.{Term, den_of, terms_of, IsPoly}
+use Rattle.base_poly.specs.declared.tuple.Poly.{Poly}
 use Rattle.poly_text.specs.Lowest.{divisor}
 
 abbrev mutual
@@ -26,10 +28,6 @@ entries_text _ = []
 abbrev pub coefficient_text : ℕ → ℕ → Text
 coefficient_text n m = decimal (n / divisor n m) ++ cond (m / divisor n m == 1) [] (codes "/" ++ decimal (m / divisor n m))
 
--- a tuple with its coefficient
-abbrev pub Term : Type 0
-Term = List Plain × ℕ
-
 -- the tuple of degree 0 is not written
 abbrev pub term_text : ℕ → Term → Text
 term_text den t = coefficient_text t.1 den ++ cond (degrees t.0 == 0) [] (codes "*<" ++ (entries_text (many t.0) ++ codes ">"))
@@ -49,3 +47,8 @@ pub record IsTextOf (den : ℕ) (terms : List Term) (text : Text) : Type 0 where
   pub same : IsPermutation (filter (λ t. not (t.1 == 0)) terms) ordered
   pub sorted : IsSortedByKey (λ t. t.0) tuple_order ordered
   pub is : text ≡ sum_text den ordered
+
+-- A polynomial has one text.
+abbrev pub PolynomialsHaveOneText : Type 0
+PolynomialsHaveOneText = (p : Poly) (text other : Text) → IsPoly p →
+    IsTextOf (den_of p) (terms_of p) text → IsTextOf (den_of p) (terms_of p) other → text ≡ other

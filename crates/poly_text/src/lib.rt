@@ -2,7 +2,6 @@
 #![tactic(auto)]
 
 pub mod laws;
-mod ranked;
 mod text;
 
 pub use text::print;

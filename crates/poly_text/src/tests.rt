@@ -1,7 +1,6 @@
-ghost use Rattle.std.specs.Prelude.{◌≡◌, ◌≤◌, ◌<◌, ◌+◌, ◌<ℤ◌, ◌^◌, pos, IfOk, OnOk};
-ghost use Rattle.base_poly.specs.Plain.{deg, degrees};
-ghost use Rattle.base_poly.specs.Read.{index_of};
-ghost use Rattle.poly_text.specs.Read.{AreTerms};
+ghost use Rattle.std.specs.Prelude.{◌≡◌, ◌≤◌, ◌<◌, ◌<ℤ◌, ◌≤ℤ◌, ◌^◌, pos, [], ◌∷◌, map, length, All, IfOk};
+ghost use Rattle.std.specs.List.{IsDistinct};
+ghost use Rattle.base_poly.specs.Plain.{Unit', End, Then, alike, degrees};
 
 use crate::print;
 use base_poly::{Index, Poly, Tuple};
@@ -10,31 +9,31 @@ use std::test::Fail;
 
 // The tuple of the empty list index.
 fn none(alloc: Global) -> Result<Tuple, AllocError>
-    ensures { IfOk result (λ made. degrees made ≡ 0) }
+    ensures { IfOk result (λ made. made ≡ End ∷ []) }
 {
     let empty = Tuple::new(Vec::new(alloc)).into_list();
-    Tuple::new(Vec::new(alloc)).led_by(alloc, &empty)
+    Tuple::new(Vec::new(alloc)).with_first(alloc, &empty)
 }
 
 // The tuple of the list index with a unit alone.
 fn one(alloc: Global) -> Result<Tuple, AllocError>
-    ensures { IfOk result (λ made. degrees made ≡ 1) }
+    ensures { IfOk result (λ made. made ≡ Then Unit' End ∷ []) }
 {
     let entry = Tuple::new(Vec::new(alloc))
-        .led_by(alloc, &Index::Unit)?
+        .with_first(alloc, &Index::Unit)?
         .into_list();
-    Tuple::new(Vec::new(alloc)).led_by(alloc, &entry)
+    Tuple::new(Vec::new(alloc)).with_first(alloc, &entry)
 }
 
 // The tuple of the list index with two units.
 fn two(alloc: Global) -> Result<Tuple, AllocError>
-    ensures { IfOk result (λ made. degrees made ≡ 2) }
+    ensures { IfOk result (λ made. made ≡ Then Unit' (Then Unit' End) ∷ []) }
 {
     let entry = Tuple::new(Vec::new(alloc))
-        .led_by(alloc, &Index::Unit)?
-        .led_by(alloc, &Index::Unit)?
+        .with_first(alloc, &Index::Unit)?
+        .with_first(alloc, &Index::Unit)?
         .into_list();
-    Tuple::new(Vec::new(alloc)).led_by(alloc, &entry)
+    Tuple::new(Vec::new(alloc)).with_first(alloc, &entry)
 }
 
 // The tuple with a pair of both a list and a unit before the others.
@@ -43,25 +42,41 @@ fn paired(alloc: Global, tuple: Tuple) -> Result<Tuple, AllocError>
     ensures { IfOk result (λ made. degrees made ≤ 9) }
 {
     let entry = Tuple::new(Vec::new(alloc))
-        .led_by(alloc, &Index::Unit)?
+        .with_first(alloc, &Index::Unit)?
         .into_list();
     let pair = Index::Pair(Box::new(alloc, entry)?, Box::new(alloc, Index::Unit)?);
-    tuple.led_by(alloc, &pair)
+    tuple.with_first(alloc, &pair)
 }
 
-fn add(terms: &mut Vec<(Tuple, i128)>, tuple: Tuple, number: u32) -> Result<(), AllocError>
-    requires before { AreTerms terms.old.items }
-    requires low { degrees tuple < 2 ^ 32 }
-    ensures { OnOk result (AreTerms terms.new.items) }
+// The terms of these tuples, with these numbers in this order.
+fn with_numbers(
+    alloc: Global,
+    tuples: Vec<Tuple>,
+    numbers: &[u32],
+) -> Result<Vec<(Tuple, i128)>, AllocError>
+    ensures natural { IfOk result (λ terms. All (λ t. pos 0 ≤ℤ t.1) terms.items) }
+    ensures tuples { IfOk result (λ terms. map (λ t. t.0) terms.items ≡ tuples.items) }
 {
-    terms.push((tuple, i128::from(number)))?;
-    Ok(())
+    let mut terms = Vec::new(alloc);
+    for tuple in tuples {
+        let number = numbers.get(terms.len()).copied().unwrap_or(0);
+        terms.push((tuple, i128::from(number)))?;
+    }
+    Ok(terms)
 }
 
-fn text_of(alloc: Global, den: i128, terms: Vec<(Tuple, i128)>) -> Result<String, AllocError>
+// Their text over the denominator.
+fn text_of(
+    alloc: Global,
+    den: i128,
+    tuples: Vec<Tuple>,
+    numbers: &[u32],
+) -> Result<String, AllocError>
     requires positive { pos 0 <ℤ den }
-    requires terms { AreTerms terms.items }
+    requires low { All (λ t. degrees t < 2 ^ 32) tuples.items }
+    requires distinct { IsDistinct alike tuples.items }
 {
+    let terms = with_numbers(alloc, tuples, numbers)?;
     print(alloc, &Poly { den, terms })
 }
 
@@ -69,11 +84,8 @@ fn text_of(alloc: Global, den: i128, terms: Vec<(Tuple, i128)>) -> Result<String
 fn of_three(alloc: Global, den: i128, numbers: [u32; 3]) -> Result<String, AllocError>
     requires { pos 0 <ℤ den }
 {
-    let mut terms = Vec::new(alloc);
-    add(&mut terms, two(alloc)?, numbers[2])?;
-    add(&mut terms, none(alloc)?, numbers[0])?;
-    add(&mut terms, one(alloc)?, numbers[1])?;
-    text_of(alloc, den, terms)
+    let tuples = vec![in alloc; two(alloc)?, none(alloc)?, one(alloc)?]?;
+    text_of(alloc, den, tuples, &[numbers[2], numbers[0], numbers[1]])
 }
 
 #[test]
@@ -92,34 +104,33 @@ fn sums_are_in_order(rt: HostRuntime) -> Result<(), Fail> {
 
 // The tuple of a list index with a unit, and of an empty one.
 fn one_and_none(alloc: Global) -> Result<Tuple, AllocError>
-    ensures { IfOk result (λ made. degrees made ≡ 1) }
+    ensures { IfOk result (λ made. (degrees made ≡ 1) × (length made ≡ 2)) }
 {
     let entry = Tuple::new(Vec::new(alloc))
-        .led_by(alloc, &Index::Unit)?
+        .with_first(alloc, &Index::Unit)?
         .into_list();
-    none(alloc)?.led_by(alloc, &entry)
+    none(alloc)?.with_first(alloc, &entry)
 }
 
 // The tuple of a unit, and of a list index with a unit.
 fn unit_and_one(alloc: Global) -> Result<Tuple, AllocError>
-    ensures { IfOk result (λ made. degrees made ≡ 1) }
+    ensures { IfOk result (λ made. (degrees made ≡ 1) × (length made ≡ 2)) }
 {
-    one(alloc)?.led_by(alloc, &Index::Unit)
+    one(alloc)?.with_first(alloc, &Index::Unit)
 }
 
-// The text of a constant and the term.
+// The text of a constant and the term of a tuple of two indices.
 fn with_constant(
     alloc: Global,
     constant: u32,
     number: u32,
     tuple: Tuple,
 ) -> Result<String, AllocError>
-    requires { degrees tuple < 2 ^ 32 }
+    requires low { degrees tuple < 2 ^ 32 }
+    requires two { length tuple ≡ 2 }
 {
-    let mut terms = Vec::new(alloc);
-    add(&mut terms, tuple, number)?;
-    add(&mut terms, none(alloc)?, constant)?;
-    text_of(alloc, 1, terms)
+    let tuples = vec![in alloc; tuple, none(alloc)?]?;
+    text_of(alloc, 1, tuples, &[number, constant])
 }
 
 #[test]
@@ -141,9 +152,8 @@ fn costs_of_lists_are_printed(rt: HostRuntime) -> Result<(), Fail> {
 #[test]
 fn components_are_in_order(rt: HostRuntime) -> Result<(), Fail> {
     let alloc = rt.alloc();
-    let mut terms = Vec::new(alloc);
-    add(&mut terms, paired(alloc, two(alloc)?)?, 1)?;
-    let text = text_of(alloc, 1, terms)?;
+    let tuples = vec![in alloc; paired(alloc, two(alloc)?)?]?;
+    let text = text_of(alloc, 1, tuples, &[1])?;
     assert_eq!(rt; text.as_str(), "1*<([_], _), [_, _]>");
     Ok(())
 }

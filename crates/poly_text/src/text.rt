@@ -1,11 +1,10 @@
 // The text of a polynomial.
-ghost use Rattle.std.specs.Prelude.{◌≡◌, ◌++◌, ◌==◌, ◌<◌, ◌^◌, ◌≢◌, not, map, filter, All, unsigned_abs, codes, decimal, string_bytes, IfOk, OnOk};
+ghost use Rattle.std.specs.Prelude.{◌≡◌, ◌++◌, ◌==◌, ◌<◌, ◌^◌, ◌≢◌, not, filter, All, codes, decimal, string_bytes, IfOk, OnOk};
 ghost use Rattle.base_poly.specs.Plain.{many, degrees};
 ghost use Rattle.base_poly.specs.Read.{index_of, plains_of};
+ghost use Rattle.base_poly.specs.Poly.{den_of, magnitudes, terms_of, IsPoly};
 ghost use Rattle.poly_text.specs.Text.{index_text, entries_text, coefficient_text, term_text, more_terms, sum_text, IsTextOf};
-ghost use Rattle.poly_text.specs.Read.{den_of, terms_of, IsPoly, ranked_terms};
 
-use crate::ranked::Ranked;
 use base_poly::{Index, Poly, Tuple};
 use itoa::Buffer;
 use raml_num::gcd;
@@ -15,50 +14,38 @@ use std::alloc::{AllocError, Global};
 /// order of their tuples, with coefficients in lowest terms.
 pub fn print(alloc: Global, poly: &Poly) -> Result<String, AllocError>
     requires { IsPoly poly.now }
-    ensures { IfOk result (λ text. IsTextOf (den_of poly.now) (terms_of poly.now.terms.items) (string_bytes text)) }
+    ensures { IfOk result (λ text. IsTextOf (den_of poly.now) (terms_of poly.now) (string_bytes text)) }
 {
-    let mut terms = counted(alloc, &poly.terms)?;
+    let mut terms = nonzero_terms(alloc, &poly.terms)?;
     terms.sort()?;
     sum(alloc, &terms, poly.den.unsigned_abs())
 }
 
 // The terms that are not zero.
-fn counted(alloc: Global, terms: &[(Tuple, i128)]) -> Result<Vec<Ranked>, AllocError>
-    requires { All (λ t. degrees t.0 < 2 ^ 32) terms.now }
-    ensures { IfOk result (λ found. ranked_terms found.items ≡ filter (λ t. not (t.1 == 0)) (terms_of terms.now)) }
+fn nonzero_terms(alloc: Global, terms: &[(Tuple, i128)]) -> Result<Vec<(Tuple, u128)>, AllocError>
+    ensures { IfOk result (λ found. found.items ≡ filter (λ t. not (t.1 == 0)) (magnitudes terms.now)) }
 {
     let mut found = Vec::new(alloc);
     for (tuple, number) in terms {
         let number = number.unsigned_abs();
         if number != 0 {
-            found.push(ranked(alloc, tuple, number)?)?;
+            found.push((tuple.copy(alloc)?, number))?;
         }
     }
     Ok(found)
 }
 
-fn ranked(alloc: Global, tuple: &Tuple, number: u128) -> Result<Ranked, AllocError>
-    requires { degrees tuple.now < 2 ^ 32 }
-    ensures { IfOk result (λ r. (r.tuple ≡ tuple.now) × (r.number ≡ number)) }
-{
-    let tuple = tuple.copy(alloc)?;
-    Ok(Ranked {
-        degree: tuple.degree(),
-        tuple,
-        number,
-    })
-}
-
 // The terms one after the other, or a zero.
-fn sum(alloc: Global, terms: &[Ranked], den: u128) -> Result<String, AllocError>
-    requires { den ≢ 0 }
-    ensures { IfOk result (λ text. string_bytes text ≡ sum_text den (ranked_terms terms.now)) }
+fn sum(alloc: Global, terms: &[(Tuple, u128)], den: u128) -> Result<String, AllocError>
+    requires den { den ≢ 0 }
+    requires low { All (λ t. degrees t.0 < 2 ^ 32) terms.now }
+    ensures { IfOk result (λ text. string_bytes text ≡ sum_text den terms.now) }
 {
     let mut out = String::new(alloc);
     match terms {
         [] => out.push_str("0")?,
-        [first, rest @ ..] => {
-            write_term(&mut out, first, den)?;
+        [(tuple, number), rest @ ..] => {
+            write_term(&mut out, tuple, *number, den)?;
             write_more(&mut out, rest, den)?;
         }
     }
@@ -66,25 +53,27 @@ fn sum(alloc: Global, terms: &[Ranked], den: u128) -> Result<String, AllocError>
 }
 
 // Appends a plus and the term, for each.
-fn write_more(out: &mut String, terms: &[Ranked], den: u128) -> Result<(), AllocError>
-    requires { den ≢ 0 }
-    ensures { OnOk result (string_bytes out.new ≡ string_bytes out.old ++ more_terms den (ranked_terms terms.now)) }
+fn write_more(out: &mut String, terms: &[(Tuple, u128)], den: u128) -> Result<(), AllocError>
+    requires den { den ≢ 0 }
+    requires low { All (λ t. degrees t.0 < 2 ^ 32) terms.now }
+    ensures { OnOk result (string_bytes out.new ≡ string_bytes out.old ++ more_terms den terms.now) }
 {
-    for term in terms {
+    for (tuple, number) in terms {
         out.push_str(" + ")?;
-        write_term(out, term, den)?;
+        write_term(out, tuple, *number, den)?;
     }
     Ok(())
 }
 
 // Appends the coefficient, and the tuple where its degree is not 0.
-fn write_term(out: &mut String, term: &Ranked, den: u128) -> Result<(), AllocError>
-    requires { den ≢ 0 }
-    ensures { OnOk result (string_bytes out.new ≡ string_bytes out.old ++ term_text den (term.now.tuple, term.now.number)) }
+fn write_term(out: &mut String, tuple: &Tuple, number: u128, den: u128) -> Result<(), AllocError>
+    requires den { den ≢ 0 }
+    requires low { degrees tuple.now < 2 ^ 32 }
+    ensures { OnOk result (string_bytes out.new ≡ string_bytes out.old ++ term_text den (tuple.now, number)) }
 {
-    write_coefficient(out, term.number, den)?;
-    if term.degree != 0 {
-        write_tuple(out, term.tuple.parts())?;
+    write_coefficient(out, number, den)?;
+    if tuple.degree() != 0 {
+        write_tuple(out, tuple.parts())?;
     }
     Ok(())
 }

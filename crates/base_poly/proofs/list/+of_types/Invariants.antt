@@ -8,14 +8,14 @@ use Rattle.base_poly.proofs.list.+of_types.Given as goal
 abbrev pub decreases-append_tuples : goal.decreases-append_tuples
 decreases-append_tuples l = 3 * length l.types.now
 
-abbrev pub decreases-append_led : goal.decreases-append_led
-decreases-append_led l = 3 * length l.rest.now + 2
+abbrev pub decreases-append_by_first_type : goal.decreases-append_by_first_type
+decreases-append_by_first_type l = 3 * length l.rest.now + 2
 
-abbrev pub decreases-append_with : goal.decreases-append_with
-decreases-append_with l = 3 * length l.rest.now + 1
+abbrev pub decreases-append_by_first_index : goal.decreases-append_by_first_index
+decreases-append_by_first_index l = 3 * length l.rest.now + 1
 
-abbrev pub invariant-append_led-loop-head : goal.invariant-append_led-loop-head
-invariant-append_led-loop-head l = record {
+abbrev pub invariant-append_by_first_type-loop-head : goal.invariant-append_by_first_type-loop-head
+invariant-append_by_first_type-loop-head l = record {
   heads : plains_of l.head-items ≡ indices_up_to (ty_of l.first) l.d;
   done :
       l.found.items ++ joined (tuples_up_to (context_of l.rest)) (behind (plains_of l.fn.before.items)) l.d (plains_of (drop l.head-index l.head-items))

@@ -12,8 +12,8 @@ product-returns-in-Unit-right t c = ap plains_of c.new.ensures.items ∙ pair_al
 pub product-returns-in-Unit-right-2 : goal.product-returns-in-Unit-right-2
 product-returns-in-Unit-right-2 t c = ap plains_of c.new-in-Unit-right-2.ensures.items ∙ list_alone _ _ _ c.in-List.is c.in-Unit-right-2.is
 
-pub lists_product-returns-in_ok-copy_all-in-empty : goal.lists_product-returns-in_ok-copy_all-in-empty
-lists_product-returns-in_ok-copy_all-in-empty t c =
+pub lists_product-returns-in_ok-vec-in-empty : goal.lists_product-returns-in_ok-vec-in-empty
+lists_product-returns-in_ok-vec-in-empty t c =
     let none = none_left c.args.left.now c.args.right.now c.in-empty.len_below in grind (arith, common_steps, none)
 
 pub led_product-returns-in_ok-mine-in-len1-up : goal.led_product-returns-in_ok-mine-in-len1-up
@@ -32,8 +32,8 @@ pub mixed_product-returns : goal.mixed_product-returns
 mixed_product-returns t c =
     let i = index_of c.args.first.now in
     let j = index_of c.args.other.now in
-    let second = c.in_ok-lead_all-2.ensures.all ∙ ap (λ ts. c.lead_all.new.found.items ++ map (λ r. j ∷ r) ts) c.deref.ensures.value in
-    let third = c.in_ok-lead_each.ensures ∙ (λ n. c.lead_all-2.new.found.items ++ flat_map (λ h. map (λ r. h ∷ r) (c.deref-3.ensures.value n)) (plains_of (c.deref-2.ensures.value n))) in
-    gathered i j _ _ _ _ c.args.mine.now c.in_ok-theirs.theirs.items c.in_ok-tails.tails.items (plains_of c.in_ok-heads.heads.items) c.new-found.ensures.items c.in_ok-lead_all.ensures.all second third
+    let second = c.in_ok-append_with_head-2.ensures.all ∙ ap (λ ts. c.append_with_head.new.found.items ++ map (λ r. j ∷ r) ts) c.deref.ensures.value in
+    let third = c.in_ok-append_with_heads.ensures ∙ (λ n. c.append_with_head-2.new.found.items ++ flat_map (λ h. map (λ r. h ∷ r) (c.deref-3.ensures.value n)) (plains_of (c.deref-2.ensures.value n))) in
+    gathered i j _ _ _ _ c.args.mine.now c.in_ok-theirs.theirs.items c.in_ok-tails.tails.items (plains_of c.in_ok-heads.heads.items) c.new-found.ensures.items c.in_ok-append_with_head.ensures.all second third
     ∙ (λ n. map (λ k. Then i k) (map many c.args.mine.now)
     ++ (map (λ k. Then j k) (c.in_ok-theirs.ensures n) ++ flat_map (λ h. map (λ k. Then h k) (c.in_ok-tails.ensures n)) (c.in_ok-heads.ensures n)))

@@ -2,7 +2,7 @@ use Rattle.std.proofs.Common.{◌≡◌, ◌*◌, All, length, ap, ◌∙◌, su
 use Rattle.std.proofs.lemmas.List.{length-map}
 use Rattle.raml_syntax.specs.Value.{Value}
 use Rattle.base_poly.specs.Base.{base}
-use Rattle.base_poly.specs.Count.{counts_of, tallied, weighed, IsTerm}
+use Rattle.base_poly.specs.Count.{counts_of, tallied, counted_worth, IsTerm}
 use Rattle.base_poly.specs.Product.{product}
 use Rattle.base_poly.specs.Read.{index_of, plains_of}
 use Rattle.std.proofs.lemmas.Result.{IfOk-weaker}
@@ -19,8 +19,8 @@ tally-requires c =
 pub returns-clause-worth : goal.returns-clause-worth
 returns-clause-worth c =
     let A = c.requires.one_type in
-    IfOk-weaker c.tally.result (λ found. counts_of found.entries ≡ tallied (plains_of c.deref.result.now)) (λ found. (v : Value) → base (index_of c.args.left.now) v * base (index_of c.args.right.now) v ≡ weighed v (counts_of found.entries))
-    (λ found h v. product_weighed _ _ A.0 A.1 A.2 v ∙ ap (λ ps. weighed v (tallied ps)) (sym (ap plains_of c.deref.ensures.value ∙ c.in_ok-terms.ensures)) ∙ ap (weighed v) (sym h)) c.tally.ensures
+    IfOk-weaker c.tally.result (λ found. counts_of found.entries ≡ tallied (plains_of c.deref.result.now)) (λ found. (v : Value) → base (index_of c.args.left.now) v * base (index_of c.args.right.now) v ≡ counted_worth v (counts_of found.entries))
+    (λ found h v. product_weighed _ _ A.0 A.1 A.2 v ∙ ap (λ ps. counted_worth v (tallied ps)) (sym (ap plains_of c.deref.ensures.value ∙ c.in_ok-terms.ensures)) ∙ ap (counted_worth v) (sym h)) c.tally.ensures
 
 pub returns-clause-terms : goal.returns-clause-terms
 returns-clause-terms c =

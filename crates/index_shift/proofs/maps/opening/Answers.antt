@@ -10,8 +10,8 @@ use Rattle.index_shift.proofs.Kept.{opening_keeps}
 use Rattle.index_shift.proofs.Listed.{can_open, changed, type_there}
 use Rattle.index_shift.proofs.maps.opening.Goals as goal
 
-pub between-requires : goal.between-requires
-between-requires c = record { can = can_open c.args.context.now c.args.at c.args.d c.requires.there (record { ref_ptr = c.args.context.ref_ptr; now = c.index-context-at.result }) }
+pub entries_between-requires : goal.entries_between-requires
+entries_between-requires c = record { can = can_open c.args.context.now c.args.at c.args.d c.requires.there (record { ref_ptr = c.args.context.ref_ptr; now = c.index-context-at.result }) }
 
 pub returns-clause-map : goal.returns-clause-map
 returns-clause-map c =
@@ -19,12 +19,12 @@ returns-clause-map c =
     ∙ changed type_parts c.args.context.now c.deref.result.now c.in_ok-opened.opened.items c.args.at c.index-context-at.result c.requires.there c.index-context-at.is
     (ap context_of c.deref.ensures.value ∙ c.in_ok-parts.ensures) c.in_ok-opened.ensures in
     let type = type_there c.args.context.now c.args.at c.index-context-at.result c.requires.there c.index-context-at.is in
-    IfOk-weaker c.between.result _ (λ found. found.items ≡ opening (context_of c.args.context.now) c.args.at c.args.d)
-    (λ found h. h ∙ (λ n. entries (behind c.args.at (opens (sym type n))) (context_of c.args.context.now) (new n) c.args.d)) c.between.ensures.map
+    IfOk-weaker c.entries_between.result _ (λ found. found.items ≡ opening (context_of c.args.context.now) c.args.at c.args.d)
+    (λ found h. h ∙ (λ n. entries (behind c.args.at (opens (sym type n))) (context_of c.args.context.now) (new n) c.args.d)) c.entries_between.ensures.map
 
 pub returns-clause-kept : goal.returns-clause-kept
 returns-clause-kept c =
-    IfOk-weaker c.between.result _ (λ found. (v : Value) → value_parts v ≢ [] → KeepsParts found.items (context_of c.args.context.now) c.args.at c.args.d v)
+    IfOk-weaker c.entries_between.result _ (λ found. (v : Value) → value_parts v ≢ [] → KeepsParts found.items (context_of c.args.context.now) c.args.at c.args.d v)
     (λ found h v some. subst (λ es. KeepsParts es (context_of c.args.context.now) c.args.at c.args.d v) (sym h) (opening_keeps (context_of c.args.context.now) c.args.at c.args.d v some)) (returns-clause-map c)
 
 pub returns-clause-few : goal.returns-clause-few
@@ -32,11 +32,11 @@ returns-clause-few c =
     let new = ap context_of c.deref-2.ensures.value
     ∙ changed type_parts c.args.context.now c.deref.result.now c.in_ok-opened.opened.items c.args.at c.index-context-at.result c.requires.there c.index-context-at.is
     (ap context_of c.deref.ensures.value ∙ c.in_ok-parts.ensures) c.in_ok-opened.ensures in
-    subst (λ Bs. OnOk c.between.result (IsTooLarge (context_of c.args.context.now) Bs c.args.d → ⊥)) new c.between.ensures.few
+    subst (λ Bs. OnOk c.entries_between.result (IsTooLarge (context_of c.args.context.now) Bs c.args.d → ⊥)) new c.entries_between.ensures.few
 
 pub returns-clause-many : goal.returns-clause-many
 returns-clause-many c =
     let new = ap context_of c.deref-2.ensures.value
     ∙ changed type_parts c.args.context.now c.deref.result.now c.in_ok-opened.opened.items c.args.at c.index-context-at.result c.requires.there c.index-context-at.is
     (ap context_of c.deref.ensures.value ∙ c.in_ok-parts.ensures) c.in_ok-opened.ensures in
-    subst (λ Bs. IsErrOf c.between.result TooMany → IsTooLarge (context_of c.args.context.now) Bs c.args.d) new c.between.ensures.many
+    subst (λ Bs. IsErrOf c.entries_between.result TooMany → IsTooLarge (context_of c.args.context.now) Bs c.args.d) new c.entries_between.ensures.many

@@ -9,8 +9,8 @@ use Rattle.index_shift.proofs.Kept.{sharing_keeps}
 use Rattle.index_shift.proofs.Listed.{can_join, changed}
 use Rattle.index_shift.proofs.maps.share_map.Goals as goal
 
-pub between-requires : goal.between-requires
-between-requires c =
+pub entries_between-requires : goal.entries_between-requires
+entries_between-requires c =
     let new = ap context_of c.deref-2.ensures.value
     ∙ changed twice c.args.context.now c.deref.result.now c.in_ok-shared.shared.items c.args.at c.index-context-at.result c.requires.there c.index-context-at.is
     (ap context_of c.deref.ensures.value ∙ c.in_ok-both.ensures) c.in_ok-shared.ensures in
@@ -21,12 +21,12 @@ returns-clause-map c =
     let new = ap context_of c.deref-2.ensures.value
     ∙ changed twice c.args.context.now c.deref.result.now c.in_ok-shared.shared.items c.args.at c.index-context-at.result c.requires.there c.index-context-at.is
     (ap context_of c.deref.ensures.value ∙ c.in_ok-both.ensures) c.in_ok-shared.ensures in
-    IfOk-weaker c.between.result _ (λ found. found.items ≡ sharing (context_of c.args.context.now) c.args.at c.args.d)
-    (λ found h. h ∙ ap (λ Bs. entries (behind c.args.at joins) Bs (context_of c.args.context.now) c.args.d) new) c.between.ensures.map
+    IfOk-weaker c.entries_between.result _ (λ found. found.items ≡ sharing (context_of c.args.context.now) c.args.at c.args.d)
+    (λ found h. h ∙ ap (λ Bs. entries (behind c.args.at joins) Bs (context_of c.args.context.now) c.args.d) new) c.entries_between.ensures.map
 
 pub returns-clause-kept : goal.returns-clause-kept
 returns-clause-kept c =
-    IfOk-weaker c.between.result _ (λ found. (v : Value) → KeepsShared found.items (context_of c.args.context.now) c.args.at c.args.d v)
+    IfOk-weaker c.entries_between.result _ (λ found. (v : Value) → KeepsShared found.items (context_of c.args.context.now) c.args.at c.args.d v)
     (λ found h v. subst (λ es. KeepsShared es (context_of c.args.context.now) c.args.at c.args.d v) (sym h) (sharing_keeps (context_of c.args.context.now) c.args.at c.args.d v)) (returns-clause-map c)
 
 pub returns-clause-few : goal.returns-clause-few
@@ -34,11 +34,11 @@ returns-clause-few c =
     let new = ap context_of c.deref-2.ensures.value
     ∙ changed twice c.args.context.now c.deref.result.now c.in_ok-shared.shared.items c.args.at c.index-context-at.result c.requires.there c.index-context-at.is
     (ap context_of c.deref.ensures.value ∙ c.in_ok-both.ensures) c.in_ok-shared.ensures in
-    subst (λ Bs. OnOk c.between.result (IsTooLarge Bs (context_of c.args.context.now) c.args.d → ⊥)) new c.between.ensures.few
+    subst (λ Bs. OnOk c.entries_between.result (IsTooLarge Bs (context_of c.args.context.now) c.args.d → ⊥)) new c.entries_between.ensures.few
 
 pub returns-clause-many : goal.returns-clause-many
 returns-clause-many c =
     let new = ap context_of c.deref-2.ensures.value
     ∙ changed twice c.args.context.now c.deref.result.now c.in_ok-shared.shared.items c.args.at c.index-context-at.result c.requires.there c.index-context-at.is
     (ap context_of c.deref.ensures.value ∙ c.in_ok-both.ensures) c.in_ok-shared.ensures in
-    subst (λ Bs. IsErrOf c.between.result TooMany → IsTooLarge Bs (context_of c.args.context.now) c.args.d) new c.between.ensures.many
+    subst (λ Bs. IsErrOf c.entries_between.result TooMany → IsTooLarge Bs (context_of c.args.context.now) c.args.d) new c.entries_between.ensures.many

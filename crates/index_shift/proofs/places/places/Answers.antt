@@ -1,6 +1,6 @@
 use Rattle.std.proofs.Common.{[], ap, sym, ◌∙◌}
 use Rattle.indexmap.specs.IndexSet.{insert_key}
-use Rattle.index_shift.specs.Maps.{alike}
+use Rattle.base_poly.specs.Plain.{alike}
 use Rattle.index_shift.proofs.Placed.{one_inserted}
 use Rattle.index_shift.proofs.places.places.Goals as goal
 

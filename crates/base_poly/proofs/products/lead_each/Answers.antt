@@ -1,6 +1,0 @@
-use Rattle.std.proofs.Common.{◌∷◌}
-use Rattle.base_poly.proofs.Longer.{part_done}
-use Rattle.base_poly.proofs.products.lead_each.Goals as goal
-
-pub loop-first-preserved : goal.loop-first-preserved
-loop-first-preserved c = part_done (λ k. c.args.tuples.now) ◌∷◌ 0 _ _ _ _ _ _ c.loop-first-test.true c.first-item.is c.in_ok-lead_all.ensures.all c.loop-first.invariant

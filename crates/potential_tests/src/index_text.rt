@@ -1,0 +1,41 @@
+//! The text of indices and tuples, as the tables have it.
+use base_poly::{Index, Tuple};
+use std::alloc::AllocError;
+
+#[cycle(write)]
+pub fn write(out: &mut String, index: &Index) -> Result<(), AllocError> {
+    match index {
+        Index::Unit => out.push_str("_"),
+        Index::Pair(first, second) => {
+            out.push_str("(")?;
+            write(out, first)?;
+            out.push_str(", ")?;
+            write(out, second)?;
+            out.push_str(")")
+        }
+        Index::List(entries) => {
+            out.push_str("[")?;
+            write_all(out, entries)?;
+            out.push_str("]")
+        }
+    }
+}
+
+#[cycle(write)]
+pub fn write_all(out: &mut String, indices: &[Index]) -> Result<(), AllocError> {
+    let mut first = true;
+    for index in indices {
+        if !first {
+            out.push_str(", ")?;
+        }
+        first = false;
+        write(out, index)?;
+    }
+    Ok(())
+}
+
+pub fn write_tuple(out: &mut String, tuple: &Tuple) -> Result<(), AllocError> {
+    out.push_str("<")?;
+    write_all(out, tuple.parts())?;
+    out.push_str(">\n")
+}

@@ -1,0 +1,14 @@
+//! Tests of indices, products and maps against tables that were worked out apart. There is nothing
+//! else here: so the crates below are proved once.
+#![tactic(auto)]
+
+#[cfg(test)]
+mod index_text;
+#[cfg(test)]
+mod listing;
+#[cfg(test)]
+mod maps;
+#[cfg(test)]
+mod products;
+#[cfg(test)]
+mod types;

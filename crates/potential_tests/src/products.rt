@@ -1,0 +1,112 @@
+//! Products of indices as sums.
+ghost use Rattle.std.specs.Prelude.{◌≡◌, ◌≤◌, ◌+◌, [], ◌∷◌, All, IfOk};
+ghost use Rattle.raml_syntax.specs.Tree.{Type', Integer, ListOf};
+ghost use Rattle.base_poly.specs.Plain.{deg, degrees};
+ghost use Rattle.base_poly.specs.Indices.{IsIndex, AreIndices};
+ghost use Rattle.base_poly.specs.Read.{index_of};
+
+use crate::index_text::write;
+use crate::types::{list, pair, tree};
+use base_poly::{Index, IndexFault, Tuple, indices, multiply};
+use indexmap::IndexMap;
+use raml_syntax::Ty;
+use std::alloc::{AllocError, Global};
+use std::test::Fail;
+
+mod tables;
+
+// The sum that a product is.
+fn write_sum(
+    out: &mut String,
+    alloc: Global,
+    found: &IndexMap<Index, u64>,
+) -> Result<(), AllocError> {
+    let mut first = true;
+    for (index, number) in found.iter() {
+        out.push_str(if first { " = " } else { " + " })?;
+        first = false;
+        let times = format!(in alloc; "{number} ")?;
+        out.push_str(times.as_str())?;
+        write(out, index)?;
+    }
+    out.push_str("\n")
+}
+
+// The line of a product, its sum in order.
+fn write_product(
+    out: &mut String,
+    alloc: Global,
+    left: &Index,
+    right: &Index,
+) -> Result<(), AllocError>
+    requires one_type { (A : Type') × IsIndex (index_of left.now) A × IsIndex (index_of right.now) A }
+    requires low { (deg (index_of left.now) ≤ 4) × (deg (index_of right.now) ≤ 4) }
+{
+    write(out, left)?;
+    out.push_str(" * ")?;
+    write(out, right)?;
+    let mut found = multiply(alloc, left, right)?;
+    found.sort_keys()?;
+    write_sum(out, alloc, &found)
+}
+
+// The lines of the products with each of the others, where both have at most degree 4 together.
+fn write_products(
+    out: &mut String,
+    alloc: Global,
+    left: &Index,
+    others: &[Tuple],
+) -> Result<(), AllocError>
+    requires one_type { (A : Type') × IsIndex (index_of left.now) A × All (λ t. AreIndices t (A ∷ []) × (degrees t ≤ 3)) others.now }
+    requires low { deg (index_of left.now) ≤ 3 }
+{
+    for other in others {
+        let right = &other.parts()[0];
+        if left.degree() + right.degree() <= 4 {
+            write_product(out, alloc, left, right)?;
+        }
+    }
+    Ok(())
+}
+
+// The lines of the products of these tuples of one index.
+fn multiplied(alloc: Global, tuples: &[Tuple]) -> Result<String, AllocError>
+    requires { (A : Type') × All (λ t. AreIndices t (A ∷ []) × (degrees t ≤ 3)) tuples.now }
+{
+    let mut out = String::new(alloc);
+    for tuple in tuples {
+        write_products(&mut out, alloc, &tuple.parts()[0], tuples)?;
+    }
+    Ok(out)
+}
+
+// The lines of the products of indices of the type.
+fn products_of(alloc: Global, ty: Ty) -> Result<String, IndexFault> {
+    let types = [ty];
+    let found = indices(alloc, &types, 3, 2000)?;
+    Ok(multiplied(alloc, &found)?)
+}
+
+#[test]
+fn products_of_lists_are_sums(rt: HostRuntime) -> Result<(), Fail> {
+    let alloc = rt.alloc();
+    let lists = products_of(alloc, list(alloc, Ty::Int)?)?;
+    assert_eq!(rt; lists.as_str(), tables::LIST_PRODUCTS);
+    let nested = products_of(alloc, list(alloc, list(alloc, Ty::Int)?)?)?;
+    assert_eq!(rt; nested.as_str(), tables::NESTED_PRODUCTS);
+    let trees = products_of(alloc, tree(alloc, Ty::Int)?)?;
+    assert_eq!(rt; trees.as_str(), tables::TREE_PRODUCTS);
+    Ok(())
+}
+
+#[test]
+fn products_of_pairs_are_sums(rt: HostRuntime) -> Result<(), Fail> {
+    let alloc = rt.alloc();
+    let pairs = pair(alloc, list(alloc, Ty::Int)?, list(alloc, Ty::Int)?)?;
+    let pairs = products_of(alloc, pairs)?;
+    assert_eq!(rt; pairs.as_str(), tables::PAIR_PRODUCTS);
+    let element = pair(alloc, Ty::Int, list(alloc, Ty::Int)?)?;
+    let elements = products_of(alloc, list(alloc, element)?)?;
+    assert_eq!(rt; elements.as_str(), tables::LIST_OF_PAIRS_PRODUCTS);
+    Ok(())
+}
