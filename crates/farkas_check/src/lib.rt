@@ -68,6 +68,3 @@ pub fn refuted_has_no_solution()
 pub fn equal_sums_are_least()
     ensures { EqualSumsAreLeast }
 {}
-
-#[cfg(test)]
-mod tests;

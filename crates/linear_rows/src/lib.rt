@@ -6,6 +6,3 @@ mod system;
 
 pub use row::{LeavesRow, Row, RowFault};
 pub use system::System;
-
-#[cfg(test)]
-mod tests;

@@ -11,5 +11,4 @@ mod Listing
 mod Solves
 mod Tables
 mod Agreement
-mod Spelling
 mod Sets

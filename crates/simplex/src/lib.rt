@@ -17,8 +17,6 @@ mod opening;
 mod pivot;
 mod reading;
 mod solver;
-#[cfg(test)]
-mod tests;
 
 pub use answer::Answer;
 pub use chooser::Chooser;
