@@ -12,3 +12,5 @@ mod Solves
 mod Tables
 mod Agreement
 mod Sets
+mod Wholes
+pub mod ByRule

@@ -76,7 +76,7 @@ opening_after s rows gains r g = record { course = opening_course s rows gains r
 pub refused_inside : (s : LinearSystem) (t : Tableau) (e i c : ℕ) → Refused s t e i c → i ≤ length t.rows
 refused_inside s t e i c (InSearch w n) = let h = w.tied.inside in omega arith
 refused_inside s t e i c (InLeavingRow w n) = let h = w.inside in omega arith
-refused_inside s t e i c (InProduct l w n h k) = h
+refused_inside s t e i c (InProduct l w n h there k) = h
 refused_inside s t e i c (InDifference l w n h d) = h
 
 -- the gains before the right side, as the rule sees them

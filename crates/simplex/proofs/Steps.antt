@@ -45,8 +45,8 @@ module _ (s : LinearSystem) (t : Tableau) (g : Good s t) (c : ℕ) (rows : List 
   lead_positive : pos 0 <ℤ (t.over *ℤ places.at (row_at t.rows l) c)
   lead_positive = above t.over (places.at (row_at t.rows l) c) g.sound.positive leaves.positive
 
-  in_product : (i k : ℕ) → i ≢ l → i ≤ length t.rows → NoFraction (entry t i c *ℤ entry t l k) (t.over *ℤ entry t l c) → Refused s t c i k
-  in_product i k n h none = InProduct l leaves (λ e. n (sym e)) h none
+  in_product : (i k : ℕ) → i ≢ l → i ≤ length t.rows → (NoFraction (entry t l k) (entry t l c) → ⊥) → NoFraction (entry t i c *ℤ entry t l k) (t.over *ℤ entry t l c) → Refused s t c i k
+  in_product i k n h there none = InProduct l leaves (λ e. n (sym e)) h there none
 
   in_difference : (i k : ℕ) → i ≢ l → i ≤ length t.rows → DifferenceLeaves (entry t i k) t.over (entry t i c *ℤ entry t l k) (t.over *ℤ entry t l c) → Refused s t c i k
   in_difference i k n h d = InDifference l leaves (λ e. n (sym e)) h d
@@ -59,7 +59,7 @@ module _ (s : LinearSystem) (t : Tableau) (g : Good s t) (c : ℕ) (rows : List 
   row_refused : (i k : ℕ) (row : List ℤ) (es lead : Entries) → i ≢ l → i ≤ length t.rows → ((j : ℕ) → entry t i j ≡ places.at row j) → RowStands t.over row es → ((j : ℕ) → Stands (places.at (row_at t.rows l) c) (places.at (row_at t.rows l) j) (at j lead)) → SweepLeaves c k lead es → Refused s t c i k
   row_refused i k row es lead n h e r over w =
       elim (less_refused t.over (places.at (row_at t.rows l) c) (places.at row k) (places.at row c) (places.at (row_at t.rows l) k) (at k es) (at c es) (at k lead) g.sound.positive lead_positive (r.each k) (r.each c) (over k) w.leaves) [
-        | inl none ↦ in_product i k n h (rw (e c, lead_number k, lead_number c) none)
+        | inl none ↦ in_product i k n h (rw (lead_number k, lead_number c) (λ no. no (at k lead).num (at k lead).den ((at k lead).lowest, (over k).is))) (rw (e c, lead_number k, lead_number c) none)
         | inr d ↦ in_difference i k n h (rw (e k, e c, lead_number k, lead_number c) d)
       ]
 
@@ -107,7 +107,7 @@ module _ (s : LinearSystem) (t : Tableau) (g : Good s t) (c : ℕ) (rows : List 
         let here : NoFraction (entry t l k) (entry t l c) = subst (λ (z : ℕ). NoFraction (entry t z k) (entry t z c)) same none in
         quotient_is_there t.over (places.at (row_at t.rows l) k) (places.at (row_at t.rows l) c) (at k (entries_at rows l)) (at c (entries_at rows l)) (at k made.lead) ((stand.rows_stand.each l leaves.inside).each k) ((stand.rows_stand.each l leaves.inside).each c) (made.quotients k)
         (rw (lead_number k, lead_number c) at here)
-    pivot_whole i k (InProduct m w n h none) =
+    pivot_whole i k (InProduct m w n h there none) =
         let same : m ≡ l = one_row_leaves s t c m l g w leaves in
         (numbers_there i k (λ e. n (same ∙ sym e)) h).0 (subst (λ (z : ℕ). NoFraction (entry t i c *ℤ entry t z k) (t.over *ℤ entry t z c)) same none)
     pivot_whole i k (InDifference m w n h d) =

@@ -13,6 +13,9 @@ use Rattle.tableau.specs.Tableaux.{Tableau, right, slacks, opening, solution, du
 use Rattle.tableau.proofs.Rows.{at-zeros, length-column}
 use Rattle.tableau.proofs.Opening.{length-only, only_here, only_there, length-map, length-counted}
 use Rattle.tableau.proofs.Reading.{length-spread}
+use Rattle.linear_rows.proofs.Duality.{least}
+use Rattle.linear_rows.proofs.Proportions.{agree as proportional}
+use Rattle.simplex.proofs.Wholes.{in_proportion}
 use Rattle.tableau.proofs.Ending.{Good, good_course}
 use Rattle.tableau.proofs.Agreeing.{ends_least, rise_refutes}
 use Rattle.tableau.specs.Courses.{Rule, Course, Follows}
@@ -263,16 +266,34 @@ pub differ_rising : (rule : Rule) (s : LinearSystem) (table : Table) (c : ℕ) �
 differ_rising rule s table c system r = still_once s system table.pivots.items table.basis.items table.rows.items table.gains r.reached.t r.reached.after c r.rises.enters.gain
 
 pub best_of : (rule : Rule) (s : LinearSystem) (table : Table) (x y : List Frac) → IsSystem s → ReachedEnd rule s table → ((t : Tableau) → IsAt s table t → AreOver t.over (solution s t) x) → ((t : Tableau) → IsAt s table t → AreOver t.over (dual s t) y) → IsBest rule s table.pivots.items x y
-best_of rule s table x y system r f g = record { t = r.reached.t; ends = r.ends; follows = r.reached.follows; x_is = f r.reached.t r.reached.after; y_is = g r.reached.t r.reached.after; proves = ends_least s table.pivots.items r.reached.t system r.ends }
+best_of rule s table x y system r f g =
+    let t = r.reached.t in
+    let p = ends_least s table.pivots.items t system r.ends in
+    let x_is = f t r.reached.after in
+    let y_is = g t r.reached.after in
+    record {
+      t = t;
+      ends = r.ends;
+      follows = r.reached.follows;
+      positive = p.positive;
+      x_is = x_is;
+      y_is = y_is;
+      least = λ d xs pd e. proportional.least s (solution s t) xs t.over d p.positive pd (in_proportion t.over d (solution s t) xs x x_is e) (least s (solution s t) (dual s t) t.over p);
+      proves = λ d xs ys pd e h. proportional.proves s (solution s t) (dual s t) xs ys t.over d pd (in_proportion t.over d (solution s t) xs x x_is e) (in_proportion t.over d (dual s t) ys y y_is h) p;
+    }
 
 pub refuted_of : (rule : Rule) (s : LinearSystem) (table : Table) (c : ℕ) (y : List Frac) → IsSystem s → ReachedRise rule s table c → ((t : Tableau) → IsAt s table t → pos 0 <ℤ places.at t.gains c → AreOver t.over (ray s c t) y) → IsRefuted rule s table.pivots.items y
-refuted_of rule s table c y system r f = record {
-  t = r.reached.t;
-  column = c;
-  rises = r.rises;
-  follows = r.reached.follows;
-  answers = r.answers;
-  positive = let g = good_course s table.pivots.items r.reached.t system r.reached.after.course in g.sound.positive;
-  y_is = f r.reached.t r.reached.after r.rises.enters.gain;
-  refutes = rise_refutes s table.pivots.items r.reached.t c system r.rises;
-}
+refuted_of rule s table c y system r f =
+    let t = r.reached.t in
+    let g = good_course s table.pivots.items t system r.reached.after.course in
+    let y_is = f t r.reached.after r.rises.enters.gain in
+    record {
+      t = t;
+      column = c;
+      rises = r.rises;
+      follows = r.reached.follows;
+      answers = r.answers;
+      positive = g.sound.positive;
+      y_is = y_is;
+      refutes = λ d ys pd e. proportional.refutes s (ray s c t) ys t.over d g.sound.positive pd (in_proportion t.over d (ray s c t) ys y y_is e) (rise_refutes s table.pivots.items t c system r.rises);
+    }

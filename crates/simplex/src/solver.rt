@@ -231,8 +231,7 @@ fn ray(alloc: Global, system: &System, table: &Table, column: u32) -> Result<Vec
     spread(alloc, system.rows().len(), &columns, &numbers)
 }
 
-/// Solves a system, with the entering columns of the chooser. Where the unknowns and the rows are more
-/// than 32 bits can number, there is no memory for their tableau.
+/// Solves a system, with the entering columns of the chooser.
 pub fn solve<F: Fn(&[Frac]) -> Option<usize>>(
     alloc: Global,
     system: &System,
@@ -240,12 +239,9 @@ pub fn solve<F: Fn(&[Frac]) -> Option<usize>>(
 ) -> Result<Answer, AllocError>
     requires callable { F.IsAlwaysCallable chooser.now }
     requires chooses { IsChooser F.Fn chooser.now }
+    requires fits { right system.now < 2 ^ 32 }
     ensures { IfOk result (IsAnswer (rule_of F.Fn chooser.now) system.now) }
 {
-    let unknowns = system.unknowns();
-    if system.rows().len() > (u32::MAX - unknowns) as usize {
-        return Err(AllocError);
-    }
     let mut table = match opening(alloc, system) {
         Ok(table) => table,
         Err(Fault::NoMemory) => return Err(AllocError),
@@ -253,11 +249,12 @@ pub fn solve<F: Fn(&[Frac]) -> Option<usize>>(
             return Ok(Answer::Leaves {
                 pivots: Vec::new(alloc),
                 row: row as u32,
-                column,
+                col: column,
             });
         }
     };
-    let mut memory = new_memory(alloc, &table.rows, system.rows().len() + unknowns as usize)?;
+    let columns = system.rows().len() + system.unknowns() as usize;
+    let mut memory = new_memory(alloc, &table.rows, columns)?;
     loop {
         match make_step(alloc, system, chooser, &mut table, &mut memory) {
             Ok(Step::Pivot) => {}
@@ -281,7 +278,7 @@ pub fn solve<F: Fn(&[Frac]) -> Option<usize>>(
                 return Ok(Answer::Leaves {
                     pivots: table.pivots,
                     row,
-                    column,
+                    col: column,
                 });
             }
             Err(error) => return Err(error),
@@ -301,6 +298,7 @@ pub fn agree<F: Fn(&[Frac]) -> Option<usize>, G: Fn(&[Frac]) -> Option<usize>>(
     requires first_chooses { IsChooser F.Fn first.now }
     requires second_callable { G.IsAlwaysCallable second.now }
     requires second_chooses { IsChooser G.Fn second.now }
+    requires fits { right system.now < 2 ^ 32 }
     ensures first { IfOk result (λ pair. IsAnswer (rule_of F.Fn first.now) system.now pair.0) }
     ensures second { IfOk result (λ pair. IsAnswer (rule_of G.Fn second.now) system.now pair.1) }
     ensures agree { IfOk result (λ pair. Agree system.now pair.0 pair.1) }

@@ -371,7 +371,7 @@ impl Plain {
             Step::Leaves(i, c) => Ok(Answer::Leaves {
                 pivots: self.pivots,
                 row: u32::try_from(i)?,
-                column: u32::try_from(c)?,
+                col: u32::try_from(c)?,
             }),
         }
     }

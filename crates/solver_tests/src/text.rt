@@ -2,9 +2,10 @@
 //!
 //! `system UNKNOWNS ROWS` is followed by a line `weights I:W ..` and by a line `row RIGHT I:N ..` for each
 //! row, without the numbers that are 0. Answers are written in the same way.
-ghost use Rattle.std.specs.Prelude.{◌≡◌, ◌≤ℤ◌, pos, IfOk, vec_len};
+ghost use Rattle.std.specs.Prelude.{◌≡◌, ◌<◌, ◌^◌, ◌≤ℤ◌, pos, IfOk, IsTrue, vec_len};
 ghost use Rattle.raml_num.specs.Sums.{NoneNegative};
 ghost use Rattle.linear_rows.specs.Systems.{IsBelow};
+ghost use Rattle.tableau.specs.Tableaux.{right};
 
 use frac128::Frac;
 use linear_rows::{Row, System};
@@ -87,8 +88,17 @@ fn row(alloc: Global, unknowns: u32, words: SplitWhitespace<'_>) -> Result<Row, 
     Ok(row)
 }
 
+/// Whether 32 bits can number the columns of the system's tableau.
+fn fits(system: &System) -> bool
+    ensures { IsTrue result → right system.now < 2 ^ 32 }
+{
+    system.rows().len() <= (u32::MAX - system.unknowns()) as usize
+}
+
 /// The system that the next lines spell.
-pub(super) fn system(alloc: Global, lines: &mut Lines<'_>) -> Result<System, Fail> {
+pub(super) fn system(alloc: Global, lines: &mut Lines<'_>) -> Result<System, Fail>
+    ensures { IfOk result (λ s. right s < 2 ^ 32) }
+{
     let mut head = after(lines, "system")?;
     let unknowns = number(&mut head).ok_or("no unknowns")?;
     let rows = number(&mut head).ok_or("no rows")?;
@@ -98,7 +108,11 @@ pub(super) fn system(alloc: Global, lines: &mut Lines<'_>) -> Result<System, Fai
         let words = after(lines, "row")?;
         system.add_row(row(alloc, system.unknowns(), words)?)?;
     }
-    Ok(system)
+    if fits(&system) {
+        Ok(system)
+    } else {
+        Err(Fail::new("too many columns"))
+    }
 }
 
 /// Writes a line with the fractions that are not 0, each after its place.
@@ -129,12 +143,8 @@ pub(super) fn shown(alloc: Global, answer: &Answer) -> Result<String, Fail> {
             write_fracs(&mut out, "farkas", farkas)?;
             pivots
         }
-        Answer::Leaves {
-            pivots,
-            row,
-            column,
-        } => {
-            writeln!(&mut out, "answer leaves {row} {column}")?;
+        Answer::Leaves { pivots, row, col } => {
+            writeln!(&mut out, "answer leaves {row} {col}")?;
             pivots
         }
     };

@@ -41,6 +41,10 @@ pub record Rises (s : LinearSystem) (pivots : List (ℕ × ℕ)) (t : Tableau) (
 abbrev pub Rule : Type 1
 Rule = List ℤ → ℤ → Option ℕ → Type 0
 
+-- the rule that answers by a function of the gains and of what they are over
+abbrev pub rule_by : (List ℤ → ℤ → Option ℕ) → Rule
+rule_by pick ns d o = pick ns d ≡ o
+
 -- for the gains of the columns before the right side, the rule answers column c
 abbrev pub Answers : Rule → LinearSystem → Tableau → ℕ → Type 0
 Answers rule s t c = rule (take (right s) t.gains) t.over (Some c)

@@ -41,10 +41,13 @@ pub data Refused (s : LinearSystem) (t : Tableau) (e i c : ℕ) : Type 0 where
   InSearch : IsCompared (compared s) t e i c → NoFraction (entry t i c) (entry t i e) → Refused s t e i c
   -- that quotient in the leaving row
   InLeavingRow : Leaves s e t i → NoFraction (entry t i c) (entry t i e) → Refused s t e i c
-  -- in another row, or in the gains, the product of the number at (i, e) and the leaving row's quotient at c
-  InProduct : (l : ℕ) → Leaves s e t l → l ≢ i → i ≤ length t.rows → NoFraction (entry t i e *ℤ entry t l c) (t.over *ℤ entry t l e) → Refused s t e i c
+  -- in another row, or in the gains, the product of the number at (i, e) and the leaving row's quotient at
+  -- c, which is there
+  InProduct : (l : ℕ) → Leaves s e t l → l ≢ i → i ≤ length t.rows → (NoFraction (entry t l c) (entry t l e) → ⊥)
+      → NoFraction (entry t i e *ℤ entry t l c) (t.over *ℤ entry t l e) → Refused s t e i c
   -- the number at (i, c) less that product
-  InDifference : (l : ℕ) → Leaves s e t l → l ≢ i → i ≤ length t.rows → DifferenceLeaves (entry t i c) t.over (entry t i e *ℤ entry t l c) (t.over *ℤ entry t l e) → Refused s t e i c
+  InDifference : (l : ℕ) → Leaves s e t l → l ≢ i → i ≤ length t.rows
+      → DifferenceLeaves (entry t i c) t.over (entry t i e *ℤ entry t l c) (t.over *ℤ entry t l e) → Refused s t e i c
 
 -- -2^127, the one number of 128 bits that is no fraction
 abbrev pub least_number : ℤ

@@ -7,7 +7,7 @@ use Rattle.simplex.proofs.Tables.{opened_reached, fewer_pivots, shrinks, differ_
 use Rattle.simplex.proofs.solver.solve.Goals as goal
 
 pub loop-table-init : goal.loop-table-init
-loop-table-init g c = (opened_reached (rule_of g.F.Fn c.args.chooser.now) c.args.system.now c.in-Ok.table c.in-Ok.ensures.table, rw (c.deref.ensures.value, c.rows-2.ensures.all, c.unknowns-unknowns.ensures) at c.in_ok-memory.ensures)
+loop-table-init g c = (opened_reached (rule_of g.F.Fn c.args.chooser.now) c.args.system.now c.in-Ok.table c.in-Ok.ensures.table, rw (c.deref.ensures.value, c.rows.ensures.all, c.unknowns.ensures) at c.in_ok-memory.ensures)
 
 pub loop-table-smaller : goal.loop-table-smaller
 loop-table-smaller g c =
@@ -51,6 +51,5 @@ pub new_memory-requires : goal.new_memory-requires
 new_memory-requires g c =
     let count = c.in-Ok.ensures.table.rows.count in
     let opened = length-opened c.args.system.now in
-    let unknowns = c.unknowns-unknowns.ensures in
-    let fits = c.unknowns-unknowns.type_inv in
+    let fits = c.requires.fits in
     rw c.deref.ensures.value (omega arith)
