@@ -3,7 +3,7 @@ use Rattle.std.proofs.Common.{◌≡◌, refl, sym, ap, ◌∙◌, subst, ◌↔
 use Rattle.std.proofs.lemmas.Int.{ints}
 use Rattle.raml_num.specs.Sums.{total, NoneNegative}
 use Rattle.linear_rows.specs.Terms.{SparseRow, coefficient}
-use Rattle.linear_rows.specs.Systems.{LinearSystem, numbers_from, right_sides, Solves, Refutes, IsDual, ProvesLeast}
+use Rattle.linear_rows.specs.Systems.{LinearSystem, numbers_from, right_sides, Refutes, ProvesLeast}
 use Rattle.linear_rows.specs.Vectors.{dot, scale, plus, zeros, mix, times, AtMost}
 use Rattle.farkas_check.specs.Totals.{products}
 use Rattle.farkas_check.specs.Checks.{Check, column, refuting_columns, refuting, solving_rows, dual_columns, proving_least}

@@ -1,11 +1,11 @@
 -- Numbers in proportion solve, prove and refute alike.
-use Rattle.std.proofs.Common.{◌≡◌, refl, sym, ap, ◌∙◌, subst, ℕ, zero, suc, ◌<◌, ℤ, pos, ◌+ℤ◌, ◌*ℤ◌, ◌≤ℤ◌, ◌<ℤ◌, arith, List, [], ◌∷◌, length}
+use Rattle.std.proofs.Common.{◌≡◌, refl, sym, ap, ◌∙◌, subst, ℕ, zero, suc, ℤ, pos, ◌+ℤ◌, ◌*ℤ◌, ◌≤ℤ◌, ◌<ℤ◌, arith, List, [], ◌∷◌, length}
 use Rattle.std.proofs.lemmas.Int.{ints}
 use borrow.Author.Differences.{up}
 use Rattle.raml_num.specs.Sums.{NoneNegative}
 use Rattle.raml_num.proofs.Differences.{diffs, is_diff, diff_same, mul_assoc, mul_over}
 use Rattle.raml_num.proofs.Signed.{natural, none_mul, le_mul, lt_cancel, cancelled}
-use Rattle.linear_rows.specs.Systems.{LinearSystem, Solves, Refutes, IsDual, ProvesLeast, IsLeast, matrix, right_sides}
+use Rattle.linear_rows.specs.Systems.{LinearSystem, Solves, Refutes, IsDual, IsLeast, matrix, right_sides}
 use Rattle.linear_rows.specs.Vectors.{dot, scale, plus, zeros, mix, times, AtMost}
 use Rattle.linear_rows.specs.Laws.{InProportion, ProportionsAgree}
 use Rattle.linear_rows.proofs.Products.{dot-scale, length-scale}

@@ -4,7 +4,8 @@ use Rattle.std.proofs.lemmas.Int.{ints}
 use Rattle.raml_num.proofs.Differences.{diffs, diff-pos, is_diff, diff_same}
 use Rattle.frac128.specs.declared.Frac.{Frac}
 use Rattle.frac128.specs.Values.{numerator, denominator}
-use Rattle.frac_rows.specs.Entries.{Entries, at, nought}
+use Rattle.frac128.specs.Nought.{nought}
+use Rattle.frac_rows.specs.Entries.{Entries, at}
 use Rattle.linear_rows.specs.Systems.{LinearSystem, IsSystem}
 use Rattle.linear_rows.specs.Vectors.{plus}
 use Rattle.tableau.specs.Places.{row_at, at_each, column, counted, only, spread}
@@ -21,7 +22,7 @@ use Rattle.tableau.proofs.Agreeing.{ends_least, rise_refutes}
 use Rattle.tableau.specs.Courses.{Rule, Course, Follows}
 use Rattle.simplex.specs.Standing.{Stands, RowStands, RowsStand, entries_at}
 use Rattle.simplex.specs.Reading.{AreOver, HaveParts, NoneTwice, IsSpreadTo, frac_at, column_at}
-use Rattle.simplex.specs.declared.solver.Table.{Table}
+use Rattle.simplex.specs.declared.table.Table.{Table}
 use Rattle.simplex.specs.Solving.{IsAfter, IsAt, IsOpening, Reached, ReachedEnd, ReachedRise, IsBest, IsRefuted}
 use Rattle.simplex.proofs.Solves.{stands_with, opening_after, fewer}
 use Rattle.tableau.proofs.Pivoting.{same_or_not}
@@ -93,7 +94,7 @@ spread_over d n cs zs xs ys once e over h = record {
 
 -- the other sign
 neg_stands : (d n : ℤ) (x y : Frac) → numerator y ≡ neg_ℤ (numerator x) → denominator y ≡ denominator x → Stands d n x → Stands d (neg_ℤ n) y
-neg_stands d n x y e f s = record { is = rw (e, f) (neg_left x.num d ∙ ap neg_ℤ s.is ∙ sym (neg_left n (pos x.den))) }
+neg_stands d n x y e f s = let is : y.num *ℤ d ≡ neg_ℤ n *ℤ pos y.den = rw (e, f) (neg_left x.num d ∙ ap neg_ℤ s.is ∙ sym (neg_left n (pos x.den))) in record { is = is }
   where
     neg_left : (a b : ℤ) → neg_ℤ a *ℤ b ≡ neg_ℤ (a *ℤ b)
     neg_left a b = rw (is_diff a, is_diff b) (simp (diffs, diff-pos) (diff_same _ _ _ _ (omega arith)))
@@ -207,7 +208,7 @@ module _ (s : LinearSystem) (system : IsSystem s) (pivots : List (ℕ × ℕ)) (
       (first_over t.over (map neg_ℤ (column c t.rows)) one ns e f (neg_over t.over (column c t.rows) xs ns (column_over t rows c xs after.stand.rows_stand h) k)) w)
     where
       whole_stands : (d : ℤ) (x : Frac) → numerator x ≡ pos 1 → denominator x ≡ 1 → Stands d d x
-      whole_stands d x e f = record { is = rw (e, f) (omega (arith, ints)) }
+      whole_stands d x e f = let is : x.num *ℤ d ≡ d *ℤ pos x.den = rw (e, f) (omega (arith, ints)) in record { is = is }
 
       number_over : (d : ℤ) (zs : List ℤ) (x : Frac) (xs : List Frac) → numerator x ≡ pos 1 → denominator x ≡ 1 → AreOver d zs xs → (i : ℕ) → i < length (d ∷ zs) → Stands d (places.at (d ∷ zs) i) (frac_at (x ∷ xs) i)
       number_over d zs x xs e f o zero q = whole_stands d x e f

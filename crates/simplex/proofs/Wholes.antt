@@ -1,5 +1,5 @@
 -- Answers over every number over which they are whole.
-use Rattle.std.proofs.Common.{◌≡◌, refl, sym, ap, ◌∙◌, ℕ, suc, ◌<◌, ℤ, pos, ◌*ℤ◌, ◌<ℤ◌, arith, List, [], ◌∷◌}
+use Rattle.std.proofs.Common.{◌≡◌, refl, sym, ap, ◌∙◌, suc, ℤ, pos, ◌*ℤ◌, arith, List, [], ◌∷◌}
 use Rattle.std.proofs.lemmas.Int.{ints}
 use Rattle.raml_num.proofs.Differences.{diffs, is_diff, diff_same}
 use Rattle.raml_num.proofs.Signed.{cancelled}

@@ -10,8 +10,8 @@ use Rattle.tableau.specs.Tableaux.{Tableau, opening, slacks, solution, dual, ray
 use Rattle.tableau.specs.Courses.{Rule, Course, Ends, Rises, Follows, Answers, Refuses}
 use Rattle.simplex.specs.declared.answer.Answer.{Answer}
 use Rattle.simplex.specs.declared.answer.Answer.TheVariants.{Best, NoSolution, Leaves}
-use Rattle.simplex.specs.declared.solver.Table.{Table}
-use Rattle.simplex.specs.declared.solver.Memory.{Memory}
+use Rattle.simplex.specs.declared.table.Table.{Table}
+use Rattle.simplex.specs.declared.solver.Scratch.{Scratch}
 use Rattle.simplex.specs.declared.solver.Step.{Step}
 use Rattle.simplex.specs.declared.solver.Step.TheVariants as step
 use Rattle.simplex.specs.Standing.{TableStands, RowsStand, RowStands}
@@ -64,9 +64,9 @@ IsAnswer rule s (NoSolution farkas pivots) = IsRefuted rule s pivots.items farka
 IsAnswer rule s (Leaves pivots row column) = Refuses rule s pivots.items row column
 
 -- n gains, which are 0, and sets of n columns for the rows
-pub record IsReady (n : ℕ) (rows : List Entries) (memory : Memory) : Type 0 where
-  pub cleared : AreEntries 0 n [] memory.gains.items
-  pub cover : Cover n rows memory.sets.items
+pub record IsReady (n : ℕ) (rows : List Entries) (scratch : Scratch) : Type 0 where
+  pub cleared : AreEntries 0 n [] scratch.gains.items
+  pub cover : Cover n rows scratch.sets.items
 
 abbrev pub IsAt : LinearSystem → Table → Tableau → Type 0
 IsAt s table t = IsAfter s table.pivots.items table.basis.items table.rows.items table.gains t

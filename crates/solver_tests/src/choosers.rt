@@ -1,7 +1,7 @@
 //! Rules of the entering column.
 ghost use Rattle.std.specs.Prelude.{◌≡◌, ◌<◌, ◌≤ℤ◌, ◌<ℤ◌, ℕ, length, pos, slice_index_or, IfSome, IfNone, IfOk, [], ◌∷◌};
 ghost use Rattle.frac128.specs.Values.{numerator};
-ghost use Rattle.frac_rows.specs.Entries.{nought};
+ghost use Rattle.frac128.specs.Nought.{nought};
 
 use frac128::Frac;
 

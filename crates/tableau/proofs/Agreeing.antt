@@ -4,9 +4,9 @@ use Rattle.std.proofs.lemmas.Int.{ints}
 use Rattle.linear_rows.specs.Systems.{LinearSystem, IsSystem, Refutes, ProvesLeast}
 use Rattle.linear_rows.specs.Vectors.{dot}
 use Rattle.linear_rows.proofs.Duality.{least, no_solution}
-use Rattle.tableau.specs.Tableaux.{Tableau, right, solution, dual, ray, Leaves}
+use Rattle.tableau.specs.Tableaux.{Tableau, right, solution, dual, ray, Exits}
 use Rattle.tableau.specs.Courses.{Course, Ends, Rises}
-use Rattle.tableau.proofs.Ending.{good_course, courses_end, one_row_leaves}
+use Rattle.tableau.proofs.Ending.{good_course, courses_end, one_row_exits}
 use Rattle.tableau.proofs.Reading.{proves_least, refutes}
 
 pub ends_least : (s : LinearSystem) (ps : List (ℕ × ℕ)) (t : Tableau) → IsSystem s → Ends s ps t → ProvesLeast s (solution s t) (dual s t) t.over
@@ -18,8 +18,8 @@ rise_refutes s ps t c h e = refutes s h t (good_course s ps t h e.course) c e.en
 pub course_ends : (s : LinearSystem) (ps : List (ℕ × ℕ)) (t : Tableau) → IsSystem s → Course s ps t → length ps < 2 ^ right s
 course_ends s ps t h k = courses_end s ps t h k
 
-pub one_leaves : (s : LinearSystem) (ps : List (ℕ × ℕ)) (t : Tableau) (c l m : ℕ) → IsSystem s → Course s ps t → Leaves s c t l → Leaves s c t m → l ≡ m
-one_leaves s ps t c l m h k a b = one_row_leaves s t c l m (good_course s ps t h k) a b
+pub one_exits : (s : LinearSystem) (ps : List (ℕ × ℕ)) (t : Tableau) (c l m : ℕ) → IsSystem s → Course s ps t → Exits s c t l → Exits s c t m → l ≡ m
+one_exits s ps t c l m h k a b = one_row_exits s t c l m (good_course s ps t h k) a b
 
 -- two proofs that a sum is least tell the same sum
 pub same_sums : (s : LinearSystem) (x y z w : List ℤ) (t u : ℤ) → ProvesLeast s x y t → ProvesLeast s z w u → u *ℤ dot s.weights x ≡ t *ℤ dot s.weights z

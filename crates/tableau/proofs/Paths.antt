@@ -1,12 +1,12 @@
 -- Courses by one rule, side by side.
-use Rattle.std.proofs.Common.{◌≡◌, refl, sym, ap, subst, ◌∙◌, ℕ, ◌<◌, ℤ, pos, ◌≤ℤ◌, ◌<ℤ◌, arith, List, [], ◌∷◌, length, take, Option, Some, None, unwrap_or}
+use Rattle.std.proofs.Common.{◌≡◌, refl, sym, ap, subst, ◌∙◌, ℕ, ◌<◌, ℤ, pos, ◌≤ℤ◌, ◌<ℤ◌, arith, List, [], ◌∷◌, length, Option, Some, unwrap_or}
 use Rattle.std.proofs.lemmas.Int.{ints}
 use Rattle.linear_rows.specs.Systems.{LinearSystem, IsSystem}
 use Rattle.tableau.specs.Places.{at, row_at}
-use Rattle.tableau.specs.Tableaux.{Tableau, opening, pivot, right, Leaves}
-use Rattle.tableau.specs.Refusals.{Refused, InSearch, InLeavingRow, InProduct, InDifference}
-use Rattle.tableau.specs.Courses.{Rule, Enters, IsPivot, Leads, Course, Ends, Rises, Follows, FollowsFrom, Answers, Refuses, AtOpening, AtPivot, rule_by}
-use Rattle.tableau.proofs.Ending.{Good, good_opening, good_pivot, one_row_leaves}
+use Rattle.tableau.specs.Tableaux.{Tableau, opening, pivot, Exits}
+use Rattle.tableau.specs.Refusals.{Refused, InSearch, InExitingRow, InProduct, InDifference}
+use Rattle.tableau.specs.Courses.{Enters, IsPivot, Leads, Course, Ends, Rises, Follows, FollowsFrom, Answers, Refuses, AtOpening, AtPivot, rule_by}
+use Rattle.tableau.proofs.Ending.{Good, good_opening, good_pivot, one_row_exits}
 use Rattle.tableau.specs.Laws.{OneCourse}
 
 some_is : (a b : ℕ) → Some a ≡ Some b → a ≡ b
@@ -31,7 +31,7 @@ module _ (pick : List ℤ → ℤ → Option ℕ) (s : LinearSystem) where
   unfolding Stops
   rise_stops ps t e h b l c p a =
       let same : c ≡ e = one_answer t c e a b in
-      low_high (at (row_at t.rows l) c) (subst (λ (k : ℕ). at (row_at t.rows l) k ≤ℤ pos 0) (sym same) (h.none l p.leaves.inside)) p.leaves.positive
+      low_high (at (row_at t.rows l) c) (subst (λ (k : ℕ). at (row_at t.rows l) k ≤ℤ pos 0) (sym same) (h.none l p.exits.inside)) p.exits.positive
 
   refusal_stops : (t : Tableau) (e i k : ℕ) → Answers (rule_by pick) s t e → Refused s t e i k → Stops t
   unfolding Stops
@@ -44,7 +44,7 @@ module _ (pick : List ℤ → ℤ → Option ℕ) (s : LinearSystem) where
   one_path v ((l, c) ∷ ps) [] t u g h f st k j su = absurd (su l c (subst (λ (w : Tableau). IsPivot s w l c) k h.0) (subst (λ (w : Tableau). Answers (rule_by pick) s w c) k f.0))
   one_path v ((l, c) ∷ ps) ((m, e) ∷ qs) t u g h f st k j su =
       let a : c ≡ e = one_answer v c e f.0 j.0 in
-      let b : l ≡ m = one_row_leaves s v c l m g h.0.leaves (subst (λ (z : ℕ). Leaves s z v m) (sym a) k.0.leaves) in
+      let b : l ≡ m = one_row_exits s v c l m g h.0.exits (subst (λ (z : ℕ). Exits s z v m) (sym a) k.0.exits) in
       let k' : Leads s (pivot l c v) qs u = rw (a, b) k.1 in
       let j' : FollowsFrom (rule_by pick) s (pivot l c v) qs = rw (a, b) j.1 in
       let r = one_path (pivot l c v) ps qs t u (good_pivot s v l c g h.0) h.1 f.1 st k' j' su in
@@ -53,14 +53,14 @@ module _ (pick : List ℤ → ℤ → Option ℕ) (s : LinearSystem) where
   from_opening : (ps qs : List (ℕ × ℕ)) (t u : Tableau) → IsSystem s → Course s ps t → Follows (rule_by pick) s ps → Stops t → Course s qs u → Follows (rule_by pick) s qs → Stops u → (ps ≡ qs) × (t ≡ u)
   from_opening ps qs t u h c f st d j su = one_path (opening s) ps qs t u (good_opening s h) c.leads f st d.leads j su
 
-  none_leaves : (ps : List (ℕ × ℕ)) (t : Tableau) (c l : ℕ) → Rises s ps t c → l < length t.rows → pos 0 <ℤ at (row_at t.rows l) c → ⊥
-  none_leaves ps t c l r h p = low_high (at (row_at t.rows l) c) (r.none l h) p
+  none_exits : (ps : List (ℕ × ℕ)) (t : Tableau) (c l : ℕ) → Rises s ps t c → l < length t.rows → pos 0 <ℤ at (row_at t.rows l) c → ⊥
+  none_exits ps t c l r h p = low_high (at (row_at t.rows l) c) (r.none l h) p
 
   rise_refuses_none : (ps : List (ℕ × ℕ)) (t : Tableau) (c i k : ℕ) → Rises s ps t c → Refused s t c i k → ⊥
-  rise_refuses_none ps t c i k r (InSearch w n) = none_leaves ps t c i r w.tied.inside w.tied.positive
-  rise_refuses_none ps t c i k r (InLeavingRow w n) = none_leaves ps t c i r w.inside w.positive
-  rise_refuses_none ps t c i k r (InProduct l w m h there n) = none_leaves ps t c l r w.inside w.positive
-  rise_refuses_none ps t c i k r (InDifference l w m h d) = none_leaves ps t c l r w.inside w.positive
+  rise_refuses_none ps t c i k r (InSearch w n) = none_exits ps t c i r w.tied.inside w.tied.positive
+  rise_refuses_none ps t c i k r (InExitingRow w n) = none_exits ps t c i r w.inside w.positive
+  rise_refuses_none ps t c i k r (InProduct l w m h there n) = none_exits ps t c l r w.inside w.positive
+  rise_refuses_none ps t c i k r (InDifference l w m h d) = none_exits ps t c l r w.inside w.positive
 
   end_refused : (ps qs : List (ℕ × ℕ)) (t : Tableau) (i k : ℕ) → IsSystem s → Ends s ps t → Follows (rule_by pick) s ps → Refuses (rule_by pick) s qs i k → ⊥
   end_refused ps qs t i k h e f (AtOpening n o) = e.course.opens i k o

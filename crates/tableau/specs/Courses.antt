@@ -2,7 +2,7 @@
 use Rattle.std.specs.Prelude.{◌≡◌, ◌≢◌, ℕ, ◌<◌, List, [], ◌∷◌, length, take, ℤ, pos, ◌≤ℤ◌, ◌<ℤ◌, Option, Some}
 use Rattle.linear_rows.specs.Systems.{LinearSystem}
 use Rattle.tableau.specs.Places.{at, row_at}
-use Rattle.tableau.specs.Tableaux.{Tableau, right, opening, pivot, entry, Leaves}
+use Rattle.tableau.specs.Tableaux.{Tableau, right, opening, pivot, entry, Exits}
 use Rattle.tableau.specs.Refusals.{Refused, least_number}
 
 -- column c, before the right side, has positive gain
@@ -13,7 +13,7 @@ pub record Enters (s : LinearSystem) (t : Tableau) (c : ℕ) : Type 0 where
 -- a pivot in row l and column c is lawful, and no number of it leaves the range of fractions
 pub record IsPivot (s : LinearSystem) (t : Tableau) (l c : ℕ) : Type 0 where
   pub enters : Enters s t c
-  pub leaves : Leaves s c t l
+  pub exits : Exits s c t l
   pub whole : (i k : ℕ) → Refused s t c i k → ⊥
 
 -- the pivots, each a row and a column, lead from t to u

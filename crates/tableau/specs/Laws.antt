@@ -2,7 +2,7 @@
 use Rattle.std.specs.Prelude.{◌≡◌, ℕ, ◌<◌, ◌^◌, List, length, ℤ, ◌*ℤ◌, Option}
 use Rattle.linear_rows.specs.Vectors.{dot}
 use Rattle.linear_rows.specs.Systems.{LinearSystem, IsSystem, Refutes, ProvesLeast}
-use Rattle.tableau.specs.Tableaux.{Tableau, right, solution, dual, ray, Leaves}
+use Rattle.tableau.specs.Tableaux.{Tableau, right, solution, dual, ray, Exits}
 use Rattle.tableau.specs.Courses.{Course, Ends, Rises, Follows, Answers, Refuses, rule_by}
 
 abbrev pub EndsAreLeast : Type 0
@@ -15,9 +15,9 @@ RisesRefute = (s : LinearSystem) (pivots : List (ℕ × ℕ)) (t : Tableau) (c :
 abbrev pub CoursesEnd : Type 0
 CoursesEnd = (s : LinearSystem) (pivots : List (ℕ × ℕ)) (t : Tableau) → IsSystem s → Course s pivots t → length pivots < 2 ^ right s
 
--- at most one row can leave
-abbrev pub OneRowLeaves : Type 0
-OneRowLeaves = (s : LinearSystem) (pivots : List (ℕ × ℕ)) (t : Tableau) (c l m : ℕ) → IsSystem s → Course s pivots t → Leaves s c t l → Leaves s c t m → l ≡ m
+-- at most one row can exit
+abbrev pub OneRowExits : Type 0
+OneRowExits = (s : LinearSystem) (pivots : List (ℕ × ℕ)) (t : Tableau) (c l m : ℕ) → IsSystem s → Course s pivots t → Exits s c t l → Exits s c t m → l ≡ m
 
 -- two ends of one system have the same weighted sum
 abbrev pub EndsAgree : Type 0

@@ -4,7 +4,7 @@
 //! end. `proofs/` shows what an end tells of the system, and that every course ends.
 #![tactic(auto)]
 
-ghost use Rattle.tableau.specs.Laws.{EndsAreLeast, RisesRefute, CoursesEnd, OneRowLeaves, EndsAgree, EndsOrRises, OneCourse};
+ghost use Rattle.tableau.specs.Laws.{EndsAreLeast, RisesRefute, CoursesEnd, OneRowExits, EndsAgree, EndsOrRises, OneCourse};
 ghost use Rattle.tableau.specs.Example.{Examples};
 
 /// Where no gain is left, the tableau has a solution and a dual solution of the same sum.
@@ -22,9 +22,9 @@ pub fn courses_end()
     ensures { CoursesEnd }
 {}
 
-/// The row that leaves the basis is one.
-pub fn one_row_leaves()
-    ensures { OneRowLeaves }
+/// The row that exits the basis is one.
+pub fn one_row_exits()
+    ensures { OneRowExits }
 {}
 
 /// By whichever rules columns enter, the least weighted sum is the same.

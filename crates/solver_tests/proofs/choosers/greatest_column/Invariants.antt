@@ -1,7 +1,7 @@
 use Rattle.std.proofs.Common.{◌<◌, ◌≤ℤ◌, ◌<ℤ◌, ℕ, pos, length, slice_index_or}
 use Rattle.std.specs.Prelude.{IfSome, IfNone}
 use Rattle.frac128.specs.Values.{numerator}
-use Rattle.frac_rows.specs.Entries.{nought}
+use Rattle.frac128.specs.Nought.{nought}
 use Rattle.solver_tests.proofs.choosers.greatest_column.Given as goal
 
 abbrev pub invariant-loop-c : goal.invariant-loop-c

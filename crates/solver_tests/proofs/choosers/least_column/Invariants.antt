@@ -1,6 +1,6 @@
 use Rattle.std.proofs.Common.{◌<◌, ◌≤ℤ◌, ℕ, pos, slice_index_or}
 use Rattle.frac128.specs.Values.{numerator}
-use Rattle.frac_rows.specs.Entries.{nought}
+use Rattle.frac128.specs.Nought.{nought}
 use Rattle.solver_tests.proofs.choosers.least_column.Given as goal
 
 abbrev pub invariant-loop-c : goal.invariant-loop-c

@@ -1,7 +1,7 @@
 use Rattle.std.proofs.Common.{ap, length}
 use Rattle.simplex.proofs.Solves.{if_ok}
 use Rattle.simplex.proofs.Tables.{solution_read}
-use Rattle.simplex.proofs.solver.solution.Goals as goal
+use Rattle.simplex.proofs.table.solution.Goals as goal
 
 pub returns : goal.returns
 returns c t after = if_ok c.negated.result _ _ (λ ys h.

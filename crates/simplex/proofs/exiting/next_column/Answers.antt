@@ -2,8 +2,8 @@ use Rattle.std.proofs.Common.{rules, ◌≡◌, ◌∙◌, min, ◌<◌, ◌≤�
 use Rattle.simplex.specs.Standing.{entries_at}
 use Rattle.simplex.proofs.Rows.{among_at, row_is}
 use Rattle.simplex.proofs.Narrowing.{none_more, none_whole}
-use Rattle.simplex.proofs.leaving.next_column.Goals.{in-Some, in_default}
-use Rattle.simplex.proofs.leaving.next_column.Goals as goal
+use Rattle.simplex.proofs.exiting.next_column.Goals.{in-Some, in_default}
+use Rattle.simplex.proofs.exiting.next_column.Goals as goal
 
 pub bounds-rows-row : goal.bounds-rows-row
 bounds-rows-row c = c.requires.inside (get_or c.args.among.now c.loop-row.row-index 0) (among_at c.args.among.now c.loop-row.row-index 0 (omega arith))

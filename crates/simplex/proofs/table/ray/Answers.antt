@@ -1,7 +1,7 @@
 use Rattle.std.proofs.Common.{◌∙◌, ap, length, ◌∷◌, List, ℕ}
 use Rattle.simplex.proofs.Solves.{if_ok}
 use Rattle.simplex.proofs.Tables.{ray_read}
-use Rattle.simplex.proofs.solver.ray.Goals as goal
+use Rattle.simplex.proofs.table.ray.Goals as goal
 
 pub returns : goal.returns
 returns c t after p = if_ok c.spread.result _ _ (λ ys h.

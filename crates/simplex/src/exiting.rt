@@ -1,44 +1,45 @@
-//! The row that leaves the basis.
+//! The row that exits the basis.
 
 ghost use Rattle.std.specs.Prelude.{◌≡◌, ◌<◌, ◌≤◌, ◌<ℤ◌, ℕ, pos, length, IfOk, OnOk, MatchOption};
 ghost use Rattle.frac128.specs.Values.{numerator, IsQuotient};
 ghost use Rattle.frac128.specs.declared.Frac.{Frac};
-ghost use Rattle.frac_rows.specs.Entries.{at, nought, QuotientLeaves};
+ghost use Rattle.frac128.specs.Nought.{nought};
+ghost use Rattle.frac_rows.specs.Entries.{at, QuotientLeaves};
 ghost use Rattle.simplex.specs.Among.{Among};
 ghost use Rattle.simplex.specs.Standing.{entries_at, AreTouching};
-ghost use Rattle.simplex.specs.Ties.{IsBounding, AreBounding, AreTied, RatioLeaves, Keeps, ratio_order, IsLeaving, SearchLeaves, columns_to};
+ghost use Rattle.simplex.specs.Ties.{IsBounding, AreBounding, AreTied, RatioLeaves, Keeps, ratio_order, IsExiting, SearchLeaves, columns_to};
 
-use crate::pivot::Fault;
+use crate::fault::Fault;
 use frac_rows::FracRow;
 use frac128::Frac;
 use std::alloc::{AllocError, Global};
 use std::cmp::Ordering;
 
-/// The rows with a positive number at column `s`, of those that have one there.
+/// The rows with a positive number at column `entering`, of those that have one there.
 fn bounding(
     alloc: Global,
     rows: &[FracRow],
-    s: u32,
+    entering: u32,
     touching: &[usize],
 ) -> Result<Vec<usize>, AllocError>
-    requires { AreTouching s rows.now touching.now }
-    ensures { IfOk result (λ is. AreBounding s rows.now is.items) }
+    requires { AreTouching entering rows.now touching.now }
+    ensures { IfOk result (λ is. AreBounding entering rows.now is.items) }
 {
     let mut all = Vec::new(alloc);
     for row in touching {
-        if rows[*row].at(s).num() > 0 {
+        if rows[*row].at(entering).num() > 0 {
             all.push(*row)?;
         }
     }
     Ok(all)
 }
 
-/// The ratio of a row's number at `column` to that at `s`, or None where it leaves the range.
-fn ratio_of(row: &FracRow, s: u32, column: u32) -> Option<Frac>
-    requires { pos 0 <ℤ numerator (at s row.now) }
-    ensures { MatchOption result (QuotientLeaves (at column row.now) (at s row.now)) (IsQuotient (at column row.now) (at s row.now)) }
+/// The ratio of a row's number at `column` to that at `entering`, or None where it leaves the range.
+fn ratio_of(row: &FracRow, entering: u32, column: u32) -> Option<Frac>
+    requires { pos 0 <ℤ numerator (at entering row.now) }
+    ensures { MatchOption result (QuotientLeaves (at column row.now) (at entering row.now)) (IsQuotient (at column row.now) (at entering row.now)) }
 {
-    row.at(column).div(&row.at(s))
+    row.at(column).div(&row.at(entering))
 }
 
 /// How a ratio compares with the least so far. Where there is none so far, it is less.
@@ -68,22 +69,22 @@ fn keep(tied: &mut Vec<usize>, least: &mut Frac, row: usize, ratio: Frac) -> Res
     Ok(())
 }
 
-/// Of these rows, those with the least ratio of the number at `column` to that at `s`.
+/// Of these rows, those with the least ratio of the number at `column` to that at `entering`.
 fn ties(
     alloc: Global,
     rows: &[FracRow],
-    s: u32,
+    entering: u32,
     column: u32,
     among: &[usize],
 ) -> Result<Vec<usize>, Fault>
-    requires { (i : ℕ) → Among i among.now → IsBounding s rows.now i }
-    ensures tied { IfOk result (λ is. (least : Frac) × AreTied s column rows.now among.now is.items least) }
-    ensures leaves { (i c : ℕ) → result ≡ Err (Fault.Leaves i c) → RatioLeaves s column rows.now among.now i c }
+    requires { (i : ℕ) → Among i among.now → IsBounding entering rows.now i }
+    ensures tied { IfOk result (λ is. (least : Frac) × AreTied entering column rows.now among.now is.items least) }
+    ensures leaves { (i c : ℕ) → result ≡ Err (Fault.Leaves i c) → RatioLeaves entering column rows.now among.now i c }
 {
     let mut tied = Vec::new(alloc);
     let mut least = Frac::zero();
     for row in among {
-        match ratio_of(&rows[*row], s, column) {
+        match ratio_of(&rows[*row], entering, column) {
             Some(ratio) => keep(&mut tied, &mut least, *row, ratio)?,
             None => return Err(Fault::Leaves { row: *row, column }),
         }
@@ -91,55 +92,55 @@ fn ties(
     Ok(tied)
 }
 
-/// The row that leaves the basis for column `s`, or None where no row bounds that column. Rows are
+/// The row that exits the basis for column `entering`, or None where no row bounds that column. Rows are
 /// compared by their ratios at column `right`, and where these tie at the columns from `slack` on, until
 /// one is left.
-pub(crate) fn leaving(
+pub(crate) fn exiting(
     alloc: Global,
     rows: &[FracRow],
     touching: &[usize],
-    s: u32,
+    entering: u32,
     slack: u32,
     right: u32,
 ) -> Result<Option<usize>, Fault>
     requires order { slack ≤ right }
-    requires touching { AreTouching s rows.now touching.now }
-    ensures row { (l : ℕ) → result ≡ Ok (Some l) → IsLeaving (columns_to right slack right) s rows.now l }
-    ensures none { (i : ℕ) → result ≡ Ok None → ¬ IsBounding s rows.now i }
-    ensures leaves { (i c : ℕ) → result ≡ Err (Fault.Leaves i c) → SearchLeaves (columns_to right slack right) s rows.now i c }
+    requires touching { AreTouching entering rows.now touching.now }
+    ensures row { (l : ℕ) → result ≡ Ok (Some l) → IsExiting (columns_to right slack right) entering rows.now l }
+    ensures none { (i : ℕ) → result ≡ Ok None → ¬ IsBounding entering rows.now i }
+    ensures leaves { (i c : ℕ) → result ≡ Err (Fault.Leaves i c) → SearchLeaves (columns_to right slack right) entering rows.now i c }
 {
-    let all = bounding(alloc, rows, s, touching)?;
+    let all = bounding(alloc, rows, entering, touching)?;
     if all.is_empty() {
         return Ok(None);
     }
-    match narrowed(alloc, rows, s, slack, right, &all) {
+    match narrowed(alloc, rows, entering, slack, right, &all) {
         Ok(row) => Ok(Some(row)),
         Err(fault) => Err(fault),
     }
 }
 
-/// The row that is left of these, which are all that bound column `s`.
+/// The row that is left of these, which are all that bound column `entering`.
 fn narrowed(
     alloc: Global,
     rows: &[FracRow],
-    s: u32,
+    entering: u32,
     slack: u32,
     right: u32,
     all: &[usize],
 ) -> Result<usize, Fault>
     requires order { slack ≤ right }
-    requires bounding { AreBounding s rows.now all.now }
+    requires bounding { AreBounding entering rows.now all.now }
     requires some { 0 < length all.now }
-    ensures row { IfOk result (IsLeaving (columns_to right slack right) s rows.now) }
-    ensures leaves { (i c : ℕ) → result ≡ Err (Fault.Leaves i c) → SearchLeaves (columns_to right slack right) s rows.now i c }
+    ensures row { IfOk result (IsExiting (columns_to right slack right) entering rows.now) }
+    ensures leaves { (i c : ℕ) → result ≡ Err (Fault.Leaves i c) → SearchLeaves (columns_to right slack right) entering rows.now i c }
 {
-    let mut tied = match ties(alloc, rows, s, right, all) {
+    let mut tied = match ties(alloc, rows, entering, right, all) {
         Ok(tied) => tied,
         Err(fault) => return Err(fault),
     };
     let mut column = next_column(rows, &tied, slack, right);
     while tied.len() > 1 && column < right {
-        match ties(alloc, rows, s, column, &tied) {
+        match ties(alloc, rows, entering, column, &tied) {
             Ok(fewer) => tied = fewer,
             Err(fault) => return Err(fault),
         }

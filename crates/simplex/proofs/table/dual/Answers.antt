@@ -1,7 +1,7 @@
 use Rattle.std.proofs.Common.{refl, ap, length, ◌+◌}
 use Rattle.simplex.proofs.Solves.{if_ok}
 use Rattle.simplex.proofs.Tables.{dual_read}
-use Rattle.simplex.proofs.solver.dual.Goals as goal
+use Rattle.simplex.proofs.table.dual.Goals as goal
 
 pub returns : goal.returns
 returns c t after = if_ok c.spread.result _ _ (λ ys h.
