@@ -1,9 +1,10 @@
 -- The first fault of a list of checks.
-use Rattle.std.proofs.Common.{◌≡◌, refl, sym, subst, List, [], ◌∷◌, ◌++◌, true, false, Option, Some, None, is_some, inl, inr, ◌↔◌, unwrap_or}
+use Rattle.std.proofs.Common.{◌≡◌, refl, sym, subst, ℕ, List, [], ◌∷◌, ◌++◌, true, false, Option, Some, None, is_some, inl, inr, ◌↔◌, unwrap_or}
 use mathlib.Core.Bool.{false≢true}
+use Rattle.raml_num.specs.Sums.{total}
 use Rattle.farkas_check.specs.declared.Verdict.{Verdict}
 use Rattle.farkas_check.specs.declared.Verdict.TheVariants.{Yes, No, Leaves}
-use Rattle.farkas_check.specs.Checks.{Check, Passes, EachPasses, IsFirstFault, IsVerdict}
+use Rattle.farkas_check.specs.Checks.{Check, Meets, Passes, EachPasses, EachFits, IsFirstFault, IsVerdict}
 use Rattle.farkas_check.specs.Faults.{FaultOf, FirstFaultOf}
 
 -- what is found in the rest is found in all
@@ -32,15 +33,22 @@ found rest more all k (Some v) s e h r = r.fails v (subst (λ ks. IsFirstFault k
 pub none_found : (rest all : List Check) → rest ≡ [] → Reduces rest all → EachPasses all
 none_found rest all e r = r.passes (subst EachPasses (sym e) tt)
 
-pub fault_append : (ks ls : List Check) (v : Verdict) → IsFirstFault ks v → IsFirstFault (ks ++ ls) v
-fault_append [] ls v h = absurd h
-fault_append (k ∷ ks) ls v (inl f) = inl f
-fault_append (k ∷ ks) ls v (inr q) = inr (q.0, fault_append ks ls v q.1)
+-- what is asked of each total, whether or not both totals fit
+abbrev pub EachMeets : List Check → Type 0
+EachMeets [] = Unit {0}
+EachMeets (k ∷ ks) = Meets k.demand (total k.terms) × EachMeets ks
 
-pub first_append : (ks ls : List Check) (o : Option Verdict) → EachPasses ks → FirstFaultOf ls o → FirstFaultOf (ks ++ ls) o
-first_append [] ls o p h = h
-first_append (k ∷ ks) ls None p h = (p.0, first_append ks ls None p.1 h)
-first_append (k ∷ ks) ls (Some v) p h = inr (p.0, first_append ks ls (Some v) p.1 h)
+pub found_first : (ks ls : List Check) (o : Option Verdict) → is_some o ≡ true → FirstFaultOf ks o → FirstFaultOf (ks ++ ls) o
+found_first ks ls None s h = absurd (false≢true s)
+found_first [] ls (Some v) s h = absurd h
+found_first (k ∷ ks) ls (Some v) s (inl f) = inl f
+found_first (k ∷ ks) ls (Some v) s (inr q) = inr (q.0, found_first ks ls (Some v) s q.1)
+
+pub found_next : (ks ls : List Check) (o p : Option Verdict) → is_some o ≡ false → FirstFaultOf ks o → FirstFaultOf ls p → FirstFaultOf (ks ++ ls) p
+found_next ks ls (Some v) p s f h = absurd (false≢true (sym s))
+found_next [] ls None p s f h = h
+found_next (k ∷ ks) ls None None s f h = (f.0, found_next ks ls None None s f.1 h)
+found_next (k ∷ ks) ls None (Some v) s f h = inr (f.0, found_next ks ls None (Some v) s f.1 h)
 
 pub single : (k : Check) (o : Option Verdict) → FaultOf k o → FirstFaultOf (k ∷ []) o
 single k None h = (h, tt)
@@ -51,45 +59,35 @@ never_yes [] h = h
 never_yes (k ∷ ks) (inl f) = f
 never_yes (k ∷ ks) (inr q) = never_yes ks q.1
 
-pub verdict_of_fault : (ks : List Check) (v : Verdict) → IsFirstFault ks v → IsVerdict ks v
-verdict_of_fault ks Yes h = absurd (never_yes ks h)
-verdict_of_fault ks (No c) h = h
-verdict_of_fault ks (Leaves c) h = h
-
 pub verdict_of : (ks : List Check) (o : Option Verdict) → FirstFaultOf ks o → IsVerdict ks (unwrap_or o Yes)
 verdict_of ks None h = h
-verdict_of ks (Some v) h = verdict_of_fault ks v h
+verdict_of ks (Some Yes) h = absurd (never_yes ks h)
+verdict_of ks (Some (No c)) h = h
+verdict_of ks (Some (Leaves c)) h = h
 
-not_both : (ks : List Check) (v : Verdict) → EachPasses ks → IsFirstFault ks v → ⊥
-not_both [] v p h = h
-not_both (k ∷ ks) Yes p h = never_yes (k ∷ ks) h
-not_both (k ∷ ks) (No c) p (inl f) = f.2 p.0.meets
-not_both (k ∷ ks) (No c) p (inr q) = not_both ks (No c) p.1 q.1
-not_both (k ∷ ks) (Leaves c) p (inl f) = f.1 p.0.fit
-not_both (k ∷ ks) (Leaves c) p (inr q) = not_both ks (Leaves c) p.1 q.1
+never_no : (ks : List Check) (c : ℕ) → EachMeets ks → IsFirstFault ks (No c) → ⊥
+never_no [] c m h = h
+never_no (k ∷ ks) c m (inl f) = f.2 m.0
+never_no (k ∷ ks) c m (inr q) = never_no ks c m.1 q.1
 
-passes_at_yes : (ks : List Check) (v : Verdict) → IsVerdict ks v → v ≡ Yes → EachPasses ks
-passes_at_yes ks v h e = subst (IsVerdict ks) e h
+never_leaves : (ks : List Check) (c : ℕ) → EachFits ks → IsFirstFault ks (Leaves c) → ⊥
+never_leaves [] c m h = h
+never_leaves (k ∷ ks) c m (inl f) = f.1 m.0
+never_leaves (k ∷ ks) c m (inr q) = never_leaves ks c m.1 q.1
 
-yes_at_passes : (ks : List Check) (v : Verdict) → IsVerdict ks v → EachPasses ks → v ≡ Yes
-yes_at_passes ks Yes h p = refl
-yes_at_passes ks (No c) h p = absurd (not_both ks (No c) p h)
-yes_at_passes ks (Leaves c) h p = absurd (not_both ks (Leaves c) p h)
+passing_both : (ks : List Check) → EachPasses ks → EachMeets ks × EachFits ks
+passing_both [] p = (tt, tt)
+passing_both (k ∷ ks) p = let q = passing_both ks p.1 in ((p.0.meets, q.0), (p.0.fit, q.1))
 
--- the verdict is Yes exactly where each check passes
-pub yes_where : (ks : List Check) (v : Verdict) (P : Type 0) → (EachPasses ks → P) → (P → EachPasses ks) → IsVerdict ks v → (v ≡ Yes ↔ P)
-yes_where ks v P f g h = (λ e. f (passes_at_yes ks v h e), λ p. yes_at_passes ks v h (g p))
+yes_at : (ks : List Check) (v : Verdict) → IsVerdict ks v → EachMeets ks → EachFits ks → v ≡ Yes
+yes_at ks Yes h m f = refl
+yes_at ks (No c) h m f = absurd (never_no ks c m h)
+yes_at ks (Leaves c) h m f = absurd (never_leaves ks c f h)
 
--- a list of checks, and one more
-pub joined_verdict : (ks : List Check) (k : Check) (o : Option Verdict) → EachPasses ks → FaultOf k o → IsVerdict (ks ++ k ∷ []) (unwrap_or o Yes)
-joined_verdict ks k o p h = verdict_of (ks ++ k ∷ []) o (first_append ks (k ∷ []) o p (single k o h))
+-- where the demands are met exactly where P holds, the verdict is Yes exactly where P holds and the totals fit
+pub yes_where : (ks : List Check) (v : Verdict) (P : Type 0) → (EachMeets ks ↔ P) → IsVerdict ks v → (v ≡ Yes ↔ P × EachFits ks)
+yes_where ks v P met h = (λ e. let q = passing_both ks (subst (IsVerdict ks) e h) in (met.0 q.0, q.1), λ p. yes_at ks v h (met.1 p.0) p.1)
 
--- three lists, of which the last has one check
-pub third_verdict : (ks ls : List Check) (k : Check) (o : Option Verdict) → EachPasses ks → EachPasses ls → FaultOf k o → IsVerdict (ks ++ (ls ++ k ∷ [])) (unwrap_or o Yes)
-third_verdict ks ls k o p q h = verdict_of (ks ++ (ls ++ k ∷ [])) o (first_append ks (ls ++ k ∷ []) o p (first_append ls (k ∷ []) o q (single k o h)))
-
-pub second_verdict : (ks ls ms : List Check) (v : Verdict) → EachPasses ks → IsFirstFault ls v → IsVerdict (ks ++ (ls ++ ms)) v
-second_verdict ks ls ms v p h = verdict_of_fault _ v (first_append ks (ls ++ ms) (Some v) p (fault_append ls ms v h))
-
-pub first_verdict : (ks ls : List Check) (v : Verdict) → IsFirstFault ks v → IsVerdict (ks ++ ls) v
-first_verdict ks ls v h = verdict_of_fault _ v (fault_append ks ls v h)
+-- and never No where P holds
+pub no_where : (ks : List Check) (v : Verdict) (P : Type 0) → (EachMeets ks ↔ P) → IsVerdict ks v → (c : ℕ) → v ≡ No c → P → ⊥
+no_where ks v P met h c e p = never_no ks c (met.1 p) (subst (IsVerdict ks) e h)

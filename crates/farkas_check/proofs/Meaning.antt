@@ -1,14 +1,15 @@
--- What it means that each check passes.
-use Rattle.std.proofs.Common.{◌≡◌, refl, sym, ap, ◌∙◌, subst, ℕ, zero, suc, length, List, [], ◌∷◌, ◌++◌, map, ℤ, pos, neg_ℤ, ◌+ℤ◌, ◌*ℤ◌, ◌≤ℤ◌, ◌<ℤ◌, arith}
+-- What it means that each check's demand is met.
+use Rattle.std.proofs.Common.{◌≡◌, refl, sym, ap, ◌∙◌, subst, ◌↔◌, ℕ, zero, suc, length, List, [], ◌∷◌, ◌++◌, map, ℤ, pos, neg_ℤ, ◌+ℤ◌, ◌*ℤ◌, ◌≤ℤ◌, ◌<ℤ◌, arith}
 use Rattle.std.proofs.lemmas.Int.{ints}
 use Rattle.raml_num.specs.Sums.{total, NoneNegative}
 use Rattle.linear_rows.specs.Terms.{SparseRow, coefficient}
-use Rattle.linear_rows.specs.Systems.{LinearSystem, numbers_from, right_sides, Solves, Refutes, IsDual}
+use Rattle.linear_rows.specs.Systems.{LinearSystem, numbers_from, right_sides, Refutes, ProvesLeast}
 use Rattle.linear_rows.specs.Vectors.{dot, scale, plus, zeros, mix, times, AtMost}
 use Rattle.farkas_check.specs.Totals.{products}
-use Rattle.farkas_check.specs.Checks.{Check, EachPasses, EachFits, column, refuting_columns, refuting, solving_rows, dual_columns, proving_least}
+use Rattle.farkas_check.specs.Checks.{Check, column, refuting_columns, refuting, solving_rows, dual_columns, proving_least}
+use Rattle.farkas_check.proofs.Firsts.{EachMeets}
 
-pub total_products : (xs ys : List ℤ) → total (products xs ys) ≡ dot xs ys
+total_products : (xs ys : List ℤ) → total (products xs ys) ≡ dot xs ys
 total_products [] ys = refl
 total_products (x ∷ xs) [] = refl
 total_products (x ∷ xs) (y ∷ ys) = ap (λ (v : ℤ). x *ℤ y +ℤ v) (total_products xs ys)
@@ -43,67 +44,46 @@ mix-dots u n [] rows = dots-nil u n rows
 mix-dots u n (y ∷ ys) [] = dots-none u n y ys
 mix-dots u n (y ∷ ys) (row ∷ rows) = ap (plus (scale y (numbers_from u n row.terms))) (mix-dots u n ys rows) ∙ dots-plus u n y ys row rows
 
-passes_apart : (ks ls : List Check) → EachPasses (ks ++ ls) → EachPasses ks × EachPasses ls
-passes_apart [] ls p = (tt, p)
-passes_apart (k ∷ ks) ls p = let q = passes_apart ks ls p.1 in ((p.0, q.0), q.1)
+both : (A B C D : Type 0) → (A ↔ B) → (C ↔ D) → (A × C ↔ B × D)
+both A B C D f g = (λ p. (f.0 p.0, g.0 p.1), λ p. (f.1 p.0, g.1 p.1))
 
-passes_joined : (ks ls : List Check) → EachPasses ks → EachPasses ls → EachPasses (ks ++ ls)
-passes_joined [] ls p q = q
-passes_joined (k ∷ ks) ls p q = (p.0, passes_joined ks ls p.1 q)
+joined : (ks ls : List Check) → (EachMeets (ks ++ ls) ↔ EachMeets ks × EachMeets ls)
+joined [] ls = (λ p. (tt, p), λ p. p.1)
+joined (k ∷ ks) ls = let h = joined ks ls in (λ p. let q = h.0 p.1 in ((p.0, q.0), q.1), λ p. (p.0.0, h.1 (p.0.1, p.1)))
 
-fits_apart : (ks ls : List Check) → EachFits (ks ++ ls) → EachFits ks × EachFits ls
-fits_apart [] ls p = (tt, p)
-fits_apart (k ∷ ks) ls p = let q = fits_apart ks ls p.1 in ((p.0, q.0), q.1)
+-- totals and their sums
+same_at_most : (b c : ℤ) → b ≡ c → (b ≤ℤ pos 0 ↔ c ≤ℤ pos 0)
+same_at_most b c e = (λ h. omega (arith, ints), λ h. omega (arith, ints))
 
-each_fits : (ks : List Check) → EachPasses ks → EachFits ks
-each_fits [] p = tt
-each_fits (k ∷ ks) p = (p.0.fit, each_fits ks p.1)
+same_more : (b c : ℤ) → b ≡ c → (pos 0 <ℤ b ↔ pos 0 <ℤ c)
+same_more b c e = (λ h. omega (arith, ints), λ h. omega (arith, ints))
+
+less_at_most : (a b c : ℤ) → b ≡ c → ((neg_ℤ a +ℤ b) ≤ℤ pos 0 ↔ c ≤ℤ a)
+less_at_most a b c e = (λ h. omega (arith, ints), λ h. omega (arith, ints))
+
+less_at_least : (a b c : ℤ) → b ≡ c → (pos 0 ≤ℤ (neg_ℤ a +ℤ b) ↔ a ≤ℤ c)
+less_at_least a b c e = (λ h. omega (arith, ints), λ h. omega (arith, ints))
+
+level : (z a b : ℤ) → z ≡ a +ℤ neg_ℤ b → (z ≡ pos 0 ↔ a ≡ b)
+level z a b e = (λ h. omega (arith, ints), λ h. omega (arith, ints))
 
 -- y A is at most 0
-not_above : (u n : ℕ) (rows : List SparseRow) (y : List ℤ) → EachPasses (refuting_columns u n rows y) → AtMost (dots u n y rows) (zeros n)
+not_above : (u n : ℕ) (rows : List SparseRow) (y : List ℤ) → (EachMeets (refuting_columns u n rows y) ↔ AtMost (dots u n y rows) (zeros n))
 unfolding dots
-not_above u zero rows y p = tt
-not_above u (suc n) rows y p = (subst (λ v. v ≤ℤ pos 0) (total_products y (column u rows)) p.0.meets, not_above (suc u) n rows y p.1)
-
-not_above_back : (u n : ℕ) (rows : List SparseRow) (y : List ℤ) → EachFits (refuting_columns u n rows y) → AtMost (dots u n y rows) (zeros n) → EachPasses (refuting_columns u n rows y)
-unfolding dots
-not_above_back u zero rows y f a = tt
-not_above_back u (suc n) rows y f a = (record { fit = f.0; meets = subst (λ v. v ≤ℤ pos 0) (sym (total_products y (column u rows))) a.0 }, not_above_back (suc u) n rows y f.1 a.1)
-
--- less a number
-less_at_most : (a b c : ℤ) → (neg_ℤ a +ℤ b) ≤ℤ pos 0 → b ≡ c → c ≤ℤ a
-less_at_most a b c h e = omega (arith, ints)
-
-less_back : (a b c : ℤ) → c ≤ℤ a → b ≡ c → (neg_ℤ a +ℤ b) ≤ℤ pos 0
-less_back a b c h e = omega (arith, ints)
-
-more_at_least : (a b c : ℤ) → pos 0 ≤ℤ (neg_ℤ a +ℤ b) → b ≡ c → a ≤ℤ c
-more_at_least a b c h e = omega (arith, ints)
-
-more_back : (a b c : ℤ) → a ≤ℤ c → b ≡ c → pos 0 ≤ℤ (neg_ℤ a +ℤ b)
-more_back a b c h e = omega (arith, ints)
+not_above u zero rows y = (λ p. p, λ p. p)
+not_above u (suc n) rows y = both _ _ _ _ (same_at_most _ _ (total_products y (column u rows))) (not_above (suc u) n rows y)
 
 -- y A is at most t c
-dual_at_most : (u : ℕ) (w : List ℤ) (rows : List SparseRow) (y : List ℤ) (t : ℤ) → EachPasses (dual_columns u w rows y t) → AtMost (dots u (length w) y rows) (scale t w)
+dual_at_most : (u : ℕ) (w : List ℤ) (rows : List SparseRow) (y : List ℤ) (t : ℤ) → (EachMeets (dual_columns u w rows y t) ↔ AtMost (dots u (length w) y rows) (scale t w))
 unfolding dots
-dual_at_most u [] rows y t p = tt
-dual_at_most u (c ∷ w) rows y t p = (less_at_most (t *ℤ c) _ _ p.0.meets (total_products y (column u rows)), dual_at_most (suc u) w rows y t p.1)
-
-dual_back : (u : ℕ) (w : List ℤ) (rows : List SparseRow) (y : List ℤ) (t : ℤ) → EachFits (dual_columns u w rows y t) → AtMost (dots u (length w) y rows) (scale t w) → EachPasses (dual_columns u w rows y t)
-unfolding dots
-dual_back u [] rows y t f a = tt
-dual_back u (c ∷ w) rows y t f a = (record { fit = f.0; meets = less_back (t *ℤ c) _ _ a.0 (total_products y (column u rows)) }, dual_back (suc u) w rows y t f.1 a.1)
+dual_at_most u [] rows y t = (λ p. p, λ p. p)
+dual_at_most u (c ∷ w) rows y t = both _ _ _ _ (less_at_most (t *ℤ c) _ _ (total_products y (column u rows))) (dual_at_most (suc u) w rows y t)
 
 -- A x is at least t b
-rows_at_least : (n : ℕ) (x : List ℤ) (t : ℤ) (rows : List SparseRow) → EachPasses (solving_rows n x t rows) → AtMost (scale t (map (λ row. row.right) rows)) (times (rows_from 0 n rows) x)
+rows_at_least : (n : ℕ) (x : List ℤ) (t : ℤ) (rows : List SparseRow) → (EachMeets (solving_rows n x t rows) ↔ AtMost (scale t (map (λ row. row.right) rows)) (times (rows_from 0 n rows) x))
 unfolding rows_from
-rows_at_least n x t [] p = tt
-rows_at_least n x t (row ∷ rows) p = (more_at_least (t *ℤ row.right) _ _ p.0.meets (total_products (numbers_from 0 n row.terms) x), rows_at_least n x t rows p.1)
-
-rows_back : (n : ℕ) (x : List ℤ) (t : ℤ) (rows : List SparseRow) → EachFits (solving_rows n x t rows) → AtMost (scale t (map (λ row. row.right) rows)) (times (rows_from 0 n rows) x) → EachPasses (solving_rows n x t rows)
-unfolding rows_from
-rows_back n x t [] f a = tt
-rows_back n x t (row ∷ rows) f a = (record { fit = f.0; meets = more_back (t *ℤ row.right) _ _ a.0 (total_products (numbers_from 0 n row.terms) x) }, rows_back n x t rows f.1 a.1)
+rows_at_least n x t [] = (λ p. p, λ p. p)
+rows_at_least n x t (row ∷ rows) = both _ _ _ _ (less_at_least (t *ℤ row.right) _ _ (total_products (numbers_from 0 n row.terms) x)) (rows_at_least n x t rows)
 
 total-append : (xs ys : List ℤ) → total (xs ++ ys) ≡ total xs +ℤ total ys
 total-append [] ys = omega (arith, ints)
@@ -119,62 +99,39 @@ difference xs ys a b e f =
     let h : total (map neg_ℤ ys) ≡ neg_ℤ (total ys) = total-neg ys in
     omega (arith, ints)
 
--- both sums are equal
-level : (z a b : ℤ) → z ≡ a +ℤ neg_ℤ b → z ≡ pos 0 → a ≡ b
-level z a b e h = omega (arith, ints)
-
-level_back : (z a b : ℤ) → z ≡ a +ℤ neg_ℤ b → a ≡ b → z ≡ pos 0
-level_back z a b e h = omega (arith, ints)
-
--- the checks of `refuting` pass exactly where y refutes and the totals fit
-pub refutes_if : (s : LinearSystem) (y : List ℤ) → length y ≡ length s.rows → NoneNegative y → EachPasses (refuting s y) → Refutes s y × EachFits (refuting s y)
+-- each demand of `refuting` is met exactly where y refutes
+pub refutes_met : (s : LinearSystem) (y : List ℤ) → length y ≡ length s.rows → NoneNegative y → (EachMeets (refuting s y) ↔ Refutes s y)
 unfolding rows_from
-refutes_if s y e n p =
-    let q = passes_apart (refuting_columns 0 s.unknowns s.rows y) _ p in (
-      record {
+refutes_met s y e n =
+    let j = joined (refuting_columns 0 s.unknowns s.rows y) _ in
+    let m = mix-dots 0 s.unknowns y s.rows in
+    let columns = not_above 0 s.unknowns s.rows y in
+    let right = same_more _ _ (total_products y (right_sides s)) in (
+      λ p. let q = j.0 p in record {
         one_each = e;
         natural = n;
-        columns = subst (λ v. AtMost v (zeros s.unknowns)) (sym (mix-dots 0 s.unknowns y s.rows)) (not_above 0 s.unknowns s.rows y q.0);
-        right = subst (λ v. pos 0 <ℤ v) (total_products y (right_sides s)) q.1.0.meets;
+        columns = subst (λ v. AtMost v (zeros s.unknowns)) (sym m) (columns.0 q.0);
+        right = right.0 q.1.0;
       },
-      each_fits _ p,
+      λ r. j.1 (columns.1 (subst (λ v. AtMost v (zeros s.unknowns)) m r.columns), (right.1 r.right, tt)),
     )
 
-pub refutes_only_if : (s : LinearSystem) (y : List ℤ) → Refutes s y × EachFits (refuting s y) → EachPasses (refuting s y)
+-- and each of `proving_least` where x solves, y is dual and the sums are equal
+pub least_met : (s : LinearSystem) (x y : List ℤ) (t : ℤ) → length s.weights ≡ s.unknowns → length x ≡ s.unknowns → length y ≡ length s.rows → NoneNegative x → NoneNegative y → pos 0 <ℤ t
+    → (EachMeets (proving_least s x y t) ↔ ProvesLeast s x y t)
 unfolding rows_from
-refutes_only_if s y h =
-    let f = fits_apart (refuting_columns 0 s.unknowns s.rows y) _ h.1 in
-    passes_joined (refuting_columns 0 s.unknowns s.rows y) _
-    (not_above_back 0 s.unknowns s.rows y f.0 (subst (λ v. AtMost v (zeros s.unknowns)) (mix-dots 0 s.unknowns y s.rows) h.0.columns))
-    (record { fit = f.1.0; meets = subst (λ v. pos 0 <ℤ v) (sym (total_products y (right_sides s))) h.0.right }, tt)
-
--- what the checks of `proving_least` are for
-abbrev pub IsProvedLeast : LinearSystem → List ℤ → List ℤ → ℤ → Type 0
-IsProvedLeast s x y t = Solves s x t × IsDual s y t × (dot y (right_sides s) ≡ dot s.weights x) × EachFits (proving_least s x y t)
-
--- they pass exactly where x solves, y is dual, the sums are equal and the totals fit
-pub least_if : (s : LinearSystem) (x y : List ℤ) (t : ℤ) → length s.weights ≡ s.unknowns → length x ≡ s.unknowns → length y ≡ length s.rows → NoneNegative x → NoneNegative y
-    → EachPasses (proving_least s x y t) → IsProvedLeast s x y t
-unfolding rows_from
-least_if s x y t w ex ey nx ny p =
-    let q = passes_apart (solving_rows s.unknowns x t s.rows) _ p in
-    let r = passes_apart (dual_columns 0 s.weights s.rows y t) _ q.1 in (
-      record { one_each = ex; natural = nx; rows = rows_at_least s.unknowns x t s.rows q.0 },
-      record {
-        one_each = ey;
-        natural = ny;
-        columns = subst (λ v. AtMost v (scale t s.weights)) (sym (mix-dots 0 s.unknowns y s.rows)) (subst (λ n. AtMost (dots 0 n y s.rows) (scale t s.weights)) w (dual_at_most 0 s.weights s.rows y t r.0));
+least_met s x y t w ex ey nx ny positive =
+    let i = joined (solving_rows s.unknowns x t s.rows) _ in
+    let j = joined (dual_columns 0 s.weights s.rows y t) _ in
+    let m = mix-dots 0 s.unknowns y s.rows in
+    let rows = rows_at_least s.unknowns x t s.rows in
+    let columns = subst (λ n. EachMeets (dual_columns 0 s.weights s.rows y t) ↔ AtMost (dots 0 n y s.rows) (scale t s.weights)) w (dual_at_most 0 s.weights s.rows y t) in
+    let sums = level _ _ _ (difference (products y (right_sides s)) (products s.weights x) _ _ (total_products y (right_sides s)) (total_products s.weights x)) in (
+      λ p. let q = i.0 p in let r = j.0 q.1 in record {
+        positive = positive;
+        solves = record { one_each = ex; natural = nx; rows = rows.0 q.0 };
+        dual = record { one_each = ey; natural = ny; columns = subst (λ v. AtMost v (scale t s.weights)) (sym m) (columns.0 r.0) };
+        equal = sums.0 r.1.0;
       },
-      level _ _ _ (difference (products y (right_sides s)) (products s.weights x) _ _ (total_products y (right_sides s)) (total_products s.weights x)) r.1.0.meets,
-      each_fits _ p,
+      λ h. i.1 (rows.1 h.solves.rows, j.1 (columns.1 (subst (λ v. AtMost v (scale t s.weights)) m h.dual.columns), (sums.1 h.equal, tt))),
     )
-
-pub least_only_if : (s : LinearSystem) (x y : List ℤ) (t : ℤ) → length s.weights ≡ s.unknowns → IsProvedLeast s x y t → EachPasses (proving_least s x y t)
-unfolding rows_from
-least_only_if s x y t w h =
-    let f = fits_apart (solving_rows s.unknowns x t s.rows) _ h.3 in
-    let g = fits_apart (dual_columns 0 s.weights s.rows y t) _ f.1 in
-    passes_joined (solving_rows s.unknowns x t s.rows) _ (rows_back s.unknowns x t s.rows f.0 h.0.rows)
-    (passes_joined (dual_columns 0 s.weights s.rows y t) _
-    (dual_back 0 s.weights s.rows y t g.0 (subst (λ n. AtMost (dots 0 n y s.rows) (scale t s.weights)) (sym w) (subst (λ v. AtMost v (scale t s.weights)) (mix-dots 0 s.unknowns y s.rows) h.1.columns)))
-    (record { fit = g.1.0; meets = level_back _ _ _ (difference (products y (right_sides s)) (products s.weights x) _ _ (total_products y (right_sides s)) (total_products s.weights x)) h.2 }, tt))

@@ -2,4 +2,3 @@ pub mod Totals
 pub mod Checks
 pub mod Sides
 pub mod Faults
-pub mod Laws

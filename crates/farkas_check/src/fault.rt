@@ -3,7 +3,7 @@
 ghost use Rattle.std.specs.Prelude.{◌≡◌, ◌<ℤ◌, ◌↔◌, IsTrue, pos, length, ℤ, ℕ, List, map, neg_ℤ, ◌*ℤ◌, ◌∷◌, [], ◌++◌};
 ghost use Rattle.raml_num.specs.Sums.{NoneNegative};
 ghost use Rattle.linear_rows.specs.Systems.{IsBelow, IsSystem, numbers_from, right_sides};
-ghost use Rattle.farkas_check.specs.Checks.{Meets, Demand, Check, column, refuting_columns, solving_row, solving_rows, dual_columns, equal_sums};
+ghost use Rattle.farkas_check.specs.Checks.{Meets, Demand, Check, column, refuting_columns, solving_row, solving_rows, dual_columns, equal_sums, refuting, proving_least};
 ghost use Rattle.farkas_check.specs.Totals.{products};
 ghost use Rattle.farkas_check.specs.Sides.{IsTotals};
 ghost use Rattle.farkas_check.specs.Faults.{demand_of, FaultOf, FirstFaultOf};
@@ -55,7 +55,7 @@ fn of_check(totals: Option<Totals>, asked: Asked, column: u32) -> Option<Verdict
 }
 
 /// Of `y A`, which is to be at most 0.
-pub(crate) fn of_columns(system: &System, y: &[i128]) -> Option<Verdict>
+fn of_columns(system: &System, y: &[i128]) -> Option<Verdict>
     requires { length y.now ≡ length system.now.rows }
     ensures { FirstFaultOf (refuting_columns 0 system.now.unknowns system.now.rows y.now) result }
 {
@@ -71,7 +71,7 @@ pub(crate) fn of_columns(system: &System, y: &[i128]) -> Option<Verdict>
 }
 
 /// Of `y b`, which is to be positive.
-pub(crate) fn of_right_sides(system: &System, y: &[i128]) -> Option<Verdict>
+fn of_right_sides(system: &System, y: &[i128]) -> Option<Verdict>
     requires { length y.now ≡ length system.now.rows }
     ensures { FaultOf (record { column = system.now.unknowns; demand = Demand.Above; terms = products y.now (right_sides system.now) }) result }
 {
@@ -90,7 +90,7 @@ fn dual_totals(rows: &[Row], y: &[i128], unknown: u32, weight: i128, scale: i128
 }
 
 /// Of `y A`, which is to be at most `scale` times the weights.
-pub(crate) fn of_dual_columns(system: &System, y: &[i128], scale: i128) -> Option<Verdict>
+fn of_dual_columns(system: &System, y: &[i128], scale: i128) -> Option<Verdict>
     requires one_each { length y.now ≡ length system.now.rows }
     requires positive { pos 0 <ℤ scale }
     ensures { FirstFaultOf (dual_columns 0 system.now.weights system.now.rows y.now scale) result }
@@ -118,7 +118,7 @@ fn row_totals(row: &Row, x: &[i128], scale: i128) -> Option<Totals>
 }
 
 /// Of the rows at `x`, which are to be at least `scale` times their right sides.
-pub(crate) fn of_rows(system: &System, x: &[i128], scale: i128) -> Option<Verdict>
+fn of_rows(system: &System, x: &[i128], scale: i128) -> Option<Verdict>
     requires one_each { length x.now ≡ system.now.unknowns }
     requires positive { pos 0 <ℤ scale }
     ensures first { FirstFaultOf (solving_rows system.now.unknowns x.now scale system.now.rows) result }
@@ -148,11 +148,43 @@ fn sum_totals(system: &System, x: &[i128], y: &[i128]) -> Option<Totals>
 }
 
 /// Of `y b`, which is to be `c x`.
-pub(crate) fn of_sums(system: &System, x: &[i128], y: &[i128]) -> Option<Verdict>
+fn of_sums(system: &System, x: &[i128], y: &[i128]) -> Option<Verdict>
     requires each_unknown { length x.now ≡ system.now.unknowns }
     requires each_row { length y.now ≡ length system.now.rows }
     requires natural { NoneNegative x.now }
     ensures { FaultOf (equal_sums system.now x.now y.now) result }
 {
     of_check(sum_totals(system, x, y), Asked::Zero, system.unknowns())
+}
+
+/// Of `y`, which is to refute the system.
+pub(crate) fn of_refuting(system: &System, y: &[i128]) -> Option<Verdict>
+    requires { length y.now ≡ length system.now.rows }
+    ensures { FirstFaultOf (refuting system.now y.now) result }
+{
+    let fault = of_columns(system, y);
+    if fault.is_some() {
+        return fault;
+    }
+    of_right_sides(system, y)
+}
+
+/// Of `x` and `y`, which are to prove the weighted sum of `x` least.
+pub(crate) fn of_least(system: &System, x: &[i128], y: &[i128], scale: i128) -> Option<Verdict>
+    requires each_unknown { length x.now ≡ system.now.unknowns }
+    requires each_row { length y.now ≡ length system.now.rows }
+    requires natural { NoneNegative x.now }
+    requires positive { pos 0 <ℤ scale }
+    ensures first { FirstFaultOf (proving_least system.now x.now y.now scale) result }
+    ensures sound { IsSystem system.now }
+{
+    let rows = of_rows(system, x, scale);
+    if rows.is_some() {
+        return rows;
+    }
+    let columns = of_dual_columns(system, y, scale);
+    if columns.is_some() {
+        return columns;
+    }
+    of_sums(system, x, y)
 }

@@ -1,4 +1,5 @@
 pub mod Lowest
 pub mod Values
+pub mod Nought
 pub mod Order
 pub mod Text

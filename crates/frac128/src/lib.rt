@@ -272,6 +272,3 @@ impl fmt::Display for Frac {
         }
     }
 }
-
-#[cfg(test)]
-mod tests;

@@ -6,7 +6,8 @@ use Rattle.std.specs.Ordering.{int_eq}
 use Rattle.std.proofs.lemmas.Bool.Decides.{nat_tests}
 use Rattle.std.proofs.lemmas.List.{length-append}
 use Rattle.frac128.specs.declared.Frac.{Frac}
-use Rattle.frac_rows.specs.Entries.{Entries, at, nought, columns_of, numbers_of, SparseFrom, IsSparse, IsRow, EndsBefore, Adds}
+use Rattle.frac128.specs.Nought.{nought}
+use Rattle.frac_rows.specs.Entries.{Entries, at, columns_of, numbers_of, SparseFrom, IsSparse, IsRow, EndsBefore, Adds}
 use Rattle.frac_rows.specs.Merging.{put}
 use Rattle.frac_rows.proofs.Pairs.{zip_append, zip_parts, as_many}
 use Rattle.frac_rows.proofs.Pointwise.{over_one}

@@ -7,7 +7,8 @@ use Rattle.raml_num.specs.Divisors.{IsLcm}
 use Rattle.raml_num.proofs.Differences.{diffs, diff-pos, is_diff, diff_same}
 use Rattle.frac128.specs.declared.Frac.{Frac}
 use Rattle.frac128.specs.Values.{Fits, IsProduct, IsDifference, DifferenceFits}
-use Rattle.frac_rows.specs.Entries.{nought, IsLess, LessLeaves}
+use Rattle.frac128.specs.Nought.{nought}
+use Rattle.frac_rows.specs.Entries.{IsLess, LessLeaves}
 
 -- what the difference tells
 pub differs : (x f q p : Frac) (o : Option Frac) → IsProduct f q p → ((m : ℕ) → IsLcm x.den p.den m → (IsSome o ↔ DifferenceFits x p m)) → IfSome o (IsDifference x p) → MatchOption o (LessLeaves x f q) (IsLess x f q)

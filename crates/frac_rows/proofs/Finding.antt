@@ -9,7 +9,8 @@ use Rattle.std.specs.List.{zip, HoldsAt}
 use Rattle.std.specs.Option.{option_copied}
 use Rattle.std.specs.Ordering.{nat_cmp, ordering_index}
 use Rattle.frac128.specs.declared.Frac.{Frac}
-use Rattle.frac_rows.specs.Entries.{at, nought, SparseFrom, IsRow, IsNextColumn}
+use Rattle.frac128.specs.Nought.{nought}
+use Rattle.frac_rows.specs.Entries.{at, SparseFrom, IsRow, IsNextColumn}
 
 columns_from : (b : ℕ) (ks : List ℕ) (xs : List Frac) (i : ℕ) → SparseFrom b (zip ks xs) → length ks ≡ length xs → i < length ks → b ≤ get_or ks i 0
 columns_from b [] xs i s l h = absurd (omega arith)

@@ -8,7 +8,8 @@ use Rattle.std.proofs.Math.Nat.{dvd-zero}
 use Rattle.std.specs.Int.RustNames.{unsigned_abs}
 use Prim.Native.Nat.{◌∣◌}
 use Rattle.frac128.specs.declared.Frac.{Frac}
-use Rattle.frac_rows.specs.Entries.{Entries, at, nought, IsLess, LessLeaves, SparseFrom}
+use Rattle.frac128.specs.Nought.{nought}
+use Rattle.frac_rows.specs.Entries.{Entries, at, IsLess, LessLeaves, SparseFrom}
 use Rattle.frac_rows.specs.Merging.{least_column, Takes, TakesIf, put, Merges, End, Step, MergeLeaves, Here, There}
 use Rattle.frac_rows.proofs.Differing.{less_nothing}
 

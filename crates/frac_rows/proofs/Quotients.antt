@@ -8,7 +8,8 @@ use lib.IntN.{*ℤ_comm}
 use Rattle.raml_num.proofs.Signed.{cancelled}
 use Rattle.frac128.specs.declared.Frac.{Frac}
 use Rattle.frac128.specs.Values.{IsQuotient}
-use Rattle.frac_rows.specs.Entries.{at, nought, SparseFrom, IsRow}
+use Rattle.frac128.specs.Nought.{nought}
+use Rattle.frac_rows.specs.Entries.{at, SparseFrom, IsRow}
 use Rattle.frac_rows.specs.Dividing.{AreQuotients}
 use Rattle.frac_rows.proofs.Pairs.{written_back}
 

@@ -3,7 +3,8 @@ use Rattle.std.proofs.Common.{◌≡◌, refl, sym, ap, subst, ◌∙◌, ℕ, s
 use Rattle.std.proofs.lemmas.Bool.Decides.{nat_tests}
 use Rattle.std.specs.Ordering.{int_eq}
 use Rattle.frac128.specs.declared.Frac.{Frac}
-use Rattle.frac_rows.specs.Entries.{Entries, nought, IsLess, LessLeaves, SparseFrom, IsSparse, EndsBefore, StartsAt}
+use Rattle.frac128.specs.Nought.{nought}
+use Rattle.frac_rows.specs.Entries.{Entries, IsLess, LessLeaves, SparseFrom, IsSparse, EndsBefore, StartsAt}
 use Rattle.frac_rows.specs.Merging.{least_column, Takes, put, Steps, Merges, End, Step, MergeLeaves, Here, There}
 use Rattle.frac_rows.proofs.Differing.{less_nothing}
 use Rattle.frac_rows.proofs.Pointwise.{both_from, takes_sparse}

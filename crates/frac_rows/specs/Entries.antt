@@ -1,22 +1,13 @@
 -- Rows of fractions, and fractions less a product.
 use Rattle.std.specs.Prelude.{◌≡◌, ◌≢◌, ℕ, suc, ◌≤◌, ◌<◌, List, [], ◌∷◌, length, map, Option, Some, None, pos, ◌⊎◌, if◌then◌else◌, ◌==◌}
 use Rattle.std.specs.List.{zip}
-use Rattle.std.proofs.Common.{arith}
-use Rattle.std.proofs.Math.Nat.{eq-one_of_dvd-one}
 use Rattle.raml_num.specs.Divisors.{IsLcm}
 use Rattle.frac128.specs.declared.Frac.{Frac}
-use Rattle.frac128.specs.Lowest.{InLowestTerms}
+use Rattle.frac128.specs.Nought.{nought}
 use Rattle.frac128.specs.Values.{numerator, denominator, IsProduct, IsQuotient, IsDifference, DifferenceFits}
 
-pub zero_over_one : InLowestTerms 0 1
-zero_over_one = record { small = omega arith; positive = omega arith; fits = omega arith; coprime = record { common = λ d p q. eq-one_of_dvd-one q } }
-
--- the number 0
-abbrev pub nought : Frac
-nought = record { num = pos 0; den = 1; lowest = zero_over_one }
-
 abbrev pub IsNought : Frac → Type 0
-IsNought x = (x.num ≡ pos 0) × (x.den ≡ 1)
+IsNought x = (numerator x ≡ pos 0) × (denominator x ≡ 1)
 
 -- the fractions of a row that are not 0, each with its column
 abbrev pub Entries : Type 0
@@ -37,7 +28,7 @@ numbers_of es = map (λ e. e.1) es
 -- the columns ascend from b on, and no fraction is 0
 abbrev pub SparseFrom : ℕ → Entries → Type 0
 SparseFrom b [] = Unit {0}
-SparseFrom b ((k, x) ∷ es) = (b ≤ k) × (x.num ≢ pos 0) × SparseFrom (suc k) es
+SparseFrom b ((k, x) ∷ es) = (b ≤ k) × (numerator x ≢ pos 0) × SparseFrom (suc k) es
 
 abbrev pub IsSparse : Entries → Type 0
 IsSparse es = SparseFrom 0 es
@@ -56,12 +47,12 @@ IsNextColumn from es (Some c) = (from ≤ c) × (numerator (at c es) ≢ pos 0) 
 pub record IsLess (x f q r : Frac) : Type 0 where
   pub product : Frac
   pub is_product : IsProduct f q product
-  pub fits : (m : ℕ) → IsLcm x.den product.den m → DifferenceFits x product m
+  pub fits : (m : ℕ) → IsLcm (denominator x) (denominator product) m → DifferenceFits x product m
   pub is_difference : IsDifference x product r
 
 -- f times q, or x less that product, leaves the range
 abbrev pub LessLeaves : Frac → Frac → Frac → Type 0
-LessLeaves x f q = ((p : Frac) → IsProduct f q p → ⊥) ⊎ ((p : Frac) × IsProduct f q p × ((m : ℕ) → IsLcm x.den p.den m → DifferenceFits x p m → ⊥))
+LessLeaves x f q = ((p : Frac) → IsProduct f q p → ⊥) ⊎ ((p : Frac) × IsProduct f q p × ((m : ℕ) → IsLcm (denominator x) (denominator p) m → DifferenceFits x p m → ⊥))
 
 -- no fraction of the range is x over y
 abbrev pub QuotientLeaves : Frac → Frac → Type 0

@@ -2,6 +2,7 @@
 use Rattle.std.specs.Prelude.{◌≡◌, ℕ, min, [], ◌∷◌, pos, Bool, true, false, Option, Some, None, if◌then◌else◌, ◌==◌}
 use Rattle.std.specs.Ordering.{int_eq}
 use Rattle.frac128.specs.declared.Frac.{Frac}
+use Rattle.frac128.specs.Values.{numerator}
 use Rattle.frac_rows.specs.Entries.{Entries, IsNought, IsLess, LessLeaves}
 
 -- the least of the first columns
@@ -22,7 +23,7 @@ Takes c (e ∷ es) x rest = TakesIf (e.0 == c) e es x rest
 
 -- a fraction and those after it, without it where it is 0
 abbrev pub put : ℕ → Frac → Entries → Entries
-put c x es = if int_eq x.num (pos 0) then es else (c, x) ∷ es
+put c x es = if int_eq (numerator x) (pos 0) then es else (c, x) ∷ es
 
 -- the first step of a walk: c is the least column, x and q stand there, and xs' and qs' come after it
 pub record Steps (xs qs : Entries) (c : ℕ) (x q : Frac) (xs' qs' : Entries) : Type 0 where

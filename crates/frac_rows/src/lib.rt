@@ -8,6 +8,3 @@ mod row;
 
 pub use fault::RowFault;
 pub use row::FracRow;
-
-#[cfg(test)]
-mod tests;

@@ -2,7 +2,8 @@
 
 ghost use Rattle.std.specs.Prelude.{◌≡◌, ◌≢◌, ◌<◌, pos, length, slice_index_or, MatchOption, OnOk, IfErr};
 ghost use Rattle.frac128.specs.Values.{numerator};
-ghost use Rattle.frac_rows.specs.Entries.{IsLess, LessLeaves, nought, QuotientLeaves};
+ghost use Rattle.frac128.specs.Nought.{nought};
+ghost use Rattle.frac_rows.specs.Entries.{IsLess, LessLeaves, QuotientLeaves};
 ghost use Rattle.frac_rows.specs.Dividing.{AreQuotients};
 
 use frac128::Frac;

@@ -3,7 +3,8 @@
 ghost use Rattle.std.specs.Prelude.{◌≡◌, ◌≢◌, ◌<◌, ◌++◌, [], ℕ, pos, IfOk, IfErr, OnOk, OnErr};
 ghost use Rattle.std.specs.List.{zip};
 ghost use Rattle.frac128.specs.Values.{numerator, denominator, IsQuotient};
-ghost use Rattle.frac_rows.specs.Entries.{Entries, at, nought, columns_of, numbers_of, IsNextColumn, IsSparse, IsRow, EndsBefore, Adds, IsLess, LessLeaves, QuotientLeaves};
+ghost use Rattle.frac128.specs.Nought.{nought};
+ghost use Rattle.frac_rows.specs.Entries.{Entries, at, columns_of, numbers_of, IsNextColumn, IsSparse, IsRow, EndsBefore, Adds, IsLess, LessLeaves, QuotientLeaves};
 ghost use Rattle.frac_rows.specs.Merging.{put, Merges, MergeLeaves};
 
 use crate::fault::RowFault;

@@ -5,7 +5,7 @@ use borrow.Author.Differences.{up}
 use Rattle.raml_num.specs.Sums.{NoneNegative}
 use Rattle.raml_num.proofs.Signed.{natural, lt_mul}
 use Rattle.linear_rows.specs.Terms.{SparseRow, Terms}
-use Rattle.linear_rows.specs.Systems.{LinearSystem, numbers_from, matrix, right_sides, Solves, Refutes, IsDual, IsLeast}
+use Rattle.linear_rows.specs.Systems.{LinearSystem, numbers_from, matrix, right_sides, Solves, Refutes, ProvesLeast, IsLeast}
 use Rattle.linear_rows.specs.Vectors.{dot, scale, zeros, mix, AllWide, AtMost}
 use Rattle.linear_rows.proofs.Products.{dot-scale, dot-comm, dot-zeros, dual_below}
 
@@ -17,7 +17,7 @@ pub all_wide : (n : ℕ) (rows : List SparseRow) → AllWide n (map (λ row. num
 all_wide n [] = tt
 all_wide n (row ∷ rows) = (length-numbers 0 n row.terms, all_wide n rows)
 
-scaled_right : (k : ℤ) (xs ys : List ℤ) → dot xs (scale k ys) ≡ k *ℤ dot xs ys
+pub scaled_right : (k : ℤ) (xs ys : List ℤ) → dot xs (scale k ys) ≡ k *ℤ dot xs ys
 scaled_right k xs ys = dot-comm xs (scale k ys) ∙ dot-scale k ys xs ∙ ap (λ (v : ℤ). k *ℤ v) (dot-comm ys xs)
 
 -- y (t b) is at most c x where x over t solves and y A is at most c
@@ -29,7 +29,7 @@ below_cost s x y c t solves ey ny a =
 clash : (a b : ℤ) → pos 0 <ℤ a → a ≤ℤ b → b ≡ pos 0 → ⊥
 clash a b h k e = omega (arith, ints)
 
-positive : (t b : ℤ) → pos 0 <ℤ t → pos 0 <ℤ b → pos 0 <ℤ (t *ℤ b)
+pub positive : (t b : ℤ) → pos 0 <ℤ t → pos 0 <ℤ b → pos 0 <ℤ (t *ℤ b)
 positive t b h k =
     let e : t ≡ pos (up t) = natural t (omega (arith, ints)) in
     let u : 0 < up t = omega (arith, ints) in
@@ -40,10 +40,10 @@ pub no_solution : (s : LinearSystem) (y x : List ℤ) (t : ℤ) → Refutes s y 
 no_solution s y x t r h solves =
     clash (t *ℤ dot y (right_sides s)) (dot (zeros s.unknowns) x) (positive t (dot y (right_sides s)) h r.right) (below_cost s x y (zeros s.unknowns) t solves r.one_each r.natural r.columns) (dot-zeros s.unknowns x)
 
-pub least : (s : LinearSystem) (x y : List ℤ) (t : ℤ) → pos 0 <ℤ t → Solves s x t → IsDual s y t → dot y (right_sides s) ≡ dot s.weights x → IsLeast s x t
-least s x y t h solves dual e = record {
-  solves = solves;
+pub least : (s : LinearSystem) (x y : List ℤ) (t : ℤ) → ProvesLeast s x y t → IsLeast s x t
+least s x y t p = record {
+  solves = p.solves;
   least = λ z r rpos other.
-      let b : (r *ℤ dot y (right_sides s)) ≤ℤ dot (scale t s.weights) z = below_cost s z y (scale t s.weights) r other dual.one_each dual.natural dual.columns in
-      subst (λ v. (r *ℤ v) ≤ℤ (t *ℤ dot s.weights z)) e (subst (λ v. (r *ℤ dot y (right_sides s)) ≤ℤ v) (dot-scale t s.weights z) b);
+      let b : (r *ℤ dot y (right_sides s)) ≤ℤ dot (scale t s.weights) z = below_cost s z y (scale t s.weights) r other p.dual.one_each p.dual.natural p.dual.columns in
+      subst (λ v. (r *ℤ v) ≤ℤ (t *ℤ dot s.weights z)) p.equal (subst (λ v. (r *ℤ dot y (right_sides s)) ≤ℤ v) (dot-scale t s.weights z) b);
 }

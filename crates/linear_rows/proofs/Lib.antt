@@ -3,3 +3,4 @@ pub mod Products
 pub mod Places
 pub mod Duality
 mod Rowwise
+pub mod Proportions

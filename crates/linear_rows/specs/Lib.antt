@@ -1,3 +1,4 @@
 pub mod Terms
 pub mod Vectors
 pub mod Systems
+pub mod Laws

@@ -55,6 +55,13 @@ pub record IsDual (s : LinearSystem) (y : List ℤ) (t : ℤ) : Type 0 where
   pub natural : NoneNegative y
   pub columns : AtMost (mix s.unknowns y (matrix s)) (scale t s.weights)
 
+-- x over t solves the system, y over t is a dual solution, and their sums are equal
+pub record ProvesLeast (s : LinearSystem) (x y : List ℤ) (t : ℤ) : Type 0 where
+  pub positive : pos 0 <ℤ t
+  pub solves : Solves s x t
+  pub dual : IsDual s y t
+  pub equal : dot y (right_sides s) ≡ dot s.weights x
+
 -- x over t solves the system, and no solution has a lesser weighted sum
 pub record IsLeast (s : LinearSystem) (x : List ℤ) (t : ℤ) : Type 0 where
   pub solves : Solves s x t

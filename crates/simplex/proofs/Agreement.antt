@@ -1,10 +1,11 @@
 -- Two answers for one system agree.
-use Rattle.std.proofs.Common.{ℕ, List}
+use Rattle.std.proofs.Common.{ℕ, List, ◌*ℤ◌, ◌≤ℤ◌, arith}
+use Rattle.std.proofs.lemmas.Int.{ints}
 use Rattle.linear_rows.specs.Systems.{LinearSystem}
+use Rattle.linear_rows.specs.Vectors.{dot}
 use Rattle.linear_rows.proofs.Duality.{no_solution}
-use Rattle.tableau.specs.Tableaux.{solution, dual, ray}
+use Rattle.tableau.specs.Tableaux.{solution, ray}
 use Rattle.tableau.specs.Courses.{Rule}
-use Rattle.tableau.proofs.Agreeing.{same_sums}
 use Rattle.frac128.specs.declared.Frac.{Frac}
 use Rattle.simplex.specs.declared.answer.Answer.{Answer}
 use Rattle.simplex.specs.declared.answer.Answer.TheVariants.{Best, NoSolution, Leaves}
@@ -12,20 +13,18 @@ use Rattle.simplex.specs.Solving.{IsAnswer, IsBest, IsRefuted, EqualSums, Agree}
 
 equal_sums : (r q : Rule) (s : LinearSystem) (ps qs : List (ℕ × ℕ)) (x y z w : List Frac) → IsBest r s ps x y → IsBest q s qs z w → EqualSums s x z
 equal_sums r q s ps qs x y z w a b = record {
-  t = a.t.over;
-  xs = solution s a.t;
-  x_is = a.x_is;
-  solves = a.proves.solves;
-  u = b.t.over;
-  zs = solution s b.t;
-  z_is = b.x_is;
-  other_solves = b.proves.solves;
-  positive = (a.proves.positive, b.proves.positive);
-  equal = same_sums s (solution s a.t) (dual s a.t) (solution s b.t) (dual s b.t) a.t.over b.t.over a.proves b.proves;
+  equal = λ t u xs zs pt pu x_is z_is.
+      let p = a.least t xs pt x_is in
+      let q = b.least u zs pu z_is in
+      let h : (u *ℤ dot s.weights xs) ≤ℤ (t *ℤ dot s.weights zs) = p.least zs u pu q.solves in
+      let k : (t *ℤ dot s.weights zs) ≤ℤ (u *ℤ dot s.weights xs) = q.least xs t pt p.solves in
+      omega (arith, ints);
 }
 
 not_both : (r q : Rule) (s : LinearSystem) (ps qs : List (ℕ × ℕ)) (x y z : List Frac) → IsBest r s ps x y → IsRefuted q s qs z → ⊥
-not_both r q s ps qs x y z a b = no_solution s (ray s b.column b.t) (solution s a.t) a.t.over b.refutes a.proves.positive a.proves.solves
+not_both r q s ps qs x y z a b =
+    let p = a.least a.t.over (solution s a.t) a.positive a.x_is in
+    no_solution s (ray s b.column b.t) (solution s a.t) a.t.over (b.refutes b.t.over (ray s b.column b.t) b.positive b.y_is) a.positive p.solves
 
 pub answers_agree : (r q : Rule) (s : LinearSystem) (a b : Answer) → IsAnswer r s a → IsAnswer q s b → Agree s a b
 answers_agree r q s (Leaves ps i c) b f g = tt

@@ -11,5 +11,6 @@ mod Listing
 mod Solves
 mod Tables
 mod Agreement
-mod Spelling
 mod Sets
+mod Wholes
+pub mod ByRule

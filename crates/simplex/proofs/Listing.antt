@@ -5,7 +5,8 @@ use Rattle.std.proofs.lemmas.List.{drop_all}
 use lib.ListN.{length-append}
 use Rattle.frac128.specs.declared.Frac.{Frac}
 use Rattle.frac128.specs.Values.{numerator, denominator}
-use Rattle.frac_rows.specs.Entries.{Entries, at, nought, columns_of, numbers_of, SparseFrom}
+use Rattle.frac128.specs.Nought.{nought}
+use Rattle.frac_rows.specs.Entries.{Entries, at, columns_of, numbers_of, SparseFrom}
 use Rattle.simplex.specs.Reading.{frac_at, column_at, HaveParts, AreEntries, NoneTwice, IsSpreadTo, IsPut}
 use Rattle.tableau.proofs.Pivoting.{same_or_not}
 use Rattle.simplex.proofs.Rows.{earlier_or_here}

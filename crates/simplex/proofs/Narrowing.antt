@@ -10,7 +10,8 @@ use Rattle.raml_num.proofs.Differences.{diffs, diff-pos, is_diff, diff_same}
 use Rattle.raml_num.proofs.Signed.{cancelled, natural, lt_mul, lt_cancel}
 use Rattle.frac128.specs.declared.Frac.{Frac}
 use Rattle.frac128.specs.Values.{IsQuotient}
-use Rattle.frac_rows.specs.Entries.{Entries, at, nought}
+use Rattle.frac128.specs.Nought.{nought}
+use Rattle.frac_rows.specs.Entries.{Entries, at}
 use Rattle.linear_rows.specs.Vectors.{scale}
 use Rattle.tableau.specs.Places.{row_at, at_each, counted}
 use Rattle.tableau.specs.Places as places
@@ -19,7 +20,7 @@ use Rattle.tableau.specs.Refusals.{NoFraction, IsCompared}
 use Rattle.tableau.proofs.Pivoting.{above, same_or_not}
 use Rattle.simplex.specs.Standing.{Stands, RowsStand, entries_at}
 use Rattle.simplex.specs.Among.{Among, AllDiffer}
-use Rattle.simplex.specs.Ties.{IsBounding, AreBounding, IsRatio, AreTied, RatioLeaves, IsLeaving, SearchLeaves, columns_to}
+use Rattle.simplex.specs.Ties.{IsBounding, AreBounding, IsRatio, AreTied, RatioLeaves, IsExiting, SearchLeaves, columns_to}
 use Rattle.simplex.proofs.Rows.{among_or_not, among_take_more, take_whole}
 use Rattle.simplex.proofs.Lifting.{quotient_stands, quotient_is_there, no_quotient}
 
@@ -423,7 +424,7 @@ search_next cs front after c s rows tied i k e n l r = record {
 }
 
 -- where the search ends
-all_looked : (cs : List ℕ) (s : ℕ) (rows : List Entries) (tied : List ℕ) (l : ℕ) → Narrowed cs s rows tied → Among l tied → IsLeaving cs s rows l
+all_looked : (cs : List ℕ) (s : ℕ) (rows : List Entries) (tied : List ℕ) (l : ℕ) → Narrowed cs s rows tied → Among l tied → IsExiting cs s rows l
 all_looked cs s rows tied l n a = record {
   bounding = n.bounding l a;
   least = λ t p stand. least_row t s cs tied l (n.tied_in t p stand) a;
@@ -488,7 +489,7 @@ module _ (c : ℕ) (front rest : List ℕ) (s : ℕ) (rows : List Entries) (tied
       not_alone more e (inl f) = absurd (let g : [] ≡ c ∷ (front ++ more) = sym f ∙ e in (cc))
       not_alone more e (inr (m, d, r)) = d (only_one tied m i one (tied_at more m e r) (tied_at more i e w.tied))
 
-pub one_left : (c : ℕ) (front rest : List ℕ) (s : ℕ) (rows : List Entries) (tied : List ℕ) (l : ℕ) → Narrowed (c ∷ front) s rows tied → Among l tied → length tied ≤ 1 → IsLeaving ((c ∷ front) ++ rest) s rows l
+pub one_left : (c : ℕ) (front rest : List ℕ) (s : ℕ) (rows : List Entries) (tied : List ℕ) (l : ℕ) → Narrowed (c ∷ front) s rows tied → Among l tied → length tied ≤ 1 → IsExiting ((c ∷ front) ++ rest) s rows l
 one_left c front rest s rows tied l n a one = record {
   bounding = n.bounding l a;
   least = λ t p stand. record {
@@ -509,11 +510,11 @@ some_there [] j a = absurd a
 some_there (x ∷ xs) j a = omega arith
 
 pub search_ends : (right slack column s : ℕ) (rows : List Entries) (tied : List ℕ) (l : ℕ) → slack ≤ column → column ≤ right → Narrowed (columns_to right slack column) s rows tied → l ≡ get_or tied 0 l → (1 < length tied → column < right → ⊥)
-    → IsLeaving (columns_to right slack right) s rows l
+    → IsExiting (columns_to right slack right) s rows l
 search_ends right slack column s rows tied l h k n e done =
     let a : Among l tied = subst (λ (z : ℕ). Among z tied) (sym e) (first_among tied l (some_there tied n.some.0 n.some.1)) in
     elim (one_or_more (length tied)) [
-      | inl one ↦ subst (λ (cs : List ℕ). IsLeaving cs s rows l) (sym (columns_rest right slack column h k)) (one_left right (counted slack (column - slack)) (counted column (right - column)) s rows tied l n a one)
+      | inl one ↦ subst (λ (cs : List ℕ). IsExiting cs s rows l) (sym (columns_rest right slack column h k)) (one_left right (counted slack (column - slack)) (counted column (right - column)) s rows tied l n a one)
       | inr more ↦ elim (there_or_not column right k) [
         | inl same ↦ all_looked (columns_to right slack right) s rows tied l (subst (λ (z : ℕ). Narrowed (columns_to right slack z) s rows tied) same n) a
         | inr below ↦ absurd (done more below)

@@ -1,7 +1,8 @@
 -- A row that is made column by column.
-use Rattle.std.proofs.Common.{◌≡◌, ◌≢◌, refl, sym, ap, subst, ◌∙◌, ℕ, zero, suc, ◌+◌, ◌-◌, ◌<◌, ◌≤◌, ◌==◌, false, ℤ, pos, arith, List, [], ◌∷◌, ◌++◌, length, map, get_or, slice_set, take, Result, Ok, Err, OnOk, ◌⊎◌, inl, inr}
+use Rattle.std.proofs.Common.{◌*ℤ◌, ◌≡◌, ◌≢◌, refl, sym, ap, subst, ◌∙◌, ℕ, zero, suc, ◌+◌, ◌-◌, ◌<◌, ◌≤◌, ◌==◌, false, ℤ, pos, arith, List, [], ◌∷◌, ◌++◌, length, map, get_or, slice_set, take, Result, Ok, Err, OnOk, ◌⊎◌, inl, inr}
 use Rattle.frac128.specs.declared.Frac.{Frac}
-use Rattle.frac_rows.specs.Entries.{Entries, at, nought, EndsBefore}
+use Rattle.frac128.specs.Nought.{nought}
+use Rattle.frac_rows.specs.Entries.{Entries, at, EndsBefore}
 use Rattle.linear_rows.specs.Terms.{Terms, SparseRow, coefficient, unknown_at, number_at, IsSparse}
 use Rattle.linear_rows.proofs.Places.{coefficient_at as coefficient_of}
 use Rattle.tableau.specs.Places as places
@@ -20,7 +21,7 @@ use Rattle.tableau.proofs.Pivoting.{same_or_not}
 use Rattle.simplex.proofs.Rows.{earlier_or_here}
 
 whole_stands : (x : Frac) (n : ℤ) → x.num ≡ n → x.den ≡ 1 → Stands (pos 1) n x
-whole_stands x n e f = record { is = rw (e, f) refl }
+whole_stands x n e f = let is : x.num *ℤ pos 1 ≡ n *ℤ pos x.den = rw (e, f) refl in record { is = is }
 
 pub opens_more : (j : ℕ) (n : ℤ) (ns : List ℤ) (es new : Entries) → OpensTo j ns es → AddsWhole j n es new → n ≡ places.at ns j → EndsBefore (j + 1) new → OpensTo (j + 1) ns new
 opens_more j n ns es new o a e b = record {

@@ -4,22 +4,23 @@ use Rattle.std.proofs.lemmas.Int.{ints, unsigned_abs-mul}
 use Rattle.std.specs.declared.alloc.AllocError.{AllocError}
 use Rattle.frac128.specs.declared.Frac.{Frac}
 use Rattle.frac128.specs.Values.{numerator, denominator}
-use Rattle.frac_rows.specs.Entries.{Entries, at, nought}
+use Rattle.frac128.specs.Nought.{nought}
+use Rattle.frac_rows.specs.Entries.{Entries, at}
 use Rattle.linear_rows.specs.Systems.{LinearSystem, IsSystem}
 use Rattle.tableau.specs.Places.{row_at}
 use Rattle.tableau.specs.Places as places
 use Rattle.tableau.specs.Tableaux.{Tableau, right, opening, pivot, entry, compared}
-use Rattle.tableau.specs.Refusals.{least_number, Refused, InSearch, InLeavingRow, InProduct, InDifference}
+use Rattle.tableau.specs.Refusals.{least_number, Refused, InSearch, InExitingRow, InProduct, InDifference}
 use Rattle.tableau.specs.Courses.{Rule, Enters, Leads, Course, Ends, Rises, Follows, FollowsFrom, Answers, Refuses, AtPivot}
 use Rattle.tableau.proofs.Opening.{length-opened}
 use Rattle.tableau.proofs.Ending.{Good, good_course}
 use Rattle.tableau.proofs.Agreeing.{course_ends}
 use Rattle.simplex.specs.Standing.{Stands, RowStands, RowsStand, IsPivoted, PivotLeaves, entries_at}
-use Rattle.simplex.specs.Ties.{IsBounding, IsLeaving, SearchLeaves}
+use Rattle.simplex.specs.Ties.{IsBounding, IsExiting, SearchLeaves}
 use Rattle.simplex.specs.Choosing.{Chooses}
 use Rattle.simplex.specs.Reading.{AreOver, HaveParts, frac_at}
-use Rattle.simplex.specs.declared.pivot.Fault.{Fault}
-use Rattle.simplex.specs.declared.solver.Table.{Table}
+use Rattle.simplex.specs.declared.fault.Fault.{Fault}
+use Rattle.simplex.specs.declared.table.Table.{Table}
 use Rattle.simplex.specs.declared.solver.Step.{Step}
 use Rattle.simplex.specs.declared.solver.Step.TheVariants as step
 use Rattle.simplex.specs.Solving.{rule_over, IsAfter, Reached, ReachedEnd, ReachedRise, IsStep}
@@ -75,8 +76,8 @@ opening_after s rows gains r g = record { course = opening_course s rows gains r
 
 pub refused_inside : (s : LinearSystem) (t : Tableau) (e i c : ℕ) → Refused s t e i c → i ≤ length t.rows
 refused_inside s t e i c (InSearch w n) = let h = w.tied.inside in omega arith
-refused_inside s t e i c (InLeavingRow w n) = let h = w.inside in omega arith
-refused_inside s t e i c (InProduct l w n h k) = h
+refused_inside s t e i c (InExitingRow w n) = let h = w.inside in omega arith
+refused_inside s t e i c (InProduct l w n h there k) = h
 refused_inside s t e i c (InDifference l w n h d) = h
 
 -- the gains before the right side, as the rule sees them
@@ -92,7 +93,7 @@ length-take [] (suc n) h = absurd (omega arith)
 length-take (x ∷ xs) (suc n) h = ap suc (length-take xs n (omega arith))
 
 pub stands_with : (d n : ℤ) (x y : Frac) → numerator y ≡ numerator x → denominator y ≡ denominator x → Stands d n x → Stands d n y
-stands_with d n x y e f s = record { is = rw (e, f) s.is }
+stands_with d n x y e f s = let is : y.num *ℤ d ≡ n *ℤ pos y.den = rw (e, f) s.is in record { is = is }
 
 module _ (s : LinearSystem) (system : IsSystem s) (pivots : List (ℕ × ℕ)) (basis : List ℕ) (rows : List Entries) (gains : Entries) (t : Tableau) (after : IsAfter s pivots basis rows gains t) where
   good : Good s t
@@ -146,7 +147,7 @@ module _ (s : LinearSystem) (system : IsSystem s) (pivots : List (ℕ × ℕ)) (
       not_positive : (z : ℤ) → (pos 0 <ℤ z → ⊥) → z ≤ℤ pos 0
       not_positive z n = grind (arith, ints)
 
-  pub after_pivot : (l c : ℕ) (new : List Entries) (new_gains : Entries) → Enters s t c → IsLeaving (compared s) c rows l → IsPivoted l c rows gains new new_gains → IsAfter s (pivots ++ (l, c) ∷ []) (set basis l c) new new_gains (pivot l c t)
+  pub after_pivot : (l c : ℕ) (new : List Entries) (new_gains : Entries) → Enters s t c → IsExiting (compared s) c rows l → IsPivoted l c rows gains new new_gains → IsAfter s (pivots ++ (l, c) ∷ []) (set basis l c) new new_gains (pivot l c t)
   after_pivot l c new new_gains e leaving made =
       let r = steps s pivots t c rows gains l new new_gains system after.course after.stand e leaving made in
       record { course = r.0; stand = r.1; basis_is = ap (λ (bs : List ℕ). set bs l c) after.basis_is; height = made.rows_swept.count ∙ after.height }
@@ -160,7 +161,7 @@ module _ (s : LinearSystem) (system : IsSystem s) (pivots : List (ℕ × ℕ)) (
   pub search_refused : (c i k : ℕ) → SearchLeaves (compared s) c rows i k → Refused s t c i k × (i ≤ s.unknowns)
   search_refused c i k w = let r = search_faults s pivots t c rows gains i k system after.course after.stand w in (r, inside_height c i k r)
 
-  pub pivot_refused_at : (c l i k : ℕ) → IsLeaving (compared s) c rows l → PivotLeaves l c rows gains i k → Refused s t c i k × (i ≤ s.unknowns)
+  pub pivot_refused_at : (c l i k : ℕ) → IsExiting (compared s) c rows l → PivotLeaves l c rows gains i k → Refused s t c i k × (i ≤ s.unknowns)
   pivot_refused_at c l i k leaving w = let r = pivot_faults s pivots t c rows gains l i k system after.course after.stand leaving w in (r, inside_height c i k r)
 
   pub fewer : length pivots < 2 ^ right s
@@ -187,12 +188,12 @@ module _ (answers : List Frac → Option ℕ → Type 0) (chooses : Chooses answ
         let q = search_refused s system table.pivots.items table.basis.items table.rows.items table.gains r.t r.after c i k w in
         (AtPivot r.t c r.after.course r.follows enters by_rule q.0, q.1)
 
-    pub pivot_refuses : (l i k : ℕ) → IsLeaving (compared s) c table.rows.items l → PivotLeaves l c table.rows.items table.gains i k → Refuses (rule_over answers) s table.pivots.items i k × (i ≤ s.unknowns)
+    pub pivot_refuses : (l i k : ℕ) → IsExiting (compared s) c table.rows.items l → PivotLeaves l c table.rows.items table.gains i k → Refuses (rule_over answers) s table.pivots.items i k × (i ≤ s.unknowns)
     pivot_refuses l i k leaving w =
         let q = pivot_refused_at s system table.pivots.items table.basis.items table.rows.items table.gains r.t r.after c l i k leaving w in
         (AtPivot r.t c r.after.course r.follows enters by_rule q.0, q.1)
 
-    pub pivot_reaches : (l : ℕ) (new : Table) → IsLeaving (compared s) c table.rows.items l → IsPivoted l c table.rows.items table.gains new.rows.items new.gains
+    pub pivot_reaches : (l : ℕ) (new : Table) → IsExiting (compared s) c table.rows.items l → IsPivoted l c table.rows.items table.gains new.rows.items new.gains
         → new.basis.items ≡ set table.basis.items l c → new.pivots.items ≡ table.pivots.items ++ (l, c) ∷ [] → Reached (rule_over answers) s new
     pivot_reaches l new leaving made e f = record {
       t = pivot l c r.t;

@@ -4,15 +4,15 @@ use Rattle.frac_rows.specs.Entries.{Entries, at}
 use Rattle.linear_rows.specs.Systems.{LinearSystem, IsSystem}
 use Rattle.tableau.specs.Places.{row_at, counted}
 use Rattle.tableau.specs.Places as places
-use Rattle.tableau.specs.Tableaux.{Tableau, right, opening, pivot, entry, compared, Leaves}
-use Rattle.tableau.specs.Refusals.{NoFraction, DifferenceLeaves, Refused, InSearch, InLeavingRow, InProduct, InDifference}
+use Rattle.tableau.specs.Tableaux.{Tableau, right, opening, pivot, entry, compared, Exits}
+use Rattle.tableau.specs.Refusals.{NoFraction, DifferenceLeaves, Refused, InSearch, InExitingRow, InProduct, InDifference}
 use Rattle.tableau.specs.Courses.{Enters, IsPivot, Leads, Course}
 use Rattle.tableau.proofs.Pivoting.{above}
 use Rattle.tableau.proofs.Rows.{wide_at}
 use Rattle.tableau.proofs.Opening.{width}
-use Rattle.tableau.proofs.Ending.{Good, good_course, one_row_leaves}
+use Rattle.tableau.proofs.Ending.{Good, good_course, one_row_exits}
 use Rattle.simplex.specs.Standing.{Stands, RowStands, TableStands, IsSwept, SweepLeaves, IsPivoted, PivotLeaves, InLead, InRow, InGains, entries_at}
-use Rattle.simplex.specs.Ties.{IsLeaving, SearchLeaves, columns_to}
+use Rattle.simplex.specs.Ties.{IsExiting, SearchLeaves, columns_to}
 use Rattle.simplex.proofs.Lifting.{no_quotient, less_refused, product_is_there, difference_is_there, quotient_is_there}
 use Rattle.simplex.proofs.Pivots.{lead_over, swept_stands, rows_stand}
 
@@ -38,15 +38,15 @@ entry_in t i c h = ap (λ (row : List ℤ). places.at row c) (row_in t.rows t.ga
 pub entry_last : (t : Tableau) (i c : ℕ) → i ≡ length t.rows → entry t i c ≡ places.at t.gains c
 entry_last t i c e = ap (λ (row : List ℤ). places.at row c) (row_last t.rows t.gains i e)
 
-module _ (s : LinearSystem) (t : Tableau) (g : Good s t) (c : ℕ) (rows : List Entries) (gains : Entries) (stand : TableStands t rows gains) (l : ℕ) (leaving : IsLeaving (compared s) c rows l) where
-  pub leaves : Leaves s c t l
+module _ (s : LinearSystem) (t : Tableau) (g : Good s t) (c : ℕ) (rows : List Entries) (gains : Entries) (stand : TableStands t rows gains) (l : ℕ) (leaving : IsExiting (compared s) c rows l) where
+  pub leaves : Exits s c t l
   leaves = leaving.least t g.sound.positive stand.rows_stand
 
   lead_positive : pos 0 <ℤ (t.over *ℤ places.at (row_at t.rows l) c)
   lead_positive = above t.over (places.at (row_at t.rows l) c) g.sound.positive leaves.positive
 
-  in_product : (i k : ℕ) → i ≢ l → i ≤ length t.rows → NoFraction (entry t i c *ℤ entry t l k) (t.over *ℤ entry t l c) → Refused s t c i k
-  in_product i k n h none = InProduct l leaves (λ e. n (sym e)) h none
+  in_product : (i k : ℕ) → i ≢ l → i ≤ length t.rows → (NoFraction (entry t l k) (entry t l c) → ⊥) → NoFraction (entry t i c *ℤ entry t l k) (t.over *ℤ entry t l c) → Refused s t c i k
+  in_product i k n h there none = InProduct l leaves (λ e. n (sym e)) h there none
 
   in_difference : (i k : ℕ) → i ≢ l → i ≤ length t.rows → DifferenceLeaves (entry t i k) t.over (entry t i c *ℤ entry t l k) (t.over *ℤ entry t l c) → Refused s t c i k
   in_difference i k n h d = InDifference l leaves (λ e. n (sym e)) h d
@@ -59,14 +59,14 @@ module _ (s : LinearSystem) (t : Tableau) (g : Good s t) (c : ℕ) (rows : List 
   row_refused : (i k : ℕ) (row : List ℤ) (es lead : Entries) → i ≢ l → i ≤ length t.rows → ((j : ℕ) → entry t i j ≡ places.at row j) → RowStands t.over row es → ((j : ℕ) → Stands (places.at (row_at t.rows l) c) (places.at (row_at t.rows l) j) (at j lead)) → SweepLeaves c k lead es → Refused s t c i k
   row_refused i k row es lead n h e r over w =
       elim (less_refused t.over (places.at (row_at t.rows l) c) (places.at row k) (places.at row c) (places.at (row_at t.rows l) k) (at k es) (at c es) (at k lead) g.sound.positive lead_positive (r.each k) (r.each c) (over k) w.leaves) [
-        | inl none ↦ in_product i k n h (rw (e c, lead_number k, lead_number c) none)
+        | inl none ↦ in_product i k n h (rw (lead_number k, lead_number c) (λ no. no (at k lead).num (at k lead).den ((at k lead).lowest, (over k).is))) (rw (e c, lead_number k, lead_number c) none)
         | inr d ↦ in_difference i k n h (rw (e k, e c, lead_number k, lead_number c) d)
       ]
 
   pub pivot_refused : (i k : ℕ) → PivotLeaves l c rows gains i k → Refused s t c i k
   pivot_refused i k (InLead e q) =
       subst (λ (z : ℕ). Refused s t c z k) (sym e)
-      (InLeavingRow leaves (rw (lead_number k, lead_number c) (no_quotient t.over (places.at (row_at t.rows l) k) (places.at (row_at t.rows l) c) (at k (entries_at rows l)) (at c (entries_at rows l)) g.sound.positive
+      (InExitingRow leaves (rw (lead_number k, lead_number c) (no_quotient t.over (places.at (row_at t.rows l) k) (places.at (row_at t.rows l) c) (at k (entries_at rows l)) (at c (entries_at rows l)) g.sound.positive
       ((stand.rows_stand.each l leaves.inside).each k) ((stand.rows_stand.each l leaves.inside).each c) q)))
   pivot_refused i k (InRow lead q h n w) =
       let count = stand.rows_stand.count in
@@ -102,21 +102,21 @@ module _ (s : LinearSystem) (t : Tableau) (g : Good s t) (c : ℕ) (rows : List 
     -- where the pivot is made, the tableau refuses nothing
     pub pivot_whole : (i k : ℕ) → Refused s t c i k → ⊥
     pivot_whole i k (InSearch w none) = leaving.looked t g.sound.positive stand.rows_stand i k w (rw (entry_in t i k w.tied.inside, entry_in t i c w.tied.inside) at none)
-    pivot_whole i k (InLeavingRow w none) =
-        let same : i ≡ l = one_row_leaves s t c i l g w leaves in
+    pivot_whole i k (InExitingRow w none) =
+        let same : i ≡ l = one_row_exits s t c i l g w leaves in
         let here : NoFraction (entry t l k) (entry t l c) = subst (λ (z : ℕ). NoFraction (entry t z k) (entry t z c)) same none in
         quotient_is_there t.over (places.at (row_at t.rows l) k) (places.at (row_at t.rows l) c) (at k (entries_at rows l)) (at c (entries_at rows l)) (at k made.lead) ((stand.rows_stand.each l leaves.inside).each k) ((stand.rows_stand.each l leaves.inside).each c) (made.quotients k)
         (rw (lead_number k, lead_number c) at here)
-    pivot_whole i k (InProduct m w n h none) =
-        let same : m ≡ l = one_row_leaves s t c m l g w leaves in
+    pivot_whole i k (InProduct m w n h there none) =
+        let same : m ≡ l = one_row_exits s t c m l g w leaves in
         (numbers_there i k (λ e. n (same ∙ sym e)) h).0 (subst (λ (z : ℕ). NoFraction (entry t i c *ℤ entry t z k) (t.over *ℤ entry t z c)) same none)
     pivot_whole i k (InDifference m w n h d) =
-        let same : m ≡ l = one_row_leaves s t c m l g w leaves in
+        let same : m ≡ l = one_row_exits s t c m l g w leaves in
         (numbers_there i k (λ e. n (same ∙ sym e)) h).1 (subst (λ (z : ℕ). DifferenceLeaves (entry t i k) t.over (entry t i c *ℤ entry t z k) (t.over *ℤ entry t z c)) same d)
 
     -- so it is a pivot of the tableau, and the new rows stand for the new tableau
     pub is_pivot : Enters s t c → IsPivot s t l c
-    is_pivot enters = record { enters = enters; leaves = leaves; whole = pivot_whole }
+    is_pivot enters = record { enters = enters; exits = leaves; whole = pivot_whole }
 
     pub pivoted_stands : TableStands (pivot l c t) new new_gains
     pivoted_stands = record {
@@ -130,7 +130,7 @@ leads_on s t [] u l c e p = (subst (λ (v : Tableau). IsPivot s v l c) (sym e) p
 leads_on s t (q ∷ ps) u l c h p = (h.0, leads_on s (pivot q.0 q.1 t) ps u l c h.1 p)
 
 pub steps : (s : LinearSystem) (pivots : List (ℕ × ℕ)) (t : Tableau) (c : ℕ) (rows : List Entries) (gains : Entries) (l : ℕ) (new : List Entries) (new_gains : Entries)
-    → IsSystem s → Course s pivots t → TableStands t rows gains → Enters s t c → IsLeaving (compared s) c rows l → IsPivoted l c rows gains new new_gains
+    → IsSystem s → Course s pivots t → TableStands t rows gains → Enters s t c → IsExiting (compared s) c rows l → IsPivoted l c rows gains new new_gains
     → Course s (pivots ++ (l, c) ∷ []) (pivot l c t) × TableStands (pivot l c t) new new_gains
 steps s pivots t c rows gains l new new_gains h course stand enters leaving made =
     let g = good_course s pivots t h course in (
@@ -139,7 +139,7 @@ steps s pivots t c rows gains l new new_gains h course stand enters leaving made
     )
 
 pub pivot_faults : (s : LinearSystem) (pivots : List (ℕ × ℕ)) (t : Tableau) (c : ℕ) (rows : List Entries) (gains : Entries) (l i k : ℕ)
-    → IsSystem s → Course s pivots t → TableStands t rows gains → IsLeaving (compared s) c rows l → PivotLeaves l c rows gains i k → Refused s t c i k
+    → IsSystem s → Course s pivots t → TableStands t rows gains → IsExiting (compared s) c rows l → PivotLeaves l c rows gains i k → Refused s t c i k
 pivot_faults s pivots t c rows gains l i k h course stand leaving w = pivot_refused s t (good_course s pivots t h course) c rows gains stand l leaving i k w
 
 pub search_faults : (s : LinearSystem) (pivots : List (ℕ × ℕ)) (t : Tableau) (c : ℕ) (rows : List Entries) (gains : Entries) (i k : ℕ)

@@ -4,7 +4,8 @@ use Rattle.std.proofs.lemmas.Int.{ints}
 use Rattle.raml_num.proofs.Differences.{diffs, diff-pos, is_diff, diff_same}
 use Rattle.frac128.specs.declared.Frac.{Frac}
 use Rattle.frac128.specs.Values.{numerator, denominator}
-use Rattle.frac_rows.specs.Entries.{Entries, at, nought}
+use Rattle.frac128.specs.Nought.{nought}
+use Rattle.frac_rows.specs.Entries.{Entries, at}
 use Rattle.linear_rows.specs.Systems.{LinearSystem, IsSystem}
 use Rattle.linear_rows.specs.Vectors.{plus}
 use Rattle.tableau.specs.Places.{row_at, at_each, column, counted, only, spread}
@@ -13,12 +14,15 @@ use Rattle.tableau.specs.Tableaux.{Tableau, right, slacks, opening, solution, du
 use Rattle.tableau.proofs.Rows.{at-zeros, length-column}
 use Rattle.tableau.proofs.Opening.{length-only, only_here, only_there, length-map, length-counted}
 use Rattle.tableau.proofs.Reading.{length-spread}
+use Rattle.linear_rows.proofs.Duality.{least}
+use Rattle.linear_rows.proofs.Proportions.{agree as proportional}
+use Rattle.simplex.proofs.Wholes.{in_proportion}
 use Rattle.tableau.proofs.Ending.{Good, good_course}
 use Rattle.tableau.proofs.Agreeing.{ends_least, rise_refutes}
 use Rattle.tableau.specs.Courses.{Rule, Course, Follows}
 use Rattle.simplex.specs.Standing.{Stands, RowStands, RowsStand, entries_at}
 use Rattle.simplex.specs.Reading.{AreOver, HaveParts, NoneTwice, IsSpreadTo, frac_at, column_at}
-use Rattle.simplex.specs.declared.solver.Table.{Table}
+use Rattle.simplex.specs.declared.table.Table.{Table}
 use Rattle.simplex.specs.Solving.{IsAfter, IsAt, IsOpening, Reached, ReachedEnd, ReachedRise, IsBest, IsRefuted}
 use Rattle.simplex.proofs.Solves.{stands_with, opening_after, fewer}
 use Rattle.tableau.proofs.Pivoting.{same_or_not}
@@ -90,7 +94,7 @@ spread_over d n cs zs xs ys once e over h = record {
 
 -- the other sign
 neg_stands : (d n : ℤ) (x y : Frac) → numerator y ≡ neg_ℤ (numerator x) → denominator y ≡ denominator x → Stands d n x → Stands d (neg_ℤ n) y
-neg_stands d n x y e f s = record { is = rw (e, f) (neg_left x.num d ∙ ap neg_ℤ s.is ∙ sym (neg_left n (pos x.den))) }
+neg_stands d n x y e f s = let is : y.num *ℤ d ≡ neg_ℤ n *ℤ pos y.den = rw (e, f) (neg_left x.num d ∙ ap neg_ℤ s.is ∙ sym (neg_left n (pos x.den))) in record { is = is }
   where
     neg_left : (a b : ℤ) → neg_ℤ a *ℤ b ≡ neg_ℤ (a *ℤ b)
     neg_left a b = rw (is_diff a, is_diff b) (simp (diffs, diff-pos) (diff_same _ _ _ _ (omega arith)))
@@ -204,7 +208,7 @@ module _ (s : LinearSystem) (system : IsSystem s) (pivots : List (ℕ × ℕ)) (
       (first_over t.over (map neg_ℤ (column c t.rows)) one ns e f (neg_over t.over (column c t.rows) xs ns (column_over t rows c xs after.stand.rows_stand h) k)) w)
     where
       whole_stands : (d : ℤ) (x : Frac) → numerator x ≡ pos 1 → denominator x ≡ 1 → Stands d d x
-      whole_stands d x e f = record { is = rw (e, f) (omega (arith, ints)) }
+      whole_stands d x e f = let is : x.num *ℤ d ≡ d *ℤ pos x.den = rw (e, f) (omega (arith, ints)) in record { is = is }
 
       number_over : (d : ℤ) (zs : List ℤ) (x : Frac) (xs : List Frac) → numerator x ≡ pos 1 → denominator x ≡ 1 → AreOver d zs xs → (i : ℕ) → i < length (d ∷ zs) → Stands d (places.at (d ∷ zs) i) (frac_at (x ∷ xs) i)
       number_over d zs x xs e f o zero q = whole_stands d x e f
@@ -263,16 +267,34 @@ pub differ_rising : (rule : Rule) (s : LinearSystem) (table : Table) (c : ℕ) �
 differ_rising rule s table c system r = still_once s system table.pivots.items table.basis.items table.rows.items table.gains r.reached.t r.reached.after c r.rises.enters.gain
 
 pub best_of : (rule : Rule) (s : LinearSystem) (table : Table) (x y : List Frac) → IsSystem s → ReachedEnd rule s table → ((t : Tableau) → IsAt s table t → AreOver t.over (solution s t) x) → ((t : Tableau) → IsAt s table t → AreOver t.over (dual s t) y) → IsBest rule s table.pivots.items x y
-best_of rule s table x y system r f g = record { t = r.reached.t; ends = r.ends; follows = r.reached.follows; x_is = f r.reached.t r.reached.after; y_is = g r.reached.t r.reached.after; proves = ends_least s table.pivots.items r.reached.t system r.ends }
+best_of rule s table x y system r f g =
+    let t = r.reached.t in
+    let p = ends_least s table.pivots.items t system r.ends in
+    let x_is = f t r.reached.after in
+    let y_is = g t r.reached.after in
+    record {
+      t = t;
+      ends = r.ends;
+      follows = r.reached.follows;
+      positive = p.positive;
+      x_is = x_is;
+      y_is = y_is;
+      least = λ d xs pd e. proportional.least s (solution s t) xs t.over d p.positive pd (in_proportion t.over d (solution s t) xs x x_is e) (least s (solution s t) (dual s t) t.over p);
+      proves = λ d xs ys pd e h. proportional.proves s (solution s t) (dual s t) xs ys t.over d pd (in_proportion t.over d (solution s t) xs x x_is e) (in_proportion t.over d (dual s t) ys y y_is h) p;
+    }
 
 pub refuted_of : (rule : Rule) (s : LinearSystem) (table : Table) (c : ℕ) (y : List Frac) → IsSystem s → ReachedRise rule s table c → ((t : Tableau) → IsAt s table t → pos 0 <ℤ places.at t.gains c → AreOver t.over (ray s c t) y) → IsRefuted rule s table.pivots.items y
-refuted_of rule s table c y system r f = record {
-  t = r.reached.t;
-  column = c;
-  rises = r.rises;
-  follows = r.reached.follows;
-  answers = r.answers;
-  positive = let g = good_course s table.pivots.items r.reached.t system r.reached.after.course in g.sound.positive;
-  y_is = f r.reached.t r.reached.after r.rises.enters.gain;
-  refutes = rise_refutes s table.pivots.items r.reached.t c system r.rises;
-}
+refuted_of rule s table c y system r f =
+    let t = r.reached.t in
+    let g = good_course s table.pivots.items t system r.reached.after.course in
+    let y_is = f t r.reached.after r.rises.enters.gain in
+    record {
+      t = t;
+      column = c;
+      rises = r.rises;
+      follows = r.reached.follows;
+      answers = r.answers;
+      positive = g.sound.positive;
+      y_is = y_is;
+      refutes = λ d ys pd e. proportional.refutes s (ray s c t) ys t.over d g.sound.positive pd (in_proportion t.over d (ray s c t) ys y y_is e) (rise_refutes s table.pivots.items t c system r.rises);
+    }

@@ -4,7 +4,7 @@ use Rattle.std.specs.Fn.{Shared, FnReturnsAt}
 use Rattle.std.specs.Borrow.{Bor}
 use Rattle.frac128.specs.declared.Frac.{Frac}
 use Rattle.frac128.specs.Values.{numerator}
-use Rattle.frac_rows.specs.Entries.{nought}
+use Rattle.frac128.specs.Nought.{nought}
 
 -- for every list of gains the rule answers the place of a positive one, and none only where there is none
 pub record Chooses (answers : List Frac → Option ℕ → Type 0) : Type 0 where

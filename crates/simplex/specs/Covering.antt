@@ -1,6 +1,7 @@
 -- For each column, the rows that may have a number there.
 use Rattle.std.specs.Prelude.{◌≡◌, ◌≢◌, ℕ, zero, suc, ◌<◌, List, [], ◌∷◌, length, pos, ◌⊎◌}
 use Rattle.std.specs.BTreeSet.{BTreeSet}
+use Rattle.frac128.specs.Values.{numerator}
 use Rattle.frac_rows.specs.Entries.{Entries, at}
 use Rattle.simplex.specs.Among.{Among}
 use Rattle.simplex.specs.Standing.{entries_at}
@@ -15,7 +16,7 @@ rows_in (set ∷ sets) (suc c) = rows_in sets c
 pub record Cover (n : ℕ) (rows : List Entries) (sets : List (BTreeSet ℕ)) : Type 0 where
   pub count : length sets ≡ n
   pub inside : (c i : ℕ) → Among i (rows_in sets c) → i < length rows
-  pub all : (c i : ℕ) → c < n → i < length rows → (at c (entries_at rows i)).num ≢ pos 0 → Among i (rows_in sets c)
+  pub all : (c i : ℕ) → c < n → i < length rows → numerator (at c (entries_at rows i)) ≢ pos 0 → Among i (rows_in sets c)
 
 -- new has these rows more, in the sets of these columns
 pub record Grow (columns rows : List ℕ) (old new : List (BTreeSet ℕ)) : Type 0 where

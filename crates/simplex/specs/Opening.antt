@@ -1,5 +1,6 @@
 -- Rows of whole numbers, made column by column.
 use Rattle.std.specs.Prelude.{◌≡◌, ◌≢◌, ℕ, ◌+◌, ◌<◌, List, [], length, map, ℤ, pos}
+use Rattle.frac128.specs.Values.{numerator, denominator}
 use Rattle.frac_rows.specs.Entries.{Entries, at, EndsBefore}
 use Rattle.linear_rows.specs.Terms.{Terms, SparseRow, coefficient}
 use Rattle.tableau.specs.Places as places
@@ -8,8 +9,8 @@ use Rattle.simplex.specs.Standing.{Stands, entries_at}
 
 -- new has n over 1 at column c, and as old at the others
 pub record AddsWhole (c : ℕ) (n : ℤ) (old new : Entries) : Type 0 where
-  pub num : (at c new).num ≡ n
-  pub den : (at c new).den ≡ 1
+  pub num : numerator (at c new) ≡ n
+  pub den : denominator (at c new) ≡ 1
   pub others : (k : ℕ) → k ≢ c → at k new ≡ at k old
 
 -- in the columns before j, the row has the numbers ns, and nothing after them

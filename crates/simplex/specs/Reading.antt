@@ -2,7 +2,8 @@
 use Rattle.std.specs.Prelude.{◌≡◌, ℕ, ◌+◌, ◌<◌, List, length, ℤ, pos, slice_index_or, slice_set}
 use Rattle.frac128.specs.declared.Frac.{Frac}
 use Rattle.frac128.specs.Values.{numerator, denominator}
-use Rattle.frac_rows.specs.Entries.{Entries, at, nought}
+use Rattle.frac128.specs.Nought.{nought}
+use Rattle.frac_rows.specs.Entries.{Entries, at}
 use Rattle.tableau.specs.Places as places
 use Rattle.simplex.specs.Standing.{Stands}
 

@@ -4,15 +4,14 @@ use Rattle.std.specs.Fn.{Shared, FnReturnsAt}
 use Rattle.std.specs.Borrow.{Bor}
 use Rattle.frac128.specs.declared.Frac.{Frac}
 use Rattle.frac_rows.specs.Entries.{Entries}
-use Rattle.linear_rows.specs.Systems.{LinearSystem, Solves, Refutes}
+use Rattle.linear_rows.specs.Systems.{LinearSystem, Refutes, ProvesLeast, IsLeast}
 use Rattle.linear_rows.specs.Vectors.{dot}
 use Rattle.tableau.specs.Tableaux.{Tableau, opening, slacks, solution, dual, ray}
 use Rattle.tableau.specs.Courses.{Rule, Course, Ends, Rises, Follows, Answers, Refuses}
-use Rattle.tableau.specs.Laws.{ProvesLeast}
 use Rattle.simplex.specs.declared.answer.Answer.{Answer}
 use Rattle.simplex.specs.declared.answer.Answer.TheVariants.{Best, NoSolution, Leaves}
-use Rattle.simplex.specs.declared.solver.Table.{Table}
-use Rattle.simplex.specs.declared.solver.Memory.{Memory}
+use Rattle.simplex.specs.declared.table.Table.{Table}
+use Rattle.simplex.specs.declared.solver.Scratch.{Scratch}
 use Rattle.simplex.specs.declared.solver.Step.{Step}
 use Rattle.simplex.specs.declared.solver.Step.TheVariants as step
 use Rattle.simplex.specs.Standing.{TableStands, RowsStand, RowStands}
@@ -34,16 +33,20 @@ pub record IsAfter (s : LinearSystem) (pivots : List (ℕ × ℕ)) (basis : List
   pub basis_is : t.basis ≡ basis
   pub height : length rows ≡ s.unknowns
 
--- after these pivots no gain is left, and x and the dual solution are read there
+-- after these pivots no gain is left, and x and the dual solution are read there. Over every number over
+-- which it is whole x is least, and where the dual solution is, too, that proves it
 pub record IsBest (rule : Rule) (s : LinearSystem) (pivots : List (ℕ × ℕ)) (x y : List Frac) : Type 0 where
   pub t : Tableau
   pub ends : Ends s pivots t
   pub follows : Follows rule s pivots
+  pub positive : pos 0 <ℤ t.over
   pub x_is : AreOver t.over (solution s t) x
   pub y_is : AreOver t.over (dual s t) y
-  pub proves : ProvesLeast s (solution s t) (dual s t) t.over
+  pub least : (d : ℤ) (xs : List ℤ) → pos 0 <ℤ d → AreOver d xs x → IsLeast s xs d
+  pub proves : (d : ℤ) (xs ys : List ℤ) → pos 0 <ℤ d → AreOver d xs x → AreOver d ys y → ProvesLeast s xs ys d
 
--- after these pivots no row bounds the rule's column, and the vector that refutes is read there
+-- after these pivots no row bounds the rule's column, and the vector y is read there. Over every number over
+-- which it is whole it refutes the system
 pub record IsRefuted (rule : Rule) (s : LinearSystem) (pivots : List (ℕ × ℕ)) (y : List Frac) : Type 0 where
   pub t : Tableau
   pub column : ℕ
@@ -52,7 +55,7 @@ pub record IsRefuted (rule : Rule) (s : LinearSystem) (pivots : List (ℕ × ℕ
   pub answers : Answers rule s t column
   pub positive : pos 0 <ℤ t.over
   pub y_is : AreOver t.over (ray s column t) y
-  pub refutes : Refutes s (ray s column t)
+  pub refutes : (d : ℤ) (ys : List ℤ) → pos 0 <ℤ d → AreOver d ys y → Refutes s ys
 
 -- each answer has its cause
 abbrev pub IsAnswer : Rule → LinearSystem → Answer → Type 0
@@ -61,9 +64,9 @@ IsAnswer rule s (NoSolution farkas pivots) = IsRefuted rule s pivots.items farka
 IsAnswer rule s (Leaves pivots row column) = Refuses rule s pivots.items row column
 
 -- n gains, which are 0, and sets of n columns for the rows
-pub record IsReady (n : ℕ) (rows : List Entries) (memory : Memory) : Type 0 where
-  pub cleared : AreEntries 0 n [] memory.gains.items
-  pub cover : Cover n rows memory.sets.items
+pub record IsReady (n : ℕ) (rows : List Entries) (scratch : Scratch) : Type 0 where
+  pub cleared : AreEntries 0 n [] scratch.gains.items
+  pub cover : Cover n rows scratch.sets.items
 
 abbrev pub IsAt : LinearSystem → Table → Tableau → Type 0
 IsAt s table t = IsAfter s table.pivots.items table.basis.items table.rows.items table.gains t
@@ -99,18 +102,10 @@ IsStep rule s old new step.Best = ReachedEnd rule s new
 IsStep rule s old new (step.Rises c) = ReachedRise rule s new c
 IsStep rule s old new (step.Leaves i c) = Refuses rule s new.pivots.items i c
 
--- x and z are solutions over t and u, and their weighted sums are equal
+-- the weighted sums of x and z are equal, over all numbers over which they are whole
 pub record EqualSums (s : LinearSystem) (x z : List Frac) : Type 0 where
-  pub t : ℤ
-  pub xs : List ℤ
-  pub x_is : AreOver t xs x
-  pub solves : Solves s xs t
-  pub u : ℤ
-  pub zs : List ℤ
-  pub z_is : AreOver u zs z
-  pub other_solves : Solves s zs u
-  pub positive : (pos 0 <ℤ t) × (pos 0 <ℤ u)
-  pub equal : u *ℤ dot s.weights xs ≡ t *ℤ dot s.weights zs
+  pub equal : (t u : ℤ) (xs zs : List ℤ) → pos 0 <ℤ t → pos 0 <ℤ u → AreOver t xs x → AreOver u zs z
+      → u *ℤ dot s.weights xs ≡ t *ℤ dot s.weights zs
 
 -- unless a number leaves the range, both are best with equal sums, or both say that there is no solution
 abbrev pub Agree : LinearSystem → Answer → Answer → Type 0

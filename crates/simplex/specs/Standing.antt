@@ -1,7 +1,7 @@
 -- Rows of fractions that stand for a tableau over whole numbers.
 use Rattle.std.specs.Prelude.{◌≡◌, ◌≢◌, ℕ, ◌<◌, List, [], length, ℤ, pos, ◌*ℤ◌, slice_index_or}
 use Rattle.frac128.specs.declared.Frac.{Frac}
-use Rattle.frac128.specs.Values.{IsQuotient}
+use Rattle.frac128.specs.Values.{numerator, denominator, IsQuotient}
 use Rattle.frac_rows.specs.Entries.{Entries, at, IsLess, LessLeaves, QuotientLeaves}
 use Rattle.tableau.specs.Places.{row_at}
 use Rattle.tableau.specs.Places as places
@@ -10,7 +10,7 @@ use Rattle.simplex.specs.Among.{Among, AllDiffer}
 
 -- x is n over d
 pub record Stands (d n : ℤ) (x : Frac) : Type 0 where
-  pub is : x.num *ℤ d ≡ n *ℤ pos x.den
+  pub is : numerator x *ℤ d ≡ n *ℤ pos (denominator x)
 
 -- in each column, the row has the number over d
 pub record RowStands (d : ℤ) (ns : List ℤ) (es : Entries) : Type 0 where
@@ -51,14 +51,23 @@ pub record SweepLeaves (s c : ℕ) (lead es : Entries) : Type 0 where
 -- the pivot leaves the range in row i and column c, where the gains come after the other rows
 pub data PivotLeaves (l s : ℕ) (rows : List Entries) (gains : Entries) (i c : ℕ) : Type 0 where
   InLead : i ≡ l → QuotientLeaves (at c (entries_at rows l)) (at s (entries_at rows l)) → PivotLeaves l s rows gains i c
-  InRow : (lead : Entries) → ((k : ℕ) → IsQuotient (at k (entries_at rows l)) (at s (entries_at rows l)) (at k lead)) → i < length rows → i ≢ l → SweepLeaves s c lead (entries_at rows i) → PivotLeaves l s rows gains i c
-  InGains : (lead : Entries) → ((k : ℕ) → IsQuotient (at k (entries_at rows l)) (at s (entries_at rows l)) (at k lead)) → i ≡ length rows → SweepLeaves s c lead gains → PivotLeaves l s rows gains i c
+  InRow : (lead : Entries)
+      → ((k : ℕ) → IsQuotient (at k (entries_at rows l)) (at s (entries_at rows l)) (at k lead))
+      → i < length rows
+      → i ≢ l
+      → SweepLeaves s c lead (entries_at rows i)
+      → PivotLeaves l s rows gains i c
+  InGains : (lead : Entries)
+      → ((k : ℕ) → IsQuotient (at k (entries_at rows l)) (at s (entries_at rows l)) (at k lead))
+      → i ≡ length rows
+      → SweepLeaves s c lead gains
+      → PivotLeaves l s rows gains i c
 
 -- these are the rows with a number at column s that is not 0
 pub record AreTouching (s : ℕ) (rows : List Entries) (is : List ℕ) : Type 0 where
   pub inside : (i : ℕ) → Among i is → i < length rows
-  pub only : (i : ℕ) → Among i is → (at s (entries_at rows i)).num ≢ pos 0
-  pub all : (i : ℕ) → i < length rows → (at s (entries_at rows i)).num ≢ pos 0 → Among i is
+  pub only : (i : ℕ) → Among i is → numerator (at s (entries_at rows i)) ≢ pos 0
+  pub all : (i : ℕ) → i < length rows → numerator (at s (entries_at rows i)) ≢ pos 0 → Among i is
   pub differ : AllDiffer is
 
 -- these rows are swept, and the others stay
@@ -70,5 +79,5 @@ pub record AmongSwept (among : List ℕ) (s : ℕ) (lead : Entries) (old new : L
 -- row i has a number at column s that is not 0, and its change at column c leaves the range
 pub record RowLeaves (s : ℕ) (lead : Entries) (rows : List Entries) (i c : ℕ) : Type 0 where
   pub inside : i < length rows
-  pub touched : (at s (entries_at rows i)).num ≢ pos 0
+  pub touched : numerator (at s (entries_at rows i)) ≢ pos 0
   pub leaves : SweepLeaves s c lead (entries_at rows i)

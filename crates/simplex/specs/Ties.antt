@@ -4,7 +4,7 @@ use Rattle.std.specs.declared.cmp.Ordering.{Ordering}
 use Rattle.std.specs.declared.cmp.Ordering.TheVariants.{Less, Equal, Greater}
 use Rattle.frac128.specs.declared.Frac.{Frac}
 use Rattle.frac128.specs.Order.{order_of}
-use Rattle.frac128.specs.Values.{IsQuotient}
+use Rattle.frac128.specs.Values.{numerator, IsQuotient}
 use Rattle.frac_rows.specs.Entries.{Entries, at, QuotientLeaves}
 use Rattle.tableau.specs.Places.{row_at, counted}
 use Rattle.tableau.specs.Places as places
@@ -16,7 +16,7 @@ use Rattle.simplex.specs.Standing.{entries_at, RowsStand}
 -- row i has a positive number at column s
 pub record IsBounding (s : ℕ) (rows : List Entries) (i : ℕ) : Type 0 where
   pub inside : i < length rows
-  pub positive : pos 0 <ℤ (at s (entries_at rows i)).num
+  pub positive : pos 0 <ℤ numerator (at s (entries_at rows i))
 
 -- these are the rows with a positive number at column s
 pub record AreBounding (s : ℕ) (rows : List Entries) (is : List ℕ) : Type 0 where
@@ -65,10 +65,11 @@ columns_to right slack column = right ∷ counted slack (column - slack)
 
 -- in any tableau that the rows stand for, row l is least, and each ratio that the search looks at is in the
 -- range of fractions
-pub record IsLeaving (cs : List ℕ) (s : ℕ) (rows : List Entries) (l : ℕ) : Type 0 where
+pub record IsExiting (cs : List ℕ) (s : ℕ) (rows : List Entries) (l : ℕ) : Type 0 where
   pub bounding : IsBounding s rows l
   pub least : (t : Tableau) → pos 0 <ℤ t.over → RowsStand t rows → IsLeastRow cs s t l
-  pub looked : (t : Tableau) → pos 0 <ℤ t.over → RowsStand t rows → (i c : ℕ) → IsCompared cs t s i c → NoFraction (places.at (row_at t.rows i) c) (places.at (row_at t.rows i) s) → ⊥
+  pub looked : (t : Tableau) → pos 0 <ℤ t.over → RowsStand t rows → (i c : ℕ) → IsCompared cs t s i c
+      → NoFraction (places.at (row_at t.rows i) c) (places.at (row_at t.rows i) s) → ⊥
 
 -- the search looks at the ratio of row i in column c, which leaves the range
 pub record SearchLeaves (cs : List ℕ) (s : ℕ) (rows : List Entries) (i c : ℕ) : Type 0 where

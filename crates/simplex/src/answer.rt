@@ -22,6 +22,6 @@ pub enum Answer {
     Leaves {
         pivots: Vec<(u32, u32)>,
         row: u32,
-        column: u32,
+        col: u32,
     },
 }

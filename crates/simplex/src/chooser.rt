@@ -25,6 +25,7 @@ impl<F: Fn(&[Frac]) -> Option<usize>> Chooser<F> {
     pub fn new(rule: F) -> Chooser<F>
         requires callable { F.IsAlwaysCallable rule }
         requires chooses { Chooses (FnReturnsAt F.Fn rule) }
+        ensures rule { result ≡ rule }
         ensures callable { F.IsAlwaysCallable result }
         ensures chooses { IsChooser F.Fn result }
     {

@@ -12,13 +12,13 @@ ghost use Rattle.simplex.specs.Laws.{StepsAreLawful, PivotFaultsAreRefused, Sear
 mod answer;
 mod chooser;
 mod covering;
-mod leaving;
+mod exiting;
+mod fault;
 mod opening;
 mod pivot;
 mod reading;
 mod solver;
-#[cfg(test)]
-mod tests;
+mod table;
 
 pub use answer::Answer;
 pub use chooser::Chooser;

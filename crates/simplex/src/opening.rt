@@ -9,7 +9,7 @@ ghost use Rattle.tableau.specs.Refusals.{least_number};
 ghost use Rattle.simplex.specs.Standing.{entries_at, RowStands, RowsStand};
 ghost use Rattle.simplex.specs.Opening.{AddsWhole, OpensTo, OpeningLeaves, AreEmpty, AddsInRow, AddsColumn, ColumnsOpen};
 
-use crate::pivot::{Fault, in_row};
+use crate::fault::{Fault, in_row};
 use frac_rows::{FracRow, RowFault};
 use frac128::Frac;
 use linear_rows::{Row, System};

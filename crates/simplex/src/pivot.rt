@@ -6,66 +6,34 @@ ghost use Rattle.frac_rows.specs.Entries.{at, QuotientLeaves};
 ghost use Rattle.simplex.specs.Among.{Among, AllDiffer};
 ghost use Rattle.simplex.specs.Standing.{entries_at, IsSwept, SweepLeaves, AreTouching, AmongSwept, RowLeaves, IsPivoted, PivotLeaves};
 
+use crate::fault::{Fault, in_row};
 use frac_rows::{FracRow, RowFault};
 use frac128::Frac;
-use std::alloc::{AllocError, AllocFailed, Global};
+use std::alloc::Global;
 use std::mem;
 
-/// Why a step of the tableau was not made.
-#[derive(Clone, Copy, Debug)]
-pub(crate) enum Fault {
-    /// A number in this row and column leaves the range of fractions. The gains come after the rows.
-    Leaves { row: usize, column: u32 },
-    NoMemory,
-}
-
-impl From<AllocError> for Fault {
-    ghost use Rattle.simplex.specs.declared.pivot.Fault.TheVariants.{NoMemory};
-
-    ghost from_gives = { λ _ e. e ≡ NoMemory };
-
-    fn from(_: AllocError) -> Self {
-        Fault::NoMemory
-    }
-}
-
-impl<T: Drop> From<AllocFailed<T>> for Fault {
-    ghost use Rattle.simplex.specs.declared.pivot.Fault.TheVariants.{NoMemory};
-
-    ghost from_gives = { λ _ e. e ≡ NoMemory };
-
-    fn from(_: AllocFailed<T>) -> Self {
-        Fault::NoMemory
-    }
-}
-
-/// The fault of a row, in the tableau.
-pub(crate) fn in_row(row: usize, fault: RowFault) -> Fault
-    ensures { (i c : ℕ) → result ≡ Fault.Leaves i c → (i ≡ row) × (fault ≡ RowFault.Leaves c) }
+/// The row over its number at column `entering`, or the column at which a quotient leaves the range.
+fn lead_of(row: FracRow, entering: u32) -> Result<FracRow, u32>
+    requires { numerator (at entering row) ≢ pos 0 }
+    ensures each { IfOk result (λ r. (c : ℕ) → IsQuotient (at c row) (at entering row) (at c r)) }
+    ensures leaves { (c : ℕ) → result ≡ Err c → QuotientLeaves (at c row) (at entering row) }
 {
-    match fault {
-        RowFault::Leaves { column } => Fault::Leaves { row, column },
-        RowFault::NoMemory => Fault::NoMemory,
-    }
-}
-
-/// The row over its number at column `s`, or the column at which a quotient leaves the range.
-fn lead_of(row: FracRow, s: u32) -> Result<FracRow, u32>
-    requires { numerator (at s row) ≢ pos 0 }
-    ensures each { IfOk result (λ r. (c : ℕ) → IsQuotient (at c row) (at s row) (at c r)) }
-    ensures leaves { (c : ℕ) → result ≡ Err c → QuotientLeaves (at c row) (at s row) }
-{
-    let number = row.at(s);
+    let number = row.at(entering);
     row.over(&number)
 }
 
-/// The row less its number at column `s` times the lead. A row that has none there stays untouched.
-fn sweep(row: &mut FracRow, s: u32, lead: &FracRow, spare: &mut FracRow) -> Result<(), RowFault>
-    ensures swept { OnOk result (IsSwept s lead.now row.old row.new) }
-    ensures leaves { (c : ℕ) → result ≡ Err (RowFault.Leaves c) → SweepLeaves s c lead.now row.old }
-    ensures touched { (c : ℕ) → result ≡ Err (RowFault.Leaves c) → numerator (at s row.old) ≢ pos 0 }
+/// The row less its number at column `entering` times the lead. A row that has none there stays untouched.
+fn sweep(
+    row: &mut FracRow,
+    entering: u32,
+    lead: &FracRow,
+    spare: &mut FracRow,
+) -> Result<(), RowFault>
+    ensures swept { OnOk result (IsSwept entering lead.now row.old row.new) }
+    ensures leaves { (c : ℕ) → result ≡ Err (RowFault.Leaves c) → SweepLeaves entering c lead.now row.old }
+    ensures touched { (c : ℕ) → result ≡ Err (RowFault.Leaves c) → numerator (at entering row.old) ≢ pos 0 }
 {
-    let times = row.at(s);
+    let times = row.at(entering);
     if times.num() == 0 {
         return Ok(());
     }
@@ -76,50 +44,53 @@ fn sweep(row: &mut FracRow, s: u32, lead: &FracRow, spare: &mut FracRow) -> Resu
 fn sweep_rows(
     rows: &mut [FracRow],
     among: &[usize],
-    s: u32,
+    entering: u32,
     lead: &FracRow,
     spare: &mut FracRow,
 ) -> Result<(), Fault>
     requires inside { (i : ℕ) → Among i among.now → i < length rows.old }
     requires differ { AllDiffer among.now }
-    ensures swept { OnOk result (AmongSwept among.now s lead.now rows.old rows.new) }
-    ensures leaves { (i c : ℕ) → result ≡ Err (Fault.Leaves i c) → RowLeaves s lead.now rows.old i c }
+    ensures swept { OnOk result (AmongSwept among.now entering lead.now rows.old rows.new) }
+    ensures leaves { (i c : ℕ) → result ≡ Err (Fault.Leaves i c) → RowLeaves entering lead.now rows.old i c }
 {
     for row in among {
-        if let Err(fault) = sweep(&mut rows[*row], s, lead, spare) {
+        if let Err(fault) = sweep(&mut rows[*row], entering, lead, spare) {
             return Err(in_row(*row, fault));
         }
     }
     Ok(())
 }
 
-/// The pivot in row `l` and column `s`, where the row's number is not 0. New rows are made in `spare`.
+/// The pivot in row `exiting` and column `entering`, where the row's number is not 0. New rows are made in `spare`.
 pub(crate) fn pivot(
     alloc: Global,
     rows: &mut [FracRow],
     gains: &mut FracRow,
     touching: &[usize],
-    l: usize,
-    s: u32,
+    exiting: usize,
+    entering: u32,
     spare: &mut FracRow,
 ) -> Result<(), Fault>
-    requires inside { l < length rows.old }
-    requires number { numerator (at s (entries_at rows.old l)) ≢ pos 0 }
-    requires touching { AreTouching s rows.old touching.now }
-    ensures pivoted { OnOk result (IsPivoted l s rows.old gains.old rows.new gains.new) }
-    ensures leaves { (i c : ℕ) → result ≡ Err (Fault.Leaves i c) → PivotLeaves l s rows.old gains.old i c }
+    requires inside { exiting < length rows.old }
+    requires number { numerator (at entering (entries_at rows.old exiting)) ≢ pos 0 }
+    requires touching { AreTouching entering rows.old touching.now }
+    ensures pivoted { OnOk result (IsPivoted exiting entering rows.old gains.old rows.new gains.new) }
+    ensures leaves { (i c : ℕ) → result ≡ Err (Fault.Leaves i c) → PivotLeaves exiting entering rows.old gains.old i c }
 {
-    let row = mem::replace(&mut rows[l], FracRow::new(alloc));
-    let lead = match lead_of(row, s) {
+    let row = mem::replace(&mut rows[exiting], FracRow::new(alloc));
+    let lead = match lead_of(row, entering) {
         Ok(lead) => lead,
-        Err(column) => return Err(Fault::Leaves { row: l, column }),
+        Err(column) => return Err(Fault::Leaves {
+            row: exiting,
+            column,
+        }),
     };
-    if let Err(fault) = sweep_rows(rows, touching, s, &lead, spare) {
+    if let Err(fault) = sweep_rows(rows, touching, entering, &lead, spare) {
         return Err(fault);
     }
-    if let Err(fault) = sweep(gains, s, &lead, spare) {
+    if let Err(fault) = sweep(gains, entering, &lead, spare) {
         return Err(in_row(rows.len(), fault));
     }
-    rows[l] = lead;
+    rows[exiting] = lead;
     Ok(())
 }

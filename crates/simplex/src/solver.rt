@@ -1,44 +1,31 @@
 //! The loop of the solver.
 
-ghost use Rattle.std.specs.Prelude.{◌≡◌, ◌+◌, ◌<◌, ◌≤◌, ◌^◌, ◌++◌, ◌∷◌, [], ℕ, List, length, Option, None, Some, IfOk, OnOk, pos, ◌<ℤ◌};
+ghost use Rattle.std.specs.Prelude.{◌≡◌, ◌<◌, ◌^◌, [], ℕ, List, length, IfOk};
 ghost use Rattle.std.specs.Fn.{FnReturnsAt};
 ghost use Rattle.frac128.specs.declared.Frac.{Frac};
-ghost use Rattle.tableau.specs.Tableaux.{Tableau, opening, right, slacks, solution, dual, ray};
-ghost use Rattle.tableau.specs.Places.{counted};
-ghost use Rattle.tableau.specs.Places as places;
-ghost use Rattle.tableau.specs.Refusals.{least_number};
-ghost use Rattle.tableau.specs.Courses.{Ends, Rises, Follows, Answers, Refuses};
-ghost use Rattle.tableau.specs.Tableaux.{entry};
+ghost use Rattle.tableau.specs.Tableaux.{right};
 ghost use Rattle.simplex.specs.Choosing.{IsChooser};
-ghost use Rattle.simplex.specs.Reading.{AreEntries, NoneTwice, AreOver};
-ghost use Rattle.simplex.specs.Solving.{rule_of, Reached, IsReady, IsStep, IsOpening, IsAt, IsAnswer, Agree};
+ghost use Rattle.simplex.specs.Reading.{AreEntries};
+ghost use Rattle.simplex.specs.Solving.{rule_of, Reached, IsReady, IsStep, IsAnswer, Agree};
 
 use crate::answer::Answer;
 use crate::chooser::Chooser;
 use crate::covering::{covering, follow, touching};
-use crate::leaving::leaving;
-use crate::opening::{opening_gains, opening_rows};
-use crate::pivot::{Fault, pivot};
-use crate::reading::{clear, column_of, fill, fractions, negated, spread, zeros};
+use crate::exiting::exiting;
+use crate::fault::Fault;
+use crate::pivot::pivot;
+use crate::reading::{clear, fill, zeros};
+use crate::table::{Table, dual, opening, ray, solution};
 use frac_rows::FracRow;
 use frac128::Frac;
 use linear_rows::System;
 use std::alloc::{AllocError, Global};
 use std::collections::BTreeSet;
 
-/// A tableau as sparse rows, with the basis column of each row, and the pivots that led to it.
-#[derive(Drop)]
-pub(crate) struct Table {
-    pub(crate) rows: Vec<FracRow>,
-    pub(crate) gains: FracRow,
-    basis: Vec<u32>,
-    pivots: Vec<(u32, u32)>,
-}
-
 /// What steps hand on beside the table: the gains as the rule sees them, which are 0 between steps, a row in
 /// which new rows are made, and for each column before the right sides the rows that may have a number there.
 #[derive(Drop)]
-pub(crate) struct Memory {
+pub(crate) struct Scratch {
     gains: Vec<Frac>,
     row: FracRow,
     sets: Vec<BTreeSet<u32>>,
@@ -99,24 +86,24 @@ pub(crate) fn make_step<F: Fn(&[Frac]) -> Option<usize>>(
     system: &System,
     chooser: &Chooser<F>,
     table: &mut Table,
-    memory: &mut Memory,
+    scratch: &mut Scratch,
 ) -> Result<Step, AllocError>
     requires callable { F.IsAlwaysCallable chooser.now }
     requires chooses { IsChooser F.Fn chooser.now }
     requires columns { right system.now < 2 ^ 32 }
     requires reached { Reached (rule_of F.Fn chooser.now) system.now table.old }
-    requires ready { IsReady (right system.now) table.old.rows.items memory.old }
+    requires ready { IsReady (right system.now) table.old.rows.items scratch.old }
     ensures step { IfOk result (IsStep (rule_of F.Fn chooser.now) system.now table.old table.new) }
-    ensures ready { result ≡ Ok Step.Pivot → IsReady (right system.now) table.new.rows.items memory.new }
+    ensures ready { result ≡ Ok Step.Pivot → IsReady (right system.now) table.new.rows.items scratch.new }
 {
     let slack = system.rows().len() as u32;
     let right = slack + system.unknowns();
-    let column = match entering(chooser, &table.gains, &mut memory.gains) {
+    let column = match entering(chooser, &table.gains, &mut scratch.gains) {
         Some(column) => column,
         None => return Ok(Step::Best),
     };
-    let touching = touching(alloc, &table.rows, &memory.sets, column)?;
-    let row = match leaving(alloc, &table.rows, &touching, column, slack, right) {
+    let touching = touching(alloc, &table.rows, &scratch.sets, column)?;
+    let row = match exiting(alloc, &table.rows, &touching, column, slack, right) {
         Ok(Some(row)) => row,
         Ok(None) => return Ok(Step::Rises { column }),
         Err(fault) => return stopped(fault),
@@ -128,111 +115,34 @@ pub(crate) fn make_step<F: Fn(&[Frac]) -> Option<usize>>(
         &touching,
         row,
         column,
-        &mut memory.row,
+        &mut scratch.row,
     ) {
         return stopped(fault);
     }
     let columns = table.rows[row].columns();
-    follow(&mut memory.sets, columns, &touching, column, row as u32)?;
+    follow(&mut scratch.sets, columns, &touching, column, row as u32)?;
     table.basis[row] = column;
     table.pivots.push((row as u32, column))?;
     Ok(Step::Pivot)
 }
 
-/// The memory of steps from these rows on, over this many columns.
-pub(crate) fn new_memory(
+/// The scratch of steps from these rows on, over this many columns.
+pub(crate) fn new_scratch(
     alloc: Global,
     rows: &[FracRow],
     columns: usize,
-) -> Result<Memory, AllocError>
+) -> Result<Scratch, AllocError>
     requires { length rows.now < 2 ^ 32 }
     ensures { IfOk result (IsReady columns rows.now) }
 {
-    Ok(Memory {
+    Ok(Scratch {
         gains: zeros(alloc, columns)?,
         row: FracRow::new(alloc),
         sets: covering(alloc, rows, columns)?,
     })
 }
 
-/// The opening table of a system.
-pub(crate) fn opening(alloc: Global, system: &System) -> Result<Table, Fault>
-    requires { right system.now < 2 ^ 32 }
-    ensures table { IfOk result (IsOpening system.now) }
-    ensures leaves { (i c : ℕ) → result ≡ Err (Fault.Leaves i c) → entry (opening system.now) i c ≡ least_number }
-    ensures inside { (i c : ℕ) → result ≡ Err (Fault.Leaves i c) → i ≤ system.now.unknowns }
-{
-    let rows = match opening_rows(alloc, system) {
-        Ok(rows) => rows,
-        Err(fault) => return Err(fault),
-    };
-    let gains = match opening_gains(alloc, system) {
-        Ok(gains) => gains,
-        Err(fault) => return Err(fault),
-    };
-    let basis = match counted(alloc, system.rows().len() as u32, system.unknowns()) {
-        Ok(basis) => basis,
-        Err(_) => return Err(Fault::NoMemory),
-    };
-    Ok(Table {
-        rows,
-        gains,
-        basis,
-        pivots: Vec::new(alloc),
-    })
-}
-
-/// `count` columns from `first` on.
-fn counted(alloc: Global, first: u32, count: u32) -> Result<Vec<u32>, AllocError>
-    requires { first + count < 2 ^ 32 }
-    ensures { IfOk result (λ cs. cs.items ≡ counted first count) }
-{
-    let mut all = Vec::new(alloc);
-    for i in 0..count {
-        all.push(first + i)?;
-    }
-    Ok(all)
-}
-
-/// The solution, with one number for each unknown.
-fn solution(alloc: Global, system: &System, table: &Table) -> Result<Vec<Frac>, AllocError>
-    requires { right system.now < 2 ^ 32 }
-    ensures { (t : Tableau) → IsAt system.now table.now t → IfOk result (λ x. AreOver t.over (solution system.now t) x.items) }
-{
-    let slack = system.rows().len() as u32;
-    let read = fractions(alloc, &table.gains, slack, system.unknowns())?;
-    negated(alloc, &read)
-}
-
-/// The dual solution, with one number for each row of the system.
-fn dual(alloc: Global, system: &System, table: &Table) -> Result<Vec<Frac>, AllocError>
-    requires columns { right system.now < 2 ^ 32 }
-    requires one_each { length table.now.rows.items ≡ length table.now.basis.items }
-    requires once { NoneTwice table.now.basis.items }
-    ensures { (t : Tableau) → IsAt system.now table.now t → IfOk result (λ y. AreOver t.over (dual system.now t) y.items) }
-{
-    let count = system.rows().len();
-    let right = count as u32 + system.unknowns();
-    let numbers = column_of(alloc, &table.rows, right)?;
-    spread(alloc, count, &table.basis, &numbers)
-}
-
-/// The vector that refutes the system where no row bounds this column, with one number for each row.
-fn ray(alloc: Global, system: &System, table: &Table, column: u32) -> Result<Vec<Frac>, AllocError>
-    requires one_each { length table.now.rows.items ≡ length table.now.basis.items }
-    requires once { NoneTwice (column ∷ table.now.basis.items) }
-    ensures { (t : Tableau) → IsAt system.now table.now t → pos 0 <ℤ places.at t.gains column → IfOk result (λ y. AreOver t.over (ray system.now column t) y.items) }
-{
-    let read = column_of(alloc, &table.rows, column)?;
-    let mut numbers = negated(alloc, &read)?;
-    numbers.insert(0, Frac::one())?;
-    let mut columns = Vec::from_slice(alloc, &table.basis)?;
-    columns.insert(0, column)?;
-    spread(alloc, system.rows().len(), &columns, &numbers)
-}
-
-/// Solves a system, with the entering columns of the chooser. Where the unknowns and the rows are more
-/// than 32 bits can number, there is no memory for their tableau.
+/// Solves a system, with the entering columns of the chooser.
 pub fn solve<F: Fn(&[Frac]) -> Option<usize>>(
     alloc: Global,
     system: &System,
@@ -240,12 +150,9 @@ pub fn solve<F: Fn(&[Frac]) -> Option<usize>>(
 ) -> Result<Answer, AllocError>
     requires callable { F.IsAlwaysCallable chooser.now }
     requires chooses { IsChooser F.Fn chooser.now }
+    requires fits { right system.now < 2 ^ 32 }
     ensures { IfOk result (IsAnswer (rule_of F.Fn chooser.now) system.now) }
 {
-    let unknowns = system.unknowns();
-    if system.rows().len() > (u32::MAX - unknowns) as usize {
-        return Err(AllocError);
-    }
     let mut table = match opening(alloc, system) {
         Ok(table) => table,
         Err(Fault::NoMemory) => return Err(AllocError),
@@ -253,13 +160,14 @@ pub fn solve<F: Fn(&[Frac]) -> Option<usize>>(
             return Ok(Answer::Leaves {
                 pivots: Vec::new(alloc),
                 row: row as u32,
-                column,
+                col: column,
             });
         }
     };
-    let mut memory = new_memory(alloc, &table.rows, system.rows().len() + unknowns as usize)?;
+    let columns = system.rows().len() + system.unknowns() as usize;
+    let mut scratch = new_scratch(alloc, &table.rows, columns)?;
     loop {
-        match make_step(alloc, system, chooser, &mut table, &mut memory) {
+        match make_step(alloc, system, chooser, &mut table, &mut scratch) {
             Ok(Step::Pivot) => {}
             Ok(Step::Best) => {
                 let x = solution(alloc, system, &table)?;
@@ -281,7 +189,7 @@ pub fn solve<F: Fn(&[Frac]) -> Option<usize>>(
                 return Ok(Answer::Leaves {
                     pivots: table.pivots,
                     row,
-                    column,
+                    col: column,
                 });
             }
             Err(error) => return Err(error),
@@ -301,6 +209,7 @@ pub fn agree<F: Fn(&[Frac]) -> Option<usize>, G: Fn(&[Frac]) -> Option<usize>>(
     requires first_chooses { IsChooser F.Fn first.now }
     requires second_callable { G.IsAlwaysCallable second.now }
     requires second_chooses { IsChooser G.Fn second.now }
+    requires fits { right system.now < 2 ^ 32 }
     ensures first { IfOk result (λ pair. IsAnswer (rule_of F.Fn first.now) system.now pair.0) }
     ensures second { IfOk result (λ pair. IsAnswer (rule_of G.Fn second.now) system.now pair.1) }
     ensures agree { IfOk result (λ pair. Agree system.now pair.0 pair.1) }

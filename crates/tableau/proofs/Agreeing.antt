@@ -1,20 +1,16 @@
 -- The laws of courses.
 use Rattle.std.proofs.Common.{◌≡◌, ℕ, ◌<◌, ◌^◌, ℤ, ◌*ℤ◌, ◌≤ℤ◌, arith, List, length}
 use Rattle.std.proofs.lemmas.Int.{ints}
-use Rattle.linear_rows.specs.Systems.{LinearSystem, IsSystem, Refutes, IsLeast}
+use Rattle.linear_rows.specs.Systems.{LinearSystem, IsSystem, Refutes, ProvesLeast}
 use Rattle.linear_rows.specs.Vectors.{dot}
 use Rattle.linear_rows.proofs.Duality.{least, no_solution}
-use Rattle.tableau.specs.Tableaux.{Tableau, right, solution, dual, ray, Leaves}
+use Rattle.tableau.specs.Tableaux.{Tableau, right, solution, dual, ray, Exits}
 use Rattle.tableau.specs.Courses.{Course, Ends, Rises}
-use Rattle.tableau.specs.Laws.{ProvesLeast}
-use Rattle.tableau.proofs.Ending.{good_course, courses_end, one_row_leaves}
+use Rattle.tableau.proofs.Ending.{good_course, courses_end, one_row_exits}
 use Rattle.tableau.proofs.Reading.{proves_least, refutes}
 
 pub ends_least : (s : LinearSystem) (ps : List (ℕ × ℕ)) (t : Tableau) → IsSystem s → Ends s ps t → ProvesLeast s (solution s t) (dual s t) t.over
 ends_least s ps t h e = proves_least s h t (good_course s ps t h e.course) e.none
-
-pub least_of : (s : LinearSystem) (x y : List ℤ) (t : ℤ) → ProvesLeast s x y t → IsLeast s x t
-least_of s x y t p = least s x y t p.positive p.solves p.dual p.equal
 
 pub rise_refutes : (s : LinearSystem) (ps : List (ℕ × ℕ)) (t : Tableau) (c : ℕ) → IsSystem s → Rises s ps t c → Refutes s (ray s c t)
 rise_refutes s ps t c h e = refutes s h t (good_course s ps t h e.course) c e.enters.gain e.none
@@ -22,14 +18,14 @@ rise_refutes s ps t c h e = refutes s h t (good_course s ps t h e.course) c e.en
 pub course_ends : (s : LinearSystem) (ps : List (ℕ × ℕ)) (t : Tableau) → IsSystem s → Course s ps t → length ps < 2 ^ right s
 course_ends s ps t h k = courses_end s ps t h k
 
-pub one_leaves : (s : LinearSystem) (ps : List (ℕ × ℕ)) (t : Tableau) (c l m : ℕ) → IsSystem s → Course s ps t → Leaves s c t l → Leaves s c t m → l ≡ m
-one_leaves s ps t c l m h k a b = one_row_leaves s t c l m (good_course s ps t h k) a b
+pub one_exits : (s : LinearSystem) (ps : List (ℕ × ℕ)) (t : Tableau) (c l m : ℕ) → IsSystem s → Course s ps t → Exits s c t l → Exits s c t m → l ≡ m
+one_exits s ps t c l m h k a b = one_row_exits s t c l m (good_course s ps t h k) a b
 
 -- two proofs that a sum is least tell the same sum
 pub same_sums : (s : LinearSystem) (x y z w : List ℤ) (t u : ℤ) → ProvesLeast s x y t → ProvesLeast s z w u → u *ℤ dot s.weights x ≡ t *ℤ dot s.weights z
 same_sums s x y z w t u p q =
-    let a : (u *ℤ dot s.weights x) ≤ℤ (t *ℤ dot s.weights z) = (least_of s x y t p).least z u q.positive q.solves in
-    let b : (t *ℤ dot s.weights z) ≤ℤ (u *ℤ dot s.weights x) = (least_of s z w u q).least x t p.positive p.solves in
+    let a : (u *ℤ dot s.weights x) ≤ℤ (t *ℤ dot s.weights z) = (least s x y t p).least z u q.positive q.solves in
+    let b : (t *ℤ dot s.weights z) ≤ℤ (u *ℤ dot s.weights x) = (least s z w u q).least x t p.positive p.solves in
     omega (arith, ints)
 
 pub agree : (s : LinearSystem) (ps qs : List (ℕ × ℕ)) (t u : Tableau) → IsSystem s → Ends s ps t → Ends s qs u

@@ -5,7 +5,7 @@ use lib.IntN.{*ℤ_comm}
 use Rattle.linear_rows.specs.Systems.{LinearSystem, IsSystem}
 use Rattle.linear_rows.specs.Vectors.{scale}
 use Rattle.tableau.specs.Places.{at, row_at, at_each, swept}
-use Rattle.tableau.specs.Tableaux.{Tableau, opening, pivot, right, slacks, compared, Leaves, LexAtMost}
+use Rattle.tableau.specs.Tableaux.{Tableau, opening, pivot, right, slacks, compared, Exits, LexAtMost}
 use Rattle.tableau.specs.Courses.{IsPivot, Leads, Course}
 use Rattle.tableau.proofs.Invariant.{Sound, Based, RowsPositive, AllBelow}
 use Rattle.tableau.proofs.Rows.{at_each-swept, length-at_each, wide_at}
@@ -28,12 +28,12 @@ good_opening s h = record { sound = opening_sound s; based = opening_based s; po
 
 pub good_pivot : (s : LinearSystem) (t : Tableau) (l c : ℕ) → Good s t → IsPivot s t l c → Good s (pivot l c t)
 good_pivot s t l c g p =
-    let sound = keeps (width s) (opened s) (values s) (slacks s) t l c g.sound p.leaves.inside p.leaves.positive in
-    let base = based (width s) (opened s) (values s) (slacks s) t l c g.sound g.based p.leaves.inside in
+    let sound = keeps (width s) (opened s) (values s) (slacks s) t l c g.sound p.exits.inside p.exits.positive in
+    let base = based (width s) (opened s) (values s) (slacks s) t l c g.sound g.based p.exits.inside in
     record {
       sound = sound;
       based = base;
-      positive = rows_stay (width s) (opened s) (values s) (slacks s) (right s) t l c g.sound g.positive p.leaves sound base;
+      positive = rows_stay (width s) (opened s) (values s) (slacks s) (right s) t l c g.sound g.positive p.exits sound base;
       below = below-set (right s) t.basis l c g.below p.enters.before;
     }
 
@@ -86,7 +86,7 @@ seen n t (p ∷ ps) bs = either (same bs (basis_set n t.basis)) (seen n (pivot p
 
 module _ (s : LinearSystem) where
   falls_by_pivot : (t : Tableau) (l c : ℕ) → Good s t → IsPivot s t l c → Falls (compared s) t (pivot l c t)
-  falls_by_pivot t l c g p = falls_once (width s) (opened s) (values s) (slacks s) (compared s) t l c g.sound p.leaves.inside p.enters.gain (g.positive.each l p.leaves.inside)
+  falls_by_pivot t l c g p = falls_once (width s) (opened s) (values s) (slacks s) (compared s) t l c g.sound p.exits.inside p.enters.gain (g.positive.each l p.exits.inside)
 
   apart : (v t : Tableau) → Good s v → Good s t → Falls (compared s) v t → same (basis_set (right s) v.basis) (basis_set (right s) t.basis) ≡ false
   apart v t g h f =
@@ -134,8 +134,8 @@ both_least p f (x ∷ xs) (y ∷ ys) e (inl a) (inr b) = absurd (let q = b.0 in 
 both_least p f (x ∷ xs) (y ∷ ys) e (inr a) (inl b) = absurd (let q = a.0 in omega (arith, ints))
 both_least p f (x ∷ xs) (y ∷ ys) e (inr a) (inr b) = (let q = a.0 in let c : x *ℤ p ≡ p *ℤ x = *ℤ_comm x p in omega (arith, ints), both_least p f xs ys (omega arith) a.1 b.1)
 
-pub one_row_leaves : (s : LinearSystem) (t : Tableau) (c l m : ℕ) → Good s t → Leaves s c t l → Leaves s c t m → l ≡ m
-one_row_leaves s t c l m g a b = elim (same_or_not m l) [
+pub one_row_exits : (s : LinearSystem) (t : Tableau) (c l m : ℕ) → Good s t → Exits s c t l → Exits s c t m → l ≡ m
+one_row_exits s t c l m g a b = elim (same_or_not m l) [
   | inl e ↦ sym e
   | inr n ↦
       let cs : List ℕ = compared s in

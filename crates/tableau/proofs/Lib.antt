@@ -10,3 +10,4 @@ mod Counting
 pub mod Ending
 pub mod Reading
 pub mod Agreeing
+mod Paths

@@ -6,13 +6,12 @@ use Rattle.raml_num.specs.Sums.{NoneNegative}
 use Rattle.raml_num.proofs.Differences.{diffs, is_diff, diff_same}
 use Rattle.raml_num.proofs.Signed.{none_mul}
 use Rattle.linear_rows.specs.Terms.{SparseRow, coefficient}
-use Rattle.linear_rows.specs.Systems.{LinearSystem, IsSystem, Refutes, numbers_from, matrix, right_sides}
+use Rattle.linear_rows.specs.Systems.{LinearSystem, IsSystem, Refutes, numbers_from, matrix, right_sides, ProvesLeast}
 use Rattle.linear_rows.specs.Vectors.{dot, scale, plus, zeros, mix, times, AtMost}
 use Rattle.linear_rows.proofs.Products.{dot-plus, dot-zeros, dot-comm, length-zeros, length-plus, length-mix, length-scale}
 use Rattle.linear_rows.proofs.Duality.{all_wide}
 use Rattle.tableau.specs.Places.{at, row_at, at_each, column, counted, only, spread}
 use Rattle.tableau.specs.Tableaux.{Tableau, right, slacks, opening_row, solution, dual, ray}
-use Rattle.tableau.specs.Laws.{ProvesLeast}
 use Rattle.tableau.proofs.Rows.{at-mix, at-scale, at-column, length-at_each, length-column, at-zeros, wide_at}
 use Rattle.tableau.proofs.Opening.{width, opened, values, coefficients, at-front, at-back, length-map, length-counted, length-only, dot-only, at_right, value_at_slack, wide_opened, length-opened, column-mapped, natural_at, one_of}
 use Rattle.tableau.proofs.Invariant.{LexPositive}

@@ -2,7 +2,7 @@
 use Rattle.std.specs.Prelude.{◌≡◌, ◌≢◌, ℕ, ◌<◌, List, [], ◌∷◌, length, take, ℤ, pos, ◌≤ℤ◌, ◌<ℤ◌, Option, Some}
 use Rattle.linear_rows.specs.Systems.{LinearSystem}
 use Rattle.tableau.specs.Places.{at, row_at}
-use Rattle.tableau.specs.Tableaux.{Tableau, right, opening, pivot, entry, Leaves}
+use Rattle.tableau.specs.Tableaux.{Tableau, right, opening, pivot, entry, Exits}
 use Rattle.tableau.specs.Refusals.{Refused, least_number}
 
 -- column c, before the right side, has positive gain
@@ -13,7 +13,7 @@ pub record Enters (s : LinearSystem) (t : Tableau) (c : ℕ) : Type 0 where
 -- a pivot in row l and column c is lawful, and no number of it leaves the range of fractions
 pub record IsPivot (s : LinearSystem) (t : Tableau) (l c : ℕ) : Type 0 where
   pub enters : Enters s t c
-  pub leaves : Leaves s c t l
+  pub exits : Exits s c t l
   pub whole : (i k : ℕ) → Refused s t c i k → ⊥
 
 -- the pivots, each a row and a column, lead from t to u
@@ -40,6 +40,10 @@ pub record Rises (s : LinearSystem) (pivots : List (ℕ × ℕ)) (t : Tableau) (
 -- a rule: the column that it answers for gains, which stand over a positive number
 abbrev pub Rule : Type 1
 Rule = List ℤ → ℤ → Option ℕ → Type 0
+
+-- the rule that answers by a function of the gains and of what they are over
+abbrev pub rule_by : (List ℤ → ℤ → Option ℕ) → Rule
+rule_by pick ns d o = pick ns d ≡ o
 
 -- for the gains of the columns before the right side, the rule answers column c
 abbrev pub Answers : Rule → LinearSystem → Tableau → ℕ → Type 0

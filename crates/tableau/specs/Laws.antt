@@ -1,22 +1,12 @@
 -- What the tableau's ends tell of the system, and that every course ends.
-use Rattle.std.specs.Prelude.{◌≡◌, ℕ, ◌<◌, ◌^◌, List, length, ℤ, pos, ◌*ℤ◌, ◌<ℤ◌}
+use Rattle.std.specs.Prelude.{◌≡◌, ℕ, ◌<◌, ◌^◌, List, length, ℤ, ◌*ℤ◌, Option}
 use Rattle.linear_rows.specs.Vectors.{dot}
-use Rattle.linear_rows.specs.Systems.{LinearSystem, IsSystem, Solves, IsDual, Refutes, IsLeast, right_sides}
-use Rattle.tableau.specs.Tableaux.{Tableau, right, solution, dual, ray, Leaves}
-use Rattle.tableau.specs.Courses.{Course, Ends, Rises}
-
--- x over t solves the system, y over t is a dual solution, and their sums are equal
-pub record ProvesLeast (s : LinearSystem) (x y : List ℤ) (t : ℤ) : Type 0 where
-  pub positive : pos 0 <ℤ t
-  pub solves : Solves s x t
-  pub dual : IsDual s y t
-  pub equal : dot y (right_sides s) ≡ dot s.weights x
+use Rattle.linear_rows.specs.Systems.{LinearSystem, IsSystem, Refutes, ProvesLeast}
+use Rattle.tableau.specs.Tableaux.{Tableau, right, solution, dual, ray, Exits}
+use Rattle.tableau.specs.Courses.{Course, Ends, Rises, Follows, Answers, Refuses, rule_by}
 
 abbrev pub EndsAreLeast : Type 0
 EndsAreLeast = (s : LinearSystem) (pivots : List (ℕ × ℕ)) (t : Tableau) → IsSystem s → Ends s pivots t → ProvesLeast s (solution s t) (dual s t) t.over
-
-abbrev pub LeastIsLeast : Type 0
-LeastIsLeast = (s : LinearSystem) (x y : List ℤ) (t : ℤ) → ProvesLeast s x y t → IsLeast s x t
 
 abbrev pub RisesRefute : Type 0
 RisesRefute = (s : LinearSystem) (pivots : List (ℕ × ℕ)) (t : Tableau) (c : ℕ) → IsSystem s → Rises s pivots t c → Refutes s (ray s c t)
@@ -25,9 +15,9 @@ RisesRefute = (s : LinearSystem) (pivots : List (ℕ × ℕ)) (t : Tableau) (c :
 abbrev pub CoursesEnd : Type 0
 CoursesEnd = (s : LinearSystem) (pivots : List (ℕ × ℕ)) (t : Tableau) → IsSystem s → Course s pivots t → length pivots < 2 ^ right s
 
--- at most one row can leave
-abbrev pub OneRowLeaves : Type 0
-OneRowLeaves = (s : LinearSystem) (pivots : List (ℕ × ℕ)) (t : Tableau) (c l m : ℕ) → IsSystem s → Course s pivots t → Leaves s c t l → Leaves s c t m → l ≡ m
+-- at most one row can exit
+abbrev pub OneRowExits : Type 0
+OneRowExits = (s : LinearSystem) (pivots : List (ℕ × ℕ)) (t : Tableau) (c l m : ℕ) → IsSystem s → Course s pivots t → Exits s c t l → Exits s c t m → l ≡ m
 
 -- two ends of one system have the same weighted sum
 abbrev pub EndsAgree : Type 0
@@ -37,3 +27,21 @@ EndsAgree = (s : LinearSystem) (pivots others : List (ℕ × ℕ)) (t u : Tablea
 -- and no course ends where another rises
 abbrev pub EndsOrRises : Type 0
 EndsOrRises = (s : LinearSystem) (pivots others : List (ℕ × ℕ)) (t u : Tableau) (c : ℕ) → IsSystem s → Ends s pivots t → Rises s others u c → ⊥
+
+-- by a rule that is a function, a system has one end or one rise, after the same pivots, and no refusal
+-- beside it
+pub record OneCourse : Type 0 where
+  pub one_end : (pick : List ℤ → ℤ → Option ℕ) (s : LinearSystem) (pivots others : List (ℕ × ℕ)) (t u : Tableau) → IsSystem s
+      → Ends s pivots t → Follows (rule_by pick) s pivots
+      → Ends s others u → Follows (rule_by pick) s others
+      → (pivots ≡ others) × (t ≡ u)
+  pub one_rise : (pick : List ℤ → ℤ → Option ℕ) (s : LinearSystem) (pivots others : List (ℕ × ℕ)) (t u : Tableau) (c e : ℕ) → IsSystem s
+      → Rises s pivots t c → Follows (rule_by pick) s pivots → Answers (rule_by pick) s t c
+      → Rises s others u e → Follows (rule_by pick) s others → Answers (rule_by pick) s u e
+      → (pivots ≡ others) × (t ≡ u) × (c ≡ e)
+  pub end_or_refusal : (pick : List ℤ → ℤ → Option ℕ) (s : LinearSystem) (pivots others : List (ℕ × ℕ)) (t : Tableau) (i k : ℕ) → IsSystem s
+      → Ends s pivots t → Follows (rule_by pick) s pivots
+      → Refuses (rule_by pick) s others i k → ⊥
+  pub rise_or_refusal : (pick : List ℤ → ℤ → Option ℕ) (s : LinearSystem) (pivots others : List (ℕ × ℕ)) (t : Tableau) (c i k : ℕ) → IsSystem s
+      → Rises s pivots t c → Follows (rule_by pick) s pivots → Answers (rule_by pick) s t c
+      → Refuses (rule_by pick) s others i k → ⊥

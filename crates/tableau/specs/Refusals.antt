@@ -4,7 +4,7 @@ use Rattle.raml_num.specs.Divisors.{IsLcm}
 use Rattle.frac128.specs.Lowest.{InLowestTerms}
 use Rattle.frac128.specs.Values.{PartsFit}
 use Rattle.linear_rows.specs.Systems.{LinearSystem}
-use Rattle.tableau.specs.Tableaux.{Tableau, entry, compared, IsLeastRow, Leaves}
+use Rattle.tableau.specs.Tableaux.{Tableau, entry, compared, IsLeastRow, Exits}
 
 -- a over b are the lowest terms of n over d, and in the range
 abbrev pub IsFraction : ℤ → ℤ → ℤ → ℕ → Type 0
@@ -26,7 +26,7 @@ pub record DifferenceLeaves (n d m k : ℤ) : Type 0 where
   pub is_common : IsLcm b f common
   pub leaves : PartsFit a b (neg_ℤ e) f common → ⊥
 
--- the search for the row that leaves for column e, by the columns cs, looks at row i in column c: before
+-- the search for the row that exits for column e, by the columns cs, looks at row i in column c: before
 -- that column row i is tied for the least, and with another row unless it is the first of them
 pub record IsCompared (cs : List ℕ) (t : Tableau) (e i c : ℕ) : Type 0 where
   pub before : List ℕ
@@ -37,14 +37,17 @@ pub record IsCompared (cs : List ℕ) (t : Tableau) (e i c : ℕ) : Type 0 where
 
 -- with the entering column e, a number at (i, c) leaves the range of fractions
 pub data Refused (s : LinearSystem) (t : Tableau) (e i c : ℕ) : Type 0 where
-  -- its quotient by the number at (i, e), where the search for the leaving row looks at it
+  -- its quotient by the number at (i, e), where the search for the exiting row looks at it
   InSearch : IsCompared (compared s) t e i c → NoFraction (entry t i c) (entry t i e) → Refused s t e i c
-  -- that quotient in the leaving row
-  InLeavingRow : Leaves s e t i → NoFraction (entry t i c) (entry t i e) → Refused s t e i c
-  -- in another row, or in the gains, the product of the number at (i, e) and the leaving row's quotient at c
-  InProduct : (l : ℕ) → Leaves s e t l → l ≢ i → i ≤ length t.rows → NoFraction (entry t i e *ℤ entry t l c) (t.over *ℤ entry t l e) → Refused s t e i c
+  -- that quotient in the exiting row
+  InExitingRow : Exits s e t i → NoFraction (entry t i c) (entry t i e) → Refused s t e i c
+  -- in another row, or in the gains, the product of the number at (i, e) and the exiting row's quotient at
+  -- c, which is there
+  InProduct : (l : ℕ) → Exits s e t l → l ≢ i → i ≤ length t.rows → (NoFraction (entry t l c) (entry t l e) → ⊥)
+      → NoFraction (entry t i e *ℤ entry t l c) (t.over *ℤ entry t l e) → Refused s t e i c
   -- the number at (i, c) less that product
-  InDifference : (l : ℕ) → Leaves s e t l → l ≢ i → i ≤ length t.rows → DifferenceLeaves (entry t i c) t.over (entry t i e *ℤ entry t l c) (t.over *ℤ entry t l e) → Refused s t e i c
+  InDifference : (l : ℕ) → Exits s e t l → l ≢ i → i ≤ length t.rows
+      → DifferenceLeaves (entry t i c) t.over (entry t i e *ℤ entry t l c) (t.over *ℤ entry t l e) → Refused s t e i c
 
 -- -2^127, the one number of 128 bits that is no fraction
 abbrev pub least_number : ℤ

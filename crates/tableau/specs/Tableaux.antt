@@ -64,15 +64,16 @@ LexAtMost (x ∷ xs) (y ∷ ys) = (x <ℤ y) ⊎ ((x ≡ y) × LexAtMost xs ys)
 pub record IsLeastRow (cs : List ℕ) (c : ℕ) (t : Tableau) (i : ℕ) : Type 0 where
   pub inside : i < length t.rows
   pub positive : pos 0 <ℤ at (row_at t.rows i) c
-  pub least : (m : ℕ) → m < length t.rows → pos 0 <ℤ at (row_at t.rows m) c → LexAtMost (scale (at (row_at t.rows m) c) (at_each (row_at t.rows i) cs)) (scale (at (row_at t.rows i) c) (at_each (row_at t.rows m) cs))
+  pub least : (m : ℕ) → m < length t.rows → pos 0 <ℤ at (row_at t.rows m) c
+      → LexAtMost (scale (at (row_at t.rows m) c) (at_each (row_at t.rows i) cs)) (scale (at (row_at t.rows i) c) (at_each (row_at t.rows m) cs))
 
 -- the columns by which rows are compared, in order
 abbrev pub compared : LinearSystem → List ℕ
 compared s = right s ∷ slacks s
 
--- the row that leaves the basis for column c
-abbrev pub Leaves : LinearSystem → ℕ → Tableau → ℕ → Type 0
-Leaves s c t l = IsLeastRow (compared s) c t l
+-- the row that exits the basis where column c enters it
+abbrev pub Exits : LinearSystem → ℕ → Tableau → ℕ → Type 0
+Exits s c t l = IsLeastRow (compared s) c t l
 
 -- over the tableau's number: a number for each unknown, read at the slacks
 abbrev pub solution : LinearSystem → Tableau → List ℤ

@@ -4,17 +4,12 @@
 //! end. `proofs/` shows what an end tells of the system, and that every course ends.
 #![tactic(auto)]
 
-ghost use Rattle.tableau.specs.Laws.{EndsAreLeast, LeastIsLeast, RisesRefute, CoursesEnd, OneRowLeaves, EndsAgree, EndsOrRises};
+ghost use Rattle.tableau.specs.Laws.{EndsAreLeast, RisesRefute, CoursesEnd, OneRowExits, EndsAgree, EndsOrRises, OneCourse};
 ghost use Rattle.tableau.specs.Example.{Examples};
 
 /// Where no gain is left, the tableau has a solution and a dual solution of the same sum.
 pub fn ends_are_least()
     ensures { EndsAreLeast }
-{}
-
-/// Such a solution is least.
-pub fn least_is_least()
-    ensures { LeastIsLeast }
 {}
 
 /// Where no row bounds a column with gain, the tableau has a vector that refutes the system.
@@ -27,9 +22,9 @@ pub fn courses_end()
     ensures { CoursesEnd }
 {}
 
-/// The row that leaves the basis is one.
-pub fn one_row_leaves()
-    ensures { OneRowLeaves }
+/// The row that exits the basis is one.
+pub fn one_row_exits()
+    ensures { OneRowExits }
 {}
 
 /// By whichever rules columns enter, the least weighted sum is the same.
@@ -40,6 +35,11 @@ pub fn ends_agree()
 /// A system that has a solution by one rule has one by every other.
 pub fn ends_or_rises()
     ensures { EndsOrRises }
+{}
+
+/// By a rule that is a function there is one course.
+pub fn one_course()
+    ensures { OneCourse }
 {}
 
 /// Small systems come out as they should.

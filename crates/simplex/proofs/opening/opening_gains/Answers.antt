@@ -1,5 +1,5 @@
 use Rattle.std.proofs.Common.{◌≡◌, ap, ◌∙◌, Err, arith}
-use Rattle.simplex.specs.declared.pivot.Fault.{Fault}
+use Rattle.simplex.specs.declared.fault.Fault.{Fault}
 use Rattle.simplex.proofs.Opens.{gains_open, gains_leave}
 use Rattle.simplex.proofs.opening.opening_gains.Goals as goal
 

@@ -1,5 +1,5 @@
 use Rattle.std.proofs.Common.{◌≡◌, ◌<◌, refl, ap, ◌∙◌, Err, arith, length}
-use Rattle.simplex.specs.declared.pivot.Fault.{Fault}
+use Rattle.simplex.specs.declared.fault.Fault.{Fault}
 use Rattle.simplex.proofs.Opens.{coefficient_leaves, row_leaves}
 use Rattle.simplex.proofs.opening.opening_rows.Goals as goal
 

@@ -1,6 +1,6 @@
 use Rattle.std.proofs.Common.{◌≡◌, ap, ◌∙◌, Err, arith, length}
 use Rattle.linear_rows.specs.Terms.{coefficient}
-use Rattle.simplex.specs.declared.pivot.Fault.{Fault}
+use Rattle.simplex.specs.declared.fault.Fault.{Fault}
 use Rattle.simplex.proofs.Opens.{below_at, column_leaves}
 use Rattle.simplex.proofs.opening.push_columns.Goals as goal
 

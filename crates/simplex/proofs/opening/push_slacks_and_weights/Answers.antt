@@ -1,5 +1,5 @@
 use Rattle.std.proofs.Common.{◌≡◌, ap, Err, arith}
-use Rattle.simplex.specs.declared.pivot.Fault.{Fault}
+use Rattle.simplex.specs.declared.fault.Fault.{Fault}
 use Rattle.simplex.proofs.Opens.{rows_open, row_leaves}
 use Rattle.simplex.proofs.opening.push_slacks_and_weights.Goals as goal
 

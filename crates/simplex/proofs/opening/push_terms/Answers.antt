@@ -3,7 +3,7 @@ use Rattle.std.proofs.lemmas.Int.{to_z-of_z}
 use Rattle.std.specs.Int.{w128}
 use Rattle.frac_rows.specs.Entries.{EndsBefore}
 use Rattle.linear_rows.specs.Terms.{unknown_at}
-use Rattle.simplex.specs.declared.pivot.Fault.{Fault}
+use Rattle.simplex.specs.declared.fault.Fault.{Fault}
 use Rattle.simplex.proofs.Opens.{no_term, term_inside, untouched, term_more, term_leaves}
 use Rattle.simplex.proofs.opening.push_terms.Goals as goal
 

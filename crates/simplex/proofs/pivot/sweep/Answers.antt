@@ -5,10 +5,10 @@ use Rattle.simplex.proofs.pivot.sweep.Goals as goal
 pub returns-then-num-eq0-clause-swept : goal.returns-then-num-eq0-clause-swept
 returns-then-num-eq0-clause-swept c =
     let z : c.at-times.result.num ≡ pos 0 = grind (arith, c.num.ensures, c.if-num-eq0.true) in
-    stays c.args.s c.args.lead.now c.args.row.now (sym c.at-times.ensures.num ∙ z)
+    stays c.args.entering c.args.lead.now c.args.row.now (sym c.at-times.ensures.num ∙ z)
 
 pub returns-clause-swept : goal.returns-clause-swept
-returns-clause-swept c = swept_where_made c.args.s c.args.lead.now c.args.row.now c.subtract.new.self c.at-times.result c.subtract.result c.at-times.ensures.num c.at-times.ensures.den c.subtract.ensures.each
+returns-clause-swept c = swept_where_made c.args.entering c.args.lead.now c.args.row.now c.subtract.new.self c.at-times.result c.subtract.result c.at-times.ensures.num c.at-times.ensures.den c.subtract.ensures.each
 
 pub returns-clause-leaves : goal.returns-clause-leaves
-returns-clause-leaves c k e = left_by c.args.s k c.args.lead.now c.args.row.now c.at-times.result c.at-times.ensures.num c.at-times.ensures.den (c.subtract.ensures.leaves k e)
+returns-clause-leaves c k e = left_by c.args.entering k c.args.lead.now c.args.row.now c.at-times.result c.at-times.ensures.num c.at-times.ensures.den (c.subtract.ensures.leaves k e)

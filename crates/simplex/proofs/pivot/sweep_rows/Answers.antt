@@ -19,15 +19,15 @@ returns-in-Err-clause-leaves c i k e =
     let inside = c.requires.inside j (among_at c.args.among.now c.loop-row.row-index 0 (omega arith)) in
     let f = c.in_row.ensures i k (cc) in
     let g = ap Err f.1 in
-    row_leaves c.loop-row.row-index j i k c.args.s c.args.among.now c.args.lead.now c.args.rows.now c.loop-row.rows c.index-rows-row.result (omega arith) c.requires.differ refl inside c.loop-row.invariant f.0 (c.in-Err.ensures.touched k g) (c.in-Err.ensures.leaves k g)
+    row_leaves c.loop-row.row-index j i k c.args.entering c.args.among.now c.args.lead.now c.args.rows.now c.loop-row.rows c.index-rows-row.result (omega arith) c.requires.differ refl inside c.loop-row.invariant f.0 (c.in-Err.ensures.touched k g) (c.in-Err.ensures.leaves k g)
 
 pub loop-row-preserved : goal.loop-row-preserved
 loop-row-preserved c =
     let j : ℕ = get_or c.args.among.now c.loop-row.row-index 0 in
     let inside = c.requires.inside j (among_at c.args.among.now c.loop-row.row-index 0 (omega arith)) in
-    one_more c.loop-row.row-index j c.args.s c.args.among.now c.args.lead.now c.args.rows.now c.loop-row.rows c.sweep.new.row (omega arith) c.requires.differ refl inside c.loop-row.invariant c.index-rows-row.result c.in_default.ensures.swept
+    one_more c.loop-row.row-index j c.args.entering c.args.among.now c.args.lead.now c.args.rows.now c.loop-row.rows c.sweep.new.row (omega arith) c.requires.differ refl inside c.loop-row.invariant c.index-rows-row.result c.in_default.ensures.swept
 
 pub returns-clause-swept : goal.returns-clause-swept
 returns-clause-swept c =
     let past : length c.args.among.now ≤ c.loop-row.row-index = omega arith in
-    all_swept c.loop-row.row-index c.args.s c.args.among.now c.args.lead.now c.args.rows.now c.loop-row.rows past c.loop-row.invariant
+    all_swept c.loop-row.row-index c.args.entering c.args.among.now c.args.lead.now c.args.rows.now c.loop-row.rows past c.loop-row.invariant

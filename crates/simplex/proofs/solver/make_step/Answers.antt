@@ -113,15 +113,15 @@ returns-clause-ready g c e =
     let made = rw c.deref_mut-2.ensures.value at c.in_default.ensures.pivoted in
     let back = written_back c.args.table.now.rows.len c.args.table.now.rows.items c.pivot.new.rows c.args.table.now.rows.ok.0 made.rows_swept.count in
     let cleared = rw (c.deref_mut.ensures.value, c.requires.ready.cleared.count) at c.entering.ensures.cleared in
-    let gains_back = written_back c.args.memory.now.gains.len c.args.memory.now.gains.items c.entering.new.seen c.args.memory.now.gains.ok.0 (cleared.count ∙ sym c.requires.ready.cleared.count) in
+    let gains_back = written_back c.args.scratch.now.gains.len c.args.scratch.now.gains.items c.entering.new.seen c.args.scratch.now.gains.ok.0 (cleared.count ∙ sym c.requires.ready.cleared.count) in
     let follows = rw (c.deref_mut-3.ensures.value, c.deref-6.ensures.value, c.columns-columns.ensures.all) at c.in_ok-follow.ensures in
-    let sets_back = written_back c.args.memory.now.sets.len c.args.memory.now.sets.items c.follow.new.sets c.args.memory.now.sets.ok.0 (follows.one.count ∙ follows.grow.count) in
+    let sets_back = written_back c.args.scratch.now.sets.len c.args.scratch.now.sets.items c.follow.new.sets c.args.scratch.now.sets.ok.0 (follows.one.count ∙ follows.grow.count) in
     let inside = l.bounding.inside in
     let count = made.rows_swept.count in
     let lead : c.index.result.now ≡ entries_at c.pivot.new.rows c.in-Ok-Some.row = row_is c.pivot.new.rows c.in-Ok-Some.row c.index.result.now (omega arith) (rw back at c.index.ensures) in
     record {
       cleared = rw gains_back cleared;
       cover = rw (back, sets_back) (covered (right c.args.system.now) c.in-Ok-Some.row c.in-Some.column c.args.table.now.rows.items c.args.table.now.gains c.pivot.new.rows c.pivot.new.gains c.in_ok-touching.touching.items
-          c.args.memory.now.sets.items follows.grown c.follow.new.sets inside (positive_not_none l.bounding.positive) c.requires.ready.cover touches made
-          (subst (λ (es : Entries). Grow (columns_of es) c.in_ok-touching.touching.items c.args.memory.now.sets.items follows.grown) lead follows.grow) follows.one);
+          c.args.scratch.now.sets.items follows.grown c.follow.new.sets inside (positive_not_none l.bounding.positive) c.requires.ready.cover touches made
+          (subst (λ (es : Entries). Grow (columns_of es) c.in_ok-touching.touching.items c.args.scratch.now.sets.items follows.grown) lead follows.grow) follows.one);
     }

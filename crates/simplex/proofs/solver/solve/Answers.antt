@@ -7,7 +7,7 @@ use Rattle.simplex.proofs.Tables.{opened_reached, fewer_pivots, shrinks, differ_
 use Rattle.simplex.proofs.solver.solve.Goals as goal
 
 pub loop-table-init : goal.loop-table-init
-loop-table-init g c = (opened_reached (rule_of g.F.Fn c.args.chooser.now) c.args.system.now c.in-Ok.table c.in-Ok.ensures.table, rw (c.deref.ensures.value, c.rows-2.ensures.all, c.unknowns-unknowns.ensures) at c.in_ok-memory.ensures)
+loop-table-init g c = (opened_reached (rule_of g.F.Fn c.args.chooser.now) c.args.system.now c.in-Ok.table c.in-Ok.ensures.table, rw (c.deref.ensures.value, c.rows.ensures.all, c.unknowns.ensures) at c.in_ok-scratch.ensures)
 
 pub loop-table-smaller : goal.loop-table-smaller
 loop-table-smaller g c =
@@ -47,10 +47,9 @@ returns-in-Ok-Rises g c =
 pub returns-in-Ok-Leaves : goal.returns-in-Ok-Leaves
 returns-in-Ok-Leaves g c = rw c.in-Ok-Leaves.field-0-is at c.in-Ok-Leaves.ensures.step
 
-pub new_memory-requires : goal.new_memory-requires
-new_memory-requires g c =
+pub new_scratch-requires : goal.new_scratch-requires
+new_scratch-requires g c =
     let count = c.in-Ok.ensures.table.rows.count in
     let opened = length-opened c.args.system.now in
-    let unknowns = c.unknowns-unknowns.ensures in
-    let fits = c.unknowns-unknowns.type_inv in
+    let fits = c.requires.fits in
     rw c.deref.ensures.value (omega arith)

@@ -2,7 +2,7 @@ use Rattle.std.proofs.Common.{◌∙◌, ap}
 use Rattle.std.proofs.lemmas.List.{get_or_default}
 use Rattle.frac128.specs.declared.Frac.{Frac}
 use Rattle.frac128.specs.Values.{numerator, denominator}
-use Rattle.frac_rows.specs.Entries.{nought}
+use Rattle.frac128.specs.Nought.{nought}
 use Rattle.frac_rows.proofs.Finding.{found, missing}
 use Rattle.frac_rows.proofs.row.FracRow.at.Goals as goal
 

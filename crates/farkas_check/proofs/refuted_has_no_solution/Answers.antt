@@ -1,5 +1,0 @@
-use Rattle.linear_rows.proofs.Duality.{no_solution}
-use Rattle.farkas_check.proofs.refuted_has_no_solution.Goals as goal
-
-pub returns : goal.returns
-returns c = no_solution
