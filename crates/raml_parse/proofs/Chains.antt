@@ -50,19 +50,12 @@ module _ (d h : ℕ) (s : List Token) where
       ∙ (let p : suc (max h 0) ≡ 1 + h = omega arith in λ i. goes_on Types d 0 [] (act i) (p i) (eq i))
 
 -- one more operand, and what goes on from there
-pub goes_further : (c : Class) (d n m : ℕ) (act : List Part → Part) (w : List Part) (e : Part) (h : ℕ) (s : List Token) → goes_at grammar c n s ≡ Some (Sub c m (Done act)) → h ≤ d → grammar.chains c n ≡ true → (v x : Part) (i : ℕ) (u : List Token) → read grammar 0 d c m (rest_of s) ≡ Ok (v, i, u) → act (v ∷ e ∷ w) ≡ x → more_on c d n w e h s ≡ more_on c d n w x (suc (max h i)) u
-goes_further c d n m act w e h s at le b v x i u r q =
+pub goes_further : (c : Class) (d n : ℕ) (w : List Part) (e : Part) (h : ℕ) (s : List Token) (r : Rules) → goes_at grammar c n s ≡ Some r → h ≤ d → grammar.chains c n ≡ true → (x : Part) (i : ℕ) (u : List Token) → rule_of grammar (read grammar 0 d) 0 d r (e ∷ w) (rest_of s) ≡ Ok (x, i, u) → more_on c d n w e h s ≡ more_on c d n w x (suc (max h i)) u
+goes_further c d n w e h s r at le b x i u q =
     sym (step c d n w e h s)
-    ∙ again c d n w e h s (Sub c m (Done act)) at le b
-    ∙ ap (λ o. operand o >>= (λ y. goes_on c d n w y.0 (suc (max h y.1)) y.2)) r
-    ∙ (λ j. goes_on c d n w (q j) (higher_is j) u)
+    ∙ again c d n w e h s r at le b
+    ∙ ap (λ o. o >>= (λ y. goes_on c d n w y.0 (suc (max h y.1)) y.2)) q
     ∙ step c d n w x (suc (max h i)) u
-  where
-    operand : Answer Token Part → Answer Token Part
-    operand o = o >>= (λ y. Ok (act (y.0 ∷ e ∷ w), max y.1 0, y.2))
-
-    higher_is : suc (max h (max i 0)) ≡ suc (max h i)
-    higher_is = omega arith
 
 -- what fails as another reading fails
 pub fails_as : {X Y : Type 0} (stop : Stop) (o : Result X (Fault Token)) (p : Result Y (Fault Token)) → ((x : Fault Token) → o ≡ Err x → p ≡ Err x) → Fails stop o → Fails stop p
