@@ -240,9 +240,13 @@ pair_rule = expr (sign s.Close (Done pair_act))
 abbrev pub typed_rule : Rules
 typed_rule = type (sign s.Close (Done typed_act))
 
+-- ) behind an expression
+abbrev pub inner_rule : Rules
+inner_rule = sign s.Close (Done inner_act)
+
 -- , expr ) or : type ) or )
 abbrev pub closing_rule : Rules
-closing_rule = Either (key s.Comma) pair_rule (Either (key s.Colon) typed_rule (sign s.Close (Done inner_act)))
+closing_rule = Either (key s.Comma) pair_rule (Either (key s.Colon) typed_rule inner_rule)
 
 -- expr and one of these, behind (
 abbrev pub parens_rule : Rules

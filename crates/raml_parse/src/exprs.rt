@@ -4,8 +4,8 @@ ghost use Rattle.token_grammar.specs.Rules.{Done};
 ghost use Rattle.token_grammar.specs.Reading.{read, level_of, rule_of, list_of, formed, parts};
 ghost use Rattle.token_grammar.specs.declared.Kind.TheVariants.{TooDeep};
 ghost use Rattle.raml_syntax.specs.Read.{term_of};
-ghost use Rattle.raml_parse.specs.Table.{grammar, Exprs, expr_level, expr, key, inner_act, args_rule, name_rule, node_rule, trees_rule, not_rule, parens_rule, closing_rule, pair_rule, typed_rule, let_rule, let_one_rule, let_names_rule, let_pair_rule, if_rule, branches_rule, match_rule, cases_rule, list_cases_rule, list_case_rule, tree_cases_rule, tree_case_rule, tree_names_rule, tick_rule, At, Phrase};
-ghost use Rattle.raml_parse.specs.Steps.{more_on, operators_of};
+ghost use Rattle.raml_parse.specs.Table.{grammar, Exprs, expr_level, expr, key, inner_act, args_rule, name_rule, node_rule, trees_rule, not_rule, parens_rule, closing_rule, inner_rule, pair_rule, typed_rule, let_rule, let_one_rule, let_names_rule, let_pair_rule, if_rule, branches_rule, match_rule, cases_rule, list_cases_rule, list_case_rule, tree_cases_rule, tree_case_rule, tree_names_rule, tick_rule, At, Phrase};
+ghost use Rattle.raml_parse.specs.Steps.{more_on, behind_of, operators_of};
 ghost use Rattle.raml_parse.specs.Forms.{start_rule, simple_rule, compound_rule, infix_rule};
 ghost use Rattle.raml_parse.specs.Read.{Gives, pieces, phrase, boxed, phrases, named_part};
 ghost use Rattle.raml_parse.specs.declared.token.Sign.TheVariants.{Comma};
@@ -112,16 +112,33 @@ fn parse_chain<'a>(
     ensures same { Gives phrase result (more_on Exprs depth level (At at.0 ∷ []) (Phrase (term_of left)) height (pieces tokens.now)) }
     ensures low { IfOk result (λ x. x.1 ≤ suc depth) }
 {
-    let Some((operator, rest)) = Infix::at(tokens, level) else {
-        return Ok((left, height, tokens));
-    };
-    if height > depth {
-        return Err(Stop::Fault(Kind::TooDeep, tokens));
+    match Infix::at(tokens, level) {
+        None => Ok((left, height, tokens)),
+        Some(_) if height > depth => Err(Stop::Fault(Kind::TooDeep, tokens)),
+        Some((operator, rest)) => parse_behind(alloc, depth, at, operator, left, height, rest),
     }
-    let (joined, right_height, rest) = parse_operation(alloc, depth, at, operator, left, rest)?;
+}
+
+// The right operand of an operator, and the operators behind it.
+#[cycle(expression)]
+fn parse_behind<'a>(
+    alloc: Global,
+    depth: u32,
+    at: Pos,
+    operator: Infix,
+    left: Expr,
+    height: u32,
+    tokens: &'a [Piece],
+) -> Found<'a>
+    requires shallow { suc depth < 2 ^ 30 }
+    requires high { height ≤ depth }
+    ensures same { Gives phrase result (behind_of depth operator (At at.0 ∷ []) (Phrase (term_of left)) height (pieces tokens.now)) }
+    ensures low { IfOk result (λ x. x.1 ≤ suc depth) }
+{
+    let (joined, right_height, rest) = parse_operation(alloc, depth, at, operator, left, tokens)?;
     let height = 1 + height.max(right_height);
     if operator.chains() {
-        parse_chain(alloc, level, depth, at, joined, height, rest)
+        parse_chain(alloc, operator.level(), depth, at, joined, height, rest)
     } else {
         Ok((joined, height, rest))
     }
@@ -364,8 +381,7 @@ fn parse_closing<'a>(
     if let Some(rest) = behind(tokens, Sign::Colon) {
         return parse_typed(alloc, depth, at, first, rest);
     }
-    let rest = take_sign(tokens, Sign::Close)?;
-    Ok((first, 0, rest))
+    parse_inner(depth, at, first, tokens)
 }
 
 // What stands behind the comma of a pair.
@@ -387,10 +403,19 @@ fn parse_typed<'a>(alloc: Global, depth: u32, at: Pos, expr: Expr, tokens: &'a [
     ensures same { Gives phrase result (rule_of grammar (read grammar 0 depth) 0 depth typed_rule (Phrase (term_of expr) ∷ At at.0 ∷ []) (pieces tokens.now)) }
     ensures low { IfOk result (λ x. x.1 ≤ depth) }
 {
+    let expr = Box::new(alloc, expr)?;
     let (ty, height, rest) = parse_type(alloc, depth, tokens)?;
     let rest = take_sign(rest, Sign::Close)?;
-    let expr = Box::new(alloc, expr)?;
     Ok((make::typed(at, expr, ty), height, rest))
+}
+
+// The `)` behind an expression.
+fn parse_inner<'a>(depth: u32, at: Pos, expr: Expr, tokens: &'a [Piece]) -> Found<'a>
+    ensures same { Gives phrase result (rule_of grammar (read grammar 0 depth) 0 depth inner_rule (Phrase (term_of expr) ∷ At at.0 ∷ []) (pieces tokens.now)) }
+    ensures low { IfOk result (λ x. x.1 ≤ depth) }
+{
+    let rest = take_sign(tokens, Sign::Close)?;
+    Ok((expr, 0, rest))
 }
 
 // What stands behind `let`.

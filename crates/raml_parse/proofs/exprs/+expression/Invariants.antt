@@ -28,6 +28,9 @@ decreases-parse_operators l = l.depth * (4 * l.depth + 90) + 4 * l.depth + 51 + 
 abbrev pub decreases-parse_chain : goal.decreases-parse_chain
 decreases-parse_chain l = l.depth * (4 * l.depth + 90) + 2 * (suc l.depth - l.height) + 20
 
+abbrev pub decreases-parse_behind : goal.decreases-parse_behind
+decreases-parse_behind l = l.depth * (4 * l.depth + 90) + 2 * (suc l.depth - l.height) + 19
+
 abbrev pub decreases-parse_form : goal.decreases-parse_form
 decreases-parse_form l = l.depth * (4 * l.depth + 90) + 16
 
