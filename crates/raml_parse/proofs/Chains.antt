@@ -1,6 +1,6 @@
 -- The steps of what goes on from a phrase.
 use Rattle.std.proofs.Common.{◌≡◌, ◌≤◌, ◌+◌, ◌∙◌, ℕ, suc, List, [], ◌∷◌, refl, sym, ap, subst, arith}
-use Rattle.std.specs.Prelude.{max, Some, None, true, false, Result, Ok, Err}
+use Rattle.std.specs.Prelude.{max, Some, None, Bool, true, false, Result, Ok, Err}
 use Rattle.token_grammar.specs.Rules.{Sub, Done}
 use Rattle.std.specs.Result.{IsErr, IsErrAnd}
 use Rattle.raml_parse.specs.Read.{Fails, Gives}
@@ -49,20 +49,12 @@ module _ (d h : ℕ) (s : List Token) where
       again Types d 0 [] e h s (suffix_rule x) q le post_chains
       ∙ (let p : suc (max h 0) ≡ 1 + h = omega arith in λ i. goes_on Types d 0 [] (act i) (p i) (eq i))
 
--- one more operand, and what goes on from there
-pub goes_further : (c : Class) (d n m : ℕ) (act : List Part → Part) (w : List Part) (e : Part) (h : ℕ) (s : List Token) → goes_at grammar c n s ≡ Some (Sub c m (Done act)) → h ≤ d → grammar.chains c n ≡ true → (v x : Part) (i : ℕ) (u : List Token) → read grammar 0 d c m (rest_of s) ≡ Ok (v, i, u) → act (v ∷ e ∷ w) ≡ x → more_on c d n w e h s ≡ more_on c d n w x (suc (max h i)) u
-goes_further c d n m act w e h s at le b v x i u r q =
-    sym (step c d n w e h s)
-    ∙ again c d n w e h s (Sub c m (Done act)) at le b
-    ∙ ap (λ o. operand o >>= (λ y. goes_on c d n w y.0 (suc (max h y.1)) y.2)) r
-    ∙ (λ j. goes_on c d n w (q j) (higher_is j) u)
+-- an operand that was read, and what goes on from there
+pub reads_on : (c : Class) (d n m : ℕ) (w : List Part) (h k : ℕ) (b : Bool) (o : Answer Token Part) (x : Part) (i : ℕ) (u : List Token) → b ≡ true → n ≡ m → suc (max h i) ≡ k → o ≡ Ok (x, i, u) → (o >>= (λ y. again_of b (goes_on c d n w) y.0 (suc (max h y.1)) y.2)) ≡ more_on c d m w x k u
+reads_on c d n m w h k b o x i u chains level high q =
+    (λ j. q j >>= (λ y. again_of (chains j) (goes_on c d n w) y.0 (suc (max h y.1)) y.2))
     ∙ step c d n w x (suc (max h i)) u
-  where
-    operand : Answer Token Part → Answer Token Part
-    operand o = o >>= (λ y. Ok (act (y.0 ∷ e ∷ w), max y.1 0, y.2))
-
-    higher_is : suc (max h (max i 0)) ≡ suc (max h i)
-    higher_is = omega arith
+    ∙ (λ j. more_on c d (level j) w x (high j) u)
 
 -- what fails as another reading fails
 pub fails_as : {X Y : Type 0} (stop : Stop) (o : Result X (Fault Token)) (p : Result Y (Fault Token)) → ((x : Fault Token) → o ≡ Err x → p ≡ Err x) → Fails stop o → Fails stop p

@@ -5,7 +5,7 @@ use Rattle.std.specs.Global.{Global, Box}
 use Rattle.token_grammar.specs.Reading.{Fault}
 use Rattle.token_grammar.specs.declared.Kind.{Kind}
 use Rattle.token_grammar.specs.declared.Kind.TheVariants as d
-use Rattle.raml_syntax.specs.declared.tree.Binder.{Binder}
+use Rattle.raml_syntax.specs.Tree.{Bound}
 use Rattle.raml_syntax.specs.Read.{term_of, ty_of, parameter_of, program_of}
 use Rattle.raml_syntax.specs.declared.tree.Expr.{Expr}
 use Rattle.raml_syntax.specs.declared.ty.Ty.{Ty}
@@ -38,8 +38,8 @@ pieces = map token_of
 abbrev pub named_part : NameAt → Part
 named_part x = Named x.at.0 x.name.now
 
-abbrev pub binder_part : Binder → Part
-binder_part b = Named b.at.0 b.name
+abbrev pub bound_at : NameAt → Bound
+bound_at x = record { at = x.at.0; name = x.name.now }
 
 -- What a function returned is, by the view, what reading answers, unless memory ran out.
 abbrev pub Fails : {Y : Type 0} → Stop → Result Y (Fault Token) → Type 0

@@ -1,10 +1,12 @@
 -- How phrases are read, in the steps in which the code reads them.
-use Rattle.std.specs.Prelude.{ℕ, suc, List, [], ◌∷◌, Result, Ok, Err, nat_le, if◌then◌else◌}
+use Rattle.std.specs.Prelude.{ℕ, suc, max, List, [], ◌∷◌, Result, Ok, Err, nat_le, if◌then◌else◌}
 use Rattle.token_grammar.specs.Rules.{opening}
 use Rattle.token_grammar.specs.declared.Kind.TheVariants.{Syntax, TooDeep}
 use Rattle.token_grammar.specs.Reading.{Fault, Answer, ◌>>=◌, rest_of, pick, formed, parts, starts_at, goes_at, more_of, again_of, chain_of, rule_of, level_of, read, whole_of}
 use Rattle.raml_parse.specs.Tokens.{Token}
 use Rattle.raml_parse.specs.Table.{Part, At, Class, Types, Exprs, text_rule, grammar}
+use Rattle.raml_parse.specs.Forms.{infix_level, infix_rule}
+use Rattle.raml_parse.specs.declared.form.Infix.{Infix}
 
 -- What goes on from a phrase e of level n, where parts have height d at most and w is the value of its first token. Shut, so that goals stay short.
 unfoldable pub goes_on : Class → ℕ → ℕ → List Part → Part → ℕ → List Token → Answer Token Part
@@ -13,6 +15,10 @@ goes_on c d n w e h s = chain_of grammar (read grammar 0 d) 0 d c n w (suc d) e 
 -- the same by its first step
 abbrev pub more_on : Class → ℕ → ℕ → List Part → Part → ℕ → List Token → Answer Token Part
 more_on c d n w e h s = more_of grammar (read grammar 0 d) 0 d w (again_of (grammar.chains c n) (goes_on c d n w)) (goes_at grammar c n s) e h s
+
+-- what stands behind an operator with the left operand e of height h
+abbrev pub behind_of : ℕ → Infix → List Part → Part → ℕ → List Token → Answer Token Part
+behind_of d x w e h s = rule_of grammar (read grammar 0 d) 0 d (infix_rule x) (e ∷ w) s >>= (λ y. again_of (grammar.chains Exprs (infix_level x)) (goes_on Exprs d (infix_level x) w) y.0 (suc (max h y.1)) y.2)
 
 -- a type that needs no parentheses, with parts of height d at most
 abbrev pub base_of : ℕ → List Token → Answer Token Part

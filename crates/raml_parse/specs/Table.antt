@@ -232,12 +232,21 @@ node_rule = sign s.Open (expr (sign s.Comma trees_rule))
 abbrev pub not_rule : Rules
 not_rule = Sub Exprs 0 (Done not_act)
 
+-- expr ) behind the comma of a pair
+abbrev pub pair_rule : Rules
+pair_rule = expr (sign s.Close (Done pair_act))
+
+-- type ) behind the colon of an expression with its type
+abbrev pub typed_rule : Rules
+typed_rule = type (sign s.Close (Done typed_act))
+
+-- ) behind an expression
+abbrev pub inner_rule : Rules
+inner_rule = sign s.Close (Done inner_act)
+
 -- , expr ) or : type ) or )
 abbrev pub closing_rule : Rules
-closing_rule =
-    Either (key s.Comma) (expr (sign s.Close (Done pair_act))) (
-    Either (key s.Colon) (type (sign s.Close (Done typed_act))) (
-    sign s.Close (Done inner_act)))
+closing_rule = Either (key s.Comma) pair_rule (Either (key s.Colon) typed_rule inner_rule)
 
 -- expr and one of these, behind (
 abbrev pub parens_rule : Rules
@@ -247,15 +256,25 @@ parens_rule = expr closing_rule
 abbrev pub let_pair_rule : Rules
 let_pair_rule = sign s.Close (sign s.Equal (expr (sign s.In (expr (Done let_pair_act)))))
 
--- ( name , name and the rest, or name = expr in expr, behind let
-abbrev pub let_rule : Rules
-let_rule =
-    Either (key s.Open) (named (sign s.Comma (named let_pair_rule))) (
-    named (sign s.Equal (expr (sign s.In (expr (Done let_act))))))
+-- name , name and the rest, behind let (
+abbrev pub let_names_rule : Rules
+let_names_rule = named (sign s.Comma (named let_pair_rule))
 
--- expr then expr else expr, behind if
+-- name = expr in expr, behind let
+abbrev pub let_one_rule : Rules
+let_one_rule = named (sign s.Equal (expr (sign s.In (expr (Done let_act)))))
+
+-- ( and two names, or one name, behind let
+abbrev pub let_rule : Rules
+let_rule = Either (key s.Open) let_names_rule let_one_rule
+
+-- expr else expr, behind then
+abbrev pub branches_rule : Rules
+branches_rule = expr (sign s.Else (expr (Done if_act)))
+
+-- expr then the branches, behind if
 abbrev pub if_rule : Rules
-if_rule = expr (sign s.Then (expr (sign s.Else (expr (Done if_act)))))
+if_rule = expr (sign s.Then branches_rule)
 
 -- | name :: name -> expr
 abbrev pub list_case_rule : Rules
@@ -269,9 +288,17 @@ tree_names_rule = named (sign s.Comma (named (sign s.Close (sign s.Arrow (expr (
 abbrev pub tree_case_rule : Rules
 tree_case_rule = sign s.Bar (sign s.Node (sign s.Open (named (sign s.Comma tree_names_rule))))
 
--- nil -> expr and the case of a list, or leaf -> expr and that of a tree
+-- -> expr and the other case of a list, behind nil
+abbrev pub list_cases_rule : Rules
+list_cases_rule = sign s.Arrow (expr list_case_rule)
+
+-- leaf -> expr and the other case of a tree
+abbrev pub tree_cases_rule : Rules
+tree_cases_rule = sign s.Leaf (sign s.Arrow (expr tree_case_rule))
+
+-- nil and the cases of a list, or those of a tree
 abbrev pub cases_rule : Rules
-cases_rule = Either (key s.Nil) (sign s.Arrow (expr list_case_rule)) (sign s.Leaf (sign s.Arrow (expr tree_case_rule)))
+cases_rule = Either (key s.Nil) list_cases_rule tree_cases_rule
 
 -- expr with and the cases, behind match
 abbrev pub match_rule : Rules

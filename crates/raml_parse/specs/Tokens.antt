@@ -47,7 +47,39 @@ spelling s.Star = codes "*"
 spelling s.Arrow = codes "->"
 spelling s.Bar = codes "|"
 
--- the keyword or symbol that a word spells, where it spells one
+-- the symbol that a word spells, where it spells one
+abbrev pub symbol_of : Text → Sign
+symbol_of w =
+    cond (bytes_eq w (spelling s.Open)) s.Open (
+    cond (bytes_eq w (spelling s.Close)) s.Close (
+    cond (bytes_eq w (spelling s.Comma)) s.Comma (
+    cond (bytes_eq w (spelling s.Colon)) s.Colon (
+    cond (bytes_eq w (spelling s.Cons)) s.Cons (
+    cond (bytes_eq w (spelling s.Equal)) s.Equal (
+    cond (bytes_eq w (spelling s.Less)) s.Less (
+    cond (bytes_eq w (spelling s.AtMost)) s.AtMost (
+    cond (bytes_eq w (spelling s.Plus)) s.Plus (
+    cond (bytes_eq w (spelling s.Minus)) s.Minus (
+    cond (bytes_eq w (spelling s.Star)) s.Star (
+    cond (bytes_eq w (spelling s.Arrow)) s.Arrow (
+    s.Bar))))))))))))
+
+-- the same of a symbol, or of the keyword of a value, an operator or a type
+abbrev pub word_of : Text → Sign
+word_of w =
+    cond (bytes_eq w (spelling s.True)) s.True (
+    cond (bytes_eq w (spelling s.False)) s.False (
+    cond (bytes_eq w (spelling s.Not)) s.Not (
+    cond (bytes_eq w (spelling s.Tick)) s.Tick (
+    cond (bytes_eq w (spelling s.Div)) s.Div (
+    cond (bytes_eq w (spelling s.Mod)) s.Mod (
+    cond (bytes_eq w (spelling s.Int)) s.Int (
+    cond (bytes_eq w (spelling s.Bool)) s.Bool (
+    cond (bytes_eq w (spelling s.List)) s.List (
+    cond (bytes_eq w (spelling s.Tree)) s.Tree (
+    symbol_of w))))))))))
+
+-- the same of any keyword or symbol
 abbrev pub sign_of : Text → Sign
 sign_of w =
     cond (bytes_eq w (spelling s.Fun)) s.Fun (
@@ -61,29 +93,7 @@ sign_of w =
     cond (bytes_eq w (spelling s.Nil)) s.Nil (
     cond (bytes_eq w (spelling s.Leaf)) s.Leaf (
     cond (bytes_eq w (spelling s.Node)) s.Node (
-    cond (bytes_eq w (spelling s.True)) s.True (
-    cond (bytes_eq w (spelling s.False)) s.False (
-    cond (bytes_eq w (spelling s.Not)) s.Not (
-    cond (bytes_eq w (spelling s.Tick)) s.Tick (
-    cond (bytes_eq w (spelling s.Div)) s.Div (
-    cond (bytes_eq w (spelling s.Mod)) s.Mod (
-    cond (bytes_eq w (spelling s.Int)) s.Int (
-    cond (bytes_eq w (spelling s.Bool)) s.Bool (
-    cond (bytes_eq w (spelling s.List)) s.List (
-    cond (bytes_eq w (spelling s.Tree)) s.Tree (
-    cond (bytes_eq w (spelling s.Open)) s.Open (
-    cond (bytes_eq w (spelling s.Close)) s.Close (
-    cond (bytes_eq w (spelling s.Comma)) s.Comma (
-    cond (bytes_eq w (spelling s.Colon)) s.Colon (
-    cond (bytes_eq w (spelling s.Cons)) s.Cons (
-    cond (bytes_eq w (spelling s.Equal)) s.Equal (
-    cond (bytes_eq w (spelling s.Less)) s.Less (
-    cond (bytes_eq w (spelling s.AtMost)) s.AtMost (
-    cond (bytes_eq w (spelling s.Plus)) s.Plus (
-    cond (bytes_eq w (spelling s.Minus)) s.Minus (
-    cond (bytes_eq w (spelling s.Star)) s.Star (
-    cond (bytes_eq w (spelling s.Arrow)) s.Arrow (
-    s.Bar)))))))))))))))))))))))))))))))))
+    word_of w)))))))))))
 
 -- a name, a number, or a keyword or symbol, and the place where it begins
 pub data Token : Type 0 where

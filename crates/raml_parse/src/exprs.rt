@@ -4,19 +4,19 @@ ghost use Rattle.token_grammar.specs.Rules.{Done};
 ghost use Rattle.token_grammar.specs.Reading.{read, level_of, rule_of, list_of, formed, parts};
 ghost use Rattle.token_grammar.specs.declared.Kind.TheVariants.{TooDeep};
 ghost use Rattle.raml_syntax.specs.Read.{term_of};
-ghost use Rattle.raml_parse.specs.Table.{grammar, Exprs, expr_level, expr, key, inner_act, args_rule, name_rule, node_rule, trees_rule, not_rule, parens_rule, closing_rule, let_rule, let_pair_rule, if_rule, match_rule, cases_rule, list_case_rule, tree_case_rule, tree_names_rule, tick_rule, At, Phrase};
-ghost use Rattle.raml_parse.specs.Steps.{more_on, operators_of};
-ghost use Rattle.raml_parse.specs.Forms.{start_rule, simple_rule, compound_rule, right_level};
-ghost use Rattle.raml_parse.specs.Read.{Gives, pieces, phrase, boxed, phrases, binder_part};
+ghost use Rattle.raml_parse.specs.Table.{grammar, Exprs, expr_level, expr, key, inner_act, args_rule, name_rule, node_rule, trees_rule, not_rule, parens_rule, closing_rule, inner_rule, pair_rule, typed_rule, let_rule, let_one_rule, let_names_rule, let_pair_rule, if_rule, branches_rule, match_rule, cases_rule, list_cases_rule, list_case_rule, tree_cases_rule, tree_case_rule, tree_names_rule, tick_rule, At, Phrase};
+ghost use Rattle.raml_parse.specs.Steps.{more_on, behind_of, operators_of};
+ghost use Rattle.raml_parse.specs.Forms.{start_rule, simple_rule, compound_rule, infix_rule};
+ghost use Rattle.raml_parse.specs.Read.{Gives, pieces, phrase, boxed, phrases, named_part};
 ghost use Rattle.raml_parse.specs.declared.token.Sign.TheVariants.{Comma};
 
 use crate::form::{Compound, Infix, Simple, Start};
 use crate::make;
 use crate::stop::Stop;
-use crate::take::{behind, first_place, take_binder, take_number, take_sign};
+use crate::take::{NameAt, behind, first_place, take_name, take_number, take_sign};
 use crate::token::{Piece, Sign};
 use crate::types::parse_type;
-use raml_syntax::{Binder, Expr, Name, Pos};
+use raml_syntax::{Expr, Name, Pos};
 use std::alloc::Global;
 use token_grammar::Kind;
 
@@ -112,32 +112,56 @@ fn parse_chain<'a>(
     ensures same { Gives phrase result (more_on Exprs depth level (At at.0 ∷ []) (Phrase (term_of left)) height (pieces tokens.now)) }
     ensures low { IfOk result (λ x. x.1 ≤ suc depth) }
 {
-    let Some((operator, rest)) = Infix::at(tokens, level) else {
-        return Ok((left, height, tokens));
-    };
-    if height > depth {
-        return Err(Stop::Fault(Kind::TooDeep, tokens));
+    match Infix::at(tokens, level) {
+        None => Ok((left, height, tokens)),
+        Some(_) if height > depth => Err(Stop::Fault(Kind::TooDeep, tokens)),
+        Some((operator, rest)) => parse_behind(alloc, depth, at, operator, left, height, rest),
     }
-    let left = Box::new(alloc, left)?;
-    let (right, right_height, rest) = parse_right(alloc, operator, depth, rest)?;
-    let joined = make::operation(at, operator, left, right);
+}
+
+// The right operand of an operator, and the operators behind it.
+#[cycle(expression)]
+fn parse_behind<'a>(
+    alloc: Global,
+    depth: u32,
+    at: Pos,
+    operator: Infix,
+    left: Expr,
+    height: u32,
+    tokens: &'a [Piece],
+) -> Found<'a>
+    requires shallow { suc depth < 2 ^ 30 }
+    requires high { height ≤ depth }
+    ensures same { Gives phrase result (behind_of depth operator (At at.0 ∷ []) (Phrase (term_of left)) height (pieces tokens.now)) }
+    ensures low { IfOk result (λ x. x.1 ≤ suc depth) }
+{
+    let (joined, right_height, rest) = parse_operation(alloc, depth, at, operator, left, tokens)?;
     let height = 1 + height.max(right_height);
     if operator.chains() {
-        parse_chain(alloc, level, depth, at, joined, height, rest)
+        parse_chain(alloc, operator.level(), depth, at, joined, height, rest)
     } else {
         Ok((joined, height, rest))
     }
 }
 
-// The right operand of an operator.
+// An operator's right operand, behind the left one, which begins at `at`.
 #[cycle(expression)]
-fn parse_right<'a>(alloc: Global, operator: Infix, depth: u32, tokens: &'a [Piece]) -> Boxed<'a>
+fn parse_operation<'a>(
+    alloc: Global,
+    depth: u32,
+    at: Pos,
+    operator: Infix,
+    left: Expr,
+    tokens: &'a [Piece],
+) -> Found<'a>
     requires { depth < 2 ^ 30 }
-    ensures same { Gives boxed result (read grammar 0 depth Exprs (right_level operator) (pieces tokens.now)) }
+    ensures same { Gives phrase result (rule_of grammar (read grammar 0 depth) 0 depth (infix_rule operator) (Phrase (term_of left) ∷ At at.0 ∷ []) (pieces tokens.now)) }
     ensures low { IfOk result (λ x. x.1 ≤ depth) }
 {
+    let left = Box::new(alloc, left)?;
     let (right, height, rest) = parse_expr(alloc, operator.right_level(), depth, tokens)?;
-    Ok((Box::new(alloc, right)?, height, rest))
+    let right = Box::new(alloc, right)?;
+    Ok((make::operation(at, operator, left, right), height, rest))
 }
 
 // The form that begins at `at` with the first of the tokens, of which `rest` are those behind it.
@@ -352,18 +376,46 @@ fn parse_closing<'a>(
     ensures low { IfOk result (λ x. x.1 ≤ depth) }
 {
     if let Some(rest) = behind(tokens, Sign::Comma) {
-        let first = Box::new(alloc, first)?;
-        let (second, height, rest) = parse_part(alloc, depth, rest)?;
-        let rest = take_sign(rest, Sign::Close)?;
-        return Ok((make::pair(at, first, second), height, rest));
+        return parse_pair(alloc, depth, at, first, rest);
     }
     if let Some(rest) = behind(tokens, Sign::Colon) {
-        let (ty, height, rest) = parse_type(alloc, depth, rest)?;
-        let rest = take_sign(rest, Sign::Close)?;
-        return Ok((make::typed(at, Box::new(alloc, first)?, ty), height, rest));
+        return parse_typed(alloc, depth, at, first, rest);
     }
+    parse_inner(depth, at, first, tokens)
+}
+
+// What stands behind the comma of a pair.
+#[cycle(expression)]
+fn parse_pair<'a>(alloc: Global, depth: u32, at: Pos, first: Expr, tokens: &'a [Piece]) -> Found<'a>
+    requires { depth < 2 ^ 30 }
+    ensures same { Gives phrase result (rule_of grammar (read grammar 0 depth) 0 depth pair_rule (Phrase (term_of first) ∷ At at.0 ∷ []) (pieces tokens.now)) }
+    ensures low { IfOk result (λ x. x.1 ≤ depth) }
+{
+    let first = Box::new(alloc, first)?;
+    let (second, height, rest) = parse_part(alloc, depth, tokens)?;
+    let rest = take_sign(rest, Sign::Close)?;
+    Ok((make::pair(at, first, second), height, rest))
+}
+
+// What stands behind the colon of an expression with its type.
+fn parse_typed<'a>(alloc: Global, depth: u32, at: Pos, expr: Expr, tokens: &'a [Piece]) -> Found<'a>
+    requires { depth < 2 ^ 30 }
+    ensures same { Gives phrase result (rule_of grammar (read grammar 0 depth) 0 depth typed_rule (Phrase (term_of expr) ∷ At at.0 ∷ []) (pieces tokens.now)) }
+    ensures low { IfOk result (λ x. x.1 ≤ depth) }
+{
+    let expr = Box::new(alloc, expr)?;
+    let (ty, height, rest) = parse_type(alloc, depth, tokens)?;
+    let rest = take_sign(rest, Sign::Close)?;
+    Ok((make::typed(at, expr, ty), height, rest))
+}
+
+// The `)` behind an expression.
+fn parse_inner<'a>(depth: u32, at: Pos, expr: Expr, tokens: &'a [Piece]) -> Found<'a>
+    ensures same { Gives phrase result (rule_of grammar (read grammar 0 depth) 0 depth inner_rule (Phrase (term_of expr) ∷ At at.0 ∷ []) (pieces tokens.now)) }
+    ensures low { IfOk result (λ x. x.1 ≤ depth) }
+{
     let rest = take_sign(tokens, Sign::Close)?;
-    Ok((first, 0, rest))
+    Ok((expr, 0, rest))
 }
 
 // What stands behind `let`.
@@ -375,22 +427,40 @@ fn parse_let<'a>(alloc: Global, depth: u32, at: Pos, tokens: &'a [Piece]) -> Fou
     ensures low { IfOk result (λ x. x.1 ≤ suc depth) }
 {
     if let Some(rest) = behind(tokens, Sign::Open) {
-        let (x, rest) = take_binder(alloc, rest)?;
-        let rest = take_sign(rest, Sign::Comma)?;
-        let (y, rest) = take_binder(alloc, rest)?;
-        let (whole, height, rest) = parse_let_pair(alloc, depth, at, x, y, rest)?;
+        let (whole, height, rest) = parse_let_names(alloc, depth, at, rest)?;
         return Ok((whole, 1 + height, rest));
     }
-    let (x, rest) = take_binder(alloc, tokens)?;
+    let (whole, height, rest) = parse_let_one(alloc, depth, at, tokens)?;
+    Ok((whole, 1 + height, rest))
+}
+
+// What stands behind the `let` of one name.
+#[cycle(expression)]
+fn parse_let_one<'a>(alloc: Global, depth: u32, at: Pos, tokens: &'a [Piece]) -> Found<'a>
+    requires { depth < 2 ^ 30 }
+    ensures same { Gives phrase result (rule_of grammar (read grammar 0 depth) 0 depth let_one_rule (At at.0 ∷ []) (pieces tokens.now)) }
+    ensures low { IfOk result (λ x. x.1 ≤ depth) }
+{
+    let (x, rest) = take_name(tokens)?;
     let rest = take_sign(rest, Sign::Equal)?;
     let (bound, height, rest) = parse_part(alloc, depth, rest)?;
     let rest = take_sign(rest, Sign::In)?;
     let (body, body_height, rest) = parse_part(alloc, depth, rest)?;
-    Ok((
-        make::binding(at, x, bound, body),
-        1 + height.max(body_height),
-        rest,
-    ))
+    let whole = make::binding(alloc, at, x, bound, body)?;
+    Ok((whole, height.max(body_height), rest))
+}
+
+// What stands behind the `let (` of two names.
+#[cycle(expression)]
+fn parse_let_names<'a>(alloc: Global, depth: u32, at: Pos, tokens: &'a [Piece]) -> Found<'a>
+    requires { depth < 2 ^ 30 }
+    ensures same { Gives phrase result (rule_of grammar (read grammar 0 depth) 0 depth let_names_rule (At at.0 ∷ []) (pieces tokens.now)) }
+    ensures low { IfOk result (λ x. x.1 ≤ depth) }
+{
+    let (x, rest) = take_name(tokens)?;
+    let rest = take_sign(rest, Sign::Comma)?;
+    let (y, rest) = take_name(rest)?;
+    parse_let_pair(alloc, depth, at, x, y, rest)
 }
 
 // What stands behind the two names of a `let`.
@@ -399,12 +469,12 @@ fn parse_let_pair<'a>(
     alloc: Global,
     depth: u32,
     at: Pos,
-    x: Binder,
-    y: Binder,
+    x: NameAt,
+    y: NameAt,
     tokens: &'a [Piece],
 ) -> Found<'a>
     requires { depth < 2 ^ 30 }
-    ensures same { Gives phrase result (rule_of grammar (read grammar 0 depth) 0 depth let_pair_rule (binder_part y ∷ binder_part x ∷ At at.0 ∷ []) (pieces tokens.now)) }
+    ensures same { Gives phrase result (rule_of grammar (read grammar 0 depth) 0 depth let_pair_rule (named_part y.entry ∷ named_part x.entry ∷ At at.0 ∷ []) (pieces tokens.now)) }
     ensures low { IfOk result (λ x. x.1 ≤ depth) }
 {
     let rest = take_sign(tokens, Sign::Close)?;
@@ -412,11 +482,8 @@ fn parse_let_pair<'a>(
     let (bound, height, rest) = parse_part(alloc, depth, rest)?;
     let rest = take_sign(rest, Sign::In)?;
     let (body, body_height, rest) = parse_part(alloc, depth, rest)?;
-    Ok((
-        make::pair_binding(at, x, y, bound, body),
-        height.max(body_height),
-        rest,
-    ))
+    let whole = make::pair_binding(alloc, at, x, y, bound, body)?;
+    Ok((whole, height.max(body_height), rest))
 }
 
 // What stands behind `if`.
@@ -428,11 +495,28 @@ fn parse_if<'a>(alloc: Global, depth: u32, at: Pos, tokens: &'a [Piece]) -> Foun
 {
     let (condition, height, rest) = parse_part(alloc, depth, tokens)?;
     let rest = take_sign(rest, Sign::Then)?;
-    let (first, first_height, rest) = parse_part(alloc, depth, rest)?;
+    let (whole, branches_height, rest) = parse_branches(alloc, depth, at, condition, rest)?;
+    Ok((whole, 1 + height.max(branches_height), rest))
+}
+
+// The branches of an `if`.
+#[cycle(expression)]
+fn parse_branches<'a>(
+    alloc: Global,
+    depth: u32,
+    at: Pos,
+    condition: Box<Expr>,
+    tokens: &'a [Piece],
+) -> Found<'a>
+    requires { depth < 2 ^ 30 }
+    ensures same { Gives phrase result (rule_of grammar (read grammar 0 depth) 0 depth branches_rule (Phrase (term_of condition.value) ∷ At at.0 ∷ []) (pieces tokens.now)) }
+    ensures low { IfOk result (λ x. x.1 ≤ depth) }
+{
+    let (first, first_height, rest) = parse_part(alloc, depth, tokens)?;
     let rest = take_sign(rest, Sign::Else)?;
     let (second, second_height, rest) = parse_part(alloc, depth, rest)?;
     let whole = make::choice(at, condition, first, second);
-    Ok((whole, 1 + height.max(first_height.max(second_height)), rest))
+    Ok((whole, first_height.max(second_height), rest))
 }
 
 // What stands behind `match`.
@@ -463,12 +547,44 @@ fn parse_cases<'a>(
     ensures same { Gives phrase result (rule_of grammar (read grammar 0 depth) 0 depth cases_rule (Phrase (term_of subject.value) ∷ At at.0 ∷ []) (pieces tokens.now)) }
     ensures low { IfOk result (λ x. x.1 ≤ depth) }
 {
-    if let Some(rest) = behind(tokens, Sign::Nil) {
-        let rest = take_sign(rest, Sign::Arrow)?;
-        let (empty, height, rest) = parse_part(alloc, depth, rest)?;
-        let (whole, rest_height, rest) = parse_list_case(alloc, depth, at, subject, empty, rest)?;
-        return Ok((whole, height.max(rest_height), rest));
+    match behind(tokens, Sign::Nil) {
+        Some(rest) => parse_list_cases(alloc, depth, at, subject, rest),
+        None => parse_tree_cases(alloc, depth, at, subject, tokens),
     }
+}
+
+// What stands behind the `nil` of the cases of a list.
+#[cycle(expression)]
+fn parse_list_cases<'a>(
+    alloc: Global,
+    depth: u32,
+    at: Pos,
+    subject: Box<Expr>,
+    tokens: &'a [Piece],
+) -> Found<'a>
+    requires { depth < 2 ^ 30 }
+    ensures same { Gives phrase result (rule_of grammar (read grammar 0 depth) 0 depth list_cases_rule (Phrase (term_of subject.value) ∷ At at.0 ∷ []) (pieces tokens.now)) }
+    ensures low { IfOk result (λ x. x.1 ≤ depth) }
+{
+    let rest = take_sign(tokens, Sign::Arrow)?;
+    let (empty, height, rest) = parse_part(alloc, depth, rest)?;
+    let (whole, rest_height, rest) = parse_list_case(alloc, depth, at, subject, empty, rest)?;
+    Ok((whole, height.max(rest_height), rest))
+}
+
+// The cases of a tree.
+#[cycle(expression)]
+fn parse_tree_cases<'a>(
+    alloc: Global,
+    depth: u32,
+    at: Pos,
+    subject: Box<Expr>,
+    tokens: &'a [Piece],
+) -> Found<'a>
+    requires { depth < 2 ^ 30 }
+    ensures same { Gives phrase result (rule_of grammar (read grammar 0 depth) 0 depth tree_cases_rule (Phrase (term_of subject.value) ∷ At at.0 ∷ []) (pieces tokens.now)) }
+    ensures low { IfOk result (λ x. x.1 ≤ depth) }
+{
     let rest = take_sign(tokens, Sign::Leaf)?;
     let rest = take_sign(rest, Sign::Arrow)?;
     let (empty, height, rest) = parse_part(alloc, depth, rest)?;
@@ -491,16 +607,13 @@ fn parse_list_case<'a>(
     ensures low { IfOk result (λ x. x.1 ≤ depth) }
 {
     let rest = take_sign(tokens, Sign::Bar)?;
-    let (head, rest) = take_binder(alloc, rest)?;
+    let (head, rest) = take_name(rest)?;
     let rest = take_sign(rest, Sign::Cons)?;
-    let (tail, rest) = take_binder(alloc, rest)?;
+    let (tail, rest) = take_name(rest)?;
     let rest = take_sign(rest, Sign::Arrow)?;
     let (body, height, rest) = parse_part(alloc, depth, rest)?;
-    Ok((
-        make::list_cases(at, subject, empty, head, tail, body),
-        height,
-        rest,
-    ))
+    let whole = make::list_cases(alloc, at, subject, empty, head, tail, body)?;
+    Ok((whole, height, rest))
 }
 
 // The case of a tree with an element and two trees.
@@ -520,7 +633,7 @@ fn parse_tree_case<'a>(
     let rest = take_sign(tokens, Sign::Bar)?;
     let rest = take_sign(rest, Sign::Node)?;
     let rest = take_sign(rest, Sign::Open)?;
-    let (element, rest) = take_binder(alloc, rest)?;
+    let (element, rest) = take_name(rest)?;
     let rest = take_sign(rest, Sign::Comma)?;
     parse_tree_names(alloc, depth, at, subject, empty, element, rest)
 }
@@ -533,24 +646,21 @@ fn parse_tree_names<'a>(
     at: Pos,
     subject: Box<Expr>,
     empty: Box<Expr>,
-    element: Binder,
+    element: NameAt,
     tokens: &'a [Piece],
 ) -> Found<'a>
     requires { depth < 2 ^ 30 }
-    ensures same { Gives phrase result (rule_of grammar (read grammar 0 depth) 0 depth tree_names_rule (binder_part element ∷ Phrase (term_of empty.value) ∷ Phrase (term_of subject.value) ∷ At at.0 ∷ []) (pieces tokens.now)) }
+    ensures same { Gives phrase result (rule_of grammar (read grammar 0 depth) 0 depth tree_names_rule (named_part element.entry ∷ Phrase (term_of empty.value) ∷ Phrase (term_of subject.value) ∷ At at.0 ∷ []) (pieces tokens.now)) }
     ensures low { IfOk result (λ x. x.1 ≤ depth) }
 {
-    let (left, rest) = take_binder(alloc, tokens)?;
+    let (left, rest) = take_name(tokens)?;
     let rest = take_sign(rest, Sign::Comma)?;
-    let (right, rest) = take_binder(alloc, rest)?;
+    let (right, rest) = take_name(rest)?;
     let rest = take_sign(rest, Sign::Close)?;
     let rest = take_sign(rest, Sign::Arrow)?;
     let (body, height, rest) = parse_part(alloc, depth, rest)?;
-    Ok((
-        make::tree_cases(at, subject, empty, element, left, right, body),
-        height,
-        rest,
-    ))
+    let whole = make::tree_cases(alloc, at, subject, empty, element, left, right, body)?;
+    Ok((whole, height, rest))
 }
 
 // What stands behind `tick`.

@@ -139,8 +139,8 @@ impl Infix {
         }
     }
 
-    // The level of what it goes on from: that of the form, less 1.
-    fn level(self) -> u32
+    /// The level of what it goes on from: that of the form, less 1.
+    pub fn level(self) -> u32
         ensures { result ≡ infix_level self }
     {
         match self {

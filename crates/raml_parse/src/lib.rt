@@ -10,8 +10,6 @@ mod program;
 mod source;
 mod stop;
 mod take;
-#[cfg(test)]
-mod tests;
 mod token;
 mod types;
 mod whole;

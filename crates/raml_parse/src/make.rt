@@ -4,7 +4,7 @@ ghost use Rattle.raml_syntax.specs.Tree as t;
 ghost use Rattle.raml_syntax.specs.Read.{term_of, terms_of, ty_of, bound_of, parameter_of};
 ghost use Rattle.raml_parse.specs.Table.{Phrase, Typing, At, call_act, function_act};
 ghost use Rattle.raml_parse.specs.Forms.{infix_act};
-ghost use Rattle.raml_parse.specs.Read.{phrases_back, headers_back, headed, named_part};
+ghost use Rattle.raml_parse.specs.Read.{phrases_back, headers_back, headed, named_part, bound_at};
 
 use crate::form::Infix;
 use crate::take::NameAt;
@@ -126,24 +126,49 @@ pub fn typed(at: Pos, expr: Box<Expr>, ty: Ty) -> Expr
     }
 }
 
-/// `let x = bound in rest`.
-pub fn binding(at: Pos, x: Binder, bound: Box<Expr>, rest: Box<Expr>) -> Expr
-    ensures { term_of result ≡ t.Let at.0 (bound_of x) (term_of bound.value) (term_of rest.value) }
+fn binder(alloc: Global, name: NameAt) -> Result<Binder, AllocError>
+    ensures { IfOk result (λ x. bound_of x ≡ bound_at name.entry) }
 {
-    Expr {
+    Ok(Binder {
+        at: name.at,
+        name: Name::new(alloc, name.name.text())?,
+    })
+}
+
+/// `let x = bound in rest`.
+pub fn binding(
+    alloc: Global,
+    at: Pos,
+    x: NameAt,
+    bound: Box<Expr>,
+    rest: Box<Expr>,
+) -> Result<Expr, AllocError>
+    ensures { IfOk result (λ e. term_of e ≡ t.Let at.0 (bound_at x.entry) (term_of bound.value) (term_of rest.value)) }
+{
+    let x = binder(alloc, x)?;
+    Ok(Expr {
         at,
         form: Form::Let(x, bound, rest),
-    }
+    })
 }
 
 /// `let (x, y) = bound in rest`.
-pub fn pair_binding(at: Pos, x: Binder, y: Binder, bound: Box<Expr>, rest: Box<Expr>) -> Expr
-    ensures { term_of result ≡ t.LetPair at.0 (bound_of x) (bound_of y) (term_of bound.value) (term_of rest.value) }
+pub fn pair_binding(
+    alloc: Global,
+    at: Pos,
+    x: NameAt,
+    y: NameAt,
+    bound: Box<Expr>,
+    rest: Box<Expr>,
+) -> Result<Expr, AllocError>
+    ensures { IfOk result (λ e. term_of e ≡ t.LetPair at.0 (bound_at x.entry) (bound_at y.entry) (term_of bound.value) (term_of rest.value)) }
 {
-    Expr {
+    let x = binder(alloc, x)?;
+    let y = binder(alloc, y)?;
+    Ok(Expr {
         at,
         form: Form::LetPair(x, y, bound, rest),
-    }
+    })
 }
 
 pub fn choice(at: Pos, condition: Box<Expr>, first: Box<Expr>, second: Box<Expr>) -> Expr
@@ -157,37 +182,44 @@ pub fn choice(at: Pos, condition: Box<Expr>, first: Box<Expr>, second: Box<Expr>
 
 /// The cases of a list: where it is empty, and where it has a head and a tail.
 pub fn list_cases(
+    alloc: Global,
     at: Pos,
     subject: Box<Expr>,
     empty: Box<Expr>,
-    head: Binder,
-    tail: Binder,
+    head: NameAt,
+    tail: NameAt,
     rest: Box<Expr>,
-) -> Expr
-    ensures { term_of result ≡ t.MatchList at.0 (term_of subject.value) (term_of empty.value) (bound_of head) (bound_of tail) (term_of rest.value) }
+) -> Result<Expr, AllocError>
+    ensures { IfOk result (λ e. term_of e ≡ t.MatchList at.0 (term_of subject.value) (term_of empty.value) (bound_at head.entry) (bound_at tail.entry) (term_of rest.value)) }
 {
-    Expr {
+    let head = binder(alloc, head)?;
+    let tail = binder(alloc, tail)?;
+    Ok(Expr {
         at,
         form: Form::MatchList(subject, empty, head, tail, rest),
-    }
+    })
 }
 
 /// The cases of a tree: where it is empty, and where it has an element, a left and a right tree.
 pub fn tree_cases(
+    alloc: Global,
     at: Pos,
     subject: Box<Expr>,
     empty: Box<Expr>,
-    element: Binder,
-    left: Binder,
-    right: Binder,
+    element: NameAt,
+    left: NameAt,
+    right: NameAt,
     rest: Box<Expr>,
-) -> Expr
-    ensures { term_of result ≡ t.MatchTree at.0 (term_of subject.value) (term_of empty.value) (bound_of element) (bound_of left) (bound_of right) (term_of rest.value) }
+) -> Result<Expr, AllocError>
+    ensures { IfOk result (λ e. term_of e ≡ t.MatchTree at.0 (term_of subject.value) (term_of empty.value) (bound_at element.entry) (bound_at left.entry) (bound_at right.entry) (term_of rest.value)) }
 {
-    Expr {
+    let element = binder(alloc, element)?;
+    let left = binder(alloc, left)?;
+    let right = binder(alloc, right)?;
+    Ok(Expr {
         at,
         form: Form::MatchTree(subject, empty, element, left, right, rest),
-    }
+    })
 }
 
 pub fn tick(at: Pos, count: u32, body: Box<Expr>) -> Expr

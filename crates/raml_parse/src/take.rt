@@ -3,12 +3,11 @@ ghost use Rattle.std.specs.Prelude.{◌≡◌, [], ◌∷◌, Some, None, MatchO
 ghost use Rattle.token_grammar.specs.Rules.{opening};
 ghost use Rattle.token_grammar.specs.Reading.{take_of, taken, rest_of};
 ghost use Rattle.raml_parse.specs.Table.{key, place, name, number_to, grammar, At, Counted};
-ghost use Rattle.raml_parse.specs.Read.{Gives, pieces, rest, named_part, binder_part};
+ghost use Rattle.raml_parse.specs.Read.{Gives, pieces, rest, named_part};
 
 use crate::stop::Stop;
 use crate::token::{Piece, Sign, Word};
-use raml_syntax::{Binder, Name, Pos};
-use std::alloc::Global;
+use raml_syntax::{Name, Pos};
 use token_grammar::Kind;
 
 /// A name, and the place where it stands.
@@ -107,18 +106,6 @@ pub fn take_name<'a>(tokens: &'a [Piece]) -> Result<(NameAt<'a>, &'a [Piece]), S
         ] => Ok((NameAt { at: *at, name }, rest)),
         _ => Err(Stop::Fault(Kind::Syntax, tokens)),
     }
-}
-
-/// A name that is bound, and the tokens behind it.
-pub fn take_binder<'a>(
-    alloc: Global,
-    tokens: &'a [Piece],
-) -> Result<(Binder, &'a [Piece]), Stop<'a>>
-    ensures { Gives (λ x. (binder_part x.0 ∷ [], rest x.1)) result (take_of name (pieces tokens.now)) }
-{
-    let (found, rest) = take_name(tokens)?;
-    let name = Name::new(alloc, found.name.text())?;
-    Ok((Binder { at: found.at, name }, rest))
 }
 
 /// A number of at most `most`, and the tokens behind it.

@@ -1,6 +1,6 @@
 // Tokens as the grammar sees them.
 ghost use Rattle.std.specs.Prelude.{◌≡◌};
-ghost use Rattle.raml_parse.specs.Tokens.{sign_of};
+ghost use Rattle.raml_parse.specs.Tokens.{sign_of, word_of, symbol_of};
 
 use raml_syntax::{Name, Pos};
 
@@ -74,6 +74,15 @@ pub fn sign_named(word: &str) -> Sign
         "nil" => Sign::Nil,
         "leaf" => Sign::Leaf,
         "node" => Sign::Node,
+        _ => word_named(word),
+    }
+}
+
+// The keyword of a value, an operator or a type, or the symbol.
+fn word_named(word: &str) -> Sign
+    ensures { result ≡ word_of word.now }
+{
+    match word {
         "true" => Sign::True,
         "false" => Sign::False,
         "not" => Sign::Not,
@@ -84,6 +93,15 @@ pub fn sign_named(word: &str) -> Sign
         "bool" => Sign::Bool,
         "list" => Sign::List,
         "tree" => Sign::Tree,
+        _ => symbol_named(word),
+    }
+}
+
+// The symbol.
+fn symbol_named(word: &str) -> Sign
+    ensures { result ≡ symbol_of word.now }
+{
+    match word {
         "(" => Sign::Open,
         ")" => Sign::Close,
         "," => Sign::Comma,

@@ -98,10 +98,10 @@ rest_is : (e : Expr) (es : List Expr) → take (length (e ∷ es) - 1) (drop 1 (
 rest_is e es = take_all (length (e ∷ es) - 1) es (omega arith)
 
 -- what is left of some arguments has fewer nodes, and no more arguments in any call
-pub rest_falls : (es : List Expr) → 1 ≤ length es → 8 * nodes_of_all (terms_of (take (length es - 1) (drop 1 es))) + 3 < 8 * nodes_of_all (terms_of es) + 3
+pub rest_falls : (es : List Expr) → 1 ≤ length es → 8 * nodes_of_all (terms_of (take (length es - 1) (drop 1 es))) + 4 < 8 * nodes_of_all (terms_of es) + 4
 rest_falls [] h = absurd (omega (arith, h))
 rest_falls (e ∷ es) h =
-    subst (λ (xs : List Expr). 8 * nodes_of_all (terms_of xs) + 3 < 8 * nodes_of_all (terms_of (e ∷ es)) + 3) (sym (rest_is e es)) (omega (arith, nodes_positive (term_of e)))
+    subst (λ (xs : List Expr). 8 * nodes_of_all (terms_of xs) + 4 < 8 * nodes_of_all (terms_of (e ∷ es)) + 4) (sym (rest_is e es)) (omega (arith, nodes_positive (term_of e)))
 
 pub rest_few : (es : List Expr) → 1 ≤ length es → AllOf FewArguments (terms_of es) → AllOf FewArguments (terms_of (take (length es - 1) (drop 1 es)))
 rest_few [] h few = absurd (omega (arith, h))

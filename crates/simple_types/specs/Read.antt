@@ -40,6 +40,10 @@ EndsWith walk fault = (first : f.Fault) → fault_of fault ≡ Some first → wa
 abbrev pub Gives : Result Type' f.Fault → Result Known TypeFault → Type 0
 Gives walk answer = MatchResult answer (λ known. walk ≡ Ok (known_of known)) (EndsWith walk)
 
+-- the same, where the type is known and is not given
+abbrev pub Accepts : Type' → Result Type' f.Fault → Result (Unit {0}) TypeFault → Type 0
+Accepts T walk answer = MatchResult answer (λ done. walk ≡ Ok T) (EndsWith walk)
+
 -- the same, where nothing is given but that there is no fault
 abbrev pub Passes : Result (Unit {0}) f.Fault → Result (Unit {0}) TypeFault → Type 0
 Passes walk answer = MatchResult answer (λ done. walk ≡ Ok tt) (EndsWith walk)

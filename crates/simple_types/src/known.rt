@@ -20,6 +20,24 @@ pub enum Known<'a> {
     Tree(Rc<Known<'a>>),
 }
 
+fn pair_type(alloc: Global, first: Ty, second: Ty) -> Result<Ty, AllocError>
+    ensures { IfOk result (λ pair. ty_of pair ≡ PairOf (ty_of first) (ty_of second)) }
+{
+    Ok(Ty::Pair(Box::new(alloc, first)?, Box::new(alloc, second)?))
+}
+
+fn list_type(alloc: Global, element: Ty) -> Result<Ty, AllocError>
+    ensures { IfOk result (λ list. ty_of list ≡ ListOf (ty_of element)) }
+{
+    Ok(Ty::List(Box::new(alloc, element)?))
+}
+
+fn tree_type(alloc: Global, element: Ty) -> Result<Ty, AllocError>
+    ensures { IfOk result (λ tree. ty_of tree ≡ TreeOf (ty_of element)) }
+{
+    Ok(Ty::Tree(Box::new(alloc, element)?))
+}
+
 /// A type of the program once more.
 fn copy_of(alloc: Global, ty: &Ty) -> Result<Ty, AllocError>
     ensures { IfOk result (λ copy. ty_of copy ≡ ty_of ty.now) }
@@ -27,12 +45,11 @@ fn copy_of(alloc: Global, ty: &Ty) -> Result<Ty, AllocError>
     match ty {
         Ty::Int => Ok(Ty::Int),
         Ty::Bool => Ok(Ty::Bool),
-        Ty::Pair(first, second) => Ok(Ty::Pair(
-            Box::new(alloc, copy_of(alloc, first)?)?,
-            Box::new(alloc, copy_of(alloc, second)?)?,
-        )),
-        Ty::List(element) => Ok(Ty::List(Box::new(alloc, copy_of(alloc, element)?)?)),
-        Ty::Tree(element) => Ok(Ty::Tree(Box::new(alloc, copy_of(alloc, element)?)?)),
+        Ty::Pair(first, second) => {
+            pair_type(alloc, copy_of(alloc, first)?, copy_of(alloc, second)?)
+        }
+        Ty::List(element) => list_type(alloc, copy_of(alloc, element)?),
+        Ty::Tree(element) => tree_type(alloc, copy_of(alloc, element)?),
     }
 }
 
@@ -66,12 +83,11 @@ impl<'a> Known<'a> {
             Known::Given(ty) => copy_of(alloc, *ty),
             Known::Int => Ok(Ty::Int),
             Known::Bool => Ok(Ty::Bool),
-            Known::Pair(first, second) => Ok(Ty::Pair(
-                Box::new(alloc, first.copy(alloc)?)?,
-                Box::new(alloc, second.copy(alloc)?)?,
-            )),
-            Known::List(element) => Ok(Ty::List(Box::new(alloc, element.copy(alloc)?)?)),
-            Known::Tree(element) => Ok(Ty::Tree(Box::new(alloc, element.copy(alloc)?)?)),
+            Known::Pair(first, second) => {
+                pair_type(alloc, first.copy(alloc)?, second.copy(alloc)?)
+            }
+            Known::List(element) => list_type(alloc, element.copy(alloc)?),
+            Known::Tree(element) => tree_type(alloc, element.copy(alloc)?),
         }
     }
 

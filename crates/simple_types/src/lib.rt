@@ -7,8 +7,6 @@ mod known;
 pub mod laws;
 mod program;
 mod scope;
-#[cfg(test)]
-mod tests;
 mod text;
 mod walk;
 

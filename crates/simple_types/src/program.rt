@@ -8,7 +8,7 @@ ghost use Rattle.raml_syntax.specs.Node.{AllNodes, FewArguments};
 ghost use Rattle.raml_syntax.specs.Read.{program_of, function_of, parameter_of, term_of, ty_of};
 ghost use Rattle.simple_types.specs.Known.{context_of};
 ghost use Rattle.simple_types.specs.Headers.{names_in};
-ghost use Rattle.simple_types.specs.Read.{EndsWith, Gives, Passes, fault_of};
+ghost use Rattle.simple_types.specs.Read.{EndsWith, Accepts, Passes, fault_of};
 ghost use Rattle.simple_types.specs.Walk.{among, distinct, parameter_name, walk, checks, walk_headers, walk_bodies, walk_program};
 
 use crate::fault::TypeFault;
@@ -95,9 +95,9 @@ fn check_below<'s, 'a>(
     env: Env<'s, 'a>,
     params: &'a [Param],
     fun: &'a Fun,
-) -> Result<Known<'a>, TypeFault>
+) -> Result<(), TypeFault>
     requires few { AllNodes FewArguments (term_of fun.now.body) }
-    ensures { Gives (walk (program_of env.entry.functions.now.program.now) (Some (ty_of fun.now.result)) (bind_types (context_of env.entry.scope.now) (map parameter_of params.now)) (term_of fun.now.body)) result }
+    ensures { Accepts (ty_of fun.now.result) (walk (program_of env.entry.functions.now.program.now) (Some (ty_of fun.now.result)) (bind_types (context_of env.entry.scope.now) (map parameter_of params.now)) (term_of fun.now.body)) result }
 {
     match params {
         [] => check_given(alloc, env, &fun.body, &fun.result),
@@ -127,9 +127,9 @@ fn check_body<'s, 'a>(
     alloc: Global,
     functions: &'s Functions<'a>,
     fun: &'a Fun,
-) -> Result<Known<'a>, TypeFault>
+) -> Result<(), TypeFault>
     requires few { AllNodes FewArguments (term_of fun.now.body) }
-    ensures { Gives (checks (program_of functions.now.program.now) (bind_types [] (function_of fun.now).params) (function_of fun.now).body (function_of fun.now).result) result }
+    ensures { Accepts (ty_of fun.now.result) (checks (program_of functions.now.program.now) (bind_types [] (function_of fun.now).params) (function_of fun.now).body (function_of fun.now).result) result }
 {
     let scope = Scope::Empty;
     check_below(

@@ -5,12 +5,11 @@ use Rattle.token_grammar.specs.Reading.{read, rule_of, items_of}
 use Rattle.token_grammar.proofs.Steps.{items_end, items_fail, items_more}
 use Rattle.raml_syntax.specs.Read.{term_of}
 use Rattle.raml_parse.specs.Table.{grammar, Exprs, key, expr, inner_act, At, Phrase}
-use Rattle.raml_parse.specs.Forms.{start_rule, infix_act, right_level}
-use Rattle.raml_parse.specs.Steps.{more_on}
+use Rattle.raml_parse.specs.Forms.{start_rule, infix_level}
 use Rattle.raml_parse.specs.Read.{pieces, phrases, phrases_back}
 use Rattle.raml_parse.specs.declared.token.Sign.TheVariants.{Comma}
 use Rattle.raml_parse.proofs.Parts.{phrases_push}
-use Rattle.raml_parse.proofs.Chains.{goes_further, fails_as, refused}
+use Rattle.raml_parse.proofs.Chains.{reads_on, fails_as, refused}
 use Rattle.raml_parse.proofs.ExprSteps.{level_empty, level_begins, level_goes_on}
 use Rattle.raml_parse.proofs.exprs.+expression.Goals as goal
 
@@ -27,14 +26,12 @@ parse_level-returns-clause-same t c =
     rw (level_goes_on c.args.depth c.args.level (pieces c.args.tokens.now) c.in-Some.at.0 c.if-level-eq0.false c.in_default-at.ensures c.in-Some.ensures)
     c.parse_operators.ensures.same
 
-pub parse_chain-returns-then-chains-clause-same : goal.parse_chain-returns-then-chains-clause-same
-parse_chain-returns-then-chains-clause-same t c =
-    let le : c.args.height ≤ c.args.depth = omega (arith, c.if-height-depth.false) in
-    let joined : infix_act c.in-Some.operator (Phrase (term_of c.in_ok-right.right.value) ∷ Phrase (term_of c.args.left) ∷ At c.args.at.0 ∷ []) ≡ Phrase (term_of c.operation-joined.result) =
-    ap (λ e. infix_act c.in-Some.operator (Phrase (term_of c.in_ok-right.right.value) ∷ Phrase (term_of e) ∷ At c.args.at.0 ∷ [])) (sym c.in_ok-left.ensures.ok) ∙ c.operation-joined.ensures in
-    let e = goes_further Exprs c.args.depth c.args.level (right_level c.in-Some.operator) (infix_act c.in-Some.operator) (At c.args.at.0 ∷ []) (Phrase (term_of c.args.left)) c.args.height (pieces c.args.tokens.now) c.in-Some.ensures.0 le (ap (grammar.chains Exprs) (sym c.in-Some.ensures.1) ∙ sym c.chains.ensures ∙ c.if-chains.true) (Phrase (term_of c.in_ok-right.right.value)) (Phrase (term_of c.operation-joined.result)) c.in_ok-right.right_height (pieces c.in_ok-right.rest.now) (ap (read grammar 0 c.args.depth Exprs (right_level c.in-Some.operator)) c.in-Some.ensures.2 ∙ c.in_ok-right.ensures.same) joined in
-    let high : suc (max c.args.height c.in_ok-right.right_height) ≡ 1 + c.max-height.result = omega (arith, c.max-height.ensures) in
-    rw (e ∙ ap (λ h. more_on Exprs c.args.depth c.args.level (At c.args.at.0 ∷ []) (Phrase (term_of c.operation-joined.result)) h (pieces c.in_ok-right.rest.now)) high) c.parse_chain.ensures.same
+pub parse_behind-returns-then-chains-clause-same : goal.parse_behind-returns-then-chains-clause-same
+parse_behind-returns-then-chains-clause-same t c =
+    let n = infix_level c.args.operator in
+    let high : suc (max c.args.height c.in_ok-joined.right_height) ≡ 1 + c.max-height.result = omega (arith, c.max-height.ensures) in
+    let e = reads_on Exprs c.args.depth n c.level.result (At c.args.at.0 ∷ []) c.args.height (1 + c.max-height.result) (grammar.chains Exprs n) _ (Phrase (term_of c.in_ok-joined.joined)) c.in_ok-joined.right_height (pieces c.in_ok-joined.rest.now) (sym c.chains.ensures ∙ c.if-chains.true) (sym c.level.ensures) high c.in_ok-joined.ensures.same in
+    rw e c.parse_chain.ensures.same
 
 pub parse_args-returns-in_err-arg-clause-same : goal.parse_args-returns-in_err-arg-clause-same
 parse_args-returns-in_err-arg-clause-same t c =

@@ -13,8 +13,8 @@ decreases-parse_expr l = l.depth * (4 * l.depth + 90)
 abbrev pub decreases-parse_part : goal.decreases-parse_part
 decreases-parse_part l = l.depth * (4 * l.depth + 90) + 1
 
-abbrev pub decreases-parse_right : goal.decreases-parse_right
-decreases-parse_right l = l.depth * (4 * l.depth + 90) + 1
+abbrev pub decreases-parse_operation : goal.decreases-parse_operation
+decreases-parse_operation l = l.depth * (4 * l.depth + 90) + 1
 
 abbrev pub decreases-parse_arg : goal.decreases-parse_arg
 decreases-parse_arg l = l.depth * (4 * l.depth + 90) + 1
@@ -27,6 +27,9 @@ decreases-parse_operators l = l.depth * (4 * l.depth + 90) + 4 * l.depth + 51 + 
 
 abbrev pub decreases-parse_chain : goal.decreases-parse_chain
 decreases-parse_chain l = l.depth * (4 * l.depth + 90) + 2 * (suc l.depth - l.height) + 20
+
+abbrev pub decreases-parse_behind : goal.decreases-parse_behind
+decreases-parse_behind l = l.depth * (4 * l.depth + 90) + 2 * (suc l.depth - l.height) + 19
 
 abbrev pub decreases-parse_form : goal.decreases-parse_form
 decreases-parse_form l = l.depth * (4 * l.depth + 90) + 16
@@ -61,14 +64,26 @@ decreases-parse_parens l = l.depth * (4 * l.depth + 90) + 14
 abbrev pub decreases-parse_closing : goal.decreases-parse_closing
 decreases-parse_closing l = l.depth * (4 * l.depth + 90) + 13
 
+abbrev pub decreases-parse_pair : goal.decreases-parse_pair
+decreases-parse_pair l = l.depth * (4 * l.depth + 90) + 12
+
 abbrev pub decreases-parse_let : goal.decreases-parse_let
 decreases-parse_let l = l.depth * (4 * l.depth + 90) + 14
 
+abbrev pub decreases-parse_let_one : goal.decreases-parse_let_one
+decreases-parse_let_one l = l.depth * (4 * l.depth + 90) + 12
+
+abbrev pub decreases-parse_let_names : goal.decreases-parse_let_names
+decreases-parse_let_names l = l.depth * (4 * l.depth + 90) + 13
+
 abbrev pub decreases-parse_let_pair : goal.decreases-parse_let_pair
-decreases-parse_let_pair l = l.depth * (4 * l.depth + 90) + 13
+decreases-parse_let_pair l = l.depth * (4 * l.depth + 90) + 12
 
 abbrev pub decreases-parse_if : goal.decreases-parse_if
 decreases-parse_if l = l.depth * (4 * l.depth + 90) + 14
+
+abbrev pub decreases-parse_branches : goal.decreases-parse_branches
+decreases-parse_branches l = l.depth * (4 * l.depth + 90) + 12
 
 abbrev pub decreases-parse_match : goal.decreases-parse_match
 decreases-parse_match l = l.depth * (4 * l.depth + 90) + 14
@@ -76,14 +91,20 @@ decreases-parse_match l = l.depth * (4 * l.depth + 90) + 14
 abbrev pub decreases-parse_cases : goal.decreases-parse_cases
 decreases-parse_cases l = l.depth * (4 * l.depth + 90) + 13
 
+abbrev pub decreases-parse_list_cases : goal.decreases-parse_list_cases
+decreases-parse_list_cases l = l.depth * (4 * l.depth + 90) + 12
+
+abbrev pub decreases-parse_tree_cases : goal.decreases-parse_tree_cases
+decreases-parse_tree_cases l = l.depth * (4 * l.depth + 90) + 12
+
 abbrev pub decreases-parse_list_case : goal.decreases-parse_list_case
-decreases-parse_list_case l = l.depth * (4 * l.depth + 90) + 12
+decreases-parse_list_case l = l.depth * (4 * l.depth + 90) + 11
 
 abbrev pub decreases-parse_tree_case : goal.decreases-parse_tree_case
-decreases-parse_tree_case l = l.depth * (4 * l.depth + 90) + 12
+decreases-parse_tree_case l = l.depth * (4 * l.depth + 90) + 11
 
 abbrev pub decreases-parse_tree_names : goal.decreases-parse_tree_names
-decreases-parse_tree_names l = l.depth * (4 * l.depth + 90) + 11
+decreases-parse_tree_names l = l.depth * (4 * l.depth + 90) + 10
 
 abbrev pub decreases-parse_tick : goal.decreases-parse_tick
 decreases-parse_tick l = l.depth * (4 * l.depth + 90) + 14

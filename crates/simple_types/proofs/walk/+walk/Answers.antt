@@ -1,10 +1,15 @@
-use Rattle.std.proofs.Common.{◌<◌, ◌+◌, ◌-◌, ◌*◌, length, take, drop, subst, arith}
+use Rattle.std.proofs.Common.{◌<◌, ◌∙◌, ◌+◌, ◌-◌, ◌*◌, length, take, drop, ap, subst, arith}
+use Rattle.std.specs.Prelude.{Ok}
 use Rattle.raml_syntax.specs.Node.{nodes_of_all}
-use Rattle.raml_syntax.specs.Read.{terms_of}
-use Rattle.simple_types.specs.Known.{want_of}
+use Rattle.raml_syntax.specs.Read.{program_of, term_of, terms_of}
+use Rattle.simple_types.specs.Known.{context_of, want_of}
 use Rattle.simple_types.specs.Read.{Gives, walk_in}
 use Rattle.simple_types.proofs.Forms.{term_pair, term_cons, term_node, term_let, term_if, term_call, term_let_pair, term_match_list, term_match_tree, rest_falls, rest_few}
+use Rattle.simple_types.proofs.Typing.{walks_are_typings}
 use Rattle.simple_types.proofs.walk.+walk.Goals as goal
+
+pub check-returns : goal.check-returns
+check-returns t c = c.in_ok-walk.ensures ∙ ap Ok ((walks_are_typings (program_of c.args.env.functions.now.program.now)).same (context_of c.args.env.scope.now) (term_of c.args.e.now) _ _ c.in_ok-walk.ensures)
 
 pub walk-returns-in-Let : goal.walk-returns-in-Let
 walk-returns-in-Let t c =
@@ -42,8 +47,8 @@ pub walk-returns-in-MatchTree : goal.walk-returns-in-MatchTree
 walk-returns-in-MatchTree t c =
     subst (λ e. Gives (walk_in c.args.env (want_of c.args.want) e) c.walk_match_tree.result) (term_match_tree c.args.e.now c.in-MatchTree.c c.in-MatchTree.a c.in-MatchTree.b c.in-MatchTree.x c.in-MatchTree.y c.in-MatchTree.z _ _ _ c.in-MatchTree.is c.deref-in-MatchTree.ensures c.deref-in-MatchTree-2.ensures c.deref-in-MatchTree-3.ensures) c.walk_match_tree.ensures
 
-pub walk_arguments-walk_arguments-requires : goal.walk_arguments-walk_arguments-requires
-walk_arguments-walk_arguments-requires t c =
+pub calls::walk_arguments-walk_arguments-requires : goal.calls::walk_arguments-walk_arguments-requires
+calls::walk_arguments-walk_arguments-requires t c =
     let args = c.args.args.now in
-    let falls : 8 * nodes_of_all (terms_of (take (length args - 1) (drop 1 args))) + 3 < t = omega (arith, rest_falls args c.in-len1-up.len_at_least, c.decreases) in
+    let falls : 8 * nodes_of_all (terms_of (take (length args - 1) (drop 1 args))) + 4 < t = omega (arith, rest_falls args c.in-len1-up.len_at_least, c.decreases) in
     (falls, rest_few args c.in-len1-up.len_at_least c.requires.few)

@@ -1,6 +1,5 @@
 // Texts with their programs or their first fault, worked out by hand.
-use crate::fault::ParseFault;
-use crate::source::parse;
+use raml_parse::{ParseFault, parse};
 use raml_syntax::{Binder, Expr, Form, Program, Ty};
 use std::alloc::Global;
 use std::fmt::Write;
