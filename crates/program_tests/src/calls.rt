@@ -1,9 +1,9 @@
 // Whole calls over files and streams in memory.
-use raml_top::{SourceFault, Status, Which, raml};
 use raml_io::{MemSink, MemStore};
 use raml_lex::LexFault;
 use raml_parse::ParseFault;
 use raml_syntax::Pos;
+use raml_top::{SourceFault, Status, Which, raml};
 use scalar_text::DataFault;
 use simple_types::TypeFault;
 use std::alloc::{AllocError, Global};
