@@ -1,12 +1,11 @@
 -- The tuples of a lower degree stand first.
-use Rattle.std.proofs.Common.{◌≡◌, ◌≤◌, ◌<◌, ℕ, ◌⊎◌, ⊎_elim, inl, inr, Bool, true, false, not, cond, nat_le, List, [], ◌∷◌, ◌++◌, filter, refl, sym, ap, ◌∙◌, subst, arith}
+use Rattle.std.proofs.Common.{◌≡◌, ◌≤◌, ◌<◌, ℕ, ◌⊎◌, ⊎_elim, inl, inr, Bool, true, false, not, cond, nat_le, List, [], ◌∷◌, ◌++◌, filter, refl, sym, ap, ◌∙◌, arith}
 use Rattle.std.specs.declared.cmp.Ordering.{Ordering}
 use Rattle.std.specs.declared.cmp.Ordering.TheVariants.{Less, Greater}
 use Rattle.std.specs.Ordering.{ordering_then, nat_cmp}
 use Rattle.std.proofs.lemmas.Bool.Decides.{nat_tests}
-use Rattle.raml_syntax.specs.Tree.{Type'}
 use Rattle.base_poly.specs.Plain.{Plain, degrees}
-use Rattle.base_poly.specs.Indices.{AreIndices, IsBefore, Ascends, tuple_order, each_in_turn, index_list}
+use Rattle.base_poly.specs.Indices.{Ascends, tuple_order, each_in_turn, index_list}
 use Rattle.base_poly.proofs.Among.{Among, contains_among, among_contains, kept_among, among_kept, ascends_kept, before_one}
 use Rattle.base_poly.proofs.Only.{one_order, never_both}
 use Rattle.base_poly.proofs.Exact.{exact}

@@ -1,5 +1,5 @@
 -- The order of the variables of a context does not matter.
-use Rattle.std.proofs.Common.{◌≡◌, ◌≤◌, ℕ, zero, suc, ◌+◌, ◌*◌, List, [], ◌∷◌, length, refl, sym, ap, ◌∙◌, subst, arith}
+use Rattle.std.proofs.Common.{◌≡◌, ℕ, zero, suc, ◌+◌, ◌*◌, List, [], ◌∷◌, length, refl, sym, ap, ◌∙◌, arith}
 use Rattle.raml_syntax.specs.Tree.{Type'}
 use Rattle.raml_syntax.specs.Value.{Value}
 use Rattle.base_poly.specs.Plain.{Plain, deg, degrees}

@@ -1,12 +1,11 @@
 -- Potential splits over two groups of variables.
-use Rattle.std.proofs.Common.{◌≡◌, ◌≤◌, ℕ, zero, suc, ◌+◌, ◌-◌, ◌*◌, ⊎_elim, inl, inr, Bool, true, false, cond, List, [], ◌∷◌, ◌++◌, length, refl, sym, ap, ◌∙◌, subst, arith}
-use Rattle.std.specs.declared.cmp.Ordering.{Ordering}
+use Rattle.std.proofs.Common.{◌≡◌, ◌≤◌, ℕ, suc, ◌+◌, ◌-◌, ◌*◌, ⊎_elim, inl, inr, Bool, true, false, cond, List, [], ◌∷◌, length, refl, sym, ap, ◌∙◌, arith}
 use Rattle.std.specs.declared.cmp.Ordering.TheVariants.{Less}
 use Rattle.raml_syntax.specs.Tree.{Type'}
 use Rattle.raml_syntax.specs.Value.{Value}
-use Rattle.base_poly.specs.Plain.{Plain, deg, degrees, alike}
-use Rattle.base_poly.specs.Indices.{IsIndex, AreIndices, IsBefore, Ascends, tuple_order, index_list}
-use Rattle.base_poly.specs.Base.{total, base, bases}
+use Rattle.base_poly.specs.Plain.{Plain, degrees, alike}
+use Rattle.base_poly.specs.Indices.{AreIndices, Ascends, tuple_order, index_list}
+use Rattle.base_poly.specs.Base.{total, bases}
 use Rattle.base_poly.specs.Total.{alike_is, alike_self}
 use Rattle.base_poly.proofs.Among.{Among, contains_among, among_contains, before_one}
 use Rattle.base_poly.proofs.Sums.{total_same}
