@@ -2,7 +2,7 @@
 ghost use Rattle.std.specs.Prelude.{◌≡◌, ◌<◌, ◌^◌, [], ◌∷◌, IfOk, IsTrue};
 ghost use Rattle.raml_syntax.specs.Tree.{Integer, ListOf};
 ghost use Rattle.raml_syntax.specs.Types.{types_of};
-ghost use Rattle.raml_syntax.specs.Node.{WithinLimits, program_nodes};
+ghost use Rattle.raml_syntax.specs.Node.{program_nodes};
 ghost use Rattle.raml_syntax.specs.Read.{program_of, function_of, ty_of};
 
 use raml_parse::parse;
@@ -13,8 +13,7 @@ use std::test::Fail;
 
 /// The typed program that a short text spells.
 pub fn typed_program(alloc: Global, source: &str) -> Result<Typed, Fail>
-    ensures limits { IfOk result (λ typed. WithinLimits (program_of typed)) }
-    ensures nodes { IfOk result (λ typed. program_nodes (program_of typed) < 2 ^ 28) }
+    ensures { IfOk result (λ typed. program_nodes (program_of typed) < 2 ^ 28) }
 {
     if source.len() > 1000 {
         return Err(Fail::from("the source is long"));

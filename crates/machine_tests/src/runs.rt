@@ -1,6 +1,6 @@
 // Runs of programs on words.
 ghost use Rattle.std.specs.Prelude.{◌≤◌, ◌<◌, ◌^◌, length};
-ghost use Rattle.raml_syntax.specs.Node.{WithinLimits, program_nodes};
+ghost use Rattle.raml_syntax.specs.Node.{program_nodes};
 ghost use Rattle.raml_syntax.specs.Read.{program_of};
 ghost use Rattle.metered_vm.specs.Seen.{HaveArguments};
 
@@ -55,7 +55,6 @@ pub fn run(
     first: u64,
     steps: u64,
 ) -> Result<Ran, Fail>
-    requires limits { WithinLimits (program_of typed.now) }
     requires nodes { program_nodes (program_of typed.now) < 2 ^ 28 }
     requires arguments { HaveArguments (program_of typed.now) 0 heap.cells args.items }
     requires heap { length heap.cells < 2 ^ 31 }

@@ -1,7 +1,7 @@
 // Runs of a program on the machine.
 ghost use Rattle.std.specs.Prelude.{◌≡◌, ◌≤◌, IfOk, IfErr, string_bytes};
 ghost use Rattle.raml_syntax.specs.Tree.{Text};
-ghost use Rattle.raml_syntax.specs.Node.{WithinLimits, program_nodes};
+ghost use Rattle.raml_syntax.specs.Node.{program_nodes};
 ghost use Rattle.raml_syntax.specs.Read.{program_of};
 ghost use Rattle.raml_top.specs.Fragment.{most_bytes};
 ghost use Rattle.raml_top.specs.Promise.{counts};
@@ -42,7 +42,6 @@ pub fn run<S: Store>(
     typed: &Typed,
     call: Call<'_>,
 ) -> Result<Report, Status>
-    requires limits { WithinLimits (program_of typed.now) }
     requires few_nodes { program_nodes (program_of typed.now) ≤ most_bytes }
     requires few_steps { call.steps ≤ 1000000000 }
     ensures ok { IfOk result (λ report. RunReported (S.holds store.old) call.entry.name.now call.entry.«data».now call.entry.steps report.status (string_bytes report.text) (program_of typed.now)) }
@@ -70,7 +69,6 @@ fn execute(
     args: Vec<Word>,
     steps: u64,
 ) -> Result<Report, AllocError>
-    requires limits { WithinLimits (program_of typed.now) }
     requires few_nodes { program_nodes (program_of typed.now) ≤ most_bytes }
     requires few_steps { steps ≤ 1000000000 }
     requires can { CanRun (program_of typed.now) place.0 args.items }

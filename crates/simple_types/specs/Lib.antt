@@ -1,6 +1,7 @@
 pub mod Fault
 pub mod Known
 pub mod Names
+pub mod Small
 pub mod Headers
 pub mod Text
 pub mod Walk

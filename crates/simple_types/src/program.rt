@@ -8,6 +8,7 @@ ghost use Rattle.raml_syntax.specs.Node.{AllNodes, FewArguments};
 ghost use Rattle.raml_syntax.specs.Read.{program_of, function_of, parameter_of, term_of, ty_of};
 ghost use Rattle.simple_types.specs.Known.{context_of};
 ghost use Rattle.simple_types.specs.Headers.{names_in};
+ghost use Rattle.simple_types.specs.Small.{IsSmall};
 ghost use Rattle.simple_types.specs.Read.{EndsWith, Accepts, Passes, fault_of};
 ghost use Rattle.simple_types.specs.Walk.{among, distinct, parameter_name, walk, checks, walk_headers, walk_bodies, walk_program};
 
@@ -20,7 +21,7 @@ use raml_syntax::{Fun, Param, Program};
 use std::alloc::Global;
 use std::marker::Model;
 
-/// A typed program.
+/// A typed program, with few functions, parameters and arguments.
 #[derive(Drop)]
 pub struct Typed {
     program: Program,
@@ -34,6 +35,7 @@ impl Model for Typed {
     ghost use Rattle.raml_syntax.specs.contracts.ty.Ty as ty;
     ghost use Rattle.raml_syntax.specs.contracts.tree.Form as form;
     ghost use Rattle.raml_syntax.specs.contracts.tree.Expr as expr;
+    ghost use Rattle.simple_types.specs.Small.{IsSmall};
 
     ghost Value = { Program };
 
@@ -41,7 +43,7 @@ impl Model for Typed {
 
     ghost view = { λ typed. typed.program };
 
-    ghost invariant = { λ typed. types.Typed (program_of typed.program) };
+    ghost invariant = { λ typed. types.Typed (program_of typed.program) × IsSmall (program_of typed.program) };
 }
 
 impl Typed {
@@ -49,6 +51,7 @@ impl Typed {
     pub fn program(&self) -> &Program
         ensures program { result.now ≡ self.now }
         ensures typed { types.Typed (program_of self.now) }
+        ensures small { IsSmall (program_of self.now) }
     {
         &self.program
     }
@@ -173,9 +176,10 @@ fn check_program(alloc: Global, program: &Program) -> Result<(), TypeFault>
 /// is dropped.
 #[tactic(auto, using(crate::proofs::Typing::refused_untyped))]
 pub fn check(alloc: Global, program: Program) -> Result<Typed, TypeFault>
+    requires few_functions { length (program_of program) ≤ 256 }
     requires few_parameters { All (λ (g : Function). length g.params ≤ 8) (program_of program) }
     requires few_arguments { All (λ (g : Function). AllNodes FewArguments g.body) (program_of program) }
-    ensures typed { IfOk result (λ typed. (typed ≡ program) × types.Typed (program_of program)) }
+    ensures typed { IfOk result (λ typed. (program_of typed ≡ program_of program) × types.Typed (program_of program)) }
     ensures fault { IfErr result (EndsWith (walk_program (program_of program))) }
     ensures refused { IfErr result (λ fault. IsSome (fault_of fault) → types.Typed (program_of program) → ⊥) }
 {

@@ -159,8 +159,6 @@ fn compile_all<'a>(
 
 /// Compiles a typed program. Only memory can be wanting.
 pub fn compile<'a>(alloc: Global, typed: &'a Typed) -> Result<Code<'a>, AllocError>
-    requires functions { length (program_of typed.now) ≤ 256 }
-    requires parameters { All (λ (g : Function). length g.params ≤ 8) (program_of typed.now) }
     requires nodes { program_nodes (program_of typed.now) < 2 ^ 28 }
     ensures { IfOk result (λ code. code ≡ typed.now) }
 {
