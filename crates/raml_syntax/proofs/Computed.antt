@@ -32,6 +32,10 @@ examples_hold = record {
   list = refl;
   tree = refl;
   right_tree = refl;
+  just = refl;
+  just_cut = refl;
+  option = refl;
+  no_option = refl;
   pair_of_one_name = refl;
   list_of_one_name = refl;
   tree_of_one_name = refl;
@@ -45,4 +49,5 @@ examples_hold = record {
   size_of_pairs = refl;
   size_of_lists = refl;
   size_of_tree = refl;
+  size_of_option = refl;
 }

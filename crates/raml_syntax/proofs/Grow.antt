@@ -4,8 +4,8 @@ use Rattle.std.proofs.lemmas.Bool.{cases_lt}
 use Rattle.std.specs.Prelude.{[], ◌∷◌}
 use Rattle.raml_syntax.specs.Tree as t
 use Rattle.raml_syntax.specs.Tree.{Text, Bound, Function, Prog}
-use Rattle.raml_syntax.specs.Value.{Value, Truth, Both, Cons, Node}
-use Rattle.raml_syntax.specs.Eval.{Run, cut, costs, goes_on, and_then, Env, branch, pair_case, list_case, tree_case, Calls, walk, walk_all, find, names_of, bind_all, enter, calls_at}
+use Rattle.raml_syntax.specs.Value.{Value, Truth, Both, Cons, Node, Just}
+use Rattle.raml_syntax.specs.Eval.{Run, cut, costs, goes_on, and_then, Env, branch, pair_case, list_case, tree_case, option_case, Calls, walk, walk_all, find, names_of, bind_all, enter, calls_at}
 use Rattle.raml_syntax.specs.Laws.{Grows, CostsGrowWithLimit}
 
 grows_same : {A : Type 0} (r : Run A) → Grows r r
@@ -58,6 +58,10 @@ grows_tree : {A : Type 0} (v : Value) (a c : Run A) (f g : Value → Value → V
 grows_tree (Node x y z) a c f g h k = k x y z
 grows_tree _ a c f g h k = h
 
+grows_option : {A : Type 0} (v : Value) (a c : Run A) (f g : Value → Run A) → Grows a c → ((x : Value) → Grows (f x) (g x)) → Grows (option_case v a f) (option_case v c g)
+grows_option (Just x) a c f g h k = k x
+grows_option _ a c f g h k = h
+
 -- two ways to call, of which the second costs no less
 abbrev CallsGrow : Calls → Calls → Type 0
 CallsGrow c d = (f : Text) (vs : List Value) → Grows (c f vs) (d f vs)
@@ -69,6 +73,7 @@ module _ (c d : Calls) (grow : CallsGrow c d) where
     walk_grows (t.Truth p b) env = grows_same _
     walk_grows (t.Nil p) env = grows_same _
     walk_grows (t.Leaf p) env = grows_same _
+    walk_grows (t.Nothing p) env = grows_same _
     walk_grows (t.Var p x) env = grows_same _
     walk_grows (t.Arith p o a b) env = grows_node (grows_two _ _ _ _ _ (walk_grows a env) (walk_grows b env))
     walk_grows (t.Compare p o a b) env = grows_node (grows_two _ _ _ _ _ (walk_grows a env) (walk_grows b env))
@@ -76,6 +81,7 @@ module _ (c d : Calls) (grow : CallsGrow c d) where
     walk_grows (t.Pair p a b) env = grows_node (grows_two _ _ _ _ _ (walk_grows a env) (walk_grows b env))
     walk_grows (t.Cons p a b) env = grows_node (grows_two _ _ _ _ _ (walk_grows a env) (walk_grows b env))
     walk_grows (t.Node p a b e) env = grows_node (grows_then _ _ _ _ (walk_grows a env) (λ v. grows_two _ _ _ _ _ (walk_grows b env) (walk_grows e env)))
+    walk_grows (t.Just p a) env = grows_node (grows_then _ _ _ _ (walk_grows a env) (λ v. grows_same _))
     walk_grows (t.Call p f args) env = grows_node (grows_then _ _ _ _ (all_grow args env) (grow f))
     walk_grows (t.Let p x a b) env = grows_node (grows_then _ _ _ _ (walk_grows a env) (λ v. walk_grows b ((x.name, v) ∷ env)))
     walk_grows (t.LetPair p x y a b) env =
@@ -86,6 +92,8 @@ module _ (c d : Calls) (grow : CallsGrow c d) where
         grows_node (grows_then _ _ _ _ (walk_grows i env) (λ v. grows_list v _ _ _ _ (walk_grows a env) (λ h r. walk_grows b ((y.name, r) ∷ (x.name, h) ∷ env))))
     walk_grows (t.MatchTree p i a x y z b) env =
         grows_node (grows_then _ _ _ _ (walk_grows i env) (λ v. grows_tree v _ _ _ _ (walk_grows a env) (λ e l r. walk_grows b ((z.name, r) ∷ (y.name, l) ∷ (x.name, e) ∷ env))))
+    walk_grows (t.MatchOption p i a x b) env =
+        grows_node (grows_then _ _ _ _ (walk_grows i env) (λ v. grows_option v _ _ _ _ (walk_grows a env) (λ w. walk_grows b ((x.name, w) ∷ env))))
     walk_grows (t.Tick p k a) env = grows_node (grows_costs k 0 0 _ _ (walk_grows a env))
     walk_grows (t.Typed p a A) env = walk_grows a env
 

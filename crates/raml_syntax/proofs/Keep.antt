@@ -6,11 +6,11 @@ use Rattle.std.specs.Str.{bytes_eq}
 use Rattle.std.proofs.lemmas.Int.{SFits-int_wrap}
 use Rattle.std.proofs.lemmas.List.Elements.{All-head, All-tail}
 use Rattle.raml_syntax.specs.Tree as t
-use Rattle.raml_syntax.specs.Tree.{Text, Type', Integer, Boolean, PairOf, ListOf, TreeOf, ArithOp, CompareOp, Bound, Parameter, Function, Prog}
-use Rattle.raml_syntax.specs.Value.{Value, Number, Truth, Both, Empty, Cons, Node, Has, HaveTypes}
-use Rattle.raml_syntax.specs.Eval.{Run, goes_on, and_then, Env, look, branch, negation, pair_case, list_case, tree_case, cut, Calls, walk, walk_all, find, names_of, bind_all, enter, calls_at}
-use Rattle.raml_syntax.specs.Types.{Context, type_at, bind_types, types_of, IsListType, IsTreeType, Way, Finding, Checking, OnlyChecked, HasType, CheckEach, Checks, Typed}
-use Rattle.raml_syntax.specs.Default.{IsNumber, IsTruth, IsBound, Taken, TakenPair, TakenList, TakenTree, Asked, NoDefault, NoDefaults, Enters, CallMeetsNone}
+use Rattle.raml_syntax.specs.Tree.{Text, Type', Integer, Boolean, PairOf, ListOf, TreeOf, OptionOf, ArithOp, CompareOp, Bound, Parameter, Function, Prog}
+use Rattle.raml_syntax.specs.Value.{Value, Number, Truth, Both, Empty, Cons, Node, Just, Has, HaveTypes}
+use Rattle.raml_syntax.specs.Eval.{Run, goes_on, and_then, Env, look, branch, negation, pair_case, list_case, tree_case, option_case, cut, Calls, walk, walk_all, find, names_of, bind_all, enter, calls_at}
+use Rattle.raml_syntax.specs.Types.{Context, type_at, bind_types, types_of, IsListType, IsTreeType, IsOptionType, Way, Finding, Checking, OnlyChecked, HasType, CheckEach, Checks, Typed}
+use Rattle.raml_syntax.specs.Default.{IsNumber, IsTruth, IsBound, Taken, TakenPair, TakenList, TakenTree, TakenOption, Asked, NoDefault, NoDefaults, Enters, CallMeetsNone}
 use Rattle.raml_syntax.specs.Node.{AllNodes, AllOf, NumberFits}
 use Rattle.raml_syntax.specs.Laws.{Keeps, Holds, TypedRunsKeepTypes}
 
@@ -71,6 +71,10 @@ empty_tree : (way : Way) (T : Type') → OnlyChecked way (IsTreeType T) → Has 
 empty_tree Finding T h = absurd h
 empty_tree Checking T h = subst (Has Empty) (sym h.1) tt
 
+no_value : (way : Way) (T : Type') → OnlyChecked way (IsOptionType T) → Has Empty T
+no_value Finding T h = absurd h
+no_value Checking T h = subst (Has Empty) (sym h.1) tt
+
 taken : (v : Value) (A B : Type 0) → Has v Boolean → A → B → Taken v A B
 taken (Truth true) A B h a b = a
 taken (Truth false) A B h a b = b
@@ -108,6 +112,16 @@ tree_has Empty w A T ra rb h ha hb e = ha w e
 tree_has (Node s l r) w A T ra rb h ha hb e = hb s l r h.0 h.1 h.2 w e
 tree_has _ w A T ra rb h ha hb e = absurd h
 
+taken_option : (v : Value) (A : Type') (X : Type 0) (F : Value → Type 0) → Has v (OptionOf A) → X → ((s : Value) → Has s A → F s) → TakenOption v X F
+taken_option Empty A X F h x f = x
+taken_option (Just s) A X F h x f = f s h
+taken_option _ A X F h x f = absurd h
+
+option_has : (v w : Value) (A T : Type') (ra : Run Value) (rb : Value → Run Value) → Has v (OptionOf A) → ((w : Value) → ra.out ≡ Some w → Has w T) → ((s : Value) → Has s A → (w : Value) → (rb s).out ≡ Some w → Has w T) → (option_case v ra rb).out ≡ Some w → Has w T
+option_has Empty w A T ra rb h ha hb e = ha w e
+option_has (Just s) w A T ra rb h ha hb e = hb s h w e
+option_has _ w A T ra rb h ha hb e = absurd h
+
 -- what a walk may rely on in the functions that it calls
 record CallsKeep (P : Prog) (call : Calls) (asked : Asked) : Type 0 where
   by : (f : Text) (g : Function) (vs : List Value) → find f P ≡ Some g → HaveTypes vs (types_of g) → Keeps g.result (call f vs) (asked f vs)
@@ -124,6 +138,7 @@ module _ (P : Prog) (call : Calls) (asked : Asked) (calls : CallsKeep P call ask
     walk_keeps (t.Truth p b) way G env T fits h k = record { value = λ v e. subst (Has v) (sym h) (gives Boolean (Truth b) v e tt); no_default = tt }
     walk_keeps (t.Nil p) way G env T fits h k = record { value = λ v e. gives T Empty v e (empty_list way T h); no_default = tt }
     walk_keeps (t.Leaf p) way G env T fits h k = record { value = λ v e. gives T Empty v e (empty_tree way T h); no_default = tt }
+    walk_keeps (t.Nothing p) way G env T fits h k = record { value = λ v e. gives T Empty v e (no_value way T h); no_default = tt }
     walk_keeps (t.Var p x) way G env T fits h k = record { value = λ v e. gives T _ v e (k.at x T h).0; no_default = (k.at x T h).1 }
     walk_keeps (t.Arith p op a b) way G env T fits h k =
         let ka = walk_keeps a Checking G env Integer fits.1 h.1 k in
@@ -183,6 +198,12 @@ module _ (P : Prog) (call : Calls) (asked : Asked) (calls : CallsKeep P call ask
               subst (Has v) (sym h.1) (gives (TreeOf h.0) _ v r.2 (ka.value p.0 p.1, kb.value q.0 q.1, kc.value r.0 r.1));
           no_default = (ka.no_default, kb.no_default, kc.no_default);
         }
+    walk_keeps (t.Just p a) way G env T fits h k =
+        let ka = walk_keeps a way G env h.0 fits.1 h.2 k in
+        record {
+          value = λ v e. let p = then_inv (walk call a env) _ v e in subst (Has v) (sym h.1) (gives (OptionOf h.0) _ v p.2 (ka.value p.0 p.1));
+          no_default = ka.no_default;
+        }
     walk_keeps (t.Call p f args) way G env T fits h k =
         let ks = all_keep args G env (types_of h.0) fits.1 h.3 k in
         record {
@@ -237,6 +258,16 @@ module _ (P : Prog) (call : Calls) (asked : Asked) (calls : CallsKeep P call ask
         record {
           value = λ v e. let p = then_inv (walk call c env) _ v e in tree_has p.0 v A T _ _ (kc.value p.0 p.1) ka.value (λ s l r hs hl hr. (kb s l r hs hl hr).value) p.2;
           no_default = (kc.no_default, (λ v e. taken_tree v A _ _ (kc.value v e) ka.no_default (λ s l r hs hl hr. (kb s l r hs hl hr).no_default)));
+        }
+    walk_keeps (t.MatchOption p c a x b) way G env T fits h k =
+        let A = h.0 in
+        let kc = walk_keeps c Finding G env (OptionOf A) fits.1 h.1 k in
+        let ka = walk_keeps a way G env T fits.2 h.2 k in
+        let kb : (s : Value) → Has s A → Keeps T (walk call b ((x.name, s) ∷ env)) (NoDefault call asked b ((x.name, s) ∷ env)) =
+        λ s hs. walk_keeps b Checking ((x.name, A) ∷ G) ((x.name, s) ∷ env) T fits.3 h.3 (holds_more x.name A s G env hs k) in
+        record {
+          value = λ v e. let p = then_inv (walk call c env) _ v e in option_has p.0 v A T _ _ (kc.value p.0 p.1) ka.value (λ s hs. (kb s hs).value) p.2;
+          no_default = (kc.no_default, (λ v e. taken_option v A _ _ (kc.value v e) ka.no_default (λ s hs. (kb s hs).no_default)));
         }
     walk_keeps (t.Tick p n a) way G env T fits h k = let ka = walk_keeps a way G env T fits.1 h k in record { value = ka.value; no_default = ka.no_default }
     walk_keeps (t.Typed p a A) way G env T fits h k =

@@ -3,7 +3,7 @@ use Rattle.std.specs.Prelude.{◌≡◌, ℕ, zero, suc, List, [], ◌∷◌, le
 use Rattle.std.specs.Str.{bytes_eq}
 use Rattle.raml_syntax.specs.Tree as t
 use Rattle.raml_syntax.specs.Tree.{Text, Bound, Function, Prog}
-use Rattle.raml_syntax.specs.Value.{Value, Number, Truth, Both, Empty, Cons, Node}
+use Rattle.raml_syntax.specs.Value.{Value, Number, Truth, Both, Empty, Cons, Node, Just}
 use Rattle.raml_syntax.specs.Eval.{Run, Env, Calls, walk, walk_all, find, names_of, bind_all, calls_at}
 
 -- each value that the run gives
@@ -43,6 +43,11 @@ TakenTree Empty A F = A
 TakenTree (Node e l r) A F = F e l r
 TakenTree _ A F = ⊥
 
+abbrev pub TakenOption : Value → Type 0 → (Value → Type 0) → Type 0
+TakenOption Empty A F = A
+TakenOption (Just v) A F = F v
+TakenOption _ A F = ⊥
+
 -- what is asked of a call
 abbrev pub Asked : Type 1
 Asked = Text → List Value → Type 0
@@ -55,6 +60,7 @@ module _ (call : Calls) (asked : Asked) where
     NoDefault (t.Truth p b) env = Unit {0}
     NoDefault (t.Nil p) env = Unit {0}
     NoDefault (t.Leaf p) env = Unit {0}
+    NoDefault (t.Nothing p) env = Unit {0}
     NoDefault (t.Var p x) env = IsBound x env
     NoDefault (t.Arith p op a b) env = NoDefault a env × NoDefault b env × Each (walk call a env) IsNumber × Each (walk call b env) IsNumber
     NoDefault (t.Compare p op a b) env = NoDefault a env × NoDefault b env × Each (walk call a env) IsNumber × Each (walk call b env) IsNumber
@@ -62,6 +68,7 @@ module _ (call : Calls) (asked : Asked) where
     NoDefault (t.Pair p a b) env = NoDefault a env × NoDefault b env
     NoDefault (t.Cons p a b) env = NoDefault a env × NoDefault b env
     NoDefault (t.Node p a b c) env = NoDefault a env × NoDefault b env × NoDefault c env
+    NoDefault (t.Just p a) env = NoDefault a env
     NoDefault (t.Call p f args) env = NoDefaults args env × Each (walk_all call args env) (asked f)
     NoDefault (t.Let p x a b) env = NoDefault a env × Each (walk call a env) (λ v. NoDefault b ((x.name, v) ∷ env))
     NoDefault (t.LetPair p x y a b) env =
@@ -71,6 +78,8 @@ module _ (call : Calls) (asked : Asked) where
         NoDefault c env × Each (walk call c env) (λ v. TakenList v (NoDefault a env) (λ h r. NoDefault b ((y.name, r) ∷ (x.name, h) ∷ env)))
     NoDefault (t.MatchTree p c a x y z b) env =
         NoDefault c env × Each (walk call c env) (λ v. TakenTree v (NoDefault a env) (λ e l r. NoDefault b ((z.name, r) ∷ (y.name, l) ∷ (x.name, e) ∷ env)))
+    NoDefault (t.MatchOption p c a x b) env =
+        NoDefault c env × Each (walk call c env) (λ v. TakenOption v (NoDefault a env) (λ w. NoDefault b ((x.name, w) ∷ env)))
     NoDefault (t.Tick p k a) env = NoDefault a env
     NoDefault (t.Typed p a A) env = NoDefault a env
 

@@ -9,7 +9,7 @@ use Rattle.raml_syntax.specs.declared.tree.ArithOp.TheVariants.{Add, Sub, Mul, D
 use Rattle.raml_syntax.specs.declared.tree.CompareOp.TheVariants.{Equal, Less, AtMost}
 use Rattle.raml_syntax.specs.Tree as t
 use Rattle.raml_syntax.specs.Tree.{Text, ArithOp, CompareOp, Parameter, Function, Prog}
-use Rattle.raml_syntax.specs.Value.{Value, Number, Truth, Both, Empty, Cons, Node}
+use Rattle.raml_syntax.specs.Value.{Value, Number, Truth, Both, Empty, Cons, Node, Just}
 
 -- what an evaluation gives: a value, or none where it was cut, and what it cost so far
 pub record Run (A : Type 0) : Type 0 where
@@ -108,7 +108,7 @@ abbrev pub pair_case : {A : Type 0} → Value → A → (Value → Value → A) 
 pair_case (Both v w) a f = f v w
 pair_case _ a f = a
 
--- by default the list, or the tree, is empty
+-- by default the list, the tree or the option is empty
 abbrev pub list_case : {A : Type 0} → Value → A → (Value → Value → A) → A
 list_case (Cons h r) a f = f h r
 list_case _ a f = a
@@ -116,6 +116,10 @@ list_case _ a f = a
 abbrev pub tree_case : {A : Type 0} → Value → A → (Value → Value → Value → A) → A
 tree_case (Node e l r) a f = f e l r
 tree_case _ a f = a
+
+abbrev pub option_case : {A : Type 0} → Value → A → (Value → A) → A
+option_case (Just v) a f = f v
+option_case _ a f = a
 
 -- what a call of a function with some arguments gives
 abbrev pub Calls : Type 0
@@ -128,6 +132,7 @@ abbrev mutual
   walk call (t.Truth p b) env = node (done (Truth b))
   walk call (t.Nil p) env = node (done Empty)
   walk call (t.Leaf p) env = node (done Empty)
+  walk call (t.Nothing p) env = node (done Empty)
   walk call (t.Var p x) env = node (done (look x env))
   walk call (t.Arith p op a b) env = node (and_then (walk call a env) (λ v. and_then (walk call b env) (λ w. done (arith op v w))))
   walk call (t.Compare p op a b) env = node (and_then (walk call a env) (λ v. and_then (walk call b env) (λ w. done (compare op v w))))
@@ -136,6 +141,7 @@ abbrev mutual
   walk call (t.Cons p a b) env = node (and_then (walk call a env) (λ v. and_then (walk call b env) (λ w. new_cell (Cons v w))))
   walk call (t.Node p a b c) env =
       node (and_then (walk call a env) (λ u. and_then (walk call b env) (λ v. and_then (walk call c env) (λ w. new_cell (Node u v w)))))
+  walk call (t.Just p a) env = node (and_then (walk call a env) (λ v. new_cell (Just v)))
   walk call (t.Call p f args) env = node (and_then (walk_all call args env) (call f))
   walk call (t.Let p x a b) env = node (and_then (walk call a env) (λ v. walk call b ((x.name, v) ∷ env)))
   walk call (t.LetPair p x y a b) env =
@@ -145,6 +151,8 @@ abbrev mutual
       node (and_then (walk call c env) (λ v. list_case v (walk call a env) (λ h r. walk call b ((y.name, r) ∷ (x.name, h) ∷ env))))
   walk call (t.MatchTree p c a x y z b) env =
       node (and_then (walk call c env) (λ v. tree_case v (walk call a env) (λ e l r. walk call b ((z.name, r) ∷ (y.name, l) ∷ (x.name, e) ∷ env))))
+  walk call (t.MatchOption p c a x b) env =
+      node (and_then (walk call c env) (λ v. option_case v (walk call a env) (λ w. walk call b ((x.name, w) ∷ env))))
   walk call (t.Tick p k a) env = node (costs k 0 0 (walk call a env))
   walk call (t.Typed p a A) env = walk call a env
 

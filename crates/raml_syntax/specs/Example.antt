@@ -4,7 +4,7 @@ use Rattle.raml_syntax.specs.declared.tree.ArithOp.TheVariants.{Add, Sub, Mul, D
 use Rattle.raml_syntax.specs.declared.tree.CompareOp.TheVariants.{Equal, Less, AtMost}
 use Rattle.raml_syntax.specs.Tree as t
 use Rattle.raml_syntax.specs.Tree.{Text, Integer, Bound, Parameter, Function, Prog}
-use Rattle.raml_syntax.specs.Value.{Value, Number, Truth, Both, Empty, Cons, Node, size}
+use Rattle.raml_syntax.specs.Value.{Value, Number, Truth, Both, Empty, Cons, Node, Just, size}
 use Rattle.raml_syntax.specs.Eval.{Run, arith, compare, eval, run_of}
 
 -- a value, and a cut, with ticks, cells and work
@@ -120,6 +120,13 @@ pub record Examples : Type 0 where
   pub tree : at 0 (t.MatchTree 0 (t.Node 0 (num 1) (t.Leaf 0) (t.Leaf 0)) (num 0) (bound x) (bound y) (bound z) (var x)) ≡ gives one 0 1 6
   -- match node(2, leaf, node(1, leaf, leaf)) with leaf -> leaf | node(x, y, z) -> z
   pub right_tree : at 0 (t.MatchTree 0 two_nodes (t.Leaf 0) (bound x) (bound y) (bound z) (var z)) ≡ gives (Node one Empty Empty) 0 2 9
+  -- some(1) takes its cell after its part, and some(f(0)) takes none
+  pub just : at 0 (t.Just 0 (num 1)) ≡ gives (Just one) 0 1 2
+  pub just_cut : at 0 (t.Just 0 (call f (num 0))) ≡ cuts 0 0 3
+  -- match some(1) with none -> 2 | some(x) -> x
+  pub option : at 0 (t.MatchOption 0 (t.Just 0 (num 1)) (num 2) (bound x) (var x)) ≡ gives one 0 1 4
+  -- match none with none -> 1 | some(x) -> x
+  pub no_option : at 0 (t.MatchOption 0 (t.Nothing 0) (num 1) (bound x) (var x)) ≡ gives one 0 0 3
   -- of a name that a pattern or the parameters have twice, the last is meant: let (x, x) = (2, 1) in x
   pub pair_of_one_name : at 0 (t.LetPair 0 (bound x) (bound x) (t.Pair 0 (num 2) (num 1)) (var x)) ≡ gives one 0 1 5
   -- match 2 :: nil with nil -> 0 | x :: x -> x
@@ -136,9 +143,10 @@ pub record Examples : Type 0 where
   pub run : run_of program three (one ∷ []) 0 ≡ gives one 3 0 3
   -- a run that never ends is cut at every limit
   pub never_ends : run_of program spin (one ∷ []) 2 ≡ cuts 3 0 10
-  -- sizes: 1, the empty list, (1, (1, 1)), [[1], [1, 1]], and a tree of two nodes
+  -- sizes: 1, the empty list, (1, (1, 1)), [[1], [1, 1]], a tree of two nodes, and some(some(1))
   pub size_of_number : size one ≡ 0
   pub size_of_empty : size Empty ≡ 0
   pub size_of_pairs : size (Both one (Both one one)) ≡ 2
   pub size_of_lists : size (Cons (Cons one Empty) (Cons (Cons one (Cons one Empty)) Empty)) ≡ 5
   pub size_of_tree : size (Node one (Node one Empty Empty) Empty) ≡ 2
+  pub size_of_option : size (Just (Just one)) ≡ 2

@@ -14,12 +14,14 @@ abbrev mutual
   nodes (t.Pair p a b) = 1 + nodes a + nodes b
   nodes (t.Cons p a b) = 1 + nodes a + nodes b
   nodes (t.Node p a b c) = 1 + nodes a + nodes b + nodes c
+  nodes (t.Just p a) = 1 + nodes a
   nodes (t.Call p f args) = 1 + nodes_of_all args
   nodes (t.Let p x a b) = 1 + nodes a + nodes b
   nodes (t.LetPair p x y a b) = 1 + nodes a + nodes b
   nodes (t.If p c a b) = 1 + nodes c + nodes a + nodes b
   nodes (t.MatchList p c a x y b) = 1 + nodes c + nodes a + nodes b
   nodes (t.MatchTree p c a x y z b) = 1 + nodes c + nodes a + nodes b
+  nodes (t.MatchOption p c a x b) = 1 + nodes c + nodes a + nodes b
   nodes (t.Tick p k a) = 1 + nodes a
   nodes (t.Typed p a A) = 1 + nodes a
   nodes _ = 1
@@ -39,6 +41,7 @@ module _ (Q : t.Term → Type 0) where
     AllNodes (t.Number p n) = Q (t.Number p n)
     AllNodes (t.Truth p b) = Q (t.Truth p b)
     AllNodes (t.Nil p) = Q (t.Nil p)
+    AllNodes (t.Nothing p) = Q (t.Nothing p)
     AllNodes (t.Leaf p) = Q (t.Leaf p)
     AllNodes (t.Var p x) = Q (t.Var p x)
     AllNodes (t.Arith p op a b) = Q (t.Arith p op a b) × AllNodes a × AllNodes b
@@ -47,12 +50,14 @@ module _ (Q : t.Term → Type 0) where
     AllNodes (t.Pair p a b) = Q (t.Pair p a b) × AllNodes a × AllNodes b
     AllNodes (t.Cons p a b) = Q (t.Cons p a b) × AllNodes a × AllNodes b
     AllNodes (t.Node p a b c) = Q (t.Node p a b c) × AllNodes a × AllNodes b × AllNodes c
+    AllNodes (t.Just p a) = Q (t.Just p a) × AllNodes a
     AllNodes (t.Call p f args) = Q (t.Call p f args) × AllOf args
     AllNodes (t.Let p x a b) = Q (t.Let p x a b) × AllNodes a × AllNodes b
     AllNodes (t.LetPair p x y a b) = Q (t.LetPair p x y a b) × AllNodes a × AllNodes b
     AllNodes (t.If p c a b) = Q (t.If p c a b) × AllNodes c × AllNodes a × AllNodes b
     AllNodes (t.MatchList p c a x y b) = Q (t.MatchList p c a x y b) × AllNodes c × AllNodes a × AllNodes b
     AllNodes (t.MatchTree p c a x y z b) = Q (t.MatchTree p c a x y z b) × AllNodes c × AllNodes a × AllNodes b
+    AllNodes (t.MatchOption p c a x b) = Q (t.MatchOption p c a x b) × AllNodes c × AllNodes a × AllNodes b
     AllNodes (t.Tick p k a) = Q (t.Tick p k a) × AllNodes a
     AllNodes (t.Typed p a A) = Q (t.Typed p a A) × AllNodes a
 

@@ -25,6 +25,7 @@ ty_step y.Bool = t.Boolean
 ty_step (y.Pair a b) = t.PairOf a.value b.value
 ty_step (y.List a) = t.ListOf a.value
 ty_step (y.Tree a) = t.TreeOf a.value
+ty_step (y.Opt a) = t.OptionOf a.value
 
 abbrev pub ty_of : Ty → t.Type'
 ty_of = fold-Ty t.Type' ty_step
@@ -42,6 +43,7 @@ form_step (f.Number n) p = t.Number p n
 form_step (f.Truth b) p = t.Truth p b
 form_step f.Nil p = t.Nil p
 form_step f.Leaf p = t.Leaf p
+form_step f.Nothing p = t.Nothing p
 form_step (f.Var x) p = t.Var p x
 form_step (f.Arith o a b) p = t.Arith p o a.value b.value
 form_step (f.Compare o a b) p = t.Compare p o a.value b.value
@@ -49,12 +51,14 @@ form_step (f.Not a) p = t.Not p a.value
 form_step (f.Pair a b) p = t.Pair p a.value b.value
 form_step (f.Cons a b) p = t.Cons p a.value b.value
 form_step (f.Node a b c) p = t.Node p a.value b.value c.value
+form_step (f.Just a) p = t.Just p a.value
 form_step (f.Call g es) p = t.Call p g (terms es.items)
 form_step (f.Let x a b) p = t.Let p (bound_of x) a.value b.value
 form_step (f.LetPair x y a b) p = t.LetPair p (bound_of x) (bound_of y) a.value b.value
 form_step (f.If a b c) p = t.If p a.value b.value c.value
 form_step (f.MatchList a b x y c) p = t.MatchList p a.value b.value (bound_of x) (bound_of y) c.value
 form_step (f.MatchTree a b x y z c) p = t.MatchTree p a.value b.value (bound_of x) (bound_of y) (bound_of z) c.value
+form_step (f.MatchOption a b x c) p = t.MatchOption p a.value b.value (bound_of x) c.value
 form_step (f.Tick n a) p = t.Tick p n a.value
 form_step (f.Typed a A) p = t.Typed p a.value (ty_of A)
 
@@ -93,6 +97,8 @@ value_step (o.Pair a b) = v.Both a.value b.value
 value_step (o.List xs) = list_value xs.items
 value_step o.Leaf = v.Empty
 value_step (o.Node a b c) = v.Node a.value b.value c.value
+value_step o.Nothing = v.Empty
+value_step (o.Just a) = v.Just a.value
 
 abbrev pub value_of : Value → v.Value
 value_of = fold-Value v.Value value_step

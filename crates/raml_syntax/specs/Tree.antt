@@ -13,6 +13,7 @@ pub data Type' : Type 0 where
   PairOf : Type' → Type' → Type'
   ListOf : Type' → Type'
   TreeOf : Type' → Type'
+  OptionOf : Type' → Type'
 
 -- a name that is bound, and the place where it stands
 pub record Bound : Type 0 where
@@ -26,6 +27,7 @@ mutual
     Truth : ℕ → Bool → Term
     Nil : ℕ → Term
     Leaf : ℕ → Term
+    Nothing : ℕ → Term
     Var : ℕ → Text → Term
     Arith : ℕ → ArithOp → Term → Term → Term
     Compare : ℕ → CompareOp → Term → Term → Term
@@ -33,12 +35,14 @@ mutual
     Pair : ℕ → Term → Term → Term
     Cons : ℕ → Term → Term → Term
     Node : ℕ → Term → Term → Term → Term
+    Just : ℕ → Term → Term
     Call : ℕ → Text → Terms → Term
     Let : ℕ → Bound → Term → Term → Term
     LetPair : ℕ → Bound → Bound → Term → Term → Term
     If : ℕ → Term → Term → Term → Term
     MatchList : ℕ → Term → Term → Bound → Bound → Term → Term
     MatchTree : ℕ → Term → Term → Bound → Bound → Bound → Term → Term
+    MatchOption : ℕ → Term → Term → Bound → Term → Term
     Tick : ℕ → ℕ → Term → Term
     Typed : ℕ → Term → Type' → Term
 

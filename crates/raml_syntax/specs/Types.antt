@@ -3,7 +3,7 @@ use Rattle.std.specs.Prelude.{◌≡◌, List, [], ◌∷◌, map, cond, Option,
 use Rattle.std.specs.List.{All, Contains}
 use Rattle.std.specs.Str.{bytes_eq}
 use Rattle.raml_syntax.specs.Tree as t
-use Rattle.raml_syntax.specs.Tree.{Text, Type', Integer, Boolean, PairOf, ListOf, TreeOf, Bound, Parameter, Function, Prog}
+use Rattle.raml_syntax.specs.Tree.{Text, Type', Integer, Boolean, PairOf, ListOf, TreeOf, OptionOf, Bound, Parameter, Function, Prog}
 use Rattle.raml_syntax.specs.Eval.{find, names_of}
 
 -- variables and their types, the newest first
@@ -34,11 +34,14 @@ IsListType T = (A : Type') × (T ≡ ListOf A)
 abbrev pub IsTreeType : Type' → Type 0
 IsTreeType T = (A : Type') × (T ≡ TreeOf A)
 
+abbrev pub IsOptionType : Type' → Type 0
+IsOptionType T = (A : Type') × (T ≡ OptionOf A)
+
 pub data Way : Type 0 where
   Finding : Way
   Checking : Way
 
--- `nil` and `leaf` have every type of their kind, so that none is found for them
+-- `nil`, `leaf` and `none` have every type of their kind, so that none is found for them
 abbrev pub OnlyChecked : Way → Type 0 → Type 0
 OnlyChecked Finding F = ⊥
 OnlyChecked Checking F = F
@@ -53,6 +56,7 @@ module _ (P : Prog) where
     HasType way G (t.Truth p b) T = T ≡ Boolean
     HasType way G (t.Nil p) T = OnlyChecked way (IsListType T)
     HasType way G (t.Leaf p) T = OnlyChecked way (IsTreeType T)
+    HasType way G (t.Nothing p) T = OnlyChecked way (IsOptionType T)
     HasType way G (t.Var p x) T = type_at x G ≡ Some T
     HasType way G (t.Arith p op a b) T = (T ≡ Integer) × HasType Checking G a Integer × HasType Checking G b Integer
     HasType way G (t.Compare p op a b) T = (T ≡ Boolean) × HasType Checking G a Integer × HasType Checking G b Integer
@@ -61,6 +65,7 @@ module _ (P : Prog) where
     HasType way G (t.Cons p a b) T = (A : Type') × (T ≡ ListOf A) × HasType way G a A × HasType Checking G b (ListOf A)
     HasType way G (t.Node p a b c) T =
         (A : Type') × (T ≡ TreeOf A) × HasType way G a A × HasType Checking G b (TreeOf A) × HasType Checking G c (TreeOf A)
+    HasType way G (t.Just p a) T = (A : Type') × (T ≡ OptionOf A) × HasType way G a A
     HasType way G (t.Call p f args) T = (g : Function) × (find f P ≡ Some g) × (T ≡ g.result) × CheckEach G args (types_of g)
     HasType way G (t.Let p x a b) T = (A : Type') × HasType Finding G a A × HasType way ((x.name, A) ∷ G) b T
     HasType way G (t.LetPair p x y a b) T =
@@ -70,6 +75,8 @@ module _ (P : Prog) where
         (A : Type') × Differ (x.name ∷ y.name ∷ []) × HasType Finding G c (ListOf A) × HasType way G a T × HasType Checking ((y.name, ListOf A) ∷ (x.name, A) ∷ G) b T
     HasType way G (t.MatchTree p c a x y z b) T =
         (A : Type') × Differ (x.name ∷ y.name ∷ z.name ∷ []) × HasType Finding G c (TreeOf A) × HasType way G a T × HasType Checking ((z.name, TreeOf A) ∷ (y.name, TreeOf A) ∷ (x.name, A) ∷ G) b T
+    HasType way G (t.MatchOption p c a x b) T =
+        (A : Type') × HasType Finding G c (OptionOf A) × HasType way G a T × HasType Checking ((x.name, A) ∷ G) b T
     HasType way G (t.Tick p k a) T = HasType way G a T
     HasType way G (t.Typed p a A) T = (T ≡ A) × HasType Checking G a A
 

@@ -47,6 +47,8 @@ pub enum Form {
     Truth(bool),
     Nil,
     Leaf,
+    /// `none`.
+    Nothing,
     Var(Name),
     /// An operator, its left and its right operand.
     Arith(ArithOp, Box<Expr>, Box<Expr>),
@@ -58,6 +60,8 @@ pub enum Form {
     Cons(Box<Expr>, Box<Expr>),
     /// An element with the trees to its left and to its right.
     Node(Box<Expr>, Box<Expr>, Box<Expr>),
+    /// `some` of a value.
+    Just(Box<Expr>),
     /// A call of the function of this name.
     Call(Name, Vec<Expr>),
     /// `let x = bound in rest`.
@@ -70,6 +74,8 @@ pub enum Form {
     MatchList(Box<Expr>, Box<Expr>, Binder, Binder, Box<Expr>),
     /// `match subject with leaf -> empty | node(element, left, right) -> rest`, in this order.
     MatchTree(Box<Expr>, Box<Expr>, Binder, Binder, Binder, Box<Expr>),
+    /// `match subject with none -> empty | some(content) -> rest`, in this order.
+    MatchOption(Box<Expr>, Box<Expr>, Binder, Box<Expr>),
     /// A number of ticks, and then the expression.
     Tick(u32, Box<Expr>),
     /// An expression with its type.

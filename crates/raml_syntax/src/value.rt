@@ -11,4 +11,8 @@ pub enum Value {
     Leaf,
     /// An element with the trees to its left and to its right.
     Node(Box<Value>, Box<Value>, Box<Value>),
+    /// `none`.
+    Nothing,
+    /// `some` of a value.
+    Just(Box<Value>),
 }

@@ -4,7 +4,7 @@ use Rattle.std.specs.Prelude.{slice_get}
 use Rattle.value_text.specs.declared.word.Word.{Word}
 use Rattle.value_text.specs.declared.word.Word.TheVariants.{Int, Bool, Empty, Cell}
 use Rattle.value_text.specs.declared.word.Cell as c
-use Rattle.value_text.specs.declared.word.Cell.TheVariants.{Cons, Pair, Node}
+use Rattle.value_text.specs.declared.word.Cell.TheVariants.{Cons, Pair, Node, Just}
 use Rattle.value_text.specs.Heap.{IsBelow, NamesBelow, NameEarlierFrom, NameEarlier}
 
 pub below_more : (n m : ℕ) (word : Word) → n ≤ m → IsBelow n word → IsBelow m word
@@ -17,6 +17,7 @@ pub names_more : (n m : ℕ) (cell : c.Cell) → n ≤ m → NamesBelow n cell �
 names_more n m (Cons a b) le h = (below_more n m a le h.0, below_more n m b le h.1)
 names_more n m (Pair a b) le h = (below_more n m a le h.0, below_more n m b le h.1)
 names_more n m (Node a b d) le h = (below_more n m a le h.0, below_more n m b le h.1, below_more n m d le h.2)
+names_more n m (Just a) le h = below_more n m a le h
 
 earlier_snoc : (n : ℕ) (cells : List c.Cell) (cell : c.Cell) → NameEarlierFrom n cells → NamesBelow (n + length cells) cell → NameEarlierFrom n (cells ++ cell ∷ [])
 earlier_snoc n [] cell h below = let same : n + 0 ≡ n = omega arith in (subst (λ k. NamesBelow k cell) same below, tt)
