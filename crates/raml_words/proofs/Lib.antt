@@ -1,4 +1,5 @@
 pub mod Pieces
 pub mod Numbers
+pub mod Given
 pub mod Sorts
 pub mod Worded

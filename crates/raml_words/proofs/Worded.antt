@@ -1,15 +1,15 @@
 -- What is read of the words is what they ask for.
-use Rattle.std.proofs.Common.{◌≡◌, ◌≤◌, ◌<◌, ◌-◌, ◌≢◌, ℕ, zero, suc, Bool, true, false, cond, List, [], ◌∷◌, length, take, drop, Option, Some, None, refl, sym, ap, subst, ◌∙◌, arith}
+use Rattle.std.proofs.Common.{◌≡◌, ◌≤◌, ◌<◌, ◌-◌, ◌≢◌, ℕ, zero, suc, Bool, true, false, cond, List, [], ◌∷◌, length, take, drop, Option, Some, None, ⊎_elim, refl, sym, ap, subst, ◌∙◌, arith}
 use Rattle.std.proofs.lemmas.List.{take_all}
 use Rattle.std.specs.Prelude.{codes, slice_index_or, option_map, option_and_then, IfSome, IfNone}
 use Rattle.std.specs.List.{Contains}
 use Rattle.std.specs.Borrow.{Bor}
 use Rattle.std.specs.Str.{bytes_eq}
 use Rattle.std.proofs.lemmas.Slice.Eq.{bytes_eq-Decides}
-use Rattle.raml_syntax.specs.Tree.{Text}
-use Rattle.raml_words.specs.Words.{Request, Types, Analyse, Run, texts, Sorted, IsNumber, StepsGiven, Asks, AsksNothing}
-use Rattle.raml_words.specs.Sorting.{Arguments, halves, arguments, number_up_to, steps_in, types_in, bounds_in, run_in, request_by, request_in}
-use Rattle.raml_words.proofs.Numbers.{number_read, number_there}
+use Rattle.raml_words.specs.Words.{Text, Request, Types, Code, Analyse, Run, texts, Sorted, IsNumber, Once, AsksOfFile, Asks, AsksNothing}
+use Rattle.raml_words.specs.Sorting.{Arguments, halves, arguments, number_in, once, steps_in, cells_in, file_in, bounds_in, run_by, run_in, run_options, request_by, request_in}
+use Rattle.raml_words.proofs.Numbers.{number_is, number_there}
+use Rattle.raml_words.proofs.Given.{gives_from, gives_to, once_from, once_to, one_of_two, few_options}
 use Rattle.raml_words.proofs.Sorts.{Plain, each_named, arguments_are, arguments_of}
 
 -- the first word, and those behind it
@@ -38,50 +38,63 @@ one_option option plain some = λ name h. subst (λ n. (halves n ≡ None) × (n
 degree_plain : Plain (codes "degree" ∷ [])
 degree_plain = one_option (codes "degree") refl (λ e. absurd (cc))
 
-steps_plain : Plain (codes "steps" ∷ [])
-steps_plain = one_option (codes "steps") refl (λ e. absurd (cc))
+run_plain : Plain run_options
+run_plain name h =
+    ⊎_elim (λ e. subst Good e (refl, λ q. absurd (cc))) (λ e. subst Good e (refl, λ q. absurd (cc))) (one_of_two (codes "steps") (codes "cells") name h)
+  where
+    Good : Text → Type 0
+    Good n = (halves n ≡ None) × (n ≢ [])
 
 -- What each command makes of the words behind it is what they ask for.
-types_asked : (words : List Text) (r : Request) (given : Arguments) → Sorted [] words given.0 given.1 → types_in given ≡ Some r → Asks (codes "types" ∷ words) r
-types_asked words r (file ∷ [], []) h e = let same : Types file ≡ r = cc in subst (λ s. Asks (codes "types" ∷ words) s) same (record { rest = words; command = refl; sorted = h })
-types_asked words r ([], values) h e = absurd (cc)
-types_asked words r (file ∷ [], value ∷ values) h e = absurd (cc)
-types_asked words r (file ∷ again ∷ operands, values) h e = absurd (cc)
+file_asked : (name : Text) (asked : Text → Request) → ((words : List Text) (file : Text) → AsksOfFile name words file → Asks words (asked file)) → (words : List Text) (r : Request) (given : Arguments) → Sorted [] words given.0 given.1 → file_in asked given ≡ Some r → Asks (name ∷ words) r
+file_asked name asked asks words r (file ∷ [], []) h e =
+    let same : asked file ≡ r = cc in
+    subst (Asks (name ∷ words)) same (asks (name ∷ words) file (record { rest = words; command = refl; sorted = h }))
+file_asked name asked asks words r ([], values) h e = absurd (cc)
+file_asked name asked asks words r (file ∷ [], value ∷ values) h e = absurd (cc)
+file_asked name asked asks words r (file ∷ again ∷ operands, values) h e = absurd (cc)
 
 bounds_asked : (words : List Text) (r : Request) (given : Arguments) → Sorted (codes "degree" ∷ []) words given.0 given.1 → bounds_in given ≡ Some r → Asks (codes "analyse" ∷ words) r
-bounds_asked words r (file ∷ [], (name, value) ∷ []) h e = by (number_up_to 4 value) (number_read 4 value) e
+bounds_asked words r (file ∷ [], (name, value) ∷ []) h e = by (number_in 1 4 value) (number_is 1 4 value) e
   where
     is_degree : name ≡ codes "degree"
     is_degree = the_option (codes "degree") name (each_named (codes "degree" ∷ []) words (file ∷ []) ((name, value) ∷ []) h).0
 
-    by : (o : Option ℕ) → ((n : ℕ) → o ≡ Some n → IsNumber value n × (1 ≤ n) × (n ≤ 4)) → option_map (Analyse file) o ≡ Some r → Asks (codes "analyse" ∷ words) r
+    by : (o : Option ℕ) → ((n : ℕ) → o ≡ Some n → IsNumber 1 4 value n) → option_map (Analyse file) o ≡ Some r → Asks (codes "analyse" ∷ words) r
     by (Some degree) read e =
         let same : Analyse file degree ≡ r = cc in
-        let n = read degree refl in
-        subst (λ s. Asks (codes "analyse" ∷ words) s) same (record { rest = words; command = refl; value = value; sorted = subst (λ m. Sorted (codes "degree" ∷ []) words (file ∷ []) ((m, value) ∷ [])) is_degree h; number = n.0; positive = n.1; small = n.2 })
+        subst (λ s. Asks (codes "analyse" ∷ words) s) same (record { rest = words; command = refl; value = value; sorted = subst (λ m. Sorted (codes "degree" ∷ []) words (file ∷ []) ((m, value) ∷ [])) is_degree h; number = read degree refl })
     by None read e = absurd (cc)
 bounds_asked words r ([], values) h e = absurd (cc)
 bounds_asked words r (file ∷ [], []) h e = absurd (cc)
 bounds_asked words r (file ∷ [], value ∷ again ∷ values) h e = absurd (cc)
 bounds_asked words r (file ∷ again ∷ operands, values) h e = absurd (cc)
 
-steps_given : (values : List (Text × Text)) (steps : ℕ) → steps_in values ≡ Some steps → StepsGiven values steps
-steps_given [] steps e = cc
-steps_given (value ∷ []) steps e = number_read 1000000000 value.1 steps e
-steps_given (value ∷ again ∷ values) steps e = absurd (cc)
+run_asked_by : (words : List Text) (r : Request) (operands : List Text) (values : List (Text × Text)) → Sorted run_options words operands values → Once values → (steps cells : Option ℕ) → steps_in values ≡ steps → cells_in values ≡ cells → run_by operands steps cells ≡ Some r → Asks (codes "run" ∷ words) r
+run_asked_by words r (file ∷ name ∷ data_file ∷ []) values h o (Some steps) (Some cells) p q e =
+    let same : Run file name data_file steps cells ≡ r = cc in
+    subst (λ s. Asks (codes "run" ∷ words) s) same (record {
+      rest = words;
+      command = refl;
+      values = values;
+      sorted = h;
+      once = o;
+      steps_given = gives_from (codes "steps") 1 1000000000 10000000 values steps p;
+      cells_given = gives_from (codes "cells") 0 16777216 1048576 values cells q;
+    })
+run_asked_by words r (file ∷ name ∷ data_file ∷ []) values h o None cells p q e = absurd (cc)
+run_asked_by words r (file ∷ name ∷ data_file ∷ []) values h o (Some steps) None p q e = absurd (cc)
+run_asked_by words r [] values h o steps cells p q e = absurd (cc)
+run_asked_by words r (a ∷ []) values h o steps cells p q e = absurd (cc)
+run_asked_by words r (a ∷ b ∷ []) values h o steps cells p q e = absurd (cc)
+run_asked_by words r (a ∷ b ∷ c ∷ d ∷ operands) values h o steps cells p q e = absurd (cc)
 
-run_asked : (words : List Text) (r : Request) (given : Arguments) → Sorted (codes "steps" ∷ []) words given.0 given.1 → run_in given ≡ Some r → Asks (codes "run" ∷ words) r
-run_asked words r (file ∷ name ∷ data_file ∷ [], values) h e = by (steps_in values) (steps_given values) e
+run_asked : (words : List Text) (r : Request) (given : Arguments) → Sorted run_options words given.0 given.1 → run_in given ≡ Some r → Asks (codes "run" ∷ words) r
+run_asked words r given h e = by (once given.1) (once_from given.1) e
   where
-    by : (o : Option ℕ) → ((steps : ℕ) → o ≡ Some steps → StepsGiven values steps) → option_map (Run file name data_file) o ≡ Some r → Asks (codes "run" ∷ words) r
-    by (Some steps) read e =
-        let same : Run file name data_file steps ≡ r = cc in
-        subst (λ s. Asks (codes "run" ∷ words) s) same (record { rest = words; command = refl; values = values; sorted = h; number = read steps refl })
-    by None read e = absurd (cc)
-run_asked words r ([], values) h e = absurd (cc)
-run_asked words r (file ∷ [], values) h e = absurd (cc)
-run_asked words r (file ∷ name ∷ [], values) h e = absurd (cc)
-run_asked words r (file ∷ name ∷ data_file ∷ again ∷ operands, values) h e = absurd (cc)
+    by : (t : Bool) → (t ≡ true → Once given.1) → cond t (run_by given.0 (steps_in given.1) (cells_in given.1)) None ≡ Some r → Asks (codes "run" ∷ words) r
+    by true o e = run_asked_by words r given.0 given.1 h (o refl) _ _ refl refl e
+    by false o e = absurd (cc)
 
 -- what the words behind a command are read as
 sorted_as : {R : Type 0} (options words : List Text) (of_given : Arguments → Option R) (r : R) (Q : Type 0) → ((given : Arguments) → Sorted options words given.0 given.1 → of_given given ≡ Some r → Q) → option_and_then of_given (arguments options words) ≡ Some r → Q
@@ -91,36 +104,40 @@ sorted_as options words of_given r Q then e = by (arguments options words) (argu
     by (Some given) sorted e = then given (sorted given refl) e
     by None sorted e = absurd (cc)
 
-command_asked : (command : Text) (words : List Text) (r : Request) → request_by command words ≡ Some r → Asks (command ∷ words) r
-command_asked command words r e = by (bytes_eq command (codes "types")) (bytes_eq-Decides command (codes "types")).0 (bytes_eq command (codes "analyse")) (bytes_eq-Decides command (codes "analyse")).0 (bytes_eq command (codes "run")) (bytes_eq-Decides command (codes "run")).0 e
-  where
-    named : (name : Text) → command ≡ name → Asks (name ∷ words) r → Asks (command ∷ words) r
-    named name same h = subst (λ c. Asks (c ∷ words) r) (sym same) h
+-- the command of this name, or else what follows
+module _ (command : Text) (words : List Text) (r : Request) where
+  asked_if : (name : Text) (named other : Option Request) → (named ≡ Some r → Asks (name ∷ words) r) → (other ≡ Some r → Asks (command ∷ words) r) → cond (bytes_eq command name) named other ≡ Some r → Asks (command ∷ words) r
+  asked_if name named other asks others e = by (bytes_eq command name) (bytes_eq-Decides command name).0 e
+    where
+      by : (t : Bool) → (t ≡ true → command ≡ name) → cond t named other ≡ Some r → Asks (command ∷ words) r
+      by true is e = subst (λ c. Asks (c ∷ words) r) (sym (is refl)) (asks e)
+      by false is e = others e
 
-    by : (t : Bool) → (t ≡ true → command ≡ codes "types") → (a : Bool) → (a ≡ true → command ≡ codes "analyse") → (u : Bool) → (u ≡ true → command ≡ codes "run")
-        → cond t (option_and_then types_in (arguments [] words)) (cond a (option_and_then bounds_in (arguments (codes "degree" ∷ []) words)) (cond u (option_and_then run_in (arguments (codes "steps" ∷ []) words)) None)) ≡ Some r → Asks (command ∷ words) r
-    by true is a is2 u is3 e = named (codes "types") (is refl) (sorted_as [] words types_in r (Asks (codes "types" ∷ words) r) (types_asked words r) e)
-    by false is true is2 u is3 e = named (codes "analyse") (is2 refl) (sorted_as (codes "degree" ∷ []) words bounds_in r (Asks (codes "analyse" ∷ words) r) (bounds_asked words r) e)
-    by false is false is2 true is3 e = named (codes "run") (is3 refl) (sorted_as (codes "steps" ∷ []) words run_in r (Asks (codes "run" ∷ words) r) (run_asked words r) e)
-    by false is false is2 false is3 e = absurd (cc)
+  command_asked : request_by command words ≡ Some r → Asks (command ∷ words) r
+  command_asked =
+      asked_if (codes "types") _ _ (sorted_as [] words (file_in Types) r _ (file_asked (codes "types") Types (λ ws file h. h) words r))
+      (asked_if (codes "code") _ _ (sorted_as [] words (file_in Code) r _ (file_asked (codes "code") Code (λ ws file h. h) words r))
+      (asked_if (codes "analyse") _ _ (sorted_as (codes "degree" ∷ []) words bounds_in r _ (bounds_asked words r))
+      (asked_if (codes "run") _ _ (sorted_as run_options words run_in r _ (run_asked words r))
+      (λ e. absurd (cc)))))
 
 -- and what they ask for is read
-steps_there : (values : List (Text × Text)) (steps : ℕ) → StepsGiven values steps → (steps_in values ≡ Some steps) × (length values ≤ 3)
-steps_there [] steps h = (ap Some (sym h), omega arith)
-steps_there (value ∷ []) steps h = (number_there 1000000000 value.1 steps h.0 h.1 h.2, omega arith)
-steps_there (value ∷ again ∷ values) steps h = absurd h
+file_there : (name : Text) (words : List Text) (file : Text) (asked : Text → Request) → (h : AsksOfFile name words file) → option_and_then (file_in asked) (arguments [] h.rest) ≡ Some (asked file)
+file_there name words file asked h = ap (option_and_then (file_in asked)) (arguments_of [] h.rest (file ∷ []) [] no_option h.sorted (omega arith) (omega arith))
 
 request_read : (words : List Text) (r : Request) → Asks words r → request_in words ≡ Some r
-request_read words (Types file) h =
-    let given = arguments_of [] h.rest (file ∷ []) [] no_option h.sorted (omega arith) (omega arith) in
-    ap request_in h.command ∙ ap (option_and_then types_in) given
+request_read words (Types file) h = ap request_in h.command ∙ file_there (codes "types") words file Types h
+request_read words (Code file) h = ap request_in h.command ∙ file_there (codes "code") words file Code h
 request_read words (Analyse file degree) h =
     let given = arguments_of (codes "degree" ∷ []) h.rest (file ∷ []) ((codes "degree", h.value) ∷ []) degree_plain h.sorted (omega arith) (omega arith) in
-    ap request_in h.command ∙ ap (option_and_then bounds_in) given ∙ ap (option_map (Analyse file)) (number_there 4 h.value degree h.number h.positive h.small)
-request_read words (Run file name data_file steps) h =
-    let there = steps_there h.values steps h.number in
-    let given = arguments_of (codes "steps" ∷ []) h.rest (file ∷ name ∷ data_file ∷ []) h.values steps_plain h.sorted (omega arith) there.1 in
-    ap request_in h.command ∙ ap (option_and_then run_in) given ∙ ap (option_map (Run file name data_file)) there.0
+    ap request_in h.command ∙ ap (option_and_then bounds_in) given ∙ ap (option_map (Analyse file)) (number_there 1 4 h.value degree h.number)
+request_read words (Run file name data_file steps cells) h =
+    let few = few_options (codes "steps") (codes "cells") h.values h.once (each_named run_options h.rest (file ∷ name ∷ data_file ∷ []) h.values h.sorted) in
+    let given = arguments_of run_options h.rest (file ∷ name ∷ data_file ∷ []) h.values run_plain h.sorted (omega arith) few in
+    let s = gives_to (codes "steps") 1 1000000000 10000000 h.values steps h.once h.steps_given in
+    let c = gives_to (codes "cells") 0 16777216 1048576 h.values cells h.once h.cells_given in
+    let made : run_in (file ∷ name ∷ data_file ∷ [], h.values) ≡ Some (Run file name data_file steps cells) = rw (once_to h.values h.once) (rw (s, c) refl) in
+    ap request_in h.command ∙ ap (option_and_then run_in) given ∙ made
 
 -- words ask for one thing at most
 pub one_request : (words : List Text) (r s : Request) → Asks words r → Asks words s → r ≡ s

@@ -3,6 +3,7 @@
 
 pub mod laws;
 mod number;
+mod options;
 mod request;
 mod sorting;
 
