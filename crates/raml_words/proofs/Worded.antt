@@ -72,7 +72,7 @@ bounds_asked words r (file ∷ again ∷ operands, values) h e = absurd (cc)
 
 run_asked_by : (words : List Text) (r : Request) (operands : List Text) (values : List (Text × Text)) → Sorted run_options words operands values → Once values → (steps cells : Option ℕ) → steps_in values ≡ steps → cells_in values ≡ cells → run_by operands steps cells ≡ Some r → Asks (codes "run" ∷ words) r
 run_asked_by words r (file ∷ name ∷ data_file ∷ []) values h o (Some steps) (Some cells) p q e =
-    let same : Run file name data_file steps cells ≡ r = cc in
+    let same : Run file name data_file (record { steps = steps; cells = cells }) ≡ r = cc in
     subst (λ s. Asks (codes "run" ∷ words) s) same (record {
       rest = words;
       command = refl;
@@ -131,12 +131,12 @@ request_read words (Code file) h = ap request_in h.command ∙ file_there (codes
 request_read words (Analyse file degree) h =
     let given = arguments_of (codes "degree" ∷ []) h.rest (file ∷ []) ((codes "degree", h.value) ∷ []) degree_plain h.sorted (omega arith) (omega arith) in
     ap request_in h.command ∙ ap (option_and_then bounds_in) given ∙ ap (option_map (Analyse file)) (number_there 1 4 h.value degree h.number)
-request_read words (Run file name data_file steps cells) h =
+request_read words (Run file name data_file limits) h =
     let few = few_options (codes "steps") (codes "cells") h.values h.once (each_named run_options h.rest (file ∷ name ∷ data_file ∷ []) h.values h.sorted) in
     let given = arguments_of run_options h.rest (file ∷ name ∷ data_file ∷ []) h.values run_plain h.sorted (omega arith) few in
-    let s = gives_to (codes "steps") 1 1000000000 10000000 h.values steps h.once h.steps_given in
-    let c = gives_to (codes "cells") 0 16777216 1048576 h.values cells h.once h.cells_given in
-    let made : run_in (file ∷ name ∷ data_file ∷ [], h.values) ≡ Some (Run file name data_file steps cells) = rw (once_to h.values h.once) (rw (s, c) refl) in
+    let s = gives_to (codes "steps") 1 1000000000 10000000 h.values limits.steps h.once h.steps_given in
+    let c = gives_to (codes "cells") 0 16777216 1048576 h.values limits.cells h.once h.cells_given in
+    let made : run_in (file ∷ name ∷ data_file ∷ [], h.values) ≡ Some (Run file name data_file limits) = rw (once_to h.values h.once) (rw (s, c) refl) in
     ap request_in h.command ∙ ap (option_and_then run_in) given ∙ made
 
 -- words ask for one thing at most

@@ -7,7 +7,7 @@ mod options;
 mod request;
 mod sorting;
 
-pub use request::{Request, read_words};
+pub use request::{Limits, Request, read_words};
 
 #[cfg(test)]
 mod tests;
