@@ -24,7 +24,7 @@ behind_of d x w e h s = rule_of grammar (read grammar 0 d) 0 d (infix_rule x) (e
 abbrev pub base_of : ℕ → List Token → Answer Token Part
 base_of d s = pick (starts_at grammar Types 0 s) (λ r. if nat_le (parts r) d then formed (rule_of grammar (read grammar 0 d) 0 d r (opening grammar s) (rest_of s)) else Err (TooDeep, s)) (Err (Syntax, s))
 
--- the same with `list` and `tree` behind it
+-- the same with `list`, `tree` and `option` behind it
 abbrev pub postfix_of : ℕ → List Token → Answer Token Part
 postfix_of d s = base_of d s >>= (λ y. goes_on Types d 0 [] y.0 y.1 y.2)
 

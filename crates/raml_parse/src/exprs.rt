@@ -4,7 +4,7 @@ ghost use Rattle.token_grammar.specs.Rules.{Done};
 ghost use Rattle.token_grammar.specs.Reading.{read, level_of, rule_of, list_of, formed, parts};
 ghost use Rattle.token_grammar.specs.declared.Kind.TheVariants.{TooDeep};
 ghost use Rattle.raml_syntax.specs.Read.{term_of};
-ghost use Rattle.raml_parse.specs.Table.{grammar, Exprs, expr_level, expr, key, inner_act, args_rule, name_rule, node_rule, trees_rule, not_rule, parens_rule, closing_rule, inner_rule, pair_rule, typed_rule, let_rule, let_one_rule, let_names_rule, let_pair_rule, if_rule, branches_rule, match_rule, cases_rule, list_cases_rule, list_case_rule, tree_cases_rule, tree_case_rule, tree_names_rule, tick_rule, At, Phrase};
+ghost use Rattle.raml_parse.specs.Table.{grammar, Exprs, expr_level, expr, key, inner_act, args_rule, name_rule, node_rule, trees_rule, some_rule, not_rule, parens_rule, closing_rule, inner_rule, pair_rule, typed_rule, let_rule, let_one_rule, let_names_rule, let_pair_rule, if_rule, branches_rule, match_rule, cases_rule, list_cases_rule, list_case_rule, option_cases_rule, option_case_rule, tree_cases_rule, tree_case_rule, tree_names_rule, tick_rule, At, Phrase};
 ghost use Rattle.raml_parse.specs.Steps.{more_on, behind_of, operators_of};
 ghost use Rattle.raml_parse.specs.Forms.{start_rule, simple_rule, compound_rule, infix_rule};
 ghost use Rattle.raml_parse.specs.Read.{Gives, pieces, phrase, boxed, phrases, named_part};
@@ -204,6 +204,7 @@ fn parse_simple<'a>(
         Simple::Truth(value) => Ok((make::truth(at, value), 1, tokens)),
         Simple::Nil => Ok((make::nil(at), 1, tokens)),
         Simple::Leaf => Ok((make::leaf(at), 1, tokens)),
+        Simple::Nothing => Ok((make::nothing(at), 1, tokens)),
     }
 }
 
@@ -223,6 +224,7 @@ fn parse_compound<'a>(
 {
     match form {
         Compound::Node => parse_node(alloc, depth, at, tokens),
+        Compound::Just => parse_some(alloc, depth, at, tokens),
         Compound::Not => parse_not(alloc, depth, at, tokens),
         Compound::Parens => parse_parens(alloc, depth, at, tokens),
         Compound::Let => parse_let(alloc, depth, at, tokens),
@@ -331,6 +333,19 @@ fn parse_trees<'a>(
         left_height.max(right_height),
         rest,
     ))
+}
+
+// What stands behind `some`.
+#[cycle(expression)]
+fn parse_some<'a>(alloc: Global, depth: u32, at: Pos, tokens: &'a [Piece]) -> Found<'a>
+    requires { suc depth < 2 ^ 30 }
+    ensures same { Gives phrase result (formed (rule_of grammar (read grammar 0 depth) 0 depth some_rule (At at.0 ∷ []) (pieces tokens.now))) }
+    ensures low { IfOk result (λ x. x.1 ≤ suc depth) }
+{
+    let rest = take_sign(tokens, Sign::Open)?;
+    let (content, height, rest) = parse_part(alloc, depth, rest)?;
+    let rest = take_sign(rest, Sign::Close)?;
+    Ok((make::just(at, content), 1 + height, rest))
 }
 
 // What stands behind `not`.
@@ -547,10 +562,13 @@ fn parse_cases<'a>(
     ensures same { Gives phrase result (rule_of grammar (read grammar 0 depth) 0 depth cases_rule (Phrase (term_of subject.value) ∷ At at.0 ∷ []) (pieces tokens.now)) }
     ensures low { IfOk result (λ x. x.1 ≤ depth) }
 {
-    match behind(tokens, Sign::Nil) {
-        Some(rest) => parse_list_cases(alloc, depth, at, subject, rest),
-        None => parse_tree_cases(alloc, depth, at, subject, tokens),
+    if let Some(rest) = behind(tokens, Sign::Nil) {
+        return parse_list_cases(alloc, depth, at, subject, rest);
     }
+    if let Some(rest) = behind(tokens, Sign::Nothing) {
+        return parse_option_cases(alloc, depth, at, subject, rest);
+    }
+    parse_tree_cases(alloc, depth, at, subject, tokens)
 }
 
 // What stands behind the `nil` of the cases of a list.
@@ -569,6 +587,25 @@ fn parse_list_cases<'a>(
     let rest = take_sign(tokens, Sign::Arrow)?;
     let (empty, height, rest) = parse_part(alloc, depth, rest)?;
     let (whole, rest_height, rest) = parse_list_case(alloc, depth, at, subject, empty, rest)?;
+    Ok((whole, height.max(rest_height), rest))
+}
+
+// What stands behind the `none` of the cases of an option.
+#[cycle(expression)]
+fn parse_option_cases<'a>(
+    alloc: Global,
+    depth: u32,
+    at: Pos,
+    subject: Box<Expr>,
+    tokens: &'a [Piece],
+) -> Found<'a>
+    requires { depth < 2 ^ 30 }
+    ensures same { Gives phrase result (rule_of grammar (read grammar 0 depth) 0 depth option_cases_rule (Phrase (term_of subject.value) ∷ At at.0 ∷ []) (pieces tokens.now)) }
+    ensures low { IfOk result (λ x. x.1 ≤ depth) }
+{
+    let rest = take_sign(tokens, Sign::Arrow)?;
+    let (empty, height, rest) = parse_part(alloc, depth, rest)?;
+    let (whole, rest_height, rest) = parse_option_case(alloc, depth, at, subject, empty, rest)?;
     Ok((whole, height.max(rest_height), rest))
 }
 
@@ -613,6 +650,31 @@ fn parse_list_case<'a>(
     let rest = take_sign(rest, Sign::Arrow)?;
     let (body, height, rest) = parse_part(alloc, depth, rest)?;
     let whole = make::list_cases(alloc, at, subject, empty, head, tail, body)?;
+    Ok((whole, height, rest))
+}
+
+// The case of an option with a content.
+#[cycle(expression)]
+fn parse_option_case<'a>(
+    alloc: Global,
+    depth: u32,
+    at: Pos,
+    subject: Box<Expr>,
+    empty: Box<Expr>,
+    tokens: &'a [Piece],
+) -> Found<'a>
+    requires { depth < 2 ^ 30 }
+    ensures same { Gives phrase result (rule_of grammar (read grammar 0 depth) 0 depth option_case_rule (Phrase (term_of empty.value) ∷ Phrase (term_of subject.value) ∷ At at.0 ∷ []) (pieces tokens.now)) }
+    ensures low { IfOk result (λ x. x.1 ≤ depth) }
+{
+    let rest = take_sign(tokens, Sign::Bar)?;
+    let rest = take_sign(rest, Sign::Just)?;
+    let rest = take_sign(rest, Sign::Open)?;
+    let (content, rest) = take_name(rest)?;
+    let rest = take_sign(rest, Sign::Close)?;
+    let rest = take_sign(rest, Sign::Arrow)?;
+    let (body, height, rest) = parse_part(alloc, depth, rest)?;
+    let whole = make::option_cases(alloc, at, subject, empty, content, body)?;
     Ok((whole, height, rest))
 }
 

@@ -20,12 +20,16 @@ pub enum Simple<'a> {
     Truth(bool),
     Nil,
     Leaf,
+    /// `none`.
+    Nothing,
 }
 
 /// A form that has parts, by its first token.
 #[derive(Clone, Copy)]
 pub enum Compound {
     Node,
+    /// `some`.
+    Just,
     Not,
     Parens,
     Let,
@@ -59,7 +63,9 @@ impl<'a> Start<'a> {
             Sign::False => Some(Start::Simple(Simple::Truth(false))),
             Sign::Nil => Some(Start::Simple(Simple::Nil)),
             Sign::Leaf => Some(Start::Simple(Simple::Leaf)),
+            Sign::Nothing => Some(Start::Simple(Simple::Nothing)),
             Sign::Node => Some(Start::Compound(Compound::Node)),
+            Sign::Just => Some(Start::Compound(Compound::Just)),
             Sign::Not => Some(Start::Compound(Compound::Not)),
             Sign::Open => Some(Start::Compound(Compound::Parens)),
             Sign::Let => Some(Start::Compound(Compound::Let)),
@@ -90,8 +96,8 @@ impl<'a> Start<'a> {
     {
         match self {
             Start::Compound(Compound::Let | Compound::If | Compound::Match | Compound::Tick) => 4,
-            Start::Compound(Compound::Node | Compound::Not | Compound::Parens) | Start::Simple(_) =>
-                0,
+            Start::Compound(Compound::Node | Compound::Just | Compound::Not | Compound::Parens)
+            | Start::Simple(_) => 0,
         }
     }
 
@@ -197,6 +203,7 @@ pub enum TypeStart {
 pub enum Suffix {
     List,
     Tree,
+    Option,
 }
 
 impl TypeStart {
@@ -258,6 +265,13 @@ impl Suffix {
                 },
                 rest @ ..,
             ] => Some((Suffix::Tree, rest)),
+            [
+                Piece {
+                    word: Word::Sign(Sign::Option),
+                    ..
+                },
+                rest @ ..,
+            ] => Some((Suffix::Option, rest)),
             _ => None,
         }
     }

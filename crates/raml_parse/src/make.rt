@@ -23,6 +23,12 @@ pub fn tree_type(alloc: Global, element: Ty) -> Result<Ty, AllocError>
     Ok(Ty::Tree(Box::new(alloc, element)?))
 }
 
+pub fn option_type(alloc: Global, content: Ty) -> Result<Ty, AllocError>
+    ensures { IfOk result (λ a. ty_of a ≡ t.OptionOf (ty_of content)) }
+{
+    Ok(Ty::Opt(Box::new(alloc, content)?))
+}
+
 pub fn pair_type(alloc: Global, first: Ty, second: Ty) -> Result<Ty, AllocError>
     ensures { IfOk result (λ a. ty_of a ≡ t.PairOf (ty_of first) (ty_of second)) }
 {
@@ -65,6 +71,16 @@ pub fn leaf(at: Pos) -> Expr
     }
 }
 
+/// `none`.
+pub fn nothing(at: Pos) -> Expr
+    ensures { term_of result ≡ t.Nothing at.0 }
+{
+    Expr {
+        at,
+        form: Form::Nothing,
+    }
+}
+
 pub fn variable(alloc: Global, at: Pos, name: &Name) -> Result<Expr, AllocError>
     ensures { IfOk result (λ e. term_of e ≡ t.Var at.0 name.now) }
 {
@@ -96,6 +112,16 @@ pub fn node(at: Pos, element: Box<Expr>, left: Box<Expr>, right: Box<Expr>) -> E
     Expr {
         at,
         form: Form::Node(element, left, right),
+    }
+}
+
+/// `some` of its content.
+pub fn just(at: Pos, content: Box<Expr>) -> Expr
+    ensures { term_of result ≡ t.Just at.0 (term_of content.value) }
+{
+    Expr {
+        at,
+        form: Form::Just(content),
     }
 }
 
@@ -219,6 +245,24 @@ pub fn tree_cases(
     Ok(Expr {
         at,
         form: Form::MatchTree(subject, empty, element, left, right, rest),
+    })
+}
+
+/// The cases of an option: where it is `none`, and where it has a content.
+pub fn option_cases(
+    alloc: Global,
+    at: Pos,
+    subject: Box<Expr>,
+    empty: Box<Expr>,
+    content: NameAt,
+    rest: Box<Expr>,
+) -> Result<Expr, AllocError>
+    ensures { IfOk result (λ e. term_of e ≡ t.MatchOption at.0 (term_of subject.value) (term_of empty.value) (bound_at content.entry) (term_of rest.value)) }
+{
+    let content = binder(alloc, content)?;
+    Ok(Expr {
+        at,
+        form: Form::MatchOption(subject, empty, content, rest),
     })
 }
 

@@ -18,6 +18,10 @@ pub enum Sign {
     Nil,
     Leaf,
     Node,
+    /// `none`.
+    Nothing,
+    /// `some`.
+    Just,
     True,
     False,
     Not,
@@ -28,6 +32,7 @@ pub enum Sign {
     Bool,
     List,
     Tree,
+    Option,
     Open,
     Close,
     Comma,
@@ -74,6 +79,8 @@ pub fn sign_named(word: &str) -> Sign
         "nil" => Sign::Nil,
         "leaf" => Sign::Leaf,
         "node" => Sign::Node,
+        "none" => Sign::Nothing,
+        "some" => Sign::Just,
         _ => word_named(word),
     }
 }
@@ -93,6 +100,7 @@ fn word_named(word: &str) -> Sign
         "bool" => Sign::Bool,
         "list" => Sign::List,
         "tree" => Sign::Tree,
+        "option" => Sign::Option,
         _ => symbol_named(word),
     }
 }

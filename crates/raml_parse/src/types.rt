@@ -99,7 +99,7 @@ fn parse_base<'a>(alloc: Global, depth: u32, tokens: &'a [Piece]) -> FoundType<'
     }
 }
 
-// The type with what stands behind it of `list` and `tree`.
+// The type with what stands behind it of `list`, `tree` and `option`.
 #[cycle(suffixes)]
 fn parse_suffixes<'a>(
     alloc: Global,
@@ -129,5 +129,6 @@ fn with_suffix(alloc: Global, base: Ty, suffix: Suffix) -> Result<Ty, AllocError
     match suffix {
         Suffix::List => make::list_type(alloc, base),
         Suffix::Tree => make::tree_type(alloc, base),
+        Suffix::Option => make::option_type(alloc, base),
     }
 }

@@ -55,6 +55,9 @@ decreases-parse_node l = l.depth * (4 * l.depth + 90) + 14
 abbrev pub decreases-parse_trees : goal.decreases-parse_trees
 decreases-parse_trees l = l.depth * (4 * l.depth + 90) + 13
 
+abbrev pub decreases-parse_some : goal.decreases-parse_some
+decreases-parse_some l = l.depth * (4 * l.depth + 90) + 14
+
 abbrev pub decreases-parse_not : goal.decreases-parse_not
 decreases-parse_not l = l.depth * (4 * l.depth + 90) + 14
 
@@ -94,11 +97,17 @@ decreases-parse_cases l = l.depth * (4 * l.depth + 90) + 13
 abbrev pub decreases-parse_list_cases : goal.decreases-parse_list_cases
 decreases-parse_list_cases l = l.depth * (4 * l.depth + 90) + 12
 
+abbrev pub decreases-parse_option_cases : goal.decreases-parse_option_cases
+decreases-parse_option_cases l = l.depth * (4 * l.depth + 90) + 12
+
 abbrev pub decreases-parse_tree_cases : goal.decreases-parse_tree_cases
 decreases-parse_tree_cases l = l.depth * (4 * l.depth + 90) + 12
 
 abbrev pub decreases-parse_list_case : goal.decreases-parse_list_case
 decreases-parse_list_case l = l.depth * (4 * l.depth + 90) + 11
+
+abbrev pub decreases-parse_option_case : goal.decreases-parse_option_case
+decreases-parse_option_case l = l.depth * (4 * l.depth + 90) + 11
 
 abbrev pub decreases-parse_tree_case : goal.decreases-parse_tree_case
 decreases-parse_tree_case l = l.depth * (4 * l.depth + 90) + 11
