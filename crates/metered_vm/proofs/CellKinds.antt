@@ -8,7 +8,7 @@ use Rattle.value_text.specs.declared.word.Word.{Word}
 use Rattle.value_text.specs.declared.word.Word.TheVariants.{Cell}
 use Rattle.value_text.specs.declared.word.Cell as c
 use Rattle.value_text.specs.Heap.{NamesBelow, NameEarlier}
-use Rattle.value_text.specs.Held.{Held, ConsOf, PairOf, NodeOf, value_held, value_of, held_of, held}
+use Rattle.value_text.specs.Held.{Held, ConsOf, PairOf, NodeOf, JustOf, value_held, value_of, held_of, held}
 use Rattle.value_text.proofs.Earlier.{names_more, names_earlier}
 use Rattle.value_text.proofs.Holding.{held_is}
 
@@ -16,11 +16,13 @@ pub not_number : (h : Held) → IsNumber (value_held h) → ⊥
 not_number (ConsOf v w) is = is
 not_number (PairOf v w) is = is
 not_number (NodeOf u v w) is = is
+not_number (JustOf v) is = is
 
 pub not_truth : (h : Held) → IsTruth (value_held h) → ⊥
 not_truth (ConsOf v w) is = is
 not_truth (PairOf v w) is = is
 not_truth (NodeOf u v w) is = is
+not_truth (JustOf v) is = is
 
 -- the value of a word that names a cell, and that cell's words
 pub read_word : (cells : List c.Cell) (w : Word) (i : ℕ) (cell : c.Cell) → w ≡ Cell i → NameEarlier cells → slice_get cells i ≡ Some cell → (value_of (held cells) w ≡ value_held (held_of (held cells) cell)) × NamesBelow (length cells) cell

@@ -7,6 +7,7 @@ use Rattle.stack_compile.specs.Code.{Body}
 use Rattle.stack_compile.specs.Machine.{Config, Going, Halted, State, Move, act, moved}
 use Rattle.stack_compile.specs.Ready.{Finds}
 use Rattle.stack_compile.specs.declared.instr.Instr.{Instr}
+use Rattle.stack_compile.specs.declared.instr.Instr.TheVariants as instr
 use Rattle.stack_compile.specs.declared.instr.Instr.TheVariants.{Pair, Cons, Node, Call}
 use Rattle.metered_vm.specs.Running.{state_of, state_with, stack_in, locals_in}
 use Rattle.metered_vm.specs.declared.machine.Machine.{Machine}
@@ -44,6 +45,7 @@ abbrev pub TakesCell : Option Instr → Type 0
 TakesCell (Some Pair) = Unit {0}
 TakesCell (Some Cons) = Unit {0}
 TakesCell (Some Node) = Unit {0}
+TakesCell (Some instr.Some) = Unit {0}
 TakesCell _ = ⊥
 
 -- a value pushed

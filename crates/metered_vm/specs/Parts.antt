@@ -19,6 +19,11 @@ AreListParts cells w (Some p) =
     let hs = held cells in
     (value_of hs w ≡ v.Cons (value_of hs p.0) (value_of hs p.1)) × IsBelow (length cells) p.0 × IsBelow (length cells) p.1
 
+-- for the option of a content, or for `none`
+abbrev pub IsContent : List Cell → Word → Option Word → Type 0
+IsContent cells w None = value_of (held cells) w ≡ v.Empty
+IsContent cells w (Some a) = (value_of (held cells) w ≡ v.Just (value_of (held cells) a)) × IsBelow (length cells) a
+
 -- for the tree of element, left and right tree, or for a leaf
 abbrev pub AreTreeParts : List Cell → Word → Option (Word × Word × Word) → Type 0
 AreTreeParts cells w None = value_of (held cells) w ≡ v.Empty

@@ -11,7 +11,7 @@ ghost use Rattle.metered_vm.specs.Running.{IsSound, HasRoom, Grew, Stays, stack_
 ghost use Rattle.metered_vm.specs.Moving.{CanMake, Makes, Pushes, PushesCell, Operates};
 
 use crate::machine::Machine;
-use crate::operands::{list_parts, number, pair_parts, pop, tree_parts, truth};
+use crate::operands::{content, list_parts, number, pair_parts, pop, tree_parts, truth};
 use raml_syntax::{ArithOp, CompareOp};
 use std::alloc::AllocError;
 use value_text::{Cell, Word};
@@ -282,6 +282,21 @@ pub fn node(m: &mut Machine)
     push_cell(m, Cell::Node(element, left, right));
 }
 
+/// Takes a cell for the content of `some`.
+#[tactic(auto, using(crate::proofs::Lists::stack_snoc, crate::proofs::Lists::length_stack, crate::proofs::Lists::below_init_is, crate::proofs::Lists::below_last_is))]
+pub fn some(m: &mut Machine)
+    requires sound { IsSound m.old }
+    requires finds { CanMake i.Some m.old }
+    requires free { m.old.cells < m.old.limit }
+    requires room { HasRoom m.old }
+    ensures does { Makes i.Some m.old m.new }
+    ensures grew { Grew m.old m.new }
+    ensures sound { IsSound m.new }
+{
+    let content = pop(&mut m.stack);
+    push_cell(m, Cell::Just(content));
+}
+
 /// Pops a pair and appends its parts to the locals.
 pub fn unpair(m: &mut Machine) -> Result<(), AllocError>
     requires sound { IsSound m.old }
@@ -345,6 +360,29 @@ pub fn case_tree(m: &mut Machine, to: u32) -> Result<(), AllocError>
             put(&mut m.locals, element);
             put(&mut m.locals, left);
             put(&mut m.locals, right);
+            m.place += 1;
+        }
+        None => m.place = to as usize,
+    }
+    Ok(())
+}
+
+/// Pops an option: goes to a place where it is `none`, and else appends the content to the locals.
+pub fn case_option(m: &mut Machine, to: u32) -> Result<(), AllocError>
+    requires sound { IsSound m.old }
+    requires finds { CanMake (i.CaseOption to) m.old }
+    requires room { HasRoom m.old }
+    ensures does { OnOk result (Makes (i.CaseOption to) m.old m.new) }
+    ensures grew { OnOk result (Grew m.old m.new) }
+    ensures stays { OnErr result (Stays m.old m.new) }
+    ensures sound { IsSound m.new }
+{
+    m.locals.reserve(1)?;
+    m.made += 1;
+    let word = pop(&mut m.stack);
+    match content(&m.heap, word) {
+        Some(content) => {
+            put(&mut m.locals, content);
             m.place += 1;
         }
         None => m.place = to as usize,

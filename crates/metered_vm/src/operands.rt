@@ -2,12 +2,12 @@
 ghost use Rattle.std.specs.Prelude.{◌≡◌, ◌+◌, ◌<◌, List, [], ◌∷◌, ◌++◌, length, vec_len, vec_capacity};
 ghost use Rattle.raml_syntax.specs.Default.{IsNumber, IsTruth};
 ghost use Rattle.stack_compile.specs.Machine.{top};
-ghost use Rattle.stack_compile.specs.Ready.{TopIs, IsPair, IsList, IsTree};
+ghost use Rattle.stack_compile.specs.Ready.{TopIs, IsPair, IsList, IsTree, IsOption};
 ghost use Rattle.value_text.specs.Heap.{IsBelow};
 ghost use Rattle.value_text.specs.Held.{Held, value_of, held};
 ghost use Rattle.value_text.specs.declared.word.Word.TheVariants.{Int, Bool};
 ghost use Rattle.metered_vm.specs.Running.{stack_of};
-ghost use Rattle.metered_vm.specs.Parts.{AreParts, AreListParts, AreTreeParts};
+ghost use Rattle.metered_vm.specs.Parts.{AreParts, AreListParts, AreTreeParts, IsContent};
 
 use value_text::{Cell, DataHeap, Word};
 
@@ -67,6 +67,7 @@ pub fn pair_parts(heap: &DataHeap, word: Word) -> (Word, Word)
             Cell::Pair(first, second) => (first, second),
             Cell::Cons(_, _) => unreachable!(),
             Cell::Node(_, _, _) => unreachable!(),
+            Cell::Just(_) => unreachable!(),
         },
         Word::Int(_) => unreachable!(),
         Word::Bool(_) => unreachable!(),
@@ -85,6 +86,7 @@ pub fn list_parts(heap: &DataHeap, word: Word) -> Option<(Word, Word)>
             Cell::Cons(head, tail) => Some((head, tail)),
             Cell::Pair(_, _) => unreachable!(),
             Cell::Node(_, _, _) => unreachable!(),
+            Cell::Just(_) => unreachable!(),
         },
         Word::Empty => None,
         Word::Int(_) => unreachable!(),
@@ -103,6 +105,26 @@ pub fn tree_parts(heap: &DataHeap, word: Word) -> Option<(Word, Word, Word)>
             Cell::Node(element, left, right) => Some((element, left, right)),
             Cell::Cons(_, _) => unreachable!(),
             Cell::Pair(_, _) => unreachable!(),
+            Cell::Just(_) => unreachable!(),
+        },
+        Word::Empty => None,
+        Word::Int(_) => unreachable!(),
+        Word::Bool(_) => unreachable!(),
+    }
+}
+
+/// The content of an option, if it has one.
+pub fn content(heap: &DataHeap, word: Word) -> Option<Word>
+    requires option { IsOption (value_of (held heap.now.cells) word) }
+    requires below { IsBelow (length heap.now.cells) word }
+    ensures { IsContent heap.now.cells word result }
+{
+    match word {
+        Word::Cell(number) => match heap.get(number) {
+            Cell::Just(content) => Some(content),
+            Cell::Cons(_, _) => unreachable!(),
+            Cell::Pair(_, _) => unreachable!(),
+            Cell::Node(_, _, _) => unreachable!(),
         },
         Word::Empty => None,
         Word::Int(_) => unreachable!(),

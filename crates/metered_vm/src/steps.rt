@@ -86,9 +86,16 @@ fn step(code: &Code, m: &mut Machine) -> Result<Outcome, AllocError>
             }
             acts::node(m);
         }
+        Instr::Some => {
+            if is_full(m) {
+                return Ok(Outcome::Full);
+            }
+            acts::some(m);
+        }
         Instr::Unpair => acts::unpair(m)?,
         Instr::CaseList(to) => acts::case_list(m, to)?,
         Instr::CaseTree(to) => acts::case_tree(m, to)?,
+        Instr::CaseOption(to) => acts::case_option(m, to)?,
         Instr::Branch(to) => acts::fork(m, to),
         Instr::Jump(to) => acts::jump(m, to),
         Instr::Call(fun) => call(code, m, fun)?,

@@ -25,5 +25,11 @@ examples_hold = record {
   flat_empty = refl;
   flatten_halted = refl;
   qsort_halted = refl;
+  code_of_first = refl;
+  first_some = refl;
+  first_none = refl;
+  code_of_unwrap = refl;
+  unwrap_some = refl;
+  unwrap_none = refl;
   half_halted = refl;
 }

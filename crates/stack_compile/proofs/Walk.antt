@@ -4,9 +4,9 @@ use Rattle.raml_syntax.specs.Tree as t
 use Rattle.raml_syntax.specs.Tree.{Text, Prog}
 use Rattle.raml_syntax.specs.declared.tree.ArithOp.{ArithOp}
 use Rattle.raml_syntax.specs.declared.tree.ArithOp.TheVariants as op
-use Rattle.raml_syntax.specs.Value.{Value, Number, Truth, Both, Empty, Cons, Node}
-use Rattle.raml_syntax.specs.Eval.{Run, done, costs, and_then, node, cut, Env, look, arith as result_of, compare, negation, branch, pair_case, list_case, tree_case, Calls, walk, walk_all}
-use Rattle.raml_syntax.specs.Default.{IsNumber, Taken, TakenPair, TakenList, TakenTree, Asked, NoDefault, NoDefaults}
+use Rattle.raml_syntax.specs.Value.{Value, Number, Truth, Both, Empty, Cons, Node, Just}
+use Rattle.raml_syntax.specs.Eval.{Run, done, costs, and_then, node, cut, Env, look, arith as result_of, compare, negation, branch, pair_case, list_case, tree_case, option_case, Calls, walk, walk_all}
+use Rattle.raml_syntax.specs.Default.{IsNumber, Taken, TakenPair, TakenList, TakenTree, TakenOption, Asked, NoDefault, NoDefaults}
 use Rattle.stack_compile.specs.Code.{Code, one, seq, fork, local_of, fun_of, arith_code, bind_one, code_of, codes_of, Body}
 use Rattle.stack_compile.specs.Machine.{Config, Going, Frame, goes, act, fetch}
 use Rattle.stack_compile.specs.Ready.{Finds}
@@ -114,6 +114,16 @@ module _ (code : List Body) (P : Prog) (call : Calls) (asked : Asked) (n : ℕ) 
       (part_follows _ 1 (rb x y z) j q st ls h.jumps (unbind_follows b (rb x y z) ls (x ∷ y ∷ z ∷ []) (fb x y z taken) (m + 1) j st h.at_part))
   tree_follows _ S T subject a b ra rb ls taken fa fb p m j q st h = absurd taken
 
+  option_follows : (v : Value) (S : Type 0) (T : Value → Type 0) (subject a b : Code) (ra : Run Value) (rb : Value → Run Value) (ls : List Value) → TakenOption v S T → (S → CodeFollows a ra ls) → ((x : Value) → T x → CodeFollows b (rb x) (ls ++ x ∷ [])) → (p m j q : ℕ) (st : List Value) → ForkStands get subject i.CaseOption (seq b (one (i.Unbind 1))) a p m j q → Follows code 3 n (here m (v ∷ st) ls) (option_case v ra rb) (λ w. here q (w ∷ st) ls)
+  option_follows Empty S T subject a b ra rb ls taken fa fb p m j q st h =
+      follows_owing code 1 3 n _ ra _ (omega arith)
+      (follows_first code 0 n _ (here (j + 1) st ls) ra _ (comes_one code (i.CaseOption (j + 1)) f m (Empty ∷ st) ls fs 0 0 _ h.leaves tt refl)
+      (fa taken (j + 1) q st h.at_other))
+  option_follows (Just x) S T subject a b ra rb ls taken fa fb p m j q st h =
+      follows_first code 2 n _ (here (m + 1) st (ls ++ x ∷ [])) (rb x) _ (comes_one code (i.CaseOption (j + 1)) f m (Just x ∷ st) ls fs 0 0 _ h.leaves tt refl)
+      (part_follows _ 1 (rb x) j q st ls h.jumps (unbind_follows b (rb x) ls (x ∷ []) (fb x taken) (m + 1) j st h.at_part))
+  option_follows _ S T subject a b ra rb ls taken fa fb p m j q st h = absurd taken
+
   -- a fork, from its subject on
   fork_follows : (subject : Code) (leave : ℕ → Instr) (part other : Code) (r : Run Value) (next : Value → Run Value) (ls : List Value) → CodeFollows subject r ls → ((v : Value) → r.out ≡ Some v → (p m j q : ℕ) (st : List Value) → ForkStands get subject leave part other p m j q → Follows code 3 n (here m (v ∷ st) ls) (next v) (λ w. here q (w ∷ st) ls)) → CodeFollows (fork subject leave part other) (node (and_then r next)) ls
   fork_follows subject leave part other r next ls first ways p q st h =
@@ -129,6 +139,7 @@ module _ (code : List Body) (P : Prog) (call : Calls) (asked : Asked) (n : ℕ) 
     walk_follows (t.Truth _ b) env s = pushes (i.Bool b) (Truth b) (values env) (λ st. tt) (λ p st. refl)
     walk_follows (t.Nil _) env s = pushes i.Empty Empty (values env) (λ st. tt) (λ p st. refl)
     walk_follows (t.Leaf _) env s = pushes i.Empty Empty (values env) (λ st. tt) (λ p st. refl)
+    walk_follows (t.Nothing _) env s = pushes i.Empty Empty (values env) (λ st. tt) (λ p st. refl)
     walk_follows (t.Var _ x) env s =
         let l = look_is x env s in
         pushes (i.Load (local_of x (names env))) (look x env) (values env) (λ st. l.0) (λ p st. ap (λ v. goes (here (p + 1) (v ∷ st) (values env))) l.1)
@@ -157,6 +168,10 @@ module _ (code : List Body) (P : Prog) (call : Calls) (asked : Asked) (n : ℕ) 
         seq_follows 1 cb (seq cs (one i.Node)) (walk call b env) _ l q (u ∷ st) (values env) _ hb (walk_follows b env s.1) (λ m v ev hc.
         seq_follows 1 cs (one i.Node) (walk call c env) _ m q (v ∷ u ∷ st) (values env) _ hc (walk_follows c env s.2) (λ k w ew hi.
         follows_done code n _ (Node u v w) 0 1 _ (comes_next i.Node k q (w ∷ v ∷ u ∷ st) (values env) (Node u v w ∷ st) (values env) 1 hi (omega arith) refl)))))
+    walk_follows (t.Just _ a) env s = λ p q st h.
+        follows_node code 1 n _ _ _ (omega arith)
+        (seq_follows 1 (code_of P (names env) a) (one i.Some) (walk call a env) _ p q st (values env) _ h (walk_follows a env s) (λ m v ev hi.
+        follows_done code n _ (Just v) 0 1 _ (comes_next i.Some m q (v ∷ st) (values env) (Just v ∷ st) (values env) 1 hi (omega arith) refl)))
     walk_follows (t.Call _ g es) env s = λ p q st h.
         let m = p + length (codes_of P (names env) es p) in
         let hi = stands_back get p q (codes_of P (names env) es p) _ h in
@@ -192,6 +207,12 @@ module _ (code : List Body) (P : Prog) (call : Calls) (asked : Asked) (n : ℕ) 
         let cb = code_of P (bind_one (bind_one (bind_one (names env) x) y) z) b in
         fork_follows cs i.CaseTree (seq cb (one (i.Unbind 3))) ca (walk call c env) _ (values env) (walk_follows c env s.0) (λ v ev.
         tree_follows v _ _ cs ca cb (walk call a env) (λ e l r. walk call b ((z.name, r) ∷ (y.name, l) ∷ (x.name, e) ∷ env)) (values env) (s.1 v ev) (walk_follows a env) (λ e l r. walk_follows b ((z.name, r) ∷ (y.name, l) ∷ (x.name, e) ∷ env)))
+    walk_follows (t.MatchOption _ c a x b) env s =
+        let cs = code_of P (names env) c in
+        let ca = code_of P (names env) a in
+        let cb = code_of P (bind_one (names env) x) b in
+        fork_follows cs i.CaseOption (seq cb (one (i.Unbind 1))) ca (walk call c env) _ (values env) (walk_follows c env s.0) (λ v ev.
+        option_follows v _ _ cs ca cb (walk call a env) (λ w. walk call b ((x.name, w) ∷ env)) (values env) (s.1 v ev) (walk_follows a env) (λ w. walk_follows b ((x.name, w) ∷ env)))
     walk_follows (t.Tick _ k a) env s = λ p q st h.
         follows_node code 1 n _ _ _ (omega arith)
         (follows_tick code 0 n k _ (here (p + 1) st (values env)) (walk call a env) _ (comes_one code (i.Tick k) f p st (values env) fs k 0 _ h.0 tt refl) (walk_follows a env s (p + 1) q st h.1))

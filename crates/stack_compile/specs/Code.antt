@@ -9,7 +9,8 @@ use Rattle.raml_syntax.specs.Place.{place_of}
 use Rattle.raml_syntax.specs.declared.tree.ArithOp.TheVariants as op
 use Rattle.raml_syntax.specs.declared.program.FunId.{FunId}
 use Rattle.stack_compile.specs.declared.instr.Instr.{Instr}
-use Rattle.stack_compile.specs.declared.instr.Instr.TheVariants.{Int, Bool, Empty, Load, Bind, Unbind, Add, Sub, Mul, Div, Mod, Compare, Not, Pair, Cons, Node, Unpair, CaseList, CaseTree, Branch, Jump, Call, Return, Tick}
+use Rattle.stack_compile.specs.declared.instr.Instr.TheVariants as instr
+use Rattle.stack_compile.specs.declared.instr.Instr.TheVariants.{Int, Bool, Empty, Load, Bind, Unbind, Add, Sub, Mul, Div, Mod, Compare, Not, Pair, Cons, Node, Unpair, CaseList, CaseTree, CaseOption, Branch, Jump, Call, Return, Tick}
 
 -- instructions, by the place at which they begin, since jumps name places
 abbrev pub Code : Type 0
@@ -58,6 +59,7 @@ abbrev mutual
   code_of P xs (t.Truth p b) = one (Bool b)
   code_of P xs (t.Nil p) = one Empty
   code_of P xs (t.Leaf p) = one Empty
+  code_of P xs (t.Nothing p) = one Empty
   code_of P xs (t.Var p x) = one (Load (local_of x xs))
   code_of P xs (t.Arith p o a b) = seq (code_of P xs a) (seq (code_of P xs b) (one (arith_code o)))
   code_of P xs (t.Compare p o a b) = seq (code_of P xs a) (seq (code_of P xs b) (one (Compare o)))
@@ -65,6 +67,7 @@ abbrev mutual
   code_of P xs (t.Pair p a b) = seq (code_of P xs a) (seq (code_of P xs b) (one Pair))
   code_of P xs (t.Cons p a b) = seq (code_of P xs a) (seq (code_of P xs b) (one Cons))
   code_of P xs (t.Node p a b c) = seq (code_of P xs a) (seq (code_of P xs b) (seq (code_of P xs c) (one Node)))
+  code_of P xs (t.Just p a) = seq (code_of P xs a) (one instr.Some)
   code_of P xs (t.Call p f args) = seq (codes_of P xs args) (one (Call (fun_of f P)))
   code_of P xs (t.Let p x a b) = seq (code_of P xs a) (seq (one Bind) (seq (code_of P (bind_one xs x) b) (one (Unbind 1))))
   code_of P xs (t.LetPair p x y a b) =
@@ -74,6 +77,8 @@ abbrev mutual
       fork (code_of P xs c) CaseList (seq (code_of P (bind_one (bind_one xs x) y) b) (one (Unbind 2))) (code_of P xs a)
   code_of P xs (t.MatchTree p c a x y z b) =
       fork (code_of P xs c) CaseTree (seq (code_of P (bind_one (bind_one (bind_one xs x) y) z) b) (one (Unbind 3))) (code_of P xs a)
+  code_of P xs (t.MatchOption p c a x b) =
+      fork (code_of P xs c) CaseOption (seq (code_of P (bind_one xs x) b) (one (Unbind 1))) (code_of P xs a)
   code_of P xs (t.Tick p k a) = seq (one (Tick k)) (code_of P xs a)
   code_of P xs (t.Typed p a A) = code_of P xs a
 

@@ -1,7 +1,7 @@
 -- The codes of small programs and how the machine runs them, worked out by hand.
 use Rattle.std.specs.Prelude.{◌≡◌, ℕ, pos, negsuc, List, [], ◌∷◌, false, codes}
 use Rattle.raml_syntax.specs.Tree as t
-use Rattle.raml_syntax.specs.Tree.{Text, Type', Integer, Boolean, PairOf, ListOf, TreeOf, Bound, Parameter, Function, Prog}
+use Rattle.raml_syntax.specs.Tree.{Text, Type', Integer, Boolean, PairOf, ListOf, TreeOf, OptionOf, Bound, Parameter, Function, Prog}
 use Rattle.raml_syntax.specs.Value as v
 use Rattle.raml_syntax.specs.Value.{Value}
 use Rattle.raml_syntax.specs.declared.tree.ArithOp.{ArithOp}
@@ -155,6 +155,17 @@ half =
     function (codes "half") (parameter x int_list ∷ []) Integer
     (match_list (var x) (num 0) head tail (match_list (var tail) (num 0) second rest (t.Tick 0 1 (call (codes "half") (var rest))))) ∷ []
 
+-- fun first (x : int list) : int option = match x with nil -> none | h :: t -> some(h)
+abbrev first : Function
+first =
+    function (codes "first") (parameter x int_list ∷ []) (OptionOf Integer) (match_list (var x) (t.Nothing 0) head tail (t.Just 0 (var head)))
+
+-- fun unwrap (x : int list option) : int list = match x with none -> nil | some(h) -> append(h, nil)
+abbrev unwrap : Function
+unwrap =
+    function (codes "unwrap") (parameter x (OptionOf int_list) ∷ []) int_list
+    (t.MatchOption 0 (var x) (t.Nil 0) (bound head) (call_with (codes "append") (var head) (t.Nil 0)))
+
 -- node(2, node(1, leaf, leaf), node(3, leaf, leaf))
 abbrev small_tree : Value
 small_tree = v.Node (number 2) (v.Node (number 1) v.Empty v.Empty) (v.Node (number 3) v.Empty v.Empty)
@@ -201,5 +212,17 @@ pub record Examples : Type 0 where
   pub flatten_halted : at (append ∷ flatten ∷ []) 1 (small_tree ∷ []) 74 ≡ halted (numbers (1 ∷ 2 ∷ 3 ∷ [])) 0 4 74
   -- qsort([3, 2, 1]): pairs, comparisons and branches
   pub qsort_halted : at (append ∷ part ∷ qsort ∷ []) 2 (numbers (3 ∷ 2 ∷ 1 ∷ []) ∷ []) 190 ≡ halted (numbers (1 ∷ 2 ∷ 3 ∷ [])) 3 15 190
+  -- options: first([7, 8]) and first([]); unwrap(some([1, 2])) and unwrap(none)
+  pub code_of_first : body_of (first ∷ []) first
+      ≡ record { arity = 1; code = i.Load 0 ∷ i.CaseList 6 ∷ i.Load 1 ∷ i.Some ∷ i.Unbind 2 ∷ i.Jump 7 ∷ i.Empty ∷ i.Return ∷ [] }
+  pub first_some : at (first ∷ []) 0 (numbers (7 ∷ 8 ∷ []) ∷ []) 7 ≡ halted (v.Just (number 7)) 0 1 7
+  pub first_none : at (first ∷ []) 0 (v.Empty ∷ []) 4 ≡ halted v.Empty 0 0 4
+  pub code_of_unwrap : body_of (append ∷ unwrap ∷ []) unwrap
+      ≡ record {
+        arity = 1;
+        code = i.Load 0 ∷ i.CaseOption 7 ∷ i.Load 1 ∷ i.Empty ∷ i.Call (record { 0 = 0 }) ∷ i.Unbind 1 ∷ i.Jump 8 ∷ i.Empty ∷ i.Return ∷ [];
+      }
+  pub unwrap_some : at (append ∷ unwrap ∷ []) 1 (v.Just (numbers (1 ∷ 2 ∷ [])) ∷ []) 32 ≡ halted (numbers (1 ∷ 2 ∷ [])) 0 2 32
+  pub unwrap_none : at (append ∷ unwrap ∷ []) 1 (v.Empty ∷ []) 4 ≡ halted v.Empty 0 0 4
   -- a match in a match
   pub half_halted : at half 0 (numbers (1 ∷ 2 ∷ 3 ∷ []) ∷ []) 20 ≡ halted (number 0) 1 0 20

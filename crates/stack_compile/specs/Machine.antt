@@ -7,10 +7,11 @@ use Rattle.raml_syntax.specs.declared.tree.ArithOp.{ArithOp}
 use Rattle.raml_syntax.specs.declared.tree.ArithOp.TheVariants as op
 use Rattle.raml_syntax.specs.Value as v
 use Rattle.raml_syntax.specs.Value.{Value, Number, Truth, Both}
-use Rattle.raml_syntax.specs.Eval.{arith, compare, negation, branch, pair_case, list_case, tree_case}
+use Rattle.raml_syntax.specs.Eval.{arith, compare, negation, branch, pair_case, list_case, tree_case, option_case}
 use Rattle.stack_compile.specs.Code.{Body}
 use Rattle.stack_compile.specs.declared.instr.Instr.{Instr}
-use Rattle.stack_compile.specs.declared.instr.Instr.TheVariants.{Int, Bool, Empty, Load, Bind, Unbind, Add, Sub, Mul, Div, Mod, Compare, Not, Pair, Cons, Node, Unpair, CaseList, CaseTree, Branch, Jump, Call, Return, Tick}
+use Rattle.stack_compile.specs.declared.instr.Instr.TheVariants as instr
+use Rattle.stack_compile.specs.declared.instr.Instr.TheVariants.{Int, Bool, Empty, Load, Bind, Unbind, Add, Sub, Mul, Div, Mod, Compare, Not, Pair, Cons, Node, Unpair, CaseList, CaseTree, CaseOption, Branch, Jump, Call, Return, Tick}
 
 -- where a call returns to, and the locals there
 pub record Frame : Type 0 where
@@ -102,12 +103,15 @@ act code (Some Pair) f p st ls fs = goes_with_cell (Going f (p + 1) (Both (top (
 act code (Some Cons) f p st ls fs = goes_with_cell (Going f (p + 1) (v.Cons (top (under st)) (top st) ∷ under (under st)) ls fs)
 act code (Some Node) f p st ls fs =
     goes_with_cell (Going f (p + 1) (v.Node (top (under (under st))) (top (under st)) (top st) ∷ under (under (under st))) ls fs)
+act code (Some instr.Some) f p st ls fs = goes_with_cell (Going f (p + 1) (v.Just (top st) ∷ under st) ls fs)
 act code (Some Unpair) f p st ls fs =
     goes (pair_case (top st) (Going f (p + 1) (under st) ls fs) (λ v w. Going f (p + 1) (under st) ((ls ++ v ∷ []) ++ w ∷ []) fs))
 act code (Some (CaseList to)) f p st ls fs =
     goes (list_case (top st) (Going f to (under st) ls fs) (λ h r. Going f (p + 1) (under st) ((ls ++ h ∷ []) ++ r ∷ []) fs))
 act code (Some (CaseTree to)) f p st ls fs =
     goes (tree_case (top st) (Going f to (under st) ls fs) (λ e l r. Going f (p + 1) (under st) (((ls ++ e ∷ []) ++ l ∷ []) ++ r ∷ []) fs))
+act code (Some (CaseOption to)) f p st ls fs =
+    goes (option_case (top st) (Going f to (under st) ls fs) (λ w. Going f (p + 1) (under st) (ls ++ w ∷ []) fs))
 act code (Some (Branch to)) f p st ls fs = goes (branch (top st) (Going f (p + 1) (under st) ls fs) (Going f to (under st) ls fs))
 act code (Some (Jump to)) f p st ls fs = goes (Going f to st ls fs)
 act code (Some (Call g)) f p st ls fs =

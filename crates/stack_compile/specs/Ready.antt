@@ -6,7 +6,8 @@ use Rattle.raml_syntax.specs.Default.{IsNumber, IsTruth}
 use Rattle.stack_compile.specs.Code.{Body}
 use Rattle.stack_compile.specs.Machine.{Config, Going, Halted, fetch}
 use Rattle.stack_compile.specs.declared.instr.Instr.{Instr}
-use Rattle.stack_compile.specs.declared.instr.Instr.TheVariants.{Load, Bind, Unbind, Add, Sub, Mul, Div, Mod, Compare, Not, Pair, Cons, Node, Unpair, CaseList, CaseTree, Branch, Call, Return}
+use Rattle.stack_compile.specs.declared.instr.Instr.TheVariants as instr
+use Rattle.stack_compile.specs.declared.instr.Instr.TheVariants.{Load, Bind, Unbind, Add, Sub, Mul, Div, Mod, Compare, Not, Pair, Cons, Node, Unpair, CaseList, CaseTree, CaseOption, Branch, Call, Return}
 
 abbrev pub IsPair : Value → Type 0
 IsPair (Both v w) = Unit {0}
@@ -21,6 +22,11 @@ abbrev pub IsTree : Value → Type 0
 IsTree v.Empty = Unit {0}
 IsTree (v.Node e l r) = Unit {0}
 IsTree _ = ⊥
+
+abbrev pub IsOption : Value → Type 0
+IsOption v.Empty = Unit {0}
+IsOption (v.Just w) = Unit {0}
+IsOption _ = ⊥
 
 abbrev pub AtLeast : ℕ → List Value → Type 0
 AtLeast n vs = n ≤ length vs
@@ -54,9 +60,11 @@ Finds code (Some Not) st ls = TopIs IsTruth st
 Finds code (Some Pair) st ls = AtLeast 2 st
 Finds code (Some Cons) st ls = AtLeast 2 st
 Finds code (Some Node) st ls = AtLeast 3 st
+Finds code (Some instr.Some) st ls = AtLeast 1 st
 Finds code (Some Unpair) st ls = TopIs IsPair st
 Finds code (Some (CaseList to)) st ls = TopIs IsList st
 Finds code (Some (CaseTree to)) st ls = TopIs IsTree st
+Finds code (Some (CaseOption to)) st ls = TopIs IsOption st
 Finds code (Some (Branch to)) st ls = TopIs IsTruth st
 Finds code (Some (Call g)) st ls = HasArguments (slice_get code g.0) st
 Finds code (Some Return) st ls = AtLeast 1 st

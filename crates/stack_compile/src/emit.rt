@@ -48,6 +48,7 @@ pub fn emit<'s, 'a>(code: &mut Vec<Instr>, env: Env<'s, 'a>, e: &'a Expr) -> Res
         Form::Truth(b) => put(code, Instr::Bool(*b)),
         Form::Nil => put(code, Instr::Empty),
         Form::Leaf => put(code, Instr::Empty),
+        Form::Nothing => put(code, Instr::Empty),
         Form::Var(name) => put(code, Instr::Load(env.scope.find(name.text(), env.depth))),
         Form::Arith(op, left, right) => emit_two(code, env, left, right, arith_code(*op)),
         Form::Compare(op, left, right) => emit_two(code, env, left, right, Instr::Compare(*op)),
@@ -55,6 +56,7 @@ pub fn emit<'s, 'a>(code: &mut Vec<Instr>, env: Env<'s, 'a>, e: &'a Expr) -> Res
         Form::Pair(first, second) => emit_two(code, env, first, second, Instr::Pair),
         Form::Cons(head, tail) => emit_two(code, env, head, tail, Instr::Cons),
         Form::Node(element, left, right) => emit_node(code, env, element, left, right),
+        Form::Just(part) => emit_one(code, env, part, Instr::Some),
         Form::Call(name, args) => emit_call(code, env, name, args),
         Form::Let(x, bound, rest) => emit_let(code, env, x, bound, rest),
         Form::LetPair(x, y, bound, rest) => emit_let_pair(code, env, x, y, bound, rest),
@@ -64,6 +66,9 @@ pub fn emit<'s, 'a>(code: &mut Vec<Instr>, env: Env<'s, 'a>, e: &'a Expr) -> Res
         }
         Form::MatchTree(subject, empty, x, y, z, rest) => {
             emit_match_tree(code, env, subject, empty, x, y, z, rest)
+        }
+        Form::MatchOption(subject, empty, x, rest) => {
+            emit_match_option(code, env, subject, empty, x, rest)
         }
         Form::Tick(n, rest) => emit_tick(code, env, *n, rest),
         Form::Typed(part, _) => emit(code, env, part),
@@ -375,6 +380,35 @@ fn emit_match_tree<'s, 'a>(
     put(code, Instr::Jump(0))?;
     emit(code, env, empty)?;
     code[leave] = Instr::CaseTree(jump as u32 + 1);
+    code[jump] = Instr::Jump(code.len() as u32);
+    Ok(())
+}
+
+/// Appends the code of a match on an option, the part for a content first.
+#[cycle(emit)]
+fn emit_match_option<'s, 'a>(
+    code: &mut Vec<Instr>,
+    env: Env<'s, 'a>,
+    subject: &'a Expr,
+    empty: &'a Expr,
+    x: &'a Binder,
+    rest: &'a Expr,
+) -> Result<(), AllocError>
+    requires numbered { env.depth ≡ length (locals_in env) }
+    requires fits { Fits env.depth (vec_len code.old) (nodes (t.MatchOption 0 (term_of subject.now) (term_of empty.now) (bound_of x.now) (term_of rest.now))) }
+    ensures code { OnOk result (code.new.items ≡ code.old.items ++ here env.entry (t.MatchOption 0 (term_of subject.now) (term_of empty.now) (bound_of x.now) (term_of rest.now)) (vec_len code.old)) }
+    ensures short { OnOk result (vec_len code.new ≤ vec_len code.old + 4 * nodes (t.MatchOption 0 (term_of subject.now) (term_of empty.now) (bound_of x.now) (term_of rest.now))) }
+    ensures numbers { OnOk result (AllNodes NumberFits (t.MatchOption 0 (term_of subject.now) (term_of empty.now) (bound_of x.now) (term_of rest.now))) }
+{
+    emit(code, env, subject)?;
+    let leave = code.len();
+    put(code, Instr::CaseOption(0))?;
+    emit_below_one(code, env, x, rest)?;
+    put(code, Instr::Unbind(1))?;
+    let jump = code.len();
+    put(code, Instr::Jump(0))?;
+    emit(code, env, empty)?;
+    code[leave] = Instr::CaseOption(jump as u32 + 1);
     code[jump] = Instr::Jump(code.len() as u32);
     Ok(())
 }

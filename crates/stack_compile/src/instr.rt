@@ -8,7 +8,7 @@ pub enum Instr {
     Int(i64),
     /// Pushes a truth.
     Bool(bool),
-    /// Pushes the empty list, which is also the leaf.
+    /// Pushes the empty list, which is also the leaf and `none`.
     Empty,
     /// Pushes a local.
     Load(u32),
@@ -31,6 +31,8 @@ pub enum Instr {
     Cons,
     /// Pops the right tree, the left tree and the element, takes a cell and pushes it.
     Node,
+    /// Pops the content, takes a cell and pushes it.
+    Some,
     /// Pops a pair, and appends its two parts to the locals.
     Unpair,
     /// Pops a list: goes to the place where it is empty, and else appends head and tail to the locals.
@@ -38,6 +40,8 @@ pub enum Instr {
     /// Pops a tree: goes to the place where it is a leaf, and else appends element, left and right tree
     /// to the locals.
     CaseTree(u32),
+    /// Pops an option: goes to the place where it is `none`, and else appends the content to the locals.
+    CaseOption(u32),
     /// Pops a truth, and goes to the place where it is false.
     Branch(u32),
     /// Goes to the place.

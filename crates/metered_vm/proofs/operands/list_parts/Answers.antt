@@ -8,5 +8,8 @@ unreachable-requires c = cell_is IsList _ _ _ _ c.in-Cell.is c.in-Pair.ensures.e
 pub unreachable-requires-in-Node : goal.unreachable-requires-in-Node
 unreachable-requires-in-Node c = cell_is IsList _ _ _ _ c.in-Cell.is c.in-Node.ensures.earlier c.in-Node.ensures.cell c.requires.list
 
+pub unreachable-requires-in-Just : goal.unreachable-requires-in-Just
+unreachable-requires-in-Just c = cell_is IsList _ _ _ _ c.in-Cell.is c.in-Just.ensures.earlier c.in-Just.ensures.cell c.requires.list
+
 pub returns-in-Cons : goal.returns-in-Cons
 returns-in-Cons c = let r = read_word _ _ _ _ c.in-Cell.is c.in-Cons.ensures.earlier c.in-Cons.ensures.cell in (r.0, r.1.0, r.1.1)

@@ -8,5 +8,8 @@ unreachable-requires c = cell_is IsTree _ _ _ _ c.in-Cell.is c.in-Cons.ensures.e
 pub unreachable-requires-in-Pair : goal.unreachable-requires-in-Pair
 unreachable-requires-in-Pair c = cell_is IsTree _ _ _ _ c.in-Cell.is c.in-Pair.ensures.earlier c.in-Pair.ensures.cell c.requires.tree
 
+pub unreachable-requires-in-Just : goal.unreachable-requires-in-Just
+unreachable-requires-in-Just c = cell_is IsTree _ _ _ _ c.in-Cell.is c.in-Just.ensures.earlier c.in-Just.ensures.cell c.requires.tree
+
 pub returns-in-Node : goal.returns-in-Node
 returns-in-Node c = let r = read_word _ _ _ _ c.in-Cell.is c.in-Node.ensures.earlier c.in-Node.ensures.cell in (r.0, r.1.0, r.1.1, r.1.2)

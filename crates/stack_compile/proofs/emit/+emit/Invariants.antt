@@ -47,6 +47,9 @@ decreases-emit_match_list l = 8 * (nodes (term_of l.subject.now) + nodes (term_o
 abbrev pub decreases-emit_match_tree : goal.decreases-emit_match_tree
 decreases-emit_match_tree l = 8 * (nodes (term_of l.subject.now) + nodes (term_of l.empty.now) + nodes (term_of l.rest.now)) + 4
 
+abbrev pub decreases-emit_match_option : goal.decreases-emit_match_option
+decreases-emit_match_option l = 8 * (nodes (term_of l.subject.now) + nodes (term_of l.empty.now) + nodes (term_of l.rest.now)) + 4
+
 abbrev pub decreases-emit_tick : goal.decreases-emit_tick
 decreases-emit_tick l = 8 * nodes (term_of l.rest.now) + 1
 
