@@ -1,10 +1,10 @@
 // Whole calls over files and streams in memory.
+use data_text::DataFault;
 use raml_io::{MemSink, MemStore};
 use raml_lex::LexFault;
 use raml_parse::ParseFault;
 use raml_syntax::Pos;
 use raml_top::{SourceFault, Status, Which, raml};
-use scalar_text::DataFault;
 use simple_types::TypeFault;
 use std::alloc::{AllocError, Global};
 use std::fmt::Write;
@@ -126,6 +126,9 @@ analyse --degree=4 -- f.raml => bounds
 analyse f.raml => usage
 analyse f.raml --degree 5 => usage
 analyse f.raml --steps 1 => usage
+code f.raml => code
+code g.raml => unread
+code f.raml --degree 1 => usage
 types f.raml => types
 types -- -f.raml => unread
 types f.raml --degree 1 => usage
@@ -137,6 +140,10 @@ run f.raml main d --steps=1000000000 => value
 run f.raml main d --steps 1000000001 => usage
 run f.raml main d --steps 0 => usage
 run f.raml main d --steps 1 --steps 1 => usage
+run f.raml main d --cells 0 => value
+run --cells=16777216 f.raml main d --steps=2 => stopped
+run f.raml main d --cells 16777217 => usage
+run f.raml main d --cells 1 --cells 1 => usage
 run f.raml main d --degree 1 => usage
 run f.raml main => usage
 run f.raml main d d => usage
@@ -159,12 +166,13 @@ fn words_have_their_answers(rt: HostRuntime) -> Result<(), Fail> {
         let want = match answers {
             "bounds" => "0 main ticks <= 3\nmain cells <= 0\n",
             "types" => "0 main (int) : int\n",
+            "code" => "0 fun main\n0 Tick 3\n1 Load 0\n2 Return\n",
             "value" => "0 value 5\nticks 3\ncells 0\ninstructions 3\n",
             "stopped" => "10 stopped\nticks 3\ncells 0\ninstructions 2\n",
             "unread" => "2 raml: cannot read program\n",
             "no data" => "2 raml: cannot read data\n",
             "unspelled" => "4 raml: source: syntax at 0\n",
-            "no arguments" => "5 raml: data: not in this stage\n",
+            "no arguments" => "5 raml: data: shape at 0\n",
             "nameless" => "6 raml: no function\n",
             _ => "1 raml: usage\n",
         };
@@ -285,9 +293,10 @@ fn each_status_has_its_number(rt: HostRuntime) {
             Status::Source(SourceFault::Type(TypeFault::NeedsType { at })),
             4,
         ),
-        (Status::Data(DataFault::NotInFragment), 5),
+        (Status::Data(DataFault::Shape { at }), 5),
         (Status::NoFunction, 6),
         (Status::Stopped, 10),
+        (Status::HeapFull, 11),
         (Status::WriteFault, 12),
         (Status::NotBuilt, 20),
         (Status::NoMemory, 70),

@@ -69,6 +69,12 @@ fun f (x : int) : int = if (true : bool) then 1 else 2";
 // Texts with their first fault. The place that is told is that of the mark `^`, which is no part of the text.
 const FAULTY: &str = "\
 ^ => syntax at ^
+fun ^option (x : int) : int = x => syntax at ^
+fun f (^some : int) : int = x => syntax at ^
+fun f (x : int) : int = let ^none = x in x => syntax at ^
+fun f (x : int) : int option = some ^x => syntax at ^
+fun f (x : int option) : int = match x with none -> 0 | some ^y -> y => syntax at ^
+fun f (x : int option) : int = match x with none -> 0 | ^none -> 1 => syntax at ^
 ^x => syntax at ^
 ^let => syntax at ^
 fun^ => syntax at ^
@@ -148,6 +154,8 @@ fun f (x : int) : int = x => f (int) : int
 fun f (x : bool, y : int) : bool = x => f (bool, int) : bool
 fun f (a : int, b : int, c : int, d : int, e : int, g : int, h : int, i : bool) : bool = i => f (int, int, int, int, int, int, int, bool) : bool
 fun f (x : int * int) : int * int = x => f (int * int) : int * int
+fun f (x : (int * int) option list) : int option tree = leaf => f ((int * int) option list) : int option tree
+fun f (x : int list option option) : int option * int = (none, 0) => f (int list option option) : int option * int
 fun f (x : (int * int) * int) : int = 0 => f ((int * int) * int) : int
 fun f (x : int * (int * int)) : int = 0 => f (int * int * int) : int
 fun f (x : (int * int) list) : int = 0 => f ((int * int) list) : int
@@ -230,6 +238,16 @@ fun main (x : int) : int = ^nil => wanted int, got some list at ^
 fun f (x : int) : int tree = ^nil => wanted int tree, got some list at ^
 fun f (x : int) : int list = ^leaf => wanted int list, got some tree at ^
 fun main (x : int) : int = let y = ^nil in x => needs a type at ^
+fun main (x : int) : int = ^none => wanted int, got some option at ^
+fun main (x : int) : int = let y = ^none in x => needs a type at ^
+fun f (x : int) : int list = ^some(x) => wanted int list, got some option at ^
+fun f (x : int) : int option = some(^true) => wanted int, got bool at ^
+fun f (x : int) : int option = some(^none) => wanted int, got some option at ^
+fun f (x : int) : bool option = let y = some(x) in ^y => wanted bool option, got int option at ^
+fun f (x : int * int) : (int * int) option list = ^x => wanted (int * int) option list, got int * int at ^
+fun f (x : int list) : int = match ^x with none -> 0 | some(y) -> y => wanted some option, got int list at ^
+fun f (x : int option) : int = match x with none -> 0 | some(y) -> ^x => wanted int, got int option at ^
+fun f (x : int option) : int = match x with none -> ^none | some(y) -> y => wanted int, got some option at ^
 fun f (x : int) : int = let y = ^leaf in x => needs a type at ^
 fun f (x : int) : int = match ^nil with nil -> x | h :: t -> x => needs a type at ^
 fun f (x : int) : int = let y = (x, ^nil) in x => needs a type at ^
@@ -363,12 +381,12 @@ fn straight_functions_have_their_bounds(rt: HostRuntime) -> Result<(), Fail> {
 }
 
 #[test]
-fn other_programs_are_neither_analysed_nor_run(rt: HostRuntime) -> Result<(), Fail> {
+fn other_programs_are_not_analysed(rt: HostRuntime) -> Result<(), Fail> {
     for line in OTHER.lines() {
         let found = answer(rt.alloc(), &ANALYSE, line.as_bytes())?;
         assert_eq!(rt; found.as_str(), "20 raml: not built\n", "at {line}");
         let found = answer(rt.alloc(), &["run", "f.raml", "nope", "d"], line.as_bytes())?;
-        assert_eq!(rt; found.as_str(), "20 raml: not built\n", "at {line}");
+        assert_eq!(rt; found.as_str(), "6 raml: no function\n", "at {line}");
     }
     Ok(())
 }

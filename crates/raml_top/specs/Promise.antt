@@ -1,5 +1,5 @@
 -- What the top call promises.
-use Rattle.std.specs.Prelude.{◌≡◌, ◌≤◌, ◌⊎◌, ℕ, suc, List, length, Option, Some, None, IfSome}
+use Rattle.std.specs.Prelude.{◌≡◌, ◌≤◌, ◌⊎◌, ℕ, suc, List, length, Option, Some, None, Result, Ok, Err, IfSome}
 use Rattle.raml_syntax.specs.Tree.{Text, Function, Prog}
 use Rattle.raml_io.specs.Faults.{Rose}
 use Rattle.raml_io.specs.Files.{Files, IsFront}
@@ -10,18 +10,18 @@ use Rattle.simple_types.specs.Fault.{Fault}
 use Rattle.simple_types.specs.Read.{fault_of}
 use Rattle.simple_types.specs.declared.fault.TypeFault.{TypeFault}
 use Rattle.simple_types.specs.declared.fault.TypeFault.TheVariants as y
-use Rattle.raml_words.specs.Words.{Request, Types, Analyse, Run, file_of, Asks, AsksNothing}
-use Rattle.scalar_text.specs.declared.fault.DataFault.{DataFault}
-use Rattle.scalar_text.specs.declared.fault.DataFault.TheVariants as d
-use Rattle.scalar_text.specs.declared.fault.DataFault.TheVariants.{NotInFragment}
+use Rattle.raml_words.specs.Words.{Limits, Request, Types, Code, Analyse, Run, file_of, Asks, AsksNothing}
+use Rattle.data_text.specs.declared.fault.DataFault.{DataFault}
+use Rattle.data_text.specs.declared.fault.DataFault.TheVariants as d
 use Rattle.stack_compile.specs.Machine.{Halted}
 use Rattle.stack_compile.specs.Laws.{IsGoing}
+use Rattle.stack_compile.specs.Text.{code_text}
 use Rattle.raml_syntax.specs.Value.{Value}
 use Rattle.raml_top.specs.Fragment.{IsOnly, IsTyped, IsTooLong, IsFaulty, IsUntyped, most_bytes, most, BoundsRuns, BoundsMachine}
-use Rattle.raml_top.specs.Call.{IsNamed, LacksFunction, SpellsNone, Call, Finishes, Stops, machine_at, most_data}
+use Rattle.raml_top.specs.Call.{IsNamed, LacksFunction, IsData, Call, Finishes, Stops, Fills, IsFullAt, machine_at, most_data}
 use Rattle.raml_top.specs.Report.{type_lines, bound_lines, line_of}
 use Rattle.raml_top.specs.declared.status.Status.{Status}
-use Rattle.raml_top.specs.declared.status.Status.TheVariants.{Done, Usage, ReadFault, TooLong, Source, Data, NoFunction, Stopped, WriteFault, NotBuilt, NoMemory}
+use Rattle.raml_top.specs.declared.status.Status.TheVariants.{Done, Usage, ReadFault, TooLong, Source, Data, NoFunction, Stopped, HeapFull, WriteFault, NotBuilt, NoMemory}
 use Rattle.raml_top.specs.declared.status.Which.TheVariants as w
 use Rattle.raml_top.specs.declared.status.SourceFault.TheVariants.{Parse, «Type»}
 
@@ -93,23 +93,25 @@ pub record NamedOf (P : Prog) (name : Text) (Q : Function → Type 0) : Type 0 w
   pub named : IsNamed P name place fun
   pub is : Q fun
 
--- how a run ends whose report is written: the machine has halted, or was stopped
-abbrev pub Ran : Prog → ℕ → Function → List Value → ℕ → Status → List ℕ → Type 0
-Ran P f fun args steps Done text = Finishes P f fun args steps text
-Ran P f fun args steps Stopped text = Stops P f fun args steps text
-Ran P f fun args steps _ text = ⊥
+-- how a run ends whose report is written: the machine has halted, was stopped, or asked for one cell too many
+abbrev pub Ran : Prog → ℕ → Function → List Value → Limits → Status → List ℕ → Type 0
+Ran P f fun args limits Done text = Finishes P f fun args limits text
+Ran P f fun args limits Stopped text = Stops P f fun args limits text
+Ran P f fun args limits HeapFull text = Fills P f args limits text
+Ran P f fun args limits _ text = ⊥
 
 -- the text is the report of the run on these bytes, and the call ends so
-pub record ReportsRun (P : Prog) (name data_bytes : List ℕ) (steps : ℕ) (status : Status) (text : List ℕ) : Type 0 where
+pub record ReportsRun (P : Prog) (name data_bytes : List ℕ) (limits : Limits) (status : Status) (text : List ℕ) : Type 0 where
   pub call : Call P name data_bytes
-  pub ran : Ran P call.place call.fun call.args steps status text
+  pub ran : Ran P call.place call.fun call.args limits status text
 
 -- the text is what is asked of the program, and the call ends so
 abbrev pub ReportsProgram : Option Files → Request → Status → List ℕ → Prog → Type 0
 ReportsProgram holds (Types file) Done text P = text ≡ type_lines P
+ReportsProgram holds (Code file) Done text P = text ≡ code_text P
 ReportsProgram holds (Analyse file degree) Done text P = Analysis P text
-ReportsProgram holds (Run file name data_file steps) status text P =
-    ReadOf holds most_data data_file (λ data_bytes. ReportsRun P name data_bytes steps status text)
+ReportsProgram holds (Run file name data_file limits) status text P =
+    ReadOf holds most_data data_file (λ data_bytes. ReportsRun P name data_bytes limits status text)
 ReportsProgram holds _ status text P = ⊥
 
 -- of the bytes that were read of the file
@@ -127,29 +129,29 @@ pub record IsIllTyped (source : List ℕ) (fault : TypeFault) : Type 0 where
   pub is : fault_of fault ≡ Some first
   pub untyped : IsUntyped source first
 
--- bounds or a run are asked for of a program of another kind
+-- bounds are asked for of a program of another kind
 abbrev pub IsNotBuilt : Request → Prog → Type 0
-IsNotBuilt (Types file) P = ⊥
-IsNotBuilt _ P = (fun : Function) → ¬ (IsOnly P fun)
+IsNotBuilt (Analyse file degree) P = (fun : Function) → ¬ (IsOnly P fun)
+IsNotBuilt _ P = ⊥
 
 -- too many bytes for the limit
 abbrev pub IsOver : ℕ → List ℕ → Type 0
 IsOver limit bytes = suc limit ≤ length bytes
 
 -- why a program is not run: it has no function of the name; or else the store's count rose for the data, or its bytes are too many, or
--- spell no arguments
+-- have this first fault
 abbrev pub RunRefused : Option Files → Count → Text → Text → Status → Prog → Type 0
 RunRefused holds reads name data_file NoFunction P = LacksFunction P name
 RunRefused holds reads name data_file (ReadFault w.Data) P = NamedOf P name (λ fun. Rises reads)
 RunRefused holds reads name data_file (TooLong w.Data) P = NamedOf P name (λ fun. ReadOf holds most_data data_file (IsOver most_data))
-RunRefused holds reads name data_file (Data NotInFragment) P =
-    NamedOf P name (λ fun. ReadOf holds most_data data_file (λ data_bytes. SpellsNone data_bytes fun))
+RunRefused holds reads name data_file (Data fault) P =
+    NamedOf P name (λ fun. ReadOf holds most_data data_file (λ data_bytes. IsData data_bytes fun (Err fault)))
 RunRefused holds reads name data_file _ P = ⊥
 
 -- why there is no report on a program: it is of another kind, or is not run
 abbrev pub ProgramRefused : Option Files → (Text → Count) → Request → Status → Prog → Type 0
 ProgramRefused holds reads request NotBuilt P = IsNotBuilt request P
-ProgramRefused holds reads (Run file name data_file steps) status P = RunRefused holds (reads data_file) name data_file status P
+ProgramRefused holds reads (Run file name data_file limits) status P = RunRefused holds (reads data_file) name data_file status P
 ProgramRefused holds reads _ status P = ⊥
 
 -- why there is none on a source: it has too many bytes, or a first fault, or its program has one, or is refused
@@ -189,12 +191,15 @@ data_refusal fault = Data fault
 abbrev pub Cause : Outside → Option (List ℕ) → Option (List ℕ) → Status → Type 0
 Cause o old new Done = (text : List ℕ) × Reports o Done text × (new ≡ grown old text)
 Cause o old new Stopped = (text : List ℕ) × Reports o Stopped text × (new ≡ grown old text)
+Cause o old new HeapFull = (text : List ℕ) × Reports o HeapFull text × (new ≡ grown old text)
 Cause o old new WriteFault = (status : Status) × (text : List ℕ) × Reports o status text × GrewByFront old new text × Rises o.writes
 Cause o old new status = Refused o status × (new ≡ old)
 
-abbrev pub IsSourceFault : Status → Type 0
-IsSourceFault (Source fault) = Unit {0}
-IsSourceFault status = ⊥
+-- the line that tells the status has to be made
+abbrev pub IsMade : Status → Type 0
+IsMade (Source fault) = Unit {0}
+IsMade (Data fault) = Unit {0}
+IsMade status = ⊥
 
 -- the call ends so, or for want of memory
 abbrev pub EndsBy : Status → Status → Type 0
@@ -223,17 +228,17 @@ pub record ReadProgram (o : Outside) (request : Request) (P : Prog) : Type 0 whe
   pub typed : IsTyped content P
 
 -- a run of this function is asked for, and the store tells what the file of data holds
-pub record ToldData (o : Outside) (name : Text) (steps : ℕ) (P : Prog) (fun : Function) (content : Option (List ℕ)) : Type 0 where
+pub record ToldData (o : Outside) (name : Text) (limits : Limits) (P : Prog) (fun : Function) (content : Option (List ℕ)) : Type 0 where
   pub file : List ℕ
   pub data_file : List ℕ
-  pub program : ReadProgram o (Run file name data_file steps) P
+  pub program : ReadProgram o (Run file name data_file limits) P
   pub place : ℕ
   pub named : IsNamed P name place fun
   pub held : program.read.told.files data_file ≡ content
 
 -- the same, it holds these bytes, and the store's count for it does not rise
-pub record ReadData (o : Outside) (name : Text) (steps : ℕ) (P : Prog) (fun : Function) (content : List ℕ) : Type 0 where
-  pub told : ToldData o name steps P fun (Some content)
+pub record ReadData (o : Outside) (name : Text) (limits : Limits) (P : Prog) (fun : Function) (content : List ℕ) : Type 0 where
+  pub told : ToldData o name limits P fun (Some content)
   pub calm : ¬ (Rises (o.reads told.data_file))
 
 -- where the causes leave no other answer
@@ -254,36 +259,44 @@ pub record Forced (o : Outside) (status : Status) : Type 0 where
       EndsByType first status
   pub other : (request : Request) (P : Prog) → ReadProgram o request P → IsNotBuilt request P → EndsBy NotBuilt status
   pub listed : (file : Text) (P : Prog) → ReadProgram o (Types file) P → ¬ (Rises o.writes) → EndsBy Done status
+  pub coded : (file : Text) (P : Prog) → ReadProgram o (Code file) P → ¬ (Rises o.writes) → EndsBy Done status
   pub analysed : (file : Text) (degree : ℕ) (P : Prog) (fun : Function) →
       ReadProgram o (Analyse file degree) P →
       IsOnly P fun →
       ¬ (Rises o.writes) →
       EndsBy Done status
-  pub no_function : (file name data_file : Text) (steps : ℕ) (P : Prog) →
-      ReadProgram o (Run file name data_file steps) P →
+  pub no_function : (file name data_file : Text) (limits : Limits) (P : Prog) →
+      ReadProgram o (Run file name data_file limits) P →
       LacksFunction P name →
       EndsBy NoFunction status
-  pub data_missing : (name : Text) (steps : ℕ) (P : Prog) (fun : Function) →
-      ToldData o name steps P fun None →
+  pub data_missing : (name : Text) (limits : Limits) (P : Prog) (fun : Function) →
+      ToldData o name limits P fun None →
       EndsBy (ReadFault w.Data) status
-  pub data_too_long : (name : Text) (steps : ℕ) (P : Prog) (fun : Function) (content : List ℕ) →
-      ReadData o name steps P fun content →
+  pub data_too_long : (name : Text) (limits : Limits) (P : Prog) (fun : Function) (content : List ℕ) →
+      ReadData o name limits P fun content →
       IsOver most_data content →
       EndsBy (TooLong w.Data) status
-  pub no_arguments : (name : Text) (steps : ℕ) (P : Prog) (fun : Function) (content : List ℕ) →
-      ReadData o name steps P fun content →
-      SpellsNone content fun →
-      EndsBy (Data NotInFragment) status
-  pub halted : (name : Text) (steps : ℕ) (P : Prog) (content : List ℕ) (call : Call P name content) (v : Value) →
-      ReadData o name steps P call.fun content →
-      (machine_at call steps).at ≡ Halted v →
+  pub data_faulty : (name : Text) (limits : Limits) (P : Prog) (fun : Function) (content : List ℕ) (fault : DataFault) →
+      ReadData o name limits P fun content →
+      IsData content fun (Err fault) →
+      EndsBy (Data fault) status
+  pub halted : (name : Text) (limits : Limits) (P : Prog) (content : List ℕ) (call : Call P name content) (v : Value) →
+      ReadData o name limits P call.fun content →
+      (machine_at call limits.steps).at ≡ Halted v →
+      (machine_at call limits.steps).cells ≤ limits.cells →
       ¬ (Rises o.writes) →
       EndsBy Done status
-  pub stopped : (name : Text) (steps : ℕ) (P : Prog) (content : List ℕ) (call : Call P name content) →
-      ReadData o name steps P call.fun content →
-      IsGoing (machine_at call steps).at →
+  pub stopped : (name : Text) (limits : Limits) (P : Prog) (content : List ℕ) (call : Call P name content) →
+      ReadData o name limits P call.fun content →
+      IsGoing (machine_at call limits.steps).at →
+      (machine_at call limits.steps).cells ≤ limits.cells →
       ¬ (Rises o.writes) →
       EndsBy Stopped status
+  pub full : (name : Text) (limits : Limits) (P : Prog) (content : List ℕ) (call : Call P name content) (made : ℕ) →
+      ReadData o name limits P call.fun content →
+      IsFullAt P call.place call.args limits made →
+      ¬ (Rises o.writes) →
+      EndsBy HeapFull status
 
 -- the line is written, or a front of it where the count rose
 abbrev pub Gains : Text → Count → Option (List ℕ) → Option (List ℕ) → Type 0
@@ -293,8 +306,9 @@ Gains line count old new = (new ≡ grown old line) ⊎ (GrewByFront old new lin
 abbrev pub ErrGains : Status → Count → Option (List ℕ) → Option (List ℕ) → Type 0
 ErrGains Done count old new = new ≡ old
 ErrGains Stopped count old new = new ≡ old
+ErrGains HeapFull count old new = new ≡ old
 ErrGains status count old new = Gains (line_of status) count old new
 
--- how a call ends that was to end so, once that is told: for the line of a source that is refused memory may be wanting
+-- how a call ends that was to end so, once that is told: for a line that has to be made memory may be wanting
 abbrev pub EndsAs : Status → Status → Type 0
-EndsAs wanted status = (status ≡ wanted) ⊎ (IsSourceFault wanted × (status ≡ NoMemory))
+EndsAs wanted status = (status ≡ wanted) ⊎ (IsMade wanted × (status ≡ NoMemory))

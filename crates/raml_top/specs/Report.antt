@@ -1,5 +1,5 @@
 -- The texts that are printed.
-use Rattle.std.specs.Prelude.{ℕ, List, [], ◌∷◌, ◌++◌, Option, Some, None, codes, decimal}
+use Rattle.std.specs.Prelude.{ℕ, nat_le, cond, length, List, [], ◌∷◌, ◌++◌, Option, Some, None, codes, decimal}
 use Rattle.raml_syntax.specs.Tree.{Text, Type', Function, Prog}
 use Rattle.raml_syntax.specs.Types.{types_of}
 use Rattle.raml_lex.specs.declared.token.LexFault.TheVariants as l
@@ -8,11 +8,13 @@ use Rattle.raml_parse.specs.declared.fault.ParseFault.TheVariants as p
 use Rattle.simple_types.specs.Fault.{Fault, Unknown, Twice, Wanted, NeedsType, Arity}
 use Rattle.simple_types.specs.Read.{fault_of}
 use Rattle.simple_types.specs.Text.{type_text, kind_text}
-use Rattle.scalar_text.specs.Data.{scalar_text}
+use Rattle.data_text.specs.Printing.{printed, most_text}
+use Rattle.data_text.specs.declared.fault.DataFault.{DataFault}
+use Rattle.data_text.specs.declared.fault.DataFault.TheVariants as d
 use Rattle.stack_compile.specs.Machine.{State}
 use Rattle.raml_syntax.specs.Value.{Value}
 use Rattle.raml_top.specs.declared.status.Status.{Status}
-use Rattle.raml_top.specs.declared.status.Status.TheVariants.{Done, Usage, ReadFault, TooLong, Source, Data, NoFunction, Stopped, WriteFault, NotBuilt, NoMemory}
+use Rattle.raml_top.specs.declared.status.Status.TheVariants.{Done, Usage, ReadFault, TooLong, Source, Data, NoFunction, Stopped, HeapFull, WriteFault, NotBuilt, NoMemory}
 use Rattle.raml_top.specs.declared.status.Which.TheVariants as w
 use Rattle.raml_top.specs.declared.status.SourceFault.{SourceFault}
 use Rattle.raml_top.specs.declared.status.SourceFault.TheVariants.{Parse, «Type»}
@@ -52,12 +54,20 @@ abbrev pub meter_lines : State → Text
 meter_lines s =
     meter_line (codes "ticks") s.ticks ++ meter_line (codes "cells") s.cells ++ meter_line (codes "instructions") s.made
 
--- the report of a machine that has halted with a value, and of one that was stopped
-abbrev pub value_lines : Value → State → Text
-value_lines v s = codes "value " ++ scalar_text v ++ codes "\n" ++ meter_lines s
+-- the value of this type, where its text is not too long
+abbrev pub value_line : Value → Type' → Text
+value_line v A =
+    cond (nat_le (length (printed v A)) most_text) (codes "value " ++ printed v A ++ codes "\n") (codes "value longer than 16777216 bytes\n")
+
+-- the report of a machine that has halted with a value, of one that was stopped, and of one whose cells are all taken
+abbrev pub value_lines : Value → Type' → State → Text
+value_lines v A s = value_line v A ++ meter_lines s
 
 abbrev pub stopped_lines : State → Text
 stopped_lines s = codes "stopped\n" ++ meter_lines s
+
+abbrev pub full_lines : State → Text
+full_lines s = codes "heap full\n" ++ meter_lines s
 
 -- what is wrong, and at which byte
 abbrev pub placed : Text → ℕ → Text
@@ -88,6 +98,17 @@ abbrev pub source_text : SourceFault → Text
 source_text (Parse fault) = parse_text fault
 source_text («Type» fault) = fault_text (fault_of fault)
 
+-- the first fault of data; want of memory is none
+abbrev pub data_text : DataFault → Text
+data_text (d.NotUtf8 at) = placed (codes "not utf-8") at.0
+data_text (d.Shape at) = placed (codes "shape") at.0
+data_text (d.TooDeep at) = placed (codes "too deep") at.0
+data_text d.TooManyCells = codes "too many cells"
+data_text d.NoMemory = []
+
+abbrev pub data_line : DataFault → Text
+data_line fault = codes "raml: data: " ++ data_text fault ++ codes "\n"
+
 abbrev pub source_line : SourceFault → Text
 source_line fault = codes "raml: source: " ++ source_text fault ++ codes "\n"
 
@@ -100,9 +121,10 @@ line_of (ReadFault w.Data) = codes "raml: cannot read data\n"
 line_of (TooLong w.Program) = codes "raml: too long: program\n"
 line_of (TooLong w.Data) = codes "raml: too long: data\n"
 line_of (Source fault) = source_line fault
-line_of (Data fault) = codes "raml: data: not in this stage\n"
+line_of (Data fault) = data_line fault
 line_of NoFunction = codes "raml: no function\n"
 line_of Stopped = codes ""
+line_of HeapFull = codes ""
 line_of WriteFault = codes "raml: write failed\n"
 line_of NotBuilt = codes "raml: not built\n"
 line_of NoMemory = codes "raml: out of memory\n"
@@ -110,6 +132,7 @@ line_of NoMemory = codes "raml: out of memory\n"
 -- the line is the same each time
 abbrev pub IsPlain : Status → Type 0
 IsPlain (Source fault) = ⊥
+IsPlain (Data fault) = ⊥
 IsPlain status = Unit {0}
 
 -- the number that the program ends with
@@ -122,6 +145,7 @@ code_of (Source fault) = 4
 code_of (Data fault) = 5
 code_of NoFunction = 6
 code_of Stopped = 10
+code_of HeapFull = 11
 code_of WriteFault = 12
 code_of NotBuilt = 20
 code_of NoMemory = 70

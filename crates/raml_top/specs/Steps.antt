@@ -5,8 +5,9 @@ use Rattle.raml_syntax.specs.Value.{Value, HaveTypes}
 use Rattle.raml_syntax.specs.Types.{types_of}
 use Rattle.raml_io.specs.Files.{Files}
 use Rattle.value_text.specs.declared.word.Word.{Word}
+use Rattle.value_text.specs.declared.word.Cell.{Cell}
 use Rattle.value_text.specs.Stands.{StandForAll}
-use Rattle.raml_words.specs.Words.{Request, Run}
+use Rattle.raml_words.specs.Words.{Limits, Request, Run}
 use Rattle.raml_top.specs.Fragment.{IsOnly, IsFaulty}
 use Rattle.raml_top.specs.Call.{most_data}
 use Rattle.raml_top.specs.Promise.{Count, Rises, IsRead, ReadOf, IsOver, Ran, ReportsRun, RunRefused, ProgramRefused, IsIllTyped}
@@ -27,27 +28,25 @@ ReadRefused holds reads limit file which (TooLong w) = (w ≡ which) × ReadOf h
 ReadRefused holds reads limit file which NoMemory = Unit {0}
 ReadRefused holds reads limit file which _ = ⊥
 
--- the words stand for arguments of a function of the program, which is run in this stage
-pub record CanRun (P : Prog) (f : ℕ) (words : List Word) : Type 0 where
+-- the words stand in these cells for arguments of the function at a place of the program
+pub record CanRun (P : Prog) (f : ℕ) (cells : List Cell) (words : List Word) : Type 0 where
   pub fun : Function
-  pub only : IsOnly P fun
   pub there : slice_get P f ≡ Some fun
   pub args : List Value
-  pub stand : StandForAll [] words args
+  pub stand : StandForAll cells words args
   pub types : HaveTypes args (types_of fun)
 
 -- the text is the report of the run on these words, and the call ends so
-abbrev pub RanOn : Prog → ℕ → List Word → ℕ → Status → List ℕ → Type 0
-RanOn P f words steps status text = (r : CanRun P f words) → Ran P f r.fun r.args steps status text
+abbrev pub RanOn : Prog → ℕ → List Cell → List Word → Limits → Status → List ℕ → Type 0
+RanOn P f cells words limits status text = (r : CanRun P f cells words) → Ran P f r.fun r.args limits status text
 
 -- and on what the file of data spells
-abbrev pub RunReported : Option Files → Text → Text → ℕ → Status → List ℕ → Prog → Type 0
-RunReported holds name data_file steps status text P =
-    ReadOf holds most_data data_file (λ data_bytes. ReportsRun P name data_bytes steps status text)
+abbrev pub RunReported : Option Files → Text → Text → Limits → Status → List ℕ → Prog → Type 0
+RunReported holds name data_file limits status text P =
+    ReadOf holds most_data data_file (λ data_bytes. ReportsRun P name data_bytes limits status text)
 
 -- why a program is not run
 abbrev pub RunAnswered : Option Files → Count → Text → Text → Status → Prog → Type 0
-RunAnswered holds reads name data_file NotBuilt P = (fun : Function) → ¬ (IsOnly P fun)
 RunAnswered holds reads name data_file NoMemory P = Unit {0}
 RunAnswered holds reads name data_file status P = RunRefused holds reads name data_file status P
 
@@ -69,7 +68,7 @@ BoundsRefused P NotBuilt = (fun : Function) → ¬ (IsOnly P fun)
 BoundsRefused P NoMemory = Unit {0}
 BoundsRefused P _ = ⊥
 
--- a run has a billion steps at most
-abbrev pub HasFewSteps : Request → Type 0
-HasFewSteps (Run file name data_file steps) = steps ≤ 1000000000
-HasFewSteps _ = Unit {0}
+-- a run has a billion steps and 2^24 cells at most
+abbrev pub IsWithin : Request → Type 0
+IsWithin (Run file name data_file limits) = (limits.steps ≤ 1000000000) × (limits.cells ≤ 16777216)
+IsWithin _ = Unit {0}

@@ -1,9 +1,10 @@
 // The line that tells a status on the error stream.
 ghost use Rattle.std.specs.Prelude.{◌≡◌, ◌++◌, OnOk, IfOk, string_bytes, decimal};
 ghost use Rattle.simple_types.specs.Read.{fault_of};
-ghost use Rattle.raml_top.specs.Report.{line_of, source_line, placed, parse_text, fault_text, IsPlain};
+ghost use Rattle.raml_top.specs.Report.{line_of, source_line, data_line, placed, parse_text, data_text, fault_text, IsPlain};
 
 use crate::status::{SourceFault, Status, Which};
+use data_text::DataFault;
 use itoa::Buffer;
 use raml_lex::LexFault;
 use raml_parse::ParseFault;
@@ -18,7 +19,8 @@ pub fn plain_line(status: &Status) -> &'static str
     ensures { result.now ≡ line_of status.now }
 {
     match status {
-        Status::Done | Status::Stopped | Status::Source(_) => "",
+        Status::Done | Status::Stopped | Status::HeapFull => "",
+        Status::Source(_) | Status::Data(_) => "",
         Status::Usage => "raml: usage\n",
         Status::ReadFault {
             which: Which::Program,
@@ -28,7 +30,6 @@ pub fn plain_line(status: &Status) -> &'static str
             which: Which::Program,
         } => "raml: too long: program\n",
         Status::TooLong { which: Which::Data } => "raml: too long: data\n",
-        Status::Data(_) => "raml: data: not in this stage\n",
         Status::NoFunction => "raml: no function\n",
         Status::WriteFault => "raml: write failed\n",
         Status::NotBuilt => "raml: not built\n",
@@ -47,6 +48,29 @@ pub fn source_line(alloc: Global, fault: &SourceFault) -> Result<String, AllocEr
     }
     line.push_str("\n")?;
     Ok(line)
+}
+
+/// The line of data that is refused.
+pub fn data_line(alloc: Global, fault: DataFault) -> Result<String, AllocError>
+    ensures { IfOk result (λ line. string_bytes line ≡ data_line fault) }
+{
+    let mut line = String::from_str(alloc, "raml: data: ")?;
+    push_data_fault(&mut line, fault)?;
+    line.push_str("\n")?;
+    Ok(line)
+}
+
+// Appends the first fault of data.
+fn push_data_fault(line: &mut String, fault: DataFault) -> Result<(), AllocError>
+    ensures { OnOk result (string_bytes line.new ≡ string_bytes line.old ++ data_text fault) }
+{
+    match fault {
+        DataFault::NotUtf8 { at } => push_placed(line, "not utf-8", at),
+        DataFault::Shape { at } => push_placed(line, "shape", at),
+        DataFault::TooDeep { at } => push_placed(line, "too deep", at),
+        DataFault::TooManyCells => line.push_str("too many cells"),
+        DataFault::NoMemory => Ok(()),
+    }
 }
 
 // Appends the first fault of a text.

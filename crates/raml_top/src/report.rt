@@ -1,20 +1,28 @@
 // The printed text of a report.
-ghost use Rattle.std.specs.Prelude.{◌≡◌, ◌++◌, codes, map, IfOk, OnOk, string_bytes};
+ghost use Rattle.std.specs.Prelude.{◌≡◌, ◌≤◌, ◌++◌, codes, map, IfOk, IfErr, OnOk, string_bytes};
 ghost use Rattle.raml_syntax.specs.Read.{parameter_of, function_of, program_of};
 ghost use Rattle.simple_types.specs.Read.{types_in};
-ghost use Rattle.scalar_text.specs.Scalar.{IsScalarWord, scalar_value};
+ghost use Rattle.raml_syntax.specs.Read.{ty_of};
+ghost use Rattle.raml_syntax.specs.Value.{Value};
+ghost use Rattle.value_text.specs.Stands.{StandsFor};
+ghost use Rattle.data_text.specs.Printing.{StandsForSome};
+ghost use Rattle.metered_vm.specs.Seen.{cells_in};
+ghost use Rattle.raml_syntax.specs.Node.{program_nodes};
+ghost use Rattle.stack_compile.specs.Text.{code_text};
 ghost use Rattle.metered_vm.specs.Seen.{state_in};
-ghost use Rattle.raml_top.specs.Report.{bound_line, bound_lines, types_behind, types_text, type_line, type_lines, meter_line, meter_lines, value_lines, stopped_lines};
-ghost use Rattle.raml_top.specs.declared.status.Status.TheVariants.{Done, Stopped};
+ghost use Rattle.raml_top.specs.Fragment.{most_bytes};
+ghost use Rattle.raml_top.specs.Report.{bound_line, bound_lines, types_behind, types_text, type_line, type_lines, meter_line, meter_lines, value_line, value_lines, stopped_lines, full_lines};
+ghost use Rattle.raml_top.specs.declared.status.Status.TheVariants.{Done, Stopped, HeapFull, NoMemory};
 
 use crate::status::Status;
 use itoa::Buffer;
+use data_text::{PrintFault, print};
 use metered_vm::Vm;
-use raml_syntax::{Fun, Param, Program};
-use scalar_text::push_word;
-use simple_types::push_type;
+use raml_syntax::{Fun, Param, Program, Ty};
+use simple_types::{Typed, push_type};
+use stack_compile::compile;
 use std::alloc::{AllocError, Global};
-use value_text::Word;
+use value_text::{DataHeap, Word};
 
 /// A report, and how the call ends that writes it.
 #[derive(Drop)]
@@ -35,29 +43,67 @@ impl Report {
     }
 }
 
-/// The report of a machine that has halted with the word, which is an integer or a truth.
-pub fn value_report(alloc: Global, word: Word, vm: &Vm<'_>) -> Result<Report, AllocError>
-    requires { IsScalarWord word }
+/// The report of a machine that has halted with the word, which stands for a value of the type.
+pub fn value_report(alloc: Global, vm: &Vm<'_>, word: Word, ty: &Ty) -> Result<Report, Status>
+    requires { StandsForSome (cells_in vm.now) word (ty_of ty.now) }
     ensures status { IfOk result (λ report. report.status ≡ Done) }
-    ensures text { IfOk result (λ report. string_bytes report.text ≡ value_lines (scalar_value word) (state_in vm.now)) }
+    ensures text { IfOk result (λ report. (value : Value) → StandsFor (cells_in vm.now) word value → string_bytes report.text ≡ value_lines value (ty_of ty.now) (state_in vm.now)) }
+    ensures err { IfErr result (λ status. status ≡ NoMemory) }
 {
-    let mut text = String::from_str(alloc, "value ")?;
-    push_word(&mut text, word)?;
-    text.push_str("\n")?;
+    let mut text = value_line(alloc, vm.heap(), word, ty)?;
     push_meters(&mut text, vm)?;
     Ok(Report::done(text))
 }
 
+// The line of a value, which tells no more than that its text is too long where it is.
+fn value_line(alloc: Global, heap: &DataHeap, word: Word, ty: &Ty) -> Result<String, Status>
+    requires { StandsForSome heap.now.cells word (ty_of ty.now) }
+    ensures text { IfOk result (λ text. (value : Value) → StandsFor heap.now.cells word value → string_bytes text ≡ value_line value (ty_of ty.now)) }
+    ensures err { IfErr result (λ status. status ≡ NoMemory) }
+{
+    match print(alloc, heap, word, ty) {
+        Ok(value) => Ok(spelled_line(alloc, value.as_str())?),
+        Err(PrintFault::TooLong) => {
+            Ok(String::from_str(alloc, "value longer than 16777216 bytes\n")?)
+        }
+        Err(PrintFault::NoMemory) => Err(Status::NoMemory),
+    }
+}
+
+fn spelled_line(alloc: Global, value: &str) -> Result<String, AllocError>
+    ensures { IfOk result (λ text. string_bytes text ≡ codes "value " ++ value.now ++ codes "\n") }
+{
+    let mut text = String::from_str(alloc, "value ")?;
+    text.push_str(value)?;
+    text.push_str("\n")?;
+    Ok(text)
+}
+
 /// The report of a machine that was stopped.
-pub fn stopped_report(alloc: Global, vm: &Vm<'_>) -> Result<Report, AllocError>
+pub fn stopped_report(alloc: Global, vm: &Vm<'_>) -> Result<Report, Status>
     ensures status { IfOk result (λ report. report.status ≡ Stopped) }
     ensures text { IfOk result (λ report. string_bytes report.text ≡ stopped_lines (state_in vm.now)) }
+    ensures err { IfErr result (λ status. status ≡ NoMemory) }
 {
     let mut text = String::from_str(alloc, "stopped\n")?;
     push_meters(&mut text, vm)?;
     Ok(Report {
         text,
         status: Status::Stopped,
+    })
+}
+
+/// The report of a machine that asks for a cell where all are taken.
+pub fn full_report(alloc: Global, vm: &Vm<'_>) -> Result<Report, Status>
+    ensures status { IfOk result (λ report. report.status ≡ HeapFull) }
+    ensures text { IfOk result (λ report. string_bytes report.text ≡ full_lines (state_in vm.now)) }
+    ensures err { IfErr result (λ status. status ≡ NoMemory) }
+{
+    let mut text = String::from_str(alloc, "heap full\n")?;
+    push_meters(&mut text, vm)?;
+    Ok(Report {
+        text,
+        status: Status::HeapFull,
     })
 }
 
@@ -118,6 +164,15 @@ fn push_types_behind(text: &mut String, params: &[Param]) -> Result<(), AllocErr
         push_type(text, &param.ty)?;
     }
     Ok(())
+}
+
+/// The code of the functions of a program.
+pub fn code_lines(alloc: Global, typed: &Typed) -> Result<String, AllocError>
+    requires few_nodes { program_nodes (program_of typed.now) ≤ most_bytes }
+    ensures { IfOk result (λ text. string_bytes text ≡ code_text (program_of typed.now)) }
+{
+    let code = compile(alloc, typed)?;
+    stack_compile::print(alloc, &code)
 }
 
 /// The lines of a function: its name, and its bounds by meter.

@@ -4,8 +4,8 @@ ghost use Rattle.raml_top.specs.Report.{code_of};
 ghost use Rattle.raml_top.specs.Promise.{parse_refusal, type_refusal, data_refusal};
 ghost use Rattle.raml_top.specs.declared.status.Status.TheVariants.{NoMemory};
 
+use data_text::DataFault;
 use raml_parse::ParseFault;
-use scalar_text::DataFault;
 use simple_types::TypeFault;
 use std::alloc::AllocError;
 
@@ -44,9 +44,11 @@ pub enum Status {
     NoFunction,
     /// The report is written whole: the machine has not halted within its instructions.
     Stopped,
+    /// The report is written whole: the machine asks for a cell where all are taken.
+    HeapFull,
     /// A front of the report is written: the rest was refused.
     WriteFault,
-    /// The program is typed, and of a kind that is neither analysed nor run in this stage.
+    /// The program is typed, and of a kind that is not analysed in this stage.
     NotBuilt,
     /// Memory ran out, and nothing of the report is written.
     NoMemory,
@@ -66,6 +68,7 @@ impl Status {
             Status::Data(_) => 5,
             Status::NoFunction => 6,
             Status::Stopped => 10,
+            Status::HeapFull => 11,
             Status::WriteFault => 12,
             Status::NotBuilt => 20,
             Status::NoMemory => 70,

@@ -6,20 +6,21 @@ ghost use Rattle.raml_syntax.specs.Read.{program_of};
 ghost use Rattle.raml_words.specs.Words.{texts};
 ghost use Rattle.raml_words.specs.Asked.{request_of};
 ghost use Rattle.raml_top.specs.Fragment.{IsTyped, most_bytes};
-ghost use Rattle.raml_top.specs.Promise.{outside, counts, Analysis, ReportsProgram, ReportsFile, Reports, Refused, FileRefused, Cause, Forced, Gains, ErrGains, EndsAs};
-ghost use Rattle.raml_top.specs.Steps.{HasFewSteps, TypedRefused, ProgramAnswered, BoundsRefused};
+ghost use Rattle.raml_top.specs.Promise.{outside, counts, Analysis, ReportsProgram, ReportsFile, Reports, Refused, FileRefused, Cause, Forced, Gains, ErrGains, IsMade, EndsAs};
+ghost use Rattle.raml_top.specs.Report.{line_of};
+ghost use Rattle.raml_top.specs.Steps.{IsWithin, TypedRefused, ProgramAnswered, BoundsRefused};
 
 use crate::file::read_file;
 use crate::fragment::{most_ticks, only_function};
-use crate::line::{plain_line, source_line};
-use crate::report::{Report, bound_lines, type_lines};
+use crate::line::{data_line, plain_line, source_line};
+use crate::report::{Report, bound_lines, code_lines, type_lines};
 use crate::run::{Call, run};
 use crate::status::{Status, Which};
 use raml_io::{Sink, Store, put_all};
 use raml_parse::parse;
 use raml_words::{Request, read_words};
 use simple_types::{Typed, check};
-use std::alloc::Global;
+use std::alloc::{AllocError, Global};
 
 /// The limit of a source, in bytes.
 const MOST_BYTES: u64 = 1_048_576;
@@ -51,8 +52,8 @@ pub fn raml<S: Store, O: Sink, E: Sink>(
     tell(alloc, err, status)
 }
 
-// Writes the line of the status to `err`, as far as that takes it. For the line of a source that is
-// refused memory may be wanting, and then the call ends so.
+// Writes the line of the status to `err`, as far as that takes it. For a line that has to be made memory
+// may be wanting, and then the call ends so.
 fn tell<E: Sink>(alloc: Global, err: &mut E, status: Status) -> Status
     ensures status { EndsAs status result }
     ensures told { ErrGains result (record { before = E.faults err.old; after = E.faults err.new }) (E.written err.old) (E.written err.new) }
@@ -61,19 +62,38 @@ fn tell<E: Sink>(alloc: Global, err: &mut E, status: Status) -> Status
     match status {
         Status::Done => Status::Done,
         Status::Stopped => Status::Stopped,
-        Status::Source(fault) => match source_line(alloc, &fault) {
-            Ok(line) => {
-                put_line(err, line.as_str());
-                Status::Source(fault)
-            }
-            Err(_) => {
-                put_line(err, plain_line(&Status::NoMemory));
-                Status::NoMemory
-            }
-        },
+        Status::HeapFull => Status::HeapFull,
+        Status::Source(fault) => {
+            let line = source_line(alloc, &fault);
+            tell_made(err, line, Status::Source(fault))
+        }
+        Status::Data(fault) => {
+            let line = data_line(alloc, fault);
+            tell_made(err, line, Status::Data(fault))
+        }
         status => {
             put_line(err, plain_line(&status));
             status
+        }
+    }
+}
+
+// Writes the line that was made of the status; where memory was wanting for it, the call ends so.
+fn tell_made<E: Sink>(err: &mut E, line: Result<String, AllocError>, status: Status) -> Status
+    requires made { IsMade status }
+    requires line { IfOk line (λ line. string_bytes line ≡ line_of status) }
+    ensures status { EndsAs status.entry result }
+    ensures told { ErrGains result (record { before = E.faults err.old; after = E.faults err.new }) (E.written err.old) (E.written err.new) }
+    ensures later { E.faults err.old ≤ E.faults err.new }
+{
+    match line {
+        Ok(line) => {
+            put_line(err, line.as_str());
+            status
+        }
+        Err(_) => {
+            put_line(err, plain_line(&Status::NoMemory));
+            Status::NoMemory
         }
     }
 }
@@ -122,7 +142,7 @@ fn report_on_file<S: Store>(
     store: &mut S,
     request: Request<'_>,
 ) -> Result<Report, Status>
-    requires few_steps { HasFewSteps (request_of request) }
+    requires within { IsWithin (request_of request) }
     ensures ok { IfOk result (λ report. ReportsFile (S.holds store.old) report.status (string_bytes report.text) (request_of request.entry)) }
     ensures err { IfErr result (λ status. FileRefused (S.holds store.old) (counts (S.faults store.old) (S.faults store.new)) status (request_of request.entry)) }
     ensures kept { S.holds store.new ≡ S.holds store.old }
@@ -154,7 +174,7 @@ fn report_on_program<S: Store>(
 ) -> Result<Report, Status>
     requires limits { WithinLimits (program_of typed.now) }
     requires few_nodes { program_nodes (program_of typed.now) ≤ most_bytes }
-    requires few_steps { HasFewSteps (request_of request) }
+    requires within { IsWithin (request_of request) }
     ensures ok { IfOk result (λ report. ReportsProgram (S.holds store.old) (request_of request.entry) report.status (string_bytes report.text) (program_of typed.now)) }
     ensures err { IfErr result (λ status. ProgramAnswered (S.holds store.old) (counts (S.faults store.old) (S.faults store.new)) (request_of request.entry) status (program_of typed.now)) }
     ensures kept { S.holds store.new ≡ S.holds store.old }
@@ -162,13 +182,14 @@ fn report_on_program<S: Store>(
 {
     match request {
         Request::Types { .. } => Ok(Report::done(type_lines(alloc, typed.program())?)),
+        Request::Code { .. } => Ok(Report::done(code_lines(alloc, typed)?)),
         Request::Analyse { .. } => Ok(Report::done(bounds(alloc, typed)?)),
         Request::Run {
             name,
             data,
-            steps,
+            limits,
             ..
-        } => run(alloc, store, typed, Call { name, data, steps }),
+        } => run(alloc, store, typed, Call { name, data, limits }),
     }
 }
 
