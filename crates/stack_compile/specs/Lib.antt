@@ -5,3 +5,4 @@ pub mod Laws
 pub mod Example
 pub mod Read
 pub mod Kept
+pub mod Text

@@ -5,6 +5,7 @@ ghost use Rattle.raml_syntax.specs.Tree.{Function, Parameter};
 ghost use Rattle.raml_syntax.specs.Types as types;
 ghost use Rattle.raml_syntax.specs.Node.{nodes, program_nodes, AllNodes, NumberFits};
 ghost use Rattle.raml_syntax.specs.Read.{program_of, function_of, parameter_of, term_of};
+ghost use Rattle.simple_types.specs.Small.{IsSmall};
 ghost use Rattle.stack_compile.specs.Code.{code_of, body_of, bodies_of};
 ghost use Rattle.stack_compile.specs.Read.{body_in, code_at, locals_in, program_in, Fits};
 
@@ -56,6 +57,7 @@ impl<'a> Code<'a> {
     pub fn program(&self) -> &Program
         ensures program { result.now ≡ self.now }
         ensures typed { types.Typed (program_of self.now) }
+        ensures small { IsSmall (program_of self.now) }
         ensures numbers { All (λ (g : Function). AllNodes NumberFits g.body) (program_of self.now) }
     {
         self.typed.program()
