@@ -6,3 +6,4 @@ pub mod Example
 pub mod Read
 pub mod Kept
 pub mod Text
+pub mod Emit
