@@ -4,12 +4,14 @@ use Rattle.std.specs.Option.{option_map}
 use Rattle.std.specs.Str.{bytes_eq}
 use Rattle.std.specs.Cmp.Lexicographic.{bytes_decides}
 use Rattle.std.proofs.Math.Seq.{drop-cons}
-use Rattle.raml_syntax.specs.Tree.{Text}
+use Rattle.raml_syntax.specs.Tree.{Text, Prog}
+use Rattle.std.specs.Prelude.{slice_get}
+use Rattle.std.proofs.lemmas.Option.{slice_get-map, slice_get_read}
 use Rattle.raml_syntax.specs.Place.{place_of}
 use Rattle.raml_syntax.specs.Read.{function_of}
 use Rattle.raml_syntax.specs.declared.program.Fun.{Fun}
-use Rattle.stack_compile.specs.Code.{newest, local_of}
-use Rattle.stack_compile.specs.Read.{names_in, scope_step}
+use Rattle.stack_compile.specs.Code.{newest, local_of, body_of, bodies_of}
+use Rattle.stack_compile.specs.Read.{names_in, scope_step, code_in, code_at}
 use Rattle.stack_compile.specs.declared.scope.Scope.{Scope}
 use Rattle.stack_compile.specs.declared.scope.Scope.TheVariants.{Bound, rolls-Bound}
 use Rattle.stack_compile.specs.declared.scope.Scope.TheOpen as o
@@ -93,3 +95,9 @@ place_added f name funs p item old some within read named before =
     (λ k. cond (bytes_eq (named k) f) (Some (p - 1)) (before k))
     ∙ ap (λ b. cond b (Some (p - 1)) (place_from f p (drop p funs))) (bytes_same item.name f)
     ∙ sym (place_from_before f funs (p - 1) p item (omega (arith, some, within)) (omega (arith, some)) read)
+
+-- the code of a function that was read
+pub code_read : (P : Prog) (funs : List Fun) (place : ℕ) (fun : Fun) → P ≡ map function_of funs → place < length funs → fun ≡ slice_index_or funs place fun → code_at (bodies_of P) place ≡ (body_of P (function_of fun)).code
+code_read P funs place fun all inside read =
+    let there = slice_get-map function_of funs place ∙ ap (option_map function_of) (slice_get_read funs (length funs) place fun refl inside read) in
+    ap code_in (slice_get-map (body_of P) P place ∙ ap (option_map (body_of P)) (ap (λ l. slice_get l place) all ∙ there))

@@ -5,3 +5,5 @@ pub mod Laws
 pub mod Example
 pub mod Read
 pub mod Kept
+pub mod Text
+pub mod Emit

@@ -1,10 +1,8 @@
 -- What the code's bodies and scopes are as plain data.
-use Rattle.std.specs.Prelude.{◌<◌, ℕ, ◌+◌, ◌*◌, ◌^◌, List, [], ◌∷◌, ◌++◌, Option, Some, None, slice_get}
-use Rattle.raml_syntax.specs.Tree as t
+use Rattle.std.specs.Prelude.{ℕ, List, [], ◌∷◌, ◌++◌, Option, Some, None, slice_get}
 use Rattle.raml_syntax.specs.Tree.{Text, Prog}
 use Rattle.raml_syntax.specs.Read.{program_of}
 use Rattle.stack_compile.specs.Code as c
-use Rattle.stack_compile.specs.Code.{code_of}
 use Rattle.stack_compile.specs.declared.instr.Instr.{Instr}
 use Rattle.stack_compile.specs.declared.code.Body.{Body}
 use Rattle.stack_compile.specs.declared.scope.Scope.{Scope}
@@ -36,11 +34,3 @@ locals_in env = names_in env.scope.now
 
 abbrev pub program_in : Env → Prog
 program_in env = program_of env.functions.now.program.now
-
--- the code of an expression among these functions and locals
-abbrev pub here : Env → t.Term → c.Code
-here env e = code_of (program_in env) (locals_in env) e
-
--- so many nodes below so many locals, behind so many instructions, have places and locals of 32 bits
-abbrev pub Fits : ℕ → ℕ → ℕ → Type 0
-Fits locals at n = (locals + 3 * n < 2 ^ 32) × (at + 4 * n < 2 ^ 32)

@@ -1,12 +1,14 @@
 // The code of a program.
 ghost use Rattle.std.specs.Prelude.{◌≡◌, ◌≤◌, ◌<◌, ◌+◌, ◌^◌, ◌++◌, IfOk, OnOk, Some, length, map, vec_len, slice_get};
 ghost use Rattle.std.specs.List.{All};
-ghost use Rattle.raml_syntax.specs.Tree.{Function, Parameter};
+ghost use Rattle.raml_syntax.specs.Tree.{Function};
 ghost use Rattle.raml_syntax.specs.Types as types;
 ghost use Rattle.raml_syntax.specs.Node.{nodes, program_nodes, AllNodes, NumberFits};
-ghost use Rattle.raml_syntax.specs.Read.{program_of, function_of, parameter_of, term_of};
-ghost use Rattle.stack_compile.specs.Code.{code_of, body_of, bodies_of};
-ghost use Rattle.stack_compile.specs.Read.{body_in, code_at, locals_in, program_in, Fits};
+ghost use Rattle.raml_syntax.specs.Read.{program_of, function_of, term_of};
+ghost use Rattle.simple_types.specs.Small.{IsSmall};
+ghost use Rattle.stack_compile.specs.Code.{body_of, bodies_of};
+ghost use Rattle.stack_compile.specs.Emit.{below_all, size, NumbersFit, HasRoom};
+ghost use Rattle.stack_compile.specs.Read.{body_in, code_at};
 
 use crate::emit::{emit, put};
 use crate::functions::Functions;
@@ -18,7 +20,7 @@ use std::alloc::{AllocError, Global};
 use std::marker::Model;
 
 /// How many parameters a function has, and its instructions.
-#[derive(Drop)]
+#[derive(Debug, Drop)]
 pub struct Body {
     pub arity: u32,
     pub code: Vec<Instr>,
@@ -56,6 +58,7 @@ impl<'a> Code<'a> {
     pub fn program(&self) -> &Program
         ensures program { result.now ≡ self.now }
         ensures typed { types.Typed (program_of self.now) }
+        ensures small { IsSmall (program_of self.now) }
         ensures numbers { All (λ (g : Function). AllNodes NumberFits g.body) (program_of self.now) }
     {
         self.typed.program()
@@ -92,10 +95,9 @@ fn emit_below<'s, 'a>(
     params: &'a [Param],
     e: &'a Expr,
 ) -> Result<(), AllocError>
-    requires numbered { env.depth ≡ length (locals_in env) }
-    requires fits { Fits (env.depth + length params.now) (vec_len code.old) (nodes (term_of e.now)) }
-    ensures code { OnOk result (code.new.items ≡ code.old.items ++ code_of (program_in env.entry) (locals_in env.entry ++ map (λ (p : Parameter). p.name) (map parameter_of params.now)) (term_of e.now) (vec_len code.old)) }
-    ensures numbers { OnOk result (AllNodes NumberFits (term_of e.now)) }
+    requires { HasRoom env (length params.now) (vec_len code.old) (size e.now) }
+    ensures code { OnOk result (code.new.items ≡ code.old.items ++ below_all env.entry params.now e.now (vec_len code.old)) }
+    ensures numbers { OnOk result (NumbersFit e.now) }
 {
     match params {
         [] => emit(code, env, e),

@@ -1,11 +1,11 @@
 // The code of expressions. Jumps are written once the code that they pass is there.
 ghost use Rattle.std.specs.Prelude.{◌≡◌, ◌≤◌, ◌+◌, ◌*◌, [], ◌∷◌, ◌++◌, length, OnOk, vec_len};
-ghost use Rattle.raml_syntax.specs.Read.{term_of, terms_of, bound_of};
-ghost use Rattle.raml_syntax.specs.Tree as t;
-ghost use Rattle.raml_syntax.specs.Node.{nodes, nodes_of_all, AllNodes, AllOf, NumberFits};
+ghost use Rattle.raml_syntax.specs.Read.{terms_of};
+ghost use Rattle.raml_syntax.specs.Node.{nodes_of_all, AllOf, NumberFits};
 ghost use Rattle.stack_compile.specs.Code as c;
-ghost use Rattle.stack_compile.specs.Code.{code_of, codes_of, one, seq, bind_one};
-ghost use Rattle.stack_compile.specs.Read.{here, locals_in, program_in, Fits};
+ghost use Rattle.stack_compile.specs.Code.{one, seq, fork};
+ghost use Rattle.stack_compile.specs.Emit.{here, below, bound_in, leave_of, size, NumbersFit, HasRoom, Appended, binders, arguments_in, call_in, let_in, node_in};
+ghost use Rattle.stack_compile.specs.declared.instr.Instr.TheVariants.{Branch, Tick};
 
 use crate::instr::Instr;
 use crate::scope::{Env, Scope};
@@ -34,14 +34,34 @@ fn arith_code(op: ArithOp) -> Instr
     }
 }
 
+/// What a match takes apart.
+#[derive(Clone, Copy)]
+enum Case {
+    List,
+    Tree,
+    Option,
+}
+
+impl Case {
+    /// The instruction that leaves for a place where there is nothing to take apart.
+    fn leave(self, to: u32) -> Instr
+        ensures { result ≡ leave_of self to }
+    {
+        match self {
+            Case::List => Instr::CaseList(to),
+            Case::Tree => Instr::CaseTree(to),
+            Case::Option => Instr::CaseOption(to),
+        }
+    }
+}
+
 /// Appends the code of an expression.
 #[cycle(emit)]
 pub fn emit<'s, 'a>(code: &mut Vec<Instr>, env: Env<'s, 'a>, e: &'a Expr) -> Result<(), AllocError>
-    requires numbered { env.depth ≡ length (locals_in env) }
-    requires fits { Fits env.depth (vec_len code.old) (nodes (term_of e.now)) }
-    ensures code { OnOk result (code.new.items ≡ code.old.items ++ here env.entry (term_of e.now) (vec_len code.old)) }
-    ensures short { OnOk result (vec_len code.new ≤ vec_len code.old + 4 * nodes (term_of e.now)) }
-    ensures numbers { OnOk result (AllNodes NumberFits (term_of e.now)) }
+    requires { HasRoom env 0 (vec_len code.old) (size e.now) }
+    ensures code { OnOk result (Appended (here env.entry e.now) code.old code.new) }
+    ensures short { OnOk result (vec_len code.new ≤ vec_len code.old + 4 * (size e.now)) }
+    ensures numbers { OnOk result (NumbersFit e.now) }
 {
     match &e.form {
         Form::Number(n) => put(code, Instr::Int(*n)),
@@ -58,17 +78,19 @@ pub fn emit<'s, 'a>(code: &mut Vec<Instr>, env: Env<'s, 'a>, e: &'a Expr) -> Res
         Form::Node(element, left, right) => emit_node(code, env, element, left, right),
         Form::Just(part) => emit_one(code, env, part, Instr::Some),
         Form::Call(name, args) => emit_call(code, env, name, args),
-        Form::Let(x, bound, rest) => emit_let(code, env, x, bound, rest),
-        Form::LetPair(x, y, bound, rest) => emit_let_pair(code, env, x, y, bound, rest),
+        Form::Let(x, bound, rest) => emit_let(code, env, bound, Instr::Bind, &[x], rest),
+        Form::LetPair(x, y, bound, rest) => {
+            emit_let(code, env, bound, Instr::Unpair, &[x, y], rest)
+        }
         Form::If(condition, yes, no) => emit_if(code, env, condition, yes, no),
         Form::MatchList(subject, empty, x, y, rest) => {
-            emit_match_list(code, env, subject, empty, x, y, rest)
+            emit_match(code, env, subject, Case::List, &[x, y], rest, empty)
         }
         Form::MatchTree(subject, empty, x, y, z, rest) => {
-            emit_match_tree(code, env, subject, empty, x, y, z, rest)
+            emit_match(code, env, subject, Case::Tree, &[x, y, z], rest, empty)
         }
         Form::MatchOption(subject, empty, x, rest) => {
-            emit_match_option(code, env, subject, empty, x, rest)
+            emit_match(code, env, subject, Case::Option, &[x], rest, empty)
         }
         Form::Tick(n, rest) => emit_tick(code, env, *n, rest),
         Form::Typed(part, _) => emit(code, env, part),
@@ -83,11 +105,10 @@ fn emit_one<'s, 'a>(
     part: &'a Expr,
     last: Instr,
 ) -> Result<(), AllocError>
-    requires numbered { env.depth ≡ length (locals_in env) }
-    requires fits { Fits env.depth (vec_len code.old) (1 + nodes (term_of part.now)) }
-    ensures code { OnOk result (code.new.items ≡ code.old.items ++ seq (here env.entry (term_of part.now)) (one last) (vec_len code.old)) }
-    ensures short { OnOk result (vec_len code.new ≤ vec_len code.old + 4 * (1 + nodes (term_of part.now))) }
-    ensures numbers { OnOk result (AllNodes NumberFits (term_of part.now)) }
+    requires { HasRoom env 0 (vec_len code.old) (1 + size part.now) }
+    ensures code { OnOk result (Appended (seq (here env.entry part.now) (one last)) code.old code.new) }
+    ensures short { OnOk result (vec_len code.new ≤ vec_len code.old + 4 * (1 + size part.now)) }
+    ensures numbers { OnOk result (NumbersFit part.now) }
 {
     emit(code, env, part)?;
     put(code, last)
@@ -102,11 +123,10 @@ fn emit_two<'s, 'a>(
     right: &'a Expr,
     last: Instr,
 ) -> Result<(), AllocError>
-    requires numbered { env.depth ≡ length (locals_in env) }
-    requires fits { Fits env.depth (vec_len code.old) (1 + nodes (term_of left.now) + nodes (term_of right.now)) }
-    ensures code { OnOk result (code.new.items ≡ code.old.items ++ seq (here env.entry (term_of left.now)) (seq (here env.entry (term_of right.now)) (one last)) (vec_len code.old)) }
-    ensures short { OnOk result (vec_len code.new ≤ vec_len code.old + 4 * (1 + nodes (term_of left.now) + nodes (term_of right.now))) }
-    ensures numbers { OnOk result (AllNodes NumberFits (term_of left.now) × AllNodes NumberFits (term_of right.now)) }
+    requires { HasRoom env 0 (vec_len code.old) (1 + size left.now + size right.now) }
+    ensures code { OnOk result (Appended (seq (here env.entry left.now) (seq (here env.entry right.now) (one last))) code.old code.new) }
+    ensures short { OnOk result (vec_len code.new ≤ vec_len code.old + 4 * (1 + size left.now + size right.now)) }
+    ensures numbers { OnOk result (NumbersFit left.now × NumbersFit right.now) }
 {
     emit(code, env, left)?;
     emit(code, env, right)?;
@@ -122,11 +142,10 @@ fn emit_node<'s, 'a>(
     left: &'a Expr,
     right: &'a Expr,
 ) -> Result<(), AllocError>
-    requires numbered { env.depth ≡ length (locals_in env) }
-    requires fits { Fits env.depth (vec_len code.old) (nodes (t.Node 0 (term_of element.now) (term_of left.now) (term_of right.now))) }
-    ensures code { OnOk result (code.new.items ≡ code.old.items ++ here env.entry (t.Node 0 (term_of element.now) (term_of left.now) (term_of right.now)) (vec_len code.old)) }
-    ensures short { OnOk result (vec_len code.new ≤ vec_len code.old + 4 * nodes (t.Node 0 (term_of element.now) (term_of left.now) (term_of right.now))) }
-    ensures numbers { OnOk result (AllNodes NumberFits (t.Node 0 (term_of element.now) (term_of left.now) (term_of right.now))) }
+    requires { HasRoom env 0 (vec_len code.old) (1 + size element.now + size left.now + size right.now) }
+    ensures code { OnOk result (Appended (node_in env.entry element.now left.now right.now) code.old code.new) }
+    ensures short { OnOk result (vec_len code.new ≤ vec_len code.old + 4 * (1 + size element.now + size left.now + size right.now)) }
+    ensures numbers { OnOk result (NumbersFit element.now × NumbersFit left.now × NumbersFit right.now) }
 {
     emit(code, env, element)?;
     emit_two(code, env, left, right, Instr::Node)
@@ -139,10 +158,9 @@ fn emit_all<'s, 'a>(
     env: Env<'s, 'a>,
     args: &'a [Expr],
 ) -> Result<(), AllocError>
-    requires numbered { env.depth ≡ length (locals_in env) }
-    requires fits { Fits env.depth (vec_len code.old) (nodes_of_all (terms_of args.now)) }
-    ensures code { OnOk result (code.new.items ≡ code.old.items ++ codes_of (program_in env.entry) (locals_in env.entry) (terms_of args.now) (vec_len code.old)) }
-    ensures short { OnOk result (vec_len code.new ≤ vec_len code.old + 4 * nodes_of_all (terms_of args.now)) }
+    requires { HasRoom env 0 (vec_len code.old) (nodes_of_all (terms_of args.now)) }
+    ensures code { OnOk result (Appended (arguments_in env.entry args.now) code.old code.new) }
+    ensures short { OnOk result (vec_len code.new ≤ vec_len code.old + 4 * (nodes_of_all (terms_of args.now))) }
     ensures numbers { OnOk result (AllOf NumberFits (terms_of args.now)) }
 {
     for arg in args {
@@ -159,141 +177,83 @@ fn emit_call<'s, 'a>(
     name: &'a Name,
     args: &'a [Expr],
 ) -> Result<(), AllocError>
-    requires numbered { env.depth ≡ length (locals_in env) }
-    requires fits { Fits env.depth (vec_len code.old) (nodes (t.Call 0 name.now (terms_of args.now))) }
-    ensures code { OnOk result (code.new.items ≡ code.old.items ++ here env.entry (t.Call 0 name.now (terms_of args.now)) (vec_len code.old)) }
-    ensures short { OnOk result (vec_len code.new ≤ vec_len code.old + 4 * nodes (t.Call 0 name.now (terms_of args.now))) }
-    ensures numbers { OnOk result (AllNodes NumberFits (t.Call 0 name.now (terms_of args.now))) }
+    requires { HasRoom env 0 (vec_len code.old) (1 + nodes_of_all (terms_of args.now)) }
+    ensures code { OnOk result (Appended (call_in env.entry name.now args.now) code.old code.new) }
+    ensures short { OnOk result (vec_len code.new ≤ vec_len code.old + 4 * (1 + nodes_of_all (terms_of args.now))) }
+    ensures numbers { OnOk result (AllOf NumberFits (terms_of args.now)) }
 {
     emit_all(code, env, args)?;
     put(code, Instr::Call(env.functions.find(name.text())))
 }
 
-/// Appends the code of an expression below one more local.
+/// Appends the code of an expression below more locals.
 #[cycle(emit)]
-fn emit_below_one<'s, 'a>(
+fn emit_below<'s, 'a>(
     code: &mut Vec<Instr>,
     env: Env<'s, 'a>,
-    x: &'a Binder,
+    names: &[&'a Binder],
     e: &'a Expr,
 ) -> Result<(), AllocError>
-    requires numbered { env.depth ≡ length (locals_in env) }
-    requires fits { Fits (env.depth + 1) (vec_len code.old) (nodes (term_of e.now)) }
-    ensures code { OnOk result (code.new.items ≡ code.old.items ++ code_of (program_in env.entry) (bind_one (locals_in env.entry) (bound_of x.now)) (term_of e.now) (vec_len code.old)) }
-    ensures short { OnOk result (vec_len code.new ≤ vec_len code.old + 4 * nodes (term_of e.now)) }
-    ensures numbers { OnOk result (AllNodes NumberFits (term_of e.now)) }
+    requires { HasRoom env (length names.now) (vec_len code.old) (size e.now) }
+    ensures code { OnOk result (Appended (below env.entry (binders names.now) e.now) code.old code.new) }
+    ensures short { OnOk result (vec_len code.new ≤ vec_len code.old + 4 * (size e.now)) }
+    ensures numbers { OnOk result (NumbersFit e.now) }
 {
-    let scope = Scope::Bound {
-        name: &x.name,
-        outer: env.scope,
-    };
-    let functions = env.functions;
-    let inner = Env {
-        functions,
-        scope: &scope,
-        depth: env.depth + 1,
-    };
-    emit(code, inner, e)
+    match names {
+        [] => emit(code, env, e),
+        [first, rest @ ..] => {
+            let scope = Scope::Bound {
+                name: &first.name,
+                outer: env.scope,
+            };
+            let functions = env.functions;
+            let inner = Env {
+                functions,
+                scope: &scope,
+                depth: env.depth + 1,
+            };
+            emit_below(code, inner, rest, e)
+        }
+    }
 }
 
-/// Appends the code of an expression below two more locals.
+/// Appends the code of an expression below at most three more locals, and their end.
 #[cycle(emit)]
-fn emit_below_two<'s, 'a>(
+fn emit_bound<'s, 'a>(
     code: &mut Vec<Instr>,
     env: Env<'s, 'a>,
-    x: &'a Binder,
-    y: &'a Binder,
+    names: &[&'a Binder],
     e: &'a Expr,
 ) -> Result<(), AllocError>
-    requires numbered { env.depth ≡ length (locals_in env) }
-    requires fits { Fits (env.depth + 2) (vec_len code.old) (nodes (term_of e.now)) }
-    ensures code { OnOk result (code.new.items ≡ code.old.items ++ code_of (program_in env.entry) (bind_one (bind_one (locals_in env.entry) (bound_of x.now)) (bound_of y.now)) (term_of e.now) (vec_len code.old)) }
-    ensures short { OnOk result (vec_len code.new ≤ vec_len code.old + 4 * nodes (term_of e.now)) }
-    ensures numbers { OnOk result (AllNodes NumberFits (term_of e.now)) }
+    requires few { length names.now ≤ 3 }
+    requires room { HasRoom env 3 (vec_len code.old) (size e.now) }
+    ensures code { OnOk result (Appended (bound_in env.entry (binders names.now) e.now) code.old code.new) }
+    ensures short { OnOk result (vec_len code.new ≤ vec_len code.old + 4 * size e.now + 1) }
+    ensures numbers { OnOk result (NumbersFit e.now) }
 {
-    let scope = Scope::Bound {
-        name: &x.name,
-        outer: env.scope,
-    };
-    let functions = env.functions;
-    let inner = Env {
-        functions,
-        scope: &scope,
-        depth: env.depth + 1,
-    };
-    emit_below_one(code, inner, y, e)
+    emit_below(code, env, names, e)?;
+    put(code, Instr::Unbind(names.len() as u32))
 }
 
-/// Appends the code of an expression below three more locals.
-#[cycle(emit)]
-fn emit_below_three<'s, 'a>(
-    code: &mut Vec<Instr>,
-    env: Env<'s, 'a>,
-    x: &'a Binder,
-    y: &'a Binder,
-    z: &'a Binder,
-    e: &'a Expr,
-) -> Result<(), AllocError>
-    requires numbered { env.depth ≡ length (locals_in env) }
-    requires fits { Fits (env.depth + 3) (vec_len code.old) (nodes (term_of e.now)) }
-    ensures code { OnOk result (code.new.items ≡ code.old.items ++ code_of (program_in env.entry) (bind_one (bind_one (bind_one (locals_in env.entry) (bound_of x.now)) (bound_of y.now)) (bound_of z.now)) (term_of e.now) (vec_len code.old)) }
-    ensures short { OnOk result (vec_len code.new ≤ vec_len code.old + 4 * nodes (term_of e.now)) }
-    ensures numbers { OnOk result (AllNodes NumberFits (term_of e.now)) }
-{
-    let scope = Scope::Bound {
-        name: &x.name,
-        outer: env.scope,
-    };
-    let functions = env.functions;
-    let inner = Env {
-        functions,
-        scope: &scope,
-        depth: env.depth + 1,
-    };
-    emit_below_two(code, inner, y, z, e)
-}
-
-/// Appends the code of `let x = bound in rest`.
+/// Appends the code of what is bound, the instruction that binds it, and the code below its names.
 #[cycle(emit)]
 fn emit_let<'s, 'a>(
     code: &mut Vec<Instr>,
     env: Env<'s, 'a>,
-    x: &'a Binder,
     bound: &'a Expr,
+    bind: Instr,
+    names: &[&'a Binder],
     rest: &'a Expr,
 ) -> Result<(), AllocError>
-    requires numbered { env.depth ≡ length (locals_in env) }
-    requires fits { Fits env.depth (vec_len code.old) (nodes (t.Let 0 (bound_of x.now) (term_of bound.now) (term_of rest.now))) }
-    ensures code { OnOk result (code.new.items ≡ code.old.items ++ here env.entry (t.Let 0 (bound_of x.now) (term_of bound.now) (term_of rest.now)) (vec_len code.old)) }
-    ensures short { OnOk result (vec_len code.new ≤ vec_len code.old + 4 * nodes (t.Let 0 (bound_of x.now) (term_of bound.now) (term_of rest.now))) }
-    ensures numbers { OnOk result (AllNodes NumberFits (t.Let 0 (bound_of x.now) (term_of bound.now) (term_of rest.now))) }
+    requires few { length names.now ≤ 3 }
+    requires room { HasRoom env 0 (vec_len code.old) (1 + size bound.now + size rest.now) }
+    ensures code { OnOk result (Appended (let_in env.entry bind (binders names.now) bound.now rest.now) code.old code.new) }
+    ensures short { OnOk result (vec_len code.new ≤ vec_len code.old + 4 * (1 + size bound.now + size rest.now)) }
+    ensures numbers { OnOk result (NumbersFit bound.now × NumbersFit rest.now) }
 {
     emit(code, env, bound)?;
-    put(code, Instr::Bind)?;
-    emit_below_one(code, env, x, rest)?;
-    put(code, Instr::Unbind(1))
-}
-
-/// Appends the code of `let (x, y) = bound in rest`.
-#[cycle(emit)]
-fn emit_let_pair<'s, 'a>(
-    code: &mut Vec<Instr>,
-    env: Env<'s, 'a>,
-    x: &'a Binder,
-    y: &'a Binder,
-    bound: &'a Expr,
-    rest: &'a Expr,
-) -> Result<(), AllocError>
-    requires numbered { env.depth ≡ length (locals_in env) }
-    requires fits { Fits env.depth (vec_len code.old) (nodes (t.LetPair 0 (bound_of x.now) (bound_of y.now) (term_of bound.now) (term_of rest.now))) }
-    ensures code { OnOk result (code.new.items ≡ code.old.items ++ here env.entry (t.LetPair 0 (bound_of x.now) (bound_of y.now) (term_of bound.now) (term_of rest.now)) (vec_len code.old)) }
-    ensures short { OnOk result (vec_len code.new ≤ vec_len code.old + 4 * nodes (t.LetPair 0 (bound_of x.now) (bound_of y.now) (term_of bound.now) (term_of rest.now))) }
-    ensures numbers { OnOk result (AllNodes NumberFits (t.LetPair 0 (bound_of x.now) (bound_of y.now) (term_of bound.now) (term_of rest.now))) }
-{
-    emit(code, env, bound)?;
-    put(code, Instr::Unpair)?;
-    emit_below_two(code, env, x, y, rest)?;
-    put(code, Instr::Unbind(2))
+    put(code, bind)?;
+    emit_bound(code, env, names, rest)
 }
 
 /// Appends the code of `if condition then yes else no`.
@@ -305,11 +265,10 @@ fn emit_if<'s, 'a>(
     yes: &'a Expr,
     no: &'a Expr,
 ) -> Result<(), AllocError>
-    requires numbered { env.depth ≡ length (locals_in env) }
-    requires fits { Fits env.depth (vec_len code.old) (nodes (t.If 0 (term_of condition.now) (term_of yes.now) (term_of no.now))) }
-    ensures code { OnOk result (code.new.items ≡ code.old.items ++ here env.entry (t.If 0 (term_of condition.now) (term_of yes.now) (term_of no.now)) (vec_len code.old)) }
-    ensures short { OnOk result (vec_len code.new ≤ vec_len code.old + 4 * nodes (t.If 0 (term_of condition.now) (term_of yes.now) (term_of no.now))) }
-    ensures numbers { OnOk result (AllNodes NumberFits (t.If 0 (term_of condition.now) (term_of yes.now) (term_of no.now))) }
+    requires { HasRoom env 0 (vec_len code.old) (1 + size condition.now + size yes.now + size no.now) }
+    ensures code { OnOk result (Appended (fork (here env.entry condition.now) Branch (here env.entry yes.now) (here env.entry no.now)) code.old code.new) }
+    ensures short { OnOk result (vec_len code.new ≤ vec_len code.old + 4 * (1 + size condition.now + size yes.now + size no.now)) }
+    ensures numbers { OnOk result (NumbersFit condition.now × NumbersFit yes.now × NumbersFit no.now) }
 {
     emit(code, env, condition)?;
     let leave = code.len();
@@ -323,92 +282,31 @@ fn emit_if<'s, 'a>(
     Ok(())
 }
 
-/// Appends the code of a match on a list, the part for a head and a tail first.
+/// Appends the code of a match, the part for what is taken apart first.
 #[cycle(emit)]
-fn emit_match_list<'s, 'a>(
+fn emit_match<'s, 'a>(
     code: &mut Vec<Instr>,
     env: Env<'s, 'a>,
     subject: &'a Expr,
+    case: Case,
+    names: &[&'a Binder],
+    part: &'a Expr,
     empty: &'a Expr,
-    x: &'a Binder,
-    y: &'a Binder,
-    rest: &'a Expr,
 ) -> Result<(), AllocError>
-    requires numbered { env.depth ≡ length (locals_in env) }
-    requires fits { Fits env.depth (vec_len code.old) (nodes (t.MatchList 0 (term_of subject.now) (term_of empty.now) (bound_of x.now) (bound_of y.now) (term_of rest.now))) }
-    ensures code { OnOk result (code.new.items ≡ code.old.items ++ here env.entry (t.MatchList 0 (term_of subject.now) (term_of empty.now) (bound_of x.now) (bound_of y.now) (term_of rest.now)) (vec_len code.old)) }
-    ensures short { OnOk result (vec_len code.new ≤ vec_len code.old + 4 * nodes (t.MatchList 0 (term_of subject.now) (term_of empty.now) (bound_of x.now) (bound_of y.now) (term_of rest.now))) }
-    ensures numbers { OnOk result (AllNodes NumberFits (t.MatchList 0 (term_of subject.now) (term_of empty.now) (bound_of x.now) (bound_of y.now) (term_of rest.now))) }
+    requires few { length names.now ≤ 3 }
+    requires room { HasRoom env 0 (vec_len code.old) (1 + size subject.now + size empty.now + size part.now) }
+    ensures code { OnOk result (Appended (fork (here env.entry subject.now) (leave_of case) (bound_in env.entry (binders names.now) part.now) (here env.entry empty.now)) code.old code.new) }
+    ensures short { OnOk result (vec_len code.new ≤ vec_len code.old + 4 * (1 + size subject.now + size empty.now + size part.now)) }
+    ensures numbers { OnOk result (NumbersFit subject.now × NumbersFit empty.now × NumbersFit part.now) }
 {
     emit(code, env, subject)?;
     let leave = code.len();
-    put(code, Instr::CaseList(0))?;
-    emit_below_two(code, env, x, y, rest)?;
-    put(code, Instr::Unbind(2))?;
+    put(code, case.leave(0))?;
+    emit_bound(code, env, names, part)?;
     let jump = code.len();
     put(code, Instr::Jump(0))?;
     emit(code, env, empty)?;
-    code[leave] = Instr::CaseList(jump as u32 + 1);
-    code[jump] = Instr::Jump(code.len() as u32);
-    Ok(())
-}
-
-/// Appends the code of a match on a tree, the part for a node first.
-#[cycle(emit)]
-fn emit_match_tree<'s, 'a>(
-    code: &mut Vec<Instr>,
-    env: Env<'s, 'a>,
-    subject: &'a Expr,
-    empty: &'a Expr,
-    x: &'a Binder,
-    y: &'a Binder,
-    z: &'a Binder,
-    rest: &'a Expr,
-) -> Result<(), AllocError>
-    requires numbered { env.depth ≡ length (locals_in env) }
-    requires fits { Fits env.depth (vec_len code.old) (nodes (t.MatchTree 0 (term_of subject.now) (term_of empty.now) (bound_of x.now) (bound_of y.now) (bound_of z.now) (term_of rest.now))) }
-    ensures code { OnOk result (code.new.items ≡ code.old.items ++ here env.entry (t.MatchTree 0 (term_of subject.now) (term_of empty.now) (bound_of x.now) (bound_of y.now) (bound_of z.now) (term_of rest.now)) (vec_len code.old)) }
-    ensures short { OnOk result (vec_len code.new ≤ vec_len code.old + 4 * nodes (t.MatchTree 0 (term_of subject.now) (term_of empty.now) (bound_of x.now) (bound_of y.now) (bound_of z.now) (term_of rest.now))) }
-    ensures numbers { OnOk result (AllNodes NumberFits (t.MatchTree 0 (term_of subject.now) (term_of empty.now) (bound_of x.now) (bound_of y.now) (bound_of z.now) (term_of rest.now))) }
-{
-    emit(code, env, subject)?;
-    let leave = code.len();
-    put(code, Instr::CaseTree(0))?;
-    emit_below_three(code, env, x, y, z, rest)?;
-    put(code, Instr::Unbind(3))?;
-    let jump = code.len();
-    put(code, Instr::Jump(0))?;
-    emit(code, env, empty)?;
-    code[leave] = Instr::CaseTree(jump as u32 + 1);
-    code[jump] = Instr::Jump(code.len() as u32);
-    Ok(())
-}
-
-/// Appends the code of a match on an option, the part for a content first.
-#[cycle(emit)]
-fn emit_match_option<'s, 'a>(
-    code: &mut Vec<Instr>,
-    env: Env<'s, 'a>,
-    subject: &'a Expr,
-    empty: &'a Expr,
-    x: &'a Binder,
-    rest: &'a Expr,
-) -> Result<(), AllocError>
-    requires numbered { env.depth ≡ length (locals_in env) }
-    requires fits { Fits env.depth (vec_len code.old) (nodes (t.MatchOption 0 (term_of subject.now) (term_of empty.now) (bound_of x.now) (term_of rest.now))) }
-    ensures code { OnOk result (code.new.items ≡ code.old.items ++ here env.entry (t.MatchOption 0 (term_of subject.now) (term_of empty.now) (bound_of x.now) (term_of rest.now)) (vec_len code.old)) }
-    ensures short { OnOk result (vec_len code.new ≤ vec_len code.old + 4 * nodes (t.MatchOption 0 (term_of subject.now) (term_of empty.now) (bound_of x.now) (term_of rest.now))) }
-    ensures numbers { OnOk result (AllNodes NumberFits (t.MatchOption 0 (term_of subject.now) (term_of empty.now) (bound_of x.now) (term_of rest.now))) }
-{
-    emit(code, env, subject)?;
-    let leave = code.len();
-    put(code, Instr::CaseOption(0))?;
-    emit_below_one(code, env, x, rest)?;
-    put(code, Instr::Unbind(1))?;
-    let jump = code.len();
-    put(code, Instr::Jump(0))?;
-    emit(code, env, empty)?;
-    code[leave] = Instr::CaseOption(jump as u32 + 1);
+    code[leave] = case.leave(jump as u32 + 1);
     code[jump] = Instr::Jump(code.len() as u32);
     Ok(())
 }
@@ -421,11 +319,10 @@ fn emit_tick<'s, 'a>(
     n: u32,
     rest: &'a Expr,
 ) -> Result<(), AllocError>
-    requires numbered { env.depth ≡ length (locals_in env) }
-    requires fits { Fits env.depth (vec_len code.old) (nodes (t.Tick 0 n (term_of rest.now))) }
-    ensures code { OnOk result (code.new.items ≡ code.old.items ++ here env.entry (t.Tick 0 n (term_of rest.now)) (vec_len code.old)) }
-    ensures short { OnOk result (vec_len code.new ≤ vec_len code.old + 4 * nodes (t.Tick 0 n (term_of rest.now))) }
-    ensures numbers { OnOk result (AllNodes NumberFits (t.Tick 0 n (term_of rest.now))) }
+    requires { HasRoom env 0 (vec_len code.old) (1 + size rest.now) }
+    ensures code { OnOk result (Appended (seq (one (Tick n)) (here env.entry rest.now)) code.old code.new) }
+    ensures short { OnOk result (vec_len code.new ≤ vec_len code.old + 4 * (1 + size rest.now)) }
+    ensures numbers { OnOk result (NumbersFit rest.now) }
 {
     put(code, Instr::Tick(n))?;
     emit(code, env, rest)

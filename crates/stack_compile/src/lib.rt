@@ -8,6 +8,8 @@ mod functions;
 mod instr;
 pub mod laws;
 mod scope;
+mod text;
 
 pub use code::{Body, Code, compile};
 pub use instr::Instr;
+pub use text::print;
