@@ -25,7 +25,7 @@ use Rattle.raml_parse.specs.declared.stop.Stop.{Stop}
 use Rattle.raml_parse.specs.declared.stop.Stop.TheVariants as f
 
 abbrev pub word_at : Word → ℕ → Token
-word_at (w.Name x) p = Name p x
+word_at (w.Name x) p = Name p x.now
 word_at (w.Number n) p = Number p n
 word_at (w.Sign k) p = Key p k
 
@@ -59,8 +59,8 @@ phrase x = (Phrase (term_of x.0), x.1, rest x.2)
 abbrev pub boxed : Box Expr × ℕ × Bor (List Piece) → Part × ℕ × List Token
 boxed x = (Phrase (term_of x.0.value), x.1, rest x.2)
 
-abbrev pub typing : Ty × ℕ × Bor (List Piece) → Part × ℕ × List Token
-typing x = (Typing (ty_of x.0), x.1, rest x.2)
+abbrev pub typing : Box Ty × ℕ × Bor (List Piece) → Part × ℕ × List Token
+typing x = (Typing (ty_of x.0.value), x.1, rest x.2)
 
 abbrev pub header : Param × ℕ × Bor (List Piece) → Part × ℕ × List Token
 header x = (Header (parameter_of x.0), x.1, rest x.2)
