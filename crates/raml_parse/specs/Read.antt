@@ -1,5 +1,5 @@
 -- What the code's tokens and answers are as plain data.
-use Rattle.std.specs.Prelude.{◌≡◌, ℕ, List, [], ◌∷◌, ◌++◌, map, reverse, Result, Ok, Err, Vec}
+use Rattle.std.specs.Prelude.{◌≡◌, ℕ, List, [], ◌∷◌, ◌++◌, map, reverse, Result, Ok, Err, Vec, ◌≤◌, length}
 use Rattle.std.specs.Borrow.{Bor}
 use Rattle.std.specs.Global.{Global, Box}
 use Rattle.token_grammar.specs.Reading.{Fault}
@@ -100,6 +100,11 @@ functions_back (f ∷ fs) = marks fs ++ (headed f ∷ [])
 abbrev pub StartsAt : ℕ → List Fun → Type 0
 StartsAt p [] = ⊥
 StartsAt p (f ∷ fs) = f.at.0 ≡ p
+
+-- each function has a parameter
+abbrev pub HaveParameters : List Fun → Type 0
+HaveParameters [] = Unit {0}
+HaveParameters (f ∷ fs) = (1 ≤ length f.params.items) × HaveParameters fs
 
 abbrev pub functions : Vec Fun Global × ℕ × Bor (List Piece) → List Part × ℕ × List Token
 functions x = (functions_back x.0.items, x.1, rest x.2)

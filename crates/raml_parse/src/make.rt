@@ -285,6 +285,7 @@ pub fn function(
 ) -> Result<Fun, AllocError>
     ensures is { IfOk result (λ f. function_act (Phrase (term_of body.value) ∷ Typing (ty_of ty.value) ∷ (headers_back params.items ++ named_part function.entry ∷ [])) ≡ headed f) }
     ensures place { IfOk result (λ f. f.at ≡ at) }
+    ensures params { IfOk result (λ f. f.params ≡ params) }
 {
     Ok(Fun {
         at,

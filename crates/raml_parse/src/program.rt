@@ -1,9 +1,9 @@
 // Functions and programs from tokens.
-ghost use Rattle.std.specs.Prelude.{◌≡◌, ◌≤◌, ◌<◌, ◌^◌, [], ◌∷◌, ◌++◌, IfOk};
+ghost use Rattle.std.specs.Prelude.{◌≡◌, ◌≤◌, ◌<◌, ◌^◌, [], ◌∷◌, ◌++◌, length, IfOk};
 ghost use Rattle.token_grammar.specs.Reading.{list_of};
 ghost use Rattle.raml_parse.specs.Table.{param_rule, params_rule, body_rule, function_rule, text_rule, key, place};
 ghost use Rattle.raml_parse.specs.Steps.{reads};
-ghost use Rattle.raml_parse.specs.Read.{Gives, StartsAt, pieces, header, headers, headers_back, function, functions, whole, named_part};
+ghost use Rattle.raml_parse.specs.Read.{Gives, StartsAt, HaveParameters, pieces, header, headers, headers_back, function, functions, whole, named_part};
 ghost use Rattle.raml_parse.specs.declared.token.Sign.TheVariants as s;
 
 use crate::exprs::parse_part;
@@ -49,6 +49,7 @@ fn parse_params<'a>(
     requires { depth < 2 ^ 30 }
     ensures same { Gives headers result (list_of (reads depth param_rule []) (key s.Comma) 7 (pieces tokens.now)) }
     ensures low { IfOk result (λ x. x.1 ≤ depth) }
+    ensures some { IfOk result (λ x. 1 ≤ length x.0.items) }
 {
     let (first, mut height, mut rest) = parse_param(alloc, depth, tokens)?;
     let mut params = Vec::new(alloc);
@@ -74,10 +75,12 @@ fn parse_body<'a>(
     params: Vec<Param>,
     tokens: &'a [Piece<'a>],
 ) -> FoundFunction<'a>
-    requires { depth < 2 ^ 30 }
+    requires depth { depth < 2 ^ 30 }
+    requires some { 1 ≤ length params.items }
     ensures same { Gives function result (reads depth body_rule (headers_back params.items ++ named_part name.entry ∷ []) (pieces tokens.now)) }
     ensures low { IfOk result (λ x. x.1 ≤ depth) }
     ensures place { IfOk result (λ x. x.0.at ≡ at) }
+    ensures some { IfOk result (λ x. 1 ≤ length x.0.params.items) }
 {
     let rest = take_sign(tokens, Sign::Close)?;
     let rest = take_sign(rest, Sign::Colon)?;
@@ -100,6 +103,7 @@ fn parse_params_and_body<'a>(
     ensures same { Gives function result (reads depth params_rule (named_part name.entry ∷ []) (pieces tokens.now)) }
     ensures low { IfOk result (λ x. x.1 ≤ depth) }
     ensures place { IfOk result (λ x. x.0.at ≡ at) }
+    ensures some { IfOk result (λ x. 1 ≤ length x.0.params.items) }
 {
     let (params, height, rest) = parse_params(alloc, depth, tokens)?;
     let (function, body_height, rest) = parse_body(alloc, depth, at, name, params, rest)?;
@@ -117,6 +121,7 @@ fn parse_function<'a>(
     ensures same { Gives function result (reads depth function_rule [] (pieces tokens.now)) }
     ensures low { IfOk result (λ x. x.1 ≤ depth) }
     ensures place { IfOk result (λ x. x.0.at ≡ at) }
+    ensures some { IfOk result (λ x. 1 ≤ length x.0.params.items) }
 {
     let (name, rest) = take_name(tokens)?;
     let rest = take_sign(rest, Sign::Open)?;
@@ -135,6 +140,7 @@ fn parse_functions<'a>(
     ensures same { Gives functions result (list_of (reads depth function_rule []) (place s.Fun) 255 (pieces tokens.now)) }
     ensures low { IfOk result (λ x. x.1 ≤ depth) }
     ensures place { IfOk result (λ x. StartsAt at.0 x.0.items) }
+    ensures some { IfOk result (λ x. HaveParameters x.0.items) }
 {
     let (first, mut height, mut rest) = parse_function(alloc, depth, at, tokens)?;
     let mut funs = Vec::new(alloc);
@@ -161,6 +167,7 @@ pub fn parse_program<'a>(
     requires { depth < 2 ^ 30 }
     ensures same { Gives whole result (reads depth text_rule [] (pieces tokens.now)) }
     ensures low { IfOk result (λ x. x.1 ≤ depth) }
+    ensures some { IfOk result (λ x. HaveParameters x.0.funs.items) }
 {
     let (at, rest) = take_place(tokens, Sign::Fun)?;
     let (funs, height, rest) = parse_functions(alloc, depth, at, rest)?;
