@@ -1,15 +1,17 @@
 -- Lists of what was read.
-use Rattle.std.proofs.Common.{◌≡◌, ◌∙◌, refl, sym, ap, ℕ, List, [], ◌∷◌, ◌++◌, append_assoc}
+use Rattle.std.proofs.Common.{◌≡◌, ◌∙◌, refl, sym, ap, ℕ, ◌≤◌, List, [], ◌∷◌, ◌++◌, length, append_assoc, arith}
 use Rattle.std.specs.Prelude.{map, reverse}
-use Rattle.std.proofs.lemmas.List.{map-append, reverse-append, append-nil}
+use Rattle.std.proofs.lemmas.List.{map-append, reverse-append, append-nil, length-map}
+use Rattle.std.proofs.lemmas.List.Elements.{All-nil, All-cons}
+use Rattle.std.specs.List.{All}
 use Rattle.raml_syntax.specs.Tree as t
-use Rattle.raml_syntax.specs.Tree.{Text, Type', Term, Terms, Parameter, Prog}
+use Rattle.raml_syntax.specs.Tree.{Text, Type', Term, Terms, Parameter, Function, Prog}
 use Rattle.raml_syntax.specs.Read.{term_of, terms, terms_of, parameter_of, function_of}
 use Rattle.raml_syntax.specs.declared.tree.Expr.{Expr}
 use Rattle.raml_syntax.specs.declared.program.Param.{Param}
 use Rattle.raml_syntax.specs.declared.program.Fun.{Fun}
 use Rattle.raml_parse.specs.Table.{Part, At, Named, Typing, Phrase, Header, Headed, Whole, call_of_parts, call_act, function_of_parts, function_act, program_of_parts, program_act}
-use Rattle.raml_parse.specs.Read.{headers_back, phrases_back, headed, marks, functions_back, StartsAt}
+use Rattle.raml_parse.specs.Read.{headers_back, phrases_back, headed, marks, functions_back, StartsAt, HaveParameters}
 
 -- PARAMETERS
 
@@ -80,6 +82,16 @@ marks_push (f ∷ fs) g = ap (λ ps. ps ++ (headed f ∷ At f.at.0 ∷ [])) (mar
 pub functions_push : (fs : List Fun) (p : ℕ) (g : Fun) → StartsAt p fs → functions_back (fs ++ g ∷ []) ≡ headed g ∷ At g.at.0 ∷ functions_back fs
 functions_push [] p g w = absurd w
 functions_push (f ∷ fs) p g w = ap (λ ps. ps ++ (headed f ∷ [])) (marks_push fs g)
+
+pub parameters_push : (fs : List Fun) (g : Fun) → HaveParameters fs → 1 ≤ length g.params.items → HaveParameters (fs ++ g ∷ [])
+parameters_push [] g w some = (some, tt)
+parameters_push (f ∷ fs) g w some = (w.0, parameters_push fs g w.1 some)
+
+pub each_has_parameters : (fs : List Fun) → HaveParameters fs → All (λ (g : Function). 1 ≤ length g.params) (map function_of fs)
+each_has_parameters [] w = All-nil (λ (g : Function). 1 ≤ length g.params)
+each_has_parameters (f ∷ fs) w =
+    let same = length-map f.params.items parameter_of in
+    All-cons (λ (g : Function). 1 ≤ length g.params) (function_of f) (map function_of fs) (omega (arith, same, w.0)) (each_has_parameters fs w.1)
 
 pub starts_push : (fs : List Fun) (p : ℕ) (g : Fun) → StartsAt p fs → StartsAt p (fs ++ g ∷ [])
 starts_push [] p g w = absurd w

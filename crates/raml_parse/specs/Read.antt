@@ -1,5 +1,5 @@
 -- What the code's tokens and answers are as plain data.
-use Rattle.std.specs.Prelude.{◌≡◌, ℕ, List, [], ◌∷◌, ◌++◌, map, reverse, Result, Ok, Err, Vec}
+use Rattle.std.specs.Prelude.{◌≡◌, ℕ, List, [], ◌∷◌, ◌++◌, map, reverse, Result, Ok, Err, Vec, ◌≤◌, length}
 use Rattle.std.specs.Borrow.{Bor}
 use Rattle.std.specs.Global.{Global, Box}
 use Rattle.token_grammar.specs.Reading.{Fault}
@@ -25,7 +25,7 @@ use Rattle.raml_parse.specs.declared.stop.Stop.{Stop}
 use Rattle.raml_parse.specs.declared.stop.Stop.TheVariants as f
 
 abbrev pub word_at : Word → ℕ → Token
-word_at (w.Name x) p = Name p x
+word_at (w.Name x) p = Name p x.now
 word_at (w.Number n) p = Number p n
 word_at (w.Sign k) p = Key p k
 
@@ -59,8 +59,8 @@ phrase x = (Phrase (term_of x.0), x.1, rest x.2)
 abbrev pub boxed : Box Expr × ℕ × Bor (List Piece) → Part × ℕ × List Token
 boxed x = (Phrase (term_of x.0.value), x.1, rest x.2)
 
-abbrev pub typing : Ty × ℕ × Bor (List Piece) → Part × ℕ × List Token
-typing x = (Typing (ty_of x.0), x.1, rest x.2)
+abbrev pub typing : Box Ty × ℕ × Bor (List Piece) → Part × ℕ × List Token
+typing x = (Typing (ty_of x.0.value), x.1, rest x.2)
 
 abbrev pub header : Param × ℕ × Bor (List Piece) → Part × ℕ × List Token
 header x = (Header (parameter_of x.0), x.1, rest x.2)
@@ -100,6 +100,11 @@ functions_back (f ∷ fs) = marks fs ++ (headed f ∷ [])
 abbrev pub StartsAt : ℕ → List Fun → Type 0
 StartsAt p [] = ⊥
 StartsAt p (f ∷ fs) = f.at.0 ≡ p
+
+-- each function has a parameter
+abbrev pub HaveParameters : List Fun → Type 0
+HaveParameters [] = Unit {0}
+HaveParameters (f ∷ fs) = (1 ≤ length f.params.items) × HaveParameters fs
 
 abbrev pub functions : Vec Fun Global × ℕ × Bor (List Piece) → List Part × ℕ × List Token
 functions x = (functions_back x.0.items, x.1, rest x.2)

@@ -4,9 +4,13 @@ use Rattle.token_grammar.specs.Rules.{opening}
 use Rattle.token_grammar.specs.declared.Kind.TheVariants.{Syntax, TooDeep}
 use Rattle.token_grammar.specs.Reading.{Fault, Answer, ◌>>=◌, rest_of, pick, formed, parts, starts_at, goes_at, more_of, again_of, chain_of, rule_of, level_of, read, whole_of}
 use Rattle.raml_parse.specs.Tokens.{Token}
-use Rattle.raml_parse.specs.Table.{Part, At, Class, Types, Exprs, text_rule, grammar}
+use Rattle.raml_parse.specs.Table.{Part, At, Class, Types, Exprs, Rules, text_rule, grammar}
 use Rattle.raml_parse.specs.Forms.{infix_level, infix_rule}
 use Rattle.raml_parse.specs.declared.form.Infix.{Infix}
+
+-- the rest of a form by a rule, after these values, with parts of height d at most
+abbrev pub reads : ℕ → Rules → List Part → List Token → Answer Token Part
+reads d r vs s = rule_of grammar (read grammar 0 d) 0 d r vs s
 
 -- What goes on from a phrase e of level n, where parts have height d at most and w is the value of its first token. Shut, so that goals stay short.
 unfoldable pub goes_on : Class → ℕ → ℕ → List Part → Part → ℕ → List Token → Answer Token Part

@@ -7,7 +7,7 @@ use Rattle.raml_syntax.specs.declared.tree.ArithOp.{ArithOp}
 use Rattle.raml_syntax.specs.declared.tree.ArithOp.TheVariants as op
 use Rattle.raml_syntax.specs.declared.tree.CompareOp.{CompareOp}
 use Rattle.raml_syntax.specs.declared.tree.CompareOp.TheVariants as cmp
-use Rattle.raml_parse.specs.Tokens.{Sign, Token, Name, Number, Key, same}
+use Rattle.raml_parse.specs.Tokens.{Sign, Token, Name, Number, Key, is_key}
 use Rattle.raml_parse.specs.declared.token.Sign.TheVariants as s
 
 -- what the rules collect and give
@@ -40,15 +40,19 @@ Rules = Rule Token Part Class
 abbrev pub Test : Type 0
 Test = Token → Option (List Part)
 
+-- the place of the token
+abbrev pub mark : Token → Part
+mark (Name p x) = At p
+mark (Number p n) = At p
+mark (Key p k) = At p
+
 -- this keyword or symbol
 abbrev pub key : Sign → Test
-key k (Key p j) = if same j k then Some [] else None
-key k _ = None
+key k t = if is_key k t then Some [] else None
 
 -- the same, and its place
 abbrev pub place : Sign → Test
-place k (Key p j) = if same j k then Some (At p ∷ []) else None
-place k _ = None
+place k t = if is_key k t then Some (mark t ∷ []) else None
 
 abbrev pub name : Test
 name (Name p x) = Some (Named p x ∷ [])
@@ -58,11 +62,6 @@ name _ = None
 abbrev pub number_to : ℕ → Test
 number_to k (Number p n) = if nat_le n k then Some (Counted n ∷ []) else None
 number_to k _ = None
-
-abbrev pub mark : Token → Part
-mark (Name p x) = At p
-mark (Number p n) = At p
-mark (Key p k) = At p
 
 -- a type, an expression, a name, this keyword or symbol, and then the rule
 abbrev pub type : Rules → Rules

@@ -1,5 +1,5 @@
 -- Tokens as the grammar sees them.
-use Rattle.std.specs.Prelude.{ℕ, Bool, cond, codes}
+use Rattle.std.specs.Prelude.{ℕ, Bool, false, cond, codes}
 use Rattle.std.specs.Str.{bytes_eq}
 use Rattle.raml_lex.specs.Lexemes.{number_value}
 use Rattle.raml_lex.specs.Lexing.{word}
@@ -109,6 +109,11 @@ pub data Token : Type 0 where
 
 abbrev pub same : Sign → Sign → Bool
 same j k = bytes_eq (spelling j) (spelling k)
+
+-- whether the token is this keyword or symbol
+abbrev pub is_key : Sign → Token → Bool
+is_key k (Key p j) = same j k
+is_key k _ = false
 
 abbrev pub of_kind : TokenKind → ℕ → Text → Token
 of_kind k.Name p w = Name p w

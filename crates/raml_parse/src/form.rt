@@ -9,13 +9,13 @@ ghost use Rattle.raml_parse.specs.Forms.{type_form, type_rule, suffix_rule, star
 ghost use Rattle.raml_parse.specs.Read.{token_of, pieces, rest};
 
 use crate::token::{Piece, Sign, Word};
-use raml_syntax::{ArithOp, CompareOp, Name};
+use raml_syntax::{ArithOp, CompareOp};
 
 /// A form that its first token may be all of.
 #[derive(Clone, Copy)]
 pub enum Simple<'a> {
     /// A variable, or a call where a parenthesis stands behind it.
-    Name(&'a Name),
+    Name(&'a str),
     Number(i64),
     Truth(bool),
     Nil,
@@ -77,16 +77,16 @@ impl<'a> Start<'a> {
     }
 
     // The form that a token begins.
-    fn of(token: &'a Piece) -> Option<Start<'a>>
+    fn of(token: &Piece<'a>) -> Option<Start<'a>>
         ensures { starts Exprs (token_of token.now) ≡ option_map start_form result }
     {
-        match &token.word {
+        match token.word {
             Word::Name(name) => Some(Start::Simple(Simple::Name(name))),
-            Word::Number(value) if *value <= i64::MAX as u64 => {
-                Some(Start::Simple(Simple::Number(*value as i64)))
+            Word::Number(value) if value <= i64::MAX as u64 => {
+                Some(Start::Simple(Simple::Number(value as i64)))
             }
             Word::Number(_) => None,
-            Word::Sign(sign) => Start::of_sign(*sign),
+            Word::Sign(sign) => Start::of_sign(sign),
         }
     }
 
@@ -103,7 +103,7 @@ impl<'a> Start<'a> {
 
     /// The form of this level that begins here, and the tokens behind its first token.
     #[tactic(auto, unfolding(crate::specs::Table::grammar))]
-    pub fn at(tokens: &'a [Piece], level: u32) -> Option<(Start<'a>, &'a [Piece])>
+    pub fn at(tokens: &'a [Piece<'a>], level: u32) -> Option<(Start<'a>, &'a [Piece<'a>])>
         ensures { MatchOption result (starts_at grammar Exprs level (pieces tokens.now) ≡ None) (λ x. (starts_at grammar Exprs level (pieces tokens.now) ≡ Some (start_rule x.0)) × (rest_of (pieces tokens.now) ≡ rest x.1)) }
     {
         let [first, rest @ ..] = tokens else {
@@ -139,9 +139,9 @@ impl Infix {
     fn of(token: &Piece) -> Option<Infix>
         ensures { goes Exprs (token_of token.now) ≡ option_map infix_form result }
     {
-        match &token.word {
+        match token.word {
             Word::Name(_) | Word::Number(_) => None,
-            Word::Sign(sign) => Infix::of_sign(*sign),
+            Word::Sign(sign) => Infix::of_sign(sign),
         }
     }
 
@@ -159,7 +159,7 @@ impl Infix {
 
     /// The form that goes on here from this level, and the tokens behind its operator.
     #[tactic(auto, unfolding(crate::specs::Table::grammar))]
-    pub fn at(tokens: &[Piece], level: u32) -> Option<(Infix, &[Piece])>
+    pub fn at<'a>(tokens: &'a [Piece<'a>], level: u32) -> Option<(Infix, &'a [Piece<'a>])>
         ensures { MatchOption result (goes_at grammar Exprs level (pieces tokens.now) ≡ None) (λ x. (goes_at grammar Exprs level (pieces tokens.now) ≡ Some (infix_rule x.0)) × (infix_level x.0 ≡ level) × (rest_of (pieces tokens.now) ≡ rest x.1)) }
     {
         let [first, rest @ ..] = tokens else {
@@ -223,15 +223,15 @@ impl TypeStart {
     fn of(token: &Piece) -> Option<TypeStart>
         ensures { starts Types (token_of token.now) ≡ option_map type_form result }
     {
-        match &token.word {
+        match token.word {
             Word::Name(_) | Word::Number(_) => None,
-            Word::Sign(sign) => TypeStart::of_sign(*sign),
+            Word::Sign(sign) => TypeStart::of_sign(sign),
         }
     }
 
     /// The type that begins here, and the tokens behind its first token.
     #[tactic(auto, unfolding(crate::specs::Table::grammar))]
-    pub fn at(tokens: &[Piece]) -> Option<(TypeStart, &[Piece])>
+    pub fn at<'a>(tokens: &'a [Piece<'a>]) -> Option<(TypeStart, &'a [Piece<'a>])>
         ensures { MatchOption result (starts_at grammar Types 0 (pieces tokens.now) ≡ None) (λ x. (starts_at grammar Types 0 (pieces tokens.now) ≡ Some (type_rule x.0)) × (rest_of (pieces tokens.now) ≡ rest x.1)) }
     {
         let [first, rest @ ..] = tokens else {
@@ -247,31 +247,16 @@ impl TypeStart {
 impl Suffix {
     /// The suffix that stands here, and the tokens behind it.
     #[tactic(auto, unfolding(crate::specs::Table::grammar))]
-    pub fn at(tokens: &[Piece]) -> Option<(Suffix, &[Piece])>
+    pub fn at<'a>(tokens: &'a [Piece<'a>]) -> Option<(Suffix, &'a [Piece<'a>])>
         ensures { MatchOption result (goes_at grammar Types 0 (pieces tokens.now) ≡ None) (λ x. (goes_at grammar Types 0 (pieces tokens.now) ≡ Some (suffix_rule x.0)) × (rest_of (pieces tokens.now) ≡ rest x.1)) }
     {
-        match tokens {
-            [
-                Piece {
-                    word: Word::Sign(Sign::List),
-                    ..
-                },
-                rest @ ..,
-            ] => Some((Suffix::List, rest)),
-            [
-                Piece {
-                    word: Word::Sign(Sign::Tree),
-                    ..
-                },
-                rest @ ..,
-            ] => Some((Suffix::Tree, rest)),
-            [
-                Piece {
-                    word: Word::Sign(Sign::Option),
-                    ..
-                },
-                rest @ ..,
-            ] => Some((Suffix::Option, rest)),
+        let [first, rest @ ..] = tokens else {
+            return None;
+        };
+        match first.word {
+            Word::Sign(Sign::List) => Some((Suffix::List, rest)),
+            Word::Sign(Sign::Tree) => Some((Suffix::Tree, rest)),
+            Word::Sign(Sign::Option) => Some((Suffix::Option, rest)),
             _ => None,
         }
     }
@@ -279,7 +264,7 @@ impl Suffix {
 
 /// The tokens behind the `*` of a pair's type.
 #[tactic(auto, unfolding(crate::specs::Table::grammar))]
-pub fn star_at(tokens: &[Piece]) -> Option<&[Piece]>
+pub fn star_at<'a>(tokens: &'a [Piece<'a>]) -> Option<&'a [Piece<'a>]>
     ensures { MatchOption result (goes_at grammar Types 1 (pieces tokens.now) ≡ None) (λ u. (goes_at grammar Types 1 (pieces tokens.now) ≡ Some second_rule) × (rest_of (pieces tokens.now) ≡ rest u)) }
 {
     match tokens {

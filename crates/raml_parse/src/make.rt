@@ -11,30 +11,6 @@ use crate::take::NameAt;
 use raml_syntax::{Binder, Expr, Form, Fun, Name, Param, Pos, Ty};
 use std::alloc::{AllocError, Global};
 
-pub fn list_type(alloc: Global, element: Ty) -> Result<Ty, AllocError>
-    ensures { IfOk result (λ a. ty_of a ≡ t.ListOf (ty_of element)) }
-{
-    Ok(Ty::List(Box::new(alloc, element)?))
-}
-
-pub fn tree_type(alloc: Global, element: Ty) -> Result<Ty, AllocError>
-    ensures { IfOk result (λ a. ty_of a ≡ t.TreeOf (ty_of element)) }
-{
-    Ok(Ty::Tree(Box::new(alloc, element)?))
-}
-
-pub fn option_type(alloc: Global, content: Ty) -> Result<Ty, AllocError>
-    ensures { IfOk result (λ a. ty_of a ≡ t.OptionOf (ty_of content)) }
-{
-    Ok(Ty::Opt(Box::new(alloc, content)?))
-}
-
-pub fn pair_type(alloc: Global, first: Ty, second: Ty) -> Result<Ty, AllocError>
-    ensures { IfOk result (λ a. ty_of a ≡ t.PairOf (ty_of first) (ty_of second)) }
-{
-    Ok(Ty::Pair(Box::new(alloc, first)?, Box::new(alloc, second)?))
-}
-
 pub fn number(at: Pos, value: i64) -> Expr
     ensures { term_of result ≡ t.Number at.0 value }
 {
@@ -81,12 +57,12 @@ pub fn nothing(at: Pos) -> Expr
     }
 }
 
-pub fn variable(alloc: Global, at: Pos, name: &Name) -> Result<Expr, AllocError>
+pub fn variable(alloc: Global, at: Pos, name: &str) -> Result<Expr, AllocError>
     ensures { IfOk result (λ e. term_of e ≡ t.Var at.0 name.now) }
 {
     Ok(Expr {
         at,
-        form: Form::Var(Name::new(alloc, name.text())?),
+        form: Form::Var(Name::new(alloc, name)?),
     })
 }
 
@@ -100,10 +76,10 @@ fn call_of(at: Pos, function: Name, args: Vec<Expr>) -> Expr
 }
 
 #[tactic(auto, using(crate::proofs::Parts::call_is))]
-pub fn call(alloc: Global, at: Pos, function: &Name, args: Vec<Expr>) -> Result<Expr, AllocError>
+pub fn call(alloc: Global, at: Pos, function: &str, args: Vec<Expr>) -> Result<Expr, AllocError>
     ensures { IfOk result (λ e. call_act function.now (phrases_back args.items ++ At at.0 ∷ []) ≡ Phrase (term_of e)) }
 {
-    Ok(call_of(at, Name::new(alloc, function.text())?, args))
+    Ok(call_of(at, Name::new(alloc, function)?, args))
 }
 
 pub fn node(at: Pos, element: Box<Expr>, left: Box<Expr>, right: Box<Expr>) -> Expr
@@ -143,12 +119,12 @@ pub fn pair(at: Pos, first: Box<Expr>, second: Box<Expr>) -> Expr
     }
 }
 
-pub fn typed(at: Pos, expr: Box<Expr>, ty: Ty) -> Expr
-    ensures { term_of result ≡ t.Typed at.0 (term_of expr.value) (ty_of ty) }
+pub fn typed(at: Pos, expr: Box<Expr>, ty: Box<Ty>) -> Expr
+    ensures { term_of result ≡ t.Typed at.0 (term_of expr.value) (ty_of ty.value) }
 {
     Expr {
         at,
-        form: Form::Typed(expr, ty),
+        form: Form::Typed(expr, Box::into_inner(ty)),
     }
 }
 
@@ -157,7 +133,7 @@ fn binder(alloc: Global, name: NameAt) -> Result<Binder, AllocError>
 {
     Ok(Binder {
         at: name.at,
-        name: Name::new(alloc, name.name.text())?,
+        name: Name::new(alloc, name.name)?,
     })
 }
 
@@ -287,13 +263,13 @@ pub fn operation(at: Pos, operator: Infix, left: Box<Expr>, right: Box<Expr>) ->
     Expr { at, form }
 }
 
-pub fn parameter(alloc: Global, parameter: NameAt, ty: Ty) -> Result<Param, AllocError>
-    ensures { IfOk result (λ p. parameter_of p ≡ record { at = parameter.entry.at.0; name = parameter.entry.name.now; type = ty_of ty }) }
+pub fn parameter(alloc: Global, parameter: NameAt, ty: Box<Ty>) -> Result<Param, AllocError>
+    ensures { IfOk result (λ p. parameter_of p ≡ record { at = parameter.entry.at.0; name = parameter.entry.name.now; type = ty_of ty.value }) }
 {
     Ok(Param {
         at: parameter.at,
-        name: Name::new(alloc, parameter.name.text())?,
-        ty,
+        name: Name::new(alloc, parameter.name)?,
+        ty: Box::into_inner(ty),
     })
 }
 
@@ -304,17 +280,18 @@ pub fn function(
     at: Pos,
     function: NameAt,
     params: Vec<Param>,
-    ty: Ty,
-    body: Expr,
+    ty: Box<Ty>,
+    body: Box<Expr>,
 ) -> Result<Fun, AllocError>
-    ensures is { IfOk result (λ f. function_act (Phrase (term_of body) ∷ Typing (ty_of ty) ∷ (headers_back params.items ++ named_part function.entry ∷ [])) ≡ headed f) }
+    ensures is { IfOk result (λ f. function_act (Phrase (term_of body.value) ∷ Typing (ty_of ty.value) ∷ (headers_back params.items ++ named_part function.entry ∷ [])) ≡ headed f) }
     ensures place { IfOk result (λ f. f.at ≡ at) }
+    ensures params { IfOk result (λ f. f.params ≡ params) }
 {
     Ok(Fun {
         at,
-        name: Name::new(alloc, function.name.text())?,
+        name: Name::new(alloc, function.name)?,
         params,
-        result: ty,
-        body,
+        result: Box::into_inner(ty),
+        body: Box::into_inner(body),
     })
 }

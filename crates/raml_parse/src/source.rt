@@ -1,6 +1,8 @@
 // Programs from bytes.
 ghost use Rattle.std.specs.Prelude.{◌≡◌, ◌≤◌, ◌<◌, ◌^◌, ◌⊎◌, length, IfOk, IfErr};
 ghost use Rattle.std.specs.Str.{IsUtf8};
+ghost use Rattle.std.specs.List.{All};
+ghost use Rattle.raml_syntax.specs.Tree.{Function};
 ghost use Rattle.raml_syntax.specs.Read.{program_of};
 ghost use Rattle.raml_syntax.specs.Node.{WithinLimits, program_nodes};
 ghost use Rattle.raml_parse.specs.Spelling.{Spells, FirstFault, HasOneAnswer};
@@ -20,6 +22,7 @@ fn parse_text(alloc: Global, text: &str) -> Result<Program, ParseFault>
     ensures spelled { IfOk result (λ p. Spells text.now (program_of p)) }
     ensures fault { IfErr result (λ fault. (fault ≡ NoMemory) ⊎ FirstFault text.now fault) }
     ensures limits { IfOk result (λ p. WithinLimits (program_of p)) }
+    ensures parameters { IfOk result (λ p. All (λ (g : Function). 1 ≤ length g.params) (program_of p)) }
     ensures few_nodes { IfOk result (λ p. program_nodes (program_of p) ≤ length text.now) }
 {
     let tokens = match tokens(alloc, text) {
@@ -46,6 +49,7 @@ pub fn parse(alloc: Global, source: &[u8]) -> Result<Program, ParseFault>
     // so each comes exactly where the bytes have that answer, or memory runs out
     ensures one_answer { HasOneAnswer source.now }
     ensures limits { IfOk result (λ p. WithinLimits (program_of p)) }
+    ensures parameters { IfOk result (λ p. All (λ (g : Function). 1 ≤ length g.params) (program_of p)) }
     ensures few_nodes { IfOk result (λ p. program_nodes (program_of p) ≤ length source.now) }
 {
     match std::str::from_utf8(source) {

@@ -1,11 +1,12 @@
 // Tokens as the grammar sees them.
 ghost use Rattle.std.specs.Prelude.{◌≡◌};
-ghost use Rattle.raml_parse.specs.Tokens.{sign_of, word_of, symbol_of};
+ghost use Rattle.raml_parse.specs.Tokens.{sign_of, word_of, symbol_of, is_key};
+ghost use Rattle.raml_parse.specs.Read.{token_of};
 
-use raml_syntax::{Name, Pos};
+use raml_syntax::Pos;
 
 /// A keyword or a symbol.
-#[derive(Clone, Copy, PartialEq, Eq, Debug)]
+#[derive(Clone, Copy, PartialEq, Eq)]
 pub enum Sign {
     Fun,
     Let,
@@ -48,19 +49,28 @@ pub enum Sign {
     Bar,
 }
 
-/// What a token is.
-#[derive(Drop)]
-pub enum Word {
-    Name(Name),
+/// What a token is. A name is lent by the text.
+#[derive(Clone, Copy)]
+pub enum Word<'a> {
+    Name(&'a str),
     Number(u64),
     Sign(Sign),
 }
 
 /// A token and the place where it begins.
-#[derive(Drop)]
-pub struct Piece {
+#[derive(Clone, Copy)]
+pub struct Piece<'a> {
     pub at: Pos,
-    pub word: Word,
+    pub word: Word<'a>,
+}
+
+impl<'a> Piece<'a> {
+    /// Whether it is this keyword or symbol.
+    pub fn is(&self, sign: Sign) -> bool
+        ensures { result ≡ is_key sign (token_of self.now) }
+    {
+        matches!(self.word, Word::Sign(found) if found == sign)
+    }
 }
 
 /// The keyword or symbol that a word spells.

@@ -4,7 +4,7 @@ ghost use Rattle.token_grammar.specs.Reading.{ended};
 ghost use Rattle.raml_parse.specs.Table.{Whole};
 ghost use Rattle.raml_parse.specs.Steps.{program_in};
 ghost use Rattle.raml_syntax.specs.Read.{program_of};
-ghost use Rattle.raml_parse.specs.Read.{Gives, IsAt, Reports, pieces};
+ghost use Rattle.raml_parse.specs.Read.{Gives, IsAt, Reports, HaveParameters, pieces};
 ghost use Rattle.raml_parse.specs.Spelling.{place_in};
 
 use crate::fault::ParseFault;
@@ -19,8 +19,10 @@ use token_grammar::Kind;
 const MAX_HEIGHT: u32 = 200;
 
 // The program, where no token is left.
-fn ended<'a>(program: Program, rest: &'a [Piece]) -> Result<Program, Stop<'a>>
-    ensures { Gives (λ p. Whole (program_of p)) result (ended (Whole (program_of program)) (pieces rest.now)) }
+fn ended<'a>(program: Program, rest: &'a [Piece<'a>]) -> Result<Program, Stop<'a>>
+    requires some { HaveParameters program.funs.items }
+    ensures same { Gives (λ p. Whole (program_of p)) result (ended (Whole (program_of program)) (pieces rest.now)) }
+    ensures some { IfOk result (λ p. HaveParameters p.funs.items) }
 {
     if rest.is_empty() {
         Ok(program)
@@ -30,8 +32,9 @@ fn ended<'a>(program: Program, rest: &'a [Piece]) -> Result<Program, Stop<'a>>
 }
 
 /// The program of all the tokens.
-pub fn parse_tokens<'a>(alloc: Global, tokens: &'a [Piece]) -> Result<Program, Stop<'a>>
-    ensures { Gives (λ p. Whole (program_of p)) result (program_in 200 (pieces tokens.now)) }
+pub fn parse_tokens<'a>(alloc: Global, tokens: &'a [Piece<'a>]) -> Result<Program, Stop<'a>>
+    ensures same { Gives (λ p. Whole (program_of p)) result (program_in 200 (pieces tokens.now)) }
+    ensures some { IfOk result (λ p. HaveParameters p.funs.items) }
 {
     let (program, _, rest) = parse_program(alloc, MAX_HEIGHT, tokens)?;
     ended(program, rest)

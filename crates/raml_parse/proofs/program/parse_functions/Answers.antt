@@ -3,10 +3,10 @@ use Rattle.std.specs.Prelude.{vec_len}
 use Rattle.token_grammar.specs.Reading.{◌>>=◌, read, rule_of, items_of}
 use Rattle.token_grammar.proofs.Steps.{items_fail, items_more}
 use Rattle.raml_parse.specs.Table.{grammar, function_rule, place, At}
-use Rattle.raml_parse.specs.Read.{StartsAt, pieces, headed, functions, functions_back}
+use Rattle.raml_parse.specs.Read.{StartsAt, HaveParameters, pieces, headed, functions, functions_back}
 use Rattle.raml_parse.specs.declared.token.Sign.TheVariants.{Fun}
 use Rattle.raml_parse.proofs.Chains.{fails_as, refused}
-use Rattle.raml_parse.proofs.Parts.{functions_push, starts_push}
+use Rattle.raml_parse.proofs.Parts.{functions_push, starts_push, parameters_push}
 use Rattle.raml_parse.proofs.program.parse_functions.Goals as goal
 
 pub loop-next_at-preserved : goal.loop-next_at-preserved
@@ -28,8 +28,14 @@ loop-next_at-preserved c =
     let back : headed g ∷ At c.in-Some.next_at.0 ∷ functions_back old.items ≡ functions_back new.items =
     ap (λ p. headed g ∷ At p.0 ∷ functions_back old.items) (sym c.in_ok-function.ensures.place) ∙ sym (ap functions_back c.in_ok-push-2.ensures.items ∙ functions_push old.items c.args.at.0 g inv.4) in
     let is : items_of item (place Fun) (256 - vec_len old - 1) (headed g ∷ At c.in-Some.next_at.0 ∷ functions_back old.items) _ _ ≡ items_of item (place Fun) (256 - vec_len new) (functions_back new.items) c.max-height.result _ =
-    λ i. items_of item (place Fun) (one i) (back i) (sym c.max-height.ensures i) (pieces c.in_ok-function.after.now) in
-    (inv.0 ∙ step ∙ is, high, room, some, subst (StartsAt c.args.at.0) (sym c.in_ok-push-2.ensures.items) (starts_push old.items c.args.at.0 g inv.4))
+    λ i. items_of item (place Fun) (one i) (back i) (sym c.max-height.ensures i) (pieces c.in_ok-function.after.now) in (
+      inv.0 ∙ step ∙ is,
+      high,
+      room,
+      some,
+      subst (StartsAt c.args.at.0) (sym c.in_ok-push-2.ensures.items) (starts_push old.items c.args.at.0 g inv.4),
+      subst HaveParameters (sym c.in_ok-push-2.ensures.items) (parameters_push old.items g inv.5 c.in_ok-function.ensures.some),
+    )
 
 pub loop-next_at-init : goal.loop-next_at-init
 loop-next_at-init c =
@@ -47,6 +53,7 @@ loop-next_at-init c =
       room,
       some,
       subst (StartsAt c.args.at.0) (sym only) (ap (λ p. p.0) c.in_ok-first.ensures.place),
+      subst HaveParameters (sym only) (c.in_ok-first.ensures.some, tt),
     )
 
 pub returns-in_err-function-clause-same : goal.returns-in_err-function-clause-same

@@ -2,7 +2,7 @@ use Rattle.std.proofs.Common.{◌≡◌, ◌≤◌, ◌<◌, ◌-◌, []}
 use Rattle.std.specs.Prelude.{vec_len}
 use Rattle.token_grammar.specs.Reading.{read, rule_of, list_of, items_of}
 use Rattle.raml_parse.specs.Table.{grammar, function_rule, place}
-use Rattle.raml_parse.specs.Read.{StartsAt, pieces, functions_back}
+use Rattle.raml_parse.specs.Read.{StartsAt, HaveParameters, pieces, functions_back}
 use Rattle.raml_parse.specs.declared.token.Sign.TheVariants.{Fun}
 use Rattle.raml_parse.proofs.program.parse_functions.Given as goal
 
@@ -10,7 +10,7 @@ abbrev pub invariant-loop-next_at : goal.invariant-loop-next_at
 invariant-loop-next_at l =
     (list_of (rule_of grammar (read grammar 0 l.depth) 0 l.depth function_rule []) (place Fun) 255 (pieces l.tokens)
     ≡ items_of (rule_of grammar (read grammar 0 l.depth) 0 l.depth function_rule []) (place Fun) (256 - vec_len l.funs) (functions_back l.funs.items) l.height (pieces l.rest))
-    × (l.height ≤ l.depth) × (vec_len l.funs ≤ 256) × (0 < vec_len l.funs) × StartsAt l.fn.at.0 l.funs.items
+    × (l.height ≤ l.depth) × (vec_len l.funs ≤ 256) × (0 < vec_len l.funs) × StartsAt l.fn.at.0 l.funs.items × HaveParameters l.funs.items
 
 abbrev pub decreases-loop-next_at : goal.decreases-loop-next_at
 decreases-loop-next_at l = 256 - vec_len l.funs
