@@ -36,16 +36,19 @@ fn two(alloc: Global) -> Result<Tuple, AllocError>
     Tuple::new(Vec::new(alloc)).with_first(alloc, &entry)
 }
 
-// The tuple with a pair of both a list and a unit before the others.
+// The tuple with an option without an entry, and a pair of a list and an option with entries, before
+// the others.
 fn paired(alloc: Global, tuple: Tuple) -> Result<Tuple, AllocError>
     requires { degrees tuple ≤ 8 }
-    ensures { IfOk result (λ made. degrees made ≤ 9) }
+    ensures { IfOk result (λ made. degrees made ≤ 10) }
 {
     let entry = Tuple::new(Vec::new(alloc))
         .with_first(alloc, &Index::Unit)?
         .into_list();
-    let pair = Index::Pair(Box::new(alloc, entry)?, Box::new(alloc, Index::Unit)?);
-    tuple.with_first(alloc, &pair)
+    let option = Index::Opt(Some(Box::new(alloc, Index::Unit)?));
+    let pair = Index::Pair(Box::new(alloc, entry)?, Box::new(alloc, option)?);
+    let tuple = tuple.with_first(alloc, &pair)?;
+    tuple.with_first(alloc, &Index::Opt(None))
 }
 
 // The terms of these tuples, with these numbers in this order.
@@ -154,6 +157,6 @@ fn components_are_in_order(rt: HostRuntime) -> Result<(), Fail> {
     let alloc = rt.alloc();
     let tuples = vec![in alloc; paired(alloc, two(alloc)?)?]?;
     let text = text_of(alloc, 1, tuples, &[1])?;
-    assert_eq!(rt; text.as_str(), "1*<([_], _), [_, _]>");
+    assert_eq!(rt; text.as_str(), "1*<[], ([_], [_]), [_, _]>");
     Ok(())
 }
