@@ -1,7 +1,7 @@
 -- Base polynomials by recursion on the value.
 use Rattle.std.proofs.Common.{◌≡◌, ℕ, zero, suc, ◌+◌, ◌*◌, List, [], ◌∷◌, ◌++◌, length, replicate, refl, sym, ◌∙◌, arith}
 use Rattle.raml_syntax.specs.Tree.{Type', Integer, Boolean, PairOf, ListOf, TreeOf, OptionOf}
-use Rattle.raml_syntax.specs.Value.{Value, Both, Empty, Cons, Node, Has}
+use Rattle.raml_syntax.specs.Value.{Value, Both, Has}
 use Rattle.base_poly.specs.Plain.{Plain, Unit', Pair, End, Then, NoEntry, OneEntry, many, deg}
 use Rattle.base_poly.specs.Indices.{IsIndex, zero_of}
 use Rattle.base_poly.specs.Base.{total, elements, base, over}

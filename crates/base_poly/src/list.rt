@@ -161,16 +161,18 @@ fn append_tuple(
     Ok(())
 }
 
-// The empty tuple alone.
-fn only_empty(alloc: Global, most: usize) -> Result<Vec<Tuple>, IndexFault>
-    ensures all { IfOk result (λ found. found.items ≡ [] ∷ []) }
+// The item alone.
+fn only<T: Drop>(alloc: Global, item: T, most: usize) -> Result<Vec<T>, IndexFault>
+    ensures all { IfOk result (λ found. found.items ≡ item ∷ []) }
     ensures few { IfOk result (λ found. vec_len found ≤ most) }
     ensures many { IsErrOf result IndexFault.TooMany → most < 1 }
 {
     if most == 0 {
         return Err(IndexFault::TooMany);
     }
-    Ok(vec![in alloc; Tuple::new(Vec::new(alloc))]?)
+    let mut found = Vec::new(alloc);
+    found.push(item)?;
+    Ok(found)
 }
 
 // Appends the index before each of the tuples.
@@ -208,18 +210,6 @@ fn indices_up_to(alloc: Global, ty: &Ty, d: u32, most: usize) -> Result<Vec<Inde
         }
         Ty::Opt(content) => options_up_to(alloc, content, d, most),
     }
-}
-
-// The index alone.
-fn only(alloc: Global, index: Index, most: usize) -> Result<Vec<Index>, IndexFault>
-    ensures all { IfOk result (λ found. plains_of found.items ≡ index_of index ∷ []) }
-    ensures few { IfOk result (λ found. vec_len found ≤ most) }
-    ensures many { IsErrOf result IndexFault.TooMany → most < 1 }
-{
-    if most == 0 {
-        return Err(IndexFault::TooMany);
-    }
-    Ok(vec![in alloc; index]?)
 }
 
 // All indices of the pairs of these two types.
@@ -307,7 +297,7 @@ fn lists_up_to(alloc: Global, element: &Ty, d: u32, most: usize) -> Result<Vec<T
     ensures few { IfOk result (λ found. vec_len found ≤ most) }
     ensures many { IsErrOf result IndexFault.TooMany → most < length (lists (indices_up_to (ty_of element.now)) d d) }
 {
-    let found = only_empty(alloc, most)?;
+    let found = only(alloc, Tuple::new(Vec::new(alloc)), most)?;
     if d == 0 {
         return Ok(found);
     }
@@ -364,12 +354,7 @@ fn append_lists_by_head(
 
 // All indices of options of the type.
 #[cycle(of_type)]
-fn options_up_to(
-    alloc: Global,
-    content: &Ty,
-    d: u32,
-    most: usize,
-) -> Result<Vec<Index>, IndexFault>
+fn options_up_to(alloc: Global, content: &Ty, d: u32, most: usize) -> Result<Vec<Index>, IndexFault>
     ensures all { IfOk result (λ found. plains_of found.items ≡ options (indices_up_to (ty_of content.now)) d) }
     ensures few { IfOk result (λ found. vec_len found ≤ most) }
     ensures many { IsErrOf result IndexFault.TooMany → most < length (options (indices_up_to (ty_of content.now)) d) }

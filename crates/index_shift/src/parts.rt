@@ -38,7 +38,8 @@ fn pair_parts(alloc: Global, index: &Index) -> Result<Vec<Tuple>, AllocError>
 {
     match index {
         Index::Pair(first, second) => {
-            only(alloc, vec![in alloc; first.copy(alloc)?, second.copy(alloc)?]?)
+            let parts = vec![in alloc; first.copy(alloc)?, second.copy(alloc)?]?;
+            only(alloc, parts)
         }
         Index::Unit | Index::List(_) | Index::Opt(_) => Ok(Vec::new(alloc)),
     }

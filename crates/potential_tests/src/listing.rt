@@ -98,7 +98,10 @@ fn tuples_are_keys(rt: HostRuntime) -> Result<(), Fail> {
     for (words, wanted) in [("int list int option", true), ("int list", false)] {
         let listed = indices(alloc, &context(alloc, "int list int option")?, 2, 10)?;
         let places = places(alloc, &listed)?;
-        for (place, tuple) in indices(alloc, &context(alloc, words)?, 2, 10)?.iter().enumerate() {
+        for (place, tuple) in indices(alloc, &context(alloc, words)?, 2, 10)?
+            .iter()
+            .enumerate()
+        {
             assert_eq!(rt; places.get(tuple).copied(), wanted.then_some(place));
         }
     }

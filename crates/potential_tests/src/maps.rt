@@ -120,11 +120,16 @@ fn variables_are_taken_apart(rt: HostRuntime) -> Result<(), Fail> {
         ("int tree", 0, tables::TREE_ONE),
         ("int list int list tree", 1, tables::TREE_TWO),
         ("int list int tree pair", 0, tables::PAIR_ONE),
-        ("int list int int list int list pair pair", 1, tables::PAIR_TWO),
+        (
+            "int list int int list int list pair pair",
+            1,
+            tables::PAIR_TWO,
+        ),
         ("int list option", 0, tables::OPTION_ONE),
         ("int list int list int pair option", 1, tables::OPTION_TWO),
     ] {
-        check_map(&rt, alloc, Change::Opens, &context(alloc, words)?, at, table)?;
+        let types = context(alloc, words)?;
+        check_map(&rt, alloc, Change::Opens, &types, at, table)?;
     }
     Ok(())
 }
@@ -134,16 +139,32 @@ fn variables_leave_or_are_shared(rt: HostRuntime) -> Result<(), Fail> {
     let alloc = rt.alloc();
     for (change, words, at, table) in [
         (Change::Leaves, "int list int list", 0, tables::EMPTY_ONE),
-        (Change::Leaves, "int list tree int list", 0, tables::EMPTY_TWO),
-        (Change::Leaves, "int list option int list", 0, tables::EMPTY_THREE),
+        (
+            Change::Leaves,
+            "int list tree int list",
+            0,
+            tables::EMPTY_TWO,
+        ),
+        (
+            Change::Leaves,
+            "int list option int list",
+            0,
+            tables::EMPTY_THREE,
+        ),
         (Change::Drops, "int list int list list", 1, tables::DROP_ONE),
         (Change::Drops, "int option int option", 1, tables::DROP_TWO),
         (Change::Shares, "int list", 0, tables::SHARE_ONE),
         (Change::Shares, "int int list list", 1, tables::SHARE_TWO),
-        (Change::Shares, "int list int list pair int list", 0, tables::SHARE_THREE),
+        (
+            Change::Shares,
+            "int list int list pair int list",
+            0,
+            tables::SHARE_THREE,
+        ),
         (Change::Shares, "int list option", 0, tables::SHARE_FOUR),
     ] {
-        check_map(&rt, alloc, change, &context(alloc, words)?, at, table)?;
+        let types = context(alloc, words)?;
+        check_map(&rt, alloc, change, &types, at, table)?;
     }
     Ok(())
 }
