@@ -111,6 +111,16 @@ module _ {X : Type 0} (by : X → X → Ordering) where
       before_under x [] e g = tt
       before_under x (y ∷ ys) e g = (e y (inl refl) ∙ g.0, before_under x ys (λ z m. e z (inr m)) g.1)
 
+-- items that are ordered as what they are made of
+module _ {X Y : Type 0} (byX : X → X → Ordering) (byY : Y → Y → Ordering) (f : X → Y) (law : (x u : X) → byY (f x) (f u) ≡ byX x u) where
+  before_made : (x : X) (us : List X) → IsBefore byX x us → IsBefore byY (f x) (map f us)
+  before_made x [] h = tt
+  before_made x (u ∷ us) h = (law x u ∙ h.0, before_made x us h.1)
+
+  pub ascends_made : (xs : List X) → Ascends byX xs → Ascends byY (map f xs)
+  ascends_made [] h = tt
+  ascends_made (x ∷ xs) h = (before_made x xs h.0, ascends_made xs h.1)
+
 -- firsts, each before what may follow it, in an order that looks at the firsts first
 module _ {X Y Z : Type 0} (byX : X → X → Ordering) (byY : Y → Y → Ordering) (byZ : Z → Z → Ordering) (both : X → Y → Z)
     (one : (x : X) → byX x x ≡ Equal) (law : (x u : X) (y v : Y) → byZ (both x y) (both u v) ≡ ordering_then (byX x u) (byY y v)) where

@@ -2,8 +2,8 @@
 use Rattle.std.proofs.Common.{◌≡◌, ℕ, zero, suc, ◌+◌, ◌-◌, ◌*◌, ◌^◌, ◌≤◌, ◌<◌, List, [], ◌∷◌, sym, ap, ◌∙◌, subst, arith}
 use Rattle.std.proofs.Math.Nat.{le_trans, mul-le-mul_left, mul-le-mul_right, pow-le-pow_left, pow-le-pow_right, one-le-pow, pow-suc, pow-zero}
 use Rattle.std.proofs.lemmas.Nat.{pow-add}
-use Rattle.raml_syntax.specs.Value.{Value, Number, Truth, Both, Empty, Cons, Node, size}
-use Rattle.base_poly.specs.Plain.{Plain, Unit', Pair, End, Then, deg, degrees}
+use Rattle.raml_syntax.specs.Value.{Value, Number, Truth, Both, Empty, Cons, Node, Just, size}
+use Rattle.base_poly.specs.Plain.{Plain, Unit', Pair, End, Then, NoEntry, OneEntry, deg, degrees}
 use Rattle.base_poly.specs.Base.{total, elements, base, bases, over}
 use Rattle.base_poly.specs.Laws.{BaseIsBounded}
 use Rattle.base_poly.proofs.Sums.{total_joined, over_more}
@@ -22,6 +22,7 @@ elements_within (Node a l r) =
     let both = total_joined (λ v. 1 + size v) (elements l) (elements r) in
     let left = elements_within l in
     let right = elements_within r in omega (arith, both, left, right)
+elements_within (Just v) = omega arith
 
 -- powers of two numbers of cells make one of them together
 two_powers : (a b m n N i j : ℕ) → a ≤ m ^ i → b ≤ n ^ j → m ≤ N → n ≤ N → a * b ≤ N ^ (i + j)
@@ -60,19 +61,19 @@ mutual
   within : (i : Plain) (v : Value) → base i v ≤ size v ^ deg i
   within Unit' v = no_power (size v)
   within (Pair i j) (Both v w) = two_powers (base i v) (base j w) (size v) (size w) (size (Both v w)) (deg i) (deg j) (within i v) (within j w) (omega arith) (omega arith)
-  within (Pair i j) (Number n) = omega arith
-  within (Pair i j) (Truth b) = omega arith
-  within (Pair i j) Empty = omega arith
-  within (Pair i j) (Cons h t) = omega arith
-  within (Pair i j) (Node a l r) = omega arith
+  within (Pair i j) v = omega arith
   within End v = no_power (size v)
   within (Then i r) v = led_within i r (within i) (rest_within r) (elements v) (size v) (elements_within v)
+  within NoEntry v = no_power (size v)
+  within (OneEntry i) (Just v) =
+      let cell = one-le-pow 1 (size (Just v)) (omega arith) in
+      let all = two_powers 1 (base i v) (size (Just v)) (size v) (size (Just v)) 1 (deg i) cell (within i v) (omega arith) (omega arith) in
+      omega (arith, all)
+  within (OneEntry i) v = omega arith
 
   rest_within : (r : Plain) (vs : List Value) (N : ℕ) → 0 < N → cells vs ≤ N → over r vs ≤ N ^ deg r
-  rest_within Unit' vs N h g = one-le-pow 0 N h
-  rest_within (Pair i j) vs N h g = one-le-pow (deg (Pair i j)) N h
-  rest_within End vs N h g = one-le-pow 0 N h
   rest_within (Then i r) vs N h g = led_within i r (within i) (rest_within r) vs N g
+  rest_within r vs N h g = one-le-pow (deg r) N h
 
 all_within : (is : List Plain) (vs : List Value) → bases is vs ≤ total size vs ^ degrees is
 all_within [] vs = no_power (total size vs)

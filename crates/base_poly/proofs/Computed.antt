@@ -8,6 +8,7 @@ examples_hold = record {
   two_lists = refl;
   two_lists_more = refl;
   nested = refl;
+  options = refl;
   none = refl;
   no_list = refl;
   pairs_of_four = refl;
@@ -17,4 +18,8 @@ examples_hold = record {
   pair = refl;
   tuple = refl;
   square = refl;
+  option = refl;
+  no_option = refl;
+  later_option = refl;
+  option_square = refl;
 }

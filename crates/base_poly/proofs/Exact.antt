@@ -5,11 +5,11 @@ use Rattle.std.specs.Ordering.{ordering_then, nat_cmp}
 use Rattle.std.proofs.lemmas.Bool.{eqb-true, eq-eqb}
 use Rattle.std.proofs.lemmas.Bool.Decides.{nat_tests}
 use Rattle.std.proofs.lemmas.List.Elements.{All-weaker, All-contains_itself}
-use Rattle.raml_syntax.specs.Tree.{Type', Integer, Boolean, PairOf, ListOf, TreeOf}
-use Rattle.base_poly.specs.Plain.{Plain, Unit', Pair, End, Then, many, entries_of, deg, degrees, order}
-use Rattle.base_poly.specs.Indices.{IsIndex, AreIndices, each_in_turn, tuple_order, IsBefore, Ascends, ListsTuples, tuples_led, lists, indices_up_to, tuples_up_to, by_degree, index_list}
+use Rattle.raml_syntax.specs.Tree.{Type', Integer, Boolean, PairOf, ListOf, TreeOf, OptionOf}
+use Rattle.base_poly.specs.Plain.{Plain, Unit', Pair, End, Then, NoEntry, OneEntry, many, entries_of, deg, degrees, order}
+use Rattle.base_poly.specs.Indices.{IsIndex, AreIndices, each_in_turn, tuple_order, IsBefore, Ascends, ListsTuples, tuples_led, lists, options, indices_up_to, tuples_up_to, by_degree, index_list}
 use Rattle.base_poly.specs.Total.{order_many}
-use Rattle.base_poly.proofs.Among.{Among, among_contains, contains_among, among_left, among_right, among_either, kept_among, among_kept, mapped_among, among_mapped, part_among, among_part, before_all, ascends_joined, ascends_kept, ascends_as, ascends_led}
+use Rattle.base_poly.proofs.Among.{Among, among_contains, contains_among, among_left, among_right, among_either, kept_among, among_kept, mapped_among, among_mapped, part_among, among_part, before_all, ascends_joined, ascends_kept, ascends_as, ascends_made, ascends_led}
 
 pub deg_many : (is : List Plain) → degrees is ≤ deg (many is)
 deg_many [] = omega arith
@@ -20,6 +20,8 @@ order_same Unit' = refl
 order_same (Pair a b) = ap (λ o. ordering_then o (order b b)) (order_same a) ∙ order_same b
 order_same End = refl
 order_same (Then x r) = ap (λ o. ordering_then o (order r r)) (order_same x) ∙ order_same r
+order_same NoEntry = refl
+order_same (OneEntry x) = order_same x
 
 -- Order
 
@@ -37,21 +39,21 @@ lists_ascend items f zero d = (tt, tt)
 lists_ascend items f (suc n) zero = (tt, tt)
 lists_ascend items f (suc n) (suc d) = (led_after_none (lists items n) d (items d), led_ascends (lists items n) d (items d) (lists_ascend items f n) (f d))
 
-many_ascend : (ts : List (List Plain)) → Ascends each_in_turn ts → Ascends order (map many ts)
-many_ascend [] h = tt
-many_ascend (t ∷ ts) h = (before t ts h.0, many_ascend ts h.1)
-  where
-    before : (t : List Plain) (us : List (List Plain)) → IsBefore each_in_turn t us → IsBefore order (many t) (map many us)
-    before t [] g = tt
-    before t (u ∷ us) g = (order_many t u ∙ g.0, before t us g.1)
+options_ascend : (items : ℕ → List Plain) → ((d : ℕ) → Ascends order (items d)) → (d : ℕ) → Ascends order (options items d)
+options_ascend items f zero = (tt, tt)
+options_ascend items f (suc d) = (
+  before_all order NoEntry (map OneEntry (items d)) (λ y m. let r = among_mapped OneEntry y (items d) m in ap (order NoEntry) (sym r.2)),
+  ascends_made order order OneEntry (λ x u. refl) (items d) (f d),
+)
 
 indices_ascend : (A : Type') (d : ℕ) → Ascends order (indices_up_to A d)
 indices_ascend Integer d = (tt, tt)
 indices_ascend Boolean d = (tt, tt)
 indices_ascend (PairOf A B) d =
     ascends_led order order order (λ i j. Pair i j) order_same (λ x u y v. refl) (λ i. indices_up_to B (d - deg i)) (indices_up_to A d) (λ i. indices_ascend B (d - deg i)) (indices_ascend A d)
-indices_ascend (ListOf A) d = many_ascend (lists (indices_up_to A) d d) (lists_ascend (indices_up_to A) (indices_ascend A) d d)
-indices_ascend (TreeOf A) d = many_ascend (lists (indices_up_to A) d d) (lists_ascend (indices_up_to A) (indices_ascend A) d d)
+indices_ascend (ListOf A) d = ascends_made each_in_turn order many order_many (lists (indices_up_to A) d d) (lists_ascend (indices_up_to A) (indices_ascend A) d d)
+indices_ascend (TreeOf A) d = ascends_made each_in_turn order many order_many (lists (indices_up_to A) d d) (lists_ascend (indices_up_to A) (indices_ascend A) d d)
+indices_ascend (OptionOf A) d = options_ascend (indices_up_to A) (indices_ascend A) d
 
 tuples_ascend : (As : List Type') (d : ℕ) → Ascends each_in_turn (tuples_up_to As d)
 tuples_ascend [] d = (tt, tt)
@@ -75,16 +77,24 @@ sound_lists A items f (suc n) (suc d) r m = ⊎_elim
 
 -- a list type and the tree type of the same elements have the same indices
 pub as_tree : (i : Plain) (A : Type') → IsIndex i (ListOf A) → IsIndex i (TreeOf A)
-as_tree Unit' A h = absurd h
-as_tree (Pair a b) A h = absurd h
 as_tree End A h = tt
 as_tree (Then i r) A h = (h.0, as_tree r A h.1)
+as_tree x A h = absurd h
 
 pub as_list : (i : Plain) (A : Type') → IsIndex i (TreeOf A) → IsIndex i (ListOf A)
-as_list Unit' A h = absurd h
-as_list (Pair a b) A h = absurd h
 as_list End A h = tt
 as_list (Then i r) A h = (h.0, as_list r A h.1)
+as_list x A h = absurd h
+
+sound_options : (A : Type') (items : ℕ → List Plain) → ((d : ℕ) (i : Plain) → Among i (items d) → IsIndex i A × (deg i ≤ d)) →
+    (d : ℕ) (i : Plain) → Among i (options items d) → IsIndex i (OptionOf A) × (deg i ≤ d)
+sound_options A items f zero i m = ⊎_elim (λ e. subst (λ q. IsIndex q (OptionOf A) × (deg q ≤ zero)) e (tt, omega arith)) (λ n. absurd n) m
+sound_options A items f (suc d) i m = ⊎_elim
+    (λ e. subst (λ q. IsIndex q (OptionOf A) × (deg q ≤ suc d)) e (tt, omega arith))
+    (λ g.
+    let p = among_mapped OneEntry i (items d) g in
+    let entry = f d p.0 p.1 in
+    subst (λ q. IsIndex q (OptionOf A) × (deg q ≤ suc d)) p.2 (entry.0, (let a = entry.1 in omega arith))) m
 
 pub sound : (A : Type') (d : ℕ) (i : Plain) → Among i (indices_up_to A d) → IsIndex i A × (deg i ≤ d)
 sound Integer d i m = ⊎_elim (λ e. subst (λ q. IsIndex q Integer × (deg q ≤ d)) e (tt, omega arith)) (λ n. absurd n) m
@@ -102,6 +112,7 @@ sound (TreeOf A) d i m =
     let p = among_mapped many i (lists (indices_up_to A) d d) m in
     let r = sound_lists A (indices_up_to A) (sound A) d d p.0 p.1 in
     subst (λ q. IsIndex q (TreeOf A) × (deg q ≤ d)) p.2 (as_tree (many p.0) A r.0, r.1)
+sound (OptionOf A) d i m = sound_options A (indices_up_to A) (sound A) d i m
 
 pub sound_tuples : (As : List Type') (d : ℕ) (t : List Plain) → Among t (tuples_up_to As d) → AreIndices t As × (degrees t ≤ d)
 sound_tuples [] d t m = ⊎_elim (λ e. subst (λ q. AreIndices q [] × (degrees q ≤ d)) e (tt, omega arith)) (λ n. absurd n) m
@@ -113,15 +124,12 @@ sound_tuples (A ∷ As) d t m =
     subst (λ q. AreIndices q (A ∷ As) × (degrees q ≤ d)) q.2 ((first.0, rest.0), (let a = first.1 in let b = rest.1 in omega arith))
 
 pub many_entries : (A : Type') (i : Plain) → IsIndex i (ListOf A) → many (entries_of i) ≡ i
-many_entries A Unit' h = absurd h
-many_entries A (Pair a b) h = absurd h
 many_entries A End h = refl
 many_entries A (Then i r) h = ap (Then i) (many_entries A r h.1)
+many_entries A x h = absurd h
 
 whole_lists : (A : Type') (items : ℕ → List Plain) → ((d : ℕ) (i : Plain) → IsIndex i A → deg i ≤ d → Among i (items d)) →
     (x : Plain) (n d : ℕ) → IsIndex x (ListOf A) → deg x ≤ n → deg x ≤ d → Among (entries_of x) (lists items n d)
-whole_lists A items f Unit' n d h j k = absurd h
-whole_lists A items f (Pair a b) n d h j k = absurd h
 whole_lists A items f End zero d h j k = inl refl
 whole_lists A items f End (suc n) zero h j k = inl refl
 whole_lists A items f End (suc n) (suc d) h j k = inl refl
@@ -130,22 +138,25 @@ whole_lists A items f (Then i r) (suc n) zero h j k = absurd (omega (arith, k))
 whole_lists A items f (Then i r) (suc n) (suc d) h j k =
     inr (part_among (λ i. map (λ r. i ∷ r) (lists items n (d - deg i))) i (i ∷ entries_of r) (items d) (f d i h.0 (omega arith))
     (mapped_among (λ r. i ∷ r) (entries_of r) (lists items n (d - deg i)) (whole_lists A items f r n (d - deg i) h.1 (omega arith) (omega arith))))
+whole_lists A items f x n d h j k = absurd h
+
+whole_options : (A : Type') (items : ℕ → List Plain) → ((d : ℕ) (i : Plain) → IsIndex i A → deg i ≤ d → Among i (items d)) →
+    (x : Plain) (d : ℕ) → IsIndex x (OptionOf A) → deg x ≤ d → Among x (options items d)
+whole_options A items f NoEntry zero h k = inl refl
+whole_options A items f NoEntry (suc d) h k = inl refl
+whole_options A items f (OneEntry i) zero h k = absurd (omega (arith, k))
+whole_options A items f (OneEntry i) (suc d) h k = inr (mapped_among OneEntry i (items d) (f d i h (omega (arith, k))))
+whole_options A items f x d h k = absurd h
 
 pub whole : (A : Type') (d : ℕ) (i : Plain) → IsIndex i A → deg i ≤ d → Among i (indices_up_to A d)
 whole Integer d Unit' h k = inl refl
-whole Integer d (Pair a b) h k = absurd h
-whole Integer d End h k = absurd h
-whole Integer d (Then i r) h k = absurd h
+whole Integer d x h k = absurd h
 whole Boolean d Unit' h k = inl refl
-whole Boolean d (Pair a b) h k = absurd h
-whole Boolean d End h k = absurd h
-whole Boolean d (Then i r) h k = absurd h
-whole (PairOf A B) d Unit' h k = absurd h
+whole Boolean d x h k = absurd h
 whole (PairOf A B) d (Pair a b) h k =
     part_among (λ i. map (λ j. Pair i j) (indices_up_to B (d - deg i))) a (Pair a b) (indices_up_to A d) (whole A d a h.0 (omega arith))
     (mapped_among (λ j. Pair a j) b (indices_up_to B (d - deg a)) (whole B (d - deg a) b h.1 (omega arith)))
-whole (PairOf A B) d End h k = absurd h
-whole (PairOf A B) d (Then i r) h k = absurd h
+whole (PairOf A B) d x h k = absurd h
 whole (ListOf A) d i h k =
     subst (λ q. Among q (indices_up_to (ListOf A) d)) (many_entries A i h)
     (mapped_among many (entries_of i) (lists (indices_up_to A) d d) (whole_lists A (indices_up_to A) (whole A) i d d h k k))
@@ -153,6 +164,7 @@ whole (TreeOf A) d i h k =
     let g = as_list i A h in
     subst (λ q. Among q (indices_up_to (TreeOf A) d)) (many_entries A i g)
     (mapped_among many (entries_of i) (lists (indices_up_to A) d d) (whole_lists A (indices_up_to A) (whole A) i d d g k k))
+whole (OptionOf A) d i h k = whole_options A (indices_up_to A) (whole A) i d h k
 
 pub whole_tuples : (As : List Type') (d : ℕ) (t : List Plain) → AreIndices t As → degrees t ≤ d → Among t (tuples_up_to As d)
 whole_tuples [] d [] h k = inl refl

@@ -1,13 +1,13 @@
 -- How large a type is, and how it is read.
 use Rattle.std.proofs.Common.{◌≡◌, ℕ, ◌+◌, Box, Global, sym, ap, ◌∙◌}
-use Rattle.raml_syntax.specs.Tree.{Type', Integer, Boolean, PairOf, ListOf, TreeOf}
+use Rattle.raml_syntax.specs.Tree.{Type', Integer, Boolean, PairOf, ListOf, TreeOf, OptionOf}
 use Rattle.raml_syntax.specs.Read.{ty_of, ty_step}
 use Rattle.raml_syntax.specs.declared.ty.Ty.{Ty}
 use Rattle.raml_syntax.specs.declared.ty.Ty.TheOpen as o
 use Rattle.raml_syntax.specs.declared.ty.Ty.TheVariants.{Pair, rolls-Pair}
 use Rattle.raml_syntax.specs.declared.ty.Ty.TheFolds.{fold-roll-Ty}
 use Rattle.base_poly.specs.Plain as p
-use Rattle.base_poly.specs.Plain.{Plain, Unit', End, Then}
+use Rattle.base_poly.specs.Plain.{Plain, Unit', End, Then, NoEntry, OneEntry}
 
 abbrev pub nodes : Type' → ℕ
 nodes Integer = 1
@@ -15,6 +15,7 @@ nodes Boolean = 1
 nodes (PairOf A B) = 1 + (nodes A + nodes B)
 nodes (ListOf A) = 1 + nodes A
 nodes (TreeOf A) = 1 + nodes A
+nodes (OptionOf A) = 1 + nodes A
 
 ty_pair : (x : Ty) (a b : Box Ty Global) → x ≡ Pair a b → ty_of x ≡ PairOf (ty_of a.value) (ty_of b.value)
 ty_pair x a b h = ap ty_of h ∙ ap ty_of (sym (rolls-Pair a b)) ∙ fold-roll-Ty Type' ty_step (o.Pair a b)
@@ -29,3 +30,5 @@ parts Unit' = 1
 parts (p.Pair a b) = 1 + (parts a + parts b)
 parts End = 1
 parts (Then i r) = 1 + (parts i + parts r)
+parts NoEntry = 1
+parts (OneEntry i) = 1 + parts i

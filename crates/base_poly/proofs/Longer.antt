@@ -3,7 +3,7 @@ use Rattle.std.proofs.Common.{◌≡◌, ℕ, zero, suc, ◌+◌, ◌-◌, ◌�
 use Rattle.std.proofs.lemmas.List.{length-map, map-append, drop_all, take_all}
 use Rattle.std.proofs.lemmas.Simd.{map-map}
 use Rattle.raml_syntax.specs.declared.ty.Ty.{Ty}
-use Rattle.raml_syntax.specs.Tree.{Type', Integer, Boolean, PairOf, ListOf, TreeOf}
+use Rattle.raml_syntax.specs.Tree.{Type', Integer, Boolean, PairOf, ListOf, TreeOf, OptionOf}
 use Rattle.raml_syntax.specs.Read.{ty_of}
 use Rattle.base_poly.specs.Plain.{Plain, deg, degrees}
 use Rattle.base_poly.specs.Indices.{IsIndex, AreIndices, zero_of, tuples_led, lists, indices_up_to, tuples_up_to, by_degree}
@@ -20,6 +20,7 @@ zero_is_index Boolean = tt
 zero_is_index (PairOf A B) = (zero_is_index A, zero_is_index B)
 zero_is_index (ListOf A) = tt
 zero_is_index (TreeOf A) = tt
+zero_is_index (OptionOf A) = tt
 
 pub zero_degree : (A : Type') → deg (zero_of A) ≡ 0
 zero_degree Integer = refl
@@ -27,6 +28,7 @@ zero_degree Boolean = refl
 zero_degree (PairOf A B) = let a = zero_degree A in let b = zero_degree B in omega arith
 zero_degree (ListOf A) = refl
 zero_degree (TreeOf A) = refl
+zero_degree (OptionOf A) = refl
 
 there : {X : Type 0} (x : X) (xs : List X) → Among x xs → 0 < length xs
 there x [] h = absurd h

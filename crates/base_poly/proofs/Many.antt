@@ -1,14 +1,15 @@
 -- Where list indices stand among the others.
-use Rattle.std.proofs.Common.{◌≡◌, ◌⊎◌, suc, ◌-◌, ◌≤◌, ◌<◌, List, [], ◌∷◌, ◌++◌, map, flat_map, length, get_or, take, drop, arith, append_assoc, Box, Vec, Global, ⊎_elim, refl, sym, ap, ◌∙◌}
+use Rattle.std.proofs.Common.{◌≡◌, ◌⊎◌, ℕ, suc, Option, None, Some, ◌-◌, ◌≤◌, ◌<◌, List, [], ◌∷◌, ◌++◌, map, flat_map, length, get_or, take, drop, arith, append_assoc, Box, Vec, Global, ⊎_elim, refl, sym, ap, ◌∙◌}
 use Rattle.std.proofs.lemmas.List.{map-append}
 use Rattle.std.specs.declared.cmp.Ordering.TheVariants.{Less, Greater}
+use Rattle.std.specs.Ordering.{nat_cmp}
 use Rattle.base_poly.specs.Plain as p
 use Rattle.base_poly.specs.Plain.{many, order}
 use Rattle.base_poly.specs.Product.{list_only, product}
 use Rattle.base_poly.specs.Read.{index_of, index_step, plains_of}
 use Rattle.base_poly.specs.declared.index.Index.{Index}
 use Rattle.base_poly.specs.declared.index.Index.TheOpen as o
-use Rattle.base_poly.specs.declared.index.Index.TheVariants.{Unit as One, Pair, List as Items, rolls-Unit, rolls-Pair, rolls-List}
+use Rattle.base_poly.specs.declared.index.Index.TheVariants.{Unit as One, Pair, List as Items, Opt, rolls-Unit, rolls-Pair, rolls-List, rolls-Opt}
 use Rattle.base_poly.specs.declared.index.Index.TheFolds.{fold-roll-Index}
 
 pub as_unit : (x : Index) → x ≡ One → index_of x ≡ p.Unit'
@@ -20,52 +21,141 @@ as_pair x a b h = ap index_of h ∙ ap index_of (sym (rolls-Pair a b)) ∙ fold-
 pub as_list : (x : Index) (v : Vec Index Global) → x ≡ Items v → index_of x ≡ many (plains_of v.items)
 as_list x v h = ap index_of h ∙ ap index_of (sym (rolls-List v)) ∙ fold-roll-Index p.Plain index_step (o.List v)
 
--- a list index stands behind the unit and behind pairs
-before_list : (is : List p.Plain) → (order p.Unit' (many is) ≡ Less) × ((a b : p.Plain) → order (p.Pair a b) (many is) ≡ Less)
-before_list [] = (refl, λ a b. refl)
-before_list (i ∷ is) = (refl, λ a b. refl)
+pub as_none : (x : Index) → x ≡ Opt None → index_of x ≡ p.NoEntry
+as_none x h = ap index_of h ∙ ap index_of (sym (rolls-Opt None)) ∙ fold-roll-Index p.Plain index_step (o.Opt None)
 
-behind_others : (is : List p.Plain) → (order (many is) p.Unit' ≡ Greater) × ((a b : p.Plain) → order (many is) (p.Pair a b) ≡ Greater)
-behind_others [] = (refl, λ a b. refl)
-behind_others (i ∷ is) = (refl, λ a b. refl)
+pub as_some : (x : Index) (a : Box Index Global) → x ≡ Opt (Some a) → index_of x ≡ p.OneEntry (index_of a.value)
+as_some x a h = ap index_of h ∙ ap index_of (sym (rolls-Opt (Some a))) ∙ fold-roll-Index p.Plain index_step (o.Opt (Some a))
 
-pub unit_first : (x y : Index) → x ≡ One → ((a : Box Index Global) × (b : Box Index Global) × (y ≡ Pair a b)) ⊎ ((v : Vec Index Global) × (y ≡ Items v)) → Less ≡ order (index_of x) (index_of y)
+-- an option index whose entry is a copy
+pub copied_some : (x : Index) (m : Option (Box Index Global)) (a b : Box Index Global) → x ≡ Opt m → m ≡ Some a → index_of b.value ≡ index_of a.value → index_of (Opt (Some b)) ≡ index_of x
+copied_some x m a b h k e = as_some (Opt (Some b)) b refl ∙ ap p.OneEntry e ∙ sym (as_some x a (h ∙ ap Opt k))
+
+-- Indices of different types
+
+abbrev kind : p.Plain → ℕ
+kind p.Unit' = 0
+kind (p.Pair i j) = 1
+kind p.End = 2
+kind (p.Then i r) = 2
+kind p.NoEntry = 3
+kind (p.OneEntry i) = 3
+
+abbrev pub IsUnit : Index → Type 0
+IsUnit x = x ≡ One
+
+abbrev pub IsPair : Index → Type 0
+IsPair x = (a : Box Index Global) × (b : Box Index Global) × (x ≡ Pair a b)
+
+abbrev pub IsList : Index → Type 0
+IsList x = (v : Vec Index Global) × (x ≡ Items v)
+
+abbrev pub IsOption : Index → Type 0
+IsOption x = (m : Option (Box Index Global)) × (x ≡ Opt m)
+
+of_unit : (x : Index) → IsUnit x → kind (index_of x) ≡ 0
+of_unit x h = ap kind (as_unit x h)
+
+of_pair : (x : Index) → IsPair x → kind (index_of x) ≡ 1
+of_pair x h = ap kind (as_pair x h.0 h.1 h.2)
+
+of_list : (x : Index) → IsList x → kind (index_of x) ≡ 2
+of_list x h = ap kind (as_list x h.0 h.1) ∙ of_many (plains_of h.0.items)
+  where
+    of_many : (is : List p.Plain) → kind (many is) ≡ 2
+    of_many [] = refl
+    of_many (i ∷ is) = refl
+
+of_option : (x : Index) → IsOption x → kind (index_of x) ≡ 3
+of_option x h = at h.0 h.1
+  where
+    at : (m : Option (Box Index Global)) → x ≡ Opt m → kind (index_of x) ≡ 3
+    at None e = ap kind (as_none x e)
+    at (Some a) e = ap kind (as_some x a e)
+
+-- their order is that of their kinds
+apart : (x y : p.Plain) → (kind x ≡ kind y → ⊥) → order x y ≡ nat_cmp (kind x) (kind y)
+apart p.Unit' p.Unit' h = refl
+apart (p.Pair a b) (p.Pair c d) h = absurd (h refl)
+apart p.End p.End h = refl
+apart p.End (p.Then j s) h = absurd (h refl)
+apart (p.Then i r) p.End h = absurd (h refl)
+apart (p.Then i r) (p.Then j s) h = absurd (h refl)
+apart p.NoEntry p.NoEntry h = refl
+apart p.NoEntry (p.OneEntry j) h = absurd (h refl)
+apart (p.OneEntry i) p.NoEntry h = absurd (h refl)
+apart (p.OneEntry i) (p.OneEntry j) h = absurd (h refl)
+apart x y h = refl
+
+by_kinds : (x y : Index) (m n : ℕ) → kind (index_of x) ≡ m → kind (index_of y) ≡ n → (m ≡ n → ⊥) → nat_cmp m n ≡ order (index_of x) (index_of y)
+by_kinds x y m n e f h =
+    (λ i. nat_cmp (sym e i) (sym f i)) ∙ sym (apart (index_of x) (index_of y) (λ g. h (sym e ∙ g ∙ f)))
+
+pub unit_first : (x y : Index) → IsUnit x → IsPair y ⊎ (IsList y ⊎ IsOption y) → Less ≡ order (index_of x) (index_of y)
 unit_first x y h = ⊎_elim
-    (λ e. let path : order (index_of x) (index_of y) ≡ Less = λ i. order (as_unit x h i) (as_pair y e.0 e.1 e.2 i) in sym path)
-    (λ e. sym ((λ i. order (as_unit x h i) (as_list y e.0 e.1 i)) ∙ (before_list (plains_of e.0.items)).0))
+    (λ e. by_kinds x y 0 1 (of_unit x h) (of_pair y e) (λ n. omega (arith, n)))
+    (⊎_elim (λ e. by_kinds x y 0 2 (of_unit x h) (of_list y e) (λ n. omega (arith, n))) (λ e. by_kinds x y 0 3 (of_unit x h) (of_option y e) (λ n. omega (arith, n))))
 
-pub pair_first : (x y : Index) (a b : Box Index Global) (v : Vec Index Global) → x ≡ Pair a b → y ≡ Items v → Less ≡ order (index_of x) (index_of y)
-pair_first x y a b v h e =
-    sym ((λ i. order (as_pair x a b h i) (as_list y v e i)) ∙ (before_list (plains_of v.items)).1 (index_of a.value) (index_of b.value))
+pub pair_second : (x y : Index) → IsPair x → IsList y ⊎ IsOption y → Less ≡ order (index_of x) (index_of y)
+pair_second x y h = ⊎_elim
+    (λ e. by_kinds x y 1 2 (of_pair x h) (of_list y e) (λ n. omega (arith, n)))
+    (λ e. by_kinds x y 1 3 (of_pair x h) (of_option y e) (λ n. omega (arith, n)))
 
-pub list_last : (x y : Index) (v : Vec Index Global) → x ≡ Items v → (y ≡ One) ⊎ ((a : Box Index Global) × (b : Box Index Global) × (y ≡ Pair a b)) → Greater ≡ order (index_of x) (index_of y)
-list_last x y v h = ⊎_elim
-    (λ e. sym ((λ i. order (as_list x v h i) (as_unit y e i)) ∙ (behind_others (plains_of v.items)).0))
-    (λ e. sym ((λ i. order (as_list x v h i) (as_pair y e.0 e.1 e.2 i)) ∙ (behind_others (plains_of v.items)).1 (index_of e.0.value) (index_of e.1.value)))
+pub list_third : (x y : Index) → IsList x → IsUnit y ⊎ IsPair y → Greater ≡ order (index_of x) (index_of y)
+list_third x y h = ⊎_elim
+    (λ e. by_kinds x y 2 0 (of_list x h) (of_unit y e) (λ n. omega (arith, n)))
+    (λ e. by_kinds x y 2 1 (of_list x h) (of_pair y e) (λ n. omega (arith, n)))
 
--- A list index and one of another kind have no product
+pub list_before_option : (x y : Index) → IsList x → IsOption y → Less ≡ order (index_of x) (index_of y)
+list_before_option x y h e = by_kinds x y 2 3 (of_list x h) (of_option y e) (λ n. omega (arith, n))
+
+pub option_last : (x y : Index) → IsOption x → IsUnit y ⊎ (IsPair y ⊎ IsList y) → Greater ≡ order (index_of x) (index_of y)
+option_last x y h = ⊎_elim
+    (λ e. by_kinds x y 3 0 (of_option x h) (of_unit y e) (λ n. omega (arith, n)))
+    (⊎_elim (λ e. by_kinds x y 3 1 (of_option x h) (of_pair y e) (λ n. omega (arith, n))) (λ e. by_kinds x y 3 2 (of_option x h) (of_list y e) (λ n. omega (arith, n))))
+
+-- and they have no product, but for the unit
+
+no_product : (x y : p.Plain) → (kind x ≡ 0 → ⊥) → (kind x ≡ kind y → ⊥) → product x y ≡ []
+no_product p.Unit' y g h = absurd (g refl)
+no_product (p.Pair a b) (p.Pair c d) g h = absurd (h refl)
+no_product p.End p.End g h = absurd (h refl)
+no_product p.End (p.Then j s) g h = absurd (h refl)
+no_product (p.Then i r) p.End g h = absurd (h refl)
+no_product (p.Then i r) (p.Then j s) g h = absurd (h refl)
+no_product p.NoEntry p.NoEntry g h = absurd (h refl)
+no_product p.NoEntry (p.OneEntry j) g h = absurd (h refl)
+no_product (p.OneEntry i) p.NoEntry g h = absurd (h refl)
+no_product (p.OneEntry i) (p.OneEntry j) g h = absurd (h refl)
+no_product x y g h = refl
+
+none_by_kinds : (x y : Index) (m n : ℕ) → kind (index_of x) ≡ m → kind (index_of y) ≡ n → (m ≡ 0 → ⊥) → (m ≡ n → ⊥) → [] ≡ product (index_of x) (index_of y)
+none_by_kinds x y m n e f g h = sym (no_product (index_of x) (index_of y) (λ z. g (sym e ∙ z)) (λ z. h (sym e ∙ z ∙ f)))
+
+pub pair_alone : (x y : Index) → IsPair x → IsUnit y ⊎ (IsList y ⊎ IsOption y) → [] ≡ product (index_of x) (index_of y)
+pair_alone x y h = ⊎_elim
+    (λ e. none_by_kinds x y 1 0 (of_pair x h) (of_unit y e) (λ n. omega (arith, n)) (λ n. omega (arith, n)))
+    (⊎_elim
+    (λ e. none_by_kinds x y 1 2 (of_pair x h) (of_list y e) (λ n. omega (arith, n)) (λ n. omega (arith, n)))
+    (λ e. none_by_kinds x y 1 3 (of_pair x h) (of_option y e) (λ n. omega (arith, n)) (λ n. omega (arith, n))))
+
+pub list_alone : (x y : Index) → IsList x → IsUnit y ⊎ (IsPair y ⊎ IsOption y) → [] ≡ product (index_of x) (index_of y)
+list_alone x y h = ⊎_elim
+    (λ e. none_by_kinds x y 2 0 (of_list x h) (of_unit y e) (λ n. omega (arith, n)) (λ n. omega (arith, n)))
+    (⊎_elim
+    (λ e. none_by_kinds x y 2 1 (of_list x h) (of_pair y e) (λ n. omega (arith, n)) (λ n. omega (arith, n)))
+    (λ e. none_by_kinds x y 2 3 (of_list x h) (of_option y e) (λ n. omega (arith, n)) (λ n. omega (arith, n))))
+
+pub option_alone : (x y : Index) → IsOption x → IsUnit y ⊎ (IsPair y ⊎ IsList y) → [] ≡ product (index_of x) (index_of y)
+option_alone x y h = ⊎_elim
+    (λ e. none_by_kinds x y 3 0 (of_option x h) (of_unit y e) (λ n. omega (arith, n)) (λ n. omega (arith, n)))
+    (⊎_elim
+    (λ e. none_by_kinds x y 3 1 (of_option x h) (of_pair y e) (λ n. omega (arith, n)) (λ n. omega (arith, n)))
+    (λ e. none_by_kinds x y 3 2 (of_option x h) (of_list y e) (λ n. omega (arith, n)) (λ n. omega (arith, n))))
 
 alone : (is : List p.Plain) → list_only (many is) ≡ many is ∷ []
 alone [] = refl
 alone (i ∷ is) = refl
-
-not_with_pair : (a b : p.Plain) (is : List p.Plain) → (product (p.Pair a b) (many is) ≡ []) × (product (many is) (p.Pair a b) ≡ [])
-not_with_pair a b [] = (refl, refl)
-not_with_pair a b (i ∷ is) = (refl, refl)
-
-not_with_unit : (is : List p.Plain) → product (many is) p.Unit' ≡ []
-not_with_unit [] = refl
-not_with_unit (i ∷ is) = refl
-
-pub pair_alone : (x y : Index) (a b : Box Index Global) → x ≡ Pair a b → (y ≡ One) ⊎ ((v : Vec Index Global) × (y ≡ Items v)) → [] ≡ product (index_of x) (index_of y)
-pair_alone x y a b h = ⊎_elim
-    (λ e. let path : product (index_of x) (index_of y) ≡ [] = λ i. product (as_pair x a b h i) (as_unit y e i) in sym path)
-    (λ e. sym ((λ i. product (as_pair x a b h i) (as_list y e.0 e.1 i)) ∙ (not_with_pair (index_of a.value) (index_of b.value) (plains_of e.0.items)).0))
-
-pub list_alone : (x y : Index) (v : Vec Index Global) → x ≡ Items v → (y ≡ One) ⊎ ((a : Box Index Global) × (b : Box Index Global) × (y ≡ Pair a b)) → [] ≡ product (index_of x) (index_of y)
-list_alone x y v h = ⊎_elim
-    (λ e. sym ((λ i. product (as_list x v h i) (as_unit y e i)) ∙ not_with_unit (plains_of v.items)))
-    (λ e. sym ((λ i. product (as_list x v h i) (as_pair y e.0 e.1 e.2 i)) ∙ (not_with_pair (index_of e.0.value) (index_of e.1.value) (plains_of v.items)).1))
 
 -- Tuples gathered as list indices
 

@@ -1,8 +1,8 @@
 -- Base polynomials by recursion on the value.
 use Rattle.std.proofs.Common.{◌≡◌, ℕ, zero, suc, ◌+◌, ◌*◌, List, [], ◌∷◌, ◌++◌, length, replicate, refl, sym, ◌∙◌, arith}
-use Rattle.raml_syntax.specs.Tree.{Type', Integer, Boolean, PairOf, ListOf, TreeOf}
-use Rattle.raml_syntax.specs.Value.{Value, Number, Truth, Both, Empty, Cons, Node, Has}
-use Rattle.base_poly.specs.Plain.{Plain, Unit', Pair, End, Then, many, deg}
+use Rattle.raml_syntax.specs.Tree.{Type', Integer, Boolean, PairOf, ListOf, TreeOf, OptionOf}
+use Rattle.raml_syntax.specs.Value.{Value, Both, Has}
+use Rattle.base_poly.specs.Plain.{Plain, Unit', Pair, End, Then, NoEntry, OneEntry, many, deg}
 use Rattle.base_poly.specs.Indices.{IsIndex, zero_of}
 use Rattle.base_poly.specs.Base.{total, elements, base, over}
 use Rattle.base_poly.specs.Laws.{TypesHaveZero, BaseByValue, BinomialsAreBase, choose, cuts}
@@ -51,6 +51,9 @@ by_value = record {
   at_node = λ i is a l r.
       over_more i (many is) a (elements l ++ elements r)
       ∙ (λ n. base i a * (over_joined is (elements l) (elements r) ∙ as_values is l r) n + (over_joined (i ∷ is) (elements l) (elements r) ∙ as_values (i ∷ is) l r) n);
+  at_option = λ v. refl;
+  at_nothing = λ i. refl;
+  at_some = λ i v. refl;
 }
   where
     as_values : (is : List Plain) (l r : Value) → total (cut_over (elements l) (elements r)) (cuts is) ≡ total (λ c. base (many c.0) l * base (many c.1) r) (cuts is)
@@ -60,38 +63,30 @@ by_value = record {
 
 zero_only : (A : Type') (i : Plain) → IsIndex i A → deg i ≡ 0 → i ≡ zero_of A
 zero_only Integer Unit' h e = refl
-zero_only Integer (Pair a b) h e = absurd h
-zero_only Integer End h e = absurd h
-zero_only Integer (Then x r) h e = absurd h
+zero_only Integer x h e = absurd h
 zero_only Boolean Unit' h e = refl
-zero_only Boolean (Pair a b) h e = absurd h
-zero_only Boolean End h e = absurd h
-zero_only Boolean (Then x r) h e = absurd h
-zero_only (PairOf A B) Unit' h e = absurd h
+zero_only Boolean x h e = absurd h
 zero_only (PairOf A B) (Pair a b) h e =
     let first = zero_only A a h.0 (omega (arith, e)) in let second = zero_only B b h.1 (omega (arith, e)) in λ n. Pair (first n) (second n)
-zero_only (PairOf A B) End h e = absurd h
-zero_only (PairOf A B) (Then x r) h e = absurd h
-zero_only (ListOf A) Unit' h e = absurd h
-zero_only (ListOf A) (Pair a b) h e = absurd h
+zero_only (PairOf A B) x h e = absurd h
 zero_only (ListOf A) End h e = refl
 zero_only (ListOf A) (Then x r) h e = absurd (omega (arith, e))
-zero_only (TreeOf A) Unit' h e = absurd h
-zero_only (TreeOf A) (Pair a b) h e = absurd h
+zero_only (ListOf A) x h e = absurd h
 zero_only (TreeOf A) End h e = refl
 zero_only (TreeOf A) (Then x r) h e = absurd (omega (arith, e))
+zero_only (TreeOf A) x h e = absurd h
+zero_only (OptionOf A) NoEntry h e = refl
+zero_only (OptionOf A) (OneEntry x) h e = absurd (omega (arith, e))
+zero_only (OptionOf A) x h e = absurd h
 
 pub zero_one : (A : Type') (v : Value) → Has v A → base (zero_of A) v ≡ 1
 zero_one Integer v h = refl
 zero_one Boolean v h = refl
-zero_one (PairOf A B) (Number n) h = absurd h
-zero_one (PairOf A B) (Truth b) h = absurd h
 zero_one (PairOf A B) (Both v w) h = λ n. zero_one A v h.0 n * zero_one B w h.1 n
-zero_one (PairOf A B) Empty h = absurd h
-zero_one (PairOf A B) (Cons v w) h = absurd h
-zero_one (PairOf A B) (Node v l r) h = absurd h
+zero_one (PairOf A B) v h = absurd h
 zero_one (ListOf A) v h = refl
 zero_one (TreeOf A) v h = refl
+zero_one (OptionOf A) v h = refl
 
 pub types_have_zero : TypesHaveZero
 types_have_zero A = record { index = zero_is_index A; degree = zero_degree A; only = zero_only A; one = zero_one A }

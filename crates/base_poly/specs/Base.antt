@@ -1,7 +1,7 @@
 -- Base polynomials.
 use Rattle.std.specs.Prelude.{ℕ, zero, suc, ◌+◌, ◌*◌, List, [], ◌∷◌, ◌++◌, map}
-use Rattle.raml_syntax.specs.Value.{Value, Both, Cons, Node}
-use Rattle.base_poly.specs.Plain.{Plain, Unit', Pair, End, Then, entry_count}
+use Rattle.raml_syntax.specs.Value.{Value, Both, Cons, Node, Just}
+use Rattle.base_poly.specs.Plain.{Plain, Unit', Pair, End, Then, NoEntry, OneEntry, entry_count}
 
 -- the sum of a number over a list
 abbrev pub total : {X : Type 0} → (X → ℕ) → List X → ℕ
@@ -30,15 +30,22 @@ abbrev pub on_parts : (Value → ℕ) → (Value → ℕ) → Value → ℕ
 on_parts f g (Both v w) = f v * g w
 on_parts f g _ = 0
 
+-- what an option holds
+abbrev pub on_content : (Value → ℕ) → Value → ℕ
+on_content f (Just v) = f v
+on_content f _ = 0
+
 -- A value whose type the index does not have meets a default; no value of the type does.
 abbrev mutual
   -- The unit counts 1, a pair multiplies its parts. A list index adds up, over all choices of as many increasing positions as it has
-  -- entries, the products of its entries at the elements there.
+  -- entries, the products of its entries at the elements there. An option's entry counts at what the option holds, and 0 where it holds nothing.
   pub base : Plain → Value → ℕ
   base Unit' v = 1
   base (Pair i j) v = on_parts (base i) (base j) v
   base End v = 1
   base (Then i r) v = total (first_times_rest (base i) (along r)) (choices (suc (entry_count r)) (elements v))
+  base NoEntry v = 1
+  base (OneEntry i) v = on_content (base i) v
 
   -- the product of a list index's entries at as many elements
   pub along : Plain → List Value → ℕ

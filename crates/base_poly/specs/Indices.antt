@@ -3,8 +3,8 @@ use Rattle.std.specs.Prelude.{◌≡◌, ℕ, zero, suc, ◌+◌, ◌-◌, ◌�
 use Rattle.std.specs.declared.cmp.Ordering.{Ordering}
 use Rattle.std.specs.declared.cmp.Ordering.TheVariants.{Less, Equal, Greater}
 use Rattle.std.specs.Ordering.{ordering_then, nat_cmp}
-use Rattle.raml_syntax.specs.Tree.{Type', Integer, Boolean, PairOf, ListOf, TreeOf}
-use Rattle.base_poly.specs.Plain.{Plain, Unit', Pair, End, Then, many, deg, degrees, capped, order}
+use Rattle.raml_syntax.specs.Tree.{Type', Integer, Boolean, PairOf, ListOf, TreeOf, OptionOf}
+use Rattle.base_poly.specs.Plain.{Plain, Unit', Pair, End, Then, NoEntry, OneEntry, many, deg, degrees, capped, order}
 
 -- it is an index of the type
 abbrev pub IsIndex : Plain → Type' → Type 0
@@ -15,6 +15,8 @@ IsIndex End (ListOf A) = Unit {0}
 IsIndex End (TreeOf A) = Unit {0}
 IsIndex (Then i r) (ListOf A) = IsIndex i A × IsIndex r (ListOf A)
 IsIndex (Then i r) (TreeOf A) = IsIndex i A × IsIndex r (TreeOf A)
+IsIndex NoEntry (OptionOf A) = Unit {0}
+IsIndex (OneEntry i) (OptionOf A) = IsIndex i A
 IsIndex _ _ = ⊥
 
 -- they are a tuple of the context: one index of each of the types
@@ -30,6 +32,7 @@ zero_of Boolean = Unit'
 zero_of (PairOf A B) = Pair (zero_of A) (zero_of B)
 zero_of (ListOf A) = End
 zero_of (TreeOf A) = End
+zero_of (OptionOf A) = NoEntry
 
 -- component by component
 abbrev pub each_in_turn : List Plain → List Plain → Ordering
@@ -75,6 +78,11 @@ lists items zero d = [] ∷ []
 lists items (suc n) zero = [] ∷ []
 lists items (suc n) (suc d) = [] ∷ tuples_led (lists items n) d (items d)
 
+-- the option indices of degree at most d, whose entries are those of `items`
+abbrev pub options : (ℕ → List Plain) → ℕ → List Plain
+options items zero = NoEntry ∷ []
+options items (suc d) = NoEntry ∷ map OneEntry (items d)
+
 -- the indices of a type of at most this degree, in order
 abbrev pub indices_up_to : Type' → ℕ → List Plain
 indices_up_to Integer d = Unit' ∷ []
@@ -82,6 +90,7 @@ indices_up_to Boolean d = Unit' ∷ []
 indices_up_to (PairOf A B) d = pairs_led (indices_up_to B) d (indices_up_to A d)
 indices_up_to (ListOf A) d = map many (lists (indices_up_to A) d d)
 indices_up_to (TreeOf A) d = map many (lists (indices_up_to A) d d)
+indices_up_to (OptionOf A) d = options (indices_up_to A) d
 
 -- the tuples of a context of at most this degree, component by component
 abbrev pub tuples_up_to : List Type' → ℕ → List (List Plain)

@@ -1,8 +1,8 @@
 -- Laws of indices and of base polynomials.
 use Rattle.std.specs.Prelude.{◌≡◌, ◌≤◌, ◌<◌, ℕ, zero, suc, ◌+◌, ◌*◌, ◌^◌, List, [], ◌∷◌, ◌++◌, map, length, replicate, slice_get, Some}
 use Rattle.raml_syntax.specs.Tree.{Type'}
-use Rattle.raml_syntax.specs.Value.{Value, Has, Empty, Cons, Node, size}
-use Rattle.base_poly.specs.Plain.{Plain, Unit', many, deg, degrees}
+use Rattle.raml_syntax.specs.Value.{Value, Has, Empty, Cons, Node, Just, size}
+use Rattle.base_poly.specs.Plain.{Plain, Unit', NoEntry, OneEntry, many, deg, degrees}
 use Rattle.base_poly.specs.Indices.{IsIndex, zero_of, ListsTuples, tuple_order, capped_order, index_list}
 use Rattle.base_poly.specs.Base.{total, elements, base, bases}
 
@@ -44,6 +44,10 @@ pub record BaseByValue : Type 0 where
   -- the first entry stands at the node or not, and of the others the left tree has the first ones
   pub at_node : (i : Plain) (is : List Plain) (a l r : Value) → base (many (i ∷ is)) (Node a l r)
       ≡ base i a * total (λ c. base (many c.0) l * base (many c.1) r) (cuts is) + total (λ c. base (many c.0) l * base (many c.1) r) (cuts (i ∷ is))
+  -- of an option without an entry, and of one with an entry at none and at some value
+  pub at_option : (v : Value) → base NoEntry v ≡ 1
+  pub at_nothing : (i : Plain) → base (OneEntry i) Empty ≡ 0
+  pub at_some : (i : Plain) (v : Value) → base (OneEntry i) (Just v) ≡ base i v
 
 -- the number of ways to choose k of n
 abbrev pub choose : ℕ → ℕ → ℕ

@@ -1,15 +1,16 @@
 -- Indices as plain data, and their order.
 use Rattle.std.specs.Prelude.{ℕ, zero, suc, ◌+◌, ◌-◌, ◌^◌, min, Bool, List, [], ◌∷◌, ◌++◌}
 use Rattle.std.specs.declared.cmp.Ordering.{Ordering}
-use Rattle.std.specs.declared.cmp.Ordering.TheVariants.{Less, Equal, Greater}
-use Rattle.std.specs.Ordering.{ordering_then, eq_by_cmp}
+use Rattle.std.specs.Ordering.{ordering_then, nat_cmp, eq_by_cmp}
 
--- A list index is its first entry before the others, and `End` is the one without entries.
+-- A list index is its first entry before the others, and `End` is the one without entries. An option index has no entry or one.
 pub data Plain : Type 0 where
   Unit' : Plain
   Pair : Plain → Plain → Plain
   End : Plain
   Then : Plain → Plain → Plain
+  NoEntry : Plain
+  OneEntry : Plain → Plain
 
 -- the list index with these entries
 abbrev pub many : List Plain → Plain
@@ -32,6 +33,8 @@ deg Unit' = 0
 deg (Pair i j) = deg i + deg j
 deg End = 0
 deg (Then i r) = 1 + deg i + deg r
+deg NoEntry = 0
+deg (OneEntry i) = 1 + deg i
 
 -- the degree of a tuple
 abbrev pub degrees : List Plain → ℕ
@@ -42,24 +45,21 @@ degrees (i ∷ is) = deg i + degrees is
 abbrev pub capped : ℕ → ℕ
 capped n = min n (2 ^ 32 - 1)
 
--- the unit before pairs before lists; pairs by first part, then second; lists entry by entry, a proper prefix first
+-- where indices of this form stand among those of others
+abbrev pub rank : Plain → ℕ
+rank Unit' = 0
+rank (Pair a b) = 1
+rank End = 2
+rank (Then x r) = 3
+rank NoEntry = 4
+rank (OneEntry x) = 5
+
+-- The unit before pairs before lists before options; pairs by first part, then second; lists entry by entry, a proper prefix first; options without an entry first, then by it.
 abbrev pub order : Plain → Plain → Ordering
-order Unit' Unit' = Equal
-order Unit' (Pair c d) = Less
-order Unit' End = Less
-order Unit' (Then y s) = Less
-order (Pair a b) Unit' = Greater
 order (Pair a b) (Pair c d) = ordering_then (order a c) (order b d)
-order (Pair a b) End = Less
-order (Pair a b) (Then y s) = Less
-order End Unit' = Greater
-order End (Pair c d) = Greater
-order End End = Equal
-order End (Then y s) = Less
-order (Then x r) Unit' = Greater
-order (Then x r) (Pair c d) = Greater
-order (Then x r) End = Greater
 order (Then x r) (Then y s) = ordering_then (order x y) (order r s)
+order (OneEntry x) (OneEntry y) = order x y
+order x y = nat_cmp (rank x) (rank y)
 
 abbrev pub same : Plain → Plain → Bool
 same = eq_by_cmp order
@@ -74,3 +74,5 @@ writes Unit' = (1 ∷ []) ∷ []
 writes (Pair a b) = (2 ∷ []) ∷ (writes a ++ writes b)
 writes End = (0 ∷ []) ∷ []
 writes (Then x r) = (3 ∷ []) ∷ (writes x ++ writes r)
+writes NoEntry = (4 ∷ []) ∷ []
+writes (OneEntry x) = (5 ∷ []) ∷ writes x

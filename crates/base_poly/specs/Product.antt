@@ -1,6 +1,6 @@
 -- The product of two indices of one type: the indices whose base polynomials add up to the product of theirs, each as often as it counts.
 use Rattle.std.specs.Prelude.{List, [], ◌∷◌, ◌++◌, map, flat_map}
-use Rattle.base_poly.specs.Plain.{Plain, Unit', Pair, End, Then}
+use Rattle.base_poly.specs.Plain.{Plain, Unit', Pair, End, Then, NoEntry, OneEntry}
 
 -- of the list index with the first i and the rest r: the least position is that of i alone, that of the other's first alone, or both stand at one
 abbrev pub mixed : Plain → Plain → (Plain → List Plain) → (Plain → List Plain) → Plain → List Plain
@@ -15,6 +15,12 @@ list_only End = End ∷ []
 list_only (Then j s) = Then j s ∷ []
 list_only _ = []
 
+-- an option index alone
+abbrev pub option_only : Plain → List Plain
+option_only NoEntry = NoEntry ∷ []
+option_only (OneEntry j) = OneEntry j ∷ []
+option_only _ = []
+
 -- of indices that no type has together there is none
 abbrev pub product : Plain → Plain → List Plain
 product Unit' j = Unit' ∷ []
@@ -22,3 +28,7 @@ product (Pair a b) (Pair c d) = flat_map (λ h. map (λ k. Pair h k) (product b 
 product (Pair a b) _ = []
 product End j = list_only j
 product (Then i r) j = mixed i r (product i) (product r) j
+product NoEntry j = option_only j
+product (OneEntry i) NoEntry = OneEntry i ∷ []
+product (OneEntry i) (OneEntry j) = map OneEntry (product i j)
+product (OneEntry i) _ = []

@@ -1,5 +1,5 @@
 -- What the code's indices and tuples are as plain data.
-use Rattle.std.specs.Prelude.{List, map}
+use Rattle.std.specs.Prelude.{List, map, None, Some}
 use Rattle.raml_syntax.specs.declared.ty.Ty.{Ty}
 use Rattle.raml_syntax.specs.Tree.{Type'}
 use Rattle.raml_syntax.specs.Read.{ty_of}
@@ -12,6 +12,8 @@ abbrev pub index_step : o.Index-F p.Plain → p.Plain
 index_step o.Unit = p.Unit'
 index_step (o.Pair a b) = p.Pair a.value b.value
 index_step (o.List is) = p.many is.items
+index_step (o.Opt None) = p.NoEntry
+index_step (o.Opt (Some a)) = p.OneEntry a.value
 
 abbrev pub index_of : Index → p.Plain
 index_of = fold-Index p.Plain index_step

@@ -7,7 +7,7 @@ use Rattle.std.specs.Ordering.{ordering_then, ordering_reverse, is_eq, eq_by_cmp
 use Rattle.std.specs.Cmp.{IsTotalOrder}
 use Rattle.std.specs.Cmp.Lexicographic.{slice_cmp}
 use Rattle.std.proofs.lemmas.Cmp.{on_total, then_total, nat_cmp_total, nat_list_cmp_total, eq_by_cmp_equiv}
-use Rattle.base_poly.specs.Plain.{Plain, Unit', Pair, End, Then, many, entries_of, degrees, capped, order, same, alike, writes}
+use Rattle.base_poly.specs.Plain.{Plain, Unit', Pair, End, Then, NoEntry, OneEntry, many, entries_of, degrees, capped, order, same, alike, writes}
 use Rattle.base_poly.specs.Indices.{each_in_turn, tuple_order, capped_order}
 
 -- an index as a list of numbers, which sorts as the index does
@@ -16,6 +16,8 @@ spell Unit' = 1 ∷ []
 spell (Pair a b) = 2 ∷ (spell a ++ spell b)
 spell End = 3 ∷ []
 spell (Then x r) = 4 ∷ (spell x ++ spell r)
+spell NoEntry = 5 ∷ []
+spell (OneEntry x) = 6 ∷ spell x
 
 then_assoc : (a b c : Ordering) → ordering_then (ordering_then a b) c ≡ ordering_then a (ordering_then b c)
 then_assoc Less b c = refl
@@ -36,22 +38,11 @@ two a b c d r s p q f g =
     rw (append_assoc a b r, append_assoc c d s, f (b ++ r) (d ++ s), g r s) (sym (then_assoc p q (slice_cmp nat_cmp r s)))
 
 by_spell : (x y : Plain) (r s : List ℕ) → slice_cmp nat_cmp (spell x ++ r) (spell y ++ s) ≡ ordering_then (order x y) (slice_cmp nat_cmp r s)
-by_spell Unit' Unit' r s = refl
-by_spell Unit' (Pair c d) r s = refl
-by_spell Unit' End r s = refl
-by_spell Unit' (Then y t) r s = refl
-by_spell (Pair a b) Unit' r s = refl
 by_spell (Pair a b) (Pair c d) r s = two (spell a) (spell b) (spell c) (spell d) r s (order a c) (order b d) (by_spell a c) (by_spell b d)
-by_spell (Pair a b) End r s = refl
-by_spell (Pair a b) (Then y t) r s = refl
-by_spell End Unit' r s = refl
-by_spell End (Pair c d) r s = refl
-by_spell End End r s = refl
-by_spell End (Then y t) r s = refl
-by_spell (Then x q) Unit' r s = refl
-by_spell (Then x q) (Pair c d) r s = refl
-by_spell (Then x q) End r s = refl
 by_spell (Then x q) (Then y t) r s = two (spell x) (spell q) (spell y) (spell t) r s (order x y) (order q t) (by_spell x y) (by_spell q t)
+by_spell (OneEntry x) (OneEntry y) r s = by_spell x y r s
+by_spell x Unit' r s = refl
+by_spell x y r s = refl
 
 is_order : (x y : Plain) → slice_cmp nat_cmp (spell x) (spell y) ≡ order x y
 is_order x y =
@@ -88,27 +79,18 @@ second_equal Greater b h = cc
 
 pub equal_is_one : (x y : Plain) → order x y ≡ Equal → x ≡ y
 equal_is_one Unit' Unit' h = refl
-equal_is_one Unit' (Pair c d) h = cc
-equal_is_one Unit' End h = cc
-equal_is_one Unit' (Then y s) h = cc
-equal_is_one (Pair a b) Unit' h = cc
 equal_is_one (Pair a b) (Pair c d) h =
     let e = equal_is_one a c (first_equal (order a c) (order b d) h) in
     let f = equal_is_one b d (second_equal (order a c) (order b d) h) in
     λ i. Pair (e i) (f i)
-equal_is_one (Pair a b) End h = cc
-equal_is_one (Pair a b) (Then y s) h = cc
-equal_is_one End Unit' h = cc
-equal_is_one End (Pair c d) h = cc
 equal_is_one End End h = refl
-equal_is_one End (Then y s) h = cc
-equal_is_one (Then x r) Unit' h = cc
-equal_is_one (Then x r) (Pair c d) h = cc
-equal_is_one (Then x r) End h = cc
 equal_is_one (Then x r) (Then y s) h =
     let e = equal_is_one x y (first_equal (order x y) (order r s) h) in
     let f = equal_is_one r s (second_equal (order x y) (order r s) h) in
     λ i. Then (e i) (f i)
+equal_is_one NoEntry NoEntry h = refl
+equal_is_one (OneEntry x) (OneEntry y) h = ap OneEntry (equal_is_one x y h)
+equal_is_one x y h = cc
 
 is_Equal : (o : Ordering) → IsTrue (is_eq o) → o ≡ Equal
 is_Equal Less h = cc

@@ -23,6 +23,8 @@ pub enum Index {
     Pair(Box<Index>, Box<Index>),
     /// Indices of elements of a list or tree.
     List(Vec<Index>),
+    /// No index, or one of what an option holds.
+    Opt(Option<Box<Index>>),
 }
 
 impl Index {
@@ -37,10 +39,11 @@ impl Index {
                 Box::new(alloc, Index::zero(alloc, second)?)?,
             )),
             Ty::List(_) | Ty::Tree(_) => Ok(Index::List(Vec::new(alloc))),
+            Ty::Opt(_) => Ok(Index::Opt(None)),
         }
     }
 
-    /// The degree: the number of entries of all lists in the index.
+    /// The degree: the number of entries of all lists and options in the index.
     pub fn degree(&self) -> u32
         requires { deg (index_of self.now) < 2 ^ 32 }
         ensures { result ≡ deg (index_of self.now) }
@@ -59,6 +62,8 @@ impl Index {
                 first.capped_degree().saturating_add(second.capped_degree())
             }
             Index::List(entries) => degree_of_entries(entries),
+            Index::Opt(None) => 0,
+            Index::Opt(Some(entry)) => entry.capped_degree().saturating_add(1),
         }
     }
 
@@ -74,6 +79,10 @@ impl Index {
                 Box::new(alloc, second.copy(alloc)?)?,
             )),
             Index::List(entries) => Ok(Index::List(copy_all(alloc, entries)?)),
+            Index::Opt(entry) => match entry {
+                None => Ok(Index::Opt(None)),
+                Some(entry) => Ok(Index::Opt(Some(Box::new(alloc, entry.copy(alloc)?)?))),
+            },
         }
     }
 
@@ -85,7 +94,7 @@ impl Index {
         match self {
             Index::Unit => match other {
                 Index::Unit => Ordering::Equal,
-                Index::Pair(..) | Index::List(_) => Ordering::Less,
+                Index::Pair(..) | Index::List(_) | Index::Opt(_) => Ordering::Less,
             },
             Index::Pair(first, second) => match other {
                 Index::Unit => Ordering::Greater,
@@ -94,11 +103,22 @@ impl Index {
                     Ordering::Equal => second.order(right),
                     Ordering::Greater => Ordering::Greater,
                 },
-                Index::List(_) => Ordering::Less,
+                Index::List(_) | Index::Opt(_) => Ordering::Less,
             },
             Index::List(entries) => match other {
                 Index::Unit | Index::Pair(..) => Ordering::Greater,
                 Index::List(items) => order_of_all(entries, items),
+                Index::Opt(_) => Ordering::Less,
+            },
+            Index::Opt(None) => match other {
+                Index::Unit | Index::Pair(..) | Index::List(_) => Ordering::Greater,
+                Index::Opt(None) => Ordering::Equal,
+                Index::Opt(Some(_)) => Ordering::Less,
+            },
+            Index::Opt(Some(entry)) => match other {
+                Index::Unit | Index::Pair(..) | Index::List(_) => Ordering::Greater,
+                Index::Opt(None) => Ordering::Greater,
+                Index::Opt(Some(item)) => entry.order(item),
             },
         }
     }
@@ -212,6 +232,11 @@ fn feed<H: Hasher>(index: &Index, state: &mut H)
             feed(second, state);
         }
         Index::List(entries) => feed_all(entries, state),
+        Index::Opt(None) => state.write_u8(4),
+        Index::Opt(Some(entry)) => {
+            state.write_u8(5);
+            feed(entry, state);
+        }
     }
 }
 

@@ -1,8 +1,8 @@
 // Lists of all indices up to a degree.
 ghost use Rattle.std.specs.Prelude.{◌≡◌, ◌<◌, ◌≤◌, ◌+◌, ◌-◌, [], ◌∷◌, ◌++◌, All, map, filter, not, length, nat_eq, vec_len, IfOk, OnOk, IsErrOf};
 ghost use Rattle.raml_syntax.specs.Read.{ty_of};
-ghost use Rattle.base_poly.specs.Plain.{Unit', Pair, many, deg, degrees};
-ghost use Rattle.base_poly.specs.Indices.{tuples_led, pairs_led, lists, indices_up_to, tuples_up_to, index_list, ListsTuples};
+ghost use Rattle.base_poly.specs.Plain.{Pair, OneEntry, many, deg, degrees};
+ghost use Rattle.base_poly.specs.Indices.{tuples_led, pairs_led, lists, options, indices_up_to, tuples_up_to, index_list, ListsTuples};
 ghost use Rattle.base_poly.specs.Read.{index_of, plains_of, context_of};
 
 use crate::fault::IndexFault;
@@ -161,16 +161,18 @@ fn append_tuple(
     Ok(())
 }
 
-// The empty tuple alone.
-fn only_empty(alloc: Global, most: usize) -> Result<Vec<Tuple>, IndexFault>
-    ensures all { IfOk result (λ found. found.items ≡ [] ∷ []) }
+// The item alone.
+fn only<T: Drop>(alloc: Global, item: T, most: usize) -> Result<Vec<T>, IndexFault>
+    ensures all { IfOk result (λ found. found.items ≡ item ∷ []) }
     ensures few { IfOk result (λ found. vec_len found ≤ most) }
     ensures many { IsErrOf result IndexFault.TooMany → most < 1 }
 {
     if most == 0 {
         return Err(IndexFault::TooMany);
     }
-    Ok(vec![in alloc; Tuple::new(Vec::new(alloc))]?)
+    let mut found = Vec::new(alloc);
+    found.push(item)?;
+    Ok(found)
 }
 
 // Appends the index before each of the tuples.
@@ -200,25 +202,14 @@ fn indices_up_to(alloc: Global, ty: &Ty, d: u32, most: usize) -> Result<Vec<Inde
     ensures many { IsErrOf result IndexFault.TooMany → most < length (indices_up_to (ty_of ty.now) d) }
 {
     match ty {
-        Ty::Int | Ty::Bool => only_unit(alloc, most),
+        Ty::Int | Ty::Bool => only(alloc, Index::Unit, most),
         Ty::Pair(first, second) => pairs_up_to(alloc, first, second, d, most),
         Ty::List(element) | Ty::Tree(element) => {
             let found = lists_up_to(alloc, element, d, most)?;
             Ok(as_lists(alloc, found)?)
         }
+        Ty::Opt(content) => options_up_to(alloc, content, d, most),
     }
-}
-
-// The unit alone.
-fn only_unit(alloc: Global, most: usize) -> Result<Vec<Index>, IndexFault>
-    ensures all { IfOk result (λ found. plains_of found.items ≡ Unit' ∷ []) }
-    ensures few { IfOk result (λ found. vec_len found ≤ most) }
-    ensures many { IsErrOf result IndexFault.TooMany → most < 1 }
-{
-    if most == 0 {
-        return Err(IndexFault::TooMany);
-    }
-    Ok(vec![in alloc; Index::Unit]?)
 }
 
 // All indices of the pairs of these two types.
@@ -306,7 +297,7 @@ fn lists_up_to(alloc: Global, element: &Ty, d: u32, most: usize) -> Result<Vec<T
     ensures few { IfOk result (λ found. vec_len found ≤ most) }
     ensures many { IsErrOf result IndexFault.TooMany → most < length (lists (indices_up_to (ty_of element.now)) d d) }
 {
-    let found = only_empty(alloc, most)?;
+    let found = only(alloc, Tuple::new(Vec::new(alloc)), most)?;
     if d == 0 {
         return Ok(found);
     }
@@ -359,6 +350,36 @@ fn append_lists_by_head(
 {
     let rests = lists_up_to(alloc, element, d - head.degree(), most)?;
     append_with_head_within(alloc, found, head, &rests, most)
+}
+
+// All indices of options of the type.
+#[cycle(of_type)]
+fn options_up_to(alloc: Global, content: &Ty, d: u32, most: usize) -> Result<Vec<Index>, IndexFault>
+    ensures all { IfOk result (λ found. plains_of found.items ≡ options (indices_up_to (ty_of content.now)) d) }
+    ensures few { IfOk result (λ found. vec_len found ≤ most) }
+    ensures many { IsErrOf result IndexFault.TooMany → most < length (options (indices_up_to (ty_of content.now)) d) }
+{
+    let mut found = only(alloc, Index::Opt(None), most)?;
+    if d > 0 {
+        let entries = indices_up_to(alloc, content, d - 1, most - 1)?;
+        append_options(alloc, &mut found, entries)?;
+    }
+    Ok(found)
+}
+
+// Appends the option index with each of the entries.
+pub fn append_options(
+    alloc: Global,
+    found: &mut Vec<Index>,
+    entries: Vec<Index>,
+) -> Result<(), AllocError>
+    ensures all { OnOk result (plains_of found.new.items ≡ plains_of found.old.items ++ map OneEntry (plains_of entries.items)) }
+    ensures len { OnOk result (vec_len found.new ≡ vec_len found.old + vec_len entries) }
+{
+    for entry in entries {
+        found.push(Index::Opt(Some(Box::new(alloc, entry)?)))?;
+    }
+    Ok(())
 }
 
 // Each of them as a list index.

@@ -2,7 +2,7 @@
 ghost use Rattle.std.specs.Prelude.{◌≡◌, ◌<◌, ◌≤◌, ◌+◌, ◌*◌, ◌∷◌, [], ◌++◌, ◌^◌, All, map, flat_map, length, vec_len, IfOk, OnOk, ℕ};
 ghost use Rattle.raml_syntax.specs.Tree.{Type'};
 ghost use Rattle.raml_syntax.specs.Value.{Value};
-ghost use Rattle.base_poly.specs.Plain.{Unit', Pair, Then, many, deg};
+ghost use Rattle.base_poly.specs.Plain.{Pair, Then, OneEntry, many, deg};
 ghost use Rattle.base_poly.specs.Indices.{IsIndex};
 ghost use Rattle.base_poly.specs.Base.{base};
 ghost use Rattle.base_poly.specs.Product.{product};
@@ -10,7 +10,7 @@ ghost use Rattle.base_poly.specs.Count.{counts_of, count_at, count_one, tallied,
 ghost use Rattle.base_poly.specs.Read.{index_of, plains_of};
 
 use crate::index::{Index, copy_all};
-use crate::list::{as_lists, pair};
+use crate::list::{append_options, as_lists, pair};
 use crate::tuple::{Tuple, append_with_head};
 use indexmap::IndexMap;
 use std::alloc::{AllocError, Global};
@@ -82,14 +82,27 @@ fn product(alloc: Global, left: &Index, right: &Index) -> Result<Vec<Index>, All
                 let tails = product(alloc, second, another)?;
                 pairs(alloc, &heads, &tails)
             }
-            Index::Unit | Index::List(_) => Ok(Vec::new(alloc)),
+            Index::Unit | Index::List(_) | Index::Opt(_) => Ok(Vec::new(alloc)),
         },
         Index::List(entries) => match right {
             Index::List(others) => {
                 let found = lists_product(alloc, entries, others)?;
                 as_lists(alloc, found)
             }
-            Index::Unit | Index::Pair(..) => Ok(Vec::new(alloc)),
+            Index::Unit | Index::Pair(..) | Index::Opt(_) => Ok(Vec::new(alloc)),
+        },
+        Index::Opt(None) => match right {
+            Index::Opt(_) => Ok(vec![in alloc; right.copy(alloc)?]?),
+            Index::Unit | Index::Pair(..) | Index::List(_) => Ok(Vec::new(alloc)),
+        },
+        Index::Opt(Some(entry)) => match right {
+            Index::Opt(None) => Ok(vec![in alloc; left.copy(alloc)?]?),
+            Index::Opt(Some(other)) => {
+                let mut found = Vec::new(alloc);
+                append_options(alloc, &mut found, product(alloc, entry, other)?)?;
+                Ok(found)
+            }
+            Index::Unit | Index::Pair(..) | Index::List(_) => Ok(Vec::new(alloc)),
         },
     }
 }

@@ -1,9 +1,9 @@
 -- How the parts of a tuple are carried.
-use Rattle.std.proofs.Common.{◌≡◌, ◌≢◌, ◌≤◌, ℕ, suc, ◌+◌, ◌*◌, ◌==◌, if◌then◌else◌, Bool, true, false, List, [], ◌∷◌, ◌++◌, map, length, All, refl, sym, ap, ◌∙◌, subst, arith}
+use Rattle.std.proofs.Common.{◌≡◌, ◌≢◌, ◌≤◌, ◌<◌, ℕ, suc, ◌+◌, ◌*◌, ◌==◌, if◌then◌else◌, Bool, true, false, List, [], ◌∷◌, ◌++◌, map, length, All, refl, sym, ap, ◌∙◌, subst, arith}
 use Rattle.std.proofs.lemmas.Bool.{eqb-true, ne_eqb}
-use Rattle.raml_syntax.specs.Tree.{Type', Integer, Boolean, PairOf, ListOf, TreeOf}
-use Rattle.raml_syntax.specs.Value.{Value, Number, Truth, Both, Empty, Cons, Node, Has}
-use Rattle.base_poly.specs.Plain.{Plain, Unit', Pair, End, Then, many, entries_of, deg, degrees}
+use Rattle.raml_syntax.specs.Tree.{Type', Integer, Boolean, PairOf, ListOf, TreeOf, OptionOf}
+use Rattle.raml_syntax.specs.Value.{Value, Number, Truth, Both, Empty, Cons, Node, Just, Has}
+use Rattle.base_poly.specs.Plain.{Plain, Pair, End, Then, NoEntry, OneEntry, many, entries_of, deg, degrees}
 use Rattle.base_poly.specs.Indices.{IsIndex, AreIndices, zero_of}
 use Rattle.base_poly.specs.Base.{total, base, bases}
 use Rattle.base_poly.specs.Product.{product}
@@ -87,16 +87,17 @@ tree_fit A (i ∷ is) h =
 parts_fit : (A : Type') (i : Plain) → IsIndex i A → Each (Fits (type_parts A) (deg i)) (index_parts A i)
 parts_fit Integer i h = tt
 parts_fit Boolean i h = tt
-parts_fit (PairOf A B) Unit' h = absurd h
 parts_fit (PairOf A B) (Pair i j) h = (((h.0, (h.1, tt)), omega arith), tt)
-parts_fit (PairOf A B) End h = absurd h
-parts_fit (PairOf A B) (Then i r) h = absurd h
+parts_fit (PairOf A B) i h = absurd h
 parts_fit (ListOf A) i h =
     let same = many_of_list A i h in
     subst (λ n. Each (Fits (A ∷ ListOf A ∷ []) n) (list_parts (zero_of A) (entries_of i))) (ap deg (sym same)) (list_fit A (entries_of i) (subst (λ j. IsIndex j (ListOf A)) same h))
 parts_fit (TreeOf A) i h =
     let same = many_of_tree A i h in
     subst (λ n. Each (Fits (A ∷ TreeOf A ∷ TreeOf A ∷ []) n) (tree_parts (zero_of A) (entries_of i))) (ap deg (sym same)) (tree_fit A (entries_of i) (subst (λ j. IsIndex j (TreeOf A)) same h))
+parts_fit (OptionOf A) NoEntry h = (((zero_is_index A, tt), (let z = zero_degree A in omega (arith, z))), tt)
+parts_fit (OptionOf A) (OneEntry i) h = (((h, tt), omega arith), tt)
+parts_fit (OptionOf A) i h = absurd h
 
 pub opens_fit : (A : Type') (As : List Type') (t : List Plain) → AreIndices t (A ∷ As) → Each (λ e. Fits (type_parts A ++ As) (degrees t) e.0) (opens A t)
 opens_fit A As [] h = tt
@@ -161,24 +162,17 @@ parts_worth : (A : Type') (i : Plain) (v : Value) (u : List Plain) (us : List Va
 parts_worth A i (Number n) u us h has some = absurd (some refl)
 parts_worth A i (Truth b) u us h has some = absurd (some refl)
 parts_worth A i Empty u us h has some = absurd (some refl)
-parts_worth Integer i (Both v w) u us h has some = absurd has
-parts_worth Boolean i (Both v w) u us h has some = absurd has
-parts_worth (PairOf A B) Unit' (Both v w) u us h has some = absurd h
 parts_worth (PairOf A B) (Pair i j) (Both v w) u us h has some = grind arith
-parts_worth (PairOf A B) End (Both v w) u us h has some = absurd h
-parts_worth (PairOf A B) (Then i r) (Both v w) u us h has some = absurd h
-parts_worth (ListOf A) i (Both v w) u us h has some = absurd has
-parts_worth (TreeOf A) i (Both v w) u us h has some = absurd has
-parts_worth Integer i (Cons h t) u us g has some = absurd has
-parts_worth Boolean i (Cons h t) u us g has some = absurd has
-parts_worth (PairOf A B) i (Cons h t) u us g has some = absurd has
+parts_worth (PairOf A B) i (Both v w) u us h has some = absurd h
+parts_worth A i (Both v w) u us h has some = absurd has
 parts_worth (ListOf A) i (Cons h t) u us g has some = list_worth A (entries_of i) h t u us has.0 ∙ ap (λ j. base j (Cons h t) * bases u us) (sym (many_of_list A i g))
-parts_worth (TreeOf A) i (Cons h t) u us g has some = absurd has
-parts_worth Integer i (Node a l r) u us g has some = absurd has
-parts_worth Boolean i (Node a l r) u us g has some = absurd has
-parts_worth (PairOf A B) i (Node a l r) u us g has some = absurd has
-parts_worth (ListOf A) i (Node a l r) u us g has some = absurd has
+parts_worth A i (Cons h t) u us g has some = absurd has
 parts_worth (TreeOf A) i (Node a l r) u us g has some = tree_worth A (entries_of i) a l r u us has.0 ∙ ap (λ j. base j (Node a l r) * bases u us) (sym (many_of_tree A i g))
+parts_worth A i (Node a l r) u us g has some = absurd has
+parts_worth (OptionOf A) NoEntry (Just v) u us h has some = let one = zero_one A v has in grind (arith, one)
+parts_worth (OptionOf A) (OneEntry i) (Just v) u us h has some = grind arith
+parts_worth (OptionOf A) i (Just v) u us h has some = absurd h
+parts_worth A i (Just v) u us h has some = absurd has
 
 -- what a tuple is carried to is worth at these values
 abbrev pub carried_at : List Value → List (List Plain × ℕ) → ℕ
@@ -190,23 +184,22 @@ opens_worth A As v [] us has some h = absurd h
 opens_worth A As v (i ∷ t) us has some h =
     total_map (λ e. e.1 * bases e.0 (value_parts v ++ us)) (λ r. (r ++ t, 1)) (index_parts A i) ∙ parts_worth A i v t us h.0 has some
 
--- no entry stands in an empty list or tree
-not_zero : (i r : Plain) (t : List Plain) (us : List Value) → carried_at us (leaves (Then i r ∷ t)) ≡ bases (Then i r ∷ t) (Empty ∷ us)
-not_zero i r t us = ap (λ b. carried_at us (if b then (t, 1) ∷ [] else [])) (ne_eqb (1 + deg i + deg r) 0 (λ e. omega (arith, e))) ∙ grind arith
+-- no entry stands in an empty list, tree or option
+not_zero : (i : Plain) (t : List Plain) (us : List Value) → 0 < deg i → base i Empty ≡ 0 → carried_at us (leaves (i ∷ t)) ≡ bases (i ∷ t) (Empty ∷ us)
+not_zero i t us some none = ap (λ b. carried_at us (if b then (t, 1) ∷ [] else [])) (ne_eqb (deg i) 0 (λ e. omega (arith, e, some))) ∙ grind (arith, none)
 
 pub leaves_worth : (A : Type') (As : List Type') (t : List Plain) (us : List Value) → Has Empty A → AreIndices t (A ∷ As) → carried_at us (leaves t) ≡ bases t (Empty ∷ us)
 leaves_worth A As [] us has h = absurd h
-leaves_worth Integer As (i ∷ t) us has h = absurd has
-leaves_worth Boolean As (i ∷ t) us has h = absurd has
-leaves_worth (PairOf A B) As (i ∷ t) us has h = absurd has
-leaves_worth (ListOf A) As (Unit' ∷ t) us has h = absurd h.0
-leaves_worth (ListOf A) As (Pair i j ∷ t) us has h = absurd h.0
 leaves_worth (ListOf A) As (End ∷ t) us has h = grind arith
-leaves_worth (ListOf A) As (Then i r ∷ t) us has h = not_zero i r t us
-leaves_worth (TreeOf A) As (Unit' ∷ t) us has h = absurd h.0
-leaves_worth (TreeOf A) As (Pair i j ∷ t) us has h = absurd h.0
+leaves_worth (ListOf A) As (Then i r ∷ t) us has h = not_zero (Then i r) t us (omega arith) refl
+leaves_worth (ListOf A) As (i ∷ t) us has h = absurd h.0
 leaves_worth (TreeOf A) As (End ∷ t) us has h = grind arith
-leaves_worth (TreeOf A) As (Then i r ∷ t) us has h = not_zero i r t us
+leaves_worth (TreeOf A) As (Then i r ∷ t) us has h = not_zero (Then i r) t us (omega arith) refl
+leaves_worth (TreeOf A) As (i ∷ t) us has h = absurd h.0
+leaves_worth (OptionOf A) As (NoEntry ∷ t) us has h = grind arith
+leaves_worth (OptionOf A) As (OneEntry i ∷ t) us has h = not_zero (OneEntry i) t us (omega arith) refl
+leaves_worth (OptionOf A) As (i ∷ t) us has h = absurd h.0
+leaves_worth A As (i ∷ t) us has h = absurd has
 
 pub leaves_lower : (A : Type') (As : List Type') (v : Value) (t : List Plain) (us : List Value) → Has v A → AreIndices t (A ∷ As) → carried_at us (leaves t) ≤ bases t (v ∷ us)
 leaves_lower A As v [] us has h = absurd h

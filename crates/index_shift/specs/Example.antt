@@ -1,6 +1,6 @@
 -- Small maps, worked out by hand.
 use Rattle.std.specs.Prelude.{◌≡◌, ℕ, [], ◌∷◌, slice_index, pos}
-use Rattle.raml_syntax.specs.Tree.{Type', Integer, PairOf, ListOf, TreeOf}
+use Rattle.raml_syntax.specs.Tree.{Type', Integer, PairOf, ListOf, TreeOf, OptionOf}
 use Rattle.raml_syntax.specs.Value.{Value, Number, Empty, Cons}
 use Rattle.index_shift.specs.Potential.{potential, moved}
 use Rattle.index_shift.specs.Maps.{opening, leaving, sharing}
@@ -23,7 +23,10 @@ pub record Examples : Type 0 where
   pub tree_opened : opening (TreeOf Integer ∷ []) 0 2
       ≡ entry 0 0 1 ∷ entry 1 0 1 ∷ entry 1 1 1 ∷ entry 1 2 1 ∷ entry 2 1 1 ∷ entry 2 2 1 ∷ entry 2 3 1 ∷ entry 2 4 1 ∷ entry 2 5 1 ∷ []
   pub pair_opened : opening (PairOf list list ∷ []) 0 1 ≡ entry 0 0 1 ∷ entry 1 1 1 ∷ entry 2 2 1 ∷ []
+  -- an option of a list: without an entry, and with one of degree 0, it counts 1 at the list
+  pub option_opened : opening (OptionOf list ∷ []) 0 2 ≡ entry 0 0 1 ∷ entry 1 0 1 ∷ entry 2 1 1 ∷ []
   pub list_left : leaving (list ∷ list ∷ []) 0 2 ≡ entry 0 0 1 ∷ entry 1 1 1 ∷ entry 3 2 1 ∷ []
+  pub option_left : leaving (OptionOf list ∷ list ∷ []) 0 1 ≡ entry 0 0 1 ∷ entry 1 1 1 ∷ []
   -- a list twice: the product of its length with itself is the length and twice its pairs
   pub list_shared : sharing (list ∷ []) 0 2 ≡ entry 0 0 1 ∷ entry 1 1 1 ∷ entry 2 1 1 ∷ entry 3 2 1 ∷ entry 4 2 2 ∷ entry 4 1 1 ∷ entry 5 2 1 ∷ []
   -- 5, 7 times the length and 11 times the pairs of a list of four

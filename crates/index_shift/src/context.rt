@@ -7,22 +7,6 @@ ghost use Rattle.index_shift.specs.Parts.{type_parts};
 use raml_syntax::Ty;
 use std::alloc::{AllocError, Global};
 
-// The type once more.
-fn copy_of(alloc: Global, ty: &Ty) -> Result<Ty, AllocError>
-    ensures { IfOk result (λ copy. ty_of copy ≡ ty_of ty.now) }
-{
-    match ty {
-        Ty::Int => Ok(Ty::Int),
-        Ty::Bool => Ok(Ty::Bool),
-        Ty::Pair(first, second) => Ok(Ty::Pair(
-            Box::new(alloc, copy_of(alloc, first)?)?,
-            Box::new(alloc, copy_of(alloc, second)?)?,
-        )),
-        Ty::List(element) => Ok(Ty::List(Box::new(alloc, copy_of(alloc, element)?)?)),
-        Ty::Tree(element) => Ok(Ty::Tree(Box::new(alloc, copy_of(alloc, element)?)?)),
-    }
-}
-
 /// The types that stand for this one once it is taken apart.
 pub fn type_parts(alloc: Global, ty: &Ty) -> Result<Vec<Ty>, AllocError>
     ensures { IfOk result (λ parts. context_of parts.items ≡ type_parts (ty_of ty.now)) }
@@ -33,9 +17,10 @@ pub fn type_parts(alloc: Global, ty: &Ty) -> Result<Vec<Ty>, AllocError>
         Ty::List(element) => two(alloc, element, ty),
         Ty::Tree(element) => {
             let mut parts = two(alloc, element, ty)?;
-            parts.push(copy_of(alloc, ty)?)?;
+            parts.push(ty.copy(alloc)?)?;
             Ok(parts)
         }
+        Ty::Opt(content) => Ok(vec![in alloc; content.copy(alloc)?]?),
     }
 }
 
@@ -43,10 +28,7 @@ pub fn type_parts(alloc: Global, ty: &Ty) -> Result<Vec<Ty>, AllocError>
 pub fn two(alloc: Global, first: &Ty, second: &Ty) -> Result<Vec<Ty>, AllocError>
     ensures { IfOk result (λ types. context_of types.items ≡ ty_of first.now ∷ (ty_of second.now ∷ [])) }
 {
-    let mut types = Vec::new(alloc);
-    types.push(copy_of(alloc, first)?)?;
-    types.push(copy_of(alloc, second)?)?;
-    Ok(types)
+    Ok(vec![in alloc; first.copy(alloc)?, second.copy(alloc)?]?)
 }
 
 /// The context with these types in place of the one at `at`.
@@ -72,7 +54,7 @@ fn append_types(alloc: Global, whole: &mut Vec<Ty>, types: &[Ty]) -> Result<(), 
     ensures { OnOk result (context_of whole.new.items ≡ context_of whole.old.items ++ context_of types.now) }
 {
     for ty in types {
-        whole.push(copy_of(alloc, ty)?)?;
+        whole.push(ty.copy(alloc)?)?;
     }
     Ok(())
 }

@@ -13,4 +13,4 @@ mod places;
 
 pub use entry::Entry;
 pub use fault::MapFault;
-pub use maps::{drop_var, empty_part, share_map, shift_list, shift_tree, split_pair};
+pub use maps::{drop_var, empty_part, share_map, shift_list, shift_option, shift_tree, split_pair};

@@ -1,7 +1,7 @@
 // The maps.
 ghost use Rattle.std.specs.Prelude.{◌≡◌, ◌≢◌, ◌≤◌, ◌<◌, ◌⊎◌, All, [], length, slice_get, Some, IfOk, OnOk, IsErrOf};
-ghost use Rattle.raml_syntax.specs.Tree.{Type', PairOf, ListOf, TreeOf};
-ghost use Rattle.raml_syntax.specs.Value.{Value, Both, Empty, Cons, Node};
+ghost use Rattle.raml_syntax.specs.Tree.{Type', PairOf, ListOf, TreeOf, OptionOf};
+ghost use Rattle.raml_syntax.specs.Value.{Value, Both, Empty, Cons, Node, Just};
 ghost use Rattle.base_poly.specs.Indices.{index_list};
 ghost use Rattle.base_poly.specs.Read.{context_of};
 ghost use Rattle.index_shift.specs.Parts.{type_parts, value_parts};
@@ -49,12 +49,26 @@ pub fn shift_tree(alloc: Global, context: &[Ty], at: usize, d: u8) -> Result<Vec
     opening(alloc, context, at, d)
 }
 
-/// The map from a context to the one without the list or tree at `at`, which is empty.
+/// The map from a context to the one in which what the option at `at` holds stands for it.
+///
+/// `TooMany` where one of the two contexts has more than 2000 indices of degree at most `d`.
+pub fn shift_option(alloc: Global, context: &[Ty], at: usize, d: u8) -> Result<Vec<Entry>, MapFault>
+    requires option { (A : Type') × (slice_get (context_of context.now) at ≡ Some (OptionOf A)) }
+    requires low { d ≤ 4 }
+    ensures map { IfOk result (λ found. found.items ≡ opening (context_of context.now) at d) }
+    ensures kept { IfOk result (λ found. (v : Value) → KeepsParts found.items (context_of context.now) at d (Just v)) }
+    ensures few { OnOk result (IsTooLarge (context_of context.now) (in_place at type_parts (context_of context.now)) d → ⊥) }
+    ensures many { IsErrOf result MapFault.TooMany → IsTooLarge (context_of context.now) (in_place at type_parts (context_of context.now)) d }
+{
+    opening(alloc, context, at, d)
+}
+
+/// The map from a context to the one without the list, tree or option at `at`, which is empty.
 ///
 /// `TooMany` where one of the two contexts has more than 2000 indices of degree at most `d`.
 pub fn empty_part(alloc: Global, context: &[Ty], at: usize, d: u8) -> Result<Vec<Entry>, MapFault>
-    requires list_or_tree { (A : Type') × ((slice_get (context_of context.now) at
-        ≡ Some (ListOf A)) ⊎ (slice_get (context_of context.now) at ≡ Some (TreeOf A))) }
+    requires can_be_empty { (A : Type') × ((slice_get (context_of context.now) at ≡ Some (ListOf A))
+        ⊎ ((slice_get (context_of context.now) at ≡ Some (TreeOf A)) ⊎ (slice_get (context_of context.now) at ≡ Some (OptionOf A)))) }
     requires low { d ≤ 4 }
     ensures map { IfOk result (λ found. found.items ≡ leaving (context_of context.now) at d) }
     ensures kept { IfOk result (λ found. KeepsRest found.items (context_of context.now) at d Empty) }

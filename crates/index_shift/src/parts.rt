@@ -3,7 +3,7 @@ ghost use Rattle.std.specs.Prelude.{◌≡◌, [], ◌∷◌, ◌++◌, IfOk, On
 ghost use Rattle.raml_syntax.specs.Read.{ty_of};
 ghost use Rattle.base_poly.specs.Plain.{many, entries_of};
 ghost use Rattle.base_poly.specs.Read.{index_of, plains_of};
-ghost use Rattle.index_shift.specs.Parts.{at_trees, list_parts, tree_parts, pair_parts, index_parts};
+ghost use Rattle.index_shift.specs.Parts.{at_trees, list_parts, tree_parts, pair_parts, option_parts, index_parts};
 
 use base_poly::{Index, Tuple};
 use raml_syntax::Ty;
@@ -18,6 +18,7 @@ pub fn index_parts(alloc: Global, ty: &Ty, index: &Index) -> Result<Vec<Tuple>, 
         Ty::Pair(..) => pair_parts(alloc, index),
         Ty::List(element) => list_parts(alloc, &Index::zero(alloc, element)?, list_entries(index)),
         Ty::Tree(element) => tree_parts(alloc, &Index::zero(alloc, element)?, list_entries(index)),
+        Ty::Opt(content) => option_parts(alloc, &Index::zero(alloc, content)?, index),
     }
 }
 
@@ -27,7 +28,7 @@ fn list_entries(index: &Index) -> &[Index]
 {
     match index {
         Index::List(entries) => entries,
-        Index::Unit | Index::Pair(..) => &[],
+        Index::Unit | Index::Pair(..) | Index::Opt(_) => &[],
     }
 }
 
@@ -37,13 +38,29 @@ fn pair_parts(alloc: Global, index: &Index) -> Result<Vec<Tuple>, AllocError>
 {
     match index {
         Index::Pair(first, second) => {
-            let mut parts = Vec::new(alloc);
-            parts.push(first.copy(alloc)?)?;
-            parts.push(second.copy(alloc)?)?;
-            Ok(vec![in alloc; Tuple::new(parts)]?)
+            let parts = vec![in alloc; first.copy(alloc)?, second.copy(alloc)?]?;
+            only(alloc, parts)
         }
-        Index::Unit | Index::List(_) => Ok(Vec::new(alloc)),
+        Index::Unit | Index::List(_) | Index::Opt(_) => Ok(Vec::new(alloc)),
     }
+}
+
+// The entry of an option index, or `none` for it.
+fn option_parts(alloc: Global, none: &Index, index: &Index) -> Result<Vec<Tuple>, AllocError>
+    ensures { IfOk result (λ found. found.items ≡ option_parts (index_of none.now) (index_of index.now)) }
+{
+    match index {
+        Index::Opt(None) => only(alloc, vec![in alloc; none.copy(alloc)?]?),
+        Index::Opt(Some(entry)) => only(alloc, vec![in alloc; entry.copy(alloc)?]?),
+        Index::Unit | Index::Pair(..) | Index::List(_) => Ok(Vec::new(alloc)),
+    }
+}
+
+// The tuple of these indices alone.
+fn only(alloc: Global, parts: Vec<Index>) -> Result<Vec<Tuple>, AllocError>
+    ensures { IfOk result (λ found. found.items ≡ plains_of parts.items ∷ []) }
+{
+    Ok(vec![in alloc; Tuple::new(parts)]?)
 }
 
 // The first entry at the head, or `none` there and all entries in the tail.
@@ -63,10 +80,7 @@ fn list_parts(alloc: Global, none: &Index, entries: &[Index]) -> Result<Vec<Tupl
 fn with_tail(alloc: Global, head: &Index, tail: &[Index]) -> Result<Tuple, AllocError>
     ensures { IfOk result (λ tuple. tuple ≡ index_of head.now ∷ (many (plains_of tail.now) ∷ [])) }
 {
-    let mut parts = Vec::new(alloc);
-    parts.push(head.copy(alloc)?)?;
-    parts.push(list_of(alloc, tail)?)?;
-    Ok(Tuple::new(parts))
+    Ok(Tuple::new(vec![in alloc; head.copy(alloc)?, list_of(alloc, tail)?]?))
 }
 
 // The list index with these entries.

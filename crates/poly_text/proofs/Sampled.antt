@@ -1,7 +1,7 @@
 -- Terms of given tuples, for tests.
 use Rattle.std.proofs.Common.{◌≡◌, zero, suc, ℤ, ◌<◌, ◌^◌, ◌≤ℤ◌, pos, false, List, [], ◌∷◌, map, length, All, refl, sym, subst, arith}
 use Rattle.std.specs.List.{IsDistinct}
-use Rattle.base_poly.specs.Plain.{Plain, Unit', Pair, End, Then, degrees, alike}
+use Rattle.base_poly.specs.Plain.{Plain, Unit', End, Then, degrees, alike}
 use Rattle.base_poly.specs.Poly.{AreTerms}
 
 low_terms : (ts : List (List Plain × ℤ)) → All (λ t. degrees t < 2 ^ 32) (map (λ (t : List Plain × ℤ). t.0) ts) → All (λ (t : List Plain × ℤ). degrees t.0 < 2 ^ 32) ts
@@ -34,7 +34,5 @@ two_differ (i ∷ []) h = absurd (omega (arith, h))
 two_differ (i ∷ j ∷ t) h = ((by i, tt), (tt, tt))
   where
     by : (i : Plain) → alike (i ∷ j ∷ t) (End ∷ []) ≡ false
-    by Unit' = refl
-    by (Pair a b) = refl
-    by End = refl
     by (Then a r) = refl
+    by i = refl

@@ -1,7 +1,7 @@
 -- The text of indices and of polynomials.
 use Rattle.std.specs.Prelude.{◌≡◌, ℕ, ◌/◌, cond, ◌==◌, not, List, [], ◌∷◌, ◌++◌, filter, codes, decimal, IsSortedByKey, IsPermutation}
 use Rattle.raml_syntax.specs.Tree.{Text}
-use Rattle.base_poly.specs.Plain.{Plain, Unit', Pair, End, Then, many, degrees}
+use Rattle.base_poly.specs.Plain.{Plain, Unit', Pair, End, Then, NoEntry, OneEntry, many, degrees}
 use Rattle.base_poly.specs.Indices.{tuple_order}
 use Rattle.base_poly.specs.Poly.{Term, den_of, terms_of, IsPoly}
 use Rattle.base_poly.specs.declared.tuple.Poly.{Poly}
@@ -13,6 +13,8 @@ abbrev mutual
   index_text (Pair a b) = codes "(" ++ (index_text a ++ (codes ", " ++ (index_text b ++ codes ")")))
   index_text End = codes "[]"
   index_text (Then i r) = codes "[" ++ ((index_text i ++ more_entries r) ++ codes "]")
+  index_text NoEntry = codes "[]"
+  index_text (OneEntry i) = codes "[" ++ (index_text i ++ codes "]")
 
   -- the entries behind the first
   pub more_entries : Plain → Text

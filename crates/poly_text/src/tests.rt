@@ -1,6 +1,7 @@
 ghost use Rattle.std.specs.Prelude.{◌≡◌, ◌≤◌, ◌<◌, ◌<ℤ◌, ◌≤ℤ◌, ◌^◌, pos, [], ◌∷◌, map, length, All, IfOk};
 ghost use Rattle.std.specs.List.{IsDistinct};
-ghost use Rattle.base_poly.specs.Plain.{Unit', End, Then, alike, degrees};
+ghost use Rattle.base_poly.specs.Plain.{Unit', End, Then, alike, deg, degrees};
+ghost use Rattle.base_poly.specs.Read.{index_of};
 
 use crate::print;
 use base_poly::{Index, Poly, Tuple};
@@ -36,15 +37,22 @@ fn two(alloc: Global) -> Result<Tuple, AllocError>
     Tuple::new(Vec::new(alloc)).with_first(alloc, &entry)
 }
 
-// The tuple with a pair of both a list and a unit before the others.
+// The option index with a unit.
+fn some_unit(alloc: Global) -> Result<Index, AllocError>
+    ensures { IfOk result (λ made. deg (index_of made) ≡ 1) }
+{
+    Ok(Index::Opt(Some(Box::new(alloc, Index::Unit)?)))
+}
+
+// The tuple with a pair of both a list and an option before the others.
 fn paired(alloc: Global, tuple: Tuple) -> Result<Tuple, AllocError>
     requires { degrees tuple ≤ 8 }
-    ensures { IfOk result (λ made. degrees made ≤ 9) }
+    ensures { IfOk result (λ made. degrees made ≤ 10) }
 {
     let entry = Tuple::new(Vec::new(alloc))
         .with_first(alloc, &Index::Unit)?
         .into_list();
-    let pair = Index::Pair(Box::new(alloc, entry)?, Box::new(alloc, Index::Unit)?);
+    let pair = Index::Pair(Box::new(alloc, entry)?, Box::new(alloc, some_unit(alloc)?)?);
     tuple.with_first(alloc, &pair)
 }
 
@@ -152,8 +160,9 @@ fn costs_of_lists_are_printed(rt: HostRuntime) -> Result<(), Fail> {
 #[test]
 fn components_are_in_order(rt: HostRuntime) -> Result<(), Fail> {
     let alloc = rt.alloc();
-    let tuples = vec![in alloc; paired(alloc, two(alloc)?)?]?;
+    let tuple = paired(alloc, two(alloc)?)?.with_first(alloc, &Index::Opt(None))?;
+    let tuples = vec![in alloc; tuple]?;
     let text = text_of(alloc, 1, tuples, &[1])?;
-    assert_eq!(rt; text.as_str(), "1*<([_], _), [_, _]>");
+    assert_eq!(rt; text.as_str(), "1*<[], ([_], [_]), [_, _]>");
     Ok(())
 }

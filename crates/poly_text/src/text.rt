@@ -122,6 +122,12 @@ fn write_index(out: &mut String, index: &Index) -> Result<(), AllocError>
             out.push_str(")")
         }
         Index::List(entries) => write_list(out, entries),
+        Index::Opt(None) => out.push_str("[]"),
+        Index::Opt(Some(entry)) => {
+            out.push_str("[")?;
+            write_index(out, entry)?;
+            out.push_str("]")
+        }
     }
 }
 

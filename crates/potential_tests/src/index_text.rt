@@ -18,6 +18,12 @@ pub fn write(out: &mut String, index: &Index) -> Result<(), AllocError> {
             write_all(out, entries)?;
             out.push_str("]")
         }
+        Index::Opt(None) => out.push_str("[]"),
+        Index::Opt(Some(entry)) => {
+            out.push_str("[")?;
+            write(out, entry)?;
+            out.push_str("]")
+        }
     }
 }
 

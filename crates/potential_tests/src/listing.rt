@@ -1,6 +1,6 @@
 //! Lists of the tuples of contexts.
 use crate::index_text::{write, write_tuple};
-use crate::types::{list, lists, pair, tree};
+use crate::types::{context, last_type, lists};
 use base_poly::{Index, IndexFault, Tuple, indices};
 use indexmap::IndexMap;
 use raml_syntax::Ty;
@@ -9,11 +9,6 @@ use std::process::Abort;
 use std::test::Fail;
 
 mod tables;
-
-// The list index with a unit alone.
-fn one_unit(alloc: Global) -> Result<Index, AllocError> {
-    Ok(Index::List(vec![in alloc; Index::Unit]?))
-}
 
 // Whether there are just as many tuples as this.
 fn has_just(alloc: Global, types: &[Ty], d: u8, count: usize) -> Result<bool, IndexFault> {
@@ -38,55 +33,25 @@ fn listed(rt: &impl Abort, alloc: Global, types: &[Ty], end: u8) -> Result<Strin
 }
 
 #[test]
-fn indices_of_lists_are_in_order(rt: HostRuntime) -> Result<(), Fail> {
+fn indices_are_in_order(rt: HostRuntime) -> Result<(), Fail> {
     let alloc = rt.alloc();
-    let none = listed(&rt, alloc, &lists(alloc, 0)?, 5)?;
-    assert_eq!(rt; none.as_str(), tables::NO_TYPES);
-    let int = listed(&rt, alloc, &[Ty::Int], 5)?;
-    assert_eq!(rt; int.as_str(), tables::INT);
-    let one = listed(&rt, alloc, &lists(alloc, 1)?, 5)?;
-    assert_eq!(rt; one.as_str(), tables::LIST);
-    let two = listed(&rt, alloc, &lists(alloc, 2)?, 5)?;
-    assert_eq!(rt; two.as_str(), tables::TWO_LISTS);
-    let tree = listed(&rt, alloc, &[tree(alloc, Ty::Int)?], 5)?;
-    assert_eq!(rt; tree.as_str(), tables::TREE);
-    Ok(())
-}
-
-#[test]
-fn indices_of_nested_types_are_in_order(rt: HostRuntime) -> Result<(), Fail> {
-    let alloc = rt.alloc();
-    let nested = [list(alloc, list(alloc, Ty::Int)?)?];
-    let nested = listed(&rt, alloc, &nested, 5)?;
-    assert_eq!(rt; nested.as_str(), tables::NESTED);
-    let trees = [tree(alloc, list(alloc, Ty::Int)?)?];
-    let trees = listed(&rt, alloc, &trees, 5)?;
-    assert_eq!(rt; trees.as_str(), tables::TREE_OF_LISTS);
-    Ok(())
-}
-
-#[test]
-fn indices_of_pairs_are_in_order(rt: HostRuntime) -> Result<(), Fail> {
-    let alloc = rt.alloc();
-    let pairs = [pair(alloc, list(alloc, Ty::Int)?, list(alloc, Ty::Bool)?)?];
-    let pairs = listed(&rt, alloc, &pairs, 5)?;
-    assert_eq!(rt; pairs.as_str(), tables::PAIR);
-    let element = pair(alloc, Ty::Int, list(alloc, Ty::Int)?)?;
-    let elements = listed(&rt, alloc, &[list(alloc, element)?, Ty::Int], 5)?;
-    assert_eq!(rt; elements.as_str(), tables::LIST_OF_PAIRS);
-    Ok(())
-}
-
-#[test]
-fn indices_of_three_types_are_in_order(rt: HostRuntime) -> Result<(), Fail> {
-    let alloc = rt.alloc();
-    let three = [
-        list(alloc, Ty::Int)?,
-        tree(alloc, Ty::Int)?,
-        list(alloc, list(alloc, Ty::Int)?)?,
-    ];
-    let three = listed(&rt, alloc, &three, 4)?;
-    assert_eq!(rt; three.as_str(), tables::THREE);
+    for (words, end, table) in [
+        ("", 5, tables::NO_TYPES),
+        ("int", 5, tables::INT),
+        ("int list", 5, tables::LIST),
+        ("int list int list", 5, tables::TWO_LISTS),
+        ("int tree", 5, tables::TREE),
+        ("int list list", 5, tables::NESTED),
+        ("int list tree", 5, tables::TREE_OF_LISTS),
+        ("int list bool list pair", 5, tables::PAIR),
+        ("int int list pair list int", 5, tables::LIST_OF_PAIRS),
+        ("int list int tree int list list", 4, tables::THREE),
+        ("int list option", 5, tables::OPTION),
+        ("int option list int option", 4, tables::LIST_OF_OPTIONS),
+    ] {
+        let listed = listed(&rt, alloc, &context(alloc, words)?, end)?;
+        assert_eq!(rt; listed.as_str(), table);
+    }
     Ok(())
 }
 
@@ -118,16 +83,28 @@ fn as_many_as_asked_are_not_too_many(rt: HostRuntime) -> Result<(), Fail> {
     Ok(())
 }
 
+// The place of each tuple.
+fn places(alloc: Global, tuples: &[Tuple]) -> Result<IndexMap<Tuple, usize>, AllocError> {
+    let mut places = IndexMap::new(alloc);
+    for tuple in tuples {
+        places.insert(tuple.copy(alloc)?, places.len())?;
+    }
+    Ok(places)
+}
+
 #[test]
 fn tuples_are_keys(rt: HostRuntime) -> Result<(), Fail> {
     let alloc = rt.alloc();
-    let first = Tuple::new(vec![in alloc; one_unit(alloc)?, Index::Unit]?);
-    let second = Tuple::new(vec![in alloc; one_unit(alloc)?]?);
-    let mut places = IndexMap::new(alloc);
-    places.insert(first.copy(alloc)?, 1)?;
-    places.insert(second.with_first(alloc, &Index::Unit)?, 2)?;
-    assert_eq!(rt; places.get(&first).copied(), Some(1));
-    assert_eq!(rt; places.get(&second).copied(), None);
+    for (words, wanted) in [("int list int option", true), ("int list", false)] {
+        let listed = indices(alloc, &context(alloc, "int list int option")?, 2, 10)?;
+        let places = places(alloc, &listed)?;
+        for (place, tuple) in indices(alloc, &context(alloc, words)?, 2, 10)?
+            .iter()
+            .enumerate()
+        {
+            assert_eq!(rt; places.get(tuple).copied(), wanted.then_some(place));
+        }
+    }
     Ok(())
 }
 
@@ -146,9 +123,9 @@ fn tuples_sort_as_they_are_listed(rt: HostRuntime) -> Result<(), Fail> {
 #[test]
 fn zero_indices_have_no_entries(rt: HostRuntime) -> Result<(), Fail> {
     let alloc = rt.alloc();
-    let ty = pair(alloc, list(alloc, Ty::Int)?, Ty::Bool)?;
+    let ty = last_type(alloc, "int list bool pair int option pair")?;
     let mut out = String::new(alloc);
     write(&mut out, &Index::zero(alloc, &ty)?)?;
-    assert_eq!(rt; out.as_str(), "([], _)");
+    assert_eq!(rt; out.as_str(), "(([], _), [])");
     Ok(())
 }

@@ -1,11 +1,10 @@
 //! Maps between contexts.
-ghost use Rattle.std.specs.Prelude.{◌≡◌, ◌<◌, ◌⊎◌, length, slice_get, Some};
-ghost use Rattle.raml_syntax.specs.Tree.{Type', PairOf, ListOf, TreeOf};
-ghost use Rattle.base_poly.specs.Read.{context_of};
+ghost use Rattle.std.specs.Prelude.{◌≤◌, ◌<◌, length};
 
-use crate::types::{list, lists, one, pair, tree, two};
+use crate::types::{context, lists};
 use index_shift::{
-    Entry, MapFault, drop_var, empty_part, share_map, shift_list, shift_tree, split_pair,
+    Entry, MapFault, drop_var, empty_part, share_map, shift_list, shift_option, shift_tree,
+    split_pair,
 };
 use raml_syntax::Ty;
 use std::alloc::Global;
@@ -38,169 +37,136 @@ fn check(rt: &impl Abort, d: u8, found: &[Entry], table: &str) -> Result<(), Fai
     Ok(())
 }
 
-fn shifts_list(
+/// What becomes of a variable.
+#[derive(Clone, Copy)]
+enum Change {
+    /// Its parts stand for it.
+    Opens,
+    /// It is empty and leaves.
+    Leaves,
+    /// It leaves, whatever it is.
+    Drops,
+    /// It stands twice before.
+    Shares,
+}
+
+/// The entries of the map by the variable's type, none where it has no parts.
+fn opened(alloc: Global, types: &[Ty], at: usize, d: u8) -> Result<Vec<Entry>, MapFault>
+    requires there { at < length types.now }
+    requires low { d ≤ 4 }
+{
+    match &types[at] {
+        Ty::Int | Ty::Bool => Ok(Vec::new(alloc)),
+        Ty::Pair(..) => split_pair(alloc, types, at, d),
+        Ty::List(_) => shift_list(alloc, types, at, d),
+        Ty::Tree(_) => shift_tree(alloc, types, at, d),
+        Ty::Opt(_) => shift_option(alloc, types, at, d),
+    }
+}
+
+/// The entries of `empty_part`, none where the variable is never empty.
+fn emptied(alloc: Global, types: &[Ty], at: usize, d: u8) -> Result<Vec<Entry>, MapFault>
+    requires there { at < length types.now }
+    requires low { d ≤ 4 }
+{
+    match &types[at] {
+        Ty::Int | Ty::Bool | Ty::Pair(..) => Ok(Vec::new(alloc)),
+        Ty::List(_) | Ty::Tree(_) | Ty::Opt(_) => empty_part(alloc, types, at, d),
+    }
+}
+
+fn changed(
+    alloc: Global,
+    change: Change,
+    types: &[Ty],
+    at: usize,
+    d: u8,
+) -> Result<Vec<Entry>, MapFault>
+    requires there { at < length types.now }
+    requires low { d ≤ 4 }
+{
+    match change {
+        Change::Opens => opened(alloc, types, at, d),
+        Change::Leaves => emptied(alloc, types, at, d),
+        Change::Drops => drop_var(alloc, types, at, d),
+        Change::Shares => share_map(alloc, types, at, d),
+    }
+}
+
+/// Whether the map has the table's entries at the degrees from 1 to 3.
+fn check_map(
     rt: &impl Abort,
     alloc: Global,
-    context: &[Ty],
+    change: Change,
+    types: &[Ty],
     at: usize,
     table: &str,
-) -> Result<(), Fail>
-    requires { (A : Type') × (slice_get (context_of context.now) at ≡ Some (ListOf A)) }
-{
+) -> Result<(), Fail> {
+    assert!(rt; at < types.len());
     for d in 1..4 {
-        check(rt, d, &shift_list(alloc, context, at, d)?, table)?;
-    }
-    Ok(())
-}
-
-fn shifts_tree(
-    rt: &impl Abort,
-    alloc: Global,
-    context: &[Ty],
-    at: usize,
-    table: &str,
-) -> Result<(), Fail>
-    requires { (A : Type') × (slice_get (context_of context.now) at ≡ Some (TreeOf A)) }
-{
-    for d in 1..4 {
-        check(rt, d, &shift_tree(alloc, context, at, d)?, table)?;
-    }
-    Ok(())
-}
-
-fn leaves_empty(
-    rt: &impl Abort,
-    alloc: Global,
-    context: &[Ty],
-    at: usize,
-    table: &str,
-) -> Result<(), Fail>
-    requires { (A : Type') × ((slice_get (context_of context.now) at ≡ Some (ListOf A)) ⊎ (slice_get (context_of context.now) at ≡ Some (TreeOf A))) }
-{
-    for d in 1..4 {
-        check(rt, d, &empty_part(alloc, context, at, d)?, table)?;
-    }
-    Ok(())
-}
-
-fn splits(
-    rt: &impl Abort,
-    alloc: Global,
-    context: &[Ty],
-    at: usize,
-    table: &str,
-) -> Result<(), Fail>
-    requires { (A : Type') × (B : Type') × (slice_get (context_of context.now) at ≡ Some (PairOf A B)) }
-{
-    for d in 1..4 {
-        check(rt, d, &split_pair(alloc, context, at, d)?, table)?;
-    }
-    Ok(())
-}
-
-fn drops(rt: &impl Abort, alloc: Global, context: &[Ty], at: usize, table: &str) -> Result<(), Fail>
-    requires { at < length context.now }
-{
-    for d in 1..4 {
-        check(rt, d, &drop_var(alloc, context, at, d)?, table)?;
-    }
-    Ok(())
-}
-
-fn shares(
-    rt: &impl Abort,
-    alloc: Global,
-    context: &[Ty],
-    at: usize,
-    table: &str,
-) -> Result<(), Fail>
-    requires { at < length context.now }
-{
-    for d in 1..4 {
-        check(rt, d, &share_map(alloc, context, at, d)?, table)?;
+        check(rt, d, &changed(alloc, change, types, at, d)?, table)?;
     }
     Ok(())
 }
 
 #[test]
-fn lists_are_taken_apart(rt: HostRuntime) -> Result<(), Fail> {
+fn variables_are_taken_apart(rt: HostRuntime) -> Result<(), Fail> {
     let alloc = rt.alloc();
-    let first = one(alloc, list(alloc, Ty::Int)?)?;
-    shifts_list(&rt, alloc, &first, 0, tables::LIST_ONE)?;
-    let nested = list(alloc, list(alloc, Ty::Int)?)?;
-    let second = two(alloc, nested, list(alloc, Ty::Int)?)?;
-    shifts_list(&rt, alloc, &second, 0, tables::LIST_TWO)
+    for (words, at, table) in [
+        ("int list", 0, tables::LIST_ONE),
+        ("int list list int list", 0, tables::LIST_TWO),
+        ("int int list int pair list", 1, tables::LIST_THREE),
+        ("int option list", 0, tables::LIST_FOUR),
+        ("int tree", 0, tables::TREE_ONE),
+        ("int list int list tree", 1, tables::TREE_TWO),
+        ("int list int tree pair", 0, tables::PAIR_ONE),
+        (
+            "int list int int list int list pair pair",
+            1,
+            tables::PAIR_TWO,
+        ),
+        ("int list option", 0, tables::OPTION_ONE),
+        ("int list int list int pair option", 1, tables::OPTION_TWO),
+    ] {
+        let types = context(alloc, words)?;
+        check_map(&rt, alloc, Change::Opens, &types, at, table)?;
+    }
+    Ok(())
 }
 
 #[test]
-fn lists_of_pairs_are_taken_apart(rt: HostRuntime) -> Result<(), Fail> {
+fn variables_leave_or_are_shared(rt: HostRuntime) -> Result<(), Fail> {
     let alloc = rt.alloc();
-    let element = pair(alloc, list(alloc, Ty::Int)?, Ty::Int)?;
-    let elements = list(alloc, element)?;
-    let third = two(alloc, Ty::Int, elements)?;
-    shifts_list(&rt, alloc, &third, 1, tables::LIST_THREE)
-}
-
-#[test]
-fn trees_are_taken_apart(rt: HostRuntime) -> Result<(), Fail> {
-    let alloc = rt.alloc();
-    let first = one(alloc, tree(alloc, Ty::Int)?)?;
-    shifts_tree(&rt, alloc, &first, 0, tables::TREE_ONE)?;
-    let nested = tree(alloc, list(alloc, Ty::Int)?)?;
-    let second = two(alloc, list(alloc, Ty::Int)?, nested)?;
-    shifts_tree(&rt, alloc, &second, 1, tables::TREE_TWO)
-}
-
-#[test]
-fn pairs_are_split(rt: HostRuntime) -> Result<(), Fail> {
-    let alloc = rt.alloc();
-    let both = pair(alloc, list(alloc, Ty::Int)?, tree(alloc, Ty::Int)?)?;
-    let first = one(alloc, both)?;
-    splits(&rt, alloc, &first, 0, tables::PAIR_ONE)
-}
-
-#[test]
-fn pairs_of_pairs_are_split(rt: HostRuntime) -> Result<(), Fail> {
-    let alloc = rt.alloc();
-    let lists = pair(alloc, list(alloc, Ty::Int)?, list(alloc, Ty::Int)?)?;
-    let three = pair(alloc, Ty::Int, lists)?;
-    let second = two(alloc, list(alloc, Ty::Int)?, three)?;
-    splits(&rt, alloc, &second, 1, tables::PAIR_TWO)
-}
-
-#[test]
-fn empty_ones_leave(rt: HostRuntime) -> Result<(), Fail> {
-    let alloc = rt.alloc();
-    let first = two(alloc, list(alloc, Ty::Int)?, list(alloc, Ty::Int)?)?;
-    leaves_empty(&rt, alloc, &first, 0, tables::EMPTY_ONE)?;
-    let nested = tree(alloc, list(alloc, Ty::Int)?)?;
-    let second = two(alloc, nested, list(alloc, Ty::Int)?)?;
-    leaves_empty(&rt, alloc, &second, 0, tables::EMPTY_TWO)
-}
-
-#[test]
-fn variables_are_dropped(rt: HostRuntime) -> Result<(), Fail> {
-    let alloc = rt.alloc();
-    let nested = list(alloc, list(alloc, Ty::Int)?)?;
-    let first = two(alloc, list(alloc, Ty::Int)?, nested)?;
-    drops(&rt, alloc, &first, 1, tables::DROP_ONE)
-}
-
-#[test]
-fn variables_are_shared(rt: HostRuntime) -> Result<(), Fail> {
-    let alloc = rt.alloc();
-    let first = one(alloc, list(alloc, Ty::Int)?)?;
-    shares(&rt, alloc, &first, 0, tables::SHARE_ONE)?;
-    let second = two(alloc, Ty::Int, list(alloc, list(alloc, Ty::Int)?)?)?;
-    shares(&rt, alloc, &second, 1, tables::SHARE_TWO)
-}
-
-#[test]
-fn pairs_are_shared(rt: HostRuntime) -> Result<(), Fail> {
-    let alloc = rt.alloc();
-    let lists = pair(alloc, list(alloc, Ty::Int)?, list(alloc, Ty::Int)?)?;
-    let third = two(alloc, lists, list(alloc, Ty::Int)?)?;
-    shares(&rt, alloc, &third, 0, tables::SHARE_THREE)
+    for (change, words, at, table) in [
+        (Change::Leaves, "int list int list", 0, tables::EMPTY_ONE),
+        (
+            Change::Leaves,
+            "int list tree int list",
+            0,
+            tables::EMPTY_TWO,
+        ),
+        (
+            Change::Leaves,
+            "int list option int list",
+            0,
+            tables::EMPTY_THREE,
+        ),
+        (Change::Drops, "int list int list list", 1, tables::DROP_ONE),
+        (Change::Drops, "int option int option", 1, tables::DROP_TWO),
+        (Change::Shares, "int list", 0, tables::SHARE_ONE),
+        (Change::Shares, "int int list list", 1, tables::SHARE_TWO),
+        (
+            Change::Shares,
+            "int list int list pair int list",
+            0,
+            tables::SHARE_THREE,
+        ),
+        (Change::Shares, "int list option", 0, tables::SHARE_FOUR),
+    ] {
+        let types = context(alloc, words)?;
+        check_map(&rt, alloc, change, &types, at, table)?;
+    }
+    Ok(())
 }
 
 /// The number of entries, or the fault.
@@ -212,13 +178,15 @@ fn entries_of(map: Result<Vec<Entry>, MapFault>) -> Result<usize, MapFault> {
 fn either_context_may_be_too_large(rt: HostRuntime) -> Result<(), Fail> {
     let alloc = rt.alloc();
     // 12 lists have 1820 indices of degree at most 4, and 13 have 2380.
-    let twelve = lists(alloc, 12)?;
-    let thirteen = lists(alloc, 13)?;
-    let kept = entries_of(drop_var(alloc, &twelve, 3, 4));
-    assert_eq!(rt; kept, Ok(1365));
-    let old = entries_of(drop_var(alloc, &thirteen, 3, 4));
-    assert_eq!(rt; old, Err(MapFault::TooMany));
-    let new = entries_of(share_map(alloc, &twelve, 3, 4));
-    assert_eq!(rt; new, Err(MapFault::TooMany));
+    for (change, count, want) in [
+        (Change::Drops, 12, Ok(1365)),
+        (Change::Drops, 13, Err(MapFault::TooMany)),
+        (Change::Shares, 12, Err(MapFault::TooMany)),
+    ] {
+        let types = lists(alloc, count)?;
+        assert!(rt; types.len() > 3);
+        let found = entries_of(changed(alloc, change, &types, 3, 4));
+        assert_eq!(rt; found, want);
+    }
     Ok(())
 }

@@ -1,12 +1,12 @@
 //! Products of indices as sums.
-ghost use Rattle.std.specs.Prelude.{◌≡◌, ◌≤◌, ◌+◌, [], ◌∷◌, All, IfOk};
-ghost use Rattle.raml_syntax.specs.Tree.{Type', Integer, ListOf};
+ghost use Rattle.std.specs.Prelude.{◌≤◌, [], ◌∷◌, All};
+ghost use Rattle.raml_syntax.specs.Tree.{Type'};
 ghost use Rattle.base_poly.specs.Plain.{deg, degrees};
 ghost use Rattle.base_poly.specs.Indices.{IsIndex, AreIndices};
 ghost use Rattle.base_poly.specs.Read.{index_of};
 
 use crate::index_text::write;
-use crate::types::{list, pair, tree};
+use crate::types::last_type;
 use base_poly::{Index, IndexFault, Tuple, indices, multiply};
 use indexmap::IndexMap;
 use raml_syntax::Ty;
@@ -88,25 +88,19 @@ fn products_of(alloc: Global, ty: Ty) -> Result<String, IndexFault> {
 }
 
 #[test]
-fn products_of_lists_are_sums(rt: HostRuntime) -> Result<(), Fail> {
+fn products_are_sums(rt: HostRuntime) -> Result<(), Fail> {
     let alloc = rt.alloc();
-    let lists = products_of(alloc, list(alloc, Ty::Int)?)?;
-    assert_eq!(rt; lists.as_str(), tables::LIST_PRODUCTS);
-    let nested = products_of(alloc, list(alloc, list(alloc, Ty::Int)?)?)?;
-    assert_eq!(rt; nested.as_str(), tables::NESTED_PRODUCTS);
-    let trees = products_of(alloc, tree(alloc, Ty::Int)?)?;
-    assert_eq!(rt; trees.as_str(), tables::TREE_PRODUCTS);
-    Ok(())
-}
-
-#[test]
-fn products_of_pairs_are_sums(rt: HostRuntime) -> Result<(), Fail> {
-    let alloc = rt.alloc();
-    let pairs = pair(alloc, list(alloc, Ty::Int)?, list(alloc, Ty::Int)?)?;
-    let pairs = products_of(alloc, pairs)?;
-    assert_eq!(rt; pairs.as_str(), tables::PAIR_PRODUCTS);
-    let element = pair(alloc, Ty::Int, list(alloc, Ty::Int)?)?;
-    let elements = products_of(alloc, list(alloc, element)?)?;
-    assert_eq!(rt; elements.as_str(), tables::LIST_OF_PAIRS_PRODUCTS);
+    for (words, table) in [
+        ("int list", tables::LIST_PRODUCTS),
+        ("int list list", tables::NESTED_PRODUCTS),
+        ("int tree", tables::TREE_PRODUCTS),
+        ("int list int list pair", tables::PAIR_PRODUCTS),
+        ("int int list pair list", tables::LIST_OF_PAIRS_PRODUCTS),
+        ("int list option", tables::OPTION_PRODUCTS),
+        ("int option list", tables::LIST_OF_OPTIONS_PRODUCTS),
+    ] {
+        let products = products_of(alloc, last_type(alloc, words)?)?;
+        assert_eq!(rt; products.as_str(), table);
+    }
     Ok(())
 }

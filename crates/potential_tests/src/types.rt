@@ -1,54 +1,52 @@
 //! Types and contexts to try.
-ghost use Rattle.std.specs.Prelude.{◌≡◌, ◌≤◌, [], ◌∷◌, length, IfOk};
-ghost use Rattle.raml_syntax.specs.Read.{ty_of};
-ghost use Rattle.raml_syntax.specs.Tree.{PairOf, ListOf, TreeOf};
-ghost use Rattle.base_poly.specs.Read.{context_of};
-
 use raml_syntax::Ty;
 use std::alloc::{AllocError, Global};
+use std::test::Fail;
 
-pub fn list(alloc: Global, element: Ty) -> Result<Ty, AllocError>
-    ensures { IfOk result (λ ty. ty_of ty ≡ ListOf (ty_of element)) }
-{
-    Ok(Ty::List(Box::new(alloc, element)?))
-}
-
-pub fn tree(alloc: Global, element: Ty) -> Result<Ty, AllocError>
-    ensures { IfOk result (λ ty. ty_of ty ≡ TreeOf (ty_of element)) }
-{
-    Ok(Ty::Tree(Box::new(alloc, element)?))
-}
-
-pub fn pair(alloc: Global, first: Ty, second: Ty) -> Result<Ty, AllocError>
-    ensures { IfOk result (λ ty. ty_of ty ≡ PairOf (ty_of first) (ty_of second)) }
-{
-    Ok(Ty::Pair(Box::new(alloc, first)?, Box::new(alloc, second)?))
-}
-
-pub fn one(alloc: Global, ty: Ty) -> Result<Vec<Ty>, AllocError>
-    ensures { IfOk result (λ types. context_of types.items ≡ ty_of ty ∷ []) }
-{
+/// The types that the words spell: `list`, `tree` and `option` are made of the type before them, and
+/// `pair` of the two types before it.
+pub fn context(alloc: Global, words: &str) -> Result<Vec<Ty>, Fail> {
     let mut types = Vec::new(alloc);
-    types.push(ty)?;
+    for word in words.split_whitespace() {
+        let ty = read(alloc, word, &mut types)?;
+        types.push(ty)?;
+    }
     Ok(types)
 }
 
-pub fn two(alloc: Global, first: Ty, second: Ty) -> Result<Vec<Ty>, AllocError>
-    ensures { IfOk result (λ types. context_of types.items ≡ ty_of first ∷ (ty_of second ∷ [])) }
-{
-    let mut types = Vec::new(alloc);
-    types.push(first)?;
-    types.push(second)?;
-    Ok(types)
+/// The last of the types that the words spell.
+pub fn last_type(alloc: Global, words: &str) -> Result<Ty, Fail> {
+    Ok(context(alloc, words)?.pop().ok_or("no type")?)
+}
+
+// The type of the word, made of the last ones.
+fn read(alloc: Global, word: &str, types: &mut Vec<Ty>) -> Result<Ty, Fail> {
+    match word {
+        "int" => Ok(Ty::Int),
+        "bool" => Ok(Ty::Bool),
+        "list" => Ok(Ty::List(taken(alloc, types)?)),
+        "tree" => Ok(Ty::Tree(taken(alloc, types)?)),
+        "option" => Ok(Ty::Opt(taken(alloc, types)?)),
+        "pair" => pair(alloc, types),
+        _ => Err(Fail::from("a word")),
+    }
+}
+
+fn pair(alloc: Global, types: &mut Vec<Ty>) -> Result<Ty, Fail> {
+    let second = taken(alloc, types)?;
+    Ok(Ty::Pair(taken(alloc, types)?, second))
+}
+
+fn taken(alloc: Global, types: &mut Vec<Ty>) -> Result<Box<Ty>, Fail> {
+    let ty = types.pop().ok_or("a type is missing")?;
+    Ok(Box::new(alloc, ty)?)
 }
 
 /// As many lists of integers.
-pub fn lists(alloc: Global, count: usize) -> Result<Vec<Ty>, AllocError>
-    ensures { IfOk result (λ types. count ≤ length types.items) }
-{
+pub fn lists(alloc: Global, count: usize) -> Result<Vec<Ty>, AllocError> {
     let mut types = Vec::new(alloc);
-    while types.len() < count {
-        types.push(list(alloc, Ty::Int)?)?;
+    for _ in 0..count {
+        types.push(Ty::List(Box::new(alloc, Ty::Int)?))?;
     }
     Ok(types)
 }

@@ -345,3 +345,56 @@ pub(super) const COUNTS: &str = "\
 7 330
 8 495
 ";
+
+/// The tuples of (int list option), and their number, for each degree.
+pub(super) const OPTION: &str = "\
+degree 0: 1
+<[]>
+degree 1: 2
+<[]>
+<[[]]>
+degree 2: 3
+<[]>
+<[[]]>
+<[[_]]>
+degree 3: 4
+<[]>
+<[[]]>
+<[[_]]>
+<[[_, _]]>
+degree 4: 5
+<[]>
+<[[]]>
+<[[_]]>
+<[[_, _]]>
+<[[_, _, _]]>
+";
+
+/// The tuples of (int option list, int option), and their number, for each degree.
+pub(super) const LIST_OF_OPTIONS: &str = "\
+degree 0: 1
+<[], []>
+degree 1: 3
+<[], []>
+<[], [_]>
+<[[]], []>
+degree 2: 6
+<[], []>
+<[], [_]>
+<[[]], []>
+<[[]], [_]>
+<[[], []], []>
+<[[_]], []>
+degree 3: 11
+<[], []>
+<[], [_]>
+<[[]], []>
+<[[]], [_]>
+<[[], []], []>
+<[[_]], []>
+<[[], []], [_]>
+<[[], [], []], []>
+<[[], [_]], []>
+<[[_]], [_]>
+<[[_], []], []>
+";

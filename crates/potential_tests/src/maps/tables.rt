@@ -458,3 +458,106 @@ pub(super) const SHARE_THREE: &str = "\
 3 53 19 3
 3 54 18 1
 3 55 19 1";
+
+/// `shift_option` of (int list option) at 0, to (int list).
+pub(super) const OPTION_ONE: &str = "\
+1 0 0 1
+1 1 0 1
+2 0 0 1
+2 1 0 1
+2 2 1 1
+3 0 0 1
+3 1 0 1
+3 2 1 1
+3 3 2 1";
+
+/// `shift_option` of (int list, (int list * int) option) at 1, to (int list, int list * int).
+pub(super) const OPTION_TWO: &str = "\
+1 0 0 1
+1 1 0 1
+1 2 2 1
+2 0 0 1
+2 1 0 1
+2 2 2 1
+2 3 1 1
+2 4 2 1
+2 5 5 1
+3 0 0 1
+3 1 0 1
+3 2 2 1
+3 3 1 1
+3 4 2 1
+3 5 5 1
+3 6 3 1
+3 7 4 1
+3 8 5 1
+3 9 9 1";
+
+/// `shift_list` of (int option list) at 0, to (int option, int option list).
+pub(super) const LIST_FOUR: &str = "\
+1 0 0 1
+1 1 0 1
+1 1 1 1
+2 0 0 1
+2 1 0 1
+2 1 1 1
+2 2 1 1
+2 2 3 1
+2 3 2 1
+2 3 4 1
+3 0 0 1
+3 1 0 1
+3 1 1 1
+3 2 1 1
+3 2 3 1
+3 3 2 1
+3 3 4 1
+3 4 3 1
+3 4 6 1
+3 5 4 1
+3 5 7 1
+3 6 5 1
+3 6 8 1";
+
+/// `empty_part` of (int list option, int list) at 0, to (int list).
+pub(super) const EMPTY_THREE: &str = "\
+1 0 0 1
+1 1 1 1
+2 0 0 1
+2 1 1 1
+2 3 2 1
+3 0 0 1
+3 1 1 1
+3 3 2 1
+3 6 3 1";
+
+/// `drop_var` of (int option, int option) at 1, to (int option).
+pub(super) const DROP_TWO: &str = "\
+1 0 0 1
+1 2 1 1
+2 0 0 1
+2 2 1 1
+3 0 0 1
+3 2 1 1";
+
+/// `share_map` of (int list option) at 0, from (int list option, int list option).
+pub(super) const SHARE_FOUR: &str = "\
+1 0 0 1
+1 1 1 1
+1 2 1 1
+2 0 0 1
+2 1 1 1
+2 2 1 1
+2 3 2 1
+2 4 1 1
+2 5 2 1
+3 0 0 1
+3 1 1 1
+3 2 1 1
+3 3 2 1
+3 4 1 1
+3 5 2 1
+3 6 3 1
+3 7 2 1
+3 8 2 1
+3 9 3 1";

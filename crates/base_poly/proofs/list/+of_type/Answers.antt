@@ -1,4 +1,4 @@
-use Rattle.std.proofs.Common.{◌≡◌, ◌-◌, ◌<◌, ◌++◌, ◌∷◌, length, IfOk, IsErrOf, sym, ap, ◌∙◌, subst, rules, arith, length-append}
+use Rattle.std.proofs.Common.{◌≡◌, ◌-◌, ◌<◌, ◌++◌, [], ◌∷◌, length, IfOk, IsErrOf, sym, ap, ◌∙◌, subst, rules, arith, length-append}
 use Rattle.std.proofs.lemmas.Grind.{common_steps}
 use Rattle.raml_syntax.specs.Read.{ty_of}
 use Rattle.base_poly.specs.Plain.{Pair}
@@ -59,13 +59,15 @@ with_nonempty_lists-loop-head-preserved t c = record {
 pub lists_up_to-returns-clause-all : goal.lists_up_to-returns-clause-all
 lists_up_to-returns-clause-all t c =
     let items = indices_up_to (ty_of c.args.element.now) in
+    let none = c.in_ok-found.ensures.all ∙ ap (λ t. t ∷ []) (c.new-2.ensures ∙ ap plains_of c.new.ensures.items) in
     subst (λ w. IfOk c.with_nonempty_lists.result (λ found. found.items ≡ w))
-    ((λ i. c.in_ok-found.ensures.all i ++ tuples_led (λ k. lists items k k) (c.args.d - 1) (items (c.args.d - 1))) ∙ sym (lists_step items c.args.d (omega (arith, c.if-d-eq0.false)))) c.with_nonempty_lists.ensures.all
+    ((λ i. none i ++ tuples_led (λ k. lists items k k) (c.args.d - 1) (items (c.args.d - 1))) ∙ sym (lists_step items c.args.d (omega (arith, c.if-d-eq0.false)))) c.with_nonempty_lists.ensures.all
 
 pub lists_up_to-returns-clause-many : goal.lists_up_to-returns-clause-many
 lists_up_to-returns-clause-many t c =
     let items = indices_up_to (ty_of c.args.element.now) in
     let rest = tuples_led (λ k. lists items k k) (c.args.d - 1) (items (c.args.d - 1)) in
-    let whole = ap length ((λ i. c.in_ok-found.ensures.all i ++ rest) ∙ sym (lists_step items c.args.d (omega (arith, c.if-d-eq0.false)))) in
+    let none = c.in_ok-found.ensures.all ∙ ap (λ t. t ∷ []) (c.new-2.ensures ∙ ap plains_of c.new.ensures.items) in
+    let whole = ap length ((λ i. none i ++ rest) ∙ sym (lists_step items c.args.d (omega (arith, c.if-d-eq0.false)))) in
     let parts = length-append c.in_ok-found.found.items rest in
     λ e. let more = c.with_nonempty_lists.ensures.many e in omega (arith, whole, parts, more)

@@ -39,3 +39,6 @@ invariant-with_nonempty_lists-loop-head l = record {
       ≡ l.fn.found.items ++ tuples_led (λ k. lists (indices_up_to (ty_of l.element)) k k) l.d (plains_of l.head-items);
   few : vec_len l.found ≤ l.most;
 }
+
+abbrev pub decreases-options_up_to : goal.decreases-options_up_to
+decreases-options_up_to l = 34359738368 * nodes (ty_of l.content.now) + 1

@@ -3,14 +3,20 @@ use Rattle.std.proofs.lemmas.Grind.{common_steps}
 use Rattle.base_poly.specs.Plain.{Then, many}
 use Rattle.base_poly.specs.Product.{product}
 use Rattle.base_poly.specs.Read.{index_of, plains_of}
-use Rattle.base_poly.proofs.Many.{pair_alone, list_alone, gathered, slice_parts, none_left}
+use Rattle.base_poly.proofs.Many.{pair_alone, list_alone, option_alone, gathered, slice_parts, none_left}
 use Rattle.base_poly.proofs.products.+product.Goals as goal
 
 pub product-returns-in-Unit-right : goal.product-returns-in-Unit-right
-product-returns-in-Unit-right t c = ap plains_of c.new.ensures.items ∙ pair_alone _ _ _ _ c.in-Pair.is c.in-Unit-right.is
+product-returns-in-Unit-right t c = ap plains_of c.new.ensures.items ∙ pair_alone _ _ (_, _, c.in-Pair.is) c.in-Unit-right.is
 
 pub product-returns-in-Unit-right-2 : goal.product-returns-in-Unit-right-2
-product-returns-in-Unit-right-2 t c = ap plains_of c.new-in-Unit-right-2.ensures.items ∙ list_alone _ _ _ c.in-List.is c.in-Unit-right-2.is
+product-returns-in-Unit-right-2 t c = ap plains_of c.new-in-Unit-right-2.ensures.items ∙ list_alone _ _ (_, c.in-List.is) c.in-Unit-right-2.is
+
+pub product-returns-in-Unit-right-3 : goal.product-returns-in-Unit-right-3
+product-returns-in-Unit-right-3 t c = ap plains_of c.new-in-Unit-right-3.ensures.items ∙ option_alone _ _ (_, c.in-Opt-None.is) c.in-Unit-right-3.is
+
+pub product-returns-in-Unit-right-4 : goal.product-returns-in-Unit-right-4
+product-returns-in-Unit-right-4 t c = ap plains_of c.new-in-Unit-right-4.ensures.items ∙ option_alone _ _ (_, c.in-Opt-Some.is) c.in-Unit-right-4.is
 
 pub lists_product-returns-in_ok-vec-in-empty : goal.lists_product-returns-in_ok-vec-in-empty
 lists_product-returns-in_ok-vec-in-empty t c =
