@@ -1,5 +1,5 @@
 // Whole calls over files and streams in memory.
-use data_text::DataFault;
+use value_text::DataFault;
 use raml_io::{MemSink, MemStore};
 use raml_lex::LexFault;
 use raml_parse::ParseFault;

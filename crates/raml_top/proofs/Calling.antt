@@ -9,9 +9,9 @@ use Rattle.raml_syntax.proofs.Places.{functions_have_places}
 use Rattle.raml_io.specs.Files.{Files}
 use Rattle.value_text.specs.declared.word.Word.{Word}
 use Rattle.value_text.specs.declared.word.Cell.{Cell}
-use Rattle.data_text.specs.Reading.{AreRead, FirstFault, Answers, most_cells}
-use Rattle.data_text.specs.declared.fault.DataFault.{DataFault}
-use Rattle.data_text.specs.declared.fault.DataFault.TheVariants as d
+use Rattle.value_text.specs.Reading.{AreRead, FirstFault, Answers, most_cells}
+use Rattle.value_text.specs.declared.fault.DataFault.{DataFault}
+use Rattle.value_text.specs.declared.fault.DataFault.TheVariants as d
 use Rattle.raml_syntax.specs.Types.{types_of}
 use Rattle.raml_words.specs.Words.{Limits}
 use Rattle.raml_top.specs.Call.{IsNamed, most_data}

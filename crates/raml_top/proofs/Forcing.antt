@@ -8,7 +8,7 @@ use Rattle.raml_parse.specs.declared.fault.ParseFault.{ParseFault}
 use Rattle.simple_types.specs.Fault.{Fault}
 use Rattle.simple_types.specs.declared.fault.TypeFault.{TypeFault}
 use Rattle.stack_compile.specs.Machine.{State}
-use Rattle.data_text.specs.declared.fault.DataFault.{DataFault}
+use Rattle.value_text.specs.declared.fault.DataFault.{DataFault}
 use Rattle.raml_words.specs.Words.{Limits, Request, Types, Code, Analyse, Run, file_of, Asks, AsksNothing}
 use Rattle.raml_top.specs.Fragment.{IsTyped, most_bytes}
 use Rattle.raml_top.specs.Call.{Call, machine_at, most_data}

@@ -15,7 +15,7 @@ use Rattle.stack_compile.specs.Laws.{at, IsGoing, Gives}
 use Rattle.value_text.specs.declared.word.Word.{Word}
 use Rattle.value_text.specs.declared.word.Cell.{Cell}
 use Rattle.value_text.specs.Stands.{StandsFor}
-use Rattle.data_text.specs.Printing.{StandsForSome}
+use Rattle.value_text.specs.Printing.{StandsForSome}
 use Rattle.metered_vm.specs.Moving.{TakesCell}
 use Rattle.metered_vm.specs.Seen.{Seen, program_in, fun_in, args_in, cells_in, state_in, Kept, Begins, GoesOn}
 use Rattle.metered_vm.specs.Ending.{HasHalted, HasStopped, IsFull, next_of}

@@ -19,8 +19,8 @@ use Rattle.stack_compile.specs.declared.instr.Instr.TheVariants as instr
 use Rattle.stack_compile.proofs.After.{after_add, later_grows}
 use Rattle.metered_vm.specs.Moving.{TakesCell}
 use Rattle.metered_vm.specs.Ending.{next_of}
-use Rattle.data_text.specs.declared.fault.DataFault.{DataFault}
-use Rattle.data_text.proofs.OneAnswer as data_answer
+use Rattle.value_text.specs.declared.fault.DataFault.{DataFault}
+use Rattle.value_text.proofs.OneAnswer as data_answer
 use Rattle.raml_words.specs.Words.{Limits, Request, Types, Code, Analyse, Run}
 use Rattle.raml_top.specs.Fragment.{IsTyped, IsTooLong, IsFaulty, IsUntyped, IsOnly, most_bytes}
 use Rattle.raml_top.specs.Call.{IsNamed, LacksFunction, IsData, Call, IsFullAt, machine_at, most_data}

@@ -10,8 +10,8 @@ use Rattle.stack_compile.specs.Machine.{State, Halted}
 use Rattle.stack_compile.specs.Laws.{at, IsGoing, Gives}
 use Rattle.metered_vm.specs.Moving.{TakesCell}
 use Rattle.metered_vm.specs.Ending.{next_of}
-use Rattle.data_text.specs.Reading.{Answers}
-use Rattle.data_text.specs.declared.fault.DataFault.{DataFault}
+use Rattle.value_text.specs.Reading.{Answers}
+use Rattle.value_text.specs.declared.fault.DataFault.{DataFault}
 use Rattle.raml_words.specs.Words.{Limits}
 use Rattle.raml_top.specs.Report.{value_lines, stopped_lines, full_lines}
 

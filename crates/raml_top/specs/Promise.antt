@@ -11,8 +11,8 @@ use Rattle.simple_types.specs.Read.{fault_of}
 use Rattle.simple_types.specs.declared.fault.TypeFault.{TypeFault}
 use Rattle.simple_types.specs.declared.fault.TypeFault.TheVariants as y
 use Rattle.raml_words.specs.Words.{Limits, Request, Types, Code, Analyse, Run, file_of, Asks, AsksNothing}
-use Rattle.data_text.specs.declared.fault.DataFault.{DataFault}
-use Rattle.data_text.specs.declared.fault.DataFault.TheVariants as d
+use Rattle.value_text.specs.declared.fault.DataFault.{DataFault}
+use Rattle.value_text.specs.declared.fault.DataFault.TheVariants as d
 use Rattle.stack_compile.specs.Machine.{Halted}
 use Rattle.stack_compile.specs.Laws.{IsGoing}
 use Rattle.stack_compile.specs.Text.{code_text}

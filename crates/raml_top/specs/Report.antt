@@ -8,9 +8,9 @@ use Rattle.raml_parse.specs.declared.fault.ParseFault.TheVariants as p
 use Rattle.simple_types.specs.Fault.{Fault, Unknown, Twice, Wanted, NeedsType, Arity}
 use Rattle.simple_types.specs.Read.{fault_of}
 use Rattle.simple_types.specs.Text.{type_text, kind_text}
-use Rattle.data_text.specs.Printing.{printed, most_text}
-use Rattle.data_text.specs.declared.fault.DataFault.{DataFault}
-use Rattle.data_text.specs.declared.fault.DataFault.TheVariants as d
+use Rattle.value_text.specs.Printing.{printed, most_text}
+use Rattle.value_text.specs.declared.fault.DataFault.{DataFault}
+use Rattle.value_text.specs.declared.fault.DataFault.TheVariants as d
 use Rattle.stack_compile.specs.Machine.{State}
 use Rattle.raml_syntax.specs.Value.{Value}
 use Rattle.raml_top.specs.declared.status.Status.{Status}

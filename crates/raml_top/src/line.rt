@@ -4,7 +4,7 @@ ghost use Rattle.simple_types.specs.Read.{fault_of};
 ghost use Rattle.raml_top.specs.Report.{line_of, source_line, data_line, placed, parse_text, data_text, fault_text, IsPlain};
 
 use crate::status::{SourceFault, Status, Which};
-use data_text::DataFault;
+use value_text::DataFault;
 use itoa::Buffer;
 use raml_lex::LexFault;
 use raml_parse::ParseFault;

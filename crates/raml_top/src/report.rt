@@ -5,7 +5,7 @@ ghost use Rattle.simple_types.specs.Read.{types_in};
 ghost use Rattle.raml_syntax.specs.Read.{ty_of};
 ghost use Rattle.raml_syntax.specs.Value.{Value};
 ghost use Rattle.value_text.specs.Stands.{StandsFor};
-ghost use Rattle.data_text.specs.Printing.{StandsForSome};
+ghost use Rattle.value_text.specs.Printing.{StandsForSome};
 ghost use Rattle.metered_vm.specs.Seen.{cells_in};
 ghost use Rattle.raml_syntax.specs.Node.{program_nodes};
 ghost use Rattle.stack_compile.specs.Text.{code_text};
@@ -16,7 +16,7 @@ ghost use Rattle.raml_top.specs.declared.status.Status.TheVariants.{Done, Stoppe
 
 use crate::status::Status;
 use itoa::Buffer;
-use data_text::{PrintFault, print};
+use value_text::{PrintFault, print};
 use metered_vm::Vm;
 use raml_syntax::{Fun, Param, Program, Ty};
 use simple_types::{Typed, push_type};

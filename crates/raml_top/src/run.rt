@@ -13,7 +13,7 @@ ghost use Rattle.raml_top.specs.declared.status.Status.TheVariants.{NoMemory};
 use crate::file::read_file;
 use crate::report::{Report, full_report, stopped_report, value_report};
 use crate::status::{Status, Which};
-use data_text::read_args;
+use value_text::read_args;
 use metered_vm::{End, Vm};
 use raml_io::Store;
 use raml_syntax::{FunId, Param, Ty};

@@ -1,3 +1,0 @@
-pub mod Data
-pub mod Scalar
-pub mod Parts
