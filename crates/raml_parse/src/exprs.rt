@@ -1,9 +1,8 @@
 // Expressions from tokens.
-ghost use Rattle.std.specs.Prelude.{◌≤◌, ◌<◌, ◌^◌, suc, [], ◌∷◌, IfOk, Err, nat_le, if◌then◌else◌};
-ghost use Rattle.token_grammar.specs.Reading.{read, level_of, formed, parts};
-ghost use Rattle.token_grammar.specs.declared.Kind.TheVariants.{TooDeep};
+ghost use Rattle.std.specs.Prelude.{◌≤◌, ◌<◌, ◌^◌, suc, [], ◌∷◌, IfOk};
+ghost use Rattle.token_grammar.specs.Reading.{read, level_of, formed};
 ghost use Rattle.raml_parse.specs.Table.{grammar, Exprs, expr_level, not_rule, At};
-ghost use Rattle.raml_parse.specs.Steps.{reads};
+ghost use Rattle.raml_parse.specs.Steps.{reads, form_by};
 ghost use Rattle.raml_parse.specs.Forms.{start_rule, simple_rule, compound_rule};
 ghost use Rattle.raml_parse.specs.Read.{Gives, pieces, phrase, boxed};
 
@@ -92,7 +91,7 @@ fn parse_form<'a>(
     rest: &'a [Piece<'a>],
 ) -> Found<'a>
     requires { suc depth < 2 ^ 30 }
-    ensures same { Gives phrase result (if nat_le (parts (start_rule start.entry)) depth then formed (reads depth (start_rule start.entry) (At at.0 ∷ []) (pieces rest.now)) else Err (TooDeep, pieces tokens.now)) }
+    ensures same { Gives phrase result (form_by depth (start_rule start.entry) at.0 (pieces tokens.now) (pieces rest.now)) }
     ensures low { IfOk result (λ x. x.1 ≤ suc depth) }
 {
     match start {

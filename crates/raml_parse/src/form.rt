@@ -1,12 +1,11 @@
 // The forms of expressions, by the token that tells them.
-ghost use Rattle.std.specs.Prelude.{◌≡◌, ℕ, [], ◌∷◌, None, Some, MatchOption};
+ghost use Rattle.std.specs.Prelude.{◌≡◌, ℕ, IfSome};
 ghost use Rattle.std.specs.Option.{option_map};
-ghost use Rattle.token_grammar.specs.Rules.{opening};
-ghost use Rattle.token_grammar.specs.Reading.{starts_at, goes_at, rest_of};
+ghost use Rattle.token_grammar.specs.Reading.{starts_at, goes_at};
 ghost use Rattle.raml_parse.specs.Tokens.{Key};
-ghost use Rattle.raml_parse.specs.Table.{Types, Exprs, At, starts, goes, second_rule, grammar};
+ghost use Rattle.raml_parse.specs.Table.{Types, Exprs, starts, goes, second_rule, grammar};
 ghost use Rattle.raml_parse.specs.Forms.{type_form, type_rule, suffix_rule, start_form, start_rule, infix_form, infix_rule, infix_level, right_level};
-ghost use Rattle.raml_parse.specs.Read.{token_of, pieces, rest};
+ghost use Rattle.raml_parse.specs.Read.{Finds, pieces, rest, token_of};
 
 use crate::token::{Piece, Sign, Word};
 use raml_syntax::{ArithOp, CompareOp};
@@ -104,7 +103,7 @@ impl<'a> Start<'a> {
     /// The form of this level that begins here, and the tokens behind its first token.
     #[tactic(auto, unfolding(crate::specs::Table::grammar))]
     pub fn at(tokens: &'a [Piece<'a>], level: u32) -> Option<(Start<'a>, &'a [Piece<'a>])>
-        ensures { MatchOption result (starts_at grammar Exprs level (pieces tokens.now) ≡ None) (λ x. (starts_at grammar Exprs level (pieces tokens.now) ≡ Some (start_rule x.0)) × (rest_of (pieces tokens.now) ≡ rest x.1)) }
+        ensures { Finds (λ x. start_rule x.0) (λ x. rest x.1) result (starts_at grammar Exprs level (pieces tokens.now)) (pieces tokens.now) }
     {
         let [first, rest @ ..] = tokens else {
             return None;
@@ -160,7 +159,8 @@ impl Infix {
     /// The form that goes on here from this level, and the tokens behind its operator.
     #[tactic(auto, unfolding(crate::specs::Table::grammar))]
     pub fn at<'a>(tokens: &'a [Piece<'a>], level: u32) -> Option<(Infix, &'a [Piece<'a>])>
-        ensures { MatchOption result (goes_at grammar Exprs level (pieces tokens.now) ≡ None) (λ x. (goes_at grammar Exprs level (pieces tokens.now) ≡ Some (infix_rule x.0)) × (infix_level x.0 ≡ level) × (rest_of (pieces tokens.now) ≡ rest x.1)) }
+        ensures found { Finds (λ x. infix_rule x.0) (λ x. rest x.1) result (goes_at grammar Exprs level (pieces tokens.now)) (pieces tokens.now) }
+        ensures level { IfSome result (λ x. infix_level x.0 ≡ level) }
     {
         let [first, rest @ ..] = tokens else {
             return None;
@@ -232,7 +232,7 @@ impl TypeStart {
     /// The type that begins here, and the tokens behind its first token.
     #[tactic(auto, unfolding(crate::specs::Table::grammar))]
     pub fn at<'a>(tokens: &'a [Piece<'a>]) -> Option<(TypeStart, &'a [Piece<'a>])>
-        ensures { MatchOption result (starts_at grammar Types 0 (pieces tokens.now) ≡ None) (λ x. (starts_at grammar Types 0 (pieces tokens.now) ≡ Some (type_rule x.0)) × (rest_of (pieces tokens.now) ≡ rest x.1)) }
+        ensures { Finds (λ x. type_rule x.0) (λ x. rest x.1) result (starts_at grammar Types 0 (pieces tokens.now)) (pieces tokens.now) }
     {
         let [first, rest @ ..] = tokens else {
             return None;
@@ -248,7 +248,7 @@ impl Suffix {
     /// The suffix that stands here, and the tokens behind it.
     #[tactic(auto, unfolding(crate::specs::Table::grammar))]
     pub fn at<'a>(tokens: &'a [Piece<'a>]) -> Option<(Suffix, &'a [Piece<'a>])>
-        ensures { MatchOption result (goes_at grammar Types 0 (pieces tokens.now) ≡ None) (λ x. (goes_at grammar Types 0 (pieces tokens.now) ≡ Some (suffix_rule x.0)) × (rest_of (pieces tokens.now) ≡ rest x.1)) }
+        ensures { Finds (λ x. suffix_rule x.0) (λ x. rest x.1) result (goes_at grammar Types 0 (pieces tokens.now)) (pieces tokens.now) }
     {
         let [first, rest @ ..] = tokens else {
             return None;
@@ -265,7 +265,7 @@ impl Suffix {
 /// The tokens behind the `*` of a pair's type.
 #[tactic(auto, unfolding(crate::specs::Table::grammar))]
 pub fn star_at<'a>(tokens: &'a [Piece<'a>]) -> Option<&'a [Piece<'a>]>
-    ensures { MatchOption result (goes_at grammar Types 1 (pieces tokens.now) ≡ None) (λ u. (goes_at grammar Types 1 (pieces tokens.now) ≡ Some second_rule) × (rest_of (pieces tokens.now) ≡ rest u)) }
+    ensures { Finds (λ u. second_rule) rest result (goes_at grammar Types 1 (pieces tokens.now)) (pieces tokens.now) }
 {
     match tokens {
         [

@@ -1,10 +1,10 @@
 // Trees from their parts.
-ghost use Rattle.std.specs.Prelude.{◌≡◌, ◌≤◌, [], ◌∷◌, ◌++◌, IfOk};
+ghost use Rattle.std.specs.Prelude.{◌≡◌, ◌++◌, [], ◌∷◌, IfOk};
 ghost use Rattle.raml_syntax.specs.Tree as t;
 ghost use Rattle.raml_syntax.specs.Read.{term_of, terms_of, ty_of, bound_of, parameter_of};
 ghost use Rattle.raml_parse.specs.Table.{Phrase, Typing, At, call_act, function_act};
 ghost use Rattle.raml_parse.specs.Forms.{infix_act};
-ghost use Rattle.raml_parse.specs.Read.{phrases_back, headers_back, headed, named_part, bound_at};
+ghost use Rattle.raml_parse.specs.Read.{named_part, term_in, headers_back, phrases_back, headed, bound_at};
 
 use crate::form::Infix;
 use crate::take::NameAt;
@@ -83,7 +83,7 @@ pub fn call(alloc: Global, at: Pos, function: &str, args: Vec<Expr>) -> Result<E
 }
 
 pub fn node(at: Pos, element: Box<Expr>, left: Box<Expr>, right: Box<Expr>) -> Expr
-    ensures { term_of result ≡ t.Node at.0 (term_of element.value) (term_of left.value) (term_of right.value) }
+    ensures { term_of result ≡ t.Node at.0 (term_in element) (term_in left) (term_in right) }
 {
     Expr {
         at,
@@ -93,7 +93,7 @@ pub fn node(at: Pos, element: Box<Expr>, left: Box<Expr>, right: Box<Expr>) -> E
 
 /// `some` of its content.
 pub fn just(at: Pos, content: Box<Expr>) -> Expr
-    ensures { term_of result ≡ t.Just at.0 (term_of content.value) }
+    ensures { term_of result ≡ t.Just at.0 (term_in content) }
 {
     Expr {
         at,
@@ -102,7 +102,7 @@ pub fn just(at: Pos, content: Box<Expr>) -> Expr
 }
 
 pub fn negation(at: Pos, operand: Box<Expr>) -> Expr
-    ensures { term_of result ≡ t.Not at.0 (term_of operand.value) }
+    ensures { term_of result ≡ t.Not at.0 (term_in operand) }
 {
     Expr {
         at,
@@ -111,7 +111,7 @@ pub fn negation(at: Pos, operand: Box<Expr>) -> Expr
 }
 
 pub fn pair(at: Pos, first: Box<Expr>, second: Box<Expr>) -> Expr
-    ensures { term_of result ≡ t.Pair at.0 (term_of first.value) (term_of second.value) }
+    ensures { term_of result ≡ t.Pair at.0 (term_in first) (term_in second) }
 {
     Expr {
         at,
@@ -120,7 +120,7 @@ pub fn pair(at: Pos, first: Box<Expr>, second: Box<Expr>) -> Expr
 }
 
 pub fn typed(at: Pos, expr: Box<Expr>, ty: Box<Ty>) -> Expr
-    ensures { term_of result ≡ t.Typed at.0 (term_of expr.value) (ty_of ty.value) }
+    ensures { term_of result ≡ t.Typed at.0 (term_in expr) (ty_of ty.value) }
 {
     Expr {
         at,
@@ -145,7 +145,7 @@ pub fn binding(
     bound: Box<Expr>,
     rest: Box<Expr>,
 ) -> Result<Expr, AllocError>
-    ensures { IfOk result (λ e. term_of e ≡ t.Let at.0 (bound_at x.entry) (term_of bound.value) (term_of rest.value)) }
+    ensures { IfOk result (λ e. term_of e ≡ t.Let at.0 (bound_at x.entry) (term_in bound) (term_in rest)) }
 {
     let x = binder(alloc, x)?;
     Ok(Expr {
@@ -163,7 +163,7 @@ pub fn pair_binding(
     bound: Box<Expr>,
     rest: Box<Expr>,
 ) -> Result<Expr, AllocError>
-    ensures { IfOk result (λ e. term_of e ≡ t.LetPair at.0 (bound_at x.entry) (bound_at y.entry) (term_of bound.value) (term_of rest.value)) }
+    ensures { IfOk result (λ e. term_of e ≡ t.LetPair at.0 (bound_at x.entry) (bound_at y.entry) (term_in bound) (term_in rest)) }
 {
     let x = binder(alloc, x)?;
     let y = binder(alloc, y)?;
@@ -174,7 +174,7 @@ pub fn pair_binding(
 }
 
 pub fn choice(at: Pos, condition: Box<Expr>, first: Box<Expr>, second: Box<Expr>) -> Expr
-    ensures { term_of result ≡ t.If at.0 (term_of condition.value) (term_of first.value) (term_of second.value) }
+    ensures { term_of result ≡ t.If at.0 (term_in condition) (term_in first) (term_in second) }
 {
     Expr {
         at,
@@ -192,7 +192,7 @@ pub fn list_cases(
     tail: NameAt,
     rest: Box<Expr>,
 ) -> Result<Expr, AllocError>
-    ensures { IfOk result (λ e. term_of e ≡ t.MatchList at.0 (term_of subject.value) (term_of empty.value) (bound_at head.entry) (bound_at tail.entry) (term_of rest.value)) }
+    ensures { IfOk result (λ e. term_of e ≡ t.MatchList at.0 (term_in subject) (term_in empty) (bound_at head.entry) (bound_at tail.entry) (term_in rest)) }
 {
     let head = binder(alloc, head)?;
     let tail = binder(alloc, tail)?;
@@ -213,7 +213,7 @@ pub fn tree_cases(
     right: NameAt,
     rest: Box<Expr>,
 ) -> Result<Expr, AllocError>
-    ensures { IfOk result (λ e. term_of e ≡ t.MatchTree at.0 (term_of subject.value) (term_of empty.value) (bound_at element.entry) (bound_at left.entry) (bound_at right.entry) (term_of rest.value)) }
+    ensures { IfOk result (λ e. term_of e ≡ t.MatchTree at.0 (term_in subject) (term_in empty) (bound_at element.entry) (bound_at left.entry) (bound_at right.entry) (term_in rest)) }
 {
     let element = binder(alloc, element)?;
     let left = binder(alloc, left)?;
@@ -233,7 +233,7 @@ pub fn option_cases(
     content: NameAt,
     rest: Box<Expr>,
 ) -> Result<Expr, AllocError>
-    ensures { IfOk result (λ e. term_of e ≡ t.MatchOption at.0 (term_of subject.value) (term_of empty.value) (bound_at content.entry) (term_of rest.value)) }
+    ensures { IfOk result (λ e. term_of e ≡ t.MatchOption at.0 (term_in subject) (term_in empty) (bound_at content.entry) (term_in rest)) }
 {
     let content = binder(alloc, content)?;
     Ok(Expr {
@@ -243,7 +243,7 @@ pub fn option_cases(
 }
 
 pub fn tick(at: Pos, count: u32, body: Box<Expr>) -> Expr
-    ensures { term_of result ≡ t.Tick at.0 count (term_of body.value) }
+    ensures { term_of result ≡ t.Tick at.0 count (term_in body) }
 {
     Expr {
         at,
@@ -253,7 +253,7 @@ pub fn tick(at: Pos, count: u32, body: Box<Expr>) -> Expr
 
 /// An operator with its operands.
 pub fn operation(at: Pos, operator: Infix, left: Box<Expr>, right: Box<Expr>) -> Expr
-    ensures { infix_act operator (Phrase (term_of right.value) ∷ Phrase (term_of left.value) ∷ At at.0 ∷ []) ≡ Phrase (term_of result) }
+    ensures { infix_act operator (Phrase (term_in right) ∷ Phrase (term_in left) ∷ At at.0 ∷ []) ≡ Phrase (term_of result) }
 {
     let form = match operator {
         Infix::Arith(op) => Form::Arith(op, left, right),
@@ -283,7 +283,7 @@ pub fn function(
     ty: Box<Ty>,
     body: Box<Expr>,
 ) -> Result<Fun, AllocError>
-    ensures is { IfOk result (λ f. function_act (Phrase (term_of body.value) ∷ Typing (ty_of ty.value) ∷ (headers_back params.items ++ named_part function.entry ∷ [])) ≡ headed f) }
+    ensures is { IfOk result (λ f. function_act (Phrase (term_in body) ∷ Typing (ty_of ty.value) ∷ (headers_back params.items ++ named_part function.entry ∷ [])) ≡ headed f) }
     ensures place { IfOk result (λ f. f.at ≡ at) }
     ensures params { IfOk result (λ f. f.params ≡ params) }
 {

@@ -1,9 +1,9 @@
 // Tokens that must stand.
-ghost use Rattle.std.specs.Prelude.{◌≡◌, [], ◌∷◌, Some, None, MatchOption};
+ghost use Rattle.std.specs.Prelude.{◌≡◌, [], ◌∷◌, MatchOption};
 ghost use Rattle.token_grammar.specs.Rules.{opening};
-ghost use Rattle.token_grammar.specs.Reading.{take_of, taken, rest_of};
+ghost use Rattle.token_grammar.specs.Reading.{take_of, taken};
 ghost use Rattle.raml_parse.specs.Table.{key, place, name, number_to, grammar, At, Counted};
-ghost use Rattle.raml_parse.specs.Read.{Gives, pieces, rest, named_part};
+ghost use Rattle.raml_parse.specs.Read.{Gives, Finds, pieces, rest, named_part};
 
 use crate::stop::Stop;
 use crate::token::{Piece, Sign, Word};
@@ -30,7 +30,7 @@ pub fn first_place(tokens: &[Piece]) -> Option<Pos>
 
 /// The tokens behind this keyword or symbol, where it stands first.
 pub fn behind<'a>(tokens: &'a [Piece<'a>], sign: Sign) -> Option<&'a [Piece<'a>]>
-    ensures { MatchOption result (taken (key sign) (pieces tokens.now) ≡ None) (λ u. (taken (key sign) (pieces tokens.now) ≡ Some []) × (rest_of (pieces tokens.now) ≡ rest u)) }
+    ensures { Finds (λ u. []) rest result (taken (key sign) (pieces tokens.now)) (pieces tokens.now) }
 {
     match tokens {
         [first, rest @ ..] if first.is(sign) => Some(rest),
@@ -40,7 +40,7 @@ pub fn behind<'a>(tokens: &'a [Piece<'a>], sign: Sign) -> Option<&'a [Piece<'a>]
 
 /// The place of this keyword or symbol, and the tokens behind it, where it stands first.
 pub fn place_behind<'a>(tokens: &'a [Piece<'a>], sign: Sign) -> Option<(Pos, &'a [Piece<'a>])>
-    ensures { MatchOption result (taken (place sign) (pieces tokens.now) ≡ None) (λ x. (taken (place sign) (pieces tokens.now) ≡ Some (At x.0.0 ∷ [])) × (rest_of (pieces tokens.now) ≡ rest x.1)) }
+    ensures { Finds (λ x. At x.0.0 ∷ []) (λ x. rest x.1) result (taken (place sign) (pieces tokens.now)) (pieces tokens.now) }
 {
     match tokens {
         [first, rest @ ..] if first.is(sign) => Some((first.at, rest)),

@@ -1,10 +1,9 @@
 // `let`, `if` and `tick`.
 ghost use Rattle.std.specs.Prelude.{◌≤◌, ◌<◌, ◌^◌, suc, [], ◌∷◌, IfOk};
 ghost use Rattle.token_grammar.specs.Reading.{formed};
-ghost use Rattle.raml_syntax.specs.Read.{term_of};
 ghost use Rattle.raml_parse.specs.Table.{let_rule, let_one_rule, let_names_rule, let_pair_rule, if_rule, branches_rule, tick_rule, At, Phrase};
 ghost use Rattle.raml_parse.specs.Steps.{reads};
-ghost use Rattle.raml_parse.specs.Read.{Gives, pieces, phrase, named_part};
+ghost use Rattle.raml_parse.specs.Read.{Gives, pieces, phrase, named_part, term_in};
 
 use crate::exprs::{Found, parse_part};
 use crate::make;
@@ -106,7 +105,7 @@ fn parse_branches<'a>(
     tokens: &'a [Piece<'a>],
 ) -> Found<'a>
     requires { depth < 2 ^ 30 }
-    ensures same { Gives phrase result (reads depth branches_rule (Phrase (term_of condition.value) ∷ At at.0 ∷ []) (pieces tokens.now)) }
+    ensures same { Gives phrase result (reads depth branches_rule (Phrase (term_in condition) ∷ At at.0 ∷ []) (pieces tokens.now)) }
     ensures low { IfOk result (λ x. x.1 ≤ depth) }
 {
     let (first, first_height, rest) = parse_part(alloc, depth, tokens)?;

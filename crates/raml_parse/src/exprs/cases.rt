@@ -1,10 +1,9 @@
 // The cases of a `match`.
 ghost use Rattle.std.specs.Prelude.{◌≤◌, ◌<◌, ◌^◌, suc, [], ◌∷◌, IfOk};
 ghost use Rattle.token_grammar.specs.Reading.{formed};
-ghost use Rattle.raml_syntax.specs.Read.{term_of};
 ghost use Rattle.raml_parse.specs.Table.{match_rule, cases_rule, list_cases_rule, list_case_rule, option_cases_rule, option_case_rule, tree_cases_rule, tree_case_rule, tree_names_rule, At, Phrase};
 ghost use Rattle.raml_parse.specs.Steps.{reads};
-ghost use Rattle.raml_parse.specs.Read.{Gives, pieces, phrase, named_part};
+ghost use Rattle.raml_parse.specs.Read.{Gives, pieces, phrase, named_part, term_in};
 
 use crate::exprs::{Found, parse_part};
 use crate::make;
@@ -38,7 +37,7 @@ fn parse_cases<'a>(
 ) -> Found<'a>
     requires shallow { depth < 2 ^ 30 }
     requires deep { 0 < depth }
-    ensures same { Gives phrase result (reads depth cases_rule (Phrase (term_of subject.value) ∷ At at.0 ∷ []) (pieces tokens.now)) }
+    ensures same { Gives phrase result (reads depth cases_rule (Phrase (term_in subject) ∷ At at.0 ∷ []) (pieces tokens.now)) }
     ensures low { IfOk result (λ x. x.1 ≤ depth) }
 {
     if let Some(rest) = behind(tokens, Sign::Nil) {
@@ -60,7 +59,7 @@ fn parse_list_cases<'a>(
     tokens: &'a [Piece<'a>],
 ) -> Found<'a>
     requires { depth < 2 ^ 30 }
-    ensures same { Gives phrase result (reads depth list_cases_rule (Phrase (term_of subject.value) ∷ At at.0 ∷ []) (pieces tokens.now)) }
+    ensures same { Gives phrase result (reads depth list_cases_rule (Phrase (term_in subject) ∷ At at.0 ∷ []) (pieces tokens.now)) }
     ensures low { IfOk result (λ x. x.1 ≤ depth) }
 {
     let rest = take_sign(tokens, Sign::Arrow)?;
@@ -80,7 +79,7 @@ fn parse_list_case<'a>(
     tokens: &'a [Piece<'a>],
 ) -> Found<'a>
     requires { depth < 2 ^ 30 }
-    ensures same { Gives phrase result (reads depth list_case_rule (Phrase (term_of empty.value) ∷ Phrase (term_of subject.value) ∷ At at.0 ∷ []) (pieces tokens.now)) }
+    ensures same { Gives phrase result (reads depth list_case_rule (Phrase (term_in empty) ∷ Phrase (term_in subject) ∷ At at.0 ∷ []) (pieces tokens.now)) }
     ensures low { IfOk result (λ x. x.1 ≤ depth) }
 {
     let rest = take_sign(tokens, Sign::Bar)?;
@@ -103,7 +102,7 @@ fn parse_option_cases<'a>(
     tokens: &'a [Piece<'a>],
 ) -> Found<'a>
     requires { depth < 2 ^ 30 }
-    ensures same { Gives phrase result (reads depth option_cases_rule (Phrase (term_of subject.value) ∷ At at.0 ∷ []) (pieces tokens.now)) }
+    ensures same { Gives phrase result (reads depth option_cases_rule (Phrase (term_in subject) ∷ At at.0 ∷ []) (pieces tokens.now)) }
     ensures low { IfOk result (λ x. x.1 ≤ depth) }
 {
     let rest = take_sign(tokens, Sign::Arrow)?;
@@ -123,7 +122,7 @@ fn parse_option_case<'a>(
     tokens: &'a [Piece<'a>],
 ) -> Found<'a>
     requires { depth < 2 ^ 30 }
-    ensures same { Gives phrase result (reads depth option_case_rule (Phrase (term_of empty.value) ∷ Phrase (term_of subject.value) ∷ At at.0 ∷ []) (pieces tokens.now)) }
+    ensures same { Gives phrase result (reads depth option_case_rule (Phrase (term_in empty) ∷ Phrase (term_in subject) ∷ At at.0 ∷ []) (pieces tokens.now)) }
     ensures low { IfOk result (λ x. x.1 ≤ depth) }
 {
     let rest = take_sign(tokens, Sign::Bar)?;
@@ -147,7 +146,7 @@ fn parse_tree_cases<'a>(
     tokens: &'a [Piece<'a>],
 ) -> Found<'a>
     requires { depth < 2 ^ 30 }
-    ensures same { Gives phrase result (reads depth tree_cases_rule (Phrase (term_of subject.value) ∷ At at.0 ∷ []) (pieces tokens.now)) }
+    ensures same { Gives phrase result (reads depth tree_cases_rule (Phrase (term_in subject) ∷ At at.0 ∷ []) (pieces tokens.now)) }
     ensures low { IfOk result (λ x. x.1 ≤ depth) }
 {
     let rest = take_sign(tokens, Sign::Leaf)?;
@@ -168,7 +167,7 @@ fn parse_tree_case<'a>(
     tokens: &'a [Piece<'a>],
 ) -> Found<'a>
     requires { depth < 2 ^ 30 }
-    ensures same { Gives phrase result (reads depth tree_case_rule (Phrase (term_of empty.value) ∷ Phrase (term_of subject.value) ∷ At at.0 ∷ []) (pieces tokens.now)) }
+    ensures same { Gives phrase result (reads depth tree_case_rule (Phrase (term_in empty) ∷ Phrase (term_in subject) ∷ At at.0 ∷ []) (pieces tokens.now)) }
     ensures low { IfOk result (λ x. x.1 ≤ depth) }
 {
     let rest = take_sign(tokens, Sign::Bar)?;
@@ -191,7 +190,7 @@ fn parse_tree_names<'a>(
     tokens: &'a [Piece<'a>],
 ) -> Found<'a>
     requires { depth < 2 ^ 30 }
-    ensures same { Gives phrase result (reads depth tree_names_rule (named_part element.entry ∷ Phrase (term_of empty.value) ∷ Phrase (term_of subject.value) ∷ At at.0 ∷ []) (pieces tokens.now)) }
+    ensures same { Gives phrase result (reads depth tree_names_rule (named_part element.entry ∷ Phrase (term_in empty) ∷ Phrase (term_in subject) ∷ At at.0 ∷ []) (pieces tokens.now)) }
     ensures low { IfOk result (λ x. x.1 ≤ depth) }
 {
     let (left, rest) = take_name(tokens)?;

@@ -1,10 +1,9 @@
 // What stands in parentheses.
 ghost use Rattle.std.specs.Prelude.{◌≤◌, ◌<◌, ◌^◌, suc, [], ◌∷◌, IfOk};
 ghost use Rattle.token_grammar.specs.Reading.{formed};
-ghost use Rattle.raml_syntax.specs.Read.{term_of};
 ghost use Rattle.raml_parse.specs.Table.{expr, node_rule, trees_rule, some_rule, parens_rule, closing_rule, inner_rule, pair_rule, typed_rule, At, Phrase};
 ghost use Rattle.raml_parse.specs.Steps.{reads};
-ghost use Rattle.raml_parse.specs.Read.{Gives, pieces, phrase};
+ghost use Rattle.raml_parse.specs.Read.{Gives, pieces, phrase, term_in};
 
 use crate::exprs::{Found, parse_part};
 use crate::make;
@@ -38,7 +37,7 @@ fn parse_trees<'a>(
     tokens: &'a [Piece<'a>],
 ) -> Found<'a>
     requires { depth < 2 ^ 30 }
-    ensures same { Gives phrase result (reads depth trees_rule (Phrase (term_of element.value) ∷ At at.0 ∷ []) (pieces tokens.now)) }
+    ensures same { Gives phrase result (reads depth trees_rule (Phrase (term_in element) ∷ At at.0 ∷ []) (pieces tokens.now)) }
     ensures low { IfOk result (λ x. x.1 ≤ depth) }
 {
     let (left, left_height, rest) = parse_part(alloc, depth, tokens)?;
@@ -89,7 +88,7 @@ fn parse_closing<'a>(
 ) -> Found<'a>
     requires shallow { depth < 2 ^ 30 }
     requires deep { 0 < depth }
-    ensures same { Gives phrase result (reads depth closing_rule (Phrase (term_of first.value) ∷ At at.0 ∷ []) (pieces tokens.now)) }
+    ensures same { Gives phrase result (reads depth closing_rule (Phrase (term_in first) ∷ At at.0 ∷ []) (pieces tokens.now)) }
     ensures low { IfOk result (λ x. x.1 ≤ depth) }
 {
     if let Some(rest) = behind(tokens, Sign::Comma) {
@@ -111,7 +110,7 @@ fn parse_pair<'a>(
     tokens: &'a [Piece<'a>],
 ) -> Found<'a>
     requires { depth < 2 ^ 30 }
-    ensures same { Gives phrase result (reads depth pair_rule (Phrase (term_of first.value) ∷ At at.0 ∷ []) (pieces tokens.now)) }
+    ensures same { Gives phrase result (reads depth pair_rule (Phrase (term_in first) ∷ At at.0 ∷ []) (pieces tokens.now)) }
     ensures low { IfOk result (λ x. x.1 ≤ depth) }
 {
     let (second, height, rest) = parse_part(alloc, depth, tokens)?;
@@ -128,7 +127,7 @@ fn parse_typed<'a>(
     tokens: &'a [Piece<'a>],
 ) -> Found<'a>
     requires { depth < 2 ^ 30 }
-    ensures same { Gives phrase result (reads depth typed_rule (Phrase (term_of expr.value) ∷ At at.0 ∷ []) (pieces tokens.now)) }
+    ensures same { Gives phrase result (reads depth typed_rule (Phrase (term_in expr) ∷ At at.0 ∷ []) (pieces tokens.now)) }
     ensures low { IfOk result (λ x. x.1 ≤ depth) }
 {
     let (ty, height, rest) = parse_type(alloc, depth, tokens)?;
@@ -138,7 +137,7 @@ fn parse_typed<'a>(
 
 // The `)` behind an expression.
 fn parse_inner<'a>(depth: u32, at: Pos, expr: Box<Expr>, tokens: &'a [Piece<'a>]) -> Found<'a>
-    ensures same { Gives phrase result (reads depth inner_rule (Phrase (term_of expr.value) ∷ At at.0 ∷ []) (pieces tokens.now)) }
+    ensures same { Gives phrase result (reads depth inner_rule (Phrase (term_in expr) ∷ At at.0 ∷ []) (pieces tokens.now)) }
     ensures low { IfOk result (λ x. x.1 ≤ depth) }
 {
     let rest = take_sign(tokens, Sign::Close)?;

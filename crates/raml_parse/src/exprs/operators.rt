@@ -2,9 +2,9 @@
 ghost use Rattle.std.specs.Prelude.{◌≤◌, ◌<◌, ◌^◌, suc, [], ◌∷◌, IfOk};
 ghost use Rattle.raml_syntax.specs.Read.{term_of};
 ghost use Rattle.raml_parse.specs.Table.{Exprs, At, Phrase};
-ghost use Rattle.raml_parse.specs.Steps.{more_on, behind_of, operators_of, reads};
+ghost use Rattle.raml_parse.specs.Steps.{reads, more_on, behind_of, operators_of};
 ghost use Rattle.raml_parse.specs.Forms.{infix_rule};
-ghost use Rattle.raml_parse.specs.Read.{Gives, pieces, phrase};
+ghost use Rattle.raml_parse.specs.Read.{Gives, pieces, phrase, term_in};
 
 use crate::exprs::{Found, parse_expr, parse_level};
 use crate::form::Infix;
@@ -75,7 +75,7 @@ fn parse_behind<'a>(
 ) -> Found<'a>
     requires shallow { suc depth < 2 ^ 30 }
     requires high { height ≤ depth }
-    ensures same { Gives phrase result (behind_of depth operator (At at.0 ∷ []) (Phrase (term_of left.value)) height (pieces tokens.now)) }
+    ensures same { Gives phrase result (behind_of depth operator (At at.0 ∷ []) (Phrase (term_in left)) height (pieces tokens.now)) }
     ensures low { IfOk result (λ x. x.1 ≤ suc depth) }
 {
     let (joined, right_height, rest) = parse_operation(alloc, depth, at, operator, left, tokens)?;
@@ -98,7 +98,7 @@ fn parse_operation<'a>(
     tokens: &'a [Piece<'a>],
 ) -> Found<'a>
     requires { depth < 2 ^ 30 }
-    ensures same { Gives phrase result (reads depth (infix_rule operator) (Phrase (term_of left.value) ∷ At at.0 ∷ []) (pieces tokens.now)) }
+    ensures same { Gives phrase result (reads depth (infix_rule operator) (Phrase (term_in left) ∷ At at.0 ∷ []) (pieces tokens.now)) }
     ensures low { IfOk result (λ x. x.1 ≤ depth) }
 {
     let (right, height, rest) = parse_expr(alloc, operator.right_level(), depth, tokens)?;
