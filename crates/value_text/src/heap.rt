@@ -1,13 +1,13 @@
 // The heap of cells.
-ghost use Rattle.std.specs.Prelude.{◌≡◌, ◌<◌, ◌≤◌, ◌+◌, ◌^◌, [], ◌∷◌, ◌++◌, length, slice_get, Some, OnOk};
+ghost use Rattle.std.specs.Prelude.{◌≡◌, ◌<◌, ◌≤◌, ◌+◌, ◌^◌, [], ◌∷◌, ◌++◌, length, take, slice_get, Some, OnOk};
 ghost use Rattle.value_text.specs.Heap.{NamesBelow, NameEarlier};
 
 use crate::word::Cell;
 use std::alloc::{AllocError, Global};
 use std::marker::Model;
 
-/// Cells by their numbers, from 0. A cell names only cells before it, and none is ever changed or
-/// taken away.
+/// Cells by their numbers, from 0. A cell names only cells before it. No cell is ever changed, and none
+/// is taken away but the newest, by `forget`.
 #[derive(Drop)]
 pub struct DataHeap {
     cells: Vec<Cell>,
@@ -72,6 +72,15 @@ impl DataHeap {
         self.cells.push(cell).unwrap();
         self.spare -= 1;
         number
+    }
+
+    /// Takes the cells from this number on away. Takes no memory.
+    pub fn forget(&mut self, from: u32)
+        requires { from ≤ length self.old.cells }
+        ensures cells { self.new.cells ≡ take from self.old.cells }
+        ensures spare { self.new.spare ≡ self.old.spare }
+    {
+        self.cells.truncate(from as usize);
     }
 
     /// The cell of a number.

@@ -1,0 +1,17 @@
+mod Front
+mod Moves
+mod Lists
+mod Stops
+mod Types
+mod Runs
+mod Values
+mod Lexed
+mod States
+mod Takings
+mod Returned
+mod Turning
+mod Whole
+mod OneData
+mod Unfit
+mod OneAnswer
+mod Pieces
