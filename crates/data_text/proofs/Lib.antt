@@ -15,3 +15,4 @@ mod OneData
 mod Unfit
 mod OneAnswer
 mod Pieces
+mod Elements

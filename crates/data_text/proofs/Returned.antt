@@ -18,7 +18,7 @@ use Rattle.value_text.specs.Held.{Held}
 use Rattle.data_text.specs.Spelling.{Token, Key, Number, Truth, Other, most_height, sizes}
 use Rattle.data_text.specs.Goals.{Value', First, Tail, More, Sane, more_goals, more_values, FitAll}
 use Rattle.data_text.specs.State.{goal_of, goals_in, values_in, Taken, IsVerdict}
-use Rattle.data_text.proofs.States.{goals_snoc, values_snoc}
+use Rattle.data_text.proofs.States.{goals_more, values_snoc}
 use Rattle.data_text.proofs.Takings.{value_taken, first_taken}
 
 pub sizes_more : (t : Token) (V : List Value) → sizes (more_values t V) ≡ sizes V
@@ -51,16 +51,13 @@ pub values_count : (t : Token) (ws us : List Word) (r : Result Verdict AllocErro
 values_count t ws us (Err e) ev = tt
 values_count t ws us (Ok x) ev = λ e hs. ap sizes (ev e hs) ∙ sizes_more t (values_in hs ws [])
 
-pub tail_put : (xs ys zs : List d.Goal) (E : Bor Ty) (l m n p : ℕ) → ys ≡ xs ++ o.Tail E l p ∷ [] → zs ≡ ys ++ o.Value E m ∷ [] → m ≡ suc l → p ≡ suc n → goals_in zs [] ≡ Value' (ty_of E.now) (suc l) ∷ Tail (ty_of E.now) l (suc n) ∷ goals_in xs []
-tail_put xs ys zs E l m n p ey ez em ep =
-    ap (λ l. goals_in l []) ez ∙ goals_snoc ys (o.Value E m) []
-    ∙ (λ i. Value' (ty_of E.now) (em i) ∷ goals_in (ey i) [])
-    ∙ ap (λ g. Value' (ty_of E.now) (suc l) ∷ g) (goals_snoc xs (o.Tail E l p) [] ∙ (λ i. Tail (ty_of E.now) l (ep i) ∷ goals_in xs []))
+pub tail_put : (xs zs : List d.Goal) (E : Bor Ty) (l m n p : ℕ) → zs ≡ xs ++ o.Tail E l p ∷ o.Value E m ∷ [] → m ≡ suc l → p ≡ suc n → goals_in zs [] ≡ Value' (ty_of E.now) (suc l) ∷ Tail (ty_of E.now) l (suc n) ∷ goals_in xs []
+tail_put xs zs E l m n p ez em ep =
+    ap (λ l. goals_in l []) ez ∙ goals_more xs (o.Tail E l p ∷ o.Value E m ∷ []) []
+    ∙ (λ i. Value' (ty_of E.now) (em i) ∷ Tail (ty_of E.now) l (ep i) ∷ goals_in xs [])
 
-pub more_put : (xs ys zs : List d.Goal) (first : Bor Ty) (rest : Bor (List Ty)) → ys ≡ xs ++ o.More rest ∷ [] → zs ≡ ys ++ o.Value first 0 ∷ [] → goals_in zs [] ≡ Value' (ty_of first.now) 0 ∷ More (map ty_of rest.now) ∷ goals_in xs []
-more_put xs ys zs first rest ey ez =
-    ap (λ l. goals_in l []) ez ∙ goals_snoc ys (o.Value first 0) []
-    ∙ ap (λ l. Value' (ty_of first.now) 0 ∷ goals_in l []) ey ∙ ap (λ g. Value' (ty_of first.now) 0 ∷ g) (goals_snoc xs (o.More rest) [])
+pub more_put : (xs zs : List d.Goal) (first : Bor Ty) (rest : Bor (List Ty)) → zs ≡ xs ++ o.More rest ∷ o.Value first 0 ∷ [] → goals_in zs [] ≡ Value' (ty_of first.now) 0 ∷ More (map ty_of rest.now) ∷ goals_in xs []
+more_put xs zs first rest ez = ap (λ l. goals_in l []) ez ∙ goals_more xs (o.More rest ∷ o.Value first 0 ∷ []) []
 
 pub types_cut : (ts : List Ty) (x : Ty) → 1 ≤ length ts → x ≡ get_or ts 0 x → map ty_of ts ≡ ty_of x ∷ map ty_of (take (length ts - 1) (drop 1 ts))
 types_cut [] x le e = absurd (omega (arith, le))

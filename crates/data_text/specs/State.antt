@@ -1,11 +1,12 @@
 -- What a reader of data holds, and what it does with a token.
 use Rattle.std.specs.Prelude.{◌≡◌, ◌≤◌, ◌<◌, ◌+◌, ◌*◌, ◌++◌, ℕ, suc, List, [], ◌∷◌, Option, Some, None, Bool, true, false, length, map}
 use Rattle.std.specs.Borrow.{Bor}
-use Rattle.raml_syntax.specs.Tree.{Type', Text}
+use Rattle.raml_syntax.specs.Tree.{Type', Integer, Boolean, Text}
 use Rattle.raml_syntax.specs.Value.{Value}
 use Rattle.raml_syntax.specs.Read.{ty_of}
 use Rattle.raml_syntax.specs.declared.ty.Ty.{Ty}
 use Rattle.value_text.specs.declared.word.Word.{Word}
+use Rattle.value_text.specs.declared.word.Word.TheVariants as w
 use Rattle.value_text.specs.declared.word.Cell.{Cell}
 use Rattle.value_text.specs.Heap.{IsBelow}
 use Rattle.value_text.specs.Held.{Held, held, value_of}
@@ -17,8 +18,8 @@ use Rattle.data_text.specs.declared.goal.Verdict.TheVariants as a
 use Rattle.data_text.specs.declared.fault.Kind.TheVariants.{Shape, TooDeep}
 use Rattle.data_text.specs.declared.fault.Stop.{Stop}
 use Rattle.data_text.specs.declared.fault.Stop.TheVariants as f
-use Rattle.data_text.specs.Spelling.{Token, most_height, sizes}
-use Rattle.data_text.specs.Goals.{Goal, Value', First, Tail, Sign', More, Pair, Node, Just, begins, Moves, Stops, FitAll}
+use Rattle.data_text.specs.Spelling.{Token, Key, Number, Truth, most_height, sizes}
+use Rattle.data_text.specs.Goals.{Goal, Value', First, Tail, Sign', More, Pair, Node, Just, begins, Moves, Stops, FitAll, Sane}
 use Rattle.data_text.specs.Lexing.{Placed, placed, kinds, left_of}
 
 abbrev pub goal_of : d.Goal → Goal
@@ -114,6 +115,30 @@ Grows cells cells' = (more : List Cell) × (cells' ≡ cells ++ more)
 -- as many cells were added as the values grew by
 abbrev pub AreCounted : List Cell → List Word → List Cell → List Word → Type 0
 AreCounted cells ws cells' ws' = length cells' + sizes (values_of cells ws) ≡ length cells + sizes (values_of cells' ws')
+
+-- the word of an integer or a truth that is of the type
+abbrev pub scalar_word : Type' → Token → Option Word
+scalar_word Integer (Number n) = Some (w.Int n)
+scalar_word Boolean (Truth b) = Some (w.Bool b)
+scalar_word A t = None
+
+-- a text begins with a comma and an integer or a truth of the type, which has this word
+pub record IsItem (A : Type') (s : Text) (word : Word) (s' : Text) : Type 0 where
+  pub before : ℕ
+  pub at : ℕ
+  pub token : Token
+  pub tokens : placed s ≡ (record { left = before; token = Key Comma }) ∷ (record { left = at; token = token }) ∷ placed s'
+  pub scalar : scalar_word A token ≡ Some word
+  pub sane : Sane token
+  pub less : length s' + 2 ≤ length s
+
+-- a text begins with n such elements, and so a list goes on
+pub record AreItems (A : Type') (n : ℕ) (vs : List Value) (s : Text) (vs' : List Value) (s' : Text) : Type 0 where
+  pub taken : List Placed
+  pub split : placed s ≡ taken ++ placed s'
+  pub moves : (l m : ℕ) (gs : List Goal) → suc (suc l) ≤ most_height → Moves (Tail A l m ∷ gs) vs (kinds taken) (Tail A l (m + n) ∷ gs) vs'
+  pub same : sizes vs' ≡ sizes vs
+  pub less : length s' + 2 * n ≤ length s
 
 -- what is put down for a pair, a node and the content of an option, the first of it last
 abbrev pub pair_goals : Bor Ty → Bor Ty → ℕ → List d.Goal

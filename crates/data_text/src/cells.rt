@@ -92,6 +92,7 @@ pub fn join(heap: &mut DataHeap, words: &mut Vec<Word>, count: usize) -> Result<
     ensures count { OnOk result (length heap.new.cells ≡ length heap.old.cells + count) }
     ensures grows { Grows heap.old.cells heap.new.cells }
 {
+    heap.reserve(count as u32)?;
     let mut tail = Word::Empty;
     let mut left = count;
     while left > 0 {

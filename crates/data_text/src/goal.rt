@@ -76,12 +76,13 @@ fn push_pair<'a>(
 ) -> Result<(), AllocError>
     ensures { OnOk result (goals.new.items ≡ goals.old.items ++ pair_goals first.entry second.entry level) }
 {
-    goals.push(Goal::Pair)?;
-    goals.push(Goal::Sign(Sign::Close))?;
-    goals.push(Goal::Value(second, level))?;
-    goals.push(Goal::Sign(Sign::Comma))?;
-    goals.push(Goal::Value(first, level))?;
-    Ok(())
+    goals.extend_from_slice(&[
+        Goal::Pair,
+        Goal::Sign(Sign::Close),
+        Goal::Value(second, level),
+        Goal::Sign(Sign::Comma),
+        Goal::Value(first, level),
+    ])
 }
 
 fn push_node<'a>(
@@ -92,15 +93,16 @@ fn push_node<'a>(
 ) -> Result<(), AllocError>
     ensures { OnOk result (goals.new.items ≡ goals.old.items ++ node_goals element.entry tree.entry level) }
 {
-    goals.push(Goal::Node)?;
-    goals.push(Goal::Sign(Sign::Close))?;
-    goals.push(Goal::Value(tree, level))?;
-    goals.push(Goal::Sign(Sign::Comma))?;
-    goals.push(Goal::Value(tree, level))?;
-    goals.push(Goal::Sign(Sign::Comma))?;
-    goals.push(Goal::Value(element, level))?;
-    goals.push(Goal::Sign(Sign::Open))?;
-    Ok(())
+    goals.extend_from_slice(&[
+        Goal::Node,
+        Goal::Sign(Sign::Close),
+        Goal::Value(tree, level),
+        Goal::Sign(Sign::Comma),
+        Goal::Value(tree, level),
+        Goal::Sign(Sign::Comma),
+        Goal::Value(element, level),
+        Goal::Sign(Sign::Open),
+    ])
 }
 
 fn push_content<'a>(
@@ -110,11 +112,12 @@ fn push_content<'a>(
 ) -> Result<(), AllocError>
     ensures { OnOk result (goals.new.items ≡ goals.old.items ++ content_goals content.entry level) }
 {
-    goals.push(Goal::Just)?;
-    goals.push(Goal::Sign(Sign::Close))?;
-    goals.push(Goal::Value(content, level))?;
-    goals.push(Goal::Sign(Sign::Open))?;
-    Ok(())
+    goals.extend_from_slice(&[
+        Goal::Just,
+        Goal::Sign(Sign::Close),
+        Goal::Value(content, level),
+        Goal::Sign(Sign::Open),
+    ])
 }
 
 /// Puts down what is to be read behind the first token of a value.

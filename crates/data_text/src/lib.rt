@@ -4,6 +4,7 @@
 mod cells;
 mod fault;
 mod goal;
+mod items;
 mod printing;
 mod read;
 mod sign;

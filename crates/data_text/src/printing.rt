@@ -104,11 +104,12 @@ fn print_pair<'a>(
     ensures pieces { OnOk result (pieces.new.items ≡ pieces.old.items ++ pair_pieces first second left.entry right.entry) }
 {
     text.push_str("(")?;
-    pieces.push(Piece::Sign(Sign::Close))?;
-    pieces.push(Piece::Value(second, right))?;
-    pieces.push(Piece::Sign(Sign::Comma))?;
-    pieces.push(Piece::Value(first, left))?;
-    Ok(())
+    pieces.extend_from_slice(&[
+        Piece::Sign(Sign::Close),
+        Piece::Value(second, right),
+        Piece::Sign(Sign::Comma),
+        Piece::Value(first, left),
+    ])
 }
 
 // A list's first sign or a comma, and what comes behind it.
@@ -124,9 +125,7 @@ fn print_item<'a>(
     ensures pieces { OnOk result (pieces.new.items ≡ pieces.old.items ++ item_pieces head tail element.entry) }
 {
     text.push_str(sign_text(sign))?;
-    pieces.push(Piece::Tail(tail, element))?;
-    pieces.push(Piece::Value(head, element))?;
-    Ok(())
+    pieces.extend_from_slice(&[Piece::Tail(tail, element), Piece::Value(head, element)])
 }
 
 // A node's first two signs, and what comes behind them.
@@ -143,13 +142,14 @@ fn print_node<'a>(
     ensures pieces { OnOk result (pieces.new.items ≡ pieces.old.items ++ node_pieces item left right element.entry tree.entry) }
 {
     text.push_str("node(")?;
-    pieces.push(Piece::Sign(Sign::Close))?;
-    pieces.push(Piece::Value(right, tree))?;
-    pieces.push(Piece::Sign(Sign::Comma))?;
-    pieces.push(Piece::Value(left, tree))?;
-    pieces.push(Piece::Sign(Sign::Comma))?;
-    pieces.push(Piece::Value(item, element))?;
-    Ok(())
+    pieces.extend_from_slice(&[
+        Piece::Sign(Sign::Close),
+        Piece::Value(right, tree),
+        Piece::Sign(Sign::Comma),
+        Piece::Value(left, tree),
+        Piece::Sign(Sign::Comma),
+        Piece::Value(item, element),
+    ])
 }
 
 // The first two signs of an option with a content, and what comes behind them.
@@ -163,9 +163,7 @@ fn print_content<'a>(
     ensures pieces { OnOk result (pieces.new.items ≡ pieces.old.items ++ content_pieces word content.entry) }
 {
     text.push_str("some(")?;
-    pieces.push(Piece::Sign(Sign::Close))?;
-    pieces.push(Piece::Value(word, content))?;
-    Ok(())
+    pieces.extend_from_slice(&[Piece::Sign(Sign::Close), Piece::Value(word, content)])
 }
 
 // The parts of a list's cell.

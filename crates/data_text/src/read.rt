@@ -24,12 +24,11 @@ fn begin<'a>(goals: &mut Vec<Goal<'a>>, types: &'a [Ty]) -> Result<(), AllocErro
     match types {
         [] => Ok(()),
         [one] => Ok(goals.push(Goal::Value(one, 0))?),
-        [first, rest @ ..] => {
-            goals.push(Goal::More(rest))?;
-            goals.push(Goal::Value(first, 0))?;
-            goals.push(Goal::Sign(Sign::Open))?;
-            Ok(())
-        }
+        [first, rest @ ..] => goals.extend_from_slice(&[
+            Goal::More(rest),
+            Goal::Value(first, 0),
+            Goal::Sign(Sign::Open),
+        ]),
     }
 }
 

@@ -3,7 +3,7 @@ ghost use Rattle.std.specs.Prelude.{◌≡◌, ◌≢◌, ◌≤◌, ◌<◌, �
 ghost use Rattle.raml_syntax.specs.Value.{Value};
 ghost use Rattle.raml_syntax.specs.Read.{ty_of};
 ghost use Rattle.value_text.specs.Held.{Held};
-ghost use Rattle.data_text.specs.Spelling.{Key, sizes};
+ghost use Rattle.data_text.specs.Spelling.{sizes};
 ghost use Rattle.data_text.specs.Lexing.{placed};
 ghost use Rattle.data_text.specs.Tokens.{token_of};
 ghost use Rattle.data_text.specs.Goals.{First, Tail, More, least, more_goals, more_values, FitAll, Sane};
@@ -13,6 +13,7 @@ ghost use Rattle.data_text.specs.declared.goal.Verdict.TheVariants as a;
 use crate::cells::{join, make_just, make_node, make_pair};
 use crate::fault::{Kind, Stop};
 use crate::goal::{Goal, Verdict, judge, push_goals, push_value};
+use crate::items::take_items;
 use crate::sign::Sign;
 use crate::token::{Token, next};
 use raml_syntax::Ty;
@@ -49,15 +50,6 @@ fn take_value<'a>(
     }
 }
 
-fn is_sign(token: Token, sign: Sign) -> bool
-    ensures { MatchBool result (token_of token ≡ Key sign) (token_of token ≢ Key sign) }
-{
-    match token {
-        Token::Sign(found) => found == sign,
-        Token::Number(_) | Token::Truth(_) | Token::Other => false,
-    }
-}
-
 // Takes the token behind `[`.
 fn take_first<'a>(
     goals: &mut Vec<Goal<'a>>,
@@ -77,7 +69,7 @@ fn take_first<'a>(
     ensures count { IfOk result (λ v. v ≡ a.Fits → (hs : List Held) →
         sizes (values_in hs words.new.items []) ≡ sizes (values_in hs words.old.items [])) }
 {
-    if is_sign(token, Sign::CloseList) {
+    if token.is_sign(Sign::CloseList) {
         words.push(Word::Empty)?;
         return Ok(Verdict::Fits);
     }
@@ -106,12 +98,11 @@ fn take_tail<'a>(
     ensures count { IfOk result (λ v. v ≡ a.Fits → AreCounted heap.old.cells words.old.items heap.new.cells words.new.items) }
     ensures grows { Grows heap.old.cells heap.new.cells }
 {
-    if is_sign(token, Sign::Comma) {
-        goals.push(Goal::Tail(ty, level, count + 1))?;
-        goals.push(Goal::Value(ty, level + 1))?;
+    if token.is_sign(Sign::Comma) {
+        goals.extend_from_slice(&[Goal::Tail(ty, level, count + 1), Goal::Value(ty, level + 1)])?;
         return Ok(Verdict::Fits);
     }
-    if is_sign(token, Sign::CloseList) {
+    if token.is_sign(Sign::CloseList) {
         join(heap, words, count)?;
         return Ok(Verdict::Fits);
     }
@@ -129,15 +120,14 @@ fn take_more<'a>(
         Taken v (More (map ty_of types.now)) (token_of token) (goals_of goals.old.items) vs (goals_of goals.new.items) vs) }
 {
     match types {
-        [] => Ok(if is_sign(token, Sign::Close) {
+        [] => Ok(if token.is_sign(Sign::Close) {
             Verdict::Fits
         } else {
             Verdict::Shape
         }),
         [first, rest @ ..] => {
-            if is_sign(token, Sign::Comma) {
-                goals.push(Goal::More(rest))?;
-                goals.push(Goal::Value(first, 0))?;
+            if token.is_sign(Sign::Comma) {
+                goals.extend_from_slice(&[Goal::More(rest), Goal::Value(first, 0)])?;
                 return Ok(Verdict::Fits);
             }
             Ok(Verdict::Shape)
@@ -170,7 +160,7 @@ fn take<'a>(
         Goal::Value(ty, level) => take_value(goals, words, ty, level, token, true),
         Goal::First(ty, level) => take_first(goals, words, ty, level, token),
         Goal::Tail(ty, level, count) => take_tail(heap, goals, words, ty, level, count, token),
-        Goal::Sign(sign) => Ok(if is_sign(token, sign) {
+        Goal::Sign(sign) => Ok(if token.is_sign(sign) {
             Verdict::Fits
         } else {
             Verdict::Shape
@@ -214,6 +204,37 @@ fn turn_token<'a, 'b>(
     }
 }
 
+// Takes the rest of a list as far as it goes, and answers the text that is left.
+fn turn_tail<'a, 'b>(
+    heap: &mut DataHeap,
+    goals: &mut Vec<Goal<'a>>,
+    words: &mut Vec<Word>,
+    ty: &'a Ty,
+    level: u32,
+    count: usize,
+    text: &'b [u8],
+) -> Result<&'b [u8], Stop>
+    requires fits { FitAll (Tail (ty_of ty.now) level count ∷ goals_of goals.old.items) }
+    requires words { AllBelow (length heap.old.cells) words.old.items }
+    requires room { length heap.old.cells + count + 1 < 2 ^ 32 }
+    ensures turned { IfOk result (λ rest.
+        TurnedTo (Tail (ty_of ty.now) level count)
+            (goals_of goals.old.items) (values_of heap.old.cells words.old.items) text.now
+            (goals_of goals.new.items) (values_of heap.new.cells words.new.items) rest.now) }
+    ensures fails { IfErr result (λ stop.
+        Fails stop (Tail (ty_of ty.now) level count ∷ goals_of goals.old.items) (values_of heap.old.cells words.old.items) (placed text.now)) }
+    ensures below { OnOk result (AllBelow (length heap.new.cells) words.new.items) }
+    ensures count { OnOk result (AreCounted heap.old.cells words.old.items heap.new.cells words.new.items) }
+    ensures grows { Grows heap.old.cells heap.new.cells }
+{
+    let (more, rest) = take_items(words, ty, text)?;
+    if more == 0 {
+        return turn_token(heap, goals, words, Goal::Tail(ty, level, count), text);
+    }
+    goals.push(Goal::Tail(ty, level, count + more))?;
+    Ok(rest)
+}
+
 /// Meets a goal as far as it goes, and answers the text that is left.
 pub fn turn<'a, 'b>(
     heap: &mut DataHeap,
@@ -250,7 +271,7 @@ pub fn turn<'a, 'b>(
         }
         Goal::Value(..) => turn_token(heap, goals, words, goal, text),
         Goal::First(..) => turn_token(heap, goals, words, goal, text),
-        Goal::Tail(..) => turn_token(heap, goals, words, goal, text),
+        Goal::Tail(ty, level, count) => turn_tail(heap, goals, words, ty, level, count, text),
         Goal::Sign(_) => turn_token(heap, goals, words, goal, text),
         Goal::More(_) => turn_token(heap, goals, words, goal, text),
     }

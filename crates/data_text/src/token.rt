@@ -1,8 +1,9 @@
 // The tokens of data.
-ghost use Rattle.std.specs.Prelude.{◌≡◌, ◌≤◌, ◌<◌, ◌∷◌, []};
+ghost use Rattle.std.specs.Prelude.{◌≡◌, ◌≢◌, MatchBool, ◌≤◌, ◌<◌, ◌∷◌, []};
 ghost use Rattle.std.specs.Prelude.{ℕ, MatchOption, true, length, take, drop, pos, neg_ℤ};
 ghost use Rattle.std.specs.List.{prefix_len, AllPass};
 ghost use Rattle.raml_lex.specs.Lexemes.{is_space, is_digit, is_lower, is_name_part, number_value};
+ghost use Rattle.data_text.specs.Spelling.{Key};
 ghost use Rattle.data_text.specs.Lexing.{placed, begun_by, word_token, symbol_token, number_token, minus_token, minus_by};
 ghost use Rattle.data_text.specs.Tokens.{token_of, IsSolid, IsNext};
 
@@ -16,6 +17,18 @@ pub enum Token {
     Truth(bool),
     /// What no data holds.
     Other,
+}
+
+impl Token {
+    /// Whether the token is this sign.
+    pub fn is_sign(self, sign: Sign) -> bool
+        ensures { MatchBool result (token_of self ≡ Key sign) (token_of self ≢ Key sign) }
+    {
+        match self {
+            Token::Sign(found) => found == sign,
+            Token::Number(_) | Token::Truth(_) | Token::Other => false,
+        }
+    }
 }
 
 fn is_space(byte: u8) -> bool

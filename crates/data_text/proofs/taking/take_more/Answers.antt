@@ -12,12 +12,12 @@ pub returns-then-is_sign-2 : goal.returns-then-is_sign-2
 returns-then-is_sign-2 c =
     let ts = c.args.types.now in
     let G = goals_in c.args.goals.now.items [] in
-    let G' = goals_in c.push-then-is_sign-2.new.self.items [] in
+    let G' = goals_in c.extend_from_slice.new.self.items [] in
     let A = ty_of c.first-item.result in
     let As = map ty_of (take (length ts - 1) (drop 1 ts)) in
     let is = types_cut ts c.first-item.result c.in-len1-up.len_at_least c.first-item.is in
     let fits : FitAll (More (A ∷ As) ∷ G) = subst (λ As. FitAll (More As ∷ G)) is c.requires.fits in
-    record { taken = λ vs. subst (λ As. Taken a.Fits (More As) (token_of c.args.token) G vs G' vs) (sym is) (more_taken A As (token_of c.args.token) G vs G' c.if-is_sign-2.ensures fits (more_put c.args.goals.now.items c.push.new.self.items c.push-then-is_sign-2.new.self.items _ _ c.in_ok-push-in-len1-up.ensures.items c.in_ok-push-in-len1-up-2.ensures.items)) }
+    record { taken = λ vs. subst (λ As. Taken a.Fits (More As) (token_of c.args.token) G vs G' vs) (sym is) (more_taken A As (token_of c.args.token) G vs G' c.if-is_sign-2.ensures fits (more_put c.args.goals.now.items c.extend_from_slice.new.self.items _ _ c.in_ok-extend_from_slice-in-len1-up.ensures.items)) }
 
 pub returns-then-is_sign : goal.returns-then-is_sign
 returns-then-is_sign c =

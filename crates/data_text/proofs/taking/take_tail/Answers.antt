@@ -12,7 +12,7 @@ use Rattle.data_text.proofs.taking.take_tail.Goals as goal
 pub returns-then-is_sign-clause-taken : goal.returns-then-is_sign-clause-taken
 returns-then-is_sign-clause-taken c =
     tail_taken (ty_of c.args.ty.now) c.args.level c.args.count (token_of c.args.token) _ _ _ _ c.if-is_sign.ensures c.requires.fits
-    (tail_put c.args.goals.now.items c.push.new.self.items c.push-then-is_sign.new.self.items c.args.ty c.args.level _ c.args.count _ c.in_ok-push.ensures.items c.in_ok-push-2.ensures.items (omega arith) (omega arith)) refl
+    (tail_put c.args.goals.now.items c.extend_from_slice.new.self.items c.args.ty c.args.level _ c.args.count _ c.in_ok-extend_from_slice.ensures.items (omega arith) (omega arith)) refl
 
 pub returns-then-is_sign-2-clause-taken : goal.returns-then-is_sign-2-clause-taken
 returns-then-is_sign-2-clause-taken c =
