@@ -6,8 +6,8 @@ use crate::word::Cell;
 use std::alloc::{AllocError, Global};
 use std::marker::Model;
 
-/// Cells by their numbers, from 0. A cell names only cells before it. No cell is ever changed, and none
-/// is taken away but the newest, by `forget`.
+/// Cells by their numbers, from 0. A cell names only cells before it, and none is ever changed or
+/// taken away.
 #[derive(Drop)]
 pub struct DataHeap {
     cells: Vec<Cell>,
@@ -74,8 +74,8 @@ impl DataHeap {
         number
     }
 
-    /// Takes the cells from this number on away. Takes no memory.
-    pub fn forget(&mut self, from: u32)
+    /// Undoes the adding of the cells from this number on. Takes no memory.
+    pub(crate) fn forget(&mut self, from: u32)
         requires { from ≤ length self.old.cells }
         ensures cells { self.new.cells ≡ take from self.old.cells }
         ensures spare { self.new.spare ≡ self.old.spare }

@@ -1,9 +1,0 @@
-pub mod Spelling
-pub mod Lexing
-pub mod Reading
-pub mod Printing
-pub mod Pieces
-pub mod Goals
-pub mod Tokens
-pub mod State
-pub mod Ends
