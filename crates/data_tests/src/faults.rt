@@ -7,12 +7,7 @@ use std::process::Abort;
 use std::test::Fail;
 
 // Data of types, by words, whose first token that cannot stand is at a place.
-fn refused(
-    rt: &impl Abort,
-    alloc: Global,
-    types: &str,
-    table: &[(&str, u32)],
-) -> Result<(), Fail> {
+fn refused(rt: &impl Abort, alloc: Global, types: &str, table: &[(&str, u32)]) -> Result<(), Fail> {
     let types = types_of(alloc, types)?;
     for (data, at) in table {
         let found = shown(alloc, &types, data.as_bytes())?;

@@ -1,9 +1,11 @@
-//! Tests of the texts of values. They stand in a crate of their own, so that the crate that they test is
-//! proved once.
+//! Tests of words, cells and the texts of values. They stand in a crate of their own, so that the crate
+//! that they test is proved once.
 #![tactic(auto)]
 
 #[cfg(test)]
 mod faults;
+#[cfg(test)]
+mod heaps;
 #[cfg(test)]
 mod limits;
 #[cfg(test)]

@@ -7,6 +7,7 @@ use std::test::Fail;
 
 // A form inside itself: what stands before its part, and behind it. The word makes the form's type of
 // that of its part.
+#[derive(Clone, Copy)]
 struct Nested<'a> {
     front: &'a str,
     inmost: &'a str,
@@ -51,13 +52,69 @@ fn compare_limit(
 #[test]
 fn the_highest_values(rt: HostRuntime) -> Result<(), Fail> {
     let table = [
-        ("[", "", "]", "int ", "list ", 400, "TooDeep { at: Pos(400) }"),
-        ("[", "5", "]", "int ", "list ", 399, "TooDeep { at: Pos(400) }"),
-        ("some(", "5", ")", "int ", "option ", 399, "TooDeep { at: Pos(1995) }"),
-        ("some(", "none", ")", "int option ", "option ", 399, "TooDeep { at: Pos(1995) }"),
-        ("node(0, ", "leaf", ", leaf)", "int tree ", "", 399, "TooDeep { at: Pos(3192) }"),
-        ("node(0, leaf, ", "leaf", ")", "int tree ", "", 399, "TooDeep { at: Pos(5586) }"),
-        ("(", "0", ", 0)", "int ", "int pair ", 399, "TooDeep { at: Pos(0) }"),
+        (
+            "[",
+            "",
+            "]",
+            "int ",
+            "list ",
+            400,
+            "TooDeep { at: Pos(400) }",
+        ),
+        (
+            "[",
+            "5",
+            "]",
+            "int ",
+            "list ",
+            399,
+            "TooDeep { at: Pos(400) }",
+        ),
+        (
+            "some(",
+            "5",
+            ")",
+            "int ",
+            "option ",
+            399,
+            "TooDeep { at: Pos(1995) }",
+        ),
+        (
+            "some(",
+            "none",
+            ")",
+            "int option ",
+            "option ",
+            399,
+            "TooDeep { at: Pos(1995) }",
+        ),
+        (
+            "node(0, ",
+            "leaf",
+            ", leaf)",
+            "int tree ",
+            "",
+            399,
+            "TooDeep { at: Pos(3192) }",
+        ),
+        (
+            "node(0, leaf, ",
+            "leaf",
+            ")",
+            "int tree ",
+            "",
+            399,
+            "TooDeep { at: Pos(5586) }",
+        ),
+        (
+            "(",
+            "0",
+            ", 0)",
+            "int ",
+            "int pair ",
+            399,
+            "TooDeep { at: Pos(0) }",
+        ),
     ];
     for (front, inmost, back, inmost_type, word, depth, fault) in table {
         let nested = Nested {

@@ -4,14 +4,20 @@ ghost use Rattle.raml_syntax.specs.Read.{ty_of};
 ghost use Rattle.value_text.specs.Printing.{StandsForSome};
 
 use crate::types::types_of;
-use value_text::{DataHeap, PrintFault, Word, print, read_args};
 use raml_syntax::Ty;
 use std::alloc::Global;
 use std::fmt::Write;
 use std::process::Abort;
 use std::test::Fail;
+use value_text::{DataHeap, PrintFault, Word, print, read_args};
 
-fn push_printed(out: &mut String, alloc: Global, heap: &DataHeap, word: Word, ty: &Ty) -> Result<(), Fail>
+fn push_printed(
+    out: &mut String,
+    alloc: Global,
+    heap: &DataHeap,
+    word: Word,
+    ty: &Ty,
+) -> Result<(), Fail>
     requires { StandsForSome heap.now.cells word (ty_of ty.now) }
 {
     match print(alloc, heap, word, ty) {

@@ -29,15 +29,27 @@ fn pairs_and_lists(rt: HostRuntime) -> Result<(), Fail> {
         rt.alloc(),
         &[
             ("int bool pair", "(1,true)", "(1, true)"),
-            ("int int bool pair pair", "( 1 ,(2 , false) )", "(1, (2, false))"),
+            (
+                "int int bool pair pair",
+                "( 1 ,(2 , false) )",
+                "(1, (2, false))",
+            ),
             ("int bool pair int pair", "((1,true),2)", "((1, true), 2)"),
             ("int list", "[]", "[]"),
             ("int list", "[ ]", "[]"),
             ("int list", "[1,-2 ,3]", "[1, -2, 3]"),
             ("bool list", "[true, false]", "[true, false]"),
             ("int list list", "[[1],[],[2,3]]", "[[1], [], [2, 3]]"),
-            ("int int int pair pair list", "[(1, (2, 3)), (1, (2, 4))]", "[(1, (2, 3)), (1, (2, 4))]"),
-            ("int int list int list pair pair", "(1, ([2, 3], []))", "(1, ([2, 3], []))"),
+            (
+                "int int int pair pair list",
+                "[(1, (2, 3)), (1, (2, 4))]",
+                "[(1, (2, 3)), (1, (2, 4))]",
+            ),
+            (
+                "int int list int list pair pair",
+                "(1, ([2, 3], []))",
+                "(1, ([2, 3], []))",
+            ),
         ],
     )
 }
@@ -49,9 +61,21 @@ fn trees_and_options(rt: HostRuntime) -> Result<(), Fail> {
         rt.alloc(),
         &[
             ("int tree", "leaf", "leaf"),
-            ("int tree", "node(1,leaf,node(2,leaf,leaf))", "node(1, leaf, node(2, leaf, leaf))"),
-            ("int tree", "node ( 1 , node(0,leaf,leaf) , leaf )", "node(1, node(0, leaf, leaf), leaf)"),
-            ("int list tree", "node([1, 2], leaf, leaf)", "node([1, 2], leaf, leaf)"),
+            (
+                "int tree",
+                "node(1,leaf,node(2,leaf,leaf))",
+                "node(1, leaf, node(2, leaf, leaf))",
+            ),
+            (
+                "int tree",
+                "node ( 1 , node(0,leaf,leaf) , leaf )",
+                "node(1, node(0, leaf, leaf), leaf)",
+            ),
+            (
+                "int list tree",
+                "node([1, 2], leaf, leaf)",
+                "node([1, 2], leaf, leaf)",
+            ),
             ("int option", "none", "none"),
             ("int option", "some(3)", "some(3)"),
             ("int option", "some ( -3 )", "some(-3)"),
@@ -59,7 +83,11 @@ fn trees_and_options(rt: HostRuntime) -> Result<(), Fail> {
             ("int option list", "[some(10),none]", "[some(10), none]"),
             ("int list option", "some([])", "some([])"),
             ("int tree option", "some(leaf)", "some(leaf)"),
-            ("int bool pair option tree", "node(some((1,true)),leaf,leaf)", "node(some((1, true)), leaf, leaf)"),
+            (
+                "int bool pair option tree",
+                "node(some((1,true)),leaf,leaf)",
+                "node(some((1, true)), leaf, leaf)",
+            ),
         ],
     )
 }
@@ -71,13 +99,29 @@ fn several_arguments(rt: HostRuntime) -> Result<(), Fail> {
         rt.alloc(),
         &[
             ("int int", "(1, 2)", "1; 2"),
-            ("int int int pair list", "(2, [(1, 10), (2, 20)])", "2; [(1, 10), (2, 20)]"),
-            ("int int tree", "(7, node(2, leaf, leaf))", "7; node(2, leaf, leaf)"),
+            (
+                "int int int pair list",
+                "(2, [(1, 10), (2, 20)])",
+                "2; [(1, 10), (2, 20)]",
+            ),
+            (
+                "int int tree",
+                "(7, node(2, leaf, leaf))",
+                "7; node(2, leaf, leaf)",
+            ),
             ("int list int tree", "([2, 1, 3], leaf)", "[2, 1, 3]; leaf"),
             ("int option int", "(none, 5)", "none; 5"),
-            ("int int pair int option", " ( (16,2) , some(8) ) ", "(16, 2); some(8)"),
+            (
+                "int int pair int option",
+                " ( (16,2) , some(8) ) ",
+                "(16, 2); some(8)",
+            ),
             ("int int list int", "(7,[0],3)", "3 words"),
-            ("int int int int int int int int", "(1,2,3,4,5,6,7,8)", "8 words"),
+            (
+                "int int int int int int int int",
+                "(1,2,3,4,5,6,7,8)",
+                "8 words",
+            ),
         ],
     )
 }

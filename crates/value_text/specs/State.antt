@@ -136,7 +136,9 @@ pub record IsItem (A : Type') (s : Text) (word : Word) (s' : Text) : Type 0 wher
 pub record AreItems (A : Type') (n : ℕ) (vs : List Value) (s : Text) (vs' : List Value) (s' : Text) : Type 0 where
   pub taken : List Placed
   pub split : placed s ≡ taken ++ placed s'
-  pub moves : (l m : ℕ) (gs : List Goal) → suc (suc l) ≤ most_height → Moves (Tail A l m ∷ gs) vs (kinds taken) (Tail A l (m + n) ∷ gs) vs'
+  pub moves :
+      (l m : ℕ) (gs : List Goal) → suc (suc l) ≤ most_height
+      → Moves (Tail A l m ∷ gs) vs (kinds taken) (Tail A l (m + n) ∷ gs) vs'
   pub same : sizes vs' ≡ sizes vs
   pub less : length s' + 2 * n ≤ length s
 

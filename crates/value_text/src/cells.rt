@@ -6,9 +6,9 @@ ghost use Rattle.value_text.specs.Held.{Held, held, held_of, value_held, value_o
 ghost use Rattle.value_text.specs.Goals.{top, below, paired, noded, justed, joined};
 ghost use Rattle.value_text.specs.State.{values_in, values_of, AllBelow, Grows};
 
-use std::alloc::AllocError;
 use crate::heap::DataHeap;
 use crate::word::{Cell, Word};
+use std::alloc::AllocError;
 
 // The word that was put down last; by default that of nothing.
 #[tactic(auto, using(crate::proofs::States::values_snoc, crate::proofs::States::below_front))]

@@ -8,9 +8,9 @@ ghost use Rattle.value_text.specs.State.{is_found, pair_goals, node_goals, conte
 
 use crate::sign::Sign;
 use crate::token::Token;
+use crate::word::Word;
 use raml_syntax::Ty;
 use std::alloc::AllocError;
-use crate::word::Word;
 
 /// The greatest height of a value.
 pub const MOST_HEIGHT: u32 = 400;

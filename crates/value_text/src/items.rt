@@ -7,9 +7,9 @@ ghost use Rattle.value_text.specs.State.{values_in, AllBelow, scalar_word, IsIte
 
 use crate::sign::Sign;
 use crate::token::{Token, next};
+use crate::word::Word;
 use raml_syntax::Ty;
 use std::alloc::AllocError;
-use crate::word::Word;
 
 // The word of an integer or a truth of the type.
 fn scalar(ty: &Ty, token: Token) -> Option<Word>

@@ -13,12 +13,12 @@ ghost use Rattle.value_text.specs.Pieces.{IsFine, Plain, pair_pieces, item_piece
 ghost use Rattle.value_text.specs.declared.printing.Piece.TheVariants as p;
 ghost use Rattle.value_text.specs.declared.printing.PrintFault.TheVariants as f;
 
+use crate::heap::DataHeap;
 use crate::sign::Sign;
+use crate::word::{Cell, Word};
 use itoa::Buffer;
 use raml_syntax::Ty;
 use std::alloc::{AllocError, AllocFailed, Global};
-use crate::heap::DataHeap;
-use crate::word::{Cell, Word};
 
 /// The longest text that is printed, in bytes.
 const MOST_TEXT: usize = 16777216;
@@ -241,7 +241,8 @@ fn print_tail<'a>(
     element: &'a Ty,
 ) -> Result<(), AllocError>
     requires fine { IsFine heap.now.cells (p.Tail word element) }
-    ensures { OnOk result (Prints heap.now.cells (p.Tail word element.entry) (string_bytes text.old) (string_bytes text.new) pieces.old.items pieces.new.items) }
+    ensures { OnOk result (Prints heap.now.cells (p.Tail word element.entry)
+        (string_bytes text.old) (string_bytes text.new) pieces.old.items pieces.new.items) }
 {
     match word {
         Word::Empty => text.push_str("]"),
@@ -263,7 +264,8 @@ fn print_cell<'a>(
     ty: &'a Ty,
 ) -> Result<(), AllocError>
     requires fine { IsFine heap.now.cells (p.Value (w.Cell number) ty) }
-    ensures { OnOk result (Prints heap.now.cells (p.Value (w.Cell number) ty.entry) (string_bytes text.old) (string_bytes text.new) pieces.old.items pieces.new.items) }
+    ensures { OnOk result (Prints heap.now.cells (p.Value (w.Cell number) ty.entry)
+        (string_bytes text.old) (string_bytes text.new) pieces.old.items pieces.new.items) }
 {
     match ty {
         Ty::List(element) => {
@@ -295,7 +297,8 @@ fn print_piece<'a>(
     piece: Piece<'a>,
 ) -> Result<(), AllocError>
     requires fine { IsFine heap.now.cells piece }
-    ensures { OnOk result (Prints heap.now.cells piece.entry (string_bytes text.old) (string_bytes text.new) pieces.old.items pieces.new.items) }
+    ensures { OnOk result (Prints heap.now.cells piece.entry
+        (string_bytes text.old) (string_bytes text.new) pieces.old.items pieces.new.items) }
 {
     match piece {
         Piece::Sign(sign) => text.push_str(sign_text(sign)),

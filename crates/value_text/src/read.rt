@@ -9,13 +9,13 @@ ghost use Rattle.value_text.specs.Reading.{AreRead, FirstFault, HasOneAnswer};
 
 use crate::fault::{DataFault, Kind, Stop};
 use crate::goal::{Goal, MOST_HEIGHT, fits, starts};
+use crate::heap::DataHeap;
 use crate::sign::Sign;
 use crate::taking::turn;
 use crate::token::{Token, next};
+use crate::word::Word;
 use raml_syntax::{Pos, Ty};
 use std::alloc::{AllocError, Global};
-use crate::heap::DataHeap;
-use crate::word::Word;
 
 // Puts down what is to be read at the start.
 fn begin<'a>(goals: &mut Vec<Goal<'a>>, types: &'a [Ty]) -> Result<(), AllocError>

@@ -13,13 +13,13 @@ ghost use Rattle.value_text.specs.declared.goal.Verdict.TheVariants as a;
 use crate::cells::{join, make_just, make_node, make_pair};
 use crate::fault::{Kind, Stop};
 use crate::goal::{Goal, Verdict, judge, push_goals, push_value};
+use crate::heap::DataHeap;
 use crate::items::take_items;
 use crate::sign::Sign;
 use crate::token::{Token, next};
+use crate::word::Word;
 use raml_syntax::Ty;
 use std::alloc::AllocError;
-use crate::heap::DataHeap;
-use crate::word::Word;
 
 // Takes the first token of a value. Where it is known that some value of the type is low enough, the
 // type is not looked at again.

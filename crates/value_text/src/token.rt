@@ -1,11 +1,10 @@
 // The tokens of data.
-ghost use Rattle.std.specs.Prelude.{◌≡◌, ◌≢◌, MatchBool, ◌≤◌, ◌<◌, ◌∷◌, []};
-ghost use Rattle.std.specs.Prelude.{ℕ, MatchOption, true, length, take, drop, pos, neg_ℤ};
+ghost use Rattle.std.specs.Prelude.{◌≡◌, ◌≢◌, ◌≤◌, ◌∷◌, [], ℕ, MatchBool, MatchOption, true, length, take, drop};
 ghost use Rattle.std.specs.List.{prefix_len, AllPass};
-ghost use Rattle.raml_lex.specs.Lexemes.{is_space, is_digit, is_lower, is_name_part, number_value};
+ghost use Rattle.raml_lex.specs.Lexemes.{is_digit, is_name_part, number_value};
 ghost use Rattle.value_text.specs.Spelling.{Key};
 ghost use Rattle.value_text.specs.Lexing.{placed, begun_by, word_token, symbol_token, number_token, minus_token, minus_by};
-ghost use Rattle.value_text.specs.Tokens.{token_of, IsSolid, IsNext};
+ghost use Rattle.value_text.specs.Tokens.{token_of, IsMagnitude, IsSolid, IsNext};
 
 use crate::sign::Sign;
 
@@ -19,6 +18,9 @@ pub enum Token {
     Other,
 }
 
+/// The magnitude of the least integer.
+const MOST_MAGNITUDE: u128 = 9223372036854775808;
+
 impl Token {
     /// Whether the token is this sign.
     pub fn is_sign(self, sign: Sign) -> bool
@@ -31,36 +33,12 @@ impl Token {
     }
 }
 
-fn is_space(byte: u8) -> bool
-    ensures { result ≡ is_space byte }
-{
-    matches!(byte, b' ' | b'\t' | b'\n' | b'\r')
-}
-
-fn is_lower(byte: u8) -> bool
-    ensures { result ≡ is_lower byte }
-{
-    matches!(byte, b'a'..=b'z')
-}
-
-fn is_digit(byte: u8) -> bool
-    ensures { result ≡ is_digit byte }
-{
-    matches!(byte, b'0'..=b'9')
-}
-
-fn is_name_part(byte: u8) -> bool
-    ensures { result ≡ is_name_part byte }
-{
-    matches!(byte, b'a'..=b'z' | b'A'..=b'Z' | b'0'..=b'9' | b'_' | b'\'')
-}
-
 // How many bytes at the front may stand in a name.
 fn name_len(text: &[u8]) -> usize
     ensures { (result ≡ prefix_len is_name_part text.now) × (result ≤ length text.now) }
 {
     text.iter()
-        .position(|byte| !is_name_part(*byte))
+        .position(|byte| !matches!(byte, b'a'..=b'z' | b'A'..=b'Z' | b'0'..=b'9' | b'_' | b'\''))
         .unwrap_or(text.len())
 }
 
@@ -69,7 +47,7 @@ fn digits_len(text: &[u8]) -> usize
     ensures { (result ≡ prefix_len is_digit text.now) × (result ≤ length text.now) }
 {
     text.iter()
-        .position(|byte| !is_digit(*byte))
+        .position(|byte| !byte.is_ascii_digit())
         .unwrap_or(text.len())
 }
 
@@ -81,7 +59,7 @@ fn skip(text: &[u8]) -> &[u8]
 {
     let mut rest = text;
     while let [first, tail @ ..] = rest {
-        if !is_space(*first) {
+        if !matches!(first, b' ' | b'\t' | b'\n' | b'\r') {
             return rest;
         }
         rest = tail;
@@ -92,12 +70,12 @@ fn skip(text: &[u8]) -> &[u8]
 // The value of digits, if it is at most 9223372036854775808.
 fn digits_value(digits: &[u8]) -> Option<u128>
     requires { AllPass is_digit digits.now }
-    ensures { MatchOption result (9223372036854775808 < number_value digits.now) (λ n. (n ≡ number_value digits.now) × (n ≤ 9223372036854775808)) }
+    ensures { IsMagnitude (number_value digits.now) result }
 {
     let mut value: u128 = 0;
     for digit in digits {
         value = value * 10 + u128::from(digit - b'0');
-        if value > 9223372036854775808 {
+        if value > MOST_MAGNITUDE {
             return None;
         }
     }
@@ -134,7 +112,8 @@ fn symbol_token(byte: u8) -> Token
 // The token that begins with a small letter, and the text behind it.
 fn word<'a>(text: &'a [u8], rest: &'a [u8]) -> (Token, &'a [u8])
     requires { (c : ℕ) × (text.now ≡ c ∷ rest.now) }
-    ensures token { (c : ℕ) → text.now ≡ c ∷ rest.now → token_of result.0 ≡ word_token (c ∷ take (prefix_len is_name_part rest.now) rest.now) }
+    ensures token { (c : ℕ) → text.now ≡ c ∷ rest.now →
+        token_of result.0 ≡ word_token (c ∷ take (prefix_len is_name_part rest.now) rest.now) }
     ensures rest { result.1.now ≡ drop (prefix_len is_name_part rest.now) rest.now }
 {
     let behind = &rest[name_len(rest)..];
@@ -142,10 +121,10 @@ fn word<'a>(text: &'a [u8], rest: &'a [u8]) -> (Token, &'a [u8])
 }
 
 fn positive(value: Option<u128>) -> Token
-    ensures { (n : ℕ) → MatchOption value (9223372036854775808 < n) (λ v. (v ≡ n) × (v ≤ 9223372036854775808)) → token_of result ≡ number_token n }
+    ensures { (n : ℕ) → IsMagnitude n value → token_of result ≡ number_token n }
 {
     match value {
-        Some(n) => if n < 9223372036854775808 {
+        Some(n) => if n < MOST_MAGNITUDE {
             Token::Number(n as i64)
         } else {
             Token::Other
@@ -155,12 +134,12 @@ fn positive(value: Option<u128>) -> Token
 }
 
 fn negative(value: Option<u128>) -> Token
-    ensures { (n : ℕ) → MatchOption value (9223372036854775808 < n) (λ v. (v ≡ n) × (v ≤ 9223372036854775808)) → token_of result ≡ minus_token n }
+    ensures { (n : ℕ) → IsMagnitude n value → token_of result ≡ minus_token n }
 {
     match value {
-        Some(n) => if n < 9223372036854775808 {
+        Some(n) => if n < MOST_MAGNITUDE {
             Token::Number(-(n as i64))
-        } else if n == 9223372036854775808 {
+        } else if n == MOST_MAGNITUDE {
             Token::Number(i64::MIN)
         } else {
             Token::Other
@@ -172,7 +151,8 @@ fn negative(value: Option<u128>) -> Token
 // The token that begins with a digit.
 fn number<'a>(text: &'a [u8], rest: &'a [u8]) -> (Token, &'a [u8])
     requires { (c : ℕ) × (text.now ≡ c ∷ rest.now) × (is_digit c ≡ true) }
-    ensures token { (c : ℕ) → text.now ≡ c ∷ rest.now → token_of result.0 ≡ number_token (number_value (c ∷ take (prefix_len is_digit rest.now) rest.now)) }
+    ensures token { (c : ℕ) → text.now ≡ c ∷ rest.now →
+        token_of result.0 ≡ number_token (number_value (c ∷ take (prefix_len is_digit rest.now) rest.now)) }
     ensures rest { result.1.now ≡ drop (prefix_len is_digit rest.now) rest.now }
 {
     let behind = &rest[digits_len(rest)..];
@@ -200,14 +180,11 @@ fn first_token<'a>(text: &'a [u8], first: u8, rest: &'a [u8]) -> (Token, &'a [u8
     ensures token { token_of result.0 ≡ (begun_by first rest.now).0 }
     ensures rest { result.1.now ≡ drop (begun_by first rest.now).1 rest.now }
 {
-    if is_lower(first) {
-        word(text, rest)
-    } else if is_digit(first) {
-        number(text, rest)
-    } else if first == b'-' {
-        minus(rest)
-    } else {
-        (symbol_token(first), rest)
+    match first {
+        b'a'..=b'z' => word(text, rest),
+        b'0'..=b'9' => number(text, rest),
+        b'-' => minus(rest),
+        _ => (symbol_token(first), rest),
     }
 }
 
