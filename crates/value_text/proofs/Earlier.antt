@@ -1,5 +1,5 @@
 -- Cells that name only earlier cells.
-use Rattle.std.proofs.Common.{◌≡◌, ℕ, zero, suc, ◌+◌, ◌≤◌, List, [], ◌∷◌, ◌++◌, length, Some, sym, subst, arith}
+use Rattle.std.proofs.Common.{◌≡◌, ℕ, zero, suc, ◌+◌, ◌≤◌, List, [], ◌∷◌, ◌++◌, length, take, Some, sym, subst, arith}
 use Rattle.std.specs.Prelude.{slice_get}
 use Rattle.value_text.specs.declared.word.Word.{Word}
 use Rattle.value_text.specs.declared.word.Word.TheVariants.{Int, Bool, Empty, Cell}
@@ -44,3 +44,12 @@ earlier_at n (x ∷ cells) (suc i) cell h is =
 -- a cell of the list names only cells before it
 pub names_earlier : (cells : List c.Cell) (i : ℕ) (cell : c.Cell) → NameEarlier cells → slice_get cells i ≡ Some cell → NamesBelow i cell
 names_earlier cells i cell h is = let same : 0 + i ≡ i = omega arith in subst (λ k. NamesBelow k cell) same (earlier_at 0 cells i cell h is)
+
+earlier_take : (n k : ℕ) (cells : List c.Cell) → NameEarlierFrom n cells → NameEarlierFrom n (take k cells)
+earlier_take n zero cells h = tt
+earlier_take n (suc k) [] h = tt
+earlier_take n (suc k) (x ∷ cells) h = (h.0, earlier_take (n + 1) k cells h.1)
+
+-- the first cells alone
+pub earlier_front : (cells new : List c.Cell) (k : ℕ) → new ≡ take k cells → NameEarlier cells → NameEarlier new
+earlier_front cells new k e h = subst NameEarlier (sym e) (earlier_take 0 k cells h)

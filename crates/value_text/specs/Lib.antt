@@ -2,3 +2,12 @@ pub mod Heap
 pub mod Stands
 pub mod Held
 pub mod Laws
+pub mod Spelling
+pub mod Lexing
+pub mod Reading
+pub mod Printing
+pub mod Pieces
+pub mod Goals
+pub mod Tokens
+pub mod State
+pub mod Ends

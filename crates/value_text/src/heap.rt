@@ -1,5 +1,5 @@
 // The heap of cells.
-ghost use Rattle.std.specs.Prelude.{◌≡◌, ◌<◌, ◌≤◌, ◌+◌, ◌^◌, [], ◌∷◌, ◌++◌, length, slice_get, Some, OnOk};
+ghost use Rattle.std.specs.Prelude.{◌≡◌, ◌<◌, ◌≤◌, ◌+◌, ◌^◌, [], ◌∷◌, ◌++◌, length, take, slice_get, Some, OnOk};
 ghost use Rattle.value_text.specs.Heap.{NamesBelow, NameEarlier};
 
 use crate::word::Cell;
@@ -72,6 +72,15 @@ impl DataHeap {
         self.cells.push(cell).unwrap();
         self.spare -= 1;
         number
+    }
+
+    /// Undoes the adding of the cells from this number on. Takes no memory.
+    pub(crate) fn forget(&mut self, from: u32)
+        requires { from ≤ length self.old.cells }
+        ensures cells { self.new.cells ≡ take from self.old.cells }
+        ensures spare { self.new.spare ≡ self.old.spare }
+    {
+        self.cells.truncate(from as usize);
     }
 
     /// The cell of a number.

@@ -1,7 +1,7 @@
 // A heap, and how large cells are.
-use super::*;
 use std::mem::size_of;
 use std::test::Fail;
+use value_text::{Cell, DataHeap, Word};
 
 #[test]
 fn cells_of_a_list(rt: HostRuntime) -> Result<(), Fail> {
