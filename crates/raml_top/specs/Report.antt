@@ -1,7 +1,9 @@
 -- The texts that are printed.
-use Rattle.std.specs.Prelude.{ℕ, nat_le, cond, length, List, [], ◌∷◌, ◌++◌, Option, Some, None, codes, decimal}
-use Rattle.raml_syntax.specs.Tree.{Text, Type', Function, Prog}
+use Rattle.std.specs.Prelude.{ℕ, nat_le, cond, length, List, [], ◌∷◌, ◌++◌, map, Option, Some, None, codes, decimal}
+use Rattle.raml_syntax.specs.Tree.{Text, Type', Parameter, Function, Prog}
 use Rattle.raml_syntax.specs.Types.{types_of}
+use Rattle.raml_syntax.specs.Read.{parameter_of}
+use Rattle.raml_syntax.specs.declared.program.Param.{Param}
 use Rattle.raml_lex.specs.declared.token.LexFault.TheVariants as l
 use Rattle.raml_parse.specs.declared.fault.ParseFault.{ParseFault}
 use Rattle.raml_parse.specs.declared.fault.ParseFault.TheVariants as p
@@ -26,6 +28,10 @@ bound_line name meter bound = name ++ codes " " ++ meter ++ codes " <= " ++ deci
 -- the lines of a function
 abbrev pub bound_lines : Text → ℕ → ℕ → Text
 bound_lines name ticks cells = bound_line name (codes "ticks") ticks ++ bound_line name (codes "cells") cells
+
+-- the types of parameters
+abbrev pub types_in : List Param → List Type'
+types_in params = map (λ (p : Parameter). p.type) (map parameter_of params)
 
 -- the types, with commas between
 abbrev pub types_behind : List Type' → Text

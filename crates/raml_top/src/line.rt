@@ -4,13 +4,13 @@ ghost use Rattle.simple_types.specs.Read.{fault_of};
 ghost use Rattle.raml_top.specs.Report.{line_of, source_line, data_line, placed, parse_text, data_text, fault_text, IsPlain};
 
 use crate::status::{SourceFault, Status, Which};
-use value_text::DataFault;
 use itoa::Buffer;
 use raml_lex::LexFault;
 use raml_parse::ParseFault;
 use raml_syntax::Pos;
 use simple_types::{TypeFault, push_shape};
 use std::alloc::{AllocError, Global};
+use value_text::DataFault;
 
 /// The line of a status whose words are the same each time, with its line feed; empty where a report
 /// was written.

@@ -1,7 +1,6 @@
 // The printed text of a report.
 ghost use Rattle.std.specs.Prelude.{◌≡◌, ◌≤◌, ◌++◌, codes, map, IfOk, IfErr, OnOk, string_bytes};
 ghost use Rattle.raml_syntax.specs.Read.{parameter_of, function_of, program_of};
-ghost use Rattle.simple_types.specs.Read.{types_in};
 ghost use Rattle.raml_syntax.specs.Read.{ty_of};
 ghost use Rattle.raml_syntax.specs.Value.{Value};
 ghost use Rattle.value_text.specs.Stands.{StandsFor};
@@ -11,18 +10,17 @@ ghost use Rattle.raml_syntax.specs.Node.{program_nodes};
 ghost use Rattle.stack_compile.specs.Text.{code_text};
 ghost use Rattle.metered_vm.specs.Seen.{state_in};
 ghost use Rattle.raml_top.specs.Fragment.{most_bytes};
-ghost use Rattle.raml_top.specs.Report.{bound_line, bound_lines, types_behind, types_text, type_line, type_lines, meter_line, meter_lines, value_line, value_lines, stopped_lines, full_lines};
+ghost use Rattle.raml_top.specs.Report.{bound_line, bound_lines, types_in, types_behind, types_text, type_line, type_lines, meter_line, meter_lines, value_line, value_lines, stopped_lines, full_lines};
 ghost use Rattle.raml_top.specs.declared.status.Status.TheVariants.{Done, Stopped, HeapFull, NoMemory};
 
 use crate::status::Status;
 use itoa::Buffer;
-use value_text::{PrintFault, print};
 use metered_vm::Vm;
 use raml_syntax::{Fun, Param, Program, Ty};
 use simple_types::{Typed, push_type};
 use stack_compile::compile;
 use std::alloc::{AllocError, Global};
-use value_text::{DataHeap, Word};
+use value_text::{DataHeap, PrintFault, Word, print};
 
 /// A report, and how the call ends that writes it.
 #[derive(Drop)]

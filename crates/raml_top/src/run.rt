@@ -1,19 +1,19 @@
 // Runs of a program on the machine.
 ghost use Rattle.std.specs.Prelude.{◌≡◌, ◌≤◌, ◌<◌, ◌^◌, map, IfOk, IfErr, length, string_bytes};
-ghost use Rattle.raml_syntax.specs.Tree.{Text};
+ghost use Rattle.std.specs.List.{All};
+ghost use Rattle.raml_syntax.specs.Tree.{Text, Function};
 ghost use Rattle.raml_syntax.specs.Node.{program_nodes};
 ghost use Rattle.raml_syntax.specs.Read.{ty_of, program_of};
-ghost use Rattle.simple_types.specs.Read.{types_in};
 ghost use Rattle.raml_words.specs.Asked.{limits_of};
 ghost use Rattle.raml_top.specs.Fragment.{most_bytes};
 ghost use Rattle.raml_top.specs.Promise.{counts};
+ghost use Rattle.raml_top.specs.Report.{types_in};
 ghost use Rattle.raml_top.specs.Steps.{CanRun, RanOn, RunReported, RunAnswered};
 ghost use Rattle.raml_top.specs.declared.status.Status.TheVariants.{NoMemory};
 
 use crate::file::read_file;
 use crate::report::{Report, full_report, stopped_report, value_report};
 use crate::status::{Status, Which};
-use value_text::read_args;
 use metered_vm::{End, Vm};
 use raml_io::Store;
 use raml_syntax::{FunId, Param, Ty};
@@ -21,7 +21,7 @@ use raml_words::Limits;
 use simple_types::Typed;
 use stack_compile::compile;
 use std::alloc::{AllocError, Global};
-use value_text::{DataHeap, Word};
+use value_text::{DataHeap, Word, read_args};
 
 /// The limit of data, in bytes.
 const MOST_BYTES: u64 = 4_194_304;
@@ -42,6 +42,7 @@ pub fn run<S: Store>(
     call: Call<'_>,
 ) -> Result<Report, Status>
     requires few_nodes { program_nodes (program_of typed.now) ≤ most_bytes }
+    requires parameters { All (λ (g : Function). 1 ≤ length g.params) (program_of typed.now) }
     requires steps { call.limits.steps ≤ 1000000000 }
     requires cells { call.limits.cells ≤ 16777216 }
     ensures ok { IfOk result (λ report. RunReported (S.holds store.old) call.entry.name.now call.entry.«data».now (limits_of call.entry.limits) report.status (string_bytes report.text) (program_of typed.now)) }
@@ -85,7 +86,7 @@ fn execute(
     requires cells { limits.cells ≤ 16777216 }
     requires few_cells { length heap.cells < 2 ^ 31 }
     requires can { CanRun (program_of typed.now) place.0 heap.cells args.items }
-    ensures ok { IfOk result (λ report. RanOn (program_of typed.now) place.0 heap.entry.cells args.entry.items (limits_of limits.entry) report.status (string_bytes report.text)) }
+    ensures ok { IfOk result (λ report. RanOn (program_of typed.now) place.0 heap.cells args.items (limits_of limits) report.status (string_bytes report.text)) }
     ensures err { IfErr result (λ status. status ≡ NoMemory) }
 {
     let fun = &typed.program().funs[place.0 as usize];

@@ -4,10 +4,10 @@ ghost use Rattle.raml_top.specs.Report.{code_of};
 ghost use Rattle.raml_top.specs.Promise.{parse_refusal, type_refusal, data_refusal};
 ghost use Rattle.raml_top.specs.declared.status.Status.TheVariants.{NoMemory};
 
-use value_text::DataFault;
 use raml_parse::ParseFault;
 use simple_types::TypeFault;
 use std::alloc::AllocError;
+use value_text::DataFault;
 
 /// A file that a call reads.
 #[derive(Clone, Copy, Debug, PartialEq, Eq)]

@@ -1,6 +1,7 @@
 // The top call.
 ghost use Rattle.std.specs.Prelude.{◌≡◌, ◌≤◌, ℕ, List, length, string_bytes, IfOk, IfErr};
-ghost use Rattle.raml_syntax.specs.Tree.{Text};
+ghost use Rattle.std.specs.List.{All};
+ghost use Rattle.raml_syntax.specs.Tree.{Text, Function};
 ghost use Rattle.raml_syntax.specs.Node.{WithinLimits, program_nodes};
 ghost use Rattle.raml_syntax.specs.Read.{program_of};
 ghost use Rattle.raml_words.specs.Words.{texts};
@@ -82,7 +83,7 @@ fn tell<E: Sink>(alloc: Global, err: &mut E, status: Status) -> Status
 fn tell_made<E: Sink>(err: &mut E, line: Result<String, AllocError>, status: Status) -> Status
     requires made { IsMade status }
     requires line { IfOk line (λ line. string_bytes line ≡ line_of status) }
-    ensures status { EndsAs status.entry result }
+    ensures status { EndsAs status result }
     ensures told { ErrGains result (record { before = E.faults err.old; after = E.faults err.new }) (E.written err.old) (E.written err.new) }
     ensures later { E.faults err.old ≤ E.faults err.new }
 {
@@ -159,6 +160,7 @@ fn typed_program(alloc: Global, source: &[u8]) -> Result<Typed, Status>
     ensures ok { IfOk result (λ typed. IsTyped source.now (program_of typed)) }
     ensures limits { IfOk result (λ typed. WithinLimits (program_of typed)) }
     ensures few_nodes { IfOk result (λ typed. program_nodes (program_of typed) ≤ most_bytes) }
+    ensures parameters { IfOk result (λ typed. All (λ (g : Function). 1 ≤ length g.params) (program_of typed)) }
     ensures err { IfErr result (TypedRefused source.now) }
 {
     let program = parse(alloc, source)?;
@@ -174,6 +176,7 @@ fn report_on_program<S: Store>(
 ) -> Result<Report, Status>
     requires limits { WithinLimits (program_of typed.now) }
     requires few_nodes { program_nodes (program_of typed.now) ≤ most_bytes }
+    requires parameters { All (λ (g : Function). 1 ≤ length g.params) (program_of typed.now) }
     requires within { IsWithin (request_of request) }
     ensures ok { IfOk result (λ report. ReportsProgram (S.holds store.old) (request_of request.entry) report.status (string_bytes report.text) (program_of typed.now)) }
     ensures err { IfErr result (λ status. ProgramAnswered (S.holds store.old) (counts (S.faults store.old) (S.faults store.new)) (request_of request.entry) status (program_of typed.now)) }

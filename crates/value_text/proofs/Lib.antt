@@ -16,6 +16,6 @@ mod Turning
 mod Whole
 mod OneData
 mod Unfit
-mod OneAnswer
+pub mod OneAnswer
 mod Pieces
 mod Elements

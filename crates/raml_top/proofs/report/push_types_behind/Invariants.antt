@@ -1,6 +1,5 @@
 use Rattle.std.proofs.Common.{◌≡◌, ◌++◌, drop, string_bytes}
-use Rattle.simple_types.specs.Read.{types_in}
-use Rattle.raml_top.specs.Report.{types_behind}
+use Rattle.raml_top.specs.Report.{types_in, types_behind}
 use Rattle.raml_top.proofs.report.push_types_behind.Given as goal
 
 abbrev pub invariant-loop-param : goal.invariant-loop-param

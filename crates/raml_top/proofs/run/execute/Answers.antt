@@ -1,33 +1,47 @@
-use Rattle.std.proofs.Common.{ap, subst}
+use Rattle.std.proofs.Common.{ap, sym, subst}
+use Rattle.raml_syntax.specs.Tree.{Function}
 use Rattle.raml_syntax.specs.Read.{program_of}
+use Rattle.metered_vm.specs.Seen.{Begins, cells_in}
 use Rattle.metered_vm.specs.Ending.{Ended}
-use Rattle.raml_top.proofs.Running.{begun, halted_word, halted_ran, stopped_ran, not_full}
+use Rattle.value_text.specs.Printing.{StandsForSome}
+use Rattle.raml_words.specs.Asked.{limits_of}
+use Rattle.raml_top.proofs.Calling.{read_at}
+use Rattle.raml_top.proofs.Running.{halted_word, halted_ran, stopped_ran, full_ran}
 use Rattle.raml_top.proofs.run.execute.Goals as goal
 
 pub value_report-requires : goal.value_report-requires
 value_report-requires c =
     let P = program_of c.args.typed.now in
-    let begins = begun P _ c.args.place.0 _ c.args.args.items 1048576 c.in_ok-vm.vm (ap program_of c.in_ok-code.ensures) c.new.ensures.cells c.in_ok-vm.ensures.begins in
-    let ended = subst (λ end. Ended c.args.steps end c.run.new.self) c.in-Halted.is c.in_ok-word.ensures.ends in
-    (halted_word P c.args.place.0 c.args.args.items c.requires.can c.args.steps c.in_ok-vm.vm c.run.new.self begins c.in_ok-word.ensures.goes c.in_ok-word.ensures.kept c.in-Halted.word ended).0
+    let k = c.args.place.0 in
+    let r = c.requires.can in
+    let begins = subst (λ Q. Begins Q k c.args.heap.cells c.args.args.items c.args.limits.cells c.in_ok-vm.vm) (ap program_of c.in_ok-code.ensures) c.in_ok-vm.ensures.begins in
+    let ended = subst (λ end. Ended c.args.limits.steps end c.run.new.self) c.in-Halted.is c.in_ok-word.ensures.ends in
+    let same = read_at c.program.result.now P k c.index-fun.result.now r.fun (ap program_of c.program.ensures.program) c.index-fun.ensures r.there in
+    subst (λ (g : Function). StandsForSome (cells_in c.run.new.self) c.in-Halted.word g.result) (sym same)
+    (halted_word P k c.args.heap.cells c.args.args.items r (limits_of c.args.limits) c.in_ok-vm.vm c.run.new.self begins c.in_ok-word.ensures.goes c.in_ok-word.ensures.kept c.in-Halted.word ended)
 
-pub returns-in-Halted : goal.returns-in-Halted
-returns-in-Halted c =
+pub returns-in-Halted-clause-ok : goal.returns-in-Halted-clause-ok
+returns-in-Halted-clause-ok c =
     let P = program_of c.args.typed.now in
-    let begins = begun P _ c.args.place.0 _ c.args.args.items 1048576 c.in_ok-vm.vm (ap program_of c.in_ok-code.ensures) c.new.ensures.cells c.in_ok-vm.ensures.begins in
-    let ended = subst (λ end. Ended c.args.steps end c.run.new.self) c.in-Halted.is c.in_ok-word.ensures.ends in
-    halted_ran P c.args.place.0 c.args.args.items c.args.steps c.in_ok-vm.vm c.run.new.self begins c.in_ok-word.ensures.goes c.in_ok-word.ensures.kept c.value_report.result c.in-Halted.word ended c.value_report.ensures.status c.value_report.ensures.text
+    let k = c.args.place.0 in
+    let begins = subst (λ Q. Begins Q k c.args.heap.cells c.args.args.items c.args.limits.cells c.in_ok-vm.vm) (ap program_of c.in_ok-code.ensures) c.in_ok-vm.ensures.begins in
+    let ended = subst (λ end. Ended c.args.limits.steps end c.run.new.self) c.in-Halted.is c.in_ok-word.ensures.ends in
+    halted_ran P k c.args.heap.cells c.args.args.items (limits_of c.args.limits) c.in_ok-vm.vm c.run.new.self begins c.in_ok-word.ensures.goes c.in_ok-word.ensures.kept c.value_report.result c.in-Halted.word _ ended
+    (λ r. ap (λ (g : Function). g.result) (read_at c.program.result.now P k c.index-fun.result.now r.fun (ap program_of c.program.ensures.program) c.index-fun.ensures r.there))
+    c.value_report.ensures.status c.value_report.ensures.text
 
-pub returns-in-Stopped : goal.returns-in-Stopped
-returns-in-Stopped c =
+pub returns-in-Stopped-clause-ok : goal.returns-in-Stopped-clause-ok
+returns-in-Stopped-clause-ok c =
     let P = program_of c.args.typed.now in
-    let begins = begun P _ c.args.place.0 _ c.args.args.items 1048576 c.in_ok-vm.vm (ap program_of c.in_ok-code.ensures) c.new.ensures.cells c.in_ok-vm.ensures.begins in
-    let ended = subst (λ end. Ended c.args.steps end c.run.new.self) c.in-Stopped.is c.in_ok-word.ensures.ends in
-    stopped_ran P c.args.place.0 c.args.args.items c.args.steps c.in_ok-vm.vm c.run.new.self begins c.in_ok-word.ensures.goes c.in_ok-word.ensures.kept c.stopped_report.result ended c.stopped_report.ensures.status c.stopped_report.ensures.text
+    let k = c.args.place.0 in
+    let begins = subst (λ Q. Begins Q k c.args.heap.cells c.args.args.items c.args.limits.cells c.in_ok-vm.vm) (ap program_of c.in_ok-code.ensures) c.in_ok-vm.ensures.begins in
+    let ended = subst (λ end. Ended c.args.limits.steps end c.run.new.self) c.in-Stopped.is c.in_ok-word.ensures.ends in
+    stopped_ran P k c.args.heap.cells c.args.args.items (limits_of c.args.limits) c.in_ok-vm.vm c.run.new.self begins c.in_ok-word.ensures.goes c.in_ok-word.ensures.kept c.stopped_report.result ended c.stopped_report.ensures.status c.stopped_report.ensures.text
 
-pub unreachable-requires : goal.unreachable-requires
-unreachable-requires c =
+pub returns-clause-ok : goal.returns-clause-ok
+returns-clause-ok c =
     let P = program_of c.args.typed.now in
-    let begins = begun P _ c.args.place.0 _ c.args.args.items 1048576 c.in_ok-vm.vm (ap program_of c.in_ok-code.ensures) c.new.ensures.cells c.in_ok-vm.ensures.begins in
-    let ended = subst (λ end. Ended c.args.steps end c.run.new.self) c.in-HeapFull.is c.in_ok-word.ensures.ends in
-    not_full P c.args.place.0 c.args.args.items c.requires.can c.args.steps c.in_ok-vm.vm c.run.new.self begins c.in_ok-word.ensures.goes c.in_ok-word.ensures.kept ended
+    let k = c.args.place.0 in
+    let begins = subst (λ Q. Begins Q k c.args.heap.cells c.args.args.items c.args.limits.cells c.in_ok-vm.vm) (ap program_of c.in_ok-code.ensures) c.in_ok-vm.ensures.begins in
+    let ended = subst (λ end. Ended c.args.limits.steps end c.run.new.self) c.in-HeapFull.is c.in_ok-word.ensures.ends in
+    full_ran P k c.args.heap.cells c.args.args.items (limits_of c.args.limits) c.in_ok-vm.vm c.run.new.self begins c.in_ok-word.ensures.goes c.in_ok-word.ensures.kept c.full_report.result ended c.full_report.ensures.status c.full_report.ensures.text
