@@ -1,7 +1,6 @@
 -- The steps of what goes on from a phrase.
 use Rattle.std.proofs.Common.{◌≡◌, ◌≤◌, ◌+◌, ◌∙◌, ℕ, suc, List, [], ◌∷◌, refl, sym, ap, subst, arith}
 use Rattle.std.specs.Prelude.{max, Some, None, Bool, true, false, Result, Ok, Err}
-use Rattle.token_grammar.specs.Rules.{Sub, Done}
 use Rattle.std.specs.Result.{IsErr, IsErrAnd}
 use Rattle.raml_parse.specs.Read.{Fails, Gives}
 use Rattle.raml_parse.specs.declared.stop.Stop.{Stop}
