@@ -103,7 +103,8 @@ fn check_below<'s, 'a>(
     fun: &'a Fun,
 ) -> Result<(), TypeFault>
     requires few { AllNodes FewArguments (term_of fun.now.body) }
-    ensures { Leaves (numbered.walk_body (sigs_of env.entry.functions.now) types.old.nodes.keys (ids_of env.entry.scope.now) (map parameter_of params.now) (function_of fun.now)) types.new.nodes.keys result }
+    ensures { Leaves (numbered.walk_body (sigs_of env.entry.functions.now) types.old.nodes.keys (ids_of env.entry.scope.now)
+        (map parameter_of params.now) (function_of fun.now)) types.new.nodes.keys result }
 {
     match params {
         [] => {

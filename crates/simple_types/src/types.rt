@@ -1,6 +1,5 @@
 // Types at hand, each once.
 ghost use Rattle.std.specs.Prelude.{◌≡◌, ◌≤◌, IfOk};
-ghost use Rattle.raml_syntax.specs.Tree.{PairOf, ListOf, TreeOf, OptionOf};
 ghost use Rattle.raml_syntax.specs.Read.{ty_of};
 ghost use Rattle.simple_types.specs.Table.{base, node_at, placed, among, made_from, types_before, type_of, numbered};
 
@@ -38,30 +37,6 @@ pub enum Node {
 pub struct Types {
     pub nodes: IndexSet<Node>,
     pub alloc: Global,
-}
-
-fn pair_type(alloc: Global, first: Ty, second: Ty) -> Result<Ty, AllocError>
-    ensures { IfOk result (λ pair. ty_of pair ≡ PairOf (ty_of first) (ty_of second)) }
-{
-    Ok(Ty::Pair(Box::new(alloc, first)?, Box::new(alloc, second)?))
-}
-
-fn list_type(alloc: Global, element: Ty) -> Result<Ty, AllocError>
-    ensures { IfOk result (λ list. ty_of list ≡ ListOf (ty_of element)) }
-{
-    Ok(Ty::List(Box::new(alloc, element)?))
-}
-
-fn tree_type(alloc: Global, element: Ty) -> Result<Ty, AllocError>
-    ensures { IfOk result (λ tree. ty_of tree ≡ TreeOf (ty_of element)) }
-{
-    Ok(Ty::Tree(Box::new(alloc, element)?))
-}
-
-fn option_type(alloc: Global, content: Ty) -> Result<Ty, AllocError>
-    ensures { IfOk result (λ option. ty_of option ≡ OptionOf (ty_of content)) }
-{
-    Ok(Ty::Opt(Box::new(alloc, content)?))
 }
 
 impl Types {
@@ -177,17 +152,17 @@ impl Types {
     fn copy(&self, id: TypeId) -> Result<Ty, AllocError>
         ensures { IfOk result (λ ty. ty_of ty ≡ made_from (types_before self.now.nodes.keys id) (node_at self.now.nodes.keys id)) }
     {
-        match self.node(id) {
-            Node::Int => Ok(Ty::Int),
-            Node::Bool => Ok(Ty::Bool),
-            Node::Pair(first, second) => {
-                let left = self.copy_part(id, first)?;
-                pair_type(self.alloc, left, self.copy_part(id, second)?)
-            }
-            Node::List(part) => list_type(self.alloc, self.copy_part(id, part)?),
-            Node::Tree(part) => tree_type(self.alloc, self.copy_part(id, part)?),
-            Node::Opt(part) => option_type(self.alloc, self.copy_part(id, part)?),
-        }
+        Ok(match self.node(id) {
+            Node::Int => Ty::Int,
+            Node::Bool => Ty::Bool,
+            Node::Pair(first, second) => Ty::Pair(
+                Box::new(self.alloc, self.copy_part(id, first)?)?,
+                Box::new(self.alloc, self.copy_part(id, second)?)?,
+            ),
+            Node::List(part) => Ty::List(Box::new(self.alloc, self.copy_part(id, part)?)?),
+            Node::Tree(part) => Ty::Tree(Box::new(self.alloc, self.copy_part(id, part)?)?),
+            Node::Opt(part) => Ty::Opt(Box::new(self.alloc, self.copy_part(id, part)?)?),
+        })
     }
 
     /// The same of a part, which stands before the type that it is part of.

@@ -74,7 +74,9 @@ fn walk_call_of<'s, 'a>(
 ) -> Result<TypeId, TypeFault>
     requires few_parameters { length signature.now.params.items ≤ 8 }
     requires few_arguments { (count (terms_of args.now) ≤ 8) × AllOf FewArguments (terms_of args.now) }
-    ensures { Gives (and_then (arity at.0 (length signature.now.params.items) (count (terms_of args.now))) (λ n. and_then (each_in env.entry types.old.nodes.keys (terms_of args.now) signature.now.params.items) (λ u. settle u want at.0 signature.now.result))) types.new.nodes.keys result }
+    ensures { Gives (and_then (arity at.0 (length signature.now.params.items) (count (terms_of args.now))) (λ n.
+        and_then (each_in env.entry types.old.nodes.keys (terms_of args.now) signature.now.params.items) (λ u.
+        settle u want at.0 signature.now.result))) types.new.nodes.keys result }
 {
     same_number(at, parameter_count(signature), argument_count(args))?;
     walk_arguments(types, env, args, &signature.params)?;

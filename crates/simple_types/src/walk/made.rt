@@ -23,7 +23,9 @@ fn find_pair<'s, 'a>(
     second: &'a Expr,
 ) -> Result<TypeId, TypeFault>
     requires few { AllNodes FewArguments (term_of first.now) × AllNodes FewArguments (term_of second.now) }
-    ensures { Gives (and_then (walk_in env.entry types.old.nodes.keys None (term_of first.now)) (λ A. and_then (walk_in env.entry A.0 None (term_of second.now)) (λ B. gives (placed B.0 (n.Pair A.1 B.1))))) types.new.nodes.keys result }
+    ensures { Gives (and_then (walk_in env.entry types.old.nodes.keys None (term_of first.now)) (λ A.
+        and_then (walk_in env.entry A.0 None (term_of second.now)) (λ B.
+        gives (placed B.0 (n.Pair A.1 B.1))))) types.new.nodes.keys result }
 {
     let left = walk(types, env, first, None)?;
     let right = walk(types, env, second, None)?;
@@ -42,7 +44,9 @@ fn check_parts<'s, 'a>(
     want: TypeId,
 ) -> Result<TypeId, TypeFault>
     requires few { AllNodes FewArguments (term_of first.now) × AllNodes FewArguments (term_of second.now) }
-    ensures { Gives (and_then (walk_in env.entry types.old.nodes.keys (Some left) (term_of first.now)) (λ A. and_then (walk_in env.entry A.0 (Some right) (term_of second.now)) (λ B. gives (B.0, want)))) types.new.nodes.keys result }
+    ensures { Gives (and_then (walk_in env.entry types.old.nodes.keys (Some left) (term_of first.now)) (λ A.
+        and_then (walk_in env.entry A.0 (Some right) (term_of second.now)) (λ B.
+        gives (B.0, want)))) types.new.nodes.keys result }
 {
     walk(types, env, first, Some(left))?;
     walk(types, env, second, Some(right))?;
@@ -98,7 +102,8 @@ fn find_cons<'s, 'a>(
     tail: &'a Expr,
 ) -> Result<TypeId, TypeFault>
     requires few { AllNodes FewArguments (term_of head.now) × AllNodes FewArguments (term_of tail.now) }
-    ensures { Gives (and_then (walk_in env.entry types.old.nodes.keys None (term_of head.now)) (λ A. and_then (gives (placed A.0 (n.List A.1))) (λ L. walk_in env.entry L.0 (Some L.1) (term_of tail.now)))) types.new.nodes.keys result }
+    ensures { Gives (and_then (walk_in env.entry types.old.nodes.keys None (term_of head.now)) (λ A.
+        and_then (gives (placed A.0 (n.List A.1))) (λ L. walk_in env.entry L.0 (Some L.1) (term_of tail.now)))) types.new.nodes.keys result }
 {
     let element = walk(types, env, head, None)?;
     let list = types.place(Node::List(element))?;
@@ -188,7 +193,9 @@ fn find_node<'s, 'a>(
     right: &'a Expr,
 ) -> Result<TypeId, TypeFault>
     requires few { AllNodes FewArguments (term_of element.now) × AllNodes FewArguments (term_of left.now) × AllNodes FewArguments (term_of right.now) }
-    ensures { Gives (and_then (walk_in env.entry types.old.nodes.keys None (term_of element.now)) (λ A. and_then (gives (placed A.0 (n.Tree A.1))) (λ L. and_then (walk_in env.entry L.0 (Some L.1) (term_of left.now)) (λ B. walk_in env.entry B.0 (Some L.1) (term_of right.now))))) types.new.nodes.keys result }
+    ensures { Gives (and_then (walk_in env.entry types.old.nodes.keys None (term_of element.now)) (λ A.
+        and_then (gives (placed A.0 (n.Tree A.1))) (λ L. and_then (walk_in env.entry L.0 (Some L.1) (term_of left.now)) (λ B.
+        walk_in env.entry B.0 (Some L.1) (term_of right.now))))) types.new.nodes.keys result }
 {
     let found = walk(types, env, element, None)?;
     let tree = types.place(Node::Tree(found))?;
@@ -207,7 +214,9 @@ fn check_tree<'s, 'a>(
     want: TypeId,
 ) -> Result<TypeId, TypeFault>
     requires few { AllNodes FewArguments (term_of element.now) × AllNodes FewArguments (term_of left.now) × AllNodes FewArguments (term_of right.now) }
-    ensures { Gives (and_then (walk_in env.entry types.old.nodes.keys (Some item) (term_of element.now)) (λ A. and_then (walk_in env.entry A.0 (Some want) (term_of left.now)) (λ B. walk_in env.entry B.0 (Some want) (term_of right.now)))) types.new.nodes.keys result }
+    ensures { Gives (and_then (walk_in env.entry types.old.nodes.keys (Some item) (term_of element.now)) (λ A.
+        and_then (walk_in env.entry A.0 (Some want) (term_of left.now)) (λ B.
+        walk_in env.entry B.0 (Some want) (term_of right.now)))) types.new.nodes.keys result }
 {
     walk(types, env, element, Some(item))?;
     check_trees(types, env, left, right, want)

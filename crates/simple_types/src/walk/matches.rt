@@ -39,7 +39,8 @@ fn walk_list_branches<'s, 'a>(
     want: Option<TypeId>,
 ) -> Result<TypeId, TypeFault>
     requires few { AllNodes FewArguments (term_of empty.now) × AllNodes FewArguments (term_of rest.now) }
-    ensures { Gives (and_then (walk_in env.entry types.old.nodes.keys want (term_of empty.now)) (λ A. walk_below env.entry A.0 (local_of tail.entry ∷ local_of head.entry ∷ []) (Some A.1) (term_of rest.now))) types.new.nodes.keys result }
+    ensures { Gives (and_then (walk_in env.entry types.old.nodes.keys want (term_of empty.now)) (λ A.
+        walk_below env.entry A.0 (local_of tail.entry ∷ local_of head.entry ∷ []) (Some A.1) (term_of rest.now))) types.new.nodes.keys result }
 {
     let found = walk(types, env, empty, want)?;
     walk_below_two(types, env, head, tail, rest, Some(found))
@@ -58,7 +59,8 @@ pub fn walk_match_list<'s, 'a>(
     want: Option<TypeId>,
 ) -> Result<TypeId, TypeFault>
     requires few { AllNodes FewArguments (term_of subject.now) × AllNodes FewArguments (term_of empty.now) × AllNodes FewArguments (term_of rest.now) }
-    ensures { Gives (walk_in env.entry types.old.nodes.keys want (t.MatchList 0 (term_of subject.now) (term_of empty.now) (bound_of x.now) (bound_of y.now) (term_of rest.now))) types.new.nodes.keys result }
+    ensures { Gives (walk_in env.entry types.old.nodes.keys want
+        (t.MatchList 0 (term_of subject.now) (term_of empty.now) (bound_of x.now) (bound_of y.now) (term_of rest.now))) types.new.nodes.keys result }
 {
     differ_two(x, y)?;
     let list = walk(types, env, subject, None)?;
@@ -93,7 +95,8 @@ fn walk_tree_branches<'s, 'a>(
     want: Option<TypeId>,
 ) -> Result<TypeId, TypeFault>
     requires few { AllNodes FewArguments (term_of empty.now) × AllNodes FewArguments (term_of rest.now) }
-    ensures { Gives (and_then (walk_in env.entry types.old.nodes.keys want (term_of empty.now)) (λ A. walk_below env.entry A.0 (local_of right.entry ∷ local_of left.entry ∷ local_of element.entry ∷ []) (Some A.1) (term_of rest.now))) types.new.nodes.keys result }
+    ensures { Gives (and_then (walk_in env.entry types.old.nodes.keys want (term_of empty.now)) (λ A.
+        walk_below env.entry A.0 (local_of right.entry ∷ local_of left.entry ∷ local_of element.entry ∷ []) (Some A.1) (term_of rest.now))) types.new.nodes.keys result }
 {
     let found = walk(types, env, empty, want)?;
     walk_below_three(types, env, element, left, right, rest, Some(found))
@@ -113,7 +116,8 @@ pub fn walk_match_tree<'s, 'a>(
     want: Option<TypeId>,
 ) -> Result<TypeId, TypeFault>
     requires few { AllNodes FewArguments (term_of subject.now) × AllNodes FewArguments (term_of empty.now) × AllNodes FewArguments (term_of rest.now) }
-    ensures { Gives (walk_in env.entry types.old.nodes.keys want (t.MatchTree 0 (term_of subject.now) (term_of empty.now) (bound_of x.now) (bound_of y.now) (bound_of z.now) (term_of rest.now))) types.new.nodes.keys result }
+    ensures { Gives (walk_in env.entry types.old.nodes.keys want
+        (t.MatchTree 0 (term_of subject.now) (term_of empty.now) (bound_of x.now) (bound_of y.now) (bound_of z.now) (term_of rest.now))) types.new.nodes.keys result }
 {
     differ_three(x, y, z)?;
     let tree = walk(types, env, subject, None)?;
@@ -150,7 +154,8 @@ fn walk_option_branches<'s, 'a>(
     want: Option<TypeId>,
 ) -> Result<TypeId, TypeFault>
     requires few { AllNodes FewArguments (term_of empty.now) × AllNodes FewArguments (term_of rest.now) }
-    ensures { Gives (and_then (walk_in env.entry types.old.nodes.keys want (term_of empty.now)) (λ A. walk_below env.entry A.0 (local_of content.entry ∷ []) (Some A.1) (term_of rest.now))) types.new.nodes.keys result }
+    ensures { Gives (and_then (walk_in env.entry types.old.nodes.keys want (term_of empty.now)) (λ A.
+        walk_below env.entry A.0 (local_of content.entry ∷ []) (Some A.1) (term_of rest.now))) types.new.nodes.keys result }
 {
     let found = walk(types, env, empty, want)?;
     walk_below_one(types, env, content, rest, Some(found))

@@ -25,7 +25,9 @@ pub fn walk_integers<'s, 'a>(
     want: Option<TypeId>,
 ) -> Result<TypeId, TypeFault>
     requires few { AllNodes FewArguments (term_of left.now) × AllNodes FewArguments (term_of right.now) }
-    ensures { Gives (and_then (walk_in env.entry types.old.nodes.keys (Some integer) (term_of left.now)) (λ A. and_then (walk_in env.entry A.0 (Some integer) (term_of right.now)) (λ B. settle B.0 want at.0 made))) types.new.nodes.keys result }
+    ensures { Gives (and_then (walk_in env.entry types.old.nodes.keys (Some integer) (term_of left.now)) (λ A.
+        and_then (walk_in env.entry A.0 (Some integer) (term_of right.now)) (λ B.
+        settle B.0 want at.0 made))) types.new.nodes.keys result }
 {
     walk(types, env, left, Some(INT))?;
     walk(types, env, right, Some(INT))?;
