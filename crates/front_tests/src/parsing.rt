@@ -26,6 +26,11 @@ fn show_type(out: &mut String, ty: &Ty) -> Result<(), Fail> {
             show_type(out, element)?;
             write!(out, ")")?;
         }
+        Ty::Opt(content) => {
+            write!(out, " (option")?;
+            show_type(out, content)?;
+            write!(out, ")")?;
+        }
     }
     Ok(())
 }
@@ -52,6 +57,7 @@ fn show(out: &mut String, expr: &Expr) -> Result<(), Fail> {
         Form::Truth(value) => write!(out, " {at}:{value}")?,
         Form::Nil => write!(out, " {at}:nil")?,
         Form::Leaf => write!(out, " {at}:leaf")?,
+        Form::Nothing => write!(out, " {at}:none")?,
         Form::Var(name) => write!(out, " {at}:{}", name.text())?,
         _ => {
             write!(out, " ({at}")?;
@@ -94,6 +100,10 @@ fn show_parts(out: &mut String, expr: &Expr) -> Result<(), Fail> {
             show(out, element)?;
             show(out, left)?;
             show(out, right)
+        }
+        Form::Just(content) => {
+            write!(out, " some")?;
+            show(out, content)
         }
         Form::Call(name, args) => {
             write!(out, " call {}", name.text())?;
@@ -149,6 +159,13 @@ fn show_binding(out: &mut String, expr: &Expr) -> Result<(), Fail> {
             show_name(out, element)?;
             show_name(out, left)?;
             show_name(out, right)?;
+            show(out, rest)
+        }
+        Form::MatchOption(subject, empty, content, rest) => {
+            write!(out, " match")?;
+            show(out, subject)?;
+            show(out, empty)?;
+            show_name(out, content)?;
             show(out, rest)
         }
         _ => Ok(()),
@@ -221,6 +238,22 @@ fn programs(rt: HostRuntime) -> Result<(), Fail> {
             "fun f (x : int list) : int = match x with nil -> 0 | h :: t -> f(t) fun g(x:int):int = x < 1",
             "0 f 7:x (list int) : int = (29 match 35:x 49:0 53:h 58:t (63 call f 65:t));68 g 74:x int : int = (87 Less 87:x 91:1);",
         ),
+        (
+            "fun f (x : int list option) : int option tree option = none",
+            "0 f 7:x (option (list int)) : (option (tree (option int))) = 55:none;",
+        ),
+        (
+            "fun f (x : (int * bool) option) : int = some(x) :: some(none) :: nil",
+            "0 f 7:x (option (* int bool)) : int = (40 cons (40 some 45:x) (51 cons (51 some 56:none) 65:nil));",
+        ),
+        (
+            "fun f (x : int option) : int = match x with none -> 0 | some(y) -> y + 1",
+            "0 f 7:x (option int) : int = (31 match 37:x 52:0 61:y (67 Add 67:y 71:1));",
+        ),
+        (
+            "fun f (x : int * int option) : int = not some((none : int option)) + nones",
+            "0 f 7:x (* int (option int)) : int = (37 Add (37 not (41 some (46 typed 47:none (option int)))) 69:nones);",
+        ),
     ];
     for (source, want) in table {
         let shown = answer(&rt, rt.alloc(), source)?;
@@ -238,6 +271,15 @@ fn faults_of_functions(rt: HostRuntime) -> Result<(), Fail> {
         ("let", "Syntax { at: Pos(0) }"),
         ("fun 1 (x : int) : int = x", "Syntax { at: Pos(4) }"),
         ("fun in (x : int) : int = x", "Syntax { at: Pos(4) }"),
+        ("fun option (x : int) : int = x", "Syntax { at: Pos(4) }"),
+        ("fun none (x : int) : int = x", "Syntax { at: Pos(4) }"),
+        ("fun some (x : int) : int = x", "Syntax { at: Pos(4) }"),
+        ("fun f (option : int) : int = 1", "Syntax { at: Pos(7) }"),
+        ("fun f (none : int) : int = 1", "Syntax { at: Pos(7) }"),
+        ("fun f (some : int) : int = 1", "Syntax { at: Pos(7) }"),
+        ("fun f (x : option) : int = x", "Syntax { at: Pos(11) }"),
+        ("fun f (x : none) : int = x", "Syntax { at: Pos(11) }"),
+        ("fun f (x : some) : int = x", "Syntax { at: Pos(11) }"),
         ("fun f x", "Syntax { at: Pos(6) }"),
         ("fun f () : int = 1", "Syntax { at: Pos(7) }"),
         ("fun f (x int) : int = x", "Syntax { at: Pos(9) }"),
@@ -330,6 +372,37 @@ fn faults_of_bodies(rt: HostRuntime) -> Result<(), Fail> {
         ("(x : list)", 5),
         ("(x : int * )", 11),
         ("(x : int int)", 9),
+        ("option", 0),
+        ("option(x)", 0),
+        ("x + option", 4),
+        ("none(x)", 4),
+        ("some", 4),
+        ("some x", 5),
+        ("some()", 5),
+        ("some(x", 6),
+        ("some(x, x)", 6),
+        ("some none", 5),
+        ("let option = x in x", 4),
+        ("let none = x in x", 4),
+        ("let some = x in x", 4),
+        ("let (none, y) = x in y", 5),
+        ("let (y, some) = x in y", 8),
+        ("match x with some(y) -> x", 13),
+        ("match x with none x", 18),
+        ("match x with none -> x", 22),
+        ("match x with none -> x | none -> x", 25),
+        ("match x with none -> x | h :: t -> x", 25),
+        ("match x with none -> x | node(a, l, r) -> x", 25),
+        ("match x with none -> x | some y -> x", 30),
+        ("match x with none -> x | some(none) -> x", 30),
+        ("match x with none -> x | some(y, z) -> x", 31),
+        ("match x with none -> x | some(y) x", 33),
+        ("match x with nil -> x | some(y) -> x", 24),
+        ("match x with leaf -> x | some(y) -> x", 25),
+        ("match x with nil -> x | some :: t -> x", 24),
+        ("match x with leaf -> x | node(a, none, r) -> x", 33),
+        ("(x : option)", 5),
+        ("(x : int option int)", 16),
     ];
     for (body, place) in table {
         let place: u32 = place;
@@ -402,6 +475,22 @@ fn limits(rt: HostRuntime) -> Result<(), Fail> {
             "TooDeep { at: Pos(1010) }",
         ),
         (
+            "fun f (x : int",
+            " option",
+            199,
+            200,
+            ") : int = x",
+            "TooDeep { at: Pos(1408) }",
+        ),
+        (
+            body,
+            "match x with none -> x | some(y) -> ",
+            199,
+            200,
+            "x",
+            "TooDeep { at: Pos(7188) }",
+        ),
+        (
             "fun f (x : int) : int = (x : int",
             " tree",
             198,
@@ -442,5 +531,22 @@ fn limits(rt: HostRuntime) -> Result<(), Fail> {
         let shown = answer(&rt, rt.alloc(), source.as_str())?;
         assert_eq!(rt; shown.as_str(), fault, "at {piece}");
     }
+    Ok(())
+}
+
+// The content of so many `some`.
+fn nested(alloc: Global, count: u32) -> Result<String, Fail> {
+    let opened = repeated(alloc, "fun f (x : int) : int = ", "some(", count, "x")?;
+    repeated(alloc, opened.as_str(), ")", count, "")
+}
+
+#[test]
+fn height_of_some(rt: HostRuntime) -> Result<(), Fail> {
+    let source = nested(rt.alloc(), 199)?;
+    assert!(rt; source.len() < 10000);
+    assert!(rt; parse(rt.alloc(), source.as_bytes()).is_ok());
+    let source = nested(rt.alloc(), 200)?;
+    let shown = answer(&rt, rt.alloc(), source.as_str())?;
+    assert_eq!(rt; shown.as_str(), "TooDeep { at: Pos(1019) }");
     Ok(())
 }

@@ -8,4 +8,5 @@ mod tests;
 mod token;
 
 pub use lex::tokens;
+pub use piece::number_value;
 pub use token::{LexFault, Token, TokenKind};

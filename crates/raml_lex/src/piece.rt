@@ -1,6 +1,6 @@
 // What stands at the front of a text: white space, a comment, a token or a fault.
-ghost use Rattle.std.specs.Prelude.{◌≡◌, ◌<◌, ◌≤◌, ◌^◌, true, false, length, MatchBool, MatchOption, MatchResult, slice_index};
-ghost use Rattle.std.specs.List.{AllPass, prefix_len};
+ghost use Rattle.std.specs.Prelude.{◌≡◌, ◌<◌, ◌≤◌, ◌^◌, true, false, length, MatchOption, MatchResult, SomeIff, slice_index};
+ghost use Rattle.std.specs.List.{prefix_len};
 ghost use Rattle.raml_lex.specs.Lexemes.{is_space, is_lower, is_digit, is_name_part, number_value};
 ghost use Rattle.raml_lex.specs.Lexing.{OpensComment, IsOpenComment};
 ghost use Rattle.raml_lex.specs.Pieces.{BeginsWith, BeginsWithGap, FaultAt, symbol_len, word_kind};
@@ -17,9 +17,10 @@ pub enum Piece {
     Word(TokenKind, usize),
 }
 
-const KEYWORDS: [&[u8]; 21] = [
+const KEYWORDS: [&[u8]; 24] = [
     b"fun", b"let", b"in", b"if", b"then", b"else", b"match", b"with", b"nil", b"leaf", b"node",
     b"true", b"false", b"not", b"tick", b"div", b"mod", b"int", b"bool", b"list", b"tree",
+    b"option", b"none", b"some",
 ];
 
 fn is_space(byte: u8) -> bool
@@ -112,19 +113,18 @@ fn word_kind(word: &[u8]) -> TokenKind
     }
 }
 
-// Whether the digits are a number of 64 bits, signed.
-fn is_in_range(digits: &[u8]) -> bool
-    requires { AllPass is_digit digits.now }
-    ensures { MatchBool result (number_value digits.now < 2 ^ 63) (2 ^ 63 ≤ number_value digits.now) }
+/// The value of decimal digits, where it is at most 9223372036854775807.
+pub fn number_value(digits: &[u8]) -> Option<u64>
+    ensures { SomeIff result (number_value digits.now < 2 ^ 63) (number_value digits.now) }
 {
     let mut value: u128 = 0;
     for digit in digits {
-        value = value * 10 + u128::from(digit - b'0');
+        value = value * 10 + u128::from(digit.saturating_sub(b'0'));
         if value > i64::MAX as u128 {
-            return false;
+            return None;
         }
     }
-    true
+    Some(value as u64)
 }
 
 fn word(text: &[u8]) -> Piece
@@ -140,10 +140,9 @@ fn number(text: &[u8], at: Pos) -> Result<Piece, LexFault>
     ensures { MatchResult result (BeginsWith text.now) (FaultAt at text.now) }
 {
     let len = digits_len(text);
-    if is_in_range(&text[..len]) {
-        Ok(Piece::Word(TokenKind::Number, len))
-    } else {
-        Err(LexFault::NumberTooWide { at })
+    match number_value(&text[..len]) {
+        Some(_) => Ok(Piece::Word(TokenKind::Number, len)),
+        None => Err(LexFault::NumberTooWide { at }),
     }
 }
 

@@ -53,6 +53,10 @@ fn each_token(rt: HostRuntime) -> Result<(), Fail> {
                 "not tick div mod int bool list tree",
                 "Keyword not; Keyword tick; Keyword div; Keyword mod; Keyword int; Keyword bool; Keyword list; Keyword tree; ",
             ),
+            (
+                "option none some",
+                "Keyword option; Keyword none; Keyword some; ",
+            ),
             ("0 42 007", "Number 0; Number 42; Number 007; "),
             (
                 "( ) , : :: = <",
@@ -82,6 +86,8 @@ fn longest_match(rt: HostRuntime) -> Result<(), Fail> {
             ("nil x", "Keyword nil; Name x; "),
             ("let'", "Name let'; "),
             ("lets", "Name lets; "),
+            ("none' nones", "Name none'; Name nones; "),
+            ("some(x)", "Keyword some; Symbol (; Name x; Symbol ); "),
             ("1x", "Number 1; Name x; "),
             ("x1", "Name x1; "),
             ("h::t", "Name h; Symbol ::; Name t; "),

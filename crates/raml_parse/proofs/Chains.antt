@@ -43,7 +43,7 @@ unfolding grammar
 pair_once = refl
 
 module _ (d h : ℕ) (s : List Token) where
-  -- `list` or `tree` behind a type
+  -- `list`, `tree` or `option` behind a type
   pub suffix_more : (e v : Part) (x : Suffix) (u : List Token) → goes_at grammar Types 0 s ≡ Some (suffix_rule x) → h ≤ d → suffix_act x (e ∷ []) ≡ v → rest_of s ≡ u → goes_on Types d 0 [] e h s ≡ goes_on Types d 0 [] v (1 + h) u
   suffix_more e v x u q le act eq =
       again Types d 0 [] e h s (suffix_rule x) q le post_chains

@@ -7,4 +7,3 @@ pub mod Parts
 pub mod Signs
 pub mod TheTable
 pub mod TypeSteps
-pub mod Values

@@ -16,7 +16,7 @@ use Rattle.raml_syntax.specs.declared.tree.ArithOp.{ArithOp}
 use Rattle.raml_syntax.specs.declared.tree.CompareOp.{CompareOp}
 use Rattle.raml_parse.specs.Tokens.{Sign, Token, Name, Number, Key, same}
 use Rattle.raml_parse.specs.declared.token.Sign.TheVariants as s
-use Rattle.raml_parse.specs.Table.{Part, At, Named, Counted, Typing, Phrase, Header, Headed, Whole, Nothing, Class, Rules, key, place, name, number_to, Test, mark, inner_type_act, list_act, tree_act, pair_type_act, number_act, truth_act, nil_act, leaf_act, var_act, call_of_parts, call_act, node_act, not_act, inner_act, pair_act, typed_act, let_act, let_pair_act, if_act, match_list_act, match_tree_act, tick_act, arith_act, compare_act, cons_act, param_act, function_of_parts, function_act, program_of_parts, program_act, function_rule, functions_rule, text_rule, table, grammar, starts, goes}
+use Rattle.raml_parse.specs.Table.{Part, At, Named, Counted, Typing, Phrase, Header, Headed, Whole, Nothing, Class, Rules, key, place, name, number_to, Test, mark, inner_type_act, list_act, tree_act, option_act, pair_type_act, number_act, truth_act, nil_act, leaf_act, none_act, var_act, call_of_parts, call_act, node_act, some_act, not_act, inner_act, pair_act, typed_act, let_act, let_pair_act, if_act, match_list_act, match_tree_act, match_option_act, tick_act, arith_act, compare_act, cons_act, param_act, function_of_parts, function_act, program_of_parts, program_act, function_rule, functions_rule, text_rule, table, grammar, starts, goes}
 use Rattle.raml_parse.proofs.TheTable.{Forms, forms, Goings, goings}
 
 -- an expression within the limits
@@ -94,6 +94,10 @@ node_fine : (p : ℕ) (c b a : Part) → Fine a → Fine b → Fine c → Fine (
 node_fine p (Phrase c) (Phrase b) (Phrase a) u v w = ((tt, u.0, v.0, w.0), (tt, u.1, v.1, w.1), (tt, u.2, v.2, w.2))
 node_fine p _ _ _ u v w = tt
 
+some_fine : (p : ℕ) (a : Part) → Fine a → Fine (some_act (a ∷ At p ∷ []))
+some_fine p (Phrase a) u = ((tt, u.0), (tt, u.1), (tt, u.2))
+some_fine p _ u = tt
+
 not_fine : (p : ℕ) (a : Part) → Fine a → Fine (not_act (a ∷ At p ∷ []))
 not_fine p (Phrase a) u = ((tt, u.0), (tt, u.1), (tt, u.2))
 not_fine p _ u = tt
@@ -130,6 +134,10 @@ tree_fine : (p q r l : ℕ) (x y z : Text) (b a c : Part) → Fine c → Fine a 
 tree_fine p q r l x y z (Phrase b) (Phrase a) (Phrase c) u v w = ((tt, u.0, v.0, w.0), (tt, u.1, v.1, w.1), (tt, u.2, v.2, w.2))
 tree_fine p q r l x y z _ _ _ u v w = tt
 
+option_fine : (p q : ℕ) (x : Text) (b a c : Part) → Fine c → Fine a → Fine b → Fine (match_option_act (b ∷ Named q x ∷ a ∷ c ∷ At p ∷ []))
+option_fine p q x (Phrase b) (Phrase a) (Phrase c) u v w = ((tt, u.0, v.0, w.0), (tt, u.1, v.1, w.1), (tt, u.2, v.2, w.2))
+option_fine p q x _ _ _ u v w = tt
+
 tick_fine : (p n : ℕ) → n ≤ 1000000 → (a : Part) → Fine a → Fine (tick_act (a ∷ Counted n ∷ At p ∷ []))
 tick_fine p n le (Phrase a) u = ((tt, u.0), (tt, u.1), (le, u.2))
 tick_fine p n le _ u = tt
@@ -161,6 +169,10 @@ list_type_fine _ = tt
 tree_type_fine : (ps : List Part) → Fine (tree_act ps)
 tree_type_fine (Typing A ∷ ps) = tt
 tree_type_fine _ = tt
+
+option_type_fine : (ps : List Part) → Fine (option_act ps)
+option_type_fine (Typing A ∷ ps) = tt
+option_type_fine _ = tt
 
 pair_type_fine : (ps : List Part) → Fine (pair_type_act ps)
 pair_type_fine (Typing B ∷ Typing A ∷ ps) = tt
@@ -263,7 +275,9 @@ starts_kept = record {
   truth = λ b p. end (tt, tt, tt);
   nil = λ p. end (tt, tt, tt);
   leaf = λ p. end (tt, tt, tt);
+  nothing = λ p. end (tt, tt, tt);
   node = λ p. sign s.Open (part (λ a u. sign s.Comma (part (λ b v. sign s.Comma (part (λ c w. sign s.Close (end (node_fine p c b a u v w))))))));
+  just = λ p. sign s.Open (part (λ a u. sign s.Close (end (some_fine p a u))));
   negation = λ p. part (λ a u. end (not_fine p a u));
   parens = λ p. part (λ a u. either s.Comma (part (λ b v. sign s.Close (end (pair_fine p b a u v)))) (either s.Colon (part (λ A v. sign s.Close (end (typed_fine p A a u)))) (sign s.Close (end (inner_fine a (At p ∷ []) u)))));
   binding = λ p. either s.Open
@@ -272,7 +286,9 @@ starts_kept = record {
   choice = λ p. part (λ c u. sign s.Then (part (λ a v. sign s.Else (part (λ b w. end (if_fine p b a c u v w))))));
   cases = λ p. part (λ c u. sign s.With (either s.Nil
       (sign s.Arrow (part (λ a v. sign s.Bar (name' (λ q x. sign s.Cons (name' (λ r y. sign s.Arrow (part (λ b w. end (list_fine p q r x y b a c u v w))))))))))
-      (sign s.Leaf (sign s.Arrow (part (λ a v. sign s.Bar (sign s.Node (sign s.Open (name' (λ q x. sign s.Comma (name' (λ r y. sign s.Comma (name' (λ l z. sign s.Close (sign s.Arrow (part (λ b w. end (tree_fine p q r l x y z b a c u v w))))))))))))))))));
+      (either s.Nothing
+      (sign s.Arrow (part (λ a v. sign s.Bar (sign s.Just (sign s.Open (name' (λ q x. sign s.Close (sign s.Arrow (part (λ b w. end (option_fine p q x b a c u v w)))))))))))
+      (sign s.Leaf (sign s.Arrow (part (λ a v. sign s.Bar (sign s.Node (sign s.Open (name' (λ q x. sign s.Comma (name' (λ r y. sign s.Comma (name' (λ l z. sign s.Close (sign s.Arrow (part (λ b w. end (tree_fine p q r l x y z b a c u v w)))))))))))))))))));
   tick = λ p. count' 1000000 (λ n le. sign s.In (part (λ a u. end (tick_fine p n le a u))));
 }
 
@@ -294,6 +310,7 @@ goes_kept : Goings GoesKeep
 goes_kept = record {
   list = λ i p a u. end (list_type_fine (a ∷ At p ∷ []));
   tree = λ i p a u. end (tree_type_fine (a ∷ At p ∷ []));
+  option = λ i p a u. end (option_type_fine (a ∷ At p ∷ []));
   pair = λ i p a u. part (λ b v. end (pair_type_fine (b ∷ a ∷ At p ∷ [])));
   times = λ i p a u. part (λ b v. end (arith_fine _ p b a u v));
   quotient = λ i p a u. part (λ b v. end (arith_fine _ p b a u v));
@@ -356,6 +373,10 @@ tree_type_light : LightAct tree_act
 tree_type_light (Typing A ∷ ps) = omega arith
 tree_type_light _ = omega arith
 
+option_type_light : LightAct option_act
+option_type_light (Typing A ∷ ps) = omega arith
+option_type_light _ = omega arith
+
 pair_type_light : LightAct pair_type_act
 pair_type_light (Typing B ∷ Typing A ∷ ps) = omega arith
 pair_type_light _ = omega arith
@@ -376,6 +397,10 @@ leaf_light : LightAct leaf_act
 leaf_light (At p ∷ ps) = omega arith
 leaf_light _ = omega arith
 
+none_light : LightAct none_act
+none_light (At p ∷ ps) = omega arith
+none_light _ = omega arith
+
 var_light : (x : Text) → LightAct (var_act x)
 var_light x (At p ∷ ps) = omega arith
 var_light x _ = omega arith
@@ -391,6 +416,10 @@ call_light f vs = let p = parts_light f y.None vs in omega (arith, p)
 node_light : LightAct node_act
 node_light (Phrase c ∷ Phrase b ∷ Phrase a ∷ At p ∷ ps) = omega arith
 node_light _ = omega arith
+
+some_light : LightAct some_act
+some_light (Phrase e ∷ At p ∷ ps) = omega arith
+some_light _ = omega arith
 
 not_light : LightAct not_act
 not_light (Phrase e ∷ At p ∷ ps) = omega arith
@@ -427,6 +456,10 @@ match_list_light _ = omega arith
 match_tree_light : LightAct match_tree_act
 match_tree_light (Phrase b ∷ Named u z ∷ Named r y ∷ Named q x ∷ Phrase a ∷ Phrase e ∷ At p ∷ ps) = omega arith
 match_tree_light _ = omega arith
+
+match_option_light : LightAct match_option_act
+match_option_light (Phrase b ∷ Named q x ∷ Phrase a ∷ Phrase e ∷ At p ∷ ps) = omega arith
+match_option_light _ = omega arith
 
 tick_light : LightAct tick_act
 tick_light (Phrase e ∷ Counted n ∷ At p ∷ ps) = omega arith
@@ -490,7 +523,9 @@ starts_light c t n r e =
       truth = truth_light;
       nil = nil_light;
       leaf = leaf_light;
+      nothing = none_light;
       node = (key_light s.Open, (key_light s.Comma, (key_light s.Comma, (key_light s.Close, node_light))));
+      just = (key_light s.Open, (key_light s.Close, some_light));
       negation = not_light;
       parens = (key_light s.Comma, (key_light s.Close, pair_light), (key_light s.Colon, (key_light s.Close, typed_light), (key_light s.Close, inner_light)));
       binding = (key_light s.Open, (name_light, (key_light s.Comma, (name_light, (key_light s.Close, (key_light s.Equal, (key_light s.In, let_pair_light)))))), (name_light, (key_light s.Equal, (key_light s.In, let_light))));
@@ -500,7 +535,11 @@ starts_light c t n r e =
         (
           key_light s.Nil,
           (key_light s.Arrow, (key_light s.Bar, (name_light, (key_light s.Cons, (name_light, (key_light s.Arrow, match_list_light)))))),
-          (key_light s.Leaf, (key_light s.Arrow, (key_light s.Bar, (key_light s.Node, (key_light s.Open, (name_light, (key_light s.Comma, (name_light, (key_light s.Comma, (name_light, (key_light s.Close, (key_light s.Arrow, match_tree_light)))))))))))),
+          (
+            key_light s.Nothing,
+            (key_light s.Arrow, (key_light s.Bar, (key_light s.Just, (key_light s.Open, (name_light, (key_light s.Close, (key_light s.Arrow, match_option_light))))))),
+            (key_light s.Leaf, (key_light s.Arrow, (key_light s.Bar, (key_light s.Node, (key_light s.Open, (name_light, (key_light s.Comma, (name_light, (key_light s.Comma, (name_light, (key_light s.Close, (key_light s.Arrow, match_tree_light)))))))))))),
+          ),
         ),
       );
       tick = (number_adds 1000000 (λ ws. sum ws ≤ 1) (λ n le. omega arith), (key_light s.In, tick_light));
@@ -510,6 +549,7 @@ goes_light : (c : Class) (t : Token) (n : ℕ) (r : Rules) → goes c t ≡ Some
 goes_light c t n r e = goings (λ c t y. Light table weight y.1) (record {
   list = λ p. list_type_light;
   tree = λ p. tree_type_light;
+  option = λ p. option_type_light;
   pair = λ p. pair_type_light;
   times = λ p. arith_light _;
   quotient = λ p. arith_light _;

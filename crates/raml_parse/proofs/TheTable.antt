@@ -9,7 +9,7 @@ use Rattle.token_grammar.specs.Rules.{Done, Sub}
 use Rattle.token_grammar.proofs.Basics.{Atom, Sample, Filled, Takes, Ends, Wf, Behind, Readable}
 use Rattle.raml_parse.specs.Tokens.{Sign, Token, Name, Number, Key}
 use Rattle.raml_parse.specs.declared.token.Sign.TheVariants as s
-use Rattle.raml_parse.specs.Table.{At, Named, Counted, Class, Types, Exprs, Rules, key, place, name, number_to, int_act, bool_act, inner_type_rule, list_act, tree_act, pair_type_act, number_act, truth_act, nil_act, leaf_act, name_rule, node_rule, not_rule, parens_rule, let_rule, if_rule, match_rule, tick_rule, arith_rule, cons_act, compare_rule, type, starts, goes, chains, table, grammar}
+use Rattle.raml_parse.specs.Table.{At, Named, Counted, Class, Types, Exprs, Rules, key, place, name, number_to, int_act, bool_act, inner_type_rule, list_act, tree_act, option_act, pair_type_act, number_act, truth_act, nil_act, leaf_act, none_act, name_rule, node_rule, some_rule, not_rule, parens_rule, let_rule, if_rule, match_rule, tick_rule, arith_rule, cons_act, compare_rule, type, starts, goes, chains, table, grammar}
 use Rattle.raml_parse.proofs.Signs.{key_is, place_is}
 
 -- a name may go on with a parenthesis, and no other form of level 0 with anything
@@ -74,7 +74,9 @@ pub record Forms (P : Class → ℕ × Rules → Type 0) : Type 0 where
   pub truth : (b : Bool) → P Exprs (0, Done (truth_act b))
   pub nil : P Exprs (0, Done nil_act)
   pub leaf : P Exprs (0, Done leaf_act)
+  pub nothing : P Exprs (0, Done none_act)
   pub node : P Exprs (0, node_rule)
+  pub just : P Exprs (0, some_rule)
   pub negation : P Exprs (0, not_rule)
   pub parens : P Exprs (0, parens_rule)
   pub binding : P Exprs (4, let_rule)
@@ -97,7 +99,9 @@ forms P f Exprs (Key p s.True) y e = form_at (P Exprs) (0, Done (truth_act true)
 forms P f Exprs (Key p s.False) y e = form_at (P Exprs) (0, Done (truth_act false)) y (f.truth false) e
 forms P f Exprs (Key p s.Nil) y e = form_at (P Exprs) (0, Done nil_act) y f.nil e
 forms P f Exprs (Key p s.Leaf) y e = form_at (P Exprs) (0, Done leaf_act) y f.leaf e
+forms P f Exprs (Key p s.Nothing) y e = form_at (P Exprs) (0, Done none_act) y f.nothing e
 forms P f Exprs (Key p s.Node) y e = form_at (P Exprs) (0, node_rule) y f.node e
+forms P f Exprs (Key p s.Just) y e = form_at (P Exprs) (0, some_rule) y f.just e
 forms P f Exprs (Key p s.Not) y e = form_at (P Exprs) (0, not_rule) y f.negation e
 forms P f Exprs (Key p s.Open) y e = form_at (P Exprs) (0, parens_rule) y f.parens e
 forms P f Exprs (Key p s.Let) y e = form_at (P Exprs) (4, let_rule) y f.binding e
@@ -110,6 +114,7 @@ forms P f Exprs (Key p _) y e = absurd (cc)
 pub record Goings (P : Class → Token → ℕ × Rules → Type 0) : Type 0 where
   pub list : (p : ℕ) → P Types (Key p s.List) (0, Done list_act)
   pub tree : (p : ℕ) → P Types (Key p s.Tree) (0, Done tree_act)
+  pub option : (p : ℕ) → P Types (Key p s.Option) (0, Done option_act)
   pub pair : (p : ℕ) → P Types (Key p s.Star) (1, type (Done pair_type_act))
   pub times : (p : ℕ) → P Exprs (Key p s.Star) (arith_rule 0 op.Mul)
   pub quotient : (p : ℕ) → P Exprs (Key p s.Div) (arith_rule 0 op.Div)
@@ -124,6 +129,7 @@ pub record Goings (P : Class → Token → ℕ × Rules → Type 0) : Type 0 whe
 pub goings : (P : Class → Token → ℕ × Rules → Type 0) → Goings P → (c : Class) (t : Token) (y : ℕ × Rules) → goes c t ≡ Some y → P c t y
 goings P f Types (Key p s.List) y e = form_at (P Types (Key p s.List)) (0, Done list_act) y (f.list p) e
 goings P f Types (Key p s.Tree) y e = form_at (P Types (Key p s.Tree)) (0, Done tree_act) y (f.tree p) e
+goings P f Types (Key p s.Option) y e = form_at (P Types (Key p s.Option)) (0, Done option_act) y (f.option p) e
 goings P f Types (Key p s.Star) y e = form_at (P Types (Key p s.Star)) (1, type (Done pair_type_act)) y (f.pair p) e
 goings P f Types _ y e = absurd (cc)
 goings P f Exprs (Key p s.Star) y e = form_at (P Exprs (Key p s.Star)) (arith_rule 0 op.Mul) y (f.times p) e
@@ -148,7 +154,9 @@ filled_starts c t n r e =
       truth = λ b. tt;
       nil = tt;
       leaf = tt;
+      nothing = tt;
       node = (open_sample, (comma_sample, (comma_sample, (close_sample, tt))));
+      just = (open_sample, (close_sample, tt));
       negation = tt;
       parens = ((close_sample, tt), ((close_sample, tt), (close_sample, tt)));
       binding = ((name_sample, (comma_sample, (name_sample, (close_sample, (equal_sample, (in_sample, tt)))))), (name_sample, (equal_sample, (in_sample, tt))));
@@ -158,8 +166,11 @@ filled_starts c t n r e =
         (
           (arrow_sample, (bar_sample, (name_sample, (key_sample s.Cons refl, (name_sample, (arrow_sample, tt)))))),
           (
-            key_sample s.Leaf refl,
-            (arrow_sample, (bar_sample, (key_sample s.Node refl, (open_sample, (name_sample, (comma_sample, (name_sample, (comma_sample, (name_sample, (close_sample, (arrow_sample, tt))))))))))),
+            (arrow_sample, (bar_sample, (key_sample s.Just refl, (open_sample, (name_sample, (close_sample, (arrow_sample, tt))))))),
+            (
+              key_sample s.Leaf refl,
+              (arrow_sample, (bar_sample, (key_sample s.Node refl, (open_sample, (name_sample, (comma_sample, (name_sample, (comma_sample, (name_sample, (close_sample, (arrow_sample, tt))))))))))),
+            ),
           ),
         ),
       );
@@ -170,6 +181,7 @@ filled_goes : (c : Class) (t : Token) (n : ℕ) (r : Rules) → goes c t ≡ Som
 filled_goes c t n r e = goings (λ c t y. Filled table y.1) (record {
   list = λ p. tt;
   tree = λ p. tt;
+  option = λ p. tt;
   pair = λ p. tt;
   times = λ p. tt;
   quotient = λ p. tt;
@@ -229,6 +241,11 @@ parens_comma : (t : Token) → Takes table (key s.Colon) t ⊎ Takes table (key 
 parens_comma t (inl w) = at_key s.Colon (λ t. key s.Comma t ≡ None) (λ p. refl) t w
 parens_comma t (inr w) = no_comma t w
 
+-- no other case begins with nil
+cases_nil : (t : Token) → Takes table (key s.Nothing) t ⊎ Takes table (key s.Leaf) t → key s.Nil t ≡ None
+cases_nil t (inl w) = at_key s.Nothing (λ t. key s.Nil t ≡ None) (λ p. refl) t w
+cases_nil t (inr w) = at_key s.Leaf (λ t. key s.Nil t ≡ None) (λ p. refl) t w
+
 no_open : (t : Token) → tails Exprs t ≡ false → key s.Open t ≡ None
 no_open (Key p s.Open) e = absurd (cc)
 no_open (Key p _) e = refl
@@ -269,14 +286,21 @@ wf_starts c t n r e =
       truth = λ b. tt;
       nil = tt;
       leaf = tt;
+      nothing = tt;
       node = (comma_expr, (comma_expr, (close_expr, tt)));
+      just = (close_expr, tt);
       negation = (λ t w. w, tt);
       parens = (parens_expr, (omega arith, parens_comma, (close_expr, tt), (omega arith, at_key s.Close (λ t. key s.Colon t ≡ None) (λ p. refl), (close_type, tt), tt)));
       binding = (omega arith, name_open, (in_expr, ((λ t w. w), tt)), (in_expr, ((λ t w. w), tt)));
       choice = (at_key s.Then EndsExpr (λ p. (refl, (refl, (refl, (refl, refl))))), (at_key s.Else EndsExpr (λ p. (refl, (refl, (refl, (refl, refl))))), ((λ t w. w), tt)));
       cases = (
         at_key s.With EndsExpr (λ p. (refl, (refl, (refl, (refl, refl))))),
-        (omega arith, at_key s.Leaf (λ t. key s.Nil t ≡ None) (λ p. refl), (bar_expr, ((λ t w. w), tt)), (bar_expr, ((λ t w. w), tt))),
+        (
+          omega arith,
+          cases_nil,
+          (bar_expr, ((λ t w. w), tt)),
+          (omega arith, at_key s.Leaf (λ t. key s.Nothing t ≡ None) (λ p. refl), (bar_expr, ((λ t w. w), tt)), (bar_expr, ((λ t w. w), tt))),
+        ),
       );
       tick = ((λ t w. w), tt);
     }) c t (n, r) e
@@ -285,6 +309,7 @@ wf_goes : (c : Class) (t : Token) (n : ℕ) (r : Rules) → goes c t ≡ Some (n
 wf_goes c t n r e = goings (λ c t y. Wf table tails (Behind table tails (chains c y.0) c y.0) y.1) (record {
   list = λ p. tt;
   tree = λ p. tt;
+  option = λ p. tt;
   pair = λ p. ((λ t w. w), tt);
   times = λ p. ((λ t w. w), tt);
   quotient = λ p. ((λ t w. w), tt);
@@ -301,6 +326,7 @@ ends : (c : Class) (t : Token) (n : ℕ) (r : Rules) → goes c t ≡ Some (n, r
 ends c t n r e = goings (λ c t y. Ends table tails c y.0 t) (record {
   list = λ p. refl;
   tree = λ p. refl;
+  option = λ p. refl;
   pair = λ p. (refl, refl);
   times = λ p. refl;
   quotient = λ p. refl;
@@ -328,7 +354,9 @@ formless c t n r e = forms (λ c y. Formless c y.0) (record {
   truth = λ b. tt;
   nil = tt;
   leaf = tt;
+  nothing = tt;
   node = tt;
+  just = tt;
   negation = tt;
   parens = tt;
   binding = λ q. absurd (cc);

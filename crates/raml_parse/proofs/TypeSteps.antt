@@ -9,7 +9,7 @@ use Rattle.token_grammar.proofs.Basics.{goes_is}
 use Rattle.token_grammar.proofs.Steps.{level_form, level_none, level_lower, read_step}
 use Rattle.raml_parse.specs.Tokens.{Token, Key}
 use Rattle.raml_parse.specs.declared.token.Sign.TheVariants as s
-use Rattle.raml_parse.specs.Table.{Part, Class, Types, Exprs, Rules, Typing, list_act, tree_act, pair_type_act, table, grammar}
+use Rattle.raml_parse.specs.Table.{Part, Class, Types, Exprs, Rules, Typing, list_act, tree_act, option_act, pair_type_act, table, grammar}
 use Rattle.raml_parse.specs.Steps.{base_of, goes_on, postfix_of, second_of, product_of}
 use Rattle.raml_parse.proofs.Chains.{step, pair_once}
 use Rattle.raml_parse.proofs.TheTable.{Goings, goings}
@@ -58,6 +58,10 @@ module _ (d : ℕ) where
     tree_alone (Typing A) = refl
     tree_alone _ = refl
 
+    option_alone : (e : Part) → option_act (e ∷ w) ≡ option_act (e ∷ [])
+    option_alone (Typing A) = refl
+    option_alone _ = refl
+
     pair_alone : (b a : Part) → pair_type_act (b ∷ a ∷ w) ≡ pair_type_act (b ∷ a ∷ [])
     pair_alone (Typing B) (Typing A) = refl
     pair_alone (Typing B) _ = refl
@@ -67,6 +71,7 @@ module _ (d : ℕ) where
     alone = record {
       list = λ p e s. ap (λ v. Ok (v, 0, s)) (list_alone e);
       tree = λ p e s. ap (λ v. Ok (v, 0, s)) (tree_alone e);
+      option = λ p e s. ap (λ v. Ok (v, 0, s)) (option_alone e);
       pair = λ p e s. bound _ _ (λ y. ap (λ v. Ok (v, max y.1 0, y.2)) (pair_alone y.0 e)) (sub Types 2 s);
       times = λ p. tt;
       quotient = λ p. tt;

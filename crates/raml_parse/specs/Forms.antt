@@ -1,7 +1,7 @@
 -- The rules of the forms that the code tells apart.
 use Rattle.std.specs.Prelude.{ℕ, List}
 use Rattle.token_grammar.specs.Rules.{Done, Sub}
-use Rattle.raml_parse.specs.Table.{Part, Rules, Exprs, int_act, bool_act, inner_type_rule, list_act, tree_act, number_act, truth_act, nil_act, leaf_act, name_rule, node_rule, not_rule, parens_rule, let_rule, if_rule, match_rule, tick_rule, arith_act, compare_act, cons_act}
+use Rattle.raml_parse.specs.Table.{Part, Rules, Exprs, int_act, bool_act, inner_type_rule, list_act, tree_act, option_act, number_act, truth_act, nil_act, leaf_act, none_act, name_rule, node_rule, some_rule, not_rule, parens_rule, let_rule, if_rule, match_rule, tick_rule, arith_act, compare_act, cons_act}
 use Rattle.raml_syntax.specs.declared.tree.ArithOp.{ArithOp}
 use Rattle.raml_syntax.specs.declared.tree.ArithOp.TheVariants as op
 use Rattle.raml_parse.specs.declared.form.TypeStart.{TypeStart}
@@ -28,6 +28,7 @@ type_form x = (0, type_rule x)
 abbrev pub suffix_act : Suffix → List Part → Part
 suffix_act f.List = list_act
 suffix_act f.Tree = tree_act
+suffix_act f.Option = option_act
 
 abbrev pub suffix_rule : Suffix → Rules
 suffix_rule x = Done (suffix_act x)
@@ -38,9 +39,11 @@ simple_rule (a.Number n) = Done (number_act n)
 simple_rule (a.Truth b) = Done (truth_act b)
 simple_rule a.Nil = Done nil_act
 simple_rule a.Leaf = Done leaf_act
+simple_rule a.Nothing = Done none_act
 
 abbrev pub compound_rule : Compound → Rules
 compound_rule c.Node = node_rule
+compound_rule c.Just = some_rule
 compound_rule c.Not = not_rule
 compound_rule c.Parens = parens_rule
 compound_rule c.Let = let_rule
@@ -50,6 +53,7 @@ compound_rule c.Tick = tick_rule
 
 abbrev pub compound_level : Compound → ℕ
 compound_level c.Node = 0
+compound_level c.Just = 0
 compound_level c.Not = 0
 compound_level c.Parens = 0
 compound_level c.Let = 4

@@ -1,11 +1,11 @@
 -- What the code's tokens and answers are as plain data.
-use Rattle.std.specs.Prelude.{◌≡◌, ℕ, List, [], ◌∷◌, ◌++◌, map, reverse, Result, Ok, Err, Vec}
+use Rattle.std.specs.Prelude.{◌≡◌, ℕ, List, [], ◌∷◌, ◌++◌, map, reverse, Option, Some, None, Result, Ok, Err, Vec}
 use Rattle.std.specs.Borrow.{Bor}
 use Rattle.std.specs.Global.{Global, Box}
-use Rattle.token_grammar.specs.Reading.{Fault}
+use Rattle.token_grammar.specs.Reading.{Fault, rest_of}
 use Rattle.token_grammar.specs.declared.Kind.{Kind}
 use Rattle.token_grammar.specs.declared.Kind.TheVariants as d
-use Rattle.raml_syntax.specs.Tree.{Bound}
+use Rattle.raml_syntax.specs.Tree.{Bound, Term}
 use Rattle.raml_syntax.specs.Read.{term_of, ty_of, parameter_of, program_of}
 use Rattle.raml_syntax.specs.declared.tree.Expr.{Expr}
 use Rattle.raml_syntax.specs.declared.ty.Ty.{Ty}
@@ -25,7 +25,7 @@ use Rattle.raml_parse.specs.declared.stop.Stop.{Stop}
 use Rattle.raml_parse.specs.declared.stop.Stop.TheVariants as f
 
 abbrev pub word_at : Word → ℕ → Token
-word_at (w.Name x) p = Name p x
+word_at (w.Name x) p = Name p x.now
 word_at (w.Number n) p = Number p n
 word_at (w.Sign k) p = Key p k
 
@@ -53,14 +53,22 @@ Gives view (Err e) read = Fails e read
 abbrev pub rest : Bor (List Piece) → List Token
 rest u = pieces u.now
 
+-- What was found at the first of the tokens s, by the view, and the tokens behind it; or nothing was.
+abbrev pub Finds : {X Y : Type 0} → (X → Y) → (X → List Token) → Option X → Option Y → List Token → Type 0
+Finds view left None test s = test ≡ None
+Finds view left (Some x) test s = (test ≡ Some (view x)) × (rest_of s ≡ left x)
+
+abbrev pub term_in : Box Expr → Term
+term_in e = term_of e.value
+
 abbrev pub phrase : Expr × ℕ × Bor (List Piece) → Part × ℕ × List Token
 phrase x = (Phrase (term_of x.0), x.1, rest x.2)
 
 abbrev pub boxed : Box Expr × ℕ × Bor (List Piece) → Part × ℕ × List Token
-boxed x = (Phrase (term_of x.0.value), x.1, rest x.2)
+boxed x = (Phrase (term_in x.0), x.1, rest x.2)
 
-abbrev pub typing : Ty × ℕ × Bor (List Piece) → Part × ℕ × List Token
-typing x = (Typing (ty_of x.0), x.1, rest x.2)
+abbrev pub typing : Box Ty × ℕ × Bor (List Piece) → Part × ℕ × List Token
+typing x = (Typing (ty_of x.0.value), x.1, rest x.2)
 
 abbrev pub header : Param × ℕ × Bor (List Piece) → Part × ℕ × List Token
 header x = (Header (parameter_of x.0), x.1, rest x.2)

@@ -2,12 +2,12 @@
 use Rattle.std.specs.Prelude.{ℕ, ℤ, zero, suc, List, [], ◌∷◌, Option, Some, None, Bool, true, false, pos, nat_le, if◌then◌else◌}
 use Rattle.token_grammar.specs.Rules.{Rule, Done, Take, Sub, Either, Many, Grammar}
 use Rattle.raml_syntax.specs.Tree as t
-use Rattle.raml_syntax.specs.Tree.{Text, Type', Integer, Boolean, PairOf, ListOf, TreeOf, Bound, Term, Terms, Parameter, Prog}
+use Rattle.raml_syntax.specs.Tree.{Text, Type', Integer, Boolean, PairOf, ListOf, TreeOf, OptionOf, Bound, Term, Terms, Parameter, Prog}
 use Rattle.raml_syntax.specs.declared.tree.ArithOp.{ArithOp}
 use Rattle.raml_syntax.specs.declared.tree.ArithOp.TheVariants as op
 use Rattle.raml_syntax.specs.declared.tree.CompareOp.{CompareOp}
 use Rattle.raml_syntax.specs.declared.tree.CompareOp.TheVariants as cmp
-use Rattle.raml_parse.specs.Tokens.{Sign, Token, Name, Number, Key, same}
+use Rattle.raml_parse.specs.Tokens.{Sign, Token, Name, Number, Key, is_key}
 use Rattle.raml_parse.specs.declared.token.Sign.TheVariants as s
 
 -- what the rules collect and give
@@ -26,7 +26,7 @@ pub data Class : Type 0 where
   Types : Class
   Exprs : Class
 
--- Levels of types: 0 what needs no parentheses, 1 with `list` and `tree` behind it, 2 with `*`.
+-- Levels of types: 0 what needs no parentheses, 1 with `list`, `tree` and `option` behind it, 2 with `*`.
 abbrev pub type_level : ℕ
 type_level = 2
 
@@ -40,15 +40,19 @@ Rules = Rule Token Part Class
 abbrev pub Test : Type 0
 Test = Token → Option (List Part)
 
+-- the place of the token
+abbrev pub mark : Token → Part
+mark (Name p x) = At p
+mark (Number p n) = At p
+mark (Key p k) = At p
+
 -- this keyword or symbol
 abbrev pub key : Sign → Test
-key k (Key p j) = if same j k then Some [] else None
-key k _ = None
+key k t = if is_key k t then Some [] else None
 
 -- the same, and its place
 abbrev pub place : Sign → Test
-place k (Key p j) = if same j k then Some (At p ∷ []) else None
-place k _ = None
+place k t = if is_key k t then Some (mark t ∷ []) else None
 
 abbrev pub name : Test
 name (Name p x) = Some (Named p x ∷ [])
@@ -58,11 +62,6 @@ name _ = None
 abbrev pub number_to : ℕ → Test
 number_to k (Number p n) = if nat_le n k then Some (Counted n ∷ []) else None
 number_to k _ = None
-
-abbrev pub mark : Token → Part
-mark (Name p x) = At p
-mark (Number p n) = At p
-mark (Key p k) = At p
 
 -- a type, an expression, a name, this keyword or symbol, and then the rule
 abbrev pub type : Rules → Rules
@@ -97,6 +96,10 @@ abbrev pub tree_act : List Part → Part
 tree_act (Typing A ∷ ps) = Typing (TreeOf A)
 tree_act _ = Nothing
 
+abbrev pub option_act : List Part → Part
+option_act (Typing A ∷ ps) = Typing (OptionOf A)
+option_act _ = Nothing
+
 abbrev pub pair_type_act : List Part → Part
 pair_type_act (Typing B ∷ Typing A ∷ ps) = Typing (PairOf A B)
 pair_type_act _ = Nothing
@@ -115,10 +118,11 @@ type_starts _ = None
 abbrev pub second_rule : Rules
 second_rule = type (Done pair_type_act)
 
--- type list, type tree, type * type
+-- type list, type tree, type option, type * type
 abbrev pub type_goes : Token → Option (ℕ × Rules)
 type_goes (Key p s.List) = Some (0, Done list_act)
 type_goes (Key p s.Tree) = Some (0, Done tree_act)
+type_goes (Key p s.Option) = Some (0, Done option_act)
 type_goes (Key p s.Star) = Some (1, second_rule)
 type_goes _ = None
 
@@ -143,6 +147,10 @@ abbrev pub leaf_act : List Part → Part
 leaf_act (At p ∷ ps) = Phrase (t.Leaf p)
 leaf_act _ = Nothing
 
+abbrev pub none_act : List Part → Part
+none_act (At p ∷ ps) = Phrase (t.Nothing p)
+none_act _ = Nothing
+
 abbrev pub var_act : Text → List Part → Part
 var_act x (At p ∷ ps) = Phrase (t.Var p x)
 var_act x _ = Nothing
@@ -159,6 +167,10 @@ call_act f ps = call_of_parts f t.None ps
 abbrev pub node_act : List Part → Part
 node_act (Phrase c ∷ Phrase b ∷ Phrase a ∷ At p ∷ ps) = Phrase (t.Node p a b c)
 node_act _ = Nothing
+
+abbrev pub some_act : List Part → Part
+some_act (Phrase e ∷ At p ∷ ps) = Phrase (t.Just p e)
+some_act _ = Nothing
 
 abbrev pub not_act : List Part → Part
 not_act (Phrase e ∷ At p ∷ ps) = Phrase (t.Not p e)
@@ -196,6 +208,10 @@ abbrev pub match_tree_act : List Part → Part
 match_tree_act (Phrase b ∷ Named u z ∷ Named r y ∷ Named q x ∷ Phrase a ∷ Phrase e ∷ At p ∷ ps) = Phrase (t.MatchTree p e a (bound q x) (bound r y) (bound u z) b)
 match_tree_act _ = Nothing
 
+abbrev pub match_option_act : List Part → Part
+match_option_act (Phrase b ∷ Named q x ∷ Phrase a ∷ Phrase e ∷ At p ∷ ps) = Phrase (t.MatchOption p e a (bound q x) b)
+match_option_act _ = Nothing
+
 abbrev pub tick_act : List Part → Part
 tick_act (Phrase e ∷ Counted n ∷ At p ∷ ps) = Phrase (t.Tick p n e)
 tick_act _ = Nothing
@@ -227,6 +243,10 @@ trees_rule = expr (sign s.Comma (expr (sign s.Close (Done node_act))))
 -- ( expr , expr , expr ) behind node
 abbrev pub node_rule : Rules
 node_rule = sign s.Open (expr (sign s.Comma trees_rule))
+
+-- ( expr ) behind some
+abbrev pub some_rule : Rules
+some_rule = sign s.Open (expr (sign s.Close (Done some_act)))
 
 -- what needs no parentheses, behind not
 abbrev pub not_rule : Rules
@@ -288,17 +308,25 @@ tree_names_rule = named (sign s.Comma (named (sign s.Close (sign s.Arrow (expr (
 abbrev pub tree_case_rule : Rules
 tree_case_rule = sign s.Bar (sign s.Node (sign s.Open (named (sign s.Comma tree_names_rule))))
 
+-- | some ( name ) -> expr
+abbrev pub option_case_rule : Rules
+option_case_rule = sign s.Bar (sign s.Just (sign s.Open (named (sign s.Close (sign s.Arrow (expr (Done match_option_act)))))))
+
 -- -> expr and the other case of a list, behind nil
 abbrev pub list_cases_rule : Rules
 list_cases_rule = sign s.Arrow (expr list_case_rule)
+
+-- -> expr and the other case of an option, behind none
+abbrev pub option_cases_rule : Rules
+option_cases_rule = sign s.Arrow (expr option_case_rule)
 
 -- leaf -> expr and the other case of a tree
 abbrev pub tree_cases_rule : Rules
 tree_cases_rule = sign s.Leaf (sign s.Arrow (expr tree_case_rule))
 
--- nil and the cases of a list, or those of a tree
+-- nil and the cases of a list, none and those of an option, or those of a tree
 abbrev pub cases_rule : Rules
-cases_rule = Either (key s.Nil) list_cases_rule tree_cases_rule
+cases_rule = Either (key s.Nil) list_cases_rule (Either (key s.Nothing) option_cases_rule tree_cases_rule)
 
 -- expr with and the cases, behind match
 abbrev pub match_rule : Rules
@@ -315,7 +343,9 @@ expr_starts (Key p s.True) = Some (0, Done (truth_act true))
 expr_starts (Key p s.False) = Some (0, Done (truth_act false))
 expr_starts (Key p s.Nil) = Some (0, Done nil_act)
 expr_starts (Key p s.Leaf) = Some (0, Done leaf_act)
+expr_starts (Key p s.Nothing) = Some (0, Done none_act)
 expr_starts (Key p s.Node) = Some (0, node_rule)
+expr_starts (Key p s.Just) = Some (0, some_rule)
 expr_starts (Key p s.Not) = Some (0, not_rule)
 expr_starts (Key p s.Open) = Some (0, parens_rule)
 expr_starts (Key p s.Let) = Some (4, let_rule)
@@ -401,7 +431,7 @@ abbrev pub goes : Class → Token → Option (ℕ × Rules)
 goes Types t = type_goes t
 goes Exprs t = expr_goes t
 
--- `list`, `tree` and the arithmetic operators chain to the left
+-- `list`, `tree`, `option` and the arithmetic operators chain to the left
 abbrev pub chains : Class → ℕ → Bool
 chains Types zero = true
 chains Exprs zero = true

@@ -1,5 +1,5 @@
 -- Tokens as the grammar sees them.
-use Rattle.std.specs.Prelude.{ℕ, Bool, cond, codes}
+use Rattle.std.specs.Prelude.{ℕ, Bool, false, cond, codes}
 use Rattle.std.specs.Str.{bytes_eq}
 use Rattle.raml_lex.specs.Lexemes.{number_value}
 use Rattle.raml_lex.specs.Lexing.{word}
@@ -23,6 +23,8 @@ spelling s.With = codes "with"
 spelling s.Nil = codes "nil"
 spelling s.Leaf = codes "leaf"
 spelling s.Node = codes "node"
+spelling s.Nothing = codes "none"
+spelling s.Just = codes "some"
 spelling s.True = codes "true"
 spelling s.False = codes "false"
 spelling s.Not = codes "not"
@@ -33,6 +35,7 @@ spelling s.Int = codes "int"
 spelling s.Bool = codes "bool"
 spelling s.List = codes "list"
 spelling s.Tree = codes "tree"
+spelling s.Option = codes "option"
 spelling s.Open = codes "("
 spelling s.Close = codes ")"
 spelling s.Comma = codes ","
@@ -77,7 +80,8 @@ word_of w =
     cond (bytes_eq w (spelling s.Bool)) s.Bool (
     cond (bytes_eq w (spelling s.List)) s.List (
     cond (bytes_eq w (spelling s.Tree)) s.Tree (
-    symbol_of w))))))))))
+    cond (bytes_eq w (spelling s.Option)) s.Option (
+    symbol_of w)))))))))))
 
 -- the same of any keyword or symbol
 abbrev pub sign_of : Text → Sign
@@ -93,7 +97,9 @@ sign_of w =
     cond (bytes_eq w (spelling s.Nil)) s.Nil (
     cond (bytes_eq w (spelling s.Leaf)) s.Leaf (
     cond (bytes_eq w (spelling s.Node)) s.Node (
-    word_of w)))))))))))
+    cond (bytes_eq w (spelling s.Nothing)) s.Nothing (
+    cond (bytes_eq w (spelling s.Just)) s.Just (
+    word_of w)))))))))))))
 
 -- a name, a number, or a keyword or symbol, and the place where it begins
 pub data Token : Type 0 where
@@ -103,6 +109,11 @@ pub data Token : Type 0 where
 
 abbrev pub same : Sign → Sign → Bool
 same j k = bytes_eq (spelling j) (spelling k)
+
+-- whether the token is this keyword or symbol
+abbrev pub is_key : Sign → Token → Bool
+is_key k (Key p j) = same j k
+is_key k _ = false
 
 abbrev pub of_kind : TokenKind → ℕ → Text → Token
 of_kind k.Name p w = Name p w

@@ -1,31 +1,34 @@
 // The forms of expressions, by the token that tells them.
-ghost use Rattle.std.specs.Prelude.{◌≡◌, ℕ, [], ◌∷◌, None, Some, MatchOption};
+ghost use Rattle.std.specs.Prelude.{◌≡◌, ℕ, IfSome};
 ghost use Rattle.std.specs.Option.{option_map};
-ghost use Rattle.token_grammar.specs.Rules.{opening};
-ghost use Rattle.token_grammar.specs.Reading.{starts_at, goes_at, rest_of};
+ghost use Rattle.token_grammar.specs.Reading.{starts_at, goes_at};
 ghost use Rattle.raml_parse.specs.Tokens.{Key};
-ghost use Rattle.raml_parse.specs.Table.{Types, Exprs, At, starts, goes, second_rule, grammar};
+ghost use Rattle.raml_parse.specs.Table.{Types, Exprs, starts, goes, second_rule, grammar};
 ghost use Rattle.raml_parse.specs.Forms.{type_form, type_rule, suffix_rule, start_form, start_rule, infix_form, infix_rule, infix_level, right_level};
-ghost use Rattle.raml_parse.specs.Read.{token_of, pieces, rest};
+ghost use Rattle.raml_parse.specs.Read.{Finds, pieces, rest, token_of};
 
 use crate::token::{Piece, Sign, Word};
-use raml_syntax::{ArithOp, CompareOp, Name};
+use raml_syntax::{ArithOp, CompareOp};
 
 /// A form that its first token may be all of.
 #[derive(Clone, Copy)]
 pub enum Simple<'a> {
     /// A variable, or a call where a parenthesis stands behind it.
-    Name(&'a Name),
+    Name(&'a str),
     Number(i64),
     Truth(bool),
     Nil,
     Leaf,
+    /// `none`.
+    Nothing,
 }
 
 /// A form that has parts, by its first token.
 #[derive(Clone, Copy)]
 pub enum Compound {
     Node,
+    /// `some`.
+    Just,
     Not,
     Parens,
     Let,
@@ -59,7 +62,9 @@ impl<'a> Start<'a> {
             Sign::False => Some(Start::Simple(Simple::Truth(false))),
             Sign::Nil => Some(Start::Simple(Simple::Nil)),
             Sign::Leaf => Some(Start::Simple(Simple::Leaf)),
+            Sign::Nothing => Some(Start::Simple(Simple::Nothing)),
             Sign::Node => Some(Start::Compound(Compound::Node)),
+            Sign::Just => Some(Start::Compound(Compound::Just)),
             Sign::Not => Some(Start::Compound(Compound::Not)),
             Sign::Open => Some(Start::Compound(Compound::Parens)),
             Sign::Let => Some(Start::Compound(Compound::Let)),
@@ -71,16 +76,16 @@ impl<'a> Start<'a> {
     }
 
     // The form that a token begins.
-    fn of(token: &'a Piece) -> Option<Start<'a>>
+    fn of(token: &Piece<'a>) -> Option<Start<'a>>
         ensures { starts Exprs (token_of token.now) ≡ option_map start_form result }
     {
-        match &token.word {
+        match token.word {
             Word::Name(name) => Some(Start::Simple(Simple::Name(name))),
-            Word::Number(value) if *value <= i64::MAX as u64 => {
-                Some(Start::Simple(Simple::Number(*value as i64)))
+            Word::Number(value) if value <= i64::MAX as u64 => {
+                Some(Start::Simple(Simple::Number(value as i64)))
             }
             Word::Number(_) => None,
-            Word::Sign(sign) => Start::of_sign(*sign),
+            Word::Sign(sign) => Start::of_sign(sign),
         }
     }
 
@@ -90,15 +95,15 @@ impl<'a> Start<'a> {
     {
         match self {
             Start::Compound(Compound::Let | Compound::If | Compound::Match | Compound::Tick) => 4,
-            Start::Compound(Compound::Node | Compound::Not | Compound::Parens) | Start::Simple(_) =>
-                0,
+            Start::Compound(Compound::Node | Compound::Just | Compound::Not | Compound::Parens)
+            | Start::Simple(_) => 0,
         }
     }
 
     /// The form of this level that begins here, and the tokens behind its first token.
     #[tactic(auto, unfolding(crate::specs::Table::grammar))]
-    pub fn at(tokens: &'a [Piece], level: u32) -> Option<(Start<'a>, &'a [Piece])>
-        ensures { MatchOption result (starts_at grammar Exprs level (pieces tokens.now) ≡ None) (λ x. (starts_at grammar Exprs level (pieces tokens.now) ≡ Some (start_rule x.0)) × (rest_of (pieces tokens.now) ≡ rest x.1)) }
+    pub fn at(tokens: &'a [Piece<'a>], level: u32) -> Option<(Start<'a>, &'a [Piece<'a>])>
+        ensures { Finds (λ x. start_rule x.0) (λ x. rest x.1) result (starts_at grammar Exprs level (pieces tokens.now)) (pieces tokens.now) }
     {
         let [first, rest @ ..] = tokens else {
             return None;
@@ -133,9 +138,9 @@ impl Infix {
     fn of(token: &Piece) -> Option<Infix>
         ensures { goes Exprs (token_of token.now) ≡ option_map infix_form result }
     {
-        match &token.word {
+        match token.word {
             Word::Name(_) | Word::Number(_) => None,
-            Word::Sign(sign) => Infix::of_sign(*sign),
+            Word::Sign(sign) => Infix::of_sign(sign),
         }
     }
 
@@ -153,8 +158,9 @@ impl Infix {
 
     /// The form that goes on here from this level, and the tokens behind its operator.
     #[tactic(auto, unfolding(crate::specs::Table::grammar))]
-    pub fn at(tokens: &[Piece], level: u32) -> Option<(Infix, &[Piece])>
-        ensures { MatchOption result (goes_at grammar Exprs level (pieces tokens.now) ≡ None) (λ x. (goes_at grammar Exprs level (pieces tokens.now) ≡ Some (infix_rule x.0)) × (infix_level x.0 ≡ level) × (rest_of (pieces tokens.now) ≡ rest x.1)) }
+    pub fn at<'a>(tokens: &'a [Piece<'a>], level: u32) -> Option<(Infix, &'a [Piece<'a>])>
+        ensures found { Finds (λ x. infix_rule x.0) (λ x. rest x.1) result (goes_at grammar Exprs level (pieces tokens.now)) (pieces tokens.now) }
+        ensures level { IfSome result (λ x. infix_level x.0 ≡ level) }
     {
         let [first, rest @ ..] = tokens else {
             return None;
@@ -197,6 +203,7 @@ pub enum TypeStart {
 pub enum Suffix {
     List,
     Tree,
+    Option,
 }
 
 impl TypeStart {
@@ -216,16 +223,16 @@ impl TypeStart {
     fn of(token: &Piece) -> Option<TypeStart>
         ensures { starts Types (token_of token.now) ≡ option_map type_form result }
     {
-        match &token.word {
+        match token.word {
             Word::Name(_) | Word::Number(_) => None,
-            Word::Sign(sign) => TypeStart::of_sign(*sign),
+            Word::Sign(sign) => TypeStart::of_sign(sign),
         }
     }
 
     /// The type that begins here, and the tokens behind its first token.
     #[tactic(auto, unfolding(crate::specs::Table::grammar))]
-    pub fn at(tokens: &[Piece]) -> Option<(TypeStart, &[Piece])>
-        ensures { MatchOption result (starts_at grammar Types 0 (pieces tokens.now) ≡ None) (λ x. (starts_at grammar Types 0 (pieces tokens.now) ≡ Some (type_rule x.0)) × (rest_of (pieces tokens.now) ≡ rest x.1)) }
+    pub fn at<'a>(tokens: &'a [Piece<'a>]) -> Option<(TypeStart, &'a [Piece<'a>])>
+        ensures { Finds (λ x. type_rule x.0) (λ x. rest x.1) result (starts_at grammar Types 0 (pieces tokens.now)) (pieces tokens.now) }
     {
         let [first, rest @ ..] = tokens else {
             return None;
@@ -240,24 +247,16 @@ impl TypeStart {
 impl Suffix {
     /// The suffix that stands here, and the tokens behind it.
     #[tactic(auto, unfolding(crate::specs::Table::grammar))]
-    pub fn at(tokens: &[Piece]) -> Option<(Suffix, &[Piece])>
-        ensures { MatchOption result (goes_at grammar Types 0 (pieces tokens.now) ≡ None) (λ x. (goes_at grammar Types 0 (pieces tokens.now) ≡ Some (suffix_rule x.0)) × (rest_of (pieces tokens.now) ≡ rest x.1)) }
+    pub fn at<'a>(tokens: &'a [Piece<'a>]) -> Option<(Suffix, &'a [Piece<'a>])>
+        ensures { Finds (λ x. suffix_rule x.0) (λ x. rest x.1) result (goes_at grammar Types 0 (pieces tokens.now)) (pieces tokens.now) }
     {
-        match tokens {
-            [
-                Piece {
-                    word: Word::Sign(Sign::List),
-                    ..
-                },
-                rest @ ..,
-            ] => Some((Suffix::List, rest)),
-            [
-                Piece {
-                    word: Word::Sign(Sign::Tree),
-                    ..
-                },
-                rest @ ..,
-            ] => Some((Suffix::Tree, rest)),
+        let [first, rest @ ..] = tokens else {
+            return None;
+        };
+        match first.word {
+            Word::Sign(Sign::List) => Some((Suffix::List, rest)),
+            Word::Sign(Sign::Tree) => Some((Suffix::Tree, rest)),
+            Word::Sign(Sign::Option) => Some((Suffix::Option, rest)),
             _ => None,
         }
     }
@@ -265,8 +264,8 @@ impl Suffix {
 
 /// The tokens behind the `*` of a pair's type.
 #[tactic(auto, unfolding(crate::specs::Table::grammar))]
-pub fn star_at(tokens: &[Piece]) -> Option<&[Piece]>
-    ensures { MatchOption result (goes_at grammar Types 1 (pieces tokens.now) ≡ None) (λ u. (goes_at grammar Types 1 (pieces tokens.now) ≡ Some second_rule) × (rest_of (pieces tokens.now) ≡ rest u)) }
+pub fn star_at<'a>(tokens: &'a [Piece<'a>]) -> Option<&'a [Piece<'a>]>
+    ensures { Finds (λ u. second_rule) rest result (goes_at grammar Types 1 (pieces tokens.now)) (pieces tokens.now) }
 {
     match tokens {
         [

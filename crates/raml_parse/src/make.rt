@@ -1,33 +1,15 @@
 // Trees from their parts.
-ghost use Rattle.std.specs.Prelude.{◌≡◌, ◌≤◌, [], ◌∷◌, ◌++◌, IfOk};
+ghost use Rattle.std.specs.Prelude.{◌≡◌, ◌++◌, [], ◌∷◌, IfOk};
 ghost use Rattle.raml_syntax.specs.Tree as t;
 ghost use Rattle.raml_syntax.specs.Read.{term_of, terms_of, ty_of, bound_of, parameter_of};
 ghost use Rattle.raml_parse.specs.Table.{Phrase, Typing, At, call_act, function_act};
 ghost use Rattle.raml_parse.specs.Forms.{infix_act};
-ghost use Rattle.raml_parse.specs.Read.{phrases_back, headers_back, headed, named_part, bound_at};
+ghost use Rattle.raml_parse.specs.Read.{named_part, term_in, headers_back, phrases_back, headed, bound_at};
 
 use crate::form::Infix;
 use crate::take::NameAt;
 use raml_syntax::{Binder, Expr, Form, Fun, Name, Param, Pos, Ty};
 use std::alloc::{AllocError, Global};
-
-pub fn list_type(alloc: Global, element: Ty) -> Result<Ty, AllocError>
-    ensures { IfOk result (λ a. ty_of a ≡ t.ListOf (ty_of element)) }
-{
-    Ok(Ty::List(Box::new(alloc, element)?))
-}
-
-pub fn tree_type(alloc: Global, element: Ty) -> Result<Ty, AllocError>
-    ensures { IfOk result (λ a. ty_of a ≡ t.TreeOf (ty_of element)) }
-{
-    Ok(Ty::Tree(Box::new(alloc, element)?))
-}
-
-pub fn pair_type(alloc: Global, first: Ty, second: Ty) -> Result<Ty, AllocError>
-    ensures { IfOk result (λ a. ty_of a ≡ t.PairOf (ty_of first) (ty_of second)) }
-{
-    Ok(Ty::Pair(Box::new(alloc, first)?, Box::new(alloc, second)?))
-}
 
 pub fn number(at: Pos, value: i64) -> Expr
     ensures { term_of result ≡ t.Number at.0 value }
@@ -65,12 +47,22 @@ pub fn leaf(at: Pos) -> Expr
     }
 }
 
-pub fn variable(alloc: Global, at: Pos, name: &Name) -> Result<Expr, AllocError>
+/// `none`.
+pub fn nothing(at: Pos) -> Expr
+    ensures { term_of result ≡ t.Nothing at.0 }
+{
+    Expr {
+        at,
+        form: Form::Nothing,
+    }
+}
+
+pub fn variable(alloc: Global, at: Pos, name: &str) -> Result<Expr, AllocError>
     ensures { IfOk result (λ e. term_of e ≡ t.Var at.0 name.now) }
 {
     Ok(Expr {
         at,
-        form: Form::Var(Name::new(alloc, name.text())?),
+        form: Form::Var(Name::new(alloc, name)?),
     })
 }
 
@@ -84,14 +76,14 @@ fn call_of(at: Pos, function: Name, args: Vec<Expr>) -> Expr
 }
 
 #[tactic(auto, using(crate::proofs::Parts::call_is))]
-pub fn call(alloc: Global, at: Pos, function: &Name, args: Vec<Expr>) -> Result<Expr, AllocError>
+pub fn call(alloc: Global, at: Pos, function: &str, args: Vec<Expr>) -> Result<Expr, AllocError>
     ensures { IfOk result (λ e. call_act function.now (phrases_back args.items ++ At at.0 ∷ []) ≡ Phrase (term_of e)) }
 {
-    Ok(call_of(at, Name::new(alloc, function.text())?, args))
+    Ok(call_of(at, Name::new(alloc, function)?, args))
 }
 
 pub fn node(at: Pos, element: Box<Expr>, left: Box<Expr>, right: Box<Expr>) -> Expr
-    ensures { term_of result ≡ t.Node at.0 (term_of element.value) (term_of left.value) (term_of right.value) }
+    ensures { term_of result ≡ t.Node at.0 (term_in element) (term_in left) (term_in right) }
 {
     Expr {
         at,
@@ -99,8 +91,18 @@ pub fn node(at: Pos, element: Box<Expr>, left: Box<Expr>, right: Box<Expr>) -> E
     }
 }
 
+/// `some` of its content.
+pub fn just(at: Pos, content: Box<Expr>) -> Expr
+    ensures { term_of result ≡ t.Just at.0 (term_in content) }
+{
+    Expr {
+        at,
+        form: Form::Just(content),
+    }
+}
+
 pub fn negation(at: Pos, operand: Box<Expr>) -> Expr
-    ensures { term_of result ≡ t.Not at.0 (term_of operand.value) }
+    ensures { term_of result ≡ t.Not at.0 (term_in operand) }
 {
     Expr {
         at,
@@ -109,7 +111,7 @@ pub fn negation(at: Pos, operand: Box<Expr>) -> Expr
 }
 
 pub fn pair(at: Pos, first: Box<Expr>, second: Box<Expr>) -> Expr
-    ensures { term_of result ≡ t.Pair at.0 (term_of first.value) (term_of second.value) }
+    ensures { term_of result ≡ t.Pair at.0 (term_in first) (term_in second) }
 {
     Expr {
         at,
@@ -117,12 +119,12 @@ pub fn pair(at: Pos, first: Box<Expr>, second: Box<Expr>) -> Expr
     }
 }
 
-pub fn typed(at: Pos, expr: Box<Expr>, ty: Ty) -> Expr
-    ensures { term_of result ≡ t.Typed at.0 (term_of expr.value) (ty_of ty) }
+pub fn typed(at: Pos, expr: Box<Expr>, ty: Box<Ty>) -> Expr
+    ensures { term_of result ≡ t.Typed at.0 (term_in expr) (ty_of ty.value) }
 {
     Expr {
         at,
-        form: Form::Typed(expr, ty),
+        form: Form::Typed(expr, Box::into_inner(ty)),
     }
 }
 
@@ -131,7 +133,7 @@ fn binder(alloc: Global, name: NameAt) -> Result<Binder, AllocError>
 {
     Ok(Binder {
         at: name.at,
-        name: Name::new(alloc, name.name.text())?,
+        name: Name::new(alloc, name.name)?,
     })
 }
 
@@ -143,7 +145,7 @@ pub fn binding(
     bound: Box<Expr>,
     rest: Box<Expr>,
 ) -> Result<Expr, AllocError>
-    ensures { IfOk result (λ e. term_of e ≡ t.Let at.0 (bound_at x.entry) (term_of bound.value) (term_of rest.value)) }
+    ensures { IfOk result (λ e. term_of e ≡ t.Let at.0 (bound_at x.entry) (term_in bound) (term_in rest)) }
 {
     let x = binder(alloc, x)?;
     Ok(Expr {
@@ -161,7 +163,7 @@ pub fn pair_binding(
     bound: Box<Expr>,
     rest: Box<Expr>,
 ) -> Result<Expr, AllocError>
-    ensures { IfOk result (λ e. term_of e ≡ t.LetPair at.0 (bound_at x.entry) (bound_at y.entry) (term_of bound.value) (term_of rest.value)) }
+    ensures { IfOk result (λ e. term_of e ≡ t.LetPair at.0 (bound_at x.entry) (bound_at y.entry) (term_in bound) (term_in rest)) }
 {
     let x = binder(alloc, x)?;
     let y = binder(alloc, y)?;
@@ -172,7 +174,7 @@ pub fn pair_binding(
 }
 
 pub fn choice(at: Pos, condition: Box<Expr>, first: Box<Expr>, second: Box<Expr>) -> Expr
-    ensures { term_of result ≡ t.If at.0 (term_of condition.value) (term_of first.value) (term_of second.value) }
+    ensures { term_of result ≡ t.If at.0 (term_in condition) (term_in first) (term_in second) }
 {
     Expr {
         at,
@@ -190,7 +192,7 @@ pub fn list_cases(
     tail: NameAt,
     rest: Box<Expr>,
 ) -> Result<Expr, AllocError>
-    ensures { IfOk result (λ e. term_of e ≡ t.MatchList at.0 (term_of subject.value) (term_of empty.value) (bound_at head.entry) (bound_at tail.entry) (term_of rest.value)) }
+    ensures { IfOk result (λ e. term_of e ≡ t.MatchList at.0 (term_in subject) (term_in empty) (bound_at head.entry) (bound_at tail.entry) (term_in rest)) }
 {
     let head = binder(alloc, head)?;
     let tail = binder(alloc, tail)?;
@@ -211,7 +213,7 @@ pub fn tree_cases(
     right: NameAt,
     rest: Box<Expr>,
 ) -> Result<Expr, AllocError>
-    ensures { IfOk result (λ e. term_of e ≡ t.MatchTree at.0 (term_of subject.value) (term_of empty.value) (bound_at element.entry) (bound_at left.entry) (bound_at right.entry) (term_of rest.value)) }
+    ensures { IfOk result (λ e. term_of e ≡ t.MatchTree at.0 (term_in subject) (term_in empty) (bound_at element.entry) (bound_at left.entry) (bound_at right.entry) (term_in rest)) }
 {
     let element = binder(alloc, element)?;
     let left = binder(alloc, left)?;
@@ -222,8 +224,26 @@ pub fn tree_cases(
     })
 }
 
+/// The cases of an option: where it is `none`, and where it has a content.
+pub fn option_cases(
+    alloc: Global,
+    at: Pos,
+    subject: Box<Expr>,
+    empty: Box<Expr>,
+    content: NameAt,
+    rest: Box<Expr>,
+) -> Result<Expr, AllocError>
+    ensures { IfOk result (λ e. term_of e ≡ t.MatchOption at.0 (term_in subject) (term_in empty) (bound_at content.entry) (term_in rest)) }
+{
+    let content = binder(alloc, content)?;
+    Ok(Expr {
+        at,
+        form: Form::MatchOption(subject, empty, content, rest),
+    })
+}
+
 pub fn tick(at: Pos, count: u32, body: Box<Expr>) -> Expr
-    ensures { term_of result ≡ t.Tick at.0 count (term_of body.value) }
+    ensures { term_of result ≡ t.Tick at.0 count (term_in body) }
 {
     Expr {
         at,
@@ -233,7 +253,7 @@ pub fn tick(at: Pos, count: u32, body: Box<Expr>) -> Expr
 
 /// An operator with its operands.
 pub fn operation(at: Pos, operator: Infix, left: Box<Expr>, right: Box<Expr>) -> Expr
-    ensures { infix_act operator (Phrase (term_of right.value) ∷ Phrase (term_of left.value) ∷ At at.0 ∷ []) ≡ Phrase (term_of result) }
+    ensures { infix_act operator (Phrase (term_in right) ∷ Phrase (term_in left) ∷ At at.0 ∷ []) ≡ Phrase (term_of result) }
 {
     let form = match operator {
         Infix::Arith(op) => Form::Arith(op, left, right),
@@ -243,13 +263,13 @@ pub fn operation(at: Pos, operator: Infix, left: Box<Expr>, right: Box<Expr>) ->
     Expr { at, form }
 }
 
-pub fn parameter(alloc: Global, parameter: NameAt, ty: Ty) -> Result<Param, AllocError>
-    ensures { IfOk result (λ p. parameter_of p ≡ record { at = parameter.entry.at.0; name = parameter.entry.name.now; type = ty_of ty }) }
+pub fn parameter(alloc: Global, parameter: NameAt, ty: Box<Ty>) -> Result<Param, AllocError>
+    ensures { IfOk result (λ p. parameter_of p ≡ record { at = parameter.entry.at.0; name = parameter.entry.name.now; type = ty_of ty.value }) }
 {
     Ok(Param {
         at: parameter.at,
-        name: Name::new(alloc, parameter.name.text())?,
-        ty,
+        name: Name::new(alloc, parameter.name)?,
+        ty: Box::into_inner(ty),
     })
 }
 
@@ -260,17 +280,17 @@ pub fn function(
     at: Pos,
     function: NameAt,
     params: Vec<Param>,
-    ty: Ty,
-    body: Expr,
+    ty: Box<Ty>,
+    body: Box<Expr>,
 ) -> Result<Fun, AllocError>
-    ensures is { IfOk result (λ f. function_act (Phrase (term_of body) ∷ Typing (ty_of ty) ∷ (headers_back params.items ++ named_part function.entry ∷ [])) ≡ headed f) }
+    ensures is { IfOk result (λ f. function_act (Phrase (term_in body) ∷ Typing (ty_of ty.value) ∷ (headers_back params.items ++ named_part function.entry ∷ [])) ≡ headed f) }
     ensures place { IfOk result (λ f. f.at ≡ at) }
 {
     Ok(Fun {
         at,
-        name: Name::new(alloc, function.name.text())?,
+        name: Name::new(alloc, function.name)?,
         params,
-        result: ty,
-        body,
+        result: Box::into_inner(ty),
+        body: Box::into_inner(body),
     })
 }

@@ -1,11 +1,12 @@
 // Functions and programs from tokens.
 ghost use Rattle.std.specs.Prelude.{◌≡◌, ◌≤◌, ◌<◌, ◌^◌, [], ◌∷◌, ◌++◌, IfOk};
-ghost use Rattle.token_grammar.specs.Reading.{read, rule_of, list_of};
-ghost use Rattle.raml_parse.specs.Table.{grammar, param_rule, params_rule, body_rule, function_rule, functions_rule, text_rule, key, place, At};
+ghost use Rattle.token_grammar.specs.Reading.{list_of};
+ghost use Rattle.raml_parse.specs.Table.{param_rule, params_rule, body_rule, function_rule, text_rule, key, place};
+ghost use Rattle.raml_parse.specs.Steps.{reads};
 ghost use Rattle.raml_parse.specs.Read.{Gives, StartsAt, pieces, header, headers, headers_back, function, functions, whole, named_part};
 ghost use Rattle.raml_parse.specs.declared.token.Sign.TheVariants as s;
 
-use crate::exprs::{EXPR, parse_expr};
+use crate::exprs::parse_part;
 use crate::make;
 use crate::stop::Stop;
 use crate::take::{NameAt, behind, place_behind, take_name, take_place, take_sign};
@@ -20,16 +21,16 @@ const MAX_PARAMS: usize = 8;
 const MAX_FUNCTIONS: usize = 256;
 
 /// A function, the height of its types and its body, and the tokens behind it.
-type FoundFunction<'a> = Result<(Fun, u32, &'a [Piece]), Stop<'a>>;
+type FoundFunction<'a> = Result<(Fun, u32, &'a [Piece<'a>]), Stop<'a>>;
 
 // A parameter with a type of height `depth` at most.
 fn parse_param<'a>(
     alloc: Global,
     depth: u32,
-    tokens: &'a [Piece],
-) -> Result<(Param, u32, &'a [Piece]), Stop<'a>>
+    tokens: &'a [Piece<'a>],
+) -> Result<(Param, u32, &'a [Piece<'a>]), Stop<'a>>
     requires { depth < 2 ^ 30 }
-    ensures same { Gives header result (rule_of grammar (read grammar 0 depth) 0 depth param_rule [] (pieces tokens.now)) }
+    ensures same { Gives header result (reads depth param_rule [] (pieces tokens.now)) }
     ensures low { IfOk result (λ x. x.1 ≤ depth) }
 {
     let (name, rest) = take_name(tokens)?;
@@ -43,10 +44,10 @@ fn parse_param<'a>(
 fn parse_params<'a>(
     alloc: Global,
     depth: u32,
-    tokens: &'a [Piece],
-) -> Result<(Vec<Param>, u32, &'a [Piece]), Stop<'a>>
+    tokens: &'a [Piece<'a>],
+) -> Result<(Vec<Param>, u32, &'a [Piece<'a>]), Stop<'a>>
     requires { depth < 2 ^ 30 }
-    ensures same { Gives headers result (list_of (rule_of grammar (read grammar 0 depth) 0 depth param_rule []) (key s.Comma) 7 (pieces tokens.now)) }
+    ensures same { Gives headers result (list_of (reads depth param_rule []) (key s.Comma) 7 (pieces tokens.now)) }
     ensures low { IfOk result (λ x. x.1 ≤ depth) }
 {
     let (first, mut height, mut rest) = parse_param(alloc, depth, tokens)?;
@@ -71,10 +72,10 @@ fn parse_body<'a>(
     at: Pos,
     name: NameAt,
     params: Vec<Param>,
-    tokens: &'a [Piece],
+    tokens: &'a [Piece<'a>],
 ) -> FoundFunction<'a>
     requires { depth < 2 ^ 30 }
-    ensures same { Gives function result (rule_of grammar (read grammar 0 depth) 0 depth body_rule (headers_back params.items ++ named_part name.entry ∷ []) (pieces tokens.now)) }
+    ensures same { Gives function result (reads depth body_rule (headers_back params.items ++ named_part name.entry ∷ []) (pieces tokens.now)) }
     ensures low { IfOk result (λ x. x.1 ≤ depth) }
     ensures place { IfOk result (λ x. x.0.at ≡ at) }
 {
@@ -82,7 +83,7 @@ fn parse_body<'a>(
     let rest = take_sign(rest, Sign::Colon)?;
     let (ty, height, rest) = parse_type(alloc, depth, rest)?;
     let rest = take_sign(rest, Sign::Equal)?;
-    let (body, body_height, rest) = parse_expr(alloc, EXPR, depth, rest)?;
+    let (body, body_height, rest) = parse_part(alloc, depth, rest)?;
     let function = make::function(alloc, at, name, params, ty, body)?;
     Ok((function, height.max(body_height), rest))
 }
@@ -93,10 +94,10 @@ fn parse_params_and_body<'a>(
     depth: u32,
     at: Pos,
     name: NameAt,
-    tokens: &'a [Piece],
+    tokens: &'a [Piece<'a>],
 ) -> FoundFunction<'a>
     requires { depth < 2 ^ 30 }
-    ensures same { Gives function result (rule_of grammar (read grammar 0 depth) 0 depth params_rule (named_part name.entry ∷ []) (pieces tokens.now)) }
+    ensures same { Gives function result (reads depth params_rule (named_part name.entry ∷ []) (pieces tokens.now)) }
     ensures low { IfOk result (λ x. x.1 ≤ depth) }
     ensures place { IfOk result (λ x. x.0.at ≡ at) }
 {
@@ -106,9 +107,14 @@ fn parse_params_and_body<'a>(
 }
 
 // What stands behind the `fun` at `at`.
-fn parse_function<'a>(alloc: Global, depth: u32, at: Pos, tokens: &'a [Piece]) -> FoundFunction<'a>
+fn parse_function<'a>(
+    alloc: Global,
+    depth: u32,
+    at: Pos,
+    tokens: &'a [Piece<'a>],
+) -> FoundFunction<'a>
     requires { depth < 2 ^ 30 }
-    ensures same { Gives function result (rule_of grammar (read grammar 0 depth) 0 depth function_rule [] (pieces tokens.now)) }
+    ensures same { Gives function result (reads depth function_rule [] (pieces tokens.now)) }
     ensures low { IfOk result (λ x. x.1 ≤ depth) }
     ensures place { IfOk result (λ x. x.0.at ≡ at) }
 {
@@ -123,10 +129,10 @@ fn parse_functions<'a>(
     alloc: Global,
     depth: u32,
     at: Pos,
-    tokens: &'a [Piece],
-) -> Result<(Vec<Fun>, u32, &'a [Piece]), Stop<'a>>
+    tokens: &'a [Piece<'a>],
+) -> Result<(Vec<Fun>, u32, &'a [Piece<'a>]), Stop<'a>>
     requires { depth < 2 ^ 30 }
-    ensures same { Gives functions result (list_of (rule_of grammar (read grammar 0 depth) 0 depth function_rule []) (place s.Fun) 255 (pieces tokens.now)) }
+    ensures same { Gives functions result (list_of (reads depth function_rule []) (place s.Fun) 255 (pieces tokens.now)) }
     ensures low { IfOk result (λ x. x.1 ≤ depth) }
     ensures place { IfOk result (λ x. StartsAt at.0 x.0.items) }
 {
@@ -150,10 +156,10 @@ fn parse_functions<'a>(
 pub fn parse_program<'a>(
     alloc: Global,
     depth: u32,
-    tokens: &'a [Piece],
-) -> Result<(Program, u32, &'a [Piece]), Stop<'a>>
+    tokens: &'a [Piece<'a>],
+) -> Result<(Program, u32, &'a [Piece<'a>]), Stop<'a>>
     requires { depth < 2 ^ 30 }
-    ensures same { Gives whole result (rule_of grammar (read grammar 0 depth) 0 depth text_rule [] (pieces tokens.now)) }
+    ensures same { Gives whole result (reads depth text_rule [] (pieces tokens.now)) }
     ensures low { IfOk result (λ x. x.1 ≤ depth) }
 {
     let (at, rest) = take_place(tokens, Sign::Fun)?;

@@ -10,7 +10,7 @@ use token_grammar::Kind;
 #[derive(Clone, Copy)]
 pub enum Stop<'a> {
     /// The kind of the fault, and the tokens from it on.
-    Fault(Kind, &'a [Piece]),
+    Fault(Kind, &'a [Piece<'a>]),
     NoMemory,
 }
 

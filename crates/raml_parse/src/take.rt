@@ -1,20 +1,20 @@
 // Tokens that must stand.
-ghost use Rattle.std.specs.Prelude.{◌≡◌, [], ◌∷◌, Some, None, MatchOption};
+ghost use Rattle.std.specs.Prelude.{◌≡◌, [], ◌∷◌, MatchOption};
 ghost use Rattle.token_grammar.specs.Rules.{opening};
-ghost use Rattle.token_grammar.specs.Reading.{take_of, taken, rest_of};
+ghost use Rattle.token_grammar.specs.Reading.{take_of, taken};
 ghost use Rattle.raml_parse.specs.Table.{key, place, name, number_to, grammar, At, Counted};
-ghost use Rattle.raml_parse.specs.Read.{Gives, pieces, rest, named_part};
+ghost use Rattle.raml_parse.specs.Read.{Gives, Finds, pieces, rest, named_part};
 
 use crate::stop::Stop;
 use crate::token::{Piece, Sign, Word};
-use raml_syntax::{Name, Pos};
+use raml_syntax::Pos;
 use token_grammar::Kind;
 
 /// A name, and the place where it stands.
 #[derive(Clone, Copy)]
 pub struct NameAt<'a> {
     pub at: Pos,
-    pub name: &'a Name,
+    pub name: &'a str,
 }
 
 /// The place of the first token.
@@ -29,97 +29,67 @@ pub fn first_place(tokens: &[Piece]) -> Option<Pos>
 }
 
 /// The tokens behind this keyword or symbol, where it stands first.
-pub fn behind<'a>(tokens: &'a [Piece], sign: Sign) -> Option<&'a [Piece]>
-    ensures { MatchOption result (taken (key sign) (pieces tokens.now) ≡ None) (λ u. (taken (key sign) (pieces tokens.now) ≡ Some []) × (rest_of (pieces tokens.now) ≡ rest u)) }
+pub fn behind<'a>(tokens: &'a [Piece<'a>], sign: Sign) -> Option<&'a [Piece<'a>]>
+    ensures { Finds (λ u. []) rest result (taken (key sign) (pieces tokens.now)) (pieces tokens.now) }
 {
     match tokens {
-        [
-            Piece {
-                word: Word::Sign(found),
-                ..
-            },
-            rest @ ..,
-        ] if *found == sign => Some(rest),
+        [first, rest @ ..] if first.is(sign) => Some(rest),
         _ => None,
     }
 }
 
-/// The place of this keyword or symbol, and the tokens behind it.
-pub fn place_behind<'a>(tokens: &'a [Piece], sign: Sign) -> Option<(Pos, &'a [Piece])>
-    ensures { MatchOption result (taken (place sign) (pieces tokens.now) ≡ None) (λ x. (taken (place sign) (pieces tokens.now) ≡ Some (At x.0.0 ∷ [])) × (rest_of (pieces tokens.now) ≡ rest x.1)) }
+/// The place of this keyword or symbol, and the tokens behind it, where it stands first.
+pub fn place_behind<'a>(tokens: &'a [Piece<'a>], sign: Sign) -> Option<(Pos, &'a [Piece<'a>])>
+    ensures { Finds (λ x. At x.0.0 ∷ []) (λ x. rest x.1) result (taken (place sign) (pieces tokens.now)) (pieces tokens.now) }
 {
     match tokens {
-        [
-            Piece {
-                at,
-                word: Word::Sign(found),
-            },
-            rest @ ..,
-        ] if *found == sign => Some((*at, rest)),
+        [first, rest @ ..] if first.is(sign) => Some((first.at, rest)),
         _ => None,
     }
 }
 
 /// The tokens behind this keyword or symbol.
-pub fn take_sign<'a>(tokens: &'a [Piece], sign: Sign) -> Result<&'a [Piece], Stop<'a>>
+pub fn take_sign<'a>(tokens: &'a [Piece<'a>], sign: Sign) -> Result<&'a [Piece<'a>], Stop<'a>>
     ensures { Gives (λ u. ([], rest u)) result (take_of (key sign) (pieces tokens.now)) }
 {
-    match tokens {
-        [
-            Piece {
-                word: Word::Sign(found),
-                ..
-            },
-            rest @ ..,
-        ] if *found == sign => Ok(rest),
-        _ => Err(Stop::Fault(Kind::Syntax, tokens)),
-    }
+    behind(tokens, sign).ok_or(Stop::Fault(Kind::Syntax, tokens))
 }
 
 /// The place of this keyword or symbol, and the tokens behind it.
-pub fn take_place<'a>(tokens: &'a [Piece], sign: Sign) -> Result<(Pos, &'a [Piece]), Stop<'a>>
+pub fn take_place<'a>(
+    tokens: &'a [Piece<'a>],
+    sign: Sign,
+) -> Result<(Pos, &'a [Piece<'a>]), Stop<'a>>
     ensures { Gives (λ x. (At x.0.0 ∷ [], rest x.1)) result (take_of (place sign) (pieces tokens.now)) }
 {
-    match tokens {
-        [
-            Piece {
-                at,
-                word: Word::Sign(found),
-            },
-            rest @ ..,
-        ] if *found == sign => Ok((*at, rest)),
-        _ => Err(Stop::Fault(Kind::Syntax, tokens)),
-    }
+    place_behind(tokens, sign).ok_or(Stop::Fault(Kind::Syntax, tokens))
 }
 
 /// A name and its place, and the tokens behind it.
-pub fn take_name<'a>(tokens: &'a [Piece]) -> Result<(NameAt<'a>, &'a [Piece]), Stop<'a>>
+pub fn take_name<'a>(tokens: &'a [Piece<'a>]) -> Result<(NameAt<'a>, &'a [Piece<'a>]), Stop<'a>>
     ensures { Gives (λ x. (named_part x.0 ∷ [], rest x.1)) result (take_of name (pieces tokens.now)) }
 {
-    match tokens {
-        [
-            Piece {
-                at,
-                word: Word::Name(name),
-            },
-            rest @ ..,
-        ] => Ok((NameAt { at: *at, name }, rest)),
+    let [first, rest @ ..] = tokens else {
+        return Err(Stop::Fault(Kind::Syntax, tokens));
+    };
+    match first.word {
+        Word::Name(name) => Ok((NameAt { at: first.at, name }, rest)),
         _ => Err(Stop::Fault(Kind::Syntax, tokens)),
     }
 }
 
 /// A number of at most `most`, and the tokens behind it.
-pub fn take_number<'a>(tokens: &'a [Piece], most: u32) -> Result<(u32, &'a [Piece]), Stop<'a>>
+pub fn take_number<'a>(
+    tokens: &'a [Piece<'a>],
+    most: u32,
+) -> Result<(u32, &'a [Piece<'a>]), Stop<'a>>
     ensures { Gives (λ x. (Counted x.0 ∷ [], rest x.1)) result (take_of (number_to most) (pieces tokens.now)) }
 {
-    match tokens {
-        [
-            Piece {
-                word: Word::Number(value),
-                ..
-            },
-            rest @ ..,
-        ] if *value <= u64::from(most) => { Ok((*value as u32, rest)) }
+    let [first, rest @ ..] = tokens else {
+        return Err(Stop::Fault(Kind::Syntax, tokens));
+    };
+    match first.word {
+        Word::Number(value) if value <= u64::from(most) => Ok((value as u32, rest)),
         _ => Err(Stop::Fault(Kind::Syntax, tokens)),
     }
 }

@@ -1,11 +1,12 @@
 // Tokens as the grammar sees them.
 ghost use Rattle.std.specs.Prelude.{◌≡◌};
-ghost use Rattle.raml_parse.specs.Tokens.{sign_of, word_of, symbol_of};
+ghost use Rattle.raml_parse.specs.Tokens.{sign_of, word_of, symbol_of, is_key};
+ghost use Rattle.raml_parse.specs.Read.{token_of};
 
-use raml_syntax::{Name, Pos};
+use raml_syntax::Pos;
 
 /// A keyword or a symbol.
-#[derive(Clone, Copy, PartialEq, Eq, Debug)]
+#[derive(Clone, Copy, PartialEq, Eq)]
 pub enum Sign {
     Fun,
     Let,
@@ -18,6 +19,10 @@ pub enum Sign {
     Nil,
     Leaf,
     Node,
+    /// `none`.
+    Nothing,
+    /// `some`.
+    Just,
     True,
     False,
     Not,
@@ -28,6 +33,7 @@ pub enum Sign {
     Bool,
     List,
     Tree,
+    Option,
     Open,
     Close,
     Comma,
@@ -43,19 +49,28 @@ pub enum Sign {
     Bar,
 }
 
-/// What a token is.
-#[derive(Drop)]
-pub enum Word {
-    Name(Name),
+/// What a token is. A name is lent by the text.
+#[derive(Clone, Copy)]
+pub enum Word<'a> {
+    Name(&'a str),
     Number(u64),
     Sign(Sign),
 }
 
 /// A token and the place where it begins.
-#[derive(Drop)]
-pub struct Piece {
+#[derive(Clone, Copy)]
+pub struct Piece<'a> {
     pub at: Pos,
-    pub word: Word,
+    pub word: Word<'a>,
+}
+
+impl<'a> Piece<'a> {
+    /// Whether it is this keyword or symbol.
+    pub fn is(&self, sign: Sign) -> bool
+        ensures { result ≡ is_key sign (token_of self.now) }
+    {
+        matches!(self.word, Word::Sign(found) if found == sign)
+    }
 }
 
 /// The keyword or symbol that a word spells.
@@ -74,6 +89,8 @@ pub fn sign_named(word: &str) -> Sign
         "nil" => Sign::Nil,
         "leaf" => Sign::Leaf,
         "node" => Sign::Node,
+        "none" => Sign::Nothing,
+        "some" => Sign::Just,
         _ => word_named(word),
     }
 }
@@ -93,6 +110,7 @@ fn word_named(word: &str) -> Sign
         "bool" => Sign::Bool,
         "list" => Sign::List,
         "tree" => Sign::Tree,
+        "option" => Sign::Option,
         _ => symbol_named(word),
     }
 }

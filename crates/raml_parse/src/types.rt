@@ -8,7 +8,6 @@ ghost use Rattle.raml_parse.specs.Steps.{base_of, goes_on, postfix_of, second_of
 ghost use Rattle.raml_parse.specs.Read.{Gives, pieces, typing};
 
 use crate::form::{Suffix, TypeStart, star_at};
-use crate::make;
 use crate::stop::Stop;
 use crate::take::take_sign;
 use crate::token::{Piece, Sign};
@@ -17,11 +16,11 @@ use std::alloc::{AllocError, Global};
 use token_grammar::Kind;
 
 /// A type, its height, and the tokens behind it.
-pub type FoundType<'a> = Result<(Ty, u32, &'a [Piece]), Stop<'a>>;
+pub type FoundType<'a> = Result<(Box<Ty>, u32, &'a [Piece<'a>]), Stop<'a>>;
 
 /// A type of height `depth` at most.
 #[cycle(ty)]
-pub fn parse_type<'a>(alloc: Global, depth: u32, tokens: &'a [Piece]) -> FoundType<'a>
+pub fn parse_type<'a>(alloc: Global, depth: u32, tokens: &'a [Piece<'a>]) -> FoundType<'a>
     requires { depth < 2 ^ 30 }
     ensures same { Gives typing result (read grammar 0 depth Types type_level (pieces tokens.now)) }
     ensures low { IfOk result (λ x. x.1 ≤ depth) }
@@ -34,7 +33,7 @@ pub fn parse_type<'a>(alloc: Global, depth: u32, tokens: &'a [Piece]) -> FoundTy
 
 // A type with parts of height `depth` at most.
 #[cycle(ty)]
-fn parse_product<'a>(alloc: Global, depth: u32, tokens: &'a [Piece]) -> FoundType<'a>
+fn parse_product<'a>(alloc: Global, depth: u32, tokens: &'a [Piece<'a>]) -> FoundType<'a>
     requires { suc depth < 2 ^ 30 }
     ensures same { Gives typing result (product_of depth (pieces tokens.now)) }
     ensures low { IfOk result (λ x. x.1 ≤ suc depth) }
@@ -48,13 +47,13 @@ fn parse_product<'a>(alloc: Global, depth: u32, tokens: &'a [Piece]) -> FoundTyp
 fn parse_second<'a>(
     alloc: Global,
     depth: u32,
-    first: Ty,
+    first: Box<Ty>,
     height: u32,
-    tokens: &'a [Piece],
+    tokens: &'a [Piece<'a>],
 ) -> FoundType<'a>
     requires shallow { suc depth < 2 ^ 30 }
     requires high { height ≤ suc depth }
-    ensures same { Gives typing result (second_of depth (Typing (ty_of first)) height (pieces tokens.now)) }
+    ensures same { Gives typing result (second_of depth (Typing (ty_of first.value)) height (pieces tokens.now)) }
     ensures low { IfOk result (λ x. x.1 ≤ suc depth) }
 {
     let Some(rest) = star_at(tokens) else {
@@ -64,13 +63,13 @@ fn parse_second<'a>(
         return Err(Stop::Fault(Kind::TooDeep, tokens));
     }
     let (second, second_height, rest) = parse_type(alloc, depth, rest)?;
-    let pair = make::pair_type(alloc, first, second)?;
+    let pair = Box::new(alloc, Ty::Pair(first, second))?;
     Ok((pair, 1 + height.max(second_height), rest))
 }
 
 // A type without `*` outside of parentheses.
 #[cycle(ty)]
-fn parse_postfix<'a>(alloc: Global, depth: u32, tokens: &'a [Piece]) -> FoundType<'a>
+fn parse_postfix<'a>(alloc: Global, depth: u32, tokens: &'a [Piece<'a>]) -> FoundType<'a>
     requires { suc depth < 2 ^ 30 }
     ensures same { Gives typing result (postfix_of depth (pieces tokens.now)) }
     ensures low { IfOk result (λ x. x.1 ≤ suc depth) }
@@ -81,15 +80,15 @@ fn parse_postfix<'a>(alloc: Global, depth: u32, tokens: &'a [Piece]) -> FoundTyp
 
 // A type that is one token or stands in parentheses.
 #[cycle(ty)]
-fn parse_base<'a>(alloc: Global, depth: u32, tokens: &'a [Piece]) -> FoundType<'a>
+fn parse_base<'a>(alloc: Global, depth: u32, tokens: &'a [Piece<'a>]) -> FoundType<'a>
     requires { suc depth < 2 ^ 30 }
     ensures same { Gives typing result (base_of depth (pieces tokens.now)) }
     ensures low { IfOk result (λ x. x.1 ≤ suc depth) }
 {
     match TypeStart::at(tokens) {
         None => Err(Stop::Fault(Kind::Syntax, tokens)),
-        Some((TypeStart::Int, rest)) => Ok((Ty::Int, 1, rest)),
-        Some((TypeStart::Bool, rest)) => Ok((Ty::Bool, 1, rest)),
+        Some((TypeStart::Int, rest)) => Ok((Box::new(alloc, Ty::Int)?, 1, rest)),
+        Some((TypeStart::Bool, rest)) => Ok((Box::new(alloc, Ty::Bool)?, 1, rest)),
         Some((TypeStart::Parens, _)) if depth == 0 => Err(Stop::Fault(Kind::TooDeep, tokens)),
         Some((TypeStart::Parens, rest)) => {
             let (inner, height, rest) = parse_type(alloc, depth, rest)?;
@@ -99,18 +98,18 @@ fn parse_base<'a>(alloc: Global, depth: u32, tokens: &'a [Piece]) -> FoundType<'
     }
 }
 
-// The type with what stands behind it of `list` and `tree`.
+// The type with what stands behind it of `list`, `tree` and `option`.
 #[cycle(suffixes)]
 fn parse_suffixes<'a>(
     alloc: Global,
     depth: u32,
-    base: Ty,
+    base: Box<Ty>,
     height: u32,
-    tokens: &'a [Piece],
+    tokens: &'a [Piece<'a>],
 ) -> FoundType<'a>
     requires shallow { suc depth < 2 ^ 30 }
     requires high { height ≤ suc depth }
-    ensures same { Gives typing result (goes_on Types depth 0 [] (Typing (ty_of base)) height (pieces tokens.now)) }
+    ensures same { Gives typing result (goes_on Types depth 0 [] (Typing (ty_of base.value)) height (pieces tokens.now)) }
     ensures low { IfOk result (λ x. x.1 ≤ suc depth) }
 {
     let Some((suffix, rest)) = Suffix::at(tokens) else {
@@ -123,11 +122,13 @@ fn parse_suffixes<'a>(
     parse_suffixes(alloc, depth, longer, 1 + height, rest)
 }
 
-fn with_suffix(alloc: Global, base: Ty, suffix: Suffix) -> Result<Ty, AllocError>
-    ensures { IfOk result (λ a. suffix_act suffix (Typing (ty_of base) ∷ []) ≡ Typing (ty_of a)) }
+fn with_suffix(alloc: Global, base: Box<Ty>, suffix: Suffix) -> Result<Box<Ty>, AllocError>
+    ensures { IfOk result (λ a. suffix_act suffix (Typing (ty_of base.value) ∷ []) ≡ Typing (ty_of a.value)) }
 {
-    match suffix {
-        Suffix::List => make::list_type(alloc, base),
-        Suffix::Tree => make::tree_type(alloc, base),
-    }
+    let ty = match suffix {
+        Suffix::List => Ty::List(base),
+        Suffix::Tree => Ty::Tree(base),
+        Suffix::Option => Ty::Opt(base),
+    };
+    Ok(Box::new(alloc, ty)?)
 }

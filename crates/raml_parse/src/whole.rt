@@ -19,7 +19,7 @@ use token_grammar::Kind;
 const MAX_HEIGHT: u32 = 200;
 
 // The program, where no token is left.
-fn ended<'a>(program: Program, rest: &'a [Piece]) -> Result<Program, Stop<'a>>
+fn ended<'a>(program: Program, rest: &'a [Piece<'a>]) -> Result<Program, Stop<'a>>
     ensures { Gives (λ p. Whole (program_of p)) result (ended (Whole (program_of program)) (pieces rest.now)) }
 {
     if rest.is_empty() {
@@ -30,7 +30,7 @@ fn ended<'a>(program: Program, rest: &'a [Piece]) -> Result<Program, Stop<'a>>
 }
 
 /// The program of all the tokens.
-pub fn parse_tokens<'a>(alloc: Global, tokens: &'a [Piece]) -> Result<Program, Stop<'a>>
+pub fn parse_tokens<'a>(alloc: Global, tokens: &'a [Piece<'a>]) -> Result<Program, Stop<'a>>
     ensures { Gives (λ p. Whole (program_of p)) result (program_in 200 (pieces tokens.now)) }
 {
     let (program, _, rest) = parse_program(alloc, MAX_HEIGHT, tokens)?;

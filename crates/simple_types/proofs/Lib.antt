@@ -1,5 +1,10 @@
-pub mod Same
+mod Same
 mod Forms
 mod Names
 pub mod Places
+mod Tables
+mod Standing
+mod Steps
+mod Agree
+mod Signed
 pub mod Typing

@@ -1,12 +1,12 @@
 -- Names are distinct exactly where the walk finds none repeated.
 use Rattle.std.proofs.Common.{◌≡◌, ◌∙◌, ℕ, List, [], ◌∷◌, ◌++◌, map, Bool, true, false, ◌||◌, cond, Option, Some, None, Ok, refl, sym, ap, subst}
 use Rattle.std.proofs.lemmas.List.Elements.{All-from_recursion, All-contains, Contains-push, Contains-append_left, Contains-append_right}
-use Rattle.std.specs.List.{Contains, AllByRecursion}
+use Rattle.std.specs.List.{Contains, AllByRecursion, list_any}
 use Rattle.std.specs.Str.{bytes_eq}
 use Rattle.std.specs.Cmp.Lexicographic.{bytes_decides}
 use Rattle.raml_syntax.specs.Tree.{Text, Bound}
 use Rattle.raml_syntax.specs.Types.{Differ}
-use Rattle.simple_types.specs.Walk.{among, repeated, all_new, distinct}
+use Rattle.simple_types.specs.Walk.{repeated, all_new, distinct}
 
 abbrev names : List Bound → List Text
 names xs = map (λ (b : Bound). b.name) xs
@@ -14,7 +14,7 @@ names xs = map (λ (b : Bound). b.name) xs
 -- none of the names is among those seen
 abbrev NoneSeen : List Text → List Text → Type 0
 NoneSeen seen [] = Unit {0}
-NoneSeen seen (x ∷ xs) = (among x seen ≡ false) × NoneSeen seen xs
+NoneSeen seen (x ∷ xs) = (list_any (bytes_eq x) seen ≡ false) × NoneSeen seen xs
 
 abbrev Apart : Text → List Text → Type 0
 Apart x = AllByRecursion (λ y. bytes_eq y x ≡ false)
@@ -37,11 +37,11 @@ or_false : (b : Bool) → (b || false) ≡ b
 or_false true = refl
 or_false false = refl
 
-among_push : (y x : Text) (seen : List Text) → among y (seen ++ x ∷ []) ≡ (among y seen || bytes_eq y x)
+among_push : (y x : Text) (seen : List Text) → list_any (bytes_eq y) (seen ++ x ∷ []) ≡ (list_any (bytes_eq y) seen || bytes_eq y x)
 among_push y x [] = or_false (bytes_eq y x)
 among_push y x (z ∷ zs) = by (bytes_eq y z) (among_push y x zs)
   where
-    by : (b : Bool) → among y (zs ++ x ∷ []) ≡ (among y zs || bytes_eq y x) → (b || among y (zs ++ x ∷ [])) ≡ ((b || among y zs) || bytes_eq y x)
+    by : (b : Bool) → list_any (bytes_eq y) (zs ++ x ∷ []) ≡ (list_any (bytes_eq y) zs || bytes_eq y x) → (b || list_any (bytes_eq y) (zs ++ x ∷ [])) ≡ ((b || list_any (bytes_eq y) zs) || bytes_eq y x)
     by true rest = refl
     by false rest = rest
 
@@ -49,10 +49,10 @@ seen_split : (x : Text) (seen xs : List Text) → NoneSeen (seen ++ x ∷ []) xs
 seen_split x seen [] h = (tt, tt)
 seen_split x seen (y ∷ ys) h =
     let rest = seen_split x seen ys h.1 in
-    let both = by (among y seen) refl (sym (among_push y x seen) ∙ h.0) in
+    let both = by (list_any (bytes_eq y) seen) refl (sym (among_push y x seen) ∙ h.0) in
     ((both.0, rest.0), (both.1, rest.1))
   where
-    by : (b : Bool) → among y seen ≡ b → (among y seen || bytes_eq y x) ≡ false → (among y seen ≡ false) × (bytes_eq y x ≡ false)
+    by : (b : Bool) → list_any (bytes_eq y) seen ≡ b → (list_any (bytes_eq y) seen || bytes_eq y x) ≡ false → (list_any (bytes_eq y) seen ≡ false) × (bytes_eq y x ≡ false)
     by true e h = absurd (cc)
     by false e h = (e, sym (ap (λ b. b || bytes_eq y x) e) ∙ h)
 
@@ -62,9 +62,9 @@ seen_joined x seen (y ∷ ys) h k = (among_push y x seen ∙ ap (λ b. b || byte
 
 repeated_none : (seen : List Text) (xs : List Bound) → repeated seen xs ≡ None → Differ (names xs) × NoneSeen seen (names xs)
 repeated_none seen [] e = (tt, tt)
-repeated_none seen (x ∷ xs) e = by (among x.name seen) refl (λ h. repeated_none (seen ++ x.name ∷ []) xs h) e
+repeated_none seen (x ∷ xs) e = by (list_any (bytes_eq x.name) seen) refl (λ h. repeated_none (seen ++ x.name ∷ []) xs h) e
   where
-    by : (b : Bool) → among x.name seen ≡ b → (repeated (seen ++ x.name ∷ []) xs ≡ None → Differ (names xs) × NoneSeen (seen ++ x.name ∷ []) (names xs)) → cond b (Some x.at) (repeated (seen ++ x.name ∷ []) xs) ≡ None → Differ (names (x ∷ xs)) × NoneSeen seen (names (x ∷ xs))
+    by : (b : Bool) → list_any (bytes_eq x.name) seen ≡ b → (repeated (seen ++ x.name ∷ []) xs ≡ None → Differ (names xs) × NoneSeen (seen ++ x.name ∷ []) (names xs)) → cond b (Some x.at) (repeated (seen ++ x.name ∷ []) xs) ≡ None → Differ (names (x ∷ xs)) × NoneSeen seen (names (x ∷ xs))
     by true p rest e = absurd (cc)
     by false p rest e =
         let r = rest e in

@@ -4,12 +4,12 @@ use Rattle.std.specs.List.{All}
 use Rattle.std.proofs.lemmas.Bool.{eqb-true, eq-eqb}
 use Rattle.std.proofs.lemmas.List.Elements.{All-nil, All-cons, All-head, All-tail}
 use Rattle.raml_syntax.specs.Tree as t
-use Rattle.raml_syntax.specs.Tree.{Text, Type', Integer, Boolean, PairOf, ListOf, TreeOf, Bound, Parameter, Function, Prog}
+use Rattle.raml_syntax.specs.Tree.{Text, Type', Integer, Boolean, PairOf, ListOf, TreeOf, OptionOf, Bound, Parameter, Function, Prog}
 use Rattle.raml_syntax.specs.Eval.{find, names_of}
 use Rattle.raml_syntax.specs.Types.{Context, type_at, bind_types, types_of, Differ, Way, Finding, Checking, HasType, CheckEach, Checks, Typed}
 use Rattle.raml_syntax.specs.Node.{count}
-use Rattle.simple_types.specs.Fault.{Fault, Wanted, Is, SomeList, SomeTree, SomePair, Unknown, Arity}
-use Rattle.simple_types.specs.Walk.{and_then, or_fault, same_type, pair_parts, list_element, tree_element, place, distinct, settle, arity, walk, walk_each, checks, parameter_name, function_name, walk_headers, walk_bodies, walk_program}
+use Rattle.simple_types.specs.Fault.{Fault, Wanted, Is, SomeList, SomeTree, SomeOption, SomePair, Unknown, Arity}
+use Rattle.simple_types.specs.Walk.{and_then, or_fault, same_type, pair_parts, list_element, tree_element, option_content, place, distinct, settle, arity, walk, walk_each, checks, parameter_name, function_name, walk_headers, walk_bodies, walk_program}
 use Rattle.simple_types.specs.Laws.{WalksAreTypings}
 use Rattle.std.specs.Option.{IsSome}
 use Rattle.simple_types.specs.Read.{fault_of, EndsWith}
@@ -56,6 +56,10 @@ list_is _ A e = absurd (cc)
 tree_is : (T A : Type') → tree_element T ≡ Some A → T ≡ TreeOf A
 tree_is (TreeOf B) A e = ap TreeOf (some_is B A e)
 tree_is _ A e = absurd (cc)
+
+option_is : (T A : Type') → option_content T ≡ Some A → T ≡ OptionOf A
+option_is (OptionOf B) A e = ap OptionOf (some_is B A e)
+option_is _ A e = absurd (cc)
 
 pair_is : (T : Type') (S : Type' × Type') → pair_parts T ≡ Some S → T ≡ PairOf S.0 S.1
 pair_is (PairOf A B) S e = ap (λ (p : Type' × Type'). PairOf p.0 p.1) (some_is (A, B) S e)
@@ -107,6 +111,11 @@ module _ (P : Prog) where
         let q = then_ok (or_fault (tree_element S) (Wanted p (Is S) SomeTree)) _ T h in
         let e = sym (ok_is S T q.2) in
         (e, (q.0, e ∙ tree_is S q.0 (or_ok _ _ q.0 q.1)))
+    sound (t.Nothing p) None G T h = absurd (cc)
+    sound (t.Nothing p) (Some S) G T h =
+        let q = then_ok (or_fault (option_content S) (Wanted p (Is S) SomeOption)) _ T h in
+        let e = sym (ok_is S T q.2) in
+        (e, (q.0, e ∙ option_is S q.0 (or_ok _ _ q.0 q.1)))
     sound (t.Var p x) want G T h =
         let q = then_ok (or_fault (type_at x G) (Unknown p)) _ T h in
         let s = settle_ok want p q.0 T q.2 in
@@ -157,6 +166,14 @@ module _ (P : Prog) where
         let s = sound c (Some S) G T r.2 in
         let f = tree_is S o.0 (or_ok _ _ o.0 o.1) in
         (s.0, (o.0, s.0 ∙ f, checked_is a G o.0 q.0 (sound a (Some o.0) G q.0 q.1), subst (HasType P Checking G b) f (checked_is b G S r.0 (sound b (Some S) G r.0 r.1)), subst (HasType P Checking G c) (s.0 ∙ f) s.1))
+    sound (t.Just p a) None G T h =
+        let q = then_ok (walk P None G a) _ T h in
+        (tt, (q.0, sym (ok_is _ T q.2), (sound a None G q.0 q.1).1))
+    sound (t.Just p a) (Some S) G T h =
+        let o = then_ok (or_fault (option_content S) (Wanted p (Is S) SomeOption)) _ T h in
+        let q = then_ok (walk P (Some o.0) G a) _ T o.2 in
+        let e = sym (ok_is S T q.2) in
+        (e, (o.0, e ∙ option_is S o.0 (or_ok _ _ o.0 o.1), checked_is a G o.0 q.0 (sound a (Some o.0) G q.0 q.1)))
     sound (t.Call p f args) want G T h =
         let o = then_ok (or_fault (find f P) (Unknown p)) _ T h in
         let n = then_ok (arity p (length o.0.params) (count args)) _ T o.2 in
@@ -200,6 +217,14 @@ module _ (P : Prog) where
         let e = sym sb.0 in
         let f = tree_is q.0 o.0 (or_ok _ _ o.0 o.1) in
         (subst (Meets want) e sa.0, (o.0, distinct_differ (x ∷ y ∷ z ∷ []) d.1, subst (HasType P Finding G c) f (sound c None G q.0 q.1).1, subst (HasType P (way_of want) G a) e sa.1, subst (λ S. HasType P Checking ((z.name, S) ∷ (y.name, S) ∷ (x.name, o.0) ∷ G) b T) f sb.1))
+    sound (t.MatchOption p c a x b) want G T h =
+        let q = then_ok (walk P None G c) _ T h in
+        let o = then_ok (or_fault (option_content q.0) (Wanted (place c) SomeOption (Is q.0))) _ T q.2 in
+        let r = then_ok (walk P want G a) _ T o.2 in
+        let sa = sound a want G r.0 r.1 in
+        let sb = sound b (Some r.0) ((x.name, o.0) ∷ G) T r.2 in
+        let e = sym sb.0 in
+        (subst (Meets want) e sa.0, (o.0, subst (HasType P Finding G c) (option_is q.0 o.0 (or_ok _ _ o.0 o.1)) (sound c None G q.0 q.1).1, subst (HasType P (way_of want) G a) e sa.1, sb.1))
     sound (t.Tick p k a) want G T h = sound a want G T h
     sound (t.Typed p a A) want G T h =
         let q = then_ok (walk P (Some A) G a) _ T h in
@@ -230,6 +255,9 @@ module _ (P : Prog) where
     complete (t.Leaf p) None G T m h = absurd h
     complete (t.Leaf p) (Some S) G T m h =
         then_is (or_fault (tree_element S) (Wanted p (Is S) SomeTree)) _ h.0 T (or_is _ _ h.0 (ap tree_element (sym m ∙ h.1))) (ap Ok (sym m))
+    complete (t.Nothing p) None G T m h = absurd h
+    complete (t.Nothing p) (Some S) G T m h =
+        then_is (or_fault (option_content S) (Wanted p (Is S) SomeOption)) _ h.0 T (or_is _ _ h.0 (ap option_content (sym m ∙ h.1))) (ap Ok (sym m))
     complete (t.Var p x) want G T m h = then_is (or_fault (type_at x G) (Unknown p)) _ T T (or_is _ _ T h) (settle_is want p T T m refl)
     complete (t.Arith p op a b) want G T m h =
         then_is (walk P (Some Integer) G a) _ Integer T (complete a (Some Integer) G Integer refl h.1)
@@ -259,6 +287,10 @@ module _ (P : Prog) where
         then_is (or_fault (tree_element S) (Wanted p (Is S) SomeTree)) _ h.0 T (or_is _ _ h.0 (ap tree_element (sym m ∙ h.1)))
         (then_is (walk P (Some h.0) G a) _ h.0 T (complete a (Some h.0) G h.0 refl h.2)
         (then_is (walk P (Some S) G b) _ T T (complete b (Some S) G T m (subst (HasType P Checking G b) (sym h.1) h.3)) (complete c (Some S) G T m (subst (HasType P Checking G c) (sym h.1) h.4))))
+    complete (t.Just p a) None G T m h = then_is (walk P None G a) _ h.0 T (complete a None G h.0 tt h.2) (ap Ok (sym h.1))
+    complete (t.Just p a) (Some S) G T m h =
+        then_is (or_fault (option_content S) (Wanted p (Is S) SomeOption)) _ h.0 T (or_is _ _ h.0 (ap option_content (sym m ∙ h.1)))
+        (then_is (walk P (Some h.0) G a) _ h.0 T (complete a (Some h.0) G h.0 refl h.2) (ap Ok (sym m)))
     complete (t.Call p f args) want G T m h =
         then_is (or_fault (find f P) (Unknown p)) _ h.0 T (or_is _ _ h.0 h.1)
         (then_is (arity p (length h.0.params) (count args)) _ tt T (arity_is p _ _ (sym (length_types h.0.params) ∙ each_count args G (types_of h.0) h.3))
@@ -278,6 +310,9 @@ module _ (P : Prog) where
         then_is (distinct (x ∷ y ∷ z ∷ [])) _ tt T (differ_distinct (x ∷ y ∷ z ∷ []) h.1)
         (then_is (walk P None G c) _ (TreeOf h.0) T (complete c None G (TreeOf h.0) tt h.2)
         (then_is (walk P want G a) _ T T (complete a want G T m h.3) (complete b (Some T) ((z.name, TreeOf h.0) ∷ (y.name, TreeOf h.0) ∷ (x.name, h.0) ∷ G) T refl h.4)))
+    complete (t.MatchOption p c a x b) want G T m h =
+        then_is (walk P None G c) _ (OptionOf h.0) T (complete c None G (OptionOf h.0) tt h.1)
+        (then_is (walk P want G a) _ T T (complete a want G T m h.2) (complete b (Some T) ((x.name, h.0) ∷ G) T refl h.3))
     complete (t.Tick p k a) want G T m h = complete a want G T m h
     complete (t.Typed p a A) want G T m h = then_is (walk P (Some A) G a) _ A T (complete a (Some A) G A refl h.1) (settle_is want p A T m h.0)
 

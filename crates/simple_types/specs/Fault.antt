@@ -7,6 +7,7 @@ pub data Kind : Type 0 where
   Is : Type' → Kind
   SomeList : Kind
   SomeTree : Kind
+  SomeOption : Kind
   SomePair : Kind
 
 -- a fault; its place stands first

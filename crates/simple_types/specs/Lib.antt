@@ -1,9 +1,10 @@
 pub mod Fault
-pub mod Known
-pub mod Names
 pub mod Small
 pub mod Headers
 pub mod Text
 pub mod Walk
+pub mod Table
+pub mod Numbered
+pub mod Scope
 pub mod Read
 pub mod Laws

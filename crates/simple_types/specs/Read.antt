@@ -1,19 +1,18 @@
 -- What the code's faults, and its answers, are as plain data.
-use Rattle.std.specs.Prelude.{◌≡◌, ℕ, List, ◌++◌, map, Option, Some, None, Result, Ok, Err}
+use Rattle.std.specs.Prelude.{◌≡◌, ℕ, List, ◌++◌, Option, Some, None, Result, Ok, Err}
 use Rattle.std.specs.Result.{MatchResult}
 use Rattle.raml_syntax.specs.Tree as t
-use Rattle.raml_syntax.specs.Tree.{Text, Type', Parameter}
-use Rattle.raml_syntax.specs.Types.{Context}
-use Rattle.raml_syntax.specs.Read.{ty_of, program_of, parameter_of}
-use Rattle.raml_syntax.specs.declared.program.Param.{Param}
+use Rattle.raml_syntax.specs.Tree.{Text}
+use Rattle.raml_syntax.specs.Read.{ty_of}
 use Rattle.simple_types.specs.Fault as f
-use Rattle.simple_types.specs.Known.{known_of, context_of}
-use Rattle.simple_types.specs.Walk.{walk, walk_each}
-use Rattle.simple_types.specs.declared.known.Known.{Known}
+use Rattle.simple_types.specs.Table.{Table}
+use Rattle.simple_types.specs.Numbered.{Ids, Found, walk, walk_each}
+use Rattle.simple_types.specs.Scope.{ids_of, sigs_of}
+use Rattle.simple_types.specs.declared.types.TypeId.{TypeId}
 use Rattle.simple_types.specs.declared.walk.Env.{Env}
 use Rattle.simple_types.specs.declared.walk.Local.{Local}
 use Rattle.simple_types.specs.declared.fault.Shape.{Shape}
-use Rattle.simple_types.specs.declared.fault.Shape.TheVariants.{Is, SomeList, SomeTree, SomePair}
+use Rattle.simple_types.specs.declared.fault.Shape.TheVariants.{Is, SomeList, SomeTree, SomeOption, SomePair}
 use Rattle.simple_types.specs.declared.fault.TypeFault.{TypeFault}
 use Rattle.simple_types.specs.declared.fault.TypeFault.TheVariants.{Unknown, Twice, Wanted, NeedsType, Arity, NoMemory}
 
@@ -21,6 +20,7 @@ abbrev pub kind_of : Shape → f.Kind
 kind_of (Is ty) = f.Is (ty_of ty)
 kind_of SomeList = f.SomeList
 kind_of SomeTree = f.SomeTree
+kind_of SomeOption = f.SomeOption
 kind_of SomePair = f.SomePair
 
 -- a fault of the program, where the code's is one
@@ -36,37 +36,33 @@ fault_of NoMemory = None
 abbrev pub EndsWith : {A : Type 0} → Result A f.Fault → TypeFault → Type 0
 EndsWith walk fault = (first : f.Fault) → fault_of fault ≡ Some first → walk ≡ Err first
 
--- the answer is what the walk gives, want of memory aside
-abbrev pub Gives : Result Type' f.Fault → Result Known TypeFault → Type 0
-Gives walk answer = MatchResult answer (λ known. walk ≡ Ok (known_of known)) (EndsWith walk)
+-- want of memory aside, the walk gives this type and leaves this table, or ends with the fault
+abbrev pub Gives : Found → Table → Result TypeId TypeFault → Type 0
+Gives walk table answer = MatchResult answer (λ id. walk ≡ Ok (table, id)) (EndsWith walk)
 
--- the same, where the type is known and is not given
-abbrev pub Accepts : Type' → Result Type' f.Fault → Result (Unit {0}) TypeFault → Type 0
-Accepts T walk answer = MatchResult answer (λ done. walk ≡ Ok T) (EndsWith walk)
+-- the same, where the walk leaves a table alone
+abbrev pub Leaves : Result Table f.Fault → Table → Result (Unit {0}) TypeFault → Type 0
+Leaves walk table answer = MatchResult answer (λ done. walk ≡ Ok table) (EndsWith walk)
 
 -- the same, where nothing is given but that there is no fault
 abbrev pub Passes : Result (Unit {0}) f.Fault → Result (Unit {0}) TypeFault → Type 0
 Passes walk answer = MatchResult answer (λ done. walk ≡ Ok tt) (EndsWith walk)
 
 -- the walk over an expression among these functions and variables
-abbrev pub walk_in : Env → Option Type' → t.Term → Result Type' f.Fault
-walk_in env want e = walk (program_of env.functions.now.program.now) want (context_of env.scope.now) e
+abbrev pub walk_in : Env → Table → Option TypeId → t.Term → Found
+walk_in env table want e = walk (sigs_of env.functions.now) table want (ids_of env.scope.now) e
 
 -- the same over arguments
-abbrev pub each_in : Env → t.Terms → List Type' → Result (Unit {0}) f.Fault
-each_in env es As = walk_each (program_of env.functions.now.program.now) (context_of env.scope.now) es As
+abbrev pub each_in : Env → Table → t.Terms → List TypeId → Result Table f.Fault
+each_in env table es is = walk_each (sigs_of env.functions.now) table (ids_of env.scope.now) es is
 
 -- the walk over an expression below some more variables
-abbrev pub walk_below : Env → Context → Option Type' → t.Term → Result Type' f.Fault
-walk_below env inner want e = walk (program_of env.functions.now.program.now) want (inner ++ context_of env.scope.now) e
+abbrev pub walk_below : Env → Table → Ids → Option TypeId → t.Term → Found
+walk_below env table inner want e = walk (sigs_of env.functions.now) table want (inner ++ ids_of env.scope.now) e
 
 -- a variable and its type
-abbrev pub local_of : Local → Text × Type'
-local_of local = (local.name.now, known_of local.ty.now)
-
--- the types of parameters
-abbrev pub types_in : List Param → List Type'
-types_in params = map (λ (p : Parameter). p.type) (map parameter_of params)
+abbrev pub local_of : Local → Text × TypeId
+local_of local = (local.name.now, local.ty)
 
 -- the fault is that one kind is wanted and another is there, or want of memory
 abbrev pub IsWanted : ℕ → f.Kind → f.Kind → TypeFault → Type 0

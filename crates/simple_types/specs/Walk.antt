@@ -1,12 +1,13 @@
 -- The walk over a program: the type of each expression, or the first fault.
-use Rattle.std.specs.Prelude.{ℕ, nat_eq, List, [], ◌∷◌, ◌++◌, map, Bool, true, false, ◌&&◌, ◌||◌, cond, Option, Some, None, Result, Ok, Err, length}
+use Rattle.std.specs.Prelude.{ℕ, nat_eq, List, [], ◌∷◌, ◌++◌, map, Bool, true, false, ◌&&◌, cond, Option, Some, None, Result, Ok, Err, length}
+use Rattle.std.specs.List.{list_any}
 use Rattle.std.specs.Str.{bytes_eq}
 use Rattle.raml_syntax.specs.Tree as t
-use Rattle.raml_syntax.specs.Tree.{Text, Type', Integer, Boolean, PairOf, ListOf, TreeOf, Bound, Parameter, Function, Prog}
+use Rattle.raml_syntax.specs.Tree.{Text, Type', Integer, Boolean, PairOf, ListOf, TreeOf, OptionOf, Bound, Parameter, Function, Prog}
 use Rattle.raml_syntax.specs.Eval.{find}
 use Rattle.raml_syntax.specs.Types.{Context, type_at, bind_types, types_of}
 use Rattle.raml_syntax.specs.Node.{count}
-use Rattle.simple_types.specs.Fault.{Is, SomeList, SomeTree, SomePair, Fault, Unknown, Twice, Wanted, NeedsType, Arity}
+use Rattle.simple_types.specs.Fault.{Is, SomeList, SomeTree, SomeOption, SomePair, Fault, Unknown, Twice, Wanted, NeedsType, Arity}
 
 -- after a fault nothing more is looked at
 abbrev pub and_then : {A B : Type 0} → Result A Fault → (A → Result B Fault) → Result B Fault
@@ -35,6 +36,7 @@ same_type Boolean Boolean = true
 same_type (PairOf A B) (PairOf C D) = same_type A C && same_type B D
 same_type (ListOf A) (ListOf B) = same_type A B
 same_type (TreeOf A) (TreeOf B) = same_type A B
+same_type (OptionOf A) (OptionOf B) = same_type A B
 same_type _ _ = false
 
 -- the parts of a type, where it is of that kind
@@ -50,12 +52,17 @@ abbrev pub tree_element : Type' → Option Type'
 tree_element (TreeOf A) = Some A
 tree_element _ = None
 
+abbrev pub option_content : Type' → Option Type'
+option_content (OptionOf A) = Some A
+option_content _ = None
+
 -- the place of an expression
 abbrev pub place : t.Term → ℕ
 place (t.Number p n) = p
 place (t.Truth p b) = p
 place (t.Nil p) = p
 place (t.Leaf p) = p
+place (t.Nothing p) = p
 place (t.Var p x) = p
 place (t.Arith p op a b) = p
 place (t.Compare p op a b) = p
@@ -63,23 +70,21 @@ place (t.Not p a) = p
 place (t.Pair p a b) = p
 place (t.Cons p a b) = p
 place (t.Node p a b c) = p
+place (t.Just p a) = p
 place (t.Call p f args) = p
 place (t.Let p x a b) = p
 place (t.LetPair p x y a b) = p
 place (t.If p c a b) = p
 place (t.MatchList p c a x y b) = p
 place (t.MatchTree p c a x y z b) = p
+place (t.MatchOption p c a x b) = p
 place (t.Tick p k a) = p
 place (t.Typed p a A) = p
-
-abbrev pub among : Text → List Text → Bool
-among x [] = false
-among x (y ∷ ys) = bytes_eq x y || among x ys
 
 -- the place of the first name that is one of those before it, here or seen earlier
 abbrev pub repeated : List Text → List Bound → Option ℕ
 repeated seen [] = None
-repeated seen (x ∷ xs) = cond (among x.name seen) (Some x.at) (repeated (seen ++ x.name ∷ []) xs)
+repeated seen (x ∷ xs) = cond (list_any (bytes_eq x.name) seen) (Some x.at) (repeated (seen ++ x.name ∷ []) xs)
 
 -- a name that stands twice is a fault
 abbrev pub all_new : Option ℕ → Result (Unit {0}) Fault
@@ -112,6 +117,10 @@ module _ (P : Prog) where
     walk None G (t.Leaf p) = Err (NeedsType p)
     walk (Some T) G (t.Leaf p) = do
       A ← or_fault (tree_element T) (Wanted p (Is T) SomeTree)
+      Ok T
+    walk None G (t.Nothing p) = Err (NeedsType p)
+    walk (Some T) G (t.Nothing p) = do
+      A ← or_fault (option_content T) (Wanted p (Is T) SomeOption)
       Ok T
     walk want G (t.Var p x) = do
       A ← or_fault (type_at x G) (Unknown p)
@@ -146,6 +155,13 @@ module _ (P : Prog) where
       A ← walk (Some S) G a
       B ← walk (Some T) G b
       walk (Some T) G c
+    walk None G (t.Just p a) = do
+      A ← walk None G a
+      Ok (OptionOf A)
+    walk (Some T) G (t.Just p a) = do
+      S ← or_fault (option_content T) (Wanted p (Is T) SomeOption)
+      A ← walk (Some S) G a
+      Ok T
     walk want G (t.Call p f args) = do
       g ← or_fault (find f P) (Unknown p)
       as_many ← arity p (length g.params) (count args)
@@ -175,6 +191,11 @@ module _ (P : Prog) where
       A ← or_fault (tree_element S) (Wanted (place c) SomeTree (Is S))
       T ← walk want G a
       walk (Some T) ((z.name, S) ∷ (y.name, S) ∷ (x.name, A) ∷ G) b
+    walk want G (t.MatchOption p c a x b) = do
+      S ← walk None G c
+      A ← or_fault (option_content S) (Wanted (place c) SomeOption (Is S))
+      T ← walk want G a
+      walk (Some T) ((x.name, A) ∷ G) b
     walk want G (t.Tick p k a) = walk want G a
     walk want G (t.Typed p a A) = do
       B ← walk (Some A) G a

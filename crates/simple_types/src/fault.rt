@@ -6,16 +6,17 @@ use raml_syntax::{Pos, Ty};
 use std::alloc::AllocError;
 
 /// What a type is, or is to be.
-#[derive(Drop)]
+#[derive(Debug, Drop)]
 pub enum Shape {
     Is(Ty),
     SomeList,
     SomeTree,
+    SomeOption,
     SomePair,
 }
 
 /// Why a program is not typed.
-#[derive(Drop)]
+#[derive(Debug, Drop)]
 pub enum TypeFault {
     /// No variable, or no function, has the name.
     Unknown { at: Pos },
@@ -23,7 +24,7 @@ pub enum TypeFault {
     Twice { at: Pos },
     /// The expression has, or makes, a type of another shape than is wanted.
     Wanted { at: Pos, want: Shape, got: Shape },
-    /// `nil` or `leaf` stands where no type is wanted.
+    /// `nil`, `leaf` or `none` stands where no type is wanted.
     NeedsType { at: Pos },
     /// A call of a function with `want` parameters has `got` arguments.
     Arity { at: Pos, want: u32, got: u32 },

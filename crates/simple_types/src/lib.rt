@@ -3,11 +3,11 @@
 
 mod fault;
 mod functions;
-mod known;
 pub mod laws;
 mod program;
 mod scope;
 mod text;
+mod types;
 mod walk;
 
 pub use fault::{Shape, TypeFault};

@@ -1,22 +1,24 @@
 // The check of a program.
-ghost use Rattle.std.specs.Prelude.{◌≡◌, ◌≤◌, IfOk, IfErr, IsSome, Some, [], length, map};
-ghost use Rattle.std.specs.List.{All};
+ghost use Rattle.std.specs.Prelude.{◌≡◌, ◌≤◌, IfOk, IfErr, IsSome, length, map};
+ghost use Rattle.std.specs.List.{All, list_any};
+ghost use Rattle.std.specs.Str.{bytes_eq};
 ghost use Rattle.raml_syntax.specs.Tree.{Function};
 ghost use Rattle.raml_syntax.specs.Types as types;
-ghost use Rattle.raml_syntax.specs.Types.{bind_types};
 ghost use Rattle.raml_syntax.specs.Node.{AllNodes, FewArguments};
-ghost use Rattle.raml_syntax.specs.Read.{program_of, function_of, parameter_of, term_of, ty_of};
-ghost use Rattle.simple_types.specs.Known.{context_of};
+ghost use Rattle.raml_syntax.specs.Read.{program_of, function_of, parameter_of, term_of};
 ghost use Rattle.simple_types.specs.Headers.{names_in};
 ghost use Rattle.simple_types.specs.Small.{IsSmall};
-ghost use Rattle.simple_types.specs.Read.{EndsWith, Accepts, Passes, fault_of};
-ghost use Rattle.simple_types.specs.Walk.{among, distinct, parameter_name, walk, checks, walk_headers, walk_bodies, walk_program};
+ghost use Rattle.simple_types.specs.Read.{EndsWith, Leaves, Passes, fault_of};
+ghost use Rattle.simple_types.specs.Walk.{distinct, parameter_name, walk_headers, walk_program};
+ghost use Rattle.simple_types.specs.Table.{base};
+ghost use Rattle.simple_types.specs.Numbered as numbered;
+ghost use Rattle.simple_types.specs.Scope.{ids_of, sigs_of};
 
 use crate::fault::TypeFault;
 use crate::functions::Functions;
-use crate::known::Known;
 use crate::scope::Scope;
-use crate::walk::{Env, check_given};
+use crate::types::Types;
+use crate::walk::{Env, walk};
 use raml_syntax::{Fun, Param, Program};
 use std::alloc::Global;
 use std::marker::Model;
@@ -59,7 +61,7 @@ impl Typed {
 
 /// Whether the name is that of one of the parameters.
 fn stands_in(name: &str, params: &[Param]) -> bool
-    ensures { result ≡ among name.now (names_in params.now) }
+    ensures { result ≡ list_any (bytes_eq name.now) (names_in params.now) }
 {
     for param in params {
         if name == param.name.text() {
@@ -92,28 +94,33 @@ fn check_headers(funs: &[Fun]) -> Result<(), TypeFault>
     Ok(())
 }
 
-/// Checks a body below its parameters, of which some are bound already.
+/// Checks a body below its parameters, of which some are bound already, against the type of its
+/// function's result.
 fn check_below<'s, 'a>(
-    alloc: Global,
+    types: &mut Types,
     env: Env<'s, 'a>,
     params: &'a [Param],
     fun: &'a Fun,
 ) -> Result<(), TypeFault>
     requires few { AllNodes FewArguments (term_of fun.now.body) }
-    ensures { Accepts (ty_of fun.now.result) (walk (program_of env.entry.functions.now.program.now) (Some (ty_of fun.now.result)) (bind_types (context_of env.entry.scope.now) (map parameter_of params.now)) (term_of fun.now.body)) result }
+    ensures { Leaves (numbered.walk_body (sigs_of env.entry.functions.now) types.old.nodes.keys (ids_of env.entry.scope.now) (map parameter_of params.now) (function_of fun.now)) types.new.nodes.keys result }
 {
     match params {
-        [] => check_given(alloc, env, &fun.body, &fun.result),
+        [] => {
+            let result = types.intern(&fun.result)?;
+            walk(types, env, &fun.body, Some(result))?;
+            Ok(())
+        }
         [param, rest @ ..] => {
-            let ty = Known::Given(&param.ty);
+            let ty = types.intern(&param.ty)?;
             let scope = Scope::Bound {
                 name: &param.name,
-                ty: &ty,
+                ty,
                 outer: env.scope,
             };
             let functions = env.functions;
             check_below(
-                alloc,
+                types,
                 Env {
                     functions,
                     scope: &scope,
@@ -125,51 +132,50 @@ fn check_below<'s, 'a>(
     }
 }
 
-/// Checks a body against the type of its function's result.
-fn check_body<'s, 'a>(
-    alloc: Global,
-    functions: &'s Functions<'a>,
-    fun: &'a Fun,
-) -> Result<(), TypeFault>
-    requires few { AllNodes FewArguments (term_of fun.now.body) }
-    ensures { Accepts (ty_of fun.now.result) (checks (program_of functions.now.program.now) (bind_types [] (function_of fun.now).params) (function_of fun.now).body (function_of fun.now).result) result }
-{
-    let scope = Scope::Empty;
-    check_below(
-        alloc,
-        Env {
-            functions,
-            scope: &scope,
-        },
-        &fun.params,
-        fun,
-    )
-}
-
 /// Checks the bodies of functions of the program in order.
 fn check_bodies<'a>(
-    alloc: Global,
+    types: &mut Types,
     functions: &Functions<'a>,
     funs: &'a [Fun],
 ) -> Result<(), TypeFault>
     requires few { All (λ (g : Function). AllNodes FewArguments g.body) (map function_of funs.now) }
-    ensures { Passes (walk_bodies (program_of functions.now.program.now) (map function_of funs.now)) result }
+    ensures { Leaves (numbered.walk_bodies (sigs_of functions.now) types.old.nodes.keys (map function_of funs.now)) types.new.nodes.keys result }
 {
     for fun in funs {
-        check_body(alloc, functions, fun)?;
+        let scope = Scope::Empty;
+        let env = Env {
+            functions,
+            scope: &scope,
+        };
+        check_below(types, env, &fun.params, fun)?;
     }
     Ok(())
 }
 
 /// Checks the names of functions, then the parameters, then the bodies.
+fn check_names_and_bodies(
+    alloc: Global,
+    types: &mut Types,
+    program: &Program,
+) -> Result<(), TypeFault>
+    requires base { types.old.nodes.keys ≡ base }
+    requires few_parameters { All (λ (g : Function). length g.params ≤ 8) (program_of program.now) }
+    requires few_arguments { All (λ (g : Function). AllNodes FewArguments g.body) (program_of program.now) }
+    ensures { Leaves (numbered.walk_program (program_of program.now)) types.new.nodes.keys result }
+{
+    let functions = Functions::new(alloc, types, program)?;
+    check_headers(&program.funs)?;
+    check_bodies(types, &functions, &program.funs)
+}
+
+/// Checks a program, with a table of types of its own.
 fn check_program(alloc: Global, program: &Program) -> Result<(), TypeFault>
     requires few_parameters { All (λ (g : Function). length g.params ≤ 8) (program_of program.now) }
     requires few_arguments { All (λ (g : Function). AllNodes FewArguments g.body) (program_of program.now) }
     ensures { Passes (walk_program (program_of program.now)) result }
 {
-    let functions = Functions::new(alloc, program)?;
-    check_headers(&program.funs)?;
-    check_bodies(alloc, &functions, &program.funs)
+    let mut types = Types::new(alloc)?;
+    check_names_and_bodies(alloc, &mut types, program)
 }
 
 /// Checks that the program is typed. Otherwise the fault is the first of the walk, and the program

@@ -1,9 +1,9 @@
 // Scopes.
-ghost use Rattle.std.specs.Prelude.{◌≡◌, option_map, option_copied};
-ghost use Rattle.simple_types.specs.Known.{known_of, context_of};
-ghost use Rattle.raml_syntax.specs.Types.{type_at};
+ghost use Rattle.std.specs.Prelude.{◌≡◌};
+ghost use Rattle.simple_types.specs.Scope.{ids_of};
+ghost use Rattle.simple_types.specs.Numbered.{id_at};
 
-use crate::known::Known;
+use crate::types::TypeId;
 use raml_syntax::Name;
 
 /// The variables at hand, the newest first.
@@ -12,15 +12,15 @@ pub enum Scope<'s, 'a> {
     Empty,
     Bound {
         name: &'a Name,
-        ty: &'s Known<'a>,
+        ty: TypeId,
         outer: &'s Scope<'s, 'a>,
     },
 }
 
 impl<'s, 'a> Scope<'s, 'a> {
     /// The type of the newest variable of this name.
-    pub fn find(&self, wanted: &str) -> Option<&Known<'a>>
-        ensures { option_map known_of (option_copied result) ≡ type_at wanted.now (context_of self.now) }
+    pub fn find(&self, wanted: &str) -> Option<TypeId>
+        ensures { result ≡ id_at wanted.now (ids_of self.now) }
     {
         match self {
             Scope::Empty => None,

@@ -30,6 +30,10 @@ fn push_operand(text: &mut String, ty: &Ty, operand: bool) -> Result<(), AllocEr
             push_operand(text, element, true)?;
             text.push_str(" tree")
         }
+        Ty::Opt(content) => {
+            push_operand(text, content, true)?;
+            text.push_str(" option")
+        }
     }
 }
 
@@ -40,7 +44,8 @@ pub fn push_type(text: &mut String, ty: &Ty) -> Result<(), AllocError>
     push_operand(text, ty, false)
 }
 
-/// Appends the text of a shape: that of its type, or `some list`, `some tree`, `some pair`.
+/// Appends the text of a shape: that of its type, or `some list`, `some tree`, `some option`,
+/// `some pair`.
 pub fn push_shape(text: &mut String, shape: &Shape) -> Result<(), AllocError>
     ensures { OnOk result (string_bytes text.new ≡ string_bytes text.old ++ kind_text (kind_of shape.now)) }
 {
@@ -48,6 +53,7 @@ pub fn push_shape(text: &mut String, shape: &Shape) -> Result<(), AllocError>
         Shape::Is(ty) => push_type(text, ty),
         Shape::SomeList => text.push_str("some list"),
         Shape::SomeTree => text.push_str("some tree"),
+        Shape::SomeOption => text.push_str("some option"),
         Shape::SomePair => text.push_str("some pair"),
     }
 }

@@ -1,12 +1,12 @@
 // The walk over expressions: each type is found, or checked against one that is wanted.
-ghost use Rattle.std.specs.Prelude.{◌≡◌, Some, [], ◌∷◌};
-ghost use Rattle.raml_syntax.specs.Read.{ty_of, term_of};
-ghost use Rattle.raml_syntax.specs.Tree.{Integer, Boolean};
+ghost use Rattle.std.specs.Prelude.{◌≡◌, [], ◌∷◌};
+ghost use Rattle.raml_syntax.specs.Read.{term_of};
 ghost use Rattle.raml_syntax.specs.Node.{AllNodes, FewArguments};
 ghost use Rattle.simple_types.specs.Fault as f;
-ghost use Rattle.simple_types.specs.Known.{known_of, want_of};
-ghost use Rattle.simple_types.specs.Read.{kind_of, IsWanted, Gives, Accepts, walk_in, walk_below, local_of};
-ghost use Rattle.simple_types.specs.Walk.{settle, place};
+ghost use Rattle.simple_types.specs.Table.{type_of};
+ghost use Rattle.simple_types.specs.Numbered.{settle};
+ghost use Rattle.simple_types.specs.Read.{kind_of, IsWanted, Gives, walk_in, walk_below, local_of};
+ghost use Rattle.simple_types.specs.Walk.{place};
 
 mod bindings;
 mod calls;
@@ -17,16 +17,15 @@ mod operators;
 
 use crate::fault::{Shape, TypeFault};
 use crate::functions::Functions;
-use crate::known::Known;
 use crate::scope::Scope;
+use crate::types::{BOOL, INT, TypeId, Types};
 use crate::walk::bindings::{walk_let, walk_let_pair};
 use crate::walk::calls::walk_call;
-use crate::walk::leaves::{walk_leaf, walk_nil, walk_variable};
-use crate::walk::made::{walk_cons, walk_node, walk_pair};
-use crate::walk::matches::{walk_match_list, walk_match_tree};
+use crate::walk::leaves::{walk_leaf, walk_nil, walk_nothing, walk_variable};
+use crate::walk::made::{walk_cons, walk_just, walk_node, walk_pair};
+use crate::walk::matches::{walk_match_list, walk_match_option, walk_match_tree};
 use crate::walk::operators::{walk_if, walk_integers, walk_not, walk_typed};
-use raml_syntax::{Expr, Form, Name, Pos, Ty};
-use std::alloc::Global;
+use raml_syntax::{Expr, Form, Name, Pos};
 
 /// What names stand for at a place of the program.
 #[derive(Clone, Copy)]
@@ -37,16 +36,16 @@ pub struct Env<'s, 'a> {
 
 /// A variable and its type.
 #[derive(Clone, Copy)]
-pub struct Local<'s, 'a> {
+pub struct Local<'a> {
     pub name: &'a Name,
-    pub ty: &'s Known<'a>,
+    pub ty: TypeId,
 }
 
 /// The fault of a type that is not as it is wanted.
-pub fn wrong<'a>(alloc: Global, at: Pos, want: &Known<'a>, got: Shape) -> TypeFault
-    ensures { IsWanted at.0 (f.Is (known_of want.now)) (kind_of got) result }
+pub fn wrong(types: &Types, at: Pos, want: TypeId, got: Shape) -> TypeFault
+    ensures { IsWanted at.0 (f.Is (type_of types.now.nodes.keys want)) (kind_of got) result }
 {
-    match want.copy(alloc) {
+    match types.spell(want) {
         Ok(ty) => TypeFault::Wanted {
             at,
             want: Shape::Is(ty),
@@ -57,10 +56,10 @@ pub fn wrong<'a>(alloc: Global, at: Pos, want: &Known<'a>, got: Shape) -> TypeFa
 }
 
 /// The fault of a subject that is of another shape than its patterns.
-pub fn wrong_subject<'a>(alloc: Global, at: Pos, want: Shape, got: &Known<'a>) -> TypeFault
-    ensures { IsWanted at.0 (kind_of want) (f.Is (known_of got.now)) result }
+pub fn wrong_subject(types: &Types, at: Pos, want: Shape, got: TypeId) -> TypeFault
+    ensures { IsWanted at.0 (kind_of want) (f.Is (type_of types.now.nodes.keys got)) result }
 {
-    match got.copy(alloc) {
+    match types.spell(got) {
         Ok(ty) => TypeFault::Wanted {
             at,
             want,
@@ -71,22 +70,22 @@ pub fn wrong_subject<'a>(alloc: Global, at: Pos, want: Shape, got: &Known<'a>) -
 }
 
 /// Gives the type that was found, where it is the one that is wanted.
-pub fn settle_as<'w, 'a>(
-    alloc: Global,
+pub fn settle_as(
+    types: &Types,
     at: Pos,
-    found: Known<'a>,
-    want: Option<&'w Known<'a>>,
-) -> Result<Known<'a>, TypeFault>
-    ensures { Gives (settle (want_of want.entry) at.0 (known_of found.entry)) result }
+    found: TypeId,
+    want: Option<TypeId>,
+) -> Result<TypeId, TypeFault>
+    ensures { Gives (settle types.now.nodes.keys want at.0 found) types.now.nodes.keys result }
 {
     match want {
         None => Ok(found),
         Some(ty) => {
-            if ty.same(&found) {
+            if ty.0 == found.0 {
                 Ok(found)
             } else {
-                let got = Shape::Is(found.copy(alloc)?);
-                Err(wrong(alloc, at, ty, got))
+                let got = Shape::Is(types.spell(found)?);
+                Err(wrong(types, at, ty, got))
             }
         }
     }
@@ -99,64 +98,17 @@ pub fn place_of(e: &Expr) -> Pos
     e.at
 }
 
-/// Checks an expression against a type.
-#[cycle(walk)]
-pub fn check<'s, 'w, 'a>(
-    alloc: Global,
-    env: Env<'s, 'a>,
-    e: &'a Expr,
-    want: &'w Known<'a>,
-) -> Result<(), TypeFault>
-    requires few { AllNodes FewArguments (term_of e.now) }
-    ensures { Accepts (known_of want.now) (walk_in env.entry (Some (known_of want.now)) (term_of e.now)) result }
-{
-    walk(alloc, env, e, Some(want))?;
-    Ok(())
-}
-
-/// Checks an expression against a type of the program.
-#[cycle(walk)]
-pub fn check_given<'s, 'a>(
-    alloc: Global,
-    env: Env<'s, 'a>,
-    e: &'a Expr,
-    ty: &'a Ty,
-) -> Result<(), TypeFault>
-    requires few { AllNodes FewArguments (term_of e.now) }
-    ensures { Accepts (ty_of ty.now) (walk_in env.entry (Some (ty_of ty.now)) (term_of e.now)) result }
-{
-    check(alloc, env, e, &Known::Given(ty))
-}
-
-/// Checks that an expression is an integer.
-#[cycle(walk)]
-pub fn check_integer<'s, 'a>(alloc: Global, env: Env<'s, 'a>, e: &'a Expr) -> Result<(), TypeFault>
-    requires few { AllNodes FewArguments (term_of e.now) }
-    ensures { Accepts Integer (walk_in env.entry (Some Integer) (term_of e.now)) result }
-{
-    check(alloc, env, e, &Known::Int)
-}
-
-/// Checks that an expression is a truth value.
-#[cycle(walk)]
-pub fn check_boolean<'s, 'a>(alloc: Global, env: Env<'s, 'a>, e: &'a Expr) -> Result<(), TypeFault>
-    requires few { AllNodes FewArguments (term_of e.now) }
-    ensures { Accepts Boolean (walk_in env.entry (Some Boolean) (term_of e.now)) result }
-{
-    check(alloc, env, e, &Known::Bool)
-}
-
 /// Walks an expression below one more variable.
 #[cycle(walk)]
-pub fn walk_below_one<'s, 't, 'w, 'a>(
-    alloc: Global,
+pub fn walk_below_one<'s, 'a>(
+    types: &mut Types,
     env: Env<'s, 'a>,
-    local: Local<'t, 'a>,
+    local: Local<'a>,
     e: &'a Expr,
-    want: Option<&'w Known<'a>>,
-) -> Result<Known<'a>, TypeFault>
+    want: Option<TypeId>,
+) -> Result<TypeId, TypeFault>
     requires few { AllNodes FewArguments (term_of e.now) }
-    ensures { Gives (walk_below env.entry (local_of local.entry ∷ []) (want_of want.entry) (term_of e.now)) result }
+    ensures { Gives (walk_below env.entry types.old.nodes.keys (local_of local.entry ∷ []) want (term_of e.now)) types.new.nodes.keys result }
 {
     let scope = Scope::Bound {
         name: local.name,
@@ -165,7 +117,7 @@ pub fn walk_below_one<'s, 't, 'w, 'a>(
     };
     let functions = env.functions;
     walk(
-        alloc,
+        types,
         Env {
             functions,
             scope: &scope,
@@ -177,16 +129,16 @@ pub fn walk_below_one<'s, 't, 'w, 'a>(
 
 /// Walks an expression below two more variables, of which the second is the newer.
 #[cycle(walk)]
-pub fn walk_below_two<'s, 't, 'u, 'w, 'a>(
-    alloc: Global,
+pub fn walk_below_two<'s, 'a>(
+    types: &mut Types,
     env: Env<'s, 'a>,
-    first: Local<'t, 'a>,
-    second: Local<'u, 'a>,
+    first: Local<'a>,
+    second: Local<'a>,
     e: &'a Expr,
-    want: Option<&'w Known<'a>>,
-) -> Result<Known<'a>, TypeFault>
+    want: Option<TypeId>,
+) -> Result<TypeId, TypeFault>
     requires few { AllNodes FewArguments (term_of e.now) }
-    ensures { Gives (walk_below env.entry (local_of second.entry ∷ local_of first.entry ∷ []) (want_of want.entry) (term_of e.now)) result }
+    ensures { Gives (walk_below env.entry types.old.nodes.keys (local_of second.entry ∷ local_of first.entry ∷ []) want (term_of e.now)) types.new.nodes.keys result }
 {
     let scope = Scope::Bound {
         name: first.name,
@@ -195,7 +147,7 @@ pub fn walk_below_two<'s, 't, 'u, 'w, 'a>(
     };
     let functions = env.functions;
     walk_below_one(
-        alloc,
+        types,
         Env {
             functions,
             scope: &scope,
@@ -208,17 +160,17 @@ pub fn walk_below_two<'s, 't, 'u, 'w, 'a>(
 
 /// Walks an expression below three more variables, of which the third is the newest.
 #[cycle(walk)]
-pub fn walk_below_three<'s, 't, 'u, 'v, 'w, 'a>(
-    alloc: Global,
+pub fn walk_below_three<'s, 'a>(
+    types: &mut Types,
     env: Env<'s, 'a>,
-    first: Local<'t, 'a>,
-    second: Local<'u, 'a>,
-    third: Local<'v, 'a>,
+    first: Local<'a>,
+    second: Local<'a>,
+    third: Local<'a>,
     e: &'a Expr,
-    want: Option<&'w Known<'a>>,
-) -> Result<Known<'a>, TypeFault>
+    want: Option<TypeId>,
+) -> Result<TypeId, TypeFault>
     requires few { AllNodes FewArguments (term_of e.now) }
-    ensures { Gives (walk_below env.entry (local_of third.entry ∷ local_of second.entry ∷ local_of first.entry ∷ []) (want_of want.entry) (term_of e.now)) result }
+    ensures { Gives (walk_below env.entry types.old.nodes.keys (local_of third.entry ∷ local_of second.entry ∷ local_of first.entry ∷ []) want (term_of e.now)) types.new.nodes.keys result }
 {
     let scope = Scope::Bound {
         name: first.name,
@@ -227,7 +179,7 @@ pub fn walk_below_three<'s, 't, 'u, 'v, 'w, 'a>(
     };
     let functions = env.functions;
     walk_below_two(
-        alloc,
+        types,
         Env {
             functions,
             scope: &scope,
@@ -241,35 +193,38 @@ pub fn walk_below_three<'s, 't, 'u, 'v, 'w, 'a>(
 
 /// Finds the type of an expression, or checks it against the one that is wanted.
 #[cycle(walk)]
-pub fn walk<'s, 'w, 'a>(
-    alloc: Global,
+pub fn walk<'s, 'a>(
+    types: &mut Types,
     env: Env<'s, 'a>,
     e: &'a Expr,
-    want: Option<&'w Known<'a>>,
-) -> Result<Known<'a>, TypeFault>
+    want: Option<TypeId>,
+) -> Result<TypeId, TypeFault>
     requires few { AllNodes FewArguments (term_of e.now) }
-    ensures { Gives (walk_in env.entry (want_of want.entry) (term_of e.now)) result }
+    ensures { Gives (walk_in env.entry types.old.nodes.keys want (term_of e.now)) types.new.nodes.keys result }
 {
     let at = e.at;
     match &e.form {
-        Form::Number(_) => settle_as(alloc, at, Known::Int, want),
-        Form::Truth(_) => settle_as(alloc, at, Known::Bool, want),
-        Form::Nil => walk_nil(alloc, at, want),
-        Form::Leaf => walk_leaf(alloc, at, want),
-        Form::Var(name) => walk_variable(alloc, env, at, name, want),
-        Form::Arith(_, a, b) => walk_integers(alloc, env, at, a, b, Known::Int, want),
-        Form::Compare(_, a, b) => walk_integers(alloc, env, at, a, b, Known::Bool, want),
-        Form::Not(a) => walk_not(alloc, env, at, a, want),
-        Form::Let(x, a, b) => walk_let(alloc, env, x, a, b, want),
-        Form::If(c, a, b) => walk_if(alloc, env, c, a, b, want),
-        Form::Tick(_, a) => walk(alloc, env, a, want),
-        Form::Typed(a, ty) => walk_typed(alloc, env, at, a, ty, want),
-        Form::Pair(a, b) => walk_pair(alloc, env, at, a, b, want),
-        Form::Cons(a, b) => walk_cons(alloc, env, at, a, b, want),
-        Form::Node(a, b, c) => walk_node(alloc, env, at, a, b, c, want),
-        Form::Call(name, args) => walk_call(alloc, env, at, name, args, want),
-        Form::LetPair(x, y, a, b) => walk_let_pair(alloc, env, x, y, a, b, want),
-        Form::MatchList(c, a, x, y, b) => walk_match_list(alloc, env, c, a, x, y, b, want),
-        Form::MatchTree(c, a, x, y, z, b) => walk_match_tree(alloc, env, c, a, x, y, z, b, want),
+        Form::Number(_) => settle_as(types, at, INT, want),
+        Form::Truth(_) => settle_as(types, at, BOOL, want),
+        Form::Nil => walk_nil(types, at, want),
+        Form::Leaf => walk_leaf(types, at, want),
+        Form::Nothing => walk_nothing(types, at, want),
+        Form::Var(name) => walk_variable(types, env, at, name, want),
+        Form::Arith(_, a, b) => walk_integers(types, env, at, a, b, INT, want),
+        Form::Compare(_, a, b) => walk_integers(types, env, at, a, b, BOOL, want),
+        Form::Not(a) => walk_not(types, env, at, a, want),
+        Form::Let(x, a, b) => walk_let(types, env, x, a, b, want),
+        Form::If(c, a, b) => walk_if(types, env, c, a, b, want),
+        Form::Tick(_, a) => walk(types, env, a, want),
+        Form::Typed(a, ty) => walk_typed(types, env, at, a, ty, want),
+        Form::Pair(a, b) => walk_pair(types, env, at, a, b, want),
+        Form::Cons(a, b) => walk_cons(types, env, at, a, b, want),
+        Form::Node(a, b, c) => walk_node(types, env, at, a, b, c, want),
+        Form::Just(a) => walk_just(types, env, at, a, want),
+        Form::Call(name, args) => walk_call(types, env, at, name, args, want),
+        Form::LetPair(x, y, a, b) => walk_let_pair(types, env, x, y, a, b, want),
+        Form::MatchList(c, a, x, y, b) => walk_match_list(types, env, c, a, x, y, b, want),
+        Form::MatchTree(c, a, x, y, z, b) => walk_match_tree(types, env, c, a, x, y, z, b, want),
+        Form::MatchOption(c, a, x, b) => walk_match_option(types, env, c, a, x, b, want),
     }
 }

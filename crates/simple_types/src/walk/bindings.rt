@@ -3,15 +3,13 @@ ghost use Rattle.std.specs.Prelude.{[], ◌∷◌};
 ghost use Rattle.raml_syntax.specs.Read.{term_of, bound_of};
 ghost use Rattle.raml_syntax.specs.Tree as t;
 ghost use Rattle.raml_syntax.specs.Node.{AllNodes, FewArguments};
-ghost use Rattle.simple_types.specs.Known.{want_of};
 ghost use Rattle.simple_types.specs.Read.{Gives, Passes, walk_in};
 ghost use Rattle.simple_types.specs.Walk.{distinct};
 
 use crate::fault::{Shape, TypeFault};
-use crate::known::Known;
+use crate::types::{Node, TypeId, Types};
 use crate::walk::{Env, Local, place_of, walk, walk_below_one, walk_below_two, wrong_subject};
 use raml_syntax::{Binder, Expr};
-use std::alloc::Global;
 
 /// Tells whether two names that are bound together differ.
 pub fn differ_two(x: &Binder, y: &Binder) -> Result<(), TypeFault>
@@ -25,53 +23,52 @@ pub fn differ_two(x: &Binder, y: &Binder) -> Result<(), TypeFault>
 
 /// Walks `let x = bound in rest`, whose own place tells nothing.
 #[cycle(walk)]
-pub fn walk_let<'s, 'w, 'a>(
-    alloc: Global,
+pub fn walk_let<'s, 'a>(
+    types: &mut Types,
     env: Env<'s, 'a>,
     x: &'a Binder,
     bound: &'a Expr,
     rest: &'a Expr,
-    want: Option<&'w Known<'a>>,
-) -> Result<Known<'a>, TypeFault>
+    want: Option<TypeId>,
+) -> Result<TypeId, TypeFault>
     requires few { AllNodes FewArguments (term_of bound.now) × AllNodes FewArguments (term_of rest.now) }
-    ensures { Gives (walk_in env.entry (want_of want.entry) (t.Let 0 (bound_of x.now) (term_of bound.now) (term_of rest.now))) result }
+    ensures { Gives (walk_in env.entry types.old.nodes.keys want (t.Let 0 (bound_of x.now) (term_of bound.now) (term_of rest.now))) types.new.nodes.keys result }
 {
-    let found = walk(alloc, env, bound, None)?;
-    let local = Local {
-        name: &x.name,
-        ty: &found,
-    };
-    walk_below_one(alloc, env, local, rest, want)
+    let ty = walk(types, env, bound, None)?;
+    let name = &x.name;
+    walk_below_one(types, env, Local { name, ty }, rest, want)
 }
 
 /// Walks `let (x, y) = bound in rest`, whose own place tells nothing.
 #[cycle(walk)]
-pub fn walk_let_pair<'s, 'w, 'a>(
-    alloc: Global,
+pub fn walk_let_pair<'s, 'a>(
+    types: &mut Types,
     env: Env<'s, 'a>,
     x: &'a Binder,
     y: &'a Binder,
     bound: &'a Expr,
     rest: &'a Expr,
-    want: Option<&'w Known<'a>>,
-) -> Result<Known<'a>, TypeFault>
+    want: Option<TypeId>,
+) -> Result<TypeId, TypeFault>
     requires few { AllNodes FewArguments (term_of bound.now) × AllNodes FewArguments (term_of rest.now) }
-    ensures { Gives (walk_in env.entry (want_of want.entry) (t.LetPair 0 (bound_of x.now) (bound_of y.now) (term_of bound.now) (term_of rest.now))) result }
+    ensures { Gives (walk_in env.entry types.old.nodes.keys want (t.LetPair 0 (bound_of x.now) (bound_of y.now) (term_of bound.now) (term_of rest.now))) types.new.nodes.keys result }
 {
     differ_two(x, y)?;
-    let pair = walk(alloc, env, bound, None)?;
-    match pair.pair_parts()? {
-        Some(parts) => {
+    let pair = walk(types, env, bound, None)?;
+    match types.node(pair) {
+        Node::Pair(left, right) => {
             let first = Local {
                 name: &x.name,
-                ty: &parts.0,
+                ty: left,
             };
             let second = Local {
                 name: &y.name,
-                ty: &parts.1,
+                ty: right,
             };
-            walk_below_two(alloc, env, first, second, rest, want)
+            walk_below_two(types, env, first, second, rest, want)
         }
-        None => Err(wrong_subject(alloc, place_of(bound), Shape::SomePair, &pair)),
+        Node::Int | Node::Bool | Node::List(_) | Node::Tree(_) | Node::Opt(_) => {
+            Err(wrong_subject(types, place_of(bound), Shape::SomePair, pair))
+        }
     }
 }

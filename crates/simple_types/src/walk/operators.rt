@@ -2,84 +2,84 @@
 ghost use Rattle.std.specs.Prelude.{Some};
 ghost use Rattle.raml_syntax.specs.Read.{ty_of, term_of};
 ghost use Rattle.raml_syntax.specs.Tree as t;
-ghost use Rattle.raml_syntax.specs.Tree.{Integer};
 ghost use Rattle.raml_syntax.specs.Node.{AllNodes, FewArguments};
-ghost use Rattle.simple_types.specs.Known.{known_of, want_of};
+ghost use Rattle.simple_types.specs.Table.{integer};
+ghost use Rattle.simple_types.specs.Numbered.{settle};
 ghost use Rattle.simple_types.specs.Read.{Gives, walk_in};
-ghost use Rattle.simple_types.specs.Walk.{both, settle};
+ghost use Rattle.simple_types.specs.Walk.{and_then};
 
 use crate::fault::TypeFault;
-use crate::known::Known;
-use crate::walk::{Env, check_boolean, check_given, check_integer, settle_as, walk};
+use crate::types::{BOOL, INT, TypeId, Types};
+use crate::walk::{Env, settle_as, walk};
 use raml_syntax::{Expr, Pos, Ty};
-use std::alloc::Global;
 
 /// Walks two integers, of which a value of another type is made.
 #[cycle(walk)]
-pub fn walk_integers<'s, 'w, 'a>(
-    alloc: Global,
+pub fn walk_integers<'s, 'a>(
+    types: &mut Types,
     env: Env<'s, 'a>,
     at: Pos,
     left: &'a Expr,
     right: &'a Expr,
-    made: Known<'a>,
-    want: Option<&'w Known<'a>>,
-) -> Result<Known<'a>, TypeFault>
+    made: TypeId,
+    want: Option<TypeId>,
+) -> Result<TypeId, TypeFault>
     requires few { AllNodes FewArguments (term_of left.now) × AllNodes FewArguments (term_of right.now) }
-    ensures { Gives (both (walk_in env.entry (Some Integer) (term_of left.now)) (walk_in env.entry (Some Integer) (term_of right.now)) (settle (want_of want.entry) at.0 (known_of made.entry))) result }
+    ensures { Gives (and_then (walk_in env.entry types.old.nodes.keys (Some integer) (term_of left.now)) (λ A. and_then (walk_in env.entry A.0 (Some integer) (term_of right.now)) (λ B. settle B.0 want at.0 made))) types.new.nodes.keys result }
 {
-    check_integer(alloc, env, left)?;
-    check_integer(alloc, env, right)?;
-    settle_as(alloc, at, made, want)
+    walk(types, env, left, Some(INT))?;
+    walk(types, env, right, Some(INT))?;
+    settle_as(types, at, made, want)
 }
 
 /// Walks `not e`.
 #[cycle(walk)]
-pub fn walk_not<'s, 'w, 'a>(
-    alloc: Global,
+pub fn walk_not<'s, 'a>(
+    types: &mut Types,
     env: Env<'s, 'a>,
     at: Pos,
     e: &'a Expr,
-    want: Option<&'w Known<'a>>,
-) -> Result<Known<'a>, TypeFault>
+    want: Option<TypeId>,
+) -> Result<TypeId, TypeFault>
     requires few { AllNodes FewArguments (term_of e.now) }
-    ensures { Gives (walk_in env.entry (want_of want.entry) (t.Not at.0 (term_of e.now))) result }
+    ensures { Gives (walk_in env.entry types.old.nodes.keys want (t.Not at.0 (term_of e.now))) types.new.nodes.keys result }
 {
-    check_boolean(alloc, env, e)?;
-    settle_as(alloc, at, Known::Bool, want)
+    walk(types, env, e, Some(BOOL))?;
+    settle_as(types, at, BOOL, want)
 }
 
 /// Walks `(e : T)`.
 #[cycle(walk)]
-pub fn walk_typed<'s, 'w, 'a>(
-    alloc: Global,
+pub fn walk_typed<'s, 'a>(
+    types: &mut Types,
     env: Env<'s, 'a>,
     at: Pos,
     e: &'a Expr,
     ty: &'a Ty,
-    want: Option<&'w Known<'a>>,
-) -> Result<Known<'a>, TypeFault>
+    want: Option<TypeId>,
+) -> Result<TypeId, TypeFault>
     requires few { AllNodes FewArguments (term_of e.now) }
-    ensures { Gives (walk_in env.entry (want_of want.entry) (t.Typed at.0 (term_of e.now) (ty_of ty.now))) result }
+    ensures { Gives (walk_in env.entry types.old.nodes.keys want (t.Typed at.0 (term_of e.now) (ty_of ty.now))) types.new.nodes.keys result }
 {
-    check_given(alloc, env, e, ty)?;
-    settle_as(alloc, at, Known::Given(ty), want)
+    let known = types.intern(ty)?;
+    walk(types, env, e, Some(known))?;
+    settle_as(types, at, known, want)
 }
 
 /// Walks `if condition then yes else no`, whose own place tells nothing.
 #[cycle(walk)]
-pub fn walk_if<'s, 'w, 'a>(
-    alloc: Global,
+pub fn walk_if<'s, 'a>(
+    types: &mut Types,
     env: Env<'s, 'a>,
     condition: &'a Expr,
     yes: &'a Expr,
     no: &'a Expr,
-    want: Option<&'w Known<'a>>,
-) -> Result<Known<'a>, TypeFault>
+    want: Option<TypeId>,
+) -> Result<TypeId, TypeFault>
     requires few { AllNodes FewArguments (term_of condition.now) × AllNodes FewArguments (term_of yes.now) × AllNodes FewArguments (term_of no.now) }
-    ensures { Gives (walk_in env.entry (want_of want.entry) (t.If 0 (term_of condition.now) (term_of yes.now) (term_of no.now))) result }
+    ensures { Gives (walk_in env.entry types.old.nodes.keys want (t.If 0 (term_of condition.now) (term_of yes.now) (term_of no.now))) types.new.nodes.keys result }
 {
-    check_boolean(alloc, env, condition)?;
-    let found = walk(alloc, env, yes, want)?;
-    walk(alloc, env, no, Some(&found))
+    walk(types, env, condition, Some(BOOL))?;
+    let found = walk(types, env, yes, want)?;
+    walk(types, env, no, Some(found))
 }

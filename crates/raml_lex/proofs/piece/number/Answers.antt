@@ -1,15 +1,12 @@
-use Rattle.std.proofs.Common.{refl, sym, subst, take}
-use Rattle.std.specs.List.{AllPass}
-use Rattle.raml_lex.specs.Lexemes.{is_digit}
-use Rattle.raml_lex.proofs.Runs.{run_passes}
+use Rattle.std.proofs.Common.{◌≤◌, ◌^◌, refl, arith, take}
+use Rattle.raml_lex.specs.Lexemes.{number_value}
 use Rattle.raml_lex.proofs.Words.{number_stands_at, too_wide_at}
 use Rattle.raml_lex.proofs.piece.number.Goals as goal
 
-pub returns-then-is_in_range : goal.returns-then-is_in_range
-returns-then-is_in_range c = number_stands_at c.args.text.now c.digits_len-len.result c.requires c.digits_len-len.ensures c.if-is_in_range.ensures
+pub returns-in-Some : goal.returns-in-Some
+returns-in-Some c = number_stands_at c.args.text.now c.digits_len-len.result c.requires c.digits_len-len.ensures c.in-Some.ensures.0
 
-pub returns-else-is_in_range : goal.returns-else-is_in_range
-returns-else-is_in_range c = (refl, too_wide_at c.args.text.now c.digits_len-len.result c.requires c.digits_len-len.ensures c.if-is_in_range.ensures)
-
-pub is_in_range-requires : goal.is_in_range-requires
-is_in_range-requires c = subst (λ n. AllPass is_digit (take n c.args.text.now)) (sym c.digits_len-len.ensures) (run_passes is_digit c.args.text.now)
+pub returns-in-None : goal.returns-in-None
+returns-in-None c =
+    let wide : 2 ^ 63 ≤ number_value (take c.digits_len-len.result c.args.text.now) = omega (arith, c.in-None.ensures) in
+    (refl, too_wide_at c.args.text.now c.digits_len-len.result c.requires c.digits_len-len.ensures wide)

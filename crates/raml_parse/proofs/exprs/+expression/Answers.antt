@@ -26,15 +26,15 @@ parse_level-returns-clause-same t c =
     rw (level_goes_on c.args.depth c.args.level (pieces c.args.tokens.now) c.in-Some.at.0 c.if-level-eq0.false c.in_default-at.ensures c.in-Some.ensures)
     c.parse_operators.ensures.same
 
-pub parse_behind-returns-then-chains-clause-same : goal.parse_behind-returns-then-chains-clause-same
-parse_behind-returns-then-chains-clause-same t c =
+pub operators::parse_behind-returns-then-chains-clause-same : goal.operators::parse_behind-returns-then-chains-clause-same
+operators::parse_behind-returns-then-chains-clause-same t c =
     let n = infix_level c.args.operator in
     let high : suc (max c.args.height c.in_ok-joined.right_height) ≡ 1 + c.max-height.result = omega (arith, c.max-height.ensures) in
     let e = reads_on Exprs c.args.depth n c.level.result (At c.args.at.0 ∷ []) c.args.height (1 + c.max-height.result) (grammar.chains Exprs n) _ (Phrase (term_of c.in_ok-joined.joined)) c.in_ok-joined.right_height (pieces c.in_ok-joined.rest.now) (sym c.chains.ensures ∙ c.if-chains.true) (sym c.level.ensures) high c.in_ok-joined.ensures.same in
     rw e c.parse_chain.ensures.same
 
-pub parse_args-returns-in_err-arg-clause-same : goal.parse_args-returns-in_err-arg-clause-same
-parse_args-returns-in_err-arg-clause-same t c =
+pub calls::parse_args-returns-in_err-arg-clause-same : goal.calls::parse_args-returns-in_err-arg-clause-same
+calls::parse_args-returns-in_err-arg-clause-same t c =
     let e = c.from_residual-in_err-arg.ensures in
     let item = rule_of grammar (read grammar 0 c.args.depth) 0 c.args.depth (expr (Done inner_act)) [] in
     let few : vec_len c.loop-next.args < 8 = omega (arith, c.loop-next.invariant.2, c.if-len-eq-MAX_ARGS.false, c.len.ensures) in
@@ -43,8 +43,8 @@ parse_args-returns-in_err-arg-clause-same t c =
     (λ y q. c.loop-next.invariant.0 ∙ items_fail item (key Comma) (8 - vec_len c.loop-next.args) (phrases_back c.loop-next.args.items) [] c.loop-next.height (pieces c.loop-next.rest.now) y (λ z. omega (arith, z, few)) c.in-Some.ensures.0 (ap item c.in-Some.ensures.1 ∙ q))
     c.in_err-arg.ensures.same)
 
-pub parse_args-loop-next-preserved : goal.parse_args-loop-next-preserved
-parse_args-loop-next-preserved t c =
+pub calls::parse_args-loop-next-preserved : goal.calls::parse_args-loop-next-preserved
+calls::parse_args-loop-next-preserved t c =
     let item = rule_of grammar (read grammar 0 c.args.depth) 0 c.args.depth (expr (Done inner_act)) [] in
     let old = c.loop-next.args in
     let new = c.push-in-Some.new.self in
@@ -62,7 +62,7 @@ parse_args-loop-next-preserved t c =
     λ i. items_of item (key Comma) (one i) (sym (ap phrases_back c.in_ok-push-2.ensures.items ∙ phrases_push old.items c.in_ok-arg.arg) i) (sym c.max-height.ensures i) (pieces c.in_ok-arg.after.now) in
     (inv.0 ∙ step ∙ is, high, room, some)
 
-pub parse_args-returns-clause-same : goal.parse_args-returns-clause-same
-parse_args-returns-clause-same t c =
+pub calls::parse_args-returns-clause-same : goal.calls::parse_args-returns-clause-same
+calls::parse_args-returns-clause-same t c =
     let item = rule_of grammar (read grammar 0 c.args.depth) 0 c.args.depth (expr (Done inner_act)) [] in
     c.loop-next.invariant.0 ∙ items_end item (key Comma) (8 - vec_len c.loop-next.args) (phrases_back c.loop-next.args.items) c.loop-next.height (pieces c.loop-next.rest.now) c.in_default.ensures

@@ -7,12 +7,12 @@ use Rattle.raml_parse.proofs.Chains.{ended, full, suffix_more}
 use Rattle.raml_parse.proofs.types.+suffixes.Goals as goal
 
 pub returns-in_default-clause-same : goal.returns-in_default-clause-same
-returns-in_default-clause-same t c = ended Types c.args.depth 0 [] (Typing (ty_of c.args.base)) c.args.height (pieces c.args.tokens.now) c.in_default.ensures
+returns-in_default-clause-same t c = ended Types c.args.depth 0 [] (Typing (ty_of c.args.base.value)) c.args.height (pieces c.args.tokens.now) c.in_default.ensures
 
 pub returns-then-height-depth-clause-same : goal.returns-then-height-depth-clause-same
-returns-then-height-depth-clause-same t c = full Types c.args.depth 0 [] (Typing (ty_of c.args.base)) c.args.height (pieces c.args.tokens.now) (suffix_rule c.in-Some.suffix) c.in-Some.ensures.0 (λ le. omega (arith, le, c.if-height-depth.true))
+returns-then-height-depth-clause-same t c = full Types c.args.depth 0 [] (Typing (ty_of c.args.base.value)) c.args.height (pieces c.args.tokens.now) (suffix_rule c.in-Some.suffix) c.in-Some.ensures.0 (λ le. omega (arith, le, c.if-height-depth.true))
 
 pub returns-clause-same : goal.returns-clause-same
 returns-clause-same t c =
-    rw (suffix_more c.args.depth c.args.height (pieces c.args.tokens.now) (Typing (ty_of c.args.base)) (Typing (ty_of c.in_ok-longer.longer)) c.in-Some.suffix (pieces c.in-Some.rest.now) c.in-Some.ensures.0 (omega (arith, c.if-height-depth.false)) c.in_ok-longer.ensures c.in-Some.ensures.1)
+    rw (suffix_more c.args.depth c.args.height (pieces c.args.tokens.now) (Typing (ty_of c.args.base.value)) (Typing (ty_of c.in_ok-longer.longer.value)) c.in-Some.suffix (pieces c.in-Some.rest.now) c.in-Some.ensures.0 (omega (arith, c.if-height-depth.false)) c.in_ok-longer.ensures c.in-Some.ensures.1)
     c.parse_suffixes.ensures.same

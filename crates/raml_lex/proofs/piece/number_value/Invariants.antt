@@ -1,7 +1,7 @@
 use Rattle.std.proofs.Common.{◌≡◌, ◌<◌, ◌^◌, drop}
 use Rattle.raml_lex.specs.Lexemes.{number_value}
 use Rattle.raml_lex.proofs.Values.{value_from}
-use Rattle.raml_parse.proofs.pieces.number_value.Given as goal
+use Rattle.raml_lex.proofs.piece.number_value.Given as goal
 
 abbrev pub invariant-loop-digit : goal.invariant-loop-digit
 invariant-loop-digit l = record {

@@ -1,5 +1,0 @@
-use Rattle.raml_lex.proofs.Values.{too_great}
-use Rattle.raml_lex.proofs.piece.is_in_range.Goals as goal
-
-pub returns-then-value : goal.returns-then-value
-returns-then-value c = too_great c.args.digits.now c.loop-digit.value c.loop-digit.digit-index c.from.result c.loop-digit-test.true c.loop-digit.invariant.so_far c.from.ensures c.if-value.true
