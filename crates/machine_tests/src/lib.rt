@@ -12,3 +12,5 @@ mod numbers;
 mod programs;
 #[cfg(test)]
 mod runs;
+#[cfg(test)]
+mod texts;

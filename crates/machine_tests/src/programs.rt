@@ -15,7 +15,7 @@ use std::test::Fail;
 pub fn typed_program(alloc: Global, source: &str) -> Result<Typed, Fail>
     ensures { IfOk result (λ typed. program_nodes (program_of typed) < 2 ^ 28) }
 {
-    if source.len() > 1000 {
+    if source.len() > 1500 {
         return Err(Fail::from("the source is long"));
     }
     let Ok(program) = parse(alloc, source.as_bytes()) else {

@@ -13,6 +13,14 @@ use std::alloc::Global;
 use std::test::Fail;
 use value_text::{Cell, DataHeap, Word};
 
+/// What a function runs on: the heap, its arguments there, and how many cells it may take.
+#[derive(Drop)]
+pub struct Start {
+    pub heap: DataHeap,
+    pub args: Vec<Word>,
+    pub cells: u32,
+}
+
 /// How a run ended: at first, and later.
 #[derive(Drop)]
 pub struct Ran {
@@ -21,48 +29,50 @@ pub struct Ran {
     pub ticks: u64,
     pub cells: u32,
     pub instructions: u64,
-    /// The numbers of the list that it gave.
+    /// The number that it gave, or the numbers of the list or the option.
     pub numbers: Vec<i64>,
 }
 
-/// The numbers of a list, as far as it is one.
+/// The number that a run gave, or the numbers of the list or the option, as far as it is one.
 fn numbers_of(alloc: Global, heap: &DataHeap, end: End) -> Result<Vec<i64>, Fail> {
     let mut numbers = Vec::new(alloc);
     let mut rest = match end {
         End::Halted { word } => word,
         End::Stopped | End::HeapFull => Word::Empty,
     };
-    for _ in 0..heap.len() {
-        if let Word::Cell(number) = rest {
-            if number < heap.len() {
-                if let Cell::Cons(Word::Int(head), tail) = heap.get(number) {
-                    numbers.push(head)?;
-                    rest = tail;
-                }
-            }
-        }
+    for _ in 0..=heap.len() {
+        let (number, next) = match rest {
+            Word::Int(number) => (number, Word::Empty),
+            Word::Cell(place) if place < heap.len() => match heap.get(place) {
+                Cell::Cons(Word::Int(head), tail) => (head, tail),
+                Cell::Just(Word::Int(content)) => (content, Word::Empty),
+                _ => break,
+            },
+            _ => break,
+        };
+        numbers.push(number)?;
+        rest = next;
     }
     Ok(numbers)
 }
 
-/// Runs the first function of a program to so many instructions, and then to so many more.
+/// Runs a function of a program to so many instructions, and then to so many more.
 pub fn run(
     alloc: Global,
     typed: &Typed,
-    heap: DataHeap,
-    args: Vec<Word>,
-    cells: u32,
+    fun: FunId,
+    start: Start,
     first: u64,
     steps: u64,
 ) -> Result<Ran, Fail>
     requires nodes { program_nodes (program_of typed.now) < 2 ^ 28 }
-    requires arguments { HaveArguments (program_of typed.now) 0 heap.cells args.items }
-    requires heap { length heap.cells < 2 ^ 31 }
-    requires cells { cells ≤ 1000 }
+    requires arguments { HaveArguments (program_of typed.now) fun.0 start.heap.cells start.args.items }
+    requires heap { length start.heap.cells < 2 ^ 31 }
+    requires cells { start.cells ≤ 1000 }
     requires steps { (first ≤ steps) × (steps ≤ 1000) }
 {
     let code = compile(alloc, typed)?;
-    let mut vm = Vm::new(alloc, &code, FunId(0), heap, args, cells)?;
+    let mut vm = Vm::new(alloc, &code, fun, start.heap, start.args, start.cells)?;
     let first = vm.run(first)?;
     let end = vm.run(steps)?;
     Ok(Ran {
@@ -84,7 +94,12 @@ pub fn run_on(alloc: Global, source: &str, x: i64, first: u64, steps: u64) -> Re
     match typed.program().funs.as_slice() {
         [main] if takes_one(main, &int) => {
             let args = vec![in alloc; Word::Int(x)]?;
-            run(alloc, &typed, DataHeap::new(alloc), args, 0, first, steps)
+            let start = Start {
+                heap: DataHeap::new(alloc),
+                args,
+                cells: 0,
+            };
+            run(alloc, &typed, FunId(0), start, first, steps)
         }
         _ => Err(Fail::from("not one function of a number")),
     }
@@ -99,7 +114,12 @@ pub fn run_on_two(alloc: Global, source: &str, x: i64, y: i64, cells: u32) -> Re
     match typed.program().funs.as_slice() {
         [main] if takes_two(main, &int) => {
             let args = vec![in alloc; Word::Int(x), Word::Int(y)]?;
-            run(alloc, &typed, DataHeap::new(alloc), args, cells, 1000, 1000)
+            let start = Start {
+                heap: DataHeap::new(alloc),
+                args,
+                cells,
+            };
+            run(alloc, &typed, FunId(0), start, 1000, 1000)
         }
         _ => Err(Fail::from("not one function of two numbers")),
     }

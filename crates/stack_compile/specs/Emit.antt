@@ -9,7 +9,7 @@ use Rattle.raml_syntax.specs.declared.program.Param.{Param}
 use Rattle.raml_syntax.specs.declared.tree.Binder.{Binder}
 use Rattle.raml_syntax.specs.declared.tree.Expr.{Expr}
 use Rattle.stack_compile.specs.Code as c
-use Rattle.stack_compile.specs.Code.{code_of, codes_of, fun_of, one, seq, bind_one}
+use Rattle.stack_compile.specs.Code.{code_of, codes_of, fun_of, one, seq, fork, bind_one}
 use Rattle.stack_compile.specs.Read.{locals_in, program_in}
 use Rattle.stack_compile.specs.declared.emit.Case.{Case}
 use Rattle.stack_compile.specs.declared.emit.Case.TheVariants as case
@@ -64,6 +64,10 @@ arguments_in env args = codes_of (program_in env) (locals_in env) (terms_of args
 
 abbrev pub call_in : Env → Text → List Expr → c.Code
 call_in env f args = seq (arguments_in env args) (one (Call (fun_of f (program_in env))))
+
+-- of a subject, what stands below the names of its parts, and what stands where it is empty
+abbrev pub match_in : Env → Case → List Binder → Expr → Expr → Expr → c.Code
+match_in env case xs subject part empty = fork (here env subject) (leave_of case) (bound_in env xs part) (here env empty)
 
 abbrev pub size : Expr → ℕ
 size e = nodes (term_of e)

@@ -4,7 +4,7 @@ ghost use Rattle.raml_syntax.specs.Read.{terms_of};
 ghost use Rattle.raml_syntax.specs.Node.{nodes_of_all, AllOf, NumberFits};
 ghost use Rattle.stack_compile.specs.Code as c;
 ghost use Rattle.stack_compile.specs.Code.{one, seq, fork};
-ghost use Rattle.stack_compile.specs.Emit.{here, below, bound_in, leave_of, size, NumbersFit, HasRoom, Appended, binders, arguments_in, call_in, let_in, node_in};
+ghost use Rattle.stack_compile.specs.Emit.{here, below, bound_in, leave_of, size, NumbersFit, HasRoom, Appended, binders, arguments_in, call_in, let_in, match_in, node_in};
 ghost use Rattle.stack_compile.specs.declared.instr.Instr.TheVariants.{Branch, Tick};
 
 use crate::instr::Instr;
@@ -295,7 +295,7 @@ fn emit_match<'s, 'a>(
 ) -> Result<(), AllocError>
     requires few { length names.now ≤ 3 }
     requires room { HasRoom env 0 (vec_len code.old) (1 + size subject.now + size empty.now + size part.now) }
-    ensures code { OnOk result (Appended (fork (here env.entry subject.now) (leave_of case) (bound_in env.entry (binders names.now) part.now) (here env.entry empty.now)) code.old code.new) }
+    ensures code { OnOk result (Appended (match_in env.entry case (binders names.now) subject.now part.now empty.now) code.old code.new) }
     ensures short { OnOk result (vec_len code.new ≤ vec_len code.old + 4 * (1 + size subject.now + size empty.now + size part.now)) }
     ensures numbers { OnOk result (NumbersFit subject.now × NumbersFit empty.now × NumbersFit part.now) }
 {
