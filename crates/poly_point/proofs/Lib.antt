@@ -1,0 +1,4 @@
+mod Values
+mod Sums
+mod Raised
+mod Arguments
