@@ -1,5 +1,5 @@
 -- The values of arguments.
-use Rattle.std.proofs.Common.{◌≡◌, List, [], ◌∷◌, map, length, All, Result, Ok, Err, IsErrAnd, sym, ap, ◌∙◌}
+use Rattle.std.proofs.Common.{◌≡◌, List, [], ◌∷◌, length, All, Result, Ok, Err, IsErrAnd, sym, ◌∙◌}
 use Rattle.std.proofs.lemmas.List.Elements.{All-nil, All-cons}
 use Rattle.raml_syntax.specs.Value.{Value}
 use Rattle.value_text.specs.declared.word.Word.{Word}

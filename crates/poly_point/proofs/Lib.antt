@@ -2,3 +2,4 @@ mod Values
 mod Sums
 mod Raised
 mod Arguments
+mod Sampled

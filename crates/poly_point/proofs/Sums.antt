@@ -1,12 +1,12 @@
 -- Sums for the fronts of a list index.
-use Rattle.std.proofs.Common.{◌≡◌, ℕ, zero, suc, ◌+◌, ◌*◌, ◌<◌, ◌≤◌, ◌^◌, List, [], ◌∷◌, ◌++◌, take, length, get_or, map, refl, sym, ap, ◌∙◌, subst, arith, append_assoc, append-nil}
-use Rattle.std.proofs.Math.Nat.{le_trans}
-use Rattle.std.proofs.lemmas.List.{take_more, take_all, get_or-map, length-map}
-use Rattle.raml_syntax.specs.Value as v
+use Rattle.std.proofs.Common.{◌≡◌, ℕ, zero, suc, ◌+◌, ◌*◌, ◌<◌, ◌≤◌, ◌^◌, List, [], ◌∷◌, ◌++◌, take, length, get_or, refl, sym, ap, ◌∙◌, arith, append_assoc, append-nil}
+use Rattle.std.proofs.Math.Nat.{le_trans, pow-le-pow_right}
+use Rattle.std.proofs.lemmas.List.{take_more, take_all}
 use Rattle.raml_syntax.specs.Value.{Value, size}
-use Rattle.base_poly.specs.Plain.{Plain, Unit', End, Then, many, deg, degrees}
-use Rattle.base_poly.specs.Base.{total, elements, base, bases, over}
-use Rattle.base_poly.proofs.Bounded.{bounded}
+use Rattle.base_poly.specs.Plain.{Plain, Unit', End, Then, many, deg}
+use Rattle.base_poly.specs.Base.{elements, base, over}
+use Rattle.base_poly.proofs.Bounded as b
+use Rattle.base_poly.proofs.Bounded.{bounded, elements_within, rest_within}
 use Rattle.base_poly.proofs.Recursion.{base_many}
 use Rattle.base_poly.proofs.Sums.{total_joined, over_more}
 use Rattle.value_text.specs.declared.word.Word.{Word}
@@ -42,39 +42,14 @@ small_base i v h k =
     let all = bounded.limit (i ∷ []) (v ∷ []) (omega (arith, h)) (omega (arith, k)) in
     omega (arith, all)
 
-abbrev listed : List Value → Value
-listed [] = v.Empty
-listed (w ∷ ws) = v.Cons w (listed ws)
+pub small_over : (is : List Plain) (vs : List Value) → b.cells vs ≤ 2 ^ 20 → deg (many is) ≤ 4 → over (many is) vs ≤ 2 ^ 80
+small_over is vs h k = le_trans (rest_within (many is) vs (2 ^ 20) some h) (le_trans (pow-le-pow_right some k) large)
+  where
+    some : 0 < 2 ^ 20
+    some = omega arith
 
-elements_listed : (vs : List Value) → elements (listed vs) ≡ vs
-elements_listed [] = refl
-elements_listed (w ∷ ws) = ap (λ l. w ∷ l) (elements_listed ws)
-
-abbrev pub cells_of : List Value → ℕ
-cells_of vs = total (λ w. 1 + size w) vs
-
-size_listed : (vs : List Value) → size (listed vs) ≡ cells_of vs
-size_listed [] = refl
-size_listed (w ∷ ws) = let more = size_listed ws in omega (arith, more)
-
-pub small_over : (is : List Plain) (vs : List Value) → cells_of vs ≤ 2 ^ 20 → deg (many is) ≤ 4 → over (many is) vs ≤ 2 ^ 80
-small_over is vs h k =
-    let same = size_listed vs in
-    let small = small_base (many is) (listed vs) (omega (arith, h, same)) k in
-    subst (λ n. n ≤ 2 ^ 80) (base_many is (listed vs) ∙ ap (over (many is)) (elements_listed vs)) small
-
--- a list or tree has a cell for each element beside those in it
-elements_within : (w : Value) → cells_of (elements w) ≤ size w
-elements_within (v.Number n) = omega arith
-elements_within (v.Truth b) = omega arith
-elements_within (v.Both x y) = omega arith
-elements_within v.Empty = omega arith
-elements_within (v.Cons x y) = let more = elements_within y in omega (arith, more)
-elements_within (v.Node x y z) =
-    let both = total_joined (λ w. 1 + size w) (elements y) (elements z) in
-    let left = elements_within y in
-    let right = elements_within z in omega (arith, both, left, right)
-elements_within (v.Just x) = omega arith
+    large : (2 ^ 20) ^ 4 ≤ 2 ^ 80
+    large = omega arith
 
 -- Fronts of a list index
 
@@ -133,9 +108,9 @@ module _ (cells : List Cell) (is : List Plain) (w : Value) (small : size w ≤ 2
   split_on : elements w ≡ (walked.seen ++ u ∷ []) ++ waiting_elements cells more
   split_on = walked.split ∙ ap (λ l. walked.seen ++ l) next ∙ sym (append_assoc walked.seen (u ∷ []) (waiting_elements cells more))
 
-  cells_seen : cells_of (walked.seen ++ u ∷ []) ≤ 2 ^ 20
+  cells_seen : b.cells (walked.seen ++ u ∷ []) ≤ 2 ^ 20
   cells_seen =
-      let all = ap cells_of split_on ∙ total_joined (λ x. 1 + size x) (walked.seen ++ u ∷ []) (waiting_elements cells more) in
+      let all = ap b.cells split_on ∙ total_joined (λ x. 1 + size x) (walked.seen ++ u ∷ []) (waiting_elements cells more) in
       let within = elements_within w in omega (arith, all, within, small)
 
   pub small_next : size u ≤ 2 ^ 20

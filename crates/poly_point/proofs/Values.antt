@@ -1,15 +1,14 @@
 -- Words, what their cells hold, and the elements that wait.
-use Rattle.std.proofs.Common.{◌≡◌, ◌⊎◌, ⊎_elim, ℕ, ◌≤◌, ◌<◌, List, [], ◌∷◌, ◌++◌, length, Option, Some, option_to_list, refl, sym, ap, subst, ◌∙◌, arith, append_assoc, append-nil}
+use Rattle.std.proofs.Common.{◌≡◌, ◌⊎◌, ⊎_elim, ℕ, List, [], ◌∷◌, ◌++◌, length, Option, Some, option_to_list, refl, sym, ap, ◌∙◌, arith, append_assoc, append-nil}
 use Rattle.std.specs.Prelude.{slice_get}
 use Rattle.std.proofs.lemmas.Option.{slice_get_within}
-use Rattle.raml_syntax.specs.Value as v
 use Rattle.raml_syntax.specs.Value.{Value}
 use Rattle.base_poly.specs.Base.{elements, on_parts, on_content}
 use Rattle.value_text.specs.declared.word.Word.{Word}
-use Rattle.value_text.specs.declared.word.Word.TheVariants.{Int, Bool, Empty, Cell}
+use Rattle.value_text.specs.declared.word.Word.TheVariants.{Cell}
 use Rattle.value_text.specs.declared.word.Cell as c
 use Rattle.value_text.specs.declared.word.Cell.TheVariants.{Cons, Pair, Node, Just}
-use Rattle.value_text.specs.Heap.{IsBelow, NamesBelow, NameEarlier}
+use Rattle.value_text.specs.Heap.{NamesBelow, NameEarlier}
 use Rattle.value_text.specs.Held.{value_held, held_of, held}
 use Rattle.value_text.proofs.Earlier.{names_earlier, names_more}
 use Rattle.value_text.proofs.Holding.{held_is}

@@ -1,5 +1,5 @@
 -- Walks over the values of words.
-use Rattle.std.specs.Prelude.{◌≡◌, ◌<◌, ◌≤◌, ℕ, zero, suc, ◌+◌, ◌*◌, ◌^◌, List, [], ◌∷◌, ◌++◌, All, length, slice_index_or}
+use Rattle.std.specs.Prelude.{◌≡◌, ◌<◌, ◌≤◌, ℕ, ◌+◌, ◌*◌, ◌^◌, List, [], ◌∷◌, ◌++◌, length, slice_index_or}
 use Rattle.raml_syntax.specs.Value.{Value, size}
 use Rattle.base_poly.specs.Plain.{Plain, Unit'}
 use Rattle.base_poly.specs.Base.{elements, base}

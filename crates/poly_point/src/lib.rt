@@ -8,3 +8,6 @@ mod point;
 
 pub use fault::PointFault;
 pub use point::{Point, at};
+
+#[cfg(test)]
+mod tests;
