@@ -9,10 +9,10 @@ use Rattle.base_poly.specs.Laws.{BaseIsBounded}
 use Rattle.base_poly.proofs.Sums.{total_joined, over_more}
 
 -- the cells of elements, each of which stands in one of its own
-abbrev cells : List Value → ℕ
+abbrev pub cells : List Value → ℕ
 cells vs = total (λ v. 1 + size v) vs
 
-elements_within : (v : Value) → cells (elements v) ≤ size v
+pub elements_within : (v : Value) → cells (elements v) ≤ size v
 elements_within (Number n) = omega arith
 elements_within (Truth b) = omega arith
 elements_within (Both v w) = omega arith
@@ -71,7 +71,7 @@ mutual
       omega (arith, all)
   within (OneEntry i) v = omega arith
 
-  rest_within : (r : Plain) (vs : List Value) (N : ℕ) → 0 < N → cells vs ≤ N → over r vs ≤ N ^ deg r
+  pub rest_within : (r : Plain) (vs : List Value) (N : ℕ) → 0 < N → cells vs ≤ N → over r vs ≤ N ^ deg r
   rest_within (Then i r) vs N h g = led_within i r (within i) (rest_within r) vs N g
   rest_within r vs N h g = one-le-pow (deg r) N h
 

@@ -1,0 +1,5 @@
+mod Values
+mod Sums
+mod Raised
+mod Arguments
+mod Sampled
