@@ -1,6 +1,8 @@
 // What is read, printed again.
-ghost use Rattle.std.specs.Prelude.{length};
+ghost use Rattle.std.specs.Prelude.{List, map};
 ghost use Rattle.raml_syntax.specs.Read.{ty_of};
+ghost use Rattle.raml_syntax.specs.Value.{Value, HaveTypes};
+ghost use Rattle.value_text.specs.Stands.{StandForAll};
 ghost use Rattle.value_text.specs.Printing.{StandsForSome};
 
 use crate::types::types_of;
@@ -27,7 +29,43 @@ fn push_printed(
     }
 }
 
-/// The text of the one or two arguments that data spells, of more the number of cells, or the fault.
+fn push_first(
+    out: &mut String,
+    alloc: Global,
+    heap: &DataHeap,
+    words: &[Word],
+    types: &[Ty],
+) -> Result<(), Fail>
+    requires { (vs : List Value) × StandForAll heap.now.cells words.now vs × HaveTypes vs (map ty_of types.now) }
+{
+    match words {
+        [word, ..] => match types {
+            [ty, ..] => push_printed(out, alloc, heap, *word, ty),
+            [] => Err(Fail::from("there is no type")),
+        },
+        [] => Err(Fail::from("there is no word")),
+    }
+}
+
+fn push_second(
+    out: &mut String,
+    alloc: Global,
+    heap: &DataHeap,
+    words: &[Word],
+    types: &[Ty],
+) -> Result<(), Fail>
+    requires { (vs : List Value) × StandForAll heap.now.cells words.now vs × HaveTypes vs (map ty_of types.now) }
+{
+    match words {
+        [_, word] => match types {
+            [_, ty] => push_printed(out, alloc, heap, *word, ty),
+            _ => Err(Fail::from("not two types")),
+        },
+        _ => Err(Fail::from("not two words")),
+    }
+}
+
+/// The text of the first argument that data spells, of both where there are two, or the fault.
 pub fn shown(alloc: Global, types: &[Ty], data: &[u8]) -> Result<String, Fail> {
     if types.is_empty() || types.len() > 8 || data.len() > 20000000 {
         return Err(Fail::from("there are no types, or too many"));
@@ -36,26 +74,13 @@ pub fn shown(alloc: Global, types: &[Ty], data: &[u8]) -> Result<String, Fail> {
     let mut heap = DataHeap::new(alloc);
     match read_args(alloc, data, types, &mut heap) {
         Err(fault) => write!(out, "{fault:?}")?,
-        Ok(words) => match types {
-            [ty] => {
-                let [word] = words.as_slice() else {
-                    return Err(Fail::from("not one word"));
-                };
-                push_printed(&mut out, alloc, &heap, *word, ty)?;
-            }
-            [first, second] => {
-                let [left, right] = words.as_slice() else {
-                    return Err(Fail::from("not two words"));
-                };
-                push_printed(&mut out, alloc, &heap, *left, first)?;
+        Ok(words) => {
+            push_first(&mut out, alloc, &heap, &words, types)?;
+            if types.len() == 2 {
                 out.push_str("; ")?;
-                push_printed(&mut out, alloc, &heap, *right, second)?;
+                push_second(&mut out, alloc, &heap, &words, types)?;
             }
-            _ => {
-                let count = words.len();
-                write!(out, "{count} words")?;
-            }
-        },
+        }
     }
     Ok(out)
 }

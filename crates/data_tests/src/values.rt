@@ -116,12 +116,8 @@ fn several_arguments(rt: HostRuntime) -> Result<(), Fail> {
                 " ( (16,2) , some(8) ) ",
                 "(16, 2); some(8)",
             ),
-            ("int int list int", "(7,[0],3)", "3 words"),
-            (
-                "int int int int int int int int",
-                "(1,2,3,4,5,6,7,8)",
-                "8 words",
-            ),
+            ("int int list int", "(7,[0],3)", "7"),
+            ("int int int int int int int int", "(1,2,3,4,5,6,7,8)", "1"),
         ],
     )
 }

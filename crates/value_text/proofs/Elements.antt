@@ -14,7 +14,7 @@ use Rattle.raml_syntax.specs.Read.{ty_of}
 use Rattle.raml_syntax.specs.declared.ty.Ty.{Ty}
 use Rattle.value_text.specs.declared.token.Token as n
 use Rattle.value_text.specs.Spelling.{Token, Key, Number, Truth, most_height, sizes}
-use Rattle.value_text.specs.Lexing.{placed, kinds}
+use Rattle.value_text.specs.Lexing.{Placed, placed, kinds}
 use Rattle.value_text.specs.Tokens.{token_of, IsNext}
 use Rattle.value_text.specs.Goals.{Goal, Value', Tail, Moves, begins, more_goals, more_values, FitAll}
 use Rattle.value_text.specs.State.{goals_of, values_in, scalar_word, IsItem, AreItems, TurnedTo, AllBelow}
@@ -60,7 +60,7 @@ module _ (A : Type') (s' s'' : Text) (word : Word) (item : IsItem A s' word s'')
       let V' = values_in hs ws' [] in
       let vs : value_of hs word ∷ V' ≡ values_in hs ws'' [] = sym (ap (λ l. values_in hs l []) is ∙ values_snoc hs ws' word []) in
       let scalar = scalar_is A item.token word item.scalar in
-      let new = (record { left = item.before; token = Key k.Comma }) ∷ (record { left = item.at; token = item.token }) ∷ [] in
+      let new : List Placed = (record { left = item.before; token = Key k.Comma }) ∷ (record { left = item.at; token = item.token }) ∷ [] in
       let a = h.less in
       let b = item.less in
       record {
@@ -68,7 +68,7 @@ module _ (A : Type') (s' s'' : Text) (word : Word) (item : IsItem A s' word s'')
         split = h.split ∙ ap (λ l. h.taken ++ l) item.tokens ∙ sym (append_assoc h.taken new (placed s''));
         moves = λ l m gs le. (
             let two = after _ _ _ _ _ _ _ _ (h.moves l m gs le) (item_moves hs V' l (m + n) gs le) in
-            let c : kinds h.taken ++ Key k.Comma ∷ item.token ∷ [] ≡ kinds (h.taken ++ new) = sym (kinds_more h.taken new) in
+            let c = sym (kinds_more h.taken new) in
             let e : suc (m + n) ≡ m + (n + 1) = omega arith in
             subst (λ c. Moves (Tail A l m ∷ gs) V c (Tail A l (m + (n + 1)) ∷ gs) (values_in hs ws'' [])) c
             (subst (λ j. Moves (Tail A l m ∷ gs) V (kinds h.taken ++ Key k.Comma ∷ item.token ∷ []) (Tail A l j ∷ gs) (values_in hs ws'' [])) e

@@ -7,7 +7,7 @@ pub loop-word-init : goal.loop-word-init
 loop-word-init c = record { items = λ hs. no_items (ty_of c.args.ty.now) _ c.args.text.now; none = λ e. (refl, refl); below = λ n h. h }
 
 pub overflow_add-count : goal.overflow_add-count
-overflow_add-count c = let less = (c.loop-word.invariant.items []).less in let short = c.type_inv.text in omega (arith, less, short)
+overflow_add-count c = let less = (c.loop-word.invariant.items []).less in omega (arith, less)
 
 pub loop-word-preserved : goal.loop-word-preserved
 loop-word-preserved c = record {

@@ -7,9 +7,8 @@ use Rattle.value_text.proofs.taking.turn_tail.Goals as goal
 pub overflow_add-count : goal.overflow_add-count
 overflow_add-count c =
     let less = (c.in_ok-more.ensures.items []).less in
-    let short = c.type_inv.text in
     let room = c.requires.room in
-    omega (arith, less, short, room)
+    omega (arith, less, room)
 
 pub returns-clause-turned : goal.returns-clause-turned
 returns-clause-turned c =
