@@ -110,14 +110,26 @@ fn run_on_list(
 
 // Of a program: the place of a function, the numbers that it runs on, those that it gives, and the ticks,
 // cells and instructions of its run.
-type Wanted = (&'static str, u32, &'static [i64], &'static [i64], (u64, u32, u64));
+type Wanted = (
+    &'static str,
+    u32,
+    &'static [i64],
+    &'static [i64],
+    (u64, u32, u64),
+);
 
 const RUNS: [Wanted; 7] = [
     (ENDS, 0, &[], &[], (0, 0, 4)),
     (ENDS, 1, &[1, 2, 3], &[3], (2, 1, 33)),
     (ENDS, 2, &[4, 2, 8], &[2], (0, 3, 47)),
     (ENDS, 3, &[10, 0, 5], &[15], (2, 2, 54)),
-    (TREES, 4, &[5, 1, 4, 2, 3, 1], &[1, 2, 3, 4, 5], (12, 22, 431)),
+    (
+        TREES,
+        4,
+        &[5, 1, 4, 2, 3, 1],
+        &[1, 2, 3, 4, 5],
+        (12, 22, 431),
+    ),
     (QUICKSORT, 2, &[3, 2, 1], &[1, 2, 3], (9, 15, 190)),
     (
         QUICKSORT,

@@ -21,7 +21,8 @@ fun sum_ends (l : int list) : int =
 ";
 
 /// A sort by search trees.
-pub const TREES: &str = "(* binary search tree: insertion, a tree from a list, look-up, sorting by a tree *)
+pub const TREES: &str =
+    "(* binary search tree: insertion, a tree from a list, look-up, sorting by a tree *)
 fun add (x : int, t : int tree) : int tree =
   match t with
     leaf -> node(x, leaf, leaf)

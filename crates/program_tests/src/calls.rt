@@ -1,5 +1,4 @@
 // Whole calls over files and streams in memory.
-use value_text::DataFault;
 use raml_io::{MemSink, MemStore};
 use raml_lex::LexFault;
 use raml_parse::ParseFault;
@@ -9,6 +8,7 @@ use simple_types::TypeFault;
 use std::alloc::{AllocError, Global};
 use std::fmt::Write;
 use std::test::Fail;
+use value_text::DataFault;
 
 const FIRST: &[u8] = b"fun main (x : int) : int = tick 3 in x";
 
