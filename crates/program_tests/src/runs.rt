@@ -19,7 +19,7 @@ fun main (x : int, y : int) : int = x mod y; main; (-9223372036854775808, -1); 0
 fun main (x : int, y : int) : int = x mod y; main; (7, -2); 1; 0; 0; 4
 fun main (x : int) : int = 0 - x; main; 12; -12; 0; 0; 4
 fun main (b : bool) : bool = b; main; true; true; 0; 0; 2
-fun main (b : bool) : bool = not b; main;\ttrue ; false; 0; 0; 3
+fun main (b : bool) : bool = not b; main; \ttrue ; false; 0; 0; 3
 fun main (x : int, y : int) : bool = x < y; main; ( 1 ,2 ); true; 0; 0; 4
 fun main (x : int, y : int) : bool = x < y; main; (2, 2); false; 0; 0; 4
 fun main (x : int, y : int) : bool = x <= y; main; (2, 2); true; 0; 0; 4
