@@ -8,13 +8,13 @@ use Rattle.machine_tests.proofs.lists.appended.Goals as goal
 
 pub run-requires-clause-arguments : goal.run-requires-clause-arguments
 run-requires-clause-arguments c =
-    let one = c.put-one.ensures.list in
-    let four = c.put-four.ensures.list in
-    let values : List Value = one.0 ∷ four.0 ∷ [] in
+    let left = c.list-left.ensures.list in
+    let right = c.list-right.ensures.list in
+    let values : List Value = left.0 ∷ right.0 ∷ [] in
     record {
       function = function_of c.append-item.result;
       there = first_there _ _ c.as_slice.result.now _ (omega (arith, c.in-len1.len_at_least)) c.append-item.is c.as_slice.ensures.value c.program.ensures.program;
       values = values;
-      stand = subst (λ ws. StandForAll c.put-four.new.heap.cells ws values) (sym c.in_ok-args-in-len1.ensures.items) (c.put-four.ensures.more _ _ one.1, (four.1, tt));
-      types = subst (HaveTypes values) (sym (c.takes_two.ensures c.if-takes_two.true ∙ ap (λ (T : Type'). T ∷ T ∷ []) c.in_ok-ints.ensures)) (one.2, (four.2, tt));
+      stand = subst (λ ws. StandForAll c.list-right.new.heap.cells ws values) (sym c.in_ok-args-in-len1.ensures.items) (c.list-right.ensures.more _ _ left.1, (right.1, tt));
+      types = subst (HaveTypes values) (sym (c.takes_two.ensures c.if-takes_two.true ∙ ap (λ (T : Type'). T ∷ T ∷ []) c.in_ok-ints.ensures)) (left.2, (right.2, tt));
     }
