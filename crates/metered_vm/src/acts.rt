@@ -152,6 +152,7 @@ pub fn negate(m: &mut Machine)
 }
 
 /// The result of an operator, brought into 64 bits.
+#[inline(always)]
 fn result_of(op: ArithOp, left: i64, right: i64) -> i64
     ensures { result ≡ int_wrap w64 (arith_result op left right) }
 {
@@ -172,6 +173,7 @@ fn result_of(op: ArithOp, left: i64, right: i64) -> i64
 
 /// Takes the right and the left operand, and pushes the result.
 #[tactic(auto, using(crate::proofs::Lists::stack_snoc, crate::proofs::Lists::below_snoc, crate::proofs::Lists::below_init_is))]
+#[inline(always)]
 pub fn arith(m: &mut Machine, op: ArithOp)
     requires sound { IsSound m.old }
     requires finds { TwoNumbers (stack_in m.old) }
