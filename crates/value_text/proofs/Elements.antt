@@ -12,10 +12,8 @@ use Rattle.value_text.specs.declared.goal.Goal.TheVariants as o
 use Rattle.std.specs.Borrow.{Bor}
 use Rattle.raml_syntax.specs.Read.{ty_of}
 use Rattle.raml_syntax.specs.declared.ty.Ty.{Ty}
-use Rattle.value_text.specs.declared.token.Token as n
 use Rattle.value_text.specs.Spelling.{Token, Key, Number, Truth, most_height, sizes}
 use Rattle.value_text.specs.Lexing.{Placed, placed, kinds}
-use Rattle.value_text.specs.Tokens.{token_of, IsNext}
 use Rattle.value_text.specs.Goals.{Goal, Value', Tail, Moves, begins, more_goals, more_values, FitAll}
 use Rattle.value_text.specs.State.{goals_of, values_in, scalar_word, IsItem, AreItems, TurnedTo, AllBelow}
 use Rattle.value_text.proofs.Front.{least_some}

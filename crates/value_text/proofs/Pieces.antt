@@ -23,7 +23,7 @@ use Rattle.value_text.specs.Held as h'
 use Rattle.value_text.specs.Held.{Held, ConsOf, NodeOf, JustOf, held, held_of, value_held, value_of}
 use Rattle.value_text.specs.Spelling.{Token, Key, Truth, spell_empty, spell, spell_tail}
 use Rattle.value_text.specs.Printing.{StandsForSome, most_text, token_text, printed, text_of, sign_text}
-use Rattle.value_text.specs.Pieces.{Plain, pending, piece_tokens, IsFine, AreFine, Prints, pair_pieces, item_pieces, node_pieces, content_pieces}
+use Rattle.value_text.specs.Pieces.{Plain, pending, piece_tokens, IsFine, AreFine, Prints, pair_pieces, item_text, item_pieces, node_pieces, content_pieces}
 use Rattle.value_text.proofs.Earlier.{names_more, names_earlier}
 use Rattle.value_text.proofs.Holding.{held_is}
 use Rattle.value_text.specs.Stands.{StandsFor}
@@ -82,19 +82,71 @@ not_plain h A (inr q) k = no_boolean h (subst (Has (value_held h)) q k)
 pub end_prints : (cells : List c.Cell) (A : Bor Ty) (text text' : Text) (ps : List Piece) → text' ≡ text ++ codes "]" → Prints cells (p.Tail w.Empty A) text text' ps ps
 end_prints cells A text text' ps e = record { written = codes "]"; more = []; grows = e; some = omega arith; waits = sym (append-nil ps); fine = tt; same = λ s. refl }
 
-pub tail_prints : (cells : List c.Cell) (i : ℕ) (head tail : Word) (A : Bor Ty) (text text' : Text) (ps ps' : List Piece) → NameEarlier cells → slice_get cells i ≡ Some (Cons head tail) → IsFine cells (p.Tail (w.Cell i) A) → text' ≡ text ++ sign_text k.Comma → ps' ≡ ps ++ item_pieces head tail A → Prints cells (p.Tail (w.Cell i) A) text text' ps ps'
+empty_same : (A : Type') (s : List Token) → text_of (spell_empty A []) ++ text_of s ≡ text_of (spell_empty A s)
+empty_same Integer s = refl
+empty_same Boolean s = refl
+empty_same (PairOf A B) s = refl
+empty_same (ListOf A) s = refl
+empty_same (TreeOf A) s = refl
+empty_same (OptionOf A) s = refl
+
+-- a value without a cell is printed at once
+plain_same : (hs : List Held) (x : Word) (A : Type') (s : List Token) → Plain x → printed (value_of [] x) A ++ text_of s ≡ text_of (spell (value_of hs x) A s)
+plain_same hs (w.Int n) A s h = ap (λ l. l ++ text_of s) (append-nil (signed_decimal n))
+plain_same hs (w.Bool b) A s h = ap (λ l. l ++ text_of s) (append-nil (token_text (Truth b)))
+plain_same hs w.Empty A s h = empty_same A s
+plain_same hs (w.Cell i) A s h = absurd h
+
+pub plain_has : (hs : List Held) (x : Word) (A : Type') → Has (value_of hs x) A → Plain x → Has (value_of [] x) A
+plain_has hs (w.Int n) A h plain = h
+plain_has hs (w.Bool b) A h plain = h
+plain_has hs w.Empty A h plain = h
+plain_has hs (w.Cell i) A h plain = absurd plain
+
+-- what is written of a list's first sign or a comma, and what waits
+record Item (hs : List Held) (k : Sign) (head tail : Word) (E : Bor Ty) (text text' : Text) : Type 0 where
+  written : Text
+  grows : text' ≡ text ++ (sign_text k ++ written)
+  same : (s : List Token) → written ++ text_of (pending hs (item_pieces head tail E) s) ≡ text_of (spell (value_of hs head) (ty_of E.now) (spell_tail (value_of hs tail) (ty_of E.now) s))
+
+item : (hs : List Held) (k : Sign) (head tail : Word) (E : Bor Ty) (text text' : Text) → text' ≡ item_text text k head (ty_of E.now) → Item hs k head tail E text text'
+item hs k (w.Cell i) tail E text text' e = record { written = []; grows = e ∙ ap (λ l. text ++ l) (sym (append-nil (sign_text k))); same = λ s. refl }
+item hs k (w.Int n) tail E text text' e = record {
+  written = printed (v.Number n) (ty_of E.now);
+  grows = e ∙ append_assoc text (sign_text k) (printed (v.Number n) (ty_of E.now));
+  same = λ s. plain_same hs (w.Int n) (ty_of E.now) (spell_tail (value_of hs tail) (ty_of E.now) s) tt;
+}
+item hs k (w.Bool b) tail E text text' e = record {
+  written = printed (v.Truth b) (ty_of E.now);
+  grows = e ∙ append_assoc text (sign_text k) (printed (v.Truth b) (ty_of E.now));
+  same = λ s. plain_same hs (w.Bool b) (ty_of E.now) (spell_tail (value_of hs tail) (ty_of E.now) s) tt;
+}
+item hs k w.Empty tail E text text' e = record {
+  written = printed v.Empty (ty_of E.now);
+  grows = e ∙ append_assoc text (sign_text k) (printed v.Empty (ty_of E.now));
+  same = λ s. plain_same hs w.Empty (ty_of E.now) (spell_tail (value_of hs tail) (ty_of E.now) s) tt;
+}
+
+item_fine : (cells : List c.Cell) (head tail : Word) (E : Bor Ty) → IsFine cells (p.Value head E) → IsFine cells (p.Tail tail E) → AreFine cells (item_pieces head tail E)
+item_fine cells (w.Cell i) tail E h t = (t, (h, tt))
+item_fine cells (w.Int n) tail E h t = (t, tt)
+item_fine cells (w.Bool b) tail E h t = (t, tt)
+item_fine cells w.Empty tail E h t = (t, tt)
+
+pub tail_prints : (cells : List c.Cell) (i : ℕ) (head tail : Word) (A : Bor Ty) (text text' : Text) (ps ps' : List Piece) → NameEarlier cells → slice_get cells i ≡ Some (Cons head tail) → IsFine cells (p.Tail (w.Cell i) A) → text' ≡ item_text text k.Comma head (ty_of A.now) → ps' ≡ ps ++ item_pieces head tail A → Prints cells (p.Tail (w.Cell i) A) text text' ps ps'
 tail_prints cells i head tail A text text' ps ps' e is h et ep =
     let hs = held cells in
     let has : Has (value_held (held_of (held cells) (Cons head tail))) (ListOf (ty_of A.now)) = subst (λ x. Has x (ListOf (ty_of A.now))) (cell_value cells i (Cons head tail) e is) h.1 in
     let below = cell_names cells i _ e is in
+    let one = item hs k.Comma head tail A text text' et in
     record {
-      written = codes ", ";
+      written = codes ", " ++ one.written;
       more = item_pieces head tail A;
-      grows = et;
+      grows = one.grows;
       some = omega arith;
       waits = ep;
-      fine = ((below.1, has.1), ((below.0, has.0), tt));
-      same = λ s. sym (ap (λ x. text_of (spell_tail x (ty_of A.now) s)) (cell_value cells i _ e is));
+      fine = item_fine cells head tail A (below.0, has.0) (below.1, has.1);
+      same = λ s. append_assoc (codes ", ") one.written _ ∙ ap (λ l. codes ", " ++ l) (one.same s) ∙ sym (ap (λ x. text_of (spell_tail x (ty_of A.now) s)) (cell_value cells i _ e is));
     }
 
 pub as_type : (x : Value) (A B : Type') → A ≡ B → Has x A → Has x B
@@ -103,18 +155,25 @@ as_type x A B e h = subst (Has x) e h
 pub cell_has : (cells : List c.Cell) (i : ℕ) (cell : c.Cell) (A : Bor Ty) → NameEarlier cells → slice_get cells i ≡ Some cell → IsFine cells (p.Value (w.Cell i) A) → Has (value_held (held_of (held cells) cell)) (ty_of A.now)
 cell_has cells i cell A e is h = subst (λ x. Has x (ty_of A.now)) (cell_value cells i cell e is) h.1
 
-pub list_prints : (cells : List c.Cell) (i : ℕ) (head tail : Word) (A E : Bor Ty) (text text' : Text) (ps ps' : List Piece) → NameEarlier cells → slice_get cells i ≡ Some (Cons head tail) → IsFine cells (p.Value (w.Cell i) A) → ty_of A.now ≡ ListOf (ty_of E.now) → text' ≡ text ++ sign_text k.OpenList → ps' ≡ ps ++ item_pieces head tail E → Prints cells (p.Value (w.Cell i) A) text text' ps ps'
+pub list_has : (cells : List c.Cell) (i : ℕ) (head tail : Word) (A E : Bor Ty) → NameEarlier cells → slice_get cells i ≡ Some (Cons head tail) → IsFine cells (p.Value (w.Cell i) A) → ty_of A.now ≡ ListOf (ty_of E.now) → Has (value_of (held cells) head) (ty_of E.now) × Has (value_of (held cells) tail) (ListOf (ty_of E.now))
+list_has cells i head tail A E e is h at = as_type (value_held (held_of (held cells) (Cons head tail))) _ _ at (cell_has cells i (Cons head tail) A e is h)
+
+pub tail_has : (cells : List c.Cell) (i : ℕ) (head tail : Word) (E : Bor Ty) → NameEarlier cells → slice_get cells i ≡ Some (Cons head tail) → IsFine cells (p.Tail (w.Cell i) E) → Has (value_of (held cells) head) (ty_of E.now)
+tail_has cells i head tail E e is h = (subst (λ x. Has x (ListOf (ty_of E.now))) (cell_value cells i (Cons head tail) e is) h.1).0
+
+pub list_prints : (cells : List c.Cell) (i : ℕ) (head tail : Word) (A E : Bor Ty) (text text' : Text) (ps ps' : List Piece) → NameEarlier cells → slice_get cells i ≡ Some (Cons head tail) → IsFine cells (p.Value (w.Cell i) A) → ty_of A.now ≡ ListOf (ty_of E.now) → text' ≡ item_text text k.OpenList head (ty_of E.now) → ps' ≡ ps ++ item_pieces head tail E → Prints cells (p.Value (w.Cell i) A) text text' ps ps'
 list_prints cells i head tail A E text text' ps ps' e is h at et ep =
-    let has : Has (value_held (held_of (held cells) (Cons head tail))) (ListOf (ty_of E.now)) = as_type (value_held (held_of (held cells) (Cons head tail))) _ _ at (cell_has cells i (Cons head tail) A e is h) in
+    let has = list_has cells i head tail A E e is h at in
     let below = cell_names cells i _ e is in
+    let one = item (held cells) k.OpenList head tail E text text' et in
     record {
-      written = codes "[";
+      written = codes "[" ++ one.written;
       more = item_pieces head tail E;
-      grows = et;
+      grows = one.grows;
       some = omega arith;
       waits = ep;
-      fine = ((below.1, has.1), ((below.0, has.0), tt));
-      same = λ s. sym (λ j. text_of (spell (cell_value cells i _ e is j) (at j) s));
+      fine = item_fine cells head tail E (below.0, has.0) (below.1, has.1);
+      same = λ s. append_assoc (codes "[") one.written _ ∙ ap (λ l. codes "[" ++ l) (one.same s) ∙ sym (λ j. text_of (spell (cell_value cells i _ e is j) (at j) s));
     }
 
 pub pair_prints : (cells : List c.Cell) (i : ℕ) (x y : Word) (A L R : Bor Ty) (text text' : Text) (ps ps' : List Piece) → NameEarlier cells → slice_get cells i ≡ Some (Pair x y) → IsFine cells (p.Value (w.Cell i) A) → ty_of A.now ≡ PairOf (ty_of L.now) (ty_of R.now) → text' ≡ text ++ codes "(" → ps' ≡ ps ++ pair_pieces x y L R → Prints cells (p.Value (w.Cell i) A) text text' ps ps'
@@ -200,26 +259,16 @@ some_empty (ListOf A) = omega arith
 some_empty (TreeOf A) = omega arith
 some_empty (OptionOf A) = omega arith
 
-empty_same : (A : Type') (s : List Token) → text_of (spell_empty A []) ++ text_of s ≡ text_of (spell_empty A s)
-empty_same Integer s = refl
-empty_same Boolean s = refl
-empty_same (PairOf A B) s = refl
-empty_same (ListOf A) s = refl
-empty_same (TreeOf A) s = refl
-empty_same (OptionOf A) s = refl
-
 pub plain_prints : (cells : List c.Cell) (x : Word) (A : Bor Ty) (text text' : Text) (ps : List Piece) → Plain x → IsFine cells (p.Value x A) → text' ≡ text ++ printed (value_of [] x) (ty_of A.now) → Prints cells (p.Value x A) text text' ps ps
 plain_prints cells (w.Int n) A text text' ps plain h e =
     let one = some_number n (ty_of A.now) h.1 in
-    let nil = append-nil (signed_decimal n) in
-    let room : 1 ≤ length (signed_decimal n ++ []) = subst (λ l. 1 ≤ length l) (sym nil) one in
-    record { written = signed_decimal n ++ []; more = []; grows = e; some = room; waits = sym (append-nil ps); fine = tt; same = λ s. ap (λ l. l ++ text_of s) nil }
+    let room : 1 ≤ length (signed_decimal n ++ []) = subst (λ l. 1 ≤ length l) (sym (append-nil (signed_decimal n))) one in
+    record { written = signed_decimal n ++ []; more = []; grows = e; some = room; waits = sym (append-nil ps); fine = tt; same = λ s. plain_same (held cells) (w.Int n) (ty_of A.now) s tt }
 plain_prints cells (w.Bool b) A text text' ps plain h e =
-    let nil = append-nil (token_text (Truth b)) in
-    let room : 1 ≤ length (token_text (Truth b) ++ []) = subst (λ l. 1 ≤ length l) (sym nil) (some_truth b) in
-    record { written = token_text (Truth b) ++ []; more = []; grows = e; some = room; waits = sym (append-nil ps); fine = tt; same = λ s. ap (λ l. l ++ text_of s) nil }
+    let room : 1 ≤ length (token_text (Truth b) ++ []) = subst (λ l. 1 ≤ length l) (sym (append-nil (token_text (Truth b)))) (some_truth b) in
+    record { written = token_text (Truth b) ++ []; more = []; grows = e; some = room; waits = sym (append-nil ps); fine = tt; same = λ s. plain_same (held cells) (w.Bool b) (ty_of A.now) s tt }
 plain_prints cells w.Empty A text text' ps plain h e =
-    record { written = text_of (spell_empty (ty_of A.now) []); more = []; grows = e; some = some_empty (ty_of A.now); waits = sym (append-nil ps); fine = tt; same = λ s. empty_same (ty_of A.now) s }
+    record { written = text_of (spell_empty (ty_of A.now) []); more = []; grows = e; some = some_empty (ty_of A.now); waits = sym (append-nil ps); fine = tt; same = λ s. plain_same (held cells) w.Empty (ty_of A.now) s tt }
 plain_prints cells (w.Cell i) A text text' ps plain h e = absurd plain
 
 -- several pieces

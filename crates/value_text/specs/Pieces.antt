@@ -1,7 +1,7 @@
 -- What is still to be printed.
 use Rattle.std.specs.Prelude.{◌≡◌, ◌≤◌, ◌++◌, List, [], ◌∷◌, length}
 use Rattle.std.specs.Borrow.{Bor}
-use Rattle.raml_syntax.specs.Tree.{Text, ListOf}
+use Rattle.raml_syntax.specs.Tree.{Text, Type', ListOf}
 use Rattle.raml_syntax.specs.Value.{Has}
 use Rattle.raml_syntax.specs.Read.{ty_of}
 use Rattle.raml_syntax.specs.declared.ty.Ty.{Ty}
@@ -10,11 +10,12 @@ use Rattle.value_text.specs.declared.word.Word.{Word}
 use Rattle.value_text.specs.declared.word.Word.TheVariants as w
 use Rattle.value_text.specs.Heap.{IsBelow}
 use Rattle.value_text.specs.Held.{Held, held, value_of}
+use Rattle.value_text.specs.declared.sign.Sign.{Sign}
 use Rattle.value_text.specs.declared.sign.Sign.TheVariants.{Close, Comma}
 use Rattle.value_text.specs.declared.printing.Piece.{Piece}
 use Rattle.value_text.specs.declared.printing.Piece.TheVariants as p
 use Rattle.value_text.specs.Spelling.{Token, Key, spell, spell_tail}
-use Rattle.value_text.specs.Printing.{text_of}
+use Rattle.value_text.specs.Printing.{sign_text, text_of, printed}
 
 -- the tokens of what is still to be printed, and then s
 abbrev pub piece_tokens : List Held → Piece → List Token → List Token
@@ -56,9 +57,15 @@ Plain _ = Unit {0}
 abbrev pub pair_pieces : Word → Word → Bor Ty → Bor Ty → List Piece
 pair_pieces x y left right = p.Sign Close ∷ p.Value y right ∷ p.Sign Comma ∷ p.Value x left ∷ []
 
--- what comes behind a list's first sign or a comma
+-- a list's first sign or a comma behind a text, with the element behind it where that has no cell
+abbrev pub item_text : Text → Sign → Word → Type' → Text
+item_text text k (w.Cell i) A = text ++ sign_text k
+item_text text k head A = (text ++ sign_text k) ++ printed (value_of [] head) A
+
+-- what comes behind that
 abbrev pub item_pieces : Word → Word → Bor Ty → List Piece
-item_pieces head tail element = p.Tail tail element ∷ p.Value head element ∷ []
+item_pieces (w.Cell i) tail element = p.Tail tail element ∷ p.Value (w.Cell i) element ∷ []
+item_pieces head tail element = p.Tail tail element ∷ []
 
 -- what comes behind `node(`
 abbrev pub node_pieces : Word → Word → Word → Bor Ty → Bor Ty → List Piece

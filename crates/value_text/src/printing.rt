@@ -9,7 +9,7 @@ ghost use Rattle.value_text.specs.Heap.{NameEarlier};
 ghost use Rattle.value_text.specs.declared.word.Cell.TheVariants as c;
 ghost use Rattle.value_text.specs.declared.word.Word.TheVariants as w;
 ghost use Rattle.value_text.specs.Printing.{sign_text, printed, most_text, NotPrinted, StandsForSome};
-ghost use Rattle.value_text.specs.Pieces.{IsFine, Plain, pair_pieces, item_pieces, node_pieces, content_pieces, Prints};
+ghost use Rattle.value_text.specs.Pieces.{IsFine, Plain, pair_pieces, item_text, item_pieces, node_pieces, content_pieces, Prints};
 ghost use Rattle.value_text.specs.declared.printing.Piece.TheVariants as p;
 ghost use Rattle.value_text.specs.declared.printing.PrintFault.TheVariants as f;
 
@@ -113,7 +113,7 @@ fn print_pair<'a>(
     ])
 }
 
-// A list's first sign or a comma, and what comes behind it.
+// A list's first sign or a comma, the element behind it where that has no cell, and what comes behind.
 fn print_item<'a>(
     text: &mut String,
     pieces: &mut Vec<Piece<'a>>,
@@ -122,11 +122,16 @@ fn print_item<'a>(
     tail: Word,
     element: &'a Ty,
 ) -> Result<(), AllocError>
-    ensures text { OnOk result (string_bytes text.new ≡ string_bytes text.old ++ sign_text sign) }
+    requires { Plain head → Has (value_of [] head) (ty_of element.now) }
+    ensures text { OnOk result (string_bytes text.new ≡ item_text (string_bytes text.old) sign head (ty_of element.now)) }
     ensures pieces { OnOk result (pieces.new.items ≡ pieces.old.items ++ item_pieces head tail element.entry) }
 {
     text.push_str(sign_text(sign))?;
-    pieces.extend_from_slice(&[Piece::Tail(tail, element), Piece::Value(head, element)])
+    pieces.push(Piece::Tail(tail, element))?;
+    match head {
+        Word::Cell(_) => Ok(pieces.push(Piece::Value(head, element))?),
+        Word::Int(_) | Word::Bool(_) | Word::Empty => print_plain(text, head, element),
+    }
 }
 
 // A node's first two signs, and what comes behind them.

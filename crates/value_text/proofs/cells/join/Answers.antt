@@ -1,4 +1,4 @@
-use Rattle.std.proofs.Common.{◌-◌, [], sym, ap, ◌∙◌, length, arith, ◌≡◌}
+use Rattle.std.proofs.Common.{rules, ◌-◌, [], sym, ap, ◌∙◌, length, arith, ◌≡◌}
 use Rattle.value_text.specs.Held.{held, value_of}
 use Rattle.value_text.specs.Goals.{joined}
 use Rattle.value_text.specs.State.{values_in}
@@ -7,8 +7,9 @@ use Rattle.value_text.proofs.cells.join.Goals as goal
 
 pub add_cell-requires-clause-earlier : goal.add_cell-requires-clause-earlier
 add_cell-requires-clause-earlier c =
-    let n = length c.loop-left.heap.cells in
-    ((c.pop-head.ensures.earlier n c.loop-left.invariant.words).1, c.loop-left.invariant.tail)
+    let head = (c.pop-head.ensures.earlier (length c.loop-left.heap.cells) c.loop-left.invariant.words).1 in
+    let tail = c.loop-left.invariant.tail in
+    search rules
 
 pub loop-left-preserved : goal.loop-left-preserved
 loop-left-preserved c =

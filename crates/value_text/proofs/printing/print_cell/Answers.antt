@@ -2,8 +2,14 @@ use Rattle.std.proofs.Common.{sym, ap, ◌∙◌}
 use Rattle.raml_syntax.specs.Read.{ty_of}
 use Rattle.raml_syntax.specs.Tree.{ListOf, PairOf, TreeOf, OptionOf}
 use Rattle.value_text.proofs.Types.{type_list, type_pair, type_tree, type_option, both_ok}
-use Rattle.value_text.proofs.Pieces.{list_prints, pair_prints, node_prints, content_prints}
+use Rattle.value_text.specs.Held.{held}
+use Rattle.value_text.proofs.Pieces.{plain_has, list_has, list_prints, pair_prints, node_prints, content_prints}
 use Rattle.value_text.proofs.printing.print_cell.Goals as goal
+
+pub print_item-requires : goal.print_item-requires
+print_item-requires c =
+    let at = type_list c.args.ty.now c.in-List.element c.in-List.is ∙ ap (λ x. ListOf (ty_of x)) (sym c.deref.ensures) in
+    λ plain. plain_has (held c.args.heap.now.cells) c.cons_cell-head.result.0 (ty_of c.deref.result.now) (list_has _ _ _ _ c.args.ty c.deref.result c.cons_cell-head.ensures.earlier c.cons_cell-head.ensures.cell c.requires.fine at).0 plain
 
 pub returns-in-List : goal.returns-in-List
 returns-in-List c =
