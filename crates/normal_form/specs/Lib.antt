@@ -8,3 +8,4 @@ pub mod Context
 pub mod Uses
 pub mod Laws
 pub mod Example
+pub mod Read

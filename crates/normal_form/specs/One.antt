@@ -2,7 +2,7 @@
 --
 -- A variable that is bound below k - 1 others gets the number k. So the numbers in scope are those from 1 to the depth, and 0 is no
 -- variable.
-use Rattle.std.specs.Prelude.{ℕ, ◌+◌, List, [], ◌∷◌, map, length, cond, Option, Some, None}
+use Rattle.std.specs.Prelude.{ℕ, ◌+◌, List, [], ◌∷◌, map, length, cond, Option, Some, None, unwrap_or}
 use Rattle.std.specs.Str.{bytes_eq}
 use Rattle.raml_syntax.specs.Tree as t
 use Rattle.raml_syntax.specs.Tree.{Text, Type', Integer, Boolean, PairOf, ListOf, TreeOf, OptionOf, Bound, Parameter, Function, Prog}
@@ -193,8 +193,7 @@ module _ (P : Prog) where
 
   -- the type of an expression: the one that is wanted, or else the one that is found
   abbrev pub type_of : Option Type' → Scope → t.Term → Type'
-  type_of None S e = found (types_in S) e
-  type_of (Some T) S e = T
+  type_of want S e = unwrap_or want (found (types_in S) e)
 
   -- the form of an expression of a wanted type, if one is wanted, where k is the least free number
   abbrev mutual
