@@ -5,5 +5,7 @@ mod calls;
 mod groups;
 mod order;
 mod reach;
+#[cfg(test)]
+mod tests;
 
 pub use groups::{Groups, group_calls};
