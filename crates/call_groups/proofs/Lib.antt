@@ -1,0 +1,4 @@
+pub mod Lists
+pub mod Marks
+pub mod Leads
+pub mod Ordered

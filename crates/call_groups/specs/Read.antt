@@ -1,0 +1,13 @@
+-- What tables and lists of functions are as plain data.
+use Rattle.std.specs.Prelude.{ℕ, List, map, Bool}
+use Rattle.std.specs.Global.{Vec}
+use Rattle.raml_syntax.specs.declared.program.FunId.{FunId}
+
+abbrev pub ids_of : List FunId → List ℕ
+ids_of fs = map (λ (f : FunId). f.0) fs
+
+abbrev pub lists_of : List (Vec FunId) → List (List ℕ)
+lists_of gs = map (λ (g : Vec FunId). ids_of g.items) gs
+
+abbrev pub rows_of : List (Vec Bool) → List (List Bool)
+rows_of rows = map (λ (r : Vec Bool). r.items) rows

@@ -1,0 +1,11 @@
+pub mod Norm
+pub mod Run
+pub mod One
+pub mod Levels
+pub mod Free
+pub mod Two
+pub mod Context
+pub mod Uses
+pub mod Laws
+pub mod Example
+pub mod Read
