@@ -26,6 +26,7 @@ range_once c k = record { below = λ h. other (λ q. omega arith); above = λ h.
   where
     other : (c ≡ k → ⊥) → once c k ≡ 0
     other h = ap (λ b. cond b 1 0) (other_number c k h)
+
     by : (b : Bool) → cond b 1 0 ≤ 1
     by true = omega arith
     by false = omega arith
@@ -83,7 +84,7 @@ part_range c a b [] k = range_none c k
 part_range c a b (s ∷ G) k = by (free_in s.0 a) (free_in s.0 b) (part_range c a b G k) (part_range c a b G (k + 2))
   where
     by : (fa fb : Bool) → InRange c k (part a b G k).1 (shared c (part a b G k).0.shares) → InRange c (k + 2) (part a b G (k + 2)).1 (shared c (part a b G (k + 2)).0.shares) →
-      InRange c k (cond fa (cond fb (to_both s k (part a b G (k + 2))) (to_first s (part a b G k))) (to_second s (part a b G k))).1 (shared c (cond fa (cond fb (to_both s k (part a b G (k + 2))) (to_first s (part a b G k))) (to_second s (part a b G k))).0.shares)
+        InRange c k (cond fa (cond fb (to_both s k (part a b G (k + 2))) (to_first s (part a b G k))) (to_second s (part a b G k))).1 (shared c (cond fa (cond fb (to_both s k (part a b G (k + 2))) (to_first s (part a b G k))) (to_second s (part a b G k))).0.shares)
     by true true plain two = range_join c k (k + 2) (part a b G (k + 2)).1 _ _ (omega arith) (part_grows a b G (k + 2)) (range_two c k) two
     by true false plain two = plain
     by false fb plain two = plain

@@ -253,6 +253,7 @@ halves a b (s ∷ G) k e f =
     -- another variable than that of the slot
     other : (c : n.Norm) (y : ℕ) → free_in s.0 c ≡ false → free_in y c ≡ true → nat_eq y s.0 ≡ false
     other c y absent here = other_number y s.0 (λ p. let q : free_in y c ≡ false = ap (λ z. free_in z c) p ∙ absent in absurd (cc))
+
     by : (i : Bool) → free_in s.0 a ≡ i → (j : Bool) → free_in s.0 b ≡ j → Halves a b G k e f (part a b G k) → Halves a b G (k + 2) e ((k + 1, value_at s.1 f) ∷ (k, value_at s.1 f) ∷ f) (part a b G (k + 2)) → Halves a b (s ∷ G) k e f (cond i (cond j (to_both s k (part a b G (k + 2))) (to_first s (part a b G k))) (to_second s (part a b G k)))
     by true ea true eb plain shared =
         let v = value_at s.1 f in

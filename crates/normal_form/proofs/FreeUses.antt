@@ -134,6 +134,7 @@ module _ (N : NormProg) where
           none : (b c : Bool) → (b && c) ≡ true → c ≡ false → ⊥
           none true c u v = absurd (cc)
           none false c u v = absurd (cc)
+
           by : (b : Bool) → nat_eq z x ≡ b → (b || false) ≡ false
           by true s = absurd (none (not (free_in z a)) (has z C) (sym (has_unused a z C) ∙ q) (absent x z C h.0.0 s))
           by false s = refl

@@ -229,7 +229,7 @@ function_normal P g fit h =
           let params = numbered_range c ps 1 in
           let body = around_range c (body_of P g) j (own (numbered ps 1)) j levels in
           let whole = range_join c 1 j (around (body_of P g) (two (body_of P g)) (own (numbered ps 1)) j).1 (times c (numbered ps 1)) _ (omega arith) (two_grows (body_of P g) (used (body_of P g) (own (numbered ps 1))) j)
-              (record { below = params.below; above = λ h. params.above (omega arith); most = params.most }) body in
+          (record { below = params.below; above = λ h. params.above (omega arith); most = params.most }) body in
           whole.most;
       counted = counts_around (body_of P g) j (own (numbered ps 1)) j levels (counts_carries 1 e (omega arith));
     }

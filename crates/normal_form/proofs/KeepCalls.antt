@@ -37,7 +37,7 @@ holds_bind (b ∷ C) (v ∷ vs) env d h = record { at = λ x A e. by x A (nat_eq
         let same = eqb-true x b.0 q in
         let type : b.1 ≡ A = cc in
         let is : value_at x (bind_norm ((b.0, v) ∷ env) (keys C) vs) ≡ v =
-            ap (λ z. value_at z (bind_norm ((b.0, v) ∷ env) (keys C) vs)) same ∙ value_bind (keys C) vs b.0 ((b.0, v) ∷ env) (has_keys b.0 C ∙ d.0) ∙ value_newest b.0 v env in
+        ap (λ z. value_at z (bind_norm ((b.0, v) ∷ env) (keys C) vs)) same ∙ value_bind (keys C) vs b.0 ((b.0, v) ∷ env) (has_keys b.0 C ∙ d.0) ∙ value_newest b.0 v env in
         subst (λ w. Has w A) (sym is) (subst (Has v) type h.0)
     by x A false q rest e = rest e
 

@@ -84,14 +84,18 @@ here_one p A v env y B hv e = by (nat_eq y p) e
     by false e = absurd (cc)
 
 holds_one : (x : ℕ) (C : Context) (env : NormEnv) (p : ℕ) (A : Type') (v : Value) → Distinct C → AreNew (p ∷ []) C → Has v A → Holds C env → Holds (put x ((p, A) ∷ []) C) ((p, v) ∷ env)
-holds_one x C env p A v d new hv h = record { at = λ y T e.
-  find_put x y T ((p, A) ∷ []) C d e (Has (value_at y ((p, v) ∷ env)) T) (here_one p A v env y T hv) (holds_more C env p v A new.0 hv h y T) }
+holds_one x C env p A v d new hv h = record {
+  at = λ y T e.
+      find_put x y T ((p, A) ∷ []) C d e (Has (value_at y ((p, v) ∷ env)) T) (here_one p A v env y T hv) (holds_more C env p v A new.0 hv h y T);
+}
 
 holds_two : (x : ℕ) (C : Context) (env : NormEnv) (p q : ℕ) (A B : Type') (v w : Value) → Distinct C → AreNew (p ∷ q ∷ []) C → Has v A → Has w B → Holds C env → Holds (put x ((p, A) ∷ (q, B) ∷ []) C) ((q, w) ∷ (p, v) ∷ env)
-holds_two x C env p q A B v w d new hv hw h = record { at = λ y T e.
-  find_put x y T ((p, A) ∷ (q, B) ∷ []) C d e (Has (value_at y ((q, w) ∷ (p, v) ∷ env)) T)
-  (λ f. both y T (nat_eq y p) refl (nat_eq y q) refl f)
-  (λ f. holds_more C ((p, v) ∷ env) q w B new.2.0 hw (record { at = holds_more C env p v A new.0 hv h }) y T f) }
+holds_two x C env p q A B v w d new hv hw h = record {
+  at = λ y T e.
+      find_put x y T ((p, A) ∷ (q, B) ∷ []) C d e (Has (value_at y ((q, w) ∷ (p, v) ∷ env)) T)
+      (λ f. both y T (nat_eq y p) refl (nat_eq y q) refl f)
+      (λ f. holds_more C ((p, v) ∷ env) q w B new.2.0 hw (record { at = holds_more C env p v A new.0 hv h }) y T f);
+}
   where
     both : (y : ℕ) (T : Type') (b : Bool) → nat_eq y p ≡ b → (c : Bool) → nat_eq y q ≡ c → cond b (Some A) (cond c (Some B) None) ≡ Some T → Has (value_at y ((q, w) ∷ (p, v) ∷ env)) T
     both y T true e true f g = let a : nat_eq p q ≡ true = ap (λ z. nat_eq z q) (sym (eqb-true y p e)) ∙ f in let z : nat_eq p q ≡ false = two_apart (nat_eq p q) new.1 in absurd (cc)
@@ -123,13 +127,16 @@ last_apart true b h = absurd (cc)
 last_apart false b h = h
 
 holds_three : (x : ℕ) (C : Context) (env : NormEnv) (p q r : ℕ) (A B D : Type') (u v w : Value) → Distinct C → AreNew (p ∷ q ∷ r ∷ []) C → Has u A → Has v B → Has w D → Holds C env → Holds (put x ((p, A) ∷ (q, B) ∷ (r, D) ∷ []) C) ((r, w) ∷ (q, v) ∷ (p, u) ∷ env)
-holds_three x C env p q r A B D u v w d new hu hv hw h = record { at = λ y T e.
-  find_put x y T ((p, A) ∷ (q, B) ∷ (r, D) ∷ []) C d e (Has (value_at y ((r, w) ∷ (q, v) ∷ (p, u) ∷ env)) T)
-  (λ f. all y T (nat_eq y p) refl (nat_eq y q) refl (nat_eq y r) refl f)
-  (λ f. holds_more C ((q, v) ∷ (p, u) ∷ env) r w D new.2.2.0 hw (record { at = holds_more C ((p, u) ∷ env) q v B new.2.0 hv (record { at = holds_more C env p u A new.0 hu h }) }) y T f) }
+holds_three x C env p q r A B D u v w d new hu hv hw h = record {
+  at = λ y T e.
+      find_put x y T ((p, A) ∷ (q, B) ∷ (r, D) ∷ []) C d e (Has (value_at y ((r, w) ∷ (q, v) ∷ (p, u) ∷ env)) T)
+      (λ f. all y T (nat_eq y p) refl (nat_eq y q) refl (nat_eq y r) refl f)
+      (λ f. holds_more C ((q, v) ∷ (p, u) ∷ env) r w D new.2.2.0 hw (record { at = holds_more C ((p, u) ∷ env) q v B new.2.0 hv (record { at = holds_more C env p u A new.0 hu h }) }) y T f);
+}
   where
     meet : (a b y : ℕ) → nat_eq a b ≡ false → nat_eq y a ≡ true → nat_eq y b ≡ true → ⊥
     meet a b y ne e f = let z : nat_eq a b ≡ true = ap (λ z. nat_eq z b) (sym (eqb-true y a e)) ∙ f in absurd (cc)
+
     all : (y : ℕ) (T : Type') (a : Bool) → nat_eq y p ≡ a → (b : Bool) → nat_eq y q ≡ b → (c : Bool) → nat_eq y r ≡ c → cond a (Some A) (cond b (Some B) (cond c (Some D) None)) ≡ Some T → Has (value_at y ((r, w) ∷ (q, v) ∷ (p, u) ∷ env)) T
     all y T true ep true eq c er g = absurd (meet p q y (first_apart _ _ new.1) ep eq)
     all y T true ep false eq true er g = absurd (meet p r y (two_apart _ (last_apart (nat_eq p q) _ new.1)) ep er)
@@ -195,6 +202,7 @@ module _ (N : NormProg) (call : NormCalls) (calls : (f : ℕ) (g : NormFun) (vs 
       none : (c : Bool) → has x C ≡ false → (not c && has x C) ≡ false
       none true q = refl
       none false q = q
+
       apart : (y : ℕ) (c : Bool) → nat_eq y x ≡ c → has x (unused a C) ≡ false → has y (unused a C) ≡ true → (c || false) ≡ false
       apart y true q g s = let z : has y (unused a C) ≡ false = ap (λ z. has z (unused a C)) (eqb-true y x q) ∙ g in absurd (cc)
       apart y false q g s = refl

@@ -198,6 +198,7 @@ apart_low k y K C low new h = by (has y K) refl
         go : (b : Bool) → nat_eq y s.0 ≡ b → (has y C ≡ true → y < k) → (b || has y C) ≡ true → y < k
         go true q rest h = let e = eqb-true y s.0 q in omega (arith, l.0)
         go false q rest h = rest h
+
     by : (b : Bool) → has y K ≡ b → b ≡ false
     by true q = let w = new y (less C low h) in absurd (cc)
     by false q = refl
@@ -237,12 +238,14 @@ stay_typed true x k j V B lt h = (lt, h, tt)
 module _ (N : NormProg) where
   -- A use of a variable. Behind its share the context has the copy that is used, the slot that stays, and the others. L: what else it has.
   take_uses : (again : Bool) (x : ℕ) (T : TypedSlots) (k c : ℕ) (B : Type') → find x T ≡ Some (c, B) → (L : TypedSlots) (C : Context) (m : n.Norm) (A : Type') → Distinct C → AllLow k C → Same C (L ++ T) →
-    ((D : Context) → Distinct D → AllLow (take_slot again x (slots_of T) k).1 D → Same D (L ++ ((0, ((take_slot again x (slots_of T) k).0.name, B)) ∷ (stay again x k B ++ put x [] T))) → Uses N D m A) →
-    Uses N C (share_all (take_slot again x (slots_of T) k).0.shares m) A
+      ((D : Context) → Distinct D → AllLow (take_slot again x (slots_of T) k).1 D → Same D (L ++ ((0, ((take_slot again x (slots_of T) k).0.name, B)) ∷ (stay again x k B ++ put x [] T))) → Uses N D m A) →
+      Uses N C (share_all (take_slot again x (slots_of T) k).0.shares m) A
   take_uses false x T k c B f L C m A d low same next =
-      next C d low (record { at = λ w.
-        let name : w (copy_of x (slots_of T), B) ≡ w (c, B) = ap (λ z. w (z, B)) (find_copy x (c, B) T f) in
-        omega (arith, same.at w, weigh_append (λ (t : ℕ × (ℕ × Type')). w t.1) L T, weigh_append (λ (t : ℕ × (ℕ × Type')). w t.1) L ((0, (copy_of x (slots_of T), B)) ∷ put x [] T), weigh_put (λ (t : ℕ × (ℕ × Type')). w t.1) x (c, B) [] T f, name) })
+      next C d low (record {
+        at = λ w.
+            let name : w (copy_of x (slots_of T), B) ≡ w (c, B) = ap (λ z. w (z, B)) (find_copy x (c, B) T f) in
+            omega (arith, same.at w, weigh_append (λ (t : ℕ × (ℕ × Type')). w t.1) L T, weigh_append (λ (t : ℕ × (ℕ × Type')). w t.1) L ((0, (copy_of x (slots_of T), B)) ∷ put x [] T), weigh_put (λ (t : ℕ × (ℕ × Type')). w t.1) x (c, B) [] T f, name);
+      })
   take_uses true x T k c B f L C m A d low same next =
       let is = find_copy x (c, B) T f in
       let K : Context = (k, B) ∷ (k + 1, B) ∷ [] in
@@ -251,9 +254,15 @@ module _ (N : NormProg) where
       let D = put c K C in
       let dD : Distinct D = distinct_put c K C d (ap (λ b. b || false) (other_number k (k + 1) (λ q. omega arith)), (refl, tt)) (λ y ne h. apart_low k y K C low (new_entries_two k B B) h) in
       let lD : AllLow (k + 2) D = low_put (k + 2) c K C (omega arith, (omega arith, tt)) (low_more k (k + 2) C (omega arith) low) in
-      subst (λ z. Uses N C (n.Share 0 z k (k + 1) m) A) (sym is)
-      (B, there, new_two k C low, as_opened N c (k ∷ (k + 1) ∷ []) copies_of B C there m A (next D dD lD (record { at = λ w.
-        omega (arith, same.at w, weigh_append (λ (t : ℕ × (ℕ × Type')). w t.1) L T, weigh_append (λ (t : ℕ × (ℕ × Type')). w t.1) L ((0, (k, B)) ∷ ((x, (k + 1, B)) ∷ put x [] T)), weigh_put (λ (t : ℕ × (ℕ × Type')). w t.1) x (c, B) [] T f, weigh_put w c B K C there) })))
+      subst (λ z. Uses N C (n.Share 0 z k (k + 1) m) A) (sym is) (
+        B,
+        there,
+        new_two k C low,
+        as_opened N c (k ∷ (k + 1) ∷ []) copies_of B C there m A (next D dD lD (record {
+          at = λ w.
+              omega (arith, same.at w, weigh_append (λ (t : ℕ × (ℕ × Type')). w t.1) L T, weigh_append (λ (t : ℕ × (ℕ × Type')). w t.1) L ((0, (k, B)) ∷ ((x, (k + 1, B)) ∷ put x [] T)), weigh_put (λ (t : ℕ × (ℕ × Type')). w t.1) x (c, B) [] T f, weigh_put w c B K C there);
+        })),
+      )
 
   -- the entries of taken operands
   abbrev Matched : List ℕ → List Type' → Type 0
@@ -298,8 +307,8 @@ module _ (N : NormProg) where
 
   -- operands that are all of the slots
   all_use : (xs : List ℕ) (As : List Type') (j : ℕ) (V : Given) (T : TypedSlots) (k : ℕ) (L : TypedSlots) (C : Context) (m : n.Norm) (A : Type') → AllGiven V xs As → Distinct T → TypedAt j V T → ((y : ℕ) → has y T ≡ among y xs) → Distinct C → AllLow k C → Same C (L ++ T) →
-    ((D : Context) → Distinct D → Matched (take_all xs (slots_of T) k).0.names As → Same D (L ++ zip (take_all xs (slots_of T) k).0.names As) → Uses N D m A) →
-    Uses N C (share_all (take_all xs (slots_of T) k).0.shares m) A
+      ((D : Context) → Distinct D → Matched (take_all xs (slots_of T) k).0.names As → Same D (L ++ zip (take_all xs (slots_of T) k).0.names As) → Uses N D m A) →
+      Uses N C (share_all (take_all xs (slots_of T) k).0.shares m) A
   all_use [] [] j V T k L C m A g dT ty h d low same next = next C d tt (subst (λ U. Same C (L ++ U)) (none_empty T h) same)
   all_use [] (B ∷ Bs) j V T k L C m A g dT ty h d low same next = absurd g
   all_use (x ∷ xs) [] j V T k L C m A g dT ty h d low same next = absurd g
@@ -315,14 +324,18 @@ module _ (N : NormProg) where
       let slots : slots_of U ≡ put x t.0.stay (slots_of T) = slots_put x S T ∙ ap (λ G. put x G (slots_of T)) (stay_slots again x T k B) in
       let Vx : V x ≡ Some B = g.0 in
       let rest : (D : Context) → Distinct D → AllLow t.1 D → Same D (L ++ ((0, (t.0.name, B)) ∷ (S ++ put x [] T))) → Uses N D (share_all (take_all xs (put x t.0.stay (slots_of T)) t.1).0.shares m) A =
-          λ D dD lD sD.
-          subst (λ G. ((E : Context) → Distinct E → Matched (take_all xs G t.1).0.names Bs → Same E (((0, (t.0.name, B)) ∷ L) ++ zip (take_all xs G t.1).0.names Bs) → Uses N E m A) → Uses N D (share_all (take_all xs G t.1).0.shares m) A) slots
-          (all_use xs Bs j V U t.1 ((0, (t.0.name, B)) ∷ L) D m A g.1 (distinct_behind again x k B T dT) (typed_put j V x S T (stay_typed again x k j V B f.0 Vx) ty)
-          (λ y. has_behind again x k B T y dT ∙ which y (nat_eq y x) refl (h y)) dD lD
-          (record { at = λ w.
-            omega (arith, sD.at w, weigh_append (λ (z : ℕ × (ℕ × Type')). w z.1) L ((0, (t.0.name, B)) ∷ (S ++ put x [] T)), weigh_append (λ (z : ℕ × (ℕ × Type')). w z.1) S (put x [] T), weigh_append (λ (z : ℕ × (ℕ × Type')). w z.1) L U, weigh_put (λ (z : ℕ × (ℕ × Type')). w z.1) x (e.0.0, B) S T entry, weigh_put (λ (z : ℕ × (ℕ × Type')). w z.1) x (e.0.0, B) [] T entry) }))
-          (λ E dE mE sE. next E dE mE (record { at = λ w.
-            omega (arith, sE.at w, weigh_append (λ (z : ℕ × (ℕ × Type')). w z.1) L (zip (take_all xs (put x t.0.stay (slots_of T)) t.1).0.names Bs), weigh_append (λ (z : ℕ × (ℕ × Type')). w z.1) L ((0, (t.0.name, B)) ∷ zip (take_all xs (put x t.0.stay (slots_of T)) t.1).0.names Bs)) })) in
+      λ D dD lD sD.
+      subst (λ G. ((E : Context) → Distinct E → Matched (take_all xs G t.1).0.names Bs → Same E (((0, (t.0.name, B)) ∷ L) ++ zip (take_all xs G t.1).0.names Bs) → Uses N E m A) → Uses N D (share_all (take_all xs G t.1).0.shares m) A) slots
+      (all_use xs Bs j V U t.1 ((0, (t.0.name, B)) ∷ L) D m A g.1 (distinct_behind again x k B T dT) (typed_put j V x S T (stay_typed again x k j V B f.0 Vx) ty)
+      (λ y. has_behind again x k B T y dT ∙ which y (nat_eq y x) refl (h y)) dD lD
+      (record {
+        at = λ w.
+            omega (arith, sD.at w, weigh_append (λ (z : ℕ × (ℕ × Type')). w z.1) L ((0, (t.0.name, B)) ∷ (S ++ put x [] T)), weigh_append (λ (z : ℕ × (ℕ × Type')). w z.1) S (put x [] T), weigh_append (λ (z : ℕ × (ℕ × Type')). w z.1) L U, weigh_put (λ (z : ℕ × (ℕ × Type')). w z.1) x (e.0.0, B) S T entry, weigh_put (λ (z : ℕ × (ℕ × Type')). w z.1) x (e.0.0, B) [] T entry);
+      }))
+      (λ E dE mE sE. next E dE mE (record {
+        at = λ w.
+            omega (arith, sE.at w, weigh_append (λ (z : ℕ × (ℕ × Type')). w z.1) L (zip (take_all xs (put x t.0.stay (slots_of T)) t.1).0.names Bs), weigh_append (λ (z : ℕ × (ℕ × Type')). w z.1) L ((0, (t.0.name, B)) ∷ zip (take_all xs (put x t.0.stay (slots_of T)) t.1).0.names Bs));
+      })) in
       subst (λ z. Uses N C z A) (sym (share_append t.0.shares (take_all xs (put x t.0.stay (slots_of T)) t.1).0.shares m))
       (take_uses again x T k e.0.0 B entry L C (share_all (take_all xs (put x t.0.stay (slots_of T)) t.1).0.shares m) A d low same rest)
     where
@@ -336,7 +349,7 @@ module _ (N : NormProg) where
   drops e (t ∷ T) L k C m A d low same next = by (free_in t.0 e) (drops e T) next
     where
       by : (b : Bool) → ((L : TypedSlots) (k : ℕ) (C : Context) (m : n.Norm) (A : Type') → Distinct C → AllLow k C → Same C (L ++ T) → ((D : Context) → Distinct D → AllLow k D → Same D (L ++ used e T) → Uses N D m A) → Uses N C (drop_all (unused e (slots_of T)) m) A) →
-        ((D : Context) → Distinct D → AllLow k D → Same D (L ++ cond b (t ∷ used e T) (used e T)) → Uses N D m A) → Uses N C (drop_all (cond b (unused e (slots_of T)) ((t.0, t.1.0) ∷ unused e (slots_of T))) m) A
+          ((D : Context) → Distinct D → AllLow k D → Same D (L ++ cond b (t ∷ used e T) (used e T)) → Uses N D m A) → Uses N C (drop_all (cond b (unused e (slots_of T)) ((t.0, t.1.0) ∷ unused e (slots_of T))) m) A
       by true rest next =
           rest (t ∷ L) k C m A d low
           (record { at = λ w. omega (arith, same.at w, weigh_append (λ (z : ℕ × (ℕ × Type')). w z.1) L (t ∷ T), weigh_append (λ (z : ℕ × (ℕ × Type')). w z.1) L T) })
@@ -344,10 +357,13 @@ module _ (N : NormProg) where
       by false rest next =
           let c = t.1.0 in
           let B = t.1.1 in
-          let there : find c C ≡ Some B = find_hit c B C d (omega (arith, same.at (hit c B), weigh_append (λ (z : ℕ × (ℕ × Type')). hit c B z.1) L (t ∷ T), hit_self c B)) in
-          (B, there, rest L k (put c [] C) m A (distinct_put c [] C d tt (λ y ne q. refl)) (low_put k c [] C tt low)
-          (record { at = λ w. omega (arith, same.at w, weigh_append (λ (z : ℕ × (ℕ × Type')). w z.1) L (t ∷ T), weigh_append (λ (z : ℕ × (ℕ × Type')). w z.1) L T, weigh_put w c B [] C there) })
-          next)
+          let there : find c C ≡ Some B = find_hit c B C d (omega (arith, same.at (hit c B), weigh_append (λ (z : ℕ × (ℕ × Type')). hit c B z.1) L (t ∷ T), hit_self c B)) in (
+            B,
+            there,
+            rest L k (put c [] C) m A (distinct_put c [] C d tt (λ y ne q. refl)) (low_put k c [] C tt low)
+                (record { at = λ w. omega (arith, same.at w, weigh_append (λ (z : ℕ × (ℕ × Type')). w z.1) L (t ∷ T), weigh_append (λ (z : ℕ × (ℕ × Type')). w z.1) L T, weigh_put w c B [] C there) })
+                next,
+          )
 
   -- the parts of a Let
   record Parts (a b : n.Norm) (T : TypedSlots) (k j : ℕ) (V : Given) (r : Parted × ℕ) : Type 0 where
@@ -386,24 +402,36 @@ module _ (N : NormProg) where
 
   parts : (a b : n.Norm) (T : TypedSlots) (k j : ℕ) (V : Given) → Distinct T → TypedAt j V T → Parts a b T k j V (part a b (slots_of T) k)
   parts a b [] k j V d ty = record {
-    F = []; S = []; first = refl; second = refl;
-    has_first = λ y. sym (and_none (free_in y a) false refl); has_second = λ y. sym (and_none (free_in y b || not (free_in y a)) false refl);
-    distinct_first = tt; distinct_second = tt; typed_first = tt; typed_second = tt; grows = omega arith;
+    F = [];
+    S = [];
+    first = refl;
+    second = refl;
+    has_first = λ y. sym (and_none (free_in y a) false refl);
+    has_second = λ y. sym (and_none (free_in y b || not (free_in y a)) false refl);
+    distinct_first = tt;
+    distinct_second = tt;
+    typed_first = tt;
+    typed_second = tt;
+    grows = omega arith;
     shares = λ L C m A d low same next. next C d low same;
   }
   parts a b (t ∷ T) k j V d ty = by (free_in t.0 a) refl (free_in t.0 b) refl (parts a b T k j V d.1 ty.2) (parts a b T (k + 2) j V d.1 ty.2)
     where
       at : (y : ℕ) (e : n.Norm) (f : Bool) → free_in t.0 e ≡ f → nat_eq y t.0 ≡ true → free_in y e ≡ f
       at y e f q s = ap (λ z. free_in z e) (eqb-true y t.0 s) ∙ q
+
       at2 : (y : ℕ) (fa fb : Bool) → free_in t.0 a ≡ fa → free_in t.0 b ≡ fb → nat_eq y t.0 ≡ true → (free_in y b || not (free_in y a)) ≡ (fb || not fa)
       at2 y fa fb p q s = (λ i. at y b fb q s i || not (at y a fa p s i))
+
       by : (fa : Bool) → free_in t.0 a ≡ fa → (fb : Bool) → free_in t.0 b ≡ fb → Parts a b T k j V (part a b (slots_of T) k) → Parts a b T (k + 2) j V (part a b (slots_of T) (k + 2)) → Parts a b (t ∷ T) k j V (cond fa (cond fb (to_both (t.0, t.1.0) k (part a b (slots_of T) (k + 2))) (to_first (t.0, t.1.0) (part a b (slots_of T) k))) (to_second (t.0, t.1.0) (part a b (slots_of T) k)))
       by true pa true pb plain shared =
           let c = t.1.0 in
           let B = t.1.1 in
           record {
-            F = (t.0, (k, B)) ∷ shared.F; S = (t.0, (k + 1, B)) ∷ shared.S;
-            first = ap (λ G. (t.0, k) ∷ G) shared.first; second = ap (λ G. (t.0, k + 1) ∷ G) shared.second;
+            F = (t.0, (k, B)) ∷ shared.F;
+            S = (t.0, (k + 1, B)) ∷ shared.S;
+            first = ap (λ G. (t.0, k) ∷ G) shared.first;
+            second = ap (λ G. (t.0, k + 1) ∷ G) shared.second;
             has_first = λ y. ap (λ z. nat_eq y t.0 || z) (shared.has_first y) ∙ bool_in (nat_eq y t.0) (free_in y a) (has y T) (at y a true pa);
             has_second = λ y. ap (λ z. nat_eq y t.0 || z) (shared.has_second y) ∙ bool_in (nat_eq y t.0) (free_in y b || not (free_in y a)) (has y T) (at2 y true true pa pb);
             distinct_first = (shared.has_first t.0 ∙ and_none (free_in t.0 a) (has t.0 T) d.0, shared.distinct_first);
@@ -416,16 +444,24 @@ module _ (N : NormProg) where
                 let there : find c C ≡ Some B = find_hit c B C dC (omega (arith, same.at (hit c B), sum_two (hit c B) L (t ∷ T), hit_self c B)) in
                 let D = put c K C in
                 let dD : Distinct D = distinct_put c K C dC (ap (λ b. b || false) (other_number k (k + 1) (λ q. omega arith)), (refl, tt)) (λ y ne h. apart_low k y K C low (new_entries_two k B B) h) in
-                let lD : AllLow (k + 2) D = low_put (k + 2) c K C (omega arith, (omega arith, tt)) (low_more k (k + 2) C (omega arith) low) in
-                (B, there, new_two k C low, as_opened N c (k ∷ (k + 1) ∷ []) copies_of B C there (share_all (part a b (slots_of T) (k + 2)).0.shares m) A (shared.shares ((t.0, (k, B)) ∷ ((t.0, (k + 1, B)) ∷ L)) D m A dD lD
-                (record { at = λ w. omega (arith, same.at w, sum_two w L (t ∷ T), sum_two w L T, weigh_put w c B K C there) })
-                (λ E dE lE sE. next E dE lE (record { at = λ w.
-                  omega (arith, sE.at w, sum_two w L (shared.F ++ shared.S), sum_two w shared.F shared.S, sum_two w L (((t.0, (k, B)) ∷ shared.F) ++ ((t.0, (k + 1, B)) ∷ shared.S)), sum_two w shared.F ((t.0, (k + 1, B)) ∷ shared.S)) }))));
+                let lD : AllLow (k + 2) D = low_put (k + 2) c K C (omega arith, (omega arith, tt)) (low_more k (k + 2) C (omega arith) low) in (
+                  B,
+                  there,
+                  new_two k C low,
+                  as_opened N c (k ∷ (k + 1) ∷ []) copies_of B C there (share_all (part a b (slots_of T) (k + 2)).0.shares m) A (shared.shares ((t.0, (k, B)) ∷ ((t.0, (k + 1, B)) ∷ L)) D m A dD lD
+                      (record { at = λ w. omega (arith, same.at w, sum_two w L (t ∷ T), sum_two w L T, weigh_put w c B K C there) })
+                      (λ E dE lE sE. next E dE lE (record {
+                        at = λ w.
+                            omega (arith, sE.at w, sum_two w L (shared.F ++ shared.S), sum_two w shared.F shared.S, sum_two w L (((t.0, (k, B)) ∷ shared.F) ++ ((t.0, (k + 1, B)) ∷ shared.S)), sum_two w shared.F ((t.0, (k + 1, B)) ∷ shared.S));
+                      }))),
+                );
           }
       by true pa false pb plain shared =
           record {
-            F = t ∷ plain.F; S = plain.S;
-            first = ap (λ G. (t.0, t.1.0) ∷ G) plain.first; second = plain.second;
+            F = t ∷ plain.F;
+            S = plain.S;
+            first = ap (λ G. (t.0, t.1.0) ∷ G) plain.first;
+            second = plain.second;
             has_first = λ y. ap (λ z. nat_eq y t.0 || z) (plain.has_first y) ∙ bool_in (nat_eq y t.0) (free_in y a) (has y T) (at y a true pa);
             has_second = λ y. plain.has_second y ∙ bool_out (nat_eq y t.0) (free_in y b || not (free_in y a)) (has y T) (at2 y true false pa pb);
             distinct_first = (plain.has_first t.0 ∙ and_none (free_in t.0 a) (has t.0 T) d.0, plain.distinct_first);
@@ -440,8 +476,10 @@ module _ (N : NormProg) where
           }
       by false pa fb pb plain shared =
           record {
-            F = plain.F; S = t ∷ plain.S;
-            first = plain.first; second = ap (λ G. (t.0, t.1.0) ∷ G) plain.second;
+            F = plain.F;
+            S = t ∷ plain.S;
+            first = plain.first;
+            second = ap (λ G. (t.0, t.1.0) ∷ G) plain.second;
             has_first = λ y. plain.has_first y ∙ bool_out (nat_eq y t.0) (free_in y a) (has y T) (at y a false pa);
             has_second = λ y. ap (λ z. nat_eq y t.0 || z) (plain.has_second y) ∙ bool_in (nat_eq y t.0) (free_in y b || not (free_in y a)) (has y T) (λ s. at2 y false fb pa pb s ∙ last fb);
             distinct_first = plain.distinct_first;
@@ -486,17 +524,21 @@ module _ (N : NormProg) where
   ready_put : (again : Bool) (x : ℕ) (T : TypedSlots) (k c : ℕ) (B : Type') → find x T ≡ Some (c, B) → (j i d e : ℕ) (V W : Given) (H : TypedSlots) (K D : Context) (name : ℕ) → Distinct T → TypedAt j V T → x < j → V x ≡ Some B → j ≤ i → ((y : ℕ) → y < j → W y ≡ V y) → AllHigh j H → Distinct H → TypedAt i W H → Distinct D → AllLow d D → Same D ((0, (name, B)) ∷ (stay again x k B ++ put x [] T)) → Distinct K → ((z : ℕ) → z < d → has z K ≡ false) → AllLow e K → d ≤ e → Same K H → (find name D ≡ Some B) × Ready i e W (put x (H ++ stay again x k B) T) (put name K D)
   ready_put again x T k c B f j i d e V W H K D name dT ty lt Vx le keep high dH tH dD lD sD dK new lK de sK =
       let S = stay again x k B in
-      let there : find name D ≡ Some B = find_hit name B D dD (omega (arith, sD.at (hit name B), hit_self name B)) in
-      (there, record {
-        slots = distinct_put x (H ++ S) T dT
-            (distinct_append H S dH (stay_distinct again x k B) (λ y h. stay_other again x y k B (other_number y x (λ q. let z : has x H ≡ true = ap (λ u. has u H) (sym q) ∙ h in let w = high_absent j x H high lt in absurd (cc)))))
-            (λ y ne h. has_append y H S ∙ (λ q. high_absent j y H high (typed_low j V y T ty h) q || stay_other again x y k B ne q));
-        typed = typed_put i W x (H ++ S) T (typed_append i W H S tH (stay_typed again x k i W B (omega arith) (keep x lt ∙ Vx))) (typed_more j i V W T le keep ty);
-        single = distinct_put name K D dD dK (λ y ne h. apart_low d y K D lD new h);
-        low = low_put e name K D lK (low_more d e D de lD);
-        same = record { at = λ w.
-          omega (arith, sD.at w, sum_two w S (put x [] T), sK.at w, sum_two w H S, weigh_put (λ (z : ℕ × (ℕ × Type')). w z.1) x (c, B) [] T f, weigh_put (λ (z : ℕ × (ℕ × Type')). w z.1) x (c, B) (H ++ S) T f, weigh_put w name B K D there) };
-      })
+      let there : find name D ≡ Some B = find_hit name B D dD (omega (arith, sD.at (hit name B), hit_self name B)) in (
+        there,
+        record {
+          slots = distinct_put x (H ++ S) T dT
+              (distinct_append H S dH (stay_distinct again x k B) (λ y h. stay_other again x y k B (other_number y x (λ q. let z : has x H ≡ true = ap (λ u. has u H) (sym q) ∙ h in let w = high_absent j x H high lt in absurd (cc)))))
+              (λ y ne h. has_append y H S ∙ (λ q. high_absent j y H high (typed_low j V y T ty h) q || stay_other again x y k B ne q));
+          typed = typed_put i W x (H ++ S) T (typed_append i W H S tH (stay_typed again x k i W B (omega arith) (keep x lt ∙ Vx))) (typed_more j i V W T le keep ty);
+          single = distinct_put name K D dD dK (λ y ne h. apart_low d y K D lD new h);
+          low = low_put e name K D lK (low_more d e D de lD);
+          same = record {
+            at = λ w.
+                omega (arith, sD.at w, sum_two w S (put x [] T), sK.at w, sum_two w H S, weigh_put (λ (z : ℕ × (ℕ × Type')). w z.1) x (c, B) [] T f, weigh_put (λ (z : ℕ × (ℕ × Type')). w z.1) x (c, B) (H ++ S) T f, weigh_put w name B K D there);
+          };
+        },
+      )
 
   covers_bool : (h s e t : Bool) → (e ≡ true → s ≡ true) → (h ≡ false → e ≡ false → t ≡ true) → ((h || s) || (not e && t)) ≡ true
   covers_bool true s e t p q = refl
@@ -616,16 +658,30 @@ module _ (N : NormProg) where
       let yes : (c : ℕ) → has c (context_of F) ≡ true → free_in c a ≡ true = λ c h. sym (free c) ∙ h in
       let no' : (c : ℕ) → has c (context_of S) ≡ true → free_in c a ≡ false = λ c h. sym (free c) ∙ gone c h (has c (context_of F)) refl (once c) in
       record {
-        first = record { slots = dF; typed = tF; single = distinct_used a D dD; low = low_used k a D lD;
-          same = record { at = λ w.
-            let f = load_in (λ c. free_in c a) w F yes in
-            let s = load_out (λ c. free_in c a) w S no' in
-            omega (arith, weigh_used w a D, sD.at (λ s. cond (free_in s.0 a) (w s) 0), sum_two (λ s. cond (free_in s.0 a) (w s) 0) F S, f, s) } };
-        second = record { slots = dS; typed = tS; single = distinct_unused a D dD; low = low_unused k a D lD;
-          same = record { at = λ w.
-            let f = load_gone (λ c. free_in c a) w F yes in
-            let s = load_kept (λ c. free_in c a) w S no' in
-            omega (arith, weigh_unused w a D, sD.at (λ s. cond (free_in s.0 a) 0 (w s)), sum_two (λ s. cond (free_in s.0 a) 0 (w s)) F S, f, s) } };
+        first = record {
+          slots = dF;
+          typed = tF;
+          single = distinct_used a D dD;
+          low = low_used k a D lD;
+          same = record {
+            at = λ w.
+                let f = load_in (λ c. free_in c a) w F yes in
+                let s = load_out (λ c. free_in c a) w S no' in
+                omega (arith, weigh_used w a D, sD.at (λ s. cond (free_in s.0 a) (w s) 0), sum_two (λ s. cond (free_in s.0 a) (w s) 0) F S, f, s);
+          };
+        };
+        second = record {
+          slots = dS;
+          typed = tS;
+          single = distinct_unused a D dD;
+          low = low_unused k a D lD;
+          same = record {
+            at = λ w.
+                let f = load_gone (λ c. free_in c a) w F yes in
+                let s = load_kept (λ c. free_in c a) w S no' in
+                omega (arith, weigh_unused w a D, sD.at (λ s. cond (free_in s.0 a) 0 (w s)), sum_two (λ s. cond (free_in s.0 a) 0 (w s)) F S, f, s);
+          };
+        };
       }
     where
       gone : (c : ℕ) → has c (context_of S) ≡ true → (b : Bool) → has c (context_of F) ≡ b → load (one_at c) F + load (one_at c) S ≤ 1 → b ≡ false
@@ -711,7 +767,7 @@ module _ (N : NormProg) where
       let ra = around a (two a) (part a b (slots_of T) k).0.first (c + 1) in
       let covers_a : (y : ℕ) → free_in y a ≡ true → has y p.F ≡ true = λ y f. p.has_first y ∙ and_t _ _ f (h y ∙ or_l _ _ f) in
       let serve_a : (E : Context) → Ready j (c + 1) V p.F E → Uses N E ra.0 B =
-          λ E rE. subst (λ G. Uses N E (around a (two a) G (c + 1)).0 B) p.first (serves a (exact_uses a) j (c + 1) V p.F E B lv.1 ot.0 rE covers_a) in
+      λ E rE. subst (λ G. Uses N E (around a (two a) G (c + 1)).0 B) p.first (serves a (exact_uses a) j (c + 1) V p.F E B lv.1 ot.0 rE covers_a) in
       let W = more V x B in
       let S = p.S ++ (x, (c, B)) ∷ [] in
       let slots : slots_of S ≡ (part a b (slots_of T) k).0.second ++ slot x c ∷ [] = slots_append p.S ((x, (c, B)) ∷ []) ∙ ap (λ G. G ++ slot x c ∷ []) p.second in
@@ -726,11 +782,13 @@ module _ (N : NormProg) where
         single = distinct_append (unused ra.0 D) ((c, B) ∷ []) (distinct_unused ra.0 D dD) (refl, tt) (λ y s. apart_low c y ((c, B) ∷ []) (unused ra.0 D) (low_unused c ra.0 D lD) (λ z lt. (λ u. other_number z c (λ e. omega arith) u || false)) s);
         low = low_append ra.1 (unused ra.0 D) ((c, B) ∷ []) (low_more c ra.1 (unused ra.0 D) (omega arith) (low_unused c ra.0 D lD)) (omega arith, tt);
         same = record { at = λ w. omega (arith, weigh_append w (unused ra.0 D) ((c, B) ∷ []), q.second.same.at w, sum_two w p.S ((x, (c, B)) ∷ [])) };
-      } in
-      (new_one c D lD, serve_a (used ra.0 D) q.first,
-      subst (λ G. Uses N C' (around b (two b) G ra.1).0 A) slots
-      (serves b (exact_uses b) (x + 1) ra.1 W S C' A lv.2 ot.1 rb
-      (λ y f. has_append y p.S ((x, (c, B)) ∷ []) ∙ covers_b y f (nat_eq y x) refl (p.has_second y) (h y)))))
+      } in (
+        new_one c D lD,
+        serve_a (used ra.0 D) q.first,
+        subst (λ G. Uses N C' (around b (two b) G ra.1).0 A) slots
+            (serves b (exact_uses b) (x + 1) ra.1 W S C' A lv.2 ot.1 rb
+            (λ y f. has_append y p.S ((x, (c, B)) ∷ []) ∙ covers_b y f (nat_eq y x) refl (p.has_second y) (h y))),
+      ))
     where
       covers_b : (y : ℕ) → free_in y b ≡ true → (e : Bool) → nat_eq y x ≡ e → {s : Bool} → s ≡ ((free_in y b || not (free_in y a)) && has y T) → has y T ≡ (free_in y a || (not e && free_in y b)) → (s || (e || false)) ≡ true
       covers_b y f true q {s} u v = or_r s (true || false) refl
@@ -746,13 +804,17 @@ module _ (N : NormProg) where
       let slots : slots_of U ≡ put x (slot p c ∷ slot q (c + 1) ∷ t.0.stay) (slots_of T) = slots_put x (H ++ stay again x k B) T ∙ ap (λ G. put x (slot p c ∷ slot q (c + 1) ∷ G) (slots_of T)) (stay_slots again x T k B) in
       take_uses again x T k e.0 B e.1 [] C (n.Split i t.0.name c (c + 1) (around a (two a) (put x (slot p c ∷ slot q (c + 1) ∷ t.0.stay) (slots_of T)) (c + 2)).0) A r.single r.low r.same
       (λ D dD lD sD.
-      let g = two_ready again x T k e.0 B e.1 j c (c + 2) V p q ot.0 ot.1 D t.0.name r.slots r.typed e.2 ot.2 lv.1 lv.2 dD lD sD (omega arith) in
-      (ot.0, ot.1, g.0, new_two c D lD,
-      as_opened N t.0.name (c ∷ (c + 1) ∷ []) parts_of B D g.0 (around a (two a) (put x (slot p c ∷ slot q (c + 1) ∷ t.0.stay) (slots_of T)) (c + 2)).0 A
-      (subst (λ G. Uses N (put t.0.name ((c, ot.0) ∷ (c + 1, ot.1) ∷ []) D) (around a (two a) G (c + 2)).0 A) slots
-      (serves a (exact_uses a) (q + 1) (c + 2) (more (more V p ot.0) q ot.1) U (put t.0.name ((c, ot.0) ∷ (c + 1, ot.1) ∷ []) D) A lv.3 ot.3 g.1
-      (λ y f. covers_put again x k B H T y r.slots (λ s. ap (λ z. free_in z a) (sym (eqb-true y x s)) ∙ f)
-      (λ hn ne. h y ∙ or_r (nat_eq y x) _ (and_t _ _ (not_or_two (nat_eq y p) (nat_eq y q) hn) f)))))))
+      let g = two_ready again x T k e.0 B e.1 j c (c + 2) V p q ot.0 ot.1 D t.0.name r.slots r.typed e.2 ot.2 lv.1 lv.2 dD lD sD (omega arith) in (
+        ot.0,
+        ot.1,
+        g.0,
+        new_two c D lD,
+        as_opened N t.0.name (c ∷ (c + 1) ∷ []) parts_of B D g.0 (around a (two a) (put x (slot p c ∷ slot q (c + 1) ∷ t.0.stay) (slots_of T)) (c + 2)).0 A
+            (subst (λ G. Uses N (put t.0.name ((c, ot.0) ∷ (c + 1, ot.1) ∷ []) D) (around a (two a) G (c + 2)).0 A) slots
+            (serves a (exact_uses a) (q + 1) (c + 2) (more (more V p ot.0) q ot.1) U (put t.0.name ((c, ot.0) ∷ (c + 1, ot.1) ∷ []) D) A lv.3 ot.3 g.1
+            (λ y f. covers_put again x k B H T y r.slots (λ s. ap (λ z. free_in z a) (sym (eqb-true y x s)) ∙ f)
+            (λ hn ne. h y ∙ or_r (nat_eq y x) _ (and_t _ _ (not_or_two (nat_eq y p) (nat_eq y q) hn) f))))),
+      ))
   exact_uses (n.If i x a b) j k V T C A lv ot r h =
       let again = free_in x a || free_in x b in
       let t = take_slot again x (slots_of T) k in
@@ -764,14 +826,15 @@ module _ (N : NormProg) where
       take_uses again x T k e.0 Boolean e.1 [] C (n.If i t.0.name ra.0 (around b (two b) (put x t.0.stay (slots_of T)) ra.1).0) A r.single r.low r.same
       (λ D dD lD sD.
       let g = none_ready again x T k e.0 Boolean e.1 j t.1 t.1 V D t.0.name r.slots r.typed e.2 ot.0 dD lD sD (omega arith) in
-      let g' = none_ready again x T k e.0 Boolean e.1 j t.1 ra.1 V D t.0.name r.slots r.typed e.2 ot.0 dD lD sD le in
-      (g.0,
-      subst (λ G. Uses N (put t.0.name [] D) (around a (two a) G t.1).0 A) slots
-      (serves a (exact_uses a) j t.1 V U (put t.0.name [] D) A lv.1 ot.1 g.1
-      (λ y f. covers_put again x k Boolean [] T y r.slots (λ s. or_l _ _ (ap (λ z. free_in z a) (sym (eqb-true y x s)) ∙ f)) (λ hn ne. h y ∙ or_r (nat_eq y x) _ (or_l _ _ f)))),
-      subst (λ G. Uses N (put t.0.name [] D) (around b (two b) G ra.1).0 A) slots
-      (serves b (exact_uses b) j ra.1 V U (put t.0.name [] D) A lv.2 ot.2 g'.1
-      (λ y f. covers_put again x k Boolean [] T y r.slots (λ s. or_r (free_in x a) _ (ap (λ z. free_in z b) (sym (eqb-true y x s)) ∙ f)) (λ hn ne. h y ∙ or_r (nat_eq y x) _ (or_r (free_in y a) _ f))))))
+      let g' = none_ready again x T k e.0 Boolean e.1 j t.1 ra.1 V D t.0.name r.slots r.typed e.2 ot.0 dD lD sD le in (
+        g.0,
+        subst (λ G. Uses N (put t.0.name [] D) (around a (two a) G t.1).0 A) slots
+            (serves a (exact_uses a) j t.1 V U (put t.0.name [] D) A lv.1 ot.1 g.1
+            (λ y f. covers_put again x k Boolean [] T y r.slots (λ s. or_l _ _ (ap (λ z. free_in z a) (sym (eqb-true y x s)) ∙ f)) (λ hn ne. h y ∙ or_r (nat_eq y x) _ (or_l _ _ f)))),
+        subst (λ G. Uses N (put t.0.name [] D) (around b (two b) G ra.1).0 A) slots
+            (serves b (exact_uses b) j ra.1 V U (put t.0.name [] D) A lv.2 ot.2 g'.1
+            (λ y f. covers_put again x k Boolean [] T y r.slots (λ s. or_r (free_in x a) _ (ap (λ z. free_in z b) (sym (eqb-true y x s)) ∙ f)) (λ hn ne. h y ∙ or_r (nat_eq y x) _ (or_r (free_in y a) _ f)))),
+      ))
   exact_uses (n.CaseList i x a p q b) j k V T C A lv ot r h =
       let again = free_in x a || free_in x b in
       let t = take_slot again x (slots_of T) k in
@@ -789,16 +852,19 @@ module _ (N : NormProg) where
       take_uses again x T k e.0 B e.1 [] C (n.CaseList i t.0.name ra.0 c (c + 1) (around b (two b) (put x (slot p c ∷ slot q (c + 1) ∷ t.0.stay) (slots_of T)) ra.1).0) A r.single r.low r.same
       (λ D dD lD sD.
       let g = none_ready again x T k e.0 B e.1 j c (c + 2) V D t.0.name r.slots r.typed e.2 ot.1 dD lD sD (omega arith) in
-      let g' = two_ready again x T k e.0 B e.1 j c ra.1 V p q ot.0 B D t.0.name r.slots r.typed e.2 ot.1 lv.2 lv.3 dD lD sD le in
-      (ot.0, g.0, new_two c D lD,
-      subst (λ G. Uses N (put t.0.name [] D) (around a (two a) G (c + 2)).0 A) slots
-      (serves a (exact_uses a) j (c + 2) V U (put t.0.name [] D) A lv.1 ot.2 g.1
-      (λ y f. covers_put again x k B [] T y r.slots (λ s. or_l _ _ (ap (λ z. free_in z a) (sym (eqb-true y x s)) ∙ f)) (λ hn ne. h y ∙ or_r (nat_eq y x) _ (or_l _ _ f)))),
-      as_opened N t.0.name (c ∷ (c + 1) ∷ []) parts_of B D g.0 (around b (two b) (put x (slot p c ∷ slot q (c + 1) ∷ t.0.stay) (slots_of T)) ra.1).0 A
-      (subst (λ G. Uses N (put t.0.name K D) (around b (two b) G ra.1).0 A) slots'
-      (serves b (exact_uses b) (q + 1) ra.1 (more (more V p ot.0) q B) I (put t.0.name K D) A lv.4 ot.3 g'.1
-      (λ y f. covers_put again x k B H T y r.slots (λ s. or_r (free_in x a) _ (ap (λ z. free_in z b) (sym (eqb-true y x s)) ∙ f))
-      (λ hn ne. h y ∙ or_r (nat_eq y x) _ (or_r (free_in y a) _ (and_t _ _ (not_or_two (nat_eq y p) (nat_eq y q) hn) f))))))))
+      let g' = two_ready again x T k e.0 B e.1 j c ra.1 V p q ot.0 B D t.0.name r.slots r.typed e.2 ot.1 lv.2 lv.3 dD lD sD le in (
+        ot.0,
+        g.0,
+        new_two c D lD,
+        subst (λ G. Uses N (put t.0.name [] D) (around a (two a) G (c + 2)).0 A) slots
+            (serves a (exact_uses a) j (c + 2) V U (put t.0.name [] D) A lv.1 ot.2 g.1
+            (λ y f. covers_put again x k B [] T y r.slots (λ s. or_l _ _ (ap (λ z. free_in z a) (sym (eqb-true y x s)) ∙ f)) (λ hn ne. h y ∙ or_r (nat_eq y x) _ (or_l _ _ f)))),
+        as_opened N t.0.name (c ∷ (c + 1) ∷ []) parts_of B D g.0 (around b (two b) (put x (slot p c ∷ slot q (c + 1) ∷ t.0.stay) (slots_of T)) ra.1).0 A
+            (subst (λ G. Uses N (put t.0.name K D) (around b (two b) G ra.1).0 A) slots'
+            (serves b (exact_uses b) (q + 1) ra.1 (more (more V p ot.0) q B) I (put t.0.name K D) A lv.4 ot.3 g'.1
+            (λ y f. covers_put again x k B H T y r.slots (λ s. or_r (free_in x a) _ (ap (λ z. free_in z b) (sym (eqb-true y x s)) ∙ f))
+            (λ hn ne. h y ∙ or_r (nat_eq y x) _ (or_r (free_in y a) _ (and_t _ _ (not_or_two (nat_eq y p) (nat_eq y q) hn) f)))))),
+      ))
   exact_uses (n.CaseTree i x a p q u b) j k V T C A lv ot r h =
       let again = free_in x a || free_in x b in
       let t = take_slot again x (slots_of T) k in
@@ -816,16 +882,19 @@ module _ (N : NormProg) where
       take_uses again x T k e.0 B e.1 [] C (n.CaseTree i t.0.name ra.0 c (c + 1) (c + 2) (around b (two b) (put x (slot p c ∷ slot q (c + 1) ∷ slot u (c + 2) ∷ t.0.stay) (slots_of T)) ra.1).0) A r.single r.low r.same
       (λ D dD lD sD.
       let g = none_ready again x T k e.0 B e.1 j c (c + 3) V D t.0.name r.slots r.typed e.2 ot.1 dD lD sD (omega arith) in
-      let g' = three_ready again x T k e.0 B e.1 j c ra.1 V p q u ot.0 B B D t.0.name r.slots r.typed e.2 ot.1 lv.2 lv.3 lv.4 dD lD sD le in
-      (ot.0, g.0, new_three c D lD,
-      subst (λ G. Uses N (put t.0.name [] D) (around a (two a) G (c + 3)).0 A) slots
-      (serves a (exact_uses a) j (c + 3) V U (put t.0.name [] D) A lv.1 ot.2 g.1
-      (λ y f. covers_put again x k B [] T y r.slots (λ s. or_l _ _ (ap (λ z. free_in z a) (sym (eqb-true y x s)) ∙ f)) (λ hn ne. h y ∙ or_r (nat_eq y x) _ (or_l _ _ f)))),
-      as_opened N t.0.name (c ∷ (c + 1) ∷ (c + 2) ∷ []) parts_of B D g.0 (around b (two b) (put x (slot p c ∷ slot q (c + 1) ∷ slot u (c + 2) ∷ t.0.stay) (slots_of T)) ra.1).0 A
-      (subst (λ G. Uses N (put t.0.name K D) (around b (two b) G ra.1).0 A) slots'
-      (serves b (exact_uses b) (u + 1) ra.1 (more (more (more V p ot.0) q B) u B) I (put t.0.name K D) A lv.5 ot.3 g'.1
-      (λ y f. covers_put again x k B H T y r.slots (λ s. or_r (free_in x a) _ (ap (λ z. free_in z b) (sym (eqb-true y x s)) ∙ f))
-      (λ hn ne. h y ∙ or_r (nat_eq y x) _ (or_r (free_in y a) _ (and_t _ _ (not_or_three (nat_eq y p) (nat_eq y q) (nat_eq y u) hn) f))))))))
+      let g' = three_ready again x T k e.0 B e.1 j c ra.1 V p q u ot.0 B B D t.0.name r.slots r.typed e.2 ot.1 lv.2 lv.3 lv.4 dD lD sD le in (
+        ot.0,
+        g.0,
+        new_three c D lD,
+        subst (λ G. Uses N (put t.0.name [] D) (around a (two a) G (c + 3)).0 A) slots
+            (serves a (exact_uses a) j (c + 3) V U (put t.0.name [] D) A lv.1 ot.2 g.1
+            (λ y f. covers_put again x k B [] T y r.slots (λ s. or_l _ _ (ap (λ z. free_in z a) (sym (eqb-true y x s)) ∙ f)) (λ hn ne. h y ∙ or_r (nat_eq y x) _ (or_l _ _ f)))),
+        as_opened N t.0.name (c ∷ (c + 1) ∷ (c + 2) ∷ []) parts_of B D g.0 (around b (two b) (put x (slot p c ∷ slot q (c + 1) ∷ slot u (c + 2) ∷ t.0.stay) (slots_of T)) ra.1).0 A
+            (subst (λ G. Uses N (put t.0.name K D) (around b (two b) G ra.1).0 A) slots'
+            (serves b (exact_uses b) (u + 1) ra.1 (more (more (more V p ot.0) q B) u B) I (put t.0.name K D) A lv.5 ot.3 g'.1
+            (λ y f. covers_put again x k B H T y r.slots (λ s. or_r (free_in x a) _ (ap (λ z. free_in z b) (sym (eqb-true y x s)) ∙ f))
+            (λ hn ne. h y ∙ or_r (nat_eq y x) _ (or_r (free_in y a) _ (and_t _ _ (not_or_three (nat_eq y p) (nat_eq y q) (nat_eq y u) hn) f)))))),
+      ))
   exact_uses (n.CaseOption i x a p b) j k V T C A lv ot r h =
       let again = free_in x a || free_in x b in
       let t = take_slot again x (slots_of T) k in
@@ -843,16 +912,19 @@ module _ (N : NormProg) where
       take_uses again x T k e.0 B e.1 [] C (n.CaseOption i t.0.name ra.0 c (around b (two b) (put x (slot p c ∷ t.0.stay) (slots_of T)) ra.1).0) A r.single r.low r.same
       (λ D dD lD sD.
       let g = none_ready again x T k e.0 B e.1 j c (c + 1) V D t.0.name r.slots r.typed e.2 ot.1 dD lD sD (omega arith) in
-      let g' = one_ready again x T k e.0 B e.1 j c ra.1 V p ot.0 D t.0.name r.slots r.typed e.2 ot.1 lv.2 dD lD sD le in
-      (ot.0, g.0, new_one c D lD,
-      subst (λ G. Uses N (put t.0.name [] D) (around a (two a) G (c + 1)).0 A) slots
-      (serves a (exact_uses a) j (c + 1) V U (put t.0.name [] D) A lv.1 ot.2 g.1
-      (λ y f. covers_put again x k B [] T y r.slots (λ s. or_l _ _ (ap (λ z. free_in z a) (sym (eqb-true y x s)) ∙ f)) (λ hn ne. h y ∙ or_r (nat_eq y x) _ (or_l _ _ f)))),
-      as_opened N t.0.name (c ∷ []) parts_of B D g.0 (around b (two b) (put x (slot p c ∷ t.0.stay) (slots_of T)) ra.1).0 A
-      (subst (λ G. Uses N (put t.0.name K D) (around b (two b) G ra.1).0 A) slots'
-      (serves b (exact_uses b) (p + 1) ra.1 (more V p ot.0) I (put t.0.name K D) A lv.3 ot.3 g'.1
-      (λ y f. covers_put again x k B H T y r.slots (λ s. or_r (free_in x a) _ (ap (λ z. free_in z b) (sym (eqb-true y x s)) ∙ f))
-      (λ hn ne. h y ∙ or_r (nat_eq y x) _ (or_r (free_in y a) _ (and_t _ _ (not_or_one (nat_eq y p) hn) f))))))))
+      let g' = one_ready again x T k e.0 B e.1 j c ra.1 V p ot.0 D t.0.name r.slots r.typed e.2 ot.1 lv.2 dD lD sD le in (
+        ot.0,
+        g.0,
+        new_one c D lD,
+        subst (λ G. Uses N (put t.0.name [] D) (around a (two a) G (c + 1)).0 A) slots
+            (serves a (exact_uses a) j (c + 1) V U (put t.0.name [] D) A lv.1 ot.2 g.1
+            (λ y f. covers_put again x k B [] T y r.slots (λ s. or_l _ _ (ap (λ z. free_in z a) (sym (eqb-true y x s)) ∙ f)) (λ hn ne. h y ∙ or_r (nat_eq y x) _ (or_l _ _ f)))),
+        as_opened N t.0.name (c ∷ []) parts_of B D g.0 (around b (two b) (put x (slot p c ∷ t.0.stay) (slots_of T)) ra.1).0 A
+            (subst (λ G. Uses N (put t.0.name K D) (around b (two b) G ra.1).0 A) slots'
+            (serves b (exact_uses b) (p + 1) ra.1 (more V p ot.0) I (put t.0.name K D) A lv.3 ot.3 g'.1
+            (λ y f. covers_put again x k B H T y r.slots (λ s. or_r (free_in x a) _ (ap (λ z. free_in z b) (sym (eqb-true y x s)) ∙ f))
+            (λ hn ne. h y ∙ or_r (nat_eq y x) _ (or_r (free_in y a) _ (and_t _ _ (not_or_one (nat_eq y p) hn) f)))))),
+      ))
   exact_uses (n.Tick i m a) j k V T C A lv ot r h = exact_uses a j k V T C A lv ot r h
   exact_uses (n.Share i x p q a) j k V T C A lv ot r h = absurd lv
   exact_uses (n.Drop i x a) j k V T C A lv ot r h = absurd lv

@@ -58,6 +58,7 @@ stands_all (p ∷ ps) k S env f free st =
     agree_by : (y : Text) (b : Bool) → bytes_eq y p.name ≡ b → value_at (cond b k (number_of y S)) f ≡ look y env
     agree_by y true q = free.number k (omega arith) ∙ sym (free.name y (subst (Contains (names (p ∷ ps))) (sym ((bytes_decides y p.name).0 q)) (contains_first p.name (names ps))))
     agree_by y false q = st.agree y
+
     low_by : (y : Text) (b : Bool) → cond b k (number_of y S) < k + 1
     low_by y true = omega arith
     low_by y false = let low = st.low y in omega arith
@@ -119,6 +120,7 @@ own_agrees o ps vs = record { at = λ y h. record { value = by y (among y (numbe
   where
     f : NormEnv
     f = bind_norm [] (numbers ps 1) vs
+
     by : (y : ℕ) (b : Bool) → among y (numbers ps 1) ≡ b → value_at (copy_of y (own (numbered ps 1))) (bind_norm [] (numbers ps 1) vs) ≡ value_at y (bind_norm [] (numbers ps 1) vs)
     by y true q = ap (λ z. value_at z (bind_norm [] (numbers ps 1) vs)) (own_cases ps 1 y true q)
     by y false q =

@@ -57,6 +57,7 @@ stands_bound x A v S k j env e lt h = record { agree = λ y. agree_by y (bytes_e
     agree_by : (y : Text) (b : Bool) → value_at (cond b k (number_of y S)) ((k, v) ∷ e) ≡ cond b v (look y env)
     agree_by y true = value_newest k v e
     agree_by y false = let low = h.low y in value_older (number_of y S) k v e (λ q. omega arith) ∙ h.agree y
+
     low_by : (y : Text) (b : Bool) → cond b k (number_of y S) < j
     low_by y true = lt
     low_by y false = let low = h.low y in omega arith

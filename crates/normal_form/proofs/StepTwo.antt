@@ -154,14 +154,16 @@ module _ (d : NormCalls) where
       let h = halves a b G k e f in
       let ra = around a (two a) r.0.first (r.1 + 1) in
       let first = around_walks a (two_walks a) j r.0.first (r.1 + 1) e g lv.1 (h.below_first j below)
-          (record { at = λ y m. at_more r.1 (r.1 + 1) y _ e g (omega arith) (h.first y m (ag.at y (or_left (free_in y a) _ m))) }) in
+      (record { at = λ y m. at_more r.1 (r.1 + 1) y _ e g (omega arith) (h.first y m (ag.at y (or_left (free_in y a) _ m))) }) in
       let second : (v : Value) → walk_norm d (around b (two b) (r.0.second ++ slot x r.1 ∷ []) ra.1).0 ((r.1, v) ∷ g) ≡ walk_norm d b ((x, v) ∷ e) =
-          λ v. around_walks b (two_walks b) (x + 1) (r.0.second ++ slot x r.1 ∷ []) ra.1 ((x, v) ∷ e) ((r.1, v) ∷ g) lv.2
-          (below_append (x + 1) r.0.second (slot x r.1 ∷ []) (below_more j (x + 1) r.0.second (omega (arith, lv.0)) (h.below_second j below)) (omega arith, tt))
-          (record { at = λ y m.
-              at_more (r.1 + 1) ra.1 y _ _ _ (two_grows a (used a r.0.first) (r.1 + 1))
-              (at_is (r.1 + 1) y _ _ _ _ (append_new j y x r.1 r.0.second (h.below_second j below) lv.0)
-              (at_bound r.1 r.1 y x _ v e g (omega arith) (λ ne. h.second y m (ag.at y (or_right (free_in y a) _ (and_both _ _ (not_false _ ne) m)))))) }) in
+      λ v. around_walks b (two_walks b) (x + 1) (r.0.second ++ slot x r.1 ∷ []) ra.1 ((x, v) ∷ e) ((r.1, v) ∷ g) lv.2
+      (below_append (x + 1) r.0.second (slot x r.1 ∷ []) (below_more j (x + 1) r.0.second (omega (arith, lv.0)) (h.below_second j below)) (omega arith, tt))
+      (record {
+        at = λ y m.
+            at_more (r.1 + 1) ra.1 y _ _ _ (two_grows a (used a r.0.first) (r.1 + 1))
+            (at_is (r.1 + 1) y _ _ _ _ (append_new j y x r.1 r.0.second (h.below_second j below) lv.0)
+            (at_bound r.1 r.1 y x _ v e g (omega arith) (λ ne. h.second y m (ag.at y (or_right (free_in y a) _ (and_both _ _ (not_false _ ne) m))))));
+      }) in
       shares_walk d r.0.shares (n.Let i r.1 A ra.0 (around b (two b) (r.0.second ++ slot x r.1 ∷ []) ra.1).0) f
       ∙ (λ z. spend i (and_then (first z) (λ v. second v z)))
   two_walks (n.Split i x p q a) j G k e f lv below ag =
@@ -172,10 +174,12 @@ module _ (d : NormCalls) where
       let tk = took again x G k e f (ag.at x (or_left (nat_eq x x) _ (same_number x))) in
       let H = put x (slot p c ∷ slot q (c + 1) ∷ t.0.stay) G in
       let inner : (v w : Value) → walk_norm d (around a (two a) H (c + 2)).0 ((c + 1, w) ∷ (c, v) ∷ g) ≡ walk_norm d a ((q, w) ∷ (p, v) ∷ e) =
-          λ v w. around_walks a (two_walks a) (q + 1) H (c + 2) ((q, w) ∷ (p, v) ∷ e) ((c + 1, w) ∷ (c, v) ∷ g) lv.3
-          (below_put (q + 1) x (slot p c ∷ slot q (c + 1) ∷ t.0.stay) G (omega (arith, lv.2), (omega arith, below_stay again (q + 1) x G k (omega (arith, lv.0, lv.1, lv.2)))) (below_more j (q + 1) G (omega (arith, lv.1, lv.2)) below))
-          (record { at = λ y m. two_put j c y x p q c t.0.stay G v w e g below lv.1 lv.2 (omega arith)
-              (λ hp hq. tk.others y (λ s. ap (λ z. free_in z a) (sym s) ∙ m) (ag.at y (or_right (nat_eq y x) _ (and_both _ _ (not_false _ (or_false _ _ hp hq)) m)))) }) in
+      λ v w. around_walks a (two_walks a) (q + 1) H (c + 2) ((q, w) ∷ (p, v) ∷ e) ((c + 1, w) ∷ (c, v) ∷ g) lv.3
+      (below_put (q + 1) x (slot p c ∷ slot q (c + 1) ∷ t.0.stay) G (omega (arith, lv.2), (omega arith, below_stay again (q + 1) x G k (omega (arith, lv.0, lv.1, lv.2)))) (below_more j (q + 1) G (omega (arith, lv.1, lv.2)) below))
+      (record {
+        at = λ y m. two_put j c y x p q c t.0.stay G v w e g below lv.1 lv.2 (omega arith)
+            (λ hp hq. tk.others y (λ s. ap (λ z. free_in z a) (sym s) ∙ m) (ag.at y (or_right (nat_eq y x) _ (and_both _ _ (not_false _ (or_false _ _ hp hq)) m))));
+      }) in
       shares_walk d t.0.shares (n.Split i t.0.name c (c + 1) (around a (two a) H (c + 2)).0) f
       ∙ (λ z. spend i (pair_case (tk.value z) cut (λ v w. inner v w z)))
   two_walks (n.If i x a b) j G k e f lv below ag =
@@ -187,9 +191,9 @@ module _ (d : NormCalls) where
       let ra = around a (two a) H t.1 in
       let low = below_put j x t.0.stay G (below_stay again j x G k lv.0) below in
       let first = around_walks a (two_walks a) j H t.1 e g lv.1 low
-          (record { at = λ y m. tk.others y (λ s. or_left _ (free_in x b) (ap (λ z. free_in z a) (sym s) ∙ m)) (ag.at y (or_right (nat_eq y x) _ (or_left _ (free_in y b) m))) }) in
+      (record { at = λ y m. tk.others y (λ s. or_left _ (free_in x b) (ap (λ z. free_in z a) (sym s) ∙ m)) (ag.at y (or_right (nat_eq y x) _ (or_left _ (free_in y b) m))) }) in
       let second = around_walks b (two_walks b) j H ra.1 e g lv.2 low
-          (record { at = λ y m. at_more t.1 ra.1 y _ e g (two_grows a (used a H) t.1) (tk.others y (λ s. or_right (free_in x a) _ (ap (λ z. free_in z b) (sym s) ∙ m)) (ag.at y (or_right (nat_eq y x) _ (or_right (free_in y a) _ m)))) }) in
+      (record { at = λ y m. at_more t.1 ra.1 y _ e g (two_grows a (used a H) t.1) (tk.others y (λ s. or_right (free_in x a) _ (ap (λ z. free_in z b) (sym s) ∙ m)) (ag.at y (or_right (nat_eq y x) _ (or_right (free_in y a) _ m)))) }) in
       shares_walk d t.0.shares (n.If i t.0.name ra.0 (around b (two b) H ra.1).0) f
       ∙ (λ z. spend i (branch (tk.value z) (first z) (second z)))
   two_walks (n.CaseList i x a h l b) j G k e f lv below ag =
@@ -202,12 +206,14 @@ module _ (d : NormCalls) where
       let I = put x (slot h c ∷ slot l (c + 1) ∷ t.0.stay) G in
       let ra = around a (two a) H (c + 2) in
       let first = around_walks a (two_walks a) j H (c + 2) e g lv.1 (below_put j x t.0.stay G (below_stay again j x G k lv.0) below)
-          (record { at = λ y m. at_more c (c + 2) y _ e g (omega arith) (tk.others y (λ s. or_left _ (free_in x b) (ap (λ z. free_in z a) (sym s) ∙ m)) (ag.at y (or_right (nat_eq y x) _ (or_left _ _ m)))) }) in
+      (record { at = λ y m. at_more c (c + 2) y _ e g (omega arith) (tk.others y (λ s. or_left _ (free_in x b) (ap (λ z. free_in z a) (sym s) ∙ m)) (ag.at y (or_right (nat_eq y x) _ (or_left _ _ m)))) }) in
       let second : (v w : Value) → walk_norm d (around b (two b) I ra.1).0 ((c + 1, w) ∷ (c, v) ∷ g) ≡ walk_norm d b ((l, w) ∷ (h, v) ∷ e) =
-          λ v w. around_walks b (two_walks b) (l + 1) I ra.1 ((l, w) ∷ (h, v) ∷ e) ((c + 1, w) ∷ (c, v) ∷ g) lv.4
-          (below_put (l + 1) x (slot h c ∷ slot l (c + 1) ∷ t.0.stay) G (omega (arith, lv.3), (omega arith, below_stay again (l + 1) x G k (omega (arith, lv.0, lv.2, lv.3)))) (below_more j (l + 1) G (omega (arith, lv.2, lv.3)) below))
-          (record { at = λ y m. at_more (c + 2) ra.1 y _ _ _ (two_grows a (used a H) (c + 2)) (two_put j c y x h l c t.0.stay G v w e g below lv.2 lv.3 (omega arith)
-              (λ hp hq. tk.others y (λ s. or_right (free_in x a) _ (ap (λ z. free_in z b) (sym s) ∙ m)) (ag.at y (or_right (nat_eq y x) _ (or_right (free_in y a) _ (and_both _ _ (not_false _ (or_false _ _ hp hq)) m)))))) }) in
+      λ v w. around_walks b (two_walks b) (l + 1) I ra.1 ((l, w) ∷ (h, v) ∷ e) ((c + 1, w) ∷ (c, v) ∷ g) lv.4
+      (below_put (l + 1) x (slot h c ∷ slot l (c + 1) ∷ t.0.stay) G (omega (arith, lv.3), (omega arith, below_stay again (l + 1) x G k (omega (arith, lv.0, lv.2, lv.3)))) (below_more j (l + 1) G (omega (arith, lv.2, lv.3)) below))
+      (record {
+        at = λ y m. at_more (c + 2) ra.1 y _ _ _ (two_grows a (used a H) (c + 2)) (two_put j c y x h l c t.0.stay G v w e g below lv.2 lv.3 (omega arith)
+            (λ hp hq. tk.others y (λ s. or_right (free_in x a) _ (ap (λ z. free_in z b) (sym s) ∙ m)) (ag.at y (or_right (nat_eq y x) _ (or_right (free_in y a) _ (and_both _ _ (not_false _ (or_false _ _ hp hq)) m))))));
+      }) in
       shares_walk d t.0.shares (n.CaseList i t.0.name ra.0 c (c + 1) (around b (two b) I ra.1).0) f
       ∙ (λ z. spend i (list_case (tk.value z) (first z) (λ v w. second v w z)))
   two_walks (n.CaseTree i x a h l r b) j G k e f lv below ag =
@@ -220,12 +226,14 @@ module _ (d : NormCalls) where
       let I = put x (slot h c ∷ slot l (c + 1) ∷ slot r (c + 2) ∷ t.0.stay) G in
       let ra = around a (two a) H (c + 3) in
       let first = around_walks a (two_walks a) j H (c + 3) e g lv.1 (below_put j x t.0.stay G (below_stay again j x G k lv.0) below)
-          (record { at = λ y m. at_more c (c + 3) y _ e g (omega arith) (tk.others y (λ s. or_left _ (free_in x b) (ap (λ z. free_in z a) (sym s) ∙ m)) (ag.at y (or_right (nat_eq y x) _ (or_left _ _ m)))) }) in
+      (record { at = λ y m. at_more c (c + 3) y _ e g (omega arith) (tk.others y (λ s. or_left _ (free_in x b) (ap (λ z. free_in z a) (sym s) ∙ m)) (ag.at y (or_right (nat_eq y x) _ (or_left _ _ m)))) }) in
       let second : (u v w : Value) → walk_norm d (around b (two b) I ra.1).0 ((c + 2, w) ∷ (c + 1, v) ∷ (c, u) ∷ g) ≡ walk_norm d b ((r, w) ∷ (l, v) ∷ (h, u) ∷ e) =
-          λ u v w. around_walks b (two_walks b) (r + 1) I ra.1 ((r, w) ∷ (l, v) ∷ (h, u) ∷ e) ((c + 2, w) ∷ (c + 1, v) ∷ (c, u) ∷ g) lv.5
-          (below_put (r + 1) x (slot h c ∷ slot l (c + 1) ∷ slot r (c + 2) ∷ t.0.stay) G (omega (arith, lv.3, lv.4), (omega (arith, lv.4), (omega arith, below_stay again (r + 1) x G k (omega (arith, lv.0, lv.2, lv.3, lv.4))))) (below_more j (r + 1) G (omega (arith, lv.2, lv.3, lv.4)) below))
-          (record { at = λ y m. at_more (c + 3) ra.1 y _ _ _ (two_grows a (used a H) (c + 3)) (three_put j c y x h l r c t.0.stay G u v w e g below lv.2 lv.3 lv.4 (omega arith)
-              (λ hp hq hr. tk.others y (λ s. or_right (free_in x a) _ (ap (λ z. free_in z b) (sym s) ∙ m)) (ag.at y (or_right (nat_eq y x) _ (or_right (free_in y a) _ (and_both _ _ (not_false _ (or_false _ _ hp (or_false _ _ hq hr))) m)))))) }) in
+      λ u v w. around_walks b (two_walks b) (r + 1) I ra.1 ((r, w) ∷ (l, v) ∷ (h, u) ∷ e) ((c + 2, w) ∷ (c + 1, v) ∷ (c, u) ∷ g) lv.5
+      (below_put (r + 1) x (slot h c ∷ slot l (c + 1) ∷ slot r (c + 2) ∷ t.0.stay) G (omega (arith, lv.3, lv.4), (omega (arith, lv.4), (omega arith, below_stay again (r + 1) x G k (omega (arith, lv.0, lv.2, lv.3, lv.4))))) (below_more j (r + 1) G (omega (arith, lv.2, lv.3, lv.4)) below))
+      (record {
+        at = λ y m. at_more (c + 3) ra.1 y _ _ _ (two_grows a (used a H) (c + 3)) (three_put j c y x h l r c t.0.stay G u v w e g below lv.2 lv.3 lv.4 (omega arith)
+            (λ hp hq hr. tk.others y (λ s. or_right (free_in x a) _ (ap (λ z. free_in z b) (sym s) ∙ m)) (ag.at y (or_right (nat_eq y x) _ (or_right (free_in y a) _ (and_both _ _ (not_false _ (or_false _ _ hp (or_false _ _ hq hr))) m))))));
+      }) in
       shares_walk d t.0.shares (n.CaseTree i t.0.name ra.0 c (c + 1) (c + 2) (around b (two b) I ra.1).0) f
       ∙ (λ z. spend i (tree_case (tk.value z) (first z) (λ u v w. second u v w z)))
   two_walks (n.CaseOption i x a h b) j G k e f lv below ag =
@@ -238,12 +246,14 @@ module _ (d : NormCalls) where
       let I = put x (slot h c ∷ t.0.stay) G in
       let ra = around a (two a) H (c + 1) in
       let first = around_walks a (two_walks a) j H (c + 1) e g lv.1 (below_put j x t.0.stay G (below_stay again j x G k lv.0) below)
-          (record { at = λ y m. at_more c (c + 1) y _ e g (omega arith) (tk.others y (λ s. or_left _ (free_in x b) (ap (λ z. free_in z a) (sym s) ∙ m)) (ag.at y (or_right (nat_eq y x) _ (or_left _ _ m)))) }) in
+      (record { at = λ y m. at_more c (c + 1) y _ e g (omega arith) (tk.others y (λ s. or_left _ (free_in x b) (ap (λ z. free_in z a) (sym s) ∙ m)) (ag.at y (or_right (nat_eq y x) _ (or_left _ _ m)))) }) in
       let second : (v : Value) → walk_norm d (around b (two b) I ra.1).0 ((c, v) ∷ g) ≡ walk_norm d b ((h, v) ∷ e) =
-          λ v. around_walks b (two_walks b) (h + 1) I ra.1 ((h, v) ∷ e) ((c, v) ∷ g) lv.3
-          (below_put (h + 1) x (slot h c ∷ t.0.stay) G (omega arith, below_stay again (h + 1) x G k (omega (arith, lv.0, lv.2))) (below_more j (h + 1) G (omega (arith, lv.2)) below))
-          (record { at = λ y m. at_more (c + 1) ra.1 y _ _ _ (two_grows a (used a H) (c + 1)) (one_put j c y x h c t.0.stay G v e g below lv.2 (omega arith)
-              (λ hp. tk.others y (λ s. or_right (free_in x a) _ (ap (λ z. free_in z b) (sym s) ∙ m)) (ag.at y (or_right (nat_eq y x) _ (or_right (free_in y a) _ (and_both _ _ (not_false _ hp) m)))))) }) in
+      λ v. around_walks b (two_walks b) (h + 1) I ra.1 ((h, v) ∷ e) ((c, v) ∷ g) lv.3
+      (below_put (h + 1) x (slot h c ∷ t.0.stay) G (omega arith, below_stay again (h + 1) x G k (omega (arith, lv.0, lv.2))) (below_more j (h + 1) G (omega (arith, lv.2)) below))
+      (record {
+        at = λ y m. at_more (c + 1) ra.1 y _ _ _ (two_grows a (used a H) (c + 1)) (one_put j c y x h c t.0.stay G v e g below lv.2 (omega arith)
+            (λ hp. tk.others y (λ s. or_right (free_in x a) _ (ap (λ z. free_in z b) (sym s) ∙ m)) (ag.at y (or_right (nat_eq y x) _ (or_right (free_in y a) _ (and_both _ _ (not_false _ hp) m))))));
+      }) in
       shares_walk d t.0.shares (n.CaseOption i t.0.name ra.0 c (around b (two b) I ra.1).0) f
       ∙ (λ z. spend i (option_case (tk.value z) (first z) (λ v. second v z)))
   two_walks (n.Tick i m a) j G k e f lv below ag = λ z. spend i (costs m 0 0 (two_walks a j G k e f lv below (record { at = ag.at }) z))

@@ -109,6 +109,7 @@ module _ (N : NormProg) where
       given_by : (y : Text) (B : Type') (b : Bool) → cond b (Some A) (type_at y (types_in S)) ≡ Some B → more V k A (cond b k (number_of y S)) ≡ Some B
       given_by y B true q = more_here V k A ∙ q
       given_by y B false q = let low = h.low y in ap (λ b. cond b (Some A) (V (number_of y S))) (other_number (number_of y S) k (λ w. omega arith)) ∙ h.given y B q
+
       low_by : (y : Text) (b : Bool) → cond b k (number_of y S) < j
       low_by y true = lt
       low_by y false = let low = h.low y in omega arith

@@ -61,6 +61,7 @@ has_put x y H (s ∷ G) d = by (nat_eq x s.0) refl (has_put x y H G d.1)
     here true e g q = refl
     here false true g q = q refl
     here false false g q = refl
+
     -- where it is later
     later : (h e f g : Bool) → (f ≡ true → e ≡ false) → (f || (h || (not e && g))) ≡ (h || (not e && (f || g)))
     later true e true g q = refl
@@ -69,6 +70,7 @@ has_put x y H (s ∷ G) d = by (nat_eq x s.0) refl (has_put x y H G d.1)
     later false true false g q = refl
     later false false true g q = refl
     later false false false g q = refl
+
     by : (b : Bool) → nat_eq x s.0 ≡ b → has y (put x H G) ≡ (has y H || (not (nat_eq y x) && has y G)) → has y (cond b (H ++ G) (s ∷ put x H G)) ≡ (has y H || (not (nat_eq y x) && (nat_eq y s.0 || has y G)))
     by true q rest =
         let same = eqb-true x s.0 q in
@@ -113,9 +115,10 @@ or_true_right false b h = h
 
 pub distinct_append : {B : Type 0} (G H : List (ℕ × B)) → Distinct G → Distinct H → ((y : ℕ) → has y G ≡ true → has y H ≡ false) → Distinct (G ++ H)
 distinct_append [] H d e apart = e
-distinct_append (s ∷ G) H d e apart =
-    (has_append s.0 G H ∙ or_false_both (has s.0 G) (has s.0 H) d.0 (apart s.0 (ap (λ b. b || has s.0 G) (same_number s.0))),
-    distinct_append G H d.1 e (λ y h. apart y (or_true_right (nat_eq y s.0) (has y G) h)))
+distinct_append (s ∷ G) H d e apart = (
+  has_append s.0 G H ∙ or_false_both (has s.0 G) (has s.0 H) d.0 (apart s.0 (ap (λ b. b || has s.0 G) (same_number s.0))),
+  distinct_append G H d.1 e (λ y h. apart y (or_true_right (nat_eq y s.0) (has y G) h)),
+)
 
 pub distinct_put : {B : Type 0} (x : ℕ) (H G : List (ℕ × B)) → Distinct G → Distinct H → ((y : ℕ) → nat_eq y x ≡ false → has y G ≡ true → has y H ≡ false) → Distinct (put x H G)
 distinct_put x H [] d e apart = e
@@ -151,12 +154,15 @@ has_used e y (s ∷ G) = by (free_in s.0 e) refl (nat_eq y s.0) refl (has_used e
     bool : (f g : Bool) → (f && g) ≡ (f && (false || g))
     bool true g = refl
     bool false g = refl
+
     yes : (f g : Bool) → f ≡ true → true ≡ (f && (true || g))
     yes true g h = refl
     yes false g h = absurd (cc)
+
     gone : (f g : Bool) → f ≡ false → (f && g) ≡ (f && (true || g))
     gone true g h = absurd (cc)
     gone false g h = refl
+
     by : (b : Bool) → free_in s.0 e ≡ b → (i : Bool) → nat_eq y s.0 ≡ i → has y (used e G) ≡ (free_in y e && has y G) → has y (cond b (s ∷ used e G) (used e G)) ≡ (free_in y e && (i || has y G))
     by true q true i rest = ap (λ z. z || has y (used e G)) i ∙ yes (free_in y e) (has y G) (ap (λ z. free_in z e) (eqb-true y s.0 i) ∙ q)
     by true q false i rest = ap (λ z. z || has y (used e G)) i ∙ rest ∙ bool (free_in y e) (has y G)
@@ -174,12 +180,15 @@ has_unused e y (s ∷ G) = by (free_in s.0 e) refl (nat_eq y s.0) refl (has_unus
     bool : (f g : Bool) → (not f && g) ≡ (not f && (false || g))
     bool true g = refl
     bool false g = refl
+
     yes : (f g : Bool) → f ≡ false → true ≡ (not f && (true || g))
     yes true g h = absurd (cc)
     yes false g h = refl
+
     gone : (f g : Bool) → f ≡ true → (not f && g) ≡ (not f && (true || g))
     gone true g h = refl
     gone false g h = absurd (cc)
+
     by : (b : Bool) → free_in s.0 e ≡ b → (i : Bool) → nat_eq y s.0 ≡ i → has y (unused e G) ≡ (not (free_in y e) && has y G) → has y (cond b (unused e G) (s ∷ unused e G)) ≡ (not (free_in y e) && (i || has y G))
     by false q true i rest = ap (λ z. z || has y (unused e G)) i ∙ yes (free_in y e) (has y G) (ap (λ z. free_in z e) (eqb-true y s.0 i) ∙ q)
     by false q false i rest = ap (λ z. z || has y (unused e G)) i ∙ rest ∙ bool (free_in y e) (has y G)
