@@ -5,8 +5,6 @@
 #[cfg(test)]
 mod codes;
 #[cfg(test)]
-mod lists;
-#[cfg(test)]
 mod numbers;
 #[cfg(test)]
 mod programs;

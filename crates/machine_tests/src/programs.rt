@@ -1,6 +1,6 @@
 // Programs from their texts.
 ghost use Rattle.std.specs.Prelude.{◌≡◌, ◌<◌, ◌^◌, [], ◌∷◌, IfOk, IsTrue};
-ghost use Rattle.raml_syntax.specs.Tree.{Integer, ListOf};
+ghost use Rattle.raml_syntax.specs.Tree.{Integer};
 ghost use Rattle.raml_syntax.specs.Types.{types_of};
 ghost use Rattle.raml_syntax.specs.Node.{program_nodes};
 ghost use Rattle.raml_syntax.specs.Read.{program_of, function_of, ty_of};
@@ -8,7 +8,7 @@ ghost use Rattle.raml_syntax.specs.Read.{program_of, function_of, ty_of};
 use raml_parse::parse;
 use raml_syntax::{Fun, Ty};
 use simple_types::{Typed, check};
-use std::alloc::{AllocError, Global};
+use std::alloc::Global;
 use std::test::Fail;
 
 /// The typed program that a short text spells.
@@ -32,13 +32,6 @@ pub fn int() -> Ty
     ensures { ty_of result ≡ Integer }
 {
     Ty::Int
-}
-
-/// The type of lists of numbers.
-pub fn ints(alloc: Global) -> Result<Ty, AllocError>
-    ensures { IfOk result (λ ty. ty_of ty ≡ ListOf Integer) }
-{
-    Ok(Ty::List(Box::new(alloc, int())?))
 }
 
 /// Whether a function has one parameter, of this type.

@@ -61,22 +61,6 @@ fun round_trip (x : int list, y : bool list) : (int * bool) list =
 ";
 
 /// A sort by parts, each element of which costs three ticks.
-pub const QUICKSORT: &str = "(* quicksort with a partition that costs three ticks per element *)
-fun append (x : int list, y : int list) : int list =
-  match x with nil -> y | h :: t -> h :: append(t, y)
-fun part (p : int, l : int list) : int list * int list =
-  match l with
-    nil -> (nil, nil)
-  | h :: t ->
-      let (low, high) = part(p, t) in
-      tick 3 in
-      if h < p then (h :: low, high) else (low, h :: high)
-fun qsort (l : int list) : int list =
-  match l with
-    nil -> nil
-  | h :: t -> let (low, high) = part(h, t) in append(qsort(low), h :: qsort(high))
-";
-
 pub const ENDS_CODE: &str = "fun head
 0 Load 0
 1 CaseList 6
