@@ -81,6 +81,7 @@ fn groups_come_in_their_order(rt: HostRuntime) -> Result<(), Fail> {
     let alloc = rt.alloc();
     for case in &CASES {
         let program = program(alloc, case.0)?;
+        assert!(rt; program.funs.len() <= 256);
         let groups = group_calls(alloc, &program)?;
         let found = listed(alloc, groups.list())?;
         assert_eq!(rt; found.as_slice(), case.1);
@@ -95,6 +96,7 @@ fn calls_are_listed_once(rt: HostRuntime) -> Result<(), Fail> {
         alloc,
         &[("a", &["c", "a", "c", "b"]), ("b", &[]), ("c", &["none"])],
     )?;
+    assert!(rt; program.funs.len() == 3);
     let groups = group_calls(alloc, &program)?;
     assert_eq!(rt;
         groups.calls(FunId(0)),
