@@ -1,4 +1,0 @@
-pub mod Lists
-pub mod Marks
-pub mod Leads
-pub mod Ordered

@@ -1,4 +1,0 @@
-pub mod Calls
-pub mod Groups
-pub mod Table
-pub mod Read
