@@ -1,5 +1,5 @@
 -- A row that is made column by column.
-use Rattle.std.proofs.Common.{◌*ℤ◌, ◌≡◌, ◌≢◌, refl, sym, ap, subst, ◌∙◌, ℕ, zero, suc, ◌+◌, ◌-◌, ◌<◌, ◌≤◌, ◌==◌, false, ℤ, pos, arith, List, [], ◌∷◌, ◌++◌, length, map, get_or, slice_set, take, Result, Ok, Err, OnOk, ◌⊎◌, inl, inr}
+use Rattle.std.proofs.Common.{◌*ℤ◌, ◌≡◌, ◌≢◌, refl, sym, ap, subst, ◌∙◌, ℕ, zero, suc, ◌+◌, ◌-◌, ◌<◌, ◌≤◌, ◌==◌, false, ℤ, pos, arith, List, [], ◌∷◌, ◌++◌, length, map, get_or, slice_set, take, Result, Ok, Err, OnOk, IsErrAnd, ◌⊎◌, inl, inr}
 use Rattle.frac128.specs.declared.Frac.{Frac}
 use Rattle.frac128.specs.Nought.{nought}
 use Rattle.frac_rows.specs.Entries.{Entries, at, EndsBefore}
@@ -219,6 +219,11 @@ column_leaves i j c inequalities d ts h e t q l = record { is = ap (places.at (m
 pub on_ok : {A E P Q : Type 0} (r : Result A E) → (P → Q) → OnOk r P → OnOk r Q
 on_ok (Ok a) f h = f h
 on_ok (Err e) f h = tt
+
+-- the error of an answer that passes it on
+pub of_error : {A E : Type 0} (r : Result A E) (e f : E) → IsErrAnd r (λ x. x ≡ e) → r ≡ Err f → e ≡ f
+of_error (Ok a) e f h g = absurd (cc)
+of_error (Err x) e f h g = sym h ∙ (let p : x ≡ f = cc in p)
 
 -- the slacks and weights of the first k rows, while the others have none
 pub record RowsOpen (k : ℕ) (s : LinearSystem) (rows : List Entries) : Type 0 where

@@ -113,10 +113,8 @@ pub(crate) fn exiting(
     if all.is_empty() {
         return Ok(None);
     }
-    match narrowed(alloc, rows, entering, slack, right, &all) {
-        Ok(row) => Ok(Some(row)),
-        Err(fault) => Err(fault),
-    }
+    let row = narrowed(alloc, rows, entering, slack, right, &all)?;
+    Ok(Some(row))
 }
 
 /// The row that is left of these, which are all that bound column `entering`.
@@ -134,16 +132,10 @@ fn narrowed(
     ensures row { IfOk result (IsExiting (columns_to right slack right) entering rows.now) }
     ensures leaves { (i c : ℕ) → result ≡ Err (Fault.Leaves i c) → SearchLeaves (columns_to right slack right) entering rows.now i c }
 {
-    let mut tied = match ties(alloc, rows, entering, right, all) {
-        Ok(tied) => tied,
-        Err(fault) => return Err(fault),
-    };
+    let mut tied = ties(alloc, rows, entering, right, all)?;
     let mut column = next_column(rows, &tied, slack, right);
     while tied.len() > 1 && column < right {
-        match ties(alloc, rows, entering, column, &tied) {
-            Ok(fewer) => tied = fewer,
-            Err(fault) => return Err(fault),
-        }
+        tied = ties(alloc, rows, entering, column, &tied)?;
         column = next_column(rows, &tied, column + 1, right);
     }
     Ok(tied[0])

@@ -64,9 +64,7 @@ fn push_terms(rows: &mut [FracRow], column: u32, terms: &[(u32, i128)]) -> Resul
     ensures leaves { (i c : ℕ) → result ≡ Err (Fault.Leaves i c) → (i < length rows.old) × (c ≡ column) × (coefficient i terms.now ≡ least_number) }
 {
     for term in terms {
-        if let Err(fault) = push_term(rows, column, term.0, term.1) {
-            return Err(fault);
-        }
+        push_term(rows, column, term.0, term.1)?;
     }
     Ok(())
 }
@@ -80,9 +78,7 @@ fn push_columns(rows: &mut [FracRow], inequalities: &[Row]) -> Result<(), Fault>
     ensures leaves { (i c : ℕ) → result ≡ Err (Fault.Leaves i c) → (i < length rows.old) × (c < length inequalities.now) × OpeningLeaves (map (λ row. coefficient i row.terms) inequalities.now) c }
 {
     for j in 0..inequalities.len() {
-        if let Err(fault) = push_terms(rows, j as u32, inequalities[j].terms()) {
-            return Err(fault);
-        }
+        push_terms(rows, j as u32, inequalities[j].terms())?;
     }
     Ok(())
 }
@@ -96,9 +92,7 @@ fn push_slack_and_weight(row: &mut FracRow, system: &System, unknown: u32) -> Re
     ensures leaves { (c : ℕ) → result ≡ Err (RowFault.Leaves c) → OpeningLeaves (opening_row system.now unknown) c }
 {
     let slack = system.rows().len() as u32;
-    if let Err(fault) = push_whole(row, slack + unknown, 1) {
-        return Err(fault);
-    }
+    push_whole(row, slack + unknown, 1)?;
     let weight = system.weights()[unknown as usize];
     push_whole(row, slack + system.unknowns(), weight)
 }
@@ -128,12 +122,8 @@ pub(crate) fn opening_rows(alloc: Global, system: &System) -> Result<Vec<FracRow
     ensures inside { (i c : ℕ) → result ≡ Err (Fault.Leaves i c) → i ≤ system.now.unknowns }
 {
     let mut rows = empty_rows(alloc, system.unknowns())?;
-    if let Err(fault) = push_columns(&mut rows, system.rows()) {
-        return Err(fault);
-    }
-    if let Err(fault) = push_slacks_and_weights(&mut rows, system) {
-        return Err(fault);
-    }
+    push_columns(&mut rows, system.rows())?;
+    push_slacks_and_weights(&mut rows, system)?;
     Ok(rows)
 }
 
@@ -145,9 +135,7 @@ fn right_sides(alloc: Global, rows: &[Row]) -> Result<FracRow, RowFault>
 {
     let mut all = FracRow::new(alloc);
     for j in 0..rows.len() {
-        if let Err(fault) = push_whole(&mut all, j as u32, rows[j].right()) {
-            return Err(fault);
-        }
+        push_whole(&mut all, j as u32, rows[j].right())?;
     }
     Ok(all)
 }

@@ -85,9 +85,7 @@ pub(crate) fn pivot(
             column,
         }),
     };
-    if let Err(fault) = sweep_rows(rows, touching, entering, &lead, spare) {
-        return Err(fault);
-    }
+    sweep_rows(rows, touching, entering, &lead, spare)?;
     if let Err(fault) = sweep(gains, entering, &lead, spare) {
         return Err(in_row(rows.len(), fault));
     }

@@ -167,9 +167,9 @@ pub fn solve<F: Fn(&[Frac]) -> Option<usize>>(
     let columns = system.rows().len() + system.unknowns() as usize;
     let mut scratch = new_scratch(alloc, &table.rows, columns)?;
     loop {
-        match make_step(alloc, system, chooser, &mut table, &mut scratch) {
-            Ok(Step::Pivot) => {}
-            Ok(Step::Best) => {
+        match make_step(alloc, system, chooser, &mut table, &mut scratch)? {
+            Step::Pivot => {}
+            Step::Best => {
                 let x = solution(alloc, system, &table)?;
                 let dual = dual(alloc, system, &table)?;
                 return Ok(Answer::Best {
@@ -178,21 +178,20 @@ pub fn solve<F: Fn(&[Frac]) -> Option<usize>>(
                     pivots: table.pivots,
                 });
             }
-            Ok(Step::Rises { column }) => {
+            Step::Rises { column } => {
                 let farkas = ray(alloc, system, &table, column)?;
                 return Ok(Answer::NoSolution {
                     farkas,
                     pivots: table.pivots,
                 });
             }
-            Ok(Step::Leaves { row, column }) => {
+            Step::Leaves { row, column } => {
                 return Ok(Answer::Leaves {
                     pivots: table.pivots,
                     row,
                     col: column,
                 });
             }
-            Err(error) => return Err(error),
         }
     }
 }

@@ -32,18 +32,9 @@ pub(crate) fn opening(alloc: Global, system: &System) -> Result<Table, Fault>
     ensures leaves { (i c : ℕ) → result ≡ Err (Fault.Leaves i c) → entry (opening system.now) i c ≡ least_number }
     ensures inside { (i c : ℕ) → result ≡ Err (Fault.Leaves i c) → i ≤ system.now.unknowns }
 {
-    let rows = match opening_rows(alloc, system) {
-        Ok(rows) => rows,
-        Err(fault) => return Err(fault),
-    };
-    let gains = match opening_gains(alloc, system) {
-        Ok(gains) => gains,
-        Err(fault) => return Err(fault),
-    };
-    let basis = match counted(alloc, system.rows().len() as u32, system.unknowns()) {
-        Ok(basis) => basis,
-        Err(_) => return Err(Fault::NoMemory),
-    };
+    let rows = opening_rows(alloc, system)?;
+    let gains = opening_gains(alloc, system)?;
+    let basis = counted(alloc, system.rows().len() as u32, system.unknowns())?;
     Ok(Table {
         rows,
         gains,

@@ -4,7 +4,7 @@ use Rattle.std.specs.Int.{w128}
 use Rattle.frac_rows.specs.Entries.{EndsBefore}
 use Rattle.linear_rows.specs.Terms.{unknown_at}
 use Rattle.simplex.specs.declared.fault.Fault.{Fault}
-use Rattle.simplex.proofs.Opens.{no_term, term_inside, untouched, term_more, term_leaves}
+use Rattle.simplex.proofs.Opens.{no_term, term_inside, untouched, term_more, term_leaves, of_error}
 use Rattle.simplex.proofs.opening.push_terms.Goals as goal
 
 pub loop-term-init : goal.loop-term-init
@@ -21,10 +21,10 @@ push_term-requires-clause-before c =
     subst (EndsBefore c.args.column) (sym (untouched c.args.column c.loop-term.term-index c.args.terms.now c.args.rows.now c.loop-term.rows c.requires.sparse c.loop-term-test.true c.loop-term.invariant))
     (c.requires.before (unknown_at c.args.terms.now c.loop-term.term-index) (term_inside (length c.args.rows.now) c.loop-term.term-index c.args.terms.now c.requires.sparse c.requires.below c.loop-term-test.true))
 
-pub returns-in-Err-clause-leaves : goal.returns-in-Err-clause-leaves
-returns-in-Err-clause-leaves c i k e =
-    let same : c.in-Err.fault ≡ Fault.Leaves i k = cc in
-    let f = c.in-Err.ensures.leaves i k (ap Err same) in
+pub returns-in_err-push_term-clause-leaves : goal.returns-in_err-push_term-clause-leaves
+returns-in_err-push_term-clause-leaves c i k e =
+    let same : c.in_err-push_term.field-0.0 ≡ Fault.Leaves i k = of_error _ _ _ c.from_residual.ensures.1 e in
+    let f = c.in_err-push_term.ensures.leaves i k (ap Err same) in
     let fits : FitsSigned w128 (get_or c.args.terms.now c.loop-term.term-index (0, pos 0)).1 = search rules in
     let n = simp (to_z-of_z w128 _ fits) at f.2 in
     let l = term_leaves (length c.args.rows.now) c.loop-term.term-index i c.args.terms.now c.requires.sparse c.requires.below c.loop-term-test.true f.0 n in
@@ -33,5 +33,5 @@ returns-in-Err-clause-leaves c i k e =
 pub loop-term-preserved : goal.loop-term-preserved
 loop-term-preserved c =
     let fits : FitsSigned w128 (get_or c.args.terms.now c.loop-term.term-index (0, pos 0)).1 = search rules in
-    let added = simp (to_z-of_z w128 _ fits) at c.in_default.ensures.added in
+    let added = simp (to_z-of_z w128 _ fits) at c.in_ok-push_term.ensures.added in
     term_more c.args.column c.loop-term.term-index c.args.terms.now c.args.rows.now c.loop-term.rows c.push_term.new.rows c.requires.sparse c.loop-term-test.true c.loop-term.invariant added
