@@ -78,6 +78,10 @@ IsFront cells all = (more : List Cell) × (all ≡ cells ++ more)
 abbrev pub Grew : Machine → Machine → Type 0
 Grew x y = (y.made ≡ x.made + 1) × (y.ticks ≤ x.ticks + 2 ^ 32) × (y.limit ≡ x.limit) × IsFront x.heap.cells y.heap.cells
 
+-- and it stays in its function
+abbrev pub Advances : Machine → Machine → Type 0
+Advances x y = Grew x y × (y.fun ≡ x.fun)
+
 -- nothing is changed that is told
 abbrev pub Stays : Machine → Machine → Type 0
 Stays x y = (state_of y ≡ state_of x) × (y.heap ≡ x.heap) × (y.limit ≡ x.limit)

@@ -7,7 +7,7 @@ ghost use Rattle.value_text.specs.Held.{value_of, value_held, held_of, held};
 ghost use Rattle.stack_compile.specs.Machine.{operated};
 ghost use Rattle.stack_compile.specs.Ready.{TwoNumbers};
 ghost use Rattle.stack_compile.specs.declared.instr.Instr.TheVariants as i;
-ghost use Rattle.metered_vm.specs.Running.{IsSound, HasRoom, Grew, Stays, stack_in};
+ghost use Rattle.metered_vm.specs.Running.{IsSound, HasRoom, Advances, Stays, stack_in};
 ghost use Rattle.metered_vm.specs.Moving.{CanMake, Makes, Pushes, PushesCell, Operates};
 
 use crate::machine::Machine;
@@ -33,7 +33,7 @@ pub fn push(m: &mut Machine, word: Word) -> Result<(), AllocError>
     requires below { IsBelow (length m.old.heap.cells) word }
     requires room { HasRoom m.old }
     ensures does { OnOk result (Pushes (value_of (held m.old.heap.cells) word) m.old m.new) }
-    ensures grew { OnOk result (Grew m.old m.new) }
+    ensures advances { OnOk result (Advances m.old m.new) }
     ensures stays { OnErr result (Stays m.old m.new) }
     ensures sound { IsSound m.new }
 {
@@ -49,7 +49,7 @@ pub fn load(m: &mut Machine, k: u32) -> Result<(), AllocError>
     requires finds { CanMake (i.Load k) m.old }
     requires room { HasRoom m.old }
     ensures does { OnOk result (Makes (i.Load k) m.old m.new) }
-    ensures grew { OnOk result (Grew m.old m.new) }
+    ensures advances { OnOk result (Advances m.old m.new) }
     ensures stays { OnErr result (Stays m.old m.new) }
     ensures sound { IsSound m.new }
 {
@@ -58,13 +58,19 @@ pub fn load(m: &mut Machine, k: u32) -> Result<(), AllocError>
 }
 
 /// Pops a word and appends it to the locals.
-#[tactic(auto, using(crate::proofs::Lists::stack_snoc, crate::proofs::Lists::length_stack, crate::proofs::Lists::below_snoc, crate::proofs::Lists::below_init_is, crate::proofs::Lists::below_last_is))]
+#[tactic(auto, using(
+    crate::proofs::Lists::stack_snoc,
+    crate::proofs::Lists::length_stack,
+    crate::proofs::Lists::below_snoc,
+    crate::proofs::Lists::below_init_is,
+    crate::proofs::Lists::below_last_is,
+))]
 pub fn bind(m: &mut Machine) -> Result<(), AllocError>
     requires sound { IsSound m.old }
     requires finds { CanMake i.Bind m.old }
     requires room { HasRoom m.old }
     ensures does { OnOk result (Makes i.Bind m.old m.new) }
-    ensures grew { OnOk result (Grew m.old m.new) }
+    ensures advances { OnOk result (Advances m.old m.new) }
     ensures stays { OnErr result (Stays m.old m.new) }
     ensures sound { IsSound m.new }
 {
@@ -83,7 +89,7 @@ pub fn unbind(m: &mut Machine, k: u32)
     requires finds { CanMake (i.Unbind k) m.old }
     requires room { HasRoom m.old }
     ensures does { Makes (i.Unbind k) m.old m.new }
-    ensures grew { Grew m.old m.new }
+    ensures advances { Advances m.old m.new }
     ensures sound { IsSound m.new }
 {
     let left = m.locals.len() - k as usize;
@@ -97,7 +103,7 @@ pub fn tick(m: &mut Machine, n: u32)
     requires sound { IsSound m.old }
     requires room { HasRoom m.old }
     ensures does { Makes (i.Tick n) m.old m.new }
-    ensures grew { Grew m.old m.new }
+    ensures advances { Advances m.old m.new }
     ensures sound { IsSound m.new }
 {
     m.ticks += n as u64;
@@ -110,7 +116,7 @@ pub fn jump(m: &mut Machine, to: u32)
     requires sound { IsSound m.old }
     requires room { HasRoom m.old }
     ensures does { Makes (i.Jump to) m.old m.new }
-    ensures grew { Grew m.old m.new }
+    ensures advances { Advances m.old m.new }
     ensures sound { IsSound m.new }
 {
     m.place = to as usize;
@@ -124,7 +130,7 @@ pub fn fork(m: &mut Machine, to: u32)
     requires finds { CanMake (i.Branch to) m.old }
     requires room { HasRoom m.old }
     ensures does { Makes (i.Branch to) m.old m.new }
-    ensures grew { Grew m.old m.new }
+    ensures advances { Advances m.old m.new }
     ensures sound { IsSound m.new }
 {
     m.made += 1;
@@ -136,13 +142,17 @@ pub fn fork(m: &mut Machine, to: u32)
 }
 
 /// Negates the truth on top.
-#[tactic(auto, using(crate::proofs::Lists::stack_snoc, crate::proofs::Lists::below_snoc, crate::proofs::Lists::below_init_is))]
+#[tactic(auto, using(
+    crate::proofs::Lists::stack_snoc,
+    crate::proofs::Lists::below_snoc,
+    crate::proofs::Lists::below_init_is,
+))]
 pub fn negate(m: &mut Machine)
     requires sound { IsSound m.old }
     requires finds { CanMake i.Not m.old }
     requires room { HasRoom m.old }
     ensures does { Makes i.Not m.old m.new }
-    ensures grew { Grew m.old m.new }
+    ensures advances { Advances m.old m.new }
     ensures sound { IsSound m.new }
 {
     let b = truth(&mut m.stack);
@@ -172,14 +182,18 @@ fn result_of(op: ArithOp, left: i64, right: i64) -> i64
 }
 
 /// Takes the right and the left operand, and pushes the result.
-#[tactic(auto, using(crate::proofs::Lists::stack_snoc, crate::proofs::Lists::below_snoc, crate::proofs::Lists::below_init_is))]
+#[tactic(auto, using(
+    crate::proofs::Lists::stack_snoc,
+    crate::proofs::Lists::below_snoc,
+    crate::proofs::Lists::below_init_is,
+))]
 #[inline(always)]
 pub fn arith(m: &mut Machine, op: ArithOp)
     requires sound { IsSound m.old }
     requires finds { TwoNumbers (stack_in m.old) }
     requires room { HasRoom m.old }
     ensures does { Operates (operated op) m.old m.new }
-    ensures grew { Grew m.old m.new }
+    ensures advances { Advances m.old m.new }
     ensures sound { IsSound m.new }
 {
     let right = number(&mut m.stack);
@@ -201,13 +215,17 @@ fn holds(op: CompareOp, left: i64, right: i64) -> bool
 }
 
 /// Takes the right and the left operand, and pushes whether the comparison holds.
-#[tactic(auto, using(crate::proofs::Lists::stack_snoc, crate::proofs::Lists::below_snoc, crate::proofs::Lists::below_init_is))]
+#[tactic(auto, using(
+    crate::proofs::Lists::stack_snoc,
+    crate::proofs::Lists::below_snoc,
+    crate::proofs::Lists::below_init_is,
+))]
 pub fn compare(m: &mut Machine, op: CompareOp)
     requires sound { IsSound m.old }
     requires finds { CanMake (i.Compare op) m.old }
     requires room { HasRoom m.old }
     ensures does { Makes (i.Compare op) m.old m.new }
-    ensures grew { Grew m.old m.new }
+    ensures advances { Advances m.old m.new }
     ensures sound { IsSound m.new }
 {
     let right = number(&mut m.stack);
@@ -225,7 +243,7 @@ fn push_cell(m: &mut Machine, cell: Cell)
     requires popped { vec_len m.old.stack < vec_capacity m.old.stack }
     requires room { HasRoom m.old }
     ensures does { PushesCell (value_held (held_of (held m.old.heap.cells) cell)) m.old m.new }
-    ensures grew { Grew m.old m.new }
+    ensures advances { Advances m.old m.new }
     ensures sound { IsSound m.new }
 {
     let number = m.heap.add(cell);
@@ -236,14 +254,19 @@ fn push_cell(m: &mut Machine, cell: Cell)
 }
 
 /// Takes a cell for a pair.
-#[tactic(auto, using(crate::proofs::Lists::stack_snoc, crate::proofs::Lists::length_stack, crate::proofs::Lists::below_init_is, crate::proofs::Lists::below_last_is))]
+#[tactic(auto, using(
+    crate::proofs::Lists::stack_snoc,
+    crate::proofs::Lists::length_stack,
+    crate::proofs::Lists::below_init_is,
+    crate::proofs::Lists::below_last_is,
+))]
 pub fn pair(m: &mut Machine)
     requires sound { IsSound m.old }
     requires finds { CanMake i.Pair m.old }
     requires free { m.old.cells < m.old.limit }
     requires room { HasRoom m.old }
     ensures does { Makes i.Pair m.old m.new }
-    ensures grew { Grew m.old m.new }
+    ensures advances { Advances m.old m.new }
     ensures sound { IsSound m.new }
 {
     let second = pop(&mut m.stack);
@@ -252,14 +275,19 @@ pub fn pair(m: &mut Machine)
 }
 
 /// Takes a cell for an element of a list.
-#[tactic(auto, using(crate::proofs::Lists::stack_snoc, crate::proofs::Lists::length_stack, crate::proofs::Lists::below_init_is, crate::proofs::Lists::below_last_is))]
+#[tactic(auto, using(
+    crate::proofs::Lists::stack_snoc,
+    crate::proofs::Lists::length_stack,
+    crate::proofs::Lists::below_init_is,
+    crate::proofs::Lists::below_last_is,
+))]
 pub fn cons(m: &mut Machine)
     requires sound { IsSound m.old }
     requires finds { CanMake i.Cons m.old }
     requires free { m.old.cells < m.old.limit }
     requires room { HasRoom m.old }
     ensures does { Makes i.Cons m.old m.new }
-    ensures grew { Grew m.old m.new }
+    ensures advances { Advances m.old m.new }
     ensures sound { IsSound m.new }
 {
     let tail = pop(&mut m.stack);
@@ -268,14 +296,19 @@ pub fn cons(m: &mut Machine)
 }
 
 /// Takes a cell for a node.
-#[tactic(auto, using(crate::proofs::Lists::stack_snoc, crate::proofs::Lists::length_stack, crate::proofs::Lists::below_init_is, crate::proofs::Lists::below_last_is))]
+#[tactic(auto, using(
+    crate::proofs::Lists::stack_snoc,
+    crate::proofs::Lists::length_stack,
+    crate::proofs::Lists::below_init_is,
+    crate::proofs::Lists::below_last_is,
+))]
 pub fn node(m: &mut Machine)
     requires sound { IsSound m.old }
     requires finds { CanMake i.Node m.old }
     requires free { m.old.cells < m.old.limit }
     requires room { HasRoom m.old }
     ensures does { Makes i.Node m.old m.new }
-    ensures grew { Grew m.old m.new }
+    ensures advances { Advances m.old m.new }
     ensures sound { IsSound m.new }
 {
     let right = pop(&mut m.stack);
@@ -285,14 +318,19 @@ pub fn node(m: &mut Machine)
 }
 
 /// Takes a cell for the content of `some`.
-#[tactic(auto, using(crate::proofs::Lists::stack_snoc, crate::proofs::Lists::length_stack, crate::proofs::Lists::below_init_is, crate::proofs::Lists::below_last_is))]
+#[tactic(auto, using(
+    crate::proofs::Lists::stack_snoc,
+    crate::proofs::Lists::length_stack,
+    crate::proofs::Lists::below_init_is,
+    crate::proofs::Lists::below_last_is,
+))]
 pub fn some(m: &mut Machine)
     requires sound { IsSound m.old }
     requires finds { CanMake i.Some m.old }
     requires free { m.old.cells < m.old.limit }
     requires room { HasRoom m.old }
     ensures does { Makes i.Some m.old m.new }
-    ensures grew { Grew m.old m.new }
+    ensures advances { Advances m.old m.new }
     ensures sound { IsSound m.new }
 {
     let content = pop(&mut m.stack);
@@ -305,7 +343,7 @@ pub fn unpair(m: &mut Machine) -> Result<(), AllocError>
     requires finds { CanMake i.Unpair m.old }
     requires room { HasRoom m.old }
     ensures does { OnOk result (Makes i.Unpair m.old m.new) }
-    ensures grew { OnOk result (Grew m.old m.new) }
+    ensures advances { OnOk result (Advances m.old m.new) }
     ensures stays { OnErr result (Stays m.old m.new) }
     ensures sound { IsSound m.new }
 {
@@ -325,7 +363,7 @@ pub fn case_list(m: &mut Machine, to: u32) -> Result<(), AllocError>
     requires finds { CanMake (i.CaseList to) m.old }
     requires room { HasRoom m.old }
     ensures does { OnOk result (Makes (i.CaseList to) m.old m.new) }
-    ensures grew { OnOk result (Grew m.old m.new) }
+    ensures advances { OnOk result (Advances m.old m.new) }
     ensures stays { OnErr result (Stays m.old m.new) }
     ensures sound { IsSound m.new }
 {
@@ -350,7 +388,7 @@ pub fn case_tree(m: &mut Machine, to: u32) -> Result<(), AllocError>
     requires finds { CanMake (i.CaseTree to) m.old }
     requires room { HasRoom m.old }
     ensures does { OnOk result (Makes (i.CaseTree to) m.old m.new) }
-    ensures grew { OnOk result (Grew m.old m.new) }
+    ensures advances { OnOk result (Advances m.old m.new) }
     ensures stays { OnErr result (Stays m.old m.new) }
     ensures sound { IsSound m.new }
 {
@@ -375,7 +413,7 @@ pub fn case_option(m: &mut Machine, to: u32) -> Result<(), AllocError>
     requires finds { CanMake (i.CaseOption to) m.old }
     requires room { HasRoom m.old }
     ensures does { OnOk result (Makes (i.CaseOption to) m.old m.new) }
-    ensures grew { OnOk result (Grew m.old m.new) }
+    ensures advances { OnOk result (Advances m.old m.new) }
     ensures stays { OnErr result (Stays m.old m.new) }
     ensures sound { IsSound m.new }
 {
