@@ -5,7 +5,7 @@ use Rattle.stack_compile.specs.Code.{Body}
 use Rattle.stack_compile.specs.Machine.{State, step, after}
 use Rattle.stack_compile.proofs.After.{after_add}
 use Rattle.metered_vm.specs.declared.machine.Machine.{Machine}
-use Rattle.metered_vm.specs.Running.{IsFront, Grew, state_of}
+use Rattle.metered_vm.specs.Running.{IsFront, Grew, counted, state_of}
 use Rattle.metered_vm.specs.Stepping.{Goes}
 
 -- one step behind the others
@@ -17,9 +17,13 @@ after_more code s t u n k l le one before last =
 front_on : (a b c : List Cell) → IsFront a b → IsFront b c → IsFront a c
 front_on a b c h k = (h.0 ++ k.0, k.1 ∙ ap (λ l. l ++ k.0) h.1 ∙ append_assoc a h.0 k.0)
 
--- and one step of a machine behind its others
-pub goes_on : (code : List Body) (steps : ℕ) (x y z : Machine) → state_of y ≡ after code (y.made - x.made) (state_of x) → Goes steps x y → y.made < steps → state_of z ≡ step code (state_of y) → Grew y z → (state_of z ≡ after code (z.made - x.made) (state_of x)) × Goes steps x z
+-- a machine whose last instruction is counted
+abbrev pub counts : Machine → Machine
+counts y = record y { made = y.made + 1 }
+
+-- one step of a machine behind its others
+pub goes_on : (code : List Body) (steps : ℕ) (x y z : Machine) → state_of y ≡ after code (y.made - x.made) (state_of x) → Goes steps x y → y.made < steps → counted (state_of z) ≡ step code (state_of y) → Grew y z → (state_of (counts z) ≡ after code (z.made + 1 - x.made) (state_of x)) × Goes steps x (counts z)
 goes_on code steps x y z before goes more does grew = (
-    after_more code _ _ _ x.made y.made z.made goes.0 grew.0 before does,
+    after_more code _ _ _ x.made y.made (z.made + 1) goes.0 (ap (λ n. n + 1) grew.0) before does,
     (omega (arith, goes, grew), omega (arith, grew, more), omega (arith, grew, goes), grew.2 ∙ goes.3, front_on _ _ _ goes.4 grew.3),
   )

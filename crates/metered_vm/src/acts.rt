@@ -39,7 +39,6 @@ pub fn push(m: &mut Machine, word: Word) -> Result<(), AllocError>
 {
     m.stack.push(word)?;
     m.place += 1;
-    m.made += 1;
     Ok(())
 }
 
@@ -78,7 +77,6 @@ pub fn bind(m: &mut Machine) -> Result<(), AllocError>
     let word = pop(&mut m.stack);
     put(&mut m.locals, word);
     m.place += 1;
-    m.made += 1;
     Ok(())
 }
 
@@ -95,7 +93,6 @@ pub fn unbind(m: &mut Machine, k: u32)
     let left = m.locals.len() - k as usize;
     m.locals.truncate(left);
     m.place += 1;
-    m.made += 1;
 }
 
 /// Adds ticks.
@@ -108,7 +105,6 @@ pub fn tick(m: &mut Machine, n: u32)
 {
     m.ticks += n as u64;
     m.place += 1;
-    m.made += 1;
 }
 
 /// Goes to a place.
@@ -120,7 +116,6 @@ pub fn jump(m: &mut Machine, to: u32)
     ensures sound { IsSound m.new }
 {
     m.place = to as usize;
-    m.made += 1;
 }
 
 /// Pops a truth, and goes to a place where it is false.
@@ -133,7 +128,6 @@ pub fn fork(m: &mut Machine, to: u32)
     ensures advances { Advances m.old m.new }
     ensures sound { IsSound m.new }
 {
-    m.made += 1;
     if truth(&mut m.stack) {
         m.place += 1;
     } else {
@@ -158,7 +152,6 @@ pub fn negate(m: &mut Machine)
     let b = truth(&mut m.stack);
     put(&mut m.stack, Word::Bool(!b));
     m.place += 1;
-    m.made += 1;
 }
 
 /// The result of an operator, brought into 64 bits.
@@ -200,7 +193,6 @@ pub fn arith(m: &mut Machine, op: ArithOp)
     let left = number(&mut m.stack);
     put(&mut m.stack, Word::Int(result_of(op, left, right)));
     m.place += 1;
-    m.made += 1;
 }
 
 /// Whether a comparison holds.
@@ -232,7 +224,6 @@ pub fn compare(m: &mut Machine, op: CompareOp)
     let left = number(&mut m.stack);
     put(&mut m.stack, Word::Bool(holds(op, left, right)));
     m.place += 1;
-    m.made += 1;
 }
 
 /// Takes a cell for the words that were popped, and pushes it.
@@ -250,7 +241,6 @@ fn push_cell(m: &mut Machine, cell: Cell)
     put(&mut m.stack, Word::Cell(number));
     m.cells += 1;
     m.place += 1;
-    m.made += 1;
 }
 
 /// Takes a cell for a pair.
@@ -353,7 +343,6 @@ pub fn unpair(m: &mut Machine) -> Result<(), AllocError>
     put(&mut m.locals, first);
     put(&mut m.locals, second);
     m.place += 1;
-    m.made += 1;
     Ok(())
 }
 
@@ -368,7 +357,6 @@ pub fn case_list(m: &mut Machine, to: u32) -> Result<(), AllocError>
     ensures sound { IsSound m.new }
 {
     m.locals.reserve(2)?;
-    m.made += 1;
     let word = pop(&mut m.stack);
     match list_parts(&m.heap, word) {
         Some((head, tail)) => {
@@ -393,7 +381,6 @@ pub fn case_tree(m: &mut Machine, to: u32) -> Result<(), AllocError>
     ensures sound { IsSound m.new }
 {
     m.locals.reserve(3)?;
-    m.made += 1;
     let word = pop(&mut m.stack);
     match tree_parts(&m.heap, word) {
         Some((element, left, right)) => {
@@ -418,7 +405,6 @@ pub fn case_option(m: &mut Machine, to: u32) -> Result<(), AllocError>
     ensures sound { IsSound m.new }
 {
     m.locals.reserve(1)?;
-    m.made += 1;
     let word = pop(&mut m.stack);
     match content(&m.heap, word) {
         Some(content) => {

@@ -54,7 +54,7 @@ fn is_full(m: &Machine) -> bool
     m.cells == m.limit
 }
 
-/// Makes the next instruction. The body is that of the machine's function.
+/// Makes the next instruction, which the caller counts. The body is that of the machine's function.
 #[tactic(auto, using(
     crate::proofs::Fetching::fetch_is,
     crate::proofs::Fetching::step_is,
@@ -65,7 +65,7 @@ fn step(code: &Code, body: &[Instr], m: &mut Machine) -> Result<Outcome, AllocEr
     requires body { body.now ≡ body_at (bodies_of (program_of code.now)) m.old }
     requires sound { IsSound m.old }
     requires ready { Ready (bodies_of (program_of code.now)) (state_of m.old).at }
-    requires room { (m.old.made + 1 < 2 ^ 64) × (m.old.ticks + 2 ^ 32 < 2 ^ 64) }
+    requires room { m.old.ticks + 2 ^ 32 < 2 ^ 64 }
     ensures does { IfOk result (Steps (bodies_of (program_of code.now)) m.old m.new) }
     ensures stays { OnErr result (Stays m.old m.new) }
     ensures sound { IsSound m.new }
@@ -145,9 +145,13 @@ pub fn run(code: &Code, m: &mut Machine, steps: u64) -> Result<End, AllocError>
         match step(code, current, m)? {
             Outcome::Made => {}
             Outcome::Moved => current = body(code, m),
-            Outcome::Halted(word) => return Ok(End::Halted { word }),
+            Outcome::Halted(word) => {
+                m.made += 1;
+                return Ok(End::Halted { word });
+            }
             Outcome::Full => return Ok(End::HeapFull),
         }
+        m.made += 1;
     }
     Ok(End::Stopped)
 }
