@@ -68,15 +68,23 @@ IsSound x = Sound x.heap x.stack.items x.locals.items x.base x.frames.items x.ce
 
 -- numbers have room for one more instruction
 abbrev pub HasRoom : Machine → Type 0
-HasRoom x = (x.place + 1 < 2 ^ 64) × (x.made + 1 < 2 ^ 64) × (x.ticks + 2 ^ 32 < 2 ^ 64)
+HasRoom x = (x.place + 1 < 2 ^ 64) × (x.ticks + 2 ^ 32 < 2 ^ 64)
 
 -- the first cells are a front of the others
 abbrev pub IsFront : List Cell → List Cell → Type 0
 IsFront cells all = (more : List Cell) × (all ≡ cells ++ more)
 
--- what an instruction does not do: take away cells, or add more than it may
+-- what an instruction does not do: count itself, take away cells, or add more than it may
 abbrev pub Grew : Machine → Machine → Type 0
-Grew x y = (y.made ≡ x.made + 1) × (y.ticks ≤ x.ticks + 2 ^ 32) × (y.limit ≡ x.limit) × IsFront x.heap.cells y.heap.cells
+Grew x y = (y.made ≡ x.made) × (y.ticks ≤ x.ticks + 2 ^ 32) × (y.limit ≡ x.limit) × IsFront x.heap.cells y.heap.cells
+
+-- and it stays in its function
+abbrev pub Advances : Machine → Machine → Type 0
+Advances x y = Grew x y × (y.fun ≡ x.fun)
+
+-- the state once one more instruction is counted
+abbrev pub counted : State → State
+counted s = record s { made = s.made + 1 }
 
 -- nothing is changed that is told
 abbrev pub Stays : Machine → Machine → Type 0

@@ -3,8 +3,10 @@ use Rattle.std.specs.Prelude.{◌≡◌, ℕ, ◌*◌, ◌^◌, ◌<◌, ◌≤�
 use Rattle.value_text.specs.Heap.{IsBelow}
 use Rattle.value_text.specs.declared.word.Word.{Word}
 use Rattle.stack_compile.specs.Code.{Body}
+use Rattle.stack_compile.specs.Read.{code_at}
+use Rattle.stack_compile.specs.declared.instr.Instr.{Instr}
 use Rattle.stack_compile.specs.Machine.{fetch, step}
-use Rattle.metered_vm.specs.Running.{state_of, halted_of, IsFront, Grew, Stays}
+use Rattle.metered_vm.specs.Running.{state_of, halted_of, counted, IsFront, Grew, Stays}
 use Rattle.metered_vm.specs.Moving.{TakesCell}
 use Rattle.metered_vm.specs.declared.machine.Machine.{Machine}
 use Rattle.metered_vm.specs.declared.steps.Outcome.{Outcome}
@@ -13,10 +15,15 @@ use Rattle.metered_vm.specs.declared.end.End.{End}
 use Rattle.metered_vm.specs.declared.end.End.TheVariants as e
 pub use Rattle.metered_vm.specs.Moving.{Came}
 
--- what a step does, by what comes of it
+-- the instructions of the machine's function
+abbrev pub body_at : List Body → Machine → List Instr
+body_at code x = code_at code x.fun.0
+
+-- what a step does, which is not counted yet, by what comes of it
 abbrev pub Steps : List Body → Machine → Machine → Outcome → Type 0
-Steps code x y o.Made = (state_of y ≡ step code (state_of x)) × Grew x y
-Steps code x y (o.Halted w) = (halted_of w y ≡ step code (state_of x)) × Grew x y × IsBelow (length y.heap.cells) w
+Steps code x y o.Made = (counted (state_of y) ≡ step code (state_of x)) × Grew x y × (y.fun ≡ x.fun)
+Steps code x y o.Moved = (counted (state_of y) ≡ step code (state_of x)) × Grew x y
+Steps code x y (o.Halted w) = (counted (halted_of w y) ≡ step code (state_of x)) × Grew x y × IsBelow (length y.heap.cells) w
 Steps code x y o.Full = Stays x y × (x.cells ≡ x.limit) × TakesCell (fetch code x.fun.0 x.place)
 
 -- the word with which a run has halted

@@ -7,7 +7,7 @@ ghost use Rattle.value_text.specs.Held.{value_of, value_held, held_of, held};
 ghost use Rattle.stack_compile.specs.Machine.{operated};
 ghost use Rattle.stack_compile.specs.Ready.{TwoNumbers};
 ghost use Rattle.stack_compile.specs.declared.instr.Instr.TheVariants as i;
-ghost use Rattle.metered_vm.specs.Running.{IsSound, HasRoom, Grew, Stays, stack_in};
+ghost use Rattle.metered_vm.specs.Running.{IsSound, HasRoom, Advances, Stays, stack_in};
 ghost use Rattle.metered_vm.specs.Moving.{CanMake, Makes, Pushes, PushesCell, Operates};
 
 use crate::machine::Machine;
@@ -33,13 +33,12 @@ pub fn push(m: &mut Machine, word: Word) -> Result<(), AllocError>
     requires below { IsBelow (length m.old.heap.cells) word }
     requires room { HasRoom m.old }
     ensures does { OnOk result (Pushes (value_of (held m.old.heap.cells) word) m.old m.new) }
-    ensures grew { OnOk result (Grew m.old m.new) }
+    ensures advances { OnOk result (Advances m.old m.new) }
     ensures stays { OnErr result (Stays m.old m.new) }
     ensures sound { IsSound m.new }
 {
     m.stack.push(word)?;
     m.place += 1;
-    m.made += 1;
     Ok(())
 }
 
@@ -49,7 +48,7 @@ pub fn load(m: &mut Machine, k: u32) -> Result<(), AllocError>
     requires finds { CanMake (i.Load k) m.old }
     requires room { HasRoom m.old }
     ensures does { OnOk result (Makes (i.Load k) m.old m.new) }
-    ensures grew { OnOk result (Grew m.old m.new) }
+    ensures advances { OnOk result (Advances m.old m.new) }
     ensures stays { OnErr result (Stays m.old m.new) }
     ensures sound { IsSound m.new }
 {
@@ -58,13 +57,19 @@ pub fn load(m: &mut Machine, k: u32) -> Result<(), AllocError>
 }
 
 /// Pops a word and appends it to the locals.
-#[tactic(auto, using(crate::proofs::Lists::stack_snoc, crate::proofs::Lists::length_stack, crate::proofs::Lists::below_snoc, crate::proofs::Lists::below_init_is, crate::proofs::Lists::below_last_is))]
+#[tactic(auto, using(
+    crate::proofs::Lists::stack_snoc,
+    crate::proofs::Lists::length_stack,
+    crate::proofs::Lists::below_snoc,
+    crate::proofs::Lists::below_init_is,
+    crate::proofs::Lists::below_last_is,
+))]
 pub fn bind(m: &mut Machine) -> Result<(), AllocError>
     requires sound { IsSound m.old }
     requires finds { CanMake i.Bind m.old }
     requires room { HasRoom m.old }
     ensures does { OnOk result (Makes i.Bind m.old m.new) }
-    ensures grew { OnOk result (Grew m.old m.new) }
+    ensures advances { OnOk result (Advances m.old m.new) }
     ensures stays { OnErr result (Stays m.old m.new) }
     ensures sound { IsSound m.new }
 {
@@ -72,7 +77,6 @@ pub fn bind(m: &mut Machine) -> Result<(), AllocError>
     let word = pop(&mut m.stack);
     put(&mut m.locals, word);
     m.place += 1;
-    m.made += 1;
     Ok(())
 }
 
@@ -83,13 +87,12 @@ pub fn unbind(m: &mut Machine, k: u32)
     requires finds { CanMake (i.Unbind k) m.old }
     requires room { HasRoom m.old }
     ensures does { Makes (i.Unbind k) m.old m.new }
-    ensures grew { Grew m.old m.new }
+    ensures advances { Advances m.old m.new }
     ensures sound { IsSound m.new }
 {
     let left = m.locals.len() - k as usize;
     m.locals.truncate(left);
     m.place += 1;
-    m.made += 1;
 }
 
 /// Adds ticks.
@@ -97,12 +100,11 @@ pub fn tick(m: &mut Machine, n: u32)
     requires sound { IsSound m.old }
     requires room { HasRoom m.old }
     ensures does { Makes (i.Tick n) m.old m.new }
-    ensures grew { Grew m.old m.new }
+    ensures advances { Advances m.old m.new }
     ensures sound { IsSound m.new }
 {
     m.ticks += n as u64;
     m.place += 1;
-    m.made += 1;
 }
 
 /// Goes to a place.
@@ -110,11 +112,10 @@ pub fn jump(m: &mut Machine, to: u32)
     requires sound { IsSound m.old }
     requires room { HasRoom m.old }
     ensures does { Makes (i.Jump to) m.old m.new }
-    ensures grew { Grew m.old m.new }
+    ensures advances { Advances m.old m.new }
     ensures sound { IsSound m.new }
 {
     m.place = to as usize;
-    m.made += 1;
 }
 
 /// Pops a truth, and goes to a place where it is false.
@@ -124,10 +125,9 @@ pub fn fork(m: &mut Machine, to: u32)
     requires finds { CanMake (i.Branch to) m.old }
     requires room { HasRoom m.old }
     ensures does { Makes (i.Branch to) m.old m.new }
-    ensures grew { Grew m.old m.new }
+    ensures advances { Advances m.old m.new }
     ensures sound { IsSound m.new }
 {
-    m.made += 1;
     if truth(&mut m.stack) {
         m.place += 1;
     } else {
@@ -136,19 +136,22 @@ pub fn fork(m: &mut Machine, to: u32)
 }
 
 /// Negates the truth on top.
-#[tactic(auto, using(crate::proofs::Lists::stack_snoc, crate::proofs::Lists::below_snoc, crate::proofs::Lists::below_init_is))]
+#[tactic(auto, using(
+    crate::proofs::Lists::stack_snoc,
+    crate::proofs::Lists::below_snoc,
+    crate::proofs::Lists::below_init_is,
+))]
 pub fn negate(m: &mut Machine)
     requires sound { IsSound m.old }
     requires finds { CanMake i.Not m.old }
     requires room { HasRoom m.old }
     ensures does { Makes i.Not m.old m.new }
-    ensures grew { Grew m.old m.new }
+    ensures advances { Advances m.old m.new }
     ensures sound { IsSound m.new }
 {
     let b = truth(&mut m.stack);
     put(&mut m.stack, Word::Bool(!b));
     m.place += 1;
-    m.made += 1;
 }
 
 /// The result of an operator, brought into 64 bits.
@@ -172,21 +175,24 @@ fn result_of(op: ArithOp, left: i64, right: i64) -> i64
 }
 
 /// Takes the right and the left operand, and pushes the result.
-#[tactic(auto, using(crate::proofs::Lists::stack_snoc, crate::proofs::Lists::below_snoc, crate::proofs::Lists::below_init_is))]
+#[tactic(auto, using(
+    crate::proofs::Lists::stack_snoc,
+    crate::proofs::Lists::below_snoc,
+    crate::proofs::Lists::below_init_is,
+))]
 #[inline(always)]
 pub fn arith(m: &mut Machine, op: ArithOp)
     requires sound { IsSound m.old }
     requires finds { TwoNumbers (stack_in m.old) }
     requires room { HasRoom m.old }
     ensures does { Operates (operated op) m.old m.new }
-    ensures grew { Grew m.old m.new }
+    ensures advances { Advances m.old m.new }
     ensures sound { IsSound m.new }
 {
     let right = number(&mut m.stack);
     let left = number(&mut m.stack);
     put(&mut m.stack, Word::Int(result_of(op, left, right)));
     m.place += 1;
-    m.made += 1;
 }
 
 /// Whether a comparison holds.
@@ -201,20 +207,23 @@ fn holds(op: CompareOp, left: i64, right: i64) -> bool
 }
 
 /// Takes the right and the left operand, and pushes whether the comparison holds.
-#[tactic(auto, using(crate::proofs::Lists::stack_snoc, crate::proofs::Lists::below_snoc, crate::proofs::Lists::below_init_is))]
+#[tactic(auto, using(
+    crate::proofs::Lists::stack_snoc,
+    crate::proofs::Lists::below_snoc,
+    crate::proofs::Lists::below_init_is,
+))]
 pub fn compare(m: &mut Machine, op: CompareOp)
     requires sound { IsSound m.old }
     requires finds { CanMake (i.Compare op) m.old }
     requires room { HasRoom m.old }
     ensures does { Makes (i.Compare op) m.old m.new }
-    ensures grew { Grew m.old m.new }
+    ensures advances { Advances m.old m.new }
     ensures sound { IsSound m.new }
 {
     let right = number(&mut m.stack);
     let left = number(&mut m.stack);
     put(&mut m.stack, Word::Bool(holds(op, left, right)));
     m.place += 1;
-    m.made += 1;
 }
 
 /// Takes a cell for the words that were popped, and pushes it.
@@ -225,25 +234,29 @@ fn push_cell(m: &mut Machine, cell: Cell)
     requires popped { vec_len m.old.stack < vec_capacity m.old.stack }
     requires room { HasRoom m.old }
     ensures does { PushesCell (value_held (held_of (held m.old.heap.cells) cell)) m.old m.new }
-    ensures grew { Grew m.old m.new }
+    ensures advances { Advances m.old m.new }
     ensures sound { IsSound m.new }
 {
     let number = m.heap.add(cell);
     put(&mut m.stack, Word::Cell(number));
     m.cells += 1;
     m.place += 1;
-    m.made += 1;
 }
 
 /// Takes a cell for a pair.
-#[tactic(auto, using(crate::proofs::Lists::stack_snoc, crate::proofs::Lists::length_stack, crate::proofs::Lists::below_init_is, crate::proofs::Lists::below_last_is))]
+#[tactic(auto, using(
+    crate::proofs::Lists::stack_snoc,
+    crate::proofs::Lists::length_stack,
+    crate::proofs::Lists::below_init_is,
+    crate::proofs::Lists::below_last_is,
+))]
 pub fn pair(m: &mut Machine)
     requires sound { IsSound m.old }
     requires finds { CanMake i.Pair m.old }
     requires free { m.old.cells < m.old.limit }
     requires room { HasRoom m.old }
     ensures does { Makes i.Pair m.old m.new }
-    ensures grew { Grew m.old m.new }
+    ensures advances { Advances m.old m.new }
     ensures sound { IsSound m.new }
 {
     let second = pop(&mut m.stack);
@@ -252,14 +265,19 @@ pub fn pair(m: &mut Machine)
 }
 
 /// Takes a cell for an element of a list.
-#[tactic(auto, using(crate::proofs::Lists::stack_snoc, crate::proofs::Lists::length_stack, crate::proofs::Lists::below_init_is, crate::proofs::Lists::below_last_is))]
+#[tactic(auto, using(
+    crate::proofs::Lists::stack_snoc,
+    crate::proofs::Lists::length_stack,
+    crate::proofs::Lists::below_init_is,
+    crate::proofs::Lists::below_last_is,
+))]
 pub fn cons(m: &mut Machine)
     requires sound { IsSound m.old }
     requires finds { CanMake i.Cons m.old }
     requires free { m.old.cells < m.old.limit }
     requires room { HasRoom m.old }
     ensures does { Makes i.Cons m.old m.new }
-    ensures grew { Grew m.old m.new }
+    ensures advances { Advances m.old m.new }
     ensures sound { IsSound m.new }
 {
     let tail = pop(&mut m.stack);
@@ -268,14 +286,19 @@ pub fn cons(m: &mut Machine)
 }
 
 /// Takes a cell for a node.
-#[tactic(auto, using(crate::proofs::Lists::stack_snoc, crate::proofs::Lists::length_stack, crate::proofs::Lists::below_init_is, crate::proofs::Lists::below_last_is))]
+#[tactic(auto, using(
+    crate::proofs::Lists::stack_snoc,
+    crate::proofs::Lists::length_stack,
+    crate::proofs::Lists::below_init_is,
+    crate::proofs::Lists::below_last_is,
+))]
 pub fn node(m: &mut Machine)
     requires sound { IsSound m.old }
     requires finds { CanMake i.Node m.old }
     requires free { m.old.cells < m.old.limit }
     requires room { HasRoom m.old }
     ensures does { Makes i.Node m.old m.new }
-    ensures grew { Grew m.old m.new }
+    ensures advances { Advances m.old m.new }
     ensures sound { IsSound m.new }
 {
     let right = pop(&mut m.stack);
@@ -285,14 +308,19 @@ pub fn node(m: &mut Machine)
 }
 
 /// Takes a cell for the content of `some`.
-#[tactic(auto, using(crate::proofs::Lists::stack_snoc, crate::proofs::Lists::length_stack, crate::proofs::Lists::below_init_is, crate::proofs::Lists::below_last_is))]
+#[tactic(auto, using(
+    crate::proofs::Lists::stack_snoc,
+    crate::proofs::Lists::length_stack,
+    crate::proofs::Lists::below_init_is,
+    crate::proofs::Lists::below_last_is,
+))]
 pub fn some(m: &mut Machine)
     requires sound { IsSound m.old }
     requires finds { CanMake i.Some m.old }
     requires free { m.old.cells < m.old.limit }
     requires room { HasRoom m.old }
     ensures does { Makes i.Some m.old m.new }
-    ensures grew { Grew m.old m.new }
+    ensures advances { Advances m.old m.new }
     ensures sound { IsSound m.new }
 {
     let content = pop(&mut m.stack);
@@ -305,7 +333,7 @@ pub fn unpair(m: &mut Machine) -> Result<(), AllocError>
     requires finds { CanMake i.Unpair m.old }
     requires room { HasRoom m.old }
     ensures does { OnOk result (Makes i.Unpair m.old m.new) }
-    ensures grew { OnOk result (Grew m.old m.new) }
+    ensures advances { OnOk result (Advances m.old m.new) }
     ensures stays { OnErr result (Stays m.old m.new) }
     ensures sound { IsSound m.new }
 {
@@ -315,7 +343,6 @@ pub fn unpair(m: &mut Machine) -> Result<(), AllocError>
     put(&mut m.locals, first);
     put(&mut m.locals, second);
     m.place += 1;
-    m.made += 1;
     Ok(())
 }
 
@@ -325,12 +352,11 @@ pub fn case_list(m: &mut Machine, to: u32) -> Result<(), AllocError>
     requires finds { CanMake (i.CaseList to) m.old }
     requires room { HasRoom m.old }
     ensures does { OnOk result (Makes (i.CaseList to) m.old m.new) }
-    ensures grew { OnOk result (Grew m.old m.new) }
+    ensures advances { OnOk result (Advances m.old m.new) }
     ensures stays { OnErr result (Stays m.old m.new) }
     ensures sound { IsSound m.new }
 {
     m.locals.reserve(2)?;
-    m.made += 1;
     let word = pop(&mut m.stack);
     match list_parts(&m.heap, word) {
         Some((head, tail)) => {
@@ -350,12 +376,11 @@ pub fn case_tree(m: &mut Machine, to: u32) -> Result<(), AllocError>
     requires finds { CanMake (i.CaseTree to) m.old }
     requires room { HasRoom m.old }
     ensures does { OnOk result (Makes (i.CaseTree to) m.old m.new) }
-    ensures grew { OnOk result (Grew m.old m.new) }
+    ensures advances { OnOk result (Advances m.old m.new) }
     ensures stays { OnErr result (Stays m.old m.new) }
     ensures sound { IsSound m.new }
 {
     m.locals.reserve(3)?;
-    m.made += 1;
     let word = pop(&mut m.stack);
     match tree_parts(&m.heap, word) {
         Some((element, left, right)) => {
@@ -375,12 +400,11 @@ pub fn case_option(m: &mut Machine, to: u32) -> Result<(), AllocError>
     requires finds { CanMake (i.CaseOption to) m.old }
     requires room { HasRoom m.old }
     ensures does { OnOk result (Makes (i.CaseOption to) m.old m.new) }
-    ensures grew { OnOk result (Grew m.old m.new) }
+    ensures advances { OnOk result (Advances m.old m.new) }
     ensures stays { OnErr result (Stays m.old m.new) }
     ensures sound { IsSound m.new }
 {
     m.locals.reserve(1)?;
-    m.made += 1;
     let word = pop(&mut m.stack);
     match content(&m.heap, word) {
         Some(content) => {

@@ -5,8 +5,8 @@ ghost use Rattle.stack_compile.specs.Code.{bodies_of};
 ghost use Rattle.stack_compile.specs.Ready.{HasArguments};
 ghost use Rattle.stack_compile.specs.declared.instr.Instr.TheVariants as i;
 ghost use Rattle.value_text.specs.Heap.{IsBelow};
-ghost use Rattle.metered_vm.specs.Running.{IsSound, HasRoom, Grew, Stays, stack_in, state_of};
-ghost use Rattle.metered_vm.specs.Moving.{CanMake, Came, acts, calls};
+ghost use Rattle.metered_vm.specs.Running.{IsSound, HasRoom, Grew, Stays, counted, stack_in, state_of};
+ghost use Rattle.metered_vm.specs.Moving.{CanMake, Comes, acts, calls};
 
 use crate::machine::{Frame, Machine};
 use crate::operands::pop;
@@ -20,7 +20,7 @@ pub fn call(code: &Code, m: &mut Machine, fun: FunId) -> Result<(), AllocError>
     requires sound { IsSound m.old }
     requires finds { HasArguments (slice_get (bodies_of (program_of code.now)) fun.0) (stack_in m.old) }
     requires room { HasRoom m.old }
-    ensures does { OnOk result (state_of m.new ≡ calls (bodies_of (program_of code.now)) fun (state_of m.old)) }
+    ensures does { OnOk result (counted (state_of m.new) ≡ calls (bodies_of (program_of code.now)) fun (state_of m.old)) }
     ensures grew { OnOk result (Grew m.old m.new) }
     ensures stays { OnErr result (Stays m.old m.new) }
     ensures sound { IsSound m.new }
@@ -40,7 +40,6 @@ pub fn call(code: &Code, m: &mut Machine, fun: FunId) -> Result<(), AllocError>
     m.base = base;
     m.fun = fun;
     m.place = 0;
-    m.made += 1;
     Ok(())
 }
 
@@ -50,12 +49,11 @@ pub fn leave(m: &mut Machine) -> Option<Word>
     requires sound { IsSound m.old }
     requires finds { CanMake i.Return m.old }
     requires room { HasRoom m.old }
-    ensures does { Came result m.new (acts i.Return (state_of m.old)) }
+    ensures does { Comes result m.new (acts i.Return (state_of m.old)) }
     ensures word { IfSome result (IsBelow (length m.new.heap.cells)) }
     ensures grew { Grew m.old m.new }
     ensures sound { IsSound m.new }
 {
-    m.made += 1;
     match m.frames.pop() {
         Some(frame) => {
             m.locals.truncate(m.base);

@@ -1,18 +1,18 @@
 // Steps and runs of a machine that goes on.
-ghost use Rattle.std.specs.Prelude.{◌≡◌, ℕ, ◌+◌, ◌-◌, ◌*◌, ◌^◌, ◌<◌, ◌≤◌, ◌↔◌, Some, IsTrue, IfOk, OnErr};
+ghost use Rattle.std.specs.Prelude.{◌≡◌, ℕ, ◌+◌, ◌-◌, ◌*◌, ◌^◌, ◌<◌, ◌≤◌, ◌↔◌, Some, slice_get, IsTrue, IfOk, OnErr};
 ghost use Rattle.raml_syntax.specs.Read.{program_of};
 ghost use Rattle.stack_compile.specs.Code.{bodies_of};
-ghost use Rattle.stack_compile.specs.Machine.{fetch, after};
+ghost use Rattle.stack_compile.specs.Machine.{after};
 ghost use Rattle.stack_compile.specs.Ready.{Ready};
 ghost use Rattle.stack_compile.specs.declared.instr.Instr.{Instr};
 ghost use Rattle.metered_vm.specs.Running.{IsSound, Stays, state_of};
-ghost use Rattle.metered_vm.specs.Stepping.{Steps, Came, EndsAt, Goes, word_of};
+ghost use Rattle.metered_vm.specs.Stepping.{Steps, Came, EndsAt, Goes, word_of, body_at};
 
 use crate::acts;
 use crate::calls::{call, leave};
 use crate::end::End;
 use crate::machine::Machine;
-use raml_syntax::{ArithOp, FunId};
+use raml_syntax::ArithOp;
 use stack_compile::{Code, Instr};
 use std::alloc::AllocError;
 use value_text::Word;
@@ -21,20 +21,30 @@ use value_text::Word;
 pub enum Outcome {
     /// The instruction is made.
     Made,
+    /// It is made, and the next one may be of another function.
+    Moved,
     /// It is made, and the machine has halted with the word.
     Halted(Word),
     /// It takes a cell, and none is left.
     Full,
 }
 
-/// The instruction at a place of a function.
-#[tactic(auto, using(crate::proofs::Fetching::fetched))]
-fn fetch(code: &Code, fun: FunId, place: usize) -> Instr
-    requires { (i : Instr) × (fetch (bodies_of (program_of code.now)) fun.0 place ≡ Some i) }
-    ensures is { fetch (bodies_of (program_of code.now)) fun.0 place ≡ Some result }
+/// The instructions of the machine's function.
+#[tactic(auto, using(crate::proofs::Fetching::function_there))]
+fn body<'c>(code: &'c Code<'_>, m: &Machine) -> &'c [Instr]
+    requires { Ready (bodies_of (program_of code.now)) (state_of m.now).at }
+    ensures { result.now ≡ body_at (bodies_of (program_of code.now)) m.now }
+{
+    code.body(m.fun)
+}
+
+/// The instruction at a place.
+fn fetch(body: &[Instr], place: usize) -> Instr
+    requires { (i : Instr) × (slice_get body.now place ≡ Some i) }
+    ensures is { slice_get body.now place ≡ Some result }
     ensures fits { place + 1 < 2 ^ 64 }
 {
-    code.body(fun)[place]
+    body[place]
 }
 
 /// Whether no cell is left.
@@ -44,17 +54,23 @@ fn is_full(m: &Machine) -> bool
     m.cells == m.limit
 }
 
-/// Makes the next instruction.
-#[tactic(auto, using(crate::proofs::Fetching::step_is, crate::proofs::Fetching::finds_at, crate::proofs::Fetching::there_at))]
-fn step(code: &Code, m: &mut Machine) -> Result<Outcome, AllocError>
+/// Makes the next instruction, which the caller counts. The body is that of the machine's function.
+#[tactic(auto, using(
+    crate::proofs::Fetching::fetch_is,
+    crate::proofs::Fetching::step_is,
+    crate::proofs::Fetching::finds_at,
+    crate::proofs::Fetching::there_at,
+))]
+fn step(code: &Code, body: &[Instr], m: &mut Machine) -> Result<Outcome, AllocError>
+    requires body { body.now ≡ body_at (bodies_of (program_of code.now)) m.old }
     requires sound { IsSound m.old }
     requires ready { Ready (bodies_of (program_of code.now)) (state_of m.old).at }
-    requires room { (m.old.made + 1 < 2 ^ 64) × (m.old.ticks + 2 ^ 32 < 2 ^ 64) }
+    requires room { m.old.ticks + 2 ^ 32 < 2 ^ 64 }
     ensures does { IfOk result (Steps (bodies_of (program_of code.now)) m.old m.new) }
     ensures stays { OnErr result (Stays m.old m.new) }
     ensures sound { IsSound m.new }
 {
-    match fetch(code, m.fun, m.place) {
+    match fetch(body, m.place) {
         Instr::Int(n) => acts::push(m, Word::Int(n))?,
         Instr::Bool(b) => acts::push(m, Word::Bool(b))?,
         Instr::Empty => acts::push(m, Word::Empty)?,
@@ -98,11 +114,15 @@ fn step(code: &Code, m: &mut Machine) -> Result<Outcome, AllocError>
         Instr::CaseOption(to) => acts::case_option(m, to)?,
         Instr::Branch(to) => acts::fork(m, to),
         Instr::Jump(to) => acts::jump(m, to),
-        Instr::Call(fun) => call(code, m, fun)?,
+        Instr::Call(fun) => {
+            call(code, m, fun)?;
+            return Ok(Outcome::Moved);
+        }
         Instr::Return => {
-            if let Some(word) = leave(m) {
-                return Ok(Outcome::Halted(word));
-            }
+            return Ok(match leave(m) {
+                Some(word) => Outcome::Halted(word),
+                None => Outcome::Moved,
+            });
         }
         Instr::Tick(n) => acts::tick(m, n),
     }
@@ -120,12 +140,18 @@ pub fn run(code: &Code, m: &mut Machine, steps: u64) -> Result<End, AllocError>
     ensures goes { Goes steps m.old m.new }
     ensures sound { IsSound m.new }
 {
+    let mut current = body(code, m);
     while m.made < steps {
-        match step(code, m)? {
+        match step(code, current, m)? {
             Outcome::Made => {}
-            Outcome::Halted(word) => return Ok(End::Halted { word }),
+            Outcome::Moved => current = body(code, m),
+            Outcome::Halted(word) => {
+                m.made += 1;
+                return Ok(End::Halted { word });
+            }
             Outcome::Full => return Ok(End::HeapFull),
         }
+        m.made += 1;
     }
     Ok(End::Stopped)
 }

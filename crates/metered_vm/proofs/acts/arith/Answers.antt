@@ -22,7 +22,7 @@ returns-clause-does c =
     let result : Number _ ≡ Number (int_wrap w64 (arith_result c.args.op c.number-left.result c.number-right.result)) = ap Number (to_z-of_z w64 _ fits ∙ is) in
     let two = both_popped hs rest _ x.stack.items _ _ c.number-right.ensures.items c.number-left.ensures.items in
     let one = popped_is hs rest _ _ c.put.ensures.items ∙ ap (λ v. v ∷ stack_of hs rest []) result in
-    ap (λ l. state (Going x.fun.0 (x.place + 1) l (locals_in x) (frames_in x)) x.ticks x.cells (x.made + 1)) (one ∙ sym (ap (operated c.args.op) two))
+    ap (λ l. state (Going x.fun.0 (x.place + 1) l (locals_in x) (frames_in x)) x.ticks x.cells x.made) (one ∙ sym (ap (operated c.args.op) two))
 
 pub returns-clause-sound : goal.returns-clause-sound
 returns-clause-sound c =

@@ -9,7 +9,7 @@ returns-clause-does c =
     let x = c.args.m.now in
     let h = c.requires.sound in
     let new = celled x.heap.cells _ c.args.cell x.stack.items _ x.locals.items c.add-number.result h.earlier h.stack h.locals c.requires.names c.add-number.ensures.cells c.add-number.ensures.number c.put.ensures.items in
-    λ i. state (Going x.fun.0 (x.place + 1) (new.stack i) (drop x.base (new.locals i)) (frames_of (new.locals i) x.frames.items [])) x.ticks (x.cells + 1) (x.made + 1)
+    λ i. state (Going x.fun.0 (x.place + 1) (new.stack i) (drop x.base (new.locals i)) (frames_of (new.locals i) x.frames.items [])) x.ticks (x.cells + 1) x.made
 
 pub returns-clause-sound : goal.returns-clause-sound
 returns-clause-sound c =

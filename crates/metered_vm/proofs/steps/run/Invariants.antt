@@ -3,7 +3,7 @@ use Rattle.raml_syntax.specs.Read.{program_of}
 use Rattle.stack_compile.specs.Code.{bodies_of}
 use Rattle.stack_compile.specs.Machine.{after}
 use Rattle.metered_vm.specs.Running.{IsSound, state_of}
-use Rattle.metered_vm.specs.Stepping.{Goes}
+use Rattle.metered_vm.specs.Stepping.{Goes, body_at}
 use Rattle.metered_vm.proofs.steps.run.Given as goal
 
 abbrev pub invariant-loop-m : goal.invariant-loop-m
@@ -11,6 +11,7 @@ invariant-loop-m l = record {
   state : state_of l.m ≡ after (bodies_of (program_of l.code)) (l.m.made - l.fn.m.made) (state_of l.fn.m);
   goes : Goes l.steps l.fn.m l.m;
   sound : IsSound l.m;
+  body : l.current ≡ body_at (bodies_of (program_of l.code)) l.m;
 }
 
 abbrev pub decreases-loop-m : goal.decreases-loop-m
