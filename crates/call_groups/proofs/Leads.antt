@@ -7,7 +7,7 @@ use Rattle.call_groups.specs.Groups.{Reaches, here, there}
 use Rattle.call_groups.specs.Sets.{Members, with_one, joined}
 use Rattle.call_groups.specs.Table.{Table, row_at, through_row, through, through_all, call_table}
 use Rattle.call_groups.proofs.Marks.{table_calls, table_count, calls_low}
-use Rattle.call_groups.proofs.Tests.{same, or_none, or_left, or_right, or_cases, and_both, and_left, and_right}
+use Rattle.call_groups.proofs.Truths.{same, or_none, or_left, or_right, or_cases, and_both, and_left, and_right}
 
 row_through : (k : ℕ) (middle : Members) (rows : Table) (i : ℕ) → row_at (map (through_row k middle) rows) i ≡ through_row k middle (row_at rows i)
 row_through k middle [] i = refl

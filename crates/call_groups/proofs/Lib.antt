@@ -3,4 +3,4 @@ pub mod Lists
 pub mod Marks
 pub mod Ordered
 pub mod Sets
-pub mod Tests
+pub mod Truths

@@ -6,10 +6,13 @@ use Rattle.std.specs.Prelude.{nat_eq, nat_lt, not, ◌||◌, ◌&&◌}
 use Rattle.std.specs.List.{filter, range_with_len}
 use Rattle.raml_syntax.specs.Tree.{Prog}
 use Rattle.call_groups.specs.Groups.{Reaches, here, Together, MayCome, Ascends, ComesNext, AreInOrder}
+use Rattle.call_groups.specs.declared.function_set.FunctionSet.{FunctionSet}
+use Rattle.call_groups.specs.Read.{rows_of}
 use Rattle.call_groups.specs.Sets.{Members, none, joined, below}
 use Rattle.call_groups.specs.Table.{Table, row_at, waits, group, Waiting, IsReady, IsNext, NoneIsReady, Front, Placed}
 use Rattle.call_groups.proofs.Leads.{led, led_sound, led_complete, leads, leads_sound, leads_complete, reaches_low, reaches_more}
-use Rattle.call_groups.proofs.Tests.{same, clash, or_left, or_right, or_cases, and_both, and_left, and_right, not_true, true_not, which}
+use Rattle.call_groups.proofs.Lists.{rows_length}
+use Rattle.call_groups.proofs.Truths.{same, clash, or_left, or_right, or_cases, and_both, and_left, and_right, not_true, true_not, which}
 
 contains_none : {X : Type 0} (x : X) → Contains [] x → ⊥
 contains_none x h = absurd (omega (arith, h.1))
@@ -182,12 +185,22 @@ module _ (rows : Table) (n : ℕ) where
   ready_as : (ws vs : ℕ → Members) (placed : Members) (f : ℕ) → ws f ≡ vs f → IsReady ws placed f → IsReady vs placed f
   ready_as ws vs placed f e r = record { new = r.new; served = λ g h. r.served g (ap (λ m. m g) e ∙ h) }
 
-  pub next_as : (waiting : Table) (m : ℕ) (placed : Members) (f : ℕ) → Waiting rows n waiting → m ≡ n → IsNext (row_at waiting) m placed f → IsNext (waits rows) n placed f
-  next_as waiting m placed f w e h = record {
-    low = let l = h.low in omega arith;
-    ready = ready_as (row_at waiting) (waits rows) placed f (w.each f (let l = h.low in omega arith)) h.ready;
-    first = λ g lt r. h.first g lt (ready_as (waits rows) (row_at waiting) placed g (sym (w.each g (let l = h.low in omega arith))) r);
+  -- what the table says is so of the sets
+  pub next_read : (made read : List FunctionSet) (placed : Members) (f : ℕ) → Waiting rows n (rows_of made) → read ≡ made → IsNext (row_at (rows_of read)) (length read) placed f → IsNext (waits rows) n placed f
+  next_read made read placed f waiting same h = record {
+    low = low f h.low;
+    ready = ready_as (row_at (rows_of read)) (waits rows) placed f (each f (low f h.low)) h.ready;
+    first = λ g lt r. h.first g lt (ready_as (waits rows) (row_at (rows_of read)) placed g (sym (each g (let l = low f h.low in omega arith))) r);
   }
+    where
+      w : Waiting rows n (rows_of read)
+      w = subst (λ ws. Waiting rows n (rows_of ws)) (sym same) waiting
+
+      each : (g : ℕ) → g < n → row_at (rows_of read) g ≡ waits rows g
+      each g lt = w.each g lt
+
+      low : (g : ℕ) → g < length read → g < n
+      low g lt = let count = rows_length read in let len = w.len in omega arith
 
   front_more : (gs : List (List ℕ)) (placed last : Members) (f : ℕ) → Front rows n placed gs last → IsNext (waits rows) n last f → Front rows n placed (gs ++ below n (group rows f) ∷ []) (joined last (group rows f))
   front_more [] placed last f h next = (f, subst (λ p. IsNext (waits rows) n p f) (sym h) next, refl, ap (λ p. joined p (group rows f)) h)

@@ -5,7 +5,7 @@ use Rattle.std.proofs.lemmas.Nat.Bits.{bit_at_or, bit_at_and, bit_at_not, bit_at
 use Rattle.std.specs.Int.{bit_at, bit_not, w128}
 use Rattle.call_groups.specs.declared.function_set.FunctionSet.{FunctionSet}
 use Rattle.call_groups.specs.Sets.{Members, has_bit, has, none, with_one, joined, shared, without, IsSubset}
-use Rattle.call_groups.proofs.Tests.{same, clash, or_none, and_both, true_not}
+use Rattle.call_groups.proofs.Truths.{same, clash, or_none, and_both, true_not}
 
 -- One word
 

@@ -1,4 +1,4 @@
--- Tests of truths.
+-- Truths.
 use Rattle.std.proofs.Common.{◌≡◌, ℕ, Bool, true, false, not, ◌||◌, ◌&&◌, nat_eq, ◌⊎◌, inl, inr, refl}
 use Rattle.std.proofs.lemmas.Bool.{eq-eqb}
 
