@@ -117,14 +117,19 @@ fn groups_come_in_their_order(rt: HostRuntime) -> Result<(), Fail> {
     Ok(())
 }
 
+/// The function of this number, which calls the one of that number.
+fn numbered(alloc: Global, fun: usize, callee: usize) -> Result<Fun, AllocError> {
+    let name = format!(in alloc; "f{fun}")?;
+    let callee = format!(in alloc; "f{callee}")?;
+    function(alloc, name.as_str(), &[callee.as_str()])
+}
+
 /// Functions in a ring, each of which calls the one before it.
 fn ring(alloc: Global, count: usize) -> Result<Program, AllocError> {
     let mut funs = Vec::new(alloc);
     let mut before = count;
     for fun in 1..=count {
-        let name = format!(in alloc; "f{fun}")?;
-        let callee = format!(in alloc; "f{before}")?;
-        funs.push(function(alloc, name.as_str(), &[callee.as_str()])?)?;
+        funs.push(numbered(alloc, fun, before)?)?;
         before = fun;
     }
     Ok(Program { funs })
