@@ -1,0 +1,7 @@
+//! Bodies of functions in which each operand is a variable: step one of the normal form.
+#![tactic(auto)]
+
+mod found;
+mod maker;
+mod scope;
+mod types;
