@@ -3,5 +3,6 @@
 
 mod found;
 mod maker;
+mod operand;
 mod scope;
 mod types;
