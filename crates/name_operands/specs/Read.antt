@@ -1,5 +1,5 @@
 -- What scopes, wanted types and operands are as plain data.
-use Rattle.std.specs.Prelude.{[], ◌∷◌}
+use Rattle.std.specs.Prelude.{[], ◌∷◌, ◌++◌, ◌+◌, length, Option, Some}
 use Rattle.std.specs.Global.{Box}
 use Rattle.raml_syntax.specs.Tree as t
 use Rattle.raml_syntax.specs.Tree.{Type', Prog}
@@ -34,3 +34,20 @@ norm_in e = norm_of e.value
 -- the type that is found for an expression where it stands
 abbrev pub found_in : Env → t.Term → Type'
 found_in env e = one.found (program_in env) (one.types_in (scope_in env.scope.now)) e
+
+-- the form of an expression where it stands
+abbrev pub form_at : Env → Option Type' → t.Term → n.Norm
+form_at env want e = one.one (program_in env) want (scope_in env.scope.now) e env.free
+
+-- what stands for an operand there
+abbrev pub operand_at : Env → Option Type' → t.Term → one.Operand
+operand_at env want e = one.operand_in (program_in env) want (scope_in env.scope.now) e env.free
+
+-- the form of an expression below more variables, the newest first
+abbrev pub form_below : Env → one.Scope → Option Type' → t.Term → n.Norm
+form_below env locals want e = one.one (program_in env) want (locals ++ scope_in env.scope.now) e env.free
+
+-- the form of the other branch of a match, below the names of its pattern: it is of the type of the first branch
+abbrev pub other_below : Env → one.Scope → Option Type' → t.Term → t.Term → n.Norm
+other_below env locals want first e =
+    one.one (program_in env) (Some (one.type_of (program_in env) want (scope_in env.scope.now) first)) (locals ++ scope_in env.scope.now) e (env.free + length locals)
