@@ -1,36 +1,17 @@
-// The types that are found for expressions.
-ghost use Rattle.std.specs.Prelude.{◌≡◌, ◌∷◌, IfOk, slice_get};
-ghost use Rattle.std.specs.Option.{option_map, option_copied};
-ghost use Rattle.raml_syntax.specs.Read.{ty_of, term_of, bound_of, function_of, program_of};
+// The types that are found for expressions. The numbers of variables do not matter here.
+ghost use Rattle.std.specs.Prelude.{◌≡◌, ◌∷◌, IfOk};
+ghost use Rattle.raml_syntax.specs.Read.{ty_of, term_of, bound_of};
 ghost use Rattle.raml_syntax.specs.Tree as t;
 ghost use Rattle.raml_syntax.specs.Eval.{find};
 ghost use Rattle.normal_form.specs.One as one;
-ghost use Rattle.name_operands.specs.Types.{lent, wanted};
 ghost use Rattle.name_operands.specs.Read.{program_in, scope_in, found_in, named};
 
+use crate::functions::function_named;
 use crate::maker::Maker;
 use crate::scope::{Env, Local, Scope};
 use crate::types::TyRef;
-use function_names::FunctionNames;
-use raml_syntax::{Binder, Expr, Form, Fun, FunId, Name, Program, Ty};
+use raml_syntax::{Binder, Expr, Form, Name, Ty};
 use std::alloc::AllocError;
-
-/// The function at a place of the program.
-fn function_at(program: &Program, fun: FunId) -> Option<&Fun>
-    ensures { option_map function_of (option_copied result) ≡ slice_get (program_of program.now) fun.0 }
-{
-    program.funs.get(fun.0 as usize)
-}
-
-/// The first function of this name.
-pub fn function_named<'a>(names: &FunctionNames<'a>, name: &str) -> Option<&'a Fun>
-    ensures { option_map function_of (option_copied result) ≡ find name.now (program_of names.now.program.now) }
-{
-    match names.find(name) {
-        Some(fun) => function_at(names.program, fun),
-        None => None,
-    }
-}
 
 /// The type of the results of the function of this name.
 fn result_type<'s, 'a>(env: Env<'s, 'a>, maker: &mut Maker, name: &Name) -> Result<Ty, AllocError>
@@ -43,11 +24,7 @@ fn result_type<'s, 'a>(env: Env<'s, 'a>, maker: &mut Maker, name: &Name) -> Resu
 }
 
 /// The type of the variable of this name.
-fn variable_type<'s, 'a>(
-    env: Env<'s, 'a>,
-    maker: &mut Maker,
-    name: &Name,
-) -> Result<Ty, AllocError>
+fn variable_type<'s, 'a>(env: Env<'s, 'a>, maker: &mut Maker, name: &Name) -> Result<Ty, AllocError>
     ensures { IfOk result (λ ty. ty_of ty ≡ found_in env.entry (t.Var 0 name.now)) }
 {
     match env.scope.type_of(name.text()) {
@@ -148,7 +125,7 @@ fn found_let_pair<'s, 'a>(
     found_below_two(env, maker, first, second, rest)
 }
 
-/// The type that is found below one more variable. Numbers do not matter.
+/// The type that is found below one more variable.
 #[cycle(found)]
 fn found_below<'s, 'a>(
     env: Env<'s, 'a>,
@@ -162,11 +139,9 @@ fn found_below<'s, 'a>(
         local,
         outer: env.scope,
     };
-    let names = env.names;
     let inner = Env {
-        names,
         scope: &scope,
-        free: env.free,
+        ..env
     };
     found(inner, maker, e)
 }
@@ -186,11 +161,9 @@ fn found_below_two<'s, 'a>(
         local: first,
         outer: env.scope,
     };
-    let names = env.names;
     let inner = Env {
-        names,
         scope: &scope,
-        free: env.free,
+        ..env
     };
     found_below(inner, maker, second, e)
 }

@@ -112,7 +112,7 @@ impl Maker {
     }
 
     /// A form with its nodes.
-    pub fn form(&mut self, nodes: u32, form: NormForm) -> Result<Box<NormExpr>, AllocError>
+    pub fn form(&self, nodes: u32, form: NormForm) -> Result<Box<NormExpr>, AllocError>
         ensures { IfOk result (λ e. norm_in e ≡ form_of form nodes) }
     {
         Ok(Box::new(self.alloc, NormExpr { nodes, form })?)

@@ -129,10 +129,7 @@ fn name_operand<'s, 'a>(
             let form = name_expr(env, maker, want, e)?;
             let ty = type_of(env, maker, want, e)?;
             let number = env.free;
-            Ok(Operand::Binds(Box::new(
-                maker.alloc,
-                Binding { number, ty, form },
-            )?))
+            Ok(Operand::Binds(Box::new(maker.alloc, Binding { number, ty, form })?))
         }
     }
 }

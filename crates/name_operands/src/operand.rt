@@ -39,7 +39,7 @@ pub fn plus(left: u32, right: u32) -> Result<u32, AllocError>
 
 impl Operand {
     /// The variable.
-    pub fn name(&self) -> u32
+    pub fn variable(&self) -> u32
         ensures { result ≡ one.name (operand_of self.now) }
     {
         match self {
@@ -69,7 +69,7 @@ impl Operand {
     }
 
     /// Binds the operand before a form, where it is a new variable.
-    fn wrap(self, maker: &mut Maker, rest: Box<NormExpr>) -> Result<Box<NormExpr>, AllocError>
+    fn wrap(self, maker: &Maker, rest: Box<NormExpr>) -> Result<Box<NormExpr>, AllocError>
         ensures { IfOk result (λ e. norm_in e ≡ one.wrap (operand_of self) (norm_in rest)) }
     {
         match self {
@@ -80,11 +80,7 @@ impl Operand {
 }
 
 /// Binds a variable before a form.
-fn bind(
-    maker: &mut Maker,
-    binding: Binding,
-    rest: Box<NormExpr>,
-) -> Result<Box<NormExpr>, AllocError>
+fn bind(maker: &Maker, binding: Binding, rest: Box<NormExpr>) -> Result<Box<NormExpr>, AllocError>
     ensures { IfOk result (λ e. norm_in e ≡ n.Let 0 binding.number (ty_of binding.ty) (norm_in binding.form) (norm_in rest)) }
 {
     let Binding { number, ty, form } = binding;
@@ -92,14 +88,14 @@ fn bind(
 }
 
 /// The variables of operands.
-pub fn names(alloc: Global, operands: &[Operand]) -> Result<Vec<u32>, AllocError>
-    ensures { IfOk result (λ names. names.items ≡ map one.name (operands_of operands.now)) }
+pub fn variables_of(alloc: Global, operands: &[Operand]) -> Result<Vec<u32>, AllocError>
+    ensures { IfOk result (λ variables. variables.items ≡ map one.name (operands_of operands.now)) }
 {
-    let mut names = Vec::new(alloc);
+    let mut variables = Vec::new(alloc);
     for operand in operands {
-        names.push(operand.name())?;
+        variables.push(operand.variable())?;
     }
-    Ok(names)
+    Ok(variables)
 }
 
 /// The nodes of all operands that their form carries.
@@ -116,7 +112,7 @@ fn bare_all(operands: &[Operand]) -> Result<u32, AllocError>
 /// Binds operands in order before a form.
 #[tactic(auto, using(crate::proofs::Carried::wrap_all_push))]
 fn wrap_all(
-    maker: &mut Maker,
+    maker: &Maker,
     operands: Vec<Operand>,
     rest: Box<NormExpr>,
 ) -> Result<Box<NormExpr>, AllocError>
@@ -140,53 +136,57 @@ pub fn carry(nodes: u32, mut e: Box<NormExpr>) -> Result<Box<NormExpr>, AllocErr
 }
 
 /// A form of one operand, which is bound before it.
-pub fn close_one(maker: &mut Maker, x: Operand, form: NormForm) -> Result<Box<NormExpr>, AllocError>
-    ensures { IfOk result (λ e. norm_in e ≡ n.carries (1 + one.bare (operand_of x)) (one.wrap (operand_of x) (form_of form 0))) }
+pub fn close_one(
+    maker: &Maker,
+    operand: Operand,
+    form: NormForm,
+) -> Result<Box<NormExpr>, AllocError>
+    ensures { IfOk result (λ e. norm_in e ≡ one.with_one (λ x. form_of form 0) (operand_of operand)) }
 {
     let last = maker.form(0, form)?;
-    let nodes = plus(1, x.bare())?;
-    carry(nodes, x.wrap(maker, last)?)
+    let nodes = plus(1, operand.bare())?;
+    carry(nodes, operand.wrap(maker, last)?)
 }
 
 /// A form of two operands, which are bound before it in order.
 pub fn close_two(
-    maker: &mut Maker,
-    x: Operand,
-    y: Operand,
+    maker: &Maker,
+    first: Operand,
+    second: Operand,
     form: NormForm,
 ) -> Result<Box<NormExpr>, AllocError>
-    ensures { IfOk result (λ e. norm_in e ≡ n.carries (1 + (one.bare (operand_of x) + one.bare (operand_of y))) (one.wrap (operand_of x) (one.wrap (operand_of y) (form_of form 0)))) }
+    ensures { IfOk result (λ e. norm_in e ≡ one.with_two (λ x y. form_of form 0) (operand_of first) (operand_of second)) }
 {
     let last = maker.form(0, form)?;
-    let nodes = plus(1, plus(x.bare(), y.bare())?)?;
-    let inner = y.wrap(maker, last)?;
-    carry(nodes, x.wrap(maker, inner)?)
+    let nodes = plus(1, plus(first.bare(), second.bare())?)?;
+    let inner = second.wrap(maker, last)?;
+    carry(nodes, first.wrap(maker, inner)?)
 }
 
 /// A form of three operands, which are bound before it in order.
 pub fn close_three(
-    maker: &mut Maker,
-    x: Operand,
-    y: Operand,
-    z: Operand,
+    maker: &Maker,
+    first: Operand,
+    second: Operand,
+    third: Operand,
     form: NormForm,
 ) -> Result<Box<NormExpr>, AllocError>
-    ensures { IfOk result (λ e. norm_in e ≡ n.carries (1 + (one.bare (operand_of x) + (one.bare (operand_of y) + one.bare (operand_of z)))) (one.wrap (operand_of x) (one.wrap (operand_of y) (one.wrap (operand_of z) (form_of form 0))))) }
+    ensures { IfOk result (λ e. norm_in e ≡ one.with_three (λ x y z. form_of form 0) (operand_of first) (operand_of second) (operand_of third)) }
 {
     let last = maker.form(0, form)?;
-    let nodes = plus(1, plus(x.bare(), plus(y.bare(), z.bare())?)?)?;
-    let inmost = z.wrap(maker, last)?;
-    let inner = y.wrap(maker, inmost)?;
-    carry(nodes, x.wrap(maker, inner)?)
+    let nodes = plus(1, plus(first.bare(), plus(second.bare(), third.bare())?)?)?;
+    let inmost = third.wrap(maker, last)?;
+    let middle = second.wrap(maker, inmost)?;
+    carry(nodes, first.wrap(maker, middle)?)
 }
 
 /// A form of any operands, which are bound before it in order.
 pub fn close_all(
-    maker: &mut Maker,
+    maker: &Maker,
     operands: Vec<Operand>,
     form: NormForm,
 ) -> Result<Box<NormExpr>, AllocError>
-    ensures { IfOk result (λ e. norm_in e ≡ n.carries (1 + one.bare_all (operands_of operands.items)) (one.wrap_all (operands_of operands.items) (form_of form 0))) }
+    ensures { IfOk result (λ e. norm_in e ≡ one.with_all (λ xs. form_of form 0) (operands_of operands.items)) }
 {
     let last = maker.form(0, form)?;
     let nodes = plus(1, bare_all(&operands)?)?;

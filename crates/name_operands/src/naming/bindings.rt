@@ -31,9 +31,8 @@ pub fn name_below_one<'s, 'a>(
         outer: env.scope,
     };
     let inner = Env {
-        names: env.names,
         scope: &scope,
-        free: env.free,
+        ..env
     };
     name_expr(inner, maker, want, e)
 }
@@ -55,9 +54,8 @@ pub fn name_below_two<'s, 'a>(
         outer: env.scope,
     };
     let inner = Env {
-        names: env.names,
         scope: &scope,
-        free: env.free,
+        ..env
     };
     name_below_one(inner, maker, want, second, e)
 }
@@ -80,13 +78,13 @@ pub fn name_below_three<'s, 'a>(
         outer: env.scope,
     };
     let inner = Env {
-        names: env.names,
         scope: &scope,
-        free: env.free,
+        ..env
     };
     name_below_two(inner, maker, want, second, third, e)
 }
 
+/// The form of `let x = bound in rest`.
 #[cycle(naming)]
 pub fn name_let<'s, 'a>(
     env: Env<'s, 'a>,
@@ -110,6 +108,7 @@ pub fn name_let<'s, 'a>(
     maker.form(1, NormForm::Let(env.free, ty, form, rest))
 }
 
+/// The form of `let (x, y) = bound in rest`.
 #[cycle(naming)]
 pub fn name_let_pair<'s, 'a>(
     env: Env<'s, 'a>,
@@ -138,6 +137,6 @@ pub fn name_let_pair<'s, 'a>(
         ty: TyRef::Of(&ty).second_part(),
     };
     let rest = name_below_two(Env { free, ..env }, maker, want, first, second, rest)?;
-    let form = NormForm::Split(pair.name(), first_number, second_number, rest);
+    let form = NormForm::Split(pair.variable(), first_number, second_number, rest);
     close_one(maker, pair, form)
 }

@@ -18,6 +18,7 @@ use normal_form::{NormExpr, NormForm};
 use raml_syntax::{Binder, Expr};
 use std::alloc::AllocError;
 
+/// The form of `if condition then yes else no`.
 #[cycle(naming)]
 pub fn name_if<'s, 'a>(
     env: Env<'s, 'a>,
@@ -35,7 +36,7 @@ pub fn name_if<'s, 'a>(
     let first = name_expr(inner, maker, want, yes)?;
     let ty = type_of(inner, maker, want, yes)?;
     let second = name_expr(inner, maker, Some(TyRef::Of(&ty)), no)?;
-    let form = NormForm::If(condition.name(), first, second);
+    let form = NormForm::If(condition.variable(), first, second);
     close_one(maker, condition, form)
 }
 
@@ -62,6 +63,7 @@ fn list_form<'s, 'a>(
     Ok(NormForm::CaseList(list, first, head.number, tail.number, second))
 }
 
+/// The form of a match on a list.
 #[cycle(naming)]
 pub fn name_match_list<'s, 'a>(
     env: Env<'s, 'a>,
@@ -91,7 +93,7 @@ pub fn name_match_list<'s, 'a>(
         ty: TyRef::Of(&ty),
     };
     let inner = Env { free, ..env };
-    let form = list_form(inner, maker, want, list.name(), empty, head, tail, rest)?;
+    let form = list_form(inner, maker, want, list.variable(), empty, head, tail, rest)?;
     close_one(maker, list, form)
 }
 
@@ -127,6 +129,7 @@ fn tree_form<'s, 'a>(
     ))
 }
 
+/// The form of a match on a tree.
 #[cycle(naming)]
 pub fn name_match_tree<'s, 'a>(
     env: Env<'s, 'a>,
@@ -163,7 +166,17 @@ pub fn name_match_tree<'s, 'a>(
         ty: TyRef::Of(&ty),
     };
     let inner = Env { free, ..env };
-    let form = tree_form(inner, maker, want, tree.name(), empty, element, left, right, rest)?;
+    let form = tree_form(
+        inner,
+        maker,
+        want,
+        tree.variable(),
+        empty,
+        element,
+        left,
+        right,
+        rest,
+    )?;
     close_one(maker, tree, form)
 }
 
@@ -189,6 +202,7 @@ fn option_form<'s, 'a>(
     Ok(NormForm::CaseOption(option, first, content.number, second))
 }
 
+/// The form of a match on an option.
 #[cycle(naming)]
 pub fn name_match_option<'s, 'a>(
     env: Env<'s, 'a>,
@@ -211,6 +225,6 @@ pub fn name_match_option<'s, 'a>(
         ty: TyRef::Of(&ty).element(),
     };
     let inner = Env { free, ..env };
-    let form = option_form(inner, maker, want, option.name(), empty, content, rest)?;
+    let form = option_form(inner, maker, want, option.variable(), empty, content, rest)?;
     close_one(maker, option, form)
 }

@@ -14,6 +14,7 @@ use normal_form::{NormExpr, NormForm, NormOp};
 use raml_syntax::{ArithOp, CompareOp, Expr};
 use std::alloc::AllocError;
 
+/// The form of an arithmetic operator.
 #[cycle(naming)]
 pub fn name_arith<'s, 'a>(
     env: Env<'s, 'a>,
@@ -27,10 +28,11 @@ pub fn name_arith<'s, 'a>(
     let left = name_operand(env, maker, Some(TyRef::Int), left)?;
     let free = left.after(env.free)?;
     let right = name_operand(Env { free, ..env }, maker, Some(TyRef::Int), right)?;
-    let form = NormForm::Op(NormOp::Arith(op, left.name(), right.name()));
+    let form = NormForm::Op(NormOp::Arith(op, left.variable(), right.variable()));
     close_two(maker, left, right, form)
 }
 
+/// The form of a comparison.
 #[cycle(naming)]
 pub fn name_compare<'s, 'a>(
     env: Env<'s, 'a>,
@@ -44,10 +46,11 @@ pub fn name_compare<'s, 'a>(
     let left = name_operand(env, maker, Some(TyRef::Int), left)?;
     let free = left.after(env.free)?;
     let right = name_operand(Env { free, ..env }, maker, Some(TyRef::Int), right)?;
-    let form = NormForm::Op(NormOp::Compare(op, left.name(), right.name()));
+    let form = NormForm::Op(NormOp::Compare(op, left.variable(), right.variable()));
     close_two(maker, left, right, form)
 }
 
+/// The form of `not part`.
 #[cycle(naming)]
 pub fn name_not<'s, 'a>(
     env: Env<'s, 'a>,
@@ -57,10 +60,11 @@ pub fn name_not<'s, 'a>(
     ensures { IfOk result (λ named. norm_in named ≡ form_at env.entry None (t.Not 0 (term_of part.now))) }
 {
     let part = name_operand(env, maker, Some(TyRef::Bool), part)?;
-    let form = NormForm::Op(NormOp::Not(part.name()));
+    let form = NormForm::Op(NormOp::Not(part.variable()));
     close_one(maker, part, form)
 }
 
+/// The form of a pair.
 #[cycle(naming)]
 pub fn name_pair<'s, 'a>(
     env: Env<'s, 'a>,
@@ -74,10 +78,11 @@ pub fn name_pair<'s, 'a>(
     let first = name_operand(env, maker, first_of(want), first)?;
     let free = first.after(env.free)?;
     let second = name_operand(Env { free, ..env }, maker, second_of(want), second)?;
-    let form = NormForm::Pair(first.name(), second.name());
+    let form = NormForm::Pair(first.variable(), second.variable());
     close_two(maker, first, second, form)
 }
 
+/// The form of `head :: tail`.
 #[cycle(naming)]
 pub fn name_cons<'s, 'a>(
     env: Env<'s, 'a>,
@@ -93,10 +98,11 @@ pub fn name_cons<'s, 'a>(
     let head = name_operand(env, maker, element_of(want), head)?;
     let free = head.after(env.free)?;
     let tail = name_operand(Env { free, ..env }, maker, Some(TyRef::Of(&list)), tail)?;
-    let form = NormForm::Cons(head.name(), tail.name());
+    let form = NormForm::Cons(head.variable(), tail.variable());
     close_two(maker, head, tail, form)
 }
 
+/// The form of a node of a tree.
 #[cycle(naming)]
 pub fn name_node<'s, 'a>(
     env: Env<'s, 'a>,
@@ -115,10 +121,11 @@ pub fn name_node<'s, 'a>(
     let left = name_operand(Env { free, ..env }, maker, Some(TyRef::Of(&tree)), left)?;
     let free = left.after(free)?;
     let right = name_operand(Env { free, ..env }, maker, Some(TyRef::Of(&tree)), right)?;
-    let form = NormForm::Node(element.name(), left.name(), right.name());
+    let form = NormForm::Node(element.variable(), left.variable(), right.variable());
     close_three(maker, element, left, right, form)
 }
 
+/// The form of `some` of its content.
 #[cycle(naming)]
 pub fn name_just<'s, 'a>(
     env: Env<'s, 'a>,
@@ -129,10 +136,11 @@ pub fn name_just<'s, 'a>(
     ensures { IfOk result (λ named. norm_in named ≡ form_at env.entry (wanted want.entry) (t.Just 0 (term_of content.now))) }
 {
     let content = name_operand(env, maker, element_of(want), content)?;
-    let form = NormForm::Just(content.name());
+    let form = NormForm::Just(content.variable());
     close_one(maker, content, form)
 }
 
+/// The form of `tick ticks in rest`.
 #[cycle(naming)]
 pub fn name_tick<'s, 'a>(
     env: Env<'s, 'a>,

@@ -81,5 +81,5 @@ decreases-matches::name_match_option l = 8 * (nodes (term_of l.subject.now) + no
 abbrev pub invariant-calls::name_arguments-loop-arg : goal.invariant-calls::name_arguments-loop-arg
 invariant-calls::name_arguments-loop-arg l =
     (operands_of l.operands.items ++ one.operands (program_in l.env) (scope_in l.env.scope.now) (terms_of (drop l.arg-index l.args)) (types_in l.rest) l.free
-        ≡ one.operands (program_in l.env) (scope_in l.env.scope.now) (terms_of l.args) (types_in l.params) l.env.free)
+    ≡ one.operands (program_in l.env) (scope_in l.env.scope.now) (terms_of l.args) (types_in l.params) l.env.free)
     × (nodes_of_all (terms_of (drop l.arg-index l.args)) ≤ nodes_of_all (terms_of l.args))
