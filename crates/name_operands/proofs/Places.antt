@@ -1,5 +1,5 @@
 -- At the place of a name stands the function that is found for it.
-use Rattle.std.proofs.Common.{◌≡◌, ◌∙◌, ℕ, Option, Some, None, sym}
+use Rattle.std.proofs.Common.{◌≡◌, ◌∙◌, ℕ, Some, None, sym}
 use Rattle.std.specs.Prelude.{slice_get}
 use Rattle.raml_syntax.specs.Tree.{Text, Prog}
 use Rattle.raml_syntax.specs.Eval.{find}

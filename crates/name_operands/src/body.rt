@@ -61,7 +61,7 @@ fn name_below_params<'s, 'a>(
 }
 
 /// The body of a function, in which each operand is a variable: step one of its normal form. Memory is
-/// wanting too where its types have more than 2^23 nodes in all, or where a number leaves 32 bits.
+/// wanting too where more than 2^23 nodes of types would be made on the way, or a number would leave 32 bits.
 pub fn name_operands<'a>(
     alloc: Global,
     names: &FunctionNames<'a>,

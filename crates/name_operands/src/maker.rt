@@ -11,7 +11,7 @@ use normal_form::{NormExpr, NormForm};
 use raml_syntax::Ty;
 use std::alloc::{AllocError, Global};
 
-/// How many nodes of types one function's form may take.
+/// How many nodes of types may be made for one function.
 const MOST_TYPE_NODES: u32 = 1 << 23;
 
 /// Makes types and forms. A program may double a type at each `let`, so the nodes of types are counted;
@@ -24,6 +24,7 @@ pub struct Maker {
 }
 
 impl Maker {
+    /// One for the form of one function.
     pub fn new(alloc: Global) -> Maker {
         Maker {
             alloc,
@@ -113,7 +114,7 @@ impl Maker {
 
     /// A form with its nodes.
     pub fn form(&self, nodes: u32, form: NormForm) -> Result<Box<NormExpr>, AllocError>
-        ensures { IfOk result (λ e. norm_in e ≡ form_of form nodes) }
+        ensures { IfOk result (λ made. norm_in made ≡ form_of form nodes) }
     {
         Ok(Box::new(self.alloc, NormExpr { nodes, form })?)
     }

@@ -79,7 +79,7 @@ pub fn name_expr<'s, 'a>(
     want: Option<TyRef>,
     e: &'a Expr,
 ) -> Result<Box<NormExpr>, AllocError>
-    ensures { IfOk result (λ named. norm_in named ≡ form_at env.entry (wanted want.entry) (term_of e.now)) }
+    ensures { IfOk result (λ made. norm_in made ≡ form_at env.entry (wanted want.entry) (term_of e.now)) }
 {
     match &e.form {
         Form::Number(number) => maker.form(1, NormForm::Const(Const::Number(*number))),

@@ -70,7 +70,7 @@ impl Operand {
 
     /// Binds the operand before a form, where it is a new variable.
     fn wrap(self, maker: &Maker, rest: Box<NormExpr>) -> Result<Box<NormExpr>, AllocError>
-        ensures { IfOk result (λ e. norm_in e ≡ one.wrap (operand_of self) (norm_in rest)) }
+        ensures { IfOk result (λ made. norm_in made ≡ one.wrap (operand_of self) (norm_in rest)) }
     {
         match self {
             Operand::Is(_) => Ok(rest),
@@ -81,7 +81,7 @@ impl Operand {
 
 /// Binds a variable before a form.
 fn bind(maker: &Maker, binding: Binding, rest: Box<NormExpr>) -> Result<Box<NormExpr>, AllocError>
-    ensures { IfOk result (λ e. norm_in e ≡ n.Let 0 binding.number (ty_of binding.ty) (norm_in binding.form) (norm_in rest)) }
+    ensures { IfOk result (λ made. norm_in made ≡ n.Let 0 binding.number (ty_of binding.ty) (norm_in binding.form) (norm_in rest)) }
 {
     let Binding { number, ty, form } = binding;
     maker.form(0, NormForm::Let(number, ty, form, rest))
@@ -113,12 +113,11 @@ fn bare_all(operands: &[Operand]) -> Result<u32, AllocError>
 #[tactic(auto, using(crate::proofs::Carried::wrap_all_push))]
 fn wrap_all(
     maker: &Maker,
-    operands: Vec<Operand>,
+    mut operands: Vec<Operand>,
     rest: Box<NormExpr>,
 ) -> Result<Box<NormExpr>, AllocError>
-    ensures { IfOk result (λ e. norm_in e ≡ one.wrap_all (operands_of operands.items) (norm_in rest)) }
+    ensures { IfOk result (λ made. norm_in made ≡ one.wrap_all (operands_of operands.items) (norm_in rest)) }
 {
-    let mut operands = operands;
     let mut made = rest;
     while let Some(operand) = operands.pop() {
         made = operand.wrap(maker, made)?;
@@ -141,7 +140,7 @@ pub fn close_one(
     operand: Operand,
     form: NormForm,
 ) -> Result<Box<NormExpr>, AllocError>
-    ensures { IfOk result (λ e. norm_in e ≡ one.with_one (λ x. form_of form 0) (operand_of operand)) }
+    ensures { IfOk result (λ made. norm_in made ≡ one.with_one (λ x. form_of form 0) (operand_of operand)) }
 {
     let last = maker.form(0, form)?;
     let nodes = plus(1, operand.bare())?;
@@ -155,7 +154,7 @@ pub fn close_two(
     second: Operand,
     form: NormForm,
 ) -> Result<Box<NormExpr>, AllocError>
-    ensures { IfOk result (λ e. norm_in e ≡ one.with_two (λ x y. form_of form 0) (operand_of first) (operand_of second)) }
+    ensures { IfOk result (λ made. norm_in made ≡ one.with_two (λ x y. form_of form 0) (operand_of first) (operand_of second)) }
 {
     let last = maker.form(0, form)?;
     let nodes = plus(1, plus(first.bare(), second.bare())?)?;
@@ -171,7 +170,7 @@ pub fn close_three(
     third: Operand,
     form: NormForm,
 ) -> Result<Box<NormExpr>, AllocError>
-    ensures { IfOk result (λ e. norm_in e ≡ one.with_three (λ x y z. form_of form 0) (operand_of first) (operand_of second) (operand_of third)) }
+    ensures { IfOk result (λ made. norm_in made ≡ one.with_three (λ x y z. form_of form 0) (operand_of first) (operand_of second) (operand_of third)) }
 {
     let last = maker.form(0, form)?;
     let nodes = plus(1, plus(first.bare(), plus(second.bare(), third.bare())?)?)?;
@@ -186,7 +185,7 @@ pub fn close_all(
     operands: Vec<Operand>,
     form: NormForm,
 ) -> Result<Box<NormExpr>, AllocError>
-    ensures { IfOk result (λ e. norm_in e ≡ one.with_all (λ xs. form_of form 0) (operands_of operands.items)) }
+    ensures { IfOk result (λ made. norm_in made ≡ one.with_all (λ xs. form_of form 0) (operands_of operands.items)) }
 {
     let last = maker.form(0, form)?;
     let nodes = plus(1, bare_all(&operands)?)?;

@@ -24,7 +24,7 @@ pub fn name_call<'s, 'a>(
     function: &'a Name,
     args: &'a [Expr],
 ) -> Result<Box<NormExpr>, AllocError>
-    ensures { IfOk result (λ named. norm_in named ≡ form_at env.entry None (t.Call 0 function.now (terms_of args.now))) }
+    ensures { IfOk result (λ made. norm_in made ≡ form_at env.entry None (t.Call 0 function.now (terms_of args.now))) }
 {
     let place = place_named(env.names, function.text())?;
     let params = params_named(env.names, function.text());

@@ -23,7 +23,7 @@ pub fn name_arith<'s, 'a>(
     left: &'a Expr,
     right: &'a Expr,
 ) -> Result<Box<NormExpr>, AllocError>
-    ensures { IfOk result (λ named. norm_in named ≡ form_at env.entry None (t.Arith 0 op (term_of left.now) (term_of right.now))) }
+    ensures { IfOk result (λ made. norm_in made ≡ form_at env.entry None (t.Arith 0 op (term_of left.now) (term_of right.now))) }
 {
     let left = name_operand(env, maker, Some(TyRef::Int), left)?;
     let free = left.after(env.free)?;
@@ -41,7 +41,7 @@ pub fn name_compare<'s, 'a>(
     left: &'a Expr,
     right: &'a Expr,
 ) -> Result<Box<NormExpr>, AllocError>
-    ensures { IfOk result (λ named. norm_in named ≡ form_at env.entry None (t.Compare 0 op (term_of left.now) (term_of right.now))) }
+    ensures { IfOk result (λ made. norm_in made ≡ form_at env.entry None (t.Compare 0 op (term_of left.now) (term_of right.now))) }
 {
     let left = name_operand(env, maker, Some(TyRef::Int), left)?;
     let free = left.after(env.free)?;
@@ -57,7 +57,7 @@ pub fn name_not<'s, 'a>(
     maker: &mut Maker,
     part: &'a Expr,
 ) -> Result<Box<NormExpr>, AllocError>
-    ensures { IfOk result (λ named. norm_in named ≡ form_at env.entry None (t.Not 0 (term_of part.now))) }
+    ensures { IfOk result (λ made. norm_in made ≡ form_at env.entry None (t.Not 0 (term_of part.now))) }
 {
     let part = name_operand(env, maker, Some(TyRef::Bool), part)?;
     let form = NormForm::Op(NormOp::Not(part.variable()));
@@ -73,7 +73,7 @@ pub fn name_pair<'s, 'a>(
     first: &'a Expr,
     second: &'a Expr,
 ) -> Result<Box<NormExpr>, AllocError>
-    ensures { IfOk result (λ named. norm_in named ≡ form_at env.entry (wanted want.entry) (t.Pair 0 (term_of first.now) (term_of second.now))) }
+    ensures { IfOk result (λ made. norm_in made ≡ form_at env.entry (wanted want.entry) (t.Pair 0 (term_of first.now) (term_of second.now))) }
 {
     let first = name_operand(env, maker, first_of(want), first)?;
     let free = first.after(env.free)?;
@@ -91,7 +91,7 @@ pub fn name_cons<'s, 'a>(
     head: &'a Expr,
     tail: &'a Expr,
 ) -> Result<Box<NormExpr>, AllocError>
-    ensures { IfOk result (λ named. norm_in named ≡ form_at env.entry (wanted want.entry) (t.Cons 0 (term_of head.now) (term_of tail.now))) }
+    ensures { IfOk result (λ made. norm_in made ≡ form_at env.entry (wanted want.entry) (t.Cons 0 (term_of head.now) (term_of tail.now))) }
 {
     let element = type_of(env, maker, element_of(want), head)?;
     let list = maker.list(element)?;
@@ -112,7 +112,7 @@ pub fn name_node<'s, 'a>(
     left: &'a Expr,
     right: &'a Expr,
 ) -> Result<Box<NormExpr>, AllocError>
-    ensures { IfOk result (λ named. norm_in named ≡ form_at env.entry (wanted want.entry) (t.Node 0 (term_of element.now) (term_of left.now) (term_of right.now))) }
+    ensures { IfOk result (λ made. norm_in made ≡ form_at env.entry (wanted want.entry) (t.Node 0 (term_of element.now) (term_of left.now) (term_of right.now))) }
 {
     let item = type_of(env, maker, element_of(want), element)?;
     let tree = maker.tree(item)?;
@@ -133,7 +133,7 @@ pub fn name_just<'s, 'a>(
     want: Option<TyRef>,
     content: &'a Expr,
 ) -> Result<Box<NormExpr>, AllocError>
-    ensures { IfOk result (λ named. norm_in named ≡ form_at env.entry (wanted want.entry) (t.Just 0 (term_of content.now))) }
+    ensures { IfOk result (λ made. norm_in made ≡ form_at env.entry (wanted want.entry) (t.Just 0 (term_of content.now))) }
 {
     let content = name_operand(env, maker, element_of(want), content)?;
     let form = NormForm::Just(content.variable());
@@ -149,7 +149,7 @@ pub fn name_tick<'s, 'a>(
     ticks: u32,
     rest: &'a Expr,
 ) -> Result<Box<NormExpr>, AllocError>
-    ensures { IfOk result (λ named. norm_in named ≡ form_at env.entry (wanted want.entry) (t.Tick 0 ticks (term_of rest.now))) }
+    ensures { IfOk result (λ made. norm_in made ≡ form_at env.entry (wanted want.entry) (t.Tick 0 ticks (term_of rest.now))) }
 {
     let rest = name_expr(env, maker, want, rest)?;
     maker.form(1, NormForm::Tick(ticks, rest))
