@@ -95,15 +95,15 @@ gathered xs ys zs operands us bound vs same all more x =
 -- the free variables of a form by those of its part
 pub shows_one : (s t : Frees) (xs operands bound us : List ℕ) (a : n.Norm) → AreGathered xs operands [] bound us → own t ≡ xs → us ≡ own s → first t ≡ s → Shows s a → ShowsOne t operands bound a
 shows_one s t xs operands bound us a all here there is shows = record {
-    form = λ x. ap (among x) here ∙ all x ∙ ap (λ b. among x operands || (not (among x bound) && b)) (ap (among x) there ∙ shows.0 x);
-    part = subst (λ u. Shows u a) (sym is) shows
-  }
+  form = λ x. ap (among x) here ∙ all x ∙ ap (λ b. among x operands || (not (among x bound) && b)) (ap (among x) there ∙ shows.0 x);
+  part = subst (λ u. Shows u a) (sym is) shows;
+}
 
 -- and by those of its parts
 pub shows_two : (r s t : Frees) (xs operands us bound vs : List ℕ) (a b : n.Norm) → AreGathered xs operands us bound vs → own t ≡ xs → us ≡ own r → vs ≡ own s → first t ≡ r → second t ≡ s → Shows r a → Shows s b
     → ShowsTwo t operands a bound b
 shows_two r s t xs operands us bound vs a b all here there other first_is second_is first_shows second_shows = record {
-    form = λ x. ap (among x) here ∙ all x ∙ ap₂ (λ p q. among x operands || (p || (not (among x bound) && q))) (ap (among x) there ∙ first_shows.0 x) (ap (among x) other ∙ second_shows.0 x);
-    first_part = subst (λ u. Shows u a) (sym first_is) first_shows;
-    second_part = subst (λ u. Shows u b) (sym second_is) second_shows
-  }
+  form = λ x. ap (among x) here ∙ all x ∙ ap₂ (λ p q. among x operands || (p || (not (among x bound) && q))) (ap (among x) there ∙ first_shows.0 x) (ap (among x) other ∙ second_shows.0 x);
+  first_part = subst (λ u. Shows u a) (sym first_is) first_shows;
+  second_part = subst (λ u. Shows u b) (sym second_is) second_shows;
+}

@@ -125,7 +125,13 @@ fn two(
 {
     let first = Box::new(alloc, free_variables(alloc, first)?)?;
     let second = Box::new(alloc, free_variables(alloc, second)?)?;
-    let form = gathered(alloc, operands, first.variables(), bound, second.variables())?;
+    let form = gathered(
+        alloc,
+        operands,
+        first.variables(),
+        bound,
+        second.variables(),
+    )?;
     Ok(FreeVariables::Two(form, first, second))
 }
 

@@ -2,4 +2,10 @@
 #![tactic(auto)]
 
 mod free;
+mod marked;
+mod operands;
+mod sharing;
+mod slots;
+mod taken;
 mod variables;
+mod wrapped;
