@@ -1,3 +1,4 @@
 pub mod Frees
 pub mod ReadFree
 pub mod ReadTaken
+pub mod Made

@@ -4,12 +4,13 @@ ghost use Rattle.raml_syntax.specs.Read.{ty_of};
 ghost use Rattle.normal_form.specs.Norm as n;
 ghost use Rattle.normal_form.specs.Two as two;
 ghost use Rattle.normal_form.specs.Read.{norm_of};
+ghost use Rattle.share_normal.specs.Made.{IsMade, form_in};
 
 use crate::free::free_variables;
 use crate::marked::Marked;
 use crate::slots::{Slot, copy_of, put, unused, used};
 use crate::taken::{Parted, Sharing, Taken};
-use crate::wrapped::{drop_all, share_all};
+use crate::wrapped::{drop_all, expr, share_all};
 use normal_form::{NormExpr, NormForm};
 use raml_syntax::Ty;
 use std::alloc::{AllocError, Global};
@@ -18,122 +19,63 @@ impl Sharing {
     /// The form with these slots, all of which are free in it.
     #[cycle(sharing)]
     fn share<'a>(&mut self, marked: Marked<'a>, slots: &[Slot]) -> Result<NormExpr, AllocError>
-        ensures made { IfOk result (λ made. norm_of made ≡ (two.two (norm_of marked.entry.expr.now) slots.now self.old.next).0) }
-        ensures next { OnOk result (self.new.next ≡ (two.two (norm_of marked.entry.expr.now) slots.now self.old.next).1) }
+        ensures { IsMade result self.new.next (two.two (form_in marked.entry) slots.now self.old.next) }
     {
-        let free = marked.free;
         let nodes = marked.expr.nodes;
         match &marked.expr.form {
-            NormForm::Var(x) => Ok(NormExpr {
-                nodes,
-                form: NormForm::Var(copy_of(*x, slots)),
-            }),
-            NormForm::Const(constant) => Ok(NormExpr {
-                nodes,
-                form: NormForm::Const(*constant),
-            }),
-            NormForm::Nil => Ok(NormExpr {
-                nodes,
-                form: NormForm::Nil,
-            }),
-            NormForm::Leaf => Ok(NormExpr {
-                nodes,
-                form: NormForm::Leaf,
-            }),
-            NormForm::Nothing => Ok(NormExpr {
-                nodes,
-                form: NormForm::Nothing,
-            }),
+            NormForm::Var(x) => Ok(expr(nodes, NormForm::Var(copy_of(*x, slots)))),
+            NormForm::Const(constant) => Ok(expr(nodes, NormForm::Const(*constant))),
+            NormForm::Nil => Ok(expr(nodes, NormForm::Nil)),
+            NormForm::Leaf => Ok(expr(nodes, NormForm::Leaf)),
+            NormForm::Nothing => Ok(expr(nodes, NormForm::Nothing)),
             NormForm::Op(op) => self.share_operator(nodes, *op, slots),
             NormForm::Pair(x, y) => self.share_pair(nodes, (*x, *y), slots),
             NormForm::Cons(head, tail) => self.share_cons(nodes, (*head, *tail), slots),
             NormForm::Node(element, left, right) => {
                 self.share_node(nodes, (*element, *left, *right), slots)
             }
-            NormForm::Just(x) => Ok(NormExpr {
-                nodes,
-                form: NormForm::Just(copy_of(*x, slots)),
-            }),
+            NormForm::Just(x) => Ok(expr(nodes, NormForm::Just(copy_of(*x, slots)))),
             NormForm::Call(fun, args) => self.share_call(nodes, *fun, args, slots),
             NormForm::Let(x, ty, bound, rest) => {
-                let bound = Marked {
-                    expr: bound,
-                    free: free.of_first(),
-                };
-                let rest = Marked {
-                    expr: rest,
-                    free: free.of_second(),
-                };
-                self.share_let(nodes, *x, ty, bound, rest, slots)
+                self.share_let(
+                    nodes,
+                    *x,
+                    ty,
+                    marked.first(bound),
+                    marked.second(rest),
+                    slots,
+                )
             }
             NormForm::Split(pair, first, second, rest) => {
-                let rest = Marked {
-                    expr: rest,
-                    free: free.of_first(),
-                };
-                self.share_split(nodes, *pair, (*first, *second), rest, slots)
+                self.share_split(nodes, *pair, (*first, *second), marked.first(rest), slots)
             }
             NormForm::If(condition, first, second) => {
-                let first = Marked {
-                    expr: first,
-                    free: free.of_first(),
-                };
-                let second = Marked {
-                    expr: second,
-                    free: free.of_second(),
-                };
+                let first = marked.first(first);
+                let second = marked.second(second);
                 self.share_if(nodes, *condition, first, second, slots)
             }
             NormForm::CaseList(list, empty, head, tail, rest) => {
-                let empty = Marked {
-                    expr: empty,
-                    free: free.of_first(),
-                };
-                let rest = Marked {
-                    expr: rest,
-                    free: free.of_second(),
-                };
+                let empty = marked.first(empty);
+                let rest = marked.second(rest);
                 self.share_case_list(nodes, *list, empty, (*head, *tail), rest, slots)
             }
             NormForm::CaseTree(tree, empty, element, left, right, rest) => {
-                let empty = Marked {
-                    expr: empty,
-                    free: free.of_first(),
-                };
-                let rest = Marked {
-                    expr: rest,
-                    free: free.of_second(),
-                };
+                let empty = marked.first(empty);
+                let rest = marked.second(rest);
                 let parts = (*element, *left, *right);
                 self.share_case_tree(nodes, *tree, empty, parts, rest, slots)
             }
             NormForm::CaseOption(option, empty, content, rest) => {
-                let empty = Marked {
-                    expr: empty,
-                    free: free.of_first(),
-                };
-                let rest = Marked {
-                    expr: rest,
-                    free: free.of_second(),
-                };
+                let empty = marked.first(empty);
+                let rest = marked.second(rest);
                 self.share_case_option(nodes, *option, empty, *content, rest, slots)
             }
             NormForm::Tick(ticks, rest) => {
-                let rest = Marked {
-                    expr: rest,
-                    free: free.of_first(),
-                };
-                self.share_tick(nodes, *ticks, rest, slots)
+                self.share_tick(nodes, *ticks, marked.first(rest), slots)
             }
-            // No form of step one.
-            NormForm::Share(..) => Ok(NormExpr {
-                nodes,
-                form: NormForm::Nil,
-            }),
-            NormForm::Drop(..) => Ok(NormExpr {
-                nodes,
-                form: NormForm::Nil,
-            }),
+            // No forms of step one.
+            NormForm::Share(..) => Ok(expr(nodes, NormForm::Nil)),
+            NormForm::Drop(..) => Ok(expr(nodes, NormForm::Nil)),
         }
     }
 
@@ -144,8 +86,10 @@ impl Sharing {
         marked: Marked<'a>,
         slots: &[Slot],
     ) -> Result<Box<NormExpr>, AllocError>
-        ensures made { IfOk result (λ made. norm_of made.value ≡ (two.around (norm_of marked.entry.expr.now) (two.two (norm_of marked.entry.expr.now)) slots.now self.old.next).0) }
-        ensures next { OnOk result (self.new.next ≡ (two.around (norm_of marked.entry.expr.now) (two.two (norm_of marked.entry.expr.now)) slots.now self.old.next).1) }
+        ensures made { IfOk result (λ made. norm_of made.value ≡
+            (two.around (form_in marked.entry) (two.two (form_in marked.entry)) slots.now self.old.next).0) }
+        ensures next { OnOk result (self.new.next ≡
+            (two.around (form_in marked.entry) (two.two (form_in marked.entry)) slots.now self.old.next).1) }
     {
         let inner = used(self.alloc, marked, slots)?;
         let gone = unused(self.alloc, marked, slots)?;
@@ -165,8 +109,8 @@ impl Sharing {
         rest: Marked<'a>,
         slots: &[Slot],
     ) -> Result<NormExpr, AllocError>
-        ensures made { IfOk result (λ made. norm_of made ≡ (two.two (n.Let nodes variable (ty_of ty.now) (norm_of bound.entry.expr.now) (norm_of rest.entry.expr.now)) slots.now self.old.next).0) }
-        ensures next { OnOk result (self.new.next ≡ (two.two (n.Let nodes variable (ty_of ty.now) (norm_of bound.entry.expr.now) (norm_of rest.entry.expr.now)) slots.now self.old.next).1) }
+        ensures { IsMade result self.new.next
+            (two.two (n.Let nodes variable (ty_of ty.now) (form_in bound.entry) (form_in rest.entry)) slots.now self.old.next) }
     {
         let Parted {
             first,
@@ -178,7 +122,7 @@ impl Sharing {
         let bound = self.around(bound, &first)?;
         let rest = self.around(rest, &second)?;
         let form = NormForm::Let(slot.copy, ty.copy(self.alloc)?, bound, rest);
-        share_all(self.alloc, shares, NormExpr { nodes, form })
+        share_all(self.alloc, shares, expr(nodes, form))
     }
 
     /// A pair that is taken apart for the rest.
@@ -191,8 +135,7 @@ impl Sharing {
         rest: Marked<'a>,
         slots: &[Slot],
     ) -> Result<NormExpr, AllocError>
-        ensures made { IfOk result (λ made. norm_of made ≡ (two.two (n.Split nodes pair parts.0 parts.1 (norm_of rest.entry.expr.now)) slots.now self.old.next).0) }
-        ensures next { OnOk result (self.new.next ≡ (two.two (n.Split nodes pair parts.0 parts.1 (norm_of rest.entry.expr.now)) slots.now self.old.next).1) }
+        ensures { IsMade result self.new.next (two.two (n.Split nodes pair parts.0 parts.1 (form_in rest.entry)) slots.now self.old.next) }
     {
         let again = rest.has_free(pair);
         let Taken { name, stay, shares } = self.take_slot(again, pair, slots)?;
@@ -201,7 +144,7 @@ impl Sharing {
         let inner = put(self.alloc, pair, &[first, second], &stay, slots)?;
         let rest = self.around(rest, &inner)?;
         let form = NormForm::Split(name, first.copy, second.copy, rest);
-        share_all(self.alloc, shares, NormExpr { nodes, form })
+        share_all(self.alloc, shares, expr(nodes, form))
     }
 
     /// The branches of a condition.
@@ -214,8 +157,7 @@ impl Sharing {
         second: Marked<'a>,
         slots: &[Slot],
     ) -> Result<NormExpr, AllocError>
-        ensures made { IfOk result (λ made. norm_of made ≡ (two.two (n.If nodes condition (norm_of first.entry.expr.now) (norm_of second.entry.expr.now)) slots.now self.old.next).0) }
-        ensures next { OnOk result (self.new.next ≡ (two.two (n.If nodes condition (norm_of first.entry.expr.now) (norm_of second.entry.expr.now)) slots.now self.old.next).1) }
+        ensures { IsMade result self.new.next (two.two (n.If nodes condition (form_in first.entry) (form_in second.entry)) slots.now self.old.next) }
     {
         let again = first.has_free(condition) || second.has_free(condition);
         let Taken { name, stay, shares } = self.take_slot(again, condition, slots)?;
@@ -223,7 +165,7 @@ impl Sharing {
         let first = self.around(first, &inner)?;
         let second = self.around(second, &inner)?;
         let form = NormForm::If(name, first, second);
-        share_all(self.alloc, shares, NormExpr { nodes, form })
+        share_all(self.alloc, shares, expr(nodes, form))
     }
 
     /// The branches of a list.
@@ -237,8 +179,8 @@ impl Sharing {
         rest: Marked<'a>,
         slots: &[Slot],
     ) -> Result<NormExpr, AllocError>
-        ensures made { IfOk result (λ made. norm_of made ≡ (two.two (n.CaseList nodes list (norm_of empty.entry.expr.now) parts.0 parts.1 (norm_of rest.entry.expr.now)) slots.now self.old.next).0) }
-        ensures next { OnOk result (self.new.next ≡ (two.two (n.CaseList nodes list (norm_of empty.entry.expr.now) parts.0 parts.1 (norm_of rest.entry.expr.now)) slots.now self.old.next).1) }
+        ensures { IsMade result self.new.next
+            (two.two (n.CaseList nodes list (form_in empty.entry) parts.0 parts.1 (form_in rest.entry)) slots.now self.old.next) }
     {
         let again = empty.has_free(list) || rest.has_free(list);
         let Taken { name, stay, shares } = self.take_slot(again, list, slots)?;
@@ -249,7 +191,7 @@ impl Sharing {
         let empty = self.around(empty, &outer)?;
         let rest = self.around(rest, &inner)?;
         let form = NormForm::CaseList(name, empty, head.copy, tail.copy, rest);
-        share_all(self.alloc, shares, NormExpr { nodes, form })
+        share_all(self.alloc, shares, expr(nodes, form))
     }
 
     /// The branches of a tree.
@@ -263,8 +205,8 @@ impl Sharing {
         rest: Marked<'a>,
         slots: &[Slot],
     ) -> Result<NormExpr, AllocError>
-        ensures made { IfOk result (λ made. norm_of made ≡ (two.two (n.CaseTree nodes tree (norm_of empty.entry.expr.now) parts.0 parts.1 parts.2 (norm_of rest.entry.expr.now)) slots.now self.old.next).0) }
-        ensures next { OnOk result (self.new.next ≡ (two.two (n.CaseTree nodes tree (norm_of empty.entry.expr.now) parts.0 parts.1 parts.2 (norm_of rest.entry.expr.now)) slots.now self.old.next).1) }
+        ensures { IsMade result self.new.next
+            (two.two (n.CaseTree nodes tree (form_in empty.entry) parts.0 parts.1 parts.2 (form_in rest.entry)) slots.now self.old.next) }
     {
         let again = empty.has_free(tree) || rest.has_free(tree);
         let Taken { name, stay, shares } = self.take_slot(again, tree, slots)?;
@@ -276,7 +218,7 @@ impl Sharing {
         let empty = self.around(empty, &outer)?;
         let rest = self.around(rest, &inner)?;
         let form = NormForm::CaseTree(name, empty, element.copy, left.copy, right.copy, rest);
-        share_all(self.alloc, shares, NormExpr { nodes, form })
+        share_all(self.alloc, shares, expr(nodes, form))
     }
 
     /// The branches of an option.
@@ -290,8 +232,8 @@ impl Sharing {
         rest: Marked<'a>,
         slots: &[Slot],
     ) -> Result<NormExpr, AllocError>
-        ensures made { IfOk result (λ made. norm_of made ≡ (two.two (n.CaseOption nodes option (norm_of empty.entry.expr.now) content (norm_of rest.entry.expr.now)) slots.now self.old.next).0) }
-        ensures next { OnOk result (self.new.next ≡ (two.two (n.CaseOption nodes option (norm_of empty.entry.expr.now) content (norm_of rest.entry.expr.now)) slots.now self.old.next).1) }
+        ensures { IsMade result self.new.next
+            (two.two (n.CaseOption nodes option (form_in empty.entry) content (form_in rest.entry)) slots.now self.old.next) }
     {
         let again = empty.has_free(option) || rest.has_free(option);
         let Taken { name, stay, shares } = self.take_slot(again, option, slots)?;
@@ -301,7 +243,7 @@ impl Sharing {
         let empty = self.around(empty, &outer)?;
         let rest = self.around(rest, &inner)?;
         let form = NormForm::CaseOption(name, empty, content.copy, rest);
-        share_all(self.alloc, shares, NormExpr { nodes, form })
+        share_all(self.alloc, shares, expr(nodes, form))
     }
 
     /// Ticks before the rest.
@@ -313,28 +255,27 @@ impl Sharing {
         rest: Marked<'a>,
         slots: &[Slot],
     ) -> Result<NormExpr, AllocError>
-        ensures made { IfOk result (λ made. norm_of made ≡ (two.two (n.Tick nodes ticks (norm_of rest.entry.expr.now)) slots.now self.old.next).0) }
-        ensures next { OnOk result (self.new.next ≡ (two.two (n.Tick nodes ticks (norm_of rest.entry.expr.now)) slots.now self.old.next).1) }
+        ensures { IsMade result self.new.next (two.two (n.Tick nodes ticks (form_in rest.entry)) slots.now self.old.next) }
     {
         let rest = Box::new(self.alloc, self.share(rest, slots)?)?;
-        Ok(NormExpr {
-            nodes,
-            form: NormForm::Tick(ticks, rest),
-        })
+        Ok(expr(nodes, NormForm::Tick(ticks, rest)))
     }
 }
 
 /// Step two of a form of step one, whose variables stand for themselves or for copies of them.
 pub fn shared(
     alloc: Global,
-    expr: &NormExpr,
+    body: &NormExpr,
     slots: &[Slot],
     next: u32,
 ) -> Result<NormExpr, AllocError>
-    ensures { IfOk result (λ made. norm_of made ≡ (two.around (norm_of expr.now) (two.two (norm_of expr.now)) slots.now next).0) }
+    ensures { IfOk result (λ made. norm_of made ≡ (two.around (norm_of body.now) (two.two (norm_of body.now)) slots.now next).0) }
 {
-    let free = free_variables(alloc, expr)?;
-    let marked = Marked { expr, free: &free };
+    let free = free_variables(alloc, body)?;
+    let marked = Marked {
+        expr: body,
+        free: &free,
+    };
     let mut sharing = Sharing { alloc, next };
     let made = sharing.around(marked, slots)?;
     Ok(Box::into_inner(made))

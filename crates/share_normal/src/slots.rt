@@ -1,7 +1,7 @@
 // Slots: the variables of step one, each with the copy that stands for it.
 ghost use Rattle.std.specs.Prelude.{◌≡◌, ◌++◌, IfOk};
 ghost use Rattle.normal_form.specs.Two as two;
-ghost use Rattle.normal_form.specs.Read.{norm_of};
+ghost use Rattle.share_normal.specs.Made.{form_in};
 
 use crate::marked::Marked;
 use std::alloc::{AllocError, Global};
@@ -84,7 +84,7 @@ pub fn put(
 
 /// The slots of the variables that are free in the form.
 pub fn used<'a>(alloc: Global, marked: Marked<'a>, slots: &[Slot]) -> Result<Vec<Slot>, AllocError>
-    ensures { IfOk result (λ made. made.items ≡ two.used (norm_of marked.entry.expr.now) slots.now) }
+    ensures { IfOk result (λ made. made.items ≡ two.used (form_in marked.entry) slots.now) }
 {
     let mut made = Vec::new(alloc);
     for slot in slots {
@@ -101,7 +101,7 @@ pub fn unused<'a>(
     marked: Marked<'a>,
     slots: &[Slot],
 ) -> Result<Vec<Slot>, AllocError>
-    ensures { IfOk result (λ made. made.items ≡ two.unused (norm_of marked.entry.expr.now) slots.now) }
+    ensures { IfOk result (λ made. made.items ≡ two.unused (form_in marked.entry) slots.now) }
 {
     let mut made = Vec::new(alloc);
     for slot in slots {

@@ -1,7 +1,7 @@
 // Uses of variables, each of which is shared where it is used again.
 ghost use Rattle.std.specs.Prelude.{◌≡◌, ◌+◌, IfOk, OnOk};
 ghost use Rattle.normal_form.specs.Two as two;
-ghost use Rattle.normal_form.specs.Read.{norm_of};
+ghost use Rattle.share_normal.specs.Made.{form_in};
 ghost use Rattle.share_normal.specs.ReadTaken.{taken_of, all_taken_of, parted_of};
 
 use crate::marked::Marked;
@@ -126,8 +126,8 @@ impl Sharing {
         rest: Marked<'a>,
         slots: &[Slot],
     ) -> Result<Parted, AllocError>
-        ensures parted { IfOk result (λ parted. parted_of parted ≡ (two.part (norm_of bound.entry.expr.now) (norm_of rest.entry.expr.now) slots.now self.old.next).0) }
-        ensures next { OnOk result (self.new.next ≡ (two.part (norm_of bound.entry.expr.now) (norm_of rest.entry.expr.now) slots.now self.old.next).1) }
+        ensures parted { IfOk result (λ parted. parted_of parted ≡ (two.part (form_in bound.entry) (form_in rest.entry) slots.now self.old.next).0) }
+        ensures next { OnOk result (self.new.next ≡ (two.part (form_in bound.entry) (form_in rest.entry) slots.now self.old.next).1) }
     {
         let mut first = Vec::new(self.alloc);
         let mut second = Vec::new(self.alloc);

@@ -1,12 +1,19 @@
-// Shares and drops around forms.
+// Forms, and shares and drops around them.
 ghost use Rattle.std.specs.Prelude.{◌≡◌, IfOk};
 ghost use Rattle.normal_form.specs.Norm as n;
 ghost use Rattle.normal_form.specs.Two as two;
-ghost use Rattle.normal_form.specs.Read.{norm_of};
+ghost use Rattle.normal_form.specs.Read.{form_of, norm_of};
 
 use crate::slots::{Shared, Slot};
 use normal_form::{NormExpr, NormForm};
 use std::alloc::{AllocError, Global};
+
+/// A form that stands for so many nodes.
+pub fn expr(nodes: u32, form: NormForm) -> NormExpr
+    ensures { norm_of result ≡ form_of form nodes }
+{
+    NormExpr { nodes, form }
+}
 
 /// A share, and then the rest.
 fn share_before(alloc: Global, shared: Shared, rest: NormExpr) -> Result<NormExpr, AllocError>
@@ -14,7 +21,7 @@ fn share_before(alloc: Global, shared: Shared, rest: NormExpr) -> Result<NormExp
 {
     let rest = Box::new(alloc, rest)?;
     let form = NormForm::Share(shared.variable, shared.first, shared.second, rest);
-    Ok(NormExpr { nodes: 0, form })
+    Ok(expr(0, form))
 }
 
 /// A drop of the copy of a slot, and then the rest.
@@ -23,7 +30,7 @@ fn drop_before(alloc: Global, slot: Slot, rest: NormExpr) -> Result<NormExpr, Al
 {
     let rest = Box::new(alloc, rest)?;
     let form = NormForm::Drop(slot.copy, rest);
-    Ok(NormExpr { nodes: 0, form })
+    Ok(expr(0, form))
 }
 
 /// The shares in their order, and then the rest.
