@@ -2,3 +2,4 @@ pub mod Frees
 pub mod ReadFree
 pub mod ReadTaken
 pub mod Made
+pub mod Numbers

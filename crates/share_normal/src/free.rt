@@ -1,12 +1,13 @@
 // Free variables.
 ghost use Rattle.std.specs.Prelude.{◌≡◌, ◌++◌, ℕ, IfOk, OnOk};
-ghost use Rattle.normal_form.specs.Read.{norm_of, op_form};
+ghost use Rattle.normal_form.specs.Read.{const_form, norm_of, op_form};
 ghost use Rattle.share_normal.specs.Frees as frees;
 ghost use Rattle.share_normal.specs.Frees.{AreGathered, Shows, ShowsLeaf, ShowsOne, ShowsTwo, others};
+ghost use Rattle.share_normal.specs.Numbers.{NumbersFit};
 ghost use Rattle.share_normal.specs.ReadFree.{frees_of};
 
 use crate::variables::{Variables, among};
-use normal_form::{NormExpr, NormForm, NormOp};
+use normal_form::{Const, NormExpr, NormForm, NormOp};
 use std::alloc::{AllocError, Global};
 
 /// The free variables of a form, and those of its parts.
@@ -104,7 +105,8 @@ fn one(
     bound: &[u32],
     part: &NormExpr,
 ) -> Result<FreeVariables, AllocError>
-    ensures { IfOk result (λ free. ShowsOne (frees_of free) operands.now bound.now (norm_of part.now)) }
+    ensures shows { IfOk result (λ free. ShowsOne (frees_of free) operands.now bound.now (norm_of part.now)) }
+    ensures numbers { OnOk result (NumbersFit (norm_of part.now)) }
 {
     let part = Box::new(alloc, free_variables(alloc, part)?)?;
     let form = gathered(alloc, operands, &[], bound, part.variables())?;
@@ -121,7 +123,8 @@ fn two(
     bound: &[u32],
     second: &NormExpr,
 ) -> Result<FreeVariables, AllocError>
-    ensures { IfOk result (λ free. ShowsTwo (frees_of free) operands.now (norm_of first.now) bound.now (norm_of second.now)) }
+    ensures shows { IfOk result (λ free. ShowsTwo (frees_of free) operands.now (norm_of first.now) bound.now (norm_of second.now)) }
+    ensures numbers { OnOk result (NumbersFit (norm_of first.now) × NumbersFit (norm_of second.now)) }
 {
     let first = Box::new(alloc, free_variables(alloc, first)?)?;
     let second = Box::new(alloc, free_variables(alloc, second)?)?;
@@ -145,14 +148,26 @@ fn of_operator(alloc: Global, op: NormOp) -> Result<FreeVariables, AllocError>
     }
 }
 
+/// A constant has no free variables.
+fn of_constant(alloc: Global, constant: Const) -> Result<FreeVariables, AllocError>
+    ensures shows { IfOk result (λ free. (nodes : ℕ) → Shows (frees_of free) (const_form constant nodes)) }
+    ensures numbers { (nodes : ℕ) → NumbersFit (const_form constant nodes) }
+{
+    match constant {
+        Const::Number(_) | Const::Truth(_) => leaf(alloc, &[]),
+    }
+}
+
 /// The free variables of a form and of its parts.
 #[cycle(free)]
 pub fn free_variables(alloc: Global, e: &NormExpr) -> Result<FreeVariables, AllocError>
-    ensures { IfOk result (λ free. Shows (frees_of free) (norm_of e.now)) }
+    ensures shows { IfOk result (λ free. Shows (frees_of free) (norm_of e.now)) }
+    ensures numbers { OnOk result (NumbersFit (norm_of e.now)) }
 {
     match &e.form {
         NormForm::Var(x) => leaf(alloc, &[*x]),
-        NormForm::Const(_) | NormForm::Nil | NormForm::Leaf | NormForm::Nothing => leaf(alloc, &[]),
+        NormForm::Nil | NormForm::Leaf | NormForm::Nothing => leaf(alloc, &[]),
+        NormForm::Const(constant) => of_constant(alloc, *constant),
         NormForm::Op(op) => of_operator(alloc, *op),
         NormForm::Pair(x, y) => leaf(alloc, &[*x, *y]),
         NormForm::Cons(head, tail) => leaf(alloc, &[*head, *tail]),

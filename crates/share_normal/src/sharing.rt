@@ -5,6 +5,7 @@ ghost use Rattle.normal_form.specs.Norm as n;
 ghost use Rattle.normal_form.specs.Two as two;
 ghost use Rattle.normal_form.specs.Read.{norm_of};
 ghost use Rattle.share_normal.specs.Made.{IsMade, form_in};
+ghost use Rattle.share_normal.specs.Numbers.{NumbersFit};
 
 use crate::free::free_variables;
 use crate::marked::Marked;
@@ -269,7 +270,8 @@ pub fn shared(
     slots: &[Slot],
     next: u32,
 ) -> Result<NormExpr, AllocError>
-    ensures { IfOk result (λ made. norm_of made ≡ (two.around (norm_of body.now) (two.two (norm_of body.now)) slots.now next).0) }
+    ensures made { IfOk result (λ made. norm_of made ≡ (two.around (norm_of body.now) (two.two (norm_of body.now)) slots.now next).0) }
+    ensures numbers { OnOk result (NumbersFit (norm_of body.now)) }
 {
     let free = free_variables(alloc, body)?;
     let marked = Marked {
