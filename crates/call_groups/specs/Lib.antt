@@ -1,0 +1,5 @@
+pub mod Calls
+pub mod Groups
+pub mod Read
+pub mod Sets
+pub mod Table
