@@ -3,3 +3,4 @@ pub mod ReadFree
 pub mod ReadTaken
 pub mod Made
 pub mod Numbers
+pub mod Parts

@@ -2,6 +2,7 @@
 #![tactic(auto)]
 
 mod free;
+mod functions;
 mod marked;
 mod operands;
 mod sharing;

@@ -14,7 +14,7 @@ use crate::taken::{Parted, Sharing, Taken};
 use crate::wrapped::{drop_all, expr, share_all};
 use normal_form::{NormExpr, NormForm};
 use raml_syntax::Ty;
-use std::alloc::{AllocError, Global};
+use std::alloc::AllocError;
 
 impl Sharing {
     /// The form with these slots, all of which are free in it.
@@ -261,24 +261,19 @@ impl Sharing {
         let rest = Box::new(self.alloc, self.share(rest, slots)?)?;
         Ok(expr(nodes, NormForm::Tick(ticks, rest)))
     }
-}
 
-/// Step two of a form of step one, whose variables stand for themselves or for copies of them.
-pub fn shared(
-    alloc: Global,
-    body: &NormExpr,
-    slots: &[Slot],
-    next: u32,
-) -> Result<NormExpr, AllocError>
-    ensures made { IfOk result (λ made. norm_of made ≡ (two.around (norm_of body.now) (two.two (norm_of body.now)) slots.now next).0) }
-    ensures numbers { OnOk result (NumbersFit (norm_of body.now)) }
-{
-    let free = free_variables(alloc, body)?;
-    let marked = Marked {
-        expr: body,
-        free: &free,
-    };
-    let mut sharing = Sharing { alloc, next };
-    let made = sharing.around(marked, slots)?;
-    Ok(Box::into_inner(made))
+    /// Step two of a body of step one, of whose variables the slots have those that are free.
+    pub fn share_body(&mut self, body: &NormExpr, slots: &[Slot]) -> Result<NormExpr, AllocError>
+        ensures made { IfOk result (λ made. norm_of made ≡
+            (two.around (norm_of body.now) (two.two (norm_of body.now)) slots.now self.old.next).0) }
+        ensures numbers { OnOk result (NumbersFit (norm_of body.now)) }
+    {
+        let free = free_variables(self.alloc, body)?;
+        let marked = Marked {
+            expr: body,
+            free: &free,
+        };
+        let made = self.around(marked, slots)?;
+        Ok(Box::into_inner(made))
+    }
 }
