@@ -4,3 +4,4 @@ pub mod ReadTaken
 pub mod Made
 pub mod Numbers
 pub mod Parts
+pub mod Program
