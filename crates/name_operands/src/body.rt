@@ -14,7 +14,7 @@ use crate::types::TyRef;
 use function_names::FunctionNames;
 use normal_form::NormExpr;
 use raml_syntax::{Expr, Fun, Param};
-use std::alloc::{AllocError, Global};
+use std::alloc::AllocError;
 
 /// The least number that is free below parameters.
 fn free_below(params: &[Param]) -> Result<u32, AllocError>
@@ -61,9 +61,9 @@ fn name_below_params<'s, 'a>(
 }
 
 /// The body of a function, in which each operand is a variable: step one of its normal form. Memory is
-/// wanting too where more than 2^23 nodes of types would be made on the way, or a number would leave 32 bits.
+/// wanting too where the maker has made all the nodes of types that it may, or a number would leave 32 bits.
 pub fn name_operands<'a>(
-    alloc: Global,
+    maker: &mut Maker,
     names: &FunctionNames<'a>,
     fun: &'a Fun,
 ) -> Result<NormExpr, AllocError>
@@ -76,8 +76,7 @@ pub fn name_operands<'a>(
         scope: &scope,
         free,
     };
-    let mut maker = Maker::new(alloc);
     let result = TyRef::Of(&fun.result);
-    let body = name_below_params(env, &mut maker, result, &fun.params, 1, &fun.body)?;
+    let body = name_below_params(env, maker, result, &fun.params, 1, &fun.body)?;
     Ok(Box::into_inner(carry(1, body)?))
 }

@@ -11,3 +11,4 @@ mod scope;
 mod types;
 
 pub use body::name_operands;
+pub use maker::Maker;

@@ -11,20 +11,20 @@ use normal_form::{NormExpr, NormForm};
 use raml_syntax::Ty;
 use std::alloc::{AllocError, Global};
 
-/// How many nodes of types may be made for one function.
+/// How many nodes of types may be made for one program.
 const MOST_TYPE_NODES: u32 = 1 << 23;
 
 /// Makes types and forms. A program may double a type at each `let`, so the nodes of types are counted;
 /// past the most of them memory is wanting.
 #[derive(Drop)]
 pub struct Maker {
-    pub alloc: Global,
+    pub(crate) alloc: Global,
     /// How many nodes of types may still be made.
     room: u32,
 }
 
 impl Maker {
-    /// One for the form of one function.
+    /// One for the forms of one program.
     pub fn new(alloc: Global) -> Maker {
         Maker {
             alloc,
@@ -46,7 +46,7 @@ impl Maker {
     }
 
     /// The type of pairs.
-    pub fn pair(&mut self, first: Ty, second: Ty) -> Result<Ty, AllocError>
+    pub(crate) fn pair(&mut self, first: Ty, second: Ty) -> Result<Ty, AllocError>
         ensures { IfOk result (λ ty. ty_of ty ≡ t.PairOf (ty_of first) (ty_of second)) }
     {
         let first = self.boxed(first)?;
@@ -54,28 +54,28 @@ impl Maker {
     }
 
     /// The type of lists.
-    pub fn list(&mut self, element: Ty) -> Result<Ty, AllocError>
+    pub(crate) fn list(&mut self, element: Ty) -> Result<Ty, AllocError>
         ensures { IfOk result (λ ty. ty_of ty ≡ t.ListOf (ty_of element)) }
     {
         Ok(Ty::List(self.boxed(element)?))
     }
 
     /// The type of trees.
-    pub fn tree(&mut self, element: Ty) -> Result<Ty, AllocError>
+    pub(crate) fn tree(&mut self, element: Ty) -> Result<Ty, AllocError>
         ensures { IfOk result (λ ty. ty_of ty ≡ t.TreeOf (ty_of element)) }
     {
         Ok(Ty::Tree(self.boxed(element)?))
     }
 
     /// The type of options.
-    pub fn option(&mut self, content: Ty) -> Result<Ty, AllocError>
+    pub(crate) fn option(&mut self, content: Ty) -> Result<Ty, AllocError>
         ensures { IfOk result (λ ty. ty_of ty ≡ t.OptionOf (ty_of content)) }
     {
         Ok(Ty::Opt(self.boxed(content)?))
     }
 
     /// A copy of a type.
-    pub fn copy(&mut self, ty: &Ty) -> Result<Ty, AllocError>
+    pub(crate) fn copy(&mut self, ty: &Ty) -> Result<Ty, AllocError>
         ensures { IfOk result (λ copy. ty_of copy ≡ ty_of ty.now) }
     {
         match ty {
@@ -102,7 +102,7 @@ impl Maker {
     }
 
     /// A copy of a type that is lent.
-    pub fn owned(&mut self, ty: TyRef) -> Result<Ty, AllocError>
+    pub(crate) fn owned(&mut self, ty: TyRef) -> Result<Ty, AllocError>
         ensures { IfOk result (λ copy. ty_of copy ≡ lent ty.entry) }
     {
         match ty {
@@ -113,7 +113,7 @@ impl Maker {
     }
 
     /// A form with its nodes.
-    pub fn form(&self, nodes: u32, form: NormForm) -> Result<Box<NormExpr>, AllocError>
+    pub(crate) fn form(&self, nodes: u32, form: NormForm) -> Result<Box<NormExpr>, AllocError>
         ensures { IfOk result (λ made. norm_in made ≡ form_of form nodes) }
     {
         Ok(Box::new(self.alloc, NormExpr { nodes, form })?)

@@ -38,16 +38,16 @@ pub struct Env<'s, 'a> {
 
 impl<'s, 'a> Scope<'s, 'a> {
     /// The number of the newest variable of this name; 0 where there is none.
-    pub fn number_of(&self, wanted: &str) -> u32
-        ensures { result ≡ one.number_of wanted.now (scope_in self.now) }
+    pub fn number_of(&self, name: &str) -> u32
+        ensures { result ≡ one.number_of name.now (scope_in self.now) }
     {
         match self {
             Scope::Empty => 0,
             Scope::Bound { local, outer } => {
-                if wanted == local.name.text() {
+                if name == local.name.text() {
                     local.number
                 } else {
-                    outer.number_of(wanted)
+                    outer.number_of(name)
                 }
             }
         }
