@@ -1,5 +1,5 @@
 -- What stands in a list of numbers.
-use Rattle.std.proofs.Common.{◌≡◌, ◌≤◌, ◌<◌, ◌+◌, ◌||◌, ◌&&◌, ◌⊎◌, ℕ, Bool, true, false, not, cond, nat_eq, nat_cmp, List, [], ◌∷◌, ◌++◌, length, filter, Contains, IsPermutation, IsSorted, Result, Ok, Err, is_ok, MatchResult, refl, sym, ◌∙◌, ap, ap₂, subst, eqb, eqb→eq, get_or, arith, lt_irrefl, ⊎_elim}
+use Rattle.std.proofs.Common.{◌≡◌, ◌≤◌, ◌<◌, ◌||◌, ◌&&◌, ℕ, Bool, true, false, not, cond, nat_eq, nat_cmp, List, [], ◌∷◌, ◌++◌, length, Contains, IsPermutation, Result, Ok, Err, is_ok, MatchResult, refl, sym, ◌∙◌, ap, ap₂, subst, eqb, get_or, arith, ⊎_elim}
 use Rattle.std.specs.List.{list_any, dedup}
 use Rattle.std.specs.List.Sorted.{IsStrictlyIncreasing, IsBinarySearchResult}
 use Rattle.std.specs.Cmp.{nat_eq_equiv}
@@ -10,8 +10,7 @@ use Rattle.std.proofs.lemmas.List.Sorted.{Contains-permutation, IsPermutation-sy
 use Rattle.std.proofs.lemmas.Map.Keys.{sorted_from_strictly_increasing, non_decreasing_from_sorted}
 use Rattle.std.proofs.lemmas.Map.Views.{Contains-from_any, list_any-from_Contains}
 use Rattle.normal_form.specs.Norm as n
-use Rattle.normal_form.specs.Free.{among, free_in}
-use Rattle.share_normal.specs.Frees as frees
+use Rattle.normal_form.specs.Free.{among}
 use Rattle.share_normal.specs.Frees.{Frees, others, own, first, second, AreGathered, Shows, ShowsOne, ShowsTwo}
 
 among_is : (x : ℕ) (ys : List ℕ) → list_any (nat_eq x) ys ≡ among x ys

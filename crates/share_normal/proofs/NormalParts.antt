@@ -1,10 +1,10 @@
 -- Functions in normal form from their parts and the types of their results, and what they keep.
-use Rattle.std.proofs.Common.{◌≡◌, ◌+◌, ℕ, zero, suc, List, [], ◌∷◌, map, length, Some, refl, sym, ap, ◌∙◌}
+use Rattle.std.proofs.Common.{◌≡◌, ℕ, zero, suc, List, [], ◌∷◌, map, length, Some, refl, sym, ap, ◌∙◌}
 use Rattle.std.specs.List.{All}
 use Rattle.std.specs.Prelude.{slice_get}
 use Rattle.std.proofs.lemmas.List.{length-map}
 use Rattle.std.proofs.lemmas.List.Elements.{All-nil, All-cons}
-use Rattle.raml_syntax.specs.Tree.{Type', Function, Prog}
+use Rattle.raml_syntax.specs.Tree.{Function, Prog}
 use Rattle.raml_syntax.specs.Types.{Typed}
 use Rattle.raml_syntax.specs.Node.{AllNodes, NumberFits}
 use Rattle.raml_syntax.specs.Read.{ty_of}
@@ -16,7 +16,7 @@ use Rattle.normal_form.specs.Uses.{IsNormal}
 use Rattle.normal_form.specs.Read.{fun_of, funs_of}
 use Rattle.normal_form.specs.declared.form.NormFun.{NormFun}
 use Rattle.normal_form.proofs.Keep.{normal_forms_keep}
-use Rattle.share_normal.specs.Parts.{parts_in, parts_of, normal_parts, result_of}
+use Rattle.share_normal.specs.Parts.{parts_in, normal_parts, result_of}
 
 -- the normal forms of functions of P are these, if their results and their parts are
 pub funs_from : (P Q : Prog) (As : List Ty) (gs : List NormFun) → map ty_of As ≡ map result_of Q → map parts_in gs ≡ map (normal_parts P) Q → funs_of As gs ≡ map (norm_fun P) Q

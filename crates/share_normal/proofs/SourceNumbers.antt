@@ -7,7 +7,7 @@ use Rattle.raml_syntax.specs.Place.{place_of}
 use Rattle.raml_syntax.specs.Node.{AllNodes, AllOf, NumberFits}
 use Rattle.normal_form.specs.Norm as n
 use Rattle.normal_form.specs.Norm.{carries}
-use Rattle.normal_form.specs.One.{Scope, types_in, bound, bound_two, bound_three, first_part, second_part, element, part_of, place_or, parameters_or, first_of_types, rest_of, plain, Operand, Is, Binds, name, after, bare, wrap, wrap_all, bare_all, operand, with_two, with_three, with_all, norm_one, norm_two, norm_three, split_form, if_form, list_form, tree_form, option_form, found, type_of, one, operands, scope_of, body_of}
+use Rattle.normal_form.specs.One.{Scope, types_in, bound, bound_two, bound_three, first_part, second_part, element, part_of, place_or, parameters_or, first_of_types, rest_of, plain, Operand, Is, Binds, name, after, bare, wrap, wrap_all, bare_all, operand, norm_one, norm_two, norm_three, split_form, if_form, list_form, tree_form, option_form, found, type_of, one, operands, scope_of, body_of}
 use Rattle.share_normal.specs.Numbers.{NumbersFit}
 
 carried : (m : ℕ) (e : n.Norm) → NumbersFit (carries m e) → NumbersFit e
@@ -141,7 +141,7 @@ module _ (P : Prog) where
         let head = part_of element want in
         let A = type_of P head S a in
         let r = three_fit (n.Node 0) a b c S A (TreeOf A) (TreeOf A) (one P head S a) (one P (Some (TreeOf A)) S b) (one P (Some (TreeOf A)) S c) k
-                (numbers_in a head S) (numbers_in b (Some (TreeOf A)) S) (numbers_in c (Some (TreeOf A)) S) h in
+        (numbers_in a head S) (numbers_in b (Some (TreeOf A)) S) (numbers_in c (Some (TreeOf A)) S) h in
         (tt, r.0, r.1, r.2)
     numbers_in (t.Just p a) want S k h =
         let content = part_of element want in

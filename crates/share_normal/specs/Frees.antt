@@ -1,5 +1,5 @@
 -- The free variables of forms and of their parts, as lists.
-use Rattle.std.specs.Prelude.{◌≡◌, ℕ, List, Bool, not, cond, filter, ◌||◌, ◌&&◌}
+use Rattle.std.specs.Prelude.{◌≡◌, ℕ, List, not, filter, ◌||◌, ◌&&◌}
 use Rattle.std.specs.Coded.{×_prop, Unit-prop, Π_prop}
 use mathlib.Core.Bool.{Bool-set}
 use Rattle.normal_form.specs.Norm as n

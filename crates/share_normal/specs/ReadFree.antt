@@ -1,5 +1,4 @@
 -- What the code's free variables are as plain data.
-use Rattle.std.specs.Prelude.{ℕ, List}
 use Rattle.share_normal.specs.Frees as frees
 use Rattle.share_normal.specs.Frees.{Frees}
 use Rattle.share_normal.specs.declared.free.FreeVariables.{FreeVariables}

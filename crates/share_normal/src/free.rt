@@ -160,11 +160,11 @@ fn of_constant(alloc: Global, constant: Const) -> Result<FreeVariables, AllocErr
 
 /// The free variables of a form and of its parts.
 #[cycle(free)]
-pub fn free_variables(alloc: Global, e: &NormExpr) -> Result<FreeVariables, AllocError>
-    ensures shows { IfOk result (λ free. Shows (frees_of free) (norm_of e.now)) }
-    ensures numbers { OnOk result (NumbersFit (norm_of e.now)) }
+pub fn free_variables(alloc: Global, expr: &NormExpr) -> Result<FreeVariables, AllocError>
+    ensures shows { IfOk result (λ free. Shows (frees_of free) (norm_of expr.now)) }
+    ensures numbers { OnOk result (NumbersFit (norm_of expr.now)) }
 {
-    match &e.form {
+    match &expr.form {
         NormForm::Var(x) => leaf(alloc, &[*x]),
         NormForm::Nil | NormForm::Leaf | NormForm::Nothing => leaf(alloc, &[]),
         NormForm::Const(constant) => of_constant(alloc, *constant),

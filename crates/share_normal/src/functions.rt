@@ -69,7 +69,8 @@ pub fn normal_functions<'a>(
     names: &FunctionNames<'a>,
     funs: &'a [Fun],
 ) -> Result<Vec<NormFun>, AllocError>
-    ensures parts { IfOk result (λ made. map parts_in made.items ≡ map (normal_parts (program_of names.now.program.now)) (map function_of funs.now)) }
+    ensures parts { IfOk result (λ made. map parts_in made.items ≡
+        map (normal_parts (program_of names.now.program.now)) (map function_of funs.now)) }
     ensures numbers { OnOk result (All (λ (g : Function). AllNodes NumberFits g.body) (map function_of funs.now)) }
 {
     let mut made = Vec::new(alloc);

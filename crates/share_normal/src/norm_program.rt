@@ -76,9 +76,21 @@ impl<'a> Model for NormProgram<'a> {
 
     ghost Value = { Kept };
 
-    ghost coded = { Prim.hlevel (codes, ty.the_row.coded, source_form.the_row.coded, source_expr.the_row.coded, form.the_row.coded, expr.the_row.coded) };
+    ghost coded = { Prim.hlevel (
+      codes,
+      ty.the_row.coded,
+      source_form.the_row.coded,
+      source_expr.the_row.coded,
+      form.the_row.coded,
+      expr.the_row.coded,
+    ) };
 
-    ghost view = { λ program. record { source = program.typed.now; groups = program.groups; results = program.results.items; functions = program.functions } };
+    ghost view = { λ program. record {
+      source = program.typed.now;
+      groups = program.groups;
+      results = program.results.items;
+      functions = program.functions;
+    } };
 
     ghost invariant = { λ program. IsKept program.typed.now program.groups program.results.items program.functions };
 }
@@ -109,8 +121,7 @@ impl<'a> NormProgram<'a> {
         &self.results
     }
 
-    /// The normal forms of its functions: with the types of their results these are the normal form of the
-    /// source. They run as its functions do, and use each variable once.
+    /// The normal forms of its functions. They run as the functions do, and use each variable once.
     pub fn functions(&self) -> &NormFuns
         ensures functions { result.now ≡ self.now.functions }
         ensures count { length result.now ≡ length (source_in self.now) }
@@ -122,9 +133,8 @@ impl<'a> NormProgram<'a> {
     }
 }
 
-/// The normal form of a typed program, which keeps it and the groups of its functions. Only memory can be
-/// wanting: that is told too where a function has as many as 2^32 variables, or where the types of one
-/// have more than 2^23 nodes in all.
+/// The normal form of a typed program, which keeps it and its groups. Only memory can be wanting; that is
+/// told too where a function has 2^32 variables, or where its types have more than 2^23 nodes in all.
 #[tactic(auto, using(crate::proofs::NormalParts::funs_from, crate::proofs::NormalParts::same_count))]
 pub fn normalise<'a>(
     alloc: Global,

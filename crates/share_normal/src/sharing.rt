@@ -38,14 +38,9 @@ impl Sharing {
             NormForm::Just(x) => Ok(expr(nodes, NormForm::Just(copy_of(*x, slots)))),
             NormForm::Call(fun, args) => self.share_call(nodes, *fun, args, slots),
             NormForm::Let(x, ty, bound, rest) => {
-                self.share_let(
-                    nodes,
-                    *x,
-                    ty,
-                    marked.first(bound),
-                    marked.second(rest),
-                    slots,
-                )
+                let bound = marked.first(bound);
+                let rest = marked.second(rest);
+                self.share_let(nodes, *x, ty, bound, rest, slots)
             }
             NormForm::Split(pair, first, second, rest) => {
                 self.share_split(nodes, *pair, (*first, *second), marked.first(rest), slots)

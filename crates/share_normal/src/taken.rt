@@ -32,7 +32,7 @@ pub struct Parted {
     pub shares: Vec<Shared>,
 }
 
-/// What gives numbers to new variables: the least that is free comes next.
+/// Step two of a function: its memory, and the least number that is no variable yet.
 #[derive(Drop)]
 pub struct Sharing {
     pub alloc: Global,
@@ -126,7 +126,8 @@ impl Sharing {
         rest: Marked<'a>,
         slots: &[Slot],
     ) -> Result<Parted, AllocError>
-        ensures parted { IfOk result (λ parted. parted_of parted ≡ (two.part (form_in bound.entry) (form_in rest.entry) slots.now self.old.next).0) }
+        ensures parted { IfOk result (λ parted. parted_of parted ≡
+            (two.part (form_in bound.entry) (form_in rest.entry) slots.now self.old.next).0) }
         ensures next { OnOk result (self.new.next ≡ (two.part (form_in bound.entry) (form_in rest.entry) slots.now self.old.next).1) }
     {
         let mut first = Vec::new(self.alloc);

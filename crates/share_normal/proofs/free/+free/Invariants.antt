@@ -4,7 +4,7 @@ use Rattle.normal_form.specs.Read.{norm_of}
 use Rattle.share_normal.proofs.free.+free.Given as goal
 
 abbrev pub decreases-free_variables : goal.decreases-free_variables
-decreases-free_variables l = 2 * size (norm_of l.e.now)
+decreases-free_variables l = 2 * size (norm_of l.expr.now)
 
 abbrev pub decreases-one : goal.decreases-one
 decreases-one l = 2 * size (norm_of l.part.now) + 1

@@ -8,5 +8,6 @@ use Rattle.share_normal.proofs.functions.normal_functions.Given as goal
 
 abbrev pub invariant-loop-fun : goal.invariant-loop-fun
 invariant-loop-fun l =
-    (map parts_in l.made.items ++ map (normal_parts (program_of l.names.program.now)) (map function_of (drop l.fun-index l.funs)) ≡ map (normal_parts (program_of l.names.program.now)) (map function_of l.funs))
+    let normal = normal_parts (program_of l.names.program.now) in
+    (map parts_in l.made.items ++ map normal (map function_of (drop l.fun-index l.funs)) ≡ map normal (map function_of l.funs))
     × (All (λ (g : Function). AllNodes NumberFits g.body) (map function_of (drop l.fun-index l.funs)) → All (λ (g : Function). AllNodes NumberFits g.body) (map function_of l.funs))

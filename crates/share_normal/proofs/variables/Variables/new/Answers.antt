@@ -1,6 +1,5 @@
 use Rattle.std.proofs.lemmas.List.Filters.{dedup_is}
 use Rattle.std.proofs.lemmas.Map.Keys.{IsStrictlyIncreasing-dedup}
-use Rattle.normal_form.specs.Free.{among}
 use Rattle.share_normal.proofs.Members.{among_dedup}
 use Rattle.share_normal.proofs.variables.Variables.new.Goals as goal
 
