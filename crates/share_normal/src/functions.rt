@@ -12,7 +12,7 @@ ghost use Rattle.share_normal.specs.Parts.{parts_in, normal_parts, result_of};
 use crate::slots::Slot;
 use crate::taken::Sharing;
 use function_names::FunctionNames;
-use name_operands::name_operands;
+use name_operands::{Maker, name_operands};
 use normal_form::NormFun;
 use raml_syntax::{Fun, Param, Ty};
 use std::alloc::{AllocError, Global};
@@ -49,6 +49,7 @@ fn own_slots(alloc: Global, params: &[(u32, Ty)]) -> Result<Vec<Slot>, AllocErro
 /// The normal form of a function.
 fn normal_function<'a>(
     alloc: Global,
+    maker: &mut Maker,
     names: &FunctionNames<'a>,
     fun: &'a Fun,
 ) -> Result<NormFun, AllocError>
@@ -58,7 +59,7 @@ fn normal_function<'a>(
     let mut sharing = Sharing { alloc, next: 1 };
     let params = sharing.bind_params(&fun.params)?;
     let slots = own_slots(alloc, &params)?;
-    let named = name_operands(alloc, names, fun)?;
+    let named = name_operands(maker, names, fun)?;
     let body = sharing.share_body(&named, &slots)?;
     Ok(NormFun { params, body })
 }
@@ -73,9 +74,10 @@ pub fn normal_functions<'a>(
         map (normal_parts (program_of names.now.program.now)) (map function_of funs.now)) }
     ensures numbers { OnOk result (All (λ (g : Function). AllNodes NumberFits g.body) (map function_of funs.now)) }
 {
+    let mut maker = Maker::new(alloc);
     let mut made = Vec::new(alloc);
     for fun in funs {
-        made.push(normal_function(alloc, names, fun)?)?;
+        made.push(normal_function(alloc, &mut maker, names, fun)?)?;
     }
     Ok(made)
 }

@@ -134,7 +134,7 @@ impl<'a> NormProgram<'a> {
 }
 
 /// The normal form of a typed program, which keeps it and its groups. Only memory can be wanting; that is
-/// told too where a function has 2^32 variables, or where its types have more than 2^23 nodes in all.
+/// told too where a function has 2^32 variables, or where more than 2^23 nodes of types would be made.
 #[tactic(auto, using(crate::proofs::NormalParts::funs_from, crate::proofs::NormalParts::same_count))]
 pub fn normalise<'a>(
     alloc: Global,
