@@ -11,9 +11,9 @@ ghost use Rattle.stack_compile.specs.Emit.{below_all, size, NumbersFit, HasRoom}
 ghost use Rattle.stack_compile.specs.Read.{body_in, code_at};
 
 use crate::emit::{emit, put};
-use crate::functions::Functions;
 use crate::instr::Instr;
 use crate::scope::{Env, Scope};
+use function_names::FunctionNames;
 use raml_syntax::{Expr, Fun, FunId, Param, Program};
 use simple_types::Typed;
 use std::alloc::{AllocError, Global};
@@ -120,7 +120,7 @@ fn emit_below<'s, 'a>(
 /// The code of a function.
 fn compile_function<'a>(
     alloc: Global,
-    functions: &Functions<'a>,
+    functions: &FunctionNames<'a>,
     fun: &'a Fun,
 ) -> Result<Body, AllocError>
     requires parameters { length (function_of fun.now).params ≤ 8 }
@@ -144,7 +144,7 @@ fn compile_function<'a>(
 /// The codes of functions of the program in order.
 fn compile_all<'a>(
     alloc: Global,
-    functions: &Functions<'a>,
+    functions: &FunctionNames<'a>,
     funs: &'a [Fun],
 ) -> Result<Vec<Body>, AllocError>
     requires parameters { All (λ (g : Function). length g.params ≤ 8) (map function_of funs.now) }
@@ -165,7 +165,7 @@ pub fn compile<'a>(alloc: Global, typed: &'a Typed) -> Result<Code<'a>, AllocErr
     ensures { IfOk result (λ code. code ≡ typed.now) }
 {
     let program = typed.program();
-    let functions = Functions::new(alloc, program)?;
+    let functions = FunctionNames::new(alloc, program)?;
     let bodies = compile_all(alloc, &functions, &program.funs)?;
     Ok(Code { typed, bodies })
 }

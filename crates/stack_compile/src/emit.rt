@@ -1,15 +1,16 @@
 // The code of expressions. Jumps are written once the code that they pass is there.
 ghost use Rattle.std.specs.Prelude.{◌≡◌, ◌≤◌, ◌+◌, ◌*◌, [], ◌∷◌, ◌++◌, length, OnOk, vec_len};
-ghost use Rattle.raml_syntax.specs.Read.{terms_of};
+ghost use Rattle.raml_syntax.specs.Read.{program_of, terms_of};
 ghost use Rattle.raml_syntax.specs.Node.{nodes_of_all, AllOf, NumberFits};
 ghost use Rattle.stack_compile.specs.Code as c;
-ghost use Rattle.stack_compile.specs.Code.{one, seq, fork};
+ghost use Rattle.stack_compile.specs.Code.{fun_of, one, seq, fork};
 ghost use Rattle.stack_compile.specs.Emit.{here, below, bound_in, leave_of, size, NumbersFit, HasRoom, Appended, binders, arguments_in, call_in, let_in, match_in, node_in};
 ghost use Rattle.stack_compile.specs.declared.instr.Instr.TheVariants.{Branch, Tick};
 
 use crate::instr::Instr;
 use crate::scope::{Env, Scope};
-use raml_syntax::{ArithOp, Binder, Expr, Form, Name};
+use function_names::FunctionNames;
+use raml_syntax::{ArithOp, Binder, Expr, Form, FunId, Name};
 use std::alloc::AllocError;
 
 /// Appends an instruction.
@@ -169,6 +170,13 @@ fn emit_all<'s, 'a>(
     Ok(())
 }
 
+/// The function of this name. A typed program calls no other; for one that is not there it is the first.
+fn callee(functions: &FunctionNames, name: &str) -> FunId
+    ensures { result ≡ fun_of name.now (program_of functions.now.program.now) }
+{
+    functions.find(name).unwrap_or(FunId(0))
+}
+
 /// Appends the code of a call.
 #[cycle(emit)]
 fn emit_call<'s, 'a>(
@@ -183,7 +191,7 @@ fn emit_call<'s, 'a>(
     ensures numbers { OnOk result (AllOf NumberFits (terms_of args.now)) }
 {
     emit_all(code, env, args)?;
-    put(code, Instr::Call(env.functions.find(name.text())))
+    put(code, Instr::Call(callee(env.functions, name.text())))
 }
 
 /// Appends the code of an expression below more locals.

@@ -4,7 +4,6 @@
 
 mod code;
 mod emit;
-mod functions;
 mod instr;
 pub mod laws;
 mod scope;

@@ -3,7 +3,7 @@ ghost use Rattle.std.specs.Prelude.{◌≡◌, length};
 ghost use Rattle.stack_compile.specs.Code.{local_of};
 ghost use Rattle.stack_compile.specs.Read.{names_in};
 
-use crate::functions::Functions;
+use function_names::FunctionNames;
 use raml_syntax::Name;
 
 /// The locals at hand, the newest outermost.
@@ -19,7 +19,7 @@ pub enum Scope<'s, 'a> {
 /// What names stand for at a place of the program.
 #[derive(Clone, Copy)]
 pub struct Env<'s, 'a> {
-    pub functions: &'s Functions<'a>,
+    pub functions: &'s FunctionNames<'a>,
     pub scope: &'s Scope<'s, 'a>,
     /// How many locals there are.
     pub depth: u32,

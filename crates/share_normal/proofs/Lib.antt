@@ -1,0 +1,4 @@
+pub mod Members
+pub mod Pushed
+pub mod SourceNumbers
+pub mod NormalParts

@@ -1,0 +1,7 @@
+use Rattle.std.proofs.Common.{◌≡◌, ◌++◌, drop}
+use Rattle.normal_form.specs.Two as two
+use Rattle.normal_form.specs.Read.{norm_of}
+use Rattle.share_normal.proofs.slots.used.Given as goal
+
+abbrev pub invariant-loop-slot : goal.invariant-loop-slot
+invariant-loop-slot l = l.made.items ++ two.used (norm_of l.marked.expr.now) (drop l.slot-index l.slots) ≡ two.used (norm_of l.marked.expr.now) l.slots

@@ -1,0 +1,7 @@
+pub mod Frees
+pub mod ReadFree
+pub mod ReadTaken
+pub mod Made
+pub mod Numbers
+pub mod Parts
+pub mod Program
