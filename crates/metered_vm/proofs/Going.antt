@@ -24,6 +24,6 @@ counts y = record y { made = y.made + 1 }
 -- one step of a machine behind its others
 pub goes_on : (code : List Body) (steps : ℕ) (x y z : Machine) → state_of y ≡ after code (y.made - x.made) (state_of x) → Goes steps x y → y.made < steps → counted (state_of z) ≡ step code (state_of y) → Grew y z → (state_of (counts z) ≡ after code (z.made + 1 - x.made) (state_of x)) × Goes steps x (counts z)
 goes_on code steps x y z before goes more does grew = (
-    after_more code _ _ _ x.made y.made (z.made + 1) goes.0 (ap (λ n. n + 1) grew.0) before does,
-    (omega (arith, goes, grew), omega (arith, grew, more), omega (arith, grew, goes), grew.2 ∙ goes.3, front_on _ _ _ goes.4 grew.3),
-  )
+  after_more code _ _ _ x.made y.made (z.made + 1) goes.0 (ap (λ n. n + 1) grew.0) before does,
+  (omega (arith, goes, grew), omega (arith, grew, more), omega (arith, grew, goes), grew.2 ∙ goes.3, front_on _ _ _ goes.4 grew.3),
+)

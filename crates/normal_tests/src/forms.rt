@@ -1,7 +1,6 @@
 // The normal forms of programs.
-use crate::more_programs as more;
-use crate::programs as first;
 use crate::shown::Shown;
+use crate::{more_programs as more, programs as first};
 use call_groups::group_calls;
 use raml_parse::parse;
 use raml_syntax::FunId;

@@ -110,7 +110,12 @@ impl Shown {
 
     /// Behind a word and variables one part.
     #[cycle(shown)]
-    fn with_part(&mut self, word: &str, variables: &[u32], part: &NormExpr) -> Result<(), AllocError> {
+    fn with_part(
+        &mut self,
+        word: &str,
+        variables: &[u32],
+        part: &NormExpr,
+    ) -> Result<(), AllocError> {
         self.row(word, variables)?;
         self.part(part)?;
         self.word(")")

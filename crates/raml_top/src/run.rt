@@ -45,18 +45,14 @@ pub fn run<S: Store>(
     requires parameters { All (λ (g : Function). 1 ≤ length g.params) (program_of typed.now) }
     requires steps { call.limits.steps ≤ 1000000000 }
     requires cells { call.limits.cells ≤ 16777216 }
-    ensures ok {
-        IfOk result (λ report.
-            RunReported (S.holds store.old) call.entry.name.now call.entry.«data».now
-                (limits_of call.entry.limits) report.status (string_bytes report.text)
-                (program_of typed.now))
-    }
-    ensures err {
-        IfErr result (λ status.
-            RunAnswered (S.holds store.old)
-                (counts (S.faults store.old) (S.faults store.new) call.entry.«data».now)
-                call.entry.name.now call.entry.«data».now status (program_of typed.now))
-    }
+    ensures ok { IfOk result (λ report.
+        RunReported (S.holds store.old) call.entry.name.now call.entry.«data».now
+        (limits_of call.entry.limits) report.status (string_bytes report.text)
+        (program_of typed.now)) }
+    ensures err { IfErr result (λ status.
+        RunAnswered (S.holds store.old)
+        (counts (S.faults store.old) (S.faults store.new) call.entry.«data».now)
+        call.entry.name.now call.entry.«data».now status (program_of typed.now)) }
     ensures kept { S.holds store.new ≡ S.holds store.old }
     ensures later { (other : Text) → S.faults store.old other ≤ S.faults store.new other }
 {
