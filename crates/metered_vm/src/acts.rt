@@ -57,7 +57,7 @@ pub fn load(m: &mut Machine, k: u32) -> Result<(), AllocError>
 }
 
 /// Pops a word and appends it to the locals.
-#[tactic(auto, using(crate::proofs::Lists::stack_snoc, crate::proofs::Lists::length_stack, crate::proofs::Lists::below_snoc, crate::proofs::Lists::below_init_is, crate::proofs::Lists::below_last_is,))]
+#[tactic(auto, using(crate::proofs::Lists::stack_snoc, crate::proofs::Lists::length_stack, crate::proofs::Lists::below_snoc, crate::proofs::Lists::below_init_is, crate::proofs::Lists::below_last_is))]
 pub fn bind(m: &mut Machine) -> Result<(), AllocError>
     requires sound { IsSound m.old }
     requires finds { CanMake i.Bind m.old }
@@ -130,7 +130,7 @@ pub fn fork(m: &mut Machine, to: u32)
 }
 
 /// Negates the truth on top.
-#[tactic(auto, using(crate::proofs::Lists::stack_snoc, crate::proofs::Lists::below_snoc, crate::proofs::Lists::below_init_is,))]
+#[tactic(auto, using(crate::proofs::Lists::stack_snoc, crate::proofs::Lists::below_snoc, crate::proofs::Lists::below_init_is))]
 pub fn negate(m: &mut Machine)
     requires sound { IsSound m.old }
     requires finds { CanMake i.Not m.old }
@@ -165,7 +165,7 @@ fn result_of(op: ArithOp, left: i64, right: i64) -> i64
 }
 
 /// Takes the right and the left operand, and pushes the result.
-#[tactic(auto, using(crate::proofs::Lists::stack_snoc, crate::proofs::Lists::below_snoc, crate::proofs::Lists::below_init_is,))]
+#[tactic(auto, using(crate::proofs::Lists::stack_snoc, crate::proofs::Lists::below_snoc, crate::proofs::Lists::below_init_is))]
 #[inline(always)]
 pub fn arith(m: &mut Machine, op: ArithOp)
     requires sound { IsSound m.old }
@@ -193,7 +193,7 @@ fn holds(op: CompareOp, left: i64, right: i64) -> bool
 }
 
 /// Takes the right and the left operand, and pushes whether the comparison holds.
-#[tactic(auto, using(crate::proofs::Lists::stack_snoc, crate::proofs::Lists::below_snoc, crate::proofs::Lists::below_init_is,))]
+#[tactic(auto, using(crate::proofs::Lists::stack_snoc, crate::proofs::Lists::below_snoc, crate::proofs::Lists::below_init_is))]
 pub fn compare(m: &mut Machine, op: CompareOp)
     requires sound { IsSound m.old }
     requires finds { CanMake (i.Compare op) m.old }
@@ -226,7 +226,7 @@ fn push_cell(m: &mut Machine, cell: Cell)
 }
 
 /// Takes a cell for a pair.
-#[tactic(auto, using(crate::proofs::Lists::stack_snoc, crate::proofs::Lists::length_stack, crate::proofs::Lists::below_init_is, crate::proofs::Lists::below_last_is,))]
+#[tactic(auto, using(crate::proofs::Lists::stack_snoc, crate::proofs::Lists::length_stack, crate::proofs::Lists::below_init_is, crate::proofs::Lists::below_last_is))]
 pub fn pair(m: &mut Machine)
     requires sound { IsSound m.old }
     requires finds { CanMake i.Pair m.old }
@@ -242,7 +242,7 @@ pub fn pair(m: &mut Machine)
 }
 
 /// Takes a cell for an element of a list.
-#[tactic(auto, using(crate::proofs::Lists::stack_snoc, crate::proofs::Lists::length_stack, crate::proofs::Lists::below_init_is, crate::proofs::Lists::below_last_is,))]
+#[tactic(auto, using(crate::proofs::Lists::stack_snoc, crate::proofs::Lists::length_stack, crate::proofs::Lists::below_init_is, crate::proofs::Lists::below_last_is))]
 pub fn cons(m: &mut Machine)
     requires sound { IsSound m.old }
     requires finds { CanMake i.Cons m.old }
@@ -258,7 +258,7 @@ pub fn cons(m: &mut Machine)
 }
 
 /// Takes a cell for a node.
-#[tactic(auto, using(crate::proofs::Lists::stack_snoc, crate::proofs::Lists::length_stack, crate::proofs::Lists::below_init_is, crate::proofs::Lists::below_last_is,))]
+#[tactic(auto, using(crate::proofs::Lists::stack_snoc, crate::proofs::Lists::length_stack, crate::proofs::Lists::below_init_is, crate::proofs::Lists::below_last_is))]
 pub fn node(m: &mut Machine)
     requires sound { IsSound m.old }
     requires finds { CanMake i.Node m.old }
@@ -275,7 +275,7 @@ pub fn node(m: &mut Machine)
 }
 
 /// Takes a cell for the content of `some`.
-#[tactic(auto, using(crate::proofs::Lists::stack_snoc, crate::proofs::Lists::length_stack, crate::proofs::Lists::below_init_is, crate::proofs::Lists::below_last_is,))]
+#[tactic(auto, using(crate::proofs::Lists::stack_snoc, crate::proofs::Lists::length_stack, crate::proofs::Lists::below_init_is, crate::proofs::Lists::below_last_is))]
 pub fn some(m: &mut Machine)
     requires sound { IsSound m.old }
     requires finds { CanMake i.Some m.old }

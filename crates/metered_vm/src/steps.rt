@@ -55,7 +55,7 @@ fn is_full(m: &Machine) -> bool
 }
 
 /// Makes the next instruction, which the caller counts. The body is that of the machine's function.
-#[tactic(auto, using(crate::proofs::Fetching::fetch_is, crate::proofs::Fetching::step_is, crate::proofs::Fetching::finds_at, crate::proofs::Fetching::there_at,))]
+#[tactic(auto, using(crate::proofs::Fetching::fetch_is, crate::proofs::Fetching::step_is, crate::proofs::Fetching::finds_at, crate::proofs::Fetching::there_at))]
 fn step(code: &Code, body: &[Instr], m: &mut Machine) -> Result<Outcome, AllocError>
     requires body { body.now ≡ body_at (bodies_of (program_of code.now)) m.old }
     requires sound { IsSound m.old }
