@@ -1,0 +1,9 @@
+pub mod Program
+pub mod Certificate
+pub mod Signature
+pub mod Carried
+pub mod Rules
+pub mod Holds
+pub mod Held
+pub mod Least
+pub mod Read
