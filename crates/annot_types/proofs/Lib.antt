@@ -1,0 +1,5 @@
+mod Small
+mod Each
+mod ThreeTicks
+mod Appended
+mod Computed

@@ -68,6 +68,11 @@ pub record Certificate : Type 0 where
 abbrev pub has_work : Certificate → Bool
 has_work c = is_some c.work_scale
 
+abbrev pub IsSolved : Body → Type 0
+IsSolved (Solved sigs hints) = Unit {0}
+IsSolved body = ⊥
+
+-- what a solved block has; none where it is not solved
 abbrev pub sigs_of : Body → List Sig
 sigs_of (Solved sigs hints) = sigs
 sigs_of _ = []

@@ -13,7 +13,7 @@ use Rattle.cost_free.specs.Task.{Kind, Free, Task}
 use Rattle.cost_free.specs.Blocked.{is_for_meter}
 use Rattle.annot_types.specs.Program.{Program, members}
 use Rattle.annot_types.specs.Certificate as c
-use Rattle.annot_types.specs.Certificate.{Entries, annotation, Annotates, Sig, Hint, Body, Solved, Block, sigs_of, hints_of}
+use Rattle.annot_types.specs.Certificate.{Entries, annotation, Annotates, Sig, Hint, Body, Solved, IsSolved, Block, sigs_of, hints_of}
 use Rattle.annot_types.specs.Signature.{sig_in}
 use Rattle.annot_types.specs.Rules.{Mode, With, Own, Setting, Ann}
 
@@ -110,8 +110,7 @@ ReachesTarget P d block t (k.With meter) = Unit {0}
 -- cost-free block reaches t times its target.
 pub record Holds (P : Program) (d : ℕ) (earlier : List Block) (scale : ℕ) (block : Block) (t : ℕ) : Type 0 where
   pub positive : 0 < t
-  pub sigs : List Sig
-  pub hints : List (List Hint)
-  pub solved : block.body ≡ Solved sigs hints
-  pub functions : FunctionsHold (setting P d earlier scale block t) (mode_of block.task.kind) (members P block.task.group) sigs hints
+  pub solved : IsSolved block.body
+  pub functions : FunctionsHold (setting P d earlier scale block t) (mode_of block.task.kind) (members P block.task.group)
+      (sigs_of block.body) (hints_of block.body)
   pub reaches : ReachesTarget P d block t block.task.kind

@@ -7,3 +7,4 @@ pub mod Holds
 pub mod Held
 pub mod Least
 pub mod Read
+pub mod Example

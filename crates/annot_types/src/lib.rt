@@ -4,6 +4,7 @@
 
 mod annot;
 mod block;
+pub mod laws;
 
 pub use annot::Annot;
 pub use block::{Block, BlockBody, Certificate, Hint, Sig};
