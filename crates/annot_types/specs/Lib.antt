@@ -6,5 +6,7 @@ pub mod Rules
 pub mod Holds
 pub mod Held
 pub mod Least
+pub mod Rows
+pub mod System
 pub mod Read
 pub mod Example
