@@ -28,7 +28,7 @@ in_place P c first (b ∷ bs) each (suc k) block there =
 pub all_in_place : (P : Program) (c : Certificate) → EachInPlace P c 0 c.blocks → (k : ℕ) (block : Block) → slice_get c.blocks k ≡ Some block → IsInPlace P c k block
 all_in_place P c each k block there = let same : 0 + k ≡ k = omega arith in subst (λ n. IsInPlace P c n block) same (in_place P c 0 c.blocks each k block there)
 
-is_positive : (n : ℕ) → pos 0 <ℤ pos (suc n)
+pub is_positive : (n : ℕ) → pos 0 <ℤ pos (suc n)
 is_positive n = grind (arith, ints)
 
 pub one_entry : (k n : ℕ) → Rise ((k, pos (suc n)) ∷ [])

@@ -3,3 +3,4 @@ mod Each
 mod ThreeTicks
 mod Appended
 mod Computed
+mod Systems

@@ -10,3 +10,4 @@ pub mod Rows
 pub mod System
 pub mod Read
 pub mod Example
+pub mod SystemExample
