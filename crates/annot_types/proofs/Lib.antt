@@ -4,3 +4,6 @@ mod ThreeTicks
 mod Appended
 mod Computed
 mod Systems
+mod Linear
+mod Times
+mod Derived
