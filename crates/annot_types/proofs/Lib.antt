@@ -7,3 +7,5 @@ mod Systems
 mod Linear
 mod Times
 mod Derived
+mod Raised
+mod Multiples

@@ -64,7 +64,7 @@ past_blocks u P m (b ∷ bs) (c ∷ cs) h =
 pub past_times : (u : ℕ) (m : Mode) (S : Setting) (earlier : List Block) (scale : ℕ) → SettingTimes u m S earlier scale → SettingTimes u Past S earlier scale
 past_times u m S earlier scale h = record { blocks = past_blocks u S.program m S.earlier earlier h.blocks; prices = λ n t c. nothing u; refunds = nothing u }
 
-sig_among_times : (u : ℕ) (gs : List ℕ) (ss : List Sig) (f : ℕ) → sig_among gs (map (times_sig u) ss) f ≡ option_map (times_sig u) (sig_among gs ss f)
+pub sig_among_times : (u : ℕ) (gs : List ℕ) (ss : List Sig) (f : ℕ) → sig_among gs (map (times_sig u) ss) f ≡ option_map (times_sig u) (sig_among gs ss f)
 sig_among_times u [] ss f = refl
 sig_among_times u (g ∷ gs) [] f = refl
 sig_among_times u (g ∷ gs) (s ∷ ss) f = at (nat_eq f g) (sig_among_times u gs ss f)

@@ -6,6 +6,7 @@ pub mod Rules
 pub mod Holds
 pub mod Held
 pub mod Least
+pub mod Laws
 pub mod Rows
 pub mod System
 pub mod Read
