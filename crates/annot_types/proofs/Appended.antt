@@ -1,7 +1,6 @@
 -- The certificates of a list appended to another.
-use Rattle.std.proofs.Common.{◌≡◌, ◌≤◌, ℕ, pos, List, [], ◌∷◌, slice_get, Some, refl, arith, subst, sym}
-use Rattle.cost_free.specs.declared.task.Meter.TheVariants.{Ticks, Cells, Work}
-use Rattle.cost_free.specs.Task as k
+use Rattle.std.proofs.Common.{◌≡◌, ◌≤◌, pos, List, [], ◌∷◌, slice_get, Some, refl, arith, subst, sym}
+use Rattle.cost_free.specs.declared.task.Meter.TheVariants.{Cells}
 use Rattle.index_shift.specs.Potential.{Annotation, moved}
 use Rattle.index_shift.specs.Maps.{opening}
 use Rattle.normal_form.specs.Norm as n
@@ -170,7 +169,8 @@ append_held = record {
   blocks = all_in_place (program append) (append_with ((2, pos 1) ∷ [])) (
     record { task = refl; waits = tt; shape = ((one_entry 0 0, one_entry 0 0, tt), (((one_entry 0 0, tt), (tt, tt)), tt)); holds = record { t = 1; one = tt; holds = constant_holds } },
     (
-      record { task = refl; waits = tt; shape = ((two_entries 1, one_entry 1 0, tt), (((two_entries 0, tt), (one_entry 0 0, tt)), tt)); holds = record { t = 1; one = tt; holds = length_holds } },
+      record { task = refl; waits = tt; shape = ((two_entries 1, one_entry 1 0, tt), (((two_entries 0, tt), (one_entry 0 0, tt)), tt));
+          holds = record { t = 1; one = tt; holds = length_holds } },
       (
         record { task = refl; waits = tt; shape = ((tt, tt, tt), (((tt, tt), (tt, tt)), tt)); holds = record { t = 1; one = refl; holds = ticks_hold } },
         (
@@ -203,7 +203,8 @@ takes_first u m =
 abbrev no_sig : Sig
 no_sig = record { args = []; result = [] }
 
-asks_one : (once : List Sig) → TakesOnce at_cells (With Cells) 0 once → (us : List Taken) → AreMultiples at_cells 1 0 ((0, pos 1) ∷ []) us → (g : NormFun) → slice_get (append ∷ []) 0 ≡ Some g →
+asks_one : (once : List Sig) → TakesOnce at_cells (With Cells) 0 once → (us : List Taken) → AreMultiples at_cells 1 0 ((0, pos 1) ∷ []) us →
+    (g : NormFun) → slice_get (append ∷ []) 0 ≡ Some g →
     1 ≤ asked at_cells tail_and_second (4 ∷ 2 ∷ []) (types g.params) 1 (all_taken at_cells once us) 0
 asks_one once takes [] named g there = absurd named
 asks_one once takes (u ∷ v ∷ us) named g there = absurd named.1
@@ -225,8 +226,10 @@ cell_missing h =
     let placed = h.blocks 3 less_cells refl in
     let holds = subst (λ t. Holds (program append) 1 (before (append_with []) 3) 1 less_cells t) placed.holds.one placed.holds.holds in
     let of_append = holds.functions.0 in
-    let fits = subst (λ (g : NormFun). Ann at_cells (With Cells) 1 g.params (annotation []) g.body g.result (annotation []) (Let (((0, pos 1) ∷ []) ∷ []) ∷ Call ((0, pos 1) ∷ []) ∷ []) []) (sym (some_is append of_append.fun of_append.there)) of_append.fits in
-    let bound = subst (λ hs. Ann at_cells (With Cells) 1 (opened 1 (3 ∷ 4 ∷ []) parts_of append.params) after_match bound_call (ListOf Integer) (annotation []) hs []) (sym fits.1.1.1) fits.1.2 in
+    let fits = subst (λ (g : NormFun). Ann at_cells (With Cells) 1 g.params (annotation []) g.body g.result (annotation []) (Let (((0, pos 1) ∷ []) ∷ []) ∷ Call ((0, pos 1) ∷ []) ∷ []) [])
+        (sym (some_is append of_append.fun of_append.there)) of_append.fits in
+    let bound = subst (λ hs. Ann at_cells (With Cells) 1 (opened 1 (3 ∷ 4 ∷ []) parts_of append.params) after_match bound_call (ListOf Integer) (annotation []) hs [])
+        (sym fits.1.1.1) fits.1.2 in
     let rule = bound.1.1.2.1.0 in
     let few = asks_one rule.once rule.takes rule.multiples rule.named rule.fun rule.there in
     omega (arith, few, rule.args 0 (below 0 3 refl))

@@ -1,5 +1,5 @@
 -- What fits the rules fits them with all numbers times u.
-use Rattle.std.proofs.Common.{◌≡◌, ◌≤◌, ℕ, ◌-◌, ◌*◌, ◌++◌, List, [], ◌∷◌, map, refl, ap, sym, ◌∙◌, subst}
+use Rattle.std.proofs.Common.{◌≡◌, ◌≤◌, ℕ, ◌-◌, ◌*◌, ◌++◌, List, [], ◌∷◌, map, ap, sym, ◌∙◌, subst}
 use Rattle.std.proofs.Math.Nat.{mul-le-mul_left}
 use Rattle.raml_syntax.specs.Tree.{Type'}
 use Rattle.base_poly.specs.Plain.{Plain, degrees}
@@ -13,9 +13,9 @@ use Rattle.normal_form.specs.Context.{Context, types, place, without, opened, pa
 use Rattle.annot_types.specs.Certificate.{Entries, annotation, Annotates, Hint, Block}
 use Rattle.annot_types.specs.Carried.{Covers, at_parts, tuples, marks, part, joined}
 use Rattle.annot_types.specs.Rules.{Mode, Past, Setting, TakesLet, TakesShare, TakesCall, Parts, Pays, CallRule, Ann}
-use Rattle.annot_types.specs.Holds.{times}
 use Rattle.annot_types.proofs.Linear.{mul, moved_mul, covers_mul, at_parts_mul, annotation_mul, annotates_mul, joined_mul}
-use Rattle.annot_types.proofs.Times.{SettingTimes, times_setting, times_hints, past_times, pays_times, call_times, let_times, share_times, hint_times, parts_times}
+use Rattle.annot_types.proofs.Times.{SettingTimes, times_setting, times_hints, past_times, pays_times, call_times, let_times, share_times}
+use Rattle.annot_types.proofs.Times.{hint_times, parts_times}
 
 module _ (u : ℕ) (S : Setting) (earlier : List Block) (scale : ℕ) where
   -- a rule with no parts and no hint
@@ -26,11 +26,13 @@ module _ (u : ℕ) (S : Setting) (earlier : List Block) (scale : ℕ) where
 
   -- the zero index alone
   abbrev first : (m : Mode) → SettingTimes u m S earlier scale → (nodes ticks cells : ℕ) (q r : Annotation) (hs out : List Hint) →
-      Pays S m nodes ticks cells q (λ q. r 0 ≤ q 0) × (hs ≡ out) → Pays (times_setting u S earlier scale) m nodes ticks cells (mul u q) (λ q. u * r 0 ≤ q 0) × (times_hints u hs ≡ times_hints u out)
+      Pays S m nodes ticks cells q (λ q. r 0 ≤ q 0) × (hs ≡ out) →
+          Pays (times_setting u S earlier scale) m nodes ticks cells (mul u q) (λ q. u * r 0 ≤ q 0) × (times_hints u hs ≡ times_hints u out)
   first m h nodes ticks cells q r hs out a = alone m h nodes ticks cells q (λ q. r 0 ≤ q 0) (λ q. u * r 0 ≤ q 0) hs out (λ q le. mul-le-mul_left u le) a
 
   -- a constructor
-  abbrev made_of : (m : Mode) → SettingTimes u m S earlier scale → (nodes cells : ℕ) (q : Annotation) (C : Context) (xs : List ℕ) (T : Type') (d : ℕ) (r : Annotation) (hs out : List Hint) →
+  abbrev made_of : (m : Mode) → SettingTimes u m S earlier scale →
+      (nodes cells : ℕ) (q : Annotation) (C : Context) (xs : List ℕ) (T : Type') (d : ℕ) (r : Annotation) (hs out : List Hint) →
       Pays S m nodes 0 cells q (λ q. Covers (types C) d q (at_parts C xs T d r)) × (hs ≡ out) →
       Pays (times_setting u S earlier scale) m nodes 0 cells (mul u q) (λ q. Covers (types C) d q (at_parts C xs T d (mul u r))) × (times_hints u hs ≡ times_hints u out)
   made_of m h nodes cells q C xs T d r hs out a =
@@ -39,12 +41,14 @@ module _ (u : ℕ) (S : Setting) (earlier : List Block) (scale : ℕ) where
 
   -- a rule with one part, whose annotation is moved
   abbrev onward : (m : Mode) → SettingTimes u m S earlier scale → (nodes : ℕ) (q : Annotation) (es : List Entry) (part made : Annotation → Type 0) →
-      ((q : Annotation) → part q → made (mul u q)) → Pays S m nodes 0 0 q (λ q. part (moved es q)) → Pays (times_setting u S earlier scale) m nodes 0 0 (mul u q) (λ q. made (moved es q))
+      ((q : Annotation) → part q → made (mul u q)) → Pays S m nodes 0 0 q (λ q. part (moved es q)) →
+          Pays (times_setting u S earlier scale) m nodes 0 0 (mul u q) (λ q. made (moved es q))
   onward m h nodes q es part made go a =
       pays_times u m S earlier scale h nodes 0 0 q (λ q. part (moved es q)) (λ q. made (moved es q)) (λ q c. subst made (sym (moved_mul u es q)) (go (moved es q) c)) a
 
   -- a rule with two branches
-  abbrev branches : (m : Mode) → SettingTimes u m S earlier scale → (nodes : ℕ) (q : Annotation) (es ds : List Entry) (a a' b b' : Annotation → List Hint → List Hint → Type 0) (hs out : List Hint) →
+  abbrev branches : (m : Mode) → SettingTimes u m S earlier scale →
+      (nodes : ℕ) (q : Annotation) (es ds : List Entry) (a a' b b' : Annotation → List Hint → List Hint → Type 0) (hs out : List Hint) →
       ((q : Annotation) (hs out : List Hint) → a q hs out → a' (mul u q) (times_hints u hs) (times_hints u out)) →
       ((q : Annotation) (hs out : List Hint) → b q hs out → b' (mul u q) (times_hints u hs) (times_hints u out)) →
       Pays S m nodes 0 0 q (λ q. (between : List Hint) × a (moved es q) hs between × b (moved ds q) between out) →
@@ -95,12 +99,15 @@ module _ (u : ℕ) (S : Setting) (earlier : List Block) (scale : ℕ) where
       (λ q. let_times u hs (rule q) (after (mul u q)) (λ rs rest c. (
         times_hints u c.0,
         parts_times u A d (parts S q) (parts made (mul u q)) m
-        (λ j s hs out w. subst (λ q. Ann made m (d - degrees j) (inners a C) q a A (mul u s) (times_hints u hs) (times_hints u out)) (sym (moved_mul u (projection (marks a C) (types C) d j) q))
+        (λ j s hs out w. subst (λ q. Ann made m (d - degrees j) (inners a C) q a A (mul u s) (times_hints u hs) (times_hints u out))
+            (sym (moved_mul u (projection (marks a C) (types C) d j) q))
           (derived m h (d - degrees j) (inners a C) (part a C d j q) a A s hs out w))
-        (λ j s hs out w. subst (λ q. Ann made Past (d - degrees j) (inners a C) q a A (mul u s) (times_hints u hs) (times_hints u out)) (sym (moved_mul u (projection (marks a C) (types C) d j) q))
+        (λ j s hs out w. subst (λ q. Ann made Past (d - degrees j) (inners a C) q a A (mul u s) (times_hints u hs) (times_hints u out))
+            (sym (moved_mul u (projection (marks a C) (types C) d j) q))
           (derived Past (past_times u m S earlier scale h) (d - degrees j) (inners a C) (part a C d j q) a A s hs out w))
         js rs rest c.0 c.1,
-        subst (λ q. Ann made m d D q b T (mul u r) (times_hints u c.0) (times_hints u out)) (sym (joined_mul u Bs A d js rs)) (derived m h d D (joined Bs A d js (map annotation rs)) b T r c.0 out c.2),
+        subst (λ q. Ann made m d D q b T (mul u r) (times_hints u c.0) (times_hints u out)) (sym (joined_mul u Bs A d js rs))
+            (derived m h d D (joined Bs A d js (map annotation rs)) b T r c.0 out c.2),
       ))) p
   derived m h d C q (n.Split k x y z a) T r hs out p =
       let D = opened x (y ∷ z ∷ []) parts_of C in

@@ -1,5 +1,5 @@
 -- Blocks in their places, one by one.
-use Rattle.std.proofs.Common.{◌≡◌, ◌≤◌, ◌<ℤ◌, ℕ, zero, suc, ◌+◌, pos, List, [], ◌∷◌, slice_get, Option, Some, None, refl, arith, subst}
+use Rattle.std.proofs.Common.{◌≡◌, ◌<ℤ◌, ℕ, zero, suc, ◌+◌, pos, List, [], ◌∷◌, slice_get, Some, None, arith, subst}
 use Rattle.std.proofs.lemmas.Int.{ints}
 use Rattle.cost_free.specs.declared.task.Meter.{Meter}
 use Rattle.cost_free.specs.declared.task.Meter.TheVariants.{Ticks, Cells, Work}

@@ -1,5 +1,6 @@
 -- Annotations whose numbers are all multiplied: whatever moves them is linear.
-use Rattle.std.proofs.Common.{◌≡◌, ◌≤◌, ◌<◌, ◌==◌, if◌then◌else◌, ℕ, zero, suc, ◌+◌, ◌-◌, ◌*◌, ℤ, pos, ◌*ℤ◌, unsigned_abs, Bool, true, false, List, [], ◌∷◌, ◌++◌, map, refl, arith, ap, sym, ◌∙◌, subst}
+use Rattle.std.proofs.Common.{◌≡◌, ◌==◌, if◌then◌else◌, ℕ, zero, suc, ◌+◌, ◌-◌, ◌*◌, pos, ◌*ℤ◌, unsigned_abs, Bool, true, false}
+use Rattle.std.proofs.Common.{List, [], ◌∷◌, ◌++◌, map, refl, arith, ap, sym, ◌∙◌}
 use Rattle.std.proofs.Math.Nat.{mul-sub, mul-le-mul_left}
 use Rattle.std.proofs.lemmas.Int.{ints, unsigned_abs-mul}
 use Rattle.raml_syntax.specs.Tree.{Type'}
@@ -62,7 +63,8 @@ more_mul u n q = λ i k. at k i
 pub covers_mul : (u : ℕ) (As : List Type') (d : ℕ) (q r : Annotation) → Covers As d q r → Covers As d (mul u q) (mul u r)
 covers_mul u As d q r h = λ k l. mul-le-mul_left u (h k l)
 
-pub at_operands_mul : (u : ℕ) (C : Context) (xs : List ℕ) (As : List Type') (b d : ℕ) (q : Annotation) → at_operands C xs As b d (mul u q) ≡ mul u (at_operands C xs As b d q)
+pub at_operands_mul : (u : ℕ) (C : Context) (xs : List ℕ) (As : List Type') (b d : ℕ) (q : Annotation) →
+    at_operands C xs As b d (mul u q) ≡ mul u (at_operands C xs As b d q)
 at_operands_mul u C xs As b d q = moved_mul u (entries_from 0 (permutes (operand_places C xs)) (index_list As b) (index_list (types C) d)) q
 
 pub at_parts_mul : (u : ℕ) (C : Context) (xs : List ℕ) (T : Type') (d : ℕ) (r : Annotation) → at_parts C xs T d (mul u r) ≡ mul u (at_parts C xs T d r)

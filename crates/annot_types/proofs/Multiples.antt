@@ -1,9 +1,10 @@
 -- The laws of blocks that hold.
-use Rattle.std.proofs.Common.{◌≡◌, ◌≤◌, ◌<◌, ℕ, ◌*◌, Bool, true, false, cond, List, [], ◌∷◌, map, slice_get, position, Option, None, Some, refl, arith, ap, sym, ◌∙◌, subst}
+use Rattle.std.proofs.Common.{◌≡◌, ◌≤◌, ◌<◌, ℕ, ◌*◌, Bool, true, false, cond, List, [], ◌∷◌, map, position, Option, None, Some}
+use Rattle.std.proofs.Common.{refl, arith, ap, sym, ◌∙◌, subst}
 use Rattle.std.specs.Option.{option_map}
 use Rattle.std.proofs.Math.Nat.{mul-le-mul, mul-le-mul_left}
 use Rattle.raml_syntax.specs.Tree.{Type'}
-use Rattle.base_poly.specs.Plain.{Plain, alike}
+use Rattle.base_poly.specs.Plain.{alike}
 use Rattle.base_poly.specs.Indices.{index_list}
 use Rattle.index_shift.specs.Potential.{Annotation}
 use Rattle.normal_form.specs.Context.{types}
@@ -14,17 +15,19 @@ use Rattle.cost_free.specs.Task as k
 use Rattle.cost_free.specs.Task.{Task, Kind, Free, same_meter}
 use Rattle.cost_free.specs.Blocked.{is_for_meter}
 use Rattle.annot_types.specs.Program.{Program, members}
-use Rattle.annot_types.specs.Certificate.{Entries, annotation, Sig, Hint, Body, Solved, Refuted, Calls, IsSolved, Block, Certificate}
-use Rattle.annot_types.specs.Rules.{Mode, With, Own, Setting, price, refund, Ann}
-use Rattle.annot_types.specs.Holds.{times, times_sig, times_hint, times_body, times_block, raised, mode_of, blocks_before, setting, FunctionHolds, FunctionsHold, number_of, number_at_tuple, CoversTarget, Reaches, ReachesTarget, Holds}
-use Rattle.annot_types.specs.Held.{Held, IfSolved, HoldsInPlace}
+use Rattle.annot_types.specs.Certificate.{annotation, Sig, Hint, Body, Solved, Refuted, Calls, IsSolved, Block}
+use Rattle.annot_types.specs.Rules.{Mode, With, Setting, Ann}
+use Rattle.annot_types.specs.Holds.{times, times_sig, times_hint, times_block, raised, mode_of, blocks_before, setting}
+use Rattle.annot_types.specs.Holds.{FunctionsHold, number_of, CoversTarget, ReachesTarget, Holds}
+use Rattle.annot_types.specs.Held.{IfSolved, HoldsInPlace}
 use Rattle.annot_types.specs.Laws.{MultiplesHold, RaisingKeeps, SolvedBlocksHold, raised_scale}
 use Rattle.annot_types.proofs.Linear.{mul, annotation_mul, annotates_mul}
 use Rattle.annot_types.proofs.Times.{SettingTimes, times_setting, times_hints, sig_among_times}
 use Rattle.annot_types.proofs.Derived.{derived}
 use Rattle.annot_types.proofs.Raised.{all_same, all_more_raised, all_raised_before, all_free_kept, all_other_kept, body_once, same_meters, on, off}
 
-functions_times : (u : ℕ) (m : Mode) (S : Setting) (earlier : List Block) (scale : ℕ) → SettingTimes u m S earlier scale → (fs : List ℕ) (ss : List Sig) (hss : List (List Hint)) →
+functions_times : (u : ℕ) (m : Mode) (S : Setting) (earlier : List Block) (scale : ℕ) → SettingTimes u m S earlier scale →
+    (fs : List ℕ) (ss : List Sig) (hss : List (List Hint)) →
     FunctionsHold S m fs ss hss → FunctionsHold (times_setting u S earlier scale) m fs (map (times_sig u) ss) (map (map (times_hint u)) hss)
 functions_times u m S earlier scale h [] [] [] f = tt
 functions_times u m S earlier scale h [] [] (hs ∷ hss) f = absurd f
@@ -37,8 +40,10 @@ functions_times u m S earlier scale h (g ∷ fs) (s ∷ ss) (hs ∷ hss) f = (
     there = f.0.there;
     args = annotates_mul u (types f.0.fun.params) S.budget s.args f.0.args;
     result = annotates_mul u (f.0.fun.result ∷ []) S.budget s.result f.0.result;
-    fits = subst (λ q. Ann (times_setting u S earlier scale) m S.budget f.0.fun.params q f.0.fun.body f.0.fun.result (annotation (times u s.result)) (times_hints u hs) []) (sym (annotation_mul u s.args))
-        (subst (λ r. Ann (times_setting u S earlier scale) m S.budget f.0.fun.params (mul u (annotation s.args)) f.0.fun.body f.0.fun.result r (times_hints u hs) []) (sym (annotation_mul u s.result))
+    fits = subst (λ q. Ann (times_setting u S earlier scale) m S.budget f.0.fun.params q f.0.fun.body f.0.fun.result (annotation (times u s.result)) (times_hints u hs) [])
+        (sym (annotation_mul u s.args))
+        (subst (λ r. Ann (times_setting u S earlier scale) m S.budget f.0.fun.params (mul u (annotation s.args)) f.0.fun.body f.0.fun.result r (times_hints u hs) [])
+            (sym (annotation_mul u s.result))
         (derived u S earlier scale m h S.budget f.0.fun.params (annotation s.args) f.0.fun.body f.0.fun.result (annotation s.result) hs [] f.0.fits));
   },
   functions_times u m S earlier scale h fs ss hss f.1,
@@ -83,7 +88,8 @@ reaches_times u t P d task sigs hints (Free budget f number) r = record {
   numbered = r.numbered;
   sig = times_sig u r.sig;
   signed = sig_among_times u (members P task.group) sigs f ∙ ap (option_map (times_sig u)) r.signed;
-  covers = subst (λ q. CoversTarget r.fun.result budget q (u * t) r.target) (sym (annotation_mul u r.sig.result)) (covers_times u t r.fun.result budget (annotation r.sig.result) r.target r.covers);
+  covers = subst (λ q. CoversTarget r.fun.result budget q (u * t) r.target) (sym (annotation_mul u r.sig.result))
+      (covers_times u t r.fun.result budget (annotation r.sig.result) r.target r.covers);
 }
 
 -- A block that holds with t holds with u t.
@@ -118,7 +124,8 @@ both_positive u t pu pt =
 pub multiples_hold : MultiplesHold
 multiples_hold P d earlier scale block t u positive h = by block.task block.body h
   where
-    by : (task : Task) (body : Body) → Holds P d earlier scale (record { task = task; body = body }) t → Holds P d earlier scale (times_block u (record { task = task; body = body })) (u * t)
+    by : (task : Task) (body : Body) → Holds P d earlier scale (record { task = task; body = body }) t →
+        Holds P d earlier scale (times_block u (record { task = task; body = body })) (u * t)
     by task (Refuted farkas) h = absurd h.solved
     by task (Calls fun) h = absurd h.solved
     by task (Solved sigs hints) h =
@@ -131,7 +138,8 @@ outer : (u n s t : ℕ) → n * ((u * s) * t) ≡ u * (n * (s * t))
 outer u n s t = grind arith
 
 raised_setting : (u : ℕ) (P : Program) (d : ℕ) (earlier : List Block) (scale group : ℕ) (meter : Meter) (sigs : List Sig) (hints : List (List Hint)) (t : ℕ) →
-    SettingTimes u (With meter) (setting P d earlier scale (block_of (record { group = group; kind = k.With meter }) sigs hints) t) (map (raised meter t) (map (raised meter u) earlier)) ((u * scale) * t)
+    SettingTimes u (With meter) (setting P d earlier scale (block_of (record { group = group; kind = k.With meter }) sigs hints) t)
+      (map (raised meter t) (map (raised meter u) earlier)) ((u * scale) * t)
 raised_setting u P d earlier scale group Ticks sigs hints t =
     record { blocks = all_raised_before u t P Ticks earlier; prices = λ nodes ticks cells. outer u ticks scale t; refunds = nothing u }
 raised_setting u P d earlier scale group Cells sigs hints t =
@@ -145,7 +153,8 @@ raised_setting u P d earlier scale group Work sigs hints t =
 once : (n : ℕ) → n ≡ 1 * n
 once n = omega arith
 
-other_setting : (u : ℕ) (P : Program) (d : ℕ) (earlier : List Block) (scale group : ℕ) (kind : Kind) (meter : Meter) (sigs : List Sig) (hints : List (List Hint)) (t : ℕ) → is_for_meter meter kind ≡ false →
+other_setting : (u : ℕ) (P : Program) (d : ℕ) (earlier : List Block) (scale group : ℕ) (kind : Kind) (meter : Meter) (sigs : List Sig) (hints : List (List Hint)) (t : ℕ) →
+    is_for_meter meter kind ≡ false →
     SettingTimes 1 (mode_of kind) (setting P d earlier scale (block_of (record { group = group; kind = kind }) sigs hints) t) (blocks_before kind t (map (raised meter u) earlier)) (scale * t)
 other_setting u P d earlier scale group (Free budget f number) meter sigs hints t e =
     record { blocks = all_free_kept u P meter earlier; prices = λ nodes ticks cells. refl; refunds = refl }
@@ -164,7 +173,8 @@ reaches_same u t P d task sigs hints kind r =
 pub raising_keeps : RaisingKeeps
 raising_keeps P d earlier scale block t meter u positive h = by block.task.group block.task.kind block.body (is_for_meter meter block.task.kind) refl h
   where
-    by : (group : ℕ) (kind : Kind) (body : Body) (c : Bool) → is_for_meter meter kind ≡ c → Holds P d earlier scale (record { task = record { group = group; kind = kind }; body = body }) t →
+    by : (group : ℕ) (kind : Kind) (body : Body) (c : Bool) → is_for_meter meter kind ≡ c →
+        Holds P d earlier scale (record { task = record { group = group; kind = kind }; body = body }) t →
         Holds P d (map (raised meter u) earlier) (raised_scale meter u kind scale) (raised meter u (record { task = record { group = group; kind = kind }; body = body })) t
     by group kind (Refuted farkas) c e h = absurd h.solved
     by group kind (Calls fun) c e h = absurd h.solved

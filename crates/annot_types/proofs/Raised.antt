@@ -1,5 +1,6 @@
 -- Blocks that are raised, and settings whose blocks are.
-use Rattle.std.proofs.Common.{◌≡◌, ◌≤◌, ◌<◌, ℕ, ◌*◌, ℤ, pos, ◌*ℤ◌, Bool, true, false, cond, List, [], ◌∷◌, map, Option, None, Some, refl, arith, ap, sym, ◌∙◌, subst}
+use Rattle.std.proofs.Common.{◌≡◌, ℕ, ◌*◌, ℤ, pos, ◌*ℤ◌, Bool, true, false, cond, List, [], ◌∷◌, map, Option, None, Some, refl}
+use Rattle.std.proofs.Common.{arith, ap, sym, ◌∙◌, subst}
 use Rattle.std.specs.Option.{option_map}
 use Rattle.std.proofs.lemmas.Int.{ints}
 use Rattle.std.proofs.Math.IntN.{*ℤ_comm}
@@ -91,7 +92,8 @@ unchanged u P meter b e = record {
 }
 
 -- raised by u t, and by t
-more_raised : (u t : ℕ) (P : Program) (meter : Meter) (b : Block) (c : Bool) → is_for_meter meter b.task.kind ≡ c → BlockTimes u P (With meter) (raised meter t b) (raised meter (u * t) b)
+more_raised : (u t : ℕ) (P : Program) (meter : Meter) (b : Block) (c : Bool) → is_for_meter meter b.task.kind ≡ c →
+    BlockTimes u P (With meter) (raised meter t b) (raised meter (u * t) b)
 more_raised u t P meter b true e =
     subst (λ x. BlockTimes u P (With meter) x (raised meter (u * t) b)) (sym (on meter t b e))
     (subst (BlockTimes u P (With meter) (times_block t b)) (sym (on meter (u * t) b e))
@@ -102,7 +104,8 @@ more_raised u t P meter b false e =
     (subst (BlockTimes u P (With meter) b) (sym (off meter (u * t) b e)) (unchanged u P meter b e))
 
 -- raised by t, where it was raised by u before and where it was not
-raised_before : (u t : ℕ) (P : Program) (meter : Meter) (b : Block) (c : Bool) → is_for_meter meter b.task.kind ≡ c → BlockTimes u P (With meter) (raised meter t b) (raised meter t (raised meter u b))
+raised_before : (u t : ℕ) (P : Program) (meter : Meter) (b : Block) (c : Bool) → is_for_meter meter b.task.kind ≡ c →
+    BlockTimes u P (With meter) (raised meter t b) (raised meter t (raised meter u b))
 raised_before u t P meter b true e =
     subst (λ x. BlockTimes u P (With meter) x (raised meter t (raised meter u b))) (sym (on meter t b e))
     (subst (BlockTimes u P (With meter) (times_block t b)) (sym (ap (raised meter t) (on meter u b e) ∙ on meter t (times_block u b) e))
@@ -119,7 +122,8 @@ pub all_more_raised : (u t : ℕ) (P : Program) (meter : Meter) (bs : List Block
 all_more_raised u t P meter [] = tt
 all_more_raised u t P meter (b ∷ bs) = (more_raised u t P meter b (is_for_meter meter b.task.kind) refl, all_more_raised u t P meter bs)
 
-pub all_raised_before : (u t : ℕ) (P : Program) (meter : Meter) (bs : List Block) → BlocksTimes u P (With meter) (map (raised meter t) bs) (map (raised meter t) (map (raised meter u) bs))
+pub all_raised_before : (u t : ℕ) (P : Program) (meter : Meter) (bs : List Block) →
+    BlocksTimes u P (With meter) (map (raised meter t) bs) (map (raised meter t) (map (raised meter u) bs))
 all_raised_before u t P meter [] = tt
 all_raised_before u t P meter (b ∷ bs) = (raised_before u t P meter b (is_for_meter meter b.task.kind) refl, all_raised_before u t P meter bs)
 

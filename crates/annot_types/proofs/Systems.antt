@@ -1,8 +1,8 @@
 -- The systems are as they were worked out, and so is a certificate with a refuted block.
-use Rattle.std.proofs.Common.{◌≡◌, ◌≤ℤ◌, ◌<ℤ◌, ℕ, zero, suc, pos, List, [], ◌∷◌, slice_get, Some, refl, arith, subst, sym}
+use Rattle.std.proofs.Common.{◌≡◌, ◌≤ℤ◌, ℕ, zero, suc, pos, [], ◌∷◌, slice_get, Some, refl, arith, subst, sym}
 use Rattle.std.proofs.lemmas.Int.{ints}
-use Rattle.cost_free.specs.declared.task.Meter.TheVariants.{Ticks, Cells}
-use Rattle.cost_free.specs.Task.{Free, With}
+use Rattle.cost_free.specs.declared.task.Meter.TheVariants.{Cells}
+use Rattle.cost_free.specs.Task.{With}
 use Rattle.annot_types.specs.Certificate.{Entries, Block, Refuted, Call}
 use Rattle.annot_types.specs.Holds.{Holds}
 use Rattle.annot_types.specs.Held.{Held, before, scale_for}

@@ -1,5 +1,5 @@
 -- The certificates of three ticks.
-use Rattle.std.proofs.Common.{◌≡◌, ◌≤◌, ℕ, pos, List, [], ◌∷◌, refl, arith, subst, sym}
+use Rattle.std.proofs.Common.{pos, List, [], ◌∷◌, refl, arith, subst, sym}
 use Rattle.cost_free.specs.declared.task.Meter.TheVariants.{Ticks, Cells, Work}
 use Rattle.cost_free.specs.Task as k
 use Rattle.normal_form.specs.Norm.{NormFun}
@@ -80,7 +80,8 @@ tick_missing h =
     let ticks = h.blocks 1 less_ticks refl in
     let main = ticks.holds.holds.functions.0 in
     let S = setting (program three_ticks) 1 (before two_of_three 1) 1 less_ticks ticks.holds.t in
-    let fits = subst (λ (g : NormFun). Ann S (With Ticks) 1 g.params (annotation ((0, pos 2) ∷ [])) g.body g.result (annotation []) [] []) (sym (some_is three_ticks main.fun main.there)) main.fits in
+    let fits = subst (λ (g : NormFun). Ann S (With Ticks) 1 g.params (annotation ((0, pos 2) ∷ [])) g.body g.result (annotation []) [] [])
+        (sym (some_is three_ticks main.fun main.there)) main.fits in
     omega (arith, fits.0, ticks.holds.holds.positive)
 
 pub work_held : Held (program three_ticks) work_of_three

@@ -1,5 +1,6 @@
 -- A derivation with all its numbers times u.
-use Rattle.std.proofs.Common.{◌≡◌, ◌≤◌, ℕ, zero, suc, ◌+◌, ◌-◌, ◌*◌, ℤ, pos, ◌*ℤ◌, unsigned_abs, Bool, true, false, nat_eq, cond, List, [], ◌∷◌, ◌++◌, map, slice_get, Option, None, Some, refl, arith, ap, sym, ◌∙◌, subst}
+use Rattle.std.proofs.Common.{◌≡◌, ◌≤◌, ℕ, zero, suc, ◌+◌, ◌-◌, ◌*◌, ℤ, pos, ◌*ℤ◌, Bool, true, false, nat_eq, cond, List, []}
+use Rattle.std.proofs.Common.{◌∷◌, ◌++◌, map, slice_get, Option, None, Some, refl, arith, ap, sym, ◌∙◌, subst}
 use Rattle.std.specs.Option.{option_map, option_to_list}
 use Rattle.std.proofs.Math.Nat.{mul-le-mul_left}
 use Rattle.std.proofs.lemmas.Int.{unsigned_abs-mul}
@@ -7,18 +8,18 @@ use Rattle.raml_syntax.specs.Tree.{Type'}
 use Rattle.base_poly.specs.Plain.{Plain, degrees}
 use Rattle.base_poly.specs.Base.{total}
 use Rattle.index_shift.specs.Potential.{Annotation}
-use Rattle.normal_form.specs.Norm.{NormFun}
 use Rattle.normal_form.specs.Context.{Context, types}
 use Rattle.cost_free.specs.declared.task.Meter.{Meter}
-use Rattle.cost_free.specs.declared.task.Meter.TheVariants.{Ticks, Cells, Work}
 use Rattle.cost_free.specs.Blocked.{is_for_meter}
 use Rattle.annot_types.specs.Program.{Program}
-use Rattle.annot_types.specs.Certificate.{Entries, annotation, Annotates, Sig, Hint, Let, Share, Call, Block}
+use Rattle.annot_types.specs.Certificate.{Entries, annotation, Sig, Hint, Let, Share, Call, Block}
 use Rattle.annot_types.specs.Signature.{sig_among, sig_in, free_budget, or_else, cost_sig}
 use Rattle.annot_types.specs.Carried.{Covers, less, more, rebudgeted, at_operands}
-use Rattle.annot_types.specs.Rules.{Mode, With, Own, Past, Setting, Taken, TakesLet, TakesShare, TakesCall, Parts, price, Pays, refund, own_sig, paid_sig, TakesOnce, IsMultiple, AreMultiples, all_taken, asked, left, CallRule}
+use Rattle.annot_types.specs.Rules.{Mode, With, Own, Past, Setting, Taken, TakesLet, TakesShare, TakesCall, Parts, price, Pays, refund}
+use Rattle.annot_types.specs.Rules.{own_sig, TakesOnce, IsMultiple, AreMultiples, all_taken, asked, left, CallRule}
 use Rattle.annot_types.specs.Holds.{times, times_sig, times_hint}
-use Rattle.annot_types.proofs.Linear.{mul, distrib, swap, total_mul, moved_mul, less_mul, more_mul, covers_mul, at_operands_mul, annotation_mul, annotates_mul, rebudgeted_mul}
+use Rattle.annot_types.proofs.Linear.{mul, distrib, swap, less_mul, more_mul, covers_mul, at_operands_mul}
+use Rattle.annot_types.proofs.Linear.{annotation_mul, annotates_mul, rebudgeted_mul}
 
 abbrev pub times_hints : ℕ → List Hint → List Hint
 times_hints u hs = map (times_hint u) hs
@@ -111,7 +112,8 @@ abbrev times_taken : ℕ → Taken → Taken
 times_taken u t = record { budget = t.budget; sig = t.sig; times = u * t.times }
 
 module _ (u : ℕ) (m : Mode) (S : Setting) (earlier : List Block) (scale : ℕ) (h : SettingTimes u m S earlier scale) where
-  multiple_times : (d f : ℕ) (named : ℕ × ℤ) (t : Taken) → IsMultiple S d f named t → IsMultiple (times_setting u S earlier scale) d f (named.0, pos u *ℤ named.1) (times_taken u t)
+  multiple_times : (d f : ℕ) (named : ℕ × ℤ) (t : Taken) → IsMultiple S d f named t →
+      IsMultiple (times_setting u S earlier scale) d f (named.0, pos u *ℤ named.1) (times_taken u t)
   multiple_times d f named t is =
       let b = found u S.program m S.earlier earlier h.blocks named.0 is.block is.there in
       record {
@@ -123,7 +125,8 @@ module _ (u : ℕ) (m : Mode) (S : Setting) (earlier : List Block) (scale : ℕ)
         times = ap (λ n. u * n) is.times ∙ sym (unsigned_abs-mul (pos u) named.1);
       }
 
-  named_times : (d f : ℕ) (ms : Entries) (ts : List Taken) → AreMultiples S d f ms ts → AreMultiples (times_setting u S earlier scale) d f (times u ms) (map (times_taken u) ts)
+  named_times : (d f : ℕ) (ms : Entries) (ts : List Taken) → AreMultiples S d f ms ts →
+      AreMultiples (times_setting u S earlier scale) d f (times u ms) (map (times_taken u) ts)
   named_times d f [] [] are = tt
   named_times d f [] (t ∷ ts) are = absurd are
   named_times d f (x ∷ ms) [] are = absurd are
@@ -213,11 +216,13 @@ call_times u m S earlier scale h d C q f xs T r hint rule =
       args = subst (λ q. Covers (types C) d q (asked (times_setting u S earlier scale) C xs (types rule.fun.params) d (all_taken (times_setting u S earlier scale) once multiples))) more_q
           (subst (Covers (types C) d (mul u (more (refund S m) q))) (sym (asked_times u S earlier scale rule.once rule.multiples C xs (types rule.fun.params) d))
           (covers_mul u (types C) d (more (refund S m) q) (asked S C xs (types rule.fun.params) d (all_taken S rule.once rule.multiples)) rule.args));
-      result = subst (λ q. Covers (T ∷ []) d q (mul u r)) (sym (left_times u S earlier scale rule.once rule.multiples T d)) (covers_mul u (T ∷ []) d (left S T d (all_taken S rule.once rule.multiples)) r rule.result);
+      result = subst (λ q. Covers (T ∷ []) d q (mul u r)) (sym (left_times u S earlier scale rule.once rule.multiples T d))
+          (covers_mul u (T ∷ []) d (left S T d (all_taken S rule.once rule.multiples)) r rule.result);
     }
 
 -- The price is paid, and the rule holds of what is left.
-pub pays_times : (u : ℕ) (m : Mode) (S : Setting) (earlier : List Block) (scale : ℕ) → SettingTimes u m S earlier scale → (nodes ticks cells : ℕ) (q : Annotation) (rule made : Annotation → Type 0) →
+pub pays_times : (u : ℕ) (m : Mode) (S : Setting) (earlier : List Block) (scale : ℕ) → SettingTimes u m S earlier scale →
+    (nodes ticks cells : ℕ) (q : Annotation) (rule made : Annotation → Type 0) →
     ((q : Annotation) → rule q → made (mul u q)) → Pays S m nodes ticks cells q rule → Pays (times_setting u S earlier scale) m nodes ticks cells (mul u q) made
 pays_times u m S earlier scale h nodes ticks cells q rule made go paid = (
   subst (λ p. p ≤ u * q 0) (sym (h.prices nodes ticks cells)) (mul-le-mul_left u paid.0),
@@ -226,21 +231,24 @@ pays_times u m S earlier scale h nodes ticks cells q rule made go paid = (
 
 -- Hints
 
-pub let_times : (u : ℕ) (hs : List Hint) (rule made : List Entries → List Hint → Type 0) → ((rs : List Entries) (rest : List Hint) → rule rs rest → made (map (times u) rs) (times_hints u rest)) →
+pub let_times : (u : ℕ) (hs : List Hint) (rule made : List Entries → List Hint → Type 0) →
+    ((rs : List Entries) (rest : List Hint) → rule rs rest → made (map (times u) rs) (times_hints u rest)) →
     TakesLet hs rule → TakesLet (times_hints u hs) made
 let_times u [] rule made go t = absurd t
 let_times u (Let rs ∷ rest) rule made go t = go rs rest t
 let_times u (Share p ∷ rest) rule made go t = absurd t
 let_times u (Call ms ∷ rest) rule made go t = absurd t
 
-pub share_times : (u : ℕ) (hs : List Hint) (rule made : Entries → List Hint → Type 0) → ((p : Entries) (rest : List Hint) → rule p rest → made (times u p) (times_hints u rest)) →
+pub share_times : (u : ℕ) (hs : List Hint) (rule made : Entries → List Hint → Type 0) →
+    ((p : Entries) (rest : List Hint) → rule p rest → made (times u p) (times_hints u rest)) →
     TakesShare hs rule → TakesShare (times_hints u hs) made
 share_times u [] rule made go t = absurd t
 share_times u (Let rs ∷ rest) rule made go t = absurd t
 share_times u (Share p ∷ rest) rule made go t = go p rest t
 share_times u (Call ms ∷ rest) rule made go t = absurd t
 
-pub hint_times : (u : ℕ) (hs : List Hint) (rule made : Entries → List Hint → Type 0) → ((ms : Entries) (rest : List Hint) → rule ms rest → made (times u ms) (times_hints u rest)) →
+pub hint_times : (u : ℕ) (hs : List Hint) (rule made : Entries → List Hint → Type 0) →
+    ((ms : Entries) (rest : List Hint) → rule ms rest → made (times u ms) (times_hints u rest)) →
     TakesCall hs rule → TakesCall (times_hints u hs) made
 hint_times u [] rule made go t = absurd t
 hint_times u (Let rs ∷ rest) rule made go t = absurd t
@@ -253,7 +261,8 @@ Child = Mode → List Plain → Annotation → List Hint → List Hint → Type 
 pub parts_times : (u : ℕ) (A : Type') (d : ℕ) (child made : Child) (mode : Mode) →
     ((j : List Plain) (s : Annotation) (hs out : List Hint) → child mode j s hs out → made mode j (mul u s) (times_hints u hs) (times_hints u out)) →
     ((j : List Plain) (s : Annotation) (hs out : List Hint) → child Past j s hs out → made Past j (mul u s) (times_hints u hs) (times_hints u out)) →
-    (js : List (List Plain)) (rs : List Entries) (hs out : List Hint) → Parts A d child mode js rs hs out → Parts A d made mode js (map (times u) rs) (times_hints u hs) (times_hints u out)
+    (js : List (List Plain)) (rs : List Entries) (hs out : List Hint) → Parts A d child mode js rs hs out →
+        Parts A d made mode js (map (times u) rs) (times_hints u hs) (times_hints u out)
 parts_times u A d child made mode first past [] [] hs out p = ap (times_hints u) p
 parts_times u A d child made mode first past [] (r ∷ rs) hs out p = absurd p
 parts_times u A d child made mode first past (j ∷ js) [] hs out p = absurd p

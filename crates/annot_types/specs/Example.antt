@@ -1,5 +1,5 @@
 -- Small certificates, worked out by hand.
-use Rattle.std.specs.Prelude.{◌≡◌, ℕ, ℤ, pos, List, [], ◌∷◌, Option, Some, None}
+use Rattle.std.specs.Prelude.{◌≡◌, ℤ, pos, List, [], ◌∷◌, Option, Some, None}
 use Rattle.raml_syntax.specs.Tree.{Type', Integer, ListOf}
 use Rattle.base_poly.specs.Plain.{Unit', End, Then}
 use Rattle.normal_form.specs.Norm as n
@@ -7,8 +7,8 @@ use Rattle.normal_form.specs.Norm.{NormFun}
 use Rattle.cost_free.specs.declared.task.Meter.TheVariants.{Ticks, Cells, Work}
 use Rattle.cost_free.specs.Task.{Kind, Free, With}
 use Rattle.annot_types.specs.Program.{Program}
-use Rattle.annot_types.specs.Certificate.{Entries, Sig, Hint, Let, Call, Block, Solved, Certificate}
-use Rattle.annot_types.specs.Held.{Held, Line, Bound, line, lines}
+use Rattle.annot_types.specs.Certificate.{Entries, Hint, Let, Call, Block, Solved, Certificate}
+use Rattle.annot_types.specs.Held.{Held, Bound, line, lines}
 
 -- one function, in a group of its own
 abbrev pub program : NormFun → Program

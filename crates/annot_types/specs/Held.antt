@@ -1,5 +1,6 @@
 -- Certificates that are held, and the lines that they claim.
-use Rattle.std.specs.Prelude.{◌≡◌, ◌≤◌, ◌<ℤ◌, ℕ, ℤ, pos, unsigned_abs, List, [], ◌∷◌, map, flat_map, filter, take, length, slice_get, slice_index_or, Option, None, Some, Bool, ◌&&◌}
+use Rattle.std.specs.Prelude.{◌≡◌, ◌≤◌, ◌<ℤ◌, ℕ, ℤ, pos, unsigned_abs, List, [], ◌∷◌, map, flat_map, filter, take, length, slice_get}
+use Rattle.std.specs.Prelude.{slice_index_or, Option, None, Some, Bool, ◌&&◌}
 use Rattle.std.specs.Option.{unwrap_or}
 use Rattle.std.specs.List.{range_with_len}
 use Rattle.raml_syntax.specs.Tree.{Type'}

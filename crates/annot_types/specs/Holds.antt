@@ -1,5 +1,5 @@
 -- When a block holds over the blocks before it.
-use Rattle.std.specs.Prelude.{◌≡◌, ◌≤◌, ◌<◌, ℕ, ◌*◌, ℤ, pos, ◌*ℤ◌, List, [], ◌∷◌, map, cond, slice_get, position, Option, Some, None}
+use Rattle.std.specs.Prelude.{◌≡◌, ◌≤◌, ◌<◌, ℕ, ◌*◌, pos, ◌*ℤ◌, List, [], ◌∷◌, map, cond, slice_get, position, Option, Some, None}
 use Rattle.raml_syntax.specs.Tree.{Type'}
 use Rattle.base_poly.specs.Plain.{Plain, alike}
 use Rattle.base_poly.specs.Indices.{index_list}

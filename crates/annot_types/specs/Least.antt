@@ -1,5 +1,5 @@
 -- Tasks that no block solves, and blocks of least weight.
-use Rattle.std.specs.Prelude.{◌≤◌, ◌<◌, ℕ, ◌*◌, ◌^◌, ◌+◌, List, [], ◌∷◌, slice_get, Option, Some, None}
+use Rattle.std.specs.Prelude.{◌≤◌, ℕ, ◌*◌, ◌^◌, ◌+◌, List, ◌∷◌, slice_get, Option, Some, None}
 use Rattle.base_poly.specs.Plain.{degrees}
 use Rattle.base_poly.specs.Indices.{index_list}
 use Rattle.index_shift.specs.Potential.{weighed}

@@ -1,9 +1,8 @@
 -- What the code's certificates are as plain data.
-use Rattle.std.specs.Prelude.{List, map, Vec, Option}
+use Rattle.std.specs.Prelude.{List, map, Vec}
 use Rattle.std.specs.Global.{Global}
 use Rattle.cost_free.specs.Read.{task_of}
 use Rattle.annot_types.specs.Certificate as c
-use Rattle.annot_types.specs.declared.annot.Annot.{Annot}
 use Rattle.annot_types.specs.declared.block.Sig.{Sig}
 use Rattle.annot_types.specs.declared.block.Hint.{Hint}
 use Rattle.annot_types.specs.declared.block.Hint.TheVariants.{Let, Share, Call}

@@ -1,5 +1,7 @@
 -- The rows of a task: what the unknown numbers of its signatures and hints have to meet. They are told at numbers for the unknowns.
-use Rattle.std.specs.Prelude.{◌==◌, if◌then◌else◌, ℕ, suc, ◌+◌, ◌-◌, ◌*◌, ◌^◌, ℤ, pos, ◌-ℤ◌, int_lt, int_le, nat_le, nat_eq, Bool, cond, not, ◌&&◌, List, [], ◌∷◌, ◌++◌, map, flat_map, filter, length, replicate, slice_get, slice_index_or, Option, None, Some, option_to_list}
+use Rattle.std.specs.Prelude.{ℕ, suc, ◌+◌, ◌-◌, ℤ, pos, ◌-ℤ◌, nat_le, nat_eq, Bool, cond}
+use Rattle.std.specs.Prelude.{List, [], ◌∷◌, ◌++◌, map, flat_map, filter, length, slice_get, slice_index_or, Option, None}
+use Rattle.std.specs.Prelude.{Some}
 use Rattle.std.specs.List.{list_any, range_with_len}
 use Rattle.raml_syntax.specs.Tree.{Type'}
 use Rattle.base_poly.specs.Plain.{Plain, degrees, alike}
@@ -10,16 +12,15 @@ use Rattle.index_shift.specs.Maps.{opening, leaving, sharing}
 use Rattle.normal_form.specs.Norm as n
 use Rattle.normal_form.specs.Norm.{Norm, NormFun}
 use Rattle.normal_form.specs.Context.{Context, types, place, without, opened, parts_of, copies_of, inners, others}
-use Rattle.cost_free.specs.declared.task.Meter.TheVariants.{Ticks, Cells, Work}
+use Rattle.cost_free.specs.declared.task.Meter.TheVariants.{Work}
 use Rattle.cost_free.specs.Target.{Target, targets}
 use Rattle.cost_free.specs.Task as k
 use Rattle.cost_free.specs.Task.{Task, Kind, Free}
-use Rattle.annot_types.specs.Program.{Program, members}
 use Rattle.annot_types.specs.Certificate.{Sig, Block}
 use Rattle.annot_types.specs.Signature.{sig_in, free_budget, cost_sig}
 use Rattle.annot_types.specs.Carried.{more, rebudgeted, at_operands, at_parts, tuples, part, joined}
-use Rattle.annot_types.specs.Rules.{Mode, With, Own, Past, Setting, Taken, price, refund, asked, left}
-use Rattle.annot_types.specs.Holds.{mode_of, budget_of}
+use Rattle.annot_types.specs.Rules.{Mode, With, Past, Setting, Taken, price, refund, asked, left}
+use Rattle.annot_types.specs.Holds.{mode_of}
 
 -- numbers for the unknowns
 abbrev pub Assignment : Type 0

@@ -53,7 +53,8 @@ TakesCall _ rule = ⊥
 
 -- Of a Let's bound form, whose type is A: for each tuple of the other variables there is a hint, an annotation of its result. The first tuple, that of
 -- zero indices, is in the mode, and all others are in mode Past.
-abbrev pub Parts : Type' → ℕ → (Mode → List Plain → Annotation → List Hint → List Hint → Type 0) → Mode → List (List Plain) → List Entries → List Hint → List Hint → Type 0
+abbrev pub Parts : Type' → ℕ → (Mode → List Plain → Annotation → List Hint → List Hint → Type 0) → Mode → List (List Plain) → List Entries →
+    List Hint → List Hint → Type 0
 Parts A d child mode [] [] hs out = hs ≡ out
 Parts A d child mode (j ∷ js) (r ∷ rs) hs out =
     (between : List Hint)

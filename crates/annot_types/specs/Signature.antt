@@ -1,7 +1,7 @@
 -- Which signatures of blocks a call can take.
 use Rattle.std.specs.Prelude.{ℕ, nat_eq, List, [], ◌∷◌, cond, Option, Some, None}
 use Rattle.cost_free.specs.declared.task.Meter.{Meter}
-use Rattle.cost_free.specs.Task.{Kind, Free, With, Task}
+use Rattle.cost_free.specs.Task.{Kind, Free, With}
 use Rattle.cost_free.specs.Blocked.{is_for_meter}
 use Rattle.annot_types.specs.Program.{Program, members}
 use Rattle.annot_types.specs.Certificate.{Sig, Block, sigs_of}

@@ -1,5 +1,5 @@
 -- Small systems, worked out by hand.
-use Rattle.std.specs.Prelude.{◌≡◌, ℕ, ℤ, pos, neg_ℤ, List, [], ◌∷◌, Option, None}
+use Rattle.std.specs.Prelude.{◌≡◌, ℕ, ℤ, pos, neg_ℤ, List, [], ◌∷◌, None}
 use Rattle.raml_syntax.specs.Tree.{Integer}
 use Rattle.linear_rows.specs.Terms.{Terms, SparseRow}
 use Rattle.linear_rows.specs.Systems.{LinearSystem}
