@@ -1,11 +1,11 @@
 -- Programs in normal form with their groups.
-use Rattle.std.specs.Prelude.{ℕ, Bool, List, [], ◌∷◌, ◌++◌, map, Option, slice_index_or}
+use Rattle.std.specs.Prelude.{ℕ, Bool, List, [], ◌∷◌, ◌++◌, map, Option}
 use Rattle.raml_syntax.specs.Tree.{Type'}
 use Rattle.normal_form.specs.Norm as n
 use Rattle.normal_form.specs.Norm.{NormFun, NormProg}
 use Rattle.cost_free.specs.Task.{Task, Outcome}
 use Rattle.cost_free.specs.Schedule.{next}
-use Rattle.cost_free.specs.Blocked.{blocked}
+use Rattle.cost_free.specs.Blocked.{row, blocked}
 
 -- the functions, and the groups of those that reach each other by calls, callees first
 pub record Program : Type 0 where
@@ -14,7 +14,7 @@ pub record Program : Type 0 where
 
 -- the functions of the group at a place; none where there is no such group
 abbrev pub members : Program → ℕ → List ℕ
-members P group = slice_index_or P.groups group []
+members P group = row P.groups group
 
 -- the functions that a form calls
 abbrev pub called_in : n.Norm → List ℕ

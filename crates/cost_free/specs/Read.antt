@@ -1,5 +1,7 @@
 -- What the code's tasks are as plain data.
-use Rattle.std.specs.Prelude.{List, map}
+use Rattle.std.specs.Prelude.{ℕ, List, map, Vec}
+use Rattle.std.specs.Global.{Global}
+use Rattle.raml_syntax.specs.declared.program.FunId.{FunId}
 use Rattle.cost_free.specs.Task as t
 use Rattle.cost_free.specs.declared.task.Task.{Task}
 use Rattle.cost_free.specs.declared.task.Done.{Done}
@@ -18,3 +20,9 @@ outcome_of e = (task_of e.0, e.1)
 
 abbrev pub outcomes_of : List (Task × Done) → List t.Outcome
 outcomes_of es = map outcome_of es
+
+abbrev pub ids_of : List FunId → List ℕ
+ids_of fs = map (λ (f : FunId). f.0) fs
+
+abbrev pub lists_of : List (Vec FunId Global) → List (List ℕ)
+lists_of gs = map (λ (g : Vec FunId Global). ids_of g.items) gs

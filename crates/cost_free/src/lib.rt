@@ -5,6 +5,8 @@
 pub mod laws;
 mod target;
 mod task;
+mod waiting;
 
 pub use target::Target;
 pub use task::{Done, Meter, Task, TaskKind};
+pub use waiting::blocked;
