@@ -27,19 +27,29 @@ constant_holds = record {
       there = refl;
       args = (below 0 1 refl, tt);
       result = (below 0 1 refl, tt);
-      fits = (at_most 0 1 refl, (_, ((at_most 0 1 refl, covered 1 _ _ refl), refl), (at_most 0 1 refl, (
-        _,
+      fits = (
+        at_most 0 1 refl,
         (
           _,
-          (below 0 1 refl, tt),
+          ((at_most 0 1 refl, covered 1 _ _ refl), refl),
           (
             at_most 0 1 refl,
-            (record { fun = append; there = refl; once = _; takes = refl; multiples = []; named = tt; args = covered 1 _ _ refl; result = covered 1 _ _ refl }, refl),
+            (
+              _,
+              (
+                _,
+                (below 0 1 refl, tt),
+                (
+                  at_most 0 1 refl,
+                  (record { fun = append; there = refl; once = _; takes = refl; multiples = []; named = tt; args = covered 1 _ _ refl; result = covered 1 _ _ refl }, refl),
+                ),
+                refl,
+              ),
+              ((at_most 0 1 refl, covered 1 _ _ refl), refl),
+            ),
           ),
-          refl,
         ),
-        ((at_most 0 1 refl, covered 1 _ _ refl), refl),
-      ))));
+      );
     },
     tt,
   );
@@ -60,31 +70,41 @@ length_holds = record {
       there = refl;
       args = (below 1 3 refl, (below 2 3 refl, tt));
       result = (below 1 2 refl, tt);
-      fits = (at_most 0 0 refl, (_, ((at_most 0 0 refl, covered 2 _ _ refl), refl), (at_most 0 1 refl, (
-        _,
+      fits = (
+        at_most 0 0 refl,
         (
           _,
-          (below 0 2 refl, (below 1 2 refl, tt)),
+          ((at_most 0 0 refl, covered 2 _ _ refl), refl),
           (
             at_most 0 1 refl,
             (
-              record {
-                fun = append;
-                there = refl;
-                once = _;
-                takes = refl;
-                multiples = one_taken ∷ [];
-                named = (record { block = one_left; there = refl; free = refl; low = at_most 0 1 refl; sig = refl; times = refl }, tt);
-                args = covered 3 _ _ refl;
-                result = covered 2 _ _ refl;
-              },
-              refl,
+              _,
+              (
+                _,
+                (below 0 2 refl, (below 1 2 refl, tt)),
+                (
+                  at_most 0 1 refl,
+                  (
+                    record {
+                      fun = append;
+                      there = refl;
+                      once = _;
+                      takes = refl;
+                      multiples = one_taken ∷ [];
+                      named = (record { block = one_left; there = refl; free = refl; low = at_most 0 1 refl; sig = refl; times = refl }, tt);
+                      args = covered 3 _ _ refl;
+                      result = covered 2 _ _ refl;
+                    },
+                    refl,
+                  ),
+                ),
+                refl,
+              ),
+              ((at_most 0 1 refl, covered 2 _ _ refl), refl),
             ),
           ),
-          refl,
         ),
-        ((at_most 0 1 refl, covered 2 _ _ refl), refl),
-      ))));
+      );
     },
     tt,
   );
@@ -101,19 +121,29 @@ ticks_hold = record {
       there = refl;
       args = tt;
       result = tt;
-      fits = (at_most 0 0 refl, (_, ((at_most 0 0 refl, covered 2 _ _ refl), refl), (at_most 0 0 refl, (
-        _,
+      fits = (
+        at_most 0 0 refl,
         (
           _,
-          tt,
+          ((at_most 0 0 refl, covered 2 _ _ refl), refl),
           (
             at_most 0 0 refl,
-            (record { fun = append; there = refl; once = _; takes = (_, refl, refl); multiples = []; named = tt; args = covered 3 _ _ refl; result = covered 2 _ _ refl }, refl),
+            (
+              _,
+              (
+                _,
+                tt,
+                (
+                  at_most 0 0 refl,
+                  (record { fun = append; there = refl; once = _; takes = (_, refl, refl); multiples = []; named = tt; args = covered 3 _ _ refl; result = covered 2 _ _ refl }, refl),
+                ),
+                refl,
+              ),
+              ((at_most 0 0 refl, covered 2 _ _ refl), refl),
+            ),
           ),
-          refl,
         ),
-        ((at_most 0 0 refl, covered 2 _ _ refl), refl),
-      ))));
+      );
     },
     tt,
   );
@@ -130,31 +160,41 @@ cells_hold = record {
       there = refl;
       args = (below 2 3 refl, tt);
       result = tt;
-      fits = (at_most 0 0 refl, (_, ((at_most 0 0 refl, covered 2 _ _ refl), refl), (at_most 0 1 refl, (
-        _,
+      fits = (
+        at_most 0 0 refl,
         (
           _,
-          (below 0 2 refl, tt),
+          ((at_most 0 0 refl, covered 2 _ _ refl), refl),
           (
             at_most 0 1 refl,
             (
-              record {
-                fun = append;
-                there = refl;
-                once = _;
-                takes = (_, refl, refl);
-                multiples = one_taken ∷ [];
-                named = (record { block = one_left; there = refl; free = refl; low = at_most 0 1 refl; sig = refl; times = refl }, tt);
-                args = covered 3 _ _ refl;
-                result = covered 2 _ _ refl;
-              },
-              refl,
+              _,
+              (
+                _,
+                (below 0 2 refl, tt),
+                (
+                  at_most 0 1 refl,
+                  (
+                    record {
+                      fun = append;
+                      there = refl;
+                      once = _;
+                      takes = (_, refl, refl);
+                      multiples = one_taken ∷ [];
+                      named = (record { block = one_left; there = refl; free = refl; low = at_most 0 1 refl; sig = refl; times = refl }, tt);
+                      args = covered 3 _ _ refl;
+                      result = covered 2 _ _ refl;
+                    },
+                    refl,
+                  ),
+                ),
+                refl,
+              ),
+              ((at_most 1 1 refl, covered 2 _ _ refl), refl),
             ),
           ),
-          refl,
         ),
-        ((at_most 1 1 refl, covered 2 _ _ refl), refl),
-      ))));
+      );
     },
     tt,
   );
@@ -169,8 +209,12 @@ append_held = record {
   blocks = all_in_place (program append) (append_with ((2, pos 1) ∷ [])) (
     record { task = refl; waits = tt; shape = ((one_entry 0 0, one_entry 0 0, tt), (((one_entry 0 0, tt), (tt, tt)), tt)); holds = record { t = 1; one = tt; holds = constant_holds } },
     (
-      record { task = refl; waits = tt; shape = ((two_entries 1, one_entry 1 0, tt), (((two_entries 0, tt), (one_entry 0 0, tt)), tt));
-          holds = record { t = 1; one = tt; holds = length_holds } },
+      record {
+        task = refl;
+        waits = tt;
+        shape = ((two_entries 1, one_entry 1 0, tt), (((two_entries 0, tt), (one_entry 0 0, tt)), tt));
+        holds = record { t = 1; one = tt; holds = length_holds };
+      },
       (
         record { task = refl; waits = tt; shape = ((tt, tt, tt), (((tt, tt), (tt, tt)), tt)); holds = record { t = 1; one = refl; holds = ticks_hold } },
         (
@@ -227,9 +271,9 @@ cell_missing h =
     let holds = subst (λ t. Holds (program append) 1 (before (append_with []) 3) 1 less_cells t) placed.holds.one placed.holds.holds in
     let of_append = holds.functions.0 in
     let fits = subst (λ (g : NormFun). Ann at_cells (With Cells) 1 g.params (annotation []) g.body g.result (annotation []) (Let (((0, pos 1) ∷ []) ∷ []) ∷ Call ((0, pos 1) ∷ []) ∷ []) [])
-        (sym (some_is append of_append.fun of_append.there)) of_append.fits in
+    (sym (some_is append of_append.fun of_append.there)) of_append.fits in
     let bound = subst (λ hs. Ann at_cells (With Cells) 1 (opened 1 (3 ∷ 4 ∷ []) parts_of append.params) after_match bound_call (ListOf Integer) (annotation []) hs [])
-        (sym fits.1.1.1) fits.1.2 in
+    (sym fits.1.1.1) fits.1.2 in
     let rule = bound.1.1.2.1.0 in
     let few = asks_one rule.once rule.takes rule.multiples rule.named rule.fun rule.there in
     omega (arith, few, rule.args 0 (below 0 3 refl))

@@ -27,7 +27,7 @@ module _ (u : ℕ) (S : Setting) (earlier : List Block) (scale : ℕ) where
   -- the zero index alone
   abbrev first : (m : Mode) → SettingTimes u m S earlier scale → (nodes ticks cells : ℕ) (q r : Annotation) (hs out : List Hint) →
       Pays S m nodes ticks cells q (λ q. r 0 ≤ q 0) × (hs ≡ out) →
-          Pays (times_setting u S earlier scale) m nodes ticks cells (mul u q) (λ q. u * r 0 ≤ q 0) × (times_hints u hs ≡ times_hints u out)
+      Pays (times_setting u S earlier scale) m nodes ticks cells (mul u q) (λ q. u * r 0 ≤ q 0) × (times_hints u hs ≡ times_hints u out)
   first m h nodes ticks cells q r hs out a = alone m h nodes ticks cells q (λ q. r 0 ≤ q 0) (λ q. u * r 0 ≤ q 0) hs out (λ q le. mul-le-mul_left u le) a
 
   -- a constructor
@@ -42,7 +42,7 @@ module _ (u : ℕ) (S : Setting) (earlier : List Block) (scale : ℕ) where
   -- a rule with one part, whose annotation is moved
   abbrev onward : (m : Mode) → SettingTimes u m S earlier scale → (nodes : ℕ) (q : Annotation) (es : List Entry) (part made : Annotation → Type 0) →
       ((q : Annotation) → part q → made (mul u q)) → Pays S m nodes 0 0 q (λ q. part (moved es q)) →
-          Pays (times_setting u S earlier scale) m nodes 0 0 (mul u q) (λ q. made (moved es q))
+      Pays (times_setting u S earlier scale) m nodes 0 0 (mul u q) (λ q. made (moved es q))
   onward m h nodes q es part made go a =
       pays_times u m S earlier scale h nodes 0 0 q (λ q. part (moved es q)) (λ q. made (moved es q)) (λ q c. subst made (sym (moved_mul u es q)) (go (moved es q) c)) a
 
@@ -82,30 +82,30 @@ module _ (u : ℕ) (S : Setting) (earlier : List Block) (scale : ℕ) where
       pays_times u m S earlier scale h k 0 0 q (λ q. TakesCall hs (λ hint rest. CallRule S m d C q f xs T r hint × (rest ≡ out)))
       (λ q. TakesCall (times_hints u hs) (λ hint rest. CallRule (times_setting u S earlier scale) m d C q f xs T (mul u r) hint × (rest ≡ times_hints u out)))
       (λ q. hint_times u hs (λ hint rest. CallRule S m d C q f xs T r hint × (rest ≡ out))
-        (λ hint rest. CallRule (times_setting u S earlier scale) m d C (mul u q) f xs T (mul u r) hint × (rest ≡ times_hints u out))
-        (λ hint rest c. (call_times u m S earlier scale h d C q f xs T r hint c.0, ap (times_hints u) c.1))) p
+      (λ hint rest. CallRule (times_setting u S earlier scale) m d C (mul u q) f xs T (mul u r) hint × (rest ≡ times_hints u out))
+      (λ hint rest c. (call_times u m S earlier scale h d C q f xs T r hint c.0, ap (times_hints u) c.1))) p
   derived m h d C q (n.Let k x A a b) T r hs out p =
       let js = tuples (others a C) d in
       let Bs = types (others a C) in
       let D = others a C ++ (x, A) ∷ [] in
       let made = times_setting u S earlier scale in
       let parts : Setting → Annotation → Mode → List Plain → Annotation → List Hint → List Hint → Type 0 =
-          λ S q m j s hs out. Ann S m (d - degrees j) (inners a C) (part a C d j q) a A s hs out in
+      λ S q m j s hs out. Ann S m (d - degrees j) (inners a C) (part a C d j q) a A s hs out in
       let rule : Annotation → List Entries → List Hint → Type 0 =
-          λ q rs rest. (between : List Hint) × Parts A d (parts S q) m js rs rest between × Ann S m d D (joined Bs A d js (map annotation rs)) b T r between out in
+      λ q rs rest. (between : List Hint) × Parts A d (parts S q) m js rs rest between × Ann S m d D (joined Bs A d js (map annotation rs)) b T r between out in
       let after : Annotation → List Entries → List Hint → Type 0 =
-          λ q rs rest. (between : List Hint) × Parts A d (parts made q) m js rs rest between × Ann made m d D (joined Bs A d js (map annotation rs)) b T (mul u r) between (times_hints u out) in
+      λ q rs rest. (between : List Hint) × Parts A d (parts made q) m js rs rest between × Ann made m d D (joined Bs A d js (map annotation rs)) b T (mul u r) between (times_hints u out) in
       pays_times u m S earlier scale h k 0 0 q (λ q. TakesLet hs (rule q)) (λ q. TakesLet (times_hints u hs) (after q))
       (λ q. let_times u hs (rule q) (after (mul u q)) (λ rs rest c. (
         times_hints u c.0,
         parts_times u A d (parts S q) (parts made (mul u q)) m
-        (λ j s hs out w. subst (λ q. Ann made m (d - degrees j) (inners a C) q a A (mul u s) (times_hints u hs) (times_hints u out))
+            (λ j s hs out w. subst (λ q. Ann made m (d - degrees j) (inners a C) q a A (mul u s) (times_hints u hs) (times_hints u out))
             (sym (moved_mul u (projection (marks a C) (types C) d j) q))
-          (derived m h (d - degrees j) (inners a C) (part a C d j q) a A s hs out w))
-        (λ j s hs out w. subst (λ q. Ann made Past (d - degrees j) (inners a C) q a A (mul u s) (times_hints u hs) (times_hints u out))
+            (derived m h (d - degrees j) (inners a C) (part a C d j q) a A s hs out w))
+            (λ j s hs out w. subst (λ q. Ann made Past (d - degrees j) (inners a C) q a A (mul u s) (times_hints u hs) (times_hints u out))
             (sym (moved_mul u (projection (marks a C) (types C) d j) q))
-          (derived Past (past_times u m S earlier scale h) (d - degrees j) (inners a C) (part a C d j q) a A s hs out w))
-        js rs rest c.0 c.1,
+            (derived Past (past_times u m S earlier scale h) (d - degrees j) (inners a C) (part a C d j q) a A s hs out w))
+            js rs rest c.0 c.1,
         subst (λ q. Ann made m d D q b T (mul u r) (times_hints u c.0) (times_hints u out)) (sym (joined_mul u Bs A d js rs))
             (derived m h d D (joined Bs A d js (map annotation rs)) b T r c.0 out c.2),
       ))) p
@@ -145,9 +145,9 @@ module _ (u : ℕ) (S : Setting) (earlier : List Block) (scale : ℕ) where
       let es = sharing (types C) (place x C) d in
       let made = times_setting u S earlier scale in
       let rule : Annotation → Entries → List Hint → Type 0 =
-          λ q p rest. Annotates (types D) d p × Covers (types C) d q (moved es (annotation p)) × Ann S m d D (annotation p) a T r rest out in
+      λ q p rest. Annotates (types D) d p × Covers (types C) d q (moved es (annotation p)) × Ann S m d D (annotation p) a T r rest out in
       let after : Annotation → Entries → List Hint → Type 0 =
-          λ q p rest. Annotates (types D) d p × Covers (types C) d q (moved es (annotation p)) × Ann made m d D (annotation p) a T (mul u r) rest (times_hints u out) in
+      λ q p rest. Annotates (types D) d p × Covers (types C) d q (moved es (annotation p)) × Ann made m d D (annotation p) a T (mul u r) rest (times_hints u out) in
       pays_times u m S earlier scale h k 0 0 q (λ q. TakesShare hs (rule q)) (λ q. TakesShare (times_hints u hs) (after q))
       (λ q. share_times u hs (rule q) (after (mul u q)) (λ w rest c. (
         annotates_mul u (types D) d w c.0,

@@ -43,7 +43,7 @@ functions_times u m S earlier scale h (g ∷ fs) (s ∷ ss) (hs ∷ hss) f = (
     fits = subst (λ q. Ann (times_setting u S earlier scale) m S.budget f.0.fun.params q f.0.fun.body f.0.fun.result (annotation (times u s.result)) (times_hints u hs) [])
         (sym (annotation_mul u s.args))
         (subst (λ r. Ann (times_setting u S earlier scale) m S.budget f.0.fun.params (mul u (annotation s.args)) f.0.fun.body f.0.fun.result r (times_hints u hs) [])
-            (sym (annotation_mul u s.result))
+        (sym (annotation_mul u s.result))
         (derived u S earlier scale m h S.budget f.0.fun.params (annotation s.args) f.0.fun.body f.0.fun.result (annotation s.result) hs [] f.0.fits));
   },
   functions_times u m S earlier scale h fs ss hss f.1,
@@ -139,7 +139,7 @@ outer u n s t = grind arith
 
 raised_setting : (u : ℕ) (P : Program) (d : ℕ) (earlier : List Block) (scale group : ℕ) (meter : Meter) (sigs : List Sig) (hints : List (List Hint)) (t : ℕ) →
     SettingTimes u (With meter) (setting P d earlier scale (block_of (record { group = group; kind = k.With meter }) sigs hints) t)
-      (map (raised meter t) (map (raised meter u) earlier)) ((u * scale) * t)
+    (map (raised meter t) (map (raised meter u) earlier)) ((u * scale) * t)
 raised_setting u P d earlier scale group Ticks sigs hints t =
     record { blocks = all_raised_before u t P Ticks earlier; prices = λ nodes ticks cells. outer u ticks scale t; refunds = nothing u }
 raised_setting u P d earlier scale group Cells sigs hints t =
@@ -181,7 +181,7 @@ raising_keeps P d earlier scale block t meter u positive h = by block.task.group
     by group kind (Solved sigs hints) false e h =
         let task : Task = record { group = group; kind = kind } in
         let kept = holds_times 1 P d earlier (map (raised meter u) earlier) scale scale task sigs hints t t (other_setting u P d earlier scale group kind meter sigs hints t e) h.positive
-            (reaches_same 1 t P d task sigs hints kind) h in
+        (reaches_same 1 t P d task sigs hints kind) h in
         subst (λ c. Holds P d (map (raised meter u) earlier) (cond c (u * scale) scale) (raised meter u (block_of task sigs hints)) t) (sym e)
         (subst (λ b. Holds P d (map (raised meter u) earlier) scale b t) (sym (off meter u (block_of task sigs hints) e))
         (subst (λ body. Holds P d (map (raised meter u) earlier) scale (record { task = task; body = body }) t) (body_once (Solved sigs hints)) kept))
@@ -189,7 +189,7 @@ raising_keeps P d earlier scale block t meter u positive h = by block.task.group
     by group (k.With other) (Solved sigs hints) true e h =
         let task : Task = record { group = group; kind = k.With other } in
         let kept = holds_times u P d earlier (map (raised other u) earlier) scale (u * scale) task sigs hints t t (raised_setting u P d earlier scale group other sigs hints t) h.positive
-            (λ r. tt) h in
+        (λ r. tt) h in
         subst (λ c. Holds P d (map (raised meter u) earlier) (cond c (u * scale) scale) (raised meter u (block_of task sigs hints)) t) (sym e)
         (subst (λ b. Holds P d (map (raised meter u) earlier) (u * scale) b t) (sym (on meter u (block_of task sigs hints) e))
         (subst (λ m. Holds P d (map (raised m u) earlier) (u * scale) (times_block u (block_of task sigs hints)) t) (sym (same_meters meter other e)) kept))

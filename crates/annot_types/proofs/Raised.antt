@@ -98,7 +98,7 @@ more_raised u t P meter b true e =
     subst (λ x. BlockTimes u P (With meter) x (raised meter (u * t) b)) (sym (on meter t b e))
     (subst (BlockTimes u P (With meter) (times_block t b)) (sym (on meter (u * t) b e))
     (multiplied u P meter (times_block t b) (times_block (u * t) b) refl e
-      (λ f. sig_in_times P (u * t) b f ∙ option_product u t (sig_in P b f) ∙ ap (option_map (times_sig u)) (sym (sig_in_times P t b f)))))
+    (λ f. sig_in_times P (u * t) b f ∙ option_product u t (sig_in P b f) ∙ ap (option_map (times_sig u)) (sym (sig_in_times P t b f)))))
 more_raised u t P meter b false e =
     subst (λ x. BlockTimes u P (With meter) x (raised meter (u * t) b)) (sym (off meter t b e))
     (subst (BlockTimes u P (With meter) b) (sym (off meter (u * t) b e)) (unchanged u P meter b e))
@@ -110,8 +110,8 @@ raised_before u t P meter b true e =
     subst (λ x. BlockTimes u P (With meter) x (raised meter t (raised meter u b))) (sym (on meter t b e))
     (subst (BlockTimes u P (With meter) (times_block t b)) (sym (ap (raised meter t) (on meter u b e) ∙ on meter t (times_block u b) e))
     (multiplied u P meter (times_block t b) (times_block t (times_block u b)) refl e
-      (λ f. sig_in_times P t (times_block u b) f ∙ ap (option_map (times_sig t)) (sig_in_times P u b f) ∙ option_exchange u t (sig_in P b f)
-        ∙ ap (option_map (times_sig u)) (sym (sig_in_times P t b f)))))
+    (λ f. sig_in_times P t (times_block u b) f ∙ ap (option_map (times_sig t)) (sig_in_times P u b f) ∙ option_exchange u t (sig_in P b f)
+    ∙ ap (option_map (times_sig u)) (sym (sig_in_times P t b f)))))
 raised_before u t P meter b false e =
     subst (λ x. BlockTimes u P (With meter) x (raised meter t (raised meter u b))) (sym (off meter t b e))
     (subst (BlockTimes u P (With meter) b) (sym (ap (raised meter t) (off meter u b e) ∙ off meter t b e)) (unchanged u P meter b e))

@@ -22,10 +22,13 @@ free_holds = record {
       there = refl;
       args = tt;
       result = (below 0 1 refl, tt);
-      fits = (at_most 0 0 refl, (
+      fits = (
         at_most 0 0 refl,
-        (record { fun = spin; there = refl; once = _; takes = refl; multiples = []; named = tt; args = covered 1 _ _ refl; result = covered 1 _ _ refl }, refl),
-      ));
+        (
+          at_most 0 0 refl,
+          (record { fun = spin; there = refl; once = _; takes = refl; multiples = []; named = tt; args = covered 1 _ _ refl; result = covered 1 _ _ refl }, refl),
+        ),
+      );
     },
     tt,
   );
@@ -42,10 +45,13 @@ cells_hold = record {
       there = refl;
       args = tt;
       result = tt;
-      fits = (at_most 0 0 refl, (
+      fits = (
         at_most 0 0 refl,
-        (record { fun = spin; there = refl; once = _; takes = (_, refl, refl); multiples = []; named = tt; args = covered 1 _ _ refl; result = covered 1 _ _ refl }, refl),
-      ));
+        (
+          at_most 0 0 refl,
+          (record { fun = spin; there = refl; once = _; takes = (_, refl, refl); multiples = []; named = tt; args = covered 1 _ _ refl; result = covered 1 _ _ refl }, refl),
+        ),
+      );
     },
     tt,
   );

@@ -81,7 +81,7 @@ tick_missing h =
     let main = ticks.holds.holds.functions.0 in
     let S = setting (program three_ticks) 1 (before two_of_three 1) 1 less_ticks ticks.holds.t in
     let fits = subst (λ (g : NormFun). Ann S (With Ticks) 1 g.params (annotation ((0, pos 2) ∷ [])) g.body g.result (annotation []) [] [])
-        (sym (some_is three_ticks main.fun main.there)) main.fits in
+    (sym (some_is three_ticks main.fun main.there)) main.fits in
     omega (arith, fits.0, ticks.holds.holds.positive)
 
 pub work_held : Held (program three_ticks) work_of_three

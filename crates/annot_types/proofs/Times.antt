@@ -141,8 +141,8 @@ once_times : (u : ℕ) (m : Mode) (S : Setting) (earlier : List Block) (scale : 
 once_times u (With meter) S earlier scale h f once takes = (
   times_sig u takes.0,
   (λ i. or_else (sig_among_times u S.group S.sigs f i) (cost_times u S.program meter S.earlier earlier h.blocks f i))
-  ∙ or_else_times u (own_sig S f) (cost_sig S.program meter S.earlier f)
-  ∙ ap (option_map (times_sig u)) takes.1,
+      ∙ or_else_times u (own_sig S f) (cost_sig S.program meter S.earlier f)
+      ∙ ap (option_map (times_sig u)) takes.1,
   ap (map (times_sig u)) takes.2,
 )
 once_times u Own S earlier scale h f once takes =
@@ -203,7 +203,7 @@ pub call_times : (u : ℕ) (m : Mode) (S : Setting) (earlier : List Block) (scal
     CallRule S m d C q f xs T r hint → CallRule (times_setting u S earlier scale) m d C (mul u q) f xs T (mul u r) (times u hint)
 call_times u m S earlier scale h d C q f xs T r hint rule =
     let more_q : mul u (more (refund S m) q) ≡ more (refund (times_setting u S earlier scale) m) (mul u q) =
-        sym (more_mul u (refund S m) q) ∙ ap (λ n. more n (mul u q)) (sym h.refunds) in
+    sym (more_mul u (refund S m) q) ∙ ap (λ n. more n (mul u q)) (sym h.refunds) in
     let once = map (times_sig u) rule.once in
     let multiples = map (times_taken u) rule.multiples in
     record {
@@ -262,7 +262,7 @@ pub parts_times : (u : ℕ) (A : Type') (d : ℕ) (child made : Child) (mode : M
     ((j : List Plain) (s : Annotation) (hs out : List Hint) → child mode j s hs out → made mode j (mul u s) (times_hints u hs) (times_hints u out)) →
     ((j : List Plain) (s : Annotation) (hs out : List Hint) → child Past j s hs out → made Past j (mul u s) (times_hints u hs) (times_hints u out)) →
     (js : List (List Plain)) (rs : List Entries) (hs out : List Hint) → Parts A d child mode js rs hs out →
-        Parts A d made mode js (map (times u) rs) (times_hints u hs) (times_hints u out)
+    Parts A d made mode js (map (times u) rs) (times_hints u hs) (times_hints u out)
 parts_times u A d child made mode first past [] [] hs out p = ap (times_hints u) p
 parts_times u A d child made mode first past [] (r ∷ rs) hs out p = absurd p
 parts_times u A d child made mode first past (j ∷ js) [] hs out p = absurd p

@@ -158,7 +158,6 @@ module _ (S : Setting) (own : List Unsolved) (x : Assignment) where
   walk m d C q owed (n.Arith k op y z) T r = pays m k q owed (λ owed. rows_only (first_row q owed (r 0)))
   walk m d C q owed (n.Compare k op y z) T r = pays m k q owed (λ owed. rows_only (first_row q owed (r 0)))
   walk m d C q owed (n.Not k y) T r = pays m k q owed (λ owed. rows_only (first_row q owed (r 0)))
-
   -- the price of a cell is owed at the zero index
   walk m d C q owed (n.Pair k y z) T r = pays m k q owed (λ owed.
       rows_only (cover_rows (types C) d q (more (price S m 0 0 1) owed) (at_parts C (y ∷ z ∷ []) T d r)))
@@ -168,16 +167,13 @@ module _ (S : Setting) (own : List Unsolved) (x : Assignment) where
       rows_only (cover_rows (types C) d q (more (price S m 0 0 1) owed) (at_parts C (y ∷ z ∷ w ∷ []) T d r)))
   walk m d C q owed (n.Just k y) T r = pays m k q owed (λ owed.
       rows_only (cover_rows (types C) d q (more (price S m 0 0 1) owed) (at_parts C (y ∷ []) T d r)))
-
   walk m d C q owed (n.Call k f ys) T r = pays m k q owed (λ owed. taking (length (usable d f)) (λ first.
       rows_only (call_rows m d C q owed f ys T r (slice_get S.program.funs f) (multiplied first (usable d f)))))
-
   walk m d C q owed (n.Let k y A a b) T r = pays m k q owed (λ owed. taking (let_size A d (tuples (others a C) d)) (λ first. both
       (let_parts (λ m j s. walk m (d - degrees j) (inners a C) (part a C d j q) (part a C d j owed) a A s) m
-        (tuples (others a C) d) (let_results A d first (tuples (others a C) d)))
+      (tuples (others a C) d) (let_results A d first (tuples (others a C) d)))
       (walk m d (others a C ++ (y, A) ∷ [])
-        (joined (types (others a C)) A d (tuples (others a C) d) (let_results A d first (tuples (others a C) d))) none b T r)))
-
+      (joined (types (others a C)) A d (tuples (others a C) d) (let_results A d first (tuples (others a C) d))) none b T r)))
   walk m d C q owed (n.Split k y v w a) T r = pays m k q owed (λ owed.
       walk m d (opened y (v ∷ w ∷ []) parts_of C) (moved (opening (types C) (place y C) d) q) (moved (opening (types C) (place y C) d) owed) a T r)
   walk m d C q owed (n.If k y a b) T r = pays m k q owed (λ owed. both
@@ -192,16 +188,13 @@ module _ (S : Setting) (own : List Unsolved) (x : Assignment) where
   walk m d C q owed (n.CaseOption k y a w b) T r = pays m k q owed (λ owed. both
       (walk m d (without y C) (moved (leaving (types C) (place y C) d) q) (moved (leaving (types C) (place y C) d) owed) a T r)
       (walk m d (opened y (w ∷ []) parts_of C) (moved (opening (types C) (place y C) d) q) (moved (opening (types C) (place y C) d) owed) b T r))
-
   -- the number at the zero index pays the ticks
   walk m d C q owed (n.Tick k i a) T r = pays m k q owed (λ owed. both
       (rows_only (first_row q (more (price S m 0 i 0) owed) 0))
       (walk m d C q (more (price S m 0 i 0) owed) a T r))
-
   walk m d C q owed (n.Share k y v w a) T r = pays m k q owed (λ owed. taking (size (types (opened y (v ∷ w ∷ []) copies_of C)) d) (λ first. both
       (rows_only (cover_rows (types C) d q owed (moved (sharing (types C) (place y C) d) (unknown first))))
       (walk m d (opened y (v ∷ w ∷ []) copies_of C) (unknown first) none a T r)))
-
   walk m d C q owed (n.Drop k y a) T r = pays m k q owed (λ owed.
       walk m d (without y C) (moved (leaving (types C) (place y C) d) q) (moved (leaving (types C) (place y C) d) owed) a T r)
 

@@ -134,42 +134,33 @@ module _ (S : Setting) where
   -- In this mode and at budget d, the annotation q of the context C and the annotation r of the form's result, of type T, fit the form. Its hints are
   -- taken from the front of `hs`, in the order of the walk, and `out` is what is left of them.
   abbrev pub Ann : Mode → ℕ → Context → Annotation → Norm → Type' → Annotation → List Hint → List Hint → Type 0
-
   -- the variable is the whole context
   Ann m d C q (n.Var k x) T r hs out = Pays m k 0 0 q (λ q. Covers (types C) d q r) × (hs ≡ out)
-
   -- numbers, truths and operators: their results have the zero index alone
   Ann m d C q (n.Number k i) T r hs out = Pays m k 0 0 q (λ q. r 0 ≤ q 0) × (hs ≡ out)
   Ann m d C q (n.Truth k b) T r hs out = Pays m k 0 0 q (λ q. r 0 ≤ q 0) × (hs ≡ out)
   Ann m d C q (n.Arith k op x y) T r hs out = Pays m k 0 0 q (λ q. r 0 ≤ q 0) × (hs ≡ out)
   Ann m d C q (n.Compare k op x y) T r hs out = Pays m k 0 0 q (λ q. r 0 ≤ q 0) × (hs ≡ out)
   Ann m d C q (n.Not k x) T r hs out = Pays m k 0 0 q (λ q. r 0 ≤ q 0) × (hs ≡ out)
-
   -- empty values: the base polynomials of all other indices are 0 there
   Ann m d C q (n.Nil k) T r hs out = Pays m k 0 0 q (λ q. r 0 ≤ q 0) × (hs ≡ out)
   Ann m d C q (n.Leaf k) T r hs out = Pays m k 0 0 q (λ q. r 0 ≤ q 0) × (hs ≡ out)
   Ann m d C q (n.Nothing k) T r hs out = Pays m k 0 0 q (λ q. r 0 ≤ q 0) × (hs ≡ out)
-
   -- constructors with a cell: the parts have what taking the result apart would give them
   Ann m d C q (n.Pair k x y) T r hs out = Pays m k 0 1 q (λ q. Covers (types C) d q (at_parts C (x ∷ y ∷ []) T d r)) × (hs ≡ out)
   Ann m d C q (n.Cons k x y) T r hs out = Pays m k 0 1 q (λ q. Covers (types C) d q (at_parts C (x ∷ y ∷ []) T d r)) × (hs ≡ out)
   Ann m d C q (n.Node k x y z) T r hs out = Pays m k 0 1 q (λ q. Covers (types C) d q (at_parts C (x ∷ y ∷ z ∷ []) T d r)) × (hs ≡ out)
   Ann m d C q (n.Just k x) T r hs out = Pays m k 0 1 q (λ q. Covers (types C) d q (at_parts C (x ∷ []) T d r)) × (hs ≡ out)
-
   Ann m d C q (n.Call k f xs) T r hs out = Pays m k 0 0 q (λ q. TakesCall hs (λ hint rest. CallRule m d C q f xs T r hint × (rest ≡ out)))
-
   -- The bound form is walked once for each tuple of the other variables, and then the rest.
   Ann m d C q (n.Let k x A a b) T r hs out = Pays m k 0 0 q (λ q. TakesLet hs (λ rs rest. (between : List Hint)
       × Parts A d (λ m j s hs out. Ann m (d - degrees j) (inners a C) (part a C d j q) a A s hs out) m (tuples (others a C) d) rs rest between
       × Ann m d (others a C ++ (x, A) ∷ []) (joined (types (others a C)) A d (tuples (others a C) d) (map annotation rs)) b T r between out))
-
   Ann m d C q (n.Split k x y z a) T r hs out = Pays m k 0 0 q (λ q.
       Ann m d (opened x (y ∷ z ∷ []) parts_of C) (moved (opening (types C) (place x C) d) q) a T r hs out)
-
   Ann m d C q (n.If k x a b) T r hs out = Pays m k 0 0 q (λ q. (between : List Hint)
       × Ann m d (without x C) (moved (leaving (types C) (place x C) d) q) a T r hs between
       × Ann m d (without x C) (moved (leaving (types C) (place x C) d) q) b T r between out)
-
   -- Of a match, the branch of the empty value has the entries of its zero index, and the other branch those of the parts.
   Ann m d C q (n.CaseList k x a h t b) T r hs out = Pays m k 0 0 q (λ q. (between : List Hint)
       × Ann m d (without x C) (moved (leaving (types C) (place x C) d) q) a T r hs between
@@ -180,13 +171,10 @@ module _ (S : Setting) where
   Ann m d C q (n.CaseOption k x a y b) T r hs out = Pays m k 0 0 q (λ q. (between : List Hint)
       × Ann m d (without x C) (moved (leaving (types C) (place x C) d) q) a T r hs between
       × Ann m d (opened x (y ∷ []) parts_of C) (moved (opening (types C) (place x C) d) q) b T r between out)
-
   Ann m d C q (n.Tick k i a) T r hs out = Pays m k i 0 q (λ q. Ann m d C q a T r hs out)
-
   -- The hint is an annotation of the context with both copies, which the old one covers as products of indices are counted.
   Ann m d C q (n.Share k x y z a) T r hs out = Pays m k 0 0 q (λ q. TakesShare hs (λ p rest.
       Annotates (types (opened x (y ∷ z ∷ []) copies_of C)) d p
       × Covers (types C) d q (moved (sharing (types C) (place x C) d) (annotation p))
       × Ann m d (opened x (y ∷ z ∷ []) copies_of C) (annotation p) a T r rest out))
-
   Ann m d C q (n.Drop k x a) T r hs out = Pays m k 0 0 q (λ q. Ann m d (without x C) (moved (leaving (types C) (place x C) d) q) a T r hs out)

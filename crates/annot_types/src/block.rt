@@ -30,9 +30,13 @@ pub enum BlockBody {
         hints: Vec<Vec<Hint>>,
     },
     /// A vector that shows that there is no solution, by the numbers of its rows.
-    Refuted { farkas: Vec<(u32, i128)> },
+    Refuted {
+        farkas: Vec<(u32, i128)>,
+    },
     /// It was not tried, since the group calls this function, which has no bound.
-    Calls { fun: FunId },
+    Calls {
+        fun: FunId,
+    },
 }
 
 /// A task, and what was found.

@@ -48,6 +48,7 @@ module _ (groups calls : List (List ℕ)) where
   abbrev pub is_earlier : ℕ → ℕ → Bool
   is_earlier group f = in_any f (take group groups)
 
+  -- it is in the way of the meter's task of the group: a function of the group calls it, it is in an earlier group, and it has no bound
   abbrev pub blocks : ℕ → Meter → List Outcome → ℕ → Bool
   blocks group meter done f = (is_called group f && is_earlier group f) && not (has_bound groups meter done f)
 
