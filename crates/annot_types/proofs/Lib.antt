@@ -2,6 +2,7 @@ mod Small
 mod Each
 mod ThreeTicks
 mod Appended
+mod Beside
 mod Computed
 mod Systems
 mod Linear

@@ -1,6 +1,6 @@
 -- Small certificates, worked out by hand.
 use Rattle.std.specs.Prelude.{◌≡◌, ℤ, pos, List, [], ◌∷◌, Option, Some, None}
-use Rattle.raml_syntax.specs.Tree.{Type', Integer, ListOf}
+use Rattle.raml_syntax.specs.Tree.{Type', Integer, ListOf, PairOf, OptionOf}
 use Rattle.base_poly.specs.Plain.{Unit', End, Then}
 use Rattle.normal_form.specs.Norm as n
 use Rattle.normal_form.specs.Norm.{NormFun}
@@ -8,6 +8,7 @@ use Rattle.cost_free.specs.declared.task.Meter.TheVariants.{Ticks, Cells, Work}
 use Rattle.cost_free.specs.Task.{Kind, Free, With}
 use Rattle.annot_types.specs.Program.{Program}
 use Rattle.annot_types.specs.Certificate.{Entries, Hint, Let, Call, Block, Solved, Certificate}
+use Rattle.annot_types.specs.Holds.{Holds}
 use Rattle.annot_types.specs.Held.{Held, Bound, line, lines}
 
 -- one function, in a group of its own
@@ -76,6 +77,25 @@ cells args = appending (With Cells) args [] ((0, pos 1) ∷ []) ((0, pos 1) ∷ 
 abbrev pub append_with : Entries → Certificate
 append_with args = certificate None (one_left ∷ length_left ∷ no_ticks ∷ cells args ∷ [])
 
+-- fun beside (x : int list, y : int list) : int list * int list = let z = x in (z, y)
+abbrev pub beside : NormFun
+beside = record {
+  params = (1, ints) ∷ (2, ints) ∷ [];
+  result = PairOf ints ints;
+  body = n.Let 2 3 ints (n.Var 2 1) (n.Pair 2 3 2);
+}
+
+-- The product of both lengths stays. The tuples of y are the empty one, one entry and two: at one entry the variable x has its length.
+abbrev pub product_left : Entries → Block
+product_left at_one = block (Free 2 0 4) ((4, pos 1) ∷ []) ((4, pos 1) ∷ []) (Let ([] ∷ at_one ∷ [] ∷ []) ∷ [])
+
+-- fun first (x : int list) : int option = match x with nil -> none | h :: t -> some(h)
+abbrev pub first : NormFun
+first = record { params = (1, ints) ∷ []; result = OptionOf Integer; body = n.CaseList 3 1 (n.Nothing 1) 2 3 (n.Drop 0 3 (n.Just 2 2)) }
+
+abbrev pub one_cell : Block
+one_cell = block (With Cells) ((0, pos 1) ∷ []) [] []
+
 pub record Examples : Type 0 where
   pub tick_held : Held (program three_ticks) ticks_of_three
   pub tick_missing : Held (program three_ticks) two_of_three → ⊥
@@ -84,3 +104,6 @@ pub record Examples : Type 0 where
   pub cell_missing : Held (program append) (append_with []) → ⊥
   pub append_lines : lines (program append) (append_with ((2, pos 1) ∷ []))
       ≡ line 0 Ticks (Bound 1 []) ∷ line 0 Cells (Bound 1 ((Then Unit' End ∷ End ∷ [], 1) ∷ [])) ∷ []
+  pub product_kept : Holds (program beside) 2 [] 1 (product_left ((1, pos 1) ∷ [])) 1
+  pub product_lost : Holds (program beside) 2 [] 1 (product_left []) 1 → ⊥
+  pub option_cell : Holds (program first) 1 [] 1 one_cell 1
