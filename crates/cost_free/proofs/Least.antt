@@ -1,5 +1,6 @@
 -- The first number that passes a test.
-use Rattle.std.proofs.Common.{◌≡◌, ◌≤◌, ◌<◌, ◌-◌, ◌+◌, ℕ, zero, suc, nat_eq, Bool, true, false, cond, length, Option, None, Some, refl, arith, ap, sym, ◌∙◌, subst}
+use Rattle.std.proofs.Common.{◌≡◌, ◌≤◌, ◌<◌, ◌-◌, ◌+◌, ℕ, zero, suc, nat_eq, Bool, true, false, cond, length, Option, None, Some, refl}
+use Rattle.std.proofs.Common.{arith, ap, sym, ◌∙◌, subst}
 use Rattle.std.proofs.lemmas.Bool.Decides.{nat_tests}
 use Rattle.cost_free.specs.Blocked.{least_from, blocks}
 use Rattle.cost_free.specs.Laws.{BlockersAreLeast}
@@ -24,7 +25,8 @@ is_first : (test : ℕ → Bool) (count k f : ℕ) → least_from test count k �
 is_first test zero k f e = absurd (cc)
 is_first test (suc count) k f e = by (test k) refl e (λ e. is_first test count (suc k) f e)
   where
-    by : (b : Bool) → test k ≡ b → cond b (Some k) (least_from test count (suc k)) ≡ Some f → (least_from test count (suc k) ≡ Some f → IsFirst test count (suc k) f) → IsFirst test (suc count) k f
+    by : (b : Bool) → test k ≡ b → cond b (Some k) (least_from test count (suc k)) ≡ Some f →
+        (least_from test count (suc k) ≡ Some f → IsFirst test count (suc k) f) → IsFirst test (suc count) k f
     by true is e later =
         let same : k ≡ f = cc in
         record { from = omega (arith, same); below = omega (arith, same); passes = subst (λ n. test n ≡ true) same is; first = λ g low high. absurd (omega (arith, same, low, high)) }
