@@ -116,7 +116,8 @@ pub took_at : (cs : List t.Task) (i : ℕ) (d : t.Task) (keys new : List (ℕ ×
     → ((past : List Outcome) → Knows keys past → Knows new (outcome_of (slice_index_or es 0 e) ∷ past)) → Stands keys cs i es all →
     Stands new cs (i + 1) (take (length es - 1) (drop 1 es)) all
 took_at cs i d keys new es e all left lt out test some more h =
-    took cs i (slice_index_or cs i d) keys new new es (take (length es - 1) (drop 1 es)) (slice_index_or es 0 e) all left refl refl lt (same_item cs i d _ lt) out test some (same_item es 0 e _ (omega (arith, some))) more h
+    took cs i (slice_index_or cs i d) keys new new es (take (length es - 1) (drop 1 es)) (slice_index_or es 0 e) all left refl refl lt
+    (same_item cs i d _ lt) out test some (same_item es 0 e _ (omega (arith, some))) more h
 
 pub begins : (all : List Task) → IsAt all [] [] all
 begins all = ([], (λ any f x. refl), (λ more. refl))
@@ -145,13 +146,15 @@ pub current_passes : (all : List Task) (done : List Outcome) (keys : List (ℕ �
     → ((past : List Outcome) → Knows keys past → left ≡ is_left_out past (kind_of (slice_index_or cs i d).kind))
     → IsAt all done keys (map task_of (drop i cs)) → IsAt all done keys (map task_of (drop (i + 1) cs))
 current_passes all done keys cs i d left lt out test h =
-    goes_past all done keys (task_of (slice_index_or cs i d)) (map task_of (drop (i + 1) cs)) left out test (subst (λ l. IsAt all done keys (map task_of l)) (at_place cs i (slice_index_or cs i d) lt (same_item cs i d _ lt)) h)
+    goes_past all done keys (task_of (slice_index_or cs i d)) (map task_of (drop (i + 1) cs)) left out test
+    (subst (λ l. IsAt all done keys (map task_of l)) (at_place cs i (slice_index_or cs i d) lt (same_item cs i d _ lt)) h)
 
 pub current_is : (all : List Task) (done : List Outcome) (keys : List (ℕ × ℕ)) (cs : List t.Task) (i : ℕ) (d : t.Task) (left : Bool) → i < length cs → left ≡ false
     → ((past : List Outcome) → Knows keys past → left ≡ is_left_out past (kind_of (slice_index_or cs i d).kind))
     → IsAt all done keys (map task_of (drop i cs)) → next_of all [] done ≡ Some (task_of (slice_index_or cs i d))
 current_is all done keys cs i d left lt out test h =
-    is_next all done keys (task_of (slice_index_or cs i d)) (map task_of (drop (i + 1) cs)) left out test (subst (λ l. IsAt all done keys (map task_of l)) (at_place cs i (slice_index_or cs i d) lt (same_item cs i d _ lt)) h)
+    is_next all done keys (task_of (slice_index_or cs i d)) (map task_of (drop (i + 1) cs)) left out test
+    (subst (λ l. IsAt all done keys (map task_of l)) (at_place cs i (slice_index_or cs i d) lt (same_item cs i d _ lt)) h)
 
 none_left : {X : Type 0} (xs : List X) (i : ℕ) → length xs ≤ i → drop i xs ≡ []
 none_left [] zero h = refl

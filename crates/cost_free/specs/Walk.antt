@@ -1,5 +1,5 @@
 -- A walk over the tasks that keeps the solved targets.
-use Rattle.std.specs.Prelude.{◌≡◌, ℕ, Bool, List, [], ◌++◌}
+use Rattle.std.specs.Prelude.{◌≡◌, ℕ, Bool, List, [], ◌++◌, Option}
 use Rattle.std.specs.List.{list_any}
 use Rattle.std.specs.Ordering.{ordering_then, nat_cmp, is_eq}
 use Rattle.cost_free.specs.Task.{Task, Free, Outcome}
@@ -19,3 +19,11 @@ IsAt all done keys left =
     (past : List Outcome)
     × Knows keys past
     × ((more : List Outcome) → next_of all [] (done ++ more) ≡ next_of left past more)
+
+-- A walk that has come to the first tasks has come to the others as well.
+abbrev pub MovesOn : List (ℕ × ℕ) → List Task → List Task → Type 0
+MovesOn keys left behind = (all : List Task) (done : List Outcome) → IsAt all done keys left → IsAt all done keys behind
+
+-- Where a walk has come to these tasks, this is the next task of all.
+abbrev pub TellsNext : List (ℕ × ℕ) → List Task → Option Task → Type 0
+TellsNext keys left next = (all : List Task) (done : List Outcome) → IsAt all done keys left → next ≡ next_of all [] done

@@ -1,10 +1,10 @@
 // A walk over the tasks, which keeps the targets that are solved.
-ghost use Rattle.std.specs.Prelude.{◌≡◌, ◌∷◌, [], List, map, drop, OnOk};
+ghost use Rattle.std.specs.Prelude.{◌≡◌, ◌∷◌, List, map, drop, OnOk};
 ghost use Rattle.std.specs.Option.{option_map};
 ghost use Rattle.cost_free.specs.Task as plain;
-ghost use Rattle.cost_free.specs.Schedule.{is_left_out, next_of};
+ghost use Rattle.cost_free.specs.Schedule.{is_left_out};
 ghost use Rattle.cost_free.specs.Read.{kind_of, task_of, outcome_of};
-ghost use Rattle.cost_free.specs.Walk.{Knows, IsAt};
+ghost use Rattle.cost_free.specs.Walk.{Knows, MovesOn, TellsNext};
 
 use crate::task::{Done, Task, TaskKind};
 use std::alloc::AllocError;
@@ -38,8 +38,8 @@ pub fn note(solved: &mut BTreeSet<(u32, u32)>, entry: &(Task, Done)) -> Result<(
 
 // Goes past the tasks that are left out, and gives the next one.
 pub fn current(tasks: &[Task], place: &mut usize, solved: &BTreeSet<(u32, u32)>) -> Option<Task>
-    ensures stands { (all : List plain.Task) (done : List plain.Outcome) → IsAt all done solved.now.keys (map task_of (drop place.old tasks.now)) → IsAt all done solved.now.keys (map task_of (drop place.new tasks.now)) }
-    ensures next { (all : List plain.Task) (done : List plain.Outcome) → IsAt all done solved.now.keys (map task_of (drop place.old tasks.now)) → option_map task_of result ≡ next_of all [] done }
+    ensures stands { MovesOn solved.now.keys (map task_of (drop place.old tasks.now)) (map task_of (drop place.new tasks.now)) }
+    ensures next { TellsNext solved.now.keys (map task_of (drop place.old tasks.now)) (option_map task_of result) }
 {
     while *place < tasks.len() {
         let task = tasks[*place];
