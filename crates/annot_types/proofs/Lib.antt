@@ -1,0 +1,12 @@
+mod Small
+mod Each
+mod ThreeTicks
+mod Appended
+mod Beside
+mod Computed
+mod Systems
+mod Linear
+mod Times
+mod Derived
+mod Raised
+mod Multiples

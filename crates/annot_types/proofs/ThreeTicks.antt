@@ -1,0 +1,103 @@
+-- The certificates of three ticks.
+use Rattle.std.proofs.Common.{pos, List, [], ◌∷◌, refl, arith, subst, sym}
+use Rattle.cost_free.specs.declared.task.Meter.TheVariants.{Ticks, Cells, Work}
+use Rattle.cost_free.specs.Task as k
+use Rattle.normal_form.specs.Norm.{NormFun}
+use Rattle.annot_types.specs.Certificate.{annotation, Block}
+use Rattle.annot_types.specs.Rules.{With, Ann}
+use Rattle.annot_types.specs.Holds.{setting, Holds}
+use Rattle.annot_types.specs.Held.{Held, before}
+use Rattle.annot_types.specs.Example.{program, block, three_ticks, constant, ticks_of_three, two_of_three, work_of_three}
+use Rattle.annot_types.proofs.Small.{at_most, below, covered}
+use Rattle.annot_types.proofs.Each.{some_is, all_in_place, one_entry, scales_positive, work_positive}
+
+constant_holds : Holds (program three_ticks) 1 [] 1 constant 1
+constant_holds = record {
+  positive = below 0 1 refl;
+  solved = tt;
+  functions = (
+    record {
+      fun = three_ticks;
+      there = refl;
+      args = (below 0 1 refl, tt);
+      result = (below 0 1 refl, tt);
+      fits = (at_most 0 1 refl, ((at_most 0 1 refl, covered 1 _ _ refl), refl));
+    },
+    tt,
+  );
+  reaches = record { fun = three_ticks; there = refl; target = _; numbered = refl; sig = _; signed = refl; covers = (at_most 1 1 refl, tt) };
+}
+
+ticks_hold : (earlier : List Block) → Holds (program three_ticks) 1 earlier 1 (block (k.With Ticks) ((0, pos 3) ∷ []) [] []) 1
+ticks_hold earlier = record {
+  positive = below 0 1 refl;
+  solved = tt;
+  functions = (
+    record { fun = three_ticks; there = refl; args = (below 0 1 refl, tt); result = tt; fits = (at_most 3 3 refl, ((at_most 0 0 refl, covered 1 _ _ refl), refl)) },
+    tt,
+  );
+  reaches = tt;
+}
+
+cells_hold : (earlier : List Block) → Holds (program three_ticks) 1 earlier 1 (block (k.With Cells) [] [] []) 1
+cells_hold earlier = record {
+  positive = below 0 1 refl;
+  solved = tt;
+  functions = (record { fun = three_ticks; there = refl; args = tt; result = tt; fits = (at_most 0 0 refl, ((at_most 0 0 refl, covered 1 _ _ refl), refl)) }, tt);
+  reaches = tt;
+}
+
+work_holds : (earlier : List Block) → Holds (program three_ticks) 1 earlier 1 (block (k.With Work) ((0, pos 3) ∷ []) [] []) 1
+work_holds earlier = record {
+  positive = below 0 1 refl;
+  solved = tt;
+  functions = (
+    record { fun = three_ticks; there = refl; args = (below 0 1 refl, tt); result = tt; fits = (at_most 2 3 refl, ((at_most 1 1 refl, covered 1 _ _ refl), refl)) },
+    tt,
+  );
+  reaches = tt;
+}
+
+pub tick_held : Held (program three_ticks) ticks_of_three
+tick_held = record {
+  least_degree = at_most 1 1 refl;
+  most_degree = at_most 1 4 refl;
+  scales = scales_positive ticks_of_three.blocks;
+  blocks = all_in_place (program three_ticks) ticks_of_three (
+    record { task = refl; waits = tt; shape = ((one_entry 0 0, one_entry 0 0, tt), (tt, tt)); holds = record { t = 1; one = tt; holds = constant_holds } },
+    (
+      record { task = refl; waits = tt; shape = ((one_entry 0 2, tt, tt), (tt, tt)); holds = record { t = 1; one = refl; holds = ticks_hold (before ticks_of_three 1) } },
+      (record { task = refl; waits = tt; shape = ((tt, tt, tt), (tt, tt)); holds = record { t = 1; one = refl; holds = cells_hold (before ticks_of_three 2) } }, tt),
+    ),
+  );
+  ended = refl;
+}
+
+-- with a tick less the price is not paid
+pub tick_missing : Held (program three_ticks) two_of_three → ⊥
+tick_missing h =
+    let less_ticks = block (k.With Ticks) ((0, pos 2) ∷ []) [] [] in
+    let ticks = h.blocks 1 less_ticks refl in
+    let main = ticks.holds.holds.functions.0 in
+    let S = setting (program three_ticks) 1 (before two_of_three 1) 1 less_ticks ticks.holds.t in
+    let fits = subst (λ (g : NormFun). Ann S (With Ticks) 1 g.params (annotation ((0, pos 2) ∷ [])) g.body g.result (annotation []) [] [])
+    (sym (some_is three_ticks main.fun main.there)) main.fits in
+    omega (arith, fits.0, ticks.holds.holds.positive)
+
+pub work_held : Held (program three_ticks) work_of_three
+work_held = record {
+  least_degree = at_most 1 1 refl;
+  most_degree = at_most 1 4 refl;
+  scales = work_positive work_of_three.blocks;
+  blocks = all_in_place (program three_ticks) work_of_three (
+    record { task = refl; waits = tt; shape = ((one_entry 0 0, one_entry 0 0, tt), (tt, tt)); holds = record { t = 1; one = tt; holds = constant_holds } },
+    (
+      record { task = refl; waits = tt; shape = ((one_entry 0 2, tt, tt), (tt, tt)); holds = record { t = 1; one = refl; holds = ticks_hold (before work_of_three 1) } },
+      (
+        record { task = refl; waits = tt; shape = ((tt, tt, tt), (tt, tt)); holds = record { t = 1; one = refl; holds = cells_hold (before work_of_three 2) } },
+        (record { task = refl; waits = tt; shape = ((one_entry 0 2, tt, tt), (tt, tt)); holds = record { t = 1; one = refl; holds = work_holds (before work_of_three 3) } }, tt),
+      ),
+    ),
+  );
+  ended = refl;
+}

@@ -1,0 +1,14 @@
+pub mod Program
+pub mod Certificate
+pub mod Signature
+pub mod Carried
+pub mod Rules
+pub mod Holds
+pub mod Held
+pub mod Least
+pub mod Laws
+pub mod Rows
+pub mod System
+pub mod Read
+pub mod Example
+pub mod SystemExample

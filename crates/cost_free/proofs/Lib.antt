@@ -1,0 +1,3 @@
+mod Computed
+mod Least
+mod Steps

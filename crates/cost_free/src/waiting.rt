@@ -1,0 +1,155 @@
+// Tasks that wait for a bound.
+ghost use Rattle.std.specs.Prelude.{◌≡◌, ◌<◌, ◌^◌, ◌&&◌, List, length, take, map};
+ghost use Rattle.std.specs.Option.{option_map};
+ghost use Rattle.raml_syntax.specs.declared.program.FunId.{FunId};
+ghost use Rattle.cost_free.specs.Task.{same_meter};
+ghost use Rattle.cost_free.specs.Blocked.{is_among, row, any_calls, in_any, pays_for, has_bound, blocks, least_from, blocked};
+ghost use Rattle.cost_free.specs.Read.{ids_of, lists_of, task_of, outcome_of, outcomes_of};
+
+use crate::task::{Done, Meter, Task, TaskKind};
+use raml_syntax::FunId;
+
+fn same_meter(one: Meter, other: Meter) -> bool
+    ensures { result ≡ same_meter one other }
+{
+    match one {
+        Meter::Ticks => matches!(other, Meter::Ticks),
+        Meter::Cells => matches!(other, Meter::Cells),
+        Meter::Work => matches!(other, Meter::Work),
+    }
+}
+
+fn is_among(fun: u32, funs: &[FunId]) -> bool
+    ensures { result ≡ is_among fun (ids_of funs.now) }
+{
+    for item in funs {
+        if fun == item.0 {
+            return true;
+        }
+    }
+    false
+}
+
+fn row(rows: &[Vec<FunId>], place: u32) -> &[FunId]
+    ensures { ids_of result.now ≡ row (lists_of rows.now) place }
+{
+    match rows.get(place as usize) {
+        Some(row) => row,
+        None => &[],
+    }
+}
+
+fn any_calls(calls: &[Vec<FunId>], fun: u32, members: &[FunId]) -> bool
+    ensures { result ≡ any_calls (lists_of calls.now) fun (ids_of members.now) }
+{
+    for member in members {
+        if is_among(fun, row(calls, member.0)) {
+            return true;
+        }
+    }
+    false
+}
+
+fn in_any(fun: u32, groups: &[Vec<FunId>]) -> bool
+    ensures { result ≡ in_any fun (lists_of groups.now) }
+{
+    for group in groups {
+        if is_among(fun, group) {
+            return true;
+        }
+    }
+    false
+}
+
+fn pays_for(meter: Meter, entry: &(Task, Done)) -> bool
+    ensures { result ≡ pays_for meter (outcome_of entry.now) }
+{
+    match entry.1 {
+        Done::Solved => match entry.0.kind {
+            TaskKind::Free { .. } => false,
+            TaskKind::With(other) => same_meter(meter, other),
+        },
+        Done::Refuted | Done::Calls => false,
+    }
+}
+
+fn gives_bound(groups: &[Vec<FunId>], meter: Meter, entry: &(Task, Done), fun: u32) -> bool
+    ensures { result ≡ pays_for meter (outcome_of entry.now) && is_among fun (row (lists_of groups.now) (outcome_of entry.now).0.group) }
+{
+    pays_for(meter, entry) && is_among(fun, row(groups, entry.0.group))
+}
+
+fn has_bound(groups: &[Vec<FunId>], meter: Meter, done: &[(Task, Done)], fun: u32) -> bool
+    ensures { result ≡ has_bound (lists_of groups.now) meter (outcomes_of done.now) fun }
+{
+    for entry in done {
+        if gives_bound(groups, meter, entry, fun) {
+            return true;
+        }
+    }
+    false
+}
+
+// The groups before the one at a place.
+fn before(groups: &[Vec<FunId>], group: u32) -> &[Vec<FunId>]
+    ensures { lists_of result.now ≡ take group (lists_of groups.now) }
+{
+    let count = group as usize;
+    if count < groups.len() {
+        &groups[..count]
+    } else {
+        groups
+    }
+}
+
+fn blocks(
+    groups: &[Vec<FunId>],
+    calls: &[Vec<FunId>],
+    group: u32,
+    meter: Meter,
+    done: &[(Task, Done)],
+    fun: u32,
+) -> bool
+    ensures { result ≡ blocks (lists_of groups.now) (lists_of calls.now) group meter (outcomes_of done.now) fun }
+{
+    any_calls(calls, fun, row(groups, group))
+        && in_any(fun, before(groups, group))
+        && !has_bound(groups, meter, done, fun)
+}
+
+fn least(
+    groups: &[Vec<FunId>],
+    calls: &[Vec<FunId>],
+    group: u32,
+    meter: Meter,
+    done: &[(Task, Done)],
+) -> Option<FunId>
+    requires { length calls.now < 2 ^ 32 }
+    ensures { option_map (λ (f : FunId). f.0) result ≡ least_from (blocks (lists_of groups.now) (lists_of calls.now) group meter (outcomes_of done.now)) (length calls.now) 0 }
+{
+    for fun in 0..calls.len() as u32 {
+        if blocks(groups, calls, group, meter, done, fun) {
+            return Some(FunId(fun));
+        }
+    }
+    None
+}
+
+/// The function that a task waits for: of the functions in earlier groups that its group calls, and
+/// that have no bound for the meter, the least. `None` where the task is to be tried.
+///
+/// The groups come callees first, and `calls` has for each function those that it calls.
+pub fn blocked(
+    groups: &[Vec<FunId>],
+    calls: &[Vec<FunId>],
+    task: &Task,
+    done: &[(Task, Done)],
+) -> Option<FunId>
+    requires { length calls.now < 2 ^ 32 }
+    ensures { option_map (λ (f : FunId). f.0) result ≡ blocked (lists_of groups.now) (lists_of calls.now) (task_of task.now) (outcomes_of done.now) }
+{
+    match task.kind {
+        TaskKind::Free { .. } => None,
+        TaskKind::With(meter) => least(groups, calls, task.group, meter, done),
+    }
+}
