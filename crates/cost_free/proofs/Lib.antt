@@ -1,3 +1,2 @@
 mod Computed
 mod Least
-mod Steps

@@ -6,7 +6,6 @@ pub mod laws;
 mod target;
 mod task;
 mod waiting;
-mod walk;
 
 pub use target::Target;
 pub use task::{Done, Meter, Task, TaskKind};
