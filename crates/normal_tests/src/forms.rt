@@ -11,6 +11,9 @@ use std::test::Fail;
 
 /// The typed program that a text spells.
 fn typed_program(alloc: Global, source: &str) -> Result<Typed, Fail> {
+    if source.len() > 2000 {
+        return Err(Fail::from("the source is long"));
+    }
     let Ok(program) = parse(alloc, source.as_bytes()) else {
         return Err(Fail::from("it is no program"));
     };
