@@ -48,13 +48,12 @@ impl Shown {
 
     /// The place of a variable; it gets one where it has none.
     fn place_of(&mut self, variable: u32) -> Result<usize, AllocError> {
-        let mut place = 0;
-        for shown in &self.variables {
+        for (place, shown) in self.variables.iter().enumerate() {
             if *shown == variable {
                 return Ok(place);
             }
-            place += 1;
         }
+        let place = self.variables.len();
         self.variables.push(variable)?;
         Ok(place)
     }
@@ -133,9 +132,7 @@ impl Shown {
     ) -> Result<(), AllocError> {
         self.row(word, &[variable])?;
         self.part(first)?;
-        if !bound.is_empty() {
-            self.row(", ", bound)?;
-        }
+        self.row(", ", bound)?;
         self.part(second)?;
         self.word(")")
     }
