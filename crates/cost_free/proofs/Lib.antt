@@ -1,2 +1,11 @@
 mod Computed
 mod Least
+pub mod Components
+pub mod Sets
+pub mod Cuts
+pub mod Low
+pub mod Put
+pub mod GroupTasks
+pub mod Steps
+pub mod Course
+pub mod Results

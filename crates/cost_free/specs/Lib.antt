@@ -1,7 +1,11 @@
 pub mod Target
+pub mod Cut
 pub mod Task
 pub mod Schedule
 pub mod Blocked
+pub mod Refused
+pub mod Walk
+pub mod Numbered
 pub mod Laws
 pub mod Read
 pub mod Example

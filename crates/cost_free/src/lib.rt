@@ -2,11 +2,22 @@
 //! the groups of a program. In `specs/` what the next task is, and which task has to wait for a bound.
 #![tactic(auto)]
 
+mod degree;
+mod fill;
+mod group;
+mod holder;
+mod join;
+mod joined;
 pub mod laws;
+mod order;
+mod plan;
+mod schedule;
 mod target;
 mod task;
 mod waiting;
+mod walk;
 
-pub use target::Target;
+pub use schedule::{Schedule, next};
+pub use target::{Target, targets};
 pub use task::{Done, Meter, Task, TaskKind};
 pub use waiting::blocked;
