@@ -52,6 +52,10 @@ unsigned P d earlier task scale = record {
   scale = scale;
 }
 
+-- A row is left out where it has no negative coefficient and its right side is at most 0.
+abbrev pub is_kept : SparseRow → Bool
+is_kept row = not (list_all (λ (t : ℕ × ℤ). int_le (pos 0) t.1) row.terms && int_le row.right (pos 0))
+
 module _ (P : Program) (d : ℕ) (earlier : List Block) (task : Task) (scale : ℕ) where
   abbrev pub weights_of_sigs : List ℤ
   weights_of_sigs = sig_weights P (budget_of d task.kind) (members P task.group)
@@ -77,10 +81,6 @@ module _ (P : Program) (d : ℕ) (earlier : List Block) (task : Task) (scale : �
   abbrev pub sparse_rows : ℕ → List Row → List SparseRow
   sparse_rows place [] = []
   sparse_rows place (r ∷ rs) = record { terms = terms place; right = r.right } ∷ sparse_rows (place + 1) rs
-
-  -- A row is left out where it has no negative coefficient and its right side is at most 0.
-  abbrev pub is_kept : SparseRow → Bool
-  is_kept row = not (list_all (λ (t : ℕ × ℤ). int_le (pos 0) t.1) row.terms && int_le row.right (pos 0))
 
   abbrev pub system : LinearSystem
   system = record {

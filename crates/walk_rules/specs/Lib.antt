@@ -1,0 +1,17 @@
+pub mod Plan
+pub mod Numbers
+pub mod Walk
+pub mod Asked
+pub mod Planned
+pub mod Tasks
+pub mod Carried
+pub mod Kinds
+pub mod Faults
+pub mod Capped
+pub mod Solving
+pub mod Covered
+pub mod Stand
+pub mod Found
+pub mod Laws
+pub mod Jobs
+pub mod Example

@@ -1,0 +1,53 @@
+// Laws of walks: each is the contract of a function that does nothing.
+ghost use Rattle.walk_rules.specs.Capped.{CappedFaults, CappedWalks};
+ghost use Rattle.walk_rules.specs.Covered.{AllAreGiven};
+ghost use Rattle.walk_rules.specs.Example.{Examples};
+ghost use Rattle.walk_rules.specs.Found.{ReadsThere};
+ghost use Rattle.walk_rules.specs.Laws.{RulesAreConditions, RulesAsk};
+ghost use Rattle.walk_rules.specs.Solving.{FormsWalkAsAmounts, RowsAreConditions};
+
+/// The walk over sums of unknowns, evaluated, is the walk over amounts.
+pub fn forms_walk_as_amounts()
+    ensures { FormsWalkAsAmounts }
+{}
+
+/// Numbers solve the rows of a task exactly where the signatures and hints that they give meet all
+/// conditions.
+pub fn rows_are_conditions()
+    ensures { RowsAreConditions }
+{}
+
+/// All signatures and hints of the right sizes are given by some numbers, in the order of unknowns.
+pub fn all_are_given()
+    ensures { AllAreGiven }
+{}
+
+/// The rules hold exactly where all conditions of the walk are met.
+pub fn rules_are_conditions()
+    ensures { RulesAreConditions }
+{}
+
+/// The hints that the rules take are those that the plan asks for.
+pub fn rules_ask()
+    ensures { RulesAsk }
+{}
+
+/// What a walk knows of signatures can be listed, for each setting, as the rules find them.
+pub fn reads_there()
+    ensures { ReadsThere }
+{}
+
+/// A walk over capped amounts is the walk over exact ones, capped.
+pub fn capped_walks()
+    ensures { CappedWalks }
+{}
+
+/// The first fault of capped amounts is that of the exact ones.
+pub fn capped_faults()
+    ensures { CappedFaults }
+{}
+
+/// Small jobs have the systems and the faults that were worked out.
+pub fn small_jobs()
+    ensures { Examples }
+{}
