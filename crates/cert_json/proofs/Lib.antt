@@ -1,0 +1,12 @@
+pub mod Plain
+pub mod Options
+pub mod Inverses
+pub mod Blocks
+pub mod Numbers
+pub mod Heads
+pub mod Likenesses
+pub mod Certificates
+pub mod Parted
+pub mod Answering
+pub mod Unique
+pub mod Alone

@@ -1,0 +1,10 @@
+pub mod Parts
+pub mod Form
+pub mod Reading
+pub mod Fits
+pub mod Faults
+pub mod Steps
+pub mod Likeness
+pub mod Numbers
+pub mod Read
+pub mod Told
