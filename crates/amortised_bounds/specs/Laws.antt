@@ -1,0 +1,51 @@
+-- Potential pays for what evaluation costs.
+use Rattle.std.specs.Prelude.{◌≡◌, ◌≤◌, ◌⊎◌, ℕ, ◌*◌, unsigned_abs, List, slice_get, Some}
+use Rattle.std.specs.List.{All}
+use Rattle.raml_syntax.specs.Tree.{Type'}
+use Rattle.index_shift.specs.Potential.{Annotation}
+use Rattle.normal_form.specs.Norm.{Norm, NormFun}
+use Rattle.normal_form.specs.Run.{NormEnv, eval_norm}
+use Rattle.normal_form.specs.Uses.{Context, types, Uses, IsNormal}
+use Rattle.cost_free.specs.declared.task.Meter.{Meter}
+use Rattle.cost_free.specs.Task as k
+use Rattle.annot_types.specs.Program.{Program}
+use Rattle.annot_types.specs.Certificate.{Sig, Hint, Block, Certificate}
+use Rattle.annot_types.specs.Signature.{sig_in}
+use Rattle.annot_types.specs.Rules.{Mode, Past, Setting, Ann}
+use Rattle.annot_types.specs.Holds.{mode_of, budget_of, setting, Holds}
+use Rattle.annot_types.specs.Held.{before, scale_of, scale_for, terms_of, Held}
+use Rattle.amortised_bounds.specs.Enough.{IsTyped, Enough}
+use Rattle.amortised_bounds.specs.Bounds.{BoundsNormal}
+
+-- Over the blocks before a place of a certificate a block holds with t.
+abbrev pub HoldsAt : Program → Certificate → ℕ → Block → ℕ → Type 0
+HoldsAt P c place block t = Holds P c.degree (before c place) (scale_for c block.task.kind) block t
+
+abbrev pub setting_at : Program → Certificate → ℕ → Block → ℕ → Setting
+setting_at P c place block t = setting P c.degree (before c place) (scale_for c block.task.kind) block t
+
+-- where derivations over a block stand: in the block's mode at its budget or more, and in mode Past at any
+abbrev pub StandsOver : ℕ → Block → Mode → ℕ → Type 0
+StandsOver degree block mode d = ((mode ≡ mode_of block.task.kind) × (budget_of degree block.task.kind ≤ d)) ⊎ (mode ≡ Past)
+
+-- Of a certificate that is held, a form that fits the rules over a block, which holds over those before it: at every limit, the potential of the
+-- context is enough for what the run owes and for the potential of its outcome. So without cost potential does not rise; with cost it falls by what
+-- the run costs; and where the run is cut, there was enough for what it cost so far.
+abbrev pub FormsPay : Type 0
+FormsPay =
+    (P : Program) → All (IsNormal P.funs) P.funs → (c : Certificate) → Held P c →
+    (place : ℕ) (block : Block) (t : ℕ) → HoldsAt P c place block t →
+    (mode : Mode) (d : ℕ) → StandsOver c.degree block mode d →
+    (C : Context) (env : NormEnv) → IsTyped C env → (e : Norm) (T : Type') → Uses P.funs C e T →
+    (q r : Annotation) (hs out : List Hint) → Ann (setting_at P c place block t) mode d C q e T r hs out →
+    (n : ℕ) → Enough (scale_for c block.task.kind * t) mode d C env q T r (eval_norm P.funs n env e)
+
+-- So a function's argument annotation in a block with cost, over the scale of the block, bounds its runs: the scale of the meter times t, which is 1
+-- for the blocks of the certificate itself.
+abbrev pub NormalRunsAreBounded : Type 0
+NormalRunsAreBounded =
+    (P : Program) → All (IsNormal P.funs) P.funs → (c : Certificate) → Held P c →
+    (place : ℕ) (block : Block) (t : ℕ) → HoldsAt P c place block t →
+    (meter : Meter) → block.task.kind ≡ k.With meter →
+    (f : ℕ) (g : NormFun) (s : Sig) → slice_get P.funs f ≡ Some g → sig_in P block f ≡ Some s →
+    BoundsNormal P.funs g meter (unsigned_abs (scale_of c meter) * t) (terms_of (types g.params) c.degree s.args)
