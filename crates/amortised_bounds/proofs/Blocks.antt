@@ -139,6 +139,10 @@ module _ (P : Program) (t : ℕ) where
       by true e = absurd (never b.task.kind e (ap (λ (x : Block). free_budget x.task.kind) (sym (on meter t b e) ∙ some_is (raised meter t b) block there) ∙ free))
       by false e = ap Some (sym (off meter t b e)) ∙ there
 
+pub of_meter : (meter : Meter) (kind : Kind) → is_for_meter meter kind ≡ true → kind ≡ k.With meter
+of_meter meter (Free budget fun target) e = absurd (cc)
+of_meter meter (k.With other) e = ap k.With (sym (same_meters meter other e))
+
 -- a signature with cost is that of a block of the meter
 record CostBlock (P : Program) (meter : Meter) (bs : List Block) (f : ℕ) (s : Sig) : Type 0 where
   place : ℕ
@@ -154,13 +158,9 @@ cost_block P meter (b ∷ bs) f s e = by (is_for_meter meter b.task.kind) refl (
     later : CostBlock P meter bs f s → CostBlock P meter (b ∷ bs) f s
     later h = record { place = suc h.place; block = h.block; there = h.there; kind = h.kind; sig = h.sig }
 
-    of_meter : (kind : Kind) → is_for_meter meter kind ≡ true → kind ≡ k.With meter
-    of_meter (Free budget fun target) e = absurd (cc)
-    of_meter (k.With other) e = ap k.With (sym (same_meters meter other e))
-
     by : (c : Bool) → is_for_meter meter b.task.kind ≡ c → (o : Option Sig) → sig_in P b f ≡ o → or_else (cond c o None) (cost_sig P meter bs f) ≡ Some s →
         (cost_sig P meter bs f ≡ Some s → CostBlock P meter (b ∷ bs) f s) → CostBlock P meter (b ∷ bs) f s
-    by true q (Some u) sig e rest = record { place = 0; block = b; there = refl; kind = of_meter b.task.kind q; sig = sig ∙ e }
+    by true q (Some u) sig e rest = record { place = 0; block = b; there = refl; kind = of_meter meter b.task.kind q; sig = sig ∙ e }
     by true q None sig e rest = rest e
     by false q o sig e rest = rest e
 

@@ -14,10 +14,14 @@ use Rattle.index_shift.proofs.Brought.{weighed_none, weighed_sum, worth_at, one_
 use Rattle.normal_form.specs.Norm.{NormFun}
 use Rattle.normal_form.specs.Uses.{types_of, IsNormal}
 use Rattle.normal_form.proofs.KeepCalls.{all_at}
+use Rattle.cost_free.specs.declared.task.Meter.{Meter}
 use Rattle.cost_free.specs.Task as k
-use Rattle.annot_types.specs.Certificate.{Entries, number_at, annotation}
-use Rattle.annot_types.specs.Held.{terms_of, scale_for, before}
-use Rattle.amortised_bounds.specs.Laws.{NormalRunsAreBounded}
+use Rattle.annot_types.specs.Program.{Program}
+use Rattle.annot_types.specs.Certificate.{Entries, number_at, annotation, Sig, Block, Certificate}
+use Rattle.annot_types.specs.Signature.{sig_in}
+use Rattle.annot_types.specs.Held.{terms_of, scale_of, scale_for, before, Held}
+use Rattle.amortised_bounds.specs.Bounds.{BoundsNormal}
+use Rattle.amortised_bounds.specs.Laws.{HoldsAt, NormalRunsAreBounded}
 use Rattle.amortised_bounds.proofs.Weighed.{weighed_covers}
 use Rattle.amortised_bounds.proofs.Blocks.{KindPays, own_pays, all_before}
 
@@ -43,10 +47,15 @@ potential_less As d (e ∷ es) vs =
     at true z = omega arith
     at false z = omega arith
 
-pub normal_runs_are_bounded : NormalRunsAreBounded
-normal_runs_are_bounded P normal c held place block t holds meter kind f g s there sig args limit typed =
-    let each : (f : ℕ) (g : NormFun) → slice_get P.funs f ≡ Some g → IsNormal P.funs g = λ f g there. all_at (IsNormal P.funs) P.funs f g normal there in
+pub runs_of_block : (P : Program) → ((f : ℕ) (g : NormFun) → slice_get P.funs f ≡ Some g → IsNormal P.funs g) → (c : Certificate) → Held P c →
+    (place : ℕ) (block : Block) (t : ℕ) → HoldsAt P c place block t → (meter : Meter) → block.task.kind ≡ k.With meter →
+    (f : ℕ) (g : NormFun) (s : Sig) → slice_get P.funs f ≡ Some g → sig_in P block f ≡ Some s →
+    BoundsNormal P.funs g meter (unsigned_abs (scale_of c meter) * t) (terms_of (types_of g) c.degree s.args)
+runs_of_block P normal c held place block t holds meter kind f g s there sig args limit typed =
     let low = subst (λ j. KindPays P c.degree (scale_for c j * t) j limit g s) kind
-    (own_pays P each c.degree (scale_for c) (before c place) (all_before P each c held place) block.task.group block.task.kind block.body t holds limit f g s there sig) args typed in
+    (own_pays P normal c.degree (scale_for c) (before c place) (all_before P normal c held place) block.task.group block.task.kind block.body t holds limit f g s there sig) args typed in
     let less = potential_less (types_of g) c.degree s.args args in
     omega (arith, low, less)
+
+pub normal_runs_are_bounded : NormalRunsAreBounded
+normal_runs_are_bounded P normal c held = runs_of_block P (λ f g there. all_at (IsNormal P.funs) P.funs f g normal there) c held

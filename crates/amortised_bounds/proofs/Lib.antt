@@ -8,3 +8,5 @@ pub mod Pays
 pub mod Walk
 pub mod Blocks
 pub mod Bound
+pub mod Source
+pub mod Lines

@@ -1,21 +1,30 @@
 -- Potential pays for what evaluation costs.
-use Rattle.std.specs.Prelude.{◌≡◌, ◌≤◌, ◌⊎◌, ℕ, ◌*◌, unsigned_abs, List, slice_get, Some}
-use Rattle.std.specs.List.{All}
-use Rattle.raml_syntax.specs.Tree.{Type'}
+use Rattle.std.specs.Prelude.{◌≡◌, ◌≤◌, ◌<◌, ◌⊎◌, ℕ, ◌*◌, ◌/◌, unsigned_abs, List, slice_get, Some}
+use Rattle.std.specs.List.{All, Contains}
+use Rattle.raml_syntax.specs.Tree.{Type', Function, Prog}
+use Rattle.raml_syntax.specs.Value.{Value, HaveTypes}
+use Rattle.raml_syntax.specs.Types as source
+use Rattle.raml_syntax.specs.Types.{Typed}
+use Rattle.raml_syntax.specs.Node.{AllNodes, NumberFits}
+use Rattle.base_poly.specs.Poly.{Term}
+use Rattle.poly_point.specs.Point.{worth}
 use Rattle.index_shift.specs.Potential.{Annotation}
 use Rattle.normal_form.specs.Norm.{Norm, NormFun}
 use Rattle.normal_form.specs.Run.{NormEnv, eval_norm}
+use Rattle.normal_form.specs.Two.{norm}
 use Rattle.normal_form.specs.Uses.{Context, types, Uses, IsNormal}
 use Rattle.cost_free.specs.declared.task.Meter.{Meter}
+use Rattle.cost_free.specs.declared.task.Meter.TheVariants.{Cells}
 use Rattle.cost_free.specs.Task as k
 use Rattle.annot_types.specs.Program.{Program}
 use Rattle.annot_types.specs.Certificate.{Sig, Hint, Block, Certificate}
 use Rattle.annot_types.specs.Signature.{sig_in}
 use Rattle.annot_types.specs.Rules.{Mode, Past, Setting, Ann}
 use Rattle.annot_types.specs.Holds.{mode_of, budget_of, setting, Holds}
-use Rattle.annot_types.specs.Held.{before, scale_of, scale_for, terms_of, Held}
+use Rattle.annot_types.specs.Held.{before, scale_of, scale_for, terms_of, lines, Claim, Bound, Line, Held}
+use Rattle.stack_compile.specs.Laws.{at}
 use Rattle.amortised_bounds.specs.Enough.{IsTyped, Enough}
-use Rattle.amortised_bounds.specs.Bounds.{BoundsNormal}
+use Rattle.amortised_bounds.specs.Bounds.{BoundsNormal, Bounds}
 
 -- Over the blocks before a place of a certificate a block holds with t.
 abbrev pub HoldsAt : Program → Certificate → ℕ → Block → ℕ → Type 0
@@ -49,3 +58,35 @@ NormalRunsAreBounded =
     (meter : Meter) → block.task.kind ≡ k.With meter →
     (f : ℕ) (g : NormFun) (s : Sig) → slice_get P.funs f ≡ Some g → sig_in P block f ≡ Some s →
     BoundsNormal P.funs g meter (unsigned_abs (scale_of c meter) * t) (terms_of (types g.params) c.degree s.args)
+
+-- the normal form of a program, with these groups of its functions
+abbrev pub normal_of : Prog → List (List ℕ) → Program
+normal_of P groups = record { funs = norm P; groups = groups }
+
+-- The same annotation bounds the function of the source, and the machine that runs it.
+abbrev pub SourcesAreBounded : Type 0
+SourcesAreBounded =
+    (P : Prog) → Typed P → All (λ (g : Function). AllNodes NumberFits g.body) P →
+    (groups : List (List ℕ)) (c : Certificate) → Held (normal_of P groups) c →
+    (place : ℕ) (block : Block) (t : ℕ) → HoldsAt (normal_of P groups) c place block t →
+    (meter : Meter) → block.task.kind ≡ k.With meter →
+    (f : ℕ) (fun : Function) (s : Sig) → slice_get P f ≡ Some fun → sig_in (normal_of P groups) block f ≡ Some s →
+    Bounds P f fun meter (unsigned_abs (scale_of c meter) * t) (terms_of (source.types_of fun) c.degree s.args)
+
+-- A claimed polynomial is a bound. Of the other claims nothing is said here.
+abbrev pub IsTrue : Prog → Line → Claim → Type 0
+IsTrue P l (Bound den terms) = (fun : Function) → slice_get P l.fun ≡ Some fun → Bounds P l.fun fun l.meter den terms
+IsTrue P l claim = Unit {0}
+
+-- Each polynomial in the lines of a certificate that is held is a bound.
+abbrev pub LinesAreTrue : Type 0
+LinesAreTrue =
+    (P : Prog) → Typed P → All (λ (g : Function). AllNodes NumberFits g.body) P →
+    (groups : List (List ℕ)) (c : Certificate) → Held (normal_of P groups) c →
+    (l : Line) → Contains (lines (normal_of P groups) c) l → IsTrue P l l.claim
+
+-- Where the cells of a function are bounded, the machine that runs it never has more than the whole part of the bound.
+abbrev pub CellsStayBelow : Type 0
+CellsStayBelow =
+    (P : Prog) (f : ℕ) (fun : Function) (den : ℕ) (terms : List Term) → 0 < den → Bounds P f fun Cells den terms →
+    (args : List Value) (m : ℕ) → HaveTypes args (source.types_of fun) → (at P f args m).cells ≤ worth terms args / den
