@@ -1,16 +1,15 @@
 -- Blocks that hold pay, and so do those of a certificate that is held.
 use Rattle.std.proofs.Common.{◌≡◌, ◌≤◌, ◌<◌, ◌⊎◌, inl, inr, ⊎_elim, ℕ, zero, suc, ◌+◌, ◌-◌, ◌*◌, nat_eq, Bool, true, false, cond}
 use Rattle.std.proofs.Common.{List, [], ◌∷◌, map, slice_get, take, Option, Some, None, refl, sym, ap, ◌∙◌, subst, arith}
-use Rattle.std.specs.List.{All}
 use Rattle.std.specs.Option.{option_map, option_to_list}
 use Rattle.std.specs.Prelude.{zip}
 use Rattle.std.proofs.Math.Nat.{mul-le-mul_left}
 use Rattle.std.proofs.lemmas.Bool.{eqb-true}
 use Rattle.raml_syntax.specs.Value.{Value, HaveTypes}
-use Rattle.raml_syntax.specs.Eval.{Run, cut}
+use Rattle.raml_syntax.specs.Eval.{Run}
 use Rattle.base_poly.specs.Indices.{index_list}
 use Rattle.base_poly.specs.Base.{bases}
-use Rattle.index_shift.specs.Potential.{Annotation, potential}
+use Rattle.index_shift.specs.Potential.{potential}
 use Rattle.normal_form.specs.Norm as n
 use Rattle.normal_form.specs.Norm.{Norm, NormFun}
 use Rattle.normal_form.specs.Run.{NormEnv, value_at, bind_norm, NormCalls, walk_norm, less_one, variables_of, enter_norm, norm_calls_at, run_norm}
@@ -26,12 +25,12 @@ use Rattle.annot_types.specs.Program.{Program, members}
 use Rattle.annot_types.specs.Certificate as c
 use Rattle.annot_types.specs.Certificate.{annotation, Sig, Hint, Body, Solved, Refuted, Block, Certificate, sigs_of, hints_of}
 use Rattle.annot_types.specs.Signature.{sig_among, sig_in, free_budget, or_else, cost_sig}
-use Rattle.annot_types.specs.Rules.{Mode, With, Own, Past, Setting, refund, TakesOnce, Ann}
-use Rattle.annot_types.specs.Holds.{times_sig, times_block, raised, mode_of, budget_of, blocks_before, setting, FunctionHolds, FunctionsHold, Holds}
+use Rattle.annot_types.specs.Rules.{Mode, With, Own, Past, Setting, TakesOnce, Ann}
+use Rattle.annot_types.specs.Holds.{times_sig, raised, mode_of, budget_of, blocks_before, setting, FunctionHolds, FunctionsHold, Holds}
 use Rattle.annot_types.specs.Held.{scale_for, before, IsOne, HoldsInPlace, IfSolved, Held}
 use Rattle.annot_types.proofs.Linear.{annotation_mul}
 use Rattle.annot_types.proofs.Raised.{sig_in_times, on, off, same_meters}
-use Rattle.amortised_bounds.specs.Enough.{cost, owed, values, IsTyped, Enough}
+use Rattle.amortised_bounds.specs.Enough.{cost, owed, values, Enough}
 use Rattle.amortised_bounds.specs.Laws.{FormsPay}
 use Rattle.amortised_bounds.proofs.Weighed.{some_is, weighed_times}
 use Rattle.amortised_bounds.proofs.Contexts.{Even, values_new}

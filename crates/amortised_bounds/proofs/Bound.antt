@@ -1,6 +1,6 @@
 -- A potential as a polynomial's value, and the bounds of blocks.
-use Rattle.std.proofs.Common.{◌≡◌, ◌≤◌, ◌<◌, ◌==◌, if◌then◌else◌, ℕ, zero, suc, ◌+◌, ◌*◌, ℤ, Bool, true, false, List, [], ◌∷◌, slice_get, Some}
-use Rattle.std.proofs.Common.{refl, sym, ◌∙◌, subst, arith}
+use Rattle.std.proofs.Common.{◌≡◌, ◌≤◌, ◌==◌, if◌then◌else◌, ℕ, zero, suc, ◌+◌, ◌*◌, ℤ, Bool, true, false, List, [], ◌∷◌, slice_get, Some}
+use Rattle.std.proofs.Common.{refl, subst, arith}
 use Rattle.std.proofs.Math.Nat.{mul-le-mul_left}
 use Rattle.std.specs.Prelude.{unsigned_abs, slice_index_or}
 use Rattle.raml_syntax.specs.Tree.{Type'}
@@ -9,7 +9,7 @@ use Rattle.base_poly.specs.Plain.{Plain}
 use Rattle.base_poly.specs.Base.{bases}
 use Rattle.base_poly.specs.Indices.{index_list}
 use Rattle.poly_point.specs.Point.{worth}
-use Rattle.index_shift.specs.Potential.{potential, weighed}
+use Rattle.index_shift.specs.Potential.{potential}
 use Rattle.index_shift.proofs.Brought.{weighed_none, weighed_sum, worth_at, one_moved}
 use Rattle.normal_form.specs.Norm.{NormFun}
 use Rattle.normal_form.specs.Uses.{types_of, IsNormal}

@@ -2,7 +2,7 @@
 use Rattle.std.proofs.Common.{◌≡◌, ◌≤◌, ℕ, ◌+◌, ◌*◌, List, [], ◌∷◌, map, length, refl, ◌∙◌, arith}
 use Rattle.raml_syntax.specs.Tree.{Type'}
 use Rattle.raml_syntax.specs.Value.{Value, HaveTypes}
-use Rattle.base_poly.specs.Plain.{Plain, degrees}
+use Rattle.base_poly.specs.Plain.{Plain}
 use Rattle.base_poly.specs.Indices.{AreIndices, index_list, zero_of}
 use Rattle.base_poly.specs.Base.{bases, total}
 use Rattle.base_poly.proofs.Among.{Among, among_contains, contains_among}

@@ -1,5 +1,5 @@
 -- Contexts with other variables in place of one, their types and their values.
-use Rattle.std.proofs.Common.{◌≡◌, ℕ, zero, suc, Bool, true, false, nat_eq, cond, not, ◌||◌, ◌&&◌, List, [], ◌∷◌, ◌++◌, map, slice_get, Some}
+use Rattle.std.proofs.Common.{◌≡◌, ℕ, zero, suc, Bool, true, false, nat_eq, cond, ◌||◌, List, [], ◌∷◌, ◌++◌, map, slice_get, Some}
 use Rattle.std.proofs.Common.{refl, sym, ap, ◌∙◌, subst, arith}
 use Rattle.std.specs.Prelude.{zip}
 use Rattle.std.proofs.lemmas.Bool.{eqb-true}
@@ -11,7 +11,7 @@ use Rattle.index_shift.specs.Maps.{in_place}
 use Rattle.normal_form.specs.Free.{among, find, has, put}
 use Rattle.normal_form.specs.Run.{NormEnv, value_at, bind_norm}
 use Rattle.normal_form.specs.Context.{Context, types, place, IsIn, AreNew, Distinct}
-use Rattle.normal_form.proofs.StepOne.{same_number, value_newest}
+use Rattle.normal_form.proofs.StepOne.{value_newest}
 use Rattle.normal_form.proofs.Runs.{value_bind}
 use Rattle.normal_form.proofs.Weights.{find_has, distinct_put}
 use Rattle.normal_form.proofs.FreeUses.{new_apart}

@@ -1,5 +1,5 @@
 -- The lines of a certificate that is held are true.
-use Rattle.std.proofs.Common.{◌≡◌, ⊎_elim, ℕ, zero, suc, ◌*◌, Bool, true, false, ◌&&◌, flat_map, List, [], ◌∷◌, slice_get, Option, Some, None, refl, ap, ◌∙◌, subst, arith}
+use Rattle.std.proofs.Common.{◌≡◌, ⊎_elim, ℕ, suc, ◌*◌, Bool, true, false, ◌&&◌, flat_map, List, [], ◌∷◌, slice_get, Option, Some, None, refl, ap, ◌∙◌, subst, arith}
 use Rattle.std.specs.Prelude.{unsigned_abs}
 use Rattle.std.specs.List.{All}
 use Rattle.raml_syntax.specs.Tree.{Function, Prog}
@@ -7,7 +7,7 @@ use Rattle.raml_syntax.specs.Types.{Typed}
 use Rattle.raml_syntax.specs.Node.{AllNodes, NumberFits}
 use Rattle.base_poly.proofs.Among.{Among, contains_among, among_kept, among_mapped, among_part}
 use Rattle.normal_form.specs.Norm.{NormFun}
-use Rattle.normal_form.specs.Two.{norm_fun, norm}
+use Rattle.normal_form.specs.Two.{norm}
 use Rattle.normal_form.specs.Uses.{types}
 use Rattle.cost_free.specs.declared.task.Meter.{Meter}
 use Rattle.cost_free.specs.Task as k

@@ -1,12 +1,12 @@
 -- Operands that are a whole context.
-use Rattle.std.proofs.Common.{◌≡◌, ◌≤◌, ℕ, zero, suc, Bool, true, false, nat_eq, cond, List, [], ◌∷◌, map, length, Some, refl, sym, ap, ◌∙◌, subst, arith}
+use Rattle.std.proofs.Common.{◌≡◌, ◌≤◌, ℕ, zero, suc, Bool, true, false, nat_eq, cond, List, [], ◌∷◌, map, length, Some, refl, sym, ap, ◌∙◌, subst}
 use Rattle.std.specs.Prelude.{zip}
 use Rattle.raml_syntax.specs.Tree.{Type'}
 use Rattle.raml_syntax.specs.Value.{HaveTypes}
 use Rattle.index_shift.specs.Potential.{Annotation, potential}
 use Rattle.index_shift.specs.Maps.{none}
 use Rattle.index_shift.specs.Contexts.{insertion, permutation, permutes}
-use Rattle.normal_form.specs.Free.{find, put}
+use Rattle.normal_form.specs.Free.{find}
 use Rattle.normal_form.specs.Run.{NormEnv, value_at, values_at}
 use Rattle.normal_form.specs.Uses.{Context, types, IsIn, without, Takes}
 use Rattle.normal_form.specs.Context.{place}

@@ -1,5 +1,5 @@
 -- A context cut into the variables that a bound form uses and the others, and the context of what follows.
-use Rattle.std.proofs.Common.{◌≡◌, ◌≤◌, ℕ, ◌+◌, ◌-◌, ◌*◌, Bool, true, false, nat_eq, cond, not, ◌||◌, ◌&&◌, List, [], ◌∷◌, ◌++◌, map, length}
+use Rattle.std.proofs.Common.{◌≡◌, ℕ, ◌+◌, ◌-◌, ◌*◌, Bool, true, false, nat_eq, cond, not, ◌||◌, ◌&&◌, List, [], ◌∷◌, ◌++◌, map}
 use Rattle.std.proofs.Common.{refl, sym, ap, ◌∙◌, subst, arith}
 use Rattle.std.proofs.lemmas.Bool.{eqb-true}
 use Rattle.std.proofs.lemmas.List.{map-append, length-map}
@@ -8,7 +8,7 @@ use Rattle.raml_syntax.specs.Value.{Value, Has, HaveTypes}
 use Rattle.base_poly.specs.Plain.{Plain, degrees}
 use Rattle.base_poly.specs.Indices.{AreIndices, index_list}
 use Rattle.base_poly.specs.Base.{bases, total}
-use Rattle.index_shift.specs.Potential.{Annotation, weighed, potential}
+use Rattle.index_shift.specs.Potential.{Annotation, potential}
 use Rattle.index_shift.specs.Contexts.{marked_items, other_items}
 use Rattle.index_shift.proofs.Brought.{Each, each_among, weighed_same, weighed_none, weighed_sum}
 use Rattle.index_shift.proofs.Carried.{Fits, are_joined, degrees_joined}
@@ -23,7 +23,7 @@ use Rattle.annot_types.specs.Certificate.{Entries, annotation}
 use Rattle.annot_types.specs.Carried.{carried, to, marks, part, joined}
 use Rattle.amortised_bounds.specs.Enough.{values, IsTyped}
 use Rattle.amortised_bounds.proofs.Weighed.{worth_times}
-use Rattle.amortised_bounds.proofs.Carried.{listed, to_is}
+use Rattle.amortised_bounds.proofs.Carried.{to_is}
 use Rattle.amortised_bounds.proofs.Contexts.{older, types_joined}
 
 module _ {X : Type 0} (f : ℕ × Type' → X) (a : Norm) where

@@ -1,5 +1,5 @@
 -- Paying prices, and calls.
-use Rattle.std.proofs.Common.{◌≡◌, ◌≤◌, ◌⊎◌, inl, inr, ⊎_elim, ℕ, ◌+◌, ◌-◌, ◌*◌, ℤ, List, [], ◌∷◌, ◌++◌, map, slice_get, Option, Some, None}
+use Rattle.std.proofs.Common.{◌≡◌, ◌≤◌, ◌⊎◌, inr, ⊎_elim, ℕ, ◌+◌, ◌*◌, List, [], ◌∷◌, slice_get, Option, Some, None}
 use Rattle.std.proofs.Common.{refl, sym, ap, ◌∙◌, subst, arith}
 use Rattle.std.proofs.Math.Nat.{mul-le-mul_left}
 use Rattle.raml_syntax.specs.Tree.{Type'}
@@ -7,7 +7,6 @@ use Rattle.raml_syntax.specs.Value.{Value, Has, HaveTypes}
 use Rattle.raml_syntax.specs.Eval.{Run, done, costs, new_cell, goes_on, and_then, cut}
 use Rattle.base_poly.specs.Indices.{index_list}
 use Rattle.base_poly.specs.Base.{bases, total}
-use Rattle.base_poly.proofs.Sums.{total_joined, total_map}
 use Rattle.index_shift.specs.Potential.{Annotation, potential}
 use Rattle.index_shift.proofs.Brought.{Each}
 use Rattle.normal_form.specs.Norm.{NormFun}
@@ -17,7 +16,7 @@ use Rattle.cost_free.specs.declared.task.Meter.TheVariants.{Ticks, Cells, Work}
 use Rattle.annot_types.specs.Certificate.{Entries, annotation, Sig, Block}
 use Rattle.annot_types.specs.Signature.{sig_in, free_budget}
 use Rattle.annot_types.specs.Carried.{Covers, less, more, rebudgeted, at_operands}
-use Rattle.annot_types.specs.Rules.{Mode, With, Own, Past, Setting, Taken, price, refund, TakesOnce, AreMultiples, all_taken, asked, left, CallRule}
+use Rattle.annot_types.specs.Rules.{Mode, With, Own, Past, Setting, Taken, price, refund, TakesOnce, AreMultiples, all_taken, asked, left}
 use Rattle.amortised_bounds.specs.Enough.{owed, remaining, values, IsTyped, Enough}
 use Rattle.amortised_bounds.proofs.Weighed.{weighed_total}
 use Rattle.amortised_bounds.proofs.Carried.{to_keeps, covers_less, pays, pays_back}

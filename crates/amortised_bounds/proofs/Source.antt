@@ -1,5 +1,5 @@
 -- Bounds of the source's functions, and of the machine that runs them.
-use Rattle.std.proofs.Common.{◌≡◌, ◌≤◌, ◌<◌, ◌<ℤ◌, ℕ, suc, ◌+◌, ◌*◌, ◌/◌, ℤ, pos, List, slice_get, Option, None, Some, refl, sym, ap, ◌∙◌, subst, arith}
+use Rattle.std.proofs.Common.{◌≡◌, ◌≤◌, ◌<◌, ◌<ℤ◌, ℕ, suc, ◌*◌, ◌/◌, ℤ, pos, List, slice_get, Option, None, Some, refl, sym, ap, ◌∙◌, subst, arith}
 use Rattle.std.specs.Prelude.{unsigned_abs}
 use Rattle.std.specs.List.{All}
 use Rattle.std.specs.Option.{option_map}

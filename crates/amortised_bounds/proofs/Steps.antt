@@ -15,7 +15,7 @@ use Rattle.base_poly.proofs.Only.{indices_are_listed, never_both}
 use Rattle.base_poly.proofs.Recursion.{types_have_zero}
 use Rattle.index_shift.specs.Parts.{type_parts, value_parts}
 use Rattle.index_shift.specs.Potential.{Annotation, weighed, potential, moved}
-use Rattle.index_shift.specs.Maps.{in_place, none, twice, opening, leaving, sharing}
+use Rattle.index_shift.specs.Maps.{none, twice, opening, leaving, sharing}
 use Rattle.index_shift.specs.Laws.{IsAt}
 use Rattle.index_shift.proofs.Brought.{Each, each_among}
 use Rattle.index_shift.proofs.Kept.{opening_keeps, leaving_lowers, sharing_keeps}

@@ -5,10 +5,10 @@ use Rattle.std.proofs.Math.Nat.{mul-le-mul_left}
 use Rattle.std.specs.Int.{w64}
 use Rattle.std.proofs.lemmas.Int.{SFits-int_wrap}
 use Rattle.raml_syntax.specs.Tree.{Type', Integer, Boolean, PairOf, ListOf, TreeOf, OptionOf}
-use Rattle.raml_syntax.specs.Value.{Value, Number, Truth, Both, Empty, Cons, Node, Just, Has, HaveTypes}
+use Rattle.raml_syntax.specs.Value.{Value, Number, Truth, Both, Empty, Cons, Node, Just, Has}
 use Rattle.raml_syntax.specs.Eval.{Run, done, new_cell, goes_on, and_then, cut, negation, arith as arith_value, compare}
 use Rattle.base_poly.specs.Plain.{Plain, deg, degrees}
-use Rattle.base_poly.specs.Indices.{IsIndex, index_list, zero_of}
+use Rattle.base_poly.specs.Indices.{IsIndex, zero_of}
 use Rattle.base_poly.specs.Base.{base, bases, total}
 use Rattle.base_poly.proofs.Longer.{some_zeros}
 use Rattle.base_poly.proofs.Only.{indices_are_listed}
@@ -19,9 +19,9 @@ use Rattle.normal_form.specs.Norm as n
 use Rattle.normal_form.specs.Norm.{Norm, NormFun}
 use Rattle.normal_form.specs.Free.{has}
 use Rattle.normal_form.specs.Run.{NormEnv, value_at, values_at, NormCalls, spend, walk_norm}
-use Rattle.normal_form.specs.Context.{Context, types, place, IsIn, without, opened, parts_of, copies_of, inners, others}
+use Rattle.normal_form.specs.Context.{Context, types, place, without, opened, parts_of, copies_of, inners, others}
 use Rattle.normal_form.specs.Uses.{Takes, Uses, types_of}
-use Rattle.normal_form.proofs.KeepTypes.{Holds, walk_keeps, negation_has}
+use Rattle.normal_form.proofs.KeepTypes.{walk_keeps, negation_has}
 use Rattle.annot_types.specs.Certificate.{Entries, annotation, Annotates, Hint, Let, Share, Call}
 use Rattle.annot_types.specs.Carried.{Covers, less, at_parts, tuples, part, joined}
 use Rattle.annot_types.specs.Rules.{Mode, Past, Setting, price, TakesLet, TakesShare, TakesCall, CallRule, Parts, left, all_taken, Ann}

@@ -1,10 +1,10 @@
 -- Machines that ask for a cell, and machines that are stopped.
-use Rattle.std.proofs.Common.{◌≡◌, ◌≤◌, ◌<◌, ℕ, ◌+◌, ◌/◌, List, Option, Some, None, slice_get, refl, sym, ap, ◌∙◌, subst, arith}
+use Rattle.std.proofs.Common.{◌≡◌, ℕ, ◌+◌, List, Option, Some, slice_get, refl, sym, ap, ◌∙◌, subst, arith}
 use Rattle.raml_syntax.specs.Tree.{Function, Prog}
 use Rattle.raml_syntax.specs.Value.{Value, HaveTypes}
 use Rattle.raml_syntax.specs.Types.{types_of}
 use Rattle.stack_compile.specs.Code.{Body, bodies_of}
-use Rattle.stack_compile.specs.Machine.{Config, Going, Halted, Frame, act, fetch, move, State, after, start}
+use Rattle.stack_compile.specs.Machine.{Config, Going, Halted, Frame, act, fetch, move, State, start}
 use Rattle.stack_compile.specs.Laws.{at, IsGoing}
 use Rattle.stack_compile.specs.declared.instr.Instr.{Instr}
 use Rattle.stack_compile.specs.declared.instr.Instr.TheVariants as instr
