@@ -18,7 +18,7 @@ use Rattle.poly_point.specs.Point.{worth}
 use Rattle.normal_form.specs.Norm.{NormFun}
 use Rattle.normal_form.specs.Run.{run_norm}
 use Rattle.normal_form.specs.Two.{norm_fun, norm}
-use Rattle.normal_form.specs.Uses.{types, types_of, IsNormal}
+use Rattle.normal_form.specs.Uses.{types, IsNormal}
 use Rattle.normal_form.specs.Laws.{RunsAlike, IsNormalForm}
 use Rattle.normal_form.proofs.Keep.{normal_forms_keep}
 use Rattle.stack_compile.specs.Laws.{at, Linked}
