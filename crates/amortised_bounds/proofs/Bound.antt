@@ -15,13 +15,11 @@ use Rattle.normal_form.specs.Norm.{NormFun}
 use Rattle.normal_form.specs.Uses.{types_of, IsNormal}
 use Rattle.normal_form.proofs.KeepCalls.{all_at}
 use Rattle.cost_free.specs.declared.task.Meter.{Meter}
-use Rattle.cost_free.specs.Task as k
 use Rattle.annot_types.specs.Program.{Program}
-use Rattle.annot_types.specs.Certificate.{Entries, number_at, annotation, Sig, Block, Certificate}
-use Rattle.annot_types.specs.Signature.{sig_in}
+use Rattle.annot_types.specs.Certificate.{Entries, number_at, annotation, Sig, Certificate}
 use Rattle.annot_types.specs.Held.{terms_of, scale_of, scale_for, before, Held}
 use Rattle.amortised_bounds.specs.Bounds.{BoundsNormal}
-use Rattle.amortised_bounds.specs.Laws.{HoldsAt, NormalRunsAreBounded}
+use Rattle.amortised_bounds.specs.Laws.{Signs, NormalRunsAreBounded}
 use Rattle.amortised_bounds.proofs.Weighed.{weighed_covers}
 use Rattle.amortised_bounds.proofs.Blocks.{KindPays, own_pays, all_before}
 
@@ -48,12 +46,12 @@ potential_less As d (e ∷ es) vs =
     at false z = omega arith
 
 pub runs_of_block : (P : Program) → ((f : ℕ) (g : NormFun) → slice_get P.funs f ≡ Some g → IsNormal P.funs g) → (c : Certificate) → Held P c →
-    (place : ℕ) (block : Block) (t : ℕ) → HoldsAt P c place block t → (meter : Meter) → block.task.kind ≡ k.With meter →
-    (f : ℕ) (g : NormFun) (s : Sig) → slice_get P.funs f ≡ Some g → sig_in P block f ≡ Some s →
+    (meter : Meter) (t f : ℕ) (g : NormFun) (s : Sig) → slice_get P.funs f ≡ Some g → Signs P c meter t f s →
     BoundsNormal P.funs g meter (unsigned_abs (scale_of c meter) * t) (terms_of (types_of g) c.degree s.args)
-runs_of_block P normal c held place block t holds meter kind f g s there sig args limit typed =
-    let low = subst (λ j. KindPays P c.degree (scale_for c j * t) j limit g s) kind
-    (own_pays P normal c.degree (scale_for c) (before c place) (all_before P normal c held place) block.task.group block.task.kind block.body t holds limit f g s there sig) args typed in
+runs_of_block P normal c held meter t f g s there signs args limit typed =
+    let b = signs.block in
+    let pay = own_pays P normal c.degree (scale_for c) (before c signs.place) (all_before P normal c held signs.place) b.task.group b.task.kind b.body t signs.holds in
+    let low = subst (λ j. KindPays P c.degree (scale_for c j * t) j limit g s) signs.kind (pay limit f g s there signs.sig) args typed in
     let less = potential_less (types_of g) c.degree s.args args in
     omega (arith, low, less)
 

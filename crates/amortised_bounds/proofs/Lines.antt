@@ -34,13 +34,13 @@ module _ (P : Prog) (typed : Typed P) (numbers : All (λ (g : Function). AllNode
     (groups : List (List ℕ)) (certificate : Certificate) (held : Held (normal_of P groups) certificate) where
   -- what a block claims of a function of its group
   claim_true : (f : ℕ) (meter : Meter) (claim : Claim) (block : Block) → Among block certificate.blocks → is_for_function (normal_of P groups) meter f block ≡ true →
-      Among claim (claim_of (normal_of P groups) certificate meter block f block.body) → IsTrue P (line f meter claim) claim
+      Among claim (claim_of (normal_of P groups) certificate meter block f block.body) → IsTrue P f meter claim
   claim_true f meter claim block there on m =
       let at = among_place block certificate.blocks there in
       by at.0 block.body (held.blocks at.0 block at.1).holds m
     where
-      same : {x : Claim} → IsTrue P (line f meter x) x → Among claim (x ∷ []) → IsTrue P (line f meter claim) claim
-      same {x} h m = ⊎_elim (λ e. subst (λ z. IsTrue P (line f meter z) z) e h) (λ none. absurd none) m
+      same : {x : Claim} → IsTrue P f meter x → Among claim (x ∷ []) → IsTrue P f meter claim
+      same h m = ⊎_elim (λ e. subst (IsTrue P f meter) e h) (λ none. absurd none) m
 
       kind : block.task.kind ≡ k.With meter
       kind = of_meter meter block.task.kind (both_true _ _ on)
@@ -50,30 +50,31 @@ module _ (P : Prog) (typed : Typed P) (numbers : All (λ (g : Function). AllNode
       is_one (k.With other) t e one = one
 
       by : (place : ℕ) (body : Body) → IfSolved body (HoldsInPlace (normal_of P groups) certificate place block) →
-          Among claim (claim_of (normal_of P groups) certificate meter block f body) → IsTrue P (line f meter claim) claim
+          Among claim (claim_of (normal_of P groups) certificate meter block f body) → IsTrue P f meter claim
       by place (Refuted farkas) h m = same tt m
       by place (c.Calls fun) h m = same tt m
       by place (Solved sigs hints) h m = bound (slice_get (norm P) f) refl (sig_in (normal_of P groups) block f) refl m
         where
           bound : (o : Option NormFun) → slice_get (norm P) f ≡ o → (u : Option Sig) → sig_in (normal_of P groups) block f ≡ u →
-              Among claim (bound_of (unsigned_abs (scale_of certificate meter)) certificate.degree o u) → IsTrue P (line f meter claim) claim
+              Among claim (bound_of (unsigned_abs (scale_of certificate meter)) certificate.degree o u) → IsTrue P f meter claim
           bound None q u r m = absurd m
           bound (Some g) q None r m = absurd m
           bound (Some g) q (Some s) r m = same (λ fun at.
               subst (λ n. Bounds P f fun meter n (terms_of (types g.params) certificate.degree s.args))
               (ap (λ t. unsigned_abs (scale_of certificate meter) * t) (is_one block.task.kind h.t kind h.one) ∙ once (unsigned_abs (scale_of certificate meter)))
               (subst (λ (x : NormFun). Bounds P f fun meter (unsigned_abs (scale_of certificate meter) * h.t) (terms_of (types x.params) certificate.degree s.args))
-              (is_form P typed numbers f g q fun at) (of_block P typed numbers groups certificate held place block h.t h.holds meter kind f fun s at r))) m
+              (is_form P typed numbers f g q fun at) (of_block P typed numbers groups certificate held meter h.t f fun s at
+              (record { place = place; block = block; kind = kind; holds = h.holds; sig = r })))) m
             where
               once : (n : ℕ) → n * 1 ≡ n
               once n = grind arith
 
-  line_true : (l : Line) → (f : ℕ) (meter : Meter) → Among l (lines_for (normal_of P groups) certificate f meter) → IsTrue P l l.claim
+  line_true : (l : Line) → (f : ℕ) (meter : Meter) → Among l (lines_for (normal_of P groups) certificate f meter) → IsTrue P l.fun l.meter l.claim
   line_true l f meter m =
       let made = among_mapped (line f meter) l _ m in
       let claimed = among_part (λ b. claim_of (normal_of P groups) certificate meter b f b.body) made.0 _ made.1 in
       let block = among_kept (is_for_function (normal_of P groups) meter f) claimed.0 certificate.blocks claimed.1 in
-      subst (λ (x : Line). IsTrue P x x.claim) made.2 (claim_true f meter made.0 claimed.0 block.0 block.1 claimed.2)
+      subst (λ (x : Line). IsTrue P x.fun x.meter x.claim) made.2 (claim_true f meter made.0 claimed.0 block.0 block.1 claimed.2)
 
 pub lines_are_true : LinesAreTrue
 lines_are_true P typed numbers groups certificate held l there =

@@ -25,13 +25,11 @@ use Rattle.stack_compile.specs.Laws.{at, Linked}
 use Rattle.stack_compile.proofs.Linked.{machine_is_linked}
 use Rattle.cost_free.specs.declared.task.Meter.{Meter}
 use Rattle.cost_free.specs.declared.task.Meter.TheVariants.{Ticks, Cells, Work}
-use Rattle.cost_free.specs.Task as k
-use Rattle.annot_types.specs.Certificate.{Sig, Block, Certificate}
-use Rattle.annot_types.specs.Signature.{sig_in}
+use Rattle.annot_types.specs.Certificate.{Sig, Certificate}
 use Rattle.annot_types.specs.Held.{scale_of, terms_of, Held}
 use Rattle.amortised_bounds.specs.Enough.{cost}
 use Rattle.amortised_bounds.specs.Bounds.{BoundsNormal, BoundsState, Bounds}
-use Rattle.amortised_bounds.specs.Laws.{HoldsAt, normal_of, SourcesAreBounded, CellsStayBelow}
+use Rattle.amortised_bounds.specs.Laws.{Signs, normal_of, SourcesAreBounded, CellsStayBelow}
 use Rattle.amortised_bounds.proofs.Weighed.{some_is}
 use Rattle.amortised_bounds.proofs.Bound.{runs_of_block}
 
@@ -82,12 +80,13 @@ module _ (P : Prog) (typed : Typed P) (numbers : All (λ (g : Function). AllNode
           let work = within den (run_of P fun args (suc m)).work (worth terms args) positive low in
           omega (arith, few, work)
 
-  pub of_block : (groups : List (List ℕ)) (c : Certificate) → Held (normal_of P groups) c → (place : ℕ) (block : Block) (t : ℕ) → HoldsAt (normal_of P groups) c place block t →
-      (meter : Meter) → block.task.kind ≡ k.With meter → (f : ℕ) (fun : Function) (s : Sig) → slice_get P f ≡ Some fun → sig_in (normal_of P groups) block f ≡ Some s →
+  pub of_block : (groups : List (List ℕ)) (c : Certificate) → Held (normal_of P groups) c →
+      (meter : Meter) (t f : ℕ) (fun : Function) (s : Sig) → slice_get P f ≡ Some fun → Signs (normal_of P groups) c meter t f s →
       Bounds P f fun meter (unsigned_abs (scale_of c meter) * t) (terms_of (types (norm_fun P fun).params) c.degree s.args)
-  of_block groups c held place block t holds meter kind f fun s there sig =
-      of_normal f fun there meter (unsigned_abs (scale_of c meter) * t) (terms_of (types (norm_fun P fun).params) c.degree s.args) (positive (held.scales meter) holds.positive)
-      (runs_of_block (normal_of P groups) normal c held place block t holds meter kind f (norm_fun P fun) s (normal_forms_keep P typed numbers f fun there).there sig)
+  of_block groups c held meter t f fun s there signs =
+      of_normal f fun there meter (unsigned_abs (scale_of c meter) * t) (terms_of (types (norm_fun P fun).params) c.degree s.args)
+      (positive (held.scales meter) signs.holds.positive)
+      (runs_of_block (normal_of P groups) normal c held meter t f (norm_fun P fun) s (normal_forms_keep P typed numbers f fun there).there signs)
     where
       magnitude : (z : ℤ) → pos 0 <ℤ z → 0 < unsigned_abs z
       magnitude z h = grind (arith, ints, h)
@@ -99,9 +98,9 @@ module _ (P : Prog) (typed : Typed P) (numbers : All (λ (g : Function). AllNode
           let same : unsigned_abs (scale_of c meter) * 1 ≡ unsigned_abs (scale_of c meter) = grind arith in omega (arith, one, some, same)
 
 pub sources_are_bounded : SourcesAreBounded
-sources_are_bounded P typed numbers groups c held place block t holds meter kind f fun s there sig =
+sources_are_bounded P typed numbers groups c held meter t f fun s there signs =
     subst (λ As. Bounds P f fun meter (unsigned_abs (scale_of c meter) * t) (terms_of As c.degree s.args)) (normal_forms_keep P typed numbers f fun there).params
-    (of_block P typed numbers groups c held place block t holds meter kind f fun s there sig)
+    (of_block P typed numbers groups c held meter t f fun s there signs)
 
 pub cells_stay_below : CellsStayBelow
 cells_stay_below P f fun den terms positive bounds args m has = within den (at P f args m).cells (worth terms args) positive (bounds.machine args m has)

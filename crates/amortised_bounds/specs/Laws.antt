@@ -49,41 +49,45 @@ FormsPay =
     (q r : Annotation) (hs out : List Hint) → Ann (setting_at P c place block t) mode d C q e T r hs out →
     (n : ℕ) → Enough (scale_for c block.task.kind * t) mode d C env q T r (eval_norm P.funs n env e)
 
--- So a function's argument annotation in a block with cost, over the scale of the block, bounds its runs: the scale of the meter times t, which is 1
--- for the blocks of the certificate itself.
+-- Over the blocks before a place of a certificate a block of the meter holds with t, and has this signature for the function. Each solved block of a
+-- held certificate with cost holds so with 1.
+pub record Signs (P : Program) (c : Certificate) (meter : Meter) (t f : ℕ) (s : Sig) : Type 0 where
+  pub place : ℕ
+  pub block : Block
+  pub kind : block.task.kind ≡ k.With meter
+  pub holds : HoldsAt P c place block t
+  pub sig : sig_in P block f ≡ Some s
+
+-- So the annotation of the arguments, over the scale of the meter times t, bounds the runs of the function's normal form.
 abbrev pub NormalRunsAreBounded : Type 0
 NormalRunsAreBounded =
     (P : Program) → All (IsNormal P.funs) P.funs → (c : Certificate) → Held P c →
-    (place : ℕ) (block : Block) (t : ℕ) → HoldsAt P c place block t →
-    (meter : Meter) → block.task.kind ≡ k.With meter →
-    (f : ℕ) (g : NormFun) (s : Sig) → slice_get P.funs f ≡ Some g → sig_in P block f ≡ Some s →
+    (meter : Meter) (t f : ℕ) (g : NormFun) (s : Sig) → slice_get P.funs f ≡ Some g → Signs P c meter t f s →
     BoundsNormal P.funs g meter (unsigned_abs (scale_of c meter) * t) (terms_of (types g.params) c.degree s.args)
 
 -- the normal form of a program, with these groups of its functions
 abbrev pub normal_of : Prog → List (List ℕ) → Program
 normal_of P groups = record { funs = norm P; groups = groups }
 
--- The same annotation bounds the function of the source, and the machine that runs it.
+-- It bounds the function of the source, and the machine that runs it.
 abbrev pub SourcesAreBounded : Type 0
 SourcesAreBounded =
     (P : Prog) → Typed P → All (λ (g : Function). AllNodes NumberFits g.body) P →
     (groups : List (List ℕ)) (c : Certificate) → Held (normal_of P groups) c →
-    (place : ℕ) (block : Block) (t : ℕ) → HoldsAt (normal_of P groups) c place block t →
-    (meter : Meter) → block.task.kind ≡ k.With meter →
-    (f : ℕ) (fun : Function) (s : Sig) → slice_get P f ≡ Some fun → sig_in (normal_of P groups) block f ≡ Some s →
+    (meter : Meter) (t f : ℕ) (fun : Function) (s : Sig) → slice_get P f ≡ Some fun → Signs (normal_of P groups) c meter t f s →
     Bounds P f fun meter (unsigned_abs (scale_of c meter) * t) (terms_of (source.types_of fun) c.degree s.args)
 
--- A claimed polynomial is a bound. Of the other claims nothing is said here.
-abbrev pub IsTrue : Prog → Line → Claim → Type 0
-IsTrue P l (Bound den terms) = (fun : Function) → slice_get P l.fun ≡ Some fun → Bounds P l.fun fun l.meter den terms
-IsTrue P l claim = Unit {0}
+-- A polynomial that is claimed of a function and a meter is a bound. Of the other claims nothing is said here.
+abbrev pub IsTrue : Prog → ℕ → Meter → Claim → Type 0
+IsTrue P f meter (Bound den terms) = (fun : Function) → slice_get P f ≡ Some fun → Bounds P f fun meter den terms
+IsTrue P f meter claim = Unit {0}
 
 -- Each polynomial in the lines of a certificate that is held is a bound.
 abbrev pub LinesAreTrue : Type 0
 LinesAreTrue =
     (P : Prog) → Typed P → All (λ (g : Function). AllNodes NumberFits g.body) P →
     (groups : List (List ℕ)) (c : Certificate) → Held (normal_of P groups) c →
-    (l : Line) → Contains (lines (normal_of P groups) c) l → IsTrue P l l.claim
+    (l : Line) → Contains (lines (normal_of P groups) c) l → IsTrue P l.fun l.meter l.claim
 
 -- Where the cells of a function are bounded, the machine that runs it never has more than the whole part of the bound.
 abbrev pub CellsStayBelow : Type 0
