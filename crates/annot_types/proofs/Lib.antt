@@ -5,8 +5,8 @@ mod Appended
 mod Beside
 mod Computed
 mod Systems
-mod Linear
-mod Times
+pub mod Linear
+pub mod Times
 mod Derived
-mod Raised
+pub mod Raised
 mod Multiples

@@ -60,7 +60,7 @@ sigs_of_times t (Solved sigs hints) = refl
 sigs_of_times t (Refuted farkas) = refl
 sigs_of_times t (Calls fun) = refl
 
-sig_in_times : (P : Program) (t : ℕ) (b : Block) (f : ℕ) → sig_in P (times_block t b) f ≡ option_map (times_sig t) (sig_in P b f)
+pub sig_in_times : (P : Program) (t : ℕ) (b : Block) (f : ℕ) → sig_in P (times_block t b) f ≡ option_map (times_sig t) (sig_in P b f)
 sig_in_times P t b f = ap (λ ss. sig_among (members P b.task.group) ss f) (sigs_of_times t b.body) ∙ sig_among_times t (members P b.task.group) (sigs_of b.body) f
 
 -- One block

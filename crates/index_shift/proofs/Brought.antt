@@ -38,11 +38,11 @@ module _ {X : Type 0} where
   weighed_as f [] q r h = refl
   weighed_as f (x ∷ xs) q r h = (λ n. h 0 n * f x + weighed_as f xs (λ k. q (suc k)) (λ k. r (suc k)) (λ k. h (suc k)) n)
 
-  weighed_none : (f : X → ℕ) (xs : List X) (q : Annotation) → ((k : ℕ) → q k ≡ 0) → weighed f xs q ≡ 0
+  pub weighed_none : (f : X → ℕ) (xs : List X) (q : Annotation) → ((k : ℕ) → q k ≡ 0) → weighed f xs q ≡ 0
   weighed_none f [] q h = refl
   weighed_none f (x ∷ xs) q h = let one = h 0 in let more = weighed_none f xs (λ k. q (suc k)) (λ k. h (suc k)) in grind (arith, one, more)
 
-  weighed_sum : (f : X → ℕ) (xs : List X) (q r : Annotation) → weighed f xs (λ k. q k + r k) ≡ weighed f xs q + weighed f xs r
+  pub weighed_sum : (f : X → ℕ) (xs : List X) (q r : Annotation) → weighed f xs (λ k. q k + r k) ≡ weighed f xs q + weighed f xs r
   weighed_sum f [] q r = refl
   weighed_sum f (x ∷ xs) q r = let more = weighed_sum f xs (λ k. q (suc k)) (λ k. r (suc k)) in grind (arith, more)
 
@@ -61,7 +61,7 @@ module _ {X : Type 0} where
   worth_at f (x ∷ xs) zero = f x
   worth_at f (x ∷ xs) (suc k) = worth_at f xs k
 
-  one_moved : (f : X → ℕ) (xs : List X) (to n : ℕ) → weighed f xs (λ k. if to == k then n else 0) ≡ n * worth_at f xs to
+  pub one_moved : (f : X → ℕ) (xs : List X) (to n : ℕ) → weighed f xs (λ k. if to == k then n else 0) ≡ n * worth_at f xs to
   one_moved f [] to n = grind arith
   one_moved f (x ∷ xs) zero n = let more = weighed_none f xs (λ k. if zero == suc k then n else 0) (λ k. grind (arith, nat_tests)) in grind (arith, more)
   one_moved f (x ∷ xs) (suc to) n =

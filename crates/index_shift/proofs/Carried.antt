@@ -30,7 +30,7 @@ each_all : {X : Type 0} (P : X → Type 0) (xs : List X) → All P xs → Each P
 each_all P [] h = tt
 each_all P (x ∷ xs) h = (h 0 x (omega arith), each_all P xs (λ k d l. h (suc k) d (omega (arith, l))))
 
-are_joined : (r t : List Plain) (As Bs : List Type') → AreIndices r As → AreIndices t Bs → AreIndices (r ++ t) (As ++ Bs)
+pub are_joined : (r t : List Plain) (As Bs : List Type') → AreIndices r As → AreIndices t Bs → AreIndices (r ++ t) (As ++ Bs)
 are_joined [] t [] Bs h g = g
 are_joined [] t (A ∷ As) Bs h g = absurd h
 are_joined (i ∷ r) t [] Bs h g = absurd h
@@ -42,7 +42,7 @@ as_long [] (A ∷ As) h = absurd h
 as_long (i ∷ t) [] h = absurd h
 as_long (i ∷ t) (A ∷ As) h = ap suc (as_long t As h.1)
 
-degrees_joined : (r t : List Plain) → degrees (r ++ t) ≡ degrees r + degrees t
+pub degrees_joined : (r t : List Plain) → degrees (r ++ t) ≡ degrees r + degrees t
 degrees_joined [] t = omega arith
 degrees_joined (i ∷ r) t = let more = degrees_joined r t in omega (arith, more)
 

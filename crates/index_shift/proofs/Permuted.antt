@@ -39,7 +39,7 @@ are_inserted (suc k) i A [] (B ∷ As) h g = absurd g
 are_inserted (suc k) i A (j ∷ t) [] h g = absurd g
 are_inserted (suc k) i A (j ∷ t) (B ∷ As) h g = (g.0, are_inserted k i A t As h g.1)
 
-permutation_bases : (ks : List ℕ) (t : List Plain) (vs : List Value) → length ks ≡ length t → length vs ≡ length t → bases (permutation ks t) (permutation ks vs) ≡ bases t vs
+pub permutation_bases : (ks : List ℕ) (t : List Plain) (vs : List Value) → length ks ≡ length t → length vs ≡ length t → bases (permutation ks t) (permutation ks vs) ≡ bases t vs
 permutation_bases [] [] [] h g = refl
 permutation_bases [] [] (v ∷ vs) h g = absurd (omega (arith, g))
 permutation_bases [] (i ∷ t) vs h g = absurd (omega (arith, h))
@@ -51,13 +51,13 @@ permutation_bases (k ∷ ks) (i ∷ t) (v ∷ vs) h g =
     inserted_bases k i v (permutation ks t) (permutation ks vs) (long_permutation ks t some ∙ sym more ∙ sym (long_permutation ks vs (some ∙ sym more)))
     ∙ ap (λ n. base i v * n) (permutation_bases ks t vs some more)
 
-permutation_degrees : (ks : List ℕ) (t : List Plain) → length ks ≡ length t → degrees (permutation ks t) ≡ degrees t
+pub permutation_degrees : (ks : List ℕ) (t : List Plain) → length ks ≡ length t → degrees (permutation ks t) ≡ degrees t
 permutation_degrees [] [] h = refl
 permutation_degrees [] (i ∷ t) h = absurd (omega (arith, h))
 permutation_degrees (k ∷ ks) [] h = absurd (omega (arith, h))
 permutation_degrees (k ∷ ks) (i ∷ t) h = inserted_degrees k i (permutation ks t) ∙ ap (λ n. deg i + n) (permutation_degrees ks t (omega (arith, h)))
 
-are_permuted : (ks : List ℕ) (t : List Plain) (As : List Type') → length ks ≡ length As → AreIndices t As → AreIndices (permutation ks t) (permutation ks As)
+pub are_permuted : (ks : List ℕ) (t : List Plain) (As : List Type') → length ks ≡ length As → AreIndices t As → AreIndices (permutation ks t) (permutation ks As)
 are_permuted [] [] [] h g = tt
 are_permuted [] [] (A ∷ As) h g = absurd g
 are_permuted [] (i ∷ t) As h g = tt
