@@ -1,3 +1,4 @@
+mod Functions
 pub mod Weighed
 pub mod Carried
 pub mod Contexts
