@@ -11,3 +11,4 @@ pub mod Blocks
 pub mod Bound
 pub mod Source
 pub mod Lines
+mod Appends

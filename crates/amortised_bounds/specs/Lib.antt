@@ -1,3 +1,4 @@
 pub mod Enough
 pub mod Bounds
 pub mod Laws
+pub mod Example

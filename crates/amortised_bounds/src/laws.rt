@@ -1,4 +1,5 @@
 // Laws of amortised bounds: each is the contract of a function that does nothing.
+ghost use Rattle.amortised_bounds.specs.Example.{Examples};
 ghost use Rattle.amortised_bounds.specs.Laws.{FormsPay, NormalRunsAreBounded, SourcesAreBounded, LinesAreTrue, CellsStayBelow};
 
 /// Where a form fits the rules over a block, potential pays for its runs.
@@ -24,4 +25,9 @@ pub fn lines_are_true()
 /// Under a bound of cells the machine never has more cells than its whole part.
 pub fn cells_stay_below()
     ensures { CellsStayBelow }
+{}
+
+/// The certificate of a small program bounds its cells and its ticks, as it was worked out.
+pub fn small_bounds()
+    ensures { Examples }
 {}

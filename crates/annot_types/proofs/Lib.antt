@@ -1,7 +1,7 @@
 mod Small
 mod Each
 mod ThreeTicks
-mod Appended
+pub mod Appended
 mod Beside
 mod Computed
 mod Systems
