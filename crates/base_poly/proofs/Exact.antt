@@ -25,7 +25,7 @@ order_same (OneEntry x) = order_same x
 
 -- Order
 
-led_ascends : (rests : ℕ → List (List Plain)) (d : ℕ) (firsts : List Plain) → ((k : ℕ) → Ascends each_in_turn (rests k)) → Ascends order firsts → Ascends each_in_turn (tuples_led rests d firsts)
+pub led_ascends : (rests : ℕ → List (List Plain)) (d : ℕ) (firsts : List Plain) → ((k : ℕ) → Ascends each_in_turn (rests k)) → Ascends order firsts → Ascends each_in_turn (tuples_led rests d firsts)
 led_ascends rests d firsts f h =
     ascends_led order each_in_turn each_in_turn (λ i r. i ∷ r) order_same (λ x u y v. refl) (λ i. rests (d - deg i)) firsts (λ i. f (d - deg i)) h
 
@@ -34,7 +34,7 @@ led_after_none rests d firsts = before_all each_in_turn [] (tuples_led rests d f
     let p = among_part (λ i. map (λ r. i ∷ r) (rests (d - deg i))) t firsts m in
     let q = among_mapped (λ r. p.0 ∷ r) t (rests (d - deg p.0)) p.2 in ap (each_in_turn []) (sym q.2))
 
-lists_ascend : (items : ℕ → List Plain) → ((d : ℕ) → Ascends order (items d)) → (n d : ℕ) → Ascends each_in_turn (lists items n d)
+pub lists_ascend : (items : ℕ → List Plain) → ((d : ℕ) → Ascends order (items d)) → (n d : ℕ) → Ascends each_in_turn (lists items n d)
 lists_ascend items f zero d = (tt, tt)
 lists_ascend items f (suc n) zero = (tt, tt)
 lists_ascend items f (suc n) (suc d) = (led_after_none (lists items n) d (items d), led_ascends (lists items n) d (items d) (lists_ascend items f n) (f d))
@@ -46,7 +46,7 @@ options_ascend items f (suc d) = (
   ascends_made order order OneEntry (λ x u. refl) (items d) (f d),
 )
 
-indices_ascend : (A : Type') (d : ℕ) → Ascends order (indices_up_to A d)
+pub indices_ascend : (A : Type') (d : ℕ) → Ascends order (indices_up_to A d)
 indices_ascend Integer d = (tt, tt)
 indices_ascend Boolean d = (tt, tt)
 indices_ascend (PairOf A B) d =
@@ -55,13 +55,13 @@ indices_ascend (ListOf A) d = ascends_made each_in_turn order many order_many (l
 indices_ascend (TreeOf A) d = ascends_made each_in_turn order many order_many (lists (indices_up_to A) d d) (lists_ascend (indices_up_to A) (indices_ascend A) d d)
 indices_ascend (OptionOf A) d = options_ascend (indices_up_to A) (indices_ascend A) d
 
-tuples_ascend : (As : List Type') (d : ℕ) → Ascends each_in_turn (tuples_up_to As d)
+pub tuples_ascend : (As : List Type') (d : ℕ) → Ascends each_in_turn (tuples_up_to As d)
 tuples_ascend [] d = (tt, tt)
 tuples_ascend (A ∷ As) d = led_ascends (tuples_up_to As) d (indices_up_to A d) (tuples_ascend As) (indices_ascend A d)
 
 -- Which indices there are
 
-sound_lists : (A : Type') (items : ℕ → List Plain) → ((d : ℕ) (i : Plain) → Among i (items d) → IsIndex i A × (deg i ≤ d)) →
+pub sound_lists : (A : Type') (items : ℕ → List Plain) → ((d : ℕ) (i : Plain) → Among i (items d) → IsIndex i A × (deg i ≤ d)) →
     (n d : ℕ) (r : List Plain) → Among r (lists items n d) → IsIndex (many r) (ListOf A) × (deg (many r) ≤ d)
 sound_lists A items f zero d r m = ⊎_elim (λ e. subst (λ q. IsIndex (many q) (ListOf A) × (deg (many q) ≤ d)) e (tt, omega arith)) (λ n. absurd n) m
 sound_lists A items f (suc n) zero r m = ⊎_elim (λ e. subst (λ q. IsIndex (many q) (ListOf A) × (deg (many q) ≤ zero)) e (tt, omega arith)) (λ n. absurd n) m
@@ -128,7 +128,7 @@ many_entries A End h = refl
 many_entries A (Then i r) h = ap (Then i) (many_entries A r h.1)
 many_entries A x h = absurd h
 
-whole_lists : (A : Type') (items : ℕ → List Plain) → ((d : ℕ) (i : Plain) → IsIndex i A → deg i ≤ d → Among i (items d)) →
+pub whole_lists : (A : Type') (items : ℕ → List Plain) → ((d : ℕ) (i : Plain) → IsIndex i A → deg i ≤ d → Among i (items d)) →
     (x : Plain) (n d : ℕ) → IsIndex x (ListOf A) → deg x ≤ n → deg x ≤ d → Among (entries_of x) (lists items n d)
 whole_lists A items f End zero d h j k = inl refl
 whole_lists A items f End (suc n) zero h j k = inl refl

@@ -10,6 +10,8 @@ pub mod Counted
 pub mod Recursion
 pub mod Only
 pub mod Front
+pub mod Low
+pub mod Sized
 pub mod Capped
 pub mod Computed
 pub mod Bounded

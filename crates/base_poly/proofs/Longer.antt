@@ -136,7 +136,7 @@ same_parts f g both d [] h = refl
 same_parts f g both d (i ∷ is) h =
     (λ n. map (λ r. both i r) (h (d - deg i) (omega arith) n) ++ same_parts f g both d is h n)
 
-enough_entries : (items : ℕ → List Plain) (n m d : ℕ) → d ≤ n → d ≤ m → lists items n d ≡ lists items m d
+pub enough_entries : (items : ℕ → List Plain) (n m d : ℕ) → d ≤ n → d ≤ m → lists items n d ≡ lists items m d
 enough_entries items zero zero d h k = refl
 enough_entries items zero (suc m) zero h k = refl
 enough_entries items zero (suc m) (suc d) h k = absurd (omega (arith, h))

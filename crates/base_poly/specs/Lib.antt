@@ -9,3 +9,4 @@ pub mod Read
 pub mod Total
 pub mod Stored
 pub mod Poly
+pub mod Sizes

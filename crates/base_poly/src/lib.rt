@@ -6,10 +6,12 @@ mod index;
 pub mod laws;
 mod list;
 mod products;
+mod sizes;
 mod tuple;
 
 pub use fault::IndexFault;
 pub use index::Index;
-pub use list::indices;
+pub use list::{indices, tuples_up_to};
 pub use products::multiply;
+pub use sizes::degrees;
 pub use tuple::{Poly, Tuple};

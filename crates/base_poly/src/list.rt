@@ -51,8 +51,15 @@ fn take_degree(
     Ok(left)
 }
 
-// All tuples of these types, component by component.
-fn tuples_up_to(alloc: Global, types: &[Ty], d: u32, most: usize) -> Result<Vec<Tuple>, IndexFault>
+/// All tuples of indices of these types of degree at most `d`, component by component.
+///
+/// `TooMany` where there are more than `most`.
+pub fn tuples_up_to(
+    alloc: Global,
+    types: &[Ty],
+    d: u32,
+    most: usize,
+) -> Result<Vec<Tuple>, IndexFault>
     ensures all { IfOk result (λ found. found.items ≡ tuples_up_to (context_of types.now) d) }
     ensures many { IsErrOf result IndexFault.TooMany → most < length (tuples_up_to (context_of types.now) d) }
     ensures few { IfOk result (λ found. vec_len found ≤ most) }
@@ -162,7 +169,7 @@ fn append_tuple(
 }
 
 // The item alone.
-fn only<T: Drop>(alloc: Global, item: T, most: usize) -> Result<Vec<T>, IndexFault>
+pub fn only<T: Drop>(alloc: Global, item: T, most: usize) -> Result<Vec<T>, IndexFault>
     ensures all { IfOk result (λ found. found.items ≡ item ∷ []) }
     ensures few { IfOk result (λ found. vec_len found ≤ most) }
     ensures many { IsErrOf result IndexFault.TooMany → most < 1 }

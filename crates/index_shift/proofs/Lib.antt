@@ -7,6 +7,13 @@ pub mod Computed
 pub mod Readings
 pub mod Placed
 pub mod Cuts
-pub mod Behind
+pub mod Exactly
+pub mod Spots
+pub mod Lifts
+pub mod Steps
+pub mod Tabled
+pub mod Shorter
+pub mod Alone
 pub mod Listed
 pub mod Between
+pub mod Faults

@@ -1,6 +1,9 @@
 pub mod Parts
 pub mod Potential
 pub mod Maps
+pub mod Lift
+pub mod Tables
+pub mod Local
 pub mod Laws
 pub mod Contexts
 pub mod Example

@@ -1,5 +1,6 @@
--- What the code's ways to carry are as plain data, and its faults.
-use Rattle.std.specs.Prelude.{ℕ, ◌≤◌, ◌<◌, List, [], ◌∷◌, drop, length}
+-- What the code's ways to carry, its tables and its faults are as plain data.
+use Rattle.std.specs.Prelude.{ℕ, ◌≤◌, List, [], ◌∷◌, map, slice_index_or}
+use Rattle.std.specs.declared.vec.Vec.{Vec}
 use Rattle.raml_syntax.specs.Tree.{Type'}
 use Rattle.raml_syntax.specs.Read.{ty_of}
 use Rattle.base_poly.specs.Plain.{Plain, deg}
@@ -7,8 +8,11 @@ use Rattle.base_poly.specs.Indices.{IsIndex}
 use Rattle.base_poly.specs.declared.fault.IndexFault.{IndexFault}
 use Rattle.base_poly.specs.declared.fault.IndexFault.TheVariants as i
 use Rattle.index_shift.specs.Maps as m
+use Rattle.index_shift.specs.Lift as l
 use Rattle.index_shift.specs.declared.carry.Carry.{Carry}
 use Rattle.index_shift.specs.declared.carry.Carry.TheVariants.{Open, Leave, Join}
+use Rattle.index_shift.specs.declared.lift.Middle.{Middle}
+use Rattle.index_shift.specs.declared.lift.Counts.{Counts}
 use Rattle.index_shift.specs.declared.fault.MapFault.{MapFault}
 use Rattle.index_shift.specs.declared.fault.MapFault.TheVariants.{TooMany, NoMemory}
 
@@ -21,18 +25,25 @@ carry_of (Open ty) = m.opens (ty_of ty.now)
 carry_of Leave = m.leaves
 carry_of Join = m.joins
 
--- indices that can be multiplied, where there is a second
-abbrev pub CanJoin : Plain → List Plain → Type 0
-CanJoin i [] = Unit {0}
-CanJoin i (j ∷ t) = ((A : Type') × IsIndex i A × IsIndex j A) × ((deg i ≤ 4) × (deg j ≤ 4))
+-- a tuple that can be carried so
+abbrev pub CanCarry : Carry → List Plain → Type 0
+CanCarry (Open ty) (i ∷ []) = Unit {0}
+CanCarry Leave (i ∷ []) = deg i ≤ 4
+CanCarry Join (i ∷ j ∷ []) = ((A : Type') × IsIndex i A × IsIndex j A) × ((deg i ≤ 4) × (deg j ≤ 4))
+CanCarry _ _ = ⊥
 
--- the first index can be carried so
-abbrev pub CanCarryFirst : Carry → List Plain → Type 0
-CanCarryFirst c [] = ⊥
-CanCarryFirst (Open ty) (i ∷ t) = Unit {0}
-CanCarryFirst Leave (i ∷ t) = deg i ≤ 4
-CanCarryFirst Join (i ∷ t) = CanJoin i t
+abbrev pub items_of : {G : Type 0} → Vec ℕ G → List ℕ
+items_of v = v.items
 
--- the index at the place can be
-abbrev pub CanCarry : Carry → ℕ → List Plain → Type 0
-CanCarry c at t = (at < length t) × CanCarryFirst c (drop at t)
+-- the number in the row and the column, 0 past the end
+abbrev pub table_at : {G : Type 0} → List (Vec ℕ G) → ℕ → ℕ → ℕ
+table_at t h k = slice_index_or (slice_index_or (map items_of t) h []) k 0
+
+abbrev pub counts_of : Counts → l.Counts
+counts_of c = record { before = c.before.items; after = λ r. slice_index_or c.after.items r 0; first = table_at c.first.items; second = table_at c.second.items }
+
+abbrev pub middle_of : Middle → l.Middle
+middle_of m = record { degree = m.degree; targets = m.targets.items }
+
+abbrev pub middles_of : List Middle → List l.Middle
+middles_of ms = map middle_of ms

@@ -1,5 +1,5 @@
-// Contexts in which other variables stand for one.
-ghost use Rattle.std.specs.Prelude.{◌≡◌, ◌<◌, ◌+◌, [], ◌∷◌, ◌++◌, take, drop, length, IfOk, OnOk};
+// The types that stand for a variable's.
+ghost use Rattle.std.specs.Prelude.{◌≡◌, [], ◌∷◌, IfOk};
 ghost use Rattle.raml_syntax.specs.Read.{ty_of};
 ghost use Rattle.base_poly.specs.Read.{context_of};
 ghost use Rattle.index_shift.specs.Parts.{type_parts};
@@ -20,8 +20,15 @@ pub fn type_parts(alloc: Global, ty: &Ty) -> Result<Vec<Ty>, AllocError>
             parts.push(ty.copy(alloc)?)?;
             Ok(parts)
         }
-        Ty::Opt(content) => Ok(vec![in alloc; content.copy(alloc)?]?),
+        Ty::Opt(content) => one(alloc, content),
     }
+}
+
+/// The type alone.
+pub fn one(alloc: Global, ty: &Ty) -> Result<Vec<Ty>, AllocError>
+    ensures { IfOk result (λ types. context_of types.items ≡ ty_of ty.now ∷ []) }
+{
+    Ok(vec![in alloc; ty.copy(alloc)?]?)
 }
 
 /// Both types.
@@ -29,32 +36,4 @@ pub fn two(alloc: Global, first: &Ty, second: &Ty) -> Result<Vec<Ty>, AllocError
     ensures { IfOk result (λ types. context_of types.items ≡ ty_of first.now ∷ (ty_of second.now ∷ [])) }
 {
     Ok(vec![in alloc; first.copy(alloc)?, second.copy(alloc)?]?)
-}
-
-/// The context with these types in place of the one at `at`.
-pub fn in_place(
-    alloc: Global,
-    context: &[Ty],
-    at: usize,
-    types: &[Ty],
-) -> Result<Vec<Ty>, AllocError>
-    requires { at < length context.now }
-    ensures { IfOk result (λ whole. context_of whole.items
-        ≡ context_of (take at context.now) ++ (context_of types.now ++ context_of (drop (at + 1) context.now))) }
-{
-    let mut whole = Vec::new(alloc);
-    append_types(alloc, &mut whole, &context[..at])?;
-    append_types(alloc, &mut whole, types)?;
-    append_types(alloc, &mut whole, &context[at + 1..])?;
-    Ok(whole)
-}
-
-// Appends copies of the types.
-fn append_types(alloc: Global, whole: &mut Vec<Ty>, types: &[Ty]) -> Result<(), AllocError>
-    ensures { OnOk result (context_of whole.new.items ≡ context_of whole.old.items ++ context_of types.now) }
-{
-    for ty in types {
-        whole.push(ty.copy(alloc)?)?;
-    }
-    Ok(())
 }

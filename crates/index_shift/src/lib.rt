@@ -7,10 +7,13 @@ mod context;
 mod entry;
 mod fault;
 pub mod laws;
+mod lift;
+mod local;
 mod maps;
 mod parts;
-mod places;
+mod tables;
 
 pub use entry::Entry;
 pub use fault::MapFault;
+pub use local::Local;
 pub use maps::{drop_var, empty_part, share_map, shift_list, shift_option, shift_tree, split_pair};

@@ -1,25 +1,19 @@
 // The maps.
-ghost use Rattle.std.specs.Prelude.{◌≡◌, ◌≢◌, ◌≤◌, ◌<◌, ◌⊎◌, All, [], length, slice_get, Some, IfOk, OnOk, IsErrOf};
+ghost use Rattle.std.specs.Prelude.{◌≡◌, ◌≢◌, ◌≤◌, ◌<◌, ◌⊎◌, List, [], length, slice_get, Some, IfOk, OnOk, IsErrOf};
 ghost use Rattle.raml_syntax.specs.Tree.{Type', PairOf, ListOf, TreeOf, OptionOf};
 ghost use Rattle.raml_syntax.specs.Value.{Value, Both, Empty, Cons, Node, Just};
-ghost use Rattle.base_poly.specs.Indices.{index_list};
 ghost use Rattle.base_poly.specs.Read.{context_of};
 ghost use Rattle.index_shift.specs.Parts.{type_parts, value_parts};
-ghost use Rattle.index_shift.specs.Maps.{in_place, none, twice, behind, entries, opening, leaving, sharing, IsTooLarge};
+ghost use Rattle.index_shift.specs.Maps.{Carry, in_place, none, twice, behind, entries, opening, leaving, sharing, IsTooLarge};
 ghost use Rattle.index_shift.specs.Laws.{KeepsParts, KeepsRest, KeepsZero, LowersRest, KeepsShared};
-ghost use Rattle.index_shift.specs.Read.{carry_of, CanCarry};
+ghost use Rattle.index_shift.specs.Local.{IsLocal};
 
-use crate::carry::Carry;
-use crate::context::{in_place, two, type_parts};
 use crate::entry::Entry;
 use crate::fault::MapFault;
-use crate::places::{entries, places};
-use base_poly::indices;
+use crate::local::{Local, MOST};
+use base_poly::degrees;
 use raml_syntax::Ty;
 use std::alloc::Global;
-
-/// The most indices that a context may have.
-const MOST: usize = 2000;
 
 /// The map from a context to the one in which head and tail stand for the list at `at`.
 ///
@@ -120,10 +114,8 @@ pub fn share_map(alloc: Global, context: &[Ty], at: usize, d: u8) -> Result<Vec<
     ensures few { OnOk result (IsTooLarge (in_place at twice (context_of context.now)) (context_of context.now) d → ⊥) }
     ensures many { IsErrOf result MapFault.TooMany → IsTooLarge (in_place at twice (context_of context.now)) (context_of context.now) d }
 {
-    let ty = &context[at];
-    let both = two(alloc, ty, ty)?;
-    let shared = in_place(alloc, context, at, &both)?;
-    entries_between(alloc, Carry::Join, at, &shared, context, d)
+    let local = Local::sharing(alloc, &context[at], d)?;
+    map_at(alloc, context, at, &local, d)
 }
 
 // From the context to the one with the parts of the variable in its place.
@@ -135,10 +127,8 @@ fn opening(alloc: Global, context: &[Ty], at: usize, d: u8) -> Result<Vec<Entry>
     ensures few { OnOk result (IsTooLarge (context_of context.now) (in_place at type_parts (context_of context.now)) d → ⊥) }
     ensures many { IsErrOf result MapFault.TooMany → IsTooLarge (context_of context.now) (in_place at type_parts (context_of context.now)) d }
 {
-    let ty = &context[at];
-    let parts = type_parts(alloc, ty)?;
-    let opened = in_place(alloc, context, at, &parts)?;
-    entries_between(alloc, Carry::Open(ty), at, context, &opened, d)
+    let local = Local::opening(alloc, &context[at], d)?;
+    map_at(alloc, context, at, &local, d)
 }
 
 // From the context to the one without the variable.
@@ -152,25 +142,27 @@ fn leaving(alloc: Global, context: &[Ty], at: usize, d: u8) -> Result<Vec<Entry>
     ensures few { OnOk result (IsTooLarge (context_of context.now) (in_place at none (context_of context.now)) d → ⊥) }
     ensures many { IsErrOf result MapFault.TooMany → IsTooLarge (context_of context.now) (in_place at none (context_of context.now)) d }
 {
-    let left = in_place(alloc, context, at, &[])?;
-    entries_between(alloc, Carry::Leave, at, context, &left, d)
+    let local = Local::leaving(alloc, &context[at], d)?;
+    map_at(alloc, context, at, &local, d)
 }
 
-// The entries between two contexts.
-fn entries_between(
+// The map by which the variable is carried so.
+fn map_at(
     alloc: Global,
-    carry: Carry<'_>,
+    context: &[Ty],
     at: usize,
-    from: &[Ty],
-    to: &[Ty],
+    local: &Local,
     d: u8,
 ) -> Result<Vec<Entry>, MapFault>
-    requires can { All (CanCarry carry at) (index_list (context_of from.now) d) }
-    ensures map { IfOk result (λ found. found.items ≡ entries (behind at (carry_of carry.entry)) (context_of from.now) (context_of to.now) d) }
-    ensures few { OnOk result (IsTooLarge (context_of from.now) (context_of to.now) d → ⊥) }
-    ensures many { IsErrOf result MapFault.TooMany → IsTooLarge (context_of from.now) (context_of to.now) d }
+    requires there { at < length context.now }
+    ensures map { IfOk result (λ found. (c : Carry) (Fs Ts : List Type') → IsLocal c Fs Ts d local.now →
+        found.items ≡ entries (behind at c) (in_place at (λ _. Fs) (context_of context.now)) (in_place at (λ _. Ts) (context_of context.now)) d) }
+    ensures few { OnOk result ((c : Carry) (Fs Ts : List Type') → IsLocal c Fs Ts d local.now →
+        IsTooLarge (in_place at (λ _. Fs) (context_of context.now)) (in_place at (λ _. Ts) (context_of context.now)) d → ⊥) }
+    ensures many { IsErrOf result MapFault.TooMany → (c : Carry) (Fs Ts : List Type') → IsLocal c Fs Ts d local.now →
+        IsTooLarge (in_place at (λ _. Fs) (context_of context.now)) (in_place at (λ _. Ts) (context_of context.now)) d }
 {
-    let tuples = indices(alloc, from, d, MOST)?;
-    let places = places(alloc, indices(alloc, to, d, MOST)?)?;
-    Ok(entries(alloc, carry, at, &tuples, &places)?)
+    let before = degrees(alloc, &context[..at], d, usize::from(MOST))?;
+    let after = degrees(alloc, &context[at + 1..], d, usize::from(MOST))?;
+    local.map(alloc, &before, &after)
 }

@@ -1,7 +1,7 @@
 use Rattle.std.proofs.Common.{◌≡◌, ◌+◌, ◌-◌, ◌<◌, length, take, ap, ◌∙◌, arith}
 use Rattle.base_poly.specs.Read.{index_of, plains_of}
 use Rattle.index_shift.proofs.Cuts.{trees_of, trees_step, trees_done}
-use Rattle.index_shift.proofs.Behind.{to_end}
+use Rattle.index_shift.proofs.Listed.{to_end}
 use Rattle.index_shift.proofs.parts.append_trees.Goals as goal
 
 pub loop-cut-preserved : goal.loop-cut-preserved

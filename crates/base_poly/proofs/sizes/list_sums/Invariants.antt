@@ -1,0 +1,6 @@
+use Rattle.std.proofs.Common.{◌≡◌}
+use Rattle.base_poly.specs.Sizes.{list_sums}
+use Rattle.base_poly.proofs.sizes.list_sums.Given as goal
+
+abbrev pub invariant-loop-g : goal.invariant-loop-g
+invariant-loop-g l = l.found.items ≡ list_sums l.entries l.g

@@ -1,0 +1,11 @@
+use Rattle.std.proofs.Common.{◌≡◌, ◌≤◌, ◌+◌, ◌++◌, drop, slice_index_or}
+use Rattle.base_poly.specs.Base.{total}
+use Rattle.index_shift.specs.Tables.{fits, sums}
+use Rattle.index_shift.proofs.tables.sums.Given as goal
+
+abbrev pub invariant-loop-p : goal.invariant-loop-p
+invariant-loop-p l = record {
+  row : l.row.items ++ sums (fits (λ r. slice_index_or l.numbers r 0) l.h) l.sum (drop l.p-index l.degrees) ≡ sums (fits (λ r. slice_index_or l.numbers r 0) l.h) l.start l.degrees;
+  all : l.sum + total (fits (λ r. slice_index_or l.numbers r 0) l.h) (drop l.p-index l.degrees) ≡ l.start + total (fits (λ r. slice_index_or l.numbers r 0) l.h) l.degrees;
+  few : l.sum ≤ l.most;
+}
