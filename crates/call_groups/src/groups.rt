@@ -23,12 +23,15 @@ pub struct Groups {
 }
 
 impl Model for Groups {
+    ghost use Rattle.std.specs.Prelude.{◌≤◌, length};
     ghost use Rattle.call_groups.specs.Read.{lists_of};
     ghost use Rattle.call_groups.specs.Groups.{Grouping};
 
     ghost Value = { Grouping };
 
     ghost view = { λ groups. record { list = lists_of groups.list.items; calls = lists_of groups.calls.items } };
+
+    ghost invariant = { λ groups. length groups.calls.items ≤ 256 };
 }
 
 impl Groups {
@@ -45,6 +48,14 @@ impl Groups {
         ensures { slice_get self.now.calls fun.0 ≡ Some (ids_of result.now) }
     {
         &self.calls[fun.0 as usize]
+    }
+
+    /// For each function, in their order, the functions that it calls. There are few functions.
+    pub fn all_calls(&self) -> &[Vec<FunId>]
+        ensures all { lists_of result.now ≡ self.now.calls }
+        ensures few { length result.now ≤ 256 }
+    {
+        &self.calls
     }
 }
 

@@ -7,6 +7,7 @@ ghost use Rattle.cost_free.specs.Blocked.{is_among, row, any_calls, in_any, pays
 ghost use Rattle.cost_free.specs.Read.{ids_of, lists_of, task_of, outcome_of, outcomes_of};
 
 use crate::task::{Done, Meter, Task, TaskKind};
+use call_groups::Groups;
 use raml_syntax::FunId;
 
 fn same_meter(one: Meter, other: Meter) -> bool
@@ -135,11 +136,8 @@ fn least(
     None
 }
 
-/// The function that a task waits for: of the functions in earlier groups that its group calls, and
-/// that have no bound for the meter, the least. `None` where the task is to be tried.
-///
-/// The groups come callees first, and `calls` has for each function those that it calls.
-pub fn blocked(
+// The same, for groups and calls by themselves.
+fn blocked_by(
     groups: &[Vec<FunId>],
     calls: &[Vec<FunId>],
     task: &Task,
@@ -152,4 +150,12 @@ pub fn blocked(
         TaskKind::Free { .. } => None,
         TaskKind::With(meter) => least(groups, calls, task.group, meter, done),
     }
+}
+
+/// The function that a task waits for: of the functions in earlier groups that its group calls, and
+/// that have no bound for the meter, the least. `None` where the task is to be tried.
+pub fn blocked(groups: &Groups, task: &Task, done: &[(Task, Done)]) -> Option<FunId>
+    ensures { option_map (λ (f : FunId). f.0) result ≡ blocked groups.now.list groups.now.calls (task_of task.now) (outcomes_of done.now) }
+{
+    blocked_by(groups.list(), groups.all_calls(), task, done)
 }
