@@ -1,7 +1,9 @@
 // Programs in normal form.
 ghost use Rattle.std.specs.Prelude.{◌≡◌, ◌<◌, IfOk, Some, length, slice_get};
 ghost use Rattle.std.specs.List.{All};
+ghost use Rattle.raml_syntax.specs.Tree.{Function};
 ghost use Rattle.raml_syntax.specs.Types as types;
+ghost use Rattle.raml_syntax.specs.Node.{AllNodes, NumberFits};
 ghost use Rattle.raml_syntax.specs.Read.{program_of};
 ghost use Rattle.normal_form.specs.Two.{norm};
 ghost use Rattle.normal_form.specs.Uses.{IsNormal};
@@ -101,6 +103,7 @@ impl<'a> NormProgram<'a> {
         ensures source { result.now ≡ self.now.source }
         ensures typed { types.Typed (source_in self.now) }
         ensures small { IsSmall (source_in self.now) }
+        ensures numbers { All (λ (g : Function). AllNodes NumberFits g.body) (source_in self.now) }
     {
         self.typed.program()
     }
