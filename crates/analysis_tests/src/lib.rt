@@ -1,0 +1,14 @@
+//! Tests of targets, of schedules and of annotations. There is nothing else here: so the crates below
+//! are proved once.
+#![tactic(auto)]
+
+#[cfg(test)]
+mod annotations;
+#[cfg(test)]
+mod index_text;
+#[cfg(test)]
+mod schedules;
+#[cfg(test)]
+mod targets;
+#[cfg(test)]
+mod types;

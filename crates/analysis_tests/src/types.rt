@@ -1,0 +1,43 @@
+//! Types to try.
+use raml_syntax::Ty;
+use std::alloc::Global;
+use std::test::Fail;
+
+/// The types that the words spell: `list`, `tree` and `option` are made of the type before them, and
+/// `pair` of the two types before it.
+pub fn types(alloc: Global, words: &str) -> Result<Vec<Ty>, Fail> {
+    let mut types = Vec::new(alloc);
+    for word in words.split_whitespace() {
+        let ty = read(alloc, word, &mut types)?;
+        types.push(ty)?;
+    }
+    Ok(types)
+}
+
+/// The last of the types that the words spell.
+pub fn last_type(alloc: Global, words: &str) -> Result<Ty, Fail> {
+    Ok(types(alloc, words)?.pop().ok_or("no type")?)
+}
+
+// The type of the word, made of the last ones.
+fn read(alloc: Global, word: &str, types: &mut Vec<Ty>) -> Result<Ty, Fail> {
+    match word {
+        "int" => Ok(Ty::Int),
+        "bool" => Ok(Ty::Bool),
+        "list" => Ok(Ty::List(taken(alloc, types)?)),
+        "tree" => Ok(Ty::Tree(taken(alloc, types)?)),
+        "option" => Ok(Ty::Opt(taken(alloc, types)?)),
+        "pair" => pair(alloc, types),
+        _ => Err(Fail::from("a word")),
+    }
+}
+
+fn pair(alloc: Global, types: &mut Vec<Ty>) -> Result<Ty, Fail> {
+    let second = taken(alloc, types)?;
+    Ok(Ty::Pair(taken(alloc, types)?, second))
+}
+
+fn taken(alloc: Global, types: &mut Vec<Ty>) -> Result<Box<Ty>, Fail> {
+    let ty = types.pop().ok_or("a type is missing")?;
+    Ok(Box::new(alloc, ty)?)
+}
