@@ -1,0 +1,3 @@
+pub mod Arms
+pub mod Bringing
+pub mod AskedAt

@@ -1,0 +1,24 @@
+use Rattle.std.proofs.Common.{◌≡◌, ◌∙◌, ◌++◌, ◌∷◌, [], ◌*◌, ◌+◌, ◌<◌, ◌≤◌, refl, ap, sym, map, drop, length, arith, rules}
+use Rattle.walk_rules.specs.Walk.{against, at, at_zero, moved, numbered, walk, walks, all_moved, missing, joined}
+use Rattle.rule_walk.specs.Steps.{step_of, part_of}
+use Rattle.rule_walk.specs.Read.{plan_of, plans_of, called_of, mode_of, hints_of, sides_of, known_of, charged, nodes_rows, nodes_index, nodes_left, size, sizes}
+use Rattle.rule_walk.proofs.Arms.{begun_by, calls_is, calls_left}
+use Rattle.rule_walk.proofs.walk.walk_calls.Goals as goal
+
+pub returns-clause-heard : goal.returns-clause-heard
+returns-clause-heard g c = let A = g.T.Kind.kind in let J = g.J.Judge in let s = c.args.here.now in let G = known_of s.known.now in let path = c.args.path.now.items in let q = c.args.q.items in let v = J.verdict c.args.judge.now in
+    let p1 = c.deref.ensures.value in
+    let b = begun_by A G J.after g.met.J.Judge.in_turn c.args.nodes c.charged.result (mode_of s.mode) path c.deref.result.now q c.begin.new.entries.items c.in_ok-start.start v (J.verdict c.begin.new.judge)
+    c.charged.ensures p1 c.in_ok-start.ensures.heard c.in_ok-start.ensures.index c.in_ok-start.ensures.left in
+    calls_is A G J.after g.met.J.Judge.in_turn c.args.nodes (called_of c.args.called.now) (mode_of s.mode) path c.deref-2.result.now c.deref-3.result.now c.deref-4.result.now
+    q c.begin.new.entries.items s.result.now c.in_ok-right.right.items c.multiples_of.result.now (hints_of c.args.hints.now) (sides_of c.in_ok-sides.sides)
+    c.in_ok-start.start c.in_ok-index.index (c.in_ok-index.index + length c.in_ok-sides.sides.args.items) v (J.verdict c.begin.new.judge) (J.verdict c.hear_missing.new.judge) (J.verdict c.hear.new.self) _ b
+    c.deref-2.ensures.value c.deref-3.ensures.value c.deref-4.ensures.value c.multiples_of.ensures c.in_ok-sides.ensures c.in_ok-right.ensures
+    c.in_ok-index.ensures.heard c.in_ok-index.ensures.index refl c.in_ok-hear.ensures (c.in_ok-hear-2.ensures ∙ ap (λ n. J.after (J.verdict c.hear.new.self) (numbered c.deref-4.result.now (c.in_ok-index.index + n) (against A c.in_ok-sides.sides.result.items c.in_ok-right.right.items))) (c.len.ensures ∙ c.in_ok-sides.sides.args.ok.0))
+
+pub returns-clause-left : goal.returns-clause-left
+returns-clause-left g c = let A = g.T.Kind.kind in let J = g.J.Judge in let s = c.args.here.now in let G = known_of s.known.now in let path = c.args.path.now.items in let q = c.args.q.items in let v = J.verdict c.args.judge.now in
+    let p1 = c.deref.ensures.value in
+    let b = begun_by A G J.after g.met.J.Judge.in_turn c.args.nodes c.charged.result (mode_of s.mode) path c.deref.result.now q c.begin.new.entries.items c.in_ok-start.start v (J.verdict c.begin.new.judge)
+    c.charged.ensures p1 c.in_ok-start.ensures.heard c.in_ok-start.ensures.index c.in_ok-start.ensures.left in
+    calls_left A G J.after g.met.J.Judge.in_turn c.args.nodes (called_of c.args.called.now) (mode_of s.mode) path q c.begin.new.entries.items s.result.now (hints_of c.args.hints.now) _ c.in_ok-start.start v (J.verdict c.begin.new.judge) b c.later.ensures

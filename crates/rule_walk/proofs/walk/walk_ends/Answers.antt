@@ -1,0 +1,22 @@
+use Rattle.std.proofs.Common.{◌≡◌, ◌∙◌, ◌++◌, ◌∷◌, [], ◌*◌, ◌+◌, ◌<◌, ◌≤◌, refl, ap, sym, map, drop, length, arith, rules}
+use Rattle.walk_rules.specs.Walk.{at, at_zero, moved, numbered, walk, walks, all_moved, missing, joined}
+use Rattle.rule_walk.specs.Steps.{step_of, part_of}
+use Rattle.rule_walk.specs.Read.{plan_of, plans_of, called_of, mode_of, hints_of, sides_of, known_of, charged, nodes_rows, nodes_index, nodes_left, size, sizes}
+use Rattle.rule_walk.proofs.Arms.{begun_by, ends_is, ends_left}
+use Rattle.rule_walk.proofs.walk.walk_ends.Goals as goal
+
+pub returns-clause-heard : goal.returns-clause-heard
+returns-clause-heard g c = let A = g.T.Kind.kind in let J = g.J.Judge in let s = c.args.here.now in let G = known_of s.known.now in let path = c.args.path.now.items in let q = c.args.q.items in let v = J.verdict c.args.judge.now in
+    let p1 = c.deref.ensures.value in
+    let b = begun_by A G J.after g.met.J.Judge.in_turn c.args.nodes c.charged.result (mode_of s.mode) path c.deref.result.now q c.begin.new.entries.items c.in_ok-index.index v (J.verdict c.begin.new.judge)
+    c.charged.ensures p1 c.in_ok-index.ensures.heard c.in_ok-index.ensures.index c.in_ok-index.ensures.left in
+    ends_is A G J.after g.met.J.Judge.in_turn c.args.nodes c.args.cells c.charged-2.result (map step_of c.args.steps.now) (mode_of s.mode) path c.deref-2.result.now
+    q c.begin.new.entries.items s.result.now c.raise_first.new.entries.items (hints_of c.args.hints.now) c.in_ok-index.index v (J.verdict c.begin.new.judge) _ b c.deref-2.ensures.value
+    c.charged-2.ensures (c.raise_first.ensures ∙ ap (at_zero (A.plus (A.number (c.charged-2.result * s.known.now.scale)))) c.in_ok-right.ensures) c.in_ok-hear.ensures
+
+pub returns-clause-left : goal.returns-clause-left
+returns-clause-left g c = let A = g.T.Kind.kind in let J = g.J.Judge in let s = c.args.here.now in let G = known_of s.known.now in let path = c.args.path.now.items in let q = c.args.q.items in let v = J.verdict c.args.judge.now in
+    let p1 = c.deref.ensures.value in
+    let b = begun_by A G J.after g.met.J.Judge.in_turn c.args.nodes c.charged.result (mode_of s.mode) path c.deref.result.now q c.begin.new.entries.items c.in_ok-index.index v (J.verdict c.begin.new.judge)
+    c.charged.ensures p1 c.in_ok-index.ensures.heard c.in_ok-index.ensures.index c.in_ok-index.ensures.left in
+    ends_left A G J.after g.met.J.Judge.in_turn c.args.nodes c.args.cells (map step_of c.args.steps.now) (mode_of s.mode) path q c.begin.new.entries.items s.result.now (hints_of c.args.hints.now) c.in_ok-index.index v (J.verdict c.begin.new.judge) b

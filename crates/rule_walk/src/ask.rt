@@ -1,0 +1,192 @@
+// What a plan asks for.
+ghost use Rattle.std.specs.Prelude.{◌≡◌, ◌↔◌, ◌≤◌, ◌+◌, ◌++◌, ◌∷◌, [], map, slice_index_or, IfOk, OnOk, SomeIff};
+ghost use Rattle.walk_rules.specs.Asked.{ResultsOf, CopiesOf, MultiplesOf, asked, each_asked, all_asked, count as counted, counts, sum_of};
+ghost use Rattle.rule_walk.specs.Steps.{part_of};
+ghost use Rattle.rule_walk.specs.Read.{plan_of, plans_of};
+ghost use Rattle.rule_walk.specs.Asks.{ask_of, asks_of, sizes_of};
+
+use crate::plan::{Called, Part, Plan};
+use std::alloc::{AllocError, Global};
+
+/// A hint that a plan asks for.
+#[derive(Debug, Drop)]
+pub enum Ask {
+    /// How many positions the result has at each tuple of a `let`.
+    Results(Vec<usize>),
+    /// How many positions the context with both copies has.
+    Copies(usize),
+    /// The blocks whose signatures a call may take, ascending.
+    Multiples(Vec<u32>),
+}
+
+/// The hints that a plan asks for, in the order of the walk.
+pub fn asked(alloc: Global, plan: &Plan) -> Result<Vec<Ask>, AllocError>
+    ensures { IfOk result (λ asks. asks_of asks.items ≡ asked (plan_of plan.now)) }
+{
+    let mut asks = Vec::new(alloc);
+    append(alloc, plan, &mut asks)?;
+    Ok(asks)
+}
+
+// Appends them.
+#[cycle(ask)]
+fn append(alloc: Global, plan: &Plan, asks: &mut Vec<Ask>) -> Result<(), AllocError>
+    ensures { OnOk result (asks_of asks.new.items ≡ asks_of asks.old.items ++ asked (plan_of plan.now)) }
+{
+    match plan {
+        Plan::Ends(_, _, _) => Ok(()),
+        Plan::Pays(_, _, rest) => append(alloc, rest, asks),
+        Plan::Moves(_, _, rest) => append(alloc, rest, asks),
+        Plan::Forks(_, _, first, _, second) => append_both(alloc, first, second, asks),
+        Plan::Shares(_, size, _, rest) => append_shared(alloc, *size, rest, asks),
+        Plan::Calls(_, called) => append_called(alloc, called, asks),
+        Plan::Lets(_, parts, firsts, _, rest) => {
+            append_bound(alloc, parts.list(), firsts, rest, asks)
+        }
+    }
+}
+
+// Those of two branches.
+#[cycle(ask)]
+fn append_both(
+    alloc: Global,
+    first: &Plan,
+    second: &Plan,
+    asks: &mut Vec<Ask>,
+) -> Result<(), AllocError>
+    ensures { OnOk result (asks_of asks.new.items ≡ asks_of asks.old.items ++ (asked (plan_of first.now) ++ asked (plan_of second.now))) }
+{
+    append(alloc, first, asks)?;
+    append(alloc, second, asks)
+}
+
+// That of a variable that is shared, and those of the rest.
+#[cycle(ask)]
+fn append_shared(
+    alloc: Global,
+    size: usize,
+    rest: &Plan,
+    asks: &mut Vec<Ask>,
+) -> Result<(), AllocError>
+    ensures { OnOk result (asks_of asks.new.items ≡ asks_of asks.old.items ++ (CopiesOf size ∷ asked (plan_of rest.now))) }
+{
+    asks.push(Ask::Copies(size))?;
+    append(alloc, rest, asks)
+}
+
+// That of a call.
+fn append_called(alloc: Global, called: &Called, asks: &mut Vec<Ask>) -> Result<(), AllocError>
+    ensures { OnOk result (asks_of asks.new.items ≡ asks_of asks.old.items ++ (MultiplesOf called.now.usable.items ∷ [])) }
+{
+    let usable = Vec::from_slice(alloc, &called.usable)?;
+    asks.push(Ask::Multiples(usable))?;
+    Ok(())
+}
+
+// That of a `let`, those of the bound form for each tuple, and those of the rest.
+#[cycle(ask)]
+fn append_bound(
+    alloc: Global,
+    parts: &[Part],
+    firsts: &[Plan],
+    rest: &Plan,
+    asks: &mut Vec<Ask>,
+) -> Result<(), AllocError>
+    ensures { OnOk result (asks_of asks.new.items
+        ≡ asks_of asks.old.items ++ (ResultsOf (sizes_of (map part_of parts.now)) ∷ (each_asked (all_asked (plans_of firsts.now)) (map part_of parts.now) ++ asked (plan_of rest.now)))) }
+{
+    let sizes = result_sizes(alloc, parts)?;
+    asks.push(Ask::Results(sizes))?;
+    append_each(alloc, parts, firsts, asks)?;
+    append(alloc, rest, asks)
+}
+
+// How many positions the result has at each tuple.
+fn result_sizes(alloc: Global, parts: &[Part]) -> Result<Vec<usize>, AllocError>
+    ensures { IfOk result (λ sizes. sizes.items ≡ sizes_of (map part_of parts.now)) }
+{
+    let mut sizes = Vec::with_capacity(alloc, parts.len())?;
+    for part in parts {
+        sizes.push(part.size)?;
+    }
+    Ok(sizes)
+}
+
+// Those of the bound form, for each tuple.
+#[cycle(ask)]
+fn append_each(
+    alloc: Global,
+    parts: &[Part],
+    firsts: &[Plan],
+    asks: &mut Vec<Ask>,
+) -> Result<(), AllocError>
+    ensures { OnOk result (asks_of asks.new.items ≡ asks_of asks.old.items ++ each_asked (all_asked (plans_of firsts.now)) (map part_of parts.now)) }
+{
+    for part in parts {
+        append_at(alloc, firsts, part.degree, asks)?;
+    }
+    Ok(())
+}
+
+// Those of the plan at a place, where there is one.
+#[cycle(ask)]
+fn append_at(
+    alloc: Global,
+    firsts: &[Plan],
+    place: usize,
+    asks: &mut Vec<Ask>,
+) -> Result<(), AllocError>
+    ensures { OnOk result (asks_of asks.new.items ≡ asks_of asks.old.items ++ slice_index_or (all_asked (plans_of firsts.now)) place []) }
+{
+    if place >= firsts.len() {
+        return Ok(());
+    }
+    append(alloc, &firsts[place], asks)?;
+    Ok(())
+}
+
+/// How many numbers the hints have, which are as many unknowns of a task; none exactly where they are
+/// more than `most`.
+pub fn unknowns(asks: &[Ask], most: u32) -> Option<u32>
+    ensures { SomeIff result (counts (asks_of asks.now) ≤ most) (counts (asks_of asks.now)) }
+{
+    let mut count: u32 = 0;
+    for ask in asks {
+        count = add_ask(count, ask, most)?;
+    }
+    Some(count)
+}
+
+// The numbers of one hint more.
+fn add_ask(count: u32, ask: &Ask, most: u32) -> Option<u32>
+    requires { count ≤ most }
+    ensures { SomeIff result (count + counted (ask_of ask.now) ≤ most) (count + counted (ask_of ask.now)) }
+{
+    match ask {
+        Ask::Results(sizes) => add_all(count, sizes, most),
+        Ask::Copies(size) => add(count, *size, most),
+        Ask::Multiples(blocks) => add(count, blocks.len(), most),
+    }
+}
+
+fn add(count: u32, more: usize, most: u32) -> Option<u32>
+    requires { count ≤ most }
+    ensures { SomeIff result (count + more ≤ most) (count + more) }
+{
+    if more <= (most - count) as usize {
+        Some(count + more as u32)
+    } else {
+        None
+    }
+}
+
+fn add_all(count: u32, sizes: &[usize], most: u32) -> Option<u32>
+    requires { count ≤ most }
+    ensures { SomeIff result (count + sum_of sizes.now ≤ most) (count + sum_of sizes.now) }
+{
+    let mut sum = count;
+    for &size in sizes {
+        sum = add(sum, size, most)?;
+    }
+    Some(sum)
+}
