@@ -55,8 +55,8 @@ impl Annot {
     }
 }
 
-// Whether positions ascend and all numbers are positive.
-fn rise(entries: &[(u32, i128)]) -> bool
+/// Whether positions ascend and all numbers are positive.
+pub fn rise(entries: &[(u32, i128)]) -> bool
     ensures { IsTrue result ↔ Rise entries.now }
 {
     let mut least: u64 = 0;

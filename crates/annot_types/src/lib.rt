@@ -6,5 +6,5 @@ mod annot;
 mod block;
 pub mod laws;
 
-pub use annot::Annot;
+pub use annot::{Annot, rise};
 pub use block::{Block, BlockBody, Certificate, Hint, Sig};

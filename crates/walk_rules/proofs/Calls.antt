@@ -54,7 +54,7 @@ numbered_back path j [] fs h = (j, h)
 numbered_back path j (e ∷ es) fs h = numbered_back path (suc j) es fs h.1
 
 -- a multiple may be taken before it is moved
-moved_times : (es : List Entry) (t : ℕ) (q : Annotation) (k : ℕ) → i.moved es (λ j. t * q j) k ≡ t * i.moved es q k
+pub moved_times : (es : List Entry) (t : ℕ) (q : Annotation) (k : ℕ) → i.moved es (λ j. t * q j) k ≡ t * i.moved es q k
 moved_times [] t q k = omega arith
 moved_times (e ∷ es) t q k = by (moved_times es t q k) (e.to == k) where
   by : i.moved es (λ j. t * q j) k ≡ t * i.moved es q k → (c : Bool) → (if c then e.times * (t * q e.from) else 0) + i.moved es (λ j. t * q j) k ≡ t * ((if c then e.times * q e.from else 0) + i.moved es q k)
@@ -137,22 +137,22 @@ usable_has P d f (c ∷ bs) from k h = by (usable_has P d f bs (suc from) k) (is
   by go true e (suc j, l, same) = let t = go (j, omega (arith, l), same) in (t.0, suc t.1, omega (arith, t.2), t.3, t.4)
 
 -- an item of a list that goes over a range
-get_at : {X : Type 0} (h : ℕ → X) (other : X) (from n k : ℕ) → k < n → slice_index_or (map h (range_with_len from n)) k other ≡ h (from + k)
+pub get_at : {X : Type 0} (h : ℕ → X) (other : X) (from n k : ℕ) → k < n → slice_index_or (map h (range_with_len from n)) k other ≡ h (from + k)
 get_at h other from zero k l = absurd (omega (arith, l))
 get_at h other from (suc n) zero l = ap h (omega arith)
 get_at h other from (suc n) (suc k) l = get_at h other (from + 1) n k (omega (arith, l)) ∙ ap h (omega arith)
 
-own_low : (b d : ℕ) → b ≤ max b d
+pub own_low : (b d : ℕ) → b ≤ max b d
 own_low b d = omega (arith, clamps)
 
-low_low : (a b d : ℕ) → a ≤ d → a ≤ max b d
+pub low_low : (a b d : ℕ) → a ≤ d → a ≤ max b d
 low_low a b d h = omega (arith, clamps, h)
 
 more_none : (q : Annotation) (k : ℕ) → more 0 q k ≡ q k
 more_none q zero = omega arith
 more_none q (suc k) = refl
 
-total_append : {X : Type 0} (f : X → ℕ) (xs ys : List X) → total f (xs ++ ys) ≡ total f xs + total f ys
+pub total_append : {X : Type 0} (f : X → ℕ) (xs ys : List X) → total f (xs ++ ys) ≡ total f xs + total f ys
 total_append f [] ys = omega arith
 total_append f (x ∷ xs) ys = omega (arith, total_append f xs ys)
 

@@ -21,7 +21,7 @@ use Rattle.walk_rules.specs.Planned.{place_in}
 use Rattle.walk_rules.specs.Stand.{known_in, Within, StandFor, Stands, Numbered, SidesStand, SidesNumbered, Reads}
 use Rattle.walk_rules.specs.Found.{listed, amounts_of, signature, sides, group_from, free_in, free_from, at_budget, cost_from, ReadsThere}
 
-listed_is : (k : ℕ) (q : Annotation) → Numbered k (listed k q) q
+pub listed_is : (k : ℕ) (q : Annotation) → Numbered k (listed k q) q
 listed_is zero q = record { len = refl; is = λ j h. absurd (omega (arith, h)) }
 listed_is (suc k) q = let s = listed_is k (λ j. q (suc j)) in record { len = ap suc s.len; is = by s } where
   by : Numbered k (listed k (λ j. q (suc j))) (λ j. q (suc j)) → (j : ℕ) → j < suc k → slice_index_or (listed (suc k) q) j 0 ≡ q j
@@ -37,7 +37,7 @@ amounts_length : (ns : List ℕ) → length (amounts_of ns) ≡ length ns
 amounts_length [] = refl
 amounts_length (n ∷ ns) = ap suc (amounts_length ns)
 
-amounts_stand : (k : ℕ) (q : Annotation) → Stands k (amounts_of (listed k q)) q
+pub amounts_stand : (k : ℕ) (q : Annotation) → Stands k (amounts_of (listed k q)) q
 amounts_stand k q = let s = listed_is k q in record {
   len = amounts_length (listed k q) ∙ s.len;
   is = λ j h. let a = amounts_at (listed k q) j in omega (arith, a.0, a.1, s.is j h);

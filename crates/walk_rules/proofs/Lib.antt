@@ -10,5 +10,10 @@ pub mod Calls
 pub mod Covering
 pub mod Asking
 pub mod Finding
+pub mod Shaped
 pub mod Capping
+pub mod Summed
+pub mod Rowed
+pub mod RowedCalls
+pub mod TaskRows
 mod Computed

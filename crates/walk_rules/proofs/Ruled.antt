@@ -51,26 +51,26 @@ types_zip x new (v ∷ C) A g h e = by (types_zip x new C A g) (nat_eq x v.0) h 
       map-append (λ (u : ℕ × Type'). u.1) new C ∙ ap (λ l. l ++ types C) (e ∙ ap g (sym same))
   by go false k = ap (λ l. v.1 ∷ l) (go k e)
 
-types_without : (x : ℕ) (C : Context) → types (without x C) ≡ in_place (place x C) none (types C)
+pub types_without : (x : ℕ) (C : Context) → types (without x C) ≡ in_place (place x C) none (types C)
 types_without x [] = refl
 types_without x (v ∷ C) = by (types_without x C) (nat_eq x v.0) where
   by : types (without x C) ≡ in_place (place x C) none (types C) → (c : Bool) → types (cond c C (v ∷ without x C)) ≡ in_place (cond c 0 (suc (place x C))) none (v.1 ∷ types C)
   by go true = refl
   by go false = ap (λ l. v.1 ∷ l) go
 
-takes_one : (C : Context) (x : ℕ) (A : Type') → Takes C (x ∷ []) (A ∷ []) → types C ≡ A ∷ []
+pub takes_one : (C : Context) (x : ℕ) (A : Type') → Takes C (x ∷ []) (A ∷ []) → types C ≡ A ∷ []
 takes_one [] x A h = let no : ◌≡◌ {A = Option Type'} None (Some A) = h.0 in absurd (cc)
 takes_one (v ∷ C) x A h = by (nat_eq x v.0) h.0 h.1 where
   by : (c : Bool) → cond c (Some v.1) (find x C) ≡ Some A → cond c C (v ∷ without x C) ≡ [] → types (v ∷ C) ≡ A ∷ []
   by true e n = let same : v.1 ≡ A = cc in λ j. same j ∷ types (n j)
   by false e n = let no : ◌≡◌ {A = List (ℕ × Type')} (v ∷ without x C) [] = n in absurd (cc)
 
-types_opened : (x : ℕ) (ys : List ℕ) (parts g : Type' → List Type') (C : Context) (A : Type') → IsIn x A C → types (zip ys (parts A)) ≡ g A → types (opened x ys parts C) ≡ in_place (place x C) g (types C)
+pub types_opened : (x : ℕ) (ys : List ℕ) (parts g : Type' → List Type') (C : Context) (A : Type') → IsIn x A C → types (zip ys (parts A)) ≡ g A → types (opened x ys parts C) ≡ in_place (place x C) g (types C)
 types_opened x ys parts g C A h e =
     types_zip x (zip ys (parts (type_in x C))) C A g h (ap (λ B. types (zip ys (parts B))) (ap type_or h) ∙ e)
 
 -- the bound form's variables
-types_used : (a : Norm) (C : Context) → types (inners a C) ≡ marked_items (marks a C) (types C)
+pub types_used : (a : Norm) (C : Context) → types (inners a C) ≡ marked_items (marks a C) (types C)
 types_used a [] = refl
 types_used a (v ∷ C) = by (types_used a C) (free_in v.0 a) where
   by : types (inners a C) ≡ marked_items (marks a C) (types C) → (c : Bool) → types (cond c (v ∷ inners a C) (inners a C)) ≡ marked_items (c ∷ marks a C) (v.1 ∷ types C)
@@ -90,7 +90,7 @@ zero_before : (j : ℕ) → 0 + j ≡ j
 zero_before j = omega arith
 
 -- entries to a context that has these types
-ranged_to : (c : Carry) (As Bs Ds : List Type') (b d : ℕ) → Ds ≡ Bs → Ranged (size_of As b) (size_of Ds d) (entries_of c As b Bs d)
+pub ranged_to : (c : Carry) (As Bs Ds : List Type') (b d : ℕ) → Ds ≡ Bs → Ranged (size_of As b) (size_of Ds d) (entries_of c As b Bs d)
 ranged_to c As Bs Ds b d e = subst (λ Ds. Ranged (size_of As b) (size_of Ds d) (entries_of c As b Bs d)) (sym e) (ranged c (index_list As b) (index_list Bs d))
 
 -- the plans at lower budgets

@@ -57,16 +57,16 @@ get a k = at (amounts 1) a k
 pub same_annotation : (n : ℕ) (a : List Amount) (q p : Annotation) → Stands n a q → ((k : ℕ) → k < n → q k ≡ p k) → Stands n a p
 same_annotation n a q p s h = record { len = s.len; is = λ k b. omega (arith, s.is k b, h k b) }
 
-abbrev at_place : ℕ → ℕ → ℕ → ℕ
+abbrev pub at_place : ℕ → ℕ → ℕ → ℕ
 at_place i k v = if i == k then v else 0
 
-place_same : (i k v : ℕ) → i ≡ k → at_place i k v ≡ v
+pub place_same : (i k v : ℕ) → i ≡ k → at_place i k v ≡ v
 place_same i k v e = grind (arith, nat_tests, e)
 
-place_other : (i k v : ℕ) → i ≢ k → at_place i k v ≡ 0
+pub place_other : (i k v : ℕ) → i ≢ k → at_place i k v ≡ 0
 place_other i k v e = grind (arith, nat_tests, e)
 
-same_or : (i k : ℕ) → (i ≡ k) ⊎ (i ≢ k)
+pub same_or : (i k : ℕ) → (i ≡ k) ⊎ (i ≢ k)
 same_or i k = grind arith
 
 added_stands : (n : ℕ) (out : List Amount) (p : Annotation) (i t : ℕ) (x : Amount) (v : ℕ) → Stands n out p → i < n → x.plus ≡ v + x.minus →

@@ -12,6 +12,8 @@ pub mod Solving
 pub mod Covered
 pub mod Stand
 pub mod Found
+pub mod Shape
 pub mod Laws
 pub mod Jobs
 pub mod Example
+pub mod Systems

@@ -4,7 +4,9 @@ ghost use Rattle.walk_rules.specs.Covered.{AllAreGiven};
 ghost use Rattle.walk_rules.specs.Example.{Examples};
 ghost use Rattle.walk_rules.specs.Found.{ReadsThere};
 ghost use Rattle.walk_rules.specs.Laws.{RulesAreConditions, RulesAsk};
+ghost use Rattle.walk_rules.specs.Shape.{FittingAnswer};
 ghost use Rattle.walk_rules.specs.Solving.{FormsWalkAsAmounts, RowsAreConditions};
+ghost use Rattle.walk_rules.specs.Systems.{SystemsAreWalked};
 
 /// The walk over sums of unknowns, evaluated, is the walk over amounts.
 pub fn forms_walk_as_amounts()
@@ -15,6 +17,11 @@ pub fn forms_walk_as_amounts()
 /// conditions.
 pub fn rows_are_conditions()
     ensures { RowsAreConditions }
+{}
+
+/// The system of a task is that of its job.
+pub fn systems_are_walked()
+    ensures { SystemsAreWalked }
 {}
 
 /// All signatures and hints of the right sizes are given by some numbers, in the order of unknowns.
@@ -30,6 +37,11 @@ pub fn rules_are_conditions()
 /// The hints that the rules take are those that the plan asks for.
 pub fn rules_ask()
     ensures { RulesAsk }
+{}
+
+/// Hints of the shape that is asked for answer all that is asked for.
+pub fn fitting_hints_answer()
+    ensures { FittingAnswer }
 {}
 
 /// What a walk knows of signatures can be listed, for each setting, as the rules find them.
