@@ -19,7 +19,7 @@ use Rattle.value_text.specs.Printing.{StandsForSome}
 use Rattle.metered_vm.specs.Moving.{TakesCell}
 use Rattle.metered_vm.specs.Seen.{Seen, program_in, fun_in, args_in, cells_in, state_in, Kept, Begins, GoesOn}
 use Rattle.metered_vm.specs.Ending.{HasHalted, HasStopped, IsFull, next_of}
-use Rattle.raml_words.specs.Words.{Limits}
+use Rattle.raml_top.specs.Asked.{Limits}
 use Rattle.raml_top.specs.Report.{value_lines, stopped_lines, full_lines}
 use Rattle.raml_top.specs.Call.{Finishes, Stops, Fills}
 use Rattle.raml_top.specs.Promise.{Ran}
