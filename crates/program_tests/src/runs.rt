@@ -1,5 +1,5 @@
 // Programs that are run, with their values and meters, worked out by hand.
-use crate::calls::answer_on;
+use crate::calls::{answer_on, compare_on};
 use std::alloc::Global;
 use std::fmt::Write;
 use std::process::Abort;
@@ -87,55 +87,79 @@ fn one_less(alloc: Global, word: &str) -> Result<Option<String>, Fail> {
     }
 }
 
+// The answer of a run that has its value.
+fn value_told(alloc: Global, run: Run<'_>) -> Result<String, Fail> {
+    let (value, ticks, cells, made) = (run.value, run.ticks, run.cells, run.made);
+    Ok(format!(in alloc; "0 value {value}\nticks {ticks}\ncells {cells}\ninstructions {made}\n")?)
+}
+
 // Within just the instructions and cells that it takes, the run has its value.
 fn check_value(rt: &impl Abort, alloc: Global, run: Run<'_>) -> Result<(), Fail> {
     let found = run_within(alloc, run, run.made, run.cells)?;
-    let (value, ticks, cells, made) = (run.value, run.ticks, run.cells, run.made);
-    let want = format!(in alloc;
-        "0 value {value}\nticks {ticks}\ncells {cells}\ninstructions {made}\n"
-    )?;
+    let want = value_told(alloc, run)?;
+    assert_eq!(rt; found.as_str(), want.as_str(), "at {}", run.source);
+    Ok(())
+}
+
+// The answer of a run that is stopped after so many steps.
+fn stop_told(alloc: Global, run: Run<'_>, steps: &str) -> Result<String, Fail> {
+    let (ticks, cells) = (run.ticks, run.cells);
+    Ok(format!(in alloc; "10 stopped\nticks {ticks}\ncells {cells}\ninstructions {steps}\n")?)
+}
+
+// Within so many steps it is stopped before it returns.
+fn check_stop_at(rt: &impl Abort, alloc: Global, run: Run<'_>, steps: &str) -> Result<(), Fail> {
+    let found = run_within(alloc, run, steps, run.cells)?;
+    let want = stop_told(alloc, run, steps)?;
     assert_eq!(rt; found.as_str(), want.as_str(), "at {}", run.source);
     Ok(())
 }
 
 // Within one instruction less it is stopped before it returns.
 fn check_stop(rt: &impl Abort, alloc: Global, run: Run<'_>) -> Result<(), Fail> {
-    let Some(steps) = one_less(alloc, run.made)? else {
-        return Err(Fail::from("a run without instructions"));
-    };
-    let found = run_within(alloc, run, steps.as_str(), run.cells)?;
-    let (ticks, cells) = (run.ticks, run.cells);
-    let want = format!(in alloc;
-        "10 stopped\nticks {ticks}\ncells {cells}\ninstructions {steps}\n"
-    )?;
-    assert_eq!(rt; found.as_str(), want.as_str(), "at {}", run.source);
+    match one_less(alloc, run.made)? {
+        Some(steps) => check_stop_at(rt, alloc, run, steps.as_str()),
+        None => Err(Fail::from("a run without instructions")),
+    }
+}
+
+// Whether an answer tells that so many cells are full.
+fn tells_full(alloc: Global, answer: &str, cells: &str) -> Result<bool, Fail> {
+    let want = format!(in alloc; "\ncells {cells}\n")?;
+    Ok(answer.starts_with("11 heap full\n") && answer.contains(want.as_str()))
+}
+
+// With so many cells it asks for one too many.
+fn check_full_at(rt: &impl Abort, alloc: Global, run: Run<'_>, cells: &str) -> Result<(), Fail> {
+    let found = run_within(alloc, run, run.made, cells)?;
+    assert!(rt;
+        tells_full(alloc, found.as_str(), cells)?,
+        "at {}",
+        run.source
+    );
     Ok(())
 }
 
 // Within one cell less it asks for one too many.
 fn check_full(rt: &impl Abort, alloc: Global, run: Run<'_>) -> Result<(), Fail> {
-    let Some(cells) = one_less(alloc, run.cells)? else {
-        return Ok(());
-    };
-    let found = run_within(alloc, run, run.made, cells.as_str())?;
-    let want = format!(in alloc; "\ncells {cells}\n")?;
-    assert!(rt;
-        found.as_str().starts_with("11 heap full\n"),
-        "at {}",
-        run.source
-    );
-    assert!(rt; found.as_str().contains(want.as_str()), "at {}", run.source);
-    Ok(())
+    match one_less(alloc, run.cells)? {
+        Some(cells) => check_full_at(rt, alloc, run, cells.as_str()),
+        None => Ok(()),
+    }
+}
+
+// The three runs of a line.
+fn check_line(rt: &impl Abort, alloc: Global, line: &str) -> Result<(), Fail> {
+    let run = read_run(alloc, line)?;
+    check_value(rt, alloc, run)?;
+    check_stop(rt, alloc, run)?;
+    check_full(rt, alloc, run)
 }
 
 #[test]
 fn runs_have_their_values_and_meters(rt: HostRuntime) -> Result<(), Fail> {
-    let alloc = rt.alloc();
     for line in RUNS.lines() {
-        let run = read_run(alloc, line)?;
-        check_value(&rt, alloc, run)?;
-        check_stop(&rt, alloc, run)?;
-        check_full(&rt, alloc, run)?;
+        check_line(&rt, rt.alloc(), line)?;
     }
     Ok(())
 }
@@ -157,24 +181,37 @@ fun f (x : int option) : bool = match x with none -> false | some(i) -> true; f 
 fun f (x : int option) : bool = match x with none -> false | some(i) -> true; f d; some; 5 raml: data: shape at 4
 fun f (x : int option) : bool = match x with none -> false | some(i) -> true; f d; nil; 5 raml: data: shape at 0";
 
+// What a run answers, with these words behind `run f.raml`.
+fn answer_to(alloc: Global, words: &str, source: &str, data: &str) -> Result<String, Fail> {
+    let words = format!(in alloc; "run f.raml {words}")?;
+    let words: Vec<&str> = words.as_str().split(' ').collect(alloc)?;
+    answer_on(alloc, &words, source.as_bytes(), data.as_bytes())
+}
+
+// The lines that are joined by ` / `.
+fn lines_of(alloc: Global, answer: &str) -> Result<String, Fail> {
+    let mut lines = String::new(alloc);
+    for text in answer.split(" / ") {
+        write!(lines, "{text}\n")?;
+    }
+    Ok(lines)
+}
+
+// Whether a run answers so.
+fn ends_so(alloc: Global, fields: &[&str]) -> Result<bool, Fail> {
+    let [source, words, data, answer] = fields else {
+        return Err(Fail::from("a line of another kind"));
+    };
+    let found = answer_to(alloc, words, source, data)?;
+    let want = lines_of(alloc, answer)?;
+    Ok(found == want)
+}
+
 #[test]
 fn runs_end_as_their_machines_do(rt: HostRuntime) -> Result<(), Fail> {
-    let alloc = rt.alloc();
     for line in ENDS.lines() {
-        let fields: Vec<&str> = line.split("; ").collect(alloc)?;
-        let [source, words, data, answer] = fields.as_slice() else {
-            return Err(Fail::from("a line of another kind"));
-        };
-        let mut all: Vec<&str> = ["run", "f.raml"].iter().copied().collect(alloc)?;
-        for word in words.split(' ') {
-            all.push(word)?;
-        }
-        let found = answer_on(alloc, &all, source.as_bytes(), data.as_bytes())?;
-        let mut want = String::new(alloc);
-        for text in answer.split(" / ") {
-            write!(want, "{text}\n")?;
-        }
-        assert_eq!(rt; found.as_str(), want.as_str(), "at {line}");
+        let fields: Vec<&str> = line.split("; ").collect(rt.alloc())?;
+        assert!(rt; ends_so(rt.alloc(), &fields)?, "at {line}");
     }
     Ok(())
 }
@@ -200,6 +237,14 @@ fn a_program_has_its_code(rt: HostRuntime) -> Result<(), Fail> {
     Ok(())
 }
 
+// Adds the text so many times.
+fn push_repeated(all: &mut String, text: &str, count: u32) -> Result<(), Fail> {
+    for _ in 0..count {
+        all.push_str(text)?;
+    }
+    Ok(())
+}
+
 // A text of so many parts: the front, a part each time, the inmost, and what closes it each time.
 fn parts(
     alloc: Global,
@@ -210,53 +255,52 @@ fn parts(
     closing: &str,
 ) -> Result<String, Fail> {
     let mut text = String::from_str(alloc, front)?;
-    for _ in 0..count {
-        text.push_str(part)?;
-    }
+    push_repeated(&mut text, part, count)?;
     text.push_str(inmost)?;
-    for _ in 0..count {
-        text.push_str(closing)?;
-    }
+    push_repeated(&mut text, closing, count)?;
     Ok(text)
 }
+
+// A program; how many parts may stand, the front, a part, the inmost, what closes; and what is told of one more.
+const LIMITS: [(
+    &str,
+    u32,
+    &str,
+    &str,
+    &str,
+    &str,
+    &str,
+); 2] = [
+    (
+        "fun f (t : int tree) : int = 0",
+        399,
+        "",
+        "node(0, ",
+        "leaf",
+        ", leaf)",
+        "5 raml: data: too deep at 3192\n",
+    ),
+    (
+        "fun f (l : int list) : int = 0",
+        1_048_575,
+        "[",
+        "0,",
+        "0]",
+        "",
+        "5 raml: data: too many cells\n",
+    ),
+];
 
 #[test]
 fn data_has_limits_of_height_and_cells(rt: HostRuntime) -> Result<(), Fail> {
     let alloc = rt.alloc();
-    let tree = "fun f (t : int tree) : int = 0";
-    let list = "fun f (l : int list) : int = 0";
-    // A program; how many parts may stand, the front, a part, the inmost, what closes; and what is told of one more.
-    let cases: [(&str, u32, &str, &str, &str, &str, &str); 2] = [
-        (
-            tree,
-            399,
-            "",
-            "node(0, ",
-            "leaf",
-            ", leaf)",
-            "5 raml: data: too deep at 3192\n",
-        ),
-        (
-            list,
-            1_048_575,
-            "[",
-            "0,",
-            "0]",
-            "",
-            "5 raml: data: too many cells\n",
-        ),
-    ];
-    for (source, most, front, part, inmost, closing, told) in cases {
-        let words = ["run", "f.raml", "f", "d"];
+    let words = ["run", "f.raml", "f", "d"];
+    let zero = "0 value 0\nticks 0\ncells 0\ninstructions 2\n";
+    for (source, most, front, part, inmost, closing, told) in LIMITS {
         let data = parts(alloc, most, front, part, inmost, closing)?;
-        let found = answer_on(alloc, &words, source.as_bytes(), data.as_bytes())?;
-        assert_eq!(rt;
-            found.as_str(),
-            "0 value 0\nticks 0\ncells 0\ninstructions 2\n"
-        );
-        let data = parts(alloc, most + 1, front, part, inmost, closing)?;
-        let found = answer_on(alloc, &words, source.as_bytes(), data.as_bytes())?;
-        assert_eq!(rt; found.as_str(), told);
+        compare_on(&rt, alloc, &words, source, data.as_str(), zero)?;
+        let data = parts(alloc, most.saturating_add(1), front, part, inmost, closing)?;
+        compare_on(&rt, alloc, &words, source, data.as_str(), told)?;
     }
     Ok(())
 }

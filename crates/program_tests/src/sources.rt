@@ -1,5 +1,5 @@
 // Programs with their bounds, their types or their first fault, worked out by hand.
-use crate::calls::{ANALYSE, TYPES, answer};
+use crate::calls::{ANALYSE, TYPES, answer, compare};
 use std::alloc::Global;
 use std::fmt::Write;
 use std::process::Abort;
@@ -334,24 +334,25 @@ fn unmarked(alloc: Global, marked: &str) -> Result<String, Fail> {
     Ok(source)
 }
 
-// Each line of the table: a text, and what is told of it.
+// What is told of a text, with the place of its mark.
+fn told(alloc: Global, marked: &str, fault: &str) -> Result<String, Fail> {
+    let place = marked.find('^').unwrap_or(0);
+    let (front, back) = fault.split_once('^').ok_or("a fault without a place")?;
+    Ok(format!(in alloc; "4 raml: source: {front}{place}{back}\n")?)
+}
+
+// Both commands tell the fault of a line: a text, and what is told of it.
+fn compare_fault(rt: &impl Abort, alloc: Global, line: &str) -> Result<(), Fail> {
+    let (marked, fault) = line.split_once(" => ").ok_or("a line without an answer")?;
+    let want = told(alloc, marked, fault)?;
+    let source = unmarked(alloc, marked)?;
+    compare(rt, alloc, &ANALYSE, source.as_str(), want.as_str())?;
+    compare(rt, alloc, &TYPES, source.as_str(), want.as_str())
+}
+
 fn compare_faults(rt: &impl Abort, alloc: Global, table: &str) -> Result<(), Fail> {
     for line in table.lines() {
-        let Some((marked, fault)) = line.split_once(" => ") else {
-            return Err(Fail::from("a line without an answer"));
-        };
-        let mut want = String::from_str(alloc, "4 raml: source: ")?;
-        let place = marked.find('^').unwrap_or(0);
-        match fault.split_once('^') {
-            Some((front, back)) => write!(want, "{front}{place}{back}")?,
-            None => want.push_str(fault)?,
-        }
-        want.push_str("\n")?;
-        let source = unmarked(alloc, marked)?;
-        for words in [&ANALYSE[..], &TYPES[..]] {
-            let found = answer(alloc, words, source.as_bytes())?;
-            assert_eq!(rt; found.as_str(), want.as_str(), "at {line}");
-        }
+        compare_fault(rt, alloc, line)?;
     }
     Ok(())
 }
@@ -366,16 +367,17 @@ fn programs_have_the_first_fault_of_their_types(rt: HostRuntime) -> Result<(), F
     compare_faults(&rt, rt.alloc(), UNTYPED)
 }
 
+// Compares the bounds of a line's function.
+fn compare_bounds(rt: &impl Abort, alloc: Global, line: &str) -> Result<(), Fail> {
+    let (source, ticks) = line.split_once(" => ").ok_or("a line without an answer")?;
+    let want = format!(in alloc; "0 f ticks <= {ticks}\nf cells <= 0\n")?;
+    compare(rt, alloc, &ANALYSE, source, want.as_str())
+}
+
 #[test]
 fn straight_functions_have_their_bounds(rt: HostRuntime) -> Result<(), Fail> {
     for line in STRAIGHT.lines() {
-        let Some((source, ticks)) = line.split_once(" => ") else {
-            return Err(Fail::from("a line without an answer"));
-        };
-        let mut want = String::new(rt.alloc());
-        write!(want, "0 f ticks <= {ticks}\nf cells <= 0\n")?;
-        let found = answer(rt.alloc(), &ANALYSE, source.as_bytes())?;
-        assert_eq!(rt; found.as_str(), want.as_str(), "at {line}");
+        compare_bounds(&rt, rt.alloc(), line)?;
     }
     Ok(())
 }
@@ -383,26 +385,41 @@ fn straight_functions_have_their_bounds(rt: HostRuntime) -> Result<(), Fail> {
 #[test]
 fn other_programs_are_not_analysed(rt: HostRuntime) -> Result<(), Fail> {
     for line in OTHER.lines() {
-        let found = answer(rt.alloc(), &ANALYSE, line.as_bytes())?;
-        assert_eq!(rt; found.as_str(), "20 raml: not built\n", "at {line}");
-        let found = answer(rt.alloc(), &["run", "f.raml", "nope", "d"], line.as_bytes())?;
-        assert_eq!(rt; found.as_str(), "6 raml: no function\n", "at {line}");
+        compare(&rt, rt.alloc(), &ANALYSE, line, "20 raml: not built\n")?;
+        let words = ["run", "f.raml", "nope", "d"];
+        compare(&rt, rt.alloc(), &words, line, "6 raml: no function\n")?;
     }
     Ok(())
+}
+
+// The lines of types that are joined by `; `.
+fn lines_of(alloc: Global, types: &str) -> Result<String, Fail> {
+    let mut lines = String::from_str(alloc, "0 ")?;
+    for text in types.split("; ") {
+        write!(lines, "{text}\n")?;
+    }
+    Ok(lines)
+}
+
+// Compares the types of a line's functions.
+fn compare_types(rt: &impl Abort, alloc: Global, line: &str) -> Result<(), Fail> {
+    let (source, types) = line.split_once(" => ").ok_or("a line without an answer")?;
+    let want = lines_of(alloc, types)?;
+    compare(rt, alloc, &TYPES, source, want.as_str())
 }
 
 #[test]
 fn programs_have_their_types(rt: HostRuntime) -> Result<(), Fail> {
     for line in TYPED.lines() {
-        let Some((source, types)) = line.split_once(" => ") else {
-            return Err(Fail::from("a line without an answer"));
-        };
-        let mut want = String::from_str(rt.alloc(), "0 ")?;
-        for text in types.split("; ") {
-            write!(want, "{text}\n")?;
-        }
-        let found = answer(rt.alloc(), &TYPES, source.as_bytes())?;
-        assert_eq!(rt; found.as_str(), want.as_str(), "at {line}");
+        compare_types(&rt, rt.alloc(), line)?;
+    }
+    Ok(())
+}
+
+// Adds the text so many times.
+fn push_repeated(source: &mut String, text: &str, count: u32) -> Result<(), Fail> {
+    for _ in 0..count {
+        source.push_str(text)?;
     }
     Ok(())
 }
@@ -417,86 +434,125 @@ fn nested(
     closing: &str,
 ) -> Result<String, Fail> {
     let mut source = String::from_str(alloc, front)?;
-    for _ in 0..count {
-        source.push_str(opening)?;
-    }
+    push_repeated(&mut source, opening, count)?;
     source.push_str(inmost)?;
-    for _ in 0..count {
-        source.push_str(closing)?;
-    }
+    push_repeated(&mut source, closing, count)?;
     Ok(source)
 }
+
+// How often it may be, what stands at the front, opens, is inmost and closes; and where one more is too deep.
+const HEIGHTS: [(
+    u32,
+    &str,
+    &str,
+    &str,
+    &str,
+    u32,
+); 8] = [
+    (199, "fun main (x : int) : int = ", "(", "x", ")", 226),
+    (199, "fun f (x : int) : int = ", "x + ", "x", "", 822),
+    (
+        199,
+        "fun f (x : int) : int list = ",
+        "x :: ",
+        "nil",
+        "",
+        1026,
+    ),
+    (199, "fun f (x : int) : int = ", "tick 1 in ", "x", "", 2014),
+    (199, "fun f (x : bool) : bool = ", "not ", "x", "", 822),
+    (199, "fun f (x : ", "int * ", "int) : int = 0", "", 1209),
+    (199, "fun f (x : int", " list", ") : int = 0", "", 1010),
+    (
+        198,
+        "fun f (x : int) : int = (x : int",
+        " list",
+        ")",
+        "",
+        1023,
+    ),
+];
 
 #[test]
 fn heights_have_a_limit(rt: HostRuntime) -> Result<(), Fail> {
     let alloc = rt.alloc();
-    // How often it may be, what stands at the front, opens, is inmost and closes; and where one more is too deep.
-    let cases: [(u32, &str, &str, &str, &str, u32); 8] = [
-        (199, "fun main (x : int) : int = ", "(", "x", ")", 226),
-        (199, "fun f (x : int) : int = ", "x + ", "x", "", 822),
-        (
-            199,
-            "fun f (x : int) : int list = ",
-            "x :: ",
-            "nil",
-            "",
-            1026,
-        ),
-        (199, "fun f (x : int) : int = ", "tick 1 in ", "x", "", 2014),
-        (199, "fun f (x : bool) : bool = ", "not ", "x", "", 822),
-        (199, "fun f (x : ", "int * ", "int) : int = 0", "", 1209),
-        (199, "fun f (x : int", " list", ") : int = 0", "", 1010),
-        (
-            198,
-            "fun f (x : int) : int = (x : int",
-            " list",
-            ")",
-            "",
-            1023,
-        ),
-    ];
-    for (most, front, opening, inmost, closing, place) in cases {
+    for (most, front, opening, inmost, closing, place) in HEIGHTS {
         let source = nested(alloc, most, front, opening, inmost, closing)?;
-        let found = answer(alloc, &TYPES, source.as_bytes())?;
-        assert!(rt; !found.as_str().contains("too deep"), "at {front}");
-        let mut want = String::new(alloc);
-        write!(want, "4 raml: source: too deep at {place}\n")?;
-        let source = nested(alloc, most + 1, front, opening, inmost, closing)?;
-        let found = answer(alloc, &TYPES, source.as_bytes())?;
-        assert_eq!(rt; found.as_str(), want.as_str());
+        assert!(rt; is_low(alloc, source.as_str())?, "at {front}");
+        let source = nested(
+            alloc,
+            most.saturating_add(1),
+            front,
+            opening,
+            inmost,
+            closing,
+        )?;
+        assert!(rt; is_too_deep(alloc, source.as_str(), place)?, "at {front}");
     }
     Ok(())
+}
+
+// Whether nothing is told of a height.
+fn is_low(alloc: Global, source: &str) -> Result<bool, Fail> {
+    let found = answer(alloc, &TYPES, source.as_bytes())?;
+    Ok(!found.as_str().contains("too deep"))
+}
+
+// Whether it is told that the source is too deep at just this place.
+fn is_too_deep(alloc: Global, source: &str, place: u32) -> Result<bool, Fail> {
+    let found = answer(alloc, &TYPES, source.as_bytes())?;
+    let want = format!(in alloc; "4 raml: source: too deep at {place}\n")?;
+    Ok(found == want)
+}
+
+// As many functions as a program may have.
+fn many_functions(alloc: Global) -> Result<String, Fail> {
+    let mut source = String::new(alloc);
+    for number in 0..256 {
+        write!(source, "fun f{number} (x : int) : int = x ")?;
+    }
+    Ok(source)
+}
+
+// The lines of their types.
+fn many_types(alloc: Global) -> Result<String, Fail> {
+    let mut lines = String::from_str(alloc, "0 ")?;
+    for number in 0..256 {
+        write!(lines, "f{number} (int) : int\n")?;
+    }
+    Ok(lines)
+}
+
+// What is told of one function more, which begins behind the others.
+fn one_more(alloc: Global, place: usize) -> Result<String, Fail> {
+    Ok(format!(in alloc; "4 raml: source: too many at {place}\n")?)
 }
 
 #[test]
 fn programs_have_256_functions_at_most(rt: HostRuntime) -> Result<(), Fail> {
-    let alloc = rt.alloc();
-    let mut source = String::new(alloc);
-    let mut want = String::from_str(alloc, "0 ")?;
-    for number in 0..256 {
-        write!(source, "fun f{number} (x : int) : int = x ")?;
-        write!(want, "f{number} (int) : int\n")?;
-    }
-    let found = answer(alloc, &TYPES, source.as_bytes())?;
-    assert_eq!(rt; found.as_str(), want.as_str());
-    let mut want = String::new(alloc);
-    write!(want, "4 raml: source: too many at {}\n", source.len())?;
+    let mut source = many_functions(rt.alloc())?;
+    let types = many_types(rt.alloc())?;
+    compare(&rt, rt.alloc(), &TYPES, source.as_str(), types.as_str())?;
+    let refusal = one_more(rt.alloc(), source.len())?;
     source.push_str("fun g (x : int) : int = x")?;
-    let found = answer(alloc, &TYPES, source.as_bytes())?;
-    assert_eq!(rt; found.as_str(), want.as_str());
-    Ok(())
+    compare(&rt, rt.alloc(), &TYPES, source.as_str(), refusal.as_str())
 }
+
+// Whether the source is refused.
+fn is_refused(alloc: Global, source: &[u8]) -> Result<bool, Fail> {
+    Ok(answer(alloc, &TYPES, source)?.as_str().starts_with('4'))
+}
+
+const APPEND: &str =
+    "fun append (x : int list, y : int list) : int list = match x with nil -> y | h :: t -> h :: append(t, y)";
 
 #[test]
 fn a_text_that_is_cut_off_is_refused(rt: HostRuntime) -> Result<(), Fail> {
-    let source: &[u8] =
-        b"fun append (x : int list, y : int list) : int list = match x with nil -> y | h :: t -> h :: append(t, y)";
     let want = "0 append (int list, int list) : int list\n";
-    let found = answer(rt.alloc(), &TYPES, source)?;
-    assert_eq!(rt; found.as_str(), want);
+    compare(&rt, rt.alloc(), &TYPES, APPEND, want)?;
+    let source = APPEND.as_bytes();
     for length in 0..source.len() {
-        let found = answer(rt.alloc(), &TYPES, &source[..length])?;
-        assert!(rt; found.as_str().starts_with('4'), "at {length}");
+        assert!(rt; is_refused(rt.alloc(), &source[..length])?, "at {length}");
     }
     Ok(())
 }
