@@ -15,8 +15,7 @@ use Rattle.normal_form.specs.Norm.{Norm, NormFun}
 use Rattle.normal_form.specs.Run.{NormEnv, value_at, bind_norm, NormCalls, walk_norm, less_one, variables_of, enter_norm, norm_calls_at, run_norm}
 use Rattle.normal_form.specs.Context.{Context, types, AreNew, Distinct}
 use Rattle.normal_form.specs.Uses.{types_of, first_nodes, IsNormal}
-use Rattle.normal_form.proofs.KeepCalls.{calls_keep}
-use Rattle.amortised_bounds.proofs.Functions.{keys, has_keys, all_at}
+use Rattle.normal_form.proofs.KeepCalls.{keys, has_keys, all_at, calls_keep}
 use Rattle.cost_free.specs.declared.task.Meter.{Meter}
 use Rattle.cost_free.specs.declared.task.Meter.TheVariants.{Ticks, Cells, Work}
 use Rattle.cost_free.specs.Task as k

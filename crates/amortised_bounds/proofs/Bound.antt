@@ -13,7 +13,7 @@ use Rattle.index_shift.specs.Potential.{potential}
 use Rattle.index_shift.proofs.Brought.{weighed_none, weighed_sum, worth_at, one_moved}
 use Rattle.normal_form.specs.Norm.{NormFun}
 use Rattle.normal_form.specs.Uses.{types_of, IsNormal}
-use Rattle.amortised_bounds.proofs.Functions.{all_at}
+use Rattle.normal_form.proofs.KeepCalls.{all_at}
 use Rattle.cost_free.specs.declared.task.Meter.{Meter}
 use Rattle.annot_types.specs.Program.{Program}
 use Rattle.annot_types.specs.Certificate.{Entries, number_at, annotation, Sig, Certificate}

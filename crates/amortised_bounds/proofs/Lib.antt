@@ -1,4 +1,3 @@
-mod Functions
 pub mod Weighed
 pub mod Carried
 pub mod Contexts

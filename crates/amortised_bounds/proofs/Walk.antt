@@ -21,8 +21,7 @@ use Rattle.normal_form.specs.Free.{has}
 use Rattle.normal_form.specs.Run.{NormEnv, value_at, values_at, NormCalls, spend, walk_norm}
 use Rattle.normal_form.specs.Context.{Context, types, place, without, opened, parts_of, copies_of, inners, others}
 use Rattle.normal_form.specs.Uses.{Takes, Uses, types_of}
-use Rattle.normal_form.proofs.KeepTypes.{walk_keeps}
-use Rattle.amortised_bounds.proofs.Functions.{negation_has}
+use Rattle.normal_form.proofs.KeepTypes.{walk_keeps, negation_has}
 use Rattle.annot_types.specs.Certificate.{Entries, annotation, Annotates, Hint, Let, Share, Call}
 use Rattle.annot_types.specs.Carried.{Covers, less, at_parts, tuples, part, joined}
 use Rattle.annot_types.specs.Rules.{Mode, Past, Setting, price, TakesLet, TakesShare, TakesCall, CallRule, Parts, left, all_taken, Ann}

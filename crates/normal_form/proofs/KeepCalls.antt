@@ -15,15 +15,15 @@ use Rattle.normal_form.proofs.StepOne.{value_newest}
 use Rattle.normal_form.proofs.Runs.{value_bind}
 use Rattle.normal_form.proofs.KeepTypes.{Holds, walk_keeps}
 
-all_at : (Q : NormFun → Type 0) (N : NormProg) (k : ℕ) (g : NormFun) → All Q N → slice_get N k ≡ Some g → Q g
+pub all_at : (Q : NormFun → Type 0) (N : NormProg) (k : ℕ) (g : NormFun) → All Q N → slice_get N k ≡ Some g → Q g
 all_at Q [] k g all e = absurd (cc)
 all_at Q (d ∷ N) zero g all e = let same : d ≡ g = cc in subst Q same (All-head Q d N all)
 all_at Q (d ∷ N) (suc k) g all e = all_at Q N k g (All-tail Q d N all) e
 
-abbrev keys : Context → List ℕ
+abbrev pub keys : Context → List ℕ
 keys C = map (λ (p : ℕ × Type'). p.0) C
 
-has_keys : (x : ℕ) (C : Context) → among x (keys C) ≡ has x C
+pub has_keys : (x : ℕ) (C : Context) → among x (keys C) ≡ has x C
 has_keys x [] = refl
 has_keys x (b ∷ C) = ap (λ z. nat_eq x b.0 || z) (has_keys x C)
 

@@ -159,7 +159,7 @@ then_inv {A} {B} r f y e = by r.out refl e
 gives : (T : Type') (v w : Value) → Some v ≡ Some w → Has v T → Has w T
 gives T v w e h = subst (λ x. Has x T) (some_is v w e) h
 
-negation_has : (v : Value) → Has (negation v) Boolean
+pub negation_has : (v : Value) → Has (negation v) Boolean
 negation_has (Truth true) = tt
 negation_has _ = tt
 
