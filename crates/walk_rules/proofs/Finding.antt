@@ -1,7 +1,6 @@
 -- The signatures that a walk finds are those of the rules.
 use Rattle.std.proofs.Common.{◌≡◌, refl, ap, sym, ◌∙◌, arith, subst}
 use Rattle.std.specs.Prelude.{ℕ, zero, suc, ◌+◌, ◌<◌, Bool, true, false, cond, nat_eq, nat_le, List, [], ◌∷◌, length, slice_get, slice_index_or, Option, None, Some, option_map}
-use Rattle.std.specs.Option.{unwrap_or}
 use Rattle.std.proofs.lemmas.Bool.Decides.{nat_tests}
 use Rattle.index_shift.specs.Potential.{Annotation}
 use Rattle.normal_form.specs.Norm.{NormFun}
@@ -19,7 +18,7 @@ use Rattle.walk_rules.specs.Kinds.{Amount, amounts}
 use Rattle.walk_rules.specs.Walk.{at}
 use Rattle.walk_rules.specs.Planned.{place_in}
 use Rattle.walk_rules.specs.Stand.{known_in, Within, StandFor, Stands, Numbered, SidesStand, SidesNumbered, Reads}
-use Rattle.walk_rules.specs.Found.{listed, amounts_of, signature, sides, group_from, free_in, free_from, at_budget, cost_from, ReadsThere}
+use Rattle.walk_rules.specs.Found.{listed, amounts_of, signature, free_signature, sides, group_from, free_in, free_from, at_budget, cost_from, ReadsThere}
 
 pub listed_is : (k : ℕ) (q : Annotation) → Numbered k (listed k q) q
 listed_is zero q = record { len = refl; is = λ j h. absurd (omega (arith, h)) }
@@ -100,9 +99,9 @@ module _ (S : Setting) where
   cost_not o (Some s) h = let no : ◌≡◌ {A = Option Signature} (Some (signature o S.budget (Some s))) None = h in absurd (cc)
 
   free_there : (o : Option NormFun) (g : NormFun) (budget : ℕ) (b : Option ℕ) (c : Option cert.Sig) (s : cert.Sig) → o ≡ Some g → b ≡ Some budget → c ≡ Some s →
-      SidesNumbered g budget (signature o (unwrap_or b 0) c) s
-  free_there o g budget b c s e h k = subst (λ c. SidesNumbered g budget (signature o (unwrap_or b 0) c) s) (sym k)
-      (subst (λ b. SidesNumbered g budget (signature o (unwrap_or b 0) (Some s)) s) (sym h) (signed o g budget s e))
+      SidesNumbered g budget (free_signature o b c) s
+  free_there o g budget b c s e h k = subst (λ c. SidesNumbered g budget (free_signature o b c) s) (sym k)
+      (subst (λ b. SidesNumbered g budget (free_signature o b (Some s)) s) (sym h) (signed o g budget s e))
 
 pub reads_there : ReadsThere
 reads_there S l = record {

@@ -1,7 +1,6 @@
 -- The rows of a call are those of its walk over sums.
 use Rattle.std.proofs.Common.{◌≡◌, refl, ap, sym, ◌∙◌, arith, subst}
 use Rattle.std.specs.Prelude.{ℕ, zero, suc, max, ◌+◌, ◌-◌, ◌*◌, ◌<◌, ◌≤◌, nat_eq, nat_le, Bool, true, false, cond, ◌||◌, ℤ, pos, ◌-ℤ◌, List, [], ◌∷◌, ◌++◌, map, filter, flat_map, length, slice_get, slice_index_or, option_map, Option, None, Some}
-use Rattle.std.specs.Option.{unwrap_or}
 use Rattle.std.specs.List.{range_with_len, list_any}
 use Rattle.std.proofs.lemmas.Int.{ints}
 use Rattle.std.proofs.lemmas.List.{map-append}
@@ -32,7 +31,7 @@ use Rattle.walk_rules.specs.Walk as k
 use Rattle.walk_rules.specs.Walk.{only, numbered, at, at_zero, nothing, brought, multiples, numbers, against}
 use Rattle.walk_rules.specs.Asked.{given, given_blocks, answers}
 use Rattle.walk_rules.specs.Planned.{entries_of, operand_entries, place_in, is_usable, usable_from, called}
-use Rattle.walk_rules.specs.Found.{signature, free_in, free_from, at_budget, cost_from}
+use Rattle.walk_rules.specs.Found.{signature, free_signature, free_in, free_from, at_budget, cost_from}
 use Rattle.walk_rules.specs.Stand.{Numbered}
 use Rattle.walk_rules.specs.Systems.{Sum, sums, told_at, row_at, PaidFor}
 use Rattle.walk_rules.proofs.Standing.{some_position, ranged}
@@ -255,7 +254,7 @@ module _ (S : Setting) (own : List Unsolved) (x : Assignment) (group : List (Sid
           deep true l =
               let low : budget ≤ max S.budget d = low_low budget S.budget d (grind (arith, nat_tests, l)) in
               let sg = signature (slice_get S.program.funs f) budget (Some s) in
-              let found : free_from S from f ≡ sg = ap (λ o. free_in S o f) here ∙ (λ i. signature (slice_get S.program.funs f) (unwrap_or (eo i) 0) (et i)) in
+              let found : free_from S from f ≡ sg = ap (λ o. free_in S o f) here ∙ (λ i. free_signature (slice_get S.program.funs f) (eo i) (et i)) in
               let tk = λ (z : Signature). k.taken sums (G S own x group) c z.budget (k.free_sides sums (G S own x group) z (told_at x first)) out in
               let y = k.free_sides sums (G S own x group) sg (told_at x first) in let num = signed budget s in
               let u = annotation s.args in let u' = annotation s.result in let t = x first in

@@ -1,6 +1,5 @@
 -- The signatures of a setting, as a walk knows them.
 use Rattle.std.specs.Prelude.{◌≡◌, ℕ, zero, suc, List, [], ◌∷◌, length, slice_get, Option, None, Some, option_map}
-use Rattle.std.specs.Option.{unwrap_or}
 use Rattle.index_shift.specs.Potential.{Annotation}
 use Rattle.normal_form.specs.Norm.{NormFun}
 use Rattle.normal_form.specs.Context.{types}
@@ -40,10 +39,15 @@ abbrev pub group_from : Setting → List ℕ → List Sig → List (Sides Amount
 group_from S (f ∷ fs) (s ∷ ss) = sides (signature (slice_get S.program.funs f) S.budget (Some s)) ∷ group_from S fs ss
 group_from S _ _ = []
 
--- the signature that the block at a place has for a function
+-- those of a signature without cost; none where there is no budget without cost
+abbrev pub free_signature : Option NormFun → Option ℕ → Option Sig → Signature
+free_signature g (Some budget) s = signature g budget s
+free_signature g None s = record { budget = 0; args = []; result = [] }
+
+-- the signature that the cost-free block at a place has for a function
 abbrev pub free_in : Setting → Option Block → ℕ → Signature
 free_in S None f = record { budget = 0; args = []; result = [] }
-free_in S (Some block) f = signature (slice_get S.program.funs f) (unwrap_or (free_budget block.task.kind) 0) (sig_in S.program block f)
+free_in S (Some block) f = free_signature (slice_get S.program.funs f) (free_budget block.task.kind) (sig_in S.program block f)
 
 abbrev pub free_from : Setting → ℕ → ℕ → Signature
 free_from S k f = free_in S (slice_get S.earlier k) f

@@ -1,0 +1,48 @@
+-- What is kept of the blocks before a task.
+use Rattle.std.specs.Prelude.{◌≡◌, ℕ, nat_le, List, map, filter, slice_index_or, Option, None, option_map}
+use Rattle.cost_free.specs.declared.task.Meter.{Meter}
+use Rattle.cost_free.specs.declared.task.Meter.TheVariants.{Ticks, Cells, Work}
+use Rattle.annot_types.specs.Program.{Program}
+use Rattle.annot_types.specs.Certificate.{Block}
+use Rattle.annot_types.specs.Rules.{Setting}
+use Rattle.walk_rules.specs.Numbers.{Signature}
+use Rattle.walk_rules.specs.Planned.{usable_from}
+use Rattle.walk_rules.specs.Found.{free_from, cost_from}
+use Rattle.rule_walk.specs.declared.known.Signature.{Signature as Given}
+use Rattle.rule_walk.specs.declared.known.Signed.{Signed}
+use Rattle.rule_walk.specs.Read.{signature_of, signed}
+use Rattle.earlier_blocks.specs.declared.usage.Usage.{Usage}
+
+-- For each block the signatures that it has without cost, for each function the blocks that have one, by ascending number, and for each meter and each
+-- function the signature that pays.
+pub record Tables : Type 0 where
+  pub free : List (List Signed)
+  pub usable : List (List Usage)
+  pub ticks : List (Option Given)
+  pub cells : List (Option Given)
+  pub work : List (Option Given)
+
+abbrev pub costs : Tables → Meter → List (Option Given)
+costs t Ticks = t.ticks
+costs t Cells = t.cells
+costs t Work = t.work
+
+abbrev pub free_at : Tables → ℕ → ℕ → Signature
+free_at t k f = signed f (slice_index_or t.free k [])
+
+abbrev pub cost_at : Tables → Meter → ℕ → Option Signature
+cost_at t meter f = slice_index_or (map (option_map signature_of) (costs t meter)) f None
+
+-- the numbers of the blocks of budget at most d
+abbrev pub blocks_at : ℕ → List Usage → List ℕ
+blocks_at d uses = map (λ (u : Usage). u.block) (filter (λ (u : Usage). nat_le u.budget d) uses)
+
+-- over these blocks, with no group of its own; signatures that pay stand at degree d
+abbrev pub over : Program → ℕ → List Block → Setting
+over P d earlier = record { program = P; earlier = earlier; group = []; sigs = []; budget = d; scale = 1 }
+
+-- The tables tell of the blocks what the rules find there, in an analysis of degree d.
+pub record Remembers (P : Program) (d : ℕ) (earlier : List Block) (t : Tables) : Type 0 where
+  pub free : (k f : ℕ) → free_at t k f ≡ free_from (over P d earlier) k f
+  pub usable : (f budget : ℕ) → blocks_at budget (slice_index_or t.usable f []) ≡ usable_from 0 P budget f earlier
+  pub cost : (meter : Meter) (f : ℕ) → cost_at t meter f ≡ cost_from (over P d earlier) meter f
