@@ -8,7 +8,13 @@ use Rattle.walk_rules.specs.Plan.{Plan, Step, Called}
 use Rattle.walk_rules.specs.Numbers.{Numbers, Sides, Signature, Known, Hint, Condition, Walked}
 use Rattle.walk_rules.specs.Walk.{charge, behind, numbered, at, at_zero, moved, all_moved, against, joined, nothing, begun, walk, walks, each, Walk, still, mode_at, sums, missing, copies_of, results_of, multiples_of, later}
 use Rattle.rule_walk.specs.Read.{nodes_rows, nodes_index, nodes_left, charged, plan_of, plans_of, size, sizes}
-use Rattle.rule_walk.specs.declared.plan.Plan.{Plan as Code}
+use Rattle.std.specs.Global.{Global}
+use Rattle.std.specs.declared.rc.Rc.{Rc}
+use Rattle.rule_walk.specs.declared.plan.Plan.{Plan as Tree}
+
+-- a plan that is shared
+abbrev Code : Type 0
+Code = Rc Tree Global
 
 pub charge_is : (scale : ℕ) (mode : Mode) (meter : Meter) (n : ℕ) → charged mode meter n * scale ≡ charge scale mode meter n
 charge_is scale (With Ticks) Ticks n = refl
@@ -190,7 +196,7 @@ module _ {E : Type 0} (A : Numbers E) (G : Known E) {V : Type 0} (after : V → 
       left_is n mode path q q' k _ v v' out b
       (e ∙ (λ i. (W rest mode (g i ++ c i ∷ []) (next i) r ((m ∙ ap (λ (z : Walked E). z.left) same) i)).left))
 
-  pub walks_at : (es : List Code) (k : ℕ) (d : Code) → k < length es → slice_index_or (walks A G (plans_of es)) k still ≡ W (plan_of (slice_index_or es k d))
+  pub walks_at : (es : List Code) (k : ℕ) (d : Code) → k < length es → slice_index_or (walks A G (plans_of es)) k still ≡ W (plan_of (slice_index_or es k d).value)
   walks_at [] k d h = absurd (omega (arith, h))
   walks_at (e ∷ es) zero d h = refl
   walks_at (e ∷ es) (suc k) d h = walks_at es k d (omega (arith, h))
@@ -229,17 +235,17 @@ module _ {E : Type 0} (A : Numbers E) (G : Known E) {V : Type 0} (after : V → 
 
   -- a tuple for whose degree there is a plan, and one for whose degree there is none
   one_is : (es : List Code) (part : p.Part) (d e : Code) (k : ℕ) (mode : Mode) (path : List ℕ) (q q1 r : List E) (hs : List (Hint E)) → part.degree < length es → e ≡ slice_index_or es part.degree d → q1 ≡ moved A part.there q →
-      W (plan_of e) mode (path ++ k ∷ []) q1 r hs ≡ one (walks A G (plans_of es)) part k mode path q r hs
+      W (plan_of e.value) mode (path ++ k ∷ []) q1 r hs ≡ one (walks A G (plans_of es)) part k mode path q r hs
   one_is es part d e k mode path q q1 r hs l s m =
-      (λ i. W (plan_of (s i)) mode (path ++ k ∷ []) (m i) r hs)
+      (λ i. W (plan_of (s i).value) mode (path ++ k ∷ []) (m i) r hs)
       ∙ (λ i. sym (walks_at es part.degree d l) i mode (path ++ k ∷ []) (moved A part.there q) r hs)
 
   pub one_heard : (es : List Code) (part : p.Part) (d e : Code) (k : ℕ) (mode : Mode) (path : List ℕ) (q q1 r : List E) (hs : List (Hint E)) (v w : V) → part.degree < length es → e ≡ slice_index_or es part.degree d → q1 ≡ moved A part.there q →
-      w ≡ after v (W (plan_of e) mode (path ++ k ∷ []) q1 r hs).found → w ≡ after v (one (walks A G (plans_of es)) part k mode path q r hs).found
+      w ≡ after v (W (plan_of e.value) mode (path ++ k ∷ []) q1 r hs).found → w ≡ after v (one (walks A G (plans_of es)) part k mode path q r hs).found
   one_heard es part d e k mode path q q1 r hs v w l s m h = h ∙ ap (λ (z : Walked E). after v z.found) (one_is es part d e k mode path q q1 r hs l s m)
 
   pub one_left : (es : List Code) (part : p.Part) (d e : Code) (k : ℕ) (mode : Mode) (path : List ℕ) (q q1 r : List E) (hs out : List (Hint E)) → part.degree < length es → e ≡ slice_index_or es part.degree d → q1 ≡ moved A part.there q →
-      out ≡ (W (plan_of e) mode (path ++ k ∷ []) q1 r hs).left → out ≡ (one (walks A G (plans_of es)) part k mode path q r hs).left
+      out ≡ (W (plan_of e.value) mode (path ++ k ∷ []) q1 r hs).left → out ≡ (one (walks A G (plans_of es)) part k mode path q r hs).left
   one_left es part d e k mode path q q1 r hs out l s m h = h ∙ ap (λ (z : Walked E). z.left) (one_is es part d e k mode path q q1 r hs l s m)
 
   none_is : (es : List Code) (part : p.Part) (k : ℕ) (mode : Mode) (path : List ℕ) (q r : List E) (hs : List (Hint E)) → length es ≤ part.degree →
@@ -254,7 +260,7 @@ module _ {E : Type 0} (A : Numbers E) (G : Known E) {V : Type 0} (after : V → 
       hs ≡ (one (walks A G (plans_of es)) part k mode path q r hs).left
   none_left es part k mode path q r hs l = ap (λ (z : Walked E). z.left) (none_is es part k mode path q r hs l)
 
-pub sizes_at : (es : List Code) (k : ℕ) (d : Code) → k < length es → size (plan_of (slice_index_or es k d)) < sizes (plans_of es)
+pub sizes_at : (es : List Code) (k : ℕ) (d : Code) → k < length es → size (plan_of (slice_index_or es k d).value) < sizes (plans_of es)
 sizes_at [] k d h = absurd (omega (arith, h))
 sizes_at (e ∷ es) zero d h = omega arith
 sizes_at (e ∷ es) (suc k) d h = omega (arith, sizes_at es k d (omega (arith, h)))

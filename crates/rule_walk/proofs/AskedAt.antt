@@ -5,9 +5,15 @@ use Rattle.annot_types.specs.Certificate.{Entries}
 use Rattle.walk_rules.specs.Asked.{Ask, asked, all_asked}
 use Rattle.walk_rules.specs.Shape.{EachWithin, FitAsks}
 use Rattle.rule_walk.specs.Read.{plan_of, plans_of}
-use Rattle.rule_walk.specs.declared.plan.Plan.{Plan as Code}
+use Rattle.std.specs.Global.{Global}
+use Rattle.std.specs.declared.rc.Rc.{Rc}
+use Rattle.rule_walk.specs.declared.plan.Plan.{Plan as Tree}
 
-pub asked_at : (es : List Code) (k : ℕ) (d : Code) → k < length es → slice_index_or (all_asked (plans_of es)) k [] ≡ asked (plan_of (slice_index_or es k d))
+-- a plan that is shared
+abbrev Code : Type 0
+Code = Rc Tree Global
+
+pub asked_at : (es : List Code) (k : ℕ) (d : Code) → k < length es → slice_index_or (all_asked (plans_of es)) k [] ≡ asked (plan_of (slice_index_or es k d).value)
 asked_at [] k d h = absurd (omega (arith, h))
 asked_at (e ∷ es) zero d h = refl
 asked_at (e ∷ es) (suc k) d h = asked_at es k d (omega (arith, h))

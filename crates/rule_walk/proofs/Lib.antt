@@ -1,3 +1,4 @@
 pub mod Arms
 pub mod Bringing
 pub mod AskedAt
+mod Shared

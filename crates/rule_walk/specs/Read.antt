@@ -2,6 +2,8 @@
 use Rattle.std.specs.Prelude.{ℕ, zero, suc, ◌+◌, ◌*◌, Vec, nat_eq, cond, List, [], ◌∷◌, map, slice_index_or, Option, None, Some, option_map, Bool, false, ◌&&◌}
 use Rattle.std.specs.Option.{is_none}
 use Rattle.std.specs.Global.{Global}
+use Rattle.std.specs.declared.rc.Rc.{Rc}
+use Rattle.std.specs.Rc.{rc_value}
 use Rattle.cost_free.specs.declared.task.Meter.{Meter}
 use Rattle.cost_free.specs.declared.task.Meter.TheVariants.{Ticks, Cells, Work}
 use Rattle.annot_types.specs.Rules as r
@@ -49,13 +51,17 @@ plan_step (f.Moves n step e) = p.Moves n (step_of step) e.value
 plan_step (f.Forks n step a other b) = p.Forks n (step_of step) a.value (step_of other) b.value
 plan_step (f.Shares n size step e) = p.Shares n size (step_of step) e.value
 plan_step (f.Calls n c) = p.Calls n (called_of c)
-plan_step (f.Lets n parts firsts size e) = p.Lets n parts (plans firsts.items) size e.value
+plan_step (f.Lets n parts firsts size e) = p.Lets n parts (plans (map rc_value firsts.items)) size e.value
 
 abbrev pub plan_of : Plan → p.Plan
 plan_of = fold-Plan p.Plan plan_step
 
-abbrev pub plans_of : List Plan → p.Plans
-plans_of es = plans (map plan_of es)
+-- plans that are shared
+abbrev pub shared_of : Rc Plan Global → Rc p.Plan Global
+shared_of e = record { ptr = e.ptr; value = plan_of e.value }
+
+abbrev pub plans_of : List (Rc Plan Global) → p.Plans
+plans_of es = plans (map rc_value (map shared_of es))
 
 abbrev pub signature_of : Signature → n.Signature
 signature_of s = record { budget = s.budget; args = s.args.items; result = s.result.items }

@@ -7,6 +7,7 @@ ghost use Rattle.rule_walk.specs.Asks.{ask_of, asks_of, sizes_of};
 
 use crate::plan::{Called, Part, Plan};
 use std::alloc::{AllocError, Global};
+use std::rc::Rc;
 
 /// A hint that a plan asks for.
 #[derive(Debug, Drop)]
@@ -88,7 +89,7 @@ fn append_called(alloc: Global, called: &Called, asks: &mut Vec<Ask>) -> Result<
 fn append_bound(
     alloc: Global,
     parts: &[Part],
-    firsts: &[Plan],
+    firsts: &[Rc<Plan>],
     rest: &Plan,
     asks: &mut Vec<Ask>,
 ) -> Result<(), AllocError>
@@ -117,7 +118,7 @@ fn result_sizes(alloc: Global, parts: &[Part]) -> Result<Vec<usize>, AllocError>
 fn append_each(
     alloc: Global,
     parts: &[Part],
-    firsts: &[Plan],
+    firsts: &[Rc<Plan>],
     asks: &mut Vec<Ask>,
 ) -> Result<(), AllocError>
     ensures { OnOk result (asks_of asks.new.items ≡ asks_of asks.old.items ++ each_asked (all_asked (plans_of firsts.now)) (map part_of parts.now)) }
@@ -132,7 +133,7 @@ fn append_each(
 #[cycle(ask)]
 fn append_at(
     alloc: Global,
-    firsts: &[Plan],
+    firsts: &[Rc<Plan>],
     place: usize,
     asks: &mut Vec<Ask>,
 ) -> Result<(), AllocError>

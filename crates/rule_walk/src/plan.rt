@@ -5,6 +5,7 @@ ghost use Rattle.rule_walk.specs.Steps.{part_of};
 use cost_free::Meter;
 use index_shift::Entry;
 use std::marker::Model;
+use std::rc::Rc;
 
 /// Which signatures a call takes, and whether prices are paid.
 #[derive(Clone, Copy, Debug, PartialEq, Eq)]
@@ -107,6 +108,6 @@ pub enum Plan {
     Shares(u32, usize, Step, Box<Plan>),
     Calls(u32, Called),
     /// The tuples, the bound form at each budget from the present one down, how many positions the
-    /// context of the rest has, and the rest.
-    Lets(u32, Parts, Vec<Plan>, usize, Box<Plan>),
+    /// context of the rest has, and the rest. Plans of bound forms are shared by all plans above them.
+    Lets(u32, Parts, Vec<Rc<Plan>>, usize, Box<Plan>),
 }

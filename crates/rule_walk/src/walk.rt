@@ -19,6 +19,7 @@ use crate::place::Place;
 use crate::plan::{Called, Mode, Part, Parts, Plan, Step};
 use cost_free::Meter;
 use std::alloc::{AllocError, Global};
+use std::rc::Rc;
 
 /// Of a number, what a meter charges.
 pub fn charged(mode: Mode, meter: Meter, n: u32) -> u32
@@ -356,7 +357,7 @@ fn walk_lets<'h, T: Kind, J: Judge<T>>(
     here: &Place<'_, '_, T>,
     nodes: u32,
     parts: &Parts,
-    firsts: &[Plan],
+    firsts: &[Rc<Plan>],
     size: usize,
     rest: &Plan,
     judge: &mut J,
@@ -388,7 +389,7 @@ fn walk_lets<'h, T: Kind, J: Judge<T>>(
 #[cycle(walk)]
 fn walk_each<'h, T: Kind, J: Judge<T>>(
     here: &Place<'_, '_, T>,
-    firsts: &[Plan],
+    firsts: &[Rc<Plan>],
     parts: &[Part],
     told: &[Vec<T>],
     judge: &mut J,
@@ -431,7 +432,7 @@ fn walk_each<'h, T: Kind, J: Judge<T>>(
 #[cycle(walk)]
 fn walk_part<'h, T: Kind, J: Judge<T>>(
     here: &Place<'_, '_, T>,
-    firsts: &[Plan],
+    firsts: &[Rc<Plan>],
     part: &Part,
     number: u32,
     judge: &mut J,

@@ -3,6 +3,7 @@ use Rattle.walk_rules.specs.Walk.{at, at_zero, moved, numbered, walk, walks, all
 use Rattle.rule_walk.specs.Steps.{step_of, part_of}
 use Rattle.rule_walk.specs.Read.{plan_of, plans_of, called_of, mode_of, hints_of, sides_of, known_of, charged, nodes_rows, nodes_index, nodes_left, size, sizes}
 use Rattle.rule_walk.proofs.Arms.{begun_by, pays_is, pays_left, moves_is, moves_left, shares_is, shares_left, forks_is, forks_left, lets_is, lets_left, each_heard, each_left, one_heard, one_left, none_heard, none_left, sizes_at, drop_at, past_is, parts_length}
+use Rattle.rule_walk.proofs.Shared.{of_lets}
 use Rattle.rule_walk.proofs.walk.+walk.Goals as goal
 
 pub walk_pays-returns-clause-heard : goal.walk_pays-returns-clause-heard
@@ -105,21 +106,25 @@ pub walk_part-walk_child-requires : goal.walk_part-walk_child-requires
 walk_part-walk_child-requires g t c =
     let low : c.args.part.now.degree < length c.args.firsts.now = omega (arith, c.if-part-firsts.false) in
     let small = sizes_at c.args.firsts.now c.args.part.now.degree c.index-firsts-part.result low in
-    let same = ap (λ x. size (plan_of x)) c.index-firsts-part.is in
-    let less : 4 * size (plan_of c.index-firsts-part.result) + 1 < t = omega (arith, small, same, c.decreases) in
+    let same = ap (λ x. size (plan_of x)) c.deref.ensures ∙ ap (λ x. size (plan_of x.value)) c.index-firsts-part.is in
+    let less : 4 * size (plan_of c.deref.result.now) + 1 < t = omega (arith, small, same, c.decreases) in
     search (rules, less)
 
 pub walk_part-returns-clause-heard : goal.walk_part-returns-clause-heard
 walk_part-returns-clause-heard g t c = let A = g.T.Kind.kind in let J = g.J.Judge in let s = c.args.here.now in
     let low : c.args.part.now.degree < length c.args.firsts.now = omega (arith, c.if-part-firsts.false) in
+    let heard = c.in_ok-out.ensures.heard
+    ∙ ap (λ e. J.after (J.verdict c.args.judge.now) (walk A (known_of s.known.now) (plan_of e) (mode_of s.mode) (c.args.path.now.items ++ c.args.number ∷ []) c.in_ok-next.next.items s.result.now (hints_of c.args.hints.now)).found) c.deref.ensures in
     one_heard A (known_of s.known.now) J.after g.met.J.Judge.in_turn c.args.firsts.now (part_of c.args.part.now) c.index-firsts-part.result c.index-firsts-part.result c.args.number (mode_of s.mode) c.args.path.now.items
-    c.args.q.now c.in_ok-next.next.items s.result.now (hints_of c.args.hints.now) (J.verdict c.args.judge.now) _ low c.index-firsts-part.is c.in_ok-next.ensures c.in_ok-out.ensures.heard
+    c.args.q.now c.in_ok-next.next.items s.result.now (hints_of c.args.hints.now) (J.verdict c.args.judge.now) _ low c.index-firsts-part.is c.in_ok-next.ensures heard
 
 pub walk_part-returns-clause-left : goal.walk_part-returns-clause-left
 walk_part-returns-clause-left g t c = let A = g.T.Kind.kind in let J = g.J.Judge in let s = c.args.here.now in
     let low : c.args.part.now.degree < length c.args.firsts.now = omega (arith, c.if-part-firsts.false) in
+    let left = c.in_ok-out.ensures.left
+    ∙ ap (λ e. (walk A (known_of s.known.now) (plan_of e) (mode_of s.mode) (c.args.path.now.items ++ c.args.number ∷ []) c.in_ok-next.next.items s.result.now (hints_of c.args.hints.now)).left) c.deref.ensures in
     one_left A (known_of s.known.now) J.after g.met.J.Judge.in_turn c.args.firsts.now (part_of c.args.part.now) c.index-firsts-part.result c.index-firsts-part.result c.args.number (mode_of s.mode) c.args.path.now.items
-    c.args.q.now c.in_ok-next.next.items s.result.now (hints_of c.args.hints.now) _ low c.index-firsts-part.is c.in_ok-next.ensures c.in_ok-out.ensures.left
+    c.args.q.now c.in_ok-next.next.items s.result.now (hints_of c.args.hints.now) _ low c.index-firsts-part.is c.in_ok-next.ensures left
 
 pub walk_part-returns-then-part-firsts-clause-heard : goal.walk_part-returns-then-part-firsts-clause-heard
 walk_part-returns-then-part-firsts-clause-heard g t c = let A = g.T.Kind.kind in let J = g.J.Judge in let s = c.args.here.now in
@@ -150,3 +155,13 @@ walk_each-loop-number-preserved g t c = let A = g.T.Kind.kind in let J = g.J.Jud
           c.args.path.now.items c.loop-number.path.items (hints_of c.loop-number.rest.now) (hints_of c.in_ok-rest.rest.now)
           a c.loop-number.invariant.mode c.entries_at.ensures c.loop-number.invariant.path c.in_ok-rest.ensures.left ∙ c.loop-number.invariant.left;
     }
+
+pub walk-returns-in-Lets-clause-heard : goal.walk-returns-in-Lets-clause-heard
+walk-returns-in-Lets-clause-heard g t c =
+    let same = ap plan_of c.in-Lets.is ∙ of_lets _ _ c.in-Lets.parts c.in-Lets.firsts c.in-Lets.rest in
+    search (rules, same)
+
+pub walk-returns-in-Lets-clause-left : goal.walk-returns-in-Lets-clause-left
+walk-returns-in-Lets-clause-left g t c =
+    let same = ap plan_of c.in-Lets.is ∙ of_lets _ _ c.in-Lets.parts c.in-Lets.firsts c.in-Lets.rest in
+    search (rules, same)
