@@ -39,9 +39,10 @@ abbrev pub group_from : Setting → List ℕ → List Sig → List (Sides Amount
 group_from S (f ∷ fs) (s ∷ ss) = sides (signature (slice_get S.program.funs f) S.budget (Some s)) ∷ group_from S fs ss
 group_from S _ _ = []
 
--- those of a signature without cost; none where there is no budget without cost
+-- those of a signature without cost; none where there is no signature, or no budget without cost
 abbrev pub free_signature : Option NormFun → Option ℕ → Option Sig → Signature
-free_signature g (Some budget) s = signature g budget s
+free_signature g (Some budget) (Some s) = signature g budget (Some s)
+free_signature g (Some budget) None = record { budget = 0; args = []; result = [] }
 free_signature g None s = record { budget = 0; args = []; result = [] }
 
 -- the signature that the cost-free block at a place has for a function
