@@ -9,4 +9,4 @@ pub mod Linear
 pub mod Times
 mod Derived
 pub mod Raised
-mod Multiples
+pub mod Multiples

@@ -53,7 +53,7 @@ abbrev block_of : Task → List Sig → List (List Hint) → Block
 block_of task sigs hints = record { task = task; body = Solved sigs hints }
 
 -- A block that holds, with all its numbers times u, over other blocks before it.
-holds_times : (u : ℕ) (P : Program) (d : ℕ) (earlier before : List Block) (scale scale2 : ℕ) (task : Task) (sigs : List Sig) (hints : List (List Hint)) (t t2 : ℕ) →
+pub holds_times : (u : ℕ) (P : Program) (d : ℕ) (earlier before : List Block) (scale scale2 : ℕ) (task : Task) (sigs : List Sig) (hints : List (List Hint)) (t t2 : ℕ) →
     SettingTimes u (mode_of task.kind) (setting P d earlier scale (block_of task sigs hints) t) (blocks_before task.kind t2 before) (scale2 * t2) → 0 < t2 →
     (ReachesTarget P d (block_of task sigs hints) t task.kind → ReachesTarget P d (times_block u (block_of task sigs hints)) t2 task.kind) →
     Holds P d earlier scale (block_of task sigs hints) t → Holds P d before scale2 (times_block u (block_of task sigs hints)) t2
@@ -165,7 +165,7 @@ other_setting u P d earlier scale group (k.With Cells) meter sigs hints t e =
 other_setting u P d earlier scale group (k.With Work) meter sigs hints t e =
     record { blocks = all_other_kept u t P meter Work e earlier; prices = λ nodes ticks cells. once (nodes * (scale * t)); refunds = once (scale * t) }
 
-reaches_same : (u t : ℕ) (P : Program) (d : ℕ) (task : Task) (sigs : List Sig) (hints : List (List Hint)) (kind : Kind) →
+pub reaches_same : (u t : ℕ) (P : Program) (d : ℕ) (task : Task) (sigs : List Sig) (hints : List (List Hint)) (kind : Kind) →
     ReachesTarget P d (block_of task sigs hints) t kind → ReachesTarget P d (times_block 1 (block_of task sigs hints)) t kind
 reaches_same u t P d task sigs hints kind r =
     subst (λ body. ReachesTarget P d (record { task = task; body = body }) t kind) (sym (body_once (Solved sigs hints))) r

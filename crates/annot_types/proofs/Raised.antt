@@ -28,7 +28,7 @@ exchange u t z = sym (mul_assoc (pos t) (pos u) z) ∙ ap (λ w. w *ℤ z) (*ℤ
 once : (z : ℤ) → pos 1 *ℤ z ≡ z
 once z = grind (arith, ints)
 
-times_product : (u t : ℕ) (es : Entries) → times (u * t) es ≡ times u (times t es)
+pub times_product : (u t : ℕ) (es : Entries) → times (u * t) es ≡ times u (times t es)
 times_product u t [] = refl
 times_product u t (e ∷ es) = λ i. (e.0, product u t e.1 i) ∷ times_product u t es i
 
@@ -51,7 +51,7 @@ option_exchange : (u t : ℕ) (o : Option Sig) → option_map (times_sig t) (opt
 option_exchange u t None = refl
 option_exchange u t (Some s) = λ i. Some (record { args = times_exchange u t s.args i; result = times_exchange u t s.result i })
 
-option_once : (o : Option Sig) → option_map (times_sig 1) o ≡ o
+pub option_once : (o : Option Sig) → option_map (times_sig 1) o ≡ o
 option_once None = refl
 option_once (Some s) = ap Some (sig_once s)
 
@@ -172,7 +172,7 @@ all_free_kept u P meter (b ∷ bs) = (free_kept u P meter b (is_for_meter meter 
 itself : (P : Program) (m : Mode) (b : Block) → BlockTimes 1 P m b b
 itself P m b = record { task = refl; free = λ budget free f. refl; cost = λ other e on f. sym (option_once (sig_in P b f)) }
 
-not_true : (b : Bool) → (b ≡ true → ⊥) → b ≡ false
+pub not_true : (b : Bool) → (b ≡ true → ⊥) → b ≡ false
 not_true true h = absurd (h refl)
 not_true false h = refl
 
