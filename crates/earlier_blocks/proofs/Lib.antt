@@ -1,0 +1,3 @@
+pub mod Unpaid
+pub mod Counting
+pub mod Remembering

@@ -1,3 +1,5 @@
 pub mod Sizes
 pub mod Remembers
+pub mod Signed
+pub mod Grows
 pub mod Laws

@@ -1,5 +1,5 @@
 -- What is kept of the blocks before a task.
-use Rattle.std.specs.Prelude.{◌≡◌, ℕ, nat_le, List, map, filter, slice_index_or, Option, None, option_map}
+use Rattle.std.specs.Prelude.{◌≡◌, ℕ, nat_le, List, [], length, map, filter, slice_index_or, Option, None, option_map}
 use Rattle.cost_free.specs.declared.task.Meter.{Meter}
 use Rattle.cost_free.specs.declared.task.Meter.TheVariants.{Ticks, Cells, Work}
 use Rattle.annot_types.specs.Program.{Program}
@@ -41,8 +41,11 @@ blocks_at d uses = map (λ (u : Usage). u.block) (filter (λ (u : Usage). nat_le
 abbrev pub over : Program → ℕ → List Block → Setting
 over P d earlier = record { program = P; earlier = earlier; group = []; sigs = []; budget = d; scale = 1 }
 
--- The tables tell of the blocks what the rules find there, in an analysis of degree d.
+-- The tables tell of the blocks what the rules find there, in an analysis of degree d. They have a place for each function.
 pub record Remembers (P : Program) (d : ℕ) (earlier : List Block) (t : Tables) : Type 0 where
+  pub count : length t.free ≡ length earlier
+  pub functions : length t.usable ≡ length P.funs
+  pub paying : (meter : Meter) → length (costs t meter) ≡ length P.funs
   pub free : (k f : ℕ) → free_at t k f ≡ free_from (over P d earlier) k f
   pub usable : (f budget : ℕ) → blocks_at budget (slice_index_or t.usable f []) ≡ usable_from 0 P budget f earlier
   pub cost : (meter : Meter) (f : ℕ) → cost_at t meter f ≡ cost_from (over P d earlier) meter f

@@ -1,17 +1,24 @@
 // The blocks before a task, as walks read them.
-ghost use Rattle.std.specs.Prelude.{◌≡◌, ◌≤◌, [], ◌∷◌, ◌++◌, length, slice_index_or, IfOk, OnOk, OnErr};
+ghost use Rattle.std.specs.Prelude.{◌≡◌, ℕ, List, [], ◌∷◌, ◌++◌, length, map, replicate, slice_index_or, None, option_map, IfOk, OnOk, OnErr};
 ghost use Rattle.call_groups.specs.Read.{ids_of};
 ghost use Rattle.annot_types.specs.Program.{Program, members};
 ghost use Rattle.annot_types.specs.Certificate as c;
 ghost use Rattle.annot_types.specs.Holds.{budget_of};
-ghost use Rattle.annot_types.specs.Read.{block_of};
+ghost use Rattle.annot_types.specs.Certificate.{sigs_of};
+ghost use Rattle.annot_types.specs.Held.{IfSolved};
+ghost use Rattle.annot_types.specs.Read.{sig_of, body_of, block_of};
 ghost use Rattle.cost_free.specs.Read.{kind_of};
-ghost use Rattle.rule_walk.specs.Read.{known_of, sides_of};
+ghost use Rattle.rule_walk.specs.Read.{known_of, sides_of, signature_of};
 ghost use Rattle.earlier_blocks.specs.Remembers.{Tables, free_at, cost_at, Remembers};
 ghost use Rattle.earlier_blocks.specs.Sizes.{AreSizes};
+ghost use Rattle.earlier_blocks.specs.Signed.{signatures, filled};
+ghost use Rattle.earlier_blocks.specs.Grows.{GrowsFree, GrowsPaying, Grows};
 
+use crate::signatures::signatures;
+use crate::tables::{fill_all, note_all};
 use crate::usage::Usage;
-use annot_types::Block;
+use annot_types::{Block, BlockBody, Sig};
+use cost_free::{Meter, TaskKind};
 use raml_syntax::FunId;
 use rule_walk::{Known, Sides, Signature, Signed};
 use std::alloc::{AllocError, Global};
@@ -42,31 +49,140 @@ impl Model for Earlier {
     } };
 }
 
+// What a solved block has; none where it is not solved.
+fn sigs_of(body: &BlockBody) -> &[Sig]
+    ensures { map sig_of result.now ≡ sigs_of (body_of body.now) }
+{
+    match body {
+        BlockBody::Solved { sigs, .. } => sigs,
+        BlockBody::Refuted { .. } | BlockBody::Calls { .. } => &[],
+    }
+}
+
+// For each function no block.
+fn none_noted(alloc: Global, functions: usize) -> Result<Vec<Vec<Usage>>, AllocError>
+    ensures { IfOk result (λ made. map (λ us. us.items) made.items ≡ replicate functions []) }
+{
+    let mut made = Vec::with_capacity(alloc, functions)?;
+    for _ in 0..functions {
+        made.push(Vec::new(alloc))?;
+    }
+    Ok(made)
+}
+
+// For each function no signature.
+fn none_paying(alloc: Global, functions: usize) -> Result<Vec<Option<Signature>>, AllocError>
+    ensures { IfOk result (λ made. made.items ≡ replicate functions None) }
+{
+    let mut made = Vec::with_capacity(alloc, functions)?;
+    for _ in 0..functions {
+        made.push(None)?;
+    }
+    Ok(made)
+}
+
 impl Earlier {
     /// No blocks yet, of a program with so many functions.
     pub fn new(alloc: Global, functions: usize) -> Result<Earlier, AllocError>
         ensures { IfOk result (λ made. (P : Program) (d : ℕ) → length P.funs ≡ functions → Remembers P d [] made) }
     {
-        Err(AllocError)
+        let usable = none_noted(alloc, functions)?;
+        let ticks = none_paying(alloc, functions)?;
+        let cells = none_paying(alloc, functions)?;
+        let work = none_paying(alloc, functions)?;
+        Ok(Earlier {
+            free: Vec::new(alloc),
+            usable,
+            ticks,
+            cells,
+            work,
+        })
     }
 
-    /// One block more, in an analysis of degree `d`. `members` are the functions of its group, and
-    /// `sizes` how many positions the arguments and the result of each have at its budget.
+    /// One block more, in an analysis of this degree. `functions` are those of its group, and
+    /// `sizes` how many positions the arguments and the result of each have at its budget; they are
+    /// looked at where the block is solved.
     ///
     /// Where memory is wanting, nothing is changed.
     pub fn add(
         &mut self,
         alloc: Global,
+        degree: u8,
         block: &Block,
-        members: &[FunId],
+        functions: &[FunId],
         sizes: &[(usize, usize)],
     ) -> Result<(), AllocError>
-        ensures all { OnOk result ((P : Program) (d : ℕ) (earlier : List c.Block) →
-            ids_of members.now ≡ members P block.now.task.group → AreSizes P (budget_of d (kind_of block.now.task.kind)) (members P block.now.task.group) sizes.now →
-            Remembers P d earlier self.old → Remembers P d (earlier ++ block_of block.now ∷ []) self.new) }
+        ensures all { OnOk result ((P : Program) (earlier : List c.Block) →
+            ids_of functions.now ≡ members P block.now.task.group → IfSolved (body_of block.now.body) (AreSizes P (budget_of degree (kind_of block.now.task.kind)) (members P block.now.task.group) sizes.now) →
+            Remembers P degree earlier self.old → Remembers P degree (earlier ++ block_of block.now ∷ []) self.new) }
         ensures kept { OnErr result (self.new ≡ self.old) }
     {
-        Err(AllocError)
+        let sigs = sigs_of(&block.body);
+        self.grow(alloc, degree, block.task.kind, functions, sizes, sigs)
+    }
+
+    fn grow(
+        &mut self,
+        alloc: Global,
+        degree: u8,
+        kind: TaskKind,
+        functions: &[FunId],
+        sizes: &[(usize, usize)],
+        sigs: &[Sig],
+    ) -> Result<(), AllocError>
+        ensures grows { OnOk result (Grows (ids_of functions.now) sizes.now (map sig_of sigs.now) degree (kind_of kind) self.old self.new) }
+        ensures kept { OnErr result (self.new ≡ self.old) }
+    {
+        match kind {
+            TaskKind::Free { budget, .. } => self.grow_free(alloc, budget, functions, sizes, sigs),
+            TaskKind::With(meter) => self.grow_paying(alloc, degree, meter, functions, sizes, sigs),
+        }
+    }
+
+    // By a block without cost.
+    fn grow_free(
+        &mut self,
+        alloc: Global,
+        budget: u8,
+        functions: &[FunId],
+        sizes: &[(usize, usize)],
+        sigs: &[Sig],
+    ) -> Result<(), AllocError>
+        ensures grows { OnOk result (GrowsFree (ids_of functions.now) sizes.now (map sig_of sigs.now) budget self.old self.new) }
+        ensures kept { OnErr result (self.new ≡ self.old) }
+    {
+        // so many blocks have no room in memory
+        let Ok(block) = u32::try_from(self.free.len()) else {
+            return Err(AllocError);
+        };
+        let signed = signatures(alloc, budget, functions, sizes, sigs)?;
+        self.free.reserve(1)?;
+        note_all(&mut self.usable, &signed, 0, Usage { block, budget })?;
+        self.free.push_reserved(signed);
+        Ok(())
+    }
+
+    // By a block with cost.
+    fn grow_paying(
+        &mut self,
+        alloc: Global,
+        degree: u8,
+        meter: Meter,
+        functions: &[FunId],
+        sizes: &[(usize, usize)],
+        sigs: &[Sig],
+    ) -> Result<(), AllocError>
+        ensures grows { OnOk result (GrowsPaying (ids_of functions.now) sizes.now (map sig_of sigs.now) degree meter self.old self.new) }
+        ensures kept { OnErr result (self.new ≡ self.old) }
+    {
+        let signed = signatures(alloc, degree, functions, sizes, sigs)?;
+        self.free.push(Vec::new(alloc))?;
+        match meter {
+            Meter::Ticks => fill_all(&mut self.ticks, signed),
+            Meter::Cells => fill_all(&mut self.cells, signed),
+            Meter::Work => fill_all(&mut self.work, signed),
+        }
+        Ok(())
     }
 
     /// The blocks whose signatures a call of the function may take multiples of, by ascending number.

@@ -4,6 +4,8 @@
 
 mod earlier;
 pub mod laws;
+mod signatures;
+mod tables;
 mod usage;
 
 pub use earlier::Earlier;
