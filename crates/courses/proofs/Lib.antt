@@ -1,0 +1,5 @@
+mod Lists
+mod Vectors
+mod Found
+mod RaisedRows
+mod Raising
