@@ -15,10 +15,10 @@ use Rattle.courses.specs.States.{State, scale_at}
 use Rattle.courses.specs.Generator.{Analysis, Generates, Stands, system_at, block_at}
 use Rattle.courses.specs.Reading.{ReadsSolution, ReadsVector}
 
-positive_pos : (t : ℕ) → 0 < t → pos 0 <ℤ pos t
+pub positive_pos : (t : ℕ) → 0 < t → pos 0 <ℤ pos t
 positive_pos t h = omega (arith, ints)
 
-naturals : (u w t v : ℕ) → (pos u *ℤ pos w) ≤ℤ (pos t *ℤ pos v) → u * w ≤ t * v
+pub naturals : (u w t v : ℕ) → (pos u *ℤ pos w) ≤ℤ (pos t *ℤ pos v) → u * w ≤ t * v
 naturals u w t v h = omega (arith, ints)
 
 module _ (s : LinearSystem) (system : IsSystem s) (rule : Rule) where
@@ -35,7 +35,7 @@ module _ (s : LinearSystem) (system : IsSystem s) (rule : Rule) where
       (rise_refutes s h.pivots h.table h.column system h.rises)
 
 module _ (A : Analysis) (g : Generates A) (st : State) (task : Task) (stands : Stands A st task) where
-  pub found_least : (t : ℕ) (x : List ℕ) → 0 < t → IsLeast (system_at A st task) (map pos x) (pos t) →
+  abbrev pub found_least : (t : ℕ) (x : List ℕ) → 0 < t → IsLeast (system_at A st task) (map pos x) (pos t) →
       Least A.program A.degree st.blocks (scale_at st.scales task.kind) (block_at A st task x)
   found_least t x positive h = record {
     t = t;

@@ -3,3 +3,8 @@ mod Vectors
 mod Found
 mod RaisedRows
 mod Raising
+mod Running
+mod Asked
+mod Certifying
+mod Single
+mod Short

@@ -74,7 +74,7 @@ moved P d bs cs scale price t u task sigs hints same prices positive reach h = r
   reaches = reach h.reaches;
 }
 
-positive_product : (r u : ℕ) → 0 < r → 0 < u → 0 < r * u
+pub positive_product : (r u : ℕ) → 0 < r → 0 < u → 0 < r * u
 positive_product r u pr pu = let one = mul-le-mul_left r pu in let z : r * 1 ≡ r = grind arith in omega (arith, one, z, pr)
 
 -- What holds at the raised scale with u holds at the scale before with r u,
