@@ -8,3 +8,5 @@ mod Asked
 mod Certifying
 mod Single
 mod Short
+mod Clear
+mod Lines

@@ -64,7 +64,7 @@ module _ (paths : OneCourse) (pick : List ℤ → ℤ → Option ℕ) (s : Linea
   pub never_both : (t : ℕ) (x y : List ℕ) → ReadsSolution (rule_by pick) s t x → ReadsVector (rule_by pick) s y → ⊥
   never_both t x y h k = not_both s h.pivots k.pivots h.table k.table k.column system h.ends k.rises
 
-some_none : {X : Type 0} (x : X) (o : Option X) → o ≡ Some x → o ≡ None → ⊥
+pub some_none : {X : Type 0} (x : X) (o : Option X) → o ≡ Some x → o ≡ None → ⊥
 some_none x o e f = let q = sym f ∙ e in cc
 
 module _ (paths : OneCourse) (A : Analysis) (g : Generates A) where
