@@ -1,10 +1,7 @@
 -- A task of the meter of work comes only where work is asked for.
-use Rattle.std.proofs.Common.{refl, ◌≡◌, ℕ, suc, nat_le, cond, Bool, true, false, List, [], ◌∷◌, ◌++◌, map, flat_map, slice_get, Option, Some, None, sym, ◌∙◌, subst}
-use Rattle.std.specs.Prelude.{unsigned_abs}
-use Rattle.std.specs.Option.{is_some}
+use Rattle.std.proofs.Common.{refl, ◌≡◌, ℕ, suc, nat_le, cond, Bool, true, false, List, [], ◌∷◌, ◌++◌, map, flat_map, slice_get, Some, sym, ◌∙◌, subst}
 use Rattle.std.specs.List.{range_with_len}
 use Rattle.raml_syntax.specs.Tree.{Type'}
-use Rattle.cost_free.specs.declared.task.Meter.{Meter}
 use Rattle.cost_free.specs.declared.task.Meter.TheVariants.{Ticks, Cells, Work}
 use Rattle.cost_free.specs.Target.{Target, degree_of}
 use Rattle.cost_free.specs.Task as k
@@ -66,8 +63,8 @@ module _ (rs : List Type') (d : ℕ) (work : Bool) where
   all_asked group (funs ∷ rest) =
       both (IsAsked work) (group_tasks rs d work group funs) (tasks_from rs d work (suc group) rest)
       (both (IsAsked work) (free_tasks rs d work group funs) _
-        (each (IsAsked work) _ (λ budget. each (IsAsked work) _ (λ fun. free_asked group budget fun 0 (targets_at (slice_get rs fun) d)) funs) (range_with_len 0 (suc d)))
-        (paid_asked group work))
+      (each (IsAsked work) _ (λ budget. each (IsAsked work) _ (λ fun. free_asked group budget fun 0 (targets_at (slice_get rs fun) d)) funs) (range_with_len 0 (suc d)))
+      (paid_asked group work))
       (all_asked (suc group) rest)
 
 pub task_asked : (P : Program) (d : ℕ) (work : Bool) (done : List Outcome) (task : Task) → next_task P d work done ≡ Some task → IsAsked work task

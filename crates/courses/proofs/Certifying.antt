@@ -1,32 +1,31 @@
 -- What a course's certificate is.
-use Rattle.std.proofs.Common.{⊎_elim, ◌≡◌, ◌≤◌, ◌<◌, ℕ, Bool, true, false, ℤ, pos, ◌<ℤ◌, List, map, take, slice_get, Option, Some, None, refl, sym, ap, ◌∙◌, subst, arith}
+use Rattle.std.proofs.Common.{⊎_elim, ◌≡◌, ◌≤◌, ◌<◌, ℕ, Bool, true, false, pos, ◌<ℤ◌, List, map, take, slice_get, Some, None, refl, sym, ap, ◌∙◌, subst, arith}
 use Rattle.std.proofs.lemmas.Int.{ints}
 use Rattle.cost_free.specs.declared.task.Meter.{Meter}
 use Rattle.cost_free.specs.declared.task.Meter.TheVariants.{Ticks, Cells, Work}
 use Rattle.cost_free.specs.Task as k
 use Rattle.cost_free.specs.Task.{Free, Task}
-use Rattle.annot_types.specs.Program.{Program, next_task, blocker_of}
+use Rattle.annot_types.specs.Program.{next_task, blocker_of}
 use Rattle.annot_types.specs.Certificate as c
 use Rattle.annot_types.specs.Certificate.{Entries, Body, Solved, Calls, IsSolved, Block, Certificate, has_work, outcome}
 use Rattle.annot_types.specs.Holds.{Holds, raised}
-use Rattle.annot_types.specs.Held.{before, done_before, scale_of, scale_for, NamesBlocker, HoldsInPlace, IfSolved, IsInPlace, Held}
+use Rattle.annot_types.specs.Held.{scale_of, scale_for, NamesBlocker, HoldsInPlace, IfSolved}
 use Rattle.annot_types.specs.Least.{Refuted, Least}
-use Rattle.annot_types.specs.System.{system, IsRefutedBy, Valid}
+use Rattle.annot_types.specs.System.{system, IsRefutedBy}
 use Rattle.courses.specs.States.{State, scale_at, raised_scales, certificate_of}
-use Rattle.courses.specs.Good.{HoldsAt, LeastAt, IsRight, IsGood}
-use Rattle.courses.specs.Generator.{Analysis, Generates}
+use Rattle.courses.specs.Good.{HoldsAt, IsRight, IsGood}
+use Rattle.courses.specs.Generator.{Analysis}
 use Rattle.courses.specs.Courses.{IsOver}
 use Rattle.courses.specs.Verifying.{TooLarge, BlockFault}
-use Rattle.courses.specs.Laws.{RaisedStayGood, NoneTooLarge, NoneUnrefuted, FoundIsLeast, FoundIsRefuted, CoursesAreGood, Certifies, CoursesCertify}
+use Rattle.courses.specs.Laws.{RaisedStayGood, StaysWithin, CoursesStayWithin, NoneTooLarge, NoneUnrefuted, FoundIsLeast, FoundIsRefuted, CoursesAreGood, Certifies, CoursesCertify}
 use Rattle.courses.proofs.Lists.{all_map}
 use Rattle.courses.proofs.Raising.{good_raised}
 use Rattle.courses.proofs.Found.{read_least, read_refutes, found_least, found_none}
 use Rattle.courses.proofs.Vectors.{refutes_listed}
 use Rattle.courses.proofs.Asked.{task_asked, work_is, scale_is}
-use Rattle.courses.proofs.Running.{Fits, Runs, runs, hold_of, refuted_tried}
+use Rattle.courses.proofs.Running.{Runs, runs, hold_of, refuted_tried}
 use Rattle.courses.specs.Places.{rule_of}
 use Rattle.courses.specs.Generator.{system_at}
-use Rattle.courses.specs.Reading.{listed}
 
 pub raised_stay_good : RaisedStayGood
 raised_stay_good P d st (Free budget fun target) r pr h = h
@@ -48,8 +47,7 @@ found_is_refuted A g st task stands y h =
     let r = read_refutes (system_at A st task) (g.system st task stands) (rule_of A) y h in
     (refutes_listed (system_at A st task) y r, found_none A g st task stands (map pos y) r)
 
-
-module _ (A : Analysis) (g : Generates A) (some : 1 ≤ A.degree) (few : A.degree ≤ 4) (st : State) (h : Runs A st) (over : IsOver A st) where
+module _ (A : Analysis) (st : State) (h : Runs A st) where
   abbrev whole : Certificate
   whole = certificate_of A.degree A.work st
 
@@ -88,33 +86,41 @@ module _ (A : Analysis) (g : Generates A) (some : 1 ≤ A.degree) (few : A.degre
       of_natural n p = grind (arith, ints, p)
   scales_positive false Work = grind (arith, ints)
 
-  pub run_certifies : Certifies A.program whole
-  run_certifies = record {
+  pub run_within : StaysWithin A whole
+  run_within = record {
+    goes_on = λ place block there refused. (let f = h.fits place block there in f.goes_on refused);
+    limits = λ place block there tried.
+        let f = h.fits place block there in
+        subst (λ n. A.generator.exceeds (take place st.blocks) block.task n ≡ None) (scale place block there) (f.limit tried);
+  }
+
+  pub run_certifies : 1 ≤ A.degree → A.degree ≤ 4 → IsOver A st → Certifies A.program whole
+  run_certifies some few over = record {
     valid = record {
       held = record {
         least_degree = some;
         most_degree = few;
         scales = scales_positive A.work;
         blocks = λ place block there.
-          let f = h.fits place block there in
-          record {
-            task = ap (λ w. next_task A.program A.degree w (map outcome (take place st.blocks))) (work_is A.degree A.work st) ∙ f.task;
-            waits = f.waits;
-            shape = f.shape;
-            holds = in_place place block there;
-          };
+            let f = h.fits place block there in
+            record {
+              task = ap (λ w. next_task A.program A.degree w (map outcome (take place st.blocks))) (work_is A.degree A.work st) ∙ f.task;
+              waits = f.waits;
+              shape = f.shape;
+              holds = in_place place block there;
+            };
         ended = ap (λ w. next_task A.program A.degree w (map outcome st.blocks)) (work_is A.degree A.work st) ∙ over;
       };
       refuted = λ place block farkas there e.
-        let f = h.fits place block there in
-        subst (λ n. IsRefutedBy (system A.program A.degree (take place st.blocks) block.task n) farkas) (scale place block there) (f.vector farkas e);
+          let f = h.fits place block there in
+          subst (λ n. IsRefutedBy (system A.program A.degree (take place st.blocks) block.task n) farkas) (scale place block there) (f.vector farkas e);
     };
     least = λ place block there solved.
-      let f = h.fits place block there in
-      subst (λ n. Least A.program A.degree (take place st.blocks) n block) (scale place block there) (of_solved (take place st.blocks) (scale_at st.scales block.task.kind) block.task block.body solved f.good);
+        let f = h.fits place block there in
+        subst (λ n. Least A.program A.degree (take place st.blocks) n block) (scale place block there) (of_solved (take place st.blocks) (scale_at st.scales block.task.kind) block.task block.body solved f.good);
     refuted = λ place block farkas there e.
-      let f = h.fits place block there in
-      subst (Refuted A.program A.degree (take place st.blocks) block.task) (scale place block there)
+        let f = h.fits place block there in
+        subst (Refuted A.program A.degree (take place st.blocks) block.task) (scale place block there)
         (subst (IsRight A.program A.degree (take place st.blocks) (scale_at st.scales block.task.kind) block.task) e f.good);
   }
     where
@@ -125,17 +131,22 @@ module _ (A : Analysis) (g : Generates A) (some : 1 ≤ A.degree) (few : A.degre
 
 pub courses_certify : CoursesCertify
 courses_certify A g some few certificate h =
-    subst (Certifies A.program) (sym h.is) (run_certifies A g some few h.state (runs A g h.findings h.state h.course) h.over)
+    subst (Certifies A.program) (sym h.is) (run_certifies A h.state (runs A g h.findings h.state h.course) some few h.over)
+
+pub courses_stay_within : CoursesStayWithin
+courses_stay_within A g certificate h = subst (StaysWithin A) (sym h.is) (run_within A h.state (runs A g h.findings h.state h.course))
 
 pub none_too_large : NoneTooLarge
 none_too_large A g certificate h place what fault = of_run (subst (λ v. BlockFault A.program A.generator v place (TooLarge what)) h.is fault)
   where
     of_run : BlockFault A.program A.generator (certificate_of A.degree A.work h.state) place (TooLarge what) → ⊥
     of_run fault =
-        let f = (runs A g h.findings h.state h.course).fits place fault.block fault.there in
+        let r = runs A g h.findings h.state h.course in
+        let f = r.fits place fault.block fault.there in
         let blocker = blocker_of A.program fault.block.task (map outcome (take place h.state.blocks)) in
         let tried = refuted_tried blocker fault.farkas (subst (NamesBlocker blocker) fault.refuted f.waits) in
-        let none = sym fault.is ∙ f.limit tried in absurd (cc)
+        let within = run_within A h.state r in
+        let none = sym fault.is ∙ within.limits place fault.block fault.there tried in absurd (cc)
 
 pub none_unrefuted : NoneUnrefuted
 none_unrefuted never P G certificate valid place fault =

@@ -1,5 +1,5 @@
 -- Where all that is computed fits, no place comes.
-use Rattle.std.proofs.Common.{◌≤◌, ◌≡◌, ◌<◌, ⊎_elim, ℕ, zero, suc, ℤ, pos, ◌*ℤ◌, ◌<ℤ◌, List, [], ◌∷◌, ◌++◌, map, take, length, slice_index_or, Option, Some, None, refl, sym, ap, ◌∙◌, subst, arith}
+use Rattle.std.proofs.Common.{◌≤◌, ◌≡◌, ◌<◌, ⊎_elim, ℕ, zero, suc, ℤ, pos, ◌*ℤ◌, ◌<ℤ◌, List, [], ◌∷◌, ◌++◌, map, take, length, slice_index_or, Option, None, refl, sym, ap, ◌∙◌, subst, arith}
 use Rattle.linear_rows.specs.Systems.{LinearSystem, IsSystem}
 use Rattle.linear_rows.specs.Vectors.{scale}
 use Rattle.tableau.specs.Courses.{rule_by}
@@ -8,15 +8,15 @@ use Rattle.tableau.specs.Tableaux.{Tableau, solution, dual, ray}
 use Rattle.tableau.proofs.Ending.{good_course}
 use Rattle.tableau.proofs.Agreeing.{not_both}
 use Rattle.farkas_check.specs.declared.Verdict.TheVariants.{Leaves}
-use Rattle.farkas_check.specs.Checks.{Check, EachPasses, IsFirstFault, refuting, proving_least}
+use Rattle.farkas_check.specs.Checks.{Check, EachPasses, IsFirstFault}
 use Rattle.cost_free.specs.Task.{Task}
 use Rattle.courses.specs.Wholes.{AreLeastWholes}
 use Rattle.courses.specs.States.{State}
-use Rattle.courses.specs.Generator.{What, Analysis, blocker_at, limit_at, system_at}
-use Rattle.courses.specs.Reading.{ReadsSolution, ReadsBoth, ReadsVector}
+use Rattle.courses.specs.Generator.{What, Analysis, limit_at, system_at}
+use Rattle.courses.specs.Reading.{ReadsBoth, ReadsVector}
 use Rattle.courses.specs.Places as p
 use Rattle.courses.specs.Places.{Place, most, ScaleLeaves, InDenominator, InNumber, Read, Both, Vector, RescaleLeaves, stage, rule_of, Comes}
-use Rattle.courses.specs.Clear.{RowsAreFine, BothAreFine, ArePassed, VectorIsFine, IsPassed, IsSolvedFine, FineIsClear, PlacesAreFirst, SeenIsFirst}
+use Rattle.courses.specs.Clear.{RowsAreFine, BothAreFine, ArePassed, VectorIsFine, IsPassed, IsSolvedFine, FineIsClear, SeenIsFirst}
 use Rattle.courses.proofs.Single.{one_whole, one_solution, one_vector, never_both, some_none}
 
 -- a list of checks that pass has no first fault
@@ -94,7 +94,7 @@ module _ (paths : OneCourse) (pick : List ℤ → ℤ → Option ℕ) (s : Linea
       let place : ScaleLeaves h.table.over (ray s h.column h.table) entry =
       subst (λ k. ScaleLeaves h.table.over (ray s k h.table) entry) (sym same.2)
       (subst (λ (w : Tableau). ScaleLeaves w.over (ray s c w) entry) (sym same.1)
-        (subst (λ n. ScaleLeaves n (ray s c v) entry) is (subst (λ l. ScaleLeaves d l entry) are leaves))) in
+      (subst (λ n. ScaleLeaves n (ray s c v) entry) is (subst (λ l. ScaleLeaves d l entry) are leaves))) in
       none_scale h.table.over (vector_positive y h) (ray s h.column h.table) h.t y h.whole low each entry place
 
 -- where no place of an earlier stage comes
@@ -126,7 +126,6 @@ stage_low (p.Least k) = omega arith
 stage_low (p.Rescale k) = omega arith
 
 module _ (paths : OneCourse) (A : Analysis) (st : State) (task : Task) where
-
   never : {X : Type 0} (m n : ℕ) → n ≤ m → m < n → X
   never m n h l = absurd (omega (arith, h, l))
 
@@ -173,8 +172,8 @@ module _ (paths : OneCourse) (A : Analysis) (st : State) (task : Task) where
     refute = λ l k c. both_or_vector r h.over h.primal h.dual c.0 h.fine.both c.1;
     least = λ l. no_least r h.over h.primal h.dual h.fine h.passed;
     rescale = λ l k c.
-      let same = one_solution paths A.pick (system_at A st task) r.system t c.0 x c.1 h.solution c.2 in
-      h.raises k (subst (λ u. RescaleLeaves task.kind u st k) (sym same.0) c.3);
+        let same = one_solution paths A.pick (system_at A st task) r.system t c.0 x c.1 h.solution c.2 in
+        h.raises k (subst (λ u. RescaleLeaves task.kind u st k) (sym same.0) c.3);
   }
 
   refuted : RowsAreFine A st task → (y : List ℕ) → VectorIsFine A st task y → IsPassed A st task y → NoneBefore A st task 6

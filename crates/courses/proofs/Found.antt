@@ -1,5 +1,5 @@
 -- What is read of a task's system, as a block.
-use Rattle.std.proofs.Common.{◌≡◌, ◌≤◌, ◌<◌, ℕ, ◌*◌, ℤ, pos, ◌*ℤ◌, ◌≤ℤ◌, ◌<ℤ◌, List, map, refl, subst, arith}
+use Rattle.std.proofs.Common.{◌≤◌, ◌<◌, ℕ, ◌*◌, ℤ, pos, ◌*ℤ◌, ◌≤ℤ◌, ◌<ℤ◌, List, map, subst, arith}
 use Rattle.std.proofs.lemmas.Int.{ints}
 use Rattle.linear_rows.specs.Systems.{LinearSystem, IsSystem, IsLeast, Refutes}
 use Rattle.linear_rows.specs.Vectors.{dot}
@@ -41,11 +41,11 @@ module _ (A : Analysis) (g : Generates A) (st : State) (task : Task) (stands : S
     t = t;
     holds = g.hold st task stands t x positive h.solves;
     least = λ u sigs hints k.
-      let other = g.solve st task stands u sigs hints k in
-      naturals u (weight A.program A.degree (block_at A st task x)) t (weight A.program A.degree (solving task sigs hints))
-      (subst (λ v. (pos u *ℤ v) ≤ℤ (pos t *ℤ pos (weight A.program A.degree (solving task sigs hints)))) (g.weigh st task stands t x positive h.solves)
+        let other = g.solve st task stands u sigs hints k in
+        naturals u (weight A.program A.degree (block_at A st task x)) t (weight A.program A.degree (solving task sigs hints))
+        (subst (λ v. (pos u *ℤ v) ≤ℤ (pos t *ℤ pos (weight A.program A.degree (solving task sigs hints)))) (g.weigh st task stands t x positive h.solves)
         (subst (λ v. (pos u *ℤ dot (system_at A st task).weights (map pos x)) ≤ℤ (pos t *ℤ v)) other.2
-          (h.least (map pos other.0) (pos u) (positive_pos u k.positive) other.1)));
+        (h.least (map pos other.0) (pos u) (positive_pos u k.positive) other.1)));
   }
 
   -- a task whose system is refuted is refuted

@@ -10,3 +10,4 @@ mod Single
 mod Short
 mod Clear
 mod Lines
+mod Beginning

@@ -7,12 +7,12 @@ use Rattle.cost_free.specs.declared.task.Meter.{Meter}
 use Rattle.cost_free.specs.Task as k
 use Rattle.cost_free.specs.Task.{Kind, Free}
 use Rattle.cost_free.specs.Schedule.{meters}
-use Rattle.cost_free.specs.Blocked.{is_for_meter, is_among}
-use Rattle.annot_types.specs.Program.{Program, members, blocker_of}
+use Rattle.cost_free.specs.Blocked.{is_for_meter}
+use Rattle.annot_types.specs.Program.{Program, blocker_of}
 use Rattle.annot_types.specs.Certificate as c
 use Rattle.annot_types.specs.Certificate.{Sig, Body, Solved, Block, Certificate, has_work}
 use Rattle.annot_types.specs.Signature.{sig_in}
-use Rattle.annot_types.specs.Held.{done_before, scale_of, NamesBlocker, Claim, Bound, NoBound, CallsUnbounded, bound_of, claim_of, is_for_function, line, lines_for, Line, Held}
+use Rattle.annot_types.specs.Held.{done_before, scale_of, NamesBlocker, Claim, bound_of, claim_of, is_for_function, line, lines_for, Line, Held}
 use Rattle.annot_types.proofs.Raised.{same_meters}
 use Rattle.courses.specs.Good.{AllRefuted}
 use Rattle.courses.specs.Lines.{IsBlockOf, Tells, LinesTell}

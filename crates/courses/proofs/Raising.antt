@@ -1,6 +1,5 @@
 -- What is good stays so where blocks and scales are raised.
-use Rattle.std.proofs.Common.{◌≡◌, ◌≤◌, ◌<◌, ℕ, zero, suc, ◌*◌, ◌^◌, cond, List, [], ◌∷◌, map, slice_get, Bool, true, false, Option, Some, None, refl, sym, ap, ◌∙◌, subst, arith}
-use Rattle.std.specs.Option.{option_map}
+use Rattle.std.proofs.Common.{◌≡◌, ◌<◌, ℕ, suc, ◌*◌, ◌^◌, cond, List, [], ◌∷◌, map, slice_get, Bool, true, false, Option, Some, None, refl, sym, ap, ◌∙◌, subst, arith}
 use Rattle.std.proofs.Math.Nat.{mul-le-mul_left}
 use Rattle.base_poly.specs.Plain.{degrees}
 use Rattle.base_poly.specs.Indices.{index_list}
@@ -16,17 +15,16 @@ use Rattle.annot_types.specs.Program.{Program, members}
 use Rattle.annot_types.specs.Certificate as c
 use Rattle.annot_types.specs.Certificate.{Entries, annotation, Sig, Hint, Let, Share, Call, Body, Solved, Calls, Block}
 use Rattle.annot_types.specs.Signature.{sig_in, free_budget}
-use Rattle.annot_types.specs.Rules.{Mode, With}
+use Rattle.annot_types.specs.Rules.{Mode}
 use Rattle.annot_types.specs.Holds.{times, times_sig, times_hint, times_body, times_block, raised, mode_of, budget_of, blocks_before, setting}
 use Rattle.annot_types.specs.Holds.{FunctionsHold, ReachesTarget, Holds}
-use Rattle.annot_types.specs.Held.{IsOne}
-use Rattle.annot_types.specs.Least.{solving, Refuted, args_weight, group_weight, weight, Least}
+use Rattle.annot_types.specs.Least.{solving, args_weight, group_weight, weight}
 use Rattle.annot_types.proofs.Linear.{mul, annotation_mul}
-use Rattle.annot_types.proofs.Times.{BlockTimes, BlocksTimes, SettingTimes}
+use Rattle.annot_types.proofs.Times.{BlocksTimes, SettingTimes}
 use Rattle.annot_types.proofs.Raised.{times_product, option_once, on, off, same_meters, same_self, all_free_kept, all_other_kept, body_once}
 use Rattle.annot_types.proofs.Multiples.{holds_times, reaches_same, raising_keeps}
 use Rattle.courses.specs.States.{raised_scales, scale_at}
-use Rattle.courses.specs.Good.{LeastAt, IsRight, IsGood}
+use Rattle.courses.specs.Good.{IsRight, IsGood}
 
 -- Raised twice
 
@@ -46,7 +44,7 @@ body_product : (u t : ℕ) (body : Body) → times_body (u * t) body ≡ times_b
 body_product u t (Solved sigs hints) = λ i. Solved
     (map_product (times_sig u) (times_sig t) (times_sig (u * t)) (sig_product u t) sigs i)
     (map_product (map (times_hint u)) (map (times_hint t)) (map (times_hint (u * t)))
-      (map_product (times_hint u) (times_hint t) (times_hint (u * t)) (hint_product u t)) hints i)
+    (map_product (times_hint u) (times_hint t) (times_hint (u * t)) (hint_product u t)) hints i)
 body_product u t (c.Refuted farkas) = refl
 body_product u t (Calls fun) = refl
 
@@ -70,7 +68,7 @@ moved P d bs cs scale price t u task sigs hints same prices positive reach h = r
   solved = tt;
   functions = subst (λ es. FunctionsHold (record { program = P; earlier = es; group = members P task.group; sigs = sigs; budget = budget_of d task.kind; scale = price * u }) (mode_of task.kind) (members P task.group) sigs hints) same
       (subst (λ n. FunctionsHold (record { program = P; earlier = blocks_before task.kind t bs; group = members P task.group; sigs = sigs; budget = budget_of d task.kind; scale = n }) (mode_of task.kind) (members P task.group) sigs hints) prices
-        h.functions);
+      h.functions);
   reaches = reach h.reaches;
 }
 
@@ -133,7 +131,7 @@ other_down P d meter r bs group kind scale u sigs hints e h =
     let task : Task = record { group = group; kind = kind } in
     subst (λ body. Holds P d bs scale (record { task = task; body = body }) u) (body_once (Solved sigs hints))
     (holds_times 1 P d (map (raised meter r) bs) bs scale scale task sigs hints u u (other_setting P d bs scale r group kind meter sigs hints u e) h.positive
-      (reaches_same 1 u P d task sigs hints kind) h)
+    (reaches_same 1 u P d task sigs hints kind) h)
 
 -- The weight is r times as great.
 
@@ -171,7 +169,7 @@ module _ (P : Program) (d : ℕ) (meter : Meter) (r : ℕ) (positive : 0 < r) (b
   up task scale t sigs hints is e h =
       subst (λ b. Holds P d (map (raised meter r) bs) (cond b (r * scale) scale) (record { task = task; body = cond b (times_body r (Solved sigs hints)) (Solved sigs hints) }) t) e
       (subst (λ b. Holds P d (map (raised meter r) bs) (cond (is_for_meter meter task.kind) (r * scale) scale) b t) (raised_is meter r (solving task sigs hints))
-        (raising_keeps P d bs scale (solving task sigs hints) t meter r positive h))
+      (raising_keeps P d bs scale (solving task sigs hints) t meter r positive h))
 
   -- of another kind
   apart : (group : ℕ) (kind : Kind) (scale : ℕ) (body : Body) → is_for_meter meter kind ≡ false →
@@ -197,12 +195,12 @@ module _ (P : Program) (d : ℕ) (meter : Meter) (r : ℕ) (positive : 0 < r) (b
           t = h.least.t;
           holds = up task scale h.least.t sigs hints true (same_self meter) h.least.holds;
           least = λ u ss hss g.
-            let low = h.least.least (r * u) ss hss (same_down P d meter r bs group scale u ss hss positive g) in
-            let w : weight P d (solving task (map (times_sig r) sigs) (map (map (times_hint r)) hints)) ≡ r * weight P d (solving task sigs hints) =
-            group_times P d r (members P group) sigs in
-            let v = ap (λ n. u * n) w in
-            let regroup : u * (r * weight P d (solving task sigs hints)) ≡ (r * u) * weight P d (solving task sigs hints) = grind arith in
-            omega (arith, low, v, regroup);
+              let low = h.least.least (r * u) ss hss (same_down P d meter r bs group scale u ss hss positive g) in
+              let w : weight P d (solving task (map (times_sig r) sigs) (map (map (times_hint r)) hints)) ≡ r * weight P d (solving task sigs hints) =
+              group_times P d r (members P group) sigs in
+              let v = ap (λ n. u * n) w in
+              let regroup : u * (r * weight P d (solving task sigs hints)) ≡ (r * u) * weight P d (solving task sigs hints) = grind arith in
+              omega (arith, low, v, regroup);
         };
         one = h.one;
       }
@@ -223,4 +221,4 @@ module _ (P : Program) (d : ℕ) (meter : Meter) (r : ℕ) (positive : 0 < r) (b
               (apart group (k.With other) (scales other) body e h)
           by true e = subst (λ b. IsRight P d (map (raised meter r) bs) (cond b (r * scales other) (scales other)) (record { group = group; kind = k.With other }) (cond b (times_body r body) body)) (sym e)
               (subst (λ m. IsRight P d (map (raised meter r) bs) (r * scales m) (record { group = group; kind = k.With m }) (times_body r body)) (same_meters meter other e)
-                (own group (scales meter) body (subst (λ m. IsRight P d bs (scales m) (record { group = group; kind = k.With m }) body) (sym (same_meters meter other e)) h)))
+              (own group (scales meter) body (subst (λ m. IsRight P d bs (scales m) (record { group = group; kind = k.With m }) body) (sym (same_meters meter other e)) h)))

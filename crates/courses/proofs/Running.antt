@@ -1,24 +1,23 @@
 -- What is kept along a course.
-use Rattle.std.proofs.Common.{◌≡◌, ◌≤◌, ◌<◌, ℕ, zero, suc, ◌*◌, cond, ℤ, pos, ◌*ℤ◌, ◌<ℤ◌, ◌≤ℤ◌, List, [], ◌∷◌, ◌++◌, map, slice_get, take, Bool, true, false, Option, Some, None, refl, sym, ap, ◌∙◌, subst, arith}
+use Rattle.std.proofs.Common.{◌≡◌, ◌≤◌, ◌<◌, ℕ, suc, ◌*◌, cond, ℤ, pos, ◌*ℤ◌, ◌<ℤ◌, List, [], ◌∷◌, map, take, Bool, true, false, Option, Some, None, refl, sym, ap, ◌∙◌, subst, arith}
 use Rattle.std.proofs.lemmas.Int.{ints}
 use Rattle.std.proofs.Math.Nat.{le_of_mul-le-mul_left}
-use Rattle.raml_num.proofs.Differences.{mul_assoc}
-use Rattle.linear_rows.specs.Systems.{Refutes, IsLeast}
 use Rattle.cost_free.specs.declared.task.Meter.{Meter}
 use Rattle.cost_free.specs.Task as k
 use Rattle.cost_free.specs.Task.{Kind, Free, Task, Outcome, same_meter}
 use Rattle.cost_free.specs.Blocked.{is_for_meter}
+use Rattle.cost_free.specs.Refused.{IsRefused}
 use Rattle.annot_types.specs.Program.{Program, next_task, blocker_of}
 use Rattle.annot_types.specs.Certificate as c
 use Rattle.annot_types.specs.Certificate.{Entries, RiseFrom, Rise, Sig, Hint, Let, Share, Call, Body, Solved, Calls, IsSolved, Block, done_as, outcome}
-use Rattle.annot_types.specs.Holds.{times, times_sig, times_hint, times_body, raised, blocks_before, Holds}
-use Rattle.annot_types.specs.Held.{AllRise, SigsRise, HintRises, HintsRise, AllHintsRise, IsShaped, NamesBlocker, IsOne, IfSolved}
-use Rattle.annot_types.specs.Least.{solving, Refuted, weight, Least}
+use Rattle.annot_types.specs.Holds.{times, times_sig, times_hint, times_body, raised, blocks_before}
+use Rattle.annot_types.specs.Held.{AllRise, SigsRise, HintRises, HintsRise, AllHintsRise, IsShaped, NamesBlocker, IfSolved}
+use Rattle.annot_types.specs.Least.{solving, weight, Least}
 use Rattle.annot_types.specs.System.{IsRefutedBy}
 use Rattle.annot_types.proofs.Raised.{same_self}
-use Rattle.courses.specs.States.{State, done, scale_at, raised_scales, raise}
+use Rattle.courses.specs.States.{State, scale_at, raised_scales}
 use Rattle.courses.specs.Good.{AllAt, HoldsAt, LeastAt, IsRight, IsGood}
-use Rattle.courses.specs.Generator.{Analysis, Generates, Stands, What, next_at, blocker_at, limit_at, system_at, body_at, block_at}
+use Rattle.courses.specs.Generator.{Analysis, Generates, Stands, What, most_indices, next_at, plan, IsRefusedAt, blocker_at, limit_at, system_at, body_at}
 use Rattle.courses.specs.Reading.{listed}
 use Rattle.courses.specs.Places.{TooLarge, rule_of, IsClear}
 use Rattle.courses.specs.Courses.{Finding, Waits, Has, HasNone, after, ComesOut, Course}
@@ -106,7 +105,8 @@ pub record Fits (A : Analysis) (scales : Meter → ℕ) (es : List Block) (block
   pub shape : IsShaped block.body
   pub good : IsGood A.program A.degree scales es block
   pub vector : (farkas : Entries) → block.body ≡ c.Refuted farkas → IsRefutedBy (system_at A (record { blocks = es; scales = scales }) block.task) farkas
-  pub limit : blocker_of A.program block.task (map outcome es) ≡ None → A.generator.exceeds es block.task ≡ None
+  pub goes_on : IsRefused most_indices (plan A) (map outcome es) → ⊥
+  pub limit : blocker_of A.program block.task (map outcome es) ≡ None → limit_at A (record { blocks = es; scales = scales }) block.task ≡ None
 
 -- a clear task that is tried exceeds no limit
 clear_limit : (A : Analysis) (st : State) (task : Task) → IsClear A st task → blocker_at A st task ≡ None → limit_at A st task ≡ None
@@ -156,12 +156,13 @@ module _ (A : Analysis) where
           shape = shape_risen is r pr block.body h.shape;
           good = subst (IsGood A.program A.degree (raised_scales (k.With m) r st.scales) (map (raised m r) es)) (raised_is m r block) (good_raised A.program A.degree m r pr es st.scales block h.good);
           vector = λ farkas e.
-            let body = refuted_risen is r block.body farkas e in
-            let tried = refuted_tried (blocker_at A now block.task) farkas (subst (NamesBlocker (blocker_at A now block.task)) body h.waits) in
-            refutes_both _ _ farkas (h.vector farkas body) (g.keep now block.task (stands tried) (k.With m) r pr _);
+              let body = refuted_risen is r block.body farkas e in
+              let tried = refuted_tried (blocker_at A now block.task) farkas (subst (NamesBlocker (blocker_at A now block.task)) body h.waits) in
+              refutes_both _ _ farkas (h.vector farkas body) (g.keep now block.task (stands tried) (k.With m) r pr _);
+          goes_on = λ refused. h.goes_on (subst (IsRefused most_indices (plan A)) (outcomes_raised m r es) refused);
           limit = λ w.
-            let tried = ap (blocker_of A.program block.task) (sym (outcomes_raised m r es)) ∙ w in
-            g.limit now block.task (stands tried) (k.With m) r pr ∙ h.limit tried;
+              let tried = ap (blocker_of A.program block.task) (sym (outcomes_raised m r es)) ∙ w in
+              g.limit now block.task (stands tried) (k.With m) r pr ∙ h.limit tried;
         })
 
     all_raised : (st : State) (kind : Kind) (r : ℕ) → 0 < r → Runs A st → AllAt (Fits A (raised_scales kind r st.scales)) (blocks_before kind r st.blocks)
@@ -191,17 +192,17 @@ module _ (A : Analysis) where
             t = 1;
             holds = new_up A.program A.degree m h.t es group (scales m) sigs hints h.holds;
             least = λ u ss hss e.
-              let low = h.least (h.t * u) ss hss (same_down A.program A.degree m h.t es group (scales m) u ss hss positive e) in
-              let regroup : (h.t * u) * weight A.program A.degree (solving task sigs hints) ≡ h.t * (u * weight A.program A.degree (solving task sigs hints)) = grind arith in
-              let less : u * weight A.program A.degree (solving task sigs hints) ≤ weight A.program A.degree (solving task ss hss) = le_of_mul-le-mul_left {k = h.t} (omega (arith, low, regroup)) positive in
-              omega (arith, less);
+                let low = h.least (h.t * u) ss hss (same_down A.program A.degree m h.t es group (scales m) u ss hss positive e) in
+                let regroup : (h.t * u) * weight A.program A.degree (solving task sigs hints) ≡ h.t * (u * weight A.program A.degree (solving task sigs hints)) = grind arith in
+                let less : u * weight A.program A.degree (solving task sigs hints) ≤ weight A.program A.degree (solving task ss hss) = le_of_mul-le-mul_left {k = h.t} (omega (arith, low, regroup)) positive in
+                omega (arith, less);
           };
           one = refl;
         })
 
-    runs_after : (st : State) (finding : Finding) (task : Task) → Runs A st → next_at A st ≡ Some task → (blocker_at A st task ≡ None → limit_at A st task ≡ None) →
+    runs_after : (st : State) (finding : Finding) (task : Task) → Runs A st → next_at A st ≡ Some task → (IsRefusedAt A st → ⊥) → (blocker_at A st task ≡ None → limit_at A st task ≡ None) →
         ComesOut A st task finding → Runs A (after A task finding st)
-    runs_after st (Waits f) task h e few comes = record {
+    runs_after st (Waits f) task h e on few comes = record {
       positive = h.positive;
       fits = all_append (Fits A st.scales) st.blocks _ h.fits (record {
         task = e;
@@ -209,10 +210,11 @@ module _ (A : Analysis) where
         shape = tt;
         good = tt;
         vector = λ farkas q. absurd (cc);
+        goes_on = on;
         limit = few;
       });
     }
-    runs_after st (Has t x) task h e few comes =
+    runs_after st (Has t x) task h e on few comes =
         let stands = stands_of st h task e comes.0 in
         let positive = comes.1.whole.are.positive in
         let least = read_least (system_at A st task) (g.system st task stands) (rule_of A) t x comes.1 in
@@ -225,10 +227,11 @@ module _ (A : Analysis) where
             shape = g.shape st task stands t x positive least.solves;
             good = good_found st.scales st.blocks task.group task.kind _ _ (found_least A g st task stands t x positive least);
             vector = λ farkas q. absurd (cc);
+            goes_on = λ refused. on (subst (IsRefused most_indices (plan A)) same refused);
             limit = λ w. g.limit st task stands task.kind t positive ∙ few comes.0;
           });
         }
-    runs_after st (HasNone y) task h e few comes =
+    runs_after st (HasNone y) task h e on few comes =
         let stands = stands_of st h task e comes.0 in
         let refutes = read_refutes (system_at A st task) (g.system st task stands) (rule_of A) y comes.1 in
         record {
@@ -239,6 +242,7 @@ module _ (A : Analysis) where
             shape = listed_rises y;
             good = found_none A g st task stands (map pos y) refutes;
             vector = λ farkas q. subst (IsRefutedBy (system_at A st task)) (same_vector _ farkas q) (refutes_listed (system_at A st task) y refutes);
+            goes_on = on;
             limit = few;
           });
         }
@@ -248,4 +252,4 @@ module _ (A : Analysis) where
 
     pub runs : (findings : List Finding) (st : State) → Course A findings st → Runs A st
     runs [] st h = subst (Runs A) (sym h) (record { positive = λ m. omega arith; fits = λ place block there. absurd (cc) })
-    runs (f ∷ fs) st h = subst (Runs A) (sym h.2.is) (runs_after h.0 f h.2.task (runs fs h.0 h.1) h.2.is_next (clear_limit A h.0 h.2.task h.2.clear) h.2.comes)
+    runs (f ∷ fs) st h = subst (Runs A) (sym h.2.is) (runs_after h.0 f h.2.task (runs fs h.0 h.1) h.2.is_next h.2.goes_on (clear_limit A h.0 h.2.task h.2.clear) h.2.comes)

@@ -1,5 +1,5 @@
 -- By a rule that is a function there is one course.
-use Rattle.std.proofs.Common.{◌≡◌, ◌≤◌, ◌<◌, ℕ, ℤ, pos, ◌*ℤ◌, ◌<ℤ◌, List, [], ◌∷◌, map, length, Option, Some, None, refl, sym, ap, ◌∙◌, subst, arith}
+use Rattle.std.proofs.Common.{◌≡◌, ◌≤◌, ◌<◌, ◌⊎◌, ⊎_elim, slice_get, ℕ, ℤ, pos, ◌<ℤ◌, List, [], ◌∷◌, map, length, Option, Some, None, refl, sym, ap, ◌∙◌, subst, arith}
 use Rattle.std.proofs.lemmas.Int.{ints}
 use Rattle.raml_num.proofs.Signed.{cancelled}
 use Rattle.linear_rows.specs.Systems.{LinearSystem, IsSystem}
@@ -10,13 +10,14 @@ use Rattle.tableau.specs.Courses.{rule_by}
 use Rattle.tableau.specs.Laws.{OneCourse}
 use Rattle.tableau.proofs.Ending.{good_course}
 use Rattle.tableau.proofs.Agreeing.{not_both}
-use Rattle.cost_free.specs.Task.{Task}
+use Rattle.cost_free.specs.Task.{Free, Task}
+use Rattle.annot_types.specs.Program.{members}
 use Rattle.courses.specs.Wholes.{AreLeastWholes}
 use Rattle.courses.specs.States.{State, certificate_of}
 use Rattle.courses.specs.Generator.{Analysis, Generates, next_at, blocker_at, system_at}
 use Rattle.courses.specs.Reading.{ReadsSolution, ReadsVector}
 use Rattle.courses.specs.Places.{Place, stage, Comes, IsPlace}
-use Rattle.courses.specs.Courses.{Finding, Waits, Has, HasNone, after, ComesOut, Step, Course, IsOver}
+use Rattle.courses.specs.Courses.{Finding, Waits, Has, HasNone, after, ComesOut, Step, Course, IsOver, OnTask, large_of, OnGroup}
 use Rattle.courses.specs.Laws.{OneCertificate, EndsOrStops, OnePlace}
 use Rattle.courses.proofs.Lists.{some_is}
 use Rattle.courses.proofs.Running.{Runs, runs, stands_of}
@@ -104,10 +105,13 @@ module _ (paths : OneCourse) (A : Analysis) (g : Generates A) where
   over_halts : (st : State) → IsOver A st → Halts st
   over_halts st h finding new step = let q = sym h ∙ step.is_next in cc
 
-  place_halts : (st : State) (task : Task) (p : Place) → next_at A st ≡ Some task → IsPlace A st task p → Halts st
-  place_halts st task p e h finding new step =
-      let same : task ≡ step.task = some_is task step.task (sym e ∙ step.is_next) in
-      step.clear (subst (λ v. blocker_at A st v ≡ None) same h.tried) p (subst (λ v. Comes A st v p) same h.comes)
+  task_halts : (st : State) (task : Task) (p : Place) → OnTask A st task p → Halts st
+  task_halts st task p h finding new step =
+      let same : task ≡ step.task = some_is task step.task (sym h.is_next ∙ step.is_next) in
+      step.clear (subst (λ v. blocker_at A st v ≡ None) same h.place.tried) p (subst (λ v. Comes A st v p) same h.place.comes)
+
+  stop_halts : (st : State) (task : Task) (p : Place) → OnTask A st task p ⊎ OnGroup A st task p → Halts st
+  stop_halts st task p h finding new step = ⊎_elim (λ t. task_halts st task p t finding new step) (λ (g : OnGroup A st task p). step.goes_on g.refused) h
 
   -- a course is no longer than one that halts
   no_longer : (fs : List Finding) (st : State) → Course A fs st → Halts st → (ks : List Finding) (other : State) → Course A ks other → length ks ≤ length fs
@@ -130,16 +134,33 @@ one_certificate paths A g c other h k =
 
 pub ends_or_stops : OneCourse → EndsOrStops
 ends_or_stops paths A g c st task p h k =
-    let same = one_halt paths A g h.findings k.findings h.state st h.course (over_halts paths A g h.state h.over) k.course (place_halts paths A g st task p k.is_next k.place) in
-    let q : Some task ≡ None = sym k.is_next ∙ (λ i. next_at A (sym same i)) ∙ h.over in absurd (cc)
+    let same = one_halt paths A g h.findings k.findings h.state st h.course (over_halts paths A g h.state h.over) k.course (stop_halts paths A g st task p k.stops) in
+    let over : next_at A st ≡ None = (λ i. next_at A (sym same i)) ∙ h.over in
+    ⊎_elim (λ (t : OnTask A st task p). some_none task (next_at A st) t.is_next over) (λ (u : OnGroup A st task p). some_none u.refused.task (next_at A st) u.refused.is_next over) k.stops
+
+module _ (A : Analysis) (st : State) (task last : Task) (p q : Place) where
+  one_task : OnTask A st task p → OnTask A st last q → (task ≡ last) × (stage p ≡ stage q)
+  one_task h k =
+      let tasks : task ≡ last = some_is task last (sym h.is_next ∙ k.is_next) in
+      let place : IsPlace A st task q = subst (λ v. IsPlace A st v q) (sym tasks) k.place in
+      (tasks, level (stage p) (stage q) (λ l. h.place.first q l place.comes) (λ l. place.first p l h.place.comes))
+    where
+      level : (m n : ℕ) → (n < m → ⊥) → (m < n → ⊥) → m ≡ n
+      level m n a b = grind (arith, a, b)
+
+  one_group : OnGroup A st task p → OnGroup A st last q → (task ≡ last) × (stage p ≡ stage q)
+  one_group h k =
+      let same : h.refused.task ≡ k.refused.task = some_is h.refused.task k.refused.task (sym h.refused.is_next ∙ k.refused.is_next) in
+      let funs : h.fun ≡ k.fun = some_is h.fun k.fun (sym h.first ∙ (λ i. slice_get (large_of A (members A.program (same i).group)) 0) ∙ k.first) in
+      (h.is ∙ (λ i. record { group = (same i).group; kind = Free A.degree (funs i) 0 }) ∙ sym k.is, ap stage h.place ∙ sym (ap stage k.place))
+
+  one_stop : OnTask A st task p ⊎ OnGroup A st task p → OnTask A st last q ⊎ OnGroup A st last q → (task ≡ last) × (stage p ≡ stage q)
+  one_stop h k = ⊎_elim
+      (λ t. ⊎_elim (λ u. one_task t u) (λ (u : OnGroup A st last q). absurd (t.goes_on u.refused)) k)
+      (λ t. ⊎_elim (λ (u : OnTask A st last q). absurd (u.goes_on t.refused)) (λ u. one_group t u) k) h
 
 pub one_place : OneCourse → OnePlace
 one_place paths A g st other task last p q h k =
-    let same = one_halt paths A g h.findings k.findings st other h.course (place_halts paths A g st task p h.is_next h.place) k.course (place_halts paths A g other last q k.is_next k.place) in
-    let here : next_at A st ≡ Some last = (λ i. next_at A (same i)) ∙ k.is_next in
-    let tasks : task ≡ last = some_is task last (sym h.is_next ∙ here) in
-    let place : IsPlace A st task q = subst (λ v. IsPlace A v task q) (sym same) (subst (λ v. IsPlace A other v q) (sym tasks) k.place) in
-    (same, tasks, level (stage p) (stage q) (λ l. h.place.first q l place.comes) (λ l. place.first p l h.place.comes))
-  where
-    level : (m n : ℕ) → (n < m → ⊥) → (m < n → ⊥) → m ≡ n
-    level m n a b = grind (arith, a, b)
+    let same = one_halt paths A g h.findings k.findings st other h.course (stop_halts paths A g st task p h.stops) k.course (stop_halts paths A g other last q k.stops) in
+    let both = one_stop A st task last p q h.stops (subst (λ v. OnTask A v last q ⊎ OnGroup A v last q) (sym same) k.stops) in
+    (same, both.0, both.1)

@@ -3,7 +3,6 @@ use Rattle.std.proofs.Common.{◌≡◌, ◌≤◌, ◌<◌, ℕ, zero, suc, ◌
 use Rattle.std.specs.List.{range_with_len}
 use Rattle.std.proofs.lemmas.Int.{ints}
 use Rattle.std.proofs.lemmas.Bool.Decides.{nat_tests}
-use Rattle.std.proofs.lemmas.List.FromFn.{length-range_with_len}
 use Rattle.linear_rows.specs.Systems.{LinearSystem, Refutes}
 use Rattle.annot_types.specs.Certificate.{Entries, number_at, RiseFrom, Rise}
 use Rattle.annot_types.specs.System.{AreRows, IsRefutedBy}

@@ -4,7 +4,8 @@ use Rattle.linear_rows.specs.Systems.{LinearSystem, IsSystem, Solves, Refutes}
 use Rattle.linear_rows.specs.Vectors.{dot}
 use Rattle.cost_free.specs.declared.task.Meter.{Meter}
 use Rattle.cost_free.specs.Task.{Kind, Task}
-use Rattle.annot_types.specs.Program.{Program, next_task, blocker_of}
+use Rattle.cost_free.specs.Refused.{Plan, IsRefused}
+use Rattle.annot_types.specs.Program.{Program, results, next_task, blocker_of}
 use Rattle.annot_types.specs.Certificate.{Sig, Hint, Body, Solved, Block}
 use Rattle.annot_types.specs.Holds.{Holds}
 use Rattle.annot_types.specs.Held.{IsShaped}
@@ -19,11 +20,12 @@ pub data What : Type 0 where
   Unknowns : What
   Rows : What
 
--- For a task over the blocks before it: the signatures and the hints that numbers for its unknowns stand for, and the first limit that it exceeds.
+-- For a task over the blocks before it: the signatures and the hints that numbers for its unknowns stand for, and the first limit that it exceeds at a
+-- scale.
 pub record Generator : Type 0 where
   pub sigs : List Block → Task → List ℕ → List Sig
   pub hints : List Block → Task → List ℕ → List (List Hint)
-  pub exceeds : List Block → Task → Option What
+  pub exceeds : List Block → Task → ℕ → Option What
 
 -- What is analysed: a program at degree d, with work or without it, and by which rule columns enter.
 pub record Analysis : Type 0 where
@@ -33,16 +35,27 @@ pub record Analysis : Type 0 where
   pub generator : Generator
   pub pick : List ℤ → ℤ → Option ℕ
 
+-- no more indices than this at once
+abbrev pub most_indices : ℕ
+most_indices = 2000
+
 module _ (A : Analysis) where
   abbrev pub next_at : State → Option Task
   next_at st = next_task A.program A.degree A.work (done st)
+
+  abbrev pub plan : Plan
+  plan = record { results = results A.program; groups = A.program.groups; degree = A.degree; work = A.work }
+
+  -- The schedule does not go on: the next task is the first of its group, and a function of the group has a result with too many indices.
+  abbrev pub IsRefusedAt : State → Type 0
+  IsRefusedAt st = IsRefused most_indices plan (done st)
 
   -- the function that a task waits for; where there is one, the task is not tried
   abbrev pub blocker_at : State → Task → Option ℕ
   blocker_at st task = blocker_of A.program task (done st)
 
   abbrev pub limit_at : State → Task → Option What
-  limit_at st task = A.generator.exceeds st.blocks task
+  limit_at st task = A.generator.exceeds st.blocks task (scale_at st.scales task.kind)
 
   -- the system of a task over the blocks so far, at the scale of its meter
   abbrev pub system_at : State → Task → LinearSystem

@@ -1,5 +1,5 @@
 -- What courses are for.
-use Rattle.std.specs.Prelude.{◌≡◌, ◌≤◌, ◌<◌, ℕ, ℤ, pos, List, map, length}
+use Rattle.std.specs.Prelude.{◌≡◌, ◌≤◌, ◌<◌, ℕ, ℤ, pos, List, length, slice_get, Some, None}
 use Rattle.linear_rows.specs.Systems.{LinearSystem, Refutes, matrix, right_sides}
 use Rattle.linear_rows.specs.Vectors.{scale}
 use Rattle.farkas_check.specs.declared.Verdict.TheVariants.{No}
@@ -7,15 +7,17 @@ use Rattle.farkas_check.specs.Checks.{IsVerdict, refuting}
 use Rattle.cost_free.specs.declared.task.Meter.{Meter}
 use Rattle.cost_free.specs.Task.{Kind, Task}
 use Rattle.cost_free.specs.Schedule.{tasks_from}
-use Rattle.annot_types.specs.Program.{Program, results}
-use Rattle.annot_types.specs.Certificate.{Certificate}
+use Rattle.cost_free.specs.Refused.{IsRefused}
+use Rattle.annot_types.specs.Program.{Program, results, blocker_of}
+use Rattle.annot_types.specs.Certificate.{Block, Certificate}
+use Rattle.annot_types.specs.Held.{before, done_before, scale_for}
 use Rattle.annot_types.specs.Least.{Refuted, Least}
 use Rattle.annot_types.specs.System.{IsRefutedBy, Valid}
 use Rattle.courses.specs.States.{State, scale_at, raise}
-use Rattle.courses.specs.Generator.{What, Generator, Analysis, Stands, Generates, system_at, block_at}
+use Rattle.courses.specs.Generator.{What, Generator, Analysis, most_indices, plan, Stands, Generates, system_at, block_at}
 use Rattle.courses.specs.Reading.{ReadsSolution, ReadsVector, listed}
 use Rattle.courses.specs.Good.{AllGood, AllLeast, AllRefuted}
-use Rattle.courses.specs.Places.{Place, stage, rule_of}
+use Rattle.courses.specs.Places.{Place, stage, rule_of, IsOfMeter}
 use Rattle.courses.specs.Courses.{Finding, Course, StopsAt, EndsAt}
 use Rattle.courses.specs.Verifying.{TooLarge, NotRefuted, BlockFault}
 
@@ -52,7 +54,16 @@ pub record Certifies (P : Program) (c : Certificate) : Type 0 where
 abbrev pub CoursesCertify : Type 0
 CoursesCertify = (A : Analysis) → Generates A → 1 ≤ A.degree → A.degree ≤ 4 → (c : Certificate) → EndsAt A c → Certifies A.program c
 
--- None of its refuted blocks exceeds a limit over the blocks before it.
+-- At no place does the schedule refuse to go on, and no task that is tried exceeds a limit over the blocks before it.
+pub record StaysWithin (A : Analysis) (c : Certificate) : Type 0 where
+  pub goes_on : (place : ℕ) (block : Block) → slice_get c.blocks place ≡ Some block → IsRefused most_indices (plan A) (done_before c place) → ⊥
+  pub limits : (place : ℕ) (block : Block) → slice_get c.blocks place ≡ Some block → blocker_of A.program block.task (done_before c place) ≡ None →
+      A.generator.exceeds (before c place) block.task (scale_for c block.task.kind) ≡ None
+
+abbrev pub CoursesStayWithin : Type 0
+CoursesStayWithin = (A : Analysis) → Generates A → (c : Certificate) → EndsAt A c → StaysWithin A c
+
+-- So none of its refuted blocks exceeds a limit.
 abbrev pub NoneTooLarge : Type 0
 NoneTooLarge =
     (A : Analysis) → Generates A → (c : Certificate) → EndsAt A c →
@@ -78,6 +89,12 @@ abbrev pub OnePlace : Type 0
 OnePlace =
     (A : Analysis) → Generates A → (st other : State) (task last : Task) (p q : Place) → StopsAt A st task p → StopsAt A other last q →
     (st ≡ other) × (task ≡ last) × (stage p ≡ stage q)
+
+-- a meter of which no block is solved has the scale 1
+abbrev pub ScalesBegin : Type 0
+ScalesBegin =
+    (A : Analysis) → (findings : List Finding) (st : State) → Course A findings st → (meter : Meter) →
+    ((place : ℕ) (block : Block) → slice_get st.blocks place ≡ Some block → IsOfMeter meter block → ⊥) → st.scales meter ≡ 1
 
 -- a course has no more blocks than there are tasks that may be tried
 abbrev pub CoursesEnd : Type 0

@@ -1,5 +1,5 @@
 -- What is read of a task's system where its pivots end.
-use Rattle.std.specs.Prelude.{◌≡◌, ◌+◌, ℕ, zero, suc, ℤ, pos, List, [], ◌∷◌, ◌++◌, length}
+use Rattle.std.specs.Prelude.{◌≡◌, ◌+◌, ℕ, zero, suc, pos, List, [], ◌∷◌, ◌++◌, length}
 use Rattle.linear_rows.specs.Systems.{LinearSystem}
 use Rattle.tableau.specs.Tableaux.{Tableau, solution, dual, ray}
 use Rattle.tableau.specs.Courses.{Rule, Ends, Rises, Follows, Answers}

@@ -43,7 +43,8 @@ module _ (P : Program) (G : Generator) (c : Certificate) where
     pub farkas : Entries
     pub there : slice_get c.blocks place ≡ Some block
     pub refuted : block.body ≡ Refuted farkas
-    pub is : VectorFault (G.exceeds (before c place) block.task) (system P c.degree (before c place) block.task (scale_for c block.task.kind)) farkas fault
+    pub is : VectorFault (G.exceeds (before c place) block.task (scale_for c block.task.kind))
+        (system P c.degree (before c place) block.task (scale_for c block.task.kind)) farkas fault
 
   -- the first refuted block that has a fault has this one
   pub record FirstFault (place : ℕ) (fault : Fault) : Type 0 where

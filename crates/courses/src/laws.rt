@@ -1,6 +1,6 @@
 // Laws of courses: each is the contract of a function that does nothing.
 ghost use Rattle.courses.specs.Clear.{FineIsClear, SeenIsFirst};
-ghost use Rattle.courses.specs.Laws.{CoursesAreGood, CoursesCertify, CoursesEnd, EndsOrStops, FoundIsLeast, FoundIsRefuted, NoneTooLarge, NoneUnrefuted, OneCertificate, OnePlace, RaisedRowsAreRefuted, RaisedStayGood};
+ghost use Rattle.courses.specs.Laws.{CoursesAreGood, CoursesCertify, CoursesEnd, CoursesStayWithin, EndsOrStops, FoundIsLeast, FoundIsRefuted, NoneTooLarge, NoneUnrefuted, OneCertificate, OnePlace, RaisedRowsAreRefuted, RaisedStayGood, ScalesBegin};
 ghost use Rattle.courses.specs.Lines.{LinesTell};
 
 use tableau::one_course;
@@ -28,6 +28,12 @@ pub fn courses_are_good()
 /// The certificate of a course is valid, its solved blocks are least, and its refuted tasks are refuted.
 pub fn courses_certify()
     ensures { CoursesCertify }
+{}
+
+/// At no place of a course's certificate does the schedule refuse to go on, and no task that is tried
+/// exceeds a limit.
+pub fn courses_stay_within()
+    ensures { CoursesStayWithin }
 {}
 
 /// No refuted block of a course's certificate exceeds a limit over the blocks before it.
@@ -60,6 +66,11 @@ pub fn one_place()
 {
     one_course();
 }
+
+/// A meter of which no block is solved has the scale 1.
+pub fn scales_begin()
+    ensures { ScalesBegin }
+{}
 
 /// A course has no more blocks than there are tasks that may be tried.
 pub fn courses_end()
