@@ -1,0 +1,13 @@
+mod Lists
+mod Vectors
+mod Found
+mod RaisedRows
+mod Raising
+mod Running
+mod Asked
+mod Certifying
+mod Single
+mod Short
+mod Clear
+mod Lines
+mod Beginning

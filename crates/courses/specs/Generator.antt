@@ -1,0 +1,103 @@
+-- The systems of tasks, and what is asked of them.
+use Rattle.std.specs.Prelude.{◌≡◌, ◌<◌, ℕ, Bool, ℤ, pos, List, map, Option, Some, None}
+use Rattle.linear_rows.specs.Systems.{LinearSystem, IsSystem, Solves, Refutes}
+use Rattle.linear_rows.specs.Vectors.{dot}
+use Rattle.cost_free.specs.declared.task.Meter.{Meter}
+use Rattle.cost_free.specs.Task.{Kind, Task}
+use Rattle.cost_free.specs.Refused.{Plan, IsRefused}
+use Rattle.annot_types.specs.Program.{Program, results, next_task, blocker_of}
+use Rattle.annot_types.specs.Certificate.{Sig, Hint, Body, Solved, Block}
+use Rattle.annot_types.specs.Holds.{Holds}
+use Rattle.annot_types.specs.Held.{IsShaped}
+use Rattle.annot_types.specs.Least.{solving, weight}
+use Rattle.annot_types.specs.System.{system}
+use Rattle.courses.specs.States.{State, done, scale_at, raise}
+use Rattle.courses.specs.Good.{AllHold}
+
+-- what of a task may exceed its limit
+pub data What : Type 0 where
+  Indices : What
+  Unknowns : What
+  Rows : What
+
+-- For a task over the blocks before it: the signatures and the hints that numbers for its unknowns stand for, and the first limit that it exceeds at a
+-- scale.
+pub record Generator : Type 0 where
+  pub sigs : List Block → Task → List ℕ → List Sig
+  pub hints : List Block → Task → List ℕ → List (List Hint)
+  pub exceeds : List Block → Task → ℕ → Option What
+
+-- What is analysed: a program at degree d, with work or without it, and by which rule columns enter.
+pub record Analysis : Type 0 where
+  pub program : Program
+  pub degree : ℕ
+  pub work : Bool
+  pub generator : Generator
+  pub pick : List ℤ → ℤ → Option ℕ
+
+-- no more indices than this at once
+abbrev pub most_indices : ℕ
+most_indices = 2000
+
+module _ (A : Analysis) where
+  abbrev pub next_at : State → Option Task
+  next_at st = next_task A.program A.degree A.work (done st)
+
+  abbrev pub plan : Plan
+  plan = record { results = results A.program; groups = A.program.groups; degree = A.degree; work = A.work }
+
+  -- The schedule does not go on: the next task is the first of its group, and a function of the group has a result with too many indices.
+  abbrev pub IsRefusedAt : State → Type 0
+  IsRefusedAt st = IsRefused most_indices plan (done st)
+
+  -- the function that a task waits for; where there is one, the task is not tried
+  abbrev pub blocker_at : State → Task → Option ℕ
+  blocker_at st task = blocker_of A.program task (done st)
+
+  abbrev pub limit_at : State → Task → Option What
+  limit_at st task = A.generator.exceeds st.blocks task (scale_at st.scales task.kind)
+
+  -- the system of a task over the blocks so far, at the scale of its meter
+  abbrev pub system_at : State → Task → LinearSystem
+  system_at st task = system A.program A.degree st.blocks task (scale_at st.scales task.kind)
+
+  -- what numbers for its unknowns stand for
+  abbrev pub body_at : State → Task → List ℕ → Body
+  body_at st task x = Solved (A.generator.sigs st.blocks task x) (A.generator.hints st.blocks task x)
+
+  abbrev pub block_at : State → Task → List ℕ → Block
+  block_at st task x = record { task = task; body = body_at st task x }
+
+  abbrev pub HoldsNow : State → Block → ℕ → Type 0
+  HoldsNow st block t = Holds A.program A.degree st.blocks (scale_at st.scales block.task.kind) block t
+
+  -- The blocks are a run so far whose solved blocks hold, and the task is the next one and is tried.
+  pub record Stands (st : State) (task : Task) : Type 0 where
+    pub positive : (meter : Meter) → 0 < st.scales meter
+    pub hold : AllHold A.program A.degree st
+    pub next : next_at st ≡ Some task
+    pub tried : blocker_at st task ≡ None
+
+  -- The system of a task is solved by what holds, and by nothing else.
+  pub record Generates : Type 0 where
+    pub system : (st : State) (task : Task) → Stands st task → IsSystem (system_at st task)
+    -- numbers over t that solve it stand for what holds with t
+    pub hold : (st : State) (task : Task) → Stands st task → (t : ℕ) (x : List ℕ) → 0 < t →
+        Solves (system_at st task) (map pos x) (pos t) → HoldsNow st (block_at st task x) t
+    pub shape : (st : State) (task : Task) → Stands st task → (t : ℕ) (x : List ℕ) → 0 < t →
+        Solves (system_at st task) (map pos x) (pos t) → IsShaped (body_at st task x)
+    -- and their weighted sum is that of the block
+    pub weigh : (st : State) (task : Task) → Stands st task → (t : ℕ) (x : List ℕ) → 0 < t →
+        Solves (system_at st task) (map pos x) (pos t) →
+        dot (system_at st task).weights (map pos x) ≡ pos (weight A.program A.degree (block_at st task x))
+    -- all that holds with a t comes from numbers over t that solve it, with this weighted sum
+    pub solve : (st : State) (task : Task) → Stands st task → (t : ℕ) (sigs : List Sig) (hints : List (List Hint)) →
+        HoldsNow st (solving task sigs hints) t →
+        (x : List ℕ) × Solves (system_at st task) (map pos x) (pos t)
+        × (dot (system_at st task).weights (map pos x) ≡ pos (weight A.program A.degree (solving task sigs hints)))
+    -- where blocks and scales are raised, what refutes the system still refutes it
+    pub keep : (st : State) (task : Task) → Stands st task → (kind : Kind) (r : ℕ) → 0 < r → (y : List ℤ) →
+        Refutes (system_at st task) y → Refutes (system_at (raise kind r st) task) y
+    -- and the limits are exceeded alike
+    pub limit : (st : State) (task : Task) → Stands st task → (kind : Kind) (r : ℕ) → 0 < r →
+        limit_at (raise kind r st) task ≡ limit_at st task

@@ -1,0 +1,11 @@
+pub mod Wholes
+pub mod States
+pub mod Good
+pub mod Generator
+pub mod Reading
+pub mod Places
+pub mod Courses
+pub mod Clear
+pub mod Verifying
+pub mod Lines
+pub mod Laws
