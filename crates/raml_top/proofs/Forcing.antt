@@ -1,23 +1,22 @@
 -- The causes of the answers exclude each other where the store tells what it holds, so that each brings its answer.
-use Rattle.std.proofs.Common.{◌≡◌, ◌≤◌, ℕ, List, Option, Some, None, Err, refl, sym, ap, subst, ◌∙◌, inl, inr}
+use Rattle.std.proofs.Common.{◌≡◌, ◌≤◌, ℕ, List, Option, Some, None, refl, sym, ap, subst, ◌∙◌, inl, inr, ⊎_elim}
 use Rattle.raml_syntax.specs.Tree.{Text, Function, Prog}
 use Rattle.raml_syntax.specs.Value.{Value}
 use Rattle.raml_io.specs.Files.{Files}
 use Rattle.raml_io.specs.Written.{grown}
-use Rattle.raml_parse.specs.declared.fault.ParseFault.{ParseFault}
-use Rattle.simple_types.specs.Fault.{Fault}
 use Rattle.simple_types.specs.declared.fault.TypeFault.{TypeFault}
 use Rattle.stack_compile.specs.Machine.{State}
 use Rattle.value_text.specs.declared.fault.DataFault.{DataFault}
-use Rattle.raml_words.specs.Words.{Limits, Request, Types, Code, Analyse, Run, file_of, Asks, AsksNothing}
+use Rattle.raml_top.specs.Asked.{Limits, Request, Types, Code, Analyse, Run, file_of, Asks, AsksLater, AsksNothing}
 use Rattle.raml_top.specs.Fragment.{IsTyped, most_bytes}
-use Rattle.raml_top.specs.Call.{Call, machine_at, most_data}
+use Rattle.raml_top.specs.Call.{Call, most_data}
 use Rattle.raml_top.specs.Promise.{Outside, Rises, IsRead, ReadOf, AskedOf, TypedOf, NamedOf, ReportsProgram, Ran, Reports, ProgramRefused, Refused, IsIllTyped, Cause, EndsBy, EndsByType, EndsAs, Read, ReadProgram, ToldData, ReadData, Forced}
 use Rattle.raml_top.specs.declared.status.Status.{Status}
 use Rattle.raml_top.specs.declared.status.Status.TheVariants.{Done, Usage, ReadFault, TooLong, Source, Data, NoFunction, Stopped, HeapFull, WriteFault, NotBuilt, NoMemory}
 use Rattle.raml_top.specs.declared.status.Which.TheVariants as w
 use Rattle.raml_top.specs.declared.status.SourceFault.TheVariants.{Parse, «Type»}
-use Rattle.raml_top.proofs.Told.{all_read, none_held, held_front, asks_something, of_told, nothing_read, source_told}
+use Rattle.raml_top.proofs.Asking.{not_later, not_nothing}
+use Rattle.raml_top.proofs.Told.{all_read, none_held, held_front, asks_something, asks_now, of_told, nothing_read, source_told}
 use Rattle.raml_top.proofs.Turns.{Sort, Long, Faulty, Untyped, Fine, IsOf, one_sort, whole_sort, Turn, Other, Reported, Nameless, Called, IsTurn, one_turn, Outcome, LongData, FaultyData, Halts, Goes, Full, IsOutcome, one_outcome, whole_outcome, halts_within}
 
 -- the file that the words name has bytes of this sort
@@ -142,6 +141,7 @@ module _ (o : Outside) (a : Sort) (status : Status) (asked : AskedSort o a) (end
   forced_by : Forced o status
   forced_by = record {
     usage = λ none. absurd (asks_something o _ asked none);
+    later = λ later. absurd (asks_now o _ asked later);
     missing = λ request told. absurd (nothing_read o most_bytes _ request told (of_told o _ asked request _ told));
     too_long = λ request content read is. sort_ends request content Long read is;
     faulty = λ request content fault read is. sort_ends request content (Faulty fault) read is;
@@ -285,10 +285,11 @@ data_faulty o fault h = outcome_forced o (FaultyData fault) (Data fault) (asked_
 usage_forced : (o : Outside) → AsksNothing o.words → Forced o Usage
 usage_forced o none = record {
   usage = λ same. inl refl;
-  missing = λ request told. absurd (none request told.asked);
-  too_long = λ request content read is. absurd (none request read.told.asked);
-  faulty = λ request content fault read is. absurd (none request read.told.asked);
-  untyped = λ request content fault read is. absurd (none request read.told.asked);
+  later = λ later. absurd (none later.whole later.asked);
+  missing = λ request told. absurd (not_nothing o.words request told.asked none);
+  too_long = λ request content read is. absurd (not_nothing o.words request read.told.asked none);
+  faulty = λ request content fault read is. absurd (not_nothing o.words request read.told.asked none);
+  untyped = λ request content fault read is. absurd (not_nothing o.words request read.told.asked none);
   other = λ request P read is. absurd (no_program request P read);
   listed = λ file P read quiet. absurd (no_program (Types file) P read);
   coded = λ file P read quiet. absurd (no_program (Code file) P read);
@@ -303,11 +304,36 @@ usage_forced o none = record {
 }
   where
     no_program : (request : Request) (P : Prog) → ReadProgram o request P → ⊥
-    no_program request P read = none request read.read.told.asked
+    no_program request P read = not_nothing o.words request read.read.told.asked none
+
+later_forced : (o : Outside) → AsksLater o.words → Forced o NotBuilt
+later_forced o later = record {
+  usage = λ none. absurd (none later.whole later.asked);
+  later = λ same. inl refl;
+  missing = λ request told. absurd (not_later o.words request told.asked later);
+  too_long = λ request content read is. absurd (not_later o.words request read.told.asked later);
+  faulty = λ request content fault read is. absurd (not_later o.words request read.told.asked later);
+  untyped = λ request content fault read is. absurd (not_later o.words request read.told.asked later);
+  other = λ request P read is. absurd (no_program request P read);
+  listed = λ file P read quiet. absurd (no_program (Types file) P read);
+  coded = λ file P read quiet. absurd (no_program (Code file) P read);
+  analysed = λ file degree P fun read is quiet. absurd (no_program (Analyse file degree) P read);
+  no_function = λ file name data_file limits P read is. absurd (no_program (Run file name data_file limits) P read);
+  data_missing = λ name limits P fun told. absurd (no_program _ P told.program);
+  data_too_long = λ name limits P fun content read is. absurd (no_program _ P read.told.program);
+  data_faulty = λ name limits P fun content fault read is. absurd (no_program _ P read.told.program);
+  halted = λ name limits P content call v read is few quiet. absurd (no_program _ P read.told.program);
+  stopped = λ name limits P content call read is few quiet. absurd (no_program _ P read.told.program);
+  full = λ name limits P content call made read is quiet. absurd (no_program _ P read.told.program);
+}
+  where
+    no_program : (request : Request) (P : Prog) → ReadProgram o request P → ⊥
+    no_program request P read = not_later o.words request read.read.told.asked later
 
 source_fault : (o : Outside) → AskedOf o.words (λ request. Rises (o.reads (file_of request))) → Forced o (ReadFault w.Program)
 source_fault o h = record {
   usage = λ none. absurd (asks_something o _ h none);
+  later = λ later. absurd (asks_now o _ h later);
   missing = λ request told. inl refl;
   too_long = λ request content read is. absurd (calm request content read);
   faulty = λ request content fault read is. absurd (calm request content read);
@@ -334,6 +360,7 @@ source_fault o h = record {
 memory_forced : (o : Outside) → Forced o NoMemory
 memory_forced o = record {
   usage = λ none. inr refl;
+  later = λ later. inr refl;
   missing = λ request told. inr refl;
   too_long = λ request content read is. inr refl;
   faulty = λ request content fault read is. inr refl;
@@ -366,7 +393,7 @@ causes_force o old new (Source (Parse fault)) c = forced_by o (Faulty fault) (So
 causes_force o old new (Source («Type» fault)) c = ill_typed o fault c.0
 causes_force o old new (Data fault) c = data_faulty o fault c.0
 causes_force o old new NoFunction c = no_function o c.0
-causes_force o old new NotBuilt c = turn_forced o Other NotBuilt c.0 (inl refl)
+causes_force o old new NotBuilt c = ⊎_elim (later_forced o) (λ h. turn_forced o Other NotBuilt h (inl refl)) c.0
 causes_force o old new NoMemory c = memory_forced o
 
 -- no program is refused with the status of a report, nor for what out did
