@@ -282,14 +282,16 @@ data_faulty o fault h = outcome_forced o (FaultyData fault) (Data fault) (asked_
     comes (Code file) P r = absurd r
     comes (Analyse file degree) P r = absurd r
 
-usage_forced : (o : Outside) → AsksNothing o.words → Forced o Usage
-usage_forced o none = record {
-  usage = λ same. inl refl;
-  later = λ later. absurd (none later.whole later.asked);
-  missing = λ request told. absurd (not_nothing o.words request told.asked none);
-  too_long = λ request content read is. absurd (not_nothing o.words request read.told.asked none);
-  faulty = λ request content fault read is. absurd (not_nothing o.words request read.told.asked none);
-  untyped = λ request content fault read is. absurd (not_nothing o.words request read.told.asked none);
+-- nothing is asked for that is built
+unasked_forced : (o : Outside) (status : Status) → (AsksNothing o.words → EndsBy Usage status) → (AsksLater o.words → EndsBy NotBuilt status)
+    → ((request : Request) → Asks o.words request → ⊥) → Forced o status
+unasked_forced o status usage later none = record {
+  usage = usage;
+  later = later;
+  missing = λ request told. absurd (none request told.asked);
+  too_long = λ request content read is. absurd (none request read.told.asked);
+  faulty = λ request content fault read is. absurd (none request read.told.asked);
+  untyped = λ request content fault read is. absurd (none request read.told.asked);
   other = λ request P read is. absurd (no_program request P read);
   listed = λ file P read quiet. absurd (no_program (Types file) P read);
   coded = λ file P read quiet. absurd (no_program (Code file) P read);
@@ -304,31 +306,15 @@ usage_forced o none = record {
 }
   where
     no_program : (request : Request) (P : Prog) → ReadProgram o request P → ⊥
-    no_program request P read = not_nothing o.words request read.read.told.asked none
+    no_program request P read = none request read.read.told.asked
+
+usage_forced : (o : Outside) → AsksNothing o.words → Forced o Usage
+usage_forced o none =
+    unasked_forced o Usage (λ same. inl refl) (λ later. absurd (none later.whole later.asked)) (λ request asks. not_nothing o.words request asks none)
 
 later_forced : (o : Outside) → AsksLater o.words → Forced o NotBuilt
-later_forced o later = record {
-  usage = λ none. absurd (none later.whole later.asked);
-  later = λ same. inl refl;
-  missing = λ request told. absurd (not_later o.words request told.asked later);
-  too_long = λ request content read is. absurd (not_later o.words request read.told.asked later);
-  faulty = λ request content fault read is. absurd (not_later o.words request read.told.asked later);
-  untyped = λ request content fault read is. absurd (not_later o.words request read.told.asked later);
-  other = λ request P read is. absurd (no_program request P read);
-  listed = λ file P read quiet. absurd (no_program (Types file) P read);
-  coded = λ file P read quiet. absurd (no_program (Code file) P read);
-  analysed = λ file degree P fun read is quiet. absurd (no_program (Analyse file degree) P read);
-  no_function = λ file name data_file limits P read is. absurd (no_program (Run file name data_file limits) P read);
-  data_missing = λ name limits P fun told. absurd (no_program _ P told.program);
-  data_too_long = λ name limits P fun content read is. absurd (no_program _ P read.told.program);
-  data_faulty = λ name limits P fun content fault read is. absurd (no_program _ P read.told.program);
-  halted = λ name limits P content call v read is few quiet. absurd (no_program _ P read.told.program);
-  stopped = λ name limits P content call read is few quiet. absurd (no_program _ P read.told.program);
-  full = λ name limits P content call made read is quiet. absurd (no_program _ P read.told.program);
-}
-  where
-    no_program : (request : Request) (P : Prog) → ReadProgram o request P → ⊥
-    no_program request P read = not_later o.words request read.read.told.asked later
+later_forced o later =
+    unasked_forced o NotBuilt (λ none. absurd (none later.whole later.asked)) (λ same. inl refl) (λ request asks. not_later o.words request asks later)
 
 source_fault : (o : Outside) → AskedOf o.words (λ request. Rises (o.reads (file_of request))) → Forced o (ReadFault w.Program)
 source_fault o h = record {
