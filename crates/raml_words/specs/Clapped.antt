@@ -75,7 +75,8 @@ run_texts_with file name data_file steps cells degree = None
 
 abbrev pub run_texts : (Text → Option Text) → Option RunTexts
 run_texts value =
-    run_texts_with (value (codes "file")) (value (codes "name")) (value (codes "data")) (value (codes "steps")) (value (codes "cells")) (value (codes "degree"))
+    run_texts_with (value (codes "file")) (value (codes "name")) (value (codes "data"))
+    (value (codes "steps")) (value (codes "cells")) (value (codes "degree"))
 
 -- ---- the code's texts as plain data
 
