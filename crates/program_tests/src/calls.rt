@@ -144,7 +144,23 @@ run f.raml main d --cells 0 => value
 run --cells=16777216 f.raml main d --steps=2 => stopped
 run f.raml main d --cells 16777217 => usage
 run f.raml main d --cells 1 --cells 1 => usage
-run f.raml main d --degree 1 => usage
+run f.raml main d --degree 1 => later
+run f.raml main d --degree 0 => usage
+analyse f.raml --degree=2 => bounds
+analyse f.raml --degree 04 => bounds
+analyse --degree 1 -- -f.raml => unread
+analyse  --degree 1 => unread
+analyse - --degree 1 => usage
+analyse f.raml --degree 1 --pivot greatest => bounds
+analyse f.raml --degree 1 --pivot best => usage
+certify f.raml --degree 1 => later
+certify g.raml --degree 1 --pivot=least => later
+certify f.raml => usage
+verify f.raml d => later
+verify f.raml => usage
+trial 1 => later
+trial 100 => later
+trial 101 => usage
 run f.raml main => usage
 run f.raml main d d => usage
 run d main f.raml => unspelled
@@ -174,6 +190,7 @@ fn words_have_their_answers(rt: HostRuntime) -> Result<(), Fail> {
             "unspelled" => "4 raml: source: syntax at 0\n",
             "no arguments" => "5 raml: data: shape at 0\n",
             "nameless" => "6 raml: no function\n",
+            "later" => "20 raml: not built\n",
             _ => "1 raml: usage\n",
         };
         let words: Vec<&str> = words.trim_end_matches(' ').split(' ').collect(alloc)?;

@@ -16,7 +16,7 @@ use Rattle.value_text.specs.Reading.{AreRead, FirstFault, Answers, most_cells}
 use Rattle.value_text.specs.declared.fault.DataFault.{DataFault}
 use Rattle.value_text.specs.declared.fault.DataFault.TheVariants as d
 use Rattle.raml_syntax.specs.Types.{types_of}
-use Rattle.raml_words.specs.Words.{Limits}
+use Rattle.raml_top.specs.Asked.{Limits}
 use Rattle.raml_top.specs.Call.{IsNamed, most_data}
 use Rattle.raml_top.specs.Promise.{Count, data_refusal, RunRefused}
 use Rattle.raml_top.specs.Steps.{IsWhole, ReadRefused, CanRun, RanOn, RunReported, RunAnswered}

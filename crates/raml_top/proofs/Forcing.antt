@@ -1,23 +1,22 @@
 -- The causes of the answers exclude each other where the store tells what it holds, so that each brings its answer.
-use Rattle.std.proofs.Common.{◌≡◌, ◌≤◌, ℕ, List, Option, Some, None, Err, refl, sym, ap, subst, ◌∙◌, inl, inr}
+use Rattle.std.proofs.Common.{◌≡◌, ◌≤◌, ℕ, List, Option, Some, None, refl, sym, ap, subst, ◌∙◌, inl, inr, ⊎_elim}
 use Rattle.raml_syntax.specs.Tree.{Text, Function, Prog}
 use Rattle.raml_syntax.specs.Value.{Value}
 use Rattle.raml_io.specs.Files.{Files}
 use Rattle.raml_io.specs.Written.{grown}
-use Rattle.raml_parse.specs.declared.fault.ParseFault.{ParseFault}
-use Rattle.simple_types.specs.Fault.{Fault}
 use Rattle.simple_types.specs.declared.fault.TypeFault.{TypeFault}
 use Rattle.stack_compile.specs.Machine.{State}
 use Rattle.value_text.specs.declared.fault.DataFault.{DataFault}
-use Rattle.raml_words.specs.Words.{Limits, Request, Types, Code, Analyse, Run, file_of, Asks, AsksNothing}
+use Rattle.raml_top.specs.Asked.{Limits, Request, Types, Code, Analyse, Run, file_of, Asks, AsksLater, AsksNothing}
 use Rattle.raml_top.specs.Fragment.{IsTyped, most_bytes}
-use Rattle.raml_top.specs.Call.{Call, machine_at, most_data}
+use Rattle.raml_top.specs.Call.{Call, most_data}
 use Rattle.raml_top.specs.Promise.{Outside, Rises, IsRead, ReadOf, AskedOf, TypedOf, NamedOf, ReportsProgram, Ran, Reports, ProgramRefused, Refused, IsIllTyped, Cause, EndsBy, EndsByType, EndsAs, Read, ReadProgram, ToldData, ReadData, Forced}
 use Rattle.raml_top.specs.declared.status.Status.{Status}
 use Rattle.raml_top.specs.declared.status.Status.TheVariants.{Done, Usage, ReadFault, TooLong, Source, Data, NoFunction, Stopped, HeapFull, WriteFault, NotBuilt, NoMemory}
 use Rattle.raml_top.specs.declared.status.Which.TheVariants as w
 use Rattle.raml_top.specs.declared.status.SourceFault.TheVariants.{Parse, «Type»}
-use Rattle.raml_top.proofs.Told.{all_read, none_held, held_front, asks_something, of_told, nothing_read, source_told}
+use Rattle.raml_top.proofs.Asking.{not_later, not_nothing}
+use Rattle.raml_top.proofs.Told.{all_read, none_held, held_front, asks_something, asks_now, of_told, nothing_read, source_told}
 use Rattle.raml_top.proofs.Turns.{Sort, Long, Faulty, Untyped, Fine, IsOf, one_sort, whole_sort, Turn, Other, Reported, Nameless, Called, IsTurn, one_turn, Outcome, LongData, FaultyData, Halts, Goes, Full, IsOutcome, one_outcome, whole_outcome, halts_within}
 
 -- the file that the words name has bytes of this sort
@@ -142,6 +141,7 @@ module _ (o : Outside) (a : Sort) (status : Status) (asked : AskedSort o a) (end
   forced_by : Forced o status
   forced_by = record {
     usage = λ none. absurd (asks_something o _ asked none);
+    later = λ later. absurd (asks_now o _ asked later);
     missing = λ request told. absurd (nothing_read o most_bytes _ request told (of_told o _ asked request _ told));
     too_long = λ request content read is. sort_ends request content Long read is;
     faulty = λ request content fault read is. sort_ends request content (Faulty fault) read is;
@@ -282,9 +282,12 @@ data_faulty o fault h = outcome_forced o (FaultyData fault) (Data fault) (asked_
     comes (Code file) P r = absurd r
     comes (Analyse file degree) P r = absurd r
 
-usage_forced : (o : Outside) → AsksNothing o.words → Forced o Usage
-usage_forced o none = record {
-  usage = λ same. inl refl;
+-- nothing is asked for that is built
+unasked_forced : (o : Outside) (status : Status) → (AsksNothing o.words → EndsBy Usage status) → (AsksLater o.words → EndsBy NotBuilt status)
+    → ((request : Request) → Asks o.words request → ⊥) → Forced o status
+unasked_forced o status usage later none = record {
+  usage = usage;
+  later = later;
   missing = λ request told. absurd (none request told.asked);
   too_long = λ request content read is. absurd (none request read.told.asked);
   faulty = λ request content fault read is. absurd (none request read.told.asked);
@@ -305,9 +308,18 @@ usage_forced o none = record {
     no_program : (request : Request) (P : Prog) → ReadProgram o request P → ⊥
     no_program request P read = none request read.read.told.asked
 
+usage_forced : (o : Outside) → AsksNothing o.words → Forced o Usage
+usage_forced o none =
+    unasked_forced o Usage (λ same. inl refl) (λ later. absurd (none later.whole later.asked)) (λ request asks. not_nothing o.words request asks none)
+
+later_forced : (o : Outside) → AsksLater o.words → Forced o NotBuilt
+later_forced o later =
+    unasked_forced o NotBuilt (λ none. absurd (none later.whole later.asked)) (λ same. inl refl) (λ request asks. not_later o.words request asks later)
+
 source_fault : (o : Outside) → AskedOf o.words (λ request. Rises (o.reads (file_of request))) → Forced o (ReadFault w.Program)
 source_fault o h = record {
   usage = λ none. absurd (asks_something o _ h none);
+  later = λ later. absurd (asks_now o _ h later);
   missing = λ request told. inl refl;
   too_long = λ request content read is. absurd (calm request content read);
   faulty = λ request content fault read is. absurd (calm request content read);
@@ -334,6 +346,7 @@ source_fault o h = record {
 memory_forced : (o : Outside) → Forced o NoMemory
 memory_forced o = record {
   usage = λ none. inr refl;
+  later = λ later. inr refl;
   missing = λ request told. inr refl;
   too_long = λ request content read is. inr refl;
   faulty = λ request content fault read is. inr refl;
@@ -366,7 +379,7 @@ causes_force o old new (Source (Parse fault)) c = forced_by o (Faulty fault) (So
 causes_force o old new (Source («Type» fault)) c = ill_typed o fault c.0
 causes_force o old new (Data fault) c = data_faulty o fault c.0
 causes_force o old new NoFunction c = no_function o c.0
-causes_force o old new NotBuilt c = turn_forced o Other NotBuilt c.0 (inl refl)
+causes_force o old new NotBuilt c = ⊎_elim (later_forced o) (λ h. turn_forced o Other NotBuilt h (inl refl)) c.0
 causes_force o old new NoMemory c = memory_forced o
 
 -- no program is refused with the status of a report, nor for what out did

@@ -1,3 +1,4 @@
+mod Asking
 mod Told
 mod Turns
 mod Forcing

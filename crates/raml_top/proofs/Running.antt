@@ -1,9 +1,9 @@
 -- What a machine ends with is what is reported of the run.
-use Rattle.std.proofs.Common.{◌≡◌, ◌≤◌, ◌<◌, ◌*◌, ℕ, suc, List, [], Some, Result, Ok, Err, string_bytes, sym, ap, subst, ◌∙◌, arith}
+use Rattle.std.proofs.Common.{◌≡◌, ◌≤◌, ◌<◌, ◌*◌, ℕ, suc, List, Some, Result, Ok, Err, string_bytes, sym, ap, subst, ◌∙◌}
 use Rattle.std.specs.Prelude.{slice_get, IfOk}
 use Rattle.std.specs.List.{All}
 use Rattle.raml_syntax.specs.Tree.{Type', Function, Prog}
-use Rattle.raml_syntax.specs.Value.{Value, Has}
+use Rattle.raml_syntax.specs.Value.{Value}
 use Rattle.raml_syntax.specs.Eval.{find, run_of}
 use Rattle.raml_syntax.specs.Types.{Typed}
 use Rattle.raml_syntax.specs.Node.{AllNodes, NumberFits}
@@ -19,7 +19,7 @@ use Rattle.value_text.specs.Printing.{StandsForSome}
 use Rattle.metered_vm.specs.Moving.{TakesCell}
 use Rattle.metered_vm.specs.Seen.{Seen, program_in, fun_in, args_in, cells_in, state_in, Kept, Begins, GoesOn}
 use Rattle.metered_vm.specs.Ending.{HasHalted, HasStopped, IsFull, next_of}
-use Rattle.raml_words.specs.Words.{Limits}
+use Rattle.raml_top.specs.Asked.{Limits}
 use Rattle.raml_top.specs.Report.{value_lines, stopped_lines, full_lines}
 use Rattle.raml_top.specs.Call.{Finishes, Stops, Fills}
 use Rattle.raml_top.specs.Promise.{Ran}

@@ -3,8 +3,8 @@ use Rattle.std.proofs.Common.{◌≡◌, ◌≤◌, ℕ, suc, List, length, take
 use Rattle.std.specs.Prelude.{IfSome}
 use Rattle.std.proofs.lemmas.List.{length-take, take_all}
 use Rattle.raml_io.specs.Files.{Files, IsFront}
-use Rattle.raml_words.specs.Words.{Request, AsksNothing, file_of}
-use Rattle.raml_words.proofs.Worded.{one_request}
+use Rattle.raml_top.specs.Asked.{Request, AsksLater, AsksNothing, file_of}
+use Rattle.raml_top.proofs.Asking.{one_request, not_later, not_nothing}
 use Rattle.raml_top.specs.Promise.{Outside, IsRead, ReadOf, AskedOf, Told}
 
 -- what is told to be held begins with what was read
@@ -29,7 +29,10 @@ short_whole limit bytes content e short =
 -- the words that were asked and what is told are of one call
 module _ (o : Outside) (Q : Request → Type 0) (asked : AskedOf o.words Q) where
   pub asks_something : AsksNothing o.words → ⊥
-  asks_something none = none asked.request asked.asked
+  asks_something none = not_nothing o.words asked.request asked.asked none
+
+  pub asks_now : AsksLater o.words → ⊥
+  asks_now later = not_later o.words asked.request asked.asked later
 
   pub of_told : (request : Request) (content : Option (List ℕ)) → Told o request content → Q request
   of_told request content told = subst Q (one_request o.words asked.request request asked.asked told.asked) asked.is

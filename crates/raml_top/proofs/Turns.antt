@@ -1,5 +1,5 @@
 -- What a source is, what is asked of its program, and how the run of a function of it comes out: one thing each.
-use Rattle.std.proofs.Common.{◌≡◌, ◌≤◌, ℕ, zero, suc, ◌+◌, ◌<◌, List, length, take, Option, Some, None, Result, Ok, Err, refl, sym, ap, subst, ◌∙◌, arith}
+use Rattle.std.proofs.Common.{◌≡◌, ◌≤◌, ℕ, suc, ◌+◌, ◌<◌, List, length, take, Option, Some, Result, Ok, Err, refl, sym, ap, subst, ◌∙◌, arith}
 use Rattle.raml_syntax.specs.Tree.{Text, Function, Prog}
 use Rattle.raml_syntax.specs.Value.{Value}
 use Rattle.raml_syntax.specs.Types.{types_of}
@@ -21,7 +21,7 @@ use Rattle.metered_vm.specs.Moving.{TakesCell}
 use Rattle.metered_vm.specs.Ending.{next_of}
 use Rattle.value_text.specs.declared.fault.DataFault.{DataFault}
 use Rattle.value_text.proofs.OneAnswer as data_answer
-use Rattle.raml_words.specs.Words.{Limits, Request, Types, Code, Analyse, Run}
+use Rattle.raml_top.specs.Asked.{Limits, Request, Types, Code, Analyse, Run}
 use Rattle.raml_top.specs.Fragment.{IsTyped, IsTooLong, IsFaulty, IsUntyped, IsOnly, most_bytes}
 use Rattle.raml_top.specs.Call.{IsNamed, LacksFunction, IsData, Call, IsFullAt, machine_at, most_data}
 use Rattle.raml_top.specs.Promise.{IsNotBuilt, NamedOf, IsOver}

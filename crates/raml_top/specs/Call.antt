@@ -1,5 +1,5 @@
 -- What `run` executes, and how it ends.
-use Rattle.std.specs.Prelude.{◌≡◌, ◌≤◌, ◌<◌, ◌*◌, ℕ, suc, List, length, Result, Ok, Err, Some, None, slice_get}
+use Rattle.std.specs.Prelude.{◌≡◌, ◌≤◌, ◌<◌, ◌*◌, ℕ, suc, List, length, Result, Ok, Some, None, slice_get}
 use Rattle.raml_syntax.specs.Tree.{Text, Function, Prog}
 use Rattle.raml_syntax.specs.Value.{Value}
 use Rattle.raml_syntax.specs.Eval.{run_of}
@@ -12,7 +12,7 @@ use Rattle.metered_vm.specs.Moving.{TakesCell}
 use Rattle.metered_vm.specs.Ending.{next_of}
 use Rattle.value_text.specs.Reading.{Answers}
 use Rattle.value_text.specs.declared.fault.DataFault.{DataFault}
-use Rattle.raml_words.specs.Words.{Limits}
+use Rattle.raml_top.specs.Asked.{Limits}
 use Rattle.raml_top.specs.Report.{value_lines, stopped_lines, full_lines}
 
 -- the limit of data, in bytes

@@ -1,3 +1,5 @@
+pub mod Asked
+pub mod Read
 pub mod Fragment
 pub mod Tested
 pub mod Report

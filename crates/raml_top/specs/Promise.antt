@@ -1,5 +1,5 @@
 -- What the top call promises.
-use Rattle.std.specs.Prelude.{◌≡◌, ◌≤◌, ◌⊎◌, ℕ, suc, List, length, Option, Some, None, Result, Ok, Err, IfSome}
+use Rattle.std.specs.Prelude.{◌≡◌, ◌≤◌, ◌⊎◌, ℕ, suc, List, length, Option, Some, None, Err, IfSome}
 use Rattle.raml_syntax.specs.Tree.{Text, Function, Prog}
 use Rattle.raml_io.specs.Faults.{Rose}
 use Rattle.raml_io.specs.Files.{Files, IsFront}
@@ -10,7 +10,7 @@ use Rattle.simple_types.specs.Fault.{Fault}
 use Rattle.simple_types.specs.Read.{fault_of}
 use Rattle.simple_types.specs.declared.fault.TypeFault.{TypeFault}
 use Rattle.simple_types.specs.declared.fault.TypeFault.TheVariants as y
-use Rattle.raml_words.specs.Words.{Limits, Request, Types, Code, Analyse, Run, file_of, Asks, AsksNothing}
+use Rattle.raml_top.specs.Asked.{Limits, Request, Types, Code, Analyse, Run, file_of, Asks, AsksLater, AsksNothing}
 use Rattle.value_text.specs.declared.fault.DataFault.{DataFault}
 use Rattle.value_text.specs.declared.fault.DataFault.TheVariants as d
 use Rattle.stack_compile.specs.Machine.{Halted}
@@ -168,10 +168,11 @@ FileRefused holds reads (ReadFault w.Program) request = Rises (reads (file_of re
 FileRefused holds reads NoMemory request = Unit {0}
 FileRefused holds reads status request = ReadOf holds most_bytes (file_of request) (SourceRefused holds reads request status)
 
--- why there is none at all: the words ask for none, or it is refused of the file that they name
+-- why there is none at all: the words ask for none, or for what is not built yet, or it is refused of the file that they name
 abbrev pub Refused : Outside → Status → Type 0
 Refused o Usage = AsksNothing o.words
 Refused o NoMemory = Unit {0}
+Refused o NotBuilt = AsksLater o.words ⊎ AskedOf o.words (FileRefused o.holds o.reads NotBuilt)
 Refused o status = AskedOf o.words (FileRefused o.holds o.reads status)
 
 -- what the faults of the parser, of the check of types and of the reader of data are here
@@ -244,6 +245,7 @@ pub record ReadData (o : Outside) (name : Text) (limits : Limits) (P : Prog) (fu
 -- where the causes leave no other answer
 pub record Forced (o : Outside) (status : Status) : Type 0 where
   pub usage : AsksNothing o.words → EndsBy Usage status
+  pub later : AsksLater o.words → EndsBy NotBuilt status
   pub missing : (request : Request) → Told o request None → EndsBy (ReadFault w.Program) status
   pub too_long : (request : Request) (content : List ℕ) →
       Read o request content →

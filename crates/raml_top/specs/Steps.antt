@@ -1,5 +1,5 @@
 -- What the steps of a call answer.
-use Rattle.std.specs.Prelude.{◌≡◌, ◌≤◌, ℕ, List, [], length, Option, Some, slice_get}
+use Rattle.std.specs.Prelude.{◌≡◌, ◌≤◌, ℕ, List, length, Option, Some, slice_get}
 use Rattle.raml_syntax.specs.Tree.{Text, Function, Prog}
 use Rattle.raml_syntax.specs.Value.{Value, HaveTypes}
 use Rattle.raml_syntax.specs.Types.{types_of}
@@ -7,12 +7,12 @@ use Rattle.raml_io.specs.Files.{Files}
 use Rattle.value_text.specs.declared.word.Word.{Word}
 use Rattle.value_text.specs.declared.word.Cell.{Cell}
 use Rattle.value_text.specs.Stands.{StandForAll}
-use Rattle.raml_words.specs.Words.{Limits, Request, Run}
+use Rattle.raml_top.specs.Asked.{Limits, Request, Run, AsksLater, AsksNothing}
 use Rattle.raml_top.specs.Fragment.{IsOnly, IsFaulty}
 use Rattle.raml_top.specs.Call.{most_data}
 use Rattle.raml_top.specs.Promise.{Count, Rises, IsRead, ReadOf, IsOver, Ran, ReportsRun, RunRefused, ProgramRefused, IsIllTyped}
 use Rattle.raml_top.specs.declared.status.Status.{Status}
-use Rattle.raml_top.specs.declared.status.Status.TheVariants.{ReadFault, TooLong, Source, NotBuilt, NoMemory}
+use Rattle.raml_top.specs.declared.status.Status.TheVariants.{Usage, ReadFault, TooLong, Source, NotBuilt, NoMemory}
 use Rattle.raml_top.specs.declared.status.Which.{Which}
 use Rattle.raml_top.specs.declared.status.SourceFault.TheVariants.{Parse, «Type»}
 
@@ -67,6 +67,13 @@ abbrev pub BoundsRefused : Prog → Status → Type 0
 BoundsRefused P NotBuilt = (fun : Function) → ¬ (IsOnly P fun)
 BoundsRefused P NoMemory = Unit {0}
 BoundsRefused P _ = ⊥
+
+-- why the words give nothing to do
+abbrev pub Unasked : List Text → Status → Type 0
+Unasked words Usage = AsksNothing words
+Unasked words NotBuilt = AsksLater words
+Unasked words NoMemory = Unit {0}
+Unasked words _ = ⊥
 
 -- a run has a billion steps and 2^24 cells at most
 abbrev pub IsWithin : Request → Type 0

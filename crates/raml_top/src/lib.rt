@@ -1,6 +1,7 @@
 //! The top call: what the words ask for is read, analysed or run, and reported.
 #![tactic(auto)]
 
+mod asked;
 mod file;
 mod fragment;
 mod line;

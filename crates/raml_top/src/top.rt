@@ -5,12 +5,14 @@ ghost use Rattle.raml_syntax.specs.Tree.{Text, Function};
 ghost use Rattle.raml_syntax.specs.Node.{WithinLimits, program_nodes};
 ghost use Rattle.raml_syntax.specs.Read.{program_of};
 ghost use Rattle.raml_words.specs.Words.{texts};
-ghost use Rattle.raml_words.specs.Asked.{request_of};
+ghost use Rattle.raml_top.specs.Asked.{Asks};
+ghost use Rattle.raml_top.specs.Read.{request_of};
 ghost use Rattle.raml_top.specs.Fragment.{IsTyped, most_bytes};
 ghost use Rattle.raml_top.specs.Promise.{outside, counts, Analysis, ReportsProgram, ReportsFile, Reports, Refused, FileRefused, Cause, Forced, Gains, ErrGains, IsMade, EndsAs};
 ghost use Rattle.raml_top.specs.Report.{line_of};
-ghost use Rattle.raml_top.specs.Steps.{IsWithin, TypedRefused, ProgramAnswered, BoundsRefused};
+ghost use Rattle.raml_top.specs.Steps.{IsWithin, Unasked, TypedRefused, ProgramAnswered, BoundsRefused};
 
+use crate::asked::Asked;
 use crate::file::read_file;
 use crate::fragment::{most_ticks, only_function};
 use crate::line::{data_line, plain_line, source_line};
@@ -19,7 +21,7 @@ use crate::run::{Call, run};
 use crate::status::{Status, Which};
 use raml_io::{Sink, Store, put_all};
 use raml_parse::parse;
-use raml_words::{Request, read_words};
+use raml_words::{WordsFault, read_words};
 use simple_types::{Typed, check};
 use std::alloc::{AllocError, Global};
 
@@ -125,33 +127,47 @@ fn answer<S: Store, O: Sink>(alloc: Global, words: &[&str], store: &mut S, out: 
 }
 
 // The report that the words ask for.
+#[tactic(auto, using(crate::proofs::Asking::unasked_refused))]
 fn report_on<S: Store>(alloc: Global, words: &[&str], store: &mut S) -> Result<Report, Status>
     ensures ok { (a b : ℕ) → IfOk result (λ report. Reports (outside (texts words.now) (S.holds store.old) (S.faults store.old) (S.faults store.new) a b) report.status (string_bytes report.text)) }
     ensures err { (a b : ℕ) → IfErr result (Refused (outside (texts words.now) (S.holds store.old) (S.faults store.old) (S.faults store.new) a b)) }
     ensures kept { S.holds store.new ≡ S.holds store.old }
     ensures later { (name : Text) → S.faults store.old name ≤ S.faults store.new name }
 {
-    match read_words(words) {
-        None => Err(Status::Usage),
-        Some(request) => report_on_file(alloc, store, request),
+    match read_asked(alloc, words) {
+        Ok(asked) => report_on_file(alloc, store, &asked),
+        Err(status) => Err(status),
+    }
+}
+
+// What the words ask for, where that is built.
+#[tactic(auto, using(crate::proofs::Asking::within))]
+fn read_asked(alloc: Global, words: &[&str]) -> Result<Asked, Status>
+    ensures ok { IfOk result (λ asked. Asks (texts words.now) (request_of asked)) }
+    ensures within { IfOk result (λ asked. IsWithin (request_of asked)) }
+    ensures err { IfErr result (Unasked (texts words.now)) }
+{
+    match read_words(alloc, words) {
+        Ok(request) => match Asked::of(request) {
+            Some(asked) => Ok(asked),
+            None => Err(Status::NotBuilt),
+        },
+        Err(WordsFault::Usage) => Err(Status::Usage),
+        Err(WordsFault::NoMemory) => Err(Status::NoMemory),
     }
 }
 
 // The report on a file.
-fn report_on_file<S: Store>(
-    alloc: Global,
-    store: &mut S,
-    request: Request<'_>,
-) -> Result<Report, Status>
-    requires within { IsWithin (request_of request) }
-    ensures ok { IfOk result (λ report. ReportsFile (S.holds store.old) report.status (string_bytes report.text) (request_of request.entry)) }
-    ensures err { IfErr result (λ status. FileRefused (S.holds store.old) (counts (S.faults store.old) (S.faults store.new)) status (request_of request.entry)) }
+fn report_on_file<S: Store>(alloc: Global, store: &mut S, asked: &Asked) -> Result<Report, Status>
+    requires within { IsWithin (request_of asked.now) }
+    ensures ok { IfOk result (λ report. ReportsFile (S.holds store.old) report.status (string_bytes report.text) (request_of asked.now)) }
+    ensures err { IfErr result (λ status. FileRefused (S.holds store.old) (counts (S.faults store.old) (S.faults store.new)) status (request_of asked.now)) }
     ensures kept { S.holds store.new ≡ S.holds store.old }
     ensures later { (name : Text) → S.faults store.old name ≤ S.faults store.new name }
 {
-    let source = read_file(alloc, store, request.file(), MOST_BYTES, Which::Program)?;
+    let source = read_file(alloc, store, asked.file(), MOST_BYTES, Which::Program)?;
     let typed = typed_program(alloc, &source)?;
-    report_on_program(alloc, store, &typed, request)
+    report_on_program(alloc, store, &typed, asked)
 }
 
 // The typed program that a source within its limit spells.
@@ -172,27 +188,34 @@ fn report_on_program<S: Store>(
     alloc: Global,
     store: &mut S,
     typed: &Typed,
-    request: Request<'_>,
+    asked: &Asked,
 ) -> Result<Report, Status>
     requires limits { WithinLimits (program_of typed.now) }
     requires few_nodes { program_nodes (program_of typed.now) ≤ most_bytes }
     requires parameters { All (λ (g : Function). 1 ≤ length g.params) (program_of typed.now) }
-    requires within { IsWithin (request_of request) }
-    ensures ok { IfOk result (λ report. ReportsProgram (S.holds store.old) (request_of request.entry) report.status (string_bytes report.text) (program_of typed.now)) }
-    ensures err { IfErr result (λ status. ProgramAnswered (S.holds store.old) (counts (S.faults store.old) (S.faults store.new)) (request_of request.entry) status (program_of typed.now)) }
+    requires within { IsWithin (request_of asked.now) }
+    ensures ok { IfOk result (λ report. ReportsProgram (S.holds store.old) (request_of asked.now) report.status (string_bytes report.text) (program_of typed.now)) }
+    ensures err { IfErr result (λ status. ProgramAnswered (S.holds store.old) (counts (S.faults store.old) (S.faults store.new)) (request_of asked.now) status (program_of typed.now)) }
     ensures kept { S.holds store.new ≡ S.holds store.old }
     ensures later { (name : Text) → S.faults store.old name ≤ S.faults store.new name }
 {
-    match request {
-        Request::Types { .. } => Ok(Report::done(type_lines(alloc, typed.program())?)),
-        Request::Code { .. } => Ok(Report::done(code_lines(alloc, typed)?)),
-        Request::Analyse { .. } => Ok(Report::done(bounds(alloc, typed)?)),
-        Request::Run {
+    match asked {
+        Asked::Types { .. } => Ok(Report::done(type_lines(alloc, typed.program())?)),
+        Asked::Code { .. } => Ok(Report::done(code_lines(alloc, typed)?)),
+        Asked::Analyse { .. } => Ok(Report::done(bounds(alloc, typed)?)),
+        Asked::Run {
             name,
             data,
             limits,
             ..
-        } => run(alloc, store, typed, Call { name, data, limits }),
+        } => {
+            let call = Call {
+                name: name.as_str(),
+                data: data.as_str(),
+                limits: *limits,
+            };
+            run(alloc, store, typed, call)
+        }
     }
 }
 

@@ -1,12 +1,14 @@
 -- What options give, by steps and as a relation.
-use Rattle.std.proofs.Common.{◌≡◌, ◌⊎◌, ◌≤◌, ◌<◌, ℕ, zero, suc, Bool, true, false, not, cond, List, [], ◌∷◌, length, Option, Some, None, inl, inr, ⊎_elim, refl, sym, ap, subst, ◌∙◌, arith}
-use Rattle.std.specs.Prelude.{slice_index_or}
+use Rattle.std.proofs.Common.{◌≡◌, ◌⊎◌, ◌≤◌, ◌<◌, ℕ, zero, suc, Bool, true, false, not, cond, List, [], ◌∷◌, length, Option, Some, None, inl, inr, ⊎_elim, refl, sym, ap, subst, ◌+◌, arith, codes}
+use Rattle.std.specs.Prelude.{slice_index_or, option_map}
 use Rattle.std.specs.List.{Contains, AllByRecursion}
 use Rattle.std.specs.Str.{bytes_eq}
 use Rattle.std.proofs.lemmas.Bool.{and_parts, or_parts, not-true, false_from_ne_true}
 use Rattle.std.proofs.lemmas.Slice.Eq.{bytes_eq-Decides}
-use Rattle.raml_words.specs.Words.{Text, NotNamed, Once, Among, Gives}
-use Rattle.raml_words.specs.Sorting.{number_or, value_of, is_named, once}
+use Rattle.raml_words.specs.Words.{Text, NotNamed, Once, Among, Needs, May, Picks, rule_text}
+use Rattle.raml_words.specs.Sorting.{number_in, needed, optional, rule_named, rule_in, value_of, is_named, once}
+use Rattle.raml_words.specs.declared.request.Rule.{Rule}
+use Rattle.raml_words.specs.declared.request.Rule.TheVariants.{Least, Greatest}
 use Rattle.raml_words.proofs.Numbers.{number_is, number_there}
 
 same : (s t : Text) → bytes_eq s t ≡ true → s ≡ t
@@ -56,15 +58,58 @@ value_there name v (p ∷ ps) o a = ⊎_elim here (λ k. later k (value_there na
         rw (differ p.0 name other) e
 
 -- the number that an option gives
-pub gives_from : (name : Text) (least most usual : ℕ) (vs : List (Text × Text)) (n : ℕ) → number_or least most usual (value_of name vs) ≡ Some n → Gives name least most usual vs n
-gives_from name least most usual vs n e = by (value_of name vs) refl e
-  where
-    by : (w : Option Text) → value_of name vs ≡ w → number_or least most usual w ≡ Some n → Gives name least most usual vs n
-    by None q e = let h : n ≡ usual = cc in inl (not_named name vs q, h)
-    by (Some v) q e = inr (v, among name v vs q, number_is least most v n e)
+needs_from : (name v : Text) (least most n : ℕ) (vs : List (Text × Text)) → value_of name vs ≡ Some v → number_in least most v ≡ Some n → Needs name least most vs n
+needs_from name v least most n vs q e = (v, among name v vs q, number_is least most v n e)
 
-pub gives_to : (name : Text) (least most usual : ℕ) (vs : List (Text × Text)) (n : ℕ) → Once vs → Gives name least most usual vs n → number_or least most usual (value_of name vs) ≡ Some n
-gives_to name least most usual vs n o h = ⊎_elim (λ k. rw (no_value name vs k.0) (ap Some (sym k.1))) (λ k. rw (value_there name k.0 vs o k.1) (number_there least most k.0 n k.2)) h
+pub needed_from : (name : Text) (least most : ℕ) (vs : List (Text × Text)) (n : ℕ) → needed least most (value_of name vs) ≡ Some n → Needs name least most vs n
+needed_from name least most vs n e = by (value_of name vs) refl e
+  where
+    by : (w : Option Text) → value_of name vs ≡ w → needed least most w ≡ Some n → Needs name least most vs n
+    by None q e = absurd (cc)
+    by (Some v) q e = needs_from name v least most n vs q e
+
+pub needed_to : (name : Text) (least most : ℕ) (vs : List (Text × Text)) (n : ℕ) → Once vs → Needs name least most vs n → needed least most (value_of name vs) ≡ Some n
+needed_to name least most vs n o h = rw (value_there name h.0 vs o h.1) (number_there least most h.0 n h.2)
+
+pub may_from : (name : Text) (least most : ℕ) (vs : List (Text × Text)) (o : Option ℕ) → optional least most (value_of name vs) ≡ Some o → May name least most vs o
+may_from name least most vs o e = by (value_of name vs) refl e
+  where
+    by_number : (v : Text) (m : Option ℕ) → value_of name vs ≡ Some v → number_in least most v ≡ m → option_map Some m ≡ Some o → May name least most vs o
+    by_number v None q f e = absurd (cc)
+    by_number v (Some n) q f e = let h : Some n ≡ o = cc in subst (May name least most vs) h (needs_from name v least most n vs q f)
+
+    by : (w : Option Text) → value_of name vs ≡ w → optional least most w ≡ Some o → May name least most vs o
+    by None q e = let h : None ≡ o = cc in subst (May name least most vs) h (not_named name vs q)
+    by (Some v) q e = by_number v (number_in least most v) q refl e
+
+pub may_to : (name : Text) (least most : ℕ) (vs : List (Text × Text)) (o : Option ℕ) → Once vs → May name least most vs o → optional least most (value_of name vs) ≡ Some o
+may_to name least most vs None once h = rw (no_value name vs h) refl
+may_to name least most vs (Some n) once h = rw (value_there name h.0 vs once h.1) (ap (option_map Some) (number_there least most h.0 n h.2))
+
+-- the rule that an option names
+named_rule : (w : Text) (rule : Rule) → rule_named w ≡ Some rule → w ≡ rule_text rule
+named_rule w rule e = by (bytes_eq w (codes "least")) (same w (codes "least")) (bytes_eq w (codes "greatest")) (same w (codes "greatest")) e
+  where
+    by : (b : Bool) → (b ≡ true → w ≡ codes "least") → (d : Bool) → (d ≡ true → w ≡ codes "greatest") → cond b (Some Least) (cond d (Some Greatest) None) ≡ Some rule → w ≡ rule_text rule
+    by true is d other e = let h : Least ≡ rule = cc in subst (λ r. w ≡ rule_text r) h (is refl)
+    by false is true other e = let h : Greatest ≡ rule = cc in subst (λ r. w ≡ rule_text r) h (other refl)
+    by false is false other e = absurd (cc)
+
+rule_of_text : (rule : Rule) → rule_named (rule_text rule) ≡ Some rule
+rule_of_text Least = refl
+rule_of_text Greatest = refl
+
+pub picks_from : (vs : List (Text × Text)) (rule : Rule) → rule_in (value_of (codes "pivot") vs) ≡ Some rule → Picks vs rule
+picks_from vs rule e = by (value_of (codes "pivot") vs) refl e
+  where
+    by : (w : Option Text) → value_of (codes "pivot") vs ≡ w → rule_in w ≡ Some rule → Picks vs rule
+    by None q e = let h : rule ≡ Least = cc in inl (not_named (codes "pivot") vs q, h)
+    by (Some w) q e = inr (subst (λ v. Among (codes "pivot") v vs) (named_rule w rule e) (among (codes "pivot") w vs q))
+
+pub picks_to : (vs : List (Text × Text)) (rule : Rule) → Once vs → Picks vs rule → rule_in (value_of (codes "pivot") vs) ≡ Some rule
+picks_to vs rule o h =
+    ⊎_elim (λ k. rw (no_value (codes "pivot") vs k.0) (ap Some (sym k.1)))
+    (λ k. rw (value_there (codes "pivot") (rule_text rule) vs o k) (rule_of_text rule)) h
 
 -- no option stands twice
 named_no_more : (name : Text) (ps : List (Text × Text)) → is_named name ps ≡ false → NotNamed name ps
@@ -83,7 +128,7 @@ pub once_to : (ps : List (Text × Text)) → Once ps → once ps ≡ true
 once_to [] h = refl
 once_to (p ∷ ps) h = rw (not_is_named p.0 ps h.0, once_to ps h.1) refl
 
--- one of two names
+-- one of two names, and of three
 pub one_of_two : (a b name : Text) → Contains (a ∷ b ∷ []) name → (a ≡ name) ⊎ (b ≡ name)
 one_of_two a b name h = by h.0 h.1 h.2
   where
@@ -92,19 +137,69 @@ one_of_two a b name h = by h.0 h.1 h.2
     by (suc zero) l e = inr e
     by (suc (suc k)) l e = absurd (omega (arith, l))
 
--- of three texts that are one of two, two are the same
-three_of_two : (a b x y z : Text) → (a ≡ x) ⊎ (b ≡ x) → (a ≡ y) ⊎ (b ≡ y) → (a ≡ z) ⊎ (b ≡ z) → ¬ (y ≡ x) → ¬ (z ≡ x) → ¬ (z ≡ y) → ⊥
-three_of_two a b x y z (inl p) (inl q) r n m k = n (sym q ∙ p)
-three_of_two a b x y z (inr p) (inr q) r n m k = n (sym q ∙ p)
-three_of_two a b x y z (inl p) (inr q) (inl r) n m k = m (sym r ∙ p)
-three_of_two a b x y z (inl p) (inr q) (inr r) n m k = k (sym r ∙ q)
-three_of_two a b x y z (inr p) (inl q) (inl r) n m k = k (sym r ∙ q)
-three_of_two a b x y z (inr p) (inl q) (inr r) n m k = m (sym r ∙ p)
+pub one_of_three : (a b c name : Text) → Contains (a ∷ b ∷ c ∷ []) name → (a ≡ name) ⊎ ((b ≡ name) ⊎ (c ≡ name))
+one_of_three a b c name h = by h.0 h.1 h.2
+  where
+    by : (k : ℕ) → k < 3 → slice_index_or (a ∷ b ∷ c ∷ []) k name ≡ name → (a ≡ name) ⊎ ((b ≡ name) ⊎ (c ≡ name))
+    by zero l e = inl e
+    by (suc zero) l e = inr (inl e)
+    by (suc (suc zero)) l e = inr (inr e)
+    by (suc (suc (suc k))) l e = absurd (omega arith)
 
--- so there are few options, where none of two stands twice
-pub few_options : (a b : Text) (ps : List (Text × Text)) → Once ps → AllByRecursion (λ (p : Text × Text). Contains (a ∷ b ∷ []) p.0) ps → length ps ≤ 3
-few_options a b [] o h = omega arith
-few_options a b (p ∷ []) o h = omega arith
-few_options a b (p ∷ q ∷ []) o h = omega arith
-few_options a b (p ∷ q ∷ r ∷ ps) o h =
-    absurd (three_of_two a b p.0 q.0 r.0 (one_of_two a b p.0 h.0) (one_of_two a b q.0 h.1.0) (one_of_two a b r.0 h.1.1.0) o.0.0 o.0.1.0 o.1.0.0)
+-- the pairs without the first of a name
+abbrev without : Text → List (Text × Text) → List (Text × Text)
+without name [] = []
+without name (p ∷ ps) = cond (bytes_eq p.0 name) ps (p ∷ without name ps)
+
+shorter : (name : Text) (ps : List (Text × Text)) → length ps ≤ length (without name ps) + 1
+shorter name [] = omega arith
+shorter name (p ∷ ps) = by (bytes_eq p.0 name) (shorter name ps)
+  where
+    by : (t : Bool) → length ps ≤ length (without name ps) + 1 → length (p ∷ ps) ≤ length (cond t ps (p ∷ without name ps)) + 1
+    by true h = omega arith
+    by false h = omega (arith, h)
+
+-- all pairs have one of the names
+abbrev Named : (Text → Type 0) → List (Text × Text) → Type 0
+Named Q [] = Unit {0}
+Named Q (p ∷ ps) = Q p.0 × Named Q ps
+
+none_left : (name : Text) (Q : Text → Type 0) (ps : List (Text × Text)) → NotNamed name ps → Named (λ m. (name ≡ m) ⊎ Q m) ps → Named Q ps
+none_left name Q [] n h = tt
+none_left name Q (p ∷ ps) n h = (⊎_elim (λ e. absurd (n.0 (sym e))) (λ q. q) h.0, none_left name Q ps n.1 h.1)
+
+still_not : (m name : Text) (ps : List (Text × Text)) → NotNamed m ps → NotNamed m (without name ps)
+still_not m name [] n = tt
+still_not m name (p ∷ ps) n = by (bytes_eq p.0 name) (still_not m name ps n.1)
+  where
+    by : (t : Bool) → NotNamed m (without name ps) → NotNamed m (cond t ps (p ∷ without name ps))
+    by true ih = n.1
+    by false ih = (n.0, ih)
+
+removed : (name : Text) (Q : Text → Type 0) (ps : List (Text × Text)) → Once ps → Named (λ m. (name ≡ m) ⊎ Q m) ps → Once (without name ps) × Named Q (without name ps)
+removed name Q [] o h = (tt, tt)
+removed name Q (p ∷ ps) o h = by (bytes_eq p.0 name) refl (removed name Q ps o.1 h.1)
+  where
+    by : (t : Bool) → bytes_eq p.0 name ≡ t → Once (without name ps) × Named Q (without name ps) → Once (cond t ps (p ∷ without name ps)) × Named Q (cond t ps (p ∷ without name ps))
+    by true e ih = (o.1, none_left name Q ps (subst (λ m. NotNamed m ps) (same p.0 name e) o.0) h.1)
+    by false e ih = ((still_not p.0 name ps o.0, ih.0), (⊎_elim (λ q. absurd (apart p.0 name e (sym q))) (λ q. q) h.0, ih.1))
+
+nothing : (ps : List (Text × Text)) → Named (λ m. ⊥) ps → length ps ≤ 0
+nothing [] h = omega arith
+nothing (p ∷ ps) h = absurd h.0
+
+pub few : (a b c : Text) (ps : List (Text × Text)) → Once ps → Named (λ m. (a ≡ m) ⊎ ((b ≡ m) ⊎ ((c ≡ m) ⊎ ⊥))) ps → length ps ≤ 3
+few a b c ps o h =
+    let x = removed a (λ m. (b ≡ m) ⊎ ((c ≡ m) ⊎ ⊥)) ps o h in
+    let y = removed b (λ m. (c ≡ m) ⊎ ⊥) (without a ps) x.0 x.1 in
+    let z = removed c (λ m. ⊥) (without b (without a ps)) y.0 y.1 in
+    omega (arith, shorter a ps, shorter b (without a ps), shorter c (without b (without a ps)), nothing (without c (without b (without a ps))) z.1)
+
+pub all_named : (a b c : Text) (ps : List (Text × Text)) → AllByRecursion (λ (v : Text × Text). Contains (a ∷ b ∷ c ∷ []) v.0) ps → Named (λ m. (a ≡ m) ⊎ ((b ≡ m) ⊎ ((c ≡ m) ⊎ ⊥))) ps
+all_named a b c [] h = tt
+all_named a b c (p ∷ ps) h = (⊎_elim inl (λ k. inr (⊎_elim inl (λ e. inr (inl e)) k)) (one_of_three a b c p.0 h.0), all_named a b c ps h.1)
+
+-- options of two names are of three
+pub two_named : (a b : Text) (ps : List (Text × Text)) → AllByRecursion (λ (v : Text × Text). Contains (a ∷ b ∷ []) v.0) ps → Named (λ m. (a ≡ m) ⊎ ((b ≡ m) ⊎ ((b ≡ m) ⊎ ⊥))) ps
+two_named a b [] h = tt
+two_named a b (p ∷ ps) h = (⊎_elim inl (λ k. inr (inl k)) (one_of_two a b p.0 h.0), two_named a b ps h.1)

@@ -3,3 +3,10 @@ pub mod Numbers
 pub mod Given
 pub mod Sorts
 pub mod Worded
+pub mod Telling
+pub mod Accepts
+pub mod Parsed
+pub mod RunWalk
+pub mod BoundsWalk
+pub mod Found
+pub mod RunFound

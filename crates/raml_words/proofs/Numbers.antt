@@ -8,14 +8,14 @@ use Rattle.std.specs.Str.Parse.{AllDigits, IsNumeral, digits_value, ParsesUnsign
 use Rattle.raml_words.specs.Words.{Text, IsNumber}
 use Rattle.raml_words.specs.Sorting.{is_number, ranged, number_in}
 
-ascii : IsNumeralModel (λ ds. all_ascii_digits ds ≡ true) (digits_value 10)
+pub ascii : IsNumeralModel (λ ds. all_ascii_digits ds ≡ true) (digits_value 10)
 ascii = numerals_by_value _ tells_all_ascii_digits
 
 plain : IsNumeralModel (AllDigits 10) (digits_value 10)
 plain = numerals_by_value _ tells_digits
 
 -- the test of a numeral of few digits
-numeral_of : (s : Text) → is_number s ≡ true → IsNumeral 10 s × (length s ≤ 10)
+pub numeral_of : (s : Text) → is_number s ≡ true → IsNumeral 10 s × (length s ≤ 10)
 numeral_of s e =
     let h = and_parts (nat_le 1 (length s) && nat_le (length s) 10) (all_ascii_digits s) e in
     let k = and_parts (nat_le 1 (length s)) (nat_le (length s) 10) h.0 in

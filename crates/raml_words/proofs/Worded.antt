@@ -1,100 +1,33 @@
 -- What is read of the words is what they ask for.
-use Rattle.std.proofs.Common.{◌≡◌, ◌≤◌, ◌<◌, ◌-◌, ◌≢◌, ℕ, zero, suc, Bool, true, false, cond, List, [], ◌∷◌, length, take, drop, Option, Some, None, ⊎_elim, refl, sym, ap, subst, ◌∙◌, arith}
-use Rattle.std.proofs.lemmas.List.{take_all}
-use Rattle.std.specs.Prelude.{codes, slice_index_or, option_map, option_and_then, IfSome, IfNone}
-use Rattle.std.specs.List.{Contains}
-use Rattle.std.specs.Borrow.{Bor}
+use Rattle.std.proofs.Common.{◌≡◌, ◌≤◌, ◌≢◌, ℕ, Bool, true, false, cond, List, [], ◌∷◌, length, Option, Some, None, Result, Ok, Err, IfOk, ⊎_elim, refl, sym, ap, subst, ◌∙◌, arith, codes}
+use Rattle.std.specs.Prelude.{option_map, option_and_then, IfErr}
 use Rattle.std.specs.Str.{bytes_eq}
 use Rattle.std.proofs.lemmas.Slice.Eq.{bytes_eq-Decides}
-use Rattle.raml_words.specs.Words.{Text, Request, Types, Code, Analyse, Run, texts, Sorted, IsNumber, Once, AsksOfFile, Asks, AsksNothing}
-use Rattle.raml_words.specs.Sorting.{Arguments, halves, arguments, number_in, once, steps_in, cells_in, file_in, bounds_in, run_by, run_in, run_options, request_by, request_in}
+use Rattle.raml_words.specs.Words.{Text, Request, Types, Code, Analyse, Certify, Verify, Run, Trial, Sorted, Once, Usual, bounds_options, run_options, AsksOfFile, AsksOfFiles, AsksBounds, AsksTrial, Asks, AsksNothing}
+use Rattle.raml_words.specs.Sorting.{Arguments, halves, arguments, optional, needed, usual_steps, rule_in, value_of, once, without_options, one_of, two_of, count_of, Bounds, bounds_with, bounds_by, bounds_in, run_with, run_by, run_in, analyse_with, certify_with, verify_with, given_one, given_two, given_count, given_bounds, request_by, request_in}
+use Rattle.raml_words.specs.Asked.{request_of, Tells}
+use Rattle.raml_words.specs.declared.request.Rule.{Rule}
+use Rattle.raml_words.specs.declared.request.Request.{Request as Request'}
+use Rattle.raml_words.specs.declared.request.WordsFault.{WordsFault}
+use Rattle.raml_words.specs.declared.request.WordsFault.TheVariants.{Usage, NoMemory}
 use Rattle.raml_words.proofs.Numbers.{number_is, number_there}
-use Rattle.raml_words.proofs.Given.{gives_from, gives_to, once_from, once_to, one_of_two, few_options}
+use Rattle.raml_words.proofs.Given.{needed_from, needed_to, may_from, may_to, picks_from, picks_to, once_from, once_to, one_of_two, one_of_three, few, all_named, two_named}
 use Rattle.raml_words.proofs.Sorts.{Plain, each_named, arguments_are, arguments_of}
 
--- the first word, and those behind it
-abbrev pub behind : List (Bor Text) → List (Bor Text)
-behind words = take (length words - 1) (drop 1 words)
-
-pub split_words : (words : List (Bor Text)) (d : Bor Text) → 1 ≤ length words → texts words ≡ (slice_index_or words 0 d).now ∷ texts (behind words)
-split_words [] d low = absurd (omega (arith, low))
-split_words (w ∷ ws) d low =
-    let n : length ws ≤ length (w ∷ ws) - 1 = omega arith in
-    ap (λ rest. w.now ∷ texts rest) (sym (take_all (length (w ∷ ws) - 1) ws n))
+abbrev Good : Text → Type 0
+Good n = (halves n ≡ None) × (n ≢ [])
 
 no_option : Plain []
 no_option name h = let l = h.1 in absurd (omega (arith, l))
 
-the_option : (option name : Text) → Contains (option ∷ []) name → name ≡ option
-the_option option name h = by h.0 h.1 h.2
-  where
-    by : (k : ℕ) → k < 1 → slice_index_or (option ∷ []) k name ≡ name → name ≡ option
-    by zero l e = sym e
-    by (suc k) l e = absurd (omega (arith, l))
-
-one_option : (option : Text) → halves option ≡ None → option ≢ [] → Plain (option ∷ [])
-one_option option plain some = λ name h. subst (λ n. (halves n ≡ None) × (n ≢ [])) (sym (the_option option name h)) (plain, some)
-
-degree_plain : Plain (codes "degree" ∷ [])
-degree_plain = one_option (codes "degree") refl (λ e. absurd (cc))
+bounds_plain : Plain bounds_options
+bounds_plain name h =
+    ⊎_elim (λ e. subst Good e (refl, λ q. absurd (cc))) (λ e. subst Good e (refl, λ q. absurd (cc))) (one_of_two (codes "degree") (codes "pivot") name h)
 
 run_plain : Plain run_options
 run_plain name h =
-    ⊎_elim (λ e. subst Good e (refl, λ q. absurd (cc))) (λ e. subst Good e (refl, λ q. absurd (cc))) (one_of_two (codes "steps") (codes "cells") name h)
-  where
-    Good : Text → Type 0
-    Good n = (halves n ≡ None) × (n ≢ [])
-
--- What each command makes of the words behind it is what they ask for.
-file_asked : (name : Text) (asked : Text → Request) → ((words : List Text) (file : Text) → AsksOfFile name words file → Asks words (asked file)) → (words : List Text) (r : Request) (given : Arguments) → Sorted [] words given.0 given.1 → file_in asked given ≡ Some r → Asks (name ∷ words) r
-file_asked name asked asks words r (file ∷ [], []) h e =
-    let same : asked file ≡ r = cc in
-    subst (Asks (name ∷ words)) same (asks (name ∷ words) file (record { rest = words; command = refl; sorted = h }))
-file_asked name asked asks words r ([], values) h e = absurd (cc)
-file_asked name asked asks words r (file ∷ [], value ∷ values) h e = absurd (cc)
-file_asked name asked asks words r (file ∷ again ∷ operands, values) h e = absurd (cc)
-
-bounds_asked : (words : List Text) (r : Request) (given : Arguments) → Sorted (codes "degree" ∷ []) words given.0 given.1 → bounds_in given ≡ Some r → Asks (codes "analyse" ∷ words) r
-bounds_asked words r (file ∷ [], (name, value) ∷ []) h e = by (number_in 1 4 value) (number_is 1 4 value) e
-  where
-    is_degree : name ≡ codes "degree"
-    is_degree = the_option (codes "degree") name (each_named (codes "degree" ∷ []) words (file ∷ []) ((name, value) ∷ []) h).0
-
-    by : (o : Option ℕ) → ((n : ℕ) → o ≡ Some n → IsNumber 1 4 value n) → option_map (Analyse file) o ≡ Some r → Asks (codes "analyse" ∷ words) r
-    by (Some degree) read e =
-        let same : Analyse file degree ≡ r = cc in
-        subst (λ s. Asks (codes "analyse" ∷ words) s) same (record { rest = words; command = refl; value = value; sorted = subst (λ m. Sorted (codes "degree" ∷ []) words (file ∷ []) ((m, value) ∷ [])) is_degree h; number = read degree refl })
-    by None read e = absurd (cc)
-bounds_asked words r ([], values) h e = absurd (cc)
-bounds_asked words r (file ∷ [], []) h e = absurd (cc)
-bounds_asked words r (file ∷ [], value ∷ again ∷ values) h e = absurd (cc)
-bounds_asked words r (file ∷ again ∷ operands, values) h e = absurd (cc)
-
-run_asked_by : (words : List Text) (r : Request) (operands : List Text) (values : List (Text × Text)) → Sorted run_options words operands values → Once values → (steps cells : Option ℕ) → steps_in values ≡ steps → cells_in values ≡ cells → run_by operands steps cells ≡ Some r → Asks (codes "run" ∷ words) r
-run_asked_by words r (file ∷ name ∷ data_file ∷ []) values h o (Some steps) (Some cells) p q e =
-    let same : Run file name data_file (record { steps = steps; cells = cells }) ≡ r = cc in
-    subst (λ s. Asks (codes "run" ∷ words) s) same (record {
-      rest = words;
-      command = refl;
-      values = values;
-      sorted = h;
-      once = o;
-      steps_given = gives_from (codes "steps") 1 1000000000 10000000 values steps p;
-      cells_given = gives_from (codes "cells") 0 16777216 1048576 values cells q;
-    })
-run_asked_by words r (file ∷ name ∷ data_file ∷ []) values h o None cells p q e = absurd (cc)
-run_asked_by words r (file ∷ name ∷ data_file ∷ []) values h o (Some steps) None p q e = absurd (cc)
-run_asked_by words r [] values h o steps cells p q e = absurd (cc)
-run_asked_by words r (a ∷ []) values h o steps cells p q e = absurd (cc)
-run_asked_by words r (a ∷ b ∷ []) values h o steps cells p q e = absurd (cc)
-run_asked_by words r (a ∷ b ∷ c ∷ d ∷ operands) values h o steps cells p q e = absurd (cc)
-
-run_asked : (words : List Text) (r : Request) (given : Arguments) → Sorted run_options words given.0 given.1 → run_in given ≡ Some r → Asks (codes "run" ∷ words) r
-run_asked words r given h e = by (once given.1) (once_from given.1) e
-  where
-    by : (t : Bool) → (t ≡ true → Once given.1) → cond t (run_by given.0 (steps_in given.1) (cells_in given.1)) None ≡ Some r → Asks (codes "run" ∷ words) r
-    by true o e = run_asked_by words r given.0 given.1 h (o refl) _ _ refl refl e
-    by false o e = absurd (cc)
+    ⊎_elim (λ e. subst Good e (refl, λ q. absurd (cc))) (λ h. ⊎_elim (λ e. subst Good e (refl, λ q. absurd (cc))) (λ e. subst Good e (refl, λ q. absurd (cc))) h)
+    (one_of_three (codes "steps") (codes "cells") (codes "degree") name h)
 
 -- what the words behind a command are read as
 sorted_as : {R : Type 0} (options words : List Text) (of_given : Arguments → Option R) (r : R) (Q : Type 0) → ((given : Arguments) → Sorted options words given.0 given.1 → of_given given ≡ Some r → Q) → option_and_then of_given (arguments options words) ≡ Some r → Q
@@ -103,6 +36,107 @@ sorted_as options words of_given r Q then e = by (arguments options words) (argu
     by : (o : Option Arguments) → ((given : Arguments) → o ≡ Some given → Sorted options words given.0 given.1) → option_and_then of_given o ≡ Some r → Q
     by (Some given) sorted e = then given (sorted given refl) e
     by None sorted e = absurd (cc)
+
+-- What each command makes of the words behind it is what they ask for.
+one_sorted : (words : List Text) (file : Text) (given : Arguments) → Sorted [] words given.0 given.1 → without_options one_of given ≡ Some file → Sorted [] words (file ∷ []) []
+one_sorted words file (f ∷ [], []) h e = let same : f ≡ file = cc in subst (λ f. Sorted [] words (f ∷ []) []) same h
+one_sorted words file ([], []) h e = absurd (cc)
+one_sorted words file (f ∷ g ∷ os, []) h e = absurd (cc)
+one_sorted words file (os, v ∷ vs) h e = absurd (cc)
+
+one_asked : (name : Text) (words : List Text) (file : Text) → given_one words ≡ Some file → AsksOfFile name (name ∷ words) file
+one_asked name words file e = record { rest = words; command = refl; sorted = sorted_as [] words (without_options one_of) file (Sorted [] words (file ∷ []) []) (one_sorted words file) e }
+
+two_sorted : (words : List Text) (files : Text × Text) (given : Arguments) → Sorted [] words given.0 given.1 → without_options two_of given ≡ Some files → Sorted [] words (files.0 ∷ files.1 ∷ []) []
+two_sorted words files (f ∷ g ∷ [], []) h e = let same : (f, g) ≡ files = cc in subst (λ (p : Text × Text). Sorted [] words (p.0 ∷ p.1 ∷ []) []) same h
+two_sorted words files ([], []) h e = absurd (cc)
+two_sorted words files (f ∷ [], []) h e = absurd (cc)
+two_sorted words files (f ∷ g ∷ x ∷ os, []) h e = absurd (cc)
+two_sorted words files (os, v ∷ vs) h e = absurd (cc)
+
+two_asked : (words : List Text) (files : Text × Text) → given_two words ≡ Some files → AsksOfFiles (codes "verify" ∷ words) files.0 files.1
+two_asked words files e = record { rest = words; command = refl; sorted = sorted_as [] words (without_options two_of) files (Sorted [] words (files.0 ∷ files.1 ∷ []) []) (two_sorted words files) e }
+
+count_sorted : (words : List Text) (n : ℕ) (given : Arguments) → Sorted [] words given.0 given.1 → without_options count_of given ≡ Some n → AsksTrial (codes "trial" ∷ words) n
+count_sorted words n (k ∷ [], []) h e = record { rest = words; command = refl; value = k; sorted = h; number = number_is 1 100 k n e }
+count_sorted words n ([], []) h e = absurd (cc)
+count_sorted words n (k ∷ g ∷ os, []) h e = absurd (cc)
+count_sorted words n (os, v ∷ vs) h e = absurd (cc)
+
+count_asked : (words : List Text) (n : ℕ) → given_count words ≡ Some n → AsksTrial (codes "trial" ∷ words) n
+count_asked words n e = sorted_as [] words (without_options count_of) n (AsksTrial (codes "trial" ∷ words) n) (count_sorted words n) e
+
+module _ (name : Text) (words : List Text) (b : Bounds) where
+  abbrev AreAsked : Bounds → Type 0
+  AreAsked b = AsksBounds name (name ∷ words) b.0 b.1 b.2
+
+  bounds_known : (file : Text) (values : List (Text × Text)) → Sorted bounds_options words (file ∷ []) values → Once values → (d : Option ℕ) (r : Option Rule)
+      → needed 1 4 (value_of (codes "degree") values) ≡ d → rule_in (value_of (codes "pivot") values) ≡ r → bounds_with file d r ≡ Some b → AreAsked b
+  bounds_known file values h o (Some d) (Some r) p q e =
+      let same : (file, d, r) ≡ b = cc in
+      subst AreAsked same (record { rest = words; command = refl; values = values; sorted = h; once = o; degree_given = needed_from (codes "degree") 1 4 values d p; rule_given = picks_from values r q })
+  bounds_known file values h o (Some d) None p q e = absurd (cc)
+  bounds_known file values h o None r p q e = absurd (cc)
+
+  bounds_once : (os : List Text) (values : List (Text × Text)) → Sorted bounds_options words os values → Once values → bounds_by os (value_of (codes "degree") values) (value_of (codes "pivot") values) ≡ Some b → AreAsked b
+  bounds_once (file ∷ []) values h o e = bounds_known file values h o _ _ refl refl e
+  bounds_once [] values h o e = absurd (cc)
+  bounds_once (file ∷ g ∷ os) values h o e = absurd (cc)
+
+  bounds_sorted : (given : Arguments) → Sorted bounds_options words given.0 given.1 → bounds_in given ≡ Some b → AreAsked b
+  bounds_sorted given h e = by (once given.1) (once_from given.1) e
+    where
+      by : (t : Bool) → (t ≡ true → Once given.1) → cond t (bounds_by given.0 (value_of (codes "degree") given.1) (value_of (codes "pivot") given.1)) None ≡ Some b → AreAsked b
+      by true o e = bounds_once given.0 given.1 h (o refl) e
+      by false o e = absurd (cc)
+
+  bounds_asked : given_bounds words ≡ Some b → AreAsked b
+  bounds_asked e = sorted_as bounds_options words bounds_in b (AreAsked b) bounds_sorted e
+
+usual_is : (given : Option ℕ) → Usual 10000000 given (usual_steps given)
+usual_is None = refl
+usual_is (Some n) = refl
+
+run_known : (words : List Text) (r : Request) (file name data_file : Text) (values : List (Text × Text)) → Sorted run_options words (file ∷ name ∷ data_file ∷ []) values → Once values
+    → (s c d : Option (Option ℕ)) → optional 1 1000000000 (value_of (codes "steps") values) ≡ s → optional 0 16777216 (value_of (codes "cells") values) ≡ c → optional 1 4 (value_of (codes "degree") values) ≡ d
+    → run_with file name data_file s c d ≡ Some r → Asks (codes "run" ∷ words) r
+run_known words r file name data_file values h o (Some s) (Some c) (Some d) p q t e =
+    let same : Run file name data_file (usual_steps s) c d ≡ r = cc in
+    subst (Asks (codes "run" ∷ words)) same (record {
+      rest = words;
+      command = refl;
+      values = values;
+      sorted = h;
+      once = o;
+      given = s;
+      steps_given = may_from (codes "steps") 1 1000000000 values s p;
+      steps_usual = usual_is s;
+      cells_given = may_from (codes "cells") 0 16777216 values c q;
+      degree_given = may_from (codes "degree") 1 4 values d t;
+    })
+run_known words r file name data_file values h o None c d p q t e = absurd (cc)
+run_known words r file name data_file values h o (Some s) None d p q t e = absurd (cc)
+run_known words r file name data_file values h o (Some s) (Some c) None p q t e = absurd (cc)
+
+run_once : (words : List Text) (r : Request) (os : List Text) (values : List (Text × Text)) → Sorted run_options words os values → Once values
+    → run_by os (value_of (codes "steps") values) (value_of (codes "cells") values) (value_of (codes "degree") values) ≡ Some r → Asks (codes "run" ∷ words) r
+run_once words r (file ∷ name ∷ data_file ∷ []) values h o e = run_known words r file name data_file values h o _ _ _ refl refl refl e
+run_once words r [] values h o e = absurd (cc)
+run_once words r (a ∷ []) values h o e = absurd (cc)
+run_once words r (a ∷ b ∷ []) values h o e = absurd (cc)
+run_once words r (a ∷ b ∷ c ∷ d ∷ os) values h o e = absurd (cc)
+
+run_sorted : (words : List Text) (r : Request) (given : Arguments) → Sorted run_options words given.0 given.1 → run_in given ≡ Some r → Asks (codes "run" ∷ words) r
+run_sorted words r given h e = by (once given.1) (once_from given.1) e
+  where
+    by : (t : Bool) → (t ≡ true → Once given.1) → cond t (run_by given.0 (value_of (codes "steps") given.1) (value_of (codes "cells") given.1) (value_of (codes "degree") given.1)) None ≡ Some r → Asks (codes "run" ∷ words) r
+    by true o e = run_once words r given.0 given.1 h (o refl) e
+    by false o e = absurd (cc)
+
+-- what is made of what the words give
+made : {A R : Type 0} (f : A → R) (o : Option A) (r : R) (Q : R → Type 0) → ((a : A) → o ≡ Some a → Q (f a)) → option_map f o ≡ Some r → Q r
+made f (Some a) r Q h e = let same : f a ≡ r = cc in subst Q same (h a refl)
+made f None r Q h e = absurd (cc)
 
 -- the command of this name, or else what follows
 module _ (command : Text) (words : List Text) (r : Request) where
@@ -115,43 +149,70 @@ module _ (command : Text) (words : List Text) (r : Request) where
 
   command_asked : request_by command words ≡ Some r → Asks (command ∷ words) r
   command_asked =
-      asked_if (codes "types") _ _ (sorted_as [] words (file_in Types) r _ (file_asked (codes "types") Types (λ ws file h. h) words r))
-      (asked_if (codes "code") _ _ (sorted_as [] words (file_in Code) r _ (file_asked (codes "code") Code (λ ws file h. h) words r))
-      (asked_if (codes "analyse") _ _ (sorted_as (codes "degree" ∷ []) words bounds_in r _ (bounds_asked words r))
-      (asked_if (codes "run") _ _ (sorted_as run_options words run_in r _ (run_asked words r))
-      (λ e. absurd (cc)))))
+      asked_if (codes "types") _ _ (made Types (given_one words) r (Asks (codes "types" ∷ words)) (one_asked (codes "types") words))
+      (asked_if (codes "code") _ _ (made Code (given_one words) r (Asks (codes "code" ∷ words)) (one_asked (codes "code") words))
+      (asked_if (codes "analyse") _ _ (made analyse_with (given_bounds words) r (Asks (codes "analyse" ∷ words)) (bounds_asked (codes "analyse") words))
+      (asked_if (codes "certify") _ _ (made certify_with (given_bounds words) r (Asks (codes "certify" ∷ words)) (bounds_asked (codes "certify") words))
+      (asked_if (codes "verify") _ _ (made verify_with (given_two words) r (Asks (codes "verify" ∷ words)) (two_asked words))
+      (asked_if (codes "run") _ _ (sorted_as run_options words run_in r _ (run_sorted words r))
+      (asked_if (codes "trial") _ _ (made Trial (given_count words) r (Asks (codes "trial" ∷ words)) (count_asked words))
+      (λ e. absurd (cc))))))))
 
 -- and what they ask for is read
-file_there : (name : Text) (words : List Text) (file : Text) (asked : Text → Request) → (h : AsksOfFile name words file) → option_and_then (file_in asked) (arguments [] h.rest) ≡ Some (asked file)
-file_there name words file asked h = ap (option_and_then (file_in asked)) (arguments_of [] h.rest (file ∷ []) [] no_option h.sorted (omega arith) (omega arith))
+one_there : (name : Text) (words : List Text) (file : Text) → (h : AsksOfFile name words file) → given_one h.rest ≡ Some file
+one_there name words file h = ap (option_and_then (without_options one_of)) (arguments_of [] h.rest (file ∷ []) [] no_option h.sorted (omega arith) (omega arith))
+
+bounds_there : (name : Text) (words : List Text) (file : Text) (degree : ℕ) (rule : Rule) → (h : AsksBounds name words file degree rule) → given_bounds h.rest ≡ Some (file, degree, rule)
+bounds_there name words file degree rule h =
+    let two : length h.values ≤ 3 = few (codes "degree") (codes "pivot") (codes "pivot") h.values h.once (two_named (codes "degree") (codes "pivot") h.values (each_named bounds_options h.rest (file ∷ []) h.values h.sorted)) in
+    let given = arguments_of bounds_options h.rest (file ∷ []) h.values bounds_plain h.sorted (omega arith) two in
+    let d = needed_to (codes "degree") 1 4 h.values degree h.once h.degree_given in
+    let r = picks_to h.values rule h.once h.rule_given in
+    let made : bounds_in (file ∷ [], h.values) ≡ Some (file, degree, rule) = rw (once_to h.values h.once) (rw (d, r) refl) in
+    ap (option_and_then bounds_in) given ∙ made
+
+usual_to : (given : Option ℕ) (n : ℕ) → Usual 10000000 given n → usual_steps given ≡ n
+usual_to None n h = sym h
+usual_to (Some g) n h = sym h
 
 request_read : (words : List Text) (r : Request) → Asks words r → request_in words ≡ Some r
-request_read words (Types file) h = ap request_in h.command ∙ file_there (codes "types") words file Types h
-request_read words (Code file) h = ap request_in h.command ∙ file_there (codes "code") words file Code h
-request_read words (Analyse file degree) h =
-    let given = arguments_of (codes "degree" ∷ []) h.rest (file ∷ []) ((codes "degree", h.value) ∷ []) degree_plain h.sorted (omega arith) (omega arith) in
-    ap request_in h.command ∙ ap (option_and_then bounds_in) given ∙ ap (option_map (Analyse file)) (number_there 1 4 h.value degree h.number)
-request_read words (Run file name data_file limits) h =
-    let few = few_options (codes "steps") (codes "cells") h.values h.once (each_named run_options h.rest (file ∷ name ∷ data_file ∷ []) h.values h.sorted) in
-    let given = arguments_of run_options h.rest (file ∷ name ∷ data_file ∷ []) h.values run_plain h.sorted (omega arith) few in
-    let s = gives_to (codes "steps") 1 1000000000 10000000 h.values limits.steps h.once h.steps_given in
-    let c = gives_to (codes "cells") 0 16777216 1048576 h.values limits.cells h.once h.cells_given in
-    let made : run_in (file ∷ name ∷ data_file ∷ [], h.values) ≡ Some (Run file name data_file limits) = rw (once_to h.values h.once) (rw (s, c) refl) in
-    ap request_in h.command ∙ ap (option_and_then run_in) given ∙ made
+request_read words (Types file) h = ap request_in h.command ∙ ap (option_map Types) (one_there (codes "types") words file h)
+request_read words (Code file) h = ap request_in h.command ∙ ap (option_map Code) (one_there (codes "code") words file h)
+request_read words (Analyse file degree rule) h = ap request_in h.command ∙ ap (option_map analyse_with) (bounds_there (codes "analyse") words file degree rule h)
+request_read words (Certify file degree rule) h = ap request_in h.command ∙ ap (option_map certify_with) (bounds_there (codes "certify") words file degree rule h)
+request_read words (Verify file certificate) h =
+    let given = arguments_of [] h.rest (file ∷ certificate ∷ []) [] no_option h.sorted (omega arith) (omega arith) in
+    ap request_in h.command ∙ ap (λ o. option_map verify_with (option_and_then (without_options two_of) o)) given
+request_read words (Trial count) h =
+    let given = arguments_of [] h.rest (h.value ∷ []) [] no_option h.sorted (omega arith) (omega arith) in
+    ap request_in h.command ∙ ap (λ o. option_map Trial (option_and_then (without_options count_of) o)) given ∙ ap (option_map Trial) (number_there 1 100 h.value count h.number)
+request_read words (Run file name data_file steps cells degree) h =
+    let three : length h.values ≤ 3 = few (codes "steps") (codes "cells") (codes "degree") h.values h.once (all_named (codes "steps") (codes "cells") (codes "degree") h.values (each_named run_options h.rest (file ∷ name ∷ data_file ∷ []) h.values h.sorted)) in
+    let given = arguments_of run_options h.rest (file ∷ name ∷ data_file ∷ []) h.values run_plain h.sorted (omega arith) three in
+    let s = may_to (codes "steps") 1 1000000000 h.values h.given h.once h.steps_given in
+    let c = may_to (codes "cells") 0 16777216 h.values cells h.once h.cells_given in
+    let d = may_to (codes "degree") 1 4 h.values degree h.once h.degree_given in
+    let made : run_in (file ∷ name ∷ data_file ∷ [], h.values) ≡ Some (Run file name data_file (usual_steps h.given) cells degree) = rw (once_to h.values h.once) (rw (s, c, d) refl) in
+    ap request_in h.command ∙ ap (option_and_then run_in) given ∙ made ∙ ap (λ n. Some (Run file name data_file n cells degree)) (usual_to h.given steps h.steps_usual)
 
 -- words ask for one thing at most
 pub one_request : (words : List Text) (r s : Request) → Asks words r → Asks words s → r ≡ s
 one_request words r s h k = let e = sym (request_read words r h) ∙ request_read words s k in cc
 
--- what is read of a command and the words behind it
-module _ {R : Type 0} (words : List Text) (command : Text) (rest : List Text) (request_of : R → Request) where
-  pub asks : (o : Option R) → words ≡ command ∷ rest → option_map request_of o ≡ request_by command rest → IfSome o (λ r. Asks words (request_of r))
-  asks (Some r) is e = subst (λ ws. Asks ws (request_of r)) (sym is) (command_asked command rest (request_of r) (sym e))
-  asks None is e = tt
+request_asked : (words : List Text) (r : Request) → request_in words ≡ Some r → Asks words r
+request_asked [] r e = absurd (cc)
+request_asked (command ∷ words) r e = command_asked command words r e
 
-  pub asks_nothing : (o : Option R) → words ≡ command ∷ rest → option_map request_of o ≡ request_by command rest → IfNone o (AsksNothing words)
-  asks_nothing (Some r) is e = tt
-  asks_nothing None is e = λ request asked. let f = e ∙ sym (ap request_in is) ∙ request_read words request asked in absurd (cc)
+-- ---- what is told is asked for
+
+pub ok_told : (words : List Text) (r : Result Request' WordsFault) → Tells request_of r (request_in words) → IfOk r (λ request. Asks words (request_of request))
+ok_told words (Ok request) t = request_asked words (request_of request) t
+ok_told words (Err fault) t = tt
+
+pub usage_told : (words : List Text) (r : Result Request' WordsFault) → Tells request_of r (request_in words) → IfErr r (λ e. e ≡ Usage → AsksNothing words)
+usage_told words (Ok request) t = tt
+usage_told words (Err NoMemory) t = λ e. absurd (cc)
+usage_told words (Err Usage) t = λ e request h. let k = sym t ∙ request_read words request h in absurd (cc)
 
 -- no word asks for nothing
 pub no_words : AsksNothing []

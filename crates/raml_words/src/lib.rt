@@ -1,13 +1,18 @@
-//! The words of a call, and what they ask for.
+//! The words of a call, and what they ask for. They are sorted here, and `clap` reads what is sorted.
 #![tactic(auto)]
 
+mod clapped;
+mod commands;
 pub mod laws;
+mod made;
 mod number;
 mod options;
+mod ordered;
 mod request;
+mod run;
 mod sorting;
 
-pub use request::{Limits, Request, read_words};
+pub use request::{Request, Rule, WordsFault, read_words};
 
 #[cfg(test)]
 mod tests;

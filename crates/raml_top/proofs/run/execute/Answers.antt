@@ -4,7 +4,7 @@ use Rattle.raml_syntax.specs.Read.{program_of}
 use Rattle.metered_vm.specs.Seen.{Begins, cells_in}
 use Rattle.metered_vm.specs.Ending.{Ended}
 use Rattle.value_text.specs.Printing.{StandsForSome}
-use Rattle.raml_words.specs.Asked.{limits_of}
+use Rattle.raml_top.specs.Read.{limits_of}
 use Rattle.raml_top.proofs.Calling.{read_at}
 use Rattle.raml_top.proofs.Running.{halted_word, halted_ran, stopped_ran, full_ran}
 use Rattle.raml_top.proofs.run.execute.Goals as goal

@@ -1,5 +1,4 @@
-use Rattle.std.proofs.Common.{◌∙◌, ◌≤◌, ap, sym, subst, length, map, string_bytes, arith}
-use Rattle.std.specs.Prelude.{slice_get}
+use Rattle.std.proofs.Common.{◌∙◌, ◌≤◌, ap, sym, subst, length, map, arith}
 use Rattle.std.proofs.lemmas.List.{length-map}
 use Rattle.std.proofs.lemmas.Option.{slice_get_within}
 use Rattle.raml_syntax.specs.Tree.{Parameter, Function}
@@ -7,7 +6,7 @@ use Rattle.raml_syntax.specs.Types.{types_of}
 use Rattle.raml_syntax.specs.Read.{ty_of, program_of, function_of}
 use Rattle.raml_syntax.specs.Place.{place_of}
 use Rattle.value_text.specs.Reading.{AreRead, FirstFault}
-use Rattle.raml_words.specs.Asked.{limits_of}
+use Rattle.raml_top.specs.Read.{limits_of}
 use Rattle.raml_top.specs.Promise.{data_refusal}
 use Rattle.raml_top.specs.Report.{types_in}
 use Rattle.raml_top.proofs.Calling.{handed_on, each_at, read_at, named, read_refused, data_refused, can_run, ran_reported}

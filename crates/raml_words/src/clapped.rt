@@ -1,0 +1,161 @@
+// What `clap` finds in ordered words.
+ghost use Rattle.std.specs.Prelude.{◌≡◌, map, option_map, string_bytes};
+ghost use Rattle.clap.specs.Values.{kind_of};
+ghost use Rattle.clap.specs.Matches.{found_of};
+ghost use Rattle.raml_words.specs.Sorting.{lent, lent_parts};
+ghost use Rattle.raml_words.specs.Apps.{one_app, two_app, count_app, bounds_app, run_app};
+ghost use Rattle.raml_words.specs.Clapped.{now_of, taken_as, one_text, two_texts, count_text, bounds_texts, run_texts, values_in, pair_of, bounds_texts_of, run_texts_of, Refuses};
+ghost use Rattle.raml_words.specs.Asked.{Tells};
+
+use crate::commands::{bounds_command, count_command, one_command, run_command, two_command};
+use crate::request::WordsFault;
+use clap::error::ErrorKind;
+use clap::{ArgMatches, Error};
+use std::alloc::Global;
+
+fn fault_of(error: &Error) -> WordsFault
+    ensures { Refuses (kind_of error.now) result }
+{
+    if error.kind() == ErrorKind::OutOfMemory {
+        WordsFault::NoMemory
+    } else {
+        WordsFault::Usage
+    }
+}
+
+/// The one operand of ordered words.
+pub fn one_matches<'a>(alloc: Global, words: &'a [String]) -> Result<&'a str, WordsFault>
+    ensures { Tells now_of result (taken_as one_app one_text (map string_bytes words.now)) }
+{
+    let command = one_command(alloc)?;
+    match command.try_get_matches_from(words) {
+        Ok(matches) => match one_text(&matches) {
+            Some(found) => Ok(found),
+            None => Err(WordsFault::Usage),
+        },
+        Err(error) => Err(fault_of(&error)),
+    }
+}
+
+fn one_text<'a>(matches: &ArgMatches<'a>) -> Option<&'a str>
+    ensures { lent result ≡ one_text (values_in (found_of matches.now)) }
+{
+    matches.get_str("file")
+}
+
+/// The two operands of ordered words.
+pub fn two_matches<'a>(alloc: Global, words: &'a [String]) -> Result<(&'a str, &'a str), WordsFault>
+    ensures { Tells pair_of result (taken_as two_app two_texts (map string_bytes words.now)) }
+{
+    let command = two_command(alloc)?;
+    match command.try_get_matches_from(words) {
+        Ok(matches) => match two_texts(&matches) {
+            Some(found) => Ok(found),
+            None => Err(WordsFault::Usage),
+        },
+        Err(error) => Err(fault_of(&error)),
+    }
+}
+
+fn two_texts<'a>(matches: &ArgMatches<'a>) -> Option<(&'a str, &'a str)>
+    ensures { option_map pair_of result ≡ two_texts (values_in (found_of matches.now)) }
+{
+    let file = matches.get_str("file")?;
+    let other = matches.get_str("other")?;
+    Some((file, other))
+}
+
+/// The number of ordered words.
+pub fn count_matches<'a>(alloc: Global, words: &'a [String]) -> Result<&'a str, WordsFault>
+    ensures { Tells now_of result (taken_as count_app count_text (map string_bytes words.now)) }
+{
+    let command = count_command(alloc)?;
+    match command.try_get_matches_from(words) {
+        Ok(matches) => match count_text(&matches) {
+            Some(found) => Ok(found),
+            None => Err(WordsFault::Usage),
+        },
+        Err(error) => Err(fault_of(&error)),
+    }
+}
+
+fn count_text<'a>(matches: &ArgMatches<'a>) -> Option<&'a str>
+    ensures { lent result ≡ count_text (values_in (found_of matches.now)) }
+{
+    matches.get_str("count")
+}
+
+/// The texts of a command with a degree and a rule.
+#[derive(Clone, Copy)]
+pub struct BoundsTexts<'a> {
+    pub file: &'a str,
+    pub degree: &'a str,
+    pub pivot: Option<&'a str>,
+}
+
+/// What ordered words give a command with a degree and a rule.
+pub fn bounds_matches<'a>(alloc: Global, words: &'a [String]) -> Result<BoundsTexts<'a>, WordsFault>
+    ensures { Tells bounds_texts_of result (taken_as bounds_app bounds_texts (map string_bytes words.now)) }
+{
+    let command = bounds_command(alloc)?;
+    match command.try_get_matches_from(words) {
+        Ok(matches) => match bounds_texts(&matches) {
+            Some(found) => Ok(found),
+            None => Err(WordsFault::Usage),
+        },
+        Err(error) => Err(fault_of(&error)),
+    }
+}
+
+fn bounds_texts<'a>(matches: &ArgMatches<'a>) -> Option<BoundsTexts<'a>>
+    ensures { option_map bounds_texts_of result ≡ bounds_texts (values_in (found_of matches.now)) }
+{
+    let file = matches.get_str("file")?;
+    let degree = matches.get_str("degree")?;
+    Some(BoundsTexts {
+        file,
+        degree,
+        pivot: matches.get_str("pivot"),
+    })
+}
+
+/// The texts of `run`.
+#[derive(Clone, Copy)]
+pub struct RunTexts<'a> {
+    pub file: &'a str,
+    pub name: &'a str,
+    pub data: &'a str,
+    pub steps: Option<&'a str>,
+    pub cells: Option<&'a str>,
+    pub degree: Option<&'a str>,
+}
+
+/// What ordered words give `run`.
+pub fn run_matches<'a>(alloc: Global, words: &'a [String]) -> Result<RunTexts<'a>, WordsFault>
+    ensures { Tells run_texts_of result (taken_as run_app run_texts (map string_bytes words.now)) }
+{
+    let command = run_command(alloc)?;
+    match command.try_get_matches_from(words) {
+        Ok(matches) => match run_texts(&matches) {
+            Some(found) => Ok(found),
+            None => Err(WordsFault::Usage),
+        },
+        Err(error) => Err(fault_of(&error)),
+    }
+}
+
+fn run_texts<'a>(matches: &ArgMatches<'a>) -> Option<RunTexts<'a>>
+    ensures { option_map run_texts_of result ≡ run_texts (values_in (found_of matches.now)) }
+{
+    let file = matches.get_str("file")?;
+    let name = matches.get_str("name")?;
+    let data = matches.get_str("data")?;
+    Some(RunTexts {
+        file,
+        name,
+        data,
+        steps: matches.get_str("steps"),
+        cells: matches.get_str("cells"),
+        degree: matches.get_str("degree"),
+    })
+}
