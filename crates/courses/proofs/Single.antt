@@ -12,7 +12,7 @@ use Rattle.tableau.proofs.Ending.{good_course}
 use Rattle.tableau.proofs.Agreeing.{not_both}
 use Rattle.cost_free.specs.Task.{Free, Task}
 use Rattle.annot_types.specs.Program.{members}
-use Rattle.courses.specs.Wholes.{AreLeastWholes}
+use Rattle.whole_numbers.specs.Wholes.{AreLeastWholes}
 use Rattle.courses.specs.States.{State, certificate_of}
 use Rattle.courses.specs.Generator.{Analysis, Generates, next_at, blocker_at, system_at}
 use Rattle.courses.specs.Reading.{ReadsSolution, ReadsVector}
