@@ -17,7 +17,8 @@ use Rattle.courses.specs.Reading.{ReadsBoth, ReadsVector}
 use Rattle.courses.specs.Places as p
 use Rattle.courses.specs.Places.{Place, Read, Both, Vector, RescaleLeaves, stage, rule_of, Comes}
 use Rattle.courses.specs.Clear.{RowsAreFine, BothAreFine, ArePassed, VectorIsFine, IsPassed, IsSolvedFine, FineIsClear, SeenIsFirst}
-use Rattle.courses.proofs.Single.{one_whole, one_solution, one_vector, never_both, some_none}
+use Rattle.courses.proofs.Single.{one_whole, one_solution, one_vector, never_both}
+use Rattle.courses.proofs.Lists.{some_none}
 
 -- a list of checks that pass has no first fault
 none_leaves : (ks : List Check) (column : ℕ) → EachPasses ks → IsFirstFault ks (Leaves column) → ⊥
