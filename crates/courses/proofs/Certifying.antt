@@ -97,8 +97,8 @@ module _ (A : Analysis) (st : State) (h : Runs A st) (over : IsOver A st) where
   pub run_within : StaysWithin A whole
   run_within = record {
     goes_on = λ place refused.
-      let same : schedule_of A.program whole ≡ plan A = λ i. record { results = results A.program; groups = A.program.groups; degree = A.degree; work = work_is A.degree A.work st i } in
-      none_refused place (subst (λ p. IsRefused most_indices p (map outcome (take place st.blocks))) same refused);
+        let same : schedule_of A.program whole ≡ plan A = λ i. record { results = results A.program; groups = A.program.groups; degree = A.degree; work = work_is A.degree A.work st i } in
+        none_refused place (subst (λ p. IsRefused most_indices p (map outcome (take place st.blocks))) same refused);
     limits = λ place block there tried.
         let f = h.fits place block there in
         subst (λ n. A.generator.exceeds (take place st.blocks) block.task n ≡ None) (scale place block there) (f.limit tried);

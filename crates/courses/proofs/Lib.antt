@@ -1,10 +1,10 @@
-mod Lists
+pub mod Lists
 mod Vectors
 mod Found
 mod RaisedRows
 mod Raising
 mod Running
-mod Asked
+pub mod Asked
 mod Certifying
 mod Single
 mod Short
