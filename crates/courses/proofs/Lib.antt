@@ -7,7 +7,7 @@ mod Running
 pub mod Asked
 mod Certifying
 mod Single
-mod Short
+pub mod Short
 mod Clear
 mod Lines
-mod Beginning
+pub mod Beginning

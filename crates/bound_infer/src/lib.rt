@@ -1,0 +1,11 @@
+//! The inference of bounds: the course of the schedule, from task to task.
+//!
+//! This much stands: the loop over tasks, the entries of a vector that refutes a task, and blocks that are
+//! raised.
+#![tactic(auto)]
+
+mod steps;
+mod vector;
+
+pub use steps::{Steps, run};
+pub use vector::listed;
