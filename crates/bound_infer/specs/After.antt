@@ -1,5 +1,5 @@
 -- What a step, and a run of steps, come to.
-use Rattle.std.specs.Prelude.{◌≡◌, ◌⊎◌, ℕ, Bool, true, false, List, Option, Some, None}
+use Rattle.std.specs.Prelude.{◌≡◌, ◌⊎◌, Bool, true, false, List, Option, Some, None}
 use Rattle.cost_free.specs.Task.{Task}
 use Rattle.courses.specs.States.{State, certificate_of}
 use Rattle.courses.specs.Generator.{Analysis}
