@@ -4,8 +4,12 @@
 //! raised.
 #![tactic(auto)]
 
+mod factor;
+mod fault;
 mod steps;
+mod times;
 mod vector;
 
+pub use factor::Factor;
 pub use steps::{Steps, run};
 pub use vector::listed;

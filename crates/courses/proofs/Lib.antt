@@ -3,7 +3,7 @@ mod Vectors
 mod Found
 mod RaisedRows
 mod Raising
-mod Running
+pub mod Running
 pub mod Asked
 mod Certifying
 mod Single

@@ -54,7 +54,7 @@ refuted_risen true r (Calls fun) farkas e = e
 positive_times : (r : ℕ) (z : ℤ) → 0 < r → pos 0 <ℤ z → pos 0 <ℤ (pos r *ℤ z)
 positive_times r z pr pz = grind (arith, ints)
 
-rise_times : (r : ℕ) → 0 < r → (least : ℕ) (es : Entries) → RiseFrom least es → RiseFrom least (times r es)
+pub rise_times : (r : ℕ) → 0 < r → (least : ℕ) (es : Entries) → RiseFrom least es → RiseFrom least (times r es)
 rise_times r pr least [] h = tt
 rise_times r pr least (e ∷ es) h = (h.0, positive_times r e.1 pr h.1, rise_times r pr (suc e.0) es h.2)
 
