@@ -1,5 +1,5 @@
 -- Lists made item by item.
-use Rattle.std.proofs.Common.{◌≡◌, ◌<◌, ◌+◌, ℕ, zero, suc, ℤ, pos, ◌*ℤ◌, FitsSigned, Bool, true, false, List, [], ◌∷◌, ◌++◌, map, take, length, slice_index_or, All, refl, sym, ap, ◌∙◌, arith}
+use Rattle.std.proofs.Common.{◌≡◌, ◌<◌, ◌+◌, ℕ, zero, suc, ℤ, pos, ◌*ℤ◌, FitsSigned, Bool, true, false, List, [], ◌∷◌, ◌++◌, map, take, length, slice_index_or, All, refl, sym, ap, ◌∙◌, subst, arith}
 use Rattle.std.specs.Int.{w128}
 use Rattle.std.proofs.lemmas.List.Elements.{All-more}
 use Rattle.annot_types.specs.Certificate.{Entries}
@@ -32,6 +32,16 @@ module _ {X Z : Type 0} (f : X → Z) where
     where
       next : (k : ℕ) → suc k ≡ k + 1
       next k = omega arith
+
+-- one more item, which has a property
+pub list_more : {X Y Z : Type 0} (f : X → Z) (read : Y → Z) (Q : X → Type 0) (xs : List X) (k : ℕ) (x : X) (ys new : List Y) (y : Y) → k < length xs → x ≡ slice_index_or xs k x →
+    map read ys ≡ map f (take k xs) → All Q (take k xs) → read y ≡ f x → Q x → new ≡ ys ++ y ∷ [] → (map read new ≡ map f (take (k + 1) xs)) × All Q (take (k + 1) xs)
+list_more f read Q xs k x ys new y l at h all is has e =
+    (one_more f read xs k x ys new y l h e (is ∙ ap f at), All-more Q xs k x l all (subst Q at has))
+
+pub plain_more : {X Z : Type 0} (f : X → Z) (Q : X → Type 0) (xs : List X) (k : ℕ) (x : X) (ys new : List Z) (y : Z) → k < length xs → x ≡ slice_index_or xs k x →
+    ys ≡ map f (take k xs) → All Q (take k xs) → y ≡ f x → Q x → new ≡ ys ++ y ∷ [] → (new ≡ map f (take (k + 1) xs)) × All Q (take (k + 1) xs)
+plain_more f Q xs k x ys new y l at h all is has e = (item_more f xs k x ys new y l h e (is ∙ ap f at), All-more Q xs k x l all (subst Q at has))
 
 -- one more entry
 pub entry_more : (t : ℕ) (es : Entries) (k : ℕ) (made new : Entries) (z : ℤ) → k < length es → made ≡ times t (take k es) → EntriesFit t (take k es) →

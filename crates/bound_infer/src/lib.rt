@@ -6,6 +6,7 @@
 
 mod factor;
 mod fault;
+mod sigs;
 mod steps;
 mod times;
 mod vector;

@@ -8,7 +8,7 @@ use crate::fault::TimesFault;
 use annot_types::Annot;
 use std::alloc::Global;
 
-fn times_entries(
+pub(crate) fn times_entries(
     alloc: Global,
     entries: &[(u32, i128)],
     factor: &Factor,

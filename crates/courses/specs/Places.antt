@@ -55,9 +55,8 @@ HintFits t (c.Let rs) = All (EntriesFit t) rs
 HintFits t (c.Share p) = EntriesFit t p
 HintFits t (c.Call multiples) = EntriesFit t multiples
 
-pub record SigFits (t : ℕ) (s : Sig) : Type 0 where
-  pub args : EntriesFit t s.args
-  pub result : EntriesFit t s.result
+abbrev pub SigFits : ℕ → Sig → Type 0
+SigFits t s = EntriesFit t s.args × EntriesFit t s.result
 
 abbrev pub BodyFits : ℕ → Body → Type 0
 BodyFits t (Solved sigs hints) = All (SigFits t) sigs × All (All (HintFits t)) hints
