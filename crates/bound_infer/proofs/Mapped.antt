@@ -1,10 +1,11 @@
 -- Lists made item by item.
-use Rattle.std.proofs.Common.{◌≡◌, ◌<◌, ◌+◌, ℕ, zero, suc, ℤ, pos, ◌*ℤ◌, FitsSigned, Bool, true, false, List, [], ◌∷◌, ◌++◌, map, take, length, slice_index_or, All, refl, sym, ap, ◌∙◌, subst, arith}
+use Rattle.std.proofs.Common.{◌≡◌, ◌<◌, ◌+◌, ℕ, zero, suc, ℤ, pos, ◌*ℤ◌, FitsSigned, Bool, true, false, List, [], ◌∷◌, ◌++◌, map, take, length, slice_index_or, All, Result, Err, refl, sym, ap, ◌∙◌, subst, arith}
 use Rattle.std.specs.Int.{w128}
-use Rattle.std.proofs.lemmas.List.Elements.{All-more}
+use Rattle.std.proofs.lemmas.List.Elements.{All-more, All-nil, All-cons, All-head, All-tail}
 use Rattle.annot_types.specs.Certificate.{Entries}
 use Rattle.annot_types.specs.Holds.{times}
 use Rattle.courses.specs.Places.{EntriesFit}
+use Rattle.bound_infer.specs.declared.fault.TimesFault.{TimesFault}
 
 module _ {X Z : Type 0} (f : X → Z) where
   map_next : (xs : List X) (k : ℕ) (d : X) → k < length xs → map f (take (suc k) xs) ≡ map f (take k xs) ++ f (slice_index_or xs k d) ∷ []
@@ -42,6 +43,15 @@ list_more f read Q xs k x ys new y l at h all is has e =
 pub plain_more : {X Z : Type 0} (f : X → Z) (Q : X → Type 0) (xs : List X) (k : ℕ) (x : X) (ys new : List Z) (y : Z) → k < length xs → x ≡ slice_index_or xs k x →
     ys ≡ map f (take k xs) → All Q (take k xs) → y ≡ f x → Q x → new ≡ ys ++ y ∷ [] → (new ≡ map f (take (k + 1) xs)) × All Q (take (k + 1) xs)
 plain_more f Q xs k x ys new y l at h all is has e = (item_more f xs k x ys new y l h e (is ∙ ap f at), All-more Q xs k x l all (subst Q at has))
+
+-- all items are among the first ones
+pub all_of : {X : Type 0} (Q : X → Type 0) (xs : List X) (k : ℕ) → All Q (take k xs) → (k < length xs → ⊥) → All Q xs
+all_of Q [] k h l = All-nil Q
+all_of Q (x ∷ xs) zero h l = absurd (l (omega arith))
+all_of Q (x ∷ xs) (suc k) h l = All-cons Q x xs (All-head Q x (take k xs) h) (all_of Q xs k (All-tail Q x (take k xs) h) (λ q. l (omega (arith, q))))
+
+pub same_fault : {X : Type 0} (a b : TimesFault) → ◌≡◌ {A = Result X TimesFault} (Err a) (Err b) → a ≡ b
+same_fault a b e = cc
 
 -- one more entry
 pub entry_more : (t : ℕ) (es : Entries) (k : ℕ) (made new : Entries) (z : ℤ) → k < length es → made ≡ times t (take k es) → EntriesFit t (take k es) →

@@ -4,6 +4,7 @@
 //! raised.
 #![tactic(auto)]
 
+mod body;
 mod factor;
 mod fault;
 mod sigs;
