@@ -1,8 +1,7 @@
 -- Signatures and hints as they are read.
-use Rattle.std.proofs.Common.{◌≡◌, ◌<◌, ℕ, zero, suc, List, [], ◌∷◌, map, length, slice_index_or, All, Vec, refl, sym, ap, ◌∙◌, subst, arith}
+use Rattle.std.proofs.Common.{◌≡◌, ℕ, List, [], ◌∷◌, map, All, Vec, refl, ap}
 use Rattle.std.specs.Global.{Global}
-use Rattle.std.proofs.lemmas.List.Elements.{All-map, All-nil, All-cons, All-head, All-tail, All-weaker}
-use Rattle.annot_types.specs.Certificate as c
+use Rattle.std.proofs.lemmas.List.Elements.{All-map, All-nil, All-cons, All-head, All-tail}
 use Rattle.annot_types.specs.Holds.{times_sig, times_hint}
 use Rattle.annot_types.specs.Read.{sig_of, hint_of, hints_of}
 use Rattle.annot_types.specs.declared.block.Sig.{Sig}

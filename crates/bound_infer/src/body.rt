@@ -34,11 +34,7 @@ fn times_solved(
 }
 
 /// Multiplies the numbers of a block that is solved.
-pub(crate) fn multiply(
-    alloc: Global,
-    block: &mut Block,
-    factor: &Factor,
-) -> Result<(), TimesFault>
+pub(crate) fn multiply(alloc: Global, block: &mut Block, factor: &Factor) -> Result<(), TimesFault>
     requires { 0 < factor.now }
     ensures made { OnOk result (block_of block.new ≡ times_block factor.now (block_of block.old)) }
     ensures fit { OnOk result (BodyFits factor.now (body_of block.old.body)) }

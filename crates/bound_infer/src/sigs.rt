@@ -14,11 +14,7 @@ use crate::times::{times_annot, times_entries};
 use annot_types::{Annot, Hint, Sig};
 use std::alloc::Global;
 
-fn times_annots(
-    alloc: Global,
-    annots: &[Annot],
-    factor: &Factor,
-) -> Result<Vec<Annot>, TimesFault>
+fn times_annots(alloc: Global, annots: &[Annot], factor: &Factor) -> Result<Vec<Annot>, TimesFault>
     requires { 0 < factor.now }
     ensures made { IfOk result (λ made. made.items ≡ map (times factor.now) annots.now) }
     ensures fit { IfOk result (λ _. All (EntriesFit factor.now) annots.now) }
@@ -96,11 +92,7 @@ fn times_hint(alloc: Global, hint: &Hint, factor: &Factor) -> Result<Hint, Times
     }
 }
 
-fn times_hints(
-    alloc: Global,
-    hints: &[Hint],
-    factor: &Factor,
-) -> Result<Vec<Hint>, TimesFault>
+fn times_hints(alloc: Global, hints: &[Hint], factor: &Factor) -> Result<Vec<Hint>, TimesFault>
     requires { 0 < factor.now }
     ensures made { IfOk result (λ made. hints_of made ≡ map (λ h. times_hint factor.now (hint_of h)) hints.now) }
     ensures fit { IfOk result (λ _. HintsFit factor.now hints.now) }

@@ -1,4 +1,4 @@
-use Rattle.std.proofs.Common.{Err, ap, sym, ◌∙◌}
+use Rattle.std.proofs.Common.{Err, ap, ◌∙◌}
 use Rattle.annot_types.specs.Certificate.{Solved}
 use Rattle.bound_infer.proofs.Mapped.{same_fault}
 use Rattle.bound_infer.proofs.Bodies.{sigs_made, hints_made, sigs_fit, sigs_back, hints_fit, hints_back}

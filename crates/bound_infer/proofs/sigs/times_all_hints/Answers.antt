@@ -1,4 +1,4 @@
-use Rattle.std.proofs.Common.{map, Vec, ap, ◌∙◌, subst, sym}
+use Rattle.std.proofs.Common.{map, Vec, ap, ◌∙◌, subst}
 use Rattle.std.specs.Global.{Global}
 use Rattle.annot_types.specs.Holds.{times_hint}
 use Rattle.annot_types.specs.Read.{hint_of, hints_of}

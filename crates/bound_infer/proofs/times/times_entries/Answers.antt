@@ -1,4 +1,4 @@
-use Rattle.std.proofs.Common.{rules, FitsSigned, ◌≡◌, pos, ◌*ℤ◌, slice_index_or, ℕ, ℤ, sym, subst}
+use Rattle.std.proofs.Common.{rules, FitsSigned, pos, slice_index_or, sym, subst}
 use Rattle.std.specs.Int.{w128}
 use Rattle.std.proofs.lemmas.Int.{to_z-of_z}
 use Rattle.bound_infer.proofs.Mapped.{entry_more}
