@@ -30,3 +30,11 @@ impl<T: Drop> From<AllocFailed<T>> for TimesFault {
         TimesFault::NoMemory
     }
 }
+
+/// Why the blocks of a meter were not raised.
+#[derive(Clone, Copy, Debug, PartialEq, Eq)]
+pub enum RaiseFault {
+    /// A number of this block, and of no earlier one, does not fit 128 bits.
+    Leaves { block: usize },
+    NoMemory,
+}

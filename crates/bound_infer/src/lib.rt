@@ -7,11 +7,14 @@
 mod body;
 mod factor;
 mod fault;
+mod raise;
 mod sigs;
 mod steps;
 mod times;
 mod vector;
 
 pub use factor::Factor;
+pub use fault::RaiseFault;
+pub use raise::raise_blocks;
 pub use steps::{Steps, run};
 pub use vector::listed;
