@@ -57,7 +57,10 @@ inside (y ∷ xs) (suc i) x e = let l = inside xs i x e in omega (arith, l)
 pub all_fit : (meter : Meter) (t place : ℕ) (old now : List Block) → length old ≤ place → RaisedTo meter t place old now → AllFit meter t (blocks_of old)
 all_fit meter t place old now l h i other e of = h.fit i other (let q = inside (blocks_of old) i other e in let c = count old in omega (arith, q, c, l)) e of
 
-module _ (meter : Meter) (t k : ℕ) (old now : List Block) (b : Block) (l : k < length old) (at : b ≡ slice_index_or now k b) (h : RaisedTo meter t k old now) where
+module _ (meter : Meter) (t k : ℕ) (old now : List Block) (d : Block) (l : k < length old) (h : RaisedTo meter t k old now) where
+  abbrev pub here : Block
+  here = slice_index_or now k d
+
   in_now : k < length now
   in_now =
       let c = count now in
@@ -66,13 +69,13 @@ module _ (meter : Meter) (t k : ℕ) (old now : List Block) (b : Block) (l : k <
       omega (arith, c, d, m, l)
 
   -- the block at the place is as it was
-  pub there : slice_get (blocks_of old) k ≡ Some (block_of b)
-  there = sym (still_there (raised meter t) (blocks_of old) k) ∙ ap (λ bs. slice_get bs k) (sym h.are) ∙ get_read now k b in_now ∙ ap (λ b. Some (block_of b)) (sym at)
+  pub there : slice_get (blocks_of old) k ≡ Some (block_of here)
+  there = sym (still_there (raised meter t) (blocks_of old) k) ∙ ap (λ bs. slice_get bs k) (sym h.are) ∙ get_read now k d in_now
 
-  pub next_raised : (new : Block) (after : List Block) → after ≡ slice_set now k new → block_of new ≡ raised meter t (block_of b) →
-      (IsOfMeter meter (block_of b) → BodyFits t (block_of b).body) → RaisedTo meter t (k + 1) old after
-  next_raised new after e is fits = record {
-    are = ap blocks_of e ∙ set_read now k new ∙ (λ i. slice_set (h.are i) k (is i)) ∙ set_next (raised meter t) (blocks_of old) k (block_of b) there
+  pub next_raised : (new : Block) → block_of new ≡ raised meter t (block_of here) →
+      (IsOfMeter meter (block_of here) → BodyFits t (block_of here).body) → RaisedTo meter t (k + 1) old (slice_set now k new)
+  next_raised new is fits = record {
+    are = set_read now k new ∙ (λ i. slice_set (h.are i) k (is i)) ∙ set_next (raised meter t) (blocks_of old) k (block_of here) there
         ∙ (λ i. map (raised meter t) (take (next k i) (blocks_of old)) ++ drop (next k i) (blocks_of old));
     fit = λ i other low e. by i other low e;
   }
@@ -91,8 +94,8 @@ module _ (meter : Meter) (t k : ℕ) (old now : List Block) (b : Block) (l : k <
           choose : (i < k) ⊎ (i ≡ k) → BodyFits t other.body
           choose (inl q) = h.fit i other q e of
           choose (inr q) =
-              let same : block_of b ≡ other = some_is (block_of b) other (sym there ∙ ap (slice_get (blocks_of old)) (sym q) ∙ e) in
+              let same : block_of here ≡ other = some_is (block_of here) other (sym there ∙ ap (slice_get (blocks_of old)) (sym q) ∙ e) in
               subst (λ (o : c.Block). BodyFits t o.body) same (fits (subst (IsOfMeter meter) (sym same) of))
 
-  pub first_unfit : IsOfMeter meter (block_of b) → (BodyFits t (block_of b).body → ⊥) → FirstUnfit meter t (blocks_of old) k
-  first_unfit of leaves = record { block = block_of b; there = there; of_meter = of; leaves = leaves; before = h.fit }
+  pub first_unfit : IsOfMeter meter (block_of here) → (BodyFits t (block_of here).body → ⊥) → FirstUnfit meter t (blocks_of old) k
+  first_unfit of leaves = record { block = block_of here; there = there; of_meter = of; leaves = leaves; before = h.fit }
