@@ -15,3 +15,14 @@ pub record FirstUnfit (meter : Meter) (t : ℕ) (bs : List Block) (place : ℕ) 
   pub of_meter : IsOfMeter meter block
   pub leaves : BodyFits t block.body → ⊥
   pub before : (i : ℕ) (other : Block) → i < place → slice_get bs i ≡ Some other → IsOfMeter meter other → BodyFits t other.body
+
+-- no block is solved with cost of the meter
+abbrev pub NoneOf : Meter → List Block → Type 0
+NoneOf meter bs = (place : ℕ) (block : Block) → slice_get bs place ≡ Some block → IsOfMeter meter block → ⊥
+
+-- the block at this place is the first that is
+pub record IsFirstOf (meter : Meter) (bs : List Block) (place : ℕ) : Type 0 where
+  pub block : Block
+  pub there : slice_get bs place ≡ Some block
+  pub of_meter : IsOfMeter meter block
+  pub before : (i : ℕ) (other : Block) → i < place → slice_get bs i ≡ Some other → IsOfMeter meter other → ⊥

@@ -7,7 +7,7 @@
 mod body;
 mod factor;
 mod fault;
-mod raise;
+mod raising;
 mod sigs;
 mod steps;
 mod times;
@@ -15,6 +15,6 @@ mod vector;
 
 pub use factor::Factor;
 pub use fault::RaiseFault;
-pub use raise::raise_blocks;
+pub use raising::{raise, raise_blocks};
 pub use steps::{Steps, run};
 pub use vector::listed;

@@ -1,13 +1,16 @@
 -- Blocks raised one after the other.
-use Rattle.std.proofs.Common.{◌≡◌, ◌<◌, ◌≤◌, ◌⊎◌, inl, inr, ⊎_elim, ◌+◌, ℕ, zero, suc, List, [], ◌∷◌, ◌++◌, map, take, drop, length, slice_get, slice_index_or, slice_set, Some, refl, sym, ap, ◌∙◌, subst, arith}
+use Rattle.std.proofs.Common.{rules, FitsSigned, ℤ, pos, ◌*ℤ◌, ◌*◌, ◌≡◌, ◌<◌, ◌≤◌, ◌⊎◌, inl, inr, ⊎_elim, ◌+◌, ℕ, zero, suc, List, [], ◌∷◌, ◌++◌, map, take, drop, length, slice_get, slice_index_or, slice_set, Some, refl, sym, ap, ◌∙◌, subst, arith}
+use Rattle.std.specs.Int.{w128}
 use Rattle.cost_free.specs.declared.task.Meter.{Meter}
 use Rattle.annot_types.specs.Certificate as c
 use Rattle.annot_types.specs.Holds.{raised}
 use Rattle.annot_types.specs.Read.{block_of, blocks_of}
 use Rattle.annot_types.specs.declared.block.Block.{Block}
-use Rattle.courses.specs.Places.{BodyFits, IsOfMeter}
+use Rattle.whole_numbers.specs.Wholes.{most}
+use Rattle.courses.specs.States.{State}
+use Rattle.courses.specs.Places.{BodyFits, IsOfMeter, BlockLeaves}
 use Rattle.courses.proofs.Lists.{some_is}
-use Rattle.bound_infer.specs.Raised.{AllFit, FirstUnfit}
+use Rattle.bound_infer.specs.Raised.{AllFit, FirstUnfit, NoneOf}
 
 -- The blocks before a place are raised, and all their numbers fit; the others are as they were.
 pub record RaisedTo (meter : Meter) (t place : ℕ) (old now : List Block) : Type 0 where
@@ -34,6 +37,11 @@ module _ {X : Type 0} (f : X → X) where
   mixed_length [] (suc k) = refl
   mixed_length (x ∷ xs) zero = refl
   mixed_length (x ∷ xs) (suc k) = ap suc (mixed_length xs k)
+
+below_or : (i k : ℕ) → i < k + 1 → (i < k) ⊎ (i ≡ k)
+below_or i zero q = inr (omega (arith, q))
+below_or zero (suc k) q = inl (omega arith)
+below_or (suc i) (suc k) q = ⊎_elim (λ p. inl (omega (arith, p))) (λ p. inr (ap suc p)) (below_or i k (omega (arith, q)))
 
 get_read : (bs : List Block) (k : ℕ) (d : Block) → k < length bs → slice_get (blocks_of bs) k ≡ Some (block_of (slice_index_or bs k d))
 get_read [] k d l = absurd (omega (arith, l))
@@ -86,11 +94,6 @@ module _ (meter : Meter) (t k : ℕ) (old now : List Block) (d : Block) (l : k <
       by : (i : ℕ) (other : c.Block) → i < k + 1 → slice_get (blocks_of old) i ≡ Some other → IsOfMeter meter other → BodyFits t other.body
       by i other low e of = choose (below_or i k low)
         where
-          below_or : (i k : ℕ) → i < k + 1 → (i < k) ⊎ (i ≡ k)
-          below_or i zero q = inr (omega (arith, q))
-          below_or zero (suc k) q = inl (omega arith)
-          below_or (suc i) (suc k) q = ⊎_elim (λ p. inl (omega (arith, p))) (λ p. inr (ap suc p)) (below_or i k (omega (arith, q)))
-
           choose : (i < k) ⊎ (i ≡ k) → BodyFits t other.body
           choose (inl q) = h.fit i other q e of
           choose (inr q) =
@@ -99,3 +102,31 @@ module _ (meter : Meter) (t k : ℕ) (old now : List Block) (d : Block) (l : k <
 
   pub first_unfit : IsOfMeter meter (block_of here) → (BodyFits t (block_of here).body → ⊥) → FirstUnfit meter t (blocks_of old) k
   first_unfit of leaves = record { block = block_of here; there = there; of_meter = of; leaves = leaves; before = h.fit }
+
+-- no block before the place is solved with cost of the meter
+abbrev pub NoneBefore : Meter → ℕ → List Block → Type 0
+NoneBefore meter place bs = (i : ℕ) (other : c.Block) → i < place → slice_get (blocks_of bs) i ≡ Some other → IsOfMeter meter other → ⊥
+
+pub none_next : (meter : Meter) (bs : List Block) (k : ℕ) (b : Block) → k < length bs → b ≡ slice_index_or bs k b → NoneBefore meter k bs → (IsOfMeter meter (block_of b) → ⊥) → NoneBefore meter (k + 1) bs
+none_next meter bs k b l at h none i other q e of = ⊎_elim
+    (λ p. h i other p e of)
+    (λ p. none (subst (IsOfMeter meter) (some_is other (block_of b) (sym e ∙ ap (slice_get (blocks_of bs)) p ∙ get_read bs k b l ∙ ap (λ b. Some (block_of b)) (sym at))) of))
+    (below_or i k q)
+
+pub none_at_all : (meter : Meter) (bs : List Block) (k : ℕ) → length bs ≤ k → NoneBefore meter k bs → NoneOf meter (blocks_of bs)
+none_at_all meter bs k l h i other e of = h i other (let q = inside (blocks_of bs) i other e in let n = count bs in omega (arith, q, n, l)) e of
+
+-- With the scale of a state
+
+pub unfit_leaves : (meter : Meter) (t place : ℕ) (scale : ℤ) (bs : List c.Block) → FirstUnfit meter t bs place → FitsSigned w128 (pos t *ℤ scale) →
+    (st : State) → st.blocks ≡ bs → pos (st.scales meter) ≡ scale → BlockLeaves meter t st place
+unfit_leaves meter t place scale bs h fits st are is = record {
+  block = h.block;
+  there = ap (λ bs. slice_get bs place) are ∙ h.there;
+  of_meter = h.of_meter;
+  leaves = λ r. h.leaves r.numbers;
+  before = λ i other q e of. record { numbers = h.before i other q (sym (ap (λ bs. slice_get bs i) are) ∙ e) of; scale = small t (st.scales meter) (subst (λ z. FitsSigned w128 (pos t *ℤ z)) (sym is) fits) };
+}
+  where
+    small : (t s : ℕ) → FitsSigned w128 (pos t *ℤ pos s) → t * s < most
+    small t s h = search rules

@@ -3,8 +3,8 @@ use Rattle.bound_infer.specs.declared.fault.RaiseFault.{RaiseFault}
 use Rattle.annot_types.specs.Read.{blocks_of}
 use Rattle.bound_infer.specs.Raised.{FirstUnfit}
 use Rattle.bound_infer.specs.declared.fault.RaiseFault.TheVariants as fault
-use Rattle.bound_infer.proofs.Raising.{next_raised, first_unfit, all_fit}
-use Rattle.bound_infer.proofs.raise.raise_blocks.Goals as goal
+use Rattle.bound_infer.proofs.OneByOne.{next_raised, first_unfit, all_fit}
+use Rattle.bound_infer.proofs.raising.raise_blocks.Goals as goal
 
 pub loop-place-preserved : goal.loop-place-preserved
 loop-place-preserved c = next_raised c.args.meter c.args.factor.now c.loop-place.place c.args.blocks.now _ c.index-blocks-place.result c.loop-place-test.true c.loop-place.invariant
