@@ -14,7 +14,7 @@ use Rattle.annot_types.specs.Least.{Refuted, Least}
 use Rattle.annot_types.specs.System.{system, IsRefutedBy}
 use Rattle.courses.specs.States.{State, scale_at, raised_scales, certificate_of}
 use Rattle.courses.specs.Good.{HoldsAt, IsRight, IsGood}
-use Rattle.courses.specs.Generator.{Analysis, most_indices, plan, next_at}
+use Rattle.courses.specs.Generator.{Analysis, most_allowed, limit_of, plan, next_at}
 use Rattle.courses.specs.Courses.{IsOver}
 use Rattle.courses.specs.Verifying.{TooLarge, BlockFault}
 use Rattle.courses.specs.Laws.{RaisedStayGood, schedule_of, StaysWithin, CoursesStayWithin, NoneTooLarge, NoneUnrefuted, FoundIsLeast, FoundIsRefuted, CoursesAreGood, Certifies, CoursesCertify}
@@ -88,7 +88,7 @@ module _ (A : Analysis) (st : State) (h : Runs A st) (over : IsOver A st) where
       of_natural n p = grind (arith, ints, p)
   scales_positive false Work = grind (arith, ints)
 
-  none_refused : (place : ℕ) → IsRefused most_indices (plan A) (map outcome (take place st.blocks)) → ⊥
+  none_refused : (place : ℕ) → IsRefused most_allowed (plan A) (map outcome (take place st.blocks)) → ⊥
   none_refused place refused = ⊎_elim
       (λ b. (let f = h.fits place b.0 b.1 in f.goes_on refused))
       (λ e. some_none refused.task (next_at A st) (ap (λ bs. next_task A.program A.degree A.work (map outcome bs)) (sym e) ∙ refused.is_next) over)
@@ -98,10 +98,10 @@ module _ (A : Analysis) (st : State) (h : Runs A st) (over : IsOver A st) where
   run_within = record {
     goes_on = λ place refused.
         let same : schedule_of A.program whole ≡ plan A = λ i. record { results = results A.program; groups = A.program.groups; degree = A.degree; work = work_is A.degree A.work st i } in
-        none_refused place (subst (λ p. IsRefused most_indices p (map outcome (take place st.blocks))) same refused);
+        none_refused place (subst (λ p. IsRefused most_allowed p (map outcome (take place st.blocks))) same refused);
     limits = λ place block there tried.
         let f = h.fits place block there in
-        subst (λ n. A.generator.exceeds (take place st.blocks) block.task n ≡ None) (scale place block there) (f.limit tried);
+        subst (λ n. limit_of A.generator block.task (system A.program A.degree (take place st.blocks) block.task n) ≡ None) (scale place block there) (f.limit tried);
   }
 
   pub run_certifies : 1 ≤ A.degree → A.degree ≤ 4 → Certifies A.program whole

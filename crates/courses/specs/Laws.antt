@@ -12,9 +12,9 @@ use Rattle.annot_types.specs.Program.{Program, results, blocker_of}
 use Rattle.annot_types.specs.Certificate.{Block, Certificate, has_work}
 use Rattle.annot_types.specs.Held.{before, done_before, scale_for}
 use Rattle.annot_types.specs.Least.{Refuted, Least}
-use Rattle.annot_types.specs.System.{IsRefutedBy, Valid}
+use Rattle.annot_types.specs.System.{system, IsRefutedBy, Valid}
 use Rattle.courses.specs.States.{State, scale_at, raise}
-use Rattle.courses.specs.Generator.{What, Generator, Analysis, most_indices, Stands, Generates, system_at, block_at}
+use Rattle.courses.specs.Generator.{What, Generator, Analysis, most_allowed, limit_of, Stands, Generates, system_at, block_at}
 use Rattle.courses.specs.Reading.{ReadsSolution, ReadsVector, listed}
 use Rattle.courses.specs.Good.{AllGood, AllLeast, AllRefuted}
 use Rattle.courses.specs.Places.{Place, stage, rule_of, IsOfMeter}
@@ -60,9 +60,9 @@ schedule_of P c = record { results = results P; groups = P.groups; degree = c.de
 
 -- At no place does the schedule refuse to go on, and no task that is tried exceeds a limit over the blocks before it.
 pub record StaysWithin (A : Analysis) (c : Certificate) : Type 0 where
-  pub goes_on : (place : ℕ) → IsRefused most_indices (schedule_of A.program c) (done_before c place) → ⊥
+  pub goes_on : (place : ℕ) → IsRefused most_allowed (schedule_of A.program c) (done_before c place) → ⊥
   pub limits : (place : ℕ) (block : Block) → slice_get c.blocks place ≡ Some block → blocker_of A.program block.task (done_before c place) ≡ None →
-      A.generator.exceeds (before c place) block.task (scale_for c block.task.kind) ≡ None
+      limit_of A.generator block.task (system A.program c.degree (before c place) block.task (scale_for c block.task.kind)) ≡ None
 
 abbrev pub CoursesStayWithin : Type 0
 CoursesStayWithin = (A : Analysis) → Generates A → (c : Certificate) → EndsAt A c → StaysWithin A c
