@@ -14,21 +14,21 @@ use Rattle.courses.specs.States.{State, scale_at, certificate_of}
 use Rattle.courses.proofs.Lists.{some_is}
 
 -- each of the tasks has a property
-abbrev AllTasks : (Task → Type 0) → List Task → Type 0
+abbrev pub AllTasks : (Task → Type 0) → List Task → Type 0
 AllTasks Q [] = Unit {0}
 AllTasks Q (t ∷ ts) = Q t × AllTasks Q ts
 
 module _ (Q : Task → Type 0) where
-  both : (ts us : List Task) → AllTasks Q ts → AllTasks Q us → AllTasks Q (ts ++ us)
+  pub both : (ts us : List Task) → AllTasks Q ts → AllTasks Q us → AllTasks Q (ts ++ us)
   both [] us h g = g
   both (t ∷ ts) us h g = (h.0, both ts us h.1 g)
 
-  each : {X : Type 0} (f : X → List Task) → ((x : X) → AllTasks Q (f x)) → (xs : List X) → AllTasks Q (flat_map f xs)
+  pub each : {X : Type 0} (f : X → List Task) → ((x : X) → AllTasks Q (f x)) → (xs : List X) → AllTasks Q (flat_map f xs)
   each f h [] = tt
   each f h (x ∷ xs) = both (f x) (flat_map f xs) (h x) (each f h xs)
 
   -- the next task is one of them
-  next_has : (ts : List Task) (past done : List Outcome) (task : Task) → AllTasks Q ts → next_of ts past done ≡ Some task → Q task
+  pub next_has : (ts : List Task) (past done : List Outcome) (task : Task) → AllTasks Q ts → next_of ts past done ≡ Some task → Q task
   next_has [] past done task h e = absurd (cc)
   next_has (t ∷ ts) past [] task h e = by (is_left_out past t.kind) refl (next_has ts past [] task h.1)
     where
@@ -42,7 +42,7 @@ module _ (Q : Task → Type 0) where
       by false q go on = on (sym (λ i. cond (q i) (next_of ts past (o ∷ done)) (next_of ts (o ∷ past) done)) ∙ e)
 
 -- a task of work is asked for
-abbrev IsAsked : Bool → Task → Type 0
+abbrev pub IsAsked : Bool → Task → Type 0
 IsAsked work task = task.kind ≡ k.With Work → work ≡ true
 
 module _ (rs : List Type') (d : ℕ) (work : Bool) where

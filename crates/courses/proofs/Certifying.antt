@@ -14,11 +14,13 @@ use Rattle.annot_types.specs.Least.{Refuted, Least}
 use Rattle.annot_types.specs.System.{system, IsRefutedBy}
 use Rattle.courses.specs.States.{State, scale_at, raised_scales, certificate_of}
 use Rattle.courses.specs.Good.{HoldsAt, IsRight, IsGood}
-use Rattle.courses.specs.Generator.{Analysis}
+use Rattle.courses.specs.Generator.{Analysis, most_allowed, limit_of, plan, next_at}
 use Rattle.courses.specs.Courses.{IsOver}
 use Rattle.courses.specs.Verifying.{TooLarge, BlockFault}
-use Rattle.courses.specs.Laws.{RaisedStayGood, StaysWithin, CoursesStayWithin, NoneTooLarge, NoneUnrefuted, FoundIsLeast, FoundIsRefuted, CoursesAreGood, Certifies, CoursesCertify}
-use Rattle.courses.proofs.Lists.{all_map}
+use Rattle.courses.specs.Laws.{RaisedStayGood, schedule_of, StaysWithin, CoursesStayWithin, NoneTooLarge, NoneUnrefuted, FoundIsLeast, FoundIsRefuted, CoursesAreGood, Certifies, CoursesCertify}
+use Rattle.courses.proofs.Lists.{all_map, there_or_all, some_none}
+use Rattle.cost_free.specs.Refused.{IsRefused}
+use Rattle.annot_types.specs.Program.{results}
 use Rattle.courses.proofs.Raising.{good_raised}
 use Rattle.courses.proofs.Found.{read_least, read_refutes, found_least, found_none}
 use Rattle.courses.proofs.Vectors.{refutes_listed}
@@ -47,7 +49,7 @@ found_is_refuted A g st task stands y h =
     let r = read_refutes (system_at A st task) (g.system st task stands) (rule_of A) y h in
     (refutes_listed (system_at A st task) y r, found_none A g st task stands (map pos y) r)
 
-module _ (A : Analysis) (st : State) (h : Runs A st) where
+module _ (A : Analysis) (st : State) (h : Runs A st) (over : IsOver A st) where
   abbrev whole : Certificate
   whole = certificate_of A.degree A.work st
 
@@ -86,16 +88,24 @@ module _ (A : Analysis) (st : State) (h : Runs A st) where
       of_natural n p = grind (arith, ints, p)
   scales_positive false Work = grind (arith, ints)
 
+  none_refused : (place : ℕ) → IsRefused most_allowed (plan A) (map outcome (take place st.blocks)) → ⊥
+  none_refused place refused = ⊎_elim
+      (λ b. (let f = h.fits place b.0 b.1 in f.goes_on refused))
+      (λ e. some_none refused.task (next_at A st) (ap (λ bs. next_task A.program A.degree A.work (map outcome bs)) (sym e) ∙ refused.is_next) over)
+      (there_or_all st.blocks place)
+
   pub run_within : StaysWithin A whole
   run_within = record {
-    goes_on = λ place block there refused. (let f = h.fits place block there in f.goes_on refused);
+    goes_on = λ place refused.
+        let same : schedule_of A.program whole ≡ plan A = λ i. record { results = results A.program; groups = A.program.groups; degree = A.degree; work = work_is A.degree A.work st i } in
+        none_refused place (subst (λ p. IsRefused most_allowed p (map outcome (take place st.blocks))) same refused);
     limits = λ place block there tried.
         let f = h.fits place block there in
-        subst (λ n. A.generator.exceeds (take place st.blocks) block.task n ≡ None) (scale place block there) (f.limit tried);
+        subst (λ n. limit_of A.generator block.task (system A.program A.degree (take place st.blocks) block.task n) ≡ None) (scale place block there) (f.limit tried);
   }
 
-  pub run_certifies : 1 ≤ A.degree → A.degree ≤ 4 → IsOver A st → Certifies A.program whole
-  run_certifies some few over = record {
+  pub run_certifies : 1 ≤ A.degree → A.degree ≤ 4 → Certifies A.program whole
+  run_certifies some few = record {
     valid = record {
       held = record {
         least_degree = some;
@@ -131,10 +141,10 @@ module _ (A : Analysis) (st : State) (h : Runs A st) where
 
 pub courses_certify : CoursesCertify
 courses_certify A g some few certificate h =
-    subst (Certifies A.program) (sym h.is) (run_certifies A h.state (runs A g h.findings h.state h.course) some few h.over)
+    subst (Certifies A.program) (sym h.is) (run_certifies A h.state (runs A g h.findings h.state h.course) h.over some few)
 
 pub courses_stay_within : CoursesStayWithin
-courses_stay_within A g certificate h = subst (StaysWithin A) (sym h.is) (run_within A h.state (runs A g h.findings h.state h.course))
+courses_stay_within A g certificate h = subst (StaysWithin A) (sym h.is) (run_within A h.state (runs A g h.findings h.state h.course) h.over)
 
 pub none_too_large : NoneTooLarge
 none_too_large A g certificate h place what fault = of_run (subst (λ v. BlockFault A.program A.generator v place (TooLarge what)) h.is fault)
@@ -145,7 +155,7 @@ none_too_large A g certificate h place what fault = of_run (subst (λ v. BlockFa
         let f = r.fits place fault.block fault.there in
         let blocker = blocker_of A.program fault.block.task (map outcome (take place h.state.blocks)) in
         let tried = refuted_tried blocker fault.farkas (subst (NamesBlocker blocker) fault.refuted f.waits) in
-        let within = run_within A h.state r in
+        let within = run_within A h.state r h.over in
         let none = sym fault.is ∙ within.limits place fault.block fault.there tried in absurd (cc)
 
 pub none_unrefuted : NoneUnrefuted

@@ -10,14 +10,15 @@ use Rattle.tableau.proofs.Agreeing.{not_both}
 use Rattle.farkas_check.specs.declared.Verdict.TheVariants.{Leaves}
 use Rattle.farkas_check.specs.Checks.{Check, EachPasses, IsFirstFault}
 use Rattle.cost_free.specs.Task.{Task}
-use Rattle.courses.specs.Wholes.{AreLeastWholes}
+use Rattle.whole_numbers.specs.Wholes.{most, AreLeastWholes, ScaleLeaves, InDenominator, InNumber}
 use Rattle.courses.specs.States.{State}
 use Rattle.courses.specs.Generator.{What, Analysis, limit_at, system_at}
 use Rattle.courses.specs.Reading.{ReadsBoth, ReadsVector}
 use Rattle.courses.specs.Places as p
-use Rattle.courses.specs.Places.{Place, most, ScaleLeaves, InDenominator, InNumber, Read, Both, Vector, RescaleLeaves, stage, rule_of, Comes}
+use Rattle.courses.specs.Places.{Place, Read, Both, Vector, RescaleLeaves, stage, rule_of, Comes}
 use Rattle.courses.specs.Clear.{RowsAreFine, BothAreFine, ArePassed, VectorIsFine, IsPassed, IsSolvedFine, FineIsClear, SeenIsFirst}
-use Rattle.courses.proofs.Single.{one_whole, one_solution, one_vector, never_both, some_none}
+use Rattle.courses.proofs.Single.{one_whole, one_solution, one_vector, never_both}
+use Rattle.courses.proofs.Lists.{some_none}
 
 -- a list of checks that pass has no first fault
 none_leaves : (ks : List Check) (column : ℕ) → EachPasses ks → IsFirstFault ks (Leaves column) → ⊥

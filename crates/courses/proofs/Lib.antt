@@ -1,13 +1,13 @@
-mod Lists
+pub mod Lists
 mod Vectors
 mod Found
 mod RaisedRows
 mod Raising
-mod Running
-mod Asked
+pub mod Running
+pub mod Asked
 mod Certifying
 mod Single
-mod Short
+pub mod Short
 mod Clear
 mod Lines
-mod Beginning
+pub mod Beginning

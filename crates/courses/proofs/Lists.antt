@@ -1,10 +1,20 @@
 -- Lists of blocks, each over those before it.
-use Rattle.std.proofs.Common.{◌≡◌, ◌⊎◌, inl, inr, ⊎_elim, ℕ, zero, suc, List, [], ◌∷◌, ◌++◌, map, take, slice_get, Some, refl, sym, ap, subst}
+use Rattle.std.proofs.Common.{◌≡◌, ◌⊎◌, inl, inr, ⊎_elim, ℕ, zero, suc, List, [], ◌∷◌, ◌++◌, map, take, slice_get, Option, Some, None, refl, sym, ap, ◌∙◌, subst}
 use Rattle.annot_types.specs.Certificate.{Block}
 use Rattle.courses.specs.Good.{AllAt}
 
 pub some_is : {X : Type 0} (x y : X) → Some x ≡ Some y → x ≡ y
 some_is x y h = cc
+
+pub some_none : {X : Type 0} (x : X) (o : Option X) → o ≡ Some x → o ≡ None → ⊥
+some_none x o e f = let q = sym f ∙ e in cc
+
+-- at a place there is an item, or all items are before it
+pub there_or_all : {X : Type 0} (xs : List X) (k : ℕ) → ((x : X) × (slice_get xs k ≡ Some x)) ⊎ (take k xs ≡ xs)
+there_or_all [] zero = inr refl
+there_or_all [] (suc k) = inr refl
+there_or_all (x ∷ xs) zero = inl (x, refl)
+there_or_all (x ∷ xs) (suc k) = ⊎_elim (λ h. inl h) (λ e. inr (ap (λ ys. x ∷ ys) e)) (there_or_all xs k)
 
 pub map_get : {X Y : Type 0} (f : X → Y) (xs : List X) (k : ℕ) (x : X) → slice_get xs k ≡ Some x → slice_get (map f xs) k ≡ Some (f x)
 map_get f [] k x e = absurd (cc)

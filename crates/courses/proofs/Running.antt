@@ -17,7 +17,7 @@ use Rattle.annot_types.specs.System.{IsRefutedBy}
 use Rattle.annot_types.proofs.Raised.{same_self}
 use Rattle.courses.specs.States.{State, scale_at, raised_scales}
 use Rattle.courses.specs.Good.{AllAt, HoldsAt, LeastAt, IsRight, IsGood}
-use Rattle.courses.specs.Generator.{Analysis, Generates, Stands, What, most_indices, next_at, plan, IsRefusedAt, blocker_at, limit_at, system_at, body_at}
+use Rattle.courses.specs.Generator.{Analysis, Generates, Stands, What, most_allowed, next_at, plan, IsRefusedAt, blocker_at, limit_at, system_at, body_at}
 use Rattle.courses.specs.Reading.{listed}
 use Rattle.courses.specs.Places.{TooLarge, rule_of, IsClear}
 use Rattle.courses.specs.Courses.{Finding, Waits, Has, HasNone, after, ComesOut, Course}
@@ -54,7 +54,7 @@ refuted_risen true r (Calls fun) farkas e = e
 positive_times : (r : ℕ) (z : ℤ) → 0 < r → pos 0 <ℤ z → pos 0 <ℤ (pos r *ℤ z)
 positive_times r z pr pz = grind (arith, ints)
 
-rise_times : (r : ℕ) → 0 < r → (least : ℕ) (es : Entries) → RiseFrom least es → RiseFrom least (times r es)
+pub rise_times : (r : ℕ) → 0 < r → (least : ℕ) (es : Entries) → RiseFrom least es → RiseFrom least (times r es)
 rise_times r pr least [] h = tt
 rise_times r pr least (e ∷ es) h = (h.0, positive_times r e.1 pr h.1, rise_times r pr (suc e.0) es h.2)
 
@@ -105,7 +105,7 @@ pub record Fits (A : Analysis) (scales : Meter → ℕ) (es : List Block) (block
   pub shape : IsShaped block.body
   pub good : IsGood A.program A.degree scales es block
   pub vector : (farkas : Entries) → block.body ≡ c.Refuted farkas → IsRefutedBy (system_at A (record { blocks = es; scales = scales }) block.task) farkas
-  pub goes_on : IsRefused most_indices (plan A) (map outcome es) → ⊥
+  pub goes_on : IsRefused most_allowed (plan A) (map outcome es) → ⊥
   pub limit : blocker_of A.program block.task (map outcome es) ≡ None → limit_at A (record { blocks = es; scales = scales }) block.task ≡ None
 
 -- a clear task that is tried exceeds no limit
@@ -159,7 +159,7 @@ module _ (A : Analysis) where
               let body = refuted_risen is r block.body farkas e in
               let tried = refuted_tried (blocker_at A now block.task) farkas (subst (NamesBlocker (blocker_at A now block.task)) body h.waits) in
               refutes_both _ _ farkas (h.vector farkas body) (g.keep now block.task (stands tried) (k.With m) r pr _);
-          goes_on = λ refused. h.goes_on (subst (IsRefused most_indices (plan A)) (outcomes_raised m r es) refused);
+          goes_on = λ refused. h.goes_on (subst (IsRefused most_allowed (plan A)) (outcomes_raised m r es) refused);
           limit = λ w.
               let tried = ap (blocker_of A.program block.task) (sym (outcomes_raised m r es)) ∙ w in
               g.limit now block.task (stands tried) (k.With m) r pr ∙ h.limit tried;
@@ -227,7 +227,7 @@ module _ (A : Analysis) where
             shape = g.shape st task stands t x positive least.solves;
             good = good_found st.scales st.blocks task.group task.kind _ _ (found_least A g st task stands t x positive least);
             vector = λ farkas q. absurd (cc);
-            goes_on = λ refused. on (subst (IsRefused most_indices (plan A)) same refused);
+            goes_on = λ refused. on (subst (IsRefused most_allowed (plan A)) same refused);
             limit = λ w. g.limit st task stands task.kind t positive ∙ few comes.0;
           });
         }

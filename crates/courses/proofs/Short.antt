@@ -34,7 +34,7 @@ length_before : (kind : Kind) (t : ℕ) (bs : List Block) → length (blocks_bef
 length_before (Free budget fun target) t bs = refl
 length_before (k.With m) t bs = length_map (raised m t) bs
 
-one_block : (A : Analysis) (task : Task) (finding : Finding) (st : State) → length (after A task finding st).blocks ≡ suc (length st.blocks)
+pub one_block : (A : Analysis) (task : Task) (finding : Finding) (st : State) → length (after A task finding st).blocks ≡ suc (length st.blocks)
 one_block A task (Waits f) st = length_more st.blocks _
 one_block A task (Has t x) st = length_more (blocks_before task.kind t st.blocks) _ ∙ ap suc (length_before task.kind t st.blocks)
 one_block A task (HasNone y) st = length_more st.blocks _

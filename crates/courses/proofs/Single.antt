@@ -12,14 +12,14 @@ use Rattle.tableau.proofs.Ending.{good_course}
 use Rattle.tableau.proofs.Agreeing.{not_both}
 use Rattle.cost_free.specs.Task.{Free, Task}
 use Rattle.annot_types.specs.Program.{members}
-use Rattle.courses.specs.Wholes.{AreLeastWholes}
+use Rattle.whole_numbers.specs.Wholes.{AreLeastWholes}
 use Rattle.courses.specs.States.{State, certificate_of}
 use Rattle.courses.specs.Generator.{Analysis, Generates, next_at, blocker_at, system_at}
 use Rattle.courses.specs.Reading.{ReadsSolution, ReadsVector}
 use Rattle.courses.specs.Places.{Place, stage, Comes, IsPlace}
 use Rattle.courses.specs.Courses.{Finding, Waits, Has, HasNone, after, ComesOut, Step, Course, IsOver, OnTask, large_of, OnGroup}
 use Rattle.courses.specs.Laws.{OneCertificate, EndsOrStops, OnePlace}
-use Rattle.courses.proofs.Lists.{some_is}
+use Rattle.courses.proofs.Lists.{some_is, some_none}
 use Rattle.courses.proofs.Running.{Runs, runs, stands_of}
 
 -- Least whole numbers are one list over one number.
@@ -64,9 +64,6 @@ module _ (paths : OneCourse) (pick : List ℤ → ℤ → Option ℕ) (s : Linea
 
   pub never_both : (t : ℕ) (x y : List ℕ) → ReadsSolution (rule_by pick) s t x → ReadsVector (rule_by pick) s y → ⊥
   never_both t x y h k = not_both s h.pivots k.pivots h.table k.table k.column system h.ends k.rises
-
-pub some_none : {X : Type 0} (x : X) (o : Option X) → o ≡ Some x → o ≡ None → ⊥
-some_none x o e f = let q = sym f ∙ e in cc
 
 module _ (paths : OneCourse) (A : Analysis) (g : Generates A) where
   one_finding : (st : State) → Runs A st → (task : Task) → next_at A st ≡ Some task → (f k : Finding) → ComesOut A st task f → ComesOut A st task k → f ≡ k

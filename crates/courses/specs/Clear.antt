@@ -9,7 +9,8 @@ use Rattle.cost_free.specs.Task.{Task}
 use Rattle.courses.specs.States.{State}
 use Rattle.courses.specs.Generator.{What, Analysis, blocker_at, limit_at, system_at}
 use Rattle.courses.specs.Reading.{ReadsSolution, ReadsBoth, ReadsVector}
-use Rattle.courses.specs.Places.{TooLarge, Row, Solve, Scale, Refute, Least, Rescale, most, RowFits, RowLeaves, ScaleLeaves, Read, RescaleLeaves, rule_of, IsPlace, IsClear}
+use Rattle.whole_numbers.specs.Wholes.{most, ScaleLeaves}
+use Rattle.courses.specs.Places.{TooLarge, Row, Solve, Scale, Refute, Least, Rescale, RowFits, RowLeaves, Read, RescaleLeaves, rule_of, IsPlace, IsClear}
 
 module _ (A : Analysis) (st : State) (task : Task) where
   -- no limit is exceeded, and every row fits

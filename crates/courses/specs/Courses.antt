@@ -5,7 +5,7 @@ use Rattle.cost_free.specs.Refused.{has_more}
 use Rattle.annot_types.specs.Program.{members, results}
 use Rattle.annot_types.specs.Certificate.{Refuted, Calls, Certificate}
 use Rattle.courses.specs.States.{State, start, raise, with_block, certificate_of}
-use Rattle.courses.specs.Generator.{Indices, Analysis, most_indices, next_at, IsRefusedAt, blocker_at, system_at, body_at}
+use Rattle.courses.specs.Generator.{Indices, Analysis, most_allowed, next_at, IsRefusedAt, blocker_at, system_at, body_at}
 use Rattle.courses.specs.Reading.{ReadsSolution, ReadsVector, listed}
 use Rattle.courses.specs.Places.{Place, TooLarge, rule_of, IsPlace, IsClear}
 
@@ -54,7 +54,7 @@ module _ (A : Analysis) where
 
   -- those of some functions whose results have too many indices
   abbrev pub large_of : List ℕ → List ℕ
-  large_of funs = filter (λ fun. has_more most_indices A.degree (slice_get (results A.program) fun)) funs
+  large_of funs = filter (λ fun. has_more most_allowed A.degree (slice_get (results A.program) fun)) funs
 
   -- The schedule does not go on. The task that is named is that of the full budget and of target 0, for the first function of the group whose result has
   -- too many indices.

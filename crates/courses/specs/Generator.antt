@@ -1,5 +1,5 @@
 -- The systems of tasks, and what is asked of them.
-use Rattle.std.specs.Prelude.{◌≡◌, ◌<◌, ℕ, Bool, ℤ, pos, List, map, Option, Some, None}
+use Rattle.std.specs.Prelude.{◌≡◌, ◌<◌, ℕ, nat_lt, Bool, not, cond, ℤ, pos, List, map, length, Option, Some, None}
 use Rattle.linear_rows.specs.Systems.{LinearSystem, IsSystem, Solves, Refutes}
 use Rattle.linear_rows.specs.Vectors.{dot}
 use Rattle.cost_free.specs.declared.task.Meter.{Meter}
@@ -20,12 +20,23 @@ pub data What : Type 0 where
   Unknowns : What
   Rows : What
 
--- For a task over the blocks before it: the signatures and the hints that numbers for its unknowns stand for, and the first limit that it exceeds at a
--- scale.
+-- For a task over the blocks before it: the signatures and the hints that numbers for its unknowns stand for. And whether all contexts and types of the
+-- walks through the bodies of a task's group have few enough indices at its budget.
 pub record Generator : Type 0 where
   pub sigs : List Block → Task → List ℕ → List Sig
   pub hints : List Block → Task → List ℕ → List (List Hint)
-  pub exceeds : List Block → Task → ℕ → Option What
+  pub within : Task → Bool
+
+-- no more indices of a context or a type, unknowns or rows than this
+abbrev pub most_allowed : ℕ
+most_allowed = 2000
+
+-- the first limit that a task with this system exceeds
+abbrev pub limit_of : Generator → Task → LinearSystem → Option What
+limit_of G task s =
+    cond (not (G.within task)) (Some Indices)
+    (cond (nat_lt most_allowed s.unknowns) (Some Unknowns)
+    (cond (nat_lt most_allowed (length s.rows)) (Some Rows) None))
 
 -- What is analysed: a program at degree d, with work or without it, and by which rule columns enter.
 pub record Analysis : Type 0 where
@@ -34,10 +45,6 @@ pub record Analysis : Type 0 where
   pub work : Bool
   pub generator : Generator
   pub pick : List ℤ → ℤ → Option ℕ
-
--- no more indices than this at once
-abbrev pub most_indices : ℕ
-most_indices = 2000
 
 module _ (A : Analysis) where
   abbrev pub next_at : State → Option Task
@@ -48,18 +55,18 @@ module _ (A : Analysis) where
 
   -- The schedule does not go on: the next task is the first of its group, and a function of the group has a result with too many indices.
   abbrev pub IsRefusedAt : State → Type 0
-  IsRefusedAt st = IsRefused most_indices plan (done st)
+  IsRefusedAt st = IsRefused most_allowed plan (done st)
 
   -- the function that a task waits for; where there is one, the task is not tried
   abbrev pub blocker_at : State → Task → Option ℕ
   blocker_at st task = blocker_of A.program task (done st)
 
-  abbrev pub limit_at : State → Task → Option What
-  limit_at st task = A.generator.exceeds st.blocks task (scale_at st.scales task.kind)
-
   -- the system of a task over the blocks so far, at the scale of its meter
   abbrev pub system_at : State → Task → LinearSystem
   system_at st task = system A.program A.degree st.blocks task (scale_at st.scales task.kind)
+
+  abbrev pub limit_at : State → Task → Option What
+  limit_at st task = limit_of A.generator task (system_at st task)
 
   -- what numbers for its unknowns stand for
   abbrev pub body_at : State → Task → List ℕ → Body

@@ -7,14 +7,14 @@ use Rattle.farkas_check.specs.Checks.{IsVerdict, refuting}
 use Rattle.cost_free.specs.declared.task.Meter.{Meter}
 use Rattle.cost_free.specs.Task.{Kind, Task}
 use Rattle.cost_free.specs.Schedule.{tasks_from}
-use Rattle.cost_free.specs.Refused.{IsRefused}
+use Rattle.cost_free.specs.Refused.{Plan, IsRefused}
 use Rattle.annot_types.specs.Program.{Program, results, blocker_of}
-use Rattle.annot_types.specs.Certificate.{Block, Certificate}
+use Rattle.annot_types.specs.Certificate.{Block, Certificate, has_work}
 use Rattle.annot_types.specs.Held.{before, done_before, scale_for}
 use Rattle.annot_types.specs.Least.{Refuted, Least}
-use Rattle.annot_types.specs.System.{IsRefutedBy, Valid}
+use Rattle.annot_types.specs.System.{system, IsRefutedBy, Valid}
 use Rattle.courses.specs.States.{State, scale_at, raise}
-use Rattle.courses.specs.Generator.{What, Generator, Analysis, most_indices, plan, Stands, Generates, system_at, block_at}
+use Rattle.courses.specs.Generator.{What, Generator, Analysis, most_allowed, limit_of, Stands, Generates, system_at, block_at}
 use Rattle.courses.specs.Reading.{ReadsSolution, ReadsVector, listed}
 use Rattle.courses.specs.Good.{AllGood, AllLeast, AllRefuted}
 use Rattle.courses.specs.Places.{Place, stage, rule_of, IsOfMeter}
@@ -54,11 +54,15 @@ pub record Certifies (P : Program) (c : Certificate) : Type 0 where
 abbrev pub CoursesCertify : Type 0
 CoursesCertify = (A : Analysis) → Generates A → 1 ≤ A.degree → A.degree ≤ 4 → (c : Certificate) → EndsAt A c → Certifies A.program c
 
+-- what the schedule of a certificate goes by
+abbrev pub schedule_of : Program → Certificate → Plan
+schedule_of P c = record { results = results P; groups = P.groups; degree = c.degree; work = has_work c }
+
 -- At no place does the schedule refuse to go on, and no task that is tried exceeds a limit over the blocks before it.
 pub record StaysWithin (A : Analysis) (c : Certificate) : Type 0 where
-  pub goes_on : (place : ℕ) (block : Block) → slice_get c.blocks place ≡ Some block → IsRefused most_indices (plan A) (done_before c place) → ⊥
+  pub goes_on : (place : ℕ) → IsRefused most_allowed (schedule_of A.program c) (done_before c place) → ⊥
   pub limits : (place : ℕ) (block : Block) → slice_get c.blocks place ≡ Some block → blocker_of A.program block.task (done_before c place) ≡ None →
-      A.generator.exceeds (before c place) block.task (scale_for c block.task.kind) ≡ None
+      limit_of A.generator block.task (system A.program c.degree (before c place) block.task (scale_for c block.task.kind)) ≡ None
 
 abbrev pub CoursesStayWithin : Type 0
 CoursesStayWithin = (A : Analysis) → Generates A → (c : Certificate) → EndsAt A c → StaysWithin A c

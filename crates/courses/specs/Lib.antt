@@ -1,4 +1,3 @@
-pub mod Wholes
 pub mod States
 pub mod Good
 pub mod Generator

@@ -1,5 +1,5 @@
 -- Where a task that is tried is not carried through: a limit that it exceeds, or a number that leaves 128 bits.
-use Rattle.std.specs.Prelude.{◌≡◌, ◌≤◌, ◌<◌, ◌^◌, ◌*◌, ℕ, suc, ℤ, pos, ◌*ℤ◌, List, ◌++◌, map, take, length, slice_get, slice_index_or, Some, None, FitsSigned}
+use Rattle.std.specs.Prelude.{◌≡◌, ◌<◌, ◌*◌, ℕ, ℤ, pos, ◌*ℤ◌, List, ◌++◌, map, slice_get, Some, None, FitsSigned}
 use Rattle.std.specs.List.{All}
 use Rattle.std.specs.Int.{w128}
 use Rattle.linear_rows.specs.Terms.{SparseRow, coefficient}
@@ -13,7 +13,7 @@ use Rattle.cost_free.specs.Task as k
 use Rattle.cost_free.specs.Task.{Kind, Free, Task}
 use Rattle.annot_types.specs.Certificate as c
 use Rattle.annot_types.specs.Certificate.{Entries, Sig, Hint, Body, Solved, IsSolved, Block}
-use Rattle.courses.specs.Wholes.{AreLeastWholes}
+use Rattle.whole_numbers.specs.Wholes.{most, ScaleLeaves}
 use Rattle.courses.specs.States.{State}
 use Rattle.courses.specs.Generator.{What, Analysis, blocker_at, limit_at, system_at}
 use Rattle.courses.specs.Reading.{ReadsSolution, ReadsBoth, ReadsVector}
@@ -27,10 +27,6 @@ pub data Place : Type 0 where
   Least : ℕ → Place
   Rescale : ℕ → Place
 
--- natural numbers below this one are of 128 bits
-abbrev pub most : ℕ
-most = 2 ^ 127
-
 -- its numbers are of 128 bits
 pub record RowFits (row : SparseRow) : Type 0 where
   pub terms : (unknown : ℕ) → FitsSigned w128 (coefficient unknown row.terms)
@@ -42,14 +38,6 @@ pub record RowLeaves (rows : List SparseRow) (place : ℕ) : Type 0 where
   pub there : slice_get rows place ≡ Some row
   pub leaves : RowFits row → ⊥
   pub before : (i : ℕ) (other : SparseRow) → i < place → slice_get rows i ≡ Some other → RowFits other
-
--- Of the numbers ns over d, the least denominator that serves for those up to an entry is too great, and for no fewer; or over the least denominator of
--- all the entry is the first that is too great.
-pub data ScaleLeaves (d : ℤ) (ns : List ℤ) (entry : ℕ) : Type 0 where
-  InDenominator : entry < length ns → (t u : ℕ) (xs zs : List ℕ) →
-      AreLeastWholes d (take (suc entry) ns) t xs → most ≤ t → AreLeastWholes d (take entry ns) u zs → u < most → ScaleLeaves d ns entry
-  InNumber : (t : ℕ) (xs : List ℕ) → AreLeastWholes d ns t xs → t < most →
-      most ≤ slice_index_or xs entry 0 → ((i : ℕ) → i < entry → slice_index_or xs i 0 < most) → ScaleLeaves d ns entry
 
 -- what is read for the check of a task's answer, over the tableau's number: the solution and the dual numbers behind it, or the vector
 pub data Read (rule : Rule) (s : LinearSystem) (d : ℤ) (ns : List ℤ) : Type 0 where
@@ -67,9 +55,8 @@ HintFits t (c.Let rs) = All (EntriesFit t) rs
 HintFits t (c.Share p) = EntriesFit t p
 HintFits t (c.Call multiples) = EntriesFit t multiples
 
-pub record SigFits (t : ℕ) (s : Sig) : Type 0 where
-  pub args : EntriesFit t s.args
-  pub result : EntriesFit t s.result
+abbrev pub SigFits : ℕ → Sig → Type 0
+SigFits t s = EntriesFit t s.args × EntriesFit t s.result
 
 abbrev pub BodyFits : ℕ → Body → Type 0
 BodyFits t (Solved sigs hints) = All (SigFits t) sigs × All (All (HintFits t)) hints

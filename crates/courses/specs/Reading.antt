@@ -4,7 +4,7 @@ use Rattle.linear_rows.specs.Systems.{LinearSystem}
 use Rattle.tableau.specs.Tableaux.{Tableau, solution, dual, ray}
 use Rattle.tableau.specs.Courses.{Rule, Ends, Rises, Follows, Answers}
 use Rattle.annot_types.specs.Certificate.{Entries}
-use Rattle.courses.specs.Wholes.{AreLeastWholes}
+use Rattle.whole_numbers.specs.Wholes.{AreLeastWholes}
 
 -- the pivots by the rule end, and over t the solution that is read there is x
 pub record ReadsSolution (rule : Rule) (s : LinearSystem) (t : ℕ) (x : List ℕ) : Type 0 where

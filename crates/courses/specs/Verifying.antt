@@ -9,7 +9,7 @@ use Rattle.annot_types.specs.Program.{Program}
 use Rattle.annot_types.specs.Certificate.{Entries, number_at, Refuted, Block, Certificate}
 use Rattle.annot_types.specs.Held.{before, scale_for}
 use Rattle.annot_types.specs.System.{system, AreRows}
-use Rattle.courses.specs.Generator.{What, Generator}
+use Rattle.courses.specs.Generator.{What, Generator, limit_of}
 use Rattle.courses.specs.Places.{RowLeaves}
 
 pub data Fault : Type 0 where
@@ -43,8 +43,9 @@ module _ (P : Program) (G : Generator) (c : Certificate) where
     pub farkas : Entries
     pub there : slice_get c.blocks place ≡ Some block
     pub refuted : block.body ≡ Refuted farkas
-    pub is : VectorFault (G.exceeds (before c place) block.task (scale_for c block.task.kind))
-        (system P c.degree (before c place) block.task (scale_for c block.task.kind)) farkas fault
+    pub is :
+      let system = system P c.degree (before c place) block.task (scale_for c block.task.kind) in
+      VectorFault (limit_of G block.task system) system farkas fault
 
   -- the first refuted block that has a fault has this one
   pub record FirstFault (place : ℕ) (fault : Fault) : Type 0 where

@@ -1,0 +1,39 @@
+// What numbers are multiplied by.
+ghost use Rattle.std.specs.Prelude.{◌≡◌, ◌<ℤ◌, ◌*ℤ◌, ℕ, ℤ, pos, unsigned_abs, FitsSigned};
+ghost use Rattle.std.specs.Int.{w128};
+ghost use Rattle.std.specs.Option.{SomeIff};
+
+use std::marker::Model;
+
+/// A positive number. Contracts see it as a natural one.
+#[derive(Debug, Drop)]
+pub struct Factor {
+    value: i128,
+}
+
+impl Model for Factor {
+    ghost use Rattle.std.specs.Prelude.{ℕ, pos, ◌<ℤ◌, unsigned_abs};
+
+    ghost Value = { ℕ };
+
+    ghost view = { λ factor. unsigned_abs factor.value };
+
+    ghost invariant = { λ factor. pos 0 <ℤ factor.value };
+}
+
+impl Factor {
+    /// The factor of this size.
+    pub fn new(value: i128) -> Factor
+        requires { pos 0 <ℤ value }
+        ensures { result ≡ unsigned_abs value }
+    {
+        Factor { value }
+    }
+
+    /// A number multiplied, or None where it does not fit.
+    pub fn times(&self, number: i128) -> Option<i128>
+        ensures { SomeIff result (FitsSigned w128 (pos self.now *ℤ number)) (pos self.now *ℤ number) }
+    {
+        self.value.checked_mul(number)
+    }
+}

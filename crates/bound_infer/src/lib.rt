@@ -1,0 +1,20 @@
+//! The inference of bounds: the course of the schedule, from task to task.
+//!
+//! This much stands: the loop over tasks, the entries of a vector that refutes a task, and blocks that are
+//! raised.
+#![tactic(auto)]
+
+mod body;
+mod factor;
+mod fault;
+mod raising;
+mod sigs;
+mod steps;
+mod times;
+mod vector;
+
+pub use factor::Factor;
+pub use fault::RaiseFault;
+pub use raising::{raise, raise_blocks};
+pub use steps::{Steps, run};
+pub use vector::listed;

@@ -1,0 +1,4 @@
+pub mod Wholes
+pub mod Denominators
+pub mod Next
+pub mod Laws
