@@ -1,12 +1,14 @@
 //! The inference of bounds: the course of the schedule, from task to task.
 //!
-//! This much stands: the loop over tasks, the entries of a vector that refutes a task, and blocks that are
-//! raised.
+//! This much stands: the loop over tasks, the entries of a vector that refutes a task, blocks that are
+//! raised, and the types of lines and of places where numbers leave 128 bits.
 #![tactic(auto)]
 
 mod body;
 mod factor;
 mod fault;
+mod leaves;
+mod line;
 mod raising;
 mod sigs;
 mod steps;
@@ -15,6 +17,8 @@ mod vector;
 
 pub use factor::Factor;
 pub use fault::RaiseFault;
+pub use leaves::LeavesAt;
+pub use line::Line;
 pub use raising::{raise, raise_blocks};
 pub use steps::{Steps, run};
 pub use vector::listed;

@@ -11,3 +11,4 @@ pub mod Short
 mod Clear
 mod Lines
 pub mod Beginning
+mod Present

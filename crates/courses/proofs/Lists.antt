@@ -1,5 +1,5 @@
 -- Lists of blocks, each over those before it.
-use Rattle.std.proofs.Common.{◌≡◌, ◌⊎◌, inl, inr, ⊎_elim, ℕ, zero, suc, List, [], ◌∷◌, ◌++◌, map, take, slice_get, Option, Some, None, refl, sym, ap, ◌∙◌, subst}
+use Rattle.std.proofs.Common.{◌≡◌, ◌⊎◌, inl, inr, ⊎_elim, ℕ, zero, suc, List, [], ◌∷◌, ◌++◌, map, take, length, slice_get, Option, Some, None, refl, sym, ap, ◌∙◌, subst}
 use Rattle.annot_types.specs.Certificate.{Block}
 use Rattle.courses.specs.Good.{AllAt}
 
@@ -15,6 +15,10 @@ there_or_all [] zero = inr refl
 there_or_all [] (suc k) = inr refl
 there_or_all (x ∷ xs) zero = inl (x, refl)
 there_or_all (x ∷ xs) (suc k) = ⊎_elim (λ h. inl h) (λ e. inr (ap (λ ys. x ∷ ys) e)) (there_or_all xs k)
+
+pub length_map : {X Y : Type 0} (f : X → Y) (xs : List X) → length (map f xs) ≡ length xs
+length_map f [] = refl
+length_map f (x ∷ xs) = ap suc (length_map f xs)
 
 pub map_get : {X Y : Type 0} (f : X → Y) (xs : List X) (k : ℕ) (x : X) → slice_get xs k ≡ Some x → slice_get (map f xs) k ≡ Some (f x)
 map_get f [] k x e = absurd (cc)

@@ -22,6 +22,7 @@ use Rattle.courses.specs.Reading.{listed}
 use Rattle.courses.specs.Places.{TooLarge, rule_of, IsClear}
 use Rattle.courses.specs.Courses.{Finding, Waits, Has, HasNone, after, ComesOut, Course}
 use Rattle.courses.proofs.Lists.{all_append, all_take, all_map}
+use Rattle.courses.proofs.RaisedRows.{limit_same, raised_rows_are_refuted}
 use Rattle.courses.proofs.Raising.{raised_is, good_raised, same_down, new_up, positive_product}
 use Rattle.courses.proofs.Found.{read_least, read_refutes, found_least, found_none}
 use Rattle.courses.proofs.Vectors.{listed_rises, refutes_listed, refutes_both}
@@ -158,11 +159,13 @@ module _ (A : Analysis) where
           vector = λ farkas e.
               let body = refuted_risen is r block.body farkas e in
               let tried = refuted_tried (blocker_at A now block.task) farkas (subst (NamesBlocker (blocker_at A now block.task)) body h.waits) in
-              refutes_both _ _ farkas (h.vector farkas body) (g.keep now block.task (stands tried) (k.With m) r pr _);
+              let rows = g.raised now block.task (stands tried) (k.With m) r pr in
+              refutes_both _ _ farkas (h.vector farkas body) (raised_rows_are_refuted _ _ rows.0 rows.1 rows.2 _);
           goes_on = λ refused. h.goes_on (subst (IsRefused most_allowed (plan A)) (outcomes_raised m r es) refused);
           limit = λ w.
               let tried = ap (blocker_of A.program block.task) (sym (outcomes_raised m r es)) ∙ w in
-              g.limit now block.task (stands tried) (k.With m) r pr ∙ h.limit tried;
+              let rows = g.raised now block.task (stands tried) (k.With m) r pr in
+              limit_same A.generator block.task _ _ rows.0 rows.2 ∙ h.limit tried;
         })
 
     all_raised : (st : State) (kind : Kind) (r : ℕ) → 0 < r → Runs A st → AllAt (Fits A (raised_scales kind r st.scales)) (blocks_before kind r st.blocks)
@@ -228,7 +231,7 @@ module _ (A : Analysis) where
             good = good_found st.scales st.blocks task.group task.kind _ _ (found_least A g st task stands t x positive least);
             vector = λ farkas q. absurd (cc);
             goes_on = λ refused. on (subst (IsRefused most_allowed (plan A)) same refused);
-            limit = λ w. g.limit st task stands task.kind t positive ∙ few comes.0;
+            limit = λ w. (let rows = g.raised st task stands task.kind t positive in limit_same A.generator task _ _ rows.0 rows.2 ∙ few comes.0);
           });
         }
     runs_after st (HasNone y) task h e on few comes =

@@ -9,6 +9,7 @@ use Rattle.annot_types.specs.Holds.{raised, blocks_before}
 use Rattle.courses.specs.States.{State}
 use Rattle.courses.specs.Generator.{Analysis}
 use Rattle.courses.specs.Courses.{Finding, Waits, Has, HasNone, after}
+use Rattle.courses.proofs.Lists.{length_map}
 use Rattle.courses.specs.Laws.{CoursesEnd}
 
 -- where there is a next task, fewer are done than there are
@@ -21,10 +22,6 @@ next_short (c ∷ ts) past (o ∷ rest) t e = by (is_left_out past c.kind) refl 
         (next_of ts (o ∷ past) rest ≡ Some t → length rest < length ts) → length (o ∷ rest) < length (c ∷ ts)
     by true q f g = let l = f ((λ i. cond (sym q i) (next_of ts past (o ∷ rest)) (next_of ts (o ∷ past) rest)) ∙ e) in omega (arith, l)
     by false q f g = let l = g ((λ i. cond (sym q i) (next_of ts past (o ∷ rest)) (next_of ts (o ∷ past) rest)) ∙ e) in omega (arith, l)
-
-length_map : {X Y : Type 0} (f : X → Y) (xs : List X) → length (map f xs) ≡ length xs
-length_map f [] = refl
-length_map f (x ∷ xs) = ap suc (length_map f xs)
 
 length_more : {X : Type 0} (xs : List X) (x : X) → length (xs ++ x ∷ []) ≡ suc (length xs)
 length_more [] x = refl

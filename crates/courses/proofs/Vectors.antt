@@ -1,11 +1,12 @@
 -- Vectors as entries of the rows whose number is not 0, and back.
-use Rattle.std.proofs.Common.{◌≡◌, ◌≤◌, ◌<◌, ℕ, zero, suc, ◌+◌, ◌==◌, if◌then◌else◌, ℤ, pos, ◌<ℤ◌, List, [], ◌∷◌, map, length, refl, sym, ap, ◌∙◌, subst, arith}
+use Rattle.std.proofs.Common.{◌≡◌, ◌≤◌, ◌<◌, ℕ, zero, suc, ◌+◌, ◌==◌, if◌then◌else◌, ℤ, pos, ◌<ℤ◌, List, [], ◌∷◌, map, length, refl, sym, ◌∙◌, subst, arith}
 use Rattle.std.specs.List.{range_with_len}
 use Rattle.std.proofs.lemmas.Int.{ints}
 use Rattle.std.proofs.lemmas.Bool.Decides.{nat_tests}
 use Rattle.linear_rows.specs.Systems.{LinearSystem, Refutes}
 use Rattle.annot_types.specs.Certificate.{Entries, number_at, RiseFrom, Rise}
 use Rattle.annot_types.specs.System.{AreRows, IsRefutedBy}
+use Rattle.courses.proofs.Lists.{length_map}
 use Rattle.courses.specs.Reading.{listed}
 use Rattle.courses.specs.Verifying.{vector_of}
 
@@ -51,13 +52,9 @@ listed_inside [] from n l = tt
 listed_inside (zero ∷ ys) from n l = listed_inside ys (from + 1) n (omega (arith, l))
 listed_inside (suc m ∷ ys) from n l = (omega (arith, l), listed_inside ys (from + 1) n (omega (arith, l)))
 
-map_length : {X Y : Type 0} (f : X → Y) (xs : List X) → length (map f xs) ≡ length xs
-map_length f [] = refl
-map_length f (x ∷ xs) = ap suc (map_length f xs)
-
 pub refutes_listed : (s : LinearSystem) (y : List ℕ) → Refutes s (map pos y) → IsRefutedBy s (listed 0 y)
 refutes_listed s y h =
-    let count : length y ≡ length s.rows = sym (map_length pos y) ∙ h.one_each in
+    let count : length y ≡ length s.rows = sym (length_map pos y) ∙ h.one_each in
     let same : vector_of s (listed 0 y) ≡ map pos y = (λ i. map (λ k. number_at k (listed 0 y)) (range_with_len 0 (sym count i))) ∙ numbers_listed y 0 in
     record { rows = listed_inside y 0 (length s.rows) (omega (arith, count)); refutes = subst (Refutes s) (sym same) h }
 

@@ -1,7 +1,7 @@
 -- The systems of tasks, and what is asked of them.
 use Rattle.std.specs.Prelude.{◌≡◌, ◌<◌, ℕ, nat_lt, Bool, not, cond, ℤ, pos, List, map, length, Option, Some, None}
-use Rattle.linear_rows.specs.Systems.{LinearSystem, IsSystem, Solves, Refutes}
-use Rattle.linear_rows.specs.Vectors.{dot}
+use Rattle.linear_rows.specs.Systems.{LinearSystem, IsSystem, Solves, matrix, right_sides}
+use Rattle.linear_rows.specs.Vectors.{dot, scale}
 use Rattle.cost_free.specs.declared.task.Meter.{Meter}
 use Rattle.cost_free.specs.Task.{Kind, Task}
 use Rattle.cost_free.specs.Refused.{Plan, IsRefused}
@@ -26,6 +26,12 @@ pub record Generator : Type 0 where
   pub sigs : List Block → Task → List ℕ → List Sig
   pub hints : List Block → Task → List ℕ → List (List Hint)
   pub within : Task → Bool
+
+-- The second system has the coefficients of the first, and right sides n times as great.
+pub record AreRaised (n : ℕ) (s raised : LinearSystem) : Type 0 where
+  pub unknowns : s.unknowns ≡ raised.unknowns
+  pub coefficients : matrix s ≡ matrix raised
+  pub right : right_sides raised ≡ scale (pos n) (right_sides s)
 
 -- no more indices of a context or a type, unknowns or rows than this
 abbrev pub most_allowed : ℕ
@@ -102,9 +108,6 @@ module _ (A : Analysis) where
         HoldsNow st (solving task sigs hints) t →
         (x : List ℕ) × Solves (system_at st task) (map pos x) (pos t)
         × (dot (system_at st task).weights (map pos x) ≡ pos (weight A.program A.degree (solving task sigs hints)))
-    -- where blocks and scales are raised, what refutes the system still refutes it
-    pub keep : (st : State) (task : Task) → Stands st task → (kind : Kind) (r : ℕ) → 0 < r → (y : List ℤ) →
-        Refutes (system_at st task) y → Refutes (system_at (raise kind r st) task) y
-    -- and the limits are exceeded alike
-    pub limit : (st : State) (task : Task) → Stands st task → (kind : Kind) (r : ℕ) → 0 < r →
-        limit_at (raise kind r st) task ≡ limit_at st task
+    -- where blocks and scales are raised, its rows keep their coefficients, and their right sides are raised
+    pub raised : (st : State) (task : Task) → Stands st task → (kind : Kind) (r : ℕ) → 0 < r →
+        (n : ℕ) × (0 < n) × AreRaised n (system_at st task) (system_at (raise kind r st) task)

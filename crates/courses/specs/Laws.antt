@@ -1,7 +1,6 @@
 -- What courses are for.
-use Rattle.std.specs.Prelude.{◌≡◌, ◌≤◌, ◌<◌, ℕ, ℤ, pos, List, length, slice_get, Some, None}
-use Rattle.linear_rows.specs.Systems.{LinearSystem, Refutes, matrix, right_sides}
-use Rattle.linear_rows.specs.Vectors.{scale}
+use Rattle.std.specs.Prelude.{◌≡◌, ◌≤◌, ◌<◌, ℕ, ℤ, List, length, slice_get, Some, None}
+use Rattle.linear_rows.specs.Systems.{LinearSystem, Refutes}
 use Rattle.farkas_check.specs.declared.Verdict.TheVariants.{No}
 use Rattle.farkas_check.specs.Checks.{IsVerdict, refuting}
 use Rattle.cost_free.specs.declared.task.Meter.{Meter}
@@ -14,7 +13,7 @@ use Rattle.annot_types.specs.Held.{before, done_before, scale_for}
 use Rattle.annot_types.specs.Least.{Refuted, Least}
 use Rattle.annot_types.specs.System.{system, IsRefutedBy, Valid}
 use Rattle.courses.specs.States.{State, scale_at, raise}
-use Rattle.courses.specs.Generator.{What, Generator, Analysis, most_allowed, limit_of, Stands, Generates, system_at, block_at}
+use Rattle.courses.specs.Generator.{What, Generator, Analysis, most_allowed, limit_of, Stands, AreRaised, Generates, system_at, block_at}
 use Rattle.courses.specs.Reading.{ReadsSolution, ReadsVector, listed}
 use Rattle.courses.specs.Good.{AllGood, AllLeast, AllRefuted}
 use Rattle.courses.specs.Places.{Place, stage, rule_of, IsOfMeter}
@@ -106,8 +105,6 @@ CoursesEnd =
     (A : Analysis) (findings : List Finding) (st : State) → Course A findings st →
     length st.blocks ≤ length (tasks_from (results A.program) A.degree A.work 0 A.program.groups)
 
--- A system with the same coefficients, and with right sides r times as great, is refuted by what refutes the other.
+-- What refutes a system refutes it where its right sides are raised.
 abbrev pub RaisedRowsAreRefuted : Type 0
-RaisedRowsAreRefuted =
-    (s raised : LinearSystem) (r : ℕ) → 0 < r → s.unknowns ≡ raised.unknowns → matrix s ≡ matrix raised → right_sides raised ≡ scale (pos r) (right_sides s) →
-    (y : List ℤ) → Refutes s y → Refutes raised y
+RaisedRowsAreRefuted = (s raised : LinearSystem) (n : ℕ) → 0 < n → AreRaised n s raised → (y : List ℤ) → Refutes s y → Refutes raised y

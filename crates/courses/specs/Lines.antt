@@ -5,7 +5,8 @@ use Rattle.cost_free.specs.declared.task.Meter.{Meter}
 use Rattle.cost_free.specs.Task as k
 use Rattle.cost_free.specs.Blocked.{is_among}
 use Rattle.annot_types.specs.Program.{Program, members, blocker_of}
-use Rattle.annot_types.specs.Certificate.{Block, Certificate}
+use Rattle.cost_free.specs.Schedule.{meters}
+use Rattle.annot_types.specs.Certificate.{Block, Certificate, has_work}
 use Rattle.annot_types.specs.Held.{before, done_before, scale_for, Claim, Bound, NoBound, CallsUnbounded, Line, lines, Held}
 use Rattle.annot_types.specs.Least.{Refuted}
 use Rattle.courses.specs.Good.{AllRefuted}
@@ -37,3 +38,10 @@ Tells P c f meter (CallsUnbounded fun) = WaitsFor P c f meter fun
 
 abbrev pub LinesTell : Type 0
 LinesTell = (P : Program) (c : Certificate) → Held P c → AllRefuted P c → (l : Line) → Contains (lines P c) l → Tells P c l.fun l.meter l.claim
+
+-- A certificate that is held has a block for each meter that it counts and each group, and so for each function of the group.
+abbrev pub BlocksAreThere : Type 0
+BlocksAreThere =
+    (P : Program) (c : Certificate) → Held P c → (group f : ℕ) → is_among f (members P group) ≡ true →
+    (i : ℕ) (meter : Meter) → slice_get (meters (has_work c)) i ≡ Some meter →
+    (place : ℕ) × (block : Block) × IsBlockOf P c f meter place block × (block.task.group ≡ group)

@@ -44,8 +44,8 @@ module _ (P : Program) (G : Generator) (c : Certificate) where
     pub there : slice_get c.blocks place ≡ Some block
     pub refuted : block.body ≡ Refuted farkas
     pub is :
-      let system = system P c.degree (before c place) block.task (scale_for c block.task.kind) in
-      VectorFault (limit_of G block.task system) system farkas fault
+        let system = system P c.degree (before c place) block.task (scale_for c block.task.kind) in
+        VectorFault (limit_of G block.task system) system farkas fault
 
   -- the first refuted block that has a fault has this one
   pub record FirstFault (place : ℕ) (fault : Fault) : Type 0 where

@@ -1,7 +1,7 @@
 // Laws of courses: each is the contract of a function that does nothing.
 ghost use Rattle.courses.specs.Clear.{FineIsClear, SeenIsFirst};
 ghost use Rattle.courses.specs.Laws.{CoursesAreGood, CoursesCertify, CoursesEnd, CoursesStayWithin, EndsOrStops, FoundIsLeast, FoundIsRefuted, NoneTooLarge, NoneUnrefuted, OneCertificate, OnePlace, RaisedRowsAreRefuted, RaisedStayGood, ScalesBegin};
-ghost use Rattle.courses.specs.Lines.{LinesTell};
+ghost use Rattle.courses.specs.Lines.{BlocksAreThere, LinesTell};
 
 use tableau::one_course;
 
@@ -94,6 +94,11 @@ pub fn seen_is_first()
 /// A line of a held certificate that is no bound tells of a refuted task, or of one that waits.
 pub fn lines_tell()
     ensures { LinesTell }
+{}
+
+/// A certificate that is held has a block for each meter and each group.
+pub fn blocks_are_there()
+    ensures { BlocksAreThere }
 {}
 
 /// What refutes a system refutes it with its right sides raised.

@@ -24,7 +24,7 @@ use Rattle.walk_rules.specs.Systems.{PaidFor, AllPaid, IsReady, AreReady, HasTar
 use Rattle.courses.specs.States.{State, scale_at}
 use Rattle.courses.specs.Good.{HoldsAt}
 use Rattle.courses.specs.Generator.{Analysis, Stands}
-use Rattle.courses.proofs.Lists.{some_is, map_get, map_inv}
+use Rattle.courses.proofs.Lists.{some_is, some_none, map_get, map_inv}
 use Rattle.tried_tasks.specs.Laws.{AreApart, IsOrdered, HasNumber, TriedAreTasks}
 use Rattle.tried_tasks.proofs.Numbered.{place_among, targets_are_numbered}
 
@@ -82,9 +82,6 @@ place_of (g ∷ gs) f e = by (nat_eq f g) refl (place_of gs f)
     by : (b : Bool) → nat_eq f g ≡ b → (is_among f gs ≡ true → (place : ℕ) × (place_in gs f ≡ Some place)) → (place : ℕ) × (cond b (Some 0) (option_map suc (place_in gs f)) ≡ Some place)
     by true q go = (0, refl)
     by false q go = let r = go ((λ i. sym q i || is_among f gs) ∙ e) in (suc r.0, ap (option_map suc) r.1)
-
-some_none : {X : Type 0} (x : X) (o : Option X) → o ≡ Some x → o ≡ None → ⊥
-some_none x o e f = let q = sym f ∙ e in cc
 
 -- Signatures
 

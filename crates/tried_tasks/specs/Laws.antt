@@ -1,6 +1,7 @@
 -- Tasks that are tried.
 use Rattle.std.specs.Prelude.{◌≡◌, ◌≤◌, ◌⊎◌, ℕ, nat_eq, true, false, List, [], ◌∷◌, take, slice_get, Some}
 use Rattle.std.specs.List.{list_any}
+use Rattle.linear_rows.specs.Systems.{IsSystem}
 use Rattle.normal_form.specs.Norm.{NormFun}
 use Rattle.normal_form.specs.Uses.{Uses}
 use Rattle.cost_free.specs.Task as k
@@ -10,7 +11,7 @@ use Rattle.cost_free.specs.Blocked.{is_among, in_any}
 use Rattle.annot_types.specs.Program.{Program, members, called_in}
 use Rattle.walk_rules.specs.Systems.{IsTask}
 use Rattle.courses.specs.States.{State, scale_at}
-use Rattle.courses.specs.Generator.{Analysis, next_at, Stands}
+use Rattle.courses.specs.Generator.{Analysis, next_at, system_at, Stands}
 
 -- no function comes twice
 abbrev pub AreApart : List ℕ → Type 0
@@ -31,6 +32,10 @@ abbrev pub TriedAreTasks : Type 0
 TriedAreTasks =
     (A : Analysis) → IsOrdered A.program → (st : State) (task : Task) → Stands A st task →
     IsTask A.program A.degree st.blocks task (scale_at st.scales task.kind)
+
+-- It has a system, over its own unknowns and with natural weights.
+abbrev pub TriedHaveSystems : Type 0
+TriedHaveSystems = (A : Analysis) → IsOrdered A.program → (st : State) (task : Task) → Stands A st task → IsSystem (system_at A st task)
 
 -- The function is of the group, the budget is at most d, and the number is that of a target of the function, whose degree is at most the budget.
 pub record IsOfTarget (P : Program) (d group budget f number : ℕ) : Type 0 where

@@ -18,6 +18,7 @@ LeastDenominators = (d : ℤ) (ns : List ℤ) (fs : List Frac) → AreNatural d 
 
 -- Where the code refuses an entry, the entry leaves.
 pub record RefusedEntriesLeave : Type 0 where
-  pub denominator : (d : ℤ) (ns : List ℤ) (fs : List Frac) → AreNatural d ns fs → (entry : ℕ) → DenominatorLeaves (denominators fs) entry → ScaleLeaves d ns entry
+  pub denominator : (d : ℤ) (ns : List ℤ) (fs : List Frac) → AreNatural d ns fs →
+      (entry : ℕ) → DenominatorLeaves (denominators fs) entry → ScaleLeaves d ns entry
   pub number : (d : ℤ) (ns : List ℤ) (fs : List Frac) → AreNatural d ns fs → (l : ℕ) → IsLcmOf (denominators fs) l → l < most →
       (entry : ℕ) → NumberLeaves l fs entry → ScaleLeaves d ns entry
