@@ -1,2 +1,4 @@
+pub mod Context
+pub mod Entries
 pub mod Within
 pub mod Read

@@ -35,6 +35,10 @@ module _ (most : ℕ) where
   FunctionWithin None budget = Unit {0}
   FunctionWithin (Some g) budget = IsWithin g.body g.params g.result budget
 
+-- a Let's bound form is walked, at each tuple of the variables that it does not use, at the budget that the tuple leaves
+abbrev pub BoundWithin : ℕ → Norm → Context → Type' → ℕ → Type 0
+BoundWithin most a C A d = All (λ j. IsWithin most a (inners a C) A (d - degrees j)) (tuples (others a C) d)
+
 -- A form that is within a limit at a budget is within it at each lower one.
 abbrev pub LowerAreWithin : Type 0
 LowerAreWithin = (most : ℕ) (e : Norm) (C : Context) (T : Type') (low d : ℕ) → low ≤ d → IsWithin most e C T d → IsWithin most e C T low

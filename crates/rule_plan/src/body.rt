@@ -1,5 +1,5 @@
 // Plans of the bodies of a group.
-ghost use Rattle.std.specs.Prelude.{◌≡◌, ◌≤◌, List, map, slice_get, IfOk, OnOk, IsErrOf};
+ghost use Rattle.std.specs.Prelude.{◌≡◌, ◌≤◌, ℕ, List, map, slice_get, IfOk, OnOk, IsErrOf};
 ghost use Rattle.std.specs.List.{All};
 ghost use Rattle.annot_types.specs.Certificate as c;
 ghost use Rattle.annot_types.specs.Program.{members};

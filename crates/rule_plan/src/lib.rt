@@ -2,8 +2,11 @@
 #![tactic(auto)]
 
 mod body;
+mod context;
 mod fault;
+mod free;
 pub mod laws;
+mod within;
 
 pub use body::{Body, bodies};
 pub use fault::PlanFault;
