@@ -38,7 +38,7 @@ zip_none : {X Y : Type 0} (xs : List X) → zip xs (none Y) ≡ []
 zip_none [] = refl
 zip_none (x ∷ xs) = refl
 
-none_behind : {X : Type 0} (xs : List X) (k : ℕ) → length xs ≤ k → drop k xs ≡ []
+pub none_behind : {X : Type 0} (xs : List X) (k : ℕ) → length xs ≤ k → drop k xs ≡ []
 none_behind [] zero h = refl
 none_behind [] (suc k) h = refl
 none_behind (x ∷ xs) zero h = absurd (omega (arith, h))

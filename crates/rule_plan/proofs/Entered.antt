@@ -148,6 +148,10 @@ kept : (n m k x s : ℕ) (b : Bool) → restricted n m (entry_to k x (cond b (So
 kept n m k x s true = refl
 kept n m k x s false = refl
 
+no_entry : (b : Bool) → cond {A = List Entry} b [] [] ≡ []
+no_entry true = refl
+no_entry false = refl
+
 module _ (us vs : List (List Plain)) (n k : ℕ) (low : k < n) where
   one_restricted : (p : List Plain → Bool) (x : ℕ) → restricted n (length us) (entry_to k x (position p (us ++ vs))) ≡ entry_to k x (position p us)
   one_restricted p x = by (nat_lt (position_or_len p us) (length us)) refl
@@ -172,12 +176,8 @@ module _ (us vs : List (List Plain)) (n k : ℕ) (low : k < n) where
           let out = high_spot p us vs (is_above (position_or_len p us) (length us) e) in
           kept n (length us) k x s big
           ∙ (λ i. cond big (cond (below k n low i && above s (length us) out i) (record { from = k; to = s; times = x } ∷ []) []) [])
-          ∙ none big
+          ∙ no_entry big
           ∙ (λ i. entry_to k x (cond (sym e i) (Some (position_or_len p us)) None))
-        where
-          none : (b : Bool) → cond b [] [] ≡ []
-          none true = refl
-          none false = refl
 
   all_restricted : (es : List (List Plain × ℕ)) → restricted n (length us) (placed (us ++ vs) k es) ≡ placed us k es
   all_restricted [] = refl
@@ -187,21 +187,17 @@ module _ (us vs : List (List Plain)) (n k : ℕ) (low : k < n) where
 
 -- positions past the limit go nowhere
 module _ (us : List (List Plain)) (n m : ℕ) where
+  gone : (k x s : ℕ) (high : n ≤ k) (b : Bool) → restricted n m (entry_to k x (cond b (Some s) None)) ≡ []
+  gone k x s high true =
+      let one : Entry = record { from = k; to = s; times = x } in
+      (λ i. cond {A = List Entry} (above k n high i && nat_lt s m) (one ∷ []) [])
+  gone k x s high false = refl
+
   dropped : (k : ℕ) (high : n ≤ k) (es : List (List Plain × ℕ)) → restricted n m (placed us k es) ≡ []
   dropped k high [] = refl
   dropped k high (e ∷ es) =
-      filter_append _ (entry_to k e.1 (position (alike e.0) us)) (placed us k es)
-      ∙ (λ i. (kept n m k e.1 (position_or_len (alike e.0) us) (nat_lt (position_or_len (alike e.0) us) (length us)) ∙ gone (nat_lt (position_or_len (alike e.0) us) (length us))) i ++ dropped k high es i)
-    where
-      both : (b : Bool) (x : List Entry) → cond b (cond (false && nat_lt (position_or_len (alike e.0) us) m) x []) [] ≡ []
-      both true x = refl
-      both false x = refl
-
-      gone : (b : Bool) →
-          cond b (cond (nat_lt k n && nat_lt (position_or_len (alike e.0) us) m) (record { from = k; to = position_or_len (alike e.0) us; times = e.1 } ∷ []) []) [] ≡ []
-      gone b =
-          let x = record { from = k; to = position_or_len (alike e.0) us; times = e.1 } in
-          (λ i. cond b (cond (above k n high i && nat_lt (position_or_len (alike e.0) us) m) (x ∷ []) []) []) ∙ both b (x ∷ [])
+      let s = position_or_len (alike e.0) us in
+      filter_append _ (entry_to k e.1 (position (alike e.0) us)) (placed us k es) ∙ (λ i. gone k e.1 s high (nat_lt s (length us)) i ++ dropped k high es i)
 
   all_dropped : (c : Carry) (k : ℕ) (high : n ≤ k) (ts : List (List Plain)) → restricted n m (entries_from k c ts us) ≡ []
   all_dropped c k high [] = refl

@@ -1,3 +1,6 @@
 pub mod Lower
 pub mod Contexts
 pub mod Entered
+pub mod Placed
+pub mod Halves
+pub mod Changed

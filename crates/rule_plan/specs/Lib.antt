@@ -1,4 +1,6 @@
 pub mod Context
+pub mod Change
+pub mod Down
 pub mod Entries
 pub mod Within
 pub mod Read

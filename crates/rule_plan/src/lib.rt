@@ -2,10 +2,13 @@
 #![tactic(auto)]
 
 mod body;
+mod change;
 mod context;
+mod entries;
 mod fault;
 mod free;
 pub mod laws;
+mod tuples;
 mod within;
 
 pub use body::{Body, bodies};
