@@ -3,4 +3,5 @@ pub mod Change
 pub mod Down
 pub mod Entries
 pub mod Within
+pub mod Given
 pub mod Read

@@ -2,9 +2,11 @@
 #![tactic(auto)]
 
 mod body;
+mod budgets;
 mod change;
 mod context;
 mod entries;
+mod env;
 mod fault;
 mod free;
 pub mod laws;
