@@ -1,6 +1,10 @@
 -- Tuples of the code, cut and put in another order.
-use Rattle.std.proofs.Common.{◌≡◌, ◌≤◌, ℕ, zero, suc, Bool, true, false, List, [], ◌∷◌, ◌++◌, map, take, drop, length, min, refl, sym, ap, ◌∙◌, append-nil, arith}
-use Rattle.base_poly.specs.Plain.{Plain}
+use Rattle.std.proofs.Common.{◌≡◌, ◌≤◌, ℕ, zero, suc, Bool, true, false, List, [], ◌∷◌, ◌++◌, map, take, drop, length, min, refl, sym, ap, ◌∙◌, append-nil, subst, arith}
+use Rattle.std.specs.List.{All}
+use Rattle.raml_syntax.specs.Tree.{Type'}
+use Rattle.base_poly.specs.Plain.{Plain, degrees}
+use Rattle.base_poly.specs.Indices.{index_list}
+use Rattle.base_poly.proofs.Exact.{each_listed}
 use Rattle.base_poly.specs.declared.index.Index.{Index}
 use Rattle.base_poly.specs.Read.{index_of, plains_of}
 use Rattle.index_shift.specs.Contexts.{marked_items, other_items, insertion}
@@ -32,3 +36,7 @@ inserted_is (suc k) zero x [] h = refl
 inserted_is (suc k) zero x (i ∷ is) h = absurd (omega (arith, h))
 inserted_is (suc k) (suc at) x [] h = absurd (omega (arith, h))
 inserted_is (suc k) (suc at) x (i ∷ is) h = ap (λ l. index_of i ∷ l) (inserted_is k at x is (omega (arith, h)))
+
+-- tuples of low degree
+pub low_listed : (As : List Type') (d : ℕ) (ts : List (List Plain)) → ts ≡ index_list As d → d ≤ 255 → All (λ t. degrees t ≤ 255) ts
+low_listed As d ts e h = subst (All (λ t. degrees t ≤ 255)) (sym e) (each_listed (λ t. degrees t ≤ 255) As d (λ t i l. omega (arith, l, h)))

@@ -4,3 +4,7 @@ pub mod Entered
 pub mod Placed
 pub mod Halves
 pub mod Changed
+pub mod Downed
+pub mod Calling
+pub mod Widened
+pub mod Formed

@@ -4,4 +4,5 @@ pub mod Down
 pub mod Entries
 pub mod Within
 pub mod Given
+pub mod Wide
 pub mod Read

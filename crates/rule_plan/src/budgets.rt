@@ -24,6 +24,7 @@ pub fn boxed(alloc: Global, plan: Plan) -> Result<Box<Plan>, AllocError>
 }
 
 /// The budgets from the greatest one down.
+#[tactic(auto, using(crate::proofs::Downed::down_step))]
 pub fn budgets(alloc: Global, top: u8) -> Result<Vec<u8>, AllocError>
     ensures { IfOk result (λ found. found.items ≡ down (λ d. d) top) }
 {
@@ -146,6 +147,7 @@ fn forked(
 }
 
 /// One branch and the other.
+#[tactic(auto, using(crate::proofs::Downed::both_none))]
 pub fn forks(
     alloc: Global,
     nodes: u32,
@@ -163,9 +165,10 @@ pub fn forks(
     let mut d = top;
     let mut firsts = firsts.into_iter();
     for second in seconds {
-        if let Some(first) = firsts.next() {
-            made.push(forked(alloc, nodes, change, first, other, second, d)?)?;
-        }
+        let Some(first) = firsts.next() else {
+            return Ok(made);
+        };
+        made.push(forked(alloc, nodes, change, first, other, second, d)?)?;
         d = d.saturating_sub(1);
     }
     Ok(made)

@@ -81,6 +81,15 @@ fn append(
     Ok(())
 }
 
+/// A copy.
+pub fn copied(alloc: Global, context: &[(u32, Ty)]) -> Result<Vec<(u32, Ty)>, AllocError>
+    ensures { IfOk result (λ found. parameters_of found.items ≡ parameters_of context.now) }
+{
+    let mut found = Vec::new(alloc);
+    append(alloc, &mut found, context)?;
+    Ok(found)
+}
+
 // What stands behind a place.
 fn behind(context: &[(u32, Ty)], at: usize) -> &[(u32, Ty)]
     ensures { result.now ≡ drop (1 + at) context.now }

@@ -4,12 +4,17 @@
 mod body;
 mod budgets;
 mod change;
+mod called;
+mod constructed;
 mod context;
 mod entries;
 mod env;
 mod fault;
 mod free;
 pub mod laws;
+mod lets;
+mod operands;
+mod plan;
 mod tuples;
 mod within;
 

@@ -1,6 +1,7 @@
 // Tuples of contexts, and their places.
-ghost use Rattle.std.specs.Prelude.{◌≡◌, ◌∷◌, ◌++◌, map, IfOk, OnOk};
-ghost use Rattle.base_poly.specs.Plain.{Plain};
+ghost use Rattle.std.specs.Prelude.{◌≡◌, ◌≤◌, ◌∷◌, ◌++◌, map, IfOk, OnOk};
+ghost use Rattle.std.specs.List.{All};
+ghost use Rattle.base_poly.specs.Plain.{degrees};
 ghost use Rattle.base_poly.specs.Indices.{index_list, Ascends, tuple_order};
 ghost use Rattle.base_poly.specs.Read.{context_of, index_of, plains_of};
 ghost use Rattle.index_shift.specs.Contexts.{marked_items, other_items, insertion, permutation};
@@ -25,9 +26,11 @@ pub fn size(alloc: Global, types: &[Ty], d: u8) -> Result<usize, AllocError>
 }
 
 /// The tuples of degree at most `d` in order, under the same condition.
+#[tactic(auto, using(crate::proofs::Halves::low_listed))]
 pub fn tuples(alloc: Global, types: &[Ty], d: u8) -> Result<Vec<Tuple>, AllocError>
     ensures all { IfOk result (λ found. found.items ≡ index_list (context_of types.now) d) }
     ensures ascend { IfOk result (λ found. Ascends tuple_order found.items) }
+    ensures low { IfOk result (λ found. All (λ t. degrees t ≤ 255) found.items) }
 {
     match indices(alloc, types, d, MOST) {
         Ok(found) => Ok(found),
@@ -215,4 +218,28 @@ pub fn half_places(
         found.push((first, second))?;
     }
     Ok(found)
+}
+
+// The places of the tuples.
+fn spots(
+    alloc: Global,
+    tuples: &[Tuple],
+    places: &IndexSet<Tuple>,
+) -> Result<Vec<usize>, AllocError>
+    ensures { IfOk result (λ found. found.items ≡ map (λ t. spot places.now.keys t) tuples.now) }
+{
+    let mut found = Vec::with_capacity(alloc, tuples.len())?;
+    for tuple in tuples {
+        found.push(place_of(places, tuple))?;
+    }
+    Ok(found)
+}
+
+/// The place of each tuple of the context among them.
+pub fn same_places(alloc: Global, types: &[Ty], d: u8) -> Result<Vec<usize>, AllocError>
+    ensures { IfOk result (λ found. found.items ≡ map (λ t. spot (index_list (context_of types.now) d) t) (index_list (context_of types.now) d)) }
+{
+    let places = places_in(alloc, types, d)?;
+    let tuples = tuples(alloc, types, d)?;
+    spots(alloc, &tuples, &places)
 }

@@ -2,5 +2,8 @@ use Rattle.std.proofs.Common.{◌≡◌, ◌++◌, ◌∷◌, [], drop, map, len
 use Rattle.rule_plan.specs.Down.{down}
 use Rattle.rule_plan.proofs.budgets.budgets.Given as goal
 
-abbrev pub invariant-loop : goal.invariant-loop
-invariant-loop l = l.found.items ++ down (λ d. d) l.d ≡ down (λ d. d) l.top
+abbrev pub invariant-loop-d : goal.invariant-loop-d
+invariant-loop-d l = l.found.items ++ down (λ d. d) l.d ≡ down (λ d. d) l.top
+
+abbrev pub decreases-loop-d : goal.decreases-loop-d
+decreases-loop-d l = l.d
