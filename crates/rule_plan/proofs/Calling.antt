@@ -31,7 +31,7 @@ no_result (A ∷ As) (f ∷ gs) (suc k) h = no_result As gs k (omega (arith, h))
 
 range_more : (F : ℕ → ℕ) (a n : ℕ) → map F (range_with_len a (suc n)) ≡ map F (range_with_len a n) ++ F (a + n) ∷ []
 range_more F a zero = ap (λ k. F k ∷ []) (omega arith)
-range_more F a (suc n) = ap (λ l. F a ∷ l) (range_more F (suc a) n ∙ ap (λ k. map F (range_with_len (suc a) n) ++ F k ∷ []) (omega arith))
+range_more F a (suc n) = ap (λ l. F a ∷ l) (range_more F (a + 1) n ∙ ap (λ k. map F (range_with_len (a + 1) n) ++ F k ∷ []) (omega arith))
 
 pub up_more : (F : ℕ → ℕ) (n : ℕ) → map F (range_with_len 0 (n + 1)) ≡ map F (range_with_len 0 n) ++ F n ∷ []
 up_more F n = let e : n + 1 ≡ suc n = omega arith in ap (λ k. map F (range_with_len 0 k)) e ∙ range_more F 0 n ∙ ap (λ k. map F (range_with_len 0 n) ++ F k ∷ []) (omega arith)
@@ -43,7 +43,7 @@ up_end F n top h = let e : n ≡ suc top = omega (arith, h) in ap (λ k. map F (
 at_range : (F : ℕ → ℕ) (a n k : ℕ) → k < n → slice_index_or (map F (range_with_len a n)) k 0 ≡ F (a + k)
 at_range F a zero k h = absurd (omega (arith, h))
 at_range F a (suc n) zero h = ap F (omega arith)
-at_range F a (suc n) (suc k) h = at_range F (suc a) n k (omega (arith, h)) ∙ ap F (omega arith)
+at_range F a (suc n) (suc k) h = at_range F (a + 1) n k (omega (arith, h)) ∙ ap F (omega arith)
 
 pub at_up : (F : ℕ → ℕ) (top d : ℕ) → d ≤ top → slice_index_or (up F top) d 0 ≡ F d
 at_up F top d h = at_range F 0 (suc top) d (omega (arith, h)) ∙ ap F (omega arith)

@@ -1,5 +1,6 @@
 -- Lists of what there is at each budget.
-use Rattle.std.proofs.Common.{◌≡◌, ◌≤◌, ◌<◌, ℕ, zero, suc, ◌+◌, ◌-◌, List, [], ◌∷◌, map, drop, refl, sym, ap, ◌∙◌, arith}
+use Rattle.std.proofs.Common.{◌≡◌, ◌≤◌, ◌<◌, ℕ, zero, suc, ◌+◌, ◌-◌, List, [], ◌∷◌, map, take, drop, length, slice_index_or, subst, refl, sym, ap, ◌∙◌, arith}
+use Rattle.std.specs.List.{All}
 use Rattle.walk_rules.specs.Plan as p
 use Rattle.walk_rules.specs.Planned.{lower}
 use Rattle.rule_walk.specs.Read.{plans}
@@ -40,3 +41,17 @@ drop_down f (suc n) d = let e : suc n + d ≡ suc (n + d) = omega arith in ap (�
 pub lower_is : (f : ℕ → p.Plan) (d : ℕ) → plans (down f d) ≡ lower f d
 lower_is f zero = refl
 lower_is f (suc d) = ap (p.More (f (suc d))) (lower_is f d)
+
+pub take_map : {X Y : Type 0} (f : X → Y) (n : ℕ) (xs : List X) → map f (take n xs) ≡ take n (map f xs)
+take_map f zero xs = refl
+take_map f (suc n) [] = refl
+take_map f (suc n) (x ∷ xs) = ap (λ l. f x ∷ l) (take_map f n xs)
+
+low_item : (top k x : ℕ) → k < length (down (λ d. d) top) → slice_index_or (down (λ d. d) top) k x ≤ top
+low_item zero zero x h = omega arith
+low_item zero (suc k) x h = absurd (omega (arith, h))
+low_item (suc top) zero x h = omega arith
+low_item (suc top) (suc k) x h = let less = low_item top k x (omega (arith, h)) in omega (arith, less)
+
+pub all_low : (top : ℕ) (ds : List ℕ) → ds ≡ down (λ d. d) top → All (λ d. d ≤ top) ds
+all_low top ds e = subst (All (λ d. d ≤ top)) (sym e) (λ k x l. low_item top k x l)

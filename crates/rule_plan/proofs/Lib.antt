@@ -8,3 +8,4 @@ pub mod Downed
 pub mod Calling
 pub mod Widened
 pub mod Formed
+pub mod Rcs

@@ -24,13 +24,17 @@ use Rattle.walk_rules.specs.Planned.{step, entries_of, operand_entries, part_ste
 use Rattle.rule_walk.specs.Read.{plans}
 use Rattle.earlier_blocks.specs.Remembers.{Remembers, blocks_at}
 use Rattle.earlier_blocks.specs.declared.usage.Usage.{Usage}
+use Rattle.raml_syntax.specs.declared.ty.Ty.{Ty}
+use Rattle.base_poly.specs.Read.{context_of}
+use Rattle.rule_plan.specs.Change.{step_at}
+use Rattle.rule_plan.specs.declared.change.Move.{Move}
 use Rattle.rule_plan.specs.declared.called.Callee.{Callee}
 use Rattle.rule_plan.specs.declared.lets.Cut.{Cut}
 use Rattle.rule_plan.specs.declared.lets.Sizes.{Sizes}
 use Rattle.rule_plan.specs.Down.{down, each_down, up}
 use Rattle.rule_plan.specs.Entries.{spot, placed_at, halves, restricted}
 use Rattle.rule_plan.specs.Given.{Given, planned, AreDown, ArePlans}
-use Rattle.rule_plan.specs.Wide.{at_budget, called_at, IsCallee, WideSeam, wide_seam, seam_at, seams_from, part_at, parts_at, seam_of, IsCut}
+use Rattle.rule_plan.specs.Wide.{at_budget, constructor_steps, called_at, IsCallee, WideSeam, wide_seam, seam_at, seams_from, part_at, parts_at, seam_of, IsCut}
 use Rattle.rule_plan.proofs.Calling.{at_up}
 use Rattle.rule_plan.proofs.Entered.{to_placed, projects_picked, lower_entries}
 use Rattle.rule_plan.proofs.Downed.{map_down, each_is, down_same, drop_down, lower_is}
@@ -55,7 +59,7 @@ same_entered Ts d size targets s g = (λ i. placed_at (s i) 0 (g i)) ∙ sym (to
 -- at each budget of a signature
 in_range : {X : Type 0} (S : ℕ → ℕ) (F : ℕ → X) (H : ℕ → X) (a n : ℕ) → ((k : ℕ) → k < a + n → F (S k) ≡ H k) → map F (map S (range_with_len a n)) ≡ map H (range_with_len a n)
 in_range S F H a zero h = refl
-in_range S F H a (suc n) h = λ i. h a (omega arith) i ∷ in_range S F H (suc a) n (λ k l. h k (omega (arith, l))) i
+in_range S F H a (suc n) h = λ i. h a (omega arith) i ∷ in_range S F H (a + 1) n (λ k l. h k (omega (arith, l))) i
 
 range_entries : (c : Carry) (As Bs : List Type') (top d : ℕ) → d ≤ top → map (λ n. restricted n (size_of Bs d) (entries_of c As top Bs top)) (up (size_of As) top) ≡ map (λ b. entries_of c As b Bs d) (budgets top d)
 range_entries c As Bs top d h =
@@ -178,16 +182,31 @@ pub lets_are : (G : Given) (k x : ℕ) (A : Type') (a b : Norm) (C : Context) (T
     made ≡ each_down (λ d e. p.Lets k (parts_at c d) (plans (drop (G.top - d) firsts)) (at_budget c.sizes.rest.items d) e) G.top rests →
     IsCut a C A G.top c → ArePlans G a (inners a C) A firsts → ArePlans G b (others a C ++ (x, A) ∷ []) T rests → ArePlans G (n.Let k x A a b) C T made
 lets_are G k x A a b C T c firsts rests made h is fs rs = record {
-  are = λ P n blocks e r.
+  are = λ P m blocks e r.
       let F : ℕ → p.Plan → p.Plan = λ d e. p.Lets k (parts_at c d) (plans (drop (G.top - d) firsts)) (at_budget c.sizes.rest.items d) e in
       let f = planned G a (inners a C) A P blocks in
       let g = planned G b (others a C ++ (x, A) ∷ []) T P blocks in
-      h ∙ ap (each_down F G.top) (rs.are P n blocks e r) ∙ each_is F g G.top
+      h ∙ ap (each_down F G.top) (rs.are P m blocks e r) ∙ each_is F g G.top
       ∙ down_same (λ d. F d (g d)) (planned G (n.Let k x A a b) C T P blocks) G.top
       (λ d low.
       let first : plans (drop (G.top - d) firsts) ≡ lower f d =
-          ap (λ l. plans (drop (G.top - d) l)) (fs.are P n blocks e r) ∙ ap (λ t. plans (drop (G.top - d) (down f t))) (omega (arith, low)) ∙ ap plans (drop_down f (G.top - d) d) ∙ lower_is f d in
+          ap (λ l. plans (drop (G.top - d) l)) (fs.are P m blocks e r) ∙ ap (λ t. plans (drop (G.top - d) (down f t))) (omega (arith, low)) ∙ ap plans (drop_down f (G.top - d) d) ∙ lower_is f d in
       let rest : at_budget c.sizes.rest.items d ≡ size_of (types (others a C ++ (x, A) ∷ [])) d =
           ap (λ s. at_budget s d) is.rest_sizes ∙ at_up (size_of (types (others a C) ++ A ∷ [])) G.top d low ∙ ap (λ l. size_of l d) (sym (bound_types (others a C) x A)) in
       λ i. p.Lets k (parts_are a C A G.top c is d low i) (first i) (rest i) (g d));
 }
+
+-- Constructors
+
+constructor_is : (C : Context) (xs : List ℕ) (T : Type') (top : ℕ) (m : Move) (Ts : List Ty) (wide : List Entry) → ((d : ℕ) → step_at m d ≡ step (type_parts T) d (opening (T ∷ []) 0 d)) →
+    context_of m.new.items ≡ type_parts T → context_of Ts ≡ types C → wide ≡ operand_entries C xs (type_parts T) top top → (d : ℕ) → d ≤ top → constructor_steps m Ts wide d ≡ part_steps C xs T d
+constructor_is C xs T top m Ts wide s n t v d low =
+    let entries = (λ i. restricted (size_of (n i) d) (size_of (t i) d) (v i)) ∙ lower_entries (permutes (operand_places C xs)) (type_parts T) (types C) d top d top low low in
+    λ i. s d i ∷ record { size = size_of (t i) d; entries = entries i } ∷ []
+
+pub constructors_are : (C : Context) (xs : List ℕ) (T : Type') (top k : ℕ) (m : Move) (Ts : List Ty) (wide : List Entry) (made : List p.Plan) →
+    made ≡ map (λ d. p.Ends k 1 (constructor_steps m Ts wide d)) (down (λ d. d) top) → ((d : ℕ) → step_at m d ≡ step (type_parts T) d (opening (T ∷ []) 0 d)) →
+    context_of m.new.items ≡ type_parts T → context_of Ts ≡ types C → wide ≡ operand_entries C xs (type_parts T) top top → made ≡ down (λ d. p.Ends k 1 (part_steps C xs T d)) top
+constructors_are C xs T top k m Ts wide made h s n t v =
+    h ∙ map_down (λ d. p.Ends k 1 (constructor_steps m Ts wide d)) (λ d. d) top
+    ∙ down_same (λ d. p.Ends k 1 (constructor_steps m Ts wide d)) (λ d. p.Ends k 1 (part_steps C xs T d)) top (λ d low. ap (p.Ends k 1) (constructor_is C xs T top m Ts wide s n t v d low))

@@ -1,5 +1,6 @@
 // Plans of a form at all budgets, that of the greatest first.
 ghost use Rattle.std.specs.Prelude.{◌≡◌, ◌≤◌, map, drop, IfOk};
+ghost use Rattle.std.specs.List.{All};
 ghost use Rattle.std.specs.Rc.{rc_value};
 ghost use Rattle.base_poly.specs.Read.{context_of};
 ghost use Rattle.annot_types.specs.Rows.{size as size_of};
@@ -24,9 +25,10 @@ pub fn boxed(alloc: Global, plan: Plan) -> Result<Box<Plan>, AllocError>
 }
 
 /// The budgets from the greatest one down.
-#[tactic(auto, using(crate::proofs::Downed::down_step))]
+#[tactic(auto, using(crate::proofs::Downed::all_low))]
 pub fn budgets(alloc: Global, top: u8) -> Result<Vec<u8>, AllocError>
-    ensures { IfOk result (λ found. found.items ≡ down (λ d. d) top) }
+    ensures all { IfOk result (λ found. found.items ≡ down (λ d. d) top) }
+    ensures low { IfOk result (λ found. All (λ d. d ≤ top) found.items) }
 {
     let mut found = Vec::new(alloc);
     let mut d = top;

@@ -141,6 +141,20 @@ fn called(alloc: Global, callee: &Callee, uses: &[Usage], d: u8) -> Result<Calle
     })
 }
 
+// The same as a plan.
+fn called_at(
+    alloc: Global,
+    nodes: u32,
+    callee: &Callee,
+    uses: &[Usage],
+    d: u8,
+) -> Result<Box<Plan>, AllocError>
+    ensures { IfOk result (λ made. plan_of made.value ≡ p.Calls nodes (called_at callee.now uses.now d)) }
+{
+    let called = called(alloc, callee, uses, d)?;
+    boxed(alloc, Plan::Calls(nodes, called))
+}
+
 // The call at all budgets.
 fn at_budgets(
     env: &Env<'_>,
@@ -152,8 +166,7 @@ fn at_budgets(
 {
     let mut made = Vec::new(env.alloc);
     for d in &budgets(env.alloc, env.top)? {
-        let called = called(env.alloc, callee, uses, *d)?;
-        made.push(boxed(env.alloc, Plan::Calls(nodes, called))?)?;
+        made.push(called_at(env.alloc, nodes, callee, uses, *d)?)?;
     }
     Ok(made)
 }

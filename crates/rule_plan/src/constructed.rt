@@ -29,6 +29,7 @@ use rule_walk::{Plan, Step};
 use std::alloc::{AllocError, Global};
 
 // A value of the type is taken apart.
+#[tactic(auto, using(crate::proofs::Widened::parts_same))]
 fn whole(alloc: Global, ty: &Ty) -> Result<Move, AllocError>
     ensures steps { IfOk result (λ made. (d : ℕ) → step_at made d ≡ step (type_parts (ty_of ty.now)) d (opening (ty_of ty.now ∷ []) 0 d)) }
     ensures parts { IfOk result (λ made. context_of made.new.items ≡ type_parts (ty_of ty.now)) }
@@ -77,6 +78,22 @@ fn steps(
     Ok(vec![in alloc; first, second]?)
 }
 
+// A constructor at one budget.
+fn at_budget(
+    alloc: Global,
+    nodes: u32,
+    opening: &Move,
+    types: &[Ty],
+    wide: &[Entry],
+    d: u8,
+) -> Result<Box<Plan>, AllocError>
+    requires low { d ≤ 4 }
+    ensures { IfOk result (λ made. plan_of made.value ≡ p.Ends nodes 1 (constructor_steps opening.now types.now wide.now d)) }
+{
+    let steps = steps(alloc, opening, types, wide, d)?;
+    boxed(alloc, Plan::Ends(nodes, 1, steps))
+}
+
 // A constructor at all budgets.
 fn at_budgets(
     env: &Env<'_>,
@@ -90,8 +107,7 @@ fn at_budgets(
 {
     let mut made = Vec::new(env.alloc);
     for d in &budgets(env.alloc, env.top)? {
-        let steps = steps(env.alloc, opening, types, wide, *d)?;
-        made.push(boxed(env.alloc, Plan::Ends(nodes, 1, steps))?)?;
+        made.push(at_budget(env.alloc, nodes, opening, types, wide, *d)?)?;
     }
     Ok(made)
 }

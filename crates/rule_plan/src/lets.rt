@@ -13,7 +13,7 @@ ghost use Rattle.annot_types.specs.Rows.{size as size_of};
 ghost use Rattle.walk_rules.specs.Plan as p;
 ghost use Rattle.rule_walk.specs.Read.{plan_of, plans};
 ghost use Rattle.rule_walk.specs.Steps.{part_of};
-ghost use Rattle.rule_plan.specs.Down.{each_down};
+ghost use Rattle.rule_plan.specs.Down.{each_down, up};
 ghost use Rattle.rule_plan.specs.Given.{made_of};
 ghost use Rattle.rule_plan.specs.Entries.{halves};
 ghost use Rattle.rule_plan.specs.Wide.{at_budget, seam_of, seam_at, seams_from, part_at, parts_at, IsCut};
@@ -104,6 +104,7 @@ fn listed(alloc: Global, sizes: &Sizes, seams: &[Seam], d: usize) -> Result<Vec<
 }
 
 // The tuples of degree at most `d`, at this budget.
+#[tactic(auto, using(crate::proofs::Downed::take_map))]
 fn parts(alloc: Global, cut: &Cut, d: usize) -> Result<Parts, AllocError>
     ensures { IfOk result (λ made. made ≡ parts_at cut.now d) }
 {
@@ -249,6 +250,31 @@ fn seams_of(
     seams(alloc, &halves, limit, &bound, &rest, counts, top, &listed)
 }
 
+// How many positions these contexts have.
+fn sizes_of(
+    alloc: Global,
+    whole: &[Ty],
+    inner: &[Ty],
+    outer: &[Ty],
+    bound: &[Ty],
+    rest: &[Ty],
+    top: u8,
+) -> Result<Sizes, AllocError>
+    ensures whole { IfOk result (λ s. s.context.items ≡ up (size_of (context_of whole.now)) top) }
+    ensures inner { IfOk result (λ s. s.inner.items ≡ up (size_of (context_of inner.now)) top) }
+    ensures others { IfOk result (λ s. s.others.items ≡ up (size_of (context_of outer.now)) top) }
+    ensures bound { IfOk result (λ s. s.bound.items ≡ up (size_of (context_of bound.now)) top) }
+    ensures rest { IfOk result (λ s. s.rest.items ≡ up (size_of (context_of rest.now)) top) }
+{
+    Ok(Sizes {
+        context: sizes(alloc, whole, top)?,
+        inner: sizes(alloc, inner, top)?,
+        others: sizes(alloc, outer, top)?,
+        bound: sizes(alloc, bound, top)?,
+        rest: sizes(alloc, rest, top)?,
+    })
+}
+
 /// Of a `let` with this bound form of this type, from the variables that it uses, those that it does
 /// not, and the context of the rest.
 pub fn cut_let(
@@ -271,13 +297,7 @@ pub fn cut_let(
     let outer = context::types(alloc, outer)?;
     let bound = context::alone(alloc, bound)?;
     let rest = context::types(alloc, rest)?;
-    let sizes = Sizes {
-        context: sizes(alloc, &whole, top)?,
-        inner: sizes(alloc, &inner, top)?,
-        others: sizes(alloc, &outer, top)?,
-        bound: sizes(alloc, &bound, top)?,
-        rest: sizes(alloc, &rest, top)?,
-    };
+    let sizes = sizes_of(alloc, &whole, &inner, &outer, &bound, &rest, top)?;
     let seams = seams_of(
         alloc,
         a,

@@ -161,7 +161,8 @@ fn plan_split(
     ensures { IfOk result (λ made. ArePlans (given_of env.now) (n.Split nodes x first second (norm_of a.now)) (parameters_of context.now) (ty_of ty.now) (made_of made.items)) }
 {
     let branch = taken_apart(env, x, &[first, second], a, context, ty)?;
-    moves(env.alloc, nodes, &branch.change, env.top, branch.rests)
+    let rests = branch.rests;
+    moves(env.alloc, nodes, &branch.change, env.top, rests)
 }
 
 // A variable leaves.
@@ -178,7 +179,8 @@ fn plan_drop(
     ensures { IfOk result (λ made. ArePlans (given_of env.now) (n.Drop nodes x (norm_of a.now)) (parameters_of context.now) (ty_of ty.now) (made_of made.items)) }
 {
     let branch = left(env, x, a, context, ty)?;
-    moves(env.alloc, nodes, &branch.change, env.top, branch.rests)
+    let rests = branch.rests;
+    moves(env.alloc, nodes, &branch.change, env.top, rests)
 }
 
 // A condition.
@@ -234,13 +236,15 @@ fn forked(
     ensures { IfOk result (λ made. made_of made.items ≡ both_down (λ d a b. p.Forks nodes (step_at first.change d) a (step_at second.change d) b) env.now.top
         (made_of second.rests.items) (made_of first.rests.items)) }
 {
+    let firsts = first.rests;
+    let seconds = second.rests;
     forks(
         env.alloc,
         nodes,
         &first.change,
-        first.rests,
+        firsts,
         &second.change,
-        second.rests,
+        seconds,
         env.top,
     )
 }
