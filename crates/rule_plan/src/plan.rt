@@ -27,15 +27,27 @@ use rule_walk::{Plan, Step};
 use std::alloc::{AllocError, Global};
 use std::rc::Rc;
 
+// No maps, at each of the budgets.
+fn without_maps(
+    alloc: Global,
+    nodes: u32,
+    budgets: Vec<u8>,
+) -> Result<Vec<Box<Plan>>, AllocError>
+    ensures { IfOk result (λ made. made_of made.items ≡ map (λ d. p.Ends nodes 0 []) budgets.items) }
+{
+    let mut made = Vec::new(alloc);
+    for _ in budgets {
+        made.push(boxed(alloc, Plan::Ends(nodes, 0, Vec::new(alloc)))?)?;
+    }
+    Ok(made)
+}
+
 // A variable alone.
 fn variable(env: &Env<'_>, nodes: u32) -> Result<Vec<Box<Plan>>, AllocError>
     ensures { IfOk result (λ made. made_of made.items ≡ down (λ d. p.Ends nodes 0 []) env.now.top) }
 {
-    let mut made = Vec::new(env.alloc);
-    for _ in budgets(env.alloc, env.top)? {
-        made.push(boxed(env.alloc, Plan::Ends(nodes, 0, Vec::new(env.alloc)))?)?;
-    }
-    Ok(made)
+    let budgets = budgets(env.alloc, env.top)?;
+    without_maps(env.alloc, nodes, budgets)
 }
 
 // The zero index alone.
@@ -46,15 +58,23 @@ fn zero_alone(alloc: Global) -> Result<Vec<Step>, AllocError>
     Ok(vec![in alloc; Step { size: 1, entries }]?)
 }
 
+// The same at each of the budgets.
+fn at_zero(alloc: Global, nodes: u32, budgets: Vec<u8>) -> Result<Vec<Box<Plan>>, AllocError>
+    ensures { IfOk result (λ made. made_of made.items ≡ map (λ d. p.Ends nodes 0 zero_alone) budgets.items) }
+{
+    let mut made = Vec::new(alloc);
+    for _ in budgets {
+        made.push(boxed(alloc, Plan::Ends(nodes, 0, zero_alone(alloc)?))?)?;
+    }
+    Ok(made)
+}
+
 // A form whose result has the zero index alone.
 fn constant(env: &Env<'_>, nodes: u32) -> Result<Vec<Box<Plan>>, AllocError>
     ensures { IfOk result (λ made. made_of made.items ≡ down (λ d. p.Ends nodes 0 zero_alone) env.now.top) }
 {
-    let mut made = Vec::new(env.alloc);
-    for _ in budgets(env.alloc, env.top)? {
-        made.push(boxed(env.alloc, Plan::Ends(nodes, 0, zero_alone(env.alloc)?))?)?;
-    }
-    Ok(made)
+    let budgets = budgets(env.alloc, env.top)?;
+    at_zero(env.alloc, nodes, budgets)
 }
 
 /// A branch: the change of the context, and the plans of the form.

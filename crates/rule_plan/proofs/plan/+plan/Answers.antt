@@ -80,18 +80,6 @@ bound_plans-returns t c =
     IfOk-weaker c.shared.result _ (λ made. ArePlans G (norm_of a.a.now) C (ty_of a.ty.now) (map (λ r. plan_of (rc_value r)) made.items))
     (λ made is. subst (ArePlans G (norm_of a.a.now) C (ty_of a.ty.now)) (sym is) c.in_ok-firsts.ensures) c.shared.ensures
 
-pub plan_let-cut_let-requires-inner : goal.plan_let-cut_let-requires-inner
-plan_let-cut_let-requires-inner t c = ap parameters_of c.deref-2.ensures.value ∙ c.in_ok-inner.ensures
-
-pub plan_let-cut_let-requires-outer : goal.plan_let-cut_let-requires-outer
-plan_let-cut_let-requires-outer t c = ap parameters_of c.deref-3.ensures.value ∙ c.in_ok-outer.ensures
-
-pub plan_let-cut_let-requires-rest : goal.plan_let-cut_let-requires-rest
-plan_let-cut_let-requires-rest t c =
-    let A = ty_of c.args.bound.now in
-    ap (λ l. types (parameters_of l)) c.deref-4.ensures.value ∙ ap types c.in_ok-next.ensures ∙ bound_types (parameters_of c.deref.result.now) c.args.x A
-    ∙ ap (λ l. types (parameters_of l) ++ A ∷ []) (c.deref.ensures.value ∙ sym c.deref-3.ensures.value)
-
 pub plan_let-returns : goal.plan_let-returns
 plan_let-returns t c =
     let a = c.args in let C = parameters_of a.context.now in let G = given_of a.env.now in let A = ty_of a.bound.now in let T = ty_of a.ty.now in let e = norm_of a.a.now in
@@ -102,3 +90,29 @@ plan_let-returns t c =
     IfOk-weaker c.lets.result _ (λ made. ArePlans G (n.Let a.nodes a.x A e (norm_of a.b.now)) C T (made_of made.items))
     (λ made is. lets_are G a.nodes a.x A e (norm_of a.b.now) C T c.in_ok-cut.cut (map (λ r. plan_of (rc_value r)) c.deref-7.result.now) (made_of c.in_ok-rests.rests.items) (made_of made.items) is c.in_ok-cut.ensures firsts rests)
     c.lets.ensures
+
+pub plans-returns-in-Node : goal.plans-returns-in-Node
+plans-returns-in-Node t c =
+    let a = c.args in let C = parameters_of a.context.now in let G = given_of a.env.now in let T = ty_of a.ty.now in let k = a.expr.now.nodes in
+    let same : norm_of a.expr.now ≡ n.Node k c.in-Node.x c.in-Node.y c.in-Node.z = search rules in
+    IfOk-weaker c.constructors-in-Node.result _ (λ made. ArePlans G (norm_of a.expr.now) C T (made_of made.items))
+    (λ made is. subst (λ e. ArePlans G e C T (made_of made.items)) (sym same) (plain G (λ d. p.Ends k 1 (part_steps C (c.in-Node.x ∷ c.in-Node.y ∷ c.in-Node.z ∷ []) T d)) (made_of made.items) is))
+    c.constructors-in-Node.ensures
+
+pub plans-returns-in-CaseList : goal.plans-returns-in-CaseList
+plans-returns-in-CaseList t c =
+    let a = c.args in let C = parameters_of a.context.now in let G = given_of a.env.now in let T = ty_of a.ty.now in
+    let same : norm_of a.expr.now ≡ n.CaseList a.expr.now.nodes c.in-CaseList.x (norm_of c.deref-in-CaseList.result.now) c.in-CaseList.h c.in-CaseList.t (norm_of c.deref-in-CaseList-2.result.now) = search rules in
+    IfOk-weaker c.plan_case.result _ (λ made. ArePlans G (norm_of a.expr.now) C T (made_of made.items)) (λ made is. subst (λ e. ArePlans G e C T (made_of made.items)) (sym same) is) c.plan_case.ensures
+
+pub plans-returns-in-CaseTree : goal.plans-returns-in-CaseTree
+plans-returns-in-CaseTree t c =
+    let a = c.args in let C = parameters_of a.context.now in let G = given_of a.env.now in let T = ty_of a.ty.now in
+    let same : norm_of a.expr.now ≡ n.CaseTree a.expr.now.nodes c.in-CaseTree.x (norm_of c.deref-in-CaseTree.result.now) c.in-CaseTree.e c.in-CaseTree.l c.in-CaseTree.r (norm_of c.deref-in-CaseTree-2.result.now) = search rules in
+    IfOk-weaker c.plan_case-in-CaseTree.result _ (λ made. ArePlans G (norm_of a.expr.now) C T (made_of made.items)) (λ made is. subst (λ e. ArePlans G e C T (made_of made.items)) (sym same) is) c.plan_case-in-CaseTree.ensures
+
+pub plans-returns-in-CaseOption : goal.plans-returns-in-CaseOption
+plans-returns-in-CaseOption t c =
+    let a = c.args in let C = parameters_of a.context.now in let G = given_of a.env.now in let T = ty_of a.ty.now in
+    let same : norm_of a.expr.now ≡ n.CaseOption a.expr.now.nodes c.in-CaseOption.x (norm_of c.deref-in-CaseOption.result.now) c.in-CaseOption.w (norm_of c.deref-in-CaseOption-2.result.now) = search rules in
+    IfOk-weaker c.plan_case-in-CaseOption.result _ (λ made. ArePlans G (norm_of a.expr.now) C T (made_of made.items)) (λ made is. subst (λ e. ArePlans G e C T (made_of made.items)) (sym same) is) c.plan_case-in-CaseOption.ensures
