@@ -9,3 +9,4 @@ pub mod Calling
 pub mod Widened
 pub mod Formed
 pub mod Rcs
+pub mod Shapes

@@ -73,11 +73,11 @@ called_is G P n blocks C f xs T c uses d e r is u low =
     let result : at_budget c.result.items d ≡ size_of (T ∷ []) d = ap (λ s. at_budget s d) is.result ∙ at_up (size_of (T ∷ [])) G.top d low in
     let As = args_of (slice_get G.funs f) in
     let from_args : map (λ n. restricted n (at_budget c.context.items d) c.operands.items) c.args.items ≡ map (λ b. operand_entries C xs (args_of (slice_get P.funs f)) b d) (budgets G.top d) =
-        (λ i. map (λ n. restricted n (context i) (is.operands i)) (is.args i))
-        ∙ range_entries (permutes (operand_places C xs)) As (types C) G.top d low
-        ∙ (λ i. map (λ b. operand_entries C xs (args_of (slice_get (sym e i) f)) b d) (budgets G.top d)) in
+    (λ i. map (λ n. restricted n (context i) (is.operands i)) (is.args i))
+    ∙ range_entries (permutes (operand_places C xs)) As (types C) G.top d low
+    ∙ (λ i. map (λ b. operand_entries C xs (args_of (slice_get (sym e i) f)) b d) (budgets G.top d)) in
     let from_result : map (λ n. restricted n (at_budget c.result.items d) c.same.items) c.result.items ≡ map (λ b. entries_of (to (λ t. t)) (T ∷ []) b (T ∷ []) d) (budgets G.top d) =
-        (λ i. map (λ n. restricted n (result i) (is.same i)) (is.result i)) ∙ range_entries (to (λ t. t)) (T ∷ []) (T ∷ []) G.top d low in
+    (λ i. map (λ n. restricted n (result i) (is.same i)) (is.result i)) ∙ range_entries (to (λ t. t)) (T ∷ []) (T ∷ []) G.top d low in
     let used : blocks_at d uses ≡ usable_from 0 P d f blocks = ap (blocks_at d) u ∙ r.usable f d in
     λ i. record { function = is.function i; own = is.own i; usable = used i; args = context i; result = result i; args_from = from_args i; result_from = from_result i }
 
@@ -129,10 +129,10 @@ part_is a C A top c is d low j =
     let bound = ap (λ s. at_budget s (d - g)) is.bound_sizes ∙ at_up (size_of (A ∷ [])) top (d - g) left in
     let rest = ap (λ s. at_budget s d) is.rest_sizes ∙ at_up (size_of (types (others a C) ++ A ∷ [])) top d low in
     let there = (λ i. restricted (whole i) (inner i) (entries_of (projects (marks a C) j) (types C) top (types (inners a C)) top))
-        ∙ lower_entries (projects (marks a C) j) (types C) (types (inners a C)) d top (d - g) top low left
-        ∙ (λ i. entries_of (projects (marks a C) j) (types C) d (sym (marked_is a C) i) (d - g)) in
+    ∙ lower_entries (projects (marks a C) j) (types C) (types (inners a C)) d top (d - g) top low left
+    ∙ (λ i. entries_of (projects (marks a C) j) (types C) d (sym (marked_is a C) i) (d - g)) in
     let joins = (λ i. restricted (bound i) (rest i) (entries_of (to (λ t. j ++ t)) (A ∷ []) (top - g) (types (others a C) ++ A ∷ []) top))
-        ∙ lower_entries (to (λ t. j ++ t)) (A ∷ []) (types (others a C) ++ A ∷ []) (d - g) (top - g) d top lower low in
+    ∙ lower_entries (to (λ t. j ++ t)) (A ∷ []) (types (others a C) ++ A ∷ []) (d - g) (top - g) d top lower low in
     λ i. record { there = record { size = inner i; entries = there i }; size = bound i; joins = joins i; degree = g }
 
 parts_are : (a : Norm) (C : Context) (A : Type') (top : ℕ) (c : Cut) → IsCut a C A top c → (d : ℕ) → d ≤ top → parts_at c d ≡ map (let_part a C A d) (tuples (others a C) d)
@@ -163,9 +163,9 @@ module _ (a : Norm) (C : Context) (A : Type') (top : ℕ) where
       let left : top - g ≤ top = omega arith in
       let first = sym (projects_picked (marks a C) (index_list Os top) (index_list (types (inners a C)) top) q j (exact Os top).ascends there 0 (index_list (types C) top)) in
       let front : take (at_budget (up (size_of (A ∷ [])) top) (top - g)) (index_list (A ∷ []) top) ≡ index_list (A ∷ []) (top - g) =
-          ap (λ n. take n (index_list (A ∷ []) top)) (at_up (size_of (A ∷ [])) top (top - g) left)
-          ∙ ap (take (size_of (A ∷ []) (top - g))) (sym (map_same (index_list (A ∷ []) top)))
-          ∙ take_listed (λ t. t) (A ∷ []) (top - g) top left ∙ map_same (index_list (A ∷ []) (top - g)) in
+      ap (λ n. take n (index_list (A ∷ []) top)) (at_up (size_of (A ∷ [])) top (top - g) left)
+      ∙ ap (take (size_of (A ∷ []) (top - g))) (sym (map_same (index_list (A ∷ []) top)))
+      ∙ take_listed (λ t. t) (A ∷ []) (top - g) top left ∙ map_same (index_list (A ∷ []) (top - g)) in
       let second = ap (λ l. placed_at (size_of Rs top) 0 (map (λ t. spot (index_list Rs top) (j ++ t)) l)) front ∙ sym (to_placed (λ t. j ++ t) 0 (index_list (A ∷ []) (top - g)) (index_list Rs top)) in
       λ i. record { degree = g; there = first i; joins = second i }
 
@@ -190,9 +190,9 @@ lets_are G k x A a b C T c firsts rests made h is fs rs = record {
       ∙ down_same (λ d. F d (g d)) (planned G (n.Let k x A a b) C T P blocks) G.top
       (λ d low.
       let first : plans (drop (G.top - d) firsts) ≡ lower f d =
-          ap (λ l. plans (drop (G.top - d) l)) (fs.are P m blocks e r) ∙ ap (λ t. plans (drop (G.top - d) (down f t))) (omega (arith, low)) ∙ ap plans (drop_down f (G.top - d) d) ∙ lower_is f d in
+      ap (λ l. plans (drop (G.top - d) l)) (fs.are P m blocks e r) ∙ ap (λ t. plans (drop (G.top - d) (down f t))) (omega (arith, low)) ∙ ap plans (drop_down f (G.top - d) d) ∙ lower_is f d in
       let rest : at_budget c.sizes.rest.items d ≡ size_of (types (others a C ++ (x, A) ∷ [])) d =
-          ap (λ s. at_budget s d) is.rest_sizes ∙ at_up (size_of (types (others a C) ++ A ∷ [])) G.top d low ∙ ap (λ l. size_of l d) (sym (bound_types (others a C) x A)) in
+      ap (λ s. at_budget s d) is.rest_sizes ∙ at_up (size_of (types (others a C) ++ A ∷ [])) G.top d low ∙ ap (λ l. size_of l d) (sym (bound_types (others a C) x A)) in
       λ i. p.Lets k (parts_are a C A G.top c is d low i) (first i) (rest i) (g d));
 }
 

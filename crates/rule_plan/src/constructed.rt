@@ -50,8 +50,10 @@ fn parts_step(
     wide: &[Entry],
     d: u8,
 ) -> Result<Step, AllocError>
-    ensures { IfOk result (λ made. step_of made ≡ record { size = size_of (context_of types.now) d;
-        entries = restricted (size_of (context_of parts.now) d) (size_of (context_of types.now) d) wide.now }) }
+    ensures { IfOk result (λ made. step_of made ≡ record {
+      size = size_of (context_of types.now) d;
+      entries = restricted (size_of (context_of parts.now) d) (size_of (context_of types.now) d) wide.now;
+    }) }
 {
     let size_here = size(alloc, types, d)?;
     let froms = size(alloc, parts, d)?;

@@ -218,9 +218,7 @@ fn seams(
 {
     let mut found = Vec::new(alloc);
     for (place, tuple) in others.iter().enumerate() {
-        found.push(seam_for(
-            alloc, halves, limit, bound, rest, counts, top, place, tuple,
-        )?)?;
+        found.push(seam_for(alloc, halves, limit, bound, rest, counts, top, place, tuple)?)?;
     }
     Ok(found)
 }

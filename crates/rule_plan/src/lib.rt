@@ -3,8 +3,8 @@
 
 mod body;
 mod budgets;
-mod change;
 mod called;
+mod change;
 mod constructed;
 mod context;
 mod entries;

@@ -14,10 +14,10 @@ ghost use Rattle.rule_plan.specs.Change.{step_at};
 ghost use Rattle.rule_plan.specs.Given.{given_of, made_of, planned, AreDown, ArePlans, IsBranch};
 
 use crate::budgets::{boxed, budgets, forks, moves, pays, shared, shares};
+use crate::called::calls;
 use crate::change::{Change, Move};
 use crate::constructed::constructors;
 use crate::context;
-use crate::called::calls;
 use crate::env::Env;
 use crate::lets::{cut_let, lets};
 use index_shift::Entry;
@@ -28,11 +28,7 @@ use std::alloc::{AllocError, Global};
 use std::rc::Rc;
 
 // No maps, at each of the budgets.
-fn without_maps(
-    alloc: Global,
-    nodes: u32,
-    budgets: Vec<u8>,
-) -> Result<Vec<Box<Plan>>, AllocError>
+fn without_maps(alloc: Global, nodes: u32, budgets: Vec<u8>) -> Result<Vec<Box<Plan>>, AllocError>
     ensures { IfOk result (λ made. made_of made.items ≡ map (λ d. p.Ends nodes 0 []) budgets.items) }
 {
     let mut made = Vec::new(alloc);
@@ -54,7 +50,13 @@ fn variable(env: &Env<'_>, nodes: u32) -> Result<Vec<Box<Plan>>, AllocError>
 fn zero_alone(alloc: Global) -> Result<Vec<Step>, AllocError>
     ensures { IfOk result (λ steps. map step_of steps.items ≡ zero_alone) }
 {
-    let entries = vec![in alloc; Entry { from: 0, to: 0, times: 1 }]?;
+    let entries = vec![in alloc;
+        Entry {
+            from: 0,
+            to: 0,
+            times: 1
+        },
+    ]?;
     Ok(vec![in alloc; Step { size: 1, entries }]?)
 }
 
@@ -98,11 +100,8 @@ pub fn plans(
     let nodes = expr.nodes;
     match &expr.form {
         NormForm::Var(_) => variable(env, nodes),
-        NormForm::Const(_)
-        | NormForm::Nil
-        | NormForm::Leaf
-        | NormForm::Nothing
-        | NormForm::Op(_) => constant(env, nodes),
+        NormForm::Const(_) | NormForm::Nil | NormForm::Leaf | NormForm::Nothing | NormForm::Op(_) =>
+            constant(env, nodes),
         NormForm::Pair(x, y) => constructors(env, nodes, &[*x, *y], context, ty),
         NormForm::Cons(x, y) => constructors(env, nodes, &[*x, *y], context, ty),
         NormForm::Node(x, y, z) => constructors(env, nodes, &[*x, *y, *z], context, ty),
@@ -117,9 +116,7 @@ pub fn plans(
         NormForm::CaseTree(x, a, e, l, r, b) => {
             plan_case(env, nodes, *x, a, &[*e, *l, *r], b, context, ty)
         }
-        NormForm::CaseOption(x, a, w, b) => {
-            plan_case(env, nodes, *x, a, &[*w], b, context, ty)
-        }
+        NormForm::CaseOption(x, a, w, b) => { plan_case(env, nodes, *x, a, &[*w], b, context, ty) }
         NormForm::Tick(ticks, a) => plan_tick(env, nodes, *ticks, a, context, ty),
         NormForm::Share(x, p, q, a) => plan_share(env, nodes, *x, *p, *q, a, context, ty),
         NormForm::Drop(x, a) => plan_drop(env, nodes, *x, a, context, ty),

@@ -81,11 +81,7 @@ fn inserted(others: Vec<Index>, place: usize, index: Index) -> Result<Vec<Index>
 
 // The indices in another order.
 #[cycle(permuted)]
-fn permuted(
-    alloc: Global,
-    places: &[usize],
-    indices: &[Index],
-) -> Result<Vec<Index>, AllocError>
+fn permuted(alloc: Global, places: &[usize], indices: &[Index]) -> Result<Vec<Index>, AllocError>
     ensures { IfOk result (λ found. plains_of found.items ≡ permutation places.now (plains_of indices.now)) }
 {
     match places {

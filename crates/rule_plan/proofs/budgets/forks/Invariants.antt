@@ -9,5 +9,5 @@ abbrev pub invariant-loop-second : goal.invariant-loop-second
 invariant-loop-second l = record {
   low : l.d ≤ 4;
   made : made_of l.made.items ++ both_down (λ d a b. p.Forks l.nodes (step_at l.change d) a (step_at l.other d) b) l.d (made_of (drop (length l.yielded) l.fn.seconds.items)) (made_of l.firsts.rest.items)
-    ≡ both_down (λ d a b. p.Forks l.nodes (step_at l.change d) a (step_at l.other d) b) l.top (made_of l.fn.seconds.items) (made_of l.fn.firsts.items);
+      ≡ both_down (λ d a b. p.Forks l.nodes (step_at l.change d) a (step_at l.other d) b) l.top (made_of l.fn.seconds.items) (made_of l.fn.firsts.items);
 }

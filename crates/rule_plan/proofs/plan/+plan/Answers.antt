@@ -13,7 +13,8 @@ use Rattle.walk_rules.specs.Planned.{step, zero_alone, part_steps, leaving_step,
 use Rattle.rule_walk.specs.Read.{plan_of}
 use Rattle.rule_plan.specs.Given.{given_of, made_of, planned, AreDown, ArePlans}
 use Rattle.rule_plan.proofs.Formed.{plain, tick_is, branch_is, moves_are, forks_are, shares_are}
-use Rattle.rule_plan.proofs.Widened.{lets_are, bound_types}
+use Rattle.rule_plan.proofs.Shapes.{node_is, list_is, tree_is, option_is}
+use Rattle.rule_plan.proofs.Widened.{lets_are}
 use Rattle.rule_plan.proofs.plan.+plan.Goals as goal
 
 pub left-returns : goal.left-returns
@@ -84,7 +85,7 @@ pub plan_let-returns : goal.plan_let-returns
 plan_let-returns t c =
     let a = c.args in let C = parameters_of a.context.now in let G = given_of a.env.now in let A = ty_of a.bound.now in let T = ty_of a.ty.now in let e = norm_of a.a.now in
     let firsts = subst (λ l. ArePlans G e (inners e C) A (map (λ r. plan_of (rc_value r)) l)) (sym c.deref-7.ensures.value)
-        (subst (λ N. ArePlans G e N A (map (λ r. plan_of (rc_value r)) c.in_ok-firsts.firsts.items)) (ap parameters_of c.deref-5.ensures.value ∙ c.in_ok-inner.ensures) c.in_ok-firsts.ensures) in
+    (subst (λ N. ArePlans G e N A (map (λ r. plan_of (rc_value r)) c.in_ok-firsts.firsts.items)) (ap parameters_of c.deref-5.ensures.value ∙ c.in_ok-inner.ensures) c.in_ok-firsts.ensures) in
     let next = ap parameters_of c.deref-6.ensures.value ∙ c.in_ok-next.ensures ∙ ap (λ O. O ++ (a.x, A) ∷ []) (ap parameters_of c.deref.ensures.value ∙ c.in_ok-outer.ensures) in
     let rests = subst (λ N. ArePlans G (norm_of a.b.now) N T (made_of c.in_ok-rests.rests.items)) next c.in_ok-rests.ensures in
     IfOk-weaker c.lets.result _ (λ made. ArePlans G (n.Let a.nodes a.x A e (norm_of a.b.now)) C T (made_of made.items))
@@ -94,7 +95,7 @@ plan_let-returns t c =
 pub plans-returns-in-Node : goal.plans-returns-in-Node
 plans-returns-in-Node t c =
     let a = c.args in let C = parameters_of a.context.now in let G = given_of a.env.now in let T = ty_of a.ty.now in let k = a.expr.now.nodes in
-    let same : norm_of a.expr.now ≡ n.Node k c.in-Node.x c.in-Node.y c.in-Node.z = search rules in
+    let same = node_is a.expr.now c.in-Node.x c.in-Node.y c.in-Node.z c.in-Node.is in
     IfOk-weaker c.constructors-in-Node.result _ (λ made. ArePlans G (norm_of a.expr.now) C T (made_of made.items))
     (λ made is. subst (λ e. ArePlans G e C T (made_of made.items)) (sym same) (plain G (λ d. p.Ends k 1 (part_steps C (c.in-Node.x ∷ c.in-Node.y ∷ c.in-Node.z ∷ []) T d)) (made_of made.items) is))
     c.constructors-in-Node.ensures
@@ -102,17 +103,17 @@ plans-returns-in-Node t c =
 pub plans-returns-in-CaseList : goal.plans-returns-in-CaseList
 plans-returns-in-CaseList t c =
     let a = c.args in let C = parameters_of a.context.now in let G = given_of a.env.now in let T = ty_of a.ty.now in
-    let same : norm_of a.expr.now ≡ n.CaseList a.expr.now.nodes c.in-CaseList.x (norm_of c.deref-in-CaseList.result.now) c.in-CaseList.h c.in-CaseList.t (norm_of c.deref-in-CaseList-2.result.now) = search rules in
+    let same = list_is a.expr.now c.in-CaseList.x c.in-CaseList.h c.in-CaseList.t c.in-CaseList.a c.in-CaseList.b c.deref-in-CaseList.result.now c.deref-in-CaseList-2.result.now c.in-CaseList.is c.deref-in-CaseList.ensures c.deref-in-CaseList-2.ensures in
     IfOk-weaker c.plan_case.result _ (λ made. ArePlans G (norm_of a.expr.now) C T (made_of made.items)) (λ made is. subst (λ e. ArePlans G e C T (made_of made.items)) (sym same) is) c.plan_case.ensures
 
 pub plans-returns-in-CaseTree : goal.plans-returns-in-CaseTree
 plans-returns-in-CaseTree t c =
     let a = c.args in let C = parameters_of a.context.now in let G = given_of a.env.now in let T = ty_of a.ty.now in
-    let same : norm_of a.expr.now ≡ n.CaseTree a.expr.now.nodes c.in-CaseTree.x (norm_of c.deref-in-CaseTree.result.now) c.in-CaseTree.e c.in-CaseTree.l c.in-CaseTree.r (norm_of c.deref-in-CaseTree-2.result.now) = search rules in
+    let same = tree_is a.expr.now c.in-CaseTree.x c.in-CaseTree.e c.in-CaseTree.l c.in-CaseTree.r c.in-CaseTree.a c.in-CaseTree.b c.deref-in-CaseTree.result.now c.deref-in-CaseTree-2.result.now c.in-CaseTree.is c.deref-in-CaseTree.ensures c.deref-in-CaseTree-2.ensures in
     IfOk-weaker c.plan_case-in-CaseTree.result _ (λ made. ArePlans G (norm_of a.expr.now) C T (made_of made.items)) (λ made is. subst (λ e. ArePlans G e C T (made_of made.items)) (sym same) is) c.plan_case-in-CaseTree.ensures
 
 pub plans-returns-in-CaseOption : goal.plans-returns-in-CaseOption
 plans-returns-in-CaseOption t c =
     let a = c.args in let C = parameters_of a.context.now in let G = given_of a.env.now in let T = ty_of a.ty.now in
-    let same : norm_of a.expr.now ≡ n.CaseOption a.expr.now.nodes c.in-CaseOption.x (norm_of c.deref-in-CaseOption.result.now) c.in-CaseOption.w (norm_of c.deref-in-CaseOption-2.result.now) = search rules in
+    let same = option_is a.expr.now c.in-CaseOption.x c.in-CaseOption.w c.in-CaseOption.a c.in-CaseOption.b c.deref-in-CaseOption.result.now c.deref-in-CaseOption-2.result.now c.in-CaseOption.is c.deref-in-CaseOption.ensures c.deref-in-CaseOption-2.ensures in
     IfOk-weaker c.plan_case-in-CaseOption.result _ (λ made. ArePlans G (norm_of a.expr.now) C T (made_of made.items)) (λ made is. subst (λ e. ArePlans G e C T (made_of made.items)) (sym same) is) c.plan_case-in-CaseOption.ensures
