@@ -10,3 +10,4 @@ pub mod Widened
 pub mod Formed
 pub mod Rcs
 pub mod Shapes
+pub mod Grouped

@@ -1,4 +1,5 @@
-//! Plans of normal forms: each rule at the positions of its contexts, made by counting.
+//! Plans of normal forms: each rule at the positions of its contexts. Each form is planned once for all
+//! budgets, and each map that is not one of `index_shift` once, at the greatest budget.
 #![tactic(auto)]
 
 mod body;
