@@ -1,16 +1,16 @@
 -- Changes of a variable that is not there, and the map of one that is taken apart.
-use Rattle.std.proofs.Common.{◌≡◌, ◌≤◌, ◌<◌, ℕ, zero, suc, ◌+◌, ◌-◌, List, [], ◌∷◌, ◌++◌, map, length, take, drop, get_or, inl, inr, refl, sym, ap, ◌∙◌, subst, arith}
+use Rattle.std.proofs.Common.{◌≡◌, ◌≤◌, ◌<◌, ℕ, zero, suc, ◌+◌, ◌-◌, List, [], ◌∷◌, ◌++◌, map, length, take, drop, get_or, inl, inr, refl, ap, ◌∙◌, arith}
 use Rattle.std.proofs.lemmas.List.{length-map}
 use Rattle.raml_syntax.specs.declared.ty.Ty.{Ty}
 use Rattle.raml_syntax.specs.Tree.{Type'}
 use Rattle.raml_syntax.specs.Read.{ty_of}
 use Rattle.base_poly.specs.Plain.{Plain, degrees}
-use Rattle.base_poly.specs.Indices.{index_list, tuples_up_to, AreIndices}
+use Rattle.base_poly.specs.Indices.{index_list, tuples_up_to}
 use Rattle.base_poly.specs.Read.{context_of}
 use Rattle.base_poly.proofs.Among.{Among, among_contains}
 use Rattle.base_poly.proofs.Exact.{exact}
 use Rattle.index_shift.specs.Parts.{type_parts}
-use Rattle.index_shift.specs.Maps.{Carry, behind, opens, leaves, joins, none, twice, in_place, variable_type, placed, entries_from, entries, opening, leaving, sharing}
+use Rattle.index_shift.specs.Maps.{Carry, behind, opens, leaves, joins, none, twice, in_place, variable_type, placed, entries_from, entries, opening}
 use Rattle.index_shift.specs.Local.{Alone, IsLocal, IsMapBetween}
 use Rattle.index_shift.specs.declared.entry.Entry.{Entry}
 use Rattle.index_shift.proofs.Carried.{as_long}

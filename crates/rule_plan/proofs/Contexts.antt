@@ -1,6 +1,6 @@
 -- Contexts of the code.
-use Rattle.std.proofs.Common.{◌≡◌, ◌≤◌, ℕ, zero, suc, ◌+◌, Bool, true, false, cond, nat_eq, List, [], ◌∷◌, ◌++◌, take, drop, zip, length, slice_index_or, ◌<◌, Some, None, refl, sym, ap, ◌∙◌, append-nil, arith}
-use Rattle.raml_syntax.specs.Tree.{Type', Integer}
+use Rattle.std.proofs.Common.{◌≡◌, ◌≤◌, ℕ, zero, suc, ◌+◌, Bool, true, false, cond, nat_eq, List, [], ◌∷◌, ◌++◌, take, drop, zip, length, slice_index_or, ◌<◌, Some, refl, sym, ap, ◌∙◌, append-nil, arith}
+use Rattle.raml_syntax.specs.Tree.{Integer}
 use Rattle.raml_syntax.specs.declared.ty.Ty.{Ty}
 use Rattle.raml_syntax.specs.Read.{ty_of}
 use Rattle.base_poly.specs.Read.{context_of}

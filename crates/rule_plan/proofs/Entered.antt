@@ -1,5 +1,5 @@
 -- Entries by positions are those tuple by tuple.
-use Rattle.std.proofs.Common.{◌≡◌, ◌≤◌, ◌<◌, ℕ, zero, suc, ◌+◌, Bool, true, false, not, cond, if◌then◌else◌, nat_eq, nat_lt, ◌&&◌, List, [], ◌∷◌, ◌++◌, map, filter, length, position, slice_get, Option, Some, None, refl, sym, ap, ◌∙◌, append-nil, append_assoc, arith}
+use Rattle.std.proofs.Common.{◌≡◌, ◌≤◌, ◌<◌, ℕ, suc, ◌+◌, Bool, true, false, not, cond, if◌then◌else◌, nat_eq, nat_lt, ◌&&◌, List, [], ◌∷◌, ◌++◌, map, filter, length, position, slice_get, Some, None, refl, sym, ap, ◌∙◌, arith}
 use Rattle.std.specs.List.{position_or_len}
 use Rattle.std.proofs.lemmas.Bool.Decides.{nat_tests}
 use Rattle.raml_syntax.specs.Tree.{Type'}

@@ -1,5 +1,5 @@
 -- Bodies of functions by their places.
-use Rattle.std.proofs.Common.{◌≡◌, ◌≤◌, ◌<◌, ℕ, zero, suc, ◌+◌, List, [], ◌∷◌, ◌++◌, map, take, drop, length, slice_get, slice_index_or, Option, Some, None, refl, sym, ap, ◌∙◌, subst, arith}
+use Rattle.std.proofs.Common.{◌≡◌, ◌≤◌, ◌<◌, ℕ, zero, suc, ◌+◌, List, [], ◌∷◌, ◌++◌, map, take, length, slice_get, slice_index_or, Some, None, refl, sym, ap, ◌∙◌, subst, arith}
 use Rattle.std.specs.List.{All}
 use Rattle.std.proofs.lemmas.List.Elements.{All-append}
 use Rattle.raml_syntax.specs.declared.program.FunId.{FunId}
@@ -7,17 +7,13 @@ use Rattle.call_groups.specs.Read.{ids_of}
 use Rattle.raml_syntax.specs.Tree.{Type'}
 use Rattle.raml_syntax.specs.declared.ty.Ty.{Ty}
 use Rattle.normal_form.specs.declared.form.NormFun.{NormFun}
-use Rattle.normal_form.specs.Norm.{Norm}
 use Rattle.normal_form.specs.Context.{Context, types}
 use Rattle.normal_form.specs.Read.{fun_of, funs_of}
 use Rattle.annot_types.specs.Rows.{size as size_of}
-use Rattle.annot_types.specs.Certificate.{Block}
-use Rattle.annot_types.specs.Program.{Program}
 use Rattle.walk_rules.specs.Plan as p
 use Rattle.walk_rules.specs.Tasks as t
 use Rattle.walk_rules.specs.Jobs as j
 use Rattle.walk_rules.specs.Planned.{plan as plan_in}
-use Rattle.earlier_blocks.specs.Remembers.{Remembers}
 use Rattle.rule_plan.specs.declared.body.Body.{Body}
 use Rattle.rule_plan.specs.Down.{down}
 use Rattle.rule_plan.specs.Given.{Given, planned, ArePlans}

@@ -1,8 +1,8 @@
 -- A walk that is small enough at a budget is so at each lower one.
-use Rattle.std.proofs.Common.{◌≡◌, ◌≤◌, ◌<◌, ℕ, zero, suc, ◌-◌, List, [], ◌∷◌, ◌++◌, length, map, slice_index_or, inl, inr, refl, sym, ap, ◌∙◌, subst, arith}
+use Rattle.std.proofs.Common.{◌≡◌, ◌≤◌, ◌<◌, ℕ, zero, suc, ◌-◌, List, [], ◌∷◌, ◌++◌, length, map, slice_index_or, inl, inr, refl, sym, subst, arith}
 use Rattle.std.specs.List.{All}
 use Rattle.raml_syntax.specs.Tree.{Type'}
-use Rattle.base_poly.specs.Plain.{Plain, degrees}
+use Rattle.base_poly.specs.Plain.{degrees}
 use Rattle.base_poly.specs.Indices.{index_list, zero_of}
 use Rattle.base_poly.proofs.Among.{Among, contains_among}
 use Rattle.base_poly.proofs.Exact.{exact}

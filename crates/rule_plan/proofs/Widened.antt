@@ -1,15 +1,15 @@
 -- What is made once for all budgets gives each budget's.
-use Rattle.std.proofs.Common.{◌≡◌, ◌≤◌, ◌<◌, ℕ, zero, suc, ◌+◌, ◌-◌, max, Bool, true, false, cond, List, [], ◌∷◌, ◌++◌, map, take, drop, length, slice_get, slice_index_or, Some, refl, sym, ap, ◌∙◌, subst, arith}
+use Rattle.std.proofs.Common.{◌≡◌, ◌≤◌, ◌<◌, ℕ, zero, suc, ◌+◌, ◌-◌, Bool, true, false, cond, List, [], ◌∷◌, ◌++◌, map, take, drop, length, slice_get, slice_index_or, Some, refl, sym, ap, ◌∙◌, arith}
 use Rattle.std.specs.List.{range_with_len}
 use Rattle.raml_syntax.specs.Tree.{Type', Integer, Boolean, PairOf, ListOf, TreeOf, OptionOf}
 use Rattle.base_poly.specs.Plain.{Plain, degrees}
-use Rattle.base_poly.specs.Indices.{index_list, Ascends, tuple_order}
+use Rattle.base_poly.specs.Indices.{index_list}
 use Rattle.base_poly.proofs.Exact.{exact}
 use Rattle.base_poly.proofs.Front.{lower_stand_first}
 use Rattle.index_shift.specs.declared.entry.Entry.{Entry}
 use Rattle.index_shift.specs.Maps.{Carry, opening}
 use Rattle.index_shift.specs.Parts.{type_parts}
-use Rattle.index_shift.specs.Contexts.{marked_items, permutation, permutes, projects, projection}
+use Rattle.index_shift.specs.Contexts.{marked_items, permutation, permutes, projects}
 use Rattle.normal_form.specs.Norm as n
 use Rattle.normal_form.specs.Norm.{Norm}
 use Rattle.normal_form.specs.Free.{free_in}
@@ -20,7 +20,7 @@ use Rattle.annot_types.specs.Carried.{to, marks, tuples, operand_places}
 use Rattle.annot_types.specs.Rows.{size as size_of}
 use Rattle.annot_types.specs.System.{args_of}
 use Rattle.walk_rules.specs.Plan as p
-use Rattle.walk_rules.specs.Planned.{step, entries_of, operand_entries, part_steps, let_part, budgets, called, place_in, usable_from, lower}
+use Rattle.walk_rules.specs.Planned.{step, entries_of, operand_entries, part_steps, let_part, budgets, called, usable_from, lower}
 use Rattle.rule_walk.specs.Read.{plans}
 use Rattle.earlier_blocks.specs.Remembers.{Remembers, blocks_at}
 use Rattle.earlier_blocks.specs.declared.usage.Usage.{Usage}
@@ -30,11 +30,10 @@ use Rattle.rule_plan.specs.Change.{step_at}
 use Rattle.rule_plan.specs.declared.change.Move.{Move}
 use Rattle.rule_plan.specs.declared.called.Callee.{Callee}
 use Rattle.rule_plan.specs.declared.lets.Cut.{Cut}
-use Rattle.rule_plan.specs.declared.lets.Sizes.{Sizes}
 use Rattle.rule_plan.specs.Down.{down, each_down, up}
 use Rattle.rule_plan.specs.Entries.{spot, placed_at, halves, restricted}
-use Rattle.rule_plan.specs.Given.{Given, planned, AreDown, ArePlans}
-use Rattle.rule_plan.specs.Wide.{at_budget, constructor_steps, called_at, IsCallee, WideSeam, wide_seam, seam_at, seams_from, part_at, parts_at, seam_of, IsCut}
+use Rattle.rule_plan.specs.Given.{Given, planned, ArePlans}
+use Rattle.rule_plan.specs.Wide.{at_budget, constructor_steps, called_at, IsCallee, WideSeam, wide_seam, seam_at, seams_from, part_at, parts_at, IsCut}
 use Rattle.rule_plan.proofs.Calling.{at_up}
 use Rattle.rule_plan.proofs.Entered.{to_placed, projects_picked, lower_entries}
 use Rattle.rule_plan.proofs.Downed.{map_down, each_is, down_same, drop_down, lower_is}

@@ -1,5 +1,5 @@
 -- Entries from the positions of targets.
-use Rattle.std.specs.Prelude.{ℕ, suc, nat_lt, nat_eq, cond, ◌&&◌, Bool, List, [], ◌∷◌, map, filter}
+use Rattle.std.specs.Prelude.{ℕ, suc, nat_lt, nat_eq, cond, ◌&&◌, Bool, List, [], ◌∷◌, filter}
 use Rattle.std.specs.List.{position_or_len}
 use Rattle.base_poly.specs.Plain.{Plain, alike}
 use Rattle.index_shift.specs.Contexts.{marked_items, other_items}

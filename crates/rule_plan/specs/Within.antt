@@ -1,5 +1,5 @@
 -- Walks whose contexts and types are small enough.
-use Rattle.std.specs.Prelude.{◌≤◌, ℕ, ◌-◌, List, [], ◌∷◌, ◌++◌, Option, None, Some}
+use Rattle.std.specs.Prelude.{◌≤◌, ℕ, ◌-◌, [], ◌∷◌, ◌++◌, Option, None, Some}
 use Rattle.std.specs.List.{All}
 use Rattle.raml_syntax.specs.Tree.{Type'}
 use Rattle.base_poly.specs.Plain.{degrees}

@@ -1,4 +1,4 @@
-use Rattle.std.proofs.Common.{◌≡◌, ◌<◌, ◌-◌, ◌∷◌, ◌++◌, [], ap, sym, ◌∙◌, append_assoc, rules}
+use Rattle.std.proofs.Common.{◌<◌, ◌-◌, ◌∷◌, ◌++◌, [], ap, sym, ◌∙◌, append_assoc, rules}
 use Rattle.rule_plan.specs.Down.{down}
 use Rattle.rule_plan.proofs.Downed.{down_step}
 use Rattle.rule_plan.proofs.budgets.budgets.Goals as goal

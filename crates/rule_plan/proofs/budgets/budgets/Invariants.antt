@@ -1,4 +1,4 @@
-use Rattle.std.proofs.Common.{◌≡◌, ◌++◌, ◌∷◌, [], drop, map, length}
+use Rattle.std.proofs.Common.{◌≡◌, ◌++◌}
 use Rattle.rule_plan.specs.Down.{down}
 use Rattle.rule_plan.proofs.budgets.budgets.Given as goal
 

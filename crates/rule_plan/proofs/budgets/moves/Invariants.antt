@@ -1,4 +1,4 @@
-use Rattle.std.proofs.Common.{◌≡◌, ◌≤◌, ◌++◌, ◌∷◌, [], drop, map, length}
+use Rattle.std.proofs.Common.{◌≡◌, ◌≤◌, ◌++◌, drop, length}
 use Rattle.walk_rules.specs.Plan as p
 use Rattle.rule_plan.specs.Down.{each_down}
 use Rattle.rule_plan.specs.Change.{step_at}

@@ -1,4 +1,4 @@
-use Rattle.std.proofs.Common.{◌≡◌, ◌++◌, ◌∷◌, [], drop, map, length}
+use Rattle.std.proofs.Common.{◌≡◌, map}
 use Rattle.std.specs.Rc.{rc_value}
 use Rattle.rule_walk.specs.Read.{plan_of}
 use Rattle.rule_plan.specs.Given.{made_of}

@@ -1,4 +1,4 @@
-use Rattle.std.proofs.Common.{◌≡◌, ◌≤◌, ◌++◌, ◌∷◌, [], drop, map, length}
+use Rattle.std.proofs.Common.{◌≡◌, ◌≤◌, ◌++◌, drop, length}
 use Rattle.base_poly.specs.Read.{context_of}
 use Rattle.annot_types.specs.Rows.{size as size_of}
 use Rattle.walk_rules.specs.Plan as p

@@ -1,4 +1,4 @@
-use Rattle.std.proofs.Common.{◌≡◌, ◌++◌, ◌∷◌, [], drop, map, length}
+use Rattle.std.proofs.Common.{◌≡◌, ◌++◌, drop, map}
 use Rattle.rule_plan.specs.Entries.{restricted}
 use Rattle.rule_plan.proofs.called.all_restricted.Given as goal
 

@@ -1,4 +1,4 @@
-use Rattle.std.proofs.Common.{◌≡◌, ◌++◌, ◌∷◌, [], drop, map, length}
+use Rattle.std.proofs.Common.{◌≡◌, ◌++◌, drop}
 use Rattle.earlier_blocks.specs.Remembers.{blocks_at}
 use Rattle.rule_plan.proofs.called.blocks_at.Given as goal
 

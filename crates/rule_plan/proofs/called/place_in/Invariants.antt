@@ -1,4 +1,4 @@
-use Rattle.std.proofs.Common.{◌≡◌, ◌++◌, ◌∷◌, [], drop, map, length}
+use Rattle.std.proofs.Common.{◌≡◌, drop}
 use Rattle.std.specs.Prelude.{option_map, ◌+◌}
 use Rattle.call_groups.specs.Read.{ids_of}
 use Rattle.walk_rules.specs.Planned.{place_in}

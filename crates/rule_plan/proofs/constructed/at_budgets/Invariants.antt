@@ -1,4 +1,4 @@
-use Rattle.std.proofs.Common.{◌≡◌, ◌++◌, ◌∷◌, [], drop, map, length}
+use Rattle.std.proofs.Common.{◌≡◌, ◌++◌, drop, map}
 use Rattle.walk_rules.specs.Plan as p
 use Rattle.rule_plan.specs.Given.{made_of}
 use Rattle.rule_plan.specs.Wide.{constructor_steps}

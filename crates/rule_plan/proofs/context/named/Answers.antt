@@ -1,4 +1,4 @@
-use Rattle.std.proofs.Common.{◌≤◌, length, arith, rules}
+use Rattle.std.proofs.Common.{◌≤◌, length, rules}
 use Rattle.normal_form.specs.Read.{parameters_of}
 use Rattle.rule_plan.proofs.Contexts.{named_ends}
 use Rattle.rule_plan.proofs.context.named.Goals as goal

@@ -1,4 +1,4 @@
-use Rattle.std.proofs.Common.{rules, ◌≡◌}
+use Rattle.std.proofs.Common.{rules}
 use Rattle.rule_plan.proofs.Contexts.{put_is}
 use Rattle.rule_plan.proofs.context.put.Goals as goal
 

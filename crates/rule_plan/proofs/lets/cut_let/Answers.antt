@@ -1,4 +1,4 @@
-use Rattle.std.proofs.Common.{◌≡◌, ◌∙◌, ◌++◌, ◌∷◌, [], ap, map}
+use Rattle.std.proofs.Common.{◌∙◌, ◌++◌, ◌∷◌, [], ap, map}
 use Rattle.raml_syntax.specs.Read.{ty_of}
 use Rattle.base_poly.specs.Indices.{index_list}
 use Rattle.base_poly.specs.Read.{context_of}
@@ -8,7 +8,7 @@ use Rattle.annot_types.specs.Carried.{marks}
 use Rattle.annot_types.specs.Rows.{size as size_of}
 use Rattle.rule_plan.specs.Down.{up}
 use Rattle.rule_plan.specs.Entries.{halves}
-use Rattle.rule_plan.specs.Wide.{seam_of, seam_at, seams_from}
+use Rattle.rule_plan.specs.Wide.{seam_at, seams_from}
 use Rattle.rule_plan.proofs.Widened.{seams_are}
 use Rattle.rule_plan.proofs.lets.cut_let.Goals as goal
 

@@ -1,4 +1,4 @@
-use Rattle.std.proofs.Common.{◌≡◌, ◌≤◌, ◌-◌, ◌++◌, ◌∷◌, [], drop, map, length}
+use Rattle.std.proofs.Common.{◌≡◌, ◌≤◌, ◌-◌, ◌++◌, drop, map, length}
 use Rattle.std.specs.Rc.{rc_value}
 use Rattle.walk_rules.specs.Plan as p
 use Rattle.rule_walk.specs.Read.{plan_of, plans}

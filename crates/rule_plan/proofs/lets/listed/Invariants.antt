@@ -1,4 +1,4 @@
-use Rattle.std.proofs.Common.{◌≡◌, ◌≤◌, ◌-◌, ◌++◌, ◌∷◌, [], drop, map, length}
+use Rattle.std.proofs.Common.{◌≡◌, ◌++◌, drop, map}
 use Rattle.rule_walk.specs.Steps.{part_of}
 use Rattle.rule_plan.specs.Wide.{part_at, seam_of}
 use Rattle.rule_plan.proofs.lets.listed.Given as goal

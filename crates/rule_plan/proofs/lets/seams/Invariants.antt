@@ -1,4 +1,4 @@
-use Rattle.std.proofs.Common.{◌≡◌, ◌≤◌, ◌-◌, ◌++◌, ◌∷◌, [], drop, map, length}
+use Rattle.std.proofs.Common.{◌≡◌, ◌++◌, drop, map}
 use Rattle.rule_plan.specs.Wide.{seam_of, seam_at, seams_from}
 use Rattle.rule_plan.proofs.lets.seams.Given as goal
 

@@ -1,4 +1,4 @@
-use Rattle.std.proofs.Common.{◌≡◌, ◌++◌, ◌∷◌, [], drop, map, length}
+use Rattle.std.proofs.Common.{◌≡◌, ◌++◌, drop}
 use Rattle.normal_form.specs.Read.{parameters_of}
 use Rattle.annot_types.specs.Carried.{operand_places}
 use Rattle.rule_plan.proofs.operands.operand_places.Given as goal

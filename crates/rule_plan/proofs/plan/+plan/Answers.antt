@@ -1,15 +1,14 @@
-use Rattle.std.proofs.Common.{◌≡◌, ◌∙◌, ◌++◌, ◌∷◌, [], ap, sym, map, subst, rules}
+use Rattle.std.proofs.Common.{◌∙◌, ◌++◌, ◌∷◌, [], ap, sym, map, subst}
 use Rattle.std.proofs.lemmas.Result.{IfOk-weaker}
-use Rattle.std.specs.Result.{IfOk}
 use Rattle.std.specs.Rc.{rc_value}
 use Rattle.raml_syntax.specs.Read.{ty_of}
 use Rattle.base_poly.specs.Read.{context_of}
 use Rattle.index_shift.specs.Maps.{opening, leaving}
 use Rattle.normal_form.specs.Norm as n
-use Rattle.normal_form.specs.Context.{types, place, without, opened, parts_of, copies_of, inners, others}
+use Rattle.normal_form.specs.Context.{types, place, without, opened, parts_of, inners}
 use Rattle.normal_form.specs.Read.{norm_of, parameters_of}
 use Rattle.walk_rules.specs.Plan as p
-use Rattle.walk_rules.specs.Planned.{step, zero_alone, part_steps, leaving_step, opening_step}
+use Rattle.walk_rules.specs.Planned.{step, part_steps, leaving_step, opening_step}
 use Rattle.rule_walk.specs.Read.{plan_of}
 use Rattle.rule_plan.specs.Given.{given_of, made_of, planned, AreDown, ArePlans}
 use Rattle.rule_plan.proofs.Formed.{plain, tick_is, branch_is, moves_are, forks_are, shares_are}

@@ -1,4 +1,4 @@
-use Rattle.std.proofs.Common.{◌≡◌, [], map}
+use Rattle.std.proofs.Common.{◌≡◌, map}
 use Rattle.walk_rules.specs.Plan as p
 use Rattle.walk_rules.specs.Planned.{zero_alone}
 use Rattle.rule_plan.specs.Given.{made_of}

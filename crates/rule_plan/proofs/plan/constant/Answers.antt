@@ -1,4 +1,4 @@
-use Rattle.std.proofs.Common.{◌≡◌, ◌∙◌, [], ap, map}
+use Rattle.std.proofs.Common.{◌≡◌, ◌∙◌, ap, map}
 use Rattle.std.proofs.lemmas.Result.{IfOk-weaker}
 use Rattle.walk_rules.specs.Plan as p
 use Rattle.walk_rules.specs.Planned.{zero_alone}

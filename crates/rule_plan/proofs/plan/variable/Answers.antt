@@ -1,7 +1,6 @@
 use Rattle.std.proofs.Common.{◌≡◌, ◌∙◌, [], ap, map}
 use Rattle.std.proofs.lemmas.Result.{IfOk-weaker}
 use Rattle.walk_rules.specs.Plan as p
-use Rattle.walk_rules.specs.Planned.{zero_alone}
 use Rattle.rule_plan.specs.Down.{down}
 use Rattle.rule_plan.specs.Given.{made_of}
 use Rattle.rule_plan.proofs.Downed.{map_down}

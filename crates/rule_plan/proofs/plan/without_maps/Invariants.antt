@@ -1,6 +1,5 @@
 use Rattle.std.proofs.Common.{◌≡◌, [], map}
 use Rattle.walk_rules.specs.Plan as p
-use Rattle.walk_rules.specs.Planned.{zero_alone}
 use Rattle.rule_plan.specs.Given.{made_of}
 use Rattle.rule_plan.proofs.plan.without_maps.Given as goal
 

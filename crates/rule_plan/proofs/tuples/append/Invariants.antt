@@ -1,4 +1,4 @@
-use Rattle.std.proofs.Common.{◌≡◌, ◌++◌, drop, map}
+use Rattle.std.proofs.Common.{◌≡◌, ◌++◌, drop}
 use Rattle.base_poly.specs.Read.{plains_of}
 use Rattle.rule_plan.proofs.tuples.append.Given as goal
 

@@ -1,5 +1,5 @@
 use Rattle.std.proofs.Common.{◌≡◌, ◌∙◌, ap, min, length, rules}
-use Rattle.base_poly.specs.Read.{index_of, plains_of}
+use Rattle.base_poly.specs.Read.{plains_of}
 use Rattle.rule_plan.proofs.Halves.{inserted_is}
 use Rattle.rule_plan.proofs.tuples.inserted.Goals as goal
 

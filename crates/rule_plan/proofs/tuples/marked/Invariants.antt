@@ -1,4 +1,4 @@
-use Rattle.std.proofs.Common.{◌≡◌, ◌++◌, drop, map}
+use Rattle.std.proofs.Common.{◌≡◌, ◌++◌, drop}
 use Rattle.base_poly.specs.Read.{plains_of}
 use Rattle.index_shift.specs.Contexts.{marked_items}
 use Rattle.rule_plan.proofs.tuples.marked.Given as goal

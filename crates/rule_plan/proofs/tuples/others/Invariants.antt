@@ -1,4 +1,4 @@
-use Rattle.std.proofs.Common.{◌≡◌, ◌++◌, drop, map}
+use Rattle.std.proofs.Common.{◌≡◌, ◌++◌, drop}
 use Rattle.base_poly.specs.Read.{plains_of}
 use Rattle.index_shift.specs.Contexts.{other_items}
 use Rattle.rule_plan.proofs.tuples.others.Given as goal

@@ -1,4 +1,4 @@
-use Rattle.std.proofs.Common.{◌≡◌, ◌++◌, ◌∷◌, [], drop, map, length}
+use Rattle.std.proofs.Common.{◌≡◌, ◌++◌, drop, map}
 use Rattle.rule_plan.specs.Entries.{spot}
 use Rattle.rule_plan.proofs.tuples.spots.Given as goal
 

@@ -1,5 +1,4 @@
 use Rattle.std.proofs.Common.{rules}
-use Rattle.base_poly.specs.Read.{context_of}
 use Rattle.raml_syntax.specs.Read.{ty_of}
 use Rattle.normal_form.specs.Read.{norm_of, parameters_of}
 use Rattle.rule_plan.proofs.Lower.{bound_is, is_bound}
