@@ -1,0 +1,13 @@
+pub mod Lower
+pub mod Contexts
+pub mod Entered
+pub mod Placed
+pub mod Halves
+pub mod Changed
+pub mod Downed
+pub mod Calling
+pub mod Widened
+pub mod Formed
+pub mod Rcs
+pub mod Shapes
+pub mod Grouped

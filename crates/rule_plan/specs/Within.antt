@@ -1,5 +1,5 @@
 -- Walks whose contexts and types are small enough.
-use Rattle.std.specs.Prelude.{◌≤◌, ℕ, ◌-◌, List, [], ◌∷◌, ◌++◌, Option, None, Some}
+use Rattle.std.specs.Prelude.{◌≤◌, ℕ, ◌-◌, [], ◌∷◌, ◌++◌, Option, None, Some}
 use Rattle.std.specs.List.{All}
 use Rattle.raml_syntax.specs.Tree.{Type'}
 use Rattle.base_poly.specs.Plain.{degrees}
@@ -34,6 +34,10 @@ module _ (most : ℕ) where
   abbrev pub FunctionWithin : Option NormFun → ℕ → Type 0
   FunctionWithin None budget = Unit {0}
   FunctionWithin (Some g) budget = IsWithin g.body g.params g.result budget
+
+-- a Let's bound form is walked, at each tuple of the variables that it does not use, at the budget that the tuple leaves
+abbrev pub BoundWithin : ℕ → Norm → Context → Type' → ℕ → Type 0
+BoundWithin most a C A d = All (λ j. IsWithin most a (inners a C) A (d - degrees j)) (tuples (others a C) d)
 
 -- A form that is within a limit at a budget is within it at each lower one.
 abbrev pub LowerAreWithin : Type 0

@@ -1,4 +1,6 @@
 // Why there is no plan.
+ghost use Rattle.std.specs.Prelude.{◌≡◌};
+
 use std::alloc::AllocError;
 
 /// Why a group has no plans.
@@ -10,7 +12,11 @@ pub enum PlanFault {
 }
 
 impl From<AllocError> for PlanFault {
-    fn from(error: AllocError) -> PlanFault {
+    ghost use Rattle.rule_plan.specs.declared.fault.PlanFault.TheVariants.{NoMemory};
+
+    ghost from_gives = { λ _ e. e ≡ NoMemory };
+
+    fn from(_: AllocError) -> PlanFault {
         PlanFault::NoMemory
     }
 }

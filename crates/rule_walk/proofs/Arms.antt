@@ -1,11 +1,11 @@
 -- What a form's walk tells, from what its parts' walks tell.
-use Rattle.std.proofs.Common.{◌≡◌, refl, ap, sym, ◌∙◌, ℕ, zero, suc, ◌+◌, ◌*◌, List, [], ◌∷◌, ◌++◌, arith, Option, ◌<◌, ◌≤◌, length, map, drop, slice_index_or}
+use Rattle.std.proofs.Common.{◌≡◌, refl, ap, sym, ◌∙◌, ℕ, zero, suc, ◌+◌, ◌*◌, List, [], ◌∷◌, ◌++◌, arith, ◌<◌, ◌≤◌, length, map, drop, slice_index_or}
 use Rattle.cost_free.specs.declared.task.Meter.{Meter}
 use Rattle.cost_free.specs.declared.task.Meter.TheVariants.{Ticks, Cells, Work}
 use Rattle.annot_types.specs.Rules.{Mode, With, Own, Past}
 use Rattle.walk_rules.specs.Plan as p
 use Rattle.walk_rules.specs.Plan.{Plan, Step, Called}
-use Rattle.walk_rules.specs.Numbers.{Numbers, Sides, Signature, Known, Hint, Condition, Walked}
+use Rattle.walk_rules.specs.Numbers.{Numbers, Sides, Known, Hint, Condition, Walked}
 use Rattle.walk_rules.specs.Walk.{charge, behind, numbered, at, at_zero, moved, all_moved, against, joined, nothing, begun, walk, walks, each, Walk, still, mode_at, sums, missing, copies_of, results_of, multiples_of, later}
 use Rattle.rule_walk.specs.Read.{nodes_rows, nodes_index, nodes_left, charged, plan_of, plans_of, size, sizes}
 use Rattle.std.specs.Global.{Global}

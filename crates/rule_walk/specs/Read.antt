@@ -1,5 +1,5 @@
 -- What the code's plans, hints and signatures are as plain data.
-use Rattle.std.specs.Prelude.{ℕ, zero, suc, ◌+◌, ◌*◌, Vec, nat_eq, cond, List, [], ◌∷◌, map, slice_index_or, Option, None, Some, option_map, Bool, false, ◌&&◌}
+use Rattle.std.specs.Prelude.{ℕ, zero, suc, ◌+◌, ◌*◌, Vec, nat_eq, cond, List, [], ◌∷◌, map, slice_index_or, Option, None, option_map, Bool, false, ◌&&◌}
 use Rattle.std.specs.Option.{is_none}
 use Rattle.std.specs.Global.{Global}
 use Rattle.std.specs.declared.rc.Rc.{Rc}
@@ -10,7 +10,7 @@ use Rattle.annot_types.specs.Rules as r
 use Rattle.walk_rules.specs.Plan as p
 use Rattle.walk_rules.specs.Numbers as n
 use Rattle.walk_rules.specs.Walk as w
-use Rattle.rule_walk.specs.Steps.{step_of, part_of}
+use Rattle.rule_walk.specs.Steps.{step_of}
 use Rattle.rule_walk.specs.declared.plan.Mode.{Mode}
 use Rattle.rule_walk.specs.declared.plan.Mode.TheVariants as o
 use Rattle.rule_walk.specs.declared.plan.Called.{Called}

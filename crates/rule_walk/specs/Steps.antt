@@ -1,5 +1,4 @@
 -- What the code's maps are as plain data.
-use Rattle.std.specs.Prelude.{List, map}
 use Rattle.walk_rules.specs.Plan as p
 use Rattle.rule_walk.specs.declared.plan.Step.{Step}
 use Rattle.rule_walk.specs.declared.plan.Part.{Part}

@@ -1,6 +1,6 @@
-use Rattle.std.proofs.Common.{◌≡◌, ◌∙◌, ◌++◌, ◌*◌, ◌+◌, ◌<◌, ◌≤◌, [], ap, sym, append-nil, length, arith, rules}
+use Rattle.std.proofs.Common.{◌∙◌, ◌++◌, ◌*◌, ◌<◌, ◌≤◌, ap, sym, append-nil, length, arith, rules}
 use Rattle.walk_rules.specs.Asked.{asked}
-use Rattle.rule_walk.specs.Read.{plan_of, plans_of, size, sizes}
+use Rattle.rule_walk.specs.Read.{plan_of, size}
 use Rattle.rule_walk.specs.Asks.{asks_of}
 use Rattle.rule_walk.proofs.Arms.{sizes_at}
 use Rattle.rule_walk.proofs.AskedAt.{asked_at, asked_past}

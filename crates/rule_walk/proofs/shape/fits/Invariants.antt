@@ -1,4 +1,4 @@
-use Rattle.std.proofs.Common.{◌≡◌, ◌↔◌, length, map, drop}
+use Rattle.std.proofs.Common.{◌↔◌, map, drop}
 use Rattle.annot_types.specs.Read as a
 use Rattle.walk_rules.specs.Shape.{FitAsks}
 use Rattle.rule_walk.specs.Asks.{asks_of}

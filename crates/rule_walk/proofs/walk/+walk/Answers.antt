@@ -1,7 +1,7 @@
-use Rattle.std.proofs.Common.{◌≡◌, ◌∙◌, ◌++◌, ◌∷◌, [], ◌*◌, ◌+◌, ◌<◌, ◌≤◌, refl, ap, sym, map, drop, length, arith, rules}
-use Rattle.walk_rules.specs.Walk.{at, at_zero, moved, numbered, walk, walks, all_moved, missing, joined}
+use Rattle.std.proofs.Common.{◌≡◌, ◌∙◌, ◌++◌, ◌∷◌, [], ◌*◌, ◌+◌, ◌<◌, ◌≤◌, ap, sym, map, drop, length, arith, rules}
+use Rattle.walk_rules.specs.Walk.{moved, walk, walks}
 use Rattle.rule_walk.specs.Steps.{step_of, part_of}
-use Rattle.rule_walk.specs.Read.{plan_of, plans_of, called_of, mode_of, hints_of, sides_of, known_of, charged, nodes_rows, nodes_index, nodes_left, size, sizes}
+use Rattle.rule_walk.specs.Read.{plan_of, plans_of, mode_of, hints_of, known_of, size}
 use Rattle.rule_walk.proofs.Arms.{begun_by, pays_is, pays_left, moves_is, moves_left, shares_is, shares_left, forks_is, forks_left, lets_is, lets_left, each_heard, each_left, one_heard, one_left, none_heard, none_left, sizes_at, drop_at, past_is, parts_length}
 use Rattle.rule_walk.proofs.Shared.{of_lets}
 use Rattle.rule_walk.proofs.walk.+walk.Goals as goal

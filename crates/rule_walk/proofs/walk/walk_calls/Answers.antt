@@ -1,7 +1,6 @@
-use Rattle.std.proofs.Common.{◌≡◌, ◌∙◌, ◌++◌, ◌∷◌, [], ◌*◌, ◌+◌, ◌<◌, ◌≤◌, refl, ap, sym, map, drop, length, arith, rules}
-use Rattle.walk_rules.specs.Walk.{against, at, at_zero, moved, numbered, walk, walks, all_moved, missing, joined}
-use Rattle.rule_walk.specs.Steps.{step_of, part_of}
-use Rattle.rule_walk.specs.Read.{plan_of, plans_of, called_of, mode_of, hints_of, sides_of, known_of, charged, nodes_rows, nodes_index, nodes_left, size, sizes}
+use Rattle.std.proofs.Common.{◌∙◌, ◌+◌, refl, ap, length}
+use Rattle.walk_rules.specs.Walk.{against, numbered}
+use Rattle.rule_walk.specs.Read.{called_of, mode_of, hints_of, sides_of, known_of}
 use Rattle.rule_walk.proofs.Arms.{begun_by, calls_is, calls_left}
 use Rattle.rule_walk.proofs.walk.walk_calls.Goals as goal
 

@@ -1,7 +1,7 @@
-use Rattle.std.proofs.Common.{◌≡◌, ◌∙◌, ◌++◌, ◌∷◌, [], ◌*◌, ◌+◌, ◌<◌, ◌≤◌, refl, ap, sym, map, drop, length, arith, rules}
-use Rattle.walk_rules.specs.Walk.{at, at_zero, moved, numbered, walk, walks, all_moved, missing, joined}
-use Rattle.rule_walk.specs.Steps.{step_of, part_of}
-use Rattle.rule_walk.specs.Read.{plan_of, plans_of, called_of, mode_of, hints_of, sides_of, known_of, charged, nodes_rows, nodes_index, nodes_left, size, sizes}
+use Rattle.std.proofs.Common.{◌∙◌, ◌*◌, ap, map}
+use Rattle.walk_rules.specs.Walk.{at_zero}
+use Rattle.rule_walk.specs.Steps.{step_of}
+use Rattle.rule_walk.specs.Read.{mode_of, hints_of, known_of}
 use Rattle.rule_walk.proofs.Arms.{begun_by, ends_is, ends_left}
 use Rattle.rule_walk.proofs.walk.walk_ends.Goals as goal
 

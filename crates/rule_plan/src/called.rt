@@ -1,0 +1,220 @@
+// Plans of calls.
+ghost use Rattle.std.specs.Prelude.{◌≡◌, ◌≤◌, ℕ, List, [], map, slice_get, slice_index_or, IfOk};
+ghost use Rattle.raml_syntax.specs.Read.{ty_of};
+ghost use Rattle.base_poly.specs.Read.{context_of};
+ghost use Rattle.call_groups.specs.Read.{ids_of};
+ghost use Rattle.normal_form.specs.Norm as n;
+ghost use Rattle.normal_form.specs.Context.{types};
+ghost use Rattle.normal_form.specs.Read.{parameters_of};
+ghost use Rattle.annot_types.specs.Carried.{to};
+ghost use Rattle.annot_types.specs.Rows.{size as size_of};
+ghost use Rattle.annot_types.specs.System.{args_of};
+ghost use Rattle.walk_rules.specs.Plan as p;
+ghost use Rattle.walk_rules.specs.Planned.{place_in, entries_of, operand_entries};
+ghost use Rattle.rule_walk.specs.Read.{plan_of, called_of};
+ghost use Rattle.earlier_blocks.specs.Remembers.{blocks_at};
+ghost use Rattle.rule_plan.specs.Down.{down, up};
+ghost use Rattle.rule_plan.specs.Entries.{restricted};
+ghost use Rattle.rule_plan.specs.Given.{given_of, made_of, ArePlans};
+ghost use Rattle.rule_plan.specs.Wide.{at_budget, called_at, IsCallee};
+
+use crate::budgets::{boxed, budgets};
+use crate::context;
+use crate::entries::{placed, restricted};
+use crate::env::Env;
+use crate::operands::operand_entries;
+use crate::tuples::{same_places, size};
+use earlier_blocks::Usage;
+use index_shift::Entry;
+use raml_syntax::{FunId, Ty};
+use rule_walk::{Called, Plan};
+use std::alloc::{AllocError, Global};
+
+/// Of a call, what is made once for all budgets: the function, its place in the group, how many
+/// positions its arguments, the context and the result have at each budget from 0 on, and the entries
+/// at the greatest budget.
+#[derive(Drop)]
+pub struct Callee {
+    pub function: usize,
+    pub own: Option<usize>,
+    pub args: Vec<usize>,
+    pub context: Vec<usize>,
+    pub result: Vec<usize>,
+    pub operands: Vec<Entry>,
+    pub same: Vec<Entry>,
+}
+
+// The place of the function in the group.
+fn place_in(group: &[FunId], fun: FunId) -> Option<usize>
+    ensures { result ≡ place_in (ids_of group.now) fun.0 }
+{
+    for (at, member) in group.iter().enumerate() {
+        if fun.0 == member.0 {
+            return Some(at);
+        }
+    }
+    None
+}
+
+// The types of the function's parameters; none where there is no such function.
+#[tactic(auto, using(crate::proofs::Calling::args_there, crate::proofs::Calling::no_function, crate::proofs::Calling::no_result))]
+fn args_of(env: &Env<'_>, fun: FunId) -> Result<Vec<Ty>, AllocError>
+    ensures { IfOk result (λ found. context_of found.items ≡ args_of (slice_get (given_of env.now).funs fun.0)) }
+{
+    let place = fun.0 as usize;
+    if place >= env.functions.len() {
+        return Ok(Vec::new(env.alloc));
+    }
+    if place >= env.results.len() {
+        return Ok(Vec::new(env.alloc));
+    }
+    context::types(env.alloc, &env.functions.fun(fun).params)
+}
+
+/// How many positions the context has at each budget from 0 on.
+#[tactic(auto, using(crate::proofs::Calling::up_more, crate::proofs::Calling::up_end))]
+pub fn sizes(alloc: Global, types: &[Ty], top: u8) -> Result<Vec<usize>, AllocError>
+    ensures { IfOk result (λ found. found.items ≡ up (size_of (context_of types.now)) top) }
+{
+    let mut found = Vec::new(alloc);
+    for d in 0..u16::from(top) + 1 {
+        found.push(size(alloc, types, d as u8)?)?;
+    }
+    Ok(found)
+}
+
+/// The number at a budget; 0 past the greatest one.
+pub fn at_budget(sizes: &[usize], d: usize) -> usize
+    ensures { result ≡ at_budget sizes.now d }
+{
+    match sizes.get(d) {
+        Some(size) => *size,
+        None => 0,
+    }
+}
+
+// The blocks of budget at most `d`.
+fn blocks_at(alloc: Global, uses: &[Usage], d: u8) -> Result<Vec<u32>, AllocError>
+    ensures { IfOk result (λ found. found.items ≡ blocks_at d uses.now) }
+{
+    let mut found = Vec::new(alloc);
+    for usage in uses {
+        if usage.budget <= d {
+            found.push(usage.block)?;
+        }
+    }
+    Ok(found)
+}
+
+// The entries from positions below each of the numbers and to positions below the limit.
+fn all_restricted(
+    alloc: Global,
+    entries: &[Entry],
+    froms: &[usize],
+    limit: usize,
+) -> Result<Vec<Vec<Entry>>, AllocError>
+    ensures { IfOk result (λ found. map (λ es. es.items) found.items ≡ map (λ n. restricted n limit entries.now) froms.now) }
+{
+    let mut found = Vec::new(alloc);
+    for from in froms {
+        found.push(restricted(alloc, entries, *from, limit)?)?;
+    }
+    Ok(found)
+}
+
+// The call at a budget.
+fn called(alloc: Global, callee: &Callee, uses: &[Usage], d: u8) -> Result<Called, AllocError>
+    ensures { IfOk result (λ made. called_of made ≡ called_at callee.now uses.now d) }
+{
+    let args = at_budget(&callee.context, d as usize);
+    let result = at_budget(&callee.result, d as usize);
+    let args_from = all_restricted(alloc, &callee.operands, &callee.args, args)?;
+    let result_from = all_restricted(alloc, &callee.same, &callee.result, result)?;
+    Ok(Called {
+        function: callee.function,
+        own: callee.own,
+        usable: blocks_at(alloc, uses, d)?,
+        args,
+        result,
+        args_from,
+        result_from,
+    })
+}
+
+// The same as a plan.
+fn called_at(
+    alloc: Global,
+    nodes: u32,
+    callee: &Callee,
+    uses: &[Usage],
+    d: u8,
+) -> Result<Box<Plan>, AllocError>
+    ensures { IfOk result (λ made. plan_of made.value ≡ p.Calls nodes (called_at callee.now uses.now d)) }
+{
+    let called = called(alloc, callee, uses, d)?;
+    boxed(alloc, Plan::Calls(nodes, called))
+}
+
+// The call at all budgets.
+fn at_budgets(
+    env: &Env<'_>,
+    nodes: u32,
+    callee: &Callee,
+    uses: &[Usage],
+) -> Result<Vec<Box<Plan>>, AllocError>
+    ensures { IfOk result (λ made. made_of made.items ≡ map (λ d. p.Calls nodes (called_at callee.now uses.now d)) (down (λ d. d) env.now.top)) }
+{
+    let mut made = Vec::new(env.alloc);
+    for d in &budgets(env.alloc, env.top)? {
+        made.push(called_at(env.alloc, nodes, callee, uses, *d)?)?;
+    }
+    Ok(made)
+}
+
+// From the result to itself.
+fn same_entries(alloc: Global, types: &[Ty], d: u8) -> Result<Vec<Entry>, AllocError>
+    ensures { IfOk result (λ found. found.items ≡ entries_of (to (λ t. t)) (context_of types.now) d (context_of types.now) d) }
+{
+    let places = same_places(alloc, types, d)?;
+    let size = size(alloc, types, d)?;
+    placed(alloc, &places, size)
+}
+
+// How many positions there are, and the entries.
+fn made_once(
+    env: &Env<'_>,
+    fun: FunId,
+    args: &[u32],
+    context: &[(u32, Ty)],
+    ty: &Ty,
+) -> Result<Callee, AllocError>
+    ensures { IfOk result (λ made. IsCallee (given_of env.now) (parameters_of context.now) fun.0 args.now (ty_of ty.now) made) }
+{
+    let parameters = args_of(env, fun)?;
+    let types = context::types(env.alloc, context)?;
+    let result = context::alone(env.alloc, ty)?;
+    Ok(Callee {
+        function: fun.0 as usize,
+        own: place_in(env.group, fun),
+        args: sizes(env.alloc, &parameters, env.top)?,
+        context: sizes(env.alloc, &types, env.top)?,
+        result: sizes(env.alloc, &result, env.top)?,
+        operands: operand_entries(env.alloc, context, args, &parameters, env.top)?,
+        same: same_entries(env.alloc, &result, env.top)?,
+    })
+}
+
+/// The plans of a call with these arguments, which are the whole context.
+pub fn calls(
+    env: &Env<'_>,
+    nodes: u32,
+    fun: FunId,
+    args: &[u32],
+    context: &[(u32, Ty)],
+    ty: &Ty,
+) -> Result<Vec<Box<Plan>>, AllocError>
+    ensures { IfOk result (λ made. ArePlans (given_of env.now) (n.Call nodes fun.0 args.now) (parameters_of context.now) (ty_of ty.now) (made_of made.items)) }
+{
+    let callee = made_once(env, fun, args, context, ty)?;
+    at_budgets(env, nodes, &callee, env.earlier.usable(fun))
+}

@@ -1,0 +1,311 @@
+// The tuples of a `let`.
+ghost use Rattle.std.specs.Prelude.{◌≡◌, ◌≤◌, ◌-◌, ◌∷◌, ◌++◌, [], map, take, drop, IfOk};
+ghost use Rattle.std.specs.List.{All};
+ghost use Rattle.std.specs.Rc.{rc_value};
+ghost use Rattle.raml_syntax.specs.Read.{ty_of};
+ghost use Rattle.base_poly.specs.Plain.{degrees};
+ghost use Rattle.base_poly.specs.Indices.{index_list};
+ghost use Rattle.base_poly.specs.Read.{context_of};
+ghost use Rattle.normal_form.specs.Context.{types, inners, others};
+ghost use Rattle.normal_form.specs.Read.{norm_of, parameters_of};
+ghost use Rattle.annot_types.specs.Carried.{marks};
+ghost use Rattle.annot_types.specs.Rows.{size as size_of};
+ghost use Rattle.walk_rules.specs.Plan as p;
+ghost use Rattle.rule_walk.specs.Read.{plan_of, plans};
+ghost use Rattle.rule_walk.specs.Steps.{part_of};
+ghost use Rattle.rule_plan.specs.Down.{each_down, up};
+ghost use Rattle.rule_plan.specs.Given.{made_of};
+ghost use Rattle.rule_plan.specs.Entries.{halves};
+ghost use Rattle.rule_plan.specs.Wide.{at_budget, seam_of, seam_at, seams_from, part_at, parts_at, IsCut};
+
+use crate::budgets::{boxed, tail};
+use crate::called::{at_budget, sizes};
+use crate::context;
+use crate::entries::{picked, placed, restricted};
+use crate::free::marks;
+use crate::tuples::{half_places, joined_places, places_in, size, tuples};
+use base_poly::Tuple;
+use index_shift::Entry;
+use indexmap::IndexSet;
+use normal_form::NormExpr;
+use raml_syntax::Ty;
+use rule_walk::{Part, Parts, Plan, Step};
+use std::alloc::{AllocError, Global};
+use std::rc::Rc;
+
+/// A tuple of the variables that the bound form does not use, at the greatest budget: its degree, the
+/// map to the bound form's context, and the entries from the bound form's result to the context of
+/// the rest.
+#[derive(Drop)]
+pub struct Seam {
+    pub degree: usize,
+    pub there: Vec<Entry>,
+    pub joins: Vec<Entry>,
+}
+
+/// How many positions there are at each budget from 0 on: of the context, of what the bound form uses
+/// and what it does not, of its result, and of the context of the rest.
+#[derive(Drop)]
+pub struct Sizes {
+    pub context: Vec<usize>,
+    pub inner: Vec<usize>,
+    pub others: Vec<usize>,
+    pub bound: Vec<usize>,
+    pub rest: Vec<usize>,
+}
+
+/// What is made of a `let` once for all budgets.
+#[derive(Drop)]
+pub struct Cut {
+    pub sizes: Sizes,
+    pub seams: Vec<Seam>,
+}
+
+// The tuple at a budget.
+fn part(alloc: Global, sizes: &Sizes, seam: &Seam, d: usize) -> Result<Part, AllocError>
+    ensures { IfOk result (λ made. part_of made ≡ part_at sizes.now d (seam_of seam.now)) }
+{
+    let left = d.saturating_sub(seam.degree);
+    let inner = at_budget(&sizes.inner, left);
+    let bound = at_budget(&sizes.bound, left);
+    let there = restricted(alloc, &seam.there, at_budget(&sizes.context, d), inner)?;
+    let joins = restricted(alloc, &seam.joins, bound, at_budget(&sizes.rest, d))?;
+    Ok(Part {
+        there: Step {
+            size: inner,
+            entries: there,
+        },
+        size: bound,
+        joins,
+        degree: seam.degree,
+    })
+}
+
+// The first of some items, so many of them.
+fn front<T>(items: &[T], number: usize) -> &[T]
+    ensures { result.now ≡ take number items.now }
+{
+    if number < items.len() {
+        &items[..number]
+    } else {
+        items
+    }
+}
+
+// The tuples.
+fn listed(alloc: Global, sizes: &Sizes, seams: &[Seam], d: usize) -> Result<Vec<Part>, AllocError>
+    ensures { IfOk result (λ found. map part_of found.items ≡ map (part_at sizes.now d) (map seam_of seams.now)) }
+{
+    let mut found = Vec::new(alloc);
+    for seam in seams {
+        found.push(part(alloc, sizes, seam, d)?)?;
+    }
+    Ok(found)
+}
+
+// The tuples of degree at most `d`, at this budget.
+#[tactic(auto, using(crate::proofs::Downed::take_map))]
+fn parts(alloc: Global, cut: &Cut, d: usize) -> Result<Parts, AllocError>
+    ensures { IfOk result (λ made. made ≡ parts_at cut.now d) }
+{
+    let seams = front(&cut.seams, at_budget(&cut.sizes.others, d));
+    match Parts::new(listed(alloc, &cut.sizes, seams, d)?) {
+        Some(parts) => Ok(parts),
+        None => Err(AllocError),
+    }
+}
+
+// At one budget.
+fn bound_at(
+    alloc: Global,
+    nodes: u32,
+    cut: &Cut,
+    firsts: &[Rc<Plan>],
+    top: u8,
+    d: u8,
+    rest: Box<Plan>,
+) -> Result<Box<Plan>, AllocError>
+    requires below { d ≤ top }
+    ensures { IfOk result (λ made. plan_of made.value ≡ p.Lets nodes (parts_at cut.now d) (plans (drop (top - d) (map (λ r. plan_of (rc_value r)) firsts.now)))
+        (at_budget cut.now.sizes.rest.items d) (plan_of rest.value)) }
+{
+    let parts = parts(alloc, cut, d as usize)?;
+    let firsts = tail(alloc, firsts, (top - d) as usize)?;
+    let size = at_budget(&cut.sizes.rest, d as usize);
+    boxed(alloc, Plan::Lets(nodes, parts, firsts, size, rest))
+}
+
+/// The bound form for each tuple, and then these.
+pub fn lets(
+    alloc: Global,
+    nodes: u32,
+    cut: &Cut,
+    firsts: &[Rc<Plan>],
+    top: u8,
+    rests: Vec<Box<Plan>>,
+) -> Result<Vec<Box<Plan>>, AllocError>
+    ensures { IfOk result (λ made. made_of made.items ≡ each_down (λ d e. p.Lets nodes (parts_at cut.now d) (plans (drop (top - d) (map (λ r. plan_of (rc_value r)) firsts.now)))
+        (at_budget cut.now.sizes.rest.items d) e) top (made_of rests.items)) }
+{
+    let mut made = Vec::new(alloc);
+    let mut d = top;
+    for rest in rests {
+        made.push(bound_at(alloc, nodes, cut, firsts, top, d, rest)?)?;
+        d = d.saturating_sub(1);
+    }
+    Ok(made)
+}
+
+// Of each tuple of the context, where its two halves stand.
+fn halves_of(
+    alloc: Global,
+    a: &NormExpr,
+    context: &[(u32, Ty)],
+    inner: &[Ty],
+    others: &IndexSet<Tuple>,
+    top: u8,
+) -> Result<Vec<(usize, usize)>, AllocError>
+    ensures { IfOk result (λ found. found.items ≡ map (halves others.now.keys (index_list (context_of inner.now) top) (marks (norm_of a.now) (parameters_of context.now)))
+        (index_list (types (parameters_of context.now)) top)) }
+{
+    let marks = marks(alloc, a, context)?;
+    let types = context::types(alloc, context)?;
+    let tuples = tuples(alloc, &types, top)?;
+    let places = places_in(alloc, inner, top)?;
+    half_places(alloc, &marks, &tuples, others, &places)
+}
+
+// The tuple at this place.
+fn seam_for(
+    alloc: Global,
+    halves: &[(usize, usize)],
+    limit: usize,
+    bound: &[Tuple],
+    rest: &IndexSet<Tuple>,
+    counts: &[usize],
+    top: u8,
+    place: usize,
+    tuple: &Tuple,
+) -> Result<Seam, AllocError>
+    requires low { degrees tuple.now ≤ 255 }
+    ensures { IfOk result (λ made. seam_of made ≡ seam_at halves.now limit bound.now rest.now.keys counts.now top place tuple.now) }
+{
+    let degree = tuple.degree() as usize;
+    let there = picked(alloc, halves, place, limit)?;
+    let number = at_budget(counts, usize::from(top).saturating_sub(degree));
+    let targets = joined_places(alloc, tuple, front(bound, number), rest)?;
+    let joins = placed(alloc, &targets, rest.len())?;
+    Ok(Seam {
+        degree,
+        there,
+        joins,
+    })
+}
+
+// All of them.
+fn seams(
+    alloc: Global,
+    halves: &[(usize, usize)],
+    limit: usize,
+    bound: &[Tuple],
+    rest: &IndexSet<Tuple>,
+    counts: &[usize],
+    top: u8,
+    others: &[Tuple],
+) -> Result<Vec<Seam>, AllocError>
+    requires low { All (λ t. degrees t ≤ 255) others.now }
+    ensures { IfOk result (λ found. map seam_of found.items ≡ seams_from (seam_at halves.now limit bound.now rest.now.keys counts.now top) 0 others.now) }
+{
+    let mut found = Vec::new(alloc);
+    for (place, tuple) in others.iter().enumerate() {
+        found.push(seam_for(alloc, halves, limit, bound, rest, counts, top, place, tuple)?)?;
+    }
+    Ok(found)
+}
+
+// The same from the types alone.
+fn seams_of(
+    alloc: Global,
+    a: &NormExpr,
+    context: &[(u32, Ty)],
+    inner: &[Ty],
+    outer: &[Ty],
+    bound: &[Ty],
+    rest: &[Ty],
+    counts: &[usize],
+    top: u8,
+) -> Result<Vec<Seam>, AllocError>
+    ensures { IfOk result (λ found. map seam_of found.items ≡ seams_from (seam_at
+        (map (halves (index_list (context_of outer.now) top) (index_list (context_of inner.now) top) (marks (norm_of a.now) (parameters_of context.now))) (index_list (types (parameters_of context.now)) top))
+        (size_of (context_of inner.now) top) (index_list (context_of bound.now) top) (index_list (context_of rest.now) top) counts.now top) 0 (index_list (context_of outer.now) top)) }
+{
+    let others = places_in(alloc, outer, top)?;
+    let halves = halves_of(alloc, a, context, inner, &others, top)?;
+    let limit = size(alloc, inner, top)?;
+    let bound = tuples(alloc, bound, top)?;
+    let rest = places_in(alloc, rest, top)?;
+    let listed = tuples(alloc, outer, top)?;
+    seams(alloc, &halves, limit, &bound, &rest, counts, top, &listed)
+}
+
+// How many positions these contexts have.
+fn sizes_of(
+    alloc: Global,
+    whole: &[Ty],
+    inner: &[Ty],
+    outer: &[Ty],
+    bound: &[Ty],
+    rest: &[Ty],
+    top: u8,
+) -> Result<Sizes, AllocError>
+    ensures whole { IfOk result (λ s. s.context.items ≡ up (size_of (context_of whole.now)) top) }
+    ensures inner { IfOk result (λ s. s.inner.items ≡ up (size_of (context_of inner.now)) top) }
+    ensures others { IfOk result (λ s. s.others.items ≡ up (size_of (context_of outer.now)) top) }
+    ensures bound { IfOk result (λ s. s.bound.items ≡ up (size_of (context_of bound.now)) top) }
+    ensures rest { IfOk result (λ s. s.rest.items ≡ up (size_of (context_of rest.now)) top) }
+{
+    Ok(Sizes {
+        context: sizes(alloc, whole, top)?,
+        inner: sizes(alloc, inner, top)?,
+        others: sizes(alloc, outer, top)?,
+        bound: sizes(alloc, bound, top)?,
+        rest: sizes(alloc, rest, top)?,
+    })
+}
+
+/// Of a `let` with this bound form of this type, from the variables that it uses, those that it does
+/// not, and the context of the rest.
+pub fn cut_let(
+    alloc: Global,
+    a: &NormExpr,
+    context: &[(u32, Ty)],
+    inner: &[(u32, Ty)],
+    outer: &[(u32, Ty)],
+    bound: &Ty,
+    rest: &[(u32, Ty)],
+    top: u8,
+) -> Result<Cut, AllocError>
+    requires inner { parameters_of inner.now ≡ inners (norm_of a.now) (parameters_of context.now) }
+    requires outer { parameters_of outer.now ≡ others (norm_of a.now) (parameters_of context.now) }
+    requires rest { types (parameters_of rest.now) ≡ types (parameters_of outer.now) ++ ty_of bound.now ∷ [] }
+    ensures { IfOk result (λ made. IsCut (norm_of a.now) (parameters_of context.now) (ty_of bound.now) top made) }
+{
+    let whole = context::types(alloc, context)?;
+    let inner = context::types(alloc, inner)?;
+    let outer = context::types(alloc, outer)?;
+    let bound = context::alone(alloc, bound)?;
+    let rest = context::types(alloc, rest)?;
+    let sizes = sizes_of(alloc, &whole, &inner, &outer, &bound, &rest, top)?;
+    let seams = seams_of(
+        alloc,
+        a,
+        context,
+        &inner,
+        &outer,
+        &bound,
+        &rest,
+        &sizes.bound,
+        top,
+    )?;
+    Ok(Cut { sizes, seams })
+}

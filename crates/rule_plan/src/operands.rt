@@ -1,0 +1,68 @@
+// From operands that are the whole context to the context.
+ghost use Rattle.std.specs.Prelude.{◌≡◌, map, IfOk};
+ghost use Rattle.base_poly.specs.Indices.{index_list};
+ghost use Rattle.base_poly.specs.Read.{context_of};
+ghost use Rattle.index_shift.specs.Contexts.{permutation};
+ghost use Rattle.normal_form.specs.Context.{types};
+ghost use Rattle.normal_form.specs.Read.{parameters_of};
+ghost use Rattle.annot_types.specs.Carried.{operand_places};
+ghost use Rattle.annot_types.specs.Rows.{size as size_of};
+ghost use Rattle.walk_rules.specs.Planned.{operand_entries};
+ghost use Rattle.rule_plan.specs.Entries.{spot};
+
+use crate::context;
+use crate::entries::placed;
+use crate::tuples::{permuted_places, places_in, size, tuples};
+use index_shift::Entry;
+use raml_syntax::Ty;
+use std::alloc::{AllocError, Global};
+
+// The place of each operand, where those before it are taken out.
+fn operand_places(
+    alloc: Global,
+    context: &[(u32, Ty)],
+    operands: &[u32],
+) -> Result<Vec<usize>, AllocError>
+    ensures { IfOk result (λ found. found.items ≡ operand_places (parameters_of context.now) operands.now) }
+{
+    let mut found = Vec::new(alloc);
+    let mut rest = context::copied(alloc, context)?;
+    for x in operands {
+        found.push(context::place(&rest, *x))?;
+        rest = context::without(alloc, &rest, *x)?;
+    }
+    Ok(found)
+}
+
+// Where the tuples of the operands stand among those of the context.
+fn targets(
+    alloc: Global,
+    order: &[usize],
+    from: &[Ty],
+    to: &[Ty],
+    d: u8,
+) -> Result<Vec<usize>, AllocError>
+    ensures { IfOk result (λ found. found.items
+        ≡ map (λ t. spot (index_list (context_of to.now) d) (permutation order.now t)) (index_list (context_of from.now) d)) }
+{
+    let places = places_in(alloc, to, d)?;
+    let tuples = tuples(alloc, from, d)?;
+    permuted_places(alloc, order, &tuples, &places)
+}
+
+/// From operands of these types to the context, at one budget.
+pub fn operand_entries(
+    alloc: Global,
+    context: &[(u32, Ty)],
+    operands: &[u32],
+    from: &[Ty],
+    d: u8,
+) -> Result<Vec<Entry>, AllocError>
+    ensures { IfOk result (λ found. found.items ≡ operand_entries (parameters_of context.now) operands.now (context_of from.now) d d) }
+{
+    let order = operand_places(alloc, context, operands)?;
+    let to = context::types(alloc, context)?;
+    let targets = targets(alloc, &order, from, &to, d)?;
+    let size = size(alloc, &to, d)?;
+    placed(alloc, &targets, size)
+}
