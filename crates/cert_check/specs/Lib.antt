@@ -1,0 +1,6 @@
+pub mod Fault
+pub mod Finds
+pub mod Read
+pub mod Laws
+pub mod Checked
+pub mod Bound
