@@ -1,0 +1,4 @@
+pub mod SameCalls
+pub mod OneFault
+pub mod Fitting
+pub mod Faultless

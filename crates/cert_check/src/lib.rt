@@ -5,6 +5,7 @@
 mod checked;
 mod checking;
 mod fault;
+pub mod laws;
 
 pub use checked::Checked;
 pub use checking::check;
