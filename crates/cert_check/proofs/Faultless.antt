@@ -1,10 +1,12 @@
 -- A certificate without fault is held.
 use Rattle.std.proofs.Common.{◌≡◌, refl, ap, sym, ◌∙◌, subst, arith, inl, inr}
-use Rattle.std.specs.Prelude.{◌⊎◌, ℕ, zero, suc, ◌+◌, ◌<◌, pos, ◌||◌, Bool, true, false, cond, List, [], ◌∷◌, ◌++◌, map, length, take, slice_get, Option, None, Some}
+use Rattle.std.specs.Prelude.{◌⊎◌, ℕ, zero, suc, ◌+◌, ◌<◌, ◌<ℤ◌, pos, ◌||◌, Bool, true, false, cond, List, [], ◌∷◌, ◌++◌, map, length, take, slice_get, Option, None, Some}
 use Rattle.std.specs.Option.{option_map}
 use Rattle.std.specs.List.{list_any}
 use Rattle.std.proofs.lemmas.Option.{none-some, same_Some}
 use Rattle.std.proofs.lemmas.List.{append-nil, append_assoc}
+use Rattle.cost_free.specs.declared.task.Meter.{Meter}
+use Rattle.cost_free.specs.declared.task.Meter.TheVariants.{Ticks, Cells, Work}
 use Rattle.cost_free.specs.Task as k
 use Rattle.cost_free.specs.Task.{Task, Kind, Free, Outcome}
 use Rattle.cost_free.specs.Refused.{Plan, has_more, any_has_more, IsRefused}
@@ -12,7 +14,7 @@ use Rattle.cost_free.specs.Blocked.{row}
 use Rattle.annot_types.specs.Program.{Program, members, blocker_of}
 use Rattle.annot_types.specs.Certificate.{Sig, Hint, Body, Solved, Refuted, Calls, Block, Certificate, outcome}
 use Rattle.annot_types.specs.Holds.{Holds, ReachesTarget}
-use Rattle.annot_types.specs.Held.{Held, IsInPlace, HoldsInPlace, IsShaped, IsOne, IfSolved, NamesBlocker, before, scale_for}
+use Rattle.annot_types.specs.Held.{Held, IsInPlace, HoldsInPlace, IsShaped, IsOne, IfSolved, NamesBlocker, before, scale_of, scale_for}
 use Rattle.walk_rules.specs.Faults as f
 use Rattle.cert_check.specs.Fault.{Fault, TooLarge, Unless}
 use Rattle.cert_check.specs.Finds.{at_block, job_fault, large_in, or_task, large_from, schedule, GoesOn, refusal, next_after, IsScheduled, IsShapely, job, BodyFinds, BlockFinds, EndFinds, BlocksFind, FirstFault, HeadFits}
@@ -110,6 +112,11 @@ module _ (P : Program) (c : Certificate) where
       by task (Refuted farkas) e w h = record { task = e; waits = w; shape = (passed _ _ _ h).0; holds = tt }
       by task (Calls f) e w h = record { task = e; waits = w; shape = tt; holds = tt }
 
+scale : (c : Certificate) → HeadFits c → (meter : Meter) → pos 0 <ℤ scale_of c meter
+scale c h Ticks = h.ticks
+scale c h Cells = h.cells
+scale c h Work = h.work
+
 pub no_fault_is_held : NoFaultIsHeld
 no_fault_is_held P proper c h =
     let head = passed _ _ _ h in
@@ -117,7 +124,7 @@ no_fault_is_held P proper c h =
     record {
       least_degree = head.0.least;
       most_degree = head.0.most;
-      scales = head.0.scales;
+      scales = λ meter. scale c head.0 meter;
       blocks = λ place b e. in_place P c proper place b (all.0 place b e);
       ended = (passed _ _ _ (goes_on P c c.blocks _ all.1)).0;
     }

@@ -1,9 +1,13 @@
 -- The first fault of a certificate.
-use Rattle.std.specs.Prelude.{◌≡◌, ◌⊎◌, ◌≤◌, ◌<ℤ◌, ℕ, ◌+◌, pos, cond, nat_eq, List, [], ◌∷◌, ◌++◌, map, length, slice_get, Option, None, Some}
+use Rattle.std.specs.Prelude.{◌≡◌, ◌⊎◌, ◌≤◌, ◌<ℤ◌, ℕ, ◌+◌, pos, cond, nat_eq, ◌&&◌, List, [], ◌∷◌, ◌++◌, map, length, slice_get, slice_index_or, Option, None, Some}
 use Rattle.std.specs.Option.{option_map}
-use Rattle.std.specs.List.{All}
+use Rattle.std.specs.List.{All, list_any}
+use Rattle.base_poly.specs.Plain.{Plain, alike}
+use Rattle.base_poly.specs.Indices.{index_list}
 use Rattle.index_shift.specs.Potential.{Annotation}
-use Rattle.cost_free.specs.declared.task.Meter.{Meter}
+use Rattle.normal_form.specs.Norm.{NormFun}
+use Rattle.cost_free.specs.Target.{Target, targets}
+use Rattle.cost_free.specs.declared.task.Meter.TheVariants.{Ticks, Cells, Work}
 use Rattle.cost_free.specs.Task.{Task, Kind, Free, With}
 use Rattle.cost_free.specs.Refused.{Plan, has_more, IsRefused}
 use Rattle.annot_types.specs.Program.{Program, members, results, next_task, blocker_of}
@@ -15,8 +19,8 @@ use Rattle.walk_rules.specs.Numbers as n
 use Rattle.walk_rules.specs.Kinds.{Amount, amounts}
 use Rattle.walk_rules.specs.Tasks.{Job, of_bodies}
 use Rattle.walk_rules.specs.Tasks as t
-use Rattle.walk_rules.specs.Jobs.{job_of, target_place, target_positions}
-use Rattle.walk_rules.specs.Asked.{asked}
+use Rattle.walk_rules.specs.Jobs.{job_of, target_place}
+use Rattle.walk_rules.specs.Asked.{Ask, asked}
 use Rattle.walk_rules.specs.Stand.{Within}
 use Rattle.walk_rules.specs.Shape.{FitAsks, amounts_at, hints_at}
 use Rattle.walk_rules.specs.Faults as f
@@ -28,7 +32,9 @@ use Rattle.cert_check.specs.Fault.{Fault, Shape, Fails, Leaves, TooLarge, Unless
 pub record HeadFits (c : Certificate) : Type 0 where
   pub least : 1 ≤ c.degree
   pub most : c.degree ≤ 4
-  pub scales : (meter : Meter) → pos 0 <ℤ scale_of c meter
+  pub ticks : pos 0 <ℤ scale_of c Ticks
+  pub cells : pos 0 <ℤ scale_of c Cells
+  pub work : pos 0 <ℤ scale_of c Work
 
 -- Each function of the group has a signature, whose positions are those of its arguments and its result.
 abbrev pub SigsFit : List t.Body → List Sig → Type 0
@@ -36,20 +42,30 @@ SigsFit [] [] = Unit {0}
 SigsFit (b ∷ bs) (s ∷ ss) = Within b.args s.args × Within b.result s.result × SigsFit bs ss
 SigsFit _ _ = ⊥
 
+-- what the walks through the bodies ask for
+abbrev pub asks_by : List t.Body → List (List Ask)
+asks_by bs = map (λ (b : t.Body). asked b.plan) bs
+
+abbrev pub AllFit : List (List Ask) → List (List Hint) → Type 0
+AllFit [] [] = Unit {0}
+AllFit (asks ∷ rest) (hs ∷ hss) = FitAsks asks hs × AllFit rest hss
+AllFit _ _ = ⊥
+
 -- Each has hints, those that a walk through its body asks for.
 abbrev pub HintsFit : List t.Body → List (List Hint) → Type 0
-HintsFit [] [] = Unit {0}
-HintsFit (b ∷ bs) (hs ∷ hss) = FitAsks (asked b.plan) hs × HintsFit bs hss
-HintsFit _ _ = ⊥
+HintsFit bs hss = AllFit (asks_by bs) hss
 
 -- signatures and hints as they are walked
 abbrev pub sides_at : List t.Body → List Sig → List (n.Sides Amount)
 sides_at (b ∷ bs) (s ∷ ss) = record { args = amounts_at b.args s.args; result = amounts_at b.result s.result } ∷ sides_at bs ss
 sides_at _ _ = []
 
+abbrev pub hints_by : List (List Ask) → List (List Hint) → List (List (n.Hint Amount))
+hints_by (asks ∷ rest) (hs ∷ hss) = hints_at asks hs ∷ hints_by rest hss
+hints_by _ _ = []
+
 abbrev pub all_hints_at : List t.Body → List (List Hint) → List (List (n.Hint Amount))
-all_hints_at (b ∷ bs) (hs ∷ hss) = hints_at (asked b.plan) hs ∷ all_hints_at bs hss
-all_hints_at _ _ = []
+all_hints_at bs hss = hints_by (asks_by bs) hss
 
 -- of a condition of the block with this number
 abbrev pub at_block : ℕ → f.Fault → Fault
@@ -60,14 +76,14 @@ at_block number (f.Fails path index) = Fails number path index
 abbrev pub job_fault : Job → List Sig → List (List Hint) → Option f.Fault
 job_fault j sigs hints = first_fault (of_bodies (amounts 1) j (sides_at j.bodies sigs) 0 j.bodies (all_hints_at j.bodies hints))
 
--- the first of these positions at which the annotation has no number; 0 where there is none
-abbrev pub first_without : Annotation → List ℕ → ℕ
-first_without q [] = 0
-first_without q (k ∷ ks) = cond (nat_eq (q k) 0) k (first_without q ks)
+-- The first position, from this one on, at which the target has its tuple and the annotation has no number; 0 where there is none.
+abbrev pub missing_from : ℕ → Annotation → Target → List (List Plain) → ℕ
+missing_from k q target [] = 0
+missing_from k q target (t ∷ ts) = cond (list_any (alike t) target && nat_eq (q k) 0) k (missing_from (k + 1) q target ts)
 
-abbrev pub result_of : Option Sig → Annotation
-result_of None k = 0
-result_of (Some s) k = annotation s.result k
+abbrev pub missing_in : ℕ → ℕ → ℕ → Option NormFun → Option Sig → ℕ
+missing_in d budget number (Some g) (Some s) = missing_from 0 (annotation s.result) (slice_index_or (targets g.result d) number []) (index_list (g.result ∷ []) budget)
+missing_in d budget number _ _ = 0
 
 -- the first of these functions whose result has more than 2000 indices: its first target at the greatest budget
 abbrev pub large_in : Plan → ℕ → List ℕ → Option Task
@@ -123,22 +139,32 @@ module _ (P : Program) (c : Certificate) where
   abbrev pub block_of : Task → Body → Block
   block_of task body = record { task = task; body = body }
 
-  -- Where the target is not reached: at its function, and at the first of the target's positions at which the function's result has no number.
-  abbrev pub missed_at : ℕ → Task → Kind → List Sig → Fault
-  missed_at number task (Free budget f target) sigs = Fails number (target_place (members P task.group) (Free budget f target) ∷ [])
-      (first_without (result_of (sig_among (members P task.group) sigs f)) (target_positions P c.degree (Free budget f target)))
-  missed_at number task (With meter) sigs = Fails number [] 0
+  -- Where the target is not reached: at its function, and at the first of its positions at which the function's result has no number.
+  abbrev pub missed_at : ℕ → List ℕ → List Sig → Kind → Fault
+  missed_at number group sigs (Free budget f target) = Fails number (target_place group (Free budget f target) ∷ [])
+      (missing_in c.degree budget target (slice_get P.funs f) (sig_among group sigs f))
+  missed_at number group sigs (With meter) = Fails number [] 0
 
-  abbrev pub missed : ℕ → Task → List Sig → Fault
-  missed number task sigs = missed_at number task task.kind sigs
+  -- what is found in the rules, which are tried last
+  abbrev pub RulesFind : List Block → Task → List Sig → List (List Hint) → Option Fault → Type 0
+  RulesFind earlier task sigs hints found = found ≡ option_map (at_block (length earlier)) (job_fault (job earlier task) sigs hints)
+
+  -- in the target, and then in the rules
+  abbrev pub TargetFinds : List Block → Task → List Sig → List (List Hint) → Option Fault → Type 0
+  TargetFinds earlier task sigs hints found =
+      Unless (ReachesTarget P c.degree (block_of task (Solved sigs hints)) 1 task.kind) (Some (missed_at (length earlier) (members P task.group) sigs task.kind)) found
+      (RulesFind earlier task sigs hints found)
+
+  -- in the shape first
+  abbrev pub ShapeFinds : List Block → Task → List Sig → List (List Hint) → Option Fault → Type 0
+  ShapeFinds earlier task sigs hints found =
+      Unless (IsShapely earlier task sigs hints) (Some (Shape (length earlier))) found (TargetFinds earlier task sigs hints found)
 
   -- what is found in a block of the schedule
   abbrev pub BodyFinds : List Block → Task → Body → Option Fault → Type 0
   BodyFinds earlier task (Solved sigs hints) found =
       Unless (AreWithin task) (Some (TooLarge task)) found
-      (Unless (IsShapely earlier task sigs hints) (Some (Shape (length earlier))) found
-      (Unless (ReachesTarget P c.degree (block_of task (Solved sigs hints)) 1 task.kind) (Some (missed (length earlier) task sigs)) found
-      (found ≡ option_map (at_block (length earlier)) (job_fault (job earlier task) sigs hints))))
+      (ShapeFinds earlier task sigs hints found)
   BodyFinds earlier task (Refuted farkas) found = Unless (Rise farkas) (Some (Shape (length earlier))) found (found ≡ None)
   BodyFinds earlier task (Calls fun) found = found ≡ None
 

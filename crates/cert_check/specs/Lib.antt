@@ -1,5 +1,9 @@
 pub mod Fault
 pub mod Finds
+pub mod Asking
+pub mod Covering
+pub mod Judged
+pub mod Judging
 pub mod Read
 pub mod Laws
 pub mod Checked

@@ -2,10 +2,16 @@
 //! first fault.
 #![tactic(auto)]
 
+mod amounts;
 mod checked;
 mod checking;
 mod fault;
+mod head;
+mod judge;
 pub mod laws;
+mod rules;
+mod shape;
+mod target;
 
 pub use checked::Checked;
 pub use checking::check;
