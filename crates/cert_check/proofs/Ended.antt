@@ -1,13 +1,13 @@
 -- Lists that are made until one of two has come to its end.
 use Rattle.std.proofs.Common.{◌≡◌, refl, ap, sym, ◌∙◌, arith}
-use Rattle.std.specs.Prelude.{ℕ, ◌<◌, List, [], ◌∷◌, ◌++◌, length, None}
+use Rattle.std.specs.Prelude.{ℕ, suc, ◌<◌, List, [], ◌∷◌, ◌++◌, length, None}
 use Rattle.std.proofs.lemmas.List.{append-nil}
 use Rattle.annot_types.specs.Certificate.{Entries, Sig, Hint}
 use Rattle.annot_types.specs.Signature.{sig_among}
 use Rattle.walk_rules.specs.Tasks as t
 use Rattle.walk_rules.specs.Asked.{Ask}
 use Rattle.walk_rules.specs.Shape.{each_amounts, hints_at}
-use Rattle.cert_check.specs.Finds.{sides_at}
+use Rattle.cert_check.specs.Finds.{AllFit, sides_at}
 
 pub all_made : {X : Type 0} (made tail all : List X) → tail ≡ [] → made ++ tail ≡ all → made ≡ all
 all_made made tail all e h = sym (append-nil made) ∙ ap (λ t. made ++ t) (sym e) ∙ h
@@ -31,3 +31,9 @@ pub none_signed : (fs : List ℕ) (ss : List Sig) (f : ℕ) → length ss ≡ 0 
 none_signed [] [] f h = refl
 none_signed (g ∷ fs) [] f h = refl
 none_signed fs (s ∷ ss) f h = absurd (omega (arith, h))
+
+pub fit_length : (asks : List (List Ask)) (hss : List (List Hint)) → AllFit asks hss → length hss ≡ length asks
+fit_length [] [] h = refl
+fit_length [] (x ∷ hss) h = absurd h
+fit_length (a ∷ asks) [] h = absurd h
+fit_length (a ∷ asks) (x ∷ hss) h = ap suc (fit_length asks hss h.1)

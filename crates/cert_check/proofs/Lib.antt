@@ -6,3 +6,9 @@ pub mod Comparing
 pub mod Ended
 pub mod Hearing
 pub mod Walked
+pub mod Telling
+pub mod Covered
+pub mod Results
+pub mod Reaching
+pub mod Tasks
+pub mod Members

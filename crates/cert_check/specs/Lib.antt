@@ -2,6 +2,9 @@ pub mod Fault
 pub mod Finds
 pub mod Asking
 pub mod Covering
+pub mod Same
+pub mod Results
+pub mod At
 pub mod Judged
 pub mod Judging
 pub mod Read

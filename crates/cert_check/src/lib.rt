@@ -3,14 +3,19 @@
 #![tactic(auto)]
 
 mod amounts;
+mod at;
+mod block;
 mod checked;
 mod checking;
 mod fault;
 mod head;
 mod judge;
 pub mod laws;
+mod planned;
+mod reached;
 mod rules;
 mod shape;
+mod solved;
 mod target;
 
 pub use checked::Checked;
