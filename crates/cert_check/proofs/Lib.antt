@@ -12,3 +12,6 @@ pub mod Results
 pub mod Reaching
 pub mod Tasks
 pub mod Members
+pub mod Going
+pub mod SameTask
+pub mod Walking

@@ -1,5 +1,8 @@
 -- The functions of groups.
-use Rattle.std.proofs.Common.{◌≡◌, refl, ap, sym, ◌∙◌, arith}
+use Rattle.std.proofs.Common.{◌≡◌, refl, ap, sym, ◌∙◌, subst, arith}
+use Rattle.std.proofs.lemmas.List.{length-map}
+use Rattle.normal_form.specs.Two.{norm, norm_fun}
+use Rattle.annot_types.specs.Held.{IfSolved}
 use Rattle.std.specs.Prelude.{ℕ, zero, suc, ◌<◌, ◌||◌, Bool, true, false, nat_eq, List, [], ◌∷◌, ◌++◌, map, length, slice_get, Option, None, Some}
 use Rattle.std.specs.List.{Contains}
 use Rattle.annot_types.specs.Program.{Program}
@@ -28,7 +31,7 @@ reaching P f g (there {g = h} c r) l = by (slice_get P f) refl c where
   by (Some x) e c = slice_get_within P f x e
 
 -- functions, each named once
-AreFunctions : ℕ → List ℕ → Type 0
+pub AreFunctions : ℕ → List ℕ → Type 0
 AreFunctions n [] = Unit {0}
 AreFunctions n (f ∷ fs) = (f < n) × (is_among f fs ≡ false) × AreFunctions n fs
 
@@ -79,3 +82,13 @@ have_sizes P group earlier budget (f ∷ fs) h =
       args = ap (λ o. (body_of P group earlier budget o).args) g.1;
       result = ap (λ o. (body_of P group earlier budget o).result) g.1;
     }, h.1, have_sizes P group earlier budget fs h.2)
+
+pub if_solved_more : (body : c.Body) (A B : Type 0) → (A → B) → IfSolved body A → IfSolved body B
+if_solved_more (c.Solved sigs hints) A B h k = h k
+if_solved_more (c.Refuted farkas) A B h k = tt
+if_solved_more (c.Calls f) A B h k = tt
+
+-- of a program and its normal form
+pub functions_are : (P : Prog) (N : NormProg) (groups : List (List ℕ)) → N ≡ norm P → AreInOrder P [] groups → (k : ℕ) → AreFunctions (length N) (row groups k)
+functions_are P N groups e h k =
+    subst (λ n. AreFunctions n (row groups k)) (sym (ap length e ∙ length-map P (norm_fun P))) (members_are P [] groups h k)

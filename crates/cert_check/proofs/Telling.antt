@@ -7,7 +7,7 @@ use Rattle.cert_check.specs.Read.{fault_of, OfFault}
 use Rattle.cert_check.specs.At.{Tells}
 use Rattle.cert_check.specs.declared.fault.CertFault.{CertFault}
 
-of_fault : (o : Option f.Fault) (A B : Option f.Fault → Type 0) → ((x : Option f.Fault) → A x → B x) → OfFault o A → OfFault o B
+pub of_fault : (o : Option f.Fault) (A B : Option f.Fault → Type 0) → ((x : Option f.Fault) → A x → B x) → OfFault o A → OfFault o B
 of_fault None A B h k = tt
 of_fault (Some x) A B h k = h (Some x) k
 

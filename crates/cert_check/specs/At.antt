@@ -3,7 +3,9 @@ use Rattle.std.specs.Prelude.{◌≡◌, ℕ, List, length, map, slice_get, Opti
 use Rattle.cost_free.specs.Read.{task_of}
 use Rattle.annot_types.specs.Program.{Program, members}
 use Rattle.annot_types.specs.Signature.{sig_among}
-use Rattle.annot_types.specs.Holds.{Reaches}
+use Rattle.annot_types.specs.Holds.{Reaches, budget_of}
+use Rattle.cost_free.specs.Task.{Task}
+use Rattle.walk_rules.specs.Jobs.{body_of}
 use Rattle.annot_types.specs.Certificate as c
 use Rattle.annot_types.specs.Read.{certificate_of}
 use Rattle.earlier_blocks.specs.Remembers.{Remembers}
@@ -48,3 +50,8 @@ module _ (at : At) (sigs : List c.Sig) (budget fun target : ℕ) where
 -- how many positions functions have
 abbrev pub sizes_of : List t.Body → List (ℕ × ℕ)
 sizes_of bs = map (λ (b : t.Body). (b.args, b.result)) bs
+
+-- those of a task's group have so many
+abbrev pub sizes_in : Program → ℕ → List c.Block → Task → List (ℕ × ℕ)
+sizes_in P d blocks task =
+    sizes_of (map (λ f. body_of P (members P task.group) blocks (budget_of d task.kind) (slice_get P.funs f)) (members P task.group))

@@ -168,12 +168,14 @@ module _ (P : Program) (c : Certificate) where
   BodyFinds earlier task (Refuted farkas) found = Unless (Rise farkas) (Some (Shape (length earlier))) found (found ≡ None)
   BodyFinds earlier task (Calls fun) found = found ≡ None
 
-  -- what is found in the block after these
+  -- what is found in the block after these, where the schedule goes on
+  abbrev pub ScheduledFinds : List Block → Block → Option Fault → Type 0
+  ScheduledFinds earlier block found =
+      Unless (IsScheduled earlier block) (Some (Shape (length earlier))) found (BodyFinds earlier block.task block.body found)
+
+  -- what is found in it
   abbrev pub BlockFinds : List Block → Block → Option Fault → Type 0
-  BlockFinds earlier block found =
-      Unless (GoesOn earlier) refusal found
-      (Unless (IsScheduled earlier block) (Some (Shape (length earlier))) found
-      (BodyFinds earlier block.task block.body found))
+  BlockFinds earlier block found = Unless (GoesOn earlier) refusal found (ScheduledFinds earlier block found)
 
   -- what is found at the end, where the schedule has to have ended
   abbrev pub EndFinds : List Block → Option Fault → Type 0

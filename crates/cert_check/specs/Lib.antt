@@ -2,6 +2,7 @@ pub mod Fault
 pub mod Finds
 pub mod Asking
 pub mod Covering
+pub mod Course
 pub mod Same
 pub mod Results
 pub mod At

@@ -56,6 +56,17 @@ impl<'p, 'a> Model for Checked<'p, 'a> {
     ghost invariant = { λ checked. Held (program_in checked.program.now) (certificate_of checked.certificate) };
 }
 
+// A certificate that is held is kept.
+pub fn keep<'p, 'a>(program: &'p NormProgram<'a>, certificate: Certificate) -> Checked<'p, 'a>
+    requires { Held (program_in program.now) (certificate_of certificate) }
+    ensures { result ≡ record { program = program.now; certificate = certificate_of certificate } }
+{
+    Checked {
+        program,
+        certificate,
+    }
+}
+
 impl<'p, 'a> Checked<'p, 'a> {
     /// The certificate that was checked.
     pub fn certificate(&self) -> &Certificate

@@ -5,14 +5,17 @@
 mod amounts;
 mod at;
 mod block;
+mod blocks;
 mod checked;
 mod checking;
+mod course;
 mod fault;
 mod head;
 mod judge;
 pub mod laws;
 mod planned;
 mod reached;
+mod refusal;
 mod rules;
 mod shape;
 mod solved;
