@@ -1,11 +1,11 @@
 -- The totals of conditions.
 use Rattle.std.proofs.Common.{◌≡◌, refl, ap, sym, ◌∙◌, arith}
-use Rattle.std.specs.Prelude.{ℕ, zero, suc, ◌+◌, ◌-◌, ◌<◌, ◌≤◌, ◌^◌, min, ◌||◌, Bool, true, false, cond, nat_lt, nat_le, List, [], ◌∷◌, drop, length, slice_index_or, Option, None, Some}
+use Rattle.std.specs.Prelude.{ℕ, zero, suc, ◌+◌, ◌-◌, ◌<◌, ◌^◌, min, ◌||◌, Bool, true, false, cond, nat_lt, nat_le, List, [], ◌∷◌, drop, length, slice_index_or, None, Some}
 use Rattle.std.proofs.lemmas.Bool.Decides.{nat_tests}
 use Rattle.walk_rules.specs.Numbers.{Numbers, Condition}
 use Rattle.walk_rules.specs.Kinds.{Amount, total_left, total_right}
 use Rattle.walk_rules.specs.Walk.{at, against, numbered}
-use Rattle.walk_rules.specs.Faults.{Fault, Leaves, Fails, fault_at, or_fault, first_fault}
+use Rattle.walk_rules.specs.Faults.{Leaves, Fails, fault_at, or_fault, first_fault}
 use Rattle.walk_rules.specs.Capped.{capped}
 
 too_great_capped : (n : ℕ) → nat_le (2 ^ 127) (min n (2 ^ 128 - 1)) ≡ nat_le (2 ^ 127) n
@@ -21,16 +21,18 @@ compared c tl tr e h =
     (λ i. cond (nat_le (2 ^ 127) (e i) || nat_le (2 ^ 127) (h i)) (Some (Leaves c.path c.index)) (cond (nat_lt (e i) (h i)) (Some (Fails c.path c.index)) None))
     ∙ (λ i. cond (too_great_capped l i || too_great_capped r i) (Some (Leaves c.path c.index)) (cond (nat_lt (min l (2 ^ 128 - 1)) (min r (2 ^ 128 - 1))) (Some (Fails c.path c.index)) None))
     ∙ by (nat_le (2 ^ 127) l) (nat_le (2 ^ 127) r) refl refl where
-  l : ℕ
-  l = total_left c
-  r : ℕ
-  r = total_right c
-  by : (a b : Bool) → nat_le (2 ^ 127) (total_left c) ≡ a → nat_le (2 ^ 127) (total_right c) ≡ b →
-      cond (a || b) (Some (Leaves c.path c.index)) (cond (nat_lt (min (total_left c) (2 ^ 128 - 1)) (min (total_right c) (2 ^ 128 - 1))) (Some (Fails c.path c.index)) None)
-      ≡ cond (a || b) (Some (Leaves c.path c.index)) (cond (nat_lt (total_left c) (total_right c)) (Some (Fails c.path c.index)) None)
-  by true b e h = refl
-  by false true e h = refl
-  by false false e h = ap (λ t. cond t (Some (Fails c.path c.index)) None) (less_capped (total_left c) (total_right c) e h)
+      l : ℕ
+      l = total_left c
+
+      r : ℕ
+      r = total_right c
+
+      by : (a b : Bool) → nat_le (2 ^ 127) (total_left c) ≡ a → nat_le (2 ^ 127) (total_right c) ≡ b →
+          cond (a || b) (Some (Leaves c.path c.index)) (cond (nat_lt (min (total_left c) (2 ^ 128 - 1)) (min (total_right c) (2 ^ 128 - 1))) (Some (Fails c.path c.index)) None)
+          ≡ cond (a || b) (Some (Leaves c.path c.index)) (cond (nat_lt (total_left c) (total_right c)) (Some (Fails c.path c.index)) None)
+      by true b e h = refl
+      by false true e h = refl
+      by false false e h = ap (λ t. cond t (Some (Fails c.path c.index)) None) (less_capped (total_left c) (total_right c) e h)
 
 -- both sides from a place on
 nothing_at : {E : Type 0} (A : Numbers E) (ys : List E) (k : ℕ) (d : E) → k < length ys →

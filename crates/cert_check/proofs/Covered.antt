@@ -1,10 +1,10 @@
 -- When an annotation covers a target.
 use Rattle.std.proofs.Common.{◌≡◌, refl, ap, sym, ◌∙◌, subst, arith}
-use Rattle.std.specs.Prelude.{ℕ, zero, suc, ◌+◌, ◌<◌, ◌≤◌, nat_lt, Bool, true, false, cond, ◌&&◌, List, [], ◌∷◌, slice_get, slice_index_or, Option, None, Some, position}
+use Rattle.std.specs.Prelude.{ℕ, zero, suc, ◌+◌, ◌≤◌, nat_lt, Bool, true, false, cond, ◌&&◌, List, [], ◌∷◌, slice_get, slice_index_or, None, Some}
 use Rattle.std.specs.List.{position_from}
 use Rattle.std.proofs.lemmas.Option.{none-some, same_Some, get_or_from_slice_get}
 use Rattle.std.proofs.lemmas.Iterator.Adapters.{position_from-zero}
-use Rattle.std.proofs.lemmas.Bool.{ltb-true, ltb-false, lt-ltb}
+use Rattle.std.proofs.lemmas.Bool.{ltb-true, ltb-false}
 use Rattle.raml_syntax.specs.Tree.{Type'}
 use Rattle.base_poly.specs.Plain.{Plain, alike}
 use Rattle.base_poly.specs.Indices.{index_list}
@@ -70,6 +70,7 @@ module _ (A : Type') (d budget number : ℕ) (q : Annotation) where
     none_there [] k e = refl
     none_there (t ∷ ts) zero e = absurd (none-some t (sym e))
     none_there (t ∷ ts) (suc k) e = none_there ts k e
+
     none_missing : (k : ℕ) (ts : List (List Plain)) → missing_from k q [] ts ≡ 0
     none_missing k [] = refl
     none_missing k (t ∷ ts) = none_missing (k + 1) ts

@@ -1,8 +1,7 @@
 -- A certificate without fault is held.
-use Rattle.std.proofs.Common.{◌≡◌, refl, ap, sym, ◌∙◌, subst, arith, inl, inr}
-use Rattle.std.specs.Prelude.{◌⊎◌, ℕ, zero, suc, ◌+◌, ◌<◌, ◌<ℤ◌, pos, ◌||◌, Bool, true, false, cond, List, [], ◌∷◌, ◌++◌, map, length, take, slice_get, Option, None, Some}
+use Rattle.std.proofs.Common.{◌≡◌, refl, sym, ◌∙◌, subst, arith, inl, inr}
+use Rattle.std.specs.Prelude.{ℕ, zero, suc, ◌+◌, ◌<ℤ◌, pos, ◌||◌, Bool, true, false, cond, List, [], ◌∷◌, ◌++◌, map, length, take, slice_get, Option, None, Some}
 use Rattle.std.specs.Option.{option_map}
-use Rattle.std.specs.List.{list_any}
 use Rattle.std.proofs.lemmas.Option.{none-some, same_Some}
 use Rattle.std.proofs.lemmas.List.{append-nil, append_assoc}
 use Rattle.cost_free.specs.declared.task.Meter.{Meter}
@@ -11,13 +10,12 @@ use Rattle.cost_free.specs.Task as k
 use Rattle.cost_free.specs.Task.{Task, Kind, Free, Outcome}
 use Rattle.cost_free.specs.Refused.{Plan, has_more, any_has_more, IsRefused}
 use Rattle.cost_free.specs.Blocked.{row}
-use Rattle.annot_types.specs.Program.{Program, members, blocker_of}
-use Rattle.annot_types.specs.Certificate.{Sig, Hint, Body, Solved, Refuted, Calls, Block, Certificate, outcome}
-use Rattle.annot_types.specs.Holds.{Holds, ReachesTarget}
-use Rattle.annot_types.specs.Held.{Held, IsInPlace, HoldsInPlace, IsShaped, IsOne, IfSolved, NamesBlocker, before, scale_of, scale_for}
+use Rattle.annot_types.specs.Program.{Program, blocker_of}
+use Rattle.annot_types.specs.Certificate.{Body, Solved, Refuted, Calls, Block, Certificate, outcome}
+use Rattle.annot_types.specs.Held.{IsInPlace, IsOne, NamesBlocker, before, scale_of, scale_for}
 use Rattle.walk_rules.specs.Faults as f
 use Rattle.cert_check.specs.Fault.{Fault, TooLarge, Unless}
-use Rattle.cert_check.specs.Finds.{at_block, job_fault, large_in, or_task, large_from, schedule, GoesOn, refusal, next_after, IsScheduled, IsShapely, job, BodyFinds, BlockFinds, EndFinds, BlocksFind, FirstFault, HeadFits}
+use Rattle.cert_check.specs.Finds.{at_block, large_in, or_task, large_from, schedule, GoesOn, refusal, next_after, BodyFinds, BlockFinds, EndFinds, BlocksFind, HeadFits}
 use Rattle.cert_check.specs.Laws.{IsProper, NoFaultIsHeld}
 use Rattle.cert_check.proofs.Fitting.{block_holds}
 
@@ -65,6 +63,7 @@ module _ (P : Program) (c : Certificate) where
   blocks_pass earlier (b ∷ bs) (inl h) = by (blocks_pass (earlier ++ b ∷ []) bs h.1) where
     same : (xs : List Block) → (earlier ++ b ∷ []) ++ xs ≡ earlier ++ b ∷ xs
     same xs = append_assoc earlier (b ∷ []) xs
+
     by : ((k : ℕ) (d : Block) → slice_get bs k ≡ Some d → BlockFinds P c ((earlier ++ b ∷ []) ++ take k bs) d None) × EndFinds P c ((earlier ++ b ∷ []) ++ bs) None →
         ((k : ℕ) (d : Block) → slice_get (b ∷ bs) k ≡ Some d → BlockFinds P c (earlier ++ take k (b ∷ bs)) d None) × EndFinds P c (earlier ++ b ∷ bs) None
     by r = (each, subst (λ xs. EndFinds P c xs None) (same bs) r.1) where
@@ -87,30 +86,30 @@ module _ (P : Program) (c : Certificate) where
     in_place place b h =
         let scheduled = passed _ _ _ (goes_on (before c place) _ h) in
         by b.task b.body scheduled.0.task scheduled.0.waits scheduled.1 where
-      by : (task : Task) (body : Body) → next_after P c (before c place) ≡ Some task → NamesBlocker (blocker_of P task (map outcome (before c place))) body → BodyFinds P c (before c place) task body None →
-          IsInPlace P c place (record { task = task; body = body })
-      by task (Solved sigs hints) e w h =
-          let within = passed _ _ _ h in
-          let shape = passed _ _ _ within.1 in
-          let reach = passed _ _ _ shape.1 in
-          record {
-            task = e;
-            waits = w;
-            shape = (shape.0.sigs_rise, shape.0.hints_rise);
-            holds = record {
-              t = 1;
-              one = one_is_one task.kind;
-              holds = record {
-                positive = omega arith;
-                solved = tt;
-                functions = block_holds P proper c.degree (before c place) (scale_for c task.kind) task sigs hints shape.0.sigs_fit shape.0.hints_fit
-                    (none_at (length (before c place)) _ reach.1);
-                reaches = reach.0;
-              };
-            };
-          }
-      by task (Refuted farkas) e w h = record { task = e; waits = w; shape = (passed _ _ _ h).0; holds = tt }
-      by task (Calls f) e w h = record { task = e; waits = w; shape = tt; holds = tt }
+          by : (task : Task) (body : Body) → next_after P c (before c place) ≡ Some task → NamesBlocker (blocker_of P task (map outcome (before c place))) body → BodyFinds P c (before c place) task body None →
+              IsInPlace P c place (record { task = task; body = body })
+          by task (Solved sigs hints) e w h =
+              let within = passed _ _ _ h in
+              let shape = passed _ _ _ within.1 in
+              let reach = passed _ _ _ shape.1 in
+              record {
+                task = e;
+                waits = w;
+                shape = (shape.0.sigs_rise, shape.0.hints_rise);
+                holds = record {
+                  t = 1;
+                  one = one_is_one task.kind;
+                  holds = record {
+                    positive = omega arith;
+                    solved = tt;
+                    functions = block_holds P proper c.degree (before c place) (scale_for c task.kind) task sigs hints shape.0.sigs_fit shape.0.hints_fit
+                        (none_at (length (before c place)) _ reach.1);
+                    reaches = reach.0;
+                  };
+                };
+              }
+          by task (Refuted farkas) e w h = record { task = e; waits = w; shape = (passed _ _ _ h).0; holds = tt }
+          by task (Calls f) e w h = record { task = e; waits = w; shape = tt; holds = tt }
 
 scale : (c : Certificate) → HeadFits c → (meter : Meter) → pos 0 <ℤ scale_of c meter
 scale c h Ticks = h.ticks

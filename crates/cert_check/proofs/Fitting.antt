@@ -1,6 +1,6 @@
 -- Where all conditions of the bodies are met, the functions of a group hold.
 use Rattle.std.proofs.Common.{◌≡◌, refl, ap, sym, ◌∙◌, subst, arith}
-use Rattle.std.specs.Prelude.{ℕ, zero, suc, ◌+◌, ◌*◌, ◌<◌, ◌≤◌, ◌||◌, Bool, true, false, cond, nat_lt, nat_le, List, [], ◌∷◌, ◌++◌, map, length, slice_get, slice_index_or, Option, None, Some}
+use Rattle.std.specs.Prelude.{ℕ, suc, ◌+◌, ◌*◌, ◌≤◌, ◌||◌, Bool, true, false, cond, nat_lt, nat_le, List, [], ◌∷◌, ◌++◌, map, length, slice_get, slice_index_or, Option, None, Some}
 use Rattle.std.proofs.lemmas.Option.{none-some}
 use Rattle.std.proofs.lemmas.Bool.{ltb-false}
 use Rattle.normal_form.specs.Norm.{NormFun}
@@ -180,14 +180,15 @@ module _ (P : Program) (proper : IsProper P) (d : ℕ) (earlier : List Block) (t
         let e : slice_get P.funs f ≡ Some g = all.0.1 in
         let b = body (slice_get P.funs f) in
         let both = both_meet (of_body (amounts 1) J whole place b (hints_at (asked b.plan) hs)).found
-            (of_bodies (amounts 1) J whole (suc place) (bodies fs) (all_hints_at (bodies fs) hss)) m in
-        (function_holds place f g e s hs
-        (subst (λ o. Within (body o).args s.args × Within (body o).result s.result) e (sf.0, sf.1))
-        (subst (λ o. FitAsks (asked (body o).plan) hs) e hf.0)
-        (ap (λ j. slice_index_or whole j none) (omega arith) ∙ at 0 ∙ ap (λ o. sides (signature o budget (Some s))) e)
-        (subst (λ o. AllMeet (of_body (amounts 1) J whole place (body o) (hints_at (asked (body o).plan) hs)).found) e both.0),
-        functions_hold (suc place) fs ss hss all.1 sf.2 hf.1
-        (λ j. ap (λ i. slice_index_or whole i none) (omega arith) ∙ at (suc j)) both.1)
+        (of_bodies (amounts 1) J whole (suc place) (bodies fs) (all_hints_at (bodies fs) hss)) m in (
+          function_holds place f g e s hs
+              (subst (λ o. Within (body o).args s.args × Within (body o).result s.result) e (sf.0, sf.1))
+              (subst (λ o. FitAsks (asked (body o).plan) hs) e hf.0)
+              (ap (λ j. slice_index_or whole j none) (omega arith) ∙ at 0 ∙ ap (λ o. sides (signature o budget (Some s))) e)
+              (subst (λ o. AllMeet (of_body (amounts 1) J whole place (body o) (hints_at (asked (body o).plan) hs)).found) e both.0),
+          functions_hold (suc place) fs ss hss all.1 sf.2 hf.1
+              (λ j. ap (λ i. slice_index_or whole i none) (omega arith) ∙ at (suc j)) both.1,
+        )
 
 -- The functions of a block hold over the blocks before it, where its conditions have no fault.
 pub block_holds : (P : Program) → IsProper P → (d : ℕ) (earlier : List Block) (scale : ℕ) (task : Task) (sigs : List Sig) (hints : List (List Hint)) →
@@ -209,7 +210,8 @@ block_holds P proper d earlier scale task sigs hints sf hf e =
     (functions_hold P proper d earlier task scale sigs sf 0 fs sigs hints (proper.there task.group) sf hf
     (λ k. ap (λ j. slice_index_or (group_from (here P proper d earlier task scale sigs) fs sigs) j (record { args = []; result = [] })) (zero_plus k))
     (all_meet _ (ap (λ group. first_fault (of_bodies (amounts 1) j group 0 j.bodies (all_hints_at j.bodies hints))) (sym (sides_are P proper d earlier task scale sigs fs sigs)) ∙ e))) where
-  times_one : (n : ℕ) → n ≡ n * 1
-  times_one n = omega arith
-  zero_plus : (n : ℕ) → 0 + n ≡ n
-  zero_plus n = omega arith
+      times_one : (n : ℕ) → n ≡ n * 1
+      times_one n = omega arith
+
+      zero_plus : (n : ℕ) → 0 + n ≡ n
+      zero_plus n = omega arith

@@ -1,9 +1,8 @@
 -- The schedule past one block more.
-use Rattle.std.proofs.Common.{◌≡◌, refl, ap, sym, ◌∙◌, subst}
-use Rattle.std.specs.Prelude.{ℕ, List, [], ◌∷◌, ◌++◌, map, length, Option, None, Some}
+use Rattle.std.proofs.Common.{◌≡◌, ap, sym, ◌∙◌, subst}
+use Rattle.std.specs.Prelude.{List, [], ◌∷◌, ◌++◌, map, length, Some}
 use Rattle.std.proofs.lemmas.List.{map-append}
 use Rattle.base_poly.specs.Read.{context_of}
-use Rattle.cost_free.specs.declared.task.Done.{Done}
 use Rattle.cost_free.specs.Schedule.{next}
 use Rattle.cost_free.specs.Task.{Task, Outcome}
 use Rattle.cost_free.specs.Blocked.{blocked}
@@ -16,7 +15,7 @@ use Rattle.annot_types.specs.Program.{results, called_in, blocker_of}
 use Rattle.annot_types.specs.Certificate.{Block, Certificate, has_work, outcome, done_as}
 use Rattle.earlier_blocks.specs.Remembers.{Tables, Remembers}
 use Rattle.rule_plan.specs.Read.{program_in}
-use Rattle.cert_check.specs.Course.{course_of, HasCome}
+use Rattle.cert_check.specs.Course.{HasCome}
 use Rattle.cert_check.specs.Finds.{schedule, GoesOn, next_after}
 use Rattle.cert_check.proofs.Results.{results_are}
 use Rattle.cert_check.proofs.SameCalls.{same_blocker}

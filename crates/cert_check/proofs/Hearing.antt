@@ -1,5 +1,5 @@
 -- The conditions of one body after the other.
-use Rattle.std.proofs.Common.{◌≡◌, refl, ap, sym, ◌∙◌, arith, drop-cons}
+use Rattle.std.proofs.Common.{◌≡◌, ap, sym, ◌∙◌, arith, drop-cons}
 use Rattle.std.specs.Prelude.{ℕ, suc, ◌+◌, ◌<◌, List, map, drop, length, slice_index_or, Option, Vec}
 use Rattle.std.specs.Global.{Global}
 use Rattle.annot_types.specs.declared.block.Hint.{Hint as Told}

@@ -15,8 +15,8 @@ use Rattle.std.proofs.lemmas.Option.{slice_get_within}
 use Rattle.std.proofs.lemmas.Bool.{eqb-true}
 use Rattle.raml_syntax.specs.Tree.{Function, Prog}
 use Rattle.normal_form.specs.Norm.{NormFun, NormProg}
-use Rattle.call_groups.specs.Calls.{calls, calls_from}
-use Rattle.call_groups.specs.Groups.{Reaches, here, there, Ascends, ComesNext, AreInOrder}
+use Rattle.call_groups.specs.Calls.{calls_from}
+use Rattle.call_groups.specs.Groups.{Reaches, here, there, Ascends, AreInOrder}
 use Rattle.cost_free.specs.Blocked.{row, is_among}
 
 true_false : true ≡ false → ⊥
@@ -75,13 +75,16 @@ pub have_sizes : (P : Program) (group : List ℕ) (earlier : List c.Block) (budg
 unfolding AreFunctions
 have_sizes P group earlier budget [] h = tt
 have_sizes P group earlier budget (f ∷ fs) h =
-    let g = there_at P.funs f h.0 in
-    (record {
-      fun = g.0;
-      there = g.1;
-      args = ap (λ o. (body_of P group earlier budget o).args) g.1;
-      result = ap (λ o. (body_of P group earlier budget o).result) g.1;
-    }, h.1, have_sizes P group earlier budget fs h.2)
+    let g = there_at P.funs f h.0 in (
+      record {
+        fun = g.0;
+        there = g.1;
+        args = ap (λ o. (body_of P group earlier budget o).args) g.1;
+        result = ap (λ o. (body_of P group earlier budget o).result) g.1;
+      },
+      h.1,
+      have_sizes P group earlier budget fs h.2,
+    )
 
 pub if_solved_more : (body : c.Body) (A B : Type 0) → (A → B) → IfSolved body A → IfSolved body B
 if_solved_more (c.Solved sigs hints) A B h k = h k

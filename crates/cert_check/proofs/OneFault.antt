@@ -1,12 +1,12 @@
 -- There is one first fault.
-use Rattle.std.proofs.Common.{◌≡◌, refl, ap, sym, ◌∙◌, inl, inr}
-use Rattle.std.specs.Prelude.{◌⊎◌, ℕ, List, [], ◌∷◌, ◌++◌, Option, None, Some}
+use Rattle.std.proofs.Common.{◌≡◌, sym, ◌∙◌, inl, inr}
+use Rattle.std.specs.Prelude.{List, [], ◌∷◌, ◌++◌, Option, None, Some}
 use Rattle.std.proofs.lemmas.Option.{none-some}
 use Rattle.cost_free.specs.Task.{Task}
 use Rattle.annot_types.specs.Program.{Program}
 use Rattle.annot_types.specs.Certificate.{Body, Solved, Refuted, Calls, Block, Certificate}
 use Rattle.cert_check.specs.Fault.{Fault, Unless}
-use Rattle.cert_check.specs.Finds.{BodyFinds, BlockFinds, EndFinds, BlocksFind, FirstFault}
+use Rattle.cert_check.specs.Finds.{BodyFinds, BlockFinds, EndFinds, BlocksFind}
 use Rattle.cert_check.specs.Laws.{OneFirstFault}
 
 unless_one : (good : Type 0) (fault x y : Option Fault) (A B : Type 0) → (A → B → x ≡ y) → Unless good fault x A → Unless good fault y B → x ≡ y

@@ -1,5 +1,5 @@
 -- Where a block's target is reached, and where it is missed.
-use Rattle.std.proofs.Common.{◌≡◌, refl, ap, sym, ◌∙◌, subst, inl, inr}
+use Rattle.std.proofs.Common.{◌≡◌, refl, ap, sym, ◌∙◌, subst, inr}
 use Rattle.std.specs.Prelude.{ℕ, List, [], ◌∷◌, length, slice_get, Option, None, Some}
 use Rattle.std.specs.Option.{unwrap_or}
 use Rattle.std.proofs.lemmas.Option.{none-some, same_Some}
@@ -10,7 +10,7 @@ use Rattle.base_poly.specs.Plain.{Plain}
 use Rattle.cost_free.specs.Target.{targets}
 use Rattle.cost_free.specs.Task.{Kind, Free, Task}
 use Rattle.walk_rules.specs.Planned.{place_in}
-use Rattle.annot_types.specs.Program.{Program, members}
+use Rattle.annot_types.specs.Program.{members}
 use Rattle.annot_types.specs.Certificate as c
 use Rattle.annot_types.specs.Certificate.{annotation, Sig, Certificate}
 use Rattle.annot_types.specs.Signature.{sig_among}
@@ -59,14 +59,13 @@ module _ (at : At) (sigs : List Sig) (budget f target : ℕ) where
               r.sig (same_Some r.sig s (sym r.signed ∙ signed)) r.covers);
           first = n.first ∙ (λ i. missing_in d budget target (sym g.there i) (sym signed i));
         } where
-      reached_by : (h : NormFun) → h ≡ g.fun → (t : List (List Plain)) → slice_get (targets h.result d) target ≡ Some t → (x : Sig) → x ≡ s →
-          CoversTarget h.result budget (annotation x.result) 1 t → IsReached g.fun.result d budget target (annotation s.result)
-      reached_by h e t n x k c = record {
-        target = t;
-        numbered = subst (λ h. slice_get (targets h.result d) target ≡ Some t) e n;
-        covers = subst (λ h. CoversTarget h.result budget (annotation s.result) 1 t) e (subst (λ x. CoversTarget h.result budget (annotation x.result) 1 t) k c);
-      }
-
+          reached_by : (h : NormFun) → h ≡ g.fun → (t : List (List Plain)) → slice_get (targets h.result d) target ≡ Some t → (x : Sig) → x ≡ s →
+              CoversTarget h.result budget (annotation x.result) 1 t → IsReached g.fun.result d budget target (annotation s.result)
+          reached_by h e t n x k c = record {
+            target = t;
+            numbered = subst (λ h. slice_get (targets h.result d) target ≡ Some t) e n;
+            covers = subst (λ h. CoversTarget h.result budget (annotation s.result) 1 t) e (subst (λ x. CoversTarget h.result budget (annotation x.result) 1 t) k c);
+          }
 
 -- what is found in a target that is missed
 pub miss_found : (at : At) (blocks : List c.Block) (group : ℕ) (kind : Kind) (sigs : List Sig) (hints : List (List c.Hint)) (budget f target index : ℕ) →
@@ -77,7 +76,8 @@ miss_found at blocks group kind sigs hints budget f target index t e n m =
     let g : at.task.group ≡ group = ap (λ (t : Task). t.group) t in
     inr (
       (λ r. m.not_reached hints (subst (λ t. Reaches (program_at at) at.certificate.now.degree budget f target (record { task = t; body = c.Solved sigs hints }) 1) (sym t)
-      (subst (λ k. ReachesTarget (program_at at) at.certificate.now.degree (record { task = record { group = group; kind = kind }; body = c.Solved sigs hints }) 1 k) e r))),
+          (subst (λ k. ReachesTarget (program_at at) at.certificate.now.degree (record { task = record { group = group; kind = kind }; body = c.Solved sigs hints }) 1 k) e r))),
       (λ i. Some (Fails (sym n i) (unwrap_or (place_in (members (program_at at) group) f) 0 ∷ [])
-      ((m.first ∙ ap (λ j. missing_in at.certificate.now.degree budget target (slice_get (program_at at).funs f) (sig_among (members (program_at at) j) sigs f)) g) i)))
-      ∙ ap (λ k. Some (missed_at (program_at at) (certificate_at at) (length blocks) (members (program_at at) group) sigs k)) (sym e))
+          ((m.first ∙ ap (λ j. missing_in at.certificate.now.degree budget target (slice_get (program_at at).funs f) (sig_among (members (program_at at) j) sigs f)) g) i)))
+          ∙ ap (λ k. Some (missed_at (program_at at) (certificate_at at) (length blocks) (members (program_at at) group) sigs k)) (sym e),
+    )

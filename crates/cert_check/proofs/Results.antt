@@ -1,8 +1,7 @@
 -- The types of results, and the functions that have them.
 use Rattle.std.proofs.Common.{◌≡◌, refl, ap, sym, arith}
-use Rattle.std.specs.Prelude.{ℕ, zero, suc, List, [], ◌∷◌, map, length, slice_get, Option, None, Some}
+use Rattle.std.specs.Prelude.{ℕ, zero, suc, List, [], ◌∷◌, map, length, slice_get, None, Some}
 use Rattle.std.proofs.lemmas.Option.{none-some, same_Some}
-use Rattle.raml_syntax.specs.Tree.{Type'}
 use Rattle.raml_syntax.specs.Read.{ty_of}
 use Rattle.raml_syntax.specs.declared.ty.Ty.{Ty}
 use Rattle.base_poly.specs.Read.{context_of}

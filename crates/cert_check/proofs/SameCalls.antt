@@ -1,8 +1,7 @@
 -- Bodies in normal form call what the bodies of the source call.
 use Rattle.std.proofs.Common.{◌≡◌, refl, ap, sym, ◌∙◌, arith}
-use Rattle.std.specs.Prelude.{ℕ, zero, suc, ◌+◌, ◌<◌, ◌≤◌, Bool, true, false, cond, not, ◌||◌, ◌&&◌, nat_eq, List, [], ◌∷◌, ◌++◌, map, length, slice_get, Option, None, Some}
-use Rattle.std.specs.Option.{unwrap_or}
-use Rattle.std.specs.List.{list_any, filter, range_with_len}
+use Rattle.std.specs.Prelude.{ℕ, zero, suc, ◌+◌, ◌<◌, ◌≤◌, Bool, true, false, cond, not, ◌||◌, ◌&&◌, nat_eq, List, [], ◌∷◌, ◌++◌, map, length, Option, None, Some}
+use Rattle.std.specs.List.{list_any, range_with_len}
 use Rattle.std.proofs.lemmas.List.{length-map}
 use Rattle.std.proofs.lemmas.List.Folds.{list_any-append}
 use Rattle.std.proofs.lemmas.Bool.{eqb-true, eq-eqb}
@@ -13,13 +12,12 @@ use Rattle.raml_syntax.specs.Place.{place_of}
 use Rattle.raml_syntax.specs.Eval.{find}
 use Rattle.normal_form.specs.Norm as n
 use Rattle.normal_form.specs.Norm.{Norm, NormFun, NormProg, carries}
-use Rattle.normal_form.specs.One.{Scope, Operand, Is, Binds, name, after, wrap, wrap_all, with_one, with_two, with_three, with_all, operand, plain, one, operands, body_of, place_or, parameters_or, first_of_types, rest_of, scope_of, type_of, part_of, first_part, second_part, element, found, types_in, bound, bound_two, bound_three, split_form, if_form, list_form, tree_form, option_form}
-use Rattle.normal_form.specs.Two.{Slots, Shared, Made, Taken, drop_all, share_all, take_all, take_slot, part, of_one, of_two, of_three, over, around, two, own, norm_fun, norm, slot}
+use Rattle.normal_form.specs.One.{Scope, Operand, Is, Binds, name, after, wrap, wrap_all, with_one, with_two, with_three, operand, plain, one, operands, body_of, place_or, parameters_or, first_of_types, rest_of, scope_of, type_of, part_of, first_part, second_part, element, found, types_in, bound, bound_two, bound_three, split_form, if_form, list_form, tree_form, option_form}
+use Rattle.normal_form.specs.Two.{Slots, Shared, drop_all, share_all, take_all, take_slot, part, of_one, of_two, of_three, over, around, two, norm_fun, norm, slot}
 use Rattle.normal_form.specs.Free.{free_in, put, used, unused}
 use Rattle.call_groups.specs.Calls.{is_place, is_called, is_called_in, callees, calls_of}
-use Rattle.cost_free.specs.declared.task.Meter.{Meter}
 use Rattle.cost_free.specs.Task.{Kind, Free, With, Task, Outcome}
-use Rattle.cost_free.specs.Blocked.{is_among, row, any_calls, is_called as group_calls, is_earlier, has_bound, blocks, least_from, blocker, blocked}
+use Rattle.cost_free.specs.Blocked.{is_among, row, any_calls, is_earlier, has_bound, blocks, least_from, blocker, blocked}
 use Rattle.annot_types.specs.Program.{called_in}
 
 true_false : true ≡ false → ⊥

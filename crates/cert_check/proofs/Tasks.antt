@@ -1,12 +1,12 @@
 -- Tasks of the schedule.
-use Rattle.std.proofs.Common.{◌≡◌, refl, ap, sym, ◌∙◌, subst, arith}
-use Rattle.std.specs.Prelude.{ℕ, zero, suc, ◌+◌, ◌≤◌, Bool, true, false, cond, nat_le, List, [], ◌∷◌, ◌++◌, map, flat_map, slice_get, Option, None, Some}
+use Rattle.std.proofs.Common.{◌≡◌, subst, arith}
+use Rattle.std.specs.Prelude.{ℕ, zero, suc, ◌+◌, ◌≤◌, Bool, true, false, cond, nat_le, List, [], ◌∷◌, ◌++◌, map, flat_map, slice_get, Some}
 use Rattle.std.specs.List.{range_with_len}
 use Rattle.std.proofs.lemmas.Option.{none-some, same_Some}
 use Rattle.raml_syntax.specs.Tree.{Type'}
 use Rattle.cost_free.specs.declared.task.Meter.{Meter}
 use Rattle.cost_free.specs.Target.{Target, degree_of}
-use Rattle.cost_free.specs.Task.{Kind, Free, With, Task, Outcome}
+use Rattle.cost_free.specs.Task.{Free, With, Task, Outcome}
 use Rattle.cost_free.specs.Schedule.{meters, targets_at, tasks_for, free_tasks, group_tasks, tasks_from, is_left_out, next_of, next}
 use Rattle.annot_types.specs.Holds.{budget_of}
 
@@ -40,9 +40,9 @@ module _ (results : List Type') (d : ℕ) (work : Bool) where
   low_for group budget fun number (t ∷ ts) l =
       low_append d (cond (nat_le (degree_of t) budget) (record { group = group; kind = Free budget fun number } ∷ []) [])
       (tasks_for results d work group budget fun (suc number) ts) (by (nat_le (degree_of t) budget)) (low_for group budget fun (suc number) ts l) where
-    by : (b : Bool) → AllLow d (cond b (record { group = group; kind = Free budget fun number } ∷ []) [])
-    by true = (l, tt)
-    by false = tt
+        by : (b : Bool) → AllLow d (cond b (record { group = group; kind = Free budget fun number } ∷ []) [])
+        by true = (l, tt)
+        by false = tt
 
   low_meters : (group : ℕ) (ms : List Meter) → AllLow d (map (λ meter. record { group = group; kind = With meter }) ms)
   unfolding AllLow IsLow

@@ -6,7 +6,7 @@ use Rattle.std.proofs.Math.ListN.{get_or-map}
 use Rattle.cost_free.specs.declared.task.Meter.{Meter}
 use Rattle.cost_free.specs.Task as k
 use Rattle.cost_free.specs.Task.{Task, Kind, Free}
-use Rattle.annot_types.specs.Program.{Program, members}
+use Rattle.annot_types.specs.Program.{Program}
 use Rattle.annot_types.specs.Certificate.{Sig, Hint, Block}
 use Rattle.annot_types.specs.Rules.{Mode}
 use Rattle.annot_types.specs.Holds.{mode_of, budget_of}
@@ -18,11 +18,10 @@ use Rattle.walk_rules.specs.Capped.{capped, capped_amount}
 use Rattle.walk_rules.specs.Carried.{sides_to, known_to, hint_to, condition_to}
 use Rattle.walk_rules.specs.Tasks.{Body, Job, known_by, of_bodies}
 use Rattle.walk_rules.specs.Jobs.{job_of}
-use Rattle.walk_rules.specs.Found.{free_from, cost_from}
 use Rattle.walk_rules.specs.Faults.{first_fault}
 use Rattle.walk_rules.proofs.Capping.{capped_walks, capped_faults}
 use Rattle.earlier_blocks.specs.Laws.{IsFree}
-use Rattle.earlier_blocks.specs.Remembers.{Tables, free_at, cost_at, over, Remembers}
+use Rattle.earlier_blocks.specs.Remembers.{Tables, free_at, cost_at, Remembers}
 use Rattle.earlier_blocks.proofs.Unpaid.{walks_without_cost}
 use Rattle.cert_check.specs.Finds.{sides_at, all_hints_at, job_fault}
 use Rattle.cert_check.specs.Judging.{bodies_walked}

@@ -1,6 +1,6 @@
 -- The walk through the blocks of a certificate.
 use Rattle.std.proofs.Common.{◌≡◌, refl, ap, sym, ◌∙◌, subst, inl, inr, arith, drop-cons}
-use Rattle.std.specs.Prelude.{ℕ, zero, suc, ◌+◌, ◌<◌, List, [], ◌∷◌, ◌++◌, map, take, drop, length, slice_index_or, slice_get, Option, None, Some}
+use Rattle.std.specs.Prelude.{ℕ, zero, suc, ◌+◌, ◌<◌, List, [], ◌∷◌, ◌++◌, take, drop, length, slice_index_or, slice_get, Option, None, Some}
 use Rattle.std.proofs.lemmas.Option.{get_or_from_slice_get, slice_get_within}
 use Rattle.std.proofs.lemmas.List.{length-map}
 use Rattle.std.proofs.Math.Seq.{drop-nil}
@@ -13,7 +13,7 @@ use Rattle.normal_form.specs.Norm.{NormFun, NormProg}
 use Rattle.normal_form.specs.Uses.{Uses, IsNormal}
 use Rattle.std.specs.List.{All}
 use Rattle.cert_check.specs.Fault.{Fault}
-use Rattle.cert_check.specs.Finds.{BlockFinds, EndFinds, BlocksFind}
+use Rattle.cert_check.specs.Finds.{BlockFinds, BlocksFind}
 use Rattle.cert_check.specs.Read.{OfFault}
 
 -- of the blocks from a place on
@@ -46,8 +46,11 @@ module _ (P : Program) (c : Certificate) (xs : List Given) (k : ℕ) (d : Given)
 
   pub next_block : Reduces P c (blocks_of xs) k → BlockFinds P c (take k (blocks_of xs)) b None → Reduces P c (blocks_of xs) (k + 1)
   next_block r h found g = r found (subst (λ l. BlocksFind P c (take k (blocks_of xs)) l found) (sym rest_is)
-      (inl (h, subst (λ t. BlocksFind P c t (drop (suc k) (blocks_of xs)) found) front_is
-      (subst (λ n. BlocksFind P c (take (k + 1) (blocks_of xs)) (drop n (blocks_of xs)) found) next g))))
+      (inl (
+        h,
+        subst (λ t. BlocksFind P c t (drop (suc k) (blocks_of xs)) found) front_is
+            (subst (λ n. BlocksFind P c (take (k + 1) (blocks_of xs)) (drop n (blocks_of xs)) found) next g),
+      )))
 
   pub stopped : Reduces P c (blocks_of xs) k → (o : Option Fault) → OfFault o (BlockFinds P c (take k (blocks_of xs)) b) → OfFault o (BlocksFind P c [] (blocks_of xs))
   stopped r None h = tt

@@ -1,5 +1,5 @@
 -- The walk through the blocks.
-use Rattle.std.specs.Prelude.{◌≡◌, List, map, length}
+use Rattle.std.specs.Prelude.{◌≡◌, List, map}
 use Rattle.share_normal.specs.Program.{Kept}
 use Rattle.cost_free.specs.Refused.{Course}
 use Rattle.annot_types.specs.Certificate.{Block, Certificate, has_work, outcome}

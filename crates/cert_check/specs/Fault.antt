@@ -1,5 +1,5 @@
 -- The faults of certificates, and tests one after the other.
-use Rattle.std.specs.Prelude.{◌≡◌, ◌⊎◌, ℕ, List, Option, None, Some}
+use Rattle.std.specs.Prelude.{◌≡◌, ◌⊎◌, ℕ, List, Option}
 use Rattle.cost_free.specs.Task.{Task}
 
 -- Shape: a block is none of the schedule, or a list, a position or a number is out of place. Fails: a condition of the rules is not met. Leaves: a total

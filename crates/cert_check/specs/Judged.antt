@@ -1,5 +1,5 @@
 -- The first fault of conditions that are heard in turn.
-use Rattle.std.specs.Prelude.{◌≡◌, ℕ, cond, List, [], ◌∷◌, ◌++◌, Option, None, Some}
+use Rattle.std.specs.Prelude.{◌≡◌, ℕ, List, [], ◌∷◌, ◌++◌, Option, None, Some}
 use Rattle.std.specs.Option.{option_map}
 use Rattle.std.proofs.Common.{refl, ap, ◌∙◌}
 use Rattle.walk_rules.specs.Numbers.{Condition}

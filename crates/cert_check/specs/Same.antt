@@ -1,5 +1,5 @@
 -- Whether two tasks are the same.
-use Rattle.std.specs.Prelude.{nat_eq, Bool, true, false, ◌&&◌, Option, None, Some}
+use Rattle.std.specs.Prelude.{nat_eq, Bool, false, ◌&&◌, Option, None, Some}
 use Rattle.cost_free.specs.Task.{Kind, Free, With, Task, same_meter}
 
 abbrev pub same_kind : Kind → Kind → Bool

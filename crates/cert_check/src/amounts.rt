@@ -71,10 +71,7 @@ fn each_result(
 }
 
 // The multiples of a call.
-fn multiples(
-    alloc: Global,
-    told: &[(u32, i128)],
-) -> Result<Vec<(u32, Amount)>, AllocError>
+fn multiples(alloc: Global, told: &[(u32, i128)]) -> Result<Vec<(u32, Amount)>, AllocError>
     ensures { IfOk result (λ made. made.items ≡ map (multiple_to capped_amount) (multiples_at told.now)) }
 {
     let mut made = Vec::with_capacity(alloc, told.len())?;

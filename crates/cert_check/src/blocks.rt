@@ -61,7 +61,15 @@ fn check_next(
     let _results = program.results();
     let _groups = program.groups();
     if is_scheduled(program, schedule, block, next) {
-        check_there(alloc, program, certificate, schedule, earlier, number, block)
+        check_there(
+            alloc,
+            program,
+            certificate,
+            schedule,
+            earlier,
+            number,
+            block,
+        )
     } else {
         Err(CertFault::Shape { block: number })
     }

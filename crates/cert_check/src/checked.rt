@@ -78,6 +78,8 @@ impl<'p, 'a> Checked<'p, 'a> {
 
     /// The argument annotation of a function over the meter's scale; none exactly where no block of the
     /// meter that has a signature for the function is solved. It bounds what the function costs.
+    ///
+    /// Not built yet: it always tells that memory is wanting.
     pub fn bound(&self, alloc: Global, fun: FunId, meter: Meter) -> Result<Option<Poly>, AllocError>
         ensures told { IfOk result (λ found. option_map told_of found ≡ told (program_in self.now.program) self.now.certificate fun.0 meter) }
         ensures poly { IfOk result (λ found. IfSome found IsPoly) }

@@ -40,7 +40,12 @@ pub fn refused(alloc: Global, program: &NormProgram<'_>, certificate: &Certifica
     ensures { OfFault (fault_of result) (λ found. found ≡ refusal (program_in program.now) (certificate_of certificate.now)) }
 {
     let _functions = program.functions();
-    match large_task(alloc, program.results(), certificate.degree, program.groups().list()) {
+    match large_task(
+        alloc,
+        program.results(),
+        certificate.degree,
+        program.groups().list(),
+    ) {
         Ok(Some(task)) => CertFault::TooLarge { task },
         Ok(None) | Err(_) => CertFault::NoMemory,
     }
@@ -117,7 +122,15 @@ pub fn check_there(
     match check_body(&at, &block.body) {
         Err(fault) => Err(fault),
         Ok(sizes) => {
-            match go_on(alloc, program, certificate.degree, schedule, earlier, block, &sizes) {
+            match go_on(
+                alloc,
+                program,
+                certificate.degree,
+                schedule,
+                earlier,
+                block,
+                &sizes,
+            ) {
                 Ok(()) => Ok(()),
                 Err(_) => Err(CertFault::NoMemory),
             }

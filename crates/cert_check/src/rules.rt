@@ -72,7 +72,16 @@ pub fn judged(
     let mut judge = FaultJudge { found: None };
     for place in 0..bodies.len() {
         let body = &bodies[place];
-        judge_body(alloc, known, body, mode, place, &asks[place], &hints[place], &mut judge)?;
+        judge_body(
+            alloc,
+            known,
+            body,
+            mode,
+            place,
+            &asks[place],
+            &hints[place],
+            &mut judge,
+        )?;
     }
     Ok(judge)
 }

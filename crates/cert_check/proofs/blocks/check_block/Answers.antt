@@ -13,8 +13,8 @@ returns-in-Err-TooMany-clause-tells c = λ blocks come n.
     let kept = c.args.program.now in
     let held = certificate_of c.args.certificate.now in
     let count : length kept.results ≡ length kept.functions =
-        ap length (sym c.results-results.ensures.results) ∙ c.results-results.ensures.count
-        ∙ sym (ap length (sym c.functions-functions.ensures.functions) ∙ c.functions-functions.ensures.count) in
+    ap length (sym c.results-results.ensures.results) ∙ c.results-results.ensures.count
+    ∙ sym (ap length (sym c.functions-functions.ensures.functions) ∙ c.functions-functions.ensures.count) in
     of_fault (fault_of c.refused.result) (λ x. x ≡ refusal (program_in kept) held) (BlockFinds (program_in kept) held blocks (block_of c.args.block.now))
     (λ x e. inr (refused_there kept count held blocks c.args.schedule.now c.args.earlier.now come (c.in-Err-TooMany.ensures.many (ap Err c.in-Err-TooMany.field-0-is)), e))
     c.refused.ensures
@@ -24,8 +24,8 @@ returns-in-Ok-clause-tells c = λ blocks come n.
     let kept = c.args.program.now in
     let held = certificate_of c.args.certificate.now in
     let count : length kept.results ≡ length kept.functions =
-        ap length (sym c.results-results.ensures.results) ∙ c.results-results.ensures.count
-        ∙ sym (ap length (sym c.functions-functions.ensures.functions) ∙ c.functions-functions.ensures.count) in
+    ap length (sym c.results-results.ensures.results) ∙ c.results-results.ensures.count
+    ∙ sym (ap length (sym c.functions-functions.ensures.functions) ∙ c.functions-functions.ensures.count) in
     let now : HasCome kept held blocks c.current.new.self c.args.earlier.now = subst (λ s. HasCome kept held blocks s c.args.earlier.now) (sym c.current.ensures.same) come in
     tells_more c.check_next.result (ScheduledFinds (program_in kept) held blocks (block_of c.args.block.now)) (BlockFinds (program_in kept) held blocks (block_of c.args.block.now))
     (λ x h. inl (goes_there kept count held blocks c.args.schedule.now c.args.earlier.now come c.in-Ok.ensures.fits, h)) (c.check_next.ensures.tells blocks now n)

@@ -1,4 +1,4 @@
-use Rattle.std.proofs.Common.{◌≡◌, ◌≤◌, refl, ap, sym, ◌∙◌, length, subst, Some, true, inl, inr, arith, map}
+use Rattle.std.proofs.Common.{◌≡◌, ◌≤◌, refl, ap, sym, ◌∙◌, length, subst, Some, true, inl, inr, arith}
 use Rattle.std.specs.Option.{option_map}
 use Rattle.std.proofs.lemmas.Result.{on_ok_weaker}
 use Rattle.base_poly.specs.Read.{context_of}
@@ -33,15 +33,18 @@ returns-then-is_scheduled-clause-tells c = λ blocks come n.
     let t = task_of c.args.block.now.task in
     let body = body_of c.args.block.now.body in
     let count : length kept.results ≡ length kept.functions =
-        ap length (sym c.results-results.ensures.results) ∙ c.results-results.ensures.count
-        ∙ sym (ap length (sym c.functions-functions.ensures.functions) ∙ c.functions-functions.ensures.count) in
+    ap length (sym c.results-results.ensures.results) ∙ c.results-results.ensures.count
+    ∙ sym (ap length (sym c.functions-functions.ensures.functions) ∙ c.functions-functions.ensures.count) in
     let both = c.is_scheduled.ensures.0 c.if-is_scheduled.true in
     tells_more c.check_there.result (BodyFinds (program_in kept) held blocks t body) (ScheduledFinds (program_in kept) held blocks (block_of c.args.block.now))
-    (λ x h. inl (record {
-      task = sym (next_there kept count held blocks c.args.schedule.now c.args.earlier.now come) ∙ sym c.requires.next ∙ task_is t (option_map task_of c.args.next) both.0;
-      waits = subst (λ o. NamesBlocker o body) (blocker_there kept count held blocks c.args.schedule.now c.args.earlier.now come (norm_in kept) refl
-          c.functions-functions.ensures.norm c.groups-groups.ensures.grouping.calls t) both.1;
-    }, h)) (c.check_there.ensures.tells blocks come n)
+    (λ x h. inl (
+      record {
+        task = sym (next_there kept count held blocks c.args.schedule.now c.args.earlier.now come) ∙ sym c.requires.next ∙ task_is t (option_map task_of c.args.next) both.0;
+        waits = subst (λ o. NamesBlocker o body) (blocker_there kept count held blocks c.args.schedule.now c.args.earlier.now come (norm_in kept) refl
+            c.functions-functions.ensures.norm c.groups-groups.ensures.grouping.calls t) both.1;
+      },
+      h,
+    )) (c.check_there.ensures.tells blocks come n)
 
 pub returns-then-is_scheduled-clause-goes : goal.returns-then-is_scheduled-clause-goes
 returns-then-is_scheduled-clause-goes c = on_ok_weaker c.check_there.result
@@ -50,8 +53,8 @@ returns-then-is_scheduled-clause-goes c = on_ok_weaker c.check_there.result
     let held = certificate_of c.args.certificate.now in
     let t = task_of c.args.block.now.task in
     let count : length kept.results ≡ length kept.functions =
-        ap length (sym c.results-results.ensures.results) ∙ c.results-results.ensures.count
-        ∙ sym (ap length (sym c.functions-functions.ensures.functions) ∙ c.functions-functions.ensures.count) in
+    ap length (sym c.results-results.ensures.results) ∙ c.results-results.ensures.count
+    ∙ sym (ap length (sym c.functions-functions.ensures.functions) ∙ c.functions-functions.ensures.count) in
     goes blocks come n (sym (next_there kept count held blocks c.args.schedule.now c.args.earlier.now come) ∙ sym c.requires.next
     ∙ task_is t (option_map task_of c.args.next) (c.is_scheduled.ensures.0 c.if-is_scheduled.true).0)) c.check_there.ensures.goes
 
@@ -62,11 +65,16 @@ returns-else-is_scheduled-clause-tells c = λ blocks come n.
     let t = task_of c.args.block.now.task in
     let body = body_of c.args.block.now.body in
     let count : length kept.results ≡ length kept.functions =
-        ap length (sym c.results-results.ensures.results) ∙ c.results-results.ensures.count
-        ∙ sym (ap length (sym c.functions-functions.ensures.functions) ∙ c.functions-functions.ensures.count) in
-    inr ((λ s.
-    let next : option_map task_of c.args.next ≡ Some t = c.requires.next ∙ next_there kept count held blocks c.args.schedule.now c.args.earlier.now come ∙ s.task in
-    let yes : c.is_scheduled.result ≡ true = c.is_scheduled.ensures.1 (ap (is_task t) next ∙ is_task_self t,
-    subst (λ o. NamesBlocker o body) (sym (blocker_there kept count held blocks c.args.schedule.now c.args.earlier.now come (norm_in kept) refl
-    c.functions-functions.ensures.norm c.groups-groups.ensures.grouping.calls t)) s.waits) in
-    true_false (sym yes ∙ c.if-is_scheduled.false)), ap (λ k. Some (Shape k)) (sym n))
+    ap length (sym c.results-results.ensures.results) ∙ c.results-results.ensures.count
+    ∙ sym (ap length (sym c.functions-functions.ensures.functions) ∙ c.functions-functions.ensures.count) in
+    inr (
+      (λ s.
+          let next : option_map task_of c.args.next ≡ Some t = c.requires.next ∙ next_there kept count held blocks c.args.schedule.now c.args.earlier.now come ∙ s.task in
+          let yes : c.is_scheduled.result ≡ true = c.is_scheduled.ensures.1 (
+            ap (is_task t) next ∙ is_task_self t,
+            subst (λ o. NamesBlocker o body) (sym (blocker_there kept count held blocks c.args.schedule.now c.args.earlier.now come (norm_in kept) refl
+                c.functions-functions.ensures.norm c.groups-groups.ensures.grouping.calls t)) s.waits,
+          ) in
+          true_false (sym yes ∙ c.if-is_scheduled.false)),
+      ap (λ k. Some (Shape k)) (sym n),
+    )

@@ -1,4 +1,4 @@
-use Rattle.std.proofs.Common.{◌≡◌, ◌<◌, ◌≤◌, ◌+◌, ◌++◌, ◌∷◌, [], refl, ap, sym, ◌∙◌, subst, length, take, drop, Some, None, arith, rules}
+use Rattle.std.proofs.Common.{◌≡◌, ◌<◌, ◌≤◌, ◌++◌, ◌∷◌, [], ap, sym, ◌∙◌, subst, length, take, drop, None, arith, rules}
 use Rattle.std.proofs.lemmas.List.{length-map, length-take-le}
 use Rattle.std.proofs.Math.Seq.{drop-length}
 use Rattle.normal_form.specs.Two.{norm_fun}
@@ -17,7 +17,7 @@ loop-number-init c =
     let kept = c.args.program.now in
     let held = certificate_of c.args.certificate.now in
     let count : length (program_in kept).funs ≡ c.len.result =
-        ap length c.functions-functions.ensures.norm ∙ length-map (source_in kept) (norm_fun (source_in kept)) ∙ sym c.functions-functions.ensures.count ∙ sym c.len.ensures in
+    ap length c.functions-functions.ensures.norm ∙ length-map (source_in kept) (norm_fun (source_in kept)) ∙ sym c.functions-functions.ensures.count ∙ sym c.len.ensures in
     record {
       come = record {
         course_is = c.new-schedule.ensures ∙ (λ i. record {

@@ -1,4 +1,4 @@
-use Rattle.std.proofs.Common.{◌≡◌, refl, ap, sym, ◌∙◌, subst}
+use Rattle.std.proofs.Common.{◌≡◌, refl, ◌∙◌}
 use Rattle.cost_free.specs.Read.{task_of}
 use Rattle.annot_types.specs.Read.{certificate_of, body_of}
 use Rattle.rule_plan.specs.Read.{program_in}

@@ -16,8 +16,8 @@ returns-in-Ok c = on_ok_weaker c.remember.result
     let old = c.args.earlier.now in
     let new = c.remember.new.earlier in
     let count : length kept.results ≡ length kept.functions =
-        ap length (sym c.results-results.ensures.results) ∙ c.results-results.ensures.count
-        ∙ sym (ap length (sym c.functions-functions.ensures.functions) ∙ c.functions-functions.ensures.count) in
+    ap length (sym c.results-results.ensures.results) ∙ c.results-results.ensures.count
+    ∙ sym (ap length (sym c.functions-functions.ensures.functions) ∙ c.functions-functions.ensures.count) in
     gone kept count held blocks b c.args.schedule.now c.record.new.self old new come next
     (c.in-Ok.ensures.done ∙ ap (λ o. gone_on o c.args.schedule.now) c.done_as.ensures)
     (subst (λ d. Remembers P d (blocks ++ b ∷ []) new) (sym degree) (all blocks (subst (λ d. Remembers P d blocks old) degree come.remembers) sizes)))

@@ -17,8 +17,8 @@ returns-in-Ok-Some c =
     let P = program_in kept in
     let held = certificate_of c.args.certificate.now in
     let count : length kept.results ≡ length kept.functions =
-        ap length (sym c.results.ensures.results) ∙ c.results.ensures.count
-        ∙ sym (ap length (sym c.functions-functions.ensures.functions) ∙ c.functions-functions.ensures.count) in
+    ap length (sym c.results.ensures.results) ∙ c.results.ensures.count
+    ∙ sym (ap length (sym c.functions-functions.ensures.functions) ∙ c.functions-functions.ensures.count) in
     let types : context_of c.results.result.now ≡ results P = ap context_of c.results.ensures.results ∙ sym (results_are kept.results kept.functions count) in
     let groups = c.list.ensures ∙ ap (λ g. g.list) c.groups.ensures.groups in
     ap (option_map TooLarge)

@@ -1,12 +1,11 @@
-use Rattle.std.proofs.Common.{◌≡◌, sym, subst, ap, ◌∙◌}
+use Rattle.std.proofs.Common.{sym, subst}
 use Rattle.std.proofs.lemmas.Result.{on_ok_weaker}
-use Rattle.cost_free.specs.Read.{kind_of, task_of}
+use Rattle.cost_free.specs.Read.{task_of}
 use Rattle.annot_types.specs.Program.{members}
 use Rattle.annot_types.specs.Holds.{budget_of}
 use Rattle.annot_types.specs.Read.{body_of}
-use Rattle.call_groups.specs.Groups.{AreInOrder}
 use Rattle.earlier_blocks.specs.Sizes.{AreSizes}
-use Rattle.share_normal.specs.Program.{source_in, norm_in}
+use Rattle.share_normal.specs.Program.{source_in}
 use Rattle.rule_plan.specs.Read.{program_in}
 use Rattle.cert_check.proofs.Members.{have_sizes, functions_are, if_solved_more}
 use Rattle.cert_check.proofs.course.remember.Goals as goal

@@ -14,6 +14,6 @@ loop-place-preserved c =
     let n = c.args.index + k in
     let none : c.compare_at.result ≡ None = search rules in
     let passed : fault_at (record { path = path; index = n; left = at capped c.args.left.now k; right = slice_index_or c.args.right.now k c.index-right-place.result }) ≡ None =
-        ap (λ r. fault_at (record { path = path; index = n; left = at capped c.args.left.now k; right = r })) (sym c.index-right-place.is)
-        ∙ sym (c.compare_at.ensures path n) ∙ ap (option_map (located path n)) none in
+    ap (λ r. fault_at (record { path = path; index = n; left = at capped c.args.left.now k; right = r })) (sym c.index-right-place.is)
+    ∙ sym (c.compare_at.ensures path n) ∙ ap (option_map (located path n)) none in
     next_fault path c.args.index k c.args.left.now c.args.right.now c.index-right-place.result c.loop-place-test.true passed ∙ c.loop-place.invariant

@@ -1,4 +1,4 @@
-use Rattle.std.proofs.Common.{◌≡◌, ap, sym, ◌∙◌, subst, map, length, inl}
+use Rattle.std.proofs.Common.{ap, sym, ◌∙◌, subst, map, length, inl}
 use Rattle.std.proofs.lemmas.List.{length-map}
 use Rattle.cost_free.specs.Read.{task_of}
 use Rattle.annot_types.specs.Read as a
@@ -27,9 +27,12 @@ returns-then-is_shapely c = λ blocks is eb.
     let s = c.is_shapely.ensures.0 c.if-is_shapely.true in
     tells_more c.check_target.result (TargetFinds (program_at at) (certificate_at at) blocks (task_of at.task) sigs hints)
     (ShapeFinds (program_at at) (certificate_at at) blocks (task_of at.task) sigs hints)
-    (λ x h. inl (record {
-      sigs_fit = subst (λ bs. SigsFit bs sigs) eb s.0.0;
-      sigs_rise = s.0.1;
-      hints_fit = subst (λ bs. AllFit (asks_by bs) hints) eb (subst (λ asks. AllFit asks hints) c.requires.asked s.1.0);
-      hints_rise = s.1.1;
-    }, h)) (c.check_target.ensures blocks is eb c.requires.asked)
+    (λ x h. inl (
+      record {
+        sigs_fit = subst (λ bs. SigsFit bs sigs) eb s.0.0;
+        sigs_rise = s.0.1;
+        hints_fit = subst (λ bs. AllFit (asks_by bs) hints) eb (subst (λ asks. AllFit asks hints) c.requires.asked s.1.0);
+        hints_rise = s.1.1;
+      },
+      h,
+    )) (c.check_target.ensures blocks is eb c.requires.asked)

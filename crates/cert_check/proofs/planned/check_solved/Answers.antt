@@ -1,4 +1,4 @@
-use Rattle.std.proofs.Common.{◌≡◌, ap, ◌∙◌, subst, map, inl}
+use Rattle.std.proofs.Common.{ap, ◌∙◌, subst, map, inl}
 use Rattle.std.specs.Prelude.{slice_get}
 use Rattle.std.specs.List.{All}
 use Rattle.cost_free.specs.Read.{task_of}

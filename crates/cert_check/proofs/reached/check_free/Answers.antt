@@ -1,4 +1,4 @@
-use Rattle.std.proofs.Common.{◌≡◌, refl, map}
+use Rattle.std.proofs.Common.{refl, map}
 use Rattle.cost_free.specs.Read.{kind_of, task_of}
 use Rattle.annot_types.specs.Read as a
 use Rattle.cert_check.specs.At.{program_at, certificate_at}

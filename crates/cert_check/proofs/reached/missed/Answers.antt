@@ -14,7 +14,7 @@ returns-in-Some-result_of-clause-reached c =
     let sigs = map a.sig_of c.args.sigs.now in
     let s = a.sig_of c.in-Some.sig.now in
     let signed : sig_among (members (program_at at) at.task.group) sigs c.args.fun.0 ≡ Some s =
-        ap (λ fs. sig_among fs sigs c.args.fun.0) (sym c.members-functions.ensures) ∙ sym c.in-Some.ensures in
+    ap (λ fs. sig_among fs sigs c.args.fun.0) (sym c.members-functions.ensures) ∙ sym c.in-Some.ensures in
     if_ok c.missing.result _ _ (λ m h. none_more m (reaches_at at sigs c.args.budget c.args.fun.0 c.args.target s signed (ty_of c.in-Some-result_of.ty.now)
     c.in-Some-result_of.ensures.there) h) c.missing.ensures.reached
 
@@ -24,6 +24,6 @@ returns-in-Some-result_of-clause-missed c =
     let sigs = map a.sig_of c.args.sigs.now in
     let s = a.sig_of c.in-Some.sig.now in
     let signed : sig_among (members (program_at at) at.task.group) sigs c.args.fun.0 ≡ Some s =
-        ap (λ fs. sig_among fs sigs c.args.fun.0) (sym c.members-functions.ensures) ∙ sym c.in-Some.ensures in
+    ap (λ fs. sig_among fs sigs c.args.fun.0) (sym c.members-functions.ensures) ∙ sym c.in-Some.ensures in
     if_ok c.missing.result _ _ (λ m h. some_more m _ _ (misses_at at sigs c.args.budget c.args.fun.0 c.args.target s signed (ty_of c.in-Some-result_of.ty.now)
     c.in-Some-result_of.ensures.there) h) c.missing.ensures.missed

@@ -1,4 +1,4 @@
-use Rattle.std.proofs.Common.{◌≡◌, sym, ◌∙◌}
+use Rattle.std.proofs.Common.{sym, ◌∙◌}
 use Rattle.raml_syntax.specs.Read.{ty_of}
 use Rattle.annot_types.specs.Certificate.{annotation}
 use Rattle.cert_check.proofs.Telling.{at_none, at_some}

@@ -25,10 +25,10 @@ loop-place-preserved c =
     let asks_is : c.deref.result.now ≡ asks = search rules in
     let hints_is : c.deref-in-loop-place.result.now ≡ hints = search rules in
     let heard : verdict_of c.judge_body.new.judge ≡ after (verdict_of c.loop-place.judge)
-        (body_walked capped G (plan_of body.plan) mode k (map (hint_to capped_amount) (hints_at (asks_of asks) (map a.hint_of hints)))).found =
-        c.in_ok-judge_body.ensures
-        ∙ (λ i. after (verdict_of c.loop-place.judge) (body_walked capped G (plan_of (body_is i).plan) mode k
-        (map (hint_to capped_amount) (hints_at (asks_of (asks_is i)) (map a.hint_of (hints_is i))))).found) in
+    (body_walked capped G (plan_of body.plan) mode k (map (hint_to capped_amount) (hints_at (asks_of asks) (map a.hint_of hints)))).found =
+    c.in_ok-judge_body.ensures
+    ∙ (λ i. after (verdict_of c.loop-place.judge) (body_walked capped G (plan_of (body_is i).plan) mode k
+    (map (hint_to capped_amount) (hints_at (asks_of (asks_is i)) (map a.hint_of (hints_is i))))).found) in
     ap (heard_from G mode c.args.bodies.now c.args.asks.now c.args.hints.now (k + 1)) heard
     ∙ next_heard G mode c.args.bodies.now c.args.asks.now c.args.hints.now k (verdict_of c.loop-place.judge) c.index-bodies-place.result
     c.index-asks-place.result c.index-hints-place.result low asked told

@@ -1,4 +1,4 @@
-use Rattle.std.proofs.Common.{◌≡◌, ap, sym, ◌∙◌, map}
+use Rattle.std.proofs.Common.{◌≡◌, sym, ◌∙◌, map}
 use Rattle.std.specs.Option.{option_map}
 use Rattle.cost_free.specs.Read.{task_of}
 use Rattle.annot_types.specs.Read as a

@@ -1,17 +1,13 @@
-use Rattle.std.proofs.Common.{◌≡◌, ap, sym, ◌∙◌, map}
+use Rattle.std.proofs.Common.{◌≡◌, ap, ◌∙◌, map}
 use Rattle.cost_free.specs.Read.{task_of, kind_of}
 use Rattle.annot_types.specs.Read as a
 use Rattle.annot_types.specs.Holds as h
-use Rattle.walk_rules.specs.Numbers.{Known}
-use Rattle.walk_rules.specs.Kinds.{Amount}
 use Rattle.walk_rules.specs.Capped.{capped_amount}
 use Rattle.walk_rules.specs.Carried.{sides_to, hint_to}
 use Rattle.walk_rules.specs.Faults.{first_fault}
-use Rattle.rule_walk.specs.Read.{known_of, mode_of, sides_of}
+use Rattle.rule_walk.specs.Read.{known_of, sides_of}
 use Rattle.earlier_blocks.specs.Remembers.{free_at, cost_at}
-use Rattle.rule_plan.specs.Read.{body_of}
 use Rattle.cert_check.specs.At.{program_at, certificate_at}
-use Rattle.cert_check.specs.Asking.{all_asks_of}
 use Rattle.cert_check.specs.Finds.{asks_by, hints_by, sides_at, job}
 use Rattle.cert_check.specs.Judging.{bodies_walked}
 use Rattle.cert_check.proofs.Telling.{if_ok}
@@ -26,7 +22,7 @@ returns c = if_ok c.judged.result _ _ (λ judge e blocks at eb ea.
     let hints = map a.hints_of c.args.hints.now in
     let J = job (program_at here) (certificate_at here) blocks (task_of here.task) in
     let group : map sides_of c.deref.result.now ≡ map (sides_to capped_amount) (sides_at J.bodies sigs) =
-        ap (map sides_of) c.deref.ensures.value ∙ c.in_ok-group.ensures ∙ ap (λ bs. map (sides_to capped_amount) (sides_at bs sigs)) eb in
+    ap (map sides_of) c.deref.ensures.value ∙ c.in_ok-group.ensures ∙ ap (λ bs. map (sides_to capped_amount) (sides_at bs sigs)) eb in
     let known : known_of c.known-known.result ≡ record {
       scale = J.scale;
       budget = h.budget_of here.certificate.now.degree (kind_of kind);
