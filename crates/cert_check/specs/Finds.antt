@@ -1,5 +1,6 @@
 -- The first fault of a certificate.
-use Rattle.std.specs.Prelude.{◌≡◌, ◌⊎◌, ◌≤◌, ◌<ℤ◌, ℕ, ◌+◌, pos, cond, nat_eq, ◌&&◌, List, [], ◌∷◌, ◌++◌, map, length, slice_get, slice_index_or, Option, None, Some}
+use Rattle.std.specs.Prelude.{◌≡◌, ◌⊎◌, ◌≤◌, ◌<ℤ◌, ℕ, ◌+◌, pos, cond, nat_eq, ◌&&◌, List, [], ◌∷◌, ◌++◌}
+use Rattle.std.specs.Prelude.{map, length, slice_get, slice_index_or, Option, None, Some}
 use Rattle.std.specs.Option.{option_map}
 use Rattle.std.specs.List.{All, list_any}
 use Rattle.base_poly.specs.Plain.{Plain, alike}
@@ -82,7 +83,8 @@ missing_from k q target [] = 0
 missing_from k q target (t ∷ ts) = cond (list_any (alike t) target && nat_eq (q k) 0) k (missing_from (k + 1) q target ts)
 
 abbrev pub missing_in : ℕ → ℕ → ℕ → Option NormFun → Option Sig → ℕ
-missing_in d budget number (Some g) (Some s) = missing_from 0 (annotation s.result) (slice_index_or (targets g.result d) number []) (index_list (g.result ∷ []) budget)
+missing_in d budget number (Some g) (Some s) =
+    missing_from 0 (annotation s.result) (slice_index_or (targets g.result d) number []) (index_list (g.result ∷ []) budget)
 missing_in d budget number _ _ = 0
 
 -- the first of these functions whose result has more than 2000 indices: its first target at the greatest budget
@@ -152,7 +154,8 @@ module _ (P : Program) (c : Certificate) where
   -- in the target, and then in the rules
   abbrev pub TargetFinds : List Block → Task → List Sig → List (List Hint) → Option Fault → Type 0
   TargetFinds earlier task sigs hints found =
-      Unless (ReachesTarget P c.degree (block_of task (Solved sigs hints)) 1 task.kind) (Some (missed_at (length earlier) (members P task.group) sigs task.kind)) found
+      Unless (ReachesTarget P c.degree (block_of task (Solved sigs hints)) 1 task.kind)
+      (Some (missed_at (length earlier) (members P task.group) sigs task.kind)) found
       (RulesFind earlier task sigs hints found)
 
   -- in the shape first
