@@ -23,7 +23,8 @@ module _ (members : List ℕ) (sizes : List (ℕ × ℕ)) (sigs : List Sig) wher
   pub record GrowsPaying (degree : ℕ) (meter : Meter) (old new : Tables) : Type 0 where
     pub free : new.free ≡ old.free ++ [] ∷ []
     pub usable : new.usable ≡ old.usable
-    pub paying : map (option_map signature_of) (costs new meter) ≡ filled (signatures degree members sizes sigs) (map (option_map signature_of) (costs old meter))
+    pub paying : map (option_map signature_of) (costs new meter)
+        ≡ filled (signatures degree members sizes sigs) (map (option_map signature_of) (costs old meter))
     pub others : (other : Meter) → same_meter other meter ≡ false → costs new other ≡ costs old other
 
   abbrev pub Grows : ℕ → Kind → Tables → Tables → Type 0

@@ -9,4 +9,5 @@ mod tables;
 mod usage;
 
 pub use earlier::Earlier;
+pub use signatures::numbers;
 pub use usage::Usage;

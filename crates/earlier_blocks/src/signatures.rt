@@ -33,7 +33,7 @@ fn zeros(alloc: Global, size: usize) -> Result<Vec<u128>, AllocError>
     Ok(zeros)
 }
 
-/// The numbers of the first `size` positions.
+/// The numbers of an annotation at its first `size` positions.
 pub fn numbers(alloc: Global, annot: &Annot, size: usize) -> Result<Vec<u128>, AllocError>
     ensures { IfOk result (λ numbers. numbers.items ≡ listed size (annotation annot.now)) }
 {

@@ -1,0 +1,17 @@
+pub mod SameCalls
+pub mod OneFault
+pub mod Fitting
+pub mod Faultless
+pub mod Comparing
+pub mod Ended
+pub mod Hearing
+pub mod Walked
+pub mod Telling
+pub mod Covered
+pub mod Results
+pub mod Reaching
+pub mod Tasks
+pub mod Members
+pub mod Going
+pub mod SameTask
+pub mod Walking

@@ -1,0 +1,14 @@
+pub mod Fault
+pub mod Finds
+pub mod Asking
+pub mod Covering
+pub mod Course
+pub mod Same
+pub mod Results
+pub mod At
+pub mod Judged
+pub mod Judging
+pub mod Read
+pub mod Laws
+pub mod Checked
+pub mod Bound

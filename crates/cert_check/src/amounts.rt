@@ -1,0 +1,124 @@
+// Signatures and hints, as they are walked.
+ghost use Rattle.std.specs.Prelude.{◌≡◌, map, option_to_list, IfOk};
+ghost use Rattle.annot_types.specs.Read as a;
+ghost use Rattle.walk_rules.specs.Capped.{capped_amount};
+ghost use Rattle.walk_rules.specs.Carried.{sides_to, multiple_to, hint_to};
+ghost use Rattle.walk_rules.specs.Shape.{amounts_at, each_amounts, multiples_at, hint_at, hints_at};
+ghost use Rattle.rule_walk.specs.Asks.{ask_of, asks_of};
+ghost use Rattle.rule_walk.specs.Read.{sides_of, hint_of, hints_of};
+ghost use Rattle.rule_plan.specs.Read.{body_of};
+ghost use Rattle.cert_check.specs.Finds.{sides_at};
+
+use annot_types::{Annot, Hint as Told, Sig};
+use earlier_blocks::numbers;
+use rule_plan::Body;
+use rule_walk::{Amount, Ask, Hint, Sides};
+use std::alloc::{AllocError, Global};
+
+// An annotation of so many positions.
+fn amounts(alloc: Global, annot: &Annot, size: usize) -> Result<Vec<Amount>, AllocError>
+    ensures { IfOk result (λ made. made.items ≡ map capped_amount (amounts_at size annot.now)) }
+{
+    let numbers = numbers(alloc, annot, size)?;
+    let mut made = Vec::with_capacity(alloc, size)?;
+    for number in &numbers {
+        made.push(Amount::of(*number))?;
+    }
+    Ok(made)
+}
+
+/// The signatures of a group.
+pub fn all_sides(
+    alloc: Global,
+    bodies: &[Body],
+    sigs: &[Sig],
+) -> Result<Vec<Sides<Amount>>, AllocError>
+    ensures { IfOk result (λ made. map sides_of made.items ≡ map (sides_to capped_amount) (sides_at (map body_of bodies.now) (map a.sig_of sigs.now))) }
+{
+    let mut made = Vec::with_capacity(alloc, bodies.len())?;
+    let mut sigs = sigs;
+    for body in bodies {
+        let [sig, rest @ ..] = sigs else {
+            return Ok(made);
+        };
+        made.push(Sides {
+            args: amounts(alloc, &sig.args, body.args)?,
+            result: amounts(alloc, &sig.result, body.result)?,
+        })?;
+        sigs = rest;
+    }
+    Ok(made)
+}
+
+// The results of a `let`.
+fn each_result(
+    alloc: Global,
+    sizes: &[usize],
+    results: &[Annot],
+) -> Result<Vec<Vec<Amount>>, AllocError>
+    ensures { IfOk result (λ made. map (λ q. q.items) made.items ≡ map (map capped_amount) (each_amounts sizes.now results.now)) }
+{
+    let mut made = Vec::with_capacity(alloc, sizes.len())?;
+    let mut results = results;
+    for size in sizes {
+        let [annot, rest @ ..] = results else {
+            return Ok(made);
+        };
+        made.push(amounts(alloc, annot, *size)?)?;
+        results = rest;
+    }
+    Ok(made)
+}
+
+// The multiples of a call.
+fn multiples(alloc: Global, told: &[(u32, i128)]) -> Result<Vec<(u32, Amount)>, AllocError>
+    ensures { IfOk result (λ made. made.items ≡ map (multiple_to capped_amount) (multiples_at told.now)) }
+{
+    let mut made = Vec::with_capacity(alloc, told.len())?;
+    for (block, number) in told {
+        made.push((*block, Amount::of(number.unsigned_abs())))?;
+    }
+    Ok(made)
+}
+
+// A hint of the kind that is asked for.
+fn walked_hint(alloc: Global, ask: &Ask, told: &Told) -> Result<Option<Hint<Amount>>, AllocError>
+    ensures { IfOk result (λ hint. map hint_of (option_to_list hint) ≡ map (hint_to capped_amount) (hint_at (ask_of ask.now) (a.hint_of told.now))) }
+{
+    match ask {
+        Ask::Results(sizes) => match told {
+            Told::Let(results) => Ok(Some(Hint::Results(each_result(alloc, sizes, results)?))),
+            Told::Share(_) | Told::Call(_) => Ok(None),
+        },
+        Ask::Copies(size) => match told {
+            Told::Share(copies) => Ok(Some(Hint::Copies(amounts(alloc, copies, *size)?))),
+            Told::Let(_) | Told::Call(_) => Ok(None),
+        },
+        Ask::Multiples(_) => match told {
+            Told::Call(told) => Ok(Some(Hint::Multiples(multiples(alloc, told)?))),
+            Told::Let(_) | Told::Share(_) => Ok(None),
+        },
+    }
+}
+
+/// The hints that are asked for.
+pub fn walked_hints(
+    alloc: Global,
+    asks: &[Ask],
+    told: &[Told],
+) -> Result<Vec<Hint<Amount>>, AllocError>
+    ensures { IfOk result (λ made. hints_of made.items ≡ map (hint_to capped_amount) (hints_at (asks_of asks.now) (map a.hint_of told.now))) }
+{
+    let mut made = Vec::with_capacity(alloc, asks.len())?;
+    let mut told = told;
+    for ask in asks {
+        let [hint, rest @ ..] = told else {
+            return Ok(made);
+        };
+        if let Some(walked) = walked_hint(alloc, ask, hint)? {
+            made.push(walked)?;
+        }
+        told = rest;
+    }
+    Ok(made)
+}

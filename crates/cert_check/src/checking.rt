@@ -1,0 +1,72 @@
+// The check of a certificate.
+ghost use Rattle.std.specs.Prelude.{◌≡◌, ◌≤◌, [], None, IfOk, OnOk, IfErr};
+ghost use Rattle.annot_types.specs.Read.{blocks_of, certificate_of};
+ghost use Rattle.rule_plan.specs.Read.{program_in};
+ghost use Rattle.cert_check.specs.At.{Tells};
+ghost use Rattle.cert_check.specs.Finds.{BlocksFind, FirstFault};
+ghost use Rattle.cert_check.specs.Read.{fault_of, OfFault};
+
+use crate::blocks::{check_block, check_end};
+use crate::checked::{Checked, keep};
+use crate::fault::CertFault;
+use crate::head::head_fits;
+use annot_types::Certificate;
+use cost_free::Schedule;
+use earlier_blocks::Earlier;
+use share_normal::NormProgram;
+use std::alloc::Global;
+
+// The blocks, one after the other, and the end of the schedule.
+fn check_blocks(
+    alloc: Global,
+    program: &NormProgram<'_>,
+    certificate: &Certificate,
+) -> Result<(), CertFault>
+    requires degree { certificate.now.degree ≤ 4 }
+    ensures { Tells result (BlocksFind (program_in program.now) (certificate_of certificate.now) [] (blocks_of certificate.now.blocks.items)) }
+{
+    let work = certificate.work_scale.is_some();
+    let functions = program.functions();
+    let results = program.results();
+    let mut schedule = Schedule::new(alloc, results, program.groups(), certificate.degree, work);
+    let Ok(mut earlier) = Earlier::new(alloc, functions.len()) else {
+        return Err(CertFault::NoMemory);
+    };
+    for number in 0..certificate.blocks.len() {
+        let block = &certificate.blocks[number];
+        if let Err(fault) = check_block(
+            alloc,
+            program,
+            certificate,
+            &mut schedule,
+            &mut earlier,
+            number,
+            block,
+        ) {
+            return Err(fault);
+        }
+    }
+    let count = certificate.blocks.len();
+    check_end(alloc, program, certificate, &mut schedule, &earlier, count)
+}
+
+/// The certificate, where it has no fault; otherwise its first fault.
+pub fn check<'p, 'a>(
+    alloc: Global,
+    program: &'p NormProgram<'a>,
+    certificate: Certificate,
+) -> Result<Checked<'p, 'a>, CertFault>
+    ensures fits { OnOk result (FirstFault (program_in program.now) (certificate_of certificate) None) }
+    ensures kept { IfOk result (λ checked. checked ≡ record { program = program.now; certificate = certificate_of certificate }) }
+    ensures fault { IfErr result (λ fault. OfFault (fault_of fault) (FirstFault (program_in program.now) (certificate_of certificate))) }
+{
+    if !head_fits(&certificate) {
+        return Err(CertFault::Shape { block: 0 });
+    }
+    let _functions = program.functions();
+    let _groups = program.groups();
+    match check_blocks(alloc, program, &certificate) {
+        Err(fault) => Err(fault),
+        Ok(()) => Ok(keep(program, certificate)),
+    }
+}

@@ -1,0 +1,105 @@
+// The check of a solved block, from its plans on.
+ghost use Rattle.std.specs.Prelude.{◌≡◌, ◌↔◌, ◌≤◌, List, map, length, IsTrue, IfOk};
+ghost use Rattle.cost_free.specs.Read.{kind_of, task_of};
+ghost use Rattle.annot_types.specs.Certificate as c;
+ghost use Rattle.annot_types.specs.Certificate.{Solved};
+ghost use Rattle.annot_types.specs.Held.{SigsRise, AllHintsRise};
+ghost use Rattle.annot_types.specs.Holds as h;
+ghost use Rattle.annot_types.specs.Read as a;
+ghost use Rattle.rule_plan.specs.Read.{body_of};
+ghost use Rattle.cert_check.specs.At.{program_at, certificate_at, IsAt, Tells, sizes_of};
+ghost use Rattle.cert_check.specs.Asking.{all_asks_of};
+ghost use Rattle.cert_check.specs.Finds.{SigsFit, AllFit, asks_by, job, ShapeFinds, BodyFinds};
+
+use crate::at::{At, budget_of};
+use crate::fault::CertFault;
+use crate::reached::check_target;
+use crate::rules::all_asked;
+use crate::shape::{hints_fit, sigs_fit};
+use annot_types::{Hint, Sig};
+use rule_plan::{Body, PlanFault, bodies};
+use rule_walk::Ask;
+use std::alloc::{AllocError, Global};
+
+// Signatures and hints are those that the bodies want.
+fn is_shapely(bodies: &[Body], asks: &[Vec<Ask>], sigs: &[Sig], hints: &[Vec<Hint>]) -> bool
+    ensures { IsTrue result ↔ ((SigsFit (map body_of bodies.now) (map a.sig_of sigs.now) × SigsRise (map a.sig_of sigs.now))
+        × (AllFit (all_asks_of asks.now) (map a.hints_of hints.now) × AllHintsRise (map a.hints_of hints.now))) }
+{
+    sigs_fit(bodies, sigs) && hints_fit(asks, hints)
+}
+
+// The shape, and what comes behind it.
+fn check_shape(
+    at: &At<'_, '_>,
+    bodies: &[Body],
+    asks: &[Vec<Ask>],
+    sigs: &[Sig],
+    hints: &[Vec<Hint>],
+) -> Result<(), CertFault>
+    requires asked { all_asks_of asks.now ≡ asks_by (map body_of bodies.now) }
+    ensures { (blocks : List c.Block) → IsAt at.now blocks →
+        map body_of bodies.now ≡ (job (program_at at.now) (certificate_at at.now) blocks (task_of at.now.task)).bodies →
+        Tells result (ShapeFinds (program_at at.now) (certificate_at at.now) blocks (task_of at.now.task) (map a.sig_of sigs.now) (map a.hints_of hints.now)) }
+{
+    if is_shapely(bodies, asks, sigs, hints) {
+        check_target(at, bodies, asks, sigs, hints)
+    } else {
+        Err(CertFault::Shape { block: at.number })
+    }
+}
+
+// How many positions the functions have.
+fn sizes(alloc: Global, bodies: &[Body]) -> Result<Vec<(usize, usize)>, AllocError>
+    ensures { IfOk result (λ sizes. sizes.items ≡ sizes_of (map body_of bodies.now)) }
+{
+    let mut sizes = Vec::with_capacity(alloc, bodies.len())?;
+    for body in bodies {
+        sizes.push((body.args, body.result))?;
+    }
+    Ok(sizes)
+}
+
+// The check of a block with these plans; how many positions its functions have.
+fn check_planned(
+    at: &At<'_, '_>,
+    bodies: &[Body],
+    sigs: &[Sig],
+    hints: &[Vec<Hint>],
+) -> Result<Vec<(usize, usize)>, CertFault>
+    ensures tells { (blocks : List c.Block) → IsAt at.now blocks →
+        map body_of bodies.now ≡ (job (program_at at.now) (certificate_at at.now) blocks (task_of at.now.task)).bodies →
+        Tells result (ShapeFinds (program_at at.now) (certificate_at at.now) blocks (task_of at.now.task) (map a.sig_of sigs.now) (map a.hints_of hints.now)) }
+    ensures sizes { IfOk result (λ sizes. sizes.items ≡ sizes_of (map body_of bodies.now)) }
+{
+    match all_asked(at.alloc, bodies) {
+        Err(_) => Err(CertFault::NoMemory),
+        Ok(asks) => match check_shape(at, bodies, &asks, sigs, hints) {
+            Err(fault) => Err(fault),
+            Ok(()) => match sizes(at.alloc, bodies) {
+                Err(_) => Err(CertFault::NoMemory),
+                Ok(sizes) => Ok(sizes),
+            },
+        },
+    }
+}
+
+/// The check of a solved block; how many positions its functions have.
+pub fn check_solved(
+    at: &At<'_, '_>,
+    sigs: &[Sig],
+    hints: &[Vec<Hint>],
+) -> Result<Vec<(usize, usize)>, CertFault>
+    requires low { h.budget_of at.now.certificate.now.degree (kind_of at.now.task.kind) ≤ 4 }
+    ensures tells { (blocks : List c.Block) → IsAt at.now blocks →
+        Tells result (BodyFinds (program_at at.now) (certificate_at at.now) blocks (task_of at.now.task) (Solved (map a.sig_of sigs.now) (map a.hints_of hints.now))) }
+    ensures sizes { IfOk result (λ sizes. (blocks : List c.Block) → IsAt at.now blocks →
+        sizes.items ≡ sizes_of (job (program_at at.now) (certificate_at at.now) blocks (task_of at.now.task)).bodies) }
+{
+    let budget = budget_of(at.certificate.degree, at.task.kind);
+    match bodies(at.alloc, at.program, at.earlier, at.task.group, budget) {
+        Err(PlanFault::TooMany) => Err(CertFault::TooLarge { task: at.task }),
+        Err(PlanFault::NoMemory) => Err(CertFault::NoMemory),
+        Ok(plans) => check_planned(at, &plans, sigs, hints),
+    }
+}
