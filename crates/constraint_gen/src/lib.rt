@@ -1,0 +1,11 @@
+//! The system of a task: rows over the unknown numbers of its signatures and hints, and the signatures
+//! and hints that a solution stands for.
+#![tactic(auto)]
+
+mod fault;
+mod system;
+mod told;
+
+pub use fault::{GenFault, What};
+pub use system::rows;
+pub use told::hints_of;

@@ -1,0 +1,4 @@
+pub mod Told
+pub mod Capped
+pub mod Raised
+pub mod Laws
