@@ -2,7 +2,13 @@
 //! and hints that a solution stands for.
 #![tactic(auto)]
 
+mod collector;
+mod counts;
 mod fault;
+mod form;
+mod give;
+mod row;
+mod sum;
 mod system;
 mod told;
 

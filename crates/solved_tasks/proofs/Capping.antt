@@ -78,7 +78,7 @@ agree_on test b h x y (inl e) = ap test e
 agree_on test b h x y (inr g) = h x g.0 ∙ sym (h y g.1)
 
 -- the terms of unknowns from k on
-pub terms_from : ℕ → ℕ → (ℕ → ℤ) → Terms
+unfoldable pub terms_from : ℕ → ℕ → (ℕ → ℤ) → Terms
 terms_from k n f = filter (λ (t : ℕ × ℤ). not (int_eq t.1 (pos 0))) (map (λ u. (u, f u)) (range_with_len k n))
 
 is_zero : (z : ℤ) → int_eq z (pos 0) ≡ true → z ≡ pos 0

@@ -1,0 +1,4 @@
+pub mod Sums
+pub mod Kept
+pub mod Collected
+pub mod Giving
