@@ -1,9 +1,10 @@
 -- What a collector has heard.
 use Rattle.std.proofs.Common.{◌≡◌, refl, ap, sym, ◌∙◌, arith, inl, inr}
-use Rattle.std.specs.Prelude.{ℕ, zero, suc, ◌+◌, ◌<◌, ◌⊎◌, Bool, true, cond, nat_lt, ◌&&◌, List, [], ◌∷◌, ◌++◌, drop, length, Option, None, Some}
+use Rattle.std.specs.Prelude.{ℕ, zero, suc, ◌+◌, ◌<◌, ◌⊎◌, Bool, true, false, cond, nat_lt, ◌&&◌, List, [], ◌∷◌, ◌++◌, drop, length, Option, None, Some}
 use Rattle.std.proofs.lemmas.Bool.Decides.{nat_tests}
 use Rattle.linear_rows.specs.Terms.{SparseRow}
 use Rattle.annot_types.specs.System.{is_kept}
+use Rattle.walk_rules.specs.Numbers.{Condition}
 use Rattle.walk_rules.specs.Walk.{at, against, numbered}
 use Rattle.walk_rules.specs.Solving.{row_of}
 use Rattle.solved_tasks.specs.Capped.{within, is_sure}
@@ -73,3 +74,24 @@ rest_ends old now left right p e rest path index = sym (ap (λ l. hear_all (Some
   none : (q : List Sum) → against sums q [] ≡ []
   none [] = refl
   none (x ∷ q) = refl
+
+-- nothing is told any more
+pub none_stays : (cs : List (Condition Sum)) → hear_all None cs ≡ None
+none_stays [] = refl
+none_stays (c ∷ cs) = none_stays cs
+
+kept_unknowns : (h : Heard) (row : SparseRow) → (kept h row).unknowns ≡ h.unknowns
+kept_unknowns h row = by (nat_lt (length h.rows) 2001 && is_kept row) where
+  by : (b : Bool) → (cond b (record { unknowns = h.unknowns; rows = h.rows ++ within row ∷ [] }) h).unknowns ≡ h.unknowns
+  by true = refl
+  by false = refl
+
+pub same_unknowns : (h k : Heard) (cs : List (Condition Sum)) → hear_all (Some h) cs ≡ Some k → k.unknowns ≡ h.unknowns
+same_unknowns h k [] e = let same : h ≡ k = cc in ap (λ (h : Heard). h.unknowns) (sym same)
+same_unknowns h k (c ∷ cs) e =
+    let row = row_of h.unknowns (pair c.left c.right) in
+    by (is_sure h.unknowns (pair c.left c.right)) (λ f. same_unknowns (kept h row) k cs f) e where
+      by : (b : Bool) → (hear_all (Some (kept h (row_of h.unknowns (pair c.left c.right)))) cs ≡ Some k → k.unknowns ≡ (kept h (row_of h.unknowns (pair c.left c.right))).unknowns) →
+          hear_all (cond b (Some (kept h (row_of h.unknowns (pair c.left c.right)))) None) cs ≡ Some k → k.unknowns ≡ h.unknowns
+      by true go e = go e ∙ kept_unknowns h (row_of h.unknowns (pair c.left c.right))
+      by false go e = absurd (let no : None ≡ Some k = sym (none_stays cs) ∙ e in cc)

@@ -3,3 +3,7 @@ pub mod Sums
 pub mod Heard
 pub mod Hearing
 pub mod Given
+pub mod Weights
+pub mod Walked
+pub mod Finished
+pub mod Made

@@ -45,8 +45,8 @@ impl Collector {
         self.rows
     }
 
-    // One condition more.
-    fn take(&mut self, alloc: Global, left: &Form, right: &Form) -> Result<(), AllocError>
+    /// One condition more.
+    pub fn take(&mut self, alloc: Global, left: &Form, right: &Form) -> Result<(), AllocError>
         ensures { OnOk result (Some self.new ≡ hear (Some self.old) (record { path = []; index = 0; left = left.now; right = right.now })) }
     {
         if !is_sure(left, right) {

@@ -1,5 +1,6 @@
 // Why there is no system.
-use rule_plan::PlanFault;
+ghost use Rattle.std.specs.Prelude.{◌≡◌};
+
 use std::alloc::AllocError;
 
 /// Of what there are more than 2000.
@@ -22,7 +23,11 @@ pub enum GenFault {
 }
 
 impl From<AllocError> for GenFault {
-    fn from(error: AllocError) -> GenFault {
+    ghost use Rattle.constraint_gen.specs.declared.fault.GenFault.TheVariants.{NoMemory};
+
+    ghost from_gives = { λ _ e. e ≡ NoMemory };
+
+    fn from(_: AllocError) -> Self {
         GenFault::NoMemory
     }
 }

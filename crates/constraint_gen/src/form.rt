@@ -49,7 +49,7 @@ impl Form {
     }
 
     /// How often an unknown is taken.
-    pub fn number(&self, unknown: u32) -> u128
+    pub fn coefficient(&self, unknown: u32) -> u128
         ensures { result ≡ cap (total_of unknown self.now.terms) }
     {
         number_in(&self.terms, unknown)

@@ -5,11 +5,14 @@
 mod collector;
 mod counts;
 mod fault;
+mod finish;
 mod form;
 mod give;
+mod heard;
 mod row;
 mod sum;
 mod system;
+mod task;
 mod told;
 
 pub use fault::{GenFault, What};

@@ -40,7 +40,7 @@ fn covers(unknowns: u32, left: &Form, terms: &[(u32, u128)]) -> bool
     ensures { result ≡ list_all (λ t. not (nat_lt t.0 unknowns && nat_lt (cap (total_of t.0 left.now.terms)) t.1)) terms.now }
 {
     for term in terms {
-        if term.0 < unknowns && left.number(term.0) < term.1 {
+        if term.0 < unknowns && left.coefficient(term.0) < term.1 {
             return false;
         }
     }
@@ -90,7 +90,7 @@ fn settle(
     if unknown >= unknowns || row.coefficient(unknown) != 0 {
         return Ok(true);
     }
-    match difference(left.number(unknown), right.number(unknown)) {
+    match difference(left.coefficient(unknown), right.coefficient(unknown)) {
         Some(number) => {
             row.add(unknown, number).map_err(|_| AllocError)?;
             Ok(true)
