@@ -1,6 +1,6 @@
 -- The rows of a task, from what was heard.
 use Rattle.std.proofs.Common.{◌≡◌, refl, ap, sym, ◌∙◌, arith, subst, inl, inr, append-nil, append_assoc}
-use Rattle.std.specs.Prelude.{ℕ, zero, suc, ◌+◌, ◌<◌, ◌≤◌, ◌≢◌, ◌⊎◌, Bool, true, false, cond, not, ◌&&◌, nat_lt, ◌==◌, if◌then◌else◌, is_none, ℤ, pos, ◌-ℤ◌, slice_index_or, List, [], ◌∷◌, ◌++◌, map, filter, take, length, slice_get, Option, None, Some}
+use Rattle.std.specs.Prelude.{ℕ, zero, suc, ◌+◌, ◌<◌, ◌≤◌, ◌⊎◌, Bool, true, false, cond, not, ◌&&◌, nat_lt, ◌==◌, if◌then◌else◌, is_none, ℤ, pos, ◌-ℤ◌, slice_index_or, List, [], ◌∷◌, ◌++◌, map, take, length, slice_get, Option, None, Some}
 use Rattle.std.specs.List.{All}
 use Rattle.std.specs.Ordering.{int_eq}
 use Rattle.std.proofs.lemmas.Bool.Decides.{nat_tests}
@@ -13,7 +13,7 @@ use Rattle.walk_rules.specs.Carried.{condition_to}
 use Rattle.walk_rules.specs.Solving.{row_of, rows_of}
 use Rattle.solved_tasks.specs.Capped.{capped_condition, row_fits, within, is_sure, RowsAgree}
 use Rattle.constraint_gen.specs.Sums.{Sum, form_of}
-use Rattle.constraint_gen.specs.Heard.{Heard, kept, pair, hear, hear_all}
+use Rattle.constraint_gen.specs.Heard.{Heard, kept, pair, hear_all}
 use Rattle.constraint_gen.specs.Finished.{AreBelow, FirstNone, AllThere, Finished, present}
 use Rattle.constraint_gen.specs.Cause.{LeavesFirst}
 use Rattle.solved_tasks.proofs.Capping.{terms_from}
@@ -176,14 +176,15 @@ pub leaves_is : (rows : List SparseRow) (v : List (Option SparseRow)) (place : �
 leaves_is rows v place e low h =
     let short : length (take 2001 (map within rows)) < 2001 = omega (arith, ap length e, low) in
     let whole = e ∙ take_short 2001 (map within rows) short in
-    let at = leaving_at rows place (ap (λ l. slice_get l place) (sym whole) ∙ h.there) in
-    (omega (arith, ap length whole, length_map within rows, low),
-    record {
-      row = at.0;
-      there = at.1;
-      leaves = at.2;
-      first = λ k other b there. let f = h.first k b in fitting_at rows k f.0 other (ap (λ l. slice_get l k) (sym whole) ∙ f.1) there;
-    })
+    let at = leaving_at rows place (ap (λ l. slice_get l place) (sym whole) ∙ h.there) in (
+      omega (arith, ap length whole, length_map within rows, low),
+      record {
+        row = at.0;
+        there = at.1;
+        leaves = at.2;
+        first = λ k other b there. let f = h.first k b in fitting_at rows k f.0 other (ap (λ l. slice_get l k) (sym whole) ∙ f.1) there;
+      },
+    )
 
 -- the rows speak of the unknowns alone
 behind_none : (n k u : ℕ) (f : ℕ → ℤ) → k + n ≤ u → coefficient u (terms_from k n f) ≡ pos 0

@@ -1,6 +1,6 @@
 -- The functions of a program, as the code finds them.
 use Rattle.std.proofs.Common.{◌≡◌, refl, ap, sym, ◌∙◌, arith}
-use Rattle.std.specs.Prelude.{ℕ, zero, suc, ◌+◌, ◌≤◌, ◌<◌, nat_eq, cond, Bool, true, false, List, [], ◌∷◌, ◌++◌, map, filter, drop, length, slice_get, slice_index_or, Option, None, Some, option_map}
+use Rattle.std.specs.Prelude.{ℕ, zero, suc, ◌+◌, ◌≤◌, ◌<◌, nat_eq, cond, Bool, true, false, List, [], ◌∷◌, ◌++◌, filter, drop, length, slice_get, slice_index_or, Option, None, Some, option_map}
 use Rattle.std.specs.Option.{unwrap_or}
 use Rattle.std.specs.List.{list_any, range_with_len}
 use Rattle.base_poly.specs.Plain.{alike}
@@ -12,7 +12,7 @@ use Rattle.normal_form.specs.Norm as n
 use Rattle.raml_syntax.specs.Read.{ty_of}
 use Rattle.raml_syntax.specs.declared.ty.Ty.{Ty}
 use Rattle.normal_form.specs.Context.{types}
-use Rattle.normal_form.specs.Read.{parameters_of, fun_of, funs_of}
+use Rattle.normal_form.specs.Read.{parameters_of, funs_of}
 use Rattle.normal_form.specs.declared.form.NormFun.{NormFun}
 use Rattle.annot_types.specs.System.{args_of, result_of}
 use Rattle.walk_rules.specs.Planned.{place_in}

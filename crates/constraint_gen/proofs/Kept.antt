@@ -1,6 +1,6 @@
 -- Rows of capped sums.
 use Rattle.std.proofs.Common.{◌≡◌, refl, ap, sym, ◌∙◌, arith, inl, inr, subst}
-use Rattle.std.specs.Prelude.{ℕ, zero, suc, ◌+◌, ◌-◌, ◌*◌, ◌^◌, ◌<◌, ◌≤◌, ◌≢◌, ◌==◌, ◌⊎◌, if◌then◌else◌, Bool, true, false, cond, not, ◌&&◌, nat_lt, int_le, ℤ, pos, ◌-ℤ◌, List, [], ◌∷◌, length, Option, None, Some}
+use Rattle.std.specs.Prelude.{ℕ, zero, suc, ◌+◌, ◌-◌, ◌^◌, ◌<◌, ◌≤◌, ◌≢◌, ◌==◌, ◌⊎◌, if◌then◌else◌, Bool, true, false, cond, not, ◌&&◌, nat_lt, int_le, ℤ, pos, ◌-ℤ◌, [], ◌∷◌, length, None, Some}
 use Rattle.std.specs.List.{range_with_len, list_all}
 use Rattle.std.specs.Ordering.{int_eq}
 use Rattle.std.proofs.lemmas.Int.{ints}
@@ -12,7 +12,7 @@ use Rattle.walk_rules.specs.Capped.{cap}
 use Rattle.walk_rules.specs.Solving.{row_of}
 use Rattle.solved_tasks.specs.Capped.{fits, row_fits, within, is_sure}
 use Rattle.solved_tasks.proofs.Capping.{terms_from, all_terms, both_true}
-use Rattle.constraint_gen.specs.Sums.{Sum, Terms, total_of, unknown_at, number_at, IsSum, IsAt}
+use Rattle.constraint_gen.specs.Sums.{Sum, Terms, total_of, unknown_at, number_at, IsSum}
 use Rattle.constraint_gen.specs.Heard.{pair, wanted, IsDone, IsPart, Settles, Leaves}
 use Rattle.constraint_gen.proofs.Sums.{total_none, number_there, sum_behind}
 
@@ -35,9 +35,9 @@ pub each_below : (test : ℕ → Bool) (k n : ℕ) → list_all test (range_with
 each_below test k zero h u a b = absurd (omega (arith, a, b))
 each_below test k (suc n) h u a b =
     let two = both_true (test k) (list_all test (range_with_len (k + 1) n)) h in by two.0 (λ g. each_below test (k + 1) n two.1 u g (omega (arith, b))) (u == k) refl where
-  by : test k ≡ true → (k + 1 ≤ u → test u ≡ true) → (c : Bool) → (u == k) ≡ c → test u ≡ true
-  by here go true e = let same : u ≡ k = grind (arith, nat_tests, e) in ap test same ∙ here
-  by here go false e = let differs : u ≢ k = grind (arith, nat_tests, e) in go (grind (arith, a, differs))
+      by : test k ≡ true → (k + 1 ≤ u → test u ≡ true) → (c : Bool) → (u == k) ≡ c → test u ≡ true
+      by here go true e = let same : u ≡ k = grind (arith, nat_tests, e) in ap test same ∙ here
+      by here go false e = let differs : u ≢ k = grind (arith, nat_tests, e) in go (grind (arith, a, differs))
 
 -- Numbers of terms
 
@@ -45,13 +45,13 @@ small_total : (ts : Terms) (u : ℕ) → IsSum ts → list_all (λ (t : ℕ × �
 small_total [] u sum h = omega arith
 small_total (t ∷ ts) u sum h =
     let two = both_true (nat_lt t.1 (2 ^ 127)) (list_all (λ (t : ℕ × ℕ). nat_lt t.1 (2 ^ 127)) ts) h in by two.0 (small_total ts u (sum_behind t ts sum) two.1) (t.0 == u) refl where
-  by : nat_lt t.1 (2 ^ 127) ≡ true → total_of u ts < 2 ^ 127 → (c : Bool) → (t.0 == u) ≡ c → (if c then t.1 else 0) + total_of u ts < 2 ^ 127
-  by first go true e =
-      let same : t.0 ≡ u = grind (arith, nat_tests, e) in
-      let none = total_none ts u (λ j b here. omega (arith, sum.ascending 0 (suc j) (omega arith) (omega (arith, b)), here, same)) in
-      let low : t.1 < 2 ^ 127 = grind (arith, nat_tests, first) in
-      omega (arith, none, low)
-  by first go false e = omega (arith, go)
+      by : nat_lt t.1 (2 ^ 127) ≡ true → total_of u ts < 2 ^ 127 → (c : Bool) → (t.0 == u) ≡ c → (if c then t.1 else 0) + total_of u ts < 2 ^ 127
+      by first go true e =
+          let same : t.0 ≡ u = grind (arith, nat_tests, e) in
+          let none = total_none ts u (λ j b here. omega (arith, sum.ascending 0 (suc j) (omega arith) (omega (arith, b)), here, same)) in
+          let low : t.1 < 2 ^ 127 = grind (arith, nat_tests, first) in
+          omega (arith, none, low)
+      by first go false e = omega (arith, go)
 
 pub small_sum : (ts : Terms) → IsSum ts → list_all (λ (t : ℕ × ℕ). nat_lt t.1 (2 ^ 127)) ts ≡ true → (u : ℕ) → cap (total_of u ts) < 2 ^ 127
 small_sum ts sum h u = omega (arith, small_total ts u sum h)

@@ -1,6 +1,6 @@
 -- Terms that ascend: where an unknown stands, and what an edit there does.
 use Rattle.std.proofs.Common.{◌≡◌, refl, ap, sym, ◌∙◌, arith, subst, append-nil, append_assoc}
-use Rattle.std.specs.Prelude.{ℕ, zero, suc, ◌+◌, ◌-◌, ◌*◌, ◌^◌, ◌<◌, ◌≤◌, ◌≢◌, ◌==◌, if◌then◌else◌, cond, nat_lt, Bool, true, false, List, [], ◌∷◌, ◌++◌, length, set, slice_index_or, Result, Ok, Err, IfOk, IfErr}
+use Rattle.std.specs.Prelude.{ℕ, zero, suc, ◌+◌, ◌-◌, ◌*◌, ◌^◌, ◌<◌, ◌≤◌, ◌≢◌, ◌==◌, if◌then◌else◌, cond, nat_lt, Bool, true, false, [], ◌∷◌, ◌++◌, length, set, slice_index_or, Result, Ok, Err, IfOk, IfErr}
 use Rattle.std.specs.List.{insert}
 use Rattle.std.specs.List.Sorted.{IsSearchInRange, IsBinarySearchResult, IsNonDecreasingBy}
 use Rattle.std.specs.Ordering.{nat_cmp, ordering_index}
@@ -13,7 +13,7 @@ use Rattle.walk_rules.specs.Capped.{cap}
 use Rattle.walk_rules.specs.Numbers.{Carries}
 use Rattle.solved_tasks.specs.Capped.{capped_forms}
 use Rattle.solved_tasks.proofs.Capping.{same_form, cap_plus, cap_times}
-use Rattle.constraint_gen.specs.Sums.{Terms, unknown_at, number_at, IsSum, Sum, total_of, put, put_all, scaled, sums, unknown, form_of, IsAt, IsGapFor}
+use Rattle.constraint_gen.specs.Sums.{Terms, unknown_at, number_at, IsSum, total_of, put, put_all, scaled, sums, form_of, IsAt, IsGapFor}
 
 module _ (ts : Terms) (sum : IsSum ts) (u : ℕ) where
   rising : IsNonDecreasingBy (λ term. ordering_index (nat_cmp term.0 u)) ts
@@ -118,11 +118,22 @@ module _ (ts : Terms) (sum : IsSum ts) (u i : ℕ) where
       let below : (j : ℕ) → j < i → slice_index_or new j (0, 0) ≡ slice_index_or ts j (0, 0) = λ j lt. get_or-insert_below ts i (u, t) (0, 0) j lt gap.in_range in
       let here : (j : ℕ) → j ≡ i → slice_index_or new j (0, 0) ≡ (u, t) = λ j same. rw same (get_or-insert_at ts i (u, t) (0, 0) gap.in_range) in
       let above : (j : ℕ) → i < j → slice_index_or new j (0, 0) ≡ slice_index_or ts (j - 1) (0, 0) = λ j gt.
-          subst (λ q. slice_index_or new q (0, 0) ≡ slice_index_or ts (j - 1) (0, 0)) {x = j - 1 + 1} (omega (arith, gt)) (get_or-insert_above ts i (u, t) (0, 0) (j - 1) (omega (arith, gt)) gap.in_range) in
+      subst (λ q. slice_index_or new q (0, 0) ≡ slice_index_or ts (j - 1) (0, 0)) {x = j - 1 + 1} (omega (arith, gt)) (get_or-insert_above ts i (u, t) (0, 0) (j - 1) (omega (arith, gt)) gap.in_range) in
       record {
-        ascending = λ j k lt in_range. grind (arith, λ (b : j < i). ap unknown (below j b), λ (e : j ≡ i). ap unknown (here j e), λ (b : i < j). ap unknown (above j b),
-            λ (b : k < i). ap unknown (below k b), λ (e : k ≡ i). ap unknown (here k e), λ (b : i < k). ap unknown (above k b),
-            sum.ascending j k, sum.ascending j (k - 1), sum.ascending (j - 1) (k - 1), gap.lesser_before j, gap.greater_after (k - 1));
+        ascending = λ j k lt in_range. grind (
+          arith,
+          λ (b : j < i). ap unknown (below j b),
+          λ (e : j ≡ i). ap unknown (here j e),
+          λ (b : i < j). ap unknown (above j b),
+          λ (b : k < i). ap unknown (below k b),
+          λ (e : k ≡ i). ap unknown (here k e),
+          λ (b : i < k). ap unknown (above k b),
+          sum.ascending j k,
+          sum.ascending j (k - 1),
+          sum.ascending (j - 1) (k - 1),
+          gap.lesser_before j,
+          gap.greater_after (k - 1),
+        );
         capped = λ j in_range. grind (arith, λ (b : j < i). ap number (below j b), λ (e : j ≡ i). ap number (here j e), λ (b : i < j). ap number (above j b), sum.capped j, sum.capped (j - 1), low);
       }
 

@@ -1,10 +1,10 @@
 -- The conditions of a task, body by body.
 use Rattle.std.proofs.Common.{◌≡◌, refl, ap, sym, ◌∙◌, arith}
-use Rattle.std.specs.Prelude.{ℕ, zero, suc, ◌+◌, List, [], ◌∷◌, ◌++◌, map, length, slice_index_or, Option, Some}
+use Rattle.std.specs.Prelude.{ℕ, suc, ◌+◌, List, [], ◌∷◌, ◌++◌, map, length, slice_index_or, Option, Some}
 use Rattle.annot_types.specs.Rules.{Mode}
-use Rattle.walk_rules.specs.Numbers.{Known, Sides, Hint, Condition}
+use Rattle.walk_rules.specs.Numbers.{Known, Sides, Hint}
 use Rattle.walk_rules.specs.Walk.{at}
-use Rattle.walk_rules.specs.Asked.{Ask, counts, answers}
+use Rattle.walk_rules.specs.Asked.{Ask, counts}
 use Rattle.walk_rules.specs.Tasks as t
 use Rattle.walk_rules.specs.Tasks.{Job, known_by, of_target, of_bodies}
 use Rattle.rule_walk.specs.Place.{body_walked}

@@ -1,10 +1,8 @@
 -- The system of a task, from what the code makes.
 use Rattle.std.proofs.Common.{◌≡◌, refl, ap, sym, ◌∙◌, arith, subst}
-use Rattle.std.specs.Prelude.{ℕ, zero, suc, ◌+◌, ◌-◌, ◌*◌, ◌^◌, ◌<◌, ◌≤◌, ℤ, pos, ◌≤ℤ◌, ◌==◌, if◌then◌else◌, Bool, true, false, take, Result, Ok, Err, IfOk, IfErr, List, [], ◌∷◌, ◌++◌, map, length, replicate, slice_get, Option, Some}
+use Rattle.std.specs.Prelude.{ℕ, zero, suc, ◌-◌, ◌^◌, ◌<◌, ◌≤◌, ℤ, pos, ◌==◌, if◌then◌else◌, Bool, true, false, take, Result, Ok, Err, IfOk, IfErr, List, [], ◌∷◌, ◌++◌, map, length, replicate, slice_get, Option, Some}
 use Rattle.std.proofs.lemmas.Int.{ints}
 use Rattle.std.proofs.lemmas.Bool.Decides.{nat_tests}
-use Rattle.std.specs.List.{All}
-use Rattle.rule_plan.specs.Within.{FunctionWithin}
 use Rattle.raml_num.specs.Sums.{NoneNegative}
 use Rattle.base_poly.specs.Plain.{Plain, degrees}
 use Rattle.base_poly.specs.Indices.{index_list}
@@ -15,7 +13,7 @@ use Rattle.cost_free.specs.Task as k
 use Rattle.cost_free.specs.Task.{Task, Kind, Free}
 use Rattle.annot_types.specs.Program.{Program, members}
 use Rattle.annot_types.specs.Certificate.{Block}
-use Rattle.annot_types.specs.Holds.{mode_of, budget_of}
+use Rattle.annot_types.specs.Holds.{budget_of}
 use Rattle.annot_types.specs.System as s
 use Rattle.annot_types.specs.System.{sig_weights, args_of, result_of}
 use Rattle.annot_types.specs.Rows.{size as size_of}
@@ -25,7 +23,7 @@ use Rattle.walk_rules.specs.Walk.{at, group_sides}
 use Rattle.walk_rules.specs.Tasks.{Body, Job, sides_count, sides_given, hints_given, unknowns, known_by, of_target, of_bodies, given_conditions}
 use Rattle.walk_rules.specs.Jobs.{job_of}
 use Rattle.walk_rules.specs.Systems.{IsTask}
-use Rattle.walk_rules.specs.Solving.{rows_of, system_of}
+use Rattle.walk_rules.specs.Solving.{rows_of}
 use Rattle.walk_rules.proofs.TaskRows.{systems_are_walked}
 use Rattle.walk_rules.proofs.Given.{given_carry}
 use Rattle.walk_rules.specs.Carried.{condition_to}
@@ -38,10 +36,10 @@ use Rattle.constraint_gen.specs.Sums.{Sum, sums, form_of}
 use Rattle.constraint_gen.specs.Sums as c
 use Rattle.constraint_gen.specs.Walked.{job_in}
 use Rattle.solved_tasks.specs.Capped.{within}
-use Rattle.constraint_gen.specs.Heard.{Heard, hear_all}
+use Rattle.constraint_gen.specs.Heard.{hear_all}
 use Rattle.constraint_gen.specs.Finished.{RowFault}
 use Rattle.constraint_gen.specs.Cause.{IsWithin, IsCause, LeavesFirst}
-use Rattle.constraint_gen.specs.Made.{filled, HasRows, RowCause, JobMade, JobCause, job_rows}
+use Rattle.constraint_gen.specs.Made.{filled, HasRows, RowCause, JobCause, job_rows}
 use Rattle.constraint_gen.specs.declared.fault.GenFault.{GenFault}
 use Rattle.constraint_gen.specs.declared.fault.GenFault.TheVariants.{TooLarge, Leaves, NoMemory}
 use Rattle.constraint_gen.specs.declared.fault.What.TheVariants.{Indices, Unknowns, Rows}

@@ -1,7 +1,7 @@
 -- Rows, some of which may leave 128 bits, and what becomes of them.
 use Rattle.std.specs.Prelude.{◌≡◌, ◌<◌, ◌≤◌, ℕ, List, [], ◌∷◌, length, map, slice_get, Option, None, Some}
 use Rattle.linear_rows.specs.Terms.{SparseRow}
-use Rattle.linear_rows.specs.Systems.{LinearSystem, IsBelow}
+use Rattle.linear_rows.specs.Systems.{IsBelow}
 use Rattle.constraint_gen.specs.declared.fault.GenFault.{GenFault}
 use Rattle.constraint_gen.specs.declared.fault.GenFault.TheVariants.{TooLarge, Leaves, NoMemory}
 use Rattle.constraint_gen.specs.declared.fault.What.TheVariants.{Rows}

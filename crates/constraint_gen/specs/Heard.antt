@@ -1,10 +1,9 @@
 -- The rows of the conditions that are heard.
-use Rattle.std.specs.Prelude.{◌≡◌, ◌⊎◌, ◌<◌, ℕ, ℤ, pos, ◌-ℤ◌, nat_lt, true, false, cond, ◌&&◌, List, [], ◌∷◌, ◌++◌, length, Option, None, Some}
+use Rattle.std.specs.Prelude.{◌≡◌, ◌⊎◌, ℕ, ℤ, pos, ◌-ℤ◌, nat_lt, true, false, cond, ◌&&◌, List, [], ◌∷◌, ◌++◌, length, Option, None, Some}
 use Rattle.linear_rows.specs.Terms.{Terms, SparseRow, coefficient}
 use Rattle.annot_types.specs.System.{is_kept}
 use Rattle.walk_rules.specs.Numbers.{Condition}
 use Rattle.walk_rules.specs.Kinds.{Form}
-use Rattle.walk_rules.specs.Carried.{condition_to}
 use Rattle.walk_rules.specs.Solving.{row_of}
 use Rattle.walk_rules.specs.Capped.{cap}
 use Rattle.solved_tasks.specs.Capped.{fits, within, is_sure}

@@ -1,10 +1,10 @@
 -- The job of a task as the code knows it, and its conditions.
-use Rattle.std.specs.Prelude.{ℕ, suc, List, [], ◌∷◌, ◌++◌, map}
+use Rattle.std.specs.Prelude.{ℕ, suc, List, [], ◌∷◌, ◌++◌}
 use Rattle.cost_free.specs.Task.{Task}
 use Rattle.annot_types.specs.Program.{Program, members}
 use Rattle.annot_types.specs.Rules.{Mode}
 use Rattle.annot_types.specs.Holds.{mode_of, budget_of}
-use Rattle.walk_rules.specs.Numbers.{Numbers, Known, Hint, Condition}
+use Rattle.walk_rules.specs.Numbers.{Known, Hint, Condition}
 use Rattle.walk_rules.specs.Walk.{at}
 use Rattle.walk_rules.specs.Tasks as t
 use Rattle.walk_rules.specs.Tasks.{Job}

@@ -60,12 +60,7 @@ impl Collector {
     }
 
     // Each entry on the right with the one at its place on the left.
-    fn take_all(
-        &mut self,
-        alloc: Global,
-        left: &[Form],
-        right: &[Form],
-    ) -> Result<(), AllocError>
+    fn take_all(&mut self, alloc: Global, left: &[Form], right: &[Form]) -> Result<(), AllocError>
         ensures { OnOk result ((path : List ℕ) (index : ℕ) → Some self.new ≡ hear_all (Some self.old) (numbered path index (against sums left.now right.now))) }
     {
         let none = Form::none(alloc);

@@ -28,11 +28,7 @@ fn given(alloc: Global, next: &mut u32, count: usize) -> Result<Vec<Form>, Alloc
 }
 
 // Lists of these sizes.
-fn given_each(
-    alloc: Global,
-    next: &mut u32,
-    sizes: &[usize],
-) -> Result<Vec<Vec<Form>>, AllocError>
+fn given_each(alloc: Global, next: &mut u32, sizes: &[usize]) -> Result<Vec<Vec<Form>>, AllocError>
     requires room { next.old + sum_of sizes.now < 2 ^ 32 }
     ensures given { IfOk result (λ made. lists made.items ≡ given_each unknown next.old sizes.now) }
     ensures next { OnOk result (next.new ≡ next.old + sum_of sizes.now) }
@@ -76,11 +72,7 @@ fn answer(alloc: Global, next: &mut u32, ask: &Ask) -> Result<Hint<Form>, AllocE
 }
 
 // All hints of a body.
-fn answers(
-    alloc: Global,
-    next: &mut u32,
-    asks: &[Ask],
-) -> Result<Vec<Hint<Form>>, AllocError>
+fn answers(alloc: Global, next: &mut u32, asks: &[Ask]) -> Result<Vec<Hint<Form>>, AllocError>
     requires room { next.old + counts (asks_of asks.now) < 2 ^ 32 }
     ensures given { IfOk result (λ made. hints_of made.items ≡ answers unknown next.old (asks_of asks.now)) }
     ensures next { OnOk result (next.new ≡ next.old + counts (asks_of asks.now)) }
@@ -122,11 +114,7 @@ fn side(alloc: Global, next: &mut u32, body: &Body) -> Result<Sides<Form>, Alloc
 }
 
 /// The signatures of all bodies.
-pub fn sides(
-    alloc: Global,
-    next: &mut u32,
-    bodies: &[Body],
-) -> Result<Vec<Sides<Form>>, AllocError>
+pub fn sides(alloc: Global, next: &mut u32, bodies: &[Body]) -> Result<Vec<Sides<Form>>, AllocError>
     requires room { next.old + sides_count (map body_of bodies.now) < 2 ^ 32 }
     ensures given { IfOk result (λ made. map sides_of made.items ≡ sides_given unknown next.old (map body_of bodies.now)) }
     ensures next { OnOk result (next.new ≡ next.old + sides_count (map body_of bodies.now)) }

@@ -26,11 +26,7 @@ pub fn number_in(terms: &[(u32, u128)], unknown: u32) -> u128
 }
 
 // An unknown is taken so many times more.
-fn add_term(
-    terms: &mut Vec<(u32, u128)>,
-    unknown: u32,
-    times: u128,
-) -> Result<(), AllocError>
+fn add_term(terms: &mut Vec<(u32, u128)>, unknown: u32, times: u128) -> Result<(), AllocError>
     requires sum { IsSum terms.old.items }
     ensures sum { IsSum terms.new.items }
     ensures put { OnOk result (terms.new.items ≡ put unknown times terms.old.items) }

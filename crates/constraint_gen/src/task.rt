@@ -82,11 +82,7 @@ fn arguments(alloc: Global, program: &NormProgram<'_>, fun: FunId) -> Result<Vec
 }
 
 // The type of its result.
-fn result_types(
-    alloc: Global,
-    program: &NormProgram<'_>,
-    fun: FunId,
-) -> Result<Vec<Ty>, AllocError>
+fn result_types(alloc: Global, program: &NormProgram<'_>, fun: FunId) -> Result<Vec<Ty>, AllocError>
     ensures { IfOk result (λ made. context_of made.items ≡ result_of (slice_get (program_in program.now).funs fun.0)) }
 {
     let place = fun.0 as usize;

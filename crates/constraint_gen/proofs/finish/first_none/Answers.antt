@@ -1,4 +1,4 @@
-use Rattle.std.proofs.Common.{◌≡◌, ◌<◌, length, Some, slice_get, false, arith, rules}
+use Rattle.std.proofs.Common.{◌≡◌, ◌<◌, length, false, arith, rules}
 use Rattle.std.specs.Prelude.{is_none}
 use Rattle.std.proofs.lemmas.Bool.Decides.{nat_tests}
 use Rattle.constraint_gen.proofs.Functions.{there_at}

@@ -1,5 +1,4 @@
-use Rattle.std.proofs.Common.{◌≡◌, ◌∙◌, Some, map, ap, subst, sym}
-use Rattle.linear_rows.specs.Systems.{AllBelow}
+use Rattle.std.proofs.Common.{◌∙◌, Some, map, ap}
 use Rattle.constraint_gen.proofs.Finishing.{present_all, below_all}
 use Rattle.constraint_gen.proofs.finish.whole.Goals as goal
 

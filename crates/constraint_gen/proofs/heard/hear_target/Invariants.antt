@@ -1,5 +1,4 @@
 use Rattle.std.proofs.Common.{◌≡◌, ℕ, Some, drop}
-use Rattle.constraint_gen.specs.Sums.{sums}
 use Rattle.constraint_gen.specs.Heard.{hear_all}
 use Rattle.constraint_gen.specs.Walked.{reached}
 use Rattle.constraint_gen.proofs.heard.hear_target.Given as goal

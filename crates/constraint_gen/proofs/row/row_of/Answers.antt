@@ -1,10 +1,10 @@
-use Rattle.std.proofs.Common.{◌≡◌, ◌<◌, ◌+◌, ◌-ℤ◌, ◌^◌, ℕ, ℤ, pos, true, length, subst, rules}
+use Rattle.std.proofs.Common.{◌≡◌, ◌<◌, ◌+◌, ◌-ℤ◌, ℕ, pos, true, length, subst, rules}
 use Rattle.walk_rules.specs.Capped.{cap}
 use Rattle.solved_tasks.specs.Capped.{fits}
 use Rattle.linear_rows.specs.Terms.{IsSparse}
 use Rattle.constraint_gen.specs.Sums.{IsSum, unknown_at}
-use Rattle.constraint_gen.specs.Heard.{wanted, IsDone, IsPart, Settles, Leaves}
-use Rattle.constraint_gen.proofs.Kept.{sure_right, row_is, row_leaves, right_leaves}
+use Rattle.constraint_gen.specs.Heard.{wanted, IsDone, IsPart, Leaves}
+use Rattle.constraint_gen.proofs.Kept.{sure_right, row_is, row_leaves}
 use Rattle.constraint_gen.proofs.row.row_of.Goals as goal
 
 pub returns-then-not-branch : goal.returns-then-not-branch
@@ -23,9 +23,9 @@ returns c =
     let low = sure_right c.args.unknowns c.args.left.now c.args.right.now c.requires.sure in
     let part : IsPart g c.settle_all-2.new.row.terms = search rules in
     let first : (i : ℕ) → i < length c.args.left.now.terms → IsDone g c.settle_all.new.row.terms (unknown_at c.args.left.now.terms i) =
-        subst (λ ts. (i : ℕ) → i < length ts → IsDone g c.settle_all.new.row.terms (unknown_at ts i)) c.terms.ensures.terms (c.in_ok-settle_all.ensures.done (search rules)) in
+    subst (λ ts. (i : ℕ) → i < length ts → IsDone g c.settle_all.new.row.terms (unknown_at ts i)) c.terms.ensures.terms (c.in_ok-settle_all.ensures.done (search rules)) in
     let second : (i : ℕ) → i < length c.args.right.now.terms → IsDone g c.settle_all-2.new.row.terms (unknown_at c.args.right.now.terms i) =
-        subst (λ ts. (i : ℕ) → i < length ts → IsDone g c.settle_all-2.new.row.terms (unknown_at ts i)) c.terms-2.ensures.terms (c.in_ok-settle_all-2.ensures.done (search rules)) in
+    subst (λ ts. (i : ℕ) → i < length ts → IsDone g c.settle_all-2.new.row.terms (unknown_at ts i)) c.terms-2.ensures.terms (c.in_ok-settle_all-2.ensures.done (search rules)) in
     let still : (u : ℕ) → IsDone g c.settle_all.new.row.terms u → IsDone g c.settle_all-2.new.row.terms u = c.in_ok-settle_all-2.ensures.settles.still in
     let sparse : IsSparse c.settle_all-2.new.row.terms = search rules in
     let one : IsSum c.args.left.now.terms = search rules in

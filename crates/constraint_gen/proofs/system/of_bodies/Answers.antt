@@ -1,4 +1,4 @@
-use Rattle.std.proofs.Common.{◌≡◌, ◌∙◌, ap, sym, subst, map, take, rules}
+use Rattle.std.proofs.Common.{◌∙◌, ap, sym, subst, map}
 use Rattle.raml_num.specs.Sums.{NoneNegative}
 use Rattle.cost_free.specs.Read.{task_of, kind_of}
 use Rattle.annot_types.specs.Holds.{budget_of}
@@ -8,7 +8,6 @@ use Rattle.walk_rules.specs.Kinds.{forms, unknown}
 use Rattle.walk_rules.specs.Tasks.{given_conditions}
 use Rattle.walk_rules.specs.Solving.{rows_of}
 use Rattle.rule_plan.specs.Read.{program_in, body_of}
-use Rattle.solved_tasks.specs.Capped.{within}
 use Rattle.constraint_gen.specs.Made.{filled}
 use Rattle.constraint_gen.specs.Walked.{job_in}
 use Rattle.constraint_gen.proofs.Finishing.{told_below, finished_is}

@@ -1,10 +1,10 @@
-use Rattle.std.proofs.Common.{◌≡◌, ◌≤◌, ◌<◌, ◌+◌, ◌∙◌, ℕ, ap, sym, subst, map, arith, rules}
+use Rattle.std.proofs.Common.{◌≡◌, ◌≤◌, ◌<◌, ◌+◌, ◌∙◌, ap, subst, map, arith, rules}
 use Rattle.cost_free.specs.Read.{task_of, kind_of}
 use Rattle.annot_types.specs.Holds.{budget_of}
 use Rattle.annot_types.specs.Program.{members}
 use Rattle.annot_types.specs.System.{sig_weights}
 use Rattle.walk_rules.specs.Kinds.{forms, unknown}
-use Rattle.walk_rules.specs.Tasks.{sides_count, hints_count, unknowns, given_conditions}
+use Rattle.walk_rules.specs.Tasks.{sides_count, unknowns, given_conditions}
 use Rattle.walk_rules.specs.Solving.{rows_of}
 use Rattle.rule_walk.specs.Asks.{asks_of}
 use Rattle.rule_plan.specs.Read.{program_in, body_of}

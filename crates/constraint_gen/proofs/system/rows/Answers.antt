@@ -1,7 +1,7 @@
-use Rattle.std.proofs.Common.{◌≡◌, ◌∙◌, ◌≤◌, ℕ, ap, sym, subst, map, unsigned_abs, slice_get, arith, rules}
+use Rattle.std.proofs.Common.{◌≡◌, ◌∙◌, ap, subst, map, unsigned_abs, slice_get, arith}
 use Rattle.std.specs.Int.{w128}
 use Rattle.std.proofs.lemmas.Int.{to_z-of_z}
-use Rattle.cost_free.specs.Read.{task_of, kind_of}
+use Rattle.cost_free.specs.Read.{task_of}
 use Rattle.annot_types.specs.Holds.{budget_of}
 use Rattle.annot_types.specs.Program.{members}
 use Rattle.annot_types.specs.System.{sig_weights}
@@ -9,7 +9,7 @@ use Rattle.walk_rules.specs.Jobs as j
 use Rattle.rule_plan.specs.Read.{program_in, body_of}
 use Rattle.rule_plan.specs.Within.{FunctionWithin}
 use Rattle.std.specs.List.{All}
-use Rattle.constraint_gen.specs.Cause.{IsWithin, IsMade, IsCause}
+use Rattle.constraint_gen.specs.Cause.{IsWithin}
 use Rattle.constraint_gen.specs.Made.{JobMade, JobCause}
 use Rattle.constraint_gen.specs.Walked.{job_in}
 use Rattle.constraint_gen.proofs.Whole.{unknowns_are, rows_are, system_is, is_cause, if_ok, if_err}
@@ -29,7 +29,7 @@ returns-in-Ok-clause-made c =
     (λ made h blocks remembers is.
     let whole = subst (λ n. JobMade (job_in P d c.args.earlier.now bs task n) weights made) scale_is h in
     let bodies : bs ≡ (j.job_of P d blocks task scale).bodies =
-        ap (map body_of) c.deref.ensures.value ∙ c.in-Ok.ensures.plans d blocks remembers ∙ (λ i. map (λ f. j.body_of P (members P task.group) blocks (c.budget_of-budget.ensures i) (slice_get P.funs f)) (members P task.group)) in
+    ap (map body_of) c.deref.ensures.value ∙ c.in-Ok.ensures.plans d blocks remembers ∙ (λ i. map (λ f. j.body_of P (members P task.group) blocks (c.budget_of-budget.ensures i) (slice_get P.funs f)) (members P task.group)) in
     record {
       is = system_is c.walks_without_cost.ensures P d blocks c.args.earlier.now remembers task scale bs bodies is made whole.has;
       indices = within;
@@ -52,7 +52,7 @@ returns-in-Ok-clause-fault c =
     (λ fault h blocks remembers is.
     let whole = subst (λ n. JobCause (job_in P d c.args.earlier.now bs task n) fault) scale_is h in
     let bodies : bs ≡ (j.job_of P d blocks task scale).bodies =
-        ap (map body_of) c.deref.ensures.value ∙ c.in-Ok.ensures.plans d blocks remembers ∙ (λ i. map (λ f. j.body_of P (members P task.group) blocks (c.budget_of-budget.ensures i) (slice_get P.funs f)) (members P task.group)) in
+    ap (map body_of) c.deref.ensures.value ∙ c.in-Ok.ensures.plans d blocks remembers ∙ (λ i. map (λ f. j.body_of P (members P task.group) blocks (c.budget_of-budget.ensures i) (slice_get P.funs f)) (members P task.group)) in
     is_cause P d blocks task scale (job_in P d c.args.earlier.now bs task scale) fault within
     (unknowns_are c.walks_without_cost.ensures P d blocks c.args.earlier.now remembers task scale bs bodies is)
     (rows_are c.walks_without_cost.ensures P d blocks c.args.earlier.now remembers task scale bs bodies is) whole)

@@ -1,5 +1,4 @@
 use Rattle.std.proofs.Common.{◌≡◌, ◌∙◌, ap, slice_get, rules}
-use Rattle.annot_types.specs.System.{result_of}
 use Rattle.base_poly.specs.Read.{context_of}
 use Rattle.rule_plan.specs.Read.{program_in}
 use Rattle.constraint_gen.specs.Weights.{positions_in}
