@@ -6,3 +6,4 @@ pub mod Functions
 pub mod Walking
 pub mod Finishing
 pub mod Whole
+pub mod Telling

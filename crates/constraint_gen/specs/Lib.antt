@@ -7,3 +7,4 @@ pub mod Weights
 pub mod Walked
 pub mod Finished
 pub mod Made
+pub mod Numbers

@@ -98,8 +98,8 @@ fn of_plans(
     }
 }
 
-// The plans of the group.
-fn planned(
+/// The plans of the group.
+pub fn planned(
     alloc: Global,
     program: &NormProgram<'_>,
     earlier: &Earlier,
@@ -119,8 +119,8 @@ fn planned(
     }
 }
 
-// How many unknowns there are; none where they are more than 2000.
-fn count(planned: &[Body], asks: &[Vec<Ask>]) -> Option<u32>
+/// How many unknowns there are; none where they are more than 2000.
+pub fn count(planned: &[Body], asks: &[Vec<Ask>]) -> Option<u32>
     ensures { SomeIff result (sides_count (map body_of planned.now) + all_counts (map (λ a. asks_of a.items) asks.now) ≤ 2000)
         (sides_count (map body_of planned.now) + all_counts (map (λ a. asks_of a.items) asks.now)) }
 {
