@@ -1,5 +1,5 @@
 -- Entries of numbers, one by one.
-use Rattle.std.proofs.Common.{◌≡◌, refl, ap, sym, ◌∙◌, arith}
+use Rattle.std.proofs.Common.{◌≡◌, refl, ap, ◌∙◌, arith}
 use Rattle.std.specs.Prelude.{ℕ, zero, suc, ◌+◌, nat_eq, cond, Bool, true, false, pos, List, [], ◌∷◌, ◌++◌, length}
 use Rattle.annot_types.specs.Certificate.{Entries}
 use Rattle.walk_rules.specs.Asked.{given}
