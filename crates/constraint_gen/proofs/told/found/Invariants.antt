@@ -1,0 +1,8 @@
+use Rattle.std.proofs.Common.{◌≡◌, ◌+◌}
+use Rattle.walk_rules.specs.Asked.{given}
+use Rattle.solved_tasks.specs.Told.{entries}
+use Rattle.constraint_gen.specs.Numbers.{numbers}
+use Rattle.constraint_gen.proofs.told.found.Given as goal
+
+abbrev pub invariant-loop-place : goal.invariant-loop-place
+invariant-loop-place l = (l.made.items ≡ entries (given (numbers l.solution) l.fn.next l.place)) × (l.next ≡ l.fn.next + l.place)

@@ -1,0 +1,10 @@
+pub mod Cause
+pub mod Sums
+pub mod Heard
+pub mod Hearing
+pub mod Given
+pub mod Weights
+pub mod Walked
+pub mod Finished
+pub mod Made
+pub mod Numbers

@@ -1,0 +1,11 @@
+-- The numbers of a solution.
+use Rattle.std.specs.Prelude.{ℕ, ℤ, pos, unsigned_abs, nat_eq, cond, List, [], ◌∷◌, map}
+use Rattle.annot_types.specs.Certificate.{Entries}
+use Rattle.solved_tasks.specs.Told.{number_in}
+
+abbrev pub numbers : List ℤ → ℕ → ℕ
+numbers solution u = number_in (map unsigned_abs solution) u
+
+-- an entry at a position, unless its number is 0
+abbrev pub entry : ℕ → ℕ → Entries
+entry k n = cond (nat_eq n 0) [] ((k, pos n) ∷ [])

@@ -1,0 +1,103 @@
+// The rows of a walk.
+ghost use Rattle.std.specs.Prelude.{◌≡◌, ℕ, List, [], Some, OnOk};
+ghost use Rattle.walk_rules.specs.Walk.{against, numbered};
+ghost use Rattle.constraint_gen.specs.Sums.{sums};
+ghost use Rattle.constraint_gen.specs.Heard.{hear, hear_all};
+
+use crate::form::Form;
+use crate::row::{is_kept, is_sure, row_of};
+use linear_rows::Row;
+use rule_walk::{Judge, Kind};
+use std::alloc::{AllocError, Global};
+use std::marker::Model;
+
+/// The rows over so many unknowns of the conditions that were heard, but for those that say nothing, and
+/// no more than 2001 of them; none stands for a row that leaves 128 bits.
+#[derive(Drop)]
+pub struct Collector {
+    unknowns: u32,
+    rows: Vec<Option<Row>>,
+}
+
+impl Model for Collector {
+    ghost use Rattle.constraint_gen.specs.Heard.{Heard};
+
+    ghost Value = { Heard };
+
+    ghost view = { λ c. record { unknowns = c.unknowns; rows = c.rows.items } };
+}
+
+impl Collector {
+    /// No rows yet.
+    pub fn new(alloc: Global, unknowns: u32) -> Collector
+        ensures { result ≡ record { unknowns = unknowns; rows = [] } }
+    {
+        Collector {
+            unknowns,
+            rows: Vec::new(alloc),
+        }
+    }
+
+    /// The rows.
+    pub fn into_rows(self) -> Vec<Option<Row>>
+        ensures { result.items ≡ self.rows }
+    {
+        self.rows
+    }
+
+    /// One condition more.
+    pub fn take(&mut self, alloc: Global, left: &Form, right: &Form) -> Result<(), AllocError>
+        ensures { OnOk result (Some self.new ≡ hear (Some self.old) (record { path = []; index = 0; left = left.now; right = right.now })) }
+    {
+        if !is_sure(left, right) {
+            return Err(AllocError);
+        }
+        if self.rows.len() <= 2000 && is_kept(self.unknowns, left, right) {
+            let row = row_of(alloc, self.unknowns, left, right)?;
+            self.rows.push(row)?;
+        }
+        Ok(())
+    }
+
+    // Each entry on the right with the one at its place on the left.
+    fn take_all(&mut self, alloc: Global, left: &[Form], right: &[Form]) -> Result<(), AllocError>
+        ensures { OnOk result ((path : List ℕ) (index : ℕ) → Some self.new ≡ hear_all (Some self.old) (numbered path index (against sums left.now right.now))) }
+    {
+        let none = Form::none(alloc);
+        for place in 0..right.len() {
+            let entry = left.get(place).unwrap_or(&none);
+            self.take(alloc, entry, &right[place])?;
+        }
+        Ok(())
+    }
+}
+
+impl Judge<Form> for Collector {
+    ghost use Rattle.std.specs.Prelude.{Option, Some};
+    ghost use Rattle.constraint_gen.specs.Heard.{Heard, hear_all};
+    ghost use Rattle.constraint_gen.specs.Hearing.{silent, in_turn};
+
+    ghost Verdict = { Option Heard };
+
+    ghost verdict = { λ c. Some c };
+
+    ghost after = { hear_all };
+
+    fn hear(
+        &mut self,
+        alloc: Global,
+        path: &[u32],
+        index: usize,
+        left: Vec<Form>,
+        right: Vec<Form>,
+    ) -> Result<(), AllocError>
+        ensures { OnOk result (Some self.new ≡ hear_all (Some self.old) (numbered path.now index (against sums left.items right.items))) }
+    {
+        self.take_all(alloc, &left, &right)?;
+        Ok(())
+    }
+
+    ghost silent = { silent };
+
+    ghost in_turn = { in_turn };
+}

@@ -1,0 +1,149 @@
+// The row of a condition.
+ghost use Rattle.std.specs.Prelude.{◌≡◌, ◌<◌, ◌+◌, ◌-ℤ◌, ◌^◌, ℕ, pos, nat_lt, true, false, not, ◌&&◌, length, cond, IsTrue, IfOk, OnOk, IsOkAnd, SomeIff};
+ghost use Rattle.std.specs.List.{list_all};
+ghost use Rattle.annot_types.specs.System.{is_kept};
+ghost use Rattle.walk_rules.specs.Capped.{cap};
+ghost use Rattle.walk_rules.specs.Solving.{row_of};
+ghost use Rattle.solved_tasks.specs.Capped.{fits, within, is_sure};
+ghost use Rattle.constraint_gen.specs.Sums.{total_of, unknown_at, IsSum};
+ghost use Rattle.constraint_gen.specs.Heard.{pair, wanted, IsDone, IsPart, Settles, Leaves};
+
+use crate::form::Form;
+use linear_rows::Row;
+use std::alloc::{AllocError, Global};
+
+/// The least number that is none of 127 bits.
+const LIMIT: u128 = 1 << 127;
+
+// Whether all numbers are below 2^127.
+fn are_small(terms: &[(u32, u128)]) -> bool
+    ensures { result ≡ list_all (λ t. nat_lt t.1 (2 ^ 127)) terms.now }
+{
+    for term in terms {
+        if term.1 >= LIMIT {
+            return false;
+        }
+    }
+    true
+}
+
+/// Whether what is subtracted in the row is below 2^127.
+pub fn is_sure(left: &Form, right: &Form) -> bool
+    ensures sure { IsTrue result → (n : ℕ) → is_sure n (pair left.now right.now) ≡ true }
+    ensures small { IsTrue result → (u : ℕ) → cap (total_of u right.now.terms) < 2 ^ 127 }
+{
+    are_small(right.terms()) && left.plus().saturating_add(right.minus()) < LIMIT
+}
+
+// Whether the sum takes each of the unknowns at least as often as these terms.
+fn covers(unknowns: u32, left: &Form, terms: &[(u32, u128)]) -> bool
+    ensures { result ≡ list_all (λ t. not (nat_lt t.0 unknowns && nat_lt (cap (total_of t.0 left.now.terms)) t.1)) terms.now }
+{
+    for term in terms {
+        if term.0 < unknowns && left.coefficient(term.0) < term.1 {
+            return false;
+        }
+    }
+    true
+}
+
+/// Whether the row says something: it has a negative coefficient, or a positive right side.
+pub fn is_kept(unknowns: u32, left: &Form, right: &Form) -> bool
+    requires sure { is_sure unknowns (pair left.now right.now) ≡ true }
+    ensures { result ≡ is_kept (row_of unknowns (pair left.now right.now)) }
+{
+    let asked = left.minus().saturating_add(right.plus());
+    asked > left.plus() + right.minus() || !covers(unknowns, left, right.terms())
+}
+
+// What the first has more than the second; none where it does not fit 128 bits.
+fn difference(first: u128, second: u128) -> Option<i128>
+    requires small { second < 2 ^ 127 }
+    ensures { SomeIff result (fits (pos first -ℤ pos second) ≡ true) (pos first -ℤ pos second) }
+{
+    if first < second {
+        return Some(0 - (second - first) as i128);
+    }
+    let number = first - second;
+    if number < LIMIT {
+        Some(number as i128)
+    } else {
+        None
+    }
+}
+
+// The coefficient of an unknown is added to the row, unless it is there. Whether it fits.
+fn settle(
+    row: &mut Row,
+    unknowns: u32,
+    unknown: u32,
+    left: &Form,
+    right: &Form,
+) -> Result<bool, AllocError>
+    requires part { IsPart (wanted unknowns left.now right.now) row.old.terms }
+    requires small { cap (total_of unknown right.now.terms) < 2 ^ 127 }
+    ensures settles { OnOk result (Settles (wanted unknowns left.now right.now) row.old.terms row.new.terms) }
+    ensures done { IsOkAnd result IsTrue → IsDone (wanted unknowns left.now right.now) row.new.terms unknown }
+    ensures leaves { IsOkAnd result (λ ok. ok ≡ false) → Leaves (wanted unknowns left.now right.now) }
+    ensures right { row.new.right ≡ row.old.right }
+{
+    if unknown >= unknowns || row.coefficient(unknown) != 0 {
+        return Ok(true);
+    }
+    match difference(left.coefficient(unknown), right.coefficient(unknown)) {
+        Some(number) => {
+            row.add(unknown, number).map_err(|_| AllocError)?;
+            Ok(true)
+        }
+        None => Ok(false),
+    }
+}
+
+// Those of all unknowns of these terms are. Whether all fit.
+fn settle_all(
+    row: &mut Row,
+    unknowns: u32,
+    terms: &[(u32, u128)],
+    left: &Form,
+    right: &Form,
+) -> Result<bool, AllocError>
+    requires part { IsPart (wanted unknowns left.now right.now) row.old.terms }
+    requires small { (u : ℕ) → cap (total_of u right.now.terms) < 2 ^ 127 }
+    ensures settles { OnOk result (Settles (wanted unknowns left.now right.now) row.old.terms row.new.terms) }
+    ensures done { IsOkAnd result IsTrue → (i : ℕ) → i < length terms.now → IsDone (wanted unknowns left.now right.now) row.new.terms (unknown_at terms.now i) }
+    ensures leaves { IsOkAnd result (λ ok. ok ≡ false) → Leaves (wanted unknowns left.now right.now) }
+    ensures right { row.new.right ≡ row.old.right }
+{
+    for term in terms {
+        if !settle(row, unknowns, term.0, left, right)? {
+            return Ok(false);
+        }
+    }
+    Ok(true)
+}
+
+/// The row; none where it leaves 128 bits.
+pub fn row_of(
+    alloc: Global,
+    unknowns: u32,
+    left: &Form,
+    right: &Form,
+) -> Result<Option<Row>, AllocError>
+    requires sure { is_sure unknowns (pair left.now right.now) ≡ true }
+    requires small { (u : ℕ) → cap (total_of u right.now.terms) < 2 ^ 127 }
+    ensures { IfOk result (λ made. made ≡ within (row_of unknowns (pair left.now right.now))) }
+{
+    let asked = left.minus().saturating_add(right.plus());
+    let Some(right_side) = difference(asked, left.plus() + right.minus()) else {
+        return Ok(None);
+    };
+    let mut row = Row::new(alloc);
+    row.add_right(right_side).map_err(|_| AllocError)?;
+    if !settle_all(&mut row, unknowns, left.terms(), left, right)? {
+        return Ok(None);
+    }
+    if !settle_all(&mut row, unknowns, right.terms(), left, right)? {
+        return Ok(None);
+    }
+    Ok(Some(row))
+}

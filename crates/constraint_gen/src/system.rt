@@ -1,0 +1,161 @@
+// The system of a task.
+ghost use Rattle.std.specs.Prelude.{◌≡◌, ◌≤◌, ◌+◌, ◌≤ℤ◌, ℕ, pos, unsigned_abs, List, map, slice_get, IfOk, IfErr, OnOk, SomeIff};
+ghost use Rattle.std.specs.List.{All};
+ghost use Rattle.annot_types.specs.Program as p;
+ghost use Rattle.annot_types.specs.System as s;
+ghost use Rattle.walk_rules.specs.Asked.{asked};
+ghost use Rattle.walk_rules.specs.Kinds.{forms, unknown};
+ghost use Rattle.walk_rules.specs.Jobs as j;
+ghost use Rattle.walk_rules.specs.Solving.{rows_of};
+ghost use Rattle.walk_rules.specs.Tasks as t;
+ghost use Rattle.walk_rules.specs.Tasks.{sides_count, unknowns, given_conditions};
+ghost use Rattle.rule_walk.specs.Asks.{asks_of};
+ghost use Rattle.rule_plan.specs.Within.{FunctionWithin};
+ghost use Rattle.constraint_gen.specs.Given.{all_counts};
+ghost use Rattle.constraint_gen.specs.Made.{HasRows, RowCause, PlanCause, JobMade, JobCause};
+ghost use Rattle.constraint_gen.specs.Walked.{job_in};
+ghost use Rattle.annot_types.specs.Certificate as c;
+ghost use Rattle.annot_types.specs.Holds.{budget_of};
+ghost use Rattle.cost_free.specs.Read.{task_of, kind_of};
+ghost use Rattle.walk_rules.specs.Systems.{IsTask};
+ghost use Rattle.earlier_blocks.specs.Remembers.{Remembers};
+ghost use Rattle.rule_plan.specs.Read.{program_in, body_of};
+ghost use Rattle.constraint_gen.specs.Cause.{IsMade, IsCause};
+
+use crate::counts::{all_asked, hints_within, sides_within};
+use crate::fault::{GenFault, What};
+use crate::finish::finish;
+use crate::heard::heard;
+use crate::task::{budget_of, fill, members, sig_weights};
+use cost_free::Task;
+use earlier_blocks::Earlier;
+use earlier_blocks::laws::walks_without_cost;
+use linear_rows::System;
+use rule_plan::{Body, PlanFault, bodies};
+use rule_walk::Ask;
+use share_normal::NormProgram;
+use std::alloc::Global;
+
+/// The system of a task at degree `d` over the blocks before it, with prices times `scale`.
+///
+/// First `TooLarge` is tried, of indices, of unknowns and of rows, and then `Leaves`.
+pub fn rows(
+    alloc: Global,
+    program: &NormProgram<'_>,
+    d: u8,
+    earlier: &Earlier,
+    task: &Task,
+    scale: i128,
+) -> Result<System, GenFault>
+    requires degree { d ≤ 4 }
+    requires budget { budget_of d (kind_of task.now.kind) ≤ 4 }
+    requires natural { pos 0 ≤ℤ scale }
+    ensures made { IfOk result (λ made. (blocks : List c.Block) → Remembers (program_in program.now) d blocks earlier.now →
+        IsTask (program_in program.now) d blocks (task_of task.now) (unsigned_abs scale) →
+        IsMade (program_in program.now) d blocks (task_of task.now) (unsigned_abs scale) made) }
+    ensures fault { IfErr result (λ fault. (blocks : List c.Block) → Remembers (program_in program.now) d blocks earlier.now →
+        IsTask (program_in program.now) d blocks (task_of task.now) (unsigned_abs scale) →
+        IsCause (program_in program.now) d blocks (task_of task.now) (unsigned_abs scale) fault) }
+{
+    // a walk that pays no prices reads no signature that pays
+    walks_without_cost();
+    let budget = budget_of(d, task.kind);
+    match planned(alloc, program, earlier, task.group, budget) {
+        Ok(bodies) => of_plans(
+            alloc,
+            program,
+            d,
+            earlier,
+            task,
+            scale.unsigned_abs(),
+            &bodies,
+        ),
+        Err(fault) => Err(fault),
+    }
+}
+
+// The system, where these are the bodies.
+fn of_plans(
+    alloc: Global,
+    program: &NormProgram<'_>,
+    d: u8,
+    earlier: &Earlier,
+    task: &Task,
+    scale: u128,
+    planned: &[Body],
+) -> Result<System, GenFault>
+    requires budget { budget_of d (kind_of task.now.kind) ≤ 4 }
+    ensures made { IfOk result (JobMade (job_in (program_in program.now) d earlier.now (map body_of planned.now) (task_of task.now) scale)
+        (s.sig_weights (program_in program.now) (budget_of d (kind_of task.now.kind)) (p.members (program_in program.now) task.now.group))) }
+    ensures fault { IfErr result (JobCause (job_in (program_in program.now) d earlier.now (map body_of planned.now) (task_of task.now) scale)) }
+{
+    let asks = all_asked(alloc, planned)?;
+    match count(planned, &asks) {
+        Some(count) => of_bodies(
+            alloc, program, d, earlier, task, scale, planned, &asks, count,
+        ),
+        None => Err(GenFault::TooLarge(What::Unknowns)),
+    }
+}
+
+/// The plans of the group.
+pub fn planned(
+    alloc: Global,
+    program: &NormProgram<'_>,
+    earlier: &Earlier,
+    group: u32,
+    budget: u8,
+) -> Result<Vec<Body>, GenFault>
+    requires low { budget ≤ 4 }
+    ensures plans { IfOk result (λ made. (d : ℕ) (blocks : List c.Block) → Remembers (program_in program.now) d blocks earlier.now →
+        map body_of made.items ≡ map (λ f. j.body_of (program_in program.now) (p.members (program_in program.now) group) blocks budget (slice_get (program_in program.now).funs f)) (p.members (program_in program.now) group)) }
+    ensures fits { OnOk result (All (λ f. FunctionWithin 2000 (slice_get (program_in program.now).funs f) budget) (p.members (program_in program.now) group)) }
+    ensures fault { IfErr result (PlanCause (All (λ f. FunctionWithin 2000 (slice_get (program_in program.now).funs f) budget) (p.members (program_in program.now) group))) }
+{
+    match bodies(alloc, program, earlier, group, budget) {
+        Ok(made) => Ok(made),
+        Err(PlanFault::TooMany) => Err(GenFault::TooLarge(What::Indices)),
+        Err(PlanFault::NoMemory) => Err(GenFault::NoMemory),
+    }
+}
+
+/// How many unknowns there are; none where they are more than 2000.
+pub fn count(planned: &[Body], asks: &[Vec<Ask>]) -> Option<u32>
+    ensures { SomeIff result (sides_count (map body_of planned.now) + all_counts (map (λ a. asks_of a.items) asks.now) ≤ 2000)
+        (sides_count (map body_of planned.now) + all_counts (map (λ a. asks_of a.items) asks.now)) }
+{
+    let sides = sides_within(planned, 2000)?;
+    hints_within(sides, asks, 2000)
+}
+
+// The system, where these are the bodies and what they ask for.
+fn of_bodies(
+    alloc: Global,
+    program: &NormProgram<'_>,
+    d: u8,
+    earlier: &Earlier,
+    task: &Task,
+    scale: u128,
+    planned: &[Body],
+    asks: &[Vec<Ask>],
+    count: u32,
+) -> Result<System, GenFault>
+    requires budget { budget_of d (kind_of task.now.kind) ≤ 4 }
+    requires asked { map (λ a. asks_of a.items) asks.now ≡ map (λ (b : t.Body). asked b.plan) (map body_of planned.now) }
+    requires counted { count ≡ unknowns (job_in (program_in program.now) d earlier.now (map body_of planned.now) (task_of task.now) scale) }
+    requires few { count ≤ 2000 }
+    ensures made { IfOk result (HasRows count (rows_of count (given_conditions forms unknown (job_in (program_in program.now) d earlier.now (map body_of planned.now) (task_of task.now) scale)))
+        (s.sig_weights (program_in program.now) (budget_of d (kind_of task.now.kind)) (p.members (program_in program.now) task.now.group))) }
+    ensures fault { IfErr result (RowCause (rows_of count (given_conditions forms unknown (job_in (program_in program.now) d earlier.now (map body_of planned.now) (task_of task.now) scale)))) }
+{
+    let rows = heard(
+        alloc, program, d, earlier, task, scale, planned, asks, count,
+    )?;
+    let budget = budget_of(d, task.kind);
+    let mut weights = sig_weights(alloc, program, members(program, task.group), budget)?;
+    fill(&mut weights, count)?;
+    match finish(alloc, count, rows, weights) {
+        Ok(made) => Ok(made),
+        Err(fault) => Err(fault),
+    }
+}

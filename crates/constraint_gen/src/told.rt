@@ -1,0 +1,241 @@
+// What a solution stands for.
+ghost use Rattle.std.specs.Prelude.{◌≡◌, ◌≤◌, ◌<◌, ◌+◌, ◌^◌, ◌++◌, unsigned_abs, List, map, length, IfOk, OnOk};
+ghost use Rattle.raml_num.specs.Sums.{NoneNegative};
+ghost use Rattle.annot_types.specs.Certificate as c;
+ghost use Rattle.annot_types.specs.Holds as h;
+ghost use Rattle.annot_types.specs.Read.{sig_of, hint_of, hints_of};
+ghost use Rattle.cost_free.specs.Read.{task_of, kind_of};
+ghost use Rattle.walk_rules.specs.Asked.{given, given_each, given_blocks, answer, answers, sum_of, count, counts};
+ghost use Rattle.walk_rules.specs.Tasks.{sides_count, sides_given, hints_given};
+ghost use Rattle.solved_tasks.specs.Told as t;
+ghost use Rattle.solved_tasks.specs.Told.{bodies_of, sigs_told, hints_told, entries, named};
+ghost use Rattle.earlier_blocks.specs.Remembers.{Remembers};
+ghost use Rattle.rule_walk.specs.Asks.{ask_of, asks_of};
+ghost use Rattle.rule_plan.specs.Read.{program_in, body_of};
+ghost use Rattle.constraint_gen.specs.Cause.{IsWithin};
+ghost use Rattle.constraint_gen.specs.Given.{all_counts, all_answers};
+ghost use Rattle.constraint_gen.specs.Numbers.{numbers, entry};
+
+use crate::counts::all_asked;
+use crate::system::{count, planned};
+use crate::task::budget_of;
+use annot_types::{Annot, Hint, Sig};
+use cost_free::Task;
+use earlier_blocks::Earlier;
+use rule_plan::Body;
+use rule_walk::Ask;
+use share_normal::NormProgram;
+use std::alloc::{AllocError, Global};
+
+// The number of an unknown, 0 behind the last.
+fn number_at(solution: &[i128], unknown: u32) -> u128
+    ensures { result ≡ numbers solution.now unknown }
+{
+    match solution.get(unknown as usize) {
+        Some(number) => number.unsigned_abs(),
+        None => 0,
+    }
+}
+
+// An entry at a place, unless its number is 0; only numbers of 127 bits have a place in memory.
+fn append(found: &mut Vec<(u32, i128)>, place: u32, number: u128) -> Result<(), AllocError>
+    ensures { OnOk result (found.new.items ≡ found.old.items ++ entry place number) }
+{
+    if number > i128::MAX as u128 {
+        return Err(AllocError);
+    }
+    if number != 0 {
+        found.push((place, number as i128))?;
+    }
+    Ok(())
+}
+
+// So many numbers, from the next unknown on, by position.
+fn found(
+    alloc: Global,
+    solution: &[i128],
+    next: &mut u32,
+    size: usize,
+) -> Result<Vec<(u32, i128)>, AllocError>
+    requires room { next.old + size < 2 ^ 32 }
+    ensures told { IfOk result (λ made. made.items ≡ entries (given (numbers solution.now) next.old size)) }
+    ensures next { OnOk result (next.new ≡ next.old + size) }
+{
+    let mut made = Vec::new(alloc);
+    for place in 0..size {
+        append(&mut made, place as u32, number_at(solution, *next))?;
+        *next += 1;
+    }
+    Ok(made)
+}
+
+// The same as an annotation.
+fn annot(alloc: Global, solution: &[i128], next: &mut u32, size: usize) -> Result<Annot, AllocError>
+    requires room { next.old + size < 2 ^ 32 }
+    ensures told { IfOk result (λ made. made ≡ entries (given (numbers solution.now) next.old size)) }
+    ensures next { OnOk result (next.new ≡ next.old + size) }
+{
+    match Annot::new(found(alloc, solution, next, size)?) {
+        Some(made) => Ok(made),
+        None => Err(AllocError),
+    }
+}
+
+// Annotations of these sizes.
+fn annots(
+    alloc: Global,
+    solution: &[i128],
+    next: &mut u32,
+    sizes: &[usize],
+) -> Result<Vec<Annot>, AllocError>
+    requires room { next.old + sum_of sizes.now < 2 ^ 32 }
+    ensures told { IfOk result (λ made. made.items ≡ map entries (given_each (numbers solution.now) next.old sizes.now)) }
+    ensures next { OnOk result (next.new ≡ next.old + sum_of sizes.now) }
+{
+    let mut made = Vec::with_capacity(alloc, sizes.len())?;
+    for &size in sizes {
+        made.push(annot(alloc, solution, next, size)?)?;
+    }
+    Ok(made)
+}
+
+// The blocks that are taken.
+fn multiples(
+    alloc: Global,
+    solution: &[i128],
+    next: &mut u32,
+    blocks: &[u32],
+) -> Result<Vec<(u32, i128)>, AllocError>
+    requires room { next.old + length blocks.now < 2 ^ 32 }
+    ensures told { IfOk result (λ made. made.items ≡ named (given_blocks (numbers solution.now) next.old blocks.now)) }
+    ensures next { OnOk result (next.new ≡ next.old + length blocks.now) }
+{
+    let mut made = Vec::new(alloc);
+    for &block in blocks {
+        append(&mut made, block, number_at(solution, *next))?;
+        *next += 1;
+    }
+    Ok(made)
+}
+
+// A hint that is asked for.
+fn hint(alloc: Global, solution: &[i128], next: &mut u32, ask: &Ask) -> Result<Hint, AllocError>
+    requires room { next.old + count (ask_of ask.now) < 2 ^ 32 }
+    ensures told { IfOk result (λ made. hint_of made ≡ t.hint (answer (numbers solution.now) next.old (ask_of ask.now))) }
+    ensures next { OnOk result (next.new ≡ next.old + count (ask_of ask.now)) }
+{
+    match ask {
+        Ask::Results(sizes) => Ok(Hint::Let(annots(alloc, solution, next, sizes)?)),
+        Ask::Copies(size) => Ok(Hint::Share(annot(alloc, solution, next, *size)?)),
+        Ask::Multiples(blocks) => Ok(Hint::Call(multiples(alloc, solution, next, blocks)?)),
+    }
+}
+
+// All hints of a body.
+fn hints(
+    alloc: Global,
+    solution: &[i128],
+    next: &mut u32,
+    asks: &[Ask],
+) -> Result<Vec<Hint>, AllocError>
+    requires room { next.old + counts (asks_of asks.now) < 2 ^ 32 }
+    ensures told { IfOk result (λ made. hints_of made ≡ map t.hint (answers (numbers solution.now) next.old (asks_of asks.now))) }
+    ensures next { OnOk result (next.new ≡ next.old + counts (asks_of asks.now)) }
+{
+    let mut made = Vec::with_capacity(alloc, asks.len())?;
+    for ask in asks {
+        made.push(hint(alloc, solution, next, ask)?)?;
+    }
+    Ok(made)
+}
+
+// Those of all bodies.
+fn all_hints(
+    alloc: Global,
+    solution: &[i128],
+    next: &mut u32,
+    asks: &[Vec<Ask>],
+) -> Result<Vec<Vec<Hint>>, AllocError>
+    requires room { next.old + all_counts (map (λ a. asks_of a.items) asks.now) < 2 ^ 32 }
+    ensures told { IfOk result (λ made. map hints_of made.items ≡ map (map t.hint) (all_answers (numbers solution.now) next.old (map (λ a. asks_of a.items) asks.now))) }
+{
+    let mut made = Vec::with_capacity(alloc, asks.len())?;
+    for asked in asks {
+        made.push(hints(alloc, solution, next, asked)?)?;
+    }
+    Ok(made)
+}
+
+// The signature of a body.
+fn sig(alloc: Global, solution: &[i128], next: &mut u32, body: &Body) -> Result<Sig, AllocError>
+    requires room { next.old + (body.now.args + body.now.result) < 2 ^ 32 }
+    ensures told { IfOk result (λ made. sig_of made ≡ t.sig (record { args = given (numbers solution.now) next.old body.now.args; result = given (numbers solution.now) (next.old + body.now.args) body.now.result })) }
+    ensures next { OnOk result (next.new ≡ next.old + (body.now.args + body.now.result)) }
+{
+    let args = annot(alloc, solution, next, body.args)?;
+    let result = annot(alloc, solution, next, body.result)?;
+    Ok(Sig { args, result })
+}
+
+// Those of all bodies.
+fn sigs(
+    alloc: Global,
+    solution: &[i128],
+    next: &mut u32,
+    bodies: &[Body],
+) -> Result<Vec<Sig>, AllocError>
+    requires room { next.old + sides_count (map body_of bodies.now) < 2 ^ 32 }
+    ensures told { IfOk result (λ made. map sig_of made.items ≡ map t.sig (sides_given (numbers solution.now) next.old (map body_of bodies.now))) }
+    ensures next { OnOk result (next.new ≡ next.old + sides_count (map body_of bodies.now)) }
+{
+    let mut made = Vec::with_capacity(alloc, bodies.len())?;
+    for body in bodies {
+        made.push(sig(alloc, solution, next, body)?)?;
+    }
+    Ok(made)
+}
+
+// Those of these bodies.
+fn of_bodies(
+    alloc: Global,
+    bodies: &[Body],
+    solution: &[i128],
+) -> Result<(Vec<Sig>, Vec<Vec<Hint>>), AllocError>
+    ensures sigs { IfOk result (λ told. map sig_of told.0.items ≡ map t.sig (sides_given (numbers solution.now) 0 (map body_of bodies.now))) }
+    ensures hints { IfOk result (λ told. map hints_of told.1.items ≡ map (map t.hint) (hints_given (numbers solution.now) (sides_count (map body_of bodies.now)) (map body_of bodies.now))) }
+{
+    let asks = all_asked(alloc, bodies)?;
+    // a task of more unknowns has no system, and so no solution
+    if count(bodies, &asks).is_none() {
+        return Err(AllocError);
+    }
+    let mut next = 0;
+    let signatures = sigs(alloc, solution, &mut next, bodies)?;
+    let all = all_hints(alloc, solution, &mut next, &asks)?;
+    Ok((signatures, all))
+}
+
+/// The signatures and hints of a task's group that numbers stand for, in the order of its unknowns. The
+/// contexts and types of its walks have at most 2000 indices.
+pub fn hints_of(
+    alloc: Global,
+    program: &NormProgram<'_>,
+    d: u8,
+    earlier: &Earlier,
+    task: &Task,
+    solution: &[i128],
+) -> Result<(Vec<Sig>, Vec<Vec<Hint>>), AllocError>
+    requires degree { d ≤ 4 }
+    requires budget { h.budget_of d (kind_of task.now.kind) ≤ 4 }
+    requires indices { IsWithin (program_in program.now) d (task_of task.now) }
+    requires natural { NoneNegative solution.now }
+    ensures sigs { IfOk result (λ told. (blocks : List c.Block) → Remembers (program_in program.now) d blocks earlier.now →
+        map sig_of told.0.items ≡ sigs_told (bodies_of (program_in program.now) d blocks (task_of task.now)) (map unsigned_abs solution.now)) }
+    ensures hints { IfOk result (λ told. (blocks : List c.Block) → Remembers (program_in program.now) d blocks earlier.now →
+        map hints_of told.1.items ≡ hints_told (bodies_of (program_in program.now) d blocks (task_of task.now)) (map unsigned_abs solution.now)) }
+{
+    match planned(alloc, program, earlier, task.group, budget_of(d, task.kind)) {
+        Ok(bodies) => of_bodies(alloc, &bodies, solution),
+        Err(_) => Err(AllocError),
+    }
+}

@@ -1,0 +1,3 @@
+pub mod Capping
+pub mod Raised
+pub mod Refuted
