@@ -17,7 +17,13 @@ use Rattle.walk_rules.specs.Planned.{plan as plan_in}
 use Rattle.rule_plan.specs.declared.body.Body.{Body}
 use Rattle.rule_plan.specs.Down.{down}
 use Rattle.rule_plan.specs.Given.{Given, planned, ArePlans}
-use Rattle.rule_plan.specs.Read.{body_of, IsBody, AreBodies}
+use Rattle.annot_types.specs.Certificate.{Block}
+use Rattle.annot_types.specs.Program.{members}
+use Rattle.cost_free.specs.Blocked.{row}
+use Rattle.call_groups.specs.Groups.{Grouping}
+use Rattle.share_normal.specs.Program.{Kept, norm_in}
+use Rattle.earlier_blocks.specs.Remembers.{Tables, Remembers}
+use Rattle.rule_plan.specs.Read.{program_in, body_of, IsBody, AreBodies}
 
 the_some : {X : Type 0} (x y : X) → Some x ≡ Some y → x ≡ y
 the_some x y h = cc
@@ -121,3 +127,16 @@ module _ (P : ℕ → Type 0) where
 
   pub checked_at : (group : List FunId) (k : ℕ) (d : FunId) → k < length group → All P (ids_of group) → P (slice_index_or group k d).0
   checked_at group k d h all = subst P (item group k d h) (all k d.0 (longer group k h))
+
+pub of_program : (kept : Kept) (rs : List Ty) (fs : List NormFun) (gs : Grouping) (tables : Tables) (group budget : ℕ) (ids : List ℕ) (bs : List Body) →
+    fs ≡ kept.functions → rs ≡ kept.results → gs ≡ kept.groups → ids ≡ row gs.list group →
+    AreBodies (record { funs = funs_of rs fs; group = ids; top = budget; tables = tables }) ids bs →
+    (d : ℕ) (blocks : List Block) → Remembers (program_in kept) d blocks tables →
+    map body_of bs
+    ≡ map (λ f. j.body_of (program_in kept) (members (program_in kept) group) blocks budget (slice_get (program_in kept).funs f)) (members (program_in kept) group)
+of_program kept rs fs gs tables group budget ids bs ef er eg ei all d blocks remembers =
+    let funs : funs_of rs fs ≡ norm_in kept = λ i. funs_of (er i) (ef i) in
+    let same : ids ≡ members (program_in kept) group = ei ∙ (λ i. row ((eg i).list) group) in
+    let first = subst (λ z. AreBodies (record { funs = z; group = ids; top = budget; tables = tables }) ids bs) funs all in
+    let both = subst (λ z. AreBodies (record { funs = norm_in kept; group = z; top = budget; tables = tables }) z bs) same first in
+    both.are (program_in kept) d blocks refl remembers
