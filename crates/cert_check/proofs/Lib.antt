@@ -15,3 +15,5 @@ pub mod Members
 pub mod Going
 pub mod SameTask
 pub mod Walking
+pub mod Terms
+pub mod Signed

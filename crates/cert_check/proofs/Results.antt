@@ -1,12 +1,13 @@
 -- The types of results, and the functions that have them.
 use Rattle.std.proofs.Common.{◌≡◌, refl, ap, sym, arith}
-use Rattle.std.specs.Prelude.{ℕ, zero, suc, List, [], ◌∷◌, map, length, slice_get, None, Some}
+use Rattle.std.specs.Prelude.{ℕ, zero, suc, ◌≤◌, List, [], ◌∷◌, map, length, slice_get, None, Some}
+use Rattle.std.specs.Option.{option_map}
 use Rattle.std.proofs.lemmas.Option.{none-some, same_Some}
 use Rattle.raml_syntax.specs.Read.{ty_of}
 use Rattle.raml_syntax.specs.declared.ty.Ty.{Ty}
 use Rattle.base_poly.specs.Read.{context_of}
 use Rattle.normal_form.specs.Norm as n
-use Rattle.normal_form.specs.Read.{fun_of, funs_of}
+use Rattle.normal_form.specs.Read.{fun_of, funs_of, parameters_of}
 use Rattle.cert_check.specs.Results.{HasResult}
 use Rattle.normal_form.specs.declared.form.NormFun.{NormFun}
 
@@ -29,3 +30,17 @@ no_result [] gs k e = refl
 no_result (B ∷ As) [] k e = refl
 no_result (B ∷ As) (g ∷ gs) zero e = absurd (none-some B (sym e))
 no_result (B ∷ As) (g ∷ gs) (suc k) e = no_result As gs k e
+
+pub params_at : (As : List Ty) (gs : List NormFun) (k : ℕ) (g : NormFun) → length As ≡ length gs → slice_get gs k ≡ Some g →
+    Some (parameters_of g.params.items) ≡ option_map (λ (h : n.NormFun). h.params) (slice_get (funs_of As gs) k)
+params_at [] [] k g e h = absurd (none-some g h)
+params_at [] (x ∷ gs) k g e h = absurd (omega (arith, e))
+params_at (A ∷ As) [] k g e h = absurd (omega (arith, e))
+params_at (A ∷ As) (x ∷ gs) zero g e h = ap (λ (y : NormFun). Some (parameters_of y.params.items)) (sym (same_Some x g h))
+params_at (A ∷ As) (x ∷ gs) (suc k) g e h = params_at As gs k g (omega (arith, e)) h
+
+pub no_function : (As : List Ty) (gs : List NormFun) (k : ℕ) → length gs ≤ k → slice_get (funs_of As gs) k ≡ None
+no_function [] gs k l = refl
+no_function (A ∷ As) [] k l = refl
+no_function (A ∷ As) (g ∷ gs) zero l = absurd (omega (arith, l))
+no_function (A ∷ As) (g ∷ gs) (suc k) l = no_function As gs k (omega (arith, l))

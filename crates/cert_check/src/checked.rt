@@ -10,6 +10,7 @@ ghost use Rattle.rule_plan.specs.Read.{program_in};
 ghost use Rattle.cert_check.specs.Bound.{told, told_of};
 ghost use Rattle.base_poly.specs.Poly.{den_of, terms_of, IsPoly};
 
+use crate::bound::bound_of;
 use annot_types::Certificate;
 use base_poly::Poly;
 use cost_free::Meter;
@@ -79,13 +80,15 @@ impl<'p, 'a> Checked<'p, 'a> {
     /// The argument annotation of a function over the meter's scale; none exactly where no block of the
     /// meter that has a signature for the function is solved. It bounds what the function costs.
     ///
-    /// Not built yet: it always tells that memory is wanting.
+    /// Where its parameters have more than 2000 tuples of indices, that memory is wanting is told too.
     pub fn bound(&self, alloc: Global, fun: FunId, meter: Meter) -> Result<Option<Poly>, AllocError>
         ensures told { IfOk result (λ found. option_map told_of found ≡ told (program_in self.now.program) self.now.certificate fun.0 meter) }
         ensures poly { IfOk result (λ found. IfSome found IsPoly) }
         ensures bounds { IfOk result (λ found. IfSome found (λ poly. (source : Function) → slice_get (source_in self.now.program) fun.0 ≡ Some source →
             Bounds (source_in self.now.program) fun.0 source meter (den_of poly) (terms_of poly))) }
     {
-        Err(AllocError)
+        let _source = self.program.source();
+        let _functions = self.program.functions();
+        bound_of(alloc, self.program, &self.certificate, fun, meter)
     }
 }

@@ -8,8 +8,8 @@ ghost use Rattle.cert_check.specs.Finds.{HeadFits};
 use annot_types::Certificate;
 use cost_free::{Meter, TaskKind};
 
-// The scale of a meter, 1 where there is none of work.
-fn scale_of(certificate: &Certificate, meter: Meter) -> i128
+/// The scale of a meter, 1 where there is none of work.
+pub fn scale_of(certificate: &Certificate, meter: Meter) -> i128
     ensures { result ≡ scale_of (certificate_of certificate.now) meter }
 {
     match meter {

@@ -6,6 +6,7 @@ mod amounts;
 mod at;
 mod block;
 mod blocks;
+mod bound;
 mod checked;
 mod checking;
 mod course;
