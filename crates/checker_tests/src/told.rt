@@ -1,0 +1,159 @@
+// What the checker answers, as text.
+use annot_types::Certificate;
+use call_groups::group_calls;
+use cert_check::{CertFault, Checked, check};
+use cert_json::{JsonFault, Place, read};
+use cost_free::Meter;
+use poly_text::print;
+use raml_parse::parse;
+use raml_syntax::FunId;
+use share_normal::{NormProgram, normalise};
+use simple_types::Typed;
+use std::alloc::{AllocError, Global};
+use std::test::Fail;
+
+/// The typed program that a text spells.
+fn typed_program(alloc: Global, source: &str) -> Result<Typed, Fail> {
+    if source.len() > 2000 {
+        return Err(Fail::from("the source is long"));
+    }
+    let Ok(program) = parse(alloc, source.as_bytes()) else {
+        return Err(Fail::from("it is no program"));
+    };
+    match simple_types::check(alloc, program) {
+        Ok(typed) => Ok(typed),
+        Err(_) => Err(Fail::from("it is not typed")),
+    }
+}
+
+/// The lines that a certificate claims, or its first fault.
+pub fn told(alloc: Global, source: &str, text: &str) -> Result<String, Fail> {
+    let typed = typed_program(alloc, source)?;
+    let groups = group_calls(alloc, typed.program())?;
+    let program = normalise(alloc, &typed, groups)?;
+    match read(alloc, text.as_bytes()) {
+        Ok(certificate) => told_of(alloc, &program, certificate),
+        Err(fault) => Ok(json_fault(alloc, fault)?),
+    }
+}
+
+fn told_of(
+    alloc: Global,
+    program: &NormProgram<'_>,
+    certificate: Certificate,
+) -> Result<String, Fail> {
+    let work = certificate.work_scale.is_some();
+    match check(alloc, program, certificate) {
+        Ok(checked) => Ok(lines(alloc, program, &checked, work)?),
+        Err(fault) => Ok(cert_fault(alloc, fault)?),
+    }
+}
+
+/// What is answered to a certificate with a part changed: its fault, or that it is held.
+pub fn told_of_change(
+    alloc: Global,
+    source: &str,
+    certificate: &str,
+    old: &str,
+    new: &str,
+) -> Result<String, Fail> {
+    let Some((front, rest)) = certificate.split_once(old) else {
+        return Err(Fail::from("there is no such part"));
+    };
+    let text = format!(in alloc; "{front}{new}{rest}")?;
+    let found = told(alloc, source, &text)?;
+    if found.ends_with("\n") {
+        return Ok(format!(in alloc; "held")?);
+    }
+    Ok(found)
+}
+
+fn json_fault(alloc: Global, fault: JsonFault) -> Result<String, AllocError> {
+    match fault {
+        JsonFault::NotJson => format!(in alloc; "not json"),
+        JsonFault::Shape { place } => place_of(alloc, "shape", place),
+        JsonFault::Number { place } => place_of(alloc, "number", place),
+        JsonFault::NoMemory => Err(AllocError),
+    }
+}
+
+fn place_of(alloc: Global, fault: &str, place: Place) -> Result<String, AllocError> {
+    match place {
+        Place::Head => format!(in alloc; "{fault} in head"),
+        Place::Block(number) => format!(in alloc; "{fault} in block {number}"),
+    }
+}
+
+fn cert_fault(alloc: Global, fault: CertFault) -> Result<String, AllocError> {
+    match fault {
+        CertFault::Shape { block } => format!(in alloc; "block {block} is not in the schedule"),
+        CertFault::Fails { block, path, index } => {
+            let path = path_text(alloc, &path)?;
+            format!(in alloc; "block {block} fails at {path} index {index}")
+        }
+        CertFault::Leaves { block, path, index } => {
+            let path = path_text(alloc, &path)?;
+            format!(in alloc; "overflow at block {block} at {path} index {index}")
+        }
+        CertFault::TooLarge { task } => format!(in alloc; "too large: group {}", task.group),
+        CertFault::NoMemory => Err(AllocError),
+    }
+}
+
+fn path_text(alloc: Global, path: &[u32]) -> Result<String, AllocError> {
+    let mut text = String::new(alloc);
+    for number in path {
+        if !text.is_empty() {
+            text.push_str(".")?;
+        }
+        text.push_str(&format!(in alloc; "{number}")?)?;
+    }
+    Ok(text)
+}
+
+fn lines(
+    alloc: Global,
+    program: &NormProgram<'_>,
+    checked: &Checked<'_, '_>,
+    work: bool,
+) -> Result<String, AllocError> {
+    let mut text = String::new(alloc);
+    for place in 0..program.functions().len() {
+        let fun = FunId(place as u32);
+        push_line(alloc, &mut text, program, checked, fun, Meter::Ticks)?;
+        push_line(alloc, &mut text, program, checked, fun, Meter::Cells)?;
+        if work {
+            push_line(alloc, &mut text, program, checked, fun, Meter::Work)?;
+        }
+    }
+    Ok(text)
+}
+
+fn meter_word(meter: Meter) -> &'static str {
+    match meter {
+        Meter::Ticks => "ticks",
+        Meter::Cells => "cells",
+        Meter::Work => "work",
+    }
+}
+
+fn push_line(
+    alloc: Global,
+    text: &mut String,
+    program: &NormProgram<'_>,
+    checked: &Checked<'_, '_>,
+    fun: FunId,
+    meter: Meter,
+) -> Result<(), AllocError> {
+    text.push_str(program.source().funs[fun.0 as usize].name.text())?;
+    text.push_str(" ")?;
+    text.push_str(meter_word(meter))?;
+    match checked.bound(alloc, fun, meter)? {
+        Some(poly) => {
+            text.push_str(" <= ")?;
+            text.push_str(&print(alloc, &poly)?)?;
+        }
+        None => text.push_str(" no bound")?,
+    }
+    text.push_str("\n")
+}
