@@ -1,19 +1,27 @@
 // Data that spells no arguments, with the place of its first fault.
 use crate::shown::shown;
 use crate::types::types_of;
+use raml_syntax::Ty;
 use std::alloc::Global;
-use std::fmt::Write;
 use std::process::Abort;
 use std::test::Fail;
+
+// The text of a fault at a place.
+fn told(alloc: Global, at: u32) -> Result<String, Fail> {
+    Ok(format!(in alloc; "Shape {{ at: Pos({at}) }}")?)
+}
+
+// Whether just this place is told of the data.
+fn is_refused(alloc: Global, types: &[Ty], data: &str, at: u32) -> Result<bool, Fail> {
+    let found = shown(alloc, types, data.as_bytes())?;
+    Ok(found == told(alloc, at)?)
+}
 
 // Data of types, by words, whose first token that cannot stand is at a place.
 fn refused(rt: &impl Abort, alloc: Global, types: &str, table: &[(&str, u32)]) -> Result<(), Fail> {
     let types = types_of(alloc, types)?;
     for (data, at) in table {
-        let found = shown(alloc, &types, data.as_bytes())?;
-        let mut want = String::new(alloc);
-        write!(want, "Shape {{ at: Pos({at}) }}")?;
-        assert_eq!(rt; found.as_str(), want.as_str(), "at {data}");
+        assert!(rt; is_refused(alloc, &types, *data, *at)?, "at {data}");
     }
     Ok(())
 }

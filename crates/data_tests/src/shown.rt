@@ -65,31 +65,53 @@ fn push_second(
     }
 }
 
-/// The text of the first argument that data spells, of both where there are two, or the fault.
-pub fn shown(alloc: Global, types: &[Ty], data: &[u8]) -> Result<String, Fail> {
+// Adds the text of the first argument, and of both where there are two.
+fn push_all(
+    out: &mut String,
+    alloc: Global,
+    heap: &DataHeap,
+    words: &[Word],
+    types: &[Ty],
+) -> Result<(), Fail>
+    requires { (vs : List Value) × StandForAll heap.now.cells words.now vs × HaveTypes vs (map ty_of types.now) }
+{
+    push_first(out, alloc, heap, words, types)?;
+    if types.len() == 2 {
+        out.push_str("; ")?;
+        push_second(out, alloc, heap, words, types)?;
+    }
+    Ok(())
+}
+
+// Adds what is read of the data, or the fault.
+fn push_shown(out: &mut String, alloc: Global, types: &[Ty], data: &[u8]) -> Result<(), Fail> {
     if types.is_empty() || types.len() > 8 || data.len() > 20000000 {
         return Err(Fail::from("there are no types, or too many"));
     }
-    let mut out = String::new(alloc);
     let mut heap = DataHeap::new(alloc);
     match read_args(alloc, data, types, &mut heap) {
-        Err(fault) => write!(out, "{fault:?}")?,
-        Ok(words) => {
-            push_first(&mut out, alloc, &heap, &words, types)?;
-            if types.len() == 2 {
-                out.push_str("; ")?;
-                push_second(&mut out, alloc, &heap, &words, types)?;
-            }
-        }
+        Err(fault) => Ok(write!(out, "{fault:?}")?),
+        Ok(words) => push_all(out, alloc, &heap, &words, types),
     }
+}
+
+/// The text of the first argument that data spells, of both where there are two, or the fault.
+pub fn shown(alloc: Global, types: &[Ty], data: &[u8]) -> Result<String, Fail> {
+    let mut out = String::new(alloc);
+    push_shown(&mut out, alloc, types, data)?;
     Ok(out)
+}
+
+/// The same, of types by words.
+pub fn shown_of(alloc: Global, words: &str, data: &str) -> Result<String, Fail> {
+    let types = types_of(alloc, words)?;
+    shown(alloc, &types, data.as_bytes())
 }
 
 /// Types by words, with data and what is shown.
 pub fn compare(rt: &impl Abort, alloc: Global, table: &[(&str, &str, &str)]) -> Result<(), Fail> {
     for (types, data, want) in table {
-        let types = types_of(alloc, types)?;
-        let found = shown(alloc, &types, data.as_bytes())?;
+        let found = shown_of(alloc, *types, *data)?;
         assert_eq!(rt; found.as_str(), *want, "at {data}");
     }
     Ok(())

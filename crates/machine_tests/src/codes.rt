@@ -2,16 +2,23 @@
 use crate::programs::typed_program;
 use crate::texts::{ENDS, ENDS_CODE, TREES, TREES_CODE, ZIPS, ZIPS_CODE};
 use stack_compile::{compile, print};
+use std::alloc::Global;
 use std::test::Fail;
+
+/// The text of a program's code.
+fn code_text(alloc: Global, source: &str) -> Result<String, Fail> {
+    let typed = typed_program(alloc, source)?;
+    let code = compile(alloc, &typed)?;
+    Ok(print(alloc, &code)?)
+}
+
+/// Programs and the texts of their codes.
+const CODES: [(&str, &str); 3] = [(ENDS, ENDS_CODE), (TREES, TREES_CODE), (ZIPS, ZIPS_CODE)];
 
 #[test]
 fn codes_have_their_texts(rt: HostRuntime) -> Result<(), Fail> {
-    let table = [(ENDS, ENDS_CODE), (TREES, TREES_CODE), (ZIPS, ZIPS_CODE)];
-    for (source, text) in table {
-        let typed = typed_program(rt.alloc(), source)?;
-        let code = compile(rt.alloc(), &typed)?;
-        let printed = print(rt.alloc(), &code)?;
-        assert_eq!(rt; printed.as_str(), text);
+    for (source, text) in &CODES {
+        assert_eq!(rt; code_text(rt.alloc(), source)?.as_str(), *text);
     }
     Ok(())
 }

@@ -11,8 +11,8 @@ fn the_greatest_number_and_one_more(rt: HostRuntime) -> Result<(), Fail> {
     let least = End::Halted {
         word: Word::Int(i64::MIN),
     };
-    assert_eq!(rt; (ran.first, ran.end), (least, least));
-    assert_eq!(rt; (ran.ticks, ran.cells, ran.instructions), (0, 0, 4));
+    assert!(rt; ran.ended(least, least));
+    assert!(rt; ran.took(0, 0, 4));
     Ok(())
 }
 
@@ -27,8 +27,8 @@ fn a_run_goes_on_where_it_stopped(rt: HostRuntime) -> Result<(), Fail> {
         (3, 9, five, five, 3),
     ] {
         let ran = run_on(rt.alloc(), source, 5, first, steps)?;
-        assert_eq!(rt; (ran.first, ran.end), (stopped, ended));
-        assert_eq!(rt; (ran.ticks, ran.cells, ran.instructions), (3, 0, made));
+        assert!(rt; ran.ended(stopped, ended), "from {first} to {steps}");
+        assert!(rt; ran.took(3, 0, made), "from {first} to {steps}");
     }
     Ok(())
 }
@@ -49,8 +49,8 @@ fn quotients_and_remainders(rt: HostRuntime) -> Result<(), Fail> {
         let end = End::Halted {
             word: Word::Int(gives),
         };
-        assert_eq!(rt; ran.end, end, "{x} and {y}");
-        assert_eq!(rt; ran.instructions, 4);
+        assert!(rt; ran.end == end, "{x} and {y}");
+        assert!(rt; ran.instructions == 4, "{x} and {y}");
     }
     Ok(())
 }
@@ -63,8 +63,9 @@ fn a_pair_takes_a_cell(rt: HostRuntime) -> Result<(), Fail> {
     };
     for (limit, ended, cells, made) in [(0, End::HeapFull, 0, 2), (1, pair, 1, 4)] {
         let ran = run_on_two(rt.alloc(), source, 1, 2, limit)?;
-        assert_eq!(rt; ran.end, ended);
-        assert_eq!(rt; (ran.ticks, ran.cells, ran.instructions), (0, cells, made));
+        assert!(rt; ran.end == ended, "with {limit}");
+        assert!(rt; ran.took(0, cells, made), "with {limit}");
+        assert!(rt; ran.heap == cells, "with {limit}");
     }
     Ok(())
 }

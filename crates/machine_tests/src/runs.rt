@@ -11,7 +11,7 @@ use simple_types::Typed;
 use stack_compile::compile;
 use std::alloc::Global;
 use std::test::Fail;
-use value_text::{Cell, DataHeap, Word};
+use value_text::{DataHeap, Word};
 
 /// What a function runs on: the heap, its arguments there, and how many cells it may take.
 #[derive(Drop)]
@@ -22,38 +22,27 @@ pub struct Start {
 }
 
 /// How a run ended: at first, and later.
-#[derive(Drop)]
+#[derive(Clone, Copy)]
 pub struct Ran {
     pub first: End,
     pub end: End,
     pub ticks: u64,
     pub cells: u32,
     pub instructions: u64,
-    /// The number that it gave, or the numbers of the list or the option.
-    pub numbers: Vec<i64>,
+    /// How many cells the heap has.
+    pub heap: u32,
 }
 
-/// The number that a run gave, or the numbers of the list or the option, as far as it is one.
-fn numbers_of(alloc: Global, heap: &DataHeap, end: End) -> Result<Vec<i64>, Fail> {
-    let mut numbers = Vec::new(alloc);
-    let mut rest = match end {
-        End::Halted { word } => word,
-        End::Stopped | End::HeapFull => Word::Empty,
-    };
-    for _ in 0..=heap.len() {
-        let (number, next) = match rest {
-            Word::Int(number) => (number, Word::Empty),
-            Word::Cell(place) if place < heap.len() => match heap.get(place) {
-                Cell::Cons(Word::Int(head), tail) => (head, tail),
-                Cell::Just(Word::Int(content)) => (content, Word::Empty),
-                _ => break,
-            },
-            _ => break,
-        };
-        numbers.push(number)?;
-        rest = next;
+impl Ran {
+    /// Whether it ended so at first, and later.
+    pub fn ended(&self, first: End, end: End) -> bool {
+        self.first == first && self.end == end
     }
-    Ok(numbers)
+
+    /// Whether it took so much.
+    pub fn took(&self, ticks: u64, cells: u32, instructions: u64) -> bool {
+        self.ticks == ticks && self.cells == cells && self.instructions == instructions
+    }
 }
 
 /// Runs a function of a program to so many instructions, and then to so many more.
@@ -81,7 +70,7 @@ pub fn run(
         ticks: vm.ticks(),
         cells: vm.cells(),
         instructions: vm.instructions(),
-        numbers: numbers_of(alloc, vm.heap(), end)?,
+        heap: vm.heap().len(),
     })
 }
 

@@ -7,6 +7,7 @@ use raml_syntax::FunId;
 use share_normal::normalise;
 use simple_types::{Typed, check};
 use std::alloc::Global;
+use std::process::Abort;
 use std::test::Fail;
 
 /// The typed program that a text spells.
@@ -23,18 +24,33 @@ fn typed_program(alloc: Global, source: &str) -> Result<Typed, Fail> {
     }
 }
 
-/// The normal forms of a program's functions, one a line.
-fn forms(alloc: Global, source: &str) -> Result<Shown, Fail> {
-    let typed = typed_program(alloc, source)?;
+/// Adds the normal forms of a program's functions, one a line.
+fn push_forms(shown: &mut Shown, alloc: Global, typed: &Typed) -> Result<(), Fail> {
     let groups = group_calls(alloc, typed.program())?;
-    let made = normalise(alloc, &typed, groups)?;
+    let made = normalise(alloc, typed, groups)?;
     let funs = made.functions();
-    let mut shown = Shown::new(alloc);
     for place in 0..funs.len() {
         let name = typed.program().funs[place].name.text();
         shown.function(name, funs.fun(FunId(place as u32)))?;
     }
+    Ok(())
+}
+
+/// The normal forms of a program's functions, one a line.
+fn forms(alloc: Global, source: &str) -> Result<Shown, Fail> {
+    let typed = typed_program(alloc, source)?;
+    let mut shown = Shown::new(alloc);
+    push_forms(&mut shown, alloc, &typed)?;
     Ok(shown)
+}
+
+/// Compares the normal forms of each program.
+fn compare(rt: &impl Abort, alloc: Global, programs: &[(&str, &str)]) -> Result<(), Fail> {
+    for (source, want) in programs {
+        let found = forms(alloc, source)?;
+        assert_eq!(rt; found.text(), *want);
+    }
+    Ok(())
 }
 
 const SMALL: [(&str, &str); 3] = [
@@ -55,60 +71,52 @@ const SMALL: [(&str, &str); 3] = [
 
 #[test]
 fn small_programs_have_their_forms(rt: HostRuntime) -> Result<(), Fail> {
-    for (source, want) in SMALL {
-        let found = forms(rt.alloc(), source)?;
-        assert_eq!(rt; found.text(), want);
-    }
-    Ok(())
+    compare(&rt, rt.alloc(), &SMALL)
 }
+
+const PROGRAMS: [(&str, &str); 15] = [
+    first::ACKERMANN,
+    first::APPEND,
+    first::BINARY_COUNTER,
+    first::CARTESIAN,
+    first::CHAIN,
+    first::COMMON_SUBSEQUENCE,
+    first::DICTIONARY_OPTION,
+    first::EVERY_NTH,
+    first::FIBONACCI,
+    first::FILTERS,
+    first::FLATTEN_ORDERS,
+    first::GROUP_BY,
+    first::HORNER,
+    first::INSERTION_SORT,
+    first::MATRIX_PRODUCT,
+];
 
 #[test]
 fn programs_have_their_forms(rt: HostRuntime) -> Result<(), Fail> {
-    for (source, want) in [
-        first::ACKERMANN,
-        first::APPEND,
-        first::BINARY_COUNTER,
-        first::CARTESIAN,
-        first::CHAIN,
-        first::COMMON_SUBSEQUENCE,
-        first::DICTIONARY_OPTION,
-        first::EVERY_NTH,
-        first::FIBONACCI,
-        first::FILTERS,
-        first::FLATTEN_ORDERS,
-        first::GROUP_BY,
-        first::HORNER,
-        first::INSERTION_SORT,
-        first::MATRIX_PRODUCT,
-    ] {
-        let found = forms(rt.alloc(), source)?;
-        assert_eq!(rt; found.text(), want);
-    }
-    Ok(())
+    compare(&rt, rt.alloc(), &PROGRAMS)
 }
+
+const MORE_PROGRAMS: [(&str, &str); 16] = [
+    more::MERGE_SORT,
+    more::PID_CONTROLLER,
+    more::PING_PONG,
+    more::QUICKSORT,
+    more::REVERSE,
+    more::RUN_LENGTH,
+    more::SAFE_HEAD_OPTION,
+    more::SEARCH_TREE,
+    more::SELECTION_SORT,
+    more::SHADOWING,
+    more::SHARING,
+    more::SPIN_LOOPS,
+    more::TOKEN_LEDGER,
+    more::TRIPLES,
+    more::TWO_LIST_QUEUE,
+    more::ZIP_UNZIP,
+];
 
 #[test]
 fn more_programs_have_their_forms(rt: HostRuntime) -> Result<(), Fail> {
-    for (source, want) in [
-        more::MERGE_SORT,
-        more::PID_CONTROLLER,
-        more::PING_PONG,
-        more::QUICKSORT,
-        more::REVERSE,
-        more::RUN_LENGTH,
-        more::SAFE_HEAD_OPTION,
-        more::SEARCH_TREE,
-        more::SELECTION_SORT,
-        more::SHADOWING,
-        more::SHARING,
-        more::SPIN_LOOPS,
-        more::TOKEN_LEDGER,
-        more::TRIPLES,
-        more::TWO_LIST_QUEUE,
-        more::ZIP_UNZIP,
-    ] {
-        let found = forms(rt.alloc(), source)?;
-        assert_eq!(rt; found.text(), want);
-    }
-    Ok(())
+    compare(&rt, rt.alloc(), &MORE_PROGRAMS)
 }

@@ -3,14 +3,14 @@ use base_poly::{Index, Tuple};
 use std::alloc::AllocError;
 
 #[cycle(write)]
-pub fn write(out: &mut String, index: &Index) -> Result<(), AllocError> {
+pub fn write_index(out: &mut String, index: &Index) -> Result<(), AllocError> {
     match index {
         Index::Unit => out.push_str("_"),
         Index::Pair(first, second) => {
             out.push_str("(")?;
-            write(out, first)?;
+            write_index(out, first)?;
             out.push_str(", ")?;
-            write(out, second)?;
+            write_index(out, second)?;
             out.push_str(")")
         }
         Index::List(entries) => {
@@ -21,7 +21,7 @@ pub fn write(out: &mut String, index: &Index) -> Result<(), AllocError> {
         Index::Opt(None) => out.push_str("[]"),
         Index::Opt(Some(entry)) => {
             out.push_str("[")?;
-            write(out, entry)?;
+            write_index(out, entry)?;
             out.push_str("]")
         }
     }
@@ -35,7 +35,7 @@ pub fn write_all(out: &mut String, indices: &[Index]) -> Result<(), AllocError> 
             out.push_str(", ")?;
         }
         first = false;
-        write(out, index)?;
+        write_index(out, index)?;
     }
     Ok(())
 }

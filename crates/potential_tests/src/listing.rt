@@ -1,10 +1,11 @@
 //! Lists of the tuples of contexts.
-use crate::index_text::{write, write_tuple};
+use crate::index_text::{write_index, write_tuple};
 use crate::types::{context, last_type, lists};
 use base_poly::{Index, IndexFault, Tuple, indices};
 use indexmap::IndexMap;
 use raml_syntax::Ty;
 use std::alloc::{AllocError, Global};
+use std::fmt::Write;
 use std::process::Abort;
 use std::test::Fail;
 
@@ -17,69 +18,78 @@ fn has_just(alloc: Global, types: &[Ty], d: u8, count: usize) -> Result<bool, In
     Ok(found.len() == count && fewer.err() == Some(IndexFault::TooMany))
 }
 
-// The tuples of each degree below `end`, as a table has them.
-fn listed(rt: &impl Abort, alloc: Global, types: &[Ty], end: u8) -> Result<String, Fail> {
-    let mut out = String::new(alloc);
-    for d in 0..end {
-        let found = indices(alloc, types, d, 2000)?;
-        assert!(rt; has_just(alloc, types, d, found.len())?);
-        let head = format!(in alloc; "degree {d}: {}\n", found.len())?;
-        out.push_str(head.as_str())?;
-        for tuple in &found {
-            write_tuple(&mut out, tuple)?;
-        }
-    }
-    Ok(out)
-}
-
-#[test]
-fn indices_are_in_order(rt: HostRuntime) -> Result<(), Fail> {
-    let alloc = rt.alloc();
-    for (words, end, table) in [
-        ("", 5, tables::NO_TYPES),
-        ("int", 5, tables::INT),
-        ("int list", 5, tables::LIST),
-        ("int list int list", 5, tables::TWO_LISTS),
-        ("int tree", 5, tables::TREE),
-        ("int list list", 5, tables::NESTED),
-        ("int list tree", 5, tables::TREE_OF_LISTS),
-        ("int list bool list pair", 5, tables::PAIR),
-        ("int int list pair list int", 5, tables::LIST_OF_PAIRS),
-        ("int list int tree int list list", 4, tables::THREE),
-        ("int list option", 5, tables::OPTION),
-        ("int option list int option", 4, tables::LIST_OF_OPTIONS),
-    ] {
-        let listed = listed(&rt, alloc, &context(alloc, words)?, end)?;
-        assert_eq!(rt; listed.as_str(), table);
+// Adds the tuples of degree `d`, as a table has them.
+fn push_listed(
+    out: &mut String,
+    rt: &impl Abort,
+    alloc: Global,
+    types: &[Ty],
+    d: u8,
+) -> Result<(), Fail> {
+    let found = indices(alloc, types, d, 2000)?;
+    assert!(rt; has_just(alloc, types, d, found.len())?);
+    write!(out, "degree {d}: {}\n", found.len())?;
+    for tuple in &found {
+        write_tuple(out, tuple)?;
     }
     Ok(())
 }
 
+// The tuples of each degree below `end`, as a table has them.
+fn listed(rt: &impl Abort, alloc: Global, words: &str, end: u8) -> Result<String, Fail> {
+    let types = context(alloc, words)?;
+    let mut out = String::new(alloc);
+    for d in 0..end {
+        push_listed(&mut out, rt, alloc, &types, d)?;
+    }
+    Ok(out)
+}
+
+// The types of a context, the degree below which its tuples are listed, and their table.
+const LISTS: [(&str, u8, &str); 12] = [
+    ("", 5, tables::NO_TYPES),
+    ("int", 5, tables::INT),
+    ("int list", 5, tables::LIST),
+    ("int list int list", 5, tables::TWO_LISTS),
+    ("int tree", 5, tables::TREE),
+    ("int list list", 5, tables::NESTED),
+    ("int list tree", 5, tables::TREE_OF_LISTS),
+    ("int list bool list pair", 5, tables::PAIR),
+    ("int int list pair list int", 5, tables::LIST_OF_PAIRS),
+    ("int list int tree int list list", 4, tables::THREE),
+    ("int list option", 5, tables::OPTION),
+    ("int option list int option", 4, tables::LIST_OF_OPTIONS),
+];
+
+#[test]
+fn indices_are_in_order(rt: HostRuntime) -> Result<(), Fail> {
+    for (words, end, table) in &LISTS {
+        let listed = listed(&rt, rt.alloc(), words, *end)?;
+        assert_eq!(rt; listed.as_str(), *table, "of {words}");
+    }
+    Ok(())
+}
+
+// Whether as many lists have just as many tuples of degree at most 4 as the line says.
+fn has_its_count(alloc: Global, line: &str) -> Result<bool, Fail> {
+    let mut words = line.split_whitespace();
+    let count = words.next().ok_or("a line")?.parse::<usize>()?;
+    let wanted = words.next().ok_or("a line")?.parse::<usize>()?;
+    Ok(has_just(alloc, &lists(alloc, count)?, 4, wanted)?)
+}
+
 #[test]
 fn lists_have_as_many_indices(rt: HostRuntime) -> Result<(), Fail> {
-    let alloc = rt.alloc();
     for line in tables::COUNTS.lines() {
-        let mut words = line.split_whitespace();
-        let count = words.next().ok_or("a line")?.parse::<usize>()?;
-        let wanted = words.next().ok_or("a line")?.parse::<usize>()?;
-        assert!(rt;
-            has_just(alloc, &lists(alloc, count)?, 4, wanted)?,
-            "{line}"
-        );
+        assert!(rt; has_its_count(rt.alloc(), line)?, "{line}");
     }
     Ok(())
 }
 
 #[test]
 fn as_many_as_asked_are_not_too_many(rt: HostRuntime) -> Result<(), Fail> {
-    let alloc = rt.alloc();
-    let types = lists(alloc, 8)?;
-    let found = indices(alloc, &types, 4, 495)?;
-    assert_eq!(rt; found.len(), 495);
-    match indices(alloc, &types, 4, 494) {
-        Ok(_) => assert!(rt; false),
-        Err(fault) => assert_eq!(rt; fault, IndexFault::TooMany),
-    }
+    let types = lists(rt.alloc(), 8)?;
+    assert!(rt; has_just(rt.alloc(), &types, 4, 495)?);
     Ok(())
 }
 
@@ -92,40 +102,66 @@ fn places(alloc: Global, tuples: &[Tuple]) -> Result<IndexMap<Tuple, usize>, All
     Ok(places)
 }
 
+// The tuples of the words' types.
+fn tuples(alloc: Global, words: &str) -> Result<Vec<Tuple>, Fail> {
+    let types = context(alloc, words)?;
+    Ok(indices(alloc, &types, 2, 10)?)
+}
+
+// Whether each tuple has its own place, or none has one where `wanted` is false.
+fn are_there(places: &IndexMap<Tuple, usize>, tuples: &[Tuple], wanted: bool) -> bool {
+    for (place, tuple) in tuples.iter().enumerate() {
+        if places.get(tuple).copied() != wanted.then_some(place) {
+            return false;
+        }
+    }
+    true
+}
+
+// Whether each of these tuples has its own place among those of `int list int option`, or none has one.
+fn are_keys(alloc: Global, tuples: &[Tuple], wanted: bool) -> Result<bool, Fail> {
+    let listed = self::tuples(alloc, "int list int option")?;
+    let places = places(alloc, &listed)?;
+    Ok(are_there(&places, tuples, wanted))
+}
+
 #[test]
 fn tuples_are_keys(rt: HostRuntime) -> Result<(), Fail> {
-    let alloc = rt.alloc();
     for (words, wanted) in [("int list int option", true), ("int list", false)] {
-        let listed = indices(alloc, &context(alloc, "int list int option")?, 2, 10)?;
-        let places = places(alloc, &listed)?;
-        for (place, tuple) in indices(alloc, &context(alloc, words)?, 2, 10)?
-            .iter()
-            .enumerate()
-        {
-            assert_eq!(rt; places.get(tuple).copied(), wanted.then_some(place));
-        }
+        let tuples = tuples(rt.alloc(), words)?;
+        assert!(rt; are_keys(rt.alloc(), &tuples, wanted)?, "of {words}");
     }
     Ok(())
 }
 
-#[test]
-fn tuples_sort_as_they_are_listed(rt: HostRuntime) -> Result<(), Fail> {
-    let alloc = rt.alloc();
-    let types = lists(alloc, 3)?;
-    let listed = indices(alloc, &types, 2, 10)?;
-    let mut sorted = indices(alloc, &types, 2, 10)?;
+// The tuples of the types, sorted from the last on.
+fn sorted(alloc: Global, types: &[Ty]) -> Result<Vec<Tuple>, Fail> {
+    let mut sorted = indices(alloc, types, 2, 10)?;
     sorted.reverse();
     sorted.sort()?;
-    assert!(rt; sorted == listed);
+    Ok(sorted)
+}
+
+#[test]
+fn tuples_sort_as_they_are_listed(rt: HostRuntime) -> Result<(), Fail> {
+    let types = lists(rt.alloc(), 3)?;
+    let listed = indices(rt.alloc(), &types, 2, 10)?;
+    assert!(rt; sorted(rt.alloc(), &types)? == listed);
     Ok(())
+}
+
+// The text of the zero index of the words' last type.
+fn zero_text(alloc: Global, words: &str) -> Result<String, Fail> {
+    let ty = last_type(alloc, words)?;
+    let zero = Index::zero(alloc, &ty)?;
+    let mut out = String::new(alloc);
+    write_index(&mut out, &zero)?;
+    Ok(out)
 }
 
 #[test]
 fn zero_indices_have_no_entries(rt: HostRuntime) -> Result<(), Fail> {
-    let alloc = rt.alloc();
-    let ty = last_type(alloc, "int list bool pair int option pair")?;
-    let mut out = String::new(alloc);
-    write(&mut out, &Index::zero(alloc, &ty)?)?;
-    assert_eq!(rt; out.as_str(), "(([], _), [])");
+    let text = zero_text(rt.alloc(), "int list bool pair int option pair")?;
+    assert_eq!(rt; text.as_str(), "(([], _), [])");
     Ok(())
 }

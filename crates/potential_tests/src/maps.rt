@@ -109,84 +109,96 @@ fn check_map(
     Ok(())
 }
 
+/// Types, the place of a variable, and the entries of the map.
+const OPENED: [(&str, usize, &str); 10] = [
+    ("int list", 0, tables::LIST_ONE),
+    ("int list list int list", 0, tables::LIST_TWO),
+    ("int int list int pair list", 1, tables::LIST_THREE),
+    ("int option list", 0, tables::LIST_FOUR),
+    ("int tree", 0, tables::TREE_ONE),
+    ("int list int list tree", 1, tables::TREE_TWO),
+    ("int list int tree pair", 0, tables::PAIR_ONE),
+    (
+        "int list int int list int list pair pair",
+        1,
+        tables::PAIR_TWO,
+    ),
+    ("int list option", 0, tables::OPTION_ONE),
+    ("int list int list int pair option", 1, tables::OPTION_TWO),
+];
+
 #[test]
 fn variables_are_taken_apart(rt: HostRuntime) -> Result<(), Fail> {
-    let alloc = rt.alloc();
-    for (words, at, table) in [
-        ("int list", 0, tables::LIST_ONE),
-        ("int list list int list", 0, tables::LIST_TWO),
-        ("int int list int pair list", 1, tables::LIST_THREE),
-        ("int option list", 0, tables::LIST_FOUR),
-        ("int tree", 0, tables::TREE_ONE),
-        ("int list int list tree", 1, tables::TREE_TWO),
-        ("int list int tree pair", 0, tables::PAIR_ONE),
-        (
-            "int list int int list int list pair pair",
-            1,
-            tables::PAIR_TWO,
-        ),
-        ("int list option", 0, tables::OPTION_ONE),
-        ("int list int list int pair option", 1, tables::OPTION_TWO),
-    ] {
-        let types = context(alloc, words)?;
-        check_map(&rt, alloc, Change::Opens, &types, at, table)?;
+    for (words, at, table) in &OPENED {
+        let types = context(rt.alloc(), words)?;
+        check_map(&rt, rt.alloc(), Change::Opens, &types, *at, table)?;
     }
     Ok(())
 }
+
+/// What becomes of a variable, types, its place, and the entries of the map.
+const CHANGED: [(Change, &str, usize, &str); 9] = [
+    (Change::Leaves, "int list int list", 0, tables::EMPTY_ONE),
+    (
+        Change::Leaves,
+        "int list tree int list",
+        0,
+        tables::EMPTY_TWO,
+    ),
+    (
+        Change::Leaves,
+        "int list option int list",
+        0,
+        tables::EMPTY_THREE,
+    ),
+    (Change::Drops, "int list int list list", 1, tables::DROP_ONE),
+    (Change::Drops, "int option int option", 1, tables::DROP_TWO),
+    (Change::Shares, "int list", 0, tables::SHARE_ONE),
+    (Change::Shares, "int int list list", 1, tables::SHARE_TWO),
+    (
+        Change::Shares,
+        "int list int list pair int list",
+        0,
+        tables::SHARE_THREE,
+    ),
+    (Change::Shares, "int list option", 0, tables::SHARE_FOUR),
+];
 
 #[test]
 fn variables_leave_or_are_shared(rt: HostRuntime) -> Result<(), Fail> {
-    let alloc = rt.alloc();
-    for (change, words, at, table) in [
-        (Change::Leaves, "int list int list", 0, tables::EMPTY_ONE),
-        (
-            Change::Leaves,
-            "int list tree int list",
-            0,
-            tables::EMPTY_TWO,
-        ),
-        (
-            Change::Leaves,
-            "int list option int list",
-            0,
-            tables::EMPTY_THREE,
-        ),
-        (Change::Drops, "int list int list list", 1, tables::DROP_ONE),
-        (Change::Drops, "int option int option", 1, tables::DROP_TWO),
-        (Change::Shares, "int list", 0, tables::SHARE_ONE),
-        (Change::Shares, "int int list list", 1, tables::SHARE_TWO),
-        (
-            Change::Shares,
-            "int list int list pair int list",
-            0,
-            tables::SHARE_THREE,
-        ),
-        (Change::Shares, "int list option", 0, tables::SHARE_FOUR),
-    ] {
-        let types = context(alloc, words)?;
-        check_map(&rt, alloc, change, &types, at, table)?;
+    for (change, words, at, table) in &CHANGED {
+        let types = context(rt.alloc(), words)?;
+        check_map(&rt, rt.alloc(), *change, &types, *at, table)?;
     }
     Ok(())
 }
 
-/// The number of entries, or the fault.
-fn entries_of(map: Result<Vec<Entry>, MapFault>) -> Result<usize, MapFault> {
-    Ok(map?.len())
+/// How many entries the map of degree 4 at the fourth of these lists has, or the fault.
+fn entries_of(
+    alloc: Global,
+    change: Change,
+    count: usize,
+) -> Result<Result<usize, MapFault>, Fail> {
+    let types = lists(alloc, count)?;
+    if types.len() <= 3 {
+        return Err(Fail::new("too few lists"));
+    }
+    match changed(alloc, change, &types, 3, 4) {
+        Ok(entries) => Ok(Ok(entries.len())),
+        Err(fault) => Ok(Err(fault)),
+    }
 }
 
 #[test]
 fn either_context_may_be_too_large(rt: HostRuntime) -> Result<(), Fail> {
-    let alloc = rt.alloc();
     // 12 lists have 1820 indices of degree at most 4, and 13 have 2380.
     for (change, count, want) in [
         (Change::Drops, 12, Ok(1365)),
         (Change::Drops, 13, Err(MapFault::TooMany)),
         (Change::Shares, 12, Err(MapFault::TooMany)),
     ] {
-        let types = lists(alloc, count)?;
-        assert!(rt; types.len() > 3);
-        let found = entries_of(changed(alloc, change, &types, 3, 4));
-        assert_eq!(rt; found, want);
+        let found = entries_of(rt.alloc(), change, count)?;
+        assert!(rt; found == want, "of {count} lists");
     }
     Ok(())
 }

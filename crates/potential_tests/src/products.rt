@@ -5,29 +5,25 @@ ghost use Rattle.base_poly.specs.Plain.{deg, degrees};
 ghost use Rattle.base_poly.specs.Indices.{IsIndex, AreIndices};
 ghost use Rattle.base_poly.specs.Read.{index_of};
 
-use crate::index_text::write;
+use crate::index_text::write_index;
 use crate::types::last_type;
 use base_poly::{Index, IndexFault, Tuple, indices, multiply};
 use indexmap::IndexMap;
 use raml_syntax::Ty;
 use std::alloc::{AllocError, Global};
+use std::fmt::Write;
 use std::test::Fail;
 
 mod tables;
 
 // The sum that a product is.
-fn write_sum(
-    out: &mut String,
-    alloc: Global,
-    found: &IndexMap<Index, u64>,
-) -> Result<(), AllocError> {
+fn write_sum(out: &mut String, found: &IndexMap<Index, u64>) -> Result<(), AllocError> {
     let mut first = true;
     for (index, number) in found.iter() {
         out.push_str(if first { " = " } else { " + " })?;
         first = false;
-        let times = format!(in alloc; "{number} ")?;
-        out.push_str(times.as_str())?;
-        write(out, index)?;
+        write!(out, "{number} ")?;
+        write_index(out, index)?;
     }
     out.push_str("\n")
 }
@@ -42,12 +38,12 @@ fn write_product(
     requires one_type { (A : Type') × IsIndex (index_of left.now) A × IsIndex (index_of right.now) A }
     requires low { (deg (index_of left.now) ≤ 4) × (deg (index_of right.now) ≤ 4) }
 {
-    write(out, left)?;
+    write_index(out, left)?;
     out.push_str(" * ")?;
-    write(out, right)?;
+    write_index(out, right)?;
     let mut found = multiply(alloc, left, right)?;
     found.sort_keys()?;
-    write_sum(out, alloc, &found)
+    write_sum(out, &found)
 }
 
 // The lines of the products with each of the others, where both have at most degree 4 together.
@@ -87,20 +83,23 @@ fn products_of(alloc: Global, ty: Ty) -> Result<String, IndexFault> {
     Ok(multiplied(alloc, &found)?)
 }
 
+// Types, and the products of their indices.
+const PRODUCTS: [(&str, &str); 7] = [
+    ("int list", tables::LIST_PRODUCTS),
+    ("int list list", tables::NESTED_PRODUCTS),
+    ("int tree", tables::TREE_PRODUCTS),
+    ("int list int list pair", tables::PAIR_PRODUCTS),
+    ("int int list pair list", tables::LIST_OF_PAIRS_PRODUCTS),
+    ("int list option", tables::OPTION_PRODUCTS),
+    ("int option list", tables::LIST_OF_OPTIONS_PRODUCTS),
+];
+
 #[test]
 fn products_are_sums(rt: HostRuntime) -> Result<(), Fail> {
-    let alloc = rt.alloc();
-    for (words, table) in [
-        ("int list", tables::LIST_PRODUCTS),
-        ("int list list", tables::NESTED_PRODUCTS),
-        ("int tree", tables::TREE_PRODUCTS),
-        ("int list int list pair", tables::PAIR_PRODUCTS),
-        ("int int list pair list", tables::LIST_OF_PAIRS_PRODUCTS),
-        ("int list option", tables::OPTION_PRODUCTS),
-        ("int option list", tables::LIST_OF_OPTIONS_PRODUCTS),
-    ] {
-        let products = products_of(alloc, last_type(alloc, words)?)?;
-        assert_eq!(rt; products.as_str(), table);
+    for (words, table) in &PRODUCTS {
+        let ty = last_type(rt.alloc(), words)?;
+        let products = products_of(rt.alloc(), ty)?;
+        assert_eq!(rt; products.as_str(), *table, "of {words}");
     }
     Ok(())
 }

@@ -3,13 +3,19 @@ use raml_syntax::Ty;
 use std::alloc::{AllocError, Global};
 use std::test::Fail;
 
+// Adds the type of the word, made of the last ones.
+fn push_read(alloc: Global, word: &str, types: &mut Vec<Ty>) -> Result<(), Fail> {
+    let ty = read(alloc, word, types)?;
+    types.push(ty)?;
+    Ok(())
+}
+
 /// The types that the words spell: `list`, `tree` and `option` are made of the type before them, and
 /// `pair` of the two types before it.
 pub fn context(alloc: Global, words: &str) -> Result<Vec<Ty>, Fail> {
     let mut types = Vec::new(alloc);
     for word in words.split_whitespace() {
-        let ty = read(alloc, word, &mut types)?;
-        types.push(ty)?;
+        push_read(alloc, word, &mut types)?;
     }
     Ok(types)
 }

@@ -27,53 +27,69 @@ fn repeated(alloc: Global, times: i128, right: i128, rows: u32) -> Result<System
     Ok(system)
 }
 
-/// The same row twice, and a number for each.
+/// What is said of these two numbers, where the row `times * x >= right` stands twice.
+fn refuted(
+    alloc: Global,
+    times: i128,
+    right: i128,
+    first: i128,
+    second: i128,
+) -> Result<Option<Verdict>, Fail> {
+    let system = repeated(alloc, times, right, 2)?;
+    if system.rows().len() == 2 && first >= 0 && second >= 0 {
+        Ok(Some(refutes(&system, &[first, second])))
+    } else {
+        Ok(None)
+    }
+}
+
+/// The same row twice, a number for each, and what is said of them.
+const REFUTATIONS: [(i128, i128, i128, i128, Verdict); 7] = [
+    (0, 1, 1, 0, Verdict::Yes),
+    (0, 1, 0, 0, Verdict::No { column: 1 }),
+    (0, 1, i128::MAX, 0, Verdict::Yes),
+    (0, 1, i128::MAX, i128::MAX, Verdict::Leaves { column: 1 }),
+    (1, 1, 1, 0, Verdict::No { column: 0 }),
+    (-2, 1, 1, 1, Verdict::Yes),
+    (-2, 1, i128::MAX, 1, Verdict::Leaves { column: 0 }),
+];
+
 #[test]
 fn refutations(rt: HostRuntime) -> Result<(), Fail> {
-    let table = [
-        (0, 1, 1, 0, Verdict::Yes),
-        (0, 1, 0, 0, Verdict::No { column: 1 }),
-        (0, 1, i128::MAX, 0, Verdict::Yes),
-        (0, 1, i128::MAX, i128::MAX, Verdict::Leaves { column: 1 }),
-        (1, 1, 1, 0, Verdict::No { column: 0 }),
-        (-2, 1, 1, 1, Verdict::Yes),
-        (-2, 1, i128::MAX, 1, Verdict::Leaves { column: 0 }),
-    ];
-    for (times, right, first, second, want) in table {
-        let system = repeated(rt.alloc(), times, right, 2)?;
-        if system.rows().len() == 2 && first >= 0 && second >= 0 {
-            assert_eq!(rt;
-                refutes(&system, &[first, second]),
-                want,
-                "of {times}, {first} and {second}"
-            );
-        }
+    for (times, right, first, second, want) in &REFUTATIONS {
+        let said = refuted(rt.alloc(), *times, *right, *first, *second)?;
+        assert!(rt; said == Some(*want), "of {times}, {first} and {second}");
     }
     Ok(())
 }
 
-/// The row `x >= 3`, of which 3 is the least solution.
+/// What is said of `x` and `y` over `scale`, where the one row is `x >= 3`.
+fn told_least(alloc: Global, x: i128, y: i128, scale: i128) -> Result<Option<Verdict>, Fail> {
+    let three = repeated(alloc, 1, 3, 1)?;
+    if three.unknowns() == 1 && three.rows().len() == 1 && x >= 0 && y >= 0 && scale > 0 {
+        Ok(Some(least(&three, &[x], &[y], scale)))
+    } else {
+        Ok(None)
+    }
+}
+
+/// Of the row `x >= 3` 3 is the least solution.
+const LEAST: [(i128, i128, i128, Verdict); 6] = [
+    (3, 1, 1, Verdict::Yes),
+    (6, 2, 2, Verdict::Yes),
+    // 2 does not solve the row, 2 is no dual solution, and 4 is more than the dual sum
+    (2, 1, 1, Verdict::No { column: 1 }),
+    (3, 2, 1, Verdict::No { column: 0 }),
+    (4, 1, 1, Verdict::No { column: 1 }),
+    // three times the greatest number does not fit
+    (i128::MAX, 1, i128::MAX, Verdict::Leaves { column: 1 }),
+];
+
 #[test]
 fn least_solutions(rt: HostRuntime) -> Result<(), Fail> {
-    let three = repeated(rt.alloc(), 1, 3, 1)?;
-    let table = [
-        (3, 1, 1, Verdict::Yes),
-        (6, 2, 2, Verdict::Yes),
-        // 2 does not solve the row, 2 is no dual solution, and 4 is more than the dual sum
-        (2, 1, 1, Verdict::No { column: 1 }),
-        (3, 2, 1, Verdict::No { column: 0 }),
-        (4, 1, 1, Verdict::No { column: 1 }),
-        // three times the greatest number does not fit
-        (i128::MAX, 1, i128::MAX, Verdict::Leaves { column: 1 }),
-    ];
-    for (x, y, scale, want) in table {
-        if three.unknowns() == 1 && three.rows().len() == 1 && x >= 0 && y >= 0 && scale > 0 {
-            assert_eq!(rt;
-                least(&three, &[x], &[y], scale),
-                want,
-                "of {x} and {y} over {scale}"
-            );
-        }
+    for (x, y, scale, want) in &LEAST {
+        let said = told_least(rt.alloc(), *x, *y, *scale)?;
+        assert!(rt; said == Some(*want), "of {x} and {y} over {scale}");
     }
     Ok(())
 }

@@ -1,8 +1,9 @@
 //! Fractions: examples near the edges, and a table of 56 lines that another program computed.
 use self::lines::LINES;
 use frac128::Frac;
-use std::alloc::{AllocError, Global};
+use std::alloc::Global;
 use std::cmp::Ordering;
+use std::fmt::Write;
 use std::process::Abort;
 use std::test::Fail;
 
@@ -16,18 +17,6 @@ fn read(text: &str) -> Option<Frac> {
     if den.num() == 0 { None } else { num.div(&den) }
 }
 
-/// The text of an answer, as the table has it.
-fn shown(alloc: Global, answer: Option<Frac>) -> Result<String, AllocError> {
-    match answer {
-        None => format!(in alloc; "-"),
-        Some(value) => {
-            let num = value.num();
-            let den = value.den();
-            format!(in alloc; "{num}/{den}")
-        }
-    }
-}
-
 fn sign_of(order: Ordering) -> &'static str {
     match order {
         Ordering::Less => "<",
@@ -36,40 +25,48 @@ fn sign_of(order: Ordering) -> &'static str {
     }
 }
 
-/// Compares a line `a b a*b a/b a+b a-b order`, where `-` stands for None and `x` for a division by 0.
-fn check_line(rt: &impl Abort, alloc: Global, line: &str) -> Result<(), Fail> {
-    let mut words = line.split_whitespace();
-    let a = words.next().and_then(|word| read(word)).ok_or("a")?;
-    let b = words.next().and_then(|word| read(word)).ok_or("b")?;
-    let product = shown(alloc, a.mul(&b))?;
-    assert_eq!(rt;
-        words.next(),
-        Some(product.as_str()),
-        "the product of {line}"
-    );
-    let quotient = if b.num() == 0 {
-        format!(in alloc; "x")?
+/// Writes an answer as the table has it, and a space.
+fn write_answer(out: &mut String, answer: Option<Frac>) -> Result<(), Fail> {
+    match answer {
+        None => out.push_str("- ")?,
+        Some(value) => {
+            let num = value.num();
+            let den = value.den();
+            write!(out, "{num}/{den} ")?;
+        }
+    }
+    Ok(())
+}
+
+/// Writes `a*b a/b a+b a-b order`, where `-` stands for None and `x` for a division by 0.
+fn write_answers(out: &mut String, a: &Frac, b: &Frac) -> Result<(), Fail> {
+    write_answer(out, a.mul(b))?;
+    if b.num() == 0 {
+        out.push_str("x ")?;
     } else {
-        shown(alloc, a.div(&b))?
-    };
-    assert_eq!(rt;
-        words.next(),
-        Some(quotient.as_str()),
-        "the quotient of {line}"
-    );
-    let sum = shown(alloc, a.add(&b))?;
-    assert_eq!(rt; words.next(), Some(sum.as_str()), "the sum of {line}");
-    let difference = shown(alloc, a.sub(&b))?;
-    assert_eq!(rt;
-        words.next(),
-        Some(difference.as_str()),
-        "the difference of {line}"
-    );
-    assert_eq!(rt;
-        words.next(),
-        Some(sign_of(a.cmp(&b))),
-        "the order of {line}"
-    );
+        write_answer(out, a.div(b))?;
+    }
+    write_answer(out, a.add(b))?;
+    write_answer(out, a.sub(b))?;
+    out.push_str(sign_of(a.cmp(b)))?;
+    Ok(())
+}
+
+/// The answers to the two fractions with which a line begins.
+fn answers(alloc: Global, a: &str, b: &str) -> Result<String, Fail> {
+    let a = read(a).ok_or("a")?;
+    let b = read(b).ok_or("b")?;
+    let mut out = String::new(alloc);
+    write_answers(&mut out, &a, &b)?;
+    Ok(out)
+}
+
+/// Compares a line `a b a*b a/b a+b a-b order`.
+fn check_line(rt: &impl Abort, alloc: Global, line: &str) -> Result<(), Fail> {
+    let (a, rest) = line.split_once(' ').ok_or("a")?;
+    let (b, want) = rest.split_once(' ').ok_or("b")?;
+    let found = answers(alloc, a, b)?;
+    assert_eq!(rt; found.as_str(), want, "of {line}");
     Ok(())
 }
 
@@ -89,16 +86,20 @@ fn edges(rt: HostRuntime) {
     assert!(rt; Frac::zero() < Frac::one());
 }
 
+/// The text of a fraction.
+fn text_of(alloc: Global, value: &str) -> Result<String, Fail> {
+    Ok(read(value).ok_or("no fraction")?.to_string(alloc)?)
+}
+
 #[test]
 fn texts(rt: HostRuntime) -> Result<(), Fail> {
-    for (value, want) in [
+    for (value, want) in &[
         ("6/4", "3/2"),
         ("-7/1", "-7"),
         ("-7/2", "-7/2"),
         ("0/1", "0"),
     ] {
-        let shown = read(value).ok_or("no fraction")?.to_string(rt.alloc())?;
-        assert_eq!(rt; shown.as_str(), want);
+        assert_eq!(rt; text_of(rt.alloc(), value)?.as_str(), *want);
     }
     Ok(())
 }

@@ -264,31 +264,51 @@ impl Plain {
         Ok(row)
     }
 
-    fn pivot(&mut self, alloc: Global, l: usize, s: usize) -> Result<(), Fail> {
+    fn pivoted_rows(&self, alloc: Global, l: usize, s: usize) -> Result<Vec<Vec<i128>>, Fail> {
         let mut rows = Vec::new(alloc);
         for i in 0..=self.gains {
             rows.push(self.pivoted_row(alloc, l, s, i)?)?;
         }
-        self.over = self.over.checked_mul(self.entry(l, s)).ok_or("too large")?;
-        self.rows = rows;
+        Ok(rows)
+    }
+
+    /// Notes that column `s` enters in row `l`.
+    fn enter(&mut self, l: usize, s: usize) -> Result<(), Fail> {
         *self.basis.get_mut(l).ok_or("no such row")? = s;
         self.pivots.push((u32::try_from(l)?, u32::try_from(s)?))?;
+        Ok(())
+    }
+
+    fn pivot(&mut self, alloc: Global, l: usize, s: usize) -> Result<(), Fail> {
+        let over = self.over.checked_mul(self.entry(l, s)).ok_or("too large")?;
+        self.rows = self.pivoted_rows(alloc, l, s)?;
+        self.over = over;
+        self.enter(l, s)?;
         self.reduce(alloc)
     }
 
-    /// Divides all numbers by what they have in common.
-    fn reduce(&mut self, alloc: Global) -> Result<(), Fail> {
+    /// What all numbers have in common.
+    fn common(&self) -> u128 {
         let mut common = self.over.unsigned_abs();
         for row in &self.rows {
             common = common_with(common, row);
         }
-        let by = i128::try_from(common)?;
+        common
+    }
+
+    fn divided_rows(&self, alloc: Global, by: i128) -> Result<Vec<Vec<i128>>, Fail> {
         let mut rows = Vec::new(alloc);
         for row in &self.rows {
             rows.push(divided(alloc, row, by)?)?;
         }
+        Ok(rows)
+    }
+
+    /// Divides all numbers by what they have in common.
+    fn reduce(&mut self, alloc: Global) -> Result<(), Fail> {
+        let by = i128::try_from(self.common())?;
         self.over = self.over.checked_div(by).ok_or("no quotient")?;
-        self.rows = rows;
+        self.rows = self.divided_rows(alloc, by)?;
         Ok(())
     }
 

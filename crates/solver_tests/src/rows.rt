@@ -12,85 +12,131 @@ fn number(n: i128) -> Result<Frac, Fail> {
     Ok(Frac::whole(n).ok_or("too large")?)
 }
 
-/// The row of two whole numbers, each with its column.
-fn pair(alloc: Global, first: (u32, i128), second: (u32, i128)) -> Result<FracRow, Fail>
-    requires { first.0 < second.0 }
-{
+/// The row of these whole numbers, each behind its column.
+#[tactic(auto, using(crate::proofs::Columns::ends_later))]
+fn row_of(alloc: Global, entries: &[(u32, i128)]) -> Result<FracRow, Fail> {
     let mut row = FracRow::new(alloc);
-    row.push(first.0, number(first.1)?)?;
-    row.push(second.0, number(second.1)?)?;
+    let mut next: u64 = 0;
+    for (column, n) in entries {
+        if u64::from(*column) < next {
+            return Err(Fail::new("columns ascend"));
+        }
+        row.push(*column, number(*n)?)?;
+        next = u64::from(*column) + 1;
+    }
     Ok(row)
 }
 
+/// Whether just these whole numbers are not 0, each behind its column.
+fn is_row(row: &FracRow, entries: &[(u32, i128)]) -> bool {
+    let (columns, numbers) = (row.columns(), row.numbers());
+    if columns.len() != entries.len() || numbers.len() != entries.len() {
+        return false;
+    }
+    for i in 0..entries.len() {
+        let (column, n) = entries[i];
+        if columns[i] != column || numbers[i].num() != n || numbers[i].den() != 1 {
+            return false;
+        }
+    }
+    true
+}
+
+/// Whether these whole numbers stand at their columns.
+fn stand_in(row: &FracRow, entries: &[(u32, i128)]) -> bool {
+    for (column, n) in entries {
+        let there = row.at(*column);
+        if there.num() != *n || there.den() != 1 {
+            return false;
+        }
+    }
+    true
+}
+
+/// Takes `times` times the lead from the row, with this spare row.
+fn take(
+    row: &mut FracRow,
+    alloc: Global,
+    times: i128,
+    lead: &[(u32, i128)],
+    spare: &[(u32, i128)],
+) -> Result<Result<(), RowFault>, Fail> {
+    let times = number(times)?;
+    let lead = row_of(alloc, lead)?;
+    let mut spare = row_of(alloc, spare)?;
+    Ok(row.subtract(&times, &lead, &mut spare))
+}
+
+const ROW: [(u32, i128); 7] = [(0, 6), (2, 0), (3, 4), (7, 1), (8, 1), (9, 1), (12, 3)];
+
+const LESS: [(u32, i128); 6] = [(0, 6), (1, -10), (7, 1), (8, 1), (9, 1), (12, 3)];
+
 #[test]
 fn a_row_less_a_lead(rt: HostRuntime) -> Result<(), Fail> {
-    let mut row = FracRow::new(rt.alloc());
-    row.push(0, number(6)?)?;
-    row.push(2, number(0)?)?;
-    row.push(3, number(4)?)?;
-    row.push(7, number(1)?)?;
-    row.push(8, number(1)?)?;
-    row.push(9, number(1)?)?;
-    row.push(12, number(3)?)?;
-    let lead = pair(rt.alloc(), (1, 5), (3, 2))?;
-    let mut spare = pair(rt.alloc(), (8, 8), (9, 9))?;
-    row.subtract(&number(2)?, &lead, &mut spare)?;
-    assert_eq!(rt; row.columns(), [0, 1, 7, 8, 9, 12].as_slice());
-    assert_eq!(rt; row.at(0), number(6)?);
-    assert_eq!(rt; row.at(1), number(-10)?);
-    assert_eq!(rt; row.at(12), number(3)?);
-    assert_eq!(rt; row.at(3), number(0)?);
+    let mut row = row_of(rt.alloc(), &ROW)?;
+    let taken = take(
+        &mut row,
+        rt.alloc(),
+        2,
+        &[(1, 5), (3, 2)],
+        &[(8, 8), (9, 9)],
+    )?;
+    assert!(rt; taken.is_ok());
+    assert!(rt; is_row(&row, &LESS));
+    assert!(rt; stand_in(&row, &[(0, 6), (1, -10), (12, 3), (3, 0)]));
     Ok(())
 }
 
 #[test]
 fn a_number_that_leaves(rt: HostRuntime) -> Result<(), Fail> {
-    let mut row = FracRow::new(rt.alloc());
-    row.push(1, number(6)?)?;
-    let lead = pair(rt.alloc(), (1, 1), (4, i128::MAX))?;
-    let mut spare = FracRow::new(rt.alloc());
-    let answer = row.subtract(&number(2)?, &lead, &mut spare);
-    assert!(rt; matches!(answer, Err(RowFault::Leaves { column: 4 })));
-    assert_eq!(rt; row.numbers(), [number(6)?].as_slice());
+    let mut row = row_of(rt.alloc(), &[(1, 6)])?;
+    let taken = take(&mut row, rt.alloc(), 2, &[(1, 1), (4, i128::MAX)], &[])?;
+    assert!(rt; matches!(taken, Err(RowFault::Leaves { column: 4 })));
+    assert!(rt; is_row(&row, &[(1, 6)]));
     Ok(())
 }
 
 #[test]
 fn a_row_over_a_number(rt: HostRuntime) -> Result<(), Fail> {
-    let quotients = pair(rt.alloc(), (2, 6), (4, -3))?.over(&Frac::one().neg())?;
-    assert_eq!(rt; quotients.numbers(), [number(-6)?, number(3)?].as_slice());
+    let quotients = row_of(rt.alloc(), &[(2, 6), (4, -3)])?.over(&Frac::one().neg())?;
+    assert!(rt; is_row(&quotients, &[(2, -6), (4, 3)]));
     Ok(())
 }
 
 #[test]
 fn the_next_column(rt: HostRuntime) -> Result<(), Fail> {
-    let row = pair(rt.alloc(), (2, 6), (4, -3))?;
-    assert_eq!(rt; row.next_column(0), Some(2));
-    assert_eq!(rt; row.next_column(2), Some(2));
-    assert_eq!(rt; row.next_column(3), Some(4));
-    assert_eq!(rt; row.next_column(5), None);
+    let row = row_of(rt.alloc(), &[(2, 6), (4, -3)])?;
+    for (from, next) in [(0, Some(2)), (2, Some(2)), (3, Some(4)), (5, None)] {
+        assert!(rt; row.next_column(from) == next, "from {from}");
+    }
     Ok(())
 }
 
-/// The row of an unknown among 200, each of which is at least 1: its number in its own row, its slack and
-/// its weight.
-fn opened(alloc: Global, unknown: u32) -> Result<FracRow, Fail>
-    requires { unknown < 200 }
-{
-    let mut row = FracRow::new(alloc);
-    row.push(unknown, Frac::one())?;
-    row.push(200 + unknown, Frac::one())?;
-    row.push(400, Frac::one())?;
-    Ok(row)
-}
-
-/// The gains of these 200 unknowns.
+/// The gains of 200 unknowns.
 fn opened_gains(alloc: Global) -> Result<FracRow, Fail> {
     let mut gains = FracRow::new(alloc);
     for column in 0..200 {
         gains.push(column, Frac::one())?;
     }
     Ok(gains)
+}
+
+/// What the row of an unknown stores that is at least 1, and what its lead stores, which is taken from the
+/// gains: its number in its own row, its slack and its weight.
+fn pivot(
+    alloc: Global,
+    gains: &mut FracRow,
+    spare: &mut FracRow,
+    unknown: u32,
+) -> Result<(usize, usize), Fail>
+    requires { unknown < 200 }
+{
+    let row = row_of(alloc, &[(unknown, 1), (200 + unknown, 1), (400, 1)])?;
+    let opening = row.columns().len();
+    let lead = row.over(&Frac::one())?;
+    let gain = gains.at(unknown);
+    gains.subtract(&gain, &lead, spare)?;
+    Ok((opening, lead.columns().len()))
 }
 
 /// What is stored before the pivots of all unknowns, and after them.
@@ -101,15 +147,12 @@ fn entries_stored(rt: HostRuntime) -> Result<(), Fail> {
     let mut opening: usize = gains.columns().len();
     let mut pivoted: usize = 0;
     for unknown in 0..200 {
-        let row = opened(rt.alloc(), unknown)?;
-        opening = opening.saturating_add(row.columns().len());
-        let lead = row.over(&Frac::one())?;
-        pivoted = pivoted.saturating_add(lead.columns().len());
-        let gain = gains.at(unknown);
-        gains.subtract(&gain, &lead, &mut spare)?;
+        let (row, lead) = pivot(rt.alloc(), &mut gains, &mut spare, unknown)?;
+        opening = opening.saturating_add(row);
+        pivoted = pivoted.saturating_add(lead);
     }
-    assert_eq!(rt; opening, 800);
-    assert_eq!(rt; pivoted, 600);
-    assert_eq!(rt; gains.columns().len(), 201);
+    assert!(rt; opening == 800);
+    assert!(rt; pivoted == 600);
+    assert!(rt; gains.columns().len() == 201);
     Ok(())
 }

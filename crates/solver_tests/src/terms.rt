@@ -1,36 +1,59 @@
 //! Rows of a system: each call once, and the edges of 128 bits.
 use crate::text::system;
 use linear_rows::{LeavesRow, Row, RowFault};
+use std::process::Abort;
 use std::test::Fail;
 
-#[test]
-fn terms_ascend(rt: HostRuntime) -> Result<(), Fail> {
-    let mut row = Row::new(rt.alloc());
-    for (unknown, times) in [(7, 2), (3, -1), (5, 4), (7, 1), (5, -4), (9, 0)] {
-        row.add(unknown, times)?;
+/// Adds each term, and compares the terms that stand then.
+fn check_sum(
+    rt: &impl Abort,
+    row: &mut Row,
+    terms: &[(u32, i128)],
+    sum: &[(u32, i128)],
+) -> Result<(), Fail> {
+    for (unknown, times) in terms {
+        row.add(*unknown, *times)?;
     }
-    assert_eq!(rt; row.terms(), [(3, -1), (7, 3)].as_slice());
-    assert_eq!(rt; row.coefficient(7), 3);
-    assert_eq!(rt; row.coefficient(5), 0);
-    assert!(rt; row.add_right(-6).is_ok());
-    assert_eq!(rt; row.right(), -6);
+    assert!(rt; row.terms() == sum);
     Ok(())
 }
 
 #[test]
-fn numbers_that_leave(rt: HostRuntime) -> Result<(), Fail> {
+fn terms_ascend(rt: HostRuntime) -> Result<(), Fail> {
     let mut row = Row::new(rt.alloc());
-    row.add(0, i128::MAX)?;
-    assert_eq!(rt; row.add(0, 1), Err(RowFault::LeavesRow));
-    assert_eq!(rt; row.terms(), [(0, i128::MAX)].as_slice());
-    row.add(1, i128::MIN)?;
-    assert_eq!(rt; row.add(1, -1), Err(RowFault::LeavesRow));
-    row.add(0, i128::MIN)?;
-    assert_eq!(rt; row.terms(), [(0, -1), (1, i128::MIN)].as_slice());
-    assert_eq!(rt; row.add_right(i128::MIN), Ok(()));
-    assert_eq!(rt; row.add_right(-1), Err(LeavesRow));
-    assert_eq!(rt; row.right(), i128::MIN);
+    let terms = [(7, 2), (3, -1), (5, 4), (7, 1), (5, -4), (9, 0)];
+    check_sum(&rt, &mut row, &terms, &[(3, -1), (7, 3)])?;
+    assert!(rt; row.coefficient(7) == 3);
+    assert!(rt; row.coefficient(5) == 0);
+    assert!(rt; row.add_right(-6).is_ok());
+    assert!(rt; row.right() == -6);
     Ok(())
+}
+
+/// What is added, what comes of it, and the terms then.
+const SUMS: [(u32, i128, Result<(), RowFault>, &[(u32, i128)]); 5] = [
+    (0, i128::MAX, Ok(()), &[(0, i128::MAX)]),
+    (0, 1, Err(RowFault::LeavesRow), &[(0, i128::MAX)]),
+    (1, i128::MIN, Ok(()), &[(0, i128::MAX), (1, i128::MIN)]),
+    (
+        1,
+        -1,
+        Err(RowFault::LeavesRow),
+        &[(0, i128::MAX), (1, i128::MIN)],
+    ),
+    (0, i128::MIN, Ok(()), &[(0, -1), (1, i128::MIN)]),
+];
+
+#[test]
+fn numbers_that_leave(rt: HostRuntime) {
+    let mut row = Row::new(rt.alloc());
+    for (unknown, times, added, terms) in &SUMS {
+        assert!(rt; row.add(*unknown, *times) == *added, "{times} at {unknown}");
+        assert!(rt; row.terms() == *terms, "{times} at {unknown}");
+    }
+    assert!(rt; row.add_right(i128::MIN) == Ok(()));
+    assert!(rt; row.add_right(-1) == Err(LeavesRow));
+    assert!(rt; row.right() == i128::MIN);
 }
 
 /// One unknown of weight 1, and the row that it is at least 3.
@@ -40,12 +63,12 @@ fn one_row(rt: HostRuntime) -> Result<(), Fail> {
         rt.alloc(),
         &mut "system 1 1\nweights 0:1\nrow 3 0:1".lines(),
     )?;
-    assert_eq!(rt; one.unknowns(), 1);
-    assert_eq!(rt; one.weights(), [1].as_slice());
-    assert_eq!(rt; one.rows().len(), 1);
+    assert!(rt; one.unknowns() == 1);
+    assert!(rt; one.weights() == [1].as_slice());
+    assert!(rt; one.rows().len() == 1);
     for row in one.rows() {
-        assert_eq!(rt; row.terms(), [(0, 1)].as_slice());
-        assert_eq!(rt; row.right(), 3);
+        assert!(rt; row.terms() == [(0, 1)].as_slice());
+        assert!(rt; row.right() == 3);
     }
     Ok(())
 }

@@ -117,41 +117,51 @@ pub(super) fn system(alloc: Global, lines: &mut Lines<'_>) -> Result<System, Fai
 
 /// Writes a line with the fractions that are not 0, each after its place.
 fn write_fracs(out: &mut String, name: &str, fracs: &[Frac]) -> Result<(), Fail> {
-    write!(out, "{name}")?;
+    out.push_str(name)?;
     for i in 0..fracs.len() {
         if fracs[i].num() != 0 {
             let frac = fracs[i];
             write!(out, " {i}:{frac}")?;
         }
     }
-    writeln!(out)?;
+    out.push('\n')?;
     Ok(())
+}
+
+/// Writes a line with the pivots, each the row and the column.
+fn write_pivots(out: &mut String, pivots: &[(u32, u32)]) -> Result<(), Fail> {
+    out.push_str("pivots")?;
+    for (row, column) in pivots {
+        write!(out, " {row}:{column}")?;
+    }
+    out.push('\n')?;
+    Ok(())
+}
+
+/// Writes the lines of an answer.
+pub(super) fn write_answer(out: &mut String, answer: &Answer) -> Result<(), Fail> {
+    match answer {
+        Answer::Best { x, dual, pivots } => {
+            out.push_str("answer best\n")?;
+            write_fracs(out, "x", x)?;
+            write_fracs(out, "dual", dual)?;
+            write_pivots(out, pivots)
+        }
+        Answer::NoSolution { farkas, pivots } => {
+            out.push_str("answer none\n")?;
+            write_fracs(out, "farkas", farkas)?;
+            write_pivots(out, pivots)
+        }
+        Answer::Leaves { pivots, row, col } => {
+            writeln!(out, "answer leaves {row} {col}")?;
+            write_pivots(out, pivots)
+        }
+    }
 }
 
 /// The lines of an answer.
 pub(super) fn shown(alloc: Global, answer: &Answer) -> Result<String, Fail> {
     let mut out = String::new(alloc);
-    let pivots = match answer {
-        Answer::Best { x, dual, pivots } => {
-            writeln!(&mut out, "answer best")?;
-            write_fracs(&mut out, "x", x)?;
-            write_fracs(&mut out, "dual", dual)?;
-            pivots
-        }
-        Answer::NoSolution { farkas, pivots } => {
-            writeln!(&mut out, "answer none")?;
-            write_fracs(&mut out, "farkas", farkas)?;
-            pivots
-        }
-        Answer::Leaves { pivots, row, col } => {
-            writeln!(&mut out, "answer leaves {row} {col}")?;
-            pivots
-        }
-    };
-    write!(&mut out, "pivots")?;
-    for (row, column) in pivots {
-        write!(&mut out, " {row}:{column}")?;
-    }
-    writeln!(&mut out)?;
+    write_answer(&mut out, answer)?;
     Ok(out)
 }
