@@ -119,7 +119,10 @@ fn lines(
 ) -> Result<String, AllocError> {
     let mut text = String::new(alloc);
     for place in 0..program.functions().len() {
-        let fun = FunId(place as u32);
+        let Ok(number) = u32::try_from(place) else {
+            return Err(AllocError);
+        };
+        let fun = FunId(number);
         push_line(alloc, &mut text, program, checked, fun, Meter::Ticks)?;
         push_line(alloc, &mut text, program, checked, fun, Meter::Cells)?;
         if work {
@@ -137,6 +140,13 @@ fn meter_word(meter: Meter) -> &'static str {
     }
 }
 
+fn name<'a>(program: &'a NormProgram<'_>, fun: FunId) -> &'a str {
+    match program.source().funs.get(fun.0 as usize) {
+        Some(fun) => fun.name.text(),
+        None => "",
+    }
+}
+
 fn push_line(
     alloc: Global,
     text: &mut String,
@@ -145,7 +155,7 @@ fn push_line(
     fun: FunId,
     meter: Meter,
 ) -> Result<(), AllocError> {
-    text.push_str(program.source().funs[fun.0 as usize].name.text())?;
+    text.push_str(name(program, fun))?;
     text.push_str(" ")?;
     text.push_str(meter_word(meter))?;
     match checked.bound(alloc, fun, meter)? {

@@ -1,4 +1,8 @@
 // The systems of a certificate's tasks, as text.
+ghost use Rattle.std.specs.Prelude.{◌≡◌};
+ghost use Rattle.annot_types.specs.Holds as h;
+ghost use Rattle.cost_free.specs.Read.{kind_of};
+
 use annot_types::{Block, BlockBody, Certificate};
 use call_groups::group_calls;
 use cert_json::read;
@@ -62,7 +66,9 @@ fn rows_of(
     Ok(out)
 }
 
-fn budget_of(degree: u8, task: &Task) -> u8 {
+fn budget_of(degree: u8, task: &Task) -> u8
+    ensures { result ≡ h.budget_of degree (kind_of task.now.kind) }
+{
     match task.kind {
         TaskKind::Free { budget, .. } => budget,
         TaskKind::With(_) => degree,
@@ -107,7 +113,10 @@ fn push_rows(
         return Ok(());
     }
     let task = &block.task;
-    if budget_of(degree, task) > 4 || degree > 4 {
+    if degree > 4 {
+        return Err(Fail::from("the degree is great"));
+    }
+    if budget_of(degree, task) > 4 {
         return Err(Fail::from("the budget is great"));
     }
     out.push_str(&title(alloc, program, task)?)?;
