@@ -1,0 +1,2 @@
+pub mod Analysed
+pub mod Laws
