@@ -1,8 +1,7 @@
-pub mod Asked
-pub mod Read
-pub mod Fragment
-pub mod Tested
-pub mod Report
-pub mod Call
-pub mod Promise
+pub mod Ending
+pub mod Outside
 pub mod Steps
+pub mod Analysis
+pub mod Call
+pub mod Line
+pub mod Promise

@@ -1,81 +1,92 @@
--- What the steps of a call answer.
-use Rattle.std.specs.Prelude.{◌≡◌, ◌≤◌, ℕ, List, length, Option, Some, slice_get}
-use Rattle.raml_syntax.specs.Tree.{Text, Function, Prog}
-use Rattle.raml_syntax.specs.Value.{Value, HaveTypes}
-use Rattle.raml_syntax.specs.Types.{types_of}
-use Rattle.raml_io.specs.Files.{Files}
-use Rattle.value_text.specs.declared.word.Word.{Word}
-use Rattle.value_text.specs.declared.word.Cell.{Cell}
-use Rattle.value_text.specs.Stands.{StandForAll}
-use Rattle.raml_top.specs.Asked.{Limits, Request, Run, AsksLater, AsksNothing}
-use Rattle.raml_top.specs.Fragment.{IsOnly, IsFaulty}
-use Rattle.raml_top.specs.Call.{most_data}
-use Rattle.raml_top.specs.Promise.{Count, Rises, IsRead, ReadOf, IsOver, Ran, ReportsRun, RunRefused, ProgramRefused, IsIllTyped}
-use Rattle.raml_top.specs.declared.status.Status.{Status}
-use Rattle.raml_top.specs.declared.status.Status.TheVariants.{Usage, ReadFault, TooLong, Source, NotBuilt, NoMemory}
+-- The steps of a call.
+use Rattle.std.specs.Prelude.{◌≡◌, ◌≤◌, ◌⊎◌, ℕ, suc, List, [], length, Some, None, Err}
+use Rattle.raml_syntax.specs.Tree.{Text, Prog}
+use Rattle.raml_syntax.specs.Types as types
+use Rattle.raml_parse.specs.Spelling as spelling
+use Rattle.simple_types.specs.Fault as types_fault
+use Rattle.simple_types.specs.Walk.{walk_program}
+use Rattle.call_groups.specs.Groups.{Grouping, IsGrouping}
+use Rattle.amortised_bounds.specs.Laws.{normal_of}
+use Rattle.annot_types.specs.Program.{Program}
+use Rattle.raml_top.specs.Ending.{Ending, Done, ReadFault, TooLong, Source, Parse, Types}
+use Rattle.raml_top.specs.Outside.{Side, Also, Store, IsRead}
 use Rattle.raml_top.specs.declared.status.Which.{Which}
-use Rattle.raml_top.specs.declared.status.SourceFault.TheVariants.{Parse, «Type»}
+use Rattle.raml_top.specs.declared.status.Which.TheVariants as w
 
--- these bytes are all of a file that is within its limit
-pub record IsWhole (holds : Option Files) (limit : ℕ) (file bytes : List ℕ) : Type 0 where
-  pub read : IsRead holds limit file bytes
-  pub short : length bytes ≤ limit
+-- the program whose functions a line on err names, with their groups; empty before one is read
+pub record Names : Type 0 where
+  pub program : Prog
+  pub groups : List (List ℕ)
 
--- why a file is not read: the store's count rose for it, or it has too many bytes
-abbrev pub ReadRefused : Option Files → Count → ℕ → List ℕ → Which → Status → Type 0
-ReadRefused holds reads limit file which (ReadFault w) = (w ≡ which) × Rises reads
-ReadRefused holds reads limit file which (TooLong w) = (w ≡ which) × ReadOf holds limit file (IsOver limit)
-ReadRefused holds reads limit file which NoMemory = Unit {0}
-ReadRefused holds reads limit file which _ = ⊥
+abbrev pub no_names : Names
+no_names = record { program = []; groups = [] }
 
--- the words stand in these cells for arguments of the function at a place of the program
-pub record CanRun (P : Prog) (f : ℕ) (cells : List Cell) (words : List Word) : Type 0 where
-  pub fun : Function
-  pub there : slice_get P f ≡ Some fun
-  pub args : List Value
-  pub stand : StandForAll cells words args
-  pub types : HaveTypes args (types_of fun)
+-- What a call answers: a report, which ends so, or a refusal.
+pub data Answer : Type 0 where
+  Report : Ending → Text → Answer
+  Refusal : Names → Ending → Answer
 
--- the text is the report of the run on these words, and the call ends so
-abbrev pub RanOn : Prog → ℕ → List Cell → List Word → Limits → Status → List ℕ → Type 0
-RanOn P f cells words limits status text = (r : CanRun P f cells words) → Ran P f r.fun r.args limits status text
+abbrev pub ending_in : Answer → Ending
+ending_in (Report ending text) = ending
+ending_in (Refusal names ending) = ending
 
--- and on what the file of data spells
-abbrev pub RunReported : Option Files → Text → Text → Limits → Status → List ℕ → Prog → Type 0
-RunReported holds name data_file limits status text P =
-    ReadOf holds most_data data_file (λ data_bytes. ReportsRun P name data_bytes limits status text)
+-- A step of a call. It is refused, and that is the answer; or it comes to something, of which the rest answers.
+pub data Step {X : Type 0} (names : Names) (Refuses : Ending → Type 0) (Comes : X → Type 0) (Rest : X → Answer → Type 0) (a : Answer) : Type 0 where
+  refused : (e : Ending) → Refuses e → a ≡ Refusal names e → Step names Refuses Comes Rest a
+  goes_on : (x : X) → Comes x → Rest x a → Step names Refuses Comes Rest a
 
--- why a program is not run
-abbrev pub RunAnswered : Option Files → Count → Text → Text → Status → Prog → Type 0
-RunAnswered holds reads name data_file NoMemory P = Unit {0}
-RunAnswered holds reads name data_file status P = RunRefused holds reads name data_file status P
+-- A test: it is refused, or it is passed and the rest answers.
+abbrev pub Test : Names → (Ending → Type 0) → Type 0 → (Answer → Type 0) → Answer → Type 0
+Test names Refuses Passes Rest = Step names Refuses (λ (done : Unit {0}). Passes) (λ done. Rest)
 
--- why a source within its limit gives no typed program
-abbrev pub TypedRefused : List ℕ → Status → Type 0
-TypedRefused source (Source (Parse fault)) = IsFaulty source fault
-TypedRefused source (Source («Type» fault)) = IsIllTyped source fault
-TypedRefused source NoMemory = Unit {0}
-TypedRefused source _ = ⊥
+-- a report that ends with Done, of which this is promised
+abbrev pub Prints : Side → (Text → Type 0) → Answer → Type 0
+Prints side Is (Report Done text) = Also side (Is text)
+Prints side Is _ = ⊥
 
--- why there is no report on a program
-abbrev pub ProgramAnswered : Option Files → (Text → Count) → Request → Status → Prog → Type 0
-ProgramAnswered holds reads request NoMemory P = Unit {0}
-ProgramAnswered holds reads request status P = ProgramRefused holds reads request status P
+-- the limits of files, in bytes
+abbrev pub most_bytes : Which → ℕ
+most_bytes w.Program = 1048576
+most_bytes w.Data = 4194304
+most_bytes w.Certificate = 16777216
 
--- why there are no bounds
-abbrev pub BoundsRefused : Prog → Status → Type 0
-BoundsRefused P NotBuilt = (fun : Function) → ¬ (IsOnly P fun)
-BoundsRefused P NoMemory = Unit {0}
-BoundsRefused P _ = ⊥
+-- The bytes are no more than their limit.
+abbrev pub OfShort : Which → List ℕ → (Answer → Type 0) → Answer → Type 0
+OfShort which bytes Rest =
+    Test no_names (λ e. (e ≡ TooLong which) × (suc (most_bytes which) ≤ length bytes)) (length bytes ≤ most_bytes which) Rest
 
--- why the words give nothing to do
-abbrev pub Unasked : List Text → Status → Type 0
-Unasked words Usage = AsksNothing words
-Unasked words NotBuilt = AsksLater words
-Unasked words NoMemory = Unit {0}
-Unasked words _ = ⊥
+-- A file is read.
+abbrev pub OfFile : Side → Store → Which → Text → (List ℕ → Answer → Type 0) → Answer → Type 0
+OfFile side store which file Rest =
+    Step no_names
+    (λ e. (e ≡ ReadFault which) × IsRead side store (most_bytes which) file None)
+    (λ bytes. IsRead side store (most_bytes which) file (Some bytes))
+    (λ bytes. OfShort which bytes (Rest bytes))
 
--- a run has a billion steps and 2^24 cells at most
-abbrev pub IsWithin : Request → Type 0
-IsWithin (Run file name data_file limits) = (limits.steps ≤ 1000000000) × (limits.cells ≤ 16777216)
-IsWithin _ = Unit {0}
+-- Why a source spells no typed program: its first fault, or that of the types of the program that it spells.
+abbrev pub SourceRefuses : List ℕ → Ending → Type 0
+SourceRefuses source (Source (Parse fault)) = spelling.FirstFault source fault
+SourceRefuses source (Source (Types fault)) = (P : Prog) × spelling.Spells source P × (walk_program P ≡ Err fault)
+SourceRefuses source _ = ⊥
+
+-- the source spells this typed program
+pub record IsTyped (source : List ℕ) (P : Prog) : Type 0 where
+  pub spelled : spelling.Spells source P
+  pub typed : types.Typed P
+
+-- A source spells a typed program.
+abbrev pub OfSource : List ℕ → (Prog → Answer → Type 0) → Answer → Type 0
+OfSource source Rest = Step no_names (SourceRefuses source) (IsTyped source) Rest
+
+-- A file does.
+abbrev pub OfProgram : Side → Store → Text → (Prog → Answer → Type 0) → Answer → Type 0
+OfProgram side store file Rest = OfFile side store w.Program file (λ source. OfSource source Rest)
+
+-- The normal form of a program, with the groups of its functions.
+pub record OfNormal (P : Prog) (Rest : Program → Answer → Type 0) (a : Answer) : Type 0 where
+  pub groups : Grouping
+  pub grouping : IsGrouping P groups
+  pub rest : Rest (normal_of P groups.list) a
+
+abbrev pub names_of : Prog → Program → Names
+names_of P N = record { program = P; groups = N.groups }

@@ -1,0 +1,31 @@
+-- The lines of a certificate, and what they say.
+use Rattle.std.specs.Prelude.{◌≡◌, ◌<◌, ℕ, List, [], ◌∷◌, length, flat_map}
+use Rattle.std.specs.List.{Contains}
+use Rattle.raml_syntax.specs.Tree.{Text, Prog}
+use Rattle.cost_free.specs.Task.{Meter}
+use Rattle.cost_free.specs.Schedule.{meters}
+use Rattle.annot_types.specs.Program.{Program}
+use Rattle.annot_types.specs.Certificate.{Certificate, has_work}
+use Rattle.annot_types.specs.Held.{Claim, Line, line, lines_for, lines}
+use Rattle.amortised_bounds.specs.Laws.{IsTrue}
+use Rattle.courses.specs.Lines.{Tells}
+use Rattle.report_text.specs.Claims.{lines_text}
+
+-- the lines of a function: one for each meter
+abbrev pub lines_of : Program → Certificate → ℕ → List Line
+lines_of N c f = flat_map (lines_for N c f) (meters (has_work c))
+
+-- this is what the certificate claims of a function and a meter, and nothing else
+abbrev pub Claims : Program → Certificate → ℕ → Meter → Claim → Type 0
+Claims N c f meter claim = lines_for N c f meter ≡ line f meter claim ∷ []
+
+-- The text is the lines: one for each function, in the order of the source, and each meter.
+pub record AreLines (P : Prog) (N : Program) (c : Certificate) (text : Text) : Type 0 where
+  pub is : text ≡ lines_text P (lines N c)
+  pub each : (f : ℕ) (meter : Meter) → f < length P → Contains (meters (has_work c)) meter → (claim : Claim) × Claims N c f meter claim
+
+-- What the lines of a certificate say is true: a polynomial bounds what the function costs; where there is none, the task of the function's group is refuted,
+-- or waits for a function that is told.
+pub record LinesHold (P : Prog) (N : Program) (c : Certificate) : Type 0 where
+  pub bounds : (l : Line) → Contains (lines N c) l → IsTrue P l.fun l.meter l.claim
+  pub tell : (l : Line) → Contains (lines N c) l → Tells N c l.fun l.meter l.claim
