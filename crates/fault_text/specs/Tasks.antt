@@ -12,9 +12,13 @@ abbrev pub first_name : Prog → List ℕ → Text
 first_name P [] = []
 first_name P (f ∷ fs) = name_at P f
 
--- NAME free budget D target T with the target's function, or NAME METER with this name
+-- NAME free budget D target T
+abbrev pub free_text : Text → ℕ → ℕ → Text
+free_text name budget target = name ++ codes " free budget " ++ decimal budget ++ codes " target " ++ decimal target
+
+-- without cost with the name of the target's function, and otherwise NAME METER with this name
 abbrev pub kind_text : Prog → Text → Kind → Text
-kind_text P name (Free budget fun target) = name_at P fun ++ codes " free budget " ++ decimal budget ++ codes " target " ++ decimal target
+kind_text P name (Free budget fun target) = free_text (name_at P fun) budget target
 kind_text P name (With meter) = name ++ codes " " ++ meter_text meter
 
 -- With cost, the name is that of the first function of the task's group.

@@ -2,7 +2,7 @@
 use Rattle.std.specs.Prelude.{ℕ, List, [], ◌∷◌, ◌++◌, codes}
 use Rattle.raml_syntax.specs.Tree.{Text, Prog}
 use Rattle.base_poly.specs.Poly.{Term}
-use Rattle.cost_free.specs.Task.{Meter}
+use Rattle.cost_free.specs.declared.task.Meter.{Meter}
 use Rattle.annot_types.specs.Held.{Claim, Bound, NoBound, CallsUnbounded, Line}
 use Rattle.report_text.specs.Names.{name_at, meter_text}
 use Rattle.report_text.specs.Polynomial.{polynomial_text}

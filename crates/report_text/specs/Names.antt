@@ -1,7 +1,8 @@
 -- Names of functions and of meters.
 use Rattle.std.specs.Prelude.{ℕ, Option, Some, None, [], codes, slice_get}
 use Rattle.raml_syntax.specs.Tree.{Text, Function, Prog}
-use Rattle.cost_free.specs.Task.{Meter, Ticks, Cells, Work}
+use Rattle.cost_free.specs.declared.task.Meter.{Meter}
+use Rattle.cost_free.specs.declared.task.Meter.TheVariants.{Ticks, Cells, Work}
 
 -- the name of a function; no text is made of one that is not there
 abbrev pub name_in : Option Function → Text

@@ -1,7 +1,8 @@
 -- The bounds of a run.
 use Rattle.std.specs.Prelude.{ℕ, ◌++◌, Option, Some, None, codes, decimal}
 use Rattle.raml_syntax.specs.Tree.{Text}
-use Rattle.cost_free.specs.Task.{Meter, Ticks, Cells, Work}
+use Rattle.cost_free.specs.declared.task.Meter.{Meter}
+use Rattle.cost_free.specs.declared.task.Meter.TheVariants.{Ticks, Cells, Work}
 use Rattle.report_text.specs.Names.{meter_text}
 
 -- a bound at the data, rounded down; none where there is no bound

@@ -30,10 +30,12 @@ fn push_append(text: &mut String, before: u32) -> Result<(), AllocError>
     requires { before < 2 ^ 32 - 1 }
     ensures { OnOk result (string_bytes text.new ≡ string_bytes text.old ++ append_line before) }
 {
-    text.push_str("fun a")?;
-    push_number(text, before + 1)?;
-    text.push_str(" (x : int list, y : int list) : int list = match x with nil -> y | h :: t -> h :: a")?;
-    push_number(text, before + 1)?;
+    push_numbered(text, "fun a", before + 1)?;
+    push_numbered(
+        text,
+        " (x : int list, y : int list) : int list = match x with nil -> y | h :: t -> h :: a",
+        before + 1,
+    )?;
     text.push_str("(t, y)\n")
 }
 
@@ -51,10 +53,8 @@ fn push_copy(text: &mut String, before: u32) -> Result<(), AllocError>
     requires { before < 2 ^ 32 - 1 }
     ensures { OnOk result (string_bytes text.new ≡ string_bytes text.old ++ copy_line before) }
 {
-    text.push_str("fun c")?;
-    push_number(text, before + 1)?;
-    text.push_str(" (x : int list) : int list = a")?;
-    push_number(text, before + 1)?;
+    push_numbered(text, "fun c", before + 1)?;
+    push_numbered(text, " (x : int list) : int list = a", before + 1)?;
     text.push_str("(")?;
     push_copied(text, before)?;
     text.push_str(", nil)\n")
@@ -67,14 +67,15 @@ fn push_copied(text: &mut String, before: u32) -> Result<(), AllocError>
     if before == 0 {
         return text.push_str("x");
     }
-    text.push_str("c")?;
-    push_number(text, before)?;
+    push_numbered(text, "c", before)?;
     text.push_str("(x)")
 }
 
-fn push_number(text: &mut String, number: u32) -> Result<(), AllocError>
-    ensures { OnOk result (string_bytes text.new ≡ string_bytes text.old ++ decimal number) }
+// Appends words and a number.
+fn push_numbered(text: &mut String, words: &str, number: u32) -> Result<(), AllocError>
+    ensures { OnOk result (string_bytes text.new ≡ string_bytes text.old ++ words.now ++ decimal number) }
 {
+    text.push_str(words)?;
     text.push_str(Buffer::new().format(number))
 }
 
@@ -82,8 +83,8 @@ fn push_number(text: &mut String, number: u32) -> Result<(), AllocError>
 pub fn trial_function(alloc: Global, count: u32) -> Result<String, AllocError>
     ensures { IfOk result (λ text. string_bytes text ≡ trial_function count) }
 {
-    let mut text = String::from_str(alloc, "c")?;
-    push_number(&mut text, count)?;
+    let mut text = String::new(alloc);
+    push_numbered(&mut text, "c", count)?;
     Ok(text)
 }
 
