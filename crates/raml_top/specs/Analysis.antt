@@ -23,7 +23,7 @@ use Rattle.analysis_report.specs.Lines.{LinesHold}
 use Rattle.raml_top.specs.Ending.{Ending, Certified, Json, Check, NotRefuted, TooLarge, Overflows, OnTask, InCheck}
 use Rattle.raml_top.specs.Outside.{Side, Also, Store}
 use Rattle.raml_top.specs.Steps.{Answer, Step, Test, no_names, OfFile, names_of}
-use Rattle.raml_top.specs.declared.status.Which.TheVariants as w
+use Rattle.fault_text.specs.declared.plain.Which.TheVariants as w
 
 -- the column that a rule answers for gains
 abbrev pub pick_of : Rule → List ℤ → ℤ → Option ℕ

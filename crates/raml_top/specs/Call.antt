@@ -22,7 +22,7 @@ use Rattle.analysis_report.specs.Floors.{Floors, IsFloor, Leaves, FloorsHold}
 use Rattle.raml_top.specs.Ending.{Ending, Done, BadData, NoFunction, Stopped, HeapFull, Overflows, AtPoint}
 use Rattle.raml_top.specs.Outside.{Side, Also, Store}
 use Rattle.raml_top.specs.Steps.{Answer, Report, Step, Test, no_names, names_of, OfFile}
-use Rattle.raml_top.specs.declared.status.Which.TheVariants as w
+use Rattle.fault_text.specs.declared.plain.Which.TheVariants as w
 
 -- a function with its place
 abbrev pub Placed : Type 0

@@ -24,9 +24,9 @@ use Rattle.bound_infer.specs.declared.leaves.LeavesAt.{LeavesAt}
 use Rattle.bound_infer.specs.declared.leaves.LeavesAt.TheVariants as at
 use Rattle.raml_top.specs.declared.status.Status.{Status}
 use Rattle.raml_top.specs.declared.status.Status.TheVariants as s
-use Rattle.raml_top.specs.declared.status.Which.{Which}
-use Rattle.raml_top.specs.declared.status.SourceFault.{SourceFault}
-use Rattle.raml_top.specs.declared.status.SourceFault.TheVariants as source
+use Rattle.fault_text.specs.declared.plain.Which.{Which}
+use Rattle.fault_text.specs.declared.source.SourceFault.{SourceFault}
+use Rattle.fault_text.specs.declared.source.SourceFault.TheVariants as source
 use Rattle.raml_top.specs.declared.status.CertAnswer.{CertAnswer}
 use Rattle.raml_top.specs.declared.status.CertAnswer.TheVariants as c
 use Rattle.raml_top.specs.declared.status.OverflowAt.{OverflowAt}

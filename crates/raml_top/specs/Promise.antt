@@ -25,7 +25,7 @@ use Rattle.raml_top.specs.Call.{Limits, OfFunction, OfArguments, OfCall, OfFloor
 use Rattle.raml_top.specs.Line.{line_of}
 use Rattle.raml_top.specs.declared.status.Status.{Status}
 use Rattle.raml_top.specs.declared.status.Status.TheVariants.{WriteFault, NoMemory}
-use Rattle.raml_top.specs.declared.status.Which.TheVariants as which
+use Rattle.fault_text.specs.declared.plain.Which.TheVariants as which
 
 -- ---- the commands
 

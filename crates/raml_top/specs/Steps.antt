@@ -10,8 +10,8 @@ use Rattle.amortised_bounds.specs.Laws.{normal_of}
 use Rattle.annot_types.specs.Program.{Program}
 use Rattle.raml_top.specs.Ending.{Ending, Done, ReadFault, TooLong, Source, Parse, Types}
 use Rattle.raml_top.specs.Outside.{Side, Also, Store, IsRead}
-use Rattle.raml_top.specs.declared.status.Which.{Which}
-use Rattle.raml_top.specs.declared.status.Which.TheVariants as w
+use Rattle.fault_text.specs.declared.plain.Which.{Which}
+use Rattle.fault_text.specs.declared.plain.Which.TheVariants as w
 
 -- the program whose functions a line on err names, with their groups; empty before one is read
 pub record Names : Type 0 where

@@ -1,36 +1,50 @@
 // Files of a store, within their limits.
-ghost use Rattle.std.specs.Prelude.{◌≡◌, ◌<◌, ◌≤◌, ◌^◌, IfOk, IfErr};
+ghost use Rattle.std.specs.Prelude.{◌≡◌, ◌≤◌, ℕ, IfOk, IfErr};
 ghost use Rattle.raml_syntax.specs.Tree.{Text};
-ghost use Rattle.raml_top.specs.Promise.{counts};
-ghost use Rattle.raml_top.specs.Steps.{IsWhole, ReadRefused};
+ghost use Rattle.raml_top.specs.Outside.{store_of};
+ghost use Rattle.raml_top.specs.Steps.{no_names, most_bytes};
+ghost use Rattle.raml_top.specs.Parts.{Before, IsShort, FileRefuses, Refuses};
 
-use crate::status::{Status, Which};
+use crate::answer::Refusal;
+use fault_text::Which;
 use raml_io::{Store, StoreFault};
 use std::alloc::Global;
 
-/// The bytes of a file of at most `most` bytes.
+// The limit of a file, in bytes.
+pub fn most_bytes(which: Which) -> u64
+    ensures { result ≡ most_bytes which }
+{
+    match which {
+        Which::Program => 1_048_576,
+        Which::Data => 4_194_304,
+        Which::Certificate => 16_777_216,
+    }
+}
+
+/// The bytes of a file that is within its limit. What is told of counts is told of any from which they
+/// have not fallen to those before this call.
 pub fn read_file<S: Store>(
     alloc: Global,
     store: &mut S,
     name: &str,
-    most: u64,
     which: Which,
-) -> Result<Vec<u8>, Status>
-    requires most { most < 2 ^ 32 }
-    ensures ok { IfOk result (λ bytes. IsWhole (S.holds store.old) most name.now bytes.items) }
-    ensures err { IfErr result (ReadRefused (S.holds store.old) (counts (S.faults store.old) (S.faults store.new) name.now) most name.now which) }
+) -> Result<Vec<u8>, Refusal>
+    ensures ok { (before : Text → ℕ) →
+        IfOk result (λ bytes. IsShort (store_of (S.holds store.old) before (S.faults store.new)) which name.now bytes.items) }
+    ensures err { (before : Text → ℕ) → Before before (S.faults store.old) →
+        IfErr result (Refuses no_names (FileRefuses (store_of (S.holds store.old) before (S.faults store.new)) which name.now)) }
     ensures kept { S.holds store.new ≡ S.holds store.old }
     ensures later { (other : Text) → S.faults store.old other ≤ S.faults store.new other }
 {
-    match store.read(alloc, name, most + 1) {
+    match store.read(alloc, name, most_bytes(which) + 1) {
         Ok(bytes) => {
-            if bytes.len() as u64 > most {
-                Err(Status::TooLong { which })
+            if bytes.len() as u64 > most_bytes(which) {
+                Err(Refusal::too_long(which))
             } else {
                 Ok(bytes)
             }
         }
-        Err(StoreFault::Failed) => Err(Status::ReadFault { which }),
-        Err(StoreFault::NoMemory) => Err(Status::NoMemory),
+        Err(StoreFault::Failed) => Err(Refusal::unread(which)),
+        Err(StoreFault::NoMemory) => Err(Refusal::no_memory()),
     }
 }

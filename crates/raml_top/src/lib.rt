@@ -1,14 +1,18 @@
 //! The top call: what the words ask for is read, analysed or run, and reported.
 #![tactic(auto)]
 
-mod asked;
+mod analysis;
+mod answer;
+mod call;
+mod commands;
 mod file;
-mod fragment;
 mod line;
-mod report;
 mod run;
+mod source;
 mod status;
 mod top;
+mod verification;
 
-pub use status::{SourceFault, Status, Which};
+pub use fault_text::{SourceFault, Which};
+pub use status::{CertAnswer, OverflowAt, Status};
 pub use top::raml;

@@ -1,28 +1,33 @@
 // How a call ends.
 ghost use Rattle.std.specs.Prelude.{◌≡◌};
-ghost use Rattle.raml_top.specs.Report.{code_of};
-ghost use Rattle.raml_top.specs.Promise.{parse_refusal, type_refusal, data_refusal};
-ghost use Rattle.raml_top.specs.declared.status.Status.TheVariants.{NoMemory};
+ghost use Rattle.raml_top.specs.Ending.{code_of};
 
-use raml_parse::ParseFault;
-use simple_types::TypeFault;
-use std::alloc::AllocError;
+use bound_infer::LeavesAt;
+use cert_check::CertFault;
+use cert_json::JsonFault;
+use constraint_gen::What;
+use cost_free::{Meter, Task};
+use fault_text::{SourceFault, Which};
 use value_text::DataFault;
 
-/// A file that a call reads.
-#[derive(Clone, Copy, Debug, PartialEq, Eq)]
-pub enum Which {
-    Program,
-    Data,
+/// Why a certificate is refused. No fault in it is want of memory.
+#[derive(Drop)]
+pub enum CertAnswer {
+    /// Its text is of no certificate.
+    Json(JsonFault),
+    /// It is not one of the program: the first fault of its shape or of the conditions of the rules.
+    Check(CertFault),
+    /// The vector of this refuted block does not refute its task.
+    NotRefuted { block: u32 },
 }
 
-/// Why a source is refused. No fault in it is want of memory.
+/// Where a number leaves its range.
 #[derive(Drop)]
-pub enum SourceFault {
-    /// It spells no program: its first fault.
-    Parse(ParseFault),
-    /// The program that it spells is not typed: the first fault of its types.
-    Type(TypeFault),
+pub enum OverflowAt {
+    /// In the analysis, or in the check of a certificate.
+    At(LeavesAt),
+    /// In the bound on this meter, at the data.
+    Point { meter: Meter },
 }
 
 /// How a call ends.
@@ -36,20 +41,27 @@ pub enum Status {
     ReadFault { which: Which },
     /// The file has too many bytes.
     TooLong { which: Which },
-    /// The source is refused.
+    /// The source is refused. The fault is no want of memory.
     Source(SourceFault),
     /// The data is refused. The fault is no want of memory.
     Data(DataFault),
     /// The program has no function of the name.
     NoFunction,
+    /// The certificate is refused.
+    Certificate(CertAnswer),
+    /// Of this task there are more than 2000 indices, unknowns or rows.
+    TooLarge {
+        task: Task,
+        what: What,
+    },
+    /// A number leaves its range.
+    Overflow(OverflowAt),
     /// The report is written whole: the machine has not halted within its instructions.
     Stopped,
     /// The report is written whole: the machine asks for a cell where all are taken.
     HeapFull,
     /// A front of the report is written: the rest was refused.
     WriteFault,
-    /// The program is typed, and of a kind that is not analysed in this stage.
-    NotBuilt,
     /// Memory ran out, and nothing of the report is written.
     NoMemory,
 }
@@ -67,52 +79,13 @@ impl Status {
             Status::Source(_) => 4,
             Status::Data(_) => 5,
             Status::NoFunction => 6,
+            Status::Certificate(_) => 7,
+            Status::TooLarge { .. } => 8,
+            Status::Overflow(_) => 9,
             Status::Stopped => 10,
             Status::HeapFull => 11,
             Status::WriteFault => 12,
-            Status::NotBuilt => 20,
             Status::NoMemory => 70,
         }
-    }
-}
-
-impl From<ParseFault> for Status {
-    ghost from_gives = { λ fault status. status ≡ parse_refusal fault };
-
-    fn from(fault: ParseFault) -> Status {
-        match fault {
-            ParseFault::NoMemory => Status::NoMemory,
-            fault => Status::Source(SourceFault::Parse(fault)),
-        }
-    }
-}
-
-impl From<TypeFault> for Status {
-    ghost from_gives = { λ fault status. status ≡ type_refusal fault };
-
-    fn from(fault: TypeFault) -> Status {
-        match fault {
-            TypeFault::NoMemory => Status::NoMemory,
-            fault => Status::Source(SourceFault::Type(fault)),
-        }
-    }
-}
-
-impl From<DataFault> for Status {
-    ghost from_gives = { λ fault status. status ≡ data_refusal fault };
-
-    fn from(fault: DataFault) -> Status {
-        match fault {
-            DataFault::NoMemory => Status::NoMemory,
-            fault => Status::Data(fault),
-        }
-    }
-}
-
-impl From<AllocError> for Status {
-    ghost from_gives = { λ _ status. status ≡ NoMemory };
-
-    fn from(_error: AllocError) -> Status {
-        Status::NoMemory
     }
 }

@@ -1,0 +1,39 @@
+-- What the code tells of bounds.
+use Rattle.std.specs.Prelude.{◌≡◌, ◌≤◌, ◌^◌, ℕ, List}
+use Rattle.raml_syntax.specs.Value.{Value}
+use Rattle.base_poly.specs.Poly.{Term}
+use Rattle.poly_point.specs.Point.{worth}
+use Rattle.cost_free.specs.Task.{Meter, Ticks, Cells, Work}
+use Rattle.annot_types.specs.Program.{Program}
+use Rattle.annot_types.specs.Certificate.{Certificate}
+use Rattle.annot_types.specs.Held.{Bound}
+use Rattle.analysis_report.specs.Lines.{Claims}
+use Rattle.analysis_report.specs.Floors as f
+use Rattle.analysis_report.specs.Floors.{IsFloor, Leaves}
+use Rattle.analysis_report.specs.declared.bounds.Floors.{Floors}
+use Rattle.analysis_report.specs.declared.bounds.FloorFault.{FloorFault}
+use Rattle.analysis_report.specs.declared.bounds.FloorFault.TheVariants as fault
+
+abbrev pub floors_of : Floors → f.Floors
+floors_of floors Ticks = floors.ticks
+floors_of floors Cells = floors.cells
+floors_of floors Work = floors.work
+
+abbrev pub FloorsAre : Program → Certificate → ℕ → List Value → f.Floors → Type 0
+FloorsAre N c fun args floors = (meter : Meter) → IsFloor N c fun args meter (floors meter)
+
+-- the total of the bound on this meter does not fit
+pub record Overflows (N : Program) (c : Certificate) (fun : ℕ) (args : List Value) (meter : Meter) : Type 0 where
+  pub den : ℕ
+  pub terms : List Term
+  pub claims : Claims N c fun meter (Bound den terms)
+  pub leaves : 2 ^ 128 ≤ worth terms args
+
+abbrev pub FloorRefused : Program → Certificate → ℕ → List Value → Meter → FloorFault → Type 0
+FloorRefused N c fun args meter (fault.Leaves other) = (other ≡ meter) × Overflows N c fun args meter
+FloorRefused N c fun args meter fault.NoMemory = Unit {0}
+
+-- of all three: the first that does not fit
+abbrev pub FloorsRefused : Program → Certificate → ℕ → List Value → FloorFault → Type 0
+FloorsRefused N c fun args (fault.Leaves meter) = Leaves N c fun args meter
+FloorsRefused N c fun args fault.NoMemory = Unit {0}

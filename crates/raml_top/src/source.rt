@@ -1,0 +1,47 @@
+// Typed programs.
+ghost use Rattle.std.specs.Prelude.{◌≡◌, ◌≤◌, ℕ, length, string_bytes, IfOk, IfErr};
+ghost use Rattle.std.specs.List.{All};
+ghost use Rattle.raml_syntax.specs.Tree.{Text, Function};
+ghost use Rattle.raml_syntax.specs.Node.{program_nodes};
+ghost use Rattle.raml_syntax.specs.Read.{program_of};
+ghost use Rattle.raml_top.specs.Outside.{store_of};
+ghost use Rattle.raml_top.specs.Steps.{Names, no_names, SourceRefuses, IsTyped, IsTooLong};
+ghost use Rattle.raml_top.specs.Parts.{Before, IsProgram, ProgramRefuses, Refuses, IsReady, SourceStops};
+ghost use Rattle.fault_text.specs.declared.plain.Which.TheVariants as which;
+
+use crate::answer::Refusal;
+use crate::file::{most_bytes, read_file};
+use crate::status::Status;
+use fault_text::{SourceFault, Which, source_line};
+use raml_io::Store;
+use raml_parse::{ParseFault, parse};
+use raml_syntax::Program;
+use simple_types::{TypeFault, Typed, check};
+use std::alloc::Global;
+
+/// The typed program that a file spells.
+pub fn read_program<S: Store>(alloc: Global, store: &mut S, file: &str) -> Result<Typed, Refusal>
+    ensures ok { IfOk result (λ typed. IsProgram (store_of (S.holds store.old) (S.faults store.old) (S.faults store.new)) file.now (program_of typed)) }
+    ensures ready { IfOk result (λ typed. IsReady (program_of typed)) }
+    ensures err { IfErr result (Refuses no_names (ProgramRefuses (store_of (S.holds store.old) (S.faults store.old) (S.faults store.new)) file.now)) }
+    ensures kept { S.holds store.new ≡ S.holds store.old }
+    ensures later { (other : Text) → S.faults store.old other ≤ S.faults store.new other }
+{
+    match read_file(alloc, store, file, Which::Program) {
+        Ok(source) => typed_program(alloc, &source),
+        Err(refusal) => Err(refusal),
+    }
+}
+
+/// The typed program that a source spells, which is no longer than its limit.
+pub fn typed_program(alloc: Global, source: &[u8]) -> Result<Typed, Refusal>
+    requires short { length source.now ≤ 1048576 }
+    ensures ok { IfOk result (λ typed. IsTyped source.now (program_of typed)) }
+    ensures ready { IfOk result (λ typed. IsReady (program_of typed)) }
+    ensures err { IfErr result (Refuses no_names (SourceRefuses source.now)) }
+{
+    match parse(alloc, source) {
+        Ok(program) => checked_program(alloc, program),
+        Err(fault) => Err(parse_refusal(alloc, fault)),
+    }
+}
