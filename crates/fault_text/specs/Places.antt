@@ -1,7 +1,8 @@
 -- The lines of places where a number leaves 128 bits.
 use Rattle.std.specs.Prelude.{ℕ, List, [], ◌∷◌, ◌++◌, codes, decimal}
 use Rattle.raml_syntax.specs.Tree.{Text, Prog}
-use Rattle.cost_free.specs.Task.{Meter, Task}
+use Rattle.cost_free.specs.Task.{Task}
+use Rattle.cost_free.specs.declared.task.Meter.{Meter}
 use Rattle.report_text.specs.Names.{meter_text}
 use Rattle.fault_text.specs.Tasks.{task_text}
 

@@ -1,5 +1,5 @@
 // The lines of places where a number leaves 128 bits.
-ghost use Rattle.std.specs.Prelude.{◌≡◌, ◌++◌, codes, decimal, OnOk, IfOk, string_bytes};
+ghost use Rattle.std.specs.Prelude.{◌≡◌, ◌++◌, decimal, OnOk, IfOk, string_bytes};
 ghost use Rattle.raml_syntax.specs.Read.{program_of};
 ghost use Rattle.cost_free.specs.Read.{task_of, lists_of};
 ghost use Rattle.fault_text.specs.Places as p;

@@ -1,5 +1,5 @@
 -- Terms put in order, and the text of a polynomial.
-use Rattle.std.proofs.Common.{◌≡◌, ◌+◌, ◌==◌, ℕ, zero, suc, Bool, true, false, cond, not, filter, List, [], ◌∷◌, length, refl, sym, ap, ◌∙◌, arith, slice_index_or}
+use Rattle.std.proofs.Common.{◌≡◌, ◌+◌, ◌==◌, zero, suc, Bool, true, false, cond, not, filter, List, [], ◌∷◌, refl, ap, ◌∙◌, arith}
 use Rattle.std.specs.declared.cmp.Ordering.{Ordering}
 use Rattle.std.specs.declared.cmp.Ordering.TheVariants.{Less, Equal, Greater}
 use Rattle.std.specs.Ordering.{ordering_reverse, is_lt}
@@ -8,7 +8,6 @@ use Rattle.std.proofs.lemmas.List.Sorted.{IsPermutation-refl, IsPermutation-cons
 use Rattle.base_poly.specs.Indices.{tuple_order}
 use Rattle.base_poly.specs.Poly.{Term, den_of, terms_of}
 use Rattle.base_poly.specs.Total.{tuple_total}
-use Rattle.poly_text.specs.Text.{IsTextOf}
 use Rattle.poly_text.proofs.OneText.{polynomials_have_one_text}
 use Rattle.report_text.specs.Polynomial.{put, in_order, polynomial_text, PolynomialsHaveThisText}
 

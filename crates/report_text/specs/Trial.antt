@@ -1,5 +1,5 @@
 -- The program of a trial: functions a1, a2, .. that append lists, and functions c1, c2, .. that copy one, each by the one before.
-use Rattle.std.specs.Prelude.{ℕ, zero, suc, ◌+◌, ◌*◌, ◌==◌, cond, List, [], ◌++◌, codes, decimal}
+use Rattle.std.specs.Prelude.{ℕ, zero, suc, ◌+◌, ◌*◌, ◌==◌, cond, [], ◌++◌, codes, decimal}
 use Rattle.raml_syntax.specs.Tree.{Text}
 
 -- the function ai, with i one more than this number

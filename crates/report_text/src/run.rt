@@ -14,12 +14,7 @@ use std::alloc::{AllocError, Global};
 use value_text::{DataHeap, PrintFault, Word, print};
 
 /// The lines of a machine that has halted with the word, which stands for a value of the type.
-pub fn value_lines(
-    alloc: Global,
-    vm: &Vm<'_>,
-    word: Word,
-    ty: &Ty,
-) -> Result<String, AllocError>
+pub fn value_lines(alloc: Global, vm: &Vm<'_>, word: Word, ty: &Ty) -> Result<String, AllocError>
     requires { StandsForSome (cells_in vm.now) word (ty_of ty.now) }
     ensures { IfOk result (λ text. (value : Value) → StandsFor (cells_in vm.now) word value → string_bytes text ≡ value_lines value (ty_of ty.now) (state_in vm.now)) }
 {
