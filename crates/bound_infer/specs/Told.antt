@@ -1,6 +1,6 @@
 -- What the code's places and lines are as plain data.
 use Rattle.std.specs.Prelude.{Option, Some, None}
-use Rattle.base_poly.specs.Poly.{den_of, terms_of}
+use Rattle.base_poly.specs.Poly.{den_of, terms_of, IsPoly}
 use Rattle.cost_free.specs.Task.{Task}
 use Rattle.cost_free.specs.Read.{task_of}
 use Rattle.annot_types.specs.Held as c
@@ -25,3 +25,9 @@ abbrev pub claim_of : Line → c.Claim
 claim_of (Bound poly) = c.Bound (den_of poly) (terms_of poly)
 claim_of NoBound = c.NoBound
 claim_of (Calls fun) = c.CallsUnbounded fun.0
+
+-- a bound is a polynomial that can be written
+abbrev pub IsWritten : Line → Type 0
+IsWritten (Bound poly) = IsPoly poly
+IsWritten NoBound = Unit {0}
+IsWritten (Calls fun) = Unit {0}

@@ -7,18 +7,26 @@
 mod body;
 mod factor;
 mod fault;
+mod inference;
 mod leaves;
 mod line;
 mod raising;
+mod refusal;
 mod sigs;
 mod steps;
 mod times;
 mod vector;
+mod verification;
+mod verified;
 
 pub use factor::Factor;
 pub use fault::RaiseFault;
+pub use inference::infer;
 pub use leaves::LeavesAt;
 pub use line::Line;
 pub use raising::{raise, raise_blocks};
+pub use refusal::{InferFault, VerifyFault};
 pub use steps::{Steps, run};
 pub use vector::listed;
+pub use verified::Verified;
+pub use verification::verify;
