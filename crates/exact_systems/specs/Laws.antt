@@ -17,6 +17,9 @@ use Rattle.annot_types.specs.Least.{solving, weight}
 use Rattle.annot_types.specs.System.{system}
 use Rattle.walk_rules.specs.Systems.{IsTask}
 use Rattle.solved_tasks.specs.Told.{bodies_of, sigs_told, hints_told}
+use Rattle.courses.specs.Generator.{Generates}
+use Rattle.tried_tasks.specs.Laws.{IsOrdered}
+use Rattle.exact_systems.specs.Analysed.{analysis_of}
 
 -- The number of a cost-free task is that of a target of its function, each tuple of which has a position at the task's budget.
 abbrev pub IsNumbered : Program → ℕ → Kind → Type 0
@@ -56,3 +59,7 @@ WhatHoldsSolves =
     (x : List ℕ)
     × Solves (system P d earlier task scale) (map pos x) (pos t)
     × (let s = system P d earlier task scale in dot s.weights (map pos x) ≡ pos (weight P d (solving task sigs hints)))
+
+-- So the system of a task that is tried is solved by what holds, and by nothing else.
+abbrev pub SystemsGenerate : Type 0
+SystemsGenerate = (P : Program) → IsOrdered P → (d : ℕ) (pick : List ℤ → ℤ → Option ℕ) → Generates (analysis_of P d pick)
