@@ -11,3 +11,4 @@ pub mod Solutions
 pub mod Numbered
 pub mod Shapes
 pub mod Generating
+pub mod Limits

@@ -1,5 +1,5 @@
 // Laws of systems: each is the contract of a function that does nothing.
-ghost use Rattle.exact_systems.specs.Laws.{SolutionsHold, SolutionsWeigh, SystemsGenerate, WhatHoldsSolves};
+ghost use Rattle.exact_systems.specs.Laws.{LimitsAreTold, SolutionsHold, SolutionsWeigh, SystemsGenerate, WhatHoldsSolves};
 
 use tried_tasks::laws::{targets_are_numbered, tried_are_tasks, tried_have_systems};
 
@@ -26,3 +26,8 @@ pub fn systems_generate()
     tried_have_systems();
     targets_are_numbered();
 }
+
+/// The limits of indices are told as they are.
+pub fn limits_are_told()
+    ensures { LimitsAreTold }
+{}
