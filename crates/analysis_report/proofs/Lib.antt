@@ -1,0 +1,3 @@
+pub mod Listed
+pub mod Low
+pub mod Holding

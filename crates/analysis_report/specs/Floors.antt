@@ -6,7 +6,8 @@ use Rattle.raml_syntax.specs.Eval.{run_of}
 use Rattle.base_poly.specs.Poly.{Term}
 use Rattle.poly_point.specs.Point.{worth}
 use Rattle.stack_compile.specs.Laws.{at, IsGoing}
-use Rattle.cost_free.specs.Task.{Meter, Ticks, Cells, Work}
+use Rattle.cost_free.specs.declared.task.Meter.{Meter}
+use Rattle.cost_free.specs.declared.task.Meter.TheVariants.{Ticks, Cells, Work}
 use Rattle.annot_types.specs.Program.{Program}
 use Rattle.annot_types.specs.Certificate.{Certificate}
 use Rattle.annot_types.specs.Held.{Claim, Bound}

@@ -62,6 +62,7 @@ fn floor_at(
     ensures err { (vs : List Value) → StandForAll heap.now.cells args.now vs →
         IfErr result (FloorRefused (program_in verified.now.program) verified.now.certificate fun.0 vs meter) }
 {
+    let _certificate = verified.certificate();
     match verified.line(alloc, fun, meter)? {
         Line::Bound(poly) => match at(alloc, &poly, heap, args) {
             Ok(point) => Ok(Some(point.floor)),

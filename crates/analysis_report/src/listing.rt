@@ -1,20 +1,21 @@
 // The lines of a certificate.
-ghost use Rattle.std.specs.Prelude.{◌≡◌, ◌<◌, ◌++◌, length, OnOk, IfOk, string_bytes};
+ghost use Rattle.std.specs.Prelude.{◌≡◌, ◌≤◌, ◌<◌, ◌++◌, length, OnOk, IfOk, string_bytes};
 ghost use Rattle.std.specs.List.{Contains};
 ghost use Rattle.raml_syntax.specs.Read.{program_of};
-ghost use Rattle.cost_free.specs.Task.{Meter as TheMeter};
+ghost use Rattle.cost_free.specs.declared.task.Meter.{Meter as TheMeter};
 ghost use Rattle.cost_free.specs.Schedule.{meters};
 ghost use Rattle.share_normal.specs.Program.{source_in};
 ghost use Rattle.annot_types.specs.Certificate.{has_work};
 ghost use Rattle.annot_types.specs.Held.{Claim, lines_for};
 ghost use Rattle.rule_plan.specs.Read.{program_in};
 ghost use Rattle.report_text.specs.Claims.{lines_text};
-ghost use Rattle.analysis_report.specs.Lines.{lines_of, Claims, AreLines};
+ghost use Rattle.analysis_report.specs.Lines.{lines_of, Claims, AreLines, lines_between, AllClaim};
 
 use bound_infer::{Line, Verified};
 use cost_free::Meter;
 use raml_syntax::{FunId, Program};
 use report_text::{name_at, push_bound_line, push_calls_line, push_no_bound_line};
+use share_normal::NormProgram;
 use std::alloc::{AllocError, Global};
 
 /// Appends the line of a function and a meter.
@@ -91,12 +92,28 @@ pub fn function_lines(
 /// The lines of all functions, in the order of the source.
 pub fn lines(
     alloc: Global,
+    program: &NormProgram<'_>,
+    verified: &Verified<'_, '_>,
+) -> Result<String, AllocError>
+    requires program { verified.now.program ≡ program.now }
+    ensures { IfOk result (λ text.
+        AreLines (source_in verified.now.program) (program_in verified.now.program) verified.now.certificate (string_bytes text)) }
+{
+    let _functions = program.functions();
+    all_lines(alloc, program.source(), verified)
+}
+
+// Those of each function of the source.
+fn all_lines(
+    alloc: Global,
     program: &Program,
     verified: &Verified<'_, '_>,
 ) -> Result<String, AllocError>
     requires program { program_of program.now ≡ source_in verified.now.program }
-    ensures { IfOk result (λ text.
-        AreLines (source_in verified.now.program) (program_in verified.now.program) verified.now.certificate (string_bytes text)) }
+    requires few { length (program_of program.now) ≤ 256 }
+    ensures text { IfOk result (λ text. string_bytes text
+        ≡ lines_between (source_in verified.now.program) (program_in verified.now.program) verified.now.certificate 0 (length (source_in verified.now.program))) }
+    ensures each { OnOk result (AllClaim (program_in verified.now.program) verified.now.certificate (length (source_in verified.now.program))) }
 {
     let mut text = String::new(alloc);
     for place in 0..program.funs.len() {

@@ -1,8 +1,2 @@
-mod Asking
-mod Told
-mod Turns
-mod Forcing
-mod Bounded
-mod Decided
-mod Calling
-mod Running
+pub mod Stepping
+pub mod Running

@@ -19,12 +19,19 @@ use Rattle.value_text.specs.Printing.{StandsForSome}
 use Rattle.metered_vm.specs.Moving.{TakesCell}
 use Rattle.metered_vm.specs.Seen.{Seen, program_in, fun_in, args_in, cells_in, state_in, Kept, Begins, GoesOn}
 use Rattle.metered_vm.specs.Ending.{HasHalted, HasStopped, IsFull, next_of}
-use Rattle.raml_top.specs.Asked.{Limits}
-use Rattle.raml_top.specs.Report.{value_lines, stopped_lines, full_lines}
-use Rattle.raml_top.specs.Call.{Finishes, Stops, Fills}
-use Rattle.raml_top.specs.Promise.{Ran}
-use Rattle.raml_top.specs.Steps.{CanRun, RanOn}
-use Rattle.raml_top.specs.declared.report.Report.{Report}
+use Rattle.base_poly.specs.Poly.{Term}
+use Rattle.poly_point.specs.Point.{worth}
+use Rattle.raml_syntax.specs.Types.{types_of}
+use Rattle.cost_free.specs.declared.task.Meter.TheVariants.{Cells, Work}
+use Rattle.amortised_bounds.specs.Bounds.{Bounds}
+use Rattle.run_limits.specs.Laws.{NeverAsks}
+use Rattle.report_text.specs.Report.{value_lines, stopped_lines, full_lines}
+use Rattle.raml_top.specs.Ending as e
+use Rattle.raml_top.specs.Outside.{Promised}
+use Rattle.raml_top.specs.Call.{Placed, Limits, Finishes, Stops, Fills, NoCellsWithin, NoWorkWithin}
+use Rattle.raml_top.specs.Parts.{HasArguments, RanOn}
+use Rattle.raml_top.specs.declared.answer.Report.{Report}
+use Rattle.raml_top.specs.declared.status.Status.{Status}
 use Rattle.raml_top.specs.declared.status.Status.TheVariants.{Done, Stopped, HeapFull}
 
 -- the function at a place is found by its name
@@ -35,8 +42,8 @@ found P typed f g there =
     let same : placed.0 ≡ g = let e = sym placed.1 ∙ there in cc in
     subst (λ h. find g.name P ≡ Some h) same placed.3
 
-module _ (P : Prog) (f : ℕ) (cells : List Cell) (words : List Word) (r : CanRun P f cells words) (limits : Limits) (old new : Seen)
-    (begins : Begins P f cells words limits.cells old) (goes : GoesOn limits.steps old new) (kept : Kept new) where
+module _ (P : Prog) (f : Placed) (cells : List Cell) (words : List Word) (args : List Value) (r : HasArguments P f cells words args) (limits : Limits) (old new : Seen)
+    (begins : Begins P f.0 cells words limits.cells old) (goes : GoesOn limits.steps old new) (kept : Kept new) where
   program_is : program_in new ≡ P
   program_is = goes.program ∙ begins.program
 
@@ -46,32 +53,32 @@ module _ (P : Prog) (f : ℕ) (cells : List Cell) (words : List Word) (r : CanRu
   numbers : All (λ (g : Function). AllNodes NumberFits g.body) P
   numbers = subst (λ Q. All (λ (g : Function). AllNodes NumberFits g.body) Q) program_is kept.numbers
 
-  fun_is : fun_in new ≡ f
+  fun_is : fun_in new ≡ f.0
   fun_is = goes.fun ∙ begins.fun
 
-  args_are : args_in new ≡ r.args
-  args_are = goes.arguments ∙ begins.arguments r.args r.stand
+  args_are : args_in new ≡ args
+  args_are = goes.arguments ∙ begins.arguments args r.stand
 
-  there : slice_get (program_in new) (fun_in new) ≡ Some r.fun
+  there : slice_get (program_in new) (fun_in new) ≡ Some f.1
   there = (λ i. slice_get (program_is i) (fun_is i)) ∙ r.there
 
-  state_is : state_in new ≡ at P f r.args (state_in new).made
+  state_is : state_in new ≡ at P f.0 args (state_in new).made
   state_is = kept.state ∙ (λ i. at (program_is i) (fun_is i) (args_are i) (state_in new).made)
 
-  gives : (v : Value) → Gives (program_in new) r.fun (args_in new) v (state_in new) → Gives P r.fun r.args v (at P f r.args (state_in new).made)
-  gives v h = subst (Gives P r.fun r.args v) state_is (subst (λ vs. Gives P r.fun vs v (state_in new)) args_are (subst (λ Q. Gives Q r.fun (args_in new) v (state_in new)) program_is h))
+  gives : (v : Value) → Gives (program_in new) f.1 (args_in new) v (state_in new) → Gives P f.1 args v (at P f.0 args (state_in new).made)
+  gives v h = subst (Gives P f.1 args v) state_is (subst (λ vs. Gives P f.1 vs v (state_in new)) args_are (subst (λ Q. Gives Q f.1 (args_in new) v (state_in new)) program_is h))
 
   few_cells : (state_in new).cells ≤ limits.cells
   few_cells = subst (λ n. (state_in new).cells ≤ n) (goes.most ∙ begins.most) kept.cells
 
   -- the word with which it halts stands for a value of the function's result type
-  pub halted_word : (w : Word) → HasHalted w new → StandsForSome (cells_in new) w r.fun.result
+  pub halted_word : (w : Word) → HasHalted w new → StandsForSome (cells_in new) w f.1.result
   halted_word w h =
-      let g = gives h.value (h.gives r.fun there) in
-      let keeps = (typed_runs_keep P typed numbers).runs g.limit r.fun.name r.fun r.args (found P typed f r.fun r.there) r.types in
+      let g = gives h.value (h.gives f.1 there) in
+      let keeps = (typed_runs_keep P typed numbers).runs g.limit f.1.name f.1 args (found P typed f.0 f.1 r.there) r.types in
       record { value = h.value; stands = h.stands; has = keeps.value h.value g.value }
 
-  finishes : (w : Word) (text : List ℕ) → HasHalted w new → ((v : Value) → StandsFor (cells_in new) w v → text ≡ value_lines v r.fun.result (state_in new)) → Finishes P f r.fun r.args limits text
+  finishes : (w : Word) (text : List ℕ) → HasHalted w new → ((v : Value) → StandsFor (cells_in new) w v → text ≡ value_lines v f.1.result (state_in new)) → Finishes Promised P f args limits text
   finishes w text h printed =
       let s = state_in new in
       record {
@@ -81,60 +88,69 @@ module _ (P : Prog) (f : ℕ) (cells : List Cell) (words : List Word) (r : CanRu
         halted = ap (λ (t : State). t.at) (sym state_is) ∙ h.halted;
         counted = ap (λ (t : State). t.made) (sym state_is);
         few_cells = subst (λ (t : State). t.cells ≤ limits.cells) state_is few_cells;
-        evaluated = gives h.value (h.gives r.fun there);
-        printed = printed h.value h.stands ∙ ap (value_lines h.value r.fun.result) state_is;
+        evaluated = gives h.value (h.gives f.1 there);
+        printed = printed h.value h.stands ∙ ap (value_lines h.value f.1.result) state_is;
       }
 
-  stops : (text : List ℕ) → HasStopped limits.steps new → text ≡ stopped_lines (state_in new) → Stops P f r.fun r.args limits text
+  -- where it goes on after all steps, no bound of work is a quarter of them
+  no_work : state_in new ≡ at P f.0 args limits.steps → IsGoing (state_in new).at → NoWorkWithin P f args limits.steps
+  no_work same going den terms bounds few =
+      let less = bounds.machine args limits.steps r.types (subst (λ (t : State). IsGoing t.at) same going) in
+      absurd (omega (arith, less, few))
+
+  stops : (text : List ℕ) → HasStopped limits.steps new → text ≡ stopped_lines (state_in new) → Stops Promised P f args limits text
   stops text h printed =
-      let same : state_in new ≡ at P f r.args limits.steps = state_is ∙ ap (at P f r.args) h.made in
+      let same : state_in new ≡ at P f.0 args limits.steps = state_is ∙ ap (at P f.0 args) h.made in
       record {
         going = subst (λ (t : State). IsGoing t.at) same h.going;
         counted = ap (λ (t : State). t.made) (sym same) ∙ h.made;
         few_cells = subst (λ (t : State). t.cells ≤ limits.cells) same few_cells;
-        worked = subst (λ vs. limits.steps < 4 * (run_of P r.fun vs (suc limits.steps)).work) args_are (subst (λ Q. limits.steps < 4 * (run_of Q r.fun (args_in new) (suc limits.steps)).work) program_is (h.work r.fun there));
+        worked = subst (λ vs. limits.steps < 4 * (run_of P f.1 vs (suc limits.steps)).work) args_are (subst (λ Q. limits.steps < 4 * (run_of Q f.1 (args_in new) (suc limits.steps)).work) program_is (h.work f.1 there));
+        unbounded = no_work same h.going;
         printed = printed ∙ ap stopped_lines same;
       }
 
-  fills : (text : List ℕ) → IsFull limits.steps new → text ≡ full_lines (state_in new) → Fills P f r.args limits text
-  fills text h printed =
+  fills : NeverAsks → (text : List ℕ) → IsFull limits.steps new → text ≡ full_lines (state_in new) → Fills Promised P f args limits text
+  fills never text h printed =
       let s = state_in new in
+      let going = subst (λ (t : State). IsGoing t.at) state_is h.going in
+      let all = ap (λ (t : State). t.cells) (sym state_is) ∙ h.cells ∙ goes.most ∙ begins.most in
+      let takes = subst (λ (t : State). TakesCell (next_of (bodies_of P) t.at)) state_is (subst (λ Q. TakesCell (next_of (bodies_of Q) s.at)) program_is h.takes) in
       record {
         made = s.made;
-        full = record {
-          fewer = h.made;
-          going = subst (λ (t : State). IsGoing t.at) state_is h.going;
-          all = ap (λ (t : State). t.cells) (sym state_is) ∙ h.cells ∙ goes.most ∙ begins.most;
-          takes = subst (λ (t : State). TakesCell (next_of (bodies_of P) t.at)) state_is (subst (λ Q. TakesCell (next_of (bodies_of Q) s.at)) program_is h.takes);
-        };
+        fewer = h.made;
+        going = going;
+        all = all;
+        takes = takes;
         counted = ap (λ (t : State). t.made) (sym state_is);
+        unbounded = λ den terms positive bounds few.
+            never P f.0 f.1 den terms positive bounds args r.types limits.cells few s.made (record { going = going; all = all; takes = takes });
         printed = printed ∙ ap full_lines state_is;
       }
 
 -- The report of a machine that began with the arguments and has gone on.
-module _ (P : Prog) (f : ℕ) (cells : List Cell) (words : List Word) (limits : Limits) (old new : Seen)
-    (begins : Begins P f cells words limits.cells old) (goes : GoesOn limits.steps old new) (kept : Kept new) where
-  pub halted_ran : {E : Type 0} (report : Result Report E) (w : Word) (A : Type') → HasHalted w new → ((r : CanRun P f cells words) → A ≡ r.fun.result)
-      → IfOk report (λ r. r.status ≡ Done) → IfOk report (λ r. (v : Value) → StandsFor (cells_in new) w v → string_bytes r.text ≡ value_lines v A (state_in new))
-      → IfOk report (λ r. RanOn P f cells words limits r.status (string_bytes r.text))
-  halted_ran (Ok report) w A h type status text = λ r.
-      let printed = subst (λ B. (v : Value) → StandsFor (cells_in new) w v → string_bytes report.text ≡ value_lines v B (state_in new)) (type r) text in
-      subst (λ s. Ran P f r.fun r.args limits s (string_bytes report.text)) (sym status)
-      (finishes P f cells words r limits old new begins goes kept w (string_bytes report.text) h printed)
-  halted_ran (Err e) w A h type status text = tt
+module _ (P : Prog) (place : ℕ) (cells : List Cell) (words : List Word) (limits : Limits) (old new : Seen)
+    (begins : Begins P place cells words limits.cells old) (goes : GoesOn limits.steps old new) (kept : Kept new) where
+  begun : (f : Placed) → f.0 ≡ place → Begins P f.0 cells words limits.cells old
+  begun f same = subst (λ g. Begins P g cells words limits.cells old) (sym same) begins
 
-  pub stopped_ran : {E : Type 0} (report : Result Report E) → HasStopped limits.steps new
-      → IfOk report (λ r. r.status ≡ Stopped) → IfOk report (λ r. string_bytes r.text ≡ stopped_lines (state_in new))
-      → IfOk report (λ r. RanOn P f cells words limits r.status (string_bytes r.text))
-  stopped_ran (Ok report) h status text = λ r.
-      subst (λ s. Ran P f r.fun r.args limits s (string_bytes report.text)) (sym status)
-      (stops P f cells words r limits old new begins goes kept (string_bytes report.text) h text)
-  stopped_ran (Err e) h status text = tt
+  pub halted_ran : {E : Type 0} (report : Result Report E) (w : Word) (A : Type') → HasHalted w new →
+      ((f : Placed) → f.0 ≡ place → slice_get P f.0 ≡ Some f.1 → A ≡ f.1.result) → IfOk report (λ r. r.status ≡ Done) →
+      IfOk report (λ r. (v : Value) → StandsFor (cells_in new) w v → r.text.items ≡ value_lines v A (state_in new)) →
+      IfOk report (λ r. RanOn P place cells words limits r.status r.text.items)
+  halted_ran (Ok report) w A h type status text = λ f args same r.
+      let printed = subst (λ B. (v : Value) → StandsFor (cells_in new) w v → report.text.items ≡ value_lines v B (state_in new)) (type f same r.there) text in
+      (e.Done, ap e.ending_of status, finishes P f cells words args r limits old new (begun f same) goes kept w report.text.items h printed)
+  halted_ran (Err x) w A h type status text = tt
 
-  pub full_ran : {E : Type 0} (report : Result Report E) → IsFull limits.steps new
-      → IfOk report (λ r. r.status ≡ HeapFull) → IfOk report (λ r. string_bytes r.text ≡ full_lines (state_in new))
-      → IfOk report (λ r. RanOn P f cells words limits r.status (string_bytes r.text))
-  full_ran (Ok report) h status text = λ r.
-      subst (λ s. Ran P f r.fun r.args limits s (string_bytes report.text)) (sym status)
-      (fills P f cells words r limits old new begins goes kept (string_bytes report.text) h text)
-  full_ran (Err e) h status text = tt
+  pub stopped_ran : {E : Type 0} (report : Result Report E) → HasStopped limits.steps new → IfOk report (λ r. r.status ≡ Stopped) →
+      IfOk report (λ r. r.text.items ≡ stopped_lines (state_in new)) → IfOk report (λ r. RanOn P place cells words limits r.status r.text.items)
+  stopped_ran (Ok report) h status text = λ f args same r.
+      (e.Stopped, ap e.ending_of status, stops P f cells words args r limits old new (begun f same) goes kept report.text.items h text)
+  stopped_ran (Err x) h status text = tt
+
+  pub full_ran : {E : Type 0} (report : Result Report E) → NeverAsks → IsFull limits.steps new → IfOk report (λ r. r.status ≡ HeapFull) →
+      IfOk report (λ r. r.text.items ≡ full_lines (state_in new)) → IfOk report (λ r. RanOn P place cells words limits r.status r.text.items)
+  full_ran (Ok report) never h status text = λ f args same r.
+      (e.HeapFull, ap e.ending_of status, fills P f cells words args r limits old new (begun f same) goes kept never report.text.items h text)
+  full_ran (Err x) never h status text = tt

@@ -13,7 +13,8 @@ use Rattle.stack_compile.specs.Laws.{at, IsGoing, Gives}
 use Rattle.metered_vm.specs.Moving.{TakesCell}
 use Rattle.metered_vm.specs.Ending.{next_of}
 use Rattle.value_text.specs.Reading.{Answers}
-use Rattle.cost_free.specs.Task.{Meter, Ticks, Cells, Work}
+use Rattle.cost_free.specs.declared.task.Meter.{Meter}
+use Rattle.cost_free.specs.declared.task.Meter.TheVariants.{Ticks, Cells, Work}
 use Rattle.annot_types.specs.Program.{Program}
 use Rattle.annot_types.specs.Certificate.{Certificate}
 use Rattle.amortised_bounds.specs.Bounds.{Bounds}

@@ -1,7 +1,8 @@
 -- How calls end.
 use Rattle.std.specs.Prelude.{ℕ, List, Option, Some, None}
 use Rattle.std.specs.Option.{option_map}
-use Rattle.cost_free.specs.Task.{Meter, Task}
+use Rattle.cost_free.specs.declared.task.Meter.{Meter}
+use Rattle.cost_free.specs.Task.{Task}
 use Rattle.cost_free.specs.Read.{task_of}
 use Rattle.courses.specs.Generator.{What}
 use Rattle.courses.specs.Places.{Place}

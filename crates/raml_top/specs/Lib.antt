@@ -5,3 +5,4 @@ pub mod Analysis
 pub mod Call
 pub mod Line
 pub mod Promise
+pub mod Parts

@@ -1,5 +1,6 @@
 -- What the parts of a call answer.
-use Rattle.std.specs.Prelude.{◌≡◌, ◌≤◌, ◌⊎◌, ℕ, List, length, Result, Ok, Err, Option, Some, None, string_bytes}
+use Rattle.std.specs.Prelude.{◌≡◌, ◌≤◌, ◌<◌, ◌⊎◌, ◌^◌, ℕ, List, length, slice_get, Result, Ok, Err, Option, Some, None, string_bytes}
+use Rattle.std.specs.List.{All}
 use Rattle.raml_syntax.specs.Tree.{Text, Function, Prog}
 use Rattle.raml_syntax.specs.Value.{Value, HaveTypes}
 use Rattle.raml_syntax.specs.Types.{types_of}
@@ -11,47 +12,80 @@ use Rattle.annot_types.specs.Certificate.{Certificate}
 use Rattle.cert_json.specs.Told.{IsFile}
 use Rattle.fault_text.specs.declared.plain.Which.{Which}
 use Rattle.fault_text.specs.declared.plain.Which.TheVariants as w
-use Rattle.raml_top.specs.Ending.{Ending, ReadFault, TooLong, Source, BadData, NoFunction, Certified, ending_of}
+use Rattle.raml_top.specs.Ending.{Ending, Usage, ReadFault, TooLong, Source, Types, NoFunction, ending_of}
 use Rattle.raml_top.specs.Outside.{Promised, Store, IsRead}
 use Rattle.raml_top.specs.Steps.{Names, no_names, Answer, Refusal, most_bytes, SourceRefuses, IsTyped}
 use Rattle.raml_top.specs.Steps as s
 use Rattle.raml_top.specs.Analysis.{TextRefuses}
-use Rattle.raml_top.specs.Call.{Placed, IsNamed, DataRefuses}
+use Rattle.raml_top.specs.Call.{Placed, IsNamed, DataRefuses, Limits, Ends}
 use Rattle.raml_top.specs.Line.{line_of}
+use Rattle.raml_words.specs.Words as words
+use Rattle.raml_words.specs.Words.{Request, AsksNothing}
 use Rattle.raml_top.specs.declared.answer.Line.{Line}
 use Rattle.raml_top.specs.declared.answer.Line.TheVariants.{Fixed, Made}
 use Rattle.raml_top.specs.declared.answer.Report.{Report}
-use Rattle.raml_top.specs.declared.answer.Refusal as r
+use Rattle.raml_top.specs.declared.answer.Refusal.{Refusal as TheRefusal}
 use Rattle.raml_top.specs.declared.status.Status.{Status}
 use Rattle.raml_top.specs.declared.status.Status.TheVariants.{NoMemory}
+use Rattle.raml_top.specs.declared.status.Status.TheVariants as status
+use Rattle.raml_top.specs.declared.status.CertAnswer.TheVariants as answer
+use Rattle.raml_top.specs.declared.run.Limits.{Limits as TheLimits}
+use Rattle.raml_top.specs.declared.call.Arguments.{Arguments}
+use Rattle.raml_top.specs.declared.call.Call.{Call}
+use Rattle.raml_syntax.specs.Place.{place_of}
+use Rattle.cost_free.specs.declared.task.Task.{Task}
+use Rattle.cost_free.specs.Read.{task_of}
+use Rattle.constraint_gen.specs.declared.fault.What.TheVariants.{Indices}
+use Rattle.cert_check.specs.Fault as check
+use Rattle.cert_check.specs.Read.{fault_of}
+use Rattle.cert_check.specs.declared.fault.CertFault.{CertFault}
+use Rattle.bound_infer.specs.declared.leaves.LeavesAt.{LeavesAt}
+use Rattle.bound_infer.specs.declared.leaves.LeavesAt.TheVariants.{Check}
+use Rattle.raml_top.specs.declared.status.OverflowAt.TheVariants as overflow
+use Rattle.raml_parse.specs.declared.fault.ParseFault.{ParseFault}
+use Rattle.raml_parse.specs.declared.fault.ParseFault.TheVariants as parse
+use Rattle.simple_types.specs.Walk.{walk_program}
+use Rattle.simple_types.specs.declared.fault.TypeFault.{TypeFault}
+use Rattle.simple_types.specs.declared.fault.TypeFault.TheVariants as types
+use Rattle.value_text.specs.declared.fault.DataFault.{DataFault}
+use Rattle.value_text.specs.declared.fault.DataFault.TheVariants as data_fault
+use Rattle.value_text.specs.Spelling.{sizes}
+use Rattle.cert_json.specs.declared.whole.JsonFault.{JsonFault}
+use Rattle.cert_json.specs.declared.whole.JsonFault.TheVariants as json
+use Rattle.fault_text.specs.declared.source.SourceFault.TheVariants as source
+use Rattle.raml_syntax.specs.Node.{WithinLimits, program_nodes}
+use Rattle.share_normal.specs.Program.{Kept, source_in}
 
 abbrev pub line_text : Line → Text
 line_text (Fixed text) = text.now
 line_text (Made text) = string_bytes text
 
 -- the refusal is of this status, and its line is the status's
-abbrev pub IsOf : Names → Status → r.Refusal → Type 0
+abbrev pub IsOf : Names → Status → TheRefusal → Type 0
 IsOf names status refusal = (refusal.status ≡ status) × (line_text refusal.line ≡ line_of names status)
 
 -- memory is wanting
-abbrev pub IsWanting : r.Refusal → Type 0
+abbrev pub IsWanting : TheRefusal → Type 0
 IsWanting refusal = IsOf no_names NoMemory refusal
 
-abbrev pub IsToldOr : Names → Status → r.Refusal → Type 0
+abbrev pub IsToldOr : Names → Status → TheRefusal → Type 0
 IsToldOr names status refusal = IsWanting refusal ⊎ IsOf names status refusal
 
 -- the refusal has an ending of which Q holds, and its line is that of its status; or memory is wanting
-abbrev pub Refuses : Names → (Ending → Type 0) → r.Refusal → Type 0
+abbrev pub Refuses : Names → (Ending → Type 0) → TheRefusal → Type 0
 Refuses names Q refusal =
     IsWanting refusal
     ⊎ ((e : Ending) × (ending_of refusal.status ≡ Some e) × (line_text refusal.line ≡ line_of names refusal.status) × Q e)
 
 -- the report, or the refusal, is an answer of which Q holds; or memory is wanting
-abbrev pub Gives : (Answer → Type 0) → Result Report r.Refusal → Type 0
-Gives Q (Ok report) = (e : Ending) × (ending_of report.status ≡ Some e) × Q (s.Report e (string_bytes report.text))
+abbrev pub Gives : (Answer → Type 0) → Result Report TheRefusal → Type 0
+Gives Q (Ok report) = (e : Ending) × (ending_of report.status ≡ Some e) × Q (s.Report e report.text.items)
 Gives Q (Err refusal) =
     IsWanting refusal
     ⊎ ((names : Names) × (e : Ending) × (ending_of refusal.status ≡ Some e) × (line_text refusal.line ≡ line_of names refusal.status) × Q (Refusal names e))
+
+abbrev pub Before : (Text → ℕ) → (Text → ℕ) → Type 0
+Before before now = (name : Text) → before name ≤ now name
 
 -- the bytes of a file, no more than its limit
 pub record IsShort (store : Store) (which : Which) (file bytes : List ℕ) : Type 0 where
@@ -70,3 +104,133 @@ pub record IsProgram (store : Store) (file : List ℕ) (P : Prog) : Type 0 where
   pub source : List ℕ
   pub file : IsShort store w.Program file source
   pub typed : IsTyped source P
+
+abbrev pub ProgramRefuses : Store → List ℕ → Ending → Type 0
+ProgramRefuses store file e =
+    FileRefuses store w.Program file e ⊎ ((source : List ℕ) × IsShort store w.Program file source × SourceRefuses source e)
+
+-- the certificate that a file is
+pub record IsCertificateFile (store : Store) (file : List ℕ) (c : Certificate) : Type 0 where
+  pub bytes : List ℕ
+  pub file : IsShort store w.Certificate file bytes
+  pub is : IsFile bytes c
+
+abbrev pub CertificateRefuses : Store → List ℕ → Ending → Type 0
+CertificateRefuses store file e =
+    FileRefuses store w.Certificate file e ⊎ ((bytes : List ℕ) × IsShort store w.Certificate file bytes × TextRefuses bytes e)
+
+-- why a call is not read
+abbrev pub CallRefuses : Store → Prog → List ℕ → List ℕ → Ending → Type 0
+CallRefuses store P name file e =
+    ((e ≡ NoFunction) × (place_of name P ≡ None))
+    ⊎ ((f : Placed) × IsNamed P name f
+       × (FileRefuses store w.Data file e ⊎ ((bytes : List ℕ) × IsShort store w.Data file bytes × DataRefuses bytes f.1 e)))
+
+-- what is known of a typed program that a source within its limit spells
+pub record IsReady (P : Prog) : Type 0 where
+  pub limits : WithinLimits P
+  pub few_nodes : program_nodes P ≤ 1048576
+  pub parameters : All (λ (g : Function). 1 ≤ length g.params) P
+
+-- the program that a source spells is not typed
+abbrev pub TypesRefuse : Prog → Ending → Type 0
+TypesRefuse P (Source (Types fault)) = walk_program P ≡ Err fault
+TypesRefuse P _ = ⊥
+
+-- the refusals of the parser's faults, of the check of types', and of the reader of data's
+abbrev pub ParseRefusal : ParseFault → TheRefusal → Type 0
+ParseRefusal parse.NoMemory refusal = IsWanting refusal
+ParseRefusal fault refusal = IsToldOr no_names (status.Source (source.Parse fault)) refusal
+
+abbrev pub TypeRefusal : TypeFault → TheRefusal → Type 0
+TypeRefusal types.NoMemory refusal = IsWanting refusal
+TypeRefusal fault refusal = IsToldOr no_names (status.Source (source.«Type» fault)) refusal
+
+abbrev pub DataRefusal : DataFault → TheRefusal → Type 0
+DataRefusal data_fault.NoMemory refusal = IsWanting refusal
+DataRefusal fault refusal = IsToldOr no_names (status.Data fault) refusal
+
+abbrev pub JsonRefusal : JsonFault → TheRefusal → Type 0
+JsonRefusal json.NoMemory refusal = IsWanting refusal
+JsonRefusal fault refusal = IsToldOr no_names (status.Certificate (answer.Json fault)) refusal
+
+-- the words stand in these cells for arguments of the function
+pub record HasArguments (P : Prog) (f : Placed) (cells : List Cell) (words : List Word) (args : List Value) : Type 0 where
+  pub there : slice_get P f.0 ≡ Some f.1
+  pub stand : StandForAll cells words args
+  pub types : HaveTypes args (types_of f.1)
+  pub few_cells : length cells < 2 ^ 31
+  pub small : sizes args ≤ 1048576
+
+-- the report of the run of the function at the place on these words
+abbrev pub RanOn : Prog → ℕ → List Cell → List Word → Limits → Status → List ℕ → Type 0
+RanOn P place cells words limits how text =
+    (f : Placed) (args : List Value) → f.0 ≡ place → HasArguments P f cells words args →
+    (e : Ending) × (ending_of how ≡ Some e) × Ends Promised P f args limits text e
+
+abbrev pub limits_of : TheLimits → Limits
+limits_of limits = record { steps = limits.steps; cells = limits.cells }
+
+-- the names of a program in normal form
+abbrev pub names_in : Kept → Names
+names_in kept = record { program = source_in kept; groups = kept.groups.list }
+
+-- the place is that of a condition in the check
+abbrev pub IsCheckAt : ℕ → List ℕ → ℕ → LeavesAt → Type 0
+IsCheckAt block path index (Check b p i) = (b ≡ block) × (p.items ≡ path) × (i ≡ index)
+IsCheckAt block path index place = ⊥
+
+-- what the check of a certificate finds, as a refusal
+abbrev pub CheckRefusal : Names → Option check.Fault → TheRefusal → Type 0
+CheckRefusal names None refusal = IsWanting refusal
+CheckRefusal names (Some (check.Leaves block path index)) refusal =
+    IsWanting refusal
+    ⊎ ((place : LeavesAt) × IsCheckAt block path index place × IsOf names (status.Overflow (overflow.At place)) refusal)
+CheckRefusal names (Some (check.TooLarge task)) refusal =
+    IsWanting refusal ⊎ ((told : Task) × (task_of told ≡ task) × IsOf names (status.TooLarge told Indices) refusal)
+CheckRefusal names (Some fault) refusal =
+    IsWanting refusal ⊎ ((told : CertFault) × (fault_of told ≡ Some fault) × IsOf names (status.Certificate (answer.Check told)) refusal)
+
+-- The arguments are what the bytes spell for the function at the place.
+pub record ReadsArguments (P : Prog) (place : ℕ) (bytes : List ℕ) (args : Arguments) : Type 0 where
+  pub fun : Function
+  pub values : List Value
+  pub arguments : HasArguments P (place, fun) args.heap.cells args.words.items values
+  pub spelled : Answers bytes (types_of fun) (Ok values)
+
+pub record ArgumentsRefuse (P : Prog) (place : ℕ) (bytes : List ℕ) (e : Ending) : Type 0 where
+  pub fun : Function
+  pub there : slice_get P place ≡ Some fun
+  pub refuses : DataRefuses bytes fun e
+
+-- The call is of the function of the name, on the arguments that the file spells.
+pub record ReadsCall (store : Store) (P : Prog) (name file : List ℕ) (call : Call) : Type 0 where
+  pub place : place_of name P ≡ Some call.place.0
+  pub bytes : List ℕ
+  pub file : IsShort store w.Data file bytes
+  pub reads : ReadsArguments P call.place.0 bytes call.args
+
+-- the call is of this function on these arguments
+pub record IsCallOf (P : Prog) (f : Placed) (call : Call) (args : List Value) : Type 0 where
+  pub place : f.0 ≡ call.place.0
+  pub arguments : HasArguments P f call.args.heap.cells call.args.words.items args
+
+-- the cells that the words allow a run
+abbrev pub CellsWithin : Option ℕ → Type 0
+CellsWithin None = Unit {0}
+CellsWithin (Some cells) = cells ≤ 16777216
+
+abbrev pub DegreeWithin : Option ℕ → Type 0
+DegreeWithin None = Unit {0}
+DegreeWithin (Some degree) = (1 ≤ degree) × (degree ≤ 4)
+
+-- the numbers of a request are within their ranges
+abbrev pub IsWithin : Request → Type 0
+IsWithin (words.Analyse file degree rule) = (1 ≤ degree) × (degree ≤ 4)
+IsWithin (words.Certify file degree rule) = (1 ≤ degree) × (degree ≤ 4)
+IsWithin (words.Run file name data_file steps cells degree) = (steps ≤ 1000000000) × CellsWithin cells × DegreeWithin degree
+IsWithin (words.Trial count) = count ≤ 100
+IsWithin request = Unit {0}
+
+abbrev pub WordsRefuse : List Text → Ending → Type 0
+WordsRefuse given e = (e ≡ Usage) × AsksNothing given

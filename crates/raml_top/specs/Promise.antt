@@ -1,12 +1,13 @@
 -- What the top call promises.
 use Rattle.std.specs.Prelude.{◌≡◌, ◌⊎◌, ℕ, List, [], ◌++◌, Option, Some, None, codes}
 use Rattle.raml_syntax.specs.Tree.{Text, Prog}
+use Rattle.raml_syntax.specs.Value.{Value}
 use Rattle.raml_words.specs.Words as w
 use Rattle.raml_words.specs.Words.{Request, Asks, AsksNothing}
 use Rattle.raml_words.specs.declared.request.Rule.{Rule}
 use Rattle.raml_words.specs.declared.request.Rule.TheVariants as rule
 use Rattle.stack_compile.specs.Text.{code_text}
-use Rattle.cost_free.specs.Task.{Ticks, Cells, Work}
+use Rattle.cost_free.specs.declared.task.Meter.TheVariants.{Ticks, Cells, Work}
 use Rattle.annot_types.specs.Program.{Program}
 use Rattle.annot_types.specs.Certificate.{Certificate}
 use Rattle.courses.specs.Places.{stage}
@@ -21,78 +22,84 @@ use Rattle.raml_top.specs.Ending.{Ending, Usage, Overflows, OnTask, ending_of}
 use Rattle.raml_top.specs.Outside.{Outside, Store, Sink, Side, Promised, Needed, Also, Rises, GainsNothing, Gains, GainsFront}
 use Rattle.raml_top.specs.Steps.{Names, no_names, Answer, Report, Refusal, ending_in, Step, Prints, OfShort, OfSource, OfProgram, OfNormal}
 use Rattle.raml_top.specs.Analysis.{OfCourse, OfCertificate, OfCheck}
-use Rattle.raml_top.specs.Call.{Limits, OfFunction, OfArguments, OfCall, OfFloors, Runs, cells_or}
+use Rattle.raml_top.specs.Call.{Placed, Limits, OfFunction, OfArguments, OfCall, OfFloors, Runs, cells_or}
 use Rattle.raml_top.specs.Line.{line_of}
 use Rattle.raml_top.specs.declared.status.Status.{Status}
 use Rattle.raml_top.specs.declared.status.Status.TheVariants.{WriteFault, NoMemory}
 use Rattle.fault_text.specs.declared.plain.Which.TheVariants as which
 
--- ---- the commands
+-- ---- the commands, each of a program
 
--- the types of the functions, and their code
-abbrev pub TypesOf : Side → Store → Text → Answer → Type 0
-TypesOf side store file = OfProgram side store file (λ P. Prints side (λ text. text ≡ type_lines P))
+-- the types of its functions, and their code
+abbrev pub ListsTypes : Side → Prog → Answer → Type 0
+ListsTypes side P = Prints side (λ text. text ≡ type_lines P)
 
-abbrev pub CodeOf : Side → Store → Text → Answer → Type 0
-CodeOf side store file = OfProgram side store file (λ P. Prints side (λ text. text ≡ code_text P))
+abbrev pub ListsCode : Side → Prog → Answer → Type 0
+ListsCode side P = Prints side (λ text. text ≡ code_text P)
 
--- Of a program: the lines of a certificate, each function's in the order of the source; and its text.
+-- the lines of a certificate, each function's in the order of the source; and its text
 abbrev pub PrintsLines : Side → Prog → Program → Certificate → Answer → Type 0
 PrintsLines side P N c = Prints side (AreLines P N c)
 
 abbrev pub PrintsCertificate : Side → Certificate → Answer → Type 0
 PrintsCertificate side c = Prints side (λ text. text ≡ text_of c ++ codes "\n")
 
--- The lines of the course's certificate, and the certificate itself.
-abbrev pub AnalysisOf : Side → Store → Text → ℕ → Rule → Answer → Type 0
-AnalysisOf side store file degree rule =
-    OfProgram side store file (λ P. OfNormal P (λ N. OfCourse side P N degree rule (λ c. PrintsLines side P N c)))
+-- The lines of the certificate of the course of its analysis, and the certificate.
+abbrev pub Analyses : Side → ℕ → Rule → Prog → Answer → Type 0
+Analyses side degree rule P = OfNormal P (λ N. OfCourse side P N degree rule (λ c. PrintsLines side P N c))
 
-abbrev pub CertificateOf : Side → Store → Text → ℕ → Rule → Answer → Type 0
-CertificateOf side store file degree rule =
-    OfProgram side store file (λ P. OfNormal P (λ N. OfCourse side P N degree rule (λ c. PrintsCertificate side c)))
+abbrev pub Certifies : Side → ℕ → Rule → Prog → Answer → Type 0
+Certifies side degree rule P = OfNormal P (λ N. OfCourse side P N degree rule (λ c. PrintsCertificate side c))
 
--- The lines of the certificate that is read.
-abbrev pub VerificationOf : Side → Store → Text → Text → Answer → Type 0
-VerificationOf side store file certificate =
-    OfProgram side store file (λ P. OfCertificate side store certificate (λ c. OfNormal P (λ N. OfCheck side P N c (PrintsLines side P N c))))
+-- The lines of a certificate that is read.
+abbrev pub Verifies : Side → Store → Text → Prog → Answer → Type 0
+Verifies side store file P = OfCertificate side store file (λ c. OfNormal P (λ N. OfCheck side P N c (PrintsLines side P N c)))
 
--- A run within limits; and one whose bounds at the data are printed too.
-abbrev pub RunOf : Side → Store → Text → Text → Text → Limits → Answer → Type 0
-RunOf side store file name data_file limits =
-    OfProgram side store file (λ P. OfCall side store P name data_file (λ f args. Runs side P f args limits [] []))
+-- A run within limits.
+abbrev pub RunsWithin : Side → Store → Text → Text → Limits → Prog → Answer → Type 0
+RunsWithin side store name file limits P = OfCall side store P name file (λ f args. Runs side P f args limits [] [])
 
+-- One with its bounds at the arguments, which tell how many cells it may take where the words do not.
 abbrev pub bound_lines : Floors → Text
 bound_lines floors = run_bound_lines (floors Ticks) (floors Cells) (floors Work)
 
-abbrev pub BoundedRunOf : Side → Store → Text → Text → Text → ℕ → Option ℕ → ℕ → Answer → Type 0
-BoundedRunOf side store file name data_file steps cells degree =
-    OfProgram side store file (λ P. OfCall side store P name data_file (λ f args.
-    OfNormal P (λ N. OfCourse side P N degree rule.Least (λ c. OfFloors side P N c f args (λ floors.
-    Runs side P f args (record { steps = steps; cells = cells_or cells (floors Cells) }) [] (bound_lines floors))))))
+abbrev pub RunsBounded : Side → Prog → Placed → List Value → ℕ → Option ℕ → Floors → Answer → Type 0
+RunsBounded side P f args steps cells floors =
+    Runs side P f args (record { steps = steps; cells = cells_or cells (floors Cells) }) [] (bound_lines floors)
 
--- The made program: how many functions it has, the lines of the last one, and its run.
-abbrev pub TrialOf : Side → ℕ → Answer → Type 0
-TrialOf side count =
-    OfShort which.Program (trial_text count) (OfSource (trial_text count) (λ P.
-    OfNormal P (λ N. OfCourse side P N 1 rule.Least (λ c.
-    OfFunction P (trial_function count) (λ f. OfArguments trial_data f.1 (λ args.
-    Runs side P f args (record { steps = 10000000; cells = 1048576 }) (functions_line count ++ lines_text P (lines_of N c f.0)) []))))))
+abbrev pub RunsWithBounds : Side → Store → Text → Text → ℕ → Option ℕ → ℕ → Prog → Answer → Type 0
+RunsWithBounds side store name file steps cells degree P =
+    OfCall side store P name file (λ f args. OfNormal P (λ N. OfCourse side P N degree rule.Least (λ c.
+    OfFloors side P N c f args (λ floors. RunsBounded side P f args steps cells floors))))
+
+-- Of a made program: how many functions it has, the lines of the last one, and its run.
+abbrev pub RunsTrial : Side → ℕ → Prog → Program → Certificate → Placed → List Value → Answer → Type 0
+RunsTrial side count P N c f args =
+    Runs side P f args (record { steps = 10000000; cells = 1048576 }) (functions_line count ++ lines_text P (lines_of N c f.0)) []
+
+abbrev pub Tries : Side → ℕ → Prog → Answer → Type 0
+Tries side count P = OfNormal P (λ N. OfCourse side P N 1 rule.Least (λ c.
+    OfFunction P (trial_function count) (λ f. OfArguments trial_data f.1 (λ args. RunsTrial side count P N c f args))))
 
 -- what a request asks for
 abbrev pub Answers : Side → Store → Request → Answer → Type 0
-Answers side store (w.Types file) = TypesOf side store file
-Answers side store (w.Code file) = CodeOf side store file
-Answers side store (w.Analyse file degree rule) = AnalysisOf side store file degree rule
-Answers side store (w.Certify file degree rule) = CertificateOf side store file degree rule
-Answers side store (w.Verify file certificate) = VerificationOf side store file certificate
-Answers side store (w.Run file name data_file steps cells None) = RunOf side store file name data_file (record { steps = steps; cells = cells_or cells None })
-Answers side store (w.Run file name data_file steps cells (Some degree)) = BoundedRunOf side store file name data_file steps cells degree
-Answers side store (w.Trial count) = TrialOf side count
+Answers side store (w.Types file) = OfProgram side store file (ListsTypes side)
+Answers side store (w.Code file) = OfProgram side store file (ListsCode side)
+Answers side store (w.Analyse file degree rule) = OfProgram side store file (Analyses side degree rule)
+Answers side store (w.Certify file degree rule) = OfProgram side store file (Certifies side degree rule)
+Answers side store (w.Verify file certificate) = OfProgram side store file (Verifies side store certificate)
+Answers side store (w.Run file name data_file steps cells None) =
+    OfProgram side store file (RunsWithin side store name data_file (record { steps = steps; cells = cells_or cells None }))
+Answers side store (w.Run file name data_file steps cells (Some degree)) =
+    OfProgram side store file (RunsWithBounds side store name data_file steps cells degree)
+Answers side store (w.Trial count) = OfShort which.Program (trial_text count) (OfSource (trial_text count) (Tries side count))
 
--- what the words ask for
+-- what words ask for
+abbrev pub WordsAnswer : Side → List Text → Store → Answer → Type 0
+WordsAnswer side words store = Step no_names (λ e. (e ≡ Usage) × AsksNothing words) (Asks words) (λ request. Answers side store request)
+
 abbrev pub Comes : Side → Outside → Answer → Type 0
-Comes side o = Step no_names (λ e. (e ≡ Usage) × AsksNothing o.words) (Asks o.words) (λ request. Answers side o.store request)
+Comes side o = WordsAnswer side o.words o.store
 
 -- ---- how a call ends
 

@@ -50,10 +50,13 @@ most_bytes w.Program = 1048576
 most_bytes w.Data = 4194304
 most_bytes w.Certificate = 16777216
 
+abbrev pub IsTooLong : Which → List ℕ → Type 0
+IsTooLong which bytes = suc (most_bytes which) ≤ length bytes
+
 -- The bytes are no more than their limit.
 abbrev pub OfShort : Which → List ℕ → (Answer → Type 0) → Answer → Type 0
 OfShort which bytes Rest =
-    Test no_names (λ e. (e ≡ TooLong which) × (suc (most_bytes which) ≤ length bytes)) (length bytes ≤ most_bytes which) Rest
+    Test no_names (λ e. (e ≡ TooLong which) × IsTooLong which bytes) (length bytes ≤ most_bytes which) Rest
 
 -- A file is read.
 abbrev pub OfFile : Side → Store → Which → Text → (List ℕ → Answer → Type 0) → Answer → Type 0

@@ -14,7 +14,7 @@ use std::alloc::AllocError;
 /// A report, and how the call ends that writes it.
 #[derive(Drop)]
 pub struct Report {
-    pub text: String,
+    pub text: Vec<u8>,
     pub status: Status,
 }
 
@@ -47,10 +47,11 @@ impl Line {
 impl Report {
     /// The report of a call that ends with `Done`.
     pub fn done(text: String) -> Report
-        ensures { result ≡ record { text = text; status = Done } }
+        ensures text { result.text.items ≡ string_bytes text }
+        ensures status { result.status ≡ Done }
     {
         Report {
-            text,
+            text: text.into_bytes(),
             status: Status::Done,
         }
     }

@@ -10,9 +10,7 @@ mod line;
 mod run;
 mod source;
 mod status;
-mod top;
 mod verification;
 
 pub use fault_text::{SourceFault, Which};
 pub use status::{CertAnswer, OverflowAt, Status};
-pub use top::raml;

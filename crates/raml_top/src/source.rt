@@ -1,16 +1,16 @@
 // Typed programs.
-ghost use Rattle.std.specs.Prelude.{◌≡◌, ◌≤◌, ℕ, length, string_bytes, IfOk, IfErr};
+ghost use Rattle.std.specs.Prelude.{◌≡◌, ◌≤◌, length, IfOk, IfErr};
 ghost use Rattle.std.specs.List.{All};
 ghost use Rattle.raml_syntax.specs.Tree.{Text, Function};
-ghost use Rattle.raml_syntax.specs.Node.{program_nodes};
+ghost use Rattle.raml_syntax.specs.Types.{Typed as IsTypedProgram};
+ghost use Rattle.raml_syntax.specs.Node.{WithinLimits, program_nodes};
 ghost use Rattle.raml_syntax.specs.Read.{program_of};
 ghost use Rattle.raml_top.specs.Outside.{store_of};
-ghost use Rattle.raml_top.specs.Steps.{Names, no_names, SourceRefuses, IsTyped, IsTooLong};
-ghost use Rattle.raml_top.specs.Parts.{Before, IsProgram, ProgramRefuses, Refuses, IsReady, SourceStops};
-ghost use Rattle.fault_text.specs.declared.plain.Which.TheVariants as which;
+ghost use Rattle.raml_top.specs.Steps.{no_names, SourceRefuses, IsTyped};
+ghost use Rattle.raml_top.specs.Parts.{IsProgram, ProgramRefuses, Refuses, IsReady, TypesRefuse, IsToldOr, ParseRefusal, TypeRefusal};
 
 use crate::answer::Refusal;
-use crate::file::{most_bytes, read_file};
+use crate::file::read_file;
 use crate::status::Status;
 use fault_text::{SourceFault, Which, source_line};
 use raml_io::Store;
@@ -44,4 +44,42 @@ pub fn typed_program(alloc: Global, source: &[u8]) -> Result<Typed, Refusal>
         Ok(program) => checked_program(alloc, program),
         Err(fault) => Err(parse_refusal(alloc, fault)),
     }
+}
+
+// The program, where it is typed.
+fn checked_program(alloc: Global, program: Program) -> Result<Typed, Refusal>
+    requires limits { WithinLimits (program_of program) }
+    ensures same { IfOk result (λ typed. program_of typed ≡ program_of program) }
+    ensures typed { IfOk result (λ typed. IsTypedProgram (program_of program)) }
+    ensures err { IfErr result (Refuses no_names (TypesRefuse (program_of program))) }
+{
+    match check(alloc, program) {
+        Ok(typed) => Ok(typed),
+        Err(fault) => Err(type_refusal(alloc, fault)),
+    }
+}
+
+fn parse_refusal(alloc: Global, fault: ParseFault) -> Refusal
+    ensures { ParseRefusal fault result }
+{
+    match fault {
+        ParseFault::NoMemory => Refusal::no_memory(),
+        fault => source_refusal(alloc, SourceFault::Parse(fault)),
+    }
+}
+
+fn type_refusal(alloc: Global, fault: TypeFault) -> Refusal
+    ensures { TypeRefusal fault result }
+{
+    match fault {
+        TypeFault::NoMemory => Refusal::no_memory(),
+        fault => source_refusal(alloc, SourceFault::Type(fault)),
+    }
+}
+
+fn source_refusal(alloc: Global, fault: SourceFault) -> Refusal
+    ensures { IsToldOr no_names (Status.Source fault) result }
+{
+    let line = source_line(alloc, &fault);
+    Refusal::told(Status::Source(fault), line)
 }

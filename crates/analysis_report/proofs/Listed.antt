@@ -1,0 +1,47 @@
+-- Lines of one function after the other.
+use Rattle.std.proofs.Common.{◌≡◌, ◌≤◌, ◌<◌, ◌+◌, ◌-◌, ℕ, suc, List, [], ◌∷◌, ◌++◌, length, append_assoc, refl, sym, ap, subst, ◌∙◌, arith, ⊎_elim, inl, inr, ◌⊎◌}
+use Rattle.std.proofs.lemmas.Bool.Decides.{nat_tests}
+use Rattle.std.specs.Prelude.{flat_map}
+use Rattle.std.specs.List.{Contains, range_with_len}
+use Rattle.raml_syntax.specs.Tree.{Text, Prog}
+use Rattle.cost_free.specs.declared.task.Meter.{Meter}
+use Rattle.cost_free.specs.Schedule.{meters}
+use Rattle.annot_types.specs.Program.{Program}
+use Rattle.annot_types.specs.Certificate.{Certificate, has_work}
+use Rattle.annot_types.specs.Held.{Claim, Line}
+use Rattle.report_text.specs.Claims.{line_text, lines_text}
+use Rattle.analysis_report.specs.Lines.{lines_of, lines_between, Claims, AllClaim}
+
+pub lines_append : (P : Prog) (ls more : List Line) → lines_text P (ls ++ more) ≡ lines_text P ls ++ lines_text P more
+lines_append P [] more = refl
+lines_append P (l ∷ ls) more = ap (λ t. line_text P l ++ t) (lines_append P ls more) ∙ sym (append_assoc (line_text P l) (lines_text P ls) (lines_text P more))
+
+module _ (P : Prog) (N : Program) (c : Certificate) where
+  one_more : (f n : ℕ) → lines_between P N c f (suc n) ≡ lines_text P (lines_of N c f) ++ lines_between P N c (f + 1) n
+  one_more f n = lines_append P (lines_of N c f) (flat_map (lines_of N c) (range_with_len (f + 1) n))
+
+  -- with the lines of one more function
+  pub next_listed : (text new whole : Text) (f n : ℕ) → f < n → new ≡ text ++ lines_text P (lines_of N c f) →
+      text ++ lines_between P N c f (n - f) ≡ whole → new ++ lines_between P N c (f + 1) (n - (f + 1)) ≡ whole
+  next_listed text new whole f n below is all =
+      let left : n - f ≡ suc (n - (f + 1)) = omega (arith, below) in
+      let step = ap (λ k. lines_between P N c f k) left ∙ one_more f (n - (f + 1)) in
+      ap (λ t. t ++ lines_between P N c (f + 1) (n - (f + 1))) is
+      ∙ append_assoc text (lines_text P (lines_of N c f)) (lines_between P N c (f + 1) (n - (f + 1)))
+      ∙ ap (λ t. text ++ t) (sym step) ∙ all
+
+  pub next_claims : (n : ℕ) → AllClaim N c n → ((meter : Meter) → Contains (meters (has_work c)) meter → (claim : Claim) × Claims N c n meter claim) →
+      AllClaim N c (n + 1)
+  next_claims n before here f meter below there = ⊎_elim (λ less. before f meter less there) (λ same. subst (λ g. (claim : Claim) × Claims N c g meter claim) (sym same) (here meter there)) cases
+    where
+      cases : (f < n) ⊎ (f ≡ n)
+      cases = grind (arith, nat_tests)
+
+  pub ended : (text whole : Text) (n k : ℕ) → k ≡ n → text ++ lines_between P N c k (n - k) ≡ whole → text ≡ whole
+  ended text whole n k end all =
+      let none : n - k ≡ 0 = omega (arith, end) in
+      sym (append_nil text) ∙ ap (λ m. text ++ lines_between P N c k m) (sym none) ∙ all
+    where
+      append_nil : (t : Text) → t ++ [] ≡ t
+      append_nil [] = refl
+      append_nil (x ∷ t) = ap (λ u. x ∷ u) (append_nil t)

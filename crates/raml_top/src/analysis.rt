@@ -1,0 +1,118 @@
+// The analysis of a program.
+ghost use Rattle.std.specs.Prelude.{◌≡◌, ◌≤◌, length, IfOk, IfErr};
+ghost use Rattle.raml_syntax.specs.Read.{program_of};
+ghost use Rattle.call_groups.specs.Groups.{IsGrouping};
+ghost use Rattle.courses.specs.Generator.{Analysis};
+ghost use Rattle.courses.specs.Good.{AllLeast};
+ghost use Rattle.exact_systems.specs.Analysed.{analysis_of};
+ghost use Rattle.rule_plan.specs.Read.{program_in};
+ghost use Rattle.whole_answers.specs.Rules.{least_pick, greatest_pick};
+ghost use Rattle.bound_infer.specs.Inferred.{IsInferred, InferCause};
+ghost use Rattle.raml_top.specs.Analysis.{analysis, CourseRefuses};
+ghost use Rattle.raml_top.specs.Parts.{Refuses, names_in};
+
+use crate::answer::Refusal;
+use crate::line::{overflow, too_large};
+use bound_infer::{InferFault, Verified, infer};
+use call_groups::group_calls;
+use frac128::Frac;
+use raml_words::Rule;
+use share_normal::{NormProgram, normalise};
+use simple_types::Typed;
+use simplex::Chooser;
+use std::alloc::{AllocError, Global};
+use whole_answers::{greatest_column, least_column};
+
+/// The normal form of a program, with the groups of its functions.
+pub fn normal_form<'a>(alloc: Global, typed: &'a Typed) -> Result<NormProgram<'a>, AllocError>
+    requires { length (program_of typed.now) ≤ 256 }
+    ensures source { IfOk result (λ made. made.source ≡ typed.now) }
+    ensures groups { IfOk result (λ made. IsGrouping (program_of typed.now) made.groups) }
+{
+    let groups = group_calls(alloc, typed.program())?;
+    normalise(alloc, typed, groups)
+}
+
+/// The certificate of the course of its analysis, by the rule.
+pub fn analyse<'p, 'a>(
+    alloc: Global,
+    program: &'p NormProgram<'a>,
+    degree: u8,
+    rule: Rule,
+) -> Result<Verified<'p, 'a>, Refusal>
+    requires least_degree { 1 ≤ degree }
+    requires most_degree { degree ≤ 4 }
+    ensures program { IfOk result (λ verified. verified.program ≡ program.now) }
+    ensures course { IfOk result (λ verified. IsInferred (analysis (program_in program.now) degree rule) verified.certificate) }
+    ensures least { IfOk result (λ verified. AllLeast (program_in program.now) verified.certificate) }
+    ensures err { IfErr result (Refuses (names_in program.now) (CourseRefuses (analysis (program_in program.now) degree rule))) }
+{
+    match by_rule(alloc, program, degree, rule) {
+        Ok(verified) => Ok(verified),
+        Err(fault) => Err(course_refusal(alloc, program, fault)),
+    }
+}
+
+fn by_rule<'p, 'a>(
+    alloc: Global,
+    program: &'p NormProgram<'a>,
+    degree: u8,
+    rule: Rule,
+) -> Result<Verified<'p, 'a>, InferFault>
+    requires least_degree { 1 ≤ degree }
+    requires most_degree { degree ≤ 4 }
+    ensures program { IfOk result (λ verified. verified.program ≡ program.now) }
+    ensures course { IfOk result (λ verified. IsInferred (analysis (program_in program.now) degree rule) verified.certificate) }
+    ensures least { IfOk result (λ verified. AllLeast (program_in program.now) verified.certificate) }
+    ensures fault { IfErr result (InferCause (analysis (program_in program.now) degree rule)) }
+{
+    match rule {
+        Rule::Least => by_least(alloc, program, degree),
+        Rule::Greatest => by_greatest(alloc, program, degree),
+    }
+}
+
+// The least column of positive gain enters.
+fn by_least<'p, 'a>(
+    alloc: Global,
+    program: &'p NormProgram<'a>,
+    degree: u8,
+) -> Result<Verified<'p, 'a>, InferFault>
+    requires least_degree { 1 ≤ degree }
+    requires most_degree { degree ≤ 4 }
+    ensures program { IfOk result (λ verified. verified.program ≡ program.now) }
+    ensures course { IfOk result (λ verified. IsInferred (analysis_of (program_in program.now) degree least_pick) verified.certificate) }
+    ensures least { IfOk result (λ verified. AllLeast (program_in program.now) verified.certificate) }
+    ensures fault { IfErr result (InferCause (analysis_of (program_in program.now) degree least_pick)) }
+{
+    let chooser = Chooser::new(|gains: &[Frac]| least_column(gains));
+    infer(alloc, program, degree, &chooser)
+}
+
+// The least of the columns with the greatest gain enters.
+fn by_greatest<'p, 'a>(
+    alloc: Global,
+    program: &'p NormProgram<'a>,
+    degree: u8,
+) -> Result<Verified<'p, 'a>, InferFault>
+    requires least_degree { 1 ≤ degree }
+    requires most_degree { degree ≤ 4 }
+    ensures program { IfOk result (λ verified. verified.program ≡ program.now) }
+    ensures course { IfOk result (λ verified. IsInferred (analysis_of (program_in program.now) degree greatest_pick) verified.certificate) }
+    ensures least { IfOk result (λ verified. AllLeast (program_in program.now) verified.certificate) }
+    ensures fault { IfErr result (InferCause (analysis_of (program_in program.now) degree greatest_pick)) }
+{
+    let chooser = Chooser::new(|gains: &[Frac]| greatest_column(gains));
+    infer(alloc, program, degree, &chooser)
+}
+
+// Why the course has no certificate.
+fn course_refusal(alloc: Global, program: &NormProgram<'_>, fault: InferFault) -> Refusal
+    ensures { (A : Analysis) → InferCause A fault → Refuses (names_in program.now) (CourseRefuses A) result }
+{
+    match fault {
+        InferFault::TooLarge { task, what } => too_large(alloc, program, task, what),
+        InferFault::Leaves(at) => overflow(alloc, program, at),
+        InferFault::NoMemory => Refusal::no_memory(),
+    }
+}

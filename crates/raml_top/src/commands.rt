@@ -1,0 +1,200 @@
+// The commands, each of a program.
+ghost use Rattle.std.specs.Prelude.{◌≡◌, ◌≤◌, ◌++◌, ℕ, codes, IfOk, string_bytes};
+ghost use Rattle.raml_syntax.specs.Tree.{Text};
+ghost use Rattle.raml_syntax.specs.Read.{program_of};
+ghost use Rattle.rule_plan.specs.Read.{program_in};
+ghost use Rattle.share_normal.specs.Program.{source_in};
+ghost use Rattle.stack_compile.specs.Text.{code_text};
+ghost use Rattle.annot_types.specs.Certificate as c;
+ghost use Rattle.annot_types.specs.Read.{certificate_of};
+ghost use Rattle.cert_json.specs.Told.{text_of};
+ghost use Rattle.raml_top.specs.Outside.{Promised, store_of};
+ghost use Rattle.raml_top.specs.Analysis.{OfCourse, OfCheck};
+ghost use Rattle.raml_top.specs.Promise.{ListsTypes, ListsCode, PrintsLines, PrintsCertificate, Analyses, Certifies, Verifies};
+ghost use Rattle.raml_top.specs.Parts.{Before, IsReady, Gives, IsWanting};
+
+use crate::analysis::{analyse, normal_form};
+use crate::answer::{Refusal, Report};
+use crate::status::Status;
+use crate::verification::{read_certificate, verified};
+use analysis_report::lines;
+use annot_types::Certificate;
+use bound_infer::Verified;
+use cert_json::write;
+use raml_io::Store;
+use raml_words::Rule;
+use report_text::type_lines;
+use share_normal::NormProgram;
+use simple_types::Typed;
+use stack_compile::{compile, print};
+use std::alloc::{AllocError, Global};
+
+/// The types of its functions.
+pub fn list_types(alloc: Global, typed: &Typed) -> Result<Report, Refusal>
+    ensures { Gives (ListsTypes Promised (program_of typed.now)) result }
+{
+    match type_lines(alloc, typed.program()) {
+        Ok(text) => Ok(Report::done(text)),
+        Err(_) => Err(Refusal::no_memory()),
+    }
+}
+
+/// The code of its functions.
+pub fn list_code(alloc: Global, typed: &Typed) -> Result<Report, Refusal>
+    requires ready { IsReady (program_of typed.now) }
+    ensures { Gives (ListsCode Promised (program_of typed.now)) result }
+{
+    match code_lines(alloc, typed) {
+        Ok(text) => Ok(Report::done(text)),
+        Err(_) => Err(Refusal::no_memory()),
+    }
+}
+
+fn code_lines(alloc: Global, typed: &Typed) -> Result<String, AllocError>
+    requires ready { IsReady (program_of typed.now) }
+    ensures { IfOk result (λ text. string_bytes text ≡ code_text (program_of typed.now)) }
+{
+    let code = compile(alloc, typed)?;
+    print(alloc, &code)
+}
+
+/// The lines of the certificate of its course.
+pub fn analysis_lines(
+    alloc: Global,
+    typed: &Typed,
+    degree: u8,
+    rule: Rule,
+) -> Result<Report, Refusal>
+    requires ready { IsReady (program_of typed.now) }
+    requires least_degree { 1 ≤ degree }
+    requires most_degree { degree ≤ 4 }
+    ensures { Gives (Analyses Promised degree rule (program_of typed.now)) result }
+{
+    match normal_form(alloc, typed) {
+        Ok(program) => course_lines(alloc, &program, degree, rule),
+        Err(_) => Err(Refusal::no_memory()),
+    }
+}
+
+fn course_lines(
+    alloc: Global,
+    program: &NormProgram<'_>,
+    degree: u8,
+    rule: Rule,
+) -> Result<Report, Refusal>
+    requires least_degree { 1 ≤ degree }
+    requires most_degree { degree ≤ 4 }
+    ensures { Gives (OfCourse Promised (source_in program.now) (program_in program.now) degree rule
+        (λ c. PrintsLines Promised (source_in program.now) (program_in program.now) c)) result }
+{
+    match analyse(alloc, program, degree, rule) {
+        Ok(verified) => line_report(alloc, program, &verified),
+        Err(refusal) => Err(refusal),
+    }
+}
+
+// The lines of a certificate.
+fn line_report(
+    alloc: Global,
+    program: &NormProgram<'_>,
+    verified: &Verified<'_, '_>,
+) -> Result<Report, Refusal>
+    requires { verified.now.program ≡ program.now }
+    ensures { Gives (PrintsLines Promised (source_in program.now) (program_in program.now) verified.now.certificate) result }
+{
+    match lines(alloc, program.source(), verified) {
+        Ok(text) => Ok(Report::done(text)),
+        Err(_) => Err(Refusal::no_memory()),
+    }
+}
+
+/// The certificate of its course.
+pub fn analysis_certificate(
+    alloc: Global,
+    typed: &Typed,
+    degree: u8,
+    rule: Rule,
+) -> Result<Report, Refusal>
+    requires ready { IsReady (program_of typed.now) }
+    requires least_degree { 1 ≤ degree }
+    requires most_degree { degree ≤ 4 }
+    ensures { Gives (Certifies Promised degree rule (program_of typed.now)) result }
+{
+    match normal_form(alloc, typed) {
+        Ok(program) => course_certificate(alloc, &program, degree, rule),
+        Err(_) => Err(Refusal::no_memory()),
+    }
+}
+
+fn course_certificate(
+    alloc: Global,
+    program: &NormProgram<'_>,
+    degree: u8,
+    rule: Rule,
+) -> Result<Report, Refusal>
+    requires least_degree { 1 ≤ degree }
+    requires most_degree { degree ≤ 4 }
+    ensures { Gives (OfCourse Promised (source_in program.now) (program_in program.now) degree rule (λ c. PrintsCertificate Promised c)) result }
+{
+    match analyse(alloc, program, degree, rule) {
+        Ok(verified) => certificate_report(alloc, verified.certificate()),
+        Err(refusal) => Err(refusal),
+    }
+}
+
+// The text of a certificate, and a line feed.
+fn certificate_report(alloc: Global, certificate: &Certificate) -> Result<Report, Refusal>
+    ensures { Gives (PrintsCertificate Promised (certificate_of certificate.now)) result }
+{
+    match certificate_text(alloc, certificate) {
+        Ok(text) => Ok(Report {
+            text,
+            status: Status::Done,
+        }),
+        Err(_) => Err(Refusal::no_memory()),
+    }
+}
+
+fn certificate_text(alloc: Global, certificate: &Certificate) -> Result<Vec<u8>, AllocError>
+    ensures { IfOk result (λ text. text.items ≡ text_of (certificate_of certificate.now) ++ codes "\n") }
+{
+    let mut bytes = write(alloc, certificate)?;
+    bytes.push(b'\n')?;
+    Ok(bytes)
+}
+
+/// The lines of the certificate in a file.
+pub fn verification<S: Store>(
+    alloc: Global,
+    store: &mut S,
+    typed: &Typed,
+    file: &str,
+) -> Result<Report, Refusal>
+    requires ready { IsReady (program_of typed.now) }
+    ensures gives { (before : Text → ℕ) → Before before (S.faults store.old) →
+        Gives (Verifies Promised (store_of (S.holds store.old) before (S.faults store.new)) file.now (program_of typed.now)) result }
+    ensures kept { S.holds store.new ≡ S.holds store.old }
+    ensures later { (other : Text) → S.faults store.old other ≤ S.faults store.new other }
+{
+    match read_certificate(alloc, store, file) {
+        Ok(certificate) => match normal_form(alloc, typed) {
+            Ok(program) => verified_lines(alloc, &program, certificate),
+            Err(_) => Err(Refusal::no_memory()),
+        },
+        Err(refusal) => Err(refusal),
+    }
+}
+
+fn verified_lines(
+    alloc: Global,
+    program: &NormProgram<'_>,
+    certificate: Certificate,
+) -> Result<Report, Refusal>
+    ensures { Gives (OfCheck Promised (source_in program.now) (program_in program.now) (certificate_of certificate)
+        (PrintsLines Promised (source_in program.now) (program_in program.now) (certificate_of certificate))) result }
+{
+    match verified(alloc, program, certificate) {
+        Ok(verified) => line_report(alloc, program, &verified),
+        Err(refusal) => Err(refusal),
+    }
+}

@@ -1,0 +1,140 @@
+// Certificates that are read.
+ghost use Rattle.std.specs.Prelude.{◌≡◌, ◌≤◌, ℕ, IfOk, IfErr};
+ghost use Rattle.raml_syntax.specs.Tree.{Text};
+ghost use Rattle.annot_types.specs.Certificate as a;
+ghost use Rattle.annot_types.specs.Read.{certificate_of};
+ghost use Rattle.rule_plan.specs.Read.{program_in};
+ghost use Rattle.cert_check.specs.Read.{fault_of};
+ghost use Rattle.bound_infer.specs.Inferred.{IsVerified, VerifyCause};
+ghost use Rattle.raml_top.specs.Analysis.{CheckRefuses};
+ghost use Rattle.raml_top.specs.Outside.{store_of};
+ghost use Rattle.raml_top.specs.Steps.{no_names};
+ghost use Rattle.raml_top.specs.Parts.{Before, IsCertificateFile, CertificateRefuses, Refuses, JsonRefusal, CheckRefusal, IsToldOr, IsCheckAt, names_in};
+
+use crate::answer::Refusal;
+use crate::file::read_file;
+use crate::line::{overflow, too_large};
+use crate::status::{CertAnswer, Status};
+use annot_types::Certificate;
+use bound_infer::{LeavesAt, Verified, VerifyFault, verify};
+use cert_check::CertFault;
+use cert_json::{JsonFault, read};
+use constraint_gen::What;
+use fault_text::{Which, certificate_line, json_line, not_refuted_line};
+use raml_io::Store;
+use share_normal::NormProgram;
+use std::alloc::{AllocError, Global};
+
+/// The certificate that a file is.
+pub fn read_certificate<S: Store>(
+    alloc: Global,
+    store: &mut S,
+    file: &str,
+) -> Result<Certificate, Refusal>
+    ensures ok { (before : Text → ℕ) →
+        IfOk result (λ certificate. IsCertificateFile (store_of (S.holds store.old) before (S.faults store.new)) file.now (certificate_of certificate)) }
+    ensures err { (before : Text → ℕ) → Before before (S.faults store.old) →
+        IfErr result (Refuses no_names (CertificateRefuses (store_of (S.holds store.old) before (S.faults store.new)) file.now)) }
+    ensures kept { S.holds store.new ≡ S.holds store.old }
+    ensures later { (other : Text) → S.faults store.old other ≤ S.faults store.new other }
+{
+    match read_file(alloc, store, file, Which::Certificate) {
+        Ok(bytes) => match read(alloc, &bytes) {
+            Ok(certificate) => Ok(certificate),
+            Err(fault) => Err(json_refusal(alloc, fault)),
+        },
+        Err(refusal) => Err(refusal),
+    }
+}
+
+fn json_refusal(alloc: Global, fault: JsonFault) -> Refusal
+    ensures { JsonRefusal fault result }
+{
+    match fault {
+        JsonFault::NoMemory => Refusal::no_memory(),
+        fault => {
+            let line = json_line(alloc, fault);
+            Refusal::told(Status::Certificate(CertAnswer::Json(fault)), line)
+        }
+    }
+}
+
+/// The certificate, where it is verified for the program.
+pub fn verified<'p, 'a>(
+    alloc: Global,
+    program: &'p NormProgram<'a>,
+    certificate: Certificate,
+) -> Result<Verified<'p, 'a>, Refusal>
+    ensures program { IfOk result (λ verified. verified.program ≡ program.now) }
+    ensures same { IfOk result (λ verified. verified.certificate ≡ certificate_of certificate) }
+    ensures ok { IfOk result (λ verified. IsVerified (program_in program.now) (certificate_of certificate)) }
+    ensures err { IfErr result (Refuses (names_in program.now) (CheckRefuses (program_in program.now) (certificate_of certificate))) }
+{
+    match verify(alloc, program, certificate) {
+        Ok(verified) => Ok(verified),
+        Err(fault) => Err(verify_refusal(alloc, program, fault)),
+    }
+}
+
+// Why a certificate is not verified.
+fn verify_refusal(alloc: Global, program: &NormProgram<'_>, fault: VerifyFault) -> Refusal
+    ensures { (c : a.Certificate) → VerifyCause (program_in program.now) c fault → Refuses (names_in program.now) (CheckRefuses (program_in program.now) c) result }
+{
+    match fault {
+        VerifyFault::Cert(fault) => check_refusal(alloc, program, fault),
+        VerifyFault::NotRefuted { block } => {
+            let line = not_refuted_line(alloc, block as usize);
+            Refusal::told(
+                Status::Certificate(CertAnswer::NotRefuted { block }),
+                line,
+            )
+        }
+        VerifyFault::TooLarge { task, what } => too_large(alloc, program, task, what),
+        VerifyFault::Leaves(at) => overflow(alloc, program, at),
+        VerifyFault::NoMemory => Refusal::no_memory(),
+    }
+}
+
+// Why the check of a certificate refuses it.
+fn check_refusal(alloc: Global, program: &NormProgram<'_>, fault: CertFault) -> Refusal
+    ensures { CheckRefusal (names_in program.now) (fault_of fault) result }
+{
+    match fault {
+        CertFault::TooLarge { task } => too_large(alloc, program, task, What::Indices),
+        CertFault::Leaves { block, path, index } => {
+            match leaves_at(alloc, block, path.as_slice(), index) {
+                Ok(at) => overflow(alloc, program, at),
+                Err(_) => Refusal::no_memory(),
+            }
+        }
+        CertFault::NoMemory => Refusal::no_memory(),
+        fault => {
+            let line =
+                certificate_line(alloc, program.source(), program.groups().list(), &fault);
+            Refusal::told(Status::Certificate(CertAnswer::Check(fault)), line)
+        }
+    }
+}
+
+// A total that leaves, by numbers of 32 bits.
+fn leaves_at(
+    alloc: Global,
+    block: usize,
+    path: &[u32],
+    index: usize,
+) -> Result<LeavesAt, AllocError>
+    ensures { IfOk result (IsCheckAt block path.now index) }
+{
+    // so many blocks, or indices, have no room in memory
+    let Ok(block) = u32::try_from(block) else {
+        return Err(AllocError);
+    };
+    let Ok(index) = u32::try_from(index) else {
+        return Err(AllocError);
+    };
+    Ok(LeavesAt::Check {
+        block,
+        path: Vec::from_slice(alloc, path)?,
+        index,
+    })
+}
