@@ -1,6 +1,9 @@
 -- What the code tells of bounds.
-use Rattle.std.specs.Prelude.{◌≡◌, ◌≤◌, ◌^◌, ℕ, List}
-use Rattle.raml_syntax.specs.Value.{Value}
+use Rattle.std.specs.Prelude.{◌≡◌, ◌≤◌, ◌<◌, ◌/◌, ◌^◌, ℕ, List, Option, Some, None, slice_get}
+use Rattle.raml_syntax.specs.Tree.{Function, Prog}
+use Rattle.raml_syntax.specs.Types.{types_of}
+use Rattle.amortised_bounds.specs.Bounds.{Bounds}
+use Rattle.raml_syntax.specs.Value.{Value, HaveTypes}
 use Rattle.base_poly.specs.Poly.{Term}
 use Rattle.poly_point.specs.Point.{worth}
 use Rattle.cost_free.specs.declared.task.Meter.{Meter}
@@ -10,7 +13,7 @@ use Rattle.annot_types.specs.Certificate.{Certificate}
 use Rattle.annot_types.specs.Held.{Bound}
 use Rattle.analysis_report.specs.Lines.{Claims}
 use Rattle.analysis_report.specs.Floors as f
-use Rattle.analysis_report.specs.Floors.{IsFloor, Leaves}
+use Rattle.analysis_report.specs.Floors.{IsFloor, Leaves, FloorsHold}
 use Rattle.analysis_report.specs.declared.bounds.Floors.{Floors}
 use Rattle.analysis_report.specs.declared.bounds.FloorFault.{FloorFault}
 use Rattle.analysis_report.specs.declared.bounds.FloorFault.TheVariants as fault
@@ -38,3 +41,19 @@ FloorRefused N c fun args meter fault.NoMemory = Unit {0}
 abbrev pub FloorsRefused : Program → Certificate → ℕ → List Value → FloorFault → Type 0
 FloorsRefused N c fun args (fault.Leaves meter) = Leaves N c fun args meter
 FloorsRefused N c fun args fault.NoMemory = Unit {0}
+
+-- the number is the whole part of a bound at the arguments
+pub record IsOfBound (P : Prog) (f : ℕ) (fun : Function) (args : List Value) (meter : Meter) (n : ℕ) : Type 0 where
+  pub den : ℕ
+  pub terms : List Term
+  pub positive : 0 < den
+  pub bounds : Bounds P f fun meter den terms
+  pub is : n ≡ worth terms args / den
+
+abbrev pub IsBound : Prog → ℕ → List Value → Meter → Option ℕ → Type 0
+IsBound P f args meter None = Unit {0}
+IsBound P f args meter (Some n) = (fun : Function) → slice_get P f ≡ Some fun → IsOfBound P f fun args meter n
+
+-- what all of them are good for
+abbrev pub AllHold : Prog → ℕ → List Value → f.Floors → Type 0
+AllHold P f args floors = (fun : Function) → slice_get P f ≡ Some fun → HaveTypes args (types_of fun) → FloorsHold P f fun args floors

@@ -9,12 +9,13 @@ ghost use Rattle.rule_plan.specs.Read.{program_in};
 ghost use Rattle.value_text.specs.Stands.{StandForAll};
 ghost use Rattle.poly_point.specs.Point.{AreArguments};
 ghost use Rattle.analysis_report.specs.Floors.{IsFloor};
-ghost use Rattle.analysis_report.specs.Told.{floors_of, FloorsAre, FloorRefused, FloorsRefused};
+ghost use Rattle.analysis_report.specs.Told.{floors_of, FloorsAre, FloorRefused, FloorsRefused, IsBound, AllHold};
 
 use bound_infer::{Line, Verified};
 use cost_free::Meter;
 use poly_point::{PointFault, at};
 use raml_syntax::FunId;
+use run_limits::laws::never_asks;
 use std::alloc::{AllocError, Global};
 use value_text::{DataHeap, Word};
 
@@ -61,6 +62,8 @@ fn floor_at(
         IfOk result (IsFloor (program_in verified.now.program) verified.now.certificate fun.0 vs meter) }
     ensures err { (vs : List Value) → StandForAll heap.now.cells args.now vs →
         IfErr result (FloorRefused (program_in verified.now.program) verified.now.certificate fun.0 vs meter) }
+    ensures bound { (vs : List Value) → StandForAll heap.now.cells args.now vs →
+        IfOk result (IsBound (source_in verified.now.program) fun.0 vs meter) }
 {
     let _certificate = verified.certificate();
     match verified.line(alloc, fun, meter)? {
@@ -90,7 +93,10 @@ pub fn floors_at(
         IfOk result (λ floors. FloorsAre (program_in verified.now.program) verified.now.certificate fun.0 vs (floors_of floors)) }
     ensures err { (vs : List Value) → StandForAll heap.now.cells args.now vs →
         IfErr result (FloorsRefused (program_in verified.now.program) verified.now.certificate fun.0 vs) }
+    ensures hold { (vs : List Value) → StandForAll heap.now.cells args.now vs →
+        IfOk result (λ floors. AllHold (source_in verified.now.program) fun.0 vs (floors_of floors)) }
 {
+    never_asks();
     let ticks = floor_at(alloc, verified, fun, Meter::Ticks, heap, args)?;
     let cells = floor_at(alloc, verified, fun, Meter::Cells, heap, args)?;
     let work = floor_at(alloc, verified, fun, Meter::Work, heap, args)?;
