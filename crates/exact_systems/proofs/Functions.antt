@@ -31,11 +31,9 @@ use Rattle.walk_rules.proofs.Covering.{all_are_given}
 use Rattle.walk_rules.proofs.Finding.{amounts_stand, reads_there}
 use Rattle.walk_rules.proofs.Ruled.{annotates_within, within_annotates}
 use Rattle.solved_tasks.specs.Told.{entries, sig, hint, number_in, sigs_told, hints_told}
+use Rattle.courses.proofs.Lists.{some_is}
 use Rattle.exact_systems.proofs.Alike.{AllAlike, BodiesAlike, bodies_same}
 use Rattle.exact_systems.proofs.Told.{told_within, told_amounts, AllSuit, suiting_answer, answered_suit, told_suit, told_alike, full_hints, full_alike, full_of, amounts_of_size}
-
-some_is : {X : Type 0} (x y : X) → Some x ≡ Some y → x ≡ y
-some_is x y e = cc
 
 -- signatures and hints in the ranges of their bodies
 abbrev pub SigsSuit : List Body → List Sig → Type 0

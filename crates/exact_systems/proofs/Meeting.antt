@@ -25,12 +25,9 @@ use Rattle.walk_rules.proofs.TaskRows.{systems_are_walked}
 use Rattle.solved_tasks.specs.Raised.{times_right}
 use Rattle.solved_tasks.specs.Told.{bodies_of}
 use Rattle.solved_tasks.proofs.Refuted.{blocks_raised, rows_are_raised, solves_raised, solves_lowered}
+use Rattle.courses.proofs.Lists.{length_map}
 use Rattle.exact_systems.proofs.Priceless.{bodies_free}
 use Rattle.exact_systems.proofs.Planning.{bodies_kept, ready_kept, cost_raised}
-
-length_map : (x : List ℕ) → length (map pos x) ≡ length x
-length_map [] = refl
-length_map (n ∷ x) = ap suc (length_map x)
 
 module _ (P : Program) (d : ℕ) (earlier : List Block) (group scale t : ℕ) (x : List ℕ) where
   abbrev task : Kind → Task
@@ -79,7 +76,7 @@ module _ (P : Program) (d : ℕ) (earlier : List Block) (group scale t : ℕ) (x
       let j = job (Free budget f number) in
       let weights = (system P d earlier (task (Free budget f number)) scale).weights in
       let solved = subst (λ z. Solves z (map pos x) (pos t)) walked s in
-      let count = sym (length_map x) ∙ solved.one_each in
+      let count = sym (length_map pos x) ∙ solved.one_each in
       let all = (rows_are_conditions j weights t x count).0 solved in
       let target = of_target (amounts t) j (sides_given (amount x) 0 j.bodies) j.target in
       let rest = of_bodies (amounts t) j (sides_given (amount x) 0 j.bodies) 0 j.bodies (hints_given (amount x) (sides_count j.bodies) j.bodies) in
@@ -94,7 +91,7 @@ module _ (P : Program) (d : ℕ) (earlier : List Block) (group scale t : ℕ) (x
       let R = system P d (map (raised meter t) earlier) (task kind) (scale * t) in
       let at_one = subst (λ z. Solves z (map pos x) (pos 1)) (sym (raised_is meter h)) (solves_raised t (system P d earlier (task kind) scale) (map pos x) s) in
       let solved = subst (λ z. Solves z (map pos x) (pos 1)) (systems_are_walked P d (map (raised meter t) earlier) (task kind) (scale * t) (raised_task kind is_task)) at_one in
-      let count = sym (length_map x) ∙ solved.one_each in
+      let count = sym (length_map pos x) ∙ solved.one_each in
       record { count = count; target = tt; bodies = (rows_are_conditions j R.weights 1 x count).0 solved }
 
   pub meets_solves : (kind : Kind) → IsTask P d earlier (task kind) scale → 0 < t → Meets kind → Solves (system P d earlier (task kind) scale) (map pos x) (pos t)

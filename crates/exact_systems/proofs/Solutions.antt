@@ -29,14 +29,12 @@ use Rattle.walk_rules.specs.Stand.{Stands, SidesStand}
 use Rattle.walk_rules.specs.Systems.{IsTask}
 use Rattle.walk_rules.specs.Found.{group_from}
 use Rattle.solved_tasks.specs.Told.{bodies_of, sigs_told, hints_told}
+use Rattle.courses.proofs.Lists.{some_is}
 use Rattle.exact_systems.specs.Laws.{IsNumbered, told, SolutionsHold, SolutionsWeigh, WhatHoldsSolves}
 use Rattle.exact_systems.proofs.Functions.{here, J, none, whole, reads, sides_told, told_long, told_hold, held_come}
 use Rattle.exact_systems.proofs.Targets.{meet_covers, covers_meet}
 use Rattle.exact_systems.proofs.Weights.{all_weighed}
 use Rattle.exact_systems.proofs.Meeting.{Meets, raised_job, bodies_are, raised_task, solves_meets, meets_solves}
-
-some_is : {X : Type 0} (x y : X) → Some x ≡ Some y → x ≡ y
-some_is x y e = cc
 
 module _ (P : Program) (d : ℕ) (earlier : List Block) (group scale t : ℕ) (x : List ℕ) where
   module _ (budget f number : ℕ) where
