@@ -40,14 +40,12 @@ SolutionsHold =
     Solves (system P d earlier task scale) (map pos x) (pos t) →
     Holds P d earlier scale (told P d earlier task x) t
 
--- the weighted sum of a solution is that of the signatures that it stands for
+-- The weighted sum of numbers for the unknowns is that of the signatures that they stand for.
 abbrev pub SolutionsWeigh : Type 0
 SolutionsWeigh =
     (P : Program) (d : ℕ) (earlier : List Block) (task : Task) (scale : ℕ) (x : List ℕ) →
     IsTask P d earlier task scale →
-    let s = system P d earlier task scale in
-    length x ≡ s.unknowns →
-    dot s.weights (map pos x) ≡ pos (weight P d (told P d earlier task x))
+    dot (system P d earlier task scale).weights (map pos x) ≡ pos (weight P d (told P d earlier task x))
 
 -- All signatures and hints that hold with t come from a solution over t, with their weighted sum.
 abbrev pub WhatHoldsSolves : Type 0
@@ -58,18 +56,3 @@ WhatHoldsSolves =
     (x : List ℕ)
     × Solves (system P d earlier task scale) (map pos x) (pos t)
     × (let s = system P d earlier task scale in dot s.weights (map pos x) ≡ pos (weight P d (solving task sigs hints)))
-
--- So the system of a task that is tried is solved by what holds, and by nothing else.
-abbrev pub SystemsGenerate : Type 0
-SystemsGenerate = (P : Program) → IsOrdered P → (d : ℕ) (pick : List ℤ → ℤ → Option ℕ) → Generates (analysis_of P d pick)
-
--- Whether its walks are small enough is told as the limits say.
-abbrev pub LimitsAreTold : Type 0
-LimitsAreTold = (P : Program) (d : ℕ) (task : Task) →
-    IsTrue ((generator_of P d).within task)
-    ↔ All (λ f. FunctionWithin 2000 (slice_get P.funs f) (budget_of d task.kind)) (members P task.group)
-
--- The normal form of a typed program, with its groups, is ordered.
-abbrev pub NormalsAreOrdered : Type 0
-NormalsAreOrdered = (P : Prog) → Typed P → All (λ (g : Function). AllNodes NumberFits g.body) P →
-    (groups : Grouping) → IsGrouping P groups → IsOrdered (normal_of P groups.list)

@@ -1,5 +1,5 @@
 // Laws of systems: each is the contract of a function that does nothing.
-ghost use Rattle.exact_systems.specs.Laws.{LimitsAreTold, NormalsAreOrdered, SolutionsHold, SolutionsWeigh, SystemsGenerate, WhatHoldsSolves};
+ghost use Rattle.exact_systems.specs.Laws.{SolutionsHold, SolutionsWeigh, WhatHoldsSolves};
 
 /// Each solution of a task's system stands for signatures and hints that hold.
 pub fn solutions_hold()
@@ -14,19 +14,4 @@ pub fn solutions_weigh()
 /// All signatures and hints that hold come from a solution.
 pub fn what_holds_solves()
     ensures { WhatHoldsSolves }
-{}
-
-/// The systems of a program's tasks are what courses ask for.
-pub fn systems_generate()
-    ensures { SystemsGenerate }
-{}
-
-/// The limits of indices are told as they are.
-pub fn limits_are_told()
-    ensures { LimitsAreTold }
-{}
-
-/// The normal form of a typed program is ordered.
-pub fn normals_are_ordered()
-    ensures { NormalsAreOrdered }
 {}
