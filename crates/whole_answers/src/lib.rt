@@ -2,9 +2,13 @@
 #![tactic(auto)]
 
 mod answer;
+mod checked;
 mod fault;
+mod rules;
 mod solving;
+mod wholes;
 
 pub use answer::Answer;
 pub use fault::AnswerFault;
+pub use rules::{greatest_column, least_column};
 pub use solving::whole_answer;

@@ -1,0 +1,4 @@
+mod Picking
+mod Joining
+mod Taking
+mod Named
