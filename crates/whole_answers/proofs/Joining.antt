@@ -1,5 +1,5 @@
 -- Two lists of fractions over one number, one behind the other.
-use Rattle.std.proofs.Common.{◌≡◌, ◌<◌, ◌+◌, ℕ, zero, suc, ℤ, pos, ◌*ℤ◌, ◌<ℤ◌, List, [], ◌∷◌, ◌++◌, map, length, take, drop, refl, sym, ap, ◌∙◌, subst, arith}
+use Rattle.std.proofs.Common.{◌≡◌, ◌<◌, ◌+◌, ℕ, zero, suc, ℤ, pos, ◌*ℤ◌, List, [], ◌∷◌, ◌++◌, map, length, take, drop, refl, sym, ap, ◌∙◌, arith}
 use Rattle.raml_num.specs.Sums.{NoneNegative}
 use Rattle.linear_rows.specs.Vectors.{scale}
 use Rattle.linear_rows.specs.Laws.{InProportion}
@@ -7,7 +7,6 @@ use Rattle.frac128.specs.declared.Frac.{Frac}
 use Rattle.tableau.specs.Places.{at}
 use Rattle.simplex.specs.Standing.{Stands}
 use Rattle.simplex.specs.Reading.{AreOver, frac_at}
-use Rattle.whole_numbers.specs.Wholes.{AreWholes}
 use Rattle.whole_numbers.specs.Denominators.{over, all_over}
 use Rattle.whole_numbers.specs.Laws.{AreNatural}
 

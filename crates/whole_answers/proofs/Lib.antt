@@ -1,4 +1,5 @@
 mod Picking
 mod Joining
 mod Taking
-mod Named
+mod ByPick
+pub mod Chosen

@@ -1,7 +1,7 @@
 -- What the rules of the product pick.
-use Rattle.std.proofs.Common.{◌≡◌, ◌<◌, ◌≤◌, ◌+◌, ◌*◌, ◌&&◌, ◌⊎◌, ◌↔◌, inl, inr, ⊎_elim, ℕ, zero, suc, ℤ, pos, ◌*ℤ◌, ◌≤ℤ◌, ◌<ℤ◌, Bool, true, false, cond, List, [], ◌∷◌, length, slice_index_or, Option, Some, None, refl, sym, ap, ◌∙◌, subst, arith}
+use Rattle.std.proofs.Common.{◌≡◌, ◌<◌, ◌+◌, ◌*◌, ◌&&◌, ◌⊎◌, inl, inr, ⊎_elim, ℕ, zero, suc, ℤ, pos, ◌*ℤ◌, ◌≤ℤ◌, ◌<ℤ◌, Bool, true, false, cond, List, [], ◌∷◌, length, slice_index_or, Option, Some, None, refl, sym, ap, ◌∙◌, subst, arith}
 use Rattle.std.proofs.lemmas.Int.{ints}
-use Rattle.std.proofs.lemmas.Bool.Decides.{nat_tests, Decides-int_eq}
+use Rattle.std.proofs.lemmas.Bool.Decides.{Decides-int_eq}
 use Rattle.std.specs.Prelude.{int_lt, IfSome, IfNone}
 use Rattle.std.specs.Int.{int_max}
 use Rattle.std.specs.Ordering.{int_eq}
@@ -120,18 +120,28 @@ same_entry (y ∷ gains) (suc k) x l e = same_entry gains k x (omega (arith, l))
 
 -- The least column
 
-pub least_picked : (gains : List Frac) (c : ℕ) (x : Frac) → c < length gains → x ≡ slice_index_or gains c x → pos 0 <ℤ numerator x →
-    ((k : ℕ) → k < c → numerator (frac_at gains k) ≤ℤ pos 0) → Picks least_pick gains (Some c)
-least_picked gains c x l e p b ns d pd h =
+abbrev Gives : (List ℤ → ℤ → Option ℕ) → List Frac → Option ℕ → Type 0
+Gives pick gains picked = (ns : List ℤ) (d : ℤ) → pos 0 <ℤ d → AreOver d ns gains → pick ns d ≡ picked
+
+least_given : (gains : List Frac) (c : ℕ) (x : Frac) → c < length gains → x ≡ slice_index_or gains c x → pos 0 <ℤ numerator x →
+    ((k : ℕ) → k < c → numerator (frac_at gains k) ≤ℤ pos 0) → Gives least_pick gains (Some c)
+least_given gains c x l e p b ns d pd h =
     let here : pos 0 <ℤ at ns c = sign_up d (at ns c) (frac_at gains c) pd (stands_at d ns gains c h l) (subst (λ (y : Frac). pos 0 <ℤ numerator y) (same_entry gains c x l e) p) in
     first_column (λ gain. int_lt (pos 0) gain) c ns (let n = h.count in omega (arith, l, n)) (grind (arith, ints, here))
     (λ k q. let low = sign_not d (at ns k) (frac_at gains k) pd (stands_at d ns gains k h (omega (arith, l, q))) (b k q) in grind (arith, ints, low))
 
-pub least_none : (gains : List Frac) → ((k : ℕ) → k < length gains → numerator (frac_at gains k) ≤ℤ pos 0) → Picks least_pick gains None
-least_none gains b ns d pd h =
+none_given : (gains : List Frac) → ((k : ℕ) → k < length gains → numerator (frac_at gains k) ≤ℤ pos 0) → Gives least_pick gains None
+none_given gains b ns d pd h =
     none_so (λ gain. int_lt (pos 0) gain) 0 ns
     (λ k q. let n = h.count in let l : k < length gains = omega (arith, q, n) in
     let low = sign_not d (at ns k) (frac_at gains k) pd (stands_at d ns gains k h l) (b k l) in grind (arith, ints, low))
+
+pub least_picked : (gains : List Frac) (c : ℕ) (x : Frac) → c < length gains → x ≡ slice_index_or gains c x → pos 0 <ℤ numerator x →
+    ((k : ℕ) → k < c → numerator (frac_at gains k) ≤ℤ pos 0) → Picks least_pick gains (Some c)
+least_picked gains c x l e p b = record { is = least_given gains c x l e p b }
+
+pub least_none : (gains : List Frac) → ((k : ℕ) → k < length gains → numerator (frac_at gains k) ≤ℤ pos 0) → Picks least_pick gains None
+least_none gains b = record { is = none_given gains b }
 
 -- The greatest gain
 
@@ -255,8 +265,8 @@ pub found_none : (gains : List Frac) (c : ℕ) (most : Frac) (found : Option ℕ
 found_none gains c most None e h = λ k l. (h.none refl).1 k (omega (arith, e, l))
 found_none gains c most (Some g) e h = tt
 
-pub greatest_picked : (gains : List Frac) (c : ℕ) (most : Frac) (found : Option ℕ) → c ≡ length gains → IsFound gains c most found → Picks greatest_pick gains found
-greatest_picked gains c most None e h ns d pd k =
+greatest_given : (gains : List Frac) (c : ℕ) (most : Frac) (found : Option ℕ) → c ≡ length gains → IsFound gains c most found → Gives greatest_pick gains found
+greatest_given gains c most None e h ns d pd k =
     let r = h.whole ns d pd k in
     let nought_is = r.none refl in
     let count = k.count in
@@ -264,7 +274,7 @@ greatest_picked gains c most None e h ns d pd k =
   where
     not_so : (n g m : ℤ) → m ≡ pos 0 → n ≤ℤ m → (int_lt (pos 0) n && int_eq n g) ≡ false
     not_so n g m e l = let low : int_lt (pos 0) n ≡ false = grind (arith, ints, e, l) in λ i. low i && int_eq n g
-greatest_picked gains c most (Some g) e h ns d pd k =
+greatest_given gains c most (Some g) e h ns d pd k =
     let r = h.whole ns d pd k in
     let o = r.some g refl in
     let count = k.count in
@@ -288,3 +298,6 @@ greatest_picked gains c most (Some g) e h ns d pd k =
         by : (b : Bool) → int_eq n g ≡ b → (int_lt (pos 0) n && int_eq n g) ≡ false
         by true q = let same = (Decides-int_eq n g).0 q in absurd (omega (arith, ints))
         by false q = both (int_lt (pos 0) n) (int_eq n g) q
+
+pub greatest_picked : (gains : List Frac) (c : ℕ) (most : Frac) (found : Option ℕ) → c ≡ length gains → IsFound gains c most found → Picks greatest_pick gains found
+greatest_picked gains c most found e h = record { is = greatest_given gains c most found e h }

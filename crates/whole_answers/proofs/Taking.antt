@@ -9,7 +9,7 @@ use Rattle.linear_rows.specs.Systems.{LinearSystem, ProvesLeast, Refutes}
 use Rattle.linear_rows.proofs.Proportions.{agree}
 use Rattle.frac128.specs.declared.Frac.{Frac}
 use Rattle.tableau.specs.Tableaux.{right}
-use Rattle.whole_numbers.specs.Wholes.{most, AreWholes, AreLeastWholes, ScaleLeaves, InDenominator, InNumber}
+use Rattle.whole_numbers.specs.Wholes.{most, AreWholes, ScaleLeaves, InDenominator, InNumber}
 use Rattle.whole_numbers.specs.Denominators.{denominators, IsDenominator, DenominatorLeaves, over, all_over, NumberLeaves}
 use Rattle.whole_numbers.specs.Laws.{AreNatural, LeastDenominators, RefusedEntriesLeave}
 use Rattle.whole_answers.specs.Wholes.{AreLeast, AreRefuting, AreTaken, HaveWholes}

@@ -24,5 +24,5 @@ abbrev pub greatest_pick : List ℤ → ℤ → Option ℕ
 greatest_pick gains over = least_from (λ gain. int_lt (pos 0) gain && int_eq gain (greatest_gain gains)) 0 gains
 
 -- for all numbers that these fractions are over a positive one, the function gives this
-abbrev pub Picks : (List ℤ → ℤ → Option ℕ) → List Frac → Option ℕ → Type 0
-Picks pick gains picked = (ns : List ℤ) (d : ℤ) → pos 0 <ℤ d → AreOver d ns gains → pick ns d ≡ picked
+pub record Picks (pick : List ℤ → ℤ → Option ℕ) (gains : List Frac) (picked : Option ℕ) : Type 0 where
+  pub is : (ns : List ℤ) (d : ℤ) → pos 0 <ℤ d → AreOver d ns gains → pick ns d ≡ picked

@@ -1,10 +1,10 @@
 -- What is told of fractions that are taken to whole numbers, and of the checks of these.
-use Rattle.std.specs.Prelude.{◌≡◌, ◌<◌, ◌*ℤ◌, ◌<ℤ◌, ℕ, ℤ, pos, List, ◌++◌, map, slice_index_or}
+use Rattle.std.specs.Prelude.{◌≡◌, ◌<◌, ◌<ℤ◌, ℕ, ℤ, pos, List, ◌++◌, map, slice_index_or}
 use Rattle.linear_rows.specs.Systems.{LinearSystem, ProvesLeast, Refutes}
 use Rattle.farkas_check.specs.declared.Verdict.TheVariants.{Leaves}
 use Rattle.farkas_check.specs.Checks.{IsVerdict, refuting, proving_least}
 use Rattle.frac128.specs.declared.Frac.{Frac}
-use Rattle.frac128.specs.Values.{numerator, denominator}
+use Rattle.frac128.specs.Values.{denominator}
 use Rattle.simplex.specs.Reading.{AreOver}
 use Rattle.whole_numbers.specs.Wholes.{most, AreWholes}
 use Rattle.whole_numbers.specs.Denominators.{denominators, IsDenominator, DenominatorLeaves, all_over, NumberLeaves}
@@ -59,11 +59,12 @@ pub record HaveWholes (fs : List Frac) : Type 0 where
   pub fits : over < most
   pub each : (entry : ℕ) → slice_index_or numbers entry 0 < most
 
--- the fault is the first check of this kind that leaves
+-- the fault is the first column at which the check of a solution leaves
 abbrev pub LeastCheckLeaves : LinearSystem → List ℤ → List ℤ → ℕ → AnswerFault → Type 0
 LeastCheckLeaves s x y t (f.Least column) = IsVerdict (proving_least s x y (pos t)) (Leaves column)
 LeastCheckLeaves s x y t fault = ⊥
 
+-- and likewise of a vector
 abbrev pub VectorCheckLeaves : LinearSystem → List ℤ → AnswerFault → Type 0
 VectorCheckLeaves s y (f.Refute column) = IsVerdict (refuting s y) (Leaves column)
 VectorCheckLeaves s y fault = ⊥
@@ -80,10 +81,12 @@ pub record IsLeastOver (s : LinearSystem) (x y : List Frac) (t : ℕ) : Type 0 w
   pub taken : AreTaken (x ++ y) over
   pub passed : ArePassed s over (all_over over x) (all_over over y)
 
-abbrev pub IsLeast : LinearSystem → List Frac → List Frac → Answer → Type 0
-IsLeast s x y (Solution denominator numbers) = (t : ℕ) × (denominator ≡ pos t) × (numbers.items ≡ map pos (all_over t x)) × IsLeastOver s x y t
-IsLeast s x y (Vector numbers) = ⊥
+-- the answer is the solution x so
+abbrev pub IsLeastAnswer : LinearSystem → List Frac → List Frac → Answer → Type 0
+IsLeastAnswer s x y (Solution denominator numbers) = (t : ℕ) × (denominator ≡ pos t) × (numbers.items ≡ map pos (all_over t x)) × IsLeastOver s x y t
+IsLeastAnswer s x y (Vector numbers) = ⊥
 
+-- the fault is an entry of both that leaves, or a column at which the check over their denominator does
 abbrev pub LeastFails : LinearSystem → List Frac → List Frac → AnswerFault → Type 0
 LeastFails s x y (f.Scale entry) = EntryLeaves (x ++ y) entry
 LeastFails s x y (f.Least column) = (l : ℕ) × AreTaken (x ++ y) l
@@ -91,10 +94,12 @@ LeastFails s x y (f.Least column) = (l : ℕ) × AreTaken (x ++ y) l
 LeastFails s x y f.NoMemory = Unit {0}
 LeastFails s x y fault = ⊥
 
-abbrev pub IsRefuted : LinearSystem → List Frac → Answer → Type 0
-IsRefuted s y (Solution denominator numbers) = ⊥
-IsRefuted s y (Vector numbers) = (l : ℕ) × AreTaken y l × (numbers.items ≡ map pos (all_over l y)) × IsPassed s (all_over l y)
+-- the answer is the vector y over its least denominator, checked
+abbrev pub IsVectorAnswer : LinearSystem → List Frac → Answer → Type 0
+IsVectorAnswer s y (Solution denominator numbers) = ⊥
+IsVectorAnswer s y (Vector numbers) = (l : ℕ) × AreTaken y l × (numbers.items ≡ map pos (all_over l y)) × IsPassed s (all_over l y)
 
+-- the fault is an entry of it that leaves, or a column at which the check over its denominator does
 abbrev pub RefutingFails : LinearSystem → List Frac → AnswerFault → Type 0
 RefutingFails s y (f.Scale entry) = EntryLeaves y entry
 RefutingFails s y (f.Refute column) = (l : ℕ) × AreTaken y l × IsVerdict (refuting s (map pos (all_over l y))) (Leaves column)

@@ -4,7 +4,7 @@ ghost use Rattle.linear_rows.specs.Systems.{ProvesLeast, Refutes};
 ghost use Rattle.farkas_check.specs.Checks.{EachPasses, refuting, proving_least};
 ghost use Rattle.tableau.specs.Tableaux.{right};
 ghost use Rattle.whole_numbers.specs.Wholes.{most};
-ghost use Rattle.whole_answers.specs.Wholes.{AreLeast, AreRefuting, HaveWholes, IsInWholes, IsLeast, LeastFails, IsRefuted, RefutingFails, LeastCheckLeaves, VectorCheckLeaves};
+ghost use Rattle.whole_answers.specs.Wholes.{AreLeast, AreRefuting, HaveWholes, IsInWholes, IsLeastAnswer, LeastFails, IsVectorAnswer, RefutingFails, LeastCheckLeaves, VectorCheckLeaves};
 
 use crate::answer::Answer;
 use crate::fault::AnswerFault;
@@ -78,7 +78,7 @@ pub(crate) fn checked_solution(
 ) -> Result<Answer, AnswerFault>
     requires few { right system.now < 2 ^ 32 }
     requires least { AreLeast system.now x.now dual.now }
-    ensures answer { IfOk result (IsLeast system.now x.now dual.now) }
+    ensures answer { IfOk result (IsLeastAnswer system.now x.now dual.now) }
     ensures fault { IfErr result (LeastFails system.now x.now dual.now) }
 {
     laws::least_denominators();
@@ -98,7 +98,7 @@ pub(crate) fn checked_vector(
 ) -> Result<Answer, AnswerFault>
     requires few { right system.now < 2 ^ 32 }
     requires refuting { AreRefuting system.now y.now }
-    ensures answer { IfOk result (IsRefuted system.now y.now) }
+    ensures answer { IfOk result (IsVectorAnswer system.now y.now) }
     ensures fault { IfErr result (RefutingFails system.now y.now) }
 {
     laws::least_denominators();

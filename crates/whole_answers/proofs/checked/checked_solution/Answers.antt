@@ -1,4 +1,4 @@
-use Rattle.std.proofs.Common.{◌∙◌, ◌++◌, subst, sym, ap, take, drop, length, pos, map}
+use Rattle.std.proofs.Common.{◌∙◌, ◌++◌}
 use Rattle.whole_answers.specs.Wholes.{AreTaken}
 use Rattle.whole_answers.proofs.Taking.{proves_parts, have_wholes}
 use Rattle.whole_answers.proofs.checked.checked_solution.Goals as goal

@@ -1,6 +1,6 @@
 use Rattle.simplex.specs.Solving.{IsBest, IsRefuted, rule_of}
 use Rattle.tableau.specs.Courses.{Refuses}
-use Rattle.whole_answers.proofs.Named.{best_ok, best_err, vector_ok, vector_err, are_refuting, refuses_by}
+use Rattle.whole_answers.proofs.ByPick.{best_ok, best_err, vector_ok, vector_err, are_refuting, refuses_by}
 use Rattle.whole_answers.proofs.solving.whole_answer.Goals as goal
 
 pub returns-in-Best-clause-answer : goal.returns-in-Best-clause-answer

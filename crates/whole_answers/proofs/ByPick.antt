@@ -1,5 +1,5 @@
 -- What is told of fractions is an answer, by the rule that is named.
-use Rattle.std.proofs.Common.{◌≡◌, ◌<◌, ℕ, ℤ, pos, ◌*ℤ◌, ◌<ℤ◌, List, [], ◌∷◌, ◌++◌, map, length, slice_index_or, Option, refl, sym, ◌∙◌, subst, arith}
+use Rattle.std.proofs.Common.{◌≡◌, ◌<◌, ℕ, ℤ, pos, ◌*ℤ◌, ◌<ℤ◌, List, [], ◌∷◌, ◌++◌, slice_index_or, Option, refl, ◌∙◌, subst, arith}
 use Rattle.std.proofs.lemmas.Int.{ints}
 use Rattle.std.specs.Prelude.{Result, Ok, Err, IfOk, IfErr}
 use lib.IntN.{negsuc}
@@ -10,17 +10,15 @@ use Rattle.tableau.specs.Tableaux.{Tableau, opening, pivot, solution, dual, ray}
 use Rattle.tableau.specs.Courses.{Rule, IsPivot, Leads, FollowsFrom, Refuses, AtOpening, AtPivot, rule_by}
 use Rattle.simplex.specs.Solving.{IsBest, IsRefuted}
 use Rattle.whole_numbers.specs.Wholes.{most, AreLeastWholes, ScaleLeaves}
-use Rattle.whole_numbers.specs.Denominators.{IsDenominator, over, all_over}
+use Rattle.whole_numbers.specs.Denominators.{over, all_over}
 use Rattle.whole_numbers.specs.Laws.{AreNatural, LeastDenominators, RefusedEntriesLeave}
-use Rattle.courses.specs.Reading.{ReadsBoth, ReadsVector}
-use Rattle.courses.specs.Places.{Read, Both, Vector}
+use Rattle.courses.specs.Places.{Both, Vector}
 use Rattle.courses.specs.Clear.{BothAreFine, VectorIsFine}
 use Rattle.whole_answers.specs.declared.answer.Answer.{Answer}
 use Rattle.whole_answers.specs.declared.answer.Answer.TheVariants as a
 use Rattle.whole_answers.specs.declared.fault.AnswerFault.{AnswerFault}
 use Rattle.whole_answers.specs.declared.fault.AnswerFault.TheVariants as f
-use Rattle.whole_answers.specs.Wholes as w
-use Rattle.whole_answers.specs.Wholes.{AreLeast, AreRefuting, AreTaken, EntryLeaves, InDenominator, InNumber, IsLeastOver, IsLeast, LeastFails, RefutingFails}
+use Rattle.whole_answers.specs.Wholes.{AreLeast, AreRefuting, AreTaken, EntryLeaves, InDenominator, InNumber, IsLeastOver, IsLeastAnswer, IsVectorAnswer, LeastFails, RefutingFails}
 use Rattle.whole_answers.specs.Answers.{IsSolution, IsAnswer, Stops}
 use Rattle.whole_answers.proofs.Joining.{length_map, over_parts, both_natural}
 
@@ -135,7 +133,7 @@ module _ (law : LeastDenominators) (rule : Rule) (s : LinearSystem) (ps : List (
     passed = k.passed;
   }
 
-  pub is_least : (answer : Answer) → IsLeast s x y answer → IsAnswer rule s answer
+  pub is_least : (answer : Answer) → IsLeastAnswer s x y answer → IsAnswer rule s answer
   is_least (a.Solution denominator numbers) k = (k.0, all_over k.0 x, k.1, k.2, is_solution k.0 k.3)
   is_least (a.Vector numbers) k = absurd k
 
@@ -169,7 +167,7 @@ module _ (law : LeastDenominators) (rule : Rule) (s : LinearSystem) (ps : List (
     numbers = taken.numbers;
   }
 
-  pub is_vector : (answer : Answer) → w.IsRefuted s y answer → IsAnswer rule s answer
+  pub is_vector : (answer : Answer) → IsVectorAnswer s y answer → IsAnswer rule s answer
   is_vector (a.Solution denominator numbers) k = absurd k
   is_vector (a.Vector numbers) k = (all_over k.0 y, k.2, record { fine = vector k.0 k.1; passed = k.3 })
 
@@ -187,7 +185,7 @@ abbrev pub IsMore : (List ℤ → ℤ → Option ℕ) → Rule → Type 0
 IsMore pick rule = (ns : List ℤ) (d : ℤ) (o : Option ℕ) → pos 0 <ℤ d → rule ns d o → pick ns d ≡ o
 
 module _ (law : LeastDenominators) (rule : Rule) (s : LinearSystem) (ps : List (ℕ × ℕ)) where
-  pub best_ok : (x y : List Frac) → IsBest rule s ps x y → (r : Result Answer AnswerFault) → IfOk r (IsLeast s x y) →
+  pub best_ok : (x y : List Frac) → IsBest rule s ps x y → (r : Result Answer AnswerFault) → IfOk r (IsLeastAnswer s x y) →
       IfOk r (λ answer. (pick : List ℤ → ℤ → Option ℕ) → IsMore pick rule → IsAnswer (rule_by pick) s answer)
   best_ok x y h (Ok answer) k = λ pick more. is_least law (rule_by pick) s ps x y (best_by pick rule more s ps x y h) answer k
   best_ok x y h (Err fault) k = tt
@@ -197,7 +195,7 @@ module _ (law : LeastDenominators) (rule : Rule) (s : LinearSystem) (ps : List (
   best_err x y h entries (Ok answer) k = tt
   best_err x y h entries (Err fault) k = λ pick more. least_stops law (rule_by pick) s ps x y (best_by pick rule more s ps x y h) entries fault k
 
-  pub vector_ok : (y : List Frac) → IsRefuted rule s ps y → (r : Result Answer AnswerFault) → IfOk r (w.IsRefuted s y) →
+  pub vector_ok : (y : List Frac) → IsRefuted rule s ps y → (r : Result Answer AnswerFault) → IfOk r (IsVectorAnswer s y) →
       IfOk r (λ answer. (pick : List ℤ → ℤ → Option ℕ) → IsMore pick rule → IsAnswer (rule_by pick) s answer)
   vector_ok y h (Ok answer) k = λ pick more. is_vector law (rule_by pick) s ps y (refuted_by pick rule more s ps y h) answer k
   vector_ok y h (Err fault) k = tt
