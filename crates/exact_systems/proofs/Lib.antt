@@ -8,3 +8,7 @@ pub mod Weights
 pub mod Targets
 pub mod Meeting
 pub mod Solutions
+pub mod Numbered
+pub mod Shapes
+pub mod Generating
+pub mod Limits

@@ -1,5 +1,5 @@
 -- What solves the system of a task holds, and what holds solves it.
-use Rattle.std.specs.Prelude.{◌≡◌, ◌<◌, ℕ, ℤ, pos, List, [], ◌∷◌, map, length, slice_get, position, Option, Some, IsSome}
+use Rattle.std.specs.Prelude.{◌≡◌, ◌<◌, ℕ, ℤ, pos, List, [], ◌∷◌, map, length, slice_get, position, Option, Some, IsSome, IsTrue, ◌↔◌}
 use Rattle.std.specs.List.{All}
 use Rattle.base_poly.specs.Plain.{Plain, alike}
 use Rattle.base_poly.specs.Indices.{index_list}
@@ -12,11 +12,15 @@ use Rattle.cost_free.specs.Task.{Task, Kind, Free}
 use Rattle.annot_types.specs.Program.{Program, members}
 use Rattle.annot_types.specs.Certificate as c
 use Rattle.annot_types.specs.Certificate.{Sig, Block}
-use Rattle.annot_types.specs.Holds.{Holds}
+use Rattle.annot_types.specs.Holds.{budget_of, Holds}
 use Rattle.annot_types.specs.Least.{solving, weight}
 use Rattle.annot_types.specs.System.{system}
 use Rattle.walk_rules.specs.Systems.{IsTask}
 use Rattle.solved_tasks.specs.Told.{bodies_of, sigs_told, hints_told}
+use Rattle.rule_plan.specs.Within.{FunctionWithin}
+use Rattle.courses.specs.Generator.{Generates}
+use Rattle.tried_tasks.specs.Laws.{IsOrdered}
+use Rattle.exact_systems.specs.Analysed.{generator_of, analysis_of}
 
 -- The number of a cost-free task is that of a target of its function, each tuple of which has a position at the task's budget.
 abbrev pub IsNumbered : Program → ℕ → Kind → Type 0
@@ -56,3 +60,13 @@ WhatHoldsSolves =
     (x : List ℕ)
     × Solves (system P d earlier task scale) (map pos x) (pos t)
     × (let s = system P d earlier task scale in dot s.weights (map pos x) ≡ pos (weight P d (solving task sigs hints)))
+
+-- So the system of a task that is tried is solved by what holds, and by nothing else.
+abbrev pub SystemsGenerate : Type 0
+SystemsGenerate = (P : Program) → IsOrdered P → (d : ℕ) (pick : List ℤ → ℤ → Option ℕ) → Generates (analysis_of P d pick)
+
+-- Whether its walks are small enough is told as the limits say.
+abbrev pub LimitsAreTold : Type 0
+LimitsAreTold =
+    (P : Program) (d : ℕ) (task : Task) →
+    IsTrue ((generator_of P d).within task) ↔ All (λ f. FunctionWithin 2000 (slice_get P.funs f) (budget_of d task.kind)) (members P task.group)
