@@ -59,7 +59,15 @@ pub fn rows(
         IsCause (program_in program.now) d blocks (task_of task.now) (unsigned_abs scale) fault) }
 {
     match plans(alloc, program, d, earlier, task) {
-        Ok(plans) => rows_by(alloc, program, d, earlier, task, scale, &plans),
+        Ok(plans) => rows_by(
+            alloc,
+            program,
+            d,
+            earlier,
+            task,
+            scale.unsigned_abs(),
+            &plans,
+        ),
         Err(fault) => Err(fault),
     }
 }
@@ -90,32 +98,23 @@ pub fn rows_by(
     d: u8,
     earlier: &Earlier,
     task: &Task,
-    scale: i128,
+    scale: u128,
     plans: &[Body],
 ) -> Result<System, GenFault>
     requires budget { budget_of d (kind_of task.now.kind) ≤ 4 }
-    requires natural { pos 0 ≤ℤ scale }
     requires indices { IsWithin (program_in program.now) d (task_of task.now) }
     ensures made { IfOk result (λ made. (blocks : List c.Block) → Remembers (program_in program.now) d blocks earlier.now →
         map body_of plans.now ≡ bodies_of (program_in program.now) d blocks (task_of task.now) →
-        IsTask (program_in program.now) d blocks (task_of task.now) (unsigned_abs scale) →
-        IsMade (program_in program.now) d blocks (task_of task.now) (unsigned_abs scale) made) }
+        IsTask (program_in program.now) d blocks (task_of task.now) scale →
+        IsMade (program_in program.now) d blocks (task_of task.now) scale made) }
     ensures fault { IfErr result (λ fault. (blocks : List c.Block) → Remembers (program_in program.now) d blocks earlier.now →
         map body_of plans.now ≡ bodies_of (program_in program.now) d blocks (task_of task.now) →
-        IsTask (program_in program.now) d blocks (task_of task.now) (unsigned_abs scale) →
-        IsCause (program_in program.now) d blocks (task_of task.now) (unsigned_abs scale) fault) }
+        IsTask (program_in program.now) d blocks (task_of task.now) scale →
+        IsCause (program_in program.now) d blocks (task_of task.now) scale fault) }
 {
     // a walk that pays no prices reads no signature that pays
     walks_without_cost();
-    of_plans(
-        alloc,
-        program,
-        d,
-        earlier,
-        task,
-        scale.unsigned_abs(),
-        plans,
-    )
+    of_plans(alloc, program, d, earlier, task, scale, plans)
 }
 
 // The system, where these are the bodies.
