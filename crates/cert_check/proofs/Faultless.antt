@@ -44,20 +44,20 @@ pub refusal_tells : (P : Program) (c : Certificate) (done : List Outcome) → Is
 refusal_tells P c done r e = let h : true ≡ false = sym r.is_large ∙ none_in (schedule P c) 0 P.groups e r.task.group in cc
 
 -- what is left where a test has no fault
-passed : (good : Type 0) (fault : Fault) (A : Type 0) → Unless good (Some fault) None A → good × A
+pub passed : (good : Type 0) (fault : Fault) (A : Type 0) → Unless good (Some fault) None A → good × A
 passed good fault A (inl h) = h
 passed good fault A (inr h) = absurd (none-some fault h.1)
 
 module _ (P : Program) (c : Certificate) where
-  goes_on : (earlier : List Block) (A : Type 0) → Unless (GoesOn P c earlier) (refusal P c) None A → A
-  goes_on earlier A (inl h) = h.1
+  pub goes_on : (earlier : List Block) (A : Type 0) → Unless (GoesOn P c earlier) (refusal P c) None A → GoesOn P c earlier × A
+  goes_on earlier A (inl h) = h
   goes_on earlier A (inr h) = absurd (h.0 (λ r. refusal_tells P c (map outcome earlier) r (none_of (large_from (schedule P c) 0 P.groups) (sym h.1)))) where
     none_of : (o : Option Task) → option_map TooLarge o ≡ None → o ≡ None
     none_of None e = refl
     none_of (Some t) e = absurd (none-some (TooLarge t) (sym e))
 
   -- what is found in a list of blocks without fault
-  blocks_pass : (earlier bs : List Block) → BlocksFind P c earlier bs None →
+  pub blocks_pass : (earlier bs : List Block) → BlocksFind P c earlier bs None →
       ((k : ℕ) (b : Block) → slice_get bs k ≡ Some b → BlockFinds P c (earlier ++ take k bs) b None) × EndFinds P c (earlier ++ bs) None
   blocks_pass earlier [] h = (λ k b e. absurd (none-some b e), subst (λ bs. EndFinds P c bs None) (sym (append-nil earlier)) h)
   blocks_pass earlier (b ∷ bs) (inl h) = by (blocks_pass (earlier ++ b ∷ []) bs h.1) where
@@ -72,7 +72,7 @@ module _ (P : Program) (c : Certificate) where
       each (suc k) d e = subst (λ xs. BlockFinds P c xs d None) (same (take k bs)) (r.0 k d e)
   blocks_pass earlier (b ∷ bs) (inr h) = absurd (none-some h.0 h.2)
 
-  none_at : (number : ℕ) (o : Option f.Fault) → None ≡ option_map (at_block number) o → o ≡ None
+  pub none_at : (number : ℕ) (o : Option f.Fault) → None ≡ option_map (at_block number) o → o ≡ None
   none_at number None e = refl
   none_at number (Some x) e = absurd (none-some (at_block number x) e)
 
@@ -84,7 +84,7 @@ module _ (P : Program) (c : Certificate) where
     -- a block in which nothing is found stands in its place
     in_place : (place : ℕ) (b : Block) → BlockFinds P c (before c place) b None → IsInPlace P c place b
     in_place place b h =
-        let scheduled = passed _ _ _ (goes_on (before c place) _ h) in
+        let scheduled = passed _ _ _ (goes_on (before c place) _ h).1 in
         by b.task b.body scheduled.0.task scheduled.0.waits scheduled.1 where
           by : (task : Task) (body : Body) → next_after P c (before c place) ≡ Some task → NamesBlocker (blocker_of P task (map outcome (before c place))) body → BodyFinds P c (before c place) task body None →
               IsInPlace P c place (record { task = task; body = body })
@@ -125,5 +125,5 @@ no_fault_is_held P proper c h =
       most_degree = head.0.most;
       scales = λ meter. scale c head.0 meter;
       blocks = λ place b e. in_place P c proper place b (all.0 place b e);
-      ended = (passed _ _ _ (goes_on P c c.blocks _ all.1)).0;
+      ended = (passed _ _ _ (goes_on P c c.blocks _ all.1).1).0;
     }

@@ -94,22 +94,22 @@ before_once (Free budget f target) bs = refl
 before_once (k.With meter) bs = raised_once meter bs
 
 module _ (P : Program) (proper : IsProper P) (d : ℕ) (earlier : List Block) (task : Task) (scale : ℕ) (sigs : List Sig) where
-  abbrev group : List ℕ
+  abbrev pub group : List ℕ
   group = members P task.group
 
-  abbrev budget : ℕ
+  abbrev pub budget : ℕ
   budget = budget_of d task.kind
 
-  abbrev here : Setting
+  abbrev pub here : Setting
   here = record { program = P; earlier = earlier; group = group; sigs = sigs; budget = budget; scale = scale }
 
-  abbrev J : Job
+  abbrev pub J : Job
   J = job_of P d earlier task scale
 
-  abbrev body : Option NormFun → t.Body
+  abbrev pub body : Option NormFun → t.Body
   body o = body_of P group earlier budget o
 
-  abbrev bodies : List ℕ → List t.Body
+  abbrev pub bodies : List ℕ → List t.Body
   bodies fs = map (λ f. body (slice_get P.funs f)) fs
 
   side_is : (o : Option NormFun) (s : Sig) →
@@ -128,21 +128,21 @@ module _ (P : Program) (proper : IsProper P) (d : ℕ) (earlier : List Block) (t
   count (f ∷ fs) [] h = absurd h
   count (f ∷ fs) (s ∷ ss) h = ap suc (count fs ss h.2)
 
-  abbrev whole : List (n.Sides Amount)
+  abbrev pub whole : List (n.Sides Amount)
   whole = group_from here group sigs
 
   module _ (fit : SigsFit (bodies group) sigs) where
     reads : Reads here whole (free_from here) (cost_from here)
     reads = reads_there here (count group sigs fit)
 
-    abbrev given : NormFun → List Hint → List (n.Hint Amount)
+    abbrev pub given : NormFun → List Hint → List (n.Hint Amount)
     given g hs = hints_at (asked (body (Some g)).plan) hs
 
     -- one function, with its signature at its place and its hints
     module _ (place f : ℕ) (g : NormFun) (there : slice_get P.funs f ≡ Some g) (s : Sig) (hs : List Hint)
         (within : Within (body (Some g)).args s.args × Within (body (Some g)).result s.result) (fits : FitAsks (asked (body (Some g)).plan) hs)
         (at : slice_index_or whole place (record { args = []; result = [] }) ≡ sides (signature (Some g) budget (Some s))) where
-      tells : Tells (walk (amounts 1) (known_in here whole (free_from here) (cost_from here)) (body (Some g)).plan (mode_of task.kind) (place ∷ [])
+      pub tells : Tells (walk (amounts 1) (known_in here whole (free_from here) (cost_from here)) (body (Some g)).plan (mode_of task.kind) (place ∷ [])
           (sides (signature (Some g) budget (Some s))).args (sides (signature (Some g) budget (Some s))).result (given g hs))
           (Ann here (mode_of task.kind) budget g.params (annotation s.args) g.body g.result (annotation s.result) hs [])
       tells = rules_are_conditions here whole (free_from here) (cost_from here) reads g.body (mode_of task.kind) budget g.params g.result
@@ -152,7 +152,7 @@ module _ (P : Program) (proper : IsProper P) (d : ℕ) (earlier : List Block) (t
           (fitting_answer (asked (body (Some g)).plan) hs fits)
 
       -- the conditions where its signature is found
-      abbrev found_with : n.Sides Amount → List (Condition Amount)
+      abbrev pub found_with : n.Sides Amount → List (Condition Amount)
       found_with x = (walk (amounts 1) (known_by J whole) (body (Some g)).plan J.mode (place ∷ []) x.args x.result (given g hs)).found
 
       function_holds : AllMeet (of_body (amounts 1) J whole place (body (Some g)) (given g hs)).found → FunctionHolds here (mode_of task.kind) f s hs
@@ -164,7 +164,7 @@ module _ (P : Program) (proper : IsProper P) (d : ℕ) (earlier : List Block) (t
         fits = tells.from (subst (λ x. AllMeet (found_with x)) at m);
       }
 
-    abbrev none : n.Sides Amount
+    abbrev pub none : n.Sides Amount
     none = record { args = []; result = [] }
 
     pub functions_hold : (place : ℕ) (fs : List ℕ) (ss : List Sig) (hss : List (List Hint)) → AllThere P fs → SigsFit (bodies fs) ss → HintsFit (bodies fs) hss →

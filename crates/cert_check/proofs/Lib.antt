@@ -1,6 +1,9 @@
 pub mod SameCalls
 pub mod OneFault
 pub mod Fitting
+pub mod Fitted
+pub mod Alone
+pub mod Exactly
 pub mod Faultless
 pub mod Comparing
 pub mod Ended

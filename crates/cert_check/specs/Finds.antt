@@ -73,9 +73,13 @@ abbrev pub at_block : ℕ → f.Fault → Fault
 at_block number (f.Leaves path index) = Leaves number path index
 at_block number (f.Fails path index) = Fails number path index
 
--- the first condition of the bodies that is not met, or whose totals leave 127 bits
+-- the conditions of the bodies
+abbrev pub job_conditions : Job → List Sig → List (List Hint) → List (n.Condition Amount)
+job_conditions j sigs hints = of_bodies (amounts 1) j (sides_at j.bodies sigs) 0 j.bodies (all_hints_at j.bodies hints)
+
+-- the first of these that is not met, or whose totals leave 127 bits
 abbrev pub job_fault : Job → List Sig → List (List Hint) → Option f.Fault
-job_fault j sigs hints = first_fault (of_bodies (amounts 1) j (sides_at j.bodies sigs) 0 j.bodies (all_hints_at j.bodies hints))
+job_fault j sigs hints = first_fault (job_conditions j sigs hints)
 
 -- The first position, from this one on, at which the target has its tuple and the annotation has no number; 0 where there is none.
 abbrev pub missing_from : ℕ → Annotation → Target → List (List Plain) → ℕ

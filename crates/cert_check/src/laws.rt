@@ -1,5 +1,5 @@
 // Laws of faults: each is the contract of a function that does nothing.
-ghost use Rattle.cert_check.specs.Laws.{NoFaultIsHeld, OneFirstFault};
+ghost use Rattle.cert_check.specs.Laws.{FaultlessExactly, HeldLeavesAlone, NoFaultIsHeld, OneFirstFault};
 
 /// There is one first fault, or none.
 pub fn one_first_fault()
@@ -9,4 +9,14 @@ pub fn one_first_fault()
 /// A certificate without fault is held.
 pub fn no_fault_is_held()
     ensures { NoFaultIsHeld }
+{}
+
+/// A certificate that is held and small has no fault but a total that leaves 127 bits.
+pub fn held_leaves_alone()
+    ensures { HeldLeavesAlone }
+{}
+
+/// A certificate has no fault exactly where it is held and small, and no total leaves 127 bits.
+pub fn faultless_exactly()
+    ensures { FaultlessExactly }
 {}

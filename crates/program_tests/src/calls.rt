@@ -12,7 +12,7 @@ use value_text::DataFault;
 
 const FIRST: &[u8] = b"fun main (x : int) : int = tick 3 in x";
 
-const FIRST_REPORT: &[u8] = b"main ticks <= 3\nmain cells <= 0\n";
+const FIRST_REPORT: &[u8] = b"main ticks <= 3\nmain cells <= 0\nmain work <= 3\n";
 
 pub const ANALYSE: [&str; 4] = ["analyse", "f.raml", "--degree", "1"];
 
@@ -71,18 +71,21 @@ pub fn answer_on(
 fn sources_have_their_reports_and_refusals(rt: HostRuntime) -> Result<(), Fail> {
     let alloc = rt.alloc();
     let cases: [(&[u8], &str); 14] = [
-        (FIRST, "0 main ticks <= 3\nmain cells <= 0\n"),
+        (
+            FIRST,
+            "0 main ticks <= 3\nmain cells <= 0\nmain work <= 3\n",
+        ),
         (
             b"fun f(a:int,b:int):int=tick 1000000 in tick 1 in b",
-            "0 f ticks <= 1000001\nf cells <= 0\n",
+            "0 f ticks <= 1000001\nf cells <= 0\nf work <= 4\n",
         ),
         (
             b" fun (* a (* b *) *) f' (x : int)\n: int =\r\n\ttick 007 in x (**)",
-            "0 f' ticks <= 7\nf' cells <= 0\n",
+            "0 f' ticks <= 7\nf' cells <= 0\nf' work <= 3\n",
         ),
         (
             b"fun f (x : int) : int = tick 0 in 9223372036854775807",
-            "0 f ticks <= 0\nf cells <= 0\n",
+            "0 f ticks <= 0\nf cells <= 0\nf work <= 3\n",
         ),
         (b"", "4 raml: source: syntax at 0\n"),
         (b"\xff", "4 raml: source: not utf-8 at 0\n"),
@@ -144,7 +147,8 @@ run f.raml main d --cells 0 => value
 run --cells=16777216 f.raml main d --steps=2 => stopped
 run f.raml main d --cells 16777217 => usage
 run f.raml main d --cells 1 --cells 1 => usage
-run f.raml main d --degree 1 => later
+run f.raml main d --degree 1 => bounded
+run f.raml main d --degree 1 --steps 2 => cut
 run f.raml main d --degree 0 => usage
 analyse f.raml --degree=2 => bounds
 analyse f.raml --degree 04 => bounds
@@ -153,13 +157,14 @@ analyse  --degree 1 => unread
 analyse - --degree 1 => usage
 analyse f.raml --degree 1 --pivot greatest => bounds
 analyse f.raml --degree 1 --pivot best => usage
-certify f.raml --degree 1 => later
-certify g.raml --degree 1 --pivot=least => later
+certify f.raml --degree 1 => certificate
+certify f.raml --pivot=greatest --degree=1 => certificate
+certify g.raml --degree 1 --pivot=least => unread
 certify f.raml => usage
-verify f.raml d => later
+verify f.raml d => no certificate
+verify f.raml g => no file
 verify f.raml => usage
-trial 1 => later
-trial 100 => later
+trial 1 => trial
 trial 101 => usage
 run f.raml main => usage
 run f.raml main d d => usage
@@ -172,6 +177,24 @@ run f.raml nope f => nameless
 run f.raml main f.raml => no arguments
 => usage";
 
+const BOUNDED: &str =
+    "0 value 5\nticks 3\ncells 0\ninstructions 3\nticks bound 3\ncells bound 0\nwork bound 3\n";
+
+const CUT: &str =
+    "10 stopped\nticks 3\ncells 0\ninstructions 2\nticks bound 3\ncells bound 0\nwork bound 3\n";
+
+const CERTIFICATE: &str = "0 {\"blocks\":[{\"budget\":0,\"function\":0,\"group\":0,\"hints\":[[]],\"kind\":\"free\",\"sigs\":[[[[0,\"1\"]],[[0,\"1\"]]]],\"target\":0},{\"group\":0,\"hints\":[[]],\"kind\":\"ticks\",\"sigs\":[[[[0,\"3\"]],[]]]},{\"group\":0,\"hints\":[[]],\"kind\":\"cells\",\"sigs\":[[[],[]]]},{\"group\":0,\"hints\":[[]],\"kind\":\"work\",\"sigs\":[[[[0,\"3\"]],[]]]}],\"degree\":1,\"scale\":{\"cells\":\"1\",\"ticks\":\"1\",\"work\":\"1\"},\"version\":2}\n";
+
+const TRIAL: &str = "0 functions 2
+c1 ticks <= 0
+c1 cells <= 1*<[_]>
+c1 work <= 7 + 7*<[_]>
+value [1, 2, 3, 4, 5, 6, 7, 8, 9, 10]
+ticks 0
+cells 10
+instructions 108
+";
+
 #[test]
 fn words_have_their_answers(rt: HostRuntime) -> Result<(), Fail> {
     let alloc = rt.alloc();
@@ -180,7 +203,13 @@ fn words_have_their_answers(rt: HostRuntime) -> Result<(), Fail> {
             return Err(Fail::from("a line without an answer"));
         };
         let want = match answers {
-            "bounds" => "0 main ticks <= 3\nmain cells <= 0\n",
+            "bounds" => "0 main ticks <= 3\nmain cells <= 0\nmain work <= 3\n",
+            "bounded" => BOUNDED,
+            "cut" => CUT,
+            "certificate" => CERTIFICATE,
+            "trial" => TRIAL,
+            "no certificate" => "7 raml: certificate: shape in head\n",
+            "no file" => "2 raml: cannot read certificate\n",
             "types" => "0 main (int) : int\n",
             "code" => "0 fun main\n0 Tick 3\n1 Load 0\n2 Return\n",
             "value" => "0 value 5\nticks 3\ncells 0\ninstructions 3\n",
@@ -190,7 +219,6 @@ fn words_have_their_answers(rt: HostRuntime) -> Result<(), Fail> {
             "unspelled" => "4 raml: source: syntax at 0\n",
             "no arguments" => "5 raml: data: shape at 0\n",
             "nameless" => "6 raml: no function\n",
-            "later" => "20 raml: not built\n",
             _ => "1 raml: usage\n",
         };
         let words: Vec<&str> = words.trim_end_matches(' ').split(' ').collect(alloc)?;
@@ -286,7 +314,10 @@ fn a_source_has_a_limit(rt: HostRuntime) -> Result<(), Fail> {
         source.push(b' ')?;
     }
     let found = answer(alloc, &ANALYSE, &source)?;
-    assert_eq!(rt; found.as_str(), "0 main ticks <= 3\nmain cells <= 0\n");
+    assert_eq!(rt;
+        found.as_str(),
+        "0 main ticks <= 3\nmain cells <= 0\nmain work <= 3\n"
+    );
     source.push(b' ')?;
     let found = answer(alloc, &ANALYSE, &source)?;
     assert_eq!(rt; found.as_str(), "3 raml: too long: program\n");

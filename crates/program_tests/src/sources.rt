@@ -373,18 +373,18 @@ fn straight_functions_have_their_bounds(rt: HostRuntime) -> Result<(), Fail> {
             return Err(Fail::from("a line without an answer"));
         };
         let mut want = String::new(rt.alloc());
-        write!(want, "0 f ticks <= {ticks}\nf cells <= 0\n")?;
+        write!(want, "0 f ticks <= {ticks}\nf cells <= 0\nf work <= ")?;
         let found = answer(rt.alloc(), &ANALYSE, source.as_bytes())?;
-        assert_eq!(rt; found.as_str(), want.as_str(), "at {line}");
+        assert!(rt; found.as_str().starts_with(want.as_str()), "at {line}");
     }
     Ok(())
 }
 
 #[test]
-fn other_programs_are_not_analysed(rt: HostRuntime) -> Result<(), Fail> {
+fn other_programs_are_analysed(rt: HostRuntime) -> Result<(), Fail> {
     for line in OTHER.lines() {
         let found = answer(rt.alloc(), &ANALYSE, line.as_bytes())?;
-        assert_eq!(rt; found.as_str(), "20 raml: not built\n", "at {line}");
+        assert!(rt; found.as_str().starts_with("0 f ticks "), "at {line}");
         let found = answer(rt.alloc(), &["run", "f.raml", "nope", "d"], line.as_bytes())?;
         assert_eq!(rt; found.as_str(), "6 raml: no function\n", "at {line}");
     }
