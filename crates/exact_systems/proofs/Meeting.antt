@@ -1,24 +1,21 @@
 -- What solves the system of a task meets its conditions, with the blocks of its meter and its scale raised.
 use Rattle.std.proofs.Common.{◌≡◌, refl, ap, sym, ◌∙◌, arith, subst}
-use Rattle.std.specs.Prelude.{ℕ, suc, ◌*◌, ◌<◌, cond, true, ℤ, pos, List, [], ◌∷◌, ◌++◌, map, length, Option, None, Some}
-use Rattle.linear_rows.specs.Systems.{LinearSystem, Solves}
+use Rattle.std.specs.Prelude.{ℕ, ◌*◌, ◌<◌, cond, pos, List, map, length}
+use Rattle.linear_rows.specs.Systems.{Solves}
 use Rattle.cost_free.specs.declared.task.Meter.{Meter}
 use Rattle.cost_free.specs.Task as k
 use Rattle.cost_free.specs.Task.{Task, Kind, Free}
-use Rattle.cost_free.specs.Blocked.{is_for_meter}
 use Rattle.annot_types.specs.Program.{Program, members}
 use Rattle.annot_types.specs.Certificate.{Block}
-use Rattle.annot_types.specs.Rules.{Mode, With, Own}
-use Rattle.annot_types.specs.Holds.{mode_of, budget_of, raised, blocks_before}
-use Rattle.annot_types.specs.Laws.{raised_scale}
+use Rattle.annot_types.specs.Rules.{With, Own}
+use Rattle.annot_types.specs.Holds.{raised, blocks_before}
 use Rattle.annot_types.specs.System.{unsigned, system}
 use Rattle.annot_types.proofs.Raised.{same_self}
-use Rattle.walk_rules.specs.Numbers.{Sides, Hint}
-use Rattle.walk_rules.specs.Kinds.{Amount, amounts, AllMeet}
-use Rattle.walk_rules.specs.Tasks.{Body, Job, unknowns, of_bodies, of_target, sides_count, sides_given, hints_given, given_conditions}
+use Rattle.walk_rules.specs.Kinds.{amounts, AllMeet}
+use Rattle.walk_rules.specs.Tasks.{Job, unknowns, of_bodies, of_target, sides_count, sides_given, hints_given}
 use Rattle.walk_rules.specs.Jobs.{job_of}
-use Rattle.walk_rules.specs.Solving.{system_of, amount}
-use Rattle.walk_rules.specs.Systems.{IsTask, AreReady}
+use Rattle.walk_rules.specs.Solving.{amount}
+use Rattle.walk_rules.specs.Systems.{IsTask}
 use Rattle.walk_rules.proofs.Agreed.{meet_append, meet_front, meet_back}
 use Rattle.walk_rules.proofs.Solving.{rows_are_conditions}
 use Rattle.walk_rules.proofs.TaskRows.{systems_are_walked}
@@ -57,9 +54,11 @@ module _ (P : Program) (d : ℕ) (earlier : List Block) (group scale t : ℕ) (x
   raised_task (Free budget f number) h =
       (ready_kept (unsigned P d earlier (task (Free budget f number)) scale) (unsigned P d earlier (task (Free budget f number)) (scale * t)) Own refl (λ f h. tt) (members P group) h.0, h.1)
   raised_task (k.With meter) h =
-      let later = map (raised meter t) earlier in
-      (ready_kept (unsigned P d earlier (task (k.With meter)) scale) (unsigned P d later (task (k.With meter)) (scale * t)) (With meter) refl
-      (λ f paid none. cost_raised P t meter earlier later (blocks_raised t P meter earlier) f (paid none)) (members P group) h.0, h.1)
+      let later = map (raised meter t) earlier in (
+        ready_kept (unsigned P d earlier (task (k.With meter)) scale) (unsigned P d later (task (k.With meter)) (scale * t)) (With meter) refl
+            (λ f paid none. cost_raised P t meter earlier later (blocks_raised t P meter earlier) f (paid none)) (members P group) h.0,
+        h.1,
+      )
 
   -- the system over the raised blocks
   raised_is : (meter : Meter) → 0 < t → system P d (map (raised meter t) earlier) (task (k.With meter)) (scale * t) ≡ times_right t (system P d earlier (task (k.With meter)) scale)

@@ -1,20 +1,18 @@
 -- The tuples of a target have positions, wherever its degree fits.
 use Rattle.std.proofs.Common.{◌≡◌, refl, ap, sym, ◌∙◌, arith, inl, inr, ⊎_elim, subst}
-use Rattle.std.specs.Prelude.{ℕ, zero, suc, ◌+◌, ◌<◌, ◌≤◌, ◌⊎◌, ◌&&◌, nat_eq, nat_lt, Bool, true, false, cond, List, [], ◌∷◌, ◌++◌, map, flat_map, filter, take, length, position, slice_get, slice_index_or, Option, None, Some, IsSome}
+use Rattle.std.specs.Prelude.{ℕ, zero, suc, ◌+◌, ◌<◌, ◌≤◌, ◌⊎◌, ◌&&◌, nat_eq, nat_lt, Bool, true, false, cond, List, [], ◌∷◌, ◌++◌, map, flat_map, take, length, position, slice_get, None, Some, IsSome}
 use Rattle.std.specs.List.{All}
 use Rattle.std.specs.Ordering.{is_lt}
 use Rattle.std.proofs.lemmas.Bool.Decides.{nat_tests}
 use Rattle.std.proofs.lemmas.List.Elements.{All-nil, All-cons}
 use Rattle.std.proofs.lemmas.Option.{slice_get-get_or}
 use Rattle.raml_syntax.specs.Tree.{Type', Integer, Boolean, PairOf, ListOf, TreeOf, OptionOf}
-use Rattle.base_poly.specs.Plain.{Plain, End, Then, many, entries_of, deg, degrees, alike}
-use Rattle.base_poly.specs.Indices.{IsIndex, AreIndices, zero_of, index_list}
-use Rattle.base_poly.specs.Laws.{cuts}
-use Rattle.base_poly.proofs.Among.{Among, among_contains, contains_among, among_either, among_kept, among_mapped, among_part}
+use Rattle.base_poly.specs.Plain.{Plain, entries_of, deg, degrees, alike}
+use Rattle.base_poly.specs.Indices.{IsIndex, AreIndices, index_list}
+use Rattle.base_poly.proofs.Among.{Among, among_contains, among_either, among_kept, among_mapped, among_part}
 use Rattle.base_poly.proofs.Exact.{exact}
-use Rattle.base_poly.proofs.Longer.{zero_is_index, zero_degree}
 use Rattle.index_shift.proofs.Spots.{got_among, position_there}
-use Rattle.cost_free.specs.Target.{Target, degree_of, unit_targets, components, Holder, holder_at, holders, subsets, hold, have_one_element, can_join, same_type, joined_sets, pieces, piece_at, piece_or_zero, filled}
+use Rattle.cost_free.specs.Target.{Target, degree_of, unit_targets, components, Holder, holder_at, holders, subsets, hold, have_one_element, can_join, same_type, joined_sets, pieces, piece_at, filled}
 use Rattle.cost_free.specs.Target.{Joined, joined, cut_lists, joined_over, joined_order, put, in_order, joined_targets, targets}
 use Rattle.courses.proofs.Lists.{some_is, length_map}
 use Rattle.exact_systems.proofs.Filled.{degree, degree_all, AllIndices, AllAll, entries_index, are_pieces, Fits, size_of, sum_from, AllFit, piece, filled_fits}

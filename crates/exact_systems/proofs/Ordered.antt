@@ -1,7 +1,7 @@
 -- The normal form of a typed program, with its groups, is ordered.
 use Rattle.std.proofs.Common.{◌≡◌, refl, ap, sym, ◌∙◌, arith, inl, inr, ⊎_elim, subst}
-use Rattle.std.specs.Prelude.{ℕ, zero, suc, ◌+◌, ◌<◌, ◌⊎◌, ◌||◌, ◌&&◌, not, nat_eq, Bool, true, false, cond, List, [], ◌∷◌, ◌++◌, map, take, length, slice_get, slice_index_or, Option, None, Some}
-use Rattle.std.specs.List.{Contains, list_any, filter, range_with_len}
+use Rattle.std.specs.Prelude.{ℕ, zero, suc, ◌<◌, ◌⊎◌, ◌||◌, ◌&&◌, nat_eq, Bool, true, false, cond, List, [], ◌∷◌, ◌++◌, map, take, length, slice_get, slice_index_or, Option, None, Some}
+use Rattle.std.specs.List.{Contains, filter, range_with_len}
 use Rattle.std.specs.Option.{unwrap_or}
 use Rattle.std.proofs.lemmas.Bool.Decides.{nat_tests}
 use Rattle.std.proofs.lemmas.List.Elements.{Contains-append_cases}
@@ -14,14 +14,13 @@ use Rattle.normal_form.specs.Two.{norm_fun, norm}
 use Rattle.normal_form.specs.Uses.{Uses}
 use Rattle.normal_form.proofs.Keep.{normal_forms_keep}
 use Rattle.call_groups.specs.Calls.{is_called, calls_from, calls, callees, calls_of}
-use Rattle.call_groups.specs.Groups.{Reaches, here, there, Ascends, ComesNext, AreInOrder}
+use Rattle.call_groups.specs.Groups.{here, there, Ascends, AreInOrder}
 use Rattle.call_groups.proofs.Leads.{reaches_low, reaches_more}
 use Rattle.cost_free.specs.declared.task.Meter.TheVariants.{Ticks}
-use Rattle.cost_free.specs.Task.{With, Task, Outcome}
+use Rattle.cost_free.specs.Task.{With, Task}
 use Rattle.cost_free.specs.Blocked.{is_among, row, in_any, blocks, blocked}
 use Rattle.cost_free.specs.Laws.{BlockersAreLeast}
-use Rattle.annot_types.specs.Program.{Program, members, called_in}
-use Rattle.amortised_bounds.specs.Laws.{normal_of}
+use Rattle.annot_types.specs.Program.{called_in}
 use Rattle.courses.proofs.Lists.{length_map, map_get, map_inv}
 use Rattle.tried_tasks.specs.Laws.{AreApart}
 use Rattle.cert_check.proofs.SameCalls.{same_blocker}

@@ -1,6 +1,6 @@
 -- What solves the system of a task holds, and what holds solves it.
 use Rattle.std.proofs.Common.{◌≡◌, refl, ap, sym, ◌∙◌, subst}
-use Rattle.std.specs.Prelude.{ℕ, ◌+◌, ◌-◌, ◌*◌, ◌<◌, ℤ, pos, List, [], ◌∷◌, ◌++◌, map, length, replicate, slice_get, slice_index_or, position, Option, None, Some, IsSome}
+use Rattle.std.specs.Prelude.{ℕ, ◌-◌, ◌*◌, ◌<◌, pos, List, [], ◌∷◌, map, length, slice_get, slice_index_or, position, Some, IsSome}
 use Rattle.std.specs.List.{All}
 use Rattle.std.specs.Option.{unwrap_or}
 use Rattle.std.proofs.lemmas.Option.{get_or_from_slice_get}
@@ -17,13 +17,12 @@ use Rattle.annot_types.specs.Certificate as c
 use Rattle.annot_types.specs.Certificate.{annotation, Sig, Block}
 use Rattle.annot_types.specs.Rules.{own_sig}
 use Rattle.annot_types.specs.Rows.{size as size_of}
-use Rattle.annot_types.specs.Holds.{mode_of, budget_of, blocks_before, FunctionsHold, CoversTarget, Reaches, ReachesTarget, Holds}
+use Rattle.annot_types.specs.Holds.{mode_of, blocks_before, FunctionsHold, CoversTarget, Reaches, ReachesTarget, Holds}
 use Rattle.annot_types.specs.Least.{solving, weight}
 use Rattle.annot_types.specs.System.{weights_of_sigs, at_zero, system}
-use Rattle.walk_rules.specs.Numbers.{Sides}
-use Rattle.walk_rules.specs.Kinds.{Amount, amounts, AllMeet}
-use Rattle.walk_rules.specs.Tasks.{Body, of_target, sides_given}
-use Rattle.walk_rules.specs.Jobs.{positions, positions_of, target_place}
+use Rattle.walk_rules.specs.Kinds.{amounts, AllMeet}
+use Rattle.walk_rules.specs.Tasks.{of_target, sides_given}
+use Rattle.walk_rules.specs.Jobs.{positions, positions_of}
 use Rattle.walk_rules.specs.Solving.{amount}
 use Rattle.walk_rules.specs.Stand.{Stands, SidesStand}
 use Rattle.walk_rules.specs.Systems.{IsTask}

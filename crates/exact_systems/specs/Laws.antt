@@ -1,11 +1,11 @@
 -- What solves the system of a task holds, and what holds solves it.
-use Rattle.std.specs.Prelude.{◌≡◌, ◌<◌, ℕ, ℤ, pos, List, [], ◌∷◌, map, length, slice_get, position, Option, Some, IsSome, IsTrue, ◌↔◌}
+use Rattle.std.specs.Prelude.{◌≡◌, ◌<◌, ℕ, ℤ, pos, List, [], ◌∷◌, map, slice_get, position, Option, Some, IsSome, IsTrue, ◌↔◌}
 use Rattle.std.specs.List.{All}
 use Rattle.raml_syntax.specs.Tree.{Function, Prog}
 use Rattle.raml_syntax.specs.Types.{Typed}
 use Rattle.raml_syntax.specs.Node.{AllNodes, NumberFits}
 use Rattle.call_groups.specs.Groups.{Grouping, IsGrouping}
-use Rattle.base_poly.specs.Plain.{Plain, alike}
+use Rattle.base_poly.specs.Plain.{alike}
 use Rattle.base_poly.specs.Indices.{index_list}
 use Rattle.normal_form.specs.Norm.{NormFun}
 use Rattle.linear_rows.specs.Vectors.{dot}
