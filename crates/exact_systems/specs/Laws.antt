@@ -39,7 +39,7 @@ IsNumbered P d (k.With meter) = Unit {0}
 abbrev pub told : Program → ℕ → List Block → Task → List ℕ → Block
 told P d earlier task x = solving task (sigs_told (bodies_of P d earlier task) x) (hints_told (bodies_of P d earlier task) x)
 
--- Each solution x over t stands for signatures and hints that hold with t, and its weighted sum is theirs.
+-- Each solution x over t stands for signatures and hints that hold with t.
 abbrev pub SolutionsHold : Type 0
 SolutionsHold =
     (P : Program) (d : ℕ) (earlier : List Block) (task : Task) (scale t : ℕ) (x : List ℕ) →
