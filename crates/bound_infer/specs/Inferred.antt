@@ -4,9 +4,6 @@ use Rattle.cost_free.specs.Task.{Task}
 use Rattle.cost_free.specs.Read.{task_of}
 use Rattle.annot_types.specs.Program.{Program}
 use Rattle.annot_types.specs.Certificate.{Block, Certificate}
-use Rattle.constraint_gen.specs.declared.fault.What.{What}
-use Rattle.constraint_gen.specs.declared.fault.What.TheVariants.{Indices, Unknowns, Rows}
-use Rattle.courses.specs.Generator as g
 use Rattle.courses.specs.Generator.{Analysis}
 use Rattle.courses.specs.Places as p
 use Rattle.courses.specs.Courses.{EndsAt}
@@ -16,6 +13,7 @@ use Rattle.cert_check.specs.Finds.{FirstFault}
 use Rattle.cert_check.specs.Read.{fault_of}
 use Rattle.exact_systems.specs.Analysed.{generator_of}
 use Rattle.bound_infer.specs.After.{ComesTo}
+pub use Rattle.bound_infer.specs.Told.{what_of}
 use Rattle.bound_infer.specs.Told.{told_of}
 use Rattle.bound_infer.specs.declared.leaves.LeavesAt.{LeavesAt}
 use Rattle.bound_infer.specs.declared.leaves.LeavesAt.TheVariants.{Solve, Row, Scale, Rescale, Check, Refute, Least}
@@ -23,11 +21,6 @@ use Rattle.bound_infer.specs.declared.refusal.InferFault.{InferFault}
 use Rattle.bound_infer.specs.declared.refusal.InferFault.TheVariants as i
 use Rattle.bound_infer.specs.declared.refusal.VerifyFault.{VerifyFault}
 use Rattle.bound_infer.specs.declared.refusal.VerifyFault.TheVariants as r
-
-abbrev pub what_of : What → g.What
-what_of Indices = g.Indices
-what_of Unknowns = g.Unknowns
-what_of Rows = g.Rows
 
 -- The course of the analysis ends in this certificate, and the check finds no fault in it.
 pub record IsInferred (A : Analysis) (c : Certificate) : Type 0 where

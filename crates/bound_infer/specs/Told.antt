@@ -4,12 +4,20 @@ use Rattle.base_poly.specs.Poly.{den_of, terms_of, IsPoly}
 use Rattle.cost_free.specs.Task.{Task}
 use Rattle.cost_free.specs.Read.{task_of}
 use Rattle.annot_types.specs.Held as c
+use Rattle.constraint_gen.specs.declared.fault.What.{What}
+use Rattle.constraint_gen.specs.declared.fault.What.TheVariants.{Indices, Unknowns, Rows}
+use Rattle.courses.specs.Generator as g
 use Rattle.courses.specs.Places as p
 use Rattle.courses.specs.Places.{Place}
 use Rattle.bound_infer.specs.declared.leaves.LeavesAt.{LeavesAt}
 use Rattle.bound_infer.specs.declared.leaves.LeavesAt.TheVariants.{Solve, Row, Scale, Rescale, Check, Refute, Least}
 use Rattle.bound_infer.specs.declared.line.Line.{Line}
 use Rattle.bound_infer.specs.declared.line.Line.TheVariants.{Bound, NoBound, Calls}
+
+abbrev pub what_of : What → g.What
+what_of Indices = g.Indices
+what_of Unknowns = g.Unknowns
+what_of Rows = g.Rows
 
 -- the task and the place on it; none for a place of the certificate's check
 abbrev pub told_of : LeavesAt → Option (Task × Place)

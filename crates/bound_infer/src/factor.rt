@@ -1,7 +1,8 @@
 // What numbers are multiplied by.
-ghost use Rattle.std.specs.Prelude.{◌≡◌, ◌<ℤ◌, ◌*ℤ◌, ℕ, ℤ, pos, unsigned_abs, FitsSigned};
+ghost use Rattle.std.specs.Prelude.{◌≡◌, ◌<◌, ◌<ℤ◌, ◌*ℤ◌, ℕ, ℤ, pos, unsigned_abs, FitsSigned};
 ghost use Rattle.std.specs.Int.{w128};
 ghost use Rattle.std.specs.Option.{SomeIff};
+ghost use Rattle.whole_numbers.specs.Wholes.{most};
 
 use std::marker::Model;
 
@@ -28,6 +29,15 @@ impl Factor {
         ensures { result ≡ unsigned_abs value }
     {
         Factor { value }
+    }
+
+    /// The number.
+    pub fn value(&self) -> i128
+        ensures value { result ≡ pos self.now }
+        ensures positive { 0 < self.now }
+        ensures fits { self.now < most }
+    {
+        self.value
     }
 
     /// A number multiplied, or None where it does not fit.

@@ -5,14 +5,46 @@ ghost use Rattle.whole_answers.specs.Choosing.{AnswersBy, AnswersByOne};
 ghost use Rattle.courses.specs.Good.{AllLeast};
 ghost use Rattle.exact_systems.specs.Analysed.{analysis_of};
 ghost use Rattle.rule_plan.specs.Read.{program_in};
+ghost use Rattle.tried_tasks.specs.Laws.{IsOrdered};
+ghost use Rattle.bound_infer.specs.After.{Ends};
 ghost use Rattle.bound_infer.specs.Inferred.{IsInferred, InferCause};
+ghost use Rattle.bound_infer.specs.Keeping.{state_of, analysis_in, ByEach};
 
+use crate::ending::ended;
 use crate::refusal::InferFault;
+use crate::run::{Run, begin};
+use crate::step::all_steps;
 use crate::verified::Verified;
+use courses::laws::{courses_certify, courses_stay_within};
+use exact_systems::laws::{limits_are_told, normals_are_ordered, systems_generate};
 use frac128::Frac;
 use share_normal::NormProgram;
 use simplex::Chooser;
 use std::alloc::Global;
+
+// The course of the schedule, to its end.
+fn course<'p, F: Fn(&[Frac]) -> Option<usize>>(
+    alloc: Global,
+    program: &'p NormProgram<'_>,
+    d: u8,
+    chooser: &Chooser<F>,
+) -> Result<Run<'p>, InferFault>
+    requires most_degree { d ≤ 4 }
+    requires callable { F.IsAlwaysCallable chooser.now }
+    requires chooses { IsChooser F.Fn chooser.now }
+    requires answers { AnswersByOne F.Fn chooser.now }
+    requires ordered { IsOrdered (program_in program.now) }
+    ensures ends { IfOk result (λ run. ByEach F.Fn chooser.now (λ pick. Ends (analysis_in program.now d pick) (state_of run))) }
+    ensures stops { IfErr result (λ fault. ByEach F.Fn chooser.now (λ pick. InferCause (analysis_in program.now d pick) fault)) }
+{
+    let Ok(mut run) = begin(alloc, program, d) else {
+        return Err(InferFault::NoMemory);
+    };
+    match all_steps(alloc, program, d, &mut run, chooser) {
+        Ok(()) => Ok(run),
+        Err(fault) => Err(fault),
+    }
+}
 
 /// Tries each task of the schedule of degree `d`, for ticks, cells and work, with the chooser's rule of the
 /// entering column: the certificate of the course, whose solved blocks are least. Otherwise the first place
@@ -35,5 +67,16 @@ pub fn infer<'p, 'a, F: Fn(&[Frac]) -> Option<usize>>(
     ensures fault { IfErr result (λ fault. (pick : List ℤ → ℤ → Option ℕ) → AnswersBy F.Fn chooser.now pick →
         InferCause (analysis_of (program_in program.now) d pick) fault) }
 {
-    Err(InferFault::NoMemory)
+    normals_are_ordered();
+    systems_generate();
+    limits_are_told();
+    courses_certify();
+    courses_stay_within();
+    let _source = program.source();
+    let _groups = program.groups();
+    let _functions = program.functions();
+    match course(alloc, program, d, chooser) {
+        Ok(run) => ended(alloc, program, d, run),
+        Err(fault) => Err(fault),
+    }
 }

@@ -1,19 +1,25 @@
 //! The inference of bounds: the course of the schedule, from task to task.
 //!
-//! This much stands: the loop over tasks, the entries of a vector that refutes a task, blocks that are
-//! raised, and the types of lines and of places where numbers leave 128 bits.
+//! Each task is tried in turn: its system is made and solved in whole numbers, the earlier blocks of its
+//! meter are raised, and its block goes behind them. The certificate is checked at the end.
 #![tactic(auto)]
 
 mod body;
+mod ending;
 mod factor;
 mod fault;
 mod inference;
+mod large;
 mod leaves;
 mod line;
 mod raising;
 mod refusal;
+mod run;
+mod scales;
 mod sigs;
-mod steps;
+mod solved;
+mod step;
+mod system;
 mod times;
 mod vector;
 mod verification;
@@ -26,7 +32,6 @@ pub use leaves::LeavesAt;
 pub use line::Line;
 pub use raising::{raise, raise_blocks};
 pub use refusal::{InferFault, VerifyFault};
-pub use steps::{Steps, run};
 pub use vector::listed;
 pub use verified::Verified;
 pub use verification::verify;

@@ -16,5 +16,5 @@ mod task;
 mod told;
 
 pub use fault::{GenFault, What};
-pub use system::rows;
-pub use told::hints_of;
+pub use system::{plans, rows, rows_by};
+pub use told::{hints_of, told_by};

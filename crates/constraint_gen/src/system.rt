@@ -20,7 +20,8 @@ ghost use Rattle.cost_free.specs.Read.{task_of, kind_of};
 ghost use Rattle.walk_rules.specs.Systems.{IsTask};
 ghost use Rattle.earlier_blocks.specs.Remembers.{Remembers};
 ghost use Rattle.rule_plan.specs.Read.{program_in, body_of};
-ghost use Rattle.constraint_gen.specs.Cause.{IsMade, IsCause};
+ghost use Rattle.solved_tasks.specs.Told.{bodies_of};
+ghost use Rattle.constraint_gen.specs.Cause.{IsWithin, IsMade, IsCause};
 
 use crate::counts::{all_asked, hints_within, sides_within};
 use crate::fault::{GenFault, What};
@@ -57,21 +58,63 @@ pub fn rows(
         IsTask (program_in program.now) d blocks (task_of task.now) (unsigned_abs scale) →
         IsCause (program_in program.now) d blocks (task_of task.now) (unsigned_abs scale) fault) }
 {
-    // a walk that pays no prices reads no signature that pays
-    walks_without_cost();
-    let budget = budget_of(d, task.kind);
-    match planned(alloc, program, earlier, task.group, budget) {
-        Ok(bodies) => of_plans(
+    match plans(alloc, program, d, earlier, task) {
+        Ok(plans) => rows_by(
             alloc,
             program,
             d,
             earlier,
             task,
             scale.unsigned_abs(),
-            &bodies,
+            &plans,
         ),
         Err(fault) => Err(fault),
     }
+}
+
+/// The plans of a task's group over the blocks before it. `TooLarge` where a context or a type of its walks
+/// has more than 2000 indices.
+pub fn plans(
+    alloc: Global,
+    program: &NormProgram<'_>,
+    d: u8,
+    earlier: &Earlier,
+    task: &Task,
+) -> Result<Vec<Body>, GenFault>
+    requires budget { budget_of d (kind_of task.now.kind) ≤ 4 }
+    ensures plans { IfOk result (λ made. (blocks : List c.Block) → Remembers (program_in program.now) d blocks earlier.now →
+        map body_of made.items ≡ bodies_of (program_in program.now) d blocks (task_of task.now)) }
+    ensures fits { OnOk result (IsWithin (program_in program.now) d (task_of task.now)) }
+    ensures fault { IfErr result (PlanCause (IsWithin (program_in program.now) d (task_of task.now))) }
+{
+    planned(alloc, program, earlier, task.group, budget_of(d, task.kind))
+}
+
+/// The system of a task, as `rows` makes it, by the plans of its group, whose contexts and types have at most
+/// 2000 indices.
+pub fn rows_by(
+    alloc: Global,
+    program: &NormProgram<'_>,
+    d: u8,
+    earlier: &Earlier,
+    task: &Task,
+    scale: u128,
+    plans: &[Body],
+) -> Result<System, GenFault>
+    requires budget { budget_of d (kind_of task.now.kind) ≤ 4 }
+    requires indices { IsWithin (program_in program.now) d (task_of task.now) }
+    ensures made { IfOk result (λ made. (blocks : List c.Block) → Remembers (program_in program.now) d blocks earlier.now →
+        map body_of plans.now ≡ bodies_of (program_in program.now) d blocks (task_of task.now) →
+        IsTask (program_in program.now) d blocks (task_of task.now) scale →
+        IsMade (program_in program.now) d blocks (task_of task.now) scale made) }
+    ensures fault { IfErr result (λ fault. (blocks : List c.Block) → Remembers (program_in program.now) d blocks earlier.now →
+        map body_of plans.now ≡ bodies_of (program_in program.now) d blocks (task_of task.now) →
+        IsTask (program_in program.now) d blocks (task_of task.now) scale →
+        IsCause (program_in program.now) d blocks (task_of task.now) scale fault) }
+{
+    // a walk that pays no prices reads no signature that pays
+    walks_without_cost();
+    of_plans(alloc, program, d, earlier, task, scale, plans)
 }
 
 // The system, where these are the bodies.
@@ -98,8 +141,8 @@ fn of_plans(
     }
 }
 
-/// The plans of the group.
-pub fn planned(
+// The plans of a group.
+fn planned(
     alloc: Global,
     program: &NormProgram<'_>,
     earlier: &Earlier,

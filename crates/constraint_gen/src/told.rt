@@ -17,8 +17,7 @@ ghost use Rattle.constraint_gen.specs.Given.{all_counts, all_answers};
 ghost use Rattle.constraint_gen.specs.Numbers.{numbers, entry};
 
 use crate::counts::all_asked;
-use crate::system::{count, planned};
-use crate::task::budget_of;
+use crate::system::{count, plans};
 use annot_types::{Annot, Hint, Sig};
 use cost_free::Task;
 use earlier_blocks::Earlier;
@@ -195,22 +194,22 @@ fn sigs(
     Ok(made)
 }
 
-// Those of these bodies.
-fn of_bodies(
+/// The signatures and hints that numbers stand for, in the order of unknowns, by the plans of a task's group.
+pub fn told_by(
     alloc: Global,
-    bodies: &[Body],
+    plans: &[Body],
     solution: &[i128],
 ) -> Result<(Vec<Sig>, Vec<Vec<Hint>>), AllocError>
-    ensures sigs { IfOk result (λ told. map sig_of told.0.items ≡ map t.sig (sides_given (numbers solution.now) 0 (map body_of bodies.now))) }
-    ensures hints { IfOk result (λ told. map hints_of told.1.items ≡ map (map t.hint) (hints_given (numbers solution.now) (sides_count (map body_of bodies.now)) (map body_of bodies.now))) }
+    ensures sigs { IfOk result (λ told. map sig_of told.0.items ≡ sigs_told (map body_of plans.now) (map unsigned_abs solution.now)) }
+    ensures hints { IfOk result (λ told. map hints_of told.1.items ≡ hints_told (map body_of plans.now) (map unsigned_abs solution.now)) }
 {
-    let asks = all_asked(alloc, bodies)?;
+    let asks = all_asked(alloc, plans)?;
     // a task of more unknowns has no system, and so no solution
-    if count(bodies, &asks).is_none() {
+    if count(plans, &asks).is_none() {
         return Err(AllocError);
     }
     let mut next = 0;
-    let signatures = sigs(alloc, solution, &mut next, bodies)?;
+    let signatures = sigs(alloc, solution, &mut next, plans)?;
     let all = all_hints(alloc, solution, &mut next, &asks)?;
     Ok((signatures, all))
 }
@@ -234,8 +233,8 @@ pub fn hints_of(
     ensures hints { IfOk result (λ told. (blocks : List c.Block) → Remembers (program_in program.now) d blocks earlier.now →
         map hints_of told.1.items ≡ hints_told (bodies_of (program_in program.now) d blocks (task_of task.now)) (map unsigned_abs solution.now)) }
 {
-    match planned(alloc, program, earlier, task.group, budget_of(d, task.kind)) {
-        Ok(bodies) => of_bodies(alloc, &bodies, solution),
+    match plans(alloc, program, d, earlier, task) {
+        Ok(plans) => told_by(alloc, &plans, solution),
         Err(_) => Err(AllocError),
     }
 }

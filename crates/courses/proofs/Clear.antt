@@ -146,23 +146,23 @@ module _ (paths : OneCourse) (A : Analysis) (st : State) (task : Task) where
   solve_vector : RowsAreFine A st task → (y : List ℕ) → ReadsVector (rule_of A) (system_at A st task) y → (ps : List (ℕ × ℕ)) (i k : ℕ) → Comes A st task (p.Solve ps i k) → ⊥
   solve_vector r y h = no_solve r _ _ (Vector h.pivots h.table h.column h.rises h.follows h.answers refl refl)
 
-  scale_both : RowsAreFine A st task → (t : ℕ) (x y : List ℕ) → BothAreFine A st task t x y → (e : ℕ) → Comes A st task (p.Scale e) → ⊥
+  scale_both : RowsAreFine A st task → (t : ℕ) (x y : List ℕ) → BothAreFine (rule_of A) (system_at A st task) t x y → (e : ℕ) → Comes A st task (p.Scale e) → ⊥
   scale_both r t x y h e c = both_scale paths A.pick (system_at A st task) r.system t x y h.both h.denominator h.numbers c.0 c.1 c.2 e c.3
 
-  scale_vector : RowsAreFine A st task → (y : List ℕ) → VectorIsFine A st task y → (e : ℕ) → Comes A st task (p.Scale e) → ⊥
+  scale_vector : RowsAreFine A st task → (y : List ℕ) → VectorIsFine (rule_of A) (system_at A st task) y → (e : ℕ) → Comes A st task (p.Scale e) → ⊥
   scale_vector r y h e c = vector_scale paths A.pick (system_at A st task) r.system y h.vector h.denominator h.numbers c.0 c.1 c.2 e c.3
 
   -- an end and a vector exclude each other
   both_or_vector : RowsAreFine A st task → (t : ℕ) (x y z : List ℕ) → ReadsBoth (rule_of A) (system_at A st task) t x y → ReadsVector (rule_of A) (system_at A st task) z → ⊥
   both_or_vector r t x y z h k = not_both (system_at A st task) h.pivots k.pivots h.table k.table k.column r.system h.ends k.rises
 
-  no_least : RowsAreFine A st task → (t : ℕ) (x y : List ℕ) → BothAreFine A st task t x y → ArePassed A st task t x y → (k : ℕ) → Comes A st task (p.Least k) → ⊥
+  no_least : RowsAreFine A st task → (t : ℕ) (x y : List ℕ) → BothAreFine (rule_of A) (system_at A st task) t x y → ArePassed (system_at A st task) t x y → (k : ℕ) → Comes A st task (p.Least k) → ⊥
   no_least r t x y h passed k c =
       let same = one_both paths A.pick (system_at A st task) r.system t c.0 x y c.1 c.2 h.both c.3 in
-      none_leaves _ k (subst (λ u. ArePassed A st task u c.1 c.2) same.0 (subst (λ z. ArePassed A st task t z c.2) same.1.0 (subst (ArePassed A st task t x) same.1.1 passed))) c.4
+      none_leaves _ k (subst (λ u. ArePassed (system_at A st task) u c.1 c.2) same.0 (subst (λ z. ArePassed (system_at A st task) t z c.2) same.1.0 (subst (ArePassed (system_at A st task) t x) same.1.1 passed))) c.4
 
-  no_refute : RowsAreFine A st task → (y : List ℕ) → VectorIsFine A st task y → IsPassed A st task y → (k : ℕ) → Comes A st task (p.Refute k) → ⊥
-  no_refute r y h passed k c = none_leaves _ k (subst (IsPassed A st task) (one_vector paths A.pick (system_at A st task) r.system y c.0 h.vector c.1) passed) c.2
+  no_refute : RowsAreFine A st task → (y : List ℕ) → VectorIsFine (rule_of A) (system_at A st task) y → IsPassed (system_at A st task) y → (k : ℕ) → Comes A st task (p.Refute k) → ⊥
+  no_refute r y h passed k c = none_leaves _ k (subst (IsPassed (system_at A st task)) (one_vector paths A.pick (system_at A st task) r.system y c.0 h.vector c.1) passed) c.2
 
   solved : RowsAreFine A st task → (t : ℕ) (x : List ℕ) → IsSolvedFine A st task t x → NoneBefore A st task 6
   solved r t x h = record {
@@ -177,7 +177,7 @@ module _ (paths : OneCourse) (A : Analysis) (st : State) (task : Task) where
         h.raises k (subst (λ u. RescaleLeaves task.kind u st k) (sym same.0) c.3);
   }
 
-  refuted : RowsAreFine A st task → (y : List ℕ) → VectorIsFine A st task y → IsPassed A st task y → NoneBefore A st task 6
+  refuted : RowsAreFine A st task → (y : List ℕ) → VectorIsFine (rule_of A) (system_at A st task) y → IsPassed (system_at A st task) y → NoneBefore A st task 6
   refuted r y h passed = record {
     large = λ l. no_limit r;
     row = λ l. no_row r;
@@ -203,7 +203,7 @@ module _ (paths : OneCourse) (A : Analysis) (st : State) (task : Task) where
   after_scale : RowsAreFine A st task → ((ps : List (ℕ × ℕ)) (i k : ℕ) → Comes A st task (p.Solve ps i k) → ⊥) → ((e : ℕ) → Comes A st task (p.Scale e) → ⊥) → NoneBefore A st task 4
   after_scale r f e = record { large = λ l. no_limit r; row = λ l. no_row r; solve = λ l. f; scaled = λ l. e; refute = never 4 4 (omega arith); least = never 4 4 (omega arith); rescale = never 5 4 (omega arith) }
 
-  after_check : RowsAreFine A st task → (t : ℕ) (x y : List ℕ) → BothAreFine A st task t x y → ArePassed A st task t x y → NoneBefore A st task 5
+  after_check : RowsAreFine A st task → (t : ℕ) (x y : List ℕ) → BothAreFine (rule_of A) (system_at A st task) t x y → ArePassed (system_at A st task) t x y → NoneBefore A st task 5
   after_check r t x y h passed = record {
     large = λ l. no_limit r;
     row = λ l. no_row r;

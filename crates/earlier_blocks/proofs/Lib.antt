@@ -1,3 +1,4 @@
 pub mod Unpaid
 pub mod Counting
 pub mod Remembering
+mod Rising

@@ -3,3 +3,4 @@ pub mod Remembers
 pub mod Signed
 pub mod Grows
 pub mod Laws
+pub mod Raised

@@ -3,7 +3,6 @@ ghost use Rattle.std.specs.Prelude.{◌≡◌, ℕ, List, [], ◌∷◌, ◌++�
 ghost use Rattle.call_groups.specs.Read.{ids_of};
 ghost use Rattle.annot_types.specs.Program.{Program, members};
 ghost use Rattle.annot_types.specs.Certificate as c;
-ghost use Rattle.annot_types.specs.Holds.{budget_of};
 ghost use Rattle.annot_types.specs.Certificate.{sigs_of};
 ghost use Rattle.annot_types.specs.Held.{IfSolved};
 ghost use Rattle.annot_types.specs.Read.{sig_of, body_of, block_of};
@@ -12,8 +11,11 @@ ghost use Rattle.rule_walk.specs.Read.{known_of, sides_of, signature_of};
 ghost use Rattle.earlier_blocks.specs.Remembers.{Tables, free_at, cost_at, Remembers};
 ghost use Rattle.earlier_blocks.specs.Sizes.{AreSizes};
 ghost use Rattle.earlier_blocks.specs.Signed.{signatures, filled};
+ghost use Rattle.annot_types.specs.Holds.{budget_of, raised};
 ghost use Rattle.earlier_blocks.specs.Grows.{GrowsFree, GrowsPaying, Grows};
+ghost use Rattle.earlier_blocks.specs.Raised.{NonePasses, Rises};
 
+use crate::raising::raise_all;
 use crate::signatures::signatures;
 use crate::tables::{fill_all, note_all};
 use crate::usage::Usage;
@@ -183,6 +185,24 @@ impl Earlier {
             Meter::Work => fill_all(&mut self.work, signed),
         }
         Ok(())
+    }
+
+    /// The blocks of the meter are multiplied. The products of their numbers have 128 bits.
+    pub fn raise(&mut self, meter: Meter, factor: u128)
+        ensures { (P : Program) (degree : ℕ) (earlier : List c.Block) → NonePasses P meter factor earlier →
+            Remembers P degree earlier self.old → Remembers P degree (map (raised meter factor) earlier) self.new }
+    {
+        self.rise(meter, factor);
+    }
+
+    fn rise(&mut self, meter: Meter, factor: u128)
+        ensures { Rises meter factor self.old self.new }
+    {
+        match meter {
+            Meter::Ticks => raise_all(&mut self.ticks, factor),
+            Meter::Cells => raise_all(&mut self.cells, factor),
+            Meter::Work => raise_all(&mut self.work, factor),
+        }
     }
 
     /// The blocks whose signatures a call of the function may take multiples of, by ascending number.

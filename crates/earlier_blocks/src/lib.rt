@@ -4,6 +4,7 @@
 
 mod earlier;
 pub mod laws;
+mod raising;
 mod signatures;
 mod tables;
 mod usage;

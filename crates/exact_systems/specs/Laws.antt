@@ -1,5 +1,5 @@
 -- What solves the system of a task holds, and what holds solves it.
-use Rattle.std.specs.Prelude.{◌≡◌, ◌<◌, ℕ, ℤ, pos, List, [], ◌∷◌, map, length, slice_get, position, Option, Some, IsSome}
+use Rattle.std.specs.Prelude.{◌≡◌, ◌<◌, ℕ, ℤ, pos, List, [], ◌∷◌, map, length, slice_get, position, Option, Some, IsSome, IsTrue, ◌↔◌}
 use Rattle.std.specs.List.{All}
 use Rattle.base_poly.specs.Plain.{Plain, alike}
 use Rattle.base_poly.specs.Indices.{index_list}
@@ -12,11 +12,15 @@ use Rattle.cost_free.specs.Task.{Task, Kind, Free}
 use Rattle.annot_types.specs.Program.{Program, members}
 use Rattle.annot_types.specs.Certificate as c
 use Rattle.annot_types.specs.Certificate.{Sig, Block}
-use Rattle.annot_types.specs.Holds.{Holds}
+use Rattle.annot_types.specs.Holds.{budget_of, Holds}
 use Rattle.annot_types.specs.Least.{solving, weight}
 use Rattle.annot_types.specs.System.{system}
 use Rattle.walk_rules.specs.Systems.{IsTask}
 use Rattle.solved_tasks.specs.Told.{bodies_of, sigs_told, hints_told}
+use Rattle.rule_plan.specs.Within.{FunctionWithin}
+use Rattle.courses.specs.Generator.{Generates}
+use Rattle.tried_tasks.specs.Laws.{IsOrdered}
+use Rattle.exact_systems.specs.Analysed.{generator_of, analysis_of}
 
 -- The number of a cost-free task is that of a target of its function, each tuple of which has a position at the task's budget.
 abbrev pub IsNumbered : Program → ℕ → Kind → Type 0
@@ -40,14 +44,12 @@ SolutionsHold =
     Solves (system P d earlier task scale) (map pos x) (pos t) →
     Holds P d earlier scale (told P d earlier task x) t
 
--- the weighted sum of a solution is that of the signatures that it stands for
+-- The weighted sum of numbers for the unknowns is that of the signatures that they stand for.
 abbrev pub SolutionsWeigh : Type 0
 SolutionsWeigh =
     (P : Program) (d : ℕ) (earlier : List Block) (task : Task) (scale : ℕ) (x : List ℕ) →
     IsTask P d earlier task scale →
-    let s = system P d earlier task scale in
-    length x ≡ s.unknowns →
-    dot s.weights (map pos x) ≡ pos (weight P d (told P d earlier task x))
+    dot (system P d earlier task scale).weights (map pos x) ≡ pos (weight P d (told P d earlier task x))
 
 -- All signatures and hints that hold with t come from a solution over t, with their weighted sum.
 abbrev pub WhatHoldsSolves : Type 0
@@ -65,11 +67,6 @@ SystemsGenerate = (P : Program) → IsOrdered P → (d : ℕ) (pick : List ℤ �
 
 -- Whether its walks are small enough is told as the limits say.
 abbrev pub LimitsAreTold : Type 0
-LimitsAreTold = (P : Program) (d : ℕ) (task : Task) →
-    IsTrue ((generator_of P d).within task)
-    ↔ All (λ f. FunctionWithin 2000 (slice_get P.funs f) (budget_of d task.kind)) (members P task.group)
-
--- The normal form of a typed program, with its groups, is ordered.
-abbrev pub NormalsAreOrdered : Type 0
-NormalsAreOrdered = (P : Prog) → Typed P → All (λ (g : Function). AllNodes NumberFits g.body) P →
-    (groups : Grouping) → IsGrouping P groups → IsOrdered (normal_of P groups.list)
+LimitsAreTold =
+    (P : Program) (d : ℕ) (task : Task) →
+    IsTrue ((generator_of P d).within task) ↔ All (λ f. FunctionWithin 2000 (slice_get P.funs f) (budget_of d task.kind)) (members P task.group)

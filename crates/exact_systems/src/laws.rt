@@ -1,5 +1,7 @@
 // Laws of systems: each is the contract of a function that does nothing.
-ghost use Rattle.exact_systems.specs.Laws.{LimitsAreTold, NormalsAreOrdered, SolutionsHold, SolutionsWeigh, SystemsGenerate, WhatHoldsSolves};
+ghost use Rattle.exact_systems.specs.Laws.{LimitsAreTold, SolutionsHold, SolutionsWeigh, SystemsGenerate, WhatHoldsSolves};
+
+use tried_tasks::laws::{targets_are_numbered, tried_are_tasks, tried_have_systems};
 
 /// Each solution of a task's system stands for signatures and hints that hold.
 pub fn solutions_hold()
@@ -19,14 +21,13 @@ pub fn what_holds_solves()
 /// The systems of a program's tasks are what courses ask for.
 pub fn systems_generate()
     ensures { SystemsGenerate }
-{}
+{
+    tried_are_tasks();
+    tried_have_systems();
+    targets_are_numbered();
+}
 
 /// The limits of indices are told as they are.
 pub fn limits_are_told()
     ensures { LimitsAreTold }
-{}
-
-/// The normal form of a typed program is ordered.
-pub fn normals_are_ordered()
-    ensures { NormalsAreOrdered }
 {}

@@ -1,2 +1,4 @@
 pub mod Choosing
 pub mod Answers
+pub mod Rules
+pub mod Wholes

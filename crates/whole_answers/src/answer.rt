@@ -9,5 +9,7 @@ pub enum Answer {
         numbers: Vec<i128>,
     },
     /// There is none: a vector that refutes the system, a number for each row.
-    Vector { numbers: Vec<i128> },
+    Vector {
+        numbers: Vec<i128>,
+    },
 }

@@ -1,4 +1,7 @@
 // Why a system has no answer.
+ghost use Rattle.std.specs.Prelude.{◌≡◌};
+
+use std::alloc::AllocError;
 
 /// Why a system has no answer: a number leaves 128 bits.
 #[derive(Debug, Drop)]
@@ -11,10 +14,26 @@ pub enum AnswerFault {
     },
     /// In this entry of the answer, taken to whole numbers: entries of the solution come first, and then
     /// those of the dual solution.
-    Scale { entry: u32 },
+    Scale {
+        entry: u32,
+    },
     /// In the check of the vector, at this column.
-    Refute { column: u32 },
+    Refute {
+        column: u32,
+    },
     /// In the check that the solution is least, at this column.
-    Least { column: u32 },
+    Least {
+        column: u32,
+    },
     NoMemory,
+}
+
+impl From<AllocError> for AnswerFault {
+    ghost use Rattle.whole_answers.specs.declared.fault.AnswerFault.TheVariants.{NoMemory};
+
+    ghost from_gives = { λ _ e. e ≡ NoMemory };
+
+    fn from(_: AllocError) -> Self {
+        AnswerFault::NoMemory
+    }
 }

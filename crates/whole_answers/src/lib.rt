@@ -2,9 +2,15 @@
 #![tactic(auto)]
 
 mod answer;
+mod checked;
 mod fault;
+mod named;
+mod rules;
 mod solving;
+mod wholes;
 
 pub use answer::Answer;
 pub use fault::AnswerFault;
+pub use named::{answer_by_greatest, answer_by_least};
+pub use rules::{greatest_column, least_column};
 pub use solving::whole_answer;

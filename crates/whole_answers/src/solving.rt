@@ -7,11 +7,13 @@ ghost use Rattle.whole_answers.specs.Choosing.{AnswersBy};
 ghost use Rattle.whole_answers.specs.Answers.{IsAnswer, Stops};
 
 use crate::answer::Answer;
+use crate::checked::{checked_solution, checked_vector};
 use crate::fault::AnswerFault;
 use frac128::Frac;
 use linear_rows::System;
-use simplex::Chooser;
+use simplex::{Answer as Solved, Chooser, solve};
 use std::alloc::Global;
+use whole_numbers::laws;
 
 /// The least solution of a system, or a vector that refutes it, in whole numbers. What proves it was
 /// checked.
@@ -26,5 +28,15 @@ pub fn whole_answer<F: Fn(&[Frac]) -> Option<usize>>(
     ensures answer { IfOk result (λ answer. (pick : List ℤ → ℤ → Option ℕ) → AnswersBy F.Fn chooser.now pick → IsAnswer (rule_by pick) system.now answer) }
     ensures fault { IfErr result (λ fault. (pick : List ℤ → ℤ → Option ℕ) → AnswersBy F.Fn chooser.now pick → Stops (rule_by pick) system.now fault) }
 {
-    Err(AnswerFault::NoMemory)
+    laws::least_denominators();
+    laws::refused_entries_leave();
+    match solve(alloc, system, chooser)? {
+        Solved::Best { x, dual, .. } => checked_solution(alloc, system, &x, &dual),
+        Solved::NoSolution { farkas, .. } => checked_vector(alloc, system, &farkas),
+        Solved::Leaves { pivots, row, col } => Err(AnswerFault::Solve {
+            pivots,
+            row,
+            column: col,
+        }),
+    }
 }

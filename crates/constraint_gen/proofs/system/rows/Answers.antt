@@ -1,59 +1,29 @@
-use Rattle.std.proofs.Common.{◌≡◌, ◌∙◌, ap, subst, map, unsigned_abs, slice_get, arith}
+use Rattle.std.proofs.Common.{◌≡◌, ◌∙◌, ap, map, sym, subst, unsigned_abs}
 use Rattle.std.specs.Int.{w128}
 use Rattle.std.proofs.lemmas.Int.{to_z-of_z}
 use Rattle.cost_free.specs.Read.{task_of}
-use Rattle.annot_types.specs.Holds.{budget_of}
-use Rattle.annot_types.specs.Program.{members}
-use Rattle.annot_types.specs.System.{sig_weights}
-use Rattle.walk_rules.specs.Jobs as j
+use Rattle.walk_rules.specs.Systems.{IsTask}
 use Rattle.rule_plan.specs.Read.{program_in, body_of}
-use Rattle.rule_plan.specs.Within.{FunctionWithin}
-use Rattle.std.specs.List.{All}
-use Rattle.constraint_gen.specs.Cause.{IsWithin}
-use Rattle.constraint_gen.specs.Made.{JobMade, JobCause}
-use Rattle.constraint_gen.specs.Walked.{job_in}
-use Rattle.constraint_gen.proofs.Whole.{unknowns_are, rows_are, system_is, is_cause, if_ok, if_err}
+use Rattle.constraint_gen.specs.Cause.{IsMade, IsCause}
+use Rattle.constraint_gen.proofs.Whole.{if_ok, if_err}
 use Rattle.constraint_gen.proofs.system.rows.Goals as goal
 
 pub returns-in-Ok-clause-made : goal.returns-in-Ok-clause-made
 returns-in-Ok-clause-made c =
     let P = program_in c.args.program.now in
-    let d = c.args.d in
     let task = task_of c.args.task.now in
-    let scale = unsigned_abs c.args.scale in
-    let bs = map body_of c.deref.result.now in
-    let scale_is : c.unsigned_abs.result ≡ scale = simp (to_z-of_z w128 _ c.ranges.scale) at c.unsigned_abs.ensures.value in
-    let weights = sig_weights P (budget_of d task.kind) (members P task.group) in
-    let within : IsWithin P d task = subst (λ b. All (λ f. FunctionWithin 2000 (slice_get P.funs f) b) (members P task.group)) c.budget_of-budget.ensures c.in-Ok.ensures.fits in
-    if_ok c.of_plans.result (JobMade (job_in P d c.args.earlier.now bs task c.unsigned_abs.result) weights) _
-    (λ made h blocks remembers is.
-    let whole = subst (λ n. JobMade (job_in P d c.args.earlier.now bs task n) weights made) scale_is h in
-    let bodies : bs ≡ (j.job_of P d blocks task scale).bodies =
-    ap (map body_of) c.deref.ensures.value ∙ c.in-Ok.ensures.plans d blocks remembers ∙ (λ i. map (λ f. j.body_of P (members P task.group) blocks (c.budget_of-budget.ensures i) (slice_get P.funs f)) (members P task.group)) in
-    record {
-      is = system_is c.walks_without_cost.ensures P d blocks c.args.earlier.now remembers task scale bs bodies is made whole.has;
-      indices = within;
-      unknowns = omega (arith, whole.has.unknowns, whole.few);
-      rows = whole.has.few;
-      fit = whole.has.fit;
-    })
-    c.of_plans.ensures.made
+    let scale_is : c.unsigned_abs.result ≡ unsigned_abs c.args.scale = simp (to_z-of_z w128 _ c.ranges.scale) at c.unsigned_abs.ensures.value in
+    if_ok c.rows_by.result _ _
+    (λ made h blocks remembers is. subst (λ n. IsMade P c.args.d blocks task n made) scale_is
+    (h blocks remembers (ap (map body_of) c.deref.ensures.value ∙ c.in-Ok.ensures.plans blocks remembers) (subst (IsTask P c.args.d blocks task) (sym scale_is) is)))
+    c.rows_by.ensures.made
 
 pub returns-in-Ok-clause-fault : goal.returns-in-Ok-clause-fault
 returns-in-Ok-clause-fault c =
     let P = program_in c.args.program.now in
-    let d = c.args.d in
     let task = task_of c.args.task.now in
-    let scale = unsigned_abs c.args.scale in
-    let bs = map body_of c.deref.result.now in
-    let scale_is : c.unsigned_abs.result ≡ scale = simp (to_z-of_z w128 _ c.ranges.scale) at c.unsigned_abs.ensures.value in
-    let within : IsWithin P d task = subst (λ b. All (λ f. FunctionWithin 2000 (slice_get P.funs f) b) (members P task.group)) c.budget_of-budget.ensures c.in-Ok.ensures.fits in
-    if_err c.of_plans.result (JobCause (job_in P d c.args.earlier.now bs task c.unsigned_abs.result)) _
-    (λ fault h blocks remembers is.
-    let whole = subst (λ n. JobCause (job_in P d c.args.earlier.now bs task n) fault) scale_is h in
-    let bodies : bs ≡ (j.job_of P d blocks task scale).bodies =
-    ap (map body_of) c.deref.ensures.value ∙ c.in-Ok.ensures.plans d blocks remembers ∙ (λ i. map (λ f. j.body_of P (members P task.group) blocks (c.budget_of-budget.ensures i) (slice_get P.funs f)) (members P task.group)) in
-    is_cause P d blocks task scale (job_in P d c.args.earlier.now bs task scale) fault within
-    (unknowns_are c.walks_without_cost.ensures P d blocks c.args.earlier.now remembers task scale bs bodies is)
-    (rows_are c.walks_without_cost.ensures P d blocks c.args.earlier.now remembers task scale bs bodies is) whole)
-    c.of_plans.ensures.fault
+    let scale_is : c.unsigned_abs.result ≡ unsigned_abs c.args.scale = simp (to_z-of_z w128 _ c.ranges.scale) at c.unsigned_abs.ensures.value in
+    if_err c.rows_by.result _ _
+    (λ fault h blocks remembers is. subst (λ n. IsCause P c.args.d blocks task n fault) scale_is
+    (h blocks remembers (ap (map body_of) c.deref.ensures.value ∙ c.in-Ok.ensures.plans blocks remembers) (subst (IsTask P c.args.d blocks task) (sym scale_is) is)))
+    c.rows_by.ensures.fault

@@ -1,0 +1,105 @@
+// The certificate of a course.
+ghost use Rattle.std.specs.Prelude.{◌≡◌, true, None, IfOk, IfErr, OnOk};
+ghost use Rattle.annot_types.specs.Read.{certificate_of};
+ghost use Rattle.annot_types.specs.System.{Valid};
+ghost use Rattle.rule_plan.specs.Read.{program_in};
+ghost use Rattle.cert_check.specs.Finds.{FirstFault};
+ghost use Rattle.cert_check.specs.Laws.{IsProper, IsSmall};
+ghost use Rattle.cert_check.specs.Read.{fault_of};
+ghost use Rattle.courses.specs.Good.{AllRefuted};
+ghost use Rattle.courses.specs.States as s;
+ghost use Rattle.bound_infer.specs.Keeping.{state_of};
+ghost use Rattle.bound_infer.specs.Found.{IsCheckAt, LeavesAlone, IsCheckFault, CheckCause};
+
+use crate::leaves::LeavesAt;
+use crate::refusal::InferFault;
+use crate::run::Run;
+use crate::verified::{Verified, keep};
+use annot_types::Certificate;
+use cert_check::laws::held_leaves_alone;
+use cert_check::{CertFault, check};
+use share_normal::NormProgram;
+use std::alloc::{AllocError, Global};
+
+// The certificate of the blocks and the scales.
+fn certificate(d: u8, run: Run<'_>) -> Certificate
+    ensures { certificate_of result ≡ s.certificate_of d true (state_of run) }
+{
+    let Run {
+        schedule,
+        earlier,
+        blocks,
+        scales,
+    } = run;
+    drop(schedule);
+    drop(earlier);
+    Certificate {
+        degree: d,
+        ticks_scale: scales.ticks.value(),
+        cells_scale: scales.cells.value(),
+        work_scale: Some(scales.work.value()),
+        blocks,
+    }
+}
+
+// A total that leaves, by numbers of 32 bits.
+fn leaves_at(
+    alloc: Global,
+    block: usize,
+    path: &[u32],
+    index: usize,
+) -> Result<LeavesAt, AllocError>
+    ensures { IfOk result (IsCheckAt block path.now index) }
+{
+    // so many blocks, or indices, have no room in memory
+    let Ok(block) = u32::try_from(block) else {
+        return Err(AllocError);
+    };
+    let Ok(index) = u32::try_from(index) else {
+        return Err(AllocError);
+    };
+    Ok(LeavesAt::Check {
+        block,
+        path: Vec::from_slice(alloc, path)?,
+        index,
+    })
+}
+
+// A fault of the check, which is no other than a total that leaves.
+fn check_fault(alloc: Global, fault: CertFault) -> InferFault
+    requires { LeavesAlone (fault_of fault) }
+    ensures { IsCheckFault (fault_of fault) result }
+{
+    match fault {
+        CertFault::Leaves { block, path, index } => match leaves_at(alloc, block, &path, index) {
+            Ok(at) => InferFault::Leaves(at),
+            Err(_) => InferFault::NoMemory,
+        },
+        CertFault::NoMemory => InferFault::NoMemory,
+        CertFault::Shape { .. } => unreachable!(),
+        CertFault::Fails { .. } => unreachable!(),
+        CertFault::TooLarge { .. } => unreachable!(),
+    }
+}
+
+/// The certificate of a course that has ended, checked.
+pub(crate) fn ended<'p, 'a>(
+    alloc: Global,
+    program: &'p NormProgram<'a>,
+    d: u8,
+    run: Run<'_>,
+) -> Result<Verified<'p, 'a>, InferFault>
+    requires proper { IsProper (program_in program.now) }
+    requires small { IsSmall (program_in program.now) (s.certificate_of d true (state_of run)) }
+    requires valid { Valid (program_in program.now) (s.certificate_of d true (state_of run)) }
+    requires refuted { AllRefuted (program_in program.now) (s.certificate_of d true (state_of run)) }
+    ensures kept { IfOk result (λ verified. verified ≡ record { program = program.now; certificate = s.certificate_of d true (state_of run) }) }
+    ensures passes { OnOk result (FirstFault (program_in program.now) (s.certificate_of d true (state_of run)) None) }
+    ensures fault { IfErr result (CheckCause (program_in program.now) (s.certificate_of d true (state_of run))) }
+{
+    held_leaves_alone();
+    match check(alloc, program, certificate(d, run)) {
+        Ok(checked) => Ok(keep(checked)),
+        Err(fault) => Err(check_fault(alloc, fault)),
+    }
+}

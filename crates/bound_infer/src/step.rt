@@ -1,0 +1,191 @@
+// One task of the schedule.
+ghost use Rattle.std.specs.Prelude.{◌≡◌, ◌≤◌, map, true, IfOk, IfErr, OnOk};
+ghost use Rattle.simplex.specs.Choosing.{IsChooser};
+ghost use Rattle.cost_free.specs.Read.{task_of, kind_of};
+ghost use Rattle.annot_types.specs.Holds.{budget_of};
+ghost use Rattle.annot_types.specs.Read as a;
+ghost use Rattle.solved_tasks.specs.Told.{bodies_of};
+ghost use Rattle.rule_plan.specs.Read.{program_in, body_of};
+ghost use Rattle.constraint_gen.specs.Cause.{IsWithin};
+ghost use Rattle.tried_tasks.specs.Laws.{IsOrdered};
+ghost use Rattle.whole_answers.specs.Choosing.{AnswersByOne};
+ghost use Rattle.bound_infer.specs.Keeping.{state_of, Keeps, analysis_in, StandsAt, Begins, ByEach};
+ghost use Rattle.bound_infer.specs.After.{IsAfter, Reached, IsAtHand, StopsOn, StopsIn, Ends};
+ghost use Rattle.bound_infer.specs.Found.{HasAnswer};
+ghost use Rattle.bound_infer.specs.Inferred.{InferCause};
+
+use crate::large::refused;
+use crate::refusal::InferFault;
+use crate::run::{Run, current, waits_for};
+use crate::solved::{refuted, solved, waits};
+use crate::system::{answered, planned};
+use base_poly::IndexFault;
+use cost_free::Task;
+use courses::laws::{courses_are_good, fine_is_clear, scales_begin, seen_is_first};
+use exact_systems::laws::systems_generate;
+use frac128::Frac;
+use rule_plan::Body;
+use share_normal::NormProgram;
+use simplex::Chooser;
+use std::alloc::Global;
+use whole_answers::Answer;
+
+// A task by what it comes to.
+fn carried<F: Fn(&[Frac]) -> Option<usize>>(
+    alloc: Global,
+    program: &NormProgram<'_>,
+    d: u8,
+    run: &mut Run<'_>,
+    task: &Task,
+    plans: &[Body],
+    answer: Answer,
+    chooser: &Chooser<F>,
+) -> Result<(), InferFault>
+    requires one { AnswersByOne F.Fn chooser.now }
+    requires keeps { Keeps program.now d run.old }
+    requires begins { Begins (state_of run.old) }
+    requires here { ByEach F.Fn chooser.now (λ pick. IsAtHand (analysis_in program.now d pick) (state_of run.old) (task_of task.now)) }
+    requires stands { StandsAt program.now d (state_of run.old) (task_of task.now) }
+    requires plans { map body_of plans.now ≡ bodies_of (program_in program.now) d (a.blocks_of run.old.blocks.items) (task_of task.now) }
+    requires answer { ByEach F.Fn chooser.now (λ pick. HasAnswer (analysis_in program.now d pick) (state_of run.old) (task_of task.now) answer) }
+    ensures keeps { OnOk result (Keeps program.now d run.new) }
+    ensures steps { OnOk result (ByEach F.Fn chooser.now (λ pick. IsAfter (analysis_in program.now d pick) (state_of run.old) (state_of run.new) true)) }
+    ensures stops { IfErr result (λ fault. ByEach F.Fn chooser.now (λ pick. StopsOn (analysis_in program.now d pick) (state_of run.old) (task_of task.now) fault)) }
+{
+    fine_is_clear();
+    seen_is_first();
+    match answer {
+        Answer::Solution {
+            denominator,
+            numbers,
+        } => solved(
+            alloc,
+            program,
+            d,
+            run,
+            task,
+            plans,
+            denominator,
+            &numbers,
+        ),
+        Answer::Vector { numbers } => match refuted(alloc, program, d, run, task, &numbers) {
+            Ok(()) => Ok(()),
+            Err(_) => Err(InferFault::NoMemory),
+        },
+    }
+}
+
+// A task that waits for nothing.
+fn tried<F: Fn(&[Frac]) -> Option<usize>>(
+    alloc: Global,
+    program: &NormProgram<'_>,
+    d: u8,
+    run: &mut Run<'_>,
+    task: &Task,
+    chooser: &Chooser<F>,
+) -> Result<(), InferFault>
+    requires callable { F.IsAlwaysCallable chooser.now }
+    requires chooses { IsChooser F.Fn chooser.now }
+    requires one { AnswersByOne F.Fn chooser.now }
+    requires ordered { IsOrdered (program_in program.now) }
+    requires budget { budget_of d (kind_of task.now.kind) ≤ 4 }
+    requires keeps { Keeps program.now d run.old }
+    requires begins { Begins (state_of run.old) }
+    requires here { ByEach F.Fn chooser.now (λ pick. IsAtHand (analysis_in program.now d pick) (state_of run.old) (task_of task.now)) }
+    requires stands { StandsAt program.now d (state_of run.old) (task_of task.now) }
+    ensures keeps { OnOk result (Keeps program.now d run.new) }
+    ensures steps { OnOk result (ByEach F.Fn chooser.now (λ pick. IsAfter (analysis_in program.now d pick) (state_of run.old) (state_of run.new) true)) }
+    ensures stops { IfErr result (λ fault. ByEach F.Fn chooser.now (λ pick. StopsOn (analysis_in program.now d pick) (state_of run.old) (task_of task.now) fault)) }
+{
+    match planned(alloc, program, d, run, task) {
+        Err(fault) => Err(fault),
+        Ok(plans) => match answered(alloc, program, d, run, task, &plans, chooser) {
+            Err(fault) => Err(fault),
+            Ok(answer) => carried(alloc, program, d, run, task, &plans, answer, chooser),
+        },
+    }
+}
+
+// The next task.
+fn at_task<F: Fn(&[Frac]) -> Option<usize>>(
+    alloc: Global,
+    program: &NormProgram<'_>,
+    d: u8,
+    run: &mut Run<'_>,
+    task: &Task,
+    chooser: &Chooser<F>,
+) -> Result<(), InferFault>
+    requires callable { F.IsAlwaysCallable chooser.now }
+    requires chooses { IsChooser F.Fn chooser.now }
+    requires one { AnswersByOne F.Fn chooser.now }
+    requires ordered { IsOrdered (program_in program.now) }
+    requires low { d ≤ 4 }
+    requires keeps { Keeps program.now d run.old }
+    requires here { ByEach F.Fn chooser.now (λ pick. IsAtHand (analysis_in program.now d pick) (state_of run.old) (task_of task.now)) }
+    ensures keeps { OnOk result (Keeps program.now d run.new) }
+    ensures steps { OnOk result (ByEach F.Fn chooser.now (λ pick. IsAfter (analysis_in program.now d pick) (state_of run.old) (state_of run.new) true)) }
+    ensures stops { IfErr result (λ fault. ByEach F.Fn chooser.now (λ pick. StopsOn (analysis_in program.now d pick) (state_of run.old) (task_of task.now) fault)) }
+{
+    systems_generate();
+    courses_are_good();
+    scales_begin();
+    match waits_for(program, d, run, task) {
+        Some(fun) => match waits(alloc, program, d, run, task, fun) {
+            Ok(()) => Ok(()),
+            Err(_) => Err(InferFault::NoMemory),
+        },
+        None => tried(alloc, program, d, run, task, chooser),
+    }
+}
+
+// Tries the next task, or tells that there is none.
+fn step<F: Fn(&[Frac]) -> Option<usize>>(
+    alloc: Global,
+    program: &NormProgram<'_>,
+    d: u8,
+    run: &mut Run<'_>,
+    chooser: &Chooser<F>,
+) -> Result<bool, InferFault>
+    requires callable { F.IsAlwaysCallable chooser.now }
+    requires chooses { IsChooser F.Fn chooser.now }
+    requires one { AnswersByOne F.Fn chooser.now }
+    requires ordered { IsOrdered (program_in program.now) }
+    requires low { d ≤ 4 }
+    requires keeps { Keeps program.now d run.old }
+    requires reached { ByEach F.Fn chooser.now (λ pick. Reached (analysis_in program.now d pick) (state_of run.old)) }
+    ensures keeps { OnOk result (Keeps program.now d run.new) }
+    ensures steps { IfOk result (λ on. ByEach F.Fn chooser.now (λ pick. IsAfter (analysis_in program.now d pick) (state_of run.old) (state_of run.new) on)) }
+    ensures stops { IfErr result (λ fault. ByEach F.Fn chooser.now (λ pick. StopsIn (analysis_in program.now d pick) (state_of run.old) fault)) }
+{
+    match current(program, d, run) {
+        Err(IndexFault::NoMemory) => Err(InferFault::NoMemory),
+        Err(IndexFault::TooMany) => Err(refused(alloc, program, d)),
+        Ok(None) => Ok(false),
+        Ok(Some(task)) => match at_task(alloc, program, d, run, &task, chooser) {
+            Ok(()) => Ok(true),
+            Err(fault) => Err(fault),
+        },
+    }
+}
+
+/// Tries all tasks of the schedule, or stops at the first place.
+pub(crate) fn all_steps<F: Fn(&[Frac]) -> Option<usize>>(
+    alloc: Global,
+    program: &NormProgram<'_>,
+    d: u8,
+    run: &mut Run<'_>,
+    chooser: &Chooser<F>,
+) -> Result<(), InferFault>
+    requires callable { F.IsAlwaysCallable chooser.now }
+    requires chooses { IsChooser F.Fn chooser.now }
+    requires one { AnswersByOne F.Fn chooser.now }
+    requires ordered { IsOrdered (program_in program.now) }
+    requires low { d ≤ 4 }
+    requires keeps { Keeps program.now d run.old }
+    requires reached { ByEach F.Fn chooser.now (λ pick. Reached (analysis_in program.now d pick) (state_of run.old)) }
+    ensures ends { OnOk result (ByEach F.Fn chooser.now (λ pick. Ends (analysis_in program.now d pick) (state_of run.new))) }
+    ensures stops { IfErr result (λ fault. ByEach F.Fn chooser.now (λ pick. InferCause (analysis_in program.now d pick) fault)) }
+{
+    while step(alloc, program, d, run, chooser)? {}
+    Ok(())
+}

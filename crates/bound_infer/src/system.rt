@@ -1,0 +1,164 @@
+// The system of a task, and its answer.
+ghost use Rattle.std.specs.Prelude.{◌≡◌, ◌≤◌, ◌<◌, ◌^◌, ℕ, ℤ, List, Option, map, None, IfOk, IfErr, OnOk};
+ghost use Rattle.tableau.specs.Tableaux.{right};
+ghost use Rattle.simplex.specs.Choosing.{IsChooser};
+ghost use Rattle.cost_free.specs.Read.{task_of, kind_of};
+ghost use Rattle.annot_types.specs.Holds.{budget_of};
+ghost use Rattle.annot_types.specs.Read.{blocks_of};
+ghost use Rattle.solved_tasks.specs.Told.{bodies_of};
+ghost use Rattle.rule_plan.specs.Read.{program_in, body_of};
+ghost use Rattle.constraint_gen.specs.Cause.{IsWithin};
+ghost use Rattle.constraint_gen.specs.declared.fault.What.{What as TheWhat};
+ghost use Rattle.courses.specs.States.{State};
+ghost use Rattle.courses.specs.Generator.{Analysis, blocker_at, system_at};
+ghost use Rattle.courses.specs.Places.{rule_of};
+ghost use Rattle.courses.specs.Clear.{RowsAreFine};
+ghost use Rattle.tried_tasks.specs.Laws.{IsOrdered};
+ghost use Rattle.whole_answers.specs.Answers.{Stops};
+ghost use Rattle.bound_infer.specs.Keeping.{state_of, Keeps, analysis_in, StandsAt, ByEach};
+ghost use Rattle.bound_infer.specs.After.{StopsOn};
+ghost use Rattle.bound_infer.specs.Found.{HasSystem, HasAnswer};
+
+use crate::leaves::LeavesAt;
+use crate::refusal::InferFault;
+use crate::run::Run;
+use constraint_gen::{GenFault, plans, rows_by};
+use cost_free::Task;
+use courses::laws::seen_is_first;
+use exact_systems::laws::limits_are_told;
+use frac128::Frac;
+use linear_rows::System;
+use rule_plan::Body;
+use share_normal::NormProgram;
+use simplex::Chooser;
+use std::alloc::Global;
+use tried_tasks::laws::tried_are_tasks;
+use whole_answers::{Answer, AnswerFault, whole_answer};
+
+// Why a task has no system.
+fn gen_fault(task: &Task, fault: GenFault) -> InferFault
+    ensures large { (what : TheWhat) → fault ≡ GenFault.TooLarge what → result ≡ InferFault.TooLarge task.now what }
+    ensures leaves { (row : ℕ) → fault ≡ GenFault.Leaves row → result ≡ InferFault.Leaves (LeavesAt.Row task.now row) }
+    ensures memory { fault ≡ GenFault.NoMemory → result ≡ InferFault.NoMemory }
+{
+    match fault {
+        GenFault::TooLarge(what) => InferFault::TooLarge { task: *task, what },
+        GenFault::Leaves { row } => InferFault::Leaves(LeavesAt::Row { task: *task, row }),
+        GenFault::NoMemory => InferFault::NoMemory,
+    }
+}
+
+/// The plans of a task's group.
+pub(crate) fn planned(
+    alloc: Global,
+    program: &NormProgram<'_>,
+    d: u8,
+    run: &Run<'_>,
+    task: &Task,
+) -> Result<Vec<Body>, InferFault>
+    requires keeps { Keeps program.now d run.now }
+    requires budget { budget_of d (kind_of task.now.kind) ≤ 4 }
+    requires stands { StandsAt program.now d (state_of run.now) (task_of task.now) }
+    ensures plans { IfOk result (λ made. map body_of made.items ≡ bodies_of (program_in program.now) d (blocks_of run.now.blocks.items) (task_of task.now)) }
+    ensures fits { OnOk result (IsWithin (program_in program.now) d (task_of task.now)) }
+    ensures fault { IfErr result (λ fault. (pick : List ℤ → ℤ → Option ℕ) → StopsOn (analysis_in program.now d pick) (state_of run.now) (task_of task.now) fault) }
+{
+    limits_are_told();
+    seen_is_first();
+    match plans(alloc, program, d, &run.earlier, task) {
+        Ok(made) => Ok(made),
+        Err(fault) => Err(gen_fault(task, fault)),
+    }
+}
+
+// The system of a task, by the plans of its group.
+fn system(
+    alloc: Global,
+    program: &NormProgram<'_>,
+    d: u8,
+    run: &Run<'_>,
+    task: &Task,
+    plans: &[Body],
+) -> Result<System, InferFault>
+    requires keeps { Keeps program.now d run.now }
+    requires budget { budget_of d (kind_of task.now.kind) ≤ 4 }
+    requires ordered { IsOrdered (program_in program.now) }
+    requires stands { StandsAt program.now d (state_of run.now) (task_of task.now) }
+    requires plans { map body_of plans.now ≡ bodies_of (program_in program.now) d (blocks_of run.now.blocks.items) (task_of task.now) }
+    requires indices { IsWithin (program_in program.now) d (task_of task.now) }
+    ensures few { IfOk result (λ made. right made < 2 ^ 32) }
+    ensures made { IfOk result (λ made. (pick : List ℤ → ℤ → Option ℕ) → HasSystem (analysis_in program.now d pick) (state_of run.now) (task_of task.now) made) }
+    ensures fault { IfErr result (λ fault. (pick : List ℤ → ℤ → Option ℕ) → StopsOn (analysis_in program.now d pick) (state_of run.now) (task_of task.now) fault) }
+{
+    limits_are_told();
+    seen_is_first();
+    tried_are_tasks();
+    let scale = run.scales.of_kind(task.kind);
+    match rows_by(alloc, program, d, &run.earlier, task, scale, plans) {
+        Ok(made) => {
+            let _rows = made.rows();
+            Ok(made)
+        }
+        Err(fault) => Err(gen_fault(task, fault)),
+    }
+}
+
+// Why a task's system has no answer.
+fn answer_fault(task: &Task, fault: AnswerFault) -> InferFault
+    ensures { (A : Analysis) (st : State) → RowsAreFine A st (task_of task.now) → blocker_at A st (task_of task.now) ≡ None →
+        Stops (rule_of A) (system_at A st (task_of task.now)) fault → StopsOn A st (task_of task.now) result }
+{
+    seen_is_first();
+    match fault {
+        AnswerFault::Solve {
+            pivots,
+            row,
+            column,
+        } => InferFault::Leaves(LeavesAt::Solve {
+            task: *task,
+            pivots,
+            row,
+            col: column,
+        }),
+        AnswerFault::Scale { entry } => {
+            InferFault::Leaves(LeavesAt::Scale { task: *task, entry })
+        }
+        AnswerFault::Refute { column } => {
+            InferFault::Leaves(LeavesAt::Refute { task: *task, column })
+        }
+        AnswerFault::Least { column } => {
+            InferFault::Leaves(LeavesAt::Least { task: *task, column })
+        }
+        AnswerFault::NoMemory => InferFault::NoMemory,
+    }
+}
+
+/// What a task comes to, by the plans of its group.
+pub(crate) fn answered<F: Fn(&[Frac]) -> Option<usize>>(
+    alloc: Global,
+    program: &NormProgram<'_>,
+    d: u8,
+    run: &Run<'_>,
+    task: &Task,
+    plans: &[Body],
+    chooser: &Chooser<F>,
+) -> Result<Answer, InferFault>
+    requires callable { F.IsAlwaysCallable chooser.now }
+    requires chooses { IsChooser F.Fn chooser.now }
+    requires keeps { Keeps program.now d run.now }
+    requires budget { budget_of d (kind_of task.now.kind) ≤ 4 }
+    requires ordered { IsOrdered (program_in program.now) }
+    requires stands { StandsAt program.now d (state_of run.now) (task_of task.now) }
+    requires plans { map body_of plans.now ≡ bodies_of (program_in program.now) d (blocks_of run.now.blocks.items) (task_of task.now) }
+    requires indices { IsWithin (program_in program.now) d (task_of task.now) }
+    ensures answer { IfOk result (λ answer. ByEach F.Fn chooser.now (λ pick. HasAnswer (analysis_in program.now d pick) (state_of run.now) (task_of task.now) answer)) }
+    ensures fault { IfErr result (λ fault. ByEach F.Fn chooser.now (λ pick. StopsOn (analysis_in program.now d pick) (state_of run.now) (task_of task.now) fault)) }
+{
+    match system(alloc, program, d, run, task, plans) {
+        Err(fault) => Err(fault),
+        Ok(system) => match whole_answer(alloc, &system, chooser) {
+            Ok(answer) => Ok(answer),
+            Err(fault) => Err(answer_fault(task, fault)),
+        },
+    }
+}

@@ -1,0 +1,14 @@
+pub mod Alike
+pub mod Taken
+pub mod Told
+pub mod Functions
+pub mod Priceless
+pub mod Planning
+pub mod Weights
+pub mod Targets
+pub mod Meeting
+pub mod Solutions
+pub mod Numbered
+pub mod Shapes
+pub mod Generating
+pub mod Limits

@@ -1,0 +1,5 @@
+mod Picking
+mod Joining
+mod Taking
+mod ByPick
+pub mod Chosen
