@@ -1,5 +1,5 @@
 -- What a machine ends with is what is reported of the run.
-use Rattle.std.proofs.Common.{◌≡◌, ◌≤◌, ◌<◌, ◌*◌, ℕ, suc, List, Some, Result, Ok, Err, string_bytes, sym, ap, subst, ◌∙◌}
+use Rattle.std.proofs.Common.{arith, ◌≡◌, ◌≤◌, ◌<◌, ◌*◌, ℕ, suc, List, Some, Result, Ok, Err, string_bytes, sym, ap, subst, ◌∙◌}
 use Rattle.std.specs.Prelude.{slice_get, IfOk}
 use Rattle.std.specs.List.{All}
 use Rattle.raml_syntax.specs.Tree.{Type', Function, Prog}

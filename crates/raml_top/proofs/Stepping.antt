@@ -65,10 +65,10 @@ module _ (store : Store) (file : Text) (Rest : Prog → Answer → Type 0) where
   program_refused e (inr h) = file_comes store w.Program file (λ source. OfSource source Rest) h.0 h.1 (Refusal no_names e) (refused e h.2 refl)
 
   pub program_refusal : (refusal : TheRefusal) → Refuses no_names (ProgramRefuses store file) refusal → Gives (OfProgram Promised store file Rest) (Err refusal)
-  program_refusal refusal h = refusal_gives _ no_names (ProgramRefuses store file) program_refused refusal h
+  program_refusal refusal h = refusal_gives (OfProgram Promised store file Rest) no_names (ProgramRefuses store file) program_refused refusal h
 
   pub program_goes : (P : Prog) → IsProgram store file P → (r : Result Report TheRefusal) → Gives (Rest P) r → Gives (OfProgram Promised store file Rest) r
-  program_goes P is r h = gives_map (Rest P) _ (λ a q. file_comes store w.Program file (λ source. OfSource source Rest) is.source is.file a (goes_on P is.typed q)) r h
+  program_goes P is r h = gives_map (Rest P) (OfProgram Promised store file Rest) (λ a q. file_comes store w.Program file (λ source. OfSource source Rest) is.source is.within a (goes_on P is.typed q)) r h
 
 -- certificates
 module _ (store : Store) (file : Text) (Rest : Certificate → Answer → Type 0) where
@@ -80,10 +80,10 @@ module _ (store : Store) (file : Text) (Rest : Certificate → Answer → Type 0
   certificate_refused e (inr h) = file_comes store w.Certificate file OfText h.0 h.1 (Refusal no_names e) (refused e h.2 refl)
 
   pub certificate_refusal : (refusal : TheRefusal) → Refuses no_names (CertificateRefuses store file) refusal → Gives (OfCertificate Promised store file Rest) (Err refusal)
-  certificate_refusal refusal h = refusal_gives _ no_names (CertificateRefuses store file) certificate_refused refusal h
+  certificate_refusal refusal h = refusal_gives (OfCertificate Promised store file Rest) no_names (CertificateRefuses store file) certificate_refused refusal h
 
   pub certificate_goes : (c : Certificate) → IsCertificateFile store file c → (r : Result Report TheRefusal) → Gives (Rest c) r → Gives (OfCertificate Promised store file Rest) r
-  certificate_goes c is r h = gives_map (Rest c) _ (λ a q. file_comes store w.Certificate file OfText is.bytes is.file a (goes_on c is.is q)) r h
+  certificate_goes c is r h = gives_map (Rest c) (OfCertificate Promised store file Rest) (λ a q. file_comes store w.Certificate file OfText is.bytes is.within a (goes_on c is.is q)) r h
 
 -- calls
 module _ (store : Store) (P : Prog) (name file : Text) (Rest : Placed → List Value → Answer → Type 0) where
@@ -93,13 +93,13 @@ module _ (store : Store) (P : Prog) (name file : Text) (Rest : Placed → List V
   call_refused e (inr (f, named, inr h)) = goes_on f named (file_comes store w.Data file (λ bytes. OfArguments bytes f.1 (Rest f)) h.0 h.1 (Refusal no_names e) (refused e h.2 refl))
 
   pub call_refusal : (refusal : TheRefusal) → Refuses no_names (CallRefuses store P name file) refusal → Gives (OfCall Promised store P name file Rest) (Err refusal)
-  call_refusal refusal h = refusal_gives _ no_names (CallRefuses store P name file) call_refused refusal h
+  call_refusal refusal h = refusal_gives (OfCall Promised store P name file Rest) no_names (CallRefuses store P name file) call_refused refusal h
 
   pub call_goes : (f : Placed) (args : List Value) (bytes : List ℕ) → IsNamed P name f → IsShort store w.Data file bytes →
       Answers bytes (types_of f.1) (Ok args) →
       (r : Result Report TheRefusal) → Gives (Rest f args) r → Gives (OfCall Promised store P name file Rest) r
   call_goes f args bytes named short spelled r h =
-      gives_map (Rest f args) _ (λ a q. goes_on f named (file_comes store w.Data file (λ bytes. OfArguments bytes f.1 (Rest f)) bytes short a (goes_on args spelled q))) r h
+      gives_map (Rest f args) (OfCall Promised store P name file Rest) (λ a q. goes_on f named (file_comes store w.Data file (λ bytes. OfArguments bytes f.1 (Rest f)) bytes short a (goes_on args spelled q))) r h
 
 -- the normal form
 pub normal_gives : (P : Prog) (Rest : Program → Answer → Type 0) (groups : Grouping) (N : Program) → IsGrouping P groups → N ≡ normal_of P groups.list →

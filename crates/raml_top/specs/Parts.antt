@@ -102,7 +102,7 @@ FileRefuses store which file _ = ⊥
 -- the typed program that a file spells
 pub record IsProgram (store : Store) (file : List ℕ) (P : Prog) : Type 0 where
   pub source : List ℕ
-  pub file : IsShort store w.Program file source
+  pub within : IsShort store w.Program file source
   pub typed : IsTyped source P
 
 abbrev pub ProgramRefuses : Store → List ℕ → Ending → Type 0
@@ -112,7 +112,7 @@ ProgramRefuses store file e =
 -- the certificate that a file is
 pub record IsCertificateFile (store : Store) (file : List ℕ) (c : Certificate) : Type 0 where
   pub bytes : List ℕ
-  pub file : IsShort store w.Certificate file bytes
+  pub within : IsShort store w.Certificate file bytes
   pub is : IsFile bytes c
 
 abbrev pub CertificateRefuses : Store → List ℕ → Ending → Type 0
@@ -207,7 +207,7 @@ pub record ArgumentsRefuse (P : Prog) (place : ℕ) (bytes : List ℕ) (e : Endi
 pub record ReadsCall (store : Store) (P : Prog) (name file : List ℕ) (call : Call) : Type 0 where
   pub place : place_of name P ≡ Some call.place.0
   pub bytes : List ℕ
-  pub file : IsShort store w.Data file bytes
+  pub within : IsShort store w.Data file bytes
   pub reads : ReadsArguments P call.place.0 bytes call.args
 
 -- the call is of this function on these arguments

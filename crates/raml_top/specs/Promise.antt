@@ -67,19 +67,24 @@ abbrev pub RunsBounded : Side → Prog → Placed → List Value → ℕ → Opt
 RunsBounded side P f args steps cells floors =
     Runs side P f args (record { steps = steps; cells = cells_or cells (floors Cells) }) [] (bound_lines floors)
 
+abbrev pub BoundedCall : Side → ℕ → Option ℕ → ℕ → Prog → Placed → List Value → Answer → Type 0
+BoundedCall side steps cells degree P f args = OfNormal P (λ N. OfCourse side P N degree rule.Least (λ c.
+    OfFloors side P N c f args (λ floors. RunsBounded side P f args steps cells floors)))
+
 abbrev pub RunsWithBounds : Side → Store → Text → Text → ℕ → Option ℕ → ℕ → Prog → Answer → Type 0
-RunsWithBounds side store name file steps cells degree P =
-    OfCall side store P name file (λ f args. OfNormal P (λ N. OfCourse side P N degree rule.Least (λ c.
-    OfFloors side P N c f args (λ floors. RunsBounded side P f args steps cells floors))))
+RunsWithBounds side store name file steps cells degree P = OfCall side store P name file (λ f args. BoundedCall side steps cells degree P f args)
 
 -- Of a made program: how many functions it has, the lines of the last one, and its run.
 abbrev pub RunsTrial : Side → ℕ → Prog → Program → Certificate → Placed → List Value → Answer → Type 0
 RunsTrial side count P N c f args =
     Runs side P f args (record { steps = 10000000; cells = 1048576 }) (functions_line count ++ lines_text P (lines_of N c f.0)) []
 
+abbrev pub TriesCall : Side → ℕ → Prog → Program → Certificate → Answer → Type 0
+TriesCall side count P N c =
+    OfFunction P (trial_function count) (λ f. OfArguments trial_data f.1 (λ args. RunsTrial side count P N c f args))
+
 abbrev pub Tries : Side → ℕ → Prog → Answer → Type 0
-Tries side count P = OfNormal P (λ N. OfCourse side P N 1 rule.Least (λ c.
-    OfFunction P (trial_function count) (λ f. OfArguments trial_data f.1 (λ args. RunsTrial side count P N c f args))))
+Tries side count P = OfNormal P (λ N. OfCourse side P N 1 rule.Least (λ c. TriesCall side count P N c))
 
 -- what a request asks for
 abbrev pub Answers : Side → Store → Request → Answer → Type 0

@@ -102,7 +102,7 @@ fn line_report(
     requires { verified.now.program ≡ program.now }
     ensures { Gives (PrintsLines Promised (source_in program.now) (program_in program.now) verified.now.certificate) result }
 {
-    match lines(alloc, program.source(), verified) {
+    match lines(alloc, program, verified) {
         Ok(text) => Ok(Report::done(text)),
         Err(_) => Err(Refusal::no_memory()),
     }

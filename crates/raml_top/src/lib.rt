@@ -8,9 +8,13 @@ mod commands;
 mod file;
 mod line;
 mod run;
+mod runs;
 mod source;
 mod status;
+mod top;
+mod trial;
 mod verification;
 
 pub use fault_text::{SourceFault, Which};
 pub use status::{CertAnswer, OverflowAt, Status};
+pub use top::raml;

@@ -1,0 +1,158 @@
+-- Faults of other calls, as refusals of this one.
+use Rattle.std.proofs.Common.{◌≡◌, ◌≤◌, ◌⊎◌, ℕ, List, Option, Some, None, Result, Ok, Err, refl, sym, ap, subst, ◌∙◌, inl, inr, arith}
+use Rattle.raml_syntax.specs.Tree.{Text, Function, Prog}
+use Rattle.raml_syntax.specs.Types.{types_of}
+use Rattle.raml_parse.specs.Spelling.{FirstFault}
+use Rattle.raml_parse.specs.declared.fault.ParseFault.{ParseFault}
+use Rattle.raml_parse.specs.declared.fault.ParseFault.TheVariants as p
+use Rattle.raml_lex.specs.declared.token.LexFault.TheVariants as l
+use Rattle.simple_types.specs.Fault as types_fault
+use Rattle.simple_types.specs.Walk.{walk_program}
+use Rattle.simple_types.specs.Read.{EndsWith}
+use Rattle.simple_types.specs.declared.fault.TypeFault.{TypeFault}
+use Rattle.simple_types.specs.declared.fault.TypeFault.TheVariants as t
+use Rattle.value_text.specs.Reading as data
+use Rattle.value_text.specs.declared.fault.DataFault.{DataFault}
+use Rattle.value_text.specs.declared.fault.DataFault.TheVariants as d
+use Rattle.cert_json.specs.Told.{Cause}
+use Rattle.cert_json.specs.declared.whole.JsonFault.{JsonFault}
+use Rattle.cert_json.specs.declared.whole.JsonFault.TheVariants as j
+use Rattle.cost_free.specs.Read.{task_of}
+use Rattle.cost_free.specs.declared.task.Task.{Task}
+use Rattle.constraint_gen.specs.declared.fault.What.{What}
+use Rattle.constraint_gen.specs.declared.fault.What.TheVariants as what
+use Rattle.annot_types.specs.Program.{Program}
+use Rattle.annot_types.specs.Certificate.{Certificate}
+use Rattle.courses.specs.Generator as g
+use Rattle.courses.specs.Generator.{Analysis}
+use Rattle.courses.specs.Verifying as v
+use Rattle.cert_check.specs.Fault as f
+use Rattle.cert_check.specs.Read.{fault_of}
+use Rattle.cert_check.specs.Finds as check
+use Rattle.cert_check.specs.declared.fault.CertFault.{CertFault}
+use Rattle.bound_infer.specs.Inferred.{InferCause, LeavesIn, LeavesVector, VerifyCause, VectorFault, TaskFault, what_of}
+use Rattle.bound_infer.specs.declared.leaves.LeavesAt.{LeavesAt}
+use Rattle.bound_infer.specs.declared.leaves.LeavesAt.TheVariants as at
+use Rattle.bound_infer.specs.declared.refusal.InferFault.TheVariants as i
+use Rattle.bound_infer.specs.declared.refusal.VerifyFault.TheVariants as r
+use Rattle.raml_top.specs.Ending as e
+use Rattle.raml_top.specs.Ending.{Ending, ending_of}
+use Rattle.raml_top.specs.Steps.{Names, no_names, SourceRefuses}
+use Rattle.raml_top.specs.Analysis.{CourseRefuses, TextRefuses, CheckRefuses}
+use Rattle.raml_top.specs.Call.{DataRefuses}
+use Rattle.raml_top.specs.Line.{line_of}
+use Rattle.raml_top.specs.Parts.{line_text, IsOf, IsWanting, IsToldOr, Refuses, ParseRefusal, TypeRefusal, DataRefusal, JsonRefusal, CheckRefusal, TypesRefuse, IsCheckAt}
+use Rattle.raml_top.specs.declared.answer.Refusal.{Refusal}
+use Rattle.raml_top.specs.declared.status.Status.{Status}
+use Rattle.raml_top.specs.declared.status.Status.TheVariants as s
+use Rattle.raml_top.specs.declared.status.CertAnswer.TheVariants as c
+use Rattle.raml_top.specs.declared.status.OverflowAt.TheVariants as o
+use Rattle.fault_text.specs.declared.source.SourceFault.TheVariants as source
+
+-- a refusal of a status whose ending has a cause
+pub told_refuses : (names : Names) (status : Status) (ending : Ending) (R : Ending → Type 0) → ending_of status ≡ Some ending → R ending →
+    (refusal : Refusal) → IsToldOr names status refusal → Refuses names R refusal
+told_refuses names status ending R is cause refusal (inl wanting) = inl wanting
+told_refuses names status ending R is cause refusal (inr h) = inr (ending, ap ending_of h.0 ∙ is, h.1 ∙ ap (line_of names) (sym h.0), cause)
+
+module _ (bytes : List ℕ) where
+  parse_told : (fault : ParseFault) → ending_of (s.Source (source.Parse fault)) ≡ Some (e.Source (e.Parse fault)) → FirstFault bytes fault →
+      (refusal : Refusal) → IsToldOr no_names (s.Source (source.Parse fault)) refusal → Refuses no_names (SourceRefuses bytes) refusal
+  parse_told fault is h refusal told = told_refuses no_names _ (e.Source (e.Parse fault)) (SourceRefuses bytes) is h refusal told
+
+  parse_cause : (fault : ParseFault) → FirstFault bytes fault → (refusal : Refusal) → ParseRefusal fault refusal → Refuses no_names (SourceRefuses bytes) refusal
+  parse_cause (p.NotUtf8 a) h refusal told = parse_told (p.NotUtf8 a) refl h refusal told
+  parse_cause (p.Lex (l.BadChar a)) h refusal told = parse_told (p.Lex (l.BadChar a)) refl h refusal told
+  parse_cause (p.Lex (l.NumberTooWide a)) h refusal told = parse_told (p.Lex (l.NumberTooWide a)) refl h refusal told
+  parse_cause (p.Lex (l.OpenComment a)) h refusal told = parse_told (p.Lex (l.OpenComment a)) refl h refusal told
+  parse_cause (p.Lex l.NoMemory) h refusal told = absurd (h.1)
+  parse_cause (p.Syntax a) h refusal told = parse_told (p.Syntax a) refl h refusal told
+  parse_cause (p.TooDeep a) h refusal told = parse_told (p.TooDeep a) refl h refusal told
+  parse_cause (p.TooMany a) h refusal told = parse_told (p.TooMany a) refl h refusal told
+  parse_cause p.NoMemory h refusal told = absurd h
+
+  pub parse_refuses : (fault : ParseFault) → (fault ≡ p.NoMemory) ⊎ FirstFault bytes fault → (refusal : Refusal) → ParseRefusal fault refusal → Refuses no_names (SourceRefuses bytes) refusal
+  parse_refuses fault (inl same) refusal told = inl (subst (λ x. ParseRefusal x refusal) same told)
+  parse_refuses fault (inr h) refusal told = parse_cause fault h refusal told
+
+module _ (P : Prog) where
+  type_told : (fault : TypeFault) (first : types_fault.Fault) → ending_of (s.Source (source.«Type» fault)) ≡ Some (e.Source (e.Types first)) → walk_program P ≡ Err first →
+      (refusal : Refusal) → IsToldOr no_names (s.Source (source.«Type» fault)) refusal → Refuses no_names (TypesRefuse P) refusal
+  type_told fault first is h refusal told = told_refuses no_names _ (e.Source (e.Types first)) (TypesRefuse P) is h refusal told
+
+  pub type_refuses : (fault : TypeFault) → EndsWith (walk_program P) fault → (refusal : Refusal) → TypeRefusal fault refusal → Refuses no_names (TypesRefuse P) refusal
+  type_refuses (t.Unknown a) h refusal told = type_told (t.Unknown a) _ refl (h _ refl) refusal told
+  type_refuses (t.Twice a) h refusal told = type_told (t.Twice a) _ refl (h _ refl) refusal told
+  type_refuses (t.Wanted a want got) h refusal told = type_told (t.Wanted a want got) _ refl (h _ refl) refusal told
+  type_refuses (t.NeedsType a) h refusal told = type_told (t.NeedsType a) _ refl (h _ refl) refusal told
+  type_refuses (t.Arity a want got) h refusal told = type_told (t.Arity a want got) _ refl (h _ refl) refusal told
+  type_refuses t.NoMemory h refusal told = inl told
+
+module _ (bytes : List ℕ) (fun : Function) where
+  data_told : (fault : DataFault) → ending_of (s.Data fault) ≡ Some (e.BadData fault) → data.Answers bytes (types_of fun) (Err fault) →
+      (refusal : Refusal) → IsToldOr no_names (s.Data fault) refusal → Refuses no_names (DataRefuses bytes fun) refusal
+  data_told fault is h refusal told = told_refuses no_names _ (e.BadData fault) (DataRefuses bytes fun) is h refusal told
+
+  pub data_refuses : (fault : DataFault) → data.FirstFault bytes (types_of fun) fault → (refusal : Refusal) → DataRefusal fault refusal → Refuses no_names (DataRefuses bytes fun) refusal
+  data_refuses (d.NotUtf8 a) h refusal told = data_told (d.NotUtf8 a) refl h refusal told
+  data_refuses (d.Shape a) h refusal told = data_told (d.Shape a) refl h refusal told
+  data_refuses (d.TooDeep a) h refusal told = data_told (d.TooDeep a) refl h refusal told
+  data_refuses d.TooManyCells h refusal told = data_told d.TooManyCells refl h refusal told
+  data_refuses d.NoMemory h refusal told = inl told
+
+pub json_refuses : (bytes : List ℕ) (fault : JsonFault) → Cause bytes fault → (refusal : Refusal) → JsonRefusal fault refusal → Refuses no_names (TextRefuses bytes) refusal
+json_refuses bytes j.NotJson h refusal told = told_refuses no_names _ _ (TextRefuses bytes) refl h refusal told
+json_refuses bytes (j.Shape place) h refusal told = told_refuses no_names _ _ (TextRefuses bytes) refl h refusal told
+json_refuses bytes (j.Number place) h refusal told = told_refuses no_names _ _ (TextRefuses bytes) refl h refusal told
+json_refuses bytes j.NoMemory h refusal told = inl told
+
+-- courses
+module _ (names : Names) (A : Analysis) where
+  pub large_refuses : (task : Task) (what : What) → InferCause A (i.TooLarge task what) → (refusal : Refusal) → IsToldOr names (s.TooLarge task what) refusal → Refuses names (CourseRefuses A) refusal
+  large_refuses task what h refusal told = told_refuses names _ (e.TooLarge (task_of task) (what_of what)) (CourseRefuses A) refl h refusal told
+
+  pub leaves_refuses : (place : LeavesAt) → LeavesIn A place → (refusal : Refusal) → IsToldOr names (s.Overflow (o.At place)) refusal → Refuses names (CourseRefuses A) refusal
+  leaves_refuses (at.Solve task pivots row col) h refusal told = told_refuses names _ _ (CourseRefuses A) refl (omega arith, h) refusal told
+  leaves_refuses (at.Row task row) h refusal told = told_refuses names _ _ (CourseRefuses A) refl (omega arith, h) refusal told
+  leaves_refuses (at.Scale task entry) h refusal told = told_refuses names _ _ (CourseRefuses A) refl (omega arith, h) refusal told
+  leaves_refuses (at.Rescale task block) h refusal told = told_refuses names _ _ (CourseRefuses A) refl (omega arith, h) refusal told
+  leaves_refuses (at.Check block path index) h refusal told = told_refuses names _ _ (CourseRefuses A) refl h refusal told
+  leaves_refuses (at.Refute task column) h refusal told = told_refuses names _ _ (CourseRefuses A) refl (omega arith, h) refusal told
+  leaves_refuses (at.Least task column) h refusal told = told_refuses names _ _ (CourseRefuses A) refl (omega arith, h) refusal told
+
+-- certificates that are read
+module _ (names : Names) (N : Program) (cert : Certificate) where
+  abbrev Of : Ending → Type 0
+  Of = CheckRefuses N cert
+
+  first_of : (found : Option f.Fault) → ((found ≡ None) → ⊥) → check.FirstFault N cert found → (refusal : Refusal) → CheckRefusal names found refusal → Refuses names Of refusal
+  first_of None some h refusal told = absurd (some refl)
+  first_of (Some (f.Shape block)) some h refusal (inl wanting) = inl wanting
+  first_of (Some (f.Shape block)) some h refusal (inr told) = told_refuses names (s.Certificate (c.Check told.0)) (e.Certified (e.Check (f.Shape block))) Of (ap e.check_ending told.1) h refusal (inr told.2)
+  first_of (Some (f.Fails block path index)) some h refusal (inl wanting) = inl wanting
+  first_of (Some (f.Fails block path index)) some h refusal (inr told) =
+      told_refuses names (s.Certificate (c.Check told.0)) (e.Certified (e.Check (f.Fails block path index))) Of (ap e.check_ending told.1) h refusal (inr told.2)
+  first_of (Some (f.Leaves block path index)) some h refusal (inl wanting) = inl wanting
+  first_of (Some (f.Leaves block path index)) some h refusal (inr told) =
+      told_refuses names (s.Overflow (o.At told.0)) (e.Overflows (e.InCheck block path index)) Of (place_of told.0 told.1) h refusal (inr told.2)
+    where
+      place_of : (place : LeavesAt) → IsCheckAt block path index place → ending_of (s.Overflow (o.At place)) ≡ Some (e.Overflows (e.InCheck block path index))
+      place_of (at.Check b q k) is = λ x. Some (e.Overflows (e.InCheck (is.0 x) (is.1 x) (is.2 x)))
+      place_of place is = absurd is
+  first_of (Some (f.TooLarge task)) some h refusal (inl wanting) = inl wanting
+  first_of (Some (f.TooLarge task)) some h refusal (inr told) =
+      told_refuses names (s.TooLarge told.0 what.Indices) (e.TooLarge task g.Indices) Of (ap (λ t. Some (e.TooLarge t g.Indices)) told.1) (inl (h, refl)) refusal (inr told.2)
+
+  pub check_refuses : (fault : CertFault) → VerifyCause N cert (r.Cert fault) → (refusal : Refusal) → CheckRefusal names (fault_of fault) refusal → Refuses names Of refusal
+  check_refuses fault h refusal told = first_of (fault_of fault) (λ none. h.0 none) h.1 refusal told
+
+  pub vector_refuses : (block : ℕ) → VectorFault N cert block v.NotRefuted → (refusal : Refusal) → IsToldOr names (s.Certificate (c.NotRefuted block)) refusal → Refuses names Of refusal
+  vector_refuses block h refusal told = told_refuses names _ (e.Certified (e.NotRefuted block)) Of refl h refusal told
+
+  pub task_refuses : (task : Task) (what : What) → TaskFault N cert (task_of task) (v.TooLarge (what_of what)) → (refusal : Refusal) → IsToldOr names (s.TooLarge task what) refusal → Refuses names Of refusal
+  task_refuses task what h refusal told = told_refuses names _ (e.TooLarge (task_of task) (what_of what)) Of refl (inr h) refusal told
+
+  pub place_refuses : (place : LeavesAt) → LeavesVector N cert place → (refusal : Refusal) → IsToldOr names (s.Overflow (o.At place)) refusal → Refuses names Of refusal
+  place_refuses (at.Row task row) h refusal told = told_refuses names _ _ Of refl h refusal told
+  place_refuses (at.Refute task column) h refusal told = told_refuses names _ _ Of refl h refusal told
+  place_refuses place h refusal told = absurd h

@@ -1,0 +1,21 @@
+use Rattle.std.proofs.Common.{refl, inl, inr, arith, rules}
+use Rattle.raml_top.specs.Outside.{store_of}
+use Rattle.raml_top.specs.Ending as e
+use Rattle.raml_top.specs.Steps.{no_names}
+use Rattle.raml_top.specs.Parts.{FileRefuses}
+use Rattle.raml_top.specs.declared.status.Status.TheVariants as s
+use Rattle.raml_top.proofs.Refusing.{told_refuses}
+use Rattle.raml_top.proofs.Reading.{still_rises, too_long_read}
+use Rattle.raml_top.proofs.file.read_file.Goals as goal
+
+pub returns-then-len-most_bytes-clause-err : goal.returns-then-len-most_bytes-clause-err
+returns-then-len-most_bytes-clause-err g c before earlier =
+    let store = store_of (g.S.Store.holds c.args.store.now) before (g.S.Store.faults c.read.new.self) in
+    told_refuses no_names (s.TooLong c.args.which) (e.TooLong c.args.which) (FileRefuses store c.args.which c.args.name.now) refl
+    (too_long_read store c.args.which c.args.name.now c.in-Ok.bytes.items (search rules) (search rules) (search rules)) c.too_long.result (inr (c.too_long.ensures no_names))
+
+pub returns-in-Err-Failed-clause-err : goal.returns-in-Err-Failed-clause-err
+returns-in-Err-Failed-clause-err g c before earlier =
+    let store = store_of (g.S.Store.holds c.args.store.now) before (g.S.Store.faults c.read.new.self) in
+    told_refuses no_names (s.ReadFault c.args.which) (e.ReadFault c.args.which) (FileRefuses store c.args.which c.args.name.now) refl
+    (refl, still_rises _ _ _ (earlier c.args.name.now) (search rules)) c.unread.result (inr (c.unread.ensures no_names))
