@@ -58,7 +58,7 @@ module _ (P : Program) (cert : Certificate) where
     first fault f = record { passes = passes; first = record { is = f; first = λ i other low. none_before place clear i other low } }
 
     of_task : (task : Task) (fault : v.Fault) → (task ≡ block.task) → Faulty P cert place fault → TaskFault P cert task fault
-    of_task task fault e f = record { place = place; block = block; there = there; is = sym e; first = first fault f }
+    of_task task fault e f = record { place = place; block = block; there = there; is = sym e; has = first fault f }
 
     leaves : (at : LeavesAt) → LeavesThere P cert place block.task at → LeavesVector P cert at
     leaves (l.Row task row) h = of_task _ _ h.0 h.1

@@ -58,7 +58,7 @@ impl<'p, 'a> Model for Verified<'p, 'a> {
         × AllRefuted (program_in verified.checked.program) verified.checked.certificate };
 }
 
-/// A certificate that is valid is kept.
+/// A certificate that was checked is kept, where it is valid and its refuted tasks have no solution.
 pub(crate) fn keep<'p, 'a>(checked: Checked<'p, 'a>) -> Verified<'p, 'a>
     requires valid { Valid (program_in checked.program) checked.certificate }
     requires refuted { AllRefuted (program_in checked.program) checked.certificate }

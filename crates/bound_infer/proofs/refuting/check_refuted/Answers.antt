@@ -9,7 +9,7 @@ use Rattle.courses.specs.Generator.{limit_of}
 use Rattle.courses.specs.Verifying as v
 use Rattle.exact_systems.specs.Analysed.{generator_of}
 use Rattle.bound_infer.specs.Cleared.{OfFault, Tells}
-use Rattle.bound_infer.proofs.Limited.{caused, none_leaves, none_exceeded}
+use Rattle.bound_infer.proofs.Exceeded.{caused, none_leaves, none_exceeded}
 use Rattle.bound_infer.proofs.refuting.check_refuted.Goals as goal
 
 pub returns-in-Err : goal.returns-in-Err
