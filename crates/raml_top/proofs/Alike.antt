@@ -1,7 +1,8 @@
 -- Answers that end alike, step by step.
 use Rattle.std.proofs.Common.{◌≡◌, refl, sym, ap, subst, ◌∙◌}
+use Rattle.raml_syntax.specs.Tree.{Text}
 use Rattle.raml_top.specs.Ending.{Ending, Overflows, OnTask}
-use Rattle.raml_top.specs.Steps.{Names, Answer, ending_in, Step, refused, goes_on}
+use Rattle.raml_top.specs.Steps.{Names, Answer, Report, Refusal, ending_in, Step, refused, goes_on}
 use Rattle.raml_top.specs.Promise.{Alike}
 
 pub alike_refl : (e : Ending) → Alike e e
@@ -11,11 +12,23 @@ alike_refl _ = refl
 pub alike_same : (e f : Ending) → e ≡ f → Alike e f
 alike_same e f same = subst (Alike e) same (alike_refl e)
 
+-- two reports, or two refusals, that end alike
 abbrev pub Same : Answer → Answer → Type 0
-Same a b = Alike (ending_in a) (ending_in b)
+Same (Report e text) (Report f other) = Alike e f
+Same (Refusal names e) (Refusal others f) = Alike e f
+Same a b = ⊥
 
-pub same_by : (a b : Answer) (e f : Ending) → ending_in a ≡ e → ending_in b ≡ f → Alike e f → Same a b
-same_by a b e f is are h = subst (λ x. Alike x (ending_in b)) (sym is) (subst (Alike e) (sym are) h)
+pub same_ends : (a b : Answer) → Same a b → Alike (ending_in a) (ending_in b)
+same_ends (Report e text) (Report f other) h = h
+same_ends (Refusal names e) (Refusal others f) h = h
+same_ends (Report e text) (Refusal others f) h = absurd h
+same_ends (Refusal names e) (Report f other) h = absurd h
+
+pub same_refusals : (a b : Answer) (names others : Names) (e f : Ending) → a ≡ Refusal names e → b ≡ Refusal others f → Alike e f → Same a b
+same_refusals a b names others e f is are h = subst (λ x. Same x b) (sym is) (subst (Same (Refusal names e)) (sym are) h)
+
+pub same_reports : (a b : Answer) (text other : Text) (e f : Ending) → a ≡ Report e text → b ≡ Report f other → Alike e f → Same a b
+same_reports a b text other e f is are h = subst (λ x. Same x b) (sym is) (subst (Same (Report e text)) (sym are) h)
 
 -- Two steps whose refusals end alike, that come to one thing and exclude each other's refusals.
 pub record Fit {X : Type 0} (R S : Ending → Type 0) (C D : X → Type 0) : Type 0 where
@@ -26,7 +39,7 @@ pub record Fit {X : Type 0} (R S : Ending → Type 0) (C D : X → Type 0) : Typ
 
 pub steps_same : {X : Type 0} (names others : Names) (R S : Ending → Type 0) (C D : X → Type 0) (Q T : X → Answer → Type 0) → Fit R S C D →
     ((x : X) → C x → D x → (a b : Answer) → Q x a → T x b → Same a b) → (a b : Answer) → Step names R C Q a → Step others S D T b → Same a b
-steps_same names others R S C D Q T fit rest a b (refused e r is) (refused f s are) = same_by a b e f (ap ending_in is) (ap ending_in are) (fit.refusals e f r s)
+steps_same names others R S C D Q T fit rest a b (refused e r is) (refused f s are) = same_refusals a b names others e f is are (fit.refusals e f r s)
 steps_same names others R S C D Q T fit rest a b (refused e r is) (goes_on y d t) = absurd (fit.not_left e y r d)
 steps_same names others R S C D Q T fit rest a b (goes_on x c q) (refused f s are) = absurd (fit.not_right x f c s)
 steps_same names others R S C D Q T fit rest a b (goes_on x c q) (goes_on y d t) =

@@ -1,8 +1,15 @@
 pub mod Stepping
 pub mod Running
+pub mod Placing
+pub mod Proved
+pub mod Reporting
+pub mod Bounding
 pub mod Refusing
 pub mod Choosing
 pub mod Reading
 pub mod Alike
 pub mod OneSource
 pub mod OneCourse
+pub mod OneCheck
+pub mod OneRun
+pub mod One

@@ -14,4 +14,4 @@ still_rises before old now earlier h = ⊎_elim (λ less. inl (omega (arith, les
 pub too_long_read : (store : Store) (which : Which) (file bytes : List ℕ) → length bytes ≤ suc (most_bytes which) →
     IfSome store.holds (λ files. IsFront files file (suc (most_bytes which)) bytes) → most_bytes which < length bytes →
     (which ≡ which) × ((some : List ℕ) × IsRead Promised store (most_bytes which) file (Some some) × IsTooLong which some)
-too_long_read store which file bytes few front long = (refl, bytes, record { few = few; front = front }, omega (arith, long))
+too_long_read store which file bytes few front long = (refl, (bytes, record { few = few; front = front }, omega (arith, long)))

@@ -1,5 +1,5 @@
 -- Faults of other calls, as refusals of this one.
-use Rattle.std.proofs.Common.{◌≡◌, ◌≤◌, ◌⊎◌, ℕ, List, Option, Some, None, Result, Ok, Err, refl, sym, ap, subst, ◌∙◌, inl, inr, arith}
+use Rattle.std.proofs.Common.{◌≡◌, ◌≢◌, ◌≤◌, ◌⊎◌, ℕ, List, Option, Some, None, Result, Ok, Err, refl, sym, ap, subst, ◌∙◌, inl, inr, arith}
 use Rattle.raml_syntax.specs.Tree.{Text, Function, Prog}
 use Rattle.raml_syntax.specs.Types.{types_of}
 use Rattle.raml_parse.specs.Spelling.{FirstFault}
@@ -11,7 +11,7 @@ use Rattle.simple_types.specs.Walk.{walk_program}
 use Rattle.simple_types.specs.Read.{EndsWith}
 use Rattle.simple_types.specs.declared.fault.TypeFault.{TypeFault}
 use Rattle.simple_types.specs.declared.fault.TypeFault.TheVariants as t
-use Rattle.value_text.specs.Reading as data
+use Rattle.value_text.specs.Reading as reading
 use Rattle.value_text.specs.declared.fault.DataFault.{DataFault}
 use Rattle.value_text.specs.declared.fault.DataFault.TheVariants as d
 use Rattle.cert_json.specs.Told.{Cause}
@@ -89,11 +89,11 @@ module _ (P : Prog) where
   type_refuses t.NoMemory h refusal told = inl told
 
 module _ (bytes : List ℕ) (fun : Function) where
-  data_told : (fault : DataFault) → ending_of (s.Data fault) ≡ Some (e.BadData fault) → data.Answers bytes (types_of fun) (Err fault) →
+  data_told : (fault : DataFault) → ending_of (s.Data fault) ≡ Some (e.BadData fault) → reading.Answers bytes (types_of fun) (Err fault) →
       (refusal : Refusal) → IsToldOr no_names (s.Data fault) refusal → Refuses no_names (DataRefuses bytes fun) refusal
   data_told fault is h refusal told = told_refuses no_names _ (e.BadData fault) (DataRefuses bytes fun) is h refusal told
 
-  pub data_refuses : (fault : DataFault) → data.FirstFault bytes (types_of fun) fault → (refusal : Refusal) → DataRefusal fault refusal → Refuses no_names (DataRefuses bytes fun) refusal
+  pub data_refuses : (fault : DataFault) → reading.FirstFault bytes (types_of fun) fault → (refusal : Refusal) → DataRefusal fault refusal → Refuses no_names (DataRefuses bytes fun) refusal
   data_refuses (d.NotUtf8 a) h refusal told = data_told (d.NotUtf8 a) refl h refusal told
   data_refuses (d.Shape a) h refusal told = data_told (d.Shape a) refl h refusal told
   data_refuses (d.TooDeep a) h refusal told = data_told (d.TooDeep a) refl h refusal told
@@ -156,3 +156,17 @@ module _ (names : Names) (N : Program) (cert : Certificate) where
   place_refuses (at.Row task row) h refusal told = told_refuses names _ _ Of refl h refusal told
   place_refuses (at.Refute task column) h refusal told = told_refuses names _ _ Of refl h refusal told
   place_refuses place h refusal told = absurd h
+
+-- refusals by the code's faults
+pub data_refusal : (fault : DataFault) → (fault ≢ d.NoMemory) → (refusal : Refusal) → IsToldOr no_names (s.Data fault) refusal → DataRefusal fault refusal
+data_refusal (d.NotUtf8 a) some refusal told = told
+data_refusal (d.Shape a) some refusal told = told
+data_refusal (d.TooDeep a) some refusal told = told
+data_refusal d.TooManyCells some refusal told = told
+data_refusal d.NoMemory some refusal told = absurd (some refl)
+
+pub json_refusal : (fault : JsonFault) → (fault ≢ j.NoMemory) → (refusal : Refusal) → IsToldOr no_names (s.Certificate (c.Json fault)) refusal → JsonRefusal fault refusal
+json_refusal j.NotJson some refusal told = told
+json_refusal (j.Shape place) some refusal told = told
+json_refusal (j.Number place) some refusal told = told
+json_refusal j.NoMemory some refusal told = absurd (some refl)

@@ -5,16 +5,19 @@ ghost use Rattle.call_groups.specs.Groups.{IsGrouping};
 ghost use Rattle.courses.specs.Generator.{Analysis};
 ghost use Rattle.courses.specs.Good.{AllLeast};
 ghost use Rattle.exact_systems.specs.Analysed.{analysis_of};
+ghost use Rattle.share_normal.specs.Program.{source_in};
 ghost use Rattle.rule_plan.specs.Read.{program_in};
 ghost use Rattle.whole_answers.specs.Rules.{least_pick, greatest_pick};
 ghost use Rattle.bound_infer.specs.Inferred.{IsInferred, InferCause};
-ghost use Rattle.raml_top.specs.Analysis.{analysis, CourseRefuses};
+ghost use Rattle.raml_top.specs.Analysis.{analysis, CourseRefuses, IsProved};
 ghost use Rattle.raml_top.specs.Parts.{Refuses, names_in};
 
 use crate::answer::Refusal;
 use crate::line::{overflow, too_large};
+use amortised_bounds::laws::lines_are_true;
 use bound_infer::{InferFault, Verified, infer};
 use call_groups::group_calls;
+use courses::laws::lines_tell;
 use frac128::Frac;
 use raml_words::Rule;
 use share_normal::{NormProgram, normalise};
@@ -45,10 +48,14 @@ pub fn analyse<'p, 'a>(
     ensures program { IfOk result (λ verified. verified.program ≡ program.now) }
     ensures course { IfOk result (λ verified. IsInferred (analysis (program_in program.now) degree rule) verified.certificate) }
     ensures least { IfOk result (λ verified. AllLeast (program_in program.now) verified.certificate) }
+    ensures proved { IfOk result (λ verified. IsProved (source_in program.now) (program_in program.now) verified.certificate) }
     ensures err { IfErr result (Refuses (names_in program.now) (CourseRefuses (analysis (program_in program.now) degree rule))) }
 {
     match by_rule(alloc, program, degree, rule) {
-        Ok(verified) => Ok(verified),
+        Ok(verified) => {
+            proved(program, &verified);
+            Ok(verified)
+        }
         Err(fault) => Err(course_refusal(alloc, program, fault)),
     }
 }
@@ -70,6 +77,19 @@ fn by_rule<'p, 'a>(
         Rule::Least => by_least(alloc, program, degree),
         Rule::Greatest => by_greatest(alloc, program, degree),
     }
+}
+
+/// What is proved of each certificate that was verified.
+pub fn proved(program: &NormProgram<'_>, verified: &Verified<'_, '_>)
+    requires { verified.now.program ≡ program.now }
+    ensures { IsProved (source_in program.now) (program_in program.now) verified.now.certificate }
+{
+    lines_are_true();
+    lines_tell();
+    let _source = program.source();
+    let _groups = program.groups();
+    let _functions = program.functions();
+    let _certificate = verified.certificate();
 }
 
 // The least column of positive gain enters.

@@ -15,6 +15,7 @@ use crate::answer::{Refusal, Report};
 use crate::status::Status;
 use metered_vm::{End, Vm};
 use raml_syntax::{FunId, Ty};
+use run_limits::laws::never_asks;
 use report_text::{full_lines, stopped_lines, value_lines};
 use simple_types::Typed;
 use stack_compile::compile;
@@ -45,6 +46,7 @@ pub fn execute(
     ensures ok { IfOk result (λ report. RanOn (program_of typed.now) place.0 heap.cells args.items (limits_of limits) report.status (report.text.items)) }
     ensures err { IfErr result IsWanting }
 {
+    never_asks();
     let fun = &typed.program().funs[place.0 as usize];
     let code = compile(alloc, typed)?;
     let mut vm = Vm::new(alloc, &code, place, heap, args, limits.cells)?;

@@ -3,14 +3,16 @@ ghost use Rattle.std.specs.Prelude.{◌≡◌, ◌≤◌, ℕ, IfOk, IfErr};
 ghost use Rattle.raml_syntax.specs.Tree.{Text};
 ghost use Rattle.annot_types.specs.Certificate as a;
 ghost use Rattle.annot_types.specs.Read.{certificate_of};
+ghost use Rattle.share_normal.specs.Program.{source_in};
 ghost use Rattle.rule_plan.specs.Read.{program_in};
 ghost use Rattle.cert_check.specs.Read.{fault_of};
 ghost use Rattle.bound_infer.specs.Inferred.{IsVerified, VerifyCause};
-ghost use Rattle.raml_top.specs.Analysis.{CheckRefuses};
+ghost use Rattle.raml_top.specs.Analysis.{CheckRefuses, IsProved};
 ghost use Rattle.raml_top.specs.Outside.{store_of};
 ghost use Rattle.raml_top.specs.Steps.{no_names};
 ghost use Rattle.raml_top.specs.Parts.{Before, IsCertificateFile, CertificateRefuses, Refuses, JsonRefusal, CheckRefusal, IsToldOr, IsCheckAt, names_in};
 
+use crate::analysis::proved;
 use crate::answer::Refusal;
 use crate::file::read_file;
 use crate::line::{overflow, too_large};
@@ -68,10 +70,14 @@ pub fn verified<'p, 'a>(
     ensures program { IfOk result (λ verified. verified.program ≡ program.now) }
     ensures same { IfOk result (λ verified. verified.certificate ≡ certificate_of certificate) }
     ensures ok { IfOk result (λ verified. IsVerified (program_in program.now) (certificate_of certificate)) }
+    ensures proved { IfOk result (λ verified. IsProved (source_in program.now) (program_in program.now) verified.certificate) }
     ensures err { IfErr result (Refuses (names_in program.now) (CheckRefuses (program_in program.now) (certificate_of certificate))) }
 {
     match verify(alloc, program, certificate) {
-        Ok(verified) => Ok(verified),
+        Ok(verified) => {
+            proved(program, &verified);
+            Ok(verified)
+        }
         Err(fault) => Err(verify_refusal(alloc, program, fault)),
     }
 }

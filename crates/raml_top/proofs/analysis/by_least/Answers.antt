@@ -8,7 +8,7 @@ pub infer-requires-clause-answers : goal.infer-requires-clause-answers
 infer-requires-clause-answers c = record { pick = least_pick; answers = answers_by _ _ least_pick (λ gains o p. search rules) }
 
 pub returns-clause-course : goal.returns-clause-course
-returns-clause-course c = course_by c.infer.result least_pick (answers_by _ _ least_pick (λ gains o p. search rules)) c.infer.ensures.course
+returns-clause-course c = course_by c.infer.result least_pick _ _ (answers_by _ _ least_pick (λ gains o p. search rules)) c.infer.ensures.course
 
 pub returns-clause-fault : goal.returns-clause-fault
-returns-clause-fault c = fault_by c.infer.result least_pick (answers_by _ _ least_pick (λ gains o p. search rules)) c.infer.ensures.fault
+returns-clause-fault c = fault_by c.infer.result least_pick _ _ (answers_by _ _ least_pick (λ gains o p. search rules)) c.infer.ensures.fault

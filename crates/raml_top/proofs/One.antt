@@ -1,0 +1,110 @@
+-- What is needed for an answer brings it.
+use Rattle.std.proofs.Common.{◌≡◌, ◌⊎◌, ℕ, List, [], Option, Some, None, refl, sym, ap, subst, ◌∙◌, inl, inr}
+use Rattle.std.specs.List.{All}
+use Rattle.raml_syntax.specs.Tree.{Text, Function, Prog}
+use Rattle.raml_syntax.specs.Value.{Value}
+use Rattle.raml_syntax.specs.Node.{AllNodes, NumberFits}
+use Rattle.raml_parse.proofs.Limits.{within_limits}
+use Rattle.call_groups.specs.Groups.{Grouping, IsGrouping}
+use Rattle.amortised_bounds.specs.Laws.{normal_of}
+use Rattle.annot_types.specs.Program.{Program}
+use Rattle.annot_types.specs.Certificate.{Certificate}
+use Rattle.raml_words.specs.Words as w
+use Rattle.raml_words.specs.Words.{Request, Asks, AsksNothing}
+use Rattle.raml_words.proofs.Worded.{one_request}
+use Rattle.raml_words.specs.declared.request.Rule.{Rule}
+use Rattle.raml_words.specs.declared.request.Rule.TheVariants as rule
+use Rattle.report_text.specs.Trial.{trial_text, trial_function, trial_data}
+use Rattle.fault_text.specs.declared.plain.Which.TheVariants as which
+use Rattle.raml_top.specs.Ending.{Ending, Done, Usage, ending_of}
+use Rattle.raml_top.specs.Outside.{Outside, Promised, Needed, Store, Rises}
+use Rattle.raml_top.specs.Steps.{no_names, Answer, Report, Refusal, ending_in, Prints, IsTyped, OfSource, OfNormal}
+use Rattle.raml_top.specs.Analysis.{OfCourse, OfCheck}
+use Rattle.raml_top.specs.Call.{Placed, Limits, OfArguments, OfFloors, Runs, cells_or}
+use Rattle.raml_top.specs.Promise.{PrintsLines, PrintsCertificate, ListsTypes, ListsCode, Analyses, Certifies, Verifies, RunsWithin, RunsBounded, BoundedCall, RunsWithBounds, RunsTrial, TriesCall, Tries, Answers, WordsAnswer, Comes, EndsBy, LacksMemory, Cause, Alike, EndsAlike, IsWritable, Forced}
+use Rattle.raml_top.specs.declared.status.Status.{Status}
+use Rattle.raml_top.specs.declared.status.Status.TheVariants.{NoMemory}
+use Rattle.raml_top.proofs.Alike.{alike_same, Same, Fit, steps_same}
+use Rattle.raml_top.proofs.OneSource.{short_same, source_same, program_same}
+use Rattle.raml_top.proofs.OneCourse.{CourseLaws, normal_same, course_same}
+use Rattle.raml_top.proofs.OneCheck.{certificate_same, check_same}
+use Rattle.raml_top.proofs.OneRun.{function_same, arguments_same, call_same, floors_same, runs_same}
+
+prints_same : (Is Also : Text → Type 0) (a b : Answer) → Prints Needed Is a → Prints Promised Also b → Same a b
+prints_same Is Also (Report Done t) (Report Done u) h k = refl
+prints_same Is Also (Report Done t) b h k = absurd k
+prints_same Is Also a b h k = absurd h
+
+-- the numbers of a program that a source spells fit
+numbers_fit : (source : List ℕ) (P : Prog) → IsTyped source P → All (λ (g : Function). AllNodes NumberFits g.body) P
+numbers_fit source P is = (within_limits 200 is.spelled.tokens P is.spelled.derives).numbers
+
+module _ (laws : CourseLaws) where
+  -- over the courses of one program
+  of_courses : (source : List ℕ) (P : Prog) → IsTyped source P → (degree : ℕ) (rule : Rule) (Q T : Program → Certificate → Answer → Type 0) →
+      ((N : Program) (c : Certificate) (a b : Answer) → Q N c a → T N c b → Same a b) → (a b : Answer) →
+      OfNormal P (λ N. OfCourse Needed P N degree rule (Q N)) a → OfNormal P (λ N. OfCourse Promised P N degree rule (T N)) b → Same a b
+  of_courses source P is degree rule Q T rest =
+      normal_same P (λ N. OfCourse Needed P N degree rule (Q N)) (λ N. OfCourse Promised P N degree rule (T N))
+      (λ groups grouping. course_same laws P is.typed (numbers_fit source P is) groups grouping degree rule (Q (normal_of P groups.list)) (T (normal_of P groups.list)) (rest (normal_of P groups.list)))
+
+  verified_same : (store : Store) (file : Text) (P : Prog) (a b : Answer) → Verifies Needed store file P a → Verifies Promised store file P b → Same a b
+  verified_same store file P =
+      certificate_same store file (λ c. OfNormal P (λ N. OfCheck Needed P N c (PrintsLines Needed P N c))) (λ c. OfNormal P (λ N. OfCheck Promised P N c (PrintsLines Promised P N c)))
+      (λ c. normal_same P (λ N. OfCheck Needed P N c (PrintsLines Needed P N c)) (λ N. OfCheck Promised P N c (PrintsLines Promised P N c))
+      (λ groups grouping. check_same (normal_of P groups.list) c P (PrintsLines Needed P (normal_of P groups.list) c) (PrintsLines Promised P (normal_of P groups.list) c) (prints_same _ _)))
+
+  bounded_same : (source : List ℕ) (P : Prog) → IsTyped source P → (steps : ℕ) (cells : Option ℕ) (degree : ℕ) (f : Placed) (args : List Value) (a b : Answer) →
+      BoundedCall Needed steps cells degree P f args a → BoundedCall Promised steps cells degree P f args b → Same a b
+  bounded_same source P is steps cells degree f args =
+      of_courses source P is degree rule.Least
+      (λ N c. OfFloors Needed P N c f args (λ floors. RunsBounded Needed P f args steps cells floors)) (λ N c. OfFloors Promised P N c f args (λ floors. RunsBounded Promised P f args steps cells floors))
+      (λ N c. floors_same P N c f args (λ floors. RunsBounded Needed P f args steps cells floors) (λ floors. RunsBounded Promised P f args steps cells floors)
+      (λ floors. runs_same P f args _ _ _ _ _))
+
+  tried_same : (source : List ℕ) (P : Prog) → IsTyped source P → (count : ℕ) (a b : Answer) → Tries Needed count P a → Tries Promised count P b → Same a b
+  tried_same source P is count =
+      of_courses source P is 1 rule.Least (TriesCall Needed count P) (TriesCall Promised count P)
+      (λ N c. function_same P (trial_function count) _ _
+      (λ f. arguments_same trial_data f.1 (λ args. RunsTrial Needed count P N c f args) (λ args. RunsTrial Promised count P N c f args) (λ args. runs_same P f args _ _ _ _ _)))
+
+  answers_same : (store : Store) (request : Request) (a b : Answer) → Answers Needed store request a → Answers Promised store request b → Same a b
+  answers_same store (w.Types file) = program_same store file (ListsTypes Needed) (ListsTypes Promised) (λ source P is. prints_same _ _)
+  answers_same store (w.Code file) = program_same store file (ListsCode Needed) (ListsCode Promised) (λ source P is. prints_same _ _)
+  answers_same store (w.Analyse file degree rule) =
+      program_same store file (Analyses Needed degree rule) (Analyses Promised degree rule)
+      (λ source P is. of_courses source P is degree rule (λ N c. PrintsLines Needed P N c) (λ N c. PrintsLines Promised P N c) (λ N c. prints_same _ _))
+  answers_same store (w.Certify file degree rule) =
+      program_same store file (Certifies Needed degree rule) (Certifies Promised degree rule)
+      (λ source P is. of_courses source P is degree rule (λ N c. PrintsCertificate Needed c) (λ N c. PrintsCertificate Promised c) (λ N c. prints_same _ _))
+  answers_same store (w.Verify file certificate) =
+      program_same store file (Verifies Needed store certificate) (Verifies Promised store certificate) (λ source P is. verified_same store certificate P)
+  answers_same store (w.Run file name data_file steps cells None) =
+      program_same store file _ _ (λ source P is. call_same store P name data_file _ _ (λ f args. runs_same P f args _ _ _ _ _))
+  answers_same store (w.Run file name data_file steps cells (Some degree)) =
+      program_same store file _ _ (λ source P is. call_same store P name data_file _ _ (bounded_same source P is steps cells degree))
+  answers_same store (w.Trial count) =
+      short_same which.Program (trial_text count) _ _ (source_same (trial_text count) _ _ (λ P is. tried_same (trial_text count) P is count))
+
+  words_same : (words : List Text) (store : Store) (a b : Answer) → WordsAnswer Needed words store a → WordsAnswer Promised words store b → Same a b
+  words_same words store =
+      steps_same no_names no_names _ _ (Asks words) (Asks words) (λ request. Answers Needed store request) (λ request. Answers Promised store request)
+      (record {
+        refusals = λ e f r s. alike_same e f (r.0 ∙ sym s.0);
+        not_left = λ e request r asks. r.1 request asks;
+        not_right = λ request e asks r. r.1 request asks;
+        one = λ r s h k. one_request words r s h k;
+      })
+      (λ request x y. answers_same store request)
+
+  -- a call whose cause is known ends as what is needed brings
+  pub causes_force : (o : Outside) (status : Status) → Cause o status → Forced o status
+  causes_force o status (inl h) a needed writable = inl h.0
+  causes_force o status (inr (b, comes, ends)) a needed writable = by a b (words_same o.words o.store a b needed comes) writable ends
+    where
+      by : (a b : Answer) → Same a b → IsWritable o.out a → EndsBy o b status → (status ≡ NoMemory) ⊎ EndsAlike (ending_in a) status
+      by (Report e text) (Report f other) same writable (inl h) = inr (f, h.0, same)
+      by (Report e text) (Report f other) same writable (inr h) = absurd (writable h.1.1)
+      by (Refusal names e) (Refusal others f) same writable h = inr (f, h.0, same)
+      by (Report e text) (Refusal others f) same writable h = absurd same
+      by (Refusal names e) (Report f other) same writable h = absurd same

@@ -1,0 +1,6 @@
+use Rattle.raml_top.specs.Steps.{no_names}
+use Rattle.raml_top.proofs.Refusing.{data_refusal}
+use Rattle.raml_top.proofs.call.data_refusal.Goals as goal
+
+pub returns-in_default : goal.returns-in_default
+returns-in_default c = data_refusal c.args.fault c.in_default.not-NoMemory c.told.result (c.told.ensures no_names c.data_line-line.ensures)
