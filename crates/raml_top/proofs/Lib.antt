@@ -4,6 +4,8 @@ pub mod Placing
 pub mod Proved
 pub mod Reporting
 pub mod Bounding
+pub mod Calling
+pub mod Causes
 pub mod Refusing
 pub mod Choosing
 pub mod Reading

@@ -26,7 +26,8 @@ use Rattle.raml_top.specs.declared.status.Status.{Status}
 use Rattle.raml_top.specs.declared.status.Status.TheVariants.{NoMemory}
 use Rattle.raml_top.proofs.Alike.{alike_same, Same, Fit, steps_same}
 use Rattle.raml_top.proofs.OneSource.{short_same, source_same, program_same}
-use Rattle.raml_top.proofs.OneCourse.{CourseLaws, normal_same, course_same}
+use Rattle.raml_top.specs.Known.{CourseLaws}
+use Rattle.raml_top.proofs.OneCourse.{normal_same, course_same}
 use Rattle.raml_top.proofs.OneCheck.{certificate_same, check_same}
 use Rattle.raml_top.proofs.OneRun.{function_same, arguments_same, call_same, floors_same, runs_same}
 

@@ -189,18 +189,18 @@ module _ (N : Program) (cert : Certificate) where
   same_vector : (x y : Entries) (b : Body) → b ≡ Refuted x → b ≡ Refuted y → x ≡ y
   same_vector x y b h k = let s : Refuted x ≡ Refuted y = sym h ∙ k in cc
 
+  abbrev Told : ℕ → Block → Entries → v.Fault → Type 0
+  Told place block farkas fault =
+      let s = system N cert.degree (before cert place) block.task (scale_for cert block.task.kind) in
+      v.VectorFault (limit_of (generator_of N cert.degree) block.task s) s farkas fault
+
   one_block_fault : (place : ℕ) (x y : v.Fault) → At place x → At place y → x ≡ y
   one_block_fault place x y h k =
       let block = same_block place k.block h.block k.there h.there in
       let vector = same_vector k.farkas h.farkas h.block.body (ap (λ (b : Block). b.body) (sym block) ∙ k.refuted) h.refuted in
-      let moved : Told h.block h.farkas y = subst (λ es. Told h.block es y) vector (subst (λ b. Told b k.farkas y) block k.is) in
+      let moved : Told place h.block h.farkas y = subst (λ es. Told place h.block es y) vector (subst (λ b. Told place b k.farkas y) block k.is) in
       let s = system N cert.degree (before cert place) h.block.task (scale_for cert h.block.task.kind) in
       one_vector_fault (limit_of (generator_of N cert.degree) h.block.task s) s h.farkas x y h.is moved
-    where
-      abbrev Told : Block → Entries → v.Fault → Type 0
-      Told block farkas fault =
-          let s = system N cert.degree (before cert place) block.task (scale_for cert block.task.kind) in
-          v.VectorFault (limit_of (generator_of N cert.degree) block.task s) s farkas fault
 
   -- what refuses the certificate: a fault of the check, or one of the vector of a block
   abbrev of_fault : f.Fault → Ending

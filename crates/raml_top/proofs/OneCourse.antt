@@ -13,19 +13,18 @@ use Rattle.courses.specs.States.{State}
 use Rattle.courses.specs.Places as p
 use Rattle.courses.specs.Places.{Place, stage}
 use Rattle.courses.specs.Courses.{OnTask, OnGroup, StopsAt, EndsAt}
-use Rattle.courses.specs.Laws.{OneCertificate, EndsOrStops, OnePlace}
 use Rattle.cost_free.specs.Task.{Task}
 use Rattle.cert_check.specs.Fault as f
 use Rattle.cert_check.specs.Finds.{FirstFault}
 use Rattle.cert_check.proofs.OneFault.{one_first_fault}
 use Rattle.bound_infer.specs.Inferred.{IsInferred, LeavesInCheck}
-use Rattle.exact_systems.specs.Laws.{SystemsGenerate, NormalsAreOrdered}
 use Rattle.raml_words.specs.declared.request.Rule.{Rule}
 use Rattle.raml_top.specs.Ending as e
 use Rattle.raml_top.specs.Ending.{Ending, TooLarge, Overflows, InCheck}
 use Rattle.raml_top.specs.Outside.{Promised, Needed, Side}
 use Rattle.raml_top.specs.Steps.{Answer, OfNormal, names_of}
 use Rattle.raml_top.specs.Analysis.{analysis, pick_of, CourseRefuses, IsCourse, OfCourse}
+use Rattle.raml_top.specs.Known.{CourseLaws}
 use Rattle.raml_top.specs.Promise.{Alike}
 use Rattle.base_poly.proofs.Among.{Among, among_contains, contains_among}
 use Rattle.raml_top.proofs.Alike.{alike_same, Same, Fit, steps_same}
@@ -42,24 +41,34 @@ later_ascends f [] up = tt
 later_ascends f (x ∷ fs) up = up.1
 
 -- two lists that ascend and have the same elements are one
+module _ (f g : ℕ) (fs gs : List ℕ) (up : Ascends (f ∷ fs)) (down : Ascends (g ∷ gs)) (go : (x : ℕ) → Among x (f ∷ fs) → Among x (g ∷ gs))
+    (back : (x : ℕ) → Among x (g ∷ gs) → Among x (f ∷ fs)) where
+  same_first : f ≡ g
+  same_first = ⊎_elim (λ e. sym e) (λ more. ⊎_elim (λ e. e) (λ less. both more less) (back g (inl refl))) (go f (inl refl))
+    where
+      both : Among f gs → Among g fs → f ≡ g
+      both more less = let a = least_first g gs down f more in let b = least_first f fs up g less in absurd (omega (arith, a, b))
+
+  onward : (x : ℕ) → Among x fs → Among x gs
+  onward x there = ⊎_elim (λ e. never e) (λ h. h) (go x (inr there))
+    where
+      never : g ≡ x → Among x gs
+      never e = let l = least_first f fs up x there in absurd (omega (arith, l, e, same_first))
+
+  backward : (x : ℕ) → Among x gs → Among x fs
+  backward x there = ⊎_elim (λ e. never e) (λ h. h) (back x (inr there))
+    where
+      never : f ≡ x → Among x fs
+      never e = let l = least_first g gs down x there in absurd (omega (arith, l, e, same_first))
+
 one_ascending : (fs gs : List ℕ) → Ascends fs → Ascends gs → ((x : ℕ) → Among x fs → Among x gs) → ((x : ℕ) → Among x gs → Among x fs) → fs ≡ gs
 one_ascending [] [] up down go back = refl
 one_ascending [] (g ∷ gs) up down go back = absurd (back g (inl refl))
 one_ascending (f ∷ fs) [] up down go back = absurd (go f (inl refl))
 one_ascending (f ∷ fs) (g ∷ gs) up down go back =
-    (λ i. same i ∷ rest i)
-  where
-    same : f ≡ g
-    same = ⊎_elim (λ e. sym e) (λ more. ⊎_elim (λ e. e) (λ less. absurd (let a = least_first g gs down f more in let b = least_first f fs up g less in omega (arith, a, b))) (back g (inl refl))) (go f (inl refl))
-
-    onward : (x : ℕ) → Among x fs → Among x gs
-    onward x there = ⊎_elim (λ e. absurd (let l = least_first f fs up x there in omega (arith, l, e, same))) (λ h. h) (go x (inr there))
-
-    backward : (x : ℕ) → Among x gs → Among x fs
-    backward x there = ⊎_elim (λ e. absurd (let l = least_first g gs down x there in omega (arith, l, e, same))) (λ h. h) (back x (inr there))
-
-    rest : fs ≡ gs
-    rest = one_ascending fs gs (later_ascends f fs up) (later_ascends g gs down) onward backward
+    let first = same_first f g fs gs up down go back in
+    let rest = one_ascending fs gs (later_ascends f fs up) (later_ascends g gs down) (onward f g fs gs up down go back) (backward f g fs gs up down go back) in
+    λ i. first i ∷ rest i
 
 module _ (P : Prog) where
   one_next : (before group other : List ℕ) → ComesNext P before group → ComesNext P before other → group ≡ other
@@ -91,14 +100,6 @@ module _ (P : Prog) where
       rest h.groups h.grouping a b h.rest (subst (λ gs. T (normal_of P gs) b) same k.rest)
 
 -- ---- courses
-
--- what is known of courses
-pub record CourseLaws : Type 0 where
-  pub one : OneCertificate
-  pub ends_or_stops : EndsOrStops
-  pub one_place : OnePlace
-  pub generate : SystemsGenerate
-  pub ordered : NormalsAreOrdered
 
 module _ (laws : CourseLaws) (A : Analysis) (generates : Generates A) where
   never : (c : Certificate) (st : State) (task : Task) (place : Place) → EndsAt A c → StopsAt A st task place → ⊥

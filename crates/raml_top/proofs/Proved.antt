@@ -15,7 +15,21 @@ use Rattle.annot_types.specs.Held.{Line, lines}
 use Rattle.amortised_bounds.specs.Laws.{normal_of, LinesAreTrue, IsTrue}
 use Rattle.courses.specs.Good.{AllRefuted}
 use Rattle.courses.specs.Lines.{LinesTell}
-use Rattle.raml_top.specs.Analysis.{IsProved}
+use Rattle.std.proofs.Common.{Result, Ok, Err, true}
+use Rattle.annot_types.specs.Certificate.{has_work}
+use Rattle.courses.specs.Good.{AllLeast}
+use Rattle.bound_infer.specs.Inferred.{IsInferred}
+use Rattle.raml_words.specs.declared.request.Rule.{Rule}
+use Rattle.raml_top.specs.Outside.{Promised}
+use Rattle.raml_syntax.specs.Read.{program_of}
+use Rattle.raml_syntax.specs.declared.program.Program.{Program as TheProgram}
+use Rattle.call_groups.specs.Groups.{IsGrouping}
+use Rattle.raml_top.specs.Steps.{Answer, OfNormal, names_of}
+use Rattle.raml_top.specs.Parts.{Gives, Refuses, names_in}
+use Rattle.raml_top.specs.declared.answer.Report.{Report}
+use Rattle.raml_top.specs.declared.answer.Refusal.{Refusal}
+use Rattle.raml_top.proofs.Stepping.{normal_gives, step_goes, step_refused}
+use Rattle.raml_top.specs.Analysis.{analysis, CourseRefuses, IsCourse, OfCourse, IsProved}
 
 -- the code's program is the normal form of its source, with its groups
 pub normal_is : (kept : Kept) → norm_in kept ≡ norm (source_in kept) → program_in kept ≡ normal_of (source_in kept) kept.groups.list
@@ -35,3 +49,30 @@ is_proved are_true tell kept typed numbers same c valid refuted =
       refuted = refuted;
       lines = record { bounds = bounds; tell = tell N c valid.held refuted };
     }
+
+pub kept_normal : (kept : Kept) (typed : TheProgram) → kept.source ≡ typed → norm_in kept ≡ norm (source_in kept) → program_in kept ≡ normal_of (program_of typed) kept.groups.list
+kept_normal kept typed source same = normal_is kept same ∙ ap (λ s. normal_of (program_of s) kept.groups.list) source
+
+-- what is given over the code's program is given over the normal form
+pub kept_gives : (typed : TheProgram) (kept : Kept) → kept.source ≡ typed → IsGrouping (program_of typed) kept.groups → program_in kept ≡ normal_of (program_of typed) kept.groups.list →
+    (Rest : Prog → Program → Answer → Type 0) (r : Result Report Refusal) → Gives (Rest (source_in kept) (program_in kept)) r → Gives (OfNormal (program_of typed) (Rest (program_of typed))) r
+kept_gives typed kept source grouping normal Rest r given =
+    normal_gives (program_of typed) (Rest (program_of typed)) kept.groups (program_in kept) grouping normal r (subst (λ s. Gives (Rest (program_of s) (program_in kept)) r) source given)
+
+-- a course of the code's program, over what it was typed from
+module _ (typed : TheProgram) (kept : Kept) (source : kept.source ≡ typed) (degree : ℕ) (rule : Rule) (Rest : Certificate → Answer → Type 0) where
+  pub course_goes : (c : Certificate) → IsInferred (analysis (program_in kept) degree rule) c → IsProved (source_in kept) (program_in kept) c → AllLeast (program_in kept) c →
+      (r : Result Report Refusal) → Gives (Rest c) r → Gives (OfCourse Promised (program_of typed) (program_in kept) degree rule Rest) r
+  course_goes c inferred proved least r given =
+      step_goes (names_of (program_of typed) (program_in kept)) (CourseRefuses (analysis (program_in kept) degree rule)) (IsCourse Promised (program_of typed) (analysis (program_in kept) degree rule)) Rest c
+      (record { inferred = inferred; proved = subst (λ s. IsProved (program_of s) (program_in kept) c) source proved; least = least }) r given
+
+  pub course_refused : (refusal : Refusal) → Refuses (names_in kept) (CourseRefuses (analysis (program_in kept) degree rule)) refusal →
+      Gives (OfCourse Promised (program_of typed) (program_in kept) degree rule Rest) (Err refusal)
+  course_refused refusal h =
+      step_refused (names_of (program_of typed) (program_in kept)) (CourseRefuses (analysis (program_in kept) degree rule)) (IsCourse Promised (program_of typed) (analysis (program_in kept) degree rule)) Rest refusal
+      (subst (λ s. Refuses (record { program = program_of s; groups = kept.groups.list }) (CourseRefuses (analysis (program_in kept) degree rule)) refusal) source h)
+
+-- the certificate of a course counts work
+pub counts_work : (N : Program) (degree : ℕ) (rule : Rule) (c : Certificate) → IsInferred (analysis N degree rule) c → has_work c ≡ true
+counts_work N degree rule c inferred = ap has_work inferred.ends.is

@@ -37,9 +37,14 @@ module _ (P : Prog) (place : ℕ) (cells : List Cell) (words : List Word) (limit
 
   pub front_gives : (r : Result Report Refusal) (front : Text) → IfOk r (λ made. made.text.items ≡ front ++ ran.text.items) → IfOk r (λ made. made.status ≡ ran.status) → IfErr r IsWanting →
       (f : Placed) (args : List Value) → f.0 ≡ place → HasArguments P f cells words args → Gives (Runs Promised P f args limits front []) r
-  front_gives (Ok made) front text status err = around_gives (Ok made) front [] (text ∙ ap (λ t. front ++ t) (sym (append_nil ran.text.items))) status err
+  front_gives (Ok made) front text status err = around_gives (Ok made) front [] (text ∙ sym (append_nil (front ++ ran.text.items))) status err
   front_gives (Err refusal) front text status err = around_gives (Err refusal) front [] text status err
 
 pub with_front : (r : Result Report Refusal) (front other : Text) (ran : Report) → other ≡ front → IfOk r (λ made. made.text.items ≡ other ++ ran.text.items) → IfOk r (λ made. made.text.items ≡ front ++ ran.text.items)
 with_front (Ok made) front other ran same h = h ∙ ap (λ t. t ++ ran.text.items) same
 with_front (Err refusal) front other ran same h = tt
+
+pub ran_gives : (P : Prog) (place : ℕ) (cells : List Cell) (words : List Word) (limits : Limits) (r : Result Report Refusal) → IfOk r (λ ran. RanOn P place cells words limits ran.status ran.text.items) → IfErr r IsWanting →
+    (f : Placed) (args : List Value) → f.0 ≡ place → HasArguments P f cells words args → Gives (Runs Promised P f args limits [] []) r
+ran_gives P place cells words limits (Ok ran) told wanting f args same h = run_gives P place cells words limits ran told f args same h
+ran_gives P place cells words limits (Err refusal) told wanting f args same h = inl wanting

@@ -6,3 +6,4 @@ pub mod Call
 pub mod Line
 pub mod Promise
 pub mod Parts
+pub mod Known

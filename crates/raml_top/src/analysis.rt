@@ -1,6 +1,7 @@
 // The analysis of a program.
 ghost use Rattle.std.specs.Prelude.{◌≡◌, ◌≤◌, length, IfOk, IfErr};
 ghost use Rattle.raml_syntax.specs.Read.{program_of};
+ghost use Rattle.amortised_bounds.specs.Laws.{normal_of};
 ghost use Rattle.call_groups.specs.Groups.{IsGrouping};
 ghost use Rattle.courses.specs.Generator.{Analysis};
 ghost use Rattle.courses.specs.Good.{AllLeast};
@@ -31,9 +32,12 @@ pub fn normal_form<'a>(alloc: Global, typed: &'a Typed) -> Result<NormProgram<'a
     requires { length (program_of typed.now) ≤ 256 }
     ensures source { IfOk result (λ made. made.source ≡ typed.now) }
     ensures groups { IfOk result (λ made. IsGrouping (program_of typed.now) made.groups) }
+    ensures normal { IfOk result (λ made. program_in made ≡ normal_of (program_of typed.now) made.groups.list) }
 {
     let groups = group_calls(alloc, typed.program())?;
-    normalise(alloc, typed, groups)
+    let program = normalise(alloc, typed, groups)?;
+    let _functions = program.functions();
+    Ok(program)
 }
 
 /// The certificate of the course of its analysis, by the rule.

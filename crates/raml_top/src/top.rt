@@ -2,12 +2,14 @@
 ghost use Rattle.std.specs.Prelude.{◌≡◌, ◌≤◌, ◌⊎◌, None, IfOk, IfErr};
 ghost use Rattle.raml_syntax.specs.Tree.{Text};
 ghost use Rattle.raml_words.specs.Words.{texts, Asks};
+ghost use Rattle.raml_words.specs.Words as asked_words;
 ghost use Rattle.raml_words.specs.Asked.{request_of};
 ghost use Rattle.raml_top.specs.Outside.{Promised, store_of, sink_of, outside_of, Gains, GainsFront};
 ghost use Rattle.raml_top.specs.Steps.{no_names, OfProgram};
 ghost use Rattle.raml_top.specs.Call.{cells_or};
+ghost use Rattle.raml_top.specs.Known.{CourseLaws};
 ghost use Rattle.raml_top.specs.Promise.{Cause, Forced, Answers, WordsAnswer, ListsTypes, ListsCode, Analyses, Certifies, Verifies, RunsWithin, RunsWithBounds};
-ghost use Rattle.raml_top.specs.Parts.{Gives, Refuses, WordsRefuse, IsWithin, CellsWithin};
+ghost use Rattle.raml_top.specs.Parts.{Gives, Refuses, WordsRefuse, IsWithin, CellsWithin, DegreeWithin};
 
 use crate::answer::{Refusal, Report};
 use crate::commands::{analysis_certificate, analysis_lines, list_code, list_types, verification};
@@ -16,6 +18,8 @@ use crate::source::read_program;
 use crate::status::Status;
 use crate::trial::trial;
 use fault_text::write_failed_line;
+use courses::laws::{ends_or_stops, one_certificate, one_place};
+use exact_systems::laws::{normals_are_ordered, systems_generate};
 use raml_io::{Sink, Store, put_all};
 use raml_words::{Request, Rule, WordsFault, read_words};
 use std::alloc::Global;
@@ -45,6 +49,7 @@ pub fn raml<S: Store, O: Sink, E: Sink>(
     ensures out_later { O.faults out.old ≤ O.faults out.new }
     ensures err_later { E.faults err.old ≤ E.faults err.new }
 {
+    course_laws();
     match answer(alloc, words, store) {
         Ok(report) => match put_all(out, &report.text) {
             Ok(()) => report.status,
@@ -58,6 +63,17 @@ pub fn raml<S: Store, O: Sink, E: Sink>(
             refusal.status
         }
     }
+}
+
+// What is known of courses.
+fn course_laws()
+    ensures { CourseLaws }
+{
+    one_certificate();
+    ends_or_stops();
+    one_place();
+    systems_generate();
+    normals_are_ordered();
 }
 
 // Writes the line, as far as the sink takes it.
@@ -121,17 +137,34 @@ fn request_answer<S: Store>(
             data,
             steps,
             cells,
-            degree: None,
-        } => run_answer(alloc, store, file, name, data, *steps, *cells),
-        Request::Run {
-            file,
-            name,
-            data,
-            steps,
-            cells,
-            degree: Some(degree),
-        } => bounded_answer(alloc, store, file, name, data, *steps, *cells, *degree),
+            degree,
+        } => run_request(alloc, store, file, name, data, *steps, *cells, *degree),
         Request::Trial { count } => trial(alloc, *count),
+    }
+}
+
+// A run, with its bounds where a degree is given.
+fn run_request<S: Store>(
+    alloc: Global,
+    store: &mut S,
+    file: &str,
+    name: &str,
+    data: &str,
+    steps: u64,
+    cells: Option<u32>,
+    degree: Option<u8>,
+) -> Result<Report, Refusal>
+    requires steps { steps ≤ 1000000000 }
+    requires cells { CellsWithin cells }
+    requires degree { DegreeWithin degree }
+    ensures gives { Gives (Answers Promised (store_of (S.holds store.old) (S.faults store.old) (S.faults store.new))
+        (asked_words.Run file.now name.now «data».now steps cells degree)) result }
+    ensures kept { S.holds store.new ≡ S.holds store.old }
+    ensures later { (name : Text) → S.faults store.old name ≤ S.faults store.new name }
+{
+    match degree {
+        None => run_answer(alloc, store, file, name, data, steps, cells),
+        Some(degree) => bounded_answer(alloc, store, file, name, data, steps, cells, degree),
     }
 }
 

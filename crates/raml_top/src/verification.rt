@@ -113,13 +113,20 @@ fn check_refusal(alloc: Global, program: &NormProgram<'_>, fault: CertFault) -> 
                 Err(_) => Refusal::no_memory(),
             }
         }
-        CertFault::NoMemory => Refusal::no_memory(),
-        fault => {
-            let line =
-                certificate_line(alloc, program.source(), program.groups().list(), &fault);
-            Refusal::told(Status::Certificate(CertAnswer::Check(fault)), line)
+        CertFault::Shape { block } => told_fault(alloc, program, CertFault::Shape { block }),
+        CertFault::Fails { block, path, index } => {
+            told_fault(alloc, program, CertFault::Fails { block, path, index })
         }
+        CertFault::NoMemory => Refusal::no_memory(),
     }
+}
+
+// A fault of the shape or of a condition.
+fn told_fault(alloc: Global, program: &NormProgram<'_>, fault: CertFault) -> Refusal
+    ensures { IsToldOr (names_in program.now) (Status.Certificate (CertAnswer.Check fault)) result }
+{
+    let line = certificate_line(alloc, program.source(), program.groups().list(), &fault);
+    Refusal::told(Status::Certificate(CertAnswer::Check(fault)), line)
 }
 
 // A total that leaves, by numbers of 32 bits.

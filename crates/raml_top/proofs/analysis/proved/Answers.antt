@@ -9,6 +9,6 @@ use Rattle.raml_top.proofs.analysis.proved.Goals as goal
 pub returns : goal.returns
 returns c =
     let cert = c.args.verified.now.certificate in
-    is_proved c.lines_are_true.ensures c.lines_tell.ensures c.args.program.now c.source-_source.ensures.typed c.source-_source.ensures.numbers c.functions-_functions.ensures.norm cert
-    (subst (λ (k : Kept). Valid (program_in k) cert) c.requires c.certificate-_certificate.ensures.valid)
-    (subst (λ (k : Kept). AllRefuted (program_in k) cert) c.requires c.certificate-_certificate.ensures.refuted)
+    is_proved c.lines_are_true.ensures c.lines_tell.ensures c.args.program.now c.source-source.ensures.typed c.source-source.ensures.numbers c.functions-functions.ensures.norm cert
+    (subst (λ (k : Kept). Valid (program_in k) cert) c.requires c.certificate-certificate.ensures.valid)
+    (subst (λ (k : Kept). AllRefuted (program_in k) cert) c.requires c.certificate-certificate.ensures.refuted)

@@ -1,0 +1,6 @@
+use Rattle.rule_plan.specs.Read.{program_in}
+use Rattle.raml_top.specs.Analysis.{analysis}
+use Rattle.raml_top.proofs.analysis.analyse.Goals as goal
+
+pub returns-in-Err-clause-err : goal.returns-in-Err-clause-err
+returns-in-Err-clause-err c = c.course_refusal.ensures (analysis (program_in c.args.program.now) c.args.degree c.args.rule) c.in-Err.ensures.fault

@@ -1,0 +1,17 @@
+use Rattle.std.proofs.Common.{◌≡◌, ◌∙◌, ap, sym, subst}
+use Rattle.raml_syntax.specs.Read.{program_of}
+use Rattle.share_normal.specs.Program.{Kept, source_in}
+use Rattle.rule_plan.specs.Read.{program_in}
+use Rattle.raml_words.specs.declared.request.Rule.TheVariants as rule
+use Rattle.raml_top.specs.Outside.{Promised}
+use Rattle.raml_top.specs.Steps.{OfNormal}
+use Rattle.raml_top.specs.Analysis.{OfCourse}
+use Rattle.raml_top.specs.Call.{OfFloors}
+use Rattle.raml_top.specs.Promise.{RunsBounded, TriesCall}
+use Rattle.raml_top.specs.Parts.{Gives}
+use Rattle.raml_top.proofs.Proved.{kept_gives, course_goes, course_refused, counts_work}
+use Rattle.raml_top.proofs.runs.bounded_call.Goals as goal
+
+pub returns-in-Ok : goal.returns-in-Ok
+returns-in-Ok c f vs is =
+    kept_gives c.args.typed.now c.in-Ok.program c.in-Ok.ensures.source c.in-Ok.ensures.groups c.in-Ok.ensures.normal (λ P N. OfCourse Promised (program_of c.args.typed.now) N c.args.degree rule.Least (λ cert. OfFloors Promised (program_of c.args.typed.now) N cert f vs (λ floors. RunsBounded Promised (program_of c.args.typed.now) f vs c.args.steps c.args.cells floors))) c.course_call.result (c.course_call.ensures f vs is)

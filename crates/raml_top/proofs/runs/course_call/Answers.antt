@@ -1,0 +1,27 @@
+use Rattle.std.proofs.Common.{◌≡◌, ◌∙◌, ap, sym, subst}
+use Rattle.raml_syntax.specs.Read.{program_of}
+use Rattle.share_normal.specs.Program.{Kept, source_in}
+use Rattle.rule_plan.specs.Read.{program_in}
+use Rattle.raml_words.specs.declared.request.Rule.TheVariants as rule
+use Rattle.raml_top.specs.Outside.{Promised}
+use Rattle.raml_top.specs.Steps.{OfNormal}
+use Rattle.raml_top.specs.Analysis.{OfCourse}
+use Rattle.raml_top.specs.Call.{OfFloors}
+use Rattle.raml_top.specs.Promise.{RunsBounded, TriesCall}
+use Rattle.raml_top.specs.Parts.{Gives}
+use Rattle.raml_top.proofs.Proved.{kept_gives, course_goes, course_refused, counts_work}
+use Rattle.raml_top.proofs.runs.course_call.Goals as goal
+
+pub floors_call-requires-clause-source : goal.floors_call-requires-clause-source
+floors_call-requires-clause-source c = ap (λ (k : Kept). k.source) c.in-Ok.ensures.program ∙ c.requires.source
+
+pub floors_call-requires-clause-work : goal.floors_call-requires-clause-work
+floors_call-requires-clause-work c = counts_work (program_in c.args.program.now) c.args.degree rule.Least c.in-Ok.verified.certificate c.in-Ok.ensures.course
+
+pub returns-in-Ok : goal.returns-in-Ok
+returns-in-Ok c f vs is =
+    let given = subst (λ (k : Kept). Gives ((λ cert. OfFloors Promised (program_of c.args.typed.now) (program_in k) cert f vs (λ floors. RunsBounded Promised (program_of c.args.typed.now) f vs c.args.steps c.args.cells floors)) c.in-Ok.verified.certificate) c.floors_call.result) c.in-Ok.ensures.program (c.floors_call.ensures f vs is) in
+    course_goes c.args.typed.now c.args.program.now c.requires.source c.args.degree rule.Least (λ cert. OfFloors Promised (program_of c.args.typed.now) (program_in c.args.program.now) cert f vs (λ floors. RunsBounded Promised (program_of c.args.typed.now) f vs c.args.steps c.args.cells floors)) c.in-Ok.verified.certificate c.in-Ok.ensures.course c.in-Ok.ensures.proved c.in-Ok.ensures.least c.floors_call.result given
+
+pub returns-in-Err : goal.returns-in-Err
+returns-in-Err c f vs is = course_refused c.args.typed.now c.args.program.now c.requires.source c.args.degree rule.Least (λ cert. OfFloors Promised (program_of c.args.typed.now) (program_in c.args.program.now) cert f vs (λ floors. RunsBounded Promised (program_of c.args.typed.now) f vs c.args.steps c.args.cells floors)) c.in-Err.refusal c.in-Err.ensures.err

@@ -1,0 +1,20 @@
+use Rattle.raml_words.specs.Words.{texts, Asks}
+use Rattle.raml_words.specs.Asked.{request_of}
+use Rattle.raml_top.specs.Outside.{Promised, store_of}
+use Rattle.raml_top.specs.Steps.{no_names}
+use Rattle.raml_top.specs.Promise.{Answers}
+use Rattle.raml_top.specs.Parts.{WordsRefuse}
+use Rattle.raml_top.proofs.Stepping.{step_refused, step_goes}
+use Rattle.raml_top.proofs.top.answer.Goals as goal
+
+pub returns-in-Ok-clause-gives : goal.returns-in-Ok-clause-gives
+returns-in-Ok-clause-gives g c =
+    let words = texts c.args.words.now in
+    let store = store_of (g.S.Store.holds c.args.store.now) (g.S.Store.faults c.args.store.now) (g.S.Store.faults c.request_answer.new.store) in
+    step_goes no_names (WordsRefuse words) (Asks words) (λ request. Answers Promised store request) (request_of c.in-Ok.request) c.in-Ok.ensures.ok c.request_answer.result c.request_answer.ensures.gives
+
+pub returns-in-Err-clause-gives : goal.returns-in-Err-clause-gives
+returns-in-Err-clause-gives g c =
+    let words = texts c.args.words.now in
+    let store = store_of (g.S.Store.holds c.args.store.now) (g.S.Store.faults c.args.store.now) (g.S.Store.faults c.args.store.now) in
+    step_refused no_names (WordsRefuse words) (Asks words) (λ request. Answers Promised store request) c.in-Err.refusal c.in-Err.ensures.err

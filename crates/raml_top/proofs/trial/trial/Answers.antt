@@ -1,0 +1,11 @@
+use Rattle.std.proofs.Common.{◌∙◌, subst}
+use Rattle.fault_text.specs.declared.plain.Which.TheVariants as w
+use Rattle.raml_top.specs.Outside.{Promised}
+use Rattle.raml_top.specs.Steps.{OfShort, OfSource}
+use Rattle.raml_top.specs.Promise.{Tries}
+use Rattle.raml_top.specs.Parts.{Gives}
+use Rattle.raml_top.proofs.trial.trial.Goals as goal
+
+pub returns-in-Ok : goal.returns-in-Ok
+returns-in-Ok c =
+    subst (λ bytes. Gives (OfShort w.Program bytes (OfSource bytes (Tries Promised c.args.count))) c.try_source.result) (c.as_bytes.ensures.value ∙ c.in-Ok.ensures) c.try_source.ensures

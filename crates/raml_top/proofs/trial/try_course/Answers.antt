@@ -1,0 +1,24 @@
+use Rattle.std.proofs.Common.{◌≡◌, ◌∙◌, ap, sym, subst}
+use Rattle.raml_syntax.specs.Read.{program_of}
+use Rattle.share_normal.specs.Program.{Kept, source_in}
+use Rattle.rule_plan.specs.Read.{program_in}
+use Rattle.raml_words.specs.declared.request.Rule.TheVariants as rule
+use Rattle.raml_top.specs.Outside.{Promised}
+use Rattle.raml_top.specs.Steps.{OfNormal}
+use Rattle.raml_top.specs.Analysis.{OfCourse}
+use Rattle.raml_top.specs.Call.{OfFloors}
+use Rattle.raml_top.specs.Promise.{RunsBounded, TriesCall}
+use Rattle.raml_top.specs.Parts.{Gives}
+use Rattle.raml_top.proofs.Proved.{kept_gives, course_goes, course_refused, counts_work}
+use Rattle.raml_top.proofs.trial.try_course.Goals as goal
+
+pub try_function-requires-clause-source : goal.try_function-requires-clause-source
+try_function-requires-clause-source c = ap (λ (k : Kept). k.source) c.in-Ok.ensures.program ∙ c.requires.source
+
+pub returns-in-Ok : goal.returns-in-Ok
+returns-in-Ok c =
+    let given = subst (λ (k : Kept). Gives ((λ cert. TriesCall Promised c.args.count (program_of c.args.typed.now) (program_in k) cert) c.in-Ok.verified.certificate) c.try_function.result) c.in-Ok.ensures.program (c.try_function.ensures) in
+    course_goes c.args.typed.now c.args.program.now c.requires.source 1 rule.Least (λ cert. TriesCall Promised c.args.count (program_of c.args.typed.now) (program_in c.args.program.now) cert) c.in-Ok.verified.certificate c.in-Ok.ensures.course c.in-Ok.ensures.proved c.in-Ok.ensures.least c.try_function.result given
+
+pub returns-in-Err : goal.returns-in-Err
+returns-in-Err c = course_refused c.args.typed.now c.args.program.now c.requires.source 1 rule.Least (λ cert. TriesCall Promised c.args.count (program_of c.args.typed.now) (program_in c.args.program.now) cert) c.in-Err.refusal c.in-Err.ensures.err
