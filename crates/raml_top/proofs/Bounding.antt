@@ -1,5 +1,5 @@
 -- The bounds of a call.
-use Rattle.std.proofs.Common.{◌≡◌, ℕ, List, Option, Some, Result, Ok, Err, refl, sym, ap, subst, ◌∙◌}
+use Rattle.std.proofs.Common.{◌≡◌, ℕ, List, Option, Some, Result, Ok, Err, refl, sym, ap, subst, ◌∙◌, inl}
 use Rattle.raml_syntax.specs.Tree.{Function, Prog}
 use Rattle.raml_syntax.specs.Value.{Value}
 use Rattle.raml_syntax.specs.Read.{program_of}
@@ -8,17 +8,18 @@ use Rattle.value_text.specs.declared.word.Word.{Word}
 use Rattle.value_text.specs.Stands.{StandForAll}
 use Rattle.share_normal.specs.Program.{Kept, source_in}
 use Rattle.rule_plan.specs.Read.{program_in}
-use Rattle.cost_free.specs.declared.task.Meter.{Meter}
 use Rattle.annot_types.specs.Certificate.{Certificate}
 use Rattle.analysis_report.specs.Floors.{IsFloor, Leaves}
-use Rattle.analysis_report.specs.Told.{floors_of, FloorsAre, AllHold}
+use Rattle.analysis_report.specs.Told.{floors_of, FloorsAre, FloorsRefused, AllHold}
+use Rattle.analysis_report.specs.declared.bounds.FloorFault.{FloorFault}
+use Rattle.analysis_report.specs.declared.bounds.FloorFault.TheVariants as floor
 use Rattle.analysis_report.specs.declared.bounds.Floors.{Floors}
 use Rattle.raml_top.specs.Ending.{Overflows, AtPoint}
 use Rattle.raml_top.specs.Outside.{Promised}
 use Rattle.raml_top.specs.Steps.{no_names}
 use Rattle.raml_top.specs.Call.{Placed, PointRefuses, AreFloors, OfFloors}
 use Rattle.raml_top.specs.Promise.{RunsBounded}
-use Rattle.raml_top.specs.Parts.{Gives, IsCallOf, IsToldOr}
+use Rattle.raml_top.specs.Parts.{Gives, IsCallOf, FloorRefusal}
 use Rattle.raml_top.specs.declared.answer.Report.{Report}
 use Rattle.raml_top.specs.declared.answer.Refusal.{Refusal}
 use Rattle.raml_top.specs.declared.call.Call.{Call}
@@ -46,11 +47,12 @@ module _ (typed : TheProgram) (kept : Kept) (cert : Certificate) (source : kept.
       })
       r gives
 
-  pub floors_refused : (meter : Meter) → ((us : List Value) → StandForAll call.args.heap.cells words us → Leaves (program_in kept) cert call.place.0 us meter) →
-      (refusal : Refusal) → IsToldOr no_names (s.Overflow (o.Point meter)) refusal →
+  pub floors_refused : (fault : FloorFault) → ((us : List Value) → StandForAll call.args.heap.cells words us → FloorsRefused (program_in kept) cert call.place.0 us fault) →
+      (refusal : Refusal) → FloorRefusal fault refusal →
       Gives (OfFloors Promised (program_of typed) (program_in kept) cert f vs (λ floors. RunsBounded Promised (program_of typed) f vs steps cells floors)) (Err refusal)
-  floors_refused meter err refusal told =
+  floors_refused (floor.Leaves meter) err refusal told =
       let P = program_of typed in
       step_refused no_names (PointRefuses (program_in kept) cert f vs) (AreFloors Promised P (program_in kept) cert f vs) (λ floors. RunsBounded Promised P f vs steps cells floors) refusal
       (told_refuses no_names (s.Overflow (o.Point meter)) (Overflows (AtPoint meter)) (PointRefuses (program_in kept) cert f vs) refl
       (subst (λ k. Leaves (program_in kept) cert k vs meter) (sym is.place) (err vs stand)) refusal told)
+  floors_refused floor.NoMemory err refusal told = inl told

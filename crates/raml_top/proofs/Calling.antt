@@ -63,7 +63,7 @@ read_arguments P place fun bytes cells new words there read empty = record {
 -- a call that was read
 module _ (store : Store) (P : Prog) (name file : Text) where
   pub call_of : (call : Call) → (reads : ReadsCall store P name file call) → (f : Placed) × (vs : List Value) × IsCallOf P f call vs
-  call_of call reads = ((call.place.0, reads.reads.fun), (reads.reads.values, record { place = refl; arguments = reads.reads.arguments }))
+  call_of call reads = ((call.place.0, reads.reads.fun), reads.reads.values, record { place = refl; arguments = reads.reads.arguments })
 
   pub call_gives : (call : Call) (reads : ReadsCall store P name file call) (Rest : Placed → List Value → Answer → Type 0) (r : Result Report TheRefusal) →
       ((f : Placed) (vs : List Value) → IsCallOf P f call vs → Gives (Rest f vs) r) → Gives (OfCall Promised store P name file Rest) r

@@ -16,6 +16,7 @@ use Rattle.raml_words.specs.declared.request.Rule.{Rule}
 use Rattle.raml_words.specs.declared.request.Rule.TheVariants as rule
 use Rattle.report_text.specs.Trial.{trial_text, trial_function, trial_data}
 use Rattle.fault_text.specs.declared.plain.Which.TheVariants as which
+use Rattle.analysis_report.specs.Lines.{AreLines}
 use Rattle.raml_top.specs.Ending.{Ending, Done, Usage, ending_of}
 use Rattle.raml_top.specs.Outside.{Outside, Promised, Needed, Store, Rises}
 use Rattle.raml_top.specs.Steps.{no_names, Answer, Report, Refusal, ending_in, Prints, IsTyped, OfSource, OfNormal}
@@ -53,7 +54,8 @@ module _ (laws : CourseLaws) where
   verified_same store file P =
       certificate_same store file (λ c. OfNormal P (λ N. OfCheck Needed P N c (PrintsLines Needed P N c))) (λ c. OfNormal P (λ N. OfCheck Promised P N c (PrintsLines Promised P N c)))
       (λ c. normal_same P (λ N. OfCheck Needed P N c (PrintsLines Needed P N c)) (λ N. OfCheck Promised P N c (PrintsLines Promised P N c))
-      (λ groups grouping. check_same (normal_of P groups.list) c P (PrintsLines Needed P (normal_of P groups.list) c) (PrintsLines Promised P (normal_of P groups.list) c) (prints_same _ _)))
+      (λ groups grouping. check_same (normal_of P groups.list) c P (PrintsLines Needed P (normal_of P groups.list) c) (PrintsLines Promised P (normal_of P groups.list) c)
+      (prints_same (AreLines P (normal_of P groups.list) c) (AreLines P (normal_of P groups.list) c))))
 
   bounded_same : (source : List ℕ) (P : Prog) → IsTyped source P → (steps : ℕ) (cells : Option ℕ) (degree : ℕ) (f : Placed) (args : List Value) (a b : Answer) →
       BoundedCall Needed steps cells degree P f args a → BoundedCall Promised steps cells degree P f args b → Same a b

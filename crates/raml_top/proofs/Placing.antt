@@ -1,5 +1,5 @@
 -- Functions at places.
-use Rattle.std.proofs.Common.{◌≡◌, ◌≤◌, ◌<◌, ℕ, zero, suc, List, [], ◌∷◌, length, Option, Some, sym, subst, ap, ◌∙◌}
+use Rattle.std.proofs.Common.{◌≡◌, ◌≤◌, ◌<◌, ℕ, zero, suc, List, [], ◌∷◌, length, Option, Some, refl, sym, subst, ap, ◌∙◌, arith}
 use Rattle.std.specs.Prelude.{slice_get, slice_index_or, map}
 use Rattle.std.specs.List.{All}
 use Rattle.std.proofs.lemmas.List.Elements.{All-head, All-tail}
@@ -44,3 +44,9 @@ have_arguments P place cells words f args same h = record {
   stand = h.stand;
   types = h.types;
 }
+
+-- a place within the program has a function
+pub some_at : (P : Prog) (k : ℕ) → k < length P → (fun : Function) × (slice_get P k ≡ Some fun)
+some_at [] k below = absurd (omega (arith, below))
+some_at (g ∷ P) zero below = (g, refl)
+some_at (g ∷ P) (suc k) below = some_at P k (omega (arith, below))

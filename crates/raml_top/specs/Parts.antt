@@ -12,6 +12,8 @@ use Rattle.annot_types.specs.Certificate.{Certificate}
 use Rattle.cert_json.specs.Told.{IsFile}
 use Rattle.fault_text.specs.declared.plain.Which.{Which}
 use Rattle.fault_text.specs.declared.plain.Which.TheVariants as w
+use Rattle.analysis_report.specs.declared.bounds.FloorFault.{FloorFault}
+use Rattle.analysis_report.specs.declared.bounds.FloorFault.TheVariants as floor
 use Rattle.raml_top.specs.Ending.{Ending, Usage, ReadFault, TooLong, Source, Types, NoFunction, ending_of}
 use Rattle.raml_top.specs.Outside.{Promised, Store, IsRead}
 use Rattle.raml_top.specs.Steps.{Names, no_names, Answer, Refusal, most_bytes, SourceRefuses, IsTyped}
@@ -153,6 +155,10 @@ DataRefusal fault refusal = IsToldOr no_names (status.Data fault) refusal
 abbrev pub JsonRefusal : JsonFault → TheRefusal → Type 0
 JsonRefusal json.NoMemory refusal = IsWanting refusal
 JsonRefusal fault refusal = IsToldOr no_names (status.Certificate (answer.Json fault)) refusal
+
+abbrev pub FloorRefusal : FloorFault → TheRefusal → Type 0
+FloorRefusal (floor.Leaves meter) refusal = IsToldOr no_names (status.Overflow (overflow.Point meter)) refusal
+FloorRefusal floor.NoMemory refusal = IsWanting refusal
 
 -- the words stand in these cells for arguments of the function
 pub record HasArguments (P : Prog) (f : Placed) (cells : List Cell) (words : List Word) (args : List Value) : Type 0 where

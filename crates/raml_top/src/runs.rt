@@ -14,7 +14,7 @@ ghost use Rattle.raml_top.specs.Analysis.{OfCourse};
 ghost use Rattle.raml_top.specs.Steps.{no_names};
 ghost use Rattle.raml_top.specs.Call.{Placed, OfFloors, Runs, cells_or, floor_cells};
 ghost use Rattle.raml_top.specs.Promise.{RunsWithin, RunsWithBounds, RunsBounded, BoundedCall};
-ghost use Rattle.raml_top.specs.Parts.{Before, IsReady, Gives, IsWanting, IsCallOf, IsToldOr, CellsWithin};
+ghost use Rattle.raml_top.specs.Parts.{Before, IsReady, Gives, IsWanting, IsCallOf, IsToldOr, FloorRefusal, CellsWithin};
 
 use crate::analysis::{analyse, normal_form};
 use crate::answer::{Refusal, Report};
@@ -175,8 +175,16 @@ fn floors_call(
 {
     match floors_at(alloc, verified, call.place, &call.args.heap, &call.args.words) {
         Ok(floors) => floored_run(alloc, typed, call, steps, cells, floors),
-        Err(FloorFault::Leaves { meter }) => Err(point_refusal(alloc, meter)),
-        Err(FloorFault::NoMemory) => Err(Refusal::no_memory()),
+        Err(fault) => Err(floor_refusal(alloc, fault)),
+    }
+}
+
+fn floor_refusal(alloc: Global, fault: FloorFault) -> Refusal
+    ensures { FloorRefusal fault result }
+{
+    match fault {
+        FloorFault::Leaves { meter } => point_refusal(alloc, meter),
+        FloorFault::NoMemory => Refusal::no_memory(),
     }
 }
 

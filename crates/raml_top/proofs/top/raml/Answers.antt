@@ -43,13 +43,13 @@ pub returns-in-Err-clause-cause : goal.returns-in-Err-clause-cause
 returns-in-Err-clause-cause g c =
     let o = outside_of (texts c.args.words.now) (store_of (g.S.Store.holds c.args.store.now) (g.S.Store.faults c.args.store.now) (g.S.Store.faults c.answer.new.store))
       (sink_of (g.O.Sink.faults c.args.out.now) (g.O.Sink.faults c.args.out.now) (g.O.Sink.written c.args.out.now) (g.O.Sink.written c.args.out.now))
-      (sink_of (g.E.Sink.faults c.args.err.now) (g.E.Sink.faults c.put_line.new.err) (g.E.Sink.written c.args.err.now) (g.E.Sink.written c.put_line.new.err)) in
-    refused_cause o c.in-Err.refusal c.in-Err.ensures.gives refl (subst (λ line. Gains line o.err ⊎ GainsFront line o.err) c.text.ensures c.put_line.ensures.gains)
+      (sink_of (g.E.Sink.faults c.args.err.now) (g.E.Sink.faults c.put_line-in-Err.new.err) (g.E.Sink.written c.args.err.now) (g.E.Sink.written c.put_line-in-Err.new.err)) in
+    refused_cause o c.in-Err.refusal c.in-Err.ensures.gives refl (subst (λ line. Gains line o.err ⊎ GainsFront line o.err) c.text.ensures c.put_line-in-Err.ensures.gains)
 
 pub returns-in-Err-clause-forced : goal.returns-in-Err-clause-forced
 returns-in-Err-clause-forced g c =
     let o = outside_of (texts c.args.words.now) (store_of (g.S.Store.holds c.args.store.now) (g.S.Store.faults c.args.store.now) (g.S.Store.faults c.answer.new.store))
       (sink_of (g.O.Sink.faults c.args.out.now) (g.O.Sink.faults c.args.out.now) (g.O.Sink.written c.args.out.now) (g.O.Sink.written c.args.out.now))
-      (sink_of (g.E.Sink.faults c.args.err.now) (g.E.Sink.faults c.put_line.new.err) (g.E.Sink.written c.args.err.now) (g.E.Sink.written c.put_line.new.err)) in
+      (sink_of (g.E.Sink.faults c.args.err.now) (g.E.Sink.faults c.put_line-in-Err.new.err) (g.E.Sink.written c.args.err.now) (g.E.Sink.written c.put_line-in-Err.new.err)) in
     causes_force c.course_laws.ensures o c.in-Err.refusal.status
-    (refused_cause o c.in-Err.refusal c.in-Err.ensures.gives refl (subst (λ line. Gains line o.err ⊎ GainsFront line o.err) c.text.ensures c.put_line.ensures.gains))
+    (refused_cause o c.in-Err.refusal c.in-Err.ensures.gives refl (subst (λ line. Gains line o.err ⊎ GainsFront line o.err) c.text.ensures c.put_line-in-Err.ensures.gains))
