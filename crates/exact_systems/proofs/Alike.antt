@@ -6,9 +6,9 @@ use Rattle.annot_types.specs.Rules.{Mode, With, Own, Past}
 use Rattle.walk_rules.specs.Plan as p
 use Rattle.walk_rules.specs.Plan.{Plan, Part, Called}
 use Rattle.walk_rules.specs.Numbers.{Numbers, Sides, Known, Hint, Results, Copies, Multiples, Condition, Walked}
-use Rattle.walk_rules.specs.Walk.{Walk, results_of, copies_of, multiples_of, later, only, behind, and_then, numbered, still, mode_at, moved, against, nothing, joined, at, at_zero, charge}
+use Rattle.walk_rules.specs.Walk.{Walk, results_of, copies_of, multiples_of, later, behind, and_then, numbered, still, mode_at, moved, against, nothing, joined, at, charge}
 use Rattle.walk_rules.specs.Walk.{begun, group_sides, used, once, refunded, missing, call_pairs, each, walk, walks}
-use Rattle.walk_rules.specs.Tasks.{Body, Job, known_by, of_body, of_bodies}
+use Rattle.walk_rules.specs.Tasks.{Body, Job, known_by, of_bodies}
 
 module _ {E : Type 0} (A : Numbers E) (G : Known E) where
   -- the same results or copies, or multiples that come to the same

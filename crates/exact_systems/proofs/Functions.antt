@@ -1,6 +1,6 @@
 -- The functions of a group hold exactly where the conditions of its bodies are met.
 use Rattle.std.proofs.Common.{◌≡◌, refl, ap, sym, ◌∙◌, subst, arith}
-use Rattle.std.specs.Prelude.{ℕ, suc, ◌+◌, ◌*◌, List, [], ◌∷◌, ◌++◌, map, length, slice_get, slice_index_or, Option, None, Some}
+use Rattle.std.specs.Prelude.{ℕ, suc, ◌+◌, List, [], ◌∷◌, map, length, slice_get, slice_index_or, Option, None, Some}
 use Rattle.normal_form.specs.Norm.{NormFun}
 use Rattle.normal_form.specs.Context.{types}
 use Rattle.normal_form.specs.Uses.{Uses}
@@ -8,20 +8,20 @@ use Rattle.cost_free.specs.Task.{Task}
 use Rattle.annot_types.specs.Program.{Program, members}
 use Rattle.annot_types.specs.Certificate as c
 use Rattle.annot_types.specs.Certificate.{annotation, Sig, Block}
-use Rattle.annot_types.specs.Rules.{Mode, Setting, Ann}
+use Rattle.annot_types.specs.Rules.{Setting, Ann}
 use Rattle.annot_types.specs.Holds.{mode_of, budget_of, FunctionHolds, FunctionsHold}
 use Rattle.annot_types.specs.Rows.{size as size_of}
 use Rattle.annot_types.specs.System.{unsigned}
 use Rattle.walk_rules.specs.Numbers.{Sides, Hint, Condition}
 use Rattle.walk_rules.specs.Kinds.{Amount, amounts, AllMeet}
 use Rattle.walk_rules.specs.Walk.{walk}
-use Rattle.walk_rules.specs.Asked.{asked, given, answers, counts}
+use Rattle.walk_rules.specs.Asked.{asked, given, counts}
 use Rattle.walk_rules.specs.Tasks.{Body, Job, unknowns, known_by, of_body, of_bodies, sides_count, sides_given, hints_given}
 use Rattle.walk_rules.specs.Solving.{amount}
 use Rattle.walk_rules.specs.Jobs.{body_of, job_of}
-use Rattle.walk_rules.specs.Systems.{IsReady, AreReady}
+use Rattle.walk_rules.specs.Systems.{AreReady}
 use Rattle.walk_rules.specs.Stand.{Within, Reads, Tells, known_in}
-use Rattle.walk_rules.specs.Shape.{amounts_at, hints_at}
+use Rattle.walk_rules.specs.Shape.{hints_at}
 use Rattle.walk_rules.specs.Found.{signature, sides, group_from, free_from, cost_from}
 use Rattle.walk_rules.specs.Covered.{OfHints, OfGroup}
 use Rattle.walk_rules.proofs.Agreed.{meet_append, meet_front, meet_back}
@@ -31,11 +31,9 @@ use Rattle.walk_rules.proofs.Covering.{all_are_given}
 use Rattle.walk_rules.proofs.Finding.{amounts_stand, reads_there}
 use Rattle.walk_rules.proofs.Ruled.{annotates_within, within_annotates}
 use Rattle.solved_tasks.specs.Told.{entries, sig, hint, number_in, sigs_told, hints_told}
-use Rattle.exact_systems.proofs.Alike.{AllAlike, BodiesAlike, bodies_same}
+use Rattle.courses.proofs.Lists.{some_is}
+use Rattle.exact_systems.proofs.Alike.{BodiesAlike, bodies_same}
 use Rattle.exact_systems.proofs.Told.{told_within, told_amounts, AllSuit, suiting_answer, answered_suit, told_suit, told_alike, full_hints, full_alike, full_of, amounts_of_size}
-
-some_is : {X : Type 0} (x y : X) → Some x ≡ Some y → x ≡ y
-some_is x y e = cc
 
 -- signatures and hints in the ranges of their bodies
 abbrev pub SigsSuit : List Body → List Sig → Type 0

@@ -1,24 +1,23 @@
 -- The systems of a program's tasks are what courses ask for.
 use Rattle.std.proofs.Common.{◌≡◌, refl, ap, sym, ◌∙◌, arith, subst}
-use Rattle.std.specs.Prelude.{ℕ, ◌*◌, ◌<◌, Bool, true, false, cond, ℤ, pos, ◌*ℤ◌, List, [], ◌∷◌, map, Option}
+use Rattle.std.specs.Prelude.{ℕ, ◌<◌, Bool, true, false, cond, ℤ, pos, ◌*ℤ◌, List, [], ◌∷◌, map, Option}
 use Rattle.std.proofs.lemmas.Int.{ints}
 use Rattle.linear_rows.specs.Terms.{SparseRow}
-use Rattle.linear_rows.specs.Systems.{LinearSystem, matrix, right_sides, numbers_from}
+use Rattle.linear_rows.specs.Systems.{LinearSystem, right_sides, numbers_from}
 use Rattle.linear_rows.specs.Vectors.{scale}
 use Rattle.cost_free.specs.declared.task.Meter.{Meter}
 use Rattle.cost_free.specs.Task as k
 use Rattle.cost_free.specs.Task.{Kind, Free, Task}
 use Rattle.cost_free.specs.Blocked.{is_for_meter}
 use Rattle.annot_types.specs.Program.{Program}
-use Rattle.annot_types.specs.Certificate.{Block}
 use Rattle.annot_types.specs.Holds.{raised}
 use Rattle.annot_types.specs.System.{system}
 use Rattle.annot_types.specs.Laws.{raised_scale}
 use Rattle.solved_tasks.specs.Raised.{times_right, raised_by}
 use Rattle.solved_tasks.proofs.Refuted.{rows_are_raised}
 use Rattle.courses.specs.States.{State, scale_at, raised_scales, raise}
-use Rattle.courses.specs.Generator.{Analysis, AreRaised, Stands, Generates, system_at}
-use Rattle.tried_tasks.specs.Laws.{IsOrdered, HasNumber, TriedAreTasks, TriedHaveSystems, TargetsAreNumbered}
+use Rattle.courses.specs.Generator.{Analysis, AreRaised, system_at}
+use Rattle.tried_tasks.specs.Laws.{HasNumber, TriedAreTasks, TriedHaveSystems, TargetsAreNumbered}
 use Rattle.exact_systems.specs.Analysed.{analysis_of}
 use Rattle.exact_systems.specs.Laws.{IsNumbered, SystemsGenerate}
 use Rattle.exact_systems.proofs.Numbered.{have_positions}

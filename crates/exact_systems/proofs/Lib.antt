@@ -8,7 +8,9 @@ pub mod Weights
 pub mod Targets
 pub mod Meeting
 pub mod Solutions
+pub mod Filled
 pub mod Numbered
 pub mod Shapes
 pub mod Generating
 pub mod Limits
+pub mod Ordered

@@ -1,11 +1,11 @@
 -- Whether walks are small enough is told as the limits say.
-use Rattle.std.proofs.Common.{◌≡◌, refl, subst, arith}
+use Rattle.std.proofs.Common.{◌≡◌, refl, arith}
 use Rattle.std.specs.Prelude.{ℕ, ◌-◌, ◌≤◌, ◌↔◌, nat_le, Bool, true, false, ◌&&◌, List, [], ◌∷◌, ◌++◌, slice_get, Option, None, Some}
 use Rattle.std.specs.List.{All, list_all}
 use Rattle.std.proofs.lemmas.Bool.Decides.{nat_tests}
 use Rattle.std.proofs.lemmas.List.Elements.{All-nil, All-cons, All-head, All-tail}
 use Rattle.raml_syntax.specs.Tree.{Type'}
-use Rattle.base_poly.specs.Plain.{Plain, degrees}
+use Rattle.base_poly.specs.Plain.{degrees}
 use Rattle.normal_form.specs.Norm as n
 use Rattle.normal_form.specs.Norm.{Norm, NormFun}
 use Rattle.normal_form.specs.Context.{Context, types, without, opened, parts_of, copies_of, inners, others}

@@ -1,6 +1,6 @@
 -- Where the blocks of a meter are raised, plans stay as they are, and what was paid for still is.
-use Rattle.std.proofs.Common.{◌≡◌, refl, ap, sym, ◌∙◌, subst}
-use Rattle.std.specs.Prelude.{ℕ, suc, nat_le, Bool, cond, List, [], ◌∷◌, ◌++◌, map, slice_get, Option, None, Some, option_map}
+use Rattle.std.proofs.Common.{◌≡◌, refl, ap, ◌∙◌, subst}
+use Rattle.std.specs.Prelude.{ℕ, suc, cond, List, [], ◌∷◌, ◌++◌, map, slice_get, Option, None, Some, option_map}
 use Rattle.raml_syntax.specs.Tree.{Type'}
 use Rattle.normal_form.specs.Norm as n
 use Rattle.normal_form.specs.Norm.{Norm, NormFun}
@@ -13,14 +13,13 @@ use Rattle.annot_types.specs.Certificate.{Sig, Block}
 use Rattle.annot_types.specs.Signature.{sig_in, free_budget, cost_sig}
 use Rattle.annot_types.specs.Carried.{tuples}
 use Rattle.annot_types.specs.Holds.{times_sig, budget_of}
-use Rattle.annot_types.specs.Rules.{Mode, With, Own, Past, Setting}
+use Rattle.annot_types.specs.Rules.{Mode, With, Setting}
 use Rattle.annot_types.specs.Rows.{size as size_of}
 use Rattle.annot_types.proofs.Times.{BlocksTimes}
-use Rattle.walk_rules.specs.Plan.{Plan, Moves, Pays, Forks, Shares, Calls, Lets}
+use Rattle.walk_rules.specs.Plan.{Moves, Pays, Forks, Shares, Calls, Lets}
 use Rattle.walk_rules.specs.Planned.{is_usable, usable_from, lower, let_part, leaving_step, opening_step, sharing_step, called, plan}
-use Rattle.walk_rules.specs.Tasks.{Body}
 use Rattle.walk_rules.specs.Jobs.{body_of}
-use Rattle.walk_rules.specs.Systems.{PaidFor, AllPaid, IsReady, AreReady}
+use Rattle.walk_rules.specs.Systems.{PaidFor, AllPaid, AreReady}
 use Rattle.solved_tasks.specs.Told.{bodies_of}
 use Rattle.solved_tasks.proofs.Raised.{cost_times}
 

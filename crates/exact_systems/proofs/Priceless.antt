@@ -1,16 +1,16 @@
 -- Where no prices are paid, told numbers may be taken any number of times.
-use Rattle.std.proofs.Common.{◌≡◌, refl, ap, sym, ◌∙◌, arith}
+use Rattle.std.proofs.Common.{◌≡◌, refl, ap, ◌∙◌, arith}
 use Rattle.std.specs.Prelude.{ℕ, zero, suc, ◌+◌, ◌*◌, List, [], ◌∷◌, ◌++◌, length, slice_index_or, Option, None, Some}
 use Rattle.index_shift.specs.declared.entry.Entry.{Entry}
 use Rattle.cost_free.specs.declared.task.Meter.{Meter}
-use Rattle.cost_free.specs.declared.task.Meter.TheVariants.{Ticks, Cells, Work}
+use Rattle.cost_free.specs.declared.task.Meter.TheVariants.{Ticks, Cells}
 use Rattle.annot_types.specs.Rules.{Mode, With, Own, Past}
 use Rattle.walk_rules.specs.Plan as p
 use Rattle.walk_rules.specs.Plan.{Plan, Step, Part, Called}
-use Rattle.walk_rules.specs.Numbers.{Numbers, Sides, Known, Hint, Condition, Walked}
+use Rattle.walk_rules.specs.Numbers.{Numbers, Sides, Known, Hint, Walked}
 use Rattle.walk_rules.specs.Kinds.{Amount, amounts}
 use Rattle.walk_rules.specs.Walk.{Walk, charge, results_of, copies_of, multiples_of, later, only, behind, and_then, numbered, still, mode_at, at, added, brought, nothing, moved, all_moved}
-use Rattle.walk_rules.specs.Walk.{against, multiples, joined, at_zero, begun, group_sides, taken, none_taken, free_sides, once, used, refunded, sums, missing, call_pairs, each, walk, walks}
+use Rattle.walk_rules.specs.Walk.{against, multiples, joined, at_zero, begun, group_sides, taken, none_taken, free_sides, once, used, sums, missing, call_pairs, each, walk, walks}
 use Rattle.walk_rules.specs.Tasks.{Body, Job, known_by, of_bodies}
 
 -- a mode without prices

@@ -1,8 +1,7 @@
 -- What numbers stand for is in order.
-use Rattle.std.proofs.Common.{◌≡◌, refl, ap, arith}
-use Rattle.std.specs.Prelude.{ℕ, zero, suc, ◌+◌, ◌≤◌, nat_eq, ℤ, pos, ◌<ℤ◌, Bool, true, false, cond, List, [], ◌∷◌, ◌++◌, map, slice_get, slice_index_or, Option, None, Some}
+use Rattle.std.proofs.Common.{◌≡◌, refl, arith}
+use Rattle.std.specs.Prelude.{ℕ, zero, suc, ◌+◌, ◌≤◌, nat_eq, pos, ◌<ℤ◌, Bool, true, false, cond, List, [], ◌∷◌, ◌++◌, map, slice_get, slice_index_or, Option, None, Some}
 use Rattle.std.proofs.lemmas.Int.{ints}
-use Rattle.std.proofs.lemmas.Bool.Decides.{nat_tests}
 use Rattle.raml_syntax.specs.Tree.{Type'}
 use Rattle.normal_form.specs.Norm as n
 use Rattle.normal_form.specs.Norm.{Norm, NormFun}
@@ -10,9 +9,9 @@ use Rattle.normal_form.specs.Context.{Context, without, opened, parts_of, copies
 use Rattle.cost_free.specs.Task.{Task}
 use Rattle.annot_types.specs.Program.{Program, members}
 use Rattle.annot_types.specs.Carried.{tuples}
-use Rattle.annot_types.specs.Certificate.{Entries, RiseFrom, Sig, Block}
+use Rattle.annot_types.specs.Certificate.{Entries, RiseFrom, Block}
 use Rattle.annot_types.specs.Holds.{budget_of}
-use Rattle.annot_types.specs.Held.{AllRise, SigsRise, HintRises, HintsRise, AllHintsRise}
+use Rattle.annot_types.specs.Held.{AllRise, SigsRise, HintsRise, AllHintsRise}
 use Rattle.annot_types.specs.Signature.{sig_in, free_budget}
 use Rattle.walk_rules.specs.Plan.{Plan, Part}
 use Rattle.walk_rules.specs.Asked.{Ask, ResultsOf, CopiesOf, MultiplesOf, asked, all_asked, each_asked, count, counts, given, given_each, given_blocks, answers}
@@ -106,10 +105,12 @@ module _ (P : Program) (group : List ℕ) (earlier : List Block) (budget : ℕ) 
   plan_up (n.Node k x y z) C T d = tt
   plan_up (n.Just k x) C T d = tt
   plan_up (n.Call k f xs) C T d = (usable_up P d f 0 earlier, tt)
-  plan_up (n.Let k x A a b) C T d =
-      (tt, up_append _ (asked (plan P group earlier budget b (others a C ++ (x, A) ∷ []) T d))
-      (each_up (all_asked (lower (plan P group earlier budget a (inners a C) A) d)) (lower_up (plan P group earlier budget a (inners a C) A) (plan_up a (inners a C) A) d) (map (let_part a C A d) (tuples (others a C) d)))
-      (plan_up b (others a C ++ (x, A) ∷ []) T d))
+  plan_up (n.Let k x A a b) C T d = (
+    tt,
+    up_append _ (asked (plan P group earlier budget b (others a C ++ (x, A) ∷ []) T d))
+        (each_up (all_asked (lower (plan P group earlier budget a (inners a C) A) d)) (lower_up (plan P group earlier budget a (inners a C) A) (plan_up a (inners a C) A) d) (map (let_part a C A d) (tuples (others a C) d)))
+        (plan_up b (others a C ++ (x, A) ∷ []) T d),
+  )
   plan_up (n.Split k x y z a) C T d = plan_up a (opened x (y ∷ z ∷ []) parts_of C) T d
   plan_up (n.If k x a b) C T d = up_append _ _ (plan_up a (without x C) T d) (plan_up b (without x C) T d)
   plan_up (n.CaseList k x a y z b) C T d = up_append _ _ (plan_up a (without x C) T d) (plan_up b (opened x (y ∷ z ∷ []) parts_of C) T d)

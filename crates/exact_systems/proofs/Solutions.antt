@@ -1,6 +1,6 @@
 -- What solves the system of a task holds, and what holds solves it.
 use Rattle.std.proofs.Common.{◌≡◌, refl, ap, sym, ◌∙◌, subst}
-use Rattle.std.specs.Prelude.{ℕ, ◌+◌, ◌-◌, ◌*◌, ◌<◌, ℤ, pos, List, [], ◌∷◌, ◌++◌, map, length, replicate, slice_get, slice_index_or, position, Option, None, Some, IsSome}
+use Rattle.std.specs.Prelude.{ℕ, ◌-◌, ◌*◌, ◌<◌, pos, List, [], ◌∷◌, map, length, slice_get, slice_index_or, position, Some, IsSome}
 use Rattle.std.specs.List.{All}
 use Rattle.std.specs.Option.{unwrap_or}
 use Rattle.std.proofs.lemmas.Option.{get_or_from_slice_get}
@@ -17,26 +17,23 @@ use Rattle.annot_types.specs.Certificate as c
 use Rattle.annot_types.specs.Certificate.{annotation, Sig, Block}
 use Rattle.annot_types.specs.Rules.{own_sig}
 use Rattle.annot_types.specs.Rows.{size as size_of}
-use Rattle.annot_types.specs.Holds.{mode_of, budget_of, blocks_before, FunctionsHold, CoversTarget, Reaches, ReachesTarget, Holds}
+use Rattle.annot_types.specs.Holds.{mode_of, blocks_before, FunctionsHold, CoversTarget, Reaches, ReachesTarget, Holds}
 use Rattle.annot_types.specs.Least.{solving, weight}
 use Rattle.annot_types.specs.System.{weights_of_sigs, at_zero, system}
-use Rattle.walk_rules.specs.Numbers.{Sides}
-use Rattle.walk_rules.specs.Kinds.{Amount, amounts, AllMeet}
-use Rattle.walk_rules.specs.Tasks.{Body, of_target, sides_given}
-use Rattle.walk_rules.specs.Jobs.{positions, positions_of, target_place}
+use Rattle.walk_rules.specs.Kinds.{amounts, AllMeet}
+use Rattle.walk_rules.specs.Tasks.{of_target, sides_given}
+use Rattle.walk_rules.specs.Jobs.{positions, positions_of}
 use Rattle.walk_rules.specs.Solving.{amount}
 use Rattle.walk_rules.specs.Stand.{Stands, SidesStand}
 use Rattle.walk_rules.specs.Systems.{IsTask}
 use Rattle.walk_rules.specs.Found.{group_from}
 use Rattle.solved_tasks.specs.Told.{bodies_of, sigs_told, hints_told}
+use Rattle.courses.proofs.Lists.{some_is}
 use Rattle.exact_systems.specs.Laws.{IsNumbered, told, SolutionsHold, SolutionsWeigh, WhatHoldsSolves}
 use Rattle.exact_systems.proofs.Functions.{here, J, none, whole, reads, sides_told, told_long, told_hold, held_come}
 use Rattle.exact_systems.proofs.Targets.{meet_covers, covers_meet}
 use Rattle.exact_systems.proofs.Weights.{all_weighed}
 use Rattle.exact_systems.proofs.Meeting.{Meets, raised_job, bodies_are, raised_task, solves_meets, meets_solves}
-
-some_is : {X : Type 0} (x y : X) → Some x ≡ Some y → x ≡ y
-some_is x y e = cc
 
 module _ (P : Program) (d : ℕ) (earlier : List Block) (group scale t : ℕ) (x : List ℕ) where
   module _ (budget f number : ℕ) where

@@ -1,6 +1,6 @@
 -- Multiples that come to the same.
-use Rattle.std.proofs.Common.{◌≡◌, refl, ap, sym, ◌∙◌, arith, inl, inr, subst}
-use Rattle.std.specs.Prelude.{ℕ, zero, suc, ◌+◌, ◌*◌, ◌<◌, ◌⊎◌, ◌==◌, if◌then◌else◌, nat_eq, unsigned_abs, Bool, true, false, cond, List, [], ◌∷◌, map, length, slice_index_or, slice_set, Contains}
+use Rattle.std.proofs.Common.{◌≡◌, refl, ap, sym, ◌∙◌, arith, subst}
+use Rattle.std.specs.Prelude.{ℕ, zero, suc, ◌+◌, ◌*◌, ◌<◌, ◌==◌, if◌then◌else◌, nat_eq, Bool, true, false, cond, List, [], ◌∷◌, map, length, slice_index_or, slice_set, Contains}
 use Rattle.std.proofs.lemmas.List.{get_or-set_same, get_or-set_other, length-set}
 use Rattle.std.proofs.lemmas.Bool.Decides.{nat_tests}
 use Rattle.base_poly.specs.Base.{total}
@@ -8,7 +8,7 @@ use Rattle.index_shift.specs.Potential.{Annotation}
 use Rattle.index_shift.specs.Potential as i
 use Rattle.index_shift.specs.declared.entry.Entry.{Entry}
 use Rattle.walk_rules.specs.Plan.{Called}
-use Rattle.walk_rules.specs.Numbers.{Sides, Signature, Known}
+use Rattle.walk_rules.specs.Numbers.{Sides, Known}
 use Rattle.walk_rules.specs.Kinds.{Amount, amounts}
 use Rattle.walk_rules.specs.Walk.{at, added, brought, multiples, used}
 use Rattle.walk_rules.proofs.Calls.{moved_times}

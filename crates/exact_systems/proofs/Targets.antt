@@ -1,11 +1,10 @@
 -- A target is reached exactly where the conditions at its positions are met.
 use Rattle.std.proofs.Common.{◌≡◌, refl, ap, sym, ◌∙◌, arith, inl, inr, ⊎_elim, subst}
-use Rattle.std.specs.Prelude.{ℕ, zero, suc, ◌+◌, ◌*◌, ◌<◌, ◌≤◌, ◌||◌, ◌⊎◌, Bool, true, false, cond, List, [], ◌∷◌, length, filter, position, slice_get, slice_index_or, Option, None, Some, IsSome}
+use Rattle.std.specs.Prelude.{ℕ, zero, suc, ◌+◌, ◌*◌, ◌<◌, ◌≤◌, ◌||◌, ◌⊎◌, Bool, true, false, List, [], ◌∷◌, length, position, slice_index_or, Option, None, Some, IsSome}
 use Rattle.std.specs.List.{All, list_any, range_with_len}
-use Rattle.std.specs.Option.{unwrap_or}
 use Rattle.std.proofs.lemmas.List.Elements.{All-head, All-tail}
 use Rattle.std.proofs.lemmas.List.Quantifiers.{position-Some}
-use Rattle.std.proofs.lemmas.Option.{slice_get-get_or, get_or_from_slice_get}
+use Rattle.std.proofs.lemmas.Option.{slice_get-get_or}
 use Rattle.raml_syntax.specs.Tree.{Type'}
 use Rattle.base_poly.specs.Plain.{Plain, alike}
 use Rattle.base_poly.specs.Total.{alike_is, alike_self}
@@ -14,9 +13,8 @@ use Rattle.base_poly.proofs.Among.{Among, kept_among, among_kept}
 use Rattle.base_poly.proofs.Exact.{exact}
 use Rattle.index_shift.specs.Potential.{Annotation}
 use Rattle.index_shift.proofs.Spots.{position_there}
-use Rattle.cost_free.specs.Target.{Target, targets}
-use Rattle.annot_types.specs.Holds.{number_of, number_at_tuple, CoversTarget}
-use Rattle.annot_types.specs.Rows.{size as size_of}
+use Rattle.cost_free.specs.Target.{Target}
+use Rattle.annot_types.specs.Holds.{number_of, CoversTarget}
 use Rattle.walk_rules.specs.Numbers.{Sides}
 use Rattle.walk_rules.specs.Kinds.{Amount, amounts, AllMeet}
 use Rattle.walk_rules.specs.Walk.{at}

@@ -1,8 +1,7 @@
 -- What numbers stand for, as it is walked.
 use Rattle.std.proofs.Common.{◌≡◌, refl, ap, sym, ◌∙◌, arith, subst}
-use Rattle.std.specs.Prelude.{ℕ, zero, suc, ◌+◌, ◌*◌, ◌<◌, ◌≤◌, ◌==◌, if◌then◌else◌, nat_eq, unsigned_abs, ℤ, pos, Bool, true, false, cond, List, [], ◌∷◌, ◌++◌, map, length, slice_index_or, Contains}
+use Rattle.std.specs.Prelude.{ℕ, zero, suc, ◌+◌, ◌*◌, ◌<◌, ◌≤◌, nat_eq, unsigned_abs, pos, Bool, true, false, cond, List, [], ◌∷◌, ◌++◌, map, length, slice_index_or, Contains}
 use Rattle.std.proofs.lemmas.Bool.Decides.{nat_tests}
-use Rattle.std.proofs.lemmas.Int.{ints}
 use Rattle.base_poly.specs.Base.{total}
 use Rattle.index_shift.specs.Potential.{Annotation}
 use Rattle.annot_types.specs.Certificate as c
@@ -17,7 +16,7 @@ use Rattle.walk_rules.specs.Shape.{EachWithin, AreAmong, amounts_at, each_amount
 use Rattle.walk_rules.specs.Found.{listed, amounts_of}
 use Rattle.walk_rules.proofs.Finding.{amounts_stand}
 use Rattle.solved_tasks.specs.Told.{entries_from, entries, named, hint, number_in}
-use Rattle.exact_systems.proofs.Alike.{Alike, AllAlike}
+use Rattle.exact_systems.proofs.Alike.{AllAlike}
 use Rattle.exact_systems.proofs.Taken.{Reading, ComeToSame, used_same, put, collected, AreOf, collected_same}
 
 -- Entries

@@ -1,6 +1,6 @@
 -- The weighted sum of numbers is that of the signatures that they give.
 use Rattle.std.proofs.Common.{◌≡◌, refl, ap, sym, ◌∙◌, arith, subst}
-use Rattle.std.specs.Prelude.{ℕ, zero, suc, ◌+◌, ◌-◌, ◌*◌, ◌^◌, ◌<◌, ℤ, pos, ◌+ℤ◌, ◌*ℤ◌, List, [], ◌∷◌, ◌++◌, map, length, replicate, slice_get, slice_index_or, Option, Some}
+use Rattle.std.specs.Prelude.{ℕ, zero, suc, ◌+◌, ◌*◌, ◌^◌, ◌<◌, ℤ, pos, ◌+ℤ◌, ◌*ℤ◌, List, [], ◌∷◌, ◌++◌, map, length, replicate, slice_get, Option, Some}
 use Rattle.std.proofs.lemmas.Int.{ints}
 use Rattle.linear_rows.specs.Vectors.{dot}
 use Rattle.base_poly.specs.Plain.{Plain, degrees}
@@ -23,6 +23,7 @@ use Rattle.walk_rules.specs.Solving.{amount}
 use Rattle.walk_rules.specs.Found.{listed, amounts_of, signature, sides, group_from}
 use Rattle.walk_rules.proofs.Finding.{amounts_stand}
 use Rattle.solved_tasks.specs.Told.{number_in}
+use Rattle.courses.proofs.Lists.{length_map}
 use Rattle.exact_systems.proofs.Functions.{budget, here, body, bodies, Ready}
 
 -- the products with the numbers in order, summed up
@@ -68,10 +69,6 @@ by_tuples f (t ∷ ts) y = ap (λ z. pos (f t) *ℤ pos (y 0) +ℤ z) (by_tuples
 weighed_same : (f : List Plain → ℕ) (ts : List (List Plain)) (q r : Annotation) → ((k : ℕ) → k < length ts → q k ≡ r k) → weighed f ts q ≡ weighed f ts r
 weighed_same f [] q r h = refl
 weighed_same f (t ∷ ts) q r h = λ i. h 0 (omega arith) i * f t + weighed_same f ts (λ k. q (suc k)) (λ k. r (suc k)) (λ k l. h (suc k) (omega (arith, l))) i
-
-length_map : {X Y : Type 0} (f : X → Y) (xs : List X) → length (map f xs) ≡ length xs
-length_map f [] = refl
-length_map f (x ∷ xs) = ap suc (length_map f xs)
 
 length_zeros : (n : ℕ) → length (replicate n (pos 0)) ≡ n
 length_zeros zero = refl

@@ -6,7 +6,6 @@ use Rattle.base_poly.specs.Plain.{degrees}
 use Rattle.normal_form.specs.Norm as n
 use Rattle.normal_form.specs.Norm.{Norm, NormFun}
 use Rattle.normal_form.specs.Context.{Context, types, without, opened, parts_of, copies_of, inners, others}
-use Rattle.cost_free.specs.Task.{Task}
 use Rattle.annot_types.specs.Carried.{tuples}
 use Rattle.annot_types.specs.Rows.{size as size_of}
 use Rattle.annot_types.specs.Program.{Program, members}

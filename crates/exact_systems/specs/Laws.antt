@@ -1,7 +1,11 @@
 -- What solves the system of a task holds, and what holds solves it.
-use Rattle.std.specs.Prelude.{◌≡◌, ◌<◌, ℕ, ℤ, pos, List, [], ◌∷◌, map, length, slice_get, position, Option, Some, IsSome, IsTrue, ◌↔◌}
+use Rattle.std.specs.Prelude.{◌≡◌, ◌<◌, ℕ, ℤ, pos, List, [], ◌∷◌, map, slice_get, position, Option, Some, IsSome, IsTrue, ◌↔◌}
 use Rattle.std.specs.List.{All}
-use Rattle.base_poly.specs.Plain.{Plain, alike}
+use Rattle.raml_syntax.specs.Tree.{Function, Prog}
+use Rattle.raml_syntax.specs.Types.{Typed}
+use Rattle.raml_syntax.specs.Node.{AllNodes, NumberFits}
+use Rattle.call_groups.specs.Groups.{Grouping, IsGrouping}
+use Rattle.base_poly.specs.Plain.{alike}
 use Rattle.base_poly.specs.Indices.{index_list}
 use Rattle.normal_form.specs.Norm.{NormFun}
 use Rattle.linear_rows.specs.Vectors.{dot}
@@ -18,6 +22,7 @@ use Rattle.annot_types.specs.System.{system}
 use Rattle.walk_rules.specs.Systems.{IsTask}
 use Rattle.solved_tasks.specs.Told.{bodies_of, sigs_told, hints_told}
 use Rattle.rule_plan.specs.Within.{FunctionWithin}
+use Rattle.amortised_bounds.specs.Laws.{normal_of}
 use Rattle.courses.specs.Generator.{Generates}
 use Rattle.tried_tasks.specs.Laws.{IsOrdered}
 use Rattle.exact_systems.specs.Analysed.{generator_of, analysis_of}
@@ -34,7 +39,7 @@ IsNumbered P d (k.With meter) = Unit {0}
 abbrev pub told : Program → ℕ → List Block → Task → List ℕ → Block
 told P d earlier task x = solving task (sigs_told (bodies_of P d earlier task) x) (hints_told (bodies_of P d earlier task) x)
 
--- Each solution x over t stands for signatures and hints that hold with t, and its weighted sum is theirs.
+-- Each solution x over t stands for signatures and hints that hold with t.
 abbrev pub SolutionsHold : Type 0
 SolutionsHold =
     (P : Program) (d : ℕ) (earlier : List Block) (task : Task) (scale t : ℕ) (x : List ℕ) →
@@ -70,3 +75,10 @@ abbrev pub LimitsAreTold : Type 0
 LimitsAreTold =
     (P : Program) (d : ℕ) (task : Task) →
     IsTrue ((generator_of P d).within task) ↔ All (λ f. FunctionWithin 2000 (slice_get P.funs f) (budget_of d task.kind)) (members P task.group)
+
+-- The normal form of a typed program, with its groups, is ordered.
+abbrev pub NormalsAreOrdered : Type 0
+NormalsAreOrdered =
+    (P : Prog) → Typed P → All (λ (g : Function). AllNodes NumberFits g.body) P →
+    (groups : Grouping) → IsGrouping P groups →
+    IsOrdered (normal_of P groups.list)

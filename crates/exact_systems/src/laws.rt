@@ -1,6 +1,7 @@
 // Laws of systems: each is the contract of a function that does nothing.
-ghost use Rattle.exact_systems.specs.Laws.{LimitsAreTold, SolutionsHold, SolutionsWeigh, SystemsGenerate, WhatHoldsSolves};
+ghost use Rattle.exact_systems.specs.Laws.{LimitsAreTold, NormalsAreOrdered, SolutionsHold, SolutionsWeigh, SystemsGenerate, WhatHoldsSolves};
 
+use cost_free::laws::blockers_are_least;
 use tried_tasks::laws::{targets_are_numbered, tried_are_tasks, tried_have_systems};
 
 /// Each solution of a task's system stands for signatures and hints that hold.
@@ -31,3 +32,10 @@ pub fn systems_generate()
 pub fn limits_are_told()
     ensures { LimitsAreTold }
 {}
+
+/// The normal form of a typed program is ordered.
+pub fn normals_are_ordered()
+    ensures { NormalsAreOrdered }
+{
+    blockers_are_least();
+}

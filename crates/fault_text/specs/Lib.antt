@@ -1,0 +1,5 @@
+pub mod Plain
+pub mod Refusals
+pub mod Tasks
+pub mod Places
+pub mod Certificates

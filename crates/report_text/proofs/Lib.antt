@@ -1,0 +1,2 @@
+pub mod HaveText
+pub mod Joined
