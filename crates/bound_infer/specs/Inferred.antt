@@ -65,7 +65,7 @@ pub record TaskFault (P : Program) (c : Certificate) (task : Task) (fault : v.Fa
   pub block : Block
   pub there : slice_get c.blocks place ≡ Some block
   pub is : block.task ≡ task
-  pub fault : VectorFault P c place fault
+  pub has : VectorFault P c place fault
 
 -- where a number leaves in the check of a certificate's vectors
 abbrev pub LeavesVector : Program → Certificate → LeavesAt → Type 0

@@ -30,12 +30,26 @@ pub struct Verified<'p, 'a> {
 
 impl<'p, 'a> Model for Verified<'p, 'a> {
     ghost use Rattle.std.specs.Coded.{codes};
+    ghost use Rattle.raml_syntax.specs.contracts.ty.Ty as ty;
+    ghost use Rattle.raml_syntax.specs.contracts.tree.Form as source_form;
+    ghost use Rattle.raml_syntax.specs.contracts.tree.Expr as source_expr;
+    ghost use Rattle.normal_form.specs.contracts.form.NormForm as form;
+    ghost use Rattle.normal_form.specs.contracts.form.NormExpr as expr;
     ghost use Rattle.annot_types.specs.System.{Valid};
     ghost use Rattle.courses.specs.Good.{AllRefuted};
     ghost use Rattle.rule_plan.specs.Read.{program_in};
     ghost use Rattle.cert_check.specs.Checked.{Checking};
 
     ghost Value = { Checking };
+
+    ghost coded = { Prim.hlevel (
+      codes,
+      ty.the_row.coded,
+      source_form.the_row.coded,
+      source_expr.the_row.coded,
+      form.the_row.coded,
+      expr.the_row.coded,
+    ) };
 
     ghost view = { λ verified. verified.checked };
 
