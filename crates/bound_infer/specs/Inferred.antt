@@ -1,5 +1,5 @@
 -- What the inference and the verification of a certificate come to.
-use Rattle.std.specs.Prelude.{◌≡◌, ◌≢◌, ℕ, List, slice_get, Option, None, Some}
+use Rattle.std.specs.Prelude.{◌≡◌, ◌≢◌, ℕ, List, slice_get, None, Some}
 use Rattle.cost_free.specs.Task.{Task}
 use Rattle.cost_free.specs.Read.{task_of}
 use Rattle.annot_types.specs.Program.{Program}
@@ -65,7 +65,7 @@ pub record TaskFault (P : Program) (c : Certificate) (task : Task) (fault : v.Fa
   pub block : Block
   pub there : slice_get c.blocks place ≡ Some block
   pub is : block.task ≡ task
-  pub fault : VectorFault P c place fault
+  pub has : VectorFault P c place fault
 
 -- where a number leaves in the check of a certificate's vectors
 abbrev pub LeavesVector : Program → Certificate → LeavesAt → Type 0

@@ -16,11 +16,20 @@ use crate::run::{Run, begin};
 use crate::step::all_steps;
 use crate::verified::Verified;
 use courses::laws::{courses_certify, courses_stay_within};
-use exact_systems::laws::{limits_are_told, normals_are_ordered, systems_generate};
+use exact_systems::laws::{limits_are_told, systems_generate};
 use frac128::Frac;
 use share_normal::NormProgram;
 use simplex::Chooser;
 use std::alloc::Global;
+
+// The program is ordered.
+fn ordered(program: &NormProgram<'_>)
+    ensures { IsOrdered (program_in program.now) }
+{
+    let _source = program.source();
+    let _groups = program.groups();
+    let _functions = program.functions();
+}
 
 // The course of the schedule, to its end.
 fn course<'p, F: Fn(&[Frac]) -> Option<usize>>(
@@ -67,14 +76,11 @@ pub fn infer<'p, 'a, F: Fn(&[Frac]) -> Option<usize>>(
     ensures fault { IfErr result (λ fault. (pick : List ℤ → ℤ → Option ℕ) → AnswersBy F.Fn chooser.now pick →
         InferCause (analysis_of (program_in program.now) d pick) fault) }
 {
-    normals_are_ordered();
+    ordered(program);
     systems_generate();
     limits_are_told();
     courses_certify();
     courses_stay_within();
-    let _source = program.source();
-    let _groups = program.groups();
-    let _functions = program.functions();
     match course(alloc, program, d, chooser) {
         Ok(run) => ended(alloc, program, d, run),
         Err(fault) => Err(fault),

@@ -85,6 +85,7 @@ pub(crate) fn waits_for(
     ensures { option_map (λ (f : TheFunId). f.0) result ≡ blocker_of (program_in program.now) (task_of task.now) (map outcome (a.blocks_of run.now.blocks.items)) }
 {
     let _functions = program.functions();
+    let _results = program.results();
     blocked(program.groups(), task, run.schedule.done())
 }
 

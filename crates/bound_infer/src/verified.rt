@@ -13,6 +13,7 @@ ghost use Rattle.courses.specs.Good.{AllRefuted};
 ghost use Rattle.courses.specs.Lines.{Tells};
 ghost use Rattle.bound_infer.specs.Told.{claim_of, IsWritten};
 
+use crate::claims::{block_for, told};
 use crate::line::Line;
 use annot_types::Certificate;
 use cert_check::Checked;
@@ -30,12 +31,26 @@ pub struct Verified<'p, 'a> {
 
 impl<'p, 'a> Model for Verified<'p, 'a> {
     ghost use Rattle.std.specs.Coded.{codes};
+    ghost use Rattle.raml_syntax.specs.contracts.ty.Ty as ty;
+    ghost use Rattle.raml_syntax.specs.contracts.tree.Form as source_form;
+    ghost use Rattle.raml_syntax.specs.contracts.tree.Expr as source_expr;
+    ghost use Rattle.normal_form.specs.contracts.form.NormForm as form;
+    ghost use Rattle.normal_form.specs.contracts.form.NormExpr as expr;
     ghost use Rattle.annot_types.specs.System.{Valid};
     ghost use Rattle.courses.specs.Good.{AllRefuted};
     ghost use Rattle.rule_plan.specs.Read.{program_in};
     ghost use Rattle.cert_check.specs.Checked.{Checking};
 
     ghost Value = { Checking };
+
+    ghost coded = { Prim.hlevel (
+      codes,
+      ty.the_row.coded,
+      source_form.the_row.coded,
+      source_expr.the_row.coded,
+      form.the_row.coded,
+      expr.the_row.coded,
+    ) };
 
     ghost view = { λ verified. verified.checked };
 
@@ -79,6 +94,12 @@ impl<'p, 'a> Verified<'p, 'a> {
         ensures bounds { IfOk result (λ told. IsTrue (source_in self.now.program) fun.0 meter (claim_of told)) }
         ensures tells { IfOk result (λ told. Tells (program_in self.now.program) self.now.certificate fun.0 meter (claim_of told)) }
     {
-        Err(AllocError)
+        let program = self.checked.program();
+        let _source = program.source();
+        let _groups = program.groups();
+        let _functions = program.functions();
+        let certificate = self.checked.certificate();
+        let bound = self.checked.bound(alloc, fun, meter)?;
+        Ok(told(bound, &block_for(program, certificate, fun, meter).body))
     }
 }
