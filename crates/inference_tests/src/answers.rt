@@ -1,13 +1,11 @@
 //! What systems come to by the rules of the product.
 //!
 //! Of a row `p x >= b` that has an unknown of weight w for itself, with p and b positive, the solution has
-//! `b / p` and the dual solution `w / p`. The pivot multiplies the row of the gains by nothing but b, so
-//! that the numbers which it makes are `b / p`, `w / p`, `b w / p` and the sums of the last.
+//! `b / p` and the dual solution `w / p`. Its pivot makes no other numbers than `1 / p`, `w / p`, `b / p` and,
+//! among the gains, sums of `b w / p`, so that large p and b leave nothing in solving.
 //!
 //! In the tables 2^63 is 9223372036854775808, 2^64 is 18446744073709551616, 2^125 is
 //! 42535295865117307932921825928971026432, and 2^126 is 85070591730234615865843651857942052864.
-ghost use Rattle.std.specs.Prelude.{◌<◌, ◌^◌};
-
 use crate::text::system;
 use frac128::Frac;
 use simplex::Chooser;
@@ -95,36 +93,22 @@ fn by_chooser(alloc: Global, text: &str) -> Result<String, Fail> {
     shown(alloc, &whole_answer(alloc, &system, &chooser))
 }
 
-/// Compares what systems come to where the least column enters, and where that with the greatest gain does.
-fn check_both(rt: &impl Abort, alloc: Global, table: &[(&str, &str, &str)]) -> Result<(), Fail> {
-    for (text, least, greatest) in table {
-        let first = by_least(alloc, text)?;
-        let second = by_greatest(alloc, text)?;
-        assert!(rt;
-            first.as_str() == *least,
-            "{first} by the least column of {text}"
-        );
-        assert!(rt;
-            second.as_str() == *greatest,
-            "{second} by the greatest gain of {text}"
-        );
+/// What a system comes to by the rule of the least column, and by that of the greatest gain where this is
+/// something else.
+fn by_both(alloc: Global, text: &str) -> Result<String, Fail> {
+    let mut found = by_least(alloc, text)?;
+    let other = by_greatest(alloc, text)?;
+    if found != other {
+        found.push_str(" or ")?;
+        found.push_str(&other)?;
     }
-    Ok(())
+    Ok(found)
 }
 
-/// Compares what systems come to by either rule.
-fn check_each(rt: &impl Abort, alloc: Global, table: &[(&str, &str)]) -> Result<(), Fail> {
+fn check_all(rt: &impl Abort, alloc: Global, table: &[(&str, &str)]) -> Result<(), Fail> {
     for (text, want) in table {
-        let first = by_least(alloc, text)?;
-        let second = by_greatest(alloc, text)?;
-        assert!(rt;
-            first.as_str() == *want,
-            "{first} by the least column of {text}"
-        );
-        assert!(rt;
-            second.as_str() == *want,
-            "{second} by the greatest gain of {text}"
-        );
+        let found = by_both(alloc, text)?;
+        assert!(rt; found.as_str() == *want, "{found} of {text}");
     }
     Ok(())
 }
@@ -149,7 +133,7 @@ const ANSWERS: [(&str, &str); 6] = [
 
 #[test]
 fn systems_are_answered(rt: HostRuntime) -> Result<(), Fail> {
-    check_each(&rt, rt.alloc(), &ANSWERS)
+    check_all(&rt, rt.alloc(), &ANSWERS)
 }
 
 #[test]
@@ -161,53 +145,47 @@ fn a_chooser_is_asked(rt: HostRuntime) -> Result<(), Fail> {
     Ok(())
 }
 
-/// Where the rules differ: of two rows that no solution has, the first one and the one of greater gain
-/// enters, and no row bounds it. In the next, the least column is that of `2 x >= 2`, whose pivot makes of
-/// the second row a half of the first one more; the greatest gain is that of the second row, which is
-/// refuting by itself.
-const RULES_DIFFER: [(&str, &str, &str); 2] = [
+/// Of two rows that no solution has, the first one enters, or that of the greater gain, and it refutes by
+/// itself. Below, `2 x >= 2` is entered first by the least column, and then half of it and the second row
+/// refute; by the greatest gain the second row is entered, and refutes by itself.
+const RULES_DIFFER: [(&str, &str); 2] = [
     (
         "system 1\nweights\nrow 1\nrow 2",
-        "refuted by 1 0",
-        "refuted by 0 1",
+        "refuted by 1 0 or refuted by 0 1",
     ),
     (
         "system 1\nweights\nrow 2 0:2\nrow 3 0:-1",
-        "refuted by 1 2",
-        "refuted by 0 1",
+        "refuted by 1 2 or refuted by 0 1",
     ),
 ];
 
 #[test]
 fn rules_differ(rt: HostRuntime) -> Result<(), Fail> {
-    check_both(&rt, rt.alloc(), &RULES_DIFFER)
+    check_all(&rt, rt.alloc(), &RULES_DIFFER)
 }
 
-const SOLVING_LEAVES: [(&str, &str, &str); 3] = [
+const SOLVING_LEAVES: [(&str, &str); 3] = [
     // the coefficient -2^127 is no fraction
     (
         "system 2\nweights 0:1\nrow 0 0:1\nrow 0 0:1 1:-170141183460469231731687303715884105728",
-        "solve 1 1 after",
         "solve 1 1 after",
     ),
     // nor is the right side, among the gains
     (
         "system 1\nweights 0:1\nrow -170141183460469231731687303715884105728 0:1",
         "solve 1 0 after",
-        "solve 1 0 after",
     ),
-    // 2^126 times the weight 2, in the gains at the right sides; the first row is behind by its pivot where
-    // the least column enters
+    // 2^126 times the weight 2, in the gains at the right sides; the pivot of the first row comes
+    // before where the least column enters
     (
         "system 2\nweights 0:1 1:2\nrow 1 0:1\nrow 85070591730234615865843651857942052864 1:1",
-        "solve 2 4 after 0:0",
-        "solve 2 4 after",
+        "solve 2 4 after 0:0 or solve 2 4 after",
     ),
 ];
 
 #[test]
 fn solving_leaves(rt: HostRuntime) -> Result<(), Fail> {
-    check_both(&rt, rt.alloc(), &SOLVING_LEAVES)
+    check_all(&rt, rt.alloc(), &SOLVING_LEAVES)
 }
 
 const SCALES_LEAVE: [(&str, &str); 6] = [
@@ -251,46 +229,45 @@ const SCALES_LEAVE: [(&str, &str); 6] = [
 
 #[test]
 fn scales_leave(rt: HostRuntime) -> Result<(), Fail> {
-    check_each(&rt, rt.alloc(), &SCALES_LEAVE)
+    check_all(&rt, rt.alloc(), &SCALES_LEAVE)
 }
 
-const REFUTING_LEAVES: [(&str, &str, &str); 2] = [
+const REFUTING_LEAVES: [(&str, &str); 2] = [
     // (2^64 - 1)/2^64 of the first row and the second: over 2^64 both terms of the unknown are
     // 2^64 (2^64 - 1), above 2^127
     (
         "system 1\nweights\nrow 18446744073709551616 0:18446744073709551616\n\
          row 1 0:-18446744073709551615",
         "refute 0",
-        "refute 0",
     ),
     // half the first row and the second: over 2 the right sides are 2 and 2^127; where the second row enters
     // first it refutes by itself
     (
         "system 1\nweights\nrow 2 0:2\nrow 85070591730234615865843651857942052864 0:-1",
-        "refute 1",
-        "refuted by 0 1",
+        "refute 1 or refuted by 0 1",
     ),
 ];
 
 #[test]
 fn refuting_leaves(rt: HostRuntime) -> Result<(), Fail> {
-    check_both(&rt, rt.alloc(), &REFUTING_LEAVES)
+    check_all(&rt, rt.alloc(), &REFUTING_LEAVES)
 }
 
 /// In each of them the unknown 0 or 1 is 1/2, so that all stands over 2.
 const PROVING_LEAVES: [(&str, &str); 3] = [
-    // a row: 2^64 times the number 2^63, which is 2^62 over 2; rows are told as the column behind the unknowns
+    // a row: the coefficient 2^64 times 2^63, the number of 2^62 over 2; rows are told as the column that is
+    // behind the unknowns
     (
         "system 2\nweights\nrow 85070591730234615865843651857942052864 0:18446744073709551616\nrow 1 1:2",
         "least 2",
     ),
-    // the unknown 1: the dual number 2^62 is 2^63 over 2, and the coefficient 2^64
+    // the unknown 1: the coefficient 2^64 times 2^63, the number of the dual 2^62 over 2
     (
         "system 2\nweights 1:85070591730234615865843651857942052864\nrow 1 0:2\n\
          row 18446744073709551616 1:18446744073709551616",
         "least 1",
     ),
-    // the sums: 2^64, which is 2^63 over 2, times the right side 2^63, and times the weight 2^63
+    // the sums: the right side 2^63 times 2^64, the number of the dual 2^63 over 2
     (
         "system 2\nweights 0:9223372036854775808\nrow 9223372036854775808 0:1\nrow 1 1:2",
         "least 2",
@@ -299,5 +276,5 @@ const PROVING_LEAVES: [(&str, &str); 3] = [
 
 #[test]
 fn proving_leaves(rt: HostRuntime) -> Result<(), Fail> {
-    check_each(&rt, rt.alloc(), &PROVING_LEAVES)
+    check_all(&rt, rt.alloc(), &PROVING_LEAVES)
 }

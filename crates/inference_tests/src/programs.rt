@@ -8,7 +8,6 @@ use cert_json::{read, write};
 use cost_free::{Task, TaskKind};
 use earlier_blocks::Earlier;
 use raml_parse::parse;
-use rule_plan::bodies;
 use share_normal::NormProgram;
 use simple_types::{Typed, check};
 use std::alloc::Global;
@@ -59,7 +58,8 @@ pub(crate) fn budget_of(task: &Task) -> u8
     }
 }
 
-/// The blocks, kept for the tasks behind them.
+/// The blocks, kept for the tasks behind them. Each function of a group has one argument and a result of one
+/// position each.
 pub(crate) fn kept(
     alloc: Global,
     program: &NormProgram<'_>,
@@ -67,32 +67,10 @@ pub(crate) fn kept(
 ) -> Result<Earlier, Fail> {
     let mut earlier = Earlier::new(alloc, program.functions().len())?;
     for block in blocks {
-        keep(alloc, program, &mut earlier, block)?;
+        let Some(members) = program.groups().list().get(block.task.group as usize) else {
+            return Err(Fail::new("there is no such group"));
+        };
+        earlier.add(alloc, 1, block, members, &[(1, 1)])?;
     }
     Ok(earlier)
-}
-
-/// Keeps one block more.
-fn keep(
-    alloc: Global,
-    program: &NormProgram<'_>,
-    earlier: &mut Earlier,
-    block: &Block,
-) -> Result<(), Fail> {
-    let budget = budget_of(&block.task);
-    let Some(members) = program.groups().list().get(block.task.group as usize) else {
-        return Err(Fail::new("there is no such group"));
-    };
-    if budget > 4 {
-        return Err(Fail::new("the budget is great"));
-    }
-    let Ok(made) = bodies(alloc, program, earlier, block.task.group, budget) else {
-        return Err(Fail::new("there is no plan"));
-    };
-    let mut sizes = Vec::new(alloc);
-    for body in &made {
-        sizes.push((body.args, body.result))?;
-    }
-    earlier.add(alloc, 1, block, members, &sizes)?;
-    Ok(())
 }

@@ -39,7 +39,7 @@ fn raised(alloc: Global, text: &str, scale: i128) -> Result<String, Fail> {
     let mut out = String::new(alloc);
     match told {
         Ok(scale) => {
-            write!(out, "scale {scale}\n")?;
+            write!(out, "scale {scale} ")?;
             push_certificate(alloc, &mut out, &certificate)?;
         }
         Err(block) => write!(out, "leaves at block {block}")?,
@@ -60,28 +60,23 @@ fn doubled(alloc: Global, blocks: &mut [Block], scale: i128) -> Result<Result<i1
     }
 }
 
-/// All numbers of the blocks that are solved for ticks are doubled, and no others.
-const ALL_FIT: (&str, &str) = (
-    r#"{"blocks":[{"budget":0,"function":0,"group":0,"hints":[[]],"kind":"free","sigs":[[[[0,"1"]],[[0,"1"]]]],"target":0},{"group":0,"hints":[[{"let":[[[0,"2"],[3,"5"]],[]]},{"share":[[1,"7"]]},{"call":[[0,"1"]]}]],"kind":"ticks","sigs":[[[[0,"85070591730234615865843651857942052863"]],[[1,"4"]]]]},{"group":0,"hints":[[]],"kind":"cells","sigs":[[[[0,"85070591730234615865843651857942052864"]],[]]]},{"farkas":[[0,"3"]],"group":1,"kind":"ticks"},{"calls":0,"group":2,"kind":"ticks"},{"group":3,"hints":[[]],"kind":"ticks","sigs":[[[[0,"6"]],[]]]}],"degree":1,"scale":{"cells":"1","ticks":"1"},"version":1}"#,
-    r#"{"blocks":[{"budget":0,"function":0,"group":0,"hints":[[]],"kind":"free","sigs":[[[[0,"1"]],[[0,"1"]]]],"target":0},{"group":0,"hints":[[{"let":[[[0,"4"],[3,"10"]],[]]},{"share":[[1,"14"]]},{"call":[[0,"2"]]}]],"kind":"ticks","sigs":[[[[0,"170141183460469231731687303715884105726"]],[[1,"8"]]]]},{"group":0,"hints":[[]],"kind":"cells","sigs":[[[[0,"85070591730234615865843651857942052864"]],[]]]},{"farkas":[[0,"3"]],"group":1,"kind":"ticks"},{"calls":0,"group":2,"kind":"ticks"},{"group":3,"hints":[[]],"kind":"ticks","sigs":[[[[0,"12"]],[]]]}],"degree":1,"scale":{"cells":"1","ticks":"1"},"version":1}"#,
-);
+/// Without cost, for ticks twice, for cells, and blocks that are not solved; 2^126 - 1 stands for ticks, and
+/// 2^126 for cells.
+const BEFORE: &str =
+    r#"{"blocks":[{"budget":0,"function":0,"group":0,"hints":[[]],"kind":"free","sigs":[[[[0,"1"]],[[0,"1"]]]],"target":0},{"group":0,"hints":[[{"let":[[[0,"2"],[3,"5"]],[]]},{"share":[[1,"7"]]},{"call":[[0,"1"]]}]],"kind":"ticks","sigs":[[[[0,"85070591730234615865843651857942052863"]],[[1,"4"]]]]},{"group":0,"hints":[[]],"kind":"cells","sigs":[[[[0,"85070591730234615865843651857942052864"]],[]]]},{"farkas":[[0,"3"]],"group":1,"kind":"ticks"},{"calls":0,"group":2,"kind":"ticks"},{"group":3,"hints":[[]],"kind":"ticks","sigs":[[[[0,"6"]],[]]]}],"degree":1,"scale":{"cells":"1","ticks":"1"},"version":1}"#;
 
-#[test]
-fn blocks_are_raised(rt: HostRuntime) -> Result<(), Fail> {
-    let found = raised(rt.alloc(), ALL_FIT.0, 3)?;
-    let (first, rest) = found.split_once('\n').ok_or("one line")?;
-    assert!(rt; first == "scale 6");
-    assert!(rt; rest == ALL_FIT.1, "{rest}");
-    Ok(())
-}
+/// The numbers of the blocks that are solved for ticks are doubled, and no others.
+const AFTER: &str =
+    r#"scale 6 {"blocks":[{"budget":0,"function":0,"group":0,"hints":[[]],"kind":"free","sigs":[[[[0,"1"]],[[0,"1"]]]],"target":0},{"group":0,"hints":[[{"let":[[[0,"4"],[3,"10"]],[]]},{"share":[[1,"14"]]},{"call":[[0,"2"]]}]],"kind":"ticks","sigs":[[[[0,"170141183460469231731687303715884105726"]],[[1,"8"]]]]},{"group":0,"hints":[[]],"kind":"cells","sigs":[[[[0,"85070591730234615865843651857942052864"]],[]]]},{"farkas":[[0,"3"]],"group":1,"kind":"ticks"},{"calls":0,"group":2,"kind":"ticks"},{"group":3,"hints":[[]],"kind":"ticks","sigs":[[[[0,"12"]],[]]]}],"degree":1,"scale":{"cells":"1","ticks":"1"},"version":1}"#;
 
 /// 2^126 stands in a block of cells, in a hint of the fourth block and in a signature of the last one.
 const NUMBERS: &str =
     r#"{"blocks":[{"group":0,"hints":[[]],"kind":"cells","sigs":[[[[0,"85070591730234615865843651857942052864"]],[]]]},{"group":0,"hints":[[]],"kind":"ticks","sigs":[[[[0,"1"]],[]]]},{"farkas":[[0,"85070591730234615865843651857942052864"]],"group":1,"kind":"ticks"},{"group":2,"hints":[[{"share":[[0,"85070591730234615865843651857942052864"]]}]],"kind":"ticks","sigs":[[[[0,"1"]],[]]]},{"group":3,"hints":[[]],"kind":"ticks","sigs":[[[[0,"85070591730234615865843651857942052864"]],[]]]}],"degree":1,"scale":{"cells":"1","ticks":"1"},"version":1}"#;
 
-/// Blocks, the scale, and the block that is told. Twice 2^126 leaves in the fourth block first; where it is
-/// the scale, the first solved block of the meter is told.
-const LEAVING: [(&str, i128, &str); 3] = [
+/// Blocks, the scale, and what becomes of them. Twice 2^126 leaves in the fourth block first; where it is the
+/// scale, the first solved block of the meter is told.
+const RAISED: [(&str, i128, &str); 4] = [
+    (BEFORE, 3, AFTER),
     (NUMBERS, 1, "leaves at block 3"),
     (
         NUMBERS,
@@ -96,8 +91,8 @@ const LEAVING: [(&str, i128, &str); 3] = [
 ];
 
 #[test]
-fn raising_leaves(rt: HostRuntime) -> Result<(), Fail> {
-    for (text, scale, want) in &LEAVING {
+fn blocks_are_raised(rt: HostRuntime) -> Result<(), Fail> {
+    for (text, scale, want) in &RAISED {
         let found = raised(rt.alloc(), text, *scale)?;
         assert!(rt; found.as_str() == *want, "{found} at the scale {scale}");
     }

@@ -1,6 +1,5 @@
 //! Rows of tasks that leave 128 bits, at degree 1.
 use crate::programs::{budget_of, certificate, kept, typed_program};
-use annot_types::Certificate;
 use call_groups::group_calls;
 use constraint_gen::{GenFault, rows};
 use cost_free::Task;
@@ -33,15 +32,16 @@ fn rows_of(alloc: Global, source: &str, text: &str, scale: i128) -> Result<Strin
     let typed = typed_program(alloc, source)?;
     let groups = group_calls(alloc, typed.program())?;
     let program = normalise(alloc, &typed, groups)?;
-    last_rows(alloc, &program, &certificate(alloc, text)?, scale)
+    last_rows(alloc, &program, text, scale)
 }
 
 fn last_rows(
     alloc: Global,
     program: &NormProgram<'_>,
-    certificate: &Certificate,
+    text: &str,
     scale: i128,
 ) -> Result<String, Fail> {
+    let certificate = certificate(alloc, text)?;
     let Some((last, before)) = certificate.blocks.split_last() else {
         return Err(Fail::new("there is no block"));
     };

@@ -2,7 +2,7 @@
 //!
 //! `system UNKNOWNS` is followed by a line `weights I:W ..` and by a line `row RIGHT I:N ..` for each row,
 //! without the numbers that are 0.
-ghost use Rattle.std.specs.Prelude.{◌≡◌, ◌<◌, ◌^◌, ◌≤ℤ◌, pos, IfOk, IsTrue, vec_len};
+ghost use Rattle.std.specs.Prelude.{◌≡◌, ◌<◌, ◌^◌, ◌≤ℤ◌, pos, IfOk, OnOk, IsTrue, vec_len};
 ghost use Rattle.raml_num.specs.Sums.{NoneNegative};
 ghost use Rattle.linear_rows.specs.Systems.{IsBelow};
 ghost use Rattle.tableau.specs.Tableaux.{right};
@@ -72,6 +72,19 @@ fn weights(alloc: Global, unknowns: u32, line: &str) -> Result<Vec<i128>, Fail>
     Ok(all)
 }
 
+/// Adds a term over this many unknowns.
+fn add_term(row: &mut Row, unknowns: u32, word: &str) -> Result<(), Fail>
+    requires { IsBelow unknowns row.old }
+    ensures { OnOk result (IsBelow unknowns row.new) }
+{
+    let (unknown, times) = term(word).ok_or("no term")?;
+    if unknown >= unknowns {
+        return Err(Fail::new("no such unknown"));
+    }
+    row.add(unknown, times)?;
+    Ok(())
+}
+
 /// A row over this many unknowns.
 fn row(alloc: Global, unknowns: u32, words: SplitWhitespace<'_>) -> Result<Row, Fail>
     ensures { IfOk result (IsBelow unknowns) }
@@ -80,11 +93,7 @@ fn row(alloc: Global, unknowns: u32, words: SplitWhitespace<'_>) -> Result<Row, 
     let mut row = Row::new(alloc);
     row.add_right(right_side(&mut words).ok_or("no right side")?)?;
     for word in words {
-        let (unknown, times) = term(word).ok_or("no term")?;
-        if unknown >= unknowns {
-            return Err(Fail::new("no such unknown"));
-        }
-        row.add(unknown, times)?;
+        add_term(&mut row, unknowns, word)?;
     }
     Ok(row)
 }
@@ -96,17 +105,28 @@ fn fits(system: &System) -> bool
     system.rows().len() <= (u32::MAX - system.unknowns()) as usize
 }
 
+/// A system of weights alone.
+fn without_rows(alloc: Global, unknowns: u32, line: &str) -> Result<System, Fail> {
+    let weights = weights(alloc, unknowns, line)?;
+    Ok(System::new(unknowns, Vec::new(alloc), weights))
+}
+
+/// Adds the row of a line.
+fn add_row(alloc: Global, system: &mut System, line: &str) -> Result<(), Fail> {
+    let words = after(line, "row")?;
+    system.add_row(row(alloc, system.unknowns(), words)?)?;
+    Ok(())
+}
+
 /// The system that a text spells.
 pub(crate) fn system(alloc: Global, text: &str) -> Result<System, Fail>
     ensures { IfOk result (λ s. right s < 2 ^ 32) }
 {
     let mut lines = text.lines();
     let unknowns = unknowns(lines.next().unwrap_or("")).ok_or("no unknowns")?;
-    let weights = weights(alloc, unknowns, lines.next().unwrap_or(""))?;
-    let mut system = System::new(unknowns, Vec::new(alloc), weights);
+    let mut system = without_rows(alloc, unknowns, lines.next().unwrap_or(""))?;
     for line in lines {
-        let words = after(line, "row")?;
-        system.add_row(row(alloc, system.unknowns(), words)?)?;
+        add_row(alloc, &mut system, line)?;
     }
     if fits(&system) {
         Ok(system)
