@@ -33,5 +33,5 @@ pub use line::Line;
 pub use raising::{raise, raise_blocks};
 pub use refusal::{InferFault, VerifyFault};
 pub use vector::listed;
-pub use verified::Verified;
 pub use verification::verify;
+pub use verified::Verified;

@@ -17,11 +17,14 @@ loop-smaller g c =
     fewer A (state_of c.loop.run) (state_of c.step.new.run) (c.loop.invariant.1 one.pick one.answers) h
 
 pub loop-preserved : goal.loop-preserved
-loop-preserved g c = (c.in_ok-step.ensures.keeps, λ pick by.
-    let A = analysis_in c.args.program.now c.args.d pick in
-    let s = c.in_ok-step.ensures.steps pick by in
-    let h : IsAfter A (state_of c.loop.run) (state_of c.step.new.run) true = rw c.if-branch.true at s in
-    on A (state_of c.loop.run) (state_of c.step.new.run) (c.loop.invariant.1 pick by) h)
+loop-preserved g c = (
+  c.in_ok-step.ensures.keeps,
+  λ pick by.
+      let A = analysis_in c.args.program.now c.args.d pick in
+      let s = c.in_ok-step.ensures.steps pick by in
+      let h : IsAfter A (state_of c.loop.run) (state_of c.step.new.run) true = rw c.if-branch.true at s in
+      on A (state_of c.loop.run) (state_of c.step.new.run) (c.loop.invariant.1 pick by) h,
+)
 
 pub returns-clause-ends : goal.returns-clause-ends
 returns-clause-ends g c = λ pick by.
