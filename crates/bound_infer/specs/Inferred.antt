@@ -1,5 +1,5 @@
 -- What the inference and the verification of a certificate come to.
-use Rattle.std.specs.Prelude.{◌≡◌, ◌≢◌, ℕ, List, slice_get, Option, None, Some}
+use Rattle.std.specs.Prelude.{◌≡◌, ◌≢◌, ℕ, List, slice_get, None, Some}
 use Rattle.cost_free.specs.Task.{Task}
 use Rattle.cost_free.specs.Read.{task_of}
 use Rattle.annot_types.specs.Program.{Program}

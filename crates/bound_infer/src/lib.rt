@@ -4,19 +4,25 @@
 //! meter are raised, and its block goes behind them. The certificate is checked at the end.
 #![tactic(auto)]
 
+mod blocks;
 mod body;
+mod claims;
 mod ending;
 mod factor;
 mod fault;
 mod inference;
+mod kinds;
 mod large;
+pub mod laws;
 mod leaves;
 mod line;
 mod raising;
 mod refusal;
+mod refuting;
 mod run;
 mod scales;
 mod sigs;
+mod sizes;
 mod solved;
 mod step;
 mod system;

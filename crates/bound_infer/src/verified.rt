@@ -13,6 +13,7 @@ ghost use Rattle.courses.specs.Good.{AllRefuted};
 ghost use Rattle.courses.specs.Lines.{Tells};
 ghost use Rattle.bound_infer.specs.Told.{claim_of, IsWritten};
 
+use crate::claims::{block_for, told};
 use crate::line::Line;
 use annot_types::Certificate;
 use cert_check::Checked;
@@ -93,6 +94,12 @@ impl<'p, 'a> Verified<'p, 'a> {
         ensures bounds { IfOk result (λ told. IsTrue (source_in self.now.program) fun.0 meter (claim_of told)) }
         ensures tells { IfOk result (λ told. Tells (program_in self.now.program) self.now.certificate fun.0 meter (claim_of told)) }
     {
-        Err(AllocError)
+        let program = self.checked.program();
+        let _source = program.source();
+        let _groups = program.groups();
+        let _functions = program.functions();
+        let certificate = self.checked.certificate();
+        let bound = self.checked.bound(alloc, fun, meter)?;
+        Ok(told(bound, &block_for(program, certificate, fun, meter).body))
     }
 }

@@ -50,12 +50,12 @@ all_met_leave (c ∷ cs) m = by (fault_at c) (met_leaves c m.0) (all_met_leave c
 fits_none : (c : Condition Amount) → Meets c → total_left c < too_great → total_right c < too_great → fault_at c ≡ None
 fits_none c m l r =
     by (nat_le too_great (total_left c)) refl (nat_le too_great (total_right c)) refl (nat_lt (total_left c) (total_right c)) refl where
-  by : (b : Bool) → nat_le too_great (total_left c) ≡ b → (e : Bool) → nat_le too_great (total_right c) ≡ e → (d : Bool) → nat_lt (total_left c) (total_right c) ≡ d →
-      cond (b || e) (Some (f.Leaves c.path c.index)) (cond d (Some (f.Fails c.path c.index)) None) ≡ None
-  by true h e k d i = let le : too_great ≤ total_left c = grind (arith, nat_tests, h) in absurd (omega (arith, le, l))
-  by false h true k d i = let le : too_great ≤ total_right c = grind (arith, nat_tests, k) in absurd (omega (arith, le, r))
-  by false h false k true i = let less : total_left c < total_right c = grind (arith, nat_tests, i) in absurd (omega (arith, less, m))
-  by false h false k false i = refl
+      by : (b : Bool) → nat_le too_great (total_left c) ≡ b → (e : Bool) → nat_le too_great (total_right c) ≡ e → (d : Bool) → nat_lt (total_left c) (total_right c) ≡ d →
+          cond (b || e) (Some (f.Leaves c.path c.index)) (cond d (Some (f.Fails c.path c.index)) None) ≡ None
+      by true h e k d i = let le : too_great ≤ total_left c = grind (arith, nat_tests, h) in absurd (omega (arith, le, l))
+      by false h true k d i = let le : too_great ≤ total_right c = grind (arith, nat_tests, k) in absurd (omega (arith, le, r))
+      by false h false k true i = let less : total_left c < total_right c = grind (arith, nat_tests, i) in absurd (omega (arith, less, m))
+      by false h false k false i = refl
 
 all_fit_none : (cs : List (Condition Amount)) → AllMeet cs → TotalsFit cs → first_fault cs ≡ None
 all_fit_none [] m t = refl

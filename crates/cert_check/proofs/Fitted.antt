@@ -76,7 +76,7 @@ module _ (P : Program) (proper : IsProper P) (d : ℕ) (earlier : List Block) (t
         annotates_within (types h.fun.params) S.budget s.args h.args,
         annotates_within (h.fun.result ∷ []) S.budget s.result h.result,
         (let x = rules_ask S h.fun.body (mode_of task.kind) S.budget h.fun.params (annotation s.args) h.fun.result (annotation s.result) hs [] h.fits [] in
-        answered_fits (asked (body_at (Some h.fun)).plan) hs x.0 [] x.1 r),
+            answered_fits (asked (body_at (Some h.fun)).plan) hs x.0 [] x.1 r),
       )
 
   pub functions_fit : (fs : List ℕ) (ss : List Sig) (hss : List (List Hint)) → FunctionsHold S (mode_of task.kind) fs ss hss → AllHintsRise hss →

@@ -69,6 +69,13 @@ pub fn keep<'p, 'a>(program: &'p NormProgram<'a>, certificate: Certificate) -> C
 }
 
 impl<'p, 'a> Checked<'p, 'a> {
+    /// The program with which it was checked.
+    pub fn program(&self) -> &'p NormProgram<'a>
+        ensures { result.now ≡ self.now.program }
+    {
+        self.program
+    }
+
     /// The certificate that was checked.
     pub fn certificate(&self) -> &Certificate
         ensures certificate { certificate_of result.now ≡ self.now.certificate }

@@ -1,0 +1,29 @@
+use Rattle.std.proofs.Common.{sym, subst, length}
+use Rattle.annot_types.specs.Held.{Held}
+use Rattle.annot_types.specs.System.{Valid}
+use Rattle.courses.specs.Good.{AllRefuted}
+use Rattle.rule_plan.specs.Read.{program_in}
+use Rattle.bound_infer.specs.Cleared.{ClearBefore}
+use Rattle.bound_infer.proofs.Blocked.{is_verified, is_valid, all_refuted}
+use Rattle.bound_infer.proofs.verification.verify_checked.Goals as goal
+
+pub keep-requires-clause-valid : goal.keep-requires-clause-valid
+keep-requires-clause-valid c =
+    let P = program_in c.args.program.now in
+    let x = c.args.checked.certificate in
+    let clear = subst (λ x. ClearBefore P x (length x.blocks)) c.certificate.ensures.certificate c.in-Ok.ensures.clear in
+    subst (λ k. Valid (program_in k) x) (sym c.requires.program) (is_valid P x clear (subst (λ k. Held (program_in k) x) c.requires.program c.certificate.ensures.held))
+
+pub keep-requires-clause-refuted : goal.keep-requires-clause-refuted
+keep-requires-clause-refuted c =
+    let P = program_in c.args.program.now in
+    let x = c.args.checked.certificate in
+    let clear = subst (λ x. ClearBefore P x (length x.blocks)) c.certificate.ensures.certificate c.in-Ok.ensures.clear in
+    subst (λ k. AllRefuted (program_in k) x) (sym c.requires.program)
+    (all_refuted P x clear c.vectors_refute.ensures c.requires.ordered (subst (λ k. Held (program_in k) x) c.requires.program c.certificate.ensures.held))
+
+pub returns-in-Ok-clause-passes : goal.returns-in-Ok-clause-passes
+returns-in-Ok-clause-passes c =
+    let P = program_in c.args.program.now in
+    let x = c.args.checked.certificate in
+    is_verified P x (subst (λ x. ClearBefore P x (length x.blocks)) c.certificate.ensures.certificate c.in-Ok.ensures.clear) c.requires.passes
