@@ -62,8 +62,8 @@ terms_fit f k (suc n) h = by (int_eq (f k) (pos 0)) (terms_fit f (k + 1) n) h
     by false rest h = joined _ _
         (fits_of (f k) (let e : (k == k) ≡ true = grind (arith, nat_tests) in subst (λ b. FitsSigned w128 (if b then f k else coefficient k (terms_of f (k + 1) n))) e (h k (omega arith))))
         (rest (λ u l.
-            let e : (k == u) ≡ false = grind (arith, nat_tests, l) in
-            subst (λ b. FitsSigned w128 (if b then f k else coefficient u (terms_of f (k + 1) n))) e (h u (omega (arith, l)))))
+        let e : (k == u) ≡ false = grind (arith, nat_tests, l) in
+        subst (λ b. FitsSigned w128 (if b then f k else coefficient u (terms_of f (k + 1) n))) e (h u (omega (arith, l)))))
 
 -- a row of a task's system has such terms
 pub record HasTerms (row : SparseRow) : Type 0 where

@@ -27,36 +27,45 @@ on_ok_both (Err e) A B C f a b = tt
 
 module _ (A : Analysis) (st new : State) (task : Task) (h : IsAtHand A st task) where
   pub waits_step : (fun : ℕ) → blocker_at A st task ≡ Some fun → new ≡ after A task (Waits fun) st → IsAfter A st new true
-  waits_step fun w e = (Waits fun, record {
-    task = task;
-    is_next = h.is_next;
-    goes_on = h.goes_on;
-    clear = λ n. (let wrong = sym w ∙ n in absurd (cc));
-    comes = w;
-    is = e;
-  })
+  waits_step fun w e = (
+    Waits fun,
+    record {
+      task = task;
+      is_next = h.is_next;
+      goes_on = h.goes_on;
+      clear = λ n. (let wrong = sym w ∙ n in absurd (cc));
+      comes = w;
+      is = e;
+    },
+  )
 
   module _ (clear : FineIsClear) (tried : blocker_at A st task ≡ None) (fine : RowsAreFine A st task) where
     pub solved_step : (t : ℕ) (x : List ℕ) → IsSolution (rule_of A) (system_at A st task) t x → ((place : ℕ) → RescaleLeaves task.kind t st place → ⊥) →
         new ≡ after A task (Has t x) st → IsAfter A st new true
-    solved_step t x s fit e = (Has t x, record {
-      task = task;
-      is_next = h.is_next;
-      goes_on = h.goes_on;
-      clear = clear.solved A st task t x fine (record { solution = s.solution; over = s.over; primal = s.primal; dual = s.dual; fine = s.fine; passed = s.passed; raises = fit });
-      comes = (tried, s.solution);
-      is = e;
-    })
+    solved_step t x s fit e = (
+      Has t x,
+      record {
+        task = task;
+        is_next = h.is_next;
+        goes_on = h.goes_on;
+        clear = clear.solved A st task t x fine (record { solution = s.solution; over = s.over; primal = s.primal; dual = s.dual; fine = s.fine; passed = s.passed; raises = fit });
+        comes = (tried, s.solution);
+        is = e;
+      },
+    )
 
     pub refuted_step : (y : List ℕ) → IsVector (rule_of A) (system_at A st task) y → new ≡ with_block task (Refuted (listed 0 y)) st → IsAfter A st new true
-    refuted_step y v e = (HasNone y, record {
-      task = task;
-      is_next = h.is_next;
-      goes_on = h.goes_on;
-      clear = clear.refuted A st task y fine v.fine v.passed;
-      comes = (tried, (let f = v.fine in f.vector));
-      is = e;
-    })
+    refuted_step y v e = (
+      HasNone y,
+      record {
+        task = task;
+        is_next = h.is_next;
+        goes_on = h.goes_on;
+        clear = clear.refuted A st task y fine v.fine v.passed;
+        comes = (tried, (let f = v.fine in f.vector));
+        is = e;
+      },
+    )
 
 -- where what is raised leaves
 pub raise_stops : (A : Analysis) (st : State) (task : Task) → SeenIsFirst → blocker_at A st task ≡ None → RowsAreFine A st task → (t : ℕ) (x : List ℕ) → IsSolution (rule_of A) (system_at A st task) t x →
