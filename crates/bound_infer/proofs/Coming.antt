@@ -1,7 +1,6 @@
 -- Where a task is the next one, a task of each earlier group has come.
-use Rattle.std.proofs.Common.{◌≡◌, ◌⊎◌, inl, inr, ⊎_elim, ℕ, zero, suc, ◌+◌, ◌≤◌, ◌<◌, cond, Bool, true, false, nat_eq, nat_le, List, [], ◌∷◌, ◌++◌, map, flat_map, take, drop, length, slice_get, Option, Some, None, refl, sym, ap, ◌∙◌, subst, arith}
+use Rattle.std.proofs.Common.{◌≡◌, ℕ, zero, suc, ◌+◌, ◌≤◌, ◌<◌, cond, Bool, true, false, nat_eq, nat_le, List, [], ◌∷◌, ◌++◌, map, flat_map, take, drop, length, slice_get, Some, refl, sym, ap, ◌∙◌, subst, arith}
 use Rattle.std.specs.List.{range_with_len, list_any}
-use Rattle.std.specs.Option.{unwrap_or}
 use Rattle.std.proofs.lemmas.Bool.{eqb-true, eq-eqb}
 use Rattle.raml_syntax.specs.Tree.{Type'}
 use Rattle.cost_free.specs.declared.task.Meter.{Meter}

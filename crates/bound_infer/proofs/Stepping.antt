@@ -1,11 +1,9 @@
 -- One step by what a task came to.
-use Rattle.std.proofs.Common.{◌≡◌, ◌<◌, ℕ, ℤ, pos, true, unsigned_abs, List, map, Option, Some, None, Result, Ok, Err, OnOk, refl, sym, ap, ◌∙◌, subst}
-use Rattle.std.specs.Prelude.{IfErr}
+use Rattle.std.proofs.Common.{◌≡◌, ℕ, ℤ, true, List, Option, Some, None, Result, Ok, Err, OnOk, sym, ◌∙◌}
 use Rattle.cost_free.specs.Task.{Task}
-use Rattle.cost_free.specs.Read.{task_of}
 use Rattle.annot_types.specs.Certificate.{Refuted}
 use Rattle.courses.specs.States.{State, with_block}
-use Rattle.courses.specs.Generator.{Analysis, Generates, Stands, next_at, blocker_at, system_at}
+use Rattle.courses.specs.Generator.{Analysis, Generates, blocker_at, system_at}
 use Rattle.courses.specs.Reading.{listed}
 use Rattle.courses.specs.Places.{rule_of, RescaleLeaves}
 use Rattle.courses.specs.Courses.{Waits, Has, HasNone, after}

@@ -1,4 +1,4 @@
-use Rattle.std.proofs.Common.{◌≡◌, true, List, Option, sym, ap, ◌∙◌, refl, length}
+use Rattle.std.proofs.Common.{◌≡◌, true, sym, ap, ◌∙◌, refl, length}
 use Rattle.std.specs.Option.{option_map}
 use Rattle.base_poly.specs.Read.{context_of}
 use Rattle.cost_free.specs.Read.{task_of}
