@@ -1,5 +1,5 @@
 -- What is told of a task that is not carried through.
-use Rattle.std.proofs.Common.{◌≡◌, ℕ, ℤ, pos, unsigned_abs, List, [], ◌∷◌, map, Option, Some, None, refl, sym, ap, ◌∙◌, subst}
+use Rattle.std.proofs.Common.{◌≡◌, ℕ, ℤ, pos, unsigned_abs, List, [], ◌∷◌, map, Some, None, refl, sym, ap, subst}
 use Rattle.cost_free.specs.declared.task.Task.{Task}
 use Rattle.cost_free.specs.Read.{task_of}
 use Rattle.constraint_gen.specs.declared.fault.GenFault.{GenFault}
@@ -14,7 +14,7 @@ use Rattle.courses.specs.Generator as n
 use Rattle.courses.specs.Generator.{Analysis, blocker_at, limit_at, system_at}
 use Rattle.courses.specs.Places.{RowLeaves}
 use Rattle.courses.specs.Clear.{SeenIsFirst}
-use Rattle.whole_answers.specs.Answers.{IsSolution, IsVector}
+use Rattle.whole_answers.specs.Answers.{IsSolution}
 use Rattle.bound_infer.specs.Told.{what_of}
 use Rattle.bound_infer.specs.After.{StopsOn}
 use Rattle.bound_infer.specs.declared.leaves.LeavesAt.TheVariants.{Row}

@@ -1,7 +1,6 @@
 -- Where a task is the next one, a task of each earlier group has come.
-use Rattle.std.proofs.Common.{◌≡◌, ◌⊎◌, inl, inr, ⊎_elim, ℕ, zero, suc, ◌+◌, ◌≤◌, ◌<◌, cond, Bool, true, false, nat_eq, nat_le, List, [], ◌∷◌, ◌++◌, map, flat_map, take, drop, length, slice_get, Option, Some, None, refl, sym, ap, ◌∙◌, subst, arith}
+use Rattle.std.proofs.Common.{◌≡◌, ℕ, zero, suc, ◌+◌, ◌≤◌, ◌<◌, cond, Bool, true, false, nat_eq, nat_le, List, [], ◌∷◌, ◌++◌, map, flat_map, take, drop, length, slice_get, Some, refl, sym, ap, ◌∙◌, subst, arith}
 use Rattle.std.specs.List.{range_with_len, list_any}
-use Rattle.std.specs.Option.{unwrap_or}
 use Rattle.std.proofs.lemmas.Bool.{eqb-true, eq-eqb}
 use Rattle.raml_syntax.specs.Tree.{Type'}
 use Rattle.cost_free.specs.declared.task.Meter.{Meter}
@@ -243,8 +242,8 @@ pub none_large : (plan : Plan) (blocks : List Block) → GoesOn plan blocks → 
 none_large plan blocks h task e g l large =
     let follows : Follows (tasks_from plan.results plan.degree plan.work 0 plan.groups) [] (map outcome blocks) = record {
       tasks = λ i o there. (
-      let b = map_inv outcome blocks i o there in
-      ap (next_of (tasks_from plan.results plan.degree plan.work 0 plan.groups) []) (take_map outcome i blocks) ∙ h.tasks i b.0 b.1 ∙ ap (λ (o : Outcome). Some o.0) b.2);
+          let b = map_inv outcome blocks i o there in
+          ap (next_of (tasks_from plan.results plan.degree plan.work 0 plan.groups) []) (take_map outcome i blocks) ∙ h.tasks i b.0 b.1 ∙ ap (λ (o : Outcome). Some o.0) b.2);
     } in
     let come = earlier_come plan.results plan.degree plan.work plan.groups (map outcome blocks) task follows e g l (row_inside plan.groups g _ large) in
     let found = map_inv outcome blocks come.place come.out come.there in
@@ -254,11 +253,11 @@ none_large plan blocks h task e g l large =
       task = one.block.task;
       is_next = h.tasks one.place one.block one.there;
       is_first = λ m earlier low next same. (
-      let n = length_map outcome (take one.place blocks) in
-      let short = take_short one.place blocks in
-      let less : m < one.place = omega (arith, low, n, short) in
-      let b = there_before blocks m one.place one.block less one.there in
-      let here = sym (h.tasks m b.0 b.1) ∙ ap (next_in plan) (sym (take_map outcome m (take one.place blocks) ∙ ap (map outcome) (take_twice m one.place blocks (omega (arith, less))))) ∙ next in
-      one.before m b.0 less b.1 (ap (λ (t : Task). t.group) (some_is (b.0).task earlier here) ∙ same ∙ one.is));
+          let n = length_map outcome (take one.place blocks) in
+          let short = take_short one.place blocks in
+          let less : m < one.place = omega (arith, low, n, short) in
+          let b = there_before blocks m one.place one.block less one.there in
+          let here = sym (h.tasks m b.0 b.1) ∙ ap (next_in plan) (sym (take_map outcome m (take one.place blocks) ∙ ap (map outcome) (take_twice m one.place blocks (omega (arith, less))))) ∙ next in
+          one.before m b.0 less b.1 (ap (λ (t : Task). t.group) (some_is (b.0).task earlier here) ∙ same ∙ one.is));
       is_large = ap (λ n. any_has_more 2000 plan (row plan.groups n)) one.is ∙ large;
     })

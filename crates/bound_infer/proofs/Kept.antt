@@ -1,5 +1,5 @@
 -- What is kept along a course.
-use Rattle.std.proofs.Common.{◌≡◌, ℕ, zero, suc, ◌<◌, ◌*◌, true, false, Bool, cond, List, [], ◌∷◌, ◌++◌, map, take, drop, length, slice_get, Option, Some, None, refl, sym, ap, ◌∙◌, subst, arith}
+use Rattle.std.proofs.Common.{◌≡◌, ℕ, ◌*◌, true, false, Bool, cond, List, [], ◌∷◌, ◌++◌, map, take, drop, length, slice_get, Option, Some, None, refl, sym, ap, ◌∙◌, subst, arith}
 use Rattle.std.proofs.lemmas.List.{length-map}
 use Rattle.cost_free.specs.declared.task.Meter.{Meter}
 use Rattle.cost_free.specs.declared.task.Meter.TheVariants.{Ticks, Cells, Work}
@@ -19,7 +19,7 @@ use Rattle.earlier_blocks.specs.Remembers.{Tables, Remembers}
 use Rattle.rule_plan.specs.Read.{program_in}
 use Rattle.solved_tasks.specs.Told.{bodies_of}
 use Rattle.cert_check.specs.At.{sizes_of, sizes_in}
-use Rattle.cert_check.specs.Course.{HasCome, course_of}
+use Rattle.cert_check.specs.Course.{HasCome}
 use Rattle.cert_check.specs.Finds.{schedule, next_after}
 use Rattle.cert_check.proofs.Going.{types_are, done_is}
 use Rattle.courses.specs.States.{State, raised_scales, raise}

@@ -1,5 +1,6 @@
 -- Steps lead on.
-use Rattle.std.proofs.Common.{◌≡◌, ◌<◌, ◌-◌, inl, inr, ℕ, suc, true, false, [], ◌∷◌, length, Option, Some, None, sym, ap, ◌∙◌, subst, arith}
+use Rattle.std.proofs.Common.{◌≡◌, ◌<◌, ◌-◌, inl, ℕ, suc, true, false, [], ◌∷◌, length, Option, Some, None, Result, Ok, Err, sym, ap, ◌∙◌, subst, arith}
+use Rattle.std.specs.Prelude.{IfErr, IsErrAnd}
 use Rattle.cost_free.specs.Task.{Task}
 use Rattle.cost_free.specs.Read.{task_of}
 use Rattle.cost_free.specs.Schedule.{tasks_from}
@@ -8,10 +9,12 @@ use Rattle.courses.specs.States.{State, start, certificate_of}
 use Rattle.courses.specs.Generator.{Analysis}
 use Rattle.courses.specs.Places as p
 use Rattle.courses.specs.Places.{Place}
-use Rattle.courses.specs.Courses.{OnTask}
+use Rattle.annot_types.specs.Certificate.{Certificate}
+use Rattle.courses.specs.Courses.{OnTask, EndsAt}
 use Rattle.courses.proofs.Short.{courses_end, one_block}
 use Rattle.bound_infer.specs.Told.{told_of, what_of}
 use Rattle.bound_infer.specs.After.{IsAfter, Reached, IsAtHand, Ends, ComesTo, IsPlaceOf, StopsOn, StopsThere, StopsIn}
+use Rattle.bound_infer.specs.Found.{CheckCause}
 use Rattle.bound_infer.specs.Inferred.{InferCause}
 use Rattle.bound_infer.specs.declared.leaves.LeavesAt.{LeavesAt}
 use Rattle.bound_infer.specs.declared.leaves.LeavesAt.TheVariants.{Solve, Row, Scale, Rescale, Check, Refute, Least}
@@ -65,3 +68,20 @@ pub stops_on : (A : Analysis) (st : State) (task : Task) (fault : InferFault) �
 stops_on A st task (i.TooLarge told what) h s = there A st task (Some (task_of told, p.TooLarge (what_of what))) h s
 stops_on A st task (i.Leaves at) h s = there A st task (told_of at) h s
 stops_on A st task i.NoMemory h s = tt
+
+-- what an error that is passed on says
+pub err_is : {X E : Type 0} (r : Result X E) (e : E) (claim : E → Type 0) → IsErrAnd r (λ x. x ≡ e) → claim e → IfErr r claim
+err_is (Ok x) e claim h k = tt
+err_is (Err x) e claim h k = subst claim (sym h) k
+
+-- a total of the check that leaves
+pub check_cause : (A : Analysis) (cert : Certificate) → EndsAt A cert → (fault : InferFault) → CheckCause A.program cert fault → InferCause A fault
+check_cause A cert ends (i.Leaves (Check block path index)) h = record { certificate = cert; ends = ends; first = h }
+check_cause A cert ends (i.Leaves (Solve task pivots row col)) h = absurd h
+check_cause A cert ends (i.Leaves (Row task row)) h = absurd h
+check_cause A cert ends (i.Leaves (Scale task entry)) h = absurd h
+check_cause A cert ends (i.Leaves (Rescale task block)) h = absurd h
+check_cause A cert ends (i.Leaves (Refute task column)) h = absurd h
+check_cause A cert ends (i.Leaves (Least task column)) h = absurd h
+check_cause A cert ends (i.TooLarge told what) h = absurd h
+check_cause A cert ends i.NoMemory h = tt

@@ -1,9 +1,9 @@
 -- What is raised of a meter is of 128 bits in the tables, too.
-use Rattle.std.proofs.Common.{rules, ◌≡◌, refl, ap, sym, ◌∙◌, subst, arith}
-use Rattle.std.specs.Prelude.{ℕ, zero, suc, ◌*◌, ◌^◌, ◌<◌, ◌==◌, if◌then◌else◌, nat_eq, ℤ, pos, ◌*ℤ◌, unsigned_abs, Bool, true, false, cond, FitsSigned, List, [], ◌∷◌, map, length, slice_get, Option, None, Some}
+use Rattle.std.proofs.Common.{rules, ◌≡◌, refl, ap, sym, subst, arith}
+use Rattle.std.specs.Prelude.{ℕ, suc, ◌*◌, ◌^◌, ◌<◌, ◌==◌, if◌then◌else◌, nat_eq, ℤ, pos, ◌*ℤ◌, unsigned_abs, Bool, true, false, cond, FitsSigned, List, [], ◌∷◌, slice_get, Option, None, Some}
 use Rattle.std.specs.List.{All}
 use Rattle.std.specs.Int.{w128}
-use Rattle.std.proofs.lemmas.Int.{ints, unsigned_abs-mul}
+use Rattle.std.proofs.lemmas.Int.{unsigned_abs-mul}
 use Rattle.std.proofs.lemmas.List.Elements.{All-head, All-tail}
 use Rattle.cost_free.specs.declared.task.Meter.{Meter}
 use Rattle.cost_free.specs.Task as k

@@ -1,17 +1,15 @@
 -- What is told where the schedule does not go on.
-use Rattle.std.proofs.Common.{◌≡◌, ◌≢◌, inr, ℕ, zero, suc, ◌+◌, ◌<◌, cond, Bool, true, false, ◌||◌, List, [], ◌∷◌, map, filter, length, slice_get, Option, Some, None, refl, sym, ap, ◌∙◌, subst, arith}
+use Rattle.std.proofs.Common.{◌≡◌, ◌≢◌, inr, ℕ, zero, suc, ◌+◌, ◌<◌, cond, Bool, true, false, ◌||◌, List, [], ◌∷◌, filter, slice_get, Some, None, refl, sym, ap, ◌∙◌, arith}
 use Rattle.std.specs.List.{list_any}
 use Rattle.cost_free.specs.Task.{Free, Task}
 use Rattle.cost_free.specs.Read.{task_of}
 use Rattle.cost_free.specs.Blocked.{row}
-use Rattle.cost_free.specs.Refused.{Plan, has_more, any_has_more, IsRefused}
-use Rattle.annot_types.specs.Certificate.{outcome}
+use Rattle.cost_free.specs.Refused.{Plan, has_more}
 use Rattle.cert_check.specs.Finds.{or_task, large_in, large_from}
 use Rattle.courses.specs.States.{State}
-use Rattle.courses.specs.Generator.{Indices, Analysis, Generates, plan, IsRefusedAt}
+use Rattle.courses.specs.Generator.{Analysis, Generates, plan, IsRefusedAt}
 use Rattle.courses.specs.Places as p
 use Rattle.courses.proofs.Running.{runs}
-use Rattle.bound_infer.specs.Told.{what_of}
 use Rattle.bound_infer.specs.After.{Reached, StopsIn}
 use Rattle.bound_infer.specs.Found.{IsRefusal}
 use Rattle.bound_infer.specs.declared.refusal.InferFault.{InferFault}

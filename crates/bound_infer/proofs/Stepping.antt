@@ -1,11 +1,9 @@
 -- One step by what a task came to.
-use Rattle.std.proofs.Common.{◌≡◌, ◌<◌, ℕ, ℤ, pos, true, unsigned_abs, List, map, Option, Some, None, Result, Ok, Err, OnOk, refl, sym, ap, ◌∙◌, subst}
-use Rattle.std.specs.Prelude.{IfErr}
+use Rattle.std.proofs.Common.{◌≡◌, ℕ, ℤ, true, List, Option, Some, None, Result, Ok, Err, OnOk, sym, ◌∙◌}
 use Rattle.cost_free.specs.Task.{Task}
-use Rattle.cost_free.specs.Read.{task_of}
 use Rattle.annot_types.specs.Certificate.{Refuted}
 use Rattle.courses.specs.States.{State, with_block}
-use Rattle.courses.specs.Generator.{Analysis, Generates, Stands, next_at, blocker_at, system_at}
+use Rattle.courses.specs.Generator.{Analysis, Generates, blocker_at, system_at}
 use Rattle.courses.specs.Reading.{listed}
 use Rattle.courses.specs.Places.{rule_of, RescaleLeaves}
 use Rattle.courses.specs.Courses.{Waits, Has, HasNone, after}
@@ -27,36 +25,45 @@ on_ok_both (Err e) A B C f a b = tt
 
 module _ (A : Analysis) (st new : State) (task : Task) (h : IsAtHand A st task) where
   pub waits_step : (fun : ℕ) → blocker_at A st task ≡ Some fun → new ≡ after A task (Waits fun) st → IsAfter A st new true
-  waits_step fun w e = (Waits fun, record {
-    task = task;
-    is_next = h.is_next;
-    goes_on = h.goes_on;
-    clear = λ n. (let wrong = sym w ∙ n in absurd (cc));
-    comes = w;
-    is = e;
-  })
+  waits_step fun w e = (
+    Waits fun,
+    record {
+      task = task;
+      is_next = h.is_next;
+      goes_on = h.goes_on;
+      clear = λ n. (let wrong = sym w ∙ n in absurd (cc));
+      comes = w;
+      is = e;
+    },
+  )
 
   module _ (clear : FineIsClear) (tried : blocker_at A st task ≡ None) (fine : RowsAreFine A st task) where
     pub solved_step : (t : ℕ) (x : List ℕ) → IsSolution (rule_of A) (system_at A st task) t x → ((place : ℕ) → RescaleLeaves task.kind t st place → ⊥) →
         new ≡ after A task (Has t x) st → IsAfter A st new true
-    solved_step t x s fit e = (Has t x, record {
-      task = task;
-      is_next = h.is_next;
-      goes_on = h.goes_on;
-      clear = clear.solved A st task t x fine (record { solution = s.solution; over = s.over; primal = s.primal; dual = s.dual; fine = s.fine; passed = s.passed; raises = fit });
-      comes = (tried, s.solution);
-      is = e;
-    })
+    solved_step t x s fit e = (
+      Has t x,
+      record {
+        task = task;
+        is_next = h.is_next;
+        goes_on = h.goes_on;
+        clear = clear.solved A st task t x fine (record { solution = s.solution; over = s.over; primal = s.primal; dual = s.dual; fine = s.fine; passed = s.passed; raises = fit });
+        comes = (tried, s.solution);
+        is = e;
+      },
+    )
 
     pub refuted_step : (y : List ℕ) → IsVector (rule_of A) (system_at A st task) y → new ≡ with_block task (Refuted (listed 0 y)) st → IsAfter A st new true
-    refuted_step y v e = (HasNone y, record {
-      task = task;
-      is_next = h.is_next;
-      goes_on = h.goes_on;
-      clear = clear.refuted A st task y fine v.fine v.passed;
-      comes = (tried, (let f = v.fine in f.vector));
-      is = e;
-    })
+    refuted_step y v e = (
+      HasNone y,
+      record {
+        task = task;
+        is_next = h.is_next;
+        goes_on = h.goes_on;
+        clear = clear.refuted A st task y fine v.fine v.passed;
+        comes = (tried, (let f = v.fine in f.vector));
+        is = e;
+      },
+    )
 
 -- where what is raised leaves
 pub raise_stops : (A : Analysis) (st : State) (task : Task) → SeenIsFirst → blocker_at A st task ≡ None → RowsAreFine A st task → (t : ℕ) (x : List ℕ) → IsSolution (rule_of A) (system_at A st task) t x →

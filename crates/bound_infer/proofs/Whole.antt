@@ -1,6 +1,6 @@
 -- The end of a course.
 use Rattle.std.specs.Prelude.{◌↔◌, IsTrue}
-use Rattle.std.proofs.Common.{◌≡◌, ◌≤◌, ℕ, ℤ, zero, suc, true, false, Bool, nat_eq, nat_lt, not, cond, ◌||◌, List, [], ◌∷◌, map, length, take, slice_get, Option, Some, None, refl, sym, ap, ◌∙◌, subst}
+use Rattle.std.proofs.Common.{◌≡◌, ℕ, ℤ, true, false, Bool, nat_eq, nat_lt, not, cond, ◌||◌, List, [], ◌∷◌, length, slice_get, Option, Some, None, refl, sym, ap, ◌∙◌, subst}
 use Rattle.std.proofs.lemmas.Bool.{eq-eqb}
 use Rattle.normal_form.specs.Norm.{NormFun}
 use Rattle.cost_free.specs.Task.{Task}
@@ -11,11 +11,11 @@ use Rattle.annot_types.specs.Certificate.{Body, Solved, Block, Certificate}
 use Rattle.annot_types.specs.Held.{Held, IfSolved, NamesBlocker, before, done_before, scale_for}
 use Rattle.annot_types.specs.System.{system}
 use Rattle.cert_check.specs.Fault.{Fault}
-use Rattle.cert_check.specs.Finds.{FirstFault, AreWithin}
+use Rattle.cert_check.specs.Finds.{AreWithin}
 use Rattle.cert_check.specs.Laws.{AllThere, IsProper, IsSmall}
 use Rattle.cert_check.specs.Read.{OfFault}
 use Rattle.constraint_gen.specs.Cause.{IsWithin}
-use Rattle.courses.specs.Generator.{What, Indices, Unknowns, Rows, Analysis, Generator, limit_of}
+use Rattle.courses.specs.Generator.{What, Indices, Unknowns, Rows, Generator, limit_of}
 use Rattle.linear_rows.specs.Systems.{LinearSystem}
 use Rattle.courses.specs.Laws.{StaysWithin}
 use Rattle.tried_tasks.specs.Laws.{IsOrdered}

@@ -16,7 +16,7 @@ use crate::run::{Run, begin};
 use crate::step::all_steps;
 use crate::verified::Verified;
 use courses::laws::{courses_certify, courses_stay_within};
-use exact_systems::laws::{limits_are_told, systems_generate};
+use exact_systems::laws::{limits_are_told, normals_are_ordered, systems_generate};
 use frac128::Frac;
 use share_normal::NormProgram;
 use simplex::Chooser;
@@ -26,6 +26,7 @@ use std::alloc::Global;
 fn ordered(program: &NormProgram<'_>)
     ensures { IsOrdered (program_in program.now) }
 {
+    normals_are_ordered();
     let _source = program.source();
     let _groups = program.groups();
     let _functions = program.functions();

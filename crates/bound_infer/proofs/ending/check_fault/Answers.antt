@@ -1,4 +1,4 @@
-use Rattle.std.proofs.Common.{ap, ◌∙◌}
+use Rattle.std.proofs.Common.{ap}
 use Rattle.cert_check.specs.Read.{fault_of}
 use Rattle.bound_infer.proofs.ending.check_fault.Goals as goal
 

@@ -1,6 +1,6 @@
-use Rattle.std.proofs.Common.{true, sym, ap, ◌∙◌, subst, Some}
+use Rattle.std.proofs.Common.{true, sym, ◌∙◌, subst, Some}
 use Rattle.cert_check.specs.Finds.{FirstFault}
-use Rattle.cert_check.specs.Read.{fault_of, OfFault}
+use Rattle.cert_check.specs.Read.{fault_of}
 use Rattle.courses.specs.Good.{AllRefuted}
 use Rattle.courses.specs.States.{certificate_of}
 use Rattle.rule_plan.specs.Read.{program_in}

@@ -1,4 +1,4 @@
-use Rattle.std.proofs.Common.{◌≡◌, true, List, Option, sym, ap, ◌∙◌, refl, length}
+use Rattle.std.proofs.Common.{◌≡◌, true, sym, ap, ◌∙◌, refl, length}
 use Rattle.std.specs.Option.{option_map}
 use Rattle.base_poly.specs.Read.{context_of}
 use Rattle.cost_free.specs.Read.{task_of}
@@ -28,6 +28,8 @@ returns-in-Ok-Some c =
     ap length (sym c.results.ensures.results) ∙ c.results.ensures.count
     ∙ sym (ap length (sym c.functions-functions.ensures.functions) ∙ c.functions-functions.ensures.count) in
     let types : context_of c.results.result.now ≡ results P = ap context_of c.results.ensures.results ∙ sym (results_are kept.results kept.functions count) in
-    let groups = c.list.ensures ∙ ap (λ g. g.list) c.groups.ensures.groups in
-    (sym (ap (option_map task_of) (sym c.in-Ok-Some.field-0-is) ∙ c.in-Ok-Some.ensures P.groups true
-    ∙ (λ i. large_from (record { results = types i; groups = P.groups; degree = c.args.d; work = true }) 0 (groups i))), refl)
+    let groups = c.list.ensures ∙ ap (λ g. g.list) c.groups.ensures.groups in (
+      sym (ap (option_map task_of) (sym c.in-Ok-Some.field-0-is) ∙ c.in-Ok-Some.ensures P.groups true
+          ∙ (λ i. large_from (record { results = types i; groups = P.groups; degree = c.args.d; work = true }) 0 (groups i))),
+      refl,
+    )

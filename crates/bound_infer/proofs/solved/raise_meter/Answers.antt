@@ -1,8 +1,7 @@
-use Rattle.std.proofs.Common.{rules, ◌≡◌, ◌<◌, ◌*◌, ℕ, ℤ, pos, ◌*ℤ◌, ◌<ℤ◌, unsigned_abs, FitsSigned, Err, length, map, refl, sym, ap, ◌∙◌, subst, arith}
+use Rattle.std.proofs.Common.{rules, ◌≡◌, ◌<◌, ◌*◌, ℕ, ℤ, pos, ◌*ℤ◌, ◌<ℤ◌, unsigned_abs, FitsSigned, Err, map, sym, ap, ◌∙◌, subst, arith}
 use Rattle.std.specs.Int.{w128}
 use Rattle.std.proofs.lemmas.Int.{ints, to_z-of_z}
 use Rattle.std.proofs.lemmas.List.{with_items_is}
-use Rattle.cost_free.specs.Read.{task_of}
 use Rattle.annot_types.specs.Holds.{raised}
 use Rattle.annot_types.specs.Read.{blocks_of}
 use Rattle.earlier_blocks.specs.Raised.{NonePasses}
@@ -11,7 +10,7 @@ use Rattle.rule_plan.specs.Read.{program_in}
 use Rattle.courses.specs.Places.{RescaleLeaves}
 use Rattle.courses.specs.States.{raise as raise_state}
 use Rattle.bound_infer.specs.Raised.{AllFit}
-use Rattle.bound_infer.specs.Keeping.{state_of, scales_of}
+use Rattle.bound_infer.specs.Keeping.{state_of}
 use Rattle.bound_infer.proofs.Kept.{still_come, scales_raised, raised_count}
 use Rattle.bound_infer.proofs.Passing.{none_passes}
 use Rattle.bound_infer.proofs.solved.raise_meter.Goals as goal

@@ -1,4 +1,4 @@
-use Rattle.std.proofs.Common.{◌≡◌, ◌≤◌, true, map, option_map, sym, ap, ◌∙◌, arith}
+use Rattle.std.proofs.Common.{true, map, option_map, sym, ap, ◌∙◌, arith}
 use Rattle.cost_free.specs.Read.{task_of}
 use Rattle.annot_types.specs.Certificate.{outcome}
 use Rattle.annot_types.specs.Program.{results}

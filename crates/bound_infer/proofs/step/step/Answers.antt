@@ -1,9 +1,9 @@
-use Rattle.std.proofs.Common.{◌≡◌, true, Err, sym, ap, ◌∙◌, subst}
+use Rattle.std.proofs.Common.{true, Err, sym, ap, ◌∙◌, subst}
 use Rattle.std.specs.Option.{option_map}
 use Rattle.cost_free.specs.Read.{task_of}
 use Rattle.rule_plan.specs.Read.{program_in}
 use Rattle.bound_infer.specs.Keeping.{state_of, analysis_in}
-use Rattle.bound_infer.specs.After.{IsAfter, Reached, IsAtHand, StopsIn}
+use Rattle.bound_infer.specs.After.{IsAfter, IsAtHand, StopsIn}
 use Rattle.bound_infer.proofs.Leading.{stops_on}
 use Rattle.bound_infer.proofs.Refusing.{is_told, stops}
 use Rattle.bound_infer.proofs.step.step.Goals as goal
