@@ -1,5 +1,5 @@
 -- What a task comes to.
-use Rattle.std.specs.Prelude.{◌≡◌, ◌<◌, ℕ, ℤ, pos, unsigned_abs, List, map, Option, Some}
+use Rattle.std.specs.Prelude.{◌≡◌, ℕ, ℤ, pos, unsigned_abs, List, map, Option, Some}
 use Rattle.linear_rows.specs.Systems.{LinearSystem}
 use Rattle.cost_free.specs.Task.{Task}
 use Rattle.annot_types.specs.Certificate.{Certificate}
@@ -16,7 +16,7 @@ use Rattle.cert_check.specs.Laws.{IsLeaving}
 use Rattle.cost_free.specs.Read.{task_of}
 use Rattle.bound_infer.specs.Told.{what_of}
 use Rattle.bound_infer.specs.declared.leaves.LeavesAt.{LeavesAt}
-use Rattle.bound_infer.specs.declared.leaves.LeavesAt.TheVariants.{Solve, Row, Scale, Rescale, Check, Refute, Least}
+use Rattle.bound_infer.specs.declared.leaves.LeavesAt.TheVariants.{Rescale, Check}
 use Rattle.bound_infer.specs.declared.refusal.InferFault.{InferFault}
 use Rattle.bound_infer.specs.declared.refusal.InferFault.TheVariants as i
 

@@ -1,5 +1,5 @@
 -- What is kept along a course, and the state that it tells.
-use Rattle.std.specs.Prelude.{◌≡◌, ℕ, ℤ, true, List, [], Option}
+use Rattle.std.specs.Prelude.{◌≡◌, ℕ, ℤ, true, List, Option}
 use Rattle.std.specs.Fn.{Shared}
 use Rattle.std.specs.Borrow.{Bor}
 use Rattle.frac128.specs.declared.Frac.{Frac}

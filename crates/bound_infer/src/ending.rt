@@ -23,7 +23,7 @@ use std::alloc::{AllocError, Global};
 
 // The certificate of the blocks and the scales.
 fn certificate(d: u8, run: Run<'_>) -> Certificate
-    ensures { certificate_of result ≡ s.certificate_of d true (state_of run) }
+    ensures { certificate_of result ≡ s.certificate_of d true (state_of run.entry) }
 {
     let Run {
         schedule,
@@ -93,9 +93,9 @@ pub(crate) fn ended<'p, 'a>(
     requires small { IsSmall (program_in program.now) (s.certificate_of d true (state_of run)) }
     requires valid { Valid (program_in program.now) (s.certificate_of d true (state_of run)) }
     requires refuted { AllRefuted (program_in program.now) (s.certificate_of d true (state_of run)) }
-    ensures kept { IfOk result (λ verified. verified ≡ record { program = program.now; certificate = s.certificate_of d true (state_of run) }) }
-    ensures passes { OnOk result (FirstFault (program_in program.now) (s.certificate_of d true (state_of run)) None) }
-    ensures fault { IfErr result (CheckCause (program_in program.now) (s.certificate_of d true (state_of run))) }
+    ensures kept { IfOk result (λ verified. verified ≡ record { program = program.now; certificate = s.certificate_of d true (state_of run.entry) }) }
+    ensures passes { OnOk result (FirstFault (program_in program.now) (s.certificate_of d true (state_of run.entry)) None) }
+    ensures fault { IfErr result (CheckCause (program_in program.now) (s.certificate_of d true (state_of run.entry))) }
 {
     held_leaves_alone();
     match check(alloc, program, certificate(d, run)) {

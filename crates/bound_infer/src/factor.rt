@@ -40,6 +40,13 @@ impl Factor {
         self.value
     }
 
+    /// Its size.
+    pub fn size(&self) -> u128
+        ensures { result ≡ self.now }
+    {
+        self.value.unsigned_abs()
+    }
+
     /// A number multiplied, or None where it does not fit.
     pub fn times(&self, number: i128) -> Option<i128>
         ensures { SomeIff result (FitsSigned w128 (pos self.now *ℤ number)) (pos self.now *ℤ number) }

@@ -22,6 +22,16 @@ use share_normal::NormProgram;
 use simplex::Chooser;
 use std::alloc::Global;
 
+// The program is ordered.
+fn ordered(program: &NormProgram<'_>)
+    ensures { IsOrdered (program_in program.now) }
+{
+    normals_are_ordered();
+    let _source = program.source();
+    let _groups = program.groups();
+    let _functions = program.functions();
+}
+
 // The course of the schedule, to its end.
 fn course<'p, F: Fn(&[Frac]) -> Option<usize>>(
     alloc: Global,
@@ -67,14 +77,11 @@ pub fn infer<'p, 'a, F: Fn(&[Frac]) -> Option<usize>>(
     ensures fault { IfErr result (λ fault. (pick : List ℤ → ℤ → Option ℕ) → AnswersBy F.Fn chooser.now pick →
         InferCause (analysis_of (program_in program.now) d pick) fault) }
 {
-    normals_are_ordered();
+    ordered(program);
     systems_generate();
     limits_are_told();
     courses_certify();
     courses_stay_within();
-    let _source = program.source();
-    let _groups = program.groups();
-    let _functions = program.functions();
     match course(alloc, program, d, chooser) {
         Ok(run) => ended(alloc, program, d, run),
         Err(fault) => Err(fault),

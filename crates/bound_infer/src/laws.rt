@@ -1,7 +1,9 @@
 // Laws of refuted blocks: each is the contract of a function that does nothing.
-ghost use Rattle.bound_infer.specs.Laws.{RefutedAreTasks, VectorsRefute};
+ghost use Rattle.bound_infer.specs.Laws.{CertificatesVerify, RefutedAreTasks, VectorsRefute};
 
-use exact_systems::laws::what_holds_solves;
+use cert_check::laws::held_leaves_alone;
+use courses::laws::{courses_certify, courses_stay_within, none_too_large, none_unrefuted};
+use exact_systems::laws::{limits_are_told, systems_generate, what_holds_solves};
 use linear_rows::refuted_has_no_solution;
 use tried_tasks::laws::tried_are_tasks;
 
@@ -19,4 +21,17 @@ pub fn vectors_refute()
     tried_are_tasks();
     what_holds_solves();
     refuted_has_no_solution();
+}
+
+/// The certificate in which an analysis ends has no fault but a number that leaves 128 bits.
+pub fn certificates_verify()
+    ensures { CertificatesVerify }
+{
+    systems_generate();
+    limits_are_told();
+    courses_certify();
+    courses_stay_within();
+    none_too_large();
+    none_unrefuted();
+    held_leaves_alone();
 }

@@ -8,10 +8,7 @@ use cost_free::Task;
 #[derive(Debug, Drop)]
 pub enum InferFault {
     /// Of the task's indices, unknowns or rows there are more than 2000.
-    TooLarge {
-        task: Task,
-        what: What,
-    },
+    TooLarge { task: Task, what: What },
     /// A number leaves 128 bits.
     Leaves(LeavesAt),
     NoMemory,
@@ -25,10 +22,7 @@ pub enum VerifyFault {
     /// The vector of this refuted block does not refute its task.
     NotRefuted { block: u32 },
     /// Of the task of a refuted block there are more than 2000 indices, unknowns or rows.
-    TooLarge {
-        task: Task,
-        what: What,
-    },
+    TooLarge { task: Task, what: What },
     /// A number of its system, or a total of the check of its vector, leaves 128 bits.
     Leaves(LeavesAt),
     NoMemory,

@@ -2,13 +2,12 @@
 ghost use Rattle.std.specs.Prelude.{◌≡◌, ◌++◌, ◌∷◌, [], List, map, Some, IfOk, OnOk, IsErrOf};
 ghost use Rattle.std.specs.Option.{option_map};
 ghost use Rattle.raml_syntax.specs.declared.program.FunId.{FunId as TheFunId};
-ghost use Rattle.call_groups.specs.Read.{ids_of};
 ghost use Rattle.cost_free.specs.Read.{task_of};
 ghost use Rattle.cost_free.specs.Refused.{IsRefused};
 ghost use Rattle.annot_types.specs.Certificate as c;
 ghost use Rattle.annot_types.specs.Certificate.{done_as, outcome};
 ghost use Rattle.annot_types.specs.Held.{IfSolved};
-ghost use Rattle.annot_types.specs.Program.{members, blocker_of};
+ghost use Rattle.annot_types.specs.Program.{blocker_of};
 ghost use Rattle.earlier_blocks.specs.Remembers.{Remembers};
 ghost use Rattle.annot_types.specs.Read as a;
 ghost use Rattle.rule_plan.specs.Read.{program_in};
@@ -18,6 +17,7 @@ ghost use Rattle.cert_check.specs.Finds.{schedule, next_after, GoesOn};
 ghost use Rattle.courses.specs.States.{start, with_block};
 ghost use Rattle.bound_infer.specs.Keeping.{state_of, first_of, Keeps};
 
+use crate::kinds::members;
 use crate::scales::Scales;
 use annot_types::{Block, BlockBody};
 use base_poly::IndexFault;
@@ -85,6 +85,7 @@ pub(crate) fn waits_for(
     ensures { option_map (λ (f : TheFunId). f.0) result ≡ blocker_of (program_in program.now) (task_of task.now) (map outcome (a.blocks_of run.now.blocks.items)) }
 {
     let _functions = program.functions();
+    let _results = program.results();
     blocked(program.groups(), task, run.schedule.done())
 }
 
@@ -96,16 +97,6 @@ fn done_as(body: &BlockBody) -> Done
         BlockBody::Solved { .. } => Done::Solved,
         BlockBody::Refuted { .. } => Done::Refuted,
         BlockBody::Calls { .. } => Done::Calls,
-    }
-}
-
-/// The functions of a group; none where there is no such group.
-pub(crate) fn members<'p>(program: &'p NormProgram<'_>, group: u32) -> &'p [FunId]
-    ensures { ids_of result.now ≡ members (program_in program.now) group }
-{
-    match program.groups().list().get(group as usize) {
-        Some(functions) => functions,
-        None => &[],
     }
 }
 

@@ -1,6 +1,5 @@
 // The scales of meters.
-ghost use Rattle.std.specs.Prelude.{◌≡◌, ◌<ℤ◌, ℕ, pos, cond, unsigned_abs};
-ghost use Rattle.cost_free.specs.declared.task.Meter.{Meter as TheMeter};
+ghost use Rattle.std.specs.Prelude.{◌≡◌, cond};
 ghost use Rattle.cost_free.specs.declared.task.Meter.TheVariants.{Ticks, Cells, Work};
 ghost use Rattle.cost_free.specs.Task.{same_meter};
 ghost use Rattle.cost_free.specs.Read.{kind_of};
@@ -33,23 +32,23 @@ impl Scales {
     }
 
     /// That of a meter.
-    pub(crate) fn of_meter(&self, meter: Meter) -> i128
-        ensures { result ≡ pos (scales_of self.now meter) }
+    pub(crate) fn of_meter(&self, meter: Meter) -> &Factor
+        ensures { result.now ≡ scales_of self.now meter }
     {
         match meter {
-            Meter::Ticks => self.ticks.value(),
-            Meter::Cells => self.cells.value(),
-            Meter::Work => self.work.value(),
+            Meter::Ticks => &self.ticks,
+            Meter::Cells => &self.cells,
+            Meter::Work => &self.work,
         }
     }
 
     /// That of a task, 1 for one without cost.
-    pub(crate) fn of_kind(&self, kind: TaskKind) -> i128
-        ensures { result ≡ pos (scale_at (scales_of self.now) (kind_of kind)) }
+    pub(crate) fn of_kind(&self, kind: TaskKind) -> u128
+        ensures { result ≡ scale_at (scales_of self.now) (kind_of kind) }
     {
         match kind {
             TaskKind::Free { .. } => 1,
-            TaskKind::With(meter) => self.of_meter(meter),
+            TaskKind::With(meter) => self.of_meter(meter).size(),
         }
     }
 

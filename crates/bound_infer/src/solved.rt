@@ -1,5 +1,5 @@
 // Tasks that are solved, and tasks that are refuted.
-ghost use Rattle.std.specs.Prelude.{◌≡◌, ◌<ℤ◌, ℕ, ℤ, pos, unsigned_abs, List, Option, map, Some, IfOk, IfErr, OnOk};
+ghost use Rattle.std.specs.Prelude.{◌≡◌, ℕ, ℤ, pos, unsigned_abs, List, Option, map, Some, IfOk, IfErr, OnOk};
 ghost use Rattle.cost_free.specs.Read.{task_of, kind_of};
 ghost use Rattle.cost_free.specs.Task.{With};
 ghost use Rattle.annot_types.specs.Certificate as c;
@@ -64,12 +64,12 @@ fn raise_meter(
     ensures fit { OnOk result ((place : ℕ) → RescaleLeaves (kind_of task.now.kind) factor.now (state_of run.old) place → ⊥) }
     ensures fault { IfErr result (RaiseCause (task_of task.now) factor.now (state_of run.old)) }
 {
-    let scale = run.scales.of_meter(meter);
-    let times = factor.value();
+    let _value = factor.value();
+    let scale = run.scales.of_meter(meter).value();
     match raise(alloc, &mut run.blocks, meter, scale, factor) {
         Err(fault) => Err(rescale(task, fault)),
         Ok(product) => {
-            run.earlier.raise(meter, times.unsigned_abs());
+            run.earlier.raise(meter, factor.size());
             run.scales.set(meter, Factor::new(product));
             Ok(())
         }
@@ -157,7 +157,7 @@ fn put(
     }
 }
 
-/// The block of a task that has this solution over the denominator.
+/// The block of a task that has this solution, over the factor.
 pub(crate) fn solved(
     alloc: Global,
     program: &NormProgram<'_>,
@@ -165,19 +165,18 @@ pub(crate) fn solved(
     run: &mut Run<'_>,
     task: &Task,
     plans: &[Body],
-    denominator: i128,
+    factor: &Factor,
     numbers: &[i128],
 ) -> Result<(), InferFault>
     requires keeps { Keeps program.now d run.old }
     requires begins { Begins (state_of run.old) }
     requires next { next_after (program_in program.now) (first_of d) (a.blocks_of run.old.blocks.items) ≡ Some (task_of task.now) }
     requires plans { map body_of plans.now ≡ bodies_of (program_in program.now) d (a.blocks_of run.old.blocks.items) (task_of task.now) }
-    requires positive { pos 0 <ℤ denominator }
     ensures keeps { OnOk result (Keeps program.now d run.new) }
     ensures state { OnOk result ((pick : List ℤ → ℤ → Option ℕ) → state_of run.new
-        ≡ after (analysis_in program.now d pick) (task_of task.now) (Has (unsigned_abs denominator) (map unsigned_abs numbers.now)) (state_of run.old)) }
-    ensures fit { OnOk result ((place : ℕ) → RescaleLeaves (kind_of task.now.kind) (unsigned_abs denominator) (state_of run.old) place → ⊥) }
-    ensures fault { IfErr result (RaiseCause (task_of task.now) (unsigned_abs denominator) (state_of run.old)) }
+        ≡ after (analysis_in program.now d pick) (task_of task.now) (Has factor.now (map unsigned_abs numbers.now)) (state_of run.old)) }
+    ensures fit { OnOk result ((place : ℕ) → RescaleLeaves (kind_of task.now.kind) factor.now (state_of run.old) place → ⊥) }
+    ensures fault { IfErr result (RaiseCause (task_of task.now) factor.now (state_of run.old)) }
 {
     match told_by(alloc, plans, numbers) {
         Err(_) => Err(InferFault::NoMemory),
@@ -187,7 +186,7 @@ pub(crate) fn solved(
             d,
             run,
             plans,
-            &Factor::new(denominator),
+            factor,
             Block {
                 task: *task,
                 body: BlockBody::Solved { sigs, hints },

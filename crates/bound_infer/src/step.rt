@@ -14,6 +14,7 @@ ghost use Rattle.bound_infer.specs.After.{IsAfter, Reached, IsAtHand, StopsOn, S
 ghost use Rattle.bound_infer.specs.Found.{HasAnswer};
 ghost use Rattle.bound_infer.specs.Inferred.{InferCause};
 
+use crate::factor::Factor;
 use crate::large::refused;
 use crate::refusal::InferFault;
 use crate::run::{Run, current, waits_for};
@@ -58,16 +59,10 @@ fn carried<F: Fn(&[Frac]) -> Option<usize>>(
         Answer::Solution {
             denominator,
             numbers,
-        } => solved(
-            alloc,
-            program,
-            d,
-            run,
-            task,
-            plans,
-            denominator,
-            &numbers,
-        ),
+        } => {
+            let factor = Factor::new(denominator);
+            solved(alloc, program, d, run, task, plans, &factor, &numbers)
+        }
         Answer::Vector { numbers } => match refuted(alloc, program, d, run, task, &numbers) {
             Ok(()) => Ok(()),
             Err(_) => Err(InferFault::NoMemory),
@@ -157,6 +152,7 @@ fn step<F: Fn(&[Frac]) -> Option<usize>>(
     ensures steps { IfOk result (λ on. ByEach F.Fn chooser.now (λ pick. IsAfter (analysis_in program.now d pick) (state_of run.old) (state_of run.new) on)) }
     ensures stops { IfErr result (λ fault. ByEach F.Fn chooser.now (λ pick. StopsIn (analysis_in program.now d pick) (state_of run.old) fault)) }
 {
+    systems_generate();
     match current(program, d, run) {
         Err(IndexFault::NoMemory) => Err(InferFault::NoMemory),
         Err(IndexFault::TooMany) => Err(refused(alloc, program, d)),

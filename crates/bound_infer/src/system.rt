@@ -124,10 +124,16 @@ fn answer_fault(task: &Task, fault: AnswerFault) -> InferFault
             InferFault::Leaves(LeavesAt::Scale { task: *task, entry })
         }
         AnswerFault::Refute { column } => {
-            InferFault::Leaves(LeavesAt::Refute { task: *task, column })
+            InferFault::Leaves(LeavesAt::Refute {
+                task: *task,
+                column,
+            })
         }
         AnswerFault::Least { column } => {
-            InferFault::Leaves(LeavesAt::Least { task: *task, column })
+            InferFault::Leaves(LeavesAt::Least {
+                task: *task,
+                column,
+            })
         }
         AnswerFault::NoMemory => InferFault::NoMemory,
     }

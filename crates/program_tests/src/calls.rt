@@ -1,9 +1,11 @@
 // Whole calls over files and streams in memory.
+use constraint_gen::What;
+use cost_free::{Meter, Task, TaskKind};
 use raml_io::{MemSink, MemStore};
 use raml_lex::LexFault;
 use raml_parse::ParseFault;
 use raml_syntax::Pos;
-use raml_top::{SourceFault, Status, Which, raml};
+use raml_top::{CertAnswer, OverflowAt, SourceFault, Status, Which, raml};
 use simple_types::TypeFault;
 use std::alloc::{AllocError, Global};
 use std::fmt::Write;
@@ -328,6 +330,9 @@ fn a_source_has_a_limit(rt: HostRuntime) -> Result<(), Fail> {
 fn each_status_has_its_number(rt: HostRuntime) {
     let at = Pos(0);
     let which = Which::Program;
+    let meter = Meter::Work;
+    let kind = TaskKind::With(meter);
+    let task = Task { group: 0, kind };
     let cases = [
         (Status::Done, 0),
         (Status::Usage, 1),
@@ -343,10 +348,21 @@ fn each_status_has_its_number(rt: HostRuntime) {
         ),
         (Status::Data(DataFault::Shape { at }), 5),
         (Status::NoFunction, 6),
+        (
+            Status::Certificate(CertAnswer::NotRefuted { block: 0 }),
+            7,
+        ),
+        (
+            Status::TooLarge {
+                task,
+                what: What::Rows,
+            },
+            8,
+        ),
+        (Status::Overflow(OverflowAt::Point { meter }), 9),
         (Status::Stopped, 10),
         (Status::HeapFull, 11),
         (Status::WriteFault, 12),
-        (Status::NotBuilt, 20),
         (Status::NoMemory, 70),
     ];
     for (status, number) in cases {

@@ -1,12 +1,8 @@
-use Rattle.std.proofs.Common.{◌∙◌, map, slice_get, subst}
-use Rattle.std.specs.List.{All}
-use Rattle.cost_free.specs.Read.{task_of}
+use Rattle.std.proofs.Common.{◌∙◌, map, slice_get}
 use Rattle.annot_types.specs.Program.{members}
 use Rattle.walk_rules.specs.Jobs as j
 use Rattle.rule_plan.specs.Read.{program_in}
-use Rattle.rule_plan.specs.Within.{FunctionWithin}
-use Rattle.constraint_gen.specs.Made.{PlanCause}
-use Rattle.constraint_gen.proofs.Whole.{if_ok, if_err}
+use Rattle.constraint_gen.proofs.Whole.{if_ok}
 use Rattle.constraint_gen.proofs.system.plans.Goals as goal
 
 pub returns-clause-plans : goal.returns-clause-plans

@@ -1,0 +1,101 @@
+-- The certificate in which an analysis ends is verified, unless a number leaves its range.
+use Rattle.std.proofs.Common.{◌≡◌, refl, ap, sym, subst}
+use Rattle.std.specs.Prelude.{ℕ, ℤ, ◌≢◌, Bool, true, false, cond, not, nat_eq, ◌||◌, List, [], ◌∷◌, slice_get, Option, None, Some}
+use Rattle.std.proofs.lemmas.Option.{none-some}
+use Rattle.std.proofs.lemmas.Bool.Decides.{nat_tests}
+use Rattle.std.proofs.Common.{arith}
+use Rattle.linear_rows.specs.Systems.{LinearSystem}
+use Rattle.normal_form.specs.Norm.{NormFun}
+use Rattle.cost_free.specs.Task.{Task}
+use Rattle.cost_free.specs.Blocked.{is_among}
+use Rattle.annot_types.specs.Program.{Program, members, blocker_of}
+use Rattle.annot_types.specs.Certificate as c
+use Rattle.annot_types.specs.Certificate.{Body, Solved, Sig, Hint, Block, Certificate}
+use Rattle.annot_types.specs.Held.{before, done_before, scale_for, IfSolved, NamesBlocker}
+use Rattle.annot_types.specs.System.{system}
+use Rattle.courses.specs.Generator as g
+use Rattle.courses.specs.Generator.{What, Generator, Analysis, Generates, limit_of}
+use Rattle.courses.specs.Courses.{EndsAt}
+use Rattle.courses.specs.Laws.{CoursesCertify, CoursesStayWithin, NoneTooLarge, NoneUnrefuted, Certifies, StaysWithin}
+use Rattle.courses.specs.Verifying as v
+use Rattle.exact_systems.specs.Analysed.{analysis_of, generator_of}
+use Rattle.exact_systems.specs.Laws.{SystemsGenerate, LimitsAreTold}
+use Rattle.tried_tasks.specs.Laws.{IsOrdered}
+use Rattle.cert_check.specs.Fault as f
+use Rattle.cert_check.specs.Finds.{AreWithin, FirstFault}
+use Rattle.cert_check.specs.Laws.{AllThere, IsProper, IsLeaving, IsSmall, HeldLeavesAlone}
+use Rattle.cert_check.specs.Read.{fault_of}
+use Rattle.cert_check.specs.declared.fault.CertFault.{CertFault}
+use Rattle.cert_check.specs.declared.fault.CertFault.TheVariants as h
+use Rattle.bound_infer.specs.Laws.{CheckLeaves, OnlyLeaves, CertificatesVerify}
+use Rattle.bound_infer.specs.Inferred.{VerifyCause}
+use Rattle.bound_infer.specs.declared.refusal.VerifyFault.{VerifyFault}
+use Rattle.bound_infer.specs.declared.refusal.VerifyFault.TheVariants as r
+use Rattle.bound_infer.proofs.NeverNo.{never_no}
+
+all_there : (P : Program) (fs : List ℕ) → ((x : ℕ) → is_among x fs ≡ true → (g : NormFun) × (slice_get P.funs x ≡ Some g)) → AllThere P fs
+all_there P [] h = tt
+all_there P (x ∷ fs) h = (h x first, all_there P fs (λ y e. h y (more y e))) where
+  first : is_among x (x ∷ fs) ≡ true
+  first = let same : nat_eq x x ≡ true = grind (arith, nat_tests) in ap (λ b. b || is_among x fs) same
+
+  more : (y : ℕ) → is_among y fs ≡ true → is_among y (x ∷ fs) ≡ true
+  more y e = by (nat_eq y x) where
+    by : (b : Bool) → (b || is_among y fs) ≡ true
+    by true = refl
+    by false = e
+
+is_proper : (P : Program) → IsOrdered P → IsProper P
+is_proper P h = record { uses = h.uses; there = λ group. all_there P (members P group) (h.there group) }
+
+not_blocked : (o : Option ℕ) (sigs : List Sig) (hints : List (List Hint)) → NamesBlocker o (Solved sigs hints) → o ≡ None
+not_blocked None sigs hints h = refl
+not_blocked (Some x) sigs hints h = absurd (cc)
+
+-- where no limit is exceeded, the walks are small enough
+within_of : (G : Generator) (task : Task) (s : LinearSystem) → limit_of G task s ≡ None → G.within task ≡ true
+within_of G task s e = by (G.within task) _ e where
+  by : (b : Bool) (rest : Option What) → cond (not b) (Some g.Indices) rest ≡ None → b ≡ true
+  by true rest q = refl
+  by false rest q = absurd (none-some g.Indices (sym q))
+
+only : (fault : CertFault) → ((x : f.Fault) → fault_of fault ≡ Some x → IsLeaving x) → fault_of fault ≢ None → CheckLeaves fault
+only (h.Shape block) k n = k _ refl
+only (h.Fails block path index) k n = k _ refl
+only (h.Leaves block path index) k n = tt
+only (h.TooLarge task) k n = k _ refl
+only h.NoMemory k n = n refl
+
+module _ (told : LimitsAreTold) (alone : HeldLeavesAlone) (large : NoneTooLarge) (unrefuted : NoneUnrefuted)
+    (P : Program) (ordered : IsOrdered P) (d : ℕ) (pick : List ℤ → ℤ → Option ℕ) (generates : Generates (analysis_of P d pick)) (cert : Certificate)
+    (ends : EndsAt (analysis_of P d pick) cert) (certifies : Certifies P cert) (stays : StaysWithin (analysis_of P d pick) cert) where
+  degree_is : cert.degree ≡ d
+  degree_is = ap (λ (x : Certificate). x.degree) ends.is
+
+  small : IsSmall P cert
+  small = record { goes_on = stays.goes_on; within = λ place block there. by place block there block.body refl } where
+    by : (place : ℕ) (block : Block) → slice_get cert.blocks place ≡ Some block → (body : Body) → block.body ≡ body → IfSolved body (AreWithin P cert block.task)
+    by place block there (c.Refuted farkas) e = tt
+    by place block there (c.Calls fun) e = tt
+    by place block there (Solved sigs hints) e =
+        let tried = not_blocked _ sigs hints (subst (NamesBlocker (blocker_of P block.task (done_before cert place))) e (certifies.valid.held.blocks place block there).waits) in
+        let limit = stays.limits place block there tried in
+        let within : (generator_of P d).within block.task ≡ true = within_of (generator_of P d) block.task (system P cert.degree (before cert place) block.task (scale_for cert block.task.kind)) limit in
+        (told P cert.degree block.task).0 (subst (λ n. (generator_of P n).within block.task ≡ true) (sym degree_is) within)
+
+  none_too_large : (place : ℕ) (what : What) → v.BlockFault P (generator_of P cert.degree) cert place (v.TooLarge what) → ⊥
+  none_too_large place what h = large (analysis_of P d pick) generates cert ends place what (subst (λ n. v.BlockFault P (generator_of P n) cert place (v.TooLarge what)) degree_is h)
+
+  pub only_leaves : (fault : VerifyFault) → VerifyCause P cert fault → OnlyLeaves fault
+  only_leaves (r.Cert fault) h = only fault
+      (λ x e. alone P (is_proper P ordered) cert certifies.valid.held small x (subst (FirstFault P cert) e h.1)) h.0
+  only_leaves (r.NotRefuted block) h = unrefuted never_no P (generator_of P cert.degree) cert certifies.valid block h.first.is
+  only_leaves (r.TooLarge task what) h = none_too_large h.place _ h.has.first.is
+  only_leaves (r.Leaves at) h = tt
+  only_leaves r.NoMemory h = tt
+
+pub certificates_verify : SystemsGenerate → LimitsAreTold → CoursesCertify → CoursesStayWithin → NoneTooLarge → NoneUnrefuted → HeldLeavesAlone → CertificatesVerify
+certificates_verify generate told certify stay large unrefuted alone P ordered d least most pick cert ends =
+    let generates = generate P ordered d pick in
+    only_leaves told alone large unrefuted P ordered d pick generates cert ends
+    (certify (analysis_of P d pick) generates least most cert ends) (stay (analysis_of P d pick) generates cert ends)

@@ -1,0 +1,22 @@
+use Rattle.std.proofs.Common.{true, sym, ◌∙◌, subst, Some}
+use Rattle.cert_check.specs.Finds.{FirstFault}
+use Rattle.cert_check.specs.Read.{fault_of}
+use Rattle.courses.specs.Good.{AllRefuted}
+use Rattle.courses.specs.States.{certificate_of}
+use Rattle.rule_plan.specs.Read.{program_in}
+use Rattle.cert_check.specs.Checked.{Checking}
+use Rattle.bound_infer.specs.Keeping.{state_of}
+use Rattle.bound_infer.proofs.Whole.{found_there}
+use Rattle.bound_infer.proofs.ending.ended.Goals as goal
+
+pub keep-requires-clause-refuted : goal.keep-requires-clause-refuted
+keep-requires-clause-refuted c =
+    subst (λ (x : Checking). AllRefuted (program_in x.program) x.certificate) (sym (c.in-Ok.ensures.kept ∙ (λ i. record { program = c.args.program.now; certificate = c.certificate.ensures i }))) c.requires.refuted
+
+pub check_fault-requires : goal.check_fault-requires
+check_fault-requires c = λ fault e.
+    let P = program_in c.args.program.now in
+    let held = certificate_of c.args.d true (state_of c.args.run) in
+    let valid = c.requires.valid in
+    c.held_leaves_alone.ensures P c.requires.proper held valid.held c.requires.small fault
+    (subst (λ x. FirstFault P x (Some fault)) c.certificate.ensures (found_there _ (fault_of c.in-Err.fault) fault e c.in-Err.ensures.fault))

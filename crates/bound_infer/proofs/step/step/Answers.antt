@@ -1,0 +1,40 @@
+use Rattle.std.proofs.Common.{true, Err, sym, ap, ◌∙◌, subst}
+use Rattle.std.specs.Option.{option_map}
+use Rattle.cost_free.specs.Read.{task_of}
+use Rattle.rule_plan.specs.Read.{program_in}
+use Rattle.bound_infer.specs.Keeping.{state_of, analysis_in}
+use Rattle.bound_infer.specs.After.{IsAfter, IsAtHand, StopsIn}
+use Rattle.bound_infer.proofs.Leading.{stops_on}
+use Rattle.bound_infer.proofs.Refusing.{is_told, stops}
+use Rattle.bound_infer.proofs.step.step.Goals as goal
+
+pub refused-requires : goal.refused-requires
+refused-requires g c =
+    let one = c.requires.one in
+    is_told (analysis_in c.args.program.now c.args.d one.pick) (c.systems_generate.ensures (program_in c.args.program.now) c.requires.ordered c.args.d one.pick) (state_of c.args.run.now)
+    (c.requires.reached one.pick one.answers) (c.in-Err-TooMany.ensures.many (ap Err c.in-Err-TooMany.field-0-is))
+
+pub at_task-requires-clause-here : goal.at_task-requires-clause-here
+at_task-requires-clause-here g c = λ pick by.
+    let A = analysis_in c.args.program.now c.args.d pick in
+    subst (λ st. IsAtHand A st (task_of c.in-Ok-Some.task)) (sym c.current.ensures.state)
+    (record { reached = c.requires.reached pick by; is_next = sym c.in-Ok-Some.ensures.next ∙ ap (option_map task_of) c.in-Ok-Some.field-0-is; goes_on = c.in-Ok-Some.ensures.goes_on })
+
+pub returns-in-Err-TooMany-clause-stops : goal.returns-in-Err-TooMany-clause-stops
+returns-in-Err-TooMany-clause-stops g c = λ pick by.
+    stops (analysis_in c.args.program.now c.args.d pick) (c.systems_generate.ensures (program_in c.args.program.now) c.requires.ordered c.args.d pick) (state_of c.args.run.now)
+    (c.requires.reached pick by) (c.in-Err-TooMany.ensures.many (ap Err c.in-Err-TooMany.field-0-is)) c.refused.result c.refused.ensures
+
+pub returns-in-Ok-None-clause-steps : goal.returns-in-Ok-None-clause-steps
+returns-in-Ok-None-clause-steps g c = λ pick by. (sym c.in-Ok-None.ensures.next ∙ ap (option_map task_of) c.in-Ok-None.field-0-is, c.current.ensures.state)
+
+pub returns-in-Ok-clause-steps : goal.returns-in-Ok-clause-steps
+returns-in-Ok-clause-steps g c = λ pick by.
+    subst (λ st. IsAfter (analysis_in c.args.program.now c.args.d pick) st (state_of c.at_task.new.run) true) c.current.ensures.state (c.in-Ok.ensures.steps pick by)
+
+pub returns-in-Err-clause-stops : goal.returns-in-Err-clause-stops
+returns-in-Err-clause-stops g c = λ pick by.
+    let A = analysis_in c.args.program.now c.args.d pick in
+    let h = subst (λ st. IsAtHand A st (task_of c.in-Ok-Some.task)) (sym c.current.ensures.state)
+    (record { reached = c.requires.reached pick by; is_next = sym c.in-Ok-Some.ensures.next ∙ ap (option_map task_of) c.in-Ok-Some.field-0-is; goes_on = c.in-Ok-Some.ensures.goes_on }) in
+    subst (λ st. StopsIn A st c.in-Err.fault) c.current.ensures.state (stops_on A (state_of c.current.new.run) (task_of c.in-Ok-Some.task) c.in-Err.fault h (c.in-Err.ensures.stops pick by))
