@@ -1,5 +1,6 @@
 -- What is needed for an answer brings it.
 use Rattle.std.proofs.Common.{◌≡◌, ◌⊎◌, ℕ, List, [], Option, Some, None, refl, sym, ap, subst, ◌∙◌, inl, inr}
+use Rattle.std.specs.Prelude.{◌++◌, codes}
 use Rattle.std.specs.List.{All}
 use Rattle.raml_syntax.specs.Tree.{Text, Function, Prog}
 use Rattle.raml_syntax.specs.Value.{Value}
@@ -14,6 +15,9 @@ use Rattle.raml_words.specs.Words.{Request, Asks, AsksNothing}
 use Rattle.raml_words.proofs.Worded.{one_request}
 use Rattle.raml_words.specs.declared.request.Rule.{Rule}
 use Rattle.raml_words.specs.declared.request.Rule.TheVariants as rule
+use Rattle.stack_compile.specs.Text.{code_text}
+use Rattle.cert_json.specs.Told.{text_of}
+use Rattle.report_text.specs.Report.{type_lines}
 use Rattle.report_text.specs.Trial.{trial_text, trial_function, trial_data}
 use Rattle.fault_text.specs.declared.plain.Which.TheVariants as which
 use Rattle.analysis_report.specs.Lines.{AreLines}
@@ -72,14 +76,14 @@ module _ (laws : CourseLaws) where
       (λ f. arguments_same trial_data f.1 (λ args. RunsTrial Needed count P N c f args) (λ args. RunsTrial Promised count P N c f args) (λ args. runs_same P f args _ _ _ _ _)))
 
   answers_same : (store : Store) (request : Request) (a b : Answer) → Answers Needed store request a → Answers Promised store request b → Same a b
-  answers_same store (w.Types file) = program_same store file (ListsTypes Needed) (ListsTypes Promised) (λ source P is. prints_same _ _)
-  answers_same store (w.Code file) = program_same store file (ListsCode Needed) (ListsCode Promised) (λ source P is. prints_same _ _)
+  answers_same store (w.Types file) = program_same store file (ListsTypes Needed) (ListsTypes Promised) (λ source P is. prints_same (λ text. text ≡ type_lines P) (λ text. text ≡ type_lines P))
+  answers_same store (w.Code file) = program_same store file (ListsCode Needed) (ListsCode Promised) (λ source P is. prints_same (λ text. text ≡ code_text P) (λ text. text ≡ code_text P))
   answers_same store (w.Analyse file degree rule) =
       program_same store file (Analyses Needed degree rule) (Analyses Promised degree rule)
-      (λ source P is. of_courses source P is degree rule (λ N c. PrintsLines Needed P N c) (λ N c. PrintsLines Promised P N c) (λ N c. prints_same _ _))
+      (λ source P is. of_courses source P is degree rule (λ N c. PrintsLines Needed P N c) (λ N c. PrintsLines Promised P N c) (λ N c. prints_same (AreLines P N c) (AreLines P N c)))
   answers_same store (w.Certify file degree rule) =
       program_same store file (Certifies Needed degree rule) (Certifies Promised degree rule)
-      (λ source P is. of_courses source P is degree rule (λ N c. PrintsCertificate Needed c) (λ N c. PrintsCertificate Promised c) (λ N c. prints_same _ _))
+      (λ source P is. of_courses source P is degree rule (λ N c. PrintsCertificate Needed c) (λ N c. PrintsCertificate Promised c) (λ N c. prints_same (λ text. text ≡ text_of c ++ codes "\n") (λ text. text ≡ text_of c ++ codes "\n")))
   answers_same store (w.Verify file certificate) =
       program_same store file (Verifies Needed store certificate) (Verifies Promised store certificate) (λ source P is. verified_same store certificate P)
   answers_same store (w.Run file name data_file steps cells None) =
