@@ -43,7 +43,7 @@ is_proved are_true tell kept typed numbers same c valid refuted =
     let normal = normal_is kept same in
     let moved = subst (λ M. Valid M c) normal valid in
     let bounds : (l : Line) → Contains (lines N c) l → IsTrue P l.fun l.meter l.claim =
-      subst (λ (M : Program). (l : Line) → Contains (lines M c) l → IsTrue P l.fun l.meter l.claim) (sym normal) (are_true P typed numbers kept.groups.list c moved.held) in
+    subst (λ (M : Program). (l : Line) → Contains (lines M c) l → IsTrue P l.fun l.meter l.claim) (sym normal) (are_true P typed numbers kept.groups.list c moved.held) in
     record {
       valid = valid;
       refuted = refuted;

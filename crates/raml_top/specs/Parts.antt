@@ -126,7 +126,7 @@ abbrev pub CallRefuses : Store → Prog → List ℕ → List ℕ → Ending →
 CallRefuses store P name file e =
     ((e ≡ NoFunction) × (place_of name P ≡ None))
     ⊎ ((f : Placed) × IsNamed P name f
-       × (FileRefuses store w.Data file e ⊎ ((bytes : List ℕ) × IsShort store w.Data file bytes × DataRefuses bytes f.1 e)))
+    × (FileRefuses store w.Data file e ⊎ ((bytes : List ℕ) × IsShort store w.Data file bytes × DataRefuses bytes f.1 e)))
 
 -- what is known of a typed program that a source within its limit spells
 pub record IsReady (P : Prog) : Type 0 where

@@ -6,9 +6,7 @@ ghost use Rattle.raml_top.specs.Parts.{line_text, IsToldOr, IsOf, IsWanting};
 ghost use Rattle.raml_top.specs.declared.status.Status.TheVariants.{Done};
 
 use crate::status::Status;
-use fault_text::{
-    Which, no_function_line, no_memory_line, too_long_line, unread_line, usage_line,
-};
+use fault_text::{Which, no_function_line, no_memory_line, too_long_line, unread_line, usage_line};
 use std::alloc::AllocError;
 
 /// A report, and how the call ends that writes it.

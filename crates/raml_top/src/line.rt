@@ -20,7 +20,13 @@ use std::alloc::{AllocError, Global};
 pub fn too_large(alloc: Global, program: &NormProgram<'_>, task: Task, what: What) -> Refusal
     ensures { IsToldOr (names_in program.now) (Status.TooLarge task what) result }
 {
-    let line = too_large_line(alloc, program.source(), program.groups().list(), &task, what);
+    let line = too_large_line(
+        alloc,
+        program.source(),
+        program.groups().list(),
+        &task,
+        what,
+    );
     Refusal::told(Status::TooLarge { task, what }, line)
 }
 

@@ -23,8 +23,8 @@ use crate::run::{Limits, execute};
 use crate::status::{OverflowAt, Status};
 use analysis_report::{FloorFault, Floors, floors_at};
 use bound_infer::Verified;
-use fault_text::point_line;
 use cost_free::Meter;
+use fault_text::point_line;
 use raml_io::Store;
 use raml_words::Rule;
 use report_text::push_run_bounds;
@@ -173,7 +173,13 @@ fn floors_call(
         Gives (OfFloors Promised (program_of typed.now) (program_in verified.now.program) verified.now.certificate f vs
         (λ floors. RunsBounded Promised (program_of typed.now) f vs steps cells floors)) result }
 {
-    match floors_at(alloc, verified, call.place, &call.args.heap, &call.args.words) {
+    match floors_at(
+        alloc,
+        verified,
+        call.place,
+        &call.args.heap,
+        &call.args.words,
+    ) {
         Ok(floors) => floored_run(alloc, typed, call, steps, cells, floors),
         Err(fault) => Err(floor_refusal(alloc, fault)),
     }

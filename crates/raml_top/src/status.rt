@@ -50,10 +50,7 @@ pub enum Status {
     /// The certificate is refused.
     Certificate(CertAnswer),
     /// Of this task there are more than 2000 indices, unknowns or rows.
-    TooLarge {
-        task: Task,
-        what: What,
-    },
+    TooLarge { task: Task, what: What },
     /// A number leaves its range.
     Overflow(OverflowAt),
     /// The report is written whole: the machine has not halted within its instructions.

@@ -17,9 +17,9 @@ use crate::runs::{bounded_run, run_within};
 use crate::source::read_program;
 use crate::status::Status;
 use crate::trial::trial;
-use fault_text::write_failed_line;
 use courses::laws::{ends_or_stops, one_certificate, one_place};
 use exact_systems::laws::{normals_are_ordered, systems_generate};
+use fault_text::write_failed_line;
 use raml_io::{Sink, Store, put_all};
 use raml_words::{Request, Rule, WordsFault, read_words};
 use std::alloc::Global;
@@ -168,11 +168,7 @@ fn run_request<S: Store>(
     }
 }
 
-fn types_answer<S: Store>(
-    alloc: Global,
-    store: &mut S,
-    file: &str,
-) -> Result<Report, Refusal>
+fn types_answer<S: Store>(alloc: Global, store: &mut S, file: &str) -> Result<Report, Refusal>
     ensures gives { Gives (OfProgram Promised (store_of (S.holds store.old) (S.faults store.old) (S.faults store.new)) file.now
         (ListsTypes Promised)) result }
     ensures kept { S.holds store.new ≡ S.holds store.old }
@@ -184,11 +180,7 @@ fn types_answer<S: Store>(
     }
 }
 
-fn code_answer<S: Store>(
-    alloc: Global,
-    store: &mut S,
-    file: &str,
-) -> Result<Report, Refusal>
+fn code_answer<S: Store>(alloc: Global, store: &mut S, file: &str) -> Result<Report, Refusal>
     ensures gives { Gives (OfProgram Promised (store_of (S.holds store.old) (S.faults store.old) (S.faults store.new)) file.now
         (ListsCode Promised)) result }
     ensures kept { S.holds store.new ≡ S.holds store.old }

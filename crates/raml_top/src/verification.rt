@@ -90,10 +90,7 @@ fn verify_refusal(alloc: Global, program: &NormProgram<'_>, fault: VerifyFault) 
         VerifyFault::Cert(fault) => check_refusal(alloc, program, fault),
         VerifyFault::NotRefuted { block } => {
             let line = not_refuted_line(alloc, block as usize);
-            Refusal::told(
-                Status::Certificate(CertAnswer::NotRefuted { block }),
-                line,
-            )
+            Refusal::told(Status::Certificate(CertAnswer::NotRefuted { block }), line)
         }
         VerifyFault::TooLarge { task, what } => too_large(alloc, program, task, what),
         VerifyFault::Leaves(at) => overflow(alloc, program, at),

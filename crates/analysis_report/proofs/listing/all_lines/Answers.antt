@@ -13,6 +13,7 @@ loop-place-preserved c =
     let N = program_in c.args.verified.now.program in
     let cert = c.args.verified.now.certificate in
     let long : length P ≡ length c.args.program.now.funs.items = ap length (sym c.requires.program) ∙ length-map c.args.program.now.funs.items function_of in
-    let below : c.loop-place.place < length P = omega (arith, long, c.loop-place-test.true, c.len-place-end.ensures) in
-    (next_listed P N cert _ _ (lines_between P N cert 0 (length P)) c.loop-place.place (length P) below c.in_ok-push_lines.ensures.text c.loop-place.invariant.0,
-     next_claims P N cert c.loop-place.place c.loop-place.invariant.1 c.in_ok-push_lines.ensures.each)
+    let below : c.loop-place.place < length P = omega (arith, long, c.loop-place-test.true, c.len-place-end.ensures) in (
+      next_listed P N cert _ _ (lines_between P N cert 0 (length P)) c.loop-place.place (length P) below c.in_ok-push_lines.ensures.text c.loop-place.invariant.0,
+      next_claims P N cert c.loop-place.place c.loop-place.invariant.1 c.in_ok-push_lines.ensures.each,
+    )

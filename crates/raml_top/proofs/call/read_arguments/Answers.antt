@@ -34,7 +34,7 @@ returns-in-Ok-clause-ok c =
     let read = read_at c.program.result.now P k c.index.result.now is.0 (ap program_of c.program.ensures.program) c.index.ensures is.1 in
     let types = ap (map ty_of) c.deref-2.ensures.value ∙ c.in_ok-types.ensures ∙ ap types_in c.deref.ensures.value ∙ ap types_of read in
     let read : AreRead c.new-heap.result.cells c.read_args.new.heap.cells c.args.bytes.now (types_of is.0) c.in-Ok.words.items =
-      subst (λ As. AreRead c.new-heap.result.cells c.read_args.new.heap.cells c.args.bytes.now As c.in-Ok.words.items) types c.in-Ok.ensures.ok in
+    subst (λ As. AreRead c.new-heap.result.cells c.read_args.new.heap.cells c.args.bytes.now As c.in-Ok.words.items) types c.in-Ok.ensures.ok in
     record {
       fun = is.0;
       values = read.values;

@@ -9,23 +9,23 @@ use Rattle.raml_top.proofs.top.raml.Goals as goal
 pub returns-in-Ok-put_all-clause-cause : goal.returns-in-Ok-put_all-clause-cause
 returns-in-Ok-put_all-clause-cause g c =
     let o = outside_of (texts c.args.words.now) (store_of (g.S.Store.holds c.args.store.now) (g.S.Store.faults c.args.store.now) (g.S.Store.faults c.answer.new.store))
-      (sink_of (g.O.Sink.faults c.args.out.now) (g.O.Sink.faults c.put_all.new.out) (g.O.Sink.written c.args.out.now) (g.O.Sink.written c.put_all.new.out))
-      (sink_of (g.E.Sink.faults c.args.err.now) (g.E.Sink.faults c.args.err.now) (g.E.Sink.written c.args.err.now) (g.E.Sink.written c.args.err.now)) in
+    (sink_of (g.O.Sink.faults c.args.out.now) (g.O.Sink.faults c.put_all.new.out) (g.O.Sink.written c.args.out.now) (g.O.Sink.written c.put_all.new.out))
+    (sink_of (g.E.Sink.faults c.args.err.now) (g.E.Sink.faults c.args.err.now) (g.E.Sink.written c.args.err.now) (g.E.Sink.written c.args.err.now)) in
     written_cause o c.in-Ok.report c.in-Ok.ensures.gives (c.in-Ok-put_all.ensures.ok ∙ ap (grown (g.O.Sink.written c.args.out.now)) c.deref.ensures.value) refl
 
 pub returns-in-Ok-put_all-clause-forced : goal.returns-in-Ok-put_all-clause-forced
 returns-in-Ok-put_all-clause-forced g c =
     let o = outside_of (texts c.args.words.now) (store_of (g.S.Store.holds c.args.store.now) (g.S.Store.faults c.args.store.now) (g.S.Store.faults c.answer.new.store))
-      (sink_of (g.O.Sink.faults c.args.out.now) (g.O.Sink.faults c.put_all.new.out) (g.O.Sink.written c.args.out.now) (g.O.Sink.written c.put_all.new.out))
-      (sink_of (g.E.Sink.faults c.args.err.now) (g.E.Sink.faults c.args.err.now) (g.E.Sink.written c.args.err.now) (g.E.Sink.written c.args.err.now)) in
+    (sink_of (g.O.Sink.faults c.args.out.now) (g.O.Sink.faults c.put_all.new.out) (g.O.Sink.written c.args.out.now) (g.O.Sink.written c.put_all.new.out))
+    (sink_of (g.E.Sink.faults c.args.err.now) (g.E.Sink.faults c.args.err.now) (g.E.Sink.written c.args.err.now) (g.E.Sink.written c.args.err.now)) in
     causes_force c.course_laws.ensures o c.in-Ok.report.status
     (written_cause o c.in-Ok.report c.in-Ok.ensures.gives (c.in-Ok-put_all.ensures.ok ∙ ap (grown (g.O.Sink.written c.args.out.now)) c.deref.ensures.value) refl)
 
 pub returns-in-Err-put_all-clause-cause : goal.returns-in-Err-put_all-clause-cause
 returns-in-Err-put_all-clause-cause g c =
     let o = outside_of (texts c.args.words.now) (store_of (g.S.Store.holds c.args.store.now) (g.S.Store.faults c.args.store.now) (g.S.Store.faults c.answer.new.store))
-      (sink_of (g.O.Sink.faults c.args.out.now) (g.O.Sink.faults c.put_all.new.out) (g.O.Sink.written c.args.out.now) (g.O.Sink.written c.put_all.new.out))
-      (sink_of (g.E.Sink.faults c.args.err.now) (g.E.Sink.faults c.put_line.new.err) (g.E.Sink.written c.args.err.now) (g.E.Sink.written c.put_line.new.err)) in
+    (sink_of (g.O.Sink.faults c.args.out.now) (g.O.Sink.faults c.put_all.new.out) (g.O.Sink.written c.args.out.now) (g.O.Sink.written c.put_all.new.out))
+    (sink_of (g.E.Sink.faults c.args.err.now) (g.E.Sink.faults c.put_line.new.err) (g.E.Sink.written c.args.err.now) (g.E.Sink.written c.put_line.new.err)) in
     let front = subst (GrewByFront (g.O.Sink.written c.args.out.now) (g.O.Sink.written c.put_all.new.out)) c.deref.ensures.value c.in-Err-put_all.ensures.err in
     failed_cause o c.in-Ok.report c.in-Ok.ensures.gives (front, c.in-Err-put_all.ensures.failed)
     (subst (λ line. Gains line o.err ⊎ GainsFront line o.err) c.write_failed_line.ensures c.put_line.ensures.gains)
@@ -33,8 +33,8 @@ returns-in-Err-put_all-clause-cause g c =
 pub returns-in-Err-put_all-clause-forced : goal.returns-in-Err-put_all-clause-forced
 returns-in-Err-put_all-clause-forced g c =
     let o = outside_of (texts c.args.words.now) (store_of (g.S.Store.holds c.args.store.now) (g.S.Store.faults c.args.store.now) (g.S.Store.faults c.answer.new.store))
-      (sink_of (g.O.Sink.faults c.args.out.now) (g.O.Sink.faults c.put_all.new.out) (g.O.Sink.written c.args.out.now) (g.O.Sink.written c.put_all.new.out))
-      (sink_of (g.E.Sink.faults c.args.err.now) (g.E.Sink.faults c.put_line.new.err) (g.E.Sink.written c.args.err.now) (g.E.Sink.written c.put_line.new.err)) in
+    (sink_of (g.O.Sink.faults c.args.out.now) (g.O.Sink.faults c.put_all.new.out) (g.O.Sink.written c.args.out.now) (g.O.Sink.written c.put_all.new.out))
+    (sink_of (g.E.Sink.faults c.args.err.now) (g.E.Sink.faults c.put_line.new.err) (g.E.Sink.written c.args.err.now) (g.E.Sink.written c.put_line.new.err)) in
     let front = subst (GrewByFront (g.O.Sink.written c.args.out.now) (g.O.Sink.written c.put_all.new.out)) c.deref.ensures.value c.in-Err-put_all.ensures.err in
     causes_force c.course_laws.ensures o _ (failed_cause o c.in-Ok.report c.in-Ok.ensures.gives (front, c.in-Err-put_all.ensures.failed)
     (subst (λ line. Gains line o.err ⊎ GainsFront line o.err) c.write_failed_line.ensures c.put_line.ensures.gains))
@@ -42,14 +42,14 @@ returns-in-Err-put_all-clause-forced g c =
 pub returns-in-Err-clause-cause : goal.returns-in-Err-clause-cause
 returns-in-Err-clause-cause g c =
     let o = outside_of (texts c.args.words.now) (store_of (g.S.Store.holds c.args.store.now) (g.S.Store.faults c.args.store.now) (g.S.Store.faults c.answer.new.store))
-      (sink_of (g.O.Sink.faults c.args.out.now) (g.O.Sink.faults c.args.out.now) (g.O.Sink.written c.args.out.now) (g.O.Sink.written c.args.out.now))
-      (sink_of (g.E.Sink.faults c.args.err.now) (g.E.Sink.faults c.put_line-in-Err.new.err) (g.E.Sink.written c.args.err.now) (g.E.Sink.written c.put_line-in-Err.new.err)) in
+    (sink_of (g.O.Sink.faults c.args.out.now) (g.O.Sink.faults c.args.out.now) (g.O.Sink.written c.args.out.now) (g.O.Sink.written c.args.out.now))
+    (sink_of (g.E.Sink.faults c.args.err.now) (g.E.Sink.faults c.put_line-in-Err.new.err) (g.E.Sink.written c.args.err.now) (g.E.Sink.written c.put_line-in-Err.new.err)) in
     refused_cause o c.in-Err.refusal c.in-Err.ensures.gives refl (subst (λ line. Gains line o.err ⊎ GainsFront line o.err) c.text.ensures c.put_line-in-Err.ensures.gains)
 
 pub returns-in-Err-clause-forced : goal.returns-in-Err-clause-forced
 returns-in-Err-clause-forced g c =
     let o = outside_of (texts c.args.words.now) (store_of (g.S.Store.holds c.args.store.now) (g.S.Store.faults c.args.store.now) (g.S.Store.faults c.answer.new.store))
-      (sink_of (g.O.Sink.faults c.args.out.now) (g.O.Sink.faults c.args.out.now) (g.O.Sink.written c.args.out.now) (g.O.Sink.written c.args.out.now))
-      (sink_of (g.E.Sink.faults c.args.err.now) (g.E.Sink.faults c.put_line-in-Err.new.err) (g.E.Sink.written c.args.err.now) (g.E.Sink.written c.put_line-in-Err.new.err)) in
+    (sink_of (g.O.Sink.faults c.args.out.now) (g.O.Sink.faults c.args.out.now) (g.O.Sink.written c.args.out.now) (g.O.Sink.written c.args.out.now))
+    (sink_of (g.E.Sink.faults c.args.err.now) (g.E.Sink.faults c.put_line-in-Err.new.err) (g.E.Sink.written c.args.err.now) (g.E.Sink.written c.put_line-in-Err.new.err)) in
     causes_force c.course_laws.ensures o c.in-Err.refusal.status
     (refused_cause o c.in-Err.refusal c.in-Err.ensures.gives refl (subst (λ line. Gains line o.err ⊎ GainsFront line o.err) c.text.ensures c.put_line-in-Err.ensures.gains))

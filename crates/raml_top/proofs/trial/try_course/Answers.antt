@@ -18,7 +18,7 @@ try_function-requires-clause-source c = ap (λ (k : Kept). k.source) c.in-Ok.ens
 pub returns-in-Ok : goal.returns-in-Ok
 returns-in-Ok c =
     let given : Gives (TriesCall Promised c.args.count (program_of c.args.typed.now) (program_in c.args.program.now) c.in-Ok.verified.certificate) c.try_function.result =
-      subst (λ (k : Kept). Gives (TriesCall Promised c.args.count (program_of c.args.typed.now) (program_in k) c.in-Ok.verified.certificate) c.try_function.result) c.in-Ok.ensures.program c.try_function.ensures in
+    subst (λ (k : Kept). Gives (TriesCall Promised c.args.count (program_of c.args.typed.now) (program_in k) c.in-Ok.verified.certificate) c.try_function.result) c.in-Ok.ensures.program c.try_function.ensures in
     course_goes c.args.typed.now c.args.program.now c.requires.source 1 rule.Least (λ cert. TriesCall Promised c.args.count (program_of c.args.typed.now) (program_in c.args.program.now) cert) c.in-Ok.verified.certificate c.in-Ok.ensures.course c.in-Ok.ensures.proved c.in-Ok.ensures.least c.try_function.result given
 
 pub returns-in-Err : goal.returns-in-Err

@@ -21,7 +21,7 @@ try_call-requires-clause-place c =
     let P = program_of c.args.typed.now in
     let name = trial_function c.args.count in
     let found : Some c.in-Some.place.0 ≡ place_of name P =
-      c.in-Some.ensures ∙ ap (λ n. place_of n (program_of c.program.result.now)) (c.as_str.ensures.value ∙ c.in-Ok.ensures) ∙ ap (place_of name) (ap program_of c.program.ensures.program) in
+    c.in-Some.ensures ∙ ap (λ n. place_of n (program_of c.program.result.now)) (c.as_str.ensures.value ∙ c.in-Ok.ensures) ∙ ap (place_of name) (ap program_of c.program.ensures.program) in
     let is = named P name c.in-Some.place.0 found in
     slice_get_within P c.in-Some.place.0 is.0 is.1.there
 
@@ -30,7 +30,7 @@ returns-in-Some c =
     let P = program_of c.args.typed.now in
     let name = trial_function c.args.count in
     let found : Some c.in-Some.place.0 ≡ place_of name P =
-      c.in-Some.ensures ∙ ap (λ n. place_of n (program_of c.program.result.now)) (c.as_str.ensures.value ∙ c.in-Ok.ensures) ∙ ap (place_of name) (ap program_of c.program.ensures.program) in
+    c.in-Some.ensures ∙ ap (λ n. place_of n (program_of c.program.result.now)) (c.as_str.ensures.value ∙ c.in-Ok.ensures) ∙ ap (place_of name) (ap program_of c.program.ensures.program) in
     let is = named P name c.in-Some.place.0 found in
     let N = program_in c.args.verified.now.program in
     let cert = c.args.verified.now.certificate in
@@ -45,7 +45,7 @@ returns-in-Ok c =
     let N = program_in c.args.verified.now.program in
     let cert = c.args.verified.now.certificate in
     let none : None ≡ place_of name P =
-      c.in-None.ensures ∙ ap (λ n. place_of n (program_of c.program.result.now)) (c.as_str.ensures.value ∙ c.in-Ok.ensures) ∙ ap (place_of name) (ap program_of c.program.ensures.program) in
+    c.in-None.ensures ∙ ap (λ n. place_of n (program_of c.program.result.now)) (c.as_str.ensures.value ∙ c.in-Ok.ensures) ∙ ap (place_of name) (ap program_of c.program.ensures.program) in
     let Refuses : Ending → Type 0 = λ x. (x ≡ e.NoFunction) × (place_of name P ≡ None) in
     step_refused no_names Refuses (IsNamed P name) (λ f. OfArguments trial_data f.1 (λ args. RunsTrial Promised c.args.count P N cert f args)) c.no_function.result
     (told_refuses no_names s.NoFunction e.NoFunction Refuses refl (refl, sym none) c.no_function.result (inr (c.no_function.ensures no_names)))
