@@ -1,5 +1,5 @@
 -- Bounds of a call hold at its arguments.
-use Rattle.std.proofs.Common.{◌≡◌, ◌≤◌, ◌<◌, ◌*◌, ◌/◌, ℕ, List, Option, Some, None, Result, Ok, Err, refl, sym, ap, subst, ◌∙◌, arith}
+use Rattle.std.proofs.Common.{◌≡◌, ◌≤◌, ◌<◌, ◌*◌, ◌/◌, ℕ, List, Option, Some, None, Result, Ok, Err, sym, subst, arith}
 use Rattle.std.specs.Prelude.{IfErr, IfSome, IsErrAnd}
 use Rattle.raml_syntax.specs.Value.{Value}
 use Rattle.cost_free.specs.declared.task.Meter.{Meter}
@@ -14,12 +14,11 @@ use Rattle.raml_syntax.specs.Tree.{Function, Prog}
 use Rattle.raml_syntax.specs.Types.{types_of}
 use Rattle.raml_syntax.specs.Value.{HaveTypes}
 use Rattle.raml_syntax.specs.Eval.{run_of}
-use Rattle.poly_point.specs.Point.{worth}
 use Rattle.stack_compile.specs.Laws.{at, IsGoing}
 use Rattle.amortised_bounds.specs.Enough.{cost}
 use Rattle.run_limits.specs.Laws.{Asks, NeverAsks}
 use Rattle.analysis_report.specs.Floors.{FloorsHold}
-use Rattle.analysis_report.specs.Told.{Overflows, FloorRefused, FloorsRefused, IsOfBound, IsBound, AllHold}
+use Rattle.analysis_report.specs.Told.{FloorRefused, FloorsRefused, IsBound, AllHold}
 use Rattle.analysis_report.specs.declared.bounds.FloorFault.{FloorFault}
 use Rattle.analysis_report.specs.declared.bounds.FloorFault.TheVariants as fault
 use Rattle.analysis_report.specs.declared.bounds.Floors.{Floors}

@@ -1,6 +1,6 @@
 -- The tuples of a bound that a certificate claims have no degree above that of the certificate.
-use Rattle.std.proofs.Common.{◌≡◌, ◌≤◌, ◌<◌, ℕ, zero, suc, ℤ, Bool, true, false, List, [], ◌∷◌, ◌++◌, map, length, All, Option, Some, None, refl, sym, ap, subst, ◌∙◌, arith}
-use Rattle.std.specs.Prelude.{slice_index_or, slice_get, flat_map, filter, unsigned_abs}
+use Rattle.std.proofs.Common.{◌≡◌, ◌≤◌, ℕ, zero, suc, ℤ, List, [], ◌∷◌, ◌++◌, map, All, Option, Some, None, ap, subst, arith}
+use Rattle.std.specs.Prelude.{slice_index_or, slice_get, flat_map, filter}
 use Rattle.raml_syntax.specs.Tree.{Type'}
 use Rattle.base_poly.specs.Plain.{Plain, degrees}
 use Rattle.base_poly.specs.Indices.{index_list}
@@ -10,10 +10,9 @@ use Rattle.normal_form.specs.Norm.{NormFun}
 use Rattle.normal_form.specs.Context.{types}
 use Rattle.cost_free.specs.declared.task.Meter.{Meter}
 use Rattle.annot_types.specs.Program.{Program}
-use Rattle.annot_types.specs.Certificate as c
 use Rattle.annot_types.specs.Certificate.{Entries, Sig, Body, Solved, Refuted, Calls, Block, Certificate}
 use Rattle.annot_types.specs.Signature.{sig_in}
-use Rattle.annot_types.specs.Held.{Claim, Bound, NoBound, CallsUnbounded, Line, line, lines_for, terms_of, bound_of, claim_of, is_for_function}
+use Rattle.annot_types.specs.Held.{Claim, Bound, Line, line, terms_of, bound_of, claim_of, is_for_function}
 use Rattle.analysis_report.specs.Lines.{Claims}
 
 abbrev LowTerms : List Term → Type 0

@@ -1,5 +1,5 @@
 -- Answers that end alike, step by step.
-use Rattle.std.proofs.Common.{◌≡◌, refl, sym, ap, subst, ◌∙◌}
+use Rattle.std.proofs.Common.{◌≡◌, refl, sym, subst}
 use Rattle.raml_syntax.specs.Tree.{Text}
 use Rattle.raml_top.specs.Ending.{Ending, Overflows, OnTask}
 use Rattle.raml_top.specs.Steps.{Names, Answer, Report, Refusal, ending_in, Step, refused, goes_on}

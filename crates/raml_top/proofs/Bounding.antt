@@ -1,6 +1,5 @@
 -- The bounds of a call.
-use Rattle.std.proofs.Common.{◌≡◌, ℕ, List, Option, Some, Result, Ok, Err, refl, sym, ap, subst, ◌∙◌, inl}
-use Rattle.raml_syntax.specs.Tree.{Function, Prog}
+use Rattle.std.proofs.Common.{◌≡◌, ℕ, List, Option, Result, Err, refl, sym, ap, subst, inl}
 use Rattle.raml_syntax.specs.Value.{Value}
 use Rattle.raml_syntax.specs.Read.{program_of}
 use Rattle.raml_syntax.specs.declared.program.Program.{Program as TheProgram}

@@ -1,5 +1,5 @@
 -- Functions that are called, and their arguments.
-use Rattle.std.proofs.Common.{◌≡◌, ◌≤◌, ◌<◌, ◌+◌, ◌^◌, ◌++◌, length, ℕ, List, Option, Some, None, Result, Ok, Err, refl, sym, ap, subst, ◌∙◌, inl, inr, arith}
+use Rattle.std.proofs.Common.{◌≡◌, ◌≤◌, ◌<◌, ◌+◌, ◌^◌, length, ℕ, List, Some, None, Result, Ok, Err, refl, sym, ap, subst, ◌∙◌, inl, inr, arith}
 use Rattle.std.proofs.lemmas.List.{length-append}
 use Rattle.std.specs.Prelude.{slice_get}
 use Rattle.raml_syntax.specs.Tree.{Text, Function, Prog}
@@ -12,7 +12,7 @@ use Rattle.value_text.specs.declared.word.Cell.{Cell}
 use Rattle.fault_text.specs.declared.plain.Which.TheVariants as w
 use Rattle.raml_top.specs.Ending.{Ending, NoFunction}
 use Rattle.raml_top.specs.Outside.{Promised, Store}
-use Rattle.raml_top.specs.Steps.{Answer, Refusal, no_names}
+use Rattle.raml_top.specs.Steps.{Answer, no_names}
 use Rattle.raml_top.specs.Call.{Placed, IsNamed, DataRefuses, OfArguments, OfCall}
 use Rattle.raml_top.specs.Parts.{Gives, Refuses, HasArguments, ReadsArguments, ArgumentsRefuse, ReadsCall, IsCallOf, CallRefuses, IsShort, FileRefuses}
 use Rattle.raml_top.specs.declared.answer.Report.{Report}

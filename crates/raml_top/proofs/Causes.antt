@@ -1,7 +1,7 @@
 -- Why a call ends so, by what was written.
-use Rattle.std.proofs.Common.{◌≡◌, ◌⊎◌, List, ℕ, Result, Ok, Err, refl, sym, ap, subst, ◌∙◌, inl, inr}
+use Rattle.std.proofs.Common.{◌≡◌, ◌⊎◌, Ok, Err, refl, subst, inl, inr}
 use Rattle.raml_syntax.specs.Tree.{Text}
-use Rattle.raml_top.specs.Outside.{Promised, Outside, Sink, GainsNothing, Gains, GainsFront}
+use Rattle.raml_top.specs.Outside.{Promised, Outside, GainsNothing, Gains, GainsFront}
 use Rattle.raml_top.specs.Steps.{Names, no_names, Report, Refusal}
 use Rattle.raml_top.specs.Line.{line_of}
 use Rattle.raml_top.specs.Promise.{WordsAnswer, Tells, Cause}

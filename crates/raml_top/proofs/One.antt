@@ -1,12 +1,11 @@
 -- What is needed for an answer brings it.
-use Rattle.std.proofs.Common.{◌≡◌, ◌⊎◌, ℕ, List, [], Option, Some, None, refl, sym, ap, subst, ◌∙◌, inl, inr}
+use Rattle.std.proofs.Common.{◌≡◌, ◌⊎◌, ℕ, List, Option, Some, None, refl, sym, ◌∙◌, inl, inr}
 use Rattle.std.specs.Prelude.{◌++◌, codes}
 use Rattle.std.specs.List.{All}
 use Rattle.raml_syntax.specs.Tree.{Text, Function, Prog}
 use Rattle.raml_syntax.specs.Value.{Value}
 use Rattle.raml_syntax.specs.Node.{AllNodes, NumberFits}
 use Rattle.raml_parse.proofs.Limits.{within_limits}
-use Rattle.call_groups.specs.Groups.{Grouping, IsGrouping}
 use Rattle.amortised_bounds.specs.Laws.{normal_of}
 use Rattle.annot_types.specs.Program.{Program}
 use Rattle.annot_types.specs.Certificate.{Certificate}
@@ -21,15 +20,15 @@ use Rattle.report_text.specs.Report.{type_lines}
 use Rattle.report_text.specs.Trial.{trial_text, trial_function, trial_data}
 use Rattle.fault_text.specs.declared.plain.Which.TheVariants as which
 use Rattle.analysis_report.specs.Lines.{AreLines}
-use Rattle.raml_top.specs.Ending.{Ending, Done, Usage, ending_of}
-use Rattle.raml_top.specs.Outside.{Outside, Promised, Needed, Store, Rises}
-use Rattle.raml_top.specs.Steps.{no_names, Answer, Report, Refusal, ending_in, Prints, IsTyped, OfSource, OfNormal}
+use Rattle.raml_top.specs.Ending.{Done}
+use Rattle.raml_top.specs.Outside.{Outside, Promised, Needed, Store}
+use Rattle.raml_top.specs.Steps.{no_names, Answer, Report, Refusal, ending_in, Prints, IsTyped, OfNormal}
 use Rattle.raml_top.specs.Analysis.{OfCourse, OfCheck}
-use Rattle.raml_top.specs.Call.{Placed, Limits, OfArguments, OfFloors, Runs, cells_or}
-use Rattle.raml_top.specs.Promise.{PrintsLines, PrintsCertificate, ListsTypes, ListsCode, Analyses, Certifies, Verifies, RunsWithin, RunsBounded, BoundedCall, RunsWithBounds, RunsTrial, TriesCall, Tries, Answers, WordsAnswer, Comes, EndsBy, LacksMemory, Cause, Alike, EndsAlike, IsWritable, Forced}
+use Rattle.raml_top.specs.Call.{Placed, OfFloors}
+use Rattle.raml_top.specs.Promise.{PrintsLines, PrintsCertificate, ListsTypes, ListsCode, Analyses, Certifies, Verifies, RunsBounded, BoundedCall, RunsTrial, TriesCall, Tries, Answers, WordsAnswer, EndsBy, Cause, EndsAlike, IsWritable, Forced}
 use Rattle.raml_top.specs.declared.status.Status.{Status}
 use Rattle.raml_top.specs.declared.status.Status.TheVariants.{NoMemory}
-use Rattle.raml_top.proofs.Alike.{alike_same, Same, Fit, steps_same}
+use Rattle.raml_top.proofs.Alike.{alike_same, Same, steps_same}
 use Rattle.raml_top.proofs.OneSource.{short_same, source_same, program_same}
 use Rattle.raml_top.specs.Known.{CourseLaws}
 use Rattle.raml_top.proofs.OneCourse.{normal_same, course_same}

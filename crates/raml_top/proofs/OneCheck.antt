@@ -1,6 +1,6 @@
 -- A file is one certificate, and its check comes to one end.
-use Rattle.std.proofs.Common.{◌≡◌, ◌≢◌, ◌≤◌, ◌<◌, ◌⊎◌, ℕ, suc, ℤ, List, [], ◌∷◌, length, Option, Some, None, Result, Ok, Err, refl, sym, ap, subst, ◌∙◌, arith, inl, inr, ⊎_elim}
-use Rattle.std.specs.Prelude.{slice_get, IsUtf8}
+use Rattle.std.proofs.Common.{◌≡◌, ◌<◌, ℕ, ℤ, List, [], ◌∷◌, Option, Some, None, Result, Ok, Err, refl, sym, ap, subst, ◌∙◌, arith, inl, inr, ⊎_elim}
+use Rattle.std.specs.Prelude.{slice_get}
 use Rattle.serde_json.specs.Data.{Data}
 use Rattle.serde_json.specs.Read.{read}
 use Rattle.raml_syntax.specs.Tree.{Text, Prog}
@@ -13,7 +13,7 @@ use Rattle.farkas_check.specs.declared.Verdict.TheVariants.{Yes, No, Leaves}
 use Rattle.annot_types.specs.Program.{Program}
 use Rattle.annot_types.specs.Certificate.{Entries, Refuted, Body, Block, Certificate}
 use Rattle.annot_types.specs.Held.{before, scale_for}
-use Rattle.annot_types.specs.System.{system, AreRows}
+use Rattle.annot_types.specs.System.{system}
 use Rattle.courses.specs.Generator.{What, Indices, limit_of}
 use Rattle.courses.specs.Places as p
 use Rattle.courses.specs.Places.{RowFits, RowLeaves}
@@ -36,10 +36,9 @@ use Rattle.fault_text.specs.declared.plain.Which.TheVariants as w
 use Rattle.raml_top.specs.Ending as e
 use Rattle.raml_top.specs.Ending.{Ending, Certified, Json, NotRefuted, TooLarge, Overflows, OnTask, InCheck}
 use Rattle.raml_top.specs.Outside.{Promised, Needed, Store}
-use Rattle.raml_top.specs.Steps.{Answer, no_names, names_of, Step, Test}
+use Rattle.raml_top.specs.Steps.{Answer, no_names, names_of, Step}
 use Rattle.raml_top.specs.Analysis.{TextRefuses, OfCertificate, CheckRefuses, IsChecked, OfCheck}
-use Rattle.raml_top.specs.Promise.{Alike}
-use Rattle.raml_top.proofs.Alike.{alike_refl, alike_same, Same, Fit, steps_same}
+use Rattle.raml_top.proofs.Alike.{alike_same, Same, steps_same}
 use Rattle.raml_top.proofs.OneSource.{file_same}
 
 -- ---- the text

@@ -1,14 +1,14 @@
 -- A program has one grouping, and the course of its analysis comes to one end.
-use Rattle.std.proofs.Common.{◌≡◌, ◌≤◌, ◌<◌, ◌⊎◌, ◌↔◌, ℕ, suc, List, [], ◌∷◌, ◌++◌, length, Option, Some, None, refl, sym, ap, subst, ◌∙◌, arith, inl, inr, ⊎_elim}
+use Rattle.std.proofs.Common.{◌≡◌, ◌<◌, ◌⊎◌, ℕ, List, [], ◌∷◌, ◌++◌, length, Option, Some, None, refl, sym, subst, arith, inl, inr, ⊎_elim}
 use Rattle.std.specs.List.{Contains, All}
 use Rattle.raml_syntax.specs.Tree.{Prog, Function}
 use Rattle.raml_syntax.specs.Types.{Typed}
 use Rattle.raml_syntax.specs.Node.{AllNodes, NumberFits}
-use Rattle.call_groups.specs.Groups.{Together, MayCome, Ascends, ComesNext, AreInOrder, Grouping, IsGrouping, here}
+use Rattle.call_groups.specs.Groups.{Together, Ascends, ComesNext, AreInOrder, Grouping, IsGrouping}
 use Rattle.amortised_bounds.specs.Laws.{normal_of}
 use Rattle.annot_types.specs.Program.{Program}
 use Rattle.annot_types.specs.Certificate.{Certificate}
-use Rattle.courses.specs.Generator.{What, Analysis, Generates, limit_at, IsRefusedAt}
+use Rattle.courses.specs.Generator.{What, Analysis, Generates}
 use Rattle.courses.specs.States.{State}
 use Rattle.courses.specs.Places as p
 use Rattle.courses.specs.Places.{Place, stage}
@@ -17,17 +17,17 @@ use Rattle.cost_free.specs.Task.{Task}
 use Rattle.cert_check.specs.Fault as f
 use Rattle.cert_check.specs.Finds.{FirstFault}
 use Rattle.cert_check.proofs.OneFault.{one_first_fault}
-use Rattle.bound_infer.specs.Inferred.{IsInferred, LeavesInCheck}
+use Rattle.bound_infer.specs.Inferred.{IsInferred}
 use Rattle.raml_words.specs.declared.request.Rule.{Rule}
 use Rattle.raml_top.specs.Ending as e
 use Rattle.raml_top.specs.Ending.{Ending, TooLarge, Overflows, InCheck}
-use Rattle.raml_top.specs.Outside.{Promised, Needed, Side}
+use Rattle.raml_top.specs.Outside.{Promised, Needed}
 use Rattle.raml_top.specs.Steps.{Answer, OfNormal, names_of}
 use Rattle.raml_top.specs.Analysis.{analysis, pick_of, CourseRefuses, IsCourse, OfCourse}
 use Rattle.raml_top.specs.Known.{CourseLaws}
 use Rattle.raml_top.specs.Promise.{Alike}
 use Rattle.base_poly.proofs.Among.{Among, among_contains, contains_among}
-use Rattle.raml_top.proofs.Alike.{alike_same, Same, Fit, steps_same}
+use Rattle.raml_top.proofs.Alike.{alike_same, Same, steps_same}
 
 -- ---- groups
 

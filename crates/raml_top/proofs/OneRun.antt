@@ -1,11 +1,9 @@
 -- A call is of one function on one list of arguments, its bounds are one each, and its run has one end.
-use Rattle.std.proofs.Common.{◌≡◌, ◌≤◌, ◌<◌, ◌+◌, ◌^◌, ◌⊎◌, ℕ, suc, List, [], ◌∷◌, Option, Some, None, Result, Ok, Err, refl, sym, ap, subst, ◌∙◌, arith, inl, inr, ⊎_elim}
-use Rattle.std.specs.Prelude.{slice_get}
+use Rattle.std.proofs.Common.{◌≡◌, ◌≤◌, ◌<◌, ◌+◌, ℕ, List, [], ◌∷◌, Option, Some, None, Result, Ok, Err, refl, sym, ap, subst, ◌∙◌, arith}
 use Rattle.raml_syntax.specs.Tree.{Text, Function, Prog}
 use Rattle.raml_syntax.specs.Value.{Value}
 use Rattle.raml_syntax.specs.Types.{types_of}
 use Rattle.raml_syntax.specs.Place.{place_of}
-use Rattle.poly_point.specs.Point.{worth}
 use Rattle.stack_compile.specs.Code.{Body, bodies_of}
 use Rattle.stack_compile.specs.Laws.{at, IsGoing}
 use Rattle.stack_compile.specs.Machine.{Config, Going, Halted, Frame, State, act, fetch, move, start}
@@ -21,17 +19,15 @@ use Rattle.cost_free.specs.declared.task.Meter.{Meter}
 use Rattle.cost_free.specs.declared.task.Meter.TheVariants.{Ticks, Cells, Work}
 use Rattle.annot_types.specs.Program.{Program}
 use Rattle.annot_types.specs.Certificate.{Certificate}
-use Rattle.annot_types.specs.Held.{Claim, Bound, NoBound, CallsUnbounded, Line, line, lines_for}
+use Rattle.annot_types.specs.Held.{Claim, Bound, NoBound, CallsUnbounded, Line, line}
 use Rattle.analysis_report.specs.Lines.{Claims}
 use Rattle.analysis_report.specs.Floors.{Floors, FloorOf, IsFloor, rank, Leaves}
 use Rattle.fault_text.specs.declared.plain.Which.TheVariants as w
-use Rattle.raml_top.specs.Ending as e
-use Rattle.raml_top.specs.Ending.{Ending, Done, Stopped, HeapFull, NoFunction, BadData, Overflows, AtPoint}
+use Rattle.raml_top.specs.Ending.{Ending, Done, Stopped, HeapFull, BadData, Overflows, AtPoint}
 use Rattle.raml_top.specs.Outside.{Side, Promised, Needed, Store}
 use Rattle.raml_top.specs.Steps.{no_names, Answer}
 use Rattle.raml_top.specs.Call.{Placed, IsNamed, OfFunction, DataRefuses, OfArguments, OfCall, Limits, Finishes, Stops, Fills, Ends, Runs, PointRefuses, AreFloors, OfFloors}
-use Rattle.raml_top.specs.Promise.{Alike}
-use Rattle.raml_top.proofs.Alike.{alike_same, Same, same_reports, Fit, steps_same}
+use Rattle.raml_top.proofs.Alike.{alike_same, Same, same_reports, steps_same}
 use Rattle.raml_top.proofs.OneSource.{file_same}
 
 -- ---- functions and arguments

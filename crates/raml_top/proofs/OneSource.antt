@@ -1,5 +1,5 @@
 -- What is read of a file, and what a source spells, is one thing.
-use Rattle.std.proofs.Common.{◌≡◌, ◌≤◌, ℕ, suc, List, length, take, Option, Some, None, Result, Ok, Err, refl, sym, ap, subst, ◌∙◌, arith}
+use Rattle.std.proofs.Common.{◌≡◌, ◌≤◌, ℕ, suc, List, length, take, Some, None, Result, Ok, Err, refl, sym, ap, subst, ◌∙◌, arith}
 use Rattle.std.specs.Prelude.{IfSome}
 use Rattle.raml_syntax.specs.Tree.{Text, Prog}
 use Rattle.raml_io.specs.Files.{Files, IsFront}
@@ -11,10 +11,10 @@ use Rattle.simple_types.specs.Walk.{walk_program}
 use Rattle.simple_types.proofs.Typing.{program_complete}
 use Rattle.fault_text.specs.declared.plain.Which.{Which}
 use Rattle.fault_text.specs.declared.plain.Which.TheVariants as w
-use Rattle.raml_top.specs.Ending.{Ending, ReadFault, TooLong, Source, Parse, Types}
-use Rattle.raml_top.specs.Outside.{Promised, Needed, Store, Tells, IsSeen, IsToldCalmly, IsRead}
-use Rattle.raml_top.specs.Steps.{no_names, Answer, most_bytes, IsTooLong, Test, OfShort, OfFile, SourceRefuses, IsTyped, OfSource, OfProgram}
-use Rattle.raml_top.proofs.Alike.{alike_same, Same, Fit, steps_same}
+use Rattle.raml_top.specs.Ending.{Ending, Source, Parse, Types}
+use Rattle.raml_top.specs.Outside.{Promised, Needed, Store, IsSeen, IsRead}
+use Rattle.raml_top.specs.Steps.{no_names, Answer, most_bytes, IsTooLong, OfShort, OfFile, SourceRefuses, IsTyped, OfSource, OfProgram}
+use Rattle.raml_top.proofs.Alike.{alike_same, Same, steps_same}
 
 -- what is told to be held begins with what was read
 told_front : (store : Store) (limit : ℕ) (file bytes : List ℕ) (files : Files) → store.holds ≡ Some files → IsSeen store limit file bytes → IsFront files file (suc limit) bytes

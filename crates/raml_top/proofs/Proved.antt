@@ -1,5 +1,5 @@
 -- What is proved of a certificate that was verified.
-use Rattle.std.proofs.Common.{◌≡◌, ◌+◌, ℕ, List, sym, ap, subst, ◌∙◌}
+use Rattle.std.proofs.Common.{◌≡◌, ℕ, sym, ap, subst, ◌∙◌}
 use Rattle.std.specs.List.{All, Contains}
 use Rattle.raml_syntax.specs.Tree.{Function, Prog}
 use Rattle.raml_syntax.specs.Types.{Typed}
@@ -15,7 +15,7 @@ use Rattle.annot_types.specs.Held.{Line, lines}
 use Rattle.amortised_bounds.specs.Laws.{normal_of, LinesAreTrue, IsTrue}
 use Rattle.courses.specs.Good.{AllRefuted}
 use Rattle.courses.specs.Lines.{LinesTell}
-use Rattle.std.proofs.Common.{Result, Ok, Err, true}
+use Rattle.std.proofs.Common.{Result, Err, true}
 use Rattle.annot_types.specs.Certificate.{has_work}
 use Rattle.courses.specs.Good.{AllLeast}
 use Rattle.bound_infer.specs.Inferred.{IsInferred}

@@ -1,12 +1,12 @@
 -- What is read of files.
-use Rattle.std.proofs.Common.{◌≡◌, ◌≤◌, ◌<◌, ◌⊎◌, ℕ, suc, List, length, Option, Some, Result, Ok, Err, refl, subst, inl, inr, ⊎_elim, arith}
+use Rattle.std.proofs.Common.{◌≡◌, ◌≤◌, ◌<◌, ℕ, suc, List, length, Option, Some, Result, Ok, Err, refl, subst, inl, inr, ⊎_elim, arith}
 use Rattle.raml_io.specs.Faults.{Rose}
 use Rattle.std.specs.Prelude.{IfSome, IfOk, IfErr}
 use Rattle.raml_io.specs.Files.{Files, IsFront}
 use Rattle.raml_syntax.specs.Tree.{Text, Prog}
 use Rattle.fault_text.specs.declared.plain.Which.{Which}
 use Rattle.fault_text.specs.declared.plain.Which.TheVariants as w
-use Rattle.raml_top.specs.Outside.{Promised, Store, store_of, IsRead, IsSeen}
+use Rattle.raml_top.specs.Outside.{Promised, Store, store_of, IsRead}
 use Rattle.raml_top.specs.Steps.{no_names, most_bytes, IsTooLong, SourceRefuses, IsTyped}
 use Rattle.raml_top.specs.Parts.{IsShort, IsProgram, ProgramRefuses, Refuses}
 use Rattle.raml_top.specs.declared.answer.Refusal.{Refusal}

@@ -1,6 +1,6 @@
 -- Faults of other calls, as refusals of this one.
-use Rattle.std.proofs.Common.{◌≡◌, ◌≢◌, ◌≤◌, ◌⊎◌, ℕ, List, Option, Some, None, Result, Ok, Err, refl, sym, ap, subst, ◌∙◌, inl, inr, arith}
-use Rattle.raml_syntax.specs.Tree.{Text, Function, Prog}
+use Rattle.std.proofs.Common.{◌≡◌, ◌≢◌, ◌⊎◌, ℕ, List, Option, Some, None, Err, refl, sym, ap, subst, ◌∙◌, inl, inr, arith}
+use Rattle.raml_syntax.specs.Tree.{Function, Prog}
 use Rattle.raml_syntax.specs.Types.{types_of}
 use Rattle.raml_parse.specs.Spelling.{FirstFault}
 use Rattle.raml_parse.specs.declared.fault.ParseFault.{ParseFault}
@@ -41,7 +41,7 @@ use Rattle.raml_top.specs.Steps.{Names, no_names, SourceRefuses}
 use Rattle.raml_top.specs.Analysis.{CourseRefuses, TextRefuses, CheckRefuses}
 use Rattle.raml_top.specs.Call.{DataRefuses}
 use Rattle.raml_top.specs.Line.{line_of}
-use Rattle.raml_top.specs.Parts.{line_text, IsOf, IsWanting, IsToldOr, Refuses, ParseRefusal, TypeRefusal, DataRefusal, JsonRefusal, CheckRefusal, TypesRefuse, IsCheckAt}
+use Rattle.raml_top.specs.Parts.{IsToldOr, Refuses, ParseRefusal, TypeRefusal, DataRefusal, JsonRefusal, CheckRefusal, TypesRefuse, IsCheckAt}
 use Rattle.raml_top.specs.declared.answer.Refusal.{Refusal}
 use Rattle.raml_top.specs.declared.status.Status.{Status}
 use Rattle.raml_top.specs.declared.status.Status.TheVariants as s

@@ -1,13 +1,13 @@
 -- Reports of runs, with what stands around them.
-use Rattle.std.proofs.Common.{◌≡◌, ◌++◌, ℕ, List, [], ◌∷◌, append_assoc, Result, Ok, Err, refl, sym, ap, subst, ◌∙◌, inl, inr}
+use Rattle.std.proofs.Common.{◌≡◌, ◌++◌, ℕ, List, [], ◌∷◌, Result, Ok, Err, refl, sym, ap, ◌∙◌, inl}
 use Rattle.std.specs.Prelude.{IfOk, IfErr}
 use Rattle.raml_syntax.specs.Tree.{Text, Prog}
 use Rattle.raml_syntax.specs.Value.{Value}
 use Rattle.value_text.specs.declared.word.Word.{Word}
 use Rattle.value_text.specs.declared.word.Cell.{Cell}
-use Rattle.raml_top.specs.Ending.{Ending, ending_of}
+use Rattle.raml_top.specs.Ending.{ending_of}
 use Rattle.raml_top.specs.Outside.{Promised}
-use Rattle.raml_top.specs.Call.{Placed, Limits, Ends, Runs}
+use Rattle.raml_top.specs.Call.{Placed, Limits, Runs}
 use Rattle.raml_top.specs.Parts.{Gives, IsWanting, HasArguments, RanOn}
 use Rattle.raml_top.specs.declared.answer.Report.{Report}
 use Rattle.raml_top.specs.declared.answer.Refusal.{Refusal}

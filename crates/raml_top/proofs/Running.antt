@@ -1,5 +1,5 @@
 -- What a machine ends with is what is reported of the run.
-use Rattle.std.proofs.Common.{arith, ◌≡◌, ◌≤◌, ◌<◌, ◌*◌, ℕ, suc, List, Some, Result, Ok, Err, string_bytes, sym, ap, subst, ◌∙◌}
+use Rattle.std.proofs.Common.{arith, ◌≡◌, ◌≤◌, ◌<◌, ◌*◌, ℕ, suc, List, Some, Result, Ok, Err, sym, ap, subst, ◌∙◌}
 use Rattle.std.specs.Prelude.{slice_get, IfOk}
 use Rattle.std.specs.List.{All}
 use Rattle.raml_syntax.specs.Tree.{Type', Function, Prog}
@@ -19,19 +19,13 @@ use Rattle.value_text.specs.Printing.{StandsForSome}
 use Rattle.metered_vm.specs.Moving.{TakesCell}
 use Rattle.metered_vm.specs.Seen.{Seen, program_in, fun_in, args_in, cells_in, state_in, Kept, Begins, GoesOn}
 use Rattle.metered_vm.specs.Ending.{HasHalted, HasStopped, IsFull, next_of}
-use Rattle.base_poly.specs.Poly.{Term}
-use Rattle.poly_point.specs.Point.{worth}
-use Rattle.raml_syntax.specs.Types.{types_of}
-use Rattle.cost_free.specs.declared.task.Meter.TheVariants.{Cells, Work}
-use Rattle.amortised_bounds.specs.Bounds.{Bounds}
 use Rattle.run_limits.specs.Laws.{NeverAsks}
 use Rattle.report_text.specs.Report.{value_lines, stopped_lines, full_lines}
 use Rattle.raml_top.specs.Ending as e
 use Rattle.raml_top.specs.Outside.{Promised}
-use Rattle.raml_top.specs.Call.{Placed, Limits, Finishes, Stops, Fills, NoCellsWithin, NoWorkWithin}
+use Rattle.raml_top.specs.Call.{Placed, Limits, Finishes, Stops, Fills, NoWorkWithin}
 use Rattle.raml_top.specs.Parts.{HasArguments, RanOn}
 use Rattle.raml_top.specs.declared.answer.Report.{Report}
-use Rattle.raml_top.specs.declared.status.Status.{Status}
 use Rattle.raml_top.specs.declared.status.Status.TheVariants.{Done, Stopped, HeapFull}
 
 -- the function at a place is found by its name

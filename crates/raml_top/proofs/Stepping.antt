@@ -1,9 +1,7 @@
 -- What parts of a call answer, step by step.
-use Rattle.std.proofs.Common.{◌≡◌, ◌≤◌, ◌⊎◌, ℕ, List, Option, Some, None, Result, Ok, Err, refl, sym, ap, subst, ◌∙◌, inl, inr}
-use Rattle.std.specs.Prelude.{IfErr, IfOk}
-use Rattle.raml_syntax.specs.Tree.{Text, Function, Prog}
+use Rattle.std.proofs.Common.{◌≡◌, ℕ, List, Result, Ok, Err, refl, ap, subst, inl, inr}
+use Rattle.raml_syntax.specs.Tree.{Text, Prog}
 use Rattle.raml_syntax.specs.Value.{Value}
-use Rattle.raml_syntax.specs.Place.{place_of}
 use Rattle.call_groups.specs.Groups.{Grouping, IsGrouping}
 use Rattle.amortised_bounds.specs.Laws.{normal_of}
 use Rattle.annot_types.specs.Program.{Program}
@@ -14,10 +12,10 @@ use Rattle.cert_json.specs.Told.{IsFile}
 use Rattle.value_text.specs.Reading.{Answers}
 use Rattle.raml_syntax.specs.Types.{types_of}
 use Rattle.raml_top.specs.Ending.{Ending, ReadFault, TooLong}
-use Rattle.raml_top.specs.Outside.{Promised, Store, IsRead}
-use Rattle.raml_top.specs.Steps.{Names, no_names, Answer, Refusal, Step, refused, goes_on, Test, OfShort, OfFile, OfSource, OfProgram, OfNormal, SourceRefuses, IsTyped}
+use Rattle.raml_top.specs.Outside.{Promised, Store}
+use Rattle.raml_top.specs.Steps.{Names, no_names, Answer, Refusal, Step, refused, goes_on, OfFile, OfSource, OfProgram, OfNormal}
 use Rattle.raml_top.specs.Analysis.{OfCertificate, TextRefuses}
-use Rattle.raml_top.specs.Call.{Placed, IsNamed, OfFunction, OfArguments, OfCall, DataRefuses}
+use Rattle.raml_top.specs.Call.{Placed, IsNamed, OfArguments, OfCall}
 use Rattle.raml_top.specs.Parts.{Refuses, Gives, IsWanting, IsShort, FileRefuses, IsProgram, ProgramRefuses, IsCertificateFile, CertificateRefuses, CallRefuses}
 use Rattle.raml_top.specs.declared.answer.Report.{Report}
 use Rattle.raml_top.specs.declared.answer.Refusal.{Refusal as TheRefusal}

@@ -1,5 +1,5 @@
 -- Certificates: of the course of an analysis, and of a file.
-use Rattle.std.specs.Prelude.{◌≡◌, ◌≤◌, ◌⊎◌, ℕ, ℤ, List, Option, Some, None}
+use Rattle.std.specs.Prelude.{◌≡◌, ◌≤◌, ◌⊎◌, ℕ, ℤ, List, Option, Some}
 use Rattle.raml_syntax.specs.Tree.{Text, Prog}
 use Rattle.raml_words.specs.declared.request.Rule.{Rule}
 use Rattle.raml_words.specs.declared.request.Rule.TheVariants as rule

@@ -1,5 +1,5 @@
 -- Calls of functions on data, and how they end on the machine.
-use Rattle.std.specs.Prelude.{◌≡◌, ◌≤◌, ◌<◌, ℕ, suc, ◌*◌, ◌/◌, List, [], ◌++◌, cond, nat_le, Option, Some, None, Ok, Err, slice_get}
+use Rattle.std.specs.Prelude.{◌≡◌, ◌≤◌, ◌<◌, ℕ, suc, ◌*◌, ◌/◌, List, ◌++◌, cond, nat_le, Option, Some, None, Ok, Err, slice_get}
 use Rattle.raml_syntax.specs.Tree.{Text, Function, Prog}
 use Rattle.raml_syntax.specs.Value.{Value}
 use Rattle.raml_syntax.specs.Eval.{run_of}
@@ -8,13 +8,13 @@ use Rattle.raml_syntax.specs.Place.{place_of}
 use Rattle.base_poly.specs.Poly.{Term}
 use Rattle.poly_point.specs.Point.{worth}
 use Rattle.stack_compile.specs.Code.{bodies_of}
-use Rattle.stack_compile.specs.Machine.{State, Halted}
+use Rattle.stack_compile.specs.Machine.{Halted}
 use Rattle.stack_compile.specs.Laws.{at, IsGoing, Gives}
 use Rattle.metered_vm.specs.Moving.{TakesCell}
 use Rattle.metered_vm.specs.Ending.{next_of}
 use Rattle.value_text.specs.Reading.{Answers}
 use Rattle.cost_free.specs.declared.task.Meter.{Meter}
-use Rattle.cost_free.specs.declared.task.Meter.TheVariants.{Ticks, Cells, Work}
+use Rattle.cost_free.specs.declared.task.Meter.TheVariants.{Cells, Work}
 use Rattle.annot_types.specs.Program.{Program}
 use Rattle.annot_types.specs.Certificate.{Certificate}
 use Rattle.amortised_bounds.specs.Bounds.{Bounds}
@@ -22,7 +22,7 @@ use Rattle.report_text.specs.Report.{value_lines, stopped_lines, full_lines}
 use Rattle.analysis_report.specs.Floors.{Floors, IsFloor, Leaves, FloorsHold}
 use Rattle.raml_top.specs.Ending.{Ending, Done, BadData, NoFunction, Stopped, HeapFull, Overflows, AtPoint}
 use Rattle.raml_top.specs.Outside.{Side, Also, Store}
-use Rattle.raml_top.specs.Steps.{Answer, Report, Step, Test, no_names, names_of, OfFile}
+use Rattle.raml_top.specs.Steps.{Answer, Report, Step, no_names, OfFile}
 use Rattle.fault_text.specs.declared.plain.Which.TheVariants as w
 
 -- a function with its place

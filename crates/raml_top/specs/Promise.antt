@@ -19,7 +19,7 @@ use Rattle.report_text.specs.Trial.{trial_text, trial_function, trial_data, func
 use Rattle.analysis_report.specs.Lines.{lines_of, AreLines}
 use Rattle.analysis_report.specs.Floors.{Floors}
 use Rattle.raml_top.specs.Ending.{Ending, Usage, Overflows, OnTask, ending_of}
-use Rattle.raml_top.specs.Outside.{Outside, Store, Sink, Side, Promised, Needed, Also, Rises, GainsNothing, Gains, GainsFront}
+use Rattle.raml_top.specs.Outside.{Outside, Store, Sink, Side, Promised, Needed, Rises, GainsNothing, Gains, GainsFront}
 use Rattle.raml_top.specs.Steps.{Names, no_names, Answer, Report, Refusal, ending_in, Step, Prints, OfShort, OfSource, OfProgram, OfNormal}
 use Rattle.raml_top.specs.Analysis.{OfCourse, OfCertificate, OfCheck}
 use Rattle.raml_top.specs.Call.{Placed, Limits, OfFunction, OfArguments, OfCall, OfFloors, Runs, cells_or}

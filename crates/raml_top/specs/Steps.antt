@@ -1,9 +1,8 @@
 -- The steps of a call.
-use Rattle.std.specs.Prelude.{◌≡◌, ◌≤◌, ◌⊎◌, ℕ, suc, List, [], length, Some, None, Err}
+use Rattle.std.specs.Prelude.{◌≡◌, ◌≤◌, ℕ, suc, List, [], length, Some, None, Err}
 use Rattle.raml_syntax.specs.Tree.{Text, Prog}
 use Rattle.raml_syntax.specs.Types as types
 use Rattle.raml_parse.specs.Spelling as spelling
-use Rattle.simple_types.specs.Fault as types_fault
 use Rattle.simple_types.specs.Walk.{walk_program}
 use Rattle.call_groups.specs.Groups.{Grouping, IsGrouping}
 use Rattle.amortised_bounds.specs.Laws.{normal_of}

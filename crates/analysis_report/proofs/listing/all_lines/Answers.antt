@@ -1,6 +1,6 @@
 use Rattle.std.proofs.Common.{◌≡◌, ◌<◌, length, ap, sym, ◌∙◌, arith}
 use Rattle.std.proofs.lemmas.List.{length-map}
-use Rattle.raml_syntax.specs.Read.{function_of, program_of}
+use Rattle.raml_syntax.specs.Read.{function_of}
 use Rattle.share_normal.specs.Program.{source_in}
 use Rattle.rule_plan.specs.Read.{program_in}
 use Rattle.analysis_report.specs.Lines.{lines_between}

@@ -1,4 +1,4 @@
-use Rattle.std.proofs.Common.{sym, subst}
+use Rattle.std.proofs.Common.{subst}
 use Rattle.share_normal.specs.Program.{Kept}
 use Rattle.rule_plan.specs.Read.{program_in}
 use Rattle.annot_types.specs.System.{Valid}

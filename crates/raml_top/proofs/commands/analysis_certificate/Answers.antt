@@ -1,6 +1,6 @@
 use Rattle.raml_top.specs.Outside.{Promised}
 use Rattle.raml_top.specs.Analysis.{OfCourse}
-use Rattle.raml_top.specs.Promise.{PrintsLines, PrintsCertificate}
+use Rattle.raml_top.specs.Promise.{PrintsCertificate}
 use Rattle.raml_top.proofs.Proved.{kept_gives}
 use Rattle.raml_top.proofs.commands.analysis_certificate.Goals as goal
 

@@ -1,6 +1,6 @@
 use Rattle.raml_top.specs.Outside.{Promised}
 use Rattle.raml_top.specs.Analysis.{OfCourse}
-use Rattle.raml_top.specs.Promise.{PrintsLines, PrintsCertificate}
+use Rattle.raml_top.specs.Promise.{PrintsLines}
 use Rattle.raml_top.proofs.Proved.{kept_gives}
 use Rattle.raml_top.proofs.commands.analysis_lines.Goals as goal
 

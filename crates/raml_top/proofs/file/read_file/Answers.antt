@@ -1,4 +1,4 @@
-use Rattle.std.proofs.Common.{◌≡◌, ◌≤◌, ◌+◌, suc, length, subst, refl, inl, inr, arith, rules}
+use Rattle.std.proofs.Common.{◌≡◌, ◌≤◌, ◌+◌, suc, length, subst, refl, inr, arith, rules}
 use Rattle.std.specs.Prelude.{IfSome}
 use Rattle.raml_io.specs.Files.{IsFront}
 use Rattle.raml_top.specs.Outside.{store_of}

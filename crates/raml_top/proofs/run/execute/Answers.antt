@@ -1,13 +1,12 @@
-use Rattle.std.proofs.Common.{◌≡◌, ap, sym, subst, ◌∙◌}
+use Rattle.std.proofs.Common.{◌≡◌, ap, sym, subst}
 use Rattle.std.specs.Prelude.{slice_get, Some}
 use Rattle.raml_syntax.specs.Tree.{Function}
 use Rattle.raml_syntax.specs.Read.{program_of}
 use Rattle.metered_vm.specs.Seen.{Begins, cells_in}
 use Rattle.metered_vm.specs.Ending.{Ended}
 use Rattle.value_text.specs.Printing.{StandsForSome}
-use Rattle.raml_top.specs.Call.{Placed}
 use Rattle.raml_top.specs.Parts.{limits_of}
-use Rattle.raml_top.proofs.Placing.{read_at, have_arguments}
+use Rattle.raml_top.proofs.Placing.{read_at}
 use Rattle.raml_top.proofs.Running.{halted_word, halted_ran, stopped_ran, full_ran}
 use Rattle.raml_top.proofs.run.execute.Goals as goal
 

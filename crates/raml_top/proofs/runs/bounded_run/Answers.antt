@@ -1,7 +1,5 @@
-use Rattle.std.proofs.Common.{[], None}
 use Rattle.raml_syntax.specs.Read.{program_of}
 use Rattle.raml_top.specs.Outside.{Promised, store_of}
-use Rattle.raml_top.specs.Call.{Runs, cells_or}
 use Rattle.raml_top.specs.Promise.{BoundedCall}
 use Rattle.raml_top.proofs.Stepping.{call_refusal}
 use Rattle.raml_top.proofs.Calling.{call_of, call_gives}

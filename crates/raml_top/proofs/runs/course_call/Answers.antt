@@ -1,15 +1,13 @@
-use Rattle.std.proofs.Common.{◌≡◌, ◌∙◌, ap, sym, subst}
+use Rattle.std.proofs.Common.{◌∙◌, ap, subst}
 use Rattle.raml_syntax.specs.Read.{program_of}
-use Rattle.share_normal.specs.Program.{Kept, source_in}
+use Rattle.share_normal.specs.Program.{Kept}
 use Rattle.rule_plan.specs.Read.{program_in}
 use Rattle.raml_words.specs.declared.request.Rule.TheVariants as rule
 use Rattle.raml_top.specs.Outside.{Promised}
-use Rattle.raml_top.specs.Steps.{OfNormal}
-use Rattle.raml_top.specs.Analysis.{OfCourse}
 use Rattle.raml_top.specs.Call.{OfFloors}
-use Rattle.raml_top.specs.Promise.{RunsBounded, TriesCall}
+use Rattle.raml_top.specs.Promise.{RunsBounded}
 use Rattle.raml_top.specs.Parts.{Gives}
-use Rattle.raml_top.proofs.Proved.{kept_gives, course_goes, course_refused, counts_work}
+use Rattle.raml_top.proofs.Proved.{course_goes, course_refused, counts_work}
 use Rattle.raml_top.proofs.runs.course_call.Goals as goal
 
 pub floors_call-requires-clause-source : goal.floors_call-requires-clause-source

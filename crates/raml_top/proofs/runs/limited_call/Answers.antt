@@ -1,7 +1,7 @@
-use Rattle.std.proofs.Common.{None, [], sym, subst}
+use Rattle.std.proofs.Common.{[], subst}
 use Rattle.raml_syntax.specs.Read.{program_of}
 use Rattle.raml_top.specs.Outside.{Promised}
-use Rattle.raml_top.specs.Call.{Limits, Runs}
+use Rattle.raml_top.specs.Call.{Runs}
 use Rattle.raml_top.specs.Parts.{Gives}
 use Rattle.raml_top.proofs.Reporting.{ran_gives}
 use Rattle.raml_top.proofs.runs.limited_call.Goals as goal

@@ -1,11 +1,7 @@
-use Rattle.std.proofs.Common.{subst, None, Some}
 use Rattle.raml_syntax.specs.Read.{program_of}
 use Rattle.raml_top.specs.Outside.{Promised, store_of}
-use Rattle.raml_top.specs.Call.{cells_or}
-use Rattle.raml_top.specs.Promise.{ListsTypes, ListsCode, Analyses, Certifies, Verifies, RunsWithin, RunsWithBounds}
-use Rattle.raml_top.specs.Parts.{Gives}
+use Rattle.raml_top.specs.Promise.{ListsCode}
 use Rattle.raml_top.proofs.Stepping.{program_goes, program_refusal}
-use Rattle.raml_top.proofs.Reading.{program_stays}
 use Rattle.raml_top.proofs.top.code_answer.Goals as goal
 
 pub returns-in-Ok-clause-gives : goal.returns-in-Ok-clause-gives

@@ -1,7 +1,7 @@
-use Rattle.std.proofs.Common.{◌∙◌, ◌⊎◌, ap, refl, subst, inl, inr}
-use Rattle.raml_io.specs.Written.{grown, GrewByFront}
+use Rattle.std.proofs.Common.{◌⊎◌, refl, subst}
+use Rattle.raml_io.specs.Written.{GrewByFront}
 use Rattle.raml_words.specs.Words.{texts}
-use Rattle.raml_top.specs.Outside.{Sink, store_of, sink_of, outside_of, Gains, GainsFront}
+use Rattle.raml_top.specs.Outside.{store_of, sink_of, outside_of, Gains, GainsFront}
 use Rattle.raml_top.proofs.Causes.{written_cause, failed_cause, refused_cause}
 use Rattle.raml_top.proofs.One.{causes_force}
 use Rattle.raml_top.proofs.top.raml.Goals as goal
@@ -11,7 +11,7 @@ returns-in-Ok-put_all-clause-cause g c =
     let o = outside_of (texts c.args.words.now) (store_of (g.S.Store.holds c.args.store.now) (g.S.Store.faults c.args.store.now) (g.S.Store.faults c.answer.new.store))
     (sink_of (g.O.Sink.faults c.args.out.now) (g.O.Sink.faults c.put_all.new.out) (g.O.Sink.written c.args.out.now) (g.O.Sink.written c.put_all.new.out))
     (sink_of (g.E.Sink.faults c.args.err.now) (g.E.Sink.faults c.args.err.now) (g.E.Sink.written c.args.err.now) (g.E.Sink.written c.args.err.now)) in
-    written_cause o c.in-Ok.report c.in-Ok.ensures.gives (c.in-Ok-put_all.ensures.ok ∙ ap (grown (g.O.Sink.written c.args.out.now)) c.deref.ensures.value) refl
+    written_cause o c.in-Ok.report c.in-Ok.ensures.gives (subst (λ text. Gains text o.out) c.deref.ensures.value c.in-Ok-put_all.ensures.ok) refl
 
 pub returns-in-Ok-put_all-clause-forced : goal.returns-in-Ok-put_all-clause-forced
 returns-in-Ok-put_all-clause-forced g c =
@@ -19,7 +19,7 @@ returns-in-Ok-put_all-clause-forced g c =
     (sink_of (g.O.Sink.faults c.args.out.now) (g.O.Sink.faults c.put_all.new.out) (g.O.Sink.written c.args.out.now) (g.O.Sink.written c.put_all.new.out))
     (sink_of (g.E.Sink.faults c.args.err.now) (g.E.Sink.faults c.args.err.now) (g.E.Sink.written c.args.err.now) (g.E.Sink.written c.args.err.now)) in
     causes_force c.course_laws.ensures o c.in-Ok.report.status
-    (written_cause o c.in-Ok.report c.in-Ok.ensures.gives (c.in-Ok-put_all.ensures.ok ∙ ap (grown (g.O.Sink.written c.args.out.now)) c.deref.ensures.value) refl)
+    (written_cause o c.in-Ok.report c.in-Ok.ensures.gives (subst (λ text. Gains text o.out) c.deref.ensures.value c.in-Ok-put_all.ensures.ok) refl)
 
 pub returns-in-Err-put_all-clause-cause : goal.returns-in-Err-put_all-clause-cause
 returns-in-Err-put_all-clause-cause g c =

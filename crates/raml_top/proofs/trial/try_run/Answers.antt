@@ -3,10 +3,7 @@ use Rattle.rule_plan.specs.Read.{program_in}
 use Rattle.report_text.specs.Trial.{functions_line}
 use Rattle.report_text.specs.Claims.{lines_text}
 use Rattle.analysis_report.specs.Lines.{lines_of}
-use Rattle.raml_top.specs.Outside.{Promised}
-use Rattle.raml_top.specs.Promise.{RunsTrial}
-use Rattle.raml_top.specs.Parts.{Gives}
-use Rattle.std.proofs.Common.{◌++◌, ◌∙◌, sym, ap, subst}
+use Rattle.std.proofs.Common.{◌++◌, ◌∙◌, sym, ap}
 use Rattle.raml_top.proofs.Reporting.{front_gives, with_front}
 use Rattle.raml_top.proofs.trial.try_run.Goals as goal
 
