@@ -118,10 +118,12 @@ fn runs_have_their_bounds(rt: HostRuntime) -> Result<(), Fail> {
 }
 
 // The certificate of `append` at degree 1 with the meters of version 1.
-const FOR_APPEND: &str = r#"{"blocks":[{"budget":0,"function":0,"group":0,"hints":[[{"let":[[[0,"1"]]]},{"call":[]}]],"kind":"free","sigs":[[[[0,"1"]],[[0,"1"]]]],"target":0},{"budget":1,"function":0,"group":0,"hints":[[{"let":[[[0,"1"],[1,"1"]]]},{"call":[[0,"1"]]}]],"kind":"free","sigs":[[[[1,"1"],[2,"1"]],[[1,"1"]]]],"target":1},{"group":0,"hints":[[{"let":[[]]},{"call":[]}]],"kind":"ticks","sigs":[[[],[]]]},{"group":0,"hints":[[{"let":[[[0,"1"]]]},{"call":[[0,"1"]]}]],"kind":"cells","sigs":[[[[2,"1"]],[]]]}],"degree":1,"scale":{"cells":"1","ticks":"1"},"version":1}"#;
+const FOR_APPEND: &str =
+    r#"{"blocks":[{"budget":0,"function":0,"group":0,"hints":[[{"let":[[[0,"1"]]]},{"call":[]}]],"kind":"free","sigs":[[[[0,"1"]],[[0,"1"]]]],"target":0},{"budget":1,"function":0,"group":0,"hints":[[{"let":[[[0,"1"],[1,"1"]]]},{"call":[[0,"1"]]}]],"kind":"free","sigs":[[[[1,"1"],[2,"1"]],[[1,"1"]]]],"target":1},{"group":0,"hints":[[{"let":[[]]},{"call":[]}]],"kind":"ticks","sigs":[[[],[]]]},{"group":0,"hints":[[{"let":[[[0,"1"]]]},{"call":[[0,"1"]]}]],"kind":"cells","sigs":[[[[2,"1"]],[]]]}],"degree":1,"scale":{"cells":"1","ticks":"1"},"version":1}"#;
 
 // A text of it, what stands in its place, and what `verify` answers.
-const ALTERED: &str = r#""version":1 => "version":1 => 0 append ticks <= 0; append cells <= 1*<[_], []>
+const ALTERED: &str =
+    r#""version":1 => "version":1 => 0 append ticks <= 0; append cells <= 1*<[_], []>
 "version":1 => "version":9 => 7 raml: certificate: shape in head
 "degree":1 => "degree":5 => 7 raml: certificate: shape in head
 "sigs":[[[[0,"1"]],[[0,"1"]]]],"target":0 => "sigs":[[[],[]]],"target":0 => 7 raml: certificate: block 0 fails at 0 index 0
@@ -134,7 +136,8 @@ const ALTERED: &str = r#""version":1 => "version":1 => 0 append ticks <= 0; appe
 "version":1} => "version":1}x => 7 raml: certificate: not json"#;
 
 // The certificate of `spin` at degree 1 with the meters of version 1.
-const FOR_SPIN: &str = r#"{"blocks":[{"budget":0,"function":0,"group":0,"hints":[[{"call":[]}]],"kind":"free","sigs":[[[],[[0,"1"]]]],"target":0},{"farkas":[[1,"1"]],"group":0,"kind":"ticks"},{"group":0,"hints":[[{"call":[]}]],"kind":"cells","sigs":[[[],[]]]}],"degree":1,"scale":{"cells":"1","ticks":"1"},"version":1}"#;
+const FOR_SPIN: &str =
+    r#"{"blocks":[{"budget":0,"function":0,"group":0,"hints":[[{"call":[]}]],"kind":"free","sigs":[[[],[[0,"1"]]]],"target":0},{"farkas":[[1,"1"]],"group":0,"kind":"ticks"},{"group":0,"hints":[[{"call":[]}]],"kind":"cells","sigs":[[[],[]]]}],"degree":1,"scale":{"cells":"1","ticks":"1"},"version":1}"#;
 
 const SPIN_ALTERED: &str = r#""version":1 => "version":1 => 0 spin ticks no bound; spin cells <= 0
 [[1,"1"]],"group":0,"kind":"ticks" => [[0,"1"]],"group":0,"kind":"ticks" => 7 raml: certificate: block 1 does not refute
@@ -287,7 +290,8 @@ fn tasks_have_limits(rt: HostRuntime) -> Result<(), Fail> {
     write!(source, "fun wide (x : {lists}) : {lists} = x")?;
     let front = "8 raml: too large: wide free budget 4 target 0: indices\n";
     check_front(&rt, alloc, &words, source.as_str(), "", front)?;
-    let lists = "a : int list, b : int list, c : int list, d : int list, e : int list, f : int list, g : int list, h : int list";
+    let lists =
+        "a : int list, b : int list, c : int list, d : int list, e : int list, f : int list, g : int list, h : int list";
     let mut source = String::new(alloc);
     write!(
         source,

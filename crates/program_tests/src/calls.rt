@@ -185,7 +185,8 @@ const BOUNDED: &str =
 const CUT: &str =
     "10 stopped\nticks 3\ncells 0\ninstructions 2\nticks bound 3\ncells bound 0\nwork bound 3\n";
 
-const CERTIFICATE: &str = "0 {\"blocks\":[{\"budget\":0,\"function\":0,\"group\":0,\"hints\":[[]],\"kind\":\"free\",\"sigs\":[[[[0,\"1\"]],[[0,\"1\"]]]],\"target\":0},{\"group\":0,\"hints\":[[]],\"kind\":\"ticks\",\"sigs\":[[[[0,\"3\"]],[]]]},{\"group\":0,\"hints\":[[]],\"kind\":\"cells\",\"sigs\":[[[],[]]]},{\"group\":0,\"hints\":[[]],\"kind\":\"work\",\"sigs\":[[[[0,\"3\"]],[]]]}],\"degree\":1,\"scale\":{\"cells\":\"1\",\"ticks\":\"1\",\"work\":\"1\"},\"version\":2}\n";
+const CERTIFICATE: &str =
+    "0 {\"blocks\":[{\"budget\":0,\"function\":0,\"group\":0,\"hints\":[[]],\"kind\":\"free\",\"sigs\":[[[[0,\"1\"]],[[0,\"1\"]]]],\"target\":0},{\"group\":0,\"hints\":[[]],\"kind\":\"ticks\",\"sigs\":[[[[0,\"3\"]],[]]]},{\"group\":0,\"hints\":[[]],\"kind\":\"cells\",\"sigs\":[[[],[]]]},{\"group\":0,\"hints\":[[]],\"kind\":\"work\",\"sigs\":[[[[0,\"3\"]],[]]]}],\"degree\":1,\"scale\":{\"cells\":\"1\",\"ticks\":\"1\",\"work\":\"1\"},\"version\":2}\n";
 
 const TRIAL: &str = "0 functions 2
 c1 ticks <= 0
@@ -348,10 +349,7 @@ fn each_status_has_its_number(rt: HostRuntime) {
         ),
         (Status::Data(DataFault::Shape { at }), 5),
         (Status::NoFunction, 6),
-        (
-            Status::Certificate(CertAnswer::NotRefuted { block: 0 }),
-            7,
-        ),
+        (Status::Certificate(CertAnswer::NotRefuted { block: 0 }), 7),
         (
             Status::TooLarge {
                 task,
