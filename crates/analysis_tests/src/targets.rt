@@ -2,13 +2,27 @@
 use crate::index_text::write_tuples;
 use crate::types::last_type;
 use base_poly::IndexFault;
-use cost_free::targets;
+use cost_free::{TargetList, targets};
 use raml_syntax::Ty;
 use std::alloc::Global;
 use std::process::Abort;
 use std::test::Fail;
 
 mod tables;
+
+// The tuples of the target of this number.
+fn write_target(
+    alloc: Global,
+    out: &mut String,
+    targets: &TargetList<'_>,
+    number: usize,
+) -> Result<(), Fail> {
+    match targets.get(alloc, number)? {
+        Some(target) => write_tuples(out, target.tuples())?,
+        None => out.push_str(" none")?,
+    }
+    Ok(())
+}
 
 // The targets at the degrees from 1 to 3, as the table has them.
 fn listed(alloc: Global, ty: &Ty) -> Result<String, Fail> {
@@ -17,10 +31,10 @@ fn listed(alloc: Global, ty: &Ty) -> Result<String, Fail> {
         let found = targets(alloc, ty, d)?;
         let head = format!(in alloc; "degree {d}: {} targets\n", found.len())?;
         out.push_str(head.as_str())?;
-        for (number, target) in found.iter().enumerate() {
+        for number in 0..found.len() {
             let head = format!(in alloc; "  {number}:")?;
             out.push_str(head.as_str())?;
-            write_tuples(&mut out, target.tuples())?;
+            write_target(alloc, &mut out, &found, number)?;
         }
     }
     Ok(out)

@@ -1,8 +1,8 @@
 -- What a walk over the schedule tells.
 use Rattle.std.proofs.Common.{◌≡◌, ◌<◌, ◌≤◌, ◌+◌, ℕ, zero, suc, Bool, true, false, cond, List, [], ◌∷◌, ◌++◌, map, flat_map, length, take, drop, Option, None, Some, slice_get}
-use Rattle.std.proofs.Common.{refl, sym, ap, ◌∙◌, subst, arith, append_assoc, append-nil, length-append, nat_le, ⊎_elim, ◌⊎◌, inl, inr}
+use Rattle.std.proofs.Common.{refl, sym, ap, ◌∙◌, subst, arith, append_assoc, append-nil, length-append, nat_le, ◌⊎◌, inl, inr}
 use Rattle.std.specs.Option.{unwrap_or}
-use Rattle.std.specs.List.{list_any, range_with_len}
+use Rattle.std.specs.List.{range_with_len}
 use Rattle.std.proofs.Math.Seq.{take-append_seam}
 use Rattle.std.proofs.lemmas.List.{take-append-le}
 use Rattle.raml_syntax.specs.Tree.{Type'}
@@ -11,8 +11,8 @@ use Rattle.cost_free.specs.Target.{Target, degree_of}
 use Rattle.cost_free.specs.Task.{Task, Kind, Free, With, Outcome, Ticks, Cells, Work}
 use Rattle.cost_free.specs.Blocked.{row}
 use Rattle.cost_free.specs.Schedule.{targets_at, tasks_for, free_tasks, group_tasks, tasks_from, meters, is_left_out, next_of}
-use Rattle.cost_free.specs.Refused.{Plan, next_in, any_has_more, has_more, IsRefused}
-use Rattle.cost_free.specs.Walk.{Place, Knows, is_solved, open_from, first, into, at, advanced, passed, AreOf, HasCome, GroupCame, Fits, MayEnter, CantEnter, Taken, StaysAt, Stands}
+use Rattle.cost_free.specs.Refused.{Plan, next_in, any_has_more, IsRefused}
+use Rattle.cost_free.specs.Walk.{Place, Knows, is_solved, open_from, first, into, at, advanced, passed, AreOf, HasCome, Fits, MayEnter, CantEnter, Taken, StaysAt, Stands}
 
 -- One step of the schedule
 

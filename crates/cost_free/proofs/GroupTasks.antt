@@ -1,5 +1,5 @@
 -- The tasks of a group, one after the other.
-use Rattle.std.proofs.Common.{◌≡◌, ℕ, zero, suc, ◌+◌, ◌-◌, ◌<◌, nat_le, Bool, true, false, cond, List, [], ◌∷◌, ◌++◌, map, flat_map, drop, length, slice_get, slice_index_or, refl, sym, ap, ◌∙◌, arith, append_assoc, append-nil}
+use Rattle.std.proofs.Common.{◌≡◌, ℕ, zero, suc, ◌+◌, ◌-◌, ◌<◌, nat_le, Bool, cond, List, [], ◌∷◌, ◌++◌, map, flat_map, drop, length, slice_get, slice_index_or, refl, sym, ap, ◌∙◌, arith, append_assoc, append-nil}
 use Rattle.std.specs.List.{range_with_len}
 use Rattle.std.proofs.lemmas.List.{drop_more}
 use Rattle.std.proofs.lemmas.List.Folds.{flat_map-map}
@@ -12,7 +12,7 @@ use Rattle.raml_syntax.specs.declared.ty.Ty.{Ty}
 use Rattle.base_poly.specs.Read.{context_of}
 use Rattle.cost_free.specs.Target.{Target, degree_of}
 use Rattle.cost_free.specs.Task.{Task, Free, With}
-use Rattle.cost_free.specs.Schedule.{targets_at, tasks_for, free_tasks, group_tasks, meters}
+use Rattle.cost_free.specs.Schedule.{targets_at, tasks_for, group_tasks, meters}
 use Rattle.cost_free.specs.Refused.{Plan}
 use Rattle.cost_free.specs.Numbered.{with_targets, tasks_of_all}
 
@@ -22,17 +22,18 @@ got results k ty low is = sym (slice_get-map ty_of results k ∙ ap (option_map 
 
 module _ (results : List Type') (d : ℕ) (work : Bool) (group budget fun : ℕ) where
   -- one target more
-  pub tasks_step : (ts : List Target) (place : ℕ) (t : Target) (old new all : List Task) → place < length ts → t ≡ slice_index_or ts place t
-      → new ≡ old ++ cond (nat_le (degree_of t) budget) (record { group = group; kind = Free budget fun place } ∷ []) []
+  pub tasks_step : (ts : List Target) (place : ℕ) (old new all : List Task) → place < length ts
+      → new ≡ old ++ cond (nat_le (degree_of (slice_index_or ts place [])) budget) (record { group = group; kind = Free budget fun place } ∷ []) []
       → old ++ tasks_for results d work group budget fun place (drop place ts) ≡ all
       → new ++ tasks_for results d work group budget fun (place + 1) (drop (place + 1) ts) ≡ all
-  tasks_step ts place t old new all low is made before =
+  tasks_step ts place old new all low made before =
+      let t = slice_index_or ts place [] in
       let here = cond (nat_le (degree_of t) budget) (record { group = group; kind = Free budget fun place } ∷ []) [] in
       let rest = drop (place + 1) ts in
       let next : place + 1 ≡ suc place = omega arith in
       (λ i. made i ++ tasks_for results d work group budget fun (next i) rest)
       ∙ append_assoc old here (tasks_for results d work group budget fun (suc place) rest)
-      ∙ ap (λ l. old ++ tasks_for results d work group budget fun place l) (sym (drop_more ts place t low ∙ ap (λ x. x ∷ rest) (sym is)))
+      ∙ ap (λ l. old ++ tasks_for results d work group budget fun place l) (sym (drop_more ts place [] low))
       ∙ before
 
 -- one budget more

@@ -5,6 +5,8 @@ pub mod Sets
 pub mod Cuts
 pub mod Low
 pub mod Put
+pub mod First
+pub mod Listed
 pub mod GroupTasks
 pub mod Steps
 pub mod Course

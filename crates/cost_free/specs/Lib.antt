@@ -1,5 +1,6 @@
 pub mod Target
 pub mod Cut
+pub mod Joining
 pub mod Task
 pub mod Schedule
 pub mod Blocked

@@ -5,15 +5,14 @@ use Rattle.std.specs.Borrow.{Bor}
 use Rattle.raml_syntax.specs.Read.{ty_of}
 use Rattle.raml_syntax.specs.declared.program.FunId.{FunId}
 use Rattle.base_poly.specs.Plain.{Plain}
-use Rattle.base_poly.specs.Read.{index_of, plains_of, context_of}
+use Rattle.base_poly.specs.Read.{plains_of, context_of}
 use Rattle.base_poly.specs.declared.index.Index.{Index}
 use Rattle.cost_free.specs.Target as p
 use Rattle.cost_free.specs.declared.holder.Holder.{Holder}
 use Rattle.cost_free.specs.Refused as s
 use Rattle.cost_free.specs.Walk as w
-use Rattle.cost_free.specs.declared.joined.Joined.{Joined}
 use Rattle.cost_free.specs.declared.plan.Plan.{Plan}
-use Rattle.cost_free.specs.declared.group.Numbered.{Numbered}
+use Rattle.cost_free.specs.declared.numbered.Numbered.{Numbered}
 use Rattle.cost_free.specs.declared.walk.Walk.{Walk}
 use Rattle.cost_free.specs.Task as t
 use Rattle.cost_free.specs.declared.task.Task.{Task}
@@ -58,17 +57,11 @@ places_of hs = map (λ (h : Holder). h.place) hs
 abbrev pub pieces_of : List (Bor (List Index)) → List (List Plain)
 pieces_of ps = map (λ (p : Bor (List Index)). plains_of p.now) ps
 
-abbrev pub joined_of : Joined → p.Joined
-joined_of j = record { list = index_of j.list; places = j.places.items; target = j.tuples.items }
-
-abbrev pub all_joined : List Joined → List p.Joined
-all_joined js = map joined_of js
-
 abbrev pub plan_of : Plan → s.Plan
 plan_of p = record { results = context_of p.results.now; groups = lists_of p.groups.now; degree = p.degree; work = p.work }
 
 abbrev pub numbered_of : Numbered → ℕ × List p.Target
-numbered_of n = (n.fun.0, n.targets.items)
+numbered_of n = (n.fun.0, n.targets)
 
 abbrev pub all_numbered : List Numbered → List (ℕ × List p.Target)
 all_numbered ns = map numbered_of ns

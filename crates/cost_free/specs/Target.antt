@@ -78,6 +78,12 @@ pieces zero [] = [] ∷ []
 pieces zero (i ∷ is) = []
 pieces (suc n) is = flat_map (λ c. map (λ p. c.0 ∷ p) (pieces n c.1)) (cuts is)
 
+-- the one of them whose last piece has all entries, where n is positive
+abbrev pub last_piece : ℕ → List Plain → List (List Plain)
+last_piece zero is = []
+last_piece (suc zero) is = is ∷ []
+last_piece (suc (suc n)) is = [] ∷ last_piece (suc n) is
+
 -- the piece for the component at a place, where there is one
 abbrev pub piece_at : ℕ → List ℕ → List (List Plain) → Option (List Plain)
 piece_at k (p ∷ places) (x ∷ xs) = cond (nat_eq k p) (Some x) (piece_at k places xs)

@@ -1,15 +1,13 @@
-// Which targets a budget allows.
-ghost use Rattle.std.specs.Prelude.{◌≡◌, nat_le};
+// Degrees of indices and tuples.
+ghost use Rattle.std.specs.Prelude.{◌≡◌};
 ghost use Rattle.base_poly.specs.Plain.{many, deg, degrees, capped};
 ghost use Rattle.base_poly.specs.Read.{index_of, plains_of};
-ghost use Rattle.cost_free.specs.Target.{degree_of};
 
-use crate::target::Target;
-use base_poly::Index;
+use base_poly::{Index, Tuple};
 
-// The degree, or 2^32 - 1 where it is greater.
+/// The degree, or 2^32 - 1 where it is greater.
 #[cycle(degree)]
-fn capped_degree(index: &Index) -> u32
+pub fn capped_degree(index: &Index) -> u32
     ensures { result ≡ capped (deg (index_of index.now)) }
 {
     match index {
@@ -42,19 +40,9 @@ fn degree_of_parts(parts: &[Index]) -> u32
     sum
 }
 
-// The degree of the target, or 2^32 - 1 where it is greater.
-fn degree_of_target(target: &Target) -> u32
-    ensures { result ≡ capped (degree_of target.now) }
+/// The degree of the tuple, or 2^32 - 1 where it is greater.
+pub fn tuple_degree(tuple: &Tuple) -> u32
+    ensures { result ≡ capped (degrees tuple.now) }
 {
-    match target.tuples() {
-        [] => 0,
-        [first, _rest @ ..] => degree_of_parts(first.parts()),
-    }
-}
-
-/// Whether the target's degree is at most the budget.
-pub fn is_within(target: &Target, budget: u8) -> bool
-    ensures { result ≡ nat_le (degree_of target.now) budget }
-{
-    degree_of_target(target) <= u32::from(budget)
+    degree_of_parts(tuple.parts())
 }

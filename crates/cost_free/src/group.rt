@@ -1,27 +1,21 @@
 // The tasks of one group.
-ghost use Rattle.std.specs.Prelude.{◌≡◌, ◌<◌, ◌^◌, ◌+◌, [], ◌∷◌, ◌++◌, List, map, flat_map, false, true, slice_get, IfOk, OnOk, IsErrOf};
+ghost use Rattle.std.specs.Prelude.{◌≡◌, ◌<◌, ◌^◌, ◌+◌, ℕ, nat_le, [], ◌∷◌, ◌++◌, List, map, flat_map, false, true, slice_get, IfOk, OnOk, IsErrOf};
 ghost use Rattle.std.specs.List.{range_with_len};
 ghost use Rattle.base_poly.specs.Read.{context_of};
+ghost use Rattle.base_poly.specs.Plain.{capped};
 ghost use Rattle.cost_free.specs.Task as plain;
 ghost use Rattle.cost_free.specs.Schedule.{targets_at, tasks_for, free_tasks, group_tasks, meters};
 ghost use Rattle.cost_free.specs.Refused.{has_more, any_has_more};
 ghost use Rattle.cost_free.specs.Read.{ids_of, task_of, tasks_of, plan_of, numbered_of, all_numbered, kind_of};
 ghost use Rattle.cost_free.specs.Numbered.{tasks_of_all, with_targets};
 
-use crate::degree::is_within;
+use crate::numbered::Numbered;
 use crate::plan::Plan;
-use crate::target::{Target, targets_within};
+use crate::target::{TargetList, no_targets, targets_within};
 use crate::task::{Meter, Task, TaskKind};
 use base_poly::IndexFault;
 use raml_syntax::FunId;
 use std::alloc::{AllocError, Global};
-
-/// A function and its targets.
-#[derive(Drop)]
-pub struct Numbered {
-    pub fun: FunId,
-    pub targets: Vec<Target>,
-}
 
 // The number of what stands at a place. So many have no room in memory that each has one.
 fn number_of(place: usize) -> Result<u32, AllocError>
@@ -31,29 +25,45 @@ fn number_of(place: usize) -> Result<u32, AllocError>
 }
 
 // The targets of a function, if it is one.
-fn targets_of(
+fn targets_of<'a>(
     alloc: Global,
-    plan: Plan<'_>,
+    plan: Plan<'a>,
     fun: FunId,
     most: usize,
-) -> Result<Vec<Target>, IndexFault>
-    ensures all { IfOk result (λ found. found.items ≡ targets_at (slice_get (plan_of plan.entry).results fun.0) plan.entry.degree) }
+) -> Result<TargetList<'a>, IndexFault>
+    ensures all { IfOk result (λ found. found ≡ targets_at (slice_get (plan_of plan.entry).results fun.0) plan.entry.degree) }
     ensures few { OnOk result (has_more most plan.entry.degree (slice_get (plan_of plan.entry).results fun.0) ≡ false) }
     ensures many { IsErrOf result IndexFault.TooMany → has_more most plan.entry.degree (slice_get (plan_of plan.entry).results fun.0) ≡ true }
 {
     match plan.results.get(fun.0 as usize) {
-        None => Ok(Vec::new(alloc)),
+        None => Ok(no_targets(alloc)),
         Some(ty) => targets_within(alloc, ty, plan.degree, most),
     }
 }
 
-// The functions with their targets.
-fn with_targets(
+// A function with its targets.
+fn with_degrees<'a>(
     alloc: Global,
-    plan: Plan<'_>,
+    fun: FunId,
+    targets: TargetList<'a>,
+) -> Result<Numbered<'a>, AllocError>
+    ensures { IfOk result (λ one. numbered_of one ≡ (fun.0, targets.entry)) }
+{
+    let degrees = targets.degrees(alloc)?;
+    Ok(Numbered {
+        fun,
+        targets,
+        degrees,
+    })
+}
+
+// The functions with their targets.
+fn with_targets<'a>(
+    alloc: Global,
+    plan: Plan<'a>,
     funs: &[FunId],
     most: usize,
-) -> Result<Vec<Numbered>, IndexFault>
+) -> Result<Vec<Numbered<'a>>, IndexFault>
     ensures all { IfOk result (λ found. all_numbered found.items ≡ with_targets (plan_of plan.entry) (ids_of funs.now)) }
     ensures few { OnOk result (any_has_more most (plan_of plan.entry) (ids_of funs.now) ≡ false) }
     ensures many { IsErrOf result IndexFault.TooMany → any_has_more most (plan_of plan.entry) (ids_of funs.now) ≡ true }
@@ -61,7 +71,7 @@ fn with_targets(
     let mut found = Vec::with_capacity(alloc, funs.len())?;
     for &fun in funs {
         let targets = targets_of(alloc, plan, fun, most)?;
-        found.push(Numbered { fun, targets })?;
+        found.push(with_degrees(alloc, fun, targets)?)?;
     }
     Ok(found)
 }
@@ -74,19 +84,26 @@ fn append_task(tasks: &mut Vec<Task>, group: u32, kind: TaskKind) -> Result<(), 
     Ok(())
 }
 
+// Whether the budget allows the degree.
+fn is_within(degree: u32, budget: u8) -> bool
+    ensures { (n : ℕ) → degree ≡ capped n → result ≡ nat_le n budget }
+{
+    degree <= u32::from(budget)
+}
+
 // Appends a function's tasks at a budget.
 fn append_tasks_for(
     tasks: &mut Vec<Task>,
     plan: Plan<'_>,
     group: u32,
     budget: u8,
-    one: &Numbered,
+    one: &Numbered<'_>,
 ) -> Result<(), AllocError>
     ensures { OnOk result (tasks_of tasks.new.items
         ≡ tasks_of tasks.old.items ++ tasks_for (plan_of plan.entry).results plan.entry.degree plan.entry.work group budget (numbered_of one.now).0 0 (numbered_of one.now).1) }
 {
-    for place in 0..one.targets.len() {
-        if !is_within(&one.targets[place], budget) {
+    for place in 0..one.degrees.len() {
+        if !is_within(one.degrees[place], budget) {
             continue;
         }
         let target = number_of(place)?;
@@ -109,7 +126,7 @@ fn append_tasks_at(
     plan: Plan<'_>,
     group: u32,
     budget: u8,
-    numbered: &[Numbered],
+    numbered: &[Numbered<'_>],
 ) -> Result<(), AllocError>
     ensures { OnOk result (tasks_of tasks.new.items ≡ tasks_of tasks.old.items ++ tasks_of_all (plan_of plan.entry) group budget (all_numbered numbered.now)) }
 {
@@ -124,7 +141,7 @@ fn append_free_tasks(
     tasks: &mut Vec<Task>,
     plan: Plan<'_>,
     group: u32,
-    numbered: &[Numbered],
+    numbered: &[Numbered<'_>],
 ) -> Result<(), AllocError>
     ensures { OnOk result (tasks_of tasks.new.items
         ≡ tasks_of tasks.old.items
@@ -153,7 +170,7 @@ fn all_tasks(
     alloc: Global,
     plan: Plan<'_>,
     group: u32,
-    numbered: &[Numbered],
+    numbered: &[Numbered<'_>],
 ) -> Result<Vec<Task>, AllocError>
     ensures { IfOk result (λ tasks. tasks_of tasks.items
         ≡ flat_map (λ budget. tasks_of_all (plan_of plan.entry) group budget (all_numbered numbered.now)) (range_with_len 0 (plan.entry.degree + 1))

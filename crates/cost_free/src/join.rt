@@ -1,14 +1,14 @@
 // The joined targets of a type.
-ghost use Rattle.std.specs.Prelude.{◌≡◌, ◌≤◌, [], ◌∷◌, ◌++◌, All, map, flat_map, filter, nat_lt, IfOk, OnOk};
+ghost use Rattle.std.specs.Prelude.{◌≡◌, ◌≤◌, ◌<◌, [], ◌∷◌, ◌++◌, All, map, flat_map, filter, nat_lt, length, IfOk, OnOk};
 ghost use Rattle.raml_syntax.specs.Tree.{ListOf};
 ghost use Rattle.raml_syntax.specs.Read.{ty_of};
-ghost use Rattle.base_poly.specs.Plain.{many, deg, entries_of};
+ghost use Rattle.base_poly.specs.Plain.{many, deg};
 ghost use Rattle.base_poly.specs.Indices.{index_list};
 ghost use Rattle.base_poly.specs.Read.{index_of, plains_of};
-ghost use Rattle.cost_free.specs.Target.{cut_lists, filled, pieces, joined, joined_over, joined_sets};
-ghost use Rattle.cost_free.specs.Read.{holders_of, sets_of, places_of, joined_of, all_joined};
+ghost use Rattle.cost_free.specs.Target.{cut_lists, joined, joined_over, joined_sets};
+ghost use Rattle.cost_free.specs.Joining.{joined_of, all_joined};
+ghost use Rattle.cost_free.specs.Read.{holders_of, sets_of, places_of};
 
-use crate::fill::append_filled;
 use crate::holder::{Holder, joined_sets};
 use crate::joined::Joined;
 use base_poly::{Index, Tuple, indices};
@@ -93,15 +93,6 @@ fn list_tuples(alloc: Global, element: &Ty, d: u8) -> Result<Vec<Tuple>, AllocEr
     all_indices(alloc, list, d)
 }
 
-fn entries(index: &Index) -> &[Index]
-    ensures { plains_of result.now ≡ entries_of (index_of index.now) }
-{
-    match index {
-        Index::List(entries) => entries,
-        Index::Unit | Index::Pair(..) | Index::Opt(_) => &[],
-    }
-}
-
 fn places(alloc: Global, holders: &[Holder<'_>]) -> Result<Vec<usize>, AllocError>
     ensures { IfOk result (λ places. places.items ≡ places_of holders.now) }
 {
@@ -112,54 +103,37 @@ fn places(alloc: Global, holders: &[Holder<'_>]) -> Result<Vec<usize>, AllocErro
     Ok(places)
 }
 
-// A tuple for each cut of the list index over the components.
-fn cut_tuples(
-    alloc: Global,
-    ty: &Ty,
-    holders: &[Holder<'_>],
-    list: &Index,
-) -> Result<Vec<Tuple>, AllocError>
-    ensures { IfOk result (λ tuples. tuples.items ≡ (joined (ty_of ty.now) (places_of holders.now) (index_of list.now)).target) }
-{
-    let mut tuples = Vec::new(alloc);
-    let mut before = Vec::new(alloc);
-    append_filled(
-        alloc,
-        &mut tuples,
-        ty,
-        holders,
-        &mut before,
-        holders.len(),
-        entries(list),
-    )?;
-    Ok(tuples)
-}
-
 // The joined target of the components and the list index.
-fn joined(alloc: Global, ty: &Ty, holders: &[Holder<'_>], list: Index) -> Result<Joined, AllocError>
-    requires { deg (index_of list) ≤ 255 }
+fn joined<'a>(
+    alloc: Global,
+    ty: &'a Ty,
+    holders: &[Holder<'_>],
+    list: Index,
+) -> Result<Joined<'a>, AllocError>
+    requires some { 0 < length holders.now }
+    requires low { deg (index_of list) ≤ 255 }
     ensures { IfOk result (λ j. joined_of j ≡ joined (ty_of ty.now) (places_of holders.now) (index_of list)) }
 {
-    let tuples = cut_tuples(alloc, ty, holders, &list)?;
     let places = places(alloc, holders)?;
     let degree = list.degree();
     Ok(Joined {
+        ty,
         list,
         degree,
         places,
-        tuples,
     })
 }
 
 // Appends those of the components and each of the list indices.
-fn append_joined(
+fn append_joined<'a>(
     alloc: Global,
-    found: &mut Vec<Joined>,
-    ty: &Ty,
+    found: &mut Vec<Joined<'a>>,
+    ty: &'a Ty,
     holders: &[Holder<'_>],
     lists: Vec<Index>,
 ) -> Result<(), AllocError>
-    requires { All (λ i. deg (index_of i) ≤ 255) lists.items }
+    requires some { 0 < length holders.now }
+    requires low { All (λ i. deg (index_of i) ≤ 255) lists.items }
     ensures { OnOk result (all_joined found.new.items ≡ all_joined found.old.items ++ map (joined (ty_of ty.now) (places_of holders.now)) (plains_of lists.items)) }
 {
     for list in lists {
@@ -169,10 +143,10 @@ fn append_joined(
 }
 
 // Appends those of the components.
-fn append_joined_over(
+fn append_joined_over<'a>(
     alloc: Global,
-    found: &mut Vec<Joined>,
-    ty: &Ty,
+    found: &mut Vec<Joined<'a>>,
+    ty: &'a Ty,
     d: u8,
     holders: &[Holder<'_>],
 ) -> Result<(), AllocError>
@@ -189,12 +163,12 @@ fn append_joined_over(
 }
 
 // Those of each of the sets.
-fn joined_over_all(
+fn joined_over_all<'a>(
     alloc: Global,
-    ty: &Ty,
+    ty: &'a Ty,
     d: u8,
     sets: &[Vec<Holder<'_>>],
-) -> Result<Vec<Joined>, AllocError>
+) -> Result<Vec<Joined<'a>>, AllocError>
     ensures { IfOk result (λ found. all_joined found.items ≡ flat_map (joined_over (ty_of ty.now) d) (sets_of sets.now)) }
 {
     let mut found = Vec::new(alloc);
@@ -205,7 +179,7 @@ fn joined_over_all(
 }
 
 /// All joined targets of the type at degree `d`, set by set.
-pub fn all_joined(alloc: Global, ty: &Ty, d: u8) -> Result<Vec<Joined>, AllocError>
+pub fn all_joined<'a>(alloc: Global, ty: &'a Ty, d: u8) -> Result<Vec<Joined<'a>>, AllocError>
     ensures { IfOk result (λ found. all_joined found.items ≡ flat_map (joined_over (ty_of ty.now) d) (joined_sets (ty_of ty.now))) }
 {
     let sets = joined_sets(alloc, ty)?;

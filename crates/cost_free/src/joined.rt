@@ -1,17 +1,18 @@
 // A joined target.
-ghost use Rattle.std.specs.Prelude.{◌≡◌};
+ghost use Rattle.std.specs.Prelude.{◌≡◌, ◌<◌, length};
 ghost use Rattle.base_poly.specs.Plain.{deg};
 ghost use Rattle.base_poly.specs.Read.{index_of};
 
-use base_poly::{Index, Tuple};
+use base_poly::Index;
+use raml_syntax::Ty;
 
-/// A list index, its degree, the places of the components that it is cut over, and the tuples that the
-/// cuts make.
+/// The type, a list index, its degree, and the places of the components that it is cut over.
 #[derive(Drop)]
-pub struct Joined {
+pub struct Joined<'a> {
+    pub ty: &'a Ty,
     pub list: Index,
     pub degree: u32,
     pub places: Vec<usize>,
-    pub tuples: Vec<Tuple>,
     pub ghost is_degree: { degree ≡ deg (index_of list) },
+    pub ghost some: { 0 < length places.items },
 }

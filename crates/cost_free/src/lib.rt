@@ -2,6 +2,7 @@
 //! the groups of a program. In `specs/` what the next task is, and which task has to wait for a bound.
 #![tactic(auto)]
 
+mod cutting;
 mod degree;
 mod fill;
 mod group;
@@ -9,6 +10,7 @@ mod holder;
 mod join;
 mod joined;
 pub mod laws;
+mod numbered;
 mod order;
 mod plan;
 mod schedule;
@@ -18,6 +20,6 @@ mod waiting;
 mod walk;
 
 pub use schedule::{Schedule, next};
-pub use target::{Target, targets};
+pub use target::{Target, TargetList, targets};
 pub use task::{Done, Meter, Task, TaskKind};
 pub use waiting::blocked;

@@ -1,11 +1,14 @@
-// Targets.
-ghost use Rattle.std.specs.Prelude.{◌≡◌, ◌<◌, ◌≤◌, [], ◌∷◌, ◌++◌, map, flat_map, length, IfOk, OnOk, IsErrOf};
+// TargetList.
+ghost use Rattle.std.specs.Prelude.{◌≡◌, ◌<◌, ◌≤◌, [], ◌∷◌, ◌++◌, map, length, nat_le, slice_get, slice_index_or, IfOk, OnOk, IsErrOf};
+ghost use Rattle.std.specs.Option.{option_map};
 ghost use Rattle.raml_syntax.specs.Read.{ty_of};
+ghost use Rattle.base_poly.specs.Plain.{degrees, capped};
 ghost use Rattle.base_poly.specs.Indices.{index_list};
-ghost use Rattle.cost_free.specs.Target.{targets};
+ghost use Rattle.cost_free.specs.Target.{targets, degree_of};
 ghost use Rattle.cost_free.specs.Target as plain;
-ghost use Rattle.cost_free.specs.Read.{all_joined};
+ghost use Rattle.cost_free.specs.Joining.{all_joined, joined_of};
 
+use crate::degree::tuple_degree;
 use crate::join::all_joined;
 use crate::joined::Joined;
 use crate::order::in_order;
@@ -43,12 +46,104 @@ impl Target {
     }
 }
 
+/// The numbered targets of a result type: first one for each tuple of the type, in their order, and
+/// then the joined ones. Each is made when it is asked for; contracts see the list of them.
+#[derive(Drop)]
+pub struct TargetList<'a> {
+    units: Vec<Tuple>,
+    joined: Vec<Joined<'a>>,
+}
+
+impl<'a> Model for TargetList<'a> {
+    ghost use Rattle.std.specs.Prelude.{List, [], ◌∷◌, ◌++◌, map};
+    ghost use Rattle.std.specs.Coded.{coded_list};
+    ghost use Rattle.base_poly.specs.Plain.{Plain};
+    ghost use Rattle.base_poly.specs.Stored.{coded_plain};
+    ghost use Rattle.cost_free.specs.Target as plain;
+    ghost use Rattle.cost_free.specs.Joining.{all_joined};
+
+    ghost Value = { List (List (List Plain)) };
+
+    ghost coded = { coded_list (coded_list (coded_list coded_plain)) };
+
+    ghost view = { λ targets. map (λ t. t ∷ []) targets.units.items ++ map (λ (j : plain.Joined). j.target) (all_joined targets.joined.items) };
+}
+
+impl<'a> TargetList<'a> {
+    /// How many there are.
+    pub fn len(&self) -> usize
+        ensures { result ≡ length self.now }
+    {
+        self.units.len() + self.joined.len()
+    }
+
+    /// The target of this number, where there is one.
+    pub fn get(&self, alloc: Global, number: usize) -> Result<Option<Target>, AllocError>
+        ensures { IfOk result (λ found. found ≡ slice_get self.now number) }
+    {
+        if number < self.units.len() {
+            let unit = self.units[number].copy(alloc)?;
+            let tuples = vec![in alloc; unit]?;
+            return Ok(Some(Target { tuples }));
+        }
+        match self.joined.get(number - self.units.len()) {
+            Some(joined) => {
+                let tuples = joined.tuples(alloc)?;
+                Ok(Some(Target { tuples }))
+            }
+            None => Ok(None),
+        }
+    }
+
+    /// The degrees of all targets, each 2^32 - 1 where it is greater.
+    pub(crate) fn degrees(&self, alloc: Global) -> Result<Vec<u32>, AllocError>
+        ensures { IfOk result (λ found. found.items ≡ map (λ t. capped (degree_of t)) self.now) }
+    {
+        let mut found = Vec::with_capacity(alloc, self.len())?;
+        append_unit_degrees(&mut found, &self.units)?;
+        append_joined_degrees(alloc, &mut found, &self.joined)?;
+        Ok(found)
+    }
+}
+
+fn append_unit_degrees(found: &mut Vec<u32>, units: &[Tuple]) -> Result<(), AllocError>
+    ensures { OnOk result (found.new.items ≡ found.old.items ++ map (λ t. capped (degrees t)) units.now) }
+{
+    for unit in units {
+        found.push(tuple_degree(unit))?;
+    }
+    Ok(())
+}
+
+fn append_joined_degrees(
+    alloc: Global,
+    found: &mut Vec<u32>,
+    joined: &[Joined<'_>],
+) -> Result<(), AllocError>
+    ensures { OnOk result (found.new.items ≡ found.old.items ++ map (λ j. capped (degree_of (joined_of j).target)) joined.now) }
+{
+    for one in joined {
+        found.push(one.tuple_degree(alloc)?)?;
+    }
+    Ok(())
+}
+
+/// No targets.
+pub(crate) fn no_targets<'a>(alloc: Global) -> TargetList<'a>
+    ensures { result ≡ [] }
+{
+    TargetList {
+        units: Vec::new(alloc),
+        joined: Vec::new(alloc),
+    }
+}
+
 /// The numbered targets of a result type at degree `d`: first one for each tuple of the type of degree
 /// at most `d`, in their order, and then the joined ones.
 ///
 /// `TooMany` exactly where the type has more than 2000 indices of degree at most `d`.
-pub fn targets(alloc: Global, ty: &Ty, d: u8) -> Result<Vec<Target>, IndexFault>
-    ensures all { IfOk result (λ found. found.items ≡ targets (ty_of ty.now) d) }
+pub fn targets<'a>(alloc: Global, ty: &'a Ty, d: u8) -> Result<TargetList<'a>, IndexFault>
+    ensures all { IfOk result (λ found. found ≡ targets (ty_of ty.now) d) }
     ensures few { OnOk result (length (index_list (ty_of ty.now ∷ []) d) ≤ 2000) }
     ensures many { IsErrOf result IndexFault.TooMany → 2000 < length (index_list (ty_of ty.now ∷ []) d) }
 {
@@ -56,13 +151,13 @@ pub fn targets(alloc: Global, ty: &Ty, d: u8) -> Result<Vec<Target>, IndexFault>
 }
 
 /// The same, where the type has at most so many indices.
-pub(crate) fn targets_within(
+pub(crate) fn targets_within<'a>(
     alloc: Global,
-    ty: &Ty,
+    ty: &'a Ty,
     d: u8,
     most: usize,
-) -> Result<Vec<Target>, IndexFault>
-    ensures all { IfOk result (λ found. found.items ≡ targets (ty_of ty.now) d) }
+) -> Result<TargetList<'a>, IndexFault>
+    ensures all { IfOk result (λ found. found ≡ targets (ty_of ty.now) d) }
     ensures few { OnOk result (length (index_list (ty_of ty.now ∷ []) d) ≤ most) }
     ensures many { IsErrOf result IndexFault.TooMany → most < length (index_list (ty_of ty.now ∷ []) d) }
 {
@@ -71,41 +166,15 @@ pub(crate) fn targets_within(
     Ok(all_targets(alloc, ty, d, units)?)
 }
 
-// A target for each of the tuples, and the joined ones behind them.
-fn all_targets(alloc: Global, ty: &Ty, d: u8, units: Vec<Tuple>) -> Result<Vec<Target>, AllocError>
-    ensures { IfOk result (λ found. found.items ≡ map (λ t. t ∷ []) units.items ++ plain.joined_targets (ty_of ty.now) d) }
+// The tuples as targets, and the joined ones behind them.
+fn all_targets<'a>(
+    alloc: Global,
+    ty: &'a Ty,
+    d: u8,
+    units: Vec<Tuple>,
+) -> Result<TargetList<'a>, AllocError>
+    ensures { IfOk result (λ found. found ≡ map (λ t. t ∷ []) units.items ++ plain.joined_targets (ty_of ty.now) d) }
 {
-    let mut found = Vec::with_capacity(alloc, units.len())?;
-    append_units(alloc, &mut found, units)?;
     let joined = in_order(alloc, all_joined(alloc, ty, d)?)?;
-    append_joined(&mut found, joined)?;
-    Ok(found)
-}
-
-fn append_units(alloc: Global, found: &mut Vec<Target>, units: Vec<Tuple>) -> Result<(), AllocError>
-    ensures { OnOk result (found.new.items ≡ found.old.items ++ map (λ t. t ∷ []) units.items) }
-{
-    for unit in units {
-        found.push(Target {
-            tuples: vec![in alloc; unit]?,
-        })?;
-    }
-    Ok(())
-}
-
-fn append_joined(found: &mut Vec<Target>, joined: Vec<Joined>) -> Result<(), AllocError>
-    ensures { OnOk result (found.new.items ≡ found.old.items ++ map (λ (j : plain.Joined). j.target) (all_joined joined.items)) }
-{
-    for one in joined {
-        found.push(made(one))?;
-    }
-    Ok(())
-}
-
-fn made(joined: Joined) -> Target
-    ensures { result ≡ joined.tuples.items }
-{
-    Target {
-        tuples: joined.tuples,
-    }
+    Ok(TargetList { units, joined })
 }

@@ -5,5 +5,5 @@ use Rattle.cost_free.proofs.group.append_tasks_for.Given as goal
 
 abbrev pub invariant-loop-place : goal.invariant-loop-place
 invariant-loop-place l =
-    tasks_of l.tasks.items ++ tasks_for (plan_of l.plan).results l.plan.degree l.plan.work l.group l.budget l.one.fun.0 l.place (drop l.place l.one.targets.items)
-    ≡ tasks_of l.fn.tasks.items ++ tasks_for (plan_of l.plan).results l.plan.degree l.plan.work l.group l.budget l.one.fun.0 0 l.one.targets.items
+    tasks_of l.tasks.items ++ tasks_for (plan_of l.plan).results l.plan.degree l.plan.work l.group l.budget l.one.fun.0 l.place (drop l.place l.one.targets)
+    ≡ tasks_of l.fn.tasks.items ++ tasks_for (plan_of l.plan).results l.plan.degree l.plan.work l.group l.budget l.one.fun.0 0 l.one.targets

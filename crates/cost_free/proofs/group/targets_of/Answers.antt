@@ -1,8 +1,6 @@
-use Rattle.std.proofs.Common.{◌≡◌, Option, true, false, length, subst}
+use Rattle.std.proofs.Common.{◌≡◌, Option, true, false, subst}
 use Rattle.std.specs.Prelude.{IfOk, OnOk}
 use Rattle.raml_syntax.specs.Tree.{Type'}
-use Rattle.raml_syntax.specs.Read.{ty_of}
-use Rattle.base_poly.specs.Indices.{index_list}
 use Rattle.cost_free.specs.Schedule.{targets_at}
 use Rattle.cost_free.specs.Refused.{has_more}
 use Rattle.cost_free.proofs.GroupTasks.{got}
@@ -12,7 +10,7 @@ use Rattle.cost_free.proofs.group.targets_of.Goals as goal
 pub returns-in-Some-clause-all : goal.returns-in-Some-clause-all
 returns-in-Some-clause-all c =
     let look = c.in-Some.ensures.lookup in
-    subst (λ (o : Option Type'). IfOk c.targets_within.result (λ found. found.items ≡ targets_at o c.args.plan.degree))
+    subst (λ (o : Option Type'). IfOk c.targets_within.result (λ found. found ≡ targets_at o c.args.plan.degree))
     (got c.args.plan.results.now c.args.fun.0 c.in-Some.ty.now look.3.0 look.1) c.targets_within.ensures.all
 
 pub returns-in-Some-clause-few : goal.returns-in-Some-clause-few

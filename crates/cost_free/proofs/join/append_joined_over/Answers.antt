@@ -1,6 +1,6 @@
 use Rattle.std.proofs.Common.{◌++◌, ap, ◌∙◌}
 use Rattle.raml_syntax.specs.Read.{ty_of}
-use Rattle.cost_free.specs.Read.{all_joined}
+use Rattle.cost_free.specs.Joining.{all_joined}
 use Rattle.cost_free.proofs.Low.{over_holders}
 use Rattle.cost_free.proofs.join.append_joined_over.Goals as goal
 

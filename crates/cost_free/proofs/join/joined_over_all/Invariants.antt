@@ -1,7 +1,8 @@
 use Rattle.std.proofs.Common.{◌≡◌, ◌++◌, drop, flat_map}
 use Rattle.raml_syntax.specs.Read.{ty_of}
 use Rattle.cost_free.specs.Target.{joined_over}
-use Rattle.cost_free.specs.Read.{all_joined, sets_of}
+use Rattle.cost_free.specs.Joining.{all_joined}
+use Rattle.cost_free.specs.Read.{sets_of}
 use Rattle.cost_free.proofs.join.joined_over_all.Given as goal
 
 abbrev pub invariant-loop-set : goal.invariant-loop-set

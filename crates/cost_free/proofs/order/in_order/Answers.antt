@@ -1,6 +1,6 @@
 use Rattle.std.proofs.Common.{◌∷◌, [], arith, sym, ap, ◌∙◌}
 use Rattle.std.proofs.lemmas.List.{map-append}
-use Rattle.cost_free.specs.Read.{joined_of, all_joined}
+use Rattle.cost_free.specs.Joining.{joined_of, all_joined}
 use Rattle.cost_free.proofs.Put.{put_all, put_none, put_last, put_done}
 use Rattle.cost_free.proofs.order.in_order.Goals as goal
 

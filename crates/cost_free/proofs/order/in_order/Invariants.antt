@@ -1,6 +1,6 @@
 use Rattle.std.proofs.Common.{◌≡◌, vec_len}
 use Rattle.cost_free.specs.Target.{in_order}
-use Rattle.cost_free.specs.Read.{all_joined}
+use Rattle.cost_free.specs.Joining.{all_joined}
 use Rattle.cost_free.proofs.Put.{put_all}
 use Rattle.cost_free.proofs.order.in_order.Given as goal
 

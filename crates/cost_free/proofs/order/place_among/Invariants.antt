@@ -1,6 +1,6 @@
 use Rattle.std.proofs.Common.{◌≡◌, ◌++◌, take, drop}
 use Rattle.cost_free.specs.Target.{put}
-use Rattle.cost_free.specs.Read.{joined_of, all_joined}
+use Rattle.cost_free.specs.Joining.{joined_of, all_joined}
 use Rattle.cost_free.proofs.order.place_among.Given as goal
 
 abbrev pub invariant-loop-other : goal.invariant-loop-other

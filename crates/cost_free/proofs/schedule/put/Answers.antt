@@ -1,11 +1,11 @@
-use Rattle.std.proofs.Common.{◌≡◌, ◌++◌, ◌∷◌, [], List, None, Some, Err, ap, sym, subst, ◌∙◌}
+use Rattle.std.proofs.Common.{◌≡◌, ◌++◌, ◌∷◌, [], List, Err, ap, sym, subst, ◌∙◌}
 use Rattle.std.specs.Option.{option_map}
 use Rattle.std.proofs.lemmas.List.{map-append}
 use Rattle.cost_free.specs.declared.task.Task.{Task}
 use Rattle.cost_free.specs.declared.task.Done.{Done}
 use Rattle.cost_free.specs.Task.{Outcome}
-use Rattle.cost_free.specs.Refused.{next_in, with_outcome}
-use Rattle.cost_free.specs.Walk.{Stands, first}
+use Rattle.cost_free.specs.Refused.{with_outcome}
+use Rattle.cost_free.specs.Walk.{Stands}
 use Rattle.cost_free.specs.Read.{task_of, outcome_of, outcomes_of, plan_of, place_of}
 use Rattle.cost_free.proofs.Course.{stands_on, stands_passed, stands_taken, stands_still, tells_next, is_not_refused, is_refused}
 use Rattle.cost_free.proofs.Results.{of_error}

@@ -2,7 +2,7 @@ use Rattle.std.proofs.Common.{◌≡◌, subst, sym, ◌∙◌}
 use Rattle.std.specs.Prelude.{IfOk, OnOk}
 use Rattle.std.specs.Option.{option_map}
 use Rattle.cost_free.specs.Refused.{Course, plan_in, next_in, IsRefused}
-use Rattle.cost_free.specs.Walk.{MayEnter, advanced, first, passed}
+use Rattle.cost_free.specs.Walk.{MayEnter, advanced, first}
 use Rattle.cost_free.specs.Read.{task_of, plan_of, outcomes_of, place_of}
 use Rattle.cost_free.proofs.Course.{stands_on, stands_passed, tells_next, is_not_refused, is_refused}
 use Rattle.cost_free.proofs.Results.{both_ok, on_ok, either_way}
