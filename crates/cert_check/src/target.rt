@@ -58,12 +58,17 @@ pub fn place_of(functions: &[FunId], fun: FunId) -> usize
     0
 }
 
-// The targets of a type. The schedule has come to one, so there are few indices.
-fn all_targets(alloc: Global, ty: &Ty, degree: u8) -> Result<Vec<Target>, AllocError>
-    ensures { IfOk result (λ all. all.items ≡ targets (ty_of ty.now) degree) }
+// The target of this number, where there is one. The schedule has come to it, so there are few indices.
+fn target_at(
+    alloc: Global,
+    ty: &Ty,
+    degree: u8,
+    number: u32,
+) -> Result<Option<Target>, AllocError>
+    ensures { IfOk result (λ found. found ≡ slice_get (targets (ty_of ty.now) degree) number) }
 {
     match targets(alloc, ty, degree) {
-        Ok(all) => Ok(all),
+        Ok(all) => all.get(alloc, number as usize),
         Err(_) => Err(AllocError),
     }
 }
@@ -93,13 +98,13 @@ pub fn aim_at(
     ensures few { IfOk result (λ found. IfSome found (λ aim. AreFew aim.tuples.items)) }
     ensures none { IfOk result (λ found. IfNone found (slice_get (targets (ty_of ty.now) degree) number ≡ None)) }
 {
-    let mut all = all_targets(alloc, ty, degree)?;
-    if number as usize >= all.len() {
-        return Ok(None);
+    match target_at(alloc, ty, degree, number)? {
+        None => Ok(None),
+        Some(target) => {
+            let tuples = all_tuples(alloc, ty, budget)?;
+            Ok(Some(Aim { target, tuples }))
+        }
     }
-    let target = all.remove(number as usize);
-    let tuples = all_tuples(alloc, ty, budget)?;
-    Ok(Some(Aim { target, tuples }))
 }
 
 // The annotation has a number at the tuple.

@@ -217,16 +217,6 @@ fn is_among(tuple: &Tuple, target: &[Tuple]) -> bool
     false
 }
 
-// The tuples of the target of this number; none where there is no such target.
-fn tuples_of(targets: &[Target], number: u32) -> &[Tuple]
-    ensures { result.now ≡ slice_index_or targets.now number [] }
-{
-    match targets.get(number as usize) {
-        Some(target) => target.tuples(),
-        None => &[],
-    }
-}
-
 /// The positions of a task's target; none for a task with a meter.
 pub fn target_positions(
     alloc: Global,
@@ -274,21 +264,31 @@ fn positions_in(
 {
     match types {
         [ty, ..] => {
-            let all = all_targets(alloc, ty, d)?;
-            let found = positions(alloc, types, tuples_of(&all, number), budget)?;
+            let target = target_at(alloc, ty, d, number)?;
+            let found = positions(alloc, types, tuples_of(&target), budget)?;
             Ok(found)
         }
         [] => Ok(Vec::new(alloc)),
     }
 }
 
-// The targets of a type.
-fn all_targets(alloc: Global, ty: &Ty, d: u8) -> Result<Vec<Target>, AllocError>
-    ensures { IfOk result (λ found. found.items ≡ targets (ty_of ty.now) d) }
+// The target of this number, where there is one.
+fn target_at(alloc: Global, ty: &Ty, d: u8, number: u32) -> Result<Option<Target>, AllocError>
+    ensures { IfOk result (λ found. found ≡ slice_get (targets (ty_of ty.now) d) number) }
 {
     match targets(alloc, ty, d) {
-        Ok(all) => Ok(all),
+        Ok(all) => all.get(alloc, number as usize),
         Err(IndexFault::TooMany | IndexFault::NoMemory) => Err(AllocError),
+    }
+}
+
+// The tuples of a target; none where there is none.
+fn tuples_of(target: &Option<Target>) -> &[Tuple]
+    ensures { result.now ≡ unwrap_or target.now [] }
+{
+    match target {
+        Some(target) => target.tuples(),
+        None => &[],
     }
 }
 
