@@ -39,7 +39,7 @@ impl Totals {
     ghost use Rattle.std.specs.Prelude.{◌≡◌, ◌≤◌, ◌+ℤ◌, ◌*ℤ◌, pos, map, length, ◌∷◌, [], neg_ℤ};
     ghost use Rattle.raml_num.specs.Sums.{NoneNegative};
     ghost use Rattle.farkas_check.specs.Totals.{products};
-    ghost use Rattle.farkas_check.specs.Sides.{MovedBy, IsTotals, numbers_in, sparse_products, AllInside};
+    ghost use Rattle.farkas_check.specs.Sides.{MovedBy, IsTotals, number_in, numbers_in, sparse_products, AllInside};
 
     pub(crate) fn zero() -> Totals
         ensures { IsTotals [] (Some result) }
@@ -77,6 +77,17 @@ impl Totals {
         }
     }
 
+    // With the product of `y` and a row's number in the column, which is looked up only where `y` is not 0.
+    fn with_row(self, y: i128, column: Column, row: &Row) -> Option<Totals>
+        ensures { MovedBy self ((y *ℤ number_in column row.now) ∷ []) result }
+    {
+        if y == 0 {
+            Some(self)
+        } else {
+            self.with(y, column.of_row(row))
+        }
+    }
+
     /// With the products of `y` and a column.
     pub(crate) fn with_column(self, y: &[i128], column: Column, rows: &[Row]) -> Option<Totals>
         requires { length y.now ≡ length rows.now }
@@ -84,7 +95,7 @@ impl Totals {
     {
         let mut totals = self;
         for i in 0..rows.len() {
-            totals = totals.with(y[i], column.of_row(&rows[i]))?;
+            totals = totals.with_row(y[i], column, &rows[i])?;
         }
         Some(totals)
     }
