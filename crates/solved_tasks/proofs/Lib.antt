@@ -1,3 +1,4 @@
 pub mod Capping
 pub mod Raised
 pub mod Refuted
+pub mod Sure
