@@ -2,3 +2,4 @@ pub mod Capping
 pub mod Raised
 pub mod Refuted
 pub mod Sure
+pub mod Told

@@ -1,4 +1,6 @@
 // Sources and certificates from files.
+ghost use Rattle.std.specs.Prelude.{◌≤◌, length};
+
 use crate::refusal::Refusal;
 use annot_types::Certificate;
 use cert_json::read;
@@ -22,7 +24,9 @@ pub fn read_source(rt: &HostRuntime, name: &str) -> Result<Typed, Refusal> {
 }
 
 // The typed program that a source spells.
-fn typed_program(alloc: Global, source: &[u8]) -> Result<Typed, Refusal> {
+fn typed_program(alloc: Global, source: &[u8]) -> Result<Typed, Refusal>
+    requires { length source.now ≤ 1048576 }
+{
     let Ok(program) = parse(alloc, source) else {
         return Err(Refusal::Source);
     };

@@ -54,7 +54,7 @@ fn push_block(
     prices: Prices,
 ) -> Result<(), Refusal> {
     let task = &block.task;
-    if budget_of(d, task) > 4 {
+    if budget_of(d, task) > 4 || prices.scale > i128::MAX as u128 {
         return Err(Refusal::Task);
     }
     let Ok(bodies) = plans(alloc, program, d, earlier, task) else {
