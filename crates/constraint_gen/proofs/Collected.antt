@@ -1,25 +1,24 @@
 -- What a collector has heard.
 use Rattle.std.proofs.Common.{◌≡◌, refl, ap, sym, ◌∙◌, arith, inl, inr}
-use Rattle.std.specs.Prelude.{ℕ, zero, suc, ◌+◌, ◌<◌, ◌⊎◌, Bool, true, false, cond, nat_lt, ◌&&◌, List, [], ◌∷◌, ◌++◌, drop, length, Option, None, Some}
+use Rattle.std.specs.Prelude.{ℕ, zero, suc, ◌+◌, ◌<◌, ◌⊎◌, Bool, true, false, cond, nat_lt, ◌&&◌, List, [], ◌∷◌, ◌++◌, drop, length, Option}
 use Rattle.std.proofs.lemmas.Bool.Decides.{nat_tests}
 use Rattle.linear_rows.specs.Terms.{SparseRow}
 use Rattle.annot_types.specs.System.{is_kept}
 use Rattle.walk_rules.specs.Numbers.{Condition}
 use Rattle.walk_rules.specs.Walk.{at, against, numbered}
 use Rattle.walk_rules.specs.Solving.{row_of}
-use Rattle.solved_tasks.specs.Capped.{within, is_sure}
+use Rattle.solved_tasks.specs.Capped.{within}
 use Rattle.constraint_gen.specs.Sums.{Sum, sums}
 use Rattle.constraint_gen.specs.Heard.{Heard, kept, pair, hear, hear_all}
 
 -- a row that is kept, where there is room
-pub heard_is : (h : Heard) (left right : Sum) (rows : List (Option SparseRow)) → is_sure h.unknowns (pair left right) ≡ true → length h.rows < 2001 →
-    is_kept (row_of h.unknowns (pair left right)) ≡ true → rows ≡ h.rows ++ within (row_of h.unknowns (pair left right)) ∷ [] →
-    Some (record { unknowns = h.unknowns; rows = rows }) ≡ hear (Some h) (record { path = []; index = 0; left = left; right = right })
-heard_is h left right rows sure room keep e =
+pub heard_is : (h : Heard) (left right : Sum) (rows : List (Option SparseRow)) → length h.rows < 2001 → is_kept (row_of h.unknowns (pair left right)) ≡ true →
+    rows ≡ h.rows ++ within (row_of h.unknowns (pair left right)) ∷ [] → record { unknowns = h.unknowns; rows = rows } ≡ hear h (record { path = []; index = 0; left = left; right = right })
+heard_is h left right rows room keep e =
     let row = row_of h.unknowns (pair left right) in
     let few : nat_lt (length h.rows) 2001 ≡ true = grind (arith, nat_tests, room) in
-    ap (λ (l : List (Option SparseRow)). Some (record { unknowns = h.unknowns; rows = l })) e
-    ∙ (λ i. cond (sym sure i) (Some (cond (sym few i && sym keep i) (record { unknowns = h.unknowns; rows = h.rows ++ within row ∷ [] }) h)) None)
+    ap (λ (l : List (Option SparseRow)). record { unknowns = h.unknowns; rows = l }) e
+    ∙ (λ i. cond (sym few i && sym keep i) (record { unknowns = h.unknowns; rows = h.rows ++ within row ∷ [] }) h)
 
 -- an item at a place and those behind it; none where the place is behind the list
 cut : (xs : List Sum) (p : ℕ) → (drop p xs ≡ at sums xs p ∷ drop (p + 1) xs) ⊎ ((drop p xs ≡ []) × (drop (p + 1) xs ≡ []) × (at sums xs p ≡ sums.none))
@@ -50,35 +49,30 @@ against_next left right p y e = ap (against sums (drop p left)) e ∙ by (cut le
 
 -- what is heard from a place on is all that is heard
 pub Rest : Heard → Heard → List Sum → List Sum → ℕ → Type 0
-Rest old now left right p = (path : List ℕ) (index : ℕ) → hear_all (Some now) (numbered path (index + p) (against sums (drop p left) (drop p right))) ≡ hear_all (Some old) (numbered path index (against sums left right))
+Rest old now left right p = (path : List ℕ) (index : ℕ) → hear_all now (numbered path (index + p) (against sums (drop p left) (drop p right))) ≡ hear_all old (numbered path index (against sums left right))
 
 pub rest_begins : (old : Heard) (left right : List Sum) → Rest old old left right 0
 unfolding Rest
-rest_begins old left right path index = ap (λ i. hear_all (Some old) (numbered path i (against sums left right))) (omega arith)
+rest_begins old left right path index = ap (λ i. hear_all old (numbered path i (against sums left right))) (omega arith)
 
 pub rest_goes_on : (old now new : Heard) (left right : List Sum) (p : ℕ) (x y : Sum) → drop p right ≡ y ∷ drop (p + 1) right → x ≡ at sums left p →
-    Some new ≡ hear (Some now) (record { path = []; index = 0; left = x; right = y }) → Rest old now left right p → Rest old new left right (p + 1)
+    new ≡ hear now (record { path = []; index = 0; left = x; right = y }) → Rest old now left right p → Rest old new left right (p + 1)
 unfolding Rest
 rest_goes_on old now new left right p x y e h one rest path index =
     let more = against sums (drop (p + 1) left) (drop (p + 1) right) in
     (λ i. hear_all (one i) (numbered path (step i) more))
-    ∙ ap (λ z. hear_all (hear (Some now) (record { path = path; index = index + p; left = z; right = y })) (numbered path (suc (index + p)) more)) h
-    ∙ sym (ap (λ l. hear_all (Some now) (numbered path (index + p) l)) (against_next left right p y e))
+    ∙ ap (λ z. hear_all (hear now (record { path = path; index = index + p; left = z; right = y })) (numbered path (suc (index + p)) more)) h
+    ∙ sym (ap (λ l. hear_all now (numbered path (index + p) l)) (against_next left right p y e))
     ∙ rest path index where
       step : index + (p + 1) ≡ suc (index + p)
       step = omega arith
 
-pub rest_ends : (old now : Heard) (left right : List Sum) (p : ℕ) → drop p right ≡ [] → Rest old now left right p → (path : List ℕ) (index : ℕ) → Some now ≡ hear_all (Some old) (numbered path index (against sums left right))
+pub rest_ends : (old now : Heard) (left right : List Sum) (p : ℕ) → drop p right ≡ [] → Rest old now left right p → (path : List ℕ) (index : ℕ) → now ≡ hear_all old (numbered path index (against sums left right))
 unfolding Rest
-rest_ends old now left right p e rest path index = sym (ap (λ l. hear_all (Some now) (numbered path (index + p) l)) (ap (against sums (drop p left)) e ∙ none (drop p left))) ∙ rest path index where
+rest_ends old now left right p e rest path index = sym (ap (λ l. hear_all now (numbered path (index + p) l)) (ap (against sums (drop p left)) e ∙ none (drop p left))) ∙ rest path index where
   none : (q : List Sum) → against sums q [] ≡ []
   none [] = refl
   none (x ∷ q) = refl
-
--- nothing is told any more
-pub none_stays : (cs : List (Condition Sum)) → hear_all None cs ≡ None
-none_stays [] = refl
-none_stays (c ∷ cs) = none_stays cs
 
 kept_unknowns : (h : Heard) (row : SparseRow) → (kept h row).unknowns ≡ h.unknowns
 kept_unknowns h row = by (nat_lt (length h.rows) 2001 && is_kept row) where
@@ -86,12 +80,6 @@ kept_unknowns h row = by (nat_lt (length h.rows) 2001 && is_kept row) where
   by true = refl
   by false = refl
 
-pub same_unknowns : (h k : Heard) (cs : List (Condition Sum)) → hear_all (Some h) cs ≡ Some k → k.unknowns ≡ h.unknowns
-same_unknowns h k [] e = let same : h ≡ k = cc in ap (λ (h : Heard). h.unknowns) (sym same)
-same_unknowns h k (c ∷ cs) e =
-    let row = row_of h.unknowns (pair c.left c.right) in
-    by (is_sure h.unknowns (pair c.left c.right)) (λ f. same_unknowns (kept h row) k cs f) e where
-      by : (b : Bool) → (hear_all (Some (kept h (row_of h.unknowns (pair c.left c.right)))) cs ≡ Some k → k.unknowns ≡ (kept h (row_of h.unknowns (pair c.left c.right))).unknowns) →
-          hear_all (cond b (Some (kept h (row_of h.unknowns (pair c.left c.right)))) None) cs ≡ Some k → k.unknowns ≡ h.unknowns
-      by true go e = go e ∙ kept_unknowns h (row_of h.unknowns (pair c.left c.right))
-      by false go e = absurd (let no : None ≡ Some k = sym (none_stays cs) ∙ e in cc)
+pub same_unknowns : (h : Heard) (cs : List (Condition Sum)) → (hear_all h cs).unknowns ≡ h.unknowns
+same_unknowns h [] = refl
+same_unknowns h (c ∷ cs) = same_unknowns (hear h c) cs ∙ kept_unknowns h (row_of h.unknowns (pair c.left c.right))

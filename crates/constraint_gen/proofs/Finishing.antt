@@ -11,14 +11,15 @@ use Rattle.walk_rules.specs.Numbers.{Condition}
 use Rattle.walk_rules.specs.Kinds.{Form}
 use Rattle.walk_rules.specs.Carried.{condition_to}
 use Rattle.walk_rules.specs.Solving.{row_of, rows_of}
-use Rattle.solved_tasks.specs.Capped.{capped_condition, row_fits, within, is_sure, RowsAgree}
+use Rattle.walk_rules.specs.Capped.{cap}
+use Rattle.solved_tasks.specs.Sure.{IsSure, AreSure}
+use Rattle.solved_tasks.specs.Capped.{capped_condition, capped_totals, row_fits, within, RowsAgree}
 use Rattle.constraint_gen.specs.Sums.{Sum, form_of}
-use Rattle.constraint_gen.specs.Heard.{Heard, kept, pair, hear_all}
+use Rattle.constraint_gen.specs.Heard.{Heard, pair, hear_all}
 use Rattle.constraint_gen.specs.Finished.{AreBelow, FirstNone, AllThere, Finished, present}
 use Rattle.constraint_gen.specs.Cause.{LeavesFirst}
-use Rattle.solved_tasks.proofs.Capping.{terms_from}
+use Rattle.solved_tasks.proofs.Capping.{terms_from, cap_plus}
 use Rattle.constraint_gen.proofs.Walking.{length_map}
-use Rattle.constraint_gen.proofs.Collected.{none_stays}
 
 -- rows that are all there
 pub present_all : (rows : List (Option SparseRow)) → AllThere rows → map Some (present rows) ≡ rows
@@ -78,54 +79,60 @@ length_more : {X : Type 0} (xs : List X) (x : X) → length (xs ++ x ∷ []) ≡
 length_more [] x = refl
 length_more (y ∷ xs) x = omega (arith, length_more xs x)
 
--- what was heard of the conditions over capped sums is the front of the exact rows
+-- what was heard is the front of the rows of the conditions by what is added and what is subtracted
 abbrev heard_so : ℕ → List (Option SparseRow) → Heard
 heard_so n rows = record { unknowns = n; rows = rows }
 
-module _ (agree : (n : ℕ) (c : Condition Form) → is_sure n (capped_condition c) ≡ true → RowsAgree n (capped_condition c) c) (n : ℕ) where
-  abbrev told : List (Condition Form) → List (Option SparseRow)
-  told cs = map within (rows_of n cs)
+abbrev pub pairs : List (Condition Sum) → List (Condition Form)
+pairs ds = map (λ (d : Condition Sum). pair d.left d.right) ds
 
-  pub collected : (cs : List (Condition Form)) (ds : List (Condition Sum)) (rows : List (Option SparseRow)) (k : Heard) → map (condition_to form_of) ds ≡ map capped_condition cs → length rows ≤ 2001 →
-      hear_all (Some (heard_so n rows)) ds ≡ Some k → k.rows ≡ take 2001 (rows ++ map within (rows_of n cs))
-  collected [] [] rows k e low f =
-      let same : heard_so n rows ≡ k = cc in
-      ap (λ (h : Heard). h.rows) (sym same) ∙ sym (ap (take 2001) (append-nil rows) ∙ take_few 2001 rows low)
-  collected [] (d ∷ ds) rows k e low f = absurd (cc)
-  collected (c ∷ cs) [] rows k e low f = absurd (cc)
-  collected (c ∷ cs) (d ∷ ds) rows k e low f =
-      let head : condition_to form_of d ≡ capped_condition c = cc in
-      let tail : map (condition_to form_of) ds ≡ map capped_condition cs = cc in
-      by head (λ rows low f. collected cs ds rows k tail low f) (is_sure n (pair d.left d.right)) refl f where
-        row : SparseRow
-        row = row_of n (pair d.left d.right)
+pub collected : (n : ℕ) (ds : List (Condition Sum)) (rows : List (Option SparseRow)) → length rows ≤ 2001 → (hear_all (heard_so n rows) ds).rows ≡ take 2001 (rows ++ map within (rows_of n (pairs ds)))
+collected n [] rows low = sym (ap (take 2001) (append-nil rows) ∙ take_few 2001 rows low)
+collected n (d ∷ ds) rows low = at (nat_lt (length rows) 2001) refl (is_kept row) (λ rows low. collected n ds rows low) where
+  row : SparseRow
+  row = row_of n (pair d.left d.right)
 
-        by : condition_to form_of d ≡ capped_condition c →
-            ((rows : List (Option SparseRow)) → length rows ≤ 2001 → hear_all (Some (heard_so n rows)) ds ≡ Some k → k.rows ≡ take 2001 (rows ++ map within (rows_of n cs))) →
-            (b : Bool) → is_sure n (pair d.left d.right) ≡ b → hear_all (cond b (Some (kept (heard_so n rows) (row_of n (pair d.left d.right)))) None) ds ≡ Some k →
-            k.rows ≡ take 2001 (rows ++ map within (rows_of n (c ∷ cs)))
-        by head go false s f = absurd (let no : None ≡ Some k = sym (none_stays ds) ∙ f in cc)
-        by head go true s f =
-            let a = agree n c (sym (ap (is_sure n) head) ∙ s) in
-            let same = ap (λ z. is_kept (row_of n z)) head ∙ a.kept in
-            let rest = ap (λ z. within (row_of n z)) head ∙ a.within in
-            at same rest (nat_lt (length rows) 2001) refl (is_kept (row_of n (pair d.left d.right))) refl f where
-              at : is_kept (row_of n (pair d.left d.right)) ≡ is_kept (row_of n c) → within (row_of n (pair d.left d.right)) ≡ within (row_of n c) →
-                  (b : Bool) → nat_lt (length rows) 2001 ≡ b → (q : Bool) → is_kept (row_of n (pair d.left d.right)) ≡ q →
-                  hear_all (Some (cond (b && q) (heard_so n (rows ++ within (row_of n (pair d.left d.right)) ∷ [])) (heard_so n rows))) ds ≡ Some k →
-                  k.rows ≡ take 2001 (rows ++ map within (cond (is_kept (row_of n c)) (row_of n c ∷ rows_of n cs) (rows_of n cs)))
-              at same rest true x true y f =
-                  let room : length rows < 2001 = grind (arith, nat_tests, x) in
-                  go (rows ++ within (row_of n (pair d.left d.right)) ∷ []) (omega (arith, room, length_more rows (within (row_of n (pair d.left d.right))))) f
-                  ∙ ap (take 2001) (append_assoc rows (within (row_of n (pair d.left d.right)) ∷ []) (map within (rows_of n cs)))
-                  ∙ ap (λ w. take 2001 (rows ++ (w ∷ map within (rows_of n cs)))) rest
-                  ∙ ap (λ b. take 2001 (rows ++ map within (cond b (row_of n c ∷ rows_of n cs) (rows_of n cs)))) (sym (sym same ∙ y))
-              at same rest false x true y f =
-                  let full : length rows ≡ 2001 = grind (arith, nat_tests, x, low) in
-                  go rows low f ∙ take_front 2001 rows (map within (rows_of n cs)) full
-                  ∙ sym (take_front 2001 rows (map within (cond (is_kept (row_of n c)) (row_of n c ∷ rows_of n cs) (rows_of n cs))) full)
-              at same rest true x false y f = go rows low f ∙ ap (λ b. take 2001 (rows ++ map within (cond b (row_of n c ∷ rows_of n cs) (rows_of n cs)))) (sym (sym same ∙ y))
-              at same rest false x false y f = go rows low f ∙ ap (λ b. take 2001 (rows ++ map within (cond b (row_of n c ∷ rows_of n cs) (rows_of n cs)))) (sym (sym same ∙ y))
+  at : (b : Bool) → nat_lt (length rows) 2001 ≡ b → (q : Bool) → ((rows : List (Option SparseRow)) → length rows ≤ 2001 → (hear_all (heard_so n rows) ds).rows ≡ take 2001 (rows ++ map within (rows_of n (pairs ds)))) →
+      (hear_all (cond (b && q) (heard_so n (rows ++ within row ∷ [])) (heard_so n rows)) ds).rows ≡ take 2001 (rows ++ map within (cond q (row ∷ rows_of n (pairs ds)) (rows_of n (pairs ds))))
+  at true x true go =
+      let room : length rows < 2001 = grind (arith, nat_tests, x) in
+      go (rows ++ within row ∷ []) (omega (arith, room, length_more rows (within row))) ∙ ap (take 2001) (append_assoc rows (within row ∷ []) (map within (rows_of n (pairs ds))))
+  at false x true go =
+      let full : length rows ≡ 2001 = grind (arith, nat_tests, x, low) in
+      go rows low ∙ take_front 2001 rows (map within (rows_of n (pairs ds))) full ∙ sym (take_front 2001 rows (map within (row ∷ rows_of n (pairs ds))) full)
+  at true x false go = go rows low
+  at false x false go = go rows low
+
+-- the row of two sums whose numbers are those of a condition, capped
+row_is_capped : (n : ℕ) (d : Condition Sum) (c : Condition Form) → condition_to form_of d ≡ capped_condition c → row_of n (pair d.left d.right) ≡ row_of n (capped_totals c)
+row_is_capped n d c e =
+    let l = ap (λ (x : Condition Form). x.left) e in
+    let r = ap (λ (x : Condition Form). x.right) e in
+    let held : cap (d.left.plus + d.right.minus) ≡ cap (c.left.plus + c.right.minus) = (λ i. cap ((l i).plus + (r i).minus)) ∙ sym (cap_plus c.left.plus c.right.minus) in
+    let asked : cap (d.right.plus + d.left.minus) ≡ cap (c.right.plus + c.left.minus) = (λ i. cap ((r i).plus + (l i).minus)) ∙ sym (cap_plus c.right.plus c.left.minus) in
+    λ i. row_of n (record {
+      path = [];
+      index = 0;
+      left = record { terms = (l i).terms; plus = held i; minus = 0 };
+      right = record { terms = (r i).terms; plus = asked i; minus = 0 };
+    })
+
+-- and where these are sure, the exact rows
+pub exact_rows : ((n : ℕ) (c : Condition Form) → IsSure c → RowsAgree n (capped_totals c) c) → (n : ℕ) (cs : List (Condition Form)) (ds : List (Condition Sum)) →
+    map (condition_to form_of) ds ≡ map capped_condition cs → AreSure cs → map within (rows_of n (pairs ds)) ≡ map within (rows_of n cs)
+exact_rows agree n [] [] e s = refl
+exact_rows agree n [] (d ∷ ds) e s = absurd (cc)
+exact_rows agree n (c ∷ cs) [] e s = absurd (cc)
+exact_rows agree n (c ∷ cs) (d ∷ ds) e s =
+    let head : condition_to form_of d ≡ capped_condition c = cc in
+    let tail : map (condition_to form_of) ds ≡ map capped_condition cs = cc in
+    let a = agree n c s.0 in
+    let same = row_is_capped n d c head in
+    by (is_kept (row_of n (pair d.left d.right))) (ap is_kept same ∙ a.kept) (ap within same ∙ a.within) (exact_rows agree n cs ds tail s.1) where
+      by : (b : Bool) → b ≡ is_kept (row_of n c) → within (row_of n (pair d.left d.right)) ≡ within (row_of n c) → map within (rows_of n (pairs ds)) ≡ map within (rows_of n cs) →
+          map within (cond b (row_of n (pair d.left d.right) ∷ rows_of n (pairs ds)) (rows_of n (pairs ds))) ≡ map within (cond (is_kept (row_of n c)) (row_of n c ∷ rows_of n cs) (rows_of n cs))
+      by true same row rest = (λ i. row i ∷ rest i) ∙ ap (λ b. map within (cond b (row_of n c ∷ rows_of n cs) (rows_of n cs))) same
+      by false same row rest = rest ∙ ap (λ b. map within (cond b (row_of n c ∷ rows_of n cs) (rows_of n cs))) same
 
 -- all rows are there
 all_within : (made rows : List SparseRow) → map Some made ≡ map within rows → (made ≡ rows) × All (λ row. row_fits row ≡ true) made

@@ -1,6 +1,6 @@
 -- Rows of capped sums.
 use Rattle.std.proofs.Common.{◌≡◌, refl, ap, sym, ◌∙◌, arith, inl, inr, subst}
-use Rattle.std.specs.Prelude.{ℕ, zero, suc, ◌+◌, ◌-◌, ◌^◌, ◌<◌, ◌≤◌, ◌≢◌, ◌==◌, ◌⊎◌, if◌then◌else◌, Bool, true, false, cond, not, ◌&&◌, nat_lt, int_le, ℤ, pos, ◌-ℤ◌, [], ◌∷◌, length, None, Some}
+use Rattle.std.specs.Prelude.{ℕ, zero, suc, ◌+◌, ◌<◌, ◌≤◌, ◌≢◌, ◌==◌, ◌⊎◌, if◌then◌else◌, Bool, true, false, cond, not, ◌&&◌, nat_lt, int_le, ℤ, pos, ◌-ℤ◌, [], ◌∷◌, length, None, Some}
 use Rattle.std.specs.List.{range_with_len, list_all}
 use Rattle.std.specs.Ordering.{int_eq}
 use Rattle.std.proofs.lemmas.Int.{ints}
@@ -10,11 +10,11 @@ use Rattle.linear_rows.specs.Terms.{SparseRow, coefficient, IsSparse}
 use Rattle.annot_types.specs.System.{is_kept}
 use Rattle.walk_rules.specs.Capped.{cap}
 use Rattle.walk_rules.specs.Solving.{row_of}
-use Rattle.solved_tasks.specs.Capped.{fits, row_fits, within, is_sure}
+use Rattle.solved_tasks.specs.Capped.{fits, row_fits, within}
 use Rattle.solved_tasks.proofs.Capping.{terms_from, all_terms, both_true}
 use Rattle.constraint_gen.specs.Sums.{Sum, Terms, total_of, unknown_at, number_at, IsSum}
 use Rattle.constraint_gen.specs.Heard.{pair, wanted, IsDone, IsPart, Settles, Leaves}
-use Rattle.constraint_gen.proofs.Sums.{total_none, number_there, sum_behind}
+use Rattle.constraint_gen.proofs.Sums.{number_there}
 
 -- Tests of all items
 
@@ -41,21 +41,6 @@ each_below test k (suc n) h u a b =
 
 -- Numbers of terms
 
-small_total : (ts : Terms) (u : ℕ) → IsSum ts → list_all (λ (t : ℕ × ℕ). nat_lt t.1 (2 ^ 127)) ts ≡ true → total_of u ts < 2 ^ 127
-small_total [] u sum h = omega arith
-small_total (t ∷ ts) u sum h =
-    let two = both_true (nat_lt t.1 (2 ^ 127)) (list_all (λ (t : ℕ × ℕ). nat_lt t.1 (2 ^ 127)) ts) h in by two.0 (small_total ts u (sum_behind t ts sum) two.1) (t.0 == u) refl where
-      by : nat_lt t.1 (2 ^ 127) ≡ true → total_of u ts < 2 ^ 127 → (c : Bool) → (t.0 == u) ≡ c → (if c then t.1 else 0) + total_of u ts < 2 ^ 127
-      by first go true e =
-          let same : t.0 ≡ u = grind (arith, nat_tests, e) in
-          let none = total_none ts u (λ j b here. omega (arith, sum.ascending 0 (suc j) (omega arith) (omega (arith, b)), here, same)) in
-          let low : t.1 < 2 ^ 127 = grind (arith, nat_tests, first) in
-          omega (arith, none, low)
-      by first go false e = omega (arith, go)
-
-pub small_sum : (ts : Terms) → IsSum ts → list_all (λ (t : ℕ × ℕ). nat_lt t.1 (2 ^ 127)) ts ≡ true → (u : ℕ) → cap (total_of u ts) < 2 ^ 127
-small_sum ts sum h u = omega (arith, small_total ts u sum h)
-
 -- an unknown has a term, or is not taken
 place_of : (ts : Terms) (u : ℕ) → ((i : ℕ) × (i < length ts) × (unknown_at ts i ≡ u)) ⊎ (total_of u ts ≡ 0)
 place_of [] u = inr refl
@@ -64,19 +49,6 @@ place_of (t ∷ ts) u = by (t.0 == u) refl (place_of ts u) where
   by true e go = inl (0, omega arith, grind (arith, nat_tests, e))
   by false e (inl there) = inl (suc there.0, omega (arith, there.1), there.2)
   by false e (inr none) = inr (omega (arith, none))
-
-sure_is : (n : ℕ) (left right : Sum) → ((u : ℕ) → cap (total_of u right.terms) < 2 ^ 127) → left.plus + right.minus < 2 ^ 127 → is_sure n (pair left right) ≡ true
-sure_is n left right small low =
-    both (list_all (λ u. nat_lt (cap (total_of u right.terms)) (2 ^ 127)) (range_with_len 0 n)) (nat_lt (left.plus + right.minus) (2 ^ 127))
-    (all_below (λ u. nat_lt (cap (total_of u right.terms)) (2 ^ 127)) 0 n (λ u a b. grind (arith, nat_tests, small u))) (grind (arith, nat_tests, low))
-
-pub sure : (left right : Sum) → IsSum right.terms → list_all (λ (t : ℕ × ℕ). nat_lt t.1 (2 ^ 127)) right.terms ≡ true → left.plus + right.minus < 2 ^ 127 → (n : ℕ) → is_sure n (pair left right) ≡ true
-sure left right sum h low n = sure_is n left right (small_sum right.terms sum h) low
-
-pub sure_right : (n : ℕ) (left right : Sum) → is_sure n (pair left right) ≡ true → left.plus + right.minus < 2 ^ 127
-sure_right n left right h =
-    let two = both_true (list_all (λ u. nat_lt (cap (total_of u right.terms)) (2 ^ 127)) (range_with_len 0 n)) (nat_lt (left.plus + right.minus) (2 ^ 127)) h in
-    grind (arith, nat_tests, two.1)
 
 -- Rows that are kept
 
@@ -138,11 +110,11 @@ module _ (n : ℕ) (left right : Sum) (sum : IsSum right.terms) where
             subst (λ w. cap (total_of w right.terms) ≤ cap (total_of w left.terms)) same (omega (arith, low, there at.0 at.1))
         to h u b (inr none) = omega (arith, none)
 
-  pub kept_is : right.plus + left.minus ≤ left.plus + right.minus → not (list_all (covered n left) right.terms) ≡ is_kept (row_of n (pair left right))
+  pub kept_is : cap (right.plus + left.minus) ≤ cap (left.plus + right.minus) → not (list_all (covered n left) right.terms) ≡ is_kept (row_of n (pair left right))
   unfolding terms_from
   kept_is h =
       ap not (covers_is ∙ sym (and_true (list_all (λ (t : ℕ × ℤ). int_le (pos 0) t.1) (terms_from 0 n diff)))
-      ∙ ap (λ b. list_all (λ (t : ℕ × ℤ). int_le (pos 0) t.1) (terms_from 0 n diff) && b) (sym (no_more (right.plus + left.minus) (left.plus + right.minus) h))) where
+      ∙ ap (λ b. list_all (λ (t : ℕ × ℤ). int_le (pos 0) t.1) (terms_from 0 n diff) && b) (sym (no_more (cap (right.plus + left.minus) + 0) (cap (left.plus + right.minus) + 0) (omega (arith, h))))) where
         and_true : (b : Bool) → (b && true) ≡ b
         and_true true = refl
         and_true false = refl
@@ -250,13 +222,6 @@ wanted_behind : (n : ℕ) (left right : Sum) (u : ℕ) → n ≤ u → wanted n 
 wanted_behind n left right u h =
     let none_below : nat_lt u n ≡ false = grind (arith, nat_tests, h) in ap (λ b. cond b (pos (cap (total_of u left.terms)) -ℤ pos (cap (total_of u right.terms))) (pos 0)) none_below
 
--- the right side, where the asked number is capped
-right_fits : (asked less : ℕ) → less < 2 ^ 127 → fits (pos (cap asked) -ℤ pos less) ≡ true → cap asked ≡ asked
-right_fits asked less low h = by (int_le (pos (cap asked) -ℤ pos less) (pos (2 ^ 127 - 1))) refl where
-  by : (b : Bool) → int_le (pos (cap asked) -ℤ pos less) (pos (2 ^ 127 - 1)) ≡ b → cap asked ≡ asked
-  by true e = let bound : cap asked < 2 ^ 128 - 1 = grind (arith, ints, e, low) in omega (arith, bound)
-  by false e = absurd (let no : fits (pos (cap asked) -ℤ pos less) ≡ false = grind (arith, e) in let wrong : true ≡ false = sym h ∙ no in cc)
-
 some_within : (row : SparseRow) → row_fits row ≡ true → Some row ≡ within row
 some_within row h = ap (λ b. cond b (Some row) None) (sym h)
 
@@ -264,41 +229,45 @@ none_within : (row : SparseRow) → row_fits row ≡ false → None ≡ within r
 none_within row h = ap (λ b. cond b (Some row) None) (sym h)
 
 -- the row is put together
-made : (n : ℕ) (left right : Sum) (row : SparseRow) → row.terms ≡ terms_from 0 n (λ u. pos (cap (total_of u left.terms)) -ℤ pos (cap (total_of u right.terms))) →
-    row.right ≡ pos (right.plus + left.minus) -ℤ pos (left.plus + right.minus) → row ≡ row_of n (pair left right)
-unfolding terms_from
-made n left right row e h = λ i. record { terms = e i; right = h i }
+abbrev difference : Sum → Sum → ℕ → ℤ
+difference left right u = pos (cap (total_of u left.terms)) -ℤ pos (cap (total_of u right.terms))
 
-row_fits_is : (n : ℕ) (left right : Sum) → row_fits (row_of n (pair left right))
-    ≡ (list_all (λ (t : ℕ × ℤ). fits t.1) (terms_from 0 n (λ u. pos (cap (total_of u left.terms)) -ℤ pos (cap (total_of u right.terms))))
-    && fits (pos (right.plus + left.minus) -ℤ pos (left.plus + right.minus)))
-unfolding terms_from
-row_fits_is n left right = refl
+abbrev right_side : Sum → Sum → ℤ
+right_side left right = pos (cap (right.plus + left.minus)) -ℤ pos (cap (left.plus + right.minus))
 
-module _ (n : ℕ) (left right : Sum) (low : left.plus + right.minus < 2 ^ 127) where
+made : (n : ℕ) (left right : Sum) (row : SparseRow) → row.terms ≡ terms_from 0 n (difference left right) → row.right ≡ right_side left right → row ≡ row_of n (pair left right)
+unfolding terms_from
+made n left right row e h =
+    let asked : cap (right.plus + left.minus) ≡ cap (right.plus + left.minus) + 0 = omega arith in
+    let held : cap (left.plus + right.minus) ≡ cap (left.plus + right.minus) + 0 = omega arith in
+    λ i. record { terms = e i; right = (h ∙ (λ j. pos (asked j) -ℤ pos (held j))) i }
+
+row_fits_is : (n : ℕ) (left right : Sum) → row_fits (row_of n (pair left right)) ≡ (list_all (λ (t : ℕ × ℤ). fits t.1) (terms_from 0 n (difference left right)) && fits (right_side left right))
+unfolding terms_from
+row_fits_is n left right =
+    let asked : cap (right.plus + left.minus) + 0 ≡ cap (right.plus + left.minus) = omega arith in
+    let held : cap (left.plus + right.minus) + 0 ≡ cap (left.plus + right.minus) = omega arith in
+    λ i. list_all (λ (t : ℕ × ℤ). fits t.1) (terms_from 0 n (difference left right)) && fits (pos (asked i) -ℤ pos (held i))
+
+module _ (n : ℕ) (left right : Sum) where
   abbrev f : ℕ → ℤ
-  f u = pos (cap (total_of u left.terms)) -ℤ pos (cap (total_of u right.terms))
+  f = difference left right
 
   abbrev r : ℤ
-  r = pos (right.plus + left.minus) -ℤ pos (left.plus + right.minus)
+  r = right_side left right
 
   -- both sides are walked, and all fits
-  pub row_is : (row : SparseRow) → IsSparse row.terms → IsSum left.terms → IsSum right.terms → IsPart (wanted n left right) row.terms →
+  pub row_is : (row : SparseRow) → IsSparse row.terms → IsPart (wanted n left right) row.terms →
       ((i : ℕ) → i < length left.terms → IsDone (wanted n left right) row.terms (unknown_at left.terms i)) →
-      ((i : ℕ) → i < length right.terms → IsDone (wanted n left right) row.terms (unknown_at right.terms i)) →
-      (asked : ℕ) → asked ≡ cap (left.minus + right.plus) → fits (pos asked -ℤ pos (left.plus + right.minus)) ≡ true → row.right ≡ pos asked -ℤ pos (left.plus + right.minus) → Some row ≡ within (row_of n (pair left right))
-  row_is row sparse one two part first second asked e fit is =
+      ((i : ℕ) → i < length right.terms → IsDone (wanted n left right) row.terms (unknown_at right.terms i)) → fits r ≡ true → row.right ≡ r → Some row ≡ within (row_of n (pair left right))
+  row_is row sparse part first second fit is =
       let done = all_done n left right row.terms part first second in
-      let capped : cap (left.minus + right.plus) ≡ left.minus + right.plus = right_fits (left.minus + right.plus) (left.plus + right.minus) low (ap (λ a. fits (pos a -ℤ pos (left.plus + right.minus))) (sym e) ∙ fit) in
-      let sum : asked ≡ right.plus + left.minus = omega (arith, e, capped) in
       let terms : row.terms ≡ terms_from 0 n f = canonical f n 0 row.terms (ascends_from 0 row.terms sparse (λ i b. omega arith))
       (λ u a b. let under : u < n = omega (arith, b) in let d = done u in d.0 ∙ wanted_below n left right u under)
       (λ u a. let over : n ≤ u = omega (arith, a) in let d = done u in d.0 ∙ wanted_behind n left right u over) in
-      let right_is : row.right ≡ r = is ∙ ap (λ a. pos a -ℤ pos (left.plus + right.minus)) sum in
       let all : list_all (λ (t : ℕ × ℤ). fits t.1) (terms_from 0 n f) ≡ true =
       all_terms fits refl 0 n f ∙ all_below (λ u. fits (f u)) 0 n (λ u a b. let under : u < n = omega (arith, b) in let d = done u in sym (ap fits (wanted_below n left right u under)) ∙ d.1) in
-      let fits_right : fits r ≡ true = ap (λ a. fits (pos a -ℤ pos (left.plus + right.minus))) (sym sum) ∙ fit in
-      ap Some (made n left right row terms right_is) ∙ some_within (row_of n (pair left right)) (row_fits_is n left right ∙ both _ _ all fits_right)
+      ap Some (made n left right row terms is) ∙ some_within (row_of n (pair left right)) (row_fits_is n left right ∙ both _ _ all fit)
 
   -- a coefficient does not fit
   pub row_leaves : Leaves (wanted n left right) → None ≡ within (row_of n (pair left right))
@@ -316,20 +285,10 @@ module _ (n : ℕ) (left right : Sum) (low : left.plus + right.minus < 2 ^ 127) 
           let wrong : true ≡ false = sym (ap fits (wanted_behind n left right h.0 over)) ∙ h.1 in cc
 
   -- the right side does not
-  pub right_leaves : (asked : ℕ) → asked ≡ cap (left.minus + right.plus) → fits (pos asked -ℤ pos (left.plus + right.minus)) ≡ false → None ≡ within (row_of n (pair left right))
-  right_leaves asked e h =
-      none_within (row_of n (pair left right)) (row_fits_is n left right ∙ ap (λ b. list_all (λ (t : ℕ × ℤ). fits t.1) (terms_from 0 n f) && b) (by (fits r) refl)
+  pub right_leaves : fits r ≡ false → None ≡ within (row_of n (pair left right))
+  right_leaves h =
+      none_within (row_of n (pair left right)) (row_fits_is n left right ∙ ap (λ b. list_all (λ (t : ℕ × ℤ). fits t.1) (terms_from 0 n f) && b) h
       ∙ and_false (list_all (λ (t : ℕ × ℤ). fits t.1) (terms_from 0 n f))) where
         and_false : (b : Bool) → (b && false) ≡ false
         and_false true = refl
         and_false false = refl
-
-        by : (b : Bool) → fits r ≡ b → b ≡ false
-        by false g = refl
-        by true g = absurd (at (int_le r (pos (2 ^ 127 - 1))) refl) where
-          at : (b : Bool) → int_le r (pos (2 ^ 127 - 1)) ≡ b → ⊥
-          at true i =
-              let small : right.plus + left.minus < 2 ^ 128 - 1 = grind (arith, ints, i, low) in
-              let same : asked ≡ right.plus + left.minus = omega (arith, e, small) in
-              let wrong : true ≡ false = sym g ∙ sym (ap (λ a. fits (pos a -ℤ pos (left.plus + right.minus))) same) ∙ h in cc
-          at false i = let no : fits r ≡ false = grind (arith, i) in let wrong : true ≡ false = sym g ∙ no in cc

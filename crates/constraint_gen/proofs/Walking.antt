@@ -1,6 +1,6 @@
 -- The conditions of a task, body by body.
 use Rattle.std.proofs.Common.{◌≡◌, refl, ap, sym, ◌∙◌, arith}
-use Rattle.std.specs.Prelude.{ℕ, suc, ◌+◌, List, [], ◌∷◌, ◌++◌, map, length, slice_index_or, Option, Some}
+use Rattle.std.specs.Prelude.{ℕ, suc, ◌+◌, List, [], ◌∷◌, ◌++◌, map, length, slice_index_or}
 use Rattle.annot_types.specs.Rules.{Mode}
 use Rattle.walk_rules.specs.Numbers.{Known, Sides, Hint}
 use Rattle.walk_rules.specs.Walk.{at}
@@ -14,14 +14,14 @@ use Rattle.constraint_gen.specs.Hearing.{in_turn}
 use Rattle.constraint_gen.specs.Given.{all_answers}
 use Rattle.constraint_gen.specs.Walked.{reached, bodies_walked}
 
-pub bodies_go_on : (G : Known Sum) (mode : Mode) (p : ℕ) (b : t.Body) (bs all_bs : List t.Body) (hs : List (Hint Sum)) (hss all_hss : List (List (Hint Sum))) (now new : Heard) (end : Option Heard) →
-    all_bs ≡ b ∷ bs → all_hss ≡ hs ∷ hss → Some new ≡ hear_all (Some now) (body_walked sums G b.plan mode p hs).found →
-    hear_all (Some now) (bodies_walked G mode p all_bs all_hss) ≡ end → hear_all (Some new) (bodies_walked G mode (p + 1) bs hss) ≡ end
+pub bodies_go_on : (G : Known Sum) (mode : Mode) (p : ℕ) (b : t.Body) (bs all_bs : List t.Body) (hs : List (Hint Sum)) (hss all_hss : List (List (Hint Sum))) (now new : Heard) (end : Heard) →
+    all_bs ≡ b ∷ bs → all_hss ≡ hs ∷ hss → new ≡ hear_all now (body_walked sums G b.plan mode p hs).found →
+    hear_all now (bodies_walked G mode p all_bs all_hss) ≡ end → hear_all new (bodies_walked G mode (p + 1) bs hss) ≡ end
 bodies_go_on G mode p b bs all_bs hs hss all_hss now new end e h one rest =
     let step : p + 1 ≡ suc p = omega arith in
     (λ i. hear_all (one i) (bodies_walked G mode (step i) bs hss))
-    ∙ in_turn (Some now) (body_walked sums G b.plan mode p hs).found (bodies_walked G mode (suc p) bs hss)
-    ∙ sym (λ i. hear_all (Some now) (bodies_walked G mode p (e i) (h i))) ∙ rest
+    ∙ in_turn now (body_walked sums G b.plan mode p hs).found (bodies_walked G mode (suc p) bs hss)
+    ∙ sym (λ i. hear_all now (bodies_walked G mode p (e i) (h i))) ∙ rest
 
 reached_is : (j : Job) (group : List (Sides Sum)) (ps : List ℕ) →
     of_target sums j group ps ≡ reached j.function (slice_index_or group j.function (record { args = []; result = [] })).result ps
@@ -34,7 +34,7 @@ bodies_are j group k (b ∷ bs) [] = refl
 bodies_are j group k (b ∷ bs) (hs ∷ hss) = ap (λ l. (body_walked sums (known_by j group) b.plan j.mode k hs).found ++ l) (bodies_are j group (suc k) bs hss)
 
 -- the target is heard, and then the bodies
-pub conditions_heard : (j : Job) (group : List (Sides Sum)) (hss : List (List (Hint Sum))) (v : Option Heard) →
+pub conditions_heard : (j : Job) (group : List (Sides Sum)) (hss : List (List (Hint Sum))) (v : Heard) →
     hear_all (hear_all v (reached j.function (slice_index_or group j.function (record { args = []; result = [] })).result j.target)) (bodies_walked (known_by j group) j.mode 0 j.bodies hss)
     ≡ hear_all v (t.conditions sums j group hss)
 conditions_heard j group hss v =

@@ -1,6 +1,6 @@
 -- The system of a task, from what the code makes.
 use Rattle.std.proofs.Common.{◌≡◌, refl, ap, sym, ◌∙◌, arith, subst}
-use Rattle.std.specs.Prelude.{ℕ, zero, suc, ◌-◌, ◌^◌, ◌<◌, ◌≤◌, ℤ, pos, ◌==◌, if◌then◌else◌, Bool, true, false, take, Result, Ok, Err, IfOk, IfErr, List, [], ◌∷◌, ◌++◌, map, length, replicate, slice_get, Option, Some}
+use Rattle.std.specs.Prelude.{ℕ, zero, suc, ◌^◌, ◌<◌, ◌≤◌, ℤ, pos, ◌==◌, if◌then◌else◌, Bool, true, false, take, Result, Ok, Err, IfOk, IfErr, List, [], ◌∷◌, ◌++◌, map, length, replicate, slice_get, ◌+◌, Option, Some}
 use Rattle.std.proofs.lemmas.Int.{ints}
 use Rattle.std.proofs.lemmas.Bool.Decides.{nat_tests}
 use Rattle.raml_num.specs.Sums.{NoneNegative}
@@ -13,16 +13,22 @@ use Rattle.cost_free.specs.Task as k
 use Rattle.cost_free.specs.Task.{Task, Kind, Free}
 use Rattle.annot_types.specs.Program.{Program, members}
 use Rattle.annot_types.specs.Certificate.{Block}
-use Rattle.annot_types.specs.Holds.{budget_of}
+use Rattle.annot_types.specs.Holds.{budget_of, mode_of}
 use Rattle.annot_types.specs.System as s
-use Rattle.annot_types.specs.System.{sig_weights, args_of, result_of}
+use Rattle.annot_types.specs.Rules.{Setting, Mode}
+use Rattle.normal_form.specs.Norm.{NormFun}
+use Rattle.normal_form.specs.Context.{types}
+use Rattle.solved_tasks.specs.Told.{bodies_of}
+use Rattle.walk_rules.proofs.Standing.{some_position}
+use Rattle.constraint_gen.proofs.Walking.{length_map}
+use Rattle.annot_types.specs.System.{sig_weights, args_of, result_of, unsigned}
 use Rattle.annot_types.specs.Rows.{size as size_of}
 use Rattle.walk_rules.specs.Numbers.{Sides, Signature, Hint, Condition}
 use Rattle.walk_rules.specs.Kinds.{Form, forms, unknown, one_at}
 use Rattle.walk_rules.specs.Walk.{at, group_sides}
 use Rattle.walk_rules.specs.Tasks.{Body, Job, sides_count, sides_given, hints_given, unknowns, known_by, of_target, of_bodies, given_conditions}
-use Rattle.walk_rules.specs.Jobs.{job_of}
-use Rattle.walk_rules.specs.Systems.{IsTask}
+use Rattle.walk_rules.specs.Jobs.{body_of, job_of}
+use Rattle.walk_rules.specs.Systems.{IsReady, AreReady, IsTask}
 use Rattle.walk_rules.specs.Solving.{rows_of}
 use Rattle.walk_rules.proofs.TaskRows.{systems_are_walked}
 use Rattle.walk_rules.proofs.Given.{given_carry}
@@ -36,14 +42,16 @@ use Rattle.constraint_gen.specs.Sums.{Sum, sums, form_of}
 use Rattle.constraint_gen.specs.Sums as c
 use Rattle.constraint_gen.specs.Walked.{job_in}
 use Rattle.solved_tasks.specs.Capped.{within}
-use Rattle.constraint_gen.specs.Heard.{hear_all}
+use Rattle.constraint_gen.specs.Heard.{Heard, hear_all}
+use Rattle.solved_tasks.specs.Sure.{AreSure}
+use Rattle.solved_tasks.proofs.Sure.{tasks_are_sure}
 use Rattle.constraint_gen.specs.Finished.{RowFault}
 use Rattle.constraint_gen.specs.Cause.{IsWithin, IsCause, LeavesFirst}
-use Rattle.constraint_gen.specs.Made.{filled, HasRows, RowCause, JobCause, job_rows}
+use Rattle.constraint_gen.specs.Made.{filled, HasRows, RowCause, IsProper, JobCause, job_rows}
 use Rattle.constraint_gen.specs.declared.fault.GenFault.{GenFault}
 use Rattle.constraint_gen.specs.declared.fault.GenFault.TheVariants.{TooLarge, Leaves, NoMemory}
 use Rattle.constraint_gen.specs.declared.fault.What.TheVariants.{Indices, Unknowns, Rows}
-use Rattle.constraint_gen.proofs.Finishing.{collected, large_is, leaves_is}
+use Rattle.constraint_gen.proofs.Finishing.{pairs, collected, exact_rows, large_is, leaves_is}
 use Rattle.constraint_gen.proofs.Sums.{carries}
 
 -- Conditions over the code's sums are the exact ones, capped.
@@ -146,11 +154,11 @@ module _ (law : WalksWithoutCost) (P : Program) (d : ℕ) (blocks : List Block) 
         }
 
 -- weights are natural
-natural_append : (xs ys : List ℤ) → NoneNegative xs → NoneNegative ys → NoneNegative (xs ++ ys)
+pub natural_append : (xs ys : List ℤ) → NoneNegative xs → NoneNegative ys → NoneNegative (xs ++ ys)
 natural_append [] ys h g = g
 natural_append (x ∷ xs) ys h g = (h.0, natural_append xs ys h.1 g)
 
-natural_zeros : (n : ℕ) → NoneNegative (replicate n (pos 0))
+pub natural_zeros : (n : ℕ) → NoneNegative (replicate n (pos 0))
 natural_zeros zero = tt
 natural_zeros (suc n) = (omega (arith, ints), natural_zeros n)
 
@@ -158,21 +166,80 @@ natural_weights : (ts : List (List Plain)) → NoneNegative (map (λ t. pos (10 
 natural_weights [] = tt
 natural_weights (t ∷ ts) = (omega (arith, ints), natural_weights ts)
 
-natural_sigs : (P : Program) (budget : ℕ) (fs : List ℕ) → NoneNegative (sig_weights P budget fs)
+pub natural_sigs : (P : Program) (budget : ℕ) (fs : List ℕ) → NoneNegative (sig_weights P budget fs)
 natural_sigs P budget [] = tt
 natural_sigs P budget (f ∷ fs) =
     natural_append (map (λ t. pos (10 ^ degrees t)) (index_list (args_of (slice_get P.funs f)) budget)) (replicate (size_of (result_of (slice_get P.funs f)) budget) (pos 0) ++ sig_weights P budget fs)
     (natural_weights (index_list (args_of (slice_get P.funs f)) budget))
     (natural_append (replicate (size_of (result_of (slice_get P.funs f)) budget) (pos 0)) (sig_weights P budget fs) (natural_zeros (size_of (result_of (slice_get P.funs f)) budget)) (natural_sigs P budget fs))
 
-pub natural_filled : (P : Program) (budget n : ℕ) (fs : List ℕ) → NoneNegative (filled n (sig_weights P budget fs))
-natural_filled P budget n fs = natural_append (sig_weights P budget fs) (replicate (n - length (sig_weights P budget fs)) (pos 0)) (natural_sigs P budget fs) (natural_zeros (n - length (sig_weights P budget fs)))
+pub natural_front : (n : ℕ) (xs : List ℤ) → NoneNegative xs → NoneNegative (take n xs)
+natural_front zero xs h = tt
+natural_front (suc n) [] h = tt
+natural_front (suc n) (x ∷ xs) h = (h.0, natural_front n xs h.1)
+
+-- The job of a task is proper.
+length_append : {X : Type 0} (xs ys : List X) → length (xs ++ ys) ≡ length xs + length ys
+length_append [] ys = omega arith
+length_append (x ∷ xs) ys = omega (arith, length_append xs ys)
+
+length_replicate : {X : Type 0} (n : ℕ) (x : X) → length (replicate n x) ≡ n
+length_replicate zero x = refl
+length_replicate (suc n) x = ap suc (length_replicate n x)
+
+module _ (S : Setting) (mode : Mode) (P : Program) (all : List ℕ) (blocks : List Block) (budget : ℕ) (same : S.program ≡ P) where
+  abbrev bodies_at : List ℕ → List Body
+  bodies_at fs = map (λ f. body_of P all blocks budget (slice_get P.funs f)) fs
+
+  abbrev count_of : Option NormFun → ℕ
+  count_of o = (body_of P all blocks budget o).args + (body_of P all blocks budget o).result
+
+  -- a function that is there has an argument's position, and as many weights as positions
+  one_body : (f : ℕ) → IsReady S mode f → (1 ≤ count_of (slice_get P.funs f)) × (size_of (args_of (slice_get P.funs f)) budget + size_of (result_of (slice_get P.funs f)) budget ≡ count_of (slice_get P.funs f))
+  one_body f ready =
+      let there : slice_get P.funs f ≡ Some ready.fun = subst (λ (Q : Program). slice_get Q.funs f ≡ Some ready.fun) same ready.there in
+      subst (λ o. (1 ≤ count_of o) × (size_of (args_of o) budget + size_of (result_of o) budget ≡ count_of o)) (sym there)
+      (omega (arith, some_position (types ready.fun.params) budget), refl)
+
+  few_bodies : (fs : List ℕ) → AreReady S mode fs → length (bodies_at fs) ≤ sides_count (bodies_at fs)
+  few_bodies [] h = omega arith
+  few_bodies (f ∷ fs) h = omega (arith, (one_body f h.0).0, few_bodies fs h.2)
+
+  few_weights : (fs : List ℕ) → AreReady S mode fs → length (sig_weights P budget fs) ≡ sides_count (bodies_at fs)
+  few_weights [] h = refl
+  few_weights (f ∷ fs) h =
+      let As = args_of (slice_get P.funs f) in
+      let n = size_of (result_of (slice_get P.funs f)) budget in
+      let rest = sig_weights P budget fs in
+      length_append (map (λ t. pos (10 ^ degrees t)) (index_list As budget)) (replicate n (pos 0) ++ rest)
+      ∙ (λ i. length_map (λ t. pos (10 ^ degrees t)) (index_list As budget) i + length_append (replicate n (pos 0)) rest i)
+      ∙ (λ i. size_of As budget + (length_replicate n (pos 0) i + few_weights fs h.2 i))
+      ∙ omega (arith, (one_body f h.0).1)
+
+pub proper_is : (P : Program) (d : ℕ) (blocks : List Block) (t : Tables) (task : Task) (scale : ℕ) (bodies : List Body) → bodies ≡ bodies_of P d blocks task → IsTask P d blocks task scale → scale < 2 ^ 127 →
+    IsProper (job_in P d t bodies task scale) (sig_weights P (budget_of d task.kind) (members P task.group))
+proper_is P d blocks t task scale bodies e is small =
+    let S = unsigned P d blocks task scale in
+    let mode = mode_of task.kind in
+    let fs = members P task.group in
+    let budget = budget_of d task.kind in
+    let few = few_bodies S mode P fs blocks budget refl fs is.0 in
+    let weights = few_weights S mode P fs blocks budget refl fs is.0 in
+    let count = ap sides_count e in
+    record {
+      sure = tasks_are_sure P d blocks task (job_in P d t bodies task scale) e small;
+      few_bodies = omega (arith, ap length e, few, count);
+      few_weights = omega (arith, weights, count);
+    }
 
 -- what the code heard is the front of the rows
-pub front_is : (j : Job) (n : ℕ) (v : List (Option SparseRow)) →
-    Some (record { unknowns = n; rows = v }) ≡ hear_all (Some (record { unknowns = n; rows = [] })) (given_conditions sums c.unknown j) →
-    v ≡ take 2001 (map within (rows_of n (given_conditions forms unknown j)))
-front_is j n v e = collected capped_rows.agree n (given_conditions forms unknown j) (given_conditions sums c.unknown j) [] (record { unknowns = n; rows = v }) (conditions_are j) (omega arith) (sym e)
+pub front_is : (j : Job) (n : ℕ) (v : List (Option SparseRow)) → record { unknowns = n; rows = v } ≡ hear_all (record { unknowns = n; rows = [] }) (given_conditions sums c.unknown j) →
+    v ≡ take 2001 (map within (rows_of n (pairs (given_conditions sums c.unknown j))))
+front_is j n v e = ap (λ (h : Heard). h.rows) e ∙ collected n (given_conditions sums c.unknown j) [] (omega arith)
+
+pub exact_front : (j : Job) (n : ℕ) (v : List (Option SparseRow)) → AreSure (given_conditions forms unknown j) →
+    record { unknowns = n; rows = v } ≡ hear_all (record { unknowns = n; rows = [] }) (given_conditions sums c.unknown j) → v ≡ take 2001 (map within (rows_of n (given_conditions forms unknown j)))
+exact_front j n v sure e = front_is j n v e ∙ ap (take 2001) (exact_rows capped_rows.agree n (given_conditions forms unknown j) (given_conditions sums c.unknown j) (conditions_are j) sure)
 
 pub row_cause : (rows : List SparseRow) (v : List (Option SparseRow)) (fault : GenFault) → v ≡ take 2001 (map within rows) → RowFault v fault → RowCause rows fault
 row_cause rows v (TooLarge Indices) e h = absurd h

@@ -1,13 +1,13 @@
 -- The rows of the conditions that are heard.
-use Rattle.std.specs.Prelude.{◌≡◌, ◌⊎◌, ℕ, ℤ, pos, ◌-ℤ◌, nat_lt, true, false, cond, ◌&&◌, List, [], ◌∷◌, ◌++◌, length, Option, None, Some}
+use Rattle.std.specs.Prelude.{◌≡◌, ◌⊎◌, ℕ, ℤ, pos, ◌-ℤ◌, ◌+◌, nat_lt, true, false, cond, ◌&&◌, List, [], ◌∷◌, ◌++◌, length, Option}
 use Rattle.linear_rows.specs.Terms.{Terms, SparseRow, coefficient}
 use Rattle.annot_types.specs.System.{is_kept}
 use Rattle.walk_rules.specs.Numbers.{Condition}
 use Rattle.walk_rules.specs.Kinds.{Form}
 use Rattle.walk_rules.specs.Solving.{row_of}
 use Rattle.walk_rules.specs.Capped.{cap}
-use Rattle.solved_tasks.specs.Capped.{fits, within, is_sure}
-use Rattle.constraint_gen.specs.Sums.{Sum, total_of, form_of}
+use Rattle.solved_tasks.specs.Capped.{fits, within}
+use Rattle.constraint_gen.specs.Sums.{Sum, total_of}
 
 -- The rows over n unknowns that are kept, the first 2001 of them; none stands for a row that leaves 128 bits.
 pub record Heard : Type 0 where
@@ -17,18 +17,22 @@ pub record Heard : Type 0 where
 abbrev pub kept : Heard → SparseRow → Heard
 kept h row = cond (nat_lt (length h.rows) 2001 && is_kept row) (record { unknowns = h.unknowns; rows = h.rows ++ within row ∷ [] }) h
 
--- the condition of two sums
+-- the condition of two sums, by what is added in its row and what is subtracted
 abbrev pub pair : Sum → Sum → Condition Form
-pair left right = record { path = []; index = 0; left = form_of left; right = form_of right }
+pair left right = record {
+  path = [];
+  index = 0;
+  left = record { terms = λ u. cap (total_of u left.terms); plus = cap (left.plus + right.minus); minus = 0 };
+  right = record { terms = λ u. cap (total_of u right.terms); plus = cap (right.plus + left.minus); minus = 0 };
+}
 
--- one condition more; nothing is told any more where what is subtracted in a row is no number of 127 bits
-abbrev pub hear : Option Heard → Condition Sum → Option Heard
-hear None c = None
-hear (Some h) c = cond (is_sure h.unknowns (pair c.left c.right)) (Some (kept h (row_of h.unknowns (pair c.left c.right)))) None
+-- one condition more
+abbrev pub hear : Heard → Condition Sum → Heard
+hear h c = kept h (row_of h.unknowns (pair c.left c.right))
 
-abbrev pub hear_all : Option Heard → List (Condition Sum) → Option Heard
-hear_all v [] = v
-hear_all v (c ∷ cs) = hear_all (hear v c) cs
+abbrev pub hear_all : Heard → List (Condition Sum) → Heard
+hear_all h [] = h
+hear_all h (c ∷ cs) = hear_all (hear h c) cs
 
 -- the coefficient of an unknown in the row of two sums over n unknowns
 abbrev pub wanted : ℕ → Sum → Sum → ℕ → ℤ

@@ -1,13 +1,13 @@
 -- Conditions are heard in turn.
-use Rattle.std.specs.Prelude.{◌≡◌, List, [], ◌∷◌, ◌++◌, Option}
+use Rattle.std.specs.Prelude.{◌≡◌, List, [], ◌∷◌, ◌++◌}
 use Rattle.std.proofs.Common.{refl}
 use Rattle.walk_rules.specs.Numbers.{Condition}
 use Rattle.constraint_gen.specs.Sums.{Sum}
 use Rattle.constraint_gen.specs.Heard.{Heard, hear, hear_all}
 
-pub silent : (v : Option Heard) → hear_all v [] ≡ v
-silent v = refl
+pub silent : (h : Heard) → hear_all h [] ≡ h
+silent h = refl
 
-pub in_turn : (v : Option Heard) (cs ds : List (Condition Sum)) → hear_all (hear_all v cs) ds ≡ hear_all v (cs ++ ds)
-in_turn v [] ds = refl
-in_turn v (c ∷ cs) ds = in_turn (hear v c) cs ds
+pub in_turn : (h : Heard) (cs ds : List (Condition Sum)) → hear_all (hear_all h cs) ds ≡ hear_all h (cs ++ ds)
+in_turn h [] ds = refl
+in_turn h (c ∷ cs) ds = in_turn (hear h c) cs ds

@@ -6,6 +6,7 @@ use Rattle.linear_rows.specs.Systems.{LinearSystem}
 use Rattle.walk_rules.specs.Kinds.{forms, unknown}
 use Rattle.walk_rules.specs.Tasks.{Job, unknowns, given_conditions}
 use Rattle.walk_rules.specs.Solving.{rows_of}
+use Rattle.solved_tasks.specs.Sure.{AreSure}
 use Rattle.solved_tasks.specs.Capped.{row_fits}
 use Rattle.constraint_gen.specs.Cause.{LeavesFirst}
 use Rattle.constraint_gen.specs.declared.fault.GenFault.{GenFault}
@@ -42,6 +43,12 @@ job_rows j = rows_of (unknowns j) (given_conditions forms unknown j)
 pub record JobMade (j : Job) (weights : List ℤ) (made : LinearSystem) : Type 0 where
   pub few : unknowns j ≤ 2000
   pub has : HasRows (unknowns j) (job_rows j) weights made
+
+-- Its rows are sure, and it has at least as many unknowns as bodies and as weights.
+pub record IsProper (j : Job) (weights : List ℤ) : Type 0 where
+  pub sure : AreSure (given_conditions forms unknown j)
+  pub few_bodies : length j.bodies ≤ unknowns j
+  pub few_weights : length weights ≤ unknowns j
 
 -- why a job has no system
 abbrev pub JobCause : Job → GenFault → Type 0

@@ -1,11 +1,11 @@
 // The rows of a walk.
-ghost use Rattle.std.specs.Prelude.{◌≡◌, ℕ, List, [], Some, OnOk};
+ghost use Rattle.std.specs.Prelude.{◌≡◌, ℕ, List, [], OnOk};
 ghost use Rattle.walk_rules.specs.Walk.{against, numbered};
 ghost use Rattle.constraint_gen.specs.Sums.{sums};
 ghost use Rattle.constraint_gen.specs.Heard.{hear, hear_all};
 
 use crate::form::Form;
-use crate::row::{is_kept, is_sure, row_of};
+use crate::row::{is_kept, row_of};
 use linear_rows::Row;
 use rule_walk::{Judge, Kind};
 use std::alloc::{AllocError, Global};
@@ -47,11 +47,8 @@ impl Collector {
 
     /// One condition more.
     pub fn take(&mut self, alloc: Global, left: &Form, right: &Form) -> Result<(), AllocError>
-        ensures { OnOk result (Some self.new ≡ hear (Some self.old) (record { path = []; index = 0; left = left.now; right = right.now })) }
+        ensures { OnOk result (self.new ≡ hear self.old (record { path = []; index = 0; left = left.now; right = right.now })) }
     {
-        if !is_sure(left, right) {
-            return Err(AllocError);
-        }
         if self.rows.len() <= 2000 && is_kept(self.unknowns, left, right) {
             let row = row_of(alloc, self.unknowns, left, right)?;
             self.rows.push(row)?;
@@ -61,7 +58,7 @@ impl Collector {
 
     // Each entry on the right with the one at its place on the left.
     fn take_all(&mut self, alloc: Global, left: &[Form], right: &[Form]) -> Result<(), AllocError>
-        ensures { OnOk result ((path : List ℕ) (index : ℕ) → Some self.new ≡ hear_all (Some self.old) (numbered path index (against sums left.now right.now))) }
+        ensures { OnOk result ((path : List ℕ) (index : ℕ) → self.new ≡ hear_all self.old (numbered path index (against sums left.now right.now))) }
     {
         let none = Form::none(alloc);
         for place in 0..right.len() {
@@ -73,13 +70,12 @@ impl Collector {
 }
 
 impl Judge<Form> for Collector {
-    ghost use Rattle.std.specs.Prelude.{Option, Some};
     ghost use Rattle.constraint_gen.specs.Heard.{Heard, hear_all};
     ghost use Rattle.constraint_gen.specs.Hearing.{silent, in_turn};
 
-    ghost Verdict = { Option Heard };
+    ghost Verdict = { Heard };
 
-    ghost verdict = { λ c. Some c };
+    ghost verdict = { λ c. c };
 
     ghost after = { hear_all };
 
@@ -91,7 +87,7 @@ impl Judge<Form> for Collector {
         left: Vec<Form>,
         right: Vec<Form>,
     ) -> Result<(), AllocError>
-        ensures { OnOk result (Some self.new ≡ hear_all (Some self.old) (numbered path.now index (against sums left.items right.items))) }
+        ensures { OnOk result (self.new ≡ hear_all self.old (numbered path.now index (against sums left.items right.items))) }
     {
         self.take_all(alloc, &left, &right)?;
         Ok(())

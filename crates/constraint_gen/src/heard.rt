@@ -1,5 +1,5 @@
 // The conditions of a task are heard.
-ghost use Rattle.std.specs.Prelude.{◌≡◌, ◌≤◌, ◌<◌, ◌+◌, ◌^◌, ℕ, List, [], map, length, Some, IfOk, OnOk};
+ghost use Rattle.std.specs.Prelude.{◌≡◌, ◌≤◌, ◌<◌, ◌+◌, ◌^◌, ℕ, List, [], map, length, IfOk, OnOk};
 ghost use Rattle.cost_free.specs.Read.{task_of, kind_of};
 ghost use Rattle.annot_types.specs.Program as p;
 ghost use Rattle.annot_types.specs.Holds as h;
@@ -34,7 +34,7 @@ fn hear_target(
     positions: &[usize],
     collector: &mut Collector,
 ) -> Result<(), AllocError>
-    ensures { OnOk result ((function : ℕ) → Some collector.new ≡ hear_all (Some collector.old) (reached function result_of.now positions.now)) }
+    ensures { OnOk result ((function : ℕ) → collector.new ≡ hear_all collector.old (reached function result_of.now positions.now)) }
 {
     let none = Form::none(alloc);
     let one = Form::number(alloc, 1, 1);
@@ -53,15 +53,12 @@ fn hear_bodies(
     hints: &[Vec<Hint<Form>>],
     collector: &mut Collector,
 ) -> Result<(), AllocError>
-    requires { length hints.now ≡ length bodies.now }
-    ensures { OnOk result (Some collector.new
-        ≡ hear_all (Some collector.old) (bodies_walked (known_of known.now) (w.mode_of mode) 0 (map body_of bodies.now) (map (λ h. hints_of h.items) hints.now))) }
+    requires hints { length hints.now ≡ length bodies.now }
+    requires few { length bodies.now ≤ 2000 }
+    ensures { OnOk result (collector.new
+        ≡ hear_all collector.old (bodies_walked (known_of known.now) (w.mode_of mode) 0 (map body_of bodies.now) (map (λ h. hints_of h.items) hints.now))) }
 {
     for place in 0..bodies.len() {
-        // so many bodies have no room in memory
-        if place > u32::MAX as usize {
-            return Err(AllocError);
-        }
         walk_body(
             alloc,
             known,
@@ -96,8 +93,9 @@ fn hear_all(
     hints: &[Vec<Hint<Form>>],
     collector: &mut Collector,
 ) -> Result<(), AllocError>
-    requires { length hints.now ≡ length bodies.now }
-    ensures { OnOk result (Some collector.new ≡ hear_all (hear_all (Some collector.old)
+    requires hints { length hints.now ≡ length bodies.now }
+    requires few { length bodies.now ≤ 2000 }
+    ensures { OnOk result (collector.new ≡ hear_all (hear_all collector.old
         (reached (target_place (p.members (program_in program.now) task.now.group) (kind_of task.now.kind))
         (sides_at (known_of known.now).group (target_place (p.members (program_in program.now) task.now.group) (kind_of task.now.kind))).result
         (target_positions (program_in program.now) d (kind_of task.now.kind))))
@@ -123,9 +121,10 @@ pub fn heard(
     asks: &[Vec<Ask>],
     count: u32,
 ) -> Result<Vec<Option<Row>>, AllocError>
+    requires few { length bodies.now ≤ 2000 }
     requires asked { map (λ a. asks_of a.items) asks.now ≡ map (λ (b : t.Body). asked b.plan) (map body_of bodies.now) }
     requires room { unknowns (job_in (program_in program.now) d earlier.now (map body_of bodies.now) (task_of task.now) scale) ≤ 2000 }
-    ensures { IfOk result (λ rows. Some (record { unknowns = count; rows = rows.items }) ≡ hear_all (Some (record { unknowns = count; rows = [] }))
+    ensures { IfOk result (λ rows. record { unknowns = count; rows = rows.items } ≡ hear_all (record { unknowns = count; rows = [] })
         (given_conditions sums unknown (job_in (program_in program.now) d earlier.now (map body_of bodies.now) (task_of task.now) scale))) }
 {
     let mut next = 0;

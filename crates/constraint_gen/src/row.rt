@@ -1,38 +1,29 @@
 // The row of a condition.
-ghost use Rattle.std.specs.Prelude.{◌≡◌, ◌<◌, ◌+◌, ◌-ℤ◌, ◌^◌, ℕ, pos, nat_lt, true, false, not, ◌&&◌, length, cond, IsTrue, IfOk, OnOk, IsOkAnd, SomeIff};
+ghost use Rattle.std.specs.Prelude.{◌≡◌, ◌<◌, ◌+◌, ◌-ℤ◌, ℕ, pos, nat_lt, true, false, not, ◌&&◌, length, IsTrue, IfOk, OnOk, IsOkAnd, SomeIff};
 ghost use Rattle.std.specs.List.{list_all};
 ghost use Rattle.annot_types.specs.System.{is_kept};
 ghost use Rattle.walk_rules.specs.Capped.{cap};
 ghost use Rattle.walk_rules.specs.Solving.{row_of};
-ghost use Rattle.solved_tasks.specs.Capped.{fits, within, is_sure};
-ghost use Rattle.constraint_gen.specs.Sums.{total_of, unknown_at, IsSum};
+ghost use Rattle.solved_tasks.specs.Capped.{fits, within};
+ghost use Rattle.constraint_gen.specs.Sums.{total_of, unknown_at};
 ghost use Rattle.constraint_gen.specs.Heard.{pair, wanted, IsDone, IsPart, Settles, Leaves};
 
 use crate::form::Form;
-use linear_rows::Row;
+use linear_rows::{Row, RowFault};
 use std::alloc::{AllocError, Global};
 
-/// The least number that is none of 127 bits.
-const LIMIT: u128 = 1 << 127;
-
-// Whether all numbers are below 2^127.
-fn are_small(terms: &[(u32, u128)]) -> bool
-    ensures { result ≡ list_all (λ t. nat_lt t.1 (2 ^ 127)) terms.now }
+// What the condition asks for beside its unknowns, and so is added on the right side of its row.
+fn asked(left: &Form, right: &Form) -> u128
+    ensures { result ≡ cap (right.now.plus + left.now.minus) }
 {
-    for term in terms {
-        if term.1 >= LIMIT {
-            return false;
-        }
-    }
-    true
+    right.plus().saturating_add(left.minus())
 }
 
-/// Whether what is subtracted in the row is below 2^127.
-pub fn is_sure(left: &Form, right: &Form) -> bool
-    ensures sure { IsTrue result → (n : ℕ) → is_sure n (pair left.now right.now) ≡ true }
-    ensures small { IsTrue result → (u : ℕ) → cap (total_of u right.now.terms) < 2 ^ 127 }
+// What it has beside them, and so is subtracted there.
+fn held(left: &Form, right: &Form) -> u128
+    ensures { result ≡ cap (left.now.plus + right.now.minus) }
 {
-    are_small(right.terms()) && left.plus().saturating_add(right.minus()) < LIMIT
+    left.plus().saturating_add(right.minus())
 }
 
 // Whether the sum takes each of the unknowns at least as often as these terms.
@@ -49,27 +40,16 @@ fn covers(unknowns: u32, left: &Form, terms: &[(u32, u128)]) -> bool
 
 /// Whether the row says something: it has a negative coefficient, or a positive right side.
 pub fn is_kept(unknowns: u32, left: &Form, right: &Form) -> bool
-    requires sure { is_sure unknowns (pair left.now right.now) ≡ true }
     ensures { result ≡ is_kept (row_of unknowns (pair left.now right.now)) }
 {
-    let asked = left.minus().saturating_add(right.plus());
-    asked > left.plus() + right.minus() || !covers(unknowns, left, right.terms())
+    asked(left, right) > held(left, right) || !covers(unknowns, left, right.terms())
 }
 
 // What the first has more than the second; none where it does not fit 128 bits.
 fn difference(first: u128, second: u128) -> Option<i128>
-    requires small { second < 2 ^ 127 }
     ensures { SomeIff result (fits (pos first -ℤ pos second) ≡ true) (pos first -ℤ pos second) }
 {
-    if first < second {
-        return Some(0 - (second - first) as i128);
-    }
-    let number = first - second;
-    if number < LIMIT {
-        Some(number as i128)
-    } else {
-        None
-    }
+    first.checked_signed_diff(second)
 }
 
 // The coefficient of an unknown is added to the row, unless it is there. Whether it fits.
@@ -81,7 +61,6 @@ fn settle(
     right: &Form,
 ) -> Result<bool, AllocError>
     requires part { IsPart (wanted unknowns left.now right.now) row.old.terms }
-    requires small { cap (total_of unknown right.now.terms) < 2 ^ 127 }
     ensures settles { OnOk result (Settles (wanted unknowns left.now right.now) row.old.terms row.new.terms) }
     ensures done { IsOkAnd result IsTrue → IsDone (wanted unknowns left.now right.now) row.new.terms unknown }
     ensures leaves { IsOkAnd result (λ ok. ok ≡ false) → Leaves (wanted unknowns left.now right.now) }
@@ -91,10 +70,12 @@ fn settle(
         return Ok(true);
     }
     match difference(left.coefficient(unknown), right.coefficient(unknown)) {
-        Some(number) => {
-            row.add(unknown, number).map_err(|_| AllocError)?;
-            Ok(true)
-        }
+        Some(number) => match row.add(unknown, number) {
+            Ok(()) => Ok(true),
+            Err(RowFault::NoMemory) => Err(AllocError),
+            // the row has no such unknown yet
+            Err(RowFault::LeavesRow) => unreachable!(),
+        },
         None => Ok(false),
     }
 }
@@ -108,7 +89,6 @@ fn settle_all(
     right: &Form,
 ) -> Result<bool, AllocError>
     requires part { IsPart (wanted unknowns left.now right.now) row.old.terms }
-    requires small { (u : ℕ) → cap (total_of u right.now.terms) < 2 ^ 127 }
     ensures settles { OnOk result (Settles (wanted unknowns left.now right.now) row.old.terms row.new.terms) }
     ensures done { IsOkAnd result IsTrue → (i : ℕ) → i < length terms.now → IsDone (wanted unknowns left.now right.now) row.new.terms (unknown_at terms.now i) }
     ensures leaves { IsOkAnd result (λ ok. ok ≡ false) → Leaves (wanted unknowns left.now right.now) }
@@ -129,16 +109,14 @@ pub fn row_of(
     left: &Form,
     right: &Form,
 ) -> Result<Option<Row>, AllocError>
-    requires sure { is_sure unknowns (pair left.now right.now) ≡ true }
-    requires small { (u : ℕ) → cap (total_of u right.now.terms) < 2 ^ 127 }
     ensures { IfOk result (λ made. made ≡ within (row_of unknowns (pair left.now right.now))) }
 {
-    let asked = left.minus().saturating_add(right.plus());
-    let Some(right_side) = difference(asked, left.plus() + right.minus()) else {
+    let Some(right_side) = difference(asked(left, right), held(left, right)) else {
         return Ok(None);
     };
     let mut row = Row::new(alloc);
-    row.add_right(right_side).map_err(|_| AllocError)?;
+    // it has the right side 0
+    row.add_right(right_side).unwrap();
     if !settle_all(&mut row, unknowns, left.terms(), left, right)? {
         return Ok(None);
     }

@@ -1,8 +1,7 @@
 // The system of a task.
-ghost use Rattle.std.specs.Prelude.{◌≡◌, ◌≤◌, ◌+◌, ◌≤ℤ◌, ℕ, pos, unsigned_abs, List, map, slice_get, IfOk, IfErr, OnOk, SomeIff};
+ghost use Rattle.std.specs.Prelude.{◌≡◌, ◌≤◌, ◌<◌, ◌+◌, ◌^◌, ◌≤ℤ◌, ℕ, pos, unsigned_abs, List, map, length, slice_get, IfOk, IfErr, OnOk, SomeIff};
 ghost use Rattle.std.specs.List.{All};
 ghost use Rattle.annot_types.specs.Program as p;
-ghost use Rattle.annot_types.specs.System as s;
 ghost use Rattle.walk_rules.specs.Asked.{asked};
 ghost use Rattle.walk_rules.specs.Kinds.{forms, unknown};
 ghost use Rattle.walk_rules.specs.Jobs as j;
@@ -12,7 +11,8 @@ ghost use Rattle.walk_rules.specs.Tasks.{sides_count, unknowns, given_conditions
 ghost use Rattle.rule_walk.specs.Asks.{asks_of};
 ghost use Rattle.rule_plan.specs.Within.{FunctionWithin};
 ghost use Rattle.constraint_gen.specs.Given.{all_counts};
-ghost use Rattle.constraint_gen.specs.Made.{HasRows, RowCause, PlanCause, JobMade, JobCause};
+ghost use Rattle.constraint_gen.specs.Made.{HasRows, RowCause, PlanCause, IsProper, JobMade, JobCause};
+ghost use Rattle.constraint_gen.specs.Weights.{weights_of};
 ghost use Rattle.constraint_gen.specs.Walked.{job_in};
 ghost use Rattle.annot_types.specs.Certificate as c;
 ghost use Rattle.annot_types.specs.Holds.{budget_of};
@@ -112,6 +112,10 @@ pub fn rows_by(
         IsTask (program_in program.now) d blocks (task_of task.now) scale →
         IsCause (program_in program.now) d blocks (task_of task.now) scale fault) }
 {
+    // scales are numbers of 127 bits
+    if scale > i128::MAX as u128 {
+        return Err(GenFault::NoMemory);
+    }
     // a walk that pays no prices reads no signature that pays
     walks_without_cost();
     of_plans(alloc, program, d, earlier, task, scale, plans)
@@ -128,10 +132,15 @@ fn of_plans(
     planned: &[Body],
 ) -> Result<System, GenFault>
     requires budget { budget_of d (kind_of task.now.kind) ≤ 4 }
-    ensures made { IfOk result (JobMade (job_in (program_in program.now) d earlier.now (map body_of planned.now) (task_of task.now) scale)
-        (s.sig_weights (program_in program.now) (budget_of d (kind_of task.now.kind)) (p.members (program_in program.now) task.now.group))) }
-    ensures fault { IfErr result (JobCause (job_in (program_in program.now) d earlier.now (map body_of planned.now) (task_of task.now) scale)) }
+    ensures made { IfOk result (λ made. IsProper (job_in (program_in program.now) d earlier.now (map body_of planned.now) (task_of task.now) scale) (weights_of program.now d task.now) →
+        JobMade (job_in (program_in program.now) d earlier.now (map body_of planned.now) (task_of task.now) scale) (weights_of program.now d task.now) made) }
+    ensures fault { IfErr result (λ fault. IsProper (job_in (program_in program.now) d earlier.now (map body_of planned.now) (task_of task.now) scale) (weights_of program.now d task.now) →
+        JobCause (job_in (program_in program.now) d earlier.now (map body_of planned.now) (task_of task.now) scale) fault) }
 {
+    // each function has an unknown at least
+    if planned.len() > 2000 {
+        return Err(GenFault::TooLarge(What::Unknowns));
+    }
     let asks = all_asked(alloc, planned)?;
     match count(planned, &asks) {
         Some(count) => of_bodies(
@@ -187,9 +196,11 @@ fn of_bodies(
     requires asked { map (λ a. asks_of a.items) asks.now ≡ map (λ (b : t.Body). asked b.plan) (map body_of planned.now) }
     requires counted { count ≡ unknowns (job_in (program_in program.now) d earlier.now (map body_of planned.now) (task_of task.now) scale) }
     requires few { count ≤ 2000 }
-    ensures made { IfOk result (HasRows count (rows_of count (given_conditions forms unknown (job_in (program_in program.now) d earlier.now (map body_of planned.now) (task_of task.now) scale)))
-        (s.sig_weights (program_in program.now) (budget_of d (kind_of task.now.kind)) (p.members (program_in program.now) task.now.group))) }
-    ensures fault { IfErr result (RowCause (rows_of count (given_conditions forms unknown (job_in (program_in program.now) d earlier.now (map body_of planned.now) (task_of task.now) scale)))) }
+    requires bodies { length planned.now ≤ 2000 }
+    ensures made { IfOk result (λ made. IsProper (job_in (program_in program.now) d earlier.now (map body_of planned.now) (task_of task.now) scale) (weights_of program.now d task.now) →
+        HasRows count (rows_of count (given_conditions forms unknown (job_in (program_in program.now) d earlier.now (map body_of planned.now) (task_of task.now) scale))) (weights_of program.now d task.now) made) }
+    ensures fault { IfErr result (λ fault. IsProper (job_in (program_in program.now) d earlier.now (map body_of planned.now) (task_of task.now) scale) (weights_of program.now d task.now) →
+        RowCause (rows_of count (given_conditions forms unknown (job_in (program_in program.now) d earlier.now (map body_of planned.now) (task_of task.now) scale))) fault) }
 {
     let rows = heard(
         alloc, program, d, earlier, task, scale, planned, asks, count,

@@ -18,6 +18,7 @@ ghost use Rattle.walk_rules.specs.Planned.{place_in};
 ghost use Rattle.std.specs.Option.{unwrap_or};
 ghost use Rattle.rule_walk.specs.Read as w;
 ghost use Rattle.rule_plan.specs.Read.{program_in};
+ghost use Rattle.raml_num.specs.Sums.{NoneNegative};
 ghost use Rattle.constraint_gen.specs.Made.{filled};
 ghost use Rattle.constraint_gen.specs.Weights.{weight_of, positions_in};
 
@@ -314,15 +315,13 @@ fn place_in(functions: &[FunId], fun: FunId) -> usize
     0
 }
 
-/// With a 0 for each other unknown.
+/// With a 0 for each other unknown. Weights past the last unknown are dropped.
 pub fn fill(weights: &mut Vec<i128>, count: u32) -> Result<(), AllocError>
-    ensures filled { OnOk result (weights.new.items ≡ filled count weights.old.items) }
+    ensures filled { OnOk result (length weights.old.items ≤ count → weights.new.items ≡ filled count weights.old.items) }
     ensures count { OnOk result (vec_len weights.new ≡ count) }
+    ensures natural { OnOk result (NoneNegative weights.old.items → NoneNegative weights.new.items) }
 {
-    // signatures have no more weights than there are unknowns
-    if weights.len() > count as usize {
-        return Err(AllocError);
-    }
+    weights.truncate(count as usize);
     let missing = count as usize - weights.len();
     append_zeros(weights, missing)?;
     Ok(())

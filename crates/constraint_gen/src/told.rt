@@ -17,6 +17,7 @@ ghost use Rattle.constraint_gen.specs.Given.{all_counts, all_answers};
 ghost use Rattle.constraint_gen.specs.Numbers.{numbers, entry};
 
 use crate::counts::all_asked;
+use crate::fault::GenFault;
 use crate::system::{count, plans};
 use annot_types::{Annot, Hint, Sig};
 use cost_free::Task;
@@ -76,7 +77,7 @@ fn annot(alloc: Global, solution: &[i128], next: &mut u32, size: usize) -> Resul
 {
     match Annot::new(found(alloc, solution, next, size)?) {
         Some(made) => Ok(made),
-        None => Err(AllocError),
+        None => unreachable!(),
     }
 }
 
@@ -235,6 +236,7 @@ pub fn hints_of(
 {
     match plans(alloc, program, d, earlier, task) {
         Ok(plans) => told_by(alloc, &plans, solution),
-        Err(_) => Err(AllocError),
+        Err(GenFault::NoMemory) => Err(AllocError),
+        Err(GenFault::TooLarge(_) | GenFault::Leaves { .. }) => unreachable!(),
     }
 }

@@ -18,22 +18,8 @@ use Rattle.walk_rules.specs.Asked.{Ask, ResultsOf, CopiesOf, MultiplesOf, asked,
 use Rattle.walk_rules.specs.Planned.{is_usable, usable_from, lower, let_part, plan}
 use Rattle.walk_rules.specs.Tasks.{Body, sides_count, sides_given, hints_given}
 use Rattle.walk_rules.specs.Jobs.{body_of}
-use Rattle.solved_tasks.specs.Told.{bodies_of, entries_from, entries, named, sig, hint, number_in, sigs_told, hints_told}
-
-rise_later : (least from : ℕ) (es : Entries) → least ≤ from → RiseFrom from es → RiseFrom least es
-rise_later least from [] l h = tt
-rise_later least from (e ∷ es) l h = (omega (arith, l, h.0), h.1, h.2)
-
-positive : (n : ℕ) → nat_eq n 0 ≡ false → pos 0 <ℤ pos n
-positive zero e = absurd (cc)
-positive (suc n) e = grind (arith, ints)
-
-entries_rise : (from : ℕ) (ns : List ℕ) → RiseFrom from (entries_from from ns)
-entries_rise from [] = tt
-entries_rise from (n ∷ ns) = by (nat_eq n 0) refl (entries_rise (suc from) ns) where
-  by : (b : Bool) → nat_eq n 0 ≡ b → RiseFrom (suc from) (entries_from (suc from) ns) → RiseFrom from (cond b (entries_from (suc from) ns) ((from, pos n) ∷ entries_from (suc from) ns))
-  by true e h = rise_later from (suc from) (entries_from (suc from) ns) (omega arith) h
-  by false e h = (omega arith, positive n e, h)
+use Rattle.solved_tasks.proofs.Told.{positive, entries_rise}
+use Rattle.solved_tasks.specs.Told.{bodies_of, entries, named, sig, hint, number_in, sigs_told, hints_told}
 
 -- they ascend, from this one on
 abbrev Up : ℕ → List ℕ → Type 0

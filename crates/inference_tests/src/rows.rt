@@ -1,7 +1,8 @@
-//! Rows of tasks that leave 128 bits, at degree 1.
+//! Rows of tasks that leave 128 bits, and what a solution of a task stands for, at degree 1.
 use crate::programs::{budget_of, certificate, kept, typed_program};
+use annot_types::Hint;
 use call_groups::group_calls;
-use constraint_gen::{GenFault, rows};
+use constraint_gen::{GenFault, hints_of, plans, rows};
 use cost_free::Task;
 use earlier_blocks::Earlier;
 use linear_rows::{Row, System};
@@ -136,5 +137,45 @@ fn rows_leave(rt: HostRuntime) -> Result<(), Fail> {
         let found = rows_of(rt.alloc(), source, text, *scale)?;
         assert!(rt; found.as_str() == *want, "{found} of {source} at {scale}");
     }
+    Ok(())
+}
+
+/// Writes a hint of a call.
+fn push_call(out: &mut String, hint: &Hint) -> Result<(), Fail> {
+    match hint {
+        Hint::Call(entries) => Ok(write!(out, " call {entries:?}")?),
+        Hint::Let(_) | Hint::Share(_) => Err(Fail::new("another hint")),
+    }
+}
+
+/// What 5, 3 and 2 stand for in the last task of `FITS`.
+fn told_numbers(alloc: Global, program: &NormProgram<'_>) -> Result<String, Fail> {
+    let certificate = certificate(alloc, FITS)?;
+    let Some((last, before)) = certificate.blocks.split_last() else {
+        return Err(Fail::new("there is no block"));
+    };
+    let earlier = kept(alloc, program, before)?;
+    let mut out = String::new(alloc);
+    if budget_of(&last.task) > 4 || plans(alloc, program, 1, &earlier, &last.task).is_err() {
+        return Err(Fail::new("there are no plans"));
+    }
+    let (sigs, hints) = hints_of(alloc, program, 1, &earlier, &last.task, &[5, 3, 2])?;
+    for sig in &sigs {
+        let (args, result) = (sig.args.entries(), sig.result.entries());
+        write!(out, "{args:?} {result:?}")?;
+    }
+    for hint in hints.iter().flatten() {
+        push_call(&mut out, hint)?;
+    }
+    Ok(out)
+}
+
+#[test]
+fn numbers_stand_for_signatures_and_hints(rt: HostRuntime) -> Result<(), Fail> {
+    let typed = typed_program(rt.alloc(), CALL)?;
+    let groups = group_calls(rt.alloc(), typed.program())?;
+    let program = normalise(rt.alloc(), &typed, groups)?;
+    let found = told_numbers(rt.alloc(), &program)?;
+    assert_eq!(rt; found.as_str(), "[(0, 5)] [(0, 3)] call [(0, 2)]");
     Ok(())
 }

@@ -1,18 +1,18 @@
 -- Capped sums of unknowns and their rows.
-use Rattle.std.proofs.Common.{◌≡◌, refl, ap, sym, ◌∙◌, arith, inl, inr}
-use Rattle.std.specs.Prelude.{ℕ, zero, suc, ◌+◌, ◌*◌, ◌-◌, ◌^◌, ◌<◌, ◌≤◌, ◌⊎◌, Bool, true, false, cond, not, ◌&&◌, nat_lt, int_le, ℤ, pos, ◌-ℤ◌, ◌≤ℤ◌, List, [], ◌∷◌, map, filter, Some, None}
+use Rattle.std.proofs.Common.{◌≡◌, refl, ap, sym, ◌∙◌, arith, subst, inl, inr}
+use Rattle.std.specs.Prelude.{ℕ, zero, suc, ◌+◌, ◌*◌, ◌-◌, ◌^◌, ◌<◌, ◌≤◌, ◌⊎◌, Bool, true, false, cond, not, ◌&&◌, int_le, ℤ, pos, ◌-ℤ◌, ◌≤ℤ◌, negsuc, ◌∷◌, map, filter, Some, None}
 use Rattle.std.specs.List.{range_with_len, list_all}
 use Rattle.std.specs.Ordering.{int_eq}
 use Rattle.std.proofs.lemmas.Int.{ints}
-use Rattle.std.proofs.lemmas.Bool.Decides.{nat_tests, Decides-int_eq}
+use Rattle.std.proofs.lemmas.Bool.Decides.{Decides-int_eq}
 use Rattle.linear_rows.specs.Terms.{Terms, SparseRow}
-use Rattle.annot_types.specs.System.{is_kept}
 use Rattle.walk_rules.specs.Numbers.{Carries, Condition}
 use Rattle.walk_rules.specs.Kinds.{Form, forms}
 use Rattle.walk_rules.specs.Capped.{cap}
 use Rattle.walk_rules.specs.Solving.{row_of}
 use Rattle.walk_rules.proofs.Given.{given_carry}
-use Rattle.solved_tasks.specs.Capped.{capped_form, capped_forms, capped_condition, fits, row_fits, within, is_sure, RowsAgree, CappedRows}
+use Rattle.solved_tasks.specs.Capped.{capped_form, capped_forms, capped_totals, fits, row_fits, RowsAgree, CappedRows}
+use Rattle.solved_tasks.specs.Sure.{IsSure}
 
 pub same_form : (f g : Form) → ((u : ℕ) → f.terms u ≡ g.terms u) → f.plus ≡ g.plus → f.minus ≡ g.minus → f ≡ g
 same_form f g t p m = λ i. record { terms = λ u. t u i; plus = p i; minus = m i }
@@ -44,18 +44,28 @@ carries = record {
   less = λ n x. same_form _ _ (λ u. refl) refl (omega arith);
 }
 
--- two numbers that are equal, or both too great
+-- two numbers that are equal, or both too great, or both too small
 Alike : ℤ → ℤ → Type 0
-Alike a b = (a ≡ b) ⊎ ((pos (2 ^ 127) ≤ℤ a) × (pos (2 ^ 127) ≤ℤ b))
+Alike a b = (a ≡ b) ⊎ (((pos (2 ^ 127) ≤ℤ a) × (pos (2 ^ 127) ≤ℤ b)) ⊎ ((a ≤ℤ negsuc (2 ^ 127)) × (b ≤ℤ negsuc (2 ^ 127))))
 
-alike_diff : (l r m s : ℕ) → (l ≡ m) ⊎ ((2 ^ 128 - 1 ≤ l) × (2 ^ 128 - 1 ≤ m)) → r ≡ s → r < 2 ^ 127 → Alike (pos l -ℤ pos r) (pos m -ℤ pos s)
+-- two numbers that are equal, or both past the greatest
+abbrev SameOrGreat : ℕ → ℕ → Type 0
+SameOrGreat a b = (a ≡ b) ⊎ ((2 ^ 128 - 1 ≤ a) × (2 ^ 128 - 1 ≤ b))
+
+alike_diff : (l r m s : ℕ) → SameOrGreat l m → r ≡ s → r < 2 ^ 127 → Alike (pos l -ℤ pos r) (pos m -ℤ pos s)
 unfolding Alike
 alike_diff l r m s (inl e) h b = inl (λ i. pos (e i) -ℤ pos (h i))
-alike_diff l r m s (inr g) h b = inr (omega (arith, ints, g.0, b), omega (arith, ints, g.1, b, h))
+alike_diff l r m s (inr g) h b = inr (inl (omega (arith, ints, g.0, b), omega (arith, ints, g.1, b, h)))
 
-capped_or : (a : ℕ) → (cap a ≡ a) ⊎ ((2 ^ 128 - 1 ≤ cap a) × (2 ^ 128 - 1 ≤ a))
+-- nothing is added
+alike_less : (l r m s : ℕ) → l ≡ 0 → m ≡ 0 → SameOrGreat r s → Alike (pos l -ℤ pos r) (pos m -ℤ pos s)
+unfolding Alike
+alike_less l r m s e f (inl h) = inl (λ i. pos ((e ∙ sym f) i) -ℤ pos (h i))
+alike_less l r m s e f (inr g) = inr (inr (omega (arith, ints, g.0, e), omega (arith, ints, g.1, f)))
+
+capped_or : (a : ℕ) → SameOrGreat (cap a) a
 capped_or a = by (either_side a) where
-  by : (a ≤ 2 ^ 128 - 1) ⊎ (2 ^ 128 - 1 ≤ a) → (cap a ≡ a) ⊎ ((2 ^ 128 - 1 ≤ cap a) × (2 ^ 128 - 1 ≤ a))
+  by : (a ≤ 2 ^ 128 - 1) ⊎ (2 ^ 128 - 1 ≤ a) → SameOrGreat (cap a) a
   by (inl h) = inl (omega arith)
   by (inr h) = inr (omega arith, h)
 
@@ -72,10 +82,40 @@ great_leaves a h = by (int_le a (pos (2 ^ 127 - 1))) refl where
   by true e = absurd (grind (arith, ints, h, e))
   by false e = grind (arith, e)
 
-agree_on : (test : ℤ → Bool) (b : Bool) → ((a : ℤ) → pos (2 ^ 127) ≤ℤ a → test a ≡ b) → (x y : ℤ) → Alike x y → test x ≡ test y
+-- and on such that are too small
+small_natural : (a : ℤ) → a ≤ℤ negsuc (2 ^ 127) → int_le (pos 0) a ≡ false
+small_natural a h = grind (arith, ints, h)
+
+small_positive : (a : ℤ) → a ≤ℤ negsuc (2 ^ 127) → int_le a (pos 0) ≡ true
+small_positive a h = grind (arith, ints, h)
+
+small_leaves : (a : ℤ) → a ≤ℤ negsuc (2 ^ 127) → fits a ≡ false
+small_leaves a h = by (int_le (negsuc (2 ^ 127 - 1)) a) refl where
+  by : (b : Bool) → int_le (negsuc (2 ^ 127 - 1)) a ≡ b → fits a ≡ false
+  by true e = absurd (grind (arith, ints, h, e))
+  by false e = grind (arith, e)
+
+-- a test that all numbers agree on that are too great, and all that are too small
+record Settled (test : ℤ → Bool) : Type 0 where
+  answer : Bool
+  other : Bool
+  great : (a : ℤ) → pos (2 ^ 127) ≤ℤ a → test a ≡ answer
+  small : (a : ℤ) → a ≤ℤ negsuc (2 ^ 127) → test a ≡ other
+
+natural_settled : Settled (λ z. int_le (pos 0) z)
+natural_settled = record { answer = true; other = false; great = great_natural; small = small_natural }
+
+positive_settled : Settled (λ z. int_le z (pos 0))
+positive_settled = record { answer = false; other = true; great = great_positive; small = small_positive }
+
+fits_settled : Settled fits
+fits_settled = record { answer = false; other = false; great = great_leaves; small = small_leaves }
+
+agree_on : (test : ℤ → Bool) → Settled test → (x y : ℤ) → Alike x y → test x ≡ test y
 unfolding Alike
-agree_on test b h x y (inl e) = ap test e
-agree_on test b h x y (inr g) = h x g.0 ∙ sym (h y g.1)
+agree_on test s x y (inl e) = ap test e
+agree_on test s x y (inr (inl g)) = s.great x g.0 ∙ sym (s.great y g.1)
+agree_on test s x y (inr (inr g)) = s.small x g.0 ∙ sym (s.small y g.1)
 
 -- the terms of unknowns from k on
 unfoldable pub terms_from : ℕ → ℕ → (ℕ → ℤ) → Terms
@@ -104,16 +144,17 @@ AllAlike : ℕ → ℕ → (ℕ → ℤ) → (ℕ → ℤ) → Type 0
 AllAlike k zero f g = Unit {0}
 AllAlike k (suc n) f g = Alike (f k) (g k) × AllAlike (k + 1) n f g
 
-same_tests : (test : ℤ → Bool) (b : Bool) → ((a : ℤ) → pos (2 ^ 127) ≤ℤ a → test a ≡ b) → (k n : ℕ) (f g : ℕ → ℤ) → AllAlike k n f g →
+same_tests : (test : ℤ → Bool) → Settled test → (k n : ℕ) (f g : ℕ → ℤ) → AllAlike k n f g →
     list_all (λ u. test (f u)) (range_with_len k n) ≡ list_all (λ u. test (g u)) (range_with_len k n)
 unfolding AllAlike
-same_tests test b h k zero f g a = refl
-same_tests test b h k (suc n) f g a = λ i. agree_on test b h (f k) (g k) a.0 i && same_tests test b h (k + 1) n f g a.1 i
+same_tests test s k zero f g a = refl
+same_tests test s k (suc n) f g a = λ i. agree_on test s (f k) (g k) a.0 i && same_tests test s (k + 1) n f g a.1 i
 
 same_where_fits : (x y : ℤ) → Alike x y → fits x ≡ true → x ≡ y
 unfolding Alike
 same_where_fits x y (inl e) h = e
-same_where_fits x y (inr g) h = absurd (let no = great_leaves x g.0 in cc)
+same_where_fits x y (inr (inl g)) h = absurd (let no = great_leaves x g.0 in cc)
+same_where_fits x y (inr (inr g)) h = absurd (let no = small_leaves x g.0 in cc)
 
 same_terms : (k n : ℕ) (f g : ℕ → ℤ) → AllAlike k n f g → list_all (λ u. fits (f u)) (range_with_len k n) ≡ true → terms_from k n f ≡ terms_from k n g
 unfolding AllAlike terms_from
@@ -124,32 +165,22 @@ same_terms k (suc n) f g a h =
     let rest = same_terms (k + 1) n f g a.1 both.1 in
     λ i. cond (not (int_eq (e i) (pos 0))) ((k, e i) ∷ rest i) (rest i)
 
-below : (a : ℕ) → nat_lt a (2 ^ 127) ≡ true → a < 2 ^ 127
-below a h = grind (arith, nat_tests, h)
-
-cap_small : (a : ℕ) → cap a < 2 ^ 127 → cap a ≡ a
-cap_small a h = omega (arith, h)
-
-all_alike : (l r : ℕ → ℕ) (k n : ℕ) → list_all (λ u. nat_lt (cap (r u)) (2 ^ 127)) (range_with_len k n) ≡ true →
-    AllAlike k n (λ u. pos (cap (l u)) -ℤ pos (cap (r u))) (λ u. pos (l u) -ℤ pos (r u))
+all_alike : (l r : ℕ → ℕ) (k n : ℕ) → ((u : ℕ) → (r u < 2 ^ 127) ⊎ (l u ≡ 0)) → AllAlike k n (λ u. pos (cap (l u)) -ℤ pos (cap (r u))) (λ u. pos (l u) -ℤ pos (r u))
 unfolding AllAlike
 all_alike l r k zero h = tt
-all_alike l r k (suc n) h =
-    let both = both_true (nat_lt (cap (r k)) (2 ^ 127)) (list_all (λ u. nat_lt (cap (r u)) (2 ^ 127)) (range_with_len (k + 1) n)) h in
-    let small = below (cap (r k)) both.0 in (
-      alike_diff (cap (l k)) (cap (r k)) (l k) (r k) (capped_or (l k)) (cap_small (r k) small) small,
-      all_alike l r (k + 1) n both.1,
-    )
+all_alike l r k (suc n) h = (by (h k), all_alike l r (k + 1) n h) where
+  by : (r k < 2 ^ 127) ⊎ (l k ≡ 0) → Alike (pos (cap (l k)) -ℤ pos (cap (r k))) (pos (l k) -ℤ pos (r k))
+  by (inl b) = alike_diff (cap (l k)) (cap (r k)) (l k) (r k) (capped_or (l k)) (omega (arith, b)) (omega (arith, b))
+  by (inr e) = alike_less (cap (l k)) (cap (r k)) (l k) (r k) (omega (arith, e)) e (capped_or (r k))
 
-right_alike : (a b c d : ℕ) → cap c + cap d < 2 ^ 127 → Alike (pos (cap a + cap b) -ℤ pos (cap c + cap d)) (pos (a + b) -ℤ pos (c + d))
-right_alike a b c d h = by (either_side a) (either_side b) where
-  subtracted : cap c + cap d ≡ c + d
-  subtracted = omega (arith, h)
+right_alike : (a c : ℕ) → (c < 2 ^ 127) ⊎ (a ≡ 0) → Alike (pos (cap a + 0) -ℤ pos (cap c + 0)) (pos a -ℤ pos c)
+right_alike a c h = subst (λ x. Alike (pos x -ℤ pos (cap c + 0)) (pos a -ℤ pos c)) (same a) (subst (λ x. Alike (pos (cap a) -ℤ pos x) (pos a -ℤ pos c)) (same c) (by h)) where
+  same : (x : ℕ) → cap x ≡ cap x + 0
+  same x = omega arith
 
-  by : (a ≤ 2 ^ 128 - 1) ⊎ (2 ^ 128 - 1 ≤ a) → (b ≤ 2 ^ 128 - 1) ⊎ (2 ^ 128 - 1 ≤ b) → Alike (pos (cap a + cap b) -ℤ pos (cap c + cap d)) (pos (a + b) -ℤ pos (c + d))
-  by (inl p) (inl q) = alike_diff (cap a + cap b) (cap c + cap d) (a + b) (c + d) (inl (omega arith)) subtracted h
-  by (inr p) q = alike_diff (cap a + cap b) (cap c + cap d) (a + b) (c + d) (inr (omega arith, omega arith)) subtracted h
-  by (inl p) (inr q) = alike_diff (cap a + cap b) (cap c + cap d) (a + b) (c + d) (inr (omega arith, omega arith)) subtracted h
+  by : (c < 2 ^ 127) ⊎ (a ≡ 0) → Alike (pos (cap a) -ℤ pos (cap c)) (pos a -ℤ pos c)
+  by (inl b) = alike_diff (cap a) (cap c) a c (capped_or a) (omega (arith, b)) (omega (arith, b))
+  by (inr e) = alike_less (cap a) (cap c) a c (omega (arith, e)) e (capped_or c)
 
 some_row : (b e : Bool) (row other : SparseRow) → b ≡ e → (b ≡ true → row ≡ other) → cond b (Some row) None ≡ cond e (Some other) None
 some_row true true row other h same = ap Some (same refl)
@@ -157,24 +188,21 @@ some_row false false row other h same = refl
 some_row true false row other h same = absurd (cc)
 some_row false true row other h same = absurd (cc)
 
-rows_agree : (n : ℕ) (c : Condition Form) → is_sure n (capped_condition c) ≡ true → RowsAgree n (capped_condition c) c
+rows_agree : (n : ℕ) (c : Condition Form) → IsSure c → RowsAgree n (capped_totals c) c
 unfolding terms_from
-rows_agree n c h =
-    let sure = both_true (list_all (λ u. nat_lt (cap (c.right.terms u)) (2 ^ 127)) (range_with_len 0 n)) (nat_lt (cap c.left.plus + cap c.right.minus) (2 ^ 127)) h in
+rows_agree n c sure =
     let f = λ (u : ℕ). pos (cap (c.left.terms u)) -ℤ pos (cap (c.right.terms u)) in
     let g = λ (u : ℕ). pos (c.left.terms u) -ℤ pos (c.right.terms u) in
-    let x = pos (cap c.right.plus + cap c.left.minus) -ℤ pos (cap c.left.plus + cap c.right.minus) in
+    let x = pos (cap (c.right.plus + c.left.minus) + 0) -ℤ pos (cap (c.left.plus + c.right.minus) + 0) in
     let y = pos (c.right.plus + c.left.minus) -ℤ pos (c.left.plus + c.right.minus) in
-    let alike = all_alike c.left.terms c.right.terms 0 n sure.0 in
-    let right = right_alike c.right.plus c.left.minus c.left.plus c.right.minus (below (cap c.left.plus + cap c.right.minus) sure.1) in
-    let natural = λ (z : ℤ). int_le (pos 0) z in
-    let positive = λ (z : ℤ). int_le z (pos 0) in
-    let same = λ (test : ℤ → Bool) (zero : test (pos 0) ≡ true) (b : Bool) (great : (a : ℤ) → pos (2 ^ 127) ≤ℤ a → test a ≡ b).
-    all_terms test zero 0 n f ∙ same_tests test b great 0 n f g alike ∙ sym (all_terms test zero 0 n g) in
+    let alike = all_alike c.left.terms c.right.terms 0 n sure.terms in
+    let right = right_alike (c.right.plus + c.left.minus) (c.left.plus + c.right.minus) sure.right in
+    let same = λ (test : ℤ → Bool) (zero : test (pos 0) ≡ true) (s : Settled test).
+    all_terms test zero 0 n f ∙ same_tests test s 0 n f g alike ∙ sym (all_terms test zero 0 n g) in
     record {
-      kept = λ i. not (same natural refl true great_natural i && agree_on positive false great_positive x y right i);
-      within = some_row (row_fits (row_of n (capped_condition c))) (row_fits (row_of n c)) (row_of n (capped_condition c)) (row_of n c)
-          (λ i. same fits refl false great_leaves i && agree_on fits false great_leaves x y right i)
+      kept = λ i. not (same (λ z. int_le (pos 0) z) refl natural_settled i && agree_on (λ z. int_le z (pos 0)) positive_settled x y right i);
+      within = some_row (row_fits (row_of n (capped_totals c))) (row_fits (row_of n c)) (row_of n (capped_totals c)) (row_of n c)
+          (λ i. same fits refl fits_settled i && agree_on fits fits_settled x y right i)
           (λ e.
           let both = both_true (list_all (λ (t : ℕ × ℤ). fits t.1) (terms_from 0 n f)) (fits x) e in
           let terms = same_terms 0 n f g alike (sym (all_terms fits refl 0 n f) ∙ both.0) in

@@ -1,3 +1,5 @@
 pub mod Capping
 pub mod Raised
 pub mod Refuted
+pub mod Sure
+pub mod Told

@@ -1,6 +1,6 @@
 -- Rows of a setting whose blocks and scale are raised: their right sides are raised.
-use Rattle.std.proofs.Common.{◌≡◌, refl, ap, sym, ◌∙◌, arith, subst}
-use Rattle.std.specs.Prelude.{ℕ, zero, suc, ◌+◌, ◌-◌, ◌*◌, ◌<◌, ◌≤◌, ◌==◌, if◌then◌else◌, Bool, true, false, cond, not, ◌&&◌, int_le, ℤ, pos, negsuc, ◌-ℤ◌, ◌*ℤ◌, List, [], ◌∷◌, ◌++◌, map, filter, flat_map, length, replicate, slice_get, slice_index_or, Option, None, Some, option_map}
+use Rattle.std.proofs.Common.{◌≡◌, refl, ap, sym, ◌∙◌, arith}
+use Rattle.std.specs.Prelude.{ℕ, zero, suc, ◌+◌, ◌-◌, ◌*◌, ◌<◌, ◌==◌, if◌then◌else◌, Bool, true, false, cond, not, ◌&&◌, int_le, ℤ, pos, negsuc, ◌-ℤ◌, ◌*ℤ◌, List, [], ◌∷◌, ◌++◌, map, filter, flat_map, length, replicate, slice_get, slice_index_or, Option, None, Some, option_map}
 use Rattle.std.specs.List.{range_with_len, list_any, list_all}
 use Rattle.std.specs.Ordering.{int_eq}
 use Rattle.std.proofs.lemmas.Int.{ints}
@@ -12,8 +12,7 @@ use Rattle.base_poly.specs.Plain.{Plain, degrees}
 use Rattle.base_poly.specs.Base.{total}
 use Rattle.index_shift.specs.Potential.{Annotation, moved}
 use Rattle.index_shift.specs.declared.entry.Entry.{Entry}
-use Rattle.linear_rows.specs.Terms.{Terms, SparseRow}
-use Rattle.linear_rows.specs.Systems.{LinearSystem}
+use Rattle.linear_rows.specs.Terms.{SparseRow}
 use Rattle.normal_form.specs.Norm as n
 use Rattle.normal_form.specs.Norm.{Norm, NormFun}
 use Rattle.index_shift.specs.Contexts.{projection}
@@ -22,19 +21,19 @@ use Rattle.normal_form.specs.Context.{Context, types, place, without, opened, pa
 use Rattle.cost_free.specs.declared.task.Meter.{Meter}
 use Rattle.cost_free.specs.declared.task.Meter.TheVariants.{Ticks, Cells, Work}
 use Rattle.cost_free.specs.Task.{Task, Kind}
-use Rattle.annot_types.specs.Program.{Program, members}
+use Rattle.annot_types.specs.Program.{Program}
 use Rattle.annot_types.specs.Certificate.{annotation, Sig, Block}
 use Rattle.cost_free.specs.Blocked.{is_for_meter}
 use Rattle.annot_types.specs.Signature.{sig_in, free_budget, or_else, cost_sig}
 use Rattle.annot_types.specs.Carried.{more, rebudgeted, at_operands, marks, part, tuples, joined}
 use Rattle.annot_types.specs.Rules.{Mode, With, Own, Past, Setting, Taken, price, refund, asked, left}
-use Rattle.annot_types.specs.Holds.{times, times_sig, mode_of, budget_of}
+use Rattle.annot_types.specs.Holds.{times_sig, mode_of}
 use Rattle.annot_types.specs.Rows as w
 use Rattle.annot_types.specs.Rows.{Assignment, Row, Made, Unsolved, rows_only, both, taking, none}
 use Rattle.annot_types.specs.System as s
 use Rattle.annot_types.specs.System.{unsigned, is_kept}
 use Rattle.annot_types.proofs.Linear.{mul, moved_mul, more_mul, annotation_mul, at_operands_mul, rebudgeted_mul}
-use Rattle.annot_types.proofs.Times.{BlockTimes, BlocksTimes, times_setting, SettingTimes, past_times}
+use Rattle.annot_types.proofs.Times.{BlocksTimes, times_setting, SettingTimes, past_times}
 use Rattle.solved_tasks.specs.Raised.{times_right}
 
 -- the signature with cost is raised with the blocks

@@ -1,6 +1,6 @@
 -- Where the blocks of a meter and its scale are raised, what refutes a task still does.
 use Rattle.std.proofs.Common.{◌≡◌, refl, ap, sym, ◌∙◌, arith, subst}
-use Rattle.std.specs.Prelude.{ℕ, zero, suc, ◌+◌, ◌*◌, ◌<◌, Bool, true, false, cond, ℤ, pos, ◌*ℤ◌, ◌≤ℤ◌, ◌<ℤ◌, List, [], ◌∷◌, map, length}
+use Rattle.std.specs.Prelude.{ℕ, suc, ◌*◌, ◌<◌, Bool, true, false, cond, ℤ, pos, ◌*ℤ◌, ◌≤ℤ◌, ◌<ℤ◌, List, [], ◌∷◌, map, length}
 use Rattle.std.proofs.lemmas.Int.{ints}
 use Rattle.raml_num.proofs.Signed.{le_mul}
 use Rattle.linear_rows.specs.Terms.{SparseRow}
@@ -14,15 +14,15 @@ use Rattle.cost_free.specs.Task.{Task, Kind, Free, same_meter}
 use Rattle.cost_free.specs.Blocked.{is_for_meter}
 use Rattle.annot_types.specs.Program.{Program, members}
 use Rattle.annot_types.specs.Certificate.{Block}
-use Rattle.annot_types.specs.Rules.{Mode, With, Own, Setting, price, refund}
+use Rattle.annot_types.specs.Rules.{With, Own, Setting}
 use Rattle.annot_types.specs.Holds.{times_block, raised, mode_of, budget_of}
 use Rattle.annot_types.specs.Laws.{raised_scale}
 use Rattle.annot_types.specs.Rows as w
 use Rattle.annot_types.specs.Rows.{Assignment, Row, Unsolved}
 use Rattle.annot_types.specs.System as s
 use Rattle.annot_types.specs.System.{unsigned, unsolved}
-use Rattle.annot_types.proofs.Times.{BlocksTimes, times_setting, SettingTimes}
-use Rattle.annot_types.proofs.Raised.{body_once, all_more_raised, all_same, all_free_kept, all_other_kept, same_meters}
+use Rattle.annot_types.proofs.Times.{BlocksTimes, SettingTimes}
+use Rattle.annot_types.proofs.Raised.{body_once, all_more_raised, all_free_kept, all_other_kept, same_meters}
 use Rattle.solved_tasks.specs.Raised.{times_right, raised_by, RowsAreRaised, RefutedStayRefuted}
 use Rattle.solved_tasks.proofs.Raised.{row_times, tasks_rise, system_rises}
 

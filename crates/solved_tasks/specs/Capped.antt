@@ -1,6 +1,6 @@
 -- Sums of unknowns whose numbers stand at the greatest one of 128 bits where they would leave it, and their rows.
-use Rattle.std.specs.Prelude.{◌≡◌, ℕ, ◌+◌, ◌-◌, ◌*◌, ◌^◌, ℤ, pos, negsuc, int_le, nat_lt, Bool, true, cond, ◌&&◌, List, Option, None, Some}
-use Rattle.std.specs.List.{list_all, range_with_len}
+use Rattle.std.specs.Prelude.{◌≡◌, ℕ, ◌+◌, ◌-◌, ◌*◌, ◌^◌, ℤ, pos, negsuc, int_le, Bool, cond, ◌&&◌, Option, None, Some}
+use Rattle.std.specs.List.{list_all}
 use Rattle.linear_rows.specs.Terms.{SparseRow}
 use Rattle.annot_types.specs.System.{is_kept}
 use Rattle.walk_rules.specs.Numbers.{Numbers, Condition}
@@ -8,6 +8,7 @@ use Rattle.walk_rules.specs.Kinds.{Form, forms}
 use Rattle.walk_rules.specs.Capped.{cap}
 use Rattle.walk_rules.specs.Carried.{GivenCarry, condition_to}
 use Rattle.walk_rules.specs.Solving.{row_of}
+use Rattle.solved_tasks.specs.Sure.{IsSure}
 
 abbrev pub capped_form : Form → Form
 capped_form f = record { terms = λ u. cap (f.terms u); plus = cap f.plus; minus = cap f.minus }
@@ -35,16 +36,21 @@ row_fits row = list_all (λ (t : ℕ × ℤ). fits t.1) row.terms && fits row.ri
 abbrev pub within : SparseRow → Option SparseRow
 within row = cond (row_fits row) (Some row) None
 
--- What is subtracted in a row stays below 2^127.
-abbrev pub is_sure : ℕ → Condition Form → Bool
-is_sure n c = list_all (λ u. nat_lt (c.right.terms u) (2 ^ 127)) (range_with_len 0 n) && nat_lt (c.left.plus + c.right.minus) (2 ^ 127)
+-- a condition by what is added in its row and what is subtracted, both capped
+abbrev pub capped_totals : Condition Form → Condition Form
+capped_totals c = record {
+  path = c.path;
+  index = c.index;
+  left = record { terms = λ u. cap (c.left.terms u); plus = cap (c.left.plus + c.right.minus); minus = 0 };
+  right = record { terms = λ u. cap (c.right.terms u); plus = cap (c.right.plus + c.left.minus); minus = 0 };
+}
 
 -- the row of a condition is left out, or leaves, exactly where that of the other does, and is otherwise the same
 pub record RowsAgree (n : ℕ) (c e : Condition Form) : Type 0 where
   pub kept : is_kept (row_of n c) ≡ is_kept (row_of n e)
   pub within : within (row_of n c) ≡ within (row_of n e)
 
--- The walk over capped sums is that over exact ones, capped, and where what is subtracted stays below 2^127 nothing is lost of a row.
+-- The walk over capped sums is that over exact ones, capped, and nothing is lost of a row that is sure.
 pub record CappedRows : Type 0 where
   pub walks : (give : ℕ → Form) → GivenCarry forms capped_forms capped_form give
-  pub agree : (n : ℕ) (c : Condition Form) → is_sure n (capped_condition c) ≡ true → RowsAgree n (capped_condition c) c
+  pub agree : (n : ℕ) (c : Condition Form) → IsSure c → RowsAgree n (capped_totals c) c

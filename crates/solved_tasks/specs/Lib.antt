@@ -1,3 +1,4 @@
 pub mod Told
 pub mod Capped
 pub mod Raised
+pub mod Sure

@@ -1,5 +1,5 @@
 -- Systems whose blocks and scale are raised.
-use Rattle.std.specs.Prelude.{◌≡◌, ◌<◌, ℕ, ◌*◌, cond, ℤ, pos, ◌*ℤ◌, List, map}
+use Rattle.std.specs.Prelude.{◌≡◌, ◌<◌, ℕ, cond, ℤ, pos, ◌*ℤ◌, List, map}
 use Rattle.cost_free.specs.declared.task.Meter.{Meter}
 use Rattle.cost_free.specs.Task.{Task, Kind}
 use Rattle.cost_free.specs.Blocked.{is_for_meter}

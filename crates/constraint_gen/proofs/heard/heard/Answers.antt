@@ -1,4 +1,4 @@
-use Rattle.std.proofs.Common.{◌≡◌, ◌∙◌, [], ap, sym, map, length, slice_index_or, Some, arith, rules}
+use Rattle.std.proofs.Common.{◌≡◌, ◌∙◌, [], ap, sym, map, length, slice_index_or, arith, rules}
 use Rattle.cost_free.specs.Read.{task_of}
 use Rattle.walk_rules.specs.Asked.{asked}
 use Rattle.walk_rules.specs.Tasks as t
@@ -24,13 +24,16 @@ all_answers-requires c =
 pub hear_all-requires : goal.hear_all-requires
 hear_all-requires c =
     let bs = map body_of c.args.bodies.now in
-    ap length c.deref-2.ensures.value
-    ∙ sym (length_map (λ h. hints_of h.items) c.in_ok-hints.hints.items)
-    ∙ ap length c.in_ok-hints.ensures.given
-    ∙ length_answers unknown c.sides.new.next (map (λ a. asks_of a.items) c.args.asks.now)
-    ∙ ap length c.requires.asked
-    ∙ length_map (λ (b : t.Body). asked b.plan) bs
-    ∙ length_map body_of c.args.bodies.now
+    record {
+      hints = ap length c.deref-2.ensures.value
+          ∙ sym (length_map (λ h. hints_of h.items) c.in_ok-hints.hints.items)
+          ∙ ap length c.in_ok-hints.ensures.given
+          ∙ length_answers unknown c.sides.new.next (map (λ a. asks_of a.items) c.args.asks.now)
+          ∙ ap length c.requires.asked
+          ∙ length_map (λ (b : t.Body). asked b.plan) bs
+          ∙ length_map body_of c.args.bodies.now;
+      few = c.requires.few;
+    }
 
 pub returns : goal.returns
 returns c =
@@ -45,10 +48,10 @@ returns c =
     ap (map (λ h. hints_of h.items)) c.deref-2.ensures.value ∙ c.in_ok-hints.ensures.given ∙ (λ i. all_answers unknown (next i) (c.requires.asked i)) ∙ answers_are unknown (sides_count bs) bs in
     let known : known_of c.known-known.result ≡ known_by j group =
     c.known-known.ensures ∙ (λ i. record { scale = c.args.scale; budget = c.budget_of.ensures i; group = sides i; free = j.free; cost = j.cost }) in
-    let all : Some c.hear_all.new.collector ≡ hear_all (Some start) (given_conditions sums unknown j) =
+    let all : c.hear_all.new.collector ≡ hear_all start (given_conditions sums unknown j) =
     c.in_ok-hear_all.ensures
-    ∙ (λ i. hear_all (hear_all (Some (c.new-collector.ensures i)) (reached j.function (slice_index_or (known i).group j.function (record { args = []; result = [] })).result j.target)) (bodies_walked (known i) j.mode 0 bs (hints i)))
-    ∙ conditions_heard j group hss (Some start) in
-    let count = same_unknowns start c.hear_all.new.collector (given_conditions sums unknown j) (sym all) in
+    ∙ (λ i. hear_all (hear_all (c.new-collector.ensures i) (reached j.function (slice_index_or (known i).group j.function (record { args = []; result = [] })).result j.target)) (bodies_walked (known i) j.mode 0 bs (hints i)))
+    ∙ conditions_heard j group hss start in
+    let count = ap (λ (h : Heard). h.unknowns) all ∙ same_unknowns start (given_conditions sums unknown j) in
     let rows : c.into_rows.result.items ≡ c.hear_all.new.collector.rows = search rules in
-    (λ i. Some (record { unknowns = sym count i; rows = rows i })) ∙ all
+    (λ i. record { unknowns = sym count i; rows = rows i }) ∙ all

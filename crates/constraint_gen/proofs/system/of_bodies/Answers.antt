@@ -1,4 +1,4 @@
-use Rattle.std.proofs.Common.{◌∙◌, ap, sym, subst, map}
+use Rattle.std.proofs.Common.{◌≤◌, ◌∙◌, ap, sym, subst, map, length, arith}
 use Rattle.raml_num.specs.Sums.{NoneNegative}
 use Rattle.cost_free.specs.Read.{task_of, kind_of}
 use Rattle.annot_types.specs.Holds.{budget_of}
@@ -8,40 +8,42 @@ use Rattle.walk_rules.specs.Kinds.{forms, unknown}
 use Rattle.walk_rules.specs.Tasks.{given_conditions}
 use Rattle.walk_rules.specs.Solving.{rows_of}
 use Rattle.rule_plan.specs.Read.{program_in, body_of}
+use Rattle.constraint_gen.specs.Sums as s
+use Rattle.constraint_gen.specs.Sums.{sums}
 use Rattle.constraint_gen.specs.Made.{filled}
 use Rattle.constraint_gen.specs.Walked.{job_in}
-use Rattle.constraint_gen.proofs.Finishing.{told_below, finished_is}
-use Rattle.constraint_gen.proofs.Whole.{front_is, row_cause, natural_filled}
+use Rattle.constraint_gen.proofs.Finishing.{pairs, told_below, finished_is}
+use Rattle.constraint_gen.proofs.Whole.{front_is, exact_front, row_cause, natural_sigs}
 use Rattle.constraint_gen.proofs.system.of_bodies.Goals as goal
 
 pub finish-requires-clause-below : goal.finish-requires-clause-below
 finish-requires-clause-below c =
     let j = job_in (program_in c.args.program.now) c.args.d c.args.earlier.now (map body_of c.args.planned.now) (task_of c.args.task.now) c.args.scale in
-    told_below c.args.count (given_conditions forms unknown j) c.in_ok-rows.rows.items (front_is j c.args.count c.in_ok-rows.rows.items c.in_ok-rows.ensures)
+    told_below c.args.count (pairs (given_conditions sums s.unknown j)) c.in_ok-rows.rows.items (front_is j c.args.count c.in_ok-rows.rows.items c.in_ok-rows.ensures)
 
 pub finish-requires-clause-natural : goal.finish-requires-clause-natural
 finish-requires-clause-natural c =
     let P = program_in c.args.program.now in
     let weights = c.in_ok-weights.ensures ∙ (λ i. sig_weights P (c.budget_of-budget.ensures i) (c.members.ensures i)) in
-    subst NoneNegative (sym (c.in_ok-fill.ensures.filled ∙ ap (filled c.args.count) weights))
-    (natural_filled P (budget_of c.args.d (kind_of c.args.task.now.kind)) c.args.count (members P c.args.task.now.group))
+    c.in_ok-fill.ensures.natural (subst NoneNegative (sym weights) (natural_sigs P (budget_of c.args.d (kind_of c.args.task.now.kind)) (members P c.args.task.now.group)))
 
 pub returns-in-Ok-clause-made : goal.returns-in-Ok-clause-made
-returns-in-Ok-clause-made c =
+returns-in-Ok-clause-made c proper =
     let P = program_in c.args.program.now in
     let j = job_in P c.args.d c.args.earlier.now (map body_of c.args.planned.now) (task_of c.args.task.now) c.args.scale in
     let rows = rows_of c.args.count (given_conditions forms unknown j) in
     let weights = c.in_ok-weights.ensures ∙ (λ i. sig_weights P (c.budget_of-budget.ensures i) (c.members.ensures i)) in
-    let all = finished_is rows c.in_ok-rows.rows.items c.in-Ok.made.rows (front_is j c.args.count c.in_ok-rows.rows.items c.in_ok-rows.ensures) c.in-Ok.ensures.made in
+    let few : length c.in_ok-weights.weights.items ≤ c.args.count = omega (arith, ap length weights, proper.few_weights, c.requires.counted) in
+    let all = finished_is rows c.in_ok-rows.rows.items c.in-Ok.made.rows (exact_front j c.args.count c.in_ok-rows.rows.items proper.sure c.in_ok-rows.ensures) c.in-Ok.ensures.made in
     record {
       unknowns = c.in-Ok.ensures.unknowns;
       rows_are = all.0;
-      weights_are = c.in-Ok.ensures.weights ∙ c.in_ok-fill.ensures.filled ∙ ap (filled c.args.count) weights;
+      weights_are = c.in-Ok.ensures.weights ∙ c.in_ok-fill.ensures.filled few ∙ ap (filled c.args.count) weights;
       few = all.1;
       fit = all.2;
     }
 
 pub returns-in-Err-clause-fault : goal.returns-in-Err-clause-fault
-returns-in-Err-clause-fault c =
+returns-in-Err-clause-fault c proper =
     let j = job_in (program_in c.args.program.now) c.args.d c.args.earlier.now (map body_of c.args.planned.now) (task_of c.args.task.now) c.args.scale in
-    row_cause (rows_of c.args.count (given_conditions forms unknown j)) c.in_ok-rows.rows.items c.in-Err.fault (front_is j c.args.count c.in_ok-rows.rows.items c.in_ok-rows.ensures) c.in-Err.ensures.fault
+    row_cause (rows_of c.args.count (given_conditions forms unknown j)) c.in_ok-rows.rows.items c.in-Err.fault (exact_front j c.args.count c.in_ok-rows.rows.items proper.sure c.in_ok-rows.ensures) c.in-Err.ensures.fault

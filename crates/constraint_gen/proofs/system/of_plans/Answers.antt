@@ -9,7 +9,7 @@ use Rattle.walk_rules.specs.Solving.{rows_of}
 use Rattle.rule_walk.specs.Asks.{asks_of}
 use Rattle.rule_plan.specs.Read.{program_in, body_of}
 use Rattle.constraint_gen.specs.Given.{all_counts}
-use Rattle.constraint_gen.specs.Made.{HasRows, JobMade, RowCause, JobCause}
+use Rattle.constraint_gen.specs.Made.{HasRows, IsProper, JobMade, RowCause, JobCause}
 use Rattle.constraint_gen.specs.Walked.{job_in}
 use Rattle.constraint_gen.proofs.Giving.{counts_are}
 use Rattle.constraint_gen.proofs.Whole.{job_cause, if_ok, if_err}
@@ -30,21 +30,24 @@ returns-in-Some-clause-made c =
     let counted : c.in-Some.count ≡ sides_count bs + all_counts (map (λ a. asks_of a.items) c.in_ok-asks.asks.items) = search rules in
     let count : c.in-Some.count ≡ unknowns j = counted ∙ ap (λ n. sides_count bs + n) (ap all_counts c.in_ok-asks.ensures ∙ counts_are bs) in
     let low : c.in-Some.count ≤ 2000 = search rules in
-    if_ok c.of_bodies.result (HasRows c.in-Some.count (rows_of c.in-Some.count (given_conditions forms unknown j)) weights) (JobMade j weights)
-    (λ made h. record { few = omega (arith, count, low); has = subst (λ n. HasRows n (rows_of n (given_conditions forms unknown j)) weights made) count h })
+    if_ok c.of_bodies.result (λ made. IsProper j weights → HasRows c.in-Some.count (rows_of c.in-Some.count (given_conditions forms unknown j)) weights made) (λ made. IsProper j weights → JobMade j weights made)
+    (λ made h proper. record { few = omega (arith, count, low); has = subst (λ n. HasRows n (rows_of n (given_conditions forms unknown j)) weights made) count (h proper) })
     c.of_bodies.ensures.made
 
 pub returns-in-Some-clause-fault : goal.returns-in-Some-clause-fault
 returns-in-Some-clause-fault c =
+    let P = program_in c.args.program.now in
     let bs = map body_of c.args.planned.now in
-    let j = job_in (program_in c.args.program.now) c.args.d c.args.earlier.now bs (task_of c.args.task.now) c.args.scale in
+    let j = job_in P c.args.d c.args.earlier.now bs (task_of c.args.task.now) c.args.scale in
+    let weights = sig_weights P (budget_of c.args.d (kind_of c.args.task.now.kind)) (members P c.args.task.now.group) in
     let counted : c.in-Some.count ≡ sides_count bs + all_counts (map (λ a. asks_of a.items) c.in_ok-asks.asks.items) = search rules in
     let count : c.in-Some.count ≡ unknowns j = counted ∙ ap (λ n. sides_count bs + n) (ap all_counts c.in_ok-asks.ensures ∙ counts_are bs) in
     let low : c.in-Some.count ≤ 2000 = search rules in
-    if_err c.of_bodies.result (RowCause (rows_of c.in-Some.count (given_conditions forms unknown j))) (JobCause j) (λ fault h. job_cause j c.in-Some.count fault count low h) c.of_bodies.ensures.fault
+    if_err c.of_bodies.result (λ fault. IsProper j weights → RowCause (rows_of c.in-Some.count (given_conditions forms unknown j)) fault) (λ fault. IsProper j weights → JobCause j fault)
+    (λ fault h proper. job_cause j c.in-Some.count fault count low (h proper)) c.of_bodies.ensures.fault
 
 pub returns-clause-fault : goal.returns-clause-fault
-returns-clause-fault c =
+returns-clause-fault c proper =
     let bs = map body_of c.args.planned.now in
     let counts = ap all_counts c.in_ok-asks.ensures ∙ counts_are bs in
     let over : 2000 < sides_count bs + all_counts (map (λ a. asks_of a.items) c.in_ok-asks.asks.items) = search rules in

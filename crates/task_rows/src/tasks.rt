@@ -1,0 +1,94 @@
+// The tasks of a certificate, one after the other.
+ghost use Rattle.std.specs.Prelude.{◌≡◌, ◌≤◌};
+ghost use Rattle.annot_types.specs.Holds as h;
+ghost use Rattle.cost_free.specs.Read.{kind_of};
+
+use crate::prices::{Prices, prices_of};
+use crate::refusal::Refusal;
+use crate::text::{members, push_task};
+use annot_types::{Block, BlockBody, Certificate};
+use constraint_gen::{plans, rows_by};
+use cost_free::{Task, TaskKind};
+use earlier_blocks::Earlier;
+use rule_plan::Body;
+use share_normal::NormProgram;
+use std::alloc::{AllocError, Global};
+
+/// The rows of each task that was tried, over the blocks before it.
+pub fn all_rows(
+    alloc: Global,
+    program: &NormProgram<'_>,
+    certificate: &Certificate,
+) -> Result<String, Refusal> {
+    let mut out = String::new(alloc);
+    let mut earlier = Earlier::new(alloc, program.functions().len())?;
+    let d = certificate.degree;
+    for place in 0..certificate.blocks.len() {
+        let (before, behind) = certificate.blocks.split_at(place);
+        if let Some(block) = behind.first() {
+            let prices = prices_of(certificate, block.task.kind, before);
+            push_block(alloc, &mut out, program, d, &mut earlier, block, prices)?;
+        }
+    }
+    Ok(out)
+}
+
+// The budget of a task, at degree `d`.
+fn budget_of(d: u8, task: &Task) -> u8
+    ensures { result ≡ h.budget_of d (kind_of task.now.kind) }
+{
+    match task.kind {
+        TaskKind::Free { budget, .. } => budget,
+        TaskKind::With(_) => d,
+    }
+}
+
+// The rows of the task of a block, which is then one of the blocks before the next task.
+fn push_block(
+    alloc: Global,
+    out: &mut String,
+    program: &NormProgram<'_>,
+    d: u8,
+    earlier: &mut Earlier,
+    block: &Block,
+    prices: Prices,
+) -> Result<(), Refusal> {
+    let task = &block.task;
+    if budget_of(d, task) > 4 || prices.scale > i128::MAX as u128 {
+        return Err(Refusal::Task);
+    }
+    let Ok(bodies) = plans(alloc, program, d, earlier, task) else {
+        return Err(Refusal::Task);
+    };
+    if was_tried(&block.body) {
+        match rows_by(alloc, program, d, earlier, task, prices.scale, &bodies) {
+            Ok(system) => push_task(alloc, out, program, task, &bodies, &system, prices.raised)?,
+            Err(_) => return Err(Refusal::Task),
+        }
+    }
+    Ok(add(alloc, program, d, earlier, block, &bodies)?)
+}
+
+fn was_tried(body: &BlockBody) -> bool {
+    match body {
+        BlockBody::Solved { .. } | BlockBody::Refuted { .. } => true,
+        BlockBody::Calls { .. } => false,
+    }
+}
+
+// The block is one of those before the next task.
+fn add(
+    alloc: Global,
+    program: &NormProgram<'_>,
+    d: u8,
+    earlier: &mut Earlier,
+    block: &Block,
+    bodies: &[Body],
+) -> Result<(), AllocError> {
+    let functions = members(program, block.task.group);
+    let mut sizes = Vec::with_capacity(alloc, bodies.len())?;
+    for body in bodies {
+        sizes.push((body.args, body.result))?;
+    }
+    earlier.add(alloc, d, block, functions, &sizes)
+}
