@@ -1,6 +1,6 @@
 -- Entries by positions are those tuple by tuple.
-use Rattle.std.proofs.Common.{◌≡◌, ◌≤◌, ◌<◌, ℕ, suc, ◌+◌, Bool, true, false, not, cond, if◌then◌else◌, nat_eq, nat_lt, ◌&&◌, List, [], ◌∷◌, ◌++◌, map, filter, length, position, slice_get, Some, None, refl, sym, ap, ◌∙◌, arith}
-use Rattle.std.specs.List.{position_or_len}
+use Rattle.std.proofs.Common.{◌≡◌, ◌≤◌, ◌<◌, ℕ, zero, suc, ◌+◌, ◌-◌, Bool, true, false, not, cond, if◌then◌else◌, nat_eq, nat_lt, ◌&&◌, List, [], ◌∷◌, ◌++◌, map, filter, length, position, slice_get, Some, None, refl, sym, ap, ◌∙◌, arith, append_assoc}
+use Rattle.std.specs.List.{position_or_len, range_with_len}
 use Rattle.std.proofs.lemmas.Bool.Decides.{nat_tests}
 use Rattle.raml_syntax.specs.Tree.{Type'}
 use Rattle.base_poly.specs.Plain.{Plain, alike}
@@ -14,7 +14,7 @@ use Rattle.index_shift.proofs.Spots.{position_there}
 use Rattle.annot_types.specs.Carried.{to}
 use Rattle.annot_types.specs.Rows.{size as size_of}
 use Rattle.walk_rules.specs.Planned.{entries_of}
-use Rattle.rule_plan.specs.Entries.{spot, entry, placed_at, picked_at, halves, restricted}
+use Rattle.rule_plan.specs.Entries.{spot, entry, placed_at, picked_at, restricted}
 
 one_placed : (b : Bool) (k x : ℕ) (rest : List Entry) → (entry_to k 1 (cond b (Some x) None) ++ []) ++ rest ≡ cond b (entry k x ∷ rest) rest
 one_placed true k x rest = refl
@@ -27,6 +27,36 @@ to_placed make k (t ∷ ts) us =
     let p = spot us (make t) in
     let b = nat_lt p (length us) in
     one_placed b k p (entries_from (suc k) (to make) ts us) ∙ ap (λ rest. cond b (entry k p ∷ rest) rest) (to_placed make (suc k) ts us)
+
+-- each to itself
+pub identity_step : (old new whole : List Entry) (k n : ℕ) → k < n → new ≡ old ++ entry k k ∷ [] → old ++ map (λ q. entry q q) (range_with_len k (n - k)) ≡ whole →
+    new ++ map (λ q. entry q q) (range_with_len (k + 1) (n - (k + 1))) ≡ whole
+identity_step old new whole k n h made done =
+    ap (λ l. l ++ map (λ q. entry q q) (range_with_len (k + 1) (n - (k + 1)))) made
+    ∙ append_assoc old (entry k k ∷ []) (map (λ q. entry q q) (range_with_len (k + 1) (n - (k + 1))))
+    ∙ ap (λ m. old ++ map (λ q. entry q q) (range_with_len k m)) more ∙ done
+  where
+    more : suc (n - (k + 1)) ≡ n - k
+    more = omega (arith, h)
+
+pub itself_placed : (k n : ℕ) (ts us : List (List Plain)) → ((m : ℕ) (t : List Plain) → slice_get ts m ≡ Some t → slice_get us (k + m) ≡ Some t) → Ascends tuple_order us → length ts ≡ n →
+    map (λ q. entry q q) (range_with_len k n) ≡ entries_from k (to (λ t. t)) ts us
+itself_placed k zero [] us at up e = refl
+itself_placed k (suc n) [] us at up e = absurd (omega (arith, e))
+itself_placed k zero (t ∷ ts) us at up e = absurd (omega (arith, e))
+itself_placed k (suc n) (t ∷ ts) us at up e =
+    (λ i. entry k k ∷ map (λ q. entry q q) (range_with_len (next i) n))
+    ∙ ap (λ l. entry k k ∷ l) (itself_placed (suc k) n ts us (λ m x h. ap (slice_get us) (later m) ∙ at (suc m) x h) up (omega (arith, e)))
+    ∙ ap (λ o. (entry_to k 1 o ++ []) ++ entries_from (suc k) (to (λ t. t)) ts us) (sym (position_there us k t up (ap (slice_get us) none ∙ at 0 t refl)))
+  where
+    next : k + 1 ≡ suc k
+    next = omega arith
+
+    none : k ≡ k + 0
+    none = omega arith
+
+    later : (m : ℕ) → suc k + m ≡ k + suc m
+    later m = omega arith
 
 -- Where a tuple stands.
 
@@ -85,6 +115,10 @@ half_placed : (a b : Bool) (us : List (List Plain)) (k x : ℕ) (m : List Plain)
     placed us k (if a then (m, 1) ∷ [] else []) ++ rest ≡ cond (a && b) (entry k x ∷ rest) rest
 half_placed true b us k x m rest e f = one_placed (nat_lt (spot us m) (length us)) k (spot us m) rest ∙ (λ i. cond (sym e i) (entry k (sym f i) ∷ rest) rest)
 half_placed false b us k x m rest e f = refl
+
+-- where the other indices of a tuple stand, and where the marked ones
+abbrev pub halves : List (List Plain) → List (List Plain) → List Bool → List Plain → ℕ × ℕ
+halves js us marks t = (spot js (other_items marks t), spot us (marked_items marks t))
 
 pub projects_picked : (marks : List Bool) (js us : List (List Plain)) (q : ℕ) (j : List Plain) → Ascends tuple_order js → slice_get js q ≡ Some j → (k : ℕ) (ts : List (List Plain)) →
     entries_from k (projects marks j) ts us ≡ picked_at q (length us) k (map (halves js us marks) ts)

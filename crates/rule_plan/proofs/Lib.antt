@@ -1,8 +1,6 @@
 pub mod Lower
 pub mod Contexts
 pub mod Entered
-pub mod Placed
-pub mod Halves
 pub mod Changed
 pub mod Downed
 pub mod Calling

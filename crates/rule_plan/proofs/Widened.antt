@@ -9,7 +9,7 @@ use Rattle.base_poly.proofs.Front.{lower_stand_first}
 use Rattle.index_shift.specs.declared.entry.Entry.{Entry}
 use Rattle.index_shift.specs.Maps.{Carry, opening}
 use Rattle.index_shift.specs.Parts.{type_parts}
-use Rattle.index_shift.specs.Contexts.{marked_items, permutation, permutes, projects}
+use Rattle.index_shift.specs.Contexts.{marked_items, other_items, permutation, permutes, projects}
 use Rattle.normal_form.specs.Norm as n
 use Rattle.normal_form.specs.Norm.{Norm}
 use Rattle.normal_form.specs.Free.{free_in}
@@ -31,11 +31,12 @@ use Rattle.rule_plan.specs.declared.change.Move.{Move}
 use Rattle.rule_plan.specs.declared.called.Callee.{Callee}
 use Rattle.rule_plan.specs.declared.lets.Cut.{Cut}
 use Rattle.rule_plan.specs.Down.{down, each_down, up}
-use Rattle.rule_plan.specs.Entries.{spot, placed_at, halves, restricted}
+use Rattle.tuple_ranks.specs.Spots.{half_spots, joined_spots}
+use Rattle.rule_plan.specs.Entries.{spot, entry, placed_at, restricted}
 use Rattle.rule_plan.specs.Given.{Given, planned, ArePlans}
 use Rattle.rule_plan.specs.Wide.{at_budget, constructor_steps, called_at, IsCallee, WideSeam, wide_seam, seam_at, seams_from, part_at, parts_at, IsCut}
 use Rattle.rule_plan.proofs.Calling.{at_up}
-use Rattle.rule_plan.proofs.Entered.{to_placed, projects_picked, lower_entries}
+use Rattle.rule_plan.proofs.Entered.{to_placed, itself_placed, halves, projects_picked, lower_entries}
 use Rattle.rule_plan.proofs.Downed.{map_down, each_is, down_same, drop_down, lower_is}
 
 pub parts_same : (A : Type') → parts_of A ≡ type_parts A
@@ -52,8 +53,11 @@ pub operands_entered : (C : Context) (xs order : List ℕ) (Fs Ts : List Type') 
 operands_entered C xs order Fs Ts d size targets o t s g =
     (λ i. placed_at (s i) 0 (g i)) ∙ sym (to_placed (permutation order) 0 (index_list Fs d) (index_list Ts d)) ∙ (λ i. entries_of (permutes (o i)) Fs d (t i) d)
 
-pub same_entered : (Ts : List Type') (d size : ℕ) (targets : List ℕ) → size ≡ size_of Ts d → targets ≡ map (λ t. spot (index_list Ts d) t) (index_list Ts d) → placed_at size 0 targets ≡ entries_of (to (λ t. t)) Ts d Ts d
-same_entered Ts d size targets s g = (λ i. placed_at (s i) 0 (g i)) ∙ sym (to_placed (λ t. t) 0 (index_list Ts d) (index_list Ts d))
+pub same_entered : (Ts : List Type') (d size : ℕ) (found : List Entry) → size ≡ size_of Ts d → found ≡ map (λ k. entry k k) (range_with_len 0 size) → found ≡ entries_of (to (λ t. t)) Ts d Ts d
+same_entered Ts d size found s g = g ∙ itself_placed 0 size (index_list Ts d) (index_list Ts d) (λ m t h. ap (slice_get (index_list Ts d)) none ∙ h) (exact Ts d).ascends (sym s)
+  where
+    none : {m : ℕ} → 0 + m ≡ m
+    none = omega arith
 
 -- at each budget of a signature
 in_range : {X : Type 0} (S : ℕ → ℕ) (F : ℕ → X) (H : ℕ → X) (a n : ℕ) → ((k : ℕ) → k < a + n → F (S k) ≡ H k) → map F (map S (range_with_len a n)) ≡ map H (range_with_len a n)
@@ -97,6 +101,14 @@ marked_is a (s ∷ C) = by (free_in s.0 a) refl (marked_is a C)
     by : (b : Bool) → free_in s.0 a ≡ b → marked_items (marks a C) (types C) ≡ types (inners a C) → marked_items (free_in s.0 a ∷ marks a C) (s.1 ∷ types C) ≡ types (cond (free_in s.0 a) (s ∷ inners a C) (inners a C))
     by true e more = (λ i. marked_items (e i ∷ marks a C) (s.1 ∷ types C)) ∙ ap (λ l. s.1 ∷ l) more ∙ (λ i. types (cond (sym e i) (s ∷ inners a C) (inners a C)))
     by false e more = (λ i. marked_items (e i ∷ marks a C) (s.1 ∷ types C)) ∙ more ∙ (λ i. types (cond (sym e i) (s ∷ inners a C) (inners a C)))
+
+pub other_is : (a : Norm) (C : Context) → other_items (marks a C) (types C) ≡ types (others a C)
+other_is a [] = refl
+other_is a (s ∷ C) = by (free_in s.0 a) refl (other_is a C)
+  where
+    by : (b : Bool) → free_in s.0 a ≡ b → other_items (marks a C) (types C) ≡ types (others a C) → other_items (free_in s.0 a ∷ marks a C) (s.1 ∷ types C) ≡ types (cond (free_in s.0 a) (others a C) (s ∷ others a C))
+    by true e more = (λ i. other_items (e i ∷ marks a C) (s.1 ∷ types C)) ∙ more ∙ (λ i. types (cond (sym e i) (others a C) (s ∷ others a C)))
+    by false e more = (λ i. other_items (e i ∷ marks a C) (s.1 ∷ types C)) ∙ ap (λ l. s.1 ∷ l) more ∙ (λ i. types (cond (sym e i) (others a C) (s ∷ others a C)))
 
 pub bound_types : (O : Context) (x : ℕ) (A : Type') → types (O ++ (x, A) ∷ []) ≡ types O ++ A ∷ []
 bound_types [] x A = refl
@@ -153,29 +165,31 @@ module _ (a : Norm) (C : Context) (A : Type') (top : ℕ) where
   abbrev all_halves : List (ℕ × ℕ)
   all_halves = map (halves (index_list Os top) (index_list (types (inners a C)) top) (marks a C)) (index_list (types C) top)
 
-  abbrev placed_seam : ℕ → List Plain → WideSeam
-  placed_seam = seam_at all_halves (size_of (types (inners a C)) top) (index_list (A ∷ []) top) (index_list Rs top) (up (size_of (A ∷ [])) top) top
+  halves_are : half_spots (marks a C) (types C) top ≡ all_halves
+  halves_are = λ i. map (halves (index_list (other_is a C i) top) (index_list (marked_is a C i) top) (marks a C)) (index_list (types C) top)
 
-  one_seam : (q : ℕ) (j : List Plain) → slice_get (index_list Os top) q ≡ Some j → placed_seam q j ≡ wide_seam a C A top j
+  abbrev placed_seam : ℕ → ℕ × List ℕ → WideSeam
+  placed_seam = seam_at all_halves (size_of (types (inners a C)) top) (size_of Rs top)
+
+  abbrev behind : List Plain → ℕ × List ℕ
+  behind j = (degrees j, map (λ t. spot (index_list Rs top) (j ++ t)) (index_list (A ∷ []) (top - degrees j)))
+
+  one_seam : (q : ℕ) (j : List Plain) → slice_get (index_list Os top) q ≡ Some j → placed_seam q (behind j) ≡ wide_seam a C A top j
   one_seam q j there =
-      let g = degrees j in
-      let left : top - g ≤ top = omega arith in
       let first = sym (projects_picked (marks a C) (index_list Os top) (index_list (types (inners a C)) top) q j (exact Os top).ascends there 0 (index_list (types C) top)) in
-      let front : take (at_budget (up (size_of (A ∷ [])) top) (top - g)) (index_list (A ∷ []) top) ≡ index_list (A ∷ []) (top - g) =
-      ap (λ n. take n (index_list (A ∷ []) top)) (at_up (size_of (A ∷ [])) top (top - g) left)
-      ∙ ap (take (size_of (A ∷ []) (top - g))) (sym (map_same (index_list (A ∷ []) top)))
-      ∙ take_listed (λ t. t) (A ∷ []) (top - g) top left ∙ map_same (index_list (A ∷ []) (top - g)) in
-      let second = ap (λ l. placed_at (size_of Rs top) 0 (map (λ t. spot (index_list Rs top) (j ++ t)) l)) front ∙ sym (to_placed (λ t. j ++ t) 0 (index_list (A ∷ []) (top - g)) (index_list Rs top)) in
-      λ i. record { degree = g; there = first i; joins = second i }
+      let second = sym (to_placed (λ t. j ++ t) 0 (index_list (A ∷ []) (top - degrees j)) (index_list Rs top)) in
+      λ i. record { degree = degrees j; there = first i; joins = second i }
 
-  some_seams : (q : ℕ) (js : List (List Plain)) → ((i : ℕ) (j : List Plain) → slice_get js i ≡ Some j → slice_get (index_list Os top) (q + i) ≡ Some j) → seams_from placed_seam q js ≡ map (wide_seam a C A top) js
+  some_seams : (q : ℕ) (js : List (List Plain)) → ((i : ℕ) (j : List Plain) → slice_get js i ≡ Some j → slice_get (index_list Os top) (q + i) ≡ Some j) → seams_from placed_seam q (map behind js) ≡ map (wide_seam a C A top) js
   some_seams q [] h = refl
   some_seams q (j ∷ js) h =
       let here : slice_get (index_list Os top) q ≡ Some j = ap (slice_get (index_list Os top)) (omega arith) ∙ h 0 j refl in
       λ k. one_seam q j here k ∷ some_seams (suc q) js (λ i x e. ap (slice_get (index_list Os top)) (omega arith) ∙ h (suc i) x e) k
 
-  pub seams_are : seams_from placed_seam 0 (index_list Os top) ≡ map (wide_seam a C A top) (index_list Os top)
-  seams_are = some_seams 0 (index_list Os top) (λ i j e. ap (slice_get (index_list Os top)) (omega arith) ∙ e)
+  pub seams_are : seams_from (seam_at (half_spots (marks a C) (types C) top) (size_of (types (inners a C)) top) (size_of Rs top)) 0 (joined_spots Os (A ∷ []) top) ≡ map (wide_seam a C A top) (index_list Os top)
+  seams_are =
+      ap (λ hs. seams_from (seam_at hs (size_of (types (inners a C)) top) (size_of Rs top)) 0 (joined_spots Os (A ∷ []) top)) halves_are
+      ∙ some_seams 0 (index_list Os top) (λ i j e. ap (slice_get (index_list Os top)) (omega arith) ∙ e)
 
 pub lets_are : (G : Given) (k x : ℕ) (A : Type') (a b : Norm) (C : Context) (T : Type') (c : Cut) (firsts rests made : List p.Plan) →
     made ≡ each_down (λ d e. p.Lets k (parts_at c d) (plans (drop (G.top - d) firsts)) (at_budget c.sizes.rest.items d) e) G.top rests →

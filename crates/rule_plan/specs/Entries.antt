@@ -1,8 +1,7 @@
 -- Entries from the positions of targets.
-use Rattle.std.specs.Prelude.{ℕ, suc, nat_lt, nat_eq, cond, ◌&&◌, Bool, List, [], ◌∷◌, filter}
+use Rattle.std.specs.Prelude.{ℕ, suc, nat_lt, nat_eq, cond, ◌&&◌, List, [], ◌∷◌, filter}
 use Rattle.std.specs.List.{position_or_len}
 use Rattle.base_poly.specs.Plain.{Plain, alike}
-use Rattle.index_shift.specs.Contexts.{marked_items, other_items}
 use Rattle.index_shift.specs.declared.entry.Entry.{Entry}
 
 -- the place of a tuple; the length where it is not there
@@ -21,10 +20,6 @@ placed_at n from (p ∷ ps) = cond (nat_lt p n) (entry from p ∷ placed_at n (s
 abbrev pub picked_at : ℕ → ℕ → ℕ → List (ℕ × ℕ) → List Entry
 picked_at q n from [] = []
 picked_at q n from (p ∷ ps) = cond (nat_eq p.0 q && nat_lt p.1 n) (entry from p.1 ∷ picked_at q n (suc from) ps) (picked_at q n (suc from) ps)
-
--- where the other indices of a tuple stand, and where the marked ones
-abbrev pub halves : List (List Plain) → List (List Plain) → List Bool → List Plain → ℕ × ℕ
-halves js us marks t = (spot js (other_items marks t), spot us (marked_items marks t))
 
 -- the entries from and to positions below the limits
 abbrev pub restricted : ℕ → ℕ → List Entry → List Entry

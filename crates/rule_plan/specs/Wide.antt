@@ -1,5 +1,5 @@
 -- What is made once for all budgets: of constructors, of calls, and of Lets.
-use Rattle.std.specs.Prelude.{◌≡◌, ℕ, suc, List, [], ◌∷◌, ◌++◌, ◌-◌, map, take, length, slice_get, slice_index_or}
+use Rattle.std.specs.Prelude.{◌≡◌, ℕ, suc, List, [], ◌∷◌, ◌++◌, ◌-◌, map, take, slice_get, slice_index_or}
 use Rattle.raml_syntax.specs.Tree.{Type'}
 use Rattle.raml_syntax.specs.declared.ty.Ty.{Ty}
 use Rattle.base_poly.specs.Plain.{Plain, degrees}
@@ -19,7 +19,7 @@ use Rattle.earlier_blocks.specs.declared.usage.Usage.{Usage}
 use Rattle.rule_plan.specs.Down.{up}
 use Rattle.rule_plan.specs.Given.{Given}
 use Rattle.rule_plan.specs.Change.{step_at}
-use Rattle.rule_plan.specs.Entries.{spot, placed_at, picked_at, restricted}
+use Rattle.rule_plan.specs.Entries.{placed_at, picked_at, restricted}
 use Rattle.rule_plan.specs.declared.change.Move.{Move}
 use Rattle.rule_plan.specs.declared.called.Callee.{Callee}
 use Rattle.rule_plan.specs.declared.lets.Cut.{Cut}
@@ -75,15 +75,11 @@ wide_seam a C A top j = record {
   joins = entries_of (to (λ t. j ++ t)) (A ∷ []) (top - degrees j) (types (others a C) ++ A ∷ []) top;
 }
 
--- the same by positions, of the tuple at this place
-abbrev pub seam_at : List (ℕ × ℕ) → ℕ → List (List Plain) → List (List Plain) → List ℕ → ℕ → ℕ → List Plain → WideSeam
-seam_at halves limit bound rest counts top q j = record {
-  degree = degrees j;
-  there = picked_at q limit 0 halves;
-  joins = placed_at (length rest) 0 (map (λ t. spot rest (j ++ t)) (take (at_budget counts (top - degrees j)) bound));
-}
+-- The same by positions: from where the halves of all tuples stand, how many positions there are, the place of the tuple and what stands behind it.
+abbrev pub seam_at : List (ℕ × ℕ) → ℕ → ℕ → ℕ → ℕ × List ℕ → WideSeam
+seam_at halves inner rest q j = record { degree = j.0; there = picked_at q inner 0 halves; joins = placed_at rest 0 j.1 }
 
-abbrev pub seams_from : (ℕ → List Plain → WideSeam) → ℕ → List (List Plain) → List WideSeam
+abbrev pub seams_from : (ℕ → ℕ × List ℕ → WideSeam) → ℕ → List (ℕ × List ℕ) → List WideSeam
 seams_from f q [] = []
 seams_from f q (j ∷ js) = f q j ∷ seams_from f (suc q) js
 

@@ -20,10 +20,10 @@ ghost use Rattle.rule_plan.specs.Wide.{at_budget, called_at, IsCallee};
 
 use crate::budgets::{boxed, budgets};
 use crate::context;
-use crate::entries::{placed, restricted};
+use crate::entries::{identity, restricted};
 use crate::env::Env;
 use crate::operands::operand_entries;
-use crate::tuples::{same_places, size};
+use crate::tuples::size;
 use earlier_blocks::Usage;
 use index_shift::Entry;
 use raml_syntax::{FunId, Ty};
@@ -175,9 +175,8 @@ fn at_budgets(
 fn same_entries(alloc: Global, types: &[Ty], d: u8) -> Result<Vec<Entry>, AllocError>
     ensures { IfOk result (λ found. found.items ≡ entries_of (to (λ t. t)) (context_of types.now) d (context_of types.now) d) }
 {
-    let places = same_places(alloc, types, d)?;
     let size = size(alloc, types, d)?;
-    placed(alloc, &places, size)
+    identity(alloc, size)
 }
 
 // How many positions there are, and the entries.

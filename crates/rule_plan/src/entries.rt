@@ -1,5 +1,6 @@
 // Entries from the positions of targets.
-ghost use Rattle.std.specs.Prelude.{◌≡◌, IfOk};
+ghost use Rattle.std.specs.Prelude.{◌≡◌, map, IfOk};
+ghost use Rattle.std.specs.List.{range_with_len};
 ghost use Rattle.rule_plan.specs.Entries.{entry, placed_at, picked_at, restricted};
 
 use index_shift::Entry;
@@ -38,7 +39,18 @@ pub fn placed(alloc: Global, targets: &[usize], limit: usize) -> Result<Vec<Entr
     Ok(found)
 }
 
-/// The same of those alone whose first number is this one.
+/// From each position to itself.
+pub fn identity(alloc: Global, size: usize) -> Result<Vec<Entry>, AllocError>
+    ensures { IfOk result (λ found. found.items ≡ map (λ k. entry k k) (range_with_len 0 size)) }
+{
+    let mut found = Vec::with_capacity(alloc, size)?;
+    for k in 0..size {
+        found.push(entry(k, k)?)?;
+    }
+    Ok(found)
+}
+
+/// Of those alone whose first number is this one, an entry to the second.
 pub fn picked(
     alloc: Global,
     halves: &[(usize, usize)],

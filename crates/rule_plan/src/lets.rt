@@ -1,10 +1,7 @@
 // The tuples of a `let`.
 ghost use Rattle.std.specs.Prelude.{◌≡◌, ◌≤◌, ◌-◌, ◌∷◌, ◌++◌, [], map, take, drop, IfOk};
-ghost use Rattle.std.specs.List.{All};
 ghost use Rattle.std.specs.Rc.{rc_value};
 ghost use Rattle.raml_syntax.specs.Read.{ty_of};
-ghost use Rattle.base_poly.specs.Plain.{degrees};
-ghost use Rattle.base_poly.specs.Indices.{index_list};
 ghost use Rattle.base_poly.specs.Read.{context_of};
 ghost use Rattle.normal_form.specs.Context.{types, inners, others};
 ghost use Rattle.normal_form.specs.Read.{norm_of, parameters_of};
@@ -13,9 +10,9 @@ ghost use Rattle.annot_types.specs.Rows.{size as size_of};
 ghost use Rattle.walk_rules.specs.Plan as p;
 ghost use Rattle.rule_walk.specs.Read.{plan_of, plans};
 ghost use Rattle.rule_walk.specs.Steps.{part_of};
+ghost use Rattle.tuple_ranks.specs.Spots.{half_spots, joined_spots};
 ghost use Rattle.rule_plan.specs.Down.{each_down, up};
 ghost use Rattle.rule_plan.specs.Given.{made_of};
-ghost use Rattle.rule_plan.specs.Entries.{halves};
 ghost use Rattle.rule_plan.specs.Wide.{at_budget, seam_of, seam_at, seams_from, part_at, parts_at, IsCut};
 
 use crate::budgets::{boxed, tail};
@@ -23,15 +20,14 @@ use crate::called::{at_budget, sizes};
 use crate::context;
 use crate::entries::{picked, placed, restricted};
 use crate::free::marks;
-use crate::tuples::{half_places, joined_places, places_in, size, tuples};
-use base_poly::Tuple;
+use crate::tuples::{half_spots, joined_spots, size};
 use index_shift::Entry;
-use indexmap::IndexSet;
 use normal_form::NormExpr;
 use raml_syntax::Ty;
 use rule_walk::{Part, Parts, Plan, Step};
 use std::alloc::{AllocError, Global};
 use std::rc::Rc;
+use tuple_ranks::Joined;
 
 /// A tuple of the variables that the bound form does not use, at the greatest budget: its degree, the
 /// map to the bound form's context, and the entries from the bound form's result to the context of
@@ -161,44 +157,30 @@ fn halves_of(
     alloc: Global,
     a: &NormExpr,
     context: &[(u32, Ty)],
-    inner: &[Ty],
-    others: &IndexSet<Tuple>,
     top: u8,
 ) -> Result<Vec<(usize, usize)>, AllocError>
-    ensures { IfOk result (λ found. found.items ≡ map (halves others.now.keys (index_list (context_of inner.now) top) (marks (norm_of a.now) (parameters_of context.now)))
-        (index_list (types (parameters_of context.now)) top)) }
+    ensures { IfOk result (λ found. found.items ≡ half_spots (marks (norm_of a.now) (parameters_of context.now)) (types (parameters_of context.now)) top) }
 {
     let marks = marks(alloc, a, context)?;
     let types = context::types(alloc, context)?;
-    let tuples = tuples(alloc, &types, top)?;
-    let places = places_in(alloc, inner, top)?;
-    half_places(alloc, &marks, &tuples, others, &places)
+    half_spots(alloc, &marks, &types, top)
 }
 
 // The tuple at this place.
 fn seam_for(
     alloc: Global,
     halves: &[(usize, usize)],
-    limit: usize,
-    bound: &[Tuple],
-    rest: &IndexSet<Tuple>,
-    counts: &[usize],
-    top: u8,
+    inner: usize,
+    rest: usize,
     place: usize,
-    tuple: &Tuple,
+    joined: &Joined,
 ) -> Result<Seam, AllocError>
-    requires low { degrees tuple.now ≤ 255 }
-    ensures { IfOk result (λ made. seam_of made ≡ seam_at halves.now limit bound.now rest.now.keys counts.now top place tuple.now) }
+    ensures { IfOk result (λ made. seam_of made ≡ seam_at halves.now inner rest place joined.now) }
 {
-    let degree = tuple.degree() as usize;
-    let there = picked(alloc, halves, place, limit)?;
-    let number = at_budget(counts, usize::from(top).saturating_sub(degree));
-    let targets = joined_places(alloc, tuple, front(bound, number), rest)?;
-    let joins = placed(alloc, &targets, rest.len())?;
     Ok(Seam {
-        degree,
-        there,
-        joins,
+        degree: usize::from(joined.degree),
+        there: picked(alloc, halves, place, inner)?,
+        joins: placed(alloc, &joined.spots, rest)?,
     })
 }
 
@@ -206,19 +188,15 @@ fn seam_for(
 fn seams(
     alloc: Global,
     halves: &[(usize, usize)],
-    limit: usize,
-    bound: &[Tuple],
-    rest: &IndexSet<Tuple>,
-    counts: &[usize],
-    top: u8,
-    others: &[Tuple],
+    inner: usize,
+    rest: usize,
+    joined: &[Joined],
 ) -> Result<Vec<Seam>, AllocError>
-    requires low { All (λ t. degrees t ≤ 255) others.now }
-    ensures { IfOk result (λ found. map seam_of found.items ≡ seams_from (seam_at halves.now limit bound.now rest.now.keys counts.now top) 0 others.now) }
+    ensures { IfOk result (λ found. map seam_of found.items ≡ seams_from (seam_at halves.now inner rest) 0 joined.now) }
 {
     let mut found = Vec::new(alloc);
-    for (place, tuple) in others.iter().enumerate() {
-        found.push(seam_for(alloc, halves, limit, bound, rest, counts, top, place, tuple)?)?;
+    for (place, joined) in joined.iter().enumerate() {
+        found.push(seam_for(alloc, halves, inner, rest, place, joined)?)?;
     }
     Ok(found)
 }
@@ -232,20 +210,17 @@ fn seams_of(
     outer: &[Ty],
     bound: &[Ty],
     rest: &[Ty],
-    counts: &[usize],
     top: u8,
 ) -> Result<Vec<Seam>, AllocError>
     ensures { IfOk result (λ found. map seam_of found.items ≡ seams_from (seam_at
-        (map (halves (index_list (context_of outer.now) top) (index_list (context_of inner.now) top) (marks (norm_of a.now) (parameters_of context.now))) (index_list (types (parameters_of context.now)) top))
-        (size_of (context_of inner.now) top) (index_list (context_of bound.now) top) (index_list (context_of rest.now) top) counts.now top) 0 (index_list (context_of outer.now) top)) }
+        (half_spots (marks (norm_of a.now) (parameters_of context.now)) (types (parameters_of context.now)) top)
+        (size_of (context_of inner.now) top) (size_of (context_of rest.now) top)) 0 (joined_spots (context_of outer.now) (context_of bound.now) top)) }
 {
-    let others = places_in(alloc, outer, top)?;
-    let halves = halves_of(alloc, a, context, inner, &others, top)?;
-    let limit = size(alloc, inner, top)?;
-    let bound = tuples(alloc, bound, top)?;
-    let rest = places_in(alloc, rest, top)?;
-    let listed = tuples(alloc, outer, top)?;
-    seams(alloc, &halves, limit, &bound, &rest, counts, top, &listed)
+    let halves = halves_of(alloc, a, context, top)?;
+    let inner = size(alloc, inner, top)?;
+    let rest = size(alloc, rest, top)?;
+    let joined = joined_spots(alloc, outer, bound, top)?;
+    seams(alloc, &halves, inner, rest, &joined)
 }
 
 // How many positions these contexts have.
@@ -296,16 +271,6 @@ pub fn cut_let(
     let bound = context::alone(alloc, bound)?;
     let rest = context::types(alloc, rest)?;
     let sizes = sizes_of(alloc, &whole, &inner, &outer, &bound, &rest, top)?;
-    let seams = seams_of(
-        alloc,
-        a,
-        context,
-        &inner,
-        &outer,
-        &bound,
-        &rest,
-        &sizes.bound,
-        top,
-    )?;
+    let seams = seams_of(alloc, a, context, &inner, &outer, &bound, &rest, top)?;
     Ok(Cut { sizes, seams })
 }

@@ -1,18 +1,13 @@
 // From operands that are the whole context to the context.
-ghost use Rattle.std.specs.Prelude.{◌≡◌, map, IfOk};
-ghost use Rattle.base_poly.specs.Indices.{index_list};
+ghost use Rattle.std.specs.Prelude.{◌≡◌, IfOk};
 ghost use Rattle.base_poly.specs.Read.{context_of};
-ghost use Rattle.index_shift.specs.Contexts.{permutation};
-ghost use Rattle.normal_form.specs.Context.{types};
 ghost use Rattle.normal_form.specs.Read.{parameters_of};
 ghost use Rattle.annot_types.specs.Carried.{operand_places};
-ghost use Rattle.annot_types.specs.Rows.{size as size_of};
 ghost use Rattle.walk_rules.specs.Planned.{operand_entries};
-ghost use Rattle.rule_plan.specs.Entries.{spot};
 
 use crate::context;
 use crate::entries::placed;
-use crate::tuples::{permuted_places, places_in, size, tuples};
+use crate::tuples::{permuted_spots, size};
 use index_shift::Entry;
 use raml_syntax::Ty;
 use std::alloc::{AllocError, Global};
@@ -34,22 +29,6 @@ fn operand_places(
     Ok(found)
 }
 
-// Where the tuples of the operands stand among those of the context.
-fn targets(
-    alloc: Global,
-    order: &[usize],
-    from: &[Ty],
-    to: &[Ty],
-    d: u8,
-) -> Result<Vec<usize>, AllocError>
-    ensures { IfOk result (λ found. found.items
-        ≡ map (λ t. spot (index_list (context_of to.now) d) (permutation order.now t)) (index_list (context_of from.now) d)) }
-{
-    let places = places_in(alloc, to, d)?;
-    let tuples = tuples(alloc, from, d)?;
-    permuted_places(alloc, order, &tuples, &places)
-}
-
 /// From operands of these types to the context, at one budget.
 pub fn operand_entries(
     alloc: Global,
@@ -62,7 +41,7 @@ pub fn operand_entries(
 {
     let order = operand_places(alloc, context, operands)?;
     let to = context::types(alloc, context)?;
-    let targets = targets(alloc, &order, from, &to, d)?;
+    let targets = permuted_spots(alloc, &order, from, &to, d)?;
     let size = size(alloc, &to, d)?;
     placed(alloc, &targets, size)
 }

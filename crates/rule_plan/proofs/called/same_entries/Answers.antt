@@ -1,4 +1,4 @@
-use Rattle.std.proofs.Common.{◌≡◌, ◌∙◌}
+use Rattle.std.proofs.Common.{◌≡◌}
 use Rattle.std.proofs.lemmas.Result.{IfOk-weaker}
 use Rattle.base_poly.specs.Read.{context_of}
 use Rattle.annot_types.specs.Carried.{to}
@@ -9,5 +9,5 @@ use Rattle.rule_plan.proofs.called.same_entries.Goals as goal
 pub returns : goal.returns
 returns c =
     let Ts = context_of c.args.types.now in
-    IfOk-weaker c.placed.result _ (λ found. found.items ≡ entries_of (to (λ t. t)) Ts c.args.d Ts c.args.d)
-    (λ found is. is ∙ same_entered Ts c.args.d c.in_ok-size.size c.deref.result.now c.in_ok-size.ensures (c.deref.ensures.value ∙ c.in_ok-places.ensures)) c.placed.ensures
+    IfOk-weaker c.identity.result _ (λ found. found.items ≡ entries_of (to (λ t. t)) Ts c.args.d Ts c.args.d)
+    (λ found is. same_entered Ts c.args.d c.in_ok-size.size found.items c.in_ok-size.ensures is) c.identity.ensures

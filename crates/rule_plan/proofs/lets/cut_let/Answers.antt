@@ -1,13 +1,12 @@
-use Rattle.std.proofs.Common.{◌∙◌, ◌++◌, ◌∷◌, [], ap, map}
+use Rattle.std.proofs.Common.{◌∙◌, ◌++◌, ◌∷◌, [], ap}
 use Rattle.raml_syntax.specs.Read.{ty_of}
-use Rattle.base_poly.specs.Indices.{index_list}
 use Rattle.base_poly.specs.Read.{context_of}
 use Rattle.normal_form.specs.Context.{types}
 use Rattle.normal_form.specs.Read.{norm_of, parameters_of}
 use Rattle.annot_types.specs.Carried.{marks}
 use Rattle.annot_types.specs.Rows.{size as size_of}
 use Rattle.rule_plan.specs.Down.{up}
-use Rattle.rule_plan.specs.Entries.{halves}
+use Rattle.tuple_ranks.specs.Spots.{half_spots, joined_spots}
 use Rattle.rule_plan.specs.Wide.{seam_at, seams_from}
 use Rattle.rule_plan.proofs.Widened.{seams_are}
 use Rattle.rule_plan.proofs.lets.cut_let.Goals as goal
@@ -27,7 +26,6 @@ returns c =
     let os = ap context_of c.deref-7.ensures.value ∙ outer_is in
     let bs = ap context_of c.deref-8.ensures.value ∙ c.in_ok-bound.ensures in
     let rs = ap context_of c.deref-9.ensures.value ∙ rest_is in
-    let ks = c.deref-10.ensures.value ∙ bounds in
     record {
       whole_sizes = c.in_ok-sizes.ensures.whole ∙ ap (λ As. up (size_of As) top) (ap context_of c.deref.ensures.value ∙ c.in_ok-whole.ensures);
       inner_sizes = c.in_ok-sizes.ensures.inner ∙ ap (λ As. up (size_of As) top) (ap context_of c.deref-2.ensures.value ∙ inner_is);
@@ -35,6 +33,6 @@ returns c =
       bound_sizes = bounds;
       rest_sizes = c.in_ok-sizes.ensures.rest ∙ ap (λ As. up (size_of As) top) (ap context_of c.deref-5.ensures.value ∙ rest_is);
       seams = c.in_ok-seams.ensures
-          ∙ (λ i. seams_from (seam_at (map (halves (index_list (os i) top) (index_list (is i) top) (marks e C)) (index_list (types C) top)) (size_of (is i) top) (index_list (bs i) top) (index_list (rs i) top) (ks i) top) 0 (index_list (os i) top))
+          ∙ (λ i. seams_from (seam_at (half_spots (marks e C) (types C) top) (size_of (is i) top) (size_of (rs i) top)) 0 (joined_spots (os i) (bs i) top))
           ∙ seams_are e C A top;
     }

@@ -1,6 +1,0 @@
-use Rattle.std.proofs.Common.{◌≡◌, ◌++◌, drop, map}
-use Rattle.rule_plan.specs.Entries.{spot}
-use Rattle.rule_plan.proofs.tuples.joined_places.Given as goal
-
-abbrev pub invariant-loop-tuple : goal.invariant-loop-tuple
-invariant-loop-tuple l = l.found.items ++ map (λ t. spot l.places.keys (l.first ++ t)) (drop l.tuple-index l.tuples) ≡ map (λ t. spot l.places.keys (l.first ++ t)) l.tuples

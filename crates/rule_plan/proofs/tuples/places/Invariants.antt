@@ -1,7 +1,0 @@
-use Rattle.std.proofs.Common.{◌≡◌, [], fold}
-use Rattle.indexmap.specs.IndexSet.{insert_key}
-use Rattle.base_poly.specs.Plain.{alike}
-use Rattle.rule_plan.proofs.tuples.places.Given as goal
-
-abbrev pub invariant-loop-tuple : goal.invariant-loop-tuple
-invariant-loop-tuple l = l.places.keys ≡ fold (insert_key alike) [] l.yielded

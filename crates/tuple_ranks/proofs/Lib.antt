@@ -1,0 +1,9 @@
+pub mod Ranked
+pub mod Numbered
+pub mod Made
+pub mod Walked
+pub mod Loops
+pub mod Picked
+pub mod Behind
+pub mod Permuted
+pub mod Rows

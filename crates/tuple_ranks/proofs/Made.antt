@@ -1,0 +1,124 @@
+-- Tables that are made column by column.
+use Rattle.std.proofs.Common.{◌≡◌, ◌≤◌, ◌<◌, ◌⊎◌, ⊎_elim, ℕ, zero, suc, ◌+◌, ◌-◌, List, [], ◌∷◌, cond, nat_lt, map, slice_index_or, Result, Ok, Err, IsErrAnd, refl, sym, ap, ◌∙◌, arith}
+use Rattle.raml_syntax.specs.Tree.{Type'}
+use Rattle.base_poly.specs.Plain.{degrees}
+use Rattle.base_poly.specs.Base.{total}
+use Rattle.base_poly.specs.declared.fault.IndexFault.{IndexFault}
+use Rattle.base_poly.specs.declared.fault.IndexFault.TheVariants.{TooMany}
+use Rattle.base_poly.specs.Indices.{tuples_up_to}
+use Rattle.index_shift.specs.Tables.{fits, sums, listed}
+use Rattle.index_shift.proofs.Shorter.{front_few, back_few}
+use Rattle.index_shift.proofs.Steps.{listed_at}
+use Rattle.tuple_ranks.specs.Columns.{sizes, count, below, lower_count, columns, Column}
+use Rattle.tuple_ranks.specs.Spots.{IsSmall, IsLarge}
+use Rattle.tuple_ranks.proofs.Ranked.{size_is}
+
+pub of_fault : {T : Type 0} (r : Result T IndexFault) (e : IndexFault) → IsErrAnd r (λ x. x ≡ e) → r ≡ Err TooMany → e ≡ TooMany
+of_fault (Ok u) e h g = absurd (cc)
+of_fault (Err x) e h g = sym h ∙ (let p : x ≡ TooMany = cc in p)
+
+-- without variables there is one tuple, of degree 0
+pub none_higher : (g : ℕ) → 0 < g → 0 ≡ count [] g
+none_higher zero h = absurd (omega (arith, h))
+none_higher (suc g) h = refl
+
+-- Sums of what is below
+
+pub below_more : (n : ℕ → ℕ) (h : ℕ) → below n h + n h ≡ below n (h + 1)
+below_more n h = ap (below n) next
+  where
+    next : suc h ≡ h + 1
+    next = omega arith
+
+below_grows : (n : ℕ → ℕ) (h k : ℕ) → h ≤ k → below n h ≤ below n k
+below_grows n h zero low = let none : h ≡ 0 = omega (arith, low) in let same = ap (below n) none in omega (arith, same)
+below_grows n h (suc k) low = ⊎_elim
+    (λ e. let same = ap (below n) e in omega (arith, same))
+    (λ g. let more = below_grows n h k g in omega (arith, more))
+    (split low)
+  where
+    split : h ≤ suc k → (h ≡ suc k) ⊎ (h ≤ k)
+    split g = grind arith
+
+below_same : (n m : ℕ → ℕ) (h : ℕ) → ((k : ℕ) → k < h → n k ≡ m k) → below n h ≡ below m h
+below_same n m zero same = refl
+below_same n m (suc h) same = λ i. below_same n m h (λ k l. same k (omega (arith, l))) i + same h (omega arith) i
+
+listed_same : {X : Type 0} (f g : ℕ → X) (from n : ℕ) → ((k : ℕ) → k < from + n → f k ≡ g k) → listed f from n ≡ listed g from n
+listed_same f g from zero same = refl
+listed_same f g from (suc n) same = λ i. same from (omega arith) i ∷ listed_same f g (1 + from) n (λ k l. same k (omega (arith, l))) i
+
+-- Numbers read from a table
+
+pub read_is : (n : ℕ → ℕ) (d : ℕ) (numbers : List ℕ) → numbers ≡ listed n 0 (1 + d) → (g : ℕ) → g ≤ d → slice_index_or numbers g 0 ≡ n g
+read_is n d numbers made g low = ap (λ l. slice_index_or l g 0) made ∙ listed_at n 0 (1 + d) g 0 (omega (arith, low)) ∙ ap n (none g)
+  where
+    none : (g : ℕ) → 0 + g ≡ g
+    none g = omega arith
+
+module _ (As : List Type') (d : ℕ) (counts : List ℕ) (made : counts ≡ listed (count (sizes As d)) 0 (1 + d)) where
+  abbrev pub read : ℕ → ℕ
+  read g = slice_index_or counts g 0
+
+  pub starts_are : listed (below read) 0 (2 + d) ≡ listed (lower_count (sizes As d)) 0 (2 + d)
+  starts_are = listed_same (below read) (lower_count (sizes As d)) 0 (2 + d) (λ h l. below_same read (count (sizes As d)) h (λ k m. read_is (count (sizes As d)) d counts made k (omega (arith, l, m))))
+
+  lows_are : (h : ℕ) → h ≤ 1 + d → below read h ≡ lower_count (sizes As d) h
+  lows_are h low = below_same read (count (sizes As d)) h (λ k m. read_is (count (sizes As d)) d counts made k (omega (arith, low, m)))
+
+  pub is_small : below read (1 + d) ≤ 2000 → IsSmall As d
+  is_small few = let a = lows_are (1 + d) (omega arith) in let b = size_is As d in omega (arith, a, b, few)
+
+  pub is_large : (g : ℕ) × (g ≤ d) × (2000 < below read (1 + g)) → IsLarge As d
+  is_large p =
+      let low = p.1 in
+      let many = p.2 in
+      let a = lows_are (1 + p.0) (omega (arith, low)) in
+      let b = below_grows (count (sizes As d)) (1 + p.0) (1 + d) (omega (arith, low)) in
+      let c = size_is As d in omega (arith, a, b, c, many)
+
+  -- with a variable before
+  fits_same : (g p : ℕ) → g ≤ d → fits read g p ≡ fits (count (sizes As d)) g p
+  fits_same g p low = ap (cond (nat_lt g p) 0) (read_is (count (sizes As d)) d counts made (g - p) (omega (arith, low)))
+
+  sums_same : (g s : ℕ) (ps : List ℕ) → g ≤ d → sums (fits read g) s ps ≡ sums (fits (count (sizes As d)) g) s ps
+  sums_same g s [] low = refl
+  sums_same g s (p ∷ ps) low = λ i. s ∷ (ap (λ n. sums (fits read g) (s + n) ps) (fits_same g p low) ∙ sums_same g (s + fits (count (sizes As d)) g p) ps low) i
+
+  total_same : (g : ℕ) (ps : List ℕ) → g ≤ d → total (fits read g) ps ≡ total (fits (count (sizes As d)) g) ps
+  total_same g [] low = refl
+  total_same g (p ∷ ps) low = λ i. fits_same g p low i + total_same g ps low i
+
+  module _ (A : Type') (ps : List ℕ) (are : ps ∷ [] ≡ sizes (A ∷ []) d) where
+    they : ps ≡ map degrees (tuples_up_to (A ∷ []) d)
+    they = ap head are
+      where
+        head : List (List ℕ) → List ℕ
+        head [] = []
+        head (x ∷ xs) = x
+
+    pub columns_more : (table : List (List ℕ)) (cs : List Column) → table ≡ listed (λ g. sums (fits read g) 0 ps) 0 (1 + d) → cs ≡ columns d (sizes As d) →
+        record { sizes = ps; before = table } ∷ cs ≡ columns d (sizes (A ∷ As) d)
+    columns_more table cs made_table made_columns =
+        let rows = made_table ∙ listed_same (λ g. sums (fits read g) 0 ps) (λ g. sums (fits (count (sizes As d)) g) 0 ps) 0 (1 + d) (λ g l. sums_same g 0 ps (omega (arith, l))) in
+        (λ i. record { sizes = ps; before = rows i } ∷ made_columns i)
+        ∙ ap (λ ps. record { sizes = ps; before = listed (λ g. sums (fits (count (sizes As d)) g) 0 ps) 0 (1 + d) } ∷ columns d (sizes As d)) they
+
+    pub counts_more : (totals : List ℕ) → totals ≡ listed (λ g. total (fits read g) ps) 0 (1 + d) → totals ≡ listed (count (sizes (A ∷ As) d)) 0 (1 + d)
+    counts_more totals made_totals =
+        made_totals ∙ listed_same (λ g. total (fits read g) ps) (count (sizes (A ∷ As) d)) 0 (1 + d)
+        (λ g l. total_same g ps (omega (arith, l)) ∙ ap (total (fits (count (sizes As d)) g)) they)
+
+    pub large_more : (g : ℕ) × (g ≤ d) × (2000 < total (fits read g) ps) → IsLarge (A ∷ As) d
+    large_more p =
+        let low = p.1 in
+        let many = p.2 in
+        let a = total_same p.0 ps low ∙ ap (total (fits (count (sizes As d)) p.0)) they in
+        let b = below_grows (count (sizes (A ∷ As) d)) (suc p.0) (1 + d) (omega (arith, low)) in
+        let c = size_is (A ∷ As) d in omega (arith, a, b, c, many)
+
+pub behind_large : (A : Type') (As : List Type') (d : ℕ) → IsLarge As d → IsLarge (A ∷ As) d
+behind_large A As d h = let a = back_few (A ∷ []) As d in omega (arith, a, h)
+
+pub first_large : (A : Type') (As : List Type') (d : ℕ) → IsLarge (A ∷ []) d → IsLarge (A ∷ As) d
+first_large A As d h = let a = front_few (A ∷ []) As d in omega (arith, a, h)

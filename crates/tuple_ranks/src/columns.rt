@@ -1,0 +1,203 @@
+// Tables of how many tuples are before others.
+ghost use Rattle.std.specs.Prelude.{◌≡◌, ◌<◌, ◌≤◌, ◌+◌, ℕ, [], ◌∷◌, map, slice_index_or, IfOk, OnOk, IsErrOf};
+ghost use Rattle.raml_syntax.specs.Read.{ty_of};
+ghost use Rattle.base_poly.specs.Base.{total};
+ghost use Rattle.base_poly.specs.Read.{context_of};
+ghost use Rattle.index_shift.specs.Tables.{fits, sums, listed};
+ghost use Rattle.tuple_ranks.specs.Columns.{sizes, count, lower_count, columns};
+ghost use Rattle.tuple_ranks.specs.Read.{items_of};
+ghost use Rattle.tuple_ranks.specs.Spots.{IsLarge};
+
+use base_poly::{IndexFault, degrees};
+use raml_syntax::Ty;
+use std::alloc::{AllocError, Global};
+use std::marker::Model;
+
+/// The most indices that a context may have.
+pub const MOST: u16 = 2000;
+
+/// Of a variable the degrees of its indices, component by component, and for each degree how many
+/// tuples of it and of the variables behind it have this degree and begin with an index before the
+/// n-th.
+#[derive(Drop)]
+pub struct Column {
+    pub sizes: Vec<u8>,
+    pub before: Vec<Vec<u16>>,
+}
+
+impl Model for Column {
+    ghost use Rattle.std.specs.Prelude.{map};
+    ghost use Rattle.tuple_ranks.specs.Columns.{Column};
+    ghost use Rattle.tuple_ranks.specs.Read.{items_of};
+
+    ghost Value = { Column };
+
+    ghost view = { λ c. record {
+      sizes = c.sizes.items;
+      before = map items_of c.before.items;
+    } };
+}
+
+/// The variables of a context, and for each degree how many tuples have it.
+#[derive(Drop)]
+pub struct Columns {
+    pub columns: Vec<Column>,
+    pub counts: Vec<u16>,
+}
+
+/// The columns of a context.
+///
+/// `TooMany` where it has more than 2000 indices of degree at most `d`.
+#[cycle(columns_of)]
+pub fn columns_of(alloc: Global, types: &[Ty], d: u8) -> Result<Columns, IndexFault>
+    ensures columns { IfOk result (λ made. made.columns.items ≡ columns d (sizes (context_of types.now) d)) }
+    ensures counts { IfOk result (λ made. made.counts.items ≡ listed (count (sizes (context_of types.now) d)) 0 (1 + d)) }
+    ensures many { IsErrOf result IndexFault.TooMany → IsLarge (context_of types.now) d }
+{
+    match types {
+        [] => Ok(none(alloc, d)?),
+        [first, rest @ ..] => with_first(alloc, first, rest, d),
+    }
+}
+
+// Those of a variable and of those behind it.
+#[cycle(columns_of)]
+fn with_first(alloc: Global, first: &Ty, rest: &[Ty], d: u8) -> Result<Columns, IndexFault>
+    ensures columns { IfOk result (λ made. made.columns.items ≡ columns d (sizes (ty_of first.now ∷ context_of rest.now) d)) }
+    ensures counts { IfOk result (λ made. made.counts.items ≡ listed (count (sizes (ty_of first.now ∷ context_of rest.now) d)) 0 (1 + d)) }
+    ensures many { IsErrOf result IndexFault.TooMany → IsLarge (ty_of first.now ∷ context_of rest.now) d }
+{
+    let behind = columns_of(alloc, rest, d)?;
+    let sizes = sizes_of(alloc, first, d)?;
+    let rows = running(alloc, &behind.counts, &sizes, d)?;
+    let before = rows.table;
+    Ok(Columns {
+        columns: led(Column { sizes, before }, behind.columns)?,
+        counts: rows.totals,
+    })
+}
+
+// The column before the others.
+fn led(column: Column, others: Vec<Column>) -> Result<Vec<Column>, AllocError>
+    ensures { IfOk result (λ columns. columns.items ≡ column ∷ others.items) }
+{
+    let mut columns = others;
+    columns.insert(0, column)?;
+    Ok(columns)
+}
+
+// No variable: the one tuple has degree 0.
+fn none(alloc: Global, d: u8) -> Result<Columns, AllocError>
+    ensures columns { IfOk result (λ made. made.columns.items ≡ columns d []) }
+    ensures counts { IfOk result (λ made. made.counts.items ≡ listed (count []) 0 (1 + d)) }
+{
+    let mut counts = Vec::new(alloc);
+    for g in 0..u16::from(d) + 1 {
+        counts.push(alone(g))?;
+    }
+    Ok(Columns {
+        columns: Vec::new(alloc),
+        counts,
+    })
+}
+
+// How many tuples without an index have the degree.
+#[tactic(auto, using(crate::proofs::Made::none_higher))]
+fn alone(g: u16) -> u16
+    ensures { result ≡ count [] g }
+{
+    if g > 0 { 0 } else { 1 }
+}
+
+/// The type alone.
+pub fn one(alloc: Global, ty: &Ty) -> Result<Vec<Ty>, AllocError>
+    ensures { IfOk result (λ types. context_of types.items ≡ ty_of ty.now ∷ []) }
+{
+    Ok(vec![in alloc; ty.copy(alloc)?]?)
+}
+
+/// The degrees of the indices of the type, component by component.
+pub fn sizes_of(alloc: Global, ty: &Ty, d: u8) -> Result<Vec<u8>, IndexFault>
+    ensures all { IfOk result (λ found. found.items ∷ [] ≡ sizes (ty_of ty.now ∷ []) d) }
+    ensures many { IsErrOf result IndexFault.TooMany → IsLarge (ty_of ty.now ∷ []) d }
+{
+    let types = one(alloc, ty)?;
+    degrees(alloc, &types, d, usize::from(MOST))
+}
+
+// For each degree a row of sums, and its total.
+#[derive(Drop)]
+struct Rows {
+    table: Vec<Vec<u16>>,
+    totals: Vec<u16>,
+}
+
+// For each degree how many tuples begin before each of the indices, and how many there are, where
+// the numbers tell how many tuples behind have a degree.
+fn running(alloc: Global, numbers: &[u16], degrees: &[u8], d: u8) -> Result<Rows, IndexFault>
+    ensures table { IfOk result (λ found. map items_of found.table.items ≡ listed (λ g. sums (fits (λ r. slice_index_or numbers.now r 0) g) 0 degrees.now) 0 (1 + d)) }
+    ensures totals { IfOk result (λ found. found.totals.items ≡ listed (λ g. total (fits (λ r. slice_index_or numbers.now r 0) g) degrees.now) 0 (1 + d)) }
+    ensures many { IsErrOf result IndexFault.TooMany → (g : ℕ) × (g ≤ d) × (2000 < total (fits (λ r. slice_index_or numbers.now r 0) g) degrees.now) }
+{
+    let mut table = Vec::new(alloc);
+    let mut totals = Vec::new(alloc);
+    for g in 0..u16::from(d) + 1 {
+        let found = sums(alloc, numbers, g, degrees)?;
+        table.push(found.0)?;
+        totals.push(found.1)?;
+    }
+    Ok(Rows { table, totals })
+}
+
+// For each of the degrees the sum of what comes before it, and the sum of all.
+fn sums(
+    alloc: Global,
+    numbers: &[u16],
+    g: u16,
+    degrees: &[u8],
+) -> Result<(Vec<u16>, u16), IndexFault>
+    ensures row { IfOk result (λ found. found.0.items ≡ sums (fits (λ r. slice_index_or numbers.now r 0) g) 0 degrees.now) }
+    ensures all { IfOk result (λ found. found.1 ≡ total (fits (λ r. slice_index_or numbers.now r 0) g) degrees.now) }
+    ensures many { IsErrOf result IndexFault.TooMany → 2000 < total (fits (λ r. slice_index_or numbers.now r 0) g) degrees.now }
+{
+    let mut row = Vec::with_capacity(alloc, degrees.len())?;
+    let mut sum = 0;
+    for p in degrees {
+        row.push(sum)?;
+        sum = more(sum, fitting(numbers, g, u16::from(*p)))?;
+    }
+    Ok((row, sum))
+}
+
+// The number for what is left of `g` behind `p`.
+fn fitting(numbers: &[u16], g: u16, p: u16) -> u16
+    ensures { result ≡ fits (λ r. slice_index_or numbers.now r 0) g p }
+{
+    if g < p {
+        0
+    } else {
+        number_at(numbers, (g - p) as usize)
+    }
+}
+
+/// The number at the place, 0 past the end.
+pub fn number_at(numbers: &[u16], place: usize) -> u16
+    ensures { result ≡ slice_index_or numbers.now place 0 }
+{
+    match numbers.get(place) {
+        Some(number) => *number,
+        None => 0,
+    }
+}
+
+/// The sum, where it is not too great.
+pub fn more(sum: u16, n: u16) -> Result<u16, IndexFault>
+    ensures exact { IfOk result (λ all. all ≡ sum + n) }
+    ensures few { OnOk result (sum + n ≤ 2000) }
+    ensures many { IsErrOf result IndexFault.TooMany → 2000 < sum + n }
+{
+    match sum.checked_add(n) {
+        Some(all) if all <= MOST => Ok(all),
+        _ => Err(IndexFault::TooMany),
+    }
+}

@@ -1,0 +1,157 @@
+// Positions of tuples from their numbers.
+ghost use Rattle.std.specs.Prelude.{◌≡◌, ◌<◌, ◌≤◌, ◌+◌, ℕ, [], map, Some, slice_get, slice_index_or, IfOk, OnOk, IsErrOf};
+ghost use Rattle.base_poly.specs.Read.{context_of};
+ghost use Rattle.index_shift.specs.Tables.{listed};
+ghost use Rattle.tuple_ranks.specs.Columns.{below, table, up_to, standing, led_by, stands, place, degree_at};
+ghost use Rattle.tuple_ranks.specs.Read.{items_of};
+ghost use Rattle.tuple_ranks.specs.Slots.{picked};
+ghost use Rattle.tuple_ranks.specs.Spots.{IsSmall, IsLarge};
+
+use crate::columns::{Column, columns_of, more, number_at};
+use crate::slots::Slot;
+use base_poly::IndexFault;
+use raml_syntax::Ty;
+use std::alloc::Global;
+use std::marker::Model;
+
+/// What is known of a context, to find the positions of its tuples.
+#[derive(Drop)]
+pub struct Ranks {
+    pub degree: u8,
+    pub columns: Vec<Column>,
+    /// For each degree, and one more, how many tuples have a lower one.
+    pub starts: Vec<u16>,
+}
+
+impl Model for Ranks {
+    ghost use Rattle.tuple_ranks.specs.Columns.{Table};
+
+    ghost Value = { Table };
+
+    ghost view = { λ r. record {
+      degree = r.degree;
+      columns = r.columns.items;
+      starts = r.starts.items;
+    } };
+}
+
+impl Ranks {
+    /// Those of these types, up to a degree.
+    ///
+    /// `TooMany` where the context has more than 2000 indices of degree at most `d`.
+    pub fn new(alloc: Global, types: &[Ty], d: u8) -> Result<Ranks, IndexFault>
+        ensures is { IfOk result (λ ranks. ranks ≡ table (context_of types.now) d) }
+        ensures few { OnOk result (IsSmall (context_of types.now) d) }
+        ensures many { IsErrOf result IndexFault.TooMany → IsLarge (context_of types.now) d }
+    {
+        let made = columns_of(alloc, types, d)?;
+        let starts = starts(alloc, &made.counts, d)?;
+        Ok(Ranks {
+            degree: d,
+            columns: made.columns,
+            starts,
+        })
+    }
+
+    /// How many tuples there are up to a degree.
+    pub fn up_to(&self, degree: u8) -> usize
+        ensures { result ≡ up_to self.now degree }
+    {
+        usize::from(number_at(&self.starts, 1 + usize::from(degree)))
+    }
+
+    /// The position of the tuple that the slots pick of these numbers; the number of all tuples where
+    /// it has none.
+    pub fn place(&self, slots: &[Slot], numbers: &[usize]) -> usize
+        ensures { result ≡ place self.now (picked slots.now numbers.now) }
+    {
+        match stands(self.degree, &self.columns, slots, numbers) {
+            Some((degree, before)) => {
+                usize::from(number_at(&self.starts, usize::from(degree))) + usize::from(before)
+            }
+            None => self.up_to(self.degree),
+        }
+    }
+
+    /// The degree of the tuple that the slots pick of these numbers; 0 where there is none.
+    pub fn degree_at(&self, slots: &[Slot], numbers: &[usize]) -> u8
+        ensures { result ≡ degree_at self.now (picked slots.now numbers.now) }
+    {
+        match stands(self.degree, &self.columns, slots, numbers) {
+            Some((degree, _)) => degree,
+            None => 0,
+        }
+    }
+}
+
+// For each degree, and one more, how many tuples have a lower one.
+fn starts(alloc: Global, counts: &[u16], d: u8) -> Result<Vec<u16>, IndexFault>
+    ensures starts { IfOk result (λ found. found.items ≡ listed (below (λ g. slice_index_or counts.now g 0)) 0 (2 + d)) }
+    ensures few { OnOk result (below (λ g. slice_index_or counts.now g 0) (1 + d) ≤ 2000) }
+    ensures many { IsErrOf result IndexFault.TooMany → (g : ℕ) × (g ≤ d) × (2000 < below (λ g. slice_index_or counts.now g 0) (1 + g)) }
+{
+    let mut found = Vec::new(alloc);
+    let mut low = 0;
+    for g in 0..u16::from(d) + 1 {
+        found.push(low)?;
+        low = more(low, number_at(counts, usize::from(g)))?;
+    }
+    found.push(low)?;
+    Ok(found)
+}
+
+// The degree of the tuple, and how many of this degree are before it.
+fn stands(d: u8, columns: &[Column], slots: &[Slot], numbers: &[usize]) -> Option<(u8, u16)>
+    ensures { result ≡ stands d columns.now (picked slots.now numbers.now) }
+{
+    match columns {
+        [] => match slots {
+            [] => Some((0, 0)),
+            [_, ..] => None,
+        },
+        [column, columns @ ..] => match slots {
+            [] => None,
+            [slot, slots @ ..] => {
+                let behind = stands(d, columns, slots, numbers)?;
+                led_by(d, column, slot.number(numbers), behind)
+            }
+        },
+    }
+}
+
+// The same with an index of the variable before the others.
+fn led_by(d: u8, column: &Column, number: usize, behind: (u8, u16)) -> Option<(u8, u16)>
+    ensures { result ≡ led_by d column.now number (slice_get column.now.sizes number) (Some behind) }
+{
+    match column.sizes.get(number) {
+        Some(size) => {
+            let degree = u16::from(*size) + u16::from(behind.0);
+            let before = before_at(&column.before, usize::from(degree), number);
+            standing(d, degree, u32::from(before) + u32::from(behind.1))
+        }
+        None => None,
+    }
+}
+
+// The number in the row and the column, 0 past the end.
+fn before_at(table: &[Vec<u16>], row: usize, column: usize) -> u16
+    ensures { result ≡ slice_index_or (slice_index_or (map items_of table.now) row []) column 0 }
+{
+    match table.get(row) {
+        Some(numbers) => number_at(numbers, column),
+        None => 0,
+    }
+}
+
+// A degree and a number that are not too great.
+fn standing(d: u8, degree: u16, before: u32) -> Option<(u8, u16)>
+    ensures { result ≡ standing d degree before }
+{
+    if u16::from(d) < degree {
+        None
+    } else if before < 65536 {
+        Some((degree as u8, before as u16))
+    } else {
+        None
+    }
+}
