@@ -59,12 +59,7 @@ pub fn place_of(functions: &[FunId], fun: FunId) -> usize
 }
 
 // The target of this number, where there is one. The schedule has come to it, so there are few indices.
-fn target_at(
-    alloc: Global,
-    ty: &Ty,
-    degree: u8,
-    number: u32,
-) -> Result<Option<Target>, AllocError>
+fn target_at(alloc: Global, ty: &Ty, degree: u8, number: u32) -> Result<Option<Target>, AllocError>
     ensures { IfOk result (λ found. found ≡ slice_get (targets (ty_of ty.now) degree) number) }
 {
     match targets(alloc, ty, degree) {
