@@ -13,7 +13,7 @@ use Rattle.cost_free.specs.Blocked.{is_for_meter}
 use Rattle.annot_types.specs.Program.{Program}
 use Rattle.annot_types.specs.Certificate.{annotation, Sig, Block}
 use Rattle.annot_types.specs.Signature.{sig_in, free_budget, or_else, cost_sig}
-use Rattle.annot_types.specs.Holds.{times, times_sig, times_block, raised}
+use Rattle.annot_types.specs.Holds.{times_sig, times_block, raised}
 use Rattle.annot_types.specs.Rows.{size as size_of}
 use Rattle.annot_types.proofs.Linear.{mul, annotation_mul}
 use Rattle.annot_types.proofs.Raised.{sig_in_times, on, off, same_meters, same_self, not_true}
@@ -22,7 +22,7 @@ use Rattle.walk_rules.specs.Planned.{is_usable, usable_from}
 use Rattle.walk_rules.specs.Found.{listed, signature, free_signature, free_in, at_budget}
 use Rattle.walk_rules.specs.Capped.{cap}
 use Rattle.rule_walk.specs.Read.{signature_of, signed}
-use Rattle.earlier_blocks.specs.Remembers.{Tables, costs, cost_at, blocks_at, over, Remembers}
+use Rattle.earlier_blocks.specs.Remembers.{Tables, costs, cost_at, blocks_at, over, Remembers, capped_signature, Knows}
 use Rattle.earlier_blocks.specs.Raised.{raised_numbers, raised_signature, NothingLeaves, NonePasses, Rises}
 
 -- The items before a place are changed.
@@ -217,3 +217,50 @@ risen P d meter t earlier old new low g h = record {
         ∙ raised_at f (cost_sig P meter earlier f) refl
         ∙ ap (at_budget (over P d (map (raised meter t) earlier)) (slice_get P.funs f)) (sym (cost_raised P meter t earlier f))
         ∙ ap (λ m. at_budget (over P d (map (raised meter t) earlier)) (slice_get P.funs f) (cost_sig P m (map (raised meter t) earlier) f)) (sym is)
+
+-- products that leave 128 bits stand for the same number
+capped_listed : (n t : ℕ) (q : Annotation) → map cap (raised_numbers t (listed n q)) ≡ map cap (listed n (mul t q))
+capped_listed zero t q = refl
+capped_listed (suc n) t q =
+    let one : cap (cap (q 0 * t)) ≡ cap (t * q 0) = twice (q 0 * t) ∙ ap cap (turned (q 0) t) in
+    λ i. one i ∷ capped_listed n t (λ k. q (suc k)) i
+  where
+    twice : (n : ℕ) → cap (cap n) ≡ cap n
+    twice n = omega arith
+
+    turned : (a t : ℕ) → a * t ≡ t * a
+    turned a t = grind arith
+
+signature_capped : (t budget : ℕ) (g : Option NormFun) (s : Sig) →
+    capped_signature (raised_signature t (signature g budget (Some s))) ≡ capped_signature (signature g budget (Some (times_sig t s)))
+signature_capped t budget None s = refl
+signature_capped t budget (Some g) s = λ i. record {
+  budget = budget;
+  args = (capped_listed (size_of (types g.params) budget) t (annotation s.args) ∙ ap (λ q. map cap (listed (size_of (types g.params) budget) q)) (sym (annotation_mul t s.args))) i;
+  result = (capped_listed (size_of (g.result ∷ []) budget) t (annotation s.result) ∙ ap (λ q. map cap (listed (size_of (g.result ∷ []) budget) q)) (sym (annotation_mul t s.result))) i;
+}
+
+pub risen_known : (P : Program) (d : ℕ) (meter : Meter) (t : ℕ) (earlier : List Block) (old new : Tables) → Rises meter t old new →
+    Remembers P d earlier old → Knows P d (map (raised meter t) earlier) new
+risen_known P d meter t earlier old new g h = record {
+  free = λ k f. ap (λ l. signed f (slice_index_or l k [])) g.free ∙ h.free k f ∙ sym (free_raised P meter t d earlier earlier k f);
+  cost = λ other f. by_cost other f (same_meter other meter) refl;
+}
+  where
+    raised_at : (f : ℕ) (o : Option Sig) →
+        option_map capped_signature (option_map (raised_signature t) (at_budget (over P d earlier) (slice_get P.funs f) o))
+        ≡ option_map capped_signature (at_budget (over P d (map (raised meter t) earlier)) (slice_get P.funs f) (option_map (times_sig t) o))
+    raised_at f None = refl
+    raised_at f (Some s) = ap Some (signature_capped t d (slice_get P.funs f) s)
+
+    by_cost : (m : Meter) (f : ℕ) (b : Bool) → same_meter m meter ≡ b →
+        option_map capped_signature (cost_at new m f)
+        ≡ option_map capped_signature (at_budget (over P d (map (raised meter t) earlier)) (slice_get P.funs f) (cost_sig P m (map (raised meter t) earlier) f))
+    by_cost m f false e = ap (option_map capped_signature) (ap (λ l. slice_index_or (map (option_map signature_of) l) f None) (g.others m e) ∙ h.cost m f
+        ∙ ap (at_budget (over P d earlier) (slice_get P.funs f)) (sym (cost_kept P meter t m e earlier f)))
+    by_cost m f true e = let is : m ≡ meter = same_meters m meter e in
+        ap (option_map capped_signature) (ap (λ m. cost_at new m f) is ∙ ap (λ l. slice_index_or l f None) g.paying ∙ at_mapped (raised_signature t) (map (option_map signature_of) (costs old meter)) f
+        ∙ ap (option_map (raised_signature t)) (h.cost meter f))
+        ∙ raised_at f (cost_sig P meter earlier f)
+        ∙ ap (λ o. option_map capped_signature (at_budget (over P d (map (raised meter t) earlier)) (slice_get P.funs f) o)) (sym (cost_raised P meter t earlier f))
+        ∙ ap (λ m. option_map capped_signature (at_budget (over P d (map (raised meter t) earlier)) (slice_get P.funs f) (cost_sig P m (map (raised meter t) earlier) f))) (sym is)

@@ -8,6 +8,7 @@ use Rattle.annot_types.specs.Rules.{Setting}
 use Rattle.walk_rules.specs.Numbers.{Signature}
 use Rattle.walk_rules.specs.Planned.{usable_from}
 use Rattle.walk_rules.specs.Found.{free_from, cost_from}
+use Rattle.walk_rules.specs.Capped.{cap}
 use Rattle.rule_walk.specs.declared.known.Signature.{Signature as Given}
 use Rattle.rule_walk.specs.declared.known.Signed.{Signed}
 use Rattle.rule_walk.specs.Read.{signature_of, signed}
@@ -49,3 +50,12 @@ pub record Remembers (P : Program) (d : ℕ) (earlier : List Block) (t : Tables)
   pub free : (k f : ℕ) → free_at t k f ≡ free_from (over P d earlier) k f
   pub usable : (f budget : ℕ) → blocks_at budget (slice_index_or t.usable f []) ≡ usable_from 0 P budget f earlier
   pub cost : (meter : Meter) (f : ℕ) → cost_at t meter f ≡ cost_from (over P d earlier) meter f
+
+-- a signature whose numbers stand at the greatest one of 128 bits where they would leave it
+abbrev pub capped_signature : Signature → Signature
+capped_signature s = record { budget = s.budget; args = map cap s.args; result = map cap s.result }
+
+-- The tables tell of the blocks what walks hear. Of a number that leaves 128 bits, this is the greatest one of 128 bits.
+pub record Knows (P : Program) (d : ℕ) (earlier : List Block) (t : Tables) : Type 0 where
+  pub free : (k f : ℕ) → free_at t k f ≡ free_from (over P d earlier) k f
+  pub cost : (meter : Meter) (f : ℕ) → option_map capped_signature (cost_at t meter f) ≡ option_map capped_signature (cost_from (over P d earlier) meter f)

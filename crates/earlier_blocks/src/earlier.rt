@@ -8,7 +8,7 @@ ghost use Rattle.annot_types.specs.Held.{IfSolved};
 ghost use Rattle.annot_types.specs.Read.{sig_of, body_of, block_of};
 ghost use Rattle.cost_free.specs.Read.{kind_of};
 ghost use Rattle.rule_walk.specs.Read.{known_of, sides_of, signature_of};
-ghost use Rattle.earlier_blocks.specs.Remembers.{Tables, free_at, cost_at, Remembers};
+ghost use Rattle.earlier_blocks.specs.Remembers.{Tables, free_at, cost_at, Remembers, Knows};
 ghost use Rattle.earlier_blocks.specs.Sizes.{AreSizes};
 ghost use Rattle.earlier_blocks.specs.Signed.{signatures, filled};
 ghost use Rattle.annot_types.specs.Holds.{budget_of, raised};
@@ -187,10 +187,12 @@ impl Earlier {
         Ok(())
     }
 
-    /// The blocks of the meter are multiplied. The products of their numbers have 128 bits.
+    /// The blocks of the meter are multiplied. A product that leaves 128 bits stands at the greatest
+    /// number of 128 bits, and walks hear the same.
     pub fn raise(&mut self, meter: Meter, factor: u128)
-        ensures { (P : Program) (degree : ℕ) (earlier : List c.Block) → NonePasses P meter factor earlier →
+        ensures remembers { (P : Program) (degree : ℕ) (earlier : List c.Block) → NonePasses P meter factor earlier →
             Remembers P degree earlier self.old → Remembers P degree (map (raised meter factor) earlier) self.new }
+        ensures knows { (P : Program) (degree : ℕ) (earlier : List c.Block) → Remembers P degree earlier self.old → Knows P degree (map (raised meter factor) earlier) self.new }
     {
         self.rise(meter, factor);
     }
