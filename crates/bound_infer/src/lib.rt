@@ -22,7 +22,6 @@ mod refuting;
 mod run;
 mod scales;
 mod sigs;
-mod sizes;
 mod solved;
 mod step;
 mod system;

@@ -57,7 +57,7 @@ fits_none c m l r =
       by false h false k true i = let less : total_left c < total_right c = grind (arith, nat_tests, i) in absurd (omega (arith, less, m))
       by false h false k false i = refl
 
-all_fit_none : (cs : List (Condition Amount)) → AllMeet cs → TotalsFit cs → first_fault cs ≡ None
+pub all_fit_none : (cs : List (Condition Amount)) → AllMeet cs → TotalsFit cs → first_fault cs ≡ None
 all_fit_none [] m t = refl
 all_fit_none (c ∷ cs) m t = (λ i. or_fault (fits_none c m.0 t.0 t.1 i) (first_fault cs)) ∙ all_fit_none cs m.1 t.2
 

@@ -8,13 +8,15 @@ pub mod Faultless
 pub mod Comparing
 pub mod Ended
 pub mod Hearing
+pub mod Knowing
 pub mod Walked
 pub mod Telling
 pub mod Covered
 pub mod Results
 pub mod Reaching
 pub mod Tasks
-pub mod Members
+pub mod Grouped
+pub mod Sizing
 pub mod Going
 pub mod SameTask
 pub mod Walking

@@ -9,14 +9,14 @@ use Rattle.cert_check.specs.Fault.{Fault, Unless}
 use Rattle.cert_check.specs.Finds.{BodyFinds, BlockFinds, EndFinds, BlocksFind}
 use Rattle.cert_check.specs.Laws.{OneFirstFault}
 
-unless_one : (good : Type 0) (fault x y : Option Fault) (A B : Type 0) → (A → B → x ≡ y) → Unless good fault x A → Unless good fault y B → x ≡ y
+pub unless_one : (good : Type 0) (fault x y : Option Fault) (A B : Type 0) → (A → B → x ≡ y) → Unless good fault x A → Unless good fault y B → x ≡ y
 unless_one good fault x y A B h (inl a) (inl b) = h a.1 b.1
 unless_one good fault x y A B h (inl a) (inr b) = absurd (b.0 a.0)
 unless_one good fault x y A B h (inr a) (inl b) = absurd (a.0 b.0)
 unless_one good fault x y A B h (inr a) (inr b) = a.1 ∙ sym b.1
 
 module _ (P : Program) (c : Certificate) where
-  body_one : (earlier : List Block) (task : Task) (body : Body) (x y : Option Fault) → BodyFinds P c earlier task body x → BodyFinds P c earlier task body y → x ≡ y
+  pub body_one : (earlier : List Block) (task : Task) (body : Body) (x y : Option Fault) → BodyFinds P c earlier task body x → BodyFinds P c earlier task body y → x ≡ y
   body_one earlier task (Solved sigs hints) x y =
       unless_one _ _ x y _ _ (unless_one _ _ x y _ _ (unless_one _ _ x y _ _ (λ e h. e ∙ sym h)))
   body_one earlier task (Refuted farkas) x y = unless_one _ _ x y _ _ (λ e h. e ∙ sym h)

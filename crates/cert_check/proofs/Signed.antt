@@ -31,7 +31,7 @@ use Rattle.amortised_bounds.proofs.Weighed.{some_is}
 use Rattle.cert_check.specs.Bound.{Told, told_of, told_by, told}
 
 -- the derivation of a function of a group
-function_of : (S : Setting) (m : Mode) (fs : List ℕ) (ss : List Sig) (hss : List (List Hint)) → FunctionsHold S m fs ss hss →
+pub function_of : (S : Setting) (m : Mode) (fs : List ℕ) (ss : List Sig) (hss : List (List Hint)) → FunctionsHold S m fs ss hss →
     (f : ℕ) (s : Sig) → sig_among fs ss f ≡ Some s → (hs : List Hint) × FunctionHolds S m f s hs
 function_of S m [] ss hss h f s e = absurd (cc)
 function_of S m (g ∷ fs) [] hss h f s e = absurd (cc)

@@ -6,6 +6,7 @@ pub mod Course
 pub mod Same
 pub mod Results
 pub mod At
+pub mod Sizes
 pub mod Judged
 pub mod Judging
 pub mod Read

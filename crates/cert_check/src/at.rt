@@ -9,7 +9,6 @@ ghost use Rattle.rule_walk.specs.Read as r;
 ghost use Rattle.rule_plan.specs.Read.{program_in};
 ghost use Rattle.cert_check.specs.Results.{HasResult};
 
-use annot_types::Certificate;
 use cost_free::{Task, TaskKind};
 use earlier_blocks::Earlier;
 use raml_syntax::{FunId, Ty};
@@ -17,13 +16,14 @@ use rule_walk::Mode;
 use share_normal::NormProgram;
 use std::alloc::Global;
 
-/// A block by its number and its task, and what is known there: the program, the certificate, and what
-/// is kept of the blocks before.
+/// A block by its number and its task, and what is known there: the program, the degree, the scale of
+/// the prices, and what is kept of the blocks before.
 #[derive(Drop)]
 pub struct At<'p, 'a> {
     pub alloc: Global,
     pub program: &'p NormProgram<'a>,
-    pub certificate: &'p Certificate,
+    pub degree: u8,
+    pub scale: u128,
     pub earlier: &'p Earlier,
     pub number: usize,
     pub task: Task,

@@ -7,7 +7,8 @@ ghost use Rattle.annot_types.specs.Certificate as c;
 ghost use Rattle.annot_types.specs.Held.{NamesBlocker, IfSolved};
 ghost use Rattle.annot_types.specs.Holds as h;
 ghost use Rattle.annot_types.specs.Read as a;
-ghost use Rattle.cert_check.specs.At.{program_at, certificate_at, IsAt, Tells, sizes_of};
+ghost use Rattle.earlier_blocks.specs.Remembers.{Remembers};
+ghost use Rattle.cert_check.specs.At.{program_at, IsAt, Tells, sizes_of};
 ghost use Rattle.cert_check.specs.Finds.{job, BodyFinds};
 ghost use Rattle.cert_check.specs.Same.{same_kind, same_task, is_task};
 
@@ -41,7 +42,8 @@ fn same_kind(kind: TaskKind, other: TaskKind) -> bool
     }
 }
 
-fn same_task(task: &Task, other: &Task) -> bool
+/// Whether two tasks are the same.
+pub fn same_task(task: &Task, other: &Task) -> bool
     ensures { result ≡ same_task (task_of task.now) (task_of other.now) }
 {
     task.group == other.group && same_kind(task.kind, other.kind)
@@ -75,11 +77,11 @@ pub fn names_blocker(blocker: Option<FunId>, body: &BlockBody) -> bool
 
 /// The check of a block of the schedule; where it is solved, how many positions its functions have.
 pub fn check_body(at: &At<'_, '_>, body: &BlockBody) -> Result<Vec<(usize, usize)>, CertFault>
-    requires low { h.budget_of at.now.certificate.now.degree (kind_of at.now.task.kind) ≤ 4 }
-    ensures tells { (blocks : List c.Block) → IsAt at.now blocks →
-        Tells result (BodyFinds (program_at at.now) (certificate_at at.now) blocks (task_of at.now.task) (a.body_of body.now)) }
-    ensures sizes { IfOk result (λ sizes. (blocks : List c.Block) → IsAt at.now blocks →
-        IfSolved (a.body_of body.now) (sizes.items ≡ sizes_of (job (program_at at.now) (certificate_at at.now) blocks (task_of at.now.task)).bodies)) }
+    requires low { h.budget_of at.now.degree (kind_of at.now.task.kind) ≤ 4 }
+    ensures tells { (held : c.Certificate) (blocks : List c.Block) → IsAt at.now held blocks → Remembers (program_at at.now) held.degree blocks at.now.earlier.now →
+        Tells result (BodyFinds (program_at at.now) held blocks (task_of at.now.task) (a.body_of body.now)) }
+    ensures sizes { IfOk result (λ sizes. (held : c.Certificate) (blocks : List c.Block) → IsAt at.now held blocks → Remembers (program_at at.now) held.degree blocks at.now.earlier.now →
+        IfSolved (a.body_of body.now) (sizes.items ≡ sizes_of (job (program_at at.now) held blocks (task_of at.now.task)).bodies)) }
 {
     match body {
         BlockBody::Solved { sigs, hints } => check_solved(at, sigs, hints),

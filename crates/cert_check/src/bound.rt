@@ -37,8 +37,8 @@ fn is_for_meter(meter: Meter, kind: TaskKind) -> bool
     }
 }
 
-// The signatures of a block; none where it is not solved.
-fn sigs_of(body: &BlockBody) -> &[Sig]
+/// The signatures of a block; none where it is not solved.
+pub fn sigs_of(body: &BlockBody) -> &[Sig]
     ensures { map a.sig_of result.now ≡ sigs_of (a.body_of body.now) }
 {
     match body {
@@ -82,8 +82,8 @@ fn cost_sig<'c>(
     None
 }
 
-// The parameters of a function; none where there is no such function.
-fn params_of<'p>(program: &'p NormProgram<'_>, fun: FunId) -> Option<&'p [(u32, Ty)]>
+/// The parameters of a function; none where there is no such function.
+pub fn params_of<'p>(program: &'p NormProgram<'_>, fun: FunId) -> Option<&'p [(u32, Ty)]>
     ensures { option_map (λ ps. parameters_of ps.now) result
         ≡ option_map (λ (g : n.NormFun). g.params) (slice_get (program_in program.now).funs fun.0) }
 {
@@ -96,7 +96,8 @@ fn params_of<'p>(program: &'p NormProgram<'_>, fun: FunId) -> Option<&'p [(u32, 
     }
 }
 
-fn types_of(alloc: Global, params: &[(u32, Ty)]) -> Result<Vec<Ty>, AllocError>
+/// The types of the parameters.
+pub fn types_of(alloc: Global, params: &[(u32, Ty)]) -> Result<Vec<Ty>, AllocError>
     ensures { IfOk result (λ made. context_of made.items ≡ types (parameters_of params.now)) }
 {
     let mut made = Vec::with_capacity(alloc, params.len())?;
@@ -134,8 +135,10 @@ fn terms_of(
     Ok(terms)
 }
 
-// An annotation of the parameters over a scale.
-fn poly_of(
+/// An annotation of the parameters over a scale.
+///
+/// Where the parameters have more than 2000 tuples of indices, that memory is wanting is told too.
+pub fn poly_of(
     alloc: Global,
     scale: i128,
     degree: u8,

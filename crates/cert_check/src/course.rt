@@ -17,6 +17,7 @@ ghost use Rattle.cert_check.specs.Read.{fault_of, OfFault};
 use crate::at::{At, members};
 use crate::block::check_body;
 use crate::fault::CertFault;
+use crate::head::scale_for;
 use crate::refusal::large_task;
 use annot_types::{Block, BlockBody, Certificate};
 use cost_free::{Done, Schedule};
@@ -51,8 +52,8 @@ pub fn refused(alloc: Global, program: &NormProgram<'_>, certificate: &Certifica
     }
 }
 
-// The tables go past a block.
-fn remember(
+/// The tables go past a block, whose functions have so many positions.
+pub fn remember(
     alloc: Global,
     program: &NormProgram<'_>,
     degree: u8,
@@ -114,7 +115,8 @@ pub fn check_there(
     let at = At {
         alloc,
         program,
-        certificate,
+        degree: certificate.degree,
+        scale: scale_for(certificate, block.task.kind),
         earlier: &*earlier,
         number,
         task: block.task,

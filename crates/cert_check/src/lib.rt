@@ -19,9 +19,19 @@ mod reached;
 mod refusal;
 mod rules;
 mod shape;
+mod sizes;
 mod solved;
 mod target;
 
 pub use checked::Checked;
 pub use checking::check;
 pub use fault::CertFault;
+
+// what another check of a block shares with this one
+pub use at::{At, budget_of, members, result_of};
+pub use block::same_task;
+pub use bound::{params_of, poly_of, sigs_of};
+pub use head::scale_for;
+pub use planned::check_planned;
+pub use sizes::remember_block;
+pub use target::sig_of;

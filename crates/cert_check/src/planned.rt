@@ -6,8 +6,9 @@ ghost use Rattle.annot_types.specs.Certificate.{Solved};
 ghost use Rattle.annot_types.specs.Held.{SigsRise, AllHintsRise};
 ghost use Rattle.annot_types.specs.Holds as h;
 ghost use Rattle.annot_types.specs.Read as a;
+ghost use Rattle.earlier_blocks.specs.Remembers.{Remembers};
 ghost use Rattle.rule_plan.specs.Read.{body_of};
-ghost use Rattle.cert_check.specs.At.{program_at, certificate_at, IsAt, Tells, sizes_of};
+ghost use Rattle.cert_check.specs.At.{program_at, IsAt, Tells, sizes_of};
 ghost use Rattle.cert_check.specs.Asking.{all_asks_of};
 ghost use Rattle.cert_check.specs.Finds.{SigsFit, AllFit, asks_by, job, ShapeFinds, BodyFinds};
 
@@ -38,9 +39,9 @@ fn check_shape(
     hints: &[Vec<Hint>],
 ) -> Result<(), CertFault>
     requires asked { all_asks_of asks.now ≡ asks_by (map body_of bodies.now) }
-    ensures { (blocks : List c.Block) → IsAt at.now blocks →
-        map body_of bodies.now ≡ (job (program_at at.now) (certificate_at at.now) blocks (task_of at.now.task)).bodies →
-        Tells result (ShapeFinds (program_at at.now) (certificate_at at.now) blocks (task_of at.now.task) (map a.sig_of sigs.now) (map a.hints_of hints.now)) }
+    ensures { (held : c.Certificate) (blocks : List c.Block) → IsAt at.now held blocks →
+        map body_of bodies.now ≡ (job (program_at at.now) held blocks (task_of at.now.task)).bodies →
+        Tells result (ShapeFinds (program_at at.now) held blocks (task_of at.now.task) (map a.sig_of sigs.now) (map a.hints_of hints.now)) }
 {
     if is_shapely(bodies, asks, sigs, hints) {
         check_target(at, bodies, asks, sigs, hints)
@@ -60,16 +61,16 @@ fn sizes(alloc: Global, bodies: &[Body]) -> Result<Vec<(usize, usize)>, AllocErr
     Ok(sizes)
 }
 
-// The check of a block with these plans; how many positions its functions have.
-fn check_planned(
+/// The check of a block with these plans; how many positions its functions have.
+pub fn check_planned(
     at: &At<'_, '_>,
     bodies: &[Body],
     sigs: &[Sig],
     hints: &[Vec<Hint>],
 ) -> Result<Vec<(usize, usize)>, CertFault>
-    ensures tells { (blocks : List c.Block) → IsAt at.now blocks →
-        map body_of bodies.now ≡ (job (program_at at.now) (certificate_at at.now) blocks (task_of at.now.task)).bodies →
-        Tells result (ShapeFinds (program_at at.now) (certificate_at at.now) blocks (task_of at.now.task) (map a.sig_of sigs.now) (map a.hints_of hints.now)) }
+    ensures tells { (held : c.Certificate) (blocks : List c.Block) → IsAt at.now held blocks →
+        map body_of bodies.now ≡ (job (program_at at.now) held blocks (task_of at.now.task)).bodies →
+        Tells result (ShapeFinds (program_at at.now) held blocks (task_of at.now.task) (map a.sig_of sigs.now) (map a.hints_of hints.now)) }
     ensures sizes { IfOk result (λ sizes. sizes.items ≡ sizes_of (map body_of bodies.now)) }
 {
     match all_asked(at.alloc, bodies) {
@@ -90,13 +91,13 @@ pub fn check_solved(
     sigs: &[Sig],
     hints: &[Vec<Hint>],
 ) -> Result<Vec<(usize, usize)>, CertFault>
-    requires low { h.budget_of at.now.certificate.now.degree (kind_of at.now.task.kind) ≤ 4 }
-    ensures tells { (blocks : List c.Block) → IsAt at.now blocks →
-        Tells result (BodyFinds (program_at at.now) (certificate_at at.now) blocks (task_of at.now.task) (Solved (map a.sig_of sigs.now) (map a.hints_of hints.now))) }
-    ensures sizes { IfOk result (λ sizes. (blocks : List c.Block) → IsAt at.now blocks →
-        sizes.items ≡ sizes_of (job (program_at at.now) (certificate_at at.now) blocks (task_of at.now.task)).bodies) }
+    requires low { h.budget_of at.now.degree (kind_of at.now.task.kind) ≤ 4 }
+    ensures tells { (held : c.Certificate) (blocks : List c.Block) → IsAt at.now held blocks → Remembers (program_at at.now) held.degree blocks at.now.earlier.now →
+        Tells result (BodyFinds (program_at at.now) held blocks (task_of at.now.task) (Solved (map a.sig_of sigs.now) (map a.hints_of hints.now))) }
+    ensures sizes { IfOk result (λ sizes. (held : c.Certificate) (blocks : List c.Block) → IsAt at.now held blocks → Remembers (program_at at.now) held.degree blocks at.now.earlier.now →
+        sizes.items ≡ sizes_of (job (program_at at.now) held blocks (task_of at.now.task)).bodies) }
 {
-    let budget = budget_of(at.certificate.degree, at.task.kind);
+    let budget = budget_of(at.degree, at.task.kind);
     match bodies(at.alloc, at.program, at.earlier, at.task.group, budget) {
         Err(PlanFault::TooMany) => Err(CertFault::TooLarge { task: at.task }),
         Err(PlanFault::NoMemory) => Err(CertFault::NoMemory),

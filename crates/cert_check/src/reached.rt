@@ -8,7 +8,7 @@ ghost use Rattle.annot_types.specs.Read as a;
 ghost use Rattle.annot_types.specs.Program.{members};
 ghost use Rattle.walk_rules.specs.Planned.{place_in};
 ghost use Rattle.rule_plan.specs.Read.{body_of};
-ghost use Rattle.cert_check.specs.At.{program_at, certificate_at, IsAt, Tells, ReachesAt, MissesAt};
+ghost use Rattle.cert_check.specs.At.{program_at, IsAt, Tells, ReachesAt, MissesAt};
 ghost use Rattle.cert_check.specs.Asking.{all_asks_of};
 ghost use Rattle.cert_check.specs.Fault.{Fails};
 ghost use Rattle.cert_check.specs.Finds.{asks_by, job, TargetFinds};
@@ -38,10 +38,10 @@ fn missing(
     number: u32,
     annot: &Annot,
 ) -> Result<Option<usize>, AllocError>
-    ensures reached { IfOk result (λ missing. IfNone missing (IsReached (ty_of ty.now) at.now.certificate.now.degree budget number (annotation annot.now))) }
-    ensures missed { IfOk result (λ missing. IfSome missing (λ index. IsMissed (ty_of ty.now) at.now.certificate.now.degree budget number (annotation annot.now) index)) }
+    ensures reached { IfOk result (λ missing. IfNone missing (IsReached (ty_of ty.now) at.now.degree budget number (annotation annot.now))) }
+    ensures missed { IfOk result (λ missing. IfSome missing (λ index. IsMissed (ty_of ty.now) at.now.degree budget number (annotation annot.now) index)) }
 {
-    match aim_at(at.alloc, ty, at.certificate.degree, budget, number)? {
+    match aim_at(at.alloc, ty, at.degree, budget, number)? {
         None => Ok(Some(0)),
         Some(aim) => {
             if covers(&aim, annot) {
@@ -104,10 +104,10 @@ fn check_free(
     requires asked { length asks.now ≡ length bodies.now }
     requires told { length hints.now ≡ length bodies.now }
     requires kind { kind_of at.now.task.kind ≡ Free budget fun.0 target }
-    ensures { (blocks : List c.Block) → IsAt at.now blocks →
-        map body_of bodies.now ≡ (job (program_at at.now) (certificate_at at.now) blocks (task_of at.now.task)).bodies →
+    ensures { (held : c.Certificate) (blocks : List c.Block) → IsAt at.now held blocks →
+        map body_of bodies.now ≡ (job (program_at at.now) held blocks (task_of at.now.task)).bodies →
         all_asks_of asks.now ≡ asks_by (map body_of bodies.now) →
-        Tells result (TargetFinds (program_at at.now) (certificate_at at.now) blocks (task_of at.now.task) (map a.sig_of sigs.now) (map a.hints_of hints.now)) }
+        Tells result (TargetFinds (program_at at.now) held blocks (task_of at.now.task) (map a.sig_of sigs.now) (map a.hints_of hints.now)) }
 {
     match missed(at, sigs, budget, fun, target) {
         Err(_) => Err(CertFault::NoMemory),
@@ -129,10 +129,10 @@ pub fn check_target(
 ) -> Result<(), CertFault>
     requires asked { length asks.now ≡ length bodies.now }
     requires told { length hints.now ≡ length bodies.now }
-    ensures { (blocks : List c.Block) → IsAt at.now blocks →
-        map body_of bodies.now ≡ (job (program_at at.now) (certificate_at at.now) blocks (task_of at.now.task)).bodies →
+    ensures { (held : c.Certificate) (blocks : List c.Block) → IsAt at.now held blocks →
+        map body_of bodies.now ≡ (job (program_at at.now) held blocks (task_of at.now.task)).bodies →
         all_asks_of asks.now ≡ asks_by (map body_of bodies.now) →
-        Tells result (TargetFinds (program_at at.now) (certificate_at at.now) blocks (task_of at.now.task) (map a.sig_of sigs.now) (map a.hints_of hints.now)) }
+        Tells result (TargetFinds (program_at at.now) held blocks (task_of at.now.task) (map a.sig_of sigs.now) (map a.hints_of hints.now)) }
 {
     match at.task.kind {
         TaskKind::Free {

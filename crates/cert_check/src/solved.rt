@@ -5,7 +5,7 @@ ghost use Rattle.cost_free.specs.Read.{task_of};
 ghost use Rattle.annot_types.specs.Certificate as c;
 ghost use Rattle.annot_types.specs.Read as a;
 ghost use Rattle.rule_plan.specs.Read.{body_of};
-ghost use Rattle.cert_check.specs.At.{program_at, certificate_at, IsAt, Tells};
+ghost use Rattle.cert_check.specs.At.{program_at, IsAt, Tells};
 ghost use Rattle.cert_check.specs.Asking.{all_asks_of};
 ghost use Rattle.cert_check.specs.Finds.{asks_by, at_block, job, job_fault, RulesFind};
 ghost use Rattle.cert_check.specs.Judged.{found_of, verdict_of};
@@ -14,7 +14,6 @@ ghost use Rattle.cert_check.specs.Read.{fault_of};
 use crate::amounts::all_sides;
 use crate::at::{At, budget_of, mode_of};
 use crate::fault::CertFault;
-use crate::head::scale_for;
 use crate::judge::{FaultJudge, Found, Trouble};
 use crate::rules::judged;
 use annot_types::{Hint, Sig};
@@ -59,15 +58,15 @@ fn judge_rules(
 ) -> Result<FaultJudge, AllocError>
     requires asked { length asks.now ≡ length bodies.now }
     requires told { length hints.now ≡ length bodies.now }
-    ensures { IfOk result (λ judge. (blocks : List c.Block) → IsAt at.now blocks →
-        map body_of bodies.now ≡ (job (program_at at.now) (certificate_at at.now) blocks (task_of at.now.task)).bodies →
+    ensures { IfOk result (λ judge. (held : c.Certificate) (blocks : List c.Block) → IsAt at.now held blocks →
+        map body_of bodies.now ≡ (job (program_at at.now) held blocks (task_of at.now.task)).bodies →
         all_asks_of asks.now ≡ asks_by (map body_of bodies.now) →
-        verdict_of judge ≡ job_fault (job (program_at at.now) (certificate_at at.now) blocks (task_of at.now.task)) (map a.sig_of sigs.now) (map a.hints_of hints.now)) }
+        verdict_of judge ≡ job_fault (job (program_at at.now) held blocks (task_of at.now.task)) (map a.sig_of sigs.now) (map a.hints_of hints.now)) }
 {
     let group = all_sides(at.alloc, bodies, sigs)?;
     let known = at.earlier.known(
-        scale_for(at.certificate, at.task.kind),
-        budget_of(at.certificate.degree, at.task.kind) as usize,
+        at.scale,
+        budget_of(at.degree, at.task.kind) as usize,
         &group,
     );
     judged(at.alloc, &known, bodies, mode_of(at.task.kind), asks, hints)
@@ -83,10 +82,10 @@ pub fn check_rules(
 ) -> Result<(), CertFault>
     requires asked { length asks.now ≡ length bodies.now }
     requires told { length hints.now ≡ length bodies.now }
-    ensures { (blocks : List c.Block) → IsAt at.now blocks →
-        map body_of bodies.now ≡ (job (program_at at.now) (certificate_at at.now) blocks (task_of at.now.task)).bodies →
+    ensures { (held : c.Certificate) (blocks : List c.Block) → IsAt at.now held blocks →
+        map body_of bodies.now ≡ (job (program_at at.now) held blocks (task_of at.now.task)).bodies →
         all_asks_of asks.now ≡ asks_by (map body_of bodies.now) →
-        Tells result (RulesFind (program_at at.now) (certificate_at at.now) blocks (task_of at.now.task) (map a.sig_of sigs.now) (map a.hints_of hints.now)) }
+        Tells result (RulesFind (program_at at.now) held blocks (task_of at.now.task) (map a.sig_of sigs.now) (map a.hints_of hints.now)) }
 {
     match judge_rules(at, bodies, asks, sigs, hints) {
         Ok(judge) => tell(judge, at.number),

@@ -1,10 +1,12 @@
-//! Tests of the checker of certificates, with programs and certificates as texts.
+//! Tests of the checkers of certificates and of other blocks, with programs and certificates as texts.
 #![tactic(auto)]
 
 #[cfg(test)]
 mod changes;
 #[cfg(test)]
 mod held;
+#[cfg(test)]
+mod others;
 #[cfg(test)]
 mod texts;
 #[cfg(test)]

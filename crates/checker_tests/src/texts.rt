@@ -9,6 +9,12 @@ pub const MAIN_LINES: &str = r#"main ticks <= 3
 main cells <= 0
 "#;
 
+pub const CALL: &str = r#"fun one (x : int) : int = tick 2 in x
+fun two (x : int) : int = one(x)"#;
+
+pub const CALL_CERTIFICATE: &str =
+    r#"{"blocks":[{"budget":0,"function":0,"group":0,"hints":[[]],"kind":"free","sigs":[[[[0,"1"]],[[0,"1"]]]],"target":0},{"group":0,"hints":[[]],"kind":"ticks","sigs":[[[[0,"2"]],[]]]},{"group":0,"hints":[[]],"kind":"cells","sigs":[[[],[]]]},{"budget":0,"function":1,"group":1,"hints":[[{"call":[[0,"1"]]}]],"kind":"free","sigs":[[[[0,"1"]],[[0,"1"]]]],"target":0},{"group":1,"hints":[[{"call":[]}]],"kind":"ticks","sigs":[[[[0,"2"]],[]]]},{"group":1,"hints":[[{"call":[]}]],"kind":"cells","sigs":[[[],[]]]}],"degree":1,"scale":{"cells":"2","ticks":"1"},"version":1}"#;
+
 pub const APPEND: &str = r#"fun append (x : int list, y : int list) : int list =
   match x with nil -> y | h :: t -> h :: append(t, y)"#;
 

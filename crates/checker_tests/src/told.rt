@@ -1,9 +1,17 @@
-// What the checker answers, as text.
-use annot_types::Certificate;
+// What the checkers answer, as text.
+ghost use Rattle.std.specs.Prelude.{◌≡◌, IsTrue};
+ghost use Rattle.cost_free.specs.declared.task.Meter.{Meter as Counted};
+ghost use Rattle.cost_free.specs.Read.{kind_of};
+ghost use Rattle.cost_free.specs.Task.{With};
+ghost use Rattle.annot_types.specs.Certificate.{IsSolved};
+ghost use Rattle.annot_types.specs.Read.{body_of};
+
+use annot_types::{Block, BlockBody, Certificate};
 use call_groups::group_calls;
 use cert_check::{CertFault, Checked, check};
 use cert_json::{JsonFault, Place, read};
-use cost_free::Meter;
+use cost_free::{Meter, TaskKind};
+use other_blocks::{OtherBlock, other, place_of as place_of_task};
 use poly_text::print;
 use raml_parse::parse;
 use raml_syntax::FunId;
@@ -66,6 +74,96 @@ pub fn told_of_change(
         return Ok(format!(in alloc; "held")?);
     }
     Ok(found)
+}
+
+/// What is asked of another block: its number, its factor, and whose bound it is to tell.
+#[derive(Clone, Copy)]
+pub struct Other {
+    pub place: usize,
+    pub times: i128,
+    pub fun: FunId,
+}
+
+fn is_solved(body: &BlockBody) -> bool
+    ensures { IsTrue result → IsSolved (body_of body.now) }
+{
+    match body {
+        BlockBody::Solved { .. } => true,
+        BlockBody::Refuted { .. } | BlockBody::Calls { .. } => false,
+    }
+}
+
+fn has_cost(kind: TaskKind) -> bool
+    ensures { IsTrue result → (meter : Counted) × (kind_of kind ≡ With meter) }
+{
+    match kind {
+        TaskKind::With(_) => true,
+        TaskKind::Free { .. } => false,
+    }
+}
+
+// The block at a place of a certificate.
+fn block_at(alloc: Global, text: &str, place: usize) -> Result<Block, Fail> {
+    match read(alloc, text.as_bytes()) {
+        Ok(certificate) => match certificate.blocks.into_iter().nth(place) {
+            Some(block) => Ok(block),
+            None => Err(Fail::from("there is no such block")),
+        },
+        Err(_) => Err(Fail::from("it is no certificate")),
+    }
+}
+
+fn bound_of(alloc: Global, found: &OtherBlock<'_, '_>, fun: FunId) -> Result<String, Fail> {
+    if !found.has(fun) {
+        return Err(Fail::from("the function is not of the group"));
+    }
+    let poly = found.bound(alloc, fun)?;
+    Ok(print(alloc, &poly)?)
+}
+
+fn told_over(
+    alloc: Global,
+    checked: &Checked<'_, '_>,
+    block: Block,
+    asked: &Other,
+) -> Result<String, Fail> {
+    if asked.times <= 0 || !is_solved(&block.body) || !has_cost(block.task.kind) {
+        return Err(Fail::from("it is no other block"));
+    }
+    if place_of_task(&block.task, &checked.certificate().blocks).is_none() {
+        return Err(Fail::from("there is no such task"));
+    }
+    match other(alloc, checked, block, asked.times) {
+        Ok(found) => bound_of(alloc, &found, asked.fun),
+        Err(fault) => Ok(cert_fault(alloc, fault)?),
+    }
+}
+
+/// What is answered to a block of the certificate with a part changed, in the place of the block of its
+/// task: the bound that it tells, or its fault.
+pub fn told_of_other(
+    alloc: Global,
+    source: &str,
+    certificate: &str,
+    old: &str,
+    new: &str,
+    asked: &Other,
+) -> Result<String, Fail> {
+    let typed = typed_program(alloc, source)?;
+    let groups = group_calls(alloc, typed.program())?;
+    let program = normalise(alloc, &typed, groups)?;
+    let Some((front, rest)) = certificate.split_once(old) else {
+        return Err(Fail::from("there is no such part"));
+    };
+    let text = format!(in alloc; "{front}{new}{rest}")?;
+    let block = block_at(alloc, &text, asked.place)?;
+    let Ok(held) = read(alloc, certificate.as_bytes()) else {
+        return Err(Fail::from("it is no certificate"));
+    };
+    match check(alloc, &program, held) {
+        Ok(checked) => told_over(alloc, &checked, block, asked),
+        Err(fault) => Ok(cert_fault(alloc, fault)?),
+    }
 }
 
 fn json_fault(alloc: Global, fault: JsonFault) -> Result<String, AllocError> {

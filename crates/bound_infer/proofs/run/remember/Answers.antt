@@ -7,7 +7,7 @@ use Rattle.annot_types.specs.Read.{body_of}
 use Rattle.earlier_blocks.specs.Sizes.{AreSizes}
 use Rattle.share_normal.specs.Program.{source_in}
 use Rattle.rule_plan.specs.Read.{program_in}
-use Rattle.cert_check.proofs.Members.{have_sizes, functions_are, if_solved_more}
+use Rattle.cert_check.proofs.Grouped.{have_sizes, functions_are, if_solved_more}
 use Rattle.bound_infer.proofs.run.remember.Goals as goal
 
 pub returns : goal.returns

@@ -53,7 +53,7 @@ returns-in-Ok-clause-keeps c =
     let count = raised_count meter t run.blocks.items c.raise.new.blocks e in
     let back = with_items_is run.blocks c.raise.new.blocks (omega (arith, count)) in
     still_come kept c.args.d meter t bs _ run.schedule run.earlier c.raise-in-Ok.new.self (ap blocks_of back ∙ e) c.requires.keeps
-    (subst (λ n. NonePasses P meter n bs → Remembers P c.args.d bs run.earlier → Remembers P c.args.d (map (raised meter n) bs) c.raise-in-Ok.new.self) c.size.ensures (c.raise-in-Ok.ensures P c.args.d bs)
+    (subst (λ n. NonePasses P meter n bs → Remembers P c.args.d bs run.earlier → Remembers P c.args.d (map (raised meter n) bs) c.raise-in-Ok.new.self) c.size.ensures (c.raise-in-Ok.ensures.remembers P c.args.d bs)
     (none_passes P meter t bs (subst (AllFit meter t) seen c.in-Ok.ensures.each)))
 
 pub returns-in-Ok-clause-state : goal.returns-in-Ok-clause-state

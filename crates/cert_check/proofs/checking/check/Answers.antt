@@ -4,7 +4,7 @@ use Rattle.annot_types.specs.Program.{members}
 use Rattle.annot_types.specs.Read.{certificate_of}
 use Rattle.rule_plan.specs.Read.{program_in}
 use Rattle.cert_check.proofs.Walking.{all_use}
-use Rattle.cert_check.proofs.Members.{are_there, functions_are}
+use Rattle.cert_check.proofs.Grouped.{are_there, functions_are}
 use Rattle.cert_check.proofs.Faultless.{no_fault_is_held}
 use Rattle.cert_check.proofs.checking.check.Goals as goal
 

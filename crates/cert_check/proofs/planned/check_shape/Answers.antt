@@ -5,7 +5,7 @@ use Rattle.annot_types.specs.Read as a
 use Rattle.walk_rules.specs.Tasks as t
 use Rattle.walk_rules.specs.Asked.{asked}
 use Rattle.rule_plan.specs.Read.{body_of}
-use Rattle.cert_check.specs.At.{program_at, certificate_at}
+use Rattle.cert_check.specs.At.{program_at}
 use Rattle.cert_check.specs.Asking.{all_asks_of}
 use Rattle.cert_check.specs.Finds.{SigsFit, AllFit, asks_by, TargetFinds, ShapeFinds}
 use Rattle.cert_check.proofs.Ended.{fit_length}
@@ -20,13 +20,13 @@ check_target-requires-clause-told c =
     ∙ ap length c.requires.asked ∙ length-map bs (λ (b : t.Body). asked b.plan) ∙ length-map c.args.bodies.now body_of
 
 pub returns-then-is_shapely : goal.returns-then-is_shapely
-returns-then-is_shapely c = λ blocks is eb.
+returns-then-is_shapely c = λ held blocks is eb.
     let at = c.args.at.now in
     let sigs = map a.sig_of c.args.sigs.now in
     let hints = map a.hints_of c.args.hints.now in
     let s = c.is_shapely.ensures.0 c.if-is_shapely.true in
-    tells_more c.check_target.result (TargetFinds (program_at at) (certificate_at at) blocks (task_of at.task) sigs hints)
-    (ShapeFinds (program_at at) (certificate_at at) blocks (task_of at.task) sigs hints)
+    tells_more c.check_target.result (TargetFinds (program_at at) held blocks (task_of at.task) sigs hints)
+    (ShapeFinds (program_at at) held blocks (task_of at.task) sigs hints)
     (λ x h. inl (
       record {
         sigs_fit = subst (λ bs. SigsFit bs sigs) eb s.0.0;
@@ -35,4 +35,4 @@ returns-then-is_shapely c = λ blocks is eb.
         hints_rise = s.1.1;
       },
       h,
-    )) (c.check_target.ensures blocks is eb c.requires.asked)
+    )) (c.check_target.ensures held blocks is eb c.requires.asked)

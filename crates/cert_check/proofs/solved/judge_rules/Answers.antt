@@ -7,7 +7,7 @@ use Rattle.walk_rules.specs.Carried.{sides_to, hint_to}
 use Rattle.walk_rules.specs.Faults.{first_fault}
 use Rattle.rule_walk.specs.Read.{known_of, sides_of}
 use Rattle.earlier_blocks.specs.Remembers.{free_at, cost_at}
-use Rattle.cert_check.specs.At.{program_at, certificate_at}
+use Rattle.cert_check.specs.At.{program_at}
 use Rattle.cert_check.specs.Finds.{asks_by, hints_by, sides_at, job}
 use Rattle.cert_check.specs.Judging.{bodies_walked}
 use Rattle.cert_check.proofs.Telling.{if_ok}
@@ -15,26 +15,26 @@ use Rattle.cert_check.proofs.Walked.{walked_fault}
 use Rattle.cert_check.proofs.solved.judge_rules.Goals as goal
 
 pub returns : goal.returns
-returns c = if_ok c.judged.result _ _ (λ judge e blocks at eb ea.
+returns c = if_ok c.judged.result _ _ (λ judge e held blocks at eb ea.
     let here = c.args.at.now in
     let kind = here.task.kind in
     let sigs = map a.sig_of c.args.sigs.now in
     let hints = map a.hints_of c.args.hints.now in
-    let J = job (program_at here) (certificate_at here) blocks (task_of here.task) in
+    let J = job (program_at here) held blocks (task_of here.task) in
     let group : map sides_of c.deref.result.now ≡ map (sides_to capped_amount) (sides_at J.bodies sigs) =
     ap (map sides_of) c.deref.ensures.value ∙ c.in_ok-group.ensures ∙ ap (λ bs. map (sides_to capped_amount) (sides_at bs sigs)) eb in
     let known : known_of c.known-known.result ≡ record {
-      scale = J.scale;
-      budget = h.budget_of here.certificate.now.degree (kind_of kind);
+      scale = here.scale;
+      budget = h.budget_of held.degree (kind_of kind);
       group = map (sides_to capped_amount) (sides_at J.bodies sigs);
       free = free_at here.earlier.now;
       cost = cost_at here.earlier.now;
     } = c.known-known.ensures ∙ (λ i. record {
-      scale = c.scale_for.ensures i;
-      budget = c.budget_of.ensures i;
+      scale = here.scale;
+      budget = (c.budget_of.ensures ∙ ap (λ d. h.budget_of d (kind_of kind)) at.degree) i;
       group = group i;
       free = free_at here.earlier.now;
       cost = cost_at here.earlier.now;
     }) in
     e ∙ (λ i. first_fault (bodies_walked (known i) (c.mode_of.ensures i) 0 (eb i) (map (map (hint_to capped_amount)) (hints_by ((ea ∙ ap asks_by eb) i) hints))))
-    ∙ walked_fault (program_at here) here.certificate.now.degree blocks here.earlier.now at.remembers (task_of here.task) J.scale sigs hints) c.judged.ensures
+    ∙ walked_fault (program_at here) held.degree blocks here.earlier.now at.knows (task_of here.task) here.scale J.scale at.scale sigs hints) c.judged.ensures

@@ -1,0 +1,5 @@
+pub mod Raised
+pub mod Over
+pub mod Bounding
+pub mod Exactly
+pub mod Keeping

@@ -1,0 +1,7 @@
+use Rattle.std.proofs.Common.{◌≡◌, drop}
+use Rattle.call_groups.specs.Read.{ids_of}
+use Rattle.cost_free.specs.Blocked.{is_among}
+use Rattle.other_blocks.proofs.block.is_among.Given as goal
+
+abbrev pub invariant-loop-function : goal.invariant-loop-function
+invariant-loop-function l = is_among l.fun.0 (ids_of (drop l.function-index l.functions)) ≡ is_among l.fun.0 (ids_of l.functions)

@@ -1,0 +1,51 @@
+use Rattle.std.proofs.Common.{◌≡◌, ◌≤◌, ap, sym, ◌∙◌, length, map, None, arith}
+use Rattle.std.proofs.lemmas.List.{length-map}
+use Rattle.annot_types.specs.Certificate.{Solved}
+use Rattle.annot_types.specs.Held.{before}
+use Rattle.annot_types.specs.Read as a
+use Rattle.rule_plan.specs.Read.{program_in, body_of}
+use Rattle.cert_check.specs.Finds.{ShapeFinds}
+use Rattle.cert_check.specs.Read.{fault_of}
+use Rattle.cert_check.proofs.Telling.{of_fault}
+use Rattle.other_blocks.specs.Other.{raised_certificate, raised_before, ThereFinds}
+use Rattle.other_blocks.proofs.Over.{same_degree, count_here, known_here, bodies_here, there_found}
+use Rattle.other_blocks.proofs.check.check_over.Goals as goal
+
+pub returns-in-Ok : goal.returns-in-Ok
+returns-in-Ok c = λ within.
+    let P = program_in c.args.program.now in
+    let held = a.certificate_of c.args.certificate.now in
+    let block = a.block_of c.args.block.now in
+    let t = c.args.times in
+    let low : c.args.place ≤ length held.blocks = omega (arith, c.requires.there, length-map c.args.certificate.now.blocks.items a.block_of) in
+    let body : block.body ≡ Solved (map a.sig_of c.deref.result.now) (map a.hints_of c.deref-2.result.now) =
+    ap a.body_of c.in-Solved.is ∙ (λ i. Solved (map a.sig_of (sym c.deref.ensures.value i)) (map a.hints_of (sym c.deref-2.ensures.value i))) in
+    there_found P held t block None (map a.sig_of c.deref.result.now) (map a.hints_of c.deref-2.result.now) body within
+    (c.in-Ok.ensures.tells (raised_certificate P held t block) (raised_before P held t block) (record {
+      count = count_here P held t block c.args.place c.requires.place low;
+      degree = same_degree P held t block;
+      scale = c.scale_times.ensures;
+      knows = known_here P held t block c.args.place c.requires.place c.raise_for.new.earlier
+          (c.raise_for.ensures P held.degree (before held c.args.place) c.requires.remembers);
+    }) (bodies_here P held t block c.args.place c.requires.place (map body_of c.args.plans.now) c.requires.plans))
+
+pub returns : goal.returns
+returns c = λ within.
+    let P = program_in c.args.program.now in
+    let held = a.certificate_of c.args.certificate.now in
+    let block = a.block_of c.args.block.now in
+    let t = c.args.times in
+    let low : c.args.place ≤ length held.blocks = omega (arith, c.requires.there, length-map c.args.certificate.now.blocks.items a.block_of) in
+    let sigs = map a.sig_of c.deref.result.now in
+    let hints = map a.hints_of c.deref-2.result.now in
+    let body : block.body ≡ Solved sigs hints =
+    ap a.body_of c.in-Solved.is ∙ (λ i. Solved (map a.sig_of (sym c.deref.ensures.value i)) (map a.hints_of (sym c.deref-2.ensures.value i))) in
+    of_fault (fault_of c.in-Err.fault) (ShapeFinds P (raised_certificate P held t block) (raised_before P held t block) block.task sigs hints) (ThereFinds P held t block)
+    (λ x h. there_found P held t block x sigs hints body within h)
+    (c.in-Err.ensures.tells (raised_certificate P held t block) (raised_before P held t block) (record {
+      count = count_here P held t block c.args.place c.requires.place low;
+      degree = same_degree P held t block;
+      scale = c.scale_times.ensures;
+      knows = known_here P held t block c.args.place c.requires.place c.raise_for.new.earlier
+          (c.raise_for.ensures P held.degree (before held c.args.place) c.requires.remembers);
+    }) (bodies_here P held t block c.args.place c.requires.place (map body_of c.args.plans.now) c.requires.plans))

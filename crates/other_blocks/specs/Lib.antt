@@ -1,0 +1,4 @@
+pub mod Raised
+pub mod Other
+pub mod Over
+pub mod Laws

@@ -1,0 +1,212 @@
+// The check of another block of a task.
+ghost use Rattle.std.specs.Prelude.{◌≡◌, ◌≤◌, ◌<◌, ◌<ℤ◌, ◌*◌, ℕ, pos, unsigned_abs, List, [], map, length, Some, None, IsSome, IfOk, OnOk, IfErr};
+ghost use Rattle.std.specs.Option.{unwrap_or};
+ghost use Rattle.cost_free.specs.declared.task.Meter.{Meter as Counted};
+ghost use Rattle.cost_free.specs.Read.{kind_of, task_of};
+ghost use Rattle.cost_free.specs.Task.{With};
+ghost use Rattle.annot_types.specs.Program.{Program};
+ghost use Rattle.annot_types.specs.Certificate as c;
+ghost use Rattle.annot_types.specs.Certificate.{IsSolved};
+ghost use Rattle.annot_types.specs.Held.{before, scale_for};
+ghost use Rattle.annot_types.specs.Holds.{blocks_before};
+ghost use Rattle.annot_types.specs.Read as a;
+ghost use Rattle.annot_types.specs.Read.{certificate_of};
+ghost use Rattle.walk_rules.specs.Capped.{cap};
+ghost use Rattle.walk_rules.specs.Faults.{too_great};
+ghost use Rattle.solved_tasks.specs.Told.{bodies_of};
+ghost use Rattle.earlier_blocks.specs.Remembers.{Remembers, Knows};
+ghost use Rattle.rule_plan.specs.Read.{program_in, body_of};
+ghost use Rattle.cert_check.specs.At.{Tells};
+ghost use Rattle.cert_check.specs.Fault.{Leaves};
+ghost use Rattle.cert_check.specs.Finds.{AreWithin};
+ghost use Rattle.cert_check.specs.Read.{fault_of, OfFault};
+ghost use Rattle.other_blocks.specs.Raised.{raised_for};
+ghost use Rattle.other_blocks.specs.Other.{place_among, ThereFinds, RaisedFinds, OtherFinds};
+
+use crate::block::{OtherBlock, keep};
+use crate::place::{is_tried, place_of};
+use crate::tables::tables;
+use annot_types::{Block, BlockBody, Certificate};
+use cert_check::{At, CertFault, Checked, budget_of, check_planned, scale_for};
+use cost_free::TaskKind;
+use earlier_blocks::Earlier;
+use rule_plan::{Body, PlanFault, bodies};
+use share_normal::NormProgram;
+use smallvec::SmallVec;
+use std::alloc::Global;
+
+// The blocks of the task's meter are multiplied; none of them is where it is one without cost.
+fn raise_for(earlier: &mut Earlier, kind: TaskKind, times: u128)
+    ensures { (P : Program) (degree : ℕ) (blocks : List c.Block) → Remembers P degree blocks earlier.old → Knows P degree (blocks_before (kind_of kind) times blocks) earlier.new }
+{
+    match kind {
+        TaskKind::Free { .. } => {}
+        TaskKind::With(meter) => earlier.raise(meter, times),
+    }
+}
+
+// The scale of the task's meter is. One that leaves 128 bits stands at the greatest number of 128 bits.
+fn scale_times(certificate: &Certificate, kind: TaskKind, times: u128) -> u128
+    ensures { cap result ≡ cap (scale_for (raised_for times (certificate_of certificate.now) (kind_of kind)) (kind_of kind)) }
+{
+    let scale = scale_for(certificate, kind);
+    match kind {
+        TaskKind::Free { .. } => scale,
+        TaskKind::With(_) => scale.saturating_mul(times),
+    }
+}
+
+// The check of a block that has these plans, over tables that are raised here.
+fn check_over(
+    alloc: Global,
+    program: &NormProgram<'_>,
+    certificate: &Certificate,
+    place: usize,
+    block: &Block,
+    times: u128,
+    plans: &[Body],
+    earlier: &mut Earlier,
+) -> Result<(), CertFault>
+    requires solved { IsSolved (a.body_of block.now.body) }
+    requires place { place ≡ unwrap_or (place_among (task_of block.now.task) (a.blocks_of certificate.now.blocks.items)) 0 }
+    requires there { place < length certificate.now.blocks.items }
+    requires remembers { Remembers (program_in program.now) certificate.now.degree (before (certificate_of certificate.now) place) earlier.old }
+    requires plans { map body_of plans.now ≡ bodies_of (program_in program.now) certificate.now.degree (before (certificate_of certificate.now) place) (task_of block.now.task) }
+    ensures { AreWithin (program_in program.now) (certificate_of certificate.now) (task_of block.now.task) →
+        Tells result (ThereFinds (program_in program.now) (certificate_of certificate.now) times (a.block_of block.now)) }
+{
+    raise_for(earlier, block.task.kind, times);
+    let at = At {
+        alloc,
+        program,
+        degree: certificate.degree,
+        scale: scale_times(certificate, block.task.kind, times),
+        earlier: &*earlier,
+        number: place,
+        task: block.task,
+    };
+    let BlockBody::Solved { sigs, hints } = &block.body else {
+        unreachable!()
+    };
+    match check_planned(&at, plans, sigs, hints) {
+        Ok(_) => Ok(()),
+        Err(fault) => Err(fault),
+    }
+}
+
+// The check of a block in the place of the certificate's.
+fn check_there(
+    alloc: Global,
+    program: &NormProgram<'_>,
+    certificate: &Certificate,
+    place: usize,
+    block: &Block,
+    times: u128,
+) -> Result<(), CertFault>
+    requires low { certificate.now.degree ≤ 4 }
+    requires cost { (meter : Counted) × (kind_of block.now.task.kind ≡ With meter) }
+    requires solved { IsSolved (a.body_of block.now.body) }
+    requires place { place ≡ unwrap_or (place_among (task_of block.now.task) (a.blocks_of certificate.now.blocks.items)) 0 }
+    requires there { place < length certificate.now.blocks.items }
+    ensures { Tells result (ThereFinds (program_in program.now) (certificate_of certificate.now) times (a.block_of block.now)) }
+{
+    let Ok(mut earlier) = tables(alloc, program, certificate, place) else {
+        return Err(CertFault::NoMemory);
+    };
+    let budget = budget_of(certificate.degree, block.task.kind);
+    match bodies(alloc, program, &earlier, block.task.group, budget) {
+        Err(PlanFault::TooMany) => Err(CertFault::TooLarge { task: block.task }),
+        Err(PlanFault::NoMemory) => Err(CertFault::NoMemory),
+        Ok(plans) => check_over(
+            alloc,
+            program,
+            certificate,
+            place,
+            block,
+            times,
+            &plans,
+            &mut earlier,
+        ),
+    }
+}
+
+// The scale, where it fits 128 bits with a sign.
+fn fitting(alloc: Global, scale: u128, place: usize) -> Result<i128, CertFault>
+    ensures fits { IfOk result (λ fits. (fits ≡ pos scale) × (scale < too_great)) }
+    ensures leaves { IfErr result (λ fault. (fault_of fault ≡ Some (Leaves place [] 0)) × (scale < too_great → ⊥)) }
+{
+    match i128::try_from(scale) {
+        Ok(scale) => Ok(scale),
+        Err(_) => Err(CertFault::Leaves {
+            block: place,
+            path: SmallVec::new(alloc),
+            index: 0,
+        }),
+    }
+}
+
+// The check of a block whose task was tried; its scale.
+fn check_raised(
+    alloc: Global,
+    program: &NormProgram<'_>,
+    certificate: &Certificate,
+    place: usize,
+    block: &Block,
+    times: u128,
+) -> Result<i128, CertFault>
+    requires low { certificate.now.degree ≤ 4 }
+    requires cost { (meter : Counted) × (kind_of block.now.task.kind ≡ With meter) }
+    requires solved { IsSolved (a.body_of block.now.body) }
+    requires place { place ≡ unwrap_or (place_among (task_of block.now.task) (a.blocks_of certificate.now.blocks.items)) 0 }
+    requires there { place < length certificate.now.blocks.items }
+    ensures tells { Tells result (RaisedFinds (program_in program.now) (certificate_of certificate.now) times (a.block_of block.now)) }
+    ensures scale { IfOk result (λ scale. scale ≡ pos (scale_for (certificate_of certificate.now) (kind_of block.now.task.kind) * times)) }
+{
+    match check_there(alloc, program, certificate, place, block, times) {
+        Err(fault) => Err(fault),
+        Ok(()) => fitting(
+            alloc,
+            scale_times(certificate, block.task.kind, times),
+            place,
+        ),
+    }
+}
+
+/// The block in the place of the certificate's block of its task, over the blocks before that one, where
+/// the numbers of those of its meter and the meter's scale are multiplied; otherwise its first fault there.
+pub fn other<'p, 'a>(
+    alloc: Global,
+    checked: &Checked<'p, 'a>,
+    block: Block,
+    times: i128,
+) -> Result<OtherBlock<'p, 'a>, CertFault>
+    requires positive { pos 0 <ℤ times }
+    requires solved { IsSolved (a.body_of block.body) }
+    requires cost { (meter : Counted) × (kind_of block.task.kind ≡ With meter) }
+    requires there { IsSome (place_among (task_of block.task) checked.now.certificate.blocks) }
+    ensures fits { OnOk result (OtherFinds (program_in checked.now.program) checked.now.certificate (unsigned_abs times) (a.block_of block) None) }
+    ensures kept { IfOk result (λ other. other ≡ record {
+      program = checked.now.program;
+      degree = checked.now.certificate.degree;
+      scale = scale_for checked.now.certificate (kind_of block.task.kind) * unsigned_abs times;
+      block = a.block_of block;
+    }) }
+    ensures fault { IfErr result (λ fault. OfFault (fault_of fault)
+        (OtherFinds (program_in checked.now.program) checked.now.certificate (unsigned_abs times) (a.block_of block))) }
+{
+    let program = checked.program();
+    let certificate = checked.certificate();
+    let _functions = program.functions();
+    let _groups = program.groups();
+    let Some(place) = place_of(&block.task, &certificate.blocks) else {
+        unreachable!()
+    };
+    if !is_tried(&certificate.blocks[place].body) {
+        return Err(CertFault::Shape { block: place });
+    }
+    let times = times.unsigned_abs();
+    match check_raised(alloc, program, certificate, place, &block, times) {
+        Err(fault) => Err(fault),
+        Ok(scale) => Ok(keep(program, certificate.degree, scale, block)),
+    }
+}

@@ -1,0 +1,13 @@
+// Laws of other blocks: each is the contract of a function that does nothing.
+ghost use Rattle.other_blocks.specs.Laws.{OneOtherFault, OthersExactly};
+
+/// There is one first fault of another block, or none.
+pub fn one_other_fault()
+    ensures { OneOtherFault }
+{}
+
+/// A solved block with cost has no fault exactly where it holds with its factor in the place of a block
+/// that was tried, is of the right shape and small, and no number of it leaves 127 bits.
+pub fn others_exactly()
+    ensures { OthersExactly }
+{}

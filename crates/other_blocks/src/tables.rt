@@ -1,0 +1,32 @@
+// What walks take from the first blocks of a certificate.
+ghost use Rattle.std.specs.Prelude.{◌≤◌, length, IfOk};
+ghost use Rattle.annot_types.specs.Held.{before};
+ghost use Rattle.annot_types.specs.Read.{certificate_of};
+ghost use Rattle.earlier_blocks.specs.Remembers.{Remembers};
+ghost use Rattle.rule_plan.specs.Read.{program_in};
+
+use annot_types::Certificate;
+use cert_check::remember_block;
+use earlier_blocks::Earlier;
+use share_normal::NormProgram;
+use std::alloc::{AllocError, Global};
+
+/// The tables of the blocks before a place.
+pub fn tables(
+    alloc: Global,
+    program: &NormProgram<'_>,
+    certificate: &Certificate,
+    place: usize,
+) -> Result<Earlier, AllocError>
+    requires { place ≤ length certificate.now.blocks.items }
+    ensures { IfOk result (Remembers (program_in program.now) certificate.now.degree (before (certificate_of certificate.now) place)) }
+{
+    let _source = program.source();
+    let functions = program.functions();
+    let mut earlier = Earlier::new(alloc, functions.len())?;
+    for number in 0..place {
+        let block = &certificate.blocks[number];
+        remember_block(alloc, program, certificate.degree, &mut earlier, block)?;
+    }
+    Ok(earlier)
+}
