@@ -1,6 +1,6 @@
 //! Rows of tasks that leave 128 bits, and what a solution of a task stands for, at degree 1.
 use crate::programs::{budget_of, certificate, kept, typed_program};
-use annot_types::Hint;
+use annot_types::{Hint, Sig};
 use call_groups::group_calls;
 use constraint_gen::{GenFault, hints_of, plans, rows};
 use cost_free::Task;
@@ -155,17 +155,36 @@ fn told_numbers(alloc: Global, program: &NormProgram<'_>) -> Result<String, Fail
         return Err(Fail::new("there is no block"));
     };
     let earlier = kept(alloc, program, before)?;
-    let mut out = String::new(alloc);
-    if budget_of(&last.task) > 4 || plans(alloc, program, 1, &earlier, &last.task).is_err() {
-        return Err(Fail::new("there are no plans"));
+    told_by_numbers(alloc, program, &earlier, &last.task)
+}
+
+fn told_by_numbers(
+    alloc: Global,
+    program: &NormProgram<'_>,
+    earlier: &Earlier,
+    task: &Task,
+) -> Result<String, Fail> {
+    if budget_of(task) > 4 {
+        return Err(Fail::new("the budget"));
     }
-    let (sigs, hints) = hints_of(alloc, program, 1, &earlier, &last.task, &[5, 3, 2])?;
-    for sig in &sigs {
+    let Ok(_) = plans(alloc, program, 1, earlier, task) else {
+        return Err(Fail::new("there are no plans"));
+    };
+    let (sigs, hints) = hints_of(alloc, program, 1, earlier, task, &[5, 3, 2])?;
+    text_of(alloc, &sigs, &hints)
+}
+
+/// Signatures, and hints of calls.
+fn text_of(alloc: Global, sigs: &[Sig], hints: &[Vec<Hint>]) -> Result<String, Fail> {
+    let mut out = String::new(alloc);
+    for sig in sigs {
         let (args, result) = (sig.args.entries(), sig.result.entries());
         write!(out, "{args:?} {result:?}")?;
     }
-    for hint in hints.iter().flatten() {
-        push_call(&mut out, hint)?;
+    for of_body in hints {
+        for hint in of_body {
+            push_call(&mut out, hint)?;
+        }
     }
     Ok(out)
 }
