@@ -11,19 +11,20 @@ ghost use Rattle.tried_tasks.specs.Laws.{IsOrdered};
 ghost use Rattle.exact_systems.specs.Laws.{LimitsAreTold};
 ghost use Rattle.bound_infer.specs.Cleared.{fault_of, OfFault, Faulty, BlockCause, BlockTells, ClearBefore};
 ghost use Rattle.bound_infer.specs.Inferred.{VerifyCause};
+ghost use Rattle.bound_infer.specs.Sized.{HasSizes};
 ghost use Rattle.cert_check.specs.Finds.{FirstFault};
 
-use crate::kinds::scale_for;
+use crate::kinds::{budget_of, members, scale_for};
 use crate::laws::refuted_are_tasks;
 use crate::leaves::LeavesAt;
 use crate::refusal::VerifyFault;
 use crate::refuting::{VectorFault, check_refuted};
+use crate::sizes::sizes;
 use annot_types::{Block, BlockBody, Certificate};
-use cert_check::remember_block;
 use cost_free::Task;
 use earlier_blocks::Earlier;
 use share_normal::NormProgram;
-use std::alloc::Global;
+use std::alloc::{AllocError, Global};
 
 // What is told of a block whose vector has a fault. So many blocks have no room in memory.
 fn told(number: usize, task: Task, fault: VectorFault) -> VerifyFault
@@ -105,6 +106,50 @@ fn verify_block(
     }
 }
 
+// How many positions the functions of a solved block have.
+fn block_sizes(
+    alloc: Global,
+    program: &NormProgram<'_>,
+    degree: u8,
+    block: &Block,
+) -> Result<Vec<(usize, usize)>, AllocError>
+    requires { IsOrdered (program_in program.now) }
+    ensures { IfOk result (λ made. HasSizes (program_in program.now) degree (block_of block.now) made.items) }
+{
+    match &block.body {
+        BlockBody::Solved { .. } => sizes(
+            alloc,
+            program,
+            block.task.group,
+            budget_of(degree, block.task.kind),
+        ),
+        BlockBody::Refuted { .. } => Ok(Vec::new(alloc)),
+        BlockBody::Calls { .. } => Ok(Vec::new(alloc)),
+    }
+}
+
+// The tables go past a block.
+fn remember(
+    alloc: Global,
+    program: &NormProgram<'_>,
+    degree: u8,
+    earlier: &mut Earlier,
+    block: &Block,
+) -> Result<(), AllocError>
+    requires { IsOrdered (program_in program.now) }
+    ensures { OnOk result ((blocks : List c.Block) → Remembers (program_in program.now) degree blocks earlier.old →
+        Remembers (program_in program.now) degree (blocks ++ block_of block.now ∷ []) earlier.new) }
+{
+    let sizes = block_sizes(alloc, program, degree, block)?;
+    earlier.add(
+        alloc,
+        degree,
+        block,
+        members(program, block.task.group),
+        &sizes,
+    )
+}
+
 /// The check of all vectors of a certificate that is held.
 pub fn verify_blocks(
     alloc: Global,
@@ -128,7 +173,7 @@ pub fn verify_blocks(
         if let Err(fault) = verify_block(alloc, program, certificate, &earlier, number, block) {
             return Err(fault);
         }
-        if let Err(_) = remember_block(alloc, program, certificate.degree, &mut earlier, block) {
+        if let Err(_) = remember(alloc, program, certificate.degree, &mut earlier, block) {
             return Err(VerifyFault::NoMemory);
         }
     }

@@ -8,10 +8,10 @@ ghost use Rattle.annot_types.specs.Read.{block_of, blocks_of, body_of};
 ghost use Rattle.rule_plan.specs.Read.{program_in};
 ghost use Rattle.bound_infer.specs.Claimed.{IsToldBy};
 
+use crate::kinds::members;
 use crate::line::Line;
 use annot_types::{Block, BlockBody, Certificate};
 use base_poly::Poly;
-use cert_check::members;
 use cost_free::{Meter, TaskKind};
 use raml_syntax::FunId;
 use share_normal::NormProgram;

@@ -22,6 +22,7 @@ mod refuting;
 mod run;
 mod scales;
 mod sigs;
+mod sizes;
 mod solved;
 mod step;
 mod system;

@@ -17,10 +17,10 @@ ghost use Rattle.cert_check.specs.Finds.{schedule, next_after, GoesOn};
 ghost use Rattle.courses.specs.States.{start, with_block};
 ghost use Rattle.bound_infer.specs.Keeping.{state_of, first_of, Keeps};
 
+use crate::kinds::members;
 use crate::scales::Scales;
 use annot_types::{Block, BlockBody};
 use base_poly::IndexFault;
-use cert_check::members;
 use cost_free::{Done, Schedule, Task, blocked};
 use earlier_blocks::Earlier;
 use raml_syntax::FunId;

@@ -47,6 +47,6 @@ loop-number-preserved c =
     item_there xs k c.index-block.result.now low ∙ ap (λ b. Some (block_of b)) (sym c.index-block.ensures) in
     record {
       clear = clear_more P held k (block_of c.index-block.result.now) c.loop-number.invariant.clear there (c.in_default-verify_block.ensures c.loop-number.invariant.remembers);
-      remembers = subst (λ bs. Remembers P held.degree bs c.remember_block.new.earlier) (sym (front_more (blocks_of xs) k (block_of c.index-block.result.now) there))
-          (c.in_default-remember_block.ensures (take k (blocks_of xs)) c.loop-number.invariant.remembers);
+      remembers = subst (λ bs. Remembers P held.degree bs c.remember.new.earlier) (sym (front_more (blocks_of xs) k (block_of c.index-block.result.now) there))
+          (c.in_default-remember.ensures (take k (blocks_of xs)) c.loop-number.invariant.remembers);
     }
