@@ -112,3 +112,9 @@ from_ends all f p g rest e h =
 pub from_none : (all : List ℕ) (f p : ℕ) → From all f p [] → 0 ≡ unwrap_or (place_in all f) 0
 unfolding From
 from_none all f p h = h
+
+-- what stands at a place; nothing where there is none
+pub got_or : {X : Type 0} (xs : List (List X)) (k : ℕ) → unwrap_or (slice_get xs k) [] ≡ slice_index_or xs k []
+got_or [] k = refl
+got_or (x ∷ xs) zero = refl
+got_or (x ∷ xs) (suc k) = got_or xs k

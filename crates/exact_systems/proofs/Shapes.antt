@@ -18,7 +18,7 @@ use Rattle.walk_rules.specs.Asked.{Ask, ResultsOf, CopiesOf, MultiplesOf, asked,
 use Rattle.walk_rules.specs.Planned.{is_usable, usable_from, lower, let_part, plan}
 use Rattle.walk_rules.specs.Tasks.{Body, sides_count, sides_given, hints_given}
 use Rattle.walk_rules.specs.Jobs.{body_of}
-use Rattle.solved_tasks.proofs.Told.{positive, entries_rise}
+use Rattle.solved_tasks.proofs.Told.{positive, entries_rise, rise_later}
 use Rattle.solved_tasks.specs.Told.{bodies_of, entries, named, sig, hint, number_in, sigs_told, hints_told}
 
 -- they ascend, from this one on

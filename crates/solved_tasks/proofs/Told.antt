@@ -5,7 +5,7 @@ use Rattle.std.proofs.lemmas.Int.{ints}
 use Rattle.annot_types.specs.Certificate.{Entries, RiseFrom}
 use Rattle.solved_tasks.specs.Told.{entries_from}
 
-rise_later : (least from : ℕ) (es : Entries) → least ≤ from → RiseFrom from es → RiseFrom least es
+pub rise_later : (least from : ℕ) (es : Entries) → least ≤ from → RiseFrom from es → RiseFrom least es
 rise_later least from [] l h = tt
 rise_later least from (e ∷ es) l h = (omega (arith, l, h.0), h.1, h.2)
 
