@@ -1,5 +1,5 @@
 // What numbers are multiplied by.
-ghost use Rattle.std.specs.Prelude.{◌≡◌, ◌<◌, ◌<ℤ◌, ◌*ℤ◌, ℕ, ℤ, pos, unsigned_abs, FitsSigned};
+ghost use Rattle.std.specs.Prelude.{◌≡◌, ◌↔◌, IsTrue, ◌<◌, ◌<ℤ◌, ◌*ℤ◌, ℕ, ℤ, pos, unsigned_abs, FitsSigned};
 ghost use Rattle.std.specs.Int.{w128};
 ghost use Rattle.std.specs.Option.{SomeIff};
 ghost use Rattle.whole_numbers.specs.Wholes.{most};
@@ -38,6 +38,13 @@ impl Factor {
         ensures fits { self.now < most }
     {
         self.value
+    }
+
+    /// Whether it is 1.
+    pub fn is_one(&self) -> bool
+        ensures { IsTrue result ↔ (self.now ≡ 1) }
+    {
+        self.value.unsigned_abs() == 1
     }
 
     /// Its size.

@@ -16,6 +16,7 @@ mod large;
 pub mod laws;
 mod leaves;
 mod line;
+mod once;
 mod raising;
 mod refusal;
 mod refuting;

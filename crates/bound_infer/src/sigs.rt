@@ -20,7 +20,7 @@ fn times_annots(alloc: Global, annots: &[Annot], factor: &Factor) -> Result<Vec<
     ensures fit { IfOk result (λ _. All (EntriesFit factor.now) annots.now) }
     ensures leaves { result ≡ Err TimesFault.Leaves → All (EntriesFit factor.now) annots.now → ⊥ }
 {
-    let mut made = Vec::new(alloc);
+    let mut made = Vec::with_capacity(alloc, annots.len())?;
     for index in 0..annots.len() {
         match times_annot(alloc, &annots[index], factor) {
             Ok(annot) => made.push(annot)?,
@@ -60,7 +60,7 @@ pub(crate) fn times_sigs(
     ensures fit { IfOk result (λ _. All (λ s. SigFits factor.now (sig_of s)) sigs.now) }
     ensures leaves { result ≡ Err TimesFault.Leaves → All (λ s. SigFits factor.now (sig_of s)) sigs.now → ⊥ }
 {
-    let mut made = Vec::new(alloc);
+    let mut made = Vec::with_capacity(alloc, sigs.len())?;
     for index in 0..sigs.len() {
         match times_sig(alloc, &sigs[index], factor) {
             Ok(sig) => made.push(sig)?,
@@ -98,7 +98,7 @@ fn times_hints(alloc: Global, hints: &[Hint], factor: &Factor) -> Result<Vec<Hin
     ensures fit { IfOk result (λ _. HintsFit factor.now hints.now) }
     ensures leaves { result ≡ Err TimesFault.Leaves → HintsFit factor.now hints.now → ⊥ }
 {
-    let mut made = Vec::new(alloc);
+    let mut made = Vec::with_capacity(alloc, hints.len())?;
     for index in 0..hints.len() {
         match times_hint(alloc, &hints[index], factor) {
             Ok(hint) => made.push(hint)?,
@@ -119,7 +119,7 @@ pub(crate) fn times_all_hints(
     ensures fit { IfOk result (λ _. All (λ (hs : Vec TheHint TheGlobal). HintsFit factor.now hs.items) lists.now) }
     ensures leaves { result ≡ Err TimesFault.Leaves → All (λ (hs : Vec TheHint TheGlobal). HintsFit factor.now hs.items) lists.now → ⊥ }
 {
-    let mut made = Vec::new(alloc);
+    let mut made = Vec::with_capacity(alloc, lists.len())?;
     for index in 0..lists.len() {
         match times_hints(alloc, &lists[index], factor) {
             Ok(hints) => made.push(hints)?,

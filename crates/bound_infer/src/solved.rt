@@ -4,8 +4,9 @@ ghost use Rattle.cost_free.specs.Read.{task_of, kind_of};
 ghost use Rattle.cost_free.specs.Task.{With};
 ghost use Rattle.annot_types.specs.Certificate as c;
 ghost use Rattle.annot_types.specs.Read as a;
-ghost use Rattle.solved_tasks.specs.Told.{bodies_of};
-ghost use Rattle.rule_plan.specs.Read.{program_in, body_of};
+ghost use Rattle.annot_types.specs.Holds.{budget_of};
+ghost use Rattle.solved_tasks.specs.Told.{bodies_of, sigs_told, hints_told};
+ghost use Rattle.rule_plan.specs.Read.{program_in, function_of, ArePlansOf};
 ghost use Rattle.cert_check.specs.At.{sizes_of};
 ghost use Rattle.cert_check.specs.Finds.{next_after};
 ghost use Rattle.courses.specs.States.{State, raise as raise_state, with_block};
@@ -23,11 +24,11 @@ use crate::raising::raise;
 use crate::refusal::InferFault;
 use crate::run::{Run, push};
 use crate::vector::listed;
-use annot_types::{Block, BlockBody};
+use annot_types::{Block, BlockBody, Hint, Sig};
 use constraint_gen::told_by;
 use cost_free::{Meter, Task, TaskKind};
 use raml_syntax::FunId;
-use rule_plan::Body;
+use rule_plan::{FunctionPlan, GroupPlans};
 use share_normal::NormProgram;
 use std::alloc::{AllocError, Global};
 
@@ -99,12 +100,12 @@ fn raise_for(
 }
 
 // How many positions the functions have.
-fn sizes(alloc: Global, plans: &[Body]) -> Result<Vec<(usize, usize)>, AllocError>
-    ensures { IfOk result (λ sizes. sizes.items ≡ sizes_of (map body_of plans.now)) }
+fn sizes(alloc: Global, functions: &[FunctionPlan]) -> Result<Vec<(usize, usize)>, AllocError>
+    ensures { IfOk result (λ sizes. sizes.items ≡ sizes_of (map function_of functions.now)) }
 {
-    let mut sizes = Vec::with_capacity(alloc, plans.len())?;
-    for body in plans {
-        sizes.push((body.args, body.result))?;
+    let mut sizes = Vec::with_capacity(alloc, functions.len())?;
+    for function in functions {
+        sizes.push((function.args, function.result))?;
     }
     Ok(sizes)
 }
@@ -115,16 +116,16 @@ fn push_planned(
     program: &NormProgram<'_>,
     d: u8,
     run: &mut Run<'_>,
-    plans: &[Body],
+    plans: &GroupPlans,
     block: Block,
 ) -> Result<(), AllocError>
     requires keeps { Keeps program.now d run.old }
     requires next { next_after (program_in program.now) (first_of d) (a.blocks_of run.old.blocks.items) ≡ Some (task_of block.task) }
-    requires plans { (blocks : List c.Block) × (map body_of plans.now ≡ bodies_of (program_in program.now) d blocks (task_of block.task)) }
+    requires plans { ArePlansOf (program_in program.now) block.task.group (budget_of d (kind_of block.task.kind)) plans.now }
     ensures keeps { OnOk result (Keeps program.now d run.new) }
     ensures state { OnOk result (state_of run.new ≡ with_block (task_of block.task) (a.body_of block.body) (state_of run.old)) }
 {
-    let sizes = sizes(alloc, plans)?;
+    let sizes = sizes(alloc, &plans.functions)?;
     push(alloc, program, d, run, block, &sizes)
 }
 
@@ -134,14 +135,14 @@ fn put(
     program: &NormProgram<'_>,
     d: u8,
     run: &mut Run<'_>,
-    plans: &[Body],
+    plans: &GroupPlans,
     factor: &Factor,
     block: Block,
 ) -> Result<(), InferFault>
     requires keeps { Keeps program.now d run.old }
     requires begins { Begins (state_of run.old) }
     requires next { next_after (program_in program.now) (first_of d) (a.blocks_of run.old.blocks.items) ≡ Some (task_of block.task) }
-    requires plans { map body_of plans.now ≡ bodies_of (program_in program.now) d (a.blocks_of run.old.blocks.items) (task_of block.task) }
+    requires plans { ArePlansOf (program_in program.now) block.task.group (budget_of d (kind_of block.task.kind)) plans.now }
     ensures keeps { OnOk result (Keeps program.now d run.new) }
     ensures state { OnOk result (state_of run.new
         ≡ with_block (task_of block.task) (a.body_of block.body) (raise_state (kind_of block.task.kind) factor.now (state_of run.old))) }
@@ -157,6 +158,27 @@ fn put(
     }
 }
 
+// The signatures and hints of a task that has this solution.
+fn told(
+    alloc: Global,
+    program: &NormProgram<'_>,
+    d: u8,
+    run: &Run<'_>,
+    task: &Task,
+    plans: &GroupPlans,
+    numbers: &[i128],
+) -> Result<(Vec<Sig>, Vec<Vec<Hint>>), AllocError>
+    requires keeps { Keeps program.now d run.now }
+    requires plans { ArePlansOf (program_in program.now) task.now.group (budget_of d (kind_of task.now.kind)) plans.now }
+    ensures sigs { IfOk result (λ told. map a.sig_of told.0.items
+        ≡ sigs_told (bodies_of (program_in program.now) d (a.blocks_of run.now.blocks.items) (task_of task.now)) (map unsigned_abs numbers.now)) }
+    ensures hints { IfOk result (λ told. map a.hints_of told.1.items
+        ≡ hints_told (bodies_of (program_in program.now) d (a.blocks_of run.now.blocks.items) (task_of task.now)) (map unsigned_abs numbers.now)) }
+{
+    let bodies = plans.over(alloc, &run.earlier)?;
+    told_by(alloc, &bodies, numbers)
+}
+
 /// The block of a task that has this solution, over the factor.
 pub(crate) fn solved(
     alloc: Global,
@@ -164,21 +186,21 @@ pub(crate) fn solved(
     d: u8,
     run: &mut Run<'_>,
     task: &Task,
-    plans: &[Body],
+    plans: &GroupPlans,
     factor: &Factor,
     numbers: &[i128],
 ) -> Result<(), InferFault>
     requires keeps { Keeps program.now d run.old }
     requires begins { Begins (state_of run.old) }
     requires next { next_after (program_in program.now) (first_of d) (a.blocks_of run.old.blocks.items) ≡ Some (task_of task.now) }
-    requires plans { map body_of plans.now ≡ bodies_of (program_in program.now) d (a.blocks_of run.old.blocks.items) (task_of task.now) }
+    requires plans { ArePlansOf (program_in program.now) task.now.group (budget_of d (kind_of task.now.kind)) plans.now }
     ensures keeps { OnOk result (Keeps program.now d run.new) }
     ensures state { OnOk result ((pick : List ℤ → ℤ → Option ℕ) → state_of run.new
         ≡ after (analysis_in program.now d pick) (task_of task.now) (Has factor.now (map unsigned_abs numbers.now)) (state_of run.old)) }
     ensures fit { OnOk result ((place : ℕ) → RescaleLeaves (kind_of task.now.kind) factor.now (state_of run.old) place → ⊥) }
     ensures fault { IfErr result (RaiseCause (task_of task.now) factor.now (state_of run.old)) }
 {
-    match told_by(alloc, plans, numbers) {
+    match told(alloc, program, d, run, task, plans, numbers) {
         Err(_) => Err(InferFault::NoMemory),
         Ok((sigs, hints)) => put(
             alloc,

@@ -1,11 +1,9 @@
 // One task of the schedule.
-ghost use Rattle.std.specs.Prelude.{◌≡◌, ◌≤◌, map, true, IfOk, IfErr, OnOk};
+ghost use Rattle.std.specs.Prelude.{◌≡◌, ◌≤◌, true, IfOk, IfErr, IfSome, OnOk};
 ghost use Rattle.simplex.specs.Choosing.{IsChooser};
 ghost use Rattle.cost_free.specs.Read.{task_of, kind_of};
 ghost use Rattle.annot_types.specs.Holds.{budget_of};
-ghost use Rattle.annot_types.specs.Read as a;
-ghost use Rattle.solved_tasks.specs.Told.{bodies_of};
-ghost use Rattle.rule_plan.specs.Read.{program_in, body_of};
+ghost use Rattle.rule_plan.specs.Read.{program_in, ArePlansIn, ArePlansOf};
 ghost use Rattle.constraint_gen.specs.Cause.{IsWithin};
 ghost use Rattle.tried_tasks.specs.Laws.{IsOrdered};
 ghost use Rattle.whole_answers.specs.Choosing.{AnswersByOne};
@@ -25,7 +23,7 @@ use cost_free::Task;
 use courses::laws::{courses_are_good, fine_is_clear, scales_begin, seen_is_first};
 use exact_systems::laws::systems_generate;
 use frac128::Frac;
-use rule_plan::Body;
+use rule_plan::GroupPlans;
 use share_normal::NormProgram;
 use simplex::Chooser;
 use std::alloc::Global;
@@ -38,7 +36,7 @@ fn carried<F: Fn(&[Frac]) -> Option<usize>>(
     d: u8,
     run: &mut Run<'_>,
     task: &Task,
-    plans: &[Body],
+    plans: &GroupPlans,
     answer: Answer,
     chooser: &Chooser<F>,
 ) -> Result<(), InferFault>
@@ -47,7 +45,7 @@ fn carried<F: Fn(&[Frac]) -> Option<usize>>(
     requires begins { Begins (state_of run.old) }
     requires here { ByEach F.Fn chooser.now (λ pick. IsAtHand (analysis_in program.now d pick) (state_of run.old) (task_of task.now)) }
     requires stands { StandsAt program.now d (state_of run.old) (task_of task.now) }
-    requires plans { map body_of plans.now ≡ bodies_of (program_in program.now) d (a.blocks_of run.old.blocks.items) (task_of task.now) }
+    requires plans { ArePlansOf (program_in program.now) task.now.group (budget_of d (kind_of task.now.kind)) plans.now }
     requires answer { ByEach F.Fn chooser.now (λ pick. HasAnswer (analysis_in program.now d pick) (state_of run.old) (task_of task.now) answer) }
     ensures keeps { OnOk result (Keeps program.now d run.new) }
     ensures steps { OnOk result (ByEach F.Fn chooser.now (λ pick. IsAfter (analysis_in program.now d pick) (state_of run.old) (state_of run.new) true)) }
@@ -70,13 +68,14 @@ fn carried<F: Fn(&[Frac]) -> Option<usize>>(
     }
 }
 
-// A task that waits for nothing.
-fn tried<F: Fn(&[Frac]) -> Option<usize>>(
+// A task that waits for nothing, by the plans of its group.
+fn by_plans<F: Fn(&[Frac]) -> Option<usize>>(
     alloc: Global,
     program: &NormProgram<'_>,
     d: u8,
     run: &mut Run<'_>,
     task: &Task,
+    plans: &GroupPlans,
     chooser: &Chooser<F>,
 ) -> Result<(), InferFault>
     requires callable { F.IsAlwaysCallable chooser.now }
@@ -88,16 +87,50 @@ fn tried<F: Fn(&[Frac]) -> Option<usize>>(
     requires begins { Begins (state_of run.old) }
     requires here { ByEach F.Fn chooser.now (λ pick. IsAtHand (analysis_in program.now d pick) (state_of run.old) (task_of task.now)) }
     requires stands { StandsAt program.now d (state_of run.old) (task_of task.now) }
+    requires plans { ArePlansOf (program_in program.now) task.now.group (budget_of d (kind_of task.now.kind)) plans.now }
+    requires fits { IsWithin (program_in program.now) d (task_of task.now) }
     ensures keeps { OnOk result (Keeps program.now d run.new) }
     ensures steps { OnOk result (ByEach F.Fn chooser.now (λ pick. IsAfter (analysis_in program.now d pick) (state_of run.old) (state_of run.new) true)) }
     ensures stops { IfErr result (λ fault. ByEach F.Fn chooser.now (λ pick. StopsOn (analysis_in program.now d pick) (state_of run.old) (task_of task.now) fault)) }
 {
-    match planned(alloc, program, d, run, task) {
+    match answered(alloc, program, d, run, task, plans, chooser) {
         Err(fault) => Err(fault),
-        Ok(plans) => match answered(alloc, program, d, run, task, &plans, chooser) {
-            Err(fault) => Err(fault),
-            Ok(answer) => carried(alloc, program, d, run, task, &plans, answer, chooser),
-        },
+        Ok(answer) => carried(alloc, program, d, run, task, plans, answer, chooser),
+    }
+}
+
+// A task that waits for nothing.
+fn tried<F: Fn(&[Frac]) -> Option<usize>>(
+    alloc: Global,
+    program: &NormProgram<'_>,
+    d: u8,
+    run: &mut Run<'_>,
+    last: &mut Option<GroupPlans>,
+    task: &Task,
+    chooser: &Chooser<F>,
+) -> Result<(), InferFault>
+    requires callable { F.IsAlwaysCallable chooser.now }
+    requires chooses { IsChooser F.Fn chooser.now }
+    requires one { AnswersByOne F.Fn chooser.now }
+    requires ordered { IsOrdered (program_in program.now) }
+    requires budget { budget_of d (kind_of task.now.kind) ≤ 4 }
+    requires keeps { Keeps program.now d run.old }
+    requires last { IfSome last.old (ArePlansIn (program_in program.now)) }
+    requires begins { Begins (state_of run.old) }
+    requires here { ByEach F.Fn chooser.now (λ pick. IsAtHand (analysis_in program.now d pick) (state_of run.old) (task_of task.now)) }
+    requires stands { StandsAt program.now d (state_of run.old) (task_of task.now) }
+    ensures keeps { OnOk result (Keeps program.now d run.new) }
+    ensures last { IfSome last.new (ArePlansIn (program_in program.now)) }
+    ensures steps { OnOk result (ByEach F.Fn chooser.now (λ pick. IsAfter (analysis_in program.now d pick) (state_of run.old) (state_of run.new) true)) }
+    ensures stops { IfErr result (λ fault. ByEach F.Fn chooser.now (λ pick. StopsOn (analysis_in program.now d pick) (state_of run.old) (task_of task.now) fault)) }
+{
+    match planned(alloc, program, d, last.take(), run, task) {
+        Err(fault) => Err(fault),
+        Ok(plans) => {
+            let done = by_plans(alloc, program, d, run, task, &plans, chooser);
+            *last = Some(plans);
+            done
+        }
     }
 }
 
@@ -107,6 +140,7 @@ fn at_task<F: Fn(&[Frac]) -> Option<usize>>(
     program: &NormProgram<'_>,
     d: u8,
     run: &mut Run<'_>,
+    last: &mut Option<GroupPlans>,
     task: &Task,
     chooser: &Chooser<F>,
 ) -> Result<(), InferFault>
@@ -116,8 +150,10 @@ fn at_task<F: Fn(&[Frac]) -> Option<usize>>(
     requires ordered { IsOrdered (program_in program.now) }
     requires low { d ≤ 4 }
     requires keeps { Keeps program.now d run.old }
+    requires last { IfSome last.old (ArePlansIn (program_in program.now)) }
     requires here { ByEach F.Fn chooser.now (λ pick. IsAtHand (analysis_in program.now d pick) (state_of run.old) (task_of task.now)) }
     ensures keeps { OnOk result (Keeps program.now d run.new) }
+    ensures last { IfSome last.new (ArePlansIn (program_in program.now)) }
     ensures steps { OnOk result (ByEach F.Fn chooser.now (λ pick. IsAfter (analysis_in program.now d pick) (state_of run.old) (state_of run.new) true)) }
     ensures stops { IfErr result (λ fault. ByEach F.Fn chooser.now (λ pick. StopsOn (analysis_in program.now d pick) (state_of run.old) (task_of task.now) fault)) }
 {
@@ -129,7 +165,7 @@ fn at_task<F: Fn(&[Frac]) -> Option<usize>>(
             Ok(()) => Ok(()),
             Err(_) => Err(InferFault::NoMemory),
         },
-        None => tried(alloc, program, d, run, task, chooser),
+        None => tried(alloc, program, d, run, last, task, chooser),
     }
 }
 
@@ -139,6 +175,7 @@ fn step<F: Fn(&[Frac]) -> Option<usize>>(
     program: &NormProgram<'_>,
     d: u8,
     run: &mut Run<'_>,
+    last: &mut Option<GroupPlans>,
     chooser: &Chooser<F>,
 ) -> Result<bool, InferFault>
     requires callable { F.IsAlwaysCallable chooser.now }
@@ -147,8 +184,10 @@ fn step<F: Fn(&[Frac]) -> Option<usize>>(
     requires ordered { IsOrdered (program_in program.now) }
     requires low { d ≤ 4 }
     requires keeps { Keeps program.now d run.old }
+    requires last { IfSome last.old (ArePlansIn (program_in program.now)) }
     requires reached { ByEach F.Fn chooser.now (λ pick. Reached (analysis_in program.now d pick) (state_of run.old)) }
     ensures keeps { OnOk result (Keeps program.now d run.new) }
+    ensures last { IfSome last.new (ArePlansIn (program_in program.now)) }
     ensures steps { IfOk result (λ on. ByEach F.Fn chooser.now (λ pick. IsAfter (analysis_in program.now d pick) (state_of run.old) (state_of run.new) on)) }
     ensures stops { IfErr result (λ fault. ByEach F.Fn chooser.now (λ pick. StopsIn (analysis_in program.now d pick) (state_of run.old) fault)) }
 {
@@ -157,7 +196,7 @@ fn step<F: Fn(&[Frac]) -> Option<usize>>(
         Err(IndexFault::NoMemory) => Err(InferFault::NoMemory),
         Err(IndexFault::TooMany) => Err(refused(alloc, program, d)),
         Ok(None) => Ok(false),
-        Ok(Some(task)) => match at_task(alloc, program, d, run, &task, chooser) {
+        Ok(Some(task)) => match at_task(alloc, program, d, run, last, &task, chooser) {
             Ok(()) => Ok(true),
             Err(fault) => Err(fault),
         },
@@ -182,6 +221,7 @@ pub(crate) fn all_steps<F: Fn(&[Frac]) -> Option<usize>>(
     ensures ends { OnOk result (ByEach F.Fn chooser.now (λ pick. Ends (analysis_in program.now d pick) (state_of run.new))) }
     ensures stops { IfErr result (λ fault. ByEach F.Fn chooser.now (λ pick. InferCause (analysis_in program.now d pick) fault)) }
 {
-    while step(alloc, program, d, run, chooser)? {}
+    let mut last = None;
+    while step(alloc, program, d, run, &mut last, chooser)? {}
     Ok(())
 }

@@ -1,12 +1,12 @@
 // The system of a task, and its answer.
-ghost use Rattle.std.specs.Prelude.{◌≡◌, ◌≤◌, ◌<◌, ◌^◌, ℕ, ℤ, List, Option, map, None, IfOk, IfErr, OnOk};
+ghost use Rattle.std.specs.Prelude.{◌≡◌, ◌≤◌, ◌<◌, ◌^◌, ℕ, ℤ, List, Option, map, None, IfOk, IfErr, IfSome, OnOk};
 ghost use Rattle.tableau.specs.Tableaux.{right};
 ghost use Rattle.simplex.specs.Choosing.{IsChooser};
 ghost use Rattle.cost_free.specs.Read.{task_of, kind_of};
 ghost use Rattle.annot_types.specs.Holds.{budget_of};
 ghost use Rattle.annot_types.specs.Read.{blocks_of};
 ghost use Rattle.solved_tasks.specs.Told.{bodies_of};
-ghost use Rattle.rule_plan.specs.Read.{program_in, body_of};
+ghost use Rattle.rule_plan.specs.Read.{program_in, body_of, ArePlansIn, ArePlansOf};
 ghost use Rattle.constraint_gen.specs.Cause.{IsWithin};
 ghost use Rattle.constraint_gen.specs.declared.fault.What.{What as TheWhat};
 ghost use Rattle.courses.specs.States.{State};
@@ -28,7 +28,7 @@ use courses::laws::seen_is_first;
 use exact_systems::laws::limits_are_told;
 use frac128::Frac;
 use linear_rows::System;
-use rule_plan::Body;
+use rule_plan::{Body, GroupPlans};
 use share_normal::NormProgram;
 use simplex::Chooser;
 use std::alloc::Global;
@@ -48,24 +48,25 @@ fn gen_fault(task: &Task, fault: GenFault) -> InferFault
     }
 }
 
-/// The plans of a task's group.
+/// The plans of a task's group, where `last` were made last.
 pub(crate) fn planned(
     alloc: Global,
     program: &NormProgram<'_>,
     d: u8,
+    last: Option<GroupPlans>,
     run: &Run<'_>,
     task: &Task,
-) -> Result<Vec<Body>, InferFault>
-    requires keeps { Keeps program.now d run.now }
+) -> Result<GroupPlans, InferFault>
+    requires last { IfSome last (ArePlansIn (program_in program.now)) }
     requires budget { budget_of d (kind_of task.now.kind) ≤ 4 }
     requires stands { StandsAt program.now d (state_of run.now) (task_of task.now) }
-    ensures plans { IfOk result (λ made. map body_of made.items ≡ bodies_of (program_in program.now) d (blocks_of run.now.blocks.items) (task_of task.now)) }
+    ensures plans { IfOk result (ArePlansOf (program_in program.now) task.now.group (budget_of d (kind_of task.now.kind))) }
     ensures fits { OnOk result (IsWithin (program_in program.now) d (task_of task.now)) }
     ensures fault { IfErr result (λ fault. (pick : List ℤ → ℤ → Option ℕ) → StopsOn (analysis_in program.now d pick) (state_of run.now) (task_of task.now) fault) }
 {
     limits_are_told();
     seen_is_first();
-    match plans(alloc, program, d, &run.earlier, task) {
+    match plans(alloc, program, d, last, task) {
         Ok(made) => Ok(made),
         Err(fault) => Err(gen_fault(task, fault)),
     }
@@ -78,7 +79,7 @@ fn system(
     d: u8,
     run: &Run<'_>,
     task: &Task,
-    plans: &[Body],
+    plans: &[Body<'_>],
 ) -> Result<System, InferFault>
     requires keeps { Keeps program.now d run.now }
     requires budget { budget_of d (kind_of task.now.kind) ≤ 4 }
@@ -146,7 +147,7 @@ pub(crate) fn answered<F: Fn(&[Frac]) -> Option<usize>>(
     d: u8,
     run: &Run<'_>,
     task: &Task,
-    plans: &[Body],
+    plans: &GroupPlans,
     chooser: &Chooser<F>,
 ) -> Result<Answer, InferFault>
     requires callable { F.IsAlwaysCallable chooser.now }
@@ -155,12 +156,15 @@ pub(crate) fn answered<F: Fn(&[Frac]) -> Option<usize>>(
     requires budget { budget_of d (kind_of task.now.kind) ≤ 4 }
     requires ordered { IsOrdered (program_in program.now) }
     requires stands { StandsAt program.now d (state_of run.now) (task_of task.now) }
-    requires plans { map body_of plans.now ≡ bodies_of (program_in program.now) d (blocks_of run.now.blocks.items) (task_of task.now) }
+    requires plans { ArePlansOf (program_in program.now) task.now.group (budget_of d (kind_of task.now.kind)) plans.now }
     requires indices { IsWithin (program_in program.now) d (task_of task.now) }
     ensures answer { IfOk result (λ answer. ByEach F.Fn chooser.now (λ pick. HasAnswer (analysis_in program.now d pick) (state_of run.now) (task_of task.now) answer)) }
     ensures fault { IfErr result (λ fault. ByEach F.Fn chooser.now (λ pick. StopsOn (analysis_in program.now d pick) (state_of run.now) (task_of task.now) fault)) }
 {
-    match system(alloc, program, d, run, task, plans) {
+    let Ok(bodies) = plans.over(alloc, &run.earlier) else {
+        return Err(InferFault::NoMemory);
+    };
+    match system(alloc, program, d, run, task, &bodies) {
         Err(fault) => Err(fault),
         Ok(system) => match whole_answer(alloc, &system, chooser) {
             Ok(answer) => Ok(answer),

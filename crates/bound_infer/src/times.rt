@@ -17,7 +17,7 @@ pub(crate) fn times_entries(
     ensures fit { IfOk result (λ _. EntriesFit factor.now entries.now) }
     ensures leaves { result ≡ Err TimesFault.Leaves → EntriesFit factor.now entries.now → ⊥ }
 {
-    let mut made = Vec::new(alloc);
+    let mut made = Vec::with_capacity(alloc, entries.len())?;
     for index in 0..entries.len() {
         let (place, number) = entries[index];
         match factor.times(number) {

@@ -30,7 +30,7 @@ fn amounts(alloc: Global, annot: &Annot, size: usize) -> Result<Vec<Amount>, All
 /// The signatures of a group.
 pub fn all_sides(
     alloc: Global,
-    bodies: &[Body],
+    bodies: &[Body<'_>],
     sigs: &[Sig],
 ) -> Result<Vec<Sides<Amount>>, AllocError>
     ensures { IfOk result (λ made. map sides_of made.items ≡ map (sides_to capped_amount) (sides_at (map body_of bodies.now) (map a.sig_of sigs.now))) }

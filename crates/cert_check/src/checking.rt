@@ -32,6 +32,7 @@ fn check_blocks(
     let Ok(mut earlier) = Earlier::new(alloc, functions.len()) else {
         return Err(CertFault::NoMemory);
     };
+    let mut last = None;
     for number in 0..certificate.blocks.len() {
         let block = &certificate.blocks[number];
         if let Err(fault) = check_block(
@@ -40,6 +41,7 @@ fn check_blocks(
             certificate,
             &mut schedule,
             &mut earlier,
+            &mut last,
             number,
             block,
         ) {

@@ -1,5 +1,5 @@
 // The check of a solved block, from its plans on.
-ghost use Rattle.std.specs.Prelude.{◌≡◌, ◌↔◌, ◌≤◌, List, map, length, IsTrue, IfOk};
+ghost use Rattle.std.specs.Prelude.{◌≡◌, ◌↔◌, ◌≤◌, List, map, length, IsTrue, IfOk, IfSome};
 ghost use Rattle.cost_free.specs.Read.{kind_of, task_of};
 ghost use Rattle.annot_types.specs.Certificate as c;
 ghost use Rattle.annot_types.specs.Certificate.{Solved};
@@ -7,7 +7,7 @@ ghost use Rattle.annot_types.specs.Held.{SigsRise, AllHintsRise};
 ghost use Rattle.annot_types.specs.Holds as h;
 ghost use Rattle.annot_types.specs.Read as a;
 ghost use Rattle.earlier_blocks.specs.Remembers.{Remembers};
-ghost use Rattle.rule_plan.specs.Read.{body_of};
+ghost use Rattle.rule_plan.specs.Read.{body_of, ArePlansIn, ArePlansOf};
 ghost use Rattle.cert_check.specs.At.{program_at, IsAt, Tells, sizes_of};
 ghost use Rattle.cert_check.specs.Asking.{all_asks_of};
 ghost use Rattle.cert_check.specs.Finds.{SigsFit, AllFit, asks_by, job, ShapeFinds, BodyFinds};
@@ -18,12 +18,12 @@ use crate::reached::check_target;
 use crate::rules::all_asked;
 use crate::shape::{hints_fit, sigs_fit};
 use annot_types::{Hint, Sig};
-use rule_plan::{Body, PlanFault, bodies};
+use rule_plan::{Body, GroupPlans, PlanFault, next_plans};
 use rule_walk::Ask;
 use std::alloc::{AllocError, Global};
 
 // Signatures and hints are those that the bodies want.
-fn is_shapely(bodies: &[Body], asks: &[Vec<Ask>], sigs: &[Sig], hints: &[Vec<Hint>]) -> bool
+fn is_shapely(bodies: &[Body<'_>], asks: &[Vec<Ask>], sigs: &[Sig], hints: &[Vec<Hint>]) -> bool
     ensures { IsTrue result ↔ ((SigsFit (map body_of bodies.now) (map a.sig_of sigs.now) × SigsRise (map a.sig_of sigs.now))
         × (AllFit (all_asks_of asks.now) (map a.hints_of hints.now) × AllHintsRise (map a.hints_of hints.now))) }
 {
@@ -33,7 +33,7 @@ fn is_shapely(bodies: &[Body], asks: &[Vec<Ask>], sigs: &[Sig], hints: &[Vec<Hin
 // The shape, and what comes behind it.
 fn check_shape(
     at: &At<'_, '_>,
-    bodies: &[Body],
+    bodies: &[Body<'_>],
     asks: &[Vec<Ask>],
     sigs: &[Sig],
     hints: &[Vec<Hint>],
@@ -51,7 +51,7 @@ fn check_shape(
 }
 
 // How many positions the functions have.
-fn sizes(alloc: Global, bodies: &[Body]) -> Result<Vec<(usize, usize)>, AllocError>
+fn sizes(alloc: Global, bodies: &[Body<'_>]) -> Result<Vec<(usize, usize)>, AllocError>
     ensures { IfOk result (λ sizes. sizes.items ≡ sizes_of (map body_of bodies.now)) }
 {
     let mut sizes = Vec::with_capacity(alloc, bodies.len())?;
@@ -64,7 +64,7 @@ fn sizes(alloc: Global, bodies: &[Body]) -> Result<Vec<(usize, usize)>, AllocErr
 /// The check of a block with these plans; how many positions its functions have.
 pub fn check_planned(
     at: &At<'_, '_>,
-    bodies: &[Body],
+    bodies: &[Body<'_>],
     sigs: &[Sig],
     hints: &[Vec<Hint>],
 ) -> Result<Vec<(usize, usize)>, CertFault>
@@ -85,22 +85,49 @@ pub fn check_planned(
     }
 }
 
-/// The check of a solved block; how many positions its functions have.
+// The check of a block whose group has these plans; how many positions its functions have.
+fn check_over(
+    at: &At<'_, '_>,
+    plans: &GroupPlans,
+    sigs: &[Sig],
+    hints: &[Vec<Hint>],
+) -> Result<Vec<(usize, usize)>, CertFault>
+    requires plans { ArePlansOf (program_at at.now) at.now.task.group (h.budget_of at.now.degree (kind_of at.now.task.kind)) plans.now }
+    ensures tells { (held : c.Certificate) (blocks : List c.Block) → IsAt at.now held blocks → Remembers (program_at at.now) held.degree blocks at.now.earlier.now →
+        Tells result (ShapeFinds (program_at at.now) held blocks (task_of at.now.task) (map a.sig_of sigs.now) (map a.hints_of hints.now)) }
+    ensures sizes { IfOk result (λ sizes. (held : c.Certificate) (blocks : List c.Block) → IsAt at.now held blocks → Remembers (program_at at.now) held.degree blocks at.now.earlier.now →
+        sizes.items ≡ sizes_of (job (program_at at.now) held blocks (task_of at.now.task)).bodies) }
+{
+    match plans.over(at.alloc, at.earlier) {
+        Err(_) => Err(CertFault::NoMemory),
+        Ok(bodies) => check_planned(at, &bodies, sigs, hints),
+    }
+}
+
+/// The check of a solved block; how many positions its functions have. The plans are kept for the next
+/// block.
 pub fn check_solved(
     at: &At<'_, '_>,
+    last: &mut Option<GroupPlans>,
     sigs: &[Sig],
     hints: &[Vec<Hint>],
 ) -> Result<Vec<(usize, usize)>, CertFault>
     requires low { h.budget_of at.now.degree (kind_of at.now.task.kind) ≤ 4 }
+    requires last { IfSome last.old (ArePlansIn (program_at at.now)) }
+    ensures last { IfSome last.new (ArePlansIn (program_at at.now)) }
     ensures tells { (held : c.Certificate) (blocks : List c.Block) → IsAt at.now held blocks → Remembers (program_at at.now) held.degree blocks at.now.earlier.now →
         Tells result (BodyFinds (program_at at.now) held blocks (task_of at.now.task) (Solved (map a.sig_of sigs.now) (map a.hints_of hints.now))) }
     ensures sizes { IfOk result (λ sizes. (held : c.Certificate) (blocks : List c.Block) → IsAt at.now held blocks → Remembers (program_at at.now) held.degree blocks at.now.earlier.now →
         sizes.items ≡ sizes_of (job (program_at at.now) held blocks (task_of at.now.task)).bodies) }
 {
     let budget = budget_of(at.degree, at.task.kind);
-    match bodies(at.alloc, at.program, at.earlier, at.task.group, budget) {
+    match next_plans(at.alloc, at.program, last.take(), at.task.group, budget) {
         Err(PlanFault::TooMany) => Err(CertFault::TooLarge { task: at.task }),
         Err(PlanFault::NoMemory) => Err(CertFault::NoMemory),
-        Ok(plans) => check_planned(at, &plans, sigs, hints),
+        Ok(plans) => {
+            let found = check_over(at, &plans, sigs, hints);
+            *last = Some(plans);
+            found
+        }
     }
 }

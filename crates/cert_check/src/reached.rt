@@ -93,7 +93,7 @@ fn miss(at: &At<'_, '_>, fun: FunId, index: usize) -> Result<CertFault, AllocErr
 // The target of a block without cost, and then the rules.
 fn check_free(
     at: &At<'_, '_>,
-    bodies: &[Body],
+    bodies: &[Body<'_>],
     asks: &[Vec<Ask>],
     sigs: &[Sig],
     hints: &[Vec<Hint>],
@@ -122,7 +122,7 @@ fn check_free(
 /// The target, and then the rules.
 pub fn check_target(
     at: &At<'_, '_>,
-    bodies: &[Body],
+    bodies: &[Body<'_>],
     asks: &[Vec<Ask>],
     sigs: &[Sig],
     hints: &[Vec<Hint>],

@@ -6,7 +6,7 @@ ghost use Rattle.walk_rules.specs.Carried.{hint_to};
 ghost use Rattle.walk_rules.specs.Faults.{first_fault};
 ghost use Rattle.walk_rules.specs.Shape.{hints_at};
 ghost use Rattle.rule_walk.specs.Asks.{asks_of};
-ghost use Rattle.rule_walk.specs.Read.{known_of, mode_of, plan_of};
+ghost use Rattle.rule_walk.specs.Read.{known_of, mode_of};
 ghost use Rattle.rule_walk.specs.Place.{body_walked};
 ghost use Rattle.rule_plan.specs.Read.{body_of};
 ghost use Rattle.cert_check.specs.Judged.{verdict_of, after};
@@ -18,16 +18,16 @@ use crate::amounts::walked_hints;
 use crate::judge::FaultJudge;
 use annot_types::Hint;
 use rule_plan::Body;
-use rule_walk::{Amount, Ask, Known, Mode, asked, walk_body};
+use rule_walk::{Amount, Ask, Known, Mode};
 use std::alloc::{AllocError, Global};
 
 /// What the walks through the bodies ask for.
-pub fn all_asked(alloc: Global, bodies: &[Body]) -> Result<Vec<Vec<Ask>>, AllocError>
+pub fn all_asked(alloc: Global, bodies: &[Body<'_>]) -> Result<Vec<Vec<Ask>>, AllocError>
     ensures { IfOk result (λ asks. all_asks_of asks.items ≡ asks_by (map body_of bodies.now)) }
 {
     let mut asks = Vec::with_capacity(alloc, bodies.len())?;
     for body in bodies {
-        asks.push(asked(alloc, &body.plan)?)?;
+        asks.push(body.asked(alloc)?)?;
     }
     Ok(asks)
 }
@@ -36,7 +36,7 @@ pub fn all_asked(alloc: Global, bodies: &[Body]) -> Result<Vec<Vec<Ask>>, AllocE
 fn judge_body(
     alloc: Global,
     known: &Known<'_, Amount>,
-    body: &Body,
+    body: &Body<'_>,
     mode: Mode,
     place: usize,
     asks: &[Ask],
@@ -44,14 +44,14 @@ fn judge_body(
     judge: &mut FaultJudge,
 ) -> Result<(), AllocError>
     ensures { OnOk result (verdict_of judge.new ≡ after (verdict_of judge.old)
-        (body_walked capped (known_of known.now) (plan_of body.now.plan) (mode_of mode) place (map (hint_to capped_amount) (hints_at (asks_of asks.now) (map a.hint_of hints.now)))).found) }
+        (body_walked capped (known_of known.now) (body_of body.now).plan (mode_of mode) place (map (hint_to capped_amount) (hints_at (asks_of asks.now) (map a.hint_of hints.now)))).found) }
 {
     // so many functions have no room in memory
     let Ok(place) = u32::try_from(place) else {
         return Err(AllocError);
     };
     let walked = walked_hints(alloc, asks, hints)?;
-    walk_body(alloc, known, &body.plan, mode, place, &walked, judge)?;
+    body.walk(alloc, known, mode, place, &walked, judge)?;
     Ok(())
 }
 
@@ -59,7 +59,7 @@ fn judge_body(
 pub fn judged(
     alloc: Global,
     known: &Known<'_, Amount>,
-    bodies: &[Body],
+    bodies: &[Body<'_>],
     mode: Mode,
     asks: &[Vec<Ask>],
     hints: &[Vec<Hint>],

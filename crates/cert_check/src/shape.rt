@@ -28,7 +28,7 @@ fn is_within(size: usize, annot: &Annot) -> bool
 }
 
 // The positions of a signature are in range.
-fn sig_fits(body: &Body, sig: &Sig) -> bool
+fn sig_fits(body: &Body<'_>, sig: &Sig) -> bool
     ensures fits { IsTrue result ↔ (Within body.now.args sig.now.args × Within body.now.result sig.now.result) }
     ensures args { Rise sig.now.args }
     ensures result { Rise sig.now.result }
@@ -39,7 +39,7 @@ fn sig_fits(body: &Body, sig: &Sig) -> bool
 }
 
 /// There is a signature for each body, whose positions are in range.
-pub fn sigs_fit(bodies: &[Body], sigs: &[Sig]) -> bool
+pub fn sigs_fit(bodies: &[Body<'_>], sigs: &[Sig]) -> bool
     ensures fit { IsTrue result ↔ SigsFit (map body_of bodies.now) (map a.sig_of sigs.now) }
     ensures rise { IsTrue result → SigsRise (map a.sig_of sigs.now) }
 {

@@ -51,7 +51,7 @@ fn tell(judge: FaultJudge, block: usize) -> Result<(), CertFault>
 // The walks through the bodies, whose plans and asks these are.
 fn judge_rules(
     at: &At<'_, '_>,
-    bodies: &[Body],
+    bodies: &[Body<'_>],
     asks: &[Vec<Ask>],
     sigs: &[Sig],
     hints: &[Vec<Hint>],
@@ -75,7 +75,7 @@ fn judge_rules(
 /// The rules.
 pub fn check_rules(
     at: &At<'_, '_>,
-    bodies: &[Body],
+    bodies: &[Body<'_>],
     asks: &[Vec<Ask>],
     sigs: &[Sig],
     hints: &[Vec<Hint>],

@@ -7,3 +7,4 @@ pub mod Walking
 pub mod Finishing
 pub mod Whole
 pub mod Telling
+pub mod Weighing

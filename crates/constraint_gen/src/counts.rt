@@ -8,16 +8,16 @@ ghost use Rattle.rule_plan.specs.Read.{body_of};
 ghost use Rattle.constraint_gen.specs.Given.{all_counts};
 
 use rule_plan::Body;
-use rule_walk::{Ask, asked, unknowns};
+use rule_walk::{Ask, unknowns};
 use std::alloc::{AllocError, Global};
 
 /// What the plan of each body asks for.
-pub fn all_asked(alloc: Global, bodies: &[Body]) -> Result<Vec<Vec<Ask>>, AllocError>
+pub fn all_asked(alloc: Global, bodies: &[Body<'_>]) -> Result<Vec<Vec<Ask>>, AllocError>
     ensures { IfOk result (λ asks. map (λ a. asks_of a.items) asks.items ≡ map (λ (b : t.Body). asked b.plan) (map body_of bodies.now)) }
 {
     let mut asks = Vec::with_capacity(alloc, bodies.len())?;
     for body in bodies {
-        asks.push(asked(alloc, &body.plan)?)?;
+        asks.push(body.asked(alloc)?)?;
     }
     Ok(asks)
 }
@@ -35,7 +35,7 @@ fn add(count: u32, more: usize, most: u32) -> Option<u32>
 }
 
 // Those of the arguments and the result.
-fn add_body(count: u32, body: &Body, most: u32) -> Option<u32>
+fn add_body(count: u32, body: &Body<'_>, most: u32) -> Option<u32>
     requires { count ≤ most }
     ensures { SomeIff result (count + (body.now.args + body.now.result) ≤ most) (count + (body.now.args + body.now.result)) }
 {
@@ -44,7 +44,7 @@ fn add_body(count: u32, body: &Body, most: u32) -> Option<u32>
 }
 
 /// How many numbers the signatures have; none exactly where they are more than `most`.
-pub fn sides_within(bodies: &[Body], most: u32) -> Option<u32>
+pub fn sides_within(bodies: &[Body<'_>], most: u32) -> Option<u32>
     ensures { SomeIff result (sides_count (map body_of bodies.now) ≤ most) (sides_count (map body_of bodies.now)) }
 {
     let mut count: u32 = 0;

@@ -23,7 +23,7 @@ use cost_free::Task;
 use earlier_blocks::Earlier;
 use linear_rows::Row;
 use rule_plan::Body;
-use rule_walk::{Ask, Hint, Kind, Known, Mode, Sides, walk_body};
+use rule_walk::{Ask, Hint, Kind, Known, Mode, Sides};
 use share_normal::NormProgram;
 use std::alloc::{AllocError, Global};
 
@@ -49,7 +49,7 @@ fn hear_bodies(
     alloc: Global,
     known: &Known<'_, Form>,
     mode: Mode,
-    bodies: &[Body],
+    bodies: &[Body<'_>],
     hints: &[Vec<Hint<Form>>],
     collector: &mut Collector,
 ) -> Result<(), AllocError>
@@ -59,15 +59,7 @@ fn hear_bodies(
         ≡ hear_all collector.old (bodies_walked (known_of known.now) (w.mode_of mode) 0 (map body_of bodies.now) (map (λ h. hints_of h.items) hints.now))) }
 {
     for place in 0..bodies.len() {
-        walk_body(
-            alloc,
-            known,
-            &bodies[place].plan,
-            mode,
-            place as u32,
-            &hints[place],
-            collector,
-        )?;
+        bodies[place].walk(alloc, known, mode, place as u32, &hints[place], collector)?;
     }
     Ok(())
 }
@@ -89,7 +81,7 @@ fn hear_all(
     d: u8,
     task: &Task,
     known: &Known<'_, Form>,
-    bodies: &[Body],
+    bodies: &[Body<'_>],
     hints: &[Vec<Hint<Form>>],
     collector: &mut Collector,
 ) -> Result<(), AllocError>
@@ -117,7 +109,7 @@ pub fn heard(
     earlier: &Earlier,
     task: &Task,
     scale: u128,
-    bodies: &[Body],
+    bodies: &[Body<'_>],
     asks: &[Vec<Ask>],
     count: u32,
 ) -> Result<Vec<Option<Row>>, AllocError>

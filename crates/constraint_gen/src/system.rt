@@ -1,15 +1,11 @@
 // The system of a task.
-ghost use Rattle.std.specs.Prelude.{◌≡◌, ◌≤◌, ◌<◌, ◌+◌, ◌^◌, ◌≤ℤ◌, ℕ, pos, unsigned_abs, List, map, length, slice_get, IfOk, IfErr, OnOk, SomeIff};
-ghost use Rattle.std.specs.List.{All};
-ghost use Rattle.annot_types.specs.Program as p;
+ghost use Rattle.std.specs.Prelude.{◌≡◌, ◌≤◌, ◌<◌, ◌+◌, ◌^◌, ◌≤ℤ◌, ℕ, pos, unsigned_abs, List, map, length, IfOk, IfErr, IfSome, OnOk, SomeIff};
 ghost use Rattle.walk_rules.specs.Asked.{asked};
 ghost use Rattle.walk_rules.specs.Kinds.{forms, unknown};
-ghost use Rattle.walk_rules.specs.Jobs as j;
 ghost use Rattle.walk_rules.specs.Solving.{rows_of};
 ghost use Rattle.walk_rules.specs.Tasks as t;
 ghost use Rattle.walk_rules.specs.Tasks.{sides_count, unknowns, given_conditions};
 ghost use Rattle.rule_walk.specs.Asks.{asks_of};
-ghost use Rattle.rule_plan.specs.Within.{FunctionWithin};
 ghost use Rattle.constraint_gen.specs.Given.{all_counts};
 ghost use Rattle.constraint_gen.specs.Made.{HasRows, RowCause, PlanCause, IsProper, JobMade, JobCause};
 ghost use Rattle.constraint_gen.specs.Weights.{weights_of};
@@ -19,7 +15,7 @@ ghost use Rattle.annot_types.specs.Holds.{budget_of};
 ghost use Rattle.cost_free.specs.Read.{task_of, kind_of};
 ghost use Rattle.walk_rules.specs.Systems.{IsTask};
 ghost use Rattle.earlier_blocks.specs.Remembers.{Remembers};
-ghost use Rattle.rule_plan.specs.Read.{program_in, body_of};
+ghost use Rattle.rule_plan.specs.Read.{program_in, body_of, ArePlansIn, ArePlansOf};
 ghost use Rattle.solved_tasks.specs.Told.{bodies_of};
 ghost use Rattle.constraint_gen.specs.Cause.{IsWithin, IsMade, IsCause};
 
@@ -32,7 +28,7 @@ use cost_free::Task;
 use earlier_blocks::Earlier;
 use earlier_blocks::laws::walks_without_cost;
 use linear_rows::System;
-use rule_plan::{Body, PlanFault, bodies};
+use rule_plan::{Body, GroupPlans, PlanFault, next_plans};
 use rule_walk::Ask;
 use share_normal::NormProgram;
 use std::alloc::Global;
@@ -58,36 +54,34 @@ pub fn rows(
         IsTask (program_in program.now) d blocks (task_of task.now) (unsigned_abs scale) →
         IsCause (program_in program.now) d blocks (task_of task.now) (unsigned_abs scale) fault) }
 {
-    match plans(alloc, program, d, earlier, task) {
-        Ok(plans) => rows_by(
-            alloc,
-            program,
-            d,
-            earlier,
-            task,
-            scale.unsigned_abs(),
-            &plans,
-        ),
+    let plans = plans(alloc, program, d, None, task)?;
+    let bodies = plans.over(alloc, earlier)?;
+    match rows_by(alloc, program, d, earlier, task, scale.unsigned_abs(), &bodies) {
+        Ok(made) => Ok(made),
         Err(fault) => Err(fault),
     }
 }
 
-/// The plans of a task's group over the blocks before it. `TooLarge` where a context or a type of its walks
-/// has more than 2000 indices.
+/// The plans of a task's group, where `last` were made last. `TooLarge` where a context or a type of its
+/// walks has more than 2000 indices.
 pub fn plans(
     alloc: Global,
     program: &NormProgram<'_>,
     d: u8,
-    earlier: &Earlier,
+    last: Option<GroupPlans>,
     task: &Task,
-) -> Result<Vec<Body>, GenFault>
+) -> Result<GroupPlans, GenFault>
     requires budget { budget_of d (kind_of task.now.kind) ≤ 4 }
-    ensures plans { IfOk result (λ made. (blocks : List c.Block) → Remembers (program_in program.now) d blocks earlier.now →
-        map body_of made.items ≡ bodies_of (program_in program.now) d blocks (task_of task.now)) }
+    requires last { IfSome last (ArePlansIn (program_in program.now)) }
+    ensures plans { IfOk result (ArePlansOf (program_in program.now) task.now.group (budget_of d (kind_of task.now.kind))) }
     ensures fits { OnOk result (IsWithin (program_in program.now) d (task_of task.now)) }
     ensures fault { IfErr result (PlanCause (IsWithin (program_in program.now) d (task_of task.now))) }
 {
-    planned(alloc, program, earlier, task.group, budget_of(d, task.kind))
+    match next_plans(alloc, program, last, task.group, budget_of(d, task.kind)) {
+        Ok(made) => Ok(made),
+        Err(PlanFault::TooMany) => Err(GenFault::TooLarge(What::Indices)),
+        Err(PlanFault::NoMemory) => Err(GenFault::NoMemory),
+    }
 }
 
 /// The system of a task, as `rows` makes it, by the plans of its group, whose contexts and types have at most
@@ -99,7 +93,7 @@ pub fn rows_by(
     earlier: &Earlier,
     task: &Task,
     scale: u128,
-    plans: &[Body],
+    plans: &[Body<'_>],
 ) -> Result<System, GenFault>
     requires budget { budget_of d (kind_of task.now.kind) ≤ 4 }
     requires indices { IsWithin (program_in program.now) d (task_of task.now) }
@@ -129,7 +123,7 @@ fn of_plans(
     earlier: &Earlier,
     task: &Task,
     scale: u128,
-    planned: &[Body],
+    planned: &[Body<'_>],
 ) -> Result<System, GenFault>
     requires budget { budget_of d (kind_of task.now.kind) ≤ 4 }
     ensures made { IfOk result (λ made. IsProper (job_in (program_in program.now) d earlier.now (map body_of planned.now) (task_of task.now) scale) (weights_of program.now d task.now) →
@@ -150,29 +144,8 @@ fn of_plans(
     }
 }
 
-// The plans of a group.
-fn planned(
-    alloc: Global,
-    program: &NormProgram<'_>,
-    earlier: &Earlier,
-    group: u32,
-    budget: u8,
-) -> Result<Vec<Body>, GenFault>
-    requires low { budget ≤ 4 }
-    ensures plans { IfOk result (λ made. (d : ℕ) (blocks : List c.Block) → Remembers (program_in program.now) d blocks earlier.now →
-        map body_of made.items ≡ map (λ f. j.body_of (program_in program.now) (p.members (program_in program.now) group) blocks budget (slice_get (program_in program.now).funs f)) (p.members (program_in program.now) group)) }
-    ensures fits { OnOk result (All (λ f. FunctionWithin 2000 (slice_get (program_in program.now).funs f) budget) (p.members (program_in program.now) group)) }
-    ensures fault { IfErr result (PlanCause (All (λ f. FunctionWithin 2000 (slice_get (program_in program.now).funs f) budget) (p.members (program_in program.now) group))) }
-{
-    match bodies(alloc, program, earlier, group, budget) {
-        Ok(made) => Ok(made),
-        Err(PlanFault::TooMany) => Err(GenFault::TooLarge(What::Indices)),
-        Err(PlanFault::NoMemory) => Err(GenFault::NoMemory),
-    }
-}
-
 /// How many unknowns there are; none where they are more than 2000.
-pub fn count(planned: &[Body], asks: &[Vec<Ask>]) -> Option<u32>
+pub fn count(planned: &[Body<'_>], asks: &[Vec<Ask>]) -> Option<u32>
     ensures { SomeIff result (sides_count (map body_of planned.now) + all_counts (map (λ a. asks_of a.items) asks.now) ≤ 2000)
         (sides_count (map body_of planned.now) + all_counts (map (λ a. asks_of a.items) asks.now)) }
 {
@@ -188,7 +161,7 @@ fn of_bodies(
     earlier: &Earlier,
     task: &Task,
     scale: u128,
-    planned: &[Body],
+    planned: &[Body<'_>],
     asks: &[Vec<Ask>],
     count: u32,
 ) -> Result<System, GenFault>

@@ -1,10 +1,11 @@
 // What a task is about: the types of its functions, its weights and its target.
 ghost use Rattle.std.specs.Prelude.{◌≡◌, ◌≤◌, ◌^◌, ◌++◌, ◌∷◌, [], cond, pos, map, filter, length, replicate, slice_get, slice_index_or, vec_len, IfOk, OnOk};
-ghost use Rattle.std.specs.List.{All, list_any, range_with_len};
+ghost use Rattle.std.specs.List.{list_any, range_with_len};
 ghost use Rattle.raml_syntax.specs.Read.{ty_of};
 ghost use Rattle.base_poly.specs.Plain.{alike, degrees};
 ghost use Rattle.base_poly.specs.Read.{context_of};
-ghost use Rattle.base_poly.specs.Indices.{index_list};
+ghost use Rattle.base_poly.specs.Indices.{tuples_up_to, index_list};
+ghost use Rattle.index_shift.specs.Tables.{how_many};
 ghost use Rattle.cost_free.specs.Target.{targets};
 ghost use Rattle.cost_free.specs.Read.{task_of, kind_of, ids_of};
 ghost use Rattle.normal_form.specs.Context.{types};
@@ -22,7 +23,7 @@ ghost use Rattle.raml_num.specs.Sums.{NoneNegative};
 ghost use Rattle.constraint_gen.specs.Made.{filled};
 ghost use Rattle.constraint_gen.specs.Weights.{weight_of, positions_in};
 
-use base_poly::{IndexFault, Tuple, indices};
+use base_poly::{IndexFault, Tuple, degrees, indices};
 use cost_free::{Target, TaskKind, targets};
 use raml_syntax::{FunId, Ty};
 use rule_walk::Mode;
@@ -117,8 +118,60 @@ fn weight(degree: u32) -> i128
     }
 }
 
-// The weights of a function's signature.
+// How many of the degrees are this one.
+fn how_many(degree: u8, degrees: &[u8]) -> usize
+    ensures { result ≡ how_many degree degrees.now }
+{
+    let mut count = 0;
+    for other in degrees {
+        if *other == degree {
+            count += 1;
+        }
+    }
+    count
+}
+
+// So many times the number.
+fn append_times(weights: &mut Vec<i128>, number: i128, count: usize) -> Result<(), AllocError>
+    ensures { OnOk result (weights.new.items ≡ weights.old.items ++ replicate count number) }
+{
+    for _ in 0..count {
+        weights.push(number)?;
+    }
+    Ok(())
+}
+
+// The degrees of all tuples of a context at a budget, in no order.
+fn all_degrees(alloc: Global, types: &[Ty], budget: u8) -> Result<Vec<u8>, AllocError>
+    ensures all { IfOk result (λ found. found.items ≡ map degrees (tuples_up_to (context_of types.now) budget)) }
+    ensures count { IfOk result (λ found. vec_len found ≡ r.size (context_of types.now) budget) }
+{
+    match degrees(alloc, types, budget, usize::MAX) {
+        Ok(found) => Ok(found),
+        Err(IndexFault::TooMany | IndexFault::NoMemory) => Err(AllocError),
+    }
+}
+
+// The weights of the tuples with these degrees, by ascending degree.
 fn append_weights(
+    weights: &mut Vec<i128>,
+    types: &[Ty],
+    degrees: &[u8],
+    budget: u8,
+) -> Result<(), AllocError>
+    requires low { budget ≤ 4 }
+    requires degrees { degrees.now ≡ map degrees (tuples_up_to (context_of types.now) budget) }
+    ensures { OnOk result (weights.new.items ≡ weights.old.items ++ map weight_of (index_list (context_of types.now) budget)) }
+{
+    for degree in 0..budget + 1 {
+        let count = how_many(degree, degrees);
+        append_times(weights, weight(u32::from(degree)), count)?;
+    }
+    Ok(())
+}
+
+// The weights of a function's signature.
+fn append_signature(
     alloc: Global,
     weights: &mut Vec<i128>,
     program: &NormProgram<'_>,
@@ -131,32 +184,11 @@ fn append_weights(
         ++ replicate (r.size (result_of (slice_get (program_in program.now).funs fun.0)) budget) (pos 0))) }
 {
     let types = arguments(alloc, program, fun)?;
-    let all = tuples(alloc, &types, budget)?;
-    append_degrees(weights, &all)?;
+    let degrees = all_degrees(alloc, &types, budget)?;
+    append_weights(weights, &types, &degrees, budget)?;
     let result = result_types(alloc, program, fun)?;
-    let count = tuples(alloc, &result, budget)?.len();
-    append_zeros(weights, count)?;
-    Ok(())
-}
-
-// The weights of tuples, of degree at most 4.
-fn append_degrees(weights: &mut Vec<i128>, all: &[Tuple]) -> Result<(), AllocError>
-    requires { All (λ t. degrees t ≤ 4) all.now }
-    ensures { OnOk result (weights.new.items ≡ weights.old.items ++ map weight_of all.now) }
-{
-    for tuple in all {
-        weights.push(weight(tuple.degree()))?;
-    }
-    Ok(())
-}
-
-// So many zeros.
-fn append_zeros(weights: &mut Vec<i128>, count: usize) -> Result<(), AllocError>
-    ensures { OnOk result (weights.new.items ≡ weights.old.items ++ replicate count (pos 0)) }
-{
-    for _ in 0..count {
-        weights.push(0)?;
-    }
+    let count = all_degrees(alloc, &result, budget)?.len();
+    append_times(weights, 0, count)?;
     Ok(())
 }
 
@@ -172,7 +204,7 @@ pub fn sig_weights(
 {
     let mut weights = Vec::new(alloc);
     for fun in functions {
-        append_weights(alloc, &mut weights, program, *fun, budget)?;
+        append_signature(alloc, &mut weights, program, *fun, budget)?;
     }
     Ok(weights)
 }
@@ -323,6 +355,6 @@ pub fn fill(weights: &mut Vec<i128>, count: u32) -> Result<(), AllocError>
 {
     weights.truncate(count as usize);
     let missing = count as usize - weights.len();
-    append_zeros(weights, missing)?;
+    append_times(weights, 0, missing)?;
     Ok(())
 }

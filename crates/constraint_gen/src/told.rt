@@ -167,7 +167,7 @@ fn all_hints(
 }
 
 // The signature of a body.
-fn sig(alloc: Global, solution: &[i128], next: &mut u32, body: &Body) -> Result<Sig, AllocError>
+fn sig(alloc: Global, solution: &[i128], next: &mut u32, body: &Body<'_>) -> Result<Sig, AllocError>
     requires room { next.old + (body.now.args + body.now.result) < 2 ^ 32 }
     ensures told { IfOk result (λ made. sig_of made ≡ t.sig (record { args = given (numbers solution.now) next.old body.now.args; result = given (numbers solution.now) (next.old + body.now.args) body.now.result })) }
     ensures next { OnOk result (next.new ≡ next.old + (body.now.args + body.now.result)) }
@@ -182,7 +182,7 @@ fn sigs(
     alloc: Global,
     solution: &[i128],
     next: &mut u32,
-    bodies: &[Body],
+    bodies: &[Body<'_>],
 ) -> Result<Vec<Sig>, AllocError>
     requires room { next.old + sides_count (map body_of bodies.now) < 2 ^ 32 }
     ensures told { IfOk result (λ made. map sig_of made.items ≡ map t.sig (sides_given (numbers solution.now) next.old (map body_of bodies.now))) }
@@ -198,7 +198,7 @@ fn sigs(
 /// The signatures and hints that numbers stand for, in the order of unknowns, by the plans of a task's group.
 pub fn told_by(
     alloc: Global,
-    plans: &[Body],
+    plans: &[Body<'_>],
     solution: &[i128],
 ) -> Result<(Vec<Sig>, Vec<Vec<Hint>>), AllocError>
     ensures sigs { IfOk result (λ told. map sig_of told.0.items ≡ sigs_told (map body_of plans.now) (map unsigned_abs solution.now)) }
@@ -234,8 +234,11 @@ pub fn hints_of(
     ensures hints { IfOk result (λ told. (blocks : List c.Block) → Remembers (program_in program.now) d blocks earlier.now →
         map hints_of told.1.items ≡ hints_told (bodies_of (program_in program.now) d blocks (task_of task.now)) (map unsigned_abs solution.now)) }
 {
-    match plans(alloc, program, d, earlier, task) {
-        Ok(plans) => told_by(alloc, &plans, solution),
+    match plans(alloc, program, d, None, task) {
+        Ok(plans) => {
+            let bodies = plans.over(alloc, earlier)?;
+            told_by(alloc, &bodies, solution)
+        }
         Err(GenFault::NoMemory) => Err(AllocError),
         Err(GenFault::TooLarge(_) | GenFault::Leaves { .. }) => unreachable!(),
     }

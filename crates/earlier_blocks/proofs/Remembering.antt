@@ -21,8 +21,9 @@ use Rattle.walk_rules.specs.Planned.{is_usable, usable_from}
 use Rattle.walk_rules.specs.Found.{signature, free_signature, free_in, at_budget}
 use Rattle.rule_walk.specs.declared.known.Signed.{Signed}
 use Rattle.rule_walk.specs.Read.{signature_of, no_signature, signed}
-use Rattle.earlier_blocks.specs.declared.usage.Usage.{Usage}
-use Rattle.earlier_blocks.specs.Remembers.{Tables, costs, cost_at, blocks_at, over, Remembers}
+use Rattle.rule_walk.specs.declared.plan.Usage.{Usage}
+use Rattle.earlier_blocks.specs.Remembers.{Tables, costs, cost_at, over, Remembers}
+use Rattle.rule_walk.specs.Filled.{blocks_at}
 use Rattle.earlier_blocks.specs.Sizes.{HasSizes, AreSizes}
 use Rattle.earlier_blocks.specs.Signed.{dense, signatures, all_signed, noted, standing, filled}
 use Rattle.earlier_blocks.specs.Grows.{GrowsFree, GrowsPaying, Grows}

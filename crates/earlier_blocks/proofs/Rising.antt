@@ -22,7 +22,8 @@ use Rattle.walk_rules.specs.Planned.{is_usable, usable_from}
 use Rattle.walk_rules.specs.Found.{listed, signature, free_signature, free_in, at_budget}
 use Rattle.walk_rules.specs.Capped.{cap}
 use Rattle.rule_walk.specs.Read.{signature_of, signed}
-use Rattle.earlier_blocks.specs.Remembers.{Tables, costs, cost_at, blocks_at, over, Remembers, capped_signature, Knows}
+use Rattle.earlier_blocks.specs.Remembers.{Tables, costs, cost_at, over, Remembers, capped_signature, Knows}
+use Rattle.rule_walk.specs.Filled.{blocks_at}
 use Rattle.earlier_blocks.specs.Raised.{raised_numbers, raised_signature, NothingLeaves, NonePasses, Rises}
 
 -- The items before a place are changed.

@@ -1,5 +1,5 @@
 -- What is kept of the blocks before a task.
-use Rattle.std.specs.Prelude.{◌≡◌, ℕ, nat_le, List, [], length, map, filter, slice_index_or, Option, None, option_map}
+use Rattle.std.specs.Prelude.{◌≡◌, ℕ, List, [], length, map, slice_index_or, Option, None, option_map}
 use Rattle.cost_free.specs.declared.task.Meter.{Meter}
 use Rattle.cost_free.specs.declared.task.Meter.TheVariants.{Ticks, Cells, Work}
 use Rattle.annot_types.specs.Program.{Program}
@@ -12,7 +12,8 @@ use Rattle.walk_rules.specs.Capped.{cap}
 use Rattle.rule_walk.specs.declared.known.Signature.{Signature as Given}
 use Rattle.rule_walk.specs.declared.known.Signed.{Signed}
 use Rattle.rule_walk.specs.Read.{signature_of, signed}
-use Rattle.earlier_blocks.specs.declared.usage.Usage.{Usage}
+use Rattle.rule_walk.specs.Filled.{uses_of}
+use Rattle.rule_walk.specs.declared.plan.Usage.{Usage}
 
 -- For each block the signatures that it has without cost, for each function the blocks that have one, by ascending number, and for each meter and each
 -- function the signature that pays.
@@ -34,13 +35,13 @@ free_at t k f = signed f (slice_index_or t.free k [])
 abbrev pub cost_at : Tables → Meter → ℕ → Option Signature
 cost_at t meter f = slice_index_or (map (option_map signature_of) (costs t meter)) f None
 
--- the numbers of the blocks of budget at most d
-abbrev pub blocks_at : ℕ → List Usage → List ℕ
-blocks_at d uses = map (λ (u : Usage). u.block) (filter (λ (u : Usage). nat_le u.budget d) uses)
-
 -- over these blocks, with no group of its own; signatures that pay stand at degree d
 abbrev pub over : Program → ℕ → List Block → Setting
 over P d earlier = record { program = P; earlier = earlier; group = []; sigs = []; budget = d; scale = 1 }
+
+-- They tell which blocks' signatures a call may take, of each function at each budget.
+abbrev pub TellsUses : Program → List Block → Tables → Type 0
+TellsUses P earlier t = (f budget : ℕ) → uses_of t.usable budget f ≡ usable_from 0 P budget f earlier
 
 -- The tables tell of the blocks what the rules find there, in an analysis of degree d. They have a place for each function.
 pub record Remembers (P : Program) (d : ℕ) (earlier : List Block) (t : Tables) : Type 0 where
@@ -48,7 +49,7 @@ pub record Remembers (P : Program) (d : ℕ) (earlier : List Block) (t : Tables)
   pub functions : length t.usable ≡ length P.funs
   pub paying : (meter : Meter) → length (costs t meter) ≡ length P.funs
   pub free : (k f : ℕ) → free_at t k f ≡ free_from (over P d earlier) k f
-  pub usable : (f budget : ℕ) → blocks_at budget (slice_index_or t.usable f []) ≡ usable_from 0 P budget f earlier
+  pub usable : TellsUses P earlier t
   pub cost : (meter : Meter) (f : ℕ) → cost_at t meter f ≡ cost_from (over P d earlier) meter f
 
 -- a signature whose numbers stand at the greatest one of 128 bits where they would leave it

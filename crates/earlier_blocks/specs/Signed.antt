@@ -5,7 +5,7 @@ use Rattle.walk_rules.specs.Numbers.{Signature}
 use Rattle.walk_rules.specs.Found.{listed}
 use Rattle.rule_walk.specs.declared.known.Signed.{Signed}
 use Rattle.rule_walk.specs.Read.{signature_of}
-use Rattle.earlier_blocks.specs.declared.usage.Usage.{Usage}
+use Rattle.rule_walk.specs.declared.plan.Usage.{Usage}
 
 -- a signature of so many positions
 abbrev pub dense : ℕ → ℕ × ℕ → Sig → Signature

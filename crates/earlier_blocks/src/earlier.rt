@@ -1,5 +1,5 @@
 // The blocks before a task, as walks read them.
-ghost use Rattle.std.specs.Prelude.{◌≡◌, ℕ, List, [], ◌∷◌, ◌++◌, length, map, replicate, slice_index_or, None, option_map, IfOk, OnOk, OnErr};
+ghost use Rattle.std.specs.Prelude.{◌≡◌, ℕ, List, [], ◌∷◌, ◌++◌, length, map, replicate, None, option_map, IfOk, OnOk, OnErr};
 ghost use Rattle.call_groups.specs.Read.{ids_of};
 ghost use Rattle.annot_types.specs.Program.{Program, members};
 ghost use Rattle.annot_types.specs.Certificate as c;
@@ -7,6 +7,7 @@ ghost use Rattle.annot_types.specs.Certificate.{sigs_of};
 ghost use Rattle.annot_types.specs.Held.{IfSolved};
 ghost use Rattle.annot_types.specs.Read.{sig_of, body_of, block_of};
 ghost use Rattle.cost_free.specs.Read.{kind_of};
+ghost use Rattle.rule_walk.specs.Filled.{table_of};
 ghost use Rattle.rule_walk.specs.Read.{known_of, sides_of, signature_of};
 ghost use Rattle.earlier_blocks.specs.Remembers.{Tables, free_at, cost_at, Remembers, Knows};
 ghost use Rattle.earlier_blocks.specs.Sizes.{AreSizes};
@@ -18,11 +19,10 @@ ghost use Rattle.earlier_blocks.specs.Raised.{NonePasses, Rises};
 use crate::raising::raise_all;
 use crate::signatures::signatures;
 use crate::tables::{fill_all, note_all};
-use crate::usage::Usage;
 use annot_types::{Block, BlockBody, Sig};
 use cost_free::{Meter, TaskKind};
 use raml_syntax::FunId;
-use rule_walk::{Known, Sides, Signature, Signed};
+use rule_walk::{Known, Sides, Signature, Signed, Usage};
 use std::alloc::{AllocError, Global};
 use std::marker::Model;
 
@@ -190,6 +190,7 @@ impl Earlier {
     /// The blocks of the meter are multiplied. A product that leaves 128 bits stands at the greatest
     /// number of 128 bits, and walks hear the same.
     pub fn raise(&mut self, meter: Meter, factor: u128)
+        ensures uses { self.new.usable ≡ self.old.usable }
         ensures remembers { (P : Program) (degree : ℕ) (earlier : List c.Block) → NonePasses P meter factor earlier →
             Remembers P degree earlier self.old → Remembers P degree (map (raised meter factor) earlier) self.new }
         ensures knows { (P : Program) (degree : ℕ) (earlier : List c.Block) → Remembers P degree earlier self.old → Knows P degree (map (raised meter factor) earlier) self.new }
@@ -207,14 +208,11 @@ impl Earlier {
         }
     }
 
-    /// The blocks whose signatures a call of the function may take multiples of, by ascending number.
-    pub fn usable(&self, fun: FunId) -> &[Usage]
-        ensures { result.now ≡ slice_index_or self.now.usable fun.0 [] }
+    /// For each function the blocks whose signatures a call of it may take multiples of, by ascending number.
+    pub fn uses(&self) -> &[Vec<Usage>]
+        ensures { table_of result.now ≡ self.now.usable }
     {
-        match self.usable.get(fun.0 as usize) {
-            Some(uses) => uses,
-            None => &[],
-        }
+        &self.usable
     }
 
     /// What a walk knows at this scale, in a block of this budget with these signatures of its group.

@@ -7,8 +7,6 @@ pub mod laws;
 mod raising;
 mod signatures;
 mod tables;
-mod usage;
 
 pub use earlier::Earlier;
 pub use signatures::numbers;
-pub use usage::Usage;

@@ -3,8 +3,7 @@ ghost use Rattle.std.specs.Prelude.{◌≡◌, ◌++◌, ◌∷◌, [], map, dro
 ghost use Rattle.rule_walk.specs.Read.{signature_of};
 ghost use Rattle.earlier_blocks.specs.Signed.{signed_of, all_signed, noted, front, standing, filled};
 
-use crate::usage::Usage;
-use rule_walk::{Signature, Signed};
+use rule_walk::{Signature, Signed, Usage};
 use std::alloc::AllocError;
 
 // The block is noted for a function.

@@ -167,7 +167,7 @@ fn told_by_numbers(
     if budget_of(task) > 4 {
         return Err(Fail::new("the budget"));
     }
-    let Ok(_) = plans(alloc, program, 1, earlier, task) else {
+    let Ok(_) = plans(alloc, program, 1, None, task) else {
         return Err(Fail::new("there are no plans"));
     };
     let (sigs, hints) = hints_of(alloc, program, 1, earlier, task, &[5, 3, 2])?;

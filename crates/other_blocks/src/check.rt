@@ -8,14 +8,13 @@ ghost use Rattle.annot_types.specs.Program.{Program};
 ghost use Rattle.annot_types.specs.Certificate as c;
 ghost use Rattle.annot_types.specs.Certificate.{IsSolved};
 ghost use Rattle.annot_types.specs.Held.{before, scale_for};
-ghost use Rattle.annot_types.specs.Holds.{blocks_before};
+ghost use Rattle.annot_types.specs.Holds.{blocks_before, budget_of};
 ghost use Rattle.annot_types.specs.Read as a;
 ghost use Rattle.annot_types.specs.Read.{certificate_of};
 ghost use Rattle.walk_rules.specs.Capped.{cap};
 ghost use Rattle.walk_rules.specs.Faults.{too_great};
-ghost use Rattle.solved_tasks.specs.Told.{bodies_of};
 ghost use Rattle.earlier_blocks.specs.Remembers.{Remembers, Knows};
-ghost use Rattle.rule_plan.specs.Read.{program_in, body_of};
+ghost use Rattle.rule_plan.specs.Read.{program_in, ArePlansOf};
 ghost use Rattle.cert_check.specs.At.{Tells};
 ghost use Rattle.cert_check.specs.Fault.{Leaves};
 ghost use Rattle.cert_check.specs.Finds.{AreWithin};
@@ -30,14 +29,15 @@ use annot_types::{Block, BlockBody, Certificate};
 use cert_check::{At, CertFault, Checked, budget_of, check_planned, scale_for};
 use cost_free::TaskKind;
 use earlier_blocks::Earlier;
-use rule_plan::{Body, PlanFault, bodies};
+use rule_plan::{GroupPlans, PlanFault, group_plans};
 use share_normal::NormProgram;
 use smallvec::SmallVec;
 use std::alloc::Global;
 
 // The blocks of the task's meter are multiplied; none of them is where it is one without cost.
 fn raise_for(earlier: &mut Earlier, kind: TaskKind, times: u128)
-    ensures { (P : Program) (degree : ℕ) (blocks : List c.Block) → Remembers P degree blocks earlier.old → Knows P degree (blocks_before (kind_of kind) times blocks) earlier.new }
+    ensures uses { earlier.new.usable ≡ earlier.old.usable }
+    ensures knows { (P : Program) (degree : ℕ) (blocks : List c.Block) → Remembers P degree blocks earlier.old → Knows P degree (blocks_before (kind_of kind) times blocks) earlier.new }
 {
     match kind {
         TaskKind::Free { .. } => {}
@@ -64,14 +64,14 @@ fn check_over(
     place: usize,
     block: &Block,
     times: u128,
-    plans: &[Body],
+    plans: &GroupPlans,
     earlier: &mut Earlier,
 ) -> Result<(), CertFault>
     requires solved { IsSolved (a.body_of block.now.body) }
     requires place { place ≡ unwrap_or (place_among (task_of block.now.task) (a.blocks_of certificate.now.blocks.items)) 0 }
     requires there { place < length certificate.now.blocks.items }
     requires remembers { Remembers (program_in program.now) certificate.now.degree (before (certificate_of certificate.now) place) earlier.old }
-    requires plans { map body_of plans.now ≡ bodies_of (program_in program.now) certificate.now.degree (before (certificate_of certificate.now) place) (task_of block.now.task) }
+    requires plans { ArePlansOf (program_in program.now) block.now.task.group (budget_of certificate.now.degree (kind_of block.now.task.kind)) plans.now }
     ensures { AreWithin (program_in program.now) (certificate_of certificate.now) (task_of block.now.task) →
         Tells result (ThereFinds (program_in program.now) (certificate_of certificate.now) times (a.block_of block.now)) }
 {
@@ -88,7 +88,10 @@ fn check_over(
     let BlockBody::Solved { sigs, hints } = &block.body else {
         unreachable!()
     };
-    match check_planned(&at, plans, sigs, hints) {
+    let Ok(bodies) = plans.over(alloc, earlier) else {
+        return Err(CertFault::NoMemory);
+    };
+    match check_planned(&at, &bodies, sigs, hints) {
         Ok(_) => Ok(()),
         Err(fault) => Err(fault),
     }
@@ -114,7 +117,7 @@ fn check_there(
         return Err(CertFault::NoMemory);
     };
     let budget = budget_of(certificate.degree, block.task.kind);
-    match bodies(alloc, program, &earlier, block.task.group, budget) {
+    match group_plans(alloc, program, block.task.group, budget) {
         Err(PlanFault::TooMany) => Err(CertFault::TooLarge { task: block.task }),
         Err(PlanFault::NoMemory) => Err(CertFault::NoMemory),
         Ok(plans) => check_over(

@@ -14,16 +14,12 @@ use Rattle.walk_rules.specs.Plan as p
 use Rattle.walk_rules.specs.Tasks as t
 use Rattle.walk_rules.specs.Jobs as j
 use Rattle.walk_rules.specs.Planned.{plan as plan_in}
-use Rattle.rule_plan.specs.declared.body.Body.{Body}
+use Rattle.rule_plan.specs.declared.body.FunctionPlan.{FunctionPlan}
 use Rattle.rule_plan.specs.Down.{down}
 use Rattle.rule_plan.specs.Given.{Given, planned, ArePlans}
-use Rattle.annot_types.specs.Certificate.{Block}
 use Rattle.annot_types.specs.Program.{members}
-use Rattle.cost_free.specs.Blocked.{row}
-use Rattle.call_groups.specs.Groups.{Grouping}
 use Rattle.share_normal.specs.Program.{Kept, norm_in}
-use Rattle.earlier_blocks.specs.Remembers.{Tables, Remembers}
-use Rattle.rule_plan.specs.Read.{program_in, body_of, IsBody, AreBodies}
+use Rattle.rule_plan.specs.Read.{program_in, function_of, group_bodies, IsBody, AreBodies}
 
 the_some : {X : Type 0} (x y : X) → Some x ≡ Some y → x ≡ y
 the_some x y h = cc
@@ -46,29 +42,29 @@ no_result (A ∷ As) [] k h = refl
 no_result (A ∷ As) (f ∷ gs) zero h = absurd (omega (arith, h))
 no_result (A ∷ As) (f ∷ gs) (suc k) h = no_result As gs k (omega (arith, h))
 
-pub none_is : (G : Given) (b : Body) → body_of b ≡ record { plan = p.Ends 0 0 []; args = 0; result = 0 } → IsBody G None b
-none_is G b h = record { is = λ P d blocks e r. h }
+pub none_is : (G : Given) (b : FunctionPlan) → function_of b ≡ record { plan = p.Ends 0 0 []; args = 0; result = 0 } → IsBody G None b
+none_is G b h = record { is = λ P e. h }
 
 first_down : {X : Type 0} (f : ℕ → X) (d : ℕ) → slice_get (down f d) 0 ≡ Some (f d)
 first_down f zero = refl
 first_down f (suc d) = refl
 
-pub some_is : (G : Given) (A : Ty) (g : NormFun) (b : Body) (N : Context) (T : Type') (made : List p.Plan) → N ≡ (fun_of A g).params → T ≡ (fun_of A g).result → ArePlans G (fun_of A g).body N T made →
-    slice_get made 0 ≡ Some (body_of b).plan → b.args ≡ size_of (types (fun_of A g).params) G.top → b.result ≡ size_of ((fun_of A g).result ∷ []) G.top → IsBody G (Some (fun_of A g)) b
+pub some_is : (G : Given) (A : Ty) (g : NormFun) (b : FunctionPlan) (N : Context) (T : Type') (made : List p.Plan) → N ≡ (fun_of A g).params → T ≡ (fun_of A g).result → ArePlans G (fun_of A g).body N T made →
+    slice_get made 0 ≡ Some (function_of b).plan → b.args ≡ size_of (types (fun_of A g).params) G.top → b.result ≡ size_of ((fun_of A g).result ∷ []) G.top → IsBody G (Some (fun_of A g)) b
 some_is G A g b N T made n r' are first args result = record {
-  is = λ P d blocks e r.
-      let plan : (body_of b).plan ≡ (j.body_of P G.group blocks G.top (Some (fun_of A g))).plan =
-      the_some _ _ (sym first ∙ ap (λ l. slice_get l 0) (are.are P d blocks e r) ∙ first_down (planned G (fun_of A g).body N T P blocks) G.top
-      ∙ (λ i. Some (plan_in P G.group blocks G.top (fun_of A g).body (n i) (r' i) G.top))) in
+  is = λ P e.
+      let plan : (function_of b).plan ≡ (j.body_of P G.group [] G.top (Some (fun_of A g))).plan =
+      the_some _ _ (sym first ∙ ap (λ l. slice_get l 0) (are.are P e) ∙ first_down (planned G (fun_of A g).body N T P) G.top
+      ∙ (λ i. Some (plan_in P G.group [] G.top (fun_of A g).body (n i) (r' i) G.top))) in
       λ i. record { plan = plan i; args = args i; result = result i };
 }
 
 -- one more
-pub bodies_more : (G : Given) (f : ℕ) (fs : List ℕ) (b : Body) (bs : List Body) → AreBodies G fs bs → IsBody G (slice_get G.funs f) b → AreBodies G (fs ++ f ∷ []) (bs ++ b ∷ [])
+pub bodies_more : (G : Given) (f : ℕ) (fs : List ℕ) (b : FunctionPlan) (bs : List FunctionPlan) → AreBodies G fs bs → IsBody G (slice_get G.funs f) b → AreBodies G (fs ++ f ∷ []) (bs ++ b ∷ [])
 bodies_more G f fs b bs all one = record {
-  are = λ P d blocks e r.
-      let F : ℕ → t.Body = λ f. j.body_of P G.group blocks G.top (slice_get G.funs f) in
-      joined body_of bs b ∙ (λ i. all.are P d blocks e r i ++ one.is P d blocks e r i ∷ []) ∙ sym (joined F fs f);
+  are = λ P e.
+      let F : ℕ → t.Body = λ f. j.body_of P G.group [] G.top (slice_get G.funs f) in
+      joined function_of bs b ∙ (λ i. all.are P e i ++ one.is P e i ∷ []) ∙ sym (joined F fs f);
 }
   where
     joined : {X Y : Type 0} (f : X → Y) (xs : List X) (x : X) → map f (xs ++ x ∷ []) ≡ map f xs ++ f x ∷ []
@@ -76,7 +72,7 @@ bodies_more G f fs b bs all one = record {
     joined f (y ∷ xs) x = ap (λ l. f y ∷ l) (joined f xs x)
 
 pub no_bodies : (G : Given) → AreBodies G [] []
-no_bodies G = record { are = λ P d blocks e r. refl }
+no_bodies G = record { are = λ P e. refl }
 
 -- Functions of a group, one by one
 
@@ -95,13 +91,13 @@ ids_all [] (suc k) h = refl
 ids_all (f ∷ group) zero h = absurd (omega (arith, h))
 ids_all (f ∷ group) (suc k) h = ap (λ l. f.0 ∷ l) (ids_all group k (omega (arith, h)))
 
-pub bodies_step : (G : Given) (group : List FunId) (k : ℕ) (d : FunId) (b : Body) (old new : List Body) → k < length group → new ≡ old ++ b ∷ [] →
+pub bodies_step : (G : Given) (group : List FunId) (k : ℕ) (d : FunId) (b : FunctionPlan) (old new : List FunctionPlan) → k < length group → new ≡ old ++ b ∷ [] →
     AreBodies G (ids_of (take k group)) old → IsBody G (slice_get G.funs (slice_index_or group k d).0) b → AreBodies G (ids_of (take (k + 1) group)) new
 bodies_step G group k d b old new h n all one =
     let f = (slice_index_or group k d).0 in
     subst (λ fs. AreBodies G fs new) (sym (ids_more group k d h)) (subst (AreBodies G (ids_of (take k group) ++ f ∷ [])) (sym n) (bodies_more G f (ids_of (take k group)) b old all one))
 
-pub bodies_all : (G : Given) (group : List FunId) (k : ℕ) (bs : List Body) → length group ≤ k → AreBodies G (ids_of (take k group)) bs → AreBodies G (ids_of group) bs
+pub bodies_all : (G : Given) (group : List FunId) (k : ℕ) (bs : List FunctionPlan) → length group ≤ k → AreBodies G (ids_of (take k group)) bs → AreBodies G (ids_of group) bs
 bodies_all G group k bs h all = subst (λ fs. AreBodies G fs bs) (ids_all group k h) all
 
 single : (P : ℕ → Type 0) (x : ℕ) → P x → All P (x ∷ [])
@@ -128,15 +124,12 @@ module _ (P : ℕ → Type 0) where
   pub checked_at : (group : List FunId) (k : ℕ) (d : FunId) → k < length group → All P (ids_of group) → P (slice_index_or group k d).0
   checked_at group k d h all = subst P (item group k d h) (all k d.0 (longer group k h))
 
-pub of_program : (kept : Kept) (rs : List Ty) (fs : List NormFun) (gs : Grouping) (tables : Tables) (group budget : ℕ) (ids : List ℕ) (bs : List Body) →
-    fs ≡ kept.functions → rs ≡ kept.results → gs ≡ kept.groups → ids ≡ row gs.list group →
-    AreBodies (record { funs = funs_of rs fs; group = ids; top = budget; tables = tables }) ids bs →
-    (d : ℕ) (blocks : List Block) → Remembers (program_in kept) d blocks tables →
-    map body_of bs
-    ≡ map (λ f. j.body_of (program_in kept) (members (program_in kept) group) blocks budget (slice_get (program_in kept).funs f)) (members (program_in kept) group)
-of_program kept rs fs gs tables group budget ids bs ef er eg ei all d blocks remembers =
+pub of_program : (kept : Kept) (rs : List Ty) (fs : List NormFun) (group budget : ℕ) (ids : List ℕ) (bs : List FunctionPlan) →
+    fs ≡ kept.functions → rs ≡ kept.results → ids ≡ members (program_in kept) group →
+    AreBodies (record { funs = funs_of rs fs; group = ids; top = budget }) ids bs →
+    map function_of bs ≡ group_bodies (program_in kept) group [] budget
+of_program kept rs fs group budget ids bs ef er same all =
     let funs : funs_of rs fs ≡ norm_in kept = λ i. funs_of (er i) (ef i) in
-    let same : ids ≡ members (program_in kept) group = ei ∙ (λ i. row ((eg i).list) group) in
-    let first = subst (λ z. AreBodies (record { funs = z; group = ids; top = budget; tables = tables }) ids bs) funs all in
-    let both = subst (λ z. AreBodies (record { funs = norm_in kept; group = z; top = budget; tables = tables }) z bs) same first in
-    both.are (program_in kept) d blocks refl remembers
+    let first = subst (λ z. AreBodies (record { funs = z; group = ids; top = budget }) ids bs) funs all in
+    let both = subst (λ z. AreBodies (record { funs = norm_in kept; group = z; top = budget }) z bs) same first in
+    both.are (program_in kept) refl

@@ -9,3 +9,4 @@ pub mod Formed
 pub mod Rcs
 pub mod Shapes
 pub mod Grouped
+pub mod Over

@@ -20,10 +20,8 @@ use Rattle.annot_types.specs.Carried.{to, marks, tuples, operand_places}
 use Rattle.annot_types.specs.Rows.{size as size_of}
 use Rattle.annot_types.specs.System.{args_of}
 use Rattle.walk_rules.specs.Plan as p
-use Rattle.walk_rules.specs.Planned.{step, entries_of, operand_entries, part_steps, let_part, budgets, called, usable_from, lower}
+use Rattle.walk_rules.specs.Planned.{step, entries_of, operand_entries, part_steps, let_part, budgets, called, lower}
 use Rattle.rule_walk.specs.Read.{plans}
-use Rattle.earlier_blocks.specs.Remembers.{Remembers, blocks_at}
-use Rattle.earlier_blocks.specs.declared.usage.Usage.{Usage}
 use Rattle.raml_syntax.specs.declared.ty.Ty.{Ty}
 use Rattle.base_poly.specs.Read.{context_of}
 use Rattle.rule_plan.specs.Change.{step_at}
@@ -69,9 +67,9 @@ range_entries c As Bs top d h =
     in_range (size_of As) (λ n. restricted n (size_of Bs d) (entries_of c As top Bs top)) (λ b. entries_of c As b Bs d) 0 (suc top) (λ b l. lower_entries c As Bs b top d top (omega (arith, l)) h)
     ∙ ap (λ m. map (λ b. entries_of c As b Bs d) (range_with_len 0 (suc m))) (omega (arith, h))
 
-called_is : (G : Given) (P : Program) (n : ℕ) (blocks : List Block) (C : Context) (f : ℕ) (xs : List ℕ) (T : Type') (c : Callee) (uses : List Usage) (d : ℕ) →
-    P.funs ≡ G.funs → Remembers P n blocks G.tables → IsCallee G C f xs T c → uses ≡ slice_index_or G.tables.usable f [] → d ≤ G.top → called_at c uses d ≡ called P G.group blocks G.top C f xs T d
-called_is G P n blocks C f xs T c uses d e r is u low =
+called_is : (G : Given) (P : Program) (C : Context) (f : ℕ) (xs : List ℕ) (T : Type') (c : Callee) (d : ℕ) →
+    P.funs ≡ G.funs → IsCallee G C f xs T c → d ≤ G.top → called_at c d ≡ called P G.group [] G.top C f xs T d
+called_is G P C f xs T c d e is low =
     let context : at_budget c.context.items d ≡ size_of (types C) d = ap (λ s. at_budget s d) is.context ∙ at_up (size_of (types C)) G.top d low in
     let result : at_budget c.result.items d ≡ size_of (T ∷ []) d = ap (λ s. at_budget s d) is.result ∙ at_up (size_of (T ∷ [])) G.top d low in
     let As = args_of (slice_get G.funs f) in
@@ -81,15 +79,14 @@ called_is G P n blocks C f xs T c uses d e r is u low =
     ∙ (λ i. map (λ b. operand_entries C xs (args_of (slice_get (sym e i) f)) b d) (budgets G.top d)) in
     let from_result : map (λ n. restricted n (at_budget c.result.items d) c.same.items) c.result.items ≡ map (λ b. entries_of (to (λ t. t)) (T ∷ []) b (T ∷ []) d) (budgets G.top d) =
     (λ i. map (λ n. restricted n (result i) (is.same i)) (is.result i)) ∙ range_entries (to (λ t. t)) (T ∷ []) (T ∷ []) G.top d low in
-    let used : blocks_at d uses ≡ usable_from 0 P d f blocks = ap (blocks_at d) u ∙ r.usable f d in
-    λ i. record { function = is.function i; own = is.own i; usable = used i; args = context i; result = result i; args_from = from_args i; result_from = from_result i }
+    λ i. record { function = is.function i; own = is.own i; usable = []; args = context i; result = result i; args_from = from_args i; result_from = from_result i }
 
-pub calls_are : (G : Given) (k : ℕ) (C : Context) (f : ℕ) (xs : List ℕ) (T : Type') (c : Callee) (uses : List Usage) (made : List p.Plan) →
-    made ≡ map (λ d. p.Calls k (called_at c uses d)) (down (λ d. d) G.top) → IsCallee G C f xs T c → uses ≡ slice_index_or G.tables.usable f [] → ArePlans G (n.Call k f xs) C T made
-calls_are G k C f xs T c uses made h is u = record {
-  are = λ P d blocks e r.
-      h ∙ map_down (λ d. p.Calls k (called_at c uses d)) (λ d. d) G.top
-      ∙ down_same (λ d. p.Calls k (called_at c uses d)) (planned G (n.Call k f xs) C T P blocks) G.top (λ b l. ap (p.Calls k) (called_is G P d blocks C f xs T c uses b e r is u l));
+pub calls_are : (G : Given) (k : ℕ) (C : Context) (f : ℕ) (xs : List ℕ) (T : Type') (c : Callee) (made : List p.Plan) →
+    made ≡ map (λ d. p.Calls k (called_at c d)) (down (λ d. d) G.top) → IsCallee G C f xs T c → ArePlans G (n.Call k f xs) C T made
+calls_are G k C f xs T c made h is = record {
+  are = λ P e.
+      h ∙ map_down (λ d. p.Calls k (called_at c d)) (λ d. d) G.top
+      ∙ down_same (λ d. p.Calls k (called_at c d)) (planned G (n.Call k f xs) C T P) G.top (λ b l. ap (p.Calls k) (called_is G P C f xs T c b e is l));
 }
 
 -- Lets
@@ -195,15 +192,15 @@ pub lets_are : (G : Given) (k x : ℕ) (A : Type') (a b : Norm) (C : Context) (T
     made ≡ each_down (λ d e. p.Lets k (parts_at c d) (plans (drop (G.top - d) firsts)) (at_budget c.sizes.rest.items d) e) G.top rests →
     IsCut a C A G.top c → ArePlans G a (inners a C) A firsts → ArePlans G b (others a C ++ (x, A) ∷ []) T rests → ArePlans G (n.Let k x A a b) C T made
 lets_are G k x A a b C T c firsts rests made h is fs rs = record {
-  are = λ P m blocks e r.
+  are = λ P e.
       let F : ℕ → p.Plan → p.Plan = λ d e. p.Lets k (parts_at c d) (plans (drop (G.top - d) firsts)) (at_budget c.sizes.rest.items d) e in
-      let f = planned G a (inners a C) A P blocks in
-      let g = planned G b (others a C ++ (x, A) ∷ []) T P blocks in
-      h ∙ ap (each_down F G.top) (rs.are P m blocks e r) ∙ each_is F g G.top
-      ∙ down_same (λ d. F d (g d)) (planned G (n.Let k x A a b) C T P blocks) G.top
+      let f = planned G a (inners a C) A P in
+      let g = planned G b (others a C ++ (x, A) ∷ []) T P in
+      h ∙ ap (each_down F G.top) (rs.are P e) ∙ each_is F g G.top
+      ∙ down_same (λ d. F d (g d)) (planned G (n.Let k x A a b) C T P) G.top
       (λ d low.
       let first : plans (drop (G.top - d) firsts) ≡ lower f d =
-      ap (λ l. plans (drop (G.top - d) l)) (fs.are P m blocks e r) ∙ ap (λ t. plans (drop (G.top - d) (down f t))) (omega (arith, low)) ∙ ap plans (drop_down f (G.top - d) d) ∙ lower_is f d in
+      ap (λ l. plans (drop (G.top - d) l)) (fs.are P e) ∙ ap (λ t. plans (drop (G.top - d) (down f t))) (omega (arith, low)) ∙ ap plans (drop_down f (G.top - d) d) ∙ lower_is f d in
       let rest : at_budget c.sizes.rest.items d ≡ size_of (types (others a C ++ (x, A) ∷ [])) d =
       ap (λ s. at_budget s d) is.rest_sizes ∙ at_up (size_of (types (others a C) ++ A ∷ [])) G.top d low ∙ ap (λ l. size_of l d) (sym (bound_types (others a C) x A)) in
       λ i. p.Lets k (parts_are a C A G.top c is d low i) (first i) (rest i) (g d));

@@ -1,5 +1,5 @@
 -- Plans of a form at all budgets.
-use Rattle.std.specs.Prelude.{◌≡◌, ℕ, List, map}
+use Rattle.std.specs.Prelude.{◌≡◌, ℕ, List, [], map}
 use Rattle.std.specs.Global.{Global}
 use Rattle.std.specs.declared.boxed.Box.{Box}
 use Rattle.raml_syntax.specs.Tree.{Type'}
@@ -8,37 +8,34 @@ use Rattle.normal_form.specs.Norm.{Norm, NormProg}
 use Rattle.normal_form.specs.Context.{Context}
 use Rattle.normal_form.specs.Read.{funs_of}
 use Rattle.annot_types.specs.Program.{Program}
-use Rattle.annot_types.specs.Certificate.{Block}
 use Rattle.walk_rules.specs.Plan as p
 use Rattle.walk_rules.specs.Planned.{plan}
 use Rattle.rule_walk.specs.Read.{plan_of}
 use Rattle.rule_walk.specs.declared.plan.Plan.{Plan}
-use Rattle.earlier_blocks.specs.Remembers.{Tables, Remembers}
 use Rattle.rule_plan.specs.Down.{down}
 use Rattle.rule_plan.specs.Change.{step_at}
 use Rattle.rule_plan.specs.declared.change.Move.{Move}
 use Rattle.rule_plan.specs.declared.env.Env.{Env}
 
--- what plans are made over: functions, a group of them, the greatest budget, and the blocks before
+-- what plans are made over: functions, a group of them, and the greatest budget
 pub record Given : Type 0 where
   pub funs : NormProg
   pub group : List ℕ
   pub top : ℕ
-  pub tables : Tables
 
 abbrev pub given_of : Env → Given
-given_of env = record { funs = funs_of env.results.now env.functions.now; group = ids_of env.group.now; top = env.top; tables = env.earlier.now }
+given_of env = record { funs = funs_of env.results.now env.functions.now; group = ids_of env.group.now; top = env.top }
 
 abbrev pub made_of : List (Box Plan Global) → List p.Plan
 made_of made = map (λ (e : Box Plan Global). plan_of e.value) made
 
--- they are what there is at each budget, whatever the program's groups and its blocks
-pub record AreDown (G : Given) (F : Program → List Block → ℕ → p.Plan) (made : List p.Plan) : Type 0 where
-  pub are : (P : Program) (d : ℕ) (blocks : List Block) → P.funs ≡ G.funs → Remembers P d blocks G.tables → made ≡ down (F P blocks) G.top
+-- they are what there is at each budget, whatever the program's groups
+pub record AreDown (G : Given) (F : Program → ℕ → p.Plan) (made : List p.Plan) : Type 0 where
+  pub are : (P : Program) → P.funs ≡ G.funs → made ≡ down (F P) G.top
 
--- the plan of a form
-abbrev pub planned : Given → Norm → Context → Type' → Program → List Block → ℕ → p.Plan
-planned G e C T P blocks = plan P G.group blocks G.top e C T
+-- the plan of a form, over no blocks
+abbrev pub planned : Given → Norm → Context → Type' → Program → ℕ → p.Plan
+planned G e C T P = plan P G.group [] G.top e C T
 
 abbrev pub ArePlans : Given → Norm → Context → Type' → List p.Plan → Type 0
 ArePlans G e C T made = AreDown G (planned G e C T) made

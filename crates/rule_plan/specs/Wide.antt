@@ -14,8 +14,6 @@ use Rattle.annot_types.specs.Rows.{size as size_of}
 use Rattle.annot_types.specs.System.{args_of}
 use Rattle.walk_rules.specs.Plan as p
 use Rattle.walk_rules.specs.Planned.{place_in, entries_of, operand_entries}
-use Rattle.earlier_blocks.specs.Remembers.{blocks_at}
-use Rattle.earlier_blocks.specs.declared.usage.Usage.{Usage}
 use Rattle.rule_plan.specs.Down.{up}
 use Rattle.rule_plan.specs.Given.{Given}
 use Rattle.rule_plan.specs.Change.{step_at}
@@ -37,11 +35,11 @@ constructor_steps opening types wide d =
     ∷ []
 
 -- a call at a budget
-abbrev pub called_at : Callee → List Usage → ℕ → p.Called
-called_at c uses d = record {
+abbrev pub called_at : Callee → ℕ → p.Called
+called_at c d = record {
   function = c.function;
   own = c.own;
-  usable = blocks_at d uses;
+  usable = [];
   args = at_budget c.context.items d;
   result = at_budget c.result.items d;
   args_from = map (λ n. restricted n (at_budget c.context.items d) c.operands.items) c.args.items;

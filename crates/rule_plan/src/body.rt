@@ -1,17 +1,20 @@
 // Plans of the bodies of a group.
-ghost use Rattle.std.specs.Prelude.{◌≡◌, ◌≤◌, ℕ, List, [], map, slice_get, Some, IfOk, OnOk, IsErrOf};
+ghost use Rattle.std.specs.Prelude.{◌≡◌, ◌≤◌, ℕ, List, [], map, slice_get, Some, IfOk, IfSome, OnOk, IsErrOf};
 ghost use Rattle.std.specs.List.{All};
 ghost use Rattle.call_groups.specs.Read.{ids_of};
 ghost use Rattle.normal_form.specs.Read.{fun_of, funs_of};
 ghost use Rattle.annot_types.specs.Certificate as c;
 ghost use Rattle.cost_free.specs.Blocked.{row};
-ghost use Rattle.annot_types.specs.Program.{members};
+ghost use Rattle.annot_types.specs.Program.{Program, members};
 ghost use Rattle.walk_rules.specs.Plan.{Ends};
-ghost use Rattle.rule_walk.specs.Read.{plan_of};
-ghost use Rattle.walk_rules.specs.Jobs as j;
-ghost use Rattle.earlier_blocks.specs.Remembers.{Remembers};
+ghost use Rattle.walk_rules.specs.Asked.{asked};
+ghost use Rattle.rule_walk.specs.Asks.{asks_of};
+ghost use Rattle.rule_walk.specs.Place.{body_walked};
+ghost use Rattle.rule_walk.specs.Read.{plan_of, hints_of, known_of, mode_of};
+ghost use Rattle.rule_walk.specs.Filled.{table_of};
+ghost use Rattle.earlier_blocks.specs.Remembers.{TellsUses};
 ghost use Rattle.rule_plan.specs.Given.{given_of, made_of};
-ghost use Rattle.rule_plan.specs.Read.{program_in, body_of, AreBodies, IsBody};
+ghost use Rattle.rule_plan.specs.Read.{program_in, function_of, over_of, body_of, group_bodies, GroupWithin, ArePlansIn, ArePlansOf, AreBodies, IsBody};
 ghost use Rattle.rule_plan.specs.Within.{FunctionWithin};
 
 use crate::context;
@@ -24,17 +27,101 @@ use call_groups::Groups;
 use earlier_blocks::Earlier;
 use normal_form::NormFun;
 use raml_syntax::{FunId, Ty};
-use rule_walk::Plan;
+use rule_walk::{Ask, Hint, Judge, Kind, Known, Mode, Plan, Usage, asked, walk_body};
 use share_normal::{NormFuns, NormProgram};
 use std::alloc::{AllocError, Global};
 
-/// A function of a group: the plan of its body, and how many positions its arguments and its result
-/// have.
+/// The plan of a function's body, and how many positions its arguments and its result have.
 #[derive(Drop)]
-pub struct Body {
+pub struct FunctionPlan {
     pub plan: Plan,
     pub args: usize,
     pub result: usize,
+}
+
+/// The plans of the functions of a group at a budget. Which signatures of earlier blocks their calls may
+/// take is told beside them, so that they serve for all tasks of the group at this budget.
+#[derive(Drop)]
+pub struct GroupPlans {
+    pub group: u32,
+    pub budget: u8,
+    pub functions: Vec<FunctionPlan>,
+}
+
+/// A function of a group over earlier blocks: the plan of its body at a budget, for each function of the
+/// program the blocks whose signatures its calls may take, and how many positions its arguments and its
+/// result have.
+#[derive(Drop)]
+pub struct Body<'k> {
+    pub plan: &'k Plan,
+    pub budget: usize,
+    pub uses: &'k [Vec<Usage>],
+    pub args: usize,
+    pub result: usize,
+}
+
+impl Body<'_> {
+    /// The hints that its walk asks for.
+    pub fn asked(&self, alloc: Global) -> Result<Vec<Ask>, AllocError>
+        ensures { IfOk result (λ asks. asks_of asks.items ≡ asked (body_of self.now).plan) }
+    {
+        asked(alloc, self.plan, self.budget, self.uses)
+    }
+
+    /// Hears the conditions of its walk, with its signature at this place of the group, and gives the
+    /// hints that they leave.
+    pub fn walk<'h, T: Kind, J: Judge<T>>(
+        &self,
+        alloc: Global,
+        known: &Known<'_, T>,
+        mode: Mode,
+        place: u32,
+        hints: &'h [Hint<T>],
+        judge: &mut J,
+    ) -> Result<&'h [Hint<T>], AllocError>
+        ensures heard { OnOk result (J.verdict judge.new
+            ≡ J.after (J.verdict judge.old) (body_walked T.kind (known_of known.now) (body_of self.now).plan (mode_of mode) place (hints_of hints.now)).found) }
+        ensures left { IfOk result (λ out. hints_of out.now
+            ≡ (body_walked T.kind (known_of known.now) (body_of self.now).plan (mode_of mode) place (hints_of hints.now)).left) }
+    {
+        walk_body(alloc, known, self.plan, mode, place, hints, judge)
+    }
+}
+
+impl GroupPlans {
+    /// The same over these blocks.
+    pub fn over<'k>(
+        &'k self,
+        alloc: Global,
+        earlier: &'k Earlier,
+    ) -> Result<Vec<Body<'k>>, AllocError>
+        ensures { IfOk result (λ made. (P : Program) (group budget : ℕ) (blocks : List c.Block) → ArePlansOf P group budget self.now → TellsUses P blocks earlier.now →
+            map body_of made.items ≡ group_bodies P group blocks budget) }
+    {
+        over(alloc, &self.functions, self.budget as usize, earlier.uses())
+    }
+}
+
+// Functions whose calls may take signatures of these blocks.
+fn over<'k>(
+    alloc: Global,
+    functions: &'k [FunctionPlan],
+    budget: usize,
+    uses: &'k [Vec<Usage>],
+) -> Result<Vec<Body<'k>>, AllocError>
+    ensures { IfOk result (λ made. map body_of made.items ≡ map (over_of (table_of uses.now) budget) functions.now) }
+{
+    let mut made = Vec::with_capacity(alloc, functions.len())?;
+    for function in functions {
+        made.push(Body {
+            plan: &function.plan,
+            budget,
+            uses,
+            args: function.args,
+            result: function.result,
+        })?;
+    }
+    Ok(made)
 }
 
 // The functions of a group; none where there is no such group.
@@ -104,7 +191,7 @@ fn greatest(plans: Vec<Box<Plan>>) -> Result<Plan, AllocError>
 }
 
 // A function with its plan.
-fn with_plan(env: &Env<'_>, function: &NormFun, ty: &Ty) -> Result<Body, AllocError>
+fn with_plan(env: &Env<'_>, function: &NormFun, ty: &Ty) -> Result<FunctionPlan, AllocError>
     requires low { env.now.top ≤ 4 }
     ensures { IfOk result (λ made. IsBody (given_of env.now) (Some (fun_of ty.now function.now)) made) }
 {
@@ -114,14 +201,14 @@ fn with_plan(env: &Env<'_>, function: &NormFun, ty: &Ty) -> Result<Body, AllocEr
     let plan = greatest(made)?;
     let args = size(env.alloc, &types, env.top)?;
     let result = size(env.alloc, &alone, env.top)?;
-    Ok(Body { plan, args, result })
+    Ok(FunctionPlan { plan, args, result })
 }
 
 // No plan of a function that there is not.
-fn without_plan(env: &Env<'_>) -> Body
-    ensures { body_of result ≡ record { plan = Ends 0 0 []; args = 0; result = 0 } }
+fn without_plan(env: &Env<'_>) -> FunctionPlan
+    ensures { function_of result ≡ record { plan = Ends 0 0 []; args = 0; result = 0 } }
 {
-    Body {
+    FunctionPlan {
         plan: Plan::Ends(0, 0, Vec::new(env.alloc)),
         args: 0,
         result: 0,
@@ -130,7 +217,7 @@ fn without_plan(env: &Env<'_>) -> Body
 
 // A function of the group.
 #[tactic(auto, using(crate::proofs::Grouped::no_function, crate::proofs::Grouped::no_result, crate::proofs::Grouped::function_there, crate::proofs::Grouped::none_is))]
-fn body_at(env: &Env<'_>, fun: FunId) -> Result<Body, AllocError>
+fn body_at(env: &Env<'_>, fun: FunId) -> Result<FunctionPlan, AllocError>
     requires low { env.now.top ≤ 4 }
     ensures { IfOk result (λ made. IsBody (given_of env.now) (slice_get (given_of env.now).funs fun.0) made) }
 {
@@ -145,7 +232,7 @@ fn body_at(env: &Env<'_>, fun: FunId) -> Result<Body, AllocError>
 }
 
 // All of them.
-fn bodies_of(env: &Env<'_>) -> Result<Vec<Body>, AllocError>
+fn bodies_of(env: &Env<'_>) -> Result<Vec<FunctionPlan>, AllocError>
     requires low { env.now.top ≤ 4 }
     ensures { IfOk result (λ made. AreBodies (given_of env.now) (ids_of env.now.group.now) made.items) }
 {
@@ -157,36 +244,67 @@ fn bodies_of(env: &Env<'_>) -> Result<Vec<Body>, AllocError>
     Ok(made)
 }
 
-/// The plans of the functions of a group at a budget, over the blocks before.
-///
-/// `TooMany` where a context or a type that a walk comes to has more than 2000 indices at its budget.
-pub fn bodies(
+// The plans of these functions, which are those of the group.
+fn planned(
     alloc: Global,
     program: &NormProgram<'_>,
-    earlier: &Earlier,
-    group: u32,
+    functions: &[FunId],
     budget: u8,
-) -> Result<Vec<Body>, PlanFault>
+) -> Result<Vec<FunctionPlan>, AllocError>
     requires low { budget ≤ 4 }
-    ensures plans { IfOk result (λ made. (d : ℕ) (blocks : List c.Block) → Remembers (program_in program.now) d blocks earlier.now →
-        map body_of made.items ≡ map (λ f. j.body_of (program_in program.now) (members (program_in program.now) group) blocks budget (slice_get (program_in program.now).funs f)) (members (program_in program.now) group)) }
-    ensures fits { OnOk result (All (λ f. FunctionWithin 2000 (slice_get (program_in program.now).funs f) budget) (members (program_in program.now) group)) }
-    ensures many { IsErrOf result PlanFault.TooMany → All (λ f. FunctionWithin 2000 (slice_get (program_in program.now).funs f) budget) (members (program_in program.now) group) → ⊥ }
+    ensures { IfOk result (λ made. (group : ℕ) → ids_of functions.now ≡ members (program_in program.now) group → map function_of made.items ≡ group_bodies (program_in program.now) group [] budget) }
 {
-    let functions = program.functions();
-    let results = program.results();
-    let group = members(program.groups(), group);
-    check_all(alloc, functions, results, group, budget)?;
     let env = Env {
         alloc,
-        functions,
-        results,
-        earlier: &*earlier,
-        group,
+        functions: program.functions(),
+        results: program.results(),
+        group: functions,
         top: budget,
     };
-    match bodies_of(&env) {
-        Ok(bodies) => Ok(bodies),
+    bodies_of(&env)
+}
+
+/// The plans of the functions of a group at a budget.
+///
+/// `TooMany` where a context or a type that a walk comes to has more than 2000 indices at its budget.
+pub fn group_plans(
+    alloc: Global,
+    program: &NormProgram<'_>,
+    group: u32,
+    budget: u8,
+) -> Result<GroupPlans, PlanFault>
+    requires low { budget ≤ 4 }
+    ensures plans { IfOk result (ArePlansOf (program_in program.now) group budget) }
+    ensures many { IsErrOf result PlanFault.TooMany → GroupWithin (program_in program.now) group budget → ⊥ }
+{
+    let results = program.results();
+    let members = members(program.groups(), group);
+    check_all(alloc, program.functions(), results, members, budget)?;
+    match planned(alloc, program, members, budget) {
+        Ok(functions) => Ok(GroupPlans {
+            group,
+            budget,
+            functions,
+        }),
         Err(_) => Err(PlanFault::NoMemory),
+    }
+}
+
+/// The same, where `last` were made last: these once more, where they are of this group and this budget.
+pub fn next_plans(
+    alloc: Global,
+    program: &NormProgram<'_>,
+    last: Option<GroupPlans>,
+    group: u32,
+    budget: u8,
+) -> Result<GroupPlans, PlanFault>
+    requires low { budget ≤ 4 }
+    requires last { IfSome last (ArePlansIn (program_in program.now)) }
+    ensures plans { IfOk result (ArePlansOf (program_in program.now) group budget) }
+    ensures many { IsErrOf result PlanFault.TooMany → GroupWithin (program_in program.now) group budget → ⊥ }
+{
+    match last {
+        Some(made) if made.group == group && made.budget == budget => Ok(made),
+        _ => group_plans(alloc, program, group, budget),
     }
 }

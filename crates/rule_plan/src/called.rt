@@ -12,7 +12,6 @@ ghost use Rattle.annot_types.specs.System.{args_of};
 ghost use Rattle.walk_rules.specs.Plan as p;
 ghost use Rattle.walk_rules.specs.Planned.{place_in, entries_of, operand_entries};
 ghost use Rattle.rule_walk.specs.Read.{plan_of, called_of};
-ghost use Rattle.earlier_blocks.specs.Remembers.{blocks_at};
 ghost use Rattle.rule_plan.specs.Down.{down, up};
 ghost use Rattle.rule_plan.specs.Entries.{restricted};
 ghost use Rattle.rule_plan.specs.Given.{given_of, made_of, ArePlans};
@@ -24,7 +23,6 @@ use crate::entries::{identity, restricted};
 use crate::env::Env;
 use crate::operands::operand_entries;
 use crate::tuples::size;
-use earlier_blocks::Usage;
 use index_shift::Entry;
 use raml_syntax::{FunId, Ty};
 use rule_walk::{Called, Plan};
@@ -93,19 +91,6 @@ pub fn at_budget(sizes: &[usize], d: usize) -> usize
     }
 }
 
-// The blocks of budget at most `d`.
-fn blocks_at(alloc: Global, uses: &[Usage], d: u8) -> Result<Vec<u32>, AllocError>
-    ensures { IfOk result (λ found. found.items ≡ blocks_at d uses.now) }
-{
-    let mut found = Vec::new(alloc);
-    for usage in uses {
-        if usage.budget <= d {
-            found.push(usage.block)?;
-        }
-    }
-    Ok(found)
-}
-
 // The entries from positions below each of the numbers and to positions below the limit.
 fn all_restricted(
     alloc: Global,
@@ -123,8 +108,8 @@ fn all_restricted(
 }
 
 // The call at a budget.
-fn called(alloc: Global, callee: &Callee, uses: &[Usage], d: u8) -> Result<Called, AllocError>
-    ensures { IfOk result (λ made. called_of made ≡ called_at callee.now uses.now d) }
+fn called(alloc: Global, callee: &Callee, d: u8) -> Result<Called, AllocError>
+    ensures { IfOk result (λ made. called_of made ≡ called_at callee.now d) }
 {
     let args = at_budget(&callee.context, d as usize);
     let result = at_budget(&callee.result, d as usize);
@@ -133,7 +118,6 @@ fn called(alloc: Global, callee: &Callee, uses: &[Usage], d: u8) -> Result<Calle
     Ok(Called {
         function: callee.function,
         own: callee.own,
-        usable: blocks_at(alloc, uses, d)?,
         args,
         result,
         args_from,
@@ -146,12 +130,11 @@ fn called_at(
     alloc: Global,
     nodes: u32,
     callee: &Callee,
-    uses: &[Usage],
     d: u8,
 ) -> Result<Box<Plan>, AllocError>
-    ensures { IfOk result (λ made. plan_of made.value ≡ p.Calls nodes (called_at callee.now uses.now d)) }
+    ensures { IfOk result (λ made. plan_of made.value ≡ p.Calls nodes (called_at callee.now d)) }
 {
-    let called = called(alloc, callee, uses, d)?;
+    let called = called(alloc, callee, d)?;
     boxed(alloc, Plan::Calls(nodes, called))
 }
 
@@ -160,13 +143,12 @@ fn at_budgets(
     env: &Env<'_>,
     nodes: u32,
     callee: &Callee,
-    uses: &[Usage],
 ) -> Result<Vec<Box<Plan>>, AllocError>
-    ensures { IfOk result (λ made. made_of made.items ≡ map (λ d. p.Calls nodes (called_at callee.now uses.now d)) (down (λ d. d) env.now.top)) }
+    ensures { IfOk result (λ made. made_of made.items ≡ map (λ d. p.Calls nodes (called_at callee.now d)) (down (λ d. d) env.now.top)) }
 {
     let mut made = Vec::new(env.alloc);
     for d in &budgets(env.alloc, env.top)? {
-        made.push(called_at(env.alloc, nodes, callee, uses, *d)?)?;
+        made.push(called_at(env.alloc, nodes, callee, *d)?)?;
     }
     Ok(made)
 }
@@ -215,5 +197,5 @@ pub fn calls(
     ensures { IfOk result (λ made. ArePlans (given_of env.now) (n.Call nodes fun.0 args.now) (parameters_of context.now) (ty_of ty.now) (made_of made.items)) }
 {
     let callee = made_once(env, fun, args, context, ty)?;
-    at_budgets(env, nodes, &callee, env.earlier.usable(fun))
+    at_budgets(env, nodes, &callee)
 }

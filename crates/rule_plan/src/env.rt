@@ -1,17 +1,15 @@
 // What plans are made over.
-use earlier_blocks::Earlier;
 use raml_syntax::{FunId, Ty};
 use share_normal::NormFuns;
 use std::alloc::Global;
 
 /// What goes down to all plans of a group as it is: the functions and the types of their results, the
-/// blocks before, the group, and the greatest budget.
+/// group, and the greatest budget.
 #[derive(Drop)]
 pub struct Env<'a> {
     pub alloc: Global,
     pub functions: &'a NormFuns,
     pub results: &'a [Ty],
-    pub earlier: &'a Earlier,
     pub group: &'a [FunId],
     pub top: u8,
 }

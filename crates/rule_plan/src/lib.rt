@@ -19,5 +19,5 @@ mod plan;
 mod tuples;
 mod within;
 
-pub use body::{Body, bodies};
+pub use body::{Body, FunctionPlan, GroupPlans, group_plans, next_plans};
 pub use fault::PlanFault;

@@ -232,10 +232,10 @@ fn plan_case(
     ty: &Ty,
 ) -> Result<Vec<Box<Plan>>, AllocError>
     requires low { env.now.top ≤ 4 }
-    ensures { IfOk result (λ made. AreDown (given_of env.now) (λ P blocks d. p.Forks nodes
-        (leaving_step (parameters_of context.now) x d) (planned (given_of env.now) (norm_of a.now) (without x (parameters_of context.now)) (ty_of ty.now) P blocks d)
+    ensures { IfOk result (λ made. AreDown (given_of env.now) (λ P d. p.Forks nodes
+        (leaving_step (parameters_of context.now) x d) (planned (given_of env.now) (norm_of a.now) (without x (parameters_of context.now)) (ty_of ty.now) P d)
         (opening_step (parameters_of context.now) x names.now d)
-        (planned (given_of env.now) (norm_of b.now) (opened x names.now parts_of (parameters_of context.now)) (ty_of ty.now) P blocks d)) (made_of made.items)) }
+        (planned (given_of env.now) (norm_of b.now) (opened x names.now parts_of (parameters_of context.now)) (ty_of ty.now) P d)) (made_of made.items)) }
 {
     let first = left(env, x, a, context, ty)?;
     let second = taken_apart(env, x, names, b, context, ty)?;

@@ -1,10 +1,11 @@
 -- What plans at a place ask for, and hints of another number than is asked for.
-use Rattle.std.proofs.Common.{◌≡◌, ◌↔◌, IsTrue, refl, ap, ℕ, zero, suc, ◌<◌, ◌≤◌, false, true, List, [], ◌∷◌, length, slice_index_or, arith}
+use Rattle.std.proofs.Common.{◌≡◌, ◌↔◌, IsTrue, refl, ap, ℕ, zero, suc, ◌-◌, ◌∙◌, ◌<◌, ◌≤◌, false, true, List, [], ◌∷◌, length, slice_index_or, arith}
 use Rattle.annot_types.specs.Certificate as c
 use Rattle.annot_types.specs.Certificate.{Entries}
 use Rattle.walk_rules.specs.Asked.{Ask, asked, all_asked}
 use Rattle.walk_rules.specs.Shape.{EachWithin, FitAsks}
 use Rattle.rule_walk.specs.Read.{plan_of, plans_of}
+use Rattle.rule_walk.specs.Filled.{Uses, filled, all_filled}
 use Rattle.std.specs.Global.{Global}
 use Rattle.std.specs.declared.rc.Rc.{Rc}
 use Rattle.rule_walk.specs.declared.plan.Plan.{Plan as Tree}
@@ -13,15 +14,18 @@ use Rattle.rule_walk.specs.declared.plan.Plan.{Plan as Tree}
 abbrev Code : Type 0
 Code = Rc Tree Global
 
-pub asked_at : (es : List Code) (k : ℕ) (d : Code) → k < length es → slice_index_or (all_asked (plans_of es)) k [] ≡ asked (plan_of (slice_index_or es k d).value)
-asked_at [] k d h = absurd (omega (arith, h))
-asked_at (e ∷ es) zero d h = refl
-asked_at (e ∷ es) (suc k) d h = asked_at es k d (omega (arith, h))
+module _ (uses : Uses) where
+  pub asked_at : (es : List Code) (d k : ℕ) (e : Code) → k < length es →
+      slice_index_or (all_asked (all_filled uses d (plans_of es))) k [] ≡ asked (filled uses (d - k) (plan_of (slice_index_or es k e).value))
+  asked_at [] d k e h = absurd (omega (arith, h))
+  asked_at (x ∷ es) d zero e h = ap (λ b. asked (filled uses b (plan_of x.value))) (omega arith)
+  asked_at (x ∷ es) d (suc k) e h = asked_at es (d - 1) k e (omega (arith, h))
+      ∙ ap (λ b. asked (filled uses b (plan_of (slice_index_or es k e).value))) (omega arith)
 
-pub asked_past : (es : List Code) (k : ℕ) → length es ≤ k → slice_index_or (all_asked (plans_of es)) k [] ≡ []
-asked_past [] k h = refl
-asked_past (e ∷ es) zero h = absurd (omega (arith, h))
-asked_past (e ∷ es) (suc k) h = asked_past es k (omega (arith, h))
+  pub asked_past : (es : List Code) (d k : ℕ) → length es ≤ k → slice_index_or (all_asked (all_filled uses d (plans_of es))) k [] ≡ []
+  asked_past [] d k h = refl
+  asked_past (x ∷ es) d zero h = absurd (omega (arith, h))
+  asked_past (x ∷ es) d (suc k) h = asked_past es (d - 1) k (omega (arith, h))
 
 each_length : (ns : List ℕ) (ess : List Entries) → EachWithin ns ess → length ns ≡ length ess
 each_length [] [] h = refl

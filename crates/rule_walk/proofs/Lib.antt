@@ -1,4 +1,5 @@
 pub mod Arms
 pub mod Bringing
 pub mod AskedAt
+pub mod Filling
 mod Shared

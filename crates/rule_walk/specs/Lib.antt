@@ -2,3 +2,4 @@ pub mod Steps
 pub mod Read
 pub mod Place
 pub mod Asks
+pub mod Filled

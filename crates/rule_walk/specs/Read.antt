@@ -29,11 +29,12 @@ mode_of (o.With meter) = r.With meter
 mode_of o.Own = r.Own
 mode_of o.Past = r.Past
 
+-- Which signatures may be taken is told beside a plan.
 abbrev pub called_of : Called → p.Called
 called_of c = record {
   function = c.function;
   own = c.own;
-  usable = c.usable.items;
+  usable = [];
   args = c.args;
   result = c.result;
   args_from = map (λ es. es.items) c.args_from.items;

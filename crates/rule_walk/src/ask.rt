@@ -4,8 +4,9 @@ ghost use Rattle.walk_rules.specs.Asked.{ResultsOf, CopiesOf, MultiplesOf, asked
 ghost use Rattle.rule_walk.specs.Steps.{part_of};
 ghost use Rattle.rule_walk.specs.Read.{plan_of, plans_of};
 ghost use Rattle.rule_walk.specs.Asks.{ask_of, asks_of, sizes_of};
+ghost use Rattle.rule_walk.specs.Filled.{table_of, blocks_at, uses_of, filled, all_filled};
 
-use crate::plan::{Called, Part, Plan};
+use crate::plan::{Called, Part, Plan, Usage};
 use std::alloc::{AllocError, Global};
 use std::rc::Rc;
 
@@ -20,29 +21,43 @@ pub enum Ask {
     Multiples(Vec<u32>),
 }
 
-/// The hints that a plan asks for, in the order of the walk.
-pub fn asked(alloc: Global, plan: &Plan) -> Result<Vec<Ask>, AllocError>
-    ensures { IfOk result (λ asks. asks_of asks.items ≡ asked (plan_of plan.now)) }
+/// The hints that a plan at this budget asks for, in the order of the walk. By function, `uses` tells the
+/// blocks whose signatures a call may take.
+pub fn asked(
+    alloc: Global,
+    plan: &Plan,
+    budget: usize,
+    uses: &[Vec<Usage>],
+) -> Result<Vec<Ask>, AllocError>
+    ensures { IfOk result (λ asks. asks_of asks.items ≡ asked (filled (uses_of (table_of uses.now)) budget (plan_of plan.now))) }
 {
     let mut asks = Vec::new(alloc);
-    append(alloc, plan, &mut asks)?;
+    append(alloc, uses, budget, plan, &mut asks)?;
     Ok(asks)
 }
 
 // Appends them.
 #[cycle(ask)]
-fn append(alloc: Global, plan: &Plan, asks: &mut Vec<Ask>) -> Result<(), AllocError>
-    ensures { OnOk result (asks_of asks.new.items ≡ asks_of asks.old.items ++ asked (plan_of plan.now)) }
+fn append(
+    alloc: Global,
+    uses: &[Vec<Usage>],
+    budget: usize,
+    plan: &Plan,
+    asks: &mut Vec<Ask>,
+) -> Result<(), AllocError>
+    ensures { OnOk result (asks_of asks.new.items ≡ asks_of asks.old.items ++ asked (filled (uses_of (table_of uses.now)) budget (plan_of plan.now))) }
 {
     match plan {
         Plan::Ends(_, _, _) => Ok(()),
-        Plan::Pays(_, _, rest) => append(alloc, rest, asks),
-        Plan::Moves(_, _, rest) => append(alloc, rest, asks),
-        Plan::Forks(_, _, first, _, second) => append_both(alloc, first, second, asks),
-        Plan::Shares(_, size, _, rest) => append_shared(alloc, *size, rest, asks),
-        Plan::Calls(_, called) => append_called(alloc, called, asks),
+        Plan::Pays(_, _, rest) => append(alloc, uses, budget, rest, asks),
+        Plan::Moves(_, _, rest) => append(alloc, uses, budget, rest, asks),
+        Plan::Forks(_, _, first, _, second) => {
+            append_both(alloc, uses, budget, first, second, asks)
+        }
+        Plan::Shares(_, size, _, rest) => append_shared(alloc, uses, budget, *size, rest, asks),
+        Plan::Calls(_, called) => append_called(alloc, uses, budget, called, asks),
         Plan::Lets(_, parts, firsts, _, rest) => {
-            append_bound(alloc, parts.list(), firsts, rest, asks)
+            append_bound(alloc, uses, budget, parts.list(), firsts, rest, asks)
         }
     }
 }
@@ -51,36 +66,75 @@ fn append(alloc: Global, plan: &Plan, asks: &mut Vec<Ask>) -> Result<(), AllocEr
 #[cycle(ask)]
 fn append_both(
     alloc: Global,
+    uses: &[Vec<Usage>],
+    budget: usize,
     first: &Plan,
     second: &Plan,
     asks: &mut Vec<Ask>,
 ) -> Result<(), AllocError>
-    ensures { OnOk result (asks_of asks.new.items ≡ asks_of asks.old.items ++ (asked (plan_of first.now) ++ asked (plan_of second.now))) }
+    ensures { OnOk result (asks_of asks.new.items ≡ asks_of asks.old.items
+        ++ (asked (filled (uses_of (table_of uses.now)) budget (plan_of first.now)) ++ asked (filled (uses_of (table_of uses.now)) budget (plan_of second.now)))) }
 {
-    append(alloc, first, asks)?;
-    append(alloc, second, asks)
+    append(alloc, uses, budget, first, asks)?;
+    append(alloc, uses, budget, second, asks)
 }
 
 // That of a variable that is shared, and those of the rest.
 #[cycle(ask)]
 fn append_shared(
     alloc: Global,
+    uses: &[Vec<Usage>],
+    budget: usize,
     size: usize,
     rest: &Plan,
     asks: &mut Vec<Ask>,
 ) -> Result<(), AllocError>
-    ensures { OnOk result (asks_of asks.new.items ≡ asks_of asks.old.items ++ (CopiesOf size ∷ asked (plan_of rest.now))) }
+    ensures { OnOk result (asks_of asks.new.items ≡ asks_of asks.old.items ++ (CopiesOf size ∷ asked (filled (uses_of (table_of uses.now)) budget (plan_of rest.now)))) }
 {
     asks.push(Ask::Copies(size))?;
-    append(alloc, rest, asks)
+    append(alloc, uses, budget, rest, asks)
+}
+
+// The blocks of budget at most `d`.
+fn blocks_at(alloc: Global, uses: &[Usage], d: usize) -> Result<Vec<u32>, AllocError>
+    ensures { IfOk result (λ found. found.items ≡ blocks_at d uses.now) }
+{
+    let mut found = Vec::new(alloc);
+    for usage in uses {
+        if usage.budget as usize <= d {
+            found.push(usage.block)?;
+        }
+    }
+    Ok(found)
+}
+
+// Those whose signatures of a function a call may take; none where there is no such function.
+fn usable(
+    alloc: Global,
+    uses: &[Vec<Usage>],
+    d: usize,
+    function: usize,
+) -> Result<Vec<u32>, AllocError>
+    ensures { IfOk result (λ found. found.items ≡ uses_of (table_of uses.now) d function) }
+{
+    match uses.get(function) {
+        Some(uses) => blocks_at(alloc, uses, d),
+        None => Ok(Vec::new(alloc)),
+    }
 }
 
 // That of a call.
-fn append_called(alloc: Global, called: &Called, asks: &mut Vec<Ask>) -> Result<(), AllocError>
-    ensures { OnOk result (asks_of asks.new.items ≡ asks_of asks.old.items ++ (MultiplesOf called.now.usable.items ∷ [])) }
+fn append_called(
+    alloc: Global,
+    uses: &[Vec<Usage>],
+    budget: usize,
+    called: &Called,
+    asks: &mut Vec<Ask>,
+) -> Result<(), AllocError>
+    ensures { OnOk result (asks_of asks.new.items ≡ asks_of asks.old.items ++ (MultiplesOf (uses_of (table_of uses.now) budget called.now.function) ∷ [])) }
 {
-    let usable = Vec::from_slice(alloc, &called.usable)?;
-    asks.push(Ask::Multiples(usable))?;
+    let blocks = usable(alloc, uses, budget, called.function)?;
+    asks.push(Ask::Multiples(blocks))?;
     Ok(())
 }
 
@@ -88,18 +142,22 @@ fn append_called(alloc: Global, called: &Called, asks: &mut Vec<Ask>) -> Result<
 #[cycle(ask)]
 fn append_bound(
     alloc: Global,
+    uses: &[Vec<Usage>],
+    budget: usize,
     parts: &[Part],
     firsts: &[Rc<Plan>],
     rest: &Plan,
     asks: &mut Vec<Ask>,
 ) -> Result<(), AllocError>
     ensures { OnOk result (asks_of asks.new.items
-        ≡ asks_of asks.old.items ++ (ResultsOf (sizes_of (map part_of parts.now)) ∷ (each_asked (all_asked (plans_of firsts.now)) (map part_of parts.now) ++ asked (plan_of rest.now)))) }
+        ≡ asks_of asks.old.items ++ (ResultsOf (sizes_of (map part_of parts.now))
+        ∷ (each_asked (all_asked (all_filled (uses_of (table_of uses.now)) budget (plans_of firsts.now))) (map part_of parts.now)
+        ++ asked (filled (uses_of (table_of uses.now)) budget (plan_of rest.now))))) }
 {
     let sizes = result_sizes(alloc, parts)?;
     asks.push(Ask::Results(sizes))?;
-    append_each(alloc, parts, firsts, asks)?;
-    append(alloc, rest, asks)
+    append_each(alloc, uses, budget, parts, firsts, asks)?;
+    append(alloc, uses, budget, rest, asks)
 }
 
 // How many positions the result has at each tuple.
@@ -117,14 +175,17 @@ fn result_sizes(alloc: Global, parts: &[Part]) -> Result<Vec<usize>, AllocError>
 #[cycle(ask)]
 fn append_each(
     alloc: Global,
+    uses: &[Vec<Usage>],
+    budget: usize,
     parts: &[Part],
     firsts: &[Rc<Plan>],
     asks: &mut Vec<Ask>,
 ) -> Result<(), AllocError>
-    ensures { OnOk result (asks_of asks.new.items ≡ asks_of asks.old.items ++ each_asked (all_asked (plans_of firsts.now)) (map part_of parts.now)) }
+    ensures { OnOk result (asks_of asks.new.items
+        ≡ asks_of asks.old.items ++ each_asked (all_asked (all_filled (uses_of (table_of uses.now)) budget (plans_of firsts.now))) (map part_of parts.now)) }
 {
     for part in parts {
-        append_at(alloc, firsts, part.degree, asks)?;
+        append_at(alloc, uses, budget, firsts, part.degree, asks)?;
     }
     Ok(())
 }
@@ -133,16 +194,19 @@ fn append_each(
 #[cycle(ask)]
 fn append_at(
     alloc: Global,
+    uses: &[Vec<Usage>],
+    budget: usize,
     firsts: &[Rc<Plan>],
     place: usize,
     asks: &mut Vec<Ask>,
 ) -> Result<(), AllocError>
-    ensures { OnOk result (asks_of asks.new.items ≡ asks_of asks.old.items ++ slice_index_or (all_asked (plans_of firsts.now)) place []) }
+    ensures { OnOk result (asks_of asks.new.items
+        ≡ asks_of asks.old.items ++ slice_index_or (all_asked (all_filled (uses_of (table_of uses.now)) budget (plans_of firsts.now))) place []) }
 {
     if place >= firsts.len() {
         return Ok(());
     }
-    append(alloc, &firsts[place], asks)?;
+    append(alloc, uses, budget.saturating_sub(place), &firsts[place], asks)?;
     Ok(())
 }
 

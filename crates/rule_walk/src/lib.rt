@@ -21,6 +21,6 @@ pub use hint::Hint;
 pub use judge::Judge;
 pub use kind::Kind;
 pub use known::{Known, Sides, Signature, Signed};
-pub use plan::{Called, Mode, Part, Parts, Plan, Step};
+pub use plan::{Called, Mode, Part, Parts, Plan, Step, Usage};
 pub use shape::fits;
 pub use walk::walk_body;

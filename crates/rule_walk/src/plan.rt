@@ -77,14 +77,19 @@ impl Parts {
     }
 }
 
-/// What a call needs.
+/// A cost-free block that has a signature of a function, by its number, and its budget.
+#[derive(Clone, Copy, Debug, PartialEq, Eq)]
+pub struct Usage {
+    pub block: u32,
+    pub budget: u8,
+}
+
+/// What a call needs. Which signatures it may take multiples of is told beside the plan.
 #[derive(Drop)]
 pub struct Called {
     pub function: usize,
     /// Its place in the present group.
     pub own: Option<usize>,
-    /// The numbers of the cost-free blocks whose signatures it may take, ascending.
-    pub usable: Vec<u32>,
     /// How many positions the context has, and how many the result.
     pub args: usize,
     pub result: usize,

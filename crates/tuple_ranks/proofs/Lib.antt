@@ -7,3 +7,4 @@ pub mod Picked
 pub mod Behind
 pub mod Permuted
 pub mod Rows
+pub mod Standing

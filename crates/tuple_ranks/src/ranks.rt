@@ -100,23 +100,23 @@ fn starts(alloc: Global, counts: &[u16], d: u8) -> Result<Vec<u16>, IndexFault>
     Ok(found)
 }
 
-// The degree of the tuple, and how many of this degree are before it.
+// The degree of the tuple, and how many of this degree are before it, from its last index on.
 fn stands(d: u8, columns: &[Column], slots: &[Slot], numbers: &[usize]) -> Option<(u8, u16)>
     ensures { result ≡ stands d columns.now (picked slots.now numbers.now) }
 {
-    match columns {
-        [] => match slots {
-            [] => Some((0, 0)),
-            [_, ..] => None,
-        },
-        [column, columns @ ..] => match slots {
-            [] => None,
-            [slot, slots @ ..] => {
-                let behind = stands(d, columns, slots, numbers)?;
-                led_by(d, column, slot.number(numbers), behind)
-            }
-        },
+    if columns.len() != slots.len() {
+        return None;
     }
+    let mut state = (0, 0);
+    let mut at = columns.len();
+    while at > 0 {
+        at -= 1;
+        match led_by(d, &columns[at], slots[at].number(numbers), state) {
+            Some(next) => state = next,
+            None => return None,
+        }
+    }
+    Some(state)
 }
 
 // The same with an index of the variable before the others.

@@ -4,7 +4,8 @@ use Rattle.walk_rules.specs.Capped.{capped, capped_amount}
 use Rattle.walk_rules.specs.Carried.{hint_to}
 use Rattle.walk_rules.specs.Shape.{hints_at}
 use Rattle.rule_walk.specs.Asks.{asks_of}
-use Rattle.rule_walk.specs.Read.{known_of, mode_of, plan_of}
+use Rattle.rule_walk.specs.Read.{known_of, mode_of}
+use Rattle.rule_plan.specs.Read.{body_of}
 use Rattle.rule_walk.specs.Place.{body_walked}
 use Rattle.cert_check.specs.Judged.{verdict_of, after}
 use Rattle.cert_check.proofs.Hearing.{heard_from, next_heard}
@@ -25,9 +26,9 @@ loop-place-preserved c =
     let asks_is : c.deref.result.now ≡ asks = search rules in
     let hints_is : c.deref-in-loop-place.result.now ≡ hints = search rules in
     let heard : verdict_of c.judge_body.new.judge ≡ after (verdict_of c.loop-place.judge)
-    (body_walked capped G (plan_of body.plan) mode k (map (hint_to capped_amount) (hints_at (asks_of asks) (map a.hint_of hints)))).found =
+    (body_walked capped G (body_of body).plan mode k (map (hint_to capped_amount) (hints_at (asks_of asks) (map a.hint_of hints)))).found =
     c.in_ok-judge_body.ensures
-    ∙ (λ i. after (verdict_of c.loop-place.judge) (body_walked capped G (plan_of (body_is i).plan) mode k
+    ∙ (λ i. after (verdict_of c.loop-place.judge) (body_walked capped G (body_of (body_is i)).plan mode k
     (map (hint_to capped_amount) (hints_at (asks_of (asks_is i)) (map a.hint_of (hints_is i))))).found) in
     ap (heard_from G mode c.args.bodies.now c.args.asks.now c.args.hints.now (k + 1)) heard
     ∙ next_heard G mode c.args.bodies.now c.args.asks.now c.args.hints.now k (verdict_of c.loop-place.judge) c.index-bodies-place.result

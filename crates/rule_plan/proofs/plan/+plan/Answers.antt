@@ -54,8 +54,8 @@ plan_if-returns t c =
 pub plan_case-returns : goal.plan_case-returns
 plan_case-returns t c =
     let a = c.args in let C = parameters_of a.context.now in let G = given_of a.env.now in let T = ty_of a.ty.now in let ys = a.names.now in
-    IfOk-weaker c.forked.result _ (λ made. AreDown G (λ P blocks d. p.Forks a.nodes (leaving_step C a.x d) (planned G (norm_of a.a.now) (without a.x C) T P blocks d)
-    (opening_step C a.x ys d) (planned G (norm_of a.b.now) (opened a.x ys parts_of C) T P blocks d)) (made_of made.items))
+    IfOk-weaker c.forked.result _ (λ made. AreDown G (λ P d. p.Forks a.nodes (leaving_step C a.x d) (planned G (norm_of a.a.now) (without a.x C) T P d)
+    (opening_step C a.x ys d) (planned G (norm_of a.b.now) (opened a.x ys parts_of C) T P d)) (made_of made.items))
     (λ made is. forks_are G a.nodes (leaving_step C a.x) (opening_step C a.x ys) (norm_of a.a.now) (norm_of a.b.now) (without a.x C) (opened a.x ys parts_of C) T
     c.in_ok-first.first.change c.in_ok-second.second.change (made_of c.in_ok-first.first.rests.items) (made_of c.in_ok-second.second.rests.items) (made_of made.items) is c.in_ok-first.ensures c.in_ok-second.ensures)
     c.forked.ensures

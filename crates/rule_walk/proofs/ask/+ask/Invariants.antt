@@ -3,6 +3,7 @@ use Rattle.walk_rules.specs.Asked.{each_asked, all_asked}
 use Rattle.rule_walk.specs.Steps.{part_of}
 use Rattle.rule_walk.specs.Read.{size, sizes, plan_of, plans_of}
 use Rattle.rule_walk.specs.Asks.{asks_of}
+use Rattle.rule_walk.specs.Filled.{table_of, uses_of, all_filled}
 use Rattle.rule_walk.proofs.ask.+ask.Given as goal
 
 abbrev pub decreases-append : goal.decreases-append
@@ -25,5 +26,5 @@ decreases-append_at l = 4 * sizes (plans_of l.firsts.now) + 1
 
 abbrev pub invariant-append_each-loop-part : goal.invariant-append_each-loop-part
 invariant-append_each-loop-part l =
-    asks_of l.asks.items ++ each_asked (all_asked (plans_of l.firsts)) (map part_of (drop l.part-index l.parts))
-    ≡ asks_of l.fn.asks.items ++ each_asked (all_asked (plans_of l.firsts)) (map part_of l.parts)
+    let asks = all_asked (all_filled (uses_of (table_of l.uses)) l.budget (plans_of l.firsts)) in
+    asks_of l.asks.items ++ each_asked asks (map part_of (drop l.part-index l.parts)) ≡ asks_of l.fn.asks.items ++ each_asked asks (map part_of l.parts)

@@ -1,0 +1,14 @@
+use Rattle.std.proofs.Common.{sym, ap, subst, arith}
+use Rattle.std.proofs.lemmas.List.Elements.{All-more}
+use Rattle.annot_types.specs.Read.{sig_of}
+use Rattle.courses.specs.Places.{SigFits}
+use Rattle.bound_infer.proofs.Mapped.{all_of}
+use Rattle.bound_infer.proofs.once.sigs_fit.Goals as goal
+
+pub loop-index-preserved : goal.loop-index-preserved
+loop-index-preserved c = All-more (λ s. SigFits 1 (sig_of s)) c.args.sigs.now c.loop-index.index c.index-sigs-index.result c.loop-index-test.true c.loop-index.invariant (search rules)
+
+pub returns : goal.returns
+returns c =
+    let l = c.loop-index-test.false in
+    all_of (λ s. SigFits 1 (sig_of s)) c.args.sigs.now c.loop-index.index c.loop-index.invariant (λ q. omega (arith, q, l))

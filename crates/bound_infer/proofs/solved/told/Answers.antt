@@ -1,0 +1,24 @@
+use Rattle.std.proofs.Common.{map, ap, ◌∙◌, unsigned_abs}
+use Rattle.cost_free.specs.Read.{task_of}
+use Rattle.annot_types.specs.Holds.{budget_of}
+use Rattle.annot_types.specs.Read.{blocks_of}
+use Rattle.rule_plan.specs.Read.{program_in, body_of}
+use Rattle.solved_tasks.specs.Told.{sigs_told, hints_told}
+use Rattle.constraint_gen.proofs.Whole.{if_ok}
+use Rattle.bound_infer.proofs.solved.told.Goals as goal
+
+pub returns-clause-sigs : goal.returns-clause-sigs
+returns-clause-sigs c =
+    let task = task_of c.args.task.now in
+    let run = c.args.run.now in
+    let same = ap (map body_of) c.deref.ensures.value
+    ∙ c.in_ok-bodies.ensures (program_in c.args.program.now) task.group (budget_of c.args.d task.kind) (blocks_of run.blocks.items) c.requires.plans c.requires.keeps.remembers.usable in
+    if_ok c.told_by.result _ _ (λ told h. h ∙ ap (λ bs. sigs_told bs (map unsigned_abs c.args.numbers.now)) same) c.told_by.ensures.sigs
+
+pub returns-clause-hints : goal.returns-clause-hints
+returns-clause-hints c =
+    let task = task_of c.args.task.now in
+    let run = c.args.run.now in
+    let same = ap (map body_of) c.deref.ensures.value
+    ∙ c.in_ok-bodies.ensures (program_in c.args.program.now) task.group (budget_of c.args.d task.kind) (blocks_of run.blocks.items) c.requires.plans c.requires.keeps.remembers.usable in
+    if_ok c.told_by.result _ _ (λ told h. h ∙ ap (λ bs. hints_told bs (map unsigned_abs c.args.numbers.now)) same) c.told_by.ensures.hints

@@ -1,6 +1,0 @@
-use Rattle.std.proofs.Common.{◌≡◌, ◌++◌, pos}
-use Rattle.std.specs.Prelude.{replicate}
-use Rattle.constraint_gen.proofs.task.append_zeros.Given as goal
-
-abbrev pub invariant-loop : goal.invariant-loop
-invariant-loop l = l.weights.items ≡ l.fn.weights.items ++ replicate l.counter (pos 0)
