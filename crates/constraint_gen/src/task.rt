@@ -156,15 +156,15 @@ fn all_degrees(alloc: Global, types: &[Ty], budget: u8) -> Result<Vec<u8>, Alloc
 fn append_weights(
     weights: &mut Vec<i128>,
     types: &[Ty],
-    degrees: &[u8],
+    all: &[u8],
     budget: u8,
 ) -> Result<(), AllocError>
     requires low { budget ≤ 4 }
-    requires degrees { degrees.now ≡ map degrees (tuples_up_to (context_of types.now) budget) }
+    requires all { all.now ≡ map degrees (tuples_up_to (context_of types.now) budget) }
     ensures { OnOk result (weights.new.items ≡ weights.old.items ++ map weight_of (index_list (context_of types.now) budget)) }
 {
     for degree in 0..budget + 1 {
-        let count = how_many(degree, degrees);
+        let count = how_many(degree, all);
         append_times(weights, weight(u32::from(degree)), count)?;
     }
     Ok(())
@@ -184,8 +184,8 @@ fn append_signature(
         ++ replicate (r.size (result_of (slice_get (program_in program.now).funs fun.0)) budget) (pos 0))) }
 {
     let types = arguments(alloc, program, fun)?;
-    let degrees = all_degrees(alloc, &types, budget)?;
-    append_weights(weights, &types, &degrees, budget)?;
+    let all = all_degrees(alloc, &types, budget)?;
+    append_weights(weights, &types, &all, budget)?;
     let result = result_types(alloc, program, fun)?;
     let count = all_degrees(alloc, &result, budget)?.len();
     append_times(weights, 0, count)?;

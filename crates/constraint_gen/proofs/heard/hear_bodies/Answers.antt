@@ -21,5 +21,5 @@ loop-place-preserved c =
     let hints = ap (map (λ h. hints_of h.items)) (cut_is c.args.hints.now p hs low_hints c.index-hints-place.is) in
     let one : c.walk.new.judge ≡ hear_all c.loop-place.collector (body_walked sums (known_of c.args.known.now) (body_of b).plan (w.mode_of c.args.mode) p (hints_of hs.items)).found =
     c.in_ok-walk.ensures.heard
-    ∙ (λ i. hear_all c.loop-place.collector (body_walked sums (known_of c.args.known.now) (body_of (sym c.index-bodies-place.is i)).plan (w.mode_of c.args.mode) p (hints_of (c.deref.ensures.value i))).found) in
+    ∙ (λ i. hear_all c.loop-place.collector (body_walked sums (known_of c.args.known.now) (body_of b).plan (w.mode_of c.args.mode) p (hints_of (c.deref.ensures.value i))).found) in
     bodies_go_on (known_of c.args.known.now) (w.mode_of c.args.mode) p (body_of b) (map body_of (drop (p + 1) c.args.bodies.now)) _ (hints_of hs.items) (map (λ h. hints_of h.items) (drop (p + 1) c.args.hints.now)) _ c.loop-place.collector c.walk.new.judge _ bodies hints one c.loop-place.invariant

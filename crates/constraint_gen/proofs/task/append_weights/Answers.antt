@@ -1,5 +1,7 @@
-use Rattle.std.proofs.Common.{◌≡◌, ◌≤◌, ◌<◌, ◌+◌, ◌-◌, ◌^◌, ◌++◌, suc, pos, map, sym, ap, ◌∙◌, append_assoc, append-nil, arith, rules}
+use Rattle.std.proofs.Common.{◌≡◌, ◌≤◌, ◌<◌, ◌+◌, ◌-◌, ◌^◌, ◌++◌, ℕ, suc, pos, FitsSigned, map, sym, ap, ◌∙◌, append_assoc, append-nil, arith, rules}
 use Rattle.std.specs.Prelude.{replicate}
+use Rattle.std.specs.Int.{w128}
+use Rattle.std.proofs.lemmas.Int.{to_z-of_z}
 use Rattle.base_poly.specs.Read.{context_of}
 use Rattle.constraint_gen.specs.Weights.{weight_of}
 use Rattle.index_shift.proofs.Exactly.{exactly}
@@ -23,8 +25,10 @@ loop-degree-preserved c =
     let g = c.loop-degree.degree in
     let low : g ≤ b = search rules in
     let old = c.loop-degree.weights.items in
-    let more : c.append_times.new.weights.items ≡ old ++ map weight_of (exactly As g) = c.in_ok-append_times.ensures
-    ∙ ap (λ l. old ++ l) ((λ i. replicate ((c.how_many-count.ensures ∙ ap (how_many g) c.requires.degrees) i) (c.weight.ensures i)) ∙ exact_weights As g b low) in
+    let fits : FitsSigned w128 c.weight.result = search rules in
+    let items = simp (to_z-of_z w128 _ fits) at c.in_ok-append_times.ensures in
+    let more : c.append_times.new.weights.items ≡ old ++ map weight_of (exactly As g) = items
+    ∙ ap (λ l. old ++ l) ((λ i. replicate ((c.how_many-count.ensures ∙ ap (how_many g) c.requires.all) i) ((c.weight.ensures ∙ ap (λ n. pos (10 ^ n)) c.from.ensures) i)) ∙ exact_weights As g b low) in
     let n = (1 + b) - (g + 1) in
     let left : (1 + b) - g ≡ suc n = omega (arith, low) in
     let next : 1 + g ≡ g + 1 = omega arith in

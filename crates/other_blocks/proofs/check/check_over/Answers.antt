@@ -2,7 +2,9 @@ use Rattle.std.proofs.Common.{◌≡◌, ◌≤◌, ap, sym, ◌∙◌, length, 
 use Rattle.std.proofs.lemmas.List.{length-map}
 use Rattle.annot_types.specs.Certificate.{Solved}
 use Rattle.annot_types.specs.Held.{before}
+use Rattle.annot_types.specs.Holds.{budget_of}
 use Rattle.annot_types.specs.Read as a
+use Rattle.rule_walk.specs.Filled.{uses_of}
 use Rattle.rule_plan.specs.Read.{program_in, body_of}
 use Rattle.cert_check.specs.Finds.{ShapeFinds}
 use Rattle.cert_check.specs.Read.{fault_of}
@@ -11,8 +13,8 @@ use Rattle.other_blocks.specs.Other.{raised_certificate, raised_before, ThereFin
 use Rattle.other_blocks.proofs.Over.{same_degree, count_here, known_here, bodies_here, there_found}
 use Rattle.other_blocks.proofs.check.check_over.Goals as goal
 
-pub returns-in-Ok : goal.returns-in-Ok
-returns-in-Ok c = λ within.
+pub returns-in-Ok-check_planned : goal.returns-in-Ok-check_planned
+returns-in-Ok-check_planned c = λ within.
     let P = program_in c.args.program.now in
     let held = a.certificate_of c.args.certificate.now in
     let block = a.block_of c.args.block.now in
@@ -20,14 +22,17 @@ returns-in-Ok c = λ within.
     let low : c.args.place ≤ length held.blocks = omega (arith, c.requires.there, length-map c.args.certificate.now.blocks.items a.block_of) in
     let body : block.body ≡ Solved (map a.sig_of c.deref.result.now) (map a.hints_of c.deref-2.result.now) =
     ap a.body_of c.in-Solved.is ∙ (λ i. Solved (map a.sig_of (sym c.deref.ensures.value i)) (map a.hints_of (sym c.deref-2.ensures.value i))) in
+    let bodies = ap (map body_of) c.deref-3.ensures.value
+    ∙ c.in-Ok.ensures P block.task.group (budget_of held.degree block.task.kind) (before held c.args.place) c.requires.plans
+    (λ f d. (λ i. uses_of (c.raise_for.ensures.uses i) d f) ∙ c.requires.remembers.usable f d) in
     there_found P held t block None (map a.sig_of c.deref.result.now) (map a.hints_of c.deref-2.result.now) body within
-    (c.in-Ok.ensures.tells (raised_certificate P held t block) (raised_before P held t block) (record {
+    (c.in-Ok-check_planned.ensures.tells (raised_certificate P held t block) (raised_before P held t block) (record {
       count = count_here P held t block c.args.place c.requires.place low;
       degree = same_degree P held t block;
       scale = c.scale_times.ensures;
       knows = known_here P held t block c.args.place c.requires.place c.raise_for.new.earlier
-          (c.raise_for.ensures P held.degree (before held c.args.place) c.requires.remembers);
-    }) (bodies_here P held t block c.args.place c.requires.place (map body_of c.args.plans.now) c.requires.plans))
+          (c.raise_for.ensures.knows P held.degree (before held c.args.place) c.requires.remembers);
+    }) (bodies_here P held t block c.args.place c.requires.place (map body_of c.deref-3.result.now) bodies))
 
 pub returns : goal.returns
 returns c = λ within.
@@ -36,6 +41,9 @@ returns c = λ within.
     let block = a.block_of c.args.block.now in
     let t = c.args.times in
     let low : c.args.place ≤ length held.blocks = omega (arith, c.requires.there, length-map c.args.certificate.now.blocks.items a.block_of) in
+    let bodies = ap (map body_of) c.deref-3.ensures.value
+    ∙ c.in-Ok.ensures P block.task.group (budget_of held.degree block.task.kind) (before held c.args.place) c.requires.plans
+    (λ f d. (λ i. uses_of (c.raise_for.ensures.uses i) d f) ∙ c.requires.remembers.usable f d) in
     let sigs = map a.sig_of c.deref.result.now in
     let hints = map a.hints_of c.deref-2.result.now in
     let body : block.body ≡ Solved sigs hints =
@@ -47,5 +55,5 @@ returns c = λ within.
       degree = same_degree P held t block;
       scale = c.scale_times.ensures;
       knows = known_here P held t block c.args.place c.requires.place c.raise_for.new.earlier
-          (c.raise_for.ensures P held.degree (before held c.args.place) c.requires.remembers);
-    }) (bodies_here P held t block c.args.place c.requires.place (map body_of c.args.plans.now) c.requires.plans))
+          (c.raise_for.ensures.knows P held.degree (before held c.args.place) c.requires.remembers);
+    }) (bodies_here P held t block c.args.place c.requires.place (map body_of c.deref-3.result.now) bodies))
