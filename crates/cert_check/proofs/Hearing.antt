@@ -13,7 +13,6 @@ use Rattle.walk_rules.specs.Faults.{Fault}
 use Rattle.walk_rules.specs.Shape.{hints_at}
 use Rattle.rule_walk.specs.declared.ask.Ask.{Ask}
 use Rattle.rule_walk.specs.Asks.{asks_of}
-use Rattle.rule_walk.specs.Read.{plan_of}
 use Rattle.rule_walk.specs.Place.{body_walked}
 use Rattle.rule_plan.specs.declared.body.Body.{Body}
 use Rattle.rule_plan.specs.Read.{body_of}
@@ -29,14 +28,14 @@ module _ (G : Known Amount) (mode : Mode) (bodies : List Body) (asks : List (Vec
 
   pub next_heard : (k : ℕ) (v : Option Fault) (b : Body) (x : Vec Ask Global) (h : Vec Told Global) →
       k < length bodies → k < length asks → k < length hints →
-      heard_from (k + 1) (after v (body_walked capped G (plan_of (slice_index_or bodies k b).plan) mode k
+      heard_from (k + 1) (after v (body_walked capped G (body_of (slice_index_or bodies k b)).plan mode k
       (map (hint_to capped_amount) (hints_at (asks_of (slice_index_or asks k x).items) (map a.hint_of (slice_index_or hints k h).items)))).found)
       ≡ heard_from k v
   next_heard k v b x h lb lx lh =
       let n : k + 1 ≡ suc k = omega arith in
       let body = slice_index_or bodies k b in
       let hs = map (hint_to capped_amount) (hints_at (asks_of (slice_index_or asks k x).items) (map a.hint_of (slice_index_or hints k h).items)) in
-      let first = (body_walked capped G (plan_of body.plan) mode k hs).found in
+      let first = (body_walked capped G (body_of body).plan mode k hs).found in
       ap (λ j. heard_from j (after v first)) n
       ∙ in_turn v first (bodies_walked G mode (suc k) (map body_of (drop (suc k) bodies))
       (map (map (hint_to capped_amount)) (hints_by (all_asks_of (drop (suc k) asks)) (map a.hints_of (drop (suc k) hints)))))

@@ -27,7 +27,7 @@ returns-in-Ok-clause-tells c = λ held blocks is remembers.
     let hints = map a.hints_of c.args.hints.now in
     let plans = c.in-Ok.ensures.plans in
     let budget = c.budget_of-budget.ensures ∙ ap (λ d. h.budget_of d (kind_of at.task.kind)) is.degree in
-    tells_more c.check_over.result (ShapeFinds P held blocks (task_of at.task) sigs hints)
+    tells_more c.check_over-found.result (ShapeFinds P held blocks (task_of at.task) sigs hints)
     (BodyFinds P held blocks (task_of at.task) (Solved sigs hints))
     (λ x h. inl (subst (GroupWithin P at.task.group) (plans.budget_is ∙ budget) (subst (λ g. GroupWithin P g c.in-Ok.plans.budget) plans.group_is plans.are.within), h))
-    (c.check_over.ensures.tells held blocks is remembers)
+    (c.check_over-found.ensures.tells held blocks is remembers)
