@@ -114,7 +114,11 @@ fn side(alloc: Global, next: &mut u32, body: &Body) -> Result<Sides<Form>, Alloc
 }
 
 /// The signatures of all bodies.
-pub fn sides(alloc: Global, next: &mut u32, bodies: &[Body<'_>]) -> Result<Vec<Sides<Form>>, AllocError>
+pub fn sides(
+    alloc: Global,
+    next: &mut u32,
+    bodies: &[Body<'_>],
+) -> Result<Vec<Sides<Form>>, AllocError>
     requires room { next.old + sides_count (map body_of bodies.now) < 2 ^ 32 }
     ensures given { IfOk result (λ made. map sides_of made.items ≡ sides_given unknown next.old (map body_of bodies.now)) }
     ensures next { OnOk result (next.new ≡ next.old + sides_count (map body_of bodies.now)) }

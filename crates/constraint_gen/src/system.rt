@@ -56,7 +56,15 @@ pub fn rows(
 {
     let plans = plans(alloc, program, d, None, task)?;
     let bodies = plans.over(alloc, earlier)?;
-    rows_by(alloc, program, d, earlier, task, scale.unsigned_abs(), &bodies)
+    rows_by(
+        alloc,
+        program,
+        d,
+        earlier,
+        task,
+        scale.unsigned_abs(),
+        &bodies,
+    )
 }
 
 /// The plans of a task's group, where `last` were made last. `TooLarge` where a context or a type of its

@@ -126,12 +126,7 @@ fn called(alloc: Global, callee: &Callee, d: u8) -> Result<Called, AllocError>
 }
 
 // The same as a plan.
-fn called_at(
-    alloc: Global,
-    nodes: u32,
-    callee: &Callee,
-    d: u8,
-) -> Result<Box<Plan>, AllocError>
+fn called_at(alloc: Global, nodes: u32, callee: &Callee, d: u8) -> Result<Box<Plan>, AllocError>
     ensures { IfOk result (λ made. plan_of made.value ≡ p.Calls nodes (called_at callee.now d)) }
 {
     let called = called(alloc, callee, d)?;
@@ -139,11 +134,7 @@ fn called_at(
 }
 
 // The call at all budgets.
-fn at_budgets(
-    env: &Env<'_>,
-    nodes: u32,
-    callee: &Callee,
-) -> Result<Vec<Box<Plan>>, AllocError>
+fn at_budgets(env: &Env<'_>, nodes: u32, callee: &Callee) -> Result<Vec<Box<Plan>>, AllocError>
     ensures { IfOk result (λ made. made_of made.items ≡ map (λ d. p.Calls nodes (called_at callee.now d)) (down (λ d. d) env.now.top)) }
 {
     let mut made = Vec::new(env.alloc);

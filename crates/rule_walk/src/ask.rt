@@ -206,7 +206,13 @@ fn append_at(
     if place >= firsts.len() {
         return Ok(());
     }
-    append(alloc, uses, budget.saturating_sub(place), &firsts[place], asks)?;
+    append(
+        alloc,
+        uses,
+        budget.saturating_sub(place),
+        &firsts[place],
+        asks,
+    )?;
     Ok(())
 }
 

@@ -15,7 +15,7 @@ returns-clause-heard g c =
     let G = known_of a.known.now in
     let s = group_sides A G a.place in
     subst (λ (W : Walk g.row.T.Denot). OnOk c.walk_body.result (J.verdict c.walk_body.new.judge
-        ≡ J.after (J.verdict a.judge.now) (W (mode_of a.mode) (a.place ∷ []) s.args s.result (hints_of a.hints.now)).found))
+    ≡ J.after (J.verdict a.judge.now) (W (mode_of a.mode) (a.place ∷ []) s.args s.result (hints_of a.hints.now)).found))
     (sym (alike A G (uses_of (table_of b.uses.now)) b.budget (plan_of b.plan.now))) c.walk_body.ensures.heard
 
 pub returns-clause-left : goal.returns-clause-left

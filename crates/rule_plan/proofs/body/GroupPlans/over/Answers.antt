@@ -12,5 +12,5 @@ pub returns : goal.returns
 returns s =
     let made = s.args.self.now in
     IfOk-weaker s.over.result _ (λ bs. (P : Program) (group budget : ℕ) (blocks : List c.Block) → ArePlansOf P group budget made → TellsUses P blocks s.args.earlier.now →
-        map body_of bs.items ≡ group_bodies P group blocks budget)
+    map body_of bs.items ≡ group_bodies P group blocks budget)
     (λ bs is P group budget blocks of told. is ∙ (λ i. map (over_of (s.uses.ensures i) made.budget) (s.deref.ensures.value i)) ∙ over_blocks P group budget blocks s.args.earlier.now made of told) s.over.ensures
