@@ -7,7 +7,7 @@ ghost use Rattle.courses.specs.Places.{BodyFits};
 
 use crate::factor::Factor;
 use crate::fault::TimesFault;
-use crate::once::body_fits;
+use crate::fitting::body_fits;
 use crate::sigs::{times_all_hints, times_sigs};
 use annot_types::{Block, BlockBody, Hint, Sig};
 use std::alloc::Global;

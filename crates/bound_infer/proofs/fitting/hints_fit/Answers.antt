@@ -3,7 +3,7 @@ use Rattle.std.proofs.lemmas.List.Elements.{All-more}
 use Rattle.annot_types.specs.Read.{hint_of}
 use Rattle.courses.specs.Places.{HintFits}
 use Rattle.bound_infer.proofs.Mapped.{all_of}
-use Rattle.bound_infer.proofs.once.hints_fit.Goals as goal
+use Rattle.bound_infer.proofs.fitting.hints_fit.Goals as goal
 
 pub loop-index-preserved : goal.loop-index-preserved
 loop-index-preserved c = All-more (λ h. HintFits 1 (hint_of h)) c.args.hints.now c.loop-index.index c.index-hints-index.result c.loop-index-test.true c.loop-index.invariant

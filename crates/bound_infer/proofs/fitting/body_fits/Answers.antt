@@ -3,7 +3,7 @@ use Rattle.annot_types.specs.Certificate.{Solved}
 use Rattle.annot_types.specs.Read.{sig_of, hints_of, body_of}
 use Rattle.courses.specs.Places.{BodyFits}
 use Rattle.bound_infer.proofs.Bodies.{sigs_fit, hints_fit}
-use Rattle.bound_infer.proofs.once.body_fits.Goals as goal
+use Rattle.bound_infer.proofs.fitting.body_fits.Goals as goal
 
 pub returns-in-Solved : goal.returns-in-Solved
 returns-in-Solved c = subst (BodyFits 1)

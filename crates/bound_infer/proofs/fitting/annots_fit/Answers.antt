@@ -2,7 +2,7 @@ use Rattle.std.proofs.Common.{sym, ap, subst, arith}
 use Rattle.std.proofs.lemmas.List.Elements.{All-more}
 use Rattle.courses.specs.Places.{EntriesFit}
 use Rattle.bound_infer.proofs.Mapped.{all_of}
-use Rattle.bound_infer.proofs.once.annots_fit.Goals as goal
+use Rattle.bound_infer.proofs.fitting.annots_fit.Goals as goal
 
 pub loop-index-preserved : goal.loop-index-preserved
 loop-index-preserved c = All-more (EntriesFit 1) c.args.annots.now c.loop-index.index c.index-annots-index.result c.loop-index-test.true c.loop-index.invariant

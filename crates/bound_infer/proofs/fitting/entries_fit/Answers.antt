@@ -3,7 +3,7 @@ use Rattle.std.specs.Int.{w128}
 use Rattle.std.proofs.lemmas.List.Elements.{All-more}
 use Rattle.bound_infer.proofs.Mapped.{all_of}
 use Rattle.bound_infer.proofs.Ones.{one_times}
-use Rattle.bound_infer.proofs.once.entries_fit.Goals as goal
+use Rattle.bound_infer.proofs.fitting.entries_fit.Goals as goal
 
 pub loop-index-preserved : goal.loop-index-preserved
 loop-index-preserved c =

@@ -4,7 +4,7 @@ use Rattle.std.proofs.lemmas.List.Elements.{All-more}
 use Rattle.annot_types.specs.declared.block.Hint.{Hint}
 use Rattle.bound_infer.specs.Fitting.{HintsFit}
 use Rattle.bound_infer.proofs.Mapped.{all_of}
-use Rattle.bound_infer.proofs.once.all_hints_fit.Goals as goal
+use Rattle.bound_infer.proofs.fitting.all_hints_fit.Goals as goal
 
 pub loop-index-preserved : goal.loop-index-preserved
 loop-index-preserved c = All-more (λ (hs : Vec Hint Global). HintsFit 1 hs.items) c.args.lists.now c.loop-index.index c.index-lists-index.result c.loop-index-test.true c.loop-index.invariant
