@@ -1,4 +1,5 @@
 pub mod Plain
+pub mod Membered
 pub mod Options
 pub mod Inverses
 pub mod Blocks

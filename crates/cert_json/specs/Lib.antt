@@ -1,5 +1,6 @@
 pub mod Parts
 pub mod Form
+pub mod Members
 pub mod Reading
 pub mod Fits
 pub mod Faults
