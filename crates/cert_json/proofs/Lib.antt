@@ -1,5 +1,6 @@
 pub mod Plain
 pub mod Membered
+pub mod Walked
 pub mod Options
 pub mod Inverses
 pub mod Blocks
