@@ -5,6 +5,8 @@ pub mod Reading
 pub mod Fits
 pub mod Faults
 pub mod Steps
+pub mod Pieces
+pub mod ReadPieces
 pub mod Likeness
 pub mod Numbers
 pub mod Read
