@@ -1,4 +1,7 @@
 pub mod Plain
+pub mod Membered
+pub mod Walked
+pub mod Keyed
 pub mod Options
 pub mod Inverses
 pub mod Blocks

@@ -6,11 +6,14 @@ use Rattle.std.specs.Option.{option_map_or}
 use Rattle.std.specs.Str.{bytes_eq}
 use Rattle.serde_json.specs.Data.{Data}
 use Rattle.serde_json.specs.Find.{as_str}
-use Rattle.cert_json.specs.Parts.{Entries, Sig, Let, Share, Call, Body, Solved, Refuted, Calls}
+use Rattle.cert_json.specs.Parts.{Entries, Sig, Let, Share, Call, Solved, Refuted, Calls}
 use Rattle.cert_json.specs.Form.{Text}
 use Rattle.cost_free.specs.Task.{Task}
-use Rattle.cert_json.specs.Reading.{natural_of, list_of, each, two_of, text_number, entry_of, entries_of, ascend_from, in_order, annot_of, sig_of, each_of, sole_of, hint_by, hint_of, both, solved_of, refuted_of, calls_of, block_with, block_by, with_of, free_of, fields, or_else, solved_keys, solved_free_keys, other_keys, other_free_keys, head_keys, solved_in, solved_free_in, other_in, other_free_in, block_of, scale_one, scale_two, scale_of, degree_of, head_with, head_in, head_of}
-use Rattle.cert_json.specs.Likeness.{position_by, like_pair, like_entry, like_all, like_entries, like_annot_from, like_annot, like_sig, like_hint_by, like_hint, like_hints, like_solved, like_block_by, or_like, like_solved_in, like_solved_free, like_other_in, like_other_free, like_calls, like_block, like_scale_one, like_scale_two, like_scale, like_head_in, like_head}
+use Rattle.cert_json.specs.Reading.{natural_of, list_of, each, two_of, text_number, entry_of, entries_of, ascend_from, in_order, annot_of, sig_of, each_of, sole_of, hint_by, hint_of, both, solved_of, refuted_of, calls_of, block_with, fields, or_else, head_keys, block_of, scale_one, scale_two, scale_of, degree_of, head_with, head_in, head_of}
+use Rattle.cert_json.specs.Likeness.{position_by, like_pair, like_entry, like_all, like_entries, like_annot_from, like_annot, like_sig, like_hint_by, like_hint, like_hints, like_solved, like_piece, or_like, like_calls, like_block, like_scale_one, like_scale_two, like_scale, like_head_in, like_head}
+use Rattle.cert_json.specs.Pieces as p
+use Rattle.cert_json.specs.Pieces.{Piece, block_from, block_pieces}
+use Rattle.cert_json.proofs.Keyed.{pieces_read}
 
 -- any text stands for a number
 abbrev any : Text → Option Text
@@ -140,40 +143,24 @@ solved_like hints sigs =
     ∙ two_some (λ a b. (a, b)) (each_of (each_of (hint_of any)) hints) (each_of (sig_of any) sigs)
     ∙ map_some (λ p. Solved p.1 p.0) (both (each_of (each_of (hint_of any)) hints) (each_of (sig_of any) sigs))
 
-block_like : (task : Option Task) (like : Bool) (body : Option (Body Text)) → like ≡ is_some body → like_block_by task like ≡ is_some (block_by task body)
-block_like task like body h = ap (λ b. is_some task && b) h ∙ two_some (λ a b. (a, b)) task body ∙ map_some block_with (both task body)
-
-solved_in_like : (work : Bool) (ds : List Data) → like_solved_in work ds ≡ is_some (solved_in any work ds)
-solved_in_like work (g ∷ h ∷ k ∷ s ∷ []) = block_like (with_of work g k) (like_solved h s) (solved_of any h s) (solved_like h s)
-solved_in_like work _ = refl
-
-solved_free_like : (ds : List Data) → like_solved_free ds ≡ is_some (solved_free_in any ds)
-solved_free_like (b ∷ u ∷ g ∷ h ∷ k ∷ s ∷ t ∷ []) = block_like (free_of b u g k t) (like_solved h s) (solved_of any h s) (solved_like h s)
-solved_free_like _ = refl
-
-other_in_like : (like : Data → Bool) (body : Data → Option (Body Text)) → ((d : Data) → like d ≡ is_some (body d)) → (work : Bool) (ds : List Data) → like_other_in like work ds ≡ is_some (other_in body work ds)
-other_in_like like body h work (d ∷ g ∷ k ∷ []) = block_like (with_of work g k) (like d) (body d) (h d)
-other_in_like like body h work _ = refl
-
-other_free_like : (like : Data → Bool) (body : Data → Option (Body Text)) → ((d : Data) → like d ≡ is_some (body d)) → (ds : List Data) → like_other_free like ds ≡ is_some (other_free_in body ds)
-other_free_like like body h (b ∷ d ∷ u ∷ g ∷ k ∷ t ∷ []) = block_like (free_of b u g k t) (like d) (body d) (h d)
-other_free_like like body h _ = refl
-
 refuted_like : (d : Data) → like_entries d ≡ is_some (refuted_of any d)
 refuted_like d = entries_like d ∙ map_some Refuted (entries_of any d)
 
 calls_like : (d : Data) → like_calls d ≡ is_some (calls_of {N = Text} d)
 calls_like d = map_some Calls (natural_of (2 ^ 32) d)
 
+piece_like : (q : Task × Piece) → like_piece q.1 ≡ is_some (block_from any q)
+piece_like (t, p.Solved hints sigs) = solved_like hints sigs ∙ map_some (λ body. block_with (t, body)) (solved_of any hints sigs)
+piece_like (t, p.Refuted farkas) = refuted_like farkas ∙ map_some (λ body. block_with (t, body)) (refuted_of any farkas)
+piece_like (t, p.Calls fun) = calls_like fun ∙ map_some (λ body. block_with (t, body)) (calls_of {N = Text} fun)
+
 -- a value has the form of a block exactly where it is read with any texts for numbers
 pub blocks_like : (work : Bool) (d : Data) → like_block work d ≡ is_some (block_of any work d)
-blocks_like work d =
-    or_some (fields solved_keys d) (like_solved_in work) (solved_in any work) _ _ (solved_in_like work)
-    (or_some (fields solved_free_keys d) like_solved_free (solved_free_in any) _ _ solved_free_like
-    (or_some (fields (other_keys (codes "farkas")) d) (like_other_in like_entries work) (other_in (refuted_of any) work) _ _ (other_in_like like_entries (refuted_of any) refuted_like work)
-    (or_some (fields (other_free_keys (codes "farkas")) d) (like_other_free like_entries) (other_free_in (refuted_of any)) _ _ (other_free_like like_entries (refuted_of any) refuted_like)
-    (or_some (fields (other_keys (codes "calls")) d) (like_other_in like_calls work) (other_in calls_of work) _ _ (other_in_like like_calls calls_of calls_like work)
-    (or_some (fields (other_free_keys (codes "calls")) d) (like_other_free like_calls) (other_free_in calls_of) false None (other_free_like like_calls calls_of calls_like) refl)))))
+blocks_like work d = by (block_pieces work d) ∙ ap is_some (pieces_read any work d)
+  where
+    by : (o : Option (Task × Piece)) → option_map_or (λ (q : Task × Piece). like_piece q.1) o false ≡ is_some (option_and_then (block_from any) o)
+    by None = refl
+    by (Some q) = piece_like q
 
 text_some : (o : Option Text) → is_some o ≡ is_some (option_and_then any o)
 text_some None = refl

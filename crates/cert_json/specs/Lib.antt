@@ -1,9 +1,12 @@
 pub mod Parts
 pub mod Form
+pub mod Members
 pub mod Reading
 pub mod Fits
 pub mod Faults
 pub mod Steps
+pub mod Pieces
+pub mod ReadPieces
 pub mod Likeness
 pub mod Numbers
 pub mod Read

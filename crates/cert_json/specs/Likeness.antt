@@ -7,7 +7,8 @@ use Rattle.serde_json.specs.Data.{Data}
 use Rattle.serde_json.specs.Find.{as_str}
 use Rattle.cert_json.specs.Form.{Text}
 use Rattle.cost_free.specs.Task.{Task}
-use Rattle.cert_json.specs.Reading.{natural_of, list_of, two_of, sole_of, with_of, free_of, fields, solved_keys, solved_free_keys, other_keys, other_free_keys, head_keys, degree_of}
+use Rattle.cert_json.specs.Reading.{natural_of, list_of, two_of, sole_of, fields, head_keys, degree_of}
+use Rattle.cert_json.specs.Pieces.{Piece, Solved, Refuted, Calls, block_pieces}
 
 abbrev pub position_by : Data × Data → Option ℕ
 position_by p = option_and_then (λ at. cond (is_some (as_str p.1)) (Some at) None) (natural_of (2 ^ 32) p.0)
@@ -53,49 +54,20 @@ like_hints d = like_all like_hint d
 abbrev pub like_solved : Data → Data → Bool
 like_solved hints sigs = like_all like_hints hints && like_all like_sig sigs
 
-abbrev pub like_block_by : Option Task → Bool → Bool
-like_block_by task like = is_some task && like
-
 abbrev pub or_like : Option (List Data) → (List Data → Bool) → Bool → Bool
 or_like (Some ds) like rest = like ds
 or_like None like rest = rest
 
-abbrev pub like_solved_in : Bool → List Data → Bool
-like_solved_in work (group ∷ hints ∷ kind ∷ sigs ∷ []) = like_block_by (with_of work group kind) (like_solved hints sigs)
-like_solved_in work _ = false
-
-abbrev pub like_solved_free : List Data → Bool
-like_solved_free (budget ∷ fun ∷ group ∷ hints ∷ kind ∷ sigs ∷ target ∷ []) = like_block_by (free_of budget fun group kind target) (like_solved hints sigs)
-like_solved_free _ = false
-
-abbrev pub like_other_in : (Data → Bool) → Bool → List Data → Bool
-like_other_in like work (d ∷ group ∷ kind ∷ []) = like_block_by (with_of work group kind) (like d)
-like_other_in like work _ = false
-
-abbrev pub like_other_free : (Data → Bool) → List Data → Bool
-like_other_free like (budget ∷ d ∷ fun ∷ group ∷ kind ∷ target ∷ []) = like_block_by (free_of budget fun group kind target) (like d)
-like_other_free like _ = false
-
 abbrev pub like_calls : Data → Bool
 like_calls d = is_some (natural_of (2 ^ 32) d)
 
-abbrev pub like_calls_free_or : Data → Bool
-like_calls_free_or d = or_like (fields (other_free_keys (codes "calls")) d) (like_other_free like_calls) false
-
-abbrev pub like_calls_or : Bool → Data → Bool
-like_calls_or work d = or_like (fields (other_keys (codes "calls")) d) (like_other_in like_calls work) (like_calls_free_or d)
-
-abbrev pub like_refuted_free_or : Bool → Data → Bool
-like_refuted_free_or work d = or_like (fields (other_free_keys (codes "farkas")) d) (like_other_free like_entries) (like_calls_or work d)
-
-abbrev pub like_refuted_or : Bool → Data → Bool
-like_refuted_or work d = or_like (fields (other_keys (codes "farkas")) d) (like_other_in like_entries work) (like_refuted_free_or work d)
-
-abbrev pub like_solved_free_or : Bool → Data → Bool
-like_solved_free_or work d = or_like (fields solved_free_keys d) like_solved_free (like_refuted_or work d)
+abbrev pub like_piece : Piece → Bool
+like_piece (Solved hints sigs) = like_solved hints sigs
+like_piece (Refuted farkas) = like_entries farkas
+like_piece (Calls fun) = like_calls fun
 
 abbrev pub like_block : Bool → Data → Bool
-like_block work d = or_like (fields solved_keys d) (like_solved_in work) (like_solved_free_or work d)
+like_block work d = option_map_or (λ (p : Task × Piece). like_piece p.1) (block_pieces work d) false
 
 abbrev pub like_scale_one : List Data → Bool
 like_scale_one (cells ∷ ticks ∷ []) = is_some (as_str cells) && is_some (as_str ticks)

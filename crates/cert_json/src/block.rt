@@ -1,12 +1,15 @@
 // Reading a block.
-ghost use Rattle.std.specs.Prelude.{◌≡◌, ◌^◌, IfOk, map, codes, Some, None, option_map};
+ghost use Rattle.std.specs.Prelude.{◌≡◌, ◌^◌, IfOk, option_map};
 ghost use Rattle.serde_json.specs.View.{view};
 ghost use Rattle.cert_json.specs.Read.{block_of, body_of};
 ghost use Rattle.cert_json.specs.Reading as spec;
-ghost use Rattle.cert_json.specs.Reading.{number_of, natural_of, with_of, free_of, is_free, solved_of, refuted_of, calls_of, block_by, solved_in, solved_free_in, other_in, other_free_in, solved_free_or, refuted_free_or, calls_free_or};
+ghost use Rattle.cert_json.specs.Reading.{number_of, natural_of, with_of, free_of, is_free, solved_of, refuted_of, calls_of};
+ghost use Rattle.cert_json.specs.ReadPieces.{piece_of, pieces_of};
+ghost use Rattle.cert_json.specs.Pieces.{body_from, block_from};
 ghost use Rattle.cost_free.specs.Read.{task_of};
 
-use crate::reading::{all_hints, entries, fields, position, sigs};
+use crate::pieces::{Piece, Pieces, block_pieces};
+use crate::reading::{all_hints, entries, position, sigs};
 use annot_types::{Block, BlockBody};
 use cost_free::{Meter, Task, TaskKind};
 use raml_syntax::FunId;
@@ -111,168 +114,33 @@ fn calls(fun: &Value) -> Option<BlockBody>
     Some(BlockBody::Calls { fun: FunId(fun) })
 }
 
-// The block of a task, where there is one.
-fn solved_block(
-    alloc: Global,
-    task: Option<Task>,
-    hints: &Value,
-    sigs: &Value,
-) -> Result<Option<Block>, AllocError>
-    ensures { IfOk result (λ o. option_map block_of o ≡ block_by (option_map task_of task) (solved_of number_of (view hints.now) (view sigs.now))) }
+fn body<'a>(alloc: Global, piece: Piece<'a>) -> Result<Option<BlockBody>, AllocError>
+    ensures { IfOk result (λ o. option_map body_of o ≡ body_from number_of (piece_of piece.entry)) }
 {
-    let Some(task) = task else {
-        return Ok(None);
-    };
-    let Some(body) = solved(alloc, hints, sigs)? else {
-        return Ok(None);
-    };
-    Ok(Some(Block { task, body }))
-}
-
-fn refuted_block(
-    alloc: Global,
-    task: Option<Task>,
-    farkas: &Value,
-) -> Result<Option<Block>, AllocError>
-    ensures { IfOk result (λ o. option_map block_of o ≡ block_by (option_map task_of task) (refuted_of number_of (view farkas.now))) }
-{
-    let Some(task) = task else {
-        return Ok(None);
-    };
-    let Some(body) = refuted(alloc, farkas)? else {
-        return Ok(None);
-    };
-    Ok(Some(Block { task, body }))
-}
-
-fn calls_block(task: Option<Task>, fun: &Value) -> Option<Block>
-    ensures { option_map block_of result ≡ block_by (option_map task_of task) (calls_of (view fun.now)) }
-{
-    let task = task?;
-    let body = calls(fun)?;
-    Some(Block { task, body })
-}
-
-fn solved_with(alloc: Global, work: bool, values: &[&Value]) -> Result<Option<Block>, AllocError>
-    ensures { IfOk result (λ o. option_map block_of o ≡ solved_in number_of work (map (λ v. view v.now) values.now)) }
-{
-    match values {
-        [group, hints, kind, sigs] => {
-            solved_block(alloc, with_task(work, *group, *kind), *hints, *sigs)
-        }
-        _ => Ok(None),
+    match piece {
+        Piece::Solved { hints, sigs } => solved(alloc, hints, sigs),
+        Piece::Refuted { farkas } => refuted(alloc, farkas),
+        Piece::Calls { fun } => Ok(calls(fun)),
     }
 }
 
-fn solved_free(alloc: Global, values: &[&Value]) -> Result<Option<Block>, AllocError>
-    ensures { IfOk result (λ o. option_map block_of o ≡ solved_free_in number_of (map (λ v. view v.now) values.now)) }
+fn whole<'a>(alloc: Global, pieces: Pieces<'a>) -> Result<Option<Block>, AllocError>
+    ensures { IfOk result (λ o. option_map block_of o ≡ block_from number_of (pieces_of pieces.entry)) }
 {
-    match values {
-        [budget, fun, group, hints, kind, sigs, target] => {
-            let task = free_task(*budget, *fun, *group, *kind, *target);
-            solved_block(alloc, task, *hints, *sigs)
-        }
-        _ => Ok(None),
-    }
-}
-
-fn refuted_with(alloc: Global, work: bool, values: &[&Value]) -> Result<Option<Block>, AllocError>
-    ensures { IfOk result (λ o. option_map block_of o ≡ other_in (refuted_of number_of) work (map (λ v. view v.now) values.now)) }
-{
-    match values {
-        [farkas, group, kind] => refuted_block(alloc, with_task(work, *group, *kind), *farkas),
-        _ => Ok(None),
-    }
-}
-
-fn refuted_free(alloc: Global, values: &[&Value]) -> Result<Option<Block>, AllocError>
-    ensures { IfOk result (λ o. option_map block_of o ≡ other_free_in (refuted_of number_of) (map (λ v. view v.now) values.now)) }
-{
-    match values {
-        [budget, farkas, fun, group, kind, target] => {
-            let task = free_task(*budget, *fun, *group, *kind, *target);
-            refuted_block(alloc, task, *farkas)
-        }
-        _ => Ok(None),
-    }
-}
-
-fn calls_with(work: bool, values: &[&Value]) -> Option<Block>
-    ensures { option_map block_of result ≡ other_in calls_of work (map (λ v. view v.now) values.now) }
-{
-    match values {
-        [fun, group, kind] => calls_block(with_task(work, *group, *kind), *fun),
-        _ => None,
-    }
-}
-
-fn calls_free(values: &[&Value]) -> Option<Block>
-    ensures { option_map block_of result ≡ other_free_in calls_of (map (λ v. view v.now) values.now) }
-{
-    match values {
-        [budget, called, fun, group, kind, target] => {
-            calls_block(free_task(*budget, *fun, *group, *kind, *target), *called)
-        }
-        _ => None,
+    let task = pieces.task;
+    match body(alloc, pieces.piece)? {
+        Some(body) => Ok(Some(Block { task, body })),
+        None => Ok(None),
     }
 }
 
 // A block, by the keys that the object has.
+#[tactic(auto, using(crate::proofs::Keyed::pieces_read))]
 pub fn block(alloc: Global, work: bool, value: &Value) -> Result<Option<Block>, AllocError>
     ensures { IfOk result (λ o. option_map block_of o ≡ spec.block_of number_of work (view value.now)) }
 {
-    match fields(alloc, value, &["group", "hints", "kind", "sigs"])? {
-        Some(values) => solved_with(alloc, work, &values),
-        None => other_block(alloc, work, value),
-    }
-}
-
-fn other_block(alloc: Global, work: bool, value: &Value) -> Result<Option<Block>, AllocError>
-    ensures { IfOk result (λ o. option_map block_of o ≡ solved_free_or number_of work (view value.now)) }
-{
-    let keys = [
-        "budget", "function", "group", "hints", "kind", "sigs", "target",
-    ];
-    match fields(alloc, value, &keys)? {
-        Some(values) => solved_free(alloc, &values),
-        None => refuted_or(alloc, work, value),
-    }
-}
-
-fn refuted_or(alloc: Global, work: bool, value: &Value) -> Result<Option<Block>, AllocError>
-    ensures { IfOk result (λ o. option_map block_of o ≡ spec.refuted_block number_of work (view value.now)) }
-{
-    match fields(alloc, value, &["farkas", "group", "kind"])? {
-        Some(values) => refuted_with(alloc, work, &values),
-        None => refuted_free_or(alloc, work, value),
-    }
-}
-
-fn refuted_free_or(alloc: Global, work: bool, value: &Value) -> Result<Option<Block>, AllocError>
-    ensures { IfOk result (λ o. option_map block_of o ≡ refuted_free_or number_of work (view value.now)) }
-{
-    let keys = ["budget", "farkas", "function", "group", "kind", "target"];
-    match fields(alloc, value, &keys)? {
-        Some(values) => refuted_free(alloc, &values),
-        None => calls_or(alloc, work, value),
-    }
-}
-
-fn calls_or(alloc: Global, work: bool, value: &Value) -> Result<Option<Block>, AllocError>
-    ensures { IfOk result (λ o. option_map block_of o ≡ spec.calls_block work (view value.now)) }
-{
-    match fields(alloc, value, &["calls", "group", "kind"])? {
-        Some(values) => Ok(calls_with(work, &values)),
-        None => calls_free_or(alloc, value),
-    }
-}
-
-fn calls_free_or(alloc: Global, value: &Value) -> Result<Option<Block>, AllocError>
-    ensures { IfOk result (λ o. option_map block_of o ≡ calls_free_or (view value.now)) }
-{
-    let keys = ["budget", "calls", "function", "group", "kind", "target"];
-    match fields(alloc, value, &keys)? {
-        Some(values) => Ok(calls_free(&values)),
+    match block_pieces(alloc, work, value)? {
+        Some(pieces) => whole(alloc, pieces),
         None => Ok(None),
     }
 }

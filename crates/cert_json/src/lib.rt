@@ -6,6 +6,7 @@ mod block;
 mod head;
 pub mod laws;
 mod likeness;
+mod pieces;
 mod reading;
 mod whole;
 mod writing;

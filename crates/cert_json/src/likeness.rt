@@ -1,14 +1,13 @@
 // Whether a value has the form of a part of a certificate, where any text may stand for a number.
-ghost use Rattle.std.specs.Prelude.{◌≡◌, IfOk, map, Some, option_map, is_some};
+ghost use Rattle.std.specs.Prelude.{◌≡◌, IfOk, map};
 ghost use Rattle.std.specs.List.{list_all};
 ghost use Rattle.serde_json.specs.View.{view};
-ghost use Rattle.cert_json.specs.Likeness.{like_entry, like_annot_from, like_annot, like_entries, like_sig, like_hint, like_hint_by, like_hints, like_all, like_solved, position_in, like_block_by, like_solved_in, like_solved_free, like_other_in, like_other_free, like_calls, like_block, like_solved_free_or, like_refuted_or, like_refuted_free_or, like_calls_or, like_calls_free_or, like_scale_one, like_scale_two, like_scale, like_head_in, like_head};
-ghost use Rattle.cost_free.specs.Read.{task_of};
+ghost use Rattle.cert_json.specs.Likeness.{like_entry, like_annot_from, like_annot, like_entries, like_sig, like_hint, like_hint_by, like_hints, like_all, like_solved, position_in, like_piece, like_block, like_scale_one, like_scale_two, like_scale, like_head_in, like_head};
+ghost use Rattle.cert_json.specs.ReadPieces.{piece_of};
 
-use crate::block::{free_task, with_task};
 use crate::head::{degree, version};
+use crate::pieces::{Piece, block_pieces};
 use crate::reading::{fields, list, position, sole, two};
-use cost_free::Task;
 use serde_json::Value;
 use std::alloc::{AllocError, Global};
 
@@ -125,10 +124,10 @@ fn like_sigs(value: &Value) -> bool
     }
 }
 
-pub fn like_solved(task: Option<Task>, hints: &Value, sigs: &Value) -> bool
-    ensures { result ≡ like_block_by (option_map task_of task) (like_solved (view hints.now) (view sigs.now)) }
+fn like_solved(hints: &Value, sigs: &Value) -> bool
+    ensures { result ≡ like_solved (view hints.now) (view sigs.now) }
 {
-    task.is_some() && like_all_hints(hints) && like_sigs(sigs)
+    like_all_hints(hints) && like_sigs(sigs)
 }
 
 fn each_like_entry(items: &[Value]) -> bool
@@ -186,73 +185,13 @@ fn each_like_sig(items: &[Value]) -> bool
     true
 }
 
-fn like_solved_with(work: bool, values: &[&Value]) -> bool
-    ensures { result ≡ like_solved_in work (map (λ v. view v.now) values.now) }
+fn like_piece<'a>(piece: Piece<'a>) -> bool
+    ensures { result ≡ like_piece (piece_of piece.entry) }
 {
-    match values {
-        [group, hints, kind, sigs] => like_solved(with_task(work, *group, *kind), *hints, *sigs),
-        _ => false,
-    }
-}
-
-fn like_solved_free(values: &[&Value]) -> bool
-    ensures { result ≡ like_solved_free (map (λ v. view v.now) values.now) }
-{
-    match values {
-        [budget, fun, group, hints, kind, sigs, target] => {
-            like_solved(
-                free_task(*budget, *fun, *group, *kind, *target),
-                *hints,
-                *sigs,
-            )
-        }
-        _ => false,
-    }
-}
-
-fn like_refuted_with(work: bool, values: &[&Value]) -> bool
-    ensures { result ≡ like_other_in like_entries work (map (λ v. view v.now) values.now) }
-{
-    match values {
-        [farkas, group, kind] => {
-            with_task(work, *group, *kind).is_some() && like_entries(*farkas)
-        }
-        _ => false,
-    }
-}
-
-fn like_refuted_free(values: &[&Value]) -> bool
-    ensures { result ≡ like_other_free like_entries (map (λ v. view v.now) values.now) }
-{
-    match values {
-        [budget, farkas, fun, group, kind, target] => {
-            let task = free_task(*budget, *fun, *group, *kind, *target);
-            task.is_some() && like_entries(*farkas)
-        }
-        _ => false,
-    }
-}
-
-fn like_calls_with(work: bool, values: &[&Value]) -> bool
-    ensures { result ≡ like_other_in like_calls work (map (λ v. view v.now) values.now) }
-{
-    match values {
-        [fun, group, kind] => {
-            with_task(work, *group, *kind).is_some() && position(*fun).is_some()
-        }
-        _ => false,
-    }
-}
-
-fn like_calls_free(values: &[&Value]) -> bool
-    ensures { result ≡ like_other_free like_calls (map (λ v. view v.now) values.now) }
-{
-    match values {
-        [budget, called, fun, group, kind, target] => {
-            let task = free_task(*budget, *fun, *group, *kind, *target);
-            task.is_some() && position(*called).is_some()
-        }
-        _ => false,
+    match piece {
+        Piece::Solved { hints, sigs } => like_solved(hints, sigs),
+        Piece::Refuted { farkas } => like_entries(farkas),
+        Piece::Calls { fun } => position(fun).is_some(),
     }
 }
 
@@ -260,58 +199,8 @@ fn like_calls_free(values: &[&Value]) -> bool
 pub fn like_block(alloc: Global, work: bool, value: &Value) -> Result<bool, AllocError>
     ensures { IfOk result (λ like. like ≡ like_block work (view value.now)) }
 {
-    match fields(alloc, value, &["group", "hints", "kind", "sigs"])? {
-        Some(values) => Ok(like_solved_with(work, &values)),
-        None => like_solved_free_or(alloc, work, value),
-    }
-}
-
-fn like_solved_free_or(alloc: Global, work: bool, value: &Value) -> Result<bool, AllocError>
-    ensures { IfOk result (λ like. like ≡ like_solved_free_or work (view value.now)) }
-{
-    let keys = [
-        "budget", "function", "group", "hints", "kind", "sigs", "target",
-    ];
-    match fields(alloc, value, &keys)? {
-        Some(values) => Ok(like_solved_free(&values)),
-        None => like_refuted_or(alloc, work, value),
-    }
-}
-
-fn like_refuted_or(alloc: Global, work: bool, value: &Value) -> Result<bool, AllocError>
-    ensures { IfOk result (λ like. like ≡ like_refuted_or work (view value.now)) }
-{
-    match fields(alloc, value, &["farkas", "group", "kind"])? {
-        Some(values) => Ok(like_refuted_with(work, &values)),
-        None => like_refuted_free_or(alloc, work, value),
-    }
-}
-
-fn like_refuted_free_or(alloc: Global, work: bool, value: &Value) -> Result<bool, AllocError>
-    ensures { IfOk result (λ like. like ≡ like_refuted_free_or work (view value.now)) }
-{
-    let keys = ["budget", "farkas", "function", "group", "kind", "target"];
-    match fields(alloc, value, &keys)? {
-        Some(values) => Ok(like_refuted_free(&values)),
-        None => like_calls_or(alloc, work, value),
-    }
-}
-
-fn like_calls_or(alloc: Global, work: bool, value: &Value) -> Result<bool, AllocError>
-    ensures { IfOk result (λ like. like ≡ like_calls_or work (view value.now)) }
-{
-    match fields(alloc, value, &["calls", "group", "kind"])? {
-        Some(values) => Ok(like_calls_with(work, &values)),
-        None => like_calls_free_or(alloc, value),
-    }
-}
-
-fn like_calls_free_or(alloc: Global, value: &Value) -> Result<bool, AllocError>
-    ensures { IfOk result (λ like. like ≡ like_calls_free_or (view value.now)) }
-{
-    let keys = ["budget", "calls", "function", "group", "kind", "target"];
-    match fields(alloc, value, &keys)? {
-        Some(values) => Ok(like_calls_free(&values)),
+    match block_pieces(alloc, work, value)? {
+        Some(pieces) => Ok(like_piece(pieces.piece)),
         None => Ok(false),
     }
 }

@@ -1,20 +1,21 @@
 // The text of a certificate.
-ghost use Rattle.std.specs.Prelude.{◌≡◌, IfOk, map, codes};
+ghost use Rattle.std.specs.Prelude.{◌≡◌, IfOk, OnOk, map, codes};
 ghost use Rattle.std.specs.Fmt.{signed_decimal};
-ghost use Rattle.serde_json.specs.Data.{number, unsigned, string};
-ghost use Rattle.serde_json.specs.View.{view};
+ghost use Rattle.serde_json.specs.Data.{number, unsigned, string, object, no_members, put as with_member};
+ghost use Rattle.serde_json.specs.View.{view, members_view};
 ghost use Rattle.cost_free.specs.Read.{kind_of};
 ghost use Rattle.annot_types.specs.Read.{certificate_of};
 ghost use Rattle.cert_json.specs.Read.{sig_of, hint_of, hints_of, block_of, parts_of, body_of};
-ghost use Rattle.cert_json.specs.Fits.{Each};
-ghost use Rattle.cert_json.specs.Numbers.{Wide, EntryHas, EntriesHave, SigHas, HintHas, HintsHave, BlockHas, ScaleHas, CertificateHas};
+ghost use Rattle.cert_json.specs.Fits.{Each, FitsOption};
+ghost use Rattle.cert_json.specs.Numbers.{Wide, EntryHas, EntriesHave, SigHas, HintHas, HintsHave, BodyHas, BlockHas, ScaleHas, CertificateHas};
 ghost use Rattle.cert_json.specs.Told.{text_of, IsWritten};
-ghost use Rattle.cert_json.specs.Form.{list_json, natural, entry_json, entries_json, sig_json, hint_json, hints_json, block_json, certificate_json, sole_json, solved_json, other_json, meter_text, scale_json, version};
+ghost use Rattle.cert_json.specs.Form.{list_json, natural, pair_json, entry_json, entries_json, sig_json, hint_json, hints_json, block_json, certificate_json, sole_json, meter_text, scale_json, version};
+ghost use Rattle.cert_json.specs.Members.{with_free, with_task, with_solved, with_body, with_work, head_members};
 
 use annot_types::{Annot, Block, BlockBody, Certificate, Hint, Sig};
 use cost_free::{Meter, TaskKind};
 use itoa::Buffer;
-use serde_json::{Value, json};
+use serde_json::{Map, Value, push, put};
 use std::alloc::{AllocError, Global};
 
 fn number_json(alloc: Global, number: i128) -> Result<Value, AllocError>
@@ -25,13 +26,19 @@ fn number_json(alloc: Global, number: i128) -> Result<Value, AllocError>
     Value::try_from_str(alloc, buffer.format(number))
 }
 
+fn pair_json(alloc: Global, first: Value, second: Value) -> Result<Value, AllocError>
+    ensures { IfOk result (λ v. view v ≡ pair_json (view first) (view second)) }
+{
+    Ok(Value::Array(vec![in alloc; first, second]?))
+}
+
 fn entries_json(alloc: Global, entries: &[(u32, i128)]) -> Result<Value, AllocError>
     ensures value { IfOk result (λ v. view v ≡ entries_json signed_decimal entries.now) }
     ensures numbers { IfOk result (λ _. EntriesHave Wide entries.now) }
 {
     let mut items = Vec::new(alloc);
     for (position, number) in entries {
-        items.push(entry_json(alloc, *position, *number)?)?;
+        push(&mut items, entry_json(alloc, *position, *number)?)?;
     }
     Ok(Value::Array(items))
 }
@@ -41,7 +48,7 @@ fn entry_json(alloc: Global, position: u32, number: i128) -> Result<Value, Alloc
     ensures numbers { IfOk result (λ _. EntryHas Wide (position, number)) }
 {
     let number = number_json(alloc, number)?;
-    json!(in alloc; [position, number])
+    pair_json(alloc, Value::from(position), number)
 }
 
 fn sig_json(alloc: Global, sig: &Sig) -> Result<Value, AllocError>
@@ -50,7 +57,7 @@ fn sig_json(alloc: Global, sig: &Sig) -> Result<Value, AllocError>
 {
     let args = entries_json(alloc, sig.args.entries())?;
     let result = entries_json(alloc, sig.result.entries())?;
-    json!(in alloc; [args, result])
+    pair_json(alloc, args, result)
 }
 
 fn sigs_json(alloc: Global, sigs: &[Sig]) -> Result<Value, AllocError>
@@ -59,7 +66,7 @@ fn sigs_json(alloc: Global, sigs: &[Sig]) -> Result<Value, AllocError>
 {
     let mut items = Vec::new(alloc);
     for sig in sigs {
-        items.push(sig_json(alloc, sig)?)?;
+        push(&mut items, sig_json(alloc, sig)?)?;
     }
     Ok(Value::Array(items))
 }
@@ -70,7 +77,7 @@ fn annots_json(alloc: Global, annots: &[Annot]) -> Result<Value, AllocError>
 {
     let mut items = Vec::new(alloc);
     for annot in annots {
-        items.push(entries_json(alloc, annot.entries())?)?;
+        push(&mut items, entries_json(alloc, annot.entries())?)?;
     }
     Ok(Value::Array(items))
 }
@@ -80,28 +87,16 @@ fn hint_json(alloc: Global, hint: &Hint) -> Result<Value, AllocError>
     ensures numbers { IfOk result (λ _. HintHas Wide (hint_of hint.now)) }
 {
     match hint {
-        Hint::Let(annots) => let_json(annots_json(alloc, annots)?, alloc),
-        Hint::Share(annot) => share_json(entries_json(alloc, annot.entries())?, alloc),
-        Hint::Call(uses) => call_json(entries_json(alloc, uses)?, alloc),
+        Hint::Let(annots) => sole_json("let", annots_json(alloc, annots)?, alloc),
+        Hint::Share(annot) => sole_json("share", entries_json(alloc, annot.entries())?, alloc),
+        Hint::Call(uses) => sole_json("call", entries_json(alloc, uses)?, alloc),
     }
 }
 
-fn let_json(annots: Value, alloc: Global) -> Result<Value, AllocError>
-    ensures { IfOk result (λ v. view v ≡ sole_json (codes "let") (view annots)) }
+fn sole_json(key: &str, value: Value, alloc: Global) -> Result<Value, AllocError>
+    ensures { IfOk result (λ v. view v ≡ sole_json key.now (view value)) }
 {
-    json!(in alloc; {"let": annots})
-}
-
-fn share_json(annot: Value, alloc: Global) -> Result<Value, AllocError>
-    ensures { IfOk result (λ v. view v ≡ sole_json (codes "share") (view annot)) }
-{
-    json!(in alloc; {"share": annot})
-}
-
-fn call_json(uses: Value, alloc: Global) -> Result<Value, AllocError>
-    ensures { IfOk result (λ v. view v ≡ sole_json (codes "call") (view uses)) }
-{
-    json!(in alloc; {"call": uses})
+    object_with(Map::new(alloc), key, value, alloc)
 }
 
 fn hints_json(alloc: Global, hints: &[Hint]) -> Result<Value, AllocError>
@@ -110,7 +105,7 @@ fn hints_json(alloc: Global, hints: &[Hint]) -> Result<Value, AllocError>
 {
     let mut items = Vec::new(alloc);
     for hint in hints {
-        items.push(hint_json(alloc, hint)?)?;
+        push(&mut items, hint_json(alloc, hint)?)?;
     }
     Ok(Value::Array(items))
 }
@@ -121,7 +116,7 @@ fn all_hints_json(alloc: Global, hints: &[Vec<Hint>]) -> Result<Value, AllocErro
 {
     let mut items = Vec::new(alloc);
     for hints in hints {
-        items.push(hints_json(alloc, hints)?)?;
+        push(&mut items, hints_json(alloc, hints)?)?;
     }
     Ok(Value::Array(items))
 }
@@ -136,89 +131,138 @@ fn meter_text(meter: Meter) -> &'static str
     }
 }
 
+// The members, with one more.
+fn with_member(
+    mut members: Map<String, Value>,
+    key: &str,
+    value: Value,
+    alloc: Global,
+) -> Result<Map<String, Value>, AllocError>
+    ensures { IfOk result (λ m. members_view m.entries ≡ with_member key.now (view value) (members_view members.entries)) }
+{
+    put(&mut members, alloc, key, value)?;
+    Ok(members)
+}
+
+// The object of these members and one more.
+fn object_with(
+    members: Map<String, Value>,
+    key: &str,
+    value: Value,
+    alloc: Global,
+) -> Result<Value, AllocError>
+    ensures { IfOk result (λ v. view v ≡ object (with_member key.now (view value) (members_view members.entries))) }
+{
+    Ok(Value::Object(with_member(members, key, value, alloc)?))
+}
+
+fn put_natural(
+    members: &mut Map<String, Value>,
+    alloc: Global,
+    key: &str,
+    number: u32,
+) -> Result<(), AllocError>
+    ensures { OnOk result (members_view members.new.entries ≡ with_member key.now (natural number) (members_view members.old.entries)) }
+{
+    put(members, alloc, key, Value::from(number))
+}
+
+fn put_text(
+    members: &mut Map<String, Value>,
+    alloc: Global,
+    key: &str,
+    text: &str,
+) -> Result<(), AllocError>
+    ensures { OnOk result (members_view members.new.entries ≡ with_member key.now (string text.now) (members_view members.old.entries)) }
+{
+    let text = Value::try_from_str(alloc, text)?;
+    put(members, alloc, key, text)
+}
+
+fn put_free(
+    members: &mut Map<String, Value>,
+    alloc: Global,
+    budget: u8,
+    fun: u32,
+    target: u32,
+) -> Result<(), AllocError>
+    ensures { OnOk result (members_view members.new.entries ≡ with_free budget fun target (members_view members.old.entries)) }
+{
+    put_natural(members, alloc, "budget", u32::from(budget))?;
+    put_natural(members, alloc, "function", fun)?;
+    put_text(members, alloc, "kind", "free")?;
+    put_natural(members, alloc, "target", target)
+}
+
+fn put_task(
+    members: &mut Map<String, Value>,
+    alloc: Global,
+    group: u32,
+    kind: TaskKind,
+) -> Result<(), AllocError>
+    ensures { OnOk result (members_view members.new.entries ≡ with_task group (kind_of kind) (members_view members.old.entries)) }
+{
+    put_natural(members, alloc, "group", group)?;
+    match kind {
+        TaskKind::Free {
+            budget,
+            fun,
+            target,
+        } => put_free(members, alloc, budget, fun.0, target),
+        TaskKind::With(meter) => put_text(members, alloc, "kind", meter_text(meter)),
+    }
+}
+
+// The members that tell a task.
+fn task_members(alloc: Global, group: u32, kind: TaskKind) -> Result<Map<String, Value>, AllocError>
+    ensures { IfOk result (λ m. members_view m.entries ≡ with_task group (kind_of kind) no_members) }
+{
+    let mut members = Map::new(alloc);
+    put_task(&mut members, alloc, group, kind)?;
+    Ok(members)
+}
+
 fn solved_json(
-    group: u32,
-    kind: TaskKind,
-    hints: Value,
-    sigs: Value,
+    members: Map<String, Value>,
+    hints: &[Vec<Hint>],
+    sigs: &[Sig],
     alloc: Global,
 ) -> Result<Value, AllocError>
-    ensures { IfOk result (λ v. view v ≡ solved_json group (kind_of kind) (view hints) (view sigs)) }
+    ensures value { IfOk result (λ v. view v ≡ object (with_solved signed_decimal (map sig_of sigs.now) (map hints_of hints.now) (members_view members.entries))) }
+    ensures sigs { IfOk result (λ _. Each (SigHas Wide) (map sig_of sigs.now)) }
+    ensures hints { IfOk result (λ _. Each (HintsHave Wide) (map hints_of hints.now)) }
 {
-    match kind {
-        TaskKind::Free {
-            budget,
-            fun,
-            target,
-        } => json!(in alloc; {
-            "budget": budget, "function": fun.0, "group": group, "hints": hints, "kind": "free",
-            "sigs": sigs, "target": target
-        }),
-        TaskKind::With(meter) => json!(in alloc; {
-            "group": group, "hints": hints, "kind": (meter_text(meter)), "sigs": sigs
-        }),
-    }
+    let hints = all_hints_json(alloc, hints)?;
+    let members = with_member(members, "hints", hints, alloc)?;
+    let sigs = sigs_json(alloc, sigs)?;
+    object_with(members, "sigs", sigs, alloc)
 }
 
-fn refuted_json(
-    group: u32,
-    kind: TaskKind,
-    farkas: Value,
+// A block, of whose object these members tell the task.
+fn body_json(
+    members: Map<String, Value>,
+    body: &BlockBody,
     alloc: Global,
 ) -> Result<Value, AllocError>
-    ensures { IfOk result (λ v. view v ≡ other_json group (kind_of kind) (codes "farkas") (view farkas)) }
+    ensures value { IfOk result (λ v. view v ≡ object (with_body signed_decimal (body_of body.now) (members_view members.entries))) }
+    ensures numbers { IfOk result (λ _. BodyHas Wide (body_of body.now)) }
 {
-    match kind {
-        TaskKind::Free {
-            budget,
-            fun,
-            target,
-        } => json!(in alloc; {
-            "budget": budget, "farkas": farkas, "function": fun.0, "group": group, "kind": "free",
-            "target": target
-        }),
-        TaskKind::With(meter) => json!(in alloc; {
-            "farkas": farkas, "group": group, "kind": (meter_text(meter))
-        }),
+    match body {
+        BlockBody::Solved { sigs, hints } => solved_json(members, hints, sigs, alloc),
+        BlockBody::Refuted { farkas } => {
+            object_with(members, "farkas", entries_json(alloc, farkas)?, alloc)
+        }
+        BlockBody::Calls { fun } => object_with(members, "calls", Value::from(fun.0), alloc),
     }
 }
 
-fn calls_json(group: u32, kind: TaskKind, called: u32, alloc: Global) -> Result<Value, AllocError>
-    ensures { IfOk result (λ v. view v ≡ other_json group (kind_of kind) (codes "calls") (natural called)) }
-{
-    match kind {
-        TaskKind::Free {
-            budget,
-            fun,
-            target,
-        } => json!(in alloc; {
-            "budget": budget, "calls": called, "function": fun.0, "group": group, "kind": "free",
-            "target": target
-        }),
-        TaskKind::With(meter) => json!(in alloc; {
-            "calls": called, "group": group, "kind": (meter_text(meter))
-        }),
-    }
-}
-
+#[tactic(auto, using(crate::proofs::Membered::block_is))]
 fn block_json(alloc: Global, block: &Block) -> Result<Value, AllocError>
     ensures value { IfOk result (λ v. view v ≡ block_json signed_decimal (block_of block.now)) }
     ensures numbers { IfOk result (λ _. BlockHas Wide (block_of block.now)) }
 {
-    let group = block.task.group;
-    let kind = block.task.kind;
-    match &block.body {
-        BlockBody::Solved { sigs, hints } => {
-            let hints = all_hints_json(alloc, hints)?;
-            let sigs = sigs_json(alloc, sigs)?;
-            solved_json(group, kind, hints, sigs, alloc)
-        }
-        BlockBody::Refuted { farkas } => {
-            let farkas = entries_json(alloc, farkas)?;
-            refuted_json(group, kind, farkas, alloc)
-        }
-        BlockBody::Calls { fun } => calls_json(group, kind, fun.0, alloc),
-    }
+    let members = task_members(alloc, block.task.group, block.task.kind)?;
+    body_json(members, &block.body, alloc)
 }
 
 fn blocks_json(alloc: Global, blocks: &[Block]) -> Result<Value, AllocError>
@@ -227,11 +271,39 @@ fn blocks_json(alloc: Global, blocks: &[Block]) -> Result<Value, AllocError>
 {
     let mut items = Vec::new(alloc);
     for block in blocks {
-        items.push(block_json(alloc, block)?)?;
+        push(&mut items, block_json(alloc, block)?)?;
     }
     Ok(Value::Array(items))
 }
 
+fn put_number(
+    members: &mut Map<String, Value>,
+    alloc: Global,
+    key: &str,
+    number: i128,
+) -> Result<(), AllocError>
+    ensures value { OnOk result (members_view members.new.entries ≡ with_member key.now (string (signed_decimal number)) (members_view members.old.entries)) }
+    ensures numbers { OnOk result (Wide number) }
+{
+    let number = number_json(alloc, number)?;
+    put(members, alloc, key, number)
+}
+
+fn put_work(
+    members: &mut Map<String, Value>,
+    alloc: Global,
+    work: Option<i128>,
+) -> Result<(), AllocError>
+    ensures value { OnOk result (members_view members.new.entries ≡ with_work signed_decimal work (members_view members.old.entries)) }
+    ensures numbers { OnOk result (FitsOption Wide work) }
+{
+    match work {
+        None => Ok(()),
+        Some(work) => put_number(members, alloc, "work", work),
+    }
+}
+
+#[tactic(auto, using(crate::proofs::Membered::scale_is))]
 fn scale_json(
     alloc: Global,
     ticks: i128,
@@ -241,15 +313,11 @@ fn scale_json(
     ensures value { IfOk result (λ v. view v ≡ scale_json signed_decimal ticks cells work) }
     ensures numbers { IfOk result (λ _. ScaleHas Wide ticks cells work) }
 {
-    let ticks = number_json(alloc, ticks)?;
-    let cells = number_json(alloc, cells)?;
-    match work {
-        None => json!(in alloc; {"cells": cells, "ticks": ticks}),
-        Some(work) => {
-            let work = number_json(alloc, work)?;
-            json!(in alloc; {"cells": cells, "ticks": ticks, "work": work})
-        }
-    }
+    let mut members = Map::new(alloc);
+    put_number(&mut members, alloc, "cells", cells)?;
+    put_number(&mut members, alloc, "ticks", ticks)?;
+    put_work(&mut members, alloc, work)?;
+    Ok(Value::Object(members))
 }
 
 fn version(work: Option<i128>) -> u8
@@ -261,21 +329,31 @@ fn version(work: Option<i128>) -> u8
     }
 }
 
-fn certificate_json(alloc: Global, certificate: &Certificate) -> Result<Value, AllocError>
-    ensures value { IfOk result (λ v. view v ≡ certificate_json signed_decimal (parts_of certificate.now)) }
-    ensures numbers { IfOk result (λ _. CertificateHas Wide (parts_of certificate.now)) }
+// The members beside the blocks.
+fn head_members(alloc: Global, certificate: &Certificate) -> Result<Map<String, Value>, AllocError>
+    ensures value { IfOk result (λ m. members_view m.entries ≡ head_members signed_decimal (parts_of certificate.now).head) }
+    ensures numbers { IfOk result (λ _. ScaleHas Wide certificate.now.ticks_scale certificate.now.cells_scale certificate.now.work_scale) }
 {
-    let blocks = blocks_json(alloc, &certificate.blocks)?;
+    let mut members = Map::new(alloc);
+    put_natural(&mut members, alloc, "degree", u32::from(certificate.degree))?;
+    let version = version(certificate.work_scale);
+    put_natural(&mut members, alloc, "version", u32::from(version))?;
     let scale = scale_json(
         alloc,
         certificate.ticks_scale,
         certificate.cells_scale,
         certificate.work_scale,
     )?;
-    let version = version(certificate.work_scale);
-    json!(in alloc; {
-        "blocks": blocks, "degree": (certificate.degree), "scale": scale, "version": version
-    })
+    with_member(members, "scale", scale, alloc)
+}
+
+fn certificate_json(alloc: Global, certificate: &Certificate) -> Result<Value, AllocError>
+    ensures value { IfOk result (λ v. view v ≡ certificate_json signed_decimal (parts_of certificate.now)) }
+    ensures numbers { IfOk result (λ _. CertificateHas Wide (parts_of certificate.now)) }
+{
+    let members = head_members(alloc, certificate)?;
+    let blocks = blocks_json(alloc, &certificate.blocks)?;
+    object_with(members, "blocks", blocks, alloc)
 }
 
 /// The text of a certificate: compact, with keys in ascending order.
