@@ -1,9 +1,3 @@
 pub mod Answered
-pub mod Chains
-pub mod ExprSteps
 pub mod Limits
 pub mod OneAnswer
-pub mod Parts
-pub mod Signs
-pub mod TheTable
-pub mod TypeSteps

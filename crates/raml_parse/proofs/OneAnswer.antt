@@ -14,12 +14,12 @@ use Rattle.raml_lex.specs.declared.token.Token as l
 use Rattle.raml_lex.specs.declared.token.LexFault.{LexFault}
 use Rattle.raml_lex.proofs.OneAnswer as lexed
 use Rattle.raml_syntax.specs.Tree.{Text, Prog}
-use Rattle.raml_parse.specs.Tokens.{Token, as_token}
-use Rattle.raml_parse.specs.Table.{Part, Whole, grammar}
+use Rattle.raml_grammar.specs.Tokens.{Token, as_token}
+use Rattle.raml_grammar.specs.Table.{Part, Whole, grammar}
 use Rattle.raml_parse.specs.Spelling.{HasTokens, Answers, HasOneAnswer, place_in}
 use Rattle.raml_parse.specs.declared.fault.ParseFault.{ParseFault}
 use Rattle.raml_parse.specs.declared.fault.ParseFault.TheVariants.{NotUtf8, Lex, Syntax, TooDeep, TooMany, NoMemory}
-use Rattle.raml_parse.proofs.TheTable.{readable}
+use Rattle.raml_grammar.proofs.TheTable.{readable}
 
 -- where the answer is found
 data Stage : Type 0 where

@@ -7,8 +7,8 @@ use Rattle.token_grammar.specs.declared.Kind.TheVariants as d
 use Rattle.raml_lex.specs.Lexing as lex
 use Rattle.raml_lex.specs.declared.token.Token as l
 use Rattle.raml_syntax.specs.Tree.{Text, Prog}
-use Rattle.raml_parse.specs.Tokens.{Token, Name, Number, Key, as_token}
-use Rattle.raml_parse.specs.Table.{Whole, grammar}
+use Rattle.raml_grammar.specs.Tokens.{Token, Name, Number, Key, as_token}
+use Rattle.raml_grammar.specs.Table.{Whole, grammar}
 use Rattle.raml_parse.specs.declared.fault.ParseFault.{ParseFault}
 use Rattle.raml_parse.specs.declared.fault.ParseFault.TheVariants.{NotUtf8, Lex, Syntax, TooDeep, TooMany, NoMemory}
 

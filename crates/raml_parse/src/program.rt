@@ -1,17 +1,17 @@
 // Functions and programs from tokens.
 ghost use Rattle.std.specs.Prelude.{◌≡◌, ◌≤◌, ◌<◌, ◌^◌, [], ◌∷◌, ◌++◌, length, IfOk};
 ghost use Rattle.token_grammar.specs.Reading.{list_of};
-ghost use Rattle.raml_parse.specs.Table.{param_rule, params_rule, body_rule, function_rule, text_rule, key, place};
-ghost use Rattle.raml_parse.specs.Steps.{reads};
-ghost use Rattle.raml_parse.specs.Read.{Gives, StartsAt, HaveParameters, pieces, header, headers, headers_back, function, functions, whole, named_part};
-ghost use Rattle.raml_parse.specs.declared.token.Sign.TheVariants as s;
+ghost use Rattle.raml_grammar.specs.Table.{param_rule, params_rule, body_rule, function_rule, text_rule, key, place};
+ghost use Rattle.raml_grammar.specs.Steps.{reads};
+ghost use Rattle.raml_grammar.specs.Read.{Gives, StartsAt, HaveParameters, pieces, header, headers, headers_back, function, functions, whole, named_part};
+ghost use Rattle.raml_grammar.specs.declared.token.Sign.TheVariants as s;
 
-use crate::exprs::parse_part;
-use crate::make;
-use crate::stop::Stop;
-use crate::take::{NameAt, behind, place_behind, take_name, take_place, take_sign};
-use crate::token::{Piece, Sign};
-use crate::types::parse_type;
+use raml_exprs::parse_part;
+use raml_grammar::make;
+use raml_grammar::stop::Stop;
+use raml_grammar::take::{NameAt, behind, place_behind, take_name, take_place, take_sign};
+use raml_grammar::token::{Piece, Sign};
+use raml_grammar::types::parse_type;
 use raml_syntax::{Fun, Param, Pos, Program};
 use std::alloc::Global;
 use token_grammar::Kind;
@@ -158,7 +158,7 @@ fn parse_functions<'a>(
 }
 
 /// A program with types and bodies of height `depth` at most, their height, and the tokens behind it.
-#[tactic(auto, using(crate::proofs::Parts::program_is))]
+#[tactic(auto, using(raml_grammar::proofs::Parts::program_is))]
 pub fn parse_program<'a>(
     alloc: Global,
     depth: u32,

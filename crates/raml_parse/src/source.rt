@@ -9,8 +9,8 @@ ghost use Rattle.raml_parse.specs.Spelling.{Spells, FirstFault, HasOneAnswer};
 ghost use Rattle.raml_parse.specs.declared.fault.ParseFault.TheVariants.{NoMemory};
 
 use crate::fault::ParseFault;
-use crate::pieces::pieces_of;
 use crate::whole::{fault_of, parse_tokens};
+use raml_grammar::pieces::pieces_of;
 use raml_lex::{LexFault, tokens};
 use raml_syntax::{Pos, Program};
 use std::alloc::Global;

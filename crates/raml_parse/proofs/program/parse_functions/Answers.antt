@@ -2,11 +2,11 @@ use Rattle.std.proofs.Common.{◌≡◌, ◌≤◌, ◌<◌, ◌-◌, ◌∙◌,
 use Rattle.std.specs.Prelude.{vec_len}
 use Rattle.token_grammar.specs.Reading.{◌>>=◌, read, rule_of, items_of}
 use Rattle.token_grammar.proofs.Steps.{items_fail, items_more}
-use Rattle.raml_parse.specs.Table.{grammar, function_rule, place, At}
-use Rattle.raml_parse.specs.Read.{StartsAt, HaveParameters, pieces, headed, functions, functions_back}
-use Rattle.raml_parse.specs.declared.token.Sign.TheVariants.{Fun}
-use Rattle.raml_parse.proofs.Chains.{fails_as, refused}
-use Rattle.raml_parse.proofs.Parts.{functions_push, starts_push, parameters_push}
+use Rattle.raml_grammar.specs.Table.{grammar, function_rule, place, At}
+use Rattle.raml_grammar.specs.Read.{StartsAt, HaveParameters, pieces, headed, functions, functions_back}
+use Rattle.raml_grammar.specs.declared.token.Sign.TheVariants.{Fun}
+use Rattle.raml_grammar.proofs.Chains.{fails_as, refused}
+use Rattle.raml_grammar.proofs.Parts.{functions_push, starts_push, parameters_push}
 use Rattle.raml_parse.proofs.program.parse_functions.Goals as goal
 
 pub loop-next_at-preserved : goal.loop-next_at-preserved

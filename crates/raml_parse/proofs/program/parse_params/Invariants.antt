@@ -1,9 +1,9 @@
 use Rattle.std.proofs.Common.{◌≡◌, ◌≤◌, ◌<◌, ◌-◌, []}
 use Rattle.std.specs.Prelude.{vec_len}
 use Rattle.token_grammar.specs.Reading.{read, rule_of, list_of, items_of}
-use Rattle.raml_parse.specs.Table.{grammar, param_rule, key}
-use Rattle.raml_parse.specs.Read.{pieces, headers_back}
-use Rattle.raml_parse.specs.declared.token.Sign.TheVariants.{Comma}
+use Rattle.raml_grammar.specs.Table.{grammar, param_rule, key}
+use Rattle.raml_grammar.specs.Read.{pieces, headers_back}
+use Rattle.raml_grammar.specs.declared.token.Sign.TheVariants.{Comma}
 use Rattle.raml_parse.proofs.program.parse_params.Given as goal
 
 abbrev pub invariant-loop-next : goal.invariant-loop-next
