@@ -1,174 +1,79 @@
-// Data that spells no arguments, with the place of its first fault.
-use crate::shown::shown;
-use crate::types::types_of;
-use raml_syntax::Ty;
-use std::alloc::Global;
-use std::process::Abort;
+// Data that spells no arguments, with the place of its first fault, as lines of values.
+use crate::shown::compare_lines;
 use std::test::Fail;
 
-// The text of a fault at a place.
-fn told(alloc: Global, at: u32) -> Result<String, Fail> {
-    Ok(format!(in alloc; "Shape {{ at: Pos({at}) }}")?)
-}
-
-// Whether just this place is told of the data.
-fn is_refused(alloc: Global, types: &[Ty], data: &str, at: u32) -> Result<bool, Fail> {
-    let found = shown(alloc, types, data.as_bytes())?;
-    Ok(found == told(alloc, at)?)
-}
-
-// Data of types, by words, whose first token that cannot stand is at a place.
-fn refused(rt: &impl Abort, alloc: Global, types: &str, table: &[(&str, u32)]) -> Result<(), Fail> {
-    let types = types_of(alloc, types)?;
-    for (data, at) in table {
-        assert!(rt; is_refused(alloc, &types, *data, *at)?, "at {data}");
-    }
-    Ok(())
-}
-
-#[test]
-fn no_integer(rt: HostRuntime) -> Result<(), Fail> {
-    refused(
-        &rt,
-        rt.alloc(),
-        "int",
-        &[
-            ("", 0),
-            (" \n", 2),
-            ("x", 0),
-            ("true", 0),
-            ("1 2", 2),
-            ("1x", 1),
-            ("-", 0),
-            (" - 1", 1),
-            ("--1", 0),
-            ("+1", 0),
-            ("(1)", 0),
-            ("9223372036854775808", 0),
-            ("-9223372036854775809", 0),
-            (" 99999999999999999999999999999999999999999999", 1),
-            ("(* none *) 1", 0),
-            ("1 (* none *)", 2),
-            ("1\u{b}", 1),
-            ("\u{e9}", 0),
-        ],
-    )
-}
-
-#[test]
-fn no_truth(rt: HostRuntime) -> Result<(), Fail> {
-    refused(
-        &rt,
-        rt.alloc(),
-        "bool",
-        &[
-            ("1", 0),
-            ("truex", 0),
-            ("true'", 0),
-            ("True", 0),
-            ("none", 0),
-            ("false true", 6),
-        ],
-    )
-}
-
-#[test]
-fn no_list(rt: HostRuntime) -> Result<(), Fail> {
-    refused(
-        &rt,
-        rt.alloc(),
-        "int list",
-        &[
-            ("[1, 2", 5),
-            ("[1, 2 ", 6),
-            ("[", 1),
-            ("]", 0),
-            ("[,]", 1),
-            ("[1,,2]", 3),
-            ("[1,]", 3),
-            ("[1 2]", 3),
-            ("[1, true]", 4),
-            ("[1, 2)", 5),
-            ("[1, 9223372036854775808]", 4),
-            ("[1] [2]", 4),
-            ("nil", 0),
-        ],
-    )
-}
+const FAULTS: &str = "\
+int:  => Shape { at: Pos(0) }
+int: x => Shape { at: Pos(0) }
+int: true => Shape { at: Pos(0) }
+int: 1 2 => Shape { at: Pos(2) }
+int: 1x => Shape { at: Pos(1) }
+int: - => Shape { at: Pos(0) }
+int:  - 1 => Shape { at: Pos(1) }
+int: --1 => Shape { at: Pos(0) }
+int: +1 => Shape { at: Pos(0) }
+int: (1) => Shape { at: Pos(0) }
+int: 9223372036854775808 => Shape { at: Pos(0) }
+int: -9223372036854775809 => Shape { at: Pos(0) }
+int:  99999999999999999999999999999999999999999999 => Shape { at: Pos(1) }
+int: (* none *) 1 => Shape { at: Pos(0) }
+int: 1 (* none *) => Shape { at: Pos(2) }
+int: 1\u{b} => Shape { at: Pos(1) }
+int: \u{e9} => Shape { at: Pos(0) }
+bool: 1 => Shape { at: Pos(0) }
+bool: truex => Shape { at: Pos(0) }
+bool: true' => Shape { at: Pos(0) }
+bool: True => Shape { at: Pos(0) }
+bool: none => Shape { at: Pos(0) }
+bool: false true => Shape { at: Pos(6) }
+int list: [1, 2 => Shape { at: Pos(5) }
+int list: [1, 2  => Shape { at: Pos(6) }
+int list: [ => Shape { at: Pos(1) }
+int list: ] => Shape { at: Pos(0) }
+int list: [,] => Shape { at: Pos(1) }
+int list: [1,,2] => Shape { at: Pos(3) }
+int list: [1,] => Shape { at: Pos(3) }
+int list: [1 2] => Shape { at: Pos(3) }
+int list: [1, true] => Shape { at: Pos(4) }
+int list: [1, 2) => Shape { at: Pos(5) }
+int list: [1, 9223372036854775808] => Shape { at: Pos(4) }
+int list: [1] [2] => Shape { at: Pos(4) }
+int list: nil => Shape { at: Pos(0) }
+int bool pair: (1, 2) => Shape { at: Pos(4) }
+int bool pair: (1 true) => Shape { at: Pos(3) }
+int bool pair: (1, true => Shape { at: Pos(8) }
+int bool pair: (1, true, 2) => Shape { at: Pos(8) }
+int bool pair: (true, 1) => Shape { at: Pos(1) }
+int bool pair: [1, true] => Shape { at: Pos(0) }
+int tree: node => Shape { at: Pos(4) }
+int tree: node 1 => Shape { at: Pos(5) }
+int tree: node(leaf, leaf, leaf) => Shape { at: Pos(5) }
+int tree: node(1, leaf) => Shape { at: Pos(12) }
+int tree: node(1, leaf, 2) => Shape { at: Pos(14) }
+int tree: node(1, leaf, none) => Shape { at: Pos(14) }
+int tree: none => Shape { at: Pos(0) }
+int tree: leaf leaf => Shape { at: Pos(5) }
+int tree: leafs => Shape { at: Pos(0) }
+int option: some => Shape { at: Pos(4) }
+int option: some 1 => Shape { at: Pos(5) }
+int option: some() => Shape { at: Pos(5) }
+int option: some(none) => Shape { at: Pos(5) }
+int option: some(1 => Shape { at: Pos(6) }
+int option: some(1, 2) => Shape { at: Pos(6) }
+int option: Some(1) => Shape { at: Pos(0) }
+int option: leaf => Shape { at: Pos(0) }
+int option: [] => Shape { at: Pos(0) }
+int option: none(1) => Shape { at: Pos(4) }
+int option: none none => Shape { at: Pos(5) }
+int int: 1 => Shape { at: Pos(0) }
+int int: (1) => Shape { at: Pos(2) }
+int int: (1, 2 => Shape { at: Pos(5) }
+int int: (1, 2, 3) => Shape { at: Pos(5) }
+int int: (1, 2) 3 => Shape { at: Pos(7) }
+int int: ((1, 2)) => Shape { at: Pos(1) }
+int int: [1, 2] => Shape { at: Pos(0) }";
 
 #[test]
-fn no_pair(rt: HostRuntime) -> Result<(), Fail> {
-    refused(
-        &rt,
-        rt.alloc(),
-        "int bool pair",
-        &[
-            ("(1, 2)", 4),
-            ("(1 true)", 3),
-            ("(1, true", 8),
-            ("(1, true, 2)", 8),
-            ("(true, 1)", 1),
-            ("[1, true]", 0),
-        ],
-    )
-}
-
-#[test]
-fn no_tree(rt: HostRuntime) -> Result<(), Fail> {
-    refused(
-        &rt,
-        rt.alloc(),
-        "int tree",
-        &[
-            ("node", 4),
-            ("node 1", 5),
-            ("node(leaf, leaf, leaf)", 5),
-            ("node(1, leaf)", 12),
-            ("node(1, leaf, 2)", 14),
-            ("node(1, leaf, none)", 14),
-            ("none", 0),
-            ("leaf leaf", 5),
-            ("leafs", 0),
-        ],
-    )
-}
-
-#[test]
-fn no_option(rt: HostRuntime) -> Result<(), Fail> {
-    refused(
-        &rt,
-        rt.alloc(),
-        "int option",
-        &[
-            ("some", 4),
-            ("some 1", 5),
-            ("some()", 5),
-            ("some(none)", 5),
-            ("some(1", 6),
-            ("some(1, 2)", 6),
-            ("Some(1)", 0),
-            ("leaf", 0),
-            ("[]", 0),
-            ("none(1)", 4),
-            ("none none", 5),
-        ],
-    )
-}
-
-#[test]
-fn no_arguments(rt: HostRuntime) -> Result<(), Fail> {
-    refused(
-        &rt,
-        rt.alloc(),
-        "int int",
-        &[
-            ("1", 0),
-            ("(1)", 2),
-            ("(1, 2", 5),
-            ("(1, 2, 3)", 5),
-            ("(1, 2) 3", 7),
-            ("((1, 2))", 1),
-            ("[1, 2]", 0),
-        ],
-    )
+fn faults(rt: HostRuntime) -> Result<(), Fail> {
+    compare_lines(&rt, rt.alloc(), FAULTS)
 }

@@ -108,11 +108,19 @@ pub fn shown_of(alloc: Global, words: &str, data: &str) -> Result<String, Fail> 
     shown(alloc, &types, data.as_bytes())
 }
 
-/// Types by words, with data and what is shown.
-pub fn compare(rt: &impl Abort, alloc: Global, table: &[(&str, &str, &str)]) -> Result<(), Fail> {
-    for (types, data, want) in table {
-        let found = shown_of(alloc, *types, *data)?;
-        assert_eq!(rt; found.as_str(), *want, "at {data}");
+// Compares what is shown with what is wanted. The line is types by words, `: `, data, ` => ` and this.
+fn compare_line(rt: &impl Abort, alloc: Global, line: &str) -> Result<(), Fail> {
+    let (types, rest) = line.split_once(": ").ok_or("no types")?;
+    let (data, want) = rest.split_once(" => ").ok_or("nothing is wanted")?;
+    let found = shown_of(alloc, types, data)?;
+    assert_eq!(rt; found.as_str(), want, "at {line}");
+    Ok(())
+}
+
+/// Compares each line of a table.
+pub fn compare_lines(rt: &impl Abort, alloc: Global, table: &str) -> Result<(), Fail> {
+    for line in table.lines() {
+        compare_line(rt, alloc, line)?;
     }
     Ok(())
 }

@@ -96,17 +96,23 @@ fn of_three(alloc: Global, den: i128, numbers: [u32; 3]) -> Result<String, Alloc
     text_of(alloc, den, tuples, &[numbers[2], numbers[0], numbers[1]])
 }
 
+// A denominator, the numbers of three terms, and their text.
+const THREE: [(u32, [u32; 3], &str); 6] = [
+    (1, [3, 0, 0], "3"),
+    (7, [0, 0, 0], "0"),
+    (2, [0, 1, 0], "1/2*<[_]>"),
+    (4, [6, 8, 1], "3/2 + 2*<[_]> + 1/4*<[_, _]>"),
+    (1, [0, 0, 1], "1*<[_, _]>"),
+    (1, [0, 2, 3], "2*<[_]> + 3*<[_, _]>"),
+];
+
 #[test]
 fn sums_are_in_order(rt: HostRuntime) -> Result<(), Fail> {
-    let alloc = rt.alloc();
-    let constant = of_three(alloc, 1, [3, 0, 0])?;
-    assert_eq!(rt; constant.as_str(), "3");
-    let nothing = of_three(alloc, 7, [0, 0, 0])?;
-    assert_eq!(rt; nothing.as_str(), "0");
-    let half = of_three(alloc, 2, [0, 1, 0])?;
-    assert_eq!(rt; half.as_str(), "1/2*<[_]>");
-    let mixed = of_three(alloc, 4, [6, 8, 1])?;
-    assert_eq!(rt; mixed.as_str(), "3/2 + 2*<[_]> + 1/4*<[_, _]>");
+    for (den, numbers, want) in &THREE {
+        assert!(rt; *den > 0);
+        let found = of_three(rt.alloc(), i128::from(*den), *numbers)?;
+        assert_eq!(rt; found.as_str(), *want);
+    }
     Ok(())
 }
 
@@ -141,28 +147,46 @@ fn with_constant(
     text_of(alloc, 1, tuples, &[number, constant])
 }
 
+// The same of a tuple whose first index is a unit, or a list index with a unit.
+fn cost_text(
+    alloc: Global,
+    constant: u32,
+    number: u32,
+    is_unit: bool,
+) -> Result<String, AllocError> {
+    if is_unit {
+        with_constant(alloc, constant, number, unit_and_one(alloc)?)
+    } else {
+        with_constant(alloc, constant, number, one_and_none(alloc)?)
+    }
+}
+
+// A constant, the number of a term, whether its first index is a unit, and the text.
+const COSTS: [(u32, u32, bool, &str); 3] = [
+    (0, 1, false, "1*<[_], []>"),
+    (0, 1, true, "1*<_, [_]>"),
+    (1, 2, true, "1 + 2*<_, [_]>"),
+];
+
 #[test]
 fn costs_of_lists_are_printed(rt: HostRuntime) -> Result<(), Fail> {
-    let alloc = rt.alloc();
-    let append = with_constant(alloc, 0, 1, one_and_none(alloc)?)?;
-    assert_eq!(rt; append.as_str(), "1*<[_], []>");
-    let part_ticks = with_constant(alloc, 0, 1, unit_and_one(alloc)?)?;
-    assert_eq!(rt; part_ticks.as_str(), "1*<_, [_]>");
-    let part_cells = with_constant(alloc, 1, 2, unit_and_one(alloc)?)?;
-    assert_eq!(rt; part_cells.as_str(), "1 + 2*<_, [_]>");
-    let sort_ticks = of_three(alloc, 1, [0, 0, 1])?;
-    assert_eq!(rt; sort_ticks.as_str(), "1*<[_, _]>");
-    let sort_cells = of_three(alloc, 1, [0, 2, 3])?;
-    assert_eq!(rt; sort_cells.as_str(), "2*<[_]> + 3*<[_, _]>");
+    for (constant, number, is_unit, want) in &COSTS {
+        let found = cost_text(rt.alloc(), *constant, *number, *is_unit)?;
+        assert_eq!(rt; found.as_str(), *want);
+    }
     Ok(())
+}
+
+// The text of a tuple of three components.
+fn of_components(alloc: Global) -> Result<String, AllocError> {
+    let tuple = paired(alloc, two(alloc)?)?.with_first(alloc, &Index::Opt(None))?;
+    let tuples = vec![in alloc; tuple]?;
+    text_of(alloc, 1, tuples, &[1])
 }
 
 #[test]
 fn components_are_in_order(rt: HostRuntime) -> Result<(), Fail> {
-    let alloc = rt.alloc();
-    let tuple = paired(alloc, two(alloc)?)?.with_first(alloc, &Index::Opt(None))?;
-    let tuples = vec![in alloc; tuple]?;
-    let text = text_of(alloc, 1, tuples, &[1])?;
+    let text = of_components(rt.alloc())?;
     assert_eq!(rt; text.as_str(), "1*<[], ([_], [_]), [_, _]>");
     Ok(())
 }

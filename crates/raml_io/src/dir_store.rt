@@ -89,7 +89,6 @@ fn read_up_to<F: Read>(alloc: Global, file: &mut F, most: u64) -> Result<Vec<u8>
 mod tests {
     use super::*;
     use std::io;
-    use std::test::Fail;
 
     // Gives its bytes two at a time, and then its end, or fails in its place.
     #[derive(Drop)]
@@ -110,25 +109,27 @@ mod tests {
         }
     }
 
+    // Whether at most so many bytes are these, or the reader fails where there are none.
+    fn gives(alloc: Global, most: u64, is_broken: bool, want: Option<&[u8]>) -> bool {
+        let mut pieces = Pieces {
+            rest: b"abcde",
+            is_broken,
+        };
+        match read_up_to(alloc, &mut pieces, most) {
+            Ok(bytes) => want == Some(bytes.as_slice()),
+            Err(fault) => want.is_none() && fault == StoreFault::Failed,
+        }
+    }
+
     #[test]
-    fn reads_go_on_to_the_end_or_a_fault(rt: HostRuntime) -> Result<(), Fail> {
-        let alloc = rt.alloc();
+    fn reads_go_on_to_the_end_or_a_fault(rt: HostRuntime) {
         for (most, is_broken, want) in [
             (9, false, Some(b"abcde".as_slice())),
             (3, true, Some(b"abc".as_slice())),
             (5, true, Some(b"abcde".as_slice())),
             (6, true, None),
         ] {
-            let mut pieces = Pieces {
-                rest: b"abcde",
-                is_broken,
-            };
-            match (read_up_to(alloc, &mut pieces, most), want) {
-                (Ok(bytes), Some(content)) => assert_eq!(rt; bytes.as_slice(), content),
-                (Err(fault), None) => assert_eq!(rt; fault, StoreFault::Failed),
-                _ => assert!(rt; false, "{most}"),
-            }
+            assert!(rt; gives(rt.alloc(), most, is_broken, want), "{most}");
         }
-        Ok(())
     }
 }

@@ -13,6 +13,3 @@ mod run;
 mod sorting;
 
 pub use request::{Request, Rule, WordsFault, read_words};
-
-#[cfg(test)]
-mod tests;
