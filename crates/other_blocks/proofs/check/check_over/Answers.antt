@@ -20,19 +20,19 @@ returns-in-Ok-check_planned c = λ within.
     let block = a.block_of c.args.block.now in
     let t = c.args.times in
     let low : c.args.place ≤ length held.blocks = omega (arith, c.requires.there, length-map c.args.certificate.now.blocks.items a.block_of) in
-    let body : block.body ≡ Solved (map a.sig_of c.deref.result.now) (map a.hints_of c.deref-2.result.now) =
-    ap a.body_of c.in-Solved.is ∙ (λ i. Solved (map a.sig_of (sym c.deref.ensures.value i)) (map a.hints_of (sym c.deref-2.ensures.value i))) in
-    let bodies = ap (map body_of) c.deref-3.ensures.value
+    let body : block.body ≡ Solved (map a.sig_of c.deref-2.result.now) (map a.hints_of c.deref-3.result.now) =
+    ap a.body_of c.in-Solved.is ∙ (λ i. Solved (map a.sig_of (sym c.deref-2.ensures.value i)) (map a.hints_of (sym c.deref-3.ensures.value i))) in
+    let bodies = ap (map body_of) c.deref.ensures.value
     ∙ c.in-Ok.ensures P block.task.group (budget_of held.degree block.task.kind) (before held c.args.place) c.requires.plans
     (λ f d. (λ i. uses_of (c.raise_for.ensures.uses i) d f) ∙ c.requires.remembers.usable f d) in
-    there_found P held t block None (map a.sig_of c.deref.result.now) (map a.hints_of c.deref-2.result.now) body within
+    there_found P held t block None (map a.sig_of c.deref-2.result.now) (map a.hints_of c.deref-3.result.now) body within
     (c.in-Ok-check_planned.ensures.tells (raised_certificate P held t block) (raised_before P held t block) (record {
       count = count_here P held t block c.args.place c.requires.place low;
       degree = same_degree P held t block;
       scale = c.scale_times.ensures;
       knows = known_here P held t block c.args.place c.requires.place c.raise_for.new.earlier
           (c.raise_for.ensures.knows P held.degree (before held c.args.place) c.requires.remembers);
-    }) (bodies_here P held t block c.args.place c.requires.place (map body_of c.deref-3.result.now) bodies))
+    }) (bodies_here P held t block c.args.place c.requires.place (map body_of c.deref.result.now) bodies))
 
 pub returns : goal.returns
 returns c = λ within.
@@ -41,13 +41,13 @@ returns c = λ within.
     let block = a.block_of c.args.block.now in
     let t = c.args.times in
     let low : c.args.place ≤ length held.blocks = omega (arith, c.requires.there, length-map c.args.certificate.now.blocks.items a.block_of) in
-    let bodies = ap (map body_of) c.deref-3.ensures.value
+    let bodies = ap (map body_of) c.deref.ensures.value
     ∙ c.in-Ok.ensures P block.task.group (budget_of held.degree block.task.kind) (before held c.args.place) c.requires.plans
     (λ f d. (λ i. uses_of (c.raise_for.ensures.uses i) d f) ∙ c.requires.remembers.usable f d) in
-    let sigs = map a.sig_of c.deref.result.now in
-    let hints = map a.hints_of c.deref-2.result.now in
+    let sigs = map a.sig_of c.deref-2.result.now in
+    let hints = map a.hints_of c.deref-3.result.now in
     let body : block.body ≡ Solved sigs hints =
-    ap a.body_of c.in-Solved.is ∙ (λ i. Solved (map a.sig_of (sym c.deref.ensures.value i)) (map a.hints_of (sym c.deref-2.ensures.value i))) in
+    ap a.body_of c.in-Solved.is ∙ (λ i. Solved (map a.sig_of (sym c.deref-2.ensures.value i)) (map a.hints_of (sym c.deref-3.ensures.value i))) in
     of_fault (fault_of c.in-Err.fault) (ShapeFinds P (raised_certificate P held t block) (raised_before P held t block) block.task sigs hints) (ThereFinds P held t block)
     (λ x h. there_found P held t block x sigs hints body within h)
     (c.in-Err.ensures.tells (raised_certificate P held t block) (raised_before P held t block) (record {
@@ -56,4 +56,4 @@ returns c = λ within.
       scale = c.scale_times.ensures;
       knows = known_here P held t block c.args.place c.requires.place c.raise_for.new.earlier
           (c.raise_for.ensures.knows P held.degree (before held c.args.place) c.requires.remembers);
-    }) (bodies_here P held t block c.args.place c.requires.place (map body_of c.deref-3.result.now) bodies))
+    }) (bodies_here P held t block c.args.place c.requires.place (map body_of c.deref.result.now) bodies))
