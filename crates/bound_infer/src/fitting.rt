@@ -26,12 +26,18 @@ fn annots_fit(annots: &[Annot])
     }
 }
 
+fn sig_fits(sig: &Sig)
+    ensures { SigFits 1 (sig_of sig.now) }
+{
+    entries_fit(sig.args.entries());
+    entries_fit(sig.result.entries());
+}
+
 fn sigs_fit(sigs: &[Sig])
     ensures { All (λ s. SigFits 1 (sig_of s)) sigs.now }
 {
     for index in 0..sigs.len() {
-        entries_fit(sigs[index].args.entries());
-        entries_fit(sigs[index].result.entries());
+        sig_fits(&sigs[index]);
     }
 }
 

@@ -1,4 +1,4 @@
-use Rattle.std.proofs.Common.{rules, ◌×◌, ℕ, ℤ, pos, ◌*ℤ◌, FitsSigned, slice_index_or, sym, subst, arith}
+use Rattle.std.proofs.Common.{rules, ℕ, ℤ, pos, ◌*ℤ◌, FitsSigned, slice_index_or, sym, subst, arith}
 use Rattle.std.specs.Int.{w128}
 use Rattle.std.proofs.lemmas.List.Elements.{All-more}
 use Rattle.bound_infer.proofs.Mapped.{all_of}
