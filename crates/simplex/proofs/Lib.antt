@@ -11,6 +11,6 @@ mod Listing
 mod Solves
 mod Tables
 mod Agreement
-mod Sets
+mod Marks
 mod Wholes
 pub mod ByRule

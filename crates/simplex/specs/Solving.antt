@@ -63,10 +63,10 @@ IsAnswer rule s (Best x dual pivots) = IsBest rule s pivots.items x.items dual.i
 IsAnswer rule s (NoSolution farkas pivots) = IsRefuted rule s pivots.items farkas.items
 IsAnswer rule s (Leaves pivots row column) = Refuses rule s pivots.items row column
 
--- n gains, which are 0, and sets of n columns for the rows
+-- n gains, which are 0, and marks of the rows in n columns
 pub record IsReady (n : ℕ) (rows : List Entries) (scratch : Scratch) : Type 0 where
   pub cleared : AreEntries 0 n [] scratch.gains.items
-  pub cover : Cover n rows scratch.sets.items
+  pub cover : Cover n rows scratch.marks.items
 
 abbrev pub IsAt : LinearSystem → Table → Tableau → Type 0
 IsAt s table t = IsAfter s table.pivots.items table.basis.items table.rows.items table.gains t

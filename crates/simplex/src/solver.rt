@@ -20,15 +20,15 @@ use frac_rows::FracRow;
 use frac128::Frac;
 use linear_rows::System;
 use std::alloc::{AllocError, Global};
-use std::collections::BTreeSet;
 
 /// What steps hand on beside the table: the gains as the rule sees them, which are 0 between steps, a row in
-/// which new rows are made, and for each column before the right sides the rows that may have a number there.
+/// which new rows are made, and for each column before the right sides marks at the rows that may have a
+/// number there.
 #[derive(Drop)]
 pub(crate) struct Scratch {
     gains: Vec<Frac>,
     row: FracRow,
-    sets: Vec<BTreeSet<u32>>,
+    marks: Vec<Vec<bool>>,
 }
 
 /// What comes of a step.
@@ -102,7 +102,7 @@ pub(crate) fn make_step<F: Fn(&[Frac]) -> Option<usize>>(
         Some(column) => column,
         None => return Ok(Step::Best),
     };
-    let touching = touching(alloc, &table.rows, &scratch.sets, column)?;
+    let touching = touching(alloc, &table.rows, &scratch.marks, column)?;
     let row = match exiting(alloc, &table.rows, &touching, column, slack, right) {
         Ok(Some(row)) => row,
         Ok(None) => return Ok(Step::Rises { column }),
@@ -120,7 +120,7 @@ pub(crate) fn make_step<F: Fn(&[Frac]) -> Option<usize>>(
         return stopped(fault);
     }
     let columns = table.rows[row].columns();
-    follow(&mut scratch.sets, columns, &touching, column, row as u32)?;
+    follow(&mut scratch.marks, columns, &touching, column, row);
     table.basis[row] = column;
     table.pivots.push((row as u32, column))?;
     Ok(Step::Pivot)
@@ -132,13 +132,12 @@ pub(crate) fn new_scratch(
     rows: &[FracRow],
     columns: usize,
 ) -> Result<Scratch, AllocError>
-    requires { length rows.now < 2 ^ 32 }
     ensures { IfOk result (IsReady columns rows.now) }
 {
     Ok(Scratch {
         gains: zeros(alloc, columns)?,
         row: FracRow::new(alloc),
-        sets: covering(alloc, rows, columns)?,
+        marks: covering(alloc, rows, columns)?,
     })
 }
 

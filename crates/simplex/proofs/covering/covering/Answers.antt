@@ -1,13 +1,13 @@
-use Rattle.std.proofs.Common.{rules, ◌≡◌, arith, sym, subst, take, ◌+◌, length, List, ℕ, [], ◌∷◌}
-use Rattle.std.specs.BTreeSet.{BTreeSet}
-use Rattle.simplex.specs.Covering.{Cover, Grow}
-use Rattle.simplex.proofs.Sets.{covered_more, lent_whole}
+use Rattle.std.proofs.Common.{arith, subst, List, Bool, [], ◌∷◌}
+use Rattle.std.specs.Global.{Vec}
+use Rattle.simplex.specs.Covering.{Grow}
+use Rattle.simplex.proofs.Marks.{as_many, covered_more}
+use Rattle.simplex.proofs.Solves.{written_back}
 use Rattle.simplex.proofs.covering.covering.Goals as goal
 
 pub loop-i-preserved : goal.loop-i-preserved
 loop-i-preserved c =
-    let lent : c.deref_mut.result.now ≡ c.loop-i.sets.items = c.deref_mut.ensures.value in
-    let whole : c.loop-i.sets.len ≡ length c.loop-i.sets.items = search rules in
-    let g : Grow c.columns.result.now (c.loop-i.i ∷ []) c.loop-i.sets.items c.insert_row.new.sets = subst (λ (old : List (BTreeSet ℕ)). Grow c.columns.result.now (c.loop-i.i ∷ []) old c.insert_row.new.sets) lent c.in_ok-insert_row.ensures in
-    subst (Cover c.args.columns (take (c.loop-i.i + 1) c.args.rows.now)) (sym (lent_whole c.loop-i.sets.len c.loop-i.sets.items c.insert_row.new.sets whole g.count))
-    (covered_more c.args.columns c.loop-i.i c.args.rows.now c.index-rows-i.result c.columns.result.now c.loop-i.sets.items c.insert_row.new.sets (omega arith) c.index-rows-i.is c.columns.ensures.all c.loop-i.invariant g)
+    let grow : Grow c.columns.result.now (c.loop-i.i ∷ []) c.loop-i.marks.items c.mark_row.new.marks =
+    subst (λ (old : List (Vec Bool)). Grow c.columns.result.now (c.loop-i.i ∷ []) old c.mark_row.new.marks) c.deref_mut.ensures.value c.mark_row.ensures in
+    let back = written_back c.loop-i.marks.len c.loop-i.marks.items c.mark_row.new.marks c.loop-i.marks.ok.0 (as_many c.loop-i.marks.items c.mark_row.new.marks grow.places) in
+    rw back (covered_more c.args.columns c.loop-i.i c.args.rows.now c.index-rows-i.result c.columns.result.now c.loop-i.marks.items c.mark_row.new.marks (omega arith) c.index-rows-i.is c.columns.ensures.all c.loop-i.invariant grow)

@@ -1,6 +1,5 @@
-use Rattle.std.proofs.Common.{take}
-use Rattle.simplex.specs.Covering.{Cover}
+use Rattle.simplex.proofs.Marks.{CoverFirst}
 use Rattle.simplex.proofs.covering.covering.Given as goal
 
 abbrev pub invariant-loop-i : goal.invariant-loop-i
-invariant-loop-i l = Cover l.columns (take l.i l.rows) l.sets.items
+invariant-loop-i l = CoverFirst l.columns l.i l.rows l.marks.items

@@ -1,57 +1,44 @@
-use Rattle.std.proofs.Common.{rules, FitsSigned, ◌≡◌, ◌≢◌, sym, ap, ◌∙◌, subst, arith, ℕ, List, ◌∷◌, pos, ◌<◌, length}
+use Rattle.std.proofs.Common.{rules, FitsSigned, ◌≡◌, ◌≢◌, sym, ap, ◌∙◌, subst, arith, ℕ, pos, ◌<◌, ◌≤◌, ◌+◌, length}
 use Rattle.std.proofs.lemmas.Int.{ints, to_z-of_z}
-use Rattle.std.proofs.lemmas.Map.Iter.{rest_more, rest_all}
-use Rattle.std.specs.BTreeSet.{BTreeSet}
 use Rattle.std.specs.Int.{w128}
-use Rattle.std.specs.List.Sorted.{IsStrictlySortedBy}
-use Rattle.std.specs.Map.Iter.{deref}
-use Rattle.std.specs.Ordering.{nat_cmp}
 use Rattle.frac_rows.specs.Entries.{at}
 use Rattle.simplex.specs.Standing.{entries_at}
-use Rattle.simplex.specs.Covering.{rows_in}
-use Rattle.simplex.proofs.Rows.{number_read}
-use Rattle.simplex.proofs.Sets.{rows_in_is, none_before, is_key, picked_before, passed_before, all_touching}
+use Rattle.simplex.proofs.Rows.{Picked, picked_more, picked_same, earlier_or_here, number_read, touching_all}
+use Rattle.simplex.proofs.Marks.{marks_is, height_of, not_marked}
+use Rattle.simplex.proofs.covering.touching.Goals.{then-index+then-num-ne0+in_ok-push, else-index, else-index-via-then-index+else-num-ne0, else-index-via-else-index}
 use Rattle.simplex.proofs.covering.touching.Goals as goal
 
-pub loop-row-init : goal.loop-row-init
-loop-row-init c =
-    let gives = c.into_iter-row-iterator.ensures.into_iter_gives in
-    let keys : rows_in c.args.sets.now c.args.s ≡ c.index-sets-s.result.keys = rows_in_is c.args.sets.now c.args.s c.index-sets-s.result c.requires.column ∙ sym (ap (λ (set : BTreeSet ℕ). set.keys) c.index-sets-s.is) in (
-      tt,
-      tt,
-      none_before (rows_in c.args.sets.now c.args.s) c.into_iter-row-iterator.result (λ i. (at c.args.s (entries_at c.args.rows.now i)).num ≢ pos 0) c.new-all.result.items
-          (subst (IsStrictlySortedBy nat_cmp) (sym keys) gives.4) (gives.0 ∙ sym keys) c.new-all.ensures.items,
-    )
+pub index-requires : goal.index-requires
+index-requires c =
+    let read = marks_is c.args.marks.now c.args.s c.index-marks-s.result c.requires.column c.index-marks-s.is in
+    let high = height_of (length c.args.marks.now) (length c.args.rows.now) c.args.marks.now c.args.s c.requires.covers.places c.requires.column in
+    omega (arith, ap length read)
 
-pub bounds-rows-row : goal.bounds-rows-row
-bounds-rows-row c =
-    let more : c.loop-row.row-iterator ≡ c.in-Some.row.now ∷ c.next.new.self = rest_more deref c.loop-row.row-iterator c.next.new.self c.next.result c.in-Some.row c.in-Some.is c.next.ensures.steps in
-    c.requires.covers.inside c.args.s c.in-Some.row.now (is_key (rows_in c.args.sets.now c.args.s) c.loop-row.row-iterator c.next.new.self (λ i. (at c.args.s (entries_at c.args.rows.now i)).num ≢ pos 0) c.loop-row.all.items c.in-Some.row.now more c.loop-row.invariant.2)
-
-pub loop-row-preserved-in-Continue-1 : goal.loop-row-preserved-in-Continue-1
-loop-row-preserved-in-Continue-1 c =
+pub loop-i-preserved : goal.loop-i-preserved
+loop-i-preserved c =
+    let i : ℕ = c.loop-i.i in
     let P : ℕ → Type 0 = (λ i. (at c.args.s (entries_at c.args.rows.now i)).num ≢ pos 0) in
-    let keys : List ℕ = rows_in c.args.sets.now c.args.s in
-    let row : ℕ = c.in-Some.row.now in
-    let more : c.loop-row.row-iterator ≡ row ∷ c.next.new.self = rest_more deref c.loop-row.row-iterator c.next.new.self c.next.result c.in-Some.row c.in-Some.is c.next.ensures.steps in
-    let inside : row < length c.args.rows.now = c.requires.covers.inside c.args.s row (is_key keys c.loop-row.row-iterator c.next.new.self P c.loop-row.all.items row more c.loop-row.invariant.2) in
-    let n : c.num.result ≡ (at c.args.s (entries_at c.args.rows.now row)).num = number_read c.args.s c.args.rows.now row c.index-rows-row.result c.num.result inside c.index-rows-row.is (c.num.ensures ∙ c.at.ensures.num) in
-    let fits : FitsSigned w128 c.num.result = search rules in
-    let p : c.num.result ≢ pos 0 = grind (arith, ints, to_z-of_z w128 c.num.result fits, c.if-num-ne0.true) in
-    (tt, tt, picked_before keys c.loop-row.row-iterator c.next.new.self P c.loop-row.all.items row more c.loop-row.invariant.2 c.push.new.self.items (λ z. p (n ∙ z)) c.in_ok-push.ensures.items)
-
-pub loop-row-preserved : goal.loop-row-preserved
-loop-row-preserved c =
-    let P : ℕ → Type 0 = (λ i. (at c.args.s (entries_at c.args.rows.now i)).num ≢ pos 0) in
-    let keys : List ℕ = rows_in c.args.sets.now c.args.s in
-    let row : ℕ = c.in-Some.row.now in
-    let more : c.loop-row.row-iterator ≡ row ∷ c.next.new.self = rest_more deref c.loop-row.row-iterator c.next.new.self c.next.result c.in-Some.row c.in-Some.is c.next.ensures.steps in
-    let inside : row < length c.args.rows.now = c.requires.covers.inside c.args.s row (is_key keys c.loop-row.row-iterator c.next.new.self P c.loop-row.all.items row more c.loop-row.invariant.2) in
-    let n : c.num.result ≡ (at c.args.s (entries_at c.args.rows.now row)).num = number_read c.args.s c.args.rows.now row c.index-rows-row.result c.num.result inside c.index-rows-row.is (c.num.ensures ∙ c.at.ensures.num) in
-    let fits : FitsSigned w128 c.num.result = search rules in
-    let p : c.num.result ≡ pos 0 = grind (arith, ints, to_z-of_z w128 c.num.result fits, c.if-num-ne0.false) in
-    (tt, tt, passed_before keys c.loop-row.row-iterator c.next.new.self P c.loop-row.all.items row more c.loop-row.invariant.2 (λ z. z (sym n ∙ p)))
+    elim c.if-index.branch [
+      | then-index+then-num-ne0+in_ok-push w ↦
+          let n : w.num.result ≡ (at c.args.s (entries_at c.args.rows.now i)).num = number_read c.args.s c.args.rows.now i w.index-rows-i.result w.num.result (omega arith) w.index-rows-i.is (w.num.ensures ∙ w.at.ensures.num) in
+          let fits : FitsSigned w128 w.num.result = search rules in
+          let p : w.num.result ≢ pos 0 = grind (arith, ints, to_z-of_z w128 w.num.result fits, w.if-num-ne0.true) in
+          picked_more (λ j. j < i) (λ j. j < i + 1) P c.loop-i.all.items i c.loop-i.invariant (λ j h. earlier_or_here j i h) (λ j h. omega arith)
+          c.if-index.all.items (omega arith) (λ h. omega arith) (λ z. p (n ∙ z)) (ap (λ v. v.items) w.all-is ∙ w.in_ok-push.ensures.items)
+      | else-index w ↦
+          subst (Picked (λ j. j < i + 1) P) (sym (ap (λ v. v.items) w.all-is)) (picked_same (λ j. j < i) (λ j. j < i + 1) P c.loop-i.all.items i c.loop-i.invariant (λ j h. earlier_or_here j i h) (λ j h. omega arith)
+          (elim w.else-index.branch [
+            | else-index-via-then-index+else-num-ne0 v ↦
+                let n : v.num.result ≡ (at c.args.s (entries_at c.args.rows.now i)).num = number_read c.args.s c.args.rows.now i v.index-rows-i.result v.num.result (omega arith) v.index-rows-i.is (v.num.ensures ∙ v.at.ensures.num) in
+                let fits : FitsSigned w128 v.num.result = search rules in
+                let p : v.num.result ≡ pos 0 = grind (arith, ints, to_z-of_z w128 v.num.result fits, v.if-num-ne0.false) in
+                λ z. z (sym n ∙ p)
+            | else-index-via-else-index v ↦
+                λ z. not_marked c.args.marks.now c.args.s i c.index-marks-s.result c.index.result.now c.requires.column c.index-marks-s.is c.index.ensures v.if-index.false (c.requires.covers.all c.args.s i c.requires.column (omega arith) z)
+          ]))
+    ]
 
 pub returns : goal.returns
-returns c = all_touching c.args.s c.args.rows.now c.args.sets.now c.loop-row.row-iterator c.loop-row.all.items c.requires.column c.requires.covers
-    (rest_all deref c.loop-row.row-iterator c.next.new.self c.next.result c.in-None.is c.next.ensures.steps) c.loop-row.invariant.2
+returns c =
+    let past : length c.args.rows.now ≤ c.loop-i.i = omega arith in
+    touching_all c.loop-i.i c.args.s c.args.rows.now c.loop-i.all.items past (let b : c.loop-i.i ≤ length c.args.rows.now = omega arith in b) c.loop-i.invariant

@@ -1,6 +1,5 @@
-use Rattle.std.proofs.Common.{sym, length, ◌^◌, arith}
+use Rattle.std.proofs.Common.{sym, length, ◌^◌}
 use Rattle.tableau.specs.Tableaux.{right}
-use Rattle.tableau.proofs.Opening.{length-opened}
 use Rattle.simplex.specs.Solving.{rule_of}
 use Rattle.simplex.proofs.Solves.{basis_long}
 use Rattle.simplex.proofs.Tables.{opened_reached, fewer_pivots, shrinks, differ_at, differ_rising, best_of, refuted_of}
@@ -46,10 +45,3 @@ returns-in-Rises g c =
 
 pub returns-in-Leaves : goal.returns-in-Leaves
 returns-in-Leaves g c = rw c.in-Leaves.is at c.in_ok-make_step.ensures.step
-
-pub new_scratch-requires : goal.new_scratch-requires
-new_scratch-requires g c =
-    let count = c.in-Ok.ensures.table.rows.count in
-    let opened = length-opened c.args.system.now in
-    let fits = c.requires.fits in
-    rw c.deref.ensures.value (omega arith)

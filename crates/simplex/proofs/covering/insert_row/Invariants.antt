@@ -1,6 +1,0 @@
-use Rattle.std.proofs.Common.{[], ◌∷◌, take}
-use Rattle.simplex.specs.Covering.{Grow}
-use Rattle.simplex.proofs.covering.insert_row.Given as goal
-
-abbrev pub invariant-loop-column : goal.invariant-loop-column
-invariant-loop-column l = Grow (take l.column-index l.columns) (l.row ∷ []) l.initial.sets l.sets

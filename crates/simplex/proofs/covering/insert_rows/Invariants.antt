@@ -1,6 +1,0 @@
-use Rattle.std.proofs.Common.{take}
-use Rattle.simplex.specs.Covering.{Grow}
-use Rattle.simplex.proofs.covering.insert_rows.Given as goal
-
-abbrev pub invariant-loop-row : goal.invariant-loop-row
-invariant-loop-row l = Grow l.columns (take l.row-index l.rows) l.initial.sets l.sets
