@@ -81,7 +81,10 @@ fn check_vector(alloc: Global, system: &System, farkas: &[(u32, i128)]) -> Resul
     let Ok(vector) = vector(alloc, farkas, count) else {
         return Err(VectorFault::NoMemory);
     };
-    match refutes(system, &vector) {
+    let Ok(verdict) = refutes(alloc, system, &vector) else {
+        return Err(VectorFault::NoMemory);
+    };
+    match verdict {
         Verdict::Yes => Ok(()),
         Verdict::No { .. } => Err(VectorFault::NotRefuted),
         Verdict::Leaves { column } => Err(VectorFault::Refute { column }),

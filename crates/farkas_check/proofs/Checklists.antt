@@ -1,5 +1,6 @@
 -- Lists of checks from one place on.
 use Rattle.std.proofs.Common.{◌≡◌, refl, sym, ap, subst, ℕ, zero, suc, ◌+◌, ◌-◌, ◌<◌, length, List, [], ◌∷◌, get_or, drop, ℤ, pos, neg_ℤ, ◌*ℤ◌, arith}
+use Rattle.std.proofs.lemmas.List.{drop_all}
 use Rattle.linear_rows.specs.Terms.{SparseRow}
 use Rattle.linear_rows.specs.Systems.{IsBelow, AllBelow}
 use Rattle.farkas_check.specs.Totals.{products}
@@ -24,6 +25,9 @@ pub dual_next : (u : ℕ) (w : List ℤ) (rows : List SparseRow) (y : List ℤ) 
 dual_next u w rows y t h =
     let s : suc u ≡ u + 1 = omega arith in
     rw (cut w u (pos 0) h) (ap (λ (v : ℕ). record { column = u; demand = NotAbove; terms = neg_ℤ (t *ℤ get_or w u (pos 0)) ∷ products y (column u rows) } ∷ dual_columns v (drop (u + 1) w) rows y t) s)
+
+pub dual_end : (u : ℕ) (w : List ℤ) (rows : List SparseRow) (y : List ℤ) (t : ℤ) → u ≡ length w → dual_columns u (drop u w) rows y t ≡ []
+dual_end u w rows y t h = rw (drop_all u w (omega arith)) refl
 
 pub rows_next : (n : ℕ) (x : List ℤ) (t : ℤ) (rows : List SparseRow) (i : ℕ) (r : SparseRow) → i < length rows → r ≡ get_or rows i r
     → solving_rows n x t (drop i rows) ≡ solving_row n x t r ∷ solving_rows n x t (drop (i + 1) rows)

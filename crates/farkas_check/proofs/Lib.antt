@@ -7,3 +7,4 @@ mod Firsts
 mod Checklists
 mod Spreading
 mod Meaning
+mod Walking

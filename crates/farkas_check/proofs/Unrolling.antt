@@ -5,17 +5,16 @@ use Rattle.std.specs.Int.{w128}
 use Rattle.raml_num.specs.Sums.{NoneNegative}
 use Rattle.raml_num.proofs.Differences.{diffs, diff-pos, is_diff, diff_same}
 use Rattle.linear_rows.specs.Terms.{SparseRow, Terms}
-use Rattle.farkas_check.specs.declared.totals.Column.{Column}
 use Rattle.farkas_check.specs.Totals.{products}
-use Rattle.farkas_check.specs.Sides.{number_in, numbers_in, sparse_products}
+use Rattle.farkas_check.specs.Sides.{sparse_products}
 
 pub cut : {X : Type 0} (xs : List X) (i : ℕ) (d : X) → i < length xs → drop i xs ≡ get_or xs i d ∷ drop (i + 1) xs
 cut xs i d h = rw add-one (drop-cons xs i d h)
 
-pub column_next : (c : Column) (y : List ℤ) (rows : List SparseRow) (i : ℕ) (r : SparseRow) → i < length rows → length y ≡ length rows → r ≡ get_or rows i r
-    → products (drop i y) (numbers_in c (drop i rows)) ≡ (get_or y i (pos 0) *ℤ number_in c r) ∷ products (drop (i + 1) y) (numbers_in c (drop (i + 1) rows))
-column_next c y rows i r h l e =
-    rw (cut y i (pos 0) (omega arith), cut rows i r h) (ap (λ (v : SparseRow). (get_or y i (pos 0) *ℤ number_in c v) ∷ products (drop (i + 1) y) (numbers_in c (drop (i + 1) rows))) (sym e))
+pub right_next : (y : List ℤ) (rows : List SparseRow) (i : ℕ) (r : SparseRow) → i < length rows → length y ≡ length rows → r ≡ get_or rows i r
+    → products (drop i y) (map (λ row. row.right) (drop i rows)) ≡ (get_or y i (pos 0) *ℤ r.right) ∷ products (drop (i + 1) y) (map (λ row. row.right) (drop (i + 1) rows))
+right_next y rows i r h l e =
+    rw (cut y i (pos 0) (omega arith), cut rows i r h) (ap (λ (v : SparseRow). (get_or y i (pos 0) *ℤ v.right) ∷ products (drop (i + 1) y) (map (λ row. row.right) (drop (i + 1) rows))) (sym e))
 
 negated : (a b : ℤ) → neg_ℤ (a *ℤ b) ≡ a *ℤ (pos 0 -ℤ b)
 negated a b = rw (is_diff a, is_diff b) (simp (diffs, diff-pos) (diff_same _ _ _ _ (omega arith)))

@@ -1,16 +1,18 @@
 //! The first check of a list that does not pass.
 
-ghost use Rattle.std.specs.Prelude.{◌≡◌, ◌<ℤ◌, ◌↔◌, IsTrue, pos, length, ℤ, ℕ, List, map, neg_ℤ, ◌*ℤ◌, ◌∷◌, [], ◌++◌};
+ghost use Rattle.std.specs.Prelude.{◌≡◌, ◌<ℤ◌, ◌↔◌, IsTrue, pos, length, ℤ, ℕ, List, map, neg_ℤ, ◌*ℤ◌, ◌∷◌, ◌++◌, IfOk};
 ghost use Rattle.raml_num.specs.Sums.{NoneNegative};
 ghost use Rattle.linear_rows.specs.Systems.{IsBelow, IsSystem, numbers_from, right_sides};
-ghost use Rattle.farkas_check.specs.Checks.{Meets, Demand, Check, column, refuting_columns, solving_row, solving_rows, dual_columns, equal_sums, refuting, proving_least};
+ghost use Rattle.farkas_check.specs.Checks.{Meets, Demand, Check, refuting_columns, solving_row, solving_rows, dual_columns, equal_sums, refuting, proving_least};
 ghost use Rattle.farkas_check.specs.Totals.{products};
 ghost use Rattle.farkas_check.specs.Sides.{IsTotals};
 ghost use Rattle.farkas_check.specs.Faults.{demand_of, FaultOf, FirstFaultOf};
 
 use crate::Verdict;
-use crate::totals::{Column, Totals};
+use crate::columns::{column_totals, dual_totals};
+use crate::totals::Totals;
 use linear_rows::{Row, System};
+use std::alloc::{AllocError, Global};
 
 /// What is asked of a total.
 #[derive(Clone, Copy)]
@@ -55,19 +57,18 @@ fn of_check(totals: Option<Totals>, asked: Asked, column: u32) -> Option<Verdict
 }
 
 /// Of `y A`, which is to be at most 0.
-fn of_columns(system: &System, y: &[i128]) -> Option<Verdict>
+fn of_columns(alloc: Global, system: &System, y: &[i128]) -> Result<Option<Verdict>, AllocError>
     requires { length y.now ≡ length system.now.rows }
-    ensures { FirstFaultOf (refuting_columns 0 system.now.unknowns system.now.rows y.now) result }
+    ensures { IfOk result (λ fault. FirstFaultOf (refuting_columns 0 system.now.unknowns system.now.rows y.now) fault) }
 {
-    let rows = system.rows();
+    let totals = column_totals(alloc, system, y)?;
     for unknown in 0..system.unknowns() {
-        let totals = Totals::zero().with_column(y, Column::Unknown(unknown), rows);
-        let fault = of_check(totals, Asked::AtMostZero, unknown);
+        let fault = of_check(totals[unknown as usize], Asked::AtMostZero, unknown);
         if fault.is_some() {
-            return fault;
+            return Ok(fault);
         }
     }
-    None
+    Ok(None)
 }
 
 /// Of `y b`, which is to be positive.
@@ -75,36 +76,29 @@ fn of_right_sides(system: &System, y: &[i128]) -> Option<Verdict>
     requires { length y.now ≡ length system.now.rows }
     ensures { FaultOf (record { column = system.now.unknowns; demand = Demand.Above; terms = products y.now (right_sides system.now) }) result }
 {
-    let totals = Totals::zero().with_column(y, Column::Right, system.rows());
+    let totals = Totals::zero().with_right_sides(y, system.rows());
     of_check(totals, Asked::MoreThanZero, system.unknowns())
 }
 
-/// The totals of `y A` less `scale` times the weight, at an unknown.
-fn dual_totals(rows: &[Row], y: &[i128], unknown: u32, weight: i128, scale: i128) -> Option<Totals>
-    requires one_each { length y.now ≡ length rows.now }
-    requires positive { pos 0 <ℤ scale }
-    ensures { IsTotals (neg_ℤ (scale *ℤ weight) ∷ products y.now (column unknown rows.now)) result }
-{
-    let totals = Totals::zero().with(-scale, weight)?;
-    totals.with_column(y, Column::Unknown(unknown), rows)
-}
-
 /// Of `y A`, which is to be at most `scale` times the weights.
-fn of_dual_columns(system: &System, y: &[i128], scale: i128) -> Option<Verdict>
+fn of_dual_columns(
+    alloc: Global,
+    system: &System,
+    y: &[i128],
+    scale: i128,
+) -> Result<Option<Verdict>, AllocError>
     requires one_each { length y.now ≡ length system.now.rows }
     requires positive { pos 0 <ℤ scale }
-    ensures { FirstFaultOf (dual_columns 0 system.now.weights system.now.rows y.now scale) result }
+    ensures { IfOk result (λ fault. FirstFaultOf (dual_columns 0 system.now.weights system.now.rows y.now scale) fault) }
 {
-    let rows = system.rows();
-    let weights = system.weights();
+    let totals = dual_totals(alloc, system, y, scale)?;
     for unknown in 0..system.unknowns() {
-        let totals = dual_totals(rows, y, unknown, weights[unknown as usize], scale);
-        let fault = of_check(totals, Asked::AtMostZero, unknown);
+        let fault = of_check(totals[unknown as usize], Asked::AtMostZero, unknown);
         if fault.is_some() {
-            return fault;
+            return Ok(fault);
         }
     }
-    None
+    Ok(None)
 }
 
 /// The totals of a row at `x`, less `scale` times the right side.
@@ -143,7 +137,7 @@ fn sum_totals(system: &System, x: &[i128], y: &[i128]) -> Option<Totals>
     requires natural { NoneNegative x.now }
     ensures { IsTotals (products y.now (right_sides system.now) ++ map neg_ℤ (products system.now.weights x.now)) result }
 {
-    let totals = Totals::zero().with_column(y, Column::Right, system.rows())?;
+    let totals = Totals::zero().with_right_sides(y, system.rows())?;
     totals.without(system.weights(), x)
 }
 
@@ -158,33 +152,43 @@ fn of_sums(system: &System, x: &[i128], y: &[i128]) -> Option<Verdict>
 }
 
 /// Of `y`, which is to refute the system.
-pub(crate) fn of_refuting(system: &System, y: &[i128]) -> Option<Verdict>
+pub(crate) fn of_refuting(
+    alloc: Global,
+    system: &System,
+    y: &[i128],
+) -> Result<Option<Verdict>, AllocError>
     requires { length y.now ≡ length system.now.rows }
-    ensures { FirstFaultOf (refuting system.now y.now) result }
+    ensures { IfOk result (λ fault. FirstFaultOf (refuting system.now y.now) fault) }
 {
-    let fault = of_columns(system, y);
+    let fault = of_columns(alloc, system, y)?;
     if fault.is_some() {
-        return fault;
+        return Ok(fault);
     }
-    of_right_sides(system, y)
+    Ok(of_right_sides(system, y))
 }
 
 /// Of `x` and `y`, which are to prove the weighted sum of `x` least.
-pub(crate) fn of_least(system: &System, x: &[i128], y: &[i128], scale: i128) -> Option<Verdict>
+pub(crate) fn of_least(
+    alloc: Global,
+    system: &System,
+    x: &[i128],
+    y: &[i128],
+    scale: i128,
+) -> Result<Option<Verdict>, AllocError>
     requires each_unknown { length x.now ≡ system.now.unknowns }
     requires each_row { length y.now ≡ length system.now.rows }
     requires natural { NoneNegative x.now }
     requires positive { pos 0 <ℤ scale }
-    ensures first { FirstFaultOf (proving_least system.now x.now y.now scale) result }
+    ensures first { IfOk result (λ fault. FirstFaultOf (proving_least system.now x.now y.now scale) fault) }
     ensures sound { IsSystem system.now }
 {
     let rows = of_rows(system, x, scale);
     if rows.is_some() {
-        return rows;
+        return Ok(rows);
     }
-    let columns = of_dual_columns(system, y, scale);
+    let columns = of_dual_columns(alloc, system, y, scale)?;
     if columns.is_some() {
-        return columns;
+        return Ok(columns);
     }
-    of_sums(system, x, y)
+    Ok(of_sums(system, x, y))
 }

@@ -4,28 +4,6 @@ ghost use Rattle.std.specs.Prelude.{◌≤ℤ◌, pos};
 
 use linear_rows::Row;
 
-/// The numbers of an unknown in the rows, or their right sides.
-#[derive(Clone, Copy)]
-pub(crate) enum Column {
-    Unknown(u32),
-    Right,
-}
-
-impl Column {
-    ghost use Rattle.std.specs.Prelude.{◌≡◌};
-    ghost use Rattle.farkas_check.specs.Sides.{number_in};
-
-    /// The number of a row in the column.
-    fn of_row(self, row: &Row) -> i128
-        ensures { result ≡ number_in self row.now }
-    {
-        match self {
-            Column::Unknown(unknown) => row.coefficient(unknown),
-            Column::Right => row.right(),
-        }
-    }
-}
-
 /// Both totals.
 #[derive(Clone, Copy)]
 pub(crate) struct Totals {
@@ -39,7 +17,7 @@ impl Totals {
     ghost use Rattle.std.specs.Prelude.{◌≡◌, ◌≤◌, ◌+ℤ◌, ◌*ℤ◌, pos, map, length, ◌∷◌, [], neg_ℤ};
     ghost use Rattle.raml_num.specs.Sums.{NoneNegative};
     ghost use Rattle.farkas_check.specs.Totals.{products};
-    ghost use Rattle.farkas_check.specs.Sides.{MovedBy, IsTotals, number_in, numbers_in, sparse_products, AllInside};
+    ghost use Rattle.farkas_check.specs.Sides.{MovedBy, IsTotals, sparse_products, AllInside};
 
     pub(crate) fn zero() -> Totals
         ensures { IsTotals [] (Some result) }
@@ -77,25 +55,14 @@ impl Totals {
         }
     }
 
-    // With the product of `y` and a row's number in the column, which is looked up only where `y` is not 0.
-    fn with_row(self, y: i128, column: Column, row: &Row) -> Option<Totals>
-        ensures { MovedBy self ((y *ℤ number_in column row.now) ∷ []) result }
-    {
-        if y == 0 {
-            Some(self)
-        } else {
-            self.with(y, column.of_row(row))
-        }
-    }
-
-    /// With the products of `y` and a column.
-    pub(crate) fn with_column(self, y: &[i128], column: Column, rows: &[Row]) -> Option<Totals>
+    /// With the products of `y` and the right sides.
+    pub(crate) fn with_right_sides(self, y: &[i128], rows: &[Row]) -> Option<Totals>
         requires { length y.now ≡ length rows.now }
-        ensures { MovedBy self (products y.now (numbers_in column rows.now)) result }
+        ensures { MovedBy self (products y.now (map (λ row. row.right) rows.now)) result }
     {
         let mut totals = self;
         for i in 0..rows.len() {
-            totals = totals.with_row(y[i], column, &rows[i])?;
+            totals = totals.with(y[i], rows[i].right())?;
         }
         Some(totals)
     }

@@ -37,7 +37,7 @@ fn refuted(
 ) -> Result<Option<Verdict>, Fail> {
     let system = repeated(alloc, times, right, 2)?;
     if system.rows().len() == 2 && first >= 0 && second >= 0 {
-        Ok(Some(refutes(&system, &[first, second])))
+        Ok(Some(refutes(alloc, &system, &[first, second])?))
     } else {
         Ok(None)
     }
@@ -67,7 +67,7 @@ fn refutations(rt: HostRuntime) -> Result<(), Fail> {
 fn told_least(alloc: Global, x: i128, y: i128, scale: i128) -> Result<Option<Verdict>, Fail> {
     let three = repeated(alloc, 1, 3, 1)?;
     if three.unknowns() == 1 && three.rows().len() == 1 && x >= 0 && y >= 0 && scale > 0 {
-        Ok(Some(least(&three, &[x], &[y], scale)))
+        Ok(Some(least(alloc, &three, &[x], &[y], scale)?))
     } else {
         Ok(None)
     }

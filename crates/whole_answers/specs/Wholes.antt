@@ -59,14 +59,16 @@ pub record HaveWholes (fs : List Frac) : Type 0 where
   pub fits : over < most
   pub each : (entry : ℕ) → slice_index_or numbers entry 0 < most
 
--- the fault is the first column at which the check of a solution leaves
+-- the fault is the first column at which the check of a solution leaves, or want of memory
 abbrev pub LeastCheckLeaves : LinearSystem → List ℤ → List ℤ → ℕ → AnswerFault → Type 0
 LeastCheckLeaves s x y t (f.Least column) = IsVerdict (proving_least s x y (pos t)) (Leaves column)
+LeastCheckLeaves s x y t f.NoMemory = Unit {0}
 LeastCheckLeaves s x y t fault = ⊥
 
 -- and likewise of a vector
 abbrev pub VectorCheckLeaves : LinearSystem → List ℤ → AnswerFault → Type 0
 VectorCheckLeaves s y (f.Refute column) = IsVerdict (refuting s y) (Leaves column)
+VectorCheckLeaves s y f.NoMemory = Unit {0}
 VectorCheckLeaves s y fault = ⊥
 
 -- the answer is these fractions over their own least denominator

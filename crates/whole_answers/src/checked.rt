@@ -26,6 +26,7 @@ fn joined(alloc: Global, first: &[Frac], second: &[Frac]) -> Result<Vec<Frac>, A
 
 /// Checks a solution, which the dual one proves least.
 fn check_least(
+    alloc: Global,
     system: &System,
     x: &[i128],
     dual: &[i128],
@@ -36,7 +37,7 @@ fn check_least(
     ensures passed { OnOk result (EachPasses (proving_least system.now x.now dual.now (pos denominator))) }
     ensures leaves { IfErr result (LeastCheckLeaves system.now x.now dual.now denominator) }
 {
-    match least(system, x, dual, denominator as i128) {
+    match least(alloc, system, x, dual, denominator as i128)? {
         Verdict::Yes => Ok(()),
         Verdict::No { .. } => unreachable!(),
         Verdict::Leaves { column } => Err(AnswerFault::Least { column }),
@@ -44,12 +45,12 @@ fn check_least(
 }
 
 /// Checks a vector, which refutes the system.
-fn check_vector(system: &System, y: &[i128]) -> Result<(), AnswerFault>
+fn check_vector(alloc: Global, system: &System, y: &[i128]) -> Result<(), AnswerFault>
     requires { Refutes system.now y.now }
     ensures passed { OnOk result (EachPasses (refuting system.now y.now)) }
     ensures leaves { IfErr result (VectorCheckLeaves system.now y.now) }
 {
-    match refutes(system, y) {
+    match refutes(alloc, system, y)? {
         Verdict::Yes => Ok(()),
         Verdict::No { .. } => unreachable!(),
         Verdict::Leaves { column } => Err(AnswerFault::Refute { column }),
@@ -86,7 +87,7 @@ pub(crate) fn checked_solution(
     let denominator = common_denominator(&both)?;
     let numbers = numbers_over(alloc, &both, denominator)?;
     let (primal_numbers, dual_numbers) = numbers.split_at(x.len());
-    check_least(system, primal_numbers, dual_numbers, denominator)?;
+    check_least(alloc, system, primal_numbers, dual_numbers, denominator)?;
     Ok(solution(alloc, x)?)
 }
 
@@ -104,6 +105,6 @@ pub(crate) fn checked_vector(
     laws::least_denominators();
     let denominator = common_denominator(y)?;
     let numbers = numbers_over(alloc, y, denominator)?;
-    check_vector(system, &numbers)?;
+    check_vector(alloc, system, &numbers)?;
     Ok(Answer::Vector { numbers })
 }

@@ -1,4 +1,4 @@
-use Rattle.std.proofs.Common.{◌≡◌, refl, ap, sym, ◌∙◌, subst, length, map}
+use Rattle.std.proofs.Common.{◌≡◌, ap, sym, ◌∙◌, subst, length, map}
 use Rattle.std.specs.List.{range_with_len}
 use Rattle.annot_types.specs.Certificate.{number_at}
 use Rattle.raml_num.specs.Sums.{NoneNegative}
@@ -26,5 +26,5 @@ returns-in-Yes c = λ none.
     let count = ap length c.rows-count.ensures.all in
     let is : c.deref.result.now ≡ vector_of s es = c.deref.ensures.value ∙ c.in-Ok.ensures ∙ ap (λ n. map (λ row. number_at row es) (range_with_len 0 n)) count in
     clears s es c.requires.rows
-    (subst (λ v. EachPasses (refuting s v)) is c.in-Yes.ensures.first)
-    (subst (Refutes s) is (c.in-Yes.ensures.yes.0 refl).0) none
+    (subst (λ v. EachPasses (refuting s v)) is (rw c.in-Yes.is at c.in-Ok-refutes.ensures.first))
+    (subst (Refutes s) is (c.in-Ok-refutes.ensures.yes.0 c.in-Yes.is).0) none

@@ -1,8 +1,0 @@
-use Rattle.std.proofs.Common.{drop}
-use Rattle.farkas_check.specs.Totals.{products}
-use Rattle.farkas_check.specs.Sides.{numbers_in}
-use Rattle.farkas_check.proofs.Carrying.{Carries}
-use Rattle.farkas_check.proofs.totals.Totals.with_column.Given as goal
-
-abbrev pub invariant-loop-i : goal.invariant-loop-i
-invariant-loop-i l = Carries l.fn.self l.totals (products l.y (numbers_in l.column l.rows)) (products (drop l.i l.y) (numbers_in l.column (drop l.i l.rows)))
