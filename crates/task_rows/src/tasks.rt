@@ -10,7 +10,7 @@ use annot_types::{Block, BlockBody, Certificate};
 use constraint_gen::{plans, rows_by};
 use cost_free::{Task, TaskKind};
 use earlier_blocks::Earlier;
-use rule_plan::Body;
+use rule_plan::FunctionPlan;
 use share_normal::NormProgram;
 use std::alloc::{AllocError, Global};
 
@@ -57,16 +57,17 @@ fn push_block(
     if budget_of(d, task) > 4 || prices.scale > i128::MAX as u128 {
         return Err(Refusal::Task);
     }
-    let Ok(bodies) = plans(alloc, program, d, earlier, task) else {
+    let Ok(plans) = plans(alloc, program, d, None, task) else {
         return Err(Refusal::Task);
     };
     if was_tried(&block.body) {
+        let bodies = plans.over(alloc, earlier)?;
         match rows_by(alloc, program, d, earlier, task, prices.scale, &bodies) {
             Ok(system) => push_task(alloc, out, program, task, &bodies, &system, prices.raised)?,
             Err(_) => return Err(Refusal::Task),
         }
     }
-    Ok(add(alloc, program, d, earlier, block, &bodies)?)
+    Ok(add(alloc, program, d, earlier, block, &plans.functions)?)
 }
 
 fn was_tried(body: &BlockBody) -> bool {
@@ -83,12 +84,12 @@ fn add(
     d: u8,
     earlier: &mut Earlier,
     block: &Block,
-    bodies: &[Body],
+    plans: &[FunctionPlan],
 ) -> Result<(), AllocError> {
     let functions = members(program, block.task.group);
-    let mut sizes = Vec::with_capacity(alloc, bodies.len())?;
-    for body in bodies {
-        sizes.push((body.args, body.result))?;
+    let mut sizes = Vec::with_capacity(alloc, plans.len())?;
+    for plan in plans {
+        sizes.push((plan.args, plan.result))?;
     }
     earlier.add(alloc, d, block, functions, &sizes)
 }

@@ -3,7 +3,7 @@ use cost_free::{Meter, Task, TaskKind};
 use linear_rows::{Row, System};
 use raml_syntax::FunId;
 use rule_plan::Body;
-use rule_walk::{Ask, asked};
+use rule_walk::Ask;
 use share_normal::NormProgram;
 use std::alloc::{AllocError, Global};
 use std::fmt::Write;
@@ -14,7 +14,7 @@ pub fn push_task(
     out: &mut String,
     program: &NormProgram<'_>,
     task: &Task,
-    bodies: &[Body],
+    bodies: &[Body<'_>],
     system: &System,
     raised: u128,
 ) -> Result<(), AllocError> {
@@ -74,17 +74,17 @@ pub fn members<'a>(program: &'a NormProgram<'_>, group: u32) -> &'a [FunId] {
 
 // What the unknowns stand for, in their order: the signatures of all bodies, and then the hints of each, with
 // the place of the body.
-fn push_parts(alloc: Global, out: &mut String, bodies: &[Body]) -> Result<(), AllocError> {
+fn push_parts(alloc: Global, out: &mut String, bodies: &[Body<'_>]) -> Result<(), AllocError> {
     out.push_str("parts [")?;
     push_sigs(out, bodies)?;
     for place in 0..bodies.len() {
-        push_asks(out, place, &asked(alloc, &bodies[place].plan)?)?;
+        push_asks(out, place, &bodies[place].asked(alloc)?)?;
     }
     out.push_str("]\n")?;
     Ok(())
 }
 
-fn push_sigs(out: &mut String, bodies: &[Body]) -> Result<(), AllocError> {
+fn push_sigs(out: &mut String, bodies: &[Body<'_>]) -> Result<(), AllocError> {
     let mut comma = "";
     for body in bodies {
         let (args, result) = (body.args, body.result);
