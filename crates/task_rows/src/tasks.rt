@@ -1,7 +1,9 @@
 // The tasks of a certificate, one after the other.
 ghost use Rattle.std.specs.Prelude.{◌≡◌, ◌≤◌};
 ghost use Rattle.annot_types.specs.Holds as h;
-ghost use Rattle.cost_free.specs.Read.{kind_of};
+ghost use Rattle.cost_free.specs.Read.{kind_of, task_of};
+ghost use Rattle.rule_plan.specs.Read.{program_in};
+ghost use Rattle.constraint_gen.specs.Cause.{IsWithin};
 
 use crate::prices::{Prices, prices_of};
 use crate::refusal::Refusal;
@@ -10,7 +12,7 @@ use annot_types::{Block, BlockBody, Certificate};
 use constraint_gen::{plans, rows_by};
 use cost_free::{Task, TaskKind};
 use earlier_blocks::Earlier;
-use rule_plan::FunctionPlan;
+use rule_plan::{FunctionPlan, GroupPlans};
 use share_normal::NormProgram;
 use std::alloc::{AllocError, Global};
 
@@ -43,6 +45,27 @@ fn budget_of(d: u8, task: &Task) -> u8
     }
 }
 
+// The rows of a task, by the plans of its group.
+fn push_tried(
+    alloc: Global,
+    out: &mut String,
+    program: &NormProgram<'_>,
+    d: u8,
+    earlier: &Earlier,
+    task: &Task,
+    prices: &Prices,
+    plans: &GroupPlans,
+) -> Result<(), Refusal>
+    requires budget { h.budget_of d (kind_of task.now.kind) ≤ 4 }
+    requires within { IsWithin (program_in program.now) d (task_of task.now) }
+{
+    let bodies = plans.over(alloc, earlier)?;
+    match rows_by(alloc, program, d, earlier, task, prices.scale, &bodies) {
+        Ok(system) => Ok(push_task(alloc, out, program, task, &bodies, &system, prices.raised)?),
+        Err(_) => Err(Refusal::Task),
+    }
+}
+
 // The rows of the task of a block, which is then one of the blocks before the next task.
 fn push_block(
     alloc: Global,
@@ -57,17 +80,15 @@ fn push_block(
     if budget_of(d, task) > 4 || prices.scale > i128::MAX as u128 {
         return Err(Refusal::Task);
     }
-    let Ok(plans) = plans(alloc, program, d, None, task) else {
-        return Err(Refusal::Task);
-    };
-    if was_tried(&block.body) {
-        let bodies = plans.over(alloc, earlier)?;
-        match rows_by(alloc, program, d, earlier, task, prices.scale, &bodies) {
-            Ok(system) => push_task(alloc, out, program, task, &bodies, &system, prices.raised)?,
-            Err(_) => return Err(Refusal::Task),
+    match plans(alloc, program, d, None, task) {
+        Err(_) => Err(Refusal::Task),
+        Ok(plans) => {
+            if was_tried(&block.body) {
+                push_tried(alloc, out, program, d, earlier, task, &prices, &plans)?;
+            }
+            Ok(add(alloc, program, d, earlier, block, &plans.functions)?)
         }
     }
-    Ok(add(alloc, program, d, earlier, block, &plans.functions)?)
 }
 
 fn was_tried(body: &BlockBody) -> bool {
