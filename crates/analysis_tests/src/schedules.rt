@@ -1,5 +1,5 @@
 //! Runs of schedules that were worked out by hand.
-use crate::types::{last_type, types};
+use crate::types::{lists, types};
 use base_poly::IndexFault;
 use call_groups::{Groups, group_calls};
 use cost_free::{Done, Meter, Schedule, Task, TaskKind, blocked, next};
@@ -16,35 +16,50 @@ fn call(callee: Name, args: Vec<Expr>) -> Expr {
     }
 }
 
-// A function that calls these functions; a word is a name.
-fn function(alloc: Global, name: &str, callees: &str) -> Result<Fun, AllocError> {
-    let mut args = Vec::new(alloc);
+// Calls of these functions; a word is a name.
+fn calls(alloc: Global, callees: &str) -> Result<Vec<Expr>, AllocError> {
+    let mut calls = Vec::new(alloc);
     for callee in callees.split_whitespace() {
-        args.push(call(Name::new(alloc, callee)?, Vec::new(alloc)))?;
+        calls.push(call(Name::new(alloc, callee)?, Vec::new(alloc)))?;
     }
+    Ok(calls)
+}
+
+// A function that calls these functions.
+fn function(alloc: Global, name: &str, callees: &str) -> Result<Fun, AllocError> {
+    let name = Name::new(alloc, name)?;
+    let unknown = Name::new(alloc, "unknown")?;
+    let args = calls(alloc, callees)?;
     Ok(Fun {
         at: Pos(0),
-        name: Name::new(alloc, name)?,
+        name,
         params: Vec::new(alloc),
         result: Ty::Int,
-        body: call(Name::new(alloc, "unknown")?, args),
+        body: call(unknown, args),
     })
 }
 
-// The groups of a program whose functions have the names f, g and h, and call these functions.
-fn groups(alloc: Global, calls: &[&str]) -> Result<Groups, Fail> {
+fn name_at(place: usize) -> &'static str {
+    match place {
+        0 => "f",
+        1 => "g",
+        _ => "h",
+    }
+}
+
+// A program whose functions have the names f, g and h, and call these functions.
+fn program(alloc: Global, calls: &[&str]) -> Result<Program, AllocError> {
     let mut funs = Vec::new(alloc);
     for (place, callees) in calls.iter().enumerate() {
-        let name = match place {
-            0 => "f",
-            1 => "g",
-            _ => "h",
-        };
-        funs.push(function(alloc, name, callees)?)?;
+        funs.push(function(alloc, name_at(place), callees)?)?;
     }
-    let program = Program { funs };
-    let count = program.funs.len();
-    if count > 256 {
+    Ok(Program { funs })
+}
+
+// The groups of such a program.
+fn groups(alloc: Global, calls: &[&str]) -> Result<Groups, Fail> {
+    let program = program(alloc, calls)?;
+    if program.funs.len() > 256 {
         return Err(Fail::from("too many functions"));
     }
     Ok(group_calls(alloc, &program)?)
@@ -72,37 +87,68 @@ fn outcome(letter: u8) -> Done {
     }
 }
 
-// The tasks that come, where they come out as the letters say, and of each the function that it waits
-// for.
-fn tasks_that_come(
-    rt: &impl Abort,
-    alloc: Global,
-    results: &[Ty],
+// Adds the task that comes, and the function that it waits for.
+fn show_next(
+    out: &mut String,
     groups: &Groups,
+    next: Option<Task>,
+    done: &[(Task, Done)],
+) -> Result<(), AllocError> {
+    let Some(task) = next else {
+        return out.push_str(" end");
+    };
+    show(out, &task)?;
+    match blocked(groups, &task, done) {
+        Some(fun) => write!(out, "?{}", fun.0),
+        None => Ok(()),
+    }
+}
+
+// What a schedule goes by.
+#[derive(Clone, Copy)]
+struct Case<'a> {
+    results: &'a [Ty],
+    groups: &'a Groups,
     degree: u8,
     work: bool,
+}
+
+// The task that comes, which is the same without the schedule.
+fn current(
+    rt: &impl Abort,
+    alloc: Global,
+    schedule: &mut Schedule<'_>,
+    case: &Case<'_>,
+) -> Result<Option<Task>, IndexFault> {
+    let current = schedule.current()?;
+    let done = schedule.done();
+    let alone = next(
+        alloc,
+        case.results,
+        case.groups,
+        case.degree,
+        case.work,
+        done,
+    )?;
+    assert!(rt; alone == current);
+    Ok(current)
+}
+
+// Adds the tasks that come, where they come out as the letters say.
+fn push_tasks(
+    out: &mut String,
+    rt: &impl Abort,
+    alloc: Global,
+    case: &Case<'_>,
     letters: &str,
-) -> Result<String, Fail> {
-    let mut out = String::new(alloc);
-    let mut schedule = Schedule::new(alloc, results, groups, degree, work);
+) -> Result<(), IndexFault> {
+    let mut schedule = Schedule::new(alloc, case.results, case.groups, case.degree, case.work);
     for &letter in letters.as_bytes() {
-        let current = schedule.current()?;
-        assert_eq!(rt;
-            next(alloc, results, groups, degree, work, schedule.done())?,
-            current
-        );
-        match current {
-            None => out.push_str(" end")?,
-            Some(task) => {
-                show(&mut out, &task)?;
-                if let Some(fun) = blocked(groups, &task, schedule.done()) {
-                    write!(out, "?{}", fun.0)?;
-                }
-            }
-        }
+        let current = current(rt, alloc, &mut schedule, case)?;
+        show_next(out, case.groups, current, schedule.done())?;
         schedule.record(outcome(letter))?;
     }
-    Ok(out)
+    Ok(())
 }
 
 struct Run {
@@ -168,45 +214,47 @@ const RUNS: [Run; 6] = [
     },
 ];
 
+// The tasks that come in a run.
+fn tasks_of(rt: &impl Abort, alloc: Global, run: &Run) -> Result<String, Fail> {
+    let results = types(alloc, run.results)?;
+    let groups = groups(alloc, run.calls)?;
+    let case = Case {
+        results: &results,
+        groups: &groups,
+        degree: run.degree,
+        work: run.work,
+    };
+    let mut out = String::new(alloc);
+    push_tasks(&mut out, rt, alloc, &case, run.outcomes)?;
+    Ok(out)
+}
+
 #[test]
 fn schedules_go_on_as_reckoned(rt: HostRuntime) -> Result<(), Fail> {
-    let alloc = rt.alloc();
-    for case in &RUNS {
-        let results = types(alloc, case.results)?;
-        let groups = groups(alloc, case.calls)?;
-        let tasks = tasks_that_come(
-            &rt,
-            alloc,
-            &results,
-            &groups,
-            case.degree,
-            case.work,
-            case.outcomes,
-        )?;
-        assert_eq!(rt; tasks.as_str(), case.tasks);
+    for run in &RUNS {
+        let tasks = tasks_of(&rt, rt.alloc(), run)?;
+        assert_eq!(rt; tasks.as_str(), run.tasks);
     }
     Ok(())
+}
+
+// Whether a schedule has three tasks, and then a group with a result of too many indices.
+fn is_refused(alloc: Global, results: &[Ty], groups: &Groups) -> Result<bool, IndexFault> {
+    let mut schedule = Schedule::new(alloc, results, groups, 4, false);
+    for _ in 0..3 {
+        if schedule.current()?.is_none() {
+            return Ok(false);
+        }
+        schedule.record(Done::Solved)?;
+    }
+    Ok(schedule.current() == Err(IndexFault::TooMany))
 }
 
 // A result with too many indices is refused where its group begins.
 #[test]
 fn large_groups_are_refused(rt: HostRuntime) -> Result<(), Fail> {
-    let alloc = rt.alloc();
-    let mut large = last_type(alloc, "int list")?;
-    for _ in 0..23 {
-        let list = Box::new(alloc, last_type(alloc, "int list")?)?;
-        large = Ty::Pair(list, Box::new(alloc, large)?);
-    }
-    let results = vec![in alloc; large, Ty::Int]?;
-    let groups = groups(alloc, &["g", ""])?;
-    let mut schedule = Schedule::new(alloc, &results, &groups, 4, false);
-    for _ in 0..3 {
-        assert!(rt; schedule.current()?.is_some());
-        schedule.record(Done::Solved)?;
-    }
-    match schedule.current() {
-        Ok(_) => assert!(rt; false),
-        Err(fault) => assert_eq!(rt; fault, IndexFault::TooMany),
-    }
+    let results = vec![in rt.alloc(); lists(rt.alloc(), 24)?, Ty::Int]?;
+    let groups = groups(rt.alloc(), &["g", ""])?;
+    assert!(rt; is_refused(rt.alloc(), &results, &groups)?);
     Ok(())
 }

@@ -1,15 +1,21 @@
 //! Types to try.
 use raml_syntax::Ty;
-use std::alloc::Global;
+use std::alloc::{AllocError, Global};
 use std::test::Fail;
+
+// Adds the type of the word, made of the last ones.
+fn push_read(alloc: Global, word: &str, types: &mut Vec<Ty>) -> Result<(), Fail> {
+    let ty = read(alloc, word, types)?;
+    types.push(ty)?;
+    Ok(())
+}
 
 /// The types that the words spell: `list`, `tree` and `option` are made of the type before them, and
 /// `pair` of the two types before it.
 pub fn types(alloc: Global, words: &str) -> Result<Vec<Ty>, Fail> {
     let mut types = Vec::new(alloc);
     for word in words.split_whitespace() {
-        let ty = read(alloc, word, &mut types)?;
-        types.push(ty)?;
+        push_read(alloc, word, &mut types)?;
     }
     Ok(types)
 }
@@ -40,4 +46,24 @@ fn pair(alloc: Global, types: &mut Vec<Ty>) -> Result<Ty, Fail> {
 fn taken(alloc: Global, types: &mut Vec<Ty>) -> Result<Box<Ty>, Fail> {
     let ty = types.pop().ok_or("a type is missing")?;
     Ok(Box::new(alloc, ty)?)
+}
+
+// A list of integers.
+fn list(alloc: Global) -> Result<Ty, AllocError> {
+    Ok(Ty::List(Box::new(alloc, Ty::Int)?))
+}
+
+// The pair of a list and this type.
+fn with_list(alloc: Global, ty: Ty) -> Result<Ty, AllocError> {
+    let rest = Box::new(alloc, ty)?;
+    Ok(Ty::Pair(Box::new(alloc, list(alloc)?)?, rest))
+}
+
+/// As many lists of integers, in pairs.
+pub fn lists(alloc: Global, count: usize) -> Result<Ty, AllocError> {
+    let mut ty = list(alloc)?;
+    for _ in 1..count {
+        ty = with_list(alloc, ty)?;
+    }
+    Ok(ty)
 }

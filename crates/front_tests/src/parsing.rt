@@ -1,46 +1,44 @@
 // Texts with their programs or their first fault, worked out by hand.
 use raml_parse::{ParseFault, parse};
-use raml_syntax::{ArithOp, Binder, CompareOp, Expr, Form, Param, Program, Ty};
-use std::alloc::Global;
+use raml_syntax::{ArithOp, Binder, CompareOp, Expr, Form, Fun, Param, Program, Ty};
+use std::alloc::{AllocError, Global};
 use std::fmt::Write;
 use std::process::Abort;
 use std::test::Fail;
 
-fn show_type(out: &mut String, ty: &Ty) -> Result<(), Fail> {
+// A type behind a word, and a parenthesis that closes.
+#[cycle(types)]
+fn show_within(out: &mut String, word: &str, part: &Ty) -> Result<(), AllocError> {
+    out.push_str(word)?;
+    show_type(out, part)?;
+    out.push_str(")")
+}
+
+#[cycle(types)]
+fn show_product(out: &mut String, first: &Ty, second: &Ty) -> Result<(), AllocError> {
+    out.push_str(" (*")?;
+    show_type(out, first)?;
+    show_type(out, second)?;
+    out.push_str(")")
+}
+
+#[cycle(types)]
+fn show_type(out: &mut String, ty: &Ty) -> Result<(), AllocError> {
     match ty {
-        Ty::Int => out.push_str(" int")?,
-        Ty::Bool => out.push_str(" bool")?,
-        Ty::Pair(first, second) => {
-            out.push_str(" (*")?;
-            show_type(out, first)?;
-            show_type(out, second)?;
-            out.push_str(")")?;
-        }
-        Ty::List(element) => {
-            out.push_str(" (list")?;
-            show_type(out, element)?;
-            out.push_str(")")?;
-        }
-        Ty::Tree(element) => {
-            out.push_str(" (tree")?;
-            show_type(out, element)?;
-            out.push_str(")")?;
-        }
-        Ty::Opt(content) => {
-            out.push_str(" (option")?;
-            show_type(out, content)?;
-            out.push_str(")")?;
-        }
+        Ty::Int => out.push_str(" int"),
+        Ty::Bool => out.push_str(" bool"),
+        Ty::Pair(first, second) => show_product(out, first, second),
+        Ty::List(element) => show_within(out, " (list", element),
+        Ty::Tree(element) => show_within(out, " (tree", element),
+        Ty::Opt(content) => show_within(out, " (option", content),
     }
-    Ok(())
 }
 
-fn show_name(out: &mut String, binder: &Binder) -> Result<(), Fail> {
-    write!(out, " {}:{}", binder.at.0, binder.name.text())?;
-    Ok(())
+fn show_name(out: &mut String, binder: &Binder) -> Result<(), AllocError> {
+    write!(out, " {}:{}", binder.at.0, binder.name.text())
 }
 
-fn show_two(out: &mut String, first: &Binder, second: &Binder) -> Result<(), Fail> {
+fn show_two(out: &mut String, first: &Binder, second: &Binder) -> Result<(), AllocError> {
     show_name(out, first)?;
     show_name(out, second)
 }
@@ -50,7 +48,7 @@ fn show_three(
     first: &Binder,
     second: &Binder,
     third: &Binder,
-) -> Result<(), Fail> {
+) -> Result<(), AllocError> {
     show_two(out, first, second)?;
     show_name(out, third)
 }
@@ -94,7 +92,7 @@ fn word_of(form: &Form) -> &'static str {
 }
 
 #[cycle(show)]
-fn show_all(out: &mut String, exprs: &[Expr]) -> Result<(), Fail> {
+fn show_all(out: &mut String, exprs: &[Expr]) -> Result<(), AllocError> {
     for expr in exprs {
         show(out, expr)?;
     }
@@ -103,49 +101,52 @@ fn show_all(out: &mut String, exprs: &[Expr]) -> Result<(), Fail> {
 
 // The expression with its place in front: ` 24:x`, or ` (24 Add 24:x 28:1)`.
 #[cycle(show)]
-fn show(out: &mut String, expr: &Expr) -> Result<(), Fail> {
+fn show(out: &mut String, expr: &Expr) -> Result<(), AllocError> {
     let at = expr.at.0;
     match &expr.form {
-        Form::Number(value) => write!(out, " {at}:{value}")?,
-        Form::Truth(value) => write!(out, " {at}:{value}")?,
-        Form::Nil => write!(out, " {at}:nil")?,
-        Form::Leaf => write!(out, " {at}:leaf")?,
-        Form::Nothing => write!(out, " {at}:none")?,
-        Form::Var(name) => write!(out, " {at}:{}", name.text())?,
-        _ => {
-            write!(out, " ({at}{}", word_of(&expr.form))?;
-            show_parts(out, expr)?;
-            out.push_str(")")?;
-        }
+        Form::Number(value) => write!(out, " {at}:{value}"),
+        Form::Truth(value) => write!(out, " {at}:{value}"),
+        Form::Nil => write!(out, " {at}:nil"),
+        Form::Leaf => write!(out, " {at}:leaf"),
+        Form::Nothing => write!(out, " {at}:none"),
+        Form::Var(name) => write!(out, " {at}:{}", name.text()),
+        _ => show_form(out, expr),
     }
-    Ok(())
 }
 
 #[cycle(show)]
-fn show_parts(out: &mut String, expr: &Expr) -> Result<(), Fail> {
+fn show_form(out: &mut String, expr: &Expr) -> Result<(), AllocError> {
+    write!(out, " ({}{}", expr.at.0, word_of(&expr.form))?;
+    show_parts(out, expr)?;
+    out.push_str(")")
+}
+
+#[cycle(show)]
+fn show_pair(out: &mut String, first: &Expr, second: &Expr) -> Result<(), AllocError> {
+    show(out, first)?;
+    show(out, second)
+}
+
+#[cycle(show)]
+fn show_triple(
+    out: &mut String,
+    first: &Expr,
+    second: &Expr,
+    third: &Expr,
+) -> Result<(), AllocError> {
+    show_pair(out, first, second)?;
+    show(out, third)
+}
+
+#[cycle(show)]
+fn show_parts(out: &mut String, expr: &Expr) -> Result<(), AllocError> {
     match &expr.form {
-        Form::Arith(_, left, right) => {
-            show(out, left)?;
-            show(out, right)
-        }
-        Form::Compare(_, left, right) => {
-            show(out, left)?;
-            show(out, right)
-        }
+        Form::Arith(_, left, right) => show_pair(out, left, right),
+        Form::Compare(_, left, right) => show_pair(out, left, right),
         Form::Not(operand) => show(out, operand),
-        Form::Pair(first, second) => {
-            show(out, first)?;
-            show(out, second)
-        }
-        Form::Cons(head, tail) => {
-            show(out, head)?;
-            show(out, tail)
-        }
-        Form::Node(element, left, right) => {
-            show(out, element)?;
-            show(out, left)?;
-            show(out, right)
-        }
+        Form::Pair(first, second) => show_pair(out, first, second),
+        Form::Cons(head, tail) => show_pair(out, head, tail),
+        Form::Node(element, left, right) => show_triple(out, element, left, right),
         Form::Just(content) => show(out, content),
         Form::Call(name, args) => {
             out.push_str(name.text())?;
@@ -159,43 +160,41 @@ fn show_parts(out: &mut String, expr: &Expr) -> Result<(), Fail> {
             show(out, part)?;
             show_type(out, ty)
         }
+        Form::If(condition, first, second) => show_triple(out, condition, first, second),
         _ => show_binding(out, expr),
     }
 }
 
 #[cycle(show)]
-fn show_binding(out: &mut String, expr: &Expr) -> Result<(), Fail> {
+fn show_binding(out: &mut String, expr: &Expr) -> Result<(), AllocError> {
     match &expr.form {
         Form::Let(x, bound, rest) => {
             show_name(out, x)?;
-            show(out, bound)?;
-            show(out, rest)
+            show_pair(out, bound, rest)
         }
         Form::LetPair(x, y, bound, rest) => {
             show_two(out, x, y)?;
-            show(out, bound)?;
-            show(out, rest)
+            show_pair(out, bound, rest)
         }
-        Form::If(condition, first, second) => {
-            show(out, condition)?;
-            show(out, first)?;
-            show(out, second)
-        }
+        _ => show_match(out, expr),
+    }
+}
+
+#[cycle(show)]
+fn show_match(out: &mut String, expr: &Expr) -> Result<(), AllocError> {
+    match &expr.form {
         Form::MatchList(subject, empty, head, tail, rest) => {
-            show(out, subject)?;
-            show(out, empty)?;
+            show_pair(out, subject, empty)?;
             show_two(out, head, tail)?;
             show(out, rest)
         }
         Form::MatchTree(subject, empty, element, left, right, rest) => {
-            show(out, subject)?;
-            show(out, empty)?;
+            show_pair(out, subject, empty)?;
             show_three(out, element, left, right)?;
             show(out, rest)
         }
         Form::MatchOption(subject, empty, content, rest) => {
-            show(out, subject)?;
-            show(out, empty)?;
+            show_pair(out, subject, empty)?;
             show_name(out, content)?;
             show(out, rest)
         }
@@ -203,7 +202,7 @@ fn show_binding(out: &mut String, expr: &Expr) -> Result<(), Fail> {
     }
 }
 
-fn show_params(out: &mut String, params: &[Param]) -> Result<(), Fail> {
+fn show_params(out: &mut String, params: &[Param]) -> Result<(), AllocError> {
     for param in params {
         write!(out, " {}:{}", param.at.0, param.name.text())?;
         show_type(out, &param.ty)?;
@@ -211,15 +210,19 @@ fn show_params(out: &mut String, params: &[Param]) -> Result<(), Fail> {
     Ok(())
 }
 
-fn show_program(out: &mut String, program: &Program) -> Result<(), Fail> {
+fn show_function(out: &mut String, fun: &Fun) -> Result<(), AllocError> {
+    write!(out, "{} {}", fun.at.0, fun.name.text())?;
+    show_params(out, &fun.params)?;
+    out.push_str(" :")?;
+    show_type(out, &fun.result)?;
+    out.push_str(" =")?;
+    show(out, &fun.body)?;
+    out.push_str(";")
+}
+
+fn show_program(out: &mut String, program: &Program) -> Result<(), AllocError> {
     for fun in &program.funs {
-        write!(out, "{} {}", fun.at.0, fun.name.text())?;
-        show_params(out, &fun.params)?;
-        out.push_str(" :")?;
-        show_type(out, &fun.result)?;
-        out.push_str(" =")?;
-        show(out, &fun.body)?;
-        out.push_str(";")?;
+        show_function(out, fun)?;
     }
     Ok(())
 }
@@ -230,7 +233,7 @@ fn push_answer(out: &mut String, alloc: Global, source: &str) -> Result<(), Fail
         return Err(Fail::from("the source is long"));
     }
     match parse(alloc, source.as_bytes()) {
-        Ok(program) => show_program(out, &program),
+        Ok(program) => Ok(show_program(out, &program)?),
         Err(fault) => Ok(write!(out, "{fault:?}")?),
     }
 }
@@ -549,14 +552,40 @@ fn is_program(alloc: Global, source: &str) -> bool {
     source.len() < 10000 && parse(alloc, source.as_bytes()).is_ok()
 }
 
+// Whether so many pieces between the front and the end are a program.
+fn is_accepted(
+    alloc: Global,
+    front: &str,
+    piece: &str,
+    count: u32,
+    end: &str,
+) -> Result<bool, Fail> {
+    let source = repeated(alloc, front, piece, count, end)?;
+    Ok(is_program(alloc, source.as_str()))
+}
+
+// What is answered to so many pieces.
+fn answer_to(
+    alloc: Global,
+    front: &str,
+    piece: &str,
+    count: u32,
+    end: &str,
+) -> Result<String, Fail> {
+    let source = repeated(alloc, front, piece, count, end)?;
+    answer(alloc, source.as_str())
+}
+
 // Texts of the greatest height or number, and with one piece more.
 #[test]
 fn limits(rt: HostRuntime) -> Result<(), Fail> {
     for (front, piece, most, more, end, fault) in &LIMITS {
-        let most = repeated(rt.alloc(), front, piece, *most, end)?;
-        assert!(rt; is_program(rt.alloc(), most.as_str()), "at {piece}");
-        let more = repeated(rt.alloc(), front, piece, *more, end)?;
-        compare(&rt, rt.alloc(), more.as_str(), fault)?;
+        assert!(rt;
+            is_accepted(rt.alloc(), front, piece, *most, end)?,
+            "at {piece}"
+        );
+        let found = answer_to(rt.alloc(), front, piece, *more, end)?;
+        assert_eq!(rt; found.as_str(), *fault, "at {piece}");
     }
     Ok(())
 }
@@ -567,10 +596,21 @@ fn nested(alloc: Global, count: u32) -> Result<String, Fail> {
     repeated(alloc, opened.as_str(), ")", count, "")
 }
 
+// What is answered to so many `some`.
+fn answer_to_nested(alloc: Global, count: u32) -> Result<String, Fail> {
+    let source = nested(alloc, count)?;
+    answer(alloc, source.as_str())
+}
+
+fn is_nested_accepted(alloc: Global, count: u32) -> Result<bool, Fail> {
+    let source = nested(alloc, count)?;
+    Ok(is_program(alloc, source.as_str()))
+}
+
 #[test]
 fn height_of_some(rt: HostRuntime) -> Result<(), Fail> {
-    let most = nested(rt.alloc(), 199)?;
-    assert!(rt; is_program(rt.alloc(), most.as_str()));
-    let more = nested(rt.alloc(), 200)?;
-    compare(&rt, rt.alloc(), more.as_str(), "TooDeep { at: Pos(1019) }")
+    assert!(rt; is_nested_accepted(rt.alloc(), 199)?);
+    let found = answer_to_nested(rt.alloc(), 200)?;
+    assert_eq!(rt; found.as_str(), "TooDeep { at: Pos(1019) }");
+    Ok(())
 }

@@ -65,7 +65,12 @@ fn opening_entry(system: &System, i: usize, c: usize) -> i128 {
 }
 
 /// The opening numbers of row `i`.
-fn opening_row(alloc: Global, system: &System, i: usize, right: usize) -> Result<Vec<i128>, Fail> {
+fn opening_row(
+    alloc: Global,
+    system: &System,
+    i: usize,
+    right: usize,
+) -> Result<Vec<i128>, AllocError> {
     let mut row = Vec::new(alloc);
     for c in 0..=right {
         row.push(opening_entry(system, i, c))?;
@@ -73,20 +78,35 @@ fn opening_row(alloc: Global, system: &System, i: usize, right: usize) -> Result
     Ok(row)
 }
 
-fn opening(alloc: Global, system: &System) -> Result<Plain, Fail> {
-    let gains = system.unknowns() as usize;
-    let slack = system.rows().len();
-    let right = slack.checked_add(gains).ok_or("too many columns")?;
+/// The opening numbers of all rows.
+fn opening_rows(
+    alloc: Global,
+    system: &System,
+    right: usize,
+) -> Result<Vec<Vec<i128>>, AllocError> {
     let mut rows = Vec::new(alloc);
-    for i in 0..=gains {
+    for i in 0..=system.unknowns() as usize {
         rows.push(opening_row(alloc, system, i, right)?)?;
     }
+    Ok(rows)
+}
+
+/// The columns of the unknowns.
+fn opening_basis(alloc: Global, slack: usize, right: usize) -> Result<Vec<usize>, AllocError> {
     let mut basis = Vec::new(alloc);
     for column in slack..right {
         basis.push(column)?;
     }
+    Ok(basis)
+}
+
+fn opening(alloc: Global, system: &System) -> Result<Plain, Fail> {
+    let gains = system.unknowns() as usize;
+    let slack = system.rows().len();
+    let right = slack.checked_add(gains).ok_or("too many columns")?;
+    let basis = opening_basis(alloc, slack, right)?;
     Ok(Plain {
-        rows,
+        rows: opening_rows(alloc, system, right)?,
         over: 1,
         basis,
         pivots: Vec::new(alloc),
@@ -189,6 +209,28 @@ impl Plain {
         Ok(tied)
     }
 
+    /// Of these rows, those that are tied for the least in column `c`, or the row whose ratio leaves there.
+    fn narrowed(
+        &self,
+        alloc: Global,
+        s: usize,
+        c: usize,
+        among: &[usize],
+    ) -> Result<Result<Vec<usize>, usize>, Fail> {
+        match self.without_ratio(s, c, among) {
+            Some(i) => Ok(Err(i)),
+            None => Ok(Ok(self.ties(alloc, s, c, among)?)),
+        }
+    }
+
+    /// The next column that is compared: first the right sides, and then those of the unknowns.
+    fn compared_at(&self, step: usize) -> usize {
+        match step.checked_sub(1) {
+            None => self.right,
+            Some(c) => self.slack.saturating_add(c),
+        }
+    }
+
     /// The rows that are tied for the least in all columns that are compared, or where a ratio leaves.
     fn leaving(
         &self,
@@ -196,16 +238,14 @@ impl Plain {
         s: usize,
         all: Vec<usize>,
     ) -> Result<Result<usize, (usize, usize)>, Fail> {
-        if let Some(i) = self.without_ratio(s, self.right, &all) {
-            return Ok(Err((i, self.right)));
-        }
-        let mut tied = self.ties(alloc, s, self.right, &all)?;
-        for c in self.slack..self.right {
-            if tied.len() > 1 {
-                if let Some(i) = self.without_ratio(s, c, &tied) {
-                    return Ok(Err((i, c)));
+        let mut tied = all;
+        for step in 0..=self.gains {
+            if step == 0 || tied.len() > 1 {
+                let c = self.compared_at(step);
+                match self.narrowed(alloc, s, c, &tied)? {
+                    Ok(left) => tied = left,
+                    Err(i) => return Ok(Err((i, c))),
                 }
-                tied = self.ties(alloc, s, c, &tied)?;
             }
         }
         Ok(Ok(*tied.get(0).ok_or("no row")?))
@@ -312,23 +352,35 @@ impl Plain {
         Ok(())
     }
 
-    fn step(&mut self, alloc: Global) -> Result<Step, Fail> {
-        let Some(s) = self.entering() else {
-            return Ok(Step::Best);
-        };
-        let all = self.bounding(alloc, s)?;
+    /// Lets column `s` enter in row `l`, or says where that leaves the range.
+    fn enter_in(&mut self, alloc: Global, l: usize, s: usize) -> Result<Step, Fail> {
+        match self.refused(l, s) {
+            Some((i, c)) => Ok(Step::Leaves(i, c)),
+            None => {
+                self.pivot(alloc, l, s)?;
+                Ok(Step::Pivot)
+            }
+        }
+    }
+
+    /// A step in which column `s` enters in one of these rows.
+    fn step_in(&mut self, alloc: Global, s: usize, all: Vec<usize>) -> Result<Step, Fail> {
         if all.is_empty() {
             return Ok(Step::Rises(s));
         }
         match self.leaving(alloc, s, all)? {
             Err((i, c)) => Ok(Step::Leaves(i, c)),
-            Ok(l) => match self.refused(l, s) {
-                Some((i, c)) => Ok(Step::Leaves(i, c)),
-                None => {
-                    self.pivot(alloc, l, s)?;
-                    Ok(Step::Pivot)
-                }
-            },
+            Ok(l) => self.enter_in(alloc, l, s),
+        }
+    }
+
+    fn step(&mut self, alloc: Global) -> Result<Step, Fail> {
+        match self.entering() {
+            None => Ok(Step::Best),
+            Some(s) => {
+                let all = self.bounding(alloc, s)?;
+                self.step_in(alloc, s, all)
+            }
         }
     }
 
@@ -350,64 +402,92 @@ impl Plain {
         None
     }
 
+    /// The dual number of row `j` of the system.
+    fn dual_number(&self, j: usize) -> Option<Frac> {
+        match self.row_of(j) {
+            Some(l) => fraction(self.entry(l, self.right), self.over),
+            None => Some(Frac::zero()),
+        }
+    }
+
     fn dual(&self, alloc: Global) -> Result<Vec<Frac>, Fail> {
         let mut y = Vec::new(alloc);
         for j in 0..self.slack {
-            let number = match self.row_of(j) {
-                Some(l) => fraction(self.entry(l, self.right), self.over).ok_or("too large")?,
-                None => Frac::zero(),
-            };
-            y.push(number)?;
+            y.push(self.dual_number(j).ok_or("too large")?)?;
         }
         Ok(y)
+    }
+
+    /// The number of row `j` of the system in the vector that refutes, where column `s` rises.
+    fn ray_number(&self, s: usize, j: usize) -> Option<Frac> {
+        match self.row_of(j) {
+            _ if j == s => Some(Frac::one()),
+            Some(l) => negative(self.entry(l, s), self.over),
+            None => Some(Frac::zero()),
+        }
     }
 
     fn ray(&self, alloc: Global, s: usize) -> Result<Vec<Frac>, Fail> {
         let mut y = Vec::new(alloc);
         for j in 0..self.slack {
-            let number = match self.row_of(j) {
-                _ if j == s => Frac::one(),
-                Some(l) => negative(self.entry(l, s), self.over).ok_or("too large")?,
-                None => Frac::zero(),
-            };
-            y.push(number)?;
+            y.push(self.ray_number(s, j).ok_or("too large")?)?;
         }
         Ok(y)
     }
 
-    /// The answer at the end of a course.
-    fn answer(self, alloc: Global, end: Step) -> Result<Answer, Fail> {
+    /// The answer at the best solution.
+    fn best(&self, alloc: Global, pivots: Vec<(u32, u32)>) -> Result<Answer, Fail> {
+        let x = self.solution(alloc)?;
+        let dual = self.dual(alloc)?;
+        Ok(Answer::Best { x, dual, pivots })
+    }
+
+    /// The answer at the end of a course, with these pivots.
+    fn answer_with(
+        &self,
+        alloc: Global,
+        end: Step,
+        pivots: Vec<(u32, u32)>,
+    ) -> Result<Answer, Fail> {
         match end {
             Step::Pivot => Err(Fail::new("too many pivots")),
-            Step::Best => Ok(Answer::Best {
-                x: self.solution(alloc)?,
-                dual: self.dual(alloc)?,
-                pivots: self.pivots,
-            }),
+            Step::Best => self.best(alloc, pivots),
             Step::Rises(s) => Ok(Answer::NoSolution {
                 farkas: self.ray(alloc, s)?,
-                pivots: self.pivots,
+                pivots,
             }),
             Step::Leaves(i, c) => Ok(Answer::Leaves {
-                pivots: self.pivots,
+                pivots,
                 row: u32::try_from(i)?,
                 col: u32::try_from(c)?,
             }),
         }
+    }
+
+    /// The answer at the end of a course.
+    fn answer(&self, alloc: Global, end: Step) -> Result<Answer, Fail> {
+        let pivots = Vec::from_slice(alloc, &self.pivots)?;
+        self.answer_with(alloc, end, pivots)
+    }
+
+    /// How the course ends.
+    fn end(&mut self, alloc: Global) -> Result<Step, Fail> {
+        if let Some((i, c)) = self.least_number() {
+            return Ok(Step::Leaves(i, c));
+        }
+        let mut step = Step::Pivot;
+        for _ in 0..1000 {
+            if matches!(step, Step::Pivot) {
+                step = self.step(alloc)?;
+            }
+        }
+        Ok(step)
     }
 }
 
 /// What solving the system answers, where the least column with gain enters.
 pub(super) fn solve(alloc: Global, system: &System) -> Result<Answer, Fail> {
     let mut plain = opening(alloc, system)?;
-    if let Some((i, c)) = plain.least_number() {
-        return plain.answer(alloc, Step::Leaves(i, c));
-    }
-    let mut step = Step::Pivot;
-    for _ in 0..1000 {
-        if matches!(step, Step::Pivot) {
-            step = plain.step(alloc)?;
-        }
-    }
-    plain.answer(alloc, step)
+    let end = plain.end(alloc)?;
+    plain.answer(alloc, end)
 }
