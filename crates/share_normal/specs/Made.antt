@@ -1,8 +1,9 @@
 -- What step two makes of a form.
-use Rattle.std.specs.Prelude.{◌≡◌, ℕ, Result, IfOk, OnOk}
+use Rattle.std.specs.Prelude.{◌≡◌, ◌++◌, ℕ, Result, IfOk, OnOk}
 use Rattle.std.specs.declared.alloc.AllocError.{AllocError}
 use Rattle.normal_form.specs.declared.form.NormExpr.{NormExpr}
 use Rattle.normal_form.specs.Norm as n
+use Rattle.normal_form.specs.Two.{Slots, around, put, two}
 use Rattle.normal_form.specs.Read.{norm_of}
 use Rattle.share_normal.specs.declared.marked.Marked.{Marked}
 
@@ -13,3 +14,10 @@ form_in marked = norm_of marked.expr.now
 -- the form that is made, and then the least number that is free
 abbrev pub IsMade : Result NormExpr AllocError → ℕ → n.Norm × ℕ → Type 0
 IsMade result next made = IfOk result (λ e. norm_of e ≡ made.0) × OnOk result (next ≡ made.1)
+
+-- the two branches behind a use of a variable, and then the least number that is free
+abbrev pub branches : ℕ → Slots → n.Norm → Slots → n.Norm → Slots → ℕ → (n.Norm × n.Norm) × ℕ
+branches x stay a new b G k =
+    let ra = around a (two a) (put x stay G) k in
+    let rb = around b (two b) (put x (new ++ stay) G) ra.1 in
+    ((ra.0, rb.0), rb.1)

@@ -4,7 +4,7 @@ ghost use Rattle.raml_syntax.specs.Read.{ty_of};
 ghost use Rattle.normal_form.specs.Norm as n;
 ghost use Rattle.normal_form.specs.Two as two;
 ghost use Rattle.normal_form.specs.Read.{norm_of};
-ghost use Rattle.share_normal.specs.Made.{IsMade, form_in};
+ghost use Rattle.share_normal.specs.Made.{IsMade, branches, form_in};
 ghost use Rattle.share_normal.specs.Numbers.{NumbersFit};
 
 use crate::free::free_variables;
@@ -135,12 +135,37 @@ impl Sharing {
     {
         let again = rest.has_free(pair);
         let Taken { name, stay, shares } = self.take_slot(again, pair, slots)?;
-        let first = self.bind(parts.0)?;
-        let second = self.bind(parts.1)?;
+        let (first, second) = self.bind_two(parts)?;
         let inner = put(self.alloc, pair, &[first, second], &stay, slots)?;
         let rest = self.around(rest, &inner)?;
         let form = NormForm::Split(name, first.copy, second.copy, rest);
         share_all(self.alloc, shares, expr(nodes, form))
+    }
+
+    /// Two branches behind a use of a variable, for whose slot those stand that stay; in the second
+    /// branch there are new ones before these.
+    #[cycle(sharing)]
+    fn branches<'a>(
+        &mut self,
+        variable: u32,
+        stay: &[Slot],
+        first: Marked<'a>,
+        new: &[Slot],
+        second: Marked<'a>,
+        slots: &[Slot],
+    ) -> Result<(Box<NormExpr>, Box<NormExpr>), AllocError>
+        ensures first { IfOk result (λ made. norm_of made.0.value ≡
+            (branches variable stay.now (form_in first.entry) new.now (form_in second.entry) slots.now self.old.next).0.0) }
+        ensures second { IfOk result (λ made. norm_of made.1.value ≡
+            (branches variable stay.now (form_in first.entry) new.now (form_in second.entry) slots.now self.old.next).0.1) }
+        ensures next { OnOk result (self.new.next ≡
+            (branches variable stay.now (form_in first.entry) new.now (form_in second.entry) slots.now self.old.next).1) }
+    {
+        let outer = put(self.alloc, variable, &[], stay, slots)?;
+        let first = self.around(first, &outer)?;
+        let inner = put(self.alloc, variable, new, stay, slots)?;
+        let second = self.around(second, &inner)?;
+        Ok((first, second))
     }
 
     /// The branches of a condition.
@@ -157,9 +182,7 @@ impl Sharing {
     {
         let again = first.has_free(condition) || second.has_free(condition);
         let Taken { name, stay, shares } = self.take_slot(again, condition, slots)?;
-        let inner = put(self.alloc, condition, &[], &stay, slots)?;
-        let first = self.around(first, &inner)?;
-        let second = self.around(second, &inner)?;
+        let (first, second) = self.branches(condition, &stay, first, &[], second, slots)?;
         let form = NormForm::If(name, first, second);
         share_all(self.alloc, shares, expr(nodes, form))
     }
@@ -180,12 +203,8 @@ impl Sharing {
     {
         let again = empty.has_free(list) || rest.has_free(list);
         let Taken { name, stay, shares } = self.take_slot(again, list, slots)?;
-        let head = self.bind(parts.0)?;
-        let tail = self.bind(parts.1)?;
-        let outer = put(self.alloc, list, &[], &stay, slots)?;
-        let inner = put(self.alloc, list, &[head, tail], &stay, slots)?;
-        let empty = self.around(empty, &outer)?;
-        let rest = self.around(rest, &inner)?;
+        let (head, tail) = self.bind_two(parts)?;
+        let (empty, rest) = self.branches(list, &stay, empty, &[head, tail], rest, slots)?;
         let form = NormForm::CaseList(name, empty, head.copy, tail.copy, rest);
         share_all(self.alloc, shares, expr(nodes, form))
     }
@@ -206,13 +225,9 @@ impl Sharing {
     {
         let again = empty.has_free(tree) || rest.has_free(tree);
         let Taken { name, stay, shares } = self.take_slot(again, tree, slots)?;
-        let element = self.bind(parts.0)?;
-        let left = self.bind(parts.1)?;
-        let right = self.bind(parts.2)?;
-        let outer = put(self.alloc, tree, &[], &stay, slots)?;
-        let inner = put(self.alloc, tree, &[element, left, right], &stay, slots)?;
-        let empty = self.around(empty, &outer)?;
-        let rest = self.around(rest, &inner)?;
+        let (element, left, right) = self.bind_three(parts)?;
+        let new = [element, left, right];
+        let (empty, rest) = self.branches(tree, &stay, empty, &new, rest, slots)?;
         let form = NormForm::CaseTree(name, empty, element.copy, left.copy, right.copy, rest);
         share_all(self.alloc, shares, expr(nodes, form))
     }
@@ -234,10 +249,7 @@ impl Sharing {
         let again = empty.has_free(option) || rest.has_free(option);
         let Taken { name, stay, shares } = self.take_slot(again, option, slots)?;
         let content = self.bind(content)?;
-        let outer = put(self.alloc, option, &[], &stay, slots)?;
-        let inner = put(self.alloc, option, &[content], &stay, slots)?;
-        let empty = self.around(empty, &outer)?;
-        let rest = self.around(rest, &inner)?;
+        let (empty, rest) = self.branches(option, &stay, empty, &[content], rest, slots)?;
         let form = NormForm::CaseOption(name, empty, content.copy, rest);
         share_all(self.alloc, shares, expr(nodes, form))
     }

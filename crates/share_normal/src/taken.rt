@@ -62,6 +62,33 @@ impl Sharing {
         Ok(Slot { variable, copy })
     }
 
+    /// The slots of two variables that are bound.
+    pub fn bind_two(&mut self, variables: (u32, u32)) -> Result<(Slot, Slot), AllocError>
+        ensures first { IfOk result (λ slots. slots.0 ≡ two.slot variables.0 self.old.next) }
+        ensures second { IfOk result (λ slots. slots.1 ≡ two.slot variables.1 (self.old.next + 1)) }
+        ensures next { OnOk result (self.new.next ≡ self.old.next + 2) }
+    {
+        let first = self.bind(variables.0)?;
+        let second = self.bind(variables.1)?;
+        Ok((first, second))
+    }
+
+    /// The slots of three variables that are bound.
+    pub fn bind_three(
+        &mut self,
+        variables: (u32, u32, u32),
+    ) -> Result<(Slot, Slot, Slot), AllocError>
+        ensures first { IfOk result (λ slots. slots.0 ≡ two.slot variables.0 self.old.next) }
+        ensures second { IfOk result (λ slots. slots.1 ≡ two.slot variables.1 (self.old.next + 1)) }
+        ensures third { IfOk result (λ slots. slots.2 ≡ two.slot variables.2 (self.old.next + 2)) }
+        ensures next { OnOk result (self.new.next ≡ self.old.next + 3) }
+    {
+        let first = self.bind(variables.0)?;
+        let second = self.bind(variables.1)?;
+        let third = self.bind(variables.2)?;
+        Ok((first, second, third))
+    }
+
     /// A use of a variable, which is shared first where it is used again.
     pub fn take_slot(
         &mut self,
