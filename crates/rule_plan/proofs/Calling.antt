@@ -1,12 +1,18 @@
 -- Functions by their places, places in groups, and numbers at each budget.
-use Rattle.std.proofs.Common.{◌≡◌, ◌≤◌, ◌<◌, ℕ, zero, suc, ◌+◌, List, [], ◌∷◌, ◌++◌, map, length, slice_get, slice_index_or, Some, refl, ap, ◌∙◌, arith}
+use Rattle.std.proofs.Common.{◌≡◌, ◌≤◌, ◌<◌, ℕ, zero, suc, ◌+◌, Bool, true, false, cond, nat_le, List, [], ◌∷◌, ◌++◌, map, filter, length, slice_get, slice_index_or, Some, refl, sym, ap, ◌∙◌, arith}
 use Rattle.std.specs.List.{range_with_len}
+use Rattle.raml_syntax.specs.Tree.{Type'}
+use Rattle.base_poly.specs.Plain.{degrees}
+use Rattle.base_poly.specs.Indices.{tuples_up_to}
+use Rattle.base_poly.proofs.Low.{low_tuples}
+use Rattle.base_poly.proofs.Graded.{as_many}
 use Rattle.raml_syntax.specs.declared.ty.Ty.{Ty}
 use Rattle.normal_form.specs.declared.form.NormFun.{NormFun}
 use Rattle.normal_form.specs.Context.{types}
 use Rattle.normal_form.specs.Read.{funs_of, parameters_of}
 use Rattle.annot_types.specs.System.{args_of}
-use Rattle.rule_plan.specs.Down.{up}
+use Rattle.annot_types.specs.Rows.{size as size_of}
+use Rattle.rule_plan.specs.Down.{up, many_low}
 
 the_some : {X : Type 0} (x y : X) → Some x ≡ Some y → x ≡ y
 the_some x y h = cc
@@ -47,3 +53,23 @@ at_range F a (suc n) (suc k) h = at_range F (a + 1) n k (omega (arith, h)) ∙ a
 
 pub at_up : (F : ℕ → ℕ) (top d : ℕ) → d ≤ top → slice_index_or (up F top) d 0 ≡ F d
 at_up F top d h = at_range F 0 (suc top) d (omega (arith, h)) ∙ ap F (omega arith)
+
+-- how many tuples there are at each budget, by the degrees of those at the greatest
+mapped : {X : Type 0} (size : X → ℕ) (d : ℕ) (xs : List X) → many_low (map size xs) d ≡ length (filter (λ x. nat_le (size x) d) xs)
+mapped size d [] = refl
+mapped size d (x ∷ xs) = by (nat_le (size x) d) (mapped size d xs)
+  where
+    by : (b : Bool) → many_low (map size xs) d ≡ length (filter (λ x. nat_le (size x) d) xs) →
+        length (cond b (size x ∷ filter (λ g. nat_le g d) (map size xs)) (filter (λ g. nat_le g d) (map size xs))) ≡ length (cond b (x ∷ filter (λ x. nat_le (size x) d) xs) (filter (λ x. nat_le (size x) d) xs))
+    by true h = ap suc h
+    by false h = h
+
+low_size : (As : List Type') (top d : ℕ) → d ≤ top → many_low (map degrees (tuples_up_to As top)) d ≡ size_of As d
+low_size As top d h = mapped degrees d (tuples_up_to As top) ∙ ap length (low_tuples As d top h) ∙ sym (as_many As d)
+
+range_same : (F H : ℕ → ℕ) (a n : ℕ) → ((k : ℕ) → k < a + n → F k ≡ H k) → map F (range_with_len a n) ≡ map H (range_with_len a n)
+range_same F H a zero h = refl
+range_same F H a (suc n) h = λ i. h a (omega arith) i ∷ range_same F H (a + 1) n (λ k l. h k (omega (arith, l))) i
+
+pub sizes_are : (As : List Type') (top : ℕ) → up (many_low (map degrees (tuples_up_to As top))) top ≡ up (size_of As) top
+sizes_are As top = range_same (many_low (map degrees (tuples_up_to As top))) (size_of As) 0 (suc top) (λ d l. low_size As top d (omega (arith, l)))

@@ -15,11 +15,12 @@ use Rattle.walk_rules.specs.Tasks as t
 use Rattle.walk_rules.specs.Jobs as j
 use Rattle.walk_rules.specs.Planned.{plan as plan_in}
 use Rattle.rule_plan.specs.declared.body.FunctionPlan.{FunctionPlan}
-use Rattle.rule_plan.specs.Down.{down}
+use Rattle.rule_plan.specs.declared.env.Reach.TheVariants.{Greatest}
 use Rattle.rule_plan.specs.Given.{Given, planned, ArePlans}
 use Rattle.annot_types.specs.Program.{members}
 use Rattle.share_normal.specs.Program.{Kept, norm_in}
 use Rattle.rule_plan.specs.Read.{program_in, function_of, group_bodies, IsBody, AreBodies}
+use Rattle.rule_plan.proofs.Downed.{first_reached}
 
 the_some : {X : Type 0} (x y : X) → Some x ≡ Some y → x ≡ y
 the_some x y h = cc
@@ -45,16 +46,12 @@ no_result (A ∷ As) (f ∷ gs) (suc k) h = no_result As gs k (omega (arith, h))
 pub none_is : (G : Given) (b : FunctionPlan) → function_of b ≡ record { plan = p.Ends 0 0 []; args = 0; result = 0 } → IsBody G None b
 none_is G b h = record { is = λ P e. h }
 
-first_down : {X : Type 0} (f : ℕ → X) (d : ℕ) → slice_get (down f d) 0 ≡ Some (f d)
-first_down f zero = refl
-first_down f (suc d) = refl
-
 pub some_is : (G : Given) (A : Ty) (g : NormFun) (b : FunctionPlan) (N : Context) (T : Type') (made : List p.Plan) → N ≡ (fun_of A g).params → T ≡ (fun_of A g).result → ArePlans G (fun_of A g).body N T made →
     slice_get made 0 ≡ Some (function_of b).plan → b.args ≡ size_of (types (fun_of A g).params) G.top → b.result ≡ size_of ((fun_of A g).result ∷ []) G.top → IsBody G (Some (fun_of A g)) b
 some_is G A g b N T made n r' are first args result = record {
   is = λ P e.
       let plan : (function_of b).plan ≡ (j.body_of P G.group [] G.top (Some (fun_of A g))).plan =
-      the_some _ _ (sym first ∙ ap (λ l. slice_get l 0) (are.are P e) ∙ first_down (planned G (fun_of A g).body N T P) G.top
+      the_some _ _ (sym first ∙ ap (λ l. slice_get l 0) (are.are P e) ∙ first_reached G.reach (planned G (fun_of A g).body N T P) G.top
       ∙ (λ i. Some (plan_in P G.group [] G.top (fun_of A g).body (n i) (r' i) G.top))) in
       λ i. record { plan = plan i; args = args i; result = result i };
 }
@@ -126,10 +123,10 @@ module _ (P : ℕ → Type 0) where
 
 pub of_program : (kept : Kept) (rs : List Ty) (fs : List NormFun) (group budget : ℕ) (ids : List ℕ) (bs : List FunctionPlan) →
     fs ≡ kept.functions → rs ≡ kept.results → ids ≡ members (program_in kept) group →
-    AreBodies (record { funs = funs_of rs fs; group = ids; top = budget }) ids bs →
+    AreBodies (record { funs = funs_of rs fs; group = ids; top = budget; reach = Greatest }) ids bs →
     map function_of bs ≡ group_bodies (program_in kept) group [] budget
 of_program kept rs fs group budget ids bs ef er same all =
     let funs : funs_of rs fs ≡ norm_in kept = λ i. funs_of (er i) (ef i) in
-    let first = subst (λ z. AreBodies (record { funs = z; group = ids; top = budget }) ids bs) funs all in
-    let both = subst (λ z. AreBodies (record { funs = norm_in kept; group = z; top = budget }) z bs) same first in
+    let first = subst (λ z. AreBodies (record { funs = z; group = ids; top = budget; reach = Greatest }) ids bs) funs all in
+    let both = subst (λ z. AreBodies (record { funs = norm_in kept; group = z; top = budget; reach = Greatest }) z bs) same first in
     both.are (program_in kept) refl

@@ -1,5 +1,5 @@
 -- What is made once for all budgets gives each budget's.
-use Rattle.std.proofs.Common.{◌≡◌, ◌≤◌, ◌<◌, ℕ, zero, suc, ◌+◌, ◌-◌, Bool, true, false, cond, List, [], ◌∷◌, ◌++◌, map, take, drop, length, slice_get, slice_index_or, Some, refl, sym, ap, ◌∙◌, arith}
+use Rattle.std.proofs.Common.{◌≡◌, ◌≤◌, ◌<◌, ℕ, zero, suc, ◌+◌, ◌-◌, Bool, true, false, cond, List, [], ◌∷◌, ◌++◌, map, take, drop, length, slice_get, Some, refl, sym, ap, ◌∙◌, append-nil, arith}
 use Rattle.std.specs.List.{range_with_len}
 use Rattle.raml_syntax.specs.Tree.{Type', Integer, Boolean, PairOf, ListOf, TreeOf, OptionOf}
 use Rattle.base_poly.specs.Plain.{Plain, degrees}
@@ -7,7 +7,7 @@ use Rattle.base_poly.specs.Indices.{index_list}
 use Rattle.base_poly.proofs.Exact.{exact}
 use Rattle.base_poly.proofs.Front.{lower_stand_first}
 use Rattle.index_shift.specs.declared.entry.Entry.{Entry}
-use Rattle.index_shift.specs.Maps.{Carry, opening}
+use Rattle.index_shift.specs.Maps.{Carry, behind as behind_at, opens, variable_type, opening}
 use Rattle.index_shift.specs.Parts.{type_parts}
 use Rattle.index_shift.specs.Contexts.{marked_items, other_items, permutation, permutes, projects}
 use Rattle.normal_form.specs.Norm as n
@@ -15,27 +15,25 @@ use Rattle.normal_form.specs.Norm.{Norm}
 use Rattle.normal_form.specs.Free.{free_in}
 use Rattle.normal_form.specs.Context.{Context, types, inners, others, parts_of}
 use Rattle.annot_types.specs.Program.{Program}
-use Rattle.annot_types.specs.Certificate.{Block}
 use Rattle.annot_types.specs.Carried.{to, marks, tuples, operand_places}
 use Rattle.annot_types.specs.Rows.{size as size_of}
 use Rattle.annot_types.specs.System.{args_of}
 use Rattle.walk_rules.specs.Plan as p
-use Rattle.walk_rules.specs.Planned.{step, entries_of, operand_entries, part_steps, let_part, budgets, called, lower}
+use Rattle.walk_rules.specs.Planned.{entries_of, operand_entries, part_steps, let_part, budgets, called, lower}
 use Rattle.rule_walk.specs.Read.{plans}
-use Rattle.raml_syntax.specs.declared.ty.Ty.{Ty}
 use Rattle.base_poly.specs.Read.{context_of}
-use Rattle.rule_plan.specs.Change.{step_at}
-use Rattle.rule_plan.specs.declared.change.Move.{Move}
+use Rattle.rule_plan.specs.declared.constructed.Built.{Built}
 use Rattle.rule_plan.specs.declared.called.Callee.{Callee}
 use Rattle.rule_plan.specs.declared.lets.Cut.{Cut}
-use Rattle.rule_plan.specs.Down.{down, each_down, up}
+use Rattle.rule_plan.specs.Down.{down, reached, each_down, up}
+use Rattle.rule_plan.specs.declared.env.Reach.{Reach}
 use Rattle.tuple_ranks.specs.Spots.{half_spots, joined_spots}
 use Rattle.rule_plan.specs.Entries.{spot, entry, placed_at, restricted}
-use Rattle.rule_plan.specs.Given.{Given, planned, ArePlans}
-use Rattle.rule_plan.specs.Wide.{at_budget, constructor_steps, called_at, IsCallee, WideSeam, wide_seam, seam_at, seams_from, part_at, parts_at, IsCut}
+use Rattle.rule_plan.specs.Given.{Given, all_down, planned, ArePlans}
+use Rattle.rule_plan.specs.Wide.{at_budget, built_steps, IsBuilt, called_at, IsCallee, WideSeam, wide_seam, seam_at, seams_from, part_at, parts_at, IsCut}
 use Rattle.rule_plan.proofs.Calling.{at_up}
 use Rattle.rule_plan.proofs.Entered.{to_placed, itself_placed, halves, projects_picked, lower_entries}
-use Rattle.rule_plan.proofs.Downed.{map_down, each_is, down_same, drop_down, lower_is}
+use Rattle.rule_plan.proofs.Downed.{map_reached, each_reached, reached_same, drop_down, lower_is}
 
 pub parts_same : (A : Type') → parts_of A ≡ type_parts A
 parts_same (PairOf A B) = refl
@@ -70,10 +68,10 @@ range_entries c As Bs top d h =
 called_is : (G : Given) (P : Program) (C : Context) (f : ℕ) (xs : List ℕ) (T : Type') (c : Callee) (d : ℕ) →
     P.funs ≡ G.funs → IsCallee G C f xs T c → d ≤ G.top → called_at c d ≡ called P G.group [] G.top C f xs T d
 called_is G P C f xs T c d e is low =
-    let context : at_budget c.context.items d ≡ size_of (types C) d = ap (λ s. at_budget s d) is.context ∙ at_up (size_of (types C)) G.top d low in
+    let context : size_of (context_of c.context.items) d ≡ size_of (types C) d = ap (λ As. size_of As d) is.context in
     let result : at_budget c.result.items d ≡ size_of (T ∷ []) d = ap (λ s. at_budget s d) is.result ∙ at_up (size_of (T ∷ [])) G.top d low in
     let As = args_of (slice_get G.funs f) in
-    let from_args : map (λ n. restricted n (at_budget c.context.items d) c.operands.items) c.args.items ≡ map (λ b. operand_entries C xs (args_of (slice_get P.funs f)) b d) (budgets G.top d) =
+    let from_args : map (λ n. restricted n (size_of (context_of c.context.items) d) c.operands.items) c.args.items ≡ map (λ b. operand_entries C xs (args_of (slice_get P.funs f)) b d) (budgets G.top d) =
     (λ i. map (λ n. restricted n (context i) (is.operands i)) (is.args i))
     ∙ range_entries (permutes (operand_places C xs)) As (types C) G.top d low
     ∙ (λ i. map (λ b. operand_entries C xs (args_of (slice_get (sym e i) f)) b d) (budgets G.top d)) in
@@ -82,11 +80,11 @@ called_is G P C f xs T c d e is low =
     λ i. record { function = is.function i; own = is.own i; usable = []; args = context i; result = result i; args_from = from_args i; result_from = from_result i }
 
 pub calls_are : (G : Given) (k : ℕ) (C : Context) (f : ℕ) (xs : List ℕ) (T : Type') (c : Callee) (made : List p.Plan) →
-    made ≡ map (λ d. p.Calls k (called_at c d)) (down (λ d. d) G.top) → IsCallee G C f xs T c → ArePlans G (n.Call k f xs) C T made
+    made ≡ map (λ d. p.Calls k (called_at c d)) (reached G.reach (λ d. d) G.top) → IsCallee G C f xs T c → ArePlans G (n.Call k f xs) C T made
 calls_are G k C f xs T c made h is = record {
   are = λ P e.
-      h ∙ map_down (λ d. p.Calls k (called_at c d)) (λ d. d) G.top
-      ∙ down_same (λ d. p.Calls k (called_at c d)) (planned G (n.Call k f xs) C T P) G.top (λ b l. ap (p.Calls k) (called_is G P C f xs T c b e is l));
+      h ∙ map_reached G.reach (λ d. p.Calls k (called_at c d)) (λ d. d) G.top
+      ∙ reached_same G.reach (λ d. p.Calls k (called_at c d)) (planned G (n.Call k f xs) C T P) G.top (λ b l. ap (p.Calls k) (called_is G P C f xs T c b e is l));
 }
 
 -- Lets
@@ -190,14 +188,14 @@ module _ (a : Norm) (C : Context) (A : Type') (top : ℕ) where
 
 pub lets_are : (G : Given) (k x : ℕ) (A : Type') (a b : Norm) (C : Context) (T : Type') (c : Cut) (firsts rests made : List p.Plan) →
     made ≡ each_down (λ d e. p.Lets k (parts_at c d) (plans (drop (G.top - d) firsts)) (at_budget c.sizes.rest.items d) e) G.top rests →
-    IsCut a C A G.top c → ArePlans G a (inners a C) A firsts → ArePlans G b (others a C ++ (x, A) ∷ []) T rests → ArePlans G (n.Let k x A a b) C T made
+    IsCut a C A G.top c → ArePlans (all_down G) a (inners a C) A firsts → ArePlans G b (others a C ++ (x, A) ∷ []) T rests → ArePlans G (n.Let k x A a b) C T made
 lets_are G k x A a b C T c firsts rests made h is fs rs = record {
   are = λ P e.
       let F : ℕ → p.Plan → p.Plan = λ d e. p.Lets k (parts_at c d) (plans (drop (G.top - d) firsts)) (at_budget c.sizes.rest.items d) e in
       let f = planned G a (inners a C) A P in
       let g = planned G b (others a C ++ (x, A) ∷ []) T P in
-      h ∙ ap (each_down F G.top) (rs.are P e) ∙ each_is F g G.top
-      ∙ down_same (λ d. F d (g d)) (planned G (n.Let k x A a b) C T P) G.top
+      h ∙ ap (each_down F G.top) (rs.are P e) ∙ each_reached G.reach F g G.top
+      ∙ reached_same G.reach (λ d. F d (g d)) (planned G (n.Let k x A a b) C T P) G.top
       (λ d low.
       let first : plans (drop (G.top - d) firsts) ≡ lower f d =
       ap (λ l. plans (drop (G.top - d) l)) (fs.are P e) ∙ ap (λ t. plans (drop (G.top - d) (down f t))) (omega (arith, low)) ∙ ap plans (drop_down f (G.top - d) d) ∙ lower_is f d in
@@ -208,15 +206,19 @@ lets_are G k x A a b C T c firsts rests made h is fs rs = record {
 
 -- Constructors
 
-constructor_is : (C : Context) (xs : List ℕ) (T : Type') (top : ℕ) (m : Move) (Ts : List Ty) (wide : List Entry) → ((d : ℕ) → step_at m d ≡ step (type_parts T) d (opening (T ∷ []) 0 d)) →
-    context_of m.new.items ≡ type_parts T → context_of Ts ≡ types C → wide ≡ operand_entries C xs (type_parts T) top top → (d : ℕ) → d ≤ top → constructor_steps m Ts wide d ≡ part_steps C xs T d
-constructor_is C xs T top m Ts wide s n t v d low =
-    let entries = (λ i. restricted (size_of (n i) d) (size_of (t i) d) (v i)) ∙ lower_entries (permutes (operand_places C xs)) (type_parts T) (types C) d top d top low low in
-    λ i. s d i ∷ record { size = size_of (t i) d; entries = entries i } ∷ []
+opened_low : (T : Type') (d top : ℕ) → d ≤ top → restricted (size_of (T ∷ []) d) (size_of (type_parts T) d) (opening (T ∷ []) 0 top) ≡ opening (T ∷ []) 0 d
+opened_low T d top low =
+    ap (λ Ts. restricted (size_of (T ∷ []) d) (size_of Ts d) (opening (T ∷ []) 0 top)) (sym (append-nil (type_parts T)))
+    ∙ lower_entries (behind_at 0 (opens (variable_type (T ∷ []) 0))) (T ∷ []) (type_parts T ++ []) d top d top low low
 
-pub constructors_are : (C : Context) (xs : List ℕ) (T : Type') (top k : ℕ) (m : Move) (Ts : List Ty) (wide : List Entry) (made : List p.Plan) →
-    made ≡ map (λ d. p.Ends k 1 (constructor_steps m Ts wide d)) (down (λ d. d) top) → ((d : ℕ) → step_at m d ≡ step (type_parts T) d (opening (T ∷ []) 0 d)) →
-    context_of m.new.items ≡ type_parts T → context_of Ts ≡ types C → wide ≡ operand_entries C xs (type_parts T) top top → made ≡ down (λ d. p.Ends k 1 (part_steps C xs T d)) top
-constructors_are C xs T top k m Ts wide made h s n t v =
-    h ∙ map_down (λ d. p.Ends k 1 (constructor_steps m Ts wide d)) (λ d. d) top
-    ∙ down_same (λ d. p.Ends k 1 (constructor_steps m Ts wide d)) (λ d. p.Ends k 1 (part_steps C xs T d)) top (λ d low. ap (p.Ends k 1) (constructor_is C xs T top m Ts wide s n t v d low))
+built_is : (C : Context) (xs : List ℕ) (T : Type') (top : ℕ) (b : Built) → IsBuilt C xs T top b → (d : ℕ) → d ≤ top → built_steps b d ≡ part_steps C xs T d
+built_is C xs T top b is d low =
+    let opens = (λ i. restricted (size_of (is.whole i) d) (size_of (is.parts i) d) (is.opens i)) ∙ opened_low T d top low in
+    let places = (λ i. restricted (size_of (is.parts i) d) (size_of (is.types i) d) (is.places i)) ∙ lower_entries (permutes (operand_places C xs)) (type_parts T) (types C) d top d top low low in
+    λ i. record { size = size_of (is.parts i) d; entries = opens i } ∷ record { size = size_of (is.types i) d; entries = places i } ∷ []
+
+pub constructors_are : (r : Reach) (C : Context) (xs : List ℕ) (T : Type') (top k : ℕ) (b : Built) (made : List p.Plan) → made ≡ map (λ d. p.Ends k 1 (built_steps b d)) (reached r (λ d. d) top) → IsBuilt C xs T top b →
+    made ≡ reached r (λ d. p.Ends k 1 (part_steps C xs T d)) top
+constructors_are r C xs T top k b made h is =
+    h ∙ map_reached r (λ d. p.Ends k 1 (built_steps b d)) (λ d. d) top
+    ∙ reached_same r (λ d. p.Ends k 1 (built_steps b d)) (λ d. p.Ends k 1 (part_steps C xs T d)) top (λ d low. ap (p.Ends k 1) (built_is C xs T top b is d low))

@@ -1,4 +1,4 @@
--- Plans of a form at all budgets.
+-- Plans of a form at the budgets that are reached.
 use Rattle.std.specs.Prelude.{◌≡◌, ℕ, List, [], map}
 use Rattle.std.specs.Global.{Global}
 use Rattle.std.specs.declared.boxed.Box.{Box}
@@ -12,33 +12,40 @@ use Rattle.walk_rules.specs.Plan as p
 use Rattle.walk_rules.specs.Planned.{plan}
 use Rattle.rule_walk.specs.Read.{plan_of}
 use Rattle.rule_walk.specs.declared.plan.Plan.{Plan}
-use Rattle.rule_plan.specs.Down.{down}
+use Rattle.rule_plan.specs.Down.{reached}
 use Rattle.rule_plan.specs.Change.{step_at}
 use Rattle.rule_plan.specs.declared.change.Move.{Move}
 use Rattle.rule_plan.specs.declared.env.Env.{Env}
+use Rattle.rule_plan.specs.declared.env.Reach.{Reach}
+use Rattle.rule_plan.specs.declared.env.Reach.TheVariants.{Down}
 
--- what plans are made over: functions, a group of them, and the greatest budget
+-- what plans are made over: functions, a group of them, the greatest budget, and for which budgets they are made
 pub record Given : Type 0 where
   pub funs : NormProg
   pub group : List ℕ
   pub top : ℕ
+  pub reach : Reach
 
 abbrev pub given_of : Env → Given
-given_of env = record { funs = funs_of env.results.now env.functions.now; group = ids_of env.group.now; top = env.top }
+given_of env = record { funs = funs_of env.results.now env.functions.now; group = ids_of env.group.now; top = env.top; reach = env.reach }
+
+-- the same for all budgets
+abbrev pub all_down : Given → Given
+all_down G = record { funs = G.funs; group = G.group; top = G.top; reach = Down }
 
 abbrev pub made_of : List (Box Plan Global) → List p.Plan
 made_of made = map (λ (e : Box Plan Global). plan_of e.value) made
 
--- they are what there is at each budget, whatever the program's groups
-pub record AreDown (G : Given) (F : Program → ℕ → p.Plan) (made : List p.Plan) : Type 0 where
-  pub are : (P : Program) → P.funs ≡ G.funs → made ≡ down (F P) G.top
+-- they are what there is at the budgets that are reached, whatever the program's groups
+pub record AreReached (G : Given) (F : Program → ℕ → p.Plan) (made : List p.Plan) : Type 0 where
+  pub are : (P : Program) → P.funs ≡ G.funs → made ≡ reached G.reach (F P) G.top
 
 -- the plan of a form, over no blocks
 abbrev pub planned : Given → Norm → Context → Type' → Program → ℕ → p.Plan
 planned G e C T P = plan P G.group [] G.top e C T
 
 abbrev pub ArePlans : Given → Norm → Context → Type' → List p.Plan → Type 0
-ArePlans G e C T made = AreDown G (planned G e C T) made
+ArePlans G e C T made = AreReached G (planned G e C T) made
 
 -- a branch: the map to its context, and its plans there
 pub record IsBranch (G : Given) (S : ℕ → p.Step) (e : Norm) (C : Context) (T : Type') (m : Move) (made : List p.Plan) : Type 0 where

@@ -7,6 +7,8 @@ use Rattle.base_poly.specs.Indices.{index_list}
 use Rattle.base_poly.specs.Read.{context_of}
 use Rattle.index_shift.specs.declared.entry.Entry.{Entry}
 use Rattle.index_shift.specs.Contexts.{projects}
+use Rattle.index_shift.specs.Maps.{opening}
+use Rattle.index_shift.specs.Parts.{type_parts}
 use Rattle.normal_form.specs.Norm.{Norm}
 use Rattle.normal_form.specs.Context.{Context, types, inners, others}
 use Rattle.annot_types.specs.Carried.{to, marks}
@@ -16,9 +18,8 @@ use Rattle.walk_rules.specs.Plan as p
 use Rattle.walk_rules.specs.Planned.{place_in, entries_of, operand_entries}
 use Rattle.rule_plan.specs.Down.{up}
 use Rattle.rule_plan.specs.Given.{Given}
-use Rattle.rule_plan.specs.Change.{step_at}
 use Rattle.rule_plan.specs.Entries.{placed_at, picked_at, restricted}
-use Rattle.rule_plan.specs.declared.change.Move.{Move}
+use Rattle.rule_plan.specs.declared.constructed.Built.{Built}
 use Rattle.rule_plan.specs.declared.called.Callee.{Callee}
 use Rattle.rule_plan.specs.declared.lets.Cut.{Cut}
 use Rattle.rule_plan.specs.declared.lets.Seam.{Seam}
@@ -27,12 +28,21 @@ use Rattle.rule_plan.specs.declared.lets.Sizes.{Sizes}
 abbrev pub at_budget : List ℕ → ℕ → ℕ
 at_budget sizes d = slice_index_or sizes d 0
 
+-- a map at a budget, from its entries at the greatest
+abbrev pub narrowed : List Ty → List Ty → List Entry → ℕ → p.Step
+narrowed from to wide d = record { size = size_of (context_of to) d; entries = restricted (size_of (context_of from) d) (size_of (context_of to) d) wide }
+
 -- a constructor's maps at a budget
-abbrev pub constructor_steps : Move → List Ty → List Entry → ℕ → List p.Step
-constructor_steps opening types wide d =
-    step_at opening d
-    ∷ record { size = size_of (context_of types) d; entries = restricted (size_of (context_of opening.new.items) d) (size_of (context_of types) d) wide }
-    ∷ []
+abbrev pub built_steps : Built → ℕ → List p.Step
+built_steps b d = narrowed b.whole.items b.parts.items b.opens.items d ∷ narrowed b.parts.items b.types.items b.places.items d ∷ []
+
+-- they are those of a constructor with these operands
+pub record IsBuilt (C : Context) (xs : List ℕ) (T : Type') (top : ℕ) (b : Built) : Type 0 where
+  pub whole : context_of b.whole.items ≡ T ∷ []
+  pub parts : context_of b.parts.items ≡ type_parts T
+  pub types : context_of b.types.items ≡ types C
+  pub opens : b.opens.items ≡ opening (T ∷ []) 0 top
+  pub places : b.places.items ≡ operand_entries C xs (type_parts T) top top
 
 -- a call at a budget
 abbrev pub called_at : Callee → ℕ → p.Called
@@ -40,9 +50,9 @@ called_at c d = record {
   function = c.function;
   own = c.own;
   usable = [];
-  args = at_budget c.context.items d;
+  args = size_of (context_of c.context.items) d;
   result = at_budget c.result.items d;
-  args_from = map (λ n. restricted n (at_budget c.context.items d) c.operands.items) c.args.items;
+  args_from = map (λ n. restricted n (size_of (context_of c.context.items) d) c.operands.items) c.args.items;
   result_from = map (λ n. restricted n (at_budget c.result.items d) c.same.items) c.result.items;
 }
 
@@ -51,7 +61,7 @@ pub record IsCallee (G : Given) (C : Context) (f : ℕ) (xs : List ℕ) (T : Typ
   pub function : c.function ≡ f
   pub own : c.own ≡ place_in G.group f
   pub args : c.args.items ≡ up (size_of (args_of (slice_get G.funs f))) G.top
-  pub context : c.context.items ≡ up (size_of (types C)) G.top
+  pub context : context_of c.context.items ≡ types C
   pub result : c.result.items ≡ up (size_of (T ∷ [])) G.top
   pub operands : c.operands.items ≡ operand_entries C xs (args_of (slice_get G.funs f)) G.top G.top
   pub same : c.same.items ≡ entries_of (to (λ t. t)) (T ∷ []) G.top (T ∷ []) G.top

@@ -18,7 +18,7 @@ ghost use Rattle.rule_plan.specs.Read.{program_in, function_of, over_of, body_of
 ghost use Rattle.rule_plan.specs.Within.{FunctionWithin};
 
 use crate::context;
-use crate::env::Env;
+use crate::env::{Env, Reach};
 use crate::fault::PlanFault;
 use crate::plan::plans;
 use crate::tuples::size;
@@ -260,6 +260,7 @@ fn planned(
         results: program.results(),
         group: functions,
         top: budget,
+        reach: Reach::Greatest,
     };
     bodies_of(&env)
 }

@@ -1,16 +1,16 @@
-// Plans of a form at all budgets, that of the greatest first.
+// Plans of a form at the budgets that are reached, that of the greatest first.
 ghost use Rattle.std.specs.Prelude.{◌≡◌, ◌≤◌, map, drop, IfOk};
-ghost use Rattle.std.specs.List.{All};
 ghost use Rattle.std.specs.Rc.{rc_value};
 ghost use Rattle.base_poly.specs.Read.{context_of};
 ghost use Rattle.annot_types.specs.Rows.{size as size_of};
 ghost use Rattle.walk_rules.specs.Plan as p;
 ghost use Rattle.rule_walk.specs.Read.{plan_of};
-ghost use Rattle.rule_plan.specs.Down.{down, each_down, both_down};
+ghost use Rattle.rule_plan.specs.Down.{down, reached, each_down, both_down};
 ghost use Rattle.rule_plan.specs.Change.{step_at};
 ghost use Rattle.rule_plan.specs.Given.{made_of};
 
 use crate::change::Move;
+use crate::env::{Env, Reach};
 use crate::tuples::size;
 use raml_syntax::Ty;
 use rule_walk::Plan;
@@ -24,11 +24,9 @@ pub fn boxed(alloc: Global, plan: Plan) -> Result<Box<Plan>, AllocError>
     Ok(Box::new(alloc, plan)?)
 }
 
-/// The budgets from the greatest one down.
-#[tactic(auto, using(crate::proofs::Downed::all_low))]
-pub fn budgets(alloc: Global, top: u8) -> Result<Vec<u8>, AllocError>
-    ensures all { IfOk result (λ found. found.items ≡ down (λ d. d) top) }
-    ensures low { IfOk result (λ found. All (λ d. d ≤ top) found.items) }
+// The budgets from the greatest one down.
+fn down(alloc: Global, top: u8) -> Result<Vec<u8>, AllocError>
+    ensures { IfOk result (λ found. found.items ≡ down (λ d. d) top) }
 {
     let mut found = Vec::new(alloc);
     let mut d = top;
@@ -38,6 +36,16 @@ pub fn budgets(alloc: Global, top: u8) -> Result<Vec<u8>, AllocError>
     }
     found.push(0)?;
     Ok(found)
+}
+
+/// The budgets that are reached.
+pub fn budgets(env: &Env<'_>) -> Result<Vec<u8>, AllocError>
+    ensures { IfOk result (λ found. found.items ≡ reached env.now.reach (λ d. d) env.now.top) }
+{
+    match env.reach {
+        Reach::Greatest => Ok(vec![in env.alloc; env.top]?),
+        Reach::Down => down(env.alloc, env.top),
+    }
 }
 
 /// Ticks, and then these.

@@ -1,5 +1,5 @@
 // Plans of calls.
-ghost use Rattle.std.specs.Prelude.{◌≡◌, ◌≤◌, ℕ, List, [], map, slice_get, slice_index_or, IfOk};
+ghost use Rattle.std.specs.Prelude.{◌≡◌, map, slice_get, IfOk};
 ghost use Rattle.raml_syntax.specs.Read.{ty_of};
 ghost use Rattle.base_poly.specs.Read.{context_of};
 ghost use Rattle.call_groups.specs.Read.{ids_of};
@@ -7,12 +7,11 @@ ghost use Rattle.normal_form.specs.Norm as n;
 ghost use Rattle.normal_form.specs.Context.{types};
 ghost use Rattle.normal_form.specs.Read.{parameters_of};
 ghost use Rattle.annot_types.specs.Carried.{to};
-ghost use Rattle.annot_types.specs.Rows.{size as size_of};
 ghost use Rattle.annot_types.specs.System.{args_of};
 ghost use Rattle.walk_rules.specs.Plan as p;
 ghost use Rattle.walk_rules.specs.Planned.{place_in, entries_of, operand_entries};
 ghost use Rattle.rule_walk.specs.Read.{plan_of, called_of};
-ghost use Rattle.rule_plan.specs.Down.{down, up};
+ghost use Rattle.rule_plan.specs.Down.{reached};
 ghost use Rattle.rule_plan.specs.Entries.{restricted};
 ghost use Rattle.rule_plan.specs.Given.{given_of, made_of, ArePlans};
 ghost use Rattle.rule_plan.specs.Wide.{at_budget, called_at, IsCallee};
@@ -22,21 +21,21 @@ use crate::context;
 use crate::entries::{identity, restricted};
 use crate::env::Env;
 use crate::operands::operand_entries;
-use crate::tuples::size;
+use crate::tuples::{size, sizes};
 use index_shift::Entry;
 use raml_syntax::{FunId, Ty};
 use rule_walk::{Called, Plan};
 use std::alloc::{AllocError, Global};
 
 /// Of a call, what is made once for all budgets: the function, its place in the group, how many
-/// positions its arguments, the context and the result have at each budget from 0 on, and the entries
-/// at the greatest budget.
+/// positions its arguments and the result have at each budget from 0 on, the types of the context, and
+/// the entries at the greatest budget.
 #[derive(Drop)]
 pub struct Callee {
     pub function: usize,
     pub own: Option<usize>,
     pub args: Vec<usize>,
-    pub context: Vec<usize>,
+    pub context: Vec<Ty>,
     pub result: Vec<usize>,
     pub operands: Vec<Entry>,
     pub same: Vec<Entry>,
@@ -69,18 +68,6 @@ fn args_of(env: &Env<'_>, fun: FunId) -> Result<Vec<Ty>, AllocError>
     context::types(env.alloc, &env.functions.fun(fun).params)
 }
 
-/// How many positions the context has at each budget from 0 on.
-#[tactic(auto, using(crate::proofs::Calling::up_more, crate::proofs::Calling::up_end))]
-pub fn sizes(alloc: Global, types: &[Ty], top: u8) -> Result<Vec<usize>, AllocError>
-    ensures { IfOk result (λ found. found.items ≡ up (size_of (context_of types.now)) top) }
-{
-    let mut found = Vec::new(alloc);
-    for d in 0..u16::from(top) + 1 {
-        found.push(size(alloc, types, d as u8)?)?;
-    }
-    Ok(found)
-}
-
 /// The number at a budget; 0 past the greatest one.
 pub fn at_budget(sizes: &[usize], d: usize) -> usize
     ensures { result ≡ at_budget sizes.now d }
@@ -111,7 +98,7 @@ fn all_restricted(
 fn called(alloc: Global, callee: &Callee, d: u8) -> Result<Called, AllocError>
     ensures { IfOk result (λ made. called_of made ≡ called_at callee.now d) }
 {
-    let args = at_budget(&callee.context, d as usize);
+    let args = size(alloc, &callee.context, d)?;
     let result = at_budget(&callee.result, d as usize);
     let args_from = all_restricted(alloc, &callee.operands, &callee.args, args)?;
     let result_from = all_restricted(alloc, &callee.same, &callee.result, result)?;
@@ -133,12 +120,12 @@ fn called_at(alloc: Global, nodes: u32, callee: &Callee, d: u8) -> Result<Box<Pl
     boxed(alloc, Plan::Calls(nodes, called))
 }
 
-// The call at all budgets.
+// The call at the budgets that are reached.
 fn at_budgets(env: &Env<'_>, nodes: u32, callee: &Callee) -> Result<Vec<Box<Plan>>, AllocError>
-    ensures { IfOk result (λ made. made_of made.items ≡ map (λ d. p.Calls nodes (called_at callee.now d)) (down (λ d. d) env.now.top)) }
+    ensures { IfOk result (λ made. made_of made.items ≡ map (λ d. p.Calls nodes (called_at callee.now d)) (reached env.now.reach (λ d. d) env.now.top)) }
 {
     let mut made = Vec::new(env.alloc);
-    for d in &budgets(env.alloc, env.top)? {
+    for d in &budgets(env)? {
         made.push(called_at(env.alloc, nodes, callee, *d)?)?;
     }
     Ok(made)
@@ -163,13 +150,12 @@ fn made_once(
     ensures { IfOk result (λ made. IsCallee (given_of env.now) (parameters_of context.now) fun.0 args.now (ty_of ty.now) made) }
 {
     let parameters = args_of(env, fun)?;
-    let types = context::types(env.alloc, context)?;
     let result = context::alone(env.alloc, ty)?;
     Ok(Callee {
         function: fun.0 as usize,
         own: place_in(env.group, fun),
         args: sizes(env.alloc, &parameters, env.top)?,
-        context: sizes(env.alloc, &types, env.top)?,
+        context: context::types(env.alloc, context)?,
         result: sizes(env.alloc, &result, env.top)?,
         operands: operand_entries(env.alloc, context, args, &parameters, env.top)?,
         same: same_entries(env.alloc, &result, env.top)?,

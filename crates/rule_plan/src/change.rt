@@ -56,10 +56,10 @@ fn there(
     }
 }
 
-// The same, where there need not be such a variable. A walk within its limits leaves memory alone
-// wanting.
+/// The same, where there need not be such a variable. A walk within its limits leaves memory alone
+/// wanting.
 #[tactic(auto, using(crate::proofs::Changed::unchanged))]
-fn entries(
+pub fn entries(
     alloc: Global,
     change: Change,
     types: &[Ty],

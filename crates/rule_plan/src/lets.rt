@@ -16,11 +16,11 @@ ghost use Rattle.rule_plan.specs.Given.{made_of};
 ghost use Rattle.rule_plan.specs.Wide.{at_budget, seam_of, seam_at, seams_from, part_at, parts_at, IsCut};
 
 use crate::budgets::{boxed, tail};
-use crate::called::{at_budget, sizes};
+use crate::called::at_budget;
 use crate::context;
 use crate::entries::{picked, placed, restricted};
 use crate::free::marks;
-use crate::tuples::{half_spots, joined_spots, size};
+use crate::tuples::{half_spots, joined_spots, size, sizes};
 use index_shift::Entry;
 use normal_form::NormExpr;
 use raml_syntax::Ty;

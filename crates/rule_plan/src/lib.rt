@@ -1,5 +1,6 @@
-//! Plans of normal forms: each rule at the positions of its contexts. Each form is planned once for all
-//! budgets, and each map that is not one of `index_shift` once, at the greatest budget.
+//! Plans of normal forms: each rule at the positions of its contexts. A form is planned at the greatest
+//! budget, and once for all budgets where a `let` binds it; each map that is not one of `index_shift` is
+//! made once, at the greatest budget.
 #![tactic(auto)]
 
 mod body;

@@ -9,9 +9,9 @@ ghost use Rattle.walk_rules.specs.Plan as p;
 ghost use Rattle.walk_rules.specs.Planned.{zero_alone, leaving_step, opening_step, sharing_step};
 ghost use Rattle.rule_walk.specs.Read.{plan_of};
 ghost use Rattle.rule_walk.specs.Steps.{step_of};
-ghost use Rattle.rule_plan.specs.Down.{down, both_down};
+ghost use Rattle.rule_plan.specs.Down.{reached, both_down};
 ghost use Rattle.rule_plan.specs.Change.{step_at};
-ghost use Rattle.rule_plan.specs.Given.{given_of, made_of, planned, AreDown, ArePlans, IsBranch};
+ghost use Rattle.rule_plan.specs.Given.{given_of, all_down, made_of, planned, AreReached, ArePlans, IsBranch};
 
 use crate::budgets::{boxed, budgets, forks, moves, pays, shared, shares};
 use crate::called::calls;
@@ -40,9 +40,9 @@ fn without_maps(alloc: Global, nodes: u32, budgets: Vec<u8>) -> Result<Vec<Box<P
 
 // A variable alone.
 fn variable(env: &Env<'_>, nodes: u32) -> Result<Vec<Box<Plan>>, AllocError>
-    ensures { IfOk result (λ made. made_of made.items ≡ down (λ d. p.Ends nodes 0 []) env.now.top) }
+    ensures { IfOk result (λ made. made_of made.items ≡ reached env.now.reach (λ d. p.Ends nodes 0 []) env.now.top) }
 {
-    let budgets = budgets(env.alloc, env.top)?;
+    let budgets = budgets(env)?;
     without_maps(env.alloc, nodes, budgets)
 }
 
@@ -73,9 +73,9 @@ fn at_zero(alloc: Global, nodes: u32, budgets: Vec<u8>) -> Result<Vec<Box<Plan>>
 
 // A form whose result has the zero index alone.
 fn constant(env: &Env<'_>, nodes: u32) -> Result<Vec<Box<Plan>>, AllocError>
-    ensures { IfOk result (λ made. made_of made.items ≡ down (λ d. p.Ends nodes 0 zero_alone) env.now.top) }
+    ensures { IfOk result (λ made. made_of made.items ≡ reached env.now.reach (λ d. p.Ends nodes 0 zero_alone) env.now.top) }
 {
-    let budgets = budgets(env.alloc, env.top)?;
+    let budgets = budgets(env)?;
     at_zero(env.alloc, nodes, budgets)
 }
 
@@ -86,7 +86,7 @@ struct Branch {
     rests: Vec<Box<Plan>>,
 }
 
-/// The plans of a form at the greatest budget and at all lower ones.
+/// The plans of a form at the budgets that are reached, that at the greatest first.
 #[cycle(plan)]
 pub fn plans(
     env: &Env<'_>,
@@ -232,7 +232,7 @@ fn plan_case(
     ty: &Ty,
 ) -> Result<Vec<Box<Plan>>, AllocError>
     requires low { env.now.top ≤ 4 }
-    ensures { IfOk result (λ made. AreDown (given_of env.now) (λ P d. p.Forks nodes
+    ensures { IfOk result (λ made. AreReached (given_of env.now) (λ P d. p.Forks nodes
         (leaving_step (parameters_of context.now) x d) (planned (given_of env.now) (norm_of a.now) (without x (parameters_of context.now)) (ty_of ty.now) P d)
         (opening_step (parameters_of context.now) x names.now d)
         (planned (given_of env.now) (norm_of b.now) (opened x names.now parts_of (parameters_of context.now)) (ty_of ty.now) P d)) (made_of made.items)) }
@@ -305,7 +305,7 @@ fn plan_share(
     shares(env.alloc, nodes, &change, &types, env.top, rests)
 }
 
-// Plans of a bound form, which are shared.
+// Plans of a bound form at all budgets, which are shared.
 #[cycle(plan)]
 fn bound_plans(
     env: &Env<'_>,
@@ -314,9 +314,10 @@ fn bound_plans(
     ty: &Ty,
 ) -> Result<Vec<Rc<Plan>>, AllocError>
     requires low { env.now.top ≤ 4 }
-    ensures { IfOk result (λ made. ArePlans (given_of env.now) (norm_of a.now) (parameters_of context.now) (ty_of ty.now) (map (λ r. plan_of (rc_value r)) made.items)) }
+    ensures { IfOk result (λ made. ArePlans (all_down (given_of env.now)) (norm_of a.now) (parameters_of context.now) (ty_of ty.now) (map (λ r. plan_of (rc_value r)) made.items)) }
 {
-    let firsts = plans(env, a, context, ty)?;
+    let down = env.all_down();
+    let firsts = plans(&down, a, context, ty)?;
     shared(env.alloc, firsts)
 }
 

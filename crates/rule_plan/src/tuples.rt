@@ -2,6 +2,7 @@
 ghost use Rattle.std.specs.Prelude.{◌≡◌, IfOk};
 ghost use Rattle.base_poly.specs.Read.{context_of};
 ghost use Rattle.annot_types.specs.Rows.{size as size_of};
+ghost use Rattle.rule_plan.specs.Down.{up, many_low};
 ghost use Rattle.tuple_ranks.specs.Spots.{permuted_spots, half_spots, joined_spots};
 
 use crate::within::MOST;
@@ -17,6 +18,42 @@ pub fn size(alloc: Global, types: &[Ty], d: u8) -> Result<usize, AllocError>
 {
     match degrees(alloc, types, d, MOST) {
         Ok(found) => Ok(found.len()),
+        Err(_) => Err(AllocError),
+    }
+}
+
+// How many of the degrees are at most `d`.
+fn many_low(degrees: &[u8], d: u8) -> usize
+    ensures { result ≡ many_low degrees.now d }
+{
+    let mut found = 0;
+    for degree in degrees {
+        if *degree <= d {
+            found += 1;
+        }
+    }
+    found
+}
+
+// The same for each budget from 0 on.
+#[tactic(auto, using(crate::proofs::Calling::up_more, crate::proofs::Calling::up_end))]
+fn counts(alloc: Global, degrees: &[u8], top: u8) -> Result<Vec<usize>, AllocError>
+    ensures { IfOk result (λ found. found.items ≡ up (many_low degrees.now) top) }
+{
+    let mut found = Vec::new(alloc);
+    for d in 0..u16::from(top) + 1 {
+        found.push(many_low(degrees, d as u8))?;
+    }
+    Ok(found)
+}
+
+/// How many tuples the context has at each budget from 0 on, under the same condition.
+#[tactic(auto, using(crate::proofs::Calling::sizes_are))]
+pub fn sizes(alloc: Global, types: &[Ty], top: u8) -> Result<Vec<usize>, AllocError>
+    ensures { IfOk result (λ found. found.items ≡ up (size_of (context_of types.now)) top) }
+{
+    match degrees(alloc, types, top, MOST) {
+        Ok(found) => counts(alloc, &found, top),
         Err(_) => Err(AllocError),
     }
 }

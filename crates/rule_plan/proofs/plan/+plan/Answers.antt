@@ -10,7 +10,7 @@ use Rattle.normal_form.specs.Read.{norm_of, parameters_of}
 use Rattle.walk_rules.specs.Plan as p
 use Rattle.walk_rules.specs.Planned.{step, part_steps, leaving_step, opening_step}
 use Rattle.rule_walk.specs.Read.{plan_of}
-use Rattle.rule_plan.specs.Given.{given_of, made_of, planned, AreDown, ArePlans}
+use Rattle.rule_plan.specs.Given.{given_of, all_down, made_of, planned, AreReached, ArePlans}
 use Rattle.rule_plan.proofs.Formed.{plain, tick_is, branch_is, moves_are, forks_are, shares_are}
 use Rattle.rule_plan.proofs.Shapes.{node_is, list_is, tree_is, option_is}
 use Rattle.rule_plan.proofs.Widened.{lets_are}
@@ -54,7 +54,7 @@ plan_if-returns t c =
 pub plan_case-returns : goal.plan_case-returns
 plan_case-returns t c =
     let a = c.args in let C = parameters_of a.context.now in let G = given_of a.env.now in let T = ty_of a.ty.now in let ys = a.names.now in
-    IfOk-weaker c.forked.result _ (λ made. AreDown G (λ P d. p.Forks a.nodes (leaving_step C a.x d) (planned G (norm_of a.a.now) (without a.x C) T P d)
+    IfOk-weaker c.forked.result _ (λ made. AreReached G (λ P d. p.Forks a.nodes (leaving_step C a.x d) (planned G (norm_of a.a.now) (without a.x C) T P d)
     (opening_step C a.x ys d) (planned G (norm_of a.b.now) (opened a.x ys parts_of C) T P d)) (made_of made.items))
     (λ made is. forks_are G a.nodes (leaving_step C a.x) (opening_step C a.x ys) (norm_of a.a.now) (norm_of a.b.now) (without a.x C) (opened a.x ys parts_of C) T
     c.in_ok-first.first.change c.in_ok-second.second.change (made_of c.in_ok-first.first.rests.items) (made_of c.in_ok-second.second.rests.items) (made_of made.items) is c.in_ok-first.ensures c.in_ok-second.ensures)
@@ -76,15 +76,16 @@ plan_share-returns t c =
 
 pub bound_plans-returns : goal.bound_plans-returns
 bound_plans-returns t c =
-    let a = c.args in let C = parameters_of a.context.now in let G = given_of a.env.now in
+    let a = c.args in let C = parameters_of a.context.now in let G = all_down (given_of a.env.now) in
     IfOk-weaker c.shared.result _ (λ made. ArePlans G (norm_of a.a.now) C (ty_of a.ty.now) (map (λ r. plan_of (rc_value r)) made.items))
-    (λ made is. subst (ArePlans G (norm_of a.a.now) C (ty_of a.ty.now)) (sym is) c.in_ok-firsts.ensures) c.shared.ensures
+    (λ made is. subst (ArePlans G (norm_of a.a.now) C (ty_of a.ty.now)) (sym is)
+    (subst (λ H. ArePlans H (norm_of a.a.now) C (ty_of a.ty.now) (made_of c.in_ok-firsts.firsts.items)) c.all_down-down.ensures.given c.in_ok-firsts.ensures)) c.shared.ensures
 
 pub plan_let-returns : goal.plan_let-returns
 plan_let-returns t c =
     let a = c.args in let C = parameters_of a.context.now in let G = given_of a.env.now in let A = ty_of a.bound.now in let T = ty_of a.ty.now in let e = norm_of a.a.now in
-    let firsts = subst (λ l. ArePlans G e (inners e C) A (map (λ r. plan_of (rc_value r)) l)) (sym c.deref-7.ensures.value)
-    (subst (λ N. ArePlans G e N A (map (λ r. plan_of (rc_value r)) c.in_ok-firsts.firsts.items)) (ap parameters_of c.deref-5.ensures.value ∙ c.in_ok-inner.ensures) c.in_ok-firsts.ensures) in
+    let firsts = subst (λ l. ArePlans (all_down G) e (inners e C) A (map (λ r. plan_of (rc_value r)) l)) (sym c.deref-7.ensures.value)
+    (subst (λ N. ArePlans (all_down G) e N A (map (λ r. plan_of (rc_value r)) c.in_ok-firsts.firsts.items)) (ap parameters_of c.deref-5.ensures.value ∙ c.in_ok-inner.ensures) c.in_ok-firsts.ensures) in
     let next = ap parameters_of c.deref-6.ensures.value ∙ c.in_ok-next.ensures ∙ ap (λ O. O ++ (a.x, A) ∷ []) (ap parameters_of c.deref.ensures.value ∙ c.in_ok-outer.ensures) in
     let rests = subst (λ N. ArePlans G (norm_of a.b.now) N T (made_of c.in_ok-rests.rests.items)) next c.in_ok-rests.ensures in
     IfOk-weaker c.lets.result _ (λ made. ArePlans G (n.Let a.nodes a.x A e (norm_of a.b.now)) C T (made_of made.items))

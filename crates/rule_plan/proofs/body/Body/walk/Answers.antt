@@ -1,8 +1,8 @@
 use Rattle.std.proofs.Common.{◌≡◌, ◌∷◌, [], sym, subst}
 use Rattle.std.specs.Prelude.{IfOk, OnOk}
-use Rattle.walk_rules.specs.Walk.{Walk, walk, group_sides}
+use Rattle.walk_rules.specs.Walk.{Walk, group_sides}
 use Rattle.rule_walk.specs.Read.{plan_of, hints_of, known_of, mode_of}
-use Rattle.rule_walk.specs.Filled.{table_of, uses_of, filled}
+use Rattle.rule_walk.specs.Filled.{table_of, uses_of}
 use Rattle.rule_walk.proofs.Filling.{alike}
 use Rattle.rule_plan.proofs.body.Body.walk.Goals as goal
 

@@ -1,7 +1,7 @@
 use Rattle.std.proofs.Common.{◌<◌, ◌-◌, ◌∷◌, ◌++◌, [], ap, sym, ◌∙◌, append_assoc, rules}
 use Rattle.rule_plan.specs.Down.{down}
 use Rattle.rule_plan.proofs.Downed.{down_step}
-use Rattle.rule_plan.proofs.budgets.budgets.Goals as goal
+use Rattle.rule_plan.proofs.budgets.down.Goals as goal
 
 pub loop-d-preserved : goal.loop-d-preserved
 loop-d-preserved c =
