@@ -2,7 +2,7 @@
 ghost use Rattle.std.specs.Prelude.{◌≡◌, true, None, IfOk, IfErr, OnOk};
 ghost use Rattle.annot_types.specs.Read.{certificate_of};
 ghost use Rattle.annot_types.specs.System.{Valid};
-ghost use Rattle.rule_plan.specs.Read.{program_in};
+ghost use Rattle.rule_plan.specs.Read.{program_in, AreKept};
 ghost use Rattle.cert_check.specs.Finds.{FirstFault};
 ghost use Rattle.cert_check.specs.Laws.{IsProper, IsSmall};
 ghost use Rattle.cert_check.specs.Read.{fault_of};
@@ -17,7 +17,8 @@ use crate::run::Run;
 use crate::verified::{Verified, keep};
 use annot_types::Certificate;
 use cert_check::laws::held_leaves_alone;
-use cert_check::{CertFault, check};
+use cert_check::{CertFault, check_with};
+use rule_plan::KeptPlans;
 use share_normal::NormProgram;
 use std::alloc::{AllocError, Global};
 
@@ -82,23 +83,25 @@ fn check_fault(alloc: Global, fault: CertFault) -> InferFault
     }
 }
 
-/// The certificate of a course that has ended, checked.
+/// The certificate of a course that has ended, checked by the plans that the course kept.
 pub(crate) fn ended<'p, 'a>(
     alloc: Global,
     program: &'p NormProgram<'a>,
     d: u8,
     run: Run<'_>,
+    kept: KeptPlans,
 ) -> Result<Verified<'p, 'a>, InferFault>
     requires proper { IsProper (program_in program.now) }
     requires small { IsSmall (program_in program.now) (s.certificate_of d true (state_of run)) }
     requires valid { Valid (program_in program.now) (s.certificate_of d true (state_of run)) }
     requires refuted { AllRefuted (program_in program.now) (s.certificate_of d true (state_of run)) }
-    ensures kept { IfOk result (λ verified. verified ≡ record { program = program.now; certificate = s.certificate_of d true (state_of run.entry) }) }
+    requires kept { AreKept (program_in program.now) kept }
+    ensures whole { IfOk result (λ verified. verified ≡ record { program = program.now; certificate = s.certificate_of d true (state_of run.entry) }) }
     ensures passes { OnOk result (FirstFault (program_in program.now) (s.certificate_of d true (state_of run.entry)) None) }
     ensures fault { IfErr result (CheckCause (program_in program.now) (s.certificate_of d true (state_of run.entry))) }
 {
     held_leaves_alone();
-    match check(alloc, program, certificate(d, run)) {
+    match check_with(alloc, program, certificate(d, run), kept) {
         Ok(checked) => Ok(keep(checked)),
         Err(fault) => Err(check_fault(alloc, fault)),
     }

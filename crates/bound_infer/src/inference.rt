@@ -1,10 +1,10 @@
 // The inference of bounds.
-ghost use Rattle.std.specs.Prelude.{◌≡◌, ◌≤◌, ℕ, ℤ, List, Option, IfOk, IfErr};
+ghost use Rattle.std.specs.Prelude.{◌≡◌, ◌≤◌, ℕ, ℤ, List, Option, IfOk, IfErr, OnOk};
 ghost use Rattle.simplex.specs.Choosing.{IsChooser};
 ghost use Rattle.whole_answers.specs.Choosing.{AnswersBy, AnswersByOne};
 ghost use Rattle.courses.specs.Good.{AllLeast};
 ghost use Rattle.exact_systems.specs.Analysed.{analysis_of};
-ghost use Rattle.rule_plan.specs.Read.{program_in};
+ghost use Rattle.rule_plan.specs.Read.{program_in, AreKept};
 ghost use Rattle.tried_tasks.specs.Laws.{IsOrdered};
 ghost use Rattle.bound_infer.specs.After.{Ends};
 ghost use Rattle.bound_infer.specs.Inferred.{IsInferred, InferCause};
@@ -18,6 +18,7 @@ use crate::verified::Verified;
 use courses::laws::{courses_certify, courses_stay_within};
 use exact_systems::laws::{limits_are_told, normals_are_ordered, systems_generate};
 use frac128::Frac;
+use rule_plan::KeptPlans;
 use share_normal::NormProgram;
 use simplex::Chooser;
 use std::alloc::Global;
@@ -37,6 +38,7 @@ fn course<'p, F: Fn(&[Frac]) -> Option<usize>>(
     alloc: Global,
     program: &'p NormProgram<'_>,
     d: u8,
+    kept: &mut KeptPlans,
     chooser: &Chooser<F>,
 ) -> Result<Run<'p>, InferFault>
     requires most_degree { d ≤ 4 }
@@ -44,13 +46,15 @@ fn course<'p, F: Fn(&[Frac]) -> Option<usize>>(
     requires chooses { IsChooser F.Fn chooser.now }
     requires answers { AnswersByOne F.Fn chooser.now }
     requires ordered { IsOrdered (program_in program.now) }
+    requires kept { AreKept (program_in program.now) kept.old }
+    ensures kept { OnOk result (AreKept (program_in program.now) kept.new) }
     ensures ends { IfOk result (λ run. ByEach F.Fn chooser.now (λ pick. Ends (analysis_in program.now d pick) (state_of run))) }
     ensures stops { IfErr result (λ fault. ByEach F.Fn chooser.now (λ pick. InferCause (analysis_in program.now d pick) fault)) }
 {
     let Ok(mut run) = begin(alloc, program, d) else {
         return Err(InferFault::NoMemory);
     };
-    match all_steps(alloc, program, d, &mut run, chooser) {
+    match all_steps(alloc, program, d, &mut run, kept, chooser) {
         Ok(()) => Ok(run),
         Err(fault) => Err(fault),
     }
@@ -82,8 +86,9 @@ pub fn infer<'p, 'a, F: Fn(&[Frac]) -> Option<usize>>(
     limits_are_told();
     courses_certify();
     courses_stay_within();
-    match course(alloc, program, d, chooser) {
-        Ok(run) => ended(alloc, program, d, run),
+    let mut kept = KeptPlans::new(alloc);
+    match course(alloc, program, d, &mut kept, chooser) {
+        Ok(run) => ended(alloc, program, d, run, kept),
         Err(fault) => Err(fault),
     }
 }

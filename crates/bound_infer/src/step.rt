@@ -1,9 +1,9 @@
 // One task of the schedule.
-ghost use Rattle.std.specs.Prelude.{◌≡◌, ◌≤◌, true, IfOk, IfErr, IfSome, OnOk};
+ghost use Rattle.std.specs.Prelude.{◌≡◌, ◌≤◌, true, IfOk, IfErr, OnOk};
 ghost use Rattle.simplex.specs.Choosing.{IsChooser};
 ghost use Rattle.cost_free.specs.Read.{task_of, kind_of};
 ghost use Rattle.annot_types.specs.Holds.{budget_of};
-ghost use Rattle.rule_plan.specs.Read.{program_in, ArePlansIn, ArePlansOf};
+ghost use Rattle.rule_plan.specs.Read.{program_in, ArePlansOf, AreKept};
 ghost use Rattle.constraint_gen.specs.Cause.{IsWithin};
 ghost use Rattle.tried_tasks.specs.Laws.{IsOrdered};
 ghost use Rattle.whole_answers.specs.Choosing.{AnswersByOne};
@@ -19,11 +19,12 @@ use crate::run::{Run, current, waits_for};
 use crate::solved::{refuted, solved, waits};
 use crate::system::{answered, planned};
 use base_poly::IndexFault;
+use cert_check::budget_of;
 use cost_free::Task;
 use courses::laws::{courses_are_good, fine_is_clear, scales_begin, seen_is_first};
 use exact_systems::laws::systems_generate;
 use frac128::Frac;
-use rule_plan::GroupPlans;
+use rule_plan::{GroupPlans, KeptPlans};
 use share_normal::NormProgram;
 use simplex::Chooser;
 use std::alloc::Global;
@@ -105,7 +106,7 @@ fn tried<F: Fn(&[Frac]) -> Option<usize>>(
     program: &NormProgram<'_>,
     d: u8,
     run: &mut Run<'_>,
-    last: &mut Option<GroupPlans>,
+    kept: &mut KeptPlans,
     task: &Task,
     chooser: &Chooser<F>,
 ) -> Result<(), InferFault>
@@ -115,22 +116,25 @@ fn tried<F: Fn(&[Frac]) -> Option<usize>>(
     requires ordered { IsOrdered (program_in program.now) }
     requires budget { budget_of d (kind_of task.now.kind) ≤ 4 }
     requires keeps { Keeps program.now d run.old }
-    requires last { IfSome last.old (ArePlansIn (program_in program.now)) }
+    requires kept { AreKept (program_in program.now) kept.old }
     requires begins { Begins (state_of run.old) }
     requires here { ByEach F.Fn chooser.now (λ pick. IsAtHand (analysis_in program.now d pick) (state_of run.old) (task_of task.now)) }
     requires stands { StandsAt program.now d (state_of run.old) (task_of task.now) }
     ensures keeps { OnOk result (Keeps program.now d run.new) }
-    ensures last { IfSome last.new (ArePlansIn (program_in program.now)) }
+    ensures kept { OnOk result (AreKept (program_in program.now) kept.new) }
     ensures steps { OnOk result (ByEach F.Fn chooser.now (λ pick. IsAfter (analysis_in program.now d pick) (state_of run.old) (state_of run.new) true)) }
     ensures stops { IfErr result (λ fault. ByEach F.Fn chooser.now (λ pick. StopsOn (analysis_in program.now d pick) (state_of run.old) (task_of task.now) fault)) }
 {
-    match planned(alloc, program, d, last.take(), run, task) {
+    let last = kept.take(task.group, budget_of(d, task.kind));
+    match planned(alloc, program, d, last, run, task) {
         Err(fault) => Err(fault),
-        Ok(plans) => {
-            let done = by_plans(alloc, program, d, run, task, &plans, chooser);
-            *last = Some(plans);
-            done
-        }
+        Ok(plans) => match by_plans(alloc, program, d, run, task, &plans, chooser) {
+            Err(fault) => Err(fault),
+            Ok(()) => match kept.keep(plans) {
+                Ok(()) => Ok(()),
+                Err(_) => Err(InferFault::NoMemory),
+            },
+        },
     }
 }
 
@@ -140,7 +144,7 @@ fn at_task<F: Fn(&[Frac]) -> Option<usize>>(
     program: &NormProgram<'_>,
     d: u8,
     run: &mut Run<'_>,
-    last: &mut Option<GroupPlans>,
+    kept: &mut KeptPlans,
     task: &Task,
     chooser: &Chooser<F>,
 ) -> Result<(), InferFault>
@@ -150,10 +154,10 @@ fn at_task<F: Fn(&[Frac]) -> Option<usize>>(
     requires ordered { IsOrdered (program_in program.now) }
     requires low { d ≤ 4 }
     requires keeps { Keeps program.now d run.old }
-    requires last { IfSome last.old (ArePlansIn (program_in program.now)) }
+    requires kept { AreKept (program_in program.now) kept.old }
     requires here { ByEach F.Fn chooser.now (λ pick. IsAtHand (analysis_in program.now d pick) (state_of run.old) (task_of task.now)) }
     ensures keeps { OnOk result (Keeps program.now d run.new) }
-    ensures last { IfSome last.new (ArePlansIn (program_in program.now)) }
+    ensures kept { OnOk result (AreKept (program_in program.now) kept.new) }
     ensures steps { OnOk result (ByEach F.Fn chooser.now (λ pick. IsAfter (analysis_in program.now d pick) (state_of run.old) (state_of run.new) true)) }
     ensures stops { IfErr result (λ fault. ByEach F.Fn chooser.now (λ pick. StopsOn (analysis_in program.now d pick) (state_of run.old) (task_of task.now) fault)) }
 {
@@ -165,7 +169,7 @@ fn at_task<F: Fn(&[Frac]) -> Option<usize>>(
             Ok(()) => Ok(()),
             Err(_) => Err(InferFault::NoMemory),
         },
-        None => tried(alloc, program, d, run, last, task, chooser),
+        None => tried(alloc, program, d, run, kept, task, chooser),
     }
 }
 
@@ -175,7 +179,7 @@ fn step<F: Fn(&[Frac]) -> Option<usize>>(
     program: &NormProgram<'_>,
     d: u8,
     run: &mut Run<'_>,
-    last: &mut Option<GroupPlans>,
+    kept: &mut KeptPlans,
     chooser: &Chooser<F>,
 ) -> Result<bool, InferFault>
     requires callable { F.IsAlwaysCallable chooser.now }
@@ -184,10 +188,10 @@ fn step<F: Fn(&[Frac]) -> Option<usize>>(
     requires ordered { IsOrdered (program_in program.now) }
     requires low { d ≤ 4 }
     requires keeps { Keeps program.now d run.old }
-    requires last { IfSome last.old (ArePlansIn (program_in program.now)) }
+    requires kept { AreKept (program_in program.now) kept.old }
     requires reached { ByEach F.Fn chooser.now (λ pick. Reached (analysis_in program.now d pick) (state_of run.old)) }
     ensures keeps { OnOk result (Keeps program.now d run.new) }
-    ensures last { IfSome last.new (ArePlansIn (program_in program.now)) }
+    ensures kept { OnOk result (AreKept (program_in program.now) kept.new) }
     ensures steps { IfOk result (λ on. ByEach F.Fn chooser.now (λ pick. IsAfter (analysis_in program.now d pick) (state_of run.old) (state_of run.new) on)) }
     ensures stops { IfErr result (λ fault. ByEach F.Fn chooser.now (λ pick. StopsIn (analysis_in program.now d pick) (state_of run.old) fault)) }
 {
@@ -196,7 +200,7 @@ fn step<F: Fn(&[Frac]) -> Option<usize>>(
         Err(IndexFault::NoMemory) => Err(InferFault::NoMemory),
         Err(IndexFault::TooMany) => Err(refused(alloc, program, d)),
         Ok(None) => Ok(false),
-        Ok(Some(task)) => match at_task(alloc, program, d, run, last, &task, chooser) {
+        Ok(Some(task)) => match at_task(alloc, program, d, run, kept, &task, chooser) {
             Ok(()) => Ok(true),
             Err(fault) => Err(fault),
         },
@@ -209,6 +213,7 @@ pub(crate) fn all_steps<F: Fn(&[Frac]) -> Option<usize>>(
     program: &NormProgram<'_>,
     d: u8,
     run: &mut Run<'_>,
+    kept: &mut KeptPlans,
     chooser: &Chooser<F>,
 ) -> Result<(), InferFault>
     requires callable { F.IsAlwaysCallable chooser.now }
@@ -217,11 +222,12 @@ pub(crate) fn all_steps<F: Fn(&[Frac]) -> Option<usize>>(
     requires ordered { IsOrdered (program_in program.now) }
     requires low { d ≤ 4 }
     requires keeps { Keeps program.now d run.old }
+    requires kept { AreKept (program_in program.now) kept.old }
     requires reached { ByEach F.Fn chooser.now (λ pick. Reached (analysis_in program.now d pick) (state_of run.old)) }
+    ensures kept { OnOk result (AreKept (program_in program.now) kept.new) }
     ensures ends { OnOk result (ByEach F.Fn chooser.now (λ pick. Ends (analysis_in program.now d pick) (state_of run.new))) }
     ensures stops { IfErr result (λ fault. ByEach F.Fn chooser.now (λ pick. InferCause (analysis_in program.now d pick) fault)) }
 {
-    let mut last = None;
-    while step(alloc, program, d, run, &mut last, chooser)? {}
+    while step(alloc, program, d, run, kept, chooser)? {}
     Ok(())
 }

@@ -1,5 +1,5 @@
 // The check of one block.
-ghost use Rattle.std.specs.Prelude.{◌≡◌, ◌↔◌, ◌≤◌, List, map, IsTrue, IfOk, IfSome};
+ghost use Rattle.std.specs.Prelude.{◌≡◌, ◌↔◌, ◌≤◌, List, map, IsTrue, IfOk, OnOk};
 ghost use Rattle.std.specs.Option.{option_map};
 ghost use Rattle.raml_syntax.specs.declared.program.FunId.{FunId as Id};
 ghost use Rattle.cost_free.specs.Read.{kind_of, task_of};
@@ -8,7 +8,7 @@ ghost use Rattle.annot_types.specs.Held.{NamesBlocker, IfSolved};
 ghost use Rattle.annot_types.specs.Holds as h;
 ghost use Rattle.annot_types.specs.Read as a;
 ghost use Rattle.earlier_blocks.specs.Remembers.{Remembers};
-ghost use Rattle.rule_plan.specs.Read.{ArePlansIn};
+ghost use Rattle.rule_plan.specs.Read.{AreKept};
 ghost use Rattle.cert_check.specs.At.{program_at, IsAt, Tells, sizes_of};
 ghost use Rattle.cert_check.specs.Finds.{job, BodyFinds};
 ghost use Rattle.cert_check.specs.Same.{same_kind, same_task, is_task};
@@ -19,7 +19,7 @@ use crate::planned::check_solved;
 use annot_types::{BlockBody, rise};
 use cost_free::{Task, TaskKind};
 use raml_syntax::FunId;
-use rule_plan::GroupPlans;
+use rule_plan::KeptPlans;
 
 fn same_kind(kind: TaskKind, other: TaskKind) -> bool
     ensures { result ≡ same_kind (kind_of kind) (kind_of other) }
@@ -80,19 +80,19 @@ pub fn names_blocker(blocker: Option<FunId>, body: &BlockBody) -> bool
 /// The check of a block of the schedule; where it is solved, how many positions its functions have.
 pub fn check_body(
     at: &At<'_, '_>,
-    last: &mut Option<GroupPlans>,
+    kept: &mut KeptPlans,
     body: &BlockBody,
 ) -> Result<Vec<(usize, usize)>, CertFault>
     requires low { h.budget_of at.now.degree (kind_of at.now.task.kind) ≤ 4 }
-    requires last { IfSome last.old (ArePlansIn (program_at at.now)) }
-    ensures last { IfSome last.new (ArePlansIn (program_at at.now)) }
+    requires kept { AreKept (program_at at.now) kept.old }
+    ensures kept { OnOk result (AreKept (program_at at.now) kept.new) }
     ensures tells { (held : c.Certificate) (blocks : List c.Block) → IsAt at.now held blocks → Remembers (program_at at.now) held.degree blocks at.now.earlier.now →
         Tells result (BodyFinds (program_at at.now) held blocks (task_of at.now.task) (a.body_of body.now)) }
     ensures sizes { IfOk result (λ sizes. (held : c.Certificate) (blocks : List c.Block) → IsAt at.now held blocks → Remembers (program_at at.now) held.degree blocks at.now.earlier.now →
         IfSolved (a.body_of body.now) (sizes.items ≡ sizes_of (job (program_at at.now) held blocks (task_of at.now.task)).bodies)) }
 {
     match body {
-        BlockBody::Solved { sigs, hints } => check_solved(at, last, sigs, hints),
+        BlockBody::Solved { sigs, hints } => check_solved(at, kept, sigs, hints),
         BlockBody::Refuted { farkas } => {
             if rise(farkas) {
                 Ok(Vec::new(at.alloc))

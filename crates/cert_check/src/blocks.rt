@@ -1,5 +1,5 @@
 // The blocks of a certificate, one after the other.
-ghost use Rattle.std.specs.Prelude.{◌≡◌, ◌↔◌, ◌≤◌, ◌++◌, ◌∷◌, [], List, length, true, IsTrue, IfSome, OnOk};
+ghost use Rattle.std.specs.Prelude.{◌≡◌, ◌↔◌, ◌≤◌, ◌++◌, ◌∷◌, [], List, length, true, IsTrue, OnOk};
 ghost use Rattle.std.specs.Option.{option_map};
 ghost use Rattle.cost_free.specs.Read.{task_of};
 ghost use Rattle.cost_free.specs.Refused.{next_in, plan_in};
@@ -9,7 +9,7 @@ ghost use Rattle.cert_check.specs.Same.{is_task};
 ghost use Rattle.annot_types.specs.Certificate as c;
 ghost use Rattle.annot_types.specs.Read as a;
 ghost use Rattle.annot_types.specs.Read.{certificate_of};
-ghost use Rattle.rule_plan.specs.Read.{program_in, ArePlansIn};
+ghost use Rattle.rule_plan.specs.Read.{program_in, AreKept};
 ghost use Rattle.cert_check.specs.At.{Tells};
 ghost use Rattle.cert_check.specs.Course.{HasCome};
 ghost use Rattle.cert_check.specs.Finds.{ScheduledFinds, BlockFinds, EndFinds};
@@ -21,7 +21,7 @@ use annot_types::{Block, Certificate};
 use base_poly::IndexFault;
 use cost_free::{Schedule, Task, blocked};
 use earlier_blocks::Earlier;
-use rule_plan::GroupPlans;
+use rule_plan::KeptPlans;
 use share_normal::NormProgram;
 use std::alloc::Global;
 
@@ -46,7 +46,7 @@ fn check_next(
     certificate: &Certificate,
     schedule: &mut Schedule<'_>,
     earlier: &mut Earlier,
-    last: &mut Option<GroupPlans>,
+    kept: &mut KeptPlans,
     number: usize,
     block: &Block,
     next: Option<Task>,
@@ -54,8 +54,8 @@ fn check_next(
     requires degree { certificate.now.degree ≤ 4 }
     requires same { schedule.old.degree ≡ certificate.now.degree }
     requires next { option_map task_of next ≡ next_in (plan_in schedule.old) schedule.old.done }
-    requires last { IfSome last.old (ArePlansIn (program_in program.now)) }
-    ensures last { IfSome last.new (ArePlansIn (program_in program.now)) }
+    requires kept { AreKept (program_in program.now) kept.old }
+    ensures kept { OnOk result (AreKept (program_in program.now) kept.new) }
     ensures tells { (blocks : List c.Block) → HasCome program.now (certificate_of certificate.now) blocks schedule.old earlier.old → length blocks ≡ number →
         Tells result (ScheduledFinds (program_in program.now) (certificate_of certificate.now) blocks (a.block_of block.now)) }
     ensures goes { OnOk result ((blocks : List c.Block) → HasCome program.now (certificate_of certificate.now) blocks schedule.old earlier.old → length blocks ≡ number →
@@ -71,7 +71,7 @@ fn check_next(
             certificate,
             schedule,
             earlier,
-            last,
+            kept,
             number,
             block,
         )
@@ -87,14 +87,14 @@ pub fn check_block(
     certificate: &Certificate,
     schedule: &mut Schedule<'_>,
     earlier: &mut Earlier,
-    last: &mut Option<GroupPlans>,
+    kept: &mut KeptPlans,
     number: usize,
     block: &Block,
 ) -> Result<(), CertFault>
     requires degree { certificate.now.degree ≤ 4 }
     requires same { schedule.old.degree ≡ certificate.now.degree }
-    requires last { IfSome last.old (ArePlansIn (program_in program.now)) }
-    ensures last { IfSome last.new (ArePlansIn (program_in program.now)) }
+    requires kept { AreKept (program_in program.now) kept.old }
+    ensures kept { OnOk result (AreKept (program_in program.now) kept.new) }
     ensures tells { (blocks : List c.Block) → HasCome program.now (certificate_of certificate.now) blocks schedule.old earlier.old → length blocks ≡ number →
         Tells result (BlockFinds (program_in program.now) (certificate_of certificate.now) blocks (a.block_of block.now)) }
     ensures goes { OnOk result ((blocks : List c.Block) → HasCome program.now (certificate_of certificate.now) blocks schedule.old earlier.old → length blocks ≡ number →
@@ -111,7 +111,7 @@ pub fn check_block(
             certificate,
             schedule,
             earlier,
-            last,
+            kept,
             number,
             block,
             next,

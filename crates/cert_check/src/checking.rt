@@ -1,7 +1,7 @@
 // The check of a certificate.
 ghost use Rattle.std.specs.Prelude.{◌≡◌, ◌≤◌, [], None, IfOk, OnOk, IfErr};
 ghost use Rattle.annot_types.specs.Read.{blocks_of, certificate_of};
-ghost use Rattle.rule_plan.specs.Read.{program_in};
+ghost use Rattle.rule_plan.specs.Read.{program_in, AreKept};
 ghost use Rattle.cert_check.specs.At.{Tells};
 ghost use Rattle.cert_check.specs.Finds.{BlocksFind, FirstFault};
 ghost use Rattle.cert_check.specs.Read.{fault_of, OfFault};
@@ -13,6 +13,7 @@ use crate::head::head_fits;
 use annot_types::Certificate;
 use cost_free::Schedule;
 use earlier_blocks::Earlier;
+use rule_plan::KeptPlans;
 use share_normal::NormProgram;
 use std::alloc::Global;
 
@@ -21,8 +22,10 @@ fn check_blocks(
     alloc: Global,
     program: &NormProgram<'_>,
     certificate: &Certificate,
+    kept: &mut KeptPlans,
 ) -> Result<(), CertFault>
     requires degree { certificate.now.degree ≤ 4 }
+    requires kept { AreKept (program_in program.now) kept.old }
     ensures { Tells result (BlocksFind (program_in program.now) (certificate_of certificate.now) [] (blocks_of certificate.now.blocks.items)) }
 {
     let work = certificate.work_scale.is_some();
@@ -32,7 +35,6 @@ fn check_blocks(
     let Ok(mut earlier) = Earlier::new(alloc, functions.len()) else {
         return Err(CertFault::NoMemory);
     };
-    let mut last = None;
     for number in 0..certificate.blocks.len() {
         let block = &certificate.blocks[number];
         if let Err(fault) = check_block(
@@ -41,7 +43,7 @@ fn check_blocks(
             certificate,
             &mut schedule,
             &mut earlier,
-            &mut last,
+            kept,
             number,
             block,
         ) {
@@ -62,12 +64,27 @@ pub fn check<'p, 'a>(
     ensures kept { IfOk result (λ checked. checked ≡ record { program = program.now; certificate = certificate_of certificate }) }
     ensures fault { IfErr result (λ fault. OfFault (fault_of fault) (FirstFault (program_in program.now) (certificate_of certificate))) }
 {
+    check_with(alloc, program, certificate, KeptPlans::new(alloc))
+}
+
+/// The same by plans of the program that were made before, as far as they go.
+pub fn check_with<'p, 'a>(
+    alloc: Global,
+    program: &'p NormProgram<'a>,
+    certificate: Certificate,
+    mut kept: KeptPlans,
+) -> Result<Checked<'p, 'a>, CertFault>
+    requires plans { AreKept (program_in program.now) kept }
+    ensures fits { OnOk result (FirstFault (program_in program.now) (certificate_of certificate) None) }
+    ensures kept { IfOk result (λ checked. checked ≡ record { program = program.now; certificate = certificate_of certificate }) }
+    ensures fault { IfErr result (λ fault. OfFault (fault_of fault) (FirstFault (program_in program.now) (certificate_of certificate))) }
+{
     if !head_fits(&certificate) {
         return Err(CertFault::Shape { block: 0 });
     }
     let _functions = program.functions();
     let _groups = program.groups();
-    match check_blocks(alloc, program, &certificate) {
+    match check_blocks(alloc, program, &certificate, &mut kept) {
         Err(fault) => Err(fault),
         Ok(()) => Ok(keep(program, certificate)),
     }

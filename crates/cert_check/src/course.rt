@@ -1,5 +1,5 @@
 // The walk through the blocks of a certificate.
-ghost use Rattle.std.specs.Prelude.{◌≡◌, ◌≤◌, ◌++◌, ◌∷◌, [], List, length, Some, IfSome, OnOk};
+ghost use Rattle.std.specs.Prelude.{◌≡◌, ◌≤◌, ◌++◌, ◌∷◌, [], List, length, Some, OnOk};
 ghost use Rattle.cost_free.specs.Read.{kind_of, task_of};
 ghost use Rattle.annot_types.specs.Certificate as c;
 ghost use Rattle.annot_types.specs.Certificate.{done_as};
@@ -8,7 +8,7 @@ ghost use Rattle.annot_types.specs.Holds.{budget_of};
 ghost use Rattle.annot_types.specs.Read as a;
 ghost use Rattle.annot_types.specs.Read.{certificate_of};
 ghost use Rattle.earlier_blocks.specs.Remembers.{Remembers};
-ghost use Rattle.rule_plan.specs.Read.{program_in, ArePlansIn};
+ghost use Rattle.rule_plan.specs.Read.{program_in, AreKept};
 ghost use Rattle.cert_check.specs.At.{Tells, sizes_in};
 ghost use Rattle.cert_check.specs.Course.{HasCome};
 ghost use Rattle.cert_check.specs.Finds.{next_after, refusal, BodyFinds};
@@ -22,7 +22,7 @@ use crate::refusal::large_task;
 use annot_types::{Block, BlockBody, Certificate};
 use cost_free::{Done, Schedule};
 use earlier_blocks::Earlier;
-use rule_plan::GroupPlans;
+use rule_plan::KeptPlans;
 use share_normal::NormProgram;
 use std::alloc::{AllocError, Global};
 
@@ -103,13 +103,13 @@ pub fn check_there(
     certificate: &Certificate,
     schedule: &mut Schedule<'_>,
     earlier: &mut Earlier,
-    last: &mut Option<GroupPlans>,
+    kept: &mut KeptPlans,
     number: usize,
     block: &Block,
 ) -> Result<(), CertFault>
     requires low { budget_of certificate.now.degree (kind_of block.now.task.kind) ≤ 4 }
-    requires last { IfSome last.old (ArePlansIn (program_in program.now)) }
-    ensures last { IfSome last.new (ArePlansIn (program_in program.now)) }
+    requires kept { AreKept (program_in program.now) kept.old }
+    ensures kept { OnOk result (AreKept (program_in program.now) kept.new) }
     ensures tells { (blocks : List c.Block) → HasCome program.now (certificate_of certificate.now) blocks schedule.old earlier.old → length blocks ≡ number →
         Tells result (BodyFinds (program_in program.now) (certificate_of certificate.now) blocks (task_of block.now.task) (a.body_of block.now.body)) }
     ensures goes { OnOk result ((blocks : List c.Block) → HasCome program.now (certificate_of certificate.now) blocks schedule.old earlier.old → length blocks ≡ number →
@@ -125,7 +125,7 @@ pub fn check_there(
         number,
         task: block.task,
     };
-    match check_body(&at, last, &block.body) {
+    match check_body(&at, kept, &block.body) {
         Err(fault) => Err(fault),
         Ok(sizes) => {
             match go_on(

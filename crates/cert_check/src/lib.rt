@@ -24,7 +24,7 @@ mod solved;
 mod target;
 
 pub use checked::Checked;
-pub use checking::check;
+pub use checking::{check, check_with};
 pub use fault::CertFault;
 
 // what another check of a block shares with this one

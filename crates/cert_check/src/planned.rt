@@ -1,5 +1,5 @@
 // The check of a solved block, from its plans on.
-ghost use Rattle.std.specs.Prelude.{◌≡◌, ◌↔◌, ◌≤◌, List, map, length, IsTrue, IfOk, IfSome};
+ghost use Rattle.std.specs.Prelude.{◌≡◌, ◌↔◌, ◌≤◌, List, map, length, IsTrue, IfOk, OnOk};
 ghost use Rattle.cost_free.specs.Read.{kind_of, task_of};
 ghost use Rattle.annot_types.specs.Certificate as c;
 ghost use Rattle.annot_types.specs.Certificate.{Solved};
@@ -7,7 +7,7 @@ ghost use Rattle.annot_types.specs.Held.{SigsRise, AllHintsRise};
 ghost use Rattle.annot_types.specs.Holds as h;
 ghost use Rattle.annot_types.specs.Read as a;
 ghost use Rattle.earlier_blocks.specs.Remembers.{Remembers};
-ghost use Rattle.rule_plan.specs.Read.{body_of, ArePlansIn, ArePlansOf};
+ghost use Rattle.rule_plan.specs.Read.{body_of, ArePlansOf};
 ghost use Rattle.cert_check.specs.At.{program_at, IsAt, Tells, sizes_of};
 ghost use Rattle.cert_check.specs.Asking.{all_asks_of};
 ghost use Rattle.cert_check.specs.Finds.{SigsFit, AllFit, asks_by, job, ShapeFinds, BodyFinds};
@@ -18,7 +18,7 @@ use crate::reached::check_target;
 use crate::rules::all_asked;
 use crate::shape::{hints_fit, sigs_fit};
 use annot_types::{Hint, Sig};
-use rule_plan::{Body, GroupPlans, PlanFault, next_plans};
+use rule_plan::{Body, GroupPlans, KeptPlans, PlanFault, next_plans};
 use rule_walk::Ask;
 use std::alloc::{AllocError, Global};
 
@@ -104,30 +104,32 @@ fn check_over(
     }
 }
 
-/// The check of a solved block; how many positions its functions have. The plans are kept for the next
-/// block.
+/// The check of a solved block; how many positions its functions have. Its plans are kept.
 pub fn check_solved(
     at: &At<'_, '_>,
-    last: &mut Option<GroupPlans>,
+    kept: &mut KeptPlans,
     sigs: &[Sig],
     hints: &[Vec<Hint>],
 ) -> Result<Vec<(usize, usize)>, CertFault>
     requires low { h.budget_of at.now.degree (kind_of at.now.task.kind) ≤ 4 }
-    requires last { IfSome last.old (ArePlansIn (program_at at.now)) }
-    ensures last { IfSome last.new (ArePlansIn (program_at at.now)) }
+    requires kept { AreKept (program_at at.now) kept.old }
+    ensures kept { OnOk result (AreKept (program_at at.now) kept.new) }
     ensures tells { (held : c.Certificate) (blocks : List c.Block) → IsAt at.now held blocks → Remembers (program_at at.now) held.degree blocks at.now.earlier.now →
         Tells result (BodyFinds (program_at at.now) held blocks (task_of at.now.task) (Solved (map a.sig_of sigs.now) (map a.hints_of hints.now))) }
     ensures sizes { IfOk result (λ sizes. (held : c.Certificate) (blocks : List c.Block) → IsAt at.now held blocks → Remembers (program_at at.now) held.degree blocks at.now.earlier.now →
         sizes.items ≡ sizes_of (job (program_at at.now) held blocks (task_of at.now.task)).bodies) }
 {
     let budget = budget_of(at.degree, at.task.kind);
-    match next_plans(at.alloc, at.program, last.take(), at.task.group, budget) {
+    let last = kept.take(at.task.group, budget);
+    match next_plans(at.alloc, at.program, last, at.task.group, budget) {
         Err(PlanFault::TooMany) => Err(CertFault::TooLarge { task: at.task }),
         Err(PlanFault::NoMemory) => Err(CertFault::NoMemory),
-        Ok(plans) => {
-            let found = check_over(at, &plans, sigs, hints);
-            *last = Some(plans);
-            found
-        }
+        Ok(plans) => match check_over(at, &plans, sigs, hints) {
+            Err(fault) => Err(fault),
+            Ok(sizes) => match kept.keep(plans) {
+                Ok(()) => Ok(sizes),
+                Err(_) => Err(CertFault::NoMemory),
+            },
+        },
     }
 }

@@ -15,6 +15,7 @@ use Rattle.rule_plan.specs.Within.{FunctionWithin}
 use Rattle.rule_plan.specs.declared.body.Body.{Body}
 use Rattle.rule_plan.specs.declared.body.FunctionPlan.{FunctionPlan}
 use Rattle.rule_plan.specs.declared.body.GroupPlans.{GroupPlans}
+use Rattle.rule_plan.specs.declared.kept.KeptPlans.{KeptPlans}
 
 -- a program in normal form, with its groups
 abbrev pub program_in : Kept → Program
@@ -56,3 +57,7 @@ pub record ArePlansOf (P : Program) (group budget : ℕ) (made : GroupPlans) : T
   pub group_is : made.group ≡ group
   pub budget_is : made.budget ≡ budget
   pub are : ArePlansIn P made
+
+-- kept plans are all those of their groups at their budgets
+abbrev pub AreKept : Program → KeptPlans → Type 0
+AreKept P kept = All (ArePlansIn P) kept.made.items

@@ -13,12 +13,15 @@ mod entries;
 mod env;
 mod fault;
 mod free;
+mod kept;
 pub mod laws;
 mod lets;
 mod operands;
 mod plan;
 mod tuples;
+mod weight;
 mod within;
 
 pub use body::{Body, FunctionPlan, GroupPlans, group_plans, next_plans};
 pub use fault::PlanFault;
+pub use kept::KeptPlans;

@@ -19,7 +19,7 @@ loop-last-smaller g c =
 pub loop-last-preserved : goal.loop-last-preserved
 loop-last-preserved g c = (
   c.in_ok-step.ensures.keeps,
-  c.step.ensures.last,
+  c.in_ok-step.ensures.kept,
   λ pick by.
       let A = analysis_in c.args.program.now c.args.d pick in
       let s = c.in_ok-step.ensures.steps pick by in

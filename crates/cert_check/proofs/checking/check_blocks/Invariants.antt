@@ -1,7 +1,6 @@
 use Rattle.std.proofs.Common.{take}
-use Rattle.std.specs.Prelude.{IfSome}
 use Rattle.annot_types.specs.Read.{blocks_of, certificate_of}
-use Rattle.rule_plan.specs.Read.{program_in, ArePlansIn}
+use Rattle.rule_plan.specs.Read.{program_in, AreKept}
 use Rattle.cert_check.specs.Course.{HasCome}
 use Rattle.cert_check.proofs.Walking.{Reduces}
 use Rattle.cert_check.proofs.checking.check_blocks.Given as goal
@@ -10,5 +9,5 @@ abbrev pub invariant-loop-number : goal.invariant-loop-number
 invariant-loop-number l = record {
   come : HasCome l.program (certificate_of l.certificate) (take l.number (blocks_of l.certificate.blocks.items)) l.schedule l.earlier;
   reduces : Reduces (program_in l.program) (certificate_of l.certificate) (blocks_of l.certificate.blocks.items) l.number;
-  last : IfSome l.last (ArePlansIn (program_in l.program));
+  kept : AreKept (program_in l.program) l.kept;
 }

@@ -1,0 +1,68 @@
+// Plans that were made before.
+ghost use Rattle.std.specs.Prelude.{IfSome, OnOk};
+ghost use Rattle.annot_types.specs.Program.{Program};
+ghost use Rattle.rule_plan.specs.Read.{ArePlansIn, AreKept};
+
+use crate::body::GroupPlans;
+use crate::weight::weight;
+use std::alloc::{AllocError, Global};
+
+// About how many entries of maps are kept: 16 MiB.
+const MOST: usize = 1 << 20;
+
+/// Plans of groups that were made before, for when they are asked for again: the last ones, and those
+/// before them as far as there is room.
+#[derive(Drop)]
+pub struct KeptPlans {
+    pub made: Vec<GroupPlans>,
+    room: usize,
+}
+
+impl KeptPlans {
+    /// No plans.
+    pub fn new(alloc: Global) -> KeptPlans
+        ensures { (P : Program) → AreKept P result }
+    {
+        KeptPlans {
+            made: Vec::new(alloc),
+            room: MOST,
+        }
+    }
+
+    /// The plans of a group at a budget, where they are kept. They are handed out.
+    pub fn take(&mut self, group: u32, budget: u8) -> Option<GroupPlans>
+        ensures taken { IfSome result (λ made. (P : Program) → AreKept P self.old → ArePlansIn P made) }
+        ensures left { (P : Program) → AreKept P self.old → AreKept P self.new }
+    {
+        let place = self
+            .made
+            .iter()
+            .rposition(|made| made.group == group && made.budget == budget)?;
+        let made = self.made.remove(place);
+        self.room = self.room.saturating_add(plans_weight(&made));
+        Some(made)
+    }
+
+    /// Keeps plans; where there is no room for them, none of those before them.
+    pub fn keep(&mut self, plans: GroupPlans) -> Result<(), AllocError>
+        ensures { OnOk result ((P : Program) → AreKept P self.old → ArePlansIn P plans → AreKept P self.new) }
+    {
+        let weight = plans_weight(&plans);
+        if weight > self.room {
+            self.made.clear();
+            self.room = MOST;
+        }
+        self.room = self.room.saturating_sub(weight);
+        self.made.push(plans)?;
+        Ok(())
+    }
+}
+
+// About how many entries the maps of a group's plans have.
+fn plans_weight(plans: &GroupPlans) -> usize {
+    let mut count: usize = 0;
+    for function in &plans.functions {
+        count = count.saturating_add(weight(&function.plan));
+    }
+    count
+}
