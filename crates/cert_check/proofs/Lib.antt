@@ -12,6 +12,7 @@ pub mod Knowing
 pub mod Walked
 pub mod Telling
 pub mod Covered
+pub mod Units
 pub mod Results
 pub mod Reaching
 pub mod Tasks

@@ -20,7 +20,7 @@ ghost use Rattle.cert_check.specs.Covering.{IsReached, IsMissed};
 use crate::at::{At, members, result_of};
 use crate::fault::CertFault;
 use crate::solved::check_rules;
-use crate::target::{aim_at, covers, first_missing, place_of, sig_of};
+use crate::target::{aim_at, covers, first_missing, place_of, sig_of, tuple_count, unit_missing};
 use annot_types::{Annot, Hint, Sig};
 use cost_free::TaskKind;
 use raml_syntax::{FunId, Ty};
@@ -32,6 +32,25 @@ use std::alloc::AllocError;
 // Where an annotation does not reach the target of this number: the first position at which it has no
 // number, and 0 where there is none.
 fn missing(
+    at: &At<'_, '_>,
+    ty: &Ty,
+    budget: u8,
+    number: u32,
+    annot: &Annot,
+) -> Result<Option<usize>, AllocError>
+    ensures reached { IfOk result (λ missing. IfNone missing (IsReached (ty_of ty.now) at.now.degree budget number (annotation annot.now))) }
+    ensures missed { IfOk result (λ missing. IfSome missing (λ index. IsMissed (ty_of ty.now) at.now.degree budget number (annotation annot.now) index)) }
+{
+    let units = tuple_count(at.alloc, ty, at.degree)?;
+    if number as usize >= units {
+        return listed_missing(at, ty, budget, number, annot);
+    }
+    let count = tuple_count(at.alloc, ty, budget)?;
+    Ok(unit_missing(number, count, annot))
+}
+
+// The same of any target, by the list of all tuples.
+fn listed_missing(
     at: &At<'_, '_>,
     ty: &Ty,
     budget: u8,

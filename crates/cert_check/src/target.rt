@@ -1,5 +1,5 @@
 // Whether a block without cost reaches its target.
-ghost use Rattle.std.specs.Prelude.{◌≡◌, ◌∷◌, [], nat_eq, ◌&&◌, unsigned_abs, map, slice_get, IfOk, IfSome, IfNone, Some, None};
+ghost use Rattle.std.specs.Prelude.{◌≡◌, ◌∷◌, [], nat_eq, nat_lt, ◌&&◌, cond, unsigned_abs, map, length, slice_get, IfOk, IfSome, IfNone, Some, None};
 ghost use Rattle.std.specs.Option.{option_map, unwrap_or};
 ghost use Rattle.std.specs.List.{list_any};
 ghost use Rattle.raml_syntax.specs.Read.{ty_of};
@@ -15,7 +15,7 @@ ghost use Rattle.cert_check.specs.Finds.{missing_from};
 ghost use Rattle.cert_check.specs.Covering.{has_from, has_all, AreFew};
 
 use annot_types::{Annot, Sig};
-use base_poly::{Tuple, indices};
+use base_poly::{Tuple, degrees, indices};
 use cost_free::{Target, targets};
 use raml_syntax::{FunId, Ty};
 use std::alloc::{AllocError, Global};
@@ -56,6 +56,31 @@ pub fn place_of(functions: &[FunId], fun: FunId) -> usize
         }
     }
     0
+}
+
+/// How many tuples the type has at a degree: so many targets are unit targets, each with one tuple.
+pub fn tuple_count(alloc: Global, ty: &Ty, degree: u8) -> Result<usize, AllocError>
+    ensures { IfOk result (λ count. count ≡ length (index_list (ty_of ty.now ∷ []) degree)) }
+{
+    let types = vec![in alloc; ty.copy(alloc)?]?;
+    match degrees(alloc, &types, degree, usize::MAX) {
+        Ok(found) => Ok(found.len()),
+        Err(_) => Err(AllocError),
+    }
+}
+
+/// Of a unit target, whose position is its number, the position at which the annotation has no number;
+/// 0 where there are not so many tuples.
+pub fn unit_missing(number: u32, count: usize, annot: &Annot) -> Option<usize>
+    ensures { result ≡ cond (nat_lt number count) (cond (nat_lt 0 (annotation annot.now number)) None (Some number)) (Some 0) }
+{
+    if number as usize >= count {
+        return Some(0);
+    }
+    if annot.get(number).unsigned_abs() > 0 {
+        return None;
+    }
+    Some(number as usize)
 }
 
 // The target of this number, where there is one. The schedule has come to it, so there are few indices.

@@ -3,6 +3,7 @@ pub mod Kept
 pub mod Collected
 pub mod Giving
 pub mod Functions
+pub mod Units
 pub mod Walking
 pub mod Finishing
 pub mod Whole

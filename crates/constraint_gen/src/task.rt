@@ -1,5 +1,5 @@
 // What a task is about: the types of its functions, its weights and its target.
-ghost use Rattle.std.specs.Prelude.{◌≡◌, ◌≤◌, ◌^◌, ◌++◌, ◌∷◌, [], cond, pos, map, filter, length, replicate, slice_get, slice_index_or, vec_len, IfOk, OnOk};
+ghost use Rattle.std.specs.Prelude.{◌≡◌, ◌≤◌, ◌^◌, ◌++◌, ◌∷◌, [], ◌&&◌, nat_eq, nat_lt, cond, pos, map, filter, length, replicate, slice_get, slice_index_or, vec_len, IfOk, OnOk};
 ghost use Rattle.std.specs.List.{list_any, range_with_len};
 ghost use Rattle.raml_syntax.specs.Read.{ty_of};
 ghost use Rattle.base_poly.specs.Plain.{alike, degrees};
@@ -287,6 +287,47 @@ fn positions_of(
 
 // Those of a type that stands alone; none where there is no type.
 fn positions_in(
+    alloc: Global,
+    types: &[Ty],
+    d: u8,
+    budget: u8,
+    number: u32,
+) -> Result<Vec<usize>, AllocError>
+    ensures { IfOk result (λ found. found.items ≡ positions_in d budget number (context_of types.now)) }
+{
+    if is_unit(alloc, types, d, number)? {
+        let found = unit_positions(alloc, types, budget, number)?;
+        return Ok(found);
+    }
+    let found = listed_positions(alloc, types, d, budget, number)?;
+    Ok(found)
+}
+
+// Whether the target of this number is a unit target: its one tuple has this place among all.
+fn is_unit(alloc: Global, types: &[Ty], d: u8, number: u32) -> Result<bool, AllocError>
+    ensures { IfOk result (λ unit. unit ≡ (nat_eq (length types.now) 1 && nat_lt number (r.size (context_of types.now) d))) }
+{
+    let count = all_degrees(alloc, types, d)?.len();
+    Ok(types.len() == 1 && (number as usize) < count)
+}
+
+// The position of a unit target, which is its number; none where the budget has no such tuple.
+fn unit_positions(
+    alloc: Global,
+    types: &[Ty],
+    budget: u8,
+    number: u32,
+) -> Result<Vec<usize>, AllocError>
+    ensures { IfOk result (λ found. found.items ≡ cond (nat_lt number (r.size (context_of types.now) budget)) (number ∷ []) []) }
+{
+    let count = all_degrees(alloc, types, budget)?.len();
+    let mut found = Vec::new(alloc);
+    append_place(&mut found, number as usize, (number as usize) < count)?;
+    Ok(found)
+}
+
+// Those of any target, by the lists of all targets and of all tuples.
+fn listed_positions(
     alloc: Global,
     types: &[Ty],
     d: u8,

@@ -3,3 +3,4 @@ pub mod Raised
 pub mod Refuted
 pub mod Sure
 pub mod Told
+pub mod Units
