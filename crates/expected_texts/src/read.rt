@@ -39,10 +39,15 @@ fn typed_program(alloc: Global, source: &[u8]) -> Result<Typed, Refusal>
 /// The certificate of a file.
 pub fn read_certificate(rt: &HostRuntime, name: &str) -> Result<Certificate, Refusal> {
     let mut store = DirStore::new(rt);
-    let Ok(bytes) = store.read(rt.alloc(), name, CERTIFICATE) else {
-        return Err(Refusal::Certificate);
-    };
-    match read(rt.alloc(), &bytes) {
+    match store.read(rt.alloc(), name, CERTIFICATE) {
+        Ok(bytes) => certificate_in(rt.alloc(), &bytes),
+        Err(_) => Err(Refusal::Certificate),
+    }
+}
+
+/// The certificate that is written so.
+pub fn certificate_in(alloc: Global, bytes: &[u8]) -> Result<Certificate, Refusal> {
+    match read(alloc, bytes) {
         Ok(certificate) => Ok(certificate),
         Err(_) => Err(Refusal::Certificate),
     }

@@ -9,15 +9,28 @@ use crate::prices::{Prices, prices_of};
 use crate::refusal::Refusal;
 use crate::text::{members, push_task};
 use annot_types::{Block, BlockBody, Certificate};
+use call_groups::group_calls;
 use constraint_gen::{plans, rows_by};
 use cost_free::{Task, TaskKind};
 use earlier_blocks::Earlier;
 use rule_plan::{FunctionPlan, GroupPlans};
-use share_normal::NormProgram;
+use share_normal::{NormProgram, normalise};
+use simple_types::Typed;
 use std::alloc::{AllocError, Global};
 
-/// The rows of each task that was tried, over the blocks before it.
-pub fn all_rows(
+/// The rows of each task of a certificate that was tried.
+pub fn rows_of(
+    alloc: Global,
+    typed: &Typed,
+    certificate: &Certificate,
+) -> Result<String, Refusal> {
+    let groups = group_calls(alloc, typed.program())?;
+    let program = normalise(alloc, typed, groups)?;
+    all_rows(alloc, &program, certificate)
+}
+
+// The same of a program in normal form, each over the blocks before it.
+fn all_rows(
     alloc: Global,
     program: &NormProgram<'_>,
     certificate: &Certificate,

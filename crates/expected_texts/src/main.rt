@@ -1,18 +1,18 @@
-//! The program `task_rows`: the rows of each task of a certificate that was tried. Its two words name a source
-//! and a certificate of its analysis.
+//! The program `expected_texts`, for tests: the digests of all texts of the programs in its folder. With two
+//! words, which name a source and a certificate of its analysis, the rows of each task that was tried.
 #![tactic(auto)]
 
+mod digests;
 mod prices;
 mod read;
 mod refusal;
 mod tasks;
 mod text;
 
+use crate::digests::all_digests;
 use crate::read::{read_certificate, read_source};
 use crate::refusal::Refusal;
-use crate::tasks::all_rows;
-use call_groups::group_calls;
-use share_normal::normalise;
+use crate::tasks::rows_of;
 use std::env;
 use std::process::ExitCode;
 
@@ -26,23 +26,21 @@ fn main(rt: HostRuntime) -> ExitCode {
     }
 }
 
-// Takes the words from the runtime, and prints the rows.
+// Takes the words from the runtime, and prints what they ask for.
 fn run(rt: &HostRuntime) -> Result<(), Refusal> {
     let args: Vec<String> = env::args(rt)?.skip(1).collect(rt.alloc())?;
-    let [source, certificate] = args.as_slice() else {
-        return Err(Refusal::Words);
+    let text = match args.as_slice() {
+        [] => all_digests(rt)?,
+        [source, certificate] => rows_in(rt, source, certificate)?,
+        _ => return Err(Refusal::Words),
     };
-    let text = rows_of(rt, source, certificate)?;
     rt.print(text.as_str())?;
     Ok(())
 }
 
 // The rows of the tasks of a certificate, where these are the names of the files.
-fn rows_of(rt: &HostRuntime, source: &str, certificate: &str) -> Result<String, Refusal> {
-    let alloc = rt.alloc();
+fn rows_in(rt: &HostRuntime, source: &str, certificate: &str) -> Result<String, Refusal> {
     let typed = read_source(rt, source)?;
-    let groups = group_calls(alloc, typed.program())?;
-    let program = normalise(alloc, &typed, groups)?;
     let certificate = read_certificate(rt, certificate)?;
-    all_rows(alloc, &program, &certificate)
+    rows_of(rt.alloc(), &typed, &certificate)
 }

@@ -1,11 +1,11 @@
-// Why no rows are printed.
+// Why no text is printed.
 use std::alloc::AllocError;
 use std::io;
 
-/// Why no rows are printed.
+/// Why no text is printed.
 #[derive(Clone, Copy, Debug)]
 pub enum Refusal {
-    /// They are not two.
+    /// They are neither none nor two.
     Words,
     /// It can't be read, is too long, or is no typed program.
     Source,
@@ -13,7 +13,9 @@ pub enum Refusal {
     Certificate,
     /// Of a task that is not of the program, or that has no system.
     Task,
-    /// The words are no text, or the rows could not be written.
+    /// A call of `raml` did not end well.
+    Text,
+    /// The words are no text, or the output could not be written.
     System,
     NoMemory,
 }
@@ -22,11 +24,12 @@ impl Refusal {
     /// A line that tells it.
     pub fn text(self) -> &'static str {
         match self {
-            Refusal::Words => "task_rows SOURCE CERTIFICATE",
+            Refusal::Words => "expected_texts [SOURCE CERTIFICATE]",
             Refusal::Source => "the source can't be read",
             Refusal::Certificate => "the certificate can't be read",
             Refusal::Task => "a task has no rows",
-            Refusal::System => "the words are no text, or the rows can't be written",
+            Refusal::Text => "a text is not written",
+            Refusal::System => "the words are no text, or the output can't be written",
             Refusal::NoMemory => "memory ran out",
         }
     }
