@@ -7,7 +7,7 @@ ghost use Rattle.annot_types.specs.Held.{SigsRise, AllHintsRise};
 ghost use Rattle.annot_types.specs.Holds as h;
 ghost use Rattle.annot_types.specs.Read as a;
 ghost use Rattle.earlier_blocks.specs.Remembers.{Remembers};
-ghost use Rattle.rule_plan.specs.Read.{body_of, ArePlansOf};
+ghost use Rattle.rule_plan.specs.Read.{body_of, ArePlansOf, AreKept};
 ghost use Rattle.cert_check.specs.At.{program_at, IsAt, Tells, sizes_of};
 ghost use Rattle.cert_check.specs.Asking.{all_asks_of};
 ghost use Rattle.cert_check.specs.Finds.{SigsFit, AllFit, asks_by, job, ShapeFinds, BodyFinds};
@@ -94,7 +94,7 @@ fn check_over(
 ) -> Result<Vec<(usize, usize)>, CertFault>
     requires plans { ArePlansOf (program_at at.now) at.now.task.group (h.budget_of at.now.degree (kind_of at.now.task.kind)) plans.now }
     ensures tells { (held : c.Certificate) (blocks : List c.Block) → IsAt at.now held blocks → Remembers (program_at at.now) held.degree blocks at.now.earlier.now →
-        Tells result (ShapeFinds (program_at at.now) held blocks (task_of at.now.task) (map a.sig_of sigs.now) (map a.hints_of hints.now)) }
+        Tells result (BodyFinds (program_at at.now) held blocks (task_of at.now.task) (Solved (map a.sig_of sigs.now) (map a.hints_of hints.now))) }
     ensures sizes { IfOk result (λ sizes. (held : c.Certificate) (blocks : List c.Block) → IsAt at.now held blocks → Remembers (program_at at.now) held.degree blocks at.now.earlier.now →
         sizes.items ≡ sizes_of (job (program_at at.now) held blocks (task_of at.now.task)).bodies) }
 {

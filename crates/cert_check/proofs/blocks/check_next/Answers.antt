@@ -24,7 +24,7 @@ check_there-requires c =
     let t = task_of c.args.block.now.task in
     let is = task_is t (option_map task_of c.args.next) (c.is_scheduled.ensures.0 c.if-is_scheduled.true).0 in
     let low = subst (λ d. budget_of d t.kind ≤ d) c.requires.same (task_is_low (context_of s.results) s.groups s.degree s.work s.done t (sym c.requires.next ∙ is)) in
-    record { low = omega (arith, low, c.requires.degree); last = c.requires.last }
+    record { low = omega (arith, low, c.requires.degree); kept = c.requires.kept }
 
 pub returns-then-is_scheduled-clause-tells : goal.returns-then-is_scheduled-clause-tells
 returns-then-is_scheduled-clause-tells c = λ blocks come n.

@@ -30,7 +30,7 @@ loop-number-init c =
         remembers = c.in-Ok.ensures (program_in kept) held.degree count;
       };
       reduces = λ found h. h;
-      last = search rules;
+      kept = c.requires.kept;
     }
 
 pub returns-in-Err : goal.returns-in-Err
@@ -64,7 +64,7 @@ loop-number-preserved c =
           (c.in_default-check_block.ensures.goes (take k bs) come n));
       reduces = next_block P held xs k d low c.loop-number.invariant.reduces
           (subst (λ b. BlockFinds P held (take k bs) b None) (ap block_of c.index-block.ensures) (c.in_default-check_block.ensures.tells (take k bs) come n));
-      last = c.check_block.ensures.last;
+      kept = c.in_default-check_block.ensures.kept;
     }
 
 pub returns : goal.returns

@@ -1,22 +1,29 @@
-use Rattle.std.proofs.Common.{◌≡◌, ap, ◌∙◌, map}
+use Rattle.std.proofs.Common.{ap, ◌∙◌, subst, map, inl}
 use Rattle.cost_free.specs.Read.{kind_of, task_of}
-use Rattle.annot_types.specs.Certificate as c
+use Rattle.annot_types.specs.Certificate.{Solved}
 use Rattle.annot_types.specs.Holds as h
-use Rattle.std.specs.Prelude.{List}
-use Rattle.earlier_blocks.specs.Remembers.{Remembers}
-use Rattle.rule_plan.specs.Read.{body_of, group_bodies}
-use Rattle.cert_check.specs.At.{program_at, IsAt, sizes_of}
-use Rattle.cert_check.specs.Finds.{job}
-use Rattle.cert_check.proofs.Telling.{if_ok}
+use Rattle.annot_types.specs.Read as a
+use Rattle.rule_plan.specs.Read.{body_of, group_bodies, GroupWithin}
+use Rattle.cert_check.specs.At.{program_at, sizes_of}
+use Rattle.cert_check.specs.Finds.{ShapeFinds, BodyFinds}
+use Rattle.cert_check.proofs.Telling.{if_ok, tells_more}
 use Rattle.cert_check.proofs.planned.check_over.Goals as goal
 
 pub returns-in-Ok-clause-tells : goal.returns-in-Ok-clause-tells
 returns-in-Ok-clause-tells c = λ held blocks is remembers.
     let at = c.args.at.now in
     let P = program_at at in
-    c.check_planned.ensures.tells held blocks is (ap (map body_of) c.deref.ensures.value
-    ∙ c.in-Ok.ensures P at.task.group (h.budget_of at.degree (kind_of at.task.kind)) blocks c.requires.plans remembers.usable
-    ∙ ap (λ d. group_bodies P at.task.group blocks (h.budget_of d (kind_of at.task.kind))) is.degree)
+    let group = at.task.group in
+    let sigs = map a.sig_of c.args.sigs.now in
+    let hints = map a.hints_of c.args.hints.now in
+    let plans = c.requires.plans in
+    let budget = plans.budget_is ∙ ap (λ d. h.budget_of d (kind_of at.task.kind)) is.degree in
+    let within = subst (GroupWithin P group) budget (subst (λ g. GroupWithin P g c.args.plans.now.budget) plans.group_is plans.are.within) in
+    tells_more c.check_planned.result (ShapeFinds P held blocks (task_of at.task) sigs hints) (BodyFinds P held blocks (task_of at.task) (Solved sigs hints))
+    (λ x found. inl (within, found))
+    (c.check_planned.ensures.tells held blocks is (ap (map body_of) c.deref.ensures.value
+    ∙ c.in-Ok.ensures P group (h.budget_of at.degree (kind_of at.task.kind)) blocks plans remembers.usable
+    ∙ ap (λ d. group_bodies P group blocks (h.budget_of d (kind_of at.task.kind))) is.degree))
 
 pub returns-in-Ok-clause-sizes : goal.returns-in-Ok-clause-sizes
 returns-in-Ok-clause-sizes c = if_ok c.check_planned.result _ _ (λ s e held blocks is remembers.

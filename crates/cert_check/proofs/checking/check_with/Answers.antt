@@ -6,7 +6,7 @@ use Rattle.rule_plan.specs.Read.{program_in}
 use Rattle.cert_check.proofs.Walking.{all_use}
 use Rattle.cert_check.proofs.Grouped.{are_there, functions_are}
 use Rattle.cert_check.proofs.Faultless.{no_fault_is_held}
-use Rattle.cert_check.proofs.checking.check.Goals as goal
+use Rattle.cert_check.proofs.checking.check_with.Goals as goal
 
 pub keep-requires : goal.keep-requires
 keep-requires c =
