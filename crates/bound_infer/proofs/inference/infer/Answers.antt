@@ -51,7 +51,7 @@ returns-in-Ok-clause-least g c =
     let g' = c.systems_generate.ensures P c.ordered.ensures c.args.d one.pick in
     let cert = certificate_of c.args.d true (state_of c.in-Ok.run') in
     let certifies = c.courses_certify.ensures A g' c.requires.least_degree c.requires.most_degree cert (c.in-Ok.ensures.ends one.pick one.answers) in
-    if_ok c.ended.result _ _ (λ verified e. subst (λ (x : Checking). AllLeast P x.certificate) (sym e) certifies.least) c.ended.ensures.kept
+    if_ok c.ended.result _ _ (λ verified e. subst (λ (x : Checking). AllLeast P x.certificate) (sym e) certifies.least) c.ended.ensures.certificate
 
 pub returns-in-Ok-clause-fault : goal.returns-in-Ok-clause-fault
 returns-in-Ok-clause-fault g c = if_err c.ended.result _ _

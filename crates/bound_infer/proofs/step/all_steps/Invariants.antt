@@ -6,8 +6,8 @@ use Rattle.bound_infer.specs.After.{Reached}
 use Rattle.bound_infer.specs.Keeping.{state_of, Keeps, analysis_in, ByEach}
 use Rattle.bound_infer.proofs.step.all_steps.Given as goal
 
-abbrev pub invariant-loop-last : goal.invariant-loop-last
-invariant-loop-last g l = Keeps l.program l.d l.run × AreKept (program_in l.program) l.kept × ByEach g.F.Fn l.chooser (λ pick. Reached (analysis_in l.program l.d pick) (state_of l.run))
+abbrev pub invariant-loop : goal.invariant-loop
+invariant-loop g l = Keeps l.program l.d l.run × AreKept (program_in l.program) l.kept × ByEach g.F.Fn l.chooser (λ pick. Reached (analysis_in l.program l.d pick) (state_of l.run))
 
-abbrev pub decreases-loop-last : goal.decreases-loop-last
-decreases-loop-last g l = length (tasks_from (results (program_in l.program)) l.d true 0 (program_in l.program).groups) - length (state_of l.run).blocks
+abbrev pub decreases-loop : goal.decreases-loop
+decreases-loop g l = length (tasks_from (results (program_in l.program)) l.d true 0 (program_in l.program).groups) - length (state_of l.run).blocks

@@ -11,4 +11,4 @@ returns-in-Err-clause-stops g c = λ pick by. c.in-Err.ensures.fault pick
 pub returns-in-Ok-keep-clause-kept : goal.returns-in-Ok-keep-clause-kept
 returns-in-Ok-keep-clause-kept g c =
     let P = program_in c.args.program.now in
-    c.in-Ok-keep.ensures P (c.take-last.ensures.left P c.requires.kept) c.in-Ok-planned.ensures.plans.are
+    c.in-Ok-keep.ensures P (c.take-last.ensures.left P c.requires.kept) c.in-Ok.ensures.plans.are
