@@ -19,11 +19,7 @@ use simple_types::Typed;
 use std::alloc::{AllocError, Global};
 
 /// The rows of each task of a certificate that was tried.
-pub fn rows_of(
-    alloc: Global,
-    typed: &Typed,
-    certificate: &Certificate,
-) -> Result<String, Refusal> {
+pub fn rows_of(alloc: Global, typed: &Typed, certificate: &Certificate) -> Result<String, Refusal> {
     let groups = group_calls(alloc, typed.program())?;
     let program = normalise(alloc, typed, groups)?;
     all_rows(alloc, &program, certificate)
