@@ -1,9 +1,15 @@
 -- What is multiplied by one.
-use Rattle.std.proofs.Common.{◌≡◌, ℕ, ℤ, pos, ◌*ℤ◌, List, [], ◌∷◌, map, refl, ap, arith}
+use Rattle.std.proofs.Common.{◌≡◌, ◌*◌, ◌∙◌, ℕ, ℤ, pos, ◌*ℤ◌, Bool, true, false, cond, List, [], ◌∷◌, map, refl, ap, arith}
 use Rattle.std.proofs.lemmas.Int.{ints}
+use Rattle.cost_free.specs.declared.task.Meter.{Meter}
+use Rattle.cost_free.specs.Task as k
+use Rattle.cost_free.specs.Task.{same_meter}
+use Rattle.cost_free.specs.Blocked.{is_for_meter}
 use Rattle.annot_types.specs.Certificate as c
 use Rattle.annot_types.specs.Certificate.{Entries, Sig, Body, Solved, Refuted, Calls, Block}
-use Rattle.annot_types.specs.Holds.{times, times_sig, times_hint, times_body, times_block}
+use Rattle.annot_types.specs.Holds.{times, times_sig, times_hint, times_body, times_block, raised}
+use Rattle.annot_types.proofs.Raised.{on, off}
+use Rattle.courses.specs.States.{State, raised_scales, raise}
 
 pub one_times : (z : ℤ) → pos 1 *ℤ z ≡ z
 one_times z = grind (arith, ints)
@@ -28,5 +34,22 @@ body_one (Solved sigs hints) = λ i. Solved (map_same (times_sig 1) sig_one sigs
 body_one (Refuted farkas) = refl
 body_one (Calls fun) = refl
 
-pub block_one : (b : Block) → times_block 1 b ≡ b
+block_one : (b : Block) → times_block 1 b ≡ b
 block_one b = λ i. record { task = b.task; body = body_one b.body i }
+
+raised_one : (m : Meter) (b : Block) → raised m 1 b ≡ b
+raised_one m b = by (is_for_meter m b.task.kind) refl
+  where
+    by : (is : Bool) → is_for_meter m b.task.kind ≡ is → raised m 1 b ≡ b
+    by true e = on m 1 b e ∙ block_one b
+    by false e = off m 1 b e
+
+scale_one : (m : Meter) (scales : Meter → ℕ) (other : Meter) → raised_scales (k.With m) 1 scales other ≡ scales other
+scale_one m scales other = by (same_meter m other)
+  where
+    by : (is : Bool) → cond is (1 * scales other) (scales other) ≡ scales other
+    by true = omega arith
+    by false = refl
+
+pub state_one : (m : Meter) (st : State) → raise (k.With m) 1 st ≡ st
+state_one m st = λ i. record { blocks = map_same (raised m 1) (raised_one m) st.blocks i; scales = λ other. scale_one m st.scales other i }

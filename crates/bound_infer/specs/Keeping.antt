@@ -15,7 +15,7 @@ use Rattle.courses.specs.States.{State, start, certificate_of}
 use Rattle.courses.specs.Generator.{Analysis, Stands}
 use Rattle.exact_systems.specs.Analysed.{analysis_of}
 use Rattle.whole_answers.specs.Choosing.{AnswersBy}
-use Rattle.bound_infer.specs.Raised.{NoneOf}
+use Rattle.bound_infer.specs.Raised.{NoneOf, EachFits}
 use Rattle.bound_infer.specs.declared.scales.Scales.{Scales}
 use Rattle.bound_infer.specs.declared.run.Run.{Run}
 
@@ -31,9 +31,10 @@ state_of run = record { blocks = blocks_of run.blocks.items; scales = scales_of 
 abbrev pub first_of : ℕ → Certificate
 first_of d = certificate_of d true start
 
--- The schedule and the tables are those of the blocks.
-abbrev pub Keeps : Kept → ℕ → Run → Type 0
-Keeps kept d run = HasCome kept (first_of d) (blocks_of run.blocks.items) run.schedule run.earlier
+-- The schedule and the tables are those of the blocks, whose numbers are of 128 bits.
+pub record Keeps (kept : Kept) (d : ℕ) (run : Run) : Type 0 where
+  pub come : HasCome kept (first_of d) (blocks_of run.blocks.items) run.schedule run.earlier
+  pub fit : EachFits (blocks_of run.blocks.items)
 
 -- a program that is kept, analysed at degree d
 abbrev pub analysis_in : Kept → ℕ → (List ℤ → ℤ → Option ℕ) → Analysis

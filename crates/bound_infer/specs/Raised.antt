@@ -1,5 +1,6 @@
 -- Blocks of a meter whose numbers can be multiplied.
 use Rattle.std.specs.Prelude.{◌≡◌, ◌<◌, ℕ, List, slice_get, Some}
+use Rattle.std.specs.List.{All}
 use Rattle.cost_free.specs.declared.task.Meter.{Meter}
 use Rattle.annot_types.specs.Certificate.{Block}
 use Rattle.courses.specs.Places.{BodyFits, IsOfMeter}
@@ -7,6 +8,10 @@ use Rattle.courses.specs.Places.{BodyFits, IsOfMeter}
 -- the numbers of each solved block of the meter, t times, are of 128 bits
 abbrev pub AllFit : Meter → ℕ → List Block → Type 0
 AllFit meter t bs = (place : ℕ) (block : Block) → slice_get bs place ≡ Some block → IsOfMeter meter block → BodyFits t block.body
+
+-- the numbers of each block are of 128 bits
+abbrev pub EachFits : List Block → Type 0
+EachFits bs = All (λ b. BodyFits 1 b.body) bs
 
 -- the block at this place is the first whose are not
 pub record FirstUnfit (meter : Meter) (t : ℕ) (bs : List Block) (place : ℕ) : Type 0 where

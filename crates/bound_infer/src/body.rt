@@ -7,7 +7,6 @@ ghost use Rattle.courses.specs.Places.{BodyFits};
 
 use crate::factor::Factor;
 use crate::fault::TimesFault;
-use crate::fitting::body_fits;
 use crate::sigs::{times_all_hints, times_sigs};
 use annot_types::{Block, BlockBody, Hint, Sig};
 use std::alloc::Global;
@@ -41,10 +40,6 @@ pub(crate) fn multiply(alloc: Global, block: &mut Block, factor: &Factor) -> Res
     ensures fit { OnOk result (BodyFits factor.now (body_of block.old.body)) }
     ensures leaves { result ≡ Err TimesFault.Leaves → BodyFits factor.now (body_of block.old.body) → ⊥ }
 {
-    if factor.is_one() {
-        body_fits(&block.body);
-        return Ok(());
-    }
     match &block.body {
         BlockBody::Solved { sigs, hints } => match times_solved(alloc, sigs, hints, factor) {
             Ok(body) => {

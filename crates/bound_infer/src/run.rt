@@ -17,6 +17,7 @@ ghost use Rattle.cert_check.specs.Finds.{schedule, next_after, GoesOn};
 ghost use Rattle.courses.specs.States.{start, with_block};
 ghost use Rattle.bound_infer.specs.Keeping.{state_of, first_of, Keeps};
 
+use crate::fitting::body_fits;
 use crate::kinds::members;
 use crate::scales::Scales;
 use annot_types::{Block, BlockBody};
@@ -157,6 +158,7 @@ pub(crate) fn push(
     ensures keeps { OnOk result (Keeps program.now d run.new) }
     ensures state { OnOk result (state_of run.new ≡ with_block (task_of block.task) (a.body_of block.body) (state_of run.old)) }
 {
+    body_fits(&block.body);
     note(
         alloc,
         program,

@@ -67,6 +67,9 @@ fn raise_meter(
 {
     let _value = factor.value();
     let scale = run.scales.of_meter(meter).value();
+    if factor.is_one() {
+        return Ok(());
+    }
     match raise(alloc, &mut run.blocks, meter, scale, factor) {
         Err(fault) => Err(rescale(task, fault)),
         Ok(product) => {

@@ -12,12 +12,12 @@ use base_poly::{IndexFault, indices};
 use cost_free::{Task, TaskKind};
 use raml_syntax::{FunId, Ty};
 use std::alloc::{AllocError, Global};
+use std::slice;
 
 fn ty_has_more(alloc: Global, ty: &Ty, degree: u8) -> Result<bool, AllocError>
     ensures { IfOk result (λ more. more ≡ has_more 2000 degree (Some (ty_of ty.now))) }
 {
-    let types = vec![in alloc; ty.copy(alloc)?]?;
-    match indices(alloc, &types, degree, 2000) {
+    match indices(alloc, slice::from_ref(ty), degree, 2000) {
         Ok(_) => Ok(false),
         Err(IndexFault::TooMany) => Ok(true),
         Err(IndexFault::NoMemory) => Err(AllocError),

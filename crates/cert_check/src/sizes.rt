@@ -21,6 +21,7 @@ use earlier_blocks::Earlier;
 use raml_syntax::{FunId, Ty};
 use share_normal::NormProgram;
 use std::alloc::{AllocError, Global};
+use std::slice;
 
 // How many tuples of degree at most `d` there are. So many that they are not counted have no room in memory.
 fn size(alloc: Global, types: &[Ty], d: u8) -> Result<usize, AllocError>
@@ -44,8 +45,7 @@ fn args_size(alloc: Global, params: &[(u32, Ty)], d: u8) -> Result<usize, AllocE
 fn result_size(alloc: Global, ty: &Ty, d: u8) -> Result<usize, AllocError>
     ensures { IfOk result (λ size. size ≡ size_of (ty_of ty.now ∷ []) d) }
 {
-    let types = vec![in alloc; ty.copy(alloc)?]?;
-    size(alloc, &types, d)
+    size(alloc, slice::from_ref(ty), d)
 }
 
 // Those of a function; none where there is no such function.

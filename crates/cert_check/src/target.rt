@@ -19,6 +19,7 @@ use base_poly::{Tuple, degrees, indices};
 use cost_free::{Target, targets};
 use raml_syntax::{FunId, Ty};
 use std::alloc::{AllocError, Global};
+use std::slice;
 
 /// A target, and the tuples of its type at a budget, at most 2000.
 #[derive(Drop)]
@@ -62,8 +63,7 @@ pub fn place_of(functions: &[FunId], fun: FunId) -> usize
 pub fn tuple_count(alloc: Global, ty: &Ty, degree: u8) -> Result<usize, AllocError>
     ensures { IfOk result (λ count. count ≡ length (index_list (ty_of ty.now ∷ []) degree)) }
 {
-    let types = vec![in alloc; ty.copy(alloc)?]?;
-    match degrees(alloc, &types, degree, usize::MAX) {
+    match degrees(alloc, slice::from_ref(ty), degree, usize::MAX) {
         Ok(found) => Ok(found.len()),
         Err(_) => Err(AllocError),
     }
@@ -98,8 +98,7 @@ fn all_tuples(alloc: Global, ty: &Ty, budget: u8) -> Result<Vec<Tuple>, AllocErr
     ensures all { IfOk result (λ all. all.items ≡ index_list (ty_of ty.now ∷ []) budget) }
     ensures few { IfOk result (λ all. AreFew all.items) }
 {
-    let types = vec![in alloc; ty.copy(alloc)?]?;
-    match indices(alloc, &types, budget, 2000) {
+    match indices(alloc, slice::from_ref(ty), budget, 2000) {
         Ok(all) => Ok(all),
         Err(_) => Err(AllocError),
     }

@@ -1,9 +1,10 @@
 -- Terms that ascend: where an unknown stands, and what an edit there does.
 use Rattle.std.proofs.Common.{◌≡◌, refl, ap, sym, ◌∙◌, arith, subst, append-nil, append_assoc}
-use Rattle.std.specs.Prelude.{ℕ, zero, suc, ◌+◌, ◌-◌, ◌*◌, ◌^◌, ◌<◌, ◌≤◌, ◌≢◌, ◌==◌, if◌then◌else◌, cond, nat_lt, Bool, true, false, [], ◌∷◌, ◌++◌, length, set, slice_index_or, Result, Ok, Err, IfOk, IfErr}
-use Rattle.std.specs.List.{insert}
+use Rattle.std.specs.Prelude.{ℕ, zero, suc, ◌+◌, ◌-◌, ◌*◌, ◌^◌, ◌<◌, ◌≤◌, ◌≢◌, ◌==◌, if◌then◌else◌, cond, nat_lt, Bool, true, false, [], ◌∷◌, ◌++◌, length, set, take, drop, List, slice_index_or, Result, Ok, Err, IfOk, IfErr}
+use Rattle.std.specs.List.{insert, refill}
 use Rattle.std.specs.List.Sorted.{IsSearchInRange, IsBinarySearchResult, IsNonDecreasingBy}
 use Rattle.std.specs.Ordering.{nat_cmp, ordering_index}
+use Rattle.std.proofs.Math.Seq.{take-append_seam}
 use Rattle.std.proofs.lemmas.Cmp.{ranked}
 use Rattle.std.proofs.lemmas.List.Sorted.{IsNonDecreasingBy-from_default}
 use Rattle.std.proofs.lemmas.List.Edits.{length-insert, get_or-insert_below, get_or-insert_at, get_or-insert_above}
@@ -172,6 +173,10 @@ scaled_at : (n : ℕ) (ts : Terms) (i : ℕ) → i < length ts → slice_index_o
 scaled_at n [] i b = absurd (omega (arith, b))
 scaled_at n (t ∷ ts) zero b = refl
 scaled_at n (t ∷ ts) (suc i) b = scaled_at n ts i (omega (arith, b))
+
+-- as many items in the place of a list's are what is left there
+pub refill_same : {X : Type 0} (n : ℕ) (xs ws : List X) → length ws ≡ n → refill n xs ws ≡ ws
+refill_same n xs ws e = subst (λ m. take m (ws ++ drop (length ws) xs) ≡ ws) e (take-append_seam ws (drop (length ws) xs))
 
 pub sum_scaled : (n : ℕ) (ts : Terms) → IsSum ts → IsSum (scaled n ts)
 sum_scaled n ts sum =

@@ -6,14 +6,16 @@ ghost use Rattle.constraint_gen.specs.Sums.{total_of, sums, IsSum};
 
 use crate::sum::{add_all, multiple, number_in};
 use rule_walk::Kind;
+use smallvec::SmallVec;
 use std::alloc::{AllocError, Global};
 use std::marker::Model;
 
 /// A sum of unknowns, each so many times, and of a number, less the prices that were taken from it. A
-/// number that would leave 128 bits stands at the greatest one.
+/// number that would leave 128 bits stands at the greatest one. Most have one unknown, which needs no
+/// memory of its own.
 #[derive(Drop)]
 pub struct Form {
-    terms: Vec<(u32, u128)>,
+    terms: SmallVec<(u32, u128), 1>,
     plus: u128,
     minus: u128,
 }
@@ -34,7 +36,7 @@ impl Form {
         ensures { IfOk result (λ f. f ≡ s.unknown unknown) }
     {
         Ok(Form {
-            terms: vec![in alloc; (unknown, 1)]?,
+            terms: SmallVec::from_slice(alloc, &[(unknown, 1)])?,
             plus: 0,
             minus: 0,
         })
@@ -45,14 +47,14 @@ impl Form {
         ensures terms { result.now ≡ self.now.terms }
         ensures sum { IsSum self.now.terms }
     {
-        &self.terms
+        self.terms.as_slice()
     }
 
     /// How often an unknown is taken.
     pub fn coefficient(&self, unknown: u32) -> u128
         ensures { result ≡ cap (total_of unknown self.now.terms) }
     {
-        number_in(&self.terms, unknown)
+        number_in(self.terms.as_slice(), unknown)
     }
 
     /// The number.
@@ -75,7 +77,7 @@ impl Kind for Form {
 
     fn none(alloc: Global) -> Form {
         Form {
-            terms: Vec::new(alloc),
+            terms: SmallVec::new(alloc),
             plus: 0,
             minus: 0,
         }
@@ -83,7 +85,7 @@ impl Kind for Form {
 
     fn number(alloc: Global, n: u32, scale: u128) -> Form {
         Form {
-            terms: Vec::new(alloc),
+            terms: SmallVec::new(alloc),
             plus: u128::from(n).saturating_mul(scale),
             minus: 0,
         }
@@ -91,7 +93,7 @@ impl Kind for Form {
 
     fn copy(&self, alloc: Global) -> Result<Form, AllocError> {
         Ok(Form {
-            terms: Vec::from_slice(alloc, &self.terms)?,
+            terms: SmallVec::from_slice(alloc, self.terms.as_slice())?,
             plus: self.plus,
             minus: self.minus,
         })
@@ -99,7 +101,7 @@ impl Kind for Form {
 
     fn add(&mut self, times: u64, other: &Form) -> Result<(), AllocError> {
         let factor = u128::from(times);
-        add_all(&mut self.terms, factor, &other.terms)?;
+        add_all(&mut self.terms, factor, other.terms.as_slice())?;
         self.plus = self.plus.saturating_add(factor.saturating_mul(other.plus));
         self.minus = self
             .minus
@@ -109,7 +111,7 @@ impl Kind for Form {
 
     fn multiple(&self, alloc: Global, times: u128) -> Result<Form, AllocError> {
         Ok(Form {
-            terms: multiple(alloc, &self.terms, times)?,
+            terms: multiple(alloc, self.terms.as_slice(), times)?,
             plus: times.saturating_mul(self.plus),
             minus: times.saturating_mul(self.minus),
         })

@@ -3,6 +3,7 @@ ghost use Rattle.std.specs.Prelude.{◌≡◌, IfOk, IfErr, OnOk};
 ghost use Rattle.walk_rules.specs.Capped.{cap};
 ghost use Rattle.constraint_gen.specs.Sums.{total_of, put, put_all, scaled, IsSum, IsAt, IsGapFor};
 
+use smallvec::SmallVec;
 use std::alloc::{AllocError, Global};
 
 // Where the term of an unknown is, or where it would go.
@@ -26,13 +27,18 @@ pub fn number_in(terms: &[(u32, u128)], unknown: u32) -> u128
 }
 
 // An unknown is taken so many times more.
-fn add_term(terms: &mut Vec<(u32, u128)>, unknown: u32, times: u128) -> Result<(), AllocError>
+fn add_term(
+    terms: &mut SmallVec<(u32, u128), 1>,
+    unknown: u32,
+    times: u128,
+) -> Result<(), AllocError>
     requires sum { IsSum terms.old.items }
     ensures sum { IsSum terms.new.items }
     ensures put { OnOk result (terms.new.items ≡ put unknown times terms.old.items) }
 {
-    match search(terms, unknown) {
+    match search(terms.as_slice(), unknown) {
         Ok(place) => {
+            let terms = terms.as_mut_slice();
             let number = terms[place].1.saturating_add(times);
             terms[place] = (unknown, number);
             Ok(())
@@ -46,7 +52,7 @@ fn add_term(terms: &mut Vec<(u32, u128)>, unknown: u32, times: u128) -> Result<(
 
 /// A multiple of all terms of another sum is added.
 pub fn add_all(
-    terms: &mut Vec<(u32, u128)>,
+    terms: &mut SmallVec<(u32, u128), 1>,
     factor: u128,
     others: &[(u32, u128)],
 ) -> Result<(), AllocError>
@@ -65,12 +71,12 @@ pub fn multiple(
     alloc: Global,
     terms: &[(u32, u128)],
     factor: u128,
-) -> Result<Vec<(u32, u128)>, AllocError>
+) -> Result<SmallVec<(u32, u128), 1>, AllocError>
     requires sum { IsSum terms.now }
     ensures sum { IfOk result (λ made. IsSum made.items) }
     ensures scaled { IfOk result (λ made. made.items ≡ scaled factor terms.now) }
 {
-    let mut made = Vec::with_capacity(alloc, terms.len())?;
+    let mut made = SmallVec::with_capacity(alloc, terms.len())?;
     for term in terms {
         made.push((term.0, factor.saturating_mul(term.1)))?;
     }

@@ -29,6 +29,7 @@ use raml_syntax::{FunId, Ty};
 use rule_walk::Mode;
 use share_normal::NormProgram;
 use std::alloc::{AllocError, Global};
+use std::slice;
 
 /// The budget of a task, at degree `d`.
 pub fn budget_of(d: u8, kind: TaskKind) -> u8
@@ -83,15 +84,15 @@ fn arguments(alloc: Global, program: &NormProgram<'_>, fun: FunId) -> Result<Vec
     Ok(made)
 }
 
-// The type of its result.
-fn result_types(alloc: Global, program: &NormProgram<'_>, fun: FunId) -> Result<Vec<Ty>, AllocError>
-    ensures { IfOk result (λ made. context_of made.items ≡ result_of (slice_get (program_in program.now).funs fun.0)) }
+// The type of its result, alone.
+fn result_types<'p>(program: &'p NormProgram<'_>, fun: FunId) -> &'p [Ty]
+    ensures { context_of result.now ≡ result_of (slice_get (program_in program.now).funs fun.0) }
 {
     let place = fun.0 as usize;
     if place >= program.functions().len() || place >= program.results().len() {
-        return Ok(Vec::new(alloc));
+        return &[];
     }
-    Ok(vec![in alloc; program.results()[place].copy(alloc)?]?)
+    slice::from_ref(&program.results()[place])
 }
 
 // The tuples of a context at a budget.
@@ -186,8 +187,7 @@ fn append_signature(
     let types = arguments(alloc, program, fun)?;
     let all = all_degrees(alloc, &types, budget)?;
     append_weights(weights, &types, &all, budget)?;
-    let result = result_types(alloc, program, fun)?;
-    let count = all_degrees(alloc, &result, budget)?.len();
+    let count = all_degrees(alloc, result_types(program, fun), budget)?.len();
     append_times(weights, 0, count)?;
     Ok(())
 }
@@ -280,8 +280,8 @@ fn positions_of(
 ) -> Result<Vec<usize>, AllocError>
     ensures { IfOk result (λ found. found.items ≡ positions_of d budget number (slice_get (program_in program.now).funs fun.0)) }
 {
-    let types = result_types(alloc, program, fun)?;
-    let found = positions_in(alloc, &types, d, budget, number)?;
+    let types = result_types(program, fun);
+    let found = positions_in(alloc, types, d, budget, number)?;
     Ok(found)
 }
 

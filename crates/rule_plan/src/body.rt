@@ -30,6 +30,7 @@ use raml_syntax::{FunId, Ty};
 use rule_walk::{Ask, Hint, Judge, Kind, Known, Mode, Plan, Usage, asked, walk_body};
 use share_normal::{NormFuns, NormProgram};
 use std::alloc::{AllocError, Global};
+use std::slice;
 
 /// The plan of a function's body, and how many positions its arguments and its result have.
 #[derive(Drop)]
@@ -196,11 +197,10 @@ fn with_plan(env: &Env<'_>, function: &NormFun, ty: &Ty) -> Result<FunctionPlan,
     ensures { IfOk result (λ made. IsBody (given_of env.now) (Some (fun_of ty.now function.now)) made) }
 {
     let types = context::types(env.alloc, &function.params)?;
-    let alone = context::alone(env.alloc, ty)?;
     let made = plans(env, &function.body, &function.params, ty)?;
     let plan = greatest(made)?;
     let args = size(env.alloc, &types, env.top)?;
-    let result = size(env.alloc, &alone, env.top)?;
+    let result = size(env.alloc, slice::from_ref(ty), env.top)?;
     Ok(FunctionPlan { plan, args, result })
 }
 

@@ -26,6 +26,7 @@ use index_shift::Entry;
 use raml_syntax::{FunId, Ty};
 use rule_walk::{Called, Plan};
 use std::alloc::{AllocError, Global};
+use std::slice;
 
 /// Of a call, what is made once for all budgets: the function, its place in the group, how many
 /// positions its arguments and the result have at each budget from 0 on, the types of the context, and
@@ -150,15 +151,15 @@ fn made_once(
     ensures { IfOk result (λ made. IsCallee (given_of env.now) (parameters_of context.now) fun.0 args.now (ty_of ty.now) made) }
 {
     let parameters = args_of(env, fun)?;
-    let result = context::alone(env.alloc, ty)?;
+    let result = slice::from_ref(ty);
     Ok(Callee {
         function: fun.0 as usize,
         own: place_in(env.group, fun),
         args: sizes(env.alloc, &parameters, env.top)?,
         context: context::types(env.alloc, context)?,
-        result: sizes(env.alloc, &result, env.top)?,
+        result: sizes(env.alloc, result, env.top)?,
         operands: operand_entries(env.alloc, context, args, &parameters, env.top)?,
-        same: same_entries(env.alloc, &result, env.top)?,
+        same: same_entries(env.alloc, result, env.top)?,
     })
 }
 

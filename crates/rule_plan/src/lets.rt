@@ -20,13 +20,14 @@ use crate::called::at_budget;
 use crate::context;
 use crate::entries::{picked, placed, restricted};
 use crate::free::marks;
-use crate::tuples::{half_spots, joined_spots, size, sizes};
+use crate::tuples::{half_spots, joined_spots, sizes};
 use index_shift::Entry;
 use normal_form::NormExpr;
 use raml_syntax::Ty;
 use rule_walk::{Part, Parts, Plan, Step};
 use std::alloc::{AllocError, Global};
 use std::rc::Rc;
+use std::slice;
 use tuple_ranks::Joined;
 
 /// A tuple of the variables that the bound form does not use, at the greatest budget: its degree, the
@@ -201,24 +202,22 @@ fn seams(
     Ok(found)
 }
 
-// The same from the types alone.
+// The same from the types alone, where what the bound form uses and the rest have so many positions.
 fn seams_of(
     alloc: Global,
     a: &NormExpr,
     context: &[(u32, Ty)],
-    inner: &[Ty],
+    inner: usize,
+    rest: usize,
     outer: &[Ty],
     bound: &[Ty],
-    rest: &[Ty],
     top: u8,
 ) -> Result<Vec<Seam>, AllocError>
     ensures { IfOk result (λ found. map seam_of found.items ≡ seams_from (seam_at
         (half_spots (marks (norm_of a.now) (parameters_of context.now)) (types (parameters_of context.now)) top)
-        (size_of (context_of inner.now) top) (size_of (context_of rest.now) top)) 0 (joined_spots (context_of outer.now) (context_of bound.now) top)) }
+        inner rest) 0 (joined_spots (context_of outer.now) (context_of bound.now) top)) }
 {
     let halves = halves_of(alloc, a, context, top)?;
-    let inner = size(alloc, inner, top)?;
-    let rest = size(alloc, rest, top)?;
     let joined = joined_spots(alloc, outer, bound, top)?;
     seams(alloc, &halves, inner, rest, &joined)
 }
@@ -268,9 +267,11 @@ pub fn cut_let(
     let whole = context::types(alloc, context)?;
     let inner = context::types(alloc, inner)?;
     let outer = context::types(alloc, outer)?;
-    let bound = context::alone(alloc, bound)?;
+    let bound = slice::from_ref(bound);
     let rest = context::types(alloc, rest)?;
-    let sizes = sizes_of(alloc, &whole, &inner, &outer, &bound, &rest, top)?;
-    let seams = seams_of(alloc, a, context, &inner, &outer, &bound, &rest, top)?;
+    let sizes = sizes_of(alloc, &whole, &inner, &outer, bound, &rest, top)?;
+    let used = at_budget(&sizes.inner, top as usize);
+    let left = at_budget(&sizes.rest, top as usize);
+    let seams = seams_of(alloc, a, context, used, left, &outer, bound, top)?;
     Ok(Cut { sizes, seams })
 }

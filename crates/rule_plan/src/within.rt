@@ -13,6 +13,7 @@ use base_poly::{IndexFault, degrees};
 use normal_form::{NormExpr, NormForm};
 use raml_syntax::Ty;
 use std::alloc::Global;
+use std::slice;
 
 /// The most indices that a context or a type may have.
 pub const MOST: usize = 2000;
@@ -35,7 +36,7 @@ fn small(alloc: Global, context: &[(u32, Ty)], ty: &Ty, d: u8) -> Result<(), Pla
     ensures many { IsErrOf result PlanFault.TooMany → AreSmall 2000 (parameters_of context.now) (ty_of ty.now) d → ⊥ }
 {
     few(alloc, &context::types(alloc, context)?, d)?;
-    few(alloc, &context::alone(alloc, ty)?, d)
+    few(alloc, slice::from_ref(ty), d)
 }
 
 /// A walk through the form from this context comes to small contexts and types alone.

@@ -1,19 +1,9 @@
 use Rattle.std.proofs.Common.{Err, ap, sym, ◌∙◌, subst, map}
 use Rattle.annot_types.specs.Certificate.{Solved}
-use Rattle.annot_types.specs.Holds.{times_block}
-use Rattle.annot_types.specs.Read.{sig_of, hints_of, body_of, block_of}
+use Rattle.annot_types.specs.Read.{sig_of, hints_of, body_of}
 use Rattle.courses.specs.Places.{BodyFits}
 use Rattle.bound_infer.proofs.Mapped.{same_fault}
-use Rattle.bound_infer.proofs.Ones.{block_one}
 use Rattle.bound_infer.proofs.body.multiply.Goals as goal
-
-pub returns-then-is_one-clause-made : goal.returns-then-is_one-clause-made
-returns-then-is_one-clause-made c =
-    let b = block_of c.args.block.now in
-    sym (ap (λ t. times_block t b) (c.is_one.ensures.0 c.if-is_one.true) ∙ block_one b)
-
-pub returns-then-is_one-clause-fit : goal.returns-then-is_one-clause-fit
-returns-then-is_one-clause-fit c = subst (λ t. BodyFits t (body_of c.args.block.now.body)) (sym (c.is_one.ensures.0 c.if-is_one.true)) c.body_fits.ensures
 
 pub returns-in-Ok-clause-fit : goal.returns-in-Ok-clause-fit
 returns-in-Ok-clause-fit c = subst (BodyFits c.args.factor.now) ((λ i. Solved (map sig_of (c.deref.ensures.value i)) (map hints_of (c.deref-in-Solved.ensures.value i))) ∙ ap body_of (sym c.in-Solved.is)) c.in-Ok.ensures.fit

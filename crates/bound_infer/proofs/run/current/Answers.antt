@@ -14,7 +14,7 @@ returns-clause-next c =
     let count : length kept.results ≡ length kept.functions =
     ap length (sym c.results-results.ensures.results) ∙ c.results-results.ensures.count
     ∙ sym (ap length (sym c.functions-functions.ensures.functions) ∙ c.functions-functions.ensures.count) in
-    if_ok c.current.result _ _ (λ task e. e ∙ next_there kept count (first_of c.args.d) (blocks_of run.blocks.items) run.schedule run.earlier c.requires.keeps) c.current.ensures.next
+    if_ok c.current.result _ _ (λ task e. e ∙ next_there kept count (first_of c.args.d) (blocks_of run.blocks.items) run.schedule run.earlier c.requires.keeps.come) c.current.ensures.next
 
 pub returns-clause-goes_on : goal.returns-clause-goes_on
 returns-clause-goes_on c =
@@ -23,7 +23,7 @@ returns-clause-goes_on c =
     let count : length kept.results ≡ length kept.functions =
     ap length (sym c.results-results.ensures.results) ∙ c.results-results.ensures.count
     ∙ sym (ap length (sym c.functions-functions.ensures.functions) ∙ c.functions-functions.ensures.count) in
-    on_ok_weaker c.current.result (λ f. goes_there kept count (first_of c.args.d) (blocks_of run.blocks.items) run.schedule run.earlier c.requires.keeps f) c.current.ensures.fits
+    on_ok_weaker c.current.result (λ f. goes_there kept count (first_of c.args.d) (blocks_of run.blocks.items) run.schedule run.earlier c.requires.keeps.come f) c.current.ensures.fits
 
 pub returns-clause-many : goal.returns-clause-many
 returns-clause-many c = λ e.
@@ -33,4 +33,4 @@ returns-clause-many c = λ e.
     let count : length kept.results ≡ length kept.functions =
     ap length (sym c.results-results.ensures.results) ∙ c.results-results.ensures.count
     ∙ sym (ap length (sym c.functions-functions.ensures.functions) ∙ c.functions-functions.ensures.count) in
-    refused_is kept count c.args.d bs run.schedule run.earlier c.requires.keeps (c.current.ensures.many e)
+    refused_is kept count c.args.d bs run.schedule run.earlier c.requires.keeps.come (c.current.ensures.many e)

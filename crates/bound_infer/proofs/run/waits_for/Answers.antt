@@ -17,5 +17,5 @@ returns c =
     ∙ sym (ap length (sym c.functions-functions.ensures.functions) ∙ c.functions-functions.ensures.count) in
     c.blocked.ensures
     ∙ (λ i. blocked ((c.groups.ensures.groups i).list) ((c.groups.ensures.groups i).calls) task (c.done.ensures i))
-    ∙ blocker_there kept count (first_of c.args.d) (blocks_of run.blocks.items) run.schedule run.earlier c.requires.keeps (norm_in kept) refl c.functions-functions.ensures.norm
+    ∙ blocker_there kept count (first_of c.args.d) (blocks_of run.blocks.items) run.schedule run.earlier c.requires.keeps.come (norm_in kept) refl c.functions-functions.ensures.norm
     c.groups.ensures.grouping.calls task

@@ -7,12 +7,16 @@ use Rattle.annot_types.specs.Read.{blocks_of}
 use Rattle.earlier_blocks.specs.Raised.{NonePasses}
 use Rattle.earlier_blocks.specs.Remembers.{Remembers}
 use Rattle.rule_plan.specs.Read.{program_in}
+use Rattle.cost_free.specs.Task.{Kind}
+use Rattle.whole_numbers.specs.Wholes.{most}
 use Rattle.courses.specs.Places.{RescaleLeaves}
 use Rattle.courses.specs.States.{raise as raise_state}
-use Rattle.bound_infer.specs.Raised.{AllFit}
+use Rattle.bound_infer.specs.Raised.{AllFit, EachFits}
 use Rattle.bound_infer.specs.Keeping.{state_of}
 use Rattle.bound_infer.proofs.Kept.{still_come, scales_raised, raised_count}
+use Rattle.bound_infer.proofs.Ones.{state_one}
 use Rattle.bound_infer.proofs.Passing.{none_passes}
+use Rattle.bound_infer.proofs.Staying.{fits_at, each_raised}
 use Rattle.bound_infer.proofs.solved.raise_meter.Goals as goal
 
 positive : (t s : ℕ) (z : ℤ) → 0 < t → 0 < s → z ≡ pos t *ℤ pos s → pos 0 <ℤ z
@@ -23,6 +27,20 @@ natural t s z e = ap unsigned_abs e ∙ same t s
   where
     same : (t s : ℕ) → unsigned_abs (pos t *ℤ pos s) ≡ t * s
     same t s = grind (arith, ints)
+
+pub returns-then-is_one-clause-state : goal.returns-then-is_one-clause-state
+returns-then-is_one-clause-state c =
+    let one = c.is_one.ensures.0 c.if-is_one.true in
+    let st = state_of c.args.run.now in
+    sym ((λ i. raise_state (c.requires.kind i) (one i) st) ∙ state_one c.args.meter st)
+
+pub returns-then-is_one-clause-fit : goal.returns-then-is_one-clause-fit
+returns-then-is_one-clause-fit c = λ place leaves.
+    let one = c.is_one.ensures.0 c.if-is_one.true in
+    let st = state_of c.args.run.now in
+    let l = subst (λ (x : Kind × ℕ). RescaleLeaves x.0 x.1 st place) (λ i. (c.requires.kind i, one i)) leaves in
+    let scale : 1 * st.scales c.args.meter < most = omega (arith, c.value-scale.ensures.fits, c.of_meter.ensures) in
+    l.leaves (record { numbers = fits_at st.blocks place l.block c.requires.keeps.fit l.there; scale = scale })
 
 pub new-requires : goal.new-requires
 new-requires c =
@@ -52,9 +70,11 @@ returns-in-Ok-clause-keeps c =
     let e : blocks_of c.raise.new.blocks ≡ map (raised meter t) bs = c.in-Ok.ensures.raised ∙ ap (map (raised meter t)) seen in
     let count = raised_count meter t run.blocks.items c.raise.new.blocks e in
     let back = with_items_is run.blocks c.raise.new.blocks (omega (arith, count)) in
-    still_come kept c.args.d meter t bs _ run.schedule run.earlier c.raise-in-Ok.new.self (ap blocks_of back ∙ e) c.requires.keeps
+    let each = subst (AllFit meter t) seen c.in-Ok.ensures.each in
+    let come = still_come kept c.args.d meter t bs _ run.schedule run.earlier c.raise-in-Ok.new.self (ap blocks_of back ∙ e) c.requires.keeps.come
     (subst (λ n. NonePasses P meter n bs → Remembers P c.args.d bs run.earlier → Remembers P c.args.d (map (raised meter n) bs) c.raise-in-Ok.new.self) c.size.ensures (c.raise-in-Ok.ensures.remembers P c.args.d bs)
-    (none_passes P meter t bs (subst (AllFit meter t) seen c.in-Ok.ensures.each)))
+    (none_passes P meter t bs each)) in
+    record { come = come; fit = subst EachFits (sym (ap blocks_of back ∙ e)) (each_raised meter t bs each c.requires.keeps.fit) }
 
 pub returns-in-Ok-clause-state : goal.returns-in-Ok-clause-state
 returns-in-Ok-clause-state c =

@@ -12,7 +12,7 @@ returns-clause-sigs c =
     let task = task_of c.args.task.now in
     let run = c.args.run.now in
     let same = ap (map body_of) c.deref.ensures.value
-    ∙ c.in_ok-bodies.ensures (program_in c.args.program.now) task.group (budget_of c.args.d task.kind) (blocks_of run.blocks.items) c.requires.plans c.requires.keeps.remembers.usable in
+    ∙ c.in_ok-bodies.ensures (program_in c.args.program.now) task.group (budget_of c.args.d task.kind) (blocks_of run.blocks.items) c.requires.plans c.requires.keeps.come.remembers.usable in
     if_ok c.told_by.result _ _ (λ told h. h ∙ ap (λ bs. sigs_told bs (map unsigned_abs c.args.numbers.now)) same) c.told_by.ensures.sigs
 
 pub returns-clause-hints : goal.returns-clause-hints
@@ -20,5 +20,5 @@ returns-clause-hints c =
     let task = task_of c.args.task.now in
     let run = c.args.run.now in
     let same = ap (map body_of) c.deref.ensures.value
-    ∙ c.in_ok-bodies.ensures (program_in c.args.program.now) task.group (budget_of c.args.d task.kind) (blocks_of run.blocks.items) c.requires.plans c.requires.keeps.remembers.usable in
+    ∙ c.in_ok-bodies.ensures (program_in c.args.program.now) task.group (budget_of c.args.d task.kind) (blocks_of run.blocks.items) c.requires.plans c.requires.keeps.come.remembers.usable in
     if_ok c.told_by.result _ _ (λ told h. h ∙ ap (λ bs. hints_told bs (map unsigned_abs c.args.numbers.now)) same) c.told_by.ensures.hints

@@ -13,7 +13,7 @@ system-requires-clause-plans g c =
     let task = task_of c.args.task.now in
     let run = c.args.run.now in
     ap (map body_of) c.deref.ensures.value
-    ∙ c.in-Ok.ensures (program_in c.args.program.now) task.group (budget_of c.args.d task.kind) (blocks_of run.blocks.items) c.requires.plans c.requires.keeps.remembers.usable
+    ∙ c.in-Ok.ensures (program_in c.args.program.now) task.group (budget_of c.args.d task.kind) (blocks_of run.blocks.items) c.requires.plans c.requires.keeps.come.remembers.usable
 
 pub returns-in-Err-clause-fault : goal.returns-in-Err-clause-fault
 returns-in-Err-clause-fault g c = λ pick by. c.in-Err.ensures.fault pick

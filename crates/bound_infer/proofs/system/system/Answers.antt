@@ -15,7 +15,7 @@ returns-in-Ok-clause-few c =
     let st = state_of c.args.run.now in
     let task = task_of c.args.task.now in
     let is = c.tried_are_tasks.ensures A c.requires.ordered st task (c.requires.stands (λ ns n. None)) in
-    let m = c.in-Ok.ensures.made st.blocks c.requires.keeps.remembers c.requires.plans (subst (IsTask P c.args.d st.blocks task) (sym c.of_kind-scale.ensures) is) in
+    let m = c.in-Ok.ensures.made st.blocks c.requires.keeps.come.remembers c.requires.plans (subst (IsTask P c.args.d st.blocks task) (sym c.of_kind-scale.ensures) is) in
     omega (arith, m.unknowns, m.rows)
 
 pub returns-in-Ok-clause-made : goal.returns-in-Ok-clause-made
@@ -26,7 +26,7 @@ returns-in-Ok-clause-made c = λ pick.
     let task = task_of c.args.task.now in
     let is = c.tried_are_tasks.ensures A c.requires.ordered st task (c.requires.stands pick) in
     let m = subst (λ n. IsMade P c.args.d st.blocks task n c.in-Ok.made) c.of_kind-scale.ensures
-    (c.in-Ok.ensures.made st.blocks c.requires.keeps.remembers c.requires.plans (subst (IsTask P c.args.d st.blocks task) (sym c.of_kind-scale.ensures) is)) in
+    (c.in-Ok.ensures.made st.blocks c.requires.keeps.come.remembers c.requires.plans (subst (IsTask P c.args.d st.blocks task) (sym c.of_kind-scale.ensures) is)) in
     record { is = m.is; fine = rows_are_fine A (c.limits_are_told.ensures P c.args.d) st task c.in-Ok.made c.rows-rows.ensures.sound m }
 
 pub returns-in-Err-clause-fault : goal.returns-in-Err-clause-fault
@@ -39,6 +39,6 @@ returns-in-Err-clause-fault c = λ pick.
     let stands = c.requires.stands pick in
     let is = c.tried_are_tasks.ensures A c.requires.ordered st task stands in
     let cause = subst (λ n. IsCause P c.args.d st.blocks task n c.in-Err.fault) c.of_kind-scale.ensures
-    (c.in-Err.ensures.fault st.blocks c.requires.keeps.remembers c.requires.plans (subst (IsTask P c.args.d st.blocks task) (sym c.of_kind-scale.ensures) is)) in
+    (c.in-Err.ensures.fault st.blocks c.requires.keeps.come.remembers c.requires.plans (subst (IsTask P c.args.d st.blocks task) (sym c.of_kind-scale.ensures) is)) in
     gen_stops A st c.args.task.now c.seen_is_first.ensures stands.tried c.in-Err.fault c.gen_fault.result c.gen_fault.ensures.large c.gen_fault.ensures.leaves c.gen_fault.ensures.memory
     (λ what e. made_too_large A told st task c.in-Err.fault what e cause) (λ row e. made_leaves A told st task c.in-Err.fault row e cause)

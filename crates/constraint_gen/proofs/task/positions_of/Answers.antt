@@ -8,5 +8,5 @@ use Rattle.constraint_gen.proofs.task.positions_of.Goals as goal
 pub returns : goal.returns
 returns c =
     let f = slice_get (program_in c.args.program.now).funs c.args.fun.0 in
-    let found : c.in_ok-found.found.items ≡ positions_in c.args.d c.args.budget c.args.number (context_of c.in_ok-types.types.items) = search rules in
-    found ∙ ap (positions_in c.args.d c.args.budget c.args.number) c.in_ok-types.ensures ∙ positions_are c.args.d c.args.budget c.args.number f
+    let found : c.in_ok-found.found.items ≡ positions_in c.args.d c.args.budget c.args.number (context_of c.result_types-types.result.now) = search rules in
+    found ∙ ap (positions_in c.args.d c.args.budget c.args.number) c.result_types-types.ensures ∙ positions_are c.args.d c.args.budget c.args.number f
