@@ -12,6 +12,7 @@ pub mod Only
 pub mod Front
 pub mod Low
 pub mod Sized
+pub mod Lengths
 pub mod Capped
 pub mod Computed
 pub mod Bounded

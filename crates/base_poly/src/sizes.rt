@@ -1,7 +1,8 @@
 // Degrees of all indices and tuples, without any of these.
-ghost use Rattle.std.specs.Prelude.{◌≡◌, ◌<◌, ◌≤◌, ◌+◌, [], ◌∷◌, ◌++◌, ℕ, map, length, vec_len, IfOk, OnOk, IsErrOf};
+ghost use Rattle.std.specs.Prelude.{◌≡◌, ◌<◌, ◌≤◌, ◌+◌, [], ◌∷◌, ◌++◌, ℕ, map, length, vec_len, IfOk, OnOk, IsErrOf, IsTrue};
+ghost use Rattle.std.specs.List.{range_with_len};
 ghost use Rattle.raml_syntax.specs.Read.{ty_of};
-ghost use Rattle.base_poly.specs.Plain.{many, deg, degrees};
+ghost use Rattle.base_poly.specs.Plain.{Unit', many, deg, degrees};
 ghost use Rattle.base_poly.specs.Indices.{tuples_led, pairs_led, lists, options, indices_up_to, tuples_up_to, index_list};
 ghost use Rattle.base_poly.specs.Read.{context_of};
 ghost use Rattle.base_poly.specs.Sizes.{sums_behind, all_sums, list_sums};
@@ -37,8 +38,50 @@ fn of_types(alloc: Global, types: &[Ty], d: u8, most: usize) -> Result<Vec<u8>, 
     }
 }
 
+// A type with one index adds nothing to the degrees of the others.
 #[cycle(of_types)]
 fn by_first_type(
+    alloc: Global,
+    first: &Ty,
+    rest: &[Ty],
+    d: u8,
+    most: usize,
+) -> Result<Vec<u8>, IndexFault>
+    ensures all { IfOk result (λ found. found.items
+        ≡ map degrees (tuples_led (tuples_up_to (context_of rest.now)) d (indices_up_to (ty_of first.now) d))) }
+    ensures few { IfOk result (λ found. vec_len found ≤ most) }
+    ensures many { IsErrOf result IndexFault.TooMany →
+        most < length (tuples_led (tuples_up_to (context_of rest.now)) d (indices_up_to (ty_of first.now) d)) }
+{
+    if has_one_index(first) {
+        of_types(alloc, rest, d, most)
+    } else {
+        before_others(alloc, first, rest, d, most)
+    }
+}
+
+#[cycle(of_types)]
+fn before_others(
+    alloc: Global,
+    first: &Ty,
+    rest: &[Ty],
+    d: u8,
+    most: usize,
+) -> Result<Vec<u8>, IndexFault>
+    ensures all { IfOk result (λ found. found.items
+        ≡ map degrees (tuples_led (tuples_up_to (context_of rest.now)) d (indices_up_to (ty_of first.now) d))) }
+    ensures few { IfOk result (λ found. vec_len found ≤ most) }
+    ensures many { IsErrOf result IndexFault.TooMany →
+        most < length (tuples_led (tuples_up_to (context_of rest.now)) d (indices_up_to (ty_of first.now) d)) }
+{
+    match rest {
+        [] => of_type(alloc, first, d, most),
+        _ => with_others(alloc, first, rest, d, most),
+    }
+}
+
+#[cycle(of_types)]
+fn with_others(
     alloc: Global,
     first: &Ty,
     rest: &[Ty],
@@ -56,10 +99,18 @@ fn by_first_type(
     sums(alloc, &firsts, &rests, d, most)
 }
 
+// Whether the type has one index, of degree 0.
+fn has_one_index(ty: &Ty) -> bool
+    ensures { IsTrue result → (g : ℕ) → indices_up_to (ty_of ty.now) g ≡ Unit' ∷ [] }
+{
+    matches!(ty, Ty::Int | Ty::Bool)
+}
+
 // The degrees of all indices of the type, in order.
 #[cycle(of_type)]
 fn of_type(alloc: Global, ty: &Ty, d: u8, most: usize) -> Result<Vec<u8>, IndexFault>
     ensures all { IfOk result (λ found. found.items ≡ map deg (indices_up_to (ty_of ty.now) d)) }
+    ensures few { IfOk result (λ found. vec_len found ≤ most) }
     ensures many { IsErrOf result IndexFault.TooMany → most < length (indices_up_to (ty_of ty.now) d) }
 {
     match ty {
@@ -79,6 +130,7 @@ fn of_pairs(
     most: usize,
 ) -> Result<Vec<u8>, IndexFault>
     ensures all { IfOk result (λ found. found.items ≡ map deg (pairs_led (indices_up_to (ty_of second.now)) d (indices_up_to (ty_of first.now) d))) }
+    ensures few { IfOk result (λ found. vec_len found ≤ most) }
     ensures many { IsErrOf result IndexFault.TooMany →
         most < length (pairs_led (indices_up_to (ty_of second.now)) d (indices_up_to (ty_of first.now) d)) }
 {
@@ -90,6 +142,37 @@ fn of_pairs(
 #[cycle(of_type)]
 fn of_lists(alloc: Global, element: &Ty, d: u8, most: usize) -> Result<Vec<u8>, IndexFault>
     ensures all { IfOk result (λ found. found.items ≡ map deg (map many (lists (indices_up_to (ty_of element.now)) d d))) }
+    ensures few { IfOk result (λ found. vec_len found ≤ most) }
+    ensures many { IsErrOf result IndexFault.TooMany → most < length (map many (lists (indices_up_to (ty_of element.now)) d d)) }
+{
+    if has_one_index(element) {
+        lengths(alloc, d, most)
+    } else {
+        of_entries(alloc, element, d, most)
+    }
+}
+
+// Where an entry has degree 0, there is one list index of each length.
+fn lengths(alloc: Global, d: u8, most: usize) -> Result<Vec<u8>, IndexFault>
+    ensures all { IfOk result (λ found. found.items ≡ range_with_len 0 (1 + d)) }
+    ensures few { IfOk result (λ found. vec_len found ≤ most) }
+    ensures many { IsErrOf result IndexFault.TooMany → most < 1 + d }
+{
+    if usize::from(d) >= most {
+        return Err(IndexFault::TooMany);
+    }
+    let mut found = Vec::with_capacity(alloc, usize::from(d) + 1)?;
+    for n in 0..d {
+        found.push(n)?;
+    }
+    found.push(d)?;
+    Ok(found)
+}
+
+#[cycle(of_type)]
+fn of_entries(alloc: Global, element: &Ty, d: u8, most: usize) -> Result<Vec<u8>, IndexFault>
+    ensures all { IfOk result (λ found. found.items ≡ map deg (map many (lists (indices_up_to (ty_of element.now)) d d))) }
+    ensures few { IfOk result (λ found. vec_len found ≤ most) }
     ensures many { IsErrOf result IndexFault.TooMany → most < length (map many (lists (indices_up_to (ty_of element.now)) d d)) }
 {
     if d == 0 {
@@ -102,6 +185,7 @@ fn of_lists(alloc: Global, element: &Ty, d: u8, most: usize) -> Result<Vec<u8>, 
 #[cycle(of_type)]
 fn of_options(alloc: Global, content: &Ty, d: u8, most: usize) -> Result<Vec<u8>, IndexFault>
     ensures all { IfOk result (λ found. found.items ≡ map deg (options (indices_up_to (ty_of content.now)) d)) }
+    ensures few { IfOk result (λ found. vec_len found ≤ most) }
     ensures many { IsErrOf result IndexFault.TooMany → most < length (options (indices_up_to (ty_of content.now)) d) }
 {
     if d == 0 {
@@ -114,6 +198,7 @@ fn of_options(alloc: Global, content: &Ty, d: u8, most: usize) -> Result<Vec<u8>
 // No entry, or one.
 fn option_sums(alloc: Global, entries: &[u8], d: u8, most: usize) -> Result<Vec<u8>, IndexFault>
     ensures all { IfOk result (λ found. found.items ≡ 0 ∷ sums_behind 1 d entries.now) }
+    ensures few { IfOk result (λ found. vec_len found ≤ most) }
     ensures many { IsErrOf result IndexFault.TooMany → most < 1 + length (sums_behind 1 d entries.now) }
 {
     let mut found = only(alloc, 0, most)?;
@@ -124,6 +209,7 @@ fn option_sums(alloc: Global, entries: &[u8], d: u8, most: usize) -> Result<Vec<
 // Any number of entries.
 fn list_sums(alloc: Global, entries: &[u8], d: u8, most: usize) -> Result<Vec<u8>, IndexFault>
     ensures all { IfOk result (λ found. found.items ≡ list_sums entries.now d) }
+    ensures few { IfOk result (λ found. vec_len found ≤ most) }
     ensures many { IsErrOf result IndexFault.TooMany → (g : ℕ) × (g ≤ d) × (most < length (list_sums entries.now g)) }
 {
     let mut found = only(alloc, 0, most)?;
@@ -142,6 +228,7 @@ fn longer_lists(
     most: usize,
 ) -> Result<Vec<u8>, IndexFault>
     ensures all { IfOk result (λ found. found.items ≡ 0 ∷ all_sums 1 d entries.now shorter.now) }
+    ensures few { IfOk result (λ found. vec_len found ≤ most) }
     ensures many { IsErrOf result IndexFault.TooMany → most < 1 + length (all_sums 1 d entries.now shorter.now) }
 {
     let mut found = only(alloc, 0, most)?;
@@ -161,7 +248,7 @@ fn sums(
     ensures few { IfOk result (λ found. vec_len found ≤ most) }
     ensures many { IsErrOf result IndexFault.TooMany → most < length (all_sums 0 d firsts.now others.now) }
 {
-    let mut found = Vec::new(alloc);
+    let mut found = Vec::with_capacity(alloc, firsts.len() + others.len())?;
     append_all(&mut found, 0, firsts, others, d, most)?;
     Ok(found)
 }

@@ -10,6 +10,7 @@ use Rattle.base_poly.specs.declared.fault.IndexFault.TheVariants.{TooMany}
 use Rattle.base_poly.proofs.Height.{pair_of_parts}
 use Rattle.base_poly.proofs.Longer.{some_index, longer}
 use Rattle.base_poly.proofs.Sized.{pairs_sized, list_indices_sized, options_sized, no_fewer_lists, entries_fewer, as_long_as_rests}
+use Rattle.base_poly.proofs.Lengths.{lengths_sized, as_many_lengths}
 use Rattle.base_poly.proofs.sizes.+of_type.Goals as goal
 
 pub of_type-returns-in-Pair-clause-all : goal.of_type-returns-in-Pair-clause-all
@@ -45,19 +46,29 @@ of_pairs-returns-clause-many t c =
     let long = length-map (pairs_led (indices_up_to (ty_of c.args.second.now)) c.args.d (indices_up_to (ty_of c.args.first.now) c.args.d)) deg in
     λ e. let more = c.sums.ensures.many e in omega (arith, same, long, more)
 
-pub of_lists-returns-in_err-entries-clause-many : goal.of_lists-returns-in_err-entries-clause-many
-of_lists-returns-in_err-entries-clause-many t c =
+pub of_lists-returns-then-has_one_index-clause-all : goal.of_lists-returns-then-has_one_index-clause-all
+of_lists-returns-then-has_one_index-clause-all t c =
+    IfOk-weaker c.lengths.result _ (λ found. found.items ≡ map deg (map many (lists (indices_up_to (ty_of c.args.element.now)) c.args.d c.args.d)))
+    (λ found h. h ∙ sym (lengths_sized (ty_of c.args.element.now) c.args.d (c.has_one_index.ensures c.if-has_one_index.true))) c.lengths.ensures.all
+
+pub of_lists-returns-then-has_one_index-clause-many : goal.of_lists-returns-then-has_one_index-clause-many
+of_lists-returns-then-has_one_index-clause-many t c = λ e.
+    let more = c.lengths.ensures.many e in
+    let long = as_many_lengths (ty_of c.args.element.now) c.args.d (c.has_one_index.ensures c.if-has_one_index.true) in omega (arith, more, long)
+
+pub of_entries-returns-in_err-entries-clause-many : goal.of_entries-returns-in_err-entries-clause-many
+of_entries-returns-in_err-entries-clause-many t c =
     let all = entries_fewer (ty_of c.args.element.now) c.args.d (omega (arith, c.if-d-eq0.false)) in
     grind (arith, common_steps, all)
 
-pub of_lists-returns-clause-all : goal.of_lists-returns-clause-all
-of_lists-returns-clause-all t c =
+pub of_entries-returns-clause-all : goal.of_entries-returns-clause-all
+of_entries-returns-clause-all t c =
     IfOk-weaker c.list_sums.result _ (λ found. found.items ≡ map deg (map many (lists (indices_up_to (ty_of c.args.element.now)) c.args.d c.args.d)))
     (λ found h. h ∙ ap (λ l. list_sums l c.args.d) (c.deref.ensures.value ∙ c.in_ok-entries.ensures.all)
     ∙ sym (list_indices_sized (ty_of c.args.element.now) c.args.d (omega (arith, c.if-d-eq0.false)))) c.list_sums.ensures.all
 
-pub of_lists-returns-clause-many : goal.of_lists-returns-clause-many
-of_lists-returns-clause-many t c = λ e.
+pub of_entries-returns-clause-many : goal.of_entries-returns-clause-many
+of_entries-returns-clause-many t c = λ e.
     let past = c.list_sums.ensures.many e in
     let same = ap (λ l. length (list_sums l past.0)) (c.deref.ensures.value ∙ c.in_ok-entries.ensures.all) in
     let all = no_fewer_lists (ty_of c.args.element.now) past.0 c.args.d past.1 (omega (arith, c.if-d-eq0.false)) in

@@ -8,5 +8,5 @@ pub returns-in_err-found-2-clause-many : goal.returns-in_err-found-2-clause-many
 returns-in_err-found-2-clause-many c =
     let g = c.loop-g.g in
     let whole = ap length (one_longer c.args.entries.now g) in
-    let same = ap (λ l. length (all_sums 1 (g + 1) c.args.entries.now l)) (c.deref.ensures.value ∙ c.loop-g.invariant) in
+    let same = ap (λ l. length (all_sums 1 (g + 1) c.args.entries.now l)) (c.deref.ensures.value ∙ c.loop-g.invariant.done) in
     λ e. (g + 1, omega (arith, c.loop-g-test.true), grind (arith, common_steps, e, whole, same))
