@@ -12,6 +12,7 @@ use base_poly::{IndexFault, degrees};
 use raml_syntax::Ty;
 use std::alloc::{AllocError, Global};
 use std::marker::Model;
+use std::slice;
 
 /// The most indices that a context may have.
 pub const MOST: u16 = 2000;
@@ -91,7 +92,7 @@ fn none(alloc: Global, d: u8) -> Result<Columns, AllocError>
     ensures columns { IfOk result (λ made. made.columns.items ≡ columns d []) }
     ensures counts { IfOk result (λ made. made.counts.items ≡ listed (count []) 0 (1 + d)) }
 {
-    let mut counts = Vec::new(alloc);
+    let mut counts = Vec::with_capacity(alloc, usize::from(d) + 1)?;
     for g in 0..u16::from(d) + 1 {
         counts.push(alone(g))?;
     }
@@ -109,20 +110,12 @@ fn alone(g: u16) -> u16
     if g > 0 { 0 } else { 1 }
 }
 
-/// The type alone.
-pub fn one(alloc: Global, ty: &Ty) -> Result<Vec<Ty>, AllocError>
-    ensures { IfOk result (λ types. context_of types.items ≡ ty_of ty.now ∷ []) }
-{
-    Ok(vec![in alloc; ty.copy(alloc)?]?)
-}
-
 /// The degrees of the indices of the type, component by component.
 pub fn sizes_of(alloc: Global, ty: &Ty, d: u8) -> Result<Vec<u8>, IndexFault>
     ensures all { IfOk result (λ found. found.items ∷ [] ≡ sizes (ty_of ty.now ∷ []) d) }
     ensures many { IsErrOf result IndexFault.TooMany → IsLarge (ty_of ty.now ∷ []) d }
 {
-    let types = one(alloc, ty)?;
-    degrees(alloc, &types, d, usize::from(MOST))
+    degrees(alloc, slice::from_ref(ty), d, usize::from(MOST))
 }
 
 // For each degree a row of sums, and its total.
@@ -139,8 +132,8 @@ fn running(alloc: Global, numbers: &[u16], degrees: &[u8], d: u8) -> Result<Rows
     ensures totals { IfOk result (λ found. found.totals.items ≡ listed (λ g. total (fits (λ r. slice_index_or numbers.now r 0) g) degrees.now) 0 (1 + d)) }
     ensures many { IsErrOf result IndexFault.TooMany → (g : ℕ) × (g ≤ d) × (2000 < total (fits (λ r. slice_index_or numbers.now r 0) g) degrees.now) }
 {
-    let mut table = Vec::new(alloc);
-    let mut totals = Vec::new(alloc);
+    let mut table = Vec::with_capacity(alloc, usize::from(d) + 1)?;
+    let mut totals = Vec::with_capacity(alloc, usize::from(d) + 1)?;
     for g in 0..u16::from(d) + 1 {
         let found = sums(alloc, numbers, g, degrees)?;
         table.push(found.0)?;

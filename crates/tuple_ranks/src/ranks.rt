@@ -90,7 +90,7 @@ fn starts(alloc: Global, counts: &[u16], d: u8) -> Result<Vec<u16>, IndexFault>
     ensures few { OnOk result (below (λ g. slice_index_or counts.now g 0) (1 + d) ≤ 2000) }
     ensures many { IsErrOf result IndexFault.TooMany → (g : ℕ) × (g ≤ d) × (2000 < below (λ g. slice_index_or counts.now g 0) (1 + g)) }
 {
-    let mut found = Vec::new(alloc);
+    let mut found = Vec::with_capacity(alloc, usize::from(d) + 2)?;
     let mut low = 0;
     for g in 0..u16::from(d) + 1 {
         found.push(low)?;

@@ -10,12 +10,13 @@ ghost use Rattle.tuple_ranks.specs.Slots.{seen_by, chosen, half_items, half_slot
 ghost use Rattle.tuple_ranks.specs.Read.{items_of};
 ghost use Rattle.tuple_ranks.specs.Spots.{IsLarge};
 
-use crate::columns::{MOST, one, sizes_of};
+use crate::columns::{MOST, sizes_of};
 use base_poly::{IndexFault, Tuple, tuples_up_to};
 use indexmap::IndexSet;
 use raml_syntax::Ty;
 use std::alloc::{AllocError, Global};
 use std::marker::Model;
+use std::slice;
 
 /// Which index of another tuple stands here, and a table of the numbers that its type's indices have
 /// here, where these are others.
@@ -264,8 +265,8 @@ fn singles(alloc: Global, ty: &Ty, d: u8) -> Result<Vec<Tuple>, IndexFault>
     ensures ascend { IfOk result (λ found. Ascends each_in_turn found.items) }
     ensures many { IsErrOf result IndexFault.TooMany → IsLarge (ty_of ty.now ∷ []) d }
 {
-    let types = one(alloc, ty)?;
-    tuples_up_to(alloc, &types, u32::from(d), usize::from(MOST))
+    let types = slice::from_ref(ty);
+    tuples_up_to(alloc, types, u32::from(d), usize::from(MOST))
 }
 
 // The tuples, each found by its hash.
