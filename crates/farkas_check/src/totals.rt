@@ -39,6 +39,9 @@ impl Totals {
     pub(crate) fn with(self, a: i128, b: i128) -> Option<Totals>
         ensures { MovedBy self ((a *ℤ b) ∷ []) result }
     {
+        if a == 0 || b == 0 {
+            return Some(self);
+        }
         let product = a.checked_mul(b)?;
         if product < 0 {
             let negative = self.negative.checked_add(product)?;

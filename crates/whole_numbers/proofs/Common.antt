@@ -1,7 +1,7 @@
 -- Common multiples of lists.
 use Rattle.std.proofs.Common.{rules, FitsSigned, ◌≡◌, ◌≤◌, ◌<◌, ◌+◌, ◌*◌, ◌/◌, ℕ, zero, suc, ℤ, pos, List, [], ◌∷◌, ◌++◌, map, take, length, slice_index_or, refl, sym, ap, ◌∙◌, subst, arith}
 use Rattle.std.specs.Int.{w128}
-use Rattle.std.proofs.lemmas.Nat.Gcd.{dvd_trans, le_of_dvd}
+use Rattle.std.proofs.lemmas.Nat.Gcd.{dvd_refl, dvd_trans, le_of_dvd}
 use Rattle.std.proofs.Math.Nat.{one-dvd, dvd-mul_right, dvd-mul_left, eq-zero_of_zero-dvd}
 use Prim.Native.Nat.{◌∣◌}
 use Rattle.raml_num.specs.Divisors.{IsLcm, EachCommonMultipleLeaves}
@@ -53,6 +53,9 @@ positive_lcm (suc a) zero zero pa pn h = absurd (omega (arith, pn))
 
 pub is_next : (a n m : ℕ) → 0 < a → 0 < n → IsLcm a n m → m < most → IsNext a n m
 is_next a n m pa pn h l = record { lcm = h; fits = l; positive = positive_lcm a n m pa pn h }
+
+pub same_next : (a n : ℕ) → n ≡ 1 → 0 < a → a < most → IsNext a n a
+same_next a n e p l = record { lcm = (dvd_refl a, subst (λ k. k ∣ a) (sym e) (one-dvd a), λ m h k. h); fits = l; positive = p }
 
 -- Entry by entry
 

@@ -1,6 +1,7 @@
 // The least common denominator.
 ghost use Rattle.std.specs.Prelude.{◌≡◌, ◌<◌, MatchOption, MatchResult};
 ghost use Rattle.frac128.specs.Values.{denominator};
+ghost use Rattle.whole_numbers.specs.Wholes.{most};
 ghost use Rattle.whole_numbers.specs.Denominators.{denominators, IsDenominator, DenominatorLeaves};
 ghost use Rattle.whole_numbers.specs.Next.{IsNext, NoNext};
 
@@ -16,10 +17,15 @@ fn denominator_of(fraction: &Frac) -> u128
 
 /// The least common multiple with one denominator more.
 fn with_denominator(so_far: u128, fraction: &Frac) -> Option<u128>
-    requires { 0 < so_far }
+    requires positive { 0 < so_far }
+    requires fits { so_far < most }
     ensures { MatchOption result (NoNext so_far (denominator fraction.now)) (IsNext so_far (denominator fraction.now)) }
 {
-    match lcm(so_far, denominator_of(fraction)) {
+    let denominator = denominator_of(fraction);
+    if denominator == 1 {
+        return Some(so_far);
+    }
+    match lcm(so_far, denominator) {
         None => None,
         Some(next) => {
             if next > i128::MAX as u128 {

@@ -1,5 +1,5 @@
 // Numbers over one denominator.
-ghost use Rattle.std.specs.Prelude.{◌≡◌, ◌<◌, ◌≤◌, map, pos, ℕ, slice_index_or, MatchOption, IfOk};
+ghost use Rattle.std.specs.Prelude.{◌≡◌, ◌<◌, ◌≤◌, ◌/◌, map, pos, ℕ, slice_index_or, MatchOption, IfOk};
 ghost use Rattle.frac128.specs.Values.{denominator};
 ghost use Rattle.whole_numbers.specs.Wholes.{most};
 ghost use Rattle.whole_numbers.specs.Denominators.{over, all_over, NumberLeaves};
@@ -9,12 +9,24 @@ use crate::fault::WholeFault;
 use frac128::Frac;
 use std::alloc::Global;
 
+/// The whole part of a quotient. Nearly all numbers are divided by 1, which takes no division.
+fn quotient(number: u128, by: u128) -> u128
+    requires { 0 < by }
+    ensures { result ≡ number / by }
+{
+    if by == 1 { number } else { number / by }
+}
+
 /// The size of a fraction over a multiple of its denominator; none where it does not fit.
 fn whole(fraction: &Frac, denominator: u128) -> Option<i128>
     ensures { MatchOption result (most ≤ over denominator fraction.now) (IsNumber (over denominator fraction.now)) }
 {
-    let times = denominator / fraction.den().unsigned_abs();
-    match times.checked_mul(fraction.num().unsigned_abs()) {
+    let size = fraction.num().unsigned_abs();
+    if size == 0 {
+        return Some(0);
+    }
+    let times = quotient(denominator, fraction.den().unsigned_abs());
+    match times.checked_mul(size) {
         None => None,
         Some(number) => i128::try_from(number).ok(),
     }
@@ -27,7 +39,7 @@ pub fn wholes(alloc: Global, fractions: &[Frac], denominator: u128) -> Result<Ve
     ensures fit { IfOk result (λ _. (entry : ℕ) → slice_index_or (all_over denominator fractions.now) entry 0 < most) }
     ensures leaves { (entry : ℕ) → result ≡ Err (WholeFault.Leaves entry) → NumberLeaves denominator fractions.now entry }
 {
-    let mut numbers = Vec::new(alloc);
+    let mut numbers = Vec::with_capacity(alloc, fractions.len())?;
     for entry in 0..fractions.len() {
         match whole(&fractions[entry], denominator) {
             Some(number) => numbers.push(number)?,
