@@ -35,7 +35,7 @@ fn push_whole(row: &mut FracRow, column: u32, n: i128) -> Result<(), RowFault>
 fn empty_rows(alloc: Global, count: u32) -> Result<Vec<FracRow>, AllocError>
     ensures { IfOk result (λ rows. AreEmpty count rows.items) }
 {
-    let mut rows = Vec::new(alloc);
+    let mut rows = Vec::with_capacity(alloc, count as usize)?;
     for _ in 0..count {
         rows.push(FracRow::new(alloc))?;
     }

@@ -67,7 +67,7 @@ pub(crate) fn column_of(
 ) -> Result<Vec<Frac>, AllocError>
     ensures { IfOk result (λ xs. HaveParts (length rows.now) (λ i. numerator (at column (entries_at rows.now i))) (λ i. denominator (at column (entries_at rows.now i))) xs.items) }
 {
-    let mut all = Vec::new(alloc);
+    let mut all = Vec::with_capacity(alloc, rows.len())?;
     for i in 0..rows.len() {
         all.push(rows[i].at(column))?;
     }
@@ -78,7 +78,7 @@ pub(crate) fn column_of(
 pub(crate) fn negated(alloc: Global, numbers: &[Frac]) -> Result<Vec<Frac>, AllocError>
     ensures { IfOk result (λ xs. HaveParts (length numbers.now) (λ i. neg_ℤ (numerator (frac_at numbers.now i))) (λ i. denominator (frac_at numbers.now i)) xs.items) }
 {
-    let mut all = Vec::new(alloc);
+    let mut all = Vec::with_capacity(alloc, numbers.len())?;
     for i in 0..numbers.len() {
         all.push(numbers[i].neg())?;
     }

@@ -48,7 +48,7 @@ fn counted(alloc: Global, first: u32, count: u32) -> Result<Vec<u32>, AllocError
     requires { first + count < 2 ^ 32 }
     ensures { IfOk result (λ cs. cs.items ≡ counted first count) }
 {
-    let mut all = Vec::new(alloc);
+    let mut all = Vec::with_capacity(alloc, count as usize)?;
     for i in 0..count {
         all.push(first + i)?;
     }
