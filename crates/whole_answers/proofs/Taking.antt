@@ -95,6 +95,18 @@ front_fits (x ∷ xs) ys h (suc i) = front_fits xs ys (λ k. h (suc k)) i
 positive_pos : (t : ℕ) → 0 < t → pos 0 <ℤ pos t
 positive_pos t h = omega (arith, ints)
 
+-- numbers of both, and those in front
+
+both_numbers : (l : ℕ) (x y : List Frac) (numbers : List ℤ) → numbers ≡ map pos (all_over l (x ++ y)) → numbers ≡ map pos (all_over l x) ++ map pos (all_over l y)
+both_numbers l x y numbers e = e ∙ ap (map pos) (over_parts l x y) ∙ map_both pos (all_over l x) (all_over l y)
+
+count_numbers : (l : ℕ) (x : List Frac) → length x ≡ length (map pos (all_over l x))
+count_numbers l x = sym (length_map (over l) x) ∙ sym (length_map pos (all_over l x))
+
+pub front_is : (l : ℕ) (x y : List Frac) (numbers front : List ℤ) → numbers ≡ map pos (all_over l (x ++ y)) → front ≡ take (length x) numbers → front ≡ map pos (all_over l x)
+front_is l x y numbers front e p =
+    p ∙ ap (take (length x)) (both_numbers l x y numbers e) ∙ take_first (map pos (all_over l x)) (map pos (all_over l y)) (length x) (count_numbers l x)
+
 -- A least solution
 
 module _ (s : LinearSystem) (x y : List Frac) (h : AreLeast s x y) where
@@ -125,9 +137,9 @@ module _ (s : LinearSystem) (x y : List Frac) (h : AreLeast s x y) where
     pub proves_parts : (numbers front back : List ℤ) → numbers ≡ map pos (all_over l (x ++ y)) → front ≡ take (length x) numbers → back ≡ drop (length x) numbers →
         ProvesLeast s front back (pos l)
     proves_parts numbers front back e p q =
-        let all = e ∙ ap (map pos) (over_parts l x y) ∙ map_both pos (all_over l x) (all_over l y) in
-        let count = sym (length_map (over l) x) ∙ sym (length_map pos (all_over l x)) in
-        subst (λ ns. ProvesLeast s ns back (pos l)) (sym (p ∙ ap (take (length x)) all ∙ take_first (map pos (all_over l x)) (map pos (all_over l y)) (length x) count))
+        let all = both_numbers l x y numbers e in
+        let count = count_numbers l x in
+        subst (λ ns. ProvesLeast s ns back (pos l)) (sym (front_is l x y numbers front e p))
         (subst (λ ns. ProvesLeast s (map pos (all_over l x)) ns (pos l)) (sym (q ∙ ap (drop (length x)) all ∙ drop_first (map pos (all_over l x)) (map pos (all_over l y)) (length x) count)) proves_over)
 
     pub have_wholes : HaveWholes x

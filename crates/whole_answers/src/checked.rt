@@ -1,9 +1,10 @@
 // Answers in whole numbers, checked.
-ghost use Rattle.std.specs.Prelude.{◌≡◌, ◌<◌, ◌^◌, ◌++◌, pos, length, IfOk, IfErr, OnOk};
+ghost use Rattle.std.specs.Prelude.{◌≡◌, ◌<◌, ◌^◌, ◌++◌, pos, map, length, IfOk, IfErr, OnOk};
 ghost use Rattle.linear_rows.specs.Systems.{ProvesLeast, Refutes};
 ghost use Rattle.farkas_check.specs.Checks.{EachPasses, refuting, proving_least};
 ghost use Rattle.tableau.specs.Tableaux.{right};
 ghost use Rattle.whole_numbers.specs.Wholes.{most};
+ghost use Rattle.whole_numbers.specs.Denominators.{all_over};
 ghost use Rattle.whole_answers.specs.Wholes.{AreLeast, AreRefuting, HaveWholes, IsInWholes, IsLeastAnswer, LeastFails, IsVectorAnswer, RefutingFails, LeastCheckLeaves, VectorCheckLeaves};
 
 use crate::answer::Answer;
@@ -19,7 +20,8 @@ use whole_numbers::laws;
 fn joined(alloc: Global, first: &[Frac], second: &[Frac]) -> Result<Vec<Frac>, AllocError>
     ensures { IfOk result (λ all. all.items ≡ first.now ++ second.now) }
 {
-    let mut all = Vec::from_slice(alloc, first)?;
+    let mut all = Vec::with_capacity(alloc, first.len() + second.len())?;
+    all.extend_from_slice(first)?;
     all.extend_from_slice(second)?;
     Ok(all)
 }
@@ -57,13 +59,24 @@ fn check_vector(alloc: Global, system: &System, y: &[i128]) -> Result<(), Answer
     }
 }
 
-/// The solution over its own least denominator.
-fn solution(alloc: Global, x: &[Frac]) -> Result<Answer, AllocError>
-    requires { HaveWholes x.now }
+/// The solution over its own least denominator. Where that is the denominator of both, these are its
+/// numbers.
+fn solution(
+    alloc: Global,
+    x: &[Frac],
+    both: u128,
+    over_both: &[i128],
+) -> Result<Answer, AllocError>
+    requires wholes { HaveWholes x.now }
+    requires numbers { over_both.now ≡ map pos (all_over both x.now) }
     ensures { IfOk result (IsInWholes x.now) }
 {
     let denominator = own_denominator(x);
-    let numbers = own_numbers(alloc, x, denominator)?;
+    let numbers = if denominator == both {
+        Vec::from_slice(alloc, over_both)?
+    } else {
+        own_numbers(alloc, x, denominator)?
+    };
     Ok(Answer::Solution {
         denominator: denominator as i128,
         numbers,
@@ -88,7 +101,7 @@ pub(crate) fn checked_solution(
     let numbers = numbers_over(alloc, &both, denominator)?;
     let (primal_numbers, dual_numbers) = numbers.split_at(x.len());
     check_least(alloc, system, primal_numbers, dual_numbers, denominator)?;
-    Ok(solution(alloc, x)?)
+    Ok(solution(alloc, x, denominator, primal_numbers)?)
 }
 
 /// A vector that refutes the system, in whole numbers, checked.
