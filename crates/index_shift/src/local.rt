@@ -11,7 +11,7 @@ ghost use Rattle.index_shift.specs.Local.{IsLocal, IsMapBetween, AreSmall, AreLa
 ghost use Rattle.index_shift.specs.Read.{carry_of, middle_of, middles_of, CanCarry};
 
 use crate::carry::Carry;
-use crate::context::{one, two, type_parts};
+use crate::context::{two, type_parts};
 use crate::entry::Entry;
 use crate::fault::MapFault;
 use crate::lift::{Middle, Target, lift};
@@ -21,6 +21,7 @@ use indexmap::IndexSet;
 use raml_syntax::Ty;
 use std::alloc::{AllocError, Global};
 use std::marker::Model;
+use std::slice;
 
 /// The most indices that a context may have.
 pub const MOST: u16 = 2000;
@@ -59,9 +60,8 @@ impl Local {
         ensures is { IfOk result (λ local. IsLocal (opens (ty_of ty.now)) (ty_of ty.now ∷ []) (type_parts (ty_of ty.now)) d local) }
         ensures many { IsErrOf result MapFault.TooMany → IsTooLarge (ty_of ty.now ∷ []) (type_parts (ty_of ty.now)) d }
     {
-        let from = one(alloc, ty)?;
         let to = type_parts(alloc, ty)?;
-        carried_alone(alloc, Carry::Open(ty), &from, &to, d)
+        carried_alone(alloc, Carry::Open(ty), slice::from_ref(ty), &to, d)
     }
 
     /// A variable of this type leaves.
@@ -72,8 +72,7 @@ impl Local {
         ensures is { IfOk result (λ local. IsLocal leaves (ty_of ty.now ∷ []) [] d local) }
         ensures many { IsErrOf result MapFault.TooMany → IsTooLarge (ty_of ty.now ∷ []) [] d }
     {
-        let from = one(alloc, ty)?;
-        carried_alone(alloc, Carry::Leave, &from, &[], d)
+        carried_alone(alloc, Carry::Leave, slice::from_ref(ty), &[], d)
     }
 
     /// A variable of this type is shared: two become one.
@@ -85,8 +84,7 @@ impl Local {
         ensures many { IsErrOf result MapFault.TooMany → IsTooLarge (ty_of ty.now ∷ (ty_of ty.now ∷ [])) (ty_of ty.now ∷ []) d }
     {
         let from = two(alloc, ty, ty)?;
-        let to = one(alloc, ty)?;
-        carried_alone(alloc, Carry::Join, &from, &to, d)
+        carried_alone(alloc, Carry::Join, &from, slice::from_ref(ty), d)
     }
 
     /// The map of a context, from the degrees of the tuples before the variable and behind it,

@@ -12,11 +12,11 @@ use Rattle.index_shift.proofs.local.Local.leaving.Goals as goal
 
 pub carried_alone-requires : goal.carried_alone-requires
 carried_alone-requires c =
-    let from = ap context_of c.deref.ensures.value ∙ c.in_ok-from.ensures in
+    let from = ap context_of c.from_ref.ensures.value in
     record { can = subst (λ As. All (CanCarry Leave) (tuples_up_to As c.args.d)) (sym from) (can_leave (ty_of c.args.ty.now) c.args.d c.requires.low) }
 
 pub returns-clause-is : goal.returns-clause-is
 returns-clause-is c =
-    let from = ap context_of c.deref.ensures.value ∙ c.in_ok-from.ensures in
+    let from = ap context_of c.from_ref.ensures.value in
     IfOk-weaker c.carried_alone.result _ (λ local. IsLocal leaves (ty_of c.args.ty.now ∷ []) [] c.args.d local)
     (λ local h. subst (IsLocal leaves (ty_of c.args.ty.now ∷ []) [] c.args.d) (sym (h ∙ (λ n. alone_of leaves (from n) [] c.args.d))) (left_alone (ty_of c.args.ty.now) c.args.d)) c.carried_alone.ensures.is

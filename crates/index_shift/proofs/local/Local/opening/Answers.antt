@@ -13,12 +13,12 @@ use Rattle.index_shift.proofs.local.Local.opening.Goals as goal
 
 pub carried_alone-requires : goal.carried_alone-requires
 carried_alone-requires c =
-    let from = ap context_of c.deref.ensures.value ∙ c.in_ok-from.ensures in
+    let from = ap context_of c.from_ref.ensures.value in
     record { can = subst (λ As. All (CanCarry (Open c.args.ty)) (tuples_up_to As c.args.d)) (sym from) (can_open c.args.ty (ty_of c.args.ty.now) c.args.d) }
 
 pub returns-clause-is : goal.returns-clause-is
 returns-clause-is c =
-    let from = ap context_of c.deref.ensures.value ∙ c.in_ok-from.ensures in
-    let to = ap context_of c.deref-2.ensures.value ∙ c.in_ok-to.ensures in
+    let from = ap context_of c.from_ref.ensures.value in
+    let to = ap context_of c.deref.ensures.value ∙ c.in_ok-to.ensures in
     IfOk-weaker c.carried_alone.result _ (λ local. IsLocal (opens (ty_of c.args.ty.now)) (ty_of c.args.ty.now ∷ []) (type_parts (ty_of c.args.ty.now)) c.args.d local)
     (λ local h. subst (IsLocal (opens (ty_of c.args.ty.now)) (ty_of c.args.ty.now ∷ []) (type_parts (ty_of c.args.ty.now)) c.args.d) (sym (h ∙ (λ n. alone_of (opens (ty_of c.args.ty.now)) (from n) (to n) c.args.d))) (opened_alone (ty_of c.args.ty.now) c.args.d)) c.carried_alone.ensures.is

@@ -18,6 +18,6 @@ carried_alone-requires c =
 pub returns-clause-is : goal.returns-clause-is
 returns-clause-is c =
     let from = ap context_of c.deref.ensures.value ∙ c.in_ok-from.ensures in
-    let to = ap context_of c.deref-2.ensures.value ∙ c.in_ok-to.ensures in
+    let to = ap context_of c.from_ref.ensures.value in
     IfOk-weaker c.carried_alone.result _ (λ local. IsLocal joins (ty_of c.args.ty.now ∷ (ty_of c.args.ty.now ∷ [])) (ty_of c.args.ty.now ∷ []) c.args.d local)
     (λ local h. subst (IsLocal joins (ty_of c.args.ty.now ∷ (ty_of c.args.ty.now ∷ [])) (ty_of c.args.ty.now ∷ []) c.args.d) (sym (h ∙ (λ n. alone_of joins (from n) (to n) c.args.d))) (joined_alone (ty_of c.args.ty.now) c.args.d)) c.carried_alone.ensures.is
