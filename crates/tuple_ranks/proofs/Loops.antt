@@ -25,16 +25,6 @@ all_placed = p.all_placed
 
 -- One more
 
-range_more : (k n : ℕ) → k < n → range_with_len k (n - k) ≡ k ∷ range_with_len (k + 1) (n - (k + 1))
-range_more k n h = ap (range_with_len k) more
-  where
-    more : n - k ≡ suc (n - (k + 1))
-    more = omega (arith, h)
-
-pub range_step : (old new whole : List ℕ) (k n : ℕ) → k < n → new ≡ old ++ k ∷ [] → old ++ range_with_len k (n - k) ≡ whole → new ++ range_with_len (k + 1) (n - (k + 1)) ≡ whole
-range_step old new whole k n h made done =
-    ap (λ l. l ++ range_with_len (k + 1) (n - (k + 1))) made ∙ append_assoc old (k ∷ []) (range_with_len (k + 1) (n - (k + 1))) ∙ ap (λ l. old ++ l) (sym (range_more k n h)) ∙ done
-
 pub plain_step : (old new whole : List Slot) (k n : ℕ) → k < n → new ≡ old ++ (k, None) ∷ [] → old ++ plain_slots k (n - k) ≡ whole → new ++ plain_slots (k + 1) (n - (k + 1)) ≡ whole
 plain_step old new whole k n h made done =
     (λ i. made i ++ plain_slots (next i) (n - (k + 1))) ∙ append_assoc old ((k, None) ∷ []) (plain_slots (suc k) (n - (k + 1))) ∙ ap (λ m. old ++ plain_slots k m) more ∙ done

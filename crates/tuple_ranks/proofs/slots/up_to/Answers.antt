@@ -1,4 +1,4 @@
-use Rattle.tuple_ranks.proofs.Loops.{range_step}
+use Rattle.base_poly.proofs.Lengths.{range_step}
 use Rattle.tuple_ranks.proofs.slots.up_to.Goals as goal
 
 pub loop-k-preserved : goal.loop-k-preserved
