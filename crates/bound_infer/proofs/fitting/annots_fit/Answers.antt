@@ -1,4 +1,4 @@
-use Rattle.std.proofs.Common.{sym, ap, subst, arith}
+use Rattle.std.proofs.Common.{subst, arith}
 use Rattle.std.proofs.lemmas.List.Elements.{All-more}
 use Rattle.courses.specs.Places.{EntriesFit}
 use Rattle.bound_infer.proofs.Mapped.{all_of}
