@@ -1,9 +1,8 @@
 -- Where numbers stand after a pivot.
-use Rattle.std.proofs.Common.{◌≡◌, ◌≢◌, refl, sym, ap, subst, ◌∙◌, ℕ, ◌*◌, ◌<◌, ℤ, pos, ◌-ℤ◌, ◌*ℤ◌, ◌<ℤ◌, arith, List, [], ◌∷◌, length, replicate, ◌==◌, Bool, false, ◌⊎◌, inl, inr}
+use Rattle.std.proofs.Common.{◌≡◌, ◌≢◌, refl, sym, ap, subst, ◌∙◌, ℕ, ◌+◌, ◌*◌, ◌<◌, ℤ, pos, ◌-ℤ◌, ◌*ℤ◌, ◌<ℤ◌, arith, List, [], ◌∷◌, length, ◌==◌, Bool, false, ◌⊎◌, inl, inr}
 use Rattle.std.proofs.lemmas.Int.{ints}
 use Rattle.std.proofs.lemmas.Bool.Decides.{nat_tests}
 use Rattle.std.proofs.Math.Nat.{mul-pos}
-use Rattle.std.specs.Global.{Vec}
 use Rattle.raml_num.proofs.Differences.{diffs, diff-pos, is_diff, diff_same}
 use Rattle.raml_num.proofs.Signed.{cancelled}
 use Rattle.frac128.specs.declared.Frac.{Frac}
@@ -12,7 +11,7 @@ use Rattle.frac_rows.specs.Entries.{Entries, at, columns_of, IsLess}
 use Rattle.simplex.specs.Among.{Among}
 use Rattle.simplex.specs.Standing.{entries_at, AreTouching, IsPivoted}
 use Rattle.simplex.specs.Covering.{IsMarked, Cover, Grow, HasOne}
-use Rattle.simplex.proofs.Marks.{height_of}
+use Rattle.simplex.proofs.Marks.{inside, apart}
 use Rattle.tableau.proofs.Pivoting.{same_or_not}
 
 gone : (a : ℤ) (d : ℕ) → 0 < d → a *ℤ pos d ≡ pos 0 → a ≡ pos 0
@@ -98,18 +97,18 @@ none_or_not z = grind (arith, ints)
 
 -- marks that cover the rows before a pivot, with the rows that it touches in the lead's columns, and the lead
 -- alone in the entering column, cover them after it
-module _ (n l s : ℕ) (rows : List Entries) (gains : Entries) (new : List Entries) (new_gains : Entries) (touching : List ℕ) (old grown final : List (Vec Bool))
+module _ (n l s : ℕ) (rows : List Entries) (gains : Entries) (new : List Entries) (new_gains : Entries) (touching : List ℕ) (old grown final : List Bool)
     (h : l < length rows) (number : (at s (entries_at rows l)).num ≢ pos 0) (cover : Cover n rows old) (touches : AreTouching s rows touching) (made : IsPivoted l s rows gains new new_gains)
-    (grow : Grow (columns_of (entries_at new l)) touching old grown) (one : HasOne s l grown final) where
-  lead_covered : (c : ℕ) → c < n → (at c (entries_at new l)).num ≢ pos 0 → IsMarked old c l
-  lead_covered c b m = cover.all c l b h (λ z. m (ap (λ (es : Entries). (at c es).num) made.rows_swept.here ∙ quotient_of_none (at c (entries_at rows l)) (at s (entries_at rows l)) (at c made.lead) (made.quotients c) z number))
+    (grow : Grow (length rows) (columns_of (entries_at new l)) touching old grown) (one : HasOne (length rows) s l grown final) where
+  lead_covered : (c : ℕ) → c < n → (at c (entries_at new l)).num ≢ pos 0 → IsMarked (length rows) old c l
+  lead_covered c b m = cover.all c b l h (λ z. m (ap (λ (es : Entries). (at c es).num) made.rows_swept.here ∙ quotient_of_none (at c (entries_at rows l)) (at s (entries_at rows l)) (at c made.lead) (made.quotients c) z number))
 
-  other_covered : (c i : ℕ) → c < n → i < length rows → i ≢ l → (at c (entries_at new i)).num ≢ pos 0 → IsMarked grown c i
+  other_covered : (c i : ℕ) → c < n → i < length rows → i ≢ l → (at c (entries_at new i)).num ≢ pos 0 → IsMarked (length rows) grown c i
   other_covered c i b k d m = elim (none_or_not (at c (entries_at rows i)).num) [
-    | inr p ↦ grow.kept c i (cover.all c i b k p)
+    | inr p ↦ grow.kept (c * length rows + i) (cover.all c b i k p)
     | inl z ↦
         let w = (made.rows_swept.others i k d).each c in
-        grow.has c i (let high = height_of n (length rows) old c cover.places b in omega arith)
+        grow.has c i (let low = inside n (length rows) c i b k in let count = cover.places in omega (arith, low, count))
         (among_columns (entries_at new l) c (λ e. m (less_none_is_none (at c (entries_at rows i)) (at s (entries_at rows i)) (at c made.lead) (at c (entries_at new i)) w z (inr (sym (ap (λ (es : Entries). (at c es).num) made.rows_swept.here) ∙ e)))))
         (touches.all i k (λ e. m (less_none_is_none (at c (entries_at rows i)) (at s (entries_at rows i)) (at c made.lead) (at c (entries_at new i)) w z (inl e))))
   ]
@@ -117,20 +116,25 @@ module _ (n l s : ℕ) (rows : List Entries) (gains : Entries) (new : List Entri
   entering_left : (i : ℕ) → i < length rows → i ≢ l → (at s (entries_at new i)).num ≡ pos 0
   entering_left i k d = less_itself (at s (entries_at rows i)) (at s made.lead) (at s (entries_at new i)) ((made.rows_swept.others i k d).each s) (quotient_itself (at s (entries_at rows l)) (at s made.lead) (made.quotients s) number)
 
-  in_grown : (c i : ℕ) → c < n → i < length rows → (at c (entries_at new i)).num ≢ pos 0 → IsMarked grown c i
+  in_grown : (c i : ℕ) → c < n → i < length rows → (at c (entries_at new i)).num ≢ pos 0 → IsMarked (length rows) grown c i
   in_grown c i b k m = elim (same_or_not i l) [
-    | inl e ↦ subst (IsMarked grown c) (sym e) (grow.kept c l (lead_covered c b (λ z. m (ap (λ (j : ℕ). (at c (entries_at new j)).num) e ∙ z))))
+    | inl e ↦ subst (IsMarked (length rows) grown c) (sym e) (grow.kept (c * length rows + l) (lead_covered c b (λ z. m (ap (λ (j : ℕ). (at c (entries_at new j)).num) e ∙ z))))
     | inr d ↦ other_covered c i b k d m
   ]
 
+  in_final : (c i : ℕ) → c < n → i < length rows → (at c (entries_at new i)).num ≢ pos 0 → IsMarked (length rows) final c i
+  in_final c i b k m = elim (same_or_not c s) [
+    | inl e ↦ elim (same_or_not i l) [
+      | inl f ↦ rw (e, f) one.here
+      | inr d ↦ absurd (m (ap (λ (z : ℕ). (at z (entries_at new i)).num) e ∙ entering_left i k d))
+    ]
+    | inr d ↦ one.others (c * length rows + i) (apart (length rows) c s i d k) ∙ in_grown c i b k m
+  ]
+
   pub covered : Cover n new final
-  covered = record {
-    places = one.places ∙ grow.places ∙ cover.places ∙ ap (replicate n) (sym made.rows_swept.count);
-    all = λ c i b k m. let q = made.rows_swept.count in elim (same_or_not c s) [
-      | inl e ↦ elim (same_or_not i l) [
-        | inl f ↦ rw (e, f) one.here
-        | inr d ↦ absurd (m (ap (λ (z : ℕ). (at z (entries_at new i)).num) e ∙ entering_left i (omega arith) d))
-      ]
-      | inr d ↦ rw (one.others c d) (in_grown c i b (omega arith) m)
-    ];
-  }
+  covered =
+      let count : length new ≡ length rows = made.rows_swept.count in
+      record {
+        places = one.places ∙ grow.places ∙ cover.places ∙ ap (λ (m : ℕ). n * m) (sym count);
+        all = λ c b i k m. subst (λ (height : ℕ). IsMarked height final c i) (sym count) (in_final c i b (subst (λ (m : ℕ). i < m) count k) m);
+      }

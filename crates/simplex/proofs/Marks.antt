@@ -1,76 +1,39 @@
 -- Marks of rows by column.
-use Rattle.std.proofs.Common.{◌≡◌, ◌≢◌, refl, sym, ap, subst, ◌∙◌, ℕ, zero, suc, ◌+◌, ◌<◌, ◌≤◌, ◌==◌, if◌then◌else◌, Bool, true, false, pos, arith, List, [], ◌∷◌, length, replicate, get_or, slice_index_or, slice_set, take, ◌⊎◌, inl, inr}
+use Rattle.std.proofs.Common.{◌≡◌, ◌≢◌, refl, sym, ap, subst, ◌∙◌, ℕ, zero, suc, ◌+◌, ◌*◌, ◌<◌, ◌≤◌, ◌==◌, if◌then◌else◌, Bool, true, false, pos, arith, List, [], ◌∷◌, length, get_or, slice_set, take, ◌⊎◌, inl, inr}
 use Rattle.std.proofs.lemmas.Bool.{eqb-true}
 use mathlib.Core.Bool.{false≢true}
-use Rattle.std.proofs.lemmas.List.{length-map, length-replicate, get_or-replicate, length-set, get_or-set_same}
-use Rattle.std.specs.Global.{Vec}
-use Rattle.std.specs.Vec.{vec_len}
+use Rattle.std.proofs.lemmas.Nat.{mul-le}
+use Rattle.std.proofs.lemmas.List.{length-set, get_or-set_same, get_or-set_other}
 use Rattle.frac_rows.specs.Entries.{Entries, at, columns_of}
 use Rattle.simplex.specs.Among.{Among}
 use Rattle.simplex.specs.Standing.{entries_at}
-use Rattle.simplex.specs.Covering.{marks_of, IsMarked, heights, Grow, HasOne}
+use Rattle.simplex.specs.Covering.{HasMark, IsMarked, Grow, Clears, HasOne}
 use Rattle.simplex.proofs.Rows.{row_is, among_take, among_taken, among_take_more, earlier_or_here}
 use Rattle.tableau.proofs.Pivoting.{same_or_not}
 
--- how many columns there are, and how many rows they have places for
-pub as_many : (old new : List (Vec Bool)) → heights new ≡ heights old → length new ≡ length old
-as_many old new e = sym (length-map new (λ column. length column.items)) ∙ ap length e ∙ length-map old (λ column. length column.items)
+-- Places
 
-pub columns_counted : (n m : ℕ) (marks : List (Vec Bool)) → heights marks ≡ replicate n m → length marks ≡ n
-columns_counted n m marks e = sym (length-map marks (λ column. length column.items)) ∙ ap length e ∙ length-replicate n m
+pub column_inside : (n h c : ℕ) → c < n → c * h + h ≤ n * h
+column_inside n h c l = let m : (c + 1) * h ≤ n * h = mul-le (c + 1) h n h (omega arith) (omega arith) in omega (arith, m)
 
-height_is : (marks : List (Vec Bool)) (c : ℕ) → length (marks_of marks c) ≡ get_or (heights marks) c 0
-height_is [] c = refl
-height_is (m ∷ ms) zero = refl
-height_is (m ∷ ms) (suc c) = height_is ms c
+pub inside : (n h c i : ℕ) → c < n → i < h → c * h + i < n * h
+inside n h c i l k = let m = column_inside n h c l in omega (arith, m, k)
 
-pub as_high : (old new : List (Vec Bool)) (c : ℕ) → heights new ≡ heights old → length (marks_of new c) ≡ length (marks_of old c)
-as_high old new c e = height_is new c ∙ ap (λ hs. get_or hs c 0) e ∙ sym (height_is old c)
+before_or_after : (c d : ℕ) → c ≢ d → (c < d) ⊎ (d < c)
+before_or_after zero zero n = absurd (n refl)
+before_or_after zero (suc d) n = inl (omega arith)
+before_or_after (suc c) zero n = inr (omega arith)
+before_or_after (suc c) (suc d) n = elim (before_or_after c d (λ e. n (ap suc e))) [ inl k ↦ inl (omega (arith, k)) | inr k ↦ inr (omega (arith, k)) ]
 
-pub height_of : (n m : ℕ) (marks : List (Vec Bool)) (c : ℕ) → heights marks ≡ replicate n m → c < n → length (marks_of marks c) ≡ m
-height_of n m marks c e h = height_is marks c ∙ ap (λ hs. get_or hs c 0) e ∙ get_or-replicate n c m 0 h
+-- a row's place in another column
+pub apart : (h c d i : ℕ) → c ≢ d → i < h → (c * h + i < d * h) ⊎ (d * h + h ≤ c * h + i)
+apart h c d i n l = elim (before_or_after c d n) [
+  | inl k ↦ inl (inside d h c i k l)
+  | inr k ↦ inr (let m = column_inside c h d k in omega (arith, m))
+]
 
--- the marks of a column
-pub marks_read : (marks : List (Vec Bool)) (c : ℕ) (d : Vec Bool) → c < length marks → marks_of marks c ≡ (get_or marks c d).items
-marks_read [] c d h = absurd (omega arith)
-marks_read (m ∷ ms) zero d h = refl
-marks_read (m ∷ ms) (suc c) d h = marks_read ms c d (omega arith)
+-- One mark more
 
-pub marks_is : (marks : List (Vec Bool)) (c : ℕ) (d : Vec Bool) → c < length marks → d ≡ get_or marks c d → marks_of marks c ≡ d.items
-marks_is marks c d h e = marks_read marks c d h ∙ sym (ap (λ (m : Vec Bool). m.items) e)
-
-pub height_read : (marks : List (Vec Bool)) (c : ℕ) (d : Vec Bool) → c < length marks → vec_len (slice_index_or marks c d) ≡ length (marks_of marks c)
-height_read marks c d h = (get_or marks c d).ok.0 ∙ sym (ap length (marks_read marks c d h))
-
--- a row whose mark is read as false has none
-pub not_marked : (marks : List (Vec Bool)) (c i : ℕ) (d : Vec Bool) (b : Bool) → c < length marks → d ≡ get_or marks c d → b ≡ get_or d.items i b → b ≡ false → IsMarked marks c i → ⊥
-not_marked marks c i d b h e r f m =
-    let read : false ≡ get_or d.items i false = subst (λ (x : Bool). x ≡ get_or d.items i x) f r in
-    false≢true (read ∙ ap (λ (xs : List Bool). get_or xs i false) (sym (marks_is marks c d h e)) ∙ m)
-
-marks_past : (marks : List (Vec Bool)) (c : ℕ) → length marks ≤ c → length (marks_of marks c) ≡ 0
-marks_past [] c h = refl
-marks_past (m ∷ ms) zero h = absurd (omega arith)
-marks_past (m ∷ ms) (suc c) h = marks_past ms c (omega arith)
-
-marks_here : (marks : List (Vec Bool)) (c : ℕ) (s : Vec Bool) → c < length marks → marks_of (slice_set marks c s) c ≡ s.items
-marks_here [] c s h = absurd (omega arith)
-marks_here (m ∷ ms) zero s h = refl
-marks_here (m ∷ ms) (suc c) s h = marks_here ms c s (omega arith)
-
-marks_there : (marks : List (Vec Bool)) (c : ℕ) (s : Vec Bool) (k : ℕ) → k ≢ c → marks_of (slice_set marks c s) k ≡ marks_of marks k
-marks_there [] c s k n = refl
-marks_there (m ∷ ms) zero s zero n = absurd (n refl)
-marks_there (m ∷ ms) zero s (suc k) n = refl
-marks_there (m ∷ ms) (suc c) s zero n = refl
-marks_there (m ∷ ms) (suc c) s (suc k) n = marks_there ms c s k (λ e. n (ap suc e))
-
-heights_kept : (marks : List (Vec Bool)) (c : ℕ) (s : Vec Bool) → length s.items ≡ length (marks_of marks c) → heights (slice_set marks c s) ≡ heights marks
-heights_kept [] c s e = refl
-heights_kept (m ∷ ms) zero s e = ap (λ (h : ℕ). h ∷ heights ms) e
-heights_kept (m ∷ ms) (suc c) s e = ap (λ (hs : List ℕ). length m.items ∷ hs) (heights_kept ms c s e)
-
--- one mark more
 still_marked : (xs : List Bool) (i j : ℕ) → get_or xs j false ≡ true → get_or (slice_set xs i true) j false ≡ true
 still_marked [] i j e = e
 still_marked (x ∷ xs) zero zero e = refl
@@ -85,87 +48,103 @@ only_marked (x ∷ xs) zero (suc j) e = inl e
 only_marked (x ∷ xs) (suc i) zero e = inl e
 only_marked (x ∷ xs) (suc i) (suc j) e = elim (only_marked xs i j e) [ inl f ↦ inl f | inr f ↦ inr (ap suc f) ]
 
-none_marked : (n j : ℕ) → get_or (replicate n false) j false ≡ true → ⊥
-none_marked zero j e = false≢true e
-none_marked (suc n) zero e = false≢true e
-none_marked (suc n) (suc j) e = none_marked n j e
+-- where there is no place, nothing is set
+pub set_past : (xs : List Bool) (i : ℕ) → length xs ≤ i → xs ≡ slice_set xs i true
+set_past [] i h = refl
+set_past (x ∷ xs) zero h = absurd (omega (arith, h))
+set_past (x ∷ xs) (suc i) h = ap (λ (ys : List Bool). x ∷ ys) (set_past xs i (omega (arith, h)))
 
-pub row_marked : (c i : ℕ) (old : List (Vec Bool)) (s : Vec Bool) → c < length old → i < length (marks_of old c) → s.items ≡ slice_set (marks_of old c) i true → Grow (c ∷ []) (i ∷ []) old (slice_set old c s)
-row_marked c i old s h b e =
-    let is : marks_of (slice_set old c s) c ≡ slice_set (marks_of old c) i true = marks_here old c s h ∙ e in
-    record {
-      places = heights_kept old c s (ap length e ∙ length-set (marks_of old c) i true);
-      kept = λ k j m. elim (same_or_not k c) [
-        | inl q ↦ rw (q, is) (still_marked (marks_of old c) i j (rw q at m))
-        | inr n ↦ rw (marks_there old c s k n) m
-      ];
-      has = λ k j l m a. elim m [
-        | inl q ↦ elim a [ inl r ↦ rw (q, r, is) (get_or-set_same (marks_of old c) i true false b) | inr r ↦ absurd r ]
-        | inr q ↦ absurd q
-      ];
-      only = λ k j m. elim (same_or_not k c) [
-        | inl q ↦ elim (only_marked (marks_of old c) i j (rw (q, is) at m)) [ inl w ↦ inl (rw q w) | inr r ↦ inr (inl r) ]
-        | inr n ↦ inl (rw (marks_there old c s k n) at m)
-      ];
-    }
-
--- a place that no column has
-no_place : (c i : ℕ) (old : List (Vec Bool)) → length (marks_of old c) ≤ i → Grow (c ∷ []) (i ∷ []) old old
-no_place c i old h = record {
-  places = refl;
-  kept = λ k j m. m;
+pub row_marked : (h c i : ℕ) (old : List Bool) → Grow h (c ∷ []) (i ∷ []) old (slice_set old (c * h + i) true)
+row_marked h c i old = record {
+  places = length-set old (c * h + i) true;
+  kept = λ p m. still_marked old (c * h + i) p m;
   has = λ k j l m a. elim m [
-    | inl q ↦ elim a [ inl r ↦ (let l' = rw (q, r) at l in absurd (omega arith)) | inr r ↦ absurd r ]
+    | inl q ↦ elim a [ inl r ↦ rw (q, r) (get_or-set_same old (c * h + i) true false (rw (q, r) at l)) | inr r ↦ absurd r ]
     | inr q ↦ absurd q
   ];
-  only = λ k j m. inl m;
+  only = λ p m. elim (only_marked old (c * h + i) p m) [
+    | inl w ↦ inl w
+    | inr e ↦ inr (record { column = c; row = i; is = e; in_columns = inl refl; in_rows = inl refl })
+  ];
 }
 
-pub no_column : (c i : ℕ) (old : List (Vec Bool)) → length old ≤ c → Grow (c ∷ []) (i ∷ []) old old
-no_column c i old h = no_place c i old (let none = marks_past old c h in omega arith)
-
-pub no_row : (c i : ℕ) (old : List (Vec Bool)) (d : Vec Bool) → c < length old → vec_len (slice_index_or old c d) ≤ i → Grow (c ∷ []) (i ∷ []) old old
-no_row c i old d h l = no_place c i old (let high = height_read old c d h in omega arith)
-
--- the column is cleared, and has one mark then
-pub one_kept : (c i : ℕ) (old : List (Vec Bool)) (s : Vec Bool) → c < length old → i < length (marks_of old c) → s.items ≡ slice_set (replicate (length (marks_of old c)) false) i true → HasOne c i old (slice_set old c s)
-one_kept c i old s h b e =
-    let cleared : List Bool = replicate (length (marks_of old c)) false in
-    let is : marks_of (slice_set old c s) c ≡ slice_set cleared i true = marks_here old c s h ∙ e in
-    let high : length cleared ≡ length (marks_of old c) = length-replicate (length (marks_of old c)) false in
-    record {
-      places = heights_kept old c s (ap length e ∙ length-set cleared i true ∙ high);
-      here = rw is (get_or-set_same cleared i true false (rw high b));
-      alone = λ j m. elim (only_marked cleared i j (rw is at m)) [ inl w ↦ absurd (none_marked (length (marks_of old c)) j w) | inr r ↦ r ];
-      others = λ k n. marks_there old c s k n;
-    }
+-- no vector has such a place
+pub no_place : (h c i : ℕ) (old : List Bool) → length old ≤ c * h + i → Grow h (c ∷ []) (i ∷ []) old old
+no_place h c i old l = subst (Grow h (c ∷ []) (i ∷ []) old) (sym (set_past old (c * h + i) l)) (row_marked h c i old)
 
 -- one column more
-pub column_more : (k : ℕ) (columns rows : List ℕ) (old mid new : List (Vec Bool)) → k < length columns → Grow (take k columns) rows old mid → Grow (get_or columns k 0 ∷ []) rows mid new → Grow (take (k + 1) columns) rows old new
-column_more k columns rows old mid new h g m = record {
+pub column_more : (h k : ℕ) (columns rows : List ℕ) (old mid new : List Bool) → k < length columns → Grow h (take k columns) rows old mid → Grow h (get_or columns k 0 ∷ []) rows mid new → Grow h (take (k + 1) columns) rows old new
+column_more h k columns rows old mid new l g m = record {
   places = m.places ∙ g.places;
-  kept = λ c i a. m.kept c i (g.kept c i a);
-  has = λ c i l b a. elim (among_take_more k columns c h b) [
-    | inl d ↦ m.kept c i (g.has c i l d a)
-    | inr e ↦ m.has c i (rw (as_high old mid c g.places) l) (inl e) a
+  kept = λ p a. m.kept p (g.kept p a);
+  has = λ c i q b a. elim (among_take_more k columns c l b) [
+    | inl d ↦ m.kept (c * h + i) (g.has c i q d a)
+    | inr e ↦ m.has c i (rw g.places q) (inl e) a
   ];
-  only = λ c i a. elim (m.only c i a) [ inl b ↦ g.only c i b | inr b ↦ inr b ];
+  only = λ p a. elim (m.only p a) [
+    | inl b ↦ elim (g.only p b) [
+      | inl d ↦ inl d
+      | inr w ↦ inr (record { column = w.column; row = w.row; is = w.is; in_columns = among_take k columns w.column l w.in_columns; in_rows = w.in_rows })
+    ]
+    | inr w ↦ inr (record { column = w.column; row = w.row; is = w.is; in_columns = taken w.column w.in_columns; in_rows = w.in_rows })
+  ];
 }
+  where
+    taken : (c : ℕ) → Among c (get_or columns k 0 ∷ []) → Among c (take (k + 1) columns)
+    taken c (inl e) = subst (λ (z : ℕ). Among z (take (k + 1) columns)) (sym e) (among_taken k columns l)
+    taken c (inr a) = absurd a
 
 -- one row more
-pub row_more : (k : ℕ) (columns rows : List ℕ) (old mid new : List (Vec Bool)) → k < length rows → Grow columns (take k rows) old mid → Grow columns (get_or rows k 0 ∷ []) mid new → Grow columns (take (k + 1) rows) old new
-row_more k columns rows old mid new h g m = record {
+pub row_more : (h k : ℕ) (columns rows : List ℕ) (old mid new : List Bool) → k < length rows → Grow h columns (take k rows) old mid → Grow h columns (get_or rows k 0 ∷ []) mid new → Grow h columns (take (k + 1) rows) old new
+row_more h k columns rows old mid new l g m = record {
   places = m.places ∙ g.places;
-  kept = λ c i a. m.kept c i (g.kept c i a);
-  has = λ c i l b a. elim (among_take_more k rows i h a) [
-    | inl d ↦ m.kept c i (g.has c i l b d)
-    | inr e ↦ m.has c i (rw (as_high old mid c g.places) l) b (inl e)
+  kept = λ p a. m.kept p (g.kept p a);
+  has = λ c i q b a. elim (among_take_more k rows i l a) [
+    | inl d ↦ m.kept (c * h + i) (g.has c i q b d)
+    | inr e ↦ m.has c i (rw g.places q) b (inl e)
   ];
-  only = λ c i a. elim (m.only c i a) [
-    | inl b ↦ elim (g.only c i b) [ inl d ↦ inl d | inr d ↦ inr (among_take k rows i h d) ]
-    | inr b ↦ elim b [ inl e ↦ inr (subst (λ (z : ℕ). Among z (take (k + 1) rows)) (sym e) (among_taken k rows h)) | inr f ↦ absurd f ]
+  only = λ p a. elim (m.only p a) [
+    | inl b ↦ elim (g.only p b) [
+      | inl d ↦ inl d
+      | inr w ↦ inr (record { column = w.column; row = w.row; is = w.is; in_columns = w.in_columns; in_rows = among_take k rows w.row l w.in_rows })
+    ]
+    | inr w ↦ inr (record { column = w.column; row = w.row; is = w.is; in_columns = w.in_columns; in_rows = taken w.row w.in_rows })
   ];
 }
+  where
+    taken : (i : ℕ) → Among i (get_or rows k 0 ∷ []) → Among i (take (k + 1) rows)
+    taken i (inl e) = subst (λ (z : ℕ). Among z (take (k + 1) rows)) (sym e) (among_taken k rows l)
+    taken i (inr a) = absurd a
+
+-- Marks that are taken away
+
+pub clears_none : (first : ℕ) (old : List Bool) → Clears first first old old
+clears_none first old = record { places = refl; none = λ p a b m. absurd (omega (arith, a, b)); others = λ p w. refl }
+
+pub clears_more : (first k : ℕ) (old mid : List Bool) → first ≤ k → k < length mid → Clears first k old mid → Clears first (k + 1) old (slice_set mid k false)
+clears_more first k old mid o l h = record {
+  places = length-set mid k false ∙ h.places;
+  none = λ p a b m. elim (same_or_not p k) [
+    | inl e ↦ false≢true (sym (get_or-set_same mid k false false l) ∙ subst (HasMark (slice_set mid k false)) e m)
+    | inr n ↦ h.none p a (let d = before_or_after p k n in elim d [ inl q ↦ q | inr q ↦ absurd (omega (arith, q, b)) ]) (sym (get_or-set_other mid k p false false n) ∙ m)
+  ];
+  others = λ p w. get_or-set_other mid k p false false (λ e. elim w [ inl q ↦ absurd (omega (arith, q, e, o)) | inr q ↦ absurd (omega (arith, q, e)) ])
+      ∙ h.others p (elim w [ inl q ↦ inl q | inr q ↦ inr (omega (arith, q)) ]);
+}
+
+-- the column is cleared, and has one mark then
+pub one_kept : (h c i : ℕ) (old mid : List Bool) → c * h + h ≤ length old → i < h → Clears (c * h) (c * h + h) old mid → HasOne h c i old (slice_set mid (c * h + i) true)
+one_kept h c i old mid l b k =
+    let count = k.places in
+    record {
+      places = length-set mid (c * h + i) true ∙ k.places;
+      here = get_or-set_same mid (c * h + i) true false (omega (arith, count, l, b));
+      alone = λ j q m. elim (only_marked mid (c * h + i) (c * h + j) m) [
+        | inl w ↦ absurd (k.none (c * h + j) (omega arith) (omega (arith, q)) w)
+        | inr e ↦ omega (arith, e)
+      ];
+      others = λ p w. get_or-set_other mid (c * h + i) p true false (λ e. elim w [ inl q ↦ absurd (omega (arith, q, e)) | inr q ↦ absurd (omega (arith, q, e, b)) ]) ∙ k.others p w;
+    }
 
 -- a row's columns
 listed : (c : ℕ) (es : Entries) → (at c es).num ≢ pos 0 → Among c (columns_of es)
@@ -177,17 +156,24 @@ listed c ((k, x) ∷ es) n = by (k == c) refl n (listed c es)
     by false e m f = inr (f m)
 
 -- the marks of n columns: each of the first k rows with a number in one of them is marked there
-pub record CoverFirst (n k : ℕ) (rows : List Entries) (marks : List (Vec Bool)) : Type 0 where
-  pub places : heights marks ≡ replicate n (length rows)
-  pub all : (c i : ℕ) → c < n → i < k → (at c (entries_at rows i)).num ≢ pos 0 → IsMarked marks c i
+pub record CoverFirst (n k : ℕ) (rows : List Entries) (marks : List Bool) : Type 0 where
+  pub places : length marks ≡ n * length rows
+  pub all : (c i : ℕ) → c < n → i < k → (at c (entries_at rows i)).num ≢ pos 0 → IsMarked (length rows) marks c i
+
+pub none_first : (n : ℕ) (rows : List Entries) (marks : List Bool) → length marks ≡ n * length rows → CoverFirst n 0 rows marks
+none_first n rows marks e = record { places = e; all = λ c i l m z. absurd (omega (arith, m)) }
 
 -- one row more is covered
-pub covered_more : (n k : ℕ) (rows : List Entries) (d : Entries) (columns : List ℕ) (old new : List (Vec Bool)) → k < length rows → d ≡ get_or rows k d → columns ≡ columns_of d → CoverFirst n k rows old → Grow columns (k ∷ []) old new → CoverFirst n (k + 1) rows new
+pub covered_more : (n k : ℕ) (rows : List Entries) (d : Entries) (columns : List ℕ) (old new : List Bool) → k < length rows → d ≡ get_or rows k d → columns ≡ columns_of d → CoverFirst n k rows old → Grow (length rows) columns (k ∷ []) old new → CoverFirst n (k + 1) rows new
 covered_more n k rows d columns old new h e f o g = record {
   places = g.places ∙ o.places;
   all = λ c i l m z. elim (earlier_or_here i k m) [
-    | inl b ↦ g.kept c i (o.all c i l b z)
-    | inr q ↦ g.has c i (let high = height_of n (length rows) old c o.places l in omega arith)
+    | inl b ↦ g.kept (c * length rows + i) (o.all c i l b z)
+    | inr q ↦ g.has c i (let low = inside n (length rows) c i l (omega (arith, q, h)) in let count = o.places in omega (arith, low, count))
         (subst (Among c) (sym f) (listed c d (subst (λ (es : Entries). (at c es).num ≢ pos 0) (ap (entries_at rows) q ∙ sym (row_is rows k d h e)) z))) (inl q)
   ];
 }
+
+-- a row whose mark is read as false has none
+pub not_marked : (marks : List Bool) (p : ℕ) → get_or marks p false ≡ false → HasMark marks p → ⊥
+not_marked marks p f m = false≢true (sym f ∙ m)

@@ -1,8 +1,10 @@
 //! For each column, marks at the rows that may have a number there, so that a pivot looks at no other row.
+//! They stand in one vector, column after column.
 
-ghost use Rattle.std.specs.Prelude.{◌≡◌, ◌<◌, [], ◌∷◌, length, replicate, IfOk};
+ghost use Rattle.std.specs.Prelude.{◌≡◌, ◌<◌, ◌≤◌, ◌+◌, ◌*◌, ◌^◌, [], ◌∷◌, true, length, slice_set, IfOk};
+ghost use Rattle.std.specs.Option.{SomeIff};
 ghost use Rattle.simplex.specs.Standing.{AreTouching};
-ghost use Rattle.simplex.specs.Covering.{marks_of, heights, Cover, Grow, HasOne, Follows};
+ghost use Rattle.simplex.specs.Covering.{Cover, IsCovered, Grow, Clears, HasOne, Follows};
 
 use frac_rows::FracRow;
 use std::alloc::{AllocError, Global};
@@ -12,98 +14,125 @@ pub(crate) fn covering(
     alloc: Global,
     rows: &[FracRow],
     columns: usize,
-) -> Result<Vec<Vec<bool>>, AllocError>
+) -> Result<Vec<bool>, AllocError>
     ensures { IfOk result (λ marks. Cover columns rows.now marks.items) }
 {
     let mut marks = no_marks(alloc, columns, rows.len())?;
     for i in 0..rows.len() {
-        mark_row(&mut marks, rows[i].columns(), i);
+        mark_row(&mut marks, rows.len(), rows[i].columns(), i);
     }
     Ok(marks)
 }
 
 /// A place for each row in each of the first columns, and no mark.
-fn no_marks(alloc: Global, columns: usize, rows: usize) -> Result<Vec<Vec<bool>>, AllocError>
-    ensures { IfOk result (λ marks. heights marks.items ≡ replicate columns rows) }
+fn no_marks(alloc: Global, columns: usize, rows: usize) -> Result<Vec<bool>, AllocError>
+    ensures { IfOk result (λ marks. length marks.items ≡ columns * rows) }
 {
-    let mut marks = Vec::with_capacity(alloc, columns)?;
-    for _ in 0..columns {
-        marks.push(vec![in alloc; false; rows]?)?;
-    }
-    Ok(marks)
+    let Some(count) = columns.checked_mul(rows) else {
+        return Err(AllocError);
+    };
+    vec![in alloc; false; count]
 }
 
 /// Marks these rows in these columns, where both have a place.
-fn mark_rows(marks: &mut [Vec<bool>], columns: &[u32], rows: &[usize])
-    ensures { Grow columns.now rows.now marks.old marks.new }
+fn mark_rows(marks: &mut [bool], height: usize, columns: &[u32], rows: &[usize])
+    ensures { Grow height columns.now rows.now marks.old marks.new }
 {
     for row in rows {
-        mark_row(marks, columns, *row);
+        mark_row(marks, height, columns, *row);
     }
 }
 
 /// Marks a row in these columns, where both have a place.
-fn mark_row(marks: &mut [Vec<bool>], columns: &[u32], row: usize)
-    ensures { Grow columns.now (row ∷ []) marks.old marks.new }
+fn mark_row(marks: &mut [bool], height: usize, columns: &[u32], row: usize)
+    ensures { Grow height columns.now (row ∷ []) marks.old marks.new }
 {
     for column in columns {
-        mark(marks, *column, row);
+        mark(marks, height, *column, row);
     }
 }
 
 /// Marks a row in a column, where both have a place.
-fn mark(marks: &mut [Vec<bool>], column: u32, row: usize)
-    ensures { Grow (column ∷ []) (row ∷ []) marks.old marks.new }
+fn mark(marks: &mut [bool], height: usize, column: u32, row: usize)
+    ensures { Grow height (column ∷ []) (row ∷ []) marks.old marks.new }
 {
-    let place = column as usize;
-    if place < marks.len() && row < marks[place].len() {
-        marks[place][row] = true;
+    match place_of(height, column, row) {
+        Some(place) => set(marks, place),
+        None => {}
+    }
+}
+
+/// The place of a row in a column, where each column has `height` places.
+fn place_of(height: usize, column: u32, row: usize) -> Option<usize>
+    ensures { SomeIff result (column * height + row < 2 ^ 64) (column * height + row) }
+{
+    (column as usize).checked_mul(height)?.checked_add(row)
+}
+
+/// Marks a place, if there is one.
+fn set(marks: &mut [bool], place: usize)
+    ensures { marks.new ≡ slice_set marks.old place true }
+{
+    if place < marks.len() {
+        marks[place] = true;
+    }
+}
+
+/// Takes the marks from `first` on and before `end`.
+fn clear(marks: &mut [bool], first: usize, end: usize)
+    requires order { first ≤ end }
+    requires inside { end ≤ length marks.old }
+    ensures { Clears first end marks.old marks.new }
+{
+    for place in first..end {
+        marks[place] = false;
     }
 }
 
 /// Leaves one mark in a column.
-fn keep_one(marks: &mut [Vec<bool>], column: u32, row: usize)
-    requires column { column < length marks.old }
-    requires row { row < length (marks_of marks.old column) }
-    ensures { HasOne column row marks.old marks.new }
+fn keep_one(marks: &mut [bool], height: usize, column: u32, row: usize)
+    requires column { column * height + height ≤ length marks.old }
+    requires row { row < height }
+    ensures { HasOne height column row marks.old marks.new }
 {
-    let places = &mut marks[column as usize];
-    places.fill(false);
-    places[row] = true;
+    let first = column as usize * height;
+    clear(marks, first, first + height);
+    marks[first + row] = true;
 }
 
 /// Follows the pivot in this row and column: these rows may have numbers in the lead's columns, and in the
 /// entering column the lead alone has one.
 pub(crate) fn follow(
-    marks: &mut [Vec<bool>],
+    marks: &mut [bool],
+    height: usize,
     columns: &[u32],
     rows: &[usize],
     column: u32,
     row: usize,
 )
-    requires column { column < length marks.old }
-    requires row { row < length (marks_of marks.old column) }
-    ensures { Follows columns.now rows.now column row marks.old marks.new }
+    requires column { column * height + height ≤ length marks.old }
+    requires row { row < height }
+    ensures { Follows height columns.now rows.now column row marks.old marks.new }
 {
-    mark_rows(marks, columns, rows);
-    keep_one(marks, column, row);
+    mark_rows(marks, height, columns, rows);
+    keep_one(marks, height, column, row);
 }
 
 /// The rows with a number at column `s` that is not 0.
 pub(crate) fn touching(
     alloc: Global,
     rows: &[FracRow],
-    marks: &[Vec<bool>],
+    marks: &[bool],
     s: u32,
 ) -> Result<Vec<usize>, AllocError>
-    requires column { s < length marks.now }
-    requires covers { Cover (length marks.now) rows.now marks.now }
+    requires column { s * length rows.now + length rows.now ≤ length marks.now }
+    requires covers { IsCovered s rows.now marks.now }
     ensures { IfOk result (λ is. AreTouching s rows.now is.items) }
 {
     let mut all = Vec::new(alloc);
-    let marks = &marks[s as usize];
+    let first = s as usize * rows.len();
     for i in 0..rows.len() {
-        if marks[i] && rows[i].at(s).num() != 0 {
+        if marks[first + i] && rows[i].at(s).num() != 0 {
             all.push(i)?;
         }
     }

@@ -28,7 +28,7 @@ use std::alloc::{AllocError, Global};
 pub(crate) struct Scratch {
     gains: Vec<Frac>,
     row: FracRow,
-    marks: Vec<Vec<bool>>,
+    marks: Vec<bool>,
 }
 
 /// What comes of a step.
@@ -98,6 +98,7 @@ pub(crate) fn make_step<F: Fn(&[Frac]) -> Option<usize>>(
 {
     let slack = system.rows().len() as u32;
     let right = slack + system.unknowns();
+    let height = table.rows.len();
     let column = match entering(chooser, &table.gains, &mut scratch.gains) {
         Some(column) => column,
         None => return Ok(Step::Best),
@@ -120,7 +121,7 @@ pub(crate) fn make_step<F: Fn(&[Frac]) -> Option<usize>>(
         return stopped(fault);
     }
     let columns = table.rows[row].columns();
-    follow(&mut scratch.marks, columns, &touching, column, row);
+    follow(&mut scratch.marks, height, columns, &touching, column, row);
     table.basis[row] = column;
     table.pivots.push((row as u32, column))?;
     Ok(Step::Pivot)

@@ -3,4 +3,4 @@ use Rattle.simplex.proofs.Marks.{column_more}
 use Rattle.simplex.proofs.covering.mark_row.Goals as goal
 
 pub loop-column-preserved : goal.loop-column-preserved
-loop-column-preserved c = column_more c.loop-column.column-index c.args.columns.now (c.args.row ∷ []) c.args.marks.now c.loop-column.marks c.mark.new.marks (omega arith) c.loop-column.invariant c.mark.ensures
+loop-column-preserved c = column_more c.args.height c.loop-column.column-index c.args.columns.now (c.args.row ∷ []) c.args.marks.now c.loop-column.marks c.mark.new.marks (omega arith) c.loop-column.invariant c.mark.ensures

@@ -3,4 +3,4 @@ use Rattle.simplex.specs.Covering.{Grow}
 use Rattle.simplex.proofs.covering.mark_row.Given as goal
 
 abbrev pub invariant-loop-column : goal.invariant-loop-column
-invariant-loop-column l = Grow (take l.column-index l.columns) (l.row ∷ []) l.initial.marks l.marks
+invariant-loop-column l = Grow l.height (take l.column-index l.columns) (l.row ∷ []) l.initial.marks l.marks

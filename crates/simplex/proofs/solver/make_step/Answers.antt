@@ -8,7 +8,7 @@ use Rattle.simplex.specs.Standing.{entries_at}
 use Rattle.simplex.specs.Covering.{Grow}
 use Rattle.simplex.proofs.Rows.{row_is}
 use Rattle.simplex.proofs.Covers.{covered, positive_not_none}
-use Rattle.simplex.proofs.Marks.{as_many, columns_counted, height_of}
+use Rattle.simplex.proofs.Marks.{column_inside}
 use Rattle.simplex.proofs.Steps.{columns_compared}
 use Rattle.simplex.proofs.Solves.{reaches_end, reaches_rise, search_refuses, pivot_refuses, pivot_reaches, one_longer, basis_long, stops, written_back}
 use Rattle.simplex.proofs.solver.make_step.Goals as goal
@@ -87,26 +87,30 @@ touching-requires-clause-column g c =
     let o = rw (c.deref_mut.ensures.value, c.requires.ready.cleared.count) at c.in-Some.ensures.chosen in
     let inside = (c.requires.chooses.some o.0 c.in-Some.column o.2).0 in
     let count = o.1.count in
-    let columns = columns_counted (right c.args.system.now) (length c.args.table.now.rows.items) c.args.scratch.now.marks.items c.requires.ready.cover.places in
-    rw c.deref-2.ensures.value (omega arith)
+    let places = c.requires.ready.cover.places in
+    let low = column_inside (right c.args.system.now) (length c.args.table.now.rows.items) c.in-Some.column (omega arith) in
+    rw (c.deref-2.ensures.value, c.deref.ensures.value) (omega (arith, places, low))
+
+pub touching-requires-clause-covers : goal.touching-requires-clause-covers
+touching-requires-clause-covers g c =
+    let o = rw (c.deref_mut.ensures.value, c.requires.ready.cleared.count) at c.in-Some.ensures.chosen in
+    let inside = (c.requires.chooses.some o.0 c.in-Some.column o.2).0 in
+    let count = o.1.count in
+    rw (c.deref-2.ensures.value, c.deref.ensures.value) (c.requires.ready.cover.all c.in-Some.column (omega arith))
 
 pub follow-requires-clause-column : goal.follow-requires-clause-column
 follow-requires-clause-column g c =
     let o = rw (c.deref_mut.ensures.value, c.requires.ready.cleared.count) at c.in-Some.ensures.chosen in
     let inside = (c.requires.chooses.some o.0 c.in-Some.column o.2).0 in
     let count = o.1.count in
-    let columns = columns_counted (right c.args.system.now) (length c.args.table.now.rows.items) c.args.scratch.now.marks.items c.requires.ready.cover.places in
-    rw c.deref_mut-3.ensures.value (omega arith)
+    let places = c.requires.ready.cover.places in
+    let low = column_inside (right c.args.system.now) (length c.args.table.now.rows.items) c.in-Some.column (omega arith) in
+    rw (c.deref_mut-3.ensures.value, c.len-height.ensures, c.args.table.now.rows.ok.0) (omega (arith, places, low))
 
 pub follow-requires-clause-row : goal.follow-requires-clause-row
 follow-requires-clause-row g c =
-    let o = rw (c.deref_mut.ensures.value, c.requires.ready.cleared.count) at c.in-Some.ensures.chosen in
-    let inside = (c.requires.chooses.some o.0 c.in-Some.column o.2).0 in
-    let count = o.1.count in
     let l = rw c.deref-3.ensures.value at c.in-Ok-Some.ensures.row c.in-Ok-Some.row (ap Ok c.in-Ok-Some.field-0-is) in
-    let h = l.bounding.inside in
-    let high = height_of (right c.args.system.now) (length c.args.table.now.rows.items) c.args.scratch.now.marks.items c.in-Some.column c.requires.ready.cover.places (omega arith) in
-    rw c.deref_mut-3.ensures.value (omega arith)
+    rw (c.len-height.ensures, c.args.table.now.rows.ok.0) l.bounding.inside
 
 pub returns-clause-ready : goal.returns-clause-ready
 returns-clause-ready g c e =
@@ -116,8 +120,8 @@ returns-clause-ready g c e =
     let back = written_back c.args.table.now.rows.len c.args.table.now.rows.items c.pivot.new.rows c.args.table.now.rows.ok.0 made.rows_swept.count in
     let cleared = rw (c.deref_mut.ensures.value, c.requires.ready.cleared.count) at c.entering.ensures.cleared in
     let gains_back = written_back c.args.scratch.now.gains.len c.args.scratch.now.gains.items c.entering.new.seen c.args.scratch.now.gains.ok.0 (cleared.count ∙ sym c.requires.ready.cleared.count) in
-    let follows = rw (c.deref_mut-3.ensures.value, c.deref-6.ensures.value, c.columns-columns.ensures.all) at c.follow.ensures in
-    let marks_back = written_back c.args.scratch.now.marks.len c.args.scratch.now.marks.items c.follow.new.marks c.args.scratch.now.marks.ok.0 (as_many c.args.scratch.now.marks.items c.follow.new.marks (follows.one.places ∙ follows.grow.places)) in
+    let follows = rw (c.deref_mut-3.ensures.value, c.deref-6.ensures.value, c.columns-columns.ensures.all, c.len-height.ensures, c.args.table.now.rows.ok.0) at c.follow.ensures in
+    let marks_back = written_back c.args.scratch.now.marks.len c.args.scratch.now.marks.items c.follow.new.marks c.args.scratch.now.marks.ok.0 (follows.one.places ∙ follows.grow.places) in
     let inside = l.bounding.inside in
     let count = made.rows_swept.count in
     let lead : c.index.result.now ≡ entries_at c.pivot.new.rows c.in-Ok-Some.row = row_is c.pivot.new.rows c.in-Ok-Some.row c.index.result.now (omega arith) (rw back at c.index.ensures) in
@@ -125,5 +129,5 @@ returns-clause-ready g c e =
       cleared = rw gains_back cleared;
       cover = rw (back, marks_back) (covered (right c.args.system.now) c.in-Ok-Some.row c.in-Some.column c.args.table.now.rows.items c.args.table.now.gains c.pivot.new.rows c.pivot.new.gains c.in_ok-touching.touching.items
           c.args.scratch.now.marks.items follows.grown c.follow.new.marks inside (positive_not_none l.bounding.positive) c.requires.ready.cover touches made
-          (subst (λ (es : Entries). Grow (columns_of es) c.in_ok-touching.touching.items c.args.scratch.now.marks.items follows.grown) lead follows.grow) follows.one);
+          (subst (λ (es : Entries). Grow (length c.args.table.now.rows.items) (columns_of es) c.in_ok-touching.touching.items c.args.scratch.now.marks.items follows.grown) lead follows.grow) follows.one);
     }
