@@ -61,12 +61,7 @@ fn check_vector(alloc: Global, system: &System, y: &[i128]) -> Result<(), Answer
 
 /// The solution over its own least denominator. Where that is the denominator of both, these are its
 /// numbers.
-fn solution(
-    alloc: Global,
-    x: &[Frac],
-    both: u128,
-    over_both: &[i128],
-) -> Result<Answer, AllocError>
+fn solution(alloc: Global, x: &[Frac], both: u128, over_both: &[i128]) -> Result<Answer, AllocError>
     requires wholes { HaveWholes x.now }
     requires numbers { over_both.now ≡ map pos (all_over both x.now) }
     ensures { IfOk result (IsInWholes x.now) }
