@@ -34,7 +34,8 @@ hint_stays t (c.Call ms) h = entries_stay t ms h
 body_stays : (t : ℕ) (b : Body) → BodyFits t b → BodyFits 1 (times_body t b)
 body_stays t (Solved sigs hints) h = (
   all_stay (SigFits t) (SigFits 1) (times_sig t) (sig_stays t) sigs h.0,
-  all_stay (All (HintFits t)) (All (HintFits 1)) (map (times_hint t)) (all_stay (HintFits t) (HintFits 1) (times_hint t) (hint_stays t)) hints h.1)
+  all_stay (All (HintFits t)) (All (HintFits 1)) (map (times_hint t)) (all_stay (HintFits t) (HintFits 1) (times_hint t) (hint_stays t)) hints h.1,
+)
 body_stays t (c.Refuted farkas) h = tt
 body_stays t (c.Calls fun) h = tt
 
