@@ -1,8 +1,9 @@
 -- Answers that end alike, step by step.
 use Rattle.std.proofs.Common.{◌≡◌, refl, sym, subst}
 use Rattle.raml_syntax.specs.Tree.{Text}
-use Rattle.raml_top.specs.Ending.{Ending, Overflows, OnTask}
-use Rattle.raml_top.specs.Steps.{Names, Answer, Report, Refusal, ending_in, Step, refused, goes_on}
+use Rattle.call_answers.specs.Ending.{Ending, Overflows, OnTask}
+use Rattle.call_answers.specs.Line.{Names}
+use Rattle.raml_top.specs.Steps.{Answer, Report, Refusal, ending_in, Step, refused, goes_on}
 use Rattle.raml_top.specs.Promise.{Alike}
 
 pub alike_refl : (e : Ending) → Alike e e

@@ -13,17 +13,17 @@ use Rattle.analysis_report.specs.Told.{floors_of, FloorsAre, FloorsRefused, AllH
 use Rattle.analysis_report.specs.declared.bounds.FloorFault.{FloorFault}
 use Rattle.analysis_report.specs.declared.bounds.FloorFault.TheVariants as floor
 use Rattle.analysis_report.specs.declared.bounds.Floors.{Floors}
-use Rattle.raml_top.specs.Ending.{Overflows, AtPoint}
+use Rattle.call_answers.specs.Ending.{Overflows, AtPoint}
+use Rattle.call_answers.specs.Line.{no_names}
+use Rattle.call_answers.specs.declared.answer.Report.{Report}
+use Rattle.call_answers.specs.declared.answer.Refusal.{Refusal}
+use Rattle.call_answers.specs.declared.status.Status.TheVariants as s
+use Rattle.call_answers.specs.declared.status.OverflowAt.TheVariants as o
 use Rattle.raml_top.specs.Outside.{Promised}
-use Rattle.raml_top.specs.Steps.{no_names}
 use Rattle.raml_top.specs.Call.{Placed, PointRefuses, AreFloors, OfFloors}
 use Rattle.raml_top.specs.Promise.{RunsBounded}
 use Rattle.raml_top.specs.Parts.{Gives, IsCallOf, FloorRefusal}
-use Rattle.raml_top.specs.declared.answer.Report.{Report}
-use Rattle.raml_top.specs.declared.answer.Refusal.{Refusal}
 use Rattle.raml_top.specs.declared.call.Call.{Call}
-use Rattle.raml_top.specs.declared.status.Status.TheVariants as s
-use Rattle.raml_top.specs.declared.status.OverflowAt.TheVariants as o
 use Rattle.raml_top.proofs.Stepping.{step_refused, step_goes}
 use Rattle.raml_top.proofs.Refusing.{told_refuses}
 

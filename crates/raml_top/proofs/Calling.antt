@@ -10,13 +10,14 @@ use Rattle.value_text.specs.Reading.{Answers, AreRead, most_cells}
 use Rattle.value_text.specs.declared.word.Word.{Word}
 use Rattle.value_text.specs.declared.word.Cell.{Cell}
 use Rattle.fault_text.specs.declared.plain.Which.TheVariants as w
-use Rattle.raml_top.specs.Ending.{Ending, NoFunction}
+use Rattle.call_answers.specs.Ending.{Ending, NoFunction}
+use Rattle.call_answers.specs.Line.{no_names}
+use Rattle.call_answers.specs.declared.answer.Report.{Report}
+use Rattle.call_answers.specs.declared.answer.Refusal.{Refusal as TheRefusal}
 use Rattle.raml_top.specs.Outside.{Promised, Store}
-use Rattle.raml_top.specs.Steps.{Answer, no_names}
+use Rattle.raml_top.specs.Steps.{Answer}
 use Rattle.raml_top.specs.Call.{Placed, IsNamed, DataRefuses, OfArguments, OfCall}
 use Rattle.raml_top.specs.Parts.{Gives, Refuses, HasArguments, ReadsArguments, ArgumentsRefuse, ReadsCall, IsCallOf, CallRefuses, IsShort, FileRefuses}
-use Rattle.raml_top.specs.declared.answer.Report.{Report}
-use Rattle.raml_top.specs.declared.answer.Refusal.{Refusal as TheRefusal}
 use Rattle.raml_top.specs.declared.call.Arguments.{Arguments}
 use Rattle.raml_top.specs.declared.call.Call.{Call}
 use Rattle.raml_top.proofs.Stepping.{step_refused, step_goes, refuses_map, call_goes}

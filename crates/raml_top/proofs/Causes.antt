@@ -1,16 +1,16 @@
 -- Why a call ends so, by what was written.
 use Rattle.std.proofs.Common.{◌≡◌, ◌⊎◌, Ok, Err, refl, subst, inl, inr}
 use Rattle.raml_syntax.specs.Tree.{Text}
+use Rattle.call_answers.specs.Line.{Names, no_names, line_of}
+use Rattle.call_answers.specs.Refusals.{line_text}
+use Rattle.call_answers.specs.declared.answer.Report.{Report as TheReport}
+use Rattle.call_answers.specs.declared.answer.Refusal.{Refusal as TheRefusal}
+use Rattle.call_answers.specs.declared.status.Status.{Status}
+use Rattle.call_answers.specs.declared.status.Status.TheVariants.{WriteFault, NoMemory}
 use Rattle.raml_top.specs.Outside.{Promised, Outside, GainsNothing, Gains, GainsFront}
-use Rattle.raml_top.specs.Steps.{Names, no_names, Report, Refusal}
-use Rattle.raml_top.specs.Line.{line_of}
+use Rattle.raml_top.specs.Steps.{Report, Refusal}
 use Rattle.raml_top.specs.Promise.{WordsAnswer, Tells, Cause}
 use Rattle.raml_top.specs.Parts as parts
-use Rattle.raml_top.specs.Parts.{line_text}
-use Rattle.raml_top.specs.declared.answer.Report.{Report as TheReport}
-use Rattle.raml_top.specs.declared.answer.Refusal.{Refusal as TheRefusal}
-use Rattle.raml_top.specs.declared.status.Status.{Status}
-use Rattle.raml_top.specs.declared.status.Status.TheVariants.{WriteFault, NoMemory}
 
 module _ (o : Outside) where
   pub written_cause : (report : TheReport) → parts.Gives (WordsAnswer Promised o.words o.store) (Ok report) → Gains report.text.items o.out → GainsNothing o.err → Cause o report.status

@@ -20,14 +20,15 @@ use Rattle.report_text.specs.Report.{type_lines}
 use Rattle.report_text.specs.Trial.{trial_text, trial_function, trial_data}
 use Rattle.fault_text.specs.declared.plain.Which.TheVariants as which
 use Rattle.analysis_report.specs.Lines.{AreLines}
-use Rattle.raml_top.specs.Ending.{Done}
+use Rattle.call_answers.specs.Ending.{Done}
+use Rattle.call_answers.specs.Line.{no_names}
+use Rattle.call_answers.specs.declared.status.Status.{Status}
+use Rattle.call_answers.specs.declared.status.Status.TheVariants.{NoMemory}
 use Rattle.raml_top.specs.Outside.{Outside, Promised, Needed, Store}
-use Rattle.raml_top.specs.Steps.{no_names, Answer, Report, Refusal, ending_in, Prints, IsTyped, OfNormal}
+use Rattle.raml_top.specs.Steps.{Answer, Report, Refusal, ending_in, Prints, IsTyped, OfNormal}
 use Rattle.raml_top.specs.Analysis.{OfCourse, OfCheck}
 use Rattle.raml_top.specs.Call.{Placed, OfFloors}
 use Rattle.raml_top.specs.Promise.{PrintsLines, PrintsCertificate, ListsTypes, ListsCode, Analyses, Certifies, Verifies, RunsBounded, BoundedCall, RunsTrial, TriesCall, Tries, Answers, WordsAnswer, EndsBy, Cause, EndsAlike, IsWritable, Forced}
-use Rattle.raml_top.specs.declared.status.Status.{Status}
-use Rattle.raml_top.specs.declared.status.Status.TheVariants.{NoMemory}
 use Rattle.raml_top.proofs.Alike.{alike_same, Same, steps_same}
 use Rattle.raml_top.proofs.OneSource.{short_same, source_same, program_same}
 use Rattle.raml_top.specs.Known.{CourseLaws}

@@ -33,10 +33,11 @@ use Rattle.cert_check.proofs.OneFault.{one_first_fault}
 use Rattle.exact_systems.specs.Analysed.{generator_of}
 use Rattle.bound_infer.specs.Inferred.{IsVerified, VectorFault, TaskFault}
 use Rattle.fault_text.specs.declared.plain.Which.TheVariants as w
-use Rattle.raml_top.specs.Ending as e
-use Rattle.raml_top.specs.Ending.{Ending, Certified, Json, NotRefuted, TooLarge, Overflows, OnTask, InCheck}
+use Rattle.call_answers.specs.Ending as e
+use Rattle.call_answers.specs.Ending.{Ending, Certified, Json, NotRefuted, TooLarge, Overflows, OnTask, InCheck}
+use Rattle.call_answers.specs.Line.{no_names}
 use Rattle.raml_top.specs.Outside.{Promised, Needed, Store}
-use Rattle.raml_top.specs.Steps.{Answer, no_names, names_of, Step}
+use Rattle.raml_top.specs.Steps.{Answer, names_of, Step}
 use Rattle.raml_top.specs.Analysis.{TextRefuses, OfCertificate, CheckRefuses, IsChecked, OfCheck}
 use Rattle.raml_top.proofs.Alike.{alike_same, Same, steps_same}
 use Rattle.raml_top.proofs.OneSource.{file_same}

@@ -19,8 +19,8 @@ use Rattle.cert_check.specs.Finds.{FirstFault}
 use Rattle.cert_check.proofs.OneFault.{one_first_fault}
 use Rattle.bound_infer.specs.Inferred.{IsInferred}
 use Rattle.raml_words.specs.declared.request.Rule.{Rule}
-use Rattle.raml_top.specs.Ending as e
-use Rattle.raml_top.specs.Ending.{Ending, TooLarge, Overflows, InCheck}
+use Rattle.call_answers.specs.Ending as e
+use Rattle.call_answers.specs.Ending.{Ending, TooLarge, Overflows, InCheck}
 use Rattle.raml_top.specs.Outside.{Promised, Needed}
 use Rattle.raml_top.specs.Steps.{Answer, OfNormal, names_of}
 use Rattle.raml_top.specs.Analysis.{analysis, pick_of, CourseRefuses, IsCourse, OfCourse}

@@ -23,9 +23,10 @@ use Rattle.annot_types.specs.Held.{Claim, Bound, NoBound, CallsUnbounded, Line, 
 use Rattle.analysis_report.specs.Lines.{Claims}
 use Rattle.analysis_report.specs.Floors.{Floors, FloorOf, IsFloor, rank, Leaves}
 use Rattle.fault_text.specs.declared.plain.Which.TheVariants as w
-use Rattle.raml_top.specs.Ending.{Ending, Done, Stopped, HeapFull, BadData, Overflows, AtPoint}
+use Rattle.call_answers.specs.Ending.{Ending, Done, Stopped, HeapFull, BadData, Overflows, AtPoint}
+use Rattle.call_answers.specs.Line.{no_names}
 use Rattle.raml_top.specs.Outside.{Side, Promised, Needed, Store}
-use Rattle.raml_top.specs.Steps.{no_names, Answer}
+use Rattle.raml_top.specs.Steps.{Answer}
 use Rattle.raml_top.specs.Call.{Placed, IsNamed, OfFunction, DataRefuses, OfArguments, OfCall, Limits, Finishes, Stops, Fills, Ends, Runs, PointRefuses, AreFloors, OfFloors}
 use Rattle.raml_top.proofs.Alike.{alike_same, Same, same_reports, steps_same}
 use Rattle.raml_top.proofs.OneSource.{file_same}

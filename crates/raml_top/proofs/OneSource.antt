@@ -11,9 +11,10 @@ use Rattle.simple_types.specs.Walk.{walk_program}
 use Rattle.simple_types.proofs.Typing.{program_complete}
 use Rattle.fault_text.specs.declared.plain.Which.{Which}
 use Rattle.fault_text.specs.declared.plain.Which.TheVariants as w
-use Rattle.raml_top.specs.Ending.{Ending, Source, Parse, Types}
+use Rattle.call_answers.specs.Ending.{Ending, Source, Parse, Types}
+use Rattle.call_answers.specs.Line.{no_names}
 use Rattle.raml_top.specs.Outside.{Promised, Needed, Store, IsSeen, IsRead}
-use Rattle.raml_top.specs.Steps.{no_names, Answer, most_bytes, IsTooLong, OfShort, OfFile, SourceRefuses, IsTyped, OfSource, OfProgram}
+use Rattle.raml_top.specs.Steps.{Answer, most_bytes, IsTooLong, OfShort, OfFile, SourceRefuses, IsTyped, OfSource, OfProgram}
 use Rattle.raml_top.proofs.Alike.{alike_same, Same, steps_same}
 
 -- what is told to be held begins with what was read

@@ -20,14 +20,15 @@ use Rattle.annot_types.specs.Certificate.{has_work}
 use Rattle.courses.specs.Good.{AllLeast}
 use Rattle.bound_infer.specs.Inferred.{IsInferred}
 use Rattle.raml_words.specs.declared.request.Rule.{Rule}
+use Rattle.call_answers.specs.Refusals.{names_in}
+use Rattle.call_answers.specs.declared.answer.Report.{Report}
+use Rattle.call_answers.specs.declared.answer.Refusal.{Refusal}
 use Rattle.raml_top.specs.Outside.{Promised}
 use Rattle.raml_syntax.specs.Read.{program_of}
 use Rattle.raml_syntax.specs.declared.program.Program.{Program as TheProgram}
 use Rattle.call_groups.specs.Groups.{IsGrouping}
 use Rattle.raml_top.specs.Steps.{Answer, OfNormal, names_of}
-use Rattle.raml_top.specs.Parts.{Gives, Refuses, names_in}
-use Rattle.raml_top.specs.declared.answer.Report.{Report}
-use Rattle.raml_top.specs.declared.answer.Refusal.{Refusal}
+use Rattle.raml_top.specs.Parts.{Gives, Refuses}
 use Rattle.raml_top.proofs.Stepping.{normal_gives, step_goes, step_refused}
 use Rattle.raml_top.specs.Analysis.{analysis, CourseRefuses, IsCourse, OfCourse, IsProved}
 

@@ -6,10 +6,11 @@ use Rattle.raml_io.specs.Files.{Files, IsFront}
 use Rattle.raml_syntax.specs.Tree.{Text, Prog}
 use Rattle.fault_text.specs.declared.plain.Which.{Which}
 use Rattle.fault_text.specs.declared.plain.Which.TheVariants as w
+use Rattle.call_answers.specs.Line.{no_names}
+use Rattle.call_answers.specs.declared.answer.Refusal.{Refusal}
 use Rattle.raml_top.specs.Outside.{Promised, Store, store_of, IsRead}
-use Rattle.raml_top.specs.Steps.{no_names, most_bytes, IsTooLong, SourceRefuses, IsTyped}
+use Rattle.raml_top.specs.Steps.{most_bytes, IsTooLong, SourceRefuses, IsTyped}
 use Rattle.raml_top.specs.Parts.{IsShort, IsProgram, ProgramRefuses, Refuses}
-use Rattle.raml_top.specs.declared.answer.Refusal.{Refusal}
 use Rattle.raml_top.proofs.Stepping.{refuses_map}
 
 -- a count that rose has risen from any that came before

@@ -1,5 +1,5 @@
 -- Faults of other calls, as refusals of this one.
-use Rattle.std.proofs.Common.{◌≡◌, ◌≢◌, ◌⊎◌, ℕ, List, Option, Some, None, Err, refl, sym, ap, subst, ◌∙◌, inl, inr, arith}
+use Rattle.std.proofs.Common.{◌≡◌, ◌⊎◌, ℕ, List, Option, Some, None, Err, refl, sym, ap, subst, ◌∙◌, inl, inr, arith}
 use Rattle.raml_syntax.specs.Tree.{Function, Prog}
 use Rattle.raml_syntax.specs.Types.{types_of}
 use Rattle.raml_parse.specs.Spelling.{FirstFault}
@@ -35,18 +35,19 @@ use Rattle.bound_infer.specs.declared.leaves.LeavesAt.{LeavesAt}
 use Rattle.bound_infer.specs.declared.leaves.LeavesAt.TheVariants as at
 use Rattle.bound_infer.specs.declared.refusal.InferFault.TheVariants as i
 use Rattle.bound_infer.specs.declared.refusal.VerifyFault.TheVariants as r
-use Rattle.raml_top.specs.Ending as e
-use Rattle.raml_top.specs.Ending.{Ending, ending_of}
-use Rattle.raml_top.specs.Steps.{Names, no_names, SourceRefuses}
+use Rattle.call_answers.specs.Ending as e
+use Rattle.call_answers.specs.Ending.{Ending, ending_of}
+use Rattle.call_answers.specs.Line.{Names, no_names, line_of}
+use Rattle.call_answers.specs.Refusals.{IsToldOr, ParseRefusal, TypeRefusal, DataRefusal, JsonRefusal, CheckRefusal, IsCheckAt}
+use Rattle.call_answers.specs.declared.answer.Refusal.{Refusal}
+use Rattle.call_answers.specs.declared.status.Status.{Status}
+use Rattle.call_answers.specs.declared.status.Status.TheVariants as s
+use Rattle.call_answers.specs.declared.status.CertAnswer.TheVariants as c
+use Rattle.call_answers.specs.declared.status.OverflowAt.TheVariants as o
+use Rattle.raml_top.specs.Steps.{SourceRefuses}
 use Rattle.raml_top.specs.Analysis.{CourseRefuses, TextRefuses, CheckRefuses}
 use Rattle.raml_top.specs.Call.{DataRefuses}
-use Rattle.raml_top.specs.Line.{line_of}
-use Rattle.raml_top.specs.Parts.{IsToldOr, Refuses, ParseRefusal, TypeRefusal, DataRefusal, JsonRefusal, CheckRefusal, TypesRefuse, IsCheckAt}
-use Rattle.raml_top.specs.declared.answer.Refusal.{Refusal}
-use Rattle.raml_top.specs.declared.status.Status.{Status}
-use Rattle.raml_top.specs.declared.status.Status.TheVariants as s
-use Rattle.raml_top.specs.declared.status.CertAnswer.TheVariants as c
-use Rattle.raml_top.specs.declared.status.OverflowAt.TheVariants as o
+use Rattle.raml_top.specs.Parts.{Refuses, TypesRefuse}
 use Rattle.fault_text.specs.declared.source.SourceFault.TheVariants as source
 
 -- a refusal of a status whose ending has a cause
@@ -156,17 +157,3 @@ module _ (names : Names) (N : Program) (cert : Certificate) where
   place_refuses (at.Row task row) h refusal told = told_refuses names _ _ Of refl h refusal told
   place_refuses (at.Refute task column) h refusal told = told_refuses names _ _ Of refl h refusal told
   place_refuses place h refusal told = absurd h
-
--- refusals by the code's faults
-pub data_refusal : (fault : DataFault) → (fault ≢ d.NoMemory) → (refusal : Refusal) → IsToldOr no_names (s.Data fault) refusal → DataRefusal fault refusal
-data_refusal (d.NotUtf8 a) some refusal told = told
-data_refusal (d.Shape a) some refusal told = told
-data_refusal (d.TooDeep a) some refusal told = told
-data_refusal d.TooManyCells some refusal told = told
-data_refusal d.NoMemory some refusal told = absurd (some refl)
-
-pub json_refusal : (fault : JsonFault) → (fault ≢ j.NoMemory) → (refusal : Refusal) → IsToldOr no_names (s.Certificate (c.Json fault)) refusal → JsonRefusal fault refusal
-json_refusal j.NotJson some refusal told = told
-json_refusal (j.Shape place) some refusal told = told
-json_refusal (j.Number place) some refusal told = told
-json_refusal j.NoMemory some refusal told = absurd (some refl)

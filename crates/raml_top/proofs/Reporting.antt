@@ -5,12 +5,13 @@ use Rattle.raml_syntax.specs.Tree.{Text, Prog}
 use Rattle.raml_syntax.specs.Value.{Value}
 use Rattle.value_text.specs.declared.word.Word.{Word}
 use Rattle.value_text.specs.declared.word.Cell.{Cell}
-use Rattle.raml_top.specs.Ending.{ending_of}
+use Rattle.call_answers.specs.Ending.{ending_of}
+use Rattle.call_answers.specs.Refusals.{IsWanting}
+use Rattle.call_answers.specs.declared.answer.Report.{Report}
+use Rattle.call_answers.specs.declared.answer.Refusal.{Refusal}
 use Rattle.raml_top.specs.Outside.{Promised}
 use Rattle.raml_top.specs.Call.{Placed, Limits, Runs}
-use Rattle.raml_top.specs.Parts.{Gives, IsWanting, HasArguments, RanOn}
-use Rattle.raml_top.specs.declared.answer.Report.{Report}
-use Rattle.raml_top.specs.declared.answer.Refusal.{Refusal}
+use Rattle.raml_top.specs.Parts.{Gives, HasArguments, RanOn}
 
 append_nil : (t : Text) → t ++ [] ≡ t
 append_nil [] = refl

@@ -21,12 +21,12 @@ use Rattle.metered_vm.specs.Seen.{Seen, program_in, fun_in, args_in, cells_in, s
 use Rattle.metered_vm.specs.Ending.{HasHalted, HasStopped, IsFull, next_of}
 use Rattle.run_limits.specs.Laws.{NeverAsks}
 use Rattle.report_text.specs.Report.{value_lines, stopped_lines, full_lines}
-use Rattle.raml_top.specs.Ending as e
+use Rattle.call_answers.specs.Ending as e
+use Rattle.call_answers.specs.declared.answer.Report.{Report}
+use Rattle.call_answers.specs.declared.status.Status.TheVariants.{Done, Stopped, HeapFull}
 use Rattle.raml_top.specs.Outside.{Promised}
 use Rattle.raml_top.specs.Call.{Placed, Limits, Finishes, Stops, Fills, NoWorkWithin}
 use Rattle.raml_top.specs.Parts.{HasArguments, RanOn}
-use Rattle.raml_top.specs.declared.answer.Report.{Report}
-use Rattle.raml_top.specs.declared.status.Status.TheVariants.{Done, Stopped, HeapFull}
 
 -- the function at a place is found by its name
 found : (P : Prog) → Typed P → (f : ℕ) (g : Function) → slice_get P f ≡ Some g → find g.name P ≡ Some g

@@ -11,14 +11,16 @@ use Rattle.fault_text.specs.declared.plain.Which.TheVariants as w
 use Rattle.cert_json.specs.Told.{IsFile}
 use Rattle.value_text.specs.Reading.{Answers}
 use Rattle.raml_syntax.specs.Types.{types_of}
-use Rattle.raml_top.specs.Ending.{Ending, ReadFault, TooLong}
+use Rattle.call_answers.specs.Ending.{Ending, ReadFault, TooLong}
+use Rattle.call_answers.specs.Line.{Names, no_names}
+use Rattle.call_answers.specs.Refusals.{IsWanting}
+use Rattle.call_answers.specs.declared.answer.Report.{Report}
+use Rattle.call_answers.specs.declared.answer.Refusal.{Refusal as TheRefusal}
 use Rattle.raml_top.specs.Outside.{Promised, Store}
-use Rattle.raml_top.specs.Steps.{Names, no_names, Answer, Refusal, Step, refused, goes_on, OfFile, OfSource, OfProgram, OfNormal}
+use Rattle.raml_top.specs.Steps.{Answer, Refusal, Step, refused, goes_on, OfFile, OfSource, OfProgram, OfNormal}
 use Rattle.raml_top.specs.Analysis.{OfCertificate, TextRefuses}
 use Rattle.raml_top.specs.Call.{Placed, IsNamed, OfArguments, OfCall}
-use Rattle.raml_top.specs.Parts.{Refuses, Gives, IsWanting, IsShort, FileRefuses, IsProgram, ProgramRefuses, IsCertificateFile, CertificateRefuses, CallRefuses}
-use Rattle.raml_top.specs.declared.answer.Report.{Report}
-use Rattle.raml_top.specs.declared.answer.Refusal.{Refusal as TheRefusal}
+use Rattle.raml_top.specs.Parts.{Refuses, Gives, IsShort, FileRefuses, IsProgram, ProgramRefuses, IsCertificateFile, CertificateRefuses, CallRefuses}
 
 -- what follows of each answer follows of what is given
 pub gives_map : (Q R : Answer → Type 0) → ((a : Answer) → Q a → R a) → (r : Result Report TheRefusal) → Gives Q r → Gives R r

@@ -20,9 +20,10 @@ use Rattle.cert_check.specs.Fault as f
 use Rattle.cert_check.specs.Finds as check
 use Rattle.bound_infer.specs.Inferred.{IsInferred, LeavesInCheck, IsVerified, VectorFault, TaskFault}
 use Rattle.analysis_report.specs.Lines.{LinesHold}
-use Rattle.raml_top.specs.Ending.{Ending, Certified, Json, Check, NotRefuted, TooLarge, Overflows, OnTask, InCheck}
+use Rattle.call_answers.specs.Ending.{Ending, Certified, Json, Check, NotRefuted, TooLarge, Overflows, OnTask, InCheck}
+use Rattle.call_answers.specs.Line.{no_names}
 use Rattle.raml_top.specs.Outside.{Side, Also, Store}
-use Rattle.raml_top.specs.Steps.{Answer, Step, Test, no_names, OfFile, names_of}
+use Rattle.raml_top.specs.Steps.{Answer, Step, Test, OfFile, names_of}
 use Rattle.fault_text.specs.declared.plain.Which.TheVariants as w
 
 -- the column that a rule answers for gains

@@ -1,5 +1,5 @@
 -- What the parts of a call answer.
-use Rattle.std.specs.Prelude.{◌≡◌, ◌≤◌, ◌<◌, ◌⊎◌, ◌^◌, ℕ, List, length, slice_get, Result, Ok, Err, Option, Some, None, string_bytes}
+use Rattle.std.specs.Prelude.{◌≡◌, ◌≤◌, ◌<◌, ◌⊎◌, ◌^◌, ℕ, List, length, slice_get, Result, Ok, Err, Option, Some, None}
 use Rattle.std.specs.List.{All}
 use Rattle.raml_syntax.specs.Tree.{Text, Function, Prog}
 use Rattle.raml_syntax.specs.Value.{Value, HaveTypes}
@@ -14,64 +14,28 @@ use Rattle.fault_text.specs.declared.plain.Which.{Which}
 use Rattle.fault_text.specs.declared.plain.Which.TheVariants as w
 use Rattle.analysis_report.specs.declared.bounds.FloorFault.{FloorFault}
 use Rattle.analysis_report.specs.declared.bounds.FloorFault.TheVariants as floor
-use Rattle.raml_top.specs.Ending.{Ending, Usage, ReadFault, TooLong, Source, Types, NoFunction, ending_of}
+use Rattle.call_answers.specs.Ending.{Ending, Usage, ReadFault, TooLong, Source, Types, NoFunction, ending_of}
+use Rattle.call_answers.specs.Line.{Names, no_names, line_of}
+use Rattle.call_answers.specs.Refusals.{line_text, IsWanting, IsToldOr}
+use Rattle.call_answers.specs.declared.answer.Report.{Report}
+use Rattle.call_answers.specs.declared.answer.Refusal.{Refusal as TheRefusal}
+use Rattle.call_answers.specs.declared.status.Status.{Status}
+use Rattle.call_answers.specs.declared.status.Status.TheVariants as status
+use Rattle.call_answers.specs.declared.status.OverflowAt.TheVariants as overflow
 use Rattle.raml_top.specs.Outside.{Promised, Store, IsRead}
-use Rattle.raml_top.specs.Steps.{Names, no_names, Answer, Refusal, most_bytes, SourceRefuses, IsTyped}
+use Rattle.raml_top.specs.Steps.{Answer, Refusal, most_bytes, SourceRefuses, IsTyped}
 use Rattle.raml_top.specs.Steps as s
 use Rattle.raml_top.specs.Analysis.{TextRefuses}
 use Rattle.raml_top.specs.Call.{Placed, IsNamed, DataRefuses, Limits, Ends}
-use Rattle.raml_top.specs.Line.{line_of}
 use Rattle.raml_words.specs.Words as words
 use Rattle.raml_words.specs.Words.{Request, AsksNothing}
-use Rattle.raml_top.specs.declared.answer.Line.{Line}
-use Rattle.raml_top.specs.declared.answer.Line.TheVariants.{Fixed, Made}
-use Rattle.raml_top.specs.declared.answer.Report.{Report}
-use Rattle.raml_top.specs.declared.answer.Refusal.{Refusal as TheRefusal}
-use Rattle.raml_top.specs.declared.status.Status.{Status}
-use Rattle.raml_top.specs.declared.status.Status.TheVariants.{NoMemory}
-use Rattle.raml_top.specs.declared.status.Status.TheVariants as status
-use Rattle.raml_top.specs.declared.status.CertAnswer.TheVariants as answer
 use Rattle.raml_top.specs.declared.run.Limits.{Limits as TheLimits}
 use Rattle.raml_top.specs.declared.call.Arguments.{Arguments}
 use Rattle.raml_top.specs.declared.call.Call.{Call}
 use Rattle.raml_syntax.specs.Place.{place_of}
-use Rattle.cost_free.specs.declared.task.Task.{Task}
-use Rattle.cost_free.specs.Read.{task_of}
-use Rattle.constraint_gen.specs.declared.fault.What.TheVariants.{Indices}
-use Rattle.cert_check.specs.Fault as check
-use Rattle.cert_check.specs.Read.{fault_of}
-use Rattle.cert_check.specs.declared.fault.CertFault.{CertFault}
-use Rattle.bound_infer.specs.declared.leaves.LeavesAt.{LeavesAt}
-use Rattle.bound_infer.specs.declared.leaves.LeavesAt.TheVariants.{Check}
-use Rattle.raml_top.specs.declared.status.OverflowAt.TheVariants as overflow
-use Rattle.raml_parse.specs.declared.fault.ParseFault.{ParseFault}
-use Rattle.raml_parse.specs.declared.fault.ParseFault.TheVariants as parse
 use Rattle.simple_types.specs.Walk.{walk_program}
-use Rattle.simple_types.specs.declared.fault.TypeFault.{TypeFault}
-use Rattle.simple_types.specs.declared.fault.TypeFault.TheVariants as types
-use Rattle.value_text.specs.declared.fault.DataFault.{DataFault}
-use Rattle.value_text.specs.declared.fault.DataFault.TheVariants as data_fault
 use Rattle.value_text.specs.Spelling.{sizes}
-use Rattle.cert_json.specs.declared.whole.JsonFault.{JsonFault}
-use Rattle.cert_json.specs.declared.whole.JsonFault.TheVariants as json
-use Rattle.fault_text.specs.declared.source.SourceFault.TheVariants as source
 use Rattle.raml_syntax.specs.Node.{WithinLimits, program_nodes}
-use Rattle.share_normal.specs.Program.{Kept, source_in}
-
-abbrev pub line_text : Line → Text
-line_text (Fixed text) = text.now
-line_text (Made text) = string_bytes text
-
--- the refusal is of this status, and its line is the status's
-abbrev pub IsOf : Names → Status → TheRefusal → Type 0
-IsOf names status refusal = (refusal.status ≡ status) × (line_text refusal.line ≡ line_of names status)
-
--- memory is wanting
-abbrev pub IsWanting : TheRefusal → Type 0
-IsWanting refusal = IsOf no_names NoMemory refusal
-
-abbrev pub IsToldOr : Names → Status → TheRefusal → Type 0
-IsToldOr names status refusal = IsWanting refusal ⊎ IsOf names status refusal
 
 -- the refusal has an ending of which Q holds, and its line is that of its status; or memory is wanting
 abbrev pub Refuses : Names → (Ending → Type 0) → TheRefusal → Type 0
@@ -139,23 +103,7 @@ abbrev pub TypesRefuse : Prog → Ending → Type 0
 TypesRefuse P (Source (Types fault)) = walk_program P ≡ Err fault
 TypesRefuse P _ = ⊥
 
--- the refusals of the parser's faults, of the check of types', and of the reader of data's
-abbrev pub ParseRefusal : ParseFault → TheRefusal → Type 0
-ParseRefusal parse.NoMemory refusal = IsWanting refusal
-ParseRefusal fault refusal = IsToldOr no_names (status.Source (source.Parse fault)) refusal
-
-abbrev pub TypeRefusal : TypeFault → TheRefusal → Type 0
-TypeRefusal types.NoMemory refusal = IsWanting refusal
-TypeRefusal fault refusal = IsToldOr no_names (status.Source (source.«Type» fault)) refusal
-
-abbrev pub DataRefusal : DataFault → TheRefusal → Type 0
-DataRefusal data_fault.NoMemory refusal = IsWanting refusal
-DataRefusal fault refusal = IsToldOr no_names (status.Data fault) refusal
-
-abbrev pub JsonRefusal : JsonFault → TheRefusal → Type 0
-JsonRefusal json.NoMemory refusal = IsWanting refusal
-JsonRefusal fault refusal = IsToldOr no_names (status.Certificate (answer.Json fault)) refusal
-
+-- the refusal of a bound that is not worked out
 abbrev pub FloorRefusal : FloorFault → TheRefusal → Type 0
 FloorRefusal (floor.Leaves meter) refusal = IsToldOr no_names (status.Overflow (overflow.Point meter)) refusal
 FloorRefusal floor.NoMemory refusal = IsWanting refusal
@@ -176,26 +124,6 @@ RanOn P place cells words limits how text =
 
 abbrev pub limits_of : TheLimits → Limits
 limits_of limits = record { steps = limits.steps; cells = limits.cells }
-
--- the names of a program in normal form
-abbrev pub names_in : Kept → Names
-names_in kept = record { program = source_in kept; groups = kept.groups.list }
-
--- the place is that of a condition in the check
-abbrev pub IsCheckAt : ℕ → List ℕ → ℕ → LeavesAt → Type 0
-IsCheckAt block path index (Check b p i) = (b ≡ block) × (p.items ≡ path) × (i ≡ index)
-IsCheckAt block path index place = ⊥
-
--- what the check of a certificate finds, as a refusal
-abbrev pub CheckRefusal : Names → Option check.Fault → TheRefusal → Type 0
-CheckRefusal names None refusal = IsWanting refusal
-CheckRefusal names (Some (check.Leaves block path index)) refusal =
-    IsWanting refusal
-    ⊎ ((place : LeavesAt) × IsCheckAt block path index place × IsOf names (status.Overflow (overflow.At place)) refusal)
-CheckRefusal names (Some (check.TooLarge task)) refusal =
-    IsWanting refusal ⊎ ((told : Task) × (task_of told ≡ task) × IsOf names (status.TooLarge told Indices) refusal)
-CheckRefusal names (Some fault) refusal =
-    IsWanting refusal ⊎ ((told : CertFault) × (fault_of told ≡ Some fault) × IsOf names (status.Certificate (answer.Check told)) refusal)
 
 -- The arguments are what the bytes spell for the function at the place.
 pub record ReadsArguments (P : Prog) (place : ℕ) (bytes : List ℕ) (args : Arguments) : Type 0 where

@@ -18,14 +18,14 @@ use Rattle.report_text.specs.RunBounds.{run_bound_lines}
 use Rattle.report_text.specs.Trial.{trial_text, trial_function, trial_data, functions_line}
 use Rattle.analysis_report.specs.Lines.{lines_of, AreLines}
 use Rattle.analysis_report.specs.Floors.{Floors}
-use Rattle.raml_top.specs.Ending.{Ending, Usage, Overflows, OnTask, ending_of}
+use Rattle.call_answers.specs.Ending.{Ending, Usage, Overflows, OnTask, ending_of}
+use Rattle.call_answers.specs.Line.{Names, no_names, line_of}
+use Rattle.call_answers.specs.declared.status.Status.{Status}
+use Rattle.call_answers.specs.declared.status.Status.TheVariants.{WriteFault, NoMemory}
 use Rattle.raml_top.specs.Outside.{Outside, Store, Sink, Side, Promised, Needed, Rises, GainsNothing, Gains, GainsFront}
-use Rattle.raml_top.specs.Steps.{Names, no_names, Answer, Report, Refusal, ending_in, Step, Prints, OfShort, OfSource, OfProgram, OfNormal}
+use Rattle.raml_top.specs.Steps.{Answer, Report, Refusal, ending_in, Step, Prints, OfShort, OfSource, OfProgram, OfNormal}
 use Rattle.raml_top.specs.Analysis.{OfCourse, OfCertificate, OfCheck}
 use Rattle.raml_top.specs.Call.{Placed, Limits, OfFunction, OfArguments, OfCall, OfFloors, Runs, cells_or}
-use Rattle.raml_top.specs.Line.{line_of}
-use Rattle.raml_top.specs.declared.status.Status.{Status}
-use Rattle.raml_top.specs.declared.status.Status.TheVariants.{WriteFault, NoMemory}
 use Rattle.fault_text.specs.declared.plain.Which.TheVariants as which
 
 -- ---- the commands, each of a program

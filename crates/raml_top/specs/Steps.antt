@@ -1,5 +1,5 @@
 -- The steps of a call.
-use Rattle.std.specs.Prelude.{◌≡◌, ◌≤◌, ℕ, suc, List, [], length, Some, None, Err}
+use Rattle.std.specs.Prelude.{◌≡◌, ◌≤◌, ℕ, suc, List, length, Some, None, Err}
 use Rattle.raml_syntax.specs.Tree.{Text, Prog}
 use Rattle.raml_syntax.specs.Types as types
 use Rattle.raml_parse.specs.Spelling as spelling
@@ -7,18 +7,11 @@ use Rattle.simple_types.specs.Walk.{walk_program}
 use Rattle.call_groups.specs.Groups.{Grouping, IsGrouping}
 use Rattle.amortised_bounds.specs.Laws.{normal_of}
 use Rattle.annot_types.specs.Program.{Program}
-use Rattle.raml_top.specs.Ending.{Ending, Done, ReadFault, TooLong, Source, Parse, Types}
+use Rattle.call_answers.specs.Ending.{Ending, Done, ReadFault, TooLong, Source, Parse, Types}
+use Rattle.call_answers.specs.Line.{Names, no_names}
 use Rattle.raml_top.specs.Outside.{Side, Also, Store, IsRead}
 use Rattle.fault_text.specs.declared.plain.Which.{Which}
 use Rattle.fault_text.specs.declared.plain.Which.TheVariants as w
-
--- the program whose functions a line on err names, with their groups; empty before one is read
-pub record Names : Type 0 where
-  pub program : Prog
-  pub groups : List (List ℕ)
-
-abbrev pub no_names : Names
-no_names = record { program = []; groups = [] }
 
 -- What a call answers: a report, which ends so, or a refusal.
 pub data Answer : Type 0 where

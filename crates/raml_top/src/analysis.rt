@@ -10,13 +10,13 @@ ghost use Rattle.share_normal.specs.Program.{source_in};
 ghost use Rattle.rule_plan.specs.Read.{program_in};
 ghost use Rattle.whole_answers.specs.Rules.{least_pick, greatest_pick};
 ghost use Rattle.bound_infer.specs.Inferred.{IsInferred, InferCause};
+ghost use Rattle.call_answers.specs.Refusals.{names_in};
 ghost use Rattle.raml_top.specs.Analysis.{analysis, CourseRefuses, IsProved};
-ghost use Rattle.raml_top.specs.Parts.{Refuses, names_in};
+ghost use Rattle.raml_top.specs.Parts.{Refuses};
 
-use crate::answer::Refusal;
-use crate::line::{overflow, too_large};
 use amortised_bounds::laws::lines_are_true;
 use bound_infer::{InferFault, Verified, infer};
+use call_answers::{Refusal, overflow, too_large};
 use call_groups::group_calls;
 use courses::laws::lines_tell;
 use frac128::Frac;

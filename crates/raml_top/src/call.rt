@@ -5,19 +5,18 @@ ghost use Rattle.raml_syntax.specs.Tree.{Text, Function};
 ghost use Rattle.raml_syntax.specs.Place.{place_of};
 ghost use Rattle.raml_syntax.specs.Read.{ty_of, program_of};
 ghost use Rattle.report_text.specs.Report.{types_in};
+ghost use Rattle.call_answers.specs.Line.{no_names};
 ghost use Rattle.raml_top.specs.Outside.{store_of};
-ghost use Rattle.raml_top.specs.Steps.{no_names};
-ghost use Rattle.raml_top.specs.Parts.{Before, IsReady, Refuses, CallRefuses, DataRefusal, ReadsCall, ReadsArguments, ArgumentsRefuse, IsToldOr};
+ghost use Rattle.raml_top.specs.Parts.{Before, IsReady, Refuses, CallRefuses, ReadsCall, ReadsArguments, ArgumentsRefuse};
 
-use crate::answer::Refusal;
 use crate::file::read_file;
-use crate::status::Status;
-use fault_text::{Which, data_line};
+use call_answers::{Refusal, data_refusal};
+use fault_text::Which;
 use raml_io::Store;
 use raml_syntax::{FunId, Param, Ty};
 use simple_types::Typed;
 use std::alloc::{AllocError, Global};
-use value_text::{DataFault, DataHeap, Word, read_args};
+use value_text::{DataHeap, Word, read_args};
 
 /// Arguments: words, which stand for values in the heap.
 #[derive(Drop)]
@@ -91,16 +90,4 @@ fn parameter_types(alloc: Global, params: &[Param]) -> Result<Vec<Ty>, AllocErro
         types.push(param.ty.copy(alloc)?)?;
     }
     Ok(types)
-}
-
-fn data_refusal(alloc: Global, fault: DataFault) -> Refusal
-    ensures { DataRefusal fault result }
-{
-    match fault {
-        DataFault::NoMemory => Refusal::no_memory(),
-        fault => {
-            let line = data_line(alloc, fault);
-            Refusal::told(Status::Data(fault), line)
-        }
-    }
 }

@@ -1,11 +1,12 @@
 // Files of a store, within their limits.
 ghost use Rattle.std.specs.Prelude.{◌≡◌, ◌≤◌, ℕ, IfOk, IfErr};
 ghost use Rattle.raml_syntax.specs.Tree.{Text};
+ghost use Rattle.call_answers.specs.Line.{no_names};
 ghost use Rattle.raml_top.specs.Outside.{store_of};
-ghost use Rattle.raml_top.specs.Steps.{no_names, most_bytes};
+ghost use Rattle.raml_top.specs.Steps.{most_bytes};
 ghost use Rattle.raml_top.specs.Parts.{Before, IsShort, FileRefuses, Refuses};
 
-use crate::answer::Refusal;
+use call_answers::Refusal;
 use fault_text::Which;
 use raml_io::{Store, StoreFault};
 use std::alloc::Global;

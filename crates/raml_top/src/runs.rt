@@ -6,25 +6,22 @@ ghost use Rattle.raml_syntax.specs.Read.{program_of};
 ghost use Rattle.rule_plan.specs.Read.{program_in};
 ghost use Rattle.share_normal.specs.Program.{source_in};
 ghost use Rattle.analysis_report.specs.Told.{floors_of};
+ghost use Rattle.call_answers.specs.Refusals.{IsWanting};
 ghost use Rattle.raml_top.specs.Outside.{Promised, store_of};
 ghost use Rattle.raml_words.specs.declared.request.Rule.TheVariants as rule;
 ghost use Rattle.annot_types.specs.Certificate.{has_work};
 ghost use Rattle.report_text.specs.RunBounds.{run_bound_lines};
 ghost use Rattle.raml_top.specs.Analysis.{OfCourse};
-ghost use Rattle.raml_top.specs.Steps.{no_names};
 ghost use Rattle.raml_top.specs.Call.{Placed, OfFloors, Runs, cells_or, floor_cells};
 ghost use Rattle.raml_top.specs.Promise.{RunsWithin, RunsWithBounds, RunsBounded, BoundedCall};
-ghost use Rattle.raml_top.specs.Parts.{Before, IsReady, Gives, IsWanting, IsCallOf, IsToldOr, FloorRefusal, CellsWithin};
+ghost use Rattle.raml_top.specs.Parts.{Before, IsReady, Gives, IsCallOf, FloorRefusal, CellsWithin};
 
 use crate::analysis::{analyse, normal_form};
-use crate::answer::{Refusal, Report};
 use crate::call::{Call, read_call};
 use crate::run::{Limits, execute};
-use crate::status::{OverflowAt, Status};
 use analysis_report::{FloorFault, Floors, floors_at};
 use bound_infer::Verified;
-use cost_free::Meter;
-use fault_text::point_line;
+use call_answers::{Refusal, Report, point_refusal};
 use raml_io::Store;
 use raml_words::Rule;
 use report_text::push_run_bounds;
@@ -192,13 +189,6 @@ fn floor_refusal(alloc: Global, fault: FloorFault) -> Refusal
         FloorFault::Leaves { meter } => point_refusal(alloc, meter),
         FloorFault::NoMemory => Refusal::no_memory(),
     }
-}
-
-fn point_refusal(alloc: Global, meter: Meter) -> Refusal
-    ensures { IsToldOr no_names (Status.Overflow (OverflowAt.Point meter)) result }
-{
-    let line = point_line(alloc, meter);
-    Refusal::told(Status::Overflow(OverflowAt::Point { meter }), line)
 }
 
 fn floored_run(

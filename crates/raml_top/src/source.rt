@@ -5,18 +5,18 @@ ghost use Rattle.raml_syntax.specs.Tree.{Text, Function};
 ghost use Rattle.raml_syntax.specs.Types.{Typed as IsTypedProgram};
 ghost use Rattle.raml_syntax.specs.Node.{WithinLimits, program_nodes};
 ghost use Rattle.raml_syntax.specs.Read.{program_of};
+ghost use Rattle.call_answers.specs.Line.{no_names};
 ghost use Rattle.raml_top.specs.Outside.{store_of};
-ghost use Rattle.raml_top.specs.Steps.{no_names, SourceRefuses, IsTyped};
-ghost use Rattle.raml_top.specs.Parts.{IsProgram, ProgramRefuses, Refuses, IsReady, TypesRefuse, IsToldOr, ParseRefusal, TypeRefusal};
+ghost use Rattle.raml_top.specs.Steps.{SourceRefuses, IsTyped};
+ghost use Rattle.raml_top.specs.Parts.{IsProgram, ProgramRefuses, Refuses, IsReady, TypesRefuse};
 
-use crate::answer::Refusal;
 use crate::file::read_file;
-use crate::status::Status;
-use fault_text::{SourceFault, Which, source_line};
+use call_answers::{Refusal, parse_refusal, type_refusal};
+use fault_text::Which;
 use raml_io::Store;
-use raml_parse::{ParseFault, parse};
+use raml_parse::parse;
 use raml_syntax::Program;
-use simple_types::{TypeFault, Typed, check};
+use simple_types::{Typed, check};
 use std::alloc::Global;
 
 /// The typed program that a file spells.
@@ -57,29 +57,4 @@ fn checked_program(alloc: Global, program: Program) -> Result<Typed, Refusal>
         Ok(typed) => Ok(typed),
         Err(fault) => Err(type_refusal(alloc, fault)),
     }
-}
-
-fn parse_refusal(alloc: Global, fault: ParseFault) -> Refusal
-    ensures { ParseRefusal fault result }
-{
-    match fault {
-        ParseFault::NoMemory => Refusal::no_memory(),
-        fault => source_refusal(alloc, SourceFault::Parse(fault)),
-    }
-}
-
-fn type_refusal(alloc: Global, fault: TypeFault) -> Refusal
-    ensures { TypeRefusal fault result }
-{
-    match fault {
-        TypeFault::NoMemory => Refusal::no_memory(),
-        fault => source_refusal(alloc, SourceFault::Type(fault)),
-    }
-}
-
-fn source_refusal(alloc: Global, fault: SourceFault) -> Refusal
-    ensures { IsToldOr no_names (Status.Source fault) result }
-{
-    let line = source_line(alloc, &fault);
-    Refusal::told(Status::Source(fault), line)
 }

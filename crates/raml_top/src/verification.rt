@@ -5,27 +5,23 @@ ghost use Rattle.annot_types.specs.Certificate as a;
 ghost use Rattle.annot_types.specs.Read.{certificate_of};
 ghost use Rattle.share_normal.specs.Program.{source_in};
 ghost use Rattle.rule_plan.specs.Read.{program_in};
-ghost use Rattle.cert_check.specs.Read.{fault_of};
 ghost use Rattle.bound_infer.specs.Inferred.{IsVerified, VerifyCause};
+ghost use Rattle.call_answers.specs.Line.{no_names};
+ghost use Rattle.call_answers.specs.Refusals.{names_in};
 ghost use Rattle.raml_top.specs.Analysis.{CheckRefuses, IsProved};
 ghost use Rattle.raml_top.specs.Outside.{store_of};
-ghost use Rattle.raml_top.specs.Steps.{no_names};
-ghost use Rattle.raml_top.specs.Parts.{Before, IsCertificateFile, CertificateRefuses, Refuses, JsonRefusal, CheckRefusal, IsToldOr, IsCheckAt, names_in};
+ghost use Rattle.raml_top.specs.Parts.{Before, IsCertificateFile, CertificateRefuses, Refuses};
 
 use crate::analysis::proved;
-use crate::answer::Refusal;
 use crate::file::read_file;
-use crate::line::{overflow, too_large};
-use crate::status::{CertAnswer, Status};
 use annot_types::Certificate;
-use bound_infer::{LeavesAt, Verified, VerifyFault, verify};
-use cert_check::CertFault;
-use cert_json::{JsonFault, read};
-use constraint_gen::What;
-use fault_text::{Which, certificate_line, json_line, not_refuted_line};
+use bound_infer::{Verified, VerifyFault, verify};
+use call_answers::{CertAnswer, Refusal, Status, check_refusal, json_refusal, overflow, too_large};
+use cert_json::read;
+use fault_text::{Which, not_refuted_line};
 use raml_io::Store;
 use share_normal::NormProgram;
-use std::alloc::{AllocError, Global};
+use std::alloc::Global;
 
 /// The certificate that a file is.
 pub fn read_certificate<S: Store>(
@@ -46,18 +42,6 @@ pub fn read_certificate<S: Store>(
             Err(fault) => Err(json_refusal(alloc, fault)),
         },
         Err(refusal) => Err(refusal),
-    }
-}
-
-fn json_refusal(alloc: Global, fault: JsonFault) -> Refusal
-    ensures { JsonRefusal fault result }
-{
-    match fault {
-        JsonFault::NoMemory => Refusal::no_memory(),
-        fault => {
-            let line = json_line(alloc, fault);
-            Refusal::told(Status::Certificate(CertAnswer::Json(fault)), line)
-        }
     }
 }
 
@@ -96,55 +80,4 @@ fn verify_refusal(alloc: Global, program: &NormProgram<'_>, fault: VerifyFault) 
         VerifyFault::Leaves(at) => overflow(alloc, program, at),
         VerifyFault::NoMemory => Refusal::no_memory(),
     }
-}
-
-// Why the check of a certificate refuses it.
-fn check_refusal(alloc: Global, program: &NormProgram<'_>, fault: CertFault) -> Refusal
-    ensures { CheckRefusal (names_in program.now) (fault_of fault) result }
-{
-    match fault {
-        CertFault::TooLarge { task } => too_large(alloc, program, task, What::Indices),
-        CertFault::Leaves { block, path, index } => {
-            match leaves_at(alloc, block, path.as_slice(), index) {
-                Ok(at) => overflow(alloc, program, at),
-                Err(_) => Refusal::no_memory(),
-            }
-        }
-        CertFault::Shape { block } => told_fault(alloc, program, CertFault::Shape { block }),
-        CertFault::Fails { block, path, index } => {
-            told_fault(alloc, program, CertFault::Fails { block, path, index })
-        }
-        CertFault::NoMemory => Refusal::no_memory(),
-    }
-}
-
-// A fault of the shape or of a condition.
-fn told_fault(alloc: Global, program: &NormProgram<'_>, fault: CertFault) -> Refusal
-    ensures { IsToldOr (names_in program.now) (Status.Certificate (CertAnswer.Check fault)) result }
-{
-    let line = certificate_line(alloc, program.source(), program.groups().list(), &fault);
-    Refusal::told(Status::Certificate(CertAnswer::Check(fault)), line)
-}
-
-// A total that leaves, by numbers of 32 bits.
-fn leaves_at(
-    alloc: Global,
-    block: usize,
-    path: &[u32],
-    index: usize,
-) -> Result<LeavesAt, AllocError>
-    ensures { IfOk result (IsCheckAt block path.now index) }
-{
-    // so many blocks, or indices, have no room in memory
-    let Ok(block) = u32::try_from(block) else {
-        return Err(AllocError);
-    };
-    let Ok(index) = u32::try_from(index) else {
-        return Err(AllocError);
-    };
-    Ok(LeavesAt::Check {
-        block,
-        path: Vec::from_slice(alloc, path)?,
-        index,
-    })
 }

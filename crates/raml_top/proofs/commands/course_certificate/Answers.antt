@@ -1,10 +1,11 @@
 use Rattle.std.proofs.Common.{subst}
 use Rattle.share_normal.specs.Program.{source_in}
 use Rattle.rule_plan.specs.Read.{program_in}
+use Rattle.call_answers.specs.Refusals.{names_in}
 use Rattle.raml_top.specs.Outside.{Promised}
 use Rattle.raml_top.specs.Analysis.{analysis, CourseRefuses, IsCourse}
 use Rattle.raml_top.specs.Promise.{PrintsCertificate}
-use Rattle.raml_top.specs.Parts.{Gives, names_in}
+use Rattle.raml_top.specs.Parts.{Gives}
 use Rattle.raml_top.proofs.Stepping.{step_refused, step_goes}
 use Rattle.raml_top.proofs.commands.course_certificate.Goals as goal
 

@@ -1,9 +1,9 @@
 use Rattle.share_normal.specs.Program.{source_in}
 use Rattle.rule_plan.specs.Read.{program_in}
+use Rattle.call_answers.specs.Refusals.{names_in}
 use Rattle.raml_top.specs.Outside.{Promised}
 use Rattle.raml_top.specs.Analysis.{analysis, CourseRefuses, IsCourse}
 use Rattle.raml_top.specs.Promise.{PrintsLines}
-use Rattle.raml_top.specs.Parts.{names_in}
 use Rattle.raml_top.proofs.Stepping.{step_refused, step_goes}
 use Rattle.raml_top.proofs.commands.course_lines.Goals as goal
 

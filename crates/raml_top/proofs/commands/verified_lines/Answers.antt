@@ -2,10 +2,11 @@ use Rattle.std.proofs.Common.{subst}
 use Rattle.share_normal.specs.Program.{source_in}
 use Rattle.rule_plan.specs.Read.{program_in}
 use Rattle.annot_types.specs.Read.{certificate_of}
+use Rattle.call_answers.specs.Refusals.{names_in}
 use Rattle.raml_top.specs.Outside.{Promised}
 use Rattle.raml_top.specs.Analysis.{CheckRefuses, IsChecked, IsProved}
 use Rattle.raml_top.specs.Promise.{PrintsLines}
-use Rattle.raml_top.specs.Parts.{Gives, names_in}
+use Rattle.raml_top.specs.Parts.{Gives}
 use Rattle.raml_top.proofs.Stepping.{step_refused, step_goes}
 use Rattle.raml_top.proofs.commands.verified_lines.Goals as goal
 

@@ -1,11 +1,12 @@
 use Rattle.std.proofs.Common.{◌≡◌, ◌≤◌, ◌+◌, suc, length, subst, refl, inr, arith, rules}
 use Rattle.std.specs.Prelude.{IfSome}
 use Rattle.raml_io.specs.Files.{IsFront}
+use Rattle.call_answers.specs.Ending as e
+use Rattle.call_answers.specs.Line.{no_names}
+use Rattle.call_answers.specs.declared.status.Status.TheVariants as s
 use Rattle.raml_top.specs.Outside.{store_of}
-use Rattle.raml_top.specs.Ending as e
-use Rattle.raml_top.specs.Steps.{no_names, most_bytes}
+use Rattle.raml_top.specs.Steps.{most_bytes}
 use Rattle.raml_top.specs.Parts.{FileRefuses}
-use Rattle.raml_top.specs.declared.status.Status.TheVariants as s
 use Rattle.raml_top.proofs.Refusing.{told_refuses}
 use Rattle.raml_top.proofs.Reading.{still_rises, too_long_read}
 use Rattle.raml_top.proofs.file.read_file.Goals as goal

@@ -4,13 +4,13 @@ use Rattle.raml_syntax.specs.Read.{program_of}
 use Rattle.raml_syntax.specs.Place.{place_of}
 use Rattle.rule_plan.specs.Read.{program_in}
 use Rattle.report_text.specs.Trial.{trial_function, trial_data}
-use Rattle.raml_top.specs.Ending as e
-use Rattle.raml_top.specs.Ending.{Ending}
+use Rattle.call_answers.specs.Ending as e
+use Rattle.call_answers.specs.Ending.{Ending}
+use Rattle.call_answers.specs.Line.{no_names}
+use Rattle.call_answers.specs.declared.status.Status.TheVariants as s
 use Rattle.raml_top.specs.Outside.{Promised}
-use Rattle.raml_top.specs.Steps.{no_names}
 use Rattle.raml_top.specs.Call.{IsNamed, OfArguments}
 use Rattle.raml_top.specs.Promise.{RunsTrial}
-use Rattle.raml_top.specs.declared.status.Status.TheVariants as s
 use Rattle.raml_top.proofs.Placing.{named}
 use Rattle.raml_top.proofs.Stepping.{step_refused, step_goes}
 use Rattle.raml_top.proofs.Refusing.{told_refuses}

@@ -1,13 +1,14 @@
 use Rattle.std.proofs.Common.{◌≤◌, length, refl, inr, arith, rules, Err}
 use Rattle.raml_syntax.specs.Read.{program_of}
 use Rattle.fault_text.specs.declared.plain.Which.TheVariants as w
-use Rattle.raml_top.specs.Ending as e
-use Rattle.raml_top.specs.Ending.{Ending}
+use Rattle.call_answers.specs.Ending as e
+use Rattle.call_answers.specs.Ending.{Ending}
+use Rattle.call_answers.specs.Line.{no_names}
+use Rattle.call_answers.specs.declared.status.Status.TheVariants as s
 use Rattle.std.proofs.Common.{◌≡◌}
 use Rattle.raml_top.specs.Outside.{Promised}
-use Rattle.raml_top.specs.Steps.{no_names, IsTooLong, SourceRefuses, IsTyped, OfSource}
+use Rattle.raml_top.specs.Steps.{IsTooLong, SourceRefuses, IsTyped, OfSource}
 use Rattle.raml_top.specs.Promise.{Tries}
-use Rattle.raml_top.specs.declared.status.Status.TheVariants as s
 use Rattle.raml_top.proofs.Stepping.{step_refused, step_goes}
 use Rattle.raml_top.proofs.Refusing.{told_refuses}
 use Rattle.raml_top.proofs.trial.try_source.Goals as goal

@@ -1,7 +1,7 @@
 use Rattle.std.proofs.Common.{subst}
 use Rattle.rule_plan.specs.Read.{program_in}
 use Rattle.bound_infer.specs.Inferred.{VerifyCause}
-use Rattle.raml_top.specs.Parts.{names_in}
+use Rattle.call_answers.specs.Refusals.{names_in}
 use Rattle.raml_top.proofs.Refusing.{check_refuses, vector_refuses, task_refuses, place_refuses}
 use Rattle.raml_top.proofs.verification.verify_refusal.Goals as goal
 

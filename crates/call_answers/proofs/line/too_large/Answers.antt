@@ -1,6 +1,6 @@
 use Rattle.std.proofs.Common.{rules}
-use Rattle.raml_top.specs.Parts.{names_in}
-use Rattle.raml_top.proofs.verification.told_fault.Goals as goal
+use Rattle.call_answers.proofs.line.too_large.Goals as goal
+use Rattle.call_answers.specs.Refusals.{names_in}
 
 pub returns : goal.returns
 returns c = c.told.ensures (names_in c.args.program.now) (search rules)

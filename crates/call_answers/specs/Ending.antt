@@ -23,15 +23,15 @@ use Rattle.bound_infer.specs.Inferred.{what_of}
 use Rattle.bound_infer.specs.Told.{told_of}
 use Rattle.bound_infer.specs.declared.leaves.LeavesAt.{LeavesAt}
 use Rattle.bound_infer.specs.declared.leaves.LeavesAt.TheVariants as at
-use Rattle.raml_top.specs.declared.status.Status.{Status}
-use Rattle.raml_top.specs.declared.status.Status.TheVariants as s
+use Rattle.call_answers.specs.declared.status.Status.{Status}
+use Rattle.call_answers.specs.declared.status.Status.TheVariants as s
 use Rattle.fault_text.specs.declared.plain.Which.{Which}
 use Rattle.fault_text.specs.declared.source.SourceFault.{SourceFault}
 use Rattle.fault_text.specs.declared.source.SourceFault.TheVariants as source
-use Rattle.raml_top.specs.declared.status.CertAnswer.{CertAnswer}
-use Rattle.raml_top.specs.declared.status.CertAnswer.TheVariants as c
-use Rattle.raml_top.specs.declared.status.OverflowAt.{OverflowAt}
-use Rattle.raml_top.specs.declared.status.OverflowAt.TheVariants as o
+use Rattle.call_answers.specs.declared.status.CertAnswer.{CertAnswer}
+use Rattle.call_answers.specs.declared.status.CertAnswer.TheVariants as c
+use Rattle.call_answers.specs.declared.status.OverflowAt.{OverflowAt}
+use Rattle.call_answers.specs.declared.status.OverflowAt.TheVariants as o
 
 -- Why a source is refused: it spells no program, or one that is not typed.
 pub data SourceEnding : Type 0 where

@@ -1,9 +1,8 @@
 // What a call answers: a report, or a refusal.
 ghost use Rattle.std.specs.Prelude.{◌≡◌, IfOk, IfErr, string_bytes};
-ghost use Rattle.raml_top.specs.Line.{line_of};
-ghost use Rattle.raml_top.specs.Steps.{Names};
-ghost use Rattle.raml_top.specs.Parts.{line_text, IsToldOr, IsOf, IsWanting};
-ghost use Rattle.raml_top.specs.declared.status.Status.TheVariants.{Done};
+ghost use Rattle.call_answers.specs.Line.{line_of, Names};
+ghost use Rattle.call_answers.specs.Refusals.{line_text, IsToldOr, IsOf, IsWanting};
+ghost use Rattle.call_answers.specs.declared.status.Status.TheVariants.{Done};
 
 use crate::status::Status;
 use fault_text::{Which, no_function_line, no_memory_line, too_long_line, unread_line, usage_line};

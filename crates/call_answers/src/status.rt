@@ -1,6 +1,6 @@
 // How a call ends.
 ghost use Rattle.std.specs.Prelude.{◌≡◌};
-ghost use Rattle.raml_top.specs.Ending.{code_of};
+ghost use Rattle.call_answers.specs.Ending.{code_of};
 
 use bound_infer::LeavesAt;
 use cert_check::CertFault;

@@ -1,8 +1,8 @@
 // Refusals whose lines name functions of the program.
 ghost use Rattle.std.specs.Prelude.{◌≡◌, IfOk, string_bytes};
 ghost use Rattle.share_normal.specs.Program.{source_in};
-ghost use Rattle.raml_top.specs.Line as l;
-ghost use Rattle.raml_top.specs.Parts.{IsToldOr, names_in};
+ghost use Rattle.call_answers.specs.Line as l;
+ghost use Rattle.call_answers.specs.Refusals.{IsToldOr, names_in};
 
 use crate::answer::Refusal;
 use crate::status::{OverflowAt, Status};

@@ -1,6 +1,6 @@
 -- The line on err.
-use Rattle.std.specs.Prelude.{codes, length}
-use Rattle.raml_syntax.specs.Tree.{Text}
+use Rattle.std.specs.Prelude.{ℕ, List, [], codes, length}
+use Rattle.raml_syntax.specs.Tree.{Text, Prog}
 use Rattle.cost_free.specs.Read.{task_of}
 use Rattle.cert_check.specs.Read.{fault_of}
 use Rattle.fault_text.specs.Plain.{usage_line, unread_line, too_long_line, no_function_line, write_failed_line, no_memory_line}
@@ -10,11 +10,18 @@ use Rattle.fault_text.specs.Places.{solve_line, row_line, scale_line, rescale_li
 use Rattle.fault_text.specs.Certificates.{json_line, certificate_line, not_refuted_line}
 use Rattle.bound_infer.specs.declared.leaves.LeavesAt.{LeavesAt}
 use Rattle.bound_infer.specs.declared.leaves.LeavesAt.TheVariants.{Solve, Row, Scale, Rescale, Check, Refute, Least}
-use Rattle.raml_top.specs.Steps.{Names}
-use Rattle.raml_top.specs.declared.status.Status.{Status}
-use Rattle.raml_top.specs.declared.status.Status.TheVariants as s
-use Rattle.raml_top.specs.declared.status.CertAnswer.TheVariants as c
-use Rattle.raml_top.specs.declared.status.OverflowAt.TheVariants as o
+use Rattle.call_answers.specs.declared.status.Status.{Status}
+use Rattle.call_answers.specs.declared.status.Status.TheVariants as s
+use Rattle.call_answers.specs.declared.status.CertAnswer.TheVariants as c
+use Rattle.call_answers.specs.declared.status.OverflowAt.TheVariants as o
+
+-- the program whose functions a line on err names, with their groups; empty before one is read
+pub record Names : Type 0 where
+  pub program : Prog
+  pub groups : List (List ℕ)
+
+abbrev pub no_names : Names
+no_names = record { program = []; groups = [] }
 
 -- where a number leaves 128 bits
 abbrev pub leaves_line : Names → LeavesAt → Text

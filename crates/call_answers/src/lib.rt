@@ -1,0 +1,16 @@
+//! What a call answers: a report, or a refusal with the line that tells it; and how calls end.
+#![tactic(auto)]
+
+mod answer;
+mod certificate;
+mod fault;
+mod line;
+mod run;
+mod status;
+
+pub use answer::{Line, Refusal, Report};
+pub use certificate::{check_refusal, json_refusal};
+pub use fault::{data_refusal, parse_refusal, point_refusal, type_refusal};
+pub use line::{overflow, too_large};
+pub use run::{full_report, stopped_report, value_report};
+pub use status::{CertAnswer, OverflowAt, Status};
