@@ -80,11 +80,14 @@ fn gives_bound(groups: &[Vec<FunId>], meter: Meter, entry: &(Task, Done), fun: u
     pays_for(meter, entry) && is_among(fun, row(groups, entry.0.group))
 }
 
+// The last entries come first: what a group calls is mostly near.
 fn has_bound(groups: &[Vec<FunId>], meter: Meter, done: &[(Task, Done)], fun: u32) -> bool
     ensures { result ≡ has_bound (lists_of groups.now) meter (outcomes_of done.now) fun }
 {
-    for entry in done {
-        if gives_bound(groups, meter, entry, fun) {
+    let mut left = done.len();
+    while left > 0 {
+        left -= 1;
+        if gives_bound(groups, meter, &done[left], fun) {
             return true;
         }
     }
