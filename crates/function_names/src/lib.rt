@@ -28,7 +28,7 @@ impl<'a> FunctionNames<'a> {
         requires { length (program_of program.now) < 2 ^ 32 }
         ensures { IfOk result (λ names. names.program.now ≡ program.now) }
     {
-        let mut places = IndexMap::new(alloc);
+        let mut places = IndexMap::with_capacity(alloc, program.funs.len())?;
         let mut place = program.funs.len();
         while place > 0 {
             place -= 1;
