@@ -4,3 +4,4 @@ mod Quotients
 mod Sharing
 mod Signs
 mod Sums
+mod Short

@@ -1,11 +1,10 @@
 -- What the sum over the least common denominator has in common with that denominator.
-use Rattle.std.proofs.Common.{◌≡◌, refl, sym, ap, subst, ◌∙◌, ℕ, zero, suc, ◌+◌, ◌-◌, ◌*◌, ◌/◌, ◌<◌, ◌≤◌, ℤ, pos, ◌+ℤ◌, ◌*ℤ◌, arith, mul_comm, ◌⊎◌, inl, inr}
+use Rattle.std.proofs.Common.{◌≡◌, sym, subst, ◌∙◌, ℕ, ◌+◌, ◌-◌, ◌*◌, ◌/◌, ◌<◌, ℤ, pos, ◌+ℤ◌, ◌*ℤ◌, arith, mul_comm, ◌⊎◌, inl, inr}
 use Rattle.std.proofs.lemmas.Int.{ints, unsigned_abs-mul}
-use Rattle.std.proofs.lemmas.Nat.Gcd.{dvd_refl, dvd_trans}
+use Rattle.std.proofs.lemmas.Nat.Gcd.{dvd_trans}
 use Rattle.std.specs.Int.{IsGcd}
 use Rattle.std.specs.Int.RustNames.{unsigned_abs}
 use Rattle.std.proofs.Math.Nat.{dvd-add, dvd-sub, dvd-mul_right, dvd-mul_left, dvd-mul_left_of_dvd, dvd-mul_right_of_dvd, mul-div_cancel'}
-use lib.IntN.{negsuc}
 use Prim.Native.Nat.{◌∣◌}
 use Rattle.raml_num.specs.Divisors.{IsCoprime}
 use Rattle.raml_num.proofs.Dividing.{gauss, coprime_swap, reduced}

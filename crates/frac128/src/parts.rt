@@ -1,6 +1,6 @@
 //! Numerators and denominators.
 
-ghost use Rattle.std.specs.Prelude.{◌≡◌, ◌<◌, ◌*◌, ◌/◌, ◌^◌, ◌*ℤ◌, ◌+ℤ◌, ◌<ℤ◌, pos, unsigned_abs, ℕ};
+ghost use Rattle.std.specs.Prelude.{IsTrue, ◌≡◌, ◌<◌, ◌*◌, ◌/◌, ◌^◌, ◌*ℤ◌, ◌+ℤ◌, ◌<ℤ◌, pos, unsigned_abs, ℕ};
 ghost use Rattle.std.specs.Option.{SomeIff};
 ghost use Rattle.std.specs.Ordering.{MatchOrdering};
 ghost use Rattle.std.specs.Int.{IsGcd};
@@ -14,6 +14,9 @@ const LIMIT: u128 = 0x8000_0000_0000_0000_0000_0000_0000_0000;
 
 /// The greatest number that is divided as one of 64 bits, which is ten times as fast.
 const NARROW: u128 = 0xffff_ffff_ffff_ffff;
+
+/// The greatest number of 63 bits: a product of two such is below the limit.
+const SHORT: i128 = 0x7fff_ffff_ffff_ffff;
 
 /// The whole part of `a / b`.
 pub(crate) fn quotient(a: u128, b: u128) -> u128
@@ -53,8 +56,27 @@ pub(crate) fn joined(a: i128, b: i128) -> Option<i128>
     if sum == i128::MIN { None } else { Some(sum) }
 }
 
-/// The product of two numerators, where it is in the range.
+/// Whether a number, without its sign, has 63 bits or fewer. Nearly all do.
+fn is_short(n: i128) -> bool
+    ensures { IsTrue result → unsigned_abs n < 2 ^ 63 }
+{
+    -SHORT <= n && n <= SHORT
+}
+
+/// The product of two numerators, where it is in the range. That of short numbers is, and needs no test.
 pub(crate) fn whole_product(a: i128, b: i128) -> Option<i128>
+    ensures { SomeIff result (unsigned_abs (a *ℤ b) < 2 ^ 127) (a *ℤ b) }
+{
+    if is_short(a) && is_short(b) {
+        Some(a * b)
+    } else {
+        tested_product(a, b)
+    }
+}
+
+/// The same for all numbers.
+#[inline(never)]
+fn tested_product(a: i128, b: i128) -> Option<i128>
     ensures { SomeIff result (unsigned_abs (a *ℤ b) < 2 ^ 127) (a *ℤ b) }
 {
     let product = a.checked_mul(b)?;
