@@ -45,6 +45,16 @@ impl FracRow {
         }
     }
 
+    /// The row in which each fraction is 0, with room for so many that are not.
+    pub fn with_capacity(alloc: Global, capacity: usize) -> Result<FracRow, AllocError>
+        ensures { IfOk result (λ row. row ≡ []) }
+    {
+        Ok(FracRow {
+            columns: Vec::with_capacity(alloc, capacity)?,
+            numbers: Vec::with_capacity(alloc, capacity)?,
+        })
+    }
+
     /// The columns at which the fraction is not 0.
     pub fn columns(&self) -> &[u32]
         ensures all { result.now ≡ columns_of self.now }
@@ -118,7 +128,7 @@ impl FracRow {
         ensures kept { OnErr result (self.new ≡ self.old) }
     {
         spare.clear();
-        spare.reserve(self.columns.len() + lead.columns.len())?;
+        spare.reserve(self.columns.len())?;
         spare.put_difference(self.rest(), times, lead.rest())?;
         mem::swap(self, spare);
         Ok(())
