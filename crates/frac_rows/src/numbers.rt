@@ -1,7 +1,7 @@
 //! Fractions, one by one.
 
-ghost use Rattle.std.specs.Prelude.{◌≡◌, ◌≢◌, ◌<◌, pos, length, slice_index_or, MatchOption, OnOk, IfErr};
-ghost use Rattle.frac128.specs.Values.{numerator};
+ghost use Rattle.std.specs.Prelude.{IsTrue, ◌≡◌, ◌≢◌, ◌<◌, pos, length, slice_index_or, MatchOption, OnOk, IfErr};
+ghost use Rattle.frac128.specs.Values.{numerator, denominator};
 ghost use Rattle.frac128.specs.Nought.{nought};
 ghost use Rattle.frac_rows.specs.Entries.{IsLess, LessLeaves, QuotientLeaves};
 ghost use Rattle.frac_rows.specs.Dividing.{AreQuotients};
@@ -14,6 +14,14 @@ pub(crate) fn less(x: &Frac, times: &Frac, q: &Frac) -> Option<Frac>
 {
     let product = times.mul(q)?;
     x.sub(&product)
+}
+
+/// Whether a fraction is 1.
+pub(crate) fn is_one(x: &Frac) -> bool
+    ensures num { IsTrue result → numerator x.now ≡ pos 1 }
+    ensures den { IsTrue result → denominator x.now ≡ 1 }
+{
+    x.num() == 1 && x.den() == 1
 }
 
 /// Divides each number by `by`, or gives a place at which the quotient leaves the range.

@@ -8,7 +8,7 @@ ghost use Rattle.frac_rows.specs.Entries.{Entries, at, columns_of, numbers_of, I
 ghost use Rattle.frac_rows.specs.Merging.{put, Merges, MergeLeaves};
 
 use crate::fault::RowFault;
-use crate::numbers::{divide, less};
+use crate::numbers::{divide, is_one, less};
 use crate::rest::Rest;
 use frac128::Frac;
 use std::alloc::{AllocError, Global};
@@ -105,6 +105,9 @@ impl FracRow {
         ensures each { IfOk result (λ r. (c : ℕ) → IsQuotient (at c self) by.now (at c r)) }
         ensures leaves { (c : ℕ) → result ≡ Err c → QuotientLeaves (at c self) by.now }
     {
+        if is_one(by) {
+            return Ok(self);
+        }
         let FracRow {
             columns,
             mut numbers,
