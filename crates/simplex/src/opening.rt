@@ -15,6 +15,9 @@ use frac128::Frac;
 use linear_rows::{Row, System};
 use std::alloc::{AllocError, Global};
 
+/// So many fractions a row has room for from the start.
+pub(crate) const ROOM: usize = 8;
+
 /// Adds a whole number at a column after the others.
 fn push_whole(row: &mut FracRow, column: u32, n: i128) -> Result<(), RowFault>
     requires { EndsBefore column row.old }
@@ -37,7 +40,7 @@ fn empty_rows(alloc: Global, count: u32) -> Result<Vec<FracRow>, AllocError>
 {
     let mut rows = Vec::with_capacity(alloc, count as usize)?;
     for _ in 0..count {
-        rows.push(FracRow::new(alloc))?;
+        rows.push(FracRow::with_capacity(alloc, ROOM)?)?;
     }
     Ok(rows)
 }
@@ -133,7 +136,7 @@ fn right_sides(alloc: Global, rows: &[Row]) -> Result<FracRow, RowFault>
     ensures row { IfOk result (OpensTo (length rows.now) (map (λ row. row.right) rows.now)) }
     ensures leaves { (c : ℕ) → result ≡ Err (RowFault.Leaves c) → (c < length rows.now) × OpeningLeaves (map (λ row. row.right) rows.now) c }
 {
-    let mut all = FracRow::new(alloc);
+    let mut all = FracRow::with_capacity(alloc, rows.len())?;
     for j in 0..rows.len() {
         push_whole(&mut all, j as u32, rows[j].right())?;
     }

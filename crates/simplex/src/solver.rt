@@ -13,6 +13,7 @@ use crate::chooser::Chooser;
 use crate::covering::{covering, follow, touching};
 use crate::exiting::exiting;
 use crate::fault::Fault;
+use crate::opening::ROOM;
 use crate::pivot::pivot;
 use crate::reading::{clear, fill, zeros};
 use crate::table::{Table, dual, opening, ray, solution};
@@ -137,7 +138,7 @@ pub(crate) fn new_scratch(
 {
     Ok(Scratch {
         gains: zeros(alloc, columns)?,
-        row: FracRow::new(alloc),
+        row: FracRow::with_capacity(alloc, ROOM)?,
         marks: covering(alloc, rows, columns)?,
     })
 }
