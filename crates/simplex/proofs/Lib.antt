@@ -1,3 +1,4 @@
+mod Alone
 mod Lifting
 mod Pivots
 mod Rows

@@ -1,7 +1,7 @@
 //! For each column, marks at the rows that may have a number there, so that a pivot looks at no other row.
 //! They stand in one vector, column after column.
 
-ghost use Rattle.std.specs.Prelude.{◌≡◌, ◌<◌, ◌≤◌, ◌+◌, ◌*◌, ◌^◌, [], ◌∷◌, true, length, slice_set, IfOk};
+ghost use Rattle.std.specs.Prelude.{◌≡◌, ◌<◌, ◌≤◌, ◌+◌, ◌*◌, ◌^◌, [], ◌∷◌, true, length, slice_set, IfOk, OnOk};
 ghost use Rattle.std.specs.Option.{SomeIff};
 ghost use Rattle.simplex.specs.Standing.{AreTouching};
 ghost use Rattle.simplex.specs.Covering.{Cover, IsCovered, Grow, Clears, HasOne, Follows};
@@ -118,23 +118,23 @@ pub(crate) fn follow(
     keep_one(marks, height, column, row);
 }
 
-/// The rows with a number at column `s` that is not 0.
+/// Makes `all` the rows with a number at column `s` that is not 0.
 pub(crate) fn touching(
-    alloc: Global,
     rows: &[FracRow],
     marks: &[bool],
     s: u32,
-) -> Result<Vec<usize>, AllocError>
+    all: &mut Vec<usize>,
+) -> Result<(), AllocError>
     requires column { s * length rows.now + length rows.now ≤ length marks.now }
     requires covers { IsCovered s rows.now marks.now }
-    ensures { IfOk result (λ is. AreTouching s rows.now is.items) }
+    ensures { OnOk result (AreTouching s rows.now all.new.items) }
 {
-    let mut all = Vec::new(alloc);
+    all.clear();
     let first = s as usize * rows.len();
     for i in 0..rows.len() {
         if marks[first + i] && rows[i].at(s).num() != 0 {
             all.push(i)?;
         }
     }
-    Ok(all)
+    Ok(())
 }

@@ -15,23 +15,23 @@ use frac128::Frac;
 use std::alloc::{AllocError, Global};
 use std::cmp::Ordering;
 
-/// The rows with a positive number at column `entering`, of those that have one there.
+/// Makes `all` the rows with a positive number at column `entering`, of those that have one there.
 fn bounding(
-    alloc: Global,
     rows: &[FracRow],
     entering: u32,
     touching: &[usize],
-) -> Result<Vec<usize>, AllocError>
+    all: &mut Vec<usize>,
+) -> Result<(), AllocError>
     requires { AreTouching entering rows.now touching.now }
-    ensures { IfOk result (λ is. AreBounding entering rows.now is.items) }
+    ensures { OnOk result (AreBounding entering rows.now all.new.items) }
 {
-    let mut all = Vec::new(alloc);
+    all.clear();
     for row in touching {
         if rows[*row].at(entering).num() > 0 {
             all.push(*row)?;
         }
     }
-    Ok(all)
+    Ok(())
 }
 
 /// The ratio of a row's number at `column` to that at `entering`, or None where it leaves the range.
@@ -94,7 +94,7 @@ fn ties(
 
 /// The row that exits the basis for column `entering`, or None where no row bounds that column. Rows are
 /// compared by their ratios at column `right`, and where these tie at the columns from `slack` on, until
-/// one is left.
+/// one is left. The rows that bound it are kept in `all`.
 pub(crate) fn exiting(
     alloc: Global,
     rows: &[FracRow],
@@ -102,6 +102,7 @@ pub(crate) fn exiting(
     entering: u32,
     slack: u32,
     right: u32,
+    all: &mut Vec<usize>,
 ) -> Result<Option<usize>, Fault>
     requires order { slack ≤ right }
     requires touching { AreTouching entering rows.now touching.now }
@@ -109,12 +110,55 @@ pub(crate) fn exiting(
     ensures none { (i : ℕ) → result ≡ Ok None → ¬ IsBounding entering rows.now i }
     ensures leaves { (i c : ℕ) → result ≡ Err (Fault.Leaves i c) → SearchLeaves (columns_to right slack right) entering rows.now i c }
 {
-    let all = bounding(alloc, rows, entering, touching)?;
+    bounding(rows, entering, touching, all)?;
     if all.is_empty() {
         return Ok(None);
     }
-    let row = narrowed(alloc, rows, entering, slack, right, &all)?;
+    let row = left_of(alloc, rows, entering, slack, right, all)?;
     Ok(Some(row))
+}
+
+/// The row that is left of these, which are all that bound column `entering`.
+fn left_of(
+    alloc: Global,
+    rows: &[FracRow],
+    entering: u32,
+    slack: u32,
+    right: u32,
+    all: &[usize],
+) -> Result<usize, Fault>
+    requires order { slack ≤ right }
+    requires bounding { AreBounding entering rows.now all.now }
+    requires some { 0 < length all.now }
+    ensures row { IfOk result (IsExiting (columns_to right slack right) entering rows.now) }
+    ensures leaves { (i c : ℕ) → result ≡ Err (Fault.Leaves i c) → SearchLeaves (columns_to right slack right) entering rows.now i c }
+{
+    if all.len() == 1 {
+        alone(rows, entering, slack, right, all)
+    } else {
+        narrowed(alloc, rows, entering, slack, right, all)
+    }
+}
+
+/// The one row that bounds column `entering`, of which only the ratio at column `right` is looked at.
+fn alone(
+    rows: &[FracRow],
+    entering: u32,
+    slack: u32,
+    right: u32,
+    all: &[usize],
+) -> Result<usize, Fault>
+    requires order { slack ≤ right }
+    requires bounding { AreBounding entering rows.now all.now }
+    requires one { length all.now ≡ 1 }
+    ensures row { IfOk result (IsExiting (columns_to right slack right) entering rows.now) }
+    ensures leaves { (i c : ℕ) → result ≡ Err (Fault.Leaves i c) → SearchLeaves (columns_to right slack right) entering rows.now i c }
+{
+    let row = all[0];
+    match ratio_of(&rows[row], entering, right) {
+        Some(_) => Ok(row),
+        None => Err(Fault::Leaves { row, column: right }),
+    }
 }
 
 /// The row that is left of these, which are all that bound column `entering`.

@@ -23,13 +23,15 @@ use linear_rows::System;
 use std::alloc::{AllocError, Global};
 
 /// What steps hand on beside the table: the gains as the rule sees them, which are 0 between steps, a row in
-/// which new rows are made, and for each column before the right sides marks at the rows that may have a
-/// number there.
+/// which new rows are made, for each column before the right sides marks at the rows that may have a
+/// number there, and of the last step the rows with a number in its column and those with a positive one.
 #[derive(Drop)]
 pub(crate) struct Scratch {
     gains: Vec<Frac>,
     row: FracRow,
     marks: Vec<bool>,
+    touching: Vec<usize>,
+    bounding: Vec<usize>,
 }
 
 /// What comes of a step.
@@ -104,8 +106,16 @@ pub(crate) fn make_step<F: Fn(&[Frac]) -> Option<usize>>(
         Some(column) => column,
         None => return Ok(Step::Best),
     };
-    let touching = touching(alloc, &table.rows, &scratch.marks, column)?;
-    let row = match exiting(alloc, &table.rows, &touching, column, slack, right) {
+    touching(&table.rows, &scratch.marks, column, &mut scratch.touching)?;
+    let row = match exiting(
+        alloc,
+        &table.rows,
+        &scratch.touching,
+        column,
+        slack,
+        right,
+        &mut scratch.bounding,
+    ) {
         Ok(Some(row)) => row,
         Ok(None) => return Ok(Step::Rises { column }),
         Err(fault) => return stopped(fault),
@@ -114,7 +124,7 @@ pub(crate) fn make_step<F: Fn(&[Frac]) -> Option<usize>>(
         alloc,
         &mut table.rows,
         &mut table.gains,
-        &touching,
+        &scratch.touching,
         row,
         column,
         &mut scratch.row,
@@ -122,7 +132,14 @@ pub(crate) fn make_step<F: Fn(&[Frac]) -> Option<usize>>(
         return stopped(fault);
     }
     let columns = table.rows[row].columns();
-    follow(&mut scratch.marks, height, columns, &touching, column, row);
+    follow(
+        &mut scratch.marks,
+        height,
+        columns,
+        &scratch.touching,
+        column,
+        row,
+    );
     table.basis[row] = column;
     table.pivots.push((row as u32, column))?;
     Ok(Step::Pivot)
@@ -140,6 +157,8 @@ pub(crate) fn new_scratch(
         gains: zeros(alloc, columns)?,
         row: FracRow::with_capacity(alloc, ROOM)?,
         marks: covering(alloc, rows, columns)?,
+        touching: Vec::with_capacity(alloc, rows.len())?,
+        bounding: Vec::with_capacity(alloc, rows.len())?,
     })
 }
 

@@ -127,7 +127,7 @@ returns-clause-ready g c e =
     let lead : c.index.result.now ≡ entries_at c.pivot.new.rows c.in-Ok-Some.row = row_is c.pivot.new.rows c.in-Ok-Some.row c.index.result.now (omega arith) (rw back at c.index.ensures) in
     record {
       cleared = rw gains_back cleared;
-      cover = rw (back, marks_back) (covered (right c.args.system.now) c.in-Ok-Some.row c.in-Some.column c.args.table.now.rows.items c.args.table.now.gains c.pivot.new.rows c.pivot.new.gains c.in_ok-touching.touching.items
+      cover = rw (back, marks_back) (covered (right c.args.system.now) c.in-Ok-Some.row c.in-Some.column c.args.table.now.rows.items c.args.table.now.gains c.pivot.new.rows c.pivot.new.gains c.touching.new.all.items
           c.args.scratch.now.marks.items follows.grown c.follow.new.marks inside (positive_not_none l.bounding.positive) c.requires.ready.cover touches made
-          (subst (λ (es : Entries). Grow (length c.args.table.now.rows.items) (columns_of es) c.in_ok-touching.touching.items c.args.scratch.now.marks.items follows.grown) lead follows.grow) follows.one);
+          (subst (λ (es : Entries). Grow (length c.args.table.now.rows.items) (columns_of es) c.touching.new.all.items c.args.scratch.now.marks.items follows.grown) lead follows.grow) follows.one);
     }
