@@ -72,6 +72,15 @@ module _ (ks : List ℕ) (xs : List Frac) (row : IsRow ks xs) where
     | inr g ↦ let z = ranked _ c _ (sym ((parted (comparisons_rise c)).1 j 0 g h)) in omega arith
   ])
 
+  -- where a short row was looked through
+  pub looked_up : (c i : ℕ) → i < length ks → get_or ks i 0 ≡ c → (i < length xs) × (at c (zip ks xs) ≡ get_or xs i nought)
+  looked_up c i in_range e =
+      let l = row.as_long in
+      (omega arith, subst (λ k. at k (zip ks xs) ≡ get_or xs i nought) e (present 0 ks xs i row.sparse row.as_long in_range))
+
+  pub looked_past : (c : ℕ) → ((i : ℕ) → i < length ks → get_or ks i 0 ≢ c) → at c (zip ks xs) ≡ nought
+  looked_past c none = absent ks xs c none
+
   -- the columns before one come first
   pub parted_by : (from : ℕ) → IsPartitionedBy (λ k. nat_lt k from) ks
   parted_by from i j d le in_range before =

@@ -1,6 +1,6 @@
 //! What a walk has not come to yet.
 
-ghost use Rattle.std.specs.Prelude.{◌≡◌, ◌<◌, ◌≤◌, ◌++◌, [], ◌∷◌, length, slice_index, IfSome, IfNone};
+ghost use Rattle.std.specs.Prelude.{ℕ, slice_index_or, ◌≢◌, ◌≡◌, ◌<◌, ◌≤◌, ◌++◌, [], ◌∷◌, length, slice_index, IfSome, IfNone};
 ghost use Rattle.std.specs.List.{zip, AllWithin};
 ghost use Rattle.frac_rows.specs.Entries.{Entries, EndsBefore, StartsAt, columns_of, numbers_of};
 ghost use Rattle.frac_rows.specs.Merging.{Takes};
@@ -99,4 +99,12 @@ fn count_before(columns: &[u32], column: u32) -> usize
         .iter()
         .position(|other| *other >= column)
         .unwrap_or(columns.len())
+}
+
+/// The place of a column, or None where it is none of these.
+pub(crate) fn place_of(columns: &[u32], column: u32) -> Option<usize>
+    ensures some { IfSome result (λ place. (place < length columns.now) × (slice_index_or columns.now place 0 ≡ column)) }
+    ensures none { IfNone result ((i : ℕ) → i < length columns.now → slice_index_or columns.now i 0 ≢ column) }
+{
+    columns.iter().position(|other| *other == column)
 }

@@ -9,7 +9,7 @@ ghost use Rattle.frac_rows.specs.Merging.{put, Merges, MergeLeaves};
 
 use crate::fault::RowFault;
 use crate::numbers::{divide, is_one, less};
-use crate::rest::Rest;
+use crate::rest::{Rest, place_of};
 use frac128::Frac;
 use std::alloc::{AllocError, Global};
 use std::marker::Model;
@@ -17,6 +17,9 @@ use std::mem;
 
 /// Up to so many fractions are put one by one, and more in one piece.
 const FEW: usize = 3;
+
+/// Up to so many columns are looked through one by one, and more are searched.
+const SHORT: usize = 8;
 
 /// A row of fractions. It keeps those that are not 0, in order of column: the columns in one vector, and
 /// the numbers in another.
@@ -72,6 +75,29 @@ impl FracRow {
 
     /// The fraction at a column.
     pub fn at(&self, column: u32) -> Frac
+        ensures num { numerator result ≡ numerator (at column self.now) }
+        ensures den { denominator result ≡ denominator (at column self.now) }
+    {
+        if self.columns.len() <= SHORT {
+            self.look_through(column)
+        } else {
+            self.search(column)
+        }
+    }
+
+    /// The fraction at a column of a short row.
+    fn look_through(&self, column: u32) -> Frac
+        ensures num { numerator result ≡ numerator (at column self.now) }
+        ensures den { denominator result ≡ denominator (at column self.now) }
+    {
+        match place_of(&self.columns, column) {
+            Some(place) => self.numbers[place],
+            None => Frac::zero(),
+        }
+    }
+
+    /// The fraction at a column of a long row.
+    fn search(&self, column: u32) -> Frac
         ensures num { numerator result ≡ numerator (at column self.now) }
         ensures den { denominator result ≡ denominator (at column self.now) }
     {

@@ -4,7 +4,7 @@ use Rattle.frac128.specs.declared.Frac.{Frac}
 use Rattle.frac128.specs.Values.{numerator, denominator}
 use Rattle.frac128.specs.Nought.{nought}
 use Rattle.frac_rows.proofs.Finding.{found, missing}
-use Rattle.frac_rows.proofs.row.FracRow.at.Goals as goal
+use Rattle.frac_rows.proofs.row.FracRow.search.Goals as goal
 
 pub returns-in-Ok-clause-num : goal.returns-in-Ok-clause-num
 returns-in-Ok-clause-num c =
