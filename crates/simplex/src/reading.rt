@@ -111,9 +111,5 @@ pub(crate) fn spread(
 pub(crate) fn zeros(alloc: Global, count: usize) -> Result<Vec<Frac>, AllocError>
     ensures { IfOk result (λ xs. HaveParts count (λ _. pos 0) (λ _. 1) xs.items) }
 {
-    let mut all = Vec::with_capacity(alloc, count)?;
-    for _ in 0..count {
-        all.push(Frac::zero())?;
-    }
-    Ok(all)
+    vec![in alloc; Frac::zero(); count]
 }
