@@ -5,3 +5,4 @@ mod Finding
 mod Appending
 mod Walking
 mod Quotients
+mod Short

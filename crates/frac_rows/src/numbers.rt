@@ -1,6 +1,6 @@
 //! Fractions, one by one.
 
-ghost use Rattle.std.specs.Prelude.{IsTrue, ◌≡◌, ◌≢◌, ◌<◌, pos, length, slice_index_or, MatchOption, OnOk, IfErr};
+ghost use Rattle.std.specs.Prelude.{IsTrue, ◌≡◌, ◌≢◌, ◌<◌, ◌^◌, pos, unsigned_abs, length, slice_index_or, MatchOption, OnOk, IfErr};
 ghost use Rattle.frac128.specs.Values.{numerator, denominator};
 ghost use Rattle.frac128.specs.Nought.{nought};
 ghost use Rattle.frac_rows.specs.Entries.{IsLess, LessLeaves, QuotientLeaves};
@@ -8,8 +8,32 @@ ghost use Rattle.frac_rows.specs.Dividing.{AreQuotients};
 
 use frac128::Frac;
 
+/// The greatest number of 63 bits.
+const SHORT: i128 = 0x7fff_ffff_ffff_ffff;
+
+/// Whether a fraction is a whole number that has, without its sign, 63 bits or fewer. Nearly all are.
+fn is_short(x: &Frac) -> bool
+    ensures whole { IsTrue result → denominator x.now ≡ 1 }
+    ensures short { IsTrue result → unsigned_abs (numerator x.now) < 2 ^ 63 }
+{
+    x.den() == 1 && -SHORT <= x.num() && x.num() <= SHORT
+}
+
 /// `x` less `times` times `q`, or None where the product or the difference leaves the range.
+#[inline(always)]
 pub(crate) fn less(x: &Frac, times: &Frac, q: &Frac) -> Option<Frac>
+    ensures { MatchOption result (LessLeaves x.now times.now q.now) (IsLess x.now times.now q.now) }
+{
+    if is_short(x) && is_short(times) && is_short(q) {
+        Frac::whole(x.num() - times.num() * q.num())
+    } else {
+        any_less(x, times, q)
+    }
+}
+
+/// The same for all fractions.
+#[inline(never)]
+fn any_less(x: &Frac, times: &Frac, q: &Frac) -> Option<Frac>
     ensures { MatchOption result (LessLeaves x.now times.now q.now) (IsLess x.now times.now q.now) }
 {
     let product = times.mul(q)?;
