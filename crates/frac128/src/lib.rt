@@ -65,7 +65,7 @@ fn reduced(num: i128, den: u128, shared: u128) -> Frac
 }
 
 impl Frac {
-    ghost use Rattle.std.specs.Prelude.{◌≡◌, ◌≢◌, ◌↔◌, ℕ, ℤ, pos, neg_ℤ, unsigned_abs, IsSome, IfSome, ◌+ℤ◌};
+    ghost use Rattle.std.specs.Prelude.{IsTrue, ◌≡◌, ◌≢◌, ◌↔◌, ℕ, ℤ, pos, neg_ℤ, unsigned_abs, IsSome, IfSome, ◌+ℤ◌};
     ghost use Rattle.raml_num.specs.Divisors.{IsLcm};
     ghost use Rattle.frac128.specs.Values.{numerator, denominator, IsProduct, IsQuotient, IsSum, IsDifference, SumFits, DifferenceFits, Tells, Fits, IsReciprocal};
 
@@ -163,7 +163,19 @@ impl Frac {
         requires { numerator other.now ≢ pos 0 }
         ensures { Tells (IsQuotient self.now other.now) result }
     {
-        self.mul(&other.reciprocal())
+        if other.is_one() {
+            Some(*self)
+        } else {
+            self.mul(&other.reciprocal())
+        }
+    }
+
+    /// Whether it is 1.
+    fn is_one(&self) -> bool
+        ensures num { IsTrue result → numerator self.now ≡ pos 1 }
+        ensures den { IsTrue result → denominator self.now ≡ 1 }
+    {
+        self.num == 1 && self.den == 1
     }
 
     /// One over the fraction, which is not 0.
