@@ -8,3 +8,4 @@ mod Checklists
 mod Spreading
 mod Meaning
 mod Walking
+mod Short

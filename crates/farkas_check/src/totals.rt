@@ -1,8 +1,31 @@
 //! The total of the positive terms, and that of the negative ones.
 
-ghost use Rattle.std.specs.Prelude.{◌≤ℤ◌, pos};
+ghost use Rattle.std.specs.Prelude.{IsTrue, FitsSigned, ◌<◌, ◌^◌, ◌*ℤ◌, ◌≤ℤ◌, pos, unsigned_abs};
+ghost use Rattle.std.specs.Int.{w128};
+ghost use Rattle.std.specs.Option.{SomeIff};
 
 use linear_rows::Row;
+
+/// The greatest number of 63 bits.
+const SHORT: i128 = 0x7fff_ffff_ffff_ffff;
+
+/// Whether a number, without its sign, has 63 bits or fewer. Nearly all do.
+fn is_short(n: i128) -> bool
+    ensures { IsTrue result → unsigned_abs n < 2 ^ 63 }
+{
+    -SHORT <= n && n <= SHORT
+}
+
+/// The product, where it fits. That of short numbers does, and needs no test.
+fn product(a: i128, b: i128) -> Option<i128>
+    ensures { SomeIff result (FitsSigned w128 (a *ℤ b)) (a *ℤ b) }
+{
+    if is_short(a) && is_short(b) {
+        Some(a * b)
+    } else {
+        a.checked_mul(b)
+    }
+}
 
 /// Both totals.
 #[derive(Clone, Copy)]
@@ -42,7 +65,7 @@ impl Totals {
         if a == 0 || b == 0 {
             return Some(self);
         }
-        let product = a.checked_mul(b)?;
+        let product = product(a, b)?;
         if product < 0 {
             let negative = self.negative.checked_add(product)?;
             Some(Totals {
