@@ -61,14 +61,19 @@ fn check_vector(alloc: Global, system: &System, y: &[i128]) -> Result<(), Answer
 
 /// The solution over its own least denominator. Where that is the denominator of both, these are its
 /// numbers.
-fn solution(alloc: Global, x: &[Frac], both: u128, over_both: &[i128]) -> Result<Answer, AllocError>
+fn solution(
+    alloc: Global,
+    x: &[Frac],
+    both: u128,
+    over_both: Vec<i128>,
+) -> Result<Answer, AllocError>
     requires wholes { HaveWholes x.now }
-    requires numbers { over_both.now ≡ map pos (all_over both x.now) }
+    requires numbers { over_both.items ≡ map pos (all_over both x.now) }
     ensures { IfOk result (IsInWholes x.now) }
 {
     let denominator = own_denominator(x);
     let numbers = if denominator == both {
-        Vec::from_slice(alloc, over_both)?
+        over_both
     } else {
         own_numbers(alloc, x, denominator)?
     };
@@ -93,10 +98,11 @@ pub(crate) fn checked_solution(
     laws::least_denominators();
     let both = joined(alloc, x, dual)?;
     let denominator = common_denominator(&both)?;
-    let numbers = numbers_over(alloc, &both, denominator)?;
+    let mut numbers = numbers_over(alloc, &both, denominator)?;
     let (primal_numbers, dual_numbers) = numbers.split_at(x.len());
     check_least(alloc, system, primal_numbers, dual_numbers, denominator)?;
-    Ok(solution(alloc, x, denominator, primal_numbers)?)
+    numbers.truncate(x.len());
+    Ok(solution(alloc, x, denominator, numbers)?)
 }
 
 /// A vector that refutes the system, in whole numbers, checked.

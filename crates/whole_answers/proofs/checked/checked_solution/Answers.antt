@@ -18,4 +18,4 @@ solution-requires-clause-wholes c =
 pub solution-requires-clause-numbers : goal.solution-requires-clause-numbers
 solution-requires-clause-numbers c =
     let numbers = rw (c.deref-2.ensures.value, c.in_ok-both.ensures) at c.in_ok-numbers.ensures.numbers in
-    front_is c.in_ok-denominator.denominator c.args.x.now c.args.dual.now c.deref-3.result.now c.split_at.result.0.now (c.deref-3.ensures.value ∙ numbers) c.split_at.ensures.front
+    front_is c.in_ok-denominator.denominator c.args.x.now c.args.dual.now c.in_ok-numbers.numbers.items c.truncate.new.self.items numbers c.truncate.ensures.items
