@@ -1,16 +1,13 @@
 -- Tables that are made column by column.
-use Rattle.std.proofs.Common.{◌≡◌, ◌≤◌, ◌<◌, ◌⊎◌, ⊎_elim, ℕ, zero, suc, ◌+◌, ◌-◌, List, [], ◌∷◌, cond, nat_lt, map, slice_index_or, Result, Ok, Err, IsErrAnd, refl, sym, ap, ◌∙◌, arith}
-use Rattle.raml_syntax.specs.Tree.{Type'}
-use Rattle.base_poly.specs.Plain.{degrees}
+use Rattle.std.proofs.Common.{◌≡◌, ◌≤◌, ◌<◌, ◌⊎◌, ⊎_elim, ℕ, zero, suc, ◌+◌, ◌-◌, List, [], ◌∷◌, cond, nat_lt, slice_index_or, Result, Ok, Err, IsErrAnd, refl, sym, ap, ◌∙◌, arith}
 use Rattle.base_poly.specs.Base.{total}
 use Rattle.base_poly.specs.declared.fault.IndexFault.{IndexFault}
 use Rattle.base_poly.specs.declared.fault.IndexFault.TheVariants.{TooMany}
-use Rattle.base_poly.specs.Indices.{tuples_up_to}
 use Rattle.index_shift.specs.Tables.{fits, sums, listed}
-use Rattle.index_shift.proofs.Shorter.{front_few, back_few}
+use Rattle.index_shift.proofs.Shorter.{back_few}
 use Rattle.index_shift.proofs.Steps.{listed_at}
-use Rattle.tuple_ranks.specs.Columns.{sizes, count, below, lower_count, columns, Column}
-use Rattle.tuple_ranks.specs.Spots.{IsSmall, IsLarge}
+use Rattle.tuple_ranks.specs.Columns.{count, below, lower_count, columns, Column}
+use Rattle.tuple_ranks.specs.Spots.{AreSmall, AreLarge}
 use Rattle.tuple_ranks.proofs.Ranked.{size_is}
 
 pub of_fault : {T : Type 0} (r : Result T IndexFault) (e : IndexFault) → IsErrAnd r (λ x. x ≡ e) → r ≡ Err TooMany → e ≡ TooMany
@@ -56,69 +53,65 @@ read_is n d numbers made g low = ap (λ l. slice_index_or l g 0) made ∙ listed
     none : (g : ℕ) → 0 + g ≡ g
     none g = omega arith
 
-module _ (As : List Type') (d : ℕ) (counts : List ℕ) (made : counts ≡ listed (count (sizes As d)) 0 (1 + d)) where
+module _ (pss : List (List ℕ)) (d : ℕ) (counts : List ℕ) (made : counts ≡ listed (count pss) 0 (1 + d)) where
   abbrev pub read : ℕ → ℕ
   read g = slice_index_or counts g 0
 
-  pub starts_are : listed (below read) 0 (2 + d) ≡ listed (lower_count (sizes As d)) 0 (2 + d)
-  starts_are = listed_same (below read) (lower_count (sizes As d)) 0 (2 + d) (λ h l. below_same read (count (sizes As d)) h (λ k m. read_is (count (sizes As d)) d counts made k (omega (arith, l, m))))
+  pub starts_are : listed (below read) 0 (2 + d) ≡ listed (lower_count pss) 0 (2 + d)
+  starts_are = listed_same (below read) (lower_count pss) 0 (2 + d) (λ h l. below_same read (count pss) h (λ k m. read_is (count pss) d counts made k (omega (arith, l, m))))
 
-  lows_are : (h : ℕ) → h ≤ 1 + d → below read h ≡ lower_count (sizes As d) h
-  lows_are h low = below_same read (count (sizes As d)) h (λ k m. read_is (count (sizes As d)) d counts made k (omega (arith, low, m)))
+  lows_are : (h : ℕ) → h ≤ 1 + d → below read h ≡ lower_count pss h
+  lows_are h low = below_same read (count pss) h (λ k m. read_is (count pss) d counts made k (omega (arith, low, m)))
 
-  pub is_small : below read (1 + d) ≤ 2000 → IsSmall As d
-  is_small few = let a = lows_are (1 + d) (omega arith) in let b = size_is As d in omega (arith, a, b, few)
+  pub is_small : below read (1 + d) ≤ 2000 → AreSmall pss d
+  is_small few As e = let a = lows_are (1 + d) (omega arith) in let b = size_is As d in let c = ap (λ l. lower_count l (1 + d)) e in omega (arith, a, b, c, few)
 
-  pub is_large : (g : ℕ) × (g ≤ d) × (2000 < below read (1 + g)) → IsLarge As d
-  is_large p =
+  pub is_large : (g : ℕ) × (g ≤ d) × (2000 < below read (1 + g)) → AreLarge pss d
+  is_large p As e =
       let low = p.1 in
       let many = p.2 in
       let a = lows_are (1 + p.0) (omega (arith, low)) in
-      let b = below_grows (count (sizes As d)) (1 + p.0) (1 + d) (omega (arith, low)) in
-      let c = size_is As d in omega (arith, a, b, c, many)
+      let b = below_grows (count pss) (1 + p.0) (1 + d) (omega (arith, low)) in
+      let c = size_is As d in
+      let f = ap (λ l. lower_count l (1 + d)) e in omega (arith, a, b, c, f, many)
 
   -- with a variable before
-  fits_same : (g p : ℕ) → g ≤ d → fits read g p ≡ fits (count (sizes As d)) g p
-  fits_same g p low = ap (cond (nat_lt g p) 0) (read_is (count (sizes As d)) d counts made (g - p) (omega (arith, low)))
+  fits_same : (g p : ℕ) → g ≤ d → fits read g p ≡ fits (count pss) g p
+  fits_same g p low = ap (cond (nat_lt g p) 0) (read_is (count pss) d counts made (g - p) (omega (arith, low)))
 
-  sums_same : (g s : ℕ) (ps : List ℕ) → g ≤ d → sums (fits read g) s ps ≡ sums (fits (count (sizes As d)) g) s ps
+  sums_same : (g s : ℕ) (ps : List ℕ) → g ≤ d → sums (fits read g) s ps ≡ sums (fits (count pss) g) s ps
   sums_same g s [] low = refl
-  sums_same g s (p ∷ ps) low = λ i. s ∷ (ap (λ n. sums (fits read g) (s + n) ps) (fits_same g p low) ∙ sums_same g (s + fits (count (sizes As d)) g p) ps low) i
+  sums_same g s (p ∷ ps) low = λ i. s ∷ (ap (λ n. sums (fits read g) (s + n) ps) (fits_same g p low) ∙ sums_same g (s + fits (count pss) g p) ps low) i
 
-  total_same : (g : ℕ) (ps : List ℕ) → g ≤ d → total (fits read g) ps ≡ total (fits (count (sizes As d)) g) ps
+  total_same : (g : ℕ) (ps : List ℕ) → g ≤ d → total (fits read g) ps ≡ total (fits (count pss) g) ps
   total_same g [] low = refl
   total_same g (p ∷ ps) low = λ i. fits_same g p low i + total_same g ps low i
 
-  module _ (A : Type') (ps : List ℕ) (are : ps ∷ [] ≡ sizes (A ∷ []) d) where
-    they : ps ≡ map degrees (tuples_up_to (A ∷ []) d)
-    they = ap head are
-      where
-        head : List (List ℕ) → List ℕ
-        head [] = []
-        head (x ∷ xs) = x
-
-    pub columns_more : (table : List (List ℕ)) (cs : List Column) → table ≡ listed (λ g. sums (fits read g) 0 ps) 0 (1 + d) → cs ≡ columns d (sizes As d) →
-        record { sizes = ps; before = table } ∷ cs ≡ columns d (sizes (A ∷ As) d)
+  module _ (ps : List ℕ) where
+    pub columns_more : (table : List (List ℕ)) (cs : List Column) → table ≡ listed (λ g. sums (fits read g) 0 ps) 0 (1 + d) → cs ≡ columns d pss →
+        record { sizes = ps; before = table } ∷ cs ≡ columns d (ps ∷ pss)
     columns_more table cs made_table made_columns =
-        let rows = made_table ∙ listed_same (λ g. sums (fits read g) 0 ps) (λ g. sums (fits (count (sizes As d)) g) 0 ps) 0 (1 + d) (λ g l. sums_same g 0 ps (omega (arith, l))) in
-        (λ i. record { sizes = ps; before = rows i } ∷ made_columns i)
-        ∙ ap (λ ps. record { sizes = ps; before = listed (λ g. sums (fits (count (sizes As d)) g) 0 ps) 0 (1 + d) } ∷ columns d (sizes As d)) they
+        let rows = made_table ∙ listed_same (λ g. sums (fits read g) 0 ps) (λ g. sums (fits (count pss) g) 0 ps) 0 (1 + d) (λ g l. sums_same g 0 ps (omega (arith, l))) in
+        λ i. record { sizes = ps; before = rows i } ∷ made_columns i
 
-    pub counts_more : (totals : List ℕ) → totals ≡ listed (λ g. total (fits read g) ps) 0 (1 + d) → totals ≡ listed (count (sizes (A ∷ As) d)) 0 (1 + d)
+    pub counts_more : (totals : List ℕ) → totals ≡ listed (λ g. total (fits read g) ps) 0 (1 + d) → totals ≡ listed (count (ps ∷ pss)) 0 (1 + d)
     counts_more totals made_totals =
-        made_totals ∙ listed_same (λ g. total (fits read g) ps) (count (sizes (A ∷ As) d)) 0 (1 + d)
-        (λ g l. total_same g ps (omega (arith, l)) ∙ ap (total (fits (count (sizes As d)) g)) they)
+        made_totals ∙ listed_same (λ g. total (fits read g) ps) (count (ps ∷ pss)) 0 (1 + d) (λ g l. total_same g ps (omega (arith, l)))
 
-    pub large_more : (g : ℕ) × (g ≤ d) × (2000 < total (fits read g) ps) → IsLarge (A ∷ As) d
-    large_more p =
+    pub large_more : (g : ℕ) × (g ≤ d) × (2000 < total (fits read g) ps) → AreLarge (ps ∷ pss) d
+    large_more p As e =
         let low = p.1 in
         let many = p.2 in
-        let a = total_same p.0 ps low ∙ ap (total (fits (count (sizes As d)) p.0)) they in
-        let b = below_grows (count (sizes (A ∷ As) d)) (suc p.0) (1 + d) (omega (arith, low)) in
-        let c = size_is (A ∷ As) d in omega (arith, a, b, c, many)
+        let a = total_same p.0 ps low in
+        let b = below_grows (count (ps ∷ pss)) (suc p.0) (1 + d) (omega (arith, low)) in
+        let c = size_is As d in
+        let f = ap (λ l. lower_count l (1 + d)) e in omega (arith, a, b, c, f, many)
 
-pub behind_large : (A : Type') (As : List Type') (d : ℕ) → IsLarge As d → IsLarge (A ∷ As) d
-behind_large A As d h = let a = back_few (A ∷ []) As d in omega (arith, a, h)
-
-pub first_large : (A : Type') (As : List Type') (d : ℕ) → IsLarge (A ∷ []) d → IsLarge (A ∷ As) d
-first_large A As d h = let a = front_few (A ∷ []) As d in omega (arith, a, h)
+-- what is large behind a variable is large
+pub behind_large : (ps : List ℕ) (pss : List (List ℕ)) (d : ℕ) → AreLarge pss d → AreLarge (ps ∷ pss) d
+behind_large ps pss d h [] e = absurd (cc)
+behind_large ps pss d h (A ∷ As) e = let a = back_few (A ∷ []) As d in let more = h As (ap rest e) in omega (arith, a, more)
+  where
+    rest : List (List ℕ) → List (List ℕ)
+    rest [] = []
+    rest (x ∷ xs) = xs

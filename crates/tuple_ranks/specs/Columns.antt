@@ -43,8 +43,12 @@ pub record Table : Type 0 where
   pub columns : List Column
   pub starts : List ℕ
 
+-- of types whose indices have these degrees
+abbrev pub table_by : List (List ℕ) → ℕ → Table
+table_by pss d = record { degree = d; columns = columns d pss; starts = listed (lower_count pss) 0 (2 + d) }
+
 abbrev pub table : List Type' → ℕ → Table
-table As d = record { degree = d; columns = columns d (sizes As d); starts = listed (lower_count (sizes As d)) 0 (2 + d) }
+table As d = table_by (sizes As d) d
 
 -- how many tuples there are up to a degree
 abbrev pub up_to : Table → ℕ → ℕ

@@ -1,9 +1,10 @@
 -- A tuple by the numbers of its indices: the place of each among those of its type, component by component.
-use Rattle.std.specs.Prelude.{ℕ, zero, suc, ◌+◌, ◌-◌, nat_lt, cond, List, [], ◌∷◌, ◌++◌, map, flat_map, take, drop}
+use Rattle.std.specs.Prelude.{ℕ, zero, suc, ◌+◌, ◌-◌, nat_lt, cond, List, [], ◌∷◌, ◌++◌, map, flat_map, length, take, drop}
 use Rattle.std.specs.List.{position_or_len}
 use Rattle.raml_syntax.specs.Tree.{Type'}
 use Rattle.base_poly.specs.Plain.{Plain, alike}
 use Rattle.base_poly.specs.Indices.{tuples_up_to}
+use Rattle.tuple_ranks.specs.Columns.{Table, lower_count, sizes_in, up_to}
 
 -- the place of an index; the number of all where it is none of the type or its degree is too high
 abbrev pub number : Type' → ℕ → Plain → ℕ
@@ -43,3 +44,10 @@ flat_behind before rows = flat_map (λ ns. before ++ ns) rows
 abbrev pub cut : ℕ → ℕ → List ℕ → List (List ℕ)
 cut zero width ns = []
 cut (suc n) width ns = take width ns ∷ cut n width (drop width ns)
+
+-- the numbers of all tuples of a context, and of one whose types' indices have these degrees
+abbrev pub table_rows : Table → List (List ℕ)
+table_rows t = cut (up_to t t.degree) (length t.columns) (flat (all_numbered (sizes_in t.columns) (1 + t.degree) 0))
+
+abbrev pub all_rows : List (List ℕ) → ℕ → List (List ℕ)
+all_rows pss d = cut (lower_count pss (1 + d)) (length pss) (flat (all_numbered pss (1 + d) 0))

@@ -2,11 +2,12 @@
 ghost use Rattle.std.specs.Prelude.{◌≡◌, ◌<◌, ◌≤◌, ◌+◌, ℕ, [], ◌∷◌, map, slice_index_or, IfOk, OnOk, IsErrOf};
 ghost use Rattle.raml_syntax.specs.Read.{ty_of};
 ghost use Rattle.base_poly.specs.Base.{total};
-ghost use Rattle.base_poly.specs.Read.{context_of};
+ghost use Rattle.base_poly.specs.Indices.{tuples_up_to};
+ghost use Rattle.base_poly.specs.Plain.{degrees};
 ghost use Rattle.index_shift.specs.Tables.{fits, sums, listed};
-ghost use Rattle.tuple_ranks.specs.Columns.{sizes, count, lower_count, columns};
-ghost use Rattle.tuple_ranks.specs.Read.{items_of};
-ghost use Rattle.tuple_ranks.specs.Spots.{IsLarge};
+ghost use Rattle.tuple_ranks.specs.Columns.{count, columns};
+ghost use Rattle.tuple_ranks.specs.Read.{items_of, lists_of};
+ghost use Rattle.tuple_ranks.specs.Spots.{IsLarge, AreLarge};
 
 use base_poly::{IndexFault, degrees};
 use raml_syntax::Ty;
@@ -21,12 +22,12 @@ pub const MOST: u16 = 2000;
 /// tuples of it and of the variables behind it have this degree and begin with an index before the
 /// n-th.
 #[derive(Drop)]
-pub struct Column {
-    pub sizes: Vec<u8>,
+pub struct Column<'s> {
+    pub sizes: &'s [u8],
     pub before: Vec<Vec<u16>>,
 }
 
-impl Model for Column {
+impl<'s> Model for Column<'s> {
     ghost use Rattle.std.specs.Prelude.{map};
     ghost use Rattle.tuple_ranks.specs.Columns.{Column};
     ghost use Rattle.tuple_ranks.specs.Read.{items_of};
@@ -34,53 +35,63 @@ impl Model for Column {
     ghost Value = { Column };
 
     ghost view = { λ c. record {
-      sizes = c.sizes.items;
+      sizes = c.sizes.now;
       before = map items_of c.before.items;
     } };
 }
 
 /// The variables of a context, and for each degree how many tuples have it.
 #[derive(Drop)]
-pub struct Columns {
-    pub columns: Vec<Column>,
+pub struct Columns<'s> {
+    pub columns: Vec<Column<'s>>,
     pub counts: Vec<u16>,
 }
 
-/// The columns of a context.
+/// The columns of a context whose types' indices have these degrees, component by component.
 ///
 /// `TooMany` where it has more than 2000 indices of degree at most `d`.
 #[cycle(columns_of)]
-pub fn columns_of(alloc: Global, types: &[Ty], d: u8) -> Result<Columns, IndexFault>
-    ensures columns { IfOk result (λ made. made.columns.items ≡ columns d (sizes (context_of types.now) d)) }
-    ensures counts { IfOk result (λ made. made.counts.items ≡ listed (count (sizes (context_of types.now) d)) 0 (1 + d)) }
-    ensures many { IsErrOf result IndexFault.TooMany → IsLarge (context_of types.now) d }
+pub fn columns_of<'s>(alloc: Global, sizes: &[&'s [u8]], d: u8) -> Result<Columns<'s>, IndexFault>
+    ensures columns { IfOk result (λ made. made.columns.items ≡ columns d (lists_of sizes.now)) }
+    ensures counts { IfOk result (λ made. made.counts.items ≡ listed (count (lists_of sizes.now)) 0 (1 + d)) }
+    ensures many { IsErrOf result IndexFault.TooMany → AreLarge (lists_of sizes.now) d }
 {
-    match types {
+    match sizes {
         [] => Ok(none(alloc, d)?),
-        [first, rest @ ..] => with_first(alloc, first, rest, d),
+        [first, rest @ ..] => with_first(alloc, *first, rest, d),
     }
 }
 
 // Those of a variable and of those behind it.
 #[cycle(columns_of)]
-fn with_first(alloc: Global, first: &Ty, rest: &[Ty], d: u8) -> Result<Columns, IndexFault>
-    ensures columns { IfOk result (λ made. made.columns.items ≡ columns d (sizes (ty_of first.now ∷ context_of rest.now) d)) }
-    ensures counts { IfOk result (λ made. made.counts.items ≡ listed (count (sizes (ty_of first.now ∷ context_of rest.now) d)) 0 (1 + d)) }
-    ensures many { IsErrOf result IndexFault.TooMany → IsLarge (ty_of first.now ∷ context_of rest.now) d }
+fn with_first<'s>(
+    alloc: Global,
+    first: &'s [u8],
+    rest: &[&'s [u8]],
+    d: u8,
+) -> Result<Columns<'s>, IndexFault>
+    ensures columns { IfOk result (λ made. made.columns.items ≡ columns d (first.now ∷ lists_of rest.now)) }
+    ensures counts { IfOk result (λ made. made.counts.items ≡ listed (count (first.now ∷ lists_of rest.now)) 0 (1 + d)) }
+    ensures many { IsErrOf result IndexFault.TooMany → AreLarge (first.now ∷ lists_of rest.now) d }
 {
     let behind = columns_of(alloc, rest, d)?;
-    let sizes = sizes_of(alloc, first, d)?;
-    let rows = running(alloc, &behind.counts, &sizes, d)?;
+    let rows = running(alloc, &behind.counts, first, d)?;
     let before = rows.table;
     Ok(Columns {
-        columns: led(Column { sizes, before }, behind.columns)?,
+        columns: led(
+            Column {
+                sizes: first,
+                before,
+            },
+            behind.columns,
+        )?,
         counts: rows.totals,
     })
 }
 
 // The column before the others.
-fn led(column: Column, others: Vec<Column>) -> Result<Vec<Column>, AllocError>
-    ensures { IfOk result (λ columns. columns.items ≡ column ∷ others.items) }
+fn led<'s>(column: Column<'s>, others: Vec<Column<'s>>) -> Result<Vec<Column<'s>>, AllocError>
+    ensures { IfOk result (λ columns. columns.items ≡ column.entry ∷ others.entry.items) }
 {
     let mut columns = others;
     columns.insert(0, column)?;
@@ -88,7 +99,7 @@ fn led(column: Column, others: Vec<Column>) -> Result<Vec<Column>, AllocError>
 }
 
 // No variable: the one tuple has degree 0.
-fn none(alloc: Global, d: u8) -> Result<Columns, AllocError>
+fn none<'s>(alloc: Global, d: u8) -> Result<Columns<'s>, AllocError>
     ensures columns { IfOk result (λ made. made.columns.items ≡ columns d []) }
     ensures counts { IfOk result (λ made. made.counts.items ≡ listed (count []) 0 (1 + d)) }
 {
@@ -112,7 +123,7 @@ fn alone(g: u16) -> u16
 
 /// The degrees of the indices of the type, component by component.
 pub fn sizes_of(alloc: Global, ty: &Ty, d: u8) -> Result<Vec<u8>, IndexFault>
-    ensures all { IfOk result (λ found. found.items ∷ [] ≡ sizes (ty_of ty.now ∷ []) d) }
+    ensures all { IfOk result (λ found. found.items ≡ map degrees (tuples_up_to (ty_of ty.now ∷ []) d)) }
     ensures many { IsErrOf result IndexFault.TooMany → IsLarge (ty_of ty.now ∷ []) d }
 {
     degrees(alloc, slice::from_ref(ty), d, usize::from(MOST))

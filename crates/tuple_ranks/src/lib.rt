@@ -8,4 +8,4 @@ mod ranks;
 mod slots;
 mod spots;
 
-pub use spots::{Joined, half_spots, joined_spots, permuted_spots};
+pub use spots::{Cut, Joined, cut_spots, half_spots, joined_spots, permuted_spots};

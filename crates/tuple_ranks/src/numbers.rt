@@ -1,7 +1,7 @@
 // The numbers of all tuples of a context.
 ghost use Rattle.std.specs.Prelude.{◌≡◌, ◌≤◌, ◌∷◌, ◌++◌, ℕ, List, map, length, IfOk, OnOk, nat_lt, cond, ◌-◌, ◌+◌, [], take, drop};
-ghost use Rattle.tuple_ranks.specs.Columns.{up_to, sizes_in};
-ghost use Rattle.tuple_ranks.specs.Numbers.{led, numbered, all_numbered, flat, flat_behind, cut};
+ghost use Rattle.tuple_ranks.specs.Columns.{sizes_in};
+ghost use Rattle.tuple_ranks.specs.Numbers.{led, numbered, all_numbered, flat, flat_behind, table_rows};
 
 use crate::columns::Column;
 use crate::ranks::Ranks;
@@ -27,9 +27,8 @@ impl Model for Numbers {
 
 impl Numbers {
     /// Those of all tuples of a context.
-    pub fn new(alloc: Global, ranks: &Ranks) -> Result<Numbers, AllocError>
-        ensures { IfOk result (λ made. made ≡ cut (up_to ranks.now ranks.now.degree) (length ranks.now.columns)
-            (flat (all_numbered (sizes_in ranks.now.columns) (1 + ranks.now.degree) 0))) }
+    pub fn new(alloc: Global, ranks: &Ranks<'_>) -> Result<Numbers, AllocError>
+        ensures { IfOk result (λ made. made ≡ table_rows ranks.now) }
     {
         Ok(Numbers {
             count: ranks.up_to(ranks.degree),
@@ -40,7 +39,7 @@ impl Numbers {
 }
 
 // By degree, and then component by component.
-fn listed(alloc: Global, columns: &[Column], d: u8) -> Result<Vec<usize>, AllocError>
+fn listed(alloc: Global, columns: &[Column<'_>], d: u8) -> Result<Vec<usize>, AllocError>
     ensures { IfOk result (λ found. found.items ≡ flat (all_numbered (sizes_in columns.now) (1 + d) 0)) }
 {
     let mut found = Vec::new(alloc);
@@ -56,7 +55,7 @@ fn listed(alloc: Global, columns: &[Column], d: u8) -> Result<Vec<usize>, AllocE
 fn append(
     found: &mut Vec<usize>,
     before: &mut Vec<usize>,
-    columns: &[Column],
+    columns: &[Column<'_>],
     g: u16,
 ) -> Result<(), AllocError>
     ensures all { OnOk result (found.new.items ≡ found.old.items ++ flat_behind before.old.items (numbered (sizes_in columns.now) g)) }
@@ -64,7 +63,7 @@ fn append(
 {
     match columns {
         [] => append_row(found, before, g),
-        [column, columns @ ..] => append_led(found, before, &column.sizes, columns, g),
+        [column, columns @ ..] => append_led(found, before, column.sizes, columns, g),
     }
 }
 
@@ -85,7 +84,7 @@ fn append_led(
     found: &mut Vec<usize>,
     before: &mut Vec<usize>,
     sizes: &[u8],
-    columns: &[Column],
+    columns: &[Column<'_>],
     g: u16,
 ) -> Result<(), AllocError>
     ensures all { OnOk result (found.new.items ≡ found.old.items ++ flat_behind before.old.items (led (numbered (sizes_in columns.now)) g 0 sizes.now)) }
@@ -104,7 +103,7 @@ fn append_behind(
     before: &mut Vec<usize>,
     number: usize,
     size: u16,
-    columns: &[Column],
+    columns: &[Column<'_>],
     g: u16,
 ) -> Result<(), AllocError>
     ensures all { OnOk result (found.new.items ≡ found.old.items

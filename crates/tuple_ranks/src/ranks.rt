@@ -1,29 +1,27 @@
 // Positions of tuples from their numbers.
 ghost use Rattle.std.specs.Prelude.{◌≡◌, ◌<◌, ◌≤◌, ◌+◌, ℕ, [], map, Some, slice_get, slice_index_or, IfOk, OnOk, IsErrOf};
-ghost use Rattle.base_poly.specs.Read.{context_of};
 ghost use Rattle.index_shift.specs.Tables.{listed};
-ghost use Rattle.tuple_ranks.specs.Columns.{below, table, up_to, standing, led_by, stands, place, degree_at};
-ghost use Rattle.tuple_ranks.specs.Read.{items_of};
+ghost use Rattle.tuple_ranks.specs.Columns.{below, table_by, up_to, standing, led_by, stands, place, degree_at};
+ghost use Rattle.tuple_ranks.specs.Read.{items_of, lists_of};
 ghost use Rattle.tuple_ranks.specs.Slots.{picked};
-ghost use Rattle.tuple_ranks.specs.Spots.{IsSmall, IsLarge};
+ghost use Rattle.tuple_ranks.specs.Spots.{AreSmall, AreLarge};
 
 use crate::columns::{Column, columns_of, more, number_at};
 use crate::slots::Slot;
 use base_poly::IndexFault;
-use raml_syntax::Ty;
-use std::alloc::Global;
+use std::alloc::{AllocError, Global};
 use std::marker::Model;
 
 /// What is known of a context, to find the positions of its tuples.
 #[derive(Drop)]
-pub struct Ranks {
+pub struct Ranks<'s> {
     pub degree: u8,
-    pub columns: Vec<Column>,
+    pub columns: Vec<Column<'s>>,
     /// For each degree, and one more, how many tuples have a lower one.
     pub starts: Vec<u16>,
 }
 
-impl Model for Ranks {
+impl<'s> Model for Ranks<'s> {
     ghost use Rattle.tuple_ranks.specs.Columns.{Table};
 
     ghost Value = { Table };
@@ -35,16 +33,16 @@ impl Model for Ranks {
     } };
 }
 
-impl Ranks {
-    /// Those of these types, up to a degree.
+impl<'s> Ranks<'s> {
+    /// Those of types whose indices have these degrees, component by component.
     ///
     /// `TooMany` where the context has more than 2000 indices of degree at most `d`.
-    pub fn new(alloc: Global, types: &[Ty], d: u8) -> Result<Ranks, IndexFault>
-        ensures is { IfOk result (λ ranks. ranks ≡ table (context_of types.now) d) }
-        ensures few { OnOk result (IsSmall (context_of types.now) d) }
-        ensures many { IsErrOf result IndexFault.TooMany → IsLarge (context_of types.now) d }
+    pub fn new(alloc: Global, sizes: &[&'s [u8]], d: u8) -> Result<Ranks<'s>, IndexFault>
+        ensures is { IfOk result (λ ranks. ranks ≡ table_by (lists_of sizes.now) d) }
+        ensures few { OnOk result (AreSmall (lists_of sizes.now) d) }
+        ensures many { IsErrOf result IndexFault.TooMany → AreLarge (lists_of sizes.now) d }
     {
-        let made = columns_of(alloc, types, d)?;
+        let made = columns_of(alloc, sizes, d)?;
         let starts = starts(alloc, &made.counts, d)?;
         Ok(Ranks {
             degree: d,
@@ -58,6 +56,17 @@ impl Ranks {
         ensures { result ≡ up_to self.now degree }
     {
         usize::from(number_at(&self.starts, 1 + usize::from(degree)))
+    }
+
+    /// The same for each degree from 0 on.
+    pub fn counts(&self, alloc: Global) -> Result<Vec<usize>, AllocError>
+        ensures { IfOk result (λ found. found.items ≡ listed (up_to self.now) 0 (1 + self.now.degree)) }
+    {
+        let mut found = Vec::with_capacity(alloc, usize::from(self.degree) + 1)?;
+        for g in 0..u16::from(self.degree) + 1 {
+            found.push(self.up_to(g as u8))?;
+        }
+        Ok(found)
     }
 
     /// The position of the tuple that the slots pick of these numbers; the number of all tuples where
@@ -101,7 +110,7 @@ fn starts(alloc: Global, counts: &[u16], d: u8) -> Result<Vec<u16>, IndexFault>
 }
 
 // The degree of the tuple, and how many of this degree are before it, from its last index on.
-fn stands(d: u8, columns: &[Column], slots: &[Slot], numbers: &[usize]) -> Option<(u8, u16)>
+fn stands(d: u8, columns: &[Column<'_>], slots: &[Slot], numbers: &[usize]) -> Option<(u8, u16)>
     ensures { result ≡ stands d columns.now (picked slots.now numbers.now) }
 {
     if columns.len() != slots.len() {
@@ -120,7 +129,7 @@ fn stands(d: u8, columns: &[Column], slots: &[Slot], numbers: &[usize]) -> Optio
 }
 
 // The same with an index of the variable before the others.
-fn led_by(d: u8, column: &Column, number: usize, behind: (u8, u16)) -> Option<(u8, u16)>
+fn led_by(d: u8, column: &Column<'_>, number: usize, behind: (u8, u16)) -> Option<(u8, u16)>
     ensures { result ≡ led_by d column.now number (slice_get column.now.sizes number) (Some behind) }
 {
     match column.sizes.get(number) {

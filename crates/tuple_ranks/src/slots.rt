@@ -7,7 +7,7 @@ ghost use Rattle.base_poly.specs.Indices.{Ascends, each_in_turn, tuples_up_to};
 ghost use Rattle.base_poly.specs.Read.{context_of};
 ghost use Rattle.index_shift.specs.Contexts.{insertion, permutation};
 ghost use Rattle.tuple_ranks.specs.Slots.{seen_by, chosen, half_items, half_slots, renumbering, table_between, slots_between, plain_slots};
-ghost use Rattle.tuple_ranks.specs.Read.{items_of};
+ghost use Rattle.tuple_ranks.specs.Read.{items_of, lists_of};
 ghost use Rattle.tuple_ranks.specs.Spots.{IsLarge};
 
 use crate::columns::{MOST, sizes_of};
@@ -106,19 +106,19 @@ pub fn half_slots(
     Ok(slots)
 }
 
-/// The types whose variables have it.
-pub fn half_types(
+/// The degrees of the indices of the types whose variables have it.
+pub fn half_sizes<'s>(
     alloc: Global,
     marks: &[bool],
-    types: &[Ty],
+    sizes: &'s [Vec<u8>],
     wanted: bool,
-) -> Result<Vec<Ty>, AllocError>
-    ensures { IfOk result (λ found. context_of found.items ≡ half_items wanted marks.now 0 (context_of types.now)) }
+) -> Result<Vec<&'s [u8]>, AllocError>
+    ensures { IfOk result (λ found. lists_of found.items ≡ half_items wanted marks.now 0 (map items_of sizes.now)) }
 {
-    let mut found = Vec::new(alloc);
-    for (at, ty) in types.iter().enumerate() {
+    let mut found = Vec::with_capacity(alloc, sizes.len())?;
+    for (at, row) in sizes.iter().enumerate() {
         if chosen(wanted, marks, at) {
-            found.push(ty.copy(alloc)?)?;
+            found.push(&row[..])?;
         }
     }
     Ok(found)
