@@ -22,6 +22,7 @@ use crate::env::{Env, Reach};
 use crate::fault::PlanFault;
 use crate::plan::plans;
 use crate::tuples::size;
+use crate::weight::weight;
 use crate::within::check;
 use call_groups::Groups;
 use earlier_blocks::Earlier;
@@ -47,6 +48,7 @@ pub struct GroupPlans {
     pub group: u32,
     pub budget: u8,
     pub functions: Vec<FunctionPlan>,
+    weight: usize,
 }
 
 /// A function of a group over earlier blocks: the plan of its body at a budget, for each function of the
@@ -90,6 +92,11 @@ impl Body<'_> {
 }
 
 impl GroupPlans {
+    /// About how many entries their maps have.
+    pub(crate) fn weight(&self) -> usize {
+        self.weight
+    }
+
     /// The same over these blocks.
     pub fn over<'k>(
         &'k self,
@@ -265,6 +272,15 @@ fn planned(
     bodies_of(&env)
 }
 
+// About how many entries the maps of these plans have.
+fn plans_weight(functions: &[FunctionPlan]) -> usize {
+    let mut count: usize = 0;
+    for function in functions {
+        count = count.saturating_add(weight(&function.plan));
+    }
+    count
+}
+
 /// The plans of the functions of a group at a budget.
 ///
 /// `TooMany` where a context or a type that a walk comes to has more than 2000 indices at its budget.
@@ -285,6 +301,7 @@ pub fn group_plans(
         Ok(functions) => Ok(GroupPlans {
             group,
             budget,
+            weight: plans_weight(&functions),
             functions,
         }),
         Err(_) => Err(PlanFault::NoMemory),

@@ -4,7 +4,6 @@ ghost use Rattle.annot_types.specs.Program.{Program};
 ghost use Rattle.rule_plan.specs.Read.{ArePlansIn, AreKept};
 
 use crate::body::GroupPlans;
-use crate::weight::weight;
 use std::alloc::{AllocError, Global};
 
 // About how many entries of maps are kept: 16 MiB.
@@ -39,7 +38,7 @@ impl KeptPlans {
             .iter()
             .rposition(|made| made.group == group && made.budget == budget)?;
         let made = self.made.remove(place);
-        self.room = self.room.saturating_add(plans_weight(&made));
+        self.room = self.room.saturating_add(made.weight());
         Some(made)
     }
 
@@ -47,7 +46,7 @@ impl KeptPlans {
     pub fn keep(&mut self, plans: GroupPlans) -> Result<(), AllocError>
         ensures { OnOk result ((P : Program) → AreKept P self.old → ArePlansIn P plans → AreKept P self.new) }
     {
-        let weight = plans_weight(&plans);
+        let weight = plans.weight();
         if weight > self.room {
             self.made.clear();
             self.room = MOST;
@@ -56,13 +55,4 @@ impl KeptPlans {
         self.made.push(plans)?;
         Ok(())
     }
-}
-
-// About how many entries the maps of a group's plans have.
-fn plans_weight(plans: &GroupPlans) -> usize {
-    let mut count: usize = 0;
-    for function in &plans.functions {
-        count = count.saturating_add(weight(&function.plan));
-    }
-    count
 }
