@@ -1,17 +1,12 @@
 // The tuples of a `let`.
-ghost use Rattle.std.specs.Prelude.{◌≡◌, ◌≤◌, ◌-◌, ◌∷◌, ◌++◌, [], map, take, drop, IfOk};
+ghost use Rattle.std.specs.Prelude.{◌≡◌, ◌≤◌, ◌-◌, map, take, drop, IfOk};
 ghost use Rattle.std.specs.Rc.{rc_value};
 ghost use Rattle.raml_syntax.specs.Read.{ty_of};
-ghost use Rattle.base_poly.specs.Read.{context_of};
-ghost use Rattle.normal_form.specs.Context.{types, inners, others};
 ghost use Rattle.normal_form.specs.Read.{norm_of, parameters_of};
-ghost use Rattle.annot_types.specs.Carried.{marks};
-ghost use Rattle.annot_types.specs.Rows.{size as size_of};
 ghost use Rattle.walk_rules.specs.Plan as p;
 ghost use Rattle.rule_walk.specs.Read.{plan_of, plans};
 ghost use Rattle.rule_walk.specs.Steps.{part_of};
-ghost use Rattle.tuple_ranks.specs.Spots.{half_spots, joined_spots};
-ghost use Rattle.rule_plan.specs.Down.{each_down, up};
+ghost use Rattle.rule_plan.specs.Down.{each_down};
 ghost use Rattle.rule_plan.specs.Given.{made_of};
 ghost use Rattle.rule_plan.specs.Wide.{at_budget, seam_of, seam_at, seams_from, part_at, parts_at, IsCut};
 
@@ -20,14 +15,13 @@ use crate::called::at_budget;
 use crate::context;
 use crate::entries::{picked, placed, restricted};
 use crate::free::marks;
-use crate::tuples::{half_spots, joined_spots, sizes};
+use crate::tuples::cut_spots;
 use index_shift::Entry;
 use normal_form::NormExpr;
 use raml_syntax::Ty;
 use rule_walk::{Part, Parts, Plan, Step};
 use std::alloc::{AllocError, Global};
 use std::rc::Rc;
-use std::slice;
 use tuple_ranks::Joined;
 
 /// A tuple of the variables that the bound form does not use, at the greatest budget: its degree, the
@@ -153,20 +147,6 @@ pub fn lets(
     Ok(made)
 }
 
-// Of each tuple of the context, where its two halves stand.
-fn halves_of(
-    alloc: Global,
-    a: &NormExpr,
-    context: &[(u32, Ty)],
-    top: u8,
-) -> Result<Vec<(usize, usize)>, AllocError>
-    ensures { IfOk result (λ found. found.items ≡ half_spots (marks (norm_of a.now) (parameters_of context.now)) (types (parameters_of context.now)) top) }
-{
-    let marks = marks(alloc, a, context)?;
-    let types = context::types(alloc, context)?;
-    half_spots(alloc, &marks, &types, top)
-}
-
 // The tuple at this place.
 fn seam_for(
     alloc: Global,
@@ -202,76 +182,28 @@ fn seams(
     Ok(found)
 }
 
-// The same from the types alone, where what the bound form uses and the rest have so many positions.
-fn seams_of(
-    alloc: Global,
-    a: &NormExpr,
-    context: &[(u32, Ty)],
-    inner: usize,
-    rest: usize,
-    outer: &[Ty],
-    bound: &[Ty],
-    top: u8,
-) -> Result<Vec<Seam>, AllocError>
-    ensures { IfOk result (λ found. map seam_of found.items ≡ seams_from (seam_at
-        (half_spots (marks (norm_of a.now) (parameters_of context.now)) (types (parameters_of context.now)) top)
-        inner rest) 0 (joined_spots (context_of outer.now) (context_of bound.now) top)) }
-{
-    let halves = halves_of(alloc, a, context, top)?;
-    let joined = joined_spots(alloc, outer, bound, top)?;
-    seams(alloc, &halves, inner, rest, &joined)
-}
-
-// How many positions these contexts have.
-fn sizes_of(
-    alloc: Global,
-    whole: &[Ty],
-    inner: &[Ty],
-    outer: &[Ty],
-    bound: &[Ty],
-    rest: &[Ty],
-    top: u8,
-) -> Result<Sizes, AllocError>
-    ensures whole { IfOk result (λ s. s.context.items ≡ up (size_of (context_of whole.now)) top) }
-    ensures inner { IfOk result (λ s. s.inner.items ≡ up (size_of (context_of inner.now)) top) }
-    ensures others { IfOk result (λ s. s.others.items ≡ up (size_of (context_of outer.now)) top) }
-    ensures bound { IfOk result (λ s. s.bound.items ≡ up (size_of (context_of bound.now)) top) }
-    ensures rest { IfOk result (λ s. s.rest.items ≡ up (size_of (context_of rest.now)) top) }
-{
-    Ok(Sizes {
-        context: sizes(alloc, whole, top)?,
-        inner: sizes(alloc, inner, top)?,
-        others: sizes(alloc, outer, top)?,
-        bound: sizes(alloc, bound, top)?,
-        rest: sizes(alloc, rest, top)?,
-    })
-}
-
-/// Of a `let` with this bound form of this type, from the variables that it uses, those that it does
-/// not, and the context of the rest.
+/// Of a `let` with this bound form of this type.
 pub fn cut_let(
     alloc: Global,
     a: &NormExpr,
     context: &[(u32, Ty)],
-    inner: &[(u32, Ty)],
-    outer: &[(u32, Ty)],
     bound: &Ty,
-    rest: &[(u32, Ty)],
     top: u8,
 ) -> Result<Cut, AllocError>
-    requires inner { parameters_of inner.now ≡ inners (norm_of a.now) (parameters_of context.now) }
-    requires outer { parameters_of outer.now ≡ others (norm_of a.now) (parameters_of context.now) }
-    requires rest { types (parameters_of rest.now) ≡ types (parameters_of outer.now) ++ ty_of bound.now ∷ [] }
     ensures { IfOk result (λ made. IsCut (norm_of a.now) (parameters_of context.now) (ty_of bound.now) top made) }
 {
-    let whole = context::types(alloc, context)?;
-    let inner = context::types(alloc, inner)?;
-    let outer = context::types(alloc, outer)?;
-    let bound = slice::from_ref(bound);
-    let rest = context::types(alloc, rest)?;
-    let sizes = sizes_of(alloc, &whole, &inner, &outer, bound, &rest, top)?;
-    let used = at_budget(&sizes.inner, top as usize);
-    let left = at_budget(&sizes.rest, top as usize);
-    let seams = seams_of(alloc, a, context, used, left, &outer, bound, top)?;
+    let marks = marks(alloc, a, context)?;
+    let types = context::types(alloc, context)?;
+    let spots = cut_spots(alloc, &marks, &types, bound, top)?;
+    let inner = at_budget(&spots.marked, top as usize);
+    let rest = at_budget(&spots.rest, top as usize);
+    let seams = seams(alloc, &spots.halves, inner, rest, &spots.joined)?;
+    let sizes = Sizes {
+        context: spots.whole,
+        inner: spots.marked,
+        others: spots.others,
+        bound: spots.bound,
+        rest: spots.rest,
+    };
     Ok(Cut { sizes, seams })
 }

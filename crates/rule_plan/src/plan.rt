@@ -339,7 +339,7 @@ fn plan_let(
     let inner = context::inners(env.alloc, a, context)?;
     let outer = context::others(env.alloc, a, context)?;
     let next = context::with_bound(env.alloc, &outer, x, bound)?;
-    let cut = cut_let(env.alloc, a, context, &inner, &outer, bound, &next, env.top)?;
+    let cut = cut_let(env.alloc, a, context, bound, env.top)?;
     let firsts = bound_plans(env, a, &inner, bound)?;
     let rests = plans(env, b, &next, ty)?;
     lets(env.alloc, nodes, &cut, &firsts, env.top, rests)

@@ -1,6 +1,8 @@
 // Tuples of contexts, and their places.
-ghost use Rattle.std.specs.Prelude.{◌≡◌, IfOk};
+ghost use Rattle.std.specs.Prelude.{◌≡◌, ◌∷◌, [], ◌++◌, IfOk};
+ghost use Rattle.raml_syntax.specs.Read.{ty_of};
 ghost use Rattle.base_poly.specs.Read.{context_of};
+ghost use Rattle.index_shift.specs.Contexts.{marked_items, other_items};
 ghost use Rattle.annot_types.specs.Rows.{size as size_of};
 ghost use Rattle.rule_plan.specs.Down.{up, many_low};
 ghost use Rattle.tuple_ranks.specs.Spots.{permuted_spots, half_spots, joined_spots};
@@ -9,7 +11,7 @@ use crate::within::MOST;
 use base_poly::degrees;
 use raml_syntax::Ty;
 use std::alloc::{AllocError, Global};
-use tuple_ranks::Joined;
+use tuple_ranks::Cut;
 
 /// How many tuples of degree at most `d` the context has. They are few where a walk was found to be
 /// within its limits; else memory is wanting.
@@ -75,33 +77,24 @@ pub fn permuted_spots(
     }
 }
 
-/// Of each tuple where its indices without a mark stand, and where the marked ones, under the same
-/// condition.
-pub fn half_spots(
+/// What is made of a context that is cut in two for a bound form of a type, under the same condition.
+pub fn cut_spots(
     alloc: Global,
     marks: &[bool],
     types: &[Ty],
+    bound: &Ty,
     d: u8,
-) -> Result<Vec<(usize, usize)>, AllocError>
-    ensures { IfOk result (λ found. found.items ≡ half_spots marks.now (context_of types.now) d) }
+) -> Result<Cut, AllocError>
+    ensures halves { IfOk result (λ cut. cut.halves.items ≡ half_spots marks.now (context_of types.now) d) }
+    ensures joined { IfOk result (λ cut. cut.joined.items ≡ joined_spots (other_items marks.now (context_of types.now)) (ty_of bound.now ∷ []) d) }
+    ensures whole { IfOk result (λ cut. cut.whole.items ≡ up (size_of (context_of types.now)) d) }
+    ensures marked { IfOk result (λ cut. cut.marked.items ≡ up (size_of (marked_items marks.now (context_of types.now))) d) }
+    ensures others { IfOk result (λ cut. cut.others.items ≡ up (size_of (other_items marks.now (context_of types.now))) d) }
+    ensures bound { IfOk result (λ cut. cut.bound.items ≡ up (size_of (ty_of bound.now ∷ [])) d) }
+    ensures rest { IfOk result (λ cut. cut.rest.items ≡ up (size_of (other_items marks.now (context_of types.now) ++ ty_of bound.now ∷ [])) d) }
 {
-    match tuple_ranks::half_spots(alloc, marks, types, d) {
-        Ok(found) => Ok(found),
-        Err(_) => Err(AllocError),
-    }
-}
-
-/// Of each tuple where those of another context stand behind it, under the same condition.
-pub fn joined_spots(
-    alloc: Global,
-    first: &[Ty],
-    second: &[Ty],
-    d: u8,
-) -> Result<Vec<Joined>, AllocError>
-    ensures { IfOk result (λ found. found.items ≡ joined_spots (context_of first.now) (context_of second.now) d) }
-{
-    match tuple_ranks::joined_spots(alloc, first, second, d) {
-        Ok(found) => Ok(found),
+    match tuple_ranks::cut_spots(alloc, marks, types, bound, d) {
+        Ok(cut) => Ok(cut),
         Err(_) => Err(AllocError),
     }
 }

@@ -84,12 +84,12 @@ bound_plans-returns t c =
 pub plan_let-returns : goal.plan_let-returns
 plan_let-returns t c =
     let a = c.args in let C = parameters_of a.context.now in let G = given_of a.env.now in let A = ty_of a.bound.now in let T = ty_of a.ty.now in let e = norm_of a.a.now in
-    let firsts = subst (λ l. ArePlans (all_down G) e (inners e C) A (map (λ r. plan_of (rc_value r)) l)) (sym c.deref-7.ensures.value)
-    (subst (λ N. ArePlans (all_down G) e N A (map (λ r. plan_of (rc_value r)) c.in_ok-firsts.firsts.items)) (ap parameters_of c.deref-5.ensures.value ∙ c.in_ok-inner.ensures) c.in_ok-firsts.ensures) in
-    let next = ap parameters_of c.deref-6.ensures.value ∙ c.in_ok-next.ensures ∙ ap (λ O. O ++ (a.x, A) ∷ []) (ap parameters_of c.deref.ensures.value ∙ c.in_ok-outer.ensures) in
+    let firsts = subst (λ l. ArePlans (all_down G) e (inners e C) A (map (λ r. plan_of (rc_value r)) l)) (sym c.deref-4.ensures.value)
+    (subst (λ N. ArePlans (all_down G) e N A (map (λ r. plan_of (rc_value r)) c.in_ok-firsts.firsts.items)) (ap parameters_of c.deref-2.ensures.value ∙ c.in_ok-inner.ensures) c.in_ok-firsts.ensures) in
+    let next = ap parameters_of c.deref-3.ensures.value ∙ c.in_ok-next.ensures ∙ ap (λ O. O ++ (a.x, A) ∷ []) (ap parameters_of c.deref.ensures.value ∙ c.in_ok-outer.ensures) in
     let rests = subst (λ N. ArePlans G (norm_of a.b.now) N T (made_of c.in_ok-rests.rests.items)) next c.in_ok-rests.ensures in
     IfOk-weaker c.lets.result _ (λ made. ArePlans G (n.Let a.nodes a.x A e (norm_of a.b.now)) C T (made_of made.items))
-    (λ made is. lets_are G a.nodes a.x A e (norm_of a.b.now) C T c.in_ok-cut.cut (map (λ r. plan_of (rc_value r)) c.deref-7.result.now) (made_of c.in_ok-rests.rests.items) (made_of made.items) is c.in_ok-cut.ensures firsts rests)
+    (λ made is. lets_are G a.nodes a.x A e (norm_of a.b.now) C T c.in_ok-cut.cut (map (λ r. plan_of (rc_value r)) c.deref-4.result.now) (made_of c.in_ok-rests.rests.items) (made_of made.items) is c.in_ok-cut.ensures firsts rests)
     c.lets.ensures
 
 pub plans-returns-in-Node : goal.plans-returns-in-Node
