@@ -10,3 +10,4 @@ pub mod Rcs
 pub mod Shapes
 pub mod Grouped
 pub mod Over
+pub mod Ordered

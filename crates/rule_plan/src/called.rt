@@ -6,10 +6,9 @@ ghost use Rattle.call_groups.specs.Read.{ids_of};
 ghost use Rattle.normal_form.specs.Norm as n;
 ghost use Rattle.normal_form.specs.Context.{types};
 ghost use Rattle.normal_form.specs.Read.{parameters_of};
-ghost use Rattle.annot_types.specs.Carried.{to};
 ghost use Rattle.annot_types.specs.System.{args_of};
 ghost use Rattle.walk_rules.specs.Plan as p;
-ghost use Rattle.walk_rules.specs.Planned.{place_in, entries_of, operand_entries};
+ghost use Rattle.walk_rules.specs.Planned.{place_in, operand_entries};
 ghost use Rattle.rule_walk.specs.Read.{plan_of, called_of};
 ghost use Rattle.rule_plan.specs.Down.{reached};
 ghost use Rattle.rule_plan.specs.Entries.{restricted};
@@ -18,9 +17,9 @@ ghost use Rattle.rule_plan.specs.Wide.{at_budget, called_at, IsCallee};
 
 use crate::budgets::{boxed, budgets};
 use crate::context;
-use crate::entries::{identity, restricted};
+use crate::entries::restricted;
 use crate::env::Env;
-use crate::operands::operand_entries;
+use crate::operands::{operand_entries, same_entries};
 use crate::tuples::{size, sizes};
 use index_shift::Entry;
 use raml_syntax::{FunId, Ty};
@@ -130,14 +129,6 @@ fn at_budgets(env: &Env<'_>, nodes: u32, callee: &Callee) -> Result<Vec<Box<Plan
         made.push(called_at(env.alloc, nodes, callee, *d)?)?;
     }
     Ok(made)
-}
-
-// From the result to itself.
-fn same_entries(alloc: Global, types: &[Ty], d: u8) -> Result<Vec<Entry>, AllocError>
-    ensures { IfOk result (λ found. found.items ≡ entries_of (to (λ t. t)) (context_of types.now) d (context_of types.now) d) }
-{
-    let size = size(alloc, types, d)?;
-    identity(alloc, size)
 }
 
 // How many positions there are, and the entries.

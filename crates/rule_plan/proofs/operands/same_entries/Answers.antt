@@ -4,7 +4,7 @@ use Rattle.base_poly.specs.Read.{context_of}
 use Rattle.annot_types.specs.Carried.{to}
 use Rattle.walk_rules.specs.Planned.{entries_of}
 use Rattle.rule_plan.proofs.Widened.{same_entered}
-use Rattle.rule_plan.proofs.called.same_entries.Goals as goal
+use Rattle.rule_plan.proofs.operands.same_entries.Goals as goal
 
 pub returns : goal.returns
 returns c =
