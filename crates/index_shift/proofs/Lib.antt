@@ -17,3 +17,4 @@ pub mod Alone
 pub mod Listed
 pub mod Between
 pub mod Faults
+pub mod Measured

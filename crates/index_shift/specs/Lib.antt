@@ -8,3 +8,4 @@ pub mod Laws
 pub mod Contexts
 pub mod Example
 pub mod Read
+pub mod Lengths

@@ -7,6 +7,7 @@ mod context;
 mod entry;
 mod fault;
 pub mod laws;
+mod lengths;
 mod lift;
 mod local;
 mod maps;

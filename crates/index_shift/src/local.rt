@@ -8,12 +8,14 @@ ghost use Rattle.base_poly.specs.Read.{context_of};
 ghost use Rattle.index_shift.specs.Parts.{type_parts};
 ghost use Rattle.index_shift.specs.Maps.{opens, leaves, joins, IsTooLarge};
 ghost use Rattle.index_shift.specs.Local.{IsLocal, IsMapBetween, AreSmall, AreLarge, target_at, middle_at, alone_of};
+ghost use Rattle.index_shift.specs.Lengths.{lists_opened, lists_left};
 ghost use Rattle.index_shift.specs.Read.{carry_of, middle_of, middles_of, CanCarry};
 
 use crate::carry::Carry;
 use crate::context::{two, type_parts};
 use crate::entry::Entry;
 use crate::fault::MapFault;
+use crate::lengths::{has_lengths, left, lengths, opened};
 use crate::lift::{Middle, Target, lift};
 use crate::tables::counts;
 use base_poly::{Tuple, degrees, tuples_up_to};
@@ -60,8 +62,11 @@ impl Local {
         ensures is { IfOk result (λ local. IsLocal (opens (ty_of ty.now)) (ty_of ty.now ∷ []) (type_parts (ty_of ty.now)) d local) }
         ensures many { IsErrOf result MapFault.TooMany → IsTooLarge (ty_of ty.now ∷ []) (type_parts (ty_of ty.now)) d }
     {
-        let to = type_parts(alloc, ty)?;
-        carried_alone(alloc, Carry::Open(ty), slice::from_ref(ty), &to, d)
+        if has_lengths(ty) {
+            Ok(lists_opened(alloc, d)?)
+        } else {
+            taken_apart(alloc, ty, d)
+        }
     }
 
     /// A variable of this type leaves.
@@ -72,7 +77,11 @@ impl Local {
         ensures is { IfOk result (λ local. IsLocal leaves (ty_of ty.now ∷ []) [] d local) }
         ensures many { IsErrOf result MapFault.TooMany → IsTooLarge (ty_of ty.now ∷ []) [] d }
     {
-        carried_alone(alloc, Carry::Leave, slice::from_ref(ty), &[], d)
+        if has_lengths(ty) {
+            Ok(lists_left(alloc, d)?)
+        } else {
+            left_out(alloc, ty, d)
+        }
     }
 
     /// A variable of this type is shared: two become one.
@@ -99,6 +108,51 @@ impl Local {
         let (old, new) = (&self.old, &self.new);
         between(alloc, before, old, new, &self.middles, after, self.degree)
     }
+}
+
+// Lists are taken apart whose elements have one index.
+fn lists_opened(alloc: Global, d: u8) -> Result<Local, AllocError>
+    requires low { d ≤ 4 }
+    ensures { IfOk result (λ local. local ≡ lists_opened d) }
+{
+    Ok(Local {
+        degree: d,
+        old: lengths(alloc, d + 1)?,
+        new: lengths(alloc, d + 1)?,
+        middles: opened(alloc, d + 1)?,
+    })
+}
+
+// Such lists leave.
+fn lists_left(alloc: Global, d: u8) -> Result<Local, AllocError>
+    requires low { d ≤ 4 }
+    ensures { IfOk result (λ local. local ≡ lists_left d) }
+{
+    Ok(Local {
+        degree: d,
+        old: lengths(alloc, d + 1)?,
+        new: lengths(alloc, 1)?,
+        middles: left(alloc, d + 1)?,
+    })
+}
+
+// A variable of any type is taken apart.
+fn taken_apart(alloc: Global, ty: &Ty, d: u8) -> Result<Local, MapFault>
+    requires low { d ≤ 4 }
+    ensures is { IfOk result (λ local. IsLocal (opens (ty_of ty.now)) (ty_of ty.now ∷ []) (type_parts (ty_of ty.now)) d local) }
+    ensures many { IsErrOf result MapFault.TooMany → IsTooLarge (ty_of ty.now ∷ []) (type_parts (ty_of ty.now)) d }
+{
+    let to = type_parts(alloc, ty)?;
+    carried_alone(alloc, Carry::Open(ty), slice::from_ref(ty), &to, d)
+}
+
+// A variable of any type leaves.
+fn left_out(alloc: Global, ty: &Ty, d: u8) -> Result<Local, MapFault>
+    requires low { d ≤ 4 }
+    ensures is { IfOk result (λ local. IsLocal leaves (ty_of ty.now ∷ []) [] d local) }
+    ensures many { IsErrOf result MapFault.TooMany → IsTooLarge (ty_of ty.now ∷ []) [] d }
+{
+    carried_alone(alloc, Carry::Leave, slice::from_ref(ty), &[], d)
 }
 
 // The map, where the two contexts are small enough.

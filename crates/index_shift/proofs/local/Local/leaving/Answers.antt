@@ -1,22 +1,14 @@
-use Rattle.std.proofs.Common.{[], ◌∷◌, All, sym, ap, ◌∙◌, subst}
-use Rattle.std.proofs.lemmas.Result.{IfOk-weaker}
+use Rattle.std.proofs.Common.{◌≡◌, true, [], ◌∷◌, sym, ◌∙◌, subst, rules}
 use Rattle.raml_syntax.specs.Read.{ty_of}
-use Rattle.base_poly.specs.Indices.{tuples_up_to}
-use Rattle.base_poly.specs.Read.{context_of}
 use Rattle.index_shift.specs.Maps.{leaves}
-use Rattle.index_shift.specs.Local.{IsLocal, alone_of}
-use Rattle.index_shift.specs.Read.{CanCarry}
-use Rattle.index_shift.specs.declared.carry.Carry.TheVariants.{Leave}
-use Rattle.index_shift.proofs.Alone.{can_leave, left_alone}
+use Rattle.index_shift.specs.Local.{IsLocal}
+use Rattle.index_shift.specs.Lengths.{has_lengths}
+use Rattle.index_shift.proofs.Alone.{left_alone}
+use Rattle.index_shift.proofs.Measured.{left_lists}
 use Rattle.index_shift.proofs.local.Local.leaving.Goals as goal
 
-pub carried_alone-requires : goal.carried_alone-requires
-carried_alone-requires c =
-    let from = ap context_of c.from_ref.ensures.value in
-    record { can = subst (λ As. All (CanCarry Leave) (tuples_up_to As c.args.d)) (sym from) (can_leave (ty_of c.args.ty.now) c.args.d c.requires.low) }
-
-pub returns-clause-is : goal.returns-clause-is
-returns-clause-is c =
-    let from = ap context_of c.from_ref.ensures.value in
-    IfOk-weaker c.carried_alone.result _ (λ local. IsLocal leaves (ty_of c.args.ty.now ∷ []) [] c.args.d local)
-    (λ local h. subst (IsLocal leaves (ty_of c.args.ty.now ∷ []) [] c.args.d) (sym (h ∙ (λ n. alone_of leaves (from n) [] c.args.d))) (left_alone (ty_of c.args.ty.now) c.args.d)) c.carried_alone.ensures.is
+pub returns-in_ok-lists_left-clause-is : goal.returns-in_ok-lists_left-clause-is
+returns-in_ok-lists_left-clause-is c =
+    let T = ty_of c.args.ty.now in
+    let is : has_lengths T ≡ true = search rules in
+    subst (IsLocal leaves (T ∷ []) [] c.args.d) (sym (c.in_ok-lists_left.ensures ∙ left_lists T c.args.d is c.requires.low)) (left_alone T c.args.d)
