@@ -1,6 +1,6 @@
 //! One inequality.
 
-ghost use Rattle.std.specs.Prelude.{◌≡◌, ◌+ℤ◌, [], ℕ, pos, IfOk, IfErr, OnOk, OnErr, FitsSigned, IsOk, ◌↔◌, ◌<◌, ◌≤◌, vec_len};
+ghost use Rattle.std.specs.Prelude.{◌≡◌, ◌+ℤ◌, [], ℕ, pos, IfOk, IfErr, OnOk, OnErr, FitsSigned, IsOk, IsTrue, ◌↔◌, ◌<◌, ◌≤◌, length, vec_len};
 ghost use Rattle.std.specs.Int.{w128};
 ghost use Rattle.linear_rows.specs.Terms.{SparseRow, Terms, coefficient, IsSparse, AddsAt, IsAt, IsGapFor, number_at, with_number, with_term};
 
@@ -102,7 +102,18 @@ impl Row {
         ensures found { IfOk result (IsAt self.now.terms unknown) }
         ensures absent { IfErr result (IsGapFor self.now.terms unknown) }
     {
+        if self.ends_before(unknown) {
+            return Err(self.terms.len());
+        }
         self.terms.binary_search_by_key(&unknown, |term| term.0)
+    }
+
+    /// Whether all terms are of lesser unknowns.
+    fn ends_before(&self, unknown: u32) -> bool
+        ensures { IsTrue result → IsGapFor self.now.terms unknown (length self.now.terms) }
+    {
+        let count = self.terms.len();
+        count == 0 || self.terms[count - 1].0 < unknown
     }
 }
 
@@ -142,7 +153,12 @@ fn insert_at(
     if times == 0 {
         return Ok(());
     }
-    match terms.insert(at, (unknown, times)) {
+    let placed = if at == terms.len() {
+        terms.push((unknown, times))
+    } else {
+        terms.insert(at, (unknown, times))
+    };
+    match placed {
         Ok(()) => Ok(()),
         Err(_) => Err(RowFault::NoMemory),
     }
