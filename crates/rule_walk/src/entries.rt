@@ -87,15 +87,25 @@ pub fn moved<T: Kind>(alloc: Global, step: &Step, from: &[T]) -> Result<Vec<T>, 
     Ok(out)
 }
 
-/// What one map after the other makes of them.
-pub fn all_moved<T: Kind>(alloc: Global, steps: &[Step], from: &[T]) -> Result<Vec<T>, AllocError>
-    ensures { IfOk result (λ out. out.items ≡ all_moved T.kind (map step_of steps.now) from.now) }
+// What one map after the other makes of them.
+fn moved_on<T: Kind>(alloc: Global, steps: &[Step], entries: Vec<T>) -> Result<Vec<T>, AllocError>
+    ensures { IfOk result (λ out. out.items ≡ all_moved T.kind (map step_of steps.now) entries.items) }
 {
-    let mut now = copies(alloc, from)?;
+    let mut now = entries;
     for step in steps {
         now = moved(alloc, step, &now)?;
     }
     Ok(now)
+}
+
+/// The same of entries that stay: they are copied only where there is no map.
+pub fn all_moved<T: Kind>(alloc: Global, steps: &[Step], from: &[T]) -> Result<Vec<T>, AllocError>
+    ensures { IfOk result (λ out. out.items ≡ all_moved T.kind (map step_of steps.now) from.now) }
+{
+    match steps {
+        [] => copies(alloc, from),
+        [first, rest @ ..] => moved_on(alloc, rest, moved(alloc, first, from)?),
+    }
 }
 
 /// The first entry alone, or nothing where there is none.
