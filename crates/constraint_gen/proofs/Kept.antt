@@ -13,7 +13,7 @@ use Rattle.walk_rules.specs.Solving.{row_of}
 use Rattle.solved_tasks.specs.Capped.{fits, row_fits, within}
 use Rattle.solved_tasks.proofs.Capping.{terms_from, all_terms, both_true}
 use Rattle.constraint_gen.specs.Sums.{Sum, Terms, total_of, unknown_at, number_at, IsSum}
-use Rattle.constraint_gen.specs.Heard.{pair, wanted, IsDone, IsPart, Settles, Leaves}
+use Rattle.constraint_gen.specs.Heard.{pair, wanted, IsDone, Leaves}
 use Rattle.constraint_gen.proofs.Sums.{number_there}
 
 -- Tests of all items
@@ -121,9 +121,6 @@ module _ (n : ℕ) (left right : Sum) (sum : IsSum right.terms) where
 
 -- Rows whose coefficients are there
 
-pub settles_then : (g : ℕ → ℤ) (a b c : l.Terms) → Settles g a b → Settles g b c → Settles g a c
-settles_then g a b c h k = record { part = k.part; still = λ u d. k.still u (h.still u d) }
-
 -- the terms of a walk from one place on, in order
 Ascends : ℕ → l.Terms → Type 0
 Ascends k [] = Unit {0}
@@ -192,28 +189,6 @@ module _ (f : ℕ → ℤ) where
             let above : Ascends (suc k) (t ∷ ts) = (grind (arith, a.0, differs), a.1, a.2) in
             absurd (not_zero (f k) e (sym here ∙ below_none k (t ∷ ts) above))
 
-zero_diff : (a b : ℕ) → a ≡ 0 → b ≡ 0 → pos a -ℤ pos b ≡ pos 0
-zero_diff a b e h = (λ i. pos (e i) -ℤ pos (h i))
-
--- where the unknowns of both sides are done, all are
-all_done : (n : ℕ) (left right : Sum) (ts : l.Terms) → IsPart (wanted n left right) ts →
-    ((i : ℕ) → i < length left.terms → IsDone (wanted n left right) ts (unknown_at left.terms i)) →
-    ((i : ℕ) → i < length right.terms → IsDone (wanted n left right) ts (unknown_at right.terms i)) → (u : ℕ) → IsDone (wanted n left right) ts u
-all_done n left right ts part first second u = by (place_of left.terms u) (place_of right.terms u) (part u) where
-  g : ℕ → ℤ
-  g = wanted n left right
-
-  by : ((i : ℕ) × (i < length left.terms) × (unknown_at left.terms i ≡ u)) ⊎ (total_of u left.terms ≡ 0) → ((i : ℕ) × (i < length right.terms) × (unknown_at right.terms i ≡ u)) ⊎ (total_of u right.terms ≡ 0) →
-      (coefficient u ts ≡ pos 0) ⊎ IsDone (wanted n left right) ts u → IsDone (wanted n left right) ts u
-  by (inl at) other p = subst (IsDone (wanted n left right) ts) at.2 (first at.0 at.1)
-  by (inr none) (inl at) p = subst (IsDone (wanted n left right) ts) at.2 (second at.0 at.1)
-  by (inr none) (inr nor) (inr done) = done
-  by (inr none) (inr nor) (inl zero_there) =
-      let zero_wanted = zero_in (nat_lt u n) in (zero_there ∙ sym zero_wanted, ap fits zero_wanted) where
-        zero_in : (b : Bool) → cond b (pos (cap (total_of u left.terms)) -ℤ pos (cap (total_of u right.terms))) (pos 0) ≡ pos 0
-        zero_in true = zero_diff (cap (total_of u left.terms)) (cap (total_of u right.terms)) (omega (arith, none)) (omega (arith, nor))
-        zero_in false = refl
-
 wanted_below : (n : ℕ) (left right : Sum) (u : ℕ) → u < n → wanted n left right u ≡ pos (cap (total_of u left.terms)) -ℤ pos (cap (total_of u right.terms))
 wanted_below n left right u h =
     let yes_below : nat_lt u n ≡ true = grind (arith, nat_tests, h) in ap (λ b. cond b (pos (cap (total_of u left.terms)) -ℤ pos (cap (total_of u right.terms))) (pos 0)) yes_below
@@ -256,12 +231,9 @@ module _ (n : ℕ) (left right : Sum) where
   abbrev r : ℤ
   r = right_side left right
 
-  -- both sides are walked, and all fits
-  pub row_is : (row : SparseRow) → IsSparse row.terms → IsPart (wanted n left right) row.terms →
-      ((i : ℕ) → i < length left.terms → IsDone (wanted n left right) row.terms (unknown_at left.terms i)) →
-      ((i : ℕ) → i < length right.terms → IsDone (wanted n left right) row.terms (unknown_at right.terms i)) → fits r ≡ true → row.right ≡ r → Some row ≡ within (row_of n (pair left right))
-  row_is row sparse part first second fit is =
-      let done = all_done n left right row.terms part first second in
+  -- all is there, and fits
+  pub row_is : (row : SparseRow) → IsSparse row.terms → ((u : ℕ) → IsDone (wanted n left right) row.terms u) → fits r ≡ true → row.right ≡ r → Some row ≡ within (row_of n (pair left right))
+  row_is row sparse done fit is =
       let terms : row.terms ≡ terms_from 0 n f = canonical f n 0 row.terms (ascends_from 0 row.terms sparse (λ i b. omega arith))
       (λ u a b. let under : u < n = omega (arith, b) in let d = done u in d.0 ∙ wanted_below n left right u under)
       (λ u a. let over : n ≤ u = omega (arith, a) in let d = done u in d.0 ∙ wanted_behind n left right u over) in

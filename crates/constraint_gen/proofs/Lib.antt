@@ -1,4 +1,5 @@
 pub mod Sums
+pub mod Merging
 pub mod Kept
 pub mod Collected
 pub mod Giving

@@ -1,5 +1,5 @@
 -- The rows of the conditions that are heard.
-use Rattle.std.specs.Prelude.{◌≡◌, ◌⊎◌, ℕ, ℤ, pos, ◌-ℤ◌, ◌+◌, nat_lt, true, false, cond, ◌&&◌, List, [], ◌∷◌, ◌++◌, length, Option}
+use Rattle.std.specs.Prelude.{◌≡◌, ◌≢◌, ℕ, ℤ, pos, ◌-ℤ◌, ◌+◌, nat_lt, true, false, cond, ◌&&◌, List, [], ◌∷◌, ◌++◌, length, Option}
 use Rattle.linear_rows.specs.Terms.{Terms, SparseRow, coefficient}
 use Rattle.annot_types.specs.System.{is_kept}
 use Rattle.walk_rules.specs.Numbers.{Condition}
@@ -7,6 +7,7 @@ use Rattle.walk_rules.specs.Kinds.{Form}
 use Rattle.walk_rules.specs.Solving.{row_of}
 use Rattle.walk_rules.specs.Capped.{cap}
 use Rattle.solved_tasks.specs.Capped.{fits, within}
+use Rattle.constraint_gen.specs.Sums as s
 use Rattle.constraint_gen.specs.Sums.{Sum, total_of}
 
 -- The rows over n unknowns that are kept, the first 2001 of them; none stands for a row that leaves 128 bits.
@@ -34,22 +35,27 @@ abbrev pub hear_all : Heard → List (Condition Sum) → Heard
 hear_all h [] = h
 hear_all h (c ∷ cs) = hear_all (hear h c) cs
 
--- the coefficient of an unknown in the row of two sums over n unknowns
+-- the coefficient of an unknown in a row over n unknowns, where the sides take it so often
+abbrev pub surplus : ℕ → ℕ → ℕ → ℕ → ℤ
+surplus n u a b = cond (nat_lt u n) (pos a -ℤ pos b) (pos 0)
+
+-- that in the row of two sums with these terms
+abbrev pub owed : ℕ → s.Terms → s.Terms → ℕ → ℤ
+owed n left right u = surplus n u (cap (total_of u left)) (cap (total_of u right))
+
+-- the same of the sums themselves
 abbrev pub wanted : ℕ → Sum → Sum → ℕ → ℤ
-wanted n left right u = cond (nat_lt u n) (pos (cap (total_of u left.terms)) -ℤ pos (cap (total_of u right.terms))) (pos 0)
+wanted n left right u = owed n left.terms right.terms u
 
 -- a row has the coefficient that it is to have, and this fits
 abbrev pub IsDone : (ℕ → ℤ) → Terms → ℕ → Type 0
 IsDone g ts u = (coefficient u ts ≡ g u) × (fits (g u) ≡ true)
 
--- each coefficient is that, or not there yet
-abbrev pub IsPart : (ℕ → ℤ) → Terms → Type 0
-IsPart g ts = (u : ℕ) → (coefficient u ts ≡ pos 0) ⊎ IsDone g ts u
-
--- one coefficient more is there, and those that were there still are
-pub record Settles (g : ℕ → ℤ) (old new : Terms) : Type 0 where
-  pub part : IsPart g new
-  pub still : (u : ℕ) → IsDone g old u → IsDone g new u
+-- the unknown has the coefficient z, which fits, and each other one that which it had
+pub record Settles (u : ℕ) (z : ℤ) (old new : Terms) : Type 0 where
+  pub there : coefficient u new ≡ z
+  pub fit : fits z ≡ true
+  pub others : (v : ℕ) → v ≢ u → coefficient v new ≡ coefficient v old
 
 -- one of the coefficients does not fit
 abbrev pub Leaves : (ℕ → ℤ) → Type 0

@@ -68,3 +68,18 @@ pub record IsGapFor (ts : Terms) (u i : ℕ) : Type 0 where
   pub in_range : i ≤ length ts
   pub lesser_before : (j : ℕ) → j < i → unknown_at ts j < u
   pub greater_after : (j : ℕ) → i ≤ j → j < length ts → u < unknown_at ts j
+
+-- no term has a lesser unknown
+abbrev pub StartsFrom : ℕ → Terms → Type 0
+StartsFrom u [] = Unit {0}
+StartsFrom u (t ∷ ts) = u ≤ t.0
+
+-- how often the first term takes the unknown
+abbrev pub first_number : ℕ → Terms → ℕ
+first_number u [] = 0
+first_number u (t ∷ ts) = if t.0 == u then t.1 else 0
+
+-- the terms, without a first one of the unknown
+abbrev pub behind : ℕ → Terms → Terms
+behind u [] = []
+behind u (t ∷ ts) = if t.0 == u then ts else t ∷ ts

@@ -1,12 +1,13 @@
 // The row of a condition.
-ghost use Rattle.std.specs.Prelude.{◌≡◌, ◌<◌, ◌+◌, ◌-ℤ◌, ℕ, pos, nat_lt, true, false, not, ◌&&◌, length, IsTrue, IfOk, OnOk, IsOkAnd, SomeIff};
+ghost use Rattle.std.specs.Prelude.{◌≡◌, ◌<◌, ◌+◌, ◌-ℤ◌, ℕ, [], pos, nat_lt, true, false, not, ◌&&◌, length, IsTrue, IfOk, IfSome, IfNone, IsOkAnd, SomeIff};
 ghost use Rattle.std.specs.List.{list_all};
 ghost use Rattle.annot_types.specs.System.{is_kept};
 ghost use Rattle.walk_rules.specs.Capped.{cap};
 ghost use Rattle.walk_rules.specs.Solving.{row_of};
 ghost use Rattle.solved_tasks.specs.Capped.{fits, within};
-ghost use Rattle.constraint_gen.specs.Sums.{total_of, unknown_at};
-ghost use Rattle.constraint_gen.specs.Heard.{pair, wanted, IsDone, IsPart, Settles, Leaves};
+ghost use Rattle.linear_rows.specs.Terms.{coefficient};
+ghost use Rattle.constraint_gen.specs.Sums.{total_of, StartsFrom, first_number, behind};
+ghost use Rattle.constraint_gen.specs.Heard.{pair, surplus, wanted, IsDone, Settles, Leaves};
 
 use crate::form::Form;
 use linear_rows::{Row, RowFault};
@@ -52,24 +53,53 @@ fn difference(first: u128, second: u128) -> Option<i128>
     first.checked_signed_diff(second)
 }
 
-// The coefficient of an unknown is added to the row, unless it is there. Whether it fits.
+// The least unknown of two sums of unknowns; none where they have no terms.
+fn least(first: &[(u32, u128)], second: &[(u32, u128)]) -> Option<u32>
+    ensures first { IfSome result (λ u. StartsFrom u first.now) }
+    ensures second { IfSome result (λ u. StartsFrom u second.now) }
+    ensures some { IfSome result (λ u. length (behind u first.now) + length (behind u second.now) < length first.now + length second.now) }
+    ensures none { IfNone result ((first.now ≡ []) × (second.now ≡ [])) }
+{
+    match first {
+        [] => match second {
+            [] => None,
+            [term, ..] => Some(term.0),
+        },
+        [term, ..] => match second {
+            [] => Some(term.0),
+            [other, ..] => Some(if other.0 < term.0 { other.0 } else { term.0 }),
+        },
+    }
+}
+
+// How often the first term takes the unknown, and the terms behind it.
+fn split(terms: &[(u32, u128)], unknown: u32) -> (u128, &[(u32, u128)])
+    ensures number { result.0 ≡ first_number unknown terms.now }
+    ensures rest { result.1.now ≡ behind unknown terms.now }
+{
+    match terms {
+        [term, rest @ ..] if term.0 == unknown => (term.1, rest),
+        _ => (0, terms),
+    }
+}
+
+// The coefficient of an unknown is added to the row, which has none of it. Whether it fits.
 fn settle(
     row: &mut Row,
     unknowns: u32,
     unknown: u32,
-    left: &Form,
-    right: &Form,
+    first: u128,
+    second: u128,
 ) -> Result<bool, AllocError>
-    requires part { IsPart (wanted unknowns left.now right.now) row.old.terms }
-    ensures settles { OnOk result (Settles (wanted unknowns left.now right.now) row.old.terms row.new.terms) }
-    ensures done { IsOkAnd result IsTrue → IsDone (wanted unknowns left.now right.now) row.new.terms unknown }
-    ensures leaves { IsOkAnd result (λ ok. ok ≡ false) → Leaves (wanted unknowns left.now right.now) }
+    requires absent { coefficient unknown row.old.terms ≡ pos 0 }
+    ensures settles { IsOkAnd result IsTrue → Settles unknown (surplus unknowns unknown first second) row.old.terms row.new.terms }
+    ensures leaves { IsOkAnd result (λ ok. ok ≡ false) → fits (surplus unknowns unknown first second) ≡ false }
     ensures right { row.new.right ≡ row.old.right }
 {
-    if unknown >= unknowns || row.coefficient(unknown) != 0 {
+    if unknown >= unknowns {
         return Ok(true);
     }
-    match difference(left.coefficient(unknown), right.coefficient(unknown)) {
+    match difference(first, second) {
         Some(number) => match row.add(unknown, number) {
             Ok(()) => Ok(true),
             Err(RowFault::NoMemory) => Err(AllocError),
@@ -80,24 +110,23 @@ fn settle(
     }
 }
 
-// Those of all unknowns of these terms are. Whether all fit.
-fn settle_all(
-    row: &mut Row,
-    unknowns: u32,
-    terms: &[(u32, u128)],
-    left: &Form,
-    right: &Form,
-) -> Result<bool, AllocError>
-    requires part { IsPart (wanted unknowns left.now right.now) row.old.terms }
-    ensures settles { OnOk result (Settles (wanted unknowns left.now right.now) row.old.terms row.new.terms) }
-    ensures done { IsOkAnd result IsTrue → (i : ℕ) → i < length terms.now → IsDone (wanted unknowns left.now right.now) row.new.terms (unknown_at terms.now i) }
+// Those of all unknowns are, in order. Whether all fit.
+fn settle_all(row: &mut Row, unknowns: u32, left: &Form, right: &Form) -> Result<bool, AllocError>
+    requires none { row.old.terms ≡ [] }
+    ensures done { IsOkAnd result IsTrue → (u : ℕ) → IsDone (wanted unknowns left.now right.now) row.new.terms u }
     ensures leaves { IsOkAnd result (λ ok. ok ≡ false) → Leaves (wanted unknowns left.now right.now) }
     ensures right { row.new.right ≡ row.old.right }
 {
-    for term in terms {
-        if !settle(row, unknowns, term.0, left, right)? {
+    let mut first = left.terms();
+    let mut second = right.terms();
+    while let Some(unknown) = least(first, second) {
+        let (added, later) = split(first, unknown);
+        let (taken, rest) = split(second, unknown);
+        if !settle(row, unknowns, unknown, added, taken)? {
             return Ok(false);
         }
+        first = later;
+        second = rest;
     }
     Ok(true)
 }
@@ -117,10 +146,7 @@ pub fn row_of(
     let mut row = Row::new(alloc);
     // it has the right side 0
     row.add_right(right_side).unwrap();
-    if !settle_all(&mut row, unknowns, left.terms(), left, right)? {
-        return Ok(None);
-    }
-    if !settle_all(&mut row, unknowns, right.terms(), left, right)? {
+    if !settle_all(&mut row, unknowns, left, right)? {
         return Ok(None);
     }
     Ok(Some(row))

@@ -1,25 +1,47 @@
-use Rattle.std.proofs.Common.{◌≡◌, ◌<◌, ◌+◌, ◌⊎◌, inl, inr, ℕ, ℤ, ap, subst, sym, refl, ◌∙◌, rules, arith}
-use Rattle.linear_rows.specs.Terms as l
-use Rattle.constraint_gen.specs.Sums.{Terms, unknown_at}
-use Rattle.constraint_gen.specs.Heard.{wanted, IsDone, Settles}
-use Rattle.constraint_gen.proofs.Kept.{settles_then}
-use Rattle.constraint_gen.proofs.row.settle_all.Invariants.{Settled}
+use Rattle.std.proofs.Common.{refl, ap, ◌∙◌, arith, length}
+use Rattle.solved_tasks.specs.Capped.{fits}
+use Rattle.constraint_gen.specs.Heard.{owed}
+use Rattle.constraint_gen.proofs.Merging.{merged_none, merged_step, merged_all, absent_at, owed_there}
 use Rattle.constraint_gen.proofs.row.settle_all.Goals as goal
 
-step : (g : ℕ → ℤ) (old now new : l.Terms) (terms : Terms) (k u : ℕ) → Settled g old now terms k → Settles g now new → unknown_at terms k ≡ u → IsDone g new u → Settled g old new terms (k + 1)
-step g old now new terms k u h s e d = record { settles = settles_then g old now new h.settles s; done = λ i b. by i b (last i b) } where
-  last : (i : ℕ) → i < k + 1 → (i < k) ⊎ (i ≡ k)
-  last i b = grind (arith, b)
+pub loop-unknown-init : goal.loop-unknown-init
+loop-unknown-init c =
+    let ls = c.args.left.now.terms in
+    let rs = c.args.right.now.terms in
+    let g = owed c.args.unknowns ls rs in (
+      merged_none g ls rs c.terms-first.result.now c.terms-second.result.now c.args.row.now.terms c.terms-first.ensures.sum c.terms-second.ensures.sum
+          c.terms-first.ensures.terms c.terms-second.ensures.terms c.requires.none,
+      refl,
+    )
 
-  by : (i : ℕ) → i < k + 1 → (i < k) ⊎ (i ≡ k) → IsDone g new (unknown_at terms i)
-  by i b (inl before) = s.still (unknown_at terms i) (h.done i before)
-  by i b (inr here) = subst (IsDone g new) (sym (ap (unknown_at terms) here ∙ e)) d
+pub settle-requires : goal.settle-requires
+settle-requires c =
+    let s = c.loop-unknown in
+    let next = c.in-Some.ensures in
+    record { absent = absent_at c.args.unknowns c.args.left.now.terms c.args.right.now.terms s.first.now s.second.now s.row.terms s.invariant.0 c.in-Some.unknown next.first next.second next.some }
 
-pub loop-term-preserved : goal.loop-term-preserved
-loop-term-preserved c =
-    let s = c.loop-term.invariant in
-    let g = wanted c.args.unknowns c.args.left.now c.args.right.now in
-    let settles : Settles g c.loop-term.row.terms c.settle.new.row.terms = search rules in
-    let done : IsDone g c.settle.new.row.terms (unknown_at c.args.terms.now c.loop-term.term-index) = search rules in
-    let right : c.settle.new.row.right ≡ c.args.row.now.right = search rules in
-    (step g c.args.row.now.terms c.loop-term.row.terms c.settle.new.row.terms c.args.terms.now c.loop-term.term-index (unknown_at c.args.terms.now c.loop-term.term-index) s.0 settles refl done, right)
+pub returns-then-not-branch-clause-leaves : goal.returns-then-not-branch-clause-leaves
+returns-then-not-branch-clause-leaves c =
+    let s = c.loop-unknown in
+    let next = c.in-Some.ensures in
+    let is = owed_there c.args.unknowns c.args.left.now.terms c.args.right.now.terms s.first.now s.second.now s.row.terms c.in-Some.unknown c.split-added.result.0 c.split-taken.result.0 s.invariant.0
+    next.first next.second next.some c.split-added.ensures.number c.split-taken.ensures.number in
+    λ e. (c.in-Some.unknown, ap fits is ∙ c.in_ok-settle.ensures.leaves c.if-not-branch.true)
+
+pub loop-unknown-smaller : goal.loop-unknown-smaller
+loop-unknown-smaller c = omega (arith, c.in-Some.ensures.some, ap length c.split-added.ensures.rest, ap length c.split-taken.ensures.rest)
+
+pub loop-unknown-preserved : goal.loop-unknown-preserved
+loop-unknown-preserved c =
+    let s = c.loop-unknown in
+    let next = c.in-Some.ensures in
+    let settled = c.in_ok-settle.ensures.settles c.if-not-branch.false in
+    let merged = merged_step c.args.unknowns c.args.left.now.terms c.args.right.now.terms s.first.now s.second.now c.split-added.result.1.now c.split-taken.result.1.now s.row.terms c.settle.new.row.terms
+    c.in-Some.unknown c.split-added.result.0 c.split-taken.result.0 s.invariant.0 next.first next.second next.some
+    c.split-added.ensures.number c.split-added.ensures.rest c.split-taken.ensures.number c.split-taken.ensures.rest settled in
+    (merged, c.settle.ensures.right ∙ s.invariant.1)
+
+pub returns-clause-done : goal.returns-clause-done
+returns-clause-done c =
+    let s = c.loop-unknown in
+    λ t. merged_all c.args.unknowns c.args.left.now.terms c.args.right.now.terms s.first.now s.second.now s.row.terms s.invariant.0 c.in_default.ensures.none

@@ -1,13 +1,10 @@
-use Rattle.std.proofs.Common.{◌≡◌, ◌<◌, ℕ, ℤ}
-use Rattle.linear_rows.specs.Terms as l
-use Rattle.constraint_gen.specs.Sums.{Terms, unknown_at}
-use Rattle.constraint_gen.specs.Heard.{wanted, IsDone, Settles}
+use Rattle.std.proofs.Common.{◌≡◌, ◌+◌, length}
+use Rattle.constraint_gen.specs.Heard.{owed}
+use Rattle.constraint_gen.proofs.Merging.{Merged}
 use Rattle.constraint_gen.proofs.row.settle_all.Given as goal
 
--- the coefficients of the first k terms' unknowns are there
-pub record Settled (g : ℕ → ℤ) (old new : l.Terms) (terms : Terms) (k : ℕ) : Type 0 where
-  pub settles : Settles g old new
-  pub done : (i : ℕ) → i < k → IsDone g new (unknown_at terms i)
+abbrev pub invariant-loop-unknown : goal.invariant-loop-unknown
+invariant-loop-unknown l = Merged (owed l.unknowns l.left.terms l.right.terms) l.left.terms l.right.terms l.first l.second l.row.terms × (l.row.right ≡ l.fn.row.right)
 
-abbrev pub invariant-loop-term : goal.invariant-loop-term
-invariant-loop-term l = Settled (wanted l.unknowns l.left l.right) l.fn.row.terms l.row.terms l.terms l.term-index × (l.row.right ≡ l.fn.row.right)
+abbrev pub decreases-loop-unknown : goal.decreases-loop-unknown
+decreases-loop-unknown l = length l.first + length l.second
