@@ -11,11 +11,11 @@ use std::alloc::{AllocError, Global};
 use std::marker::Model;
 
 /// A sum of unknowns, each so many times, and of a number, less the prices that were taken from it. A
-/// number that would leave 128 bits stands at the greatest one. Most have one unknown, which needs no
-/// memory of its own.
+/// number that would leave 128 bits stands at the greatest one. Most have one unknown or two, which need
+/// no memory of their own.
 #[derive(Drop)]
 pub struct Form {
-    terms: SmallVec<(u32, u128), 1>,
+    terms: SmallVec<(u32, u128), 2>,
     plus: u128,
     minus: u128,
 }
@@ -35,8 +35,10 @@ impl Form {
     pub fn unknown(alloc: Global, unknown: u32) -> Result<Form, AllocError>
         ensures { IfOk result (λ f. f ≡ s.unknown unknown) }
     {
+        let mut terms = SmallVec::new(alloc);
+        terms.push((unknown, 1))?;
         Ok(Form {
-            terms: SmallVec::from_slice(alloc, &[(unknown, 1)])?,
+            terms,
             plus: 0,
             minus: 0,
         })

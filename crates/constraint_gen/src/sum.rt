@@ -1,5 +1,5 @@
 // Sums of unknowns: terms by ascending unknown, each an unknown and how often it is taken.
-ghost use Rattle.std.specs.Prelude.{◌≡◌, IfOk, IfErr, OnOk};
+ghost use Rattle.std.specs.Prelude.{◌≡◌, length, IsTrue, IfOk, IfErr, OnOk};
 ghost use Rattle.walk_rules.specs.Capped.{cap};
 ghost use Rattle.constraint_gen.specs.Sums.{total_of, put, put_all, scaled, IsSum, IsAt, IsGapFor};
 
@@ -26,9 +26,18 @@ pub fn number_in(terms: &[(u32, u128)], unknown: u32) -> u128
     }
 }
 
+// Whether all terms are of lesser unknowns.
+fn ends_before(terms: &[(u32, u128)], unknown: u32) -> bool
+    requires sum { IsSum terms.now }
+    ensures { IsTrue result → IsGapFor terms.now unknown (length terms.now) }
+{
+    let count = terms.len();
+    count == 0 || terms[count - 1].0 < unknown
+}
+
 // An unknown is taken so many times more.
 fn add_term(
-    terms: &mut SmallVec<(u32, u128), 1>,
+    terms: &mut SmallVec<(u32, u128), 2>,
     unknown: u32,
     times: u128,
 ) -> Result<(), AllocError>
@@ -50,9 +59,26 @@ fn add_term(
     }
 }
 
+// The same, where most unknowns are greater than all before.
+fn append_term(
+    terms: &mut SmallVec<(u32, u128), 2>,
+    unknown: u32,
+    times: u128,
+) -> Result<(), AllocError>
+    requires sum { IsSum terms.old.items }
+    ensures sum { IsSum terms.new.items }
+    ensures put { OnOk result (terms.new.items ≡ put unknown times terms.old.items) }
+{
+    if !ends_before(terms.as_slice(), unknown) {
+        return add_term(terms, unknown, times);
+    }
+    terms.push((unknown, times))?;
+    Ok(())
+}
+
 /// A multiple of all terms of another sum is added.
 pub fn add_all(
-    terms: &mut SmallVec<(u32, u128), 1>,
+    terms: &mut SmallVec<(u32, u128), 2>,
     factor: u128,
     others: &[(u32, u128)],
 ) -> Result<(), AllocError>
@@ -61,7 +87,7 @@ pub fn add_all(
     ensures put { OnOk result (terms.new.items ≡ put_all (scaled factor others.now) terms.old.items) }
 {
     for other in others {
-        add_term(terms, other.0, factor.saturating_mul(other.1))?;
+        append_term(terms, other.0, factor.saturating_mul(other.1))?;
     }
     Ok(())
 }
@@ -71,7 +97,7 @@ pub fn multiple(
     alloc: Global,
     terms: &[(u32, u128)],
     factor: u128,
-) -> Result<SmallVec<(u32, u128), 1>, AllocError>
+) -> Result<SmallVec<(u32, u128), 2>, AllocError>
     requires sum { IsSum terms.now }
     ensures sum { IfOk result (λ made. IsSum made.items) }
     ensures scaled { IfOk result (λ made. made.items ≡ scaled factor terms.now) }
