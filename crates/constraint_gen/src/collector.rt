@@ -1,5 +1,5 @@
 // The rows of a walk.
-ghost use Rattle.std.specs.Prelude.{◌≡◌, ℕ, List, [], OnOk};
+ghost use Rattle.std.specs.Prelude.{◌≡◌, ℕ, List, [], IfOk, OnOk};
 ghost use Rattle.walk_rules.specs.Walk.{against, numbered};
 ghost use Rattle.constraint_gen.specs.Sums.{sums};
 ghost use Rattle.constraint_gen.specs.Heard.{hear, hear_all};
@@ -28,14 +28,14 @@ impl Model for Collector {
 }
 
 impl Collector {
-    /// No rows yet.
-    pub fn new(alloc: Global, unknowns: u32) -> Collector
-        ensures { result ≡ record { unknowns = unknowns; rows = [] } }
+    /// No rows yet, and room for as many as there are unknowns.
+    pub fn new(alloc: Global, unknowns: u32) -> Result<Collector, AllocError>
+        ensures { IfOk result (λ made. made ≡ record { unknowns = unknowns; rows = [] }) }
     {
-        Collector {
+        Ok(Collector {
             unknowns,
-            rows: Vec::new(alloc),
-        }
+            rows: Vec::with_capacity(alloc, unknowns as usize)?,
+        })
     }
 
     /// The rows.

@@ -123,7 +123,7 @@ pub fn heard(
     let group = sides(alloc, &mut next, bodies)?;
     let hints = all_answers(alloc, &mut next, asks)?;
     let known = earlier.known(scale, budget_of(d, task.kind) as usize, &group);
-    let mut collector = Collector::new(alloc, count);
+    let mut collector = Collector::new(alloc, count)?;
     hear_all(
         alloc,
         program,

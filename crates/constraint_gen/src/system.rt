@@ -184,7 +184,8 @@ fn of_bodies(
         alloc, program, d, earlier, task, scale, planned, asks, count,
     )?;
     let budget = budget_of(d, task.kind);
-    let mut weights = sig_weights(alloc, program, members(program, task.group), budget)?;
+    let functions = members(program, task.group);
+    let mut weights = sig_weights(alloc, program, functions, budget, count as usize)?;
     fill(&mut weights, count)?;
     match finish(alloc, count, rows, weights) {
         Ok(made) => Ok(made),

@@ -192,17 +192,18 @@ fn append_signature(
     Ok(())
 }
 
-/// The weights of the signatures of a group.
+/// The weights of the signatures of a group, with room for so many.
 pub fn sig_weights(
     alloc: Global,
     program: &NormProgram<'_>,
     functions: &[FunId],
     budget: u8,
+    room: usize,
 ) -> Result<Vec<i128>, AllocError>
     requires { budget ≤ 4 }
     ensures { IfOk result (λ weights. weights.items ≡ sig_weights (program_in program.now) budget (ids_of functions.now)) }
 {
-    let mut weights = Vec::new(alloc);
+    let mut weights = Vec::with_capacity(alloc, room)?;
     for fun in functions {
         append_signature(alloc, &mut weights, program, *fun, budget)?;
     }

@@ -50,7 +50,7 @@ returns c =
     c.known-known.ensures ∙ (λ i. record { scale = c.args.scale; budget = c.budget_of.ensures i; group = sides i; free = j.free; cost = j.cost }) in
     let all : c.hear_all.new.collector ≡ hear_all start (given_conditions sums unknown j) =
     c.in_ok-hear_all.ensures
-    ∙ (λ i. hear_all (hear_all (c.new-collector.ensures i) (reached j.function (slice_index_or (known i).group j.function (record { args = []; result = [] })).result j.target)) (bodies_walked (known i) j.mode 0 bs (hints i)))
+    ∙ (λ i. hear_all (hear_all (c.in_ok-collector.ensures i) (reached j.function (slice_index_or (known i).group j.function (record { args = []; result = [] })).result j.target)) (bodies_walked (known i) j.mode 0 bs (hints i)))
     ∙ conditions_heard j group hss start in
     let count = ap (λ (h : Heard). h.unknowns) all ∙ same_unknowns start (given_conditions sums unknown j) in
     let rows : c.into_rows.result.items ≡ c.hear_all.new.collector.rows = search rules in

@@ -24,7 +24,7 @@ finish-requires-clause-below c =
 pub finish-requires-clause-natural : goal.finish-requires-clause-natural
 finish-requires-clause-natural c =
     let P = program_in c.args.program.now in
-    let weights = c.in_ok-weights.ensures ∙ (λ i. sig_weights P (c.budget_of-budget.ensures i) (c.members.ensures i)) in
+    let weights = c.in_ok-weights.ensures ∙ (λ i. sig_weights P (c.budget_of-budget.ensures i) (c.members-functions.ensures i)) in
     c.in_ok-fill.ensures.natural (subst NoneNegative (sym weights) (natural_sigs P (budget_of c.args.d (kind_of c.args.task.now.kind)) (members P c.args.task.now.group)))
 
 pub returns-in-Ok-clause-made : goal.returns-in-Ok-clause-made
@@ -32,7 +32,7 @@ returns-in-Ok-clause-made c proper =
     let P = program_in c.args.program.now in
     let j = job_in P c.args.d c.args.earlier.now (map body_of c.args.planned.now) (task_of c.args.task.now) c.args.scale in
     let rows = rows_of c.args.count (given_conditions forms unknown j) in
-    let weights = c.in_ok-weights.ensures ∙ (λ i. sig_weights P (c.budget_of-budget.ensures i) (c.members.ensures i)) in
+    let weights = c.in_ok-weights.ensures ∙ (λ i. sig_weights P (c.budget_of-budget.ensures i) (c.members-functions.ensures i)) in
     let few : length c.in_ok-weights.weights.items ≤ c.args.count = omega (arith, ap length weights, proper.few_weights, c.requires.counted) in
     let all = finished_is rows c.in_ok-rows.rows.items c.in-Ok.made.rows (exact_front j c.args.count c.in_ok-rows.rows.items proper.sure c.in_ok-rows.ensures) c.in-Ok.ensures.made in
     record {
