@@ -23,3 +23,4 @@ pub mod SameTask
 pub mod Walking
 pub mod Terms
 pub mod Signed
+pub mod Listing

@@ -1,7 +1,7 @@
 // Signatures and hints, as they are walked.
-ghost use Rattle.std.specs.Prelude.{◌≡◌, map, option_to_list, IfOk};
+ghost use Rattle.std.specs.Prelude.{◌≡◌, map, option_to_list, replicate, slice_set, unsigned_abs, IfOk};
 ghost use Rattle.annot_types.specs.Read as a;
-ghost use Rattle.walk_rules.specs.Capped.{capped_amount};
+ghost use Rattle.walk_rules.specs.Capped.{capped, capped_amount};
 ghost use Rattle.walk_rules.specs.Carried.{sides_to, multiple_to, hint_to};
 ghost use Rattle.walk_rules.specs.Shape.{amounts_at, each_amounts, multiples_at, hint_at, hints_at};
 ghost use Rattle.rule_walk.specs.Asks.{ask_of, asks_of};
@@ -10,19 +10,41 @@ ghost use Rattle.rule_plan.specs.Read.{body_of};
 ghost use Rattle.cert_check.specs.Finds.{sides_at};
 
 use annot_types::{Annot, Hint as Told, Sig};
-use earlier_blocks::numbers;
 use rule_plan::Body;
 use rule_walk::{Amount, Ask, Hint, Sides};
 use std::alloc::{AllocError, Global};
+
+// So many amounts of 0.
+fn zeros(alloc: Global, size: usize) -> Result<Vec<Amount>, AllocError>
+    ensures { IfOk result (λ made. made.items ≡ replicate size capped.none) }
+{
+    let mut made = Vec::with_capacity(alloc, size)?;
+    for _ in 0..size {
+        made.push(Amount::of(0))?;
+    }
+    Ok(made)
+}
+
+// An entry at its position, where there is such a position.
+fn put(made: &mut Vec<Amount>, entry: (u32, i128))
+    ensures { made.new.items ≡ slice_set made.old.items entry.0 (capped_amount (record { plus = unsigned_abs entry.1; minus = 0 })) }
+{
+    let place = entry.0 as usize;
+    if place < made.len() {
+        made[place] = Amount::of(entry.1.unsigned_abs());
+    }
+}
 
 // An annotation of so many positions.
 fn amounts(alloc: Global, annot: &Annot, size: usize) -> Result<Vec<Amount>, AllocError>
     ensures { IfOk result (λ made. made.items ≡ map capped_amount (amounts_at size annot.now)) }
 {
-    let numbers = numbers(alloc, annot, size)?;
-    let mut made = Vec::with_capacity(alloc, size)?;
-    for number in &numbers {
-        made.push(Amount::of(*number))?;
+    let entries = annot.entries();
+    let mut made = zeros(alloc, size)?;
+    let mut left = entries.len();
+    while left > 0 {
+        left -= 1;
+        put(&mut made, entries[left]);
     }
     Ok(made)
 }

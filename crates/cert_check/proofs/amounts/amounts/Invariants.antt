@@ -1,8 +1,13 @@
-use Rattle.std.proofs.Common.{◌≡◌, ◌++◌, drop, map}
+use Rattle.std.proofs.Common.{◌≡◌, ◌≤◌, drop, length, map}
 use Rattle.walk_rules.specs.Capped.{capped_amount}
-use Rattle.walk_rules.specs.Found.{amounts_of}
+use Rattle.walk_rules.specs.Shape.{amounts_at}
 use Rattle.cert_check.proofs.amounts.amounts.Given as goal
 
-abbrev pub invariant-loop-number : goal.invariant-loop-number
-invariant-loop-number l =
-    l.made.items ++ map capped_amount (amounts_of (drop l.number-index l.number-items)) ≡ map capped_amount (amounts_of l.number-items)
+abbrev pub invariant-loop-left : goal.invariant-loop-left
+invariant-loop-left l = record {
+  within : l.left ≤ length l.entries;
+  numbers : l.made.items ≡ map capped_amount (amounts_at l.size (drop l.left l.entries));
+}
+
+abbrev pub decreases-loop-left : goal.decreases-loop-left
+decreases-loop-left l = l.left
