@@ -14,7 +14,7 @@ use Rattle.base_poly.proofs.Sized.{list_indices_sized}
 
 -- one more of a range
 
-range_more : (k n : ℕ) → k < n → range_with_len k (n - k) ≡ k ∷ range_with_len (k + 1) (n - (k + 1))
+pub range_more : (k n : ℕ) → k < n → range_with_len k (n - k) ≡ k ∷ range_with_len (k + 1) (n - (k + 1))
 range_more k n h = ap (range_with_len k) less
   where
     less : n - k ≡ suc (n - (k + 1))

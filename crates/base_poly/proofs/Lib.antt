@@ -16,3 +16,5 @@ pub mod Lengths
 pub mod Capped
 pub mod Computed
 pub mod Bounded
+pub mod Least
+pub mod Behind

@@ -2,6 +2,7 @@
 #![tactic(auto)]
 
 mod fault;
+mod how_many;
 mod index;
 pub mod laws;
 mod list;
@@ -10,6 +11,7 @@ mod sizes;
 mod tuple;
 
 pub use fault::IndexFault;
+pub use how_many::positions;
 pub use index::Index;
 pub use list::{indices, tuples_up_to};
 pub use products::multiply;

@@ -22,6 +22,9 @@ pub fn degrees(alloc: Global, types: &[Ty], d: u8, most: usize) -> Result<Vec<u8
     ensures few { OnOk result (length (index_list (context_of types.now) d) ≤ most) }
     ensures many { IsErrOf result IndexFault.TooMany → most < length (index_list (context_of types.now) d) }
 {
+    if d == 0 {
+        return only(alloc, 0, most);
+    }
     of_types(alloc, types, d, most)
 }
 
@@ -100,7 +103,7 @@ fn with_others(
 }
 
 // Whether the type has one index, of degree 0.
-fn has_one_index(ty: &Ty) -> bool
+pub fn has_one_index(ty: &Ty) -> bool
     ensures { IsTrue result → (g : ℕ) → indices_up_to (ty_of ty.now) g ≡ Unit' ∷ [] }
 {
     matches!(ty, Ty::Int | Ty::Bool)
