@@ -1,6 +1,6 @@
 -- What the code's ways to carry, its tables and its faults are as plain data.
 use Rattle.std.specs.Prelude.{ℕ, ◌≤◌, List, [], ◌∷◌, map, slice_index_or}
-use Rattle.std.specs.declared.vec.Vec.{Vec}
+use Rattle.smallvec.specs.SmallVec.{SmallVec}
 use Rattle.raml_syntax.specs.Tree.{Type'}
 use Rattle.raml_syntax.specs.Read.{ty_of}
 use Rattle.base_poly.specs.Plain.{Plain, deg}
@@ -32,15 +32,15 @@ CanCarry Leave (i ∷ []) = deg i ≤ 4
 CanCarry Join (i ∷ j ∷ []) = ((A : Type') × IsIndex i A × IsIndex j A) × ((deg i ≤ 4) × (deg j ≤ 4))
 CanCarry _ _ = ⊥
 
-abbrev pub items_of : {G : Type 0} → Vec ℕ G → List ℕ
+abbrev pub items_of : SmallVec ℕ → List ℕ
 items_of v = v.items
 
 -- the number in the row and the column, 0 past the end
-abbrev pub table_at : {G : Type 0} → List (Vec ℕ G) → ℕ → ℕ → ℕ
+abbrev pub table_at : List (SmallVec ℕ) → ℕ → ℕ → ℕ
 table_at t h k = slice_index_or (slice_index_or (map items_of t) h []) k 0
 
 abbrev pub counts_of : Counts → l.Counts
-counts_of c = record { before = c.before.items; after = λ r. slice_index_or c.after.items r 0; first = table_at c.first.items; second = table_at c.second.items }
+counts_of c = record { before = c.before.now; after = λ r. slice_index_or c.after.items r 0; first = table_at c.first.items; second = table_at c.second.items }
 
 abbrev pub middle_of : Middle → l.Middle
 middle_of m = record { degree = m.degree; targets = m.targets.items }

@@ -4,6 +4,7 @@ ghost use Rattle.index_shift.specs.Lift.{place_of, entry_of, one_row, rows, of_m
 ghost use Rattle.index_shift.specs.Read.{counts_of, middle_of, middles_of, table_at};
 
 use crate::entry::Entry;
+use smallvec::SmallVec;
 use std::alloc::{AllocError, Global};
 
 /// To what a tuple is carried: a tuple of the new types by its place, component by component, its
@@ -24,23 +25,23 @@ pub struct Middle {
 
 /// What is known of the new context.
 #[derive(Drop)]
-pub struct Counts {
+pub struct Counts<'s> {
     /// The degrees of the tuples before the place, component by component.
-    pub before: Vec<u8>,
+    pub before: &'s [u8],
     /// For each degree, how many tuples behind the place have it.
-    pub after: Vec<u16>,
+    pub after: SmallVec<u16, 8>,
     /// For each degree, at which position the tuples of this degree begin that begin as the k-th
     /// before the place.
-    pub first: Vec<Vec<u16>>,
+    pub first: Vec<SmallVec<u16, 8>>,
     /// For each degree, how many tuples are before the m-th of the new types, together with those
     /// behind it.
-    pub second: Vec<Vec<u16>>,
+    pub second: Vec<SmallVec<u16, 8>>,
 }
 
 /// The map of a context from that of the types that change.
 pub fn lift(
     alloc: Global,
-    counts: &Counts,
+    counts: &Counts<'_>,
     middles: &[Middle],
     d: u8,
 ) -> Result<Vec<Entry>, AllocError>
@@ -58,7 +59,7 @@ pub fn lift(
 fn append_degree(
     found: &mut Vec<Entry>,
     from: &mut u32,
-    counts: &Counts,
+    counts: &Counts<'_>,
     g: u16,
     middles: &[Middle],
 ) -> Result<(), AllocError>
@@ -75,7 +76,7 @@ fn append_degree(
 fn append_begun(
     found: &mut Vec<Entry>,
     from: &mut u32,
-    counts: &Counts,
+    counts: &Counts<'_>,
     g: u16,
     p: u16,
     k: usize,
@@ -95,7 +96,7 @@ fn append_begun(
 fn append_middles(
     found: &mut Vec<Entry>,
     from: &mut u32,
-    counts: &Counts,
+    counts: &Counts<'_>,
     left: u16,
     p: u16,
     k: usize,
@@ -114,7 +115,7 @@ fn append_middles(
 fn append_middle(
     found: &mut Vec<Entry>,
     from: &mut u32,
-    counts: &Counts,
+    counts: &Counts<'_>,
     left: u16,
     p: u16,
     k: usize,
@@ -135,7 +136,7 @@ fn append_middle(
 fn append_rows(
     found: &mut Vec<Entry>,
     from: &mut u32,
-    counts: &Counts,
+    counts: &Counts<'_>,
     p: u16,
     k: usize,
     r: u16,
@@ -144,7 +145,7 @@ fn append_rows(
     ensures { OnOk result ((found.new.items, from.new)
         ≡ rows (one_row (counts_of counts.now) p k r targets.now) 0 ((counts_of counts.now).after r) (found.old.items, from.old)) }
 {
-    for y in 0..number_at(&counts.after, r as usize) {
+    for y in 0..number_at(counts.after.as_slice(), r as usize) {
         append_row(found, *from, counts, p, k, r, y, targets)?;
         *from = next(*from)?;
     }
@@ -155,7 +156,7 @@ fn append_rows(
 fn append_row(
     found: &mut Vec<Entry>,
     from: u32,
-    counts: &Counts,
+    counts: &Counts<'_>,
     p: u16,
     k: usize,
     r: u16,
@@ -176,7 +177,7 @@ fn append_row(
 }
 
 // The position of the target before the y-th tuple of degree `r`.
-fn place_of(counts: &Counts, p: u16, k: usize, r: u16, y: u16, target: Target) -> u32
+fn place_of(counts: &Counts<'_>, p: u16, k: usize, r: u16, y: u16, target: Target) -> u32
     ensures { result ≡ place_of (counts_of counts.now) p k r y target }
 {
     let inner = u32::from(target.degree) + u32::from(r);
@@ -186,11 +187,11 @@ fn place_of(counts: &Counts, p: u16, k: usize, r: u16, y: u16, target: Target) -
 }
 
 // The number in the row and the column, 0 past the end.
-fn table_at(table: &[Vec<u16>], row: usize, column: usize) -> u16
+fn table_at(table: &[SmallVec<u16, 8>], row: usize, column: usize) -> u16
     ensures { result ≡ table_at table.now row column }
 {
     match table.get(row) {
-        Some(numbers) => number_at(numbers, column),
+        Some(numbers) => number_at(numbers.as_slice(), column),
         None => 0,
     }
 }

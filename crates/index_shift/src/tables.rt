@@ -8,20 +8,21 @@ ghost use Rattle.index_shift.specs.Tables.{how_many, fits, sums, listed, lows, A
 
 use crate::fault::MapFault;
 use crate::lift::{Counts, number_at};
+use smallvec::SmallVec;
 use std::alloc::Global;
 
 /// What is known of a context, from the degrees of the tuples before a place, of the new types and
 /// behind the place.
 ///
 /// `TooMany` where the context has more than `most` indices.
-pub fn counts(
+pub fn counts<'s>(
     alloc: Global,
-    before: &[u8],
+    before: &'s [u8],
     new: &[u8],
     after: &[u8],
     d: u8,
     most: u16,
-) -> Result<Counts, MapFault>
+) -> Result<Counts<'s>, MapFault>
     ensures tables { IfOk result (λ counts. AreTables before.now new.now after.now d (counts_of counts)) }
     ensures few { OnOk result ((As Ts Bs : List Type') → AreDegrees As Ts Bs d before.now new.now after.now →
         length (index_list (As ++ (Ts ++ Bs)) d) ≤ most) }
@@ -29,9 +30,8 @@ pub fn counts(
         most < length (index_list (As ++ (Ts ++ Bs)) d) }
 {
     let after = tally(alloc, after, d, most)?;
-    let inner = rows(alloc, &after, new, d, most)?;
-    let first = running(alloc, &inner.1, before, d, most)?;
-    let before = Vec::from_slice(alloc, before)?;
+    let inner = rows(alloc, after.as_slice(), new, d, most)?;
+    let first = running(alloc, inner.1.as_slice(), before, d, most)?;
     Ok(Counts {
         before,
         after,
@@ -41,11 +41,11 @@ pub fn counts(
 }
 
 // How often each degree stands in the list.
-fn tally(alloc: Global, degrees: &[u8], d: u8, most: u16) -> Result<Vec<u16>, MapFault>
+fn tally(alloc: Global, degrees: &[u8], d: u8, most: u16) -> Result<SmallVec<u16, 8>, MapFault>
     ensures all { IfOk result (λ found. found.items ≡ listed (λ r. how_many r degrees.now) 0 (1 + d)) }
     ensures many { IsErrOf result MapFault.TooMany → (r : ℕ) × (r ≤ d) × (most < how_many r degrees.now) }
 {
-    let mut found = Vec::new(alloc);
+    let mut found = SmallVec::new(alloc);
     for r in 0..u16::from(d) + 1 {
         found.push(count(degrees, r, most)?)?;
     }
@@ -73,13 +73,13 @@ fn rows(
     degrees: &[u8],
     d: u8,
     most: u16,
-) -> Result<(Vec<Vec<u16>>, Vec<u16>), MapFault>
+) -> Result<(Vec<SmallVec<u16, 8>>, SmallVec<u16, 8>), MapFault>
     ensures table { IfOk result (λ found. map items_of found.0.items ≡ listed (λ g. sums (fits (λ r. slice_index_or numbers.now r 0) g) 0 degrees.now) 0 (1 + d)) }
     ensures totals { IfOk result (λ found. found.1.items ≡ listed (λ g. total (fits (λ r. slice_index_or numbers.now r 0) g) degrees.now) 0 (1 + d)) }
     ensures many { IsErrOf result MapFault.TooMany → (g : ℕ) × (g ≤ d) × (most < total (fits (λ r. slice_index_or numbers.now r 0) g) degrees.now) }
 {
-    let mut table = Vec::new(alloc);
-    let mut totals = Vec::new(alloc);
+    let mut table = Vec::with_capacity(alloc, usize::from(d) + 1)?;
+    let mut totals = SmallVec::new(alloc);
     for g in 0..u16::from(d) + 1 {
         let found = sums(alloc, numbers, g, degrees, 0, most)?;
         table.push(found.0)?;
@@ -95,13 +95,13 @@ fn running(
     degrees: &[u8],
     d: u8,
     most: u16,
-) -> Result<Vec<Vec<u16>>, MapFault>
+) -> Result<Vec<SmallVec<u16, 8>>, MapFault>
     ensures table { IfOk result (λ found. map items_of found.items
         ≡ listed (λ h. sums (fits (λ r. slice_index_or numbers.now r 0) h) (lows (λ r. slice_index_or numbers.now r 0) degrees.now h) degrees.now) 0 (1 + d)) }
     ensures few { OnOk result (lows (λ r. slice_index_or numbers.now r 0) degrees.now (1 + d) ≤ most) }
     ensures many { IsErrOf result MapFault.TooMany → (h : ℕ) × (h ≤ d) × (most < lows (λ r. slice_index_or numbers.now r 0) degrees.now (1 + h)) }
 {
-    let mut table = Vec::new(alloc);
+    let mut table = Vec::with_capacity(alloc, usize::from(d) + 1)?;
     let mut low = 0;
     for h in 0..u16::from(d) + 1 {
         let found = sums(alloc, numbers, h, degrees, low, most)?;
@@ -119,14 +119,14 @@ fn sums(
     degrees: &[u8],
     start: u16,
     most: u16,
-) -> Result<(Vec<u16>, u16), MapFault>
+) -> Result<(SmallVec<u16, 8>, u16), MapFault>
     requires { start ≤ most }
     ensures row { IfOk result (λ found. found.0.items ≡ sums (fits (λ r. slice_index_or numbers.now r 0) h) start degrees.now) }
     ensures all { IfOk result (λ found. found.1 ≡ start + total (fits (λ r. slice_index_or numbers.now r 0) h) degrees.now) }
     ensures few { IfOk result (λ found. found.1 ≤ most) }
     ensures many { IsErrOf result MapFault.TooMany → most < start + total (fits (λ r. slice_index_or numbers.now r 0) h) degrees.now }
 {
-    let mut row = Vec::with_capacity(alloc, degrees.len())?;
+    let mut row = SmallVec::with_capacity(alloc, degrees.len())?;
     let mut sum = start;
     for p in degrees {
         row.push(sum)?;

@@ -12,7 +12,7 @@ loop-g-preserved c =
       table = listed_step (λ g. sums (fits (λ r. slice_index_or c.args.numbers.now r 0) g) 0 c.args.degrees.now) _ _ _ c.loop-g.g (1 + c.args.d) _ below c.in_ok-found.ensures.row
           (map_made items_of _ _ _ c.in_ok-push.ensures.items) c.loop-g.invariant.table;
       totals = listed_step (λ g. total (fits (λ r. slice_index_or c.args.numbers.now r 0) g) c.args.degrees.now) _ _ _ c.loop-g.g (1 + c.args.d) _ below
-          (c.in_ok-found.ensures.all ∙ none _) c.in_ok-push-2.ensures.items c.loop-g.invariant.totals;
+          (c.in_ok-found.ensures.all ∙ none _) c.in_ok-push-2.ensures.ok c.loop-g.invariant.totals;
     }
   where
     none : (n : ℕ) → 0 + n ≡ n

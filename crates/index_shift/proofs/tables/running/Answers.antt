@@ -24,7 +24,7 @@ loop-h-preserved c =
 pub returns-in_err-found-clause-many : goal.returns-in_err-found-clause-many
 returns-in_err-found-clause-many c = λ e.
     let h = c.loop-h.h in
-    let same = of_fault _ _ c.from_residual.ensures.1 e in
+    let same = of_fault _ _ c.from_residual-in_err-found.ensures.1 e in
     let past = c.in_err-found.ensures.many (ap Err same) in
     let low = c.loop-h.invariant.low in
     let next = lows_more (λ r. slice_index_or c.args.numbers.now r 0) c.args.degrees.now h in
