@@ -1,7 +1,7 @@
 -- At degree 0 a context has one tuple.
 use Rattle.std.proofs.Common.{◌≡◌, ℕ, ◌-◌, cond, nat_eq, List, [], ◌∷◌, ◌++◌, map, length, refl, sym, ap, ◌∙◌, arith}
 use Rattle.raml_syntax.specs.Tree.{Type', Integer, Boolean, PairOf, ListOf, TreeOf, OptionOf}
-use Rattle.base_poly.specs.Plain.{Plain, Pair, deg, degrees}
+use Rattle.base_poly.specs.Plain.{Pair, deg, degrees}
 use Rattle.base_poly.specs.Indices.{pairs_led, tuples_led, zero_of, indices_up_to, tuples_up_to, by_degree, index_list}
 use Rattle.base_poly.proofs.Longer.{zero_degree, some_zeros}
 

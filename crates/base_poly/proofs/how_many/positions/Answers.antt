@@ -1,8 +1,6 @@
-use Rattle.std.proofs.Common.{◌≡◌, ◌∙◌, length, sym}
 use Rattle.std.proofs.lemmas.Grind.{common_steps}
 use Rattle.std.proofs.Common.{arith}
 use Rattle.base_poly.specs.Read.{context_of}
-use Rattle.base_poly.specs.Indices.{tuples_up_to, index_list}
 use Rattle.base_poly.proofs.Graded.{as_many}
 use Rattle.base_poly.proofs.how_many.positions.Goals as goal
 
