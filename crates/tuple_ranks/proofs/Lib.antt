@@ -8,3 +8,4 @@ pub mod Behind
 pub mod Permuted
 pub mod Rows
 pub mod Standing
+pub mod Least

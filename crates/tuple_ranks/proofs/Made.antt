@@ -3,10 +3,10 @@ use Rattle.std.proofs.Common.{◌≡◌, ◌≤◌, ◌<◌, ◌⊎◌, ⊎_elim
 use Rattle.base_poly.specs.Base.{total}
 use Rattle.base_poly.specs.declared.fault.IndexFault.{IndexFault}
 use Rattle.base_poly.specs.declared.fault.IndexFault.TheVariants.{TooMany}
-use Rattle.index_shift.specs.Tables.{fits, sums, listed}
+use Rattle.index_shift.specs.Tables.{fits, listed}
 use Rattle.index_shift.proofs.Shorter.{back_few}
 use Rattle.index_shift.proofs.Steps.{listed_at}
-use Rattle.tuple_ranks.specs.Columns.{count, below, lower_count, columns, Column}
+use Rattle.tuple_ranks.specs.Columns.{count, below, lower_count}
 use Rattle.tuple_ranks.specs.Spots.{AreSmall, AreLarge}
 use Rattle.tuple_ranks.proofs.Ranked.{size_is}
 
@@ -79,21 +79,11 @@ module _ (pss : List (List ℕ)) (d : ℕ) (counts : List ℕ) (made : counts �
   fits_same : (g p : ℕ) → g ≤ d → fits read g p ≡ fits (count pss) g p
   fits_same g p low = ap (cond (nat_lt g p) 0) (read_is (count pss) d counts made (g - p) (omega (arith, low)))
 
-  sums_same : (g s : ℕ) (ps : List ℕ) → g ≤ d → sums (fits read g) s ps ≡ sums (fits (count pss) g) s ps
-  sums_same g s [] low = refl
-  sums_same g s (p ∷ ps) low = λ i. s ∷ (ap (λ n. sums (fits read g) (s + n) ps) (fits_same g p low) ∙ sums_same g (s + fits (count pss) g p) ps low) i
-
   total_same : (g : ℕ) (ps : List ℕ) → g ≤ d → total (fits read g) ps ≡ total (fits (count pss) g) ps
   total_same g [] low = refl
   total_same g (p ∷ ps) low = λ i. fits_same g p low i + total_same g ps low i
 
   module _ (ps : List ℕ) where
-    pub columns_more : (table : List (List ℕ)) (cs : List Column) → table ≡ listed (λ g. sums (fits read g) 0 ps) 0 (1 + d) → cs ≡ columns d pss →
-        record { sizes = ps; before = table } ∷ cs ≡ columns d (ps ∷ pss)
-    columns_more table cs made_table made_columns =
-        let rows = made_table ∙ listed_same (λ g. sums (fits read g) 0 ps) (λ g. sums (fits (count pss) g) 0 ps) 0 (1 + d) (λ g l. sums_same g 0 ps (omega (arith, l))) in
-        λ i. record { sizes = ps; before = rows i } ∷ made_columns i
-
     pub counts_more : (totals : List ℕ) → totals ≡ listed (λ g. total (fits read g) ps) 0 (1 + d) → totals ≡ listed (count (ps ∷ pss)) 0 (1 + d)
     counts_more totals made_totals =
         made_totals ∙ listed_same (λ g. total (fits read g) ps) (count (ps ∷ pss)) 0 (1 + d) (λ g l. total_same g ps (omega (arith, l)))

@@ -101,7 +101,7 @@ module _ (As Bs : List Type') (d : ℕ) (t : List Plain) (are : AreIndices t As)
   all_stand [] at (C ∷ Cs) inside rest = refl
   all_stand (p ∷ ps) at [] inside rest = refl
   all_stand (p ∷ ps) at (C ∷ Cs) inside rest =
-      led (record { sizes = map degrees (tuples_up_to (C ∷ []) d); before = tables.listed (λ g. sums (fits (count (sizes Cs d)) g) 0 (map degrees (tuples_up_to (C ∷ []) d))) 0 (1 + d) })
+      led (record { sizes = map degrees (tuples_up_to (C ∷ []) d); behind = tables.listed (count (sizes Cs d)) 0 (1 + d) })
       (one_seen p at C (inside p (inl refl)) (ap (slice_get Bs) (sym none) ∙ sym (rest 0)))
       (all_stand ps (suc at) Cs (λ q m. inside q (inr m)) (λ m. rest (suc m) ∙ ap (slice_get Bs) (next m)))
     where

@@ -1,5 +1,5 @@
 -- A tuple stands where its numbers tell.
-use Rattle.std.proofs.Common.{◌≡◌, ℕ, zero, suc, ◌+◌, ◌-◌, ◌≤◌, ◌<◌, ◌⊎◌, inl, inr, Bool, true, false, not, cond, nat_lt, List, [], ◌∷◌, ◌++◌, map, flat_map, length, position, slice_get, slice_index_or, Option, None, Some, option_map, refl, sym, ap, ◌∙◌, subst, arith, length-append}
+use Rattle.std.proofs.Common.{◌≡◌, ℕ, zero, suc, ◌+◌, ◌-◌, ◌≤◌, ◌<◌, ◌⊎◌, inl, inr, Bool, true, false, not, cond, nat_lt, List, [], ◌∷◌, ◌++◌, map, flat_map, take, length, position, slice_get, slice_index_or, Option, None, Some, option_map, refl, sym, ap, ◌∙◌, subst, arith, length-append}
 use Rattle.std.proofs.lemmas.Option.{slice_get-map}
 use Rattle.std.proofs.lemmas.Bool.Decides.{nat_tests}
 use Rattle.std.proofs.lemmas.List.Quantifiers.{position-Some}
@@ -11,13 +11,13 @@ use Rattle.base_poly.specs.Base.{total}
 use Rattle.base_poly.specs.Total.{alike_is, alike_self}
 use Rattle.base_poly.proofs.Among.{Among, among_contains}
 use Rattle.base_poly.proofs.Exact.{exact, sound_tuples, whole_tuples}
-use Rattle.index_shift.specs.Tables.{fits, sums, listed}
+use Rattle.index_shift.specs.Tables.{fits, listed}
 use Rattle.index_shift.proofs.Exactly.{exactly, behind_one, many_behind, ahead, lower, in_two}
 use Rattle.index_shift.proofs.Spots.{get_part, counts_behind, places_are_counted}
 use Rattle.index_shift.proofs.Steps.{listed_at}
 use Rattle.index_shift.proofs.Tabled.{all_lower}
 use Rattle.index_shift.proofs.Shorter.{back_few}
-use Rattle.tuple_ranks.specs.Columns.{sizes, count, lower_count, Column, columns, table, up_to, standing, led_by, stands, place_by, place, degree_at, degree_by}
+use Rattle.tuple_ranks.specs.Columns.{sizes, count, lower_count, Column, columns, table, up_to, before as before_in, standing, led_by, stands, place_by, place, degree_at, degree_by}
 use Rattle.tuple_ranks.specs.Numbers.{number, numbers}
 use Rattle.tuple_ranks.specs.Spots.{spot}
 
@@ -36,15 +36,11 @@ module _ (As : List Type') (d : ℕ) (n : ℕ → ℕ) (tells : (r : ℕ) → r 
   all_is g (x ∷ xs) low =
       (λ i. (fits_is g x low ∙ sym (counts_behind As g x)) i + all_is g xs low i) ∙ sym (length-append (behind_one As g x) (flat_map (behind_one As g) xs))
 
-  sums_at : (g s : ℕ) (xs : List (List Plain)) (k : ℕ) (x : List Plain) → g ≤ d → slice_get xs k ≡ Some x → slice_index_or (sums (fits n g) s (map degrees xs)) k 0 ≡ s + ahead (many_behind As g) xs k
-  sums_at g s [] k x low h = absurd (none h)
-    where
-      none : None ≡ Some x → ⊥
-      none e = cc
-  sums_at g s (y ∷ xs) zero x low h = omega arith
-  sums_at g s (y ∷ xs) (suc k) x low h =
-      let more = sums_at g (s + fits n g (degrees y)) xs k x low h in
-      let one = fits_is g y low in omega (arith, more, one)
+  before_is : (g : ℕ) (xs : List (List Plain)) (k : ℕ) → g ≤ d → total (fits n g) (take k (map degrees xs)) ≡ ahead (many_behind As g) xs k
+  before_is g [] zero low = refl
+  before_is g [] (suc k) low = refl
+  before_is g (y ∷ xs) zero low = refl
+  before_is g (y ∷ xs) (suc k) low = λ i. fits_is g y low i + before_is g xs k low i
 
 pub count_is : (As : List Type') (d g : ℕ) → g ≤ d → count (sizes As d) g ≡ length (exactly As g)
 count_is [] d zero low = refl
@@ -163,9 +159,9 @@ does_stand d g n low few = (λ i. cond (not_past i) None (cond (is_few i) (Some 
     is_few : nat_lt n 65536 ≡ true
     is_few = grind (arith, nat_tests, few)
 
-before_at : (d : ℕ) (pss : List (List ℕ)) (ps : List ℕ) (g n : ℕ) → g ≤ d →
-    slice_index_or (slice_index_or (listed (λ h. sums (fits (count pss) h) 0 ps) 0 (1 + d)) g []) n 0 ≡ slice_index_or (sums (fits (count pss) g) 0 ps) n 0
-before_at d pss ps g n low = ap (λ l. slice_index_or l n 0) (listed_at (λ h. sums (fits (count pss) h) 0 ps) 0 (1 + d) g [] (omega (arith, low)) ∙ ap (λ h. sums (fits (count pss) h) 0 ps) (none_more g))
+-- the numbers of what is behind are read from a table
+read_is : (As : List Type') (d r : ℕ) → r ≤ d → slice_index_or (listed (count (sizes As d)) 0 (1 + d)) r 0 ≡ length (exactly As r)
+read_is As d r low = listed_at (count (sizes As d)) 0 (1 + d) r 0 (omega (arith, low)) ∙ ap (count (sizes As d)) (none_more r) ∙ count_is As d r low
 
 -- where a tuple stands, and that it does
 abbrev StandsThere : List Type' → ℕ → List Plain → Type 0
@@ -208,14 +204,15 @@ module _ (A : Type') (As : List Type') (d : ℕ) (few : length (index_list (A �
   size : slice_get (map degrees ts) n ≡ Some (degrees x)
   size = slice_get-map degrees ts n ∙ ap (option_map degrees) at_n
 
-  before : slice_index_or (slice_index_or (listed (λ h. sums (fits (count (sizes As d)) h) 0 (map degrees ts)) 0 (1 + d)) (degrees x + degrees t) []) n 0 ≡ b
-  before =
-      before_at d (sizes As d) (map degrees ts) (degrees x + degrees t) n (omega (arith, low))
-      ∙ sums_at As d (count (sizes As d)) (λ r l. count_is As d r l) (degrees x + degrees t) 0 ts n x (omega (arith, low)) at_n ∙ none_more b
+  abbrev c : Column
+  c = record { sizes = map degrees ts; behind = listed (count (sizes As d)) 0 (1 + d) }
+
+  before : before_in c (degrees x + degrees t) n ≡ b
+  before = before_is As d (λ r. slice_index_or c.behind r 0) (λ r l. read_is As d r l) (degrees x + degrees t) ts n (omega (arith, low))
 
   standing_is : stands d (columns d (sizes (A ∷ As) d)) (numbers (A ∷ As) d (i ∷ t)) ≡ Some (degrees (i ∷ t), b + r)
   standing_is =
-      (λ j. led_by d (record { sizes = map degrees ts; before = listed (λ h. sums (fits (count (sizes As d)) h) 0 (map degrees ts)) 0 (1 + d) }) n (size j) (rest.1 j))
+      (λ j. led_by d c n (size j) (rest.1 j))
       ∙ (λ j. standing d (degrees x + degrees t) (before j + r))
       ∙ does_stand d (degrees x + degrees t) (b + r) (omega (arith, low)) small
       ∙ ap (λ g. Some (g, b + r)) whole
@@ -253,7 +250,7 @@ is_there (A ∷ As) d (i ∷ t) s h = by (slice_get (map degrees ts) (number A d
     ts = tuples_up_to (A ∷ []) d
 
     c : Column
-    c = record { sizes = map degrees ts; before = listed (λ h. sums (fits (count (sizes As d)) h) 0 (map degrees ts)) 0 (1 + d) }
+    c = record { sizes = map degrees ts; behind = listed (count (sizes As d)) 0 (1 + d) }
 
     n : ℕ
     n = number A d i

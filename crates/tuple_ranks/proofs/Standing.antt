@@ -1,6 +1,7 @@
 -- Where a tuple stands, from its last index on.
-use Rattle.std.proofs.Common.{◌≡◌, ◌≤◌, ◌<◌, ℕ, zero, suc, ◌+◌, ◌-◌, List, [], ◌∷◌, drop, length, slice_get, slice_index_or, Option, None, Some, refl, sym, ap, ◌∙◌, arith}
-use Rattle.tuple_ranks.specs.Columns.{Column, stands, led_by}
+use Rattle.std.proofs.Common.{◌≡◌, ◌≤◌, ◌<◌, ℕ, zero, suc, ◌+◌, ◌-◌, Bool, true, false, cond, nat_le, nat_lt, min, List, [], ◌∷◌, drop, length, slice_get, slice_index_or, Option, None, Some, refl, sym, ap, ◌∙◌, arith}
+use Rattle.std.proofs.lemmas.Bool.Decides.{nat_tests}
+use Rattle.tuple_ranks.specs.Columns.{Column, before, standing, stands, led_by}
 use Rattle.tuple_ranks.specs.Slots.{Slot, seen_by, picked}
 
 at_place : {X : Type 0} (xs : List X) (k : ℕ) (d : X) → k < length xs → drop k xs ≡ slice_index_or xs k d ∷ drop (suc k) xs
@@ -74,3 +75,36 @@ none_step d (suc k) cs ss ns c s state next some low same is is' made ends done 
 
     more : k + 1 ≡ suc k
     more = omega arith
+
+-- One index before others
+
+-- a number that is not exact is too great for a place
+too_many : (d g n m s : ℕ) → m ≡ min n 4294967295 → standing d g (m + s) ≡ standing d g (n + s)
+too_many d g n m s e = ap (cond (nat_lt d g) None) (by (nat_le n 4294967295) refl)
+  where
+    stood : ℕ → Option (ℕ × ℕ)
+    stood k = cond (nat_lt k 65536) (Some (g, k)) None
+
+    same : nat_le n 4294967295 ≡ true → m + s ≡ n + s
+    same f = grind (arith, nat_tests, e, f)
+
+    past : nat_le n 4294967295 ≡ false → nat_lt (m + s) 65536 ≡ false
+    past f = grind (arith, nat_tests, e, f)
+
+    also : nat_le n 4294967295 ≡ false → nat_lt (n + s) 65536 ≡ false
+    also f = grind (arith, nat_tests, f)
+
+    neither : (a b : Bool) (x y : Option (ℕ × ℕ)) → a ≡ false → b ≡ false → cond a x None ≡ cond b y None
+    neither a b x y h k = ap (λ a. cond a x None) h ∙ sym (ap (λ b. cond b y None) k)
+
+    by : (b : Bool) → nat_le n 4294967295 ≡ b → stood (m + s) ≡ stood (n + s)
+    by true f = ap stood (same f)
+    by false f = neither _ _ _ _ (past f) (also f)
+
+pub led_some : (d : ℕ) (c : Column) (n size degree m : ℕ) (behind : ℕ × ℕ) (next : Option (ℕ × ℕ)) → slice_get c.sizes n ≡ Some size → degree ≡ size + behind.0 →
+    m ≡ min (before c degree n) 4294967295 → next ≡ standing d degree (m + behind.1) → next ≡ led_by d c n (slice_get c.sizes n) (Some behind)
+led_some d c n size degree m behind next there is least made =
+    made ∙ too_many d degree (before c degree n) m behind.1 least ∙ ap (λ g. standing d g (before c g n + behind.1)) is ∙ sym (ap (λ o. led_by d c n o (Some behind)) there)
+
+pub led_none : (d : ℕ) (c : Column) (n : ℕ) (behind : ℕ × ℕ) → slice_get c.sizes n ≡ None → None ≡ led_by d c n (slice_get c.sizes n) (Some behind)
+led_none d c n behind there = sym (ap (λ o. led_by d c n o (Some behind)) there)

@@ -1,10 +1,10 @@
 -- Positions of tuples, by counting. Tables for a context's variables tell how many tuples are before one.
-use Rattle.std.specs.Prelude.{ℕ, zero, suc, ◌+◌, nat_lt, cond, Option, None, Some, List, [], ◌∷◌, map, slice_get, slice_index_or}
+use Rattle.std.specs.Prelude.{ℕ, zero, suc, ◌+◌, nat_lt, cond, Option, None, Some, List, [], ◌∷◌, map, take, slice_get, slice_index_or}
 use Rattle.raml_syntax.specs.Tree.{Type'}
 use Rattle.base_poly.specs.Plain.{degrees}
 use Rattle.base_poly.specs.Base.{total}
 use Rattle.base_poly.specs.Indices.{tuples_up_to}
-use Rattle.index_shift.specs.Tables.{fits, sums, listed}
+use Rattle.index_shift.specs.Tables.{fits, listed}
 
 -- the degrees of the indices of each type, component by component
 abbrev pub sizes : List Type' → ℕ → List (List ℕ)
@@ -25,17 +25,17 @@ below n (suc g) = below n g + n g
 abbrev pub lower_count : List (List ℕ) → ℕ → ℕ
 lower_count pss = below (count pss)
 
--- What is known of a variable: the degrees of its indices, and, for each degree, how many tuples of it and of the variables behind it have this degree and begin with an index before the n-th.
+-- What is known of a variable: the degrees of its indices, and, for each degree, how many tuples of the variables behind it have this degree.
 pub record Column : Type 0 where
   pub sizes : List ℕ
-  pub before : List (List ℕ)
+  pub behind : List ℕ
 
 abbrev pub sizes_in : List Column → List (List ℕ)
 sizes_in cs = map (λ (c : Column). c.sizes) cs
 
 abbrev pub columns : ℕ → List (List ℕ) → List Column
 columns d [] = []
-columns d (ps ∷ pss) = record { sizes = ps; before = listed (λ g. sums (fits (count pss) g) 0 ps) 0 (1 + d) } ∷ columns d pss
+columns d (ps ∷ pss) = record { sizes = ps; behind = listed (count pss) 0 (1 + d) } ∷ columns d pss
 
 -- What is known of a context: its variables, and for each degree, and one more, how many tuples have a lower one.
 pub record Table : Type 0 where
@@ -58,9 +58,13 @@ up_to t g = slice_index_or t.starts (1 + g) 0
 abbrev pub standing : ℕ → ℕ → ℕ → Option (ℕ × ℕ)
 standing d g n = cond (nat_lt d g) None (cond (nat_lt n 65536) (Some (g, n)) None)
 
+-- how many tuples of degree g begin with an index before the n-th
+abbrev pub before : Column → ℕ → ℕ → ℕ
+before c g n = total (fits (λ r. slice_index_or c.behind r 0) g) (take n c.sizes)
+
 -- the same with the n-th index of a variable before the others
 abbrev pub led_by : ℕ → Column → ℕ → Option ℕ → Option (ℕ × ℕ) → Option (ℕ × ℕ)
-led_by d c n (Some p) (Some s) = standing d (p + s.0) (slice_index_or (slice_index_or c.before (p + s.0) []) n 0 + s.1)
+led_by d c n (Some p) (Some s) = standing d (p + s.0) (before c (p + s.0) n + s.1)
 led_by d c n None s = None
 led_by d c n (Some p) None = None
 

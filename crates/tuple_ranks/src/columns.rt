@@ -1,16 +1,17 @@
-// Tables of how many tuples are before others.
+// How many tuples stand behind each variable of a context.
 ghost use Rattle.std.specs.Prelude.{◌≡◌, ◌<◌, ◌≤◌, ◌+◌, ℕ, [], ◌∷◌, map, slice_index_or, IfOk, OnOk, IsErrOf};
 ghost use Rattle.raml_syntax.specs.Read.{ty_of};
 ghost use Rattle.base_poly.specs.Base.{total};
 ghost use Rattle.base_poly.specs.Indices.{tuples_up_to};
 ghost use Rattle.base_poly.specs.Plain.{degrees};
-ghost use Rattle.index_shift.specs.Tables.{fits, sums, listed};
+ghost use Rattle.index_shift.specs.Tables.{fits, listed};
 ghost use Rattle.tuple_ranks.specs.Columns.{count, columns};
-ghost use Rattle.tuple_ranks.specs.Read.{items_of, lists_of};
+ghost use Rattle.tuple_ranks.specs.Read.{lists_of};
 ghost use Rattle.tuple_ranks.specs.Spots.{IsLarge, AreLarge};
 
 use base_poly::{IndexFault, degrees};
 use raml_syntax::Ty;
+use smallvec::SmallVec;
 use std::alloc::{AllocError, Global};
 use std::marker::Model;
 use std::slice;
@@ -19,32 +20,26 @@ use std::slice;
 pub const MOST: u16 = 2000;
 
 /// Of a variable the degrees of its indices, component by component, and for each degree how many
-/// tuples of it and of the variables behind it have this degree and begin with an index before the
-/// n-th.
+/// tuples of the variables behind it have it.
 #[derive(Drop)]
 pub struct Column<'s> {
     pub sizes: &'s [u8],
-    pub before: Vec<Vec<u16>>,
+    pub behind: SmallVec<u16, 8>,
 }
 
 impl<'s> Model for Column<'s> {
-    ghost use Rattle.std.specs.Prelude.{map};
     ghost use Rattle.tuple_ranks.specs.Columns.{Column};
-    ghost use Rattle.tuple_ranks.specs.Read.{items_of};
 
     ghost Value = { Column };
 
-    ghost view = { λ c. record {
-      sizes = c.sizes.now;
-      before = map items_of c.before.items;
-    } };
+    ghost view = { λ c. record { sizes = c.sizes.now; behind = c.behind.items } };
 }
 
 /// The variables of a context, and for each degree how many tuples have it.
 #[derive(Drop)]
 pub struct Columns<'s> {
     pub columns: Vec<Column<'s>>,
-    pub counts: Vec<u16>,
+    pub counts: SmallVec<u16, 8>,
 }
 
 /// The columns of a context whose types' indices have these degrees, component by component.
@@ -75,17 +70,14 @@ fn with_first<'s>(
     ensures many { IsErrOf result IndexFault.TooMany → AreLarge (first.now ∷ lists_of rest.now) d }
 {
     let behind = columns_of(alloc, rest, d)?;
-    let rows = running(alloc, &behind.counts, first, d)?;
-    let before = rows.table;
+    let counts = totals(alloc, behind.counts.as_slice(), first, d)?;
+    let column = Column {
+        sizes: first,
+        behind: behind.counts,
+    };
     Ok(Columns {
-        columns: led(
-            Column {
-                sizes: first,
-                before,
-            },
-            behind.columns,
-        )?,
-        counts: rows.totals,
+        columns: led(column, behind.columns)?,
+        counts,
     })
 }
 
@@ -103,7 +95,7 @@ fn none<'s>(alloc: Global, d: u8) -> Result<Columns<'s>, AllocError>
     ensures columns { IfOk result (λ made. made.columns.items ≡ columns d []) }
     ensures counts { IfOk result (λ made. made.counts.items ≡ listed (count []) 0 (1 + d)) }
 {
-    let mut counts = Vec::with_capacity(alloc, usize::from(d) + 1)?;
+    let mut counts = SmallVec::new(alloc);
     for g in 0..u16::from(d) + 1 {
         counts.push(alone(g))?;
     }
@@ -129,52 +121,38 @@ pub fn sizes_of(alloc: Global, ty: &Ty, d: u8) -> Result<Vec<u8>, IndexFault>
     degrees(alloc, slice::from_ref(ty), d, usize::from(MOST))
 }
 
-// For each degree a row of sums, and its total.
-#[derive(Drop)]
-struct Rows {
-    table: Vec<Vec<u16>>,
-    totals: Vec<u16>,
-}
-
-// For each degree how many tuples begin before each of the indices, and how many there are, where
-// the numbers tell how many tuples behind have a degree.
-fn running(alloc: Global, numbers: &[u16], degrees: &[u8], d: u8) -> Result<Rows, IndexFault>
-    ensures table { IfOk result (λ found. map items_of found.table.items ≡ listed (λ g. sums (fits (λ r. slice_index_or numbers.now r 0) g) 0 degrees.now) 0 (1 + d)) }
-    ensures totals { IfOk result (λ found. found.totals.items ≡ listed (λ g. total (fits (λ r. slice_index_or numbers.now r 0) g) degrees.now) 0 (1 + d)) }
-    ensures many { IsErrOf result IndexFault.TooMany → (g : ℕ) × (g ≤ d) × (2000 < total (fits (λ r. slice_index_or numbers.now r 0) g) degrees.now) }
-{
-    let mut table = Vec::with_capacity(alloc, usize::from(d) + 1)?;
-    let mut totals = Vec::with_capacity(alloc, usize::from(d) + 1)?;
-    for g in 0..u16::from(d) + 1 {
-        let found = sums(alloc, numbers, g, degrees)?;
-        table.push(found.0)?;
-        totals.push(found.1)?;
-    }
-    Ok(Rows { table, totals })
-}
-
-// For each of the degrees the sum of what comes before it, and the sum of all.
-fn sums(
+// For each degree how many tuples begin with one of these indices, where the numbers tell how many
+// tuples behind have a degree.
+fn totals(
     alloc: Global,
     numbers: &[u16],
-    g: u16,
     degrees: &[u8],
-) -> Result<(Vec<u16>, u16), IndexFault>
-    ensures row { IfOk result (λ found. found.0.items ≡ sums (fits (λ r. slice_index_or numbers.now r 0) g) 0 degrees.now) }
-    ensures all { IfOk result (λ found. found.1 ≡ total (fits (λ r. slice_index_or numbers.now r 0) g) degrees.now) }
-    ensures many { IsErrOf result IndexFault.TooMany → 2000 < total (fits (λ r. slice_index_or numbers.now r 0) g) degrees.now }
+    d: u8,
+) -> Result<SmallVec<u16, 8>, IndexFault>
+    ensures all { IfOk result (λ found. found.items ≡ listed (λ g. total (fits (λ r. slice_index_or numbers.now r 0) g) degrees.now) 0 (1 + d)) }
+    ensures many { IsErrOf result IndexFault.TooMany → (g : ℕ) × (g ≤ d) × (2000 < total (fits (λ r. slice_index_or numbers.now r 0) g) degrees.now) }
 {
-    let mut row = Vec::with_capacity(alloc, degrees.len())?;
-    let mut sum = 0;
-    for p in degrees {
-        row.push(sum)?;
-        sum = more(sum, fitting(numbers, g, u16::from(*p)))?;
+    let mut found = SmallVec::new(alloc);
+    for g in 0..u16::from(d) + 1 {
+        found.push(total(numbers, g, degrees)?)?;
     }
-    Ok((row, sum))
+    Ok(found)
 }
 
-// The number for what is left of `g` behind `p`.
-fn fitting(numbers: &[u16], g: u16, p: u16) -> u16
+// How many of exactly the degree `g`.
+fn total(numbers: &[u16], g: u16, degrees: &[u8]) -> Result<u16, IndexFault>
+    ensures all { IfOk result (λ all. all ≡ total (fits (λ r. slice_index_or numbers.now r 0) g) degrees.now) }
+    ensures many { IsErrOf result IndexFault.TooMany → 2000 < total (fits (λ r. slice_index_or numbers.now r 0) g) degrees.now }
+{
+    let mut sum = 0;
+    for p in degrees {
+        sum = more(sum, fitting(numbers, g, u16::from(*p)))?;
+    }
+    Ok(sum)
+}
+
+/// The number for what is left of `g` behind `p`.
+pub fn fitting(numbers: &[u16], g: u16, p: u16) -> u16
     ensures { result ≡ fits (λ r. slice_index_or numbers.now r 0) g p }
 {
     if g < p {

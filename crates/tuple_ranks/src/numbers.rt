@@ -5,6 +5,7 @@ ghost use Rattle.tuple_ranks.specs.Numbers.{led, numbered, all_numbered, flat, f
 
 use crate::columns::Column;
 use crate::ranks::Ranks;
+use smallvec::SmallVec;
 use std::alloc::{AllocError, Global};
 use std::marker::Model;
 
@@ -30,20 +31,32 @@ impl Numbers {
     pub fn new(alloc: Global, ranks: &Ranks<'_>) -> Result<Numbers, AllocError>
         ensures { IfOk result (λ made. made ≡ table_rows ranks.now) }
     {
+        let count = ranks.up_to(ranks.degree);
+        let width = ranks.columns.len();
         Ok(Numbers {
-            count: ranks.up_to(ranks.degree),
-            width: ranks.columns.len(),
-            numbers: listed(alloc, &ranks.columns, ranks.degree)?,
+            count,
+            width,
+            numbers: listed(
+                alloc,
+                &ranks.columns,
+                ranks.degree,
+                count.saturating_mul(width),
+            )?,
         })
     }
 }
 
-// By degree, and then component by component.
-fn listed(alloc: Global, columns: &[Column<'_>], d: u8) -> Result<Vec<usize>, AllocError>
+// By degree, and then component by component, with room for so many.
+fn listed(
+    alloc: Global,
+    columns: &[Column<'_>],
+    d: u8,
+    room: usize,
+) -> Result<Vec<usize>, AllocError>
     ensures { IfOk result (λ found. found.items ≡ flat (all_numbered (sizes_in columns.now) (1 + d) 0)) }
 {
-    let mut found = Vec::new(alloc);
-    let mut before = Vec::new(alloc);
+    let mut found = Vec::with_capacity(alloc, room)?;
+    let mut before = SmallVec::new(alloc);
     for g in 0..u16::from(d) + 1 {
         append(&mut found, &mut before, columns, g)?;
     }
@@ -54,7 +67,7 @@ fn listed(alloc: Global, columns: &[Column<'_>], d: u8) -> Result<Vec<usize>, Al
 #[cycle(append)]
 fn append(
     found: &mut Vec<usize>,
-    before: &mut Vec<usize>,
+    before: &mut SmallVec<usize, 8>,
     columns: &[Column<'_>],
     g: u16,
 ) -> Result<(), AllocError>
@@ -62,7 +75,7 @@ fn append(
     ensures kept { OnOk result (before.new.items ≡ before.old.items) }
 {
     match columns {
-        [] => append_row(found, before, g),
+        [] => append_row(found, before.as_slice(), g),
         [column, columns @ ..] => append_led(found, before, column.sizes, columns, g),
     }
 }
@@ -82,7 +95,7 @@ fn append_row(found: &mut Vec<usize>, before: &[usize], g: u16) -> Result<(), Al
 #[cycle(append)]
 fn append_led(
     found: &mut Vec<usize>,
-    before: &mut Vec<usize>,
+    before: &mut SmallVec<usize, 8>,
     sizes: &[u8],
     columns: &[Column<'_>],
     g: u16,
@@ -100,7 +113,7 @@ fn append_led(
 #[cycle(append)]
 fn append_behind(
     found: &mut Vec<usize>,
-    before: &mut Vec<usize>,
+    before: &mut SmallVec<usize, 8>,
     number: usize,
     size: u16,
     columns: &[Column<'_>],

@@ -1,14 +1,16 @@
 // Positions of tuples from their numbers.
-ghost use Rattle.std.specs.Prelude.{◌≡◌, ◌<◌, ◌≤◌, ◌+◌, ℕ, [], map, Some, slice_get, slice_index_or, IfOk, OnOk, IsErrOf};
-ghost use Rattle.index_shift.specs.Tables.{listed};
+ghost use Rattle.std.specs.Prelude.{◌≡◌, ◌<◌, ◌≤◌, ◌+◌, ℕ, Some, min, slice_get, slice_index_or, IfOk, OnOk, IsErrOf};
+ghost use Rattle.base_poly.specs.Base.{total};
+ghost use Rattle.index_shift.specs.Tables.{fits, listed};
 ghost use Rattle.tuple_ranks.specs.Columns.{below, table_by, up_to, standing, led_by, stands, place, degree_at};
-ghost use Rattle.tuple_ranks.specs.Read.{items_of, lists_of};
+ghost use Rattle.tuple_ranks.specs.Read.{lists_of};
 ghost use Rattle.tuple_ranks.specs.Slots.{picked};
 ghost use Rattle.tuple_ranks.specs.Spots.{AreSmall, AreLarge};
 
-use crate::columns::{Column, columns_of, more, number_at};
+use crate::columns::{Column, columns_of, fitting, more, number_at};
 use crate::slots::Slot;
 use base_poly::IndexFault;
+use smallvec::SmallVec;
 use std::alloc::{AllocError, Global};
 use std::marker::Model;
 
@@ -18,7 +20,7 @@ pub struct Ranks<'s> {
     pub degree: u8,
     pub columns: Vec<Column<'s>>,
     /// For each degree, and one more, how many tuples have a lower one.
-    pub starts: Vec<u16>,
+    pub starts: SmallVec<u16, 8>,
 }
 
 impl<'s> Model for Ranks<'s> {
@@ -43,7 +45,7 @@ impl<'s> Ranks<'s> {
         ensures many { IsErrOf result IndexFault.TooMany → AreLarge (lists_of sizes.now) d }
     {
         let made = columns_of(alloc, sizes, d)?;
-        let starts = starts(alloc, &made.counts, d)?;
+        let starts = starts(alloc, made.counts.as_slice(), d)?;
         Ok(Ranks {
             degree: d,
             columns: made.columns,
@@ -55,7 +57,7 @@ impl<'s> Ranks<'s> {
     pub fn up_to(&self, degree: u8) -> usize
         ensures { result ≡ up_to self.now degree }
     {
-        usize::from(number_at(&self.starts, 1 + usize::from(degree)))
+        usize::from(number_at(self.starts.as_slice(), 1 + usize::from(degree)))
     }
 
     /// The same for each degree from 0 on.
@@ -76,7 +78,8 @@ impl<'s> Ranks<'s> {
     {
         match stands(self.degree, &self.columns, slots, numbers) {
             Some((degree, before)) => {
-                usize::from(number_at(&self.starts, usize::from(degree))) + usize::from(before)
+                usize::from(number_at(self.starts.as_slice(), usize::from(degree)))
+                    + usize::from(before)
             }
             None => self.up_to(self.degree),
         }
@@ -94,12 +97,12 @@ impl<'s> Ranks<'s> {
 }
 
 // For each degree, and one more, how many tuples have a lower one.
-fn starts(alloc: Global, counts: &[u16], d: u8) -> Result<Vec<u16>, IndexFault>
+fn starts(alloc: Global, counts: &[u16], d: u8) -> Result<SmallVec<u16, 8>, IndexFault>
     ensures starts { IfOk result (λ found. found.items ≡ listed (below (λ g. slice_index_or counts.now g 0)) 0 (2 + d)) }
     ensures few { OnOk result (below (λ g. slice_index_or counts.now g 0) (1 + d) ≤ 2000) }
     ensures many { IsErrOf result IndexFault.TooMany → (g : ℕ) × (g ≤ d) × (2000 < below (λ g. slice_index_or counts.now g 0) (1 + g)) }
 {
-    let mut found = Vec::with_capacity(alloc, usize::from(d) + 2)?;
+    let mut found = SmallVec::new(alloc);
     let mut low = 0;
     for g in 0..u16::from(d) + 1 {
         found.push(low)?;
@@ -135,25 +138,27 @@ fn led_by(d: u8, column: &Column<'_>, number: usize, behind: (u8, u16)) -> Optio
     match column.sizes.get(number) {
         Some(size) => {
             let degree = u16::from(*size) + u16::from(behind.0);
-            let before = before_at(&column.before, usize::from(degree), number);
-            standing(d, degree, u32::from(before) + u32::from(behind.1))
+            let before = before(column.behind.as_slice(), degree, &column.sizes[..number]);
+            standing(d, degree, u64::from(before) + u64::from(behind.1))
         }
         None => None,
     }
 }
 
-// The number in the row and the column, 0 past the end.
-fn before_at(table: &[Vec<u16>], row: usize, column: usize) -> u16
-    ensures { result ≡ slice_index_or (slice_index_or (map items_of table.now) row []) column 0 }
+// How many tuples of exactly the degree `g` begin with one of these indices, where the numbers tell
+// how many tuples behind have a degree. Where they are too many for a place, they may be more.
+fn before(numbers: &[u16], g: u16, degrees: &[u8]) -> u32
+    ensures { result ≡ min (total (fits (λ r. slice_index_or numbers.now r 0) g) degrees.now) 4294967295 }
 {
-    match table.get(row) {
-        Some(numbers) => number_at(numbers, column),
-        None => 0,
+    let mut sum: u32 = 0;
+    for p in degrees {
+        sum = sum.saturating_add(u32::from(fitting(numbers, g, u16::from(*p))));
     }
+    sum
 }
 
 // A degree and a number that are not too great.
-fn standing(d: u8, degree: u16, before: u32) -> Option<(u8, u16)>
+fn standing(d: u8, degree: u16, before: u64) -> Option<(u8, u16)>
     ensures { result ≡ standing d degree before }
 {
     if u16::from(d) < degree {

@@ -14,6 +14,7 @@ use crate::columns::{MOST, sizes_of};
 use base_poly::{IndexFault, Tuple, tuples_up_to};
 use indexmap::IndexSet;
 use raml_syntax::Ty;
+use smallvec::SmallVec;
 use std::alloc::{AllocError, Global};
 use std::marker::Model;
 use std::slice;
@@ -63,7 +64,7 @@ fn at(numbers: &[usize], place: usize) -> usize
 pub fn plain_slots(alloc: Global, width: usize) -> Result<Vec<Slot>, AllocError>
     ensures { IfOk result (λ slots. slots.items ≡ plain_slots 0 width) }
 {
-    let mut slots = Vec::new(alloc);
+    let mut slots = Vec::with_capacity(alloc, width)?;
     for from in 0..width {
         slots.push(Slot { from, table: None })?;
     }
@@ -112,10 +113,10 @@ pub fn half_sizes<'s>(
     marks: &[bool],
     sizes: &'s [Vec<u8>],
     wanted: bool,
-) -> Result<Vec<&'s [u8]>, AllocError>
+) -> Result<SmallVec<&'s [u8], 8>, AllocError>
     ensures { IfOk result (λ found. lists_of found.items ≡ half_items wanted marks.now 0 (map items_of sizes.now)) }
 {
-    let mut found = Vec::with_capacity(alloc, sizes.len())?;
+    let mut found = SmallVec::with_capacity(alloc, sizes.len())?;
     for (at, row) in sizes.iter().enumerate() {
         if chosen(wanted, marks, at) {
             found.push(&row[..])?;

@@ -16,6 +16,7 @@ use crate::ranks::Ranks;
 use crate::slots::{Slot, half_sizes, half_slots, permuted_slots, plain_slots};
 use base_poly::IndexFault;
 use raml_syntax::Ty;
+use smallvec::SmallVec;
 use std::alloc::{AllocError, Global};
 use std::marker::Model;
 
@@ -98,10 +99,38 @@ pub fn cut_spots(
     ensures many { IsErrOf result IndexFault.TooMany → IsLarge (context_of types.now) d
         ⊎ IsLarge (other_items marks.now (context_of types.now) ++ ty_of bound.now ∷ []) d }
 {
+    if d == 0 {
+        return Ok(least_cut(alloc)?);
+    }
     let sizes = all_sizes(alloc, types, d)?;
     let last = sizes_of(alloc, bound, d)?;
     let contexts = Contexts::new(alloc, marks, &sizes, &last, d)?;
     Ok(contexts.cut(alloc)?)
+}
+
+// At degree 0 each context has one tuple.
+fn least_cut(alloc: Global) -> Result<Cut, AllocError>
+    ensures halves { IfOk result (λ cut. cut.halves.items ≡ (0, 0) ∷ []) }
+    ensures joined { IfOk result (λ cut. cut.joined.items ≡ (0, 0 ∷ []) ∷ []) }
+    ensures whole { IfOk result (λ cut. cut.whole.items ≡ 1 ∷ []) }
+    ensures marked { IfOk result (λ cut. cut.marked.items ≡ 1 ∷ []) }
+    ensures others { IfOk result (λ cut. cut.others.items ≡ 1 ∷ []) }
+    ensures bound { IfOk result (λ cut. cut.bound.items ≡ 1 ∷ []) }
+    ensures rest { IfOk result (λ cut. cut.rest.items ≡ 1 ∷ []) }
+{
+    let first = Joined {
+        degree: 0,
+        spots: Vec::from_array(alloc, [0])?,
+    };
+    Ok(Cut {
+        halves: Vec::from_array(alloc, [(0, 0)])?,
+        joined: Vec::from_array(alloc, [first])?,
+        whole: Vec::from_array(alloc, [1])?,
+        marked: Vec::from_array(alloc, [1])?,
+        others: Vec::from_array(alloc, [1])?,
+        bound: Vec::from_array(alloc, [1])?,
+        rest: Vec::from_array(alloc, [1])?,
+    })
 }
 
 /// A tuple's degree, and where the tuples of another context stand behind it.
@@ -161,10 +190,10 @@ fn all_sizes(alloc: Global, types: &[Ty], d: u8) -> Result<Vec<Vec<u8>>, IndexFa
 }
 
 // They are lent.
-fn lent<'s>(alloc: Global, sizes: &'s [Vec<u8>]) -> Result<Vec<&'s [u8]>, AllocError>
+fn lent<'s>(alloc: Global, sizes: &'s [Vec<u8>]) -> Result<SmallVec<&'s [u8], 8>, AllocError>
     ensures { IfOk result (λ found. lists_of found.items ≡ map items_of sizes.now) }
 {
-    let mut found = Vec::with_capacity(alloc, sizes.len())?;
+    let mut found = SmallVec::with_capacity(alloc, sizes.len())?;
     for row in sizes {
         found.push(&row[..])?;
     }
@@ -178,7 +207,7 @@ fn ranks_of<'s>(alloc: Global, sizes: &'s [Vec<u8>], d: u8) -> Result<Ranks<'s>,
     ensures many { IsErrOf result IndexFault.TooMany → AreLarge (map items_of sizes.now) d }
 {
     let sizes = lent(alloc, sizes)?;
-    Ranks::new(alloc, &sizes, d)
+    Ranks::new(alloc, sizes.as_slice(), d)
 }
 
 // Those of both contexts together.
@@ -194,8 +223,8 @@ fn ranks_of_both<'s>(
 {
     let mut sizes = lent(alloc, first)?;
     let others = lent(alloc, second)?;
-    sizes.extend_from_slice(&others)?;
-    Ranks::new(alloc, &sizes, d)
+    sizes.extend_from_slice(others.as_slice())?;
+    Ranks::new(alloc, sizes.as_slice(), d)
 }
 
 // A context, to find the positions of its tuples, and the numbers of all of them.
@@ -227,7 +256,7 @@ fn tuples_of<'s>(alloc: Global, sizes: &'s [Vec<u8>], d: u8) -> Result<Tuples<'s
     ensures many { IsErrOf result IndexFault.TooMany → AreLarge (map items_of sizes.now) d }
 {
     let sizes = lent(alloc, sizes)?;
-    Tuples::new(alloc, &sizes, d)
+    Tuples::new(alloc, sizes.as_slice(), d)
 }
 
 // Some variables of a context, to find the positions of their tuples, and which these are.
@@ -252,7 +281,7 @@ impl<'s> Half<'s> {
         ensures many { IsErrOf result IndexFault.TooMany → AreLarge (half_items wanted marks.now 0 (map items_of sizes.now)) d }
     {
         let kept = half_sizes(alloc, marks, sizes, wanted)?;
-        let ranks = Ranks::new(alloc, &kept, d)?;
+        let ranks = Ranks::new(alloc, kept.as_slice(), d)?;
         let slots = half_slots(alloc, marks, sizes.len(), wanted)?;
         Ok(Half { ranks, slots })
     }
@@ -347,7 +376,7 @@ fn rest_of<'s>(
     ensures many { IsErrOf result IndexFault.TooMany → AreLarge (sizes_in others.now.columns ++ last.now ∷ []) d }
 {
     let sizes = with_last(alloc, &others.columns, last)?;
-    Ranks::new(alloc, &sizes, d)
+    Ranks::new(alloc, sizes.as_slice(), d)
 }
 
 // Their degrees.
@@ -355,10 +384,10 @@ fn with_last<'s>(
     alloc: Global,
     columns: &[Column<'s>],
     last: &'s [u8],
-) -> Result<Vec<&'s [u8]>, AllocError>
+) -> Result<SmallVec<&'s [u8], 8>, AllocError>
     ensures { IfOk result (λ found. lists_of found.items ≡ sizes_in columns.now ++ last.now ∷ []) }
 {
-    let mut found = Vec::new(alloc);
+    let mut found = SmallVec::new(alloc);
     for column in columns {
         found.push(column.sizes)?;
     }
@@ -420,11 +449,21 @@ fn joins(
     let own = plain_slots(alloc, first.columns.len())?;
     let slots = plain_slots(alloc, whole.columns.len())?;
     let mut found = Vec::with_capacity(alloc, rows.count)?;
+    let mut numbers = Vec::with_capacity(alloc, whole.columns.len())?;
     let mut rest = &rows.numbers[..];
     for _ in 0..rows.count {
         let (row, behind) = split(rest, rows.width);
         let degree = first.degree_at(&own, row);
-        let spots = spots_behind(alloc, row, degree, second, last, whole, &slots)?;
+        let spots = spots_behind(
+            alloc,
+            &mut numbers,
+            row,
+            degree,
+            second,
+            last,
+            whole,
+            &slots,
+        )?;
         found.push(Joined { degree, spots })?;
         rest = behind;
     }
@@ -435,6 +474,7 @@ fn joins(
 // degree is taken.
 fn spots_behind(
     alloc: Global,
+    numbers: &mut Vec<usize>,
     row: &[usize],
     degree: u8,
     second: &Ranks<'_>,
@@ -447,12 +487,11 @@ fn spots_behind(
     let left = second.degree.saturating_sub(degree);
     let count = second.up_to(left).min(last.count);
     let mut found = Vec::with_capacity(alloc, count)?;
-    let mut numbers = Vec::new(alloc);
     let mut rest = &last.numbers[..];
     for _ in 0..count {
         let (behind, later) = split(rest, last.width);
-        join(&mut numbers, row, behind)?;
-        found.push(whole.place(slots, &numbers))?;
+        join(numbers, row, behind)?;
+        found.push(whole.place(slots, numbers))?;
         rest = later;
     }
     Ok(found)

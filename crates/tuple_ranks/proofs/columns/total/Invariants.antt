@@ -1,10 +1,7 @@
-use Rattle.std.proofs.Common.{◌≡◌, ◌+◌, ◌++◌, drop, slice_index_or}
+use Rattle.std.proofs.Common.{◌≡◌, ◌+◌, drop, slice_index_or}
 use Rattle.base_poly.specs.Base.{total}
-use Rattle.index_shift.specs.Tables.{fits, sums}
-use Rattle.tuple_ranks.proofs.columns.sums.Given as goal
+use Rattle.index_shift.specs.Tables.{fits}
+use Rattle.tuple_ranks.proofs.columns.total.Given as goal
 
 abbrev pub invariant-loop-p : goal.invariant-loop-p
-invariant-loop-p l = record {
-  row : l.row.items ++ sums (fits (λ r. slice_index_or l.numbers r 0) l.g) l.sum (drop l.p-index l.degrees) ≡ sums (fits (λ r. slice_index_or l.numbers r 0) l.g) 0 l.degrees;
-  all : l.sum + total (fits (λ r. slice_index_or l.numbers r 0) l.g) (drop l.p-index l.degrees) ≡ total (fits (λ r. slice_index_or l.numbers r 0) l.g) l.degrees;
-}
+invariant-loop-p l = l.sum + total (fits (λ r. slice_index_or l.numbers r 0) l.g) (drop l.p-index l.degrees) ≡ total (fits (λ r. slice_index_or l.numbers r 0) l.g) l.degrees

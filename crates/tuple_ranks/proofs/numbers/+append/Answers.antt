@@ -8,7 +8,7 @@ pub append_behind-returns-clause-all : goal.append_behind-returns-clause-all
 append_behind-returns-clause-all t c =
     c.in_ok-append.ensures.all
     ∙ ap (λ l. c.args.found.now.items ++ l)
-    (led_behind c.args.before.now.items _ c.args.number c.args.g c.args.size (numbered (sizes_in c.args.columns.now) (c.args.g - c.args.size)) (omega (arith, c.if-g-size.false)) c.in_ok-push.ensures.items)
+    (led_behind c.args.before.now.items _ c.args.number c.args.g c.args.size (numbered (sizes_in c.args.columns.now) (c.args.g - c.args.size)) (omega (arith, c.if-g-size.false)) c.in_ok-push.ensures.ok)
 
 pub append_led-loop-number-preserved : goal.append_led-loop-number-preserved
 append_led-loop-number-preserved t c =

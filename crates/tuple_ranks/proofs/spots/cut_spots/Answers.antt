@@ -2,14 +2,15 @@ use Rattle.std.proofs.Common.{◌≡◌, ◌∙◌, Err, inr, true, false, ◌�
 use Rattle.std.proofs.lemmas.List.{length-map}
 use Rattle.raml_syntax.specs.Read.{ty_of}
 use Rattle.base_poly.specs.Read.{context_of}
-use Rattle.index_shift.specs.Contexts.{other_items}
+use Rattle.index_shift.specs.Contexts.{marked_items, other_items}
 use Rattle.index_shift.proofs.Shorter.{back_few}
 use Rattle.tuple_ranks.specs.Columns.{table_by, place}
 use Rattle.tuple_ranks.specs.Read.{items_of}
 use Rattle.tuple_ranks.specs.Slots.{picked, half_items, behind_at}
-use Rattle.tuple_ranks.specs.Spots.{joined_spots, all_counts}
+use Rattle.tuple_ranks.specs.Spots.{half_spots, joined_spots, all_counts}
 use Rattle.tuple_ranks.proofs.Made.{of_fault}
 use Rattle.tuple_ranks.proofs.Behind.{joins_are}
+use Rattle.tuple_ranks.proofs.Least.{least_halves, least_joined, least_counts}
 use Rattle.tuple_ranks.proofs.Picked.{halves_are}
 use Rattle.tuple_ranks.proofs.Rows.{half_sized, both_sized, rows_of, rows_listed, others_are, marked_are, counts_are}
 use Rattle.tuple_ranks.proofs.spots.cut_spots.Goals as goal
@@ -24,6 +25,34 @@ returns-in_err-contexts-clause-many c = λ e.
     let sizes = ap (map items_of) c.deref.ensures.value ∙ c.in_ok-sizes.ensures.all in
     let last = c.deref-2.ensures.value ∙ c.in_ok-last.ensures.all in
     c.in_err-contexts.ensures.many (ap Err (of_fault _ _ c.from_residual-in_err-contexts.ensures.1 e)) (context_of c.args.types.now) (ty_of c.args.bound.now) (sym sizes) (ap (λ ps. ps ∷ []) (sym last))
+
+pub returns-then-d-eq0-clause-halves : goal.returns-then-d-eq0-clause-halves
+returns-then-d-eq0-clause-halves c =
+    c.in_ok-least_cut.ensures.halves ∙ least_halves c.args.marks.now (context_of c.args.types.now) ∙ ap (half_spots c.args.marks.now (context_of c.args.types.now)) (sym c.if-d-eq0.true)
+
+pub returns-then-d-eq0-clause-joined : goal.returns-then-d-eq0-clause-joined
+returns-then-d-eq0-clause-joined c =
+    c.in_ok-least_cut.ensures.joined ∙ least_joined (other_items c.args.marks.now (context_of c.args.types.now)) (ty_of c.args.bound.now ∷ []) ∙ ap (joined_spots (other_items c.args.marks.now (context_of c.args.types.now)) (ty_of c.args.bound.now ∷ [])) (sym c.if-d-eq0.true)
+
+pub returns-then-d-eq0-clause-whole : goal.returns-then-d-eq0-clause-whole
+returns-then-d-eq0-clause-whole c =
+    c.in_ok-least_cut.ensures.whole ∙ least_counts (context_of c.args.types.now) ∙ ap (all_counts (context_of c.args.types.now)) (sym c.if-d-eq0.true)
+
+pub returns-then-d-eq0-clause-marked : goal.returns-then-d-eq0-clause-marked
+returns-then-d-eq0-clause-marked c =
+    c.in_ok-least_cut.ensures.marked ∙ least_counts (marked_items c.args.marks.now (context_of c.args.types.now)) ∙ ap (all_counts (marked_items c.args.marks.now (context_of c.args.types.now))) (sym c.if-d-eq0.true)
+
+pub returns-then-d-eq0-clause-others : goal.returns-then-d-eq0-clause-others
+returns-then-d-eq0-clause-others c =
+    c.in_ok-least_cut.ensures.others ∙ least_counts (other_items c.args.marks.now (context_of c.args.types.now)) ∙ ap (all_counts (other_items c.args.marks.now (context_of c.args.types.now))) (sym c.if-d-eq0.true)
+
+pub returns-then-d-eq0-clause-bound : goal.returns-then-d-eq0-clause-bound
+returns-then-d-eq0-clause-bound c =
+    c.in_ok-least_cut.ensures.bound ∙ least_counts (ty_of c.args.bound.now ∷ []) ∙ ap (all_counts (ty_of c.args.bound.now ∷ [])) (sym c.if-d-eq0.true)
+
+pub returns-then-d-eq0-clause-rest : goal.returns-then-d-eq0-clause-rest
+returns-then-d-eq0-clause-rest c =
+    c.in_ok-least_cut.ensures.rest ∙ least_counts ((other_items c.args.marks.now (context_of c.args.types.now)) ++ ty_of c.args.bound.now ∷ []) ∙ ap (all_counts ((other_items c.args.marks.now (context_of c.args.types.now)) ++ ty_of c.args.bound.now ∷ [])) (sym c.if-d-eq0.true)
 
 pub returns-clause-halves : goal.returns-clause-halves
 returns-clause-halves c =

@@ -4,4 +4,4 @@ use Rattle.tuple_ranks.specs.Spots.{AreLarge}
 use Rattle.tuple_ranks.proofs.spots.ranks_of.Goals as goal
 
 pub returns-clause-many : goal.returns-clause-many
-returns-clause-many c = λ e. subst (λ pss. AreLarge pss c.args.d) (ap lists_of c.deref.ensures.value ∙ c.in_ok-sizes.ensures) (c.new.ensures.many e)
+returns-clause-many c = λ e. subst (λ pss. AreLarge pss c.args.d) (ap lists_of c.as_slice.ensures ∙ c.in_ok-sizes.ensures) (c.new.ensures.many e)
