@@ -59,3 +59,14 @@ pub first_and_rest : (types : List Ty) (first : Ty) (d : ℕ) → 1 ≤ length t
     tuples_led (tuples_up_to (context_of (take (length types - 1) (drop 1 types)))) d (indices_up_to (ty_of first) d) ≡ tuples_up_to (context_of types) d
 first_and_rest [] first d h is = absurd (omega (arith, h))
 first_and_rest (A ∷ types) first d h is = λ i. tuples_led (tuples_up_to (context_of (whole types (suc (length types) - 1) (omega arith) i))) d (indices_up_to (ty_of (is i)) d)
+
+-- with one type its tuples are its indices
+pub only_type : (types : List Ty) (first : Ty) (d : ℕ) → 1 ≤ length types → length types < 2 → first ≡ slice_index_or types 0 first →
+    map (λ i. i ∷ []) (indices_up_to (ty_of first) d) ≡ tuples_up_to (context_of types) d
+only_type [] first d h g is = absurd (omega (arith, h))
+only_type (A ∷ []) first d h g is = of (indices_up_to (ty_of first) d) ∙ ap (λ A. tuples_up_to (ty_of A ∷ []) d) is
+  where
+    of : (is : List Plain) → map (λ i. i ∷ []) is ≡ tuples_led (tuples_up_to []) d is
+    of [] = refl
+    of (i ∷ is) = ap (λ l. (i ∷ []) ∷ l) (of is)
+only_type (A ∷ B ∷ types) first d h g is = absurd (omega (arith, g))

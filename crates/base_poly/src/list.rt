@@ -64,6 +64,39 @@ pub fn tuples_up_to(
     ensures many { IsErrOf result IndexFault.TooMany → most < length (tuples_up_to (context_of types.now) d) }
     ensures few { IfOk result (λ found. vec_len found ≤ most) }
 {
+    match types {
+        [ty] => singles(alloc, ty, d, most),
+        _ => of_types(alloc, types, d, most),
+    }
+}
+
+// The indices of the type, each a tuple of its own.
+fn singles(alloc: Global, ty: &Ty, d: u32, most: usize) -> Result<Vec<Tuple>, IndexFault>
+    ensures all { IfOk result (λ found. found.items ≡ map (λ i. i ∷ []) (indices_up_to (ty_of ty.now) d)) }
+    ensures many { IsErrOf result IndexFault.TooMany → most < length (indices_up_to (ty_of ty.now) d) }
+    ensures few { IfOk result (λ found. vec_len found ≤ most) }
+{
+    let indices = indices_up_to(alloc, ty, d, most)?;
+    Ok(each_alone(alloc, indices)?)
+}
+
+fn each_alone(alloc: Global, indices: Vec<Index>) -> Result<Vec<Tuple>, AllocError>
+    ensures all { IfOk result (λ found. found.items ≡ map (λ i. i ∷ []) (plains_of indices.items)) }
+    ensures len { IfOk result (λ found. vec_len found ≡ vec_len indices) }
+{
+    let mut found = Vec::with_capacity(alloc, indices.len())?;
+    for index in indices {
+        found.push(Tuple::new(Vec::from_array(alloc, [index])?))?;
+    }
+    Ok(found)
+}
+
+// All tuples of any number of types.
+fn of_types(alloc: Global, types: &[Ty], d: u32, most: usize) -> Result<Vec<Tuple>, IndexFault>
+    ensures all { IfOk result (λ found. found.items ≡ tuples_up_to (context_of types.now) d) }
+    ensures many { IsErrOf result IndexFault.TooMany → most < length (tuples_up_to (context_of types.now) d) }
+    ensures few { IfOk result (λ found. vec_len found ≤ most) }
+{
     let mut found = Vec::new(alloc);
     append_tuples(alloc, &mut found, &mut Vec::new(alloc), types, d, most)?;
     Ok(found)
