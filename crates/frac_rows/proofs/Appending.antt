@@ -1,39 +1,17 @@
 -- A fraction after the others.
-use Rattle.std.proofs.Common.{◌≡◌, ◌≢◌, refl, sym, ap, subst, ◌∙◌, ℕ, suc, ◌<◌, ◌≤◌, length, List, [], ◌∷◌, ◌++◌, arith, pos, Bool, true, false, ◌==◌, if◌then◌else◌, Result, Ok, Err, OnOk}
+use Rattle.std.proofs.Common.{◌≡◌, ◌≢◌, refl, sym, ap, subst, ◌∙◌, ℕ, suc, ◌<◌, ◌≤◌, [], ◌∷◌, ◌++◌, arith, pos, Bool, true, false, ◌==◌, if◌then◌else◌, Result, Ok, Err, OnOk}
 use Rattle.std.specs.declared.alloc.AllocError.{AllocError}
-use Rattle.std.specs.List.{zip}
 use Rattle.std.specs.Ordering.{int_eq}
 use Rattle.std.proofs.lemmas.Bool.Decides.{nat_tests}
-use Rattle.std.proofs.lemmas.List.{length-append}
 use Rattle.frac128.specs.declared.Frac.{Frac}
 use Rattle.frac128.specs.Nought.{nought}
-use Rattle.frac_rows.specs.Entries.{Entries, at, columns_of, numbers_of, SparseFrom, IsSparse, IsRow, EndsBefore, Adds}
+use Rattle.frac_rows.specs.Entries.{Entries, at, SparseFrom, IsSparse, EndsBefore, Adds}
 use Rattle.frac_rows.specs.Merging.{put}
-use Rattle.frac_rows.proofs.Pairs.{zip_append, zip_parts, as_many}
 use Rattle.frac_rows.proofs.Pointwise.{over_one}
 
-append_sparse : (b c : ℕ) (x : Frac) (es : Entries) → SparseFrom b es → EndsBefore c es → b ≤ c → x.num ≢ pos 0 → SparseFrom b (es ++ (c, x) ∷ [])
+pub append_sparse : (b c : ℕ) (x : Frac) (es : Entries) → SparseFrom b es → EndsBefore c es → b ≤ c → x.num ≢ pos 0 → SparseFrom b (es ++ (c, x) ∷ [])
 append_sparse b c x [] s e l n = (l, n, tt)
 append_sparse b c x (d ∷ es) s e l n = (s.0, s.1, append_sparse (suc d.0) c x es s.2 e.1 (let h = e.0 in omega arith) n)
-
--- the same, in columns and numbers
-pub put_row : (c : ℕ) (x : Frac) (ks : List ℕ) (xs : List Frac) → IsRow ks xs → EndsBefore c (zip ks xs) → x.num ≢ pos 0 → IsRow (ks ++ c ∷ []) (xs ++ x ∷ [])
-put_row c x ks xs row e n = record {
-  sparse = rw (zip_append ks (c ∷ []) xs (x ∷ []) row.as_long) (append_sparse 0 c x (zip ks xs) row.sparse e (omega arith) n);
-  as_long = let l = row.as_long in simp length-append (omega arith);
-}
-
-pub put_view : (c : ℕ) (x : Frac) (ks : List ℕ) (xs : List Frac) → length ks ≡ length xs → x.num ≢ pos 0 → zip (ks ++ c ∷ []) (xs ++ x ∷ []) ≡ zip ks xs ++ put c x []
-put_view c x ks xs l n = let t : int_eq x.num (pos 0) ≡ false = grind (arith, nat_tests) in rw t (zip_append ks (c ∷ []) xs (x ∷ []) l)
-
-pub put_all_view : (ks : List ℕ) (xs : List Frac) (es : Entries) → length ks ≡ length xs → zip (ks ++ columns_of es) (xs ++ numbers_of es) ≡ zip ks xs ++ es
-put_all_view ks xs es l = zip_append ks (columns_of es) xs (numbers_of es) l ∙ ap (λ (ds : Entries). zip ks xs ++ ds) (zip_parts es)
-
-pub put_all_row : (ks : List ℕ) (xs : List Frac) (es : Entries) → IsRow ks xs → IsSparse (zip ks xs ++ es) → IsRow (ks ++ columns_of es) (xs ++ numbers_of es)
-put_all_row ks xs es row s = record {
-  sparse = rw (put_all_view ks xs es row.as_long) s;
-  as_long = let l = row.as_long in let m = as_many es in simp length-append (omega arith);
-}
 
 none_from : (c k : ℕ) (es : Entries) → EndsBefore c es → c ≤ k → at k es ≡ nought
 none_from c k [] e h = refl

@@ -1,6 +1,6 @@
 pub mod Differing
 pub mod Pointwise
-mod Pairs
+mod Fronts
 mod Finding
 mod Appending
 mod Walking

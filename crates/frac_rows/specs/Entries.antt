@@ -1,6 +1,5 @@
 -- Rows of fractions, and fractions less a product.
-use Rattle.std.specs.Prelude.{◌≡◌, ◌≢◌, ℕ, suc, ◌≤◌, ◌<◌, List, [], ◌∷◌, length, map, Option, Some, None, pos, ◌⊎◌, if◌then◌else◌, ◌==◌}
-use Rattle.std.specs.List.{zip}
+use Rattle.std.specs.Prelude.{◌≡◌, ◌≢◌, ℕ, suc, ◌≤◌, ◌<◌, List, [], ◌∷◌, map, slice_index_or, Option, Some, None, pos, ◌⊎◌, if◌then◌else◌, ◌==◌}
 use Rattle.raml_num.specs.Divisors.{IsLcm}
 use Rattle.frac128.specs.declared.Frac.{Frac}
 use Rattle.frac128.specs.Nought.{nought}
@@ -18,12 +17,9 @@ abbrev pub at : ℕ → Entries → Frac
 at c [] = nought
 at c ((k, x) ∷ es) = if k == c then x else at c es
 
--- the columns of a row's fractions, and the fractions
+-- the columns of a row's fractions
 abbrev pub columns_of : Entries → List ℕ
 columns_of es = map (λ e. e.0) es
-
-abbrev pub numbers_of : Entries → List Frac
-numbers_of es = map (λ e. e.1) es
 
 -- the columns ascend from b on, and no fraction is 0
 abbrev pub SparseFrom : ℕ → Entries → Type 0
@@ -33,10 +29,9 @@ SparseFrom b ((k, x) ∷ es) = (b ≤ k) × (numerator x ≢ pos 0) × SparseFro
 abbrev pub IsSparse : Entries → Type 0
 IsSparse es = SparseFrom 0 es
 
--- a row's columns, and its numbers
-pub record IsRow (columns : List ℕ) (numbers : List Frac) : Type 0 where
-  pub sparse : IsSparse (zip columns numbers)
-  pub as_long : length columns ≡ length numbers
+-- the entry at a place, of which there are as many as the row has fractions that are not 0
+abbrev pub entry_at : Entries → ℕ → ℕ × Frac
+entry_at es i = slice_index_or es i (0, nought)
 
 -- the first column from `from` on at which the fraction is not 0, or None where it is 0 at all of these
 abbrev pub IsNextColumn : ℕ → Entries → Option ℕ → Type 0

@@ -1,9 +1,8 @@
 //! Fractions, one by one.
 
-ghost use Rattle.std.specs.Prelude.{IsTrue, ◌≡◌, ◌≢◌, ◌<◌, ◌^◌, pos, unsigned_abs, length, slice_index_or, MatchOption, OnOk, IfErr};
+ghost use Rattle.std.specs.Prelude.{IsTrue, ◌≡◌, ◌≢◌, ◌<◌, ◌^◌, pos, unsigned_abs, MatchOption, OnOk, IfErr};
 ghost use Rattle.frac128.specs.Values.{numerator, denominator};
-ghost use Rattle.frac128.specs.Nought.{nought};
-ghost use Rattle.frac_rows.specs.Entries.{IsLess, LessLeaves, QuotientLeaves};
+ghost use Rattle.frac_rows.specs.Entries.{at, IsSparse, IsLess, LessLeaves, QuotientLeaves};
 ghost use Rattle.frac_rows.specs.Dividing.{AreQuotients};
 
 use frac128::Frac;
@@ -48,17 +47,18 @@ pub(crate) fn is_one(x: &Frac) -> bool
     x.num() == 1 && x.den() == 1
 }
 
-/// Divides each number by `by`, or gives a place at which the quotient leaves the range.
-pub(crate) fn divide(numbers: &mut [Frac], by: &Frac) -> Result<(), usize>
-    requires { numerator by.now ≢ pos 0 }
-    ensures divided { OnOk result (AreQuotients by.now numbers.old numbers.new) }
-    ensures in_range { IfErr result (λ place. place < length numbers.old) }
-    ensures leaves { IfErr result (λ place. QuotientLeaves (slice_index_or numbers.old place nought) by.now) }
+/// Divides each number by `by`, or gives a column at which the quotient leaves the range.
+pub(crate) fn divide(entries: &mut [(u32, Frac)], by: &Frac) -> Result<(), u32>
+    requires divisor { numerator by.now ≢ pos 0 }
+    requires sparse { IsSparse entries.old }
+    ensures divided { OnOk result (AreQuotients by.now entries.old entries.new) }
+    ensures leaves { IfErr result (λ column. QuotientLeaves (at column entries.old) by.now) }
 {
-    for place in 0..numbers.len() {
-        match numbers[place].div(by) {
-            Some(quotient) => numbers[place] = quotient,
-            None => return Err(place),
+    for place in 0..entries.len() {
+        let (column, number) = entries[place];
+        match number.div(by) {
+            Some(quotient) => entries[place] = (column, quotient),
+            None => return Err(column),
         }
     }
     Ok(())

@@ -1,15 +1,14 @@
 //! A row.
 
 ghost use Rattle.std.specs.Prelude.{◌≡◌, ◌≢◌, ◌<◌, ◌++◌, [], ℕ, pos, IfOk, IfErr, OnOk, OnErr};
-ghost use Rattle.std.specs.List.{zip};
 ghost use Rattle.frac128.specs.Values.{numerator, denominator, IsQuotient};
 ghost use Rattle.frac128.specs.Nought.{nought};
-ghost use Rattle.frac_rows.specs.Entries.{Entries, at, columns_of, numbers_of, IsNextColumn, IsSparse, IsRow, EndsBefore, Adds, IsLess, LessLeaves, QuotientLeaves};
+ghost use Rattle.frac_rows.specs.Entries.{Entries, at, IsNextColumn, IsSparse, EndsBefore, Adds, IsLess, LessLeaves, QuotientLeaves};
 ghost use Rattle.frac_rows.specs.Merging.{put, Merges, MergeLeaves};
 
 use crate::fault::RowFault;
 use crate::numbers::{divide, is_one, less};
-use crate::rest::{Rest, place_of};
+use crate::rest::Rest;
 use frac128::Frac;
 use std::alloc::{AllocError, Global};
 use std::marker::Model;
@@ -21,20 +20,18 @@ const FEW: usize = 3;
 /// Up to so many columns are looked through one by one, and more are searched.
 const SHORT: usize = 8;
 
-/// A row of fractions. It keeps those that are not 0, in order of column: the columns in one vector, and
-/// the numbers in another.
+/// A row of fractions. It keeps those that are not 0, each behind its column, in order of column.
 #[derive(Debug, Drop)]
 pub struct FracRow {
-    columns: Vec<u32>,
-    numbers: Vec<Frac>,
+    entries: Vec<(u32, Frac)>,
 }
 
 impl Model for FracRow {
     ghost Value = { Entries };
 
-    ghost view = { λ r. zip r.columns.items r.numbers.items };
+    ghost view = { λ r. r.entries.items };
 
-    ghost invariant = { λ r. IsRow r.columns.items r.numbers.items };
+    ghost invariant = { λ r. IsSparse r.entries.items };
 }
 
 impl FracRow {
@@ -43,8 +40,7 @@ impl FracRow {
         ensures { result ≡ [] }
     {
         FracRow {
-            columns: Vec::new(alloc),
-            numbers: Vec::new(alloc),
+            entries: Vec::new(alloc),
         }
     }
 
@@ -53,24 +49,16 @@ impl FracRow {
         ensures { IfOk result (λ row. row ≡ []) }
     {
         Ok(FracRow {
-            columns: Vec::with_capacity(alloc, capacity)?,
-            numbers: Vec::with_capacity(alloc, capacity)?,
+            entries: Vec::with_capacity(alloc, capacity)?,
         })
     }
 
-    /// The columns at which the fraction is not 0.
-    pub fn columns(&self) -> &[u32]
-        ensures all { result.now ≡ columns_of self.now }
+    /// The fractions that are not 0, each behind its column, in order of column.
+    pub fn entries(&self) -> &[(u32, Frac)]
+        ensures all { result.now ≡ self.now }
         ensures sparse { IsSparse self.now }
     {
-        &self.columns
-    }
-
-    /// The fractions that are not 0, in order of column.
-    pub fn numbers(&self) -> &[Frac]
-        ensures all { result.now ≡ numbers_of self.now }
-    {
-        &self.numbers
+        &self.entries
     }
 
     /// The fraction at a column.
@@ -78,21 +66,10 @@ impl FracRow {
         ensures num { numerator result ≡ numerator (at column self.now) }
         ensures den { denominator result ≡ denominator (at column self.now) }
     {
-        if self.columns.len() <= SHORT {
-            self.look_through(column)
+        if self.entries.len() <= SHORT {
+            look_through(&self.entries, column)
         } else {
             self.search(column)
-        }
-    }
-
-    /// The fraction at a column of a short row.
-    fn look_through(&self, column: u32) -> Frac
-        ensures num { numerator result ≡ numerator (at column self.now) }
-        ensures den { denominator result ≡ denominator (at column self.now) }
-    {
-        match place_of(&self.columns, column) {
-            Some(place) => self.numbers[place],
-            None => Frac::zero(),
         }
     }
 
@@ -101,8 +78,8 @@ impl FracRow {
         ensures num { numerator result ≡ numerator (at column self.now) }
         ensures den { denominator result ≡ denominator (at column self.now) }
     {
-        match self.columns.binary_search(&column) {
-            Ok(place) => self.numbers[place],
+        match self.entries.binary_search_by_key(&column, |entry| entry.0) {
+            Ok(place) => self.entries[place].1,
             Err(_) => Frac::zero(),
         }
     }
@@ -111,8 +88,12 @@ impl FracRow {
     pub fn next_column(&self, from: u32) -> Option<u32>
         ensures { IsNextColumn from self.now result }
     {
-        let place = self.columns.partition_point(|column| *column < from);
-        self.columns.get(place).copied()
+        let place = self.entries.partition_point(|entry| entry.0 < from);
+        if place < self.entries.len() {
+            Some(self.entries[place].0)
+        } else {
+            None
+        }
     }
 
     /// Adds a fraction at a column after the others.
@@ -134,13 +115,10 @@ impl FracRow {
         if is_one(by) {
             return Ok(self);
         }
-        let FracRow {
-            columns,
-            mut numbers,
-        } = self;
-        match divide(&mut numbers, by) {
-            Ok(()) => Ok(FracRow { columns, numbers }),
-            Err(place) => Err(columns[place]),
+        let FracRow { mut entries } = self;
+        match divide(&mut entries, by) {
+            Ok(()) => Ok(FracRow { entries }),
+            Err(column) => Err(column),
         }
     }
 
@@ -157,7 +135,7 @@ impl FracRow {
         ensures kept { OnErr result (self.new ≡ self.old) }
     {
         spare.clear();
-        spare.reserve(self.columns.len())?;
+        spare.entries.reserve(self.entries.len())?;
         spare.put_difference(self.rest(), times, lead.rest())?;
         mem::swap(self, spare);
         Ok(())
@@ -168,23 +146,14 @@ impl FracRow {
         ensures all { result ≡ self.now }
         ensures sparse { IsSparse self.now }
     {
-        Rest::new(&self.columns, &self.numbers)
+        Rest::new(&self.entries)
     }
 
     /// Lets go of all fractions, and keeps the memory.
     fn clear(&mut self)
         ensures { self.new ≡ [] }
     {
-        self.columns.clear();
-        self.numbers.clear();
-    }
-
-    /// Makes room for `count` more fractions.
-    fn reserve(&mut self, count: usize) -> Result<(), AllocError>
-        ensures { self.new ≡ self.old }
-    {
-        self.columns.reserve(count)?;
-        self.numbers.reserve(count)
+        self.entries.clear();
     }
 
     /// Puts a fraction after the others, unless it is 0.
@@ -196,11 +165,7 @@ impl FracRow {
         if number.num() == 0 {
             return Ok(());
         }
-        self.columns.push(column)?;
-        if let Err(failed) = self.numbers.push(number) {
-            self.columns.pop();
-            return Err(failed.into());
-        }
+        self.entries.push((column, number))?;
         Ok(())
     }
 
@@ -210,7 +175,7 @@ impl FracRow {
         requires { IsSparse (self.old ++ rest) }
         ensures added { OnOk result (self.new ≡ self.old ++ rest.entry) }
     {
-        let count = rest.columns().len();
+        let count = rest.entries().len();
         if count == 0 {
             Ok(())
         } else if count <= FEW {
@@ -239,13 +204,7 @@ impl FracRow {
         requires { IsSparse (self.old ++ rest) }
         ensures added { OnOk result (self.new ≡ self.old ++ rest.entry) }
     {
-        let count = self.columns.len();
-        self.columns.extend_from_slice(rest.columns())?;
-        if let Err(failed) = self.numbers.extend_from_slice(rest.numbers()) {
-            self.columns.truncate(count);
-            return Err(failed);
-        }
-        Ok(())
+        self.entries.extend_from_slice(rest.entries())
     }
 
     /// Puts a row less `times` times a lead, column by column.
@@ -274,4 +233,17 @@ impl FracRow {
         self.put_all(row)?;
         Ok(())
     }
+}
+
+/// The fraction at a column, which is looked for from the first on.
+fn look_through(entries: &[(u32, Frac)], column: u32) -> Frac
+    ensures num { numerator result ≡ numerator (at column entries.now) }
+    ensures den { denominator result ≡ denominator (at column entries.now) }
+{
+    for entry in entries {
+        if entry.0 == column {
+            return entry.1;
+        }
+    }
+    Frac::zero()
 }

@@ -1,12 +1,12 @@
 -- Lists of fractions that are made one by one.
 use Rattle.std.proofs.Common.{◌≡◌, ◌≢◌, refl, sym, ap, subst, ◌∙◌, ℕ, zero, suc, ◌+◌, ◌-◌, ◌<◌, ◌≤◌, ℤ, pos, arith, List, [], ◌∷◌, ◌++◌, length, get_or, set, take, drop, true, false, ◌==◌, if◌then◌else◌, ◌⊎◌, inl, inr}
 use Rattle.std.proofs.lemmas.Bool.Decides.{nat_tests}
-use Rattle.std.proofs.lemmas.List.{drop_all}
+use Rattle.std.proofs.lemmas.List.{drop_all, get_or_default}
 use lib.ListN.{length-append}
 use Rattle.frac128.specs.declared.Frac.{Frac}
 use Rattle.frac128.specs.Values.{numerator, denominator}
 use Rattle.frac128.specs.Nought.{nought}
-use Rattle.frac_rows.specs.Entries.{Entries, at, columns_of, numbers_of, SparseFrom}
+use Rattle.frac_rows.specs.Entries.{Entries, at, SparseFrom}
 use Rattle.simplex.specs.Reading.{frac_at, column_at, HaveParts, AreEntries, NoneTwice, IsSpreadTo, IsPut}
 use Rattle.tableau.proofs.Pivoting.{same_or_not}
 use Rattle.simplex.proofs.Rows.{earlier_or_here}
@@ -151,32 +151,9 @@ entry_next first n k es xs ys s inside put h = elim (below_or_from (entry_column
   ])
 ]
 
--- the columns and the numbers of a row
-pub column_read : (es : Entries) (k d : ℕ) → k < length es → get_or (columns_of es) k d ≡ entry_column es k
-column_read [] k d h = absurd (omega arith)
-column_read (e ∷ es) zero d h = refl
-column_read (e ∷ es) (suc k) d h = column_read es k d (omega arith)
-
-pub number_read : (es : Entries) (k : ℕ) (d : Frac) → k < length es → get_or (numbers_of es) k d ≡ entry_number es k
-number_read [] k d h = absurd (omega arith)
-number_read (e ∷ es) zero d h = refl
-number_read (e ∷ es) (suc k) d h = number_read es k d (omega arith)
-
-pub columns_count : (es : Entries) → length (columns_of es) ≡ length es
-columns_count [] = refl
-columns_count (e ∷ es) = omega (arith, columns_count es)
-
-pub numbers_count : (es : Entries) → length (numbers_of es) ≡ length es
-numbers_count [] = refl
-numbers_count (e ∷ es) = omega (arith, numbers_count es)
-
-pub entry_next_of : (first n k : ℕ) (es : Entries) (columns : List ℕ) (numbers xs ys : List Frac) (d : ℕ) (e : Frac) → SparseFrom 0 es → columns ≡ columns_of es → numbers ≡ numbers_of es → k < length columns
-    → IsPut first (get_or columns k d) (get_or numbers k e) xs ys → AreEntries first n (take k es) xs → AreEntries first n (take (k + 1) es) ys
-entry_next_of first n k es columns numbers xs ys d e s c m inside put h =
-    let within : k < length es = (let l = ap length c in let q = columns_count es in omega arith) in
-    entry_next first n k es xs ys s within
-    (subst (λ (x : Frac). IsPut first (entry_column es k) x xs ys) (ap (λ (zs : List Frac). get_or zs k e) m ∙ number_read es k e within)
-    (subst (λ (z : ℕ). IsPut first z (get_or numbers k e) xs ys) (ap (λ (zs : List ℕ). get_or zs k d) c ∙ column_read es k d within) put)) h
+-- the entry at a place, as the code reads it
+pub entry_next_of : (first n k : ℕ) (es : Entries) (xs ys : List Frac) (d e : ℕ × Frac) → SparseFrom 0 es → k < length es → IsPut first (let x = get_or es k d in x.0) (let y = get_or es k e in y.1) xs ys → AreEntries first n (take k es) xs → AreEntries first n (take (k + 1) es) ys
+entry_next_of first n k es xs ys d e s inside put h = entry_next first n k es xs ys s inside (rw (get_or_default es k d (0, nought) inside, get_or_default es k e (0, nought) inside) at put) h
 
 -- one entry less
 before_all : (b c : ℕ) (es : Entries) → SparseFrom b es → c < b → at c es ≡ nought
@@ -213,12 +190,10 @@ entry_cleared n k es xs ys z s inside num den put h =
     from_zero : (i : ℕ) → 0 + i ≡ i
     from_zero i = omega arith
 
-pub entry_cleared_of : (n k : ℕ) (es : Entries) (columns : List ℕ) (xs ys : List Frac) (d : ℕ) (z : Frac) → SparseFrom 0 es → columns ≡ columns_of es → k < length columns → numerator z ≡ pos 0 → denominator z ≡ 1
-    → IsPut 0 (get_or columns k d) z xs ys → AreEntries 0 n (drop k es) xs → AreEntries 0 n (drop (k + 1) es) ys
-entry_cleared_of n k es columns xs ys d z s c inside num den put h =
-    let within : k < length es = (let l = ap length c in let q = columns_count es in omega arith) in
-    subst (λ (m : ℕ). AreEntries 0 n (drop m es) ys) (let e : suc k ≡ k + 1 = omega arith in e)
-    (entry_cleared n k es xs ys z s within num den (subst (λ (q : ℕ). IsPut 0 q z xs ys) (ap (λ (zs : List ℕ). get_or zs k d) c ∙ column_read es k d within) put) h)
+pub entry_cleared_of : (n k : ℕ) (es : Entries) (xs ys : List Frac) (d : ℕ × Frac) (z : Frac) → SparseFrom 0 es → k < length es → numerator z ≡ pos 0 → denominator z ≡ 1 → IsPut 0 (let x = get_or es k d in x.0) z xs ys → AreEntries 0 n (drop k es) xs → AreEntries 0 n (drop (k + 1) es) ys
+entry_cleared_of n k es xs ys d z s inside num den put h =
+    subst (λ (m : ℕ). AreEntries 0 n (drop m es) ys) (let f : suc k ≡ k + 1 = omega arith in f)
+    (entry_cleared n k es xs ys z s inside num den (rw (get_or_default es k d (0, nought) inside) at put) h)
 
-pub all_cleared : (n k : ℕ) (es : Entries) (columns : List ℕ) (xs : List Frac) → columns ≡ columns_of es → length columns ≤ k → AreEntries 0 n (drop k es) xs → AreEntries 0 n [] xs
-all_cleared n k es columns xs c h a = subst (λ (zs : Entries). AreEntries 0 n zs xs) (drop_all k es (let l = ap length c in let q = columns_count es in omega arith)) a
+pub all_cleared : (n k : ℕ) (es : Entries) (xs : List Frac) → length es ≤ k → AreEntries 0 n (drop k es) xs → AreEntries 0 n [] xs
+all_cleared n k es xs h a = subst (λ (zs : Entries). AreEntries 0 n zs xs) (drop_all k es h) a

@@ -3,7 +3,8 @@ use Rattle.std.proofs.Common.{◌≡◌, ◌≢◌, refl, sym, ap, subst, ◌∙
 use Rattle.std.proofs.lemmas.Bool.{eqb-true}
 use mathlib.Core.Bool.{false≢true}
 use Rattle.std.proofs.lemmas.Nat.{mul-le}
-use Rattle.std.proofs.lemmas.List.{length-set, get_or-set_same, get_or-set_other}
+use Rattle.std.proofs.lemmas.List.{take_all, length-set, get_or-set_same, get_or-set_other}
+use Rattle.frac128.specs.declared.Frac.{Frac}
 use Rattle.frac_rows.specs.Entries.{Entries, at, columns_of}
 use Rattle.simplex.specs.Among.{Among}
 use Rattle.simplex.specs.Standing.{entries_at}
@@ -72,6 +73,16 @@ row_marked h c i old = record {
 pub no_place : (h c i : ℕ) (old : List Bool) → length old ≤ c * h + i → Grow h (c ∷ []) (i ∷ []) old old
 no_place h c i old l = subst (Grow h (c ∷ []) (i ∷ []) old) (sym (set_past old (c * h + i) l)) (row_marked h c i old)
 
+-- the columns of a row
+columns_count : (es : Entries) → length (columns_of es) ≡ length es
+columns_count [] = refl
+columns_count (e ∷ es) = ap suc (columns_count es)
+
+column_read : (es : Entries) (k b : ℕ) (d : ℕ × Frac) → k < length es → (let e = get_or es k d in e.0) ≡ get_or (columns_of es) k b
+column_read [] k b d h = absurd (omega (arith, h))
+column_read (e ∷ es) zero b d h = refl
+column_read (e ∷ es) (suc k) b d h = column_read es k b d (omega (arith, h))
+
 -- one column more
 pub column_more : (h k : ℕ) (columns rows : List ℕ) (old mid new : List Bool) → k < length columns → Grow h (take k columns) rows old mid → Grow h (get_or columns k 0 ∷ []) rows mid new → Grow h (take (k + 1) columns) rows old new
 column_more h k columns rows old mid new l g m = record {
@@ -93,6 +104,14 @@ column_more h k columns rows old mid new l g m = record {
     taken : (c : ℕ) → Among c (get_or columns k 0 ∷ []) → Among c (take (k + 1) columns)
     taken c (inl e) = subst (λ (z : ℕ). Among z (take (k + 1) columns)) (sym e) (among_taken k columns l)
     taken c (inr a) = absurd a
+
+-- the column of one entry more
+pub entry_more : (h k : ℕ) (es : Entries) (rows : List ℕ) (old mid new : List Bool) (e : ℕ × Frac) → k < length es → e ≡ get_or es k e → Grow h (take k (columns_of es)) rows old mid → Grow h (e.0 ∷ []) rows mid new → Grow h (take (k + 1) (columns_of es)) rows old new
+entry_more h k es rows old mid new e l is g m =
+    column_more h k (columns_of es) rows old mid new (rw (columns_count es) l) g (subst (λ (c : ℕ). Grow h (c ∷ []) rows mid new) (ap (λ (d : ℕ × Frac). d.0) is ∙ column_read es k 0 e l) m)
+
+pub all_entries : (h k : ℕ) (es : Entries) (rows : List ℕ) (old new : List Bool) → length es ≤ k → Grow h (take k (columns_of es)) rows old new → Grow h (columns_of es) rows old new
+all_entries h k es rows old new l g = rw (take_all k (columns_of es) (rw (columns_count es) l)) at g
 
 -- one row more
 pub row_more : (h k : ℕ) (columns rows : List ℕ) (old mid new : List Bool) → k < length rows → Grow h columns (take k rows) old mid → Grow h columns (get_or rows k 0 ∷ []) mid new → Grow h columns (take (k + 1) rows) old new

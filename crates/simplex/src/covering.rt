@@ -3,10 +3,12 @@
 
 ghost use Rattle.std.specs.Prelude.{◌≡◌, ◌<◌, ◌≤◌, ◌+◌, ◌*◌, ◌^◌, [], ◌∷◌, true, length, slice_set, IfOk, OnOk};
 ghost use Rattle.std.specs.Option.{SomeIff};
+ghost use Rattle.frac_rows.specs.Entries.{columns_of};
 ghost use Rattle.simplex.specs.Standing.{AreTouching};
 ghost use Rattle.simplex.specs.Covering.{Cover, IsCovered, Grow, Clears, HasOne, Follows};
 
 use frac_rows::FracRow;
+use frac128::Frac;
 use std::alloc::{AllocError, Global};
 
 /// For each of the first columns, marks at the rows that have a number there.
@@ -19,7 +21,7 @@ pub(crate) fn covering(
 {
     let mut marks = no_marks(alloc, columns, rows.len())?;
     for i in 0..rows.len() {
-        mark_row(&mut marks, rows.len(), rows[i].columns(), i);
+        mark_row(&mut marks, rows.len(), rows[i].entries(), i);
     }
     Ok(marks)
 }
@@ -34,21 +36,21 @@ fn no_marks(alloc: Global, columns: usize, rows: usize) -> Result<Vec<bool>, All
     vec![in alloc; false; count]
 }
 
-/// Marks these rows in these columns, where both have a place.
-fn mark_rows(marks: &mut [bool], height: usize, columns: &[u32], rows: &[usize])
-    ensures { Grow height columns.now rows.now marks.old marks.new }
+/// Marks these rows in the columns of these fractions, where both have a place.
+fn mark_rows(marks: &mut [bool], height: usize, entries: &[(u32, Frac)], rows: &[usize])
+    ensures { Grow height (columns_of entries.now) rows.now marks.old marks.new }
 {
     for row in rows {
-        mark_row(marks, height, columns, *row);
+        mark_row(marks, height, entries, *row);
     }
 }
 
-/// Marks a row in these columns, where both have a place.
-fn mark_row(marks: &mut [bool], height: usize, columns: &[u32], row: usize)
-    ensures { Grow height columns.now (row ∷ []) marks.old marks.new }
+/// Marks a row in the columns of these fractions, where both have a place.
+fn mark_row(marks: &mut [bool], height: usize, entries: &[(u32, Frac)], row: usize)
+    ensures { Grow height (columns_of entries.now) (row ∷ []) marks.old marks.new }
 {
-    for column in columns {
-        mark(marks, height, *column, row);
+    for entry in entries {
+        mark(marks, height, entry.0, row);
     }
 }
 
@@ -105,16 +107,16 @@ fn keep_one(marks: &mut [bool], height: usize, column: u32, row: usize)
 pub(crate) fn follow(
     marks: &mut [bool],
     height: usize,
-    columns: &[u32],
+    lead: &[(u32, Frac)],
     rows: &[usize],
     column: u32,
     row: usize,
 )
     requires column { column * height + height ≤ length marks.old }
     requires row { row < height }
-    ensures { Follows height columns.now rows.now column row marks.old marks.new }
+    ensures { Follows height (columns_of lead.now) rows.now column row marks.old marks.new }
 {
-    mark_rows(marks, height, columns, rows);
+    mark_rows(marks, height, lead, rows);
     keep_one(marks, height, column, row);
 }
 

@@ -30,10 +30,10 @@ pub(crate) fn fill(all: &mut [Frac], first: u32, row: &FracRow)
     requires { AreEntries first (length all.old) [] all.old }
     ensures { AreEntries first (length all.old) row.now all.new }
 {
-    let columns = row.columns();
-    let numbers = row.numbers();
-    for i in 0..columns.len() {
-        put(all, first, columns[i], numbers[i]);
+    let entries = row.entries();
+    for i in 0..entries.len() {
+        let (column, number) = entries[i];
+        put(all, first, column, number);
     }
 }
 
@@ -42,9 +42,9 @@ pub(crate) fn clear(all: &mut [Frac], row: &FracRow)
     requires { AreEntries 0 (length all.old) row.now all.old }
     ensures { AreEntries 0 (length all.old) [] all.new }
 {
-    let columns = row.columns();
-    for i in 0..columns.len() {
-        put(all, 0, columns[i], Frac::zero());
+    let entries = row.entries();
+    for i in 0..entries.len() {
+        put(all, 0, entries[i].0, Frac::zero());
     }
 }
 

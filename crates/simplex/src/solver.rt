@@ -131,11 +131,11 @@ pub(crate) fn make_step<F: Fn(&[Frac]) -> Option<usize>>(
     ) {
         return stopped(fault);
     }
-    let columns = table.rows[row].columns();
+    let lead = table.rows[row].entries();
     follow(
         &mut scratch.marks,
         height,
-        columns,
+        lead,
         &scratch.touching,
         column,
         row,

@@ -1,6 +1,7 @@
 use Rattle.std.proofs.Common.{[], ◌∷◌, take}
+use Rattle.frac_rows.specs.Entries.{columns_of}
 use Rattle.simplex.specs.Covering.{Grow}
 use Rattle.simplex.proofs.covering.mark_row.Given as goal
 
-abbrev pub invariant-loop-column : goal.invariant-loop-column
-invariant-loop-column l = Grow l.height (take l.column-index l.columns) (l.row ∷ []) l.initial.marks l.marks
+abbrev pub invariant-loop-entry : goal.invariant-loop-entry
+invariant-loop-entry l = Grow l.height (take l.entry-index (columns_of l.entries)) (l.row ∷ []) l.initial.marks l.marks

@@ -1,6 +1,7 @@
 use Rattle.std.proofs.Common.{take}
+use Rattle.frac_rows.specs.Entries.{columns_of}
 use Rattle.simplex.specs.Covering.{Grow}
 use Rattle.simplex.proofs.covering.mark_rows.Given as goal
 
 abbrev pub invariant-loop-row : goal.invariant-loop-row
-invariant-loop-row l = Grow l.height l.columns (take l.row-index l.rows) l.initial.marks l.marks
+invariant-loop-row l = Grow l.height (columns_of l.entries) (take l.row-index l.rows) l.initial.marks l.marks
