@@ -1,7 +1,7 @@
 pub mod Differing
 pub mod Pointwise
 mod Fronts
-mod Finding
+pub mod Finding
 mod Appending
 mod Walking
 mod Quotients

@@ -7,4 +7,5 @@ mod rest;
 mod row;
 
 pub use fault::RowFault;
+pub use numbers::less;
 pub use row::FracRow;

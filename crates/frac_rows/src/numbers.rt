@@ -20,7 +20,7 @@ fn is_short(x: &Frac) -> bool
 
 /// `x` less `times` times `q`, or None where the product or the difference leaves the range.
 #[inline(always)]
-pub(crate) fn less(x: &Frac, times: &Frac, q: &Frac) -> Option<Frac>
+pub fn less(x: &Frac, times: &Frac, q: &Frac) -> Option<Frac>
     ensures { MatchOption result (LessLeaves x.now times.now q.now) (IsLess x.now times.now q.now) }
 {
     if is_short(x) && is_short(times) && is_short(q) {

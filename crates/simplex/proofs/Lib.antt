@@ -9,6 +9,7 @@ mod Narrowing
 mod Steps
 mod Opens
 mod Listing
+mod Gains
 mod Solves
 mod Tables
 mod Agreement

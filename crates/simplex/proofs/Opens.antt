@@ -1,6 +1,7 @@
 -- A row that is made column by column.
-use Rattle.std.proofs.Common.{◌*ℤ◌, ◌≡◌, ◌≢◌, refl, sym, ap, subst, ◌∙◌, ℕ, zero, suc, ◌+◌, ◌-◌, ◌<◌, ◌≤◌, ◌==◌, false, ℤ, pos, arith, List, [], ◌∷◌, ◌++◌, length, map, get_or, slice_set, take, Result, Ok, Err, OnOk, IsErrAnd, ◌⊎◌, inl, inr}
+use Rattle.std.proofs.Common.{◌*ℤ◌, ◌≡◌, ◌≢◌, refl, sym, ap, subst, ◌∙◌, ℕ, zero, suc, ◌+◌, ◌-◌, ◌<◌, ◌≤◌, ◌==◌, false, ℤ, pos, arith, List, [], ◌∷◌, ◌++◌, length, map, get_or, set, slice_set, take, Result, Ok, Err, OnOk, IsErrAnd, ◌⊎◌, inl, inr}
 use Rattle.frac128.specs.declared.Frac.{Frac}
+use Rattle.frac128.specs.Values.{numerator, denominator}
 use Rattle.frac128.specs.Nought.{nought}
 use Rattle.frac_rows.specs.Entries.{Entries, at, EndsBefore}
 use Rattle.linear_rows.specs.Terms.{Terms, SparseRow, coefficient, unknown_at, number_at, IsSparse}
@@ -8,6 +9,7 @@ use Rattle.linear_rows.proofs.Places.{coefficient_at as coefficient_of}
 use Rattle.tableau.specs.Places as places
 use Rattle.std.proofs.lemmas.Bool.Decides.{nat_tests}
 use Rattle.linear_rows.specs.Systems.{LinearSystem, AllBelow}
+use Rattle.std.proofs.lemmas.List.{take_all}
 use lib.ListN.{length-append}
 use Rattle.tableau.specs.Tableaux.{right, opening_row, opening, entry}
 use Rattle.tableau.specs.Refusals.{least_number}
@@ -18,6 +20,10 @@ use Rattle.simplex.proofs.Rows.{value_of}
 use Rattle.simplex.proofs.Sweeping.{here, there, length-slice_set}
 use Rattle.simplex.specs.Opening.{AddsWhole, OpensTo, OpeningLeaves, AreEmpty, AddsInRow, AddsColumn, ColumnsOpen}
 use Rattle.tableau.proofs.Pivoting.{same_or_not}
+use Rattle.simplex.specs.Dense.{dense}
+use Rattle.simplex.specs.Reading.{frac_at, HaveParts}
+use Rattle.simplex.proofs.Gains.{at_dense}
+use Rattle.simplex.proofs.Listing.{length-set, set_here, set_there}
 use Rattle.simplex.proofs.Rows.{earlier_or_here}
 
 whole_stands : (x : Frac) (n : ℤ) → x.num ≡ n → x.den ≡ 1 → Stands (pos 1) n x
@@ -264,12 +270,64 @@ row_leaves s i j c h e o = ap (λ (z : ℕ). entry (opening s) z c) e ∙ entry_
 pub gains_leave : (s : LinearSystem) (i c : ℕ) → i ≡ s.unknowns → c < length s.rows → OpeningLeaves (map (λ row. row.right) s.rows) c → entry (opening s) i c ≡ least_number
 gains_leave s i c e h o = entry_last (opening s) i c (e ∙ sym (length-opened s)) ∙ at-front (map (λ (row : SparseRow). row.right) s.rows) _ c (let l = length-map (λ (row : SparseRow). row.right) s.rows in omega arith) ∙ o.is
 
--- the gains after the right sides are 0
-pub gains_open : (s : LinearSystem) (es : Entries) → OpensTo (length s.rows) (map (λ row. row.right) s.rows) es → RowStands (pos 1) (opening s).gains es
-gains_open s es o = record {
-  each = λ c. elim (front_or_back c (length s.rows)) [
-    | inl h ↦ subst (λ (z : ℤ). Stands (pos 1) z (at c es)) (sym (at-front (map (λ (row : SparseRow). row.right) s.rows) _ c (let l = length-map (λ (row : SparseRow). row.right) s.rows in omega arith))) (o.each c h)
-    | inr h ↦ subst (Stands (pos 1) (places.at (opening s).gains c)) (sym (none_from (length s.rows) c es o.before (let e = h.1 in omega arith)))
-        (subst (λ (z : ℤ). Stands (pos 1) z nought) (sym (ap (places.at (opening s).gains) h.1 ∙ value_at_slack s h.0)) (record { is = refl }))
+-- one right side more
+pub at_take : (xs : List ℤ) (n i : ℕ) → i < n → places.at (take n xs) i ≡ places.at xs i
+at_take xs zero i h = absurd (omega arith)
+at_take [] (suc n) i h = refl
+at_take (x ∷ xs) (suc n) zero h = refl
+at_take (x ∷ xs) (suc n) (suc i) h = at_take xs n i (omega arith)
+
+at_take_other : (xs : List ℤ) (j i : ℕ) → i ≢ j → places.at (take (suc j) xs) i ≡ places.at (take j xs) i
+at_take_other [] zero i n = refl
+at_take_other [] (suc j) i n = refl
+at_take_other (x ∷ xs) zero zero n = absurd (n refl)
+at_take_other (x ∷ xs) zero (suc i) n = refl
+at_take_other (x ∷ xs) (suc j) zero n = refl
+at_take_other (x ∷ xs) (suc j) (suc i) n = at_take_other xs j i (λ e. n (ap suc e))
+
+pub rights_more : (n j : ℕ) (ns : List ℤ) (xs : List Frac) (x : Frac) → j < length xs → numerator x ≡ places.at ns j → denominator x ≡ 1 → HaveParts n (λ c. places.at (take j ns) c) (λ _. 1) xs → HaveParts n (λ c. places.at (take (j + 1) ns) c) (λ _. 1) (set xs j x)
+rights_more n j ns xs x low num den h = subst (λ (k : ℕ). HaveParts n (λ c. places.at (take k ns) c) (λ _. 1) (set xs j x)) (let e : suc j ≡ j + 1 = omega arith in e) (record {
+  count = length-set xs j x ∙ h.count;
+  nums = λ i q. elim (same_or_not i j) [
+    | inl e ↦ ap numerator (ap (frac_at (set xs j x)) e ∙ set_here xs j x low) ∙ num ∙ sym (ap (places.at (take (suc j) ns)) e ∙ at_take ns (suc j) j (omega arith))
+    | inr d ↦ ap numerator (set_there xs j i x d) ∙ h.nums i q ∙ sym (at_take_other ns j i d)
   ];
+  dens = λ i q. elim (same_or_not i j) [
+    | inl e ↦ ap denominator (ap (frac_at (set xs j x)) e ∙ set_here xs j x low) ∙ den
+    | inr d ↦ ap denominator (set_there xs j i x d) ∙ h.dens i q
+  ];
+})
+
+pub right_at : (rows : List SparseRow) (j : ℕ) (d : SparseRow) → j < length rows → d ≡ get_or rows j d → d.right ≡ places.at (map (λ row. row.right) rows) j
+right_at [] j d h e = absurd (omega arith)
+right_at (r ∷ rows) zero d h e = ap (λ (row : SparseRow). row.right) e
+right_at (r ∷ rows) (suc j) d h e = right_at rows j d (omega arith) e
+
+pub all_rights : (n j : ℕ) (ns : List ℤ) (xs : List Frac) → length ns ≤ j → HaveParts n (λ c. places.at (take j ns) c) (λ _. 1) xs → HaveParts n (λ c. places.at ns c) (λ _. 1) xs
+all_rights n j ns xs h p = subst (λ (ms : List ℤ). HaveParts n (λ c. places.at ms c) (λ _. 1) xs) (take_all j ns h) p
+
+-- the gains after the right sides are 0
+gains_at : (s : LinearSystem) (c : ℕ) → places.at (opening s).gains c ≡ places.at (map (λ row. row.right) s.rows) c
+gains_at s c =
+    let long = length-map (λ (row : SparseRow). row.right) s.rows in
+    elim (front_or_back c (length s.rows)) [
+      | inl h ↦ at-front (map (λ (row : SparseRow). row.right) s.rows) _ c (omega arith)
+      | inr h ↦ ap (places.at (opening s).gains) h.1 ∙ value_at_slack s h.0 ∙ sym (past (map (λ (row : SparseRow). row.right) s.rows) c (let e = h.1 in omega arith))
+    ]
+
+fraction_past : (xs : List Frac) (c : ℕ) → length xs ≤ c → frac_at xs c ≡ nought
+fraction_past [] c h = refl
+fraction_past (x ∷ xs) zero h = absurd (omega arith)
+fraction_past (x ∷ xs) (suc c) h = fraction_past xs c (omega arith)
+
+pub gains_open : (s : LinearSystem) (n : ℕ) (xs : List Frac) → length s.rows ≤ n → HaveParts n (λ c. places.at (map (λ row. row.right) s.rows) c) (λ _. 1) xs → RowStands (pos 1) (opening s).gains (dense xs)
+gains_open s n xs wide h = record {
+  each = λ c. rw (at_dense c xs, gains_at s c) (elim (front_or_back c n) [
+    | inl l ↦ whole_stands (frac_at xs c) (places.at (map (λ row. row.right) s.rows) c) (h.nums c l) (h.dens c l)
+    | inr g ↦
+        let long = length-map (λ (row : SparseRow). row.right) s.rows in
+        let count = h.count in
+        let e = g.1 in
+        rw (fraction_past xs c (omega arith), past (map (λ row. row.right) s.rows) c (omega arith)) (record { is = refl })
+  ]);
 }

@@ -7,25 +7,30 @@ use Rattle.frac128.specs.Values.{numerator, denominator}
 use Rattle.frac128.specs.Nought.{nought}
 use Rattle.frac_rows.specs.Entries.{Entries, at}
 use Rattle.linear_rows.specs.Systems.{LinearSystem, IsSystem}
+use Rattle.linear_rows.specs.Terms.{SparseRow}
 use Rattle.tableau.specs.Places.{row_at}
 use Rattle.tableau.specs.Places as places
 use Rattle.tableau.specs.Tableaux.{Tableau, right, opening, pivot, entry, compared}
 use Rattle.tableau.specs.Refusals.{least_number, Refused, InSearch, InExitingRow, InProduct, InDifference}
 use Rattle.tableau.specs.Courses.{Rule, Enters, Leads, Course, Ends, Rises, Follows, FollowsFrom, Answers, Refuses, AtPivot}
-use Rattle.tableau.proofs.Opening.{length-opened}
+use Rattle.tableau.proofs.Opening.{length-opened, width}
 use Rattle.tableau.proofs.Ending.{Good, good_course}
+use Rattle.tableau.proofs.Rows.{wide_at}
 use Rattle.tableau.proofs.Agreeing.{course_ends}
 use Rattle.simplex.specs.Standing.{Stands, RowStands, RowsStand, IsPivoted, PivotLeaves, entries_at}
 use Rattle.simplex.specs.Ties.{IsBounding, IsExiting, SearchLeaves}
 use Rattle.simplex.specs.Choosing.{Chooses}
 use Rattle.simplex.specs.Reading.{AreOver, HaveParts, frac_at}
 use Rattle.simplex.specs.declared.fault.Fault.{Fault}
+use Rattle.simplex.specs.Dense.{dense}
 use Rattle.simplex.specs.declared.table.Table.{Table}
 use Rattle.simplex.specs.declared.solver.Step.{Step}
 use Rattle.simplex.specs.declared.solver.Step.TheVariants as step
 use Rattle.simplex.specs.Solving.{rule_over, IsAfter, Reached, ReachedEnd, ReachedRise, IsStep}
 use lib.ListN.{length-append}
 use Rattle.simplex.proofs.Narrowing.{same_sign, sign_back}
+use Rattle.simplex.proofs.Gains.{part_seen, ends_within}
+use Rattle.simplex.proofs.Opens.{at_take}
 use Rattle.simplex.proofs.Steps.{entry_in, entry_last, steps, pivot_faults, search_faults}
 
 -- a course's last pivot is by the rule
@@ -81,12 +86,6 @@ refused_inside s t e i c (InProduct l w n h there k) = h
 refused_inside s t e i c (InDifference l w n h d) = h
 
 -- the gains before the right side, as the rule sees them
-at-take : (xs : List ℤ) (n i : ℕ) → i < n → places.at (take n xs) i ≡ places.at xs i
-at-take xs zero i h = absurd (omega arith)
-at-take [] (suc n) i h = refl
-at-take (x ∷ xs) (suc n) zero h = refl
-at-take (x ∷ xs) (suc n) (suc i) h = at-take xs n i (omega arith)
-
 length-take : (xs : List ℤ) (n : ℕ) → n ≤ length xs → length (take n xs) ≡ n
 length-take xs zero h = refl
 length-take [] (suc n) h = absurd (omega arith)
@@ -106,7 +105,7 @@ module _ (s : LinearSystem) (system : IsSystem s) (pivots : List (ℕ × ℕ)) (
         count = h.count ∙ sym long;
         each = λ i q. let q' : i < right s = omega arith in
             let z : 0 + i ≡ i = omega arith in
-            subst (λ (n : ℤ). Stands t.over n (frac_at fs i)) (sym (at-take t.gains (right s) i q'))
+            subst (λ (n : ℤ). Stands t.over n (frac_at fs i)) (sym (at_take t.gains (right s) i q'))
             (stands_with t.over (places.at t.gains i) (at i gains) (frac_at fs i) (h.nums i q' ∙ ap (λ (k : ℕ). numerator (at k gains)) z) (h.dens i q' ∙ ap (λ (k : ℕ). denominator (at k gains)) z) (after.stand.gains_stand.each i));
       }
 
@@ -169,36 +168,37 @@ module _ (s : LinearSystem) (system : IsSystem s) (pivots : List (ℕ × ℕ)) (
 
 -- what comes of a step
 module _ (answers : List Frac → Option ℕ → Type 0) (chooses : Chooses answers) (s : LinearSystem) (system : IsSystem s) (table : Table) (r : Reached (rule_over answers) s table)
-    (fs : List Frac) (h : HaveParts (right s) (λ i. numerator (at (0 + i) table.gains)) (λ i. denominator (at (0 + i) table.gains)) fs) where
+    (fs : List Frac) (h : HaveParts (right s) (λ i. numerator (at (0 + i) (dense table.gains.items))) (λ i. denominator (at (0 + i) (dense table.gains.items))) fs) where
   pub reaches_end : answers fs None → ReachedEnd (rule_over answers) s table
-  reaches_end a = record { reached = r; ends = ends_so s system table.pivots.items table.basis.items table.rows.items table.gains r.t r.after answers chooses fs h a }
+  reaches_end a = record { reached = r; ends = ends_so s system table.pivots.items table.basis.items table.rows.items (dense table.gains.items) r.t r.after answers chooses fs h a }
 
   module _ (c : ℕ) (a : answers fs (Some c)) where
     enters : Enters s r.t c
-    enters = enters_so s system table.pivots.items table.basis.items table.rows.items table.gains r.t r.after answers chooses fs h c a
+    enters = enters_so s system table.pivots.items table.basis.items table.rows.items (dense table.gains.items) r.t r.after answers chooses fs h c a
 
     by_rule : Answers (rule_over answers) s r.t c
-    by_rule = answers_so s system table.pivots.items table.basis.items table.rows.items table.gains r.t r.after answers chooses fs h c a
+    by_rule = answers_so s system table.pivots.items table.basis.items table.rows.items (dense table.gains.items) r.t r.after answers chooses fs h c a
 
     pub reaches_rise : ((i : ℕ) → IsBounding c table.rows.items i → ⊥) → ReachedRise (rule_over answers) s table c
-    reaches_rise none = record { reached = r; rises = rises_so s system table.pivots.items table.basis.items table.rows.items table.gains r.t r.after c enters none; answers = by_rule }
+    reaches_rise none = record { reached = r; rises = rises_so s system table.pivots.items table.basis.items table.rows.items (dense table.gains.items) r.t r.after c enters none; answers = by_rule }
 
     pub search_refuses : (i k : ℕ) → SearchLeaves (compared s) c table.rows.items i k → Refuses (rule_over answers) s table.pivots.items i k × (i ≤ s.unknowns)
     search_refuses i k w =
-        let q = search_refused s system table.pivots.items table.basis.items table.rows.items table.gains r.t r.after c i k w in
+        let q = search_refused s system table.pivots.items table.basis.items table.rows.items (dense table.gains.items) r.t r.after c i k w in
         (AtPivot r.t c r.after.course r.follows enters by_rule q.0, q.1)
 
-    pub pivot_refuses : (l i k : ℕ) → IsExiting (compared s) c table.rows.items l → PivotLeaves l c table.rows.items table.gains i k → Refuses (rule_over answers) s table.pivots.items i k × (i ≤ s.unknowns)
+    pub pivot_refuses : (l i k : ℕ) → IsExiting (compared s) c table.rows.items l → PivotLeaves l c table.rows.items (dense table.gains.items) i k → Refuses (rule_over answers) s table.pivots.items i k × (i ≤ s.unknowns)
     pivot_refuses l i k leaving w =
-        let q = pivot_refused_at s system table.pivots.items table.basis.items table.rows.items table.gains r.t r.after c l i k leaving w in
+        let q = pivot_refused_at s system table.pivots.items table.basis.items table.rows.items (dense table.gains.items) r.t r.after c l i k leaving w in
         (AtPivot r.t c r.after.course r.follows enters by_rule q.0, q.1)
 
-    pub pivot_reaches : (l : ℕ) (new : Table) → IsExiting (compared s) c table.rows.items l → IsPivoted l c table.rows.items table.gains new.rows.items new.gains
-        → new.basis.items ≡ set table.basis.items l c → new.pivots.items ≡ table.pivots.items ++ (l, c) ∷ [] → Reached (rule_over answers) s new
-    pivot_reaches l new leaving made e f = record {
+    pub pivot_reaches : (l : ℕ) (new : Table) → IsExiting (compared s) c table.rows.items l → IsPivoted l c table.rows.items (dense table.gains.items) new.rows.items (dense new.gains.items)
+        → length new.gains.items ≡ length table.gains.items → new.basis.items ≡ set table.basis.items l c → new.pivots.items ≡ table.pivots.items ++ (l, c) ∷ [] → Reached (rule_over answers) s new
+    pivot_reaches l new leaving made w e f = record {
       t = pivot l c r.t;
-      after = rw (e, f) (after_pivot s system table.pivots.items table.basis.items table.rows.items table.gains r.t r.after l c new.rows.items new.gains enters leaving made);
-      follows = subst (Follows (rule_over answers) s) (sym f) (follows_pivot s system table.pivots.items table.basis.items table.rows.items table.gains r.t r.after (rule_over answers) l c r.follows by_rule);
+      after = rw (e, f) (after_pivot s system table.pivots.items table.basis.items table.rows.items (dense table.gains.items) r.t r.after l c new.rows.items (dense new.gains.items) enters leaving made);
+      follows = subst (Follows (rule_over answers) s) (sym f) (follows_pivot s system table.pivots.items table.basis.items table.rows.items (dense table.gains.items) r.t r.after (rule_over answers) l c r.follows by_rule);
+      wide = w ∙ r.wide;
     }
 
 pub one_longer : (ps : List (ℕ × ℕ)) (p : ℕ × ℕ) → length (ps ++ p ∷ []) ≡ length ps + 1
@@ -209,6 +209,23 @@ pub basis_long : (rule : Rule) (s : LinearSystem) (table : Table) → IsSystem s
 basis_long rule s table system r =
     let g = good_course s table.pivots.items r.t system r.after.course in
     ap length (sym r.after.basis_is) ∙ sym g.sound.one_each ∙ sym r.after.stand.rows_stand.count
+
+-- the gains that the rule sees
+pub seen : (rule : Rule) (s : LinearSystem) (table : Table) → Reached rule s table → (rows : List SparseRow) (n : ℕ) (gains : List Frac) → rows ≡ s.rows → n ≡ s.unknowns → gains ≡ table.gains.items
+    → HaveParts (right s) (λ i. numerator (at (0 + i) (dense table.gains.items))) (λ i. denominator (at (0 + i) (dense table.gains.items))) (take (length rows + n) gains)
+seen rule s table r rows n gains e f g =
+    let wide = r.wide in
+    rw (e, f, g) (part_seen 0 (right s) table.gains.items (omega arith))
+
+-- no row has a number in a column that has no gain
+pub row_inside : (rule : Rule) (s : LinearSystem) (table : Table) → IsSystem s → Reached rule s table → (i c : ℕ) → i < length table.rows.items → numerator (at c (entries_at table.rows.items i)) ≢ pos 0 → c < length table.gains.items
+row_inside rule s table system r i c h n =
+    let g = good_course s table.pivots.items r.t system r.after.course in
+    let inside : i < length r.t.rows = (let m = r.after.stand.rows_stand.count in omega arith) in
+    let low = ends_within r.t.over (row_at r.t.rows i) (entries_at table.rows.items i) c g.sound.positive (r.after.stand.rows_stand.each i inside) n in
+    let wide = wide_at (width s) i r.t.rows g.sound.wide inside in
+    let count = r.wide in
+    omega arith
 
 -- a step that was stopped
 pub stops : (rule : Rule) (s : LinearSystem) (old new : Table) (fault : Fault) (r : Result Step AllocError) → ((i k : ℕ) → fault ≡ Fault.Leaves i k → Refuses rule s new.pivots.items i k)

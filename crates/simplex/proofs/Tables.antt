@@ -22,6 +22,7 @@ use Rattle.tableau.proofs.Agreeing.{ends_least, rise_refutes}
 use Rattle.tableau.specs.Courses.{Rule, Course, Follows}
 use Rattle.simplex.specs.Standing.{Stands, RowStands, RowsStand, entries_at}
 use Rattle.simplex.specs.Reading.{AreOver, HaveParts, NoneTwice, IsSpreadTo, frac_at, column_at}
+use Rattle.simplex.specs.Dense.{dense}
 use Rattle.simplex.specs.declared.table.Table.{Table}
 use Rattle.simplex.specs.Solving.{IsAfter, IsAt, IsOpening, Reached, ReachedEnd, ReachedRise, IsBest, IsRefuted}
 use Rattle.simplex.proofs.Solves.{stands_with, opening_after, fewer}
@@ -247,24 +248,25 @@ module _ (s : LinearSystem) (system : IsSystem s) (pivots : List (ℕ × ℕ)) (
 -- what the loop's ends are
 pub opened_reached : (rule : Rule) (s : LinearSystem) (table : Table) → IsOpening s table → Reached rule s table
 opened_reached rule s table o =
-    let a = opening_after s table.rows.items table.gains o.rows o.gains in
+    let a = opening_after s table.rows.items (dense table.gains.items) o.rows o.gains in
     record {
       t = opening s;
       after = record { course = subst (λ (ps : List (ℕ × ℕ)). Course s ps (opening s)) (sym o.none) a.course; stand = a.stand; basis_is = sym o.basis; height = a.height };
       follows = subst (Follows rule s) (sym o.none) tt;
+      wide = o.wide;
     }
 
 pub fewer_pivots : (rule : Rule) (s : LinearSystem) (table : Table) → IsSystem s → Reached rule s table → length table.pivots.items < 2 ^ right s
-fewer_pivots rule s table system r = fewer s system table.pivots.items table.basis.items table.rows.items table.gains r.t r.after
+fewer_pivots rule s table system r = fewer s system table.pivots.items table.basis.items table.rows.items (dense table.gains.items) r.t r.after
 
 pub shrinks : (n a b : ℕ) → b ≡ a + 1 → b < n → n - b < n - a
 shrinks n a b e h = omega arith
 
 pub differ_at : (rule : Rule) (s : LinearSystem) (table : Table) → IsSystem s → Reached rule s table → NoneTwice table.basis.items
-differ_at rule s table system r = none_twice s system table.pivots.items table.basis.items table.rows.items table.gains r.t r.after
+differ_at rule s table system r = none_twice s system table.pivots.items table.basis.items table.rows.items (dense table.gains.items) r.t r.after
 
 pub differ_rising : (rule : Rule) (s : LinearSystem) (table : Table) (c : ℕ) → IsSystem s → ReachedRise rule s table c → NoneTwice (c ∷ table.basis.items)
-differ_rising rule s table c system r = still_once s system table.pivots.items table.basis.items table.rows.items table.gains r.reached.t r.reached.after c r.rises.enters.gain
+differ_rising rule s table c system r = still_once s system table.pivots.items table.basis.items table.rows.items (dense table.gains.items) r.reached.t r.reached.after c r.rises.enters.gain
 
 pub best_of : (rule : Rule) (s : LinearSystem) (table : Table) (x y : List Frac) → IsSystem s → ReachedEnd rule s table → ((t : Tableau) → IsAt s table t → AreOver t.over (solution s t) x) → ((t : Tableau) → IsAt s table t → AreOver t.over (dual s t) y) → IsBest rule s table.pivots.items x y
 best_of rule s table x y system r f g =

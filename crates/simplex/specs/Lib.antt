@@ -7,3 +7,4 @@ pub mod Opening
 pub mod Reading
 pub mod Solving
 pub mod Laws
+pub mod Dense

@@ -6,7 +6,7 @@ use Rattle.frac128.specs.declared.Frac.{Frac}
 use Rattle.frac_rows.specs.Entries.{Entries}
 use Rattle.linear_rows.specs.Systems.{LinearSystem, Refutes, ProvesLeast, IsLeast}
 use Rattle.linear_rows.specs.Vectors.{dot}
-use Rattle.tableau.specs.Tableaux.{Tableau, opening, slacks, solution, dual, ray}
+use Rattle.tableau.specs.Tableaux.{Tableau, opening, right, slacks, solution, dual, ray}
 use Rattle.tableau.specs.Courses.{Rule, Course, Ends, Rises, Follows, Answers, Refuses}
 use Rattle.simplex.specs.declared.answer.Answer.{Answer}
 use Rattle.simplex.specs.declared.answer.Answer.TheVariants.{Best, NoSolution, Leaves}
@@ -15,7 +15,8 @@ use Rattle.simplex.specs.declared.solver.Scratch.{Scratch}
 use Rattle.simplex.specs.declared.solver.Step.{Step}
 use Rattle.simplex.specs.declared.solver.Step.TheVariants as step
 use Rattle.simplex.specs.Standing.{TableStands, RowsStand, RowStands}
-use Rattle.simplex.specs.Reading.{AreEntries, AreOver}
+use Rattle.simplex.specs.Dense.{dense}
+use Rattle.simplex.specs.Reading.{AreOver}
 use Rattle.simplex.specs.Covering.{Cover}
 
 -- the answers to fractions, as a rule for whole numbers over d
@@ -63,26 +64,27 @@ IsAnswer rule s (Best x dual pivots) = IsBest rule s pivots.items x.items dual.i
 IsAnswer rule s (NoSolution farkas pivots) = IsRefuted rule s pivots.items farkas.items
 IsAnswer rule s (Leaves pivots row column) = Refuses rule s pivots.items row column
 
--- n gains, which are 0, and marks of the rows in n columns
+-- marks of the rows in n columns
 pub record IsReady (n : ℕ) (rows : List Entries) (scratch : Scratch) : Type 0 where
-  pub cleared : AreEntries 0 n [] scratch.gains.items
   pub cover : Cover n rows scratch.marks.items
 
 abbrev pub IsAt : LinearSystem → Table → Tableau → Type 0
-IsAt s table t = IsAfter s table.pivots.items table.basis.items table.rows.items table.gains t
+IsAt s table t = IsAfter s table.pivots.items table.basis.items table.rows.items (dense table.gains.items) t
 
 -- the table is the opening one
 pub record IsOpening (s : LinearSystem) (table : Table) : Type 0 where
   pub rows : RowsStand (opening s) table.rows.items
-  pub gains : RowStands (pos 1) (opening s).gains table.gains
+  pub gains : RowStands (pos 1) (opening s).gains (dense table.gains.items)
+  pub wide : length table.gains.items ≡ right s + 1
   pub basis : table.basis.items ≡ slacks s
   pub none : table.pivots.items ≡ []
 
 -- the table is that of a course by the rule
 pub record Reached (rule : Rule) (s : LinearSystem) (table : Table) : Type 0 where
   pub t : Tableau
-  pub after : IsAfter s table.pivots.items table.basis.items table.rows.items table.gains t
+  pub after : IsAfter s table.pivots.items table.basis.items table.rows.items (dense table.gains.items) t
   pub follows : Follows rule s table.pivots.items
+  pub wide : length table.gains.items ≡ right s + 1
 
 -- the course ends there
 pub record ReachedEnd (rule : Rule) (s : LinearSystem) (table : Table) : Type 0 where

@@ -1,15 +1,20 @@
 //! The opening tableau of a system.
 
-ghost use Rattle.std.specs.Prelude.{◌≡◌, ◌<◌, ◌≤◌, ◌+◌, ◌^◌, ℕ, length, map, pos, neg_ℤ, OnOk, IfOk};
+ghost use Rattle.std.specs.Prelude.{◌≡◌, ◌<◌, ◌≤◌, ◌+◌, ◌^◌, ℕ, length, map, pos, neg_ℤ, OnOk, IfOk, IfErr};
+ghost use Rattle.frac128.specs.Values.{numerator, denominator};
 ghost use Rattle.frac_rows.specs.Entries.{EndsBefore};
 ghost use Rattle.linear_rows.specs.Terms.{coefficient, IsSparse};
 ghost use Rattle.linear_rows.specs.Systems.{AllBelow};
-ghost use Rattle.tableau.specs.Tableaux.{opening_row, opening, entry};
+ghost use Rattle.tableau.specs.Tableaux.{opening_row, opening, right, entry};
+ghost use Rattle.tableau.specs.Places as places;
 ghost use Rattle.tableau.specs.Refusals.{least_number};
 ghost use Rattle.simplex.specs.Standing.{entries_at, RowStands, RowsStand};
+ghost use Rattle.simplex.specs.Dense.{dense};
+ghost use Rattle.simplex.specs.Reading.{HaveParts};
 ghost use Rattle.simplex.specs.Opening.{AddsWhole, OpensTo, OpeningLeaves, AreEmpty, AddsInRow, AddsColumn, ColumnsOpen};
 
 use crate::fault::{Fault, in_row};
+use crate::reading::zeros;
 use frac_rows::{FracRow, RowFault};
 use frac128::Frac;
 use linear_rows::{Row, System};
@@ -130,28 +135,51 @@ pub(crate) fn opening_rows(alloc: Global, system: &System) -> Result<Vec<FracRow
     Ok(rows)
 }
 
-/// The right sides, column by column.
-fn right_sides(alloc: Global, rows: &[Row]) -> Result<FracRow, RowFault>
-    requires { length rows.now < 2 ^ 32 }
-    ensures row { IfOk result (OpensTo (length rows.now) (map (λ row. row.right) rows.now)) }
-    ensures leaves { (c : ℕ) → result ≡ Err (RowFault.Leaves c) → (c < length rows.now) × OpeningLeaves (map (λ row. row.right) rows.now) c }
+/// A whole number as a fraction, or the column where it stands if it leaves the range.
+fn whole_at(column: u32, n: i128) -> Result<Frac, u32>
+    ensures num { IfOk result (λ number. numerator number ≡ n) }
+    ensures den { IfOk result (λ number. denominator number ≡ 1) }
+    ensures leaves { IfErr result (λ c. (c ≡ column) × (n ≡ least_number)) }
 {
-    let mut all = FracRow::with_capacity(alloc, rows.len())?;
-    for j in 0..rows.len() {
-        push_whole(&mut all, j as u32, rows[j].right())?;
+    match Frac::whole(n) {
+        Some(number) => Ok(number),
+        None => Err(column),
     }
-    Ok(all)
 }
 
-/// The opening gains. They come after the unknowns' rows.
-pub(crate) fn opening_gains(alloc: Global, system: &System) -> Result<FracRow, Fault>
-    requires { length system.now.rows + system.now.unknowns < 2 ^ 32 }
-    ensures row { IfOk result (RowStands (pos 1) (opening system.now).gains) }
+/// Puts each right side in the place of its column, among fractions that are 0, or gives the column at which
+/// one leaves the range.
+fn put_right_sides(gains: &mut [Frac], rows: &[Row]) -> Result<(), u32>
+    requires columns { length rows.now < 2 ^ 32 }
+    requires room { length rows.now ≤ length gains.old }
+    requires zero { HaveParts (length gains.old) (λ _. pos 0) (λ _. 1) gains.old }
+    ensures opened { OnOk result (HaveParts (length gains.old) (λ c. places.at (map (λ row. row.right) rows.now) c) (λ _. 1) gains.new) }
+    ensures leaves { (c : ℕ) → result ≡ Err c → (c < length rows.now) × OpeningLeaves (map (λ row. row.right) rows.now) c }
+{
+    for j in 0..rows.len() {
+        match whole_at(j as u32, rows[j].right()) {
+            Ok(number) => gains[j] = number,
+            Err(column) => return Err(column),
+        }
+    }
+    Ok(())
+}
+
+/// The opening gains, each in the place of its column. They come after the unknowns' rows.
+pub(crate) fn opening_gains(alloc: Global, system: &System) -> Result<Vec<Frac>, Fault>
+    requires { right system.now < 2 ^ 32 }
+    ensures row { IfOk result (λ gains. RowStands (pos 1) (opening system.now).gains (dense gains.items)) }
+    ensures wide { IfOk result (λ gains. length gains.items ≡ right system.now + 1) }
     ensures leaves { (i c : ℕ) → result ≡ Err (Fault.Leaves i c) → entry (opening system.now) i c ≡ least_number }
     ensures inside { (i c : ℕ) → result ≡ Err (Fault.Leaves i c) → i ≤ system.now.unknowns }
 {
-    match right_sides(alloc, system.rows()) {
-        Ok(row) => Ok(row),
-        Err(fault) => Err(in_row(system.unknowns() as usize, fault)),
+    let right = system.rows().len() + system.unknowns() as usize;
+    let mut gains = zeros(alloc, right + 1)?;
+    match put_right_sides(&mut gains, system.rows()) {
+        Ok(()) => Ok(gains),
+        Err(column) => Err(Fault::Leaves {
+            row: system.unknowns() as usize,
+            column,
+        }),
     }
 }

@@ -3,11 +3,12 @@
 ghost use Rattle.std.specs.Prelude.{◌≡◌, ◌≢◌, ◌<◌, ℕ, pos, length, IfOk, OnOk, true};
 ghost use Rattle.frac128.specs.Values.{numerator, IsQuotient};
 ghost use Rattle.frac_rows.specs.Entries.{at, QuotientLeaves};
+ghost use Rattle.simplex.specs.Dense.{dense};
 ghost use Rattle.simplex.specs.Among.{Among, AllDiffer};
 ghost use Rattle.simplex.specs.Standing.{entries_at, IsSwept, SweepLeaves, AreTouching, AmongSwept, RowLeaves, IsPivoted, PivotLeaves};
 
 use crate::fault::{Fault, in_row};
-use frac_rows::{FracRow, RowFault};
+use frac_rows::{FracRow, RowFault, less};
 use frac128::Frac;
 use std::alloc::Global;
 use std::mem;
@@ -40,6 +41,27 @@ fn sweep(
     row.subtract(&times, lead, spare)
 }
 
+/// The gains, each in the place of its column, less that of column `entering` times the lead, or the column at
+/// which one leaves the range.
+fn sweep_gains(gains: &mut [Frac], entering: u32, lead: &FracRow) -> Result<(), u32>
+    requires entering { entering < length gains.old }
+    requires inside { (c : ℕ) → numerator (at c lead.now) ≢ pos 0 → c < length gains.old }
+    ensures count { length gains.new ≡ length gains.old }
+    ensures swept { OnOk result (IsSwept entering lead.now (dense gains.old) (dense gains.new)) }
+    ensures leaves { (c : ℕ) → result ≡ Err c → SweepLeaves entering c lead.now (dense gains.old) }
+{
+    let times = gains[entering as usize];
+    let entries = lead.entries();
+    for i in 0..entries.len() {
+        let (column, number) = entries[i];
+        match less(&gains[column as usize], &times, &number) {
+            Some(gain) => gains[column as usize] = gain,
+            None => return Err(column),
+        }
+    }
+    Ok(())
+}
+
 /// Sweeps these rows.
 fn sweep_rows(
     rows: &mut [FracRow],
@@ -65,7 +87,7 @@ fn sweep_rows(
 pub(crate) fn pivot(
     alloc: Global,
     rows: &mut [FracRow],
-    gains: &mut FracRow,
+    gains: &mut [Frac],
     touching: &[usize],
     exiting: usize,
     entering: u32,
@@ -74,8 +96,11 @@ pub(crate) fn pivot(
     requires inside { exiting < length rows.old }
     requires number { numerator (at entering (entries_at rows.old exiting)) ≢ pos 0 }
     requires touching { AreTouching entering rows.old touching.now }
-    ensures pivoted { OnOk result (IsPivoted exiting entering rows.old gains.old rows.new gains.new) }
-    ensures leaves { (i c : ℕ) → result ≡ Err (Fault.Leaves i c) → PivotLeaves exiting entering rows.old gains.old i c }
+    requires entering { entering < length gains.old }
+    requires wide { (c : ℕ) → numerator (at c (entries_at rows.old exiting)) ≢ pos 0 → c < length gains.old }
+    ensures pivoted { OnOk result (IsPivoted exiting entering rows.old (dense gains.old) rows.new (dense gains.new)) }
+    ensures count { length gains.new ≡ length gains.old }
+    ensures leaves { (i c : ℕ) → result ≡ Err (Fault.Leaves i c) → PivotLeaves exiting entering rows.old (dense gains.old) i c }
 {
     let row = mem::replace(&mut rows[exiting], FracRow::new(alloc));
     let lead = match lead_of(row, entering) {
@@ -86,8 +111,11 @@ pub(crate) fn pivot(
         }),
     };
     sweep_rows(rows, touching, entering, &lead, spare)?;
-    if let Err(fault) = sweep(gains, entering, &lead, spare) {
-        return Err(in_row(rows.len(), fault));
+    if let Err(column) = sweep_gains(gains, entering, &lead) {
+        return Err(Fault::Leaves {
+            row: rows.len(),
+            column,
+        });
     }
     rows[exiting] = lead;
     Ok(())

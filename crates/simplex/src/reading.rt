@@ -10,55 +10,6 @@ use frac_rows::FracRow;
 use frac128::Frac;
 use std::alloc::{AllocError, Global};
 
-/// The fractions of a row at `count` columns from `first` on.
-pub(crate) fn fractions(
-    alloc: Global,
-    row: &FracRow,
-    first: u32,
-    count: u32,
-) -> Result<Vec<Frac>, AllocError>
-    requires { first + count < 2 ^ 32 }
-    ensures { IfOk result (λ xs. AreEntries first count row.now xs.items) }
-{
-    let mut all = zeros(alloc, count as usize)?;
-    fill(&mut all, first, row);
-    Ok(all)
-}
-
-/// Puts each fraction of the row at its column's place, counted from `first`, among fractions that are 0.
-pub(crate) fn fill(all: &mut [Frac], first: u32, row: &FracRow)
-    requires { AreEntries first (length all.old) [] all.old }
-    ensures { AreEntries first (length all.old) row.now all.new }
-{
-    let entries = row.entries();
-    for i in 0..entries.len() {
-        let (column, number) = entries[i];
-        put(all, first, column, number);
-    }
-}
-
-/// Puts 0 at the place of each fraction of the row.
-pub(crate) fn clear(all: &mut [Frac], row: &FracRow)
-    requires { AreEntries 0 (length all.old) row.now all.old }
-    ensures { AreEntries 0 (length all.old) [] all.new }
-{
-    let entries = row.entries();
-    for i in 0..entries.len() {
-        put(all, 0, entries[i].0, Frac::zero());
-    }
-}
-
-/// Puts a number at its column's place, counted from `first`, where it has one.
-fn put(all: &mut [Frac], first: u32, column: u32, number: Frac)
-    ensures { IsPut first column number all.old all.new }
-{
-    if let Some(place) = column.checked_sub(first) {
-        if (place as usize) < all.len() {
-            all[place as usize] = number;
-        }
-    }
-}
-
 /// The fractions of the rows at a column.
 pub(crate) fn column_of(
     alloc: Global,

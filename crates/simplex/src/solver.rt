@@ -15,19 +15,17 @@ use crate::exiting::exiting;
 use crate::fault::Fault;
 use crate::opening::ROOM;
 use crate::pivot::pivot;
-use crate::reading::{clear, fill, zeros};
 use crate::table::{Table, dual, opening, ray, solution};
 use frac_rows::FracRow;
 use frac128::Frac;
 use linear_rows::System;
 use std::alloc::{AllocError, Global};
 
-/// What steps hand on beside the table: the gains as the rule sees them, which are 0 between steps, a row in
-/// which new rows are made, for each column before the right sides marks at the rows that may have a
-/// number there, and of the last step the rows with a number in its column and those with a positive one.
+/// What steps hand on beside the table: a row in which new rows are made, for each column before the right
+/// sides marks at the rows that may have a number there, and of the last step the rows with a number in its
+/// column and those with a positive one.
 #[derive(Drop)]
 pub(crate) struct Scratch {
-    gains: Vec<Frac>,
     row: FracRow,
     marks: Vec<bool>,
     touching: Vec<usize>,
@@ -47,23 +45,14 @@ pub(crate) enum Step {
     Leaves { row: u32, column: u32 },
 }
 
-/// The column that the rule answers for these gains. It sees them in `seen`, where all is 0 before and after.
-fn entering<F: Fn(&[Frac]) -> Option<usize>>(
-    chooser: &Chooser<F>,
-    gains: &FracRow,
-    seen: &mut [Frac],
-) -> Option<u32>
+/// The column that the rule answers for these gains.
+fn entering<F: Fn(&[Frac]) -> Option<usize>>(chooser: &Chooser<F>, gains: &[Frac]) -> Option<u32>
     requires callable { F.IsAlwaysCallable chooser.now }
     requires chooses { IsChooser F.Fn chooser.now }
-    requires columns { length seen.old < 2 ^ 32 }
-    requires cleared { AreEntries 0 (length seen.old) [] seen.old }
-    ensures chosen { (fs : List Frac) × AreEntries 0 (length seen.old) gains.now fs × FnReturnsAt F.Fn chooser.now fs result }
-    ensures cleared { AreEntries 0 (length seen.old) [] seen.new }
+    requires columns { length gains.now < 2 ^ 32 }
+    ensures { FnReturnsAt F.Fn chooser.now gains.now result }
 {
-    fill(seen, 0, gains);
-    let chosen = chooser.choose(seen);
-    clear(seen, gains);
-    match chosen {
+    match chooser.choose(gains) {
         Some(column) => Some(column as u32),
         None => None,
     }
@@ -102,7 +91,7 @@ pub(crate) fn make_step<F: Fn(&[Frac]) -> Option<usize>>(
     let slack = system.rows().len() as u32;
     let right = slack + system.unknowns();
     let height = table.rows.len();
-    let column = match entering(chooser, &table.gains, &mut scratch.gains) {
+    let column = match entering(chooser, &table.gains[..right as usize]) {
         Some(column) => column,
         None => return Ok(Step::Best),
     };
@@ -154,7 +143,6 @@ pub(crate) fn new_scratch(
     ensures { IfOk result (IsReady columns rows.now) }
 {
     Ok(Scratch {
-        gains: zeros(alloc, columns)?,
         row: FracRow::with_capacity(alloc, ROOM)?,
         marks: covering(alloc, rows, columns)?,
         touching: Vec::with_capacity(alloc, rows.len())?,

@@ -10,17 +10,18 @@ ghost use Rattle.simplex.specs.Solving.{IsOpening, IsAt};
 
 use crate::fault::Fault;
 use crate::opening::{opening_gains, opening_rows};
-use crate::reading::{column_of, fractions, negated, spread};
+use crate::reading::{column_of, negated, spread};
 use frac_rows::FracRow;
 use frac128::Frac;
 use linear_rows::System;
 use std::alloc::{AllocError, Global};
 
-/// A tableau as sparse rows, with the basis column of each row, and the pivots that led to it.
+/// A tableau as sparse rows and gains for all columns, with the basis column of each row, and the pivots that led
+/// to it.
 #[derive(Drop)]
 pub(crate) struct Table {
     pub(crate) rows: Vec<FracRow>,
-    pub(crate) gains: FracRow,
+    pub(crate) gains: Vec<Frac>,
     pub(crate) basis: Vec<u32>,
     pub(crate) pivots: Vec<(u32, u32)>,
 }
@@ -61,12 +62,12 @@ pub(crate) fn solution(
     system: &System,
     table: &Table,
 ) -> Result<Vec<Frac>, AllocError>
-    requires { right system.now < 2 ^ 32 }
+    requires { length table.now.gains.items ≡ right system.now + 1 }
     ensures { (t : Tableau) → IsAt system.now table.now t → IfOk result (λ x. AreOver t.over (solution system.now t) x.items) }
 {
-    let slack = system.rows().len() as u32;
-    let read = fractions(alloc, &table.gains, slack, system.unknowns())?;
-    negated(alloc, &read)
+    let slack = system.rows().len();
+    let right = slack + system.unknowns() as usize;
+    negated(alloc, &table.gains[slack..right])
 }
 
 /// The dual solution, with one number for each row of the system.
