@@ -124,7 +124,7 @@ all_swept f k s lead old new h e sweeping = record {
 }
 
 -- a row has no number past its end
-past : (xs : List ℤ) (c : ℕ) → length xs ≤ c → places.at xs c ≡ pos 0
+pub past : (xs : List ℤ) (c : ℕ) → length xs ≤ c → places.at xs c ≡ pos 0
 past [] c h = refl
 past (x ∷ xs) zero h = absurd (omega arith)
 past (x ∷ xs) (suc c) h = past xs c (omega arith)

@@ -22,7 +22,7 @@ use Rattle.simplex.specs.Opening.{AddsWhole, OpensTo, OpeningLeaves, AreEmpty, A
 use Rattle.tableau.proofs.Pivoting.{same_or_not}
 use Rattle.simplex.specs.Dense.{dense}
 use Rattle.simplex.specs.Reading.{frac_at, HaveParts}
-use Rattle.simplex.proofs.Gains.{at_dense}
+use Rattle.simplex.proofs.Gains.{at_dense, past}
 use Rattle.simplex.proofs.Listing.{length-set, set_here, set_there}
 use Rattle.simplex.proofs.Rows.{earlier_or_here}
 
@@ -50,11 +50,6 @@ none_from c k (d ∷ es) e h =
     let l = e.0 in
     let t : (d.0 == k) ≡ false = grind (arith, nat_tests) in
     rw t (none_from c k es e.1 h)
-
-past : (xs : List ℤ) (c : ℕ) → length xs ≤ c → places.at xs c ≡ pos 0
-past [] c h = refl
-past (x ∷ xs) zero h = absurd (omega arith)
-past (x ∷ xs) (suc c) h = past xs c (omega arith)
 
 front_or_back : (c n : ℕ) → (c < n) ⊎ ((i : ℕ) × (c ≡ n + i))
 front_or_back c n = elim (there c n) [ inl h ↦ inl h | inr h ↦ inr (c - n, omega arith) ]

@@ -1,9 +1,8 @@
 -- Lists of fractions that are read from rows.
-use Rattle.std.specs.Prelude.{◌≡◌, ℕ, ◌+◌, ◌<◌, List, length, ℤ, pos, slice_index_or, slice_set}
+use Rattle.std.specs.Prelude.{◌≡◌, ℕ, ◌<◌, List, length, ℤ, pos, slice_index_or}
 use Rattle.frac128.specs.declared.Frac.{Frac}
 use Rattle.frac128.specs.Values.{numerator, denominator}
 use Rattle.frac128.specs.Nought.{nought}
-use Rattle.frac_rows.specs.Entries.{Entries, at}
 use Rattle.tableau.specs.Places as places
 use Rattle.simplex.specs.Standing.{Stands}
 
@@ -18,15 +17,6 @@ pub record HaveParts (n : ℕ) (num : ℕ → ℤ) (den : ℕ → ℕ) (xs : Lis
   pub count : length xs ≡ n
   pub nums : (i : ℕ) → i < n → numerator (frac_at xs i) ≡ num i
   pub dens : (i : ℕ) → i < n → denominator (frac_at xs i) ≡ den i
-
--- the fractions of n columns from first on
-abbrev pub AreEntries : ℕ → ℕ → Entries → List Frac → Type 0
-AreEntries first n es xs = HaveParts n (λ i. numerator (at (first + i) es)) (λ i. denominator (at (first + i) es)) xs
-
--- x is put at the column's place, counted from first; where it has none, all stays as it is
-pub record IsPut (first column : ℕ) (x : Frac) (old new : List Frac) : Type 0 where
-  pub here : (j : ℕ) → first + j ≡ column → new ≡ slice_set old j x
-  pub before : column < first → new ≡ old
 
 -- no column comes twice
 pub record NoneTwice (cs : List ℕ) : Type 0 where

@@ -1,8 +1,8 @@
 //! Exact linear programming over fractions, by the simplex method.
 //!
-//! The rows of the tableau are sparse rows of fractions. Beside them stand, for each column, marks at the
-//! rows that may have a number there, so that a step looks at no others. `specs/` says what the rows stand
-//! for, and what each answer tells. The laws here say that a step which is made is a step of a lawful course, and
+//! The rows of the tableau are sparse rows of fractions, and the gains stand in the places of their columns.
+//! Beside the rows stand, for each column, marks at those that may have a number there, so that a step looks
+//! at no others. `specs/` says what the rows stand for, and what each answer tells. The laws here say that a step which is made is a step of a lawful course, and
 //! that one which is not made is refused there. Solving ends with every rule that chooses columns with
 //! gain, since no basis comes twice.
 #![tactic(auto)]

@@ -1,11 +1,9 @@
 //! The loop of the solver.
 
-ghost use Rattle.std.specs.Prelude.{◌≡◌, ◌<◌, ◌^◌, [], ℕ, List, length, IfOk};
+ghost use Rattle.std.specs.Prelude.{◌≡◌, ◌<◌, ◌^◌, ℕ, length, IfOk};
 ghost use Rattle.std.specs.Fn.{FnReturnsAt};
-ghost use Rattle.frac128.specs.declared.Frac.{Frac};
 ghost use Rattle.tableau.specs.Tableaux.{right};
 ghost use Rattle.simplex.specs.Choosing.{IsChooser};
-ghost use Rattle.simplex.specs.Reading.{AreEntries};
 ghost use Rattle.simplex.specs.Solving.{rule_of, Reached, IsReady, IsStep, IsAnswer, Agree};
 
 use crate::answer::Answer;
