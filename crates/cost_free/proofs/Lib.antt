@@ -11,3 +11,4 @@ pub mod GroupTasks
 pub mod Steps
 pub mod Course
 pub mod Results
+pub mod Passing

@@ -1,5 +1,5 @@
 // Tasks that wait for a bound.
-ghost use Rattle.std.specs.Prelude.{◌≡◌, ◌<◌, ◌^◌, ◌&&◌, List, length, take, map};
+ghost use Rattle.std.specs.Prelude.{◌≡◌, ◌≤◌, ◌<◌, ◌^◌, ◌&&◌, not, ℕ, true, false, List, length, take, IsTrue, IfSome, IfNone};
 ghost use Rattle.std.specs.Option.{option_map};
 ghost use Rattle.raml_syntax.specs.declared.program.FunId.{FunId};
 ghost use Rattle.cost_free.specs.Task.{same_meter};
@@ -51,15 +51,17 @@ fn any_calls(calls: &[Vec<FunId>], fun: u32, members: &[FunId]) -> bool
     false
 }
 
-fn in_any(fun: u32, groups: &[Vec<FunId>]) -> bool
-    ensures { result ≡ in_any fun (lists_of groups.now) }
+// The place of a group that it is in.
+fn place_in(fun: u32, groups: &[Vec<FunId>]) -> Option<usize>
+    ensures some { IfSome result (λ place. (in_any fun (lists_of groups.now) ≡ true) × (is_among fun (row (lists_of groups.now) place) ≡ true)) }
+    ensures none { IfNone result (in_any fun (lists_of groups.now) ≡ false) }
 {
-    for group in groups {
+    for (place, group) in groups.iter().enumerate() {
         if is_among(fun, group) {
-            return true;
+            return Some(place);
         }
     }
-    false
+    None
 }
 
 fn pays_for(meter: Meter, entry: &(Task, Done)) -> bool
@@ -94,6 +96,51 @@ fn has_bound(groups: &[Vec<FunId>], meter: Meter, done: &[(Task, Done)], fun: u3
     false
 }
 
+// About where the tasks of a group begin, which come group by group.
+fn begin_of(done: &[(Task, Done)], group: usize) -> usize
+    ensures { result ≤ length done.now }
+{
+    let mut low = 0;
+    let mut high = done.len();
+    while low < high {
+        let middle = low + (high - low) / 2;
+        if (done[middle].0.group as usize) < group {
+            low = middle + 1;
+        } else {
+            high = middle;
+        }
+    }
+    low
+}
+
+// Whether the meter's task of the group is found to be solved, where the group's tasks begin.
+fn pays_at(meter: Meter, done: &[(Task, Done)], group: usize) -> bool
+    ensures { IsTrue result → (groups : List (List ℕ)) (f : ℕ) → is_among f (row groups group) ≡ true → has_bound groups meter (outcomes_of done.now) f ≡ true }
+{
+    let mut place = begin_of(done, group);
+    while place < done.len() && done[place].0.group as usize == group {
+        if pays_for(meter, &done[place]) {
+            return true;
+        }
+        place += 1;
+    }
+    false
+}
+
+// The group is one that it is in, and is looked at first.
+fn is_bound(
+    groups: &[Vec<FunId>],
+    meter: Meter,
+    done: &[(Task, Done)],
+    fun: u32,
+    group: usize,
+) -> bool
+    requires { is_among fun (row (lists_of groups.now) group) ≡ true }
+    ensures { result ≡ has_bound (lists_of groups.now) meter (outcomes_of done.now) fun }
+{
+    pays_at(meter, done, group) || has_bound(groups, meter, done, fun)
+}
+
 // The groups before the one at a place.
 fn before(groups: &[Vec<FunId>], group: u32) -> &[Vec<FunId>]
     ensures { lists_of result.now ≡ take group (lists_of groups.now) }
@@ -103,6 +150,22 @@ fn before(groups: &[Vec<FunId>], group: u32) -> &[Vec<FunId>]
         &groups[..count]
     } else {
         groups
+    }
+}
+
+// It is in one of these groups, and has no bound.
+fn is_unpaid(
+    groups: &[Vec<FunId>],
+    group: u32,
+    meter: Meter,
+    done: &[(Task, Done)],
+    fun: u32,
+) -> bool
+    ensures { result ≡ (in_any fun (take group (lists_of groups.now)) && not (has_bound (lists_of groups.now) meter (outcomes_of done.now) fun)) }
+{
+    match place_in(fun, before(groups, group)) {
+        Some(place) => !is_bound(groups, meter, done, fun, place),
+        None => false,
     }
 }
 
@@ -116,9 +179,7 @@ fn blocks(
 ) -> bool
     ensures { result ≡ blocks (lists_of groups.now) (lists_of calls.now) group meter (outcomes_of done.now) fun }
 {
-    any_calls(calls, fun, row(groups, group))
-        && in_any(fun, before(groups, group))
-        && !has_bound(groups, meter, done, fun)
+    any_calls(calls, fun, row(groups, group)) && is_unpaid(groups, group, meter, done, fun)
 }
 
 fn least(
