@@ -1,11 +1,16 @@
 -- Targets in their list.
-use Rattle.std.proofs.Common.{◌≡◌, ℕ, zero, suc, ◌-◌, ◌<◌, ◌≤◌, List, [], ◌∷◌, ◌++◌, map, length, slice_get, slice_index_or, get_or, Some, None, refl, sym, ap, ◌∙◌, arith}
+use Rattle.std.proofs.Common.{◌≡◌, ℕ, zero, suc, ◌+◌, ◌-◌, ◌<◌, ◌≤◌, nat_eq, Bool, true, false, cond, List, [], ◌∷◌, ◌++◌, map, flat_map, filter, length, slice_get, get_or, Some, None, refl, sym, ap, ◌∙◌, arith}
+use Rattle.std.specs.List.{range_with_len}
 use Rattle.std.specs.Option.{option_map}
-use Rattle.std.proofs.lemmas.List.{length-map}
+use Rattle.std.proofs.lemmas.Bool.Decides.{nat_tests}
+use Rattle.std.proofs.lemmas.List.{map-append}
 use Rattle.std.proofs.lemmas.Option.{slice_get_read}
+use Rattle.raml_syntax.specs.Tree.{Type'}
 use Rattle.base_poly.specs.Plain.{Plain, degrees, capped}
+use Rattle.base_poly.specs.Indices.{tuples_up_to, by_degree, index_list}
+use Rattle.base_poly.proofs.Capped.{capped_is}
 use Rattle.cost_free.specs.Target as p
-use Rattle.cost_free.specs.Target.{Target, degree_of}
+use Rattle.cost_free.specs.Target.{Target, degree_of, joined_targets, targets}
 use Rattle.cost_free.specs.Joining.{joined_of, all_joined}
 use Rattle.cost_free.specs.declared.joined.Joined.{Joined}
 
@@ -46,7 +51,7 @@ none_there units joined all number k is low e past =
     gone (j ∷ js) (suc k) past = gone js k (omega (arith, past))
 
 -- the degrees of all
-pub degrees_listed : (units : List (List Plain)) (joined : List Joined) →
+degrees_listed : (units : List (List Plain)) (joined : List Joined) →
     map (λ t. capped (degree_of t)) (listed units joined) ≡ map (λ t. capped (degrees t)) units ++ map (λ j. capped (degree_of (joined_of j).target)) joined
 degrees_listed [] joined = of_joined joined
   where
@@ -56,16 +61,35 @@ degrees_listed [] joined = of_joined joined
     of_joined (j ∷ js) = ap (λ l. capped (degree_of (joined_of j).target) ∷ l) (of_joined js)
 degrees_listed (u ∷ us) joined = ap (λ l. capped (degrees u) ∷ l) (degrees_listed us joined)
 
-abbrev rest_of : List ℕ → List ℕ
-rest_of [] = []
-rest_of (n ∷ ns) = ns
+-- those of the tuples, by their degrees
+graded : (g : ℕ) → g ≤ 255 → (ts : List (List Plain)) → filter (λ n. nat_eq n g) (map degrees ts) ≡ map (λ t. capped (degrees t)) (filter (λ t. nat_eq (degrees t) g) ts)
+graded g low [] = refl
+graded g low (t ∷ ts) = by (nat_eq (degrees t) g) refl (graded g low ts)
+  where
+    by : (b : Bool) → nat_eq (degrees t) g ≡ b → filter (λ n. nat_eq n g) (map degrees ts) ≡ map (λ t. capped (degrees t)) (filter (λ t. nat_eq (degrees t) g) ts) →
+        cond b (degrees t ∷ filter (λ n. nat_eq n g) (map degrees ts)) (filter (λ n. nat_eq n g) (map degrees ts))
+        ≡ map (λ t. capped (degrees t)) (cond b (t ∷ filter (λ t. nat_eq (degrees t) g) ts) (filter (λ t. nat_eq (degrees t) g) ts))
+    by true e more = let is : degrees t ≡ g = grind (arith, nat_tests) in λ i. sym (capped_is (degrees t) (omega (arith, is, low))) i ∷ more i
+    by false e more = more
 
--- a number of a mapped list
-pub at_mapped : (f : Target → ℕ) (ts : List Target) (ns : List ℕ) (place x : ℕ) → ns ≡ map f ts → place < length ns → x ≡ slice_index_or ns place x → x ≡ f (slice_index_or ts place [])
-at_mapped f [] ns place x is low e = absurd (omega (arith, low, ap length is))
-at_mapped f (t ∷ ts) [] place x is low e = absurd (omega (arith, low))
-at_mapped f (t ∷ ts) (n ∷ ns) zero x is low e = e ∙ ap (λ l. slice_index_or l 0 x) is
-at_mapped f (t ∷ ts) (n ∷ ns) (suc place) x is low e = at_mapped f ts ns place x (ap rest_of is) (omega (arith, low)) e
+all_graded : (n from : ℕ) → from + n ≤ 256 → (ts : List (List Plain)) →
+    flat_map (λ g. filter (λ n. nat_eq n g) (map degrees ts)) (range_with_len from n) ≡ map (λ t. capped (degrees t)) (by_degree n from ts)
+all_graded zero from low ts = refl
+all_graded (suc n) from low ts =
+    let next : from + 1 ≡ 1 + from = omega arith in
+    (λ i. graded from (omega (arith, low)) ts i ++ all_graded n (from + 1) (omega (arith, low)) ts i)
+    ∙ ap (λ k. map (λ t. capped (degrees t)) (filter (λ t. nat_eq (degrees t) from) ts) ++ map (λ t. capped (degrees t)) (by_degree n k ts)) next
+    ∙ sym (map-append (λ t. capped (degrees t)) (filter (λ t. nat_eq (degrees t) from) ts) (by_degree n (1 + from) ts))
 
-pub low_mapped : (f : Target → ℕ) (ts : List Target) (ns : List ℕ) (place : ℕ) → ns ≡ map f ts → place < length ns → place < length ts
-low_mapped f ts ns place is low = omega (arith, low, ap length is, length-map ts f)
+-- those of a type's tuples, and those of the joined targets behind them
+pub degrees_made : (A : Type') (d : ℕ) (units found : List ℕ) (joined : List Joined) → d ≤ 255 → units ≡ map degrees (tuples_up_to (A ∷ []) d) →
+    map (λ (j : p.Joined). j.target) (all_joined joined) ≡ joined_targets A d →
+    found ≡ flat_map (λ g. filter (λ n. nat_eq n g) units) (range_with_len 0 (d + 1)) ++ map (λ j. capped (degree_of (joined_of j).target)) joined →
+    found ≡ map (λ t. capped (degree_of t)) (targets A d)
+degrees_made A d units found joined low is same made =
+    let last : d + 1 ≡ 1 + d = omega arith in
+    made
+    ∙ (λ i. flat_map (λ g. filter (λ n. nat_eq n g) (is i)) (range_with_len 0 (last i)) ++ map (λ j. capped (degree_of (joined_of j).target)) joined)
+    ∙ ap (λ l. l ++ map (λ j. capped (degree_of (joined_of j).target)) joined) (all_graded (1 + d) 0 (omega (arith, low)) (tuples_up_to (A ∷ []) d))
+    ∙ sym (degrees_listed (index_list (A ∷ []) d) joined)
+    ∙ ap (λ l. map (λ t. capped (degree_of t)) (map (λ t. t ∷ []) (index_list (A ∷ []) d) ++ l)) same

@@ -60,10 +60,10 @@ pieces_of ps = map (λ (p : Bor (List Index)). plains_of p.now) ps
 abbrev pub plan_of : Plan → s.Plan
 plan_of p = record { results = context_of p.results.now; groups = lists_of p.groups.now; degree = p.degree; work = p.work }
 
-abbrev pub numbered_of : Numbered → ℕ × List p.Target
-numbered_of n = (n.fun.0, n.targets)
+abbrev pub numbered_of : Numbered → ℕ × List ℕ
+numbered_of n = (n.fun.0, n.degrees.items)
 
-abbrev pub all_numbered : List Numbered → List (ℕ × List p.Target)
+abbrev pub all_numbered : List Numbered → List (ℕ × List ℕ)
 all_numbered ns = map numbered_of ns
 
 abbrev pub place_of : Walk → w.Place

@@ -1,9 +1,9 @@
-// Degrees of indices and tuples.
+// Degrees of indices.
 ghost use Rattle.std.specs.Prelude.{◌≡◌};
-ghost use Rattle.base_poly.specs.Plain.{many, deg, degrees, capped};
+ghost use Rattle.base_poly.specs.Plain.{many, deg, capped};
 ghost use Rattle.base_poly.specs.Read.{index_of, plains_of};
 
-use base_poly::{Index, Tuple};
+use base_poly::Index;
 
 /// The degree, or 2^32 - 1 where it is greater.
 #[cycle(degree)]
@@ -28,21 +28,4 @@ fn degree_of_entries(entries: &[Index]) -> u32
         sum = sum.saturating_add(1).saturating_add(capped_degree(entry));
     }
     sum
-}
-
-fn degree_of_parts(parts: &[Index]) -> u32
-    ensures { result ≡ capped (degrees (plains_of parts.now)) }
-{
-    let mut sum: u32 = 0;
-    for part in parts {
-        sum = sum.saturating_add(capped_degree(part));
-    }
-    sum
-}
-
-/// The degree of the tuple, or 2^32 - 1 where it is greater.
-pub fn tuple_degree(tuple: &Tuple) -> u32
-    ensures { result ≡ capped (degrees tuple.now) }
-{
-    degree_of_parts(tuple.parts())
 }

@@ -1,17 +1,16 @@
 // The tasks of one group.
-ghost use Rattle.std.specs.Prelude.{◌≡◌, ◌<◌, ◌^◌, ◌+◌, ℕ, nat_le, [], ◌∷◌, ◌++◌, List, map, flat_map, false, true, slice_get, IfOk, OnOk, IsErrOf};
+ghost use Rattle.std.specs.Prelude.{◌≡◌, ◌≤◌, ◌+◌, nat_le, [], ◌∷◌, ◌++◌, map, flat_map, false, true, slice_get, IfOk, OnOk, IsErrOf};
 ghost use Rattle.std.specs.List.{range_with_len};
 ghost use Rattle.base_poly.specs.Read.{context_of};
-ghost use Rattle.base_poly.specs.Plain.{capped};
 ghost use Rattle.cost_free.specs.Task as plain;
-ghost use Rattle.cost_free.specs.Schedule.{targets_at, tasks_for, free_tasks, group_tasks, meters};
+ghost use Rattle.cost_free.specs.Schedule.{group_tasks, meters};
 ghost use Rattle.cost_free.specs.Refused.{has_more, any_has_more};
 ghost use Rattle.cost_free.specs.Read.{ids_of, task_of, tasks_of, plan_of, numbered_of, all_numbered, kind_of};
-ghost use Rattle.cost_free.specs.Numbered.{tasks_of_all, with_targets};
+ghost use Rattle.cost_free.specs.Numbered.{degrees_at, with_degrees, tasks_by, tasks_of_all};
 
 use crate::numbered::Numbered;
 use crate::plan::Plan;
-use crate::target::{TargetList, no_targets, targets_within};
+use crate::target_degrees::target_degrees;
 use crate::task::{Meter, Task, TaskKind};
 use base_poly::IndexFault;
 use raml_syntax::FunId;
@@ -24,54 +23,38 @@ fn number_of(place: usize) -> Result<u32, AllocError>
     u32::try_from(place).map_err(|_| AllocError)
 }
 
-// The targets of a function, if it is one.
-fn targets_of<'a>(
+// The degrees of the targets of a function, if it is one.
+fn degrees_of(
     alloc: Global,
-    plan: Plan<'a>,
+    plan: Plan<'_>,
     fun: FunId,
     most: usize,
-) -> Result<TargetList<'a>, IndexFault>
-    ensures all { IfOk result (λ found. found ≡ targets_at (slice_get (plan_of plan.entry).results fun.0) plan.entry.degree) }
+) -> Result<Vec<u32>, IndexFault>
+    ensures all { IfOk result (λ found. found.items ≡ degrees_at (slice_get (plan_of plan.entry).results fun.0) plan.entry.degree) }
     ensures few { OnOk result (has_more most plan.entry.degree (slice_get (plan_of plan.entry).results fun.0) ≡ false) }
     ensures many { IsErrOf result IndexFault.TooMany → has_more most plan.entry.degree (slice_get (plan_of plan.entry).results fun.0) ≡ true }
 {
     match plan.results.get(fun.0 as usize) {
-        None => Ok(no_targets(alloc)),
-        Some(ty) => targets_within(alloc, ty, plan.degree, most),
+        None => Ok(Vec::new(alloc)),
+        Some(ty) => target_degrees(alloc, ty, plan.degree, most),
     }
 }
 
-// A function with its targets.
-fn with_degrees<'a>(
+// The functions with these.
+fn with_degrees(
     alloc: Global,
-    fun: FunId,
-    targets: TargetList<'a>,
-) -> Result<Numbered<'a>, AllocError>
-    ensures { IfOk result (λ one. numbered_of one ≡ (fun.0, targets.entry)) }
-{
-    let degrees = targets.degrees(alloc)?;
-    Ok(Numbered {
-        fun,
-        targets,
-        degrees,
-    })
-}
-
-// The functions with their targets.
-fn with_targets<'a>(
-    alloc: Global,
-    plan: Plan<'a>,
+    plan: Plan<'_>,
     funs: &[FunId],
     most: usize,
-) -> Result<Vec<Numbered<'a>>, IndexFault>
-    ensures all { IfOk result (λ found. all_numbered found.items ≡ with_targets (plan_of plan.entry) (ids_of funs.now)) }
+) -> Result<Vec<Numbered>, IndexFault>
+    ensures all { IfOk result (λ found. all_numbered found.items ≡ with_degrees (plan_of plan.entry) (ids_of funs.now)) }
     ensures few { OnOk result (any_has_more most (plan_of plan.entry) (ids_of funs.now) ≡ false) }
     ensures many { IsErrOf result IndexFault.TooMany → any_has_more most (plan_of plan.entry) (ids_of funs.now) ≡ true }
 {
     let mut found = Vec::with_capacity(alloc, funs.len())?;
     for &fun in funs {
-        let targets = targets_of(alloc, plan, fun, most)?;
-        found.push(with_degrees(alloc, fun, targets)?)?;
+        let degrees = degrees_of(alloc, plan, fun, most)?;
+        found.push(Numbered { fun, degrees })?;
     }
     Ok(found)
 }
@@ -86,7 +69,7 @@ fn append_task(tasks: &mut Vec<Task>, group: u32, kind: TaskKind) -> Result<(), 
 
 // Whether the budget allows the degree.
 fn is_within(degree: u32, budget: u8) -> bool
-    ensures { (n : ℕ) → degree ≡ capped n → result ≡ nat_le n budget }
+    ensures { result ≡ nat_le degree budget }
 {
     degree <= u32::from(budget)
 }
@@ -94,13 +77,12 @@ fn is_within(degree: u32, budget: u8) -> bool
 // Appends a function's tasks at a budget.
 fn append_tasks_for(
     tasks: &mut Vec<Task>,
-    plan: Plan<'_>,
     group: u32,
     budget: u8,
-    one: &Numbered<'_>,
+    one: &Numbered,
 ) -> Result<(), AllocError>
     ensures { OnOk result (tasks_of tasks.new.items
-        ≡ tasks_of tasks.old.items ++ tasks_for (plan_of plan.entry).results plan.entry.degree plan.entry.work group budget (numbered_of one.now).0 0 (numbered_of one.now).1) }
+        ≡ tasks_of tasks.old.items ++ tasks_by group budget (numbered_of one.now).0 0 (numbered_of one.now).1) }
 {
     for place in 0..one.degrees.len() {
         if !is_within(one.degrees[place], budget) {
@@ -123,15 +105,14 @@ fn append_tasks_for(
 // Appends those of all functions.
 fn append_tasks_at(
     tasks: &mut Vec<Task>,
-    plan: Plan<'_>,
     group: u32,
     budget: u8,
-    numbered: &[Numbered<'_>],
+    numbered: &[Numbered],
 ) -> Result<(), AllocError>
-    ensures { OnOk result (tasks_of tasks.new.items ≡ tasks_of tasks.old.items ++ tasks_of_all (plan_of plan.entry) group budget (all_numbered numbered.now)) }
+    ensures { OnOk result (tasks_of tasks.new.items ≡ tasks_of tasks.old.items ++ tasks_of_all group budget (all_numbered numbered.now)) }
 {
     for one in numbered {
-        append_tasks_for(tasks, plan, group, budget, one)?;
+        append_tasks_for(tasks, group, budget, one)?;
     }
     Ok(())
 }
@@ -139,16 +120,16 @@ fn append_tasks_at(
 // Appends those of all budgets.
 fn append_free_tasks(
     tasks: &mut Vec<Task>,
-    plan: Plan<'_>,
+    degree: u8,
     group: u32,
-    numbered: &[Numbered<'_>],
+    numbered: &[Numbered],
 ) -> Result<(), AllocError>
     ensures { OnOk result (tasks_of tasks.new.items
         ≡ tasks_of tasks.old.items
-        ++ flat_map (λ budget. tasks_of_all (plan_of plan.entry) group budget (all_numbered numbered.now)) (range_with_len 0 (plan.entry.degree + 1))) }
+        ++ flat_map (λ budget. tasks_of_all group budget (all_numbered numbered.now)) (range_with_len 0 (degree + 1))) }
 {
-    for budget in 0..u32::from(plan.degree) + 1 {
-        append_tasks_at(tasks, plan, group, budget as u8, numbered)?;
+    for budget in 0..u32::from(degree) + 1 {
+        append_tasks_at(tasks, group, budget as u8, numbered)?;
     }
     Ok(())
 }
@@ -168,17 +149,19 @@ fn append_meters(tasks: &mut Vec<Task>, group: u32, work: bool) -> Result<(), Al
 // All tasks of the group of these functions.
 fn all_tasks(
     alloc: Global,
-    plan: Plan<'_>,
+    degree: u8,
+    work: bool,
     group: u32,
-    numbered: &[Numbered<'_>],
+    numbered: &[Numbered],
 ) -> Result<Vec<Task>, AllocError>
-    ensures { IfOk result (λ tasks. tasks_of tasks.items
-        ≡ flat_map (λ budget. tasks_of_all (plan_of plan.entry) group budget (all_numbered numbered.now)) (range_with_len 0 (plan.entry.degree + 1))
-        ++ map (λ meter. record { group = group; kind = plain.With meter }) (meters plan.entry.work)) }
+    ensures low { degree ≤ 255 }
+    ensures tasks { IfOk result (λ tasks. tasks_of tasks.items
+        ≡ flat_map (λ budget. tasks_of_all group budget (all_numbered numbered.now)) (range_with_len 0 (degree + 1))
+        ++ map (λ meter. record { group = group; kind = plain.With meter }) (meters work)) }
 {
-    let mut tasks = Vec::new(alloc);
-    append_free_tasks(&mut tasks, plan, group, numbered)?;
-    append_meters(&mut tasks, group, plan.work)?;
+    let mut tasks = Vec::with_capacity(alloc, 8)?;
+    append_free_tasks(&mut tasks, degree, group, numbered)?;
+    append_meters(&mut tasks, group, work)?;
     Ok(tasks)
 }
 
@@ -196,7 +179,7 @@ pub fn group_tasks(
     ensures few { OnOk result (any_has_more most (plan_of plan.entry) (ids_of funs.now) ≡ false) }
     ensures many { IsErrOf result IndexFault.TooMany → any_has_more most (plan_of plan.entry) (ids_of funs.now) ≡ true }
 {
-    let numbered = with_targets(alloc, plan, funs, most)?;
+    let numbered = with_degrees(alloc, plan, funs, most)?;
     let group = number_of(place)?;
-    Ok(all_tasks(alloc, plan, group, &numbered)?)
+    Ok(all_tasks(alloc, plan.degree, plan.work, group, &numbered)?)
 }

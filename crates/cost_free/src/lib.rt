@@ -15,6 +15,7 @@ mod order;
 mod plan;
 mod schedule;
 mod target;
+mod target_degrees;
 mod task;
 mod waiting;
 mod walk;

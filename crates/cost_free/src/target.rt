@@ -1,14 +1,11 @@
 // TargetList.
-ghost use Rattle.std.specs.Prelude.{◌≡◌, ◌<◌, ◌≤◌, [], ◌∷◌, ◌++◌, map, length, nat_le, slice_get, slice_index_or, IfOk, OnOk, IsErrOf};
-ghost use Rattle.std.specs.Option.{option_map};
+ghost use Rattle.std.specs.Prelude.{◌≡◌, ◌<◌, ◌≤◌, [], ◌∷◌, ◌++◌, map, length, slice_get, IfOk, OnOk, IsErrOf};
 ghost use Rattle.raml_syntax.specs.Read.{ty_of};
-ghost use Rattle.base_poly.specs.Plain.{degrees, capped};
 ghost use Rattle.base_poly.specs.Indices.{index_list};
-ghost use Rattle.cost_free.specs.Target.{targets, degree_of};
+ghost use Rattle.cost_free.specs.Target.{targets};
 ghost use Rattle.cost_free.specs.Target as plain;
-ghost use Rattle.cost_free.specs.Joining.{all_joined, joined_of};
+ghost use Rattle.cost_free.specs.Joining.{all_joined};
 
-use crate::degree::tuple_degree;
 use crate::join::all_joined;
 use crate::joined::Joined;
 use crate::order::in_order;
@@ -16,6 +13,7 @@ use base_poly::{IndexFault, Tuple, indices};
 use raml_syntax::Ty;
 use std::alloc::{AllocError, Global};
 use std::marker::Model;
+use std::slice;
 
 /// What a cost-free signature is to leave of a result: the number 1 at each of these tuples, which
 /// have one index. Contracts see it as the list of its tuples.
@@ -94,48 +92,6 @@ impl<'a> TargetList<'a> {
             None => Ok(None),
         }
     }
-
-    /// The degrees of all targets, each 2^32 - 1 where it is greater.
-    pub(crate) fn degrees(&self, alloc: Global) -> Result<Vec<u32>, AllocError>
-        ensures { IfOk result (λ found. found.items ≡ map (λ t. capped (degree_of t)) self.now) }
-    {
-        let mut found = Vec::with_capacity(alloc, self.len())?;
-        append_unit_degrees(&mut found, &self.units)?;
-        append_joined_degrees(alloc, &mut found, &self.joined)?;
-        Ok(found)
-    }
-}
-
-fn append_unit_degrees(found: &mut Vec<u32>, units: &[Tuple]) -> Result<(), AllocError>
-    ensures { OnOk result (found.new.items ≡ found.old.items ++ map (λ t. capped (degrees t)) units.now) }
-{
-    for unit in units {
-        found.push(tuple_degree(unit))?;
-    }
-    Ok(())
-}
-
-fn append_joined_degrees(
-    alloc: Global,
-    found: &mut Vec<u32>,
-    joined: &[Joined<'_>],
-) -> Result<(), AllocError>
-    ensures { OnOk result (found.new.items ≡ found.old.items ++ map (λ j. capped (degree_of (joined_of j).target)) joined.now) }
-{
-    for one in joined {
-        found.push(one.tuple_degree(alloc)?)?;
-    }
-    Ok(())
-}
-
-/// No targets.
-pub(crate) fn no_targets<'a>(alloc: Global) -> TargetList<'a>
-    ensures { result ≡ [] }
-{
-    TargetList {
-        units: Vec::new(alloc),
-        joined: Vec::new(alloc),
-    }
 }
 
 /// The numbered targets of a result type at degree `d`: first one for each tuple of the type of degree
@@ -147,22 +103,7 @@ pub fn targets<'a>(alloc: Global, ty: &'a Ty, d: u8) -> Result<TargetList<'a>, I
     ensures few { OnOk result (length (index_list (ty_of ty.now ∷ []) d) ≤ 2000) }
     ensures many { IsErrOf result IndexFault.TooMany → 2000 < length (index_list (ty_of ty.now ∷ []) d) }
 {
-    targets_within(alloc, ty, d, 2000)
-}
-
-/// The same, where the type has at most so many indices.
-pub(crate) fn targets_within<'a>(
-    alloc: Global,
-    ty: &'a Ty,
-    d: u8,
-    most: usize,
-) -> Result<TargetList<'a>, IndexFault>
-    ensures all { IfOk result (λ found. found ≡ targets (ty_of ty.now) d) }
-    ensures few { OnOk result (length (index_list (ty_of ty.now ∷ []) d) ≤ most) }
-    ensures many { IsErrOf result IndexFault.TooMany → most < length (index_list (ty_of ty.now ∷ []) d) }
-{
-    let types = vec![in alloc; ty.copy(alloc)?]?;
-    let units = indices(alloc, &types, d, most)?;
+    let units = indices(alloc, slice::from_ref(ty), d, 2000)?;
     Ok(all_targets(alloc, ty, d, units)?)
 }
 
@@ -175,6 +116,20 @@ fn all_targets<'a>(
 ) -> Result<TargetList<'a>, AllocError>
     ensures { IfOk result (λ found. found ≡ map (λ t. t ∷ []) units.items ++ plain.joined_targets (ty_of ty.now) d) }
 {
-    let joined = in_order(alloc, all_joined(alloc, ty, d)?)?;
+    let joined = joined_targets(alloc, ty, d)?;
     Ok(TargetList { units, joined })
+}
+
+/// The joined targets in order. A type of one component has none.
+pub(crate) fn joined_targets<'a>(
+    alloc: Global,
+    ty: &'a Ty,
+    d: u8,
+) -> Result<Vec<Joined<'a>>, AllocError>
+    ensures { IfOk result (λ found. map (λ (j : plain.Joined). j.target) (all_joined found.items) ≡ plain.joined_targets (ty_of ty.now) d) }
+{
+    match ty {
+        Ty::Pair(..) => Ok(in_order(alloc, all_joined(alloc, ty, d)?)?),
+        Ty::Int | Ty::Bool | Ty::List(_) | Ty::Tree(_) | Ty::Opt(_) => Ok(Vec::new(alloc)),
+    }
 }

@@ -1,4 +1,4 @@
-use Rattle.std.proofs.Common.{◌∙◌, ◌<◌, ◌&&◌, length, ap, sym, arith}
+use Rattle.std.proofs.Common.{◌∙◌, ◌&&◌, ap, sym, arith}
 use Rattle.cost_free.specs.Task.{Outcome}
 use Rattle.cost_free.specs.Blocked.{is_among, row, pays_for}
 use Rattle.cost_free.proofs.Passing.{one_passes}

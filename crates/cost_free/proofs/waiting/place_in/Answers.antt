@@ -1,4 +1,4 @@
-use Rattle.std.proofs.Common.{◌<◌, length, ap, sym, ◌∙◌, arith}
+use Rattle.std.proofs.Common.{ap, sym, ◌∙◌, arith}
 use Rattle.cost_free.specs.Blocked.{is_among}
 use Rattle.cost_free.specs.Read.{ids_of}
 use Rattle.cost_free.proofs.Passing.{in_place}
