@@ -1,4 +1,5 @@
 pub mod Lower
+pub mod Flatness
 pub mod Contexts
 pub mod Entered
 pub mod Changed

@@ -3,6 +3,7 @@ pub mod Change
 pub mod Down
 pub mod Entries
 pub mod Within
+pub mod Flat
 pub mod Given
 pub mod Wide
 pub mod Read

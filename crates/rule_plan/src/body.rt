@@ -21,6 +21,7 @@ use crate::context;
 use crate::env::{Env, Reach};
 use crate::fault::PlanFault;
 use crate::plan::plans;
+use crate::small::is_small;
 use crate::tuples::size;
 use crate::weight::weight;
 use crate::within::check;
@@ -162,6 +163,9 @@ fn check_function(
         return Ok(());
     }
     let function = functions.fun(fun);
+    if is_small(function, &results[place], budget) {
+        return Ok(());
+    }
     check(
         alloc,
         &function.body,
