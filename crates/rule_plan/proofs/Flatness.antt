@@ -17,6 +17,7 @@ use Rattle.normal_form.specs.Norm as n
 use Rattle.normal_form.specs.Norm.{Norm}
 use Rattle.normal_form.specs.Context.{Context, types, type_in, without, opened, parts_of, copies_of, inners, others}
 use Rattle.annot_types.specs.Rows.{size as size_of}
+use Rattle.rule_plan.specs.Down.{up}
 use Rattle.rule_plan.specs.Within.{AreSmall, IsWithin}
 use Rattle.rule_plan.specs.Flat.{holder_of, holders, all_holders, flat_size, is_flat}
 use Rattle.rule_plan.proofs.Lower.{is_bound}
@@ -196,6 +197,9 @@ tuples_flat (OptionOf A ∷ As) d h = absurd (omega (arith, h))
 
 pub size_flat : (As : List Type') (d : ℕ) → all_holders As ≤ 10 → size_of As d ≡ flat_size (all_holders As) d
 size_flat As d h = as_many As d ∙ tuples_flat As d h
+
+pub sizes_flat : (As : List Type') (n top : ℕ) → n ≡ all_holders As → n ≤ 10 → up (flat_size n) top ≡ up (size_of As) top
+sizes_flat As n top is few = ap (λ k. up (flat_size k) top) is ∙ sym (λ i. up (λ d. size_flat As d (omega (arith, is, few)) i) top)
 
 pub size_step : (n d : ℕ) → flat_size (n + 1) (suc d) ≡ flat_size (n + 1) d + flat_size n (suc d)
 size_step n d = subst (λ m. flat_size m (suc d) ≡ flat_size m d + flat_size n (suc d)) (let next : suc n ≡ n + 1 = omega arith in next) refl

@@ -21,7 +21,6 @@ use Rattle.annot_types.specs.System.{args_of}
 use Rattle.walk_rules.specs.Plan as p
 use Rattle.walk_rules.specs.Planned.{entries_of, operand_entries, part_steps, let_part, budgets, called, lower}
 use Rattle.rule_walk.specs.Read.{plans}
-use Rattle.base_poly.specs.Read.{context_of}
 use Rattle.rule_plan.specs.declared.constructed.Built.{Built}
 use Rattle.rule_plan.specs.declared.called.Callee.{Callee}
 use Rattle.rule_plan.specs.declared.lets.Cut.{Cut}
@@ -68,10 +67,10 @@ range_entries c As Bs top d h =
 called_is : (G : Given) (P : Program) (C : Context) (f : ℕ) (xs : List ℕ) (T : Type') (c : Callee) (d : ℕ) →
     P.funs ≡ G.funs → IsCallee G C f xs T c → d ≤ G.top → called_at c d ≡ called P G.group [] G.top C f xs T d
 called_is G P C f xs T c d e is low =
-    let context : size_of (context_of c.context.items) d ≡ size_of (types C) d = ap (λ As. size_of As d) is.context in
+    let context : at_budget c.context.items d ≡ size_of (types C) d = ap (λ s. at_budget s d) is.context ∙ at_up (size_of (types C)) G.top d low in
     let result : at_budget c.result.items d ≡ size_of (T ∷ []) d = ap (λ s. at_budget s d) is.result ∙ at_up (size_of (T ∷ [])) G.top d low in
     let As = args_of (slice_get G.funs f) in
-    let from_args : map (λ n. restricted n (size_of (context_of c.context.items) d) c.operands.items) c.args.items ≡ map (λ b. operand_entries C xs (args_of (slice_get P.funs f)) b d) (budgets G.top d) =
+    let from_args : map (λ n. restricted n (at_budget c.context.items d) c.operands.items) c.args.items ≡ map (λ b. operand_entries C xs (args_of (slice_get P.funs f)) b d) (budgets G.top d) =
     (λ i. map (λ n. restricted n (context i) (is.operands i)) (is.args i))
     ∙ range_entries (permutes (operand_places C xs)) As (types C) G.top d low
     ∙ (λ i. map (λ b. operand_entries C xs (args_of (slice_get (sym e i) f)) b d) (budgets G.top d)) in

@@ -2,6 +2,8 @@
 use Rattle.std.specs.Prelude.{ℕ, List}
 use Rattle.raml_syntax.specs.Tree.{Type'}
 use Rattle.base_poly.specs.Read.{context_of}
+use Rattle.normal_form.specs.Context.{types}
+use Rattle.normal_form.specs.Read.{parameters_of}
 use Rattle.index_shift.specs.declared.entry.Entry.{Entry}
 use Rattle.index_shift.specs.Maps.{opening, leaving, sharing}
 use Rattle.walk_rules.specs.Plan as p
@@ -17,4 +19,4 @@ changed Sharing As at d = sharing As at d
 
 -- the map at a budget
 abbrev pub step_at : Move → ℕ → p.Step
-step_at m d = step (context_of m.new.items) d (changed m.change (context_of m.types.items) m.at d)
+step_at m d = step (types (parameters_of m.next.items)) d (changed m.change (context_of m.types.items) m.at d)

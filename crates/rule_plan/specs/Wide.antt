@@ -50,9 +50,9 @@ called_at c d = record {
   function = c.function;
   own = c.own;
   usable = [];
-  args = size_of (context_of c.context.items) d;
+  args = at_budget c.context.items d;
   result = at_budget c.result.items d;
-  args_from = map (λ n. restricted n (size_of (context_of c.context.items) d) c.operands.items) c.args.items;
+  args_from = map (λ n. restricted n (at_budget c.context.items d) c.operands.items) c.args.items;
   result_from = map (λ n. restricted n (at_budget c.result.items d) c.same.items) c.result.items;
 }
 
@@ -61,7 +61,7 @@ pub record IsCallee (G : Given) (C : Context) (f : ℕ) (xs : List ℕ) (T : Typ
   pub function : c.function ≡ f
   pub own : c.own ≡ place_in G.group f
   pub args : c.args.items ≡ up (size_of (args_of (slice_get G.funs f))) G.top
-  pub context : context_of c.context.items ≡ types C
+  pub context : c.context.items ≡ up (size_of (types C)) G.top
   pub result : c.result.items ≡ up (size_of (T ∷ [])) G.top
   pub operands : c.operands.items ≡ operand_entries C xs (args_of (slice_get G.funs f)) G.top G.top
   pub same : c.same.items ≡ entries_of (to (λ t. t)) (T ∷ []) G.top (T ∷ []) G.top

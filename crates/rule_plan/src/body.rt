@@ -1,5 +1,5 @@
 // Plans of the bodies of a group.
-ghost use Rattle.std.specs.Prelude.{◌≡◌, ◌≤◌, ℕ, List, [], map, slice_get, Some, IfOk, IfSome, OnOk, IsErrOf};
+ghost use Rattle.std.specs.Prelude.{◌≡◌, ◌≤◌, ℕ, List, [], map, slice_get, Some, IfOk, IfSome, OnOk, IsErrOf, IsTrue};
 ghost use Rattle.std.specs.List.{All};
 ghost use Rattle.call_groups.specs.Read.{ids_of};
 ghost use Rattle.normal_form.specs.Read.{fun_of, funs_of};
@@ -17,12 +17,11 @@ ghost use Rattle.rule_plan.specs.Given.{given_of, made_of};
 ghost use Rattle.rule_plan.specs.Read.{program_in, function_of, over_of, body_of, group_bodies, GroupWithin, ArePlansIn, ArePlansOf, AreBodies, IsBody};
 ghost use Rattle.rule_plan.specs.Within.{FunctionWithin};
 
-use crate::context;
 use crate::env::{Env, Reach};
 use crate::fault::PlanFault;
 use crate::plan::plans;
 use crate::small::is_small;
-use crate::tuples::size;
+use crate::tuples::{context_size, size};
 use crate::weight::weight;
 use crate::within::check;
 use call_groups::Groups;
@@ -93,6 +92,13 @@ impl Body<'_> {
 }
 
 impl GroupPlans {
+    /// Whether they are of this group and this budget.
+    pub(crate) fn is_of(&self, group: u32, budget: u8) -> bool
+        ensures { IsTrue result → (self.now.group ≡ group) × (self.now.budget ≡ budget) }
+    {
+        self.group == group && self.budget == budget
+    }
+
     /// About how many entries their maps have.
     pub(crate) fn weight(&self) -> usize {
         self.weight
@@ -207,10 +213,9 @@ fn with_plan(env: &Env<'_>, function: &NormFun, ty: &Ty) -> Result<FunctionPlan,
     requires low { env.now.top ≤ 4 }
     ensures { IfOk result (λ made. IsBody (given_of env.now) (Some (fun_of ty.now function.now)) made) }
 {
-    let types = context::types(env.alloc, &function.params)?;
     let made = plans(env, &function.body, &function.params, ty)?;
     let plan = greatest(made)?;
-    let args = size(env.alloc, &types, env.top)?;
+    let args = context_size(env.alloc, &function.params, env.top)?;
     let result = size(env.alloc, slice::from_ref(ty), env.top)?;
     Ok(FunctionPlan { plan, args, result })
 }
@@ -326,7 +331,7 @@ pub fn next_plans(
     ensures many { IsErrOf result PlanFault.TooMany → GroupWithin (program_in program.now) group budget → ⊥ }
 {
     match last {
-        Some(made) if made.group == group && made.budget == budget => Ok(made),
+        Some(made) if made.is_of(group, budget) => Ok(made),
         _ => group_plans(alloc, program, group, budget),
     }
 }

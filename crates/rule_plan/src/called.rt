@@ -20,7 +20,7 @@ use crate::context;
 use crate::entries::restricted;
 use crate::env::Env;
 use crate::operands::{operand_entries, same_entries};
-use crate::tuples::{size, sizes};
+use crate::tuples::{context_sizes, sizes};
 use index_shift::Entry;
 use raml_syntax::{FunId, Ty};
 use rule_walk::{Called, Plan};
@@ -28,14 +28,14 @@ use std::alloc::{AllocError, Global};
 use std::slice;
 
 /// Of a call, what is made once for all budgets: the function, its place in the group, how many
-/// positions its arguments and the result have at each budget from 0 on, the types of the context, and
-/// the entries at the greatest budget.
+/// positions its arguments, the context and the result have at each budget from 0 on, and the entries at
+/// the greatest budget.
 #[derive(Drop)]
 pub struct Callee {
     pub function: usize,
     pub own: Option<usize>,
     pub args: Vec<usize>,
-    pub context: Vec<Ty>,
+    pub context: Vec<usize>,
     pub result: Vec<usize>,
     pub operands: Vec<Entry>,
     pub same: Vec<Entry>,
@@ -98,7 +98,7 @@ fn all_restricted(
 fn called(alloc: Global, callee: &Callee, d: u8) -> Result<Called, AllocError>
     ensures { IfOk result (λ made. called_of made ≡ called_at callee.now d) }
 {
-    let args = size(alloc, &callee.context, d)?;
+    let args = at_budget(&callee.context, d as usize);
     let result = at_budget(&callee.result, d as usize);
     let args_from = all_restricted(alloc, &callee.operands, &callee.args, args)?;
     let result_from = all_restricted(alloc, &callee.same, &callee.result, result)?;
@@ -147,7 +147,7 @@ fn made_once(
         function: fun.0 as usize,
         own: place_in(env.group, fun),
         args: sizes(env.alloc, &parameters, env.top)?,
-        context: context::types(env.alloc, context)?,
+        context: context_sizes(env.alloc, context, env.top)?,
         result: sizes(env.alloc, result, env.top)?,
         operands: operand_entries(env.alloc, context, args, &parameters, env.top)?,
         same: same_entries(env.alloc, result, env.top)?,

@@ -9,7 +9,7 @@ ghost use Rattle.rule_walk.specs.Steps.{step_of};
 ghost use Rattle.rule_plan.specs.Change.{changed, step_at};
 
 use crate::context;
-use crate::tuples::size;
+use crate::tuples::context_size;
 use crate::within::MOST;
 use base_poly::degrees;
 use index_shift::{Entry, Local, MapFault, drop_var, share_map};
@@ -78,13 +78,13 @@ pub fn entries(
     }
 }
 
-/// A change of a context: of which variable, from which types and to which.
+/// A change of a context: of which variable, from which types and to which context.
 #[derive(Drop)]
 pub struct Move {
     pub change: Change,
     pub types: Vec<Ty>,
     pub at: usize,
-    pub new: Vec<Ty>,
+    pub next: Vec<(u32, Ty)>,
 }
 
 impl Move {
@@ -94,18 +94,17 @@ impl Move {
         change: Change,
         context: &[(u32, Ty)],
         x: u32,
-        next: &[(u32, Ty)],
+        next: Vec<(u32, Ty)>,
     ) -> Result<Move, AllocError>
         ensures { IfOk result (λ made. (d : ℕ) → step_at made d
-            ≡ step (types (parameters_of next.now)) d (changed change (types (parameters_of context.now)) (place x (parameters_of context.now)) d)) }
+            ≡ step (types (parameters_of next.items)) d (changed change (types (parameters_of context.now)) (place x (parameters_of context.now)) d)) }
     {
         let types = context::types(alloc, context)?;
-        let new = context::types(alloc, next)?;
         Ok(Move {
             change,
             types,
             at: context::place(context, x),
-            new,
+            next,
         })
     }
 
@@ -115,7 +114,7 @@ impl Move {
         ensures { IfOk result (λ made. step_of made ≡ step_at self.now d) }
     {
         let entries = entries(alloc, self.change, &self.types, self.at, d)?;
-        let size = size(alloc, &self.new, d)?;
+        let size = context_size(alloc, &self.next, d)?;
         Ok(Step { size, entries })
     }
 }

@@ -1,14 +1,16 @@
 // Lists and trees of scalars: contexts that have a few of them, and else scalars alone, are counted
 // without a list of their tuples.
-ghost use Rattle.std.specs.Prelude.{◌≡◌, ◌≤◌, IfSome};
+ghost use Rattle.std.specs.Prelude.{◌≡◌, ◌≤◌, map, IfOk, IfSome};
 ghost use Rattle.raml_syntax.specs.Read.{ty_of};
 ghost use Rattle.base_poly.specs.Read.{context_of};
 ghost use Rattle.normal_form.specs.Context.{types};
 ghost use Rattle.normal_form.specs.Read.{parameters_of};
 ghost use Rattle.annot_types.specs.Rows.{size as size_of};
+ghost use Rattle.rule_plan.specs.Down.{up};
 ghost use Rattle.rule_plan.specs.Flat.{holder_of, holders, all_holders, flat_size};
 
 use raml_syntax::Ty;
+use std::alloc::{AllocError, Global};
 
 /// The most of them that a context may have here.
 pub const MOST: u8 = 10;
@@ -48,8 +50,8 @@ pub fn held(context: &[(u32, Ty)]) -> Option<u8>
     Some(MOST - left)
 }
 
-// How many there are among the types.
-fn held_among(types: &[Ty]) -> Option<u8>
+/// How many there are among the types.
+pub fn held_among(types: &[Ty]) -> Option<u8>
     ensures { IfSome result (λ held. (held ≡ all_holders (context_of types.now)) × (held ≤ 10)) }
 {
     let mut left = MOST;
@@ -107,4 +109,18 @@ pub fn flat_types(types: &[Ty], d: u8) -> Option<usize>
         return None;
     }
     Some(flat_size(held_among(types)?, d))
+}
+
+/// The same at each budget from 0 on, of a context with so many of them.
+#[tactic(auto, using(crate::proofs::Calling::up_more, crate::proofs::Calling::up_end))]
+pub fn flat_sizes(alloc: Global, held: u8, top: u8) -> Result<Vec<usize>, AllocError>
+    requires few { held ≤ 10 }
+    requires low { top ≤ 4 }
+    ensures { IfOk result (λ found. found.items ≡ up (flat_size held) top) }
+{
+    let mut found = Vec::with_capacity(alloc, usize::from(top) + 1)?;
+    for d in 0..u16::from(top) + 1 {
+        found.push(flat_size(held, d as u8))?;
+    }
+    Ok(found)
 }

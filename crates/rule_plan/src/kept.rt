@@ -1,5 +1,5 @@
 // Plans that were made before.
-ghost use Rattle.std.specs.Prelude.{IfSome, OnOk};
+ghost use Rattle.std.specs.Prelude.{◌<◌, length, IfSome, OnOk};
 ghost use Rattle.annot_types.specs.Program.{Program};
 ghost use Rattle.rule_plan.specs.Read.{ArePlansIn, AreKept};
 
@@ -15,6 +15,7 @@ const MOST: usize = 1 << 20;
 pub struct KeptPlans {
     pub made: Vec<GroupPlans>,
     room: usize,
+    latest: u32,
 }
 
 impl KeptPlans {
@@ -25,7 +26,23 @@ impl KeptPlans {
         KeptPlans {
             made: Vec::new(alloc),
             room: MOST,
+            latest: 0,
         }
+    }
+
+    // Where the plans of a group at a budget stand. They are mostly the last ones, or of a group behind
+    // all that came, or else the first ones.
+    fn place(&self, group: u32, budget: u8) -> Option<usize>
+        ensures { IfSome result (λ place. place < length self.now.made.items) }
+    {
+        let last = self.made.len().checked_sub(1)?;
+        if self.made[last].is_of(group, budget) {
+            return Some(last);
+        }
+        if group > self.latest {
+            return None;
+        }
+        self.made.iter().position(|made| made.is_of(group, budget))
     }
 
     /// The plans of a group at a budget, where they are kept. They are handed out.
@@ -33,10 +50,7 @@ impl KeptPlans {
         ensures taken { IfSome result (λ made. (P : Program) → AreKept P self.old → ArePlansIn P made) }
         ensures left { (P : Program) → AreKept P self.old → AreKept P self.new }
     {
-        let place = self
-            .made
-            .iter()
-            .rposition(|made| made.group == group && made.budget == budget)?;
+        let place = self.place(group, budget)?;
         let made = self.made.remove(place);
         self.room = self.room.saturating_add(made.weight());
         Some(made)
@@ -52,7 +66,12 @@ impl KeptPlans {
             self.room = MOST;
         }
         self.room = self.room.saturating_sub(weight);
+        self.latest = later(self.latest, plans.group);
         self.made.push(plans)?;
         Ok(())
     }
+}
+
+fn later(one: u32, other: u32) -> u32 {
+    if one < other { other } else { one }
 }

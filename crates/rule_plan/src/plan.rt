@@ -137,8 +137,8 @@ fn left(
         (without x (parameters_of context.now)) (ty_of ty.now) branch.change (made_of branch.rests.items)) }
 {
     let next = context::without(env.alloc, context, x)?;
-    let change = Move::new(env.alloc, Change::Leaving, context, x, &next)?;
     let rests = plans(env, a, &next, ty)?;
+    let change = Move::new(env.alloc, Change::Leaving, context, x, next)?;
     Ok(Branch { change, rests })
 }
 
@@ -157,8 +157,8 @@ fn taken_apart(
         (opened x names.now parts_of (parameters_of context.now)) (ty_of ty.now) branch.change (made_of branch.rests.items)) }
 {
     let next = context::opened(env.alloc, context, x, names)?;
-    let change = Move::new(env.alloc, Change::Opening, context, x, &next)?;
     let rests = plans(env, a, &next, ty)?;
+    let change = Move::new(env.alloc, Change::Opening, context, x, next)?;
     Ok(Branch { change, rests })
 }
 
@@ -300,7 +300,8 @@ fn plan_share(
 {
     let next = context::shared(env.alloc, context, x, &[first, second])?;
     let rests = plans(env, a, &next, ty)?;
-    let change = Move::new(env.alloc, Change::Sharing, context, x, context)?;
+    let same = context::copied(env.alloc, context)?;
+    let change = Move::new(env.alloc, Change::Sharing, context, x, same)?;
     let types = context::types(env.alloc, &next)?;
     shares(env.alloc, nodes, &change, &types, env.top, rests)
 }

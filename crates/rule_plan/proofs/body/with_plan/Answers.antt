@@ -12,6 +12,6 @@ pub returns : goal.returns
 returns c =
     let a = c.args in
     let top = a.env.now.top in
-    some_is (given_of a.env.now) a.ty.now a.function.now _ (parameters_of c.deref-2.result.now) (ty_of a.ty.now) (made_of c.in_ok-made.made.items) (ap parameters_of c.deref-2.ensures.value) refl c.in_ok-made.ensures c.in_ok-plan.ensures
-    (c.in_ok-args.ensures ∙ ap (λ l. size_of (context_of l) top) c.deref-3.ensures.value ∙ ap (λ As. size_of As top) (c.in_ok-types.ensures ∙ ap (λ l. types (parameters_of l)) c.deref.ensures.value))
+    some_is (given_of a.env.now) a.ty.now a.function.now _ (parameters_of c.deref.result.now) (ty_of a.ty.now) (made_of c.in_ok-made.made.items) (ap parameters_of c.deref.ensures.value) refl c.in_ok-made.ensures c.in_ok-plan.ensures
+    (c.in_ok-args.ensures ∙ ap (λ l. size_of (types (parameters_of l)) top) c.deref-2.ensures.value)
     (c.in_ok-result.ensures ∙ ap (λ l. size_of (context_of l) top) c.from_ref.ensures.value)

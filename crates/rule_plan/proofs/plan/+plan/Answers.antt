@@ -3,7 +3,7 @@ use Rattle.std.proofs.lemmas.Result.{IfOk-weaker}
 use Rattle.std.specs.Rc.{rc_value}
 use Rattle.raml_syntax.specs.Read.{ty_of}
 use Rattle.base_poly.specs.Read.{context_of}
-use Rattle.index_shift.specs.Maps.{opening, leaving}
+use Rattle.index_shift.specs.Maps.{opening, leaving, sharing}
 use Rattle.normal_form.specs.Norm as n
 use Rattle.normal_form.specs.Context.{types, place, without, opened, parts_of, inners}
 use Rattle.normal_form.specs.Read.{norm_of, parameters_of}
@@ -19,15 +19,15 @@ use Rattle.rule_plan.proofs.plan.+plan.Goals as goal
 pub left-returns : goal.left-returns
 left-returns t c =
     let a = c.args in let C = parameters_of a.context.now in
-    branch_is (given_of a.env.now) (λ N d. step (types N) d (leaving (types C) (place a.x C) d)) (norm_of a.a.now) (parameters_of c.deref.result.now) (parameters_of c.deref-2.result.now) (without a.x C) (ty_of a.ty.now)
-    c.in_ok-change.change (made_of c.in_ok-rests.rests.items) (ap parameters_of c.deref.ensures.value ∙ c.in_ok-next.ensures) (ap parameters_of c.deref-2.ensures.value ∙ c.in_ok-next.ensures) c.in_ok-change.ensures c.in_ok-rests.ensures
+    branch_is (given_of a.env.now) (λ N d. step (types N) d (leaving (types C) (place a.x C) d)) (norm_of a.a.now) (parameters_of c.in_ok-next.next.items) (parameters_of c.deref.result.now) (without a.x C) (ty_of a.ty.now)
+    c.in_ok-change.change (made_of c.in_ok-rests.rests.items) c.in_ok-next.ensures (ap parameters_of c.deref.ensures.value ∙ c.in_ok-next.ensures) c.in_ok-change.ensures c.in_ok-rests.ensures
 
 pub taken_apart-returns : goal.taken_apart-returns
 taken_apart-returns t c =
     let a = c.args in let C = parameters_of a.context.now in
-    branch_is (given_of a.env.now) (λ N d. step (types N) d (opening (types C) (place a.x C) d)) (norm_of a.a.now) (parameters_of c.deref.result.now) (parameters_of c.deref-2.result.now)
+    branch_is (given_of a.env.now) (λ N d. step (types N) d (opening (types C) (place a.x C) d)) (norm_of a.a.now) (parameters_of c.in_ok-next.next.items) (parameters_of c.deref.result.now)
     (opened a.x a.names.now parts_of C) (ty_of a.ty.now)
-    c.in_ok-change.change (made_of c.in_ok-rests.rests.items) (ap parameters_of c.deref.ensures.value ∙ c.in_ok-next.ensures) (ap parameters_of c.deref-2.ensures.value ∙ c.in_ok-next.ensures) c.in_ok-change.ensures c.in_ok-rests.ensures
+    c.in_ok-change.change (made_of c.in_ok-rests.rests.items) c.in_ok-next.ensures (ap parameters_of c.deref.ensures.value ∙ c.in_ok-next.ensures) c.in_ok-change.ensures c.in_ok-rests.ensures
 
 pub plan_split-returns : goal.plan_split-returns
 plan_split-returns t c =
@@ -72,7 +72,7 @@ plan_share-returns t c =
     IfOk-weaker c.shares.result _ (λ made. ArePlans G (n.Share a.nodes a.x a.first a.second (norm_of a.a.now)) C (ty_of a.ty.now) (made_of made.items))
     (λ made is. shares_are G a.nodes a.x a.first a.second (norm_of a.a.now) C (parameters_of c.deref-2.result.now) (parameters_of c.deref.result.now) (ty_of a.ty.now) c.in_ok-change.change (context_of c.deref-3.result.now)
     (made_of c.in_ok-rests.rests.items) (made_of made.items) is (ap context_of c.deref-3.ensures.value ∙ c.in_ok-types.ensures)
-    (ap parameters_of c.deref-2.ensures.value ∙ c.in_ok-next.ensures) (ap parameters_of c.deref.ensures.value ∙ c.in_ok-next.ensures) c.in_ok-change.ensures c.in_ok-rests.ensures) c.shares.ensures
+    (ap parameters_of c.deref-2.ensures.value ∙ c.in_ok-next.ensures) (ap parameters_of c.deref.ensures.value ∙ c.in_ok-next.ensures) (λ d. c.in_ok-change.ensures d ∙ ap (λ N. step (types N) d (sharing (types C) (place a.x C) d)) c.in_ok-same.ensures) c.in_ok-rests.ensures) c.shares.ensures
 
 pub bound_plans-returns : goal.bound_plans-returns
 bound_plans-returns t c =

@@ -1,4 +1,4 @@
-use Rattle.std.proofs.Common.{◌+◌, sym, ap, ◌∙◌, arith}
+use Rattle.std.proofs.Common.{sym, ap, ◌∙◌, arith}
 use Rattle.raml_syntax.specs.Read.{ty_of}
 use Rattle.normal_form.specs.Context.{types}
 use Rattle.normal_form.specs.Read.{norm_of, parameters_of}
