@@ -1,73 +1,18 @@
 // Whole calls over files and streams in memory.
 use constraint_gen::What;
 use cost_free::{Meter, Task, TaskKind};
-use raml_io::{MemSink, MemStore};
+use program_calls::{ANALYSE, TYPES, answer, answer_on, sink_of, store_of};
 use raml_lex::LexFault;
 use raml_parse::ParseFault;
 use raml_syntax::Pos;
 use raml_top::{CertAnswer, OverflowAt, SourceFault, Status, Which, raml};
 use simple_types::TypeFault;
-use std::alloc::{AllocError, Global};
-use std::fmt::Write;
 use std::test::Fail;
 use value_text::DataFault;
 
 const FIRST: &[u8] = b"fun main (x : int) : int = tick 3 in x";
 
 const FIRST_REPORT: &[u8] = b"main ticks <= 3\nmain cells <= 0\nmain work <= 3\n";
-
-pub const ANALYSE: [&str; 4] = ["analyse", "f.raml", "--degree", "1"];
-
-pub const TYPES: [&str; 2] = ["types", "f.raml"];
-
-// A store that holds two files: `f.raml`, and `d` with data.
-fn store_of(
-    alloc: Global,
-    source: &[u8],
-    data: &[u8],
-    failing: &[u64],
-) -> Result<MemStore, AllocError> {
-    let mut files = Vec::new(alloc);
-    for (name, content) in [("f.raml", source), ("d", data)] {
-        files.push((
-            String::from_str(alloc, name)?,
-            Vec::from_slice(alloc, content)?,
-        ))?;
-    }
-    Ok(MemStore::new(files, Vec::from_slice(alloc, failing)?))
-}
-
-// A sink with ample room.
-fn sink_of(alloc: Global, failing: &[u64]) -> Result<MemSink, AllocError> {
-    MemSink::new(alloc, 100_000, 10, Vec::from_slice(alloc, failing)?)
-}
-
-// What a call does with the source: the number of its status, and all that it writes.
-pub fn answer(alloc: Global, words: &[&str], source: &[u8]) -> Result<String, Fail> {
-    answer_on(alloc, words, source, b"")
-}
-
-// And what it does with the source and the data.
-pub fn answer_on(
-    alloc: Global,
-    words: &[&str],
-    source: &[u8],
-    data: &[u8],
-) -> Result<String, Fail> {
-    let mut store = store_of(alloc, source, data, &[])?;
-    let mut out = sink_of(alloc, &[])?;
-    let mut err = sink_of(alloc, &[])?;
-    let status = raml(alloc, words, &mut store, &mut out, &mut err);
-    let mut text = String::new(alloc);
-    write!(text, "{} ", status.code())?;
-    for bytes in [out.bytes(), err.bytes()] {
-        match std::str::from_utf8(bytes) {
-            Ok(written) => text.push_str(written)?,
-            Err(_) => return Err(Fail::from("no text is written")),
-        }
-    }
-    Ok(text)
-}
 
 #[test]
 fn sources_have_their_reports_and_refusals(rt: HostRuntime) -> Result<(), Fail> {

@@ -3,10 +3,4 @@
 #![tactic(auto)]
 
 #[cfg(test)]
-mod analyses;
-#[cfg(test)]
 mod calls;
-#[cfg(test)]
-mod runs;
-#[cfg(test)]
-mod sources;

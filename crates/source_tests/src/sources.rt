@@ -1,5 +1,5 @@
 // Programs with their bounds, their types or their first fault, worked out by hand.
-use crate::calls::{ANALYSE, TYPES, answer};
+use program_calls::{ANALYSE, TYPES, answer};
 use std::alloc::Global;
 use std::fmt::Write;
 use std::process::Abort;

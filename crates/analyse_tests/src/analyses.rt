@@ -1,5 +1,5 @@
 // Programs with their bounds, their certificates and their runs with bounds, worked out by hand.
-use crate::calls::{answer, answer_on};
+use program_calls::{answer, answer_on};
 use std::alloc::Global;
 use std::fmt::Write;
 use std::process::Abort;

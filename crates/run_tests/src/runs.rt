@@ -1,5 +1,5 @@
 // Programs that are run, with their values and meters, worked out by hand.
-use crate::calls::answer_on;
+use program_calls::answer_on;
 use std::alloc::Global;
 use std::fmt::Write;
 use std::process::Abort;
