@@ -29,13 +29,14 @@ fn row_of(alloc: Global, entries: &[(u32, i128)]) -> Result<FracRow, Fail> {
 
 /// Whether just these whole numbers are not 0, each behind its column.
 fn is_row(row: &FracRow, entries: &[(u32, i128)]) -> bool {
-    let (columns, numbers) = (row.columns(), row.numbers());
-    if columns.len() != entries.len() || numbers.len() != entries.len() {
+    let stored = row.entries();
+    if stored.len() != entries.len() {
         return false;
     }
     for i in 0..entries.len() {
         let (column, n) = entries[i];
-        if columns[i] != column || numbers[i].num() != n || numbers[i].den() != 1 {
+        let (stands_at, number) = stored[i];
+        if stands_at != column || number.num() != n || number.den() != 1 {
             return false;
         }
     }
@@ -132,11 +133,11 @@ fn pivot(
     requires { unknown < 200 }
 {
     let row = row_of(alloc, &[(unknown, 1), (200 + unknown, 1), (400, 1)])?;
-    let opening = row.columns().len();
+    let opening = row.entries().len();
     let lead = row.over(&Frac::one())?;
     let gain = gains.at(unknown);
     gains.subtract(&gain, &lead, spare)?;
-    Ok((opening, lead.columns().len()))
+    Ok((opening, lead.entries().len()))
 }
 
 /// What is stored before the pivots of all unknowns, and after them.
@@ -144,7 +145,7 @@ fn pivot(
 fn entries_stored(rt: HostRuntime) -> Result<(), Fail> {
     let mut gains = opened_gains(rt.alloc())?;
     let mut spare = FracRow::new(rt.alloc());
-    let mut opening: usize = gains.columns().len();
+    let mut opening: usize = gains.entries().len();
     let mut pivoted: usize = 0;
     for unknown in 0..200 {
         let (row, lead) = pivot(rt.alloc(), &mut gains, &mut spare, unknown)?;
@@ -153,6 +154,6 @@ fn entries_stored(rt: HostRuntime) -> Result<(), Fail> {
     }
     assert!(rt; opening == 800);
     assert!(rt; pivoted == 600);
-    assert!(rt; gains.columns().len() == 201);
+    assert!(rt; gains.entries().len() == 201);
     Ok(())
 }
