@@ -24,3 +24,4 @@ pub mod Walking
 pub mod Terms
 pub mod Signed
 pub mod Listing
+pub mod Staying

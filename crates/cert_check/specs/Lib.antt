@@ -13,3 +13,4 @@ pub mod Read
 pub mod Laws
 pub mod Checked
 pub mod Bound
+pub mod Limits

@@ -109,7 +109,11 @@ fn walked_hint(alloc: Global, ask: &Ask, told: &Told) -> Result<Option<Hint<Amou
 {
     match ask {
         Ask::Results(sizes) => match told {
-            Told::Let(results) => Ok(Some(Hint::Results(each_result(alloc, sizes, results)?))),
+            Told::Let(results) => Ok(Some(Hint::Results(each_result(
+                alloc,
+                sizes.as_slice(),
+                results,
+            )?))),
             Told::Share(_) | Told::Call(_) => Ok(None),
         },
         Ask::Copies(size) => match told {

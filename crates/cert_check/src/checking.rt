@@ -3,19 +3,24 @@ ghost use Rattle.std.specs.Prelude.{◌≡◌, ◌≤◌, [], None, IfOk, OnOk, 
 ghost use Rattle.annot_types.specs.Read.{blocks_of, certificate_of};
 ghost use Rattle.rule_plan.specs.Read.{program_in, AreKept};
 ghost use Rattle.cert_check.specs.At.{Tells};
+ghost use Rattle.annot_types.specs.Held.{Held};
 ghost use Rattle.cert_check.specs.Finds.{BlocksFind, FirstFault};
+ghost use Rattle.cert_check.specs.Laws.{IsProper, IsSmall};
 ghost use Rattle.cert_check.specs.Read.{fault_of, OfFault};
 
 use crate::blocks::{check_block, check_end};
 use crate::checked::{Checked, keep};
 use crate::fault::CertFault;
 use crate::head::head_fits;
+use crate::laws::faultless_exactly;
+use crate::limits::stays_small;
 use annot_types::Certificate;
 use cost_free::Schedule;
 use earlier_blocks::Earlier;
 use rule_plan::KeptPlans;
 use share_normal::NormProgram;
 use std::alloc::Global;
+use walk_bounds::laws::totals_stay_small;
 
 // The blocks, one after the other, and the end of the schedule.
 fn check_blocks(
@@ -88,4 +93,27 @@ pub fn check_with<'p, 'a>(
         Err(fault) => Err(fault),
         Ok(()) => Ok(keep(program, certificate)),
     }
+}
+
+/// The same of a certificate that is known to be held. Where its numbers are small, nothing is walked.
+pub fn check_held<'p, 'a>(
+    alloc: Global,
+    program: &'p NormProgram<'a>,
+    certificate: Certificate,
+    kept: KeptPlans,
+) -> Result<Checked<'p, 'a>, CertFault>
+    requires plans { AreKept (program_in program.now) kept }
+    requires proper { IsProper (program_in program.now) }
+    requires held { Held (program_in program.now) (certificate_of certificate) }
+    requires small { IsSmall (program_in program.now) (certificate_of certificate) }
+    ensures fits { OnOk result (FirstFault (program_in program.now) (certificate_of certificate) None) }
+    ensures kept { IfOk result (λ checked. checked ≡ record { program = program.now; certificate = certificate_of certificate }) }
+    ensures fault { IfErr result (λ fault. OfFault (fault_of fault) (FirstFault (program_in program.now) (certificate_of certificate))) }
+{
+    faultless_exactly();
+    totals_stay_small();
+    if stays_small(alloc, &certificate, &kept) {
+        return Ok(keep(program, certificate));
+    }
+    check_with(alloc, program, certificate, kept)
 }

@@ -122,15 +122,15 @@ impl Judge<Amount> for FaultJudge {
         alloc: Global,
         path: &[u32],
         index: usize,
-        left: Vec<Amount>,
-        right: Vec<Amount>,
+        left: &[Amount],
+        right: &[Amount],
     ) -> Result<(), AllocError>
-        ensures { OnOk result (verdict_of self.new ≡ after (verdict_of self.old) (numbered path.now index (against capped left.items right.items))) }
+        ensures { OnOk result (verdict_of self.new ≡ after (verdict_of self.old) (numbered path.now index (against capped left.now right.now))) }
     {
         if self.found.is_some() {
             return Ok(());
         }
-        self.found = first_found(alloc, path, index, &left, &right)?;
+        self.found = first_found(alloc, path, index, left, right)?;
         Ok(())
     }
 

@@ -14,6 +14,7 @@ mod fault;
 mod head;
 mod judge;
 pub mod laws;
+mod limits;
 mod planned;
 mod reached;
 mod refusal;
@@ -24,7 +25,7 @@ mod solved;
 mod target;
 
 pub use checked::Checked;
-pub use checking::{check, check_with};
+pub use checking::{check, check_held, check_with};
 pub use fault::CertFault;
 
 // what another check of a block shares with this one

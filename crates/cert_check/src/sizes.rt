@@ -16,7 +16,7 @@ use crate::at::{budget_of, members, result_of};
 use crate::bound::{params_of, types_of};
 use crate::course::remember;
 use annot_types::Block;
-use base_poly::degrees;
+use base_poly::positions;
 use earlier_blocks::Earlier;
 use raml_syntax::{FunId, Ty};
 use share_normal::NormProgram;
@@ -27,8 +27,8 @@ use std::slice;
 fn size(alloc: Global, types: &[Ty], d: u8) -> Result<usize, AllocError>
     ensures { IfOk result (λ size. size ≡ size_of (context_of types.now) d) }
 {
-    match degrees(alloc, types, d, usize::MAX) {
-        Ok(found) => Ok(found.len()),
+    match positions(alloc, types, d, usize::MAX) {
+        Ok(count) => Ok(count),
         Err(_) => Err(AllocError),
     }
 }

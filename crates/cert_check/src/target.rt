@@ -15,7 +15,7 @@ ghost use Rattle.cert_check.specs.Finds.{missing_from};
 ghost use Rattle.cert_check.specs.Covering.{has_from, has_all, AreFew};
 
 use annot_types::{Annot, Sig};
-use base_poly::{Tuple, degrees, indices};
+use base_poly::{Tuple, indices, positions};
 use cost_free::{Target, targets};
 use raml_syntax::{FunId, Ty};
 use std::alloc::{AllocError, Global};
@@ -63,8 +63,8 @@ pub fn place_of(functions: &[FunId], fun: FunId) -> usize
 pub fn tuple_count(alloc: Global, ty: &Ty, degree: u8) -> Result<usize, AllocError>
     ensures { IfOk result (λ count. count ≡ length (index_list (ty_of ty.now ∷ []) degree)) }
 {
-    match degrees(alloc, slice::from_ref(ty), degree, usize::MAX) {
-        Ok(found) => Ok(found.len()),
+    match positions(alloc, slice::from_ref(ty), degree, usize::MAX) {
+        Ok(count) => Ok(count),
         Err(_) => Err(AllocError),
     }
 }

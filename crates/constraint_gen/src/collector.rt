@@ -84,12 +84,12 @@ impl Judge<Form> for Collector {
         alloc: Global,
         path: &[u32],
         index: usize,
-        left: Vec<Form>,
-        right: Vec<Form>,
+        left: &[Form],
+        right: &[Form],
     ) -> Result<(), AllocError>
-        ensures { OnOk result (self.new ≡ hear_all self.old (numbered path.now index (against sums left.items right.items))) }
+        ensures { OnOk result (self.new ≡ hear_all self.old (numbered path.now index (against sums left.now right.now))) }
     {
-        self.take_all(alloc, &left, &right)?;
+        self.take_all(alloc, left, right)?;
         Ok(())
     }
 

@@ -5,7 +5,7 @@ ghost use Rattle.constraint_gen.specs.Sums as s;
 ghost use Rattle.constraint_gen.specs.Sums.{total_of, sums, IsSum};
 
 use crate::sum::{add_all, multiple, number_in};
-use rule_walk::Kind;
+use rule_walk::{Kind, capped_product};
 use smallvec::SmallVec;
 use std::alloc::{AllocError, Global};
 use std::marker::Model;
@@ -88,7 +88,7 @@ impl Kind for Form {
     fn number(alloc: Global, n: u32, scale: u128) -> Form {
         Form {
             terms: SmallVec::new(alloc),
-            plus: u128::from(n).saturating_mul(scale),
+            plus: capped_product(u128::from(n), scale),
             minus: 0,
         }
     }
@@ -104,23 +104,23 @@ impl Kind for Form {
     fn add(&mut self, times: u64, other: &Form) -> Result<(), AllocError> {
         let factor = u128::from(times);
         add_all(&mut self.terms, factor, other.terms.as_slice())?;
-        self.plus = self.plus.saturating_add(factor.saturating_mul(other.plus));
+        self.plus = self.plus.saturating_add(capped_product(factor, other.plus));
         self.minus = self
             .minus
-            .saturating_add(factor.saturating_mul(other.minus));
+            .saturating_add(capped_product(factor, other.minus));
         Ok(())
     }
 
     fn multiple(&self, alloc: Global, times: u128) -> Result<Form, AllocError> {
         Ok(Form {
             terms: multiple(alloc, self.terms.as_slice(), times)?,
-            plus: times.saturating_mul(self.plus),
-            minus: times.saturating_mul(self.minus),
+            plus: capped_product(times, self.plus),
+            minus: capped_product(times, self.minus),
         })
     }
 
     fn raise(&mut self, n: u32, scale: u128) {
-        let price = u128::from(n).saturating_mul(scale);
+        let price = capped_product(u128::from(n), scale);
         self.plus = price.saturating_add(self.plus);
         self.minus = 0u128.saturating_add(self.minus);
     }
@@ -128,6 +128,6 @@ impl Kind for Form {
     fn lower(&mut self, n: u32, scale: u128) {
         self.minus = self
             .minus
-            .saturating_add(u128::from(n).saturating_mul(scale));
+            .saturating_add(capped_product(u128::from(n), scale));
     }
 }

@@ -65,9 +65,13 @@ fn answer(alloc: Global, next: &mut u32, ask: &Ask) -> Result<Hint<Form>, AllocE
     ensures next { OnOk result (next.new ≡ next.old + count (ask_of ask.now)) }
 {
     match ask {
-        Ask::Results(sizes) => Ok(Hint::Results(given_each(alloc, next, sizes)?)),
+        Ask::Results(sizes) => Ok(Hint::Results(given_each(alloc, next, sizes.as_slice())?)),
         Ask::Copies(size) => Ok(Hint::Copies(given(alloc, next, *size)?)),
-        Ask::Multiples(blocks) => Ok(Hint::Multiples(given_blocks(alloc, next, blocks)?)),
+        Ask::Multiples(blocks) => Ok(Hint::Multiples(given_blocks(
+            alloc,
+            next,
+            blocks.as_slice(),
+        )?)),
     }
 }
 

@@ -3,6 +3,7 @@ ghost use Rattle.std.specs.Prelude.{◌≡◌, length, IsTrue, IfOk, IfErr, OnOk
 ghost use Rattle.walk_rules.specs.Capped.{cap};
 ghost use Rattle.constraint_gen.specs.Sums.{total_of, put, put_all, scaled, IsSum, IsAt, IsGapFor};
 
+use rule_walk::capped_product;
 use smallvec::SmallVec;
 use std::alloc::{AllocError, Global};
 
@@ -87,7 +88,7 @@ pub fn add_all(
     ensures put { OnOk result (terms.new.items ≡ put_all (scaled factor others.now) terms.old.items) }
 {
     for other in others {
-        append_term(terms, other.0, factor.saturating_mul(other.1))?;
+        append_term(terms, other.0, capped_product(factor, other.1))?;
     }
     Ok(())
 }
@@ -104,7 +105,7 @@ pub fn multiple(
 {
     let mut made = SmallVec::with_capacity(alloc, terms.len())?;
     for term in terms {
-        made.push((term.0, factor.saturating_mul(term.1)))?;
+        made.push((term.0, capped_product(factor, term.1)))?;
     }
     Ok(made)
 }

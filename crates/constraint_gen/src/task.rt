@@ -145,10 +145,19 @@ fn append_times(weights: &mut Vec<i128>, number: i128, count: usize) -> Result<(
 // The degrees of all tuples of a context at a budget, in no order.
 fn all_degrees(alloc: Global, types: &[Ty], budget: u8) -> Result<Vec<u8>, AllocError>
     ensures all { IfOk result (λ found. found.items ≡ map degrees (tuples_up_to (context_of types.now) budget)) }
-    ensures count { IfOk result (λ found. vec_len found ≡ r.size (context_of types.now) budget) }
 {
     match degrees(alloc, types, budget, usize::MAX) {
         Ok(found) => Ok(found),
+        Err(IndexFault::TooMany | IndexFault::NoMemory) => Err(AllocError),
+    }
+}
+
+// How many tuples of a context there are at a budget.
+fn size(alloc: Global, types: &[Ty], budget: u8) -> Result<usize, AllocError>
+    ensures { IfOk result (λ count. count ≡ r.size (context_of types.now) budget) }
+{
+    match base_poly::positions(alloc, types, budget, usize::MAX) {
+        Ok(count) => Ok(count),
         Err(IndexFault::TooMany | IndexFault::NoMemory) => Err(AllocError),
     }
 }
@@ -187,7 +196,7 @@ fn append_signature(
     let types = arguments(alloc, program, fun)?;
     let all = all_degrees(alloc, &types, budget)?;
     append_weights(weights, &types, &all, budget)?;
-    let count = all_degrees(alloc, result_types(program, fun), budget)?.len();
+    let count = size(alloc, result_types(program, fun), budget)?;
     append_times(weights, 0, count)?;
     Ok(())
 }
@@ -308,7 +317,7 @@ fn positions_in(
 fn is_unit(alloc: Global, types: &[Ty], d: u8, number: u32) -> Result<bool, AllocError>
     ensures { IfOk result (λ unit. unit ≡ (nat_eq (length types.now) 1 && nat_lt number (r.size (context_of types.now) d))) }
 {
-    let count = all_degrees(alloc, types, d)?.len();
+    let count = size(alloc, types, d)?;
     Ok(types.len() == 1 && (number as usize) < count)
 }
 
@@ -321,7 +330,7 @@ fn unit_positions(
 ) -> Result<Vec<usize>, AllocError>
     ensures { IfOk result (λ found. found.items ≡ cond (nat_lt number (r.size (context_of types.now) budget)) (number ∷ []) []) }
 {
-    let count = all_degrees(alloc, types, budget)?.len();
+    let count = size(alloc, types, budget)?;
     let mut found = Vec::new(alloc);
     append_place(&mut found, number as usize, (number as usize) < count)?;
     Ok(found)

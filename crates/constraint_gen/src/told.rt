@@ -125,9 +125,14 @@ fn hint(alloc: Global, solution: &[i128], next: &mut u32, ask: &Ask) -> Result<H
     ensures next { OnOk result (next.new ≡ next.old + count (ask_of ask.now)) }
 {
     match ask {
-        Ask::Results(sizes) => Ok(Hint::Let(annots(alloc, solution, next, sizes)?)),
+        Ask::Results(sizes) => Ok(Hint::Let(annots(alloc, solution, next, sizes.as_slice())?)),
         Ask::Copies(size) => Ok(Hint::Share(annot(alloc, solution, next, *size)?)),
-        Ask::Multiples(blocks) => Ok(Hint::Call(multiples(alloc, solution, next, blocks)?)),
+        Ask::Multiples(blocks) => Ok(Hint::Call(multiples(
+            alloc,
+            solution,
+            next,
+            blocks.as_slice(),
+        )?)),
     }
 }
 

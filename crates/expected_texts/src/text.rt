@@ -97,9 +97,15 @@ fn push_sigs(out: &mut String, bodies: &[Body<'_>]) -> Result<(), AllocError> {
 fn push_asks(out: &mut String, place: usize, asks: &[Ask]) -> Result<(), AllocError> {
     for ask in asks {
         match ask {
-            Ask::Results(sizes) => write!(out, ", Let({place}, {sizes:?})")?,
+            Ask::Results(sizes) => {
+                let sizes = sizes.as_slice();
+                write!(out, ", Let({place}, {sizes:?})")?
+            }
             Ask::Copies(size) => write!(out, ", Share({place}, {size})")?,
-            Ask::Multiples(blocks) => write!(out, ", Call({place}, {blocks:?})")?,
+            Ask::Multiples(blocks) => {
+                let blocks = blocks.as_slice();
+                write!(out, ", Call({place}, {blocks:?})")?
+            }
         }
     }
     Ok(())

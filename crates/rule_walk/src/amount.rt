@@ -2,6 +2,7 @@
 ghost use Rattle.std.specs.Prelude.{◌≡◌, IfOk, OnOk};
 ghost use Rattle.walk_rules.specs.Capped.{capped};
 
+use crate::capped::capped_product;
 use crate::kind::Kind;
 use std::alloc::{AllocError, Global};
 use std::marker::Model;
@@ -54,7 +55,7 @@ impl Kind for Amount {
 
     fn number(alloc: Global, n: u32, scale: u128) -> Amount {
         Amount {
-            plus: u128::from(n).saturating_mul(scale),
+            plus: capped_product(u128::from(n), scale),
             minus: 0,
         }
     }
@@ -68,22 +69,22 @@ impl Kind for Amount {
 
     fn add(&mut self, times: u64, other: &Amount) -> Result<(), AllocError> {
         let factor = u128::from(times);
-        self.plus = self.plus.saturating_add(factor.saturating_mul(other.plus));
+        self.plus = self.plus.saturating_add(capped_product(factor, other.plus));
         self.minus = self
             .minus
-            .saturating_add(factor.saturating_mul(other.minus));
+            .saturating_add(capped_product(factor, other.minus));
         Ok(())
     }
 
     fn multiple(&self, alloc: Global, times: u128) -> Result<Amount, AllocError> {
         Ok(Amount {
-            plus: times.saturating_mul(self.plus),
-            minus: times.saturating_mul(self.minus),
+            plus: capped_product(times, self.plus),
+            minus: capped_product(times, self.minus),
         })
     }
 
     fn raise(&mut self, n: u32, scale: u128) {
-        let price = u128::from(n).saturating_mul(scale);
+        let price = capped_product(u128::from(n), scale);
         self.plus = price.saturating_add(self.plus);
         self.minus = 0u128.saturating_add(self.minus);
     }
@@ -91,6 +92,6 @@ impl Kind for Amount {
     fn lower(&mut self, n: u32, scale: u128) {
         self.minus = self
             .minus
-            .saturating_add(u128::from(n).saturating_mul(scale));
+            .saturating_add(capped_product(u128::from(n), scale));
     }
 }

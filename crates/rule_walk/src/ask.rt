@@ -7,18 +7,19 @@ ghost use Rattle.rule_walk.specs.Asks.{ask_of, asks_of, sizes_of};
 ghost use Rattle.rule_walk.specs.Filled.{table_of, blocks_at, uses_of, filled, all_filled};
 
 use crate::plan::{Called, Part, Plan, Usage};
+use smallvec::SmallVec;
 use std::alloc::{AllocError, Global};
 use std::rc::Rc;
 
-/// A hint that a plan asks for.
+/// A hint that a plan asks for. Up to four sizes or blocks need no memory of their own.
 #[derive(Debug, Drop)]
 pub enum Ask {
     /// How many positions the result has at each tuple of a `let`.
-    Results(Vec<usize>),
+    Results(SmallVec<usize, 4>),
     /// How many positions the context with both copies has.
     Copies(usize),
     /// The blocks whose signatures a call may take, ascending.
-    Multiples(Vec<u32>),
+    Multiples(SmallVec<u32, 4>),
 }
 
 /// The hints that a plan at this budget asks for, in the order of the walk. By function, `uses` tells the
@@ -96,10 +97,10 @@ fn append_shared(
 }
 
 // The blocks of budget at most `d`.
-fn blocks_at(alloc: Global, uses: &[Usage], d: usize) -> Result<Vec<u32>, AllocError>
+fn blocks_at(alloc: Global, uses: &[Usage], d: usize) -> Result<SmallVec<u32, 4>, AllocError>
     ensures { IfOk result (λ found. found.items ≡ blocks_at d uses.now) }
 {
-    let mut found = Vec::new(alloc);
+    let mut found = SmallVec::new(alloc);
     for usage in uses {
         if usage.budget as usize <= d {
             found.push(usage.block)?;
@@ -114,12 +115,12 @@ fn usable(
     uses: &[Vec<Usage>],
     d: usize,
     function: usize,
-) -> Result<Vec<u32>, AllocError>
+) -> Result<SmallVec<u32, 4>, AllocError>
     ensures { IfOk result (λ found. found.items ≡ uses_of (table_of uses.now) d function) }
 {
     match uses.get(function) {
         Some(uses) => blocks_at(alloc, uses, d),
-        None => Ok(Vec::new(alloc)),
+        None => Ok(SmallVec::new(alloc)),
     }
 }
 
@@ -161,10 +162,10 @@ fn append_bound(
 }
 
 // How many positions the result has at each tuple.
-fn result_sizes(alloc: Global, parts: &[Part]) -> Result<Vec<usize>, AllocError>
+fn result_sizes(alloc: Global, parts: &[Part]) -> Result<SmallVec<usize, 4>, AllocError>
     ensures { IfOk result (λ sizes. sizes.items ≡ sizes_of (map part_of parts.now)) }
 {
-    let mut sizes = Vec::with_capacity(alloc, parts.len())?;
+    let mut sizes = SmallVec::with_capacity(alloc, parts.len())?;
     for part in parts {
         sizes.push(part.size)?;
     }
@@ -234,7 +235,7 @@ fn add_ask(count: u32, ask: &Ask, most: u32) -> Option<u32>
     ensures { SomeIff result (count + counted (ask_of ask.now) ≤ most) (count + counted (ask_of ask.now)) }
 {
     match ask {
-        Ask::Results(sizes) => add_all(count, sizes, most),
+        Ask::Results(sizes) => add_all(count, sizes.as_slice(), most),
         Ask::Copies(size) => add(count, *size, most),
         Ask::Multiples(blocks) => add(count, blocks.len(), most),
     }

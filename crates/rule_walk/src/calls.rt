@@ -2,37 +2,15 @@
 ghost use Rattle.std.specs.Prelude.{◌≡◌, [], ◌∷◌, map, option_map, IfOk, OnOk};
 ghost use Rattle.std.specs.Option.{unwrap_or};
 ghost use Rattle.std.specs.Borrow.{Bor};
-ghost use Rattle.walk_rules.specs.Walk.{brought, nothing, numbers, multiples, taken, none_taken, group_sides, paid, once, used, refunded, sums};
+ghost use Rattle.walk_rules.specs.Walk.{brought, nothing, taken, none_taken, group_sides, cost_sides, free_sides, paid, once, used, refunded, sums};
 ghost use Rattle.rule_walk.specs.Read.{mode_of, called_of, sides_of, signature_of, no_signature, signed, known_of, cost_of, lent, is_unpaid};
 
-use crate::entries::{bring, entries_at, lower_first, nothing};
+use crate::entries::{bring, bring_multiples, bring_numbers, entries_at, lower_first, nothing};
 use crate::kind::Kind;
 use crate::known::{Known, Sides, Signature, Signed, args_at, result_at};
 use crate::plan::{Called, Mode};
 use cost_free::Meter;
 use std::alloc::{AllocError, Global};
-
-// Numbers as entries.
-fn numbers<T: Kind>(alloc: Global, ns: &[u128]) -> Result<Vec<T>, AllocError>
-    ensures { IfOk result (λ out. out.items ≡ numbers T.kind ns.now) }
-{
-    let mut out = Vec::with_capacity(alloc, ns.len())?;
-    for n in ns {
-        out.push(T::number(alloc, 1, *n))?;
-    }
-    Ok(out)
-}
-
-// Multiples of an entry.
-fn multiples<T: Kind>(alloc: Global, entry: &T, ns: &[u128]) -> Result<Vec<T>, AllocError>
-    ensures { IfOk result (λ out. out.items ≡ multiples T.kind entry.now ns.now) }
-{
-    let mut out = Vec::with_capacity(alloc, ns.len())?;
-    for n in ns {
-        out.push(entry.multiple(alloc, *n)?)?;
-    }
-    Ok(out)
-}
 
 // A signature of this budget is taken.
 fn take<T: Kind>(
@@ -57,6 +35,57 @@ fn take<T: Kind>(
         &mut out.result,
         entries_at(&called.result_from, budget),
         result_of,
+    )
+}
+
+// That of an earlier block is, once.
+fn take_numbers<T: Kind>(
+    alloc: Global,
+    s: &Known<'_, T>,
+    called: &Called,
+    given: &Signature,
+    out: &mut Sides<T>,
+) -> Result<(), AllocError>
+    ensures { OnOk result (sides_of out.new ≡ taken T.kind (known_of s.now) (called_of called.now) given.now.budget (cost_sides T.kind (known_of s.now) (signature_of given.now)) (sides_of out.old)) }
+{
+    bring_numbers(
+        alloc,
+        &mut out.args,
+        entries_at(&called.args_from, given.budget),
+        &given.args,
+    )?;
+    bring_numbers(
+        alloc,
+        &mut out.result,
+        entries_at(&called.result_from, given.budget),
+        &given.result,
+    )
+}
+
+// That of an earlier block is, as often as the entry tells.
+fn take_multiples<T: Kind>(
+    alloc: Global,
+    s: &Known<'_, T>,
+    called: &Called,
+    given: &Signature,
+    entry: &T,
+    out: &mut Sides<T>,
+) -> Result<(), AllocError>
+    ensures { OnOk result (sides_of out.new ≡ taken T.kind (known_of s.now) (called_of called.now) given.now.budget (free_sides T.kind (known_of s.now) (signature_of given.now) entry.now) (sides_of out.old)) }
+{
+    bring_multiples(
+        alloc,
+        &mut out.args,
+        entries_at(&called.args_from, given.budget),
+        entry,
+        &given.args,
+    )?;
+    bring_multiples(
+        alloc,
+        &mut out.result,
+        entries_at(&called.result_from, given.budget),
+        entry,
+        &given.result,
     )
 }
 
@@ -115,17 +144,7 @@ fn paid<T: Kind>(
 {
     let mut out = none_taken(alloc, s, called)?;
     if let Some(signature) = given {
-        let args = numbers(alloc, &signature.args)?;
-        let result_of = numbers(alloc, &signature.result)?;
-        take(
-            alloc,
-            s,
-            called,
-            signature.budget,
-            &args,
-            &result_of,
-            &mut out,
-        )?;
+        take_numbers(alloc, s, called, signature, &mut out)?;
     }
     Ok(out)
 }
@@ -176,11 +195,7 @@ fn use_multiple<T: Kind>(
     ensures { OnOk result (sides_of out.new ≡ used T.kind (known_of s.now) (called_of called.now) ((block, entry.now) ∷ []) (sides_of out.old)) }
 {
     match find(entries_at(s.free, block as usize), called.function) {
-        Some(given) => {
-            let args = multiples(alloc, entry, &given.args)?;
-            let result_of = multiples(alloc, entry, &given.result)?;
-            take(alloc, s, called, given.budget, &args, &result_of, out)
-        }
+        Some(given) => take_multiples(alloc, s, called, given, entry, out),
         None => take(alloc, s, called, 0, &[], &[], out),
     }
 }

@@ -1,6 +1,6 @@
 // Lists of entries.
 ghost use Rattle.std.specs.Prelude.{◌≡◌, ◌<◌, ◌*◌, ◌∷◌, [], map, take, vec_len, IfOk, OnOk};
-ghost use Rattle.walk_rules.specs.Walk.{at, added, brought, nothing, at_zero, moved, all_moved, joined};
+ghost use Rattle.walk_rules.specs.Walk.{at, added, brought, nothing, numbers, multiples, at_zero, moved, all_moved, joined};
 ghost use Rattle.rule_walk.specs.Steps.{step_of, part_of};
 ghost use Rattle.rule_walk.specs.Read.{items_at};
 
@@ -20,36 +20,15 @@ pub fn nothing<T: Kind>(alloc: Global, size: usize) -> Result<Vec<T>, AllocError
     Ok(out)
 }
 
-// A multiple of the entry at a place is added at a position.
-fn add<T: Kind>(
-    alloc: Global,
-    entry: &mut T,
-    times: u64,
-    from: &[T],
-    place: usize,
-) -> Result<(), AllocError>
-    ensures { OnOk result (entry.new ≡ T.kind.plus entry.old (T.kind.times times (at T.kind from.now place))) }
+// A multiple of an entry is added at a position, where there is such a position.
+fn add_at<T: Kind>(out: &mut Vec<T>, position: u32, times: u64, entry: &T) -> Result<(), AllocError>
+    ensures { OnOk result (out.new.items ≡ added T.kind out.old.items position times entry.now) }
 {
-    match from.get(place) {
-        Some(other) => entry.add(times, other),
-        None => entry.add(times, &T::none(alloc)),
+    let to = position as usize;
+    if to < out.len() {
+        out[to].add(times, entry)?;
     }
-}
-
-// Where there is such a position.
-fn add_at<T: Kind>(
-    alloc: Global,
-    out: &mut Vec<T>,
-    entry: &Entry,
-    from: &[T],
-) -> Result<(), AllocError>
-    ensures { OnOk result (out.new.items ≡ added T.kind out.old.items entry.now.to entry.now.times (at T.kind from.now entry.now.from)) }
-{
-    let to = entry.to as usize;
-    if to >= out.len() {
-        return Ok(());
-    }
-    add(alloc, &mut out[to], entry.times, from, entry.from as usize)
+    Ok(())
 }
 
 /// What the entries of a map bring is added.
@@ -61,8 +40,68 @@ pub fn bring<T: Kind>(
 ) -> Result<(), AllocError>
     ensures { OnOk result (out.new.items ≡ brought T.kind out.old.items map.now from.now) }
 {
+    let none = T::none(alloc);
     for entry in map {
-        add_at(alloc, out, entry, from)?;
+        let other = from.get(entry.from as usize).unwrap_or(&none);
+        add_at(out, entry.to, entry.times, other)?;
+    }
+    Ok(())
+}
+
+// The number at a place as an entry; nothing where there is no such place.
+fn number_at<T: Kind>(alloc: Global, from: &[u128], place: usize) -> T
+    ensures { result ≡ at T.kind (numbers T.kind from.now) place }
+{
+    match from.get(place) {
+        Some(number) => T::number(alloc, 1, *number),
+        None => T::none(alloc),
+    }
+}
+
+/// What they bring from numbers is added.
+pub fn bring_numbers<T: Kind>(
+    alloc: Global,
+    out: &mut Vec<T>,
+    map: &[Entry],
+    from: &[u128],
+) -> Result<(), AllocError>
+    ensures { OnOk result (out.new.items ≡ brought T.kind out.old.items map.now (numbers T.kind from.now)) }
+{
+    for entry in map {
+        let number = number_at(alloc, from, entry.from as usize);
+        add_at(out, entry.to, entry.times, &number)?;
+    }
+    Ok(())
+}
+
+// The entry, as often as the number at a place tells; nothing where there is no such place.
+fn multiple_at<T: Kind>(
+    alloc: Global,
+    entry: &T,
+    from: &[u128],
+    place: usize,
+) -> Result<T, AllocError>
+    ensures { IfOk result (λ multiple. multiple ≡ at T.kind (multiples T.kind entry.now from.now) place) }
+{
+    match from.get(place) {
+        Some(number) => entry.multiple(alloc, *number),
+        None => Ok(T::none(alloc)),
+    }
+}
+
+/// What they bring from multiples of an entry is added.
+pub fn bring_multiples<T: Kind>(
+    alloc: Global,
+    out: &mut Vec<T>,
+    map: &[Entry],
+    entry: &T,
+    from: &[u128],
+) -> Result<(), AllocError>
+    ensures { OnOk result (out.new.items ≡ brought T.kind out.old.items map.now (multiples T.kind entry.now from.now)) }
+{
+    for step in map {
+        let multiple = multiple_at(alloc, entry, from, step.from as usize)?;
+        add_at(out, step.to, step.times, &multiple)?;
     }
     Ok(())
 }
@@ -106,18 +145,6 @@ pub fn all_moved<T: Kind>(alloc: Global, steps: &[Step], from: &[T]) -> Result<V
         [] => copies(alloc, from),
         [first, rest @ ..] => moved_on(alloc, rest, moved(alloc, first, from)?),
     }
-}
-
-/// The first entry alone, or nothing where there is none.
-pub fn first_alone<T: Kind>(alloc: Global, entries: &[T]) -> Result<Vec<T>, AllocError>
-    ensures { IfOk result (λ out. out.items ≡ at T.kind entries.now 0 ∷ []) }
-{
-    let mut out = Vec::new(alloc);
-    match entries {
-        [first, ..] => out.push(first.copy(alloc)?)?,
-        [] => out.push(T::none(alloc))?,
-    }
-    Ok(out)
 }
 
 /// One number alone.

@@ -21,10 +21,10 @@ pub trait Judge<T: Kind>: Drop {
         alloc: Global,
         path: &[u32],
         index: usize,
-        left: Vec<T>,
-        right: Vec<T>,
+        left: &[T],
+        right: &[T],
     ) -> Result<(), AllocError>
-        ensures { OnOk result (verdict self.new ≡ after (verdict self.old) (numbered path.now index (against T.kind left.items right.items))) };
+        ensures { OnOk result (verdict self.new ≡ after (verdict self.old) (numbered path.now index (against T.kind left.now right.now))) };
 
     ghost silent: { (v : Verdict) → after v [] ≡ v };
 

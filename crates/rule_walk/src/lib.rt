@@ -5,7 +5,9 @@
 mod amount;
 mod ask;
 mod calls;
+mod capped;
 mod entries;
+mod growing;
 mod hint;
 mod judge;
 mod kind;
@@ -17,6 +19,8 @@ mod walk;
 
 pub use amount::Amount;
 pub use ask::{Ask, asked, unknowns};
+pub use capped::capped_product;
+pub use growing::growth;
 pub use hint::Hint;
 pub use judge::Judge;
 pub use kind::Kind;

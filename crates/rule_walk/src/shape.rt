@@ -34,7 +34,7 @@ fn fits_one(ask: &Ask, hint: &Hint) -> bool
 {
     match ask {
         Ask::Results(sizes) => match hint {
-            Hint::Let(results) => each_within(sizes, results),
+            Hint::Let(results) => each_within(sizes.as_slice(), results),
             Hint::Share(_) | Hint::Call(_) => false,
         },
         Ask::Copies(size) => match hint {
@@ -42,7 +42,7 @@ fn fits_one(ask: &Ask, hint: &Hint) -> bool
             Hint::Let(_) | Hint::Call(_) => false,
         },
         Ask::Multiples(blocks) => match hint {
-            Hint::Call(multiples) => rise(multiples) && are_among(blocks, multiples),
+            Hint::Call(multiples) => rise(multiples) && are_among(blocks.as_slice(), multiples),
             Hint::Let(_) | Hint::Share(_) => false,
         },
     }

@@ -8,8 +8,7 @@ ghost use Rattle.rule_walk.specs.Place.{walked_at, each_at, part_at, body_walked
 
 use crate::calls::{is_unpaid, sums};
 use crate::entries::{
-    all_moved, copies, entries_at, first_alone, joined, lower_first, moved, nothing, number_alone,
-    raise_first,
+    all_moved, copies, entries_at, joined, lower_first, moved, number_alone, raise_first,
 };
 use crate::hint::{Hint, copies_of, later, multiples_of, results_of};
 use crate::judge::Judge;
@@ -20,6 +19,9 @@ use crate::plan::{Called, Mode, Part, Parts, Plan, Step};
 use cost_free::Meter;
 use std::alloc::{AllocError, Global};
 use std::rc::Rc;
+
+/// Paths have room for so many parts at first.
+const ROOM: usize = 8;
 
 /// Of a number, what a meter charges.
 pub fn charged(mode: Mode, meter: Meter, n: u32) -> u32
@@ -32,6 +34,7 @@ pub fn charged(mode: Mode, meter: Meter, n: u32) -> u32
 }
 
 // A price is paid by the first entry.
+#[tactic(auto, using(crate::proofs::Bringing::first_against))]
 fn pay<T: Kind, J: Judge<T>>(
     here: &Place<'_, '_, T>,
     n: u32,
@@ -43,9 +46,8 @@ fn pay<T: Kind, J: Judge<T>>(
     ensures heard { OnOk result (J.verdict judge.new ≡ J.after (J.verdict judge.old) (numbered path.now index ((at T.kind entries.old.items 0, T.kind.number (n * here.now.known.now.scale)) ∷ []))) }
     ensures left { OnOk result (entries.new.items ≡ at_zero (T.kind.less (n * here.now.known.now.scale)) entries.old.items) }
 {
-    let left = first_alone(here.alloc, entries)?;
-    let right = number_alone(here.alloc, n, here.known.scale)?;
-    judge.hear(here.alloc, path, index, left, right)?;
+    let price = number_alone(here.alloc, n, here.known.scale)?;
+    judge.hear(here.alloc, path, index, entries, &price)?;
     lower_first(entries, n, here.known.scale);
     Ok(())
 }
@@ -135,7 +137,7 @@ fn walk_ends<'h, T: Kind, J: Judge<T>>(
         charged(here.mode, Meter::Cells, cells),
         here.known.scale,
     );
-    judge.hear(here.alloc, path, index, q, right)?;
+    judge.hear(here.alloc, path, index, &q, &right)?;
     Ok(hints)
 }
 
@@ -264,7 +266,7 @@ fn walk_shares<'h, T: Kind, J: Judge<T>>(
     )?;
     let told = copies_of(hints);
     let right = moved(here.alloc, step, told)?;
-    judge.hear(here.alloc, path, index, q, right)?;
+    judge.hear(here.alloc, path, index, &q, &right)?;
     let next = copies(here.alloc, told)?;
     let out = walk_child(here, rest, 0, judge, path, next, later(hints))?;
     Ok(out)
@@ -308,9 +310,8 @@ fn hear_missing<T: Kind, J: Judge<T>>(
     if !is_unpaid(here.known, called, here.mode) {
         return Ok(index);
     }
-    let left = nothing(here.alloc, 1)?;
-    let right = number_alone(here.alloc, 1, 1)?;
-    judge.hear(here.alloc, path, index, left, right)?;
+    let one = number_alone(here.alloc, 1, 1)?;
+    judge.hear(here.alloc, path, index, &[], &one)?;
     Ok(index + 1)
 }
 
@@ -345,9 +346,8 @@ fn walk_calls<'h, T: Kind, J: Judge<T>>(
         multiples_of(hints),
     )?;
     let behind = index + sides.args.len();
-    let right = copies(here.alloc, here.result)?;
-    judge.hear(here.alloc, path, index, q, sides.args)?;
-    judge.hear(here.alloc, path, behind, sides.result, right)?;
+    judge.hear(here.alloc, path, index, &q, &sides.args)?;
+    judge.hear(here.alloc, path, behind, &sides.result, here.result)?;
     Ok(later(hints))
 }
 
@@ -471,7 +471,8 @@ pub fn walk_body<'h, T: Kind, J: Judge<T>>(
     ensures left { IfOk result (λ out. hints_of out.now
         ≡ (body_walked T.kind (known_of known.now) (plan_of plan.now) (mode_of mode) place (hints_of hints.now)).left) }
 {
-    let mut path = vec![in alloc; place]?;
+    let mut path = Vec::with_capacity(alloc, ROOM)?;
+    path.push(place)?;
     let here = Place {
         alloc,
         known: &*known,

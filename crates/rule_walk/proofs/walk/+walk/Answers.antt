@@ -1,5 +1,5 @@
 use Rattle.std.proofs.Common.{◌≡◌, ◌∙◌, ◌++◌, ◌∷◌, [], ◌*◌, ◌+◌, ◌<◌, ◌≤◌, ap, sym, map, drop, length, arith, rules}
-use Rattle.walk_rules.specs.Walk.{moved, walk, walks}
+use Rattle.walk_rules.specs.Walk.{moved, walk, walks, against, numbered}
 use Rattle.rule_walk.specs.Steps.{step_of, part_of}
 use Rattle.rule_walk.specs.Read.{plan_of, plans_of, mode_of, hints_of, known_of, size}
 use Rattle.rule_walk.proofs.Arms.{begun_by, pays_is, pays_left, moves_is, moves_left, shares_is, shares_left, forks_is, forks_left, lets_is, lets_left, each_heard, each_left, one_heard, one_left, none_heard, none_left, sizes_at, drop_at, past_is, parts_length}
@@ -49,7 +49,9 @@ walk_shares-returns-clause-heard g t c = let A = g.T.Kind.kind in let J = g.J.Ju
     c.charged.ensures p1 c.in_ok-index.ensures.heard c.in_ok-index.ensures.index c.in_ok-index.ensures.left in
     shares_is A G J.after g.met.J.Judge.in_turn c.args.nodes c.args.size (step_of c.args.step.now) (plan_of c.args.rest.now) (mode_of s.mode) path c.deref-2.result.now
     q c.begin.new.entries.items c.in_ok-next.next.items s.result.now c.in_ok-right.right.items c.copies_of-told.result.now (hints_of c.args.hints.now) (hints_of c.later.result.now) c.in_ok-index.index v (J.verdict c.begin.new.judge) (J.verdict c.hear.new.self) _ b c.deref-2.ensures.value
-    c.copies_of-told.ensures c.later.ensures c.in_ok-right.ensures c.in_ok-hear.ensures c.in_ok-next.ensures c.in_ok-out.ensures.heard
+    c.copies_of-told.ensures c.later.ensures c.in_ok-right.ensures
+    (c.in_ok-hear.ensures ∙ (λ i. J.after (J.verdict c.begin.new.judge) (numbered c.deref-2.result.now c.in_ok-index.index (against A (c.deref-3.ensures.value i) (c.deref-4.ensures.value i)))))
+    c.in_ok-next.ensures c.in_ok-out.ensures.heard
 
 pub walk_shares-returns-clause-left : goal.walk_shares-returns-clause-left
 walk_shares-returns-clause-left g t c = let A = g.T.Kind.kind in let J = g.J.Judge in let s = c.args.here.now in let G = known_of s.known.now in let path = c.args.path.now.items in let q = c.args.q.items in let v = J.verdict c.args.judge.now in
