@@ -17,7 +17,7 @@ use crate::run::Run;
 use crate::verified::{Verified, keep};
 use annot_types::Certificate;
 use cert_check::laws::held_leaves_alone;
-use cert_check::{CertFault, check_with};
+use cert_check::{CertFault, check_held};
 use rule_plan::KeptPlans;
 use share_normal::NormProgram;
 use std::alloc::{AllocError, Global};
@@ -101,7 +101,7 @@ pub(crate) fn ended<'p, 'a>(
     ensures fault { IfErr result (CheckCause (program_in program.now) (s.certificate_of d true (state_of run.entry))) }
 {
     held_leaves_alone();
-    match check_with(alloc, program, certificate(d, run), kept) {
+    match check_held(alloc, program, certificate(d, run), kept) {
         Ok(checked) => Ok(keep(checked)),
         Err(fault) => Err(check_fault(alloc, fault)),
     }

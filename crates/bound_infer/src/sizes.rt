@@ -13,7 +13,7 @@ ghost use Rattle.bound_infer.specs.Sized.{sizes_in};
 ghost use Rattle.rule_plan.specs.Read.{program_in};
 
 use crate::kinds::members;
-use base_poly::degrees;
+use base_poly::positions;
 use raml_syntax::{FunId, Ty};
 use share_normal::NormProgram;
 use std::alloc::{AllocError, Global};
@@ -22,8 +22,8 @@ use std::alloc::{AllocError, Global};
 fn size(alloc: Global, types: &[Ty], d: u8) -> Result<usize, AllocError>
     ensures { IfOk result (λ size. size ≡ size_of (context_of types.now) d) }
 {
-    match degrees(alloc, types, d, usize::MAX) {
-        Ok(found) => Ok(found.len()),
+    match positions(alloc, types, d, usize::MAX) {
+        Ok(count) => Ok(count),
         Err(_) => Err(AllocError),
     }
 }

@@ -1,5 +1,7 @@
 use Rattle.std.proofs.Common.{true, sym, ◌∙◌, subst, Some}
+use Rattle.annot_types.specs.Held.{Held}
 use Rattle.cert_check.specs.Finds.{FirstFault}
+use Rattle.cert_check.specs.Laws.{IsSmall}
 use Rattle.cert_check.specs.Read.{fault_of}
 use Rattle.courses.specs.Good.{AllRefuted}
 use Rattle.courses.specs.States.{certificate_of}
@@ -20,3 +22,9 @@ check_fault-requires c = λ fault e.
     let valid = c.requires.valid in
     c.held_leaves_alone.ensures P c.requires.proper held valid.held c.requires.small fault
     (subst (λ x. FirstFault P x (Some fault)) c.certificate.ensures (found_there _ (fault_of c.in-Err.fault) fault e c.in-Err.ensures.fault))
+
+pub check_held-requires-clause-held : goal.check_held-requires-clause-held
+check_held-requires-clause-held c = subst (Held (program_in c.args.program.now)) (sym c.certificate.ensures) c.requires.valid.held
+
+pub check_held-requires-clause-small : goal.check_held-requires-clause-small
+check_held-requires-clause-small c = subst (IsSmall (program_in c.args.program.now)) (sym c.certificate.ensures) c.requires.small
