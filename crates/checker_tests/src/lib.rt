@@ -1,10 +1,15 @@
-//! Tests of the checkers of certificates and of other blocks, with programs and certificates as texts.
+//! Tests of certificates as JSON, of what plans make of numbers, and of the checkers of certificates and of
+//! other blocks, with programs and certificates as texts.
 #![tactic(auto)]
 
 #[cfg(test)]
 mod changes;
 #[cfg(test)]
+mod growths;
+#[cfg(test)]
 mod held;
+#[cfg(test)]
+mod json;
 #[cfg(test)]
 mod others;
 #[cfg(test)]

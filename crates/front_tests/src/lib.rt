@@ -1,6 +1,8 @@
-//! Tests of parsing and typing, above the crates that they test.
+//! Tests of tokens, parsing and typing, above the crates that they test.
 #![tactic(auto)]
 
+#[cfg(test)]
+mod lexing;
 #[cfg(test)]
 mod parsing;
 #[cfg(test)]

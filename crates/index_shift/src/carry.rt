@@ -79,8 +79,14 @@ fn join(alloc: Global, first: &Index, second: &Index) -> Result<Vec<(Tuple, u64)
     let mut found = Vec::new(alloc);
     let terms = multiply(alloc, first, second)?;
     for (index, times) in terms.iter() {
-        let parts = vec![in alloc; index.copy(alloc)?]?;
-        found.push((Tuple::new(parts), *times))?;
+        found.push((alone(alloc, index)?, *times))?;
     }
     Ok(found)
+}
+
+// The tuple of an index alone.
+fn alone(alloc: Global, index: &Index) -> Result<Tuple, AllocError>
+    ensures { IfOk result (λ made. made ≡ index_of index.now ∷ []) }
+{
+    Ok(Tuple::new(vec![in alloc; index.copy(alloc)?]?))
 }

@@ -2,4 +2,3 @@ mod Values
 mod Sums
 mod Raised
 mod Arguments
-mod Sampled

@@ -8,6 +8,3 @@ mod point;
 
 pub use fault::PointFault;
 pub use point::{Point, at};
-
-#[cfg(test)]
-mod tests;

@@ -1,4 +1,3 @@
 pub mod Divide
 pub mod OneText
 pub mod Ordered
-pub mod Sampled

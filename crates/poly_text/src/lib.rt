@@ -5,6 +5,3 @@ pub mod laws;
 mod text;
 
 pub use text::print;
-
-#[cfg(test)]
-mod tests;

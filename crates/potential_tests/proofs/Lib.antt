@@ -1,1 +1,3 @@
+mod SampledPoints
+mod SampledTexts
 mod There

@@ -9,6 +9,10 @@ mod listing;
 #[cfg(test)]
 mod maps;
 #[cfg(test)]
+mod points;
+#[cfg(test)]
 mod products;
+#[cfg(test)]
+mod texts;
 #[cfg(test)]
 mod types;

@@ -66,8 +66,11 @@ fn read_file<R: Files>(rt: &R, alloc: Global, name: &str, most: u64) -> Result<V
     }
 }
 
-// The first bytes that a reader gives. A read of no bytes is its end.
-fn read_up_to<F: Read>(alloc: Global, file: &mut F, most: u64) -> Result<Vec<u8>, StoreFault>
+/// The first bytes that a reader gives, `most` of them or all up to its end, which is a read of no bytes.
+///
+/// # Errors
+/// `Failed` where a read fails, and `NoMemory` where memory is wanting.
+pub fn read_up_to<F: Read>(alloc: Global, file: &mut F, most: u64) -> Result<Vec<u8>, StoreFault>
     ensures short { IfOk result (λ bytes. vec_len bytes ≤ most) }
     ensures front { IfOk result (λ bytes. IfSome (F.remaining file.old) (λ left. bytes.items ≡ take most left)) }
 {
@@ -83,53 +86,4 @@ fn read_up_to<F: Read>(alloc: Global, file: &mut F, most: u64) -> Result<Vec<u8>
         }
     }
     Ok(bytes)
-}
-
-#[cfg(test)]
-mod tests {
-    use super::*;
-    use std::io;
-
-    // Gives its bytes two at a time, and then its end, or fails in its place.
-    #[derive(Drop)]
-    struct Pieces {
-        rest: &'static [u8],
-        is_broken: bool,
-    }
-
-    impl Read for Pieces {
-        fn read(&mut self, buf: &mut [u8]) -> io::Result<usize> {
-            if self.rest.is_empty() && self.is_broken {
-                return Err(io::ErrorKind::Other.into());
-            }
-            let count = self.rest.len().min(buf.len()).min(2);
-            buf[..count].copy_from_slice(&self.rest[..count]);
-            self.rest = &self.rest[count..];
-            Ok(count)
-        }
-    }
-
-    // Whether at most so many bytes are these, or the reader fails where there are none.
-    fn gives(alloc: Global, most: u64, is_broken: bool, want: Option<&[u8]>) -> bool {
-        let mut pieces = Pieces {
-            rest: b"abcde",
-            is_broken,
-        };
-        match read_up_to(alloc, &mut pieces, most) {
-            Ok(bytes) => want == Some(bytes.as_slice()),
-            Err(fault) => want.is_none() && fault == StoreFault::Failed,
-        }
-    }
-
-    #[test]
-    fn reads_go_on_to_the_end_or_a_fault(rt: HostRuntime) {
-        for (most, is_broken, want) in [
-            (9, false, Some(b"abcde".as_slice())),
-            (3, true, Some(b"abc".as_slice())),
-            (5, true, Some(b"abcde".as_slice())),
-            (6, true, None),
-        ] {
-            assert!(rt; gives(rt.alloc(), most, is_broken, want), "{most}");
-        }
-    }
 }

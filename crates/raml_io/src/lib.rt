@@ -9,12 +9,9 @@ mod sink;
 mod std_sink;
 mod store;
 
-pub use dir_store::DirStore;
+pub use dir_store::{DirStore, read_up_to};
 pub use mem_sink::MemSink;
 pub use mem_store::MemStore;
 pub use sink::{Sink, SinkFault, put_all};
 pub use std_sink::StdSink;
 pub use store::{Store, StoreFault};
-
-#[cfg(test)]
-mod tests;

@@ -3,8 +3,6 @@
 
 mod lex;
 mod piece;
-#[cfg(test)]
-mod tests;
 mod token;
 
 pub use lex::tokens;

@@ -104,6 +104,3 @@ pub fn cross_cmp(a: u128, b: u128, c: u128, d: u128) -> Ordering
         d = rest;
     }
 }
-
-#[cfg(test)]
-mod tests;

@@ -8,6 +8,8 @@ mod choosers;
 #[cfg(test)]
 mod fractions;
 #[cfg(test)]
+mod numbers;
+#[cfg(test)]
 mod plain;
 #[cfg(test)]
 mod rows;

@@ -1,0 +1,4 @@
+// Certificates as JSON.
+mod copies;
+mod faults;
+mod texts;
