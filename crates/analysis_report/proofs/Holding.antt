@@ -15,8 +15,8 @@ use Rattle.raml_syntax.specs.Types.{types_of}
 use Rattle.raml_syntax.specs.Value.{HaveTypes}
 use Rattle.raml_syntax.specs.Eval.{run_of}
 use Rattle.stack_compile.specs.Laws.{at, IsGoing}
-use Rattle.amortised_bounds.specs.Enough.{cost}
-use Rattle.run_limits.specs.Laws.{Asks, NeverAsks}
+use Rattle.rules_soundness_laws.specs.Enough.{cost}
+use Rattle.analysis_report.specs.Limits.{Asks, NeverAsks}
 use Rattle.analysis_report.specs.Floors.{FloorsHold}
 use Rattle.analysis_report.specs.Told.{FloorRefused, FloorsRefused, IsBound, AllHold}
 use Rattle.analysis_report.specs.declared.bounds.FloorFault.{FloorFault}

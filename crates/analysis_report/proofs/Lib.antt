@@ -1,3 +1,4 @@
 pub mod Listed
 pub mod Low
 pub mod Holding
+mod Limits

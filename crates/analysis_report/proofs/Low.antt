@@ -6,8 +6,8 @@ use Rattle.base_poly.specs.Plain.{Plain, degrees}
 use Rattle.base_poly.specs.Indices.{index_list}
 use Rattle.base_poly.specs.Poly.{Term, magnitudes}
 use Rattle.base_poly.proofs.Exact.{each_listed}
-use Rattle.normal_form.specs.Norm.{NormFun}
-use Rattle.normal_form.specs.Context.{types}
+use Rattle.normal_spec.specs.Norm.{NormFun}
+use Rattle.normal_spec.specs.Context.{types}
 use Rattle.cost_free.specs.declared.task.Meter.{Meter}
 use Rattle.annot_types.specs.Program.{Program}
 use Rattle.annot_types.specs.Certificate.{Entries, Sig, Body, Solved, Refuted, Calls, Block, Certificate}

@@ -11,8 +11,8 @@ use Rattle.cost_free.specs.declared.task.Meter.TheVariants.{Ticks, Cells, Work}
 use Rattle.annot_types.specs.Program.{Program}
 use Rattle.annot_types.specs.Certificate.{Certificate}
 use Rattle.annot_types.specs.Held.{Claim, Bound}
-use Rattle.amortised_bounds.specs.Enough.{cost}
-use Rattle.run_limits.specs.Laws.{Asks}
+use Rattle.rules_soundness_laws.specs.Enough.{cost}
+use Rattle.analysis_report.specs.Limits.{Asks}
 use Rattle.analysis_report.specs.Lines.{Claims}
 
 -- for each meter the bound at the arguments, or none where there is no bound

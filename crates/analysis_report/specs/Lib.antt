@@ -1,3 +1,4 @@
 pub mod Lines
 pub mod Floors
 pub mod Told
+pub mod Limits

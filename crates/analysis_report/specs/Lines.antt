@@ -7,8 +7,8 @@ use Rattle.cost_free.specs.Schedule.{meters}
 use Rattle.annot_types.specs.Program.{Program}
 use Rattle.annot_types.specs.Certificate.{Certificate, has_work}
 use Rattle.annot_types.specs.Held.{Claim, Line, line, lines_for, lines}
-use Rattle.amortised_bounds.specs.Laws.{IsTrue}
-use Rattle.courses.specs.Lines.{Tells}
+use Rattle.rules_soundness_laws.specs.Laws.{IsTrue}
+use Rattle.infer_spec.specs.Lines.{Tells}
 use Rattle.report_text.specs.Claims.{lines_text}
 
 -- the lines of a function: one for each meter

@@ -2,7 +2,7 @@
 use Rattle.std.specs.Prelude.{◌≡◌, ◌≤◌, ◌<◌, ◌/◌, ◌^◌, ℕ, List, Option, Some, None, slice_get}
 use Rattle.raml_syntax.specs.Tree.{Function, Prog}
 use Rattle.raml_syntax.specs.Types.{types_of}
-use Rattle.amortised_bounds.specs.Bounds.{Bounds}
+use Rattle.rules_soundness_laws.specs.Bounds.{Bounds}
 use Rattle.raml_syntax.specs.Value.{Value, HaveTypes}
 use Rattle.base_poly.specs.Poly.{Term}
 use Rattle.poly_point.specs.Point.{worth}

@@ -5,17 +5,17 @@ ghost use Rattle.raml_syntax.specs.Value.{Value};
 ghost use Rattle.cost_free.specs.Schedule.{meters};
 ghost use Rattle.share_normal.specs.Program.{source_in};
 ghost use Rattle.annot_types.specs.Certificate.{has_work};
-ghost use Rattle.rule_plan.specs.Read.{program_in};
+ghost use Rattle.rules_plan.specs.Read.{program_in};
 ghost use Rattle.value_text.specs.Stands.{StandForAll};
 ghost use Rattle.poly_point.specs.Point.{AreArguments};
 ghost use Rattle.analysis_report.specs.Floors.{IsFloor};
 ghost use Rattle.analysis_report.specs.Told.{floors_of, FloorsAre, FloorRefused, FloorsRefused, IsBound, AllHold};
 
+use crate::laws::never_asks;
 use bound_infer::{Line, Verified};
 use cost_free::Meter;
 use poly_point::{PointFault, at};
 use raml_syntax::FunId;
-use run_limits::laws::never_asks;
 use std::alloc::{AllocError, Global};
 use value_text::{DataHeap, Word};
 

@@ -7,7 +7,7 @@ ghost use Rattle.cost_free.specs.Schedule.{meters};
 ghost use Rattle.share_normal.specs.Program.{source_in};
 ghost use Rattle.annot_types.specs.Certificate.{has_work};
 ghost use Rattle.annot_types.specs.Held.{Claim, lines_for};
-ghost use Rattle.rule_plan.specs.Read.{program_in};
+ghost use Rattle.rules_plan.specs.Read.{program_in};
 ghost use Rattle.report_text.specs.Claims.{lines_text};
 ghost use Rattle.analysis_report.specs.Lines.{lines_of, Claims, AreLines, lines_between, AllClaim};
 

@@ -3,9 +3,9 @@ use Rattle.std.proofs.Common.{◌≡◌, ◌≤◌, pos, List, [], ◌∷◌, sl
 use Rattle.cost_free.specs.declared.task.Meter.TheVariants.{Cells}
 use Rattle.index_shift.specs.Potential.{Annotation, moved}
 use Rattle.index_shift.specs.Maps.{opening}
-use Rattle.normal_form.specs.Norm as n
-use Rattle.normal_form.specs.Norm.{Norm, NormFun}
-use Rattle.normal_form.specs.Context.{Context, types, place, opened, parts_of}
+use Rattle.normal_spec.specs.Norm as n
+use Rattle.normal_spec.specs.Norm.{Norm, NormFun}
+use Rattle.normal_spec.specs.Context.{Context, types, place, opened, parts_of}
 use Rattle.raml_syntax.specs.Tree.{Integer, ListOf}
 use Rattle.annot_types.specs.Certificate.{annotation, Block, Sig, Let, Call}
 use Rattle.annot_types.specs.Signature.{free_budget, sig_in}

@@ -1,6 +1,6 @@
 -- A let beside a list that it does not use, and a cell of an option.
 use Rattle.std.proofs.Common.{pos, [], ◌∷◌, refl, arith, subst, sym}
-use Rattle.normal_form.specs.Norm.{NormFun}
+use Rattle.normal_spec.specs.Norm.{NormFun}
 use Rattle.annot_types.specs.Certificate.{annotation, Let}
 use Rattle.annot_types.specs.Rules.{Own, Ann}
 use Rattle.annot_types.specs.Holds.{setting, Holds}

@@ -7,9 +7,9 @@ use Rattle.index_shift.specs.Potential.{Annotation, moved}
 use Rattle.index_shift.specs.Maps.{opening, leaving, sharing}
 use Rattle.index_shift.specs.Contexts.{projection}
 use Rattle.index_shift.specs.declared.entry.Entry.{Entry}
-use Rattle.normal_form.specs.Norm as n
-use Rattle.normal_form.specs.Norm.{Norm}
-use Rattle.normal_form.specs.Context.{Context, types, place, without, opened, parts_of, copies_of, inners, others}
+use Rattle.normal_spec.specs.Norm as n
+use Rattle.normal_spec.specs.Norm.{Norm}
+use Rattle.normal_spec.specs.Context.{Context, types, place, without, opened, parts_of, copies_of, inners, others}
 use Rattle.annot_types.specs.Certificate.{Entries, annotation, Annotates, Hint, Block}
 use Rattle.annot_types.specs.Carried.{Covers, at_parts, tuples, marks, part, joined}
 use Rattle.annot_types.specs.Rules.{Mode, Past, Setting, TakesLet, TakesShare, TakesCall, Parts, Pays, CallRule, Ann}

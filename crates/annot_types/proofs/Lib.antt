@@ -10,3 +10,4 @@ pub mod Times
 mod Derived
 pub mod Raised
 pub mod Multiples
+pub mod Lists

@@ -12,7 +12,7 @@ use Rattle.base_poly.specs.Indices.{index_list}
 use Rattle.index_shift.specs.Maps.{opening, entries_from}
 use Rattle.index_shift.specs.declared.entry.Entry.{Entry}
 use Rattle.index_shift.specs.Contexts.{permutes}
-use Rattle.normal_form.specs.Context.{Context, types}
+use Rattle.normal_spec.specs.Context.{Context, types}
 use Rattle.annot_types.specs.Certificate.{Entries, number_at, annotation, Annotates}
 use Rattle.annot_types.specs.Carried.{Covers, less, more, to, operand_places, at_operands, at_parts, joined, rebudgeted}
 use Rattle.annot_types.specs.Holds.{times}

@@ -2,7 +2,7 @@
 use Rattle.std.proofs.Common.{pos, List, [], ◌∷◌, refl, arith, subst, sym}
 use Rattle.cost_free.specs.declared.task.Meter.TheVariants.{Ticks, Cells, Work}
 use Rattle.cost_free.specs.Task as k
-use Rattle.normal_form.specs.Norm.{NormFun}
+use Rattle.normal_spec.specs.Norm.{NormFun}
 use Rattle.annot_types.specs.Certificate.{annotation, Block}
 use Rattle.annot_types.specs.Rules.{With, Ann}
 use Rattle.annot_types.specs.Holds.{setting, Holds}

@@ -8,7 +8,7 @@ use Rattle.raml_syntax.specs.Tree.{Type'}
 use Rattle.base_poly.specs.Plain.{Plain, degrees}
 use Rattle.base_poly.specs.Base.{total}
 use Rattle.index_shift.specs.Potential.{Annotation}
-use Rattle.normal_form.specs.Context.{Context, types}
+use Rattle.normal_spec.specs.Context.{Context, types}
 use Rattle.cost_free.specs.declared.task.Meter.{Meter}
 use Rattle.cost_free.specs.Blocked.{is_for_meter}
 use Rattle.annot_types.specs.Program.{Program}

@@ -7,9 +7,9 @@ use Rattle.index_shift.specs.Parts.{type_parts}
 use Rattle.index_shift.specs.Potential.{Annotation, moved}
 use Rattle.index_shift.specs.Maps.{Carry, entries_from, opening}
 use Rattle.index_shift.specs.Contexts.{permutes, projection}
-use Rattle.normal_form.specs.Norm.{Norm}
-use Rattle.normal_form.specs.Free.{free_in}
-use Rattle.normal_form.specs.Context.{Context, types, place, without}
+use Rattle.normal_spec.specs.Norm.{Norm}
+use Rattle.normal_spec.specs.Free.{free_in}
+use Rattle.normal_spec.specs.Context.{Context, types, place, without}
 
 -- at each position of the context the first annotation has at least the number of the second
 abbrev pub Covers : List Type' → ℕ → Annotation → Annotation → Type 0

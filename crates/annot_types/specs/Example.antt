@@ -2,8 +2,8 @@
 use Rattle.std.specs.Prelude.{◌≡◌, ℤ, pos, List, [], ◌∷◌, Option, Some, None}
 use Rattle.raml_syntax.specs.Tree.{Type', Integer, ListOf, PairOf, OptionOf}
 use Rattle.base_poly.specs.Plain.{Unit', End, Then}
-use Rattle.normal_form.specs.Norm as n
-use Rattle.normal_form.specs.Norm.{NormFun}
+use Rattle.normal_spec.specs.Norm as n
+use Rattle.normal_spec.specs.Norm.{NormFun}
 use Rattle.cost_free.specs.declared.task.Meter.TheVariants.{Ticks, Cells, Work}
 use Rattle.cost_free.specs.Task.{Kind, Free, With}
 use Rattle.annot_types.specs.Program.{Program}

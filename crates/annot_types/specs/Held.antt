@@ -6,8 +6,8 @@ use Rattle.std.specs.List.{range_with_len}
 use Rattle.raml_syntax.specs.Tree.{Type'}
 use Rattle.base_poly.specs.Indices.{index_list}
 use Rattle.base_poly.specs.Poly.{Term}
-use Rattle.normal_form.specs.Norm.{NormFun}
-use Rattle.normal_form.specs.Context.{types}
+use Rattle.normal_spec.specs.Norm.{NormFun}
+use Rattle.normal_spec.specs.Context.{types}
 use Rattle.cost_free.specs.Task as k
 use Rattle.cost_free.specs.declared.task.Meter.{Meter}
 use Rattle.cost_free.specs.declared.task.Meter.TheVariants.{Ticks, Cells, Work}

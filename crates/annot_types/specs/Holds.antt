@@ -4,8 +4,8 @@ use Rattle.raml_syntax.specs.Tree.{Type'}
 use Rattle.base_poly.specs.Plain.{Plain, alike}
 use Rattle.base_poly.specs.Indices.{index_list}
 use Rattle.index_shift.specs.Potential.{Annotation}
-use Rattle.normal_form.specs.Norm.{NormFun}
-use Rattle.normal_form.specs.Context.{types}
+use Rattle.normal_spec.specs.Norm.{NormFun}
+use Rattle.normal_spec.specs.Context.{types}
 use Rattle.cost_free.specs.Target.{Target, targets}
 use Rattle.cost_free.specs.Task as k
 use Rattle.cost_free.specs.declared.task.Meter.{Meter}

@@ -1,8 +1,8 @@
 -- Programs in normal form with their groups.
 use Rattle.std.specs.Prelude.{ℕ, Bool, List, [], ◌∷◌, ◌++◌, map, Option}
 use Rattle.raml_syntax.specs.Tree.{Type'}
-use Rattle.normal_form.specs.Norm as n
-use Rattle.normal_form.specs.Norm.{NormFun, NormProg}
+use Rattle.normal_spec.specs.Norm as n
+use Rattle.normal_spec.specs.Norm.{NormFun, NormProg}
 use Rattle.cost_free.specs.Task.{Task, Outcome}
 use Rattle.cost_free.specs.Schedule.{next}
 use Rattle.cost_free.specs.Blocked.{row, blocked}

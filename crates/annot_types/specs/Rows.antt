@@ -9,9 +9,9 @@ use Rattle.base_poly.specs.Base.{total}
 use Rattle.base_poly.specs.Indices.{index_list}
 use Rattle.index_shift.specs.Potential.{Annotation, moved}
 use Rattle.index_shift.specs.Maps.{opening, leaving, sharing}
-use Rattle.normal_form.specs.Norm as n
-use Rattle.normal_form.specs.Norm.{Norm, NormFun}
-use Rattle.normal_form.specs.Context.{Context, types, place, without, opened, parts_of, copies_of, inners, others}
+use Rattle.normal_spec.specs.Norm as n
+use Rattle.normal_spec.specs.Norm.{Norm, NormFun}
+use Rattle.normal_spec.specs.Context.{Context, types, place, without, opened, parts_of, copies_of, inners, others}
 use Rattle.cost_free.specs.declared.task.Meter.TheVariants.{Work}
 use Rattle.cost_free.specs.Target.{Target, targets}
 use Rattle.cost_free.specs.Task as k

@@ -8,8 +8,8 @@ use Rattle.base_poly.specs.Plain.{degrees}
 use Rattle.base_poly.specs.Indices.{index_list}
 use Rattle.linear_rows.specs.Terms.{Terms, SparseRow}
 use Rattle.linear_rows.specs.Systems.{LinearSystem, Refutes}
-use Rattle.normal_form.specs.Norm.{NormFun}
-use Rattle.normal_form.specs.Context.{types}
+use Rattle.normal_spec.specs.Norm.{NormFun}
+use Rattle.normal_spec.specs.Context.{types}
 use Rattle.cost_free.specs.Task.{Task}
 use Rattle.annot_types.specs.Program.{Program, members}
 use Rattle.annot_types.specs.Certificate.{Entries, number_at, Refuted, Block, Certificate}

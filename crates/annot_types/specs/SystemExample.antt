@@ -3,8 +3,8 @@ use Rattle.std.specs.Prelude.{◌≡◌, ℕ, ℤ, pos, neg_ℤ, List, [], ◌�
 use Rattle.raml_syntax.specs.Tree.{Integer}
 use Rattle.linear_rows.specs.Terms.{Terms, SparseRow}
 use Rattle.linear_rows.specs.Systems.{LinearSystem}
-use Rattle.normal_form.specs.Norm as n
-use Rattle.normal_form.specs.Norm.{NormFun}
+use Rattle.normal_spec.specs.Norm as n
+use Rattle.normal_spec.specs.Norm.{NormFun}
 use Rattle.cost_free.specs.declared.task.Meter.TheVariants.{Ticks, Cells, Work}
 use Rattle.cost_free.specs.Task.{Kind, Free, With}
 use Rattle.annot_types.specs.Certificate.{Call, Block, Refuted, Certificate}

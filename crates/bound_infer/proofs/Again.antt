@@ -5,7 +5,7 @@ use Rattle.std.proofs.lemmas.Option.{none-some}
 use Rattle.std.proofs.lemmas.Bool.Decides.{nat_tests}
 use Rattle.std.proofs.Common.{arith}
 use Rattle.linear_rows.specs.Systems.{LinearSystem}
-use Rattle.normal_form.specs.Norm.{NormFun}
+use Rattle.normal_spec.specs.Norm.{NormFun}
 use Rattle.cost_free.specs.Task.{Task}
 use Rattle.cost_free.specs.Blocked.{is_among}
 use Rattle.annot_types.specs.Program.{Program, members, blocker_of}
@@ -13,14 +13,14 @@ use Rattle.annot_types.specs.Certificate as c
 use Rattle.annot_types.specs.Certificate.{Body, Solved, Sig, Hint, Block, Certificate}
 use Rattle.annot_types.specs.Held.{before, done_before, scale_for, IfSolved, NamesBlocker}
 use Rattle.annot_types.specs.System.{system}
-use Rattle.courses.specs.Generator as g
-use Rattle.courses.specs.Generator.{What, Generator, Analysis, Generates, limit_of}
-use Rattle.courses.specs.Courses.{EndsAt}
-use Rattle.courses.specs.Laws.{CoursesCertify, CoursesStayWithin, NoneTooLarge, NoneUnrefuted, Certifies, StaysWithin}
-use Rattle.courses.specs.Verifying as v
-use Rattle.exact_systems.specs.Analysed.{analysis_of, generator_of}
-use Rattle.exact_systems.specs.Laws.{SystemsGenerate, LimitsAreTold}
-use Rattle.tried_tasks.specs.Laws.{IsOrdered}
+use Rattle.infer_spec.specs.Generator as g
+use Rattle.infer_spec.specs.Generator.{What, Generator, Analysis, Generates, limit_of}
+use Rattle.infer_spec.specs.Courses.{EndsAt}
+use Rattle.infer_spec.specs.Laws.{CoursesCertify, CoursesStayWithin, NoneTooLarge, NoneUnrefuted, Certifies, StaysWithin}
+use Rattle.infer_spec.specs.Verifying as v
+use Rattle.infer_systems_laws.specs.Analysed.{analysis_of, generator_of}
+use Rattle.infer_systems_laws.specs.Laws.{SystemsGenerate, LimitsAreTold}
+use Rattle.infer_systems_laws.specs.Tried.{IsOrdered}
 use Rattle.cert_check.specs.Fault as f
 use Rattle.cert_check.specs.Finds.{AreWithin, FirstFault}
 use Rattle.cert_check.specs.Laws.{AllThere, IsProper, IsLeaving, IsSmall, HeldLeavesAlone}

@@ -8,13 +8,13 @@ use Rattle.constraint_gen.specs.declared.fault.What.{What}
 use Rattle.constraint_gen.specs.declared.fault.What.TheVariants.{Indices, Unknowns, Rows}
 use Rattle.constraint_gen.specs.Made.{PlanCause}
 use Rattle.linear_rows.specs.Systems.{LinearSystem}
-use Rattle.tableau.specs.Courses.{Rule}
-use Rattle.courses.specs.States.{State}
-use Rattle.courses.specs.Generator as n
-use Rattle.courses.specs.Generator.{Analysis, blocker_at, limit_at, system_at}
-use Rattle.courses.specs.Places.{RowLeaves}
-use Rattle.courses.specs.Clear.{SeenIsFirst}
-use Rattle.whole_answers.specs.Answers.{IsSolution}
+use Rattle.simplex_spec.specs.Courses.{Rule}
+use Rattle.infer_spec.specs.States.{State}
+use Rattle.infer_spec.specs.Generator as n
+use Rattle.infer_spec.specs.Generator.{Analysis, blocker_at, limit_at, system_at}
+use Rattle.infer_spec.specs.Places.{RowLeaves}
+use Rattle.infer_spec.specs.Clear.{SeenIsFirst}
+use Rattle.simplex_checked.specs.Answers.{IsSolution}
 use Rattle.bound_infer.specs.Told.{what_of}
 use Rattle.bound_infer.specs.After.{StopsOn}
 use Rattle.bound_infer.specs.declared.leaves.LeavesAt.TheVariants.{Row}

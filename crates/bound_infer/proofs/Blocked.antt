@@ -10,9 +10,9 @@ use Rattle.annot_types.specs.Certificate as c
 use Rattle.annot_types.specs.Certificate.{Entries, Body, Block, Certificate}
 use Rattle.annot_types.specs.Held.{before, scale_for, Held}
 use Rattle.annot_types.specs.System.{system, IsRefutedBy, Valid}
-use Rattle.courses.specs.Good.{AllRefuted}
-use Rattle.courses.specs.Verifying as v
-use Rattle.tried_tasks.specs.Laws.{IsOrdered}
+use Rattle.infer_spec.specs.Good.{AllRefuted}
+use Rattle.infer_spec.specs.Verifying as v
+use Rattle.infer_systems_laws.specs.Tried.{IsOrdered}
 use Rattle.cert_check.specs.Finds.{FirstFault}
 use Rattle.bound_infer.specs.Laws.{VectorsRefute}
 use Rattle.bound_infer.specs.Cleared.{OfFault, IsClear, BodyClear, ClearBefore, Faulty, LeavesThere, BlockCause, system_at, limit_at}

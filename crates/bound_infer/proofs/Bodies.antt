@@ -6,7 +6,7 @@ use Rattle.annot_types.specs.Holds.{times_sig, times_hint}
 use Rattle.annot_types.specs.Read.{sig_of, hint_of, hints_of}
 use Rattle.annot_types.specs.declared.block.Sig.{Sig}
 use Rattle.annot_types.specs.declared.block.Hint.{Hint}
-use Rattle.courses.specs.Places.{SigFits, HintFits}
+use Rattle.infer_spec.specs.Places.{SigFits, HintFits}
 use Rattle.bound_infer.specs.Fitting.{HintsFit}
 
 map_map : {X Y Z : Type 0} (g : Y → Z) (f : X → Y) (xs : List X) → map (λ x. g (f x)) xs ≡ map g (map f xs)

@@ -11,8 +11,8 @@ use Rattle.farkas_check.specs.declared.Verdict.TheVariants.{Yes, No, Leaves}
 use Rattle.farkas_check.specs.Checks.{Check, EachPasses, IsFault, IsFirstFault, IsVerdict, refuting}
 use Rattle.annot_types.specs.Certificate.{Entries, number_at, Rise, RiseFrom}
 use Rattle.annot_types.specs.System.{AreRows}
-use Rattle.courses.specs.Verifying as v
-use Rattle.courses.specs.Verifying.{NoneLeaves, vector_of}
+use Rattle.infer_spec.specs.Verifying as v
+use Rattle.infer_spec.specs.Verifying.{NoneLeaves, vector_of}
 use Rattle.bound_infer.specs.Cleared.{IsClear}
 
 -- One number more.

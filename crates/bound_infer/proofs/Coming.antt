@@ -12,8 +12,8 @@ use Rattle.cost_free.specs.Blocked.{row}
 use Rattle.cost_free.specs.Schedule.{meters, targets_at, tasks_for, free_tasks, group_tasks, tasks_from, is_left_out, next_of}
 use Rattle.cost_free.specs.Refused.{Plan, next_in, any_has_more, IsRefused}
 use Rattle.annot_types.specs.Certificate.{Block, outcome}
-use Rattle.courses.proofs.Lists.{some_is, length_map, map_inv, take_map}
-use Rattle.courses.proofs.Asked.{AllTasks, both, each}
+use Rattle.annot_types.proofs.Lists.{some_is, length_map, map_inv, take_map}
+use Rattle.infer_spec.proofs.Asked.{AllTasks, both, each}
 
 -- a task with cost is never left out
 never_left : (meter : Meter) (past : List Outcome) (kind : Kind) → kind ≡ k.With meter → is_left_out past kind ≡ true → ⊥

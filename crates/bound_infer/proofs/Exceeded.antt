@@ -8,17 +8,17 @@ use Rattle.cost_free.specs.Task.{Task}
 use Rattle.annot_types.specs.Program.{Program}
 use Rattle.annot_types.specs.Certificate.{Entries, Block}
 use Rattle.annot_types.specs.System.{system}
-use Rattle.solved_tasks.specs.Capped.{row_fits}
+use Rattle.rules_spec.specs.CappedRows.{row_fits}
 use Rattle.constraint_gen.specs.Cause.{IsWithin, IsMade, IsCause}
 use Rattle.constraint_gen.specs.declared.fault.GenFault.{GenFault}
 use Rattle.constraint_gen.specs.declared.fault.GenFault.TheVariants as n
 use Rattle.constraint_gen.specs.declared.fault.What.TheVariants.{Indices, Unknowns, Rows}
-use Rattle.courses.specs.Generator as g
-use Rattle.courses.specs.Generator.{What, Generator, limit_of}
-use Rattle.courses.specs.Verifying as v
-use Rattle.courses.specs.Verifying.{NoneLeaves}
-use Rattle.exact_systems.specs.Analysed.{generator_of}
-use Rattle.exact_systems.specs.Laws.{LimitsAreTold}
+use Rattle.infer_spec.specs.Generator as g
+use Rattle.infer_spec.specs.Generator.{What, Generator, limit_of}
+use Rattle.infer_spec.specs.Verifying as v
+use Rattle.infer_spec.specs.Verifying.{NoneLeaves}
+use Rattle.infer_systems_laws.specs.Analysed.{generator_of}
+use Rattle.infer_systems_laws.specs.Laws.{LimitsAreTold}
 use Rattle.bound_infer.specs.Cleared.{gen_fault, OfFault}
 use Rattle.bound_infer.proofs.FitRows.{row_fits_so, system_row}
 

@@ -15,8 +15,8 @@ use Rattle.annot_types.specs.Certificate.{Block}
 use Rattle.annot_types.specs.System as s
 use Rattle.annot_types.specs.System.{is_kept, system}
 use Rattle.cost_free.specs.Task.{Task}
-use Rattle.solved_tasks.specs.Capped.{fits, row_fits}
-use Rattle.courses.specs.Places.{RowFits}
+use Rattle.rules_spec.specs.CappedRows.{fits, row_fits}
+use Rattle.infer_spec.specs.Places.{RowFits}
 
 both_true : (a b : Bool) → (a && b) ≡ true → (a ≡ true) × (b ≡ true)
 both_true true b e = (refl, e)

@@ -7,22 +7,22 @@ use Rattle.cost_free.specs.Task as k
 use Rattle.cost_free.specs.Task.{Kind, Free, Task, Outcome, same_meter}
 use Rattle.cost_free.specs.Blocked.{is_for_meter}
 use Rattle.cost_free.specs.Refused.{Plan, Course, IsRefused, plan_in}
-use Rattle.normal_form.specs.Norm.{NormFun}
+use Rattle.normal_spec.specs.Norm.{NormFun}
 use Rattle.share_normal.specs.Program.{Kept}
 use Rattle.annot_types.specs.Program.{Program, members, next_task}
 use Rattle.annot_types.specs.Certificate as c
 use Rattle.annot_types.specs.Certificate.{Body, Solved, Block, Certificate, done_as, outcome}
 use Rattle.annot_types.specs.Holds.{times_body, raised, budget_of}
 use Rattle.annot_types.proofs.Raised.{on, off}
-use Rattle.walk_rules.specs.Jobs.{body_of}
-use Rattle.earlier_blocks.specs.Remembers.{Tables, Remembers}
-use Rattle.rule_plan.specs.Read.{program_in}
-use Rattle.solved_tasks.specs.Told.{bodies_of}
+use Rattle.rules_spec.specs.Jobs.{body_of}
+use Rattle.rules_walk.specs.Remembers.{Tables, Remembers}
+use Rattle.rules_plan.specs.Read.{program_in}
+use Rattle.rules_spec.specs.Told.{bodies_of}
 use Rattle.cert_check.specs.At.{sizes_of, sizes_in}
 use Rattle.cert_check.specs.Course.{HasCome}
 use Rattle.cert_check.specs.Finds.{schedule, next_after}
 use Rattle.cert_check.proofs.Going.{types_are, done_is}
-use Rattle.courses.specs.States.{State, raised_scales, raise}
+use Rattle.infer_spec.specs.States.{State, raised_scales, raise}
 use Rattle.annot_types.specs.Held.{IfSolved}
 use Rattle.annot_types.specs.Read.{block_of, blocks_of}
 use Rattle.annot_types.specs.declared.block.Block.{Block as Given}

@@ -5,13 +5,13 @@ use Rattle.cost_free.specs.Task.{Task}
 use Rattle.cost_free.specs.Read.{task_of}
 use Rattle.cost_free.specs.Schedule.{tasks_from}
 use Rattle.annot_types.specs.Program.{results}
-use Rattle.courses.specs.States.{State, start, certificate_of}
-use Rattle.courses.specs.Generator.{Analysis}
-use Rattle.courses.specs.Places as p
-use Rattle.courses.specs.Places.{Place}
+use Rattle.infer_spec.specs.States.{State, start, certificate_of}
+use Rattle.infer_spec.specs.Generator.{Analysis}
+use Rattle.infer_spec.specs.Places as p
+use Rattle.infer_spec.specs.Places.{Place}
 use Rattle.annot_types.specs.Certificate.{Certificate}
-use Rattle.courses.specs.Courses.{OnTask, EndsAt}
-use Rattle.courses.proofs.Short.{courses_end, one_block}
+use Rattle.infer_spec.specs.Courses.{OnTask, EndsAt}
+use Rattle.infer_spec.proofs.Short.{courses_end, one_block}
 use Rattle.bound_infer.specs.Told.{told_of, what_of}
 use Rattle.bound_infer.specs.After.{IsAfter, Reached, IsAtHand, Ends, ComesTo, IsPlaceOf, StopsOn, StopsThere, StopsIn}
 use Rattle.bound_infer.specs.Found.{CheckCause}

@@ -6,16 +6,16 @@ use Rattle.std.proofs.lemmas.Option.{get_or_from_slice_get, slice_get_within}
 use Rattle.linear_rows.specs.Terms.{SparseRow}
 use Rattle.linear_rows.specs.Systems.{LinearSystem, IsSystem}
 use Rattle.cost_free.specs.Task.{Task}
-use Rattle.solved_tasks.specs.Capped.{row_fits}
+use Rattle.rules_spec.specs.CappedRows.{row_fits}
 use Rattle.constraint_gen.specs.Cause.{IsWithin, IsMade, IsCause, LeavesFirst}
 use Rattle.constraint_gen.specs.declared.fault.GenFault.{GenFault}
 use Rattle.constraint_gen.specs.declared.fault.GenFault.TheVariants as f
 use Rattle.constraint_gen.specs.declared.fault.What.{What as TheWhat}
 use Rattle.constraint_gen.specs.declared.fault.What.TheVariants as w
-use Rattle.courses.specs.States.{State, scale_at}
-use Rattle.courses.specs.Generator.{Indices, Analysis, limit_of, limit_at, system_at}
-use Rattle.courses.specs.Places.{RowFits, RowLeaves}
-use Rattle.courses.specs.Clear.{RowsAreFine}
+use Rattle.infer_spec.specs.States.{State, scale_at}
+use Rattle.infer_spec.specs.Generator.{Indices, Analysis, limit_of, limit_at, system_at}
+use Rattle.infer_spec.specs.Places.{RowFits, RowLeaves}
+use Rattle.infer_spec.specs.Clear.{RowsAreFine}
 use Rattle.bound_infer.specs.Told.{what_of}
 use Rattle.bound_infer.proofs.FitRows.{row_fits_so, system_row}
 use Rattle.bound_infer.proofs.Exceeded.{no_limit, indices, unknowns, rows}

@@ -4,8 +4,8 @@ use Rattle.std.specs.Prelude.{ℕ, zero, suc, ◌<◌, Bool, true, false, cond, 
 use Rattle.std.specs.Option.{option_map}
 use Rattle.std.proofs.lemmas.Option.{none-some, same_Some}
 use Rattle.raml_syntax.specs.Tree.{Function, Prog}
-use Rattle.normal_form.specs.Norm.{NormFun}
-use Rattle.normal_form.specs.Context.{types}
+use Rattle.normal_spec.specs.Norm.{NormFun}
+use Rattle.normal_spec.specs.Context.{types}
 use Rattle.base_poly.specs.declared.tuple.Poly.{Poly}
 use Rattle.base_poly.specs.Poly.{den_of, terms_of, IsPoly}
 use Rattle.cost_free.specs.declared.task.Meter.{Meter}
@@ -19,10 +19,10 @@ use Rattle.annot_types.specs.Signature.{sig_in, cost_sig}
 use Rattle.annot_types.specs.Held as h
 use Rattle.annot_types.specs.Held.{IfSolved, NamesBlocker, done_before, scale_of, claim_of, bound_of, is_for_function, line, lines_for, Held, HoldsInPlace}
 use Rattle.annot_types.proofs.Raised.{same_meters}
-use Rattle.amortised_bounds.specs.Bounds.{Bounds}
-use Rattle.amortised_bounds.specs.Laws.{IsTrue}
-use Rattle.courses.specs.Good.{AllRefuted}
-use Rattle.courses.specs.Lines.{IsBlockOf, Tells}
+use Rattle.rules_soundness_laws.specs.Bounds.{Bounds}
+use Rattle.rules_soundness_laws.specs.Laws.{IsTrue}
+use Rattle.infer_spec.specs.Good.{AllRefuted}
+use Rattle.infer_spec.specs.Lines.{IsBlockOf, Tells}
 use Rattle.cert_check.specs.Bound.{told, told_by, told_of}
 use Rattle.bound_infer.specs.declared.line.Line.{Line}
 use Rattle.bound_infer.specs.declared.line.Line.TheVariants.{Bound, NoBound, Calls}

@@ -4,7 +4,7 @@ use Rattle.std.proofs.lemmas.Int.{ints}
 use Rattle.std.specs.Ordering.{int_eq}
 use Rattle.std.proofs.lemmas.Bool.Decides.{nat_tests}
 use Rattle.annot_types.specs.Certificate.{Entries}
-use Rattle.courses.specs.Reading.{listed}
+use Rattle.infer_spec.specs.Listed.{listed}
 use Rattle.bound_infer.specs.Entry.{entry}
 
 not_zero : (n : ℕ) → int_eq (pos (suc n)) (pos 0) ≡ false

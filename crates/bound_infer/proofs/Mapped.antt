@@ -4,7 +4,7 @@ use Rattle.std.specs.Int.{w128}
 use Rattle.std.proofs.lemmas.List.Elements.{All-more, All-nil, All-cons, All-head, All-tail}
 use Rattle.annot_types.specs.Certificate.{Entries}
 use Rattle.annot_types.specs.Holds.{times}
-use Rattle.courses.specs.Places.{EntriesFit}
+use Rattle.infer_spec.specs.Places.{EntriesFit}
 use Rattle.bound_infer.specs.declared.fault.TimesFault.{TimesFault}
 
 module _ {X Z : Type 0} (f : X → Z) where

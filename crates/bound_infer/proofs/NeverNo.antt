@@ -8,7 +8,7 @@ use Rattle.linear_rows.specs.Vectors.{dot, scale, plus, zeros, mix, AtMost}
 use Rattle.farkas_check.specs.declared.Verdict.TheVariants.{No}
 use Rattle.farkas_check.specs.Totals.{products}
 use Rattle.farkas_check.specs.Checks.{Check, Meets, IsFirstFault, column, refuting_columns, refuting}
-use Rattle.courses.specs.Laws.{NeverNo}
+use Rattle.infer_spec.specs.Laws.{NeverNo}
 
 total_products : (xs ys : List ℤ) → total (products xs ys) ≡ dot xs ys
 total_products [] ys = refl

@@ -14,7 +14,7 @@ use Rattle.annot_types.specs.Signature.{sig_among, sig_in, or_else, cost_sig}
 use Rattle.annot_types.specs.Rules.{Mode, Setting}
 use Rattle.annot_types.specs.Holds.{FunctionsHold}
 use Rattle.annot_types.specs.Held.{is_for_function, Held}
-use Rattle.courses.proofs.Lists.{map_inv, take_map}
+use Rattle.annot_types.proofs.Lists.{map_inv, take_map}
 use Rattle.bound_infer.proofs.Once.{IsWhole, tasks_of, is_it, never_left, all_come, one_task}
 
 filter_map_is : {X Y : Type 0} (Q : Y → Bool) (g : X → Y) (xs : List X) → filter Q (map g xs) ≡ map g (filter (λ x. Q (g x)) xs)

@@ -6,10 +6,10 @@ use Rattle.annot_types.specs.Certificate as c
 use Rattle.annot_types.specs.Holds.{raised}
 use Rattle.annot_types.specs.Read.{block_of, blocks_of}
 use Rattle.annot_types.specs.declared.block.Block.{Block}
-use Rattle.whole_numbers.specs.Wholes.{most}
-use Rattle.courses.specs.States.{State}
-use Rattle.courses.specs.Places.{BodyFits, IsOfMeter, BlockLeaves}
-use Rattle.courses.proofs.Lists.{some_is}
+use Rattle.simplex_integers.specs.Wholes.{most}
+use Rattle.infer_spec.specs.States.{State}
+use Rattle.infer_spec.specs.Places.{BodyFits, IsOfMeter, BlockLeaves}
+use Rattle.annot_types.proofs.Lists.{some_is}
 use Rattle.bound_infer.specs.Raised.{AllFit, FirstUnfit, NoneOf}
 
 -- The blocks before a place are raised, and all their numbers fit; the others are as they were.

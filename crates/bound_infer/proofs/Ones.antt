@@ -9,7 +9,7 @@ use Rattle.annot_types.specs.Certificate as c
 use Rattle.annot_types.specs.Certificate.{Entries, Sig, Body, Solved, Refuted, Calls, Block}
 use Rattle.annot_types.specs.Holds.{times, times_sig, times_hint, times_body, times_block, raised}
 use Rattle.annot_types.proofs.Raised.{on, off}
-use Rattle.courses.specs.States.{State, raised_scales, raise}
+use Rattle.infer_spec.specs.States.{State, raised_scales, raise}
 
 pub one_times : (z : ℤ) → pos 1 *ℤ z ≡ z
 one_times z = grind (arith, ints)

@@ -14,8 +14,8 @@ use Rattle.annot_types.specs.Certificate as c
 use Rattle.annot_types.specs.Certificate.{Entries, number_at, annotation, Sig, Body, Solved, IsSolved, Block, sigs_of}
 use Rattle.annot_types.specs.Signature.{sig_among, sig_in, or_else, cost_sig}
 use Rattle.annot_types.proofs.Raised.{same_meters}
-use Rattle.earlier_blocks.specs.Raised.{NothingLeaves, NonePasses}
-use Rattle.courses.specs.Places.{EntriesFit, SigFits, BodyFits, IsOfMeter}
+use Rattle.rules_walk.specs.Raised.{NothingLeaves, NonePasses}
+use Rattle.infer_spec.specs.Places.{EntriesFit, SigFits, BodyFits, IsOfMeter}
 
 product_fits : (t : ℕ) (z : ℤ) → FitsSigned w128 (pos t *ℤ z) → unsigned_abs z * t < 2 ^ 128
 product_fits t z h =

@@ -6,10 +6,10 @@ use Rattle.cost_free.specs.Read.{task_of}
 use Rattle.cost_free.specs.Blocked.{row}
 use Rattle.cost_free.specs.Refused.{Plan, has_more}
 use Rattle.cert_check.specs.Finds.{or_task, large_in, large_from}
-use Rattle.courses.specs.States.{State}
-use Rattle.courses.specs.Generator.{Analysis, Generates, plan, IsRefusedAt}
-use Rattle.courses.specs.Places as p
-use Rattle.courses.proofs.Running.{runs}
+use Rattle.infer_spec.specs.States.{State}
+use Rattle.infer_spec.specs.Generator.{Analysis, Generates, plan, IsRefusedAt}
+use Rattle.infer_spec.specs.Places as p
+use Rattle.infer_spec.proofs.Running.{runs}
 use Rattle.bound_infer.specs.After.{Reached, StopsIn}
 use Rattle.bound_infer.specs.Found.{IsRefusal}
 use Rattle.bound_infer.specs.declared.refusal.InferFault.{InferFault}

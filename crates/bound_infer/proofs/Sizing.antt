@@ -6,13 +6,13 @@ use Rattle.std.proofs.lemmas.Bool.Decides.{nat_tests}
 use Rattle.raml_syntax.specs.declared.ty.Ty.{Ty}
 use Rattle.raml_syntax.specs.declared.program.FunId.{FunId}
 use Rattle.call_groups.specs.Read.{ids_of}
-use Rattle.normal_form.specs.Norm as n
-use Rattle.normal_form.specs.declared.form.NormFun.{NormFun}
-use Rattle.normal_form.specs.Read.{fun_of, funs_of}
+use Rattle.normal_spec.specs.Norm as n
+use Rattle.normal_spec.specs.declared.form.NormFun.{NormFun}
+use Rattle.normal_spec.specs.Read.{fun_of, funs_of}
 use Rattle.cost_free.specs.Blocked.{is_among}
 use Rattle.annot_types.specs.Program.{Program, members}
-use Rattle.earlier_blocks.specs.Sizes.{AreSizes}
-use Rattle.tried_tasks.specs.Laws.{AreApart, IsOrdered}
+use Rattle.rules_walk.specs.Sizes.{AreSizes}
+use Rattle.infer_systems_laws.specs.Tried.{AreApart, IsOrdered}
 use Rattle.bound_infer.specs.Sized.{sizes_in}
 
 pub function_there : (As : List Ty) (gs : List NormFun) (k : ℕ) (g : NormFun) (d : Ty) → k < length As → slice_get gs k ≡ Some g →

@@ -11,8 +11,8 @@ use Rattle.annot_types.specs.Certificate as c
 use Rattle.annot_types.specs.Certificate.{Entries, Sig, Body, Solved, Block}
 use Rattle.annot_types.specs.Holds.{times, times_sig, times_hint, times_body, raised}
 use Rattle.annot_types.proofs.Raised.{on, off, same_meters}
-use Rattle.courses.proofs.Lists.{some_is}
-use Rattle.courses.specs.Places.{EntriesFit, HintFits, SigFits, BodyFits, IsOfMeter}
+use Rattle.annot_types.proofs.Lists.{some_is}
+use Rattle.infer_spec.specs.Places.{EntriesFit, HintFits, SigFits, BodyFits, IsOfMeter}
 use Rattle.bound_infer.specs.Raised.{AllFit, EachFits}
 use Rattle.bound_infer.proofs.Ones.{one_times}
 

@@ -2,16 +2,16 @@
 use Rattle.std.proofs.Common.{◌≡◌, ℕ, ℤ, true, List, Option, Some, None, Result, Ok, Err, OnOk, sym, ◌∙◌}
 use Rattle.cost_free.specs.Task.{Task}
 use Rattle.annot_types.specs.Certificate.{Refuted}
-use Rattle.courses.specs.States.{State, with_block}
-use Rattle.courses.specs.Generator.{Analysis, Generates, blocker_at, system_at}
-use Rattle.courses.specs.Reading.{listed}
-use Rattle.courses.specs.Places.{rule_of, RescaleLeaves}
-use Rattle.courses.specs.Courses.{Waits, Has, HasNone, after}
-use Rattle.courses.specs.Clear.{RowsAreFine, FineIsClear, SeenIsFirst}
-use Rattle.courses.specs.Laws.{ScalesBegin}
-use Rattle.courses.proofs.Running.{runs, stands_of}
+use Rattle.infer_spec.specs.States.{State, with_block}
+use Rattle.infer_spec.specs.Generator.{Analysis, Generates, blocker_at, system_at}
+use Rattle.infer_spec.specs.Listed.{listed}
+use Rattle.infer_spec.specs.Places.{rule_of, RescaleLeaves}
+use Rattle.infer_spec.specs.Courses.{Waits, Has, HasNone, after}
+use Rattle.infer_spec.specs.Clear.{RowsAreFine, FineIsClear, SeenIsFirst}
+use Rattle.infer_spec.specs.Laws.{ScalesBegin}
+use Rattle.infer_spec.proofs.Running.{runs, stands_of}
 use Rattle.share_normal.specs.Program.{Kept}
-use Rattle.whole_answers.specs.Answers.{IsSolution, IsVector}
+use Rattle.simplex_checked.specs.Answers.{IsSolution, IsVector}
 use Rattle.bound_infer.specs.Keeping.{analysis_in, StandsAt, Begins}
 use Rattle.bound_infer.specs.After.{IsAfter, IsAtHand, Reached, StopsOn}
 use Rattle.bound_infer.specs.Found.{RaiseCause}

@@ -12,14 +12,14 @@ use Rattle.annot_types.specs.Certificate.{Entries, Body, Solved, Block, Certific
 use Rattle.annot_types.specs.Held.{before, done_before, scale_of, scale_for, IfSolved, HoldsInPlace, NamesBlocker, Held}
 use Rattle.annot_types.specs.Holds.{Holds}
 use Rattle.annot_types.specs.System.{system}
-use Rattle.walk_rules.specs.Systems.{IsTask}
-use Rattle.courses.specs.States.{State, scale_at}
-use Rattle.courses.specs.Good.{HoldsAt, AllHold}
-use Rattle.courses.specs.Generator.{Analysis, Stands}
-use Rattle.courses.proofs.Lists.{all_take}
-use Rattle.tried_tasks.specs.Laws.{TriedAreTasks}
-use Rattle.exact_systems.specs.Analysed.{generator_of}
-use Rattle.exact_systems.specs.Laws.{WhatHoldsSolves}
+use Rattle.rules_spec.specs.Systems.{IsTask}
+use Rattle.infer_spec.specs.States.{State, scale_at}
+use Rattle.infer_spec.specs.Good.{HoldsAt, AllHold}
+use Rattle.infer_spec.specs.Generator.{Analysis, Stands}
+use Rattle.infer_spec.proofs.Lists.{all_take}
+use Rattle.infer_systems_laws.specs.Tried.{TriedAreTasks}
+use Rattle.infer_systems_laws.specs.Analysed.{generator_of}
+use Rattle.rules_systems_laws.specs.Laws.{WhatHoldsSolves}
 use Rattle.bound_infer.specs.Laws.{RefutedAreTasks, VectorsRefute}
 
 positive : (z : ℤ) → pos 0 <ℤ z → 0 < unsigned_abs z

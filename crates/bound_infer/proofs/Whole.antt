@@ -2,7 +2,7 @@
 use Rattle.std.specs.Prelude.{◌↔◌, IsTrue}
 use Rattle.std.proofs.Common.{◌≡◌, ℕ, ℤ, true, false, Bool, nat_eq, nat_lt, not, cond, ◌||◌, List, [], ◌∷◌, length, slice_get, Option, Some, None, refl, sym, ap, ◌∙◌, subst}
 use Rattle.std.proofs.lemmas.Bool.{eq-eqb}
-use Rattle.normal_form.specs.Norm.{NormFun}
+use Rattle.normal_spec.specs.Norm.{NormFun}
 use Rattle.cost_free.specs.Task.{Task}
 use Rattle.cost_free.specs.Blocked.{is_among}
 use Rattle.annot_types.specs.Program.{Program, members, blocker_of}
@@ -15,11 +15,11 @@ use Rattle.cert_check.specs.Finds.{AreWithin}
 use Rattle.cert_check.specs.Laws.{AllThere, IsProper, IsSmall}
 use Rattle.cert_check.specs.Read.{OfFault}
 use Rattle.constraint_gen.specs.Cause.{IsWithin}
-use Rattle.courses.specs.Generator.{What, Indices, Unknowns, Rows, Generator, limit_of}
+use Rattle.infer_spec.specs.Generator.{What, Indices, Unknowns, Rows, Generator, limit_of}
 use Rattle.linear_rows.specs.Systems.{LinearSystem}
-use Rattle.courses.specs.Laws.{StaysWithin}
-use Rattle.tried_tasks.specs.Laws.{IsOrdered}
-use Rattle.exact_systems.specs.Analysed.{analysis_of}
+use Rattle.infer_spec.specs.Laws.{StaysWithin}
+use Rattle.infer_systems_laws.specs.Tried.{IsOrdered}
+use Rattle.infer_systems_laws.specs.Analysed.{analysis_of}
 
 pub found_there : (claim : Option Fault → Type 0) (o : Option Fault) (fault : Fault) → o ≡ Some fault → OfFault o claim → claim (Some fault)
 found_there claim o fault e h = subst (λ o. OfFault o claim) e h

@@ -2,11 +2,11 @@
 use Rattle.std.specs.Prelude.{◌≡◌, ◌⊎◌, Bool, true, false, List, Option, Some, None}
 use Rattle.cost_free.specs.Task.{Task}
 use Rattle.cost_free.specs.Read.{task_of}
-use Rattle.courses.specs.States.{State, certificate_of}
-use Rattle.courses.specs.Generator.{Analysis, next_at, IsRefusedAt}
-use Rattle.courses.specs.Places as p
-use Rattle.courses.specs.Places.{Place, IsPlace}
-use Rattle.courses.specs.Courses.{Finding, Step, Course, IsOver, OnTask, OnGroup, StopsAt, EndsAt}
+use Rattle.infer_spec.specs.States.{State, certificate_of}
+use Rattle.infer_spec.specs.Generator.{Analysis, next_at, IsRefusedAt}
+use Rattle.infer_spec.specs.Places as p
+use Rattle.infer_spec.specs.Places.{Place, IsPlace}
+use Rattle.infer_spec.specs.Courses.{Finding, Step, Course, IsOver, OnTask, OnGroup, StopsAt, EndsAt}
 use Rattle.bound_infer.specs.Told.{told_of, what_of}
 use Rattle.bound_infer.specs.declared.refusal.InferFault.{InferFault}
 use Rattle.bound_infer.specs.declared.refusal.InferFault.TheVariants as i

@@ -9,9 +9,9 @@ use Rattle.annot_types.specs.Held.{before, scale_for}
 use Rattle.annot_types.specs.System.{system, IsRefutedBy}
 use Rattle.constraint_gen.specs.declared.fault.GenFault.{GenFault}
 use Rattle.constraint_gen.specs.declared.fault.GenFault.TheVariants as n
-use Rattle.courses.specs.Generator.{What, limit_of}
-use Rattle.courses.specs.Verifying as v
-use Rattle.exact_systems.specs.Analysed.{generator_of}
+use Rattle.infer_spec.specs.Generator.{What, limit_of}
+use Rattle.infer_spec.specs.Verifying as v
+use Rattle.infer_systems_laws.specs.Analysed.{generator_of}
 use Rattle.bound_infer.specs.Inferred.{what_of}
 use Rattle.bound_infer.specs.declared.leaves.LeavesAt.{LeavesAt}
 use Rattle.bound_infer.specs.declared.leaves.LeavesAt.TheVariants.{Row, Refute}

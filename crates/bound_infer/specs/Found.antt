@@ -4,12 +4,12 @@ use Rattle.linear_rows.specs.Systems.{LinearSystem}
 use Rattle.cost_free.specs.Task.{Task}
 use Rattle.annot_types.specs.Certificate.{Certificate}
 use Rattle.annot_types.specs.Program.{Program}
-use Rattle.courses.specs.States.{State}
-use Rattle.courses.specs.Generator.{Indices, Analysis, system_at}
-use Rattle.courses.specs.Places.{rule_of, RescaleLeaves}
-use Rattle.courses.specs.Clear.{RowsAreFine}
-use Rattle.whole_answers.specs.Answers.{IsAnswer, IsSolution, IsVector}
-use Rattle.whole_answers.specs.declared.answer.Answer.{Answer}
+use Rattle.infer_spec.specs.States.{State}
+use Rattle.infer_spec.specs.Generator.{Indices, Analysis, system_at}
+use Rattle.infer_spec.specs.Places.{rule_of, RescaleLeaves}
+use Rattle.infer_spec.specs.Clear.{RowsAreFine}
+use Rattle.simplex_checked.specs.Answers.{IsAnswer, IsSolution, IsVector}
+use Rattle.simplex_checked.specs.declared.answer.Answer.{Answer}
 use Rattle.cert_check.specs.Fault as f
 use Rattle.cert_check.specs.Finds.{FirstFault}
 use Rattle.cert_check.specs.Laws.{IsLeaving}

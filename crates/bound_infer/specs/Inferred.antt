@@ -4,14 +4,14 @@ use Rattle.cost_free.specs.Task.{Task}
 use Rattle.cost_free.specs.Read.{task_of}
 use Rattle.annot_types.specs.Program.{Program}
 use Rattle.annot_types.specs.Certificate.{Block, Certificate}
-use Rattle.courses.specs.Generator.{Analysis}
-use Rattle.courses.specs.Places as p
-use Rattle.courses.specs.Courses.{EndsAt}
-use Rattle.courses.specs.Verifying as v
+use Rattle.infer_spec.specs.Generator.{Analysis}
+use Rattle.infer_spec.specs.Places as p
+use Rattle.infer_spec.specs.Courses.{EndsAt}
+use Rattle.infer_spec.specs.Verifying as v
 use Rattle.cert_check.specs.Fault as f
 use Rattle.cert_check.specs.Finds.{FirstFault}
 use Rattle.cert_check.specs.Read.{fault_of}
-use Rattle.exact_systems.specs.Analysed.{generator_of}
+use Rattle.infer_systems_laws.specs.Analysed.{generator_of}
 use Rattle.bound_infer.specs.After.{ComesTo}
 pub use Rattle.bound_infer.specs.Told.{what_of}
 use Rattle.bound_infer.specs.Told.{told_of}

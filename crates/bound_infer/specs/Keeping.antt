@@ -9,12 +9,12 @@ use Rattle.cost_free.specs.Task.{Task}
 use Rattle.share_normal.specs.Program.{Kept}
 use Rattle.annot_types.specs.Certificate.{Certificate}
 use Rattle.annot_types.specs.Read.{blocks_of}
-use Rattle.rule_plan.specs.Read.{program_in}
+use Rattle.rules_plan.specs.Read.{program_in}
 use Rattle.cert_check.specs.Course.{HasCome}
-use Rattle.courses.specs.States.{State, start, certificate_of}
-use Rattle.courses.specs.Generator.{Analysis, Stands}
-use Rattle.exact_systems.specs.Analysed.{analysis_of}
-use Rattle.whole_answers.specs.Choosing.{AnswersBy}
+use Rattle.infer_spec.specs.States.{State, start, certificate_of}
+use Rattle.infer_spec.specs.Generator.{Analysis, Stands}
+use Rattle.infer_systems_laws.specs.Analysed.{analysis_of}
+use Rattle.simplex_checked.specs.Choosing.{AnswersBy}
 use Rattle.bound_infer.specs.Raised.{NoneOf, EachFits}
 use Rattle.bound_infer.specs.declared.scales.Scales.{Scales}
 use Rattle.bound_infer.specs.declared.run.Run.{Run}

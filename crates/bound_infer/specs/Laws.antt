@@ -5,10 +5,10 @@ use Rattle.annot_types.specs.Certificate.{Entries, Refuted, Block, Certificate}
 use Rattle.annot_types.specs.Held.{before, scale_for, Held}
 use Rattle.annot_types.specs.Least as l
 use Rattle.annot_types.specs.System.{system, IsRefutedBy}
-use Rattle.walk_rules.specs.Systems.{IsTask}
-use Rattle.courses.specs.Courses.{EndsAt}
-use Rattle.tried_tasks.specs.Laws.{IsOrdered}
-use Rattle.exact_systems.specs.Analysed.{analysis_of}
+use Rattle.rules_spec.specs.Systems.{IsTask}
+use Rattle.infer_spec.specs.Courses.{EndsAt}
+use Rattle.infer_systems_laws.specs.Tried.{IsOrdered}
+use Rattle.infer_systems_laws.specs.Analysed.{analysis_of}
 use Rattle.cert_check.specs.declared.fault.CertFault.{CertFault}
 use Rattle.cert_check.specs.declared.fault.CertFault.TheVariants as f
 use Rattle.bound_infer.specs.Inferred.{VerifyCause}

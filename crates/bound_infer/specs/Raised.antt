@@ -3,7 +3,7 @@ use Rattle.std.specs.Prelude.{◌≡◌, ◌<◌, ℕ, List, slice_get, Some}
 use Rattle.std.specs.List.{All}
 use Rattle.cost_free.specs.declared.task.Meter.{Meter}
 use Rattle.annot_types.specs.Certificate.{Block}
-use Rattle.courses.specs.Places.{BodyFits, IsOfMeter}
+use Rattle.infer_spec.specs.Places.{BodyFits, IsOfMeter}
 
 -- the numbers of each solved block of the meter, t times, are of 128 bits
 abbrev pub AllFit : Meter → ℕ → List Block → Type 0

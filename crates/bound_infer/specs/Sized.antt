@@ -1,13 +1,13 @@
 -- How many positions a function has.
 use Rattle.std.specs.Prelude.{ℕ, List, [], ◌∷◌, Option, None, Some}
-use Rattle.normal_form.specs.Norm.{NormFun}
-use Rattle.normal_form.specs.Context.{types}
+use Rattle.normal_spec.specs.Norm.{NormFun}
+use Rattle.normal_spec.specs.Context.{types}
 use Rattle.annot_types.specs.Program.{Program, members}
 use Rattle.annot_types.specs.Certificate.{Block}
 use Rattle.annot_types.specs.Held.{IfSolved}
 use Rattle.annot_types.specs.Holds.{budget_of}
 use Rattle.annot_types.specs.Rows.{size as size_of}
-use Rattle.earlier_blocks.specs.Sizes.{AreSizes}
+use Rattle.rules_walk.specs.Sizes.{AreSizes}
 
 -- its arguments and its result, at a budget; none where there is no such function
 abbrev pub sizes_in : ℕ → Option NormFun → ℕ × ℕ

@@ -6,9 +6,9 @@ use Rattle.cost_free.specs.Read.{task_of}
 use Rattle.annot_types.specs.Held as c
 use Rattle.constraint_gen.specs.declared.fault.What.{What}
 use Rattle.constraint_gen.specs.declared.fault.What.TheVariants.{Indices, Unknowns, Rows}
-use Rattle.courses.specs.Generator as g
-use Rattle.courses.specs.Places as p
-use Rattle.courses.specs.Places.{Place}
+use Rattle.infer_spec.specs.Generator as g
+use Rattle.infer_spec.specs.Places as p
+use Rattle.infer_spec.specs.Places.{Place}
 use Rattle.bound_infer.specs.declared.leaves.LeavesAt.{LeavesAt}
 use Rattle.bound_infer.specs.declared.leaves.LeavesAt.TheVariants.{Solve, Row, Scale, Rescale, Check, Refute, Least}
 use Rattle.bound_infer.specs.declared.line.Line.{Line}

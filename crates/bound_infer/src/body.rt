@@ -3,7 +3,7 @@ ghost use Rattle.std.specs.Prelude.{◌≡◌, ◌<◌, map, IfOk, OnOk};
 ghost use Rattle.annot_types.specs.Certificate as c;
 ghost use Rattle.annot_types.specs.Holds.{times_body, times_block};
 ghost use Rattle.annot_types.specs.Read.{sig_of, hints_of, body_of, block_of};
-ghost use Rattle.courses.specs.Places.{BodyFits};
+ghost use Rattle.infer_spec.specs.Places.{BodyFits};
 
 use crate::factor::Factor;
 use crate::fault::TimesFault;

@@ -5,7 +5,7 @@ ghost use Rattle.cost_free.specs.Blocked.{is_among};
 ghost use Rattle.annot_types.specs.Certificate as c;
 ghost use Rattle.annot_types.specs.Held.{is_for_function, IfSolved};
 ghost use Rattle.annot_types.specs.Read.{block_of, blocks_of, body_of};
-ghost use Rattle.rule_plan.specs.Read.{program_in};
+ghost use Rattle.rules_plan.specs.Read.{program_in};
 ghost use Rattle.bound_infer.specs.Claimed.{IsToldBy};
 
 use crate::kinds::members;

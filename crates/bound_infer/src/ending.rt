@@ -2,12 +2,12 @@
 ghost use Rattle.std.specs.Prelude.{◌≡◌, true, None, IfOk, IfErr, OnOk};
 ghost use Rattle.annot_types.specs.Read.{certificate_of};
 ghost use Rattle.annot_types.specs.System.{Valid};
-ghost use Rattle.rule_plan.specs.Read.{program_in, AreKept};
+ghost use Rattle.rules_plan.specs.Read.{program_in, AreKept};
 ghost use Rattle.cert_check.specs.Finds.{FirstFault};
 ghost use Rattle.cert_check.specs.Laws.{IsProper, IsSmall};
 ghost use Rattle.cert_check.specs.Read.{fault_of};
-ghost use Rattle.courses.specs.Good.{AllRefuted};
-ghost use Rattle.courses.specs.States as s;
+ghost use Rattle.infer_spec.specs.Good.{AllRefuted};
+ghost use Rattle.infer_spec.specs.States as s;
 ghost use Rattle.bound_infer.specs.Keeping.{state_of};
 ghost use Rattle.bound_infer.specs.Found.{IsCheckAt, LeavesAlone, IsCheckFault, CheckCause};
 
@@ -18,7 +18,7 @@ use crate::verified::{Verified, keep};
 use annot_types::Certificate;
 use cert_check::laws::held_leaves_alone;
 use cert_check::{CertFault, check_held};
-use rule_plan::KeptPlans;
+use rules_plan::KeptPlans;
 use share_normal::NormProgram;
 use std::alloc::{AllocError, Global};
 

@@ -4,7 +4,7 @@ ghost use Rattle.std.specs.Global.{Global as TheGlobal};
 ghost use Rattle.std.specs.List.{All};
 ghost use Rattle.annot_types.specs.Read.{sig_of, hint_of, body_of};
 ghost use Rattle.annot_types.specs.declared.block.Hint.{Hint as TheHint};
-ghost use Rattle.courses.specs.Places.{EntriesFit, HintFits, SigFits, BodyFits};
+ghost use Rattle.infer_spec.specs.Places.{EntriesFit, HintFits, SigFits, BodyFits};
 ghost use Rattle.bound_infer.specs.Fitting.{HintsFit};
 
 use annot_types::{Annot, BlockBody, Hint, Sig};

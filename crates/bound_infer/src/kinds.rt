@@ -7,7 +7,7 @@ ghost use Rattle.annot_types.specs.Program.{members};
 ghost use Rattle.annot_types.specs.Holds as h;
 ghost use Rattle.annot_types.specs.Held.{scale_of, scale_for};
 ghost use Rattle.annot_types.specs.Read.{certificate_of};
-ghost use Rattle.rule_plan.specs.Read.{program_in};
+ghost use Rattle.rules_plan.specs.Read.{program_in};
 
 use annot_types::Certificate;
 use cost_free::{Meter, TaskKind};

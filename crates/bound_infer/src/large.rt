@@ -6,7 +6,7 @@ ghost use Rattle.base_poly.specs.Read.{context_of};
 ghost use Rattle.call_groups.specs.Read.{ids_of};
 ghost use Rattle.cost_free.specs.Read.{task_of, lists_of};
 ghost use Rattle.cost_free.specs.Refused.{has_more};
-ghost use Rattle.rule_plan.specs.Read.{program_in};
+ghost use Rattle.rules_plan.specs.Read.{program_in};
 ghost use Rattle.cert_check.specs.Finds.{large_in, large_from, schedule};
 ghost use Rattle.bound_infer.specs.Keeping.{first_of};
 ghost use Rattle.bound_infer.specs.Found.{IsRefusal};

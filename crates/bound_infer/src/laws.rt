@@ -2,10 +2,10 @@
 ghost use Rattle.bound_infer.specs.Laws.{CertificatesVerify, RefutedAreTasks, VectorsRefute};
 
 use cert_check::laws::held_leaves_alone;
-use courses::laws::{courses_certify, courses_stay_within, none_too_large, none_unrefuted};
-use exact_systems::laws::{limits_are_told, systems_generate, what_holds_solves};
+use infer_spec::laws::{courses_certify, courses_stay_within, none_too_large, none_unrefuted};
+use infer_systems_laws::laws::{limits_are_told, systems_generate, tried_are_tasks};
 use linear_rows::refuted_has_no_solution;
-use tried_tasks::laws::tried_are_tasks;
+use rules_systems_laws::laws::what_holds_solves;
 
 /// Each refuted block of a held certificate is of a task that has a system.
 pub fn refuted_are_tasks()

@@ -5,9 +5,9 @@ ghost use Rattle.cost_free.specs.Read.{kind_of};
 ghost use Rattle.cost_free.specs.Blocked.{is_for_meter};
 ghost use Rattle.annot_types.specs.Holds.{raised};
 ghost use Rattle.annot_types.specs.Read.{body_of, block_of, blocks_of};
-ghost use Rattle.whole_numbers.specs.Wholes.{most};
-ghost use Rattle.courses.specs.States.{State};
-ghost use Rattle.courses.specs.Places.{BodyFits, IsOfMeter, BlockLeaves};
+ghost use Rattle.simplex_integers.specs.Wholes.{most};
+ghost use Rattle.infer_spec.specs.States.{State};
+ghost use Rattle.infer_spec.specs.Places.{BodyFits, IsOfMeter, BlockLeaves};
 ghost use Rattle.bound_infer.specs.Raised.{AllFit, FirstUnfit, NoneOf, IsFirstOf};
 
 use crate::body::multiply;

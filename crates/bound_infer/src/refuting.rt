@@ -6,20 +6,20 @@ ghost use Rattle.annot_types.specs.Certificate as c;
 ghost use Rattle.annot_types.specs.Certificate.{Rise, number_at};
 ghost use Rattle.annot_types.specs.Holds.{budget_of};
 ghost use Rattle.annot_types.specs.System.{system, AreRows};
-ghost use Rattle.walk_rules.specs.Systems.{IsTask};
-ghost use Rattle.earlier_blocks.specs.Remembers.{Remembers};
-ghost use Rattle.rule_plan.specs.Read.{program_in};
-ghost use Rattle.courses.specs.Generator.{limit_of};
-ghost use Rattle.courses.specs.Verifying.{NoneLeaves};
-ghost use Rattle.exact_systems.specs.Analysed.{generator_of};
-ghost use Rattle.exact_systems.specs.Laws.{LimitsAreTold};
+ghost use Rattle.rules_spec.specs.Systems.{IsTask};
+ghost use Rattle.rules_walk.specs.Remembers.{Remembers};
+ghost use Rattle.rules_plan.specs.Read.{program_in};
+ghost use Rattle.infer_spec.specs.Generator.{limit_of};
+ghost use Rattle.infer_spec.specs.Verifying.{NoneLeaves};
+ghost use Rattle.infer_systems_laws.specs.Analysed.{generator_of};
+ghost use Rattle.infer_systems_laws.specs.Laws.{LimitsAreTold};
 ghost use Rattle.bound_infer.specs.Cleared.{fault_of, gen_fault, Tells};
 
 use constraint_gen::{GenFault, What, rows};
 use cost_free::Task;
-use earlier_blocks::Earlier;
 use farkas_check::{Verdict, refutes};
 use linear_rows::System;
+use rules_walk::Earlier;
 use share_normal::NormProgram;
 use std::alloc::{AllocError, Global};
 

@@ -8,13 +8,13 @@ ghost use Rattle.annot_types.specs.Certificate as c;
 ghost use Rattle.annot_types.specs.Certificate.{done_as, outcome};
 ghost use Rattle.annot_types.specs.Held.{IfSolved};
 ghost use Rattle.annot_types.specs.Program.{blocker_of};
-ghost use Rattle.earlier_blocks.specs.Remembers.{Remembers};
+ghost use Rattle.rules_walk.specs.Remembers.{Remembers};
 ghost use Rattle.annot_types.specs.Read as a;
-ghost use Rattle.rule_plan.specs.Read.{program_in};
+ghost use Rattle.rules_plan.specs.Read.{program_in};
 ghost use Rattle.cert_check.specs.At.{sizes_in};
 ghost use Rattle.cert_check.specs.Course.{HasCome};
 ghost use Rattle.cert_check.specs.Finds.{schedule, next_after, GoesOn};
-ghost use Rattle.courses.specs.States.{start, with_block};
+ghost use Rattle.infer_spec.specs.States.{start, with_block};
 ghost use Rattle.bound_infer.specs.Keeping.{state_of, first_of, Keeps};
 
 use crate::fitting::body_fits;
@@ -23,8 +23,8 @@ use crate::scales::Scales;
 use annot_types::{Block, BlockBody};
 use base_poly::IndexFault;
 use cost_free::{Done, Schedule, Task, blocked};
-use earlier_blocks::Earlier;
 use raml_syntax::FunId;
+use rules_walk::Earlier;
 use share_normal::NormProgram;
 use std::alloc::{AllocError, Global};
 

@@ -3,7 +3,7 @@ ghost use Rattle.std.specs.Prelude.{◌≡◌, cond};
 ghost use Rattle.cost_free.specs.declared.task.Meter.TheVariants.{Ticks, Cells, Work};
 ghost use Rattle.cost_free.specs.Task.{same_meter};
 ghost use Rattle.cost_free.specs.Read.{kind_of};
-ghost use Rattle.courses.specs.States.{scale_at};
+ghost use Rattle.infer_spec.specs.States.{scale_at};
 ghost use Rattle.bound_infer.specs.Keeping.{scales_of};
 
 use crate::factor::Factor;

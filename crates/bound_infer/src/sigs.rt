@@ -5,7 +5,7 @@ ghost use Rattle.std.specs.List.{All};
 ghost use Rattle.annot_types.specs.Holds.{times, times_sig, times_hint};
 ghost use Rattle.annot_types.specs.Read.{sig_of, hint_of, hints_of};
 ghost use Rattle.annot_types.specs.declared.block.Hint.{Hint as TheHint};
-ghost use Rattle.courses.specs.Places.{EntriesFit, SigFits, HintFits};
+ghost use Rattle.infer_spec.specs.Places.{EntriesFit, SigFits, HintFits};
 ghost use Rattle.bound_infer.specs.Fitting.{HintsFit};
 
 use crate::factor::Factor;

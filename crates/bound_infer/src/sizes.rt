@@ -2,15 +2,15 @@
 ghost use Rattle.std.specs.Prelude.{◌≡◌, ◌<◌, ◌∷◌, [], map, length, slice_get, IfOk};
 ghost use Rattle.raml_syntax.specs.Read.{ty_of};
 ghost use Rattle.base_poly.specs.Read.{context_of};
-ghost use Rattle.normal_form.specs.Context.{types};
-ghost use Rattle.normal_form.specs.Read.{parameters_of};
+ghost use Rattle.normal_spec.specs.Context.{types};
+ghost use Rattle.normal_spec.specs.Read.{parameters_of};
 ghost use Rattle.call_groups.specs.Read.{ids_of};
 ghost use Rattle.annot_types.specs.Program.{members};
 ghost use Rattle.annot_types.specs.Rows.{size as size_of};
-ghost use Rattle.earlier_blocks.specs.Sizes.{AreSizes};
-ghost use Rattle.tried_tasks.specs.Laws.{IsOrdered};
+ghost use Rattle.rules_walk.specs.Sizes.{AreSizes};
+ghost use Rattle.infer_systems_laws.specs.Tried.{IsOrdered};
 ghost use Rattle.bound_infer.specs.Sized.{sizes_in};
-ghost use Rattle.rule_plan.specs.Read.{program_in};
+ghost use Rattle.rules_plan.specs.Read.{program_in};
 
 use crate::kinds::members;
 use base_poly::positions;

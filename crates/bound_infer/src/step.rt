@@ -3,10 +3,10 @@ ghost use Rattle.std.specs.Prelude.{◌≡◌, ◌≤◌, true, IfOk, IfErr, OnO
 ghost use Rattle.simplex.specs.Choosing.{IsChooser};
 ghost use Rattle.cost_free.specs.Read.{task_of, kind_of};
 ghost use Rattle.annot_types.specs.Holds.{budget_of};
-ghost use Rattle.rule_plan.specs.Read.{program_in, ArePlansOf, AreKept};
+ghost use Rattle.rules_plan.specs.Read.{program_in, ArePlansOf, AreKept};
 ghost use Rattle.constraint_gen.specs.Cause.{IsWithin};
-ghost use Rattle.tried_tasks.specs.Laws.{IsOrdered};
-ghost use Rattle.whole_answers.specs.Choosing.{AnswersByOne};
+ghost use Rattle.infer_systems_laws.specs.Tried.{IsOrdered};
+ghost use Rattle.simplex_checked.specs.Choosing.{AnswersByOne};
 ghost use Rattle.bound_infer.specs.Keeping.{state_of, Keeps, analysis_in, StandsAt, Begins, ByEach};
 ghost use Rattle.bound_infer.specs.After.{IsAfter, Reached, IsAtHand, StopsOn, StopsIn, Ends};
 ghost use Rattle.bound_infer.specs.Found.{HasAnswer};
@@ -21,14 +21,14 @@ use crate::system::{answered, planned};
 use base_poly::IndexFault;
 use cert_check::budget_of;
 use cost_free::Task;
-use courses::laws::{courses_are_good, fine_is_clear, scales_begin, seen_is_first};
-use exact_systems::laws::systems_generate;
 use frac128::Frac;
-use rule_plan::{GroupPlans, KeptPlans};
+use infer_spec::laws::{courses_are_good, fine_is_clear, scales_begin, seen_is_first};
+use infer_systems_laws::laws::systems_generate;
+use rules_plan::{GroupPlans, KeptPlans};
 use share_normal::NormProgram;
 use simplex::Chooser;
+use simplex_checked::Answer;
 use std::alloc::Global;
-use whole_answers::Answer;
 
 // A task by what it comes to.
 fn carried<F: Fn(&[Frac]) -> Option<usize>>(

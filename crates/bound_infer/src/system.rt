@@ -1,20 +1,20 @@
 // The system of a task, and its answer.
 ghost use Rattle.std.specs.Prelude.{◌≡◌, ◌≤◌, ◌<◌, ◌^◌, ℕ, ℤ, List, Option, map, None, IfOk, IfErr, IfSome, OnOk};
-ghost use Rattle.tableau.specs.Tableaux.{right};
+ghost use Rattle.simplex_spec.specs.Tableaux.{right};
 ghost use Rattle.simplex.specs.Choosing.{IsChooser};
 ghost use Rattle.cost_free.specs.Read.{task_of, kind_of};
 ghost use Rattle.annot_types.specs.Holds.{budget_of};
 ghost use Rattle.annot_types.specs.Read.{blocks_of};
-ghost use Rattle.solved_tasks.specs.Told.{bodies_of};
-ghost use Rattle.rule_plan.specs.Read.{program_in, body_of, ArePlansIn, ArePlansOf};
+ghost use Rattle.rules_spec.specs.Told.{bodies_of};
+ghost use Rattle.rules_plan.specs.Read.{program_in, body_of, ArePlansIn, ArePlansOf};
 ghost use Rattle.constraint_gen.specs.Cause.{IsWithin};
 ghost use Rattle.constraint_gen.specs.declared.fault.What.{What as TheWhat};
-ghost use Rattle.courses.specs.States.{State};
-ghost use Rattle.courses.specs.Generator.{Analysis, blocker_at, system_at};
-ghost use Rattle.courses.specs.Places.{rule_of};
-ghost use Rattle.courses.specs.Clear.{RowsAreFine};
-ghost use Rattle.tried_tasks.specs.Laws.{IsOrdered};
-ghost use Rattle.whole_answers.specs.Answers.{Stops};
+ghost use Rattle.infer_spec.specs.States.{State};
+ghost use Rattle.infer_spec.specs.Generator.{Analysis, blocker_at, system_at};
+ghost use Rattle.infer_spec.specs.Places.{rule_of};
+ghost use Rattle.infer_spec.specs.Clear.{RowsAreFine};
+ghost use Rattle.infer_systems_laws.specs.Tried.{IsOrdered};
+ghost use Rattle.simplex_checked.specs.Answers.{Stops};
 ghost use Rattle.bound_infer.specs.Keeping.{state_of, Keeps, analysis_in, StandsAt, ByEach};
 ghost use Rattle.bound_infer.specs.After.{StopsOn};
 ghost use Rattle.bound_infer.specs.Found.{HasSystem, HasAnswer};
@@ -24,16 +24,15 @@ use crate::refusal::InferFault;
 use crate::run::Run;
 use constraint_gen::{GenFault, plans, rows_by};
 use cost_free::Task;
-use courses::laws::seen_is_first;
-use exact_systems::laws::limits_are_told;
 use frac128::Frac;
+use infer_spec::laws::seen_is_first;
+use infer_systems_laws::laws::{limits_are_told, tried_are_tasks};
 use linear_rows::System;
-use rule_plan::{Body, GroupPlans};
+use rules_plan::{Body, GroupPlans};
 use share_normal::NormProgram;
 use simplex::Chooser;
+use simplex_checked::{Answer, AnswerFault, whole_answer};
 use std::alloc::Global;
-use tried_tasks::laws::tried_are_tasks;
-use whole_answers::{Answer, AnswerFault, whole_answer};
 
 // Why a task has no system.
 fn gen_fault(task: &Task, fault: GenFault) -> InferFault

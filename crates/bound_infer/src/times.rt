@@ -1,7 +1,7 @@
 // Numbers of a block, multiplied.
 ghost use Rattle.std.specs.Prelude.{◌≡◌, ◌<◌, IfOk};
 ghost use Rattle.annot_types.specs.Holds.{times};
-ghost use Rattle.courses.specs.Places.{EntriesFit};
+ghost use Rattle.infer_spec.specs.Places.{EntriesFit};
 
 use crate::factor::Factor;
 use crate::fault::TimesFault;

@@ -1,6 +1,6 @@
 // Vectors as entries.
 ghost use Rattle.std.specs.Prelude.{◌≡◌, ◌<◌, ◌^◌, ◌++◌, ℕ, pos, List, map, length, IfOk, OnOk};
-ghost use Rattle.courses.specs.Reading.{listed};
+ghost use Rattle.infer_spec.specs.Listed.{listed};
 ghost use Rattle.bound_infer.specs.Entry.{entry};
 
 use std::alloc::{AllocError, Global};

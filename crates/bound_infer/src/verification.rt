@@ -3,10 +3,10 @@ ghost use Rattle.std.specs.Prelude.{◌≡◌, None, is_none, IfOk, OnOk, IfErr}
 ghost use Rattle.annot_types.specs.Program.{Program};
 ghost use Rattle.annot_types.specs.Certificate as c;
 ghost use Rattle.annot_types.specs.Read.{certificate_of};
-ghost use Rattle.rule_plan.specs.Read.{program_in};
+ghost use Rattle.rules_plan.specs.Read.{program_in};
 ghost use Rattle.cert_check.specs.Finds.{FirstFault};
 ghost use Rattle.cert_check.specs.Read.{fault_of, OfFault};
-ghost use Rattle.tried_tasks.specs.Laws.{IsOrdered};
+ghost use Rattle.infer_systems_laws.specs.Tried.{IsOrdered};
 ghost use Rattle.bound_infer.specs.Inferred.{IsVerified, VerifyCause};
 
 use crate::blocks::verify_blocks;
@@ -15,7 +15,7 @@ use crate::refusal::VerifyFault;
 use crate::verified::{Verified, keep};
 use annot_types::Certificate;
 use cert_check::{CertFault, Checked, check};
-use exact_systems::laws::{limits_are_told, normals_are_ordered};
+use infer_systems_laws::laws::{limits_are_told, normals_are_ordered};
 use share_normal::NormProgram;
 use std::alloc::Global;
 

@@ -7,10 +7,10 @@ ghost use Rattle.annot_types.specs.Certificate.{has_work};
 ghost use Rattle.annot_types.specs.Held.{line, lines_for};
 ghost use Rattle.annot_types.specs.Read.{certificate_of};
 ghost use Rattle.annot_types.specs.System.{Valid};
-ghost use Rattle.amortised_bounds.specs.Laws.{IsTrue};
-ghost use Rattle.rule_plan.specs.Read.{program_in};
-ghost use Rattle.courses.specs.Good.{AllRefuted};
-ghost use Rattle.courses.specs.Lines.{Tells};
+ghost use Rattle.rules_soundness_laws.specs.Laws.{IsTrue};
+ghost use Rattle.rules_plan.specs.Read.{program_in};
+ghost use Rattle.infer_spec.specs.Good.{AllRefuted};
+ghost use Rattle.infer_spec.specs.Lines.{Tells};
 ghost use Rattle.bound_infer.specs.Told.{claim_of, IsWritten};
 
 use crate::claims::{block_for, told};
@@ -34,11 +34,11 @@ impl<'p, 'a> Model for Verified<'p, 'a> {
     ghost use Rattle.raml_syntax.specs.contracts.ty.Ty as ty;
     ghost use Rattle.raml_syntax.specs.contracts.tree.Form as source_form;
     ghost use Rattle.raml_syntax.specs.contracts.tree.Expr as source_expr;
-    ghost use Rattle.normal_form.specs.contracts.form.NormForm as form;
-    ghost use Rattle.normal_form.specs.contracts.form.NormExpr as expr;
+    ghost use Rattle.normal_spec.specs.contracts.form.NormForm as form;
+    ghost use Rattle.normal_spec.specs.contracts.form.NormExpr as expr;
     ghost use Rattle.annot_types.specs.System.{Valid};
-    ghost use Rattle.courses.specs.Good.{AllRefuted};
-    ghost use Rattle.rule_plan.specs.Read.{program_in};
+    ghost use Rattle.infer_spec.specs.Good.{AllRefuted};
+    ghost use Rattle.rules_plan.specs.Read.{program_in};
     ghost use Rattle.cert_check.specs.Checked.{Checking};
 
     ghost Value = { Checking };

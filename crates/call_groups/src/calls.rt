@@ -7,8 +7,7 @@ ghost use Rattle.call_groups.specs.Sets.{has, none};
 ghost use Rattle.call_groups.specs.Table.{marked, marked_in, marked_place, call_table};
 
 use crate::function_set::FunctionSet;
-use function_names::FunctionNames;
-use raml_syntax::{Expr, Form, Name, Program};
+use raml_syntax::{Expr, Form, FunctionNames, Name, Program};
 use std::alloc::{AllocError, Global};
 
 /// Adds the function of this name.

@@ -17,10 +17,10 @@ use Rattle.annot_types.specs.Holds.{CoversTarget, ReachesTarget, Holds}
 use Rattle.annot_types.specs.Held.{before, scale_for, IsOne, IsInPlace, Held}
 use Rattle.annot_types.proofs.Multiples.{holds_times}
 use Rattle.annot_types.proofs.Raised.{all_same, body_once}
-use Rattle.walk_rules.specs.Numbers.{Condition}
-use Rattle.walk_rules.specs.Kinds.{Amount, total_left, total_right, Meets, AllMeet}
-use Rattle.walk_rules.specs.Faults as f
-use Rattle.walk_rules.specs.Faults.{too_great, fault_at, or_fault, first_fault}
+use Rattle.rules_spec.specs.Numbers.{Condition}
+use Rattle.rules_spec.specs.Kinds.{Amount, total_left, total_right, Meets, AllMeet}
+use Rattle.rules_spec.specs.Faults as f
+use Rattle.rules_spec.specs.Faults.{too_great, fault_at, or_fault, first_fault}
 use Rattle.cert_check.specs.Fault.{Fault, Unless}
 use Rattle.cert_check.specs.Finds.{at_block, GoesOn, next_after, job, job_conditions, job_fault, BodyFinds, BlockFinds, BlocksFind, HeadFits, FirstFault}
 use Rattle.cert_check.specs.Laws.{IsProper, IsLeaving, IsSmall, HeldLeavesAlone, TotalsFit, NoneLeaves}

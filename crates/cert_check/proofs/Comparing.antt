@@ -2,11 +2,11 @@
 use Rattle.std.proofs.Common.{◌≡◌, refl, ap, sym, ◌∙◌, arith}
 use Rattle.std.specs.Prelude.{ℕ, zero, suc, ◌+◌, ◌-◌, ◌<◌, ◌^◌, min, ◌||◌, Bool, true, false, cond, nat_lt, nat_le, List, [], ◌∷◌, drop, length, slice_index_or, None, Some}
 use Rattle.std.proofs.lemmas.Bool.Decides.{nat_tests}
-use Rattle.walk_rules.specs.Numbers.{Numbers, Condition}
-use Rattle.walk_rules.specs.Kinds.{Amount, total_left, total_right}
-use Rattle.walk_rules.specs.Walk.{at, against, numbered}
-use Rattle.walk_rules.specs.Faults.{Leaves, Fails, fault_at, or_fault, first_fault}
-use Rattle.walk_rules.specs.Capped.{capped}
+use Rattle.rules_spec.specs.Numbers.{Numbers, Condition}
+use Rattle.rules_spec.specs.Kinds.{Amount, total_left, total_right}
+use Rattle.rules_spec.specs.Walk.{at, against, numbered}
+use Rattle.rules_spec.specs.Faults.{Leaves, Fails, fault_at, or_fault, first_fault}
+use Rattle.rules_spec.specs.Capped.{capped}
 
 too_great_capped : (n : ℕ) → nat_le (2 ^ 127) (min n (2 ^ 128 - 1)) ≡ nat_le (2 ^ 127) n
 too_great_capped n = grind (arith, nat_tests)

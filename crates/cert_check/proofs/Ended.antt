@@ -4,9 +4,9 @@ use Rattle.std.specs.Prelude.{ℕ, suc, ◌<◌, List, [], ◌∷◌, ◌++◌, 
 use Rattle.std.proofs.lemmas.List.{append-nil}
 use Rattle.annot_types.specs.Certificate.{Entries, Sig, Hint}
 use Rattle.annot_types.specs.Signature.{sig_among}
-use Rattle.walk_rules.specs.Tasks as t
-use Rattle.walk_rules.specs.Asked.{Ask}
-use Rattle.walk_rules.specs.Shape.{each_amounts, hints_at}
+use Rattle.rules_spec.specs.Tasks as t
+use Rattle.rules_spec.specs.Asked.{Ask}
+use Rattle.rules_spec.specs.Shape.{each_amounts, hints_at}
 use Rattle.cert_check.specs.Finds.{AllFit, sides_at}
 
 pub all_made : {X : Type 0} (made tail all : List X) → tail ≡ [] → made ++ tail ≡ all → made ≡ all

@@ -13,7 +13,7 @@ use Rattle.cost_free.specs.Blocked.{row}
 use Rattle.annot_types.specs.Program.{Program, blocker_of}
 use Rattle.annot_types.specs.Certificate.{Body, Solved, Refuted, Calls, Block, Certificate, outcome}
 use Rattle.annot_types.specs.Held.{IsInPlace, IsOne, NamesBlocker, before, scale_of, scale_for}
-use Rattle.walk_rules.specs.Faults as f
+use Rattle.rules_spec.specs.Faults as f
 use Rattle.cert_check.specs.Fault.{Fault, TooLarge, Unless}
 use Rattle.cert_check.specs.Finds.{at_block, large_in, or_task, large_from, schedule, GoesOn, refusal, next_after, BodyFinds, BlockFinds, EndFinds, BlocksFind, HeadFits}
 use Rattle.cert_check.specs.Laws.{IsProper, NoFaultIsHeld}

@@ -1,8 +1,8 @@
 -- Where the functions of a group hold, all conditions of the bodies are met.
 use Rattle.std.proofs.Common.{◌≡◌, ap, sym, ◌∙◌, subst, arith}
 use Rattle.std.specs.Prelude.{ℕ, suc, ◌+◌, ◌*◌, List, [], ◌∷◌, ◌++◌, slice_get, slice_index_or, Option, Some}
-use Rattle.normal_form.specs.Norm.{NormFun}
-use Rattle.normal_form.specs.Context.{types}
+use Rattle.normal_spec.specs.Norm.{NormFun}
+use Rattle.normal_spec.specs.Context.{types}
 use Rattle.cost_free.specs.Task.{Task}
 use Rattle.annot_types.specs.Program.{Program, members}
 use Rattle.annot_types.specs.Certificate as c
@@ -10,18 +10,18 @@ use Rattle.annot_types.specs.Certificate.{Entries, annotation, Rise, Sig, Hint, 
 use Rattle.annot_types.specs.Rules.{Setting}
 use Rattle.annot_types.specs.Held.{HintsRise, AllHintsRise}
 use Rattle.annot_types.specs.Holds.{mode_of, budget_of, setting, FunctionHolds, FunctionsHold}
-use Rattle.walk_rules.specs.Numbers as n
-use Rattle.walk_rules.specs.Numbers.{Condition}
-use Rattle.walk_rules.specs.Kinds.{Amount, amounts, AllMeet}
-use Rattle.walk_rules.specs.Tasks as t
-use Rattle.walk_rules.specs.Tasks.{of_body, of_bodies}
-use Rattle.walk_rules.specs.Jobs.{job_of}
-use Rattle.walk_rules.specs.Asked.{Ask, ResultsOf, CopiesOf, MultiplesOf, asked}
-use Rattle.walk_rules.specs.Stand.{Within, StandForEach, AreMultiplesOf, Answers, Answered}
-use Rattle.walk_rules.specs.Shape.{EachWithin, AreAmong, FitsAsk, FitAsks, hints_at}
-use Rattle.walk_rules.specs.Found.{signature, sides, group_from}
-use Rattle.walk_rules.proofs.Ruled.{annotates_within}
-use Rattle.walk_rules.proofs.Asking.{rules_ask}
+use Rattle.rules_spec.specs.Numbers as n
+use Rattle.rules_spec.specs.Numbers.{Condition}
+use Rattle.rules_spec.specs.Kinds.{Amount, amounts, AllMeet}
+use Rattle.rules_spec.specs.Tasks as t
+use Rattle.rules_spec.specs.Tasks.{of_body, of_bodies}
+use Rattle.rules_spec.specs.Jobs.{job_of}
+use Rattle.rules_spec.specs.Asked.{Ask, ResultsOf, CopiesOf, MultiplesOf, asked}
+use Rattle.rules_spec.specs.Stand.{Within, StandForEach, AreMultiplesOf, Answers, Answered}
+use Rattle.rules_spec.specs.Shape.{EachWithin, AreAmong, FitsAsk, FitAsks, hints_at}
+use Rattle.rules_spec.specs.Found.{signature, sides, group_from}
+use Rattle.rules_spec.proofs.Ruled.{annotates_within}
+use Rattle.rules_spec.proofs.Asking.{rules_ask}
 use Rattle.cert_check.specs.Finds.{SigsFit, HintsFit, all_hints_at, job_conditions}
 use Rattle.cert_check.specs.Laws.{IsProper}
 use Rattle.cert_check.proofs.Fitting.{here, J, body, bodies, whole, none, tells, found_with, before_once, sides_are}

@@ -3,8 +3,8 @@ use Rattle.std.proofs.Common.{◌≡◌, refl, ap, sym, ◌∙◌, subst, arith}
 use Rattle.std.specs.Prelude.{ℕ, suc, ◌+◌, ◌*◌, ◌≤◌, ◌||◌, Bool, true, false, cond, nat_lt, nat_le, List, [], ◌∷◌, ◌++◌, map, length, slice_get, slice_index_or, Option, None, Some}
 use Rattle.std.proofs.lemmas.Option.{none-some}
 use Rattle.std.proofs.lemmas.Bool.{ltb-false}
-use Rattle.normal_form.specs.Norm.{NormFun}
-use Rattle.normal_form.specs.Context.{types}
+use Rattle.normal_spec.specs.Norm.{NormFun}
+use Rattle.normal_spec.specs.Context.{types}
 use Rattle.cost_free.specs.declared.task.Meter.{Meter}
 use Rattle.cost_free.specs.Task as k
 use Rattle.cost_free.specs.Task.{Task, Kind, Free}
@@ -16,22 +16,22 @@ use Rattle.annot_types.specs.Rules.{Setting, Ann}
 use Rattle.annot_types.specs.Holds.{mode_of, budget_of, blocks_before, raised, times, times_sig, times_hint, times_block, setting, FunctionHolds, FunctionsHold}
 use Rattle.annot_types.specs.Rows.{size as size_of}
 use Rattle.annot_types.proofs.Raised.{times_once, sig_once}
-use Rattle.walk_rules.specs.Numbers as n
-use Rattle.walk_rules.specs.Numbers.{Condition}
-use Rattle.walk_rules.specs.Kinds.{Amount, amounts, total_left, total_right, Meets, AllMeet}
-use Rattle.walk_rules.specs.Walk.{walk}
-use Rattle.walk_rules.specs.Tasks as t
-use Rattle.walk_rules.specs.Tasks.{Job, known_by, of_body, of_bodies}
-use Rattle.walk_rules.specs.Jobs.{body_of, job_of}
-use Rattle.walk_rules.specs.Asked.{asked}
-use Rattle.walk_rules.specs.Stand.{Within, Reads, Tells, known_in}
-use Rattle.walk_rules.specs.Shape.{FitAsks, amounts_at, hints_at}
-use Rattle.walk_rules.specs.Found.{signature, sides, group_from, free_from, cost_from}
-use Rattle.walk_rules.specs.Faults.{Fault, Leaves, Fails, too_great, fault_at, or_fault, first_fault}
-use Rattle.walk_rules.proofs.Finding.{amounts_stand, reads_there}
-use Rattle.walk_rules.proofs.Ruled.{within_annotates}
-use Rattle.walk_rules.proofs.Calls.{rules_are_conditions}
-use Rattle.walk_rules.proofs.Shaped.{fitting_answer}
+use Rattle.rules_spec.specs.Numbers as n
+use Rattle.rules_spec.specs.Numbers.{Condition}
+use Rattle.rules_spec.specs.Kinds.{Amount, amounts, total_left, total_right, Meets, AllMeet}
+use Rattle.rules_spec.specs.Walk.{walk}
+use Rattle.rules_spec.specs.Tasks as t
+use Rattle.rules_spec.specs.Tasks.{Job, known_by, of_body, of_bodies}
+use Rattle.rules_spec.specs.Jobs.{body_of, job_of}
+use Rattle.rules_spec.specs.Asked.{asked}
+use Rattle.rules_spec.specs.Stand.{Within, Reads, Tells, known_in}
+use Rattle.rules_spec.specs.Shape.{FitAsks, amounts_at, hints_at}
+use Rattle.rules_spec.specs.Found.{signature, sides, group_from, free_from, cost_from}
+use Rattle.rules_spec.specs.Faults.{Fault, Leaves, Fails, too_great, fault_at, or_fault, first_fault}
+use Rattle.rules_spec.proofs.Finding.{amounts_stand, reads_there}
+use Rattle.rules_spec.proofs.Ruled.{within_annotates}
+use Rattle.rules_spec.proofs.Calls.{rules_are_conditions}
+use Rattle.rules_spec.proofs.Shaped.{fitting_answer}
 use Rattle.cert_check.specs.Finds.{SigsFit, HintsFit, sides_at, all_hints_at, job_fault}
 use Rattle.cert_check.specs.Laws.{AllThere, IsProper}
 

@@ -8,17 +8,17 @@ use Rattle.cost_free.specs.Task.{Task, Outcome}
 use Rattle.cost_free.specs.Blocked.{blocked}
 use Rattle.cost_free.specs.Refused.{Plan, Course, next_in, plan_in, IsRefused, gone_on, with_outcome}
 use Rattle.call_groups.specs.Calls.{calls_of}
-use Rattle.normal_form.specs.Norm.{NormFun, NormProg}
-use Rattle.normal_form.specs.Two.{norm}
+use Rattle.normal_spec.specs.Norm.{NormFun, NormProg}
+use Rattle.normal_spec.specs.Two.{norm}
 use Rattle.share_normal.specs.Program.{Kept, source_in}
 use Rattle.annot_types.specs.Program.{results, called_in, blocker_of}
 use Rattle.annot_types.specs.Certificate.{Block, Certificate, has_work, outcome, done_as}
-use Rattle.earlier_blocks.specs.Remembers.{Tables, Remembers}
-use Rattle.rule_plan.specs.Read.{program_in}
+use Rattle.rules_walk.specs.Remembers.{Tables, Remembers}
+use Rattle.rules_plan.specs.Read.{program_in}
 use Rattle.cert_check.specs.Course.{HasCome}
 use Rattle.cert_check.specs.Finds.{schedule, GoesOn, next_after}
 use Rattle.cert_check.proofs.Results.{results_are}
-use Rattle.cert_check.proofs.SameCalls.{same_blocker}
+use Rattle.rules_spec.proofs.SameCalls.{same_blocker}
 
 module _ (kept : Kept) (count : length kept.results ≡ length kept.functions) (c : Certificate) where
   pub types_are : context_of kept.results ≡ results (program_in kept)

@@ -1,20 +1,20 @@
 -- The functions of groups.
 use Rattle.std.proofs.Common.{◌≡◌, refl, ap, sym, ◌∙◌, subst, arith}
 use Rattle.std.proofs.lemmas.List.{length-map}
-use Rattle.normal_form.specs.Two.{norm, norm_fun}
+use Rattle.normal_spec.specs.Two.{norm, norm_fun}
 use Rattle.annot_types.specs.Held.{IfSolved}
 use Rattle.std.specs.Prelude.{ℕ, zero, suc, ◌<◌, ◌||◌, Bool, true, false, nat_eq, List, [], ◌∷◌, ◌++◌, map, length, slice_get, Option, None, Some}
 use Rattle.std.specs.List.{Contains}
 use Rattle.annot_types.specs.Program.{Program}
 use Rattle.annot_types.specs.Certificate as c
-use Rattle.walk_rules.specs.Jobs.{body_of}
-use Rattle.earlier_blocks.specs.Sizes.{AreSizes}
+use Rattle.rules_spec.specs.Jobs.{body_of}
+use Rattle.rules_walk.specs.Sizes.{AreSizes}
 use Rattle.cert_check.specs.At.{sizes_of}
 use Rattle.cert_check.specs.Laws.{AllThere}
 use Rattle.std.proofs.lemmas.Option.{slice_get_within}
 use Rattle.std.proofs.lemmas.Bool.{eqb-true}
 use Rattle.raml_syntax.specs.Tree.{Function, Prog}
-use Rattle.normal_form.specs.Norm.{NormFun, NormProg}
+use Rattle.normal_spec.specs.Norm.{NormFun, NormProg}
 use Rattle.call_groups.specs.Calls.{calls_from}
 use Rattle.call_groups.specs.Groups.{Reaches, here, there, Ascends, AreInOrder}
 use Rattle.cost_free.specs.Blocked.{row, is_among}

@@ -5,17 +5,17 @@ use Rattle.std.specs.Global.{Global}
 use Rattle.annot_types.specs.declared.block.Hint.{Hint as Told}
 use Rattle.annot_types.specs.Read as a
 use Rattle.annot_types.specs.Rules.{Mode}
-use Rattle.walk_rules.specs.Numbers.{Known}
-use Rattle.walk_rules.specs.Kinds.{Amount}
-use Rattle.walk_rules.specs.Capped.{capped, capped_amount}
-use Rattle.walk_rules.specs.Carried.{hint_to}
-use Rattle.walk_rules.specs.Faults.{Fault}
-use Rattle.walk_rules.specs.Shape.{hints_at}
-use Rattle.rule_walk.specs.declared.ask.Ask.{Ask}
-use Rattle.rule_walk.specs.Asks.{asks_of}
-use Rattle.rule_walk.specs.Place.{body_walked}
-use Rattle.rule_plan.specs.declared.body.Body.{Body}
-use Rattle.rule_plan.specs.Read.{body_of}
+use Rattle.rules_spec.specs.Numbers.{Known}
+use Rattle.rules_spec.specs.Kinds.{Amount}
+use Rattle.rules_spec.specs.Capped.{capped, capped_amount}
+use Rattle.rules_spec.specs.Carried.{hint_to}
+use Rattle.rules_spec.specs.Faults.{Fault}
+use Rattle.rules_spec.specs.Shape.{hints_at}
+use Rattle.rules_walk.specs.declared.ask.Ask.{Ask}
+use Rattle.rules_walk.specs.Asks.{asks_of}
+use Rattle.rules_walk.specs.Place.{body_walked}
+use Rattle.rules_plan.specs.declared.body.Body.{Body}
+use Rattle.rules_plan.specs.Read.{body_of}
 use Rattle.cert_check.specs.Finds.{hints_by}
 use Rattle.cert_check.specs.Asking.{all_asks_of}
 use Rattle.cert_check.specs.Judged.{after, in_turn}

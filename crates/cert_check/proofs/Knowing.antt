@@ -5,15 +5,15 @@ use Rattle.std.specs.Option.{option_map}
 use Rattle.cost_free.specs.declared.task.Meter.{Meter}
 use Rattle.cost_free.specs.declared.task.Meter.TheVariants.{Ticks, Cells, Work}
 use Rattle.annot_types.specs.Rules.{Mode, With, Own, Past}
-use Rattle.walk_rules.specs.Plan as p
-use Rattle.walk_rules.specs.Plan.{Plan, Part, Called}
-use Rattle.walk_rules.specs.Numbers.{Sides, Known, Signature, Hint, Walked}
-use Rattle.walk_rules.specs.Kinds.{Amount}
-use Rattle.walk_rules.specs.Capped.{cap, capped}
-use Rattle.walk_rules.specs.Walk.{Walk, charge, behind, and_then, still, mode_at, moved, all_moved, joined, nothing, at_zero, at, numbered, numbers, against, only, results_of, copies_of, multiples_of, later, begun, each, walk, walks, used, once, paid, unpaid, missing, refunded, sums, none_taken, taken, free_sides, call_pairs}
+use Rattle.rules_spec.specs.Plan as p
+use Rattle.rules_spec.specs.Plan.{Plan, Part, Called}
+use Rattle.rules_spec.specs.Numbers.{Sides, Known, Signature, Hint, Walked}
+use Rattle.rules_spec.specs.Kinds.{Amount}
+use Rattle.rules_spec.specs.Capped.{cap, capped}
+use Rattle.rules_spec.specs.Walk.{Walk, charge, behind, and_then, still, mode_at, moved, all_moved, joined, nothing, at_zero, at, numbered, numbers, against, only, results_of, copies_of, multiples_of, later, begun, each, walk, walks, used, once, paid, unpaid, missing, refunded, sums, none_taken, taken, free_sides, call_pairs}
 use Rattle.annot_types.specs.Program.{Program}
 use Rattle.annot_types.specs.Certificate.{Block}
-use Rattle.earlier_blocks.specs.Remembers.{Tables, Remembers, capped_signature, Knows}
+use Rattle.rules_walk.specs.Remembers.{Tables, Remembers, capped_signature, Knows}
 
 -- what is remembered is known
 pub knows_of : (P : Program) (d : ℕ) (blocks : List Block) (t : Tables) → Remembers P d blocks t → Knows P d blocks t

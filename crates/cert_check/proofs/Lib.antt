@@ -1,4 +1,3 @@
-pub mod SameCalls
 pub mod OneFault
 pub mod Fitting
 pub mod Fitted

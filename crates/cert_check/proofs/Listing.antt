@@ -2,10 +2,10 @@
 use Rattle.std.proofs.Common.{◌≡◌, refl, ap, ◌∙◌}
 use Rattle.std.specs.Prelude.{ℕ, ℤ, zero, suc, ◌<◌, unsigned_abs, List, [], ◌∷◌, map, length, drop, replicate, slice_set, slice_index_or}
 use Rattle.annot_types.specs.Certificate.{Entries, annotation}
-use Rattle.walk_rules.specs.Capped.{capped, capped_amount}
-use Rattle.walk_rules.specs.Found.{listed, amounts_of}
-use Rattle.walk_rules.specs.Shape.{amounts_at}
-use Rattle.earlier_blocks.proofs.Counting.{entries_left, entry_left}
+use Rattle.rules_spec.specs.Capped.{capped, capped_amount}
+use Rattle.rules_spec.specs.Found.{listed, amounts_of}
+use Rattle.rules_spec.specs.Shape.{amounts_at}
+use Rattle.rules_walk.proofs.Counting.{entries_left, entry_left}
 
 nothing_at : (n : ℕ) → replicate n capped.none ≡ map capped_amount (amounts_of (replicate n 0))
 nothing_at zero = refl

@@ -4,12 +4,12 @@ use Rattle.std.specs.Prelude.{ℕ, List, [], ◌∷◌, length, slice_get, Optio
 use Rattle.std.specs.Option.{unwrap_or}
 use Rattle.std.proofs.lemmas.Option.{none-some, same_Some}
 use Rattle.raml_syntax.specs.Tree.{Type'}
-use Rattle.normal_form.specs.Norm.{NormFun}
+use Rattle.normal_spec.specs.Norm.{NormFun}
 use Rattle.cost_free.specs.Read.{task_of}
 use Rattle.base_poly.specs.Plain.{Plain}
 use Rattle.cost_free.specs.Target.{targets}
 use Rattle.cost_free.specs.Task.{Kind, Free, Task}
-use Rattle.walk_rules.specs.Planned.{place_in}
+use Rattle.rules_spec.specs.Planned.{place_in}
 use Rattle.annot_types.specs.Program.{members}
 use Rattle.annot_types.specs.Certificate as c
 use Rattle.annot_types.specs.Certificate.{annotation, Sig, Certificate}

@@ -6,10 +6,10 @@ use Rattle.std.proofs.lemmas.Option.{none-some, same_Some}
 use Rattle.raml_syntax.specs.Read.{ty_of}
 use Rattle.raml_syntax.specs.declared.ty.Ty.{Ty}
 use Rattle.base_poly.specs.Read.{context_of}
-use Rattle.normal_form.specs.Norm as n
-use Rattle.normal_form.specs.Read.{fun_of, funs_of, parameters_of}
+use Rattle.normal_spec.specs.Norm as n
+use Rattle.normal_spec.specs.Read.{fun_of, funs_of, parameters_of}
 use Rattle.cert_check.specs.Results.{HasResult}
-use Rattle.normal_form.specs.declared.form.NormFun.{NormFun}
+use Rattle.normal_spec.specs.declared.form.NormFun.{NormFun}
 
 pub results_are : (As : List Ty) (gs : List NormFun) → length As ≡ length gs → map (λ (g : n.NormFun). g.result) (funs_of As gs) ≡ context_of As
 results_are [] [] e = refl

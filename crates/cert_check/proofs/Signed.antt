@@ -10,9 +10,9 @@ use Rattle.raml_syntax.specs.Node.{AllNodes, NumberFits}
 use Rattle.base_poly.specs.Poly as p
 use Rattle.base_poly.specs.Poly.{Term}
 use Rattle.base_poly.specs.declared.tuple.Poly.{Poly}
-use Rattle.normal_form.specs.Norm.{NormFun, NormProg}
-use Rattle.normal_form.specs.Context.{Context, types}
-use Rattle.normal_form.specs.Two.{norm}
+use Rattle.normal_spec.specs.Norm.{NormFun, NormProg}
+use Rattle.normal_spec.specs.Context.{Context, types}
+use Rattle.normal_spec.specs.Two.{norm}
 use Rattle.cost_free.specs.declared.task.Meter.{Meter}
 use Rattle.cost_free.specs.Task as k
 use Rattle.cost_free.specs.Task.{Kind, Free}
@@ -23,11 +23,11 @@ use Rattle.annot_types.specs.Signature.{sig_among, sig_in, or_else, cost_sig}
 use Rattle.annot_types.specs.Rules.{Mode, Setting}
 use Rattle.annot_types.specs.Holds.{mode_of, budget_of, setting, FunctionHolds, FunctionsHold}
 use Rattle.annot_types.specs.Held.{before, scale_of, scale_for, terms_of, IsOne, HoldsInPlace, IfSolved, Held}
-use Rattle.amortised_bounds.specs.Bounds.{Bounds}
-use Rattle.amortised_bounds.specs.Laws.{HoldsAt, Signs, normal_of}
-use Rattle.amortised_bounds.proofs.Blocks.{of_meter}
-use Rattle.amortised_bounds.proofs.Source.{is_form, of_block}
-use Rattle.amortised_bounds.proofs.Weighed.{some_is}
+use Rattle.rules_soundness_laws.specs.Bounds.{Bounds}
+use Rattle.rules_soundness_laws.specs.Laws.{HoldsAt, Signs, normal_of}
+use Rattle.rules_soundness_laws.proofs.Blocks.{of_meter}
+use Rattle.rules_soundness_laws.proofs.Source.{is_form, of_block}
+use Rattle.rules_soundness_laws.proofs.Weighed.{some_is}
 use Rattle.cert_check.specs.Bound.{Told, told_of, told_by, told}
 
 -- the derivation of a function of a group

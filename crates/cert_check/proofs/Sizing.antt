@@ -4,13 +4,13 @@ use Rattle.std.specs.Prelude.{ℕ, List, [], ◌∷◌, map, slice_get, Option, 
 use Rattle.std.specs.Option.{option_map}
 use Rattle.std.proofs.lemmas.Option.{none-some, same_Some}
 use Rattle.raml_syntax.specs.Tree.{Type'}
-use Rattle.normal_form.specs.Norm.{NormFun, NormProg}
-use Rattle.normal_form.specs.Context.{Context, types}
+use Rattle.normal_spec.specs.Norm.{NormFun, NormProg}
+use Rattle.normal_spec.specs.Context.{Context, types}
 use Rattle.annot_types.specs.Program.{Program}
 use Rattle.annot_types.specs.Certificate.{Body, Solved, Refuted, Calls, Block}
 use Rattle.annot_types.specs.Held.{IfSolved}
 use Rattle.annot_types.specs.Rows.{size as size_of}
-use Rattle.walk_rules.specs.Jobs.{body_of}
+use Rattle.rules_spec.specs.Jobs.{body_of}
 use Rattle.cert_check.specs.At.{sizes_of}
 use Rattle.cert_check.specs.Results.{HasResult}
 use Rattle.cert_check.specs.Sizes.{fun_sizes}

@@ -1,6 +1,6 @@
 -- No total of a certificate of small numbers leaves 127 bits, where its plans make little of them.
 use Rattle.std.proofs.Common.{◌≡◌, refl, ap, sym, subst, ℕ, zero, suc, ◌+◌, ◌*◌, ◌-◌, ◌≤◌, ℤ, unsigned_abs, Bool, true, false, cond, if◌then◌else◌, List, [], ◌∷◌, ◌++◌, map, take, length, slice_get, Option, None, Some, arith}
-use Rattle.normal_form.specs.Norm.{NormFun}
+use Rattle.normal_spec.specs.Norm.{NormFun}
 use Rattle.index_shift.specs.Potential.{Annotation}
 use Rattle.cost_free.specs.Task as k
 use Rattle.cost_free.specs.Task.{Kind, Free, Task}
@@ -14,21 +14,21 @@ use Rattle.annot_types.specs.Held.{before, scale_for}
 use Rattle.annot_types.specs.Holds.{budget_of}
 use Rattle.annot_types.specs.Rules.{Setting}
 use Rattle.annot_types.specs.System.{unsigned}
-use Rattle.walk_rules.specs.Numbers as n
-use Rattle.walk_rules.specs.Numbers.{Signature, Condition}
-use Rattle.walk_rules.specs.Kinds.{Amount}
-use Rattle.walk_rules.specs.Plan as p
-use Rattle.walk_rules.specs.Planned.{usable_from}
-use Rattle.walk_rules.specs.Asked.{Ask, ResultsOf, CopiesOf, MultiplesOf}
-use Rattle.walk_rules.specs.Found.{listed, amounts_of, signature, free_signature, free_in, at_budget}
-use Rattle.walk_rules.specs.Shape.{amounts_at, each_amounts, multiples_at, hint_at, hints_at}
-use Rattle.walk_rules.specs.Tasks as t
-use Rattle.rule_walk.specs.Filled.{Uses, filled, all_filled}
-use Rattle.rule_plan.specs.Read.{group_bodies}
-use Rattle.rule_plan.proofs.Over.{fill, all_filled_are}
-use Rattle.walk_bounds.specs.Growth.{growth, growths, each_growth, span, join_spans}
-use Rattle.walk_bounds.specs.Small as b
-use Rattle.walk_bounds.specs.Small.{NumbersSmall, SignatureSmall, GrowthsWithin, TotalsSmall, JobSmall, TotalsStaySmall}
+use Rattle.rules_spec.specs.Numbers as n
+use Rattle.rules_spec.specs.Numbers.{Signature, Condition}
+use Rattle.rules_spec.specs.Kinds.{Amount}
+use Rattle.rules_spec.specs.Plan as p
+use Rattle.rules_spec.specs.Planned.{usable_from}
+use Rattle.rules_spec.specs.Asked.{Ask, ResultsOf, CopiesOf, MultiplesOf}
+use Rattle.rules_spec.specs.Found.{listed, amounts_of, signature, free_signature, free_in, at_budget}
+use Rattle.rules_spec.specs.Shape.{amounts_at, each_amounts, multiples_at, hint_at, hints_at}
+use Rattle.rules_spec.specs.Tasks as t
+use Rattle.rules_walk.specs.Filled.{Uses, filled, all_filled}
+use Rattle.rules_plan.specs.Read.{group_bodies}
+use Rattle.rules_plan.proofs.Over.{fill, all_filled_are}
+use Rattle.rules_spec.specs.Growth.{growth, growths, each_growth, span, join_spans}
+use Rattle.rules_spec.specs.Small as b
+use Rattle.rules_spec.specs.Small.{NumbersSmall, SignatureSmall, GrowthsWithin, TotalsSmall, JobSmall, TotalsStaySmall}
 use Rattle.cert_check.specs.Finds.{sides_at, hints_by, asks_by, job}
 use Rattle.cert_check.specs.Laws.{TotalsFit, NoneLeaves}
 use Rattle.cert_check.specs.Limits.{most, factor, greatest, EntriesSmall, AnnotsSmall, SigSmall, SigsSmall, HintSmall, HintsSmall, AllHintsSmall, BodySmall, BlocksSmall, ScalesSmall, PlansStay, AllStay}

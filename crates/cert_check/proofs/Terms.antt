@@ -13,7 +13,7 @@ use Rattle.base_poly.specs.Total.{tuple_total, alike_is}
 use Rattle.base_poly.proofs.Exact.{exact, each_listed}
 use Rattle.annot_types.specs.Certificate.{Entries, RiseFrom, Rise, Annotates}
 use Rattle.annot_types.specs.Held.{terms_of}
-use Rattle.walk_rules.specs.Stand.{Within}
+use Rattle.rules_spec.specs.Stand.{Within}
 use Rattle.cert_check.specs.Bound.{over}
 
 pub are_within : (As : List Type') (d : ℕ) (es : Entries) → Annotates As d es → Within (length (index_list As d)) es

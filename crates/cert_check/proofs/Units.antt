@@ -6,7 +6,7 @@ use Rattle.raml_syntax.specs.Tree.{Type'}
 use Rattle.base_poly.specs.Plain.{Plain, alike}
 use Rattle.base_poly.specs.Indices.{index_list}
 use Rattle.index_shift.specs.Potential.{Annotation}
-use Rattle.solved_tasks.proofs.Units.{unit_is, same_place}
+use Rattle.rules_spec.proofs.Units.{unit_is, same_place}
 use Rattle.cert_check.specs.Finds.{missing_from}
 use Rattle.cert_check.specs.Covering.{has_from, has_all, IsReached, IsMissed}
 use Rattle.cert_check.proofs.Covered.{reached, missed}

@@ -11,19 +11,19 @@ use Rattle.annot_types.specs.Program.{Program}
 use Rattle.annot_types.specs.Certificate.{Sig, Hint, Block}
 use Rattle.annot_types.specs.Rules.{Mode}
 use Rattle.annot_types.specs.Holds.{mode_of, budget_of}
-use Rattle.walk_rules.specs.Numbers as n
-use Rattle.walk_rules.specs.Numbers.{Signature, Known, Condition, Walked}
-use Rattle.walk_rules.specs.Kinds.{Amount, amounts}
-use Rattle.walk_rules.specs.Walk.{walk}
-use Rattle.walk_rules.specs.Capped.{cap, capped, capped_amount}
-use Rattle.walk_rules.specs.Carried.{sides_to, known_to, hint_to, condition_to}
-use Rattle.walk_rules.specs.Tasks.{Body, Job, known_by, of_bodies}
-use Rattle.walk_rules.specs.Jobs.{job_of}
-use Rattle.walk_rules.specs.Faults.{first_fault}
-use Rattle.walk_rules.proofs.Capping.{capped_walks, capped_faults}
-use Rattle.earlier_blocks.specs.Laws.{IsFree}
-use Rattle.earlier_blocks.specs.Remembers.{Tables, free_at, cost_at, capped_signature, Knows}
-use Rattle.earlier_blocks.proofs.Unpaid.{walks_without_cost}
+use Rattle.rules_spec.specs.Numbers as n
+use Rattle.rules_spec.specs.Numbers.{Signature, Known, Condition, Walked}
+use Rattle.rules_spec.specs.Kinds.{Amount, amounts}
+use Rattle.rules_spec.specs.Walk.{walk}
+use Rattle.rules_spec.specs.Capped.{cap, capped, capped_amount}
+use Rattle.rules_spec.specs.Carried.{sides_to, known_to, hint_to, condition_to}
+use Rattle.rules_spec.specs.Tasks.{Body, Job, known_by, of_bodies}
+use Rattle.rules_spec.specs.Jobs.{job_of}
+use Rattle.rules_spec.specs.Faults.{first_fault}
+use Rattle.rules_spec.proofs.Capping.{capped_walks, capped_faults}
+use Rattle.rules_walk.specs.Laws.{IsFree}
+use Rattle.rules_walk.specs.Remembers.{Tables, free_at, cost_at, capped_signature, Knows}
+use Rattle.rules_walk.proofs.Unpaid.{walks_without_cost}
 use Rattle.cert_check.specs.Finds.{sides_at, all_hints_at, job_fault}
 use Rattle.cert_check.specs.Judging.{bodies_walked}
 use Rattle.cert_check.proofs.Knowing.{as_heard, walk_same}

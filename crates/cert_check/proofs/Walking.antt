@@ -9,8 +9,8 @@ use Rattle.annot_types.specs.Program.{Program}
 use Rattle.annot_types.specs.Certificate.{Block, Certificate}
 use Rattle.annot_types.specs.Read.{block_of, blocks_of}
 use Rattle.annot_types.specs.declared.block.Block.{Block as Given}
-use Rattle.normal_form.specs.Norm.{NormFun, NormProg}
-use Rattle.normal_form.specs.Uses.{Uses, IsNormal}
+use Rattle.normal_spec.specs.Norm.{NormFun, NormProg}
+use Rattle.normal_spec.specs.Uses.{Uses, IsNormal}
 use Rattle.std.specs.List.{All}
 use Rattle.cert_check.specs.Fault.{Fault}
 use Rattle.cert_check.specs.Finds.{BlockFinds, BlocksFind}

@@ -6,12 +6,12 @@ use Rattle.annot_types.specs.Signature.{sig_among}
 use Rattle.annot_types.specs.Holds.{Reaches, budget_of}
 use Rattle.annot_types.specs.Held.{scale_for}
 use Rattle.cost_free.specs.Task.{Task}
-use Rattle.walk_rules.specs.Jobs.{body_of}
-use Rattle.walk_rules.specs.Capped.{cap}
+use Rattle.rules_spec.specs.Jobs.{body_of}
+use Rattle.rules_spec.specs.Capped.{cap}
 use Rattle.annot_types.specs.Certificate as c
-use Rattle.earlier_blocks.specs.Remembers.{Knows}
-use Rattle.rule_plan.specs.Read.{program_in}
-use Rattle.walk_rules.specs.Tasks as t
+use Rattle.rules_walk.specs.Remembers.{Knows}
+use Rattle.rules_plan.specs.Read.{program_in}
+use Rattle.rules_spec.specs.Tasks as t
 use Rattle.cert_check.specs.Fault as f
 use Rattle.cert_check.specs.Finds.{missing_in}
 use Rattle.cert_check.specs.Read.{fault_of, OfFault}

@@ -1,7 +1,7 @@
 -- What a certificate that is held tells of a function and a meter.
 use Rattle.std.specs.Prelude.{ℕ, ℤ, unsigned_abs, List, [], map, slice_get, slice_index_or, Option, None, Some}
-use Rattle.normal_form.specs.Norm.{NormFun}
-use Rattle.normal_form.specs.Context.{types}
+use Rattle.normal_spec.specs.Norm.{NormFun}
+use Rattle.normal_spec.specs.Context.{types}
 use Rattle.base_poly.specs.Plain.{Plain}
 use Rattle.base_poly.specs.Poly as p
 use Rattle.base_poly.specs.Poly.{Term}

@@ -3,8 +3,8 @@ use Rattle.std.specs.Prelude.{◌≡◌, List, map}
 use Rattle.share_normal.specs.Program.{Kept}
 use Rattle.cost_free.specs.Refused.{Course}
 use Rattle.annot_types.specs.Certificate.{Block, Certificate, has_work, outcome}
-use Rattle.earlier_blocks.specs.Remembers.{Tables, Remembers}
-use Rattle.rule_plan.specs.Read.{program_in}
+use Rattle.rules_walk.specs.Remembers.{Tables, Remembers}
+use Rattle.rules_plan.specs.Read.{program_in}
 
 -- the schedule after these blocks
 abbrev pub course_of : Kept → Certificate → List Block → Course

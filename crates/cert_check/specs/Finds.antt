@@ -6,7 +6,7 @@ use Rattle.std.specs.List.{All, list_any}
 use Rattle.base_poly.specs.Plain.{Plain, alike}
 use Rattle.base_poly.specs.Indices.{index_list}
 use Rattle.index_shift.specs.Potential.{Annotation}
-use Rattle.normal_form.specs.Norm.{NormFun}
+use Rattle.normal_spec.specs.Norm.{NormFun}
 use Rattle.cost_free.specs.Target.{Target, targets}
 use Rattle.cost_free.specs.declared.task.Meter.TheVariants.{Ticks, Cells, Work}
 use Rattle.cost_free.specs.Task.{Task, Kind, Free, With}
@@ -16,17 +16,17 @@ use Rattle.annot_types.specs.Certificate.{annotation, Rise, Sig, Hint, Body, Sol
 use Rattle.annot_types.specs.Signature.{sig_among}
 use Rattle.annot_types.specs.Holds.{budget_of, ReachesTarget}
 use Rattle.annot_types.specs.Held.{SigsRise, AllHintsRise, NamesBlocker, scale_of, scale_for}
-use Rattle.walk_rules.specs.Numbers as n
-use Rattle.walk_rules.specs.Kinds.{Amount, amounts}
-use Rattle.walk_rules.specs.Tasks.{Job, of_bodies}
-use Rattle.walk_rules.specs.Tasks as t
-use Rattle.walk_rules.specs.Jobs.{job_of, target_place}
-use Rattle.walk_rules.specs.Asked.{Ask, asked}
-use Rattle.walk_rules.specs.Stand.{Within}
-use Rattle.walk_rules.specs.Shape.{FitAsks, amounts_at, hints_at}
-use Rattle.walk_rules.specs.Faults as f
-use Rattle.walk_rules.specs.Faults.{first_fault}
-use Rattle.rule_plan.specs.Within.{FunctionWithin}
+use Rattle.rules_spec.specs.Numbers as n
+use Rattle.rules_spec.specs.Kinds.{Amount, amounts}
+use Rattle.rules_spec.specs.Tasks.{Job, of_bodies}
+use Rattle.rules_spec.specs.Tasks as t
+use Rattle.rules_spec.specs.Jobs.{job_of, target_place}
+use Rattle.rules_spec.specs.Asked.{Ask, asked}
+use Rattle.rules_spec.specs.Stand.{Within}
+use Rattle.rules_spec.specs.Shape.{FitAsks, amounts_at, hints_at}
+use Rattle.rules_spec.specs.Faults as f
+use Rattle.rules_spec.specs.Faults.{first_fault}
+use Rattle.rules_plan.specs.Within.{FunctionWithin}
 use Rattle.cert_check.specs.Fault.{Fault, Shape, Fails, Leaves, TooLarge, Unless}
 
 -- The degree is from 1 to 4, and the scales that are there are positive.

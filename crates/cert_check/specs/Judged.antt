@@ -2,9 +2,9 @@
 use Rattle.std.specs.Prelude.{◌≡◌, ℕ, List, [], ◌∷◌, ◌++◌, Option, None, Some}
 use Rattle.std.specs.Option.{option_map}
 use Rattle.std.proofs.Common.{refl, ap, ◌∙◌}
-use Rattle.walk_rules.specs.Numbers.{Condition}
-use Rattle.walk_rules.specs.Kinds.{Amount}
-use Rattle.walk_rules.specs.Faults.{Fault, Leaves, Fails, fault_at, or_fault, first_fault}
+use Rattle.rules_spec.specs.Numbers.{Condition}
+use Rattle.rules_spec.specs.Kinds.{Amount}
+use Rattle.rules_spec.specs.Faults.{Fault, Leaves, Fails, fault_at, or_fault, first_fault}
 use Rattle.cert_check.specs.declared.judge.Trouble.{Trouble}
 use Rattle.cert_check.specs.declared.judge.Trouble.TheVariants as t
 use Rattle.cert_check.specs.declared.judge.Found.{Found}

@@ -1,11 +1,11 @@
 -- The conditions of bodies, as the code walks them.
 use Rattle.std.specs.Prelude.{ℕ, suc, List, [], ◌∷◌, ◌++◌}
 use Rattle.annot_types.specs.Rules.{Mode}
-use Rattle.walk_rules.specs.Numbers.{Known, Hint, Condition}
-use Rattle.walk_rules.specs.Kinds.{Amount}
-use Rattle.walk_rules.specs.Capped.{capped}
-use Rattle.walk_rules.specs.Tasks.{Body}
-use Rattle.rule_walk.specs.Place.{body_walked}
+use Rattle.rules_spec.specs.Numbers.{Known, Hint, Condition}
+use Rattle.rules_spec.specs.Kinds.{Amount}
+use Rattle.rules_spec.specs.Capped.{capped}
+use Rattle.rules_spec.specs.Tasks.{Body}
+use Rattle.rules_walk.specs.Place.{body_walked}
 
 -- of the bodies from this place of the group on
 abbrev pub bodies_walked : Known Amount → Mode → ℕ → List Body → List (List (Hint Amount)) → List (Condition Amount)

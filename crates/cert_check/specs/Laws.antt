@@ -1,14 +1,14 @@
 -- What the first fault is.
 use Rattle.std.specs.Prelude.{◌≡◌, ◌<◌, ◌↔◌, ℕ, List, [], ◌∷◌, slice_get, Option, None, Some}
-use Rattle.normal_form.specs.Norm.{NormFun}
-use Rattle.normal_form.specs.Uses.{Uses}
+use Rattle.normal_spec.specs.Norm.{NormFun}
+use Rattle.normal_spec.specs.Uses.{Uses}
 use Rattle.annot_types.specs.Program.{Program, members}
 use Rattle.annot_types.specs.Certificate.{Solved, Body, Block, Certificate}
 use Rattle.annot_types.specs.Held.{Held, IfSolved, before}
 use Rattle.cost_free.specs.Task.{Task}
-use Rattle.walk_rules.specs.Numbers.{Condition}
-use Rattle.walk_rules.specs.Kinds.{Amount, total_left, total_right}
-use Rattle.walk_rules.specs.Faults.{too_great}
+use Rattle.rules_spec.specs.Numbers.{Condition}
+use Rattle.rules_spec.specs.Kinds.{Amount, total_left, total_right}
+use Rattle.rules_spec.specs.Faults.{too_great}
 use Rattle.cert_check.specs.Fault.{Fault, Shape, Fails, Leaves, TooLarge}
 use Rattle.cert_check.specs.Finds.{FirstFault, GoesOn, AreWithin, job, job_conditions}
 

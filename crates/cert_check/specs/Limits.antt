@@ -5,8 +5,8 @@ use Rattle.annot_types.specs.Held.{scale_of, IfSolved}
 use Rattle.annot_types.specs.Holds.{budget_of}
 use Rattle.annot_types.specs.Program.{Program}
 use Rattle.cost_free.specs.declared.task.Meter.TheVariants.{Ticks, Cells, Work}
-use Rattle.walk_bounds.specs.Small.{GrowthsWithin}
-use Rattle.rule_plan.specs.Read.{group_bodies}
+use Rattle.rules_spec.specs.Small.{GrowthsWithin}
+use Rattle.rules_plan.specs.Read.{group_bodies}
 
 -- what small numbers are at most
 abbrev pub most : ℕ

@@ -1,7 +1,7 @@
 -- How many positions a function has.
 use Rattle.std.specs.Prelude.{ℕ, [], ◌∷◌, Option, None, Some}
-use Rattle.normal_form.specs.Norm.{NormFun}
-use Rattle.normal_form.specs.Context.{types}
+use Rattle.normal_spec.specs.Norm.{NormFun}
+use Rattle.normal_spec.specs.Context.{types}
 use Rattle.annot_types.specs.Rows.{size as size_of}
 
 -- its arguments and its result, at a budget; none where there is no such function

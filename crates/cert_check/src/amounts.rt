@@ -1,17 +1,17 @@
 // Signatures and hints, as they are walked.
 ghost use Rattle.std.specs.Prelude.{◌≡◌, map, option_to_list, replicate, slice_set, unsigned_abs, IfOk};
 ghost use Rattle.annot_types.specs.Read as a;
-ghost use Rattle.walk_rules.specs.Capped.{capped, capped_amount};
-ghost use Rattle.walk_rules.specs.Carried.{sides_to, multiple_to, hint_to};
-ghost use Rattle.walk_rules.specs.Shape.{amounts_at, each_amounts, multiples_at, hint_at, hints_at};
-ghost use Rattle.rule_walk.specs.Asks.{ask_of, asks_of};
-ghost use Rattle.rule_walk.specs.Read.{sides_of, hint_of, hints_of};
-ghost use Rattle.rule_plan.specs.Read.{body_of};
+ghost use Rattle.rules_spec.specs.Capped.{capped, capped_amount};
+ghost use Rattle.rules_spec.specs.Carried.{sides_to, multiple_to, hint_to};
+ghost use Rattle.rules_spec.specs.Shape.{amounts_at, each_amounts, multiples_at, hint_at, hints_at};
+ghost use Rattle.rules_walk.specs.Asks.{ask_of, asks_of};
+ghost use Rattle.rules_walk.specs.Read.{sides_of, hint_of, hints_of};
+ghost use Rattle.rules_plan.specs.Read.{body_of};
 ghost use Rattle.cert_check.specs.Finds.{sides_at};
 
 use annot_types::{Annot, Hint as Told, Sig};
-use rule_plan::Body;
-use rule_walk::{Amount, Ask, Hint, Sides};
+use rules_plan::Body;
+use rules_walk::{Amount, Ask, Hint, Sides};
 use std::alloc::{AllocError, Global};
 
 // So many amounts of 0.

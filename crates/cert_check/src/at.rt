@@ -5,14 +5,13 @@ ghost use Rattle.call_groups.specs.Read.{ids_of};
 ghost use Rattle.cost_free.specs.Read.{kind_of};
 ghost use Rattle.annot_types.specs.Program.{members};
 ghost use Rattle.annot_types.specs.Holds as h;
-ghost use Rattle.rule_walk.specs.Read as r;
-ghost use Rattle.rule_plan.specs.Read.{program_in};
+ghost use Rattle.rules_walk.specs.Read as r;
+ghost use Rattle.rules_plan.specs.Read.{program_in};
 ghost use Rattle.cert_check.specs.Results.{HasResult};
 
 use cost_free::{Task, TaskKind};
-use earlier_blocks::Earlier;
 use raml_syntax::{FunId, Ty};
-use rule_walk::Mode;
+use rules_walk::{Earlier, Mode};
 use share_normal::NormProgram;
 use std::alloc::Global;
 

@@ -7,8 +7,8 @@ ghost use Rattle.annot_types.specs.Certificate as c;
 ghost use Rattle.annot_types.specs.Held.{NamesBlocker, IfSolved};
 ghost use Rattle.annot_types.specs.Holds as h;
 ghost use Rattle.annot_types.specs.Read as a;
-ghost use Rattle.earlier_blocks.specs.Remembers.{Remembers};
-ghost use Rattle.rule_plan.specs.Read.{AreKept};
+ghost use Rattle.rules_walk.specs.Remembers.{Remembers};
+ghost use Rattle.rules_plan.specs.Read.{AreKept};
 ghost use Rattle.cert_check.specs.At.{program_at, IsAt, Tells, sizes_of};
 ghost use Rattle.cert_check.specs.Finds.{job, BodyFinds};
 ghost use Rattle.cert_check.specs.Same.{same_kind, same_task, is_task};
@@ -19,7 +19,7 @@ use crate::planned::check_solved;
 use annot_types::{BlockBody, rise};
 use cost_free::{Task, TaskKind};
 use raml_syntax::FunId;
-use rule_plan::KeptPlans;
+use rules_plan::KeptPlans;
 
 fn same_kind(kind: TaskKind, other: TaskKind) -> bool
     ensures { result ≡ same_kind (kind_of kind) (kind_of other) }

@@ -5,8 +5,8 @@ ghost use Rattle.raml_syntax.specs.Tree.{Function};
 ghost use Rattle.share_normal.specs.Program.{source_in};
 ghost use Rattle.annot_types.specs.Held.{Held};
 ghost use Rattle.annot_types.specs.Read.{certificate_of};
-ghost use Rattle.amortised_bounds.specs.Bounds.{Bounds};
-ghost use Rattle.rule_plan.specs.Read.{program_in};
+ghost use Rattle.rules_soundness_laws.specs.Bounds.{Bounds};
+ghost use Rattle.rules_plan.specs.Read.{program_in};
 ghost use Rattle.cert_check.specs.Bound.{told, told_of};
 ghost use Rattle.base_poly.specs.Poly.{den_of, terms_of, IsPoly};
 
@@ -31,11 +31,11 @@ impl<'p, 'a> Model for Checked<'p, 'a> {
     ghost use Rattle.raml_syntax.specs.contracts.ty.Ty as ty;
     ghost use Rattle.raml_syntax.specs.contracts.tree.Form as source_form;
     ghost use Rattle.raml_syntax.specs.contracts.tree.Expr as source_expr;
-    ghost use Rattle.normal_form.specs.contracts.form.NormForm as form;
-    ghost use Rattle.normal_form.specs.contracts.form.NormExpr as expr;
+    ghost use Rattle.normal_spec.specs.contracts.form.NormForm as form;
+    ghost use Rattle.normal_spec.specs.contracts.form.NormExpr as expr;
     ghost use Rattle.annot_types.specs.Held.{Held};
     ghost use Rattle.annot_types.specs.Read.{certificate_of};
-    ghost use Rattle.rule_plan.specs.Read.{program_in};
+    ghost use Rattle.rules_plan.specs.Read.{program_in};
     ghost use Rattle.cert_check.specs.Checked.{Checking};
 
     ghost Value = { Checking };

@@ -1,7 +1,7 @@
 // The check of a certificate.
 ghost use Rattle.std.specs.Prelude.{◌≡◌, ◌≤◌, [], None, IfOk, OnOk, IfErr};
 ghost use Rattle.annot_types.specs.Read.{blocks_of, certificate_of};
-ghost use Rattle.rule_plan.specs.Read.{program_in, AreKept};
+ghost use Rattle.rules_plan.specs.Read.{program_in, AreKept};
 ghost use Rattle.cert_check.specs.At.{Tells};
 ghost use Rattle.annot_types.specs.Held.{Held};
 ghost use Rattle.cert_check.specs.Finds.{BlocksFind, FirstFault};
@@ -16,11 +16,11 @@ use crate::laws::faultless_exactly;
 use crate::limits::stays_small;
 use annot_types::Certificate;
 use cost_free::Schedule;
-use earlier_blocks::Earlier;
-use rule_plan::KeptPlans;
+use rules_plan::KeptPlans;
+use rules_spec::laws::totals_stay_small;
+use rules_walk::Earlier;
 use share_normal::NormProgram;
 use std::alloc::Global;
-use walk_bounds::laws::totals_stay_small;
 
 // The blocks, one after the other, and the end of the schedule.
 fn check_blocks(

@@ -1,12 +1,12 @@
 // The judge of a block's conditions.
 ghost use Rattle.std.specs.Prelude.{◌≡◌, ◌+◌, cond, ℕ, List, Some, None, IfOk, OnOk};
 ghost use Rattle.std.specs.Option.{option_map};
-ghost use Rattle.walk_rules.specs.Capped.{capped};
-ghost use Rattle.walk_rules.specs.Faults.{Leaves, Fails, fault_at, first_fault};
-ghost use Rattle.walk_rules.specs.Walk.{at, against, numbered};
+ghost use Rattle.rules_spec.specs.Capped.{capped};
+ghost use Rattle.rules_spec.specs.Faults.{Leaves, Fails, fault_at, first_fault};
+ghost use Rattle.rules_spec.specs.Walk.{at, against, numbered};
 ghost use Rattle.cert_check.specs.Judged.{located, found_of, verdict_of, after};
 
-use rule_walk::{Amount, Judge};
+use rules_walk::{Amount, Judge};
 use smallvec::SmallVec;
 use std::alloc::{AllocError, Global};
 
@@ -108,7 +108,7 @@ fn first_found(
 
 impl Judge<Amount> for FaultJudge {
     ghost use Rattle.std.specs.Prelude.{Option};
-    ghost use Rattle.walk_rules.specs.Faults.{Fault};
+    ghost use Rattle.rules_spec.specs.Faults.{Fault};
     ghost use Rattle.cert_check.specs.Judged.{verdict_of, after, silent, in_turn};
 
     ghost Verdict = { Option Fault };

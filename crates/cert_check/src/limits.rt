@@ -6,14 +6,14 @@ ghost use Rattle.annot_types.specs.Read as a;
 ghost use Rattle.annot_types.specs.Read.{certificate_of, blocks_of};
 ghost use Rattle.cost_free.specs.Read.{kind_of};
 ghost use Rattle.annot_types.specs.Holds as h;
-ghost use Rattle.rule_plan.specs.Read.{function_of, ArePlansOf, AreKept};
-ghost use Rattle.walk_bounds.specs.Small.{GrowthsWithin};
+ghost use Rattle.rules_plan.specs.Read.{function_of, ArePlansOf, AreKept};
+ghost use Rattle.rules_spec.specs.Small.{GrowthsWithin};
 ghost use Rattle.cert_check.specs.Limits.{factor, greatest, EntriesSmall, AnnotsSmall, SigSmall, SigsSmall, HintSmall, HintsSmall, AllHintsSmall, BodySmall, BlocksSmall, ScalesSmall, StaysSmall, PlansStay, AllStay};
 
 use crate::at::budget_of;
 use annot_types::{Annot, Block, BlockBody, Certificate, Hint, Sig};
-use rule_plan::{FunctionPlan, GroupPlans, KeptPlans};
-use rule_walk::growth;
+use rules_plan::{FunctionPlan, GroupPlans, KeptPlans};
+use rules_walk::growth;
 use std::alloc::Global;
 
 // What small numbers are at most.

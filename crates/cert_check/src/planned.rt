@@ -6,8 +6,8 @@ ghost use Rattle.annot_types.specs.Certificate.{Solved};
 ghost use Rattle.annot_types.specs.Held.{SigsRise, AllHintsRise};
 ghost use Rattle.annot_types.specs.Holds as h;
 ghost use Rattle.annot_types.specs.Read as a;
-ghost use Rattle.earlier_blocks.specs.Remembers.{Remembers};
-ghost use Rattle.rule_plan.specs.Read.{body_of, ArePlansOf, AreKept};
+ghost use Rattle.rules_walk.specs.Remembers.{Remembers};
+ghost use Rattle.rules_plan.specs.Read.{body_of, ArePlansOf, AreKept};
 ghost use Rattle.cert_check.specs.At.{program_at, IsAt, Tells, sizes_of};
 ghost use Rattle.cert_check.specs.Asking.{all_asks_of};
 ghost use Rattle.cert_check.specs.Finds.{SigsFit, AllFit, asks_by, job, ShapeFinds, BodyFinds};
@@ -18,8 +18,8 @@ use crate::reached::check_target;
 use crate::rules::all_asked;
 use crate::shape::{hints_fit, sigs_fit};
 use annot_types::{Hint, Sig};
-use rule_plan::{Body, GroupPlans, KeptPlans, PlanFault, next_plans};
-use rule_walk::Ask;
+use rules_plan::{Body, GroupPlans, KeptPlans, PlanFault, next_plans};
+use rules_walk::Ask;
 use std::alloc::{AllocError, Global};
 
 // Signatures and hints are those that the bodies want.

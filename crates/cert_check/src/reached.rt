@@ -6,8 +6,8 @@ ghost use Rattle.cost_free.specs.Task.{Free};
 ghost use Rattle.annot_types.specs.Certificate as c;
 ghost use Rattle.annot_types.specs.Read as a;
 ghost use Rattle.annot_types.specs.Program.{members};
-ghost use Rattle.walk_rules.specs.Planned.{place_in};
-ghost use Rattle.rule_plan.specs.Read.{body_of};
+ghost use Rattle.rules_spec.specs.Planned.{place_in};
+ghost use Rattle.rules_plan.specs.Read.{body_of};
 ghost use Rattle.cert_check.specs.At.{program_at, IsAt, Tells, ReachesAt, MissesAt};
 ghost use Rattle.cert_check.specs.Asking.{all_asks_of};
 ghost use Rattle.cert_check.specs.Fault.{Fails};
@@ -24,8 +24,8 @@ use crate::target::{aim_at, covers, first_missing, place_of, sig_of, tuple_count
 use annot_types::{Annot, Hint, Sig};
 use cost_free::TaskKind;
 use raml_syntax::{FunId, Ty};
-use rule_plan::Body;
-use rule_walk::Ask;
+use rules_plan::Body;
+use rules_walk::Ask;
 use smallvec::SmallVec;
 use std::alloc::AllocError;
 

@@ -1,14 +1,14 @@
 // The rules of a solved block.
 ghost use Rattle.std.specs.Prelude.{◌≡◌, map, length, IfOk, OnOk};
 ghost use Rattle.annot_types.specs.Read as a;
-ghost use Rattle.walk_rules.specs.Capped.{capped, capped_amount};
-ghost use Rattle.walk_rules.specs.Carried.{hint_to};
-ghost use Rattle.walk_rules.specs.Faults.{first_fault};
-ghost use Rattle.walk_rules.specs.Shape.{hints_at};
-ghost use Rattle.rule_walk.specs.Asks.{asks_of};
-ghost use Rattle.rule_walk.specs.Read.{known_of, mode_of};
-ghost use Rattle.rule_walk.specs.Place.{body_walked};
-ghost use Rattle.rule_plan.specs.Read.{body_of};
+ghost use Rattle.rules_spec.specs.Capped.{capped, capped_amount};
+ghost use Rattle.rules_spec.specs.Carried.{hint_to};
+ghost use Rattle.rules_spec.specs.Faults.{first_fault};
+ghost use Rattle.rules_spec.specs.Shape.{hints_at};
+ghost use Rattle.rules_walk.specs.Asks.{asks_of};
+ghost use Rattle.rules_walk.specs.Read.{known_of, mode_of};
+ghost use Rattle.rules_walk.specs.Place.{body_walked};
+ghost use Rattle.rules_plan.specs.Read.{body_of};
 ghost use Rattle.cert_check.specs.Judged.{verdict_of, after};
 ghost use Rattle.cert_check.specs.Asking.{all_asks_of};
 ghost use Rattle.cert_check.specs.Finds.{asks_by, hints_by};
@@ -17,8 +17,8 @@ ghost use Rattle.cert_check.specs.Judging.{bodies_walked};
 use crate::amounts::walked_hints;
 use crate::judge::FaultJudge;
 use annot_types::Hint;
-use rule_plan::Body;
-use rule_walk::{Amount, Ask, Known, Mode};
+use rules_plan::Body;
+use rules_walk::{Amount, Ask, Known, Mode};
 use std::alloc::{AllocError, Global};
 
 /// What the walks through the bodies ask for.

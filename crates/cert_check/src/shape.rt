@@ -3,16 +3,16 @@ ghost use Rattle.std.specs.Prelude.{◌≡◌, ◌↔◌, map, IsTrue};
 ghost use Rattle.annot_types.specs.Certificate.{Rise};
 ghost use Rattle.annot_types.specs.Held.{AllRise, HintRises, HintsRise, AllHintsRise, SigsRise};
 ghost use Rattle.annot_types.specs.Read as a;
-ghost use Rattle.walk_rules.specs.Stand.{Within};
-ghost use Rattle.walk_rules.specs.Shape.{FitAsks};
-ghost use Rattle.rule_walk.specs.Asks.{asks_of};
-ghost use Rattle.rule_plan.specs.Read.{body_of};
+ghost use Rattle.rules_spec.specs.Stand.{Within};
+ghost use Rattle.rules_spec.specs.Shape.{FitAsks};
+ghost use Rattle.rules_walk.specs.Asks.{asks_of};
+ghost use Rattle.rules_plan.specs.Read.{body_of};
 ghost use Rattle.cert_check.specs.Finds.{SigsFit, AllFit};
 ghost use Rattle.cert_check.specs.Asking.{all_asks_of};
 
 use annot_types::{Annot, Hint, Sig, rise};
-use rule_plan::Body;
-use rule_walk::{Ask, fits};
+use rules_plan::Body;
+use rules_walk::{Ask, fits};
 
 // All positions are below the size.
 fn is_within(size: usize, annot: &Annot) -> bool

@@ -3,13 +3,13 @@ ghost use Rattle.std.specs.Prelude.{◌≡◌, ◌++◌, ◌∷◌, [], List, ma
 ghost use Rattle.raml_syntax.specs.Read.{ty_of};
 ghost use Rattle.base_poly.specs.Read.{context_of};
 ghost use Rattle.call_groups.specs.Read.{ids_of};
-ghost use Rattle.normal_form.specs.Context.{types};
-ghost use Rattle.normal_form.specs.Read.{parameters_of};
+ghost use Rattle.normal_spec.specs.Context.{types};
+ghost use Rattle.normal_spec.specs.Read.{parameters_of};
 ghost use Rattle.annot_types.specs.Certificate as c;
 ghost use Rattle.annot_types.specs.Read as a;
 ghost use Rattle.annot_types.specs.Rows.{size as size_of};
-ghost use Rattle.earlier_blocks.specs.Remembers.{Remembers};
-ghost use Rattle.rule_plan.specs.Read.{program_in};
+ghost use Rattle.rules_walk.specs.Remembers.{Remembers};
+ghost use Rattle.rules_plan.specs.Read.{program_in};
 ghost use Rattle.cert_check.specs.Sizes.{fun_sizes};
 
 use crate::at::{budget_of, members, result_of};
@@ -17,8 +17,8 @@ use crate::bound::{params_of, types_of};
 use crate::course::remember;
 use annot_types::Block;
 use base_poly::positions;
-use earlier_blocks::Earlier;
 use raml_syntax::{FunId, Ty};
+use rules_walk::Earlier;
 use share_normal::NormProgram;
 use std::alloc::{AllocError, Global};
 use std::slice;

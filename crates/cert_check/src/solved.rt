@@ -4,7 +4,7 @@ ghost use Rattle.std.specs.Option.{option_map};
 ghost use Rattle.cost_free.specs.Read.{task_of};
 ghost use Rattle.annot_types.specs.Certificate as c;
 ghost use Rattle.annot_types.specs.Read as a;
-ghost use Rattle.rule_plan.specs.Read.{body_of};
+ghost use Rattle.rules_plan.specs.Read.{body_of};
 ghost use Rattle.cert_check.specs.At.{program_at, IsAt, Tells};
 ghost use Rattle.cert_check.specs.Asking.{all_asks_of};
 ghost use Rattle.cert_check.specs.Finds.{asks_by, at_block, job, job_fault, RulesFind};
@@ -17,8 +17,8 @@ use crate::fault::CertFault;
 use crate::judge::{FaultJudge, Found, Trouble};
 use crate::rules::judged;
 use annot_types::{Hint, Sig};
-use rule_plan::Body;
-use rule_walk::Ask;
+use rules_plan::Body;
+use rules_walk::Ask;
 use std::alloc::AllocError;
 
 // A condition with trouble, in the block of this number.

@@ -10,7 +10,7 @@ ghost use Rattle.cost_free.specs.Target.{targets};
 ghost use Rattle.annot_types.specs.Certificate.{annotation};
 ghost use Rattle.annot_types.specs.Signature.{sig_among};
 ghost use Rattle.annot_types.specs.Read as a;
-ghost use Rattle.walk_rules.specs.Planned.{place_in};
+ghost use Rattle.rules_spec.specs.Planned.{place_in};
 ghost use Rattle.cert_check.specs.Finds.{missing_from};
 ghost use Rattle.cert_check.specs.Covering.{has_from, has_all, AreFew};
 

@@ -4,10 +4,10 @@ use Rattle.std.specs.Prelude.{ℕ, zero, suc, ◌+◌, ◌<◌, ◌⊎◌, Bool,
 use Rattle.std.proofs.lemmas.Bool.Decides.{nat_tests}
 use Rattle.linear_rows.specs.Terms.{SparseRow}
 use Rattle.annot_types.specs.System.{is_kept}
-use Rattle.walk_rules.specs.Numbers.{Condition}
-use Rattle.walk_rules.specs.Walk.{at, against, numbered}
-use Rattle.walk_rules.specs.Solving.{row_of}
-use Rattle.solved_tasks.specs.Capped.{within}
+use Rattle.rules_spec.specs.Numbers.{Condition}
+use Rattle.rules_spec.specs.Walk.{at, against, numbered}
+use Rattle.rules_spec.specs.Solving.{row_of}
+use Rattle.rules_spec.specs.CappedRows.{within}
 use Rattle.constraint_gen.specs.Sums.{Sum, sums}
 use Rattle.constraint_gen.specs.Heard.{Heard, kept, pair, hear, hear_all}
 

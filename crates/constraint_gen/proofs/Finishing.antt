@@ -7,18 +7,18 @@ use Rattle.std.proofs.lemmas.Bool.Decides.{nat_tests}
 use Rattle.linear_rows.specs.Terms.{SparseRow, coefficient}
 use Rattle.linear_rows.specs.Systems.{IsBelow, AllBelow}
 use Rattle.annot_types.specs.System.{is_kept}
-use Rattle.walk_rules.specs.Numbers.{Condition}
-use Rattle.walk_rules.specs.Kinds.{Form}
-use Rattle.walk_rules.specs.Carried.{condition_to}
-use Rattle.walk_rules.specs.Solving.{row_of, rows_of}
-use Rattle.walk_rules.specs.Capped.{cap}
-use Rattle.solved_tasks.specs.Sure.{IsSure, AreSure}
-use Rattle.solved_tasks.specs.Capped.{capped_condition, capped_totals, row_fits, within, RowsAgree}
+use Rattle.rules_spec.specs.Numbers.{Condition}
+use Rattle.rules_spec.specs.Kinds.{Form}
+use Rattle.rules_spec.specs.Carried.{condition_to}
+use Rattle.rules_spec.specs.Solving.{row_of, rows_of}
+use Rattle.rules_spec.specs.Capped.{cap}
+use Rattle.rules_spec.specs.Sure.{IsSure, AreSure}
+use Rattle.rules_spec.specs.CappedRows.{capped_condition, capped_totals, row_fits, within, RowsAgree}
 use Rattle.constraint_gen.specs.Sums.{Sum, form_of}
 use Rattle.constraint_gen.specs.Heard.{Heard, pair, hear_all}
 use Rattle.constraint_gen.specs.Finished.{AreBelow, FirstNone, AllThere, Finished, present}
 use Rattle.constraint_gen.specs.Cause.{LeavesFirst}
-use Rattle.solved_tasks.proofs.Capping.{terms_from, cap_plus}
+use Rattle.rules_spec.proofs.CappingRows.{terms_from, cap_plus}
 use Rattle.constraint_gen.proofs.Walking.{length_map}
 
 -- rows that are all there

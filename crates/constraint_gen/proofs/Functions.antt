@@ -8,15 +8,15 @@ use Rattle.base_poly.specs.Indices.{index_list}
 use Rattle.base_poly.specs.Read.{context_of}
 use Rattle.cost_free.specs.Target.{targets}
 use Rattle.std.proofs.lemmas.Grind.{common_steps}
-use Rattle.normal_form.specs.Norm as n
+use Rattle.normal_spec.specs.Norm as n
 use Rattle.raml_syntax.specs.Read.{ty_of}
 use Rattle.raml_syntax.specs.declared.ty.Ty.{Ty}
-use Rattle.normal_form.specs.Context.{types}
-use Rattle.normal_form.specs.Read.{parameters_of, funs_of}
-use Rattle.normal_form.specs.declared.form.NormFun.{NormFun}
+use Rattle.normal_spec.specs.Context.{types}
+use Rattle.normal_spec.specs.Read.{parameters_of, funs_of}
+use Rattle.normal_spec.specs.declared.form.NormFun.{NormFun}
 use Rattle.annot_types.specs.System.{args_of, result_of}
-use Rattle.walk_rules.specs.Planned.{place_in}
-use Rattle.walk_rules.specs.Jobs.{positions_of}
+use Rattle.rules_spec.specs.Planned.{place_in}
+use Rattle.rules_spec.specs.Jobs.{positions_of}
 use Rattle.constraint_gen.specs.Weights.{positions_in}
 
 pub args_there : (As : List Ty) (gs : List NormFun) (f : ℕ) (g : NormFun) → length As ≡ length gs → slice_get gs f ≡ Some g → types (parameters_of g.params.items) ≡ args_of (slice_get (funs_of As gs) f)

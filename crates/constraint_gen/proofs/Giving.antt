@@ -1,8 +1,8 @@
 -- What is given to bodies, step by step.
 use Rattle.std.proofs.Common.{◌≡◌, refl, ap, sym, ◌∙◌, arith}
 use Rattle.std.specs.Prelude.{ℕ, zero, suc, ◌+◌, List, [], ◌∷◌, ◌++◌, map}
-use Rattle.walk_rules.specs.Asked.{asked, counts, given, answers}
-use Rattle.walk_rules.specs.Tasks.{Body, hints_count, hints_given}
+use Rattle.rules_spec.specs.Asked.{asked, counts, given, answers}
+use Rattle.rules_spec.specs.Tasks.{Body, hints_count, hints_given}
 use Rattle.constraint_gen.specs.Given.{all_counts, all_answers}
 
 pub given_more : {E : Type 0} (give : ℕ → E) (from n : ℕ) → given give from n ++ give (from + n) ∷ [] ≡ given give from (n + 1)

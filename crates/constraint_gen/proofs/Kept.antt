@@ -8,10 +8,10 @@ use Rattle.std.proofs.lemmas.Bool.Decides.{nat_tests, Decides-int_eq}
 use Rattle.linear_rows.specs.Terms as l
 use Rattle.linear_rows.specs.Terms.{SparseRow, coefficient, IsSparse}
 use Rattle.annot_types.specs.System.{is_kept}
-use Rattle.walk_rules.specs.Capped.{cap}
-use Rattle.walk_rules.specs.Solving.{row_of}
-use Rattle.solved_tasks.specs.Capped.{fits, row_fits, within}
-use Rattle.solved_tasks.proofs.Capping.{terms_from, all_terms, both_true}
+use Rattle.rules_spec.specs.Capped.{cap}
+use Rattle.rules_spec.specs.Solving.{row_of}
+use Rattle.rules_spec.specs.CappedRows.{fits, row_fits, within}
+use Rattle.rules_spec.proofs.CappingRows.{terms_from, all_terms, both_true}
 use Rattle.constraint_gen.specs.Sums.{Sum, Terms, total_of, unknown_at, number_at, IsSum}
 use Rattle.constraint_gen.specs.Heard.{pair, wanted, IsDone, Leaves}
 use Rattle.constraint_gen.proofs.Sums.{number_there}

@@ -4,8 +4,8 @@ use Rattle.std.specs.Prelude.{ℕ, ℤ, pos, suc, ◌+◌, ◌-◌, ◌-ℤ◌, 
 use Rattle.std.proofs.lemmas.Bool.Decides.{nat_tests}
 use Rattle.linear_rows.specs.Terms as l
 use Rattle.linear_rows.specs.Terms.{coefficient}
-use Rattle.walk_rules.specs.Capped.{cap}
-use Rattle.solved_tasks.specs.Capped.{fits}
+use Rattle.rules_spec.specs.Capped.{cap}
+use Rattle.rules_spec.specs.CappedRows.{fits}
 use Rattle.constraint_gen.specs.Sums.{Terms, total_of, unknown_at, IsSum, StartsFrom, first_number, behind}
 use Rattle.constraint_gen.specs.Heard.{owed, surplus, IsDone, Settles}
 use Rattle.constraint_gen.proofs.Sums.{sum_behind}

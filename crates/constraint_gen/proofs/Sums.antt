@@ -10,10 +10,10 @@ use Rattle.std.proofs.lemmas.List.Sorted.{IsNonDecreasingBy-from_default}
 use Rattle.std.proofs.lemmas.List.Edits.{length-insert, get_or-insert_below, get_or-insert_at, get_or-insert_above}
 use Rattle.std.proofs.lemmas.Bool.Decides.{nat_tests}
 use Rattle.std.proofs.lemmas.Grind.{common_steps}
-use Rattle.walk_rules.specs.Capped.{cap}
-use Rattle.walk_rules.specs.Numbers.{Carries}
-use Rattle.solved_tasks.specs.Capped.{capped_forms}
-use Rattle.solved_tasks.proofs.Capping.{same_form, cap_plus, cap_times}
+use Rattle.rules_spec.specs.Capped.{cap}
+use Rattle.rules_spec.specs.Numbers.{Carries}
+use Rattle.rules_spec.specs.CappedRows.{capped_forms}
+use Rattle.rules_spec.proofs.CappingRows.{same_form, cap_plus, cap_times}
 use Rattle.constraint_gen.specs.Sums.{Terms, unknown_at, number_at, IsSum, total_of, put, put_all, scaled, sums, form_of, IsAt, IsGapFor}
 
 module _ (ts : Terms) (sum : IsSum ts) (u : ℕ) where

@@ -2,8 +2,8 @@
 use Rattle.std.proofs.Common.{◌≡◌, refl, ap, ◌∙◌, arith}
 use Rattle.std.specs.Prelude.{ℕ, zero, suc, ◌+◌, nat_eq, cond, Bool, true, false, pos, List, [], ◌∷◌, ◌++◌, length}
 use Rattle.annot_types.specs.Certificate.{Entries}
-use Rattle.walk_rules.specs.Asked.{given}
-use Rattle.solved_tasks.specs.Told.{entries_from, entries}
+use Rattle.rules_spec.specs.Asked.{given}
+use Rattle.rules_spec.specs.Told.{entries_from, entries}
 use Rattle.constraint_gen.specs.Numbers.{entry}
 use Rattle.constraint_gen.proofs.Giving.{given_more}
 

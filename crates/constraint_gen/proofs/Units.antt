@@ -9,7 +9,7 @@ use Rattle.base_poly.specs.Plain.{Plain, alike}
 use Rattle.base_poly.specs.Read.{context_of}
 use Rattle.base_poly.specs.Indices.{index_list}
 use Rattle.cost_free.specs.Target.{Target, targets}
-use Rattle.solved_tasks.proofs.Units.{unit_is, same_place}
+use Rattle.rules_spec.proofs.Units.{unit_is, same_place}
 use Rattle.constraint_gen.specs.Weights.{positions_in}
 use Rattle.constraint_gen.proofs.Functions.{filter_next}
 

@@ -2,12 +2,12 @@
 use Rattle.std.proofs.Common.{◌≡◌, refl, ap, sym, ◌∙◌, arith}
 use Rattle.std.specs.Prelude.{ℕ, suc, ◌+◌, List, [], ◌∷◌, ◌++◌, map, length, slice_index_or}
 use Rattle.annot_types.specs.Rules.{Mode}
-use Rattle.walk_rules.specs.Numbers.{Known, Sides, Hint}
-use Rattle.walk_rules.specs.Walk.{at}
-use Rattle.walk_rules.specs.Asked.{Ask, counts}
-use Rattle.walk_rules.specs.Tasks as t
-use Rattle.walk_rules.specs.Tasks.{Job, known_by, of_target, of_bodies}
-use Rattle.rule_walk.specs.Place.{body_walked}
+use Rattle.rules_spec.specs.Numbers.{Known, Sides, Hint}
+use Rattle.rules_spec.specs.Walk.{at}
+use Rattle.rules_spec.specs.Asked.{Ask, counts}
+use Rattle.rules_spec.specs.Tasks as t
+use Rattle.rules_spec.specs.Tasks.{Job, known_by, of_target, of_bodies}
+use Rattle.rules_walk.specs.Place.{body_walked}
 use Rattle.constraint_gen.specs.Sums.{Sum, sums}
 use Rattle.constraint_gen.specs.Heard.{Heard, hear_all}
 use Rattle.constraint_gen.specs.Hearing.{in_turn}

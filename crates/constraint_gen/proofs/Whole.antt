@@ -16,35 +16,34 @@ use Rattle.annot_types.specs.Certificate.{Block}
 use Rattle.annot_types.specs.Holds.{budget_of, mode_of}
 use Rattle.annot_types.specs.System as s
 use Rattle.annot_types.specs.Rules.{Setting, Mode}
-use Rattle.normal_form.specs.Norm.{NormFun}
-use Rattle.normal_form.specs.Context.{types}
-use Rattle.solved_tasks.specs.Told.{bodies_of}
-use Rattle.walk_rules.proofs.Standing.{some_position}
+use Rattle.normal_spec.specs.Norm.{NormFun}
+use Rattle.normal_spec.specs.Context.{types}
+use Rattle.rules_spec.specs.Told.{bodies_of}
+use Rattle.rules_spec.proofs.Standing.{some_position}
 use Rattle.constraint_gen.proofs.Walking.{length_map}
 use Rattle.annot_types.specs.System.{sig_weights, args_of, result_of, unsigned}
 use Rattle.annot_types.specs.Rows.{size as size_of}
-use Rattle.walk_rules.specs.Numbers.{Sides, Signature, Hint, Condition}
-use Rattle.walk_rules.specs.Kinds.{Form, forms, unknown, one_at}
-use Rattle.walk_rules.specs.Walk.{at, group_sides}
-use Rattle.walk_rules.specs.Tasks.{Body, Job, sides_count, sides_given, hints_given, unknowns, known_by, of_target, of_bodies, given_conditions}
-use Rattle.walk_rules.specs.Jobs.{body_of, job_of}
-use Rattle.walk_rules.specs.Systems.{IsReady, AreReady, IsTask}
-use Rattle.walk_rules.specs.Solving.{rows_of}
-use Rattle.walk_rules.proofs.TaskRows.{systems_are_walked}
-use Rattle.walk_rules.proofs.Given.{given_carry}
-use Rattle.walk_rules.specs.Carried.{condition_to}
-use Rattle.walk_rules.specs.Capped.{cap}
-use Rattle.earlier_blocks.specs.Laws.{IsFree, WalksWithoutCost}
-use Rattle.earlier_blocks.specs.Remembers.{Tables, Remembers}
-use Rattle.solved_tasks.specs.Capped.{capped_form, capped_forms, capped_condition}
-use Rattle.solved_tasks.proofs.Capping.{same_form, capped_rows}
+use Rattle.rules_spec.specs.Numbers.{Sides, Signature, Hint, Condition}
+use Rattle.rules_spec.specs.Kinds.{Form, forms, unknown, one_at}
+use Rattle.rules_spec.specs.Walk.{at, group_sides}
+use Rattle.rules_spec.specs.Tasks.{Body, Job, sides_count, sides_given, hints_given, unknowns, known_by, of_target, of_bodies, given_conditions}
+use Rattle.rules_spec.specs.Jobs.{body_of, job_of}
+use Rattle.rules_spec.specs.Systems.{IsReady, AreReady, IsTask}
+use Rattle.rules_spec.specs.Solving.{rows_of}
+use Rattle.rules_spec.proofs.TaskRows.{systems_are_walked}
+use Rattle.rules_spec.proofs.Given.{given_carry}
+use Rattle.rules_spec.specs.Carried.{condition_to}
+use Rattle.rules_spec.specs.Capped.{cap}
+use Rattle.rules_walk.specs.Laws.{IsFree, WalksWithoutCost}
+use Rattle.rules_walk.specs.Remembers.{Tables, Remembers}
+use Rattle.rules_spec.specs.CappedRows.{capped_form, capped_forms, capped_condition, within}
+use Rattle.rules_spec.proofs.CappingRows.{same_form, capped_rows}
 use Rattle.constraint_gen.specs.Sums.{Sum, sums, form_of}
 use Rattle.constraint_gen.specs.Sums as c
 use Rattle.constraint_gen.specs.Walked.{job_in}
-use Rattle.solved_tasks.specs.Capped.{within}
 use Rattle.constraint_gen.specs.Heard.{Heard, hear_all}
-use Rattle.solved_tasks.specs.Sure.{AreSure}
-use Rattle.solved_tasks.proofs.Sure.{tasks_are_sure}
+use Rattle.rules_spec.specs.Sure.{AreSure}
+use Rattle.rules_spec.proofs.Sure.{tasks_are_sure}
 use Rattle.constraint_gen.specs.Finished.{RowFault}
 use Rattle.constraint_gen.specs.Cause.{IsWithin, IsCause, LeavesFirst}
 use Rattle.constraint_gen.specs.Made.{filled, HasRows, RowCause, IsProper, JobCause, job_rows}

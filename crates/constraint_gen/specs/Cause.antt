@@ -8,8 +8,8 @@ use Rattle.annot_types.specs.Program.{Program, members}
 use Rattle.annot_types.specs.Certificate.{Block}
 use Rattle.annot_types.specs.Holds.{budget_of}
 use Rattle.annot_types.specs.System.{system}
-use Rattle.solved_tasks.specs.Capped.{row_fits}
-use Rattle.rule_plan.specs.Within.{FunctionWithin}
+use Rattle.rules_spec.specs.CappedRows.{row_fits}
+use Rattle.rules_plan.specs.Within.{FunctionWithin}
 use Rattle.constraint_gen.specs.declared.fault.GenFault.{GenFault}
 use Rattle.constraint_gen.specs.declared.fault.GenFault.TheVariants.{TooLarge, Leaves, NoMemory}
 use Rattle.constraint_gen.specs.declared.fault.What.TheVariants.{Indices, Unknowns, Rows}

@@ -1,8 +1,8 @@
 -- What is given to all bodies of a task.
 use Rattle.std.specs.Prelude.{ℕ, ◌+◌, List, [], ◌∷◌, map, Vec}
 use Rattle.std.specs.Global.{Global}
-use Rattle.walk_rules.specs.Numbers.{Hint}
-use Rattle.walk_rules.specs.Asked.{Ask, counts, answers}
+use Rattle.rules_spec.specs.Numbers.{Hint}
+use Rattle.rules_spec.specs.Asked.{Ask, counts, answers}
 
 abbrev pub lists : {T : Type 0} → List (Vec T Global) → List (List T)
 lists vs = map (λ v. v.items) vs

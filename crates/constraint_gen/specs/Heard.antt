@@ -2,11 +2,11 @@
 use Rattle.std.specs.Prelude.{◌≡◌, ◌≢◌, ℕ, ℤ, pos, ◌-ℤ◌, ◌+◌, nat_lt, true, false, cond, ◌&&◌, List, [], ◌∷◌, ◌++◌, length, Option}
 use Rattle.linear_rows.specs.Terms.{Terms, SparseRow, coefficient}
 use Rattle.annot_types.specs.System.{is_kept}
-use Rattle.walk_rules.specs.Numbers.{Condition}
-use Rattle.walk_rules.specs.Kinds.{Form}
-use Rattle.walk_rules.specs.Solving.{row_of}
-use Rattle.walk_rules.specs.Capped.{cap}
-use Rattle.solved_tasks.specs.Capped.{fits, within}
+use Rattle.rules_spec.specs.Numbers.{Condition}
+use Rattle.rules_spec.specs.Kinds.{Form}
+use Rattle.rules_spec.specs.Solving.{row_of}
+use Rattle.rules_spec.specs.Capped.{cap}
+use Rattle.rules_spec.specs.CappedRows.{fits, within}
 use Rattle.constraint_gen.specs.Sums as s
 use Rattle.constraint_gen.specs.Sums.{Sum, total_of}
 

@@ -1,7 +1,7 @@
 -- Conditions are heard in turn.
 use Rattle.std.specs.Prelude.{◌≡◌, List, [], ◌∷◌, ◌++◌}
 use Rattle.std.proofs.Common.{refl}
-use Rattle.walk_rules.specs.Numbers.{Condition}
+use Rattle.rules_spec.specs.Numbers.{Condition}
 use Rattle.constraint_gen.specs.Sums.{Sum}
 use Rattle.constraint_gen.specs.Heard.{Heard, hear, hear_all}
 

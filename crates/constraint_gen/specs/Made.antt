@@ -3,11 +3,11 @@ use Rattle.std.specs.Prelude.{◌≡◌, ◌<◌, ◌≤◌, ℕ, ◌-◌, ℤ, 
 use Rattle.std.specs.List.{All}
 use Rattle.linear_rows.specs.Terms.{SparseRow}
 use Rattle.linear_rows.specs.Systems.{LinearSystem}
-use Rattle.walk_rules.specs.Kinds.{forms, unknown}
-use Rattle.walk_rules.specs.Tasks.{Job, unknowns, given_conditions}
-use Rattle.walk_rules.specs.Solving.{rows_of}
-use Rattle.solved_tasks.specs.Sure.{AreSure}
-use Rattle.solved_tasks.specs.Capped.{row_fits}
+use Rattle.rules_spec.specs.Kinds.{forms, unknown}
+use Rattle.rules_spec.specs.Tasks.{Job, unknowns, given_conditions}
+use Rattle.rules_spec.specs.Solving.{rows_of}
+use Rattle.rules_spec.specs.Sure.{AreSure}
+use Rattle.rules_spec.specs.CappedRows.{row_fits}
 use Rattle.constraint_gen.specs.Cause.{LeavesFirst}
 use Rattle.constraint_gen.specs.declared.fault.GenFault.{GenFault}
 use Rattle.constraint_gen.specs.declared.fault.GenFault.TheVariants.{TooLarge, Leaves, NoMemory}

@@ -1,7 +1,7 @@
 -- The numbers of a solution.
 use Rattle.std.specs.Prelude.{ℕ, ℤ, pos, unsigned_abs, nat_eq, cond, List, [], ◌∷◌, map}
 use Rattle.annot_types.specs.Certificate.{Entries}
-use Rattle.solved_tasks.specs.Told.{number_in}
+use Rattle.rules_spec.specs.Told.{number_in}
 
 abbrev pub numbers : List ℤ → ℕ → ℕ
 numbers solution u = number_in (map unsigned_abs solution) u

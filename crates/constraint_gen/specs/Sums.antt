@@ -1,8 +1,8 @@
 -- The sums of unknowns that the code keeps.
 use Rattle.std.specs.Prelude.{◌≡◌, ◌<◌, ◌≤◌, ◌==◌, if◌then◌else◌, ℕ, ◌+◌, ◌-◌, ◌*◌, ◌^◌, nat_lt, cond, List, [], ◌∷◌, map, length, slice_index_or}
-use Rattle.walk_rules.specs.Numbers.{Numbers}
-use Rattle.walk_rules.specs.Kinds.{Form}
-use Rattle.walk_rules.specs.Capped.{cap}
+use Rattle.rules_spec.specs.Numbers.{Numbers}
+use Rattle.rules_spec.specs.Kinds.{Form}
+use Rattle.rules_spec.specs.Capped.{cap}
 
 -- unknowns, and how often each is taken
 abbrev pub Terms : Type 0

@@ -4,13 +4,13 @@ use Rattle.cost_free.specs.Task.{Task}
 use Rattle.annot_types.specs.Program.{Program, members}
 use Rattle.annot_types.specs.Rules.{Mode}
 use Rattle.annot_types.specs.Holds.{mode_of, budget_of}
-use Rattle.walk_rules.specs.Numbers.{Known, Hint, Condition}
-use Rattle.walk_rules.specs.Walk.{at}
-use Rattle.walk_rules.specs.Tasks as t
-use Rattle.walk_rules.specs.Tasks.{Job}
-use Rattle.walk_rules.specs.Jobs.{target_place, target_positions}
-use Rattle.rule_walk.specs.Place.{body_walked}
-use Rattle.earlier_blocks.specs.Remembers.{Tables, free_at, cost_at}
+use Rattle.rules_spec.specs.Numbers.{Known, Hint, Condition}
+use Rattle.rules_spec.specs.Walk.{at}
+use Rattle.rules_spec.specs.Tasks as t
+use Rattle.rules_spec.specs.Tasks.{Job}
+use Rattle.rules_spec.specs.Jobs.{target_place, target_positions}
+use Rattle.rules_walk.specs.Place.{body_walked}
+use Rattle.rules_walk.specs.Remembers.{Tables, free_at, cost_at}
 use Rattle.constraint_gen.specs.Sums.{Sum, sums}
 
 -- over these tables, with these bodies

@@ -11,7 +11,7 @@ use Rattle.share_normal.specs.Program.{Kept}
 use Rattle.annot_types.specs.Program.{members}
 use Rattle.annot_types.specs.Holds.{budget_of}
 use Rattle.annot_types.specs.System.{sig_weights}
-use Rattle.rule_plan.specs.Read.{program_in}
+use Rattle.rules_plan.specs.Read.{program_in}
 
 -- ten to the degree
 abbrev pub weight_of : List Plain → ℤ

@@ -1,13 +1,13 @@
 // The rows of a walk.
 ghost use Rattle.std.specs.Prelude.{◌≡◌, ℕ, List, [], IfOk, OnOk};
-ghost use Rattle.walk_rules.specs.Walk.{against, numbered};
+ghost use Rattle.rules_spec.specs.Walk.{against, numbered};
 ghost use Rattle.constraint_gen.specs.Sums.{sums};
 ghost use Rattle.constraint_gen.specs.Heard.{hear, hear_all};
 
 use crate::form::Form;
 use crate::row::{is_kept, row_of};
 use linear_rows::Row;
-use rule_walk::{Judge, Kind};
+use rules_walk::{Judge, Kind};
 use std::alloc::{AllocError, Global};
 use std::marker::Model;
 

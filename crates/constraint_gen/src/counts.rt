@@ -1,14 +1,14 @@
 // How many unknowns a task has.
 ghost use Rattle.std.specs.Prelude.{◌≡◌, ◌≤◌, ◌<◌, ◌+◌, map, IfOk, SomeIff};
-ghost use Rattle.walk_rules.specs.Asked.{asked, counts};
-ghost use Rattle.walk_rules.specs.Tasks as t;
-ghost use Rattle.walk_rules.specs.Tasks.{sides_count};
-ghost use Rattle.rule_walk.specs.Asks.{asks_of};
-ghost use Rattle.rule_plan.specs.Read.{body_of};
+ghost use Rattle.rules_spec.specs.Asked.{asked, counts};
+ghost use Rattle.rules_spec.specs.Tasks as t;
+ghost use Rattle.rules_spec.specs.Tasks.{sides_count};
+ghost use Rattle.rules_walk.specs.Asks.{asks_of};
+ghost use Rattle.rules_plan.specs.Read.{body_of};
 ghost use Rattle.constraint_gen.specs.Given.{all_counts};
 
-use rule_plan::Body;
-use rule_walk::{Ask, unknowns};
+use rules_plan::Body;
+use rules_walk::{Ask, unknowns};
 use std::alloc::{AllocError, Global};
 
 /// What the plan of each body asks for.

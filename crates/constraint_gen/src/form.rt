@@ -1,11 +1,11 @@
 // The numbers of the generator.
 ghost use Rattle.std.specs.Prelude.{◌≡◌, IfOk};
-ghost use Rattle.walk_rules.specs.Capped.{cap};
+ghost use Rattle.rules_spec.specs.Capped.{cap};
 ghost use Rattle.constraint_gen.specs.Sums as s;
 ghost use Rattle.constraint_gen.specs.Sums.{total_of, sums, IsSum};
 
 use crate::sum::{add_all, multiple, number_in};
-use rule_walk::{Kind, capped_product};
+use rules_walk::{Kind, capped_product};
 use smallvec::SmallVec;
 use std::alloc::{AllocError, Global};
 use std::marker::Model;

@@ -1,16 +1,16 @@
 // Unknowns in their order, as signatures and hints.
 ghost use Rattle.std.specs.Prelude.{◌≡◌, ◌<◌, ◌+◌, ◌^◌, map, length, IfOk, OnOk};
-ghost use Rattle.walk_rules.specs.Asked.{given, given_each, given_blocks, answer, answers, sum_of, count, counts};
-ghost use Rattle.walk_rules.specs.Tasks.{sides_count, sides_given};
-ghost use Rattle.rule_walk.specs.Asks.{ask_of, asks_of};
-ghost use Rattle.rule_walk.specs.Read.{hint_of, hints_of, sides_of};
-ghost use Rattle.rule_plan.specs.Read.{body_of};
+ghost use Rattle.rules_spec.specs.Asked.{given, given_each, given_blocks, answer, answers, sum_of, count, counts};
+ghost use Rattle.rules_spec.specs.Tasks.{sides_count, sides_given};
+ghost use Rattle.rules_walk.specs.Asks.{ask_of, asks_of};
+ghost use Rattle.rules_walk.specs.Read.{hint_of, hints_of, sides_of};
+ghost use Rattle.rules_plan.specs.Read.{body_of};
 ghost use Rattle.constraint_gen.specs.Sums.{unknown};
 ghost use Rattle.constraint_gen.specs.Given.{lists, all_counts, all_answers};
 
 use crate::form::Form;
-use rule_plan::Body;
-use rule_walk::{Ask, Hint, Sides};
+use rules_plan::Body;
+use rules_walk::{Ask, Hint, Sides};
 use std::alloc::{AllocError, Global};
 
 // So many unknowns, from the next one on.

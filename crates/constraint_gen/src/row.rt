@@ -2,9 +2,9 @@
 ghost use Rattle.std.specs.Prelude.{◌≡◌, ◌<◌, ◌+◌, ◌-ℤ◌, ℕ, [], pos, nat_lt, true, false, not, ◌&&◌, length, IsTrue, IfOk, IfSome, IfNone, IsOkAnd, SomeIff};
 ghost use Rattle.std.specs.List.{list_all};
 ghost use Rattle.annot_types.specs.System.{is_kept};
-ghost use Rattle.walk_rules.specs.Capped.{cap};
-ghost use Rattle.walk_rules.specs.Solving.{row_of};
-ghost use Rattle.solved_tasks.specs.Capped.{fits, within};
+ghost use Rattle.rules_spec.specs.Capped.{cap};
+ghost use Rattle.rules_spec.specs.Solving.{row_of};
+ghost use Rattle.rules_spec.specs.CappedRows.{fits, within};
 ghost use Rattle.linear_rows.specs.Terms.{coefficient};
 ghost use Rattle.constraint_gen.specs.Sums.{total_of, StartsFrom, first_number, behind};
 ghost use Rattle.constraint_gen.specs.Heard.{pair, surplus, wanted, IsDone, Settles, Leaves};

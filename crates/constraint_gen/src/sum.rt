@@ -1,9 +1,9 @@
 // Sums of unknowns: terms by ascending unknown, each an unknown and how often it is taken.
 ghost use Rattle.std.specs.Prelude.{◌≡◌, length, IsTrue, IfOk, IfErr, OnOk};
-ghost use Rattle.walk_rules.specs.Capped.{cap};
+ghost use Rattle.rules_spec.specs.Capped.{cap};
 ghost use Rattle.constraint_gen.specs.Sums.{total_of, put, put_all, scaled, IsSum, IsAt, IsGapFor};
 
-use rule_walk::capped_product;
+use rules_walk::capped_product;
 use smallvec::SmallVec;
 use std::alloc::{AllocError, Global};
 

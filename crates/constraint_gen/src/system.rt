@@ -1,11 +1,11 @@
 // The system of a task.
 ghost use Rattle.std.specs.Prelude.{◌≡◌, ◌≤◌, ◌<◌, ◌+◌, ◌^◌, ◌≤ℤ◌, ℕ, pos, unsigned_abs, List, map, length, IfOk, IfErr, IfSome, OnOk, SomeIff};
-ghost use Rattle.walk_rules.specs.Asked.{asked};
-ghost use Rattle.walk_rules.specs.Kinds.{forms, unknown};
-ghost use Rattle.walk_rules.specs.Solving.{rows_of};
-ghost use Rattle.walk_rules.specs.Tasks as t;
-ghost use Rattle.walk_rules.specs.Tasks.{sides_count, unknowns, given_conditions};
-ghost use Rattle.rule_walk.specs.Asks.{asks_of};
+ghost use Rattle.rules_spec.specs.Asked.{asked};
+ghost use Rattle.rules_spec.specs.Kinds.{forms, unknown};
+ghost use Rattle.rules_spec.specs.Solving.{rows_of};
+ghost use Rattle.rules_spec.specs.Tasks as t;
+ghost use Rattle.rules_spec.specs.Tasks.{sides_count, unknowns, given_conditions};
+ghost use Rattle.rules_walk.specs.Asks.{asks_of};
 ghost use Rattle.constraint_gen.specs.Given.{all_counts};
 ghost use Rattle.constraint_gen.specs.Made.{HasRows, RowCause, PlanCause, IsProper, JobMade, JobCause};
 ghost use Rattle.constraint_gen.specs.Weights.{weights_of};
@@ -13,10 +13,10 @@ ghost use Rattle.constraint_gen.specs.Walked.{job_in};
 ghost use Rattle.annot_types.specs.Certificate as c;
 ghost use Rattle.annot_types.specs.Holds.{budget_of};
 ghost use Rattle.cost_free.specs.Read.{task_of, kind_of};
-ghost use Rattle.walk_rules.specs.Systems.{IsTask};
-ghost use Rattle.earlier_blocks.specs.Remembers.{Remembers};
-ghost use Rattle.rule_plan.specs.Read.{program_in, body_of, ArePlansIn, ArePlansOf};
-ghost use Rattle.solved_tasks.specs.Told.{bodies_of};
+ghost use Rattle.rules_spec.specs.Systems.{IsTask};
+ghost use Rattle.rules_walk.specs.Remembers.{Remembers};
+ghost use Rattle.rules_plan.specs.Read.{program_in, body_of, ArePlansIn, ArePlansOf};
+ghost use Rattle.rules_spec.specs.Told.{bodies_of};
 ghost use Rattle.constraint_gen.specs.Cause.{IsWithin, IsMade, IsCause};
 
 use crate::counts::{all_asked, hints_within, sides_within};
@@ -25,11 +25,10 @@ use crate::finish::finish;
 use crate::heard::heard;
 use crate::task::{budget_of, fill, members, sig_weights};
 use cost_free::Task;
-use earlier_blocks::Earlier;
-use earlier_blocks::laws::walks_without_cost;
 use linear_rows::System;
-use rule_plan::{Body, GroupPlans, PlanFault, next_plans};
-use rule_walk::Ask;
+use rules_plan::{Body, GroupPlans, PlanFault, next_plans};
+use rules_walk::laws::walks_without_cost;
+use rules_walk::{Ask, Earlier};
 use share_normal::NormProgram;
 use std::alloc::Global;
 

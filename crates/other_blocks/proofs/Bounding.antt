@@ -7,9 +7,9 @@ use Rattle.std.proofs.lemmas.Option.{none-some, same_Some}
 use Rattle.raml_syntax.specs.Tree.{Function, Prog}
 use Rattle.raml_syntax.specs.Types.{Typed}
 use Rattle.raml_syntax.specs.Node.{AllNodes, NumberFits}
-use Rattle.normal_form.specs.Norm.{NormFun, NormProg}
-use Rattle.normal_form.specs.Context.{Context, types}
-use Rattle.normal_form.specs.Two.{norm}
+use Rattle.normal_spec.specs.Norm.{NormFun, NormProg}
+use Rattle.normal_spec.specs.Context.{Context, types}
+use Rattle.normal_spec.specs.Two.{norm}
 use Rattle.cost_free.specs.declared.task.Meter.{Meter}
 use Rattle.cost_free.specs.Task as k
 use Rattle.cost_free.specs.Blocked.{is_among}
@@ -19,10 +19,10 @@ use Rattle.annot_types.specs.Signature.{sig_among, sig_in}
 use Rattle.annot_types.specs.Rules.{Mode, Setting}
 use Rattle.annot_types.specs.Holds.{mode_of, budget_of, setting, FunctionsHold}
 use Rattle.annot_types.specs.Held.{before, scale_of, scale_for, terms_of, Held}
-use Rattle.amortised_bounds.specs.Bounds.{Bounds}
-use Rattle.amortised_bounds.specs.Laws.{Signs, normal_of}
-use Rattle.amortised_bounds.proofs.Source.{is_form, of_block}
-use Rattle.rule_plan.specs.Read.{program_in}
+use Rattle.rules_soundness_laws.specs.Bounds.{Bounds}
+use Rattle.rules_soundness_laws.specs.Laws.{Signs, normal_of}
+use Rattle.rules_soundness_laws.proofs.Source.{is_form, of_block}
+use Rattle.rules_plan.specs.Read.{program_in}
 use Rattle.cert_check.specs.Bound.{Told, told_by}
 use Rattle.cert_check.proofs.Signed.{function_of}
 use Rattle.other_blocks.specs.Over.{Over, IsOver}

@@ -7,7 +7,7 @@ use Rattle.cost_free.specs.Task as k
 use Rattle.share_normal.specs.Program.{Kept}
 use Rattle.annot_types.specs.Certificate.{IsSolved, Block, Certificate}
 use Rattle.annot_types.specs.Held.{scale_of, scale_for, Held}
-use Rattle.rule_plan.specs.Read.{program_in}
+use Rattle.rules_plan.specs.Read.{program_in}
 use Rattle.cert_check.specs.Laws.{IsProper}
 use Rattle.other_blocks.specs.Over.{IsOver}
 use Rattle.other_blocks.specs.Other.{place, OtherFinds}

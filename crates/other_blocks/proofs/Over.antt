@@ -14,12 +14,12 @@ use Rattle.annot_types.specs.Read.{body_of, block_of, blocks_of}
 use Rattle.annot_types.specs.declared.block.Block.{Block as Given}
 use Rattle.annot_types.specs.Holds.{raised, blocks_before, budget_of}
 use Rattle.annot_types.specs.Held.{before}
-use Rattle.walk_rules.specs.Tasks as t
-use Rattle.solved_tasks.specs.Told.{bodies_of}
-use Rattle.solved_tasks.proofs.Refuted.{blocks_raised}
-use Rattle.exact_systems.proofs.Planning.{bodies_kept}
-use Rattle.earlier_blocks.specs.Remembers.{Tables, Knows}
-use Rattle.rule_plan.specs.Within.{FunctionWithin}
+use Rattle.rules_spec.specs.Tasks as t
+use Rattle.rules_spec.specs.Told.{bodies_of}
+use Rattle.rules_spec.proofs.Refuted.{blocks_raised}
+use Rattle.rules_spec.proofs.Planning.{bodies_kept}
+use Rattle.rules_walk.specs.Remembers.{Tables, Knows}
+use Rattle.rules_plan.specs.Within.{FunctionWithin}
 use Rattle.cert_check.specs.Fault.{Fault}
 use Rattle.cert_check.specs.Finds.{AreWithin, job, ShapeFinds, BodyFinds}
 use Rattle.other_blocks.specs.Raised.{raised_for}

@@ -5,7 +5,7 @@ use Rattle.cost_free.specs.Task as k
 use Rattle.annot_types.specs.Program.{Program}
 use Rattle.annot_types.specs.Certificate.{IsSolved, Block, Certificate}
 use Rattle.annot_types.specs.Held.{IsShaped}
-use Rattle.amortised_bounds.specs.Laws.{HoldsAt}
+use Rattle.rules_soundness_laws.specs.Laws.{HoldsAt}
 use Rattle.cert_check.specs.Fault.{Fault}
 use Rattle.cert_check.specs.Finds.{AreWithin}
 use Rattle.cert_check.specs.Laws.{IsProper, NoneLeaves}

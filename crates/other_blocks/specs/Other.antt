@@ -6,7 +6,7 @@ use Rattle.annot_types.specs.Program.{Program}
 use Rattle.annot_types.specs.Certificate.{Body, Calls, Block, Certificate}
 use Rattle.annot_types.specs.Holds.{blocks_before}
 use Rattle.annot_types.specs.Held.{before, scale_for}
-use Rattle.walk_rules.specs.Faults.{too_great}
+use Rattle.rules_spec.specs.Faults.{too_great}
 use Rattle.cert_check.specs.Fault.{Fault, Shape, Leaves, Unless}
 use Rattle.cert_check.specs.Finds.{BodyFinds}
 use Rattle.cert_check.specs.Same.{same_task}

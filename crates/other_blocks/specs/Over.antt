@@ -5,8 +5,8 @@ use Rattle.cost_free.specs.Task as k
 use Rattle.share_normal.specs.Program.{Kept}
 use Rattle.annot_types.specs.Certificate.{Block, Certificate}
 use Rattle.annot_types.specs.Held.{scale_of, Held}
-use Rattle.amortised_bounds.specs.Laws.{HoldsAt}
-use Rattle.rule_plan.specs.Read.{program_in}
+use Rattle.rules_soundness_laws.specs.Laws.{HoldsAt}
+use Rattle.rules_plan.specs.Read.{program_in}
 
 -- the program, the degree, and the block, whose numbers stand over this scale
 pub record Over : Type 0 where

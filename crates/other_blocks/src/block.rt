@@ -10,8 +10,8 @@ ghost use Rattle.call_groups.specs.Read.{ids_of};
 ghost use Rattle.annot_types.specs.Program.{members};
 ghost use Rattle.annot_types.specs.Signature.{sig_in};
 ghost use Rattle.annot_types.specs.Read.{block_of};
-ghost use Rattle.amortised_bounds.specs.Bounds.{Bounds};
-ghost use Rattle.rule_plan.specs.Read.{program_in};
+ghost use Rattle.rules_soundness_laws.specs.Bounds.{Bounds};
+ghost use Rattle.rules_plan.specs.Read.{program_in};
 ghost use Rattle.cert_check.specs.Bound.{told_by, told_of};
 ghost use Rattle.other_blocks.specs.Over.{IsOver};
 
@@ -39,8 +39,8 @@ impl<'p, 'a> Model for OtherBlock<'p, 'a> {
     ghost use Rattle.raml_syntax.specs.contracts.ty.Ty as ty;
     ghost use Rattle.raml_syntax.specs.contracts.tree.Form as source_form;
     ghost use Rattle.raml_syntax.specs.contracts.tree.Expr as source_expr;
-    ghost use Rattle.normal_form.specs.contracts.form.NormForm as form;
-    ghost use Rattle.normal_form.specs.contracts.form.NormExpr as expr;
+    ghost use Rattle.normal_spec.specs.contracts.form.NormForm as form;
+    ghost use Rattle.normal_spec.specs.contracts.form.NormExpr as expr;
     ghost use Rattle.annot_types.specs.Read.{block_of};
     ghost use Rattle.other_blocks.specs.Over.{Over, IsOver};
 

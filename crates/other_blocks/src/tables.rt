@@ -2,12 +2,12 @@
 ghost use Rattle.std.specs.Prelude.{◌≤◌, length, IfOk};
 ghost use Rattle.annot_types.specs.Held.{before};
 ghost use Rattle.annot_types.specs.Read.{certificate_of};
-ghost use Rattle.earlier_blocks.specs.Remembers.{Remembers};
-ghost use Rattle.rule_plan.specs.Read.{program_in};
+ghost use Rattle.rules_walk.specs.Remembers.{Remembers};
+ghost use Rattle.rules_plan.specs.Read.{program_in};
 
 use annot_types::Certificate;
 use cert_check::remember_block;
-use earlier_blocks::Earlier;
+use rules_walk::Earlier;
 use share_normal::NormProgram;
 use std::alloc::{AllocError, Global};
 

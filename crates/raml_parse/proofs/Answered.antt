@@ -1,25 +1,25 @@
 -- What is answered of the tokens of a text.
 use Rattle.std.proofs.Common.{◌≡◌, ◌≤◌, ◌⊎◌, ◌∙◌, inl, inr, ℕ, List, length, refl, subst, arith}
 use Rattle.std.specs.Prelude.{Result, Ok, Err}
-use Rattle.token_grammar.specs.Derives.{Derives}
-use Rattle.token_grammar.specs.declared.Kind.{Kind}
-use Rattle.token_grammar.specs.declared.Kind.TheVariants as d
-use Rattle.token_grammar.specs.Reading.{Fault, parse_of}
-use Rattle.token_grammar.proofs.Places.{Answers, parse_answers}
+use Rattle.parse_spec.specs.Derives.{Derives}
+use Rattle.parse_spec.specs.declared.Kind.{Kind}
+use Rattle.parse_spec.specs.declared.Kind.TheVariants as d
+use Rattle.parse_spec.specs.Reading.{Fault, parse_of}
+use Rattle.parse_spec.proofs.Places.{Answers, parse_answers}
 use Rattle.raml_syntax.specs.Tree.{Text, Prog}
-use Rattle.raml_grammar.specs.Tokens.{Token}
-use Rattle.raml_grammar.specs.Table.{Part, Whole, grammar}
-use Rattle.raml_grammar.specs.Read.{Fails, pieces}
+use Rattle.parse_table.specs.Tokens.{Token}
+use Rattle.parse_table.specs.Table.{Part, Whole, grammar}
+use Rattle.parse_table.specs.Read.{Fails, pieces}
 use Rattle.raml_parse.specs.Reports.{IsAt, Reports}
-use Rattle.raml_grammar.specs.declared.stop.Stop.{Stop}
-use Rattle.raml_grammar.specs.declared.stop.Stop.TheVariants as f
+use Rattle.parse_table.specs.declared.stop.Stop.{Stop}
+use Rattle.parse_table.specs.declared.stop.Stop.TheVariants as f
 use Rattle.raml_syntax.specs.Node.{WithinLimits, program_nodes}
 use Rattle.raml_parse.proofs.Limits.{within_limits, few_nodes}
 use Rattle.raml_parse.specs.Spelling.{HasTokens, Spells, FirstFault, place_in}
 use Rattle.raml_parse.specs.declared.fault.ParseFault.{ParseFault}
 use Rattle.raml_parse.specs.declared.fault.ParseFault.TheVariants as p
-use Rattle.raml_grammar.proofs.TheTable.{readable}
-use Rattle.raml_grammar.specs.Steps.{program_in}
+use Rattle.parse_table.proofs.TheTable.{readable}
+use Rattle.parse_table.specs.Steps.{program_in}
 
 parse_is : (d : ℕ) (s : List Token) → parse_of grammar 0 d s ≡ program_in d s
 unfolding grammar

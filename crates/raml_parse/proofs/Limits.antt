@@ -6,19 +6,19 @@ use Rattle.std.specs.List.{All}
 use Rattle.std.proofs.lemmas.Bool.{leb-true}
 use Rattle.std.proofs.lemmas.Int.{fits_signed_from_abs}
 use Rattle.std.proofs.lemmas.List.Elements.{All-nil, All-cons}
-use Rattle.token_grammar.specs.Rules.{Done, Take, Sub, Either, Many}
-use Rattle.token_grammar.specs.Derives.{Derives}
-use Rattle.token_grammar.proofs.Kept.{Listed, one, more, Keeps, kept_rest, total, IsLight, Light, light_rest}
+use Rattle.parse_spec.specs.Rules.{Done, Take, Sub, Either, Many}
+use Rattle.parse_spec.specs.Derives.{Derives}
+use Rattle.parse_spec.proofs.Kept.{Listed, one, more, Keeps, kept_rest, total, IsLight, Light, light_rest}
 use Rattle.raml_syntax.specs.Tree as y
 use Rattle.raml_syntax.specs.Tree.{Text, Type', Term, Terms, Parameter, Function, Prog}
 use Rattle.raml_syntax.specs.Node.{nodes, nodes_of_all, program_nodes, AllNodes, AllOf, NumberFits, TickFits, FewArguments, count, WithinLimits}
 use Rattle.raml_syntax.specs.declared.tree.ArithOp.{ArithOp}
 use Rattle.raml_syntax.specs.declared.tree.CompareOp.{CompareOp}
-use Rattle.raml_grammar.specs.declared.token.Sign.{Sign}
-use Rattle.raml_grammar.specs.Tokens.{Token, Name, Number, Key, same}
-use Rattle.raml_grammar.specs.declared.token.Sign.TheVariants as s
-use Rattle.raml_grammar.specs.Table.{Part, At, Named, Counted, Typing, Phrase, Header, Headed, Whole, Nothing, Class, Rules, key, place, name, number_to, Test, mark, inner_type_act, list_act, tree_act, option_act, pair_type_act, number_act, truth_act, nil_act, leaf_act, none_act, var_act, call_of_parts, call_act, node_act, some_act, not_act, inner_act, pair_act, typed_act, let_act, let_pair_act, if_act, match_list_act, match_tree_act, match_option_act, tick_act, arith_act, compare_act, cons_act, param_act, function_of_parts, function_act, program_of_parts, program_act, function_rule, functions_rule, text_rule, table, grammar, starts, goes}
-use Rattle.raml_grammar.proofs.TheTable.{Forms, forms, Goings, goings}
+use Rattle.parse_table.specs.declared.token.Sign.{Sign}
+use Rattle.parse_table.specs.Tokens.{Token, Name, Number, Key, same}
+use Rattle.parse_table.specs.declared.token.Sign.TheVariants as s
+use Rattle.parse_table.specs.Table.{Part, At, Named, Counted, Typing, Phrase, Header, Headed, Whole, Nothing, Class, Rules, key, place, name, number_to, Test, mark, inner_type_act, list_act, tree_act, option_act, pair_type_act, number_act, truth_act, nil_act, leaf_act, none_act, var_act, call_of_parts, call_act, node_act, some_act, not_act, inner_act, pair_act, typed_act, let_act, let_pair_act, if_act, match_list_act, match_tree_act, match_option_act, tick_act, arith_act, compare_act, cons_act, param_act, function_of_parts, function_act, program_of_parts, program_act, function_rule, functions_rule, text_rule, table, grammar, starts, goes}
+use Rattle.parse_table.proofs.TheTable.{Forms, forms, Goings, goings}
 
 -- an expression within the limits
 abbrev Small : Term → Type 0

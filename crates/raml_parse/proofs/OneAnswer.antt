@@ -4,22 +4,22 @@ use Rattle.std.specs.Prelude.{map, Result, Ok, Err, Bool, true, false, nat_lt}
 use Rattle.std.specs.Str.{IsUtf8, IsValidUpTo}
 use Rattle.std.proofs.Math.Seq.{take-length}
 use Rattle.std.proofs.lemmas.Bool.{ltb-true, ltb-false}
-use Rattle.token_grammar.specs.declared.Kind.{Kind}
-use Rattle.token_grammar.specs.declared.Kind.TheVariants as d
-use Rattle.token_grammar.specs.Reading.{Fault}
-use Rattle.token_grammar.proofs.Places as g
-use Rattle.token_grammar.proofs.Only.{one_fault, no_fault, one_value}
+use Rattle.parse_spec.specs.declared.Kind.{Kind}
+use Rattle.parse_spec.specs.declared.Kind.TheVariants as d
+use Rattle.parse_spec.specs.Reading.{Fault}
+use Rattle.parse_spec.proofs.Places as g
+use Rattle.parse_spec.proofs.Only.{one_fault, no_fault, one_value}
 use Rattle.raml_lex.specs.Lexing as lex
 use Rattle.raml_lex.specs.declared.token.Token as l
 use Rattle.raml_lex.specs.declared.token.LexFault.{LexFault}
 use Rattle.raml_lex.proofs.OneAnswer as lexed
 use Rattle.raml_syntax.specs.Tree.{Text, Prog}
-use Rattle.raml_grammar.specs.Tokens.{Token, as_token}
-use Rattle.raml_grammar.specs.Table.{Part, Whole, grammar}
+use Rattle.parse_table.specs.Tokens.{Token, as_token}
+use Rattle.parse_table.specs.Table.{Part, Whole, grammar}
 use Rattle.raml_parse.specs.Spelling.{HasTokens, Answers, HasOneAnswer, place_in}
 use Rattle.raml_parse.specs.declared.fault.ParseFault.{ParseFault}
 use Rattle.raml_parse.specs.declared.fault.ParseFault.TheVariants.{NotUtf8, Lex, Syntax, TooDeep, TooMany, NoMemory}
-use Rattle.raml_grammar.proofs.TheTable.{readable}
+use Rattle.parse_table.proofs.TheTable.{readable}
 
 -- where the answer is found
 data Stage : Type 0 where

@@ -1,10 +1,10 @@
 -- The fault that is reported where reading stops.
 use Rattle.std.specs.Prelude.{◌≡◌, ℕ}
-use Rattle.token_grammar.specs.declared.Kind.{Kind}
-use Rattle.token_grammar.specs.declared.Kind.TheVariants as d
-use Rattle.raml_grammar.specs.Read.{pieces}
-use Rattle.raml_grammar.specs.declared.stop.Stop.{Stop}
-use Rattle.raml_grammar.specs.declared.stop.Stop.TheVariants as f
+use Rattle.parse_spec.specs.declared.Kind.{Kind}
+use Rattle.parse_spec.specs.declared.Kind.TheVariants as d
+use Rattle.parse_table.specs.Read.{pieces}
+use Rattle.parse_table.specs.declared.stop.Stop.{Stop}
+use Rattle.parse_table.specs.declared.stop.Stop.TheVariants as f
 use Rattle.raml_parse.specs.Spelling.{place_in}
 use Rattle.raml_parse.specs.declared.fault.ParseFault.{ParseFault}
 use Rattle.raml_parse.specs.declared.fault.ParseFault.TheVariants as p

@@ -1,14 +1,14 @@
 -- What the bytes of a source spell, and their first fault.
 use Rattle.std.specs.Prelude.{◌≡◌, ℕ, List, [], ◌∷◌, map, length, Result, Ok, Err}
 use Rattle.std.specs.Str.{IsUtf8, IsValidUpTo}
-use Rattle.token_grammar.specs.Derives.{Derives, Faults}
-use Rattle.token_grammar.specs.declared.Kind.{Kind}
-use Rattle.token_grammar.specs.declared.Kind.TheVariants as d
+use Rattle.parse_spec.specs.Derives.{Derives, Faults}
+use Rattle.parse_spec.specs.declared.Kind.{Kind}
+use Rattle.parse_spec.specs.declared.Kind.TheVariants as d
 use Rattle.raml_lex.specs.Lexing as lex
 use Rattle.raml_lex.specs.declared.token.Token as l
 use Rattle.raml_syntax.specs.Tree.{Text, Prog}
-use Rattle.raml_grammar.specs.Tokens.{Token, Name, Number, Key, as_token}
-use Rattle.raml_grammar.specs.Table.{Whole, grammar}
+use Rattle.parse_table.specs.Tokens.{Token, Name, Number, Key, as_token}
+use Rattle.parse_table.specs.Table.{Whole, grammar}
 use Rattle.raml_parse.specs.declared.fault.ParseFault.{ParseFault}
 use Rattle.raml_parse.specs.declared.fault.ParseFault.TheVariants.{NotUtf8, Lex, Syntax, TooDeep, TooMany, NoMemory}
 

@@ -1,20 +1,20 @@
 // Functions and programs from tokens.
 ghost use Rattle.std.specs.Prelude.{◌≡◌, ◌≤◌, ◌<◌, ◌^◌, [], ◌∷◌, ◌++◌, length, IfOk};
-ghost use Rattle.token_grammar.specs.Reading.{list_of};
-ghost use Rattle.raml_grammar.specs.Table.{param_rule, params_rule, body_rule, function_rule, text_rule, key, place};
-ghost use Rattle.raml_grammar.specs.Steps.{reads};
-ghost use Rattle.raml_grammar.specs.Read.{Gives, StartsAt, HaveParameters, pieces, header, headers, headers_back, function, functions, whole, named_part};
-ghost use Rattle.raml_grammar.specs.declared.token.Sign.TheVariants as s;
+ghost use Rattle.parse_spec.specs.Reading.{list_of};
+ghost use Rattle.parse_table.specs.Table.{param_rule, params_rule, body_rule, function_rule, text_rule, key, place};
+ghost use Rattle.parse_table.specs.Steps.{reads};
+ghost use Rattle.parse_table.specs.Read.{Gives, StartsAt, HaveParameters, pieces, header, headers, headers_back, function, functions, whole, named_part};
+ghost use Rattle.parse_table.specs.declared.token.Sign.TheVariants as s;
 
-use raml_exprs::parse_part;
-use raml_grammar::make;
-use raml_grammar::stop::Stop;
-use raml_grammar::take::{NameAt, behind, place_behind, take_name, take_place, take_sign};
-use raml_grammar::token::{Piece, Sign};
-use raml_grammar::types::parse_type;
+use parse_exprs::parse_part;
+use parse_spec::Kind;
+use parse_table::make;
+use parse_table::stop::Stop;
+use parse_table::take::{NameAt, behind, place_behind, take_name, take_place, take_sign};
+use parse_table::token::{Piece, Sign};
+use parse_table::types::parse_type;
 use raml_syntax::{Fun, Param, Pos, Program};
 use std::alloc::Global;
-use token_grammar::Kind;
 
 const MAX_PARAMS: usize = 8;
 
@@ -40,7 +40,7 @@ fn parse_param<'a>(
 }
 
 // Parameters with commas between.
-#[tactic(auto, unfolding(token_grammar::specs::Reading::items_of))]
+#[tactic(auto, unfolding(parse_spec::specs::Reading::items_of))]
 fn parse_params<'a>(
     alloc: Global,
     depth: u32,
@@ -129,7 +129,7 @@ fn parse_function<'a>(
 }
 
 // Functions, the first `fun` taken, which stood at `at`.
-#[tactic(auto, unfolding(token_grammar::specs::Reading::items_of))]
+#[tactic(auto, unfolding(parse_spec::specs::Reading::items_of))]
 fn parse_functions<'a>(
     alloc: Global,
     depth: u32,
@@ -158,7 +158,7 @@ fn parse_functions<'a>(
 }
 
 /// A program with types and bodies of height `depth` at most, their height, and the tokens behind it.
-#[tactic(auto, using(raml_grammar::proofs::Parts::program_is))]
+#[tactic(auto, using(parse_table::proofs::Parts::program_is))]
 pub fn parse_program<'a>(
     alloc: Global,
     depth: u32,

@@ -10,7 +10,7 @@ ghost use Rattle.raml_parse.specs.declared.fault.ParseFault.TheVariants.{NoMemor
 
 use crate::fault::ParseFault;
 use crate::whole::{fault_of, parse_tokens};
-use raml_grammar::pieces::pieces_of;
+use parse_table::pieces::pieces_of;
 use raml_lex::{LexFault, tokens};
 use raml_syntax::{Pos, Program};
 use std::alloc::Global;

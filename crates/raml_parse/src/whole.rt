@@ -1,20 +1,20 @@
 // All the tokens of a text.
 ghost use Rattle.std.specs.Prelude.{◌≡◌, IfOk};
-ghost use Rattle.token_grammar.specs.Reading.{ended};
-ghost use Rattle.raml_grammar.specs.Table.{Whole};
-ghost use Rattle.raml_grammar.specs.Steps.{program_in};
+ghost use Rattle.parse_spec.specs.Reading.{ended};
+ghost use Rattle.parse_table.specs.Table.{Whole};
+ghost use Rattle.parse_table.specs.Steps.{program_in};
 ghost use Rattle.raml_syntax.specs.Read.{program_of};
-ghost use Rattle.raml_grammar.specs.Read.{Gives, HaveParameters, pieces};
+ghost use Rattle.parse_table.specs.Read.{Gives, HaveParameters, pieces};
 ghost use Rattle.raml_parse.specs.Reports.{IsAt, Reports};
 ghost use Rattle.raml_parse.specs.Spelling.{place_in};
 
 use crate::fault::ParseFault;
 use crate::program::parse_program;
-use raml_grammar::stop::Stop;
-use raml_grammar::token::Piece;
+use parse_spec::Kind;
+use parse_table::stop::Stop;
+use parse_table::token::Piece;
 use raml_syntax::{Pos, Program};
 use std::alloc::Global;
-use token_grammar::Kind;
 
 /// The greatest height of a body and of a type.
 const MAX_HEIGHT: u32 = 200;

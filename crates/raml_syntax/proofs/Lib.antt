@@ -1,4 +1,5 @@
 pub mod Grow
 pub mod Keep
 pub mod Places
+pub mod FromLast
 mod Computed

@@ -1,6 +1,7 @@
 //! The source language: types, trees and values, and what a program means.
 #![tactic(auto)]
 
+mod function_names;
 pub mod laws;
 mod name;
 mod program;
@@ -10,6 +11,7 @@ mod value;
 
 pub use name::Name;
 pub use program::{Fun, FunId, Param, Program};
+pub use raml_syntax::FunctionNames;
 pub use tree::{ArithOp, Binder, CompareOp, Expr, Form, Pos};
 pub use ty::Ty;
 pub use value::Value;

@@ -1,8 +1,8 @@
 -- Answers that end alike, step by step.
 use Rattle.std.proofs.Common.{◌≡◌, refl, sym, subst}
 use Rattle.raml_syntax.specs.Tree.{Text}
-use Rattle.call_answers.specs.Ending.{Ending, Overflows, OnTask}
-use Rattle.call_answers.specs.Line.{Names}
+use Rattle.refusals.specs.Ending.{Ending, Overflows, OnTask}
+use Rattle.refusals.specs.Line.{Names}
 use Rattle.raml_top.specs.Steps.{Answer, Report, Refusal, ending_in, Step, refused, goes_on}
 use Rattle.raml_top.specs.Promise.{Alike}
 

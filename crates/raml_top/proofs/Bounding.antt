@@ -6,19 +6,19 @@ use Rattle.raml_syntax.specs.declared.program.Program.{Program as TheProgram}
 use Rattle.value_text.specs.declared.word.Word.{Word}
 use Rattle.value_text.specs.Stands.{StandForAll}
 use Rattle.share_normal.specs.Program.{Kept, source_in}
-use Rattle.rule_plan.specs.Read.{program_in}
+use Rattle.rules_plan.specs.Read.{program_in}
 use Rattle.annot_types.specs.Certificate.{Certificate}
 use Rattle.analysis_report.specs.Floors.{IsFloor, Leaves}
 use Rattle.analysis_report.specs.Told.{floors_of, FloorsAre, FloorsRefused, AllHold}
 use Rattle.analysis_report.specs.declared.bounds.FloorFault.{FloorFault}
 use Rattle.analysis_report.specs.declared.bounds.FloorFault.TheVariants as floor
 use Rattle.analysis_report.specs.declared.bounds.Floors.{Floors}
-use Rattle.call_answers.specs.Ending.{Overflows, AtPoint}
-use Rattle.call_answers.specs.Line.{no_names}
-use Rattle.call_answers.specs.declared.answer.Report.{Report}
-use Rattle.call_answers.specs.declared.answer.Refusal.{Refusal}
-use Rattle.call_answers.specs.declared.status.Status.TheVariants as s
-use Rattle.call_answers.specs.declared.status.OverflowAt.TheVariants as o
+use Rattle.refusals.specs.Ending.{Overflows, AtPoint}
+use Rattle.refusals.specs.Line.{no_names}
+use Rattle.refusals.specs.declared.answer.Report.{Report}
+use Rattle.refusals.specs.declared.answer.Refusal.{Refusal}
+use Rattle.refusals.specs.declared.status.Status.TheVariants as s
+use Rattle.refusals.specs.declared.status.OverflowAt.TheVariants as o
 use Rattle.raml_top.specs.Outside.{Promised}
 use Rattle.raml_top.specs.Call.{Placed, PointRefuses, AreFloors, OfFloors}
 use Rattle.raml_top.specs.Promise.{RunsBounded}

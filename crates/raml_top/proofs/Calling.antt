@@ -9,11 +9,11 @@ use Rattle.raml_syntax.specs.Place.{place_of}
 use Rattle.value_text.specs.Reading.{Answers, AreRead, most_cells}
 use Rattle.value_text.specs.declared.word.Word.{Word}
 use Rattle.value_text.specs.declared.word.Cell.{Cell}
-use Rattle.fault_text.specs.declared.plain.Which.TheVariants as w
-use Rattle.call_answers.specs.Ending.{Ending, NoFunction}
-use Rattle.call_answers.specs.Line.{no_names}
-use Rattle.call_answers.specs.declared.answer.Report.{Report}
-use Rattle.call_answers.specs.declared.answer.Refusal.{Refusal as TheRefusal}
+use Rattle.refusal_text.specs.declared.plain.Which.TheVariants as w
+use Rattle.refusals.specs.Ending.{Ending, NoFunction}
+use Rattle.refusals.specs.Line.{no_names}
+use Rattle.refusals.specs.declared.answer.Report.{Report}
+use Rattle.refusals.specs.declared.answer.Refusal.{Refusal as TheRefusal}
 use Rattle.raml_top.specs.Outside.{Promised, Store}
 use Rattle.raml_top.specs.Steps.{Answer}
 use Rattle.raml_top.specs.Call.{Placed, IsNamed, DataRefuses, OfArguments, OfCall}

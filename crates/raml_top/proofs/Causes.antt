@@ -1,12 +1,12 @@
 -- Why a call ends so, by what was written.
 use Rattle.std.proofs.Common.{◌≡◌, ◌⊎◌, Ok, Err, refl, subst, inl, inr}
 use Rattle.raml_syntax.specs.Tree.{Text}
-use Rattle.call_answers.specs.Line.{Names, no_names, line_of}
-use Rattle.call_answers.specs.Refusals.{line_text}
-use Rattle.call_answers.specs.declared.answer.Report.{Report as TheReport}
-use Rattle.call_answers.specs.declared.answer.Refusal.{Refusal as TheRefusal}
-use Rattle.call_answers.specs.declared.status.Status.{Status}
-use Rattle.call_answers.specs.declared.status.Status.TheVariants.{WriteFault, NoMemory}
+use Rattle.refusals.specs.Line.{Names, no_names, line_of}
+use Rattle.refusals.specs.Refusals.{line_text}
+use Rattle.refusals.specs.declared.answer.Report.{Report as TheReport}
+use Rattle.refusals.specs.declared.answer.Refusal.{Refusal as TheRefusal}
+use Rattle.refusals.specs.declared.status.Status.{Status}
+use Rattle.refusals.specs.declared.status.Status.TheVariants.{WriteFault, NoMemory}
 use Rattle.raml_top.specs.Outside.{Promised, Outside, GainsNothing, Gains, GainsFront}
 use Rattle.raml_top.specs.Steps.{Report, Refusal}
 use Rattle.raml_top.specs.Promise.{WordsAnswer, Tells, Cause}

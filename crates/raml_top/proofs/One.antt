@@ -6,7 +6,7 @@ use Rattle.raml_syntax.specs.Tree.{Text, Function, Prog}
 use Rattle.raml_syntax.specs.Value.{Value}
 use Rattle.raml_syntax.specs.Node.{AllNodes, NumberFits}
 use Rattle.raml_parse.proofs.Limits.{within_limits}
-use Rattle.amortised_bounds.specs.Laws.{normal_of}
+use Rattle.rules_soundness_laws.specs.Laws.{normal_of}
 use Rattle.annot_types.specs.Program.{Program}
 use Rattle.annot_types.specs.Certificate.{Certificate}
 use Rattle.raml_words.specs.Words as w
@@ -18,12 +18,12 @@ use Rattle.stack_compile.specs.Text.{code_text}
 use Rattle.cert_json.specs.Told.{text_of}
 use Rattle.report_text.specs.Report.{type_lines}
 use Rattle.report_text.specs.Trial.{trial_text, trial_function, trial_data}
-use Rattle.fault_text.specs.declared.plain.Which.TheVariants as which
+use Rattle.refusal_text.specs.declared.plain.Which.TheVariants as which
 use Rattle.analysis_report.specs.Lines.{AreLines}
-use Rattle.call_answers.specs.Ending.{Done}
-use Rattle.call_answers.specs.Line.{no_names}
-use Rattle.call_answers.specs.declared.status.Status.{Status}
-use Rattle.call_answers.specs.declared.status.Status.TheVariants.{NoMemory}
+use Rattle.refusals.specs.Ending.{Done}
+use Rattle.refusals.specs.Line.{no_names}
+use Rattle.refusals.specs.declared.status.Status.{Status}
+use Rattle.refusals.specs.declared.status.Status.TheVariants.{NoMemory}
 use Rattle.raml_top.specs.Outside.{Outside, Promised, Needed, Store}
 use Rattle.raml_top.specs.Steps.{Answer, Report, Refusal, ending_in, Prints, IsTyped, OfNormal}
 use Rattle.raml_top.specs.Analysis.{OfCourse, OfCheck}

@@ -14,10 +14,10 @@ use Rattle.annot_types.specs.Program.{Program}
 use Rattle.annot_types.specs.Certificate.{Entries, Refuted, Body, Block, Certificate}
 use Rattle.annot_types.specs.Held.{before, scale_for}
 use Rattle.annot_types.specs.System.{system}
-use Rattle.courses.specs.Generator.{What, Indices, limit_of}
-use Rattle.courses.specs.Places as p
-use Rattle.courses.specs.Places.{RowFits, RowLeaves}
-use Rattle.courses.specs.Verifying as v
+use Rattle.infer_spec.specs.Generator.{What, Indices, limit_of}
+use Rattle.infer_spec.specs.Places as p
+use Rattle.infer_spec.specs.Places.{RowFits, RowLeaves}
+use Rattle.infer_spec.specs.Verifying as v
 use Rattle.cert_json.specs.Faults as j
 use Rattle.cert_json.specs.Faults.{Refuses, HasParts}
 use Rattle.cert_json.specs.Parts.{parts}
@@ -30,12 +30,12 @@ use Rattle.cert_json.proofs.Parted.{parts_tell}
 use Rattle.cert_check.specs.Fault as f
 use Rattle.cert_check.specs.Finds as check
 use Rattle.cert_check.proofs.OneFault.{one_first_fault}
-use Rattle.exact_systems.specs.Analysed.{generator_of}
+use Rattle.infer_systems_laws.specs.Analysed.{generator_of}
 use Rattle.bound_infer.specs.Inferred.{IsVerified, VectorFault, TaskFault}
-use Rattle.fault_text.specs.declared.plain.Which.TheVariants as w
-use Rattle.call_answers.specs.Ending as e
-use Rattle.call_answers.specs.Ending.{Ending, Certified, Json, NotRefuted, TooLarge, Overflows, OnTask, InCheck}
-use Rattle.call_answers.specs.Line.{no_names}
+use Rattle.refusal_text.specs.declared.plain.Which.TheVariants as w
+use Rattle.refusals.specs.Ending as e
+use Rattle.refusals.specs.Ending.{Ending, Certified, Json, NotRefuted, TooLarge, Overflows, OnTask, InCheck}
+use Rattle.refusals.specs.Line.{no_names}
 use Rattle.raml_top.specs.Outside.{Promised, Needed, Store}
 use Rattle.raml_top.specs.Steps.{Answer, names_of, Step}
 use Rattle.raml_top.specs.Analysis.{TextRefuses, OfCertificate, CheckRefuses, IsChecked, OfCheck}

@@ -5,22 +5,22 @@ use Rattle.raml_syntax.specs.Tree.{Prog, Function}
 use Rattle.raml_syntax.specs.Types.{Typed}
 use Rattle.raml_syntax.specs.Node.{AllNodes, NumberFits}
 use Rattle.call_groups.specs.Groups.{Together, Ascends, ComesNext, AreInOrder, Grouping, IsGrouping}
-use Rattle.amortised_bounds.specs.Laws.{normal_of}
+use Rattle.rules_soundness_laws.specs.Laws.{normal_of}
 use Rattle.annot_types.specs.Program.{Program}
 use Rattle.annot_types.specs.Certificate.{Certificate}
-use Rattle.courses.specs.Generator.{What, Analysis, Generates}
-use Rattle.courses.specs.States.{State}
-use Rattle.courses.specs.Places as p
-use Rattle.courses.specs.Places.{Place, stage}
-use Rattle.courses.specs.Courses.{OnTask, OnGroup, StopsAt, EndsAt}
+use Rattle.infer_spec.specs.Generator.{What, Analysis, Generates}
+use Rattle.infer_spec.specs.States.{State}
+use Rattle.infer_spec.specs.Places as p
+use Rattle.infer_spec.specs.Places.{Place, stage}
+use Rattle.infer_spec.specs.Courses.{OnTask, OnGroup, StopsAt, EndsAt}
 use Rattle.cost_free.specs.Task.{Task}
 use Rattle.cert_check.specs.Fault as f
 use Rattle.cert_check.specs.Finds.{FirstFault}
 use Rattle.cert_check.proofs.OneFault.{one_first_fault}
 use Rattle.bound_infer.specs.Inferred.{IsInferred}
 use Rattle.raml_words.specs.declared.request.Rule.{Rule}
-use Rattle.call_answers.specs.Ending as e
-use Rattle.call_answers.specs.Ending.{Ending, TooLarge, Overflows, InCheck}
+use Rattle.refusals.specs.Ending as e
+use Rattle.refusals.specs.Ending.{Ending, TooLarge, Overflows, InCheck}
 use Rattle.raml_top.specs.Outside.{Promised, Needed}
 use Rattle.raml_top.specs.Steps.{Answer, OfNormal, names_of}
 use Rattle.raml_top.specs.Analysis.{analysis, pick_of, CourseRefuses, IsCourse, OfCourse}

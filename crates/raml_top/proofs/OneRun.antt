@@ -22,9 +22,9 @@ use Rattle.annot_types.specs.Certificate.{Certificate}
 use Rattle.annot_types.specs.Held.{Claim, Bound, NoBound, CallsUnbounded, Line, line}
 use Rattle.analysis_report.specs.Lines.{Claims}
 use Rattle.analysis_report.specs.Floors.{Floors, FloorOf, IsFloor, rank, Leaves}
-use Rattle.fault_text.specs.declared.plain.Which.TheVariants as w
-use Rattle.call_answers.specs.Ending.{Ending, Done, Stopped, HeapFull, BadData, Overflows, AtPoint}
-use Rattle.call_answers.specs.Line.{no_names}
+use Rattle.refusal_text.specs.declared.plain.Which.TheVariants as w
+use Rattle.refusals.specs.Ending.{Ending, Done, Stopped, HeapFull, BadData, Overflows, AtPoint}
+use Rattle.refusals.specs.Line.{no_names}
 use Rattle.raml_top.specs.Outside.{Side, Promised, Needed, Store}
 use Rattle.raml_top.specs.Steps.{Answer}
 use Rattle.raml_top.specs.Call.{Placed, IsNamed, OfFunction, DataRefuses, OfArguments, OfCall, Limits, Finishes, Stops, Fills, Ends, Runs, PointRefuses, AreFloors, OfFloors}

@@ -9,10 +9,10 @@ use Rattle.raml_parse.proofs.OneAnswer.{one_answer}
 use Rattle.simple_types.specs.Fault.{Fault}
 use Rattle.simple_types.specs.Walk.{walk_program}
 use Rattle.simple_types.proofs.Typing.{program_complete}
-use Rattle.fault_text.specs.declared.plain.Which.{Which}
-use Rattle.fault_text.specs.declared.plain.Which.TheVariants as w
-use Rattle.call_answers.specs.Ending.{Ending, Source, Parse, Types}
-use Rattle.call_answers.specs.Line.{no_names}
+use Rattle.refusal_text.specs.declared.plain.Which.{Which}
+use Rattle.refusal_text.specs.declared.plain.Which.TheVariants as w
+use Rattle.refusals.specs.Ending.{Ending, Source, Parse, Types}
+use Rattle.refusals.specs.Line.{no_names}
 use Rattle.raml_top.specs.Outside.{Promised, Needed, Store, IsSeen, IsRead}
 use Rattle.raml_top.specs.Steps.{Answer, most_bytes, IsTooLong, OfShort, OfFile, SourceRefuses, IsTyped, OfSource, OfProgram}
 use Rattle.raml_top.proofs.Alike.{alike_same, Same, steps_same}

@@ -4,25 +4,24 @@ use Rattle.std.specs.List.{All, Contains}
 use Rattle.raml_syntax.specs.Tree.{Function, Prog}
 use Rattle.raml_syntax.specs.Types.{Typed}
 use Rattle.raml_syntax.specs.Node.{AllNodes, NumberFits}
-use Rattle.normal_form.specs.Norm.{NormProg}
-use Rattle.normal_form.specs.Two.{norm}
+use Rattle.normal_spec.specs.Norm.{NormProg}
+use Rattle.normal_spec.specs.Two.{norm}
 use Rattle.share_normal.specs.Program.{Kept, source_in, norm_in}
-use Rattle.rule_plan.specs.Read.{program_in}
+use Rattle.rules_plan.specs.Read.{program_in}
 use Rattle.annot_types.specs.Program.{Program}
 use Rattle.annot_types.specs.Certificate.{Certificate}
 use Rattle.annot_types.specs.System.{Valid}
 use Rattle.annot_types.specs.Held.{Line, lines}
-use Rattle.amortised_bounds.specs.Laws.{normal_of, LinesAreTrue, IsTrue}
-use Rattle.courses.specs.Good.{AllRefuted}
-use Rattle.courses.specs.Lines.{LinesTell}
+use Rattle.rules_soundness_laws.specs.Laws.{normal_of, LinesAreTrue, IsTrue}
+use Rattle.infer_spec.specs.Good.{AllRefuted, AllLeast}
+use Rattle.infer_spec.specs.Lines.{LinesTell}
 use Rattle.std.proofs.Common.{Result, Err, true}
 use Rattle.annot_types.specs.Certificate.{has_work}
-use Rattle.courses.specs.Good.{AllLeast}
 use Rattle.bound_infer.specs.Inferred.{IsInferred}
 use Rattle.raml_words.specs.declared.request.Rule.{Rule}
-use Rattle.call_answers.specs.Refusals.{names_in}
-use Rattle.call_answers.specs.declared.answer.Report.{Report}
-use Rattle.call_answers.specs.declared.answer.Refusal.{Refusal}
+use Rattle.refusals.specs.Refusals.{names_in}
+use Rattle.refusals.specs.declared.answer.Report.{Report}
+use Rattle.refusals.specs.declared.answer.Refusal.{Refusal}
 use Rattle.raml_top.specs.Outside.{Promised}
 use Rattle.raml_syntax.specs.Read.{program_of}
 use Rattle.raml_syntax.specs.declared.program.Program.{Program as TheProgram}

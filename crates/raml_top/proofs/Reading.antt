@@ -4,10 +4,10 @@ use Rattle.raml_io.specs.Faults.{Rose}
 use Rattle.std.specs.Prelude.{IfSome, IfOk, IfErr}
 use Rattle.raml_io.specs.Files.{Files, IsFront}
 use Rattle.raml_syntax.specs.Tree.{Text, Prog}
-use Rattle.fault_text.specs.declared.plain.Which.{Which}
-use Rattle.fault_text.specs.declared.plain.Which.TheVariants as w
-use Rattle.call_answers.specs.Line.{no_names}
-use Rattle.call_answers.specs.declared.answer.Refusal.{Refusal}
+use Rattle.refusal_text.specs.declared.plain.Which.{Which}
+use Rattle.refusal_text.specs.declared.plain.Which.TheVariants as w
+use Rattle.refusals.specs.Line.{no_names}
+use Rattle.refusals.specs.declared.answer.Refusal.{Refusal}
 use Rattle.raml_top.specs.Outside.{Promised, Store, store_of, IsRead}
 use Rattle.raml_top.specs.Steps.{most_bytes, IsTooLong, SourceRefuses, IsTyped}
 use Rattle.raml_top.specs.Parts.{IsShort, IsProgram, ProgramRefuses, Refuses}

@@ -23,9 +23,9 @@ use Rattle.constraint_gen.specs.declared.fault.What.{What}
 use Rattle.constraint_gen.specs.declared.fault.What.TheVariants as what
 use Rattle.annot_types.specs.Program.{Program}
 use Rattle.annot_types.specs.Certificate.{Certificate}
-use Rattle.courses.specs.Generator as g
-use Rattle.courses.specs.Generator.{Analysis}
-use Rattle.courses.specs.Verifying as v
+use Rattle.infer_spec.specs.Generator as g
+use Rattle.infer_spec.specs.Generator.{Analysis}
+use Rattle.infer_spec.specs.Verifying as v
 use Rattle.cert_check.specs.Fault as f
 use Rattle.cert_check.specs.Read.{fault_of}
 use Rattle.cert_check.specs.Finds as check
@@ -35,20 +35,20 @@ use Rattle.bound_infer.specs.declared.leaves.LeavesAt.{LeavesAt}
 use Rattle.bound_infer.specs.declared.leaves.LeavesAt.TheVariants as at
 use Rattle.bound_infer.specs.declared.refusal.InferFault.TheVariants as i
 use Rattle.bound_infer.specs.declared.refusal.VerifyFault.TheVariants as r
-use Rattle.call_answers.specs.Ending as e
-use Rattle.call_answers.specs.Ending.{Ending, ending_of}
-use Rattle.call_answers.specs.Line.{Names, no_names, line_of}
-use Rattle.call_answers.specs.Refusals.{IsToldOr, ParseRefusal, TypeRefusal, DataRefusal, JsonRefusal, CheckRefusal, IsCheckAt}
-use Rattle.call_answers.specs.declared.answer.Refusal.{Refusal}
-use Rattle.call_answers.specs.declared.status.Status.{Status}
-use Rattle.call_answers.specs.declared.status.Status.TheVariants as s
-use Rattle.call_answers.specs.declared.status.CertAnswer.TheVariants as c
-use Rattle.call_answers.specs.declared.status.OverflowAt.TheVariants as o
+use Rattle.refusals.specs.Ending as e
+use Rattle.refusals.specs.Ending.{Ending, ending_of}
+use Rattle.refusals.specs.Line.{Names, no_names, line_of}
+use Rattle.refusals.specs.Refusals.{IsToldOr, ParseRefusal, TypeRefusal, DataRefusal, JsonRefusal, CheckRefusal, IsCheckAt}
+use Rattle.refusals.specs.declared.answer.Refusal.{Refusal}
+use Rattle.refusals.specs.declared.status.Status.{Status}
+use Rattle.refusals.specs.declared.status.Status.TheVariants as s
+use Rattle.refusals.specs.declared.status.CertAnswer.TheVariants as c
+use Rattle.refusals.specs.declared.status.OverflowAt.TheVariants as o
 use Rattle.raml_top.specs.Steps.{SourceRefuses}
 use Rattle.raml_top.specs.Analysis.{CourseRefuses, TextRefuses, CheckRefuses}
 use Rattle.raml_top.specs.Call.{DataRefuses}
 use Rattle.raml_top.specs.Parts.{Refuses, TypesRefuse}
-use Rattle.fault_text.specs.declared.source.SourceFault.TheVariants as source
+use Rattle.refusal_text.specs.declared.source.SourceFault.TheVariants as source
 
 -- a refusal of a status whose ending has a cause
 pub told_refuses : (names : Names) (status : Status) (ending : Ending) (R : Ending → Type 0) → ending_of status ≡ Some ending → R ending →

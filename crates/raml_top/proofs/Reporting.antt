@@ -5,10 +5,10 @@ use Rattle.raml_syntax.specs.Tree.{Text, Prog}
 use Rattle.raml_syntax.specs.Value.{Value}
 use Rattle.value_text.specs.declared.word.Word.{Word}
 use Rattle.value_text.specs.declared.word.Cell.{Cell}
-use Rattle.call_answers.specs.Ending.{ending_of}
-use Rattle.call_answers.specs.Refusals.{IsWanting}
-use Rattle.call_answers.specs.declared.answer.Report.{Report}
-use Rattle.call_answers.specs.declared.answer.Refusal.{Refusal}
+use Rattle.refusals.specs.Ending.{ending_of}
+use Rattle.refusals.specs.Refusals.{IsWanting}
+use Rattle.refusals.specs.declared.answer.Report.{Report}
+use Rattle.refusals.specs.declared.answer.Refusal.{Refusal}
 use Rattle.raml_top.specs.Outside.{Promised}
 use Rattle.raml_top.specs.Call.{Placed, Limits, Runs}
 use Rattle.raml_top.specs.Parts.{Gives, HasArguments, RanOn}

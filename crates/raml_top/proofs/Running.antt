@@ -19,11 +19,11 @@ use Rattle.value_text.specs.Printing.{StandsForSome}
 use Rattle.metered_vm.specs.Moving.{TakesCell}
 use Rattle.metered_vm.specs.Seen.{Seen, program_in, fun_in, args_in, cells_in, state_in, Kept, Begins, GoesOn}
 use Rattle.metered_vm.specs.Ending.{HasHalted, HasStopped, IsFull, next_of}
-use Rattle.run_limits.specs.Laws.{NeverAsks}
+use Rattle.analysis_report.specs.Limits.{NeverAsks}
 use Rattle.report_text.specs.Report.{value_lines, stopped_lines, full_lines}
-use Rattle.call_answers.specs.Ending as e
-use Rattle.call_answers.specs.declared.answer.Report.{Report}
-use Rattle.call_answers.specs.declared.status.Status.TheVariants.{Done, Stopped, HeapFull}
+use Rattle.refusals.specs.Ending as e
+use Rattle.refusals.specs.declared.answer.Report.{Report}
+use Rattle.refusals.specs.declared.status.Status.TheVariants.{Done, Stopped, HeapFull}
 use Rattle.raml_top.specs.Outside.{Promised}
 use Rattle.raml_top.specs.Call.{Placed, Limits, Finishes, Stops, Fills, NoWorkWithin}
 use Rattle.raml_top.specs.Parts.{HasArguments, RanOn}

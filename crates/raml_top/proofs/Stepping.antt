@@ -3,19 +3,19 @@ use Rattle.std.proofs.Common.{◌≡◌, ℕ, List, Result, Ok, Err, refl, ap, s
 use Rattle.raml_syntax.specs.Tree.{Text, Prog}
 use Rattle.raml_syntax.specs.Value.{Value}
 use Rattle.call_groups.specs.Groups.{Grouping, IsGrouping}
-use Rattle.amortised_bounds.specs.Laws.{normal_of}
+use Rattle.rules_soundness_laws.specs.Laws.{normal_of}
 use Rattle.annot_types.specs.Program.{Program}
 use Rattle.annot_types.specs.Certificate.{Certificate}
-use Rattle.fault_text.specs.declared.plain.Which.{Which}
-use Rattle.fault_text.specs.declared.plain.Which.TheVariants as w
+use Rattle.refusal_text.specs.declared.plain.Which.{Which}
+use Rattle.refusal_text.specs.declared.plain.Which.TheVariants as w
 use Rattle.cert_json.specs.Told.{IsFile}
 use Rattle.value_text.specs.Reading.{Answers}
 use Rattle.raml_syntax.specs.Types.{types_of}
-use Rattle.call_answers.specs.Ending.{Ending, ReadFault, TooLong}
-use Rattle.call_answers.specs.Line.{Names, no_names}
-use Rattle.call_answers.specs.Refusals.{IsWanting}
-use Rattle.call_answers.specs.declared.answer.Report.{Report}
-use Rattle.call_answers.specs.declared.answer.Refusal.{Refusal as TheRefusal}
+use Rattle.refusals.specs.Ending.{Ending, ReadFault, TooLong}
+use Rattle.refusals.specs.Line.{Names, no_names}
+use Rattle.refusals.specs.Refusals.{IsWanting}
+use Rattle.refusals.specs.declared.answer.Report.{Report}
+use Rattle.refusals.specs.declared.answer.Refusal.{Refusal as TheRefusal}
 use Rattle.raml_top.specs.Outside.{Promised, Store}
 use Rattle.raml_top.specs.Steps.{Answer, Refusal, Step, refused, goes_on, OfFile, OfSource, OfProgram, OfNormal}
 use Rattle.raml_top.specs.Analysis.{OfCertificate, TextRefuses}

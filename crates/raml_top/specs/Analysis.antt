@@ -6,25 +6,25 @@ use Rattle.raml_words.specs.declared.request.Rule.TheVariants as rule
 use Rattle.annot_types.specs.Program.{Program}
 use Rattle.annot_types.specs.Certificate.{Certificate}
 use Rattle.annot_types.specs.System.{Valid}
-use Rattle.courses.specs.Generator.{Analysis, Indices}
-use Rattle.courses.specs.States.{State}
-use Rattle.courses.specs.Places as p
-use Rattle.courses.specs.Places.{stage}
-use Rattle.courses.specs.Courses.{StopsAt}
-use Rattle.courses.specs.Verifying as v
-use Rattle.courses.specs.Good.{AllLeast, AllRefuted}
-use Rattle.exact_systems.specs.Analysed.{analysis_of}
-use Rattle.whole_answers.specs.Rules.{least_pick, greatest_pick}
+use Rattle.infer_spec.specs.Generator.{Analysis, Indices}
+use Rattle.infer_spec.specs.States.{State}
+use Rattle.infer_spec.specs.Places as p
+use Rattle.infer_spec.specs.Places.{stage}
+use Rattle.infer_spec.specs.Courses.{StopsAt}
+use Rattle.infer_spec.specs.Verifying as v
+use Rattle.infer_spec.specs.Good.{AllLeast, AllRefuted}
+use Rattle.infer_systems_laws.specs.Analysed.{analysis_of}
+use Rattle.simplex_checked.specs.Rules.{least_pick, greatest_pick}
 use Rattle.cert_json.specs.Told.{IsFile, RefusedBy}
 use Rattle.cert_check.specs.Fault as f
 use Rattle.cert_check.specs.Finds as check
 use Rattle.bound_infer.specs.Inferred.{IsInferred, LeavesInCheck, IsVerified, VectorFault, TaskFault}
 use Rattle.analysis_report.specs.Lines.{LinesHold}
-use Rattle.call_answers.specs.Ending.{Ending, Certified, Json, Check, NotRefuted, TooLarge, Overflows, OnTask, InCheck}
-use Rattle.call_answers.specs.Line.{no_names}
+use Rattle.refusals.specs.Ending.{Ending, Certified, Json, Check, NotRefuted, TooLarge, Overflows, OnTask, InCheck}
+use Rattle.refusals.specs.Line.{no_names}
 use Rattle.raml_top.specs.Outside.{Side, Also, Store}
 use Rattle.raml_top.specs.Steps.{Answer, Step, Test, OfFile, names_of}
-use Rattle.fault_text.specs.declared.plain.Which.TheVariants as w
+use Rattle.refusal_text.specs.declared.plain.Which.TheVariants as w
 
 -- the column that a rule answers for gains
 abbrev pub pick_of : Rule → List ℤ → ℤ → Option ℕ

@@ -17,14 +17,14 @@ use Rattle.cost_free.specs.declared.task.Meter.{Meter}
 use Rattle.cost_free.specs.declared.task.Meter.TheVariants.{Cells, Work}
 use Rattle.annot_types.specs.Program.{Program}
 use Rattle.annot_types.specs.Certificate.{Certificate}
-use Rattle.amortised_bounds.specs.Bounds.{Bounds}
+use Rattle.rules_soundness_laws.specs.Bounds.{Bounds}
 use Rattle.report_text.specs.Report.{value_lines, stopped_lines, full_lines}
 use Rattle.analysis_report.specs.Floors.{Floors, IsFloor, Leaves, FloorsHold}
-use Rattle.call_answers.specs.Ending.{Ending, Done, BadData, NoFunction, Stopped, HeapFull, Overflows, AtPoint}
-use Rattle.call_answers.specs.Line.{no_names}
+use Rattle.refusals.specs.Ending.{Ending, Done, BadData, NoFunction, Stopped, HeapFull, Overflows, AtPoint}
+use Rattle.refusals.specs.Line.{no_names}
 use Rattle.raml_top.specs.Outside.{Side, Also, Store}
 use Rattle.raml_top.specs.Steps.{Answer, Report, Step, OfFile}
-use Rattle.fault_text.specs.declared.plain.Which.TheVariants as w
+use Rattle.refusal_text.specs.declared.plain.Which.TheVariants as w
 
 -- a function with its place
 abbrev pub Placed : Type 0

@@ -1,6 +1,6 @@
 -- What is known of courses.
-use Rattle.courses.specs.Laws.{OneCertificate, EndsOrStops, OnePlace}
-use Rattle.exact_systems.specs.Laws.{SystemsGenerate, NormalsAreOrdered}
+use Rattle.infer_spec.specs.Laws.{OneCertificate, EndsOrStops, OnePlace}
+use Rattle.infer_systems_laws.specs.Laws.{SystemsGenerate, NormalsAreOrdered}
 
 pub record CourseLaws : Type 0 where
   pub one : OneCertificate

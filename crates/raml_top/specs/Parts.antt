@@ -10,18 +10,18 @@ use Rattle.value_text.specs.Stands.{StandForAll}
 use Rattle.value_text.specs.Reading.{Answers}
 use Rattle.annot_types.specs.Certificate.{Certificate}
 use Rattle.cert_json.specs.Told.{IsFile}
-use Rattle.fault_text.specs.declared.plain.Which.{Which}
-use Rattle.fault_text.specs.declared.plain.Which.TheVariants as w
+use Rattle.refusal_text.specs.declared.plain.Which.{Which}
+use Rattle.refusal_text.specs.declared.plain.Which.TheVariants as w
 use Rattle.analysis_report.specs.declared.bounds.FloorFault.{FloorFault}
 use Rattle.analysis_report.specs.declared.bounds.FloorFault.TheVariants as floor
-use Rattle.call_answers.specs.Ending.{Ending, Usage, ReadFault, TooLong, Source, Types, NoFunction, ending_of}
-use Rattle.call_answers.specs.Line.{Names, no_names, line_of}
-use Rattle.call_answers.specs.Refusals.{line_text, IsWanting, IsToldOr}
-use Rattle.call_answers.specs.declared.answer.Report.{Report}
-use Rattle.call_answers.specs.declared.answer.Refusal.{Refusal as TheRefusal}
-use Rattle.call_answers.specs.declared.status.Status.{Status}
-use Rattle.call_answers.specs.declared.status.Status.TheVariants as status
-use Rattle.call_answers.specs.declared.status.OverflowAt.TheVariants as overflow
+use Rattle.refusals.specs.Ending.{Ending, Usage, ReadFault, TooLong, Source, Types, NoFunction, ending_of}
+use Rattle.refusals.specs.Line.{Names, no_names, line_of}
+use Rattle.refusals.specs.Refusals.{line_text, IsWanting, IsToldOr}
+use Rattle.refusals.specs.declared.answer.Report.{Report}
+use Rattle.refusals.specs.declared.answer.Refusal.{Refusal as TheRefusal}
+use Rattle.refusals.specs.declared.status.Status.{Status}
+use Rattle.refusals.specs.declared.status.Status.TheVariants as status
+use Rattle.refusals.specs.declared.status.OverflowAt.TheVariants as overflow
 use Rattle.raml_top.specs.Outside.{Promised, Store, IsRead}
 use Rattle.raml_top.specs.Steps.{Answer, Refusal, most_bytes, SourceRefuses, IsTyped}
 use Rattle.raml_top.specs.Steps as s

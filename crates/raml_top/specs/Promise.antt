@@ -10,7 +10,7 @@ use Rattle.stack_compile.specs.Text.{code_text}
 use Rattle.cost_free.specs.declared.task.Meter.TheVariants.{Ticks, Cells, Work}
 use Rattle.annot_types.specs.Program.{Program}
 use Rattle.annot_types.specs.Certificate.{Certificate}
-use Rattle.courses.specs.Places.{stage}
+use Rattle.infer_spec.specs.Places.{stage}
 use Rattle.cert_json.specs.Told.{text_of}
 use Rattle.report_text.specs.Report.{type_lines}
 use Rattle.report_text.specs.Claims.{lines_text}
@@ -18,15 +18,15 @@ use Rattle.report_text.specs.RunBounds.{run_bound_lines}
 use Rattle.report_text.specs.Trial.{trial_text, trial_function, trial_data, functions_line}
 use Rattle.analysis_report.specs.Lines.{lines_of, AreLines}
 use Rattle.analysis_report.specs.Floors.{Floors}
-use Rattle.call_answers.specs.Ending.{Ending, Usage, Overflows, OnTask, ending_of}
-use Rattle.call_answers.specs.Line.{Names, no_names, line_of}
-use Rattle.call_answers.specs.declared.status.Status.{Status}
-use Rattle.call_answers.specs.declared.status.Status.TheVariants.{WriteFault, NoMemory}
+use Rattle.refusals.specs.Ending.{Ending, Usage, Overflows, OnTask, ending_of}
+use Rattle.refusals.specs.Line.{Names, no_names, line_of}
+use Rattle.refusals.specs.declared.status.Status.{Status}
+use Rattle.refusals.specs.declared.status.Status.TheVariants.{WriteFault, NoMemory}
 use Rattle.raml_top.specs.Outside.{Outside, Store, Sink, Side, Promised, Needed, Rises, GainsNothing, Gains, GainsFront}
 use Rattle.raml_top.specs.Steps.{Answer, Report, Refusal, ending_in, Step, Prints, OfShort, OfSource, OfProgram, OfNormal}
 use Rattle.raml_top.specs.Analysis.{OfCourse, OfCertificate, OfCheck}
 use Rattle.raml_top.specs.Call.{Placed, Limits, OfFunction, OfArguments, OfCall, OfFloors, Runs, cells_or}
-use Rattle.fault_text.specs.declared.plain.Which.TheVariants as which
+use Rattle.refusal_text.specs.declared.plain.Which.TheVariants as which
 
 -- ---- the commands, each of a program
 

@@ -5,13 +5,13 @@ use Rattle.raml_syntax.specs.Types as types
 use Rattle.raml_parse.specs.Spelling as spelling
 use Rattle.simple_types.specs.Walk.{walk_program}
 use Rattle.call_groups.specs.Groups.{Grouping, IsGrouping}
-use Rattle.amortised_bounds.specs.Laws.{normal_of}
+use Rattle.rules_soundness_laws.specs.Laws.{normal_of}
 use Rattle.annot_types.specs.Program.{Program}
-use Rattle.call_answers.specs.Ending.{Ending, Done, ReadFault, TooLong, Source, Parse, Types}
-use Rattle.call_answers.specs.Line.{Names, no_names}
+use Rattle.refusals.specs.Ending.{Ending, Done, ReadFault, TooLong, Source, Parse, Types}
+use Rattle.refusals.specs.Line.{Names, no_names}
 use Rattle.raml_top.specs.Outside.{Side, Also, Store, IsRead}
-use Rattle.fault_text.specs.declared.plain.Which.{Which}
-use Rattle.fault_text.specs.declared.plain.Which.TheVariants as w
+use Rattle.refusal_text.specs.declared.plain.Which.{Which}
+use Rattle.refusal_text.specs.declared.plain.Which.TheVariants as w
 
 -- What a call answers: a report, which ends so, or a refusal.
 pub data Answer : Type 0 where

@@ -1,31 +1,31 @@
 // The analysis of a program.
 ghost use Rattle.std.specs.Prelude.{◌≡◌, ◌≤◌, length, IfOk, IfErr};
 ghost use Rattle.raml_syntax.specs.Read.{program_of};
-ghost use Rattle.amortised_bounds.specs.Laws.{normal_of};
+ghost use Rattle.rules_soundness_laws.specs.Laws.{normal_of};
 ghost use Rattle.call_groups.specs.Groups.{IsGrouping};
-ghost use Rattle.courses.specs.Generator.{Analysis};
-ghost use Rattle.courses.specs.Good.{AllLeast};
-ghost use Rattle.exact_systems.specs.Analysed.{analysis_of};
+ghost use Rattle.infer_spec.specs.Generator.{Analysis};
+ghost use Rattle.infer_spec.specs.Good.{AllLeast};
+ghost use Rattle.infer_systems_laws.specs.Analysed.{analysis_of};
 ghost use Rattle.share_normal.specs.Program.{source_in};
-ghost use Rattle.rule_plan.specs.Read.{program_in};
-ghost use Rattle.whole_answers.specs.Rules.{least_pick, greatest_pick};
+ghost use Rattle.rules_plan.specs.Read.{program_in};
+ghost use Rattle.simplex_checked.specs.Rules.{least_pick, greatest_pick};
 ghost use Rattle.bound_infer.specs.Inferred.{IsInferred, InferCause};
-ghost use Rattle.call_answers.specs.Refusals.{names_in};
+ghost use Rattle.refusals.specs.Refusals.{names_in};
 ghost use Rattle.raml_top.specs.Analysis.{analysis, CourseRefuses, IsProved};
 ghost use Rattle.raml_top.specs.Parts.{Refuses};
 
-use amortised_bounds::laws::lines_are_true;
 use bound_infer::{InferFault, Verified, infer};
-use call_answers::{Refusal, overflow, too_large};
 use call_groups::group_calls;
-use courses::laws::lines_tell;
 use frac128::Frac;
+use infer_spec::laws::lines_tell;
 use raml_words::Rule;
+use refusals::{Refusal, overflow, too_large};
+use rules_soundness_laws::laws::lines_are_true;
 use share_normal::{NormProgram, normalise};
 use simple_types::Typed;
 use simplex::Chooser;
+use simplex_checked::{greatest_column, least_column};
 use std::alloc::{AllocError, Global};
-use whole_answers::{greatest_column, least_column};
 
 /// The normal form of a program, with the groups of its functions.
 pub fn normal_form<'a>(alloc: Global, typed: &'a Typed) -> Result<NormProgram<'a>, AllocError>

@@ -5,15 +5,15 @@ ghost use Rattle.raml_syntax.specs.Tree.{Text, Function};
 ghost use Rattle.raml_syntax.specs.Place.{place_of};
 ghost use Rattle.raml_syntax.specs.Read.{ty_of, program_of};
 ghost use Rattle.report_text.specs.Report.{types_in};
-ghost use Rattle.call_answers.specs.Line.{no_names};
+ghost use Rattle.refusals.specs.Line.{no_names};
 ghost use Rattle.raml_top.specs.Outside.{store_of};
 ghost use Rattle.raml_top.specs.Parts.{Before, IsReady, Refuses, CallRefuses, ReadsCall, ReadsArguments, ArgumentsRefuse};
 
 use crate::file::read_file;
-use call_answers::{Refusal, data_refusal};
-use fault_text::Which;
 use raml_io::Store;
 use raml_syntax::{FunId, Param, Ty};
+use refusal_text::Which;
+use refusals::{Refusal, data_refusal};
 use simple_types::Typed;
 use std::alloc::{AllocError, Global};
 use value_text::{DataHeap, Word, read_args};

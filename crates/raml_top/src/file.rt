@@ -1,14 +1,14 @@
 // Files of a store, within their limits.
 ghost use Rattle.std.specs.Prelude.{◌≡◌, ◌≤◌, ℕ, IfOk, IfErr};
 ghost use Rattle.raml_syntax.specs.Tree.{Text};
-ghost use Rattle.call_answers.specs.Line.{no_names};
+ghost use Rattle.refusals.specs.Line.{no_names};
 ghost use Rattle.raml_top.specs.Outside.{store_of};
 ghost use Rattle.raml_top.specs.Steps.{most_bytes};
 ghost use Rattle.raml_top.specs.Parts.{Before, IsShort, FileRefuses, Refuses};
 
-use call_answers::Refusal;
-use fault_text::Which;
 use raml_io::{Store, StoreFault};
+use refusal_text::Which;
+use refusals::Refusal;
 use std::alloc::Global;
 
 // The limit of a file, in bytes.

@@ -12,6 +12,6 @@ mod top;
 mod trial;
 mod verification;
 
-pub use call_answers::{CertAnswer, OverflowAt, Status};
-pub use fault_text::{SourceFault, Which};
+pub use refusal_text::{SourceFault, Which};
+pub use refusals::{CertAnswer, OverflowAt, Status};
 pub use top::raml;

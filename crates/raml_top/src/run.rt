@@ -3,14 +3,14 @@ ghost use Rattle.std.specs.Prelude.{◌≡◌, ◌≤◌, ◌<◌, List, IfOk, I
 ghost use Rattle.raml_syntax.specs.Value.{Value};
 ghost use Rattle.raml_syntax.specs.Node.{program_nodes};
 ghost use Rattle.raml_syntax.specs.Read.{program_of};
-ghost use Rattle.call_answers.specs.Refusals.{IsWanting};
+ghost use Rattle.refusals.specs.Refusals.{IsWanting};
 ghost use Rattle.raml_top.specs.Call.{Placed};
 ghost use Rattle.raml_top.specs.Parts.{HasArguments, RanOn, limits_of};
 
-use call_answers::{Refusal, Report, full_report, stopped_report, value_report};
+use analysis_report::laws::never_asks;
 use metered_vm::{End, Vm};
 use raml_syntax::FunId;
-use run_limits::laws::never_asks;
+use refusals::{Refusal, Report, full_report, stopped_report, value_report};
 use simple_types::Typed;
 use stack_compile::compile;
 use std::alloc::Global;

@@ -5,17 +5,17 @@ ghost use Rattle.raml_syntax.specs.Tree.{Text, Function};
 ghost use Rattle.raml_syntax.specs.Types.{Typed as IsTypedProgram};
 ghost use Rattle.raml_syntax.specs.Node.{WithinLimits, program_nodes};
 ghost use Rattle.raml_syntax.specs.Read.{program_of};
-ghost use Rattle.call_answers.specs.Line.{no_names};
+ghost use Rattle.refusals.specs.Line.{no_names};
 ghost use Rattle.raml_top.specs.Outside.{store_of};
 ghost use Rattle.raml_top.specs.Steps.{SourceRefuses, IsTyped};
 ghost use Rattle.raml_top.specs.Parts.{IsProgram, ProgramRefuses, Refuses, IsReady, TypesRefuse};
 
 use crate::file::read_file;
-use call_answers::{Refusal, parse_refusal, type_refusal};
-use fault_text::Which;
 use raml_io::Store;
 use raml_parse::parse;
 use raml_syntax::Program;
+use refusal_text::Which;
+use refusals::{Refusal, parse_refusal, type_refusal};
 use simple_types::{Typed, check};
 use std::alloc::Global;
 

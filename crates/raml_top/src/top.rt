@@ -4,7 +4,7 @@ ghost use Rattle.raml_syntax.specs.Tree.{Text};
 ghost use Rattle.raml_words.specs.Words.{texts, Asks};
 ghost use Rattle.raml_words.specs.Words as asked_words;
 ghost use Rattle.raml_words.specs.Asked.{request_of};
-ghost use Rattle.call_answers.specs.Line.{no_names};
+ghost use Rattle.refusals.specs.Line.{no_names};
 ghost use Rattle.raml_top.specs.Outside.{Promised, store_of, sink_of, outside_of, Gains, GainsFront};
 ghost use Rattle.raml_top.specs.Steps.{OfProgram};
 ghost use Rattle.raml_top.specs.Call.{cells_or};
@@ -16,12 +16,12 @@ use crate::commands::{analysis_certificate, analysis_lines, list_code, list_type
 use crate::runs::{bounded_run, run_within};
 use crate::source::read_program;
 use crate::trial::trial;
-use call_answers::{Refusal, Report, Status};
-use courses::laws::{ends_or_stops, one_certificate, one_place};
-use exact_systems::laws::{normals_are_ordered, systems_generate};
-use fault_text::write_failed_line;
+use infer_spec::laws::{ends_or_stops, one_certificate, one_place};
+use infer_systems_laws::laws::{normals_are_ordered, systems_generate};
 use raml_io::{Sink, Store, put_all};
 use raml_words::{Request, Rule, WordsFault, read_words};
+use refusal_text::write_failed_line;
+use refusals::{Refusal, Report, Status};
 use std::alloc::Global;
 
 /// Does what the words ask for: reads from `store`, and writes the report to `out` or, where there is

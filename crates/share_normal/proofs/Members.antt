@@ -9,8 +9,8 @@ use Rattle.std.proofs.lemmas.List.Kept.{Contains-dedup_nat, Contains-from_dedup}
 use Rattle.std.proofs.lemmas.List.Sorted.{Contains-permutation, IsPermutation-sym, searched}
 use Rattle.std.proofs.lemmas.Map.Keys.{sorted_from_strictly_increasing, non_decreasing_from_sorted}
 use Rattle.std.proofs.lemmas.Map.Views.{Contains-from_any, list_any-from_Contains}
-use Rattle.normal_form.specs.Norm as n
-use Rattle.normal_form.specs.Free.{among}
+use Rattle.normal_spec.specs.Norm as n
+use Rattle.normal_spec.specs.Free.{among}
 use Rattle.share_normal.specs.Frees.{Frees, others, own, first, second, AreGathered, Shows, ShowsOne, ShowsTwo}
 
 among_is : (x : ℕ) (ys : List ℕ) → list_any (nat_eq x) ys ≡ among x ys

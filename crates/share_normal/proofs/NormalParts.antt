@@ -9,13 +9,13 @@ use Rattle.raml_syntax.specs.Types.{Typed}
 use Rattle.raml_syntax.specs.Node.{AllNodes, NumberFits}
 use Rattle.raml_syntax.specs.Read.{ty_of}
 use Rattle.raml_syntax.specs.declared.ty.Ty.{Ty}
-use Rattle.normal_form.specs.Norm as n
-use Rattle.normal_form.specs.Norm.{NormProg}
-use Rattle.normal_form.specs.Two.{norm_fun, norm}
-use Rattle.normal_form.specs.Uses.{IsNormal}
-use Rattle.normal_form.specs.Read.{fun_of, funs_of}
-use Rattle.normal_form.specs.declared.form.NormFun.{NormFun}
-use Rattle.normal_form.proofs.Keep.{normal_forms_keep}
+use Rattle.normal_spec.specs.Norm as n
+use Rattle.normal_spec.specs.Norm.{NormProg}
+use Rattle.normal_spec.specs.Two.{norm_fun, norm}
+use Rattle.normal_spec.specs.Uses.{IsNormal}
+use Rattle.normal_spec.specs.Read.{fun_of, funs_of}
+use Rattle.normal_spec.specs.declared.form.NormFun.{NormFun}
+use Rattle.normal_spec.proofs.Keep.{normal_forms_keep}
 use Rattle.share_normal.specs.Parts.{parts_in, normal_parts, result_of}
 
 -- the normal forms of functions of P are these, if their results and their parts are

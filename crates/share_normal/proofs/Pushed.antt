@@ -1,7 +1,7 @@
 -- The last share, and the last drop, is made first.
 use Rattle.std.proofs.Common.{◌≡◌, ℕ, List, [], ◌∷◌, ◌++◌, refl, ap}
-use Rattle.normal_form.specs.Norm as n
-use Rattle.normal_form.specs.Two.{Shared, Slots, share_all, drop_all}
+use Rattle.normal_spec.specs.Norm as n
+use Rattle.normal_spec.specs.Two.{Shared, Slots, share_all, drop_all}
 
 pub share_all_push : (ss : List Shared) (s : Shared) (e : n.Norm) → share_all (ss ++ s ∷ []) e ≡ share_all ss (n.Share 0 s.variable s.first s.second e)
 share_all_push [] s e = refl

@@ -5,9 +5,9 @@ use Rattle.raml_syntax.specs.Tree.{Text, Type', Integer, Boolean, ListOf, TreeOf
 use Rattle.raml_syntax.specs.Eval.{find}
 use Rattle.raml_syntax.specs.Place.{place_of}
 use Rattle.raml_syntax.specs.Node.{AllNodes, AllOf, NumberFits}
-use Rattle.normal_form.specs.Norm as n
-use Rattle.normal_form.specs.Norm.{carries}
-use Rattle.normal_form.specs.One.{Scope, types_in, bound, bound_two, bound_three, first_part, second_part, element, part_of, place_or, parameters_or, first_of_types, rest_of, plain, Operand, Is, Binds, name, after, bare, wrap, wrap_all, bare_all, operand, norm_one, norm_two, norm_three, split_form, if_form, list_form, tree_form, option_form, found, type_of, one, operands, scope_of, body_of}
+use Rattle.normal_spec.specs.Norm as n
+use Rattle.normal_spec.specs.Norm.{carries}
+use Rattle.normal_spec.specs.One.{Scope, types_in, bound, bound_two, bound_three, first_part, second_part, element, part_of, place_or, parameters_or, first_of_types, rest_of, plain, Operand, Is, Binds, name, after, bare, wrap, wrap_all, bare_all, operand, norm_one, norm_two, norm_three, split_form, if_form, list_form, tree_form, option_form, found, type_of, one, operands, scope_of, body_of}
 use Rattle.share_normal.specs.Numbers.{NumbersFit}
 
 carried : (m : ℕ) (e : n.Norm) → NumbersFit (carries m e) → NumbersFit e

@@ -2,8 +2,8 @@
 use Rattle.std.specs.Prelude.{◌≡◌, ℕ, List, not, filter, ◌||◌, ◌&&◌}
 use Rattle.std.specs.Coded.{×_prop, Unit-prop, Π_prop}
 use mathlib.Core.Bool.{Bool-set}
-use Rattle.normal_form.specs.Norm as n
-use Rattle.normal_form.specs.Free.{among, free_in}
+use Rattle.normal_spec.specs.Norm as n
+use Rattle.normal_spec.specs.Free.{among, free_in}
 
 -- the free variables of a form, and those of its parts
 pub data Frees : Type 0 where

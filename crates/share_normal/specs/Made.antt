@@ -1,9 +1,9 @@
 -- What step two makes of a form.
 use Rattle.std.specs.Prelude.{◌≡◌, ℕ, Result, IfOk, OnOk}
 use Rattle.std.specs.declared.alloc.AllocError.{AllocError}
-use Rattle.normal_form.specs.declared.form.NormExpr.{NormExpr}
-use Rattle.normal_form.specs.Norm as n
-use Rattle.normal_form.specs.Read.{norm_of}
+use Rattle.normal_spec.specs.declared.form.NormExpr.{NormExpr}
+use Rattle.normal_spec.specs.Norm as n
+use Rattle.normal_spec.specs.Read.{norm_of}
 use Rattle.share_normal.specs.declared.marked.Marked.{Marked}
 
 -- the form that has its free variables beside it

@@ -1,7 +1,7 @@
 -- Normal forms whose numbers have 64 bits.
 use Rattle.std.specs.Prelude.{FitsSigned}
 use Rattle.std.specs.Int.{w64}
-use Rattle.normal_form.specs.Norm as n
+use Rattle.normal_spec.specs.Norm as n
 
 -- each number of the form has 64 bits, signed
 abbrev pub NumbersFit : n.Norm → Type 0

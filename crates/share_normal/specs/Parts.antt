@@ -1,10 +1,10 @@
 -- What a function in normal form has beside the type of its results.
 use Rattle.std.specs.Prelude.{ℕ, List}
 use Rattle.raml_syntax.specs.Tree.{Type', Function, Prog}
-use Rattle.normal_form.specs.Norm as n
-use Rattle.normal_form.specs.Two.{norm_fun}
-use Rattle.normal_form.specs.Read.{norm_of, parameters_of}
-use Rattle.normal_form.specs.declared.form.NormFun.{NormFun}
+use Rattle.normal_spec.specs.Norm as n
+use Rattle.normal_spec.specs.Two.{norm_fun}
+use Rattle.normal_spec.specs.Read.{norm_of, parameters_of}
+use Rattle.normal_spec.specs.declared.form.NormFun.{NormFun}
 
 -- a function's parameters as variables, and its body
 abbrev pub Parts : Type 0

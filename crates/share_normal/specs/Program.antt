@@ -7,11 +7,11 @@ use Rattle.raml_syntax.specs.Node.{AllNodes, NumberFits}
 use Rattle.raml_syntax.specs.Read.{program_of}
 use Rattle.raml_syntax.specs.declared.program.Program.{Program}
 use Rattle.raml_syntax.specs.declared.ty.Ty.{Ty}
-use Rattle.normal_form.specs.Norm.{NormProg}
-use Rattle.normal_form.specs.Two.{norm_fun, norm}
-use Rattle.normal_form.specs.Laws.{IsNormalForm}
-use Rattle.normal_form.specs.Read.{funs_of}
-use Rattle.normal_form.specs.declared.form.NormFun.{NormFun}
+use Rattle.normal_spec.specs.Norm.{NormProg}
+use Rattle.normal_spec.specs.Two.{norm_fun, norm}
+use Rattle.normal_spec.specs.Laws.{IsNormalForm}
+use Rattle.normal_spec.specs.Read.{funs_of}
+use Rattle.normal_spec.specs.declared.form.NormFun.{NormFun}
 use Rattle.simple_types.specs.Small.{IsSmall}
 use Rattle.call_groups.specs.Groups.{Grouping, IsGrouping}
 

@@ -1,5 +1,5 @@
 -- What the code's uses and parts are as plain data.
-use Rattle.normal_form.specs.Two as two
+use Rattle.normal_spec.specs.Two as two
 use Rattle.share_normal.specs.declared.taken.Taken.{Taken}
 use Rattle.share_normal.specs.declared.taken.AllTaken.{AllTaken}
 use Rattle.share_normal.specs.declared.taken.Parted.{Parted}

@@ -1,13 +1,13 @@
 // Free variables.
 ghost use Rattle.std.specs.Prelude.{◌≡◌, ◌++◌, ℕ, IfOk, OnOk};
-ghost use Rattle.normal_form.specs.Read.{const_form, norm_of, op_form};
+ghost use Rattle.normal_spec.specs.Read.{const_form, norm_of, op_form};
 ghost use Rattle.share_normal.specs.Frees as frees;
 ghost use Rattle.share_normal.specs.Frees.{AreGathered, Shows, ShowsLeaf, ShowsOne, ShowsTwo, others};
 ghost use Rattle.share_normal.specs.Numbers.{NumbersFit};
 ghost use Rattle.share_normal.specs.ReadFree.{frees_of};
 
 use crate::variables::{Variables, among};
-use normal_form::{Const, NormExpr, NormForm, NormOp};
+use normal_spec::{Const, NormExpr, NormForm, NormOp};
 use std::alloc::{AllocError, Global};
 
 /// The free variables of a form, and those of its parts.

@@ -4,17 +4,16 @@ ghost use Rattle.std.specs.List.{All};
 ghost use Rattle.raml_syntax.specs.Tree.{Function};
 ghost use Rattle.raml_syntax.specs.Node.{AllNodes, NumberFits};
 ghost use Rattle.raml_syntax.specs.Read.{ty_of, term_of, parameter_of, function_of, program_of};
-ghost use Rattle.normal_form.specs.One as one;
-ghost use Rattle.normal_form.specs.Two as two;
-ghost use Rattle.normal_form.specs.Read.{parameters_of};
+ghost use Rattle.normal_spec.specs.One as one;
+ghost use Rattle.normal_spec.specs.Two as two;
+ghost use Rattle.normal_spec.specs.Read.{parameters_of};
 ghost use Rattle.share_normal.specs.Parts.{parts_in, normal_parts, result_of};
 
 use crate::slots::Slot;
 use crate::taken::Sharing;
-use function_names::FunctionNames;
-use name_operands::{Maker, name_operands};
-use normal_form::NormFun;
-use raml_syntax::{Fun, Param, Ty};
+use normal_operands::{Maker, name_operands};
+use normal_spec::NormFun;
+use raml_syntax::{Fun, FunctionNames, Param, Ty};
 use std::alloc::{AllocError, Global};
 
 impl Sharing {

@@ -1,13 +1,13 @@
 // Forms with their free variables.
 ghost use Rattle.std.specs.Prelude.{◌≡◌};
-ghost use Rattle.normal_form.specs.Free.{free_in};
-ghost use Rattle.normal_form.specs.Read.{norm_of};
+ghost use Rattle.normal_spec.specs.Free.{free_in};
+ghost use Rattle.normal_spec.specs.Read.{norm_of};
 ghost use Rattle.share_normal.specs.Frees as frees;
 ghost use Rattle.share_normal.specs.Frees.{Shows, Shows-prop};
 ghost use Rattle.share_normal.specs.ReadFree.{frees_of};
 
 use crate::free::FreeVariables;
-use normal_form::NormExpr;
+use normal_spec::NormExpr;
 
 /// A form, with the free variables of it and of its parts.
 #[derive(Clone, Copy)]

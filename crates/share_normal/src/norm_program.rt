@@ -5,17 +5,16 @@ ghost use Rattle.raml_syntax.specs.Tree.{Function};
 ghost use Rattle.raml_syntax.specs.Types as types;
 ghost use Rattle.raml_syntax.specs.Node.{AllNodes, NumberFits};
 ghost use Rattle.raml_syntax.specs.Read.{program_of};
-ghost use Rattle.normal_form.specs.Two.{norm};
-ghost use Rattle.normal_form.specs.Uses.{IsNormal};
+ghost use Rattle.normal_spec.specs.Two.{norm};
+ghost use Rattle.normal_spec.specs.Uses.{IsNormal};
 ghost use Rattle.simple_types.specs.Small.{IsSmall};
 ghost use Rattle.call_groups.specs.Groups.{IsGrouping};
 ghost use Rattle.share_normal.specs.Program.{NormalForms, norm_in, source_in};
 
 use crate::functions::{normal_functions, results_of};
 use call_groups::Groups;
-use function_names::FunctionNames;
-use normal_form::NormFun;
-use raml_syntax::{FunId, Program, Ty};
+use normal_spec::NormFun;
+use raml_syntax::{FunId, FunctionNames, Program, Ty};
 use simple_types::Typed;
 use std::alloc::{AllocError, Global};
 use std::marker::Model;
@@ -30,9 +29,9 @@ impl Model for NormFuns {
     ghost use Rattle.std.specs.Prelude.{List};
     ghost use Rattle.std.specs.Coded.{codes};
     ghost use Rattle.raml_syntax.specs.contracts.ty.Ty as ty;
-    ghost use Rattle.normal_form.specs.contracts.form.NormForm as form;
-    ghost use Rattle.normal_form.specs.contracts.form.NormExpr as expr;
-    ghost use Rattle.normal_form.specs.declared.form.NormFun.{NormFun};
+    ghost use Rattle.normal_spec.specs.contracts.form.NormForm as form;
+    ghost use Rattle.normal_spec.specs.contracts.form.NormExpr as expr;
+    ghost use Rattle.normal_spec.specs.declared.form.NormFun.{NormFun};
 
     ghost Value = { List NormFun };
 
@@ -72,8 +71,8 @@ impl<'a> Model for NormProgram<'a> {
     ghost use Rattle.raml_syntax.specs.contracts.ty.Ty as ty;
     ghost use Rattle.raml_syntax.specs.contracts.tree.Form as source_form;
     ghost use Rattle.raml_syntax.specs.contracts.tree.Expr as source_expr;
-    ghost use Rattle.normal_form.specs.contracts.form.NormForm as form;
-    ghost use Rattle.normal_form.specs.contracts.form.NormExpr as expr;
+    ghost use Rattle.normal_spec.specs.contracts.form.NormForm as form;
+    ghost use Rattle.normal_spec.specs.contracts.form.NormExpr as expr;
     ghost use Rattle.share_normal.specs.Program.{Kept, IsKept};
 
     ghost Value = { Kept };

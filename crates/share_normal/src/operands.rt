@@ -1,13 +1,13 @@
 // Step two of forms whose operands are all that they use.
-ghost use Rattle.normal_form.specs.Norm as n;
-ghost use Rattle.normal_form.specs.Two as two;
-ghost use Rattle.normal_form.specs.Read.{op_form};
+ghost use Rattle.normal_spec.specs.Norm as n;
+ghost use Rattle.normal_spec.specs.Two as two;
+ghost use Rattle.normal_spec.specs.Read.{op_form};
 ghost use Rattle.share_normal.specs.Made.{IsMade};
 
 use crate::slots::{Slot, copy_of};
 use crate::taken::{AllTaken, Sharing};
 use crate::wrapped::{expr, share_all};
-use normal_form::{NormExpr, NormForm, NormOp};
+use normal_spec::{NormExpr, NormForm, NormOp};
 use raml_syntax::{ArithOp, CompareOp, FunId};
 use std::alloc::AllocError;
 

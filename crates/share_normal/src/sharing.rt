@@ -1,9 +1,9 @@
 // Step two: each variable is used once on each path.
 ghost use Rattle.std.specs.Prelude.{◌≡◌, IfOk, OnOk};
 ghost use Rattle.raml_syntax.specs.Read.{ty_of};
-ghost use Rattle.normal_form.specs.Norm as n;
-ghost use Rattle.normal_form.specs.Two as two;
-ghost use Rattle.normal_form.specs.Read.{norm_of};
+ghost use Rattle.normal_spec.specs.Norm as n;
+ghost use Rattle.normal_spec.specs.Two as two;
+ghost use Rattle.normal_spec.specs.Read.{norm_of};
 ghost use Rattle.share_normal.specs.Made.{IsMade, form_in};
 ghost use Rattle.share_normal.specs.Numbers.{NumbersFit};
 
@@ -12,7 +12,7 @@ use crate::marked::Marked;
 use crate::slots::{Slot, copy_of, put, unused, used};
 use crate::taken::{Parted, Sharing, Taken};
 use crate::wrapped::{drop_all, expr, share_all};
-use normal_form::{NormExpr, NormForm};
+use normal_spec::{NormExpr, NormForm};
 use raml_syntax::Ty;
 use std::alloc::AllocError;
 

@@ -1,6 +1,6 @@
 // Slots: the variables of step one, each with the copy that stands for it.
 ghost use Rattle.std.specs.Prelude.{◌≡◌, ◌++◌, IfOk};
-ghost use Rattle.normal_form.specs.Two as two;
+ghost use Rattle.normal_spec.specs.Two as two;
 ghost use Rattle.share_normal.specs.Made.{form_in};
 
 use crate::marked::Marked;
@@ -33,7 +33,7 @@ pub struct Shared {
 }
 
 impl Model for Shared {
-    ghost use Rattle.normal_form.specs.Two as two;
+    ghost use Rattle.normal_spec.specs.Two as two;
 
     ghost Value = { two.Shared };
 

@@ -1,6 +1,6 @@
 // Uses of variables, each of which is shared where it is used again.
 ghost use Rattle.std.specs.Prelude.{◌≡◌, ◌+◌, IfOk, OnOk};
-ghost use Rattle.normal_form.specs.Two as two;
+ghost use Rattle.normal_spec.specs.Two as two;
 ghost use Rattle.share_normal.specs.Made.{form_in};
 ghost use Rattle.share_normal.specs.ReadTaken.{taken_of, all_taken_of, parted_of};
 

@@ -1,6 +1,6 @@
 // Sets of variables.
 ghost use Rattle.std.specs.Prelude.{◌≡◌, ℕ, IfOk};
-ghost use Rattle.normal_form.specs.Free as free;
+ghost use Rattle.normal_spec.specs.Free as free;
 
 use std::alloc::AllocError;
 use std::marker::Model;

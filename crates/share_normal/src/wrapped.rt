@@ -1,11 +1,11 @@
 // Forms, and shares and drops around them.
 ghost use Rattle.std.specs.Prelude.{◌≡◌, IfOk};
-ghost use Rattle.normal_form.specs.Norm as n;
-ghost use Rattle.normal_form.specs.Two as two;
-ghost use Rattle.normal_form.specs.Read.{form_of, norm_of};
+ghost use Rattle.normal_spec.specs.Norm as n;
+ghost use Rattle.normal_spec.specs.Two as two;
+ghost use Rattle.normal_spec.specs.Read.{form_of, norm_of};
 
 use crate::slots::{Shared, Slot};
-use normal_form::{NormExpr, NormForm};
+use normal_spec::{NormExpr, NormForm};
 use std::alloc::{AllocError, Global};
 
 /// A form that stands for so many nodes.

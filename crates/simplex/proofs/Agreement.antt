@@ -4,8 +4,8 @@ use Rattle.std.proofs.lemmas.Int.{ints}
 use Rattle.linear_rows.specs.Systems.{LinearSystem}
 use Rattle.linear_rows.specs.Vectors.{dot}
 use Rattle.linear_rows.proofs.Duality.{no_solution}
-use Rattle.tableau.specs.Tableaux.{solution, ray}
-use Rattle.tableau.specs.Courses.{Rule}
+use Rattle.simplex_spec.specs.Tableaux.{solution, ray}
+use Rattle.simplex_spec.specs.Courses.{Rule}
 use Rattle.frac128.specs.declared.Frac.{Frac}
 use Rattle.simplex.specs.declared.answer.Answer.{Answer}
 use Rattle.simplex.specs.declared.answer.Answer.TheVariants.{Best, NoSolution, Leaves}

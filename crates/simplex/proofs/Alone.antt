@@ -1,7 +1,7 @@
 -- The one row that bounds a column.
 use Rattle.std.proofs.Common.{◌≡◌, refl, sym, subst, ℕ, ◌≤◌, arith, List, [], ◌∷◌, length, get_or, inl}
 use Rattle.frac128.specs.declared.Frac.{Frac}
-use Rattle.frac_rows.specs.Entries.{Entries}
+use Rattle.simplex_rows.specs.Entries.{Entries}
 use Rattle.simplex.specs.Ties.{AreBounding, IsRatio, AreTied, IsExiting, columns_to}
 use Rattle.simplex.proofs.Narrowing.{Narrowed, narrowed_first, columns_first, search_ends}
 use Rattle.simplex.proofs.Tying.{none_tied, tied_more}

@@ -1,8 +1,8 @@
 -- An answer by one rule is an answer by every rule that answers as much.
 use Rattle.std.proofs.Common.{ℕ, List, [], ◌∷◌, ℤ, Option}
 use Rattle.linear_rows.specs.Systems.{LinearSystem}
-use Rattle.tableau.specs.Tableaux.{Tableau, pivot, opening}
-use Rattle.tableau.specs.Courses.{Rule, FollowsFrom, Refuses, AtOpening, AtPivot}
+use Rattle.simplex_spec.specs.Tableaux.{Tableau, pivot, opening}
+use Rattle.simplex_spec.specs.Courses.{Rule, FollowsFrom, Refuses, AtOpening, AtPivot}
 use Rattle.simplex.specs.declared.answer.Answer.{Answer}
 use Rattle.simplex.specs.declared.answer.Answer.TheVariants.{Best, NoSolution, Leaves}
 use Rattle.simplex.specs.Solving.{IsAnswer}

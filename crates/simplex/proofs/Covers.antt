@@ -7,12 +7,12 @@ use Rattle.raml_num.proofs.Differences.{diffs, diff-pos, is_diff, diff_same}
 use Rattle.raml_num.proofs.Signed.{cancelled}
 use Rattle.frac128.specs.declared.Frac.{Frac}
 use Rattle.frac128.specs.Values.{IsQuotient}
-use Rattle.frac_rows.specs.Entries.{Entries, at, columns_of, IsLess}
+use Rattle.simplex_rows.specs.Entries.{Entries, at, columns_of, IsLess}
 use Rattle.simplex.specs.Among.{Among}
 use Rattle.simplex.specs.Standing.{entries_at, AreTouching, IsPivoted}
 use Rattle.simplex.specs.Covering.{IsMarked, Cover, Grow, HasOne}
 use Rattle.simplex.proofs.Marks.{inside, apart}
-use Rattle.tableau.proofs.Pivoting.{same_or_not}
+use Rattle.simplex_spec.proofs.Pivoting.{same_or_not}
 
 gone : (a : ℤ) (d : ℕ) → 0 < d → a *ℤ pos d ≡ pos 0 → a ≡ pos 0
 gone a d h e = cancelled (pos d) a (pos 0) (λ z. omega (arith, ints)) (turned a d ∙ e ∙ nothing d)

@@ -8,11 +8,11 @@ use Rattle.raml_num.proofs.Signed.{cancelled}
 use Rattle.frac128.specs.declared.Frac.{Frac}
 use Rattle.frac128.specs.Values.{numerator, denominator, IsQuotient}
 use Rattle.frac128.specs.Nought.{nought}
-use Rattle.frac_rows.specs.Entries.{Entries, at, IsLess, LessLeaves, SparseFrom}
-use Rattle.frac_rows.proofs.Differing.{less_nothing}
-use Rattle.frac_rows.proofs.Finding.{present}
-use Rattle.tableau.specs.Places as places
-use Rattle.tableau.proofs.Pivoting.{same_or_not}
+use Rattle.simplex_rows.specs.Entries.{Entries, at, IsLess, LessLeaves, SparseFrom}
+use Rattle.simplex_rows.proofs.Differing.{less_nothing}
+use Rattle.simplex_rows.proofs.Finding.{present}
+use Rattle.simplex_spec.specs.Places as places
+use Rattle.simplex_spec.proofs.Pivoting.{same_or_not}
 use Rattle.simplex.specs.Dense.{dense_from, dense}
 use Rattle.simplex.specs.Reading.{frac_at, HaveParts}
 use Rattle.simplex.specs.Standing.{RowStands, IsSwept, SweepLeaves}

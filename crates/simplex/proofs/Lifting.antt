@@ -10,8 +10,8 @@ use Rattle.raml_num.proofs.Multiples.{is_lcm}
 use Rattle.frac128.specs.declared.Frac.{Frac}
 use Rattle.frac128.specs.Order.{same_parts}
 use Rattle.frac128.specs.Values.{IsProduct, IsQuotient, IsDifference, PartsFit}
-use Rattle.frac_rows.specs.Entries.{IsLess, LessLeaves, QuotientLeaves}
-use Rattle.tableau.specs.Refusals.{IsFraction, NoFraction, DifferenceLeaves}
+use Rattle.simplex_rows.specs.Entries.{IsLess, LessLeaves, QuotientLeaves}
+use Rattle.simplex_spec.specs.Refusals.{IsFraction, NoFraction, DifferenceLeaves}
 use Rattle.simplex.specs.Standing.{Stands}
 
 positive : (n : ℕ) → 0 < n → pos n ≡ pos 0 → ⊥

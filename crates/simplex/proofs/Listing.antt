@@ -5,7 +5,7 @@ use lib.ListN.{length-append}
 use Rattle.frac128.specs.declared.Frac.{Frac}
 use Rattle.frac128.specs.Values.{numerator, denominator}
 use Rattle.frac128.specs.Nought.{nought}
-use Rattle.frac_rows.specs.Entries.{Entries, at, SparseFrom}
+use Rattle.simplex_rows.specs.Entries.{Entries, at, SparseFrom}
 use Rattle.simplex.specs.Reading.{frac_at, column_at, HaveParts, NoneTwice, IsSpreadTo}
 use Rattle.simplex.proofs.Rows.{earlier_or_here}
 

@@ -5,12 +5,12 @@ use mathlib.Core.Bool.{false≢true}
 use Rattle.std.proofs.lemmas.Nat.{mul-le}
 use Rattle.std.proofs.lemmas.List.{take_all, length-set, get_or-set_same, get_or-set_other}
 use Rattle.frac128.specs.declared.Frac.{Frac}
-use Rattle.frac_rows.specs.Entries.{Entries, at, columns_of}
+use Rattle.simplex_rows.specs.Entries.{Entries, at, columns_of}
 use Rattle.simplex.specs.Among.{Among}
 use Rattle.simplex.specs.Standing.{entries_at}
 use Rattle.simplex.specs.Covering.{HasMark, IsMarked, Grow, Clears, HasOne}
 use Rattle.simplex.proofs.Rows.{row_is, among_take, among_taken, among_take_more, earlier_or_here}
-use Rattle.tableau.proofs.Pivoting.{same_or_not}
+use Rattle.simplex_spec.proofs.Pivoting.{same_or_not}
 
 -- Places
 

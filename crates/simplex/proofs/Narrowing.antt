@@ -11,13 +11,13 @@ use Rattle.raml_num.proofs.Signed.{cancelled, natural, lt_mul, lt_cancel}
 use Rattle.frac128.specs.declared.Frac.{Frac}
 use Rattle.frac128.specs.Values.{IsQuotient}
 use Rattle.frac128.specs.Nought.{nought}
-use Rattle.frac_rows.specs.Entries.{Entries, at}
+use Rattle.simplex_rows.specs.Entries.{Entries, at}
 use Rattle.linear_rows.specs.Vectors.{scale}
-use Rattle.tableau.specs.Places.{row_at, at_each, counted}
-use Rattle.tableau.specs.Places as places
-use Rattle.tableau.specs.Tableaux.{Tableau, LexAtMost, IsLeastRow}
-use Rattle.tableau.specs.Refusals.{NoFraction, IsCompared}
-use Rattle.tableau.proofs.Pivoting.{above, same_or_not}
+use Rattle.simplex_spec.specs.Places.{row_at, at_each, counted}
+use Rattle.simplex_spec.specs.Places as places
+use Rattle.simplex_spec.specs.Tableaux.{Tableau, LexAtMost, IsLeastRow}
+use Rattle.simplex_spec.specs.Refusals.{NoFraction, IsCompared}
+use Rattle.simplex_spec.proofs.Pivoting.{above, same_or_not}
 use Rattle.simplex.specs.Standing.{Stands, RowsStand, entries_at}
 use Rattle.simplex.specs.Among.{Among, AllDiffer}
 use Rattle.simplex.specs.Ties.{IsBounding, AreBounding, IsRatio, AreTied, RatioLeaves, IsExiting, SearchLeaves, columns_to}

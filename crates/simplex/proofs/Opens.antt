@@ -3,23 +3,23 @@ use Rattle.std.proofs.Common.{◌*ℤ◌, ◌≡◌, ◌≢◌, refl, sym, ap, s
 use Rattle.frac128.specs.declared.Frac.{Frac}
 use Rattle.frac128.specs.Values.{numerator, denominator}
 use Rattle.frac128.specs.Nought.{nought}
-use Rattle.frac_rows.specs.Entries.{Entries, at, EndsBefore}
+use Rattle.simplex_rows.specs.Entries.{Entries, at, EndsBefore}
 use Rattle.linear_rows.specs.Terms.{Terms, SparseRow, coefficient, unknown_at, number_at, IsSparse}
 use Rattle.linear_rows.proofs.Places.{coefficient_at as coefficient_of}
-use Rattle.tableau.specs.Places as places
+use Rattle.simplex_spec.specs.Places as places
 use Rattle.std.proofs.lemmas.Bool.Decides.{nat_tests}
 use Rattle.linear_rows.specs.Systems.{LinearSystem, AllBelow}
 use Rattle.std.proofs.lemmas.List.{take_all}
 use lib.ListN.{length-append}
-use Rattle.tableau.specs.Tableaux.{right, opening_row, opening, entry}
-use Rattle.tableau.specs.Refusals.{least_number}
-use Rattle.tableau.proofs.Opening.{coefficients, at_slack, at_right, only_here, only_there, at-front, length-map, length-opening_row, length-opened, row_opened, value_at_slack}
+use Rattle.simplex_spec.specs.Tableaux.{right, opening_row, opening, entry}
+use Rattle.simplex_spec.specs.Refusals.{least_number}
+use Rattle.simplex_spec.proofs.Opening.{coefficients, at_slack, at_right, only_here, only_there, at-front, length-map, length-opening_row, length-opened, row_opened, value_at_slack}
 use Rattle.simplex.specs.Standing.{Stands, RowStands, RowsStand, entries_at}
 use Rattle.simplex.proofs.Steps.{entry_in, entry_last}
 use Rattle.simplex.proofs.Rows.{value_of}
 use Rattle.simplex.proofs.Sweeping.{here, there, length-slice_set}
 use Rattle.simplex.specs.Opening.{AddsWhole, OpensTo, OpeningLeaves, AreEmpty, AddsInRow, AddsColumn, ColumnsOpen}
-use Rattle.tableau.proofs.Pivoting.{same_or_not}
+use Rattle.simplex_spec.proofs.Pivoting.{same_or_not}
 use Rattle.simplex.specs.Dense.{dense}
 use Rattle.simplex.specs.Reading.{frac_at, HaveParts}
 use Rattle.simplex.proofs.Gains.{at_dense, past}

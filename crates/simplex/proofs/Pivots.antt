@@ -2,14 +2,14 @@
 use Rattle.std.proofs.Common.{◌≡◌, refl, sym, subst, ◌∙◌, ℕ, ◌<◌, ℤ, ◌*ℤ◌, arith, List, length, inl, inr}
 use Rattle.frac128.specs.declared.Frac.{Frac}
 use Rattle.frac128.specs.Values.{IsQuotient}
-use Rattle.frac_rows.specs.Entries.{Entries, at}
-use Rattle.tableau.specs.Places as places
-use Rattle.tableau.specs.Places.{row_at, swept}
-use Rattle.tableau.specs.Tableaux.{Tableau, pivot, sweep}
-use Rattle.tableau.proofs.Rows.{at-scale, at-swept, wide_at}
-use Rattle.tableau.proofs.Pivoting.{same_or_not, length_after, lead_after, row_after}
-use Rattle.tableau.proofs.Ending.{Good}
-use Rattle.tableau.proofs.Opening.{width}
+use Rattle.simplex_rows.specs.Entries.{Entries, at}
+use Rattle.simplex_spec.specs.Places as places
+use Rattle.simplex_spec.specs.Places.{row_at, swept}
+use Rattle.simplex_spec.specs.Tableaux.{Tableau, pivot, sweep}
+use Rattle.simplex_spec.proofs.Rows.{at-scale, at-swept, wide_at}
+use Rattle.simplex_spec.proofs.Pivoting.{same_or_not, length_after, lead_after, row_after}
+use Rattle.simplex_spec.proofs.Ending.{Good}
+use Rattle.simplex_spec.proofs.Opening.{width}
 use Rattle.linear_rows.specs.Systems.{LinearSystem}
 use Rattle.linear_rows.specs.Vectors.{scale}
 use Rattle.simplex.specs.Standing.{Stands, RowStands, RowsStand, IsSwept, RowsSwept, entries_at}

@@ -1,11 +1,11 @@
 -- Rows by their numbers, and lists of these.
 use Rattle.std.proofs.Common.{◌≡◌, ◌≢◌, refl, sym, ap, subst, ◌∙◌, ℕ, zero, suc, ◌+◌, ◌<◌, ◌≤◌, ℤ, pos, ◌<ℤ◌, ◌≤ℤ◌, arith, List, [], ◌∷◌, ◌++◌, length, get_or, take, ◌⊎◌, inl, inr}
 use Rattle.std.proofs.lemmas.Int.{ints}
-use Rattle.frac_rows.specs.Entries.{Entries, at}
+use Rattle.simplex_rows.specs.Entries.{Entries, at}
 use Rattle.simplex.specs.Among.{Among, AllDiffer}
 use Rattle.simplex.specs.Standing.{entries_at, AreTouching}
 use Rattle.simplex.specs.Ties.{IsBounding, AreBounding}
-use Rattle.tableau.proofs.Pivoting.{same_or_not}
+use Rattle.simplex_spec.proofs.Pivoting.{same_or_not}
 
 pub among_front : (i : ℕ) (xs ys : List ℕ) → Among i xs → Among i (xs ++ ys)
 among_front i [] ys a = absurd a

@@ -5,18 +5,18 @@ use Rattle.std.specs.declared.alloc.AllocError.{AllocError}
 use Rattle.frac128.specs.declared.Frac.{Frac}
 use Rattle.frac128.specs.Values.{numerator, denominator}
 use Rattle.frac128.specs.Nought.{nought}
-use Rattle.frac_rows.specs.Entries.{Entries, at}
+use Rattle.simplex_rows.specs.Entries.{Entries, at}
 use Rattle.linear_rows.specs.Systems.{LinearSystem, IsSystem}
 use Rattle.linear_rows.specs.Terms.{SparseRow}
-use Rattle.tableau.specs.Places.{row_at}
-use Rattle.tableau.specs.Places as places
-use Rattle.tableau.specs.Tableaux.{Tableau, right, opening, pivot, entry, compared}
-use Rattle.tableau.specs.Refusals.{least_number, Refused, InSearch, InExitingRow, InProduct, InDifference}
-use Rattle.tableau.specs.Courses.{Rule, Enters, Leads, Course, Ends, Rises, Follows, FollowsFrom, Answers, Refuses, AtPivot}
-use Rattle.tableau.proofs.Opening.{length-opened, width}
-use Rattle.tableau.proofs.Ending.{Good, good_course}
-use Rattle.tableau.proofs.Rows.{wide_at}
-use Rattle.tableau.proofs.Agreeing.{course_ends}
+use Rattle.simplex_spec.specs.Places.{row_at}
+use Rattle.simplex_spec.specs.Places as places
+use Rattle.simplex_spec.specs.Tableaux.{Tableau, right, opening, pivot, entry, compared}
+use Rattle.simplex_spec.specs.Refusals.{least_number, Refused, InSearch, InExitingRow, InProduct, InDifference}
+use Rattle.simplex_spec.specs.Courses.{Rule, Enters, Leads, Course, Ends, Rises, Follows, FollowsFrom, Answers, Refuses, AtPivot}
+use Rattle.simplex_spec.proofs.Opening.{length-opened, width}
+use Rattle.simplex_spec.proofs.Ending.{Good, good_course}
+use Rattle.simplex_spec.proofs.Rows.{wide_at}
+use Rattle.simplex_spec.proofs.Agreeing.{course_ends}
 use Rattle.simplex.specs.Standing.{Stands, RowStands, RowsStand, IsPivoted, PivotLeaves, entries_at}
 use Rattle.simplex.specs.Ties.{IsBounding, IsExiting, SearchLeaves}
 use Rattle.simplex.specs.Choosing.{Chooses}

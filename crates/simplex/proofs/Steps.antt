@@ -1,16 +1,16 @@
 -- A step of the code, as a step of a course.
 use Rattle.std.proofs.Common.{◌≡◌, ◌≢◌, refl, sym, ap, subst, ◌∙◌, ℕ, zero, suc, ◌+◌, ◌-◌, ◌<◌, ◌≤◌, ℤ, pos, ◌*ℤ◌, ◌<ℤ◌, arith, List, [], ◌∷◌, ◌++◌, length, ◌⊎◌, inl, inr}
-use Rattle.frac_rows.specs.Entries.{Entries, at}
+use Rattle.simplex_rows.specs.Entries.{Entries, at}
 use Rattle.linear_rows.specs.Systems.{LinearSystem, IsSystem}
-use Rattle.tableau.specs.Places.{row_at, counted}
-use Rattle.tableau.specs.Places as places
-use Rattle.tableau.specs.Tableaux.{Tableau, right, opening, pivot, entry, compared, Exits}
-use Rattle.tableau.specs.Refusals.{NoFraction, DifferenceLeaves, Refused, InSearch, InExitingRow, InProduct, InDifference}
-use Rattle.tableau.specs.Courses.{Enters, IsPivot, Leads, Course}
-use Rattle.tableau.proofs.Pivoting.{above}
-use Rattle.tableau.proofs.Rows.{wide_at}
-use Rattle.tableau.proofs.Opening.{width}
-use Rattle.tableau.proofs.Ending.{Good, good_course, one_row_exits}
+use Rattle.simplex_spec.specs.Places.{row_at, counted}
+use Rattle.simplex_spec.specs.Places as places
+use Rattle.simplex_spec.specs.Tableaux.{Tableau, right, opening, pivot, entry, compared, Exits}
+use Rattle.simplex_spec.specs.Refusals.{NoFraction, DifferenceLeaves, Refused, InSearch, InExitingRow, InProduct, InDifference}
+use Rattle.simplex_spec.specs.Courses.{Enters, IsPivot, Leads, Course}
+use Rattle.simplex_spec.proofs.Pivoting.{above}
+use Rattle.simplex_spec.proofs.Rows.{wide_at}
+use Rattle.simplex_spec.proofs.Opening.{width}
+use Rattle.simplex_spec.proofs.Ending.{Good, good_course, one_row_exits}
 use Rattle.simplex.specs.Standing.{Stands, RowStands, TableStands, IsSwept, SweepLeaves, IsPivoted, PivotLeaves, InLead, InRow, InGains, entries_at}
 use Rattle.simplex.specs.Ties.{IsExiting, SearchLeaves, columns_to}
 use Rattle.simplex.proofs.Lifting.{no_quotient, less_refused, product_is_there, difference_is_there, quotient_is_there}

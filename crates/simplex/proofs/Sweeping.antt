@@ -3,13 +3,13 @@ use Rattle.std.proofs.Common.{◌≡◌, ◌≢◌, refl, sym, ap, subst, ◌∙
 use Rattle.std.proofs.lemmas.Int.{ints}
 use Rattle.frac128.specs.declared.Frac.{Frac}
 use Rattle.frac128.specs.Values.{IsQuotient}
-use Rattle.frac_rows.specs.Entries.{Entries, at, IsLess, LessLeaves, QuotientLeaves}
-use Rattle.frac_rows.proofs.Differing.{less_none}
-use Rattle.frac_rows.specs.declared.fault.RowFault.{RowFault}
+use Rattle.simplex_rows.specs.Entries.{Entries, at, IsLess, LessLeaves, QuotientLeaves}
+use Rattle.simplex_rows.proofs.Differing.{less_none}
+use Rattle.simplex_rows.specs.declared.fault.RowFault.{RowFault}
 use Rattle.simplex.specs.Among.{Among, AllDiffer}
 use Rattle.simplex.proofs.Rows.{among_or_not, among_take, among_taken, among_take_more, not_yet, take_whole, value_of}
 use Rattle.simplex.specs.Standing.{entries_at, IsSwept, SweepLeaves, AreTouching, AmongSwept, RowLeaves, IsPivoted, PivotLeaves, InLead, InRow, InGains}
-use Rattle.tableau.proofs.Pivoting.{same_or_not}
+use Rattle.simplex_spec.proofs.Pivoting.{same_or_not}
 
 pub here : (rows : List Entries) (i : ℕ) (x : Entries) → i < length rows → entries_at (slice_set rows i x) i ≡ x
 here [] i x h = absurd (omega arith)

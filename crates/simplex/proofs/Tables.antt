@@ -5,28 +5,28 @@ use Rattle.raml_num.proofs.Differences.{diffs, diff-pos, is_diff, diff_same}
 use Rattle.frac128.specs.declared.Frac.{Frac}
 use Rattle.frac128.specs.Values.{numerator, denominator}
 use Rattle.frac128.specs.Nought.{nought}
-use Rattle.frac_rows.specs.Entries.{Entries, at}
+use Rattle.simplex_rows.specs.Entries.{Entries, at}
 use Rattle.linear_rows.specs.Systems.{LinearSystem, IsSystem}
 use Rattle.linear_rows.specs.Vectors.{plus}
-use Rattle.tableau.specs.Places.{row_at, at_each, column, counted, only, spread}
-use Rattle.tableau.specs.Places as places
-use Rattle.tableau.specs.Tableaux.{Tableau, right, slacks, opening, solution, dual, ray}
-use Rattle.tableau.proofs.Rows.{at-zeros, length-column}
-use Rattle.tableau.proofs.Opening.{length-only, only_here, only_there, length-map, length-counted}
-use Rattle.tableau.proofs.Reading.{length-spread}
+use Rattle.simplex_spec.specs.Places.{row_at, at_each, column, counted, only, spread}
+use Rattle.simplex_spec.specs.Places as places
+use Rattle.simplex_spec.specs.Tableaux.{Tableau, right, slacks, opening, solution, dual, ray}
+use Rattle.simplex_spec.proofs.Rows.{at-zeros, length-column}
+use Rattle.simplex_spec.proofs.Opening.{length-only, only_here, only_there, length-map, length-counted}
+use Rattle.simplex_spec.proofs.Reading.{length-spread}
 use Rattle.linear_rows.proofs.Duality.{least}
 use Rattle.linear_rows.proofs.Proportions.{agree as proportional}
 use Rattle.simplex.proofs.Wholes.{in_proportion}
-use Rattle.tableau.proofs.Ending.{Good, good_course}
-use Rattle.tableau.proofs.Agreeing.{ends_least, rise_refutes}
-use Rattle.tableau.specs.Courses.{Rule, Course, Follows}
+use Rattle.simplex_spec.proofs.Ending.{Good, good_course}
+use Rattle.simplex_spec.proofs.Agreeing.{ends_least, rise_refutes}
+use Rattle.simplex_spec.specs.Courses.{Rule, Course, Follows}
 use Rattle.simplex.specs.Standing.{Stands, RowStands, RowsStand, entries_at}
 use Rattle.simplex.specs.Reading.{AreOver, HaveParts, NoneTwice, IsSpreadTo, frac_at, column_at}
 use Rattle.simplex.specs.Dense.{dense}
 use Rattle.simplex.specs.declared.table.Table.{Table}
 use Rattle.simplex.specs.Solving.{IsAfter, IsAt, IsOpening, Reached, ReachedEnd, ReachedRise, IsBest, IsRefuted}
 use Rattle.simplex.proofs.Solves.{stands_with, opening_after, fewer}
-use Rattle.tableau.proofs.Pivoting.{same_or_not}
+use Rattle.simplex_spec.proofs.Pivoting.{same_or_not}
 
 -- the numbers of a spread list
 at-plus : (xs ys : List ℤ) (c : ℕ) → length xs ≡ length ys → places.at (plus xs ys) c ≡ places.at xs c +ℤ places.at ys c

@@ -6,7 +6,7 @@ use Rattle.std.specs.declared.cmp.Ordering.{Ordering}
 use Rattle.std.specs.declared.cmp.Ordering.TheVariants.{Less, Equal, Greater}
 use Rattle.frac128.specs.declared.Frac.{Frac}
 use Rattle.frac128.specs.Order.{order_of, order_is_total, same_parts}
-use Rattle.frac_rows.specs.Entries.{Entries}
+use Rattle.simplex_rows.specs.Entries.{Entries}
 use Rattle.simplex.proofs.Rows.{among_front, among_last, among_either, differ_front, differ_last, differ_more, among_or_not}
 use Rattle.simplex.specs.Among.{Among}
 use Rattle.simplex.specs.Ties.{IsRatio, AreTied, Keeps, KeepsBy}

@@ -1,7 +1,7 @@
 -- For each column, marks at the rows that may have a number there: column after column, h places each.
 use Rattle.std.specs.Prelude.{◌≡◌, ◌≢◌, ℕ, ◌<◌, ◌≤◌, ◌+◌, ◌*◌, Bool, true, false, List, length, slice_index_or, pos, ◌⊎◌}
 use Rattle.frac128.specs.Values.{numerator}
-use Rattle.frac_rows.specs.Entries.{Entries, at}
+use Rattle.simplex_rows.specs.Entries.{Entries, at}
 use Rattle.simplex.specs.Among.{Among}
 use Rattle.simplex.specs.Standing.{entries_at}
 

@@ -1,7 +1,7 @@
 -- Fractions that stand in the places of their columns.
 use Rattle.std.specs.Prelude.{ℕ, suc, List, [], ◌∷◌}
 use Rattle.frac128.specs.declared.Frac.{Frac}
-use Rattle.frac_rows.specs.Entries.{Entries}
+use Rattle.simplex_rows.specs.Entries.{Entries}
 
 abbrev pub dense_from : ℕ → List Frac → Entries
 dense_from b [] = []

@@ -1,10 +1,10 @@
 -- Steps on rows of fractions are steps of a course.
 use Rattle.std.specs.Prelude.{ℕ, List, [], ◌∷◌, ◌++◌}
-use Rattle.frac_rows.specs.Entries.{Entries}
+use Rattle.simplex_rows.specs.Entries.{Entries}
 use Rattle.linear_rows.specs.Systems.{LinearSystem, IsSystem}
-use Rattle.tableau.specs.Tableaux.{Tableau, pivot, compared}
-use Rattle.tableau.specs.Refusals.{Refused}
-use Rattle.tableau.specs.Courses.{Enters, Course}
+use Rattle.simplex_spec.specs.Tableaux.{Tableau, pivot, compared}
+use Rattle.simplex_spec.specs.Refusals.{Refused}
+use Rattle.simplex_spec.specs.Courses.{Enters, Course}
 use Rattle.simplex.specs.Standing.{TableStands, IsPivoted, PivotLeaves}
 use Rattle.simplex.specs.Ties.{IsExiting, SearchLeaves}
 

@@ -1,10 +1,10 @@
 -- Rows of whole numbers, made column by column.
 use Rattle.std.specs.Prelude.{◌≡◌, ◌≢◌, ℕ, ◌+◌, ◌<◌, List, [], length, map, ℤ, pos}
 use Rattle.frac128.specs.Values.{numerator, denominator}
-use Rattle.frac_rows.specs.Entries.{Entries, at, EndsBefore}
+use Rattle.simplex_rows.specs.Entries.{Entries, at, EndsBefore}
 use Rattle.linear_rows.specs.Terms.{Terms, SparseRow, coefficient}
-use Rattle.tableau.specs.Places as places
-use Rattle.tableau.specs.Refusals.{least_number}
+use Rattle.simplex_spec.specs.Places as places
+use Rattle.simplex_spec.specs.Refusals.{least_number}
 use Rattle.simplex.specs.Standing.{Stands, entries_at}
 
 -- new has n over 1 at column c, and as old at the others

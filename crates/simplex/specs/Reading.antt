@@ -3,7 +3,7 @@ use Rattle.std.specs.Prelude.{◌≡◌, ℕ, ◌<◌, List, length, ℤ, pos, s
 use Rattle.frac128.specs.declared.Frac.{Frac}
 use Rattle.frac128.specs.Values.{numerator, denominator}
 use Rattle.frac128.specs.Nought.{nought}
-use Rattle.tableau.specs.Places as places
+use Rattle.simplex_spec.specs.Places as places
 use Rattle.simplex.specs.Standing.{Stands}
 
 abbrev pub frac_at : List Frac → ℕ → Frac

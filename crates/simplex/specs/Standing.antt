@@ -2,10 +2,10 @@
 use Rattle.std.specs.Prelude.{◌≡◌, ◌≢◌, ℕ, ◌<◌, List, [], length, ℤ, pos, ◌*ℤ◌, slice_index_or}
 use Rattle.frac128.specs.declared.Frac.{Frac}
 use Rattle.frac128.specs.Values.{numerator, denominator, IsQuotient}
-use Rattle.frac_rows.specs.Entries.{Entries, at, IsLess, LessLeaves, QuotientLeaves}
-use Rattle.tableau.specs.Places.{row_at}
-use Rattle.tableau.specs.Places as places
-use Rattle.tableau.specs.Tableaux.{Tableau}
+use Rattle.simplex_rows.specs.Entries.{Entries, at, IsLess, LessLeaves, QuotientLeaves}
+use Rattle.simplex_spec.specs.Places.{row_at}
+use Rattle.simplex_spec.specs.Places as places
+use Rattle.simplex_spec.specs.Tableaux.{Tableau}
 use Rattle.simplex.specs.Among.{Among, AllDiffer}
 
 -- x is n over d

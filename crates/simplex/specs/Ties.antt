@@ -5,11 +5,11 @@ use Rattle.std.specs.declared.cmp.Ordering.TheVariants.{Less, Equal, Greater}
 use Rattle.frac128.specs.declared.Frac.{Frac}
 use Rattle.frac128.specs.Order.{order_of}
 use Rattle.frac128.specs.Values.{numerator, IsQuotient}
-use Rattle.frac_rows.specs.Entries.{Entries, at, QuotientLeaves}
-use Rattle.tableau.specs.Places.{row_at, counted}
-use Rattle.tableau.specs.Places as places
-use Rattle.tableau.specs.Tableaux.{Tableau, IsLeastRow}
-use Rattle.tableau.specs.Refusals.{NoFraction, IsCompared}
+use Rattle.simplex_rows.specs.Entries.{Entries, at, QuotientLeaves}
+use Rattle.simplex_spec.specs.Places.{row_at, counted}
+use Rattle.simplex_spec.specs.Places as places
+use Rattle.simplex_spec.specs.Tableaux.{Tableau, IsLeastRow}
+use Rattle.simplex_spec.specs.Refusals.{NoFraction, IsCompared}
 use Rattle.simplex.specs.Among.{Among, AllDiffer}
 use Rattle.simplex.specs.Standing.{entries_at, RowsStand}
 

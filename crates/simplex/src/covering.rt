@@ -3,12 +3,12 @@
 
 ghost use Rattle.std.specs.Prelude.{◌≡◌, ◌<◌, ◌≤◌, ◌+◌, ◌*◌, ◌^◌, [], ◌∷◌, true, length, slice_set, IfOk, OnOk};
 ghost use Rattle.std.specs.Option.{SomeIff};
-ghost use Rattle.frac_rows.specs.Entries.{columns_of};
+ghost use Rattle.simplex_rows.specs.Entries.{columns_of};
 ghost use Rattle.simplex.specs.Standing.{AreTouching};
 ghost use Rattle.simplex.specs.Covering.{Cover, IsCovered, Grow, Clears, HasOne, Follows};
 
-use frac_rows::FracRow;
 use frac128::Frac;
+use simplex_rows::FracRow;
 use std::alloc::{AllocError, Global};
 
 /// For each of the first columns, marks at the rows that have a number there.

@@ -4,14 +4,14 @@ ghost use Rattle.std.specs.Prelude.{◌≡◌, ◌<◌, ◌≤◌, ◌<ℤ◌, �
 ghost use Rattle.frac128.specs.Values.{numerator, IsQuotient};
 ghost use Rattle.frac128.specs.declared.Frac.{Frac};
 ghost use Rattle.frac128.specs.Nought.{nought};
-ghost use Rattle.frac_rows.specs.Entries.{at, QuotientLeaves};
+ghost use Rattle.simplex_rows.specs.Entries.{at, QuotientLeaves};
 ghost use Rattle.simplex.specs.Among.{Among};
 ghost use Rattle.simplex.specs.Standing.{entries_at, AreTouching};
 ghost use Rattle.simplex.specs.Ties.{IsBounding, AreBounding, AreTied, RatioLeaves, Keeps, ratio_order, IsExiting, SearchLeaves, columns_to};
 
 use crate::fault::Fault;
-use frac_rows::FracRow;
 use frac128::Frac;
+use simplex_rows::FracRow;
 use std::alloc::{AllocError, Global};
 use std::cmp::Ordering;
 

@@ -2,7 +2,7 @@
 
 ghost use Rattle.std.specs.Prelude.{◌≡◌, ℕ};
 
-use frac_rows::RowFault;
+use simplex_rows::RowFault;
 use std::alloc::{AllocError, AllocFailed};
 
 /// Why a step of the tableau was not made.

@@ -2,12 +2,12 @@
 
 ghost use Rattle.std.specs.Prelude.{◌≡◌, ◌<◌, ◌≤◌, ◌+◌, ◌^◌, ℕ, length, map, pos, neg_ℤ, OnOk, IfOk, IfErr};
 ghost use Rattle.frac128.specs.Values.{numerator, denominator};
-ghost use Rattle.frac_rows.specs.Entries.{EndsBefore};
+ghost use Rattle.simplex_rows.specs.Entries.{EndsBefore};
 ghost use Rattle.linear_rows.specs.Terms.{coefficient, IsSparse};
 ghost use Rattle.linear_rows.specs.Systems.{AllBelow};
-ghost use Rattle.tableau.specs.Tableaux.{opening_row, opening, right, entry};
-ghost use Rattle.tableau.specs.Places as places;
-ghost use Rattle.tableau.specs.Refusals.{least_number};
+ghost use Rattle.simplex_spec.specs.Tableaux.{opening_row, opening, right, entry};
+ghost use Rattle.simplex_spec.specs.Places as places;
+ghost use Rattle.simplex_spec.specs.Refusals.{least_number};
 ghost use Rattle.simplex.specs.Standing.{entries_at, RowStands, RowsStand};
 ghost use Rattle.simplex.specs.Dense.{dense};
 ghost use Rattle.simplex.specs.Reading.{HaveParts};
@@ -15,9 +15,9 @@ ghost use Rattle.simplex.specs.Opening.{AddsWhole, OpensTo, OpeningLeaves, AreEm
 
 use crate::fault::{Fault, in_row};
 use crate::reading::zeros;
-use frac_rows::{FracRow, RowFault};
 use frac128::Frac;
 use linear_rows::{Row, System};
+use simplex_rows::{FracRow, RowFault};
 use std::alloc::{AllocError, Global};
 
 /// So many fractions a row has room for from the start.

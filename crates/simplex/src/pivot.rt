@@ -2,14 +2,14 @@
 
 ghost use Rattle.std.specs.Prelude.{◌≡◌, ◌≢◌, ◌<◌, ℕ, pos, length, IfOk, OnOk, true};
 ghost use Rattle.frac128.specs.Values.{numerator, IsQuotient};
-ghost use Rattle.frac_rows.specs.Entries.{at, QuotientLeaves};
+ghost use Rattle.simplex_rows.specs.Entries.{at, QuotientLeaves};
 ghost use Rattle.simplex.specs.Dense.{dense};
 ghost use Rattle.simplex.specs.Among.{Among, AllDiffer};
 ghost use Rattle.simplex.specs.Standing.{entries_at, IsSwept, SweepLeaves, AreTouching, AmongSwept, RowLeaves, IsPivoted, PivotLeaves};
 
 use crate::fault::{Fault, in_row};
-use frac_rows::{FracRow, RowFault, less};
 use frac128::Frac;
+use simplex_rows::{FracRow, RowFault, less};
 use std::alloc::Global;
 use std::mem;
 

@@ -2,12 +2,12 @@
 
 ghost use Rattle.std.specs.Prelude.{◌≡◌, ℕ, length, pos, neg_ℤ, IfOk};
 ghost use Rattle.frac128.specs.Values.{numerator, denominator};
-ghost use Rattle.frac_rows.specs.Entries.{at};
+ghost use Rattle.simplex_rows.specs.Entries.{at};
 ghost use Rattle.simplex.specs.Standing.{entries_at};
 ghost use Rattle.simplex.specs.Reading.{HaveParts, NoneTwice, IsSpreadTo, frac_at};
 
-use frac_rows::FracRow;
 use frac128::Frac;
+use simplex_rows::FracRow;
 use std::alloc::{AllocError, Global};
 
 /// The fractions of the rows at a column.

@@ -2,7 +2,7 @@
 
 ghost use Rattle.std.specs.Prelude.{◌≡◌, ◌<◌, ◌^◌, ℕ, length, IfOk};
 ghost use Rattle.std.specs.Fn.{FnReturnsAt};
-ghost use Rattle.tableau.specs.Tableaux.{right};
+ghost use Rattle.simplex_spec.specs.Tableaux.{right};
 ghost use Rattle.simplex.specs.Choosing.{IsChooser};
 ghost use Rattle.simplex.specs.Solving.{rule_of, Reached, IsReady, IsStep, IsAnswer, Agree};
 
@@ -14,9 +14,9 @@ use crate::fault::Fault;
 use crate::opening::ROOM;
 use crate::pivot::pivot;
 use crate::table::{Table, dual, opening, ray, solution};
-use frac_rows::FracRow;
 use frac128::Frac;
 use linear_rows::System;
+use simplex_rows::FracRow;
 use std::alloc::{AllocError, Global};
 
 /// What steps hand on beside the table: a row in which new rows are made, for each column before the right

@@ -1,19 +1,19 @@
 //! The table that the solver keeps, and the numbers that are read there.
 
 ghost use Rattle.std.specs.Prelude.{◌≡◌, ◌+◌, ◌<◌, ◌≤◌, ◌^◌, ◌∷◌, ℕ, length, IfOk, pos, ◌<ℤ◌};
-ghost use Rattle.tableau.specs.Tableaux.{Tableau, opening, right, solution, dual, ray, entry};
-ghost use Rattle.tableau.specs.Places.{counted};
-ghost use Rattle.tableau.specs.Places as places;
-ghost use Rattle.tableau.specs.Refusals.{least_number};
+ghost use Rattle.simplex_spec.specs.Tableaux.{Tableau, opening, right, solution, dual, ray, entry};
+ghost use Rattle.simplex_spec.specs.Places.{counted};
+ghost use Rattle.simplex_spec.specs.Places as places;
+ghost use Rattle.simplex_spec.specs.Refusals.{least_number};
 ghost use Rattle.simplex.specs.Reading.{NoneTwice, AreOver};
 ghost use Rattle.simplex.specs.Solving.{IsOpening, IsAt};
 
 use crate::fault::Fault;
 use crate::opening::{opening_gains, opening_rows};
 use crate::reading::{column_of, negated, spread};
-use frac_rows::FracRow;
 use frac128::Frac;
 use linear_rows::System;
+use simplex_rows::FracRow;
 use std::alloc::{AllocError, Global};
 
 /// A tableau as sparse rows and gains for all columns, with the basis column of each row, and the pivots that led

@@ -9,8 +9,7 @@ ghost use Rattle.stack_compile.specs.declared.instr.Instr.TheVariants.{Branch, T
 
 use crate::instr::Instr;
 use crate::scope::{Env, Scope};
-use function_names::FunctionNames;
-use raml_syntax::{ArithOp, Binder, Expr, Form, FunId, Name};
+use raml_syntax::{ArithOp, Binder, Expr, Form, FunId, FunctionNames, Name};
 use std::alloc::AllocError;
 
 /// Appends an instruction.

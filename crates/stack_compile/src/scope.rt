@@ -3,8 +3,7 @@ ghost use Rattle.std.specs.Prelude.{◌≡◌, length};
 ghost use Rattle.stack_compile.specs.Code.{local_of};
 ghost use Rattle.stack_compile.specs.Read.{names_in};
 
-use function_names::FunctionNames;
-use raml_syntax::Name;
+use raml_syntax::{FunctionNames, Name};
 
 /// The locals at hand, the newest outermost.
 #[derive(Clone, Copy)]

@@ -1,5 +1,5 @@
 use Rattle.std.proofs.Common.{subst}
-use Rattle.rule_plan.specs.Read.{program_in}
+use Rattle.rules_plan.specs.Read.{program_in}
 use Rattle.bound_infer.specs.Told.{claim_of}
 use Rattle.bound_infer.specs.declared.line.Line.{Line}
 use Rattle.analysis_report.specs.Lines.{Claims}

@@ -1,5 +1,5 @@
 use Rattle.share_normal.specs.Program.{source_in}
-use Rattle.rule_plan.specs.Read.{program_in}
+use Rattle.rules_plan.specs.Read.{program_in}
 use Rattle.analysis_report.proofs.Holding.{work_refused, floors_hold}
 use Rattle.analysis_report.proofs.bounds.floors_at.Goals as goal
 

@@ -2,7 +2,7 @@ use Rattle.std.proofs.Common.{◌≡◌, ◌<◌, length, ap, sym, ◌∙◌, ar
 use Rattle.std.proofs.lemmas.List.{length-map}
 use Rattle.raml_syntax.specs.Read.{function_of}
 use Rattle.share_normal.specs.Program.{source_in}
-use Rattle.rule_plan.specs.Read.{program_in}
+use Rattle.rules_plan.specs.Read.{program_in}
 use Rattle.analysis_report.specs.Lines.{lines_between}
 use Rattle.analysis_report.proofs.Listed.{next_listed, next_claims}
 use Rattle.analysis_report.proofs.listing.all_lines.Goals as goal

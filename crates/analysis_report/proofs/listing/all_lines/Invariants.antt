@@ -1,6 +1,6 @@
 use Rattle.std.proofs.Common.{◌≡◌, ◌++◌, ◌-◌, length}
 use Rattle.share_normal.specs.Program.{source_in}
-use Rattle.rule_plan.specs.Read.{program_in}
+use Rattle.rules_plan.specs.Read.{program_in}
 use Rattle.analysis_report.specs.Lines.{lines_between, AllClaim}
 use Rattle.analysis_report.proofs.listing.all_lines.Given as goal
 

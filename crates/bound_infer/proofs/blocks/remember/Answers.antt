@@ -5,8 +5,8 @@ use Rattle.annot_types.specs.Held.{IfSolved}
 use Rattle.annot_types.specs.Holds.{budget_of}
 use Rattle.annot_types.specs.Program.{members}
 use Rattle.annot_types.specs.Read.{body_of}
-use Rattle.earlier_blocks.specs.Sizes.{AreSizes}
-use Rattle.rule_plan.specs.Read.{program_in}
+use Rattle.rules_walk.specs.Sizes.{AreSizes}
+use Rattle.rules_plan.specs.Read.{program_in}
 use Rattle.bound_infer.proofs.blocks.remember.Goals as goal
 
 pub returns : goal.returns

@@ -1,11 +1,11 @@
 use Rattle.std.proofs.Common.{◌≡◌, ◌<◌, ap, sym, ◌∙◌, subst, length, take, arith, rules, Some}
 use Rattle.std.specs.Prelude.{slice_get}
 use Rattle.std.proofs.lemmas.List.{length-map}
-use Rattle.normal_form.specs.Two.{norm_fun}
+use Rattle.normal_spec.specs.Two.{norm_fun}
 use Rattle.share_normal.specs.Program.{source_in}
 use Rattle.annot_types.specs.Read.{block_of, blocks_of, certificate_of}
-use Rattle.rule_plan.specs.Read.{program_in}
-use Rattle.earlier_blocks.specs.Remembers.{Remembers}
+use Rattle.rules_plan.specs.Read.{program_in}
+use Rattle.rules_walk.specs.Remembers.{Remembers}
 use Rattle.bound_infer.proofs.Blocked.{clear_more, caused}
 use Rattle.bound_infer.proofs.Fronts.{item_there, front_more}
 use Rattle.bound_infer.proofs.blocks.verify_blocks.Goals as goal

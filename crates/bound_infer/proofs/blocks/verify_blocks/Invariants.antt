@@ -1,7 +1,7 @@
 use Rattle.annot_types.specs.Held.{before}
 use Rattle.annot_types.specs.Read.{certificate_of}
-use Rattle.rule_plan.specs.Read.{program_in}
-use Rattle.earlier_blocks.specs.Remembers.{Remembers}
+use Rattle.rules_plan.specs.Read.{program_in}
+use Rattle.rules_walk.specs.Remembers.{Remembers}
 use Rattle.bound_infer.specs.Cleared.{ClearBefore}
 use Rattle.bound_infer.proofs.blocks.verify_blocks.Given as goal
 

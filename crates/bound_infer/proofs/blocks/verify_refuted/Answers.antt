@@ -7,11 +7,11 @@ use Rattle.annot_types.specs.Certificate.{has_work}
 use Rattle.annot_types.specs.Held.{before, done_before}
 use Rattle.annot_types.specs.Read.{certificate_of}
 use Rattle.annot_types.specs.System.{system}
-use Rattle.walk_rules.specs.Systems.{IsTask}
-use Rattle.courses.specs.Generator.{limit_of}
-use Rattle.courses.specs.Verifying as v
-use Rattle.exact_systems.specs.Analysed.{generator_of}
-use Rattle.rule_plan.specs.Read.{program_in}
+use Rattle.rules_spec.specs.Systems.{IsTask}
+use Rattle.infer_spec.specs.Generator.{limit_of}
+use Rattle.infer_spec.specs.Verifying as v
+use Rattle.infer_systems_laws.specs.Analysed.{generator_of}
+use Rattle.rules_plan.specs.Read.{program_in}
 use Rattle.cert_check.proofs.Tasks.{task_is_low}
 use Rattle.bound_infer.specs.Cleared.{IsClear, OfFault, fault_of}
 use Rattle.bound_infer.proofs.Blocked.{faulty}

@@ -1,7 +1,7 @@
 use Rattle.std.proofs.Common.{Err, ap, sym, ◌∙◌, subst, map}
 use Rattle.annot_types.specs.Certificate.{Solved}
 use Rattle.annot_types.specs.Read.{sig_of, hints_of, body_of}
-use Rattle.courses.specs.Places.{BodyFits}
+use Rattle.infer_spec.specs.Places.{BodyFits}
 use Rattle.bound_infer.proofs.Mapped.{same_fault}
 use Rattle.bound_infer.proofs.body.multiply.Goals as goal
 

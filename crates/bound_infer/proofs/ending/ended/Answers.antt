@@ -3,9 +3,9 @@ use Rattle.annot_types.specs.Held.{Held}
 use Rattle.cert_check.specs.Finds.{FirstFault}
 use Rattle.cert_check.specs.Laws.{IsSmall}
 use Rattle.cert_check.specs.Read.{fault_of}
-use Rattle.courses.specs.Good.{AllRefuted}
-use Rattle.courses.specs.States.{certificate_of}
-use Rattle.rule_plan.specs.Read.{program_in}
+use Rattle.infer_spec.specs.Good.{AllRefuted}
+use Rattle.infer_spec.specs.States.{certificate_of}
+use Rattle.rules_plan.specs.Read.{program_in}
 use Rattle.cert_check.specs.Checked.{Checking}
 use Rattle.bound_infer.specs.Keeping.{state_of}
 use Rattle.bound_infer.proofs.Whole.{found_there}

@@ -1,6 +1,6 @@
 use Rattle.std.proofs.Common.{subst, arith}
 use Rattle.std.proofs.lemmas.List.Elements.{All-more}
-use Rattle.courses.specs.Places.{EntriesFit}
+use Rattle.infer_spec.specs.Places.{EntriesFit}
 use Rattle.bound_infer.proofs.Mapped.{all_of}
 use Rattle.bound_infer.proofs.fitting.annots_fit.Goals as goal
 

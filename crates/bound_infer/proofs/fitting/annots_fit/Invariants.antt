@@ -1,5 +1,5 @@
 use Rattle.std.proofs.Common.{All, take}
-use Rattle.courses.specs.Places.{EntriesFit}
+use Rattle.infer_spec.specs.Places.{EntriesFit}
 use Rattle.bound_infer.proofs.fitting.annots_fit.Given as goal
 
 abbrev pub invariant-loop-index : goal.invariant-loop-index

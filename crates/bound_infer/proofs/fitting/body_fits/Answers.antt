@@ -1,7 +1,7 @@
 use Rattle.std.proofs.Common.{◌∙◌, ap, sym, subst, map}
 use Rattle.annot_types.specs.Certificate.{Solved}
 use Rattle.annot_types.specs.Read.{sig_of, hints_of, body_of}
-use Rattle.courses.specs.Places.{BodyFits}
+use Rattle.infer_spec.specs.Places.{BodyFits}
 use Rattle.bound_infer.proofs.Bodies.{sigs_fit, hints_fit}
 use Rattle.bound_infer.proofs.fitting.body_fits.Goals as goal
 

@@ -1,7 +1,7 @@
 use Rattle.std.proofs.Common.{subst, arith}
 use Rattle.std.proofs.lemmas.List.Elements.{All-more}
 use Rattle.annot_types.specs.Read.{hint_of}
-use Rattle.courses.specs.Places.{HintFits}
+use Rattle.infer_spec.specs.Places.{HintFits}
 use Rattle.bound_infer.proofs.Mapped.{all_of}
 use Rattle.bound_infer.proofs.fitting.hints_fit.Goals as goal
 

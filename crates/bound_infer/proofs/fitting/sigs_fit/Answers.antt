@@ -1,7 +1,7 @@
 use Rattle.std.proofs.Common.{subst, arith}
 use Rattle.std.proofs.lemmas.List.Elements.{All-more}
 use Rattle.annot_types.specs.Read.{sig_of}
-use Rattle.courses.specs.Places.{SigFits}
+use Rattle.infer_spec.specs.Places.{SigFits}
 use Rattle.bound_infer.proofs.Mapped.{all_of}
 use Rattle.bound_infer.proofs.fitting.sigs_fit.Goals as goal
 

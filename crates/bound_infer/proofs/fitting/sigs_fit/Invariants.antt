@@ -1,6 +1,6 @@
 use Rattle.std.proofs.Common.{All, take}
 use Rattle.annot_types.specs.Read.{sig_of}
-use Rattle.courses.specs.Places.{SigFits}
+use Rattle.infer_spec.specs.Places.{SigFits}
 use Rattle.bound_infer.proofs.fitting.sigs_fit.Given as goal
 
 abbrev pub invariant-loop-index : goal.invariant-loop-index

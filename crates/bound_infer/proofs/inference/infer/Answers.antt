@@ -1,9 +1,9 @@
 use Rattle.std.proofs.Common.{true, refl, sym, subst}
-use Rattle.rule_plan.specs.Read.{program_in}
+use Rattle.rules_plan.specs.Read.{program_in}
 use Rattle.cert_check.specs.Checked.{Checking}
 use Rattle.constraint_gen.proofs.Whole.{if_ok, if_err}
-use Rattle.courses.specs.Good.{AllLeast}
-use Rattle.courses.specs.States.{certificate_of}
+use Rattle.infer_spec.specs.Good.{AllLeast}
+use Rattle.infer_spec.specs.States.{certificate_of}
 use Rattle.bound_infer.specs.Keeping.{state_of, analysis_in}
 use Rattle.bound_infer.proofs.Leading.{check_cause}
 use Rattle.bound_infer.proofs.Whole.{proper, small}

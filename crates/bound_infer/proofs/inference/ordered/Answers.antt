@@ -1,6 +1,6 @@
 use Rattle.std.proofs.Common.{sym, subst}
 use Rattle.share_normal.specs.Program.{source_in}
-use Rattle.tried_tasks.specs.Laws.{IsOrdered}
+use Rattle.infer_systems_laws.specs.Tried.{IsOrdered}
 use Rattle.bound_infer.proofs.inference.ordered.Goals as goal
 
 pub returns : goal.returns

@@ -3,7 +3,7 @@ use Rattle.std.specs.Option.{option_map}
 use Rattle.base_poly.specs.Read.{context_of}
 use Rattle.cost_free.specs.Read.{task_of}
 use Rattle.annot_types.specs.Program.{results}
-use Rattle.rule_plan.specs.Read.{program_in}
+use Rattle.rules_plan.specs.Read.{program_in}
 use Rattle.cert_check.specs.Finds.{large_from}
 use Rattle.cert_check.proofs.Results.{results_are}
 use Rattle.bound_infer.proofs.large.refused.Goals as goal

@@ -1,7 +1,7 @@
 use Rattle.std.proofs.Common.{◌≡◌, ◌<◌, ℕ, slice_get, Some}
 use Rattle.annot_types.specs.Certificate.{Block}
 use Rattle.annot_types.specs.Read.{blocks_of}
-use Rattle.courses.specs.Places.{IsOfMeter}
+use Rattle.infer_spec.specs.Places.{IsOfMeter}
 use Rattle.bound_infer.proofs.raising.first_of.Given as goal
 
 abbrev pub invariant-loop-place : goal.invariant-loop-place

@@ -3,11 +3,11 @@ use Rattle.std.specs.Int.{w128}
 use Rattle.std.proofs.lemmas.Int.{to_z-of_z}
 use Rattle.std.specs.Prelude.{unsigned_abs, None}
 use Rattle.cost_free.specs.Read.{task_of}
-use Rattle.rule_plan.specs.Read.{program_in}
+use Rattle.rules_plan.specs.Read.{program_in}
 use Rattle.annot_types.specs.System.{system}
-use Rattle.courses.specs.Generator.{limit_of}
-use Rattle.courses.specs.Verifying as v
-use Rattle.exact_systems.specs.Analysed.{generator_of}
+use Rattle.infer_spec.specs.Generator.{limit_of}
+use Rattle.infer_spec.specs.Verifying as v
+use Rattle.infer_systems_laws.specs.Analysed.{generator_of}
 use Rattle.bound_infer.specs.Cleared.{OfFault, Tells}
 use Rattle.bound_infer.proofs.Exceeded.{caused, none_leaves, none_exceeded}
 use Rattle.bound_infer.proofs.refuting.check_refuted.Goals as goal

@@ -4,7 +4,7 @@ use Rattle.annot_types.specs.Certificate.{number_at}
 use Rattle.raml_num.specs.Sums.{NoneNegative}
 use Rattle.linear_rows.specs.Systems.{Refutes}
 use Rattle.farkas_check.specs.Checks.{EachPasses, refuting}
-use Rattle.courses.specs.Verifying.{vector_of}
+use Rattle.infer_spec.specs.Verifying.{vector_of}
 use Rattle.bound_infer.proofs.Clearing.{vector_natural, vector_length, clears}
 use Rattle.bound_infer.proofs.refuting.check_vector.Goals as goal
 

@@ -2,10 +2,10 @@ use Rattle.std.proofs.Common.{◌≡◌, true, [], sym, ap, ◌∙◌, subst, le
 use Rattle.std.proofs.lemmas.List.{length-map}
 use Rattle.cost_free.specs.declared.task.Meter.{Meter}
 use Rattle.cost_free.specs.declared.task.Meter.TheVariants.{Ticks, Cells, Work}
-use Rattle.normal_form.specs.Two.{norm_fun}
+use Rattle.normal_spec.specs.Two.{norm_fun}
 use Rattle.share_normal.specs.Program.{source_in}
 use Rattle.annot_types.specs.Read.{blocks_of}
-use Rattle.rule_plan.specs.Read.{program_in}
+use Rattle.rules_plan.specs.Read.{program_in}
 use Rattle.cert_check.specs.Course.{HasCome}
 use Rattle.bound_infer.specs.Raised.{EachFits}
 use Rattle.bound_infer.specs.Keeping.{first_of, scales_of}

@@ -1,5 +1,5 @@
 use Rattle.annot_types.specs.Holds.{times}
-use Rattle.courses.specs.Places.{EntriesFit}
+use Rattle.infer_spec.specs.Places.{EntriesFit}
 use Rattle.bound_infer.proofs.Mapped.{plain_more}
 use Rattle.bound_infer.proofs.sigs.times_annots.Goals as goal
 

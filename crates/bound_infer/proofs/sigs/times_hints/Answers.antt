@@ -1,6 +1,6 @@
 use Rattle.annot_types.specs.Holds.{times_hint}
 use Rattle.annot_types.specs.Read.{hint_of}
-use Rattle.courses.specs.Places.{HintFits}
+use Rattle.infer_spec.specs.Places.{HintFits}
 use Rattle.bound_infer.proofs.Mapped.{list_more}
 use Rattle.bound_infer.proofs.sigs.times_hints.Goals as goal
 

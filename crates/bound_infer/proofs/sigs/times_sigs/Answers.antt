@@ -1,7 +1,7 @@
 use Rattle.std.proofs.Common.{Err, ap, sym, ◌∙◌, subst, arith}
 use Rattle.annot_types.specs.Holds.{times_sig}
 use Rattle.annot_types.specs.Read.{sig_of}
-use Rattle.courses.specs.Places.{SigFits}
+use Rattle.infer_spec.specs.Places.{SigFits}
 use Rattle.bound_infer.proofs.Mapped.{list_more, all_of, same_fault}
 use Rattle.bound_infer.proofs.sigs.times_sigs.Goals as goal
 

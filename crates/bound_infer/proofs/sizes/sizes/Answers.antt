@@ -1,12 +1,12 @@
 use Rattle.std.proofs.Common.{◌≡◌, ◌≤◌, ◌<◌, ap, sym, ◌∙◌, subst, length, rules, arith, map, ℕ}
 use Rattle.std.specs.Prelude.{slice_get}
 use Rattle.std.proofs.lemmas.List.{length-map, take_all}
-use Rattle.normal_form.specs.Two.{norm_fun}
+use Rattle.normal_spec.specs.Two.{norm_fun}
 use Rattle.call_groups.specs.Read.{ids_of}
 use Rattle.share_normal.specs.Program.{source_in}
 use Rattle.annot_types.specs.Program.{members}
-use Rattle.rule_plan.specs.Read.{program_in}
-use Rattle.earlier_blocks.specs.Sizes.{AreSizes}
+use Rattle.rules_plan.specs.Read.{program_in}
+use Rattle.rules_walk.specs.Sizes.{AreSizes}
 use Rattle.bound_infer.specs.Sized.{sizes_in}
 use Rattle.bound_infer.proofs.Sizing.{are_sizes, member_low, sizes_more}
 use Rattle.bound_infer.proofs.sizes.sizes.Goals as goal

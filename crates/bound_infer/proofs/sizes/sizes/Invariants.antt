@@ -1,7 +1,7 @@
 use Rattle.std.proofs.Common.{◌≡◌, map, take}
 use Rattle.std.specs.Prelude.{slice_get}
 use Rattle.call_groups.specs.Read.{ids_of}
-use Rattle.rule_plan.specs.Read.{program_in}
+use Rattle.rules_plan.specs.Read.{program_in}
 use Rattle.bound_infer.specs.Sized.{sizes_in}
 use Rattle.bound_infer.proofs.sizes.sizes.Given as goal
 

@@ -1,8 +1,8 @@
 use Rattle.std.proofs.Common.{◌≡◌, ◌<◌, ap, sym, ◌∙◌, length, rules, ◌∷◌, []}
 use Rattle.std.specs.Prelude.{slice_get, slice_index_or}
 use Rattle.raml_syntax.specs.Read.{ty_of}
-use Rattle.normal_form.specs.Context.{types}
-use Rattle.normal_form.specs.Read.{parameters_of}
+use Rattle.normal_spec.specs.Context.{types}
+use Rattle.normal_spec.specs.Read.{parameters_of}
 use Rattle.annot_types.specs.Rows.{size as size_of}
 use Rattle.bound_infer.specs.Sized.{sizes_in}
 use Rattle.bound_infer.proofs.Sizing.{function_there}

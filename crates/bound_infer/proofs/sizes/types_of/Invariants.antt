@@ -1,7 +1,7 @@
 use Rattle.std.proofs.Common.{◌≡◌, ◌++◌, drop}
 use Rattle.base_poly.specs.Read.{context_of}
-use Rattle.normal_form.specs.Context.{types}
-use Rattle.normal_form.specs.Read.{parameters_of}
+use Rattle.normal_spec.specs.Context.{types}
+use Rattle.normal_spec.specs.Read.{parameters_of}
 use Rattle.bound_infer.proofs.sizes.types_of.Given as goal
 
 abbrev pub invariant-loop-ty : goal.invariant-loop-ty

@@ -1,7 +1,7 @@
 use Rattle.std.proofs.Common.{[], map, ap, ◌∙◌}
 use Rattle.cost_free.specs.Read.{task_of}
 use Rattle.annot_types.specs.Read.{body_of, blocks_of}
-use Rattle.rule_plan.specs.Read.{program_in, function_of, group_bodies}
+use Rattle.rules_plan.specs.Read.{program_in, function_of, group_bodies}
 use Rattle.cert_check.specs.At.{sizes_of}
 use Rattle.bound_infer.proofs.Kept.{if_solved, sizes_same}
 use Rattle.bound_infer.proofs.solved.push_planned.Goals as goal

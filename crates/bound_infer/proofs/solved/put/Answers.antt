@@ -1,8 +1,8 @@
 use Rattle.std.proofs.Common.{ap, ◌∙◌}
 use Rattle.cost_free.specs.Read.{task_of}
 use Rattle.annot_types.specs.Read.{body_of}
-use Rattle.rule_plan.specs.Read.{program_in}
-use Rattle.courses.specs.States.{with_block}
+use Rattle.rules_plan.specs.Read.{program_in}
+use Rattle.infer_spec.specs.States.{with_block}
 use Rattle.bound_infer.specs.Keeping.{state_of}
 use Rattle.bound_infer.proofs.Kept.{next_kept}
 use Rattle.bound_infer.proofs.solved.put.Goals as goal

@@ -4,13 +4,13 @@ use Rattle.std.proofs.lemmas.Int.{ints, to_z-of_z}
 use Rattle.std.proofs.lemmas.List.{with_items_is}
 use Rattle.annot_types.specs.Holds.{raised}
 use Rattle.annot_types.specs.Read.{blocks_of}
-use Rattle.earlier_blocks.specs.Raised.{NonePasses}
-use Rattle.earlier_blocks.specs.Remembers.{Remembers}
-use Rattle.rule_plan.specs.Read.{program_in}
+use Rattle.rules_walk.specs.Raised.{NonePasses}
+use Rattle.rules_walk.specs.Remembers.{Remembers}
+use Rattle.rules_plan.specs.Read.{program_in}
 use Rattle.cost_free.specs.Task.{Kind}
-use Rattle.whole_numbers.specs.Wholes.{most}
-use Rattle.courses.specs.Places.{RescaleLeaves}
-use Rattle.courses.specs.States.{raise as raise_state}
+use Rattle.simplex_integers.specs.Wholes.{most}
+use Rattle.infer_spec.specs.Places.{RescaleLeaves}
+use Rattle.infer_spec.specs.States.{raise as raise_state}
 use Rattle.bound_infer.specs.Raised.{AllFit, EachFits}
 use Rattle.bound_infer.specs.Keeping.{state_of}
 use Rattle.bound_infer.proofs.Kept.{still_come, scales_raised, raised_count}

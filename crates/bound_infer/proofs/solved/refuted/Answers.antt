@@ -2,7 +2,7 @@ use Rattle.std.proofs.Common.{ap, ◌∙◌}
 use Rattle.std.proofs.lemmas.Result.{on_ok_weaker}
 use Rattle.cost_free.specs.Read.{task_of}
 use Rattle.annot_types.specs.Certificate.{Refuted}
-use Rattle.courses.specs.States.{with_block}
+use Rattle.infer_spec.specs.States.{with_block}
 use Rattle.bound_infer.specs.Keeping.{state_of}
 use Rattle.bound_infer.proofs.solved.refuted.Goals as goal
 

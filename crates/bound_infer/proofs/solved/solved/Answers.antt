@@ -2,7 +2,7 @@ use Rattle.std.proofs.Common.{◌∙◌}
 use Rattle.std.proofs.lemmas.Result.{on_ok_weaker}
 use Rattle.cost_free.specs.Read.{task_of}
 use Rattle.annot_types.specs.Certificate.{Solved}
-use Rattle.courses.specs.States.{raise as raise_state, with_block}
+use Rattle.infer_spec.specs.States.{raise as raise_state, with_block}
 use Rattle.bound_infer.specs.Keeping.{state_of}
 use Rattle.bound_infer.proofs.solved.solved.Goals as goal
 

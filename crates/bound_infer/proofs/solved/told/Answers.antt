@@ -2,8 +2,8 @@ use Rattle.std.proofs.Common.{map, ap, ◌∙◌, unsigned_abs}
 use Rattle.cost_free.specs.Read.{task_of}
 use Rattle.annot_types.specs.Holds.{budget_of}
 use Rattle.annot_types.specs.Read.{blocks_of}
-use Rattle.rule_plan.specs.Read.{program_in, body_of}
-use Rattle.solved_tasks.specs.Told.{sigs_told, hints_told}
+use Rattle.rules_plan.specs.Read.{program_in, body_of}
+use Rattle.rules_spec.specs.Told.{sigs_told, hints_told}
 use Rattle.constraint_gen.proofs.Whole.{if_ok}
 use Rattle.bound_infer.proofs.solved.told.Goals as goal
 

@@ -1,7 +1,7 @@
 use Rattle.std.proofs.Common.{◌-◌, length, true}
 use Rattle.annot_types.specs.Program.{results}
 use Rattle.cost_free.specs.Schedule.{tasks_from}
-use Rattle.rule_plan.specs.Read.{program_in, AreKept}
+use Rattle.rules_plan.specs.Read.{program_in, AreKept}
 use Rattle.bound_infer.specs.After.{Reached}
 use Rattle.bound_infer.specs.Keeping.{state_of, Keeps, analysis_in, ByEach}
 use Rattle.bound_infer.proofs.step.all_steps.Given as goal

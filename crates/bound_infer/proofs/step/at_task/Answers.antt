@@ -2,7 +2,7 @@ use Rattle.std.proofs.Common.{true, map, option_map, sym, ap, ◌∙◌, arith}
 use Rattle.cost_free.specs.Read.{task_of}
 use Rattle.annot_types.specs.Certificate.{outcome}
 use Rattle.annot_types.specs.Program.{results}
-use Rattle.rule_plan.specs.Read.{program_in}
+use Rattle.rules_plan.specs.Read.{program_in}
 use Rattle.cert_check.proofs.Tasks.{task_is_low}
 use Rattle.bound_infer.specs.Keeping.{state_of, analysis_in}
 use Rattle.bound_infer.proofs.Stepping.{waits_step, stands_at, begins}

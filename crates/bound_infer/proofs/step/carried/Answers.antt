@@ -2,9 +2,9 @@ use Rattle.std.proofs.Common.{rules, ◌≡◌, ◌<◌, arith, ℕ, ℤ, pos, �
 use Rattle.std.specs.Int.{w128}
 use Rattle.std.proofs.lemmas.Int.{ints, to_z-of_z}
 use Rattle.cost_free.specs.Read.{task_of}
-use Rattle.courses.specs.Generator.{system_at}
-use Rattle.courses.specs.Places.{rule_of}
-use Rattle.whole_answers.specs.Answers.{IsAnswer}
+use Rattle.infer_spec.specs.Generator.{system_at}
+use Rattle.infer_spec.specs.Places.{rule_of}
+use Rattle.simplex_checked.specs.Answers.{IsAnswer}
 use Rattle.constraint_gen.proofs.Whole.{if_err}
 use Rattle.bound_infer.specs.Keeping.{state_of, analysis_in}
 use Rattle.bound_infer.proofs.Answering.{solution_back}

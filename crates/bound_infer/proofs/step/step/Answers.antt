@@ -1,7 +1,7 @@
 use Rattle.std.proofs.Common.{true, Err, sym, ap, ◌∙◌, subst}
 use Rattle.std.specs.Option.{option_map}
 use Rattle.cost_free.specs.Read.{task_of}
-use Rattle.rule_plan.specs.Read.{program_in}
+use Rattle.rules_plan.specs.Read.{program_in}
 use Rattle.bound_infer.specs.Keeping.{state_of, analysis_in}
 use Rattle.bound_infer.specs.After.{IsAfter, IsAtHand, StopsIn}
 use Rattle.bound_infer.proofs.Leading.{stops_on}

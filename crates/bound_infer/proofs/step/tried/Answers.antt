@@ -1,4 +1,4 @@
-use Rattle.rule_plan.specs.Read.{program_in}
+use Rattle.rules_plan.specs.Read.{program_in}
 use Rattle.cert_check.proofs.Telling.{some_more}
 use Rattle.bound_infer.proofs.step.tried.Goals as goal
 

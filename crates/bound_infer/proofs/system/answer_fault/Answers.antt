@@ -1,8 +1,8 @@
 use Rattle.std.proofs.Common.{refl, subst}
 use Rattle.cost_free.specs.Read.{task_of}
-use Rattle.courses.specs.Generator.{system_at}
-use Rattle.courses.specs.Places.{rule_of}
-use Rattle.whole_answers.specs.Answers.{Stops}
+use Rattle.infer_spec.specs.Generator.{system_at}
+use Rattle.infer_spec.specs.Places.{rule_of}
+use Rattle.simplex_checked.specs.Answers.{Stops}
 use Rattle.bound_infer.proofs.system.answer_fault.Goals as goal
 
 pub returns-in-Solve : goal.returns-in-Solve

@@ -2,9 +2,9 @@ use Rattle.std.proofs.Common.{subst, map, ap, ◌∙◌}
 use Rattle.cost_free.specs.Read.{task_of}
 use Rattle.annot_types.specs.Holds.{budget_of}
 use Rattle.annot_types.specs.Read.{blocks_of}
-use Rattle.rule_plan.specs.Read.{program_in, body_of}
-use Rattle.tableau.specs.Courses.{rule_by}
-use Rattle.whole_answers.specs.Answers.{IsAnswer, Stops}
+use Rattle.rules_plan.specs.Read.{program_in, body_of}
+use Rattle.simplex_spec.specs.Courses.{rule_by}
+use Rattle.simplex_checked.specs.Answers.{IsAnswer, Stops}
 use Rattle.bound_infer.specs.Keeping.{state_of, analysis_in}
 use Rattle.bound_infer.proofs.system.answered.Goals as goal
 

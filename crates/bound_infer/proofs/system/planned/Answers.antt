@@ -1,5 +1,5 @@
 use Rattle.cost_free.specs.Read.{task_of}
-use Rattle.rule_plan.specs.Read.{program_in}
+use Rattle.rules_plan.specs.Read.{program_in}
 use Rattle.constraint_gen.specs.Cause.{IsWithin}
 use Rattle.bound_infer.specs.Keeping.{state_of, analysis_in}
 use Rattle.bound_infer.proofs.Limited.{too_many}

@@ -1,7 +1,7 @@
 use Rattle.std.proofs.Common.{None, sym, subst, arith}
 use Rattle.cost_free.specs.Read.{task_of}
-use Rattle.rule_plan.specs.Read.{program_in}
-use Rattle.walk_rules.specs.Systems.{IsTask}
+use Rattle.rules_plan.specs.Read.{program_in}
+use Rattle.rules_spec.specs.Systems.{IsTask}
 use Rattle.constraint_gen.specs.Cause.{IsMade, IsCause}
 use Rattle.bound_infer.specs.Keeping.{state_of, analysis_in}
 use Rattle.bound_infer.proofs.Limited.{rows_are_fine, made_too_large, made_leaves}

@@ -1,7 +1,7 @@
 use Rattle.std.proofs.Common.{sym, ◌∙◌, ap, subst}
 use Rattle.annot_types.specs.Certificate.{Rise}
 use Rattle.annot_types.specs.Holds.{times}
-use Rattle.courses.proofs.Running.{rise_times}
+use Rattle.infer_spec.proofs.Running.{rise_times}
 use Rattle.bound_infer.proofs.Mapped.{never}
 use Rattle.bound_infer.proofs.times.times_annot.Goals as goal
 

@@ -1,5 +1,5 @@
 use Rattle.std.proofs.Common.{◌≡◌, ◌++◌, ℕ, pos, List, map, drop}
-use Rattle.courses.specs.Reading.{listed}
+use Rattle.infer_spec.specs.Listed.{listed}
 use Rattle.bound_infer.proofs.vector.listed.Given as goal
 
 -- the entries so far, and those of the rest

@@ -1,8 +1,8 @@
 use Rattle.std.proofs.Common.{sym, subst, length}
 use Rattle.annot_types.specs.Held.{Held}
 use Rattle.annot_types.specs.System.{Valid}
-use Rattle.courses.specs.Good.{AllRefuted}
-use Rattle.rule_plan.specs.Read.{program_in}
+use Rattle.infer_spec.specs.Good.{AllRefuted}
+use Rattle.rules_plan.specs.Read.{program_in}
 use Rattle.bound_infer.specs.Cleared.{ClearBefore}
 use Rattle.bound_infer.proofs.Blocked.{is_verified, is_valid, all_refuted}
 use Rattle.bound_infer.proofs.verification.verify_checked.Goals as goal

@@ -1,10 +1,10 @@
 use Rattle.std.proofs.Common.{ap, drop, map, arith}
 use Rattle.std.proofs.lemmas.List.{length-map}
 use Rattle.annot_types.specs.Read.{sig_of}
-use Rattle.walk_rules.specs.Capped.{capped_amount}
-use Rattle.walk_rules.specs.Carried.{sides_to}
-use Rattle.rule_walk.specs.Read.{sides_of}
-use Rattle.rule_plan.specs.Read.{body_of}
+use Rattle.rules_spec.specs.Capped.{capped_amount}
+use Rattle.rules_spec.specs.Carried.{sides_to}
+use Rattle.rules_walk.specs.Read.{sides_of}
+use Rattle.rules_plan.specs.Read.{body_of}
 use Rattle.cert_check.proofs.Ended.{all_made, no_sigs}
 use Rattle.cert_check.proofs.amounts.all_sides.Goals as goal
 

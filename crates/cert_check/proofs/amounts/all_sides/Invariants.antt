@@ -1,9 +1,9 @@
 use Rattle.std.proofs.Common.{◌≡◌, ◌++◌, drop, map}
 use Rattle.annot_types.specs.Read.{sig_of}
-use Rattle.walk_rules.specs.Capped.{capped_amount}
-use Rattle.walk_rules.specs.Carried.{sides_to}
-use Rattle.rule_walk.specs.Read.{sides_of}
-use Rattle.rule_plan.specs.Read.{body_of}
+use Rattle.rules_spec.specs.Capped.{capped_amount}
+use Rattle.rules_spec.specs.Carried.{sides_to}
+use Rattle.rules_walk.specs.Read.{sides_of}
+use Rattle.rules_plan.specs.Read.{body_of}
 use Rattle.cert_check.specs.Finds.{sides_at}
 use Rattle.cert_check.proofs.amounts.all_sides.Given as goal
 

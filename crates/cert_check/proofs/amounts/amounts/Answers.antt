@@ -1,7 +1,7 @@
 use Rattle.std.proofs.Common.{◌≡◌, suc, ◌-◌, ◌<◌, ap, ◌∙◌, arith, drop, length, map, slice_set, slice_index_or}
 use Rattle.std.specs.Prelude.{unsigned_abs, pos}
-use Rattle.walk_rules.specs.Capped.{capped_amount}
-use Rattle.walk_rules.specs.Shape.{amounts_at}
+use Rattle.rules_spec.specs.Capped.{capped_amount}
+use Rattle.rules_spec.specs.Shape.{amounts_at}
 use Rattle.cert_check.proofs.Listing.{none_at, entry_at}
 use Rattle.cert_check.proofs.amounts.amounts.Goals as goal
 

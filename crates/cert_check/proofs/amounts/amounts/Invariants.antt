@@ -1,6 +1,6 @@
 use Rattle.std.proofs.Common.{◌≡◌, ◌≤◌, drop, length, map}
-use Rattle.walk_rules.specs.Capped.{capped_amount}
-use Rattle.walk_rules.specs.Shape.{amounts_at}
+use Rattle.rules_spec.specs.Capped.{capped_amount}
+use Rattle.rules_spec.specs.Shape.{amounts_at}
 use Rattle.cert_check.proofs.amounts.amounts.Given as goal
 
 abbrev pub invariant-loop-left : goal.invariant-loop-left

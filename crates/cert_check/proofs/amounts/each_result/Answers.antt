@@ -1,5 +1,5 @@
 use Rattle.std.proofs.Common.{ap, drop, map}
-use Rattle.walk_rules.specs.Capped.{capped_amount}
+use Rattle.rules_spec.specs.Capped.{capped_amount}
 use Rattle.cert_check.proofs.Ended.{all_made, no_results}
 use Rattle.cert_check.proofs.amounts.each_result.Goals as goal
 

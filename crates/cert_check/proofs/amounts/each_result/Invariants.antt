@@ -1,6 +1,6 @@
 use Rattle.std.proofs.Common.{◌≡◌, ◌++◌, drop, map}
-use Rattle.walk_rules.specs.Capped.{capped_amount}
-use Rattle.walk_rules.specs.Shape.{each_amounts}
+use Rattle.rules_spec.specs.Capped.{capped_amount}
+use Rattle.rules_spec.specs.Shape.{each_amounts}
 use Rattle.cert_check.proofs.amounts.each_result.Given as goal
 
 abbrev pub invariant-loop-size : goal.invariant-loop-size

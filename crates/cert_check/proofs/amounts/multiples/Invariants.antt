@@ -1,7 +1,7 @@
 use Rattle.std.proofs.Common.{◌≡◌, ◌++◌, drop, map}
-use Rattle.walk_rules.specs.Capped.{capped_amount}
-use Rattle.walk_rules.specs.Carried.{multiple_to}
-use Rattle.walk_rules.specs.Shape.{multiples_at}
+use Rattle.rules_spec.specs.Capped.{capped_amount}
+use Rattle.rules_spec.specs.Carried.{multiple_to}
+use Rattle.rules_spec.specs.Shape.{multiples_at}
 use Rattle.cert_check.proofs.amounts.multiples.Given as goal
 
 abbrev pub invariant-loop-block : goal.invariant-loop-block

@@ -1,10 +1,10 @@
 use Rattle.std.proofs.Common.{ap, drop, map, arith}
 use Rattle.std.proofs.lemmas.List.{length-map}
 use Rattle.annot_types.specs.Read.{hint_of}
-use Rattle.walk_rules.specs.Capped.{capped_amount}
-use Rattle.walk_rules.specs.Carried.{hint_to}
-use Rattle.rule_walk.specs.Asks.{asks_of}
-use Rattle.rule_walk.specs.Read.{hints_of}
+use Rattle.rules_spec.specs.Capped.{capped_amount}
+use Rattle.rules_spec.specs.Carried.{hint_to}
+use Rattle.rules_walk.specs.Asks.{asks_of}
+use Rattle.rules_walk.specs.Read.{hints_of}
 use Rattle.cert_check.proofs.Ended.{all_made, no_hints}
 use Rattle.cert_check.proofs.amounts.walked_hints.Goals as goal
 

@@ -1,5 +1,5 @@
 use Rattle.std.proofs.Common.{◌≡◌, replicate}
-use Rattle.walk_rules.specs.Capped.{capped}
+use Rattle.rules_spec.specs.Capped.{capped}
 use Rattle.cert_check.proofs.amounts.zeros.Given as goal
 
 abbrev pub invariant-loop : goal.invariant-loop

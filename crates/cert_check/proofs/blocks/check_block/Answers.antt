@@ -1,6 +1,6 @@
 use Rattle.std.proofs.Common.{◌≡◌, ap, sym, ◌∙◌, length, subst, Err, inl, inr}
 use Rattle.annot_types.specs.Read.{block_of, certificate_of}
-use Rattle.rule_plan.specs.Read.{program_in}
+use Rattle.rules_plan.specs.Read.{program_in}
 use Rattle.cert_check.specs.Course.{HasCome}
 use Rattle.cert_check.specs.Finds.{refusal, ScheduledFinds, BlockFinds}
 use Rattle.cert_check.specs.Read.{fault_of}

@@ -3,7 +3,7 @@ use Rattle.std.specs.Option.{option_map}
 use Rattle.std.proofs.lemmas.Option.{none-some}
 use Rattle.cost_free.specs.Read.{task_of}
 use Rattle.annot_types.specs.Read.{certificate_of}
-use Rattle.rule_plan.specs.Read.{program_in}
+use Rattle.rules_plan.specs.Read.{program_in}
 use Rattle.cert_check.specs.Fault.{Shape}
 use Rattle.cert_check.specs.Finds.{refusal, EndFinds}
 use Rattle.cert_check.specs.Read.{fault_of}

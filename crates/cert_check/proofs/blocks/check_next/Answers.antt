@@ -7,7 +7,7 @@ use Rattle.annot_types.specs.Holds.{budget_of}
 use Rattle.annot_types.specs.Held.{NamesBlocker}
 use Rattle.annot_types.specs.Read.{body_of, block_of, certificate_of}
 use Rattle.share_normal.specs.Program.{norm_in}
-use Rattle.rule_plan.specs.Read.{program_in}
+use Rattle.rules_plan.specs.Read.{program_in}
 use Rattle.cert_check.specs.Fault.{Shape}
 use Rattle.cert_check.specs.Finds.{BodyFinds, ScheduledFinds}
 use Rattle.cert_check.specs.Same.{is_task}

@@ -1,8 +1,8 @@
 use Rattle.std.proofs.Common.{sym, ap, ◌∙◌}
-use Rattle.normal_form.specs.Read.{parameters_of}
+use Rattle.normal_spec.specs.Read.{parameters_of}
 use Rattle.annot_types.specs.Signature.{cost_sig}
 use Rattle.annot_types.specs.Read.{sig_of, blocks_of, certificate_of}
-use Rattle.rule_plan.specs.Read.{program_in}
+use Rattle.rules_plan.specs.Read.{program_in}
 use Rattle.cert_check.proofs.Signed.{params_annotated}
 use Rattle.cert_check.proofs.bound.bound_of.Goals as goal
 

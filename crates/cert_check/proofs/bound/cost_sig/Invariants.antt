@@ -1,7 +1,7 @@
 use Rattle.std.proofs.Common.{◌≡◌, drop}
 use Rattle.annot_types.specs.Signature.{cost_sig}
 use Rattle.annot_types.specs.Read.{blocks_of}
-use Rattle.rule_plan.specs.Read.{program_in}
+use Rattle.rules_plan.specs.Read.{program_in}
 use Rattle.cert_check.proofs.bound.cost_sig.Given as goal
 
 abbrev pub invariant-loop-block : goal.invariant-loop-block

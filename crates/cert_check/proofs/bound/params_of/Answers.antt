@@ -1,8 +1,8 @@
 use Rattle.std.proofs.Common.{◌≡◌, ap, sym, ◌∙◌, length, Some, arith}
 use Rattle.std.specs.Prelude.{slice_get}
 use Rattle.std.specs.Option.{option_map}
-use Rattle.normal_form.specs.Norm as n
-use Rattle.normal_form.specs.Read.{parameters_of}
+use Rattle.normal_spec.specs.Norm as n
+use Rattle.normal_spec.specs.Read.{parameters_of}
 use Rattle.cert_check.proofs.Results.{params_at, no_function}
 use Rattle.cert_check.proofs.bound.params_of.Goals as goal
 

@@ -2,9 +2,9 @@ use Rattle.std.proofs.Common.{◌≡◌, ap, sym, ◌∙◌, subst, length, pos,
 use Rattle.std.proofs.lemmas.Int.{to_z-of_z}
 use Rattle.base_poly.specs.Indices.{index_list}
 use Rattle.base_poly.specs.Poly.{magnitudes, AreTerms}
-use Rattle.normal_form.specs.Context.{types}
-use Rattle.normal_form.specs.Read.{parameters_of}
-use Rattle.walk_rules.specs.Stand.{Within}
+use Rattle.normal_spec.specs.Context.{types}
+use Rattle.normal_spec.specs.Read.{parameters_of}
+use Rattle.rules_spec.specs.Stand.{Within}
 use Rattle.cert_check.specs.Bound.{over}
 use Rattle.cert_check.proofs.Terms.{are_within, terms_over, are_terms}
 use Rattle.cert_check.proofs.bound.poly_of.Goals as goal

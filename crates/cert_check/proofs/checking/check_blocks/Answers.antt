@@ -1,10 +1,10 @@
 use Rattle.std.proofs.Common.{◌≡◌, ◌<◌, ◌≤◌, ◌++◌, ◌∷◌, [], ap, sym, ◌∙◌, subst, length, take, drop, None, arith, rules}
 use Rattle.std.proofs.lemmas.List.{length-map, length-take-le}
 use Rattle.std.proofs.Math.Seq.{drop-length}
-use Rattle.normal_form.specs.Two.{norm_fun}
+use Rattle.normal_spec.specs.Two.{norm_fun}
 use Rattle.share_normal.specs.Program.{source_in}
 use Rattle.annot_types.specs.Read.{block_of, blocks_of, certificate_of}
-use Rattle.rule_plan.specs.Read.{program_in}
+use Rattle.rules_plan.specs.Read.{program_in}
 use Rattle.cert_check.specs.Course.{HasCome}
 use Rattle.cert_check.specs.Finds.{BlockFinds, EndFinds, BlocksFind}
 use Rattle.cert_check.specs.Read.{fault_of, OfFault}

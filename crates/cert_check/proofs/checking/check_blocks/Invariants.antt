@@ -1,6 +1,6 @@
 use Rattle.std.proofs.Common.{take}
 use Rattle.annot_types.specs.Read.{blocks_of, certificate_of}
-use Rattle.rule_plan.specs.Read.{program_in, AreKept}
+use Rattle.rules_plan.specs.Read.{program_in, AreKept}
 use Rattle.cert_check.specs.Course.{HasCome}
 use Rattle.cert_check.proofs.Walking.{Reduces}
 use Rattle.cert_check.proofs.checking.check_blocks.Given as goal

@@ -1,5 +1,5 @@
 use Rattle.annot_types.specs.Read.{certificate_of}
-use Rattle.rule_plan.specs.Read.{program_in}
+use Rattle.rules_plan.specs.Read.{program_in}
 use Rattle.cert_check.proofs.Staying.{none_leaves}
 use Rattle.cert_check.proofs.checking.check_held.Goals as goal
 

@@ -2,7 +2,7 @@ use Rattle.std.proofs.Common.{◌≡◌, true, rules, inl}
 use Rattle.share_normal.specs.Program.{source_in}
 use Rattle.annot_types.specs.Program.{members}
 use Rattle.annot_types.specs.Read.{certificate_of}
-use Rattle.rule_plan.specs.Read.{program_in}
+use Rattle.rules_plan.specs.Read.{program_in}
 use Rattle.cert_check.proofs.Walking.{all_use}
 use Rattle.cert_check.proofs.Grouped.{are_there, functions_are}
 use Rattle.cert_check.proofs.Faultless.{no_fault_is_held}

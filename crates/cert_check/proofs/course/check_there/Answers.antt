@@ -1,8 +1,8 @@
 use Rattle.std.proofs.Common.{◌≡◌, refl, ap, ◌∙◌}
 use Rattle.cost_free.specs.Read.{task_of}
 use Rattle.annot_types.specs.Read.{certificate_of, body_of}
-use Rattle.walk_rules.specs.Capped.{cap}
-use Rattle.rule_plan.specs.Read.{program_in}
+use Rattle.rules_spec.specs.Capped.{cap}
+use Rattle.rules_plan.specs.Read.{program_in}
 use Rattle.cert_check.specs.At.{sizes_in}
 use Rattle.cert_check.proofs.Knowing.{knows_of}
 use Rattle.cert_check.proofs.Grouped.{if_solved_more}

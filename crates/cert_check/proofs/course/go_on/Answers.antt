@@ -2,8 +2,8 @@ use Rattle.std.proofs.Common.{◌≡◌, ◌++◌, ◌∷◌, [], sym, subst, ap
 use Rattle.std.proofs.lemmas.Result.{on_ok_weaker}
 use Rattle.cost_free.specs.Refused.{gone_on}
 use Rattle.annot_types.specs.Read.{block_of}
-use Rattle.earlier_blocks.specs.Remembers.{Remembers}
-use Rattle.rule_plan.specs.Read.{program_in}
+use Rattle.rules_walk.specs.Remembers.{Remembers}
+use Rattle.rules_plan.specs.Read.{program_in}
 use Rattle.cert_check.proofs.Going.{gone}
 use Rattle.cert_check.proofs.course.go_on.Goals as goal
 

@@ -5,7 +5,7 @@ use Rattle.cost_free.specs.Read.{task_of}
 use Rattle.annot_types.specs.Program.{results}
 use Rattle.annot_types.specs.Certificate.{has_work}
 use Rattle.annot_types.specs.Read.{certificate_of}
-use Rattle.rule_plan.specs.Read.{program_in}
+use Rattle.rules_plan.specs.Read.{program_in}
 use Rattle.cert_check.specs.Fault.{TooLarge}
 use Rattle.cert_check.specs.Finds.{large_from}
 use Rattle.cert_check.proofs.Results.{results_are}

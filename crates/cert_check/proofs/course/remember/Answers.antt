@@ -4,9 +4,9 @@ use Rattle.cost_free.specs.Read.{task_of}
 use Rattle.annot_types.specs.Program.{members}
 use Rattle.annot_types.specs.Holds.{budget_of}
 use Rattle.annot_types.specs.Read.{body_of}
-use Rattle.earlier_blocks.specs.Sizes.{AreSizes}
+use Rattle.rules_walk.specs.Sizes.{AreSizes}
 use Rattle.share_normal.specs.Program.{source_in}
-use Rattle.rule_plan.specs.Read.{program_in}
+use Rattle.rules_plan.specs.Read.{program_in}
 use Rattle.cert_check.proofs.Grouped.{have_sizes, functions_are, if_solved_more}
 use Rattle.cert_check.proofs.course.remember.Goals as goal
 

@@ -1,8 +1,8 @@
 use Rattle.std.proofs.Common.{◌≡◌, ◌+◌, ap, sym, ◌∙◌, rules, None, slice_index_or}
 use Rattle.std.specs.Option.{option_map}
-use Rattle.walk_rules.specs.Capped.{capped}
-use Rattle.walk_rules.specs.Walk.{at}
-use Rattle.walk_rules.specs.Faults.{fault_at}
+use Rattle.rules_spec.specs.Capped.{capped}
+use Rattle.rules_spec.specs.Walk.{at}
+use Rattle.rules_spec.specs.Faults.{fault_at}
 use Rattle.cert_check.specs.Judged.{located}
 use Rattle.cert_check.proofs.Comparing.{next_fault}
 use Rattle.cert_check.proofs.judge.first_found.Goals as goal

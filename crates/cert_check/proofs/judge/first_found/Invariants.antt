@@ -1,7 +1,7 @@
 use Rattle.std.proofs.Common.{◌≡◌, ◌+◌, drop}
-use Rattle.walk_rules.specs.Capped.{capped}
-use Rattle.walk_rules.specs.Faults.{first_fault}
-use Rattle.walk_rules.specs.Walk.{against, numbered}
+use Rattle.rules_spec.specs.Capped.{capped}
+use Rattle.rules_spec.specs.Faults.{first_fault}
+use Rattle.rules_spec.specs.Walk.{against, numbered}
 use Rattle.cert_check.proofs.judge.first_found.Given as goal
 
 abbrev pub invariant-loop-place : goal.invariant-loop-place

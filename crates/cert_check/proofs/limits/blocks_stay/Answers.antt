@@ -1,7 +1,7 @@
 use Rattle.std.proofs.Common.{◌∙◌, ◌∷◌, ◌+◌, ap, sym, subst, drop, rules}
 use Rattle.std.specs.Prelude.{IsTrue}
 use Rattle.annot_types.specs.Read.{block_of, blocks_of}
-use Rattle.rule_walk.proofs.Arms.{drop_at}
+use Rattle.rules_walk.proofs.Arms.{drop_at}
 use Rattle.cert_check.specs.Limits.{AllStay}
 use Rattle.cert_check.proofs.limits.blocks_stay.Goals as goal
 

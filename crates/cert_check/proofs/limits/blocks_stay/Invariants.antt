@@ -1,7 +1,7 @@
 use Rattle.std.proofs.Common.{drop}
 use Rattle.annot_types.specs.Program.{Program}
 use Rattle.annot_types.specs.Read.{blocks_of}
-use Rattle.rule_plan.specs.Read.{AreKept}
+use Rattle.rules_plan.specs.Read.{AreKept}
 use Rattle.cert_check.specs.Limits.{AllStay}
 use Rattle.cert_check.proofs.limits.blocks_stay.Given as goal
 

@@ -1,6 +1,6 @@
 use Rattle.std.proofs.Common.{map, drop}
-use Rattle.rule_plan.specs.Read.{function_of}
-use Rattle.walk_bounds.specs.Small.{GrowthsWithin}
+use Rattle.rules_plan.specs.Read.{function_of}
+use Rattle.rules_spec.specs.Small.{GrowthsWithin}
 use Rattle.cert_check.specs.Limits.{factor, greatest}
 use Rattle.cert_check.proofs.limits.functions_stay.Given as goal
 

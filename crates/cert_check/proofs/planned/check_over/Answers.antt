@@ -3,7 +3,7 @@ use Rattle.cost_free.specs.Read.{kind_of, task_of}
 use Rattle.annot_types.specs.Certificate.{Solved}
 use Rattle.annot_types.specs.Holds as h
 use Rattle.annot_types.specs.Read as a
-use Rattle.rule_plan.specs.Read.{body_of, group_bodies, GroupWithin}
+use Rattle.rules_plan.specs.Read.{body_of, group_bodies, GroupWithin}
 use Rattle.cert_check.specs.At.{program_at, sizes_of}
 use Rattle.cert_check.specs.Finds.{ShapeFinds, BodyFinds}
 use Rattle.cert_check.proofs.Telling.{if_ok, tells_more}

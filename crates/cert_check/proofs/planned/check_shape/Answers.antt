@@ -2,9 +2,9 @@ use Rattle.std.proofs.Common.{ap, sym, ◌∙◌, subst, map, length, inl}
 use Rattle.std.proofs.lemmas.List.{length-map}
 use Rattle.cost_free.specs.Read.{task_of}
 use Rattle.annot_types.specs.Read as a
-use Rattle.walk_rules.specs.Tasks as t
-use Rattle.walk_rules.specs.Asked.{asked}
-use Rattle.rule_plan.specs.Read.{body_of}
+use Rattle.rules_spec.specs.Tasks as t
+use Rattle.rules_spec.specs.Asked.{asked}
+use Rattle.rules_plan.specs.Read.{body_of}
 use Rattle.cert_check.specs.At.{program_at}
 use Rattle.cert_check.specs.Asking.{all_asks_of}
 use Rattle.cert_check.specs.Finds.{SigsFit, AllFit, asks_by, TargetFinds, ShapeFinds}

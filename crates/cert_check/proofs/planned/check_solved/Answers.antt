@@ -2,7 +2,7 @@ use Rattle.std.proofs.Common.{ap, sym, ◌∙◌, subst, inr, refl}
 use Rattle.std.specs.Prelude.{Err}
 use Rattle.cost_free.specs.Read.{kind_of}
 use Rattle.annot_types.specs.Holds as h
-use Rattle.rule_plan.specs.Read.{GroupWithin}
+use Rattle.rules_plan.specs.Read.{GroupWithin}
 use Rattle.cert_check.specs.At.{program_at}
 use Rattle.cert_check.proofs.Telling.{some_more}
 use Rattle.cert_check.proofs.planned.check_solved.Goals as goal

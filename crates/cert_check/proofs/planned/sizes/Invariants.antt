@@ -1,5 +1,5 @@
 use Rattle.std.proofs.Common.{◌≡◌, ◌++◌, drop, map}
-use Rattle.rule_plan.specs.Read.{body_of}
+use Rattle.rules_plan.specs.Read.{body_of}
 use Rattle.cert_check.specs.At.{sizes_of}
 use Rattle.cert_check.proofs.planned.sizes.Given as goal
 

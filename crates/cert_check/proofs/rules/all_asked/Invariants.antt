@@ -1,5 +1,5 @@
 use Rattle.std.proofs.Common.{◌≡◌, ◌++◌, drop, map}
-use Rattle.rule_plan.specs.Read.{body_of}
+use Rattle.rules_plan.specs.Read.{body_of}
 use Rattle.cert_check.specs.Asking.{all_asks_of}
 use Rattle.cert_check.specs.Finds.{asks_by}
 use Rattle.cert_check.proofs.rules.all_asked.Given as goal

@@ -1,12 +1,12 @@
 use Rattle.std.proofs.Common.{◌≡◌, ◌<◌, ◌+◌, ap, ◌∙◌, arith, rules, length, map, slice_index_or}
 use Rattle.annot_types.specs.Read as a
-use Rattle.walk_rules.specs.Capped.{capped, capped_amount}
-use Rattle.walk_rules.specs.Carried.{hint_to}
-use Rattle.walk_rules.specs.Shape.{hints_at}
-use Rattle.rule_walk.specs.Asks.{asks_of}
-use Rattle.rule_walk.specs.Read.{known_of, mode_of}
-use Rattle.rule_plan.specs.Read.{body_of}
-use Rattle.rule_walk.specs.Place.{body_walked}
+use Rattle.rules_spec.specs.Capped.{capped, capped_amount}
+use Rattle.rules_spec.specs.Carried.{hint_to}
+use Rattle.rules_spec.specs.Shape.{hints_at}
+use Rattle.rules_walk.specs.Asks.{asks_of}
+use Rattle.rules_walk.specs.Read.{known_of, mode_of}
+use Rattle.rules_plan.specs.Read.{body_of}
+use Rattle.rules_walk.specs.Place.{body_walked}
 use Rattle.cert_check.specs.Judged.{verdict_of, after}
 use Rattle.cert_check.proofs.Hearing.{heard_from, next_heard}
 use Rattle.cert_check.proofs.rules.judged.Goals as goal

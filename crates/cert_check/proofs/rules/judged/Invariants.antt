@@ -1,10 +1,10 @@
 use Rattle.std.proofs.Common.{◌≡◌, map}
 use Rattle.annot_types.specs.Read.{hints_of}
-use Rattle.walk_rules.specs.Capped.{capped_amount}
-use Rattle.walk_rules.specs.Carried.{hint_to}
-use Rattle.walk_rules.specs.Faults.{first_fault}
-use Rattle.rule_walk.specs.Read.{known_of, mode_of}
-use Rattle.rule_plan.specs.Read.{body_of}
+use Rattle.rules_spec.specs.Capped.{capped_amount}
+use Rattle.rules_spec.specs.Carried.{hint_to}
+use Rattle.rules_spec.specs.Faults.{first_fault}
+use Rattle.rules_walk.specs.Read.{known_of, mode_of}
+use Rattle.rules_plan.specs.Read.{body_of}
 use Rattle.cert_check.specs.Asking.{all_asks_of}
 use Rattle.cert_check.specs.Finds.{hints_by}
 use Rattle.cert_check.specs.Judged.{verdict_of}

@@ -1,5 +1,5 @@
 use Rattle.std.proofs.Common.{◌↔◌, drop}
-use Rattle.walk_rules.specs.Stand.{Within}
+use Rattle.rules_spec.specs.Stand.{Within}
 use Rattle.cert_check.proofs.shape.is_within.Given as goal
 
 abbrev pub invariant-loop-position : goal.invariant-loop-position

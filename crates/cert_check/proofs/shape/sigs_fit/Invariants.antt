@@ -1,7 +1,7 @@
 use Rattle.std.proofs.Common.{◌↔◌, drop, map}
 use Rattle.annot_types.specs.Held.{SigsRise}
 use Rattle.annot_types.specs.Read.{sig_of}
-use Rattle.rule_plan.specs.Read.{body_of}
+use Rattle.rules_plan.specs.Read.{body_of}
 use Rattle.cert_check.specs.Finds.{SigsFit}
 use Rattle.cert_check.proofs.shape.sigs_fit.Given as goal
 

@@ -5,7 +5,7 @@ use Rattle.cost_free.specs.Read.{kind_of, task_of}
 use Rattle.annot_types.specs.Holds.{budget_of}
 use Rattle.annot_types.specs.Program.{members}
 use Rattle.annot_types.specs.Read as a
-use Rattle.rule_plan.specs.Read.{program_in}
+use Rattle.rules_plan.specs.Read.{program_in}
 use Rattle.cert_check.specs.At.{sizes_in}
 use Rattle.cert_check.specs.Sizes.{fun_sizes}
 use Rattle.cert_check.proofs.Sizing.{bodies_have, where_solved}

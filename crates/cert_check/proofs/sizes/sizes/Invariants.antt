@@ -1,7 +1,7 @@
 use Rattle.std.proofs.Common.{◌≡◌, ◌++◌, drop, map}
 use Rattle.std.specs.Prelude.{slice_get}
 use Rattle.call_groups.specs.Read.{ids_of}
-use Rattle.rule_plan.specs.Read.{program_in}
+use Rattle.rules_plan.specs.Read.{program_in}
 use Rattle.cert_check.specs.Sizes.{fun_sizes}
 use Rattle.cert_check.proofs.sizes.sizes.Given as goal
 

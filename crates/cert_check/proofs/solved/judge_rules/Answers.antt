@@ -2,11 +2,11 @@ use Rattle.std.proofs.Common.{◌≡◌, ap, ◌∙◌, map}
 use Rattle.cost_free.specs.Read.{task_of, kind_of}
 use Rattle.annot_types.specs.Read as a
 use Rattle.annot_types.specs.Holds as h
-use Rattle.walk_rules.specs.Capped.{capped_amount}
-use Rattle.walk_rules.specs.Carried.{sides_to, hint_to}
-use Rattle.walk_rules.specs.Faults.{first_fault}
-use Rattle.rule_walk.specs.Read.{known_of, sides_of}
-use Rattle.earlier_blocks.specs.Remembers.{free_at, cost_at}
+use Rattle.rules_spec.specs.Capped.{capped_amount}
+use Rattle.rules_spec.specs.Carried.{sides_to, hint_to}
+use Rattle.rules_spec.specs.Faults.{first_fault}
+use Rattle.rules_walk.specs.Read.{known_of, sides_of}
+use Rattle.rules_walk.specs.Remembers.{free_at, cost_at}
 use Rattle.cert_check.specs.At.{program_at}
 use Rattle.cert_check.specs.Finds.{asks_by, hints_by, sides_at, job}
 use Rattle.cert_check.specs.Judging.{bodies_walked}

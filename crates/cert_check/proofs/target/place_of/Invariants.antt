@@ -1,7 +1,7 @@
 use Rattle.std.proofs.Common.{◌≡◌, ◌+◌, drop}
 use Rattle.std.specs.Option.{option_map}
 use Rattle.call_groups.specs.Read.{ids_of}
-use Rattle.walk_rules.specs.Planned.{place_in}
+use Rattle.rules_spec.specs.Planned.{place_in}
 use Rattle.cert_check.proofs.target.place_of.Given as goal
 
 abbrev pub invariant-loop-place : goal.invariant-loop-place

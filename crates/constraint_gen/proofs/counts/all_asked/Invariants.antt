@@ -1,8 +1,8 @@
 use Rattle.std.proofs.Common.{◌≡◌, ◌++◌, drop, map}
-use Rattle.walk_rules.specs.Asked.{asked}
-use Rattle.walk_rules.specs.Tasks as t
-use Rattle.rule_walk.specs.Asks.{asks_of}
-use Rattle.rule_plan.specs.Read.{body_of}
+use Rattle.rules_spec.specs.Asked.{asked}
+use Rattle.rules_spec.specs.Tasks as t
+use Rattle.rules_walk.specs.Asks.{asks_of}
+use Rattle.rules_plan.specs.Read.{body_of}
 use Rattle.constraint_gen.proofs.counts.all_asked.Given as goal
 
 abbrev pub invariant-loop-body : goal.invariant-loop-body

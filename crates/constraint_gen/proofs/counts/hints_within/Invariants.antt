@@ -1,5 +1,5 @@
 use Rattle.std.proofs.Common.{◌≡◌, ◌≤◌, ◌+◌, drop, map}
-use Rattle.rule_walk.specs.Asks.{asks_of}
+use Rattle.rules_walk.specs.Asks.{asks_of}
 use Rattle.constraint_gen.specs.Given.{all_counts}
 use Rattle.constraint_gen.proofs.counts.hints_within.Given as goal
 

@@ -1,6 +1,6 @@
 use Rattle.std.proofs.Common.{◌≡◌, ◌≤◌, ◌+◌, drop, map}
-use Rattle.walk_rules.specs.Tasks.{sides_count}
-use Rattle.rule_plan.specs.Read.{body_of}
+use Rattle.rules_spec.specs.Tasks.{sides_count}
+use Rattle.rules_plan.specs.Read.{body_of}
 use Rattle.constraint_gen.proofs.counts.sides_within.Given as goal
 
 abbrev pub invariant-loop-body : goal.invariant-loop-body

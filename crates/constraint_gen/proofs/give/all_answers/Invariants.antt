@@ -1,6 +1,6 @@
 use Rattle.std.proofs.Common.{◌≡◌, ◌+◌, ◌++◌, drop, map}
-use Rattle.rule_walk.specs.Asks.{asks_of}
-use Rattle.rule_walk.specs.Read.{hints_of}
+use Rattle.rules_walk.specs.Asks.{asks_of}
+use Rattle.rules_walk.specs.Read.{hints_of}
 use Rattle.constraint_gen.specs.Sums.{unknown}
 use Rattle.constraint_gen.specs.Given.{all_counts, all_answers}
 use Rattle.constraint_gen.proofs.give.all_answers.Given as goal

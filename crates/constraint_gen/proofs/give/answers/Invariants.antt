@@ -1,7 +1,7 @@
 use Rattle.std.proofs.Common.{◌≡◌, ◌+◌, ◌++◌, drop}
-use Rattle.walk_rules.specs.Asked.{answers, counts}
-use Rattle.rule_walk.specs.Asks.{asks_of}
-use Rattle.rule_walk.specs.Read.{hints_of}
+use Rattle.rules_spec.specs.Asked.{answers, counts}
+use Rattle.rules_walk.specs.Asks.{asks_of}
+use Rattle.rules_walk.specs.Read.{hints_of}
 use Rattle.constraint_gen.specs.Sums.{unknown}
 use Rattle.constraint_gen.proofs.give.answers.Given as goal
 

@@ -1,5 +1,5 @@
 use Rattle.std.proofs.Common.{◌≡◌, ◌+◌}
-use Rattle.walk_rules.specs.Asked.{given}
+use Rattle.rules_spec.specs.Asked.{given}
 use Rattle.constraint_gen.specs.Sums.{unknown}
 use Rattle.constraint_gen.proofs.give.given.Given as goal
 

@@ -1,5 +1,5 @@
 use Rattle.std.proofs.Common.{◌≡◌, ◌+◌, ◌++◌, drop, length}
-use Rattle.walk_rules.specs.Asked.{given_blocks}
+use Rattle.rules_spec.specs.Asked.{given_blocks}
 use Rattle.constraint_gen.specs.Sums.{unknown}
 use Rattle.constraint_gen.proofs.give.given_blocks.Given as goal
 

@@ -1,5 +1,5 @@
 use Rattle.std.proofs.Common.{◌≡◌, ◌+◌, ◌++◌, drop}
-use Rattle.walk_rules.specs.Asked.{given_each, sum_of}
+use Rattle.rules_spec.specs.Asked.{given_each, sum_of}
 use Rattle.constraint_gen.specs.Sums.{unknown}
 use Rattle.constraint_gen.specs.Given.{lists}
 use Rattle.constraint_gen.proofs.give.given_each.Given as goal

@@ -1,7 +1,7 @@
 use Rattle.std.proofs.Common.{◌≡◌, ◌+◌, ◌++◌, drop, map}
-use Rattle.walk_rules.specs.Tasks.{sides_count, sides_given}
-use Rattle.rule_walk.specs.Read.{sides_of}
-use Rattle.rule_plan.specs.Read.{body_of}
+use Rattle.rules_spec.specs.Tasks.{sides_count, sides_given}
+use Rattle.rules_walk.specs.Read.{sides_of}
+use Rattle.rules_plan.specs.Read.{body_of}
 use Rattle.constraint_gen.specs.Sums.{unknown}
 use Rattle.constraint_gen.proofs.give.sides.Given as goal
 

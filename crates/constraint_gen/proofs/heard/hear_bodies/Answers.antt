@@ -1,9 +1,9 @@
 use Rattle.std.proofs.Common.{◌≡◌, ◌<◌, ◌+◌, ◌∙◌, ap, sym, map, drop, length, arith}
 use Rattle.std.proofs.lemmas.Bool.Decides.{nat_tests}
-use Rattle.rule_walk.specs.Place.{body_walked}
-use Rattle.rule_walk.specs.Read.{hints_of, known_of}
-use Rattle.rule_walk.specs.Read as w
-use Rattle.rule_plan.specs.Read.{body_of}
+use Rattle.rules_walk.specs.Place.{body_walked}
+use Rattle.rules_walk.specs.Read.{hints_of, known_of}
+use Rattle.rules_walk.specs.Read as w
+use Rattle.rules_plan.specs.Read.{body_of}
 use Rattle.constraint_gen.specs.Sums.{sums}
 use Rattle.constraint_gen.specs.Heard.{hear_all}
 use Rattle.constraint_gen.proofs.Functions.{cut_is}

@@ -1,7 +1,7 @@
 use Rattle.std.proofs.Common.{◌≡◌, drop, map}
-use Rattle.rule_walk.specs.Read.{hints_of, known_of}
-use Rattle.rule_walk.specs.Read as w
-use Rattle.rule_plan.specs.Read.{body_of}
+use Rattle.rules_walk.specs.Read.{hints_of, known_of}
+use Rattle.rules_walk.specs.Read as w
+use Rattle.rules_plan.specs.Read.{body_of}
 use Rattle.constraint_gen.specs.Heard.{hear_all}
 use Rattle.constraint_gen.specs.Walked.{bodies_walked}
 use Rattle.constraint_gen.proofs.heard.hear_bodies.Given as goal

@@ -1,6 +1,6 @@
 use Rattle.std.proofs.Common.{◌≡◌, ◌<◌, ◌+◌, ◌∷◌, ◌∙◌, [], ap, sym, drop, length, slice_index_or, rules, arith}
 use Rattle.std.proofs.lemmas.Bool.Decides.{nat_tests}
-use Rattle.walk_rules.specs.Walk.{at}
+use Rattle.rules_spec.specs.Walk.{at}
 use Rattle.constraint_gen.specs.Sums.{sums}
 use Rattle.constraint_gen.specs.Heard.{hear, hear_all}
 use Rattle.constraint_gen.specs.Walked.{reached}

@@ -1,11 +1,11 @@
 use Rattle.std.proofs.Common.{◌≡◌, ◌∙◌, [], ap, sym, map, length, slice_index_or, arith, rules}
 use Rattle.cost_free.specs.Read.{task_of}
-use Rattle.walk_rules.specs.Asked.{asked}
-use Rattle.walk_rules.specs.Tasks as t
-use Rattle.walk_rules.specs.Tasks.{sides_count, hints_count, sides_given, hints_given, known_by, given_conditions}
-use Rattle.rule_walk.specs.Asks.{asks_of}
-use Rattle.rule_walk.specs.Read.{hints_of, known_of, sides_of}
-use Rattle.rule_plan.specs.Read.{program_in, body_of}
+use Rattle.rules_spec.specs.Asked.{asked}
+use Rattle.rules_spec.specs.Tasks as t
+use Rattle.rules_spec.specs.Tasks.{sides_count, hints_count, sides_given, hints_given, known_by, given_conditions}
+use Rattle.rules_walk.specs.Asks.{asks_of}
+use Rattle.rules_walk.specs.Read.{hints_of, known_of, sides_of}
+use Rattle.rules_plan.specs.Read.{program_in, body_of}
 use Rattle.constraint_gen.specs.Sums.{sums, unknown}
 use Rattle.constraint_gen.specs.Heard.{Heard, hear_all}
 use Rattle.constraint_gen.specs.Given.{all_counts, all_answers}

@@ -1,6 +1,6 @@
 use Rattle.std.proofs.Common.{◌≡◌, nat_lt, not, ◌&&◌, drop}
 use Rattle.std.specs.List.{list_all}
-use Rattle.walk_rules.specs.Capped.{cap}
+use Rattle.rules_spec.specs.Capped.{cap}
 use Rattle.constraint_gen.specs.Sums.{total_of}
 use Rattle.constraint_gen.proofs.row.covers.Given as goal
 

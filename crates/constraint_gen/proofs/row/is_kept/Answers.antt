@@ -1,7 +1,7 @@
 use Rattle.std.proofs.Common.{◌≤◌, ◌+◌, not, ap, ◌∙◌, arith}
 use Rattle.std.specs.List.{list_all}
 use Rattle.std.proofs.lemmas.Bool.Decides.{nat_tests}
-use Rattle.walk_rules.specs.Capped.{cap}
+use Rattle.rules_spec.specs.Capped.{cap}
 use Rattle.constraint_gen.proofs.Kept.{covered, kept_is}
 use Rattle.constraint_gen.proofs.row.is_kept.Goals as goal
 

@@ -1,6 +1,6 @@
 use Rattle.std.proofs.Common.{◌≡◌, ◌+◌, ◌-ℤ◌, pos, true, ℕ, rules}
-use Rattle.walk_rules.specs.Capped.{cap}
-use Rattle.solved_tasks.specs.Capped.{fits}
+use Rattle.rules_spec.specs.Capped.{cap}
+use Rattle.rules_spec.specs.CappedRows.{fits}
 use Rattle.linear_rows.specs.Terms.{IsSparse}
 use Rattle.constraint_gen.specs.Heard.{wanted, IsDone, Leaves}
 use Rattle.constraint_gen.proofs.Kept.{row_is, row_leaves}

@@ -1,5 +1,5 @@
 use Rattle.std.proofs.Common.{refl, ap, ◌∙◌, arith, length}
-use Rattle.solved_tasks.specs.Capped.{fits}
+use Rattle.rules_spec.specs.CappedRows.{fits}
 use Rattle.constraint_gen.specs.Heard.{owed}
 use Rattle.constraint_gen.proofs.Merging.{merged_none, merged_step, merged_all, absent_at, owed_there}
 use Rattle.constraint_gen.proofs.row.settle_all.Goals as goal

@@ -1,7 +1,7 @@
 use Rattle.std.proofs.Common.{◌≡◌, ◌≤◌, ◌+◌, ◌-◌, ◌^◌, ◌∙◌, ℕ, length, ap, sym, set, arith}
 use Rattle.std.specs.List.{refill}
 use Rattle.std.proofs.lemmas.List.{length-set}
-use Rattle.walk_rules.specs.Capped.{cap}
+use Rattle.rules_spec.specs.Capped.{cap}
 use Rattle.constraint_gen.specs.Sums.{number_at, IsAt, IsGapFor}
 use Rattle.constraint_gen.proofs.Sums.{put_there, put_in_gap, sum_insert, refill_same}
 use Rattle.constraint_gen.proofs.sum.add_term.Goals as goal

@@ -4,10 +4,10 @@ use Rattle.cost_free.specs.Read.{task_of, kind_of}
 use Rattle.annot_types.specs.Holds.{budget_of}
 use Rattle.annot_types.specs.Program.{members}
 use Rattle.annot_types.specs.System.{sig_weights}
-use Rattle.walk_rules.specs.Kinds.{forms, unknown}
-use Rattle.walk_rules.specs.Tasks.{given_conditions}
-use Rattle.walk_rules.specs.Solving.{rows_of}
-use Rattle.rule_plan.specs.Read.{program_in, body_of}
+use Rattle.rules_spec.specs.Kinds.{forms, unknown}
+use Rattle.rules_spec.specs.Tasks.{given_conditions}
+use Rattle.rules_spec.specs.Solving.{rows_of}
+use Rattle.rules_plan.specs.Read.{program_in, body_of}
 use Rattle.constraint_gen.specs.Sums as s
 use Rattle.constraint_gen.specs.Sums.{sums}
 use Rattle.constraint_gen.specs.Made.{filled}

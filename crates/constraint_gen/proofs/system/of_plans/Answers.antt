@@ -3,11 +3,11 @@ use Rattle.cost_free.specs.Read.{task_of, kind_of}
 use Rattle.annot_types.specs.Holds.{budget_of}
 use Rattle.annot_types.specs.Program.{members}
 use Rattle.annot_types.specs.System.{sig_weights}
-use Rattle.walk_rules.specs.Kinds.{forms, unknown}
-use Rattle.walk_rules.specs.Tasks.{sides_count, unknowns, given_conditions}
-use Rattle.walk_rules.specs.Solving.{rows_of}
-use Rattle.rule_walk.specs.Asks.{asks_of}
-use Rattle.rule_plan.specs.Read.{program_in, body_of}
+use Rattle.rules_spec.specs.Kinds.{forms, unknown}
+use Rattle.rules_spec.specs.Tasks.{sides_count, unknowns, given_conditions}
+use Rattle.rules_spec.specs.Solving.{rows_of}
+use Rattle.rules_walk.specs.Asks.{asks_of}
+use Rattle.rules_plan.specs.Read.{program_in, body_of}
 use Rattle.constraint_gen.specs.Given.{all_counts}
 use Rattle.constraint_gen.specs.Made.{HasRows, IsProper, JobMade, RowCause, JobCause}
 use Rattle.constraint_gen.specs.Walked.{job_in}

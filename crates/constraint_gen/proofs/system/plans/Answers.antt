@@ -1,7 +1,7 @@
 use Rattle.std.proofs.Common.{◌∙◌, sym, subst}
 use Rattle.std.specs.Prelude.{Err}
 use Rattle.std.proofs.Common.{ap}
-use Rattle.rule_plan.specs.Read.{program_in, GroupWithin, ArePlansOf}
+use Rattle.rules_plan.specs.Read.{program_in, GroupWithin, ArePlansOf}
 use Rattle.constraint_gen.proofs.system.plans.Goals as goal
 
 pub returns-in-Ok-clause-plans : goal.returns-in-Ok-clause-plans

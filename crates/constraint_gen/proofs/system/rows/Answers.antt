@@ -3,8 +3,8 @@ use Rattle.std.specs.Int.{w128}
 use Rattle.std.proofs.lemmas.Int.{to_z-of_z}
 use Rattle.cost_free.specs.Read.{task_of}
 use Rattle.annot_types.specs.Holds.{budget_of}
-use Rattle.walk_rules.specs.Systems.{IsTask}
-use Rattle.rule_plan.specs.Read.{program_in, body_of}
+use Rattle.rules_spec.specs.Systems.{IsTask}
+use Rattle.rules_plan.specs.Read.{program_in, body_of}
 use Rattle.constraint_gen.specs.Cause.{IsMade, IsCause}
 use Rattle.constraint_gen.proofs.Whole.{if_ok, if_err}
 use Rattle.constraint_gen.proofs.system.rows.Goals as goal

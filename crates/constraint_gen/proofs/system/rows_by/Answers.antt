@@ -4,7 +4,7 @@ use Rattle.cost_free.specs.Read.{task_of}
 use Rattle.annot_types.specs.Holds.{budget_of}
 use Rattle.annot_types.specs.Program.{members}
 use Rattle.annot_types.specs.System.{sig_weights}
-use Rattle.rule_plan.specs.Read.{program_in, body_of}
+use Rattle.rules_plan.specs.Read.{program_in, body_of}
 use Rattle.constraint_gen.specs.Made.{IsProper, JobMade, JobCause}
 use Rattle.constraint_gen.specs.Walked.{job_in}
 use Rattle.constraint_gen.proofs.Whole.{unknowns_are, rows_are, system_is, is_cause, proper_is, if_ok, if_err}

@@ -1,6 +1,6 @@
 use Rattle.std.proofs.Common.{◌≡◌, ◌∙◌, ap, length, Some, slice_get, rules}
-use Rattle.normal_form.specs.Context.{types}
-use Rattle.normal_form.specs.Read.{parameters_of}
+use Rattle.normal_spec.specs.Context.{types}
+use Rattle.normal_spec.specs.Read.{parameters_of}
 use Rattle.constraint_gen.proofs.Functions.{args_there}
 use Rattle.constraint_gen.proofs.task.arguments.Goals as goal
 

@@ -1,6 +1,6 @@
 use Rattle.std.proofs.Common.{◌≡◌, ◌∙◌, ap, slice_get, rules}
 use Rattle.base_poly.specs.Read.{context_of}
-use Rattle.rule_plan.specs.Read.{program_in}
+use Rattle.rules_plan.specs.Read.{program_in}
 use Rattle.constraint_gen.specs.Weights.{positions_in}
 use Rattle.constraint_gen.proofs.Functions.{positions_are}
 use Rattle.constraint_gen.proofs.task.positions_of.Goals as goal

@@ -1,7 +1,7 @@
 use Rattle.std.proofs.Common.{◌≡◌, ◌++◌, drop}
 use Rattle.annot_types.specs.System.{sig_weights}
 use Rattle.cost_free.specs.Read.{ids_of}
-use Rattle.rule_plan.specs.Read.{program_in}
+use Rattle.rules_plan.specs.Read.{program_in}
 use Rattle.constraint_gen.proofs.task.sig_weights.Given as goal
 
 abbrev pub invariant-loop-fun : goal.invariant-loop-fun

@@ -1,7 +1,7 @@
 use Rattle.std.proofs.Common.{◌≡◌, ◌+◌, ◌++◌, drop, map}
 use Rattle.annot_types.specs.Read.{hints_of}
-use Rattle.rule_walk.specs.Asks.{asks_of}
-use Rattle.solved_tasks.specs.Told as t
+use Rattle.rules_walk.specs.Asks.{asks_of}
+use Rattle.rules_spec.specs.Told as t
 use Rattle.constraint_gen.specs.Given.{all_counts, all_answers}
 use Rattle.constraint_gen.specs.Numbers.{numbers}
 use Rattle.constraint_gen.proofs.told.all_hints.Given as goal

@@ -1,7 +1,7 @@
 use Rattle.std.proofs.Common.{◌≡◌, true, false, sym, subst}
 use Rattle.annot_types.specs.Certificate.{Rise}
-use Rattle.walk_rules.specs.Asked.{given}
-use Rattle.solved_tasks.proofs.Told.{entries_rise}
+use Rattle.rules_spec.specs.Asked.{given}
+use Rattle.rules_spec.proofs.Told.{entries_rise}
 use Rattle.constraint_gen.specs.Numbers.{numbers}
 use Rattle.constraint_gen.proofs.told.annot.Goals as goal
 

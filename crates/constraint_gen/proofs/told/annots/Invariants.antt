@@ -1,6 +1,6 @@
 use Rattle.std.proofs.Common.{◌≡◌, ◌+◌, ◌++◌, drop, map}
-use Rattle.walk_rules.specs.Asked.{given_each, sum_of}
-use Rattle.solved_tasks.specs.Told.{entries}
+use Rattle.rules_spec.specs.Asked.{given_each, sum_of}
+use Rattle.rules_spec.specs.Told.{entries}
 use Rattle.constraint_gen.specs.Numbers.{numbers}
 use Rattle.constraint_gen.proofs.told.annots.Given as goal
 

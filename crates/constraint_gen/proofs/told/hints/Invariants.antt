@@ -1,8 +1,8 @@
 use Rattle.std.proofs.Common.{◌≡◌, ◌+◌, ◌++◌, drop, map}
 use Rattle.annot_types.specs.Read.{hint_of}
-use Rattle.walk_rules.specs.Asked.{answers, counts}
-use Rattle.rule_walk.specs.Asks.{asks_of}
-use Rattle.solved_tasks.specs.Told as t
+use Rattle.rules_spec.specs.Asked.{answers, counts}
+use Rattle.rules_walk.specs.Asks.{asks_of}
+use Rattle.rules_spec.specs.Told as t
 use Rattle.constraint_gen.specs.Numbers.{numbers}
 use Rattle.constraint_gen.proofs.told.hints.Given as goal
 

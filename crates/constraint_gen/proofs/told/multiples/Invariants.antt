@@ -1,6 +1,6 @@
 use Rattle.std.proofs.Common.{◌≡◌, ◌+◌, ◌++◌, drop, length}
-use Rattle.walk_rules.specs.Asked.{given_blocks}
-use Rattle.solved_tasks.specs.Told.{named}
+use Rattle.rules_spec.specs.Asked.{given_blocks}
+use Rattle.rules_spec.specs.Told.{named}
 use Rattle.constraint_gen.specs.Numbers.{numbers}
 use Rattle.constraint_gen.proofs.told.multiples.Given as goal
 

@@ -1,8 +1,8 @@
 use Rattle.std.proofs.Common.{◌≡◌, ◌+◌, ◌++◌, drop, map}
 use Rattle.annot_types.specs.Read.{sig_of}
-use Rattle.walk_rules.specs.Tasks.{sides_count, sides_given}
-use Rattle.rule_plan.specs.Read.{body_of}
-use Rattle.solved_tasks.specs.Told as t
+use Rattle.rules_spec.specs.Tasks.{sides_count, sides_given}
+use Rattle.rules_plan.specs.Read.{body_of}
+use Rattle.rules_spec.specs.Told as t
 use Rattle.constraint_gen.specs.Numbers.{numbers}
 use Rattle.constraint_gen.proofs.told.sigs.Given as goal
 

@@ -1,8 +1,8 @@
 use Rattle.std.proofs.Common.{◌≡◌, ◌∙◌, ap, map, arith}
-use Rattle.walk_rules.specs.Tasks.{sides_count}
-use Rattle.rule_walk.specs.Asks.{asks_of}
-use Rattle.rule_plan.specs.Read.{body_of}
-use Rattle.solved_tasks.specs.Told as t
+use Rattle.rules_spec.specs.Tasks.{sides_count}
+use Rattle.rules_walk.specs.Asks.{asks_of}
+use Rattle.rules_plan.specs.Read.{body_of}
+use Rattle.rules_spec.specs.Told as t
 use Rattle.constraint_gen.specs.Given.{all_answers}
 use Rattle.constraint_gen.specs.Numbers.{numbers}
 use Rattle.constraint_gen.proofs.Giving.{answers_are}

@@ -4,8 +4,8 @@ use Rattle.annot_types.specs.Certificate.{Solved}
 use Rattle.annot_types.specs.Held.{before}
 use Rattle.annot_types.specs.Holds.{budget_of}
 use Rattle.annot_types.specs.Read as a
-use Rattle.rule_walk.specs.Filled.{uses_of}
-use Rattle.rule_plan.specs.Read.{program_in, body_of}
+use Rattle.rules_walk.specs.Filled.{uses_of}
+use Rattle.rules_plan.specs.Read.{program_in, body_of}
 use Rattle.cert_check.specs.Finds.{ShapeFinds}
 use Rattle.cert_check.specs.Read.{fault_of}
 use Rattle.cert_check.proofs.Telling.{of_fault}

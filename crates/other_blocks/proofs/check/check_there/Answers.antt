@@ -1,5 +1,5 @@
 use Rattle.std.proofs.Common.{subst}
-use Rattle.rule_plan.specs.Read.{program_in, ArePlansOf}
+use Rattle.rules_plan.specs.Read.{program_in, ArePlansOf}
 use Rattle.other_blocks.proofs.check.check_there.Goals as goal
 
 pub check_over-requires-clause-plans : goal.check_over-requires-clause-plans

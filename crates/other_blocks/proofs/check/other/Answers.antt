@@ -9,7 +9,7 @@ use Rattle.annot_types.specs.Certificate.{Certificate}
 use Rattle.annot_types.specs.Held.{scale_for, Held}
 use Rattle.annot_types.specs.Program.{members}
 use Rattle.annot_types.specs.Read as a
-use Rattle.rule_plan.specs.Read.{program_in}
+use Rattle.rules_plan.specs.Read.{program_in}
 use Rattle.cert_check.specs.Fault.{Shape}
 use Rattle.cert_check.specs.Laws.{IsProper}
 use Rattle.cert_check.specs.Read.{fault_of, OfFault}

@@ -1,10 +1,10 @@
 use Rattle.std.proofs.Common.{◌≡◌, ◌<◌, ◌++◌, ◌∷◌, [], ap, sym, ◌∙◌, subst, length, take, rules}
 use Rattle.std.proofs.lemmas.List.{length-map}
-use Rattle.normal_form.specs.Two.{norm_fun}
+use Rattle.normal_spec.specs.Two.{norm_fun}
 use Rattle.share_normal.specs.Program.{source_in}
 use Rattle.annot_types.specs.Read.{block_of, blocks_of, certificate_of}
-use Rattle.rule_plan.specs.Read.{program_in}
-use Rattle.earlier_blocks.specs.Remembers.{Remembers}
+use Rattle.rules_plan.specs.Read.{program_in}
+use Rattle.rules_walk.specs.Remembers.{Remembers}
 use Rattle.cert_check.proofs.Walking.{front_is}
 use Rattle.other_blocks.proofs.tables.tables.Goals as goal
 

@@ -1,7 +1,7 @@
 use Rattle.annot_types.specs.Held.{before}
 use Rattle.annot_types.specs.Read.{certificate_of}
-use Rattle.rule_plan.specs.Read.{program_in}
-use Rattle.earlier_blocks.specs.Remembers.{Remembers}
+use Rattle.rules_plan.specs.Read.{program_in}
+use Rattle.rules_walk.specs.Remembers.{Remembers}
 use Rattle.other_blocks.proofs.tables.tables.Given as goal
 
 abbrev pub invariant-loop-number : goal.invariant-loop-number

@@ -1,12 +1,12 @@
 use Rattle.std.proofs.Common.{◌≡◌, ◌≤◌, ◌<◌, ◌-◌, ◌∙◌, ap, sym, subst, arith, [], ◌∷◌, ◌++◌}
 use Rattle.std.specs.Prelude.{vec_len}
-use Rattle.token_grammar.specs.Reading.{◌>>=◌, read, rule_of, items_of}
-use Rattle.token_grammar.proofs.Steps.{items_fail, items_more}
-use Rattle.raml_grammar.specs.Table.{grammar, function_rule, place, At}
-use Rattle.raml_grammar.specs.Read.{StartsAt, HaveParameters, pieces, headed, functions, functions_back}
-use Rattle.raml_grammar.specs.declared.token.Sign.TheVariants.{Fun}
-use Rattle.raml_grammar.proofs.Chains.{fails_as, refused}
-use Rattle.raml_grammar.proofs.Parts.{functions_push, starts_push, parameters_push}
+use Rattle.parse_spec.specs.Reading.{◌>>=◌, read, rule_of, items_of}
+use Rattle.parse_spec.proofs.Steps.{items_fail, items_more}
+use Rattle.parse_table.specs.Table.{grammar, function_rule, place, At}
+use Rattle.parse_table.specs.Read.{StartsAt, HaveParameters, pieces, headed, functions, functions_back}
+use Rattle.parse_table.specs.declared.token.Sign.TheVariants.{Fun}
+use Rattle.parse_table.proofs.Chains.{fails_as, refused}
+use Rattle.parse_table.proofs.Parts.{functions_push, starts_push, parameters_push}
 use Rattle.raml_parse.proofs.program.parse_functions.Goals as goal
 
 pub loop-next_at-preserved : goal.loop-next_at-preserved

@@ -1,9 +1,9 @@
 use Rattle.std.proofs.Common.{◌≡◌, ◌≤◌, ◌<◌, ◌-◌, []}
 use Rattle.std.specs.Prelude.{vec_len}
-use Rattle.token_grammar.specs.Reading.{read, rule_of, list_of, items_of}
-use Rattle.raml_grammar.specs.Table.{grammar, function_rule, place}
-use Rattle.raml_grammar.specs.Read.{StartsAt, HaveParameters, pieces, functions_back}
-use Rattle.raml_grammar.specs.declared.token.Sign.TheVariants.{Fun}
+use Rattle.parse_spec.specs.Reading.{read, rule_of, list_of, items_of}
+use Rattle.parse_table.specs.Table.{grammar, function_rule, place}
+use Rattle.parse_table.specs.Read.{StartsAt, HaveParameters, pieces, functions_back}
+use Rattle.parse_table.specs.declared.token.Sign.TheVariants.{Fun}
 use Rattle.raml_parse.proofs.program.parse_functions.Given as goal
 
 abbrev pub invariant-loop-next_at : goal.invariant-loop-next_at

@@ -1,13 +1,13 @@
 use Rattle.std.proofs.Common.{◌≡◌, ◌≤◌, ◌<◌, ◌-◌, ◌∙◌, ap, sym, arith, [], ◌∷◌}
 use Rattle.std.specs.Prelude.{vec_len}
-use Rattle.token_grammar.specs.Reading.{read, rule_of, items_of}
-use Rattle.token_grammar.proofs.Steps.{items_fail, items_more}
+use Rattle.parse_spec.specs.Reading.{read, rule_of, items_of}
+use Rattle.parse_spec.proofs.Steps.{items_fail, items_more}
 use Rattle.raml_syntax.specs.Read.{parameter_of}
-use Rattle.raml_grammar.specs.Table.{grammar, param_rule, key, Header}
-use Rattle.raml_grammar.specs.Read.{pieces, headers, headers_back}
-use Rattle.raml_grammar.specs.declared.token.Sign.TheVariants.{Comma}
-use Rattle.raml_grammar.proofs.Chains.{fails_as, refused}
-use Rattle.raml_grammar.proofs.Parts.{headers_push}
+use Rattle.parse_table.specs.Table.{grammar, param_rule, key, Header}
+use Rattle.parse_table.specs.Read.{pieces, headers, headers_back}
+use Rattle.parse_table.specs.declared.token.Sign.TheVariants.{Comma}
+use Rattle.parse_table.proofs.Chains.{fails_as, refused}
+use Rattle.parse_table.proofs.Parts.{headers_push}
 use Rattle.raml_parse.proofs.program.parse_params.Goals as goal
 
 pub loop-next-preserved : goal.loop-next-preserved

@@ -1,9 +1,9 @@
 use Rattle.std.proofs.Common.{◌≡◌, ◌≤◌, ◌<◌, ◌-◌, []}
 use Rattle.std.specs.Prelude.{vec_len}
-use Rattle.token_grammar.specs.Reading.{read, rule_of, list_of, items_of}
-use Rattle.raml_grammar.specs.Table.{grammar, param_rule, key}
-use Rattle.raml_grammar.specs.Read.{pieces, headers_back}
-use Rattle.raml_grammar.specs.declared.token.Sign.TheVariants.{Comma}
+use Rattle.parse_spec.specs.Reading.{read, rule_of, list_of, items_of}
+use Rattle.parse_table.specs.Table.{grammar, param_rule, key}
+use Rattle.parse_table.specs.Read.{pieces, headers_back}
+use Rattle.parse_table.specs.declared.token.Sign.TheVariants.{Comma}
 use Rattle.raml_parse.proofs.program.parse_params.Given as goal
 
 abbrev pub invariant-loop-next : goal.invariant-loop-next

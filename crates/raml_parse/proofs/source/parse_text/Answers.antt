@@ -2,10 +2,10 @@ use Rattle.std.proofs.Common.{◌≤◌, ◌∙◌, ap, length, arith}
 use Rattle.std.specs.Prelude.{map}
 use Rattle.std.proofs.lemmas.List.{length-map}
 use Rattle.raml_syntax.specs.Read.{program_of}
-use Rattle.raml_grammar.specs.Tokens.{as_token}
-use Rattle.raml_grammar.specs.Read.{pieces}
+use Rattle.parse_table.specs.Tokens.{as_token}
+use Rattle.parse_table.specs.Read.{pieces}
 use Rattle.raml_parse.proofs.Answered.{spelled_is, fault_answered, limits_hold, nodes_fit}
-use Rattle.raml_grammar.proofs.Parts.{each_has_parameters}
+use Rattle.parse_table.proofs.Parts.{each_has_parameters}
 use Rattle.raml_parse.proofs.source.parse_text.Goals as goal
 
 pub returns-in-Ok-parse_tokens-clause-spelled : goal.returns-in-Ok-parse_tokens-clause-spelled

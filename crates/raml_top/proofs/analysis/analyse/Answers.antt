@@ -1,4 +1,4 @@
-use Rattle.rule_plan.specs.Read.{program_in}
+use Rattle.rules_plan.specs.Read.{program_in}
 use Rattle.raml_top.specs.Analysis.{analysis}
 use Rattle.raml_top.proofs.analysis.analyse.Goals as goal
 

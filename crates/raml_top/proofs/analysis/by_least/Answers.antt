@@ -1,6 +1,6 @@
 use Rattle.std.proofs.Common.{rules}
-use Rattle.whole_answers.specs.Rules.{least_pick}
-use Rattle.whole_answers.proofs.Chosen.{answers_by}
+use Rattle.simplex_checked.specs.Rules.{least_pick}
+use Rattle.simplex_checked.proofs.Chosen.{answers_by}
 use Rattle.raml_top.proofs.Choosing.{course_by, fault_by}
 use Rattle.raml_top.proofs.analysis.by_least.Goals as goal
 

@@ -1,6 +1,6 @@
 use Rattle.std.proofs.Common.{subst}
 use Rattle.bound_infer.specs.Inferred.{InferCause}
-use Rattle.call_answers.specs.Refusals.{names_in}
+use Rattle.refusals.specs.Refusals.{names_in}
 use Rattle.raml_top.proofs.Refusing.{large_refuses, leaves_refuses}
 use Rattle.raml_top.proofs.analysis.course_refusal.Goals as goal
 

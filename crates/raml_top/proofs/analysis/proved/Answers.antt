@@ -1,8 +1,8 @@
 use Rattle.std.proofs.Common.{subst}
 use Rattle.share_normal.specs.Program.{Kept}
-use Rattle.rule_plan.specs.Read.{program_in}
+use Rattle.rules_plan.specs.Read.{program_in}
 use Rattle.annot_types.specs.System.{Valid}
-use Rattle.courses.specs.Good.{AllRefuted}
+use Rattle.infer_spec.specs.Good.{AllRefuted}
 use Rattle.raml_top.proofs.Proved.{is_proved}
 use Rattle.raml_top.proofs.analysis.proved.Goals as goal
 

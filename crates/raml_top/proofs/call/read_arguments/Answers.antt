@@ -5,7 +5,7 @@ use Rattle.raml_syntax.specs.Types.{types_of}
 use Rattle.raml_syntax.specs.Read.{ty_of, program_of}
 use Rattle.value_text.specs.Reading.{AreRead, FirstFault, most_cells}
 use Rattle.report_text.specs.Report.{types_in}
-use Rattle.call_answers.specs.Line.{no_names}
+use Rattle.refusals.specs.Line.{no_names}
 use Rattle.raml_top.specs.Call.{DataRefuses}
 use Rattle.raml_top.specs.Parts.{ArgumentsRefuse}
 use Rattle.raml_top.proofs.Placing.{each_at, read_at, some_at}

@@ -2,9 +2,9 @@ use Rattle.std.proofs.Common.{◌≡◌, ◌≤◌, ◌∙◌, ap, refl, sym, su
 use Rattle.std.proofs.lemmas.Option.{slice_get_within}
 use Rattle.raml_syntax.specs.Read.{program_of}
 use Rattle.raml_syntax.specs.Place.{place_of}
-use Rattle.call_answers.specs.Ending as e
-use Rattle.call_answers.specs.Line.{no_names}
-use Rattle.call_answers.specs.declared.status.Status.TheVariants as s
+use Rattle.refusals.specs.Ending as e
+use Rattle.refusals.specs.Line.{no_names}
+use Rattle.refusals.specs.declared.status.Status.TheVariants as s
 use Rattle.raml_top.specs.Outside.{store_of}
 use Rattle.raml_top.specs.Parts.{Refuses, ReadsArguments, ArgumentsRefuse, CallRefuses}
 use Rattle.raml_top.proofs.Placing.{named}

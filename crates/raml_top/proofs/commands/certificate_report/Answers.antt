@@ -1,5 +1,5 @@
 use Rattle.std.proofs.Common.{refl}
-use Rattle.call_answers.specs.Ending.{Done}
+use Rattle.refusals.specs.Ending.{Done}
 use Rattle.raml_top.proofs.commands.certificate_report.Goals as goal
 
 pub returns-in-Ok : goal.returns-in-Ok

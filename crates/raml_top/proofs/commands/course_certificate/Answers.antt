@@ -1,7 +1,7 @@
 use Rattle.std.proofs.Common.{subst}
 use Rattle.share_normal.specs.Program.{source_in}
-use Rattle.rule_plan.specs.Read.{program_in}
-use Rattle.call_answers.specs.Refusals.{names_in}
+use Rattle.rules_plan.specs.Read.{program_in}
+use Rattle.refusals.specs.Refusals.{names_in}
 use Rattle.raml_top.specs.Outside.{Promised}
 use Rattle.raml_top.specs.Analysis.{analysis, CourseRefuses, IsCourse}
 use Rattle.raml_top.specs.Promise.{PrintsCertificate}

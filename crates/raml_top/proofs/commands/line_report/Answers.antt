@@ -1,8 +1,8 @@
 use Rattle.std.proofs.Common.{ap, sym, subst, string_bytes}
 use Rattle.share_normal.specs.Program.{Kept, source_in}
-use Rattle.rule_plan.specs.Read.{program_in}
+use Rattle.rules_plan.specs.Read.{program_in}
 use Rattle.analysis_report.specs.Lines.{AreLines}
-use Rattle.call_answers.specs.Ending.{Done, ending_of}
+use Rattle.refusals.specs.Ending.{Done, ending_of}
 use Rattle.raml_top.proofs.commands.line_report.Goals as goal
 
 pub returns-in-Ok : goal.returns-in-Ok

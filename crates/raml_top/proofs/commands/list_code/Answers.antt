@@ -1,5 +1,5 @@
 use Rattle.std.proofs.Common.{ap, ◌∙◌}
-use Rattle.call_answers.specs.Ending.{Done, ending_of}
+use Rattle.refusals.specs.Ending.{Done, ending_of}
 use Rattle.raml_top.proofs.commands.list_code.Goals as goal
 
 pub returns-in-Ok : goal.returns-in-Ok

@@ -1,7 +1,7 @@
 use Rattle.std.proofs.Common.{ap, ◌∙◌}
 use Rattle.raml_syntax.specs.Read.{program_of}
 use Rattle.report_text.specs.Report.{type_lines}
-use Rattle.call_answers.specs.Ending.{Done, ending_of}
+use Rattle.refusals.specs.Ending.{Done, ending_of}
 use Rattle.raml_top.proofs.commands.list_types.Goals as goal
 
 pub returns-in-Ok : goal.returns-in-Ok

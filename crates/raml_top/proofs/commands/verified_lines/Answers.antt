@@ -1,8 +1,8 @@
 use Rattle.std.proofs.Common.{subst}
 use Rattle.share_normal.specs.Program.{source_in}
-use Rattle.rule_plan.specs.Read.{program_in}
+use Rattle.rules_plan.specs.Read.{program_in}
 use Rattle.annot_types.specs.Read.{certificate_of}
-use Rattle.call_answers.specs.Refusals.{names_in}
+use Rattle.refusals.specs.Refusals.{names_in}
 use Rattle.raml_top.specs.Outside.{Promised}
 use Rattle.raml_top.specs.Analysis.{CheckRefuses, IsChecked, IsProved}
 use Rattle.raml_top.specs.Promise.{PrintsLines}

@@ -1,9 +1,9 @@
 use Rattle.std.proofs.Common.{◌≡◌, ◌≤◌, ◌+◌, suc, length, subst, refl, inr, arith, rules}
 use Rattle.std.specs.Prelude.{IfSome}
 use Rattle.raml_io.specs.Files.{IsFront}
-use Rattle.call_answers.specs.Ending as e
-use Rattle.call_answers.specs.Line.{no_names}
-use Rattle.call_answers.specs.declared.status.Status.TheVariants as s
+use Rattle.refusals.specs.Ending as e
+use Rattle.refusals.specs.Line.{no_names}
+use Rattle.refusals.specs.declared.status.Status.TheVariants as s
 use Rattle.raml_top.specs.Outside.{store_of}
 use Rattle.raml_top.specs.Steps.{most_bytes}
 use Rattle.raml_top.specs.Parts.{FileRefuses}

@@ -1,7 +1,7 @@
 use Rattle.std.proofs.Common.{◌≤◌, length, sym, subst, arith, inl}
 use Rattle.raml_syntax.specs.Read.{program_of}
-use Rattle.fault_text.specs.declared.plain.Which.TheVariants as w
-use Rattle.call_answers.specs.Line.{no_names}
+use Rattle.refusal_text.specs.declared.plain.Which.TheVariants as w
+use Rattle.refusals.specs.Line.{no_names}
 use Rattle.raml_top.specs.Outside.{store_of}
 use Rattle.raml_top.specs.Parts.{FileRefuses, ProgramRefuses}
 use Rattle.raml_top.proofs.Stepping.{refuses_map}

@@ -1,6 +1,6 @@
 use Rattle.raml_words.specs.Words.{texts, Asks}
 use Rattle.raml_words.specs.Asked.{request_of}
-use Rattle.call_answers.specs.Line.{no_names}
+use Rattle.refusals.specs.Line.{no_names}
 use Rattle.raml_top.specs.Outside.{Promised, store_of}
 use Rattle.raml_top.specs.Promise.{Answers}
 use Rattle.raml_top.specs.Parts.{WordsRefuse}

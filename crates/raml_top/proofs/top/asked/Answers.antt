@@ -1,8 +1,8 @@
 use Rattle.std.proofs.Common.{refl, inr}
 use Rattle.raml_words.specs.Words.{texts}
-use Rattle.call_answers.specs.Ending as e
-use Rattle.call_answers.specs.Line.{no_names}
-use Rattle.call_answers.specs.declared.status.Status.TheVariants as s
+use Rattle.refusals.specs.Ending as e
+use Rattle.refusals.specs.Line.{no_names}
+use Rattle.refusals.specs.declared.status.Status.TheVariants as s
 use Rattle.raml_top.specs.Parts.{WordsRefuse}
 use Rattle.raml_top.proofs.Refusing.{told_refuses}
 use Rattle.raml_top.proofs.top.asked.Goals as goal

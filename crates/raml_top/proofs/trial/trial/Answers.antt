@@ -1,5 +1,5 @@
 use Rattle.std.proofs.Common.{◌∙◌, subst}
-use Rattle.fault_text.specs.declared.plain.Which.TheVariants as w
+use Rattle.refusal_text.specs.declared.plain.Which.TheVariants as w
 use Rattle.raml_top.specs.Outside.{Promised}
 use Rattle.raml_top.specs.Steps.{OfShort, OfSource}
 use Rattle.raml_top.specs.Promise.{Tries}

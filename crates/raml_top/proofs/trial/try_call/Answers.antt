@@ -1,8 +1,8 @@
 use Rattle.std.proofs.Common.{◌≡◌, ◌∙◌, subst}
 use Rattle.raml_syntax.specs.Read.{program_of}
-use Rattle.rule_plan.specs.Read.{program_in}
+use Rattle.rules_plan.specs.Read.{program_in}
 use Rattle.report_text.specs.Trial.{trial_data}
-use Rattle.call_answers.specs.Line.{no_names}
+use Rattle.refusals.specs.Line.{no_names}
 use Rattle.raml_top.specs.Outside.{Promised}
 use Rattle.raml_top.specs.Promise.{RunsTrial}
 use Rattle.raml_top.specs.Parts.{ReadsArguments, ArgumentsRefuse, Refuses}

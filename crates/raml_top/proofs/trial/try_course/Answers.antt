@@ -1,7 +1,7 @@
 use Rattle.std.proofs.Common.{◌∙◌, ap, subst}
 use Rattle.raml_syntax.specs.Read.{program_of}
 use Rattle.share_normal.specs.Program.{Kept}
-use Rattle.rule_plan.specs.Read.{program_in}
+use Rattle.rules_plan.specs.Read.{program_in}
 use Rattle.raml_words.specs.declared.request.Rule.TheVariants as rule
 use Rattle.raml_top.specs.Outside.{Promised}
 use Rattle.raml_top.specs.Promise.{TriesCall}

@@ -2,12 +2,12 @@ use Rattle.std.proofs.Common.{◌≡◌, ◌∙◌, ap, refl, sym, None, Some, i
 use Rattle.std.proofs.lemmas.Option.{slice_get_within}
 use Rattle.raml_syntax.specs.Read.{program_of}
 use Rattle.raml_syntax.specs.Place.{place_of}
-use Rattle.rule_plan.specs.Read.{program_in}
+use Rattle.rules_plan.specs.Read.{program_in}
 use Rattle.report_text.specs.Trial.{trial_function, trial_data}
-use Rattle.call_answers.specs.Ending as e
-use Rattle.call_answers.specs.Ending.{Ending}
-use Rattle.call_answers.specs.Line.{no_names}
-use Rattle.call_answers.specs.declared.status.Status.TheVariants as s
+use Rattle.refusals.specs.Ending as e
+use Rattle.refusals.specs.Ending.{Ending}
+use Rattle.refusals.specs.Line.{no_names}
+use Rattle.refusals.specs.declared.status.Status.TheVariants as s
 use Rattle.raml_top.specs.Outside.{Promised}
 use Rattle.raml_top.specs.Call.{IsNamed, OfArguments}
 use Rattle.raml_top.specs.Promise.{RunsTrial}

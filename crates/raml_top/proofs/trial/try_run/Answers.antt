@@ -1,5 +1,5 @@
 use Rattle.raml_syntax.specs.Read.{program_of}
-use Rattle.rule_plan.specs.Read.{program_in}
+use Rattle.rules_plan.specs.Read.{program_in}
 use Rattle.report_text.specs.Trial.{functions_line}
 use Rattle.report_text.specs.Claims.{lines_text}
 use Rattle.analysis_report.specs.Lines.{lines_of}

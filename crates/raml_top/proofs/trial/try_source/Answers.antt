@@ -1,10 +1,10 @@
 use Rattle.std.proofs.Common.{◌≤◌, length, refl, inr, arith, rules, Err}
 use Rattle.raml_syntax.specs.Read.{program_of}
-use Rattle.fault_text.specs.declared.plain.Which.TheVariants as w
-use Rattle.call_answers.specs.Ending as e
-use Rattle.call_answers.specs.Ending.{Ending}
-use Rattle.call_answers.specs.Line.{no_names}
-use Rattle.call_answers.specs.declared.status.Status.TheVariants as s
+use Rattle.refusal_text.specs.declared.plain.Which.TheVariants as w
+use Rattle.refusals.specs.Ending as e
+use Rattle.refusals.specs.Ending.{Ending}
+use Rattle.refusals.specs.Line.{no_names}
+use Rattle.refusals.specs.declared.status.Status.TheVariants as s
 use Rattle.std.proofs.Common.{◌≡◌}
 use Rattle.raml_top.specs.Outside.{Promised}
 use Rattle.raml_top.specs.Steps.{IsTooLong, SourceRefuses, IsTyped, OfSource}

@@ -1,8 +1,8 @@
 use Rattle.std.proofs.Common.{subst, inl, inr}
 use Rattle.annot_types.specs.Read.{certificate_of}
 use Rattle.cert_json.specs.Told.{IsFile, Cause}
-use Rattle.fault_text.specs.declared.plain.Which.TheVariants as w
-use Rattle.call_answers.specs.Line.{no_names}
+use Rattle.refusal_text.specs.declared.plain.Which.TheVariants as w
+use Rattle.refusals.specs.Line.{no_names}
 use Rattle.raml_top.specs.Outside.{store_of}
 use Rattle.raml_top.specs.Analysis.{TextRefuses}
 use Rattle.raml_top.specs.Parts.{FileRefuses, CertificateRefuses}

@@ -1,7 +1,7 @@
 use Rattle.std.proofs.Common.{subst}
-use Rattle.rule_plan.specs.Read.{program_in}
+use Rattle.rules_plan.specs.Read.{program_in}
 use Rattle.bound_infer.specs.Inferred.{VerifyCause}
-use Rattle.call_answers.specs.Refusals.{names_in}
+use Rattle.refusals.specs.Refusals.{names_in}
 use Rattle.raml_top.proofs.Refusing.{check_refuses, vector_refuses, task_refuses, place_refuses}
 use Rattle.raml_top.proofs.verification.verify_refusal.Goals as goal
 

@@ -1,6 +1,6 @@
 use Rattle.std.proofs.Common.{◌+◌, ◌*◌}
-use Rattle.normal_form.specs.Norm.{size}
-use Rattle.normal_form.specs.Read.{norm_of}
+use Rattle.normal_spec.specs.Norm.{size}
+use Rattle.normal_spec.specs.Read.{norm_of}
 use Rattle.share_normal.proofs.free.+free.Given as goal
 
 abbrev pub decreases-free_variables : goal.decreases-free_variables

@@ -1,6 +1,6 @@
 use Rattle.std.proofs.Common.{◌≡◌, ◌++◌, drop}
-use Rattle.normal_form.specs.Two as two
-use Rattle.normal_form.specs.Read.{parameters_of}
+use Rattle.normal_spec.specs.Two as two
+use Rattle.normal_spec.specs.Read.{parameters_of}
 use Rattle.share_normal.proofs.functions.own_slots.Given as goal
 
 abbrev pub invariant-loop-param : goal.invariant-loop-param

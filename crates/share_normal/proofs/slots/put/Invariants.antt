@@ -1,5 +1,5 @@
 use Rattle.std.proofs.Common.{◌≡◌, ◌++◌, drop, cond}
-use Rattle.normal_form.specs.Two as two
+use Rattle.normal_spec.specs.Two as two
 use Rattle.share_normal.proofs.slots.put.Given as goal
 
 abbrev pub invariant-loop-slot : goal.invariant-loop-slot

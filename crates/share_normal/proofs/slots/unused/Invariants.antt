@@ -1,6 +1,6 @@
 use Rattle.std.proofs.Common.{◌≡◌, ◌++◌, drop}
-use Rattle.normal_form.specs.Two as two
-use Rattle.normal_form.specs.Read.{norm_of}
+use Rattle.normal_spec.specs.Two as two
+use Rattle.normal_spec.specs.Read.{norm_of}
 use Rattle.share_normal.proofs.slots.unused.Given as goal
 
 abbrev pub invariant-loop-slot : goal.invariant-loop-slot

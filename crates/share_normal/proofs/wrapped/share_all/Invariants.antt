@@ -1,6 +1,6 @@
 use Rattle.std.proofs.Common.{◌≡◌, vec_len}
-use Rattle.normal_form.specs.Two as two
-use Rattle.normal_form.specs.Read.{norm_of}
+use Rattle.normal_spec.specs.Two as two
+use Rattle.normal_spec.specs.Read.{norm_of}
 use Rattle.share_normal.proofs.wrapped.share_all.Given as goal
 
 abbrev pub invariant-loop-shared : goal.invariant-loop-shared

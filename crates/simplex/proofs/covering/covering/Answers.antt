@@ -1,5 +1,5 @@
 use Rattle.std.proofs.Common.{arith, ap, subst, length, List, Bool, [], ◌∷◌}
-use Rattle.frac_rows.specs.Entries.{columns_of}
+use Rattle.simplex_rows.specs.Entries.{columns_of}
 use Rattle.simplex.specs.Covering.{Grow}
 use Rattle.simplex.proofs.Marks.{none_first, covered_more}
 use Rattle.simplex.proofs.Solves.{written_back}

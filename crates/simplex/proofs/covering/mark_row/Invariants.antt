@@ -1,5 +1,5 @@
 use Rattle.std.proofs.Common.{[], ◌∷◌, take}
-use Rattle.frac_rows.specs.Entries.{columns_of}
+use Rattle.simplex_rows.specs.Entries.{columns_of}
 use Rattle.simplex.specs.Covering.{Grow}
 use Rattle.simplex.proofs.covering.mark_row.Given as goal
 

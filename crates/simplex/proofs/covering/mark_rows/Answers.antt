@@ -1,5 +1,5 @@
 use Rattle.std.proofs.Common.{arith}
-use Rattle.frac_rows.specs.Entries.{columns_of}
+use Rattle.simplex_rows.specs.Entries.{columns_of}
 use Rattle.simplex.proofs.Marks.{row_more}
 use Rattle.simplex.proofs.covering.mark_rows.Goals as goal
 

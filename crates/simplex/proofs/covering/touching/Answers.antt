@@ -1,7 +1,7 @@
 use Rattle.std.proofs.Common.{rules, FitsSigned, ◌≡◌, ◌≢◌, sym, ap, ◌∙◌, subst, arith, ℕ, pos, ◌<◌, ◌≤◌, ◌+◌, ◌*◌, length}
 use Rattle.std.proofs.lemmas.Int.{ints, to_z-of_z}
 use Rattle.std.specs.Int.{w128}
-use Rattle.frac_rows.specs.Entries.{at}
+use Rattle.simplex_rows.specs.Entries.{at}
 use Rattle.simplex.specs.Standing.{entries_at}
 use Rattle.simplex.proofs.Rows.{Picked, picked_more, picked_same, earlier_or_here, number_read, touching_all}
 use Rattle.simplex.proofs.Marks.{not_marked}

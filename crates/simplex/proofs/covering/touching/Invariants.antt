@@ -1,5 +1,5 @@
 use Rattle.std.proofs.Common.{◌≢◌, ◌<◌, pos}
-use Rattle.frac_rows.specs.Entries.{at}
+use Rattle.simplex_rows.specs.Entries.{at}
 use Rattle.simplex.specs.Standing.{entries_at}
 use Rattle.simplex.proofs.Rows.{Picked}
 use Rattle.simplex.proofs.covering.touching.Given as goal

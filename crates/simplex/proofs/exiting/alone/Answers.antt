@@ -1,7 +1,7 @@
 use Rattle.std.proofs.Common.{rules, ◌≡◌, refl, sym, subst, arith, ℕ, pos, ◌<ℤ◌, ◌<◌, ◌-◌, length, get_or}
-use Rattle.tableau.specs.Places.{counted}
+use Rattle.simplex_spec.specs.Places.{counted}
 use Rattle.frac128.specs.Values.{IsQuotient}
-use Rattle.frac_rows.specs.Entries.{Entries, at, QuotientLeaves}
+use Rattle.simplex_rows.specs.Entries.{Entries, at, QuotientLeaves}
 use Rattle.simplex.specs.declared.fault.Fault.{Fault}
 use Rattle.simplex.specs.Standing.{entries_at}
 use Rattle.simplex.specs.Among.{Among}

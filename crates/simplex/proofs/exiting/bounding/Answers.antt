@@ -1,7 +1,7 @@
 use Rattle.std.proofs.Common.{rules, FitsSigned, ◌≡◌, sym, ap, ◌∙◌, subst, arith, ℕ, pos, ◌<ℤ◌, ◌≤ℤ◌, take, ◌<◌, ◌≤◌, ◌+◌, length, get_or}
 use Rattle.std.proofs.lemmas.Int.{ints, to_z-of_z}
 use Rattle.std.specs.Int.{w128}
-use Rattle.frac_rows.specs.Entries.{at}
+use Rattle.simplex_rows.specs.Entries.{at}
 use Rattle.simplex.specs.Standing.{entries_at}
 use Rattle.simplex.specs.Among.{Among}
 use Rattle.simplex.specs.Ties.{IsBounding}

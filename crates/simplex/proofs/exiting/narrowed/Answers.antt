@@ -1,5 +1,5 @@
 use Rattle.std.proofs.Common.{◌≡◌, refl, sym, ap, subst, Err, arith, ◌<◌, ◌≤◌, ◌+◌, ◌-◌, length, get_or, ℕ, List}
-use Rattle.tableau.specs.Places.{counted}
+use Rattle.simplex_spec.specs.Places.{counted}
 use Rattle.simplex.specs.declared.fault.Fault.{Fault}
 use Rattle.simplex.specs.Among.{Among}
 use Rattle.simplex.specs.Ties.{AreTied, RatioLeaves, columns_to}

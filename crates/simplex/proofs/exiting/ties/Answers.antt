@@ -1,6 +1,6 @@
 use Rattle.std.proofs.Common.{rules, ◌≡◌, sym, subst, arith, ℕ, pos, ◌<ℤ◌, ◌<◌, ◌≤◌, length, get_or, take, List}
 use Rattle.frac128.specs.Values.{IsQuotient}
-use Rattle.frac_rows.specs.Entries.{Entries, at, QuotientLeaves}
+use Rattle.simplex_rows.specs.Entries.{Entries, at, QuotientLeaves}
 use Rattle.simplex.specs.declared.fault.Fault.{Fault}
 use Rattle.simplex.specs.Standing.{entries_at}
 use Rattle.simplex.specs.Among.{Among}

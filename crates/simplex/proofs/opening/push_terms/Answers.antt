@@ -1,7 +1,7 @@
 use Rattle.std.proofs.Common.{◌≡◌, sym, ap, subst, Err, rules, FitsSigned, arith, length, get_or, pos}
 use Rattle.std.proofs.lemmas.Int.{to_z-of_z}
 use Rattle.std.specs.Int.{w128}
-use Rattle.frac_rows.specs.Entries.{EndsBefore}
+use Rattle.simplex_rows.specs.Entries.{EndsBefore}
 use Rattle.linear_rows.specs.Terms.{unknown_at}
 use Rattle.simplex.specs.declared.fault.Fault.{Fault}
 use Rattle.simplex.proofs.Opens.{no_term, term_inside, untouched, term_more, term_leaves, of_error}

@@ -2,7 +2,7 @@ use Rattle.std.proofs.Common.{◌≡◌, ◌<◌, ◌∙◌, ℕ, sym, subst, ar
 use Rattle.std.proofs.lemmas.Int.{to_z-of_z}
 use Rattle.std.specs.Int.{w128}
 use Rattle.linear_rows.specs.Terms.{SparseRow}
-use Rattle.tableau.proofs.Opening.{length-map}
+use Rattle.simplex_spec.proofs.Opening.{length-map}
 use Rattle.simplex.specs.Opening.{OpeningLeaves}
 use Rattle.simplex.proofs.Opens.{rights_more, right_at, all_rights}
 use Rattle.simplex.proofs.opening.put_right_sides.Goals as goal

@@ -1,5 +1,5 @@
 use Rattle.std.proofs.Common.{length, map, take}
-use Rattle.tableau.specs.Places as places
+use Rattle.simplex_spec.specs.Places as places
 use Rattle.simplex.specs.Reading.{HaveParts}
 use Rattle.simplex.proofs.opening.put_right_sides.Given as goal
 

@@ -1,6 +1,6 @@
 use Rattle.std.proofs.Common.{◌≡◌, ap, sym, subst, ◌∙◌, Err, [], ◌<◌, length, slice_set}
 use Rattle.frac128.specs.Values.{IsQuotient}
-use Rattle.frac_rows.specs.Entries.{Entries, at}
+use Rattle.simplex_rows.specs.Entries.{Entries, at}
 use Rattle.simplex.specs.Dense.{dense}
 use Rattle.simplex.specs.declared.fault.Fault.{Fault}
 use Rattle.simplex.specs.Standing.{entries_at, AmongSwept, RowLeaves}

@@ -2,7 +2,7 @@ use Rattle.std.proofs.Common.{◌≡◌, ◌≢◌, ◌<◌, ◌∙◌, ℕ, pos
 use Rattle.std.proofs.lemmas.List.{get_or_default}
 use Rattle.frac128.specs.Values.{numerator}
 use Rattle.frac128.specs.Nought.{nought}
-use Rattle.frac_rows.specs.Entries.{at}
+use Rattle.simplex_rows.specs.Entries.{at}
 use Rattle.simplex.specs.Dense.{dense}
 use Rattle.simplex.specs.Standing.{SweepLeaves}
 use Rattle.simplex.proofs.Gains.{sweeping_none, low_column, sweeps_read, leaves_read, all_swept}

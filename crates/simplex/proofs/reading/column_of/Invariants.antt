@@ -1,5 +1,5 @@
 use Rattle.frac128.specs.Values.{numerator, denominator}
-use Rattle.frac_rows.specs.Entries.{at}
+use Rattle.simplex_rows.specs.Entries.{at}
 use Rattle.simplex.specs.Standing.{entries_at}
 use Rattle.simplex.specs.Reading.{HaveParts}
 use Rattle.simplex.proofs.reading.column_of.Given as goal

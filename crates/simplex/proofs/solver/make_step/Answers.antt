@@ -2,8 +2,8 @@ use Rattle.std.proofs.Common.{◌≡◌, refl, ap, subst, ◌∙◌, ◌+◌, ar
 use Rattle.std.specs.Fn.{FnReturnsAt}
 use Rattle.std.specs.Vec.{with_items, with_item}
 use Rattle.simplex.specs.Solving.{rule_of}
-use Rattle.tableau.specs.Tableaux.{right}
-use Rattle.frac_rows.specs.Entries.{Entries, columns_of}
+use Rattle.simplex_spec.specs.Tableaux.{right}
+use Rattle.simplex_rows.specs.Entries.{Entries, columns_of}
 use Rattle.simplex.specs.Dense.{dense}
 use Rattle.simplex.specs.Standing.{entries_at}
 use Rattle.simplex.specs.Covering.{Grow}

@@ -1,5 +1,5 @@
 use Rattle.std.proofs.Common.{sym, length, ◌^◌}
-use Rattle.tableau.specs.Tableaux.{right}
+use Rattle.simplex_spec.specs.Tableaux.{right}
 use Rattle.simplex.specs.Solving.{rule_of}
 use Rattle.simplex.proofs.Solves.{basis_long}
 use Rattle.simplex.proofs.Tables.{opened_reached, fewer_pivots, shrinks, differ_at, differ_rising, best_of, refuted_of}

@@ -1,5 +1,5 @@
 use Rattle.std.proofs.Common.{◌-◌, ◌^◌, length}
-use Rattle.tableau.specs.Tableaux.{right}
+use Rattle.simplex_spec.specs.Tableaux.{right}
 use Rattle.simplex.specs.Solving.{rule_of, Reached, IsReady}
 use Rattle.simplex.proofs.solver.solve.Given as goal
 

@@ -1,5 +1,5 @@
 use Rattle.std.proofs.Common.{◌≡◌, ◌∙◌, ap, sym, subst, ◌++◌, ◌∷◌, [], List, ℕ, ◌+◌, arith}
-use Rattle.tableau.specs.Places.{counted}
+use Rattle.simplex_spec.specs.Places.{counted}
 use Rattle.simplex.proofs.Tables.{counted_more}
 use Rattle.simplex.proofs.table.counted.Goals as goal
 

@@ -1,5 +1,5 @@
 use Rattle.std.proofs.Common.{◌≡◌}
-use Rattle.tableau.specs.Places.{counted}
+use Rattle.simplex_spec.specs.Places.{counted}
 use Rattle.simplex.proofs.table.counted.Given as goal
 
 abbrev pub invariant-loop-i : goal.invariant-loop-i

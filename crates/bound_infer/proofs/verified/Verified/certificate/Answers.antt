@@ -1,6 +1,6 @@
 use Rattle.std.proofs.Common.{subst}
-use Rattle.courses.specs.Good.{AllRefuted}
-use Rattle.rule_plan.specs.Read.{program_in}
+use Rattle.infer_spec.specs.Good.{AllRefuted}
+use Rattle.rules_plan.specs.Read.{program_in}
 use Rattle.bound_infer.proofs.verified.Verified.certificate.Goals as goal
 
 pub returns-clause-refuted : goal.returns-clause-refuted

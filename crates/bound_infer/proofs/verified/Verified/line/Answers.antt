@@ -1,13 +1,13 @@
 use Rattle.std.proofs.Common.{◌≡◌, ap, sym, ◌∙◌, subst, length, filter, [], arith}
 use Rattle.std.specs.Option.{option_map}
 use Rattle.std.proofs.lemmas.List.{length-map}
-use Rattle.normal_form.specs.Two.{norm_fun}
+use Rattle.normal_spec.specs.Two.{norm_fun}
 use Rattle.call_groups.specs.Groups.{AreInOrder}
 use Rattle.share_normal.specs.Program.{source_in}
 use Rattle.annot_types.specs.Held.{is_for_function, Held}
 use Rattle.annot_types.specs.Read.{block_of, certificate_of}
-use Rattle.courses.specs.Good.{AllRefuted}
-use Rattle.rule_plan.specs.Read.{program_in}
+use Rattle.infer_spec.specs.Good.{AllRefuted}
+use Rattle.rules_plan.specs.Read.{program_in}
 use Rattle.cert_check.specs.Bound.{told, told_of}
 use Rattle.bound_infer.proofs.OneBlock.{one_block}
 use Rattle.bound_infer.proofs.Lined.{fun_there, bound_there, one_line, tells}

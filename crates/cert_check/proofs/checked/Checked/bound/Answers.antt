@@ -5,7 +5,7 @@ use Rattle.raml_syntax.specs.Tree.{Function}
 use Rattle.base_poly.specs.Poly.{den_of, terms_of}
 use Rattle.share_normal.specs.Program.{source_in, norm_in}
 use Rattle.annot_types.specs.Read.{certificate_of}
-use Rattle.amortised_bounds.specs.Bounds.{Bounds}
+use Rattle.rules_soundness_laws.specs.Bounds.{Bounds}
 use Rattle.cert_check.specs.Checked.{Checking}
 use Rattle.cert_check.proofs.Signed.{bounds_told}
 use Rattle.cert_check.proofs.checked.Checked.bound.Goals as goal

@@ -1,8 +1,8 @@
 use Rattle.std.proofs.Common.{◌≡◌, ◌<◌, ◌++◌, ◌∷◌, [], true, length, rules, arith}
 use Rattle.std.proofs.lemmas.Bool.Decides.{nat_tests}
 use Rattle.annot_types.specs.System.{is_kept}
-use Rattle.walk_rules.specs.Solving.{row_of}
-use Rattle.solved_tasks.specs.Capped.{within}
+use Rattle.rules_spec.specs.Solving.{row_of}
+use Rattle.rules_spec.specs.CappedRows.{within}
 use Rattle.constraint_gen.specs.Heard.{Heard, pair}
 use Rattle.constraint_gen.proofs.Collected.{heard_is}
 use Rattle.constraint_gen.proofs.collector.Collector.take.Goals as goal

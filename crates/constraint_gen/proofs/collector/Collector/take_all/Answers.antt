@@ -1,6 +1,6 @@
 use Rattle.std.proofs.Common.{◌≡◌, ◌+◌, ◌∷◌, [], drop, rules, arith}
 use Rattle.std.proofs.lemmas.Grind.{common_steps}
-use Rattle.walk_rules.specs.Walk.{at}
+use Rattle.rules_spec.specs.Walk.{at}
 use Rattle.constraint_gen.specs.Sums.{sums}
 use Rattle.constraint_gen.proofs.Collected.{rest_begins, rest_goes_on, rest_ends}
 use Rattle.constraint_gen.proofs.collector.Collector.take_all.Goals as goal

@@ -1,5 +1,5 @@
 use Rattle.std.proofs.Common.{◌≡◌, ◌*◌, ◌+◌, sym, arith}
-use Rattle.walk_rules.specs.Capped.{cap}
+use Rattle.rules_spec.specs.Capped.{cap}
 use Rattle.constraint_gen.proofs.Sums.{put_on_none}
 use Rattle.constraint_gen.proofs.form.FormKind.raise.Goals as goal
 

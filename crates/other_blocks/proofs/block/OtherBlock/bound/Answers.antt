@@ -5,8 +5,8 @@ use Rattle.std.proofs.lemmas.Int.{to_z-of_z}
 use Rattle.std.proofs.lemmas.Result.{IfOk-weaker}
 use Rattle.raml_syntax.specs.Tree.{Function}
 use Rattle.base_poly.specs.Poly.{den_of, terms_of}
-use Rattle.normal_form.specs.Context.{types}
-use Rattle.normal_form.specs.Read.{parameters_of}
+use Rattle.normal_spec.specs.Context.{types}
+use Rattle.normal_spec.specs.Read.{parameters_of}
 use Rattle.share_normal.specs.Program.{source_in}
 use Rattle.cost_free.specs.declared.task.Meter.{Meter}
 use Rattle.cost_free.specs.Task.{With}
@@ -15,8 +15,8 @@ use Rattle.annot_types.specs.Program.{members}
 use Rattle.annot_types.specs.Held as h
 use Rattle.annot_types.specs.Read as a
 use Rattle.annot_types.specs.Signature.{sig_among, sig_in}
-use Rattle.amortised_bounds.specs.Bounds.{Bounds}
-use Rattle.rule_plan.specs.Read.{program_in}
+use Rattle.rules_soundness_laws.specs.Bounds.{Bounds}
+use Rattle.rules_plan.specs.Read.{program_in}
 use Rattle.cert_check.specs.Bound.{told_of}
 use Rattle.other_blocks.specs.Over.{Over}
 use Rattle.other_blocks.proofs.Bounding.{not_missing, not_unsigned, params_annotated, told_is, bounds_over}

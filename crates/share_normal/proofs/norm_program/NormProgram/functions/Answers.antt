@@ -1,8 +1,8 @@
 use Rattle.std.proofs.Common.{subst, sym}
 use Rattle.std.specs.List.{All}
-use Rattle.normal_form.specs.Norm.{NormProg}
-use Rattle.normal_form.specs.Uses.{IsNormal}
-use Rattle.normal_form.proofs.Keep.{normal_forms_keep}
+use Rattle.normal_spec.specs.Norm.{NormProg}
+use Rattle.normal_spec.specs.Uses.{IsNormal}
+use Rattle.normal_spec.proofs.Keep.{normal_forms_keep}
 use Rattle.share_normal.specs.Program.{Kept, NormalForms, norm_in, source_in}
 use Rattle.share_normal.proofs.NormalParts.{all_normal}
 use Rattle.share_normal.proofs.norm_program.NormProgram.functions.Goals as goal

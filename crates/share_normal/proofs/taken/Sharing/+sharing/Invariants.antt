@@ -1,6 +1,6 @@
 use Rattle.std.proofs.Common.{◌+◌, ◌*◌}
-use Rattle.normal_form.specs.Norm.{size}
-use Rattle.normal_form.specs.Read.{norm_of}
+use Rattle.normal_spec.specs.Norm.{size}
+use Rattle.normal_spec.specs.Read.{norm_of}
 use Rattle.share_normal.proofs.taken.Sharing.+sharing.Given as goal
 
 abbrev pub decreases-share : goal.decreases-share

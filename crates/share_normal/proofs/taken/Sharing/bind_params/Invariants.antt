@@ -1,7 +1,7 @@
 use Rattle.std.proofs.Common.{◌≡◌, ◌+◌, ◌++◌, drop, map, length}
 use Rattle.raml_syntax.specs.Read.{parameter_of}
-use Rattle.normal_form.specs.One as one
-use Rattle.normal_form.specs.Read.{parameters_of}
+use Rattle.normal_spec.specs.One as one
+use Rattle.normal_spec.specs.Read.{parameters_of}
 use Rattle.share_normal.proofs.taken.Sharing.bind_params.Given as goal
 
 abbrev pub invariant-loop-param : goal.invariant-loop-param

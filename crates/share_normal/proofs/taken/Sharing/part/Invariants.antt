@@ -1,5 +1,5 @@
 use Rattle.std.proofs.Common.{◌≡◌, ◌++◌, drop}
-use Rattle.normal_form.specs.Two as two
+use Rattle.normal_spec.specs.Two as two
 use Rattle.share_normal.specs.Made.{form_in}
 use Rattle.share_normal.proofs.taken.Sharing.part.Given as goal
 

@@ -1,5 +1,5 @@
 use Rattle.std.proofs.Common.{◌≡◌, ◌++◌, drop}
-use Rattle.normal_form.specs.Two as two
+use Rattle.normal_spec.specs.Two as two
 use Rattle.share_normal.proofs.taken.Sharing.take_all.Given as goal
 
 abbrev pub invariant-loop-i : goal.invariant-loop-i

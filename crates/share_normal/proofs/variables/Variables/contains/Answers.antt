@@ -1,5 +1,5 @@
 use Rattle.std.proofs.Common.{◌∙◌, ap}
-use Rattle.normal_form.specs.Free.{among}
+use Rattle.normal_spec.specs.Free.{among}
 use Rattle.share_normal.proofs.Members.{searched_among}
 use Rattle.share_normal.proofs.variables.Variables.contains.Goals as goal
 

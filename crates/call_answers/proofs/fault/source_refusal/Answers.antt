@@ -1,5 +1,0 @@
-use Rattle.call_answers.specs.Line.{no_names}
-use Rattle.call_answers.proofs.fault.source_refusal.Goals as goal
-
-pub returns : goal.returns
-returns c = c.told.ensures no_names c.source_line-line.ensures

@@ -1,6 +1,0 @@
-use Rattle.std.proofs.Common.{rules}
-use Rattle.call_answers.proofs.line.too_large.Goals as goal
-use Rattle.call_answers.specs.Refusals.{names_in}
-
-pub returns : goal.returns
-returns c = c.told.ensures (names_in c.args.program.now) (search rules)

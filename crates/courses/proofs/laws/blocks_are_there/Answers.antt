@@ -1,5 +1,0 @@
-use Rattle.courses.proofs.Present.{blocks_are_there}
-use Rattle.courses.proofs.laws.blocks_are_there.Goals as goal
-
-pub returns : goal.returns
-returns c = blocks_are_there

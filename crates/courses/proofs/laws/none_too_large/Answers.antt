@@ -1,5 +1,0 @@
-use Rattle.courses.proofs.Certifying.{none_too_large}
-use Rattle.courses.proofs.laws.none_too_large.Goals as goal
-
-pub returns : goal.returns
-returns c = none_too_large

@@ -1,5 +1,0 @@
-use Rattle.courses.proofs.Single.{one_certificate}
-use Rattle.courses.proofs.laws.one_certificate.Goals as goal
-
-pub returns : goal.returns
-returns c = one_certificate c.one_course.ensures

@@ -1,5 +1,0 @@
-use Rattle.courses.proofs.Single.{one_place}
-use Rattle.courses.proofs.laws.one_place.Goals as goal
-
-pub returns : goal.returns
-returns c = one_place c.one_course.ensures

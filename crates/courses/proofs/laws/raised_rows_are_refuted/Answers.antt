@@ -1,5 +1,0 @@
-use Rattle.courses.proofs.RaisedRows.{raised_rows_are_refuted}
-use Rattle.courses.proofs.laws.raised_rows_are_refuted.Goals as goal
-
-pub returns : goal.returns
-returns c = raised_rows_are_refuted

@@ -1,5 +1,0 @@
-use Rattle.courses.proofs.Certifying.{raised_stay_good}
-use Rattle.courses.proofs.laws.raised_stay_good.Goals as goal
-
-pub returns : goal.returns
-returns c = raised_stay_good

@@ -1,4 +1,0 @@
-pub mod Unpaid
-pub mod Counting
-pub mod Remembering
-mod Rising

@@ -1,5 +1,0 @@
-use Rattle.std.proofs.Common.{◌≡◌, map, [], replicate}
-use Rattle.earlier_blocks.proofs.earlier.none_noted.Given as goal
-
-abbrev pub invariant-loop : goal.invariant-loop
-invariant-loop l = map (λ us. us.items) l.made.items ≡ replicate l.counter []

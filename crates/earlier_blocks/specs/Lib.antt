@@ -1,6 +1,0 @@
-pub mod Sizes
-pub mod Remembers
-pub mod Signed
-pub mod Grows
-pub mod Laws
-pub mod Raised

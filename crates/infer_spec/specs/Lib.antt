@@ -1,0 +1,10 @@
+pub mod States
+pub mod Good
+pub mod Generator
+pub mod Listed
+pub mod Places
+pub mod Courses
+pub mod Clear
+pub mod Verifying
+pub mod Lines
+pub mod Laws

@@ -1,0 +1,47 @@
+// Laws of tasks that are tried, and of the systems of a program: each is the contract of a function that does nothing.
+ghost use Rattle.infer_systems_laws.specs.Laws.{LimitsAreTold, NormalsAreOrdered, SystemsGenerate};
+ghost use Rattle.infer_systems_laws.specs.Tried.{TargetsAreNumbered, TriedAreTasks, TriedHaveSystems};
+
+use cost_free::laws::blockers_are_least;
+use rules_spec::laws::systems_are_walked;
+
+/// The systems of a program's tasks are what courses ask for.
+pub fn systems_generate()
+    ensures { SystemsGenerate }
+{
+    tried_are_tasks();
+    tried_have_systems();
+    targets_are_numbered();
+}
+
+/// The limits of indices are told as they are.
+pub fn limits_are_told()
+    ensures { LimitsAreTold }
+{}
+
+/// The normal form of a typed program is ordered.
+pub fn normals_are_ordered()
+    ensures { NormalsAreOrdered }
+{
+    blockers_are_least();
+}
+
+/// The next task of a course, where it is tried, is a task over the blocks before it.
+pub fn tried_are_tasks()
+    ensures { TriedAreTasks }
+{
+    blockers_are_least();
+}
+
+/// It has a system.
+pub fn tried_have_systems()
+    ensures { TriedHaveSystems }
+{
+    blockers_are_least();
+    systems_are_walked();
+}
+
+/// The number of a cost-free task is that of a target of its function.
+pub fn targets_are_numbered()
+    ensures { TargetsAreNumbered }
+{}

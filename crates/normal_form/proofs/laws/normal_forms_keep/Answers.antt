@@ -1,5 +1,0 @@
-use Rattle.normal_form.proofs.Keep.{normal_forms_keep}
-use Rattle.normal_form.proofs.laws.normal_forms_keep.Goals as goal
-
-pub returns : goal.returns
-returns c = normal_forms_keep

@@ -1,4 +1,0 @@
-use Rattle.raml_grammar.proofs.form.Start.of.Goals as goal
-
-pub returns-in-Sign : goal.returns-in-Sign
-returns-in-Sign c = rw c.in-Sign.is (c.of_sign.ensures c.args.token.now.at.0)

@@ -1,0 +1,24 @@
+-- Refusals by the code's faults.
+use Rattle.std.proofs.Common.{◌≢◌, refl}
+use Rattle.value_text.specs.declared.fault.DataFault.{DataFault}
+use Rattle.value_text.specs.declared.fault.DataFault.TheVariants as d
+use Rattle.cert_json.specs.declared.whole.JsonFault.{JsonFault}
+use Rattle.cert_json.specs.declared.whole.JsonFault.TheVariants as j
+use Rattle.refusals.specs.Line.{no_names}
+use Rattle.refusals.specs.Refusals.{IsToldOr, DataRefusal, JsonRefusal}
+use Rattle.refusals.specs.declared.answer.Refusal.{Refusal}
+use Rattle.refusals.specs.declared.status.Status.TheVariants as s
+use Rattle.refusals.specs.declared.status.CertAnswer.TheVariants as c
+
+pub data_refusal : (fault : DataFault) → (fault ≢ d.NoMemory) → (refusal : Refusal) → IsToldOr no_names (s.Data fault) refusal → DataRefusal fault refusal
+data_refusal (d.NotUtf8 a) some refusal told = told
+data_refusal (d.Shape a) some refusal told = told
+data_refusal (d.TooDeep a) some refusal told = told
+data_refusal d.TooManyCells some refusal told = told
+data_refusal d.NoMemory some refusal told = absurd (some refl)
+
+pub json_refusal : (fault : JsonFault) → (fault ≢ j.NoMemory) → (refusal : Refusal) → IsToldOr no_names (s.Certificate (c.Json fault)) refusal → JsonRefusal fault refusal
+json_refusal j.NotJson some refusal told = told
+json_refusal (j.Shape place) some refusal told = told
+json_refusal (j.Number place) some refusal told = told
+json_refusal j.NoMemory some refusal told = absurd (some refl)

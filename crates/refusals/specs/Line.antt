@@ -1,0 +1,54 @@
+-- The line on err.
+use Rattle.std.specs.Prelude.{ℕ, List, [], codes, length}
+use Rattle.raml_syntax.specs.Tree.{Text, Prog}
+use Rattle.cost_free.specs.Read.{task_of}
+use Rattle.cert_check.specs.Read.{fault_of}
+use Rattle.refusal_text.specs.Plain.{usage_line, unread_line, too_long_line, no_function_line, write_failed_line, no_memory_line}
+use Rattle.refusal_text.specs.Refusals.{source_line, data_line}
+use Rattle.refusal_text.specs.Tasks.{too_large_line}
+use Rattle.refusal_text.specs.Places.{solve_line, row_line, scale_line, rescale_line, check_line, refute_line, least_line, point_line}
+use Rattle.refusal_text.specs.Certificates.{json_line, certificate_line, not_refuted_line}
+use Rattle.bound_infer.specs.declared.leaves.LeavesAt.{LeavesAt}
+use Rattle.bound_infer.specs.declared.leaves.LeavesAt.TheVariants.{Solve, Row, Scale, Rescale, Check, Refute, Least}
+use Rattle.refusals.specs.declared.status.Status.{Status}
+use Rattle.refusals.specs.declared.status.Status.TheVariants as s
+use Rattle.refusals.specs.declared.status.CertAnswer.TheVariants as c
+use Rattle.refusals.specs.declared.status.OverflowAt.TheVariants as o
+
+-- the program whose functions a line on err names, with their groups; empty before one is read
+pub record Names : Type 0 where
+  pub program : Prog
+  pub groups : List (List ℕ)
+
+abbrev pub no_names : Names
+no_names = record { program = []; groups = [] }
+
+-- where a number leaves 128 bits
+abbrev pub leaves_line : Names → LeavesAt → Text
+leaves_line names (Solve task pivots row col) = solve_line names.program names.groups (task_of task) (length pivots.items) row col
+leaves_line names (Row task row) = row_line names.program names.groups (task_of task) row
+leaves_line names (Scale task entry) = scale_line names.program names.groups (task_of task) entry
+leaves_line names (Rescale task block) = rescale_line names.program names.groups (task_of task) block
+leaves_line names (Check block path index) = check_line block path.items index
+leaves_line names (Refute task column) = refute_line names.program names.groups (task_of task) column
+leaves_line names (Least task column) = least_line names.program names.groups (task_of task) column
+
+-- The line of a status; a report has none.
+abbrev pub line_of : Names → Status → Text
+line_of names s.Usage = usage_line
+line_of names (s.ReadFault which) = unread_line which
+line_of names (s.TooLong which) = too_long_line which
+line_of names (s.Source fault) = source_line fault
+line_of names (s.Data fault) = data_line fault
+line_of names s.NoFunction = no_function_line
+line_of names (s.Certificate (c.Json fault)) = json_line fault
+line_of names (s.Certificate (c.Check fault)) = certificate_line names.program names.groups (fault_of fault)
+line_of names (s.Certificate (c.NotRefuted block)) = not_refuted_line block
+line_of names (s.TooLarge task what) = too_large_line names.program names.groups (task_of task) what
+line_of names (s.Overflow (o.At place)) = leaves_line names place
+line_of names (s.Overflow (o.Point meter)) = point_line meter
+line_of names s.WriteFault = write_failed_line
+line_of names s.NoMemory = no_memory_line
+line_of names s.Done = codes ""
+line_of names s.Stopped = codes ""
+line_of names s.HeapFull = codes ""

@@ -1,9 +1,0 @@
-use Rattle.std.proofs.Common.{◌≡◌, ◌++◌}
-use Rattle.rule_plan.specs.Down.{down}
-use Rattle.rule_plan.proofs.budgets.down.Given as goal
-
-abbrev pub invariant-loop-d : goal.invariant-loop-d
-invariant-loop-d l = l.found.items ++ down (λ d. d) l.d ≡ down (λ d. d) l.top
-
-abbrev pub decreases-loop-d : goal.decreases-loop-d
-decreases-loop-d l = l.d

@@ -1,7 +1,0 @@
-use Rattle.std.proofs.Common.{◌≡◌, map}
-use Rattle.walk_rules.specs.Plan as p
-use Rattle.rule_plan.specs.Given.{made_of}
-use Rattle.rule_plan.proofs.budgets.pays.Given as goal
-
-abbrev pub invariant-loop-rest : goal.invariant-loop-rest
-invariant-loop-rest l = made_of l.made.items ≡ map (λ e. p.Pays l.nodes l.ticks e) (made_of l.yielded)

@@ -1,8 +1,0 @@
-use Rattle.std.proofs.Common.{◌≡◌, ◌++◌, drop, map}
-use Rattle.walk_rules.specs.Plan as p
-use Rattle.rule_plan.specs.Given.{made_of}
-use Rattle.rule_plan.specs.Wide.{called_at}
-use Rattle.rule_plan.proofs.called.at_budgets.Given as goal
-
-abbrev pub invariant-loop-d : goal.invariant-loop-d
-invariant-loop-d l = made_of l.made.items ++ map (λ d. p.Calls l.nodes (called_at l.callee d)) (drop l.d-index l.d-items) ≡ map (λ d. p.Calls l.nodes (called_at l.callee d)) l.d-items

@@ -1,7 +1,0 @@
-use Rattle.std.proofs.Common.{◌≡◌, ◌++◌, drop}
-use Rattle.normal_form.specs.Context.{others}
-use Rattle.normal_form.specs.Read.{norm_of, parameters_of}
-use Rattle.rule_plan.proofs.context.others.Given as goal
-
-abbrev pub invariant-loop-variable : goal.invariant-loop-variable
-invariant-loop-variable l = parameters_of l.found.items ++ others (norm_of l.expr) (parameters_of (drop l.variable-index l.context)) ≡ others (norm_of l.expr) (parameters_of l.context)

@@ -1,7 +1,0 @@
-use Rattle.std.proofs.Common.{◌≡◌, ◌+◌, drop}
-use Rattle.normal_form.specs.Context.{place}
-use Rattle.normal_form.specs.Read.{parameters_of}
-use Rattle.rule_plan.proofs.context.place.Given as goal
-
-abbrev pub invariant-loop-at : goal.invariant-loop-at
-invariant-loop-at l = l.at + place l.x (parameters_of (drop l.at l.context)) ≡ place l.x (parameters_of l.context)

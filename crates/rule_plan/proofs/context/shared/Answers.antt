@@ -1,7 +1,0 @@
-use Rattle.std.proofs.Common.{rules}
-use Rattle.normal_form.specs.Read.{parameters_of}
-use Rattle.rule_plan.proofs.Contexts.{type_is}
-use Rattle.rule_plan.proofs.context.shared.Goals as goal
-
-pub returns : goal.returns
-returns c = search (rules, type_is c.args.x (parameters_of c.args.context.now))

@@ -1,8 +1,0 @@
-use Rattle.std.proofs.Common.{◌≡◌, ◌≤◌, ◌+◌, drop}
-use Rattle.normal_form.specs.Context.{types}
-use Rattle.normal_form.specs.Read.{parameters_of}
-use Rattle.rule_plan.specs.Flat.{all_holders}
-use Rattle.rule_plan.proofs.flat.held.Given as goal
-
-abbrev pub invariant-loop-ty : goal.invariant-loop-ty
-invariant-loop-ty l = (all_holders (types (parameters_of l.context)) + l.left ≡ 10 + all_holders (types (parameters_of (drop l.ty-index l.context)))) × (l.left ≤ 10)

@@ -1,9 +1,0 @@
-use Rattle.std.proofs.Common.{◌≡◌, ◌≤◌, ◌+◌, drop}
-use Rattle.walk_rules.specs.Asked.{sum_of}
-use Rattle.rule_walk.proofs.ask.add_all.Given as goal
-
-abbrev pub invariant-loop-size : goal.invariant-loop-size
-invariant-loop-size l = record {
-  low : l.sum ≤ l.most;
-  same : l.sum + sum_of (drop l.size-index l.sizes) ≡ l.count + sum_of l.sizes;
-}

@@ -1,7 +1,0 @@
-use Rattle.std.proofs.Common.{◌≡◌, ◌++◌, map, drop}
-use Rattle.rule_walk.specs.Steps.{part_of}
-use Rattle.rule_walk.specs.Asks.{sizes_of}
-use Rattle.rule_walk.proofs.ask.result_sizes.Given as goal
-
-abbrev pub invariant-loop-part : goal.invariant-loop-part
-invariant-loop-part l = l.sizes.items ++ sizes_of (map part_of (drop l.part-index l.parts)) ≡ sizes_of (map part_of l.parts)

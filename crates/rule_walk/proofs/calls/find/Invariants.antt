@@ -1,6 +1,0 @@
-use Rattle.std.proofs.Common.{◌≡◌, drop}
-use Rattle.rule_walk.specs.Read.{signed}
-use Rattle.rule_walk.proofs.calls.find.Given as goal
-
-abbrev pub invariant-loop-signed : goal.invariant-loop-signed
-invariant-loop-signed l = signed l.function (drop l.signed-index l.signatures) ≡ signed l.function l.signatures

@@ -1,8 +1,0 @@
-use Rattle.std.proofs.Common.{◌≡◌, drop}
-use Rattle.std.specs.Prelude.{map}
-use Rattle.walk_rules.specs.Walk.{all_moved}
-use Rattle.rule_walk.specs.Steps.{step_of}
-use Rattle.rule_walk.proofs.entries.moved_on.Given as goal
-
-abbrev pub invariant-loop-step : goal.invariant-loop-step
-invariant-loop-step g l = all_moved g.T.Kind.kind (map step_of (drop l.step-index l.steps)) l.now.items ≡ all_moved g.T.Kind.kind (map step_of l.steps) l.fn.entries.items

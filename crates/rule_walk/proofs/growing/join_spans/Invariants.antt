@@ -1,7 +1,0 @@
-use Rattle.std.proofs.Common.{◌≡◌, ◌+◌, map, drop}
-use Rattle.walk_bounds.specs.Growth.{join_spans}
-use Rattle.rule_walk.specs.Steps.{part_of}
-use Rattle.rule_walk.proofs.growing.join_spans.Given as goal
-
-abbrev pub invariant-loop-part : goal.invariant-loop-part
-invariant-loop-part l = l.all + join_spans (map part_of (drop l.part-index l.parts)) ≡ join_spans (map part_of l.parts)

@@ -1,6 +1,0 @@
-use Rattle.std.proofs.Common.{◌↔◌, drop}
-use Rattle.walk_rules.specs.Shape.{EachWithin}
-use Rattle.rule_walk.proofs.shape.each_within.Given as goal
-
-abbrev pub invariant-loop-number : goal.invariant-loop-number
-invariant-loop-number l = EachWithin (drop l.number l.sizes) (drop l.number l.results) ↔ EachWithin l.sizes l.results

@@ -1,5 +1,0 @@
-pub mod Steps
-pub mod Read
-pub mod Place
-pub mod Asks
-pub mod Filled

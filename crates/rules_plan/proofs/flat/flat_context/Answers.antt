@@ -1,0 +1,12 @@
+use Rattle.std.proofs.Common.{sym, ap, ◌∙◌, arith}
+use Rattle.normal_spec.specs.Context.{types}
+use Rattle.normal_spec.specs.Read.{parameters_of}
+use Rattle.rules_plan.specs.Flat.{flat_size}
+use Rattle.rules_plan.proofs.Flatness.{size_flat}
+use Rattle.rules_plan.proofs.flat.flat_context.Goals as goal
+
+pub returns : goal.returns
+returns c =
+    let is = c.in_ok-held.ensures.0 in
+    let few = c.in_ok-held.ensures.1 in
+    c.flat_size.ensures ∙ ap (λ n. flat_size n c.args.d) is ∙ sym (size_flat (types (parameters_of c.args.context.now)) c.args.d (omega (arith, is, few)))

@@ -1,0 +1,14 @@
+use Rattle.std.proofs.Common.{◌≡◌, ◌∙◌, [], ap, map}
+use Rattle.std.proofs.lemmas.Result.{IfOk-weaker}
+use Rattle.rules_spec.specs.Plan as p
+use Rattle.rules_plan.specs.Down.{reached}
+use Rattle.rules_plan.specs.Given.{made_of}
+use Rattle.rules_plan.proofs.Downed.{map_reached}
+use Rattle.rules_plan.proofs.plan.variable.Goals as goal
+
+pub returns : goal.returns
+returns c =
+    let top = c.args.env.now.top in
+    let reach = c.args.env.now.reach in
+    IfOk-weaker c.without_maps.result _ (λ made. made_of made.items ≡ reached reach (λ d. p.Ends c.args.nodes 0 []) top)
+    (λ made is. is ∙ ap (map (λ d. p.Ends c.args.nodes 0 [])) c.in_ok-budgets.ensures ∙ map_reached reach (λ d. p.Ends c.args.nodes 0 []) (λ d. d) top) c.without_maps.ensures

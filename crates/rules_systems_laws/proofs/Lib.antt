@@ -1,0 +1,12 @@
+pub mod Alike
+pub mod Taken
+pub mod Told
+pub mod Functions
+pub mod Priceless
+pub mod Weights
+pub mod Targets
+pub mod Meeting
+pub mod Solutions
+pub mod Filled
+pub mod Numbered
+pub mod Shapes

@@ -1,0 +1,5 @@
+//! Laws alone: the system of a task is solved by exactly the signatures and hints that hold. Each solution stands for
+//! such ones, with its weighted sum, and all that hold come from a solution.
+#![tactic(auto)]
+
+pub mod laws;

@@ -1,0 +1,11 @@
+pub mod Steps
+pub mod Read
+pub mod Place
+pub mod Asks
+pub mod Filled
+pub mod Sizes
+pub mod Remembers
+pub mod Signed
+pub mod Grows
+pub mod Laws
+pub mod Raised

@@ -1,0 +1,10 @@
+use Rattle.std.proofs.Common.{rules}
+use Rattle.simplex_checked.specs.Rules.{greatest_pick}
+use Rattle.simplex_checked.proofs.Chosen.{answers_by, answer_by, fault_by}
+use Rattle.simplex_checked.proofs.named.answer_by_greatest.Goals as goal
+
+pub returns-clause-answer : goal.returns-clause-answer
+returns-clause-answer c = answer_by _ _ greatest_pick c.args.system.now (answers_by _ _ greatest_pick (λ gains o p. search rules)) c.whole_answer.result c.whole_answer.ensures.answer
+
+pub returns-clause-fault : goal.returns-clause-fault
+returns-clause-fault c = fault_by _ _ greatest_pick c.args.system.now (answers_by _ _ greatest_pick (λ gains o p. search rules)) c.whole_answer.result c.whole_answer.ensures.fault

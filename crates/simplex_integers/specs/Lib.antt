@@ -1,0 +1,5 @@
+pub mod Wholes
+pub mod Denominators
+pub mod Next
+pub mod Laws
+pub mod Reading

@@ -1,6 +1,0 @@
-pub mod Capping
-pub mod Raised
-pub mod Refuted
-pub mod Sure
-pub mod Told
-pub mod Units

@@ -1,4 +1,0 @@
-pub mod Told
-pub mod Capped
-pub mod Raised
-pub mod Sure

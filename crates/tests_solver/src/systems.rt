@@ -1,0 +1,107 @@
+//! A table of systems, with the answers and the pivots that another program found by the same rules, and
+//! small ones that were worked out by hand.
+ghost use Rattle.std.specs.Prelude.{◌<◌, ◌^◌};
+ghost use Rattle.simplex_spec.specs.Tableaux.{right};
+
+use self::lines::SYSTEMS;
+use self::small::{BOTH, SMALL};
+use crate::choosers::{greatest_column, least_column};
+use crate::plain;
+use crate::text::{shown, system, write_answer};
+use frac128::Frac;
+use linear_rows::System;
+use simplex::{Answer, Chooser, agree, solve};
+use std::alloc::Global;
+use std::process::Abort;
+use std::str::Lines;
+use std::test::Fail;
+
+mod lines;
+mod small;
+
+/// The lines of the answer where the least column enters.
+fn solved(alloc: Global, system: &System) -> Result<String, Fail>
+    requires { right system.now < 2 ^ 32 }
+{
+    let least = Chooser::new(|gains: &[Frac]| least_column(gains));
+    shown(alloc, &solve(alloc, system, &least)?)
+}
+
+/// The lines of the plain solver's answer.
+fn plainly_solved(alloc: Global, system: &System) -> Result<String, Fail> {
+    shown(alloc, &plain::solve(alloc, system)?)
+}
+
+/// Compares an answer with the next lines, behind which is an empty one, or the end of the table.
+fn check_answer(rt: &impl Abort, lines: &mut Lines<'_>, answer: &str, number: u32) {
+    for line in answer.lines() {
+        assert_eq!(rt; Some(line), lines.next(), "system {number}");
+    }
+    let ends_here = lines.next().unwrap_or("").is_empty();
+    assert!(rt; ends_here, "the end of system {number}");
+}
+
+/// Solves the next system, with both solvers, and compares their answers with the table's.
+fn check_next(
+    rt: &impl Abort,
+    alloc: Global,
+    lines: &mut Lines<'_>,
+    number: u32,
+) -> Result<(), Fail> {
+    let system = system(alloc, lines)?;
+    let answer = solved(alloc, &system)?;
+    let plain = plainly_solved(alloc, &system)?;
+    assert!(rt; plain == answer, "the plain solver, system {number}");
+    check_answer(rt, lines, answer.as_str(), number);
+    Ok(())
+}
+
+/// Checks this many systems, which are all of the table.
+fn check_table(rt: &impl Abort, alloc: Global, text: &str, systems: u32) -> Result<(), Fail> {
+    let mut lines = text.lines();
+    for number in 0..systems {
+        check_next(rt, alloc, &mut lines, number)?;
+    }
+    assert!(rt; lines.next().is_none());
+    Ok(())
+}
+
+#[test]
+fn table(rt: HostRuntime) -> Result<(), Fail> {
+    check_table(&rt, rt.alloc(), SYSTEMS, 20)
+}
+
+#[test]
+fn small_systems(rt: HostRuntime) -> Result<(), Fail> {
+    check_table(&rt, rt.alloc(), SMALL, 7)
+}
+
+/// The lines of both answers, where the least column enters, and where that with the greatest gain does.
+fn solved_twice(alloc: Global, text: &str) -> Result<String, Fail> {
+    let least = Chooser::new(|gains: &[Frac]| least_column(gains));
+    let greatest = Chooser::new(|gains: &[Frac]| greatest_column(gains));
+    let system = system(alloc, &mut text.lines())?;
+    let (one, other) = agree(alloc, &system, &least, &greatest)?;
+    shown_both(alloc, &one, &other)
+}
+
+/// The lines of two answers.
+fn shown_both(alloc: Global, one: &Answer, other: &Answer) -> Result<String, Fail> {
+    let mut out = String::new(alloc);
+    write_answer(&mut out, one)?;
+    write_answer(&mut out, other)?;
+    Ok(out)
+}
+
+#[test]
+fn choosers_agree(rt: HostRuntime) -> Result<(), Fail> {
+    for (text, first, second) in &BOTH {
+        let found = solved_twice(rt.alloc(), text)?;
+        assert_eq!(rt;
+            found.as_str().strip_prefix(*first),
+            Some(*second),
+            "of {text}"
+        );
+    }
+    Ok(())
+}

@@ -1,0 +1,167 @@
+//! Systems and answers as text.
+//!
+//! `system UNKNOWNS ROWS` is followed by a line `weights I:W ..` and by a line `row RIGHT I:N ..` for each
+//! row, without the numbers that are 0. Answers are written in the same way.
+ghost use Rattle.std.specs.Prelude.{◌≡◌, ◌<◌, ◌^◌, ◌≤ℤ◌, pos, IfOk, IsTrue, vec_len};
+ghost use Rattle.raml_num.specs.Sums.{NoneNegative};
+ghost use Rattle.linear_rows.specs.Systems.{IsBelow};
+ghost use Rattle.simplex_spec.specs.Tableaux.{right};
+
+use frac128::Frac;
+use linear_rows::{Row, System};
+use simplex::Answer;
+use std::alloc::Global;
+use std::fmt::Write;
+use std::str::{Lines, SplitWhitespace};
+use std::test::Fail;
+
+/// What comes after the first word of the next line.
+fn after<'a>(lines: &mut Lines<'a>, first: &str) -> Result<SplitWhitespace<'a>, Fail> {
+    let mut words = lines.next().ok_or("a line is missing")?.split_whitespace();
+    if words.next() == Some(first) {
+        Ok(words)
+    } else {
+        Err(Fail::new("another line was expected"))
+    }
+}
+
+/// The number that is the next word.
+fn number(words: &mut SplitWhitespace<'_>) -> Option<u32> {
+    words.next()?.parse::<u32>().ok()
+}
+
+/// The right side that is the next word.
+fn right_side(words: &mut SplitWhitespace<'_>) -> Option<i128> {
+    words.next()?.parse::<i128>().ok()
+}
+
+/// A term, as `I:N`.
+fn term(word: &str) -> Option<(u32, i128)> {
+    let (unknown, number) = word.split_once(':')?;
+    Some((unknown.parse::<u32>().ok()?, number.parse::<i128>().ok()?))
+}
+
+/// The weight of an unknown among these.
+fn weight(words: SplitWhitespace<'_>, unknown: u32) -> Result<i128, Fail>
+    ensures { IfOk result (λ w. pos 0 ≤ℤ w) }
+{
+    for word in words {
+        let (other, number) = term(word).ok_or("no weight")?;
+        if number < 0 {
+            return Err(Fail::new("a negative weight"));
+        }
+        if other == unknown {
+            return Ok(number);
+        }
+    }
+    Ok(0)
+}
+
+/// The weights of this many unknowns.
+fn weights(alloc: Global, unknowns: u32, line: &str) -> Result<Vec<i128>, Fail>
+    ensures one_each { IfOk result (λ ws. vec_len ws ≡ unknowns) }
+    ensures natural { IfOk result (λ ws. NoneNegative ws.items) }
+{
+    let mut all = Vec::new(alloc);
+    for unknown in 0..unknowns {
+        let mut words = line.split_whitespace();
+        words.next();
+        all.push(weight(words, unknown)?)?;
+    }
+    Ok(all)
+}
+
+/// A row over this many unknowns.
+fn row(alloc: Global, unknowns: u32, words: SplitWhitespace<'_>) -> Result<Row, Fail>
+    ensures { IfOk result (IsBelow unknowns) }
+{
+    let mut words = words;
+    let mut row = Row::new(alloc);
+    row.add_right(right_side(&mut words).ok_or("no right side")?)?;
+    for word in words {
+        let (unknown, times) = term(word).ok_or("no term")?;
+        if unknown >= unknowns {
+            return Err(Fail::new("no such unknown"));
+        }
+        row.add(unknown, times)?;
+    }
+    Ok(row)
+}
+
+/// Whether 32 bits can number the columns of the system's tableau.
+fn fits(system: &System) -> bool
+    ensures { IsTrue result → right system.now < 2 ^ 32 }
+{
+    system.rows().len() <= (u32::MAX - system.unknowns()) as usize
+}
+
+/// The system that the next lines spell.
+pub(super) fn system(alloc: Global, lines: &mut Lines<'_>) -> Result<System, Fail>
+    ensures { IfOk result (λ s. right s < 2 ^ 32) }
+{
+    let mut head = after(lines, "system")?;
+    let unknowns = number(&mut head).ok_or("no unknowns")?;
+    let rows = number(&mut head).ok_or("no rows")?;
+    let weights = weights(alloc, unknowns, lines.next().ok_or("no weights")?)?;
+    let mut system = System::new(unknowns, Vec::new(alloc), weights);
+    for _ in 0..rows {
+        let words = after(lines, "row")?;
+        system.add_row(row(alloc, system.unknowns(), words)?)?;
+    }
+    if fits(&system) {
+        Ok(system)
+    } else {
+        Err(Fail::new("too many columns"))
+    }
+}
+
+/// Writes a line with the fractions that are not 0, each after its place.
+fn write_fracs(out: &mut String, name: &str, fracs: &[Frac]) -> Result<(), Fail> {
+    out.push_str(name)?;
+    for i in 0..fracs.len() {
+        if fracs[i].num() != 0 {
+            let frac = fracs[i];
+            write!(out, " {i}:{frac}")?;
+        }
+    }
+    out.push('\n')?;
+    Ok(())
+}
+
+/// Writes a line with the pivots, each the row and the column.
+fn write_pivots(out: &mut String, pivots: &[(u32, u32)]) -> Result<(), Fail> {
+    out.push_str("pivots")?;
+    for (row, column) in pivots {
+        write!(out, " {row}:{column}")?;
+    }
+    out.push('\n')?;
+    Ok(())
+}
+
+/// Writes the lines of an answer.
+pub(super) fn write_answer(out: &mut String, answer: &Answer) -> Result<(), Fail> {
+    match answer {
+        Answer::Best { x, dual, pivots } => {
+            out.push_str("answer best\n")?;
+            write_fracs(out, "x", x)?;
+            write_fracs(out, "dual", dual)?;
+            write_pivots(out, pivots)
+        }
+        Answer::NoSolution { farkas, pivots } => {
+            out.push_str("answer none\n")?;
+            write_fracs(out, "farkas", farkas)?;
+            write_pivots(out, pivots)
+        }
+        Answer::Leaves { pivots, row, col } => {
+            writeln!(out, "answer leaves {row} {col}")?;
+            write_pivots(out, pivots)
+        }
+    }
+}
+
+/// The lines of an answer.
+pub(super) fn shown(alloc: Global, answer: &Answer) -> Result<String, Fail> {
+    let mut out = String::new(alloc);
+    write_answer(&mut out, answer)?;
+    Ok(out)
+}

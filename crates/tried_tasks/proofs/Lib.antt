@@ -1,3 +1,0 @@
-mod Numbered
-mod Tried
-mod Systems

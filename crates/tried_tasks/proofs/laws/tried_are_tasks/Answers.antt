@@ -1,5 +1,0 @@
-use Rattle.tried_tasks.proofs.Tried.{tried_are_tasks}
-use Rattle.tried_tasks.proofs.laws.tried_are_tasks.Goals as goal
-
-pub returns : goal.returns
-returns c = tried_are_tasks c.blockers_are_least.ensures

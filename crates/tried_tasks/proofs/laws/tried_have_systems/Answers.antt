@@ -1,5 +1,0 @@
-use Rattle.tried_tasks.proofs.Systems.{tried_have_systems}
-use Rattle.tried_tasks.proofs.laws.tried_have_systems.Goals as goal
-
-pub returns : goal.returns
-returns c = tried_have_systems c.blockers_are_least.ensures c.systems_are_walked.ensures

@@ -1,5 +1,0 @@
-use Rattle.walk_rules.proofs.Solving.{forms_walk_as_amounts}
-use Rattle.walk_rules.proofs.laws.forms_walk_as_amounts.Goals as goal
-
-pub returns : goal.returns
-returns c = forms_walk_as_amounts

@@ -1,5 +1,0 @@
-use Rattle.whole_answers.proofs.Picking.{IsFound}
-use Rattle.whole_answers.proofs.rules.greatest_column.Given as goal
-
-abbrev pub invariant-loop-c : goal.invariant-loop-c
-invariant-loop-c l = IsFound l.gains l.c l.most l.greatest

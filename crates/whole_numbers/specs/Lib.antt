@@ -1,4 +1,0 @@
-pub mod Wholes
-pub mod Denominators
-pub mod Next
-pub mod Laws
