@@ -9,9 +9,9 @@ mod tree;
 mod ty;
 mod value;
 
+pub use function_names::FunctionNames;
 pub use name::Name;
 pub use program::{Fun, FunId, Param, Program};
-pub use raml_syntax::FunctionNames;
 pub use tree::{ArithOp, Binder, CompareOp, Expr, Form, Pos};
 pub use ty::Ty;
 pub use value::Value;
