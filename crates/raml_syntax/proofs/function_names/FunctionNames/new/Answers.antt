@@ -1,6 +1,6 @@
 use Rattle.std.proofs.Common.{◌∙◌, arith}
 use Rattle.std.proofs.lemmas.Map.Text.{hash_map_updates_str}
-use Rattle.raml_syntax.proofs.Places.{place_added}
+use Rattle.raml_syntax.proofs.FromLast.{place_added}
 use Rattle.raml_syntax.proofs.function_names.FunctionNames.new.Goals as goal
 
 pub loop-place-preserved : goal.loop-place-preserved

@@ -3,7 +3,7 @@ use Rattle.std.specs.Borrow.{Bor}
 use Rattle.std.specs.Str.{bytes_eq}
 use Rattle.indexmap.specs.IndexMap.{get_by}
 use Rattle.raml_syntax.specs.Tree.{Text}
-use Rattle.raml_syntax.proofs.Places.{place_from}
+use Rattle.raml_syntax.proofs.FromLast.{place_from}
 use Rattle.raml_syntax.proofs.function_names.FunctionNames.new.Given as goal
 
 abbrev pub invariant-loop-place : goal.invariant-loop-place
