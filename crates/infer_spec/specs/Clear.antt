@@ -8,7 +8,7 @@ use Rattle.simplex_spec.specs.Courses.{Refuses}
 use Rattle.cost_free.specs.Task.{Task}
 use Rattle.infer_spec.specs.States.{State}
 use Rattle.infer_spec.specs.Generator.{What, Analysis, blocker_at, limit_at, system_at}
-use Rattle.simplex_integers.specs.Reading.{ReadsSolution, Read}
+use Rattle.simplex_integers.specs.Reading.{ReadsSolution, Read, BothAreFine, VectorIsFine, ArePassed, IsPassed}
 use Rattle.simplex_integers.specs.Wholes.{ScaleLeaves}
 use Rattle.infer_spec.specs.Places.{TooLarge, Row, Solve, Scale, Refute, Least, Rescale, RowFits, RowLeaves, RescaleLeaves, rule_of, IsPlace, IsClear}
 

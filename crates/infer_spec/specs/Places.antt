@@ -14,7 +14,7 @@ use Rattle.annot_types.specs.Certificate.{Entries, Sig, Hint, Body, Solved, IsSo
 use Rattle.simplex_integers.specs.Wholes.{most, ScaleLeaves}
 use Rattle.infer_spec.specs.States.{State}
 use Rattle.infer_spec.specs.Generator.{What, Analysis, blocker_at, limit_at, system_at}
-use Rattle.simplex_integers.specs.Reading.{ReadsSolution, ReadsBoth, ReadsVector}
+use Rattle.simplex_integers.specs.Reading.{ReadsSolution, ReadsBoth, ReadsVector, Read}
 
 pub data Place : Type 0 where
   TooLarge : What → Place

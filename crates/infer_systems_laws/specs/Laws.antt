@@ -8,7 +8,6 @@ use Rattle.call_groups.specs.Groups.{Grouping, IsGrouping}
 use Rattle.cost_free.specs.Task.{Task}
 use Rattle.annot_types.specs.Program.{Program, members}
 use Rattle.annot_types.specs.Holds.{budget_of}
-use Rattle.annot_types.specs.System.{system}
 use Rattle.rules_plan.specs.Within.{FunctionWithin}
 use Rattle.rules_soundness_laws.specs.Laws.{normal_of}
 use Rattle.infer_spec.specs.Generator.{Generates}
