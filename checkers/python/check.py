@@ -4,7 +4,7 @@
 Prints the lines of the certificate CERT of the program FILE and ends with 0, or prints the first fault on the error
 stream and ends with its status. It was written from docs/language.md, potential.md, analysis.md and certificate.md,
 whose words it uses. Numbers are whole numbers of any width: where `raml verify` ends with 9, since a number leaves its
-range, this checker tells whether the certificate holds. It needs Python 3.10 and nothing else.
+range, this checker tells whether the certificate holds. It needs Python 3.11 and nothing else.
 """
 
 from __future__ import annotations
@@ -13,8 +13,7 @@ import json
 import math
 import re
 import sys
-import threading
-from collections import Counter
+from collections import Counter, namedtuple
 from collections.abc import Callable, Iterable, Iterator
 from dataclasses import dataclass, field
 from fractions import Fraction
@@ -26,112 +25,61 @@ MOST_INTEGER, MOST_NUMBER, MOST_NESTING = 2**63 - 1, 2**127 - 1, 127
 MOST = 2000  # indices, unknowns and rows
 MOST_BYTES = {"program": 1 << 20, "certificate": 1 << 24}
 METERS = ["ticks", "cells", "work"]
+HOLDERS = ["list", "tree", "option"]
+
+# A type is its kind before its parts: ("int",), ("pair", A, B), ("list", A).
+Type = tuple
+Types = tuple[Type, ...]
+INT, BOOL = ("int",), ("bool",)
 
 
 class Fault(Exception):
     """Why the call is refused: a status, and a line without `raml: `."""
 
 
-def source_fault(what: str, at: int, more: str = "") -> Fault:
-    return Fault(4, f"source: {what} at {at}{more}")
+class NoProgram(Exception):
+    """The source is no typed program, for this reason."""
 
 
-# ---- types and tokens
+# ---- source text
 
-
-@dataclass(frozen=True, eq=False)
-class Type:
-    """A type of the language. Each stands once, so equal types are the same object."""
-
-    kind: str
-    parts: tuple[Type, ...] = ()
-
-    def text(self, operand: bool = False) -> str:
-        """The type with the fewest parentheses."""
-        if self.kind == "pair":
-            text = f"{self.parts[0].text(True)} * {self.parts[1].text()}"
-            return f"({text})" if operand else text
-        return f"{self.parts[0].text(True)} {self.kind}" if self.parts else self.kind
-
-    def opened(self) -> Types:
-        """The types of the parts of a value that is taken apart."""
-        return {"list": (*self.parts, self), "tree": (*self.parts, self, self)}.get(self.kind, self.parts)
-
-
-@lru_cache(None)
-def type_of(kind: str, *parts: Type) -> Type:
-    return Type(kind, parts)
-
-
-Types = tuple[Type, ...]
-INT, BOOL = type_of("int"), type_of("bool")
-HOLDERS = ["list", "tree", "option"]
 KEYWORDS = "fun let in if then else match with nil leaf node true false not tick div mod int bool none some".split() + HOLDERS
-LEXEME = re.compile(rb"[ \t\r\n]+|[a-z][A-Za-z0-9_']*|[0-9]+|::|<=|->|[(),:=<+\-*|]")
+TOKEN = re.compile(r"[ \t\r\n]+|(\(\*)|([a-z][A-Za-z0-9_']*)|([0-9]+)|(::|<=|->|[(),:=<+\-*|])")
+Token = namedtuple("Token", "kind text")  # the kind of a keyword and a symbol is its text
 
 
-@dataclass(frozen=True)
-class Token:
-    """A token, with its place. Its kind is `name`, `number`, or its own text."""
-
-    at: int
-    text: str
-    kind: str
-
-
-def end_of_comment(source: bytes, at: int) -> int:
-    depth = 0
-    for mark in re.finditer(rb"\(\*|\*\)", source[at:]):
-        depth += 1 if mark[0] == b"(*" else -1
-        if depth == 0:
-            return at + mark.end()
-    raise source_fault("open comment", at)
-
-
-def tokens_of(source: bytes) -> Iterator[Token]:
+def tokens_of(text: str) -> Iterator[Token]:
     """The tokens by longest match, and behind them one of kind `end`."""
-    try:
-        source.decode("utf-8")
-    except UnicodeDecodeError as error:
-        raise source_fault("not utf-8", error.start) from None
     at = 0
-    while at < len(source):
-        if source.startswith(b"(*", at):
-            at = end_of_comment(source, at)
-            continue
-        lexeme = LEXEME.match(source, at)
-        if lexeme is None:
-            raise source_fault("bad character", at)
-        text = lexeme[0].decode()
-        if text[0].isdigit():
-            text = text.lstrip("0") or "0"
-            if len(text) > 19 or int(text) > MOST_INTEGER:
-                raise source_fault("number too wide", at)
-            yield Token(at, text, "number")
-        elif not text.isspace():
-            yield Token(at, text, "name" if text[0].isalpha() and text not in KEYWORDS else text)
-        at = lexeme.end()
-    yield Token(at, "", "end")
-
-
-# ---- the parser
+    while at < len(text):
+        found = TOKEN.match(text, at)
+        if not found:
+            raise NoProgram(f"a character that begins no token: {text[at]}")
+        at, (comment, name, number, symbol) = found.end(), found.groups()
+        depth = 1 if comment else 0
+        while depth > 0:
+            mark = re.compile(r"\(\*|\*\)").search(text, at)
+            if not mark:
+                raise NoProgram("a comment without its end")
+            at, depth = mark.end(), depth + (1 if mark[0] == "(*" else -1)
+        if number and (len(number.lstrip("0")) > 19 or int(number) > MOST_INTEGER):
+            raise NoProgram("a number that is too great")
+        if name or number or symbol:
+            kind = "number" if number else "name" if name and name not in KEYWORDS else found[0]
+            yield Token(kind, found[0])
+    yield Token("end", "")
 
 
 @dataclass
 class Expr:
-    """An expression, or a function by its parameters and its body.
-
-    Beside its place it has where its text begins, which for `((x))` is another one.
-    """
+    """An expression, or a function, whose binders are its parameters and whose types are theirs and that of its result."""
 
     kind: str
-    at: int
-    begins: int
     parts: list[Expr] = field(default_factory=list)
-    binders: list[Token] = field(default_factory=list)
+    binders: list[str] = field(default_factory=list)
     name: str = ""
     number: int = 0
-    types: list[Type] = field(default_factory=list)  # of a function those of the parameters and of the result
+    types: list[Type] = field(default_factory=list)
     height: int = 1
 
 
@@ -149,153 +97,137 @@ FORMS = {
     "some": "( E )",
     "not": "A",
 }
-# the operators with the kind of their form, their level, and the level of the operand on their right
+# the operators: the kind of their form, their level, and the level of the operand on their right
 OPERATORS = {word: ("arith", 2, 3) for word in "+-"} | {word: ("arith", 3, 4) for word in ("*", "div", "mod")}
 OPERATORS |= {word: ("compare", 0, 1) for word in ("=", "<", "<=")} | {"::": ("cons", 1, 1)}
 ATOM = 4
-HOLDER = {"nil": "list", "cons": "list", "leaf": "tree", "node": "tree", "none": "option", "some": "option", "pair": "pair"}
 
 
 class Parser:
-    """Reads a program from tokens. `depth` is how many forms stand around what is read."""
+    """Reads a program from tokens."""
 
-    def __init__(self, source: bytes) -> None:
-        self.tokens, self.next = list(tokens_of(source)), 0
+    def __init__(self, text: str) -> None:
+        self.tokens, self.next = list(tokens_of(text)), 0
 
     @property
-    def token(self) -> Token:
-        return self.tokens[self.next]
+    def kind(self) -> str:
+        return self.tokens[self.next].kind
 
-    def take(self, *kinds: str, height: int = 0) -> Token:
-        """The next token, which is of one of these kinds. With it something begins that is at least so high."""
-        if self.token.kind not in kinds:
-            raise source_fault("syntax", self.token.at)
-        if height > MOST_HEIGHT:
-            raise source_fault("too deep", self.token.at)
+    def take(self, *kinds: str) -> str:
+        """The text of the next token, which is of one of these kinds."""
+        if self.kind not in kinds:
+            raise NoProgram(f"{self.tokens[self.next].text or 'the end'} where {' or '.join(kinds)} is wanted")
         self.next += 1
-        return self.tokens[self.next - 1]
+        return self.tokens[self.next - 1].text
 
-    def many(self, read: Callable[[], object], most: int, sign: str) -> list:
-        """One or more of these, with this sign between or before the others."""
+    def many(self, read: Callable[[], object], most: int, sign: str, end: str) -> list:
+        """One or more of these, each other one behind or with this sign, and then the end."""
         items = [read()]
-        while self.token.kind == sign:
-            if len(items) == most:
-                raise source_fault("too many", self.token.at)
+        while self.kind == sign:
             self.next += sign == ","
             items.append(read())
+        if len(items) > most:
+            raise NoProgram("too many functions, parameters or arguments")
+        self.take(end)
         return items
 
-    def program(self) -> list[Expr]:
-        functions = self.many(self.function, MOST_FUNCTIONS, "fun")
-        self.take("end")
-        return functions
-
     def function(self) -> Expr:
-        at, name, _ = self.take("fun").at, self.take("name").text, self.take("(")
-        params = self.many(lambda: (self.take("name"), self.take(":") and self.type(0)[0]), MOST_ARGUMENTS, ",")
-        self.take(")")
-        types = [t for _, t in params] + [self.take(":") and self.type(0)[0]]
-        return Expr("fun", at, at, [self.take("=") and self.expr(0, 0)], [p for p, _ in params], name, 0, types)
+        self.take("fun")
+        name, _ = self.take("name"), self.take("(")
+        params = self.many(lambda: (self.take("name"), self.take(":") and self.type()), MOST_ARGUMENTS, ",", ")")
+        types = [t for _, t in params] + [self.take(":") and self.type()]
+        body = self.take("=") and self.expr(0)
+        if max([body.height] + [height for _, height in types]) > MOST_HEIGHT:
+            raise NoProgram("a body or a type is too high")
+        return Expr("fun", [body], [param for param, _ in params], name, types=[t for t, _ in types])
 
-    def type(self, depth: int) -> tuple[Type, int]:
+    def type(self) -> tuple[Type, int]:
         """A type and its height."""
-        if self.token.kind == "(":
-            self.take("(", height=depth + 2)
-            left, height = self.type(depth + 1)
-            height += len(self.take(")").text)
+        if self.take("int", "bool", "(") == "(":
+            left, height = self.type()
+            height += len(self.take(")"))
         else:
-            left, height = type_of(self.take("int", "bool", height=depth + 1).kind), 1
-        while self.token.kind in HOLDERS:
-            left, height = type_of(self.take(*HOLDERS, height=depth + height + 1).kind, left), height + 1
-        if self.token.kind == "*":
-            self.take("*", height=depth + height + 1)
-            right, other = self.type(depth + 1)
-            left, height = type_of("pair", left, right), 1 + max(height, other)
+            left, height = (self.tokens[self.next - 1].kind,), 1
+        while self.kind in HOLDERS:
+            left, height = (self.take(*HOLDERS), left), height + 1
+        if self.kind == "*":
+            right, other = self.take("*") and self.type()
+            left, height = ("pair", left, right), 1 + max(height, other)
         return left, height
 
-    def expr(self, level: int, depth: int) -> Expr:
+    def expr(self, level: int) -> Expr:
         """An expression of the operators from this level on, as far as it goes."""
-        start = self.token
-        if level == 0 and start.kind in ("let", "if", "match", "tick"):
-            self.take(start.kind, height=depth + 2)
-            e = Expr("split" if start.kind == "let" and self.token.kind == "(" else start.kind, start.at, start.at)
-            self.form(e, depth, FORMS[e.kind])
+        if level == 0 and self.kind in ("let", "if", "match", "tick"):
+            e = Expr(self.take(self.kind))
+            e.kind = "split" if e.kind == "let" and self.kind == "(" else e.kind
+            self.form(e, FORMS[e.kind])
             if e.kind == "match":
-                e.name = self.take("nil", "leaf", "none").kind
-                self.form(e, depth, FORMS[e.name])
+                e.name = self.take("nil", "leaf", "none")
+                self.form(e, FORMS[e.name])
             return e
-        left = self.atom(depth)
-        while OPERATORS.get(self.token.kind, ("", -1))[1] >= level:
-            kind, _, right_level = OPERATORS[self.token.kind]
-            self.take(self.token.kind, height=depth + left.height + 1)
-            parts = [left, self.expr(right_level, depth + 1)]
-            left = Expr(kind, left.begins, left.begins, parts, height=1 + max(part.height for part in parts))
+        left = self.atom()
+        while OPERATORS.get(self.kind, ("", -1))[1] >= level:
+            kind, _, right_level = OPERATORS[self.take(self.kind)]
+            parts = [left, self.expr(right_level)]
+            left = Expr(kind, parts, height=1 + max(part.height for part in parts))
             if kind == "compare":
                 break
         return left
 
-    def form(self, e: Expr, depth: int, template: str) -> Expr:
+    def form(self, e: Expr, template: str) -> Expr:
         """The rest of a form, by what comes behind its first token."""
         for word in template.split():
             if word in ("E", "A"):
-                e.parts.append(self.expr(0 if word == "E" else ATOM, depth + 1))
+                e.parts.append(self.expr(0 if word == "E" else ATOM))
                 e.height = max(e.height, 1 + e.parts[-1].height)
-                continue
-            if word == "number" and self.token.kind == word and int(self.token.text) > MOST_TICKS:
-                raise source_fault("syntax", self.token.at)
-            token = self.take(word)
-            if word == "name":
-                e.binders.append(token)
+            elif word == "name":
+                e.binders.append(self.take(word))
             elif word == "number":
-                e.number = int(token.text)
+                e.number = int(self.take(word))
+            else:
+                self.take(word)
+        if e.number > MOST_TICKS:
+            raise NoProgram("too many ticks")
         return e
 
-    def atom(self, depth: int) -> Expr:
-        start = self.token
-        e = Expr(start.kind, start.at, start.at, name=start.text)
-        if start.kind == "(":
-            self.take("(", height=depth + 2)
-            return self.parenthesis(e, depth)
-        if start.kind in ("node", "some", "not"):
-            self.take(start.kind, height=depth + 2)
-            return self.form(e, depth, FORMS[e.kind])
-        self.take("number", "true", "false", "nil", "leaf", "none", "name", height=depth + 1)
-        if start.kind == "name" and self.token.kind == "(":
-            self.take("(", height=depth + 2)
-            e.kind, e.parts = "call", self.many(lambda: self.expr(0, depth + 1), MOST_ARGUMENTS, ",")
+    def atom(self) -> Expr:
+        e = Expr(self.kind, name=self.take("number", "true", "false", "nil", "leaf", "none", "name", "node", "some", "not", "("))
+        if e.kind in ("node", "some", "not"):
+            return self.form(e, FORMS[e.kind])
+        if e.kind == "(":
+            return self.parenthesis(self.expr(0))
+        if e.kind == "name" and self.kind == "(":
+            self.next += 1
+            e.kind, e.parts = "call", self.many(lambda: self.expr(0), MOST_ARGUMENTS, ",", ")")
             e.height += max(part.height for part in e.parts)
-            self.take(")")
         return e
 
-    def parenthesis(self, e: Expr, depth: int) -> Expr:
-        e.parts = [self.expr(0, depth + 1)]
-        heights, sign = [e.parts[0].height], self.take(")", ",", ":").kind
+    def parenthesis(self, inside: Expr) -> Expr:
+        sign = self.take(")", ",", ":")
         if sign == ")":
-            e.parts[0].height, e.parts[0].begins = e.parts[0].height + 1, e.begins
-            return e.parts[0]
+            inside.height += 1
+            return inside
         if sign == ",":
-            e.kind = "pair"
-            e.parts.append(self.expr(0, depth + 1))
-            heights.append(e.parts[1].height)
+            other = self.expr(0)
+            e, height = Expr("pair", [inside, other]), other.height
         else:
-            e.kind, (annotation, height) = "typed", self.type(depth + 1)
-            e.types, heights = [annotation], heights + [height]
+            annotation, height = self.type()
+            e = Expr("typed", [inside], types=[annotation])
         self.take(")")
-        e.height += max(heights)
+        e.height += max(inside.height, height)
         return e
 
 
 # ---- types of programs and normal forms
 
+HOLDER = {"nil": "list", "cons": "list", "leaf": "tree", "node": "tree", "none": "option", "some": "option", "pair": "pair"}
+
 
 @dataclass(eq=False)
 class Form:
-    """A form of a normal form.
-
-    `uses` are its operands, or the variable that it tests, takes apart, shares or drops, and `binds` the variables
-    that it binds in its last part. The kinds are those of the page, but `Plain` is a constant, an operator or an empty
-    value, `Build` a constructor with a cell, and `Case` a match, or an `If`, which binds nothing.
-    """
+    """A form of a normal form. `uses` are its operands, or the variable that it tests, takes apart, shares or drops, and
+    `binds` the variables that it binds in its last part. The kinds are those of the page, but `Plain` is a constant, an
+    operator or an empty value, `Build` a constructor with a cell, and `Case` a match, or an `If`, which binds nothing."""
 
     kind: str
     uses: tuple[int, ...] = ()
@@ -313,16 +245,9 @@ class Form:
         return ({self.number} if self.kind == "Call" else set()).union(*[part.calls() for part in self.parts])
 
 
-def no_name_twice(names: Iterable[tuple[str, int]]) -> None:
-    seen = set()
-    for name, at in names:
-        if name in seen:
-            raise source_fault("twice", at)
-        seen.add(name)
-
-
-def wanted(at: int, want: str, got: str) -> Fault:
-    return source_fault(f"wanted {want}, got {got}", at)
+def type_parts(t: Type) -> Types:
+    """The types of the parts of a value that is taken apart."""
+    return t[1:] + {"list": (t,), "tree": (t, t)}.get(t[0], ())
 
 
 def replaced(context: tuple[int, ...], x: int, new: tuple[int, ...]) -> tuple[int, ...]:
@@ -331,23 +256,23 @@ def replaced(context: tuple[int, ...], x: int, new: tuple[int, ...]) -> tuple[in
     return context[:at] + new + context[at + 1 :]
 
 
+def need(holds: bool, reason: str) -> None:
+    if not holds:
+        raise NoProgram(reason)
+
+
 class Program:
-    """A program: types of arguments and results, normal forms, calls, and the groups, callees first.
+    """A typed program, with the normal forms of its functions, and the groups, callees first. Each variable has a type."""
 
-    Variables are numbers, each of which has a type.
-    """
-
-    def __init__(self, source: bytes) -> None:
-        self.functions = Parser(source).program()
-        no_name_twice((f.name, f.at) for f in self.functions)
-        for f in self.functions:
-            no_name_twice((b.text, b.at) for b in f.binders)
-        self.names = [f.name for f in self.functions]
-        self.places = {name: f for f, name in enumerate(self.names)}
-        self.args = [tuple(f.types[:-1]) for f in self.functions]
-        self.results = [f.types[-1] for f in self.functions]
+    def __init__(self, text: str) -> None:
+        parser = Parser(text)
+        functions = parser.many(parser.function, MOST_FUNCTIONS, "fun", "end")
+        self.names = [f.name for f in functions]
+        for names in [self.names] + [f.binders for f in functions]:
+            need(len(set(names)) == len(names), "a name stands twice")
+        self.args, self.results = [tuple(f.types[:-1]) for f in functions], [f.types[-1] for f in functions]
         self.types: list[Type] = []
-        self.bodies = [self.body(f) for f in self.functions]
+        self.bodies = [self.body(f) for f in functions]
         self.calls = [body.calls() for body in self.bodies]
         self.groups = groups_of(self.calls)
 
@@ -357,7 +282,7 @@ class Program:
 
     def body(self, f: Expr) -> Form:
         params = self.new(*f.types[:-1])
-        _, form = self.one(f.types[-1], {b.text: x for b, x in zip(f.binders, params)}, f.parts[0])
+        _, form = self.one(f.types[-1], dict(zip(f.binders, params)), f.parts[0])
         form.nodes += 1
         return self.two(form, params, {x: x for x in params})
 
@@ -374,8 +299,7 @@ class Program:
             return found
 
         found, form = self.over(want, scope, e, operand)
-        if want is not None and found is not want:
-            raise wanted(e.at, want.text(), found.text())
+        need(want in (None, found), "another type is wanted")
         if e.kind == "typed":
             return found, form
         form = Form(form.kind, form.uses or tuple(uses), form.binds, form.parts, form.number)
@@ -394,21 +318,20 @@ class Program:
                 for part in parts:
                     operand(BOOL if e.kind == "not" else INT, part)
                 return INT if e.kind == "arith" else BOOL, Form("Plain")
-            case "name" | "call" if e.name not in (scope if e.kind == "name" else self.places):
-                raise source_fault("unknown", e.at)
             case "name":
+                need(e.name in scope, "a variable is not bound")
                 return self.types[scope[e.name]], Form("Var", (scope[e.name],))
             case "call":
-                f = self.places[e.name]
-                if len(self.args[f]) != len(parts):
-                    raise source_fault("arity", e.at, f": wanted {len(self.args[f])}, got {len(parts)}")
+                need(e.name in self.names, "a function is not there")
+                f = self.names.index(e.name)
+                need(len(self.args[f]) == len(parts), "a call has another number of arguments")
                 for t, part in zip(self.args[f], parts):
                     operand(t, part)
                 return self.results[f], Form("Call", number=f)
             case "let":
                 found, bound = self.one(None, scope, parts[0])
                 binds = self.new(found)
-                found, rest = self.one(want, scope | {e.binders[0].text: binds[0]}, parts[1])
+                found, rest = self.one(want, scope | {e.binders[0]: binds[0]}, parts[1])
                 return found, Form("Let", (), binds, (bound, rest))
             case "if":
                 operand(BOOL, parts[0])
@@ -421,38 +344,28 @@ class Program:
                 return self.one(e.types[0], scope, parts[0])
             case "split" | "match":
                 return self.opened(want, scope, e, operand)
-        return self.value(want, e, operand)
+        need(e.parts != [] or want is not None, "an empty value needs a type")
+        need(want is None or want[0] == HOLDER[e.kind], "another type is wanted")
+        if not parts:
+            return want, Form("Plain")
+        first = operand(want[1] if want else None, parts[0])
+        if e.kind == "pair":
+            return ("pair", first, operand(want[2] if want else None, parts[1])), Form("Build")
+        for part in parts[1:]:
+            operand((HOLDER[e.kind], first), part)
+        return (HOLDER[e.kind], first), Form("Build")
 
     def opened(self, want: Type | None, scope: dict[str, int], e: Expr, operand: Callable) -> tuple[Type, Form]:
         """Of a `let` of a pair, and of a match."""
-        no_name_twice((b.text, b.at) for b in e.binders)
-        kind, subject = HOLDER[e.name or "pair"], operand(None, e.parts[0])
-        if subject.kind != kind:
-            raise wanted(e.parts[0].at, f"some {kind}", subject.text())
-        parts = []
+        subject, forms = operand(None, e.parts[0]), []
+        need(subject[0] == HOLDER[e.name or "pair"], "a value of another kind is taken apart")
+        need(len(set(e.binders)) == len(e.binders), "a name stands twice")
         for part in e.parts[1:-1]:
             want, form = self.one(want, scope, part)
-            parts.append(form)
-        binds = self.new(*subject.opened())
-        found, last = self.one(want, scope | {b.text: x for b, x in zip(e.binders, binds)}, e.parts[-1])
-        return found, Form("Case" if parts else "Split", (), binds, (*parts, last))
-
-    def value(self, want: Type | None, e: Expr, operand: Callable) -> tuple[Type, Form]:
-        """Of an empty value, and of a constructor with a cell."""
-        holder = HOLDER[e.kind]
-        if want is not None and want.kind != holder:
-            raise wanted(e.at, want.text(), f"some {holder}")
-        if not e.parts:
-            if want is None:
-                raise source_fault("needs a type", e.at)
-            return want, Form("Plain")
-        inner = want.parts if want is not None else (None, None)
-        if holder == "pair":
-            return type_of("pair", *[operand(t, part) for t, part in zip(inner, e.parts)]), Form("Build")
-        found = type_of(holder, operand(inner[0], e.parts[0]))
-        for part in e.parts[1:]:
-            operand(found, part)
-        return found, Form("Build")
+            forms.append(form)
+        binds = self.new(*type_parts(subject))
+        found, last = self.one(want, scope | dict(zip(e.binders, binds)), e.parts[-1])
+        return found, Form("Case" if forms else "Split", (), binds, (*forms, last))
 
     def two(self, form: Form, context: tuple[int, ...], copies: dict[int, int]) -> Form:
         """Step two: each variable is used once. Context and form have the variables of step one, and `copies` those
@@ -513,7 +426,7 @@ def groups_of(calls: list[set[int]]) -> list[list[int]]:
     return groups
 
 
-# ---- indices
+# ---- indices, annotations and targets
 
 # `_` is (0,), a pair (1, i, j), a list or tree index (2, i1, .., ik), an option index (3,) or (3, i). So Python's order
 # of tuples is the order of indices, and the entries of an index stand behind its first item.
@@ -543,20 +456,18 @@ def degrees(t: Tuple) -> int:
     return sum(map(degree, t))
 
 
-@lru_cache(None)
 def zero_index(t: Type) -> Index:
-    return (1, *map(zero_index, t.parts)) if t.kind == "pair" else (3 if t.kind == "option" else 2 if t.parts else 0,)
+    return (1, *map(zero_index, t[1:])) if t[0] == "pair" else ({"list": 2, "tree": 2, "option": 3}.get(t[0], 0),)
 
 
 @lru_cache(None)
 def indices(t: Type, d: int) -> list[Index]:
     """The indices of a type of degree at most d."""
-    if t.kind == "pair":
-        return few((1, i, j) for i in indices(t.parts[0], d) for j in indices(t.parts[1], d - degree(i)))
-    firsts = indices(t.parts[0], d - 1) if t.parts and d > 0 else []
-    if t.kind == "option":
-        return few([(3,)] + [(3, i) for i in firsts])
-    return few([zero_index(t)] + [(2, i, *r[1:]) for i in firsts for r in indices(t, d - 1 - degree(i))])
+    if t[0] == "pair":
+        return few((1, i, j) for i in indices(t[1], d) for j in indices(t[2], d - degree(i)))
+    firsts = indices(t[1], d - 1) if t[0] in HOLDERS and d > 0 else []
+    rests = lambda i: [(3,)] if t[0] == "option" else indices(t, d - 1 - degree(i))
+    return few([zero_index(t)] + [(r[0], i, *r[1:]) for i in firsts for r in rests(i)])
 
 
 @lru_cache(None)
@@ -595,13 +506,13 @@ def product(i: Index, j: Index) -> Counter:
 @lru_cache(None)
 def index_parts(t: Type, i: Index) -> list[Tuple]:
     """The tuples of the parts that stand for an index when a value of the type is taken apart."""
-    if t.kind == "pair":
+    if t[0] == "pair":
         return [i[1:]]
-    none = zero_index(t.parts[0])
-    if t.kind == "option":
+    none = zero_index(t[1])
+    if t[0] == "option":
         return [i[1:] or (none,)]
     heads = [(none, i[1:])] + ([(i[1], i[2:])] if len(i) > 1 else [])
-    if t.kind == "list":
+    if t[0] == "list":
         return [(head, (2, *tail)) for head, tail in heads]
     return [(head, (2, *rest[:k]), (2, *rest[k:])) for head, rest in heads for k in range(len(rest) + 1)]
 
@@ -623,9 +534,9 @@ def shares(k: int) -> Carry:
 
 def moved(q: Annotation, source: Types, target: Types, d: int, carry: Carry) -> Annotation:
     """An annotation, carried from one context to another at budget d."""
-    to, out = positions(target, d), {}
+    from_, to, out = tuples(source, d), positions(target, d), {}
     for k, number in q.items():
-        for u, times in carry(tuples(source, d)[k]) if k < len(tuples(source, d)) else ():
+        for u, times in carry(from_[k]) if k < len(from_) else ():
             if u in to:
                 out[to[u]] = out.get(to[u], 0) + times * number
     return out
@@ -644,22 +555,8 @@ def polynomial_text(types: Types, d: int, q: Annotation, scale: int) -> str:
     return " + ".join(terms) or "0"
 
 
-# ---- targets and tasks
-
-
-@dataclass
-class Target:
-    """A target: its degree, and its index, or the list index that is cut and the components that it is cut over."""
-
-    degree: int
-    index: Index
-    places: tuple[int, ...] = ()
-
-    def tuples(self, result: Type) -> list[Tuple]:
-        if not self.places:
-            return [(self.index,)]
-        cut = cuts(self.index[1:], len(self.places))
-        return [(filled(result, dict(zip(self.places, pieces)))[0],) for pieces in cut]
+def components(t: Type) -> list[Type]:
+    return components(t[1]) + components(t[2]) if t[0] == "pair" else [t]
 
 
 def cuts(entries: tuple, n: int) -> list[tuple]:
@@ -669,40 +566,28 @@ def cuts(entries: tuple, n: int) -> list[tuple]:
     return [(entries[:k], *rest) for k in range(len(entries) + 1) for rest in cuts(entries[k:], n - 1)]
 
 
-def filled(t: Type, pieces: dict[int, tuple], place: int = 0) -> tuple[Index, int]:
-    """The index with pieces at these components, the first of which has this place, and the place behind."""
-    if t.kind != "pair":
-        return ((2, *pieces[place]) if place in pieces else zero_index(t)), place + 1
-    first, place = filled(t.parts[0], pieces, place)
-    second, place = filled(t.parts[1], pieces, place)
-    return (1, first, second), place
-
-
-def components(t: Type) -> list[Type]:
-    return components(t.parts[0]) + components(t.parts[1]) if t.kind == "pair" else [t]
+def filled(t: Type, pieces: dict[int, tuple], places: Iterator[int]) -> Index:
+    """The index with pieces at these components, of which the places are counted."""
+    if t[0] == "pair":
+        return (1, filled(t[1], pieces, places), filled(t[2], pieces, places))
+    place = next(places)
+    return (2, *pieces[place]) if place in pieces else zero_index(t)
 
 
 @lru_cache(None)
-def targets(result: Type, d: int) -> list[Target]:
-    holders = [(k, t.parts[0]) for k, t in enumerate(components(result)) if t.kind in ("list", "tree")][:8]
+def targets(result: Type, d: int) -> list[list[Index]]:
+    """The targets of a type, each by the indices that it has 1 at."""
+    holders = [(k, t[1]) for k, t in enumerate(components(result)) if t[0] in ("list", "tree")][:8]
     joined = []
     for chosen in (c for n in (2, 3, 4) for c in combinations(holders, n)):
-        if all(element is chosen[0][1] for _, element in chosen):
-            cut = [i for i in indices(type_of("list", chosen[0][1]), d) if degree(i) > 0]
-            joined += [Target(degree(i), i, tuple(k for k, _ in chosen)) for i in cut]
-    joined.sort(key=lambda t: (t.degree, t.index, t.places))
-    return [Target(degrees(t), t[0]) for t in tuples((result,), d)] + joined
+        if len({element for _, element in chosen}) == 1:
+            lists = indices(("list", chosen[0][1]), d)
+            joined += [(degree(i), i, [k for k, _ in chosen]) for i in lists if degree(i) > 0]
+    cut = [[dict(zip(places, pieces)) for pieces in cuts(i[1:], len(places))] for _, i, places in sorted(joined)]
+    return [[i] for (i,) in tuples((result,), d)] + [[filled(result, p, count()) for p in pieces] for pieces in cut]
 
 
-@dataclass(frozen=True)
-class Task:
-    """A task of a group. Its kind is a meter, or `free`; then it has a budget, a function and a target."""
-
-    group: int
-    kind: str
-    budget: int = 0
-    function: int = 0
-    target: int = 0
+Task = namedtuple("Task", "group kind budget function target", defaults=(0, 0, 0))  # the kind is a meter, or `free`
 
 
 # ---- reading certificates
@@ -710,7 +595,7 @@ class Task:
 
 def fits(value: object, shape: object) -> bool:
     """Whether a JSON value has a shape: a natural below a limit, a list of one shape, a pair of shapes, an object by
-    its keys, or a value that passes a test."""
+    its keys, or what passes a test."""
     match shape:
         case int():
             return type(value) is int and 0 <= value < shape
@@ -742,17 +627,17 @@ def is_hint(value: object) -> bool:
 WIDE = 2**32
 ENTRIES = [(WIDE, is_text)]
 FOUND = [{"sigs": [(is_annotation, is_annotation)], "hints": [[is_hint]]}, {"farkas": ENTRIES}, {"calls": WIDE}]
-FREE = {"budget": 256, "function": WIDE, "target": WIDE}
+FREE = {"kind": lambda kind: kind == "free", "budget": 256, "function": WIDE, "target": WIDE}
 
 
 def is_block(value: object, meters: list[str]) -> bool:
-    tasks = {"kind": lambda kind: kind == "free"} | FREE, {"kind": lambda kind: is_text(kind) and kind in meters}
+    tasks = FREE, {"kind": lambda kind: is_text(kind) and kind in meters}
     return any(fits(value, {"group": WIDE} | task | found) for task in tasks for found in FOUND)
 
 
 def is_head(value: object, version: int) -> bool:
-    scale = {meter: is_text for meter in METERS[: version + 1]}
     numbers = {"version": lambda v: fits(v, 3) and v == version, "degree": lambda d: fits(d, 5) and d > 0}
+    scale = {meter: is_text for meter in METERS[: version + 1]}
     return fits(value, numbers | {"scale": scale, "blocks": [lambda block: True]})
 
 
@@ -780,25 +665,17 @@ def json_value(text: str) -> object:
         depth += {"[": 1, "{": 1, "]": -1, "}": -1}.get(mark[0], 0)
         if depth > MOST_NESTING:
             raise ValueError("too deep")
-    natural = lambda digits: int(digits) if len(digits) < 20 and digits[0] != "-" else real(digits)
-    value = json.loads(text, parse_int=natural, parse_float=real, parse_constant=real)
     for escape in re.finditer(r"\\(?:u[dD][89abAB]..\\u[dD][c-fC-F]..|u([dD])[89a-fA-F]..|.)", text):
         if escape[1]:
             raise ValueError("half of a surrogate pair")
-    return value
+    natural = lambda digits: int(digits) if len(digits) < 20 and digits[0] != "-" else real(digits)
+    return json.loads(text, parse_int=natural, parse_float=real, parse_constant=real)
 
 
 def read_certificate(data: bytes) -> dict:
     """The certificate as the JSON that it is, with numbers for the texts in it."""
-    try:
-        value = json_value(data.decode("utf-8"))
-    except ValueError:
-        raise Fault(7, "certificate: not json") from None
-    version = 1 if is_head(value, 1) else 2
-    parts = [("head", lambda: is_head(value, version), lambda: value["scale"])]
-    meters = METERS[: version + 1]
 
-    def look(place: str, shapely: bool, part: object) -> object:
+    def look(place: str, part: object, shapely: bool) -> object:
         if not shapely:
             raise Fault(7, f"certificate: shape in {place}")
         try:
@@ -806,8 +683,14 @@ def read_certificate(data: bytes) -> dict:
         except ValueError:
             raise Fault(7, f"certificate: number in {place}") from None
 
-    scale = look("head", is_head(value, version), value["scale"] if is_head(value, version) else None)
-    blocks = [look(f"block {k}", is_block(block, meters), block) for k, block in enumerate(value["blocks"])]
+    try:
+        value = json_value(data.decode("utf-8"))
+    except ValueError:
+        raise Fault(7, "certificate: not json") from None
+    version = next((v for v in (1, 2) if is_head(value, v)), 0)
+    meters = METERS[: version + 1]
+    scale = look("head", value["scale"] if version else None, version > 0)
+    blocks = [look(f"block {k}", block, is_block(block, meters)) for k, block in enumerate(value["blocks"])]
     return {"degree": value["degree"], "scale": {m: scale[m] for m in meters}, "blocks": blocks}
 
 
@@ -834,28 +717,144 @@ class Sum(dict):
 
 Number = int | Sum
 Path = tuple[int, ...]
-Sig = tuple[Annotation, Annotation]
-Judge = Callable[[Path, int, Number, Number], None]
+Sig = list[Annotation]  # that of the arguments and that of the result
 
 
-@dataclass
-class Walk:
-    """The walk over the bodies of a block's group. The judge hears of each condition its path, index and sides."""
+class Check:
+    """The check of a certificate of a program.
 
-    program: Program
-    task: Task
-    budget: int
-    scale: int
-    sigs: dict[int, Sig]
-    free: list[dict[int, Sig]]
-    paid: dict[int, Sig]
-    judge: Judge
-    hints: Iterator = iter(())
+    A walk asks `sig` for the signature of the function at a place of the group, and `hint` for a hint of a kind, by
+    numbers of positions or by the blocks that a call may take; of each condition it tells `judge` path, index and sides.
+    """
 
-    def bodies(self, hints: list[list]) -> None:
-        for place, (f, (args, result)) in enumerate(self.sigs.items()):
-            self.hints = iter(hints[place])
-            self.form(self.program.bodies[f], args, self.program.results[f], result, self.budget, True, (place,))
+    def __init__(self, program: Program, certificate: dict) -> None:
+        self.program, self.degree, self.scales = program, certificate["degree"], certificate["scale"]
+        self.blocks: list[dict] = certificate["blocks"]
+        self.tasks: list[Task] = []  # those of the blocks so far
+        self.paid: dict[tuple[str, int], Sig] = {}
+        self.free: list[dict[int, Sig]] = [{} for _ in program.names]
+
+    def run(self) -> list[str]:
+        """The lines of the certificate."""
+        for group in range(len(self.program.groups)):
+            for task in self.group_tasks(group):
+                if len(self.tasks) == len(self.blocks):
+                    raise self.out_of_place()
+                self.block(task, self.blocks[len(self.tasks)])
+                self.tasks.append(task)
+        if len(self.tasks) < len(self.blocks):
+            raise self.out_of_place()
+        for number, block in enumerate(self.blocks):
+            if "farkas" in block:
+                self.refute(number, self.tasks[number], block["farkas"])
+        return [self.line(f, meter) for f in range(len(self.program.names)) for meter in self.scales]
+
+    def out_of_place(self) -> Fault:
+        return Fault(7, f"certificate: block {len(self.tasks)} is not in the schedule")
+
+    def too_large(self, task: Task, what: str) -> Fault:
+        name = self.program.names[task.function if task.kind == "free" else self.program.groups[task.group][0]]
+        text = f"free budget {task.budget} target {task.target}" if task.kind == "free" else task.kind
+        return Fault(8, f"too large: {name} {text}: {what}")
+
+    def group_tasks(self, group: int) -> Iterator[Task]:
+        """The tasks of a group, but for targets that are solved."""
+        d, functions, solved = self.degree, self.program.groups[group], set()
+        for f in functions:
+            try:
+                tuples((self.program.results[f],), d)
+            except TooMany:
+                raise self.too_large(Task(group, "free", d, f), "indices") from None
+        for budget in range(d + 1):
+            for f in functions:
+                for k, target in enumerate(targets(self.program.results[f], d)):
+                    if degree(target[0]) <= budget and (f, k) not in solved:
+                        yield Task(group, "free", budget, f, k)
+                        solved |= {(f, k)} if "sigs" in self.blocks[len(self.tasks) - 1] else set()
+        yield from (Task(group, meter) for meter in self.scales)
+
+    def block(self, task: Task, block: dict) -> None:
+        """The tests of a block."""
+        group, number = self.program.groups[task.group], len(self.tasks)
+        called = set().union(*[self.program.calls[f] for f in group]) - set(group)
+        waits = [f for f in called if task.kind != "free" and (task.kind, f) not in self.paid]
+        if Task(*[block[key] for key in Task._fields if key in block]) != task:
+            raise self.out_of_place()
+        if block.get("calls") != min(waits, default=None) or not ascend(block.get("farkas", [])):
+            raise self.out_of_place()
+        if "sigs" not in block:
+            return
+        fits, fails = len(block["sigs"]) == len(block["hints"]) == len(group), []
+        hints = [iter(hints) for hints in block["hints"] + [[]] * len(group)]
+
+        def fitted(sizes: list[int], annotations: list) -> list[Annotation]:
+            nonlocal fits
+            fits &= len(sizes) == len(annotations) and all(k < n for n, q in zip(sizes, annotations) for k, _ in q)
+            return list(map(dict, annotations)) if fits else [{} for _ in sizes]
+
+        def sig(place: int, sizes: list[int]) -> Sig:
+            return fitted(sizes, block["sigs"][place] if fits else [])
+
+        def hint(path: Path, kind: str, about: list[int]) -> list:
+            nonlocal fits
+            [(given, inside)] = next(hints[path[0]], {"": []}).items()
+            fits &= given == kind
+            if kind != "call":
+                return fitted(about, [inside] if given == "share" else inside)
+            fits &= ascend(inside) and all(k in about for k, _ in inside)
+            return inside if fits else []
+
+        def judge(path: Path, index: int, left: Number, right: Number) -> None:
+            if left < right:
+                fails.append(f"certificate: block {number} fails at {'.'.join(map(str, path))} index {index}")
+
+        self.walk(number, task, sig, hint, judge)
+        if not fits or any(next(rest, None) for rest in hints):
+            raise self.out_of_place()
+        if fails:
+            raise Fault(7, fails[0])
+        for f in group:
+            (self.free[f] if task.kind == "free" else self.paid)[number if task.kind == "free" else (task.kind, f)] = self.sigs[f]
+
+    def refute(self, number: int, task: Task, farkas: list) -> None:
+        """Makes the system of the task, which the vector has to refute."""
+        rows: list[Sum] = []
+
+        def judge(path: Path, index: int, left: Number, right: Number) -> None:
+            row = Sum() + left - right
+            if any(n < 0 for n in row.values()):
+                rows.append(row)
+
+        for unknown in (lambda u: 0, lambda u: Sum({u: 1})):  # the first walk only counts
+            unknowns, rows[:] = count(), []
+            take = lambda places: {k: unknown(next(unknowns)) for k in places}
+            sig = lambda place, sizes: [take(range(n)) for n in sizes]
+            hint = lambda path, kind, about: list(take(about).items()) if kind == "call" else sig(0, about)
+            self.walk(number, task, sig, hint, judge)
+            if next(unknowns) > MOST:
+                raise self.too_large(task, "unknowns")
+        if len(rows) > MOST:
+            raise self.too_large(task, "rows")
+        total = sum((times * rows[k] for k, times in farkas if k < len(rows)), Sum())
+        if any(k >= len(rows) for k, _ in farkas) or total.pop(-1, 0) >= 0 or any(n > 0 for n in total.values()):
+            raise Fault(7, f"certificate: block {number} does not refute")
+
+    def walk(self, number: int, task: Task, sig: Callable, hint: Callable, judge: Callable) -> None:
+        """The target and the bodies of a task's group."""
+        program, d = self.program, task.budget if task.kind == "free" else self.degree
+        self.number, self.task, self.hint, self.judge = number, task, hint, judge
+        self.scale, self.sigs = self.scales.get(task.kind, 1), {}
+        try:
+            for k, f in enumerate(program.groups[task.group]):
+                self.sigs[f] = sig(k, [len(tuples(types, d)) for types in (program.args[f], (program.results[f],))])
+            result = program.results[task.function]
+            target = targets(result, self.degree)[task.target] if task.kind == "free" else []
+            for k in sorted(positions((result,), d)[i,] for i in target):
+                judge((program.groups[task.group].index(task.function),), k, self.sigs[task.function][1].get(k, 0), 1)
+            for k, f in enumerate(program.groups[task.group]):
+                self.form(program.bodies[f], self.sigs[f][0], program.results[f], self.sigs[f][1], d, True, (k,))
+        except TooMany:
+            raise self.too_large(task, "indices") from None
 
     def cover(self, path: Path, index: int, q: Annotation, r: Annotation) -> None:
         """At each position the first annotation has at least the number of the second."""
@@ -865,11 +864,10 @@ class Walk:
     def form(self, e: Form, q: Annotation, t: Type, r: Annotation, d: int, present: bool, path: Path) -> None:
         """A form at budget d, in the present mode or in mode `Past`. Its context has the annotation q, and its result,
         of type t, has r."""
-        paid, index = self.task.kind if present else "", 0
+        paid, index, at, _, _ = self.task.kind if present else "", 0, e.context.index(e.uses[0]) if e.uses else 0, tuples(e.types, d), tuples((t,), d)
         if paid == "work" and e.nodes > 0:
             self.judge(path, 0, q.get(0, 0), e.nodes * self.scale)
             q, index = q | {0: q.get(0, 0) - e.nodes * self.scale}, 1
-        at = e.context.index(e.uses[0]) if e.uses else 0
         if e.kind == "Var":
             self.cover(path, index, q, r)
         elif e.kind == "Plain":
@@ -883,7 +881,7 @@ class Walk:
         elif e.kind == "Let":
             self.let(e, q, t, r, d, present, path)
         elif e.kind == "Share":
-            [copies] = next(self.hints)
+            [copies] = self.hint(path, "share", [len(tuples(e.parts[0].types, d))])
             self.cover(path, index, q, moved(copies, e.parts[0].types, e.types, d, shares(at)))
             self.form(e.parts[0], copies, t, r, d, present, path + (0,))
         elif e.kind == "Tick":
@@ -897,9 +895,10 @@ class Walk:
 
     def call(self, e: Form, q: Annotation, t: Type, r: Annotation, d: int, present: bool, path: Path, index: int) -> None:
         f, args, left, order = e.number, {}, {}, [e.uses.index(x) for x in e.context]
-        taken = [(self.free[f][block], times) for block, times in next(self.hints)]
+        usable = [k for k in self.free[f] if k < self.number and self.tasks[k].budget <= d]
+        taken = [(self.free[f][block], times) for block, times in self.hint(path, "call", usable)]
         if present and (f in self.sigs or self.task.kind != "free"):
-            taken.append((self.sigs[f] if f in self.sigs else self.paid[f], 1))
+            taken.append((self.sigs[f] if f in self.sigs else self.paid[self.task.kind, f], 1))
         for sig, times in taken:
             for out, numbers in zip((args, left), sig):
                 for k, number in numbers.items():
@@ -911,218 +910,29 @@ class Walk:
         self.cover(path, index + len(tuples(e.types, d)), moved(left, (t,), (t,), d, lambda u: [(u, 1)]), r)
 
     def let(self, e: Form, q: Annotation, t: Type, r: Annotation, d: int, present: bool, path: Path) -> None:
-        bound, rest = e.parts
-        *others, bound_type = rest.types
-        others, joined, results = tuple(others), {}, next(self.hints)
-        parts = [{} for _ in tuples(others, d)]
+        (bound, rest), joined = e.parts, {}
+        others, bound_type = rest.types[:-1], rest.types[-1]
+        places = [e.context.index(x) for x in rest.context[:-1]], [e.context.index(x) for x in bound.context]
+        parts: list[Annotation] = [{} for _ in tuples(others, d)]
         for k, number in q.items():
-            u = dict(zip(e.context, tuples(e.types, d)[k]))
-            j = positions(others, d)[tuple(u[x] for x in rest.context[:-1])]
-            parts[j][positions(bound.types, d)[tuple(u[x] for x in bound.context)]] = number
+            j, u = (tuple(tuples(e.types, d)[k][place] for place in some) for some in places)
+            parts[positions(others, d)[j]][positions(bound.types, d)[u]] = number
+        budgets = [d - degrees(j) for j in tuples(others, d)]
+        results = self.hint(path, "let", [len(tuples((bound_type,), budget)) for budget in budgets])
         for j, u in enumerate(tuples(others, d)):
-            self.form(bound, parts[j], bound_type, results[j], d - degrees(u), present and j == 0, path + (j,))
+            self.form(bound, parts[j], bound_type, results[j], budgets[j], present and j == 0, path + (j,))
             for k, number in results[j].items():
                 joined[positions(rest.types, d)[u + tuples((bound_type,), d)[k]]] = number
         self.form(rest, joined, t, r, d, present, path + (len(parts),))
 
-
-class Check:
-    """The check of a certificate of a program."""
-
-    def __init__(self, program: Program, certificate: dict) -> None:
-        self.program, self.degree, self.scale = program, certificate["degree"], certificate["scale"]
-        self.blocks: list[dict] = certificate["blocks"]
-        self.tasks: list[Task] = []  # of the blocks so far
-        self.paid: dict[str, dict[int, Sig]] = {meter: {} for meter in self.scale}
-        self.free: list[dict[int, Sig]] = [{} for _ in program.names]
-        self.asked: dict[tuple[Form, int], list] = {}
-
-    def too_large(self, task: Task, what: str) -> Fault:
-        name = self.program.names[task.function if task.kind == "free" else self.program.groups[task.group][0]]
-        text = f"free budget {task.budget} target {task.target}" if task.kind == "free" else task.kind
-        return Fault(8, f"too large: {name} {text}: {what}")
-
-    def out_of_place(self) -> Fault:
-        return Fault(7, f"certificate: block {len(self.tasks)} is not in the schedule")
-
-    def run(self) -> list[str]:
-        """The lines of the certificate."""
-        for group, functions in enumerate(self.program.groups):
-            for f in functions:
-                try:
-                    tuples((self.program.results[f],), self.degree)
-                except TooMany:
-                    raise self.too_large(Task(group, "free", self.degree, f), "indices") from None
-            for task in self.group_tasks(group):
-                if len(self.tasks) == len(self.blocks):
-                    raise self.out_of_place()
-                self.block(task, self.blocks[len(self.tasks)])
-                self.tasks.append(task)
-        if len(self.tasks) < len(self.blocks):
-            raise self.out_of_place()
-        for number, block in enumerate(self.blocks):
-            if "farkas" in block:
-                self.refuted(number, self.tasks[number], dict(block["farkas"]))
-        return [self.line(f, meter) for f in range(len(self.program.names)) for meter in self.scale]
-
-    def group_tasks(self, group: int) -> Iterator[Task]:
-        solved: set[tuple[int, int]] = set()
-        for budget in range(self.degree + 1):
-            for f in self.program.groups[group]:
-                for k, target in enumerate(targets(self.program.results[f], self.degree)):
-                    if target.degree <= budget and (f, k) not in solved:
-                        yield Task(group, "free", budget, f, k)
-                        if "sigs" in self.blocks[len(self.tasks) - 1]:
-                            solved.add((f, k))
-        for meter in self.scale:
-            yield Task(group, meter)
-
-    def budget(self, task: Task) -> int:
-        return task.budget if task.kind == "free" else self.degree
-
-    def block(self, task: Task, block: dict) -> None:
-        keys = ["group", "kind"] + (["budget", "function", "target"] if block["kind"] == "free" else [])
-        if Task(*[block[key] for key in keys]) != task or block.get("calls") != self.blocker(task):
-            raise self.out_of_place()
-        if "sigs" in block:
-            self.solved(task, block)
-        if not ascend(block.get("farkas", [])):
-            raise self.out_of_place()
-
-    def blocker(self, task: Task) -> int | None:
-        """The least function of an earlier group that the task's group calls, and that has no bound for the meter."""
-        group = self.program.groups[task.group]
-        called = set().union(*[self.program.calls[f] for f in group]) - set(group)
-        return min((f for f in called if task.kind != "free" and f not in self.paid[task.kind]), default=None)
-
-    def asks(self, e: Form, t: Type, d: int) -> list[tuple]:
-        """The hints that a form asks for, with the numbers of positions of annotations, or a function and a budget."""
-        if (e, d) not in self.asked:
-            tuples(e.types, d), tuples((t,), d)
-            asks, inner = [], [(part, t, d) for part in e.parts]
-            if e.kind == "Let":
-                *others, bound_type = e.parts[1].types
-                budgets = [d - degrees(u) for u in tuples(tuple(others), d)]
-                asks.append(("let", [len(tuples((bound_type,), b)) for b in budgets]))
-                inner[:1] = [(e.parts[0], bound_type, b) for b in budgets]
-            elif e.kind == "Share":
-                asks.append(("share", [len(tuples(e.parts[0].types, d))]))
-            elif e.kind == "Call":
-                asks.append(("call", e.number, d))
-            self.asked[e, d] = asks + [ask for part in inner for ask in self.asks(*part)]
-        return self.asked[e, d]
-
-    def all_asks(self, task: Task) -> list[list[tuple]]:
-        budget, program = self.budget(task), self.program
-        try:
-            return [self.asks(program.bodies[f], program.results[f], budget) for f in program.groups[task.group]]
-        except TooMany:
-            raise self.too_large(task, "indices") from None
-
-    def usable(self, f: int, d: int, number: int) -> list[int]:
-        """The blocks before this one whose signatures of a function a call may take at budget d."""
-        return [k for k in self.free[f] if k < number and self.tasks[k].budget <= d]
-
-    def fits(self, ask: tuple, hint: dict) -> bool:
-        [(kind, inside)] = hint.items()
-        if kind != ask[0]:
-            return False
-        if kind == "call":
-            usable = self.usable(ask[1], ask[2], len(self.tasks))
-            return ascend(inside) and all(k in usable for k, _ in inside)
-        return are_within(ask[1], inside if kind == "let" else [inside])
-
-    def sizes(self, task: Task) -> list[list[int]]:
-        """How many positions the arguments and the results of the group have."""
-        d, program = self.budget(task), self.program
-        return [[len(tuples(t, d)) for t in (program.args[f], (program.results[f],))] for f in program.groups[task.group]]
-
-    def solved(self, task: Task, block: dict) -> None:
-        group, number, asks = self.program.groups[task.group], len(self.tasks), self.all_asks(task)
-        fits = len(block["sigs"]) == len(block["hints"]) == len(group)
-        fits = fits and all(map(are_within, self.sizes(task), block["sigs"]))
-        fits = fits and all(len(a) == len(h) and all(map(self.fits, a, h)) for a, h in zip(asks, block["hints"]))
-        if not fits:
-            raise self.out_of_place()
-
-        def judge(path: Path, index: int, left: Number, right: Number) -> None:
-            if left < right:
-                place = ".".join(map(str, path))
-                raise Fault(7, f"certificate: block {number} fails at {place} index {index}")
-
-        sigs = {f: (dict(args), dict(result)) for f, (args, result) in zip(group, block["sigs"])}
-        for k in self.target(task):
-            judge((group.index(task.function),), k, sigs[task.function][1].get(k, 0), 1)
-        self.walk(task, sigs, judge).bodies([list(map(plain, hints)) for hints in block["hints"]])
-        for f in group:
-            if task.kind == "free":
-                self.free[f][number] = sigs[f]
-            else:
-                self.paid[task.kind][f] = sigs[f]
-
-    def target(self, task: Task) -> list[int]:
-        """The positions of the target of a free task."""
-        result = self.program.results[task.function]
-        found = targets(result, self.degree)[task.target].tuples(result) if task.kind == "free" else []
-        return sorted(positions((result,), task.budget)[u] for u in found)
-
-    def walk(self, task: Task, sigs: dict[int, Sig], judge: Judge) -> Walk:
-        paid, scale = self.paid.get(task.kind, {}), self.scale.get(task.kind, 1)
-        return Walk(self.program, task, self.budget(task), scale, sigs, self.free, paid, judge)
-
-    def refuted(self, number: int, task: Task, farkas: dict[int, int]) -> None:
-        """The system of the task, which the vector has to refute."""
-        group, asks, unknowns = self.program.groups[task.group], self.all_asks(task), count()
-
-        def take(items: Iterable[int]) -> dict[int, Sum]:
-            return {k: Sum({next(unknowns): 1}) for k in items}
-
-        def hint(ask: tuple) -> list:
-            if ask[0] == "call":
-                return list(take(self.usable(ask[1], ask[2], number)).items())
-            return [take(range(n)) for n in ask[1]]
-
-        sigs = {f: tuple(take(range(n)) for n in sizes) for f, sizes in zip(group, self.sizes(task))}
-        hints = [[hint(ask) for ask in asks_of_one] for asks_of_one in asks]
-        if next(unknowns) > MOST:
-            raise self.too_large(task, "unknowns")
-        rows: list[Sum] = []
-
-        def judge(path: Path, index: int, left: Number, right: Number) -> None:
-            row = Sum() + left - right
-            if any(n < 0 for n in row.values()):
-                rows.append(row)
-
-        for k in self.target(task):
-            judge((), k, sigs[task.function][1][k], 1)
-        self.walk(task, sigs, judge).bodies(hints)
-        if len(rows) > MOST:
-            raise self.too_large(task, "rows")
-        total = sum((times * rows[k] for k, times in farkas.items() if k < len(rows)), Sum())
-        if any(k >= len(rows) for k in farkas) or total.pop(-1, 0) >= 0 or any(n > 0 for n in total.values()):
-            raise Fault(7, f"certificate: block {number} does not refute")
-
     def line(self, f: int, meter: str) -> str:
-        blocks = zip(self.tasks, self.blocks)
-        block = next(b for task, b in blocks if task.kind == meter and f in self.program.groups[task.group])
+        pairs = zip(self.tasks, self.blocks)
+        block = next(b for task, b in pairs if task.kind == meter and f in self.program.groups[task.group])
         if "sigs" in block:
-            text = polynomial_text(self.program.args[f], self.degree, self.paid[meter][f][0], self.scale[meter])
+            text = polynomial_text(self.program.args[f], self.degree, self.paid[meter, f][0], self.scales[meter])
             return f"{self.program.names[f]} {meter} <= {text}"
         called = f": calls {self.program.names[block['calls']]}" if "calls" in block else ""
         return f"{self.program.names[f]} {meter} no bound{called}"
-
-
-def are_within(sizes: list[int], annotations: list) -> bool:
-    return len(sizes) == len(annotations) and all(k < n for n, q in zip(sizes, annotations) for k, _ in q)
-
-
-def plain(hint: dict) -> list:
-    """The annotations of a hint, or the entries of a call."""
-    [(kind, inside)] = hint.items()
-    return inside if kind == "call" else [dict(q) for q in (inside if kind == "let" else [inside])]
-
-
-# ---- the call
 
 
 def read(name: str, what: str) -> bytes:
@@ -1140,7 +950,10 @@ def main(words: list[str]) -> int:
     try:
         if len(words) != 2:
             raise Fault(1, "usage")
-        program = Program(read(words[0], "program"))
+        try:
+            program = Program(read(words[0], "program").decode("utf-8"))
+        except (NoProgram, UnicodeDecodeError, RecursionError) as reason:
+            raise Fault(4, f"source: {reason}") from None
         lines = Check(program, read_certificate(read(words[1], "certificate"))).run()
     except Fault as fault:
         print(f"raml: {fault.args[1]}", file=sys.stderr)
@@ -1150,11 +963,5 @@ def main(words: list[str]) -> int:
 
 
 if __name__ == "__main__":
-    # forms are deep, and each is a call
-    sys.setrecursionlimit(1_000_000)
-    threading.stack_size(512 << 20)
-    status: list[int] = []
-    thread = threading.Thread(target=lambda: status.append(main(sys.argv[1:])))
-    thread.start()
-    thread.join()
-    sys.exit(status[0] if status else 70)
+    sys.setrecursionlimit(100_000)
+    sys.exit(main(sys.argv[1:]))
