@@ -10,15 +10,15 @@ range, this checker tells whether the certificate holds. It needs Python 3.11 an
 from __future__ import annotations
 
 import json
-import math
 import re
 import sys
-from collections import Counter, namedtuple
+from collections import Counter, defaultdict, namedtuple
 from collections.abc import Callable, Iterable, Iterator
 from dataclasses import dataclass, field
 from fractions import Fraction
 from functools import lru_cache
 from itertools import combinations, count, islice
+from pathlib import Path
 
 MOST_HEIGHT, MOST_FUNCTIONS, MOST_ARGUMENTS, MOST_TICKS = 200, 256, 8, 1_000_000
 MOST_INTEGER, MOST_NUMBER, MOST_NESTING = 2**63 - 1, 2**127 - 1, 127
@@ -33,18 +33,23 @@ Types = tuple[Type, ...]
 INT, BOOL = ("int",), ("bool",)
 
 
+def parts_of(t: Type) -> Types:
+    """The types of the parts of a value that is taken apart."""
+    return t[1:] + {"list": (t,), "tree": (t, t)}.get(t[0], ())
+
+
 class Fault(Exception):
     """Why the call is refused: a status, and a line without `raml: `."""
 
 
-class NoProgram(Exception):
-    """The source is no typed program, for this reason."""
+def need(holds: object, reason: str) -> None:
+    if not holds:  # of a source
+        raise Fault(4, f"source: {reason}")
 
 
-# ---- source text
-
-KEYWORDS = "fun let in if then else match with nil leaf node true false not tick div mod int bool none some".split() + HOLDERS
+KEYWORDS = "fun let in if then else match with nil leaf node true false not tick div mod int bool none some".split()
 TOKEN = re.compile(r"[ \t\r\n]+|(\(\*)|([a-z][A-Za-z0-9_']*)|([0-9]+)|(::|<=|->|[(),:=<+\-*|])")
+MARK = re.compile(r"\(\*|\*\)")
 Token = namedtuple("Token", "kind text")  # the kind of a keyword and a symbol is its text
 
 
@@ -53,26 +58,23 @@ def tokens_of(text: str) -> Iterator[Token]:
     at = 0
     while at < len(text):
         found = TOKEN.match(text, at)
-        if not found:
-            raise NoProgram(f"a character that begins no token: {text[at]}")
-        at, (comment, name, number, symbol) = found.end(), found.groups()
-        depth = 1 if comment else 0
+        need(found, f"{text[at]} begins no token")
+        at, depth, (_, name, number, symbol) = found.end(), found[1] is not None, found.groups()
         while depth > 0:
-            mark = re.compile(r"\(\*|\*\)").search(text, at)
-            if not mark:
-                raise NoProgram("a comment without its end")
+            mark = MARK.search(text, at)
+            need(mark, "a comment has no end")
             at, depth = mark.end(), depth + (1 if mark[0] == "(*" else -1)
-        if number and (len(number.lstrip("0")) > 19 or int(number) > MOST_INTEGER):
-            raise NoProgram("a number that is too great")
         if name or number or symbol:
-            kind = "number" if number else "name" if name and name not in KEYWORDS else found[0]
-            yield Token(kind, found[0])
+            digits = (number or "").lstrip("0") or "0"
+            need(len(digits) < 20 and int(digits) <= MOST_INTEGER, "a number is too great")
+            kind = "number" if number else "name" if name and name not in KEYWORDS + HOLDERS else found[0]
+            yield Token(kind, digits if number else found[0])
     yield Token("end", "")
 
 
 @dataclass
 class Expr:
-    """An expression, or a function, whose binders are its parameters and whose types are theirs and that of its result."""
+    """An expression, or a function, which binds its name and its parameters; its last type is that of the result."""
 
     kind: str
     parts: list[Expr] = field(default_factory=list)
@@ -83,29 +85,19 @@ class Expr:
     height: int = 1
 
 
-# What comes behind the first token of a form: E is an expression, A an atom, and all other words are kinds of tokens.
+# what comes behind the first token of a form: E an expression, A an atom, T a type, and else tokens of these kinds
 FORMS = {
-    "let": "name = E in E",
-    "split": "( name , name ) = E in E",
-    "if": "E then E else E",
-    "match": "E with",
-    "nil": "-> E | name :: name -> E",
-    "leaf": "-> E | node ( name , name , name ) -> E",
-    "none": "-> E | some ( name ) -> E",
-    "tick": "number in E",
-    "node": "( E , E , E )",
-    "some": "( E )",
-    "not": "A",
+    **{"let": "name = E in E", "split": "( name , name ) = E in E", "if": "E then E else E", "tick": "number in E"},
+    **{"match": "E with", "nil": "-> E | name :: name -> E", "none": "-> E | some ( name ) -> E"},
+    **{"leaf": "-> E | node ( name , name , name ) -> E", "node": "( E , E , E )", "some": "( E )", "not": "A"},
 }
 # the operators: the kind of their form, their level, and the level of the operand on their right
 OPERATORS = {word: ("arith", 2, 3) for word in "+-"} | {word: ("arith", 3, 4) for word in ("*", "div", "mod")}
 OPERATORS |= {word: ("compare", 0, 1) for word in ("=", "<", "<=")} | {"::": ("cons", 1, 1)}
-ATOM = 4
+ATOM = 4  # the level of what needs no parentheses
 
 
 class Parser:
-    """Reads a program from tokens."""
-
     def __init__(self, text: str) -> None:
         self.tokens, self.next = list(tokens_of(text)), 0
 
@@ -115,8 +107,7 @@ class Parser:
 
     def take(self, *kinds: str) -> str:
         """The text of the next token, which is of one of these kinds."""
-        if self.kind not in kinds:
-            raise NoProgram(f"{self.tokens[self.next].text or 'the end'} where {' or '.join(kinds)} is wanted")
+        need(self.kind in kinds, f"{self.tokens[self.next].text or 'the end'} where {' or '.join(kinds)} is wanted")
         self.next += 1
         return self.tokens[self.next - 1].text
 
@@ -126,20 +117,15 @@ class Parser:
         while self.kind == sign:
             self.next += sign == ","
             items.append(read())
-        if len(items) > most:
-            raise NoProgram("too many functions, parameters or arguments")
+        need(len(items) <= most, "too many functions, parameters or arguments")
         self.take(end)
         return items
 
     def function(self) -> Expr:
-        self.take("fun")
-        name, _ = self.take("name"), self.take("(")
-        params = self.many(lambda: (self.take("name"), self.take(":") and self.type()), MOST_ARGUMENTS, ",", ")")
-        types = [t for _, t in params] + [self.take(":") and self.type()]
-        body = self.take("=") and self.expr(0)
-        if max([body.height] + [height for _, height in types]) > MOST_HEIGHT:
-            raise NoProgram("a body or a type is too high")
-        return Expr("fun", [body], [param for param, _ in params], name, types=[t for t, _ in types])
+        e = self.form(Expr("fun"), "fun name (")
+        self.many(lambda: self.form(e, "name : T"), MOST_ARGUMENTS, ",", ")")
+        need(self.form(e, ": T = E").height <= MOST_HEIGHT + 1, "a body or a type is too high")
+        return e
 
     def type(self) -> tuple[Type, int]:
         """A type and its height."""
@@ -175,23 +161,27 @@ class Parser:
         return left
 
     def form(self, e: Expr, template: str) -> Expr:
-        """The rest of a form, by what comes behind its first token."""
+        """More of a form, by what comes next in it."""
         for word in template.split():
-            if word in ("E", "A"):
+            if word == "E" or word == "A":
                 e.parts.append(self.expr(0 if word == "E" else ATOM))
                 e.height = max(e.height, 1 + e.parts[-1].height)
+            elif word == "T":
+                found, height = self.type()
+                e.types.append(found)
+                e.height = max(e.height, 1 + height)
             elif word == "name":
                 e.binders.append(self.take(word))
             elif word == "number":
                 e.number = int(self.take(word))
             else:
                 self.take(word)
-        if e.number > MOST_TICKS:
-            raise NoProgram("too many ticks")
+        need(e.number <= MOST_TICKS, "too many ticks")
         return e
 
     def atom(self) -> Expr:
-        e = Expr(self.kind, name=self.take("number", "true", "false", "nil", "leaf", "none", "name", "node", "some", "not", "("))
+        atoms = ["number", "true", "false", "nil", "leaf", "none", "name", "node", "some", "not", "("]
+        e = Expr(self.kind, name=self.take(*atoms))
         if e.kind in ("node", "some", "not"):
             return self.form(e, FORMS[e.kind])
         if e.kind == "(":
@@ -203,31 +193,22 @@ class Parser:
         return e
 
     def parenthesis(self, inside: Expr) -> Expr:
-        sign = self.take(")", ",", ":")
-        if sign == ")":
-            inside.height += 1
+        if self.kind == ")":
+            inside.height += len(self.take(")"))
             return inside
-        if sign == ",":
-            other = self.expr(0)
-            e, height = Expr("pair", [inside, other]), other.height
-        else:
-            annotation, height = self.type()
-            e = Expr("typed", [inside], types=[annotation])
-        self.take(")")
-        e.height += max(inside.height, height)
-        return e
+        if self.kind == ",":
+            return self.form(Expr("pair", [inside], height=1 + inside.height), ", E )")
+        return self.form(Expr("typed", [inside], height=1 + inside.height), ": T )")
 
 
-# ---- types of programs and normal forms
-
-HOLDER = {"nil": "list", "cons": "list", "leaf": "tree", "node": "tree", "none": "option", "some": "option", "pair": "pair"}
+HOLDER = dict(nil="list", cons="list", leaf="tree", node="tree", none="option", some="option", pair="pair")
 
 
 @dataclass(eq=False)
 class Form:
-    """A form of a normal form. `uses` are its operands, or the variable that it tests, takes apart, shares or drops, and
-    `binds` the variables that it binds in its last part. The kinds are those of the page, but `Plain` is a constant, an
-    operator or an empty value, `Build` a constructor with a cell, and `Case` a match, or an `If`, which binds nothing."""
+    """A form of a normal form. Its kind is that of the page, but `Plain` is a constant, an operator or an empty value,
+    `Build` a constructor with a cell, and `Case` a match, or an `If`, which binds nothing. It uses its operands, or the
+    variable that it tests, takes apart, shares or drops, and it binds variables in its last part."""
 
     kind: str
     uses: tuple[int, ...] = ()
@@ -241,14 +222,6 @@ class Form:
     def __post_init__(self) -> None:
         self.free = frozenset(self.uses).union(*[part.free for part in self.parts]) - set(self.binds)
 
-    def calls(self) -> set[int]:
-        return ({self.number} if self.kind == "Call" else set()).union(*[part.calls() for part in self.parts])
-
-
-def type_parts(t: Type) -> Types:
-    """The types of the parts of a value that is taken apart."""
-    return t[1:] + {"list": (t,), "tree": (t, t)}.get(t[0], ())
-
 
 def replaced(context: tuple[int, ...], x: int, new: tuple[int, ...]) -> tuple[int, ...]:
     """The context with these in the place of a variable."""
@@ -256,24 +229,19 @@ def replaced(context: tuple[int, ...], x: int, new: tuple[int, ...]) -> tuple[in
     return context[:at] + new + context[at + 1 :]
 
 
-def need(holds: bool, reason: str) -> None:
-    if not holds:
-        raise NoProgram(reason)
-
-
 class Program:
-    """A typed program, with the normal forms of its functions, and the groups, callees first. Each variable has a type."""
+    """A typed program: normal forms of its functions, groups, callees first, and the type of each variable."""
 
     def __init__(self, text: str) -> None:
         parser = Parser(text)
         functions = parser.many(parser.function, MOST_FUNCTIONS, "fun", "end")
-        self.names = [f.name for f in functions]
-        for names in [self.names] + [f.binders for f in functions]:
+        self.names = [f.binders[0] for f in functions]
+        for names in [self.names] + [f.binders[1:] for f in functions]:
             need(len(set(names)) == len(names), "a name stands twice")
         self.args, self.results = [tuple(f.types[:-1]) for f in functions], [f.types[-1] for f in functions]
         self.types: list[Type] = []
+        self.calls: list[set[int]] = []
         self.bodies = [self.body(f) for f in functions]
-        self.calls = [body.calls() for body in self.bodies]
         self.groups = groups_of(self.calls)
 
     def new(self, *types: Type) -> tuple[int, ...]:
@@ -281,8 +249,9 @@ class Program:
         return tuple(range(len(self.types) - len(types), len(self.types)))
 
     def body(self, f: Expr) -> Form:
+        self.calls.append(set())
         params = self.new(*f.types[:-1])
-        _, form = self.one(f.types[-1], dict(zip(f.binders, params)), f.parts[0])
+        _, form = self.one(f.types[-1], dict(zip(f.binders[1:], params)), f.parts[0])
         form.nodes += 1
         return self.two(form, params, {x: x for x in params})
 
@@ -325,6 +294,7 @@ class Program:
                 need(e.name in self.names, "a function is not there")
                 f = self.names.index(e.name)
                 need(len(self.args[f]) == len(parts), "a call has another number of arguments")
+                self.calls[-1].add(f)
                 for t, part in zip(self.args[f], parts):
                     operand(t, part)
                 return self.results[f], Form("Call", number=f)
@@ -363,7 +333,7 @@ class Program:
         for part in e.parts[1:-1]:
             want, form = self.one(want, scope, part)
             forms.append(form)
-        binds = self.new(*type_parts(subject))
+        binds = self.new(*parts_of(subject))
         found, last = self.one(want, scope | dict(zip(e.binders, binds)), e.parts[-1])
         return found, Form("Case" if forms else "Split", (), binds, (*forms, last))
 
@@ -387,12 +357,11 @@ class Program:
             used = {x: use(x, x in parts[1].free) for x in context if x in parts[0].free}
             others = tuple(x for x in context if x in parts[1].free) + form.binds
             parts = (self.two(parts[0], tuple(used), used), self.two(parts[1], others, copies))
-        elif form.kind == "Tick":
-            parts = (self.two(parts[0], context, copies),)
         elif parts:
-            stays = form.uses if any(form.uses[0] in part.free for part in parts) else ()
-            uses = (use(form.uses[0], stays != ()),)
-            contexts = [replaced(context, form.uses[0], new) for new in (stays, form.binds + stays)]
+            stays = tuple(x for x in form.uses if any(x in part.free for part in parts))
+            uses, contexts = tuple(use(x, stays != ()) for x in form.uses), [context]
+            for x in form.uses:
+                contexts = [replaced(context, x, new) for new in (stays, form.binds + stays)]
             parts = tuple(self.two(part, inner, copies) for part, inner in zip(parts, contexts[-len(parts) :]))
         else:
             uses = tuple(use(x, x in form.uses[k + 1 :]) for k, x in enumerate(form.uses))
@@ -411,13 +380,10 @@ class Program:
 
 def groups_of(calls: list[set[int]]) -> list[list[int]]:
     """Of the groups that may come next, the one with the least function first."""
-    reach = [{f} for f in range(len(calls))]
-    for reached in reach:
-        todo = list(reached)
-        while todo:
-            new = calls[todo.pop()] - reached
-            reached |= new
-            todo += new
+    reach = [{f} | called for f, called in enumerate(calls)]
+    for via, beyond in enumerate(reach):
+        for reached in reach:
+            reached |= beyond if via in reached else set()
     together = [sorted(g for g in reached if f in reach[g]) for f, reached in enumerate(reach)]
     groups, placed = [], set()
     while len(placed) < len(calls):
@@ -426,14 +392,11 @@ def groups_of(calls: list[set[int]]) -> list[list[int]]:
     return groups
 
 
-# ---- indices, annotations and targets
-
 # `_` is (0,), a pair (1, i, j), a list or tree index (2, i1, .., ik), an option index (3,) or (3, i). So Python's order
 # of tuples is the order of indices, and the entries of an index stand behind its first item.
-Index = tuple
-Tuple = tuple[Index, ...]
+Index = Tuple = tuple
 Annotation = dict  # the numbers by their positions; one that is not there is 0
-Carry = Callable[[Tuple], Iterable[tuple[Tuple, int]]]  # the tuples that a tuple is carried to, and how often each counts
+Carry = Callable[[Tuple], Iterable[tuple[Tuple, int]]]  # what a tuple is carried to, and how often that counts
 
 
 class TooMany(Exception):
@@ -449,11 +412,8 @@ def few(items: Iterable) -> list:
 
 @lru_cache(None)
 def degree(i: Index) -> int:
+    """The degree of an index. That of a tuple is the degree of a pair of all its indices."""
     return (len(i) - 1 if i[0] >= 2 else 0) + sum(map(degree, i[1:]))
-
-
-def degrees(t: Tuple) -> int:
-    return sum(map(degree, t))
 
 
 def zero_index(t: Type) -> Index:
@@ -466,8 +426,9 @@ def indices(t: Type, d: int) -> list[Index]:
     if t[0] == "pair":
         return few((1, i, j) for i in indices(t[1], d) for j in indices(t[2], d - degree(i)))
     firsts = indices(t[1], d - 1) if t[0] in HOLDERS and d > 0 else []
-    rests = lambda i: [(3,)] if t[0] == "option" else indices(t, d - 1 - degree(i))
-    return few([zero_index(t)] + [(r[0], i, *r[1:]) for i in firsts for r in rests(i)])
+    if t[0] == "option":
+        return few([(3,)] + [(3, i) for i in firsts])
+    return few([zero_index(t)] + [(2, i, *r[1:]) for i in firsts for r in indices(t, d - 1 - degree(i))])
 
 
 @lru_cache(None)
@@ -475,8 +436,8 @@ def tuples(types: Types, d: int) -> list[Tuple]:
     """The tuples of a context of degree at most d, by position."""
     found: list[Tuple] = [()]
     for t in types:
-        found = few(u + (i,) for u in found for i in indices(t, d - degrees(u)))
-    return sorted(found, key=lambda u: (degrees(u), u))
+        found = few(u + (i,) for u in found for i in indices(t, d - degree((1, *u))))
+    return sorted(found, key=lambda u: (degree((1, *u)), u))
 
 
 @lru_cache(None)
@@ -517,21 +478,6 @@ def index_parts(t: Type, i: Index) -> list[Tuple]:
     return [(head, (2, *rest[:k]), (2, *rest[k:])) for head, rest in heads for k in range(len(rest) + 1)]
 
 
-def opens(t: Type, k: int) -> Carry:
-    """The shifts and `split_pair` of the variable at place k."""
-    return lambda u: [(u[:k] + parts + u[k + 1 :], 1) for parts in index_parts(t, u[k])]
-
-
-def leaves(k: int) -> Carry:
-    """`empty_part` and `drop_var`."""
-    return lambda u: [(u[:k] + u[k + 1 :], 1)] if degree(u[k]) == 0 else []
-
-
-def shares(k: int) -> Carry:
-    """`share_map`."""
-    return lambda u: [(u[:k] + (i,) + u[k + 2 :], n) for i, n in product(u[k], u[k + 1]).items()]
-
-
 def moved(q: Annotation, source: Types, target: Types, d: int, carry: Carry) -> Annotation:
     """An annotation, carried from one context to another at budget d."""
     from_, to, out = tuples(source, d), positions(target, d), {}
@@ -545,14 +491,6 @@ def moved(q: Annotation, source: Types, target: Types, d: int, carry: Carry) -> 
 def index_text(i: Index) -> str:
     inside = ", ".join(map(index_text, i[1:]))
     return "_" if i[0] == 0 else f"({inside})" if i[0] == 1 else f"[{inside}]"
-
-
-def polynomial_text(types: Types, d: int, q: Annotation, scale: int) -> str:
-    terms = []
-    for k, number in sorted(q.items()):
-        base = ", ".join(map(index_text, tuples(types, d)[k]))
-        terms.append(str(Fraction(number, scale)) + (f"*<{base}>" if k > 0 else ""))
-    return " + ".join(terms) or "0"
 
 
 def components(t: Type) -> list[Type]:
@@ -590,15 +528,14 @@ def targets(result: Type, d: int) -> list[list[Index]]:
 Task = namedtuple("Task", "group kind budget function target", defaults=(0, 0, 0))  # the kind is a meter, or `free`
 
 
-# ---- reading certificates
-
-
 def fits(value: object, shape: object) -> bool:
-    """Whether a JSON value has a shape: a natural below a limit, a list of one shape, a pair of shapes, an object by
-    its keys, or what passes a test."""
+    """Whether a JSON value has a shape: a natural below a limit, a text, a list of one shape, a pair of shapes, an
+    object by its keys, or what passes a test."""
     match shape:
         case int():
             return type(value) is int and 0 <= value < shape
+        case type():
+            return isinstance(value, shape)
         case [inner]:
             return isinstance(value, list) and all(fits(item, inner) for item in value)
         case (first, second):
@@ -612,55 +549,38 @@ def ascend(entries: list) -> bool:
     return all(a[0] < b[0] for a, b in zip(entries, entries[1:]))
 
 
-def is_text(value: object) -> bool:
-    return isinstance(value, str)
-
-
 def is_annotation(value: object) -> bool:
     return fits(value, ENTRIES) and ascend(value)
 
 
-def is_hint(value: object) -> bool:
-    return any(fits(value, shape) for shape in ({"let": [is_annotation]}, {"share": is_annotation}, {"call": ENTRIES}))
-
-
-WIDE = 2**32
-ENTRIES = [(WIDE, is_text)]
-FOUND = [{"sigs": [(is_annotation, is_annotation)], "hints": [[is_hint]]}, {"farkas": ENTRIES}, {"calls": WIDE}]
-FREE = {"kind": lambda kind: kind == "free", "budget": 256, "function": WIDE, "target": WIDE}
-
-
 def is_block(value: object, meters: list[str]) -> bool:
-    tasks = FREE, {"kind": lambda kind: is_text(kind) and kind in meters}
+    free = {"kind": lambda kind: kind == "free", "budget": 256, "function": WIDE, "target": WIDE}
+    tasks = free, {"kind": lambda kind: kind in meters}
     return any(fits(value, {"group": WIDE} | task | found) for task in tasks for found in FOUND)
 
 
 def is_head(value: object, version: int) -> bool:
+    scale = {meter: str for meter in METERS[: version + 1]}
     numbers = {"version": lambda v: fits(v, 3) and v == version, "degree": lambda d: fits(d, 5) and d > 0}
-    scale = {meter: is_text for meter in METERS[: version + 1]}
-    return fits(value, numbers | {"scale": scale, "blocks": [lambda block: True]})
+    return fits(value, numbers | {"scale": scale, "blocks": [object]})
 
 
-def whole(value: object) -> object:
-    """The value with numbers in the place of texts."""
-    if isinstance(value, dict):
-        return {key: inside if key == "kind" else whole(inside) for key, inside in value.items()}
-    if isinstance(value, list):
-        return list(map(whole, value))
-    if is_text(value) and not (re.fullmatch("[1-9][0-9]{0,38}", value) and int(value) <= MOST_NUMBER):
-        raise ValueError(value)
-    return int(value)
+WIDE = 2**32
+ENTRIES = [(WIDE, str)]
+HINTS = {"let": [is_annotation]}, {"share": is_annotation}, {"call": ENTRIES}
+SOLVED = {"sigs": [(is_annotation, is_annotation)], "hints": [[lambda hint: any(fits(hint, shape) for shape in HINTS)]]}
+FOUND = SOLVED, {"farkas": ENTRIES}, {"calls": WIDE}
 
 
-def json_value(text: str) -> object:
+def json_value(data: bytes) -> object:
     """The value of a JSON text. An integer that is no natural of a few digits is a float."""
 
     def real(digits: str) -> float:
-        if not math.isfinite(number := float(digits)):
+        if not abs(number := float(digits)) < float("inf"):
             raise ValueError(digits)
         return number
 
-    depth = 0
+    text, depth = data.decode("utf-8"), 0
     for mark in re.finditer(r'"(?:[^"\\]|\\.)*"|[\[{]|[\]}]', text, re.DOTALL):
         depth += {"[": 1, "{": 1, "]": -1, "}": -1}.get(mark[0], 0)
         if depth > MOST_NESTING:
@@ -672,8 +592,19 @@ def json_value(text: str) -> object:
     return json.loads(text, parse_int=natural, parse_float=real, parse_constant=real)
 
 
+def whole(value: object) -> object:
+    """The value with numbers in the place of texts."""
+    if isinstance(value, dict):
+        return {key: inside if key == "kind" else whole(inside) for key, inside in value.items()}
+    if isinstance(value, list):
+        return list(map(whole, value))
+    if isinstance(value, str) and not (re.fullmatch("[1-9][0-9]{0,38}", value) and int(value) <= MOST_NUMBER):
+        raise ValueError(value)
+    return int(value)
+
+
 def read_certificate(data: bytes) -> dict:
-    """The certificate as the JSON that it is, with numbers for the texts in it."""
+    """The certificate as the JSON that it is, with numbers in the place of texts."""
 
     def look(place: str, part: object, shapely: bool) -> object:
         if not shapely:
@@ -684,17 +615,14 @@ def read_certificate(data: bytes) -> dict:
             raise Fault(7, f"certificate: number in {place}") from None
 
     try:
-        value = json_value(data.decode("utf-8"))
+        value = json_value(data)
     except ValueError:
         raise Fault(7, "certificate: not json") from None
     version = next((v for v in (1, 2) if is_head(value, v)), 0)
+    scale = look("head", value["scale"] if version else 0, version > 0)
     meters = METERS[: version + 1]
-    scale = look("head", value["scale"] if version else None, version > 0)
     blocks = [look(f"block {k}", block, is_block(block, meters)) for k, block in enumerate(value["blocks"])]
     return {"degree": value["degree"], "scale": {m: scale[m] for m in meters}, "blocks": blocks}
-
-
-# ---- the check
 
 
 class Sum(dict):
@@ -716,31 +644,26 @@ class Sum(dict):
 
 
 Number = int | Sum
-Path = tuple[int, ...]
+Place = tuple[int, ...]
 Sig = list[Annotation]  # that of the arguments and that of the result
 
 
 class Check:
-    """The check of a certificate of a program.
-
-    A walk asks `sig` for the signature of the function at a place of the group, and `hint` for a hint of a kind, by
-    numbers of positions or by the blocks that a call may take; of each condition it tells `judge` path, index and sides.
-    """
+    """The check of a certificate. A walk asks `sig` for the signature of the function at a place of the group, and
+    `hint` for a hint of a kind, by numbers of positions or by the blocks that a call may take. It tells `judge` the path,
+    the index and both sides of each condition."""
 
     def __init__(self, program: Program, certificate: dict) -> None:
         self.program, self.degree, self.scales = program, certificate["degree"], certificate["scale"]
         self.blocks: list[dict] = certificate["blocks"]
         self.tasks: list[Task] = []  # those of the blocks so far
-        self.paid: dict[tuple[str, int], Sig] = {}
-        self.free: list[dict[int, Sig]] = [{} for _ in program.names]
+        self.found: dict[tuple[str, int], dict[int, Sig]] = defaultdict(dict)  # by kind and function, by block
 
     def run(self) -> list[str]:
         """The lines of the certificate."""
         for group in range(len(self.program.groups)):
             for task in self.group_tasks(group):
-                if len(self.tasks) == len(self.blocks):
-                    raise self.out_of_place()
-                self.block(task, self.blocks[len(self.tasks)])
+                self.block(task, self.blocks[len(self.tasks)] if len(self.tasks) < len(self.blocks) else {})
                 self.tasks.append(task)
         if len(self.tasks) < len(self.blocks):
             raise self.out_of_place()
@@ -777,10 +700,9 @@ class Check:
         """The tests of a block."""
         group, number = self.program.groups[task.group], len(self.tasks)
         called = set().union(*[self.program.calls[f] for f in group]) - set(group)
-        waits = [f for f in called if task.kind != "free" and (task.kind, f) not in self.paid]
-        if Task(*[block[key] for key in Task._fields if key in block]) != task:
-            raise self.out_of_place()
-        if block.get("calls") != min(waits, default=None) or not ascend(block.get("farkas", [])):
+        waits = [f for f in called if task.kind != "free" and not self.found[task.kind, f]]
+        is_next = [block.get(key, 0) for key in Task._fields] == list(task)
+        if not is_next or block.get("calls") != min(waits, default=None) or not ascend(block.get("farkas", [])):
             raise self.out_of_place()
         if "sigs" not in block:
             return
@@ -789,22 +711,23 @@ class Check:
 
         def fitted(sizes: list[int], annotations: list) -> list[Annotation]:
             nonlocal fits
-            fits &= len(sizes) == len(annotations) and all(k < n for n, q in zip(sizes, annotations) for k, _ in q)
+            fits = fits and len(sizes) == len(annotations)
+            fits = fits and all(k < n for n, q in zip(sizes, annotations) for k, _ in q)
             return list(map(dict, annotations)) if fits else [{} for _ in sizes]
 
         def sig(place: int, sizes: list[int]) -> Sig:
             return fitted(sizes, block["sigs"][place] if fits else [])
 
-        def hint(path: Path, kind: str, about: list[int]) -> list:
+        def hint(path: Place, kind: str, about: list[int]) -> list:
             nonlocal fits
             [(given, inside)] = next(hints[path[0]], {"": []}).items()
-            fits &= given == kind
+            fits = fits and given == kind
             if kind != "call":
                 return fitted(about, [inside] if given == "share" else inside)
-            fits &= ascend(inside) and all(k in about for k, _ in inside)
+            fits = fits and ascend(inside) and all(k in about for k, _ in inside)
             return inside if fits else []
 
-        def judge(path: Path, index: int, left: Number, right: Number) -> None:
+        def judge(path: Place, index: int, left: Number, right: Number) -> None:
             if left < right:
                 fails.append(f"certificate: block {number} fails at {'.'.join(map(str, path))} index {index}")
 
@@ -814,22 +737,25 @@ class Check:
         if fails:
             raise Fault(7, fails[0])
         for f in group:
-            (self.free[f] if task.kind == "free" else self.paid)[number if task.kind == "free" else (task.kind, f)] = self.sigs[f]
+            self.found[task.kind, f][number] = self.sigs[f]
 
     def refute(self, number: int, task: Task, farkas: list) -> None:
         """Makes the system of the task, which the vector has to refute."""
         rows: list[Sum] = []
 
-        def judge(path: Path, index: int, left: Number, right: Number) -> None:
+        def sig(place: int, sizes: list[int]) -> Sig:
+            return [{k: unknown(next(unknowns)) for k in range(n)} for n in sizes]
+
+        def hint(path: Place, kind: str, about: list[int]) -> list:
+            return [(block, unknown(next(unknowns))) for block in about] if kind == "call" else sig(0, about)
+
+        def judge(path: Place, index: int, left: Number, right: Number) -> None:
             row = Sum() + left - right
             if any(n < 0 for n in row.values()):
                 rows.append(row)
 
         for unknown in (lambda u: 0, lambda u: Sum({u: 1})):  # the first walk only counts
             unknowns, rows[:] = count(), []
-            take = lambda places: {k: unknown(next(unknowns)) for k in places}
-            sig = lambda place, sizes: [take(range(n)) for n in sizes]
-            hint = lambda path, kind, about: list(take(about).items()) if kind == "call" else sig(0, about)
             self.walk(number, task, sig, hint, judge)
             if next(unknowns) > MOST:
                 raise self.too_large(task, "unknowns")
@@ -841,30 +767,32 @@ class Check:
 
     def walk(self, number: int, task: Task, sig: Callable, hint: Callable, judge: Callable) -> None:
         """The target and the bodies of a task's group."""
-        program, d = self.program, task.budget if task.kind == "free" else self.degree
+        group, args, results = self.program.groups[task.group], self.program.args, self.program.results
         self.number, self.task, self.hint, self.judge = number, task, hint, judge
         self.scale, self.sigs = self.scales.get(task.kind, 1), {}
+        d = task.budget if task.kind == "free" else self.degree
         try:
-            for k, f in enumerate(program.groups[task.group]):
-                self.sigs[f] = sig(k, [len(tuples(types, d)) for types in (program.args[f], (program.results[f],))])
-            result = program.results[task.function]
-            target = targets(result, self.degree)[task.target] if task.kind == "free" else []
-            for k in sorted(positions((result,), d)[i,] for i in target):
-                judge((program.groups[task.group].index(task.function),), k, self.sigs[task.function][1].get(k, 0), 1)
-            for k, f in enumerate(program.groups[task.group]):
-                self.form(program.bodies[f], self.sigs[f][0], program.results[f], self.sigs[f][1], d, True, (k,))
+            for place, f in enumerate(group):
+                self.sigs[f] = sig(place, [len(tuples(types, d)) for types in (args[f], (results[f],))])
+            if task.kind == "free":
+                q, result = self.sigs[task.function][1], results[task.function]
+                for k in sorted(positions((result,), d)[i,] for i in targets(result, self.degree)[task.target]):
+                    judge((group.index(task.function),), k, q.get(k, 0), 1)
+            for place, (f, (q, r)) in enumerate(self.sigs.items()):
+                self.form(self.program.bodies[f], q, results[f], r, d, True, (place,))
         except TooMany:
             raise self.too_large(task, "indices") from None
 
-    def cover(self, path: Path, index: int, q: Annotation, r: Annotation) -> None:
+    def cover(self, path: Place, index: int, q: Annotation, r: Annotation) -> None:
         """At each position the first annotation has at least the number of the second."""
         for k in sorted(q.keys() | r.keys()):
             self.judge(path, index + k, q.get(k, 0), r.get(k, 0))
 
-    def form(self, e: Form, q: Annotation, t: Type, r: Annotation, d: int, present: bool, path: Path) -> None:
-        """A form at budget d, in the present mode or in mode `Past`. Its context has the annotation q, and its result,
-        of type t, has r."""
-        paid, index, at, _, _ = self.task.kind if present else "", 0, e.context.index(e.uses[0]) if e.uses else 0, tuples(e.types, d), tuples((t,), d)
+    def form(self, e: Form, q: Annotation, t: Type, r: Annotation, d: int, now: bool, path: Place) -> None:
+        """A form at budget d, in the present mode (now) or in mode `Past`. Its context has the annotation q, and its
+        result, of type t, has r."""
+        tuples(e.types, d), tuples((t,), d)  # there are not too many
+        paid, index, at = self.task.kind if now else "", 0, e.context.index(e.uses[0]) if e.uses else 0
         if paid == "work" and e.nodes > 0:
             self.judge(path, 0, q.get(0, 0), e.nodes * self.scale)
             q, index = q | {0: q.get(0, 0) - e.nodes * self.scale}, 1
@@ -874,42 +802,46 @@ class Check:
             self.judge(path, index, q.get(0, 0), r.get(0, 0))
         elif e.kind == "Build":
             order = [e.uses.index(x) for x in e.context]
-            asked = moved(r, (t,), e.types, d, lambda u: [(tuple(i[k] for k in order), 1) for i in index_parts(t, u[0])])
+            carry = lambda u: [(tuple(parts[k] for k in order), 1) for parts in index_parts(t, u[0])]
+            asked = moved(r, (t,), e.types, d, carry)
             self.cover(path, index, q, asked | ({0: asked.get(0, 0) + self.scale} if paid == "cells" else {}))
         elif e.kind == "Call":
-            self.call(e, q, t, r, d, present, path, index)
+            self.call(e, q, t, r, d, now, path, index)
         elif e.kind == "Let":
-            self.let(e, q, t, r, d, present, path)
+            self.let(e, q, t, r, d, now, path)
         elif e.kind == "Share":
             [copies] = self.hint(path, "share", [len(tuples(e.parts[0].types, d))])
-            self.cover(path, index, q, moved(copies, e.parts[0].types, e.types, d, shares(at)))
-            self.form(e.parts[0], copies, t, r, d, present, path + (0,))
+            join = lambda u: [(u[:at] + (i,) + u[at + 2 :], n) for i, n in product(u[at], u[at + 1]).items()]
+            self.cover(path, index, q, moved(copies, e.parts[0].types, e.types, d, join))
+            self.form(e.parts[0], copies, t, r, d, now, path + (0,))
         elif e.kind == "Tick":
             price = e.number * self.scale if paid == "ticks" else 0
             self.judge(path, index, q.get(0, 0), price)
-            self.form(e.parts[0], q | {0: q.get(0, 0) - price}, t, r, d, present, path + (0,))
+            self.form(e.parts[0], q | {0: q.get(0, 0) - price}, t, r, d, now, path + (0,))
         else:
             for k, part in enumerate(e.parts):
-                carry = opens(e.types[at], at) if e.binds and k == len(e.parts) - 1 else leaves(at)
-                self.form(part, moved(q, e.types, part.types, d, carry), t, r, d, present, path + (k,))
+                opens = e.binds != () and k == len(e.parts) - 1
+                split = lambda u: index_parts(e.types[at], u[at]) if opens else [()] if degree(u[at]) == 0 else []
+                carry = lambda u: [(u[:at] + parts + u[at + 1 :], 1) for parts in split(u)]
+                self.form(part, moved(q, e.types, part.types, d, carry), t, r, d, now, path + (k,))
 
-    def call(self, e: Form, q: Annotation, t: Type, r: Annotation, d: int, present: bool, path: Path, index: int) -> None:
+    def call(self, e: Form, q: Annotation, t: Type, r: Annotation, d: int, now: bool, path: Place, index: int) -> None:
         f, args, left, order = e.number, {}, {}, [e.uses.index(x) for x in e.context]
-        usable = [k for k in self.free[f] if k < self.number and self.tasks[k].budget <= d]
-        taken = [(self.free[f][block], times) for block, times in self.hint(path, "call", usable)]
-        if present and (f in self.sigs or self.task.kind != "free"):
-            taken.append((self.sigs[f] if f in self.sigs else self.paid[self.task.kind, f], 1))
+        free, paid = self.found["free", f], {} if self.task.kind == "free" else self.found[self.task.kind, f]
+        usable = [k for k in free if k < self.number and self.tasks[k].budget <= d]
+        taken = [(free[block], times) for block, times in self.hint(path, "call", usable)]
+        taken += [(sig, 1) for sig in ([self.sigs[f]] if f in self.sigs else paid.values()) if now]
         for sig, times in taken:
             for out, numbers in zip((args, left), sig):
                 for k, number in numbers.items():
                     out[k] = out.get(k, 0) + times * number
         asked = moved(args, self.program.args[f], e.types, d, lambda u: [(tuple(u[k] for k in order), 1)])
-        if present and self.task.kind == "work":
+        if now and self.task.kind == "work":
             asked[0] = asked.get(0, 0) - self.scale
         self.cover(path, index, q, asked)
         self.cover(path, index + len(tuples(e.types, d)), moved(left, (t,), (t,), d, lambda u: [(u, 1)]), r)
 
-    def let(self, e: Form, q: Annotation, t: Type, r: Annotation, d: int, present: bool, path: Path) -> None:
+    def let(self, e: Form, q: Annotation, t: Type, r: Annotation, d: int, now: bool, path: Place) -> None:
         (bound, rest), joined = e.parts, {}
         others, bound_type = rest.types[:-1], rest.types[-1]
         places = [e.context.index(x) for x in rest.context[:-1]], [e.context.index(x) for x in bound.context]
@@ -917,28 +849,30 @@ class Check:
         for k, number in q.items():
             j, u = (tuple(tuples(e.types, d)[k][place] for place in some) for some in places)
             parts[positions(others, d)[j]][positions(bound.types, d)[u]] = number
-        budgets = [d - degrees(j) for j in tuples(others, d)]
+        budgets = [d - degree((1, *j)) for j in tuples(others, d)]
         results = self.hint(path, "let", [len(tuples((bound_type,), budget)) for budget in budgets])
         for j, u in enumerate(tuples(others, d)):
-            self.form(bound, parts[j], bound_type, results[j], budgets[j], present and j == 0, path + (j,))
+            self.form(bound, parts[j], bound_type, results[j], budgets[j], now and j == 0, path + (j,))
             for k, number in results[j].items():
                 joined[positions(rest.types, d)[u + tuples((bound_type,), d)[k]]] = number
-        self.form(rest, joined, t, r, d, present, path + (len(parts),))
+        self.form(rest, joined, t, r, d, now, path + (len(parts),))
 
     def line(self, f: int, meter: str) -> str:
         pairs = zip(self.tasks, self.blocks)
         block = next(b for task, b in pairs if task.kind == meter and f in self.program.groups[task.group])
-        if "sigs" in block:
-            text = polynomial_text(self.program.args[f], self.degree, self.paid[meter, f][0], self.scales[meter])
-            return f"{self.program.names[f]} {meter} <= {text}"
-        called = f": calls {self.program.names[block['calls']]}" if "calls" in block else ""
-        return f"{self.program.names[f]} {meter} no bound{called}"
+        if "sigs" not in block:
+            called = f": calls {self.program.names[block['calls']]}" if "calls" in block else ""
+            return f"{self.program.names[f]} {meter} no bound{called}"
+        terms, of_degree = [], tuples(self.program.args[f], self.degree)
+        for k, number in next(iter(self.found[meter, f].values()))[0].items():
+            base = f"*<{', '.join(map(index_text, of_degree[k]))}>" if k > 0 else ""
+            terms.append(f"{Fraction(number, self.scales[meter])}{base}")
+        return f"{self.program.names[f]} {meter} <= {' + '.join(terms) or '0'}"
 
 
 def read(name: str, what: str) -> bytes:
     try:
-        with open(name, "rb") as file:
-            data = file.read(MOST_BYTES[what] + 1)
+        data = Path(name).read_bytes()
     except (OSError, ValueError):
         raise Fault(2, f"cannot read {what}") from None
     if len(data) > MOST_BYTES[what]:
@@ -950,14 +884,12 @@ def main(words: list[str]) -> int:
     try:
         if len(words) != 2:
             raise Fault(1, "usage")
-        try:
-            program = Program(read(words[0], "program").decode("utf-8"))
-        except (NoProgram, UnicodeDecodeError, RecursionError) as reason:
-            raise Fault(4, f"source: {reason}") from None
+        program = Program(read(words[0], "program").decode("utf-8"))
         lines = Check(program, read_certificate(read(words[1], "certificate"))).run()
-    except Fault as fault:
-        print(f"raml: {fault.args[1]}", file=sys.stderr)
-        return fault.args[0]
+    except (Fault, UnicodeDecodeError, RecursionError) as error:
+        status, line = error.args if isinstance(error, Fault) else (4, "source: no text, or too deep")
+        print(f"raml: {line}", file=sys.stderr)
+        return status
     print("\n".join(lines))
     return 0
 
