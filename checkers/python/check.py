@@ -4,7 +4,7 @@
 Prints the lines of the certificate CERT of the program FILE and ends with 0, or prints the first fault on the error
 stream and ends with its status. It was written from docs/language.md, potential.md, analysis.md and certificate.md,
 whose words it uses. Numbers are whole numbers of any width: where `raml verify` ends with 9, since a number leaves its
-range, this checker tells whether the certificate holds. It needs Python 3.11 and nothing else.
+range, this checker tells whether the certificate holds. Why a source is refused is told in words of its own.
 """
 
 from __future__ import annotations
@@ -650,8 +650,8 @@ Sig = list[Annotation]  # that of the arguments and that of the result
 
 class Check:
     """The check of a certificate. A walk asks `sig` for the signature of the function at a place of the group, and
-    `hint` for a hint of a kind, by numbers of positions or by the blocks that a call may take. It tells `judge` the path,
-    the index and both sides of each condition."""
+    `hint` for a hint of a kind, by numbers of positions or by the blocks that a call may take. It tells `judge` the
+    path, the index and both sides of each condition."""
 
     def __init__(self, program: Program, certificate: dict) -> None:
         self.program, self.degree, self.scales = program, certificate["degree"], certificate["scale"]

@@ -157,7 +157,8 @@ class Comparison:
         kept.write_text(text)
         print(f"certificates: {name} differs; it is kept in {kept}")
         for who, (status, out, err) in (("verify", verify), ("check.py", check)):
-            print(f"  {who} ends with {status}: {(err or out)[-200:].decode(errors='replace').strip()}")
+            last = (err or out).decode(errors="replace").strip().splitlines()[-1:]
+            print(f"  {who} ends with {status}: {' '.join(last)}")
         return False
 
 
