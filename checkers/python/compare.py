@@ -129,15 +129,16 @@ ALTERATIONS = [
 
 
 def alter(draw: random.Random, kind: int, text: str) -> str:
-    """The text of an altered certificate, which is another one."""
+    """The text of an altered certificate. Where an alteration changes nothing, the next kind is tried."""
     while True:
         certificate = json.loads(text)
         try:
             ALTERATIONS[kind % len(ALTERATIONS)](draw, certificate)
-        except IndexError:  # there is nothing of the kind in this certificate
-            kind += 1
+        except IndexError:  # there is nothing to be drawn
+            pass
         if certificate != json.loads(text):
             return json.dumps(certificate, separators=(",", ":"), sort_keys=True)
+        kind += 1
 
 
 class Comparison:
