@@ -170,11 +170,11 @@ def main(raml: str, count: str, programs: list[str]) -> int:
         for program in programs:
             for degree in DEGREES:
                 status, out, err = ended(raml, "certify", program, "--degree", str(degree))
-                if status != 0:
+                if status == 0:
+                    made.append((program, out.decode(), f"{program} at degree {degree}"))
+                elif status not in (8, 9):  # a task is too large, or a number leaves its range
                     print(f"certificates: no certificate of {program} at degree {degree}: {err.decode().strip()}")
                     comparison.differ += 1
-                else:
-                    made.append((program, out.decode(), f"{program} at degree {degree}"))
         agree = sum([comparison.agree(*case) for case in made])
         altered = 0
         for k in range(int(count) if made else 0):
