@@ -2,8 +2,8 @@
 """Checks a certificate of `raml`, as the pages in docs/ tell it: `python3 check.py FILE CERT`.
 
 Prints the lines of the certificate CERT of the program FILE and ends with 0, or prints the first fault on the error
-stream and ends with its status. It was written from docs/language.md, potential.md, analysis.md and certificate.md,
-whose words it uses. Numbers are whole numbers of any width: where `raml verify` ends with 9, since a number leaves its
+stream and ends with its status. It follows docs/language.md, potential.md, analysis.md and certificate.md, whose words
+it uses. Numbers are whole numbers of any width: where `raml verify` ends with 9, since a number leaves its
 range, this checker tells whether the certificate holds. Why a source is refused is told in words of its own.
 """
 
