@@ -191,7 +191,7 @@ fn each_put_of_a_line_fails_in_turn(rt: HostRuntime) -> Result<(), Fail> {
     ];
     for (words, source, data, puts, front, line) in cases {
         let words: Vec<&str> = words.split(' ').collect(alloc)?;
-        for put in 0..=line.len() {
+        for put in 0..line.len().max(1) {
             let lines = [put as u64];
             let faults = Faults {
                 puts,
