@@ -1,0 +1,9 @@
+mod CostSame
+mod Kept
+mod Paid
+mod Cuts
+mod Entries
+mod Tables
+mod Computed
+mod Terms
+mod Answered
