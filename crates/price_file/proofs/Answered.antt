@@ -1,13 +1,13 @@
 -- What is answered is what the bytes are.
-use Rattle.std.proofs.Common.{◌≡◌, ◌<◌, true, false, [], ◌∷◌, ◌+◌, ℕ, suc, List, length, Result, Ok, Err, subst, sym, ap, ◌∙◌, arith}
+use Rattle.std.proofs.Common.{◌≡◌, ◌<◌, true, false, [], ◌∷◌, ◌+◌, ℕ, suc, length, Result, Ok, Err, subst, sym, ap, ◌∙◌, arith}
 use Rattle.std.specs.Prelude.{◌==◌, IfOk, IfErr}
 use Rattle.std.specs.Result.{IsErr, IsErrAnd}
 use Rattle.std.specs.Str.{IsUtf8}
 use Rattle.raml_syntax.specs.Tree.{Text}
-use Rattle.price_file.specs.Spelling.{lines_of, Table, Spells, FirstFault}
-use Rattle.price_file.specs.Listed.{Listed}
+use Rattle.price_file.specs.Spelling.{lines_of, Table, prices_in, Spells, FirstFault}
+use Rattle.price_file.specs.Listed.{Listed, or_free}
 use Rattle.price_file.specs.Reading.{cut_at, first_of, entry_of, with_entry, read_lines}
-use Rattle.price_file.specs.Read.{AreOf, Reads}
+use Rattle.price_file.specs.Read.{prices_of, Reads}
 use Rattle.price_file.specs.declared.prices.Prices as p
 use Rattle.price_file.specs.declared.fault.PriceFault.{PriceFault}
 use Rattle.price_file.proofs.Cuts.{line_and_more, lines_step}
@@ -17,10 +17,10 @@ use Rattle.price_file.proofs.Tables.{Told, told, whole, fault_stays}
 read_as : (text bytes : Text) (r : Result p.Prices PriceFault) → text ≡ bytes → Reads r (whole text) → Reads r (whole bytes)
 read_as text bytes r e h = subst (λ t. Reads r (whole t)) e h
 
-pub table_answered : (text bytes : Text) (r : Result p.Prices PriceFault) → (text ≡ bytes) × IsUtf8 bytes → Reads r (whole text) → IfOk r (λ prices. (table : Table) × Spells bytes table × AreOf table prices)
+pub table_answered : (text bytes : Text) (r : Result p.Prices PriceFault) → (text ≡ bytes) × IsUtf8 bytes → Reads r (whole text) → IfOk r (λ prices. (table : Table) × Spells bytes table × (prices_of prices ≡ prices_in table))
 table_answered text bytes (Ok prices) e h =
     let t = subst (Told bytes) (read_as text bytes (Ok prices) e.0 h) (told bytes e.1) in
-    (t.0, t.1, t.2.at)
+    (t.0, t.1, λ i construct. ap or_free (t.2.at construct) i)
 table_answered text bytes (Err fault) e h = tt
 
 pub fault_answered : (text bytes : Text) (r : Result p.Prices PriceFault) → (text ≡ bytes) × IsUtf8 bytes → Reads r (whole text) → IfErr r (FirstFault bytes)

@@ -7,7 +7,7 @@ use Rattle.std.specs.Str.{IsUtf8, IsAscii}
 use Rattle.raml_syntax.specs.Tree.{Text}
 use Rattle.price_file.specs.Construct as c
 use Rattle.price_file.specs.Construct.{Construct}
-use Rattle.price_file.specs.Spelling.{Table, SetsNothing}
+use Rattle.price_file.specs.Spelling.{SetsNothing}
 use Rattle.price_file.specs.Reading.{entry_of}
 use Rattle.price_file.specs.Example.{Examples}
 use Rattle.price_file.proofs.Entries.{is_set, is_read}

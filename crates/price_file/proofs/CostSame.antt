@@ -1,5 +1,5 @@
 -- A program in which prices are written out costs what the program costs under the prices.
-use Rattle.std.proofs.Common.{◌≡◌, ◌+◌, ℕ, zero, suc, List, [], ◌∷◌, Bool, true, false, cond, Option, Some, None, refl, sym, ap, subst, ◌∙◌, arith, eqb-true}
+use Rattle.std.proofs.Common.{◌≡◌, ◌+◌, ℕ, zero, suc, List, [], ◌∷◌, Bool, true, false, cond, Option, Some, None, refl, sym, ap, subst, arith, eqb-true}
 use Rattle.std.specs.Prelude.{nat_eq}
 use Rattle.std.specs.Option.{option_map}
 use Rattle.std.specs.Str.{bytes_eq}
@@ -11,7 +11,7 @@ use Rattle.price_file.specs.Construct as c
 use Rattle.price_file.specs.Construct.{Prices}
 use Rattle.price_file.specs.Priced as priced
 use Rattle.price_file.specs.Applied.{behind_ticks, applied, applied_all, applied_function, applied_program}
-use Rattle.price_file.specs.Laws.{CostSame, CostsPrices, AppliedCostsPrices}
+use Rattle.price_file.specs.Laws.{CostSame, AppliedCostsPrices}
 
 same_run : {A : Type 0} (r : Run A) → CostSame r r
 same_run r = record { out = refl; ticks = refl; cells = refl }

@@ -1,19 +1,19 @@
 -- What a program in which prices are written out keeps of the program.
-use Rattle.std.proofs.Common.{◌≡◌, ◌≤◌, ◌+◌, ◌*◌, ℕ, suc, List, [], ◌∷◌, map, length, Bool, true, false, cond, Option, Some, None, refl, sym, ap, subst, ◌∙◌, arith}
-use Rattle.std.specs.Prelude.{nat_eq, FitsSigned}
+use Rattle.std.proofs.Common.{◌≡◌, ◌≤◌, ◌+◌, ◌*◌, ℕ, suc, List, [], ◌∷◌, map, length, Bool, true, false, cond, refl, sym, ap, subst, ◌∙◌, arith}
+use Rattle.std.specs.Prelude.{nat_eq}
 use Rattle.std.specs.Option.{option_map}
 use Rattle.std.specs.List.{All}
-use Rattle.std.proofs.lemmas.List.Elements.{All-map, All-nil, All-cons, All-head, All-tail}
+use Rattle.std.proofs.lemmas.List.Elements.{All-nil, All-cons, All-head, All-tail}
 use Rattle.raml_syntax.specs.Tree as t
 use Rattle.raml_syntax.specs.Tree.{Text, Type', Integer, Boolean, PairOf, ListOf, TreeOf, OptionOf, Bound, Parameter, Function, Prog}
-use Rattle.raml_syntax.specs.Eval.{find, names_of}
+use Rattle.raml_syntax.specs.Eval.{names_of}
 use Rattle.raml_syntax.specs.Types.{Context, bind_types, types_of, Differ, Way, Finding, Checking, HasType, CheckEach, Checks, Typed}
 use Rattle.raml_syntax.specs.Node.{nodes, nodes_of_all, program_nodes, AllNodes, AllOf, NumberFits, TickFits, FewArguments, count, WithinLimits}
 use Rattle.price_file.specs.Construct as c
 use Rattle.price_file.specs.Construct.{Construct, Prices}
 use Rattle.price_file.specs.Listed.{AreSmall}
 use Rattle.price_file.specs.Applied.{behind_ticks, applied, applied_all, applied_function, applied_program}
-use Rattle.price_file.specs.Laws.{KeepsProgram, AppliedKeepsPrograms}
+use Rattle.price_file.specs.Laws.{AppliedKeepsPrograms}
 use Rattle.price_file.proofs.CostSame.{find_applied}
 
 -- a tick has the type of what it stands before

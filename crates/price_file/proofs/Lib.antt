@@ -7,3 +7,4 @@ mod Tables
 mod Computed
 mod Terms
 mod Answered
+mod Checked

@@ -1,9 +1,7 @@
 -- A node costs its price at the least.
-use Rattle.std.proofs.Common.{◌≡◌, ◌≤◌, ◌+◌, ℕ, Some, None, Option, refl, subst, arith}
+use Rattle.std.proofs.Common.{◌≡◌, ◌≤◌, ◌+◌, ℕ, Some, subst, arith}
 use Rattle.raml_syntax.specs.Tree as t
-use Rattle.raml_syntax.specs.Eval.{Env, Calls}
-use Rattle.price_file.specs.Construct.{Construct, Prices, construct_of}
-use Rattle.price_file.specs.Priced as priced
+use Rattle.price_file.specs.Construct.{Construct, Prices}
 use Rattle.price_file.specs.Laws.{NodesArePaid}
 
 at_least : (prices : Prices) (c d : Construct) (n : ℕ) → Some c ≡ Some d → prices d ≤ prices c + n

@@ -2,14 +2,12 @@
 use Rattle.std.proofs.Common.{◌≡◌, ◌≢◌, ◌≤◌, ◌<◌, ◌+◌, ℕ, zero, suc, Bool, true, false, cond, List, [], ◌∷◌, ◌++◌, length, get_or, Result, Ok, Err, Option, Some, None, refl, sym, ap, subst, ◌∙◌, arith, append_assoc, append-nil, length-append, length-set, get_or-set_same, get_or-set_other}
 use Rattle.std.specs.Prelude.{nat_eq, is_some, slice_set}
 use Rattle.std.specs.Str.{IsUtf8, IsValidUpTo}
-use Rattle.std.specs.Str.Lossy.{utf8_valid_len}
 use Rattle.std.proofs.lemmas.Str.{utf8_valid_len-IsUtf8, utf8_valid_len-IsValidUpTo}
 use Rattle.raml_syntax.specs.Tree.{Text}
-use Rattle.raml_syntax.specs.declared.tree.Pos.{Pos}
 use Rattle.price_file.specs.Construct.{Construct, place, Number, Truth, Var, Nil, Leaf, Nothing, Arith, Compare, Not, Pair, Cons, Node, Just, Call, Let, If, Match, Tick}
 use Rattle.price_file.specs.Listed.{Listed, nothing_listed, listed_at, listing, or_free}
-use Rattle.price_file.specs.Spelling.{lines_of, Sets, Table, listed, SetEach, EachOnce, AreTable, Spells, Reaches, SetsNothing, SetsAgain, FirstFault, Answers, HasOneAnswer}
-use Rattle.price_file.specs.Reading.{entry_of, with_entry, and_then, read_lines}
+use Rattle.price_file.specs.Spelling.{lines_of, Sets, Table, listed, SetEach, EachOnce, AreTable, Spells, Reaches, SetsNothing, SetsAgain, FirstFault, HasOneAnswer}
+use Rattle.price_file.specs.Reading.{entry_of, with_entry, read_lines}
 use Rattle.price_file.specs.declared.fault.PriceFault.{PriceFault}
 use Rattle.price_file.specs.declared.fault.PriceFault.TheVariants.{NotUtf8, Shape, Twice}
 use Rattle.price_file.proofs.Cuts.{nat_same}

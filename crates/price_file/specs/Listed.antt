@@ -1,6 +1,5 @@
 -- What is listed for each construct.
-use Rattle.std.specs.Prelude.{◌≡◌, ◌≤◌, ℕ, List, [], ◌∷◌, Option, Some, None, get_or, slice_set, length}
-use Rattle.std.specs.Option.{IfSome}
+use Rattle.std.specs.Prelude.{◌≤◌, ℕ, List, [], ◌∷◌, Option, Some, None, get_or, slice_set}
 use Rattle.price_file.specs.Construct.{Construct, Prices, place}
 
 -- what is listed, by the places of constructs

@@ -1,12 +1,11 @@
 -- What the code's prices and its answers are as plain data.
 use Rattle.std.specs.Prelude.{◌≡◌, ℕ, Option, Result, Ok, Err}
-use Rattle.std.specs.Global.{Global, Box}
+use Rattle.std.specs.Global.{Box}
 use Rattle.raml_syntax.specs.Tree.{Term, Terms, Function}
 use Rattle.raml_syntax.specs.Read.{term_of}
 use Rattle.raml_syntax.specs.declared.tree.Expr.{Expr}
 use Rattle.price_file.specs.Construct.{Construct, Prices}
 use Rattle.price_file.specs.Listed.{Listed, listed_at, or_free}
-use Rattle.price_file.specs.Spelling.{Table, listed}
 use Rattle.price_file.specs.Applied.{behind_ticks, applied, applied_all, applied_function}
 use Rattle.price_file.specs.declared.prices.Prices as p
 use Rattle.price_file.specs.declared.node.Maker.{Maker}
@@ -18,10 +17,6 @@ listed_in prices construct = listed_at prices.listed construct
 -- the price of each construct
 abbrev pub prices_of : p.Prices → Prices
 prices_of prices construct = or_free (listed_in prices construct)
-
--- the prices are what the table lists
-abbrev pub AreOf : Table → p.Prices → Type 0
-AreOf table prices = (construct : Construct) → listed_in prices construct ≡ listed table construct
 
 -- these prices are what was read, or this fault is
 abbrev pub Reads : Result p.Prices PriceFault → Result Listed PriceFault → Type 0

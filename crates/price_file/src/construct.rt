@@ -34,9 +34,6 @@ pub enum Construct {
 }
 
 impl Construct {
-    /// How many constructs there are.
-    pub const COUNT: usize = 18;
-
     /// All constructs.
     pub const ALL: [Construct; 18] = [
         Construct::Number,

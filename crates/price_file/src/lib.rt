@@ -9,9 +9,11 @@ mod line;
 mod node;
 mod nodes;
 mod prices;
+mod program;
 mod table;
 
 pub use construct::Construct;
 pub use fault::{PriceFault, fault_line};
 pub use prices::Prices;
+pub use program::apply;
 pub use table::read;

@@ -1,9 +1,9 @@
 // Tables of prices from bytes.
 ghost use Rattle.std.specs.Prelude.{◌≡◌, ◌<◌, ◌^◌, [], Ok, length, IfOk, IfErr};
 ghost use Rattle.price_file.specs.Listed.{nothing_listed};
-ghost use Rattle.price_file.specs.Read.{AreOf, Reads, Leaves};
+ghost use Rattle.price_file.specs.Read.{prices_of, Reads, Leaves};
 ghost use Rattle.price_file.specs.Reading.{cut_at, first_of, entry_of, with_entry, read_lines};
-ghost use Rattle.price_file.specs.Spelling.{Table, lines_of, Spells, FirstFault, HasOneAnswer};
+ghost use Rattle.price_file.specs.Spelling.{Table, lines_of, prices_in, Spells, FirstFault, HasOneAnswer};
 
 use crate::fault::PriceFault;
 use crate::line::{cut_line, entry};
@@ -58,7 +58,7 @@ fn read_text(text: &str) -> Result<Prices, PriceFault>
 /// The first fault of the bytes.
 pub fn read(bytes: &[u8]) -> Result<Prices, PriceFault>
     requires { length bytes.now < 2 ^ 31 }
-    ensures table { IfOk result (λ prices. (table : Table) × Spells bytes.now table × AreOf table prices) }
+    ensures table { IfOk result (λ prices. (table : Table) × Spells bytes.now table × (prices_of prices ≡ prices_in table)) }
     ensures fault { IfErr result (FirstFault bytes.now) }
     // so each comes exactly where the bytes have that answer
     ensures one_answer { HasOneAnswer bytes.now }
