@@ -15,7 +15,7 @@ impl Prices {
     ghost use Rattle.price_file.specs.Read.{listed_in, prices_of};
 
     /// Nothing is listed.
-    pub fn none_listed() -> Prices
+    pub(crate) fn none_listed() -> Prices
         ensures { result.listed ≡ nothing_listed }
     {
         Prices { listed: [None; 18] }
@@ -37,7 +37,7 @@ impl Prices {
     }
 
     /// Lists the price of a construct.
-    pub fn list(&mut self, construct: Construct, price: u32)
+    pub(crate) fn list(&mut self, construct: Construct, price: u32)
         requires { price ≤ 1000000 }
         ensures { self.new.listed ≡ listing self.old.listed construct price }
     {
