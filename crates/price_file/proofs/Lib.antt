@@ -1,0 +1,10 @@
+mod CostSame
+mod Kept
+mod Paid
+mod Cuts
+mod Entries
+mod Tables
+mod Computed
+mod Terms
+mod Answered
+mod Checked

@@ -1,0 +1,6 @@
+use Rattle.std.proofs.Common.{arith}
+use Rattle.price_file.proofs.Cuts.{cut_from}
+use Rattle.price_file.proofs.line.cut_line.Goals as goal
+
+pub returns : goal.returns
+returns c = cut_from 10 (omega arith) c.args.text.now c.split_once.result c.split_once.ensures.cases

@@ -1,0 +1,10 @@
+pub mod Construct
+pub mod Listed
+pub mod Priced
+pub mod Applied
+pub mod Spelling
+pub mod Reading
+pub mod Read
+pub mod Text
+pub mod Laws
+pub mod Example
