@@ -1,0 +1,4 @@
+pub mod Compare
+pub mod Laws
+pub mod Tests
+pub mod Worth

@@ -1,0 +1,12 @@
+// Laws: each is the contract of a function that does nothing.
+ghost use Rattle.bound_compare.specs.Laws.{RelationsAreOne, RelationsPromise};
+
+/// Two polynomials stand in one relation.
+pub fn relations_are_one()
+    ensures { RelationsAreOne }
+{}
+
+/// Where a polynomial is equal to another one or below it, it is worth no more at any arguments.
+pub fn relations_promise()
+    ensures { RelationsPromise }
+{}
