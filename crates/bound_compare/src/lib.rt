@@ -2,8 +2,13 @@
 #![tactic(auto)]
 
 mod coefficients;
+mod exponents;
+mod fault;
 pub mod laws;
+mod parts;
 mod relation;
 
 pub use coefficients::compare;
+pub use exponents::Exponents;
+pub use fault::PowerFault;
 pub use relation::Relation;
