@@ -1,5 +1,5 @@
 -- What the private steps of `powers` make.
-use Rattle.std.specs.Prelude.{ℕ, zero, suc, ◌+◌, ◌-◌, ◌<◌, ◌≤◌, ◌*◌, ◌/◌, ◌^◌, ◌==◌, min, ℤ, pos, negsuc, ◌-ℤ◌, ◌*ℤ◌, Bool, false, cond, List, [], ◌∷◌, map, flat_map, unsigned_abs}
+use Rattle.std.specs.Prelude.{ℕ, zero, suc, ◌+◌, ◌-◌, ◌<◌, ◌≤◌, ◌*◌, ◌/◌, ◌^◌, ◌==◌, min, ℤ, pos, negsuc, ◌-ℤ◌, ◌*ℤ◌, Bool, false, cond, ◌⊎◌, List, [], ◌∷◌, map, flat_map, unsigned_abs}
 use Rattle.std.specs.Str.{bytes_eq}
 use Rattle.base_poly.specs.Poly.{Term}
 use Rattle.bound_compare.specs.Powers.{Powers, counts, factorials, above, below}
@@ -55,10 +55,16 @@ abbrev pub numbers : List Part → Powers
 numbers [] = []
 numbers (g ∷ gs) = cond (g.1.0 == g.1.1) (numbers gs) ((g.0, pos g.1.0 -ℤ pos g.1.1) ∷ numbers gs)
 
--- both totals fit a signed number of 128 bits
-abbrev pub IsSmall : Part → Type 0
-IsSmall g = (g.1.0 < 2 ^ 127) × (g.1.1 ≤ 2 ^ 127)
+-- each of both totals fits a signed number of 128 bits
+abbrev pub AreSmall : List Part → Type 0
+AreSmall [] = Unit {0}
+AreSmall (g ∷ gs) = (g.1.0 < 2 ^ 127) × (g.1.1 ≤ 2 ^ 127) × AreSmall gs
 
 -- no factor is above 24 or below -24
 abbrev pub IsFew : List ℕ × ℤ → Type 0
 IsFew p = unsigned_abs p.1 ≤ 24
+
+-- one of them does not
+abbrev pub HasLarge : List Part → Type 0
+HasLarge [] = ⊥
+HasLarge (g ∷ gs) = (2 ^ 127 ≤ g.1.0) ⊎ (2 ^ 127 < g.1.1) ⊎ HasLarge gs

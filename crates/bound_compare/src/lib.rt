@@ -4,6 +4,7 @@
 mod coefficients;
 mod exponents;
 mod fault;
+mod form;
 pub mod laws;
 mod parts;
 mod relation;
@@ -11,4 +12,5 @@ mod relation;
 pub use coefficients::compare;
 pub use exponents::Exponents;
 pub use fault::PowerFault;
+pub use form::{PowerForm, is_flat, powers};
 pub use relation::Relation;
