@@ -1,5 +1,5 @@
 -- The tests of a comparison decide what it defines.
-use Rattle.std.proofs.Common.{◌≡◌, ◌≤◌, ◌*◌, ℕ, Bool, true, false, ◌&&◌, cond, Option, None, Some, List, [], ◌∷◌, refl, sym, ap, ◌∙◌, subst, arith, unwrap_or}
+use Rattle.std.proofs.Common.{◌≡◌, ◌≤◌, ◌*◌, ℕ, Bool, true, false, ◌&&◌, cond, Some, List, [], ◌∷◌, refl, sym, subst, arith, unwrap_or}
 use Rattle.std.specs.Prelude.{nat_le}
 use Rattle.std.specs.Bool.{Decides}
 use Rattle.std.specs.List.{IsDistinct}
@@ -9,10 +9,9 @@ use Rattle.std.proofs.lemmas.Bool.Decides.{nat_tests}
 use Rattle.base_poly.specs.Plain.{Plain, alike}
 use Rattle.base_poly.specs.Poly.{Term}
 use Rattle.base_poly.specs.Total.{alike_is}
-use Rattle.bound_compare.specs.Compare.{Sum, term_at, number_at, AtMost, AllEqual, IsBelow, Stands}
+use Rattle.bound_compare.specs.Compare.{Sum, term_at, number_at, AtMost, AllEqual, Stands}
 use Rattle.bound_compare.specs.Tests.{relation_of, all_at_most}
 use Rattle.bound_compare.specs.Laws.{RelationsAreOne}
-use Rattle.bound_compare.specs.declared.relation.Relation.{Relation}
 use Rattle.bound_compare.specs.declared.relation.Relation.TheVariants.{Equal, Below, Above, Mixed}
 use Rattle.bound_compare.proofs.Numbers.{term_at_head, others_at_most}
 

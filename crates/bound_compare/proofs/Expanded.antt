@@ -1,13 +1,12 @@
 -- An expansion has at each exponents the product of the falling products' coefficients.
-use Rattle.std.proofs.Common.{◌≡◌, ◌≤◌, ◌+◌, ◌*◌, ◌/◌, ◌==◌, ◌&&◌, ℕ, zero, suc, ℤ, pos, negsuc, ◌*ℤ◌, Bool, true, false, cond, List, [], ◌∷◌, map, flat_map, refl, sym, ap, ◌∙◌, subst, arith}
+use Rattle.std.proofs.Common.{◌≡◌, ◌≤◌, ◌+◌, ◌*◌, ◌==◌, ◌&&◌, ℕ, zero, suc, ℤ, pos, negsuc, ◌*ℤ◌, Bool, true, false, cond, List, [], ◌∷◌, refl, sym, ap, ◌∙◌, arith}
 use Rattle.std.specs.Str.{bytes_eq}
 use Rattle.std.proofs.Math.IntN.{neg_ℤ}
 use Rattle.std.proofs.lemmas.Bool.{ne_eqb}
 use Rattle.std.proofs.lemmas.Int.{ints}
 use Rattle.base_poly.specs.Base.{total}
-use Rattle.base_poly.specs.Poly.{Term}
 use Rattle.base_poly.proofs.Sums.{total_map, total_parts, total_none}
-use Rattle.bound_compare.specs.Powers.{Powers, falling, fallings, factorials, counts, brings, above, below}
+use Rattle.bound_compare.specs.Powers.{Powers, falling, fallings, above, below}
 use Rattle.bound_compare.specs.Steps.{factors, led, expansion}
 
 -- the sum of what a function makes of the numbers at the exponents

@@ -1,5 +1,5 @@
 -- Parts in order, added up where they have the same exponents.
-use Rattle.std.proofs.Common.{◌≡◌, ◌≢◌, ◌≤◌, ◌<◌, ◌+◌, ◌*◌, ◌^◌, ◌==◌, min, ℕ, zero, suc, ℤ, pos, ◌-ℤ◌, Bool, true, false, cond, List, [], ◌∷◌, map, All, refl, sym, ap, ◌∙◌, subst, arith}
+use Rattle.std.proofs.Common.{◌≡◌, ◌≢◌, ◌≤◌, ◌+◌, ◌==◌, ℕ, ℤ, pos, ◌-ℤ◌, Bool, true, false, cond, List, [], ◌∷◌, map, All, refl, sym, ap, ◌∙◌, subst, arith}
 use Rattle.std.specs.declared.cmp.Ordering.{Ordering}
 use Rattle.std.specs.declared.cmp.Ordering.TheVariants.{Less, Equal, Greater}
 use Rattle.std.specs.Ordering.{is_eq, is_gt}
@@ -11,7 +11,7 @@ use Rattle.std.proofs.lemmas.Slice.Eq.{bytes_eq-Decides}
 use Rattle.base_poly.specs.Indices.{IsBefore, Ascends}
 use Rattle.base_poly.specs.Base.{total}
 use Rattle.bound_compare.specs.Order.{exponents_total, tied_exponents}
-use Rattle.bound_compare.specs.Powers.{Powers, exponent_order, listed_at}
+use Rattle.bound_compare.specs.Powers.{exponent_order, listed_at}
 use Rattle.bound_compare.specs.Steps.{Part, capped, both, leads, joined, numbers}
 
 -- one side of totals at the exponents

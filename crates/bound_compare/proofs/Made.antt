@@ -1,10 +1,8 @@
 -- From the terms of a polynomial to its powers.
-use Rattle.std.proofs.Common.{◌≡◌, ◌≢◌, ◌≤◌, ◌<◌, ◌+◌, ◌*◌, ◌/◌, ◌^◌, ◌==◌, min, ℕ, zero, suc, ℤ, pos, negsuc, ◌+ℤ◌, ◌-ℤ◌, ◌*ℤ◌, Bool, true, false, cond, List, [], ◌∷◌, map, flat_map, All, ◌⊎◌, ⊎_elim, inl, inr, ◌-◌, refl, sym, ap, ◌∙◌, subst, arith, slice_index_or, Result, Ok, Err, IsErrAnd, IfOk, OnOk}
-use Rattle.std.specs.Prelude.{length}
+use Rattle.std.proofs.Common.{◌≡◌, ◌≤◌, ◌<◌, ◌+◌, ◌*◌, ◌/◌, ◌^◌, ℕ, suc, ℤ, pos, negsuc, ◌-ℤ◌, ◌*ℤ◌, false, cond, List, [], ◌∷◌, flat_map, All, ◌⊎◌, ⊎_elim, inl, inr, ◌-◌, refl, sym, ap, ◌∙◌, arith, slice_index_or, Result, Ok, Err, IsErrAnd, IfOk, OnOk}
 use Rattle.std.specs.declared.cmp.Ordering.{Ordering}
 use Rattle.std.specs.declared.cmp.Ordering.TheVariants.{Less, Equal, Greater}
 use Rattle.std.specs.Ordering.{ordering_then, ordering_reverse, is_lt, is_gt, nat_cmp}
-use Rattle.std.specs.List.{sum_by}
 use Rattle.std.specs.List.Sorted.{IsPermutation, IsSorted}
 use Rattle.std.specs.Str.{bytes_eq}
 use Rattle.std.proofs.lemmas.Int.{ints}
@@ -19,11 +17,11 @@ use Rattle.base_poly.specs.Poly.{Term}
 use Rattle.base_poly.proofs.Among.{Among, among_contains}
 use Rattle.base_poly.proofs.Sums.{total_map, total_parts, total_same}
 use Rattle.bound_compare.specs.Order.{exponents_total}
-use Rattle.bound_compare.specs.Powers.{Powers, counts, factorials, fallings, brings, power_at, above, below, positive, negative, exponent_order, listed_at, ArePowers, Fits, Leaves, by_positive, by_negative}
+use Rattle.bound_compare.specs.Powers.{counts, factorials, fallings, brings, power_at, above, below, positive, negative, exponent_order, ArePowers, Fits, Leaves, by_positive, by_negative}
 use Rattle.bound_compare.specs.Steps.{Part, capped, parts_of, expansion, joined, numbers, AreSmall, HasLarge}
 use Rattle.bound_compare.proofs.Counts.{counts_low}
-use Rattle.bound_compare.proofs.Expanded.{at_sum, expanded, above_scaled, below_scaled}
-use Rattle.bound_compare.proofs.Grouped.{at, up, down, IsSide, up_is, down_is, UpTo, Rises, Climbs, joined_sums, joined_climb, numbers_ascend, numbers_nonzero, numbers_at, at_most_one}
+use Rattle.bound_compare.proofs.Expanded.{expanded, above_scaled, below_scaled}
+use Rattle.bound_compare.proofs.Grouped.{at, up, down, up_is, down_is, UpTo, Rises, Climbs, joined_sums, joined_climb, numbers_ascend, numbers_nonzero, numbers_at, at_most_one}
 
 -- What the parts of the terms add up to
 

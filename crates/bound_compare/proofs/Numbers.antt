@@ -1,5 +1,5 @@
 -- Terms by their tuples.
-use Rattle.std.proofs.Common.{◌≡◌, ◌≤◌, ◌*◌, ℕ, ℤ, Bool, true, false, cond, Option, None, Some, List, [], ◌∷◌, ◌++◌, map, take, drop, length, ◌-◌, length-drop, refl, sym, ap, ◌∙◌, subst, arith, unwrap_or}
+use Rattle.std.proofs.Common.{◌≡◌, ◌≤◌, ◌*◌, ℕ, ℤ, Bool, true, false, cond, None, Some, List, [], ◌∷◌, ◌++◌, map, take, drop, length, ◌-◌, length-drop, refl, sym, ap, ◌∙◌, subst, arith, unwrap_or}
 use Rattle.std.specs.Prelude.{unsigned_abs}
 use Rattle.std.specs.List.{IsDistinct, AllByRecursion}
 use Rattle.std.specs.Map.{keys_of}

@@ -1,12 +1,11 @@
 -- An expansion is worth the product of binomials.
 use Rattle.std.proofs.Common.{◌≡◌, ◌≤◌, ◌+◌, ◌*◌, ◌^◌, ℕ, zero, suc, ℤ, pos, negsuc, ◌*ℤ◌, List, [], ◌∷◌, length, refl, sym, ap, ◌∙◌, arith}
-use Rattle.std.proofs.Math.Nat.{mul_assoc}
 use native.Mathlib.Numerals.{unary_clauses}
 use Rattle.std.proofs.lemmas.Grind.{pow_more}
 use Rattle.base_poly.specs.Base.{total}
 use Rattle.base_poly.specs.Laws.{choose}
-use Rattle.base_poly.proofs.Sums.{total_map, total_parts}
-use Rattle.bound_compare.specs.Powers.{Powers, factorial, factorials, above, below, monomial}
+use Rattle.base_poly.proofs.Sums.{total_parts}
+use Rattle.bound_compare.specs.Powers.{Powers, factorial, above, below, monomial}
 use Rattle.bound_compare.specs.Steps.{factors, led, expansion}
 use Rattle.bound_compare.proofs.Expanded.{IsLow, negated}
 

@@ -1,9 +1,9 @@
 -- The order of exponents is total, and exponents that it does not tell apart are equal.
-use Rattle.std.specs.Prelude.{◌≡◌, ℕ, Bool, true, false, List, refl, sum}
+use Rattle.std.specs.Prelude.{◌≡◌, ℕ, Bool, List, refl, sum}
 use Rattle.std.proofs.Common.{sym, ◌∙◌, ap}
 use Rattle.std.specs.declared.cmp.Ordering.{Ordering}
 use Rattle.std.specs.declared.cmp.Ordering.TheVariants.{Less, Equal, Greater}
-use Rattle.std.specs.Ordering.{ordering_then, ordering_reverse, is_eq, eq_by_cmp, nat_cmp}
+use Rattle.std.specs.Ordering.{ordering_then, is_eq, eq_by_cmp, nat_cmp}
 use Rattle.std.specs.Cmp.{IsTotalOrder}
 use Rattle.std.specs.Cmp.Lexicographic.{slice_cmp}
 use Rattle.std.specs.Str.{bytes_eq}

@@ -32,7 +32,11 @@ fn relation_of(at_most: bool, at_least: bool) -> Relation
     ensures { result ≡ relation_of at_most at_least }
 {
     if at_most {
-        if at_least { Relation::Equal } else { Relation::Below }
+        if at_least {
+            Relation::Equal
+        } else {
+            Relation::Below
+        }
     } else if at_least {
         Relation::Above
     } else {

@@ -122,10 +122,7 @@ fn joined(alloc: Global, parts: &[Part]) -> Result<Vec<Part>, AllocError>
 fn both(one: (u128, u128), other: (u128, u128)) -> (u128, u128)
     ensures { result ≡ both one other }
 {
-    (
-        one.0.saturating_add(other.0),
-        one.1.saturating_add(other.1),
-    )
+    (one.0.saturating_add(other.0), one.1.saturating_add(other.1))
 }
 
 // Whether the first of the parts has these exponents.

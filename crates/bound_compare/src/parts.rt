@@ -121,10 +121,7 @@ fn expansion(alloc: Global, indices: &[Index]) -> Result<Vec<(Exponents, i128)>,
     ensures few { IfOk result (λ powers. All IsFew powers.items) }
 {
     match indices {
-        [] => Ok(Vec::from_array(
-            alloc,
-            [(Exponents::new(Vec::new(alloc)), 1)],
-        )?),
+        [] => Ok(Vec::from_array(alloc, [(Exponents::new(Vec::new(alloc)), 1)])?),
         [index, rest @ ..] => {
             let powers = expansion(alloc, rest)?;
             led_by_each(alloc, factors(entry_count(index)), &powers)
@@ -162,7 +159,10 @@ fn append_led(
     ensures { OnOk result (found.new.items ≡ found.old.items ++ led powers.now (exponent, factor)) }
 {
     for (exponents, number) in powers {
-        found.push((exponents.with_first(alloc, exponent)?, product(factor, *number)))?;
+        found.push((
+            exponents.with_first(alloc, exponent)?,
+            product(factor, *number),
+        ))?;
     }
     Ok(())
 }

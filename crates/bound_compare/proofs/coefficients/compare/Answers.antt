@@ -1,4 +1,4 @@
-use Rattle.std.proofs.Common.{◌≡◌, subst, sym}
+use Rattle.std.proofs.Common.{subst, sym}
 use Rattle.bound_compare.specs.Compare.{sum_of, Stands}
 use Rattle.bound_compare.proofs.Decided.{stands}
 use Rattle.bound_compare.proofs.coefficients.compare.Goals as goal

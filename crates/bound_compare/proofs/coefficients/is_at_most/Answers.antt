@@ -1,4 +1,4 @@
-use Rattle.std.proofs.Common.{◌≡◌, SFits, rules, sym, ap, ◌∙◌, subst}
+use Rattle.std.proofs.Common.{SFits, rules, ap, ◌∙◌, subst}
 use Rattle.std.specs.Prelude.{unsigned_abs}
 use Rattle.std.specs.Int.{w128}
 use Rattle.std.specs.List.{IsDistinct}

@@ -1,12 +1,12 @@
-use Rattle.std.proofs.Common.{◌≡◌, ◌<◌, ◌≤◌, ◌*◌, ◌^◌, ℕ, All, flat_map, sym, ap, ◌∙◌, subst}
+use Rattle.std.proofs.Common.{◌≡◌, ◌≤◌, sym, ap, ◌∙◌, subst}
 use Rattle.std.specs.Prelude.{unsigned_abs}
 use Rattle.std.specs.List.Sorted.{IsPermutation}
 use Rattle.std.proofs.lemmas.List.Elements.{All-map}
 use Rattle.std.proofs.lemmas.Result.{on_ok_weaker}
 use Rattle.base_poly.specs.Plain.{degrees}
 use Rattle.base_poly.specs.Poly.{magnitudes}
-use Rattle.bound_compare.specs.Powers.{ArePowers, Fits}
-use Rattle.bound_compare.specs.Steps.{parts_of, joined, numbers, AreSmall, HasLarge}
+use Rattle.bound_compare.specs.Powers.{ArePowers}
+use Rattle.bound_compare.specs.Steps.{joined, numbers, AreSmall, HasLarge}
 use Rattle.bound_compare.proofs.Made.{sorted_rises, made, fits, leaves, twice_ok}
 use Rattle.bound_compare.proofs.form.sums.Goals as goal
 

@@ -1,4 +1,4 @@
-use Rattle.std.proofs.Common.{◌≡◌, ◌++◌, drop}
+use Rattle.std.proofs.Common.{◌≡◌, ◌++◌}
 use Rattle.bound_compare.specs.Steps.{scaled}
 use Rattle.bound_compare.proofs.parts.append_scaled.Given as goal
 
