@@ -1,0 +1,28 @@
+-- Laws of comparisons and of powers.
+use Rattle.std.specs.Prelude.{◌≡◌, ◌≤◌, ◌*◌, ◌/◌, List}
+use Rattle.raml_syntax.specs.Value.{Value}
+use Rattle.base_poly.specs.Plain.{Plain, degrees}
+use Rattle.base_poly.specs.Poly.{den_of, terms_of, IsPoly}
+use Rattle.base_poly.specs.declared.tuple.Poly.{Poly}
+use Rattle.bound_compare.specs.Powers.{counts, factorials}
+use Rattle.bound_compare.specs.Worth.{worth}
+use Rattle.bound_compare.specs.Compare.{Sum, sum_of, Stands}
+use Rattle.bound_compare.specs.declared.relation.Relation.{Relation}
+use Rattle.bound_compare.specs.declared.relation.Relation.TheVariants.{Equal, Below}
+
+-- Two polynomials stand in one relation.
+abbrev pub RelationsAreOne : Type 0
+RelationsAreOne = (p q : Sum) (r s : Relation) → Stands r p q → Stands s p q → r ≡ s
+
+-- the first is worth no more than the second at these arguments
+abbrev pub WorthAtMost : Poly → Poly → List Value → Type 0
+WorthAtMost p q values = worth (terms_of p) values * den_of q ≤ worth (terms_of q) values * den_of p
+
+-- What relations promise of the values at all arguments.
+pub record RelationsPromise : Type 0 where
+  pub equal : (p q : Poly) → IsPoly p → IsPoly q → Stands Equal (sum_of p) (sum_of q) → (values : List Value) → WorthAtMost p q values × WorthAtMost q p values
+  pub below : (p q : Poly) → IsPoly p → IsPoly q → Stands Below (sum_of p) (sum_of q) → (values : List Value) → WorthAtMost p q values
+
+-- 24 is divided without a rest by the factorials of a tuple's numbers of entries.
+abbrev pub DivisionIsExact : Type 0
+DivisionIsExact = (t : List Plain) → degrees t ≤ 4 → factorials (counts t) * (24 / factorials (counts t)) ≡ 24

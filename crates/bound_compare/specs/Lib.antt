@@ -1,0 +1,7 @@
+pub mod Compare
+pub mod Laws
+pub mod Order
+pub mod Powers
+pub mod Steps
+pub mod Tests
+pub mod Worth

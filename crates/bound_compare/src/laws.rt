@@ -1,0 +1,17 @@
+// Laws: each is the contract of a function that does nothing.
+ghost use Rattle.bound_compare.specs.Laws.{RelationsAreOne, RelationsPromise, DivisionIsExact};
+
+/// Two polynomials stand in one relation.
+pub fn relations_are_one()
+    ensures { RelationsAreOne }
+{}
+
+/// Where a polynomial is equal to another one or below it, it is worth no more at any arguments.
+pub fn relations_promise()
+    ensures { RelationsPromise }
+{}
+
+/// The factorials in a power form divide without a rest.
+pub fn division_is_exact()
+    ensures { DivisionIsExact }
+{}
