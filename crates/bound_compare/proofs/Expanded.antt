@@ -44,7 +44,7 @@ table h z (suc (suc (suc (suc zero)))) (suc (suc (suc (suc zero)))) l = omega (a
 table h z (suc (suc (suc (suc zero)))) (suc (suc (suc (suc (suc e))))) l = let a0 = off (suc (suc (suc (suc (suc e))))) 1 (h (negsuc 5)) (λ q. omega (arith, q)) in let a1 = off (suc (suc (suc (suc (suc e))))) 2 (h (pos 11)) (λ q. omega (arith, q)) in let a2 = off (suc (suc (suc (suc (suc e))))) 3 (h (negsuc 5)) (λ q. omega (arith, q)) in let a3 = off (suc (suc (suc (suc (suc e))))) 4 (h (pos 1)) (λ q. omega (arith, q)) in omega (arith, z, a0, a1, a2, a3)
 table h z (suc (suc (suc (suc (suc k))))) e l = absurd (omega arith)
 
-times_zero : (x : ℤ) → x *ℤ pos 0 ≡ pos 0
+pub times_zero : (x : ℤ) → x *ℤ pos 0 ≡ pos 0
 times_zero x = grind (arith, ints)
 
 zero_times : (x : ℤ) → pos 0 *ℤ x ≡ pos 0

@@ -1,8 +1,11 @@
+pub mod Computed
 pub mod Counts
 pub mod Decided
 pub mod Expanded
 pub mod Grouped
+pub mod Kept
 pub mod Made
 pub mod Numbers
 pub mod Valued
+pub mod Weights
 pub mod Worths

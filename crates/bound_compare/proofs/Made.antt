@@ -62,11 +62,11 @@ moved f xs ys same = is_sum_by (total f) f refl (λ _ _. refl) ys ∙ sum_by-IsP
 
 -- The number at exponents by its two totals
 
-halves : (x : ℤ) → x ≡ pos (above x) -ℤ pos (below x)
+pub halves : (x : ℤ) → x ≡ pos (above x) -ℤ pos (below x)
 halves (pos n) = omega (arith, ints)
 halves (negsuc n) = omega (arith, ints)
 
-power_halves : (es : List ℕ) (ts : List Term) → power_at es ts ≡ pos (positive es ts) -ℤ pos (negative es ts)
+pub power_halves : (es : List ℕ) (ts : List Term) → power_at es ts ≡ pos (positive es ts) -ℤ pos (negative es ts)
 power_halves es [] = refl
 power_halves es (t ∷ ts) = let one = halves (brings es t) in let more = power_halves es ts in omega (arith, ints, one, more)
 

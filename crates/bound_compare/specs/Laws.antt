@@ -1,10 +1,12 @@
 -- Laws of comparisons and of powers.
-use Rattle.std.specs.Prelude.{◌≡◌, ◌≤◌, ◌*◌, ◌/◌, List}
+use Rattle.std.specs.Prelude.{◌≡◌, ◌≤◌, ◌*◌, ◌/◌, pos, true, List, length, All}
+use Rattle.raml_syntax.specs.Tree.{Type'}
 use Rattle.raml_syntax.specs.Value.{Value}
+use Rattle.base_poly.specs.Indices.{AreIndices}
 use Rattle.base_poly.specs.Plain.{Plain, degrees}
-use Rattle.base_poly.specs.Poly.{den_of, terms_of, IsPoly}
+use Rattle.base_poly.specs.Poly.{Term, den_of, terms_of, IsPoly}
 use Rattle.base_poly.specs.declared.tuple.Poly.{Poly}
-use Rattle.bound_compare.specs.Powers.{counts, factorials}
+use Rattle.bound_compare.specs.Powers.{Powers, are_flat, counts, factorials, ArePowers, powers_worth, element_counts}
 use Rattle.bound_compare.specs.Worth.{worth}
 use Rattle.bound_compare.specs.Compare.{Sum, sum_of, Stands}
 use Rattle.bound_compare.specs.declared.relation.Relation.{Relation}
@@ -26,3 +28,8 @@ pub record RelationsPromise : Type 0 where
 -- 24 is divided without a rest by the factorials of a tuple's numbers of entries.
 abbrev pub DivisionIsExact : Type 0
 DivisionIsExact = (t : List Plain) → degrees t ≤ 4 → factorials (counts t) * (24 / factorials (counts t)) ≡ 24
+
+-- The powers of a flat function's polynomial of degree at most 4 are worth, at the element counts of any arguments, 24 times what its terms are.
+abbrev pub PowersKeepWorth : Type 0
+PowersKeepWorth = (As : List Type') (ts : List Term) (ps : Powers) → are_flat As ≡ true → All (λ t. AreIndices t.0 As) ts → All (λ t. degrees t.0 ≤ 4) ts → ArePowers ts ps →
+    (values : List Value) → length values ≡ length As → powers_worth (element_counts values) ps ≡ pos (24 * worth ts values)

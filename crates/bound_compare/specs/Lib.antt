@@ -1,4 +1,5 @@
 pub mod Compare
+pub mod Example
 pub mod Laws
 pub mod Order
 pub mod Powers

@@ -1,5 +1,6 @@
 // Laws: each is the contract of a function that does nothing.
-ghost use Rattle.bound_compare.specs.Laws.{RelationsAreOne, RelationsPromise, DivisionIsExact};
+ghost use Rattle.bound_compare.specs.Laws.{RelationsAreOne, RelationsPromise, DivisionIsExact, PowersKeepWorth};
+ghost use Rattle.bound_compare.specs.Example.{Examples};
 
 /// Two polynomials stand in one relation.
 pub fn relations_are_one()
@@ -14,4 +15,15 @@ pub fn relations_promise()
 /// The factorials in a power form divide without a rest.
 pub fn division_is_exact()
     ensures { DivisionIsExact }
+{}
+
+/// The powers of a flat function's polynomial are worth what it is, at the element counts of any
+/// arguments.
+pub fn powers_keep_worth()
+    ensures { PowersKeepWorth }
+{}
+
+/// Small coefficients and powers are what was worked out by hand.
+pub fn small_examples()
+    ensures { Examples }
 {}

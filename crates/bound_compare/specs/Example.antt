@@ -1,0 +1,49 @@
+-- Small cases, worked out by hand.
+use Rattle.std.specs.Prelude.{◌≡◌, ℕ, zero, suc, pos, negsuc, List, [], ◌∷◌}
+use Rattle.base_poly.specs.Plain.{Plain, Unit', End, Then}
+use Rattle.base_poly.specs.Poly.{Term}
+use Rattle.bound_compare.specs.Compare.{number_at}
+use Rattle.bound_compare.specs.Powers.{falling, power_at, positive, negative}
+
+abbrev entries : ℕ → Plain
+entries zero = End
+entries (suc n) = Then Unit' (entries n)
+
+-- the work of quicksort: 4 + 24*<[_]> + 23*<[_, _]>
+abbrev quicksort : List Term
+quicksort = (entries 0 ∷ [], 4) ∷ (entries 1 ∷ [], 24) ∷ (entries 2 ∷ [], 23) ∷ []
+
+-- 7*<[_], [_]> + 1*<[], [_, _]>
+abbrev two_lists : List Term
+two_lists = (entries 1 ∷ entries 1 ∷ [], 7) ∷ (entries 0 ∷ entries 2 ∷ [], 1) ∷ []
+
+-- 3*<_, [_]>, of an integer and a list or tree
+abbrev behind_integer : List Term
+behind_integer = (Unit' ∷ entries 1 ∷ [], 3) ∷ []
+
+pub record Examples : Type 0 where
+  -- n * (n - 1) * (n - 2) * (n - 3) is -6*n + 11*n^2 - 6*n^3 + n^4
+  pub first : falling 4 1 ≡ negsuc 5
+  pub second : falling 4 2 ≡ pos 11
+  pub third : falling 4 3 ≡ negsuc 5
+  pub fourth : falling 4 4 ≡ pos 1
+  pub none : falling 0 0 ≡ pos 1
+  -- pairs of n elements are -1/2*n + 1/2*n^2, which is -12 and 12 over 24
+  pub pairs : power_at (1 ∷ []) ((entries 2 ∷ [], 1) ∷ []) ≡ negsuc 11
+  pub squares : power_at (2 ∷ []) ((entries 2 ∷ [], 1) ∷ []) ≡ pos 12
+  -- 4 + 25/2*n + 23/2*n^2
+  pub constant : power_at (0 ∷ []) quicksort ≡ pos 96
+  pub linear : power_at (1 ∷ []) quicksort ≡ pos 300
+  pub quadratic : power_at (2 ∷ []) quicksort ≡ pos 276
+  -- of which 576 is above 0 and 276 below
+  pub above : positive (1 ∷ []) quicksort ≡ 576
+  pub below : negative (1 ∷ []) quicksort ≡ 276
+  -- 7*n1*n2 - 1/2*n2 + 1/2*n2^2
+  pub product : power_at (1 ∷ 1 ∷ []) two_lists ≡ pos 168
+  pub one_list : power_at (0 ∷ 1 ∷ []) two_lists ≡ negsuc 11
+  pub its_square : power_at (0 ∷ 2 ∷ []) two_lists ≡ pos 12
+  pub other_list : power_at (1 ∷ 0 ∷ []) two_lists ≡ pos 0
+  -- 3*n2
+  pub second_parameter : power_at (0 ∷ 1 ∷ []) behind_integer ≡ pos 72
+  pub coefficient : number_at (entries 1 ∷ []) quicksort ≡ 24
+  pub no_term : number_at (entries 3 ∷ []) quicksort ≡ 0
