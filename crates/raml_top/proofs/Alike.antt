@@ -1,13 +1,17 @@
 -- Answers that end alike, step by step.
 use Rattle.std.proofs.Common.{◌≡◌, refl, sym, subst}
+use Rattle.refusal_text.specs.declared.task.Analysed.{Analysed}
+use Rattle.refusal_text.specs.declared.task.Analysed.TheVariants as analysed
 use Rattle.raml_syntax.specs.Tree.{Text}
-use Rattle.refusals.specs.Ending.{Ending, Overflows, OnTask}
+use Rattle.refusals.specs.Ending.{Ending, Done, Overflows, OnTask, OfOther}
 use Rattle.refusals.specs.Line.{Names}
-use Rattle.raml_top.specs.Steps.{Answer, Report, Refusal, ending_in, Step, refused, goes_on}
+use Rattle.raml_top.specs.Steps.{Answer, Report, Refusal, ending_in, Step, refused, goes_on, RefusedOf, Prints}
+use Rattle.raml_top.specs.Outside.{Promised, Needed}
 use Rattle.raml_top.specs.Promise.{Alike}
 
 pub alike_refl : (e : Ending) → Alike e e
 alike_refl (Overflows (OnTask task place)) = (refl, refl)
+alike_refl (OfOther e) = alike_refl e
 alike_refl _ = refl
 
 pub alike_same : (e f : Ending) → e ≡ f → Alike e f
@@ -46,3 +50,21 @@ steps_same names others R S C D Q T fit rest a b (goes_on x c q) (refused f s ar
 steps_same names others R S C D Q T fit rest a b (goes_on x c q) (goes_on y d t) =
     let same = fit.one x y c d in
     rest x c (subst D (sym same) d) a b q (subst (λ z. T z b) (sym same) t)
+
+-- what is refused of one program or the other
+pub either_refused : (whose : Analysed) (R S : Ending → Type 0) → ((e f : Ending) → R e → S f → Alike e f) → (e f : Ending) → RefusedOf whose R e → RefusedOf whose S f → Alike e f
+either_refused analysed.Program R S same e f r s = same e f r s
+either_refused analysed.Other R S same (OfOther e) (OfOther f) r s = same e f r s
+either_refused analysed.Other R S same (OfOther e) f r s = absurd s
+either_refused analysed.Other R S same e f r s = absurd r
+
+pub neither_refused : (whose : Analysed) (R : Ending → Type 0) → ((e : Ending) → R e → ⊥) → (e : Ending) → RefusedOf whose R e → ⊥
+neither_refused analysed.Program R none e r = none e r
+neither_refused analysed.Other R none (OfOther e) r = none e r
+neither_refused analysed.Other R none e r = absurd r
+
+-- two reports that end with Done
+pub prints_same : (Is Also : Text → Type 0) (a b : Answer) → Prints Needed Is a → Prints Promised Also b → Same a b
+prints_same Is Also (Report Done t) (Report Done u) h k = refl
+prints_same Is Also (Report Done t) b h k = absurd k
+prints_same Is Also a b h k = absurd h

@@ -9,9 +9,13 @@ pub mod Causes
 pub mod Refusing
 pub mod Choosing
 pub mod Reading
+pub mod Pricing
+pub mod Comparing
 pub mod Alike
 pub mod OneSource
 pub mod OneCourse
 pub mod OneCheck
 pub mod OneRun
+pub mod OnePrices
+pub mod OnePowers
 pub mod One

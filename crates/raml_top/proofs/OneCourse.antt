@@ -22,12 +22,13 @@ use Rattle.raml_words.specs.declared.request.Rule.{Rule}
 use Rattle.refusals.specs.Ending as e
 use Rattle.refusals.specs.Ending.{Ending, TooLarge, Overflows, InCheck}
 use Rattle.raml_top.specs.Outside.{Promised, Needed}
-use Rattle.raml_top.specs.Steps.{Answer, OfNormal, names_of}
+use Rattle.raml_top.specs.Steps.{Answer, OfNormal, RefusedOf, names_of}
+use Rattle.refusal_text.specs.declared.task.Analysed.{Analysed}
 use Rattle.raml_top.specs.Analysis.{analysis, pick_of, CourseRefuses, IsCourse, OfCourse}
 use Rattle.raml_top.specs.Known.{CourseLaws}
 use Rattle.raml_top.specs.Promise.{Alike}
 use Rattle.base_poly.proofs.Among.{Among, among_contains, contains_among}
-use Rattle.raml_top.proofs.Alike.{alike_same, Same, steps_same}
+use Rattle.raml_top.proofs.Alike.{alike_same, Same, steps_same, either_refused, neither_refused}
 
 -- ---- groups
 
@@ -132,19 +133,23 @@ module _ (laws : CourseLaws) (A : Analysis) (generates : Generates A) where
       let same = laws.one_place A generates h.0 k.1.0 task other (p.TooLarge what) place h.1 k.1.1 in absurd (omega (arith, same.2, k.0))
   course_refusals (TooLarge task what) (Overflows (InCheck block path index)) h k = absurd (never k.certificate h.0 task (p.TooLarge what) k.ends h.1)
   course_refusals (TooLarge task what) (Overflows (e.AtPoint meter)) h k = absurd k
+  course_refusals (TooLarge task what) (Overflows (e.InPowers f meter)) h k = absurd k
   course_refusals (Overflows (e.OnTask task place)) (TooLarge other last) h k =
       let same = laws.one_place A generates h.1.0 k.0 task other place (p.TooLarge last) h.1.1 k.1 in absurd (omega (arith, same.2, h.0))
   course_refusals (Overflows (e.OnTask task place)) (Overflows (e.OnTask other last)) h k =
       let same = laws.one_place A generates h.1.0 k.1.0 task other place last h.1.1 k.1.1 in (same.1, same.2)
   course_refusals (Overflows (e.OnTask task place)) (Overflows (InCheck block path index)) h k = absurd (never k.certificate h.1.0 task place k.ends h.1.1)
   course_refusals (Overflows (e.OnTask task place)) (Overflows (e.AtPoint meter)) h k = absurd k
+  course_refusals (Overflows (e.OnTask task place)) (Overflows (e.InPowers f meter)) h k = absurd k
   course_refusals (Overflows (InCheck block path index)) (TooLarge other last) h k = absurd (never h.certificate k.0 other (p.TooLarge last) h.ends k.1)
   course_refusals (Overflows (InCheck block path index)) (Overflows (e.OnTask other place)) h k = absurd (never h.certificate k.1.0 other place h.ends k.1.1)
   course_refusals (Overflows (InCheck block path index)) (Overflows (InCheck b q i)) h k =
       let found = found_same (Some (f.Leaves block path index)) (Some (f.Leaves b q i)) h.certificate k.certificate h.ends k.ends h.first k.first in
       let same : Overflows (InCheck block path index) ≡ Overflows (InCheck b q i) = cc in alike_same _ _ same
   course_refusals (Overflows (InCheck block path index)) (Overflows (e.AtPoint meter)) h k = absurd k
+  course_refusals (Overflows (InCheck block path index)) (Overflows (e.InPowers f meter)) h k = absurd k
   course_refusals (Overflows (e.AtPoint meter)) other h k = absurd h
+  course_refusals (Overflows (e.InPowers f meter)) other h k = absurd h
   course_refusals (TooLarge task what) other h k = absurd k
   course_refusals (Overflows (e.OnTask task place)) other h k = absurd k
   course_refusals (Overflows (InCheck block path index)) other h k = absurd k
@@ -156,17 +161,18 @@ module _ (laws : CourseLaws) (A : Analysis) (generates : Generates A) where
   refused_or_ends (Overflows (InCheck block path index)) c h k =
       let found = found_same (Some (f.Leaves block path index)) None h.certificate c h.ends k.ends h.first k.passes in absurd (cc)
   refused_or_ends (Overflows (e.AtPoint meter)) c h k = absurd h
+  refused_or_ends (Overflows (e.InPowers f meter)) c h k = absurd h
   refused_or_ends e c h k = absurd h
 
-pub course_same : CourseLaws → (P : Prog) → Typed P → All (λ (g : Function). AllNodes NumberFits g.body) P → (groups : Grouping) → IsGrouping P groups → (degree : ℕ) (rule : Rule) →
+pub course_same : CourseLaws → (whose : Analysed) (P : Prog) → Typed P → All (λ (g : Function). AllNodes NumberFits g.body) P → (groups : Grouping) → IsGrouping P groups → (degree : ℕ) (rule : Rule) →
     (Q T : Certificate → Answer → Type 0) → ((c : Certificate) → (a b : Answer) → Q c a → T c b → Same a b) →
-    (a b : Answer) → OfCourse Needed P (normal_of P groups.list) degree rule Q a → OfCourse Promised P (normal_of P groups.list) degree rule T b → Same a b
-course_same laws P typed numbers groups grouping degree rule Q T rest =
-    steps_same (names_of P N) (names_of P N) (CourseRefuses A) (CourseRefuses A) (IsCourse Needed P A) (IsCourse Promised P A) Q T
+    (a b : Answer) → OfCourse Needed whose P (normal_of P groups.list) degree rule Q a → OfCourse Promised whose P (normal_of P groups.list) degree rule T b → Same a b
+course_same laws whose P typed numbers groups grouping degree rule Q T rest =
+    steps_same (names_of P N) (names_of P N) (RefusedOf whose (CourseRefuses A)) (RefusedOf whose (CourseRefuses A)) (IsCourse Needed P A) (IsCourse Promised P A) Q T
     (record {
-      refusals = course_refusals laws A generates;
-      not_left = λ e c r d. refused_or_ends laws A generates e c r d.inferred;
-      not_right = λ c e d s. refused_or_ends laws A generates e c s d.inferred;
+      refusals = either_refused whose (CourseRefuses A) (CourseRefuses A) (course_refusals laws A generates);
+      not_left = λ e c r d. neither_refused whose (CourseRefuses A) (λ f s. refused_or_ends laws A generates f c s d.inferred) e r;
+      not_right = λ c e d s. neither_refused whose (CourseRefuses A) (λ f r. refused_or_ends laws A generates f c r d.inferred) e s;
       one = λ c d x y. laws.one A generates c d x.inferred.ends y.inferred.ends;
     })
     (λ c x y. rest c)

@@ -10,12 +10,12 @@ use Rattle.simple_types.specs.Fault.{Fault}
 use Rattle.simple_types.specs.Walk.{walk_program}
 use Rattle.simple_types.proofs.Typing.{program_complete}
 use Rattle.refusal_text.specs.declared.plain.Which.{Which}
-use Rattle.refusal_text.specs.declared.plain.Which.TheVariants as w
+use Rattle.refusal_text.specs.declared.task.Analysed.{Analysed}
 use Rattle.refusals.specs.Ending.{Ending, Source, Parse, Types}
 use Rattle.refusals.specs.Line.{no_names}
 use Rattle.raml_top.specs.Outside.{Promised, Needed, Store, IsSeen, IsRead}
-use Rattle.raml_top.specs.Steps.{Answer, most_bytes, IsTooLong, OfShort, OfFile, SourceRefuses, IsTyped, OfSource, OfProgram}
-use Rattle.raml_top.proofs.Alike.{alike_same, Same, steps_same}
+use Rattle.raml_top.specs.Steps.{Answer, most_bytes, IsTooLong, OfShort, OfFile, SourceRefuses, IsTyped, RefusedOf, OfSource, OfProgram, file_of}
+use Rattle.raml_top.proofs.Alike.{alike_same, Same, steps_same, either_refused, neither_refused}
 
 -- what is told to be held begins with what was read
 told_front : (store : Store) (limit : ℕ) (file bytes : List ℕ) (files : Files) → store.holds ≡ Some files → IsSeen store limit file bytes → IsFront files file (suc limit) bytes
@@ -104,20 +104,20 @@ module _ (source : List ℕ) where
   refused_or_typed (Source (Types f)) P r is = faulty_or_typed f r.0 P r.1 r.2 is
   refused_or_typed e P r is = absurd r
 
-  pub source_same : (Q T : Prog → Answer → Type 0) → ((P : Prog) → IsTyped source P → (a b : Answer) → Q P a → T P b → Same a b) →
-      (a b : Answer) → OfSource source Q a → OfSource source T b → Same a b
-  source_same Q T rest =
-      steps_same no_names no_names (SourceRefuses source) (SourceRefuses source) (IsTyped source) (IsTyped source) Q T
+  pub source_same : (whose : Analysed) (Q T : Prog → Answer → Type 0) → ((P : Prog) → IsTyped source P → (a b : Answer) → Q P a → T P b → Same a b) →
+      (a b : Answer) → OfSource whose source Q a → OfSource whose source T b → Same a b
+  source_same whose Q T rest =
+      steps_same no_names no_names (RefusedOf whose (SourceRefuses source)) (RefusedOf whose (SourceRefuses source)) (IsTyped source) (IsTyped source) Q T
       (record {
-        refusals = λ e f r s. alike_same e f (refusals_same e f r s);
-        not_left = refused_or_typed;
-        not_right = λ P e c s. refused_or_typed e P s c;
+        refusals = either_refused whose (SourceRefuses source) (SourceRefuses source) (λ e f r s. alike_same e f (refusals_same e f r s));
+        not_left = λ e P r is. neither_refused whose (SourceRefuses source) (λ f s. refused_or_typed f P s is) e r;
+        not_right = λ P e is s. neither_refused whose (SourceRefuses source) (λ f r. refused_or_typed f P r is) e s;
         one = λ P Q c d. one_program P Q c.spelled d.spelled;
       })
       (λ P c d. rest P c)
 
-pub program_same : (store : Store) (file : Text) (Q T : Prog → Answer → Type 0) →
+pub program_same : (store : Store) (whose : Analysed) (file : Text) (Q T : Prog → Answer → Type 0) →
     ((source : List ℕ) (P : Prog) → IsTyped source P → (a b : Answer) → Q P a → T P b → Same a b) →
-    (a b : Answer) → OfProgram Needed store file Q a → OfProgram Promised store file T b → Same a b
-program_same store file Q T rest =
-    file_same store w.Program file (λ source. OfSource source Q) (λ source. OfSource source T) (λ source. source_same source Q T (rest source))
+    (a b : Answer) → OfProgram Needed store whose file Q a → OfProgram Promised store whose file T b → Same a b
+program_same store whose file Q T rest =
+    file_same store (file_of whose) file (λ source. OfSource whose source Q) (λ source. OfSource whose source T) (λ source. source_same source whose Q T (rest source))

@@ -26,7 +26,10 @@ use Rattle.raml_top.specs.Outside.{Promised}
 use Rattle.raml_syntax.specs.Read.{program_of}
 use Rattle.raml_syntax.specs.declared.program.Program.{Program as TheProgram}
 use Rattle.call_groups.specs.Groups.{IsGrouping}
-use Rattle.raml_top.specs.Steps.{Answer, OfNormal, names_of}
+use Rattle.raml_top.specs.Steps.{Answer, OfNormal, RefusedOf}
+use Rattle.refusal_text.specs.declared.task.Analysed.{Analysed}
+use Rattle.refusal_text.specs.declared.task.Analysed.TheVariants as analysed
+use Rattle.infer_spec.specs.Generator.{Analysis}
 use Rattle.raml_top.specs.Parts.{Gives, Refuses}
 use Rattle.raml_top.proofs.Stepping.{normal_gives, step_goes, step_refused}
 use Rattle.raml_top.specs.Analysis.{analysis, CourseRefuses, IsCourse, OfCourse, IsProved}
@@ -59,19 +62,33 @@ pub kept_gives : (typed : TheProgram) (kept : Kept) → kept.source ≡ typed �
 kept_gives typed kept source grouping normal Rest r given =
     normal_gives (program_of typed) (Rest (program_of typed)) kept.groups (program_in kept) grouping normal r (subst (λ s. Gives (Rest (program_of s) (program_in kept)) r) source given)
 
--- a course of the code's program, over what it was typed from
+-- a course of the code's program
+module _ (whose : Analysed) (kept : Kept) (degree : ℕ) (rule : Rule) (Rest : Certificate → Answer → Type 0) where
+  abbrev A : Analysis
+  A = analysis (program_in kept) degree rule
+
+  pub course_given : (c : Certificate) → IsInferred A c → IsProved (source_in kept) (program_in kept) c → AllLeast (program_in kept) c →
+      (r : Result Report Refusal) → Gives (Rest c) r → Gives (OfCourse Promised whose (source_in kept) (program_in kept) degree rule Rest) r
+  course_given c inferred proved least r given =
+      step_goes (names_in kept) (RefusedOf whose (CourseRefuses A)) (IsCourse Promised (source_in kept) A) Rest c (record { inferred = inferred; proved = proved; least = least }) r given
+
+  pub course_denied : (refusal : Refusal) → Refuses (names_in kept) (RefusedOf whose (CourseRefuses A)) refusal →
+      Gives (OfCourse Promised whose (source_in kept) (program_in kept) degree rule Rest) (Err refusal)
+  course_denied refusal h = step_refused (names_in kept) (RefusedOf whose (CourseRefuses A)) (IsCourse Promised (source_in kept) A) Rest refusal h
+
+-- over what it was typed from
 module _ (typed : TheProgram) (kept : Kept) (source : kept.source ≡ typed) (degree : ℕ) (rule : Rule) (Rest : Certificate → Answer → Type 0) where
   pub course_goes : (c : Certificate) → IsInferred (analysis (program_in kept) degree rule) c → IsProved (source_in kept) (program_in kept) c → AllLeast (program_in kept) c →
-      (r : Result Report Refusal) → Gives (Rest c) r → Gives (OfCourse Promised (program_of typed) (program_in kept) degree rule Rest) r
+      (r : Result Report Refusal) → Gives (Rest c) r → Gives (OfCourse Promised analysed.Program (program_of typed) (program_in kept) degree rule Rest) r
   course_goes c inferred proved least r given =
-      step_goes (names_of (program_of typed) (program_in kept)) (CourseRefuses (analysis (program_in kept) degree rule)) (IsCourse Promised (program_of typed) (analysis (program_in kept) degree rule)) Rest c
-      (record { inferred = inferred; proved = subst (λ s. IsProved (program_of s) (program_in kept) c) source proved; least = least }) r given
+      subst (λ s. Gives (OfCourse Promised analysed.Program (program_of s) (program_in kept) degree rule Rest) r) source
+      (course_given analysed.Program kept degree rule Rest c inferred proved least r given)
 
   pub course_refused : (refusal : Refusal) → Refuses (names_in kept) (CourseRefuses (analysis (program_in kept) degree rule)) refusal →
-      Gives (OfCourse Promised (program_of typed) (program_in kept) degree rule Rest) (Err refusal)
+      Gives (OfCourse Promised analysed.Program (program_of typed) (program_in kept) degree rule Rest) (Err refusal)
   course_refused refusal h =
-      step_refused (names_of (program_of typed) (program_in kept)) (CourseRefuses (analysis (program_in kept) degree rule)) (IsCourse Promised (program_of typed) (analysis (program_in kept) degree rule)) Rest refusal
-      (subst (λ s. Refuses (record { program = program_of s; groups = kept.groups.list }) (CourseRefuses (analysis (program_in kept) degree rule)) refusal) source h)
+      subst (λ s. Gives (OfCourse Promised analysed.Program (program_of s) (program_in kept) degree rule Rest) (Err refusal)) source
+      (course_denied analysed.Program kept degree rule Rest refusal h)
 
 -- the certificate of a course counts work
 pub counts_work : (N : Program) (degree : ℕ) (rule : Rule) (c : Certificate) → IsInferred (analysis N degree rule) c → has_work c ≡ true

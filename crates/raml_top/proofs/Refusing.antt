@@ -30,25 +30,33 @@ use Rattle.cert_check.specs.Fault as f
 use Rattle.cert_check.specs.Read.{fault_of}
 use Rattle.cert_check.specs.Finds as check
 use Rattle.cert_check.specs.declared.fault.CertFault.{CertFault}
-use Rattle.bound_infer.specs.Inferred.{InferCause, LeavesIn, LeavesVector, VerifyCause, VectorFault, TaskFault, what_of}
+use Rattle.bound_infer.specs.Inferred.{InferCause, LeavesVector, VerifyCause, VectorFault, TaskFault, what_of}
 use Rattle.bound_infer.specs.declared.leaves.LeavesAt.{LeavesAt}
 use Rattle.bound_infer.specs.declared.leaves.LeavesAt.TheVariants as at
+use Rattle.bound_infer.specs.declared.refusal.InferFault.{InferFault}
 use Rattle.bound_infer.specs.declared.refusal.InferFault.TheVariants as i
 use Rattle.bound_infer.specs.declared.refusal.VerifyFault.TheVariants as r
 use Rattle.refusals.specs.Ending as e
 use Rattle.refusals.specs.Ending.{Ending, ending_of}
 use Rattle.refusals.specs.Line.{Names, no_names, line_of}
-use Rattle.refusals.specs.Refusals.{IsToldOr, ParseRefusal, TypeRefusal, DataRefusal, JsonRefusal, CheckRefusal, IsCheckAt}
+use Rattle.refusals.specs.Refusals.{IsToldOr, source_status, ParseRefusal, TypeRefusal, DataRefusal, JsonRefusal, CheckRefusal, CourseRefusal, IsCheckAt}
 use Rattle.refusals.specs.declared.answer.Refusal.{Refusal}
 use Rattle.refusals.specs.declared.status.Status.{Status}
 use Rattle.refusals.specs.declared.status.Status.TheVariants as s
 use Rattle.refusals.specs.declared.status.CertAnswer.TheVariants as c
 use Rattle.refusals.specs.declared.status.OverflowAt.TheVariants as o
-use Rattle.raml_top.specs.Steps.{SourceRefuses}
+use Rattle.raml_top.specs.Steps.{SourceRefuses, RefusedOf}
+use Rattle.raml_top.specs.Prices.{PricesRefuse}
 use Rattle.raml_top.specs.Analysis.{CourseRefuses, TextRefuses, CheckRefuses}
 use Rattle.raml_top.specs.Call.{DataRefuses}
 use Rattle.raml_top.specs.Parts.{Refuses, TypesRefuse}
+use Rattle.refusal_text.specs.declared.source.SourceFault.{SourceFault}
 use Rattle.refusal_text.specs.declared.source.SourceFault.TheVariants as source
+use Rattle.refusal_text.specs.declared.task.Analysed.{Analysed}
+use Rattle.refusal_text.specs.declared.task.Analysed.TheVariants as analysed
+use Rattle.price_file.specs.Spelling as prices
+use Rattle.price_file.specs.declared.fault.PriceFault.{PriceFault}
+use Rattle.std.specs.Option.{option_map}
 
 -- a refusal of a status whose ending has a cause
 pub told_refuses : (names : Names) (status : Status) (ending : Ending) (R : Ending → Type 0) → ending_of status ≡ Some ending → R ending →
@@ -56,12 +64,19 @@ pub told_refuses : (names : Names) (status : Status) (ending : Ending) (R : Endi
 told_refuses names status ending R is cause refusal (inl wanting) = inl wanting
 told_refuses names status ending R is cause refusal (inr h) = inr (ending, ap ending_of h.0 ∙ is, h.1 ∙ ap (line_of names) (sym h.0), cause)
 
-module _ (bytes : List ℕ) where
-  parse_told : (fault : ParseFault) → ending_of (s.Source (source.Parse fault)) ≡ Some (e.Source (e.Parse fault)) → FirstFault bytes fault →
-      (refusal : Refusal) → IsToldOr no_names (s.Source (source.Parse fault)) refusal → Refuses no_names (SourceRefuses bytes) refusal
-  parse_told fault is h refusal told = told_refuses no_names _ (e.Source (e.Parse fault)) (SourceRefuses bytes) is h refusal told
+-- a refusal of a source, whose ending has a cause
+source_told : (whose : Analysed) (fault : SourceFault) (ending : e.SourceEnding) (R : Ending → Type 0) → e.source_ending fault ≡ Some (e.Source ending) → R (e.Source ending) →
+    (refusal : Refusal) → IsToldOr no_names (source_status whose fault) refusal → Refuses no_names (RefusedOf whose R) refusal
+source_told analysed.Program fault ending R is cause refusal told = told_refuses no_names (s.Source fault) (e.Source ending) R is cause refusal told
+source_told analysed.Other fault ending R is cause refusal told =
+    told_refuses no_names (s.OtherSource fault) (e.OfOther (e.Source ending)) (RefusedOf analysed.Other R) (ap (option_map e.OfOther) is) cause refusal told
 
-  parse_cause : (fault : ParseFault) → FirstFault bytes fault → (refusal : Refusal) → ParseRefusal fault refusal → Refuses no_names (SourceRefuses bytes) refusal
+module _ (whose : Analysed) (bytes : List ℕ) where
+  parse_told : (fault : ParseFault) → e.source_ending (source.Parse fault) ≡ Some (e.Source (e.Parse fault)) → FirstFault bytes fault →
+      (refusal : Refusal) → IsToldOr no_names (source_status whose (source.Parse fault)) refusal → Refuses no_names (RefusedOf whose (SourceRefuses bytes)) refusal
+  parse_told fault is h refusal told = source_told whose (source.Parse fault) (e.Parse fault) (SourceRefuses bytes) is h refusal told
+
+  parse_cause : (fault : ParseFault) → FirstFault bytes fault → (refusal : Refusal) → ParseRefusal whose fault refusal → Refuses no_names (RefusedOf whose (SourceRefuses bytes)) refusal
   parse_cause (p.NotUtf8 a) h refusal told = parse_told (p.NotUtf8 a) refl h refusal told
   parse_cause (p.Lex (l.BadChar a)) h refusal told = parse_told (p.Lex (l.BadChar a)) refl h refusal told
   parse_cause (p.Lex (l.NumberTooWide a)) h refusal told = parse_told (p.Lex (l.NumberTooWide a)) refl h refusal told
@@ -72,16 +87,17 @@ module _ (bytes : List ℕ) where
   parse_cause (p.TooMany a) h refusal told = parse_told (p.TooMany a) refl h refusal told
   parse_cause p.NoMemory h refusal told = absurd h
 
-  pub parse_refuses : (fault : ParseFault) → (fault ≡ p.NoMemory) ⊎ FirstFault bytes fault → (refusal : Refusal) → ParseRefusal fault refusal → Refuses no_names (SourceRefuses bytes) refusal
-  parse_refuses fault (inl same) refusal told = inl (subst (λ x. ParseRefusal x refusal) same told)
+  pub parse_refuses : (fault : ParseFault) → (fault ≡ p.NoMemory) ⊎ FirstFault bytes fault → (refusal : Refusal) → ParseRefusal whose fault refusal →
+      Refuses no_names (RefusedOf whose (SourceRefuses bytes)) refusal
+  parse_refuses fault (inl same) refusal told = inl (subst (λ x. ParseRefusal whose x refusal) same told)
   parse_refuses fault (inr h) refusal told = parse_cause fault h refusal told
 
-module _ (P : Prog) where
-  type_told : (fault : TypeFault) (first : types_fault.Fault) → ending_of (s.Source (source.«Type» fault)) ≡ Some (e.Source (e.Types first)) → walk_program P ≡ Err first →
-      (refusal : Refusal) → IsToldOr no_names (s.Source (source.«Type» fault)) refusal → Refuses no_names (TypesRefuse P) refusal
-  type_told fault first is h refusal told = told_refuses no_names _ (e.Source (e.Types first)) (TypesRefuse P) is h refusal told
+module _ (whose : Analysed) (P : Prog) where
+  type_told : (fault : TypeFault) (first : types_fault.Fault) → e.source_ending (source.«Type» fault) ≡ Some (e.Source (e.Types first)) → walk_program P ≡ Err first →
+      (refusal : Refusal) → IsToldOr no_names (source_status whose (source.«Type» fault)) refusal → Refuses no_names (RefusedOf whose (TypesRefuse P)) refusal
+  type_told fault first is h refusal told = source_told whose (source.«Type» fault) (e.Types first) (TypesRefuse P) is h refusal told
 
-  pub type_refuses : (fault : TypeFault) → EndsWith (walk_program P) fault → (refusal : Refusal) → TypeRefusal fault refusal → Refuses no_names (TypesRefuse P) refusal
+  pub type_refuses : (fault : TypeFault) → EndsWith (walk_program P) fault → (refusal : Refusal) → TypeRefusal whose fault refusal → Refuses no_names (RefusedOf whose (TypesRefuse P)) refusal
   type_refuses (t.Unknown a) h refusal told = type_told (t.Unknown a) _ refl (h _ refl) refusal told
   type_refuses (t.Twice a) h refusal told = type_told (t.Twice a) _ refl (h _ refl) refusal told
   type_refuses (t.Wanted a want got) h refusal told = type_told (t.Wanted a want got) _ refl (h _ refl) refusal told
@@ -107,19 +123,35 @@ json_refuses bytes (j.Shape place) h refusal told = told_refuses no_names _ _ (T
 json_refuses bytes (j.Number place) h refusal told = told_refuses no_names _ _ (TextRefuses bytes) refl h refusal told
 json_refuses bytes j.NoMemory h refusal told = inl told
 
--- courses
-module _ (names : Names) (A : Analysis) where
-  pub large_refuses : (task : Task) (what : What) → InferCause A (i.TooLarge task what) → (refusal : Refusal) → IsToldOr names (s.TooLarge task what) refusal → Refuses names (CourseRefuses A) refusal
-  large_refuses task what h refusal told = told_refuses names _ (e.TooLarge (task_of task) (what_of what)) (CourseRefuses A) refl h refusal told
+-- the refusal of a table of prices
+pub prices_refuse : (bytes : List ℕ) (fault : PriceFault) → prices.FirstFault bytes fault → (refusal : Refusal) → IsToldOr no_names (s.Prices fault) refusal → Refuses no_names (PricesRefuse bytes) refusal
+prices_refuse bytes fault h refusal told = told_refuses no_names (s.Prices fault) (e.BadPrices fault) (PricesRefuse bytes) refl h refusal told
 
-  pub leaves_refuses : (place : LeavesAt) → LeavesIn A place → (refusal : Refusal) → IsToldOr names (s.Overflow (o.At place)) refusal → Refuses names (CourseRefuses A) refusal
-  leaves_refuses (at.Solve task pivots row col) h refusal told = told_refuses names _ _ (CourseRefuses A) refl (omega arith, h) refusal told
-  leaves_refuses (at.Row task row) h refusal told = told_refuses names _ _ (CourseRefuses A) refl (omega arith, h) refusal told
-  leaves_refuses (at.Scale task entry) h refusal told = told_refuses names _ _ (CourseRefuses A) refl (omega arith, h) refusal told
-  leaves_refuses (at.Rescale task block) h refusal told = told_refuses names _ _ (CourseRefuses A) refl (omega arith, h) refusal told
-  leaves_refuses (at.Check block path index) h refusal told = told_refuses names _ _ (CourseRefuses A) refl h refusal told
-  leaves_refuses (at.Refute task column) h refusal told = told_refuses names _ _ (CourseRefuses A) refl (omega arith, h) refusal told
-  leaves_refuses (at.Least task column) h refusal told = told_refuses names _ _ (CourseRefuses A) refl (omega arith, h) refusal told
+-- courses
+module _ (whose : Analysed) (names : Names) (A : Analysis) where
+  course_told : (fault : InferFault) (ending : Ending) → e.course_ending fault ≡ Some ending → CourseRefuses A ending → (refusal : Refusal) → CourseRefusal whose names fault refusal →
+      Refuses names (RefusedOf whose (CourseRefuses A)) refusal
+  course_told fault ending is h refusal told = by whose fault is told
+    where
+      by : (whose : Analysed) (fault : InferFault) → e.course_ending fault ≡ Some ending → CourseRefusal whose names fault refusal → Refuses names (RefusedOf whose (CourseRefuses A)) refusal
+      by whose i.NoMemory is told = inl told
+      by analysed.Program (i.TooLarge task what) is told = told_refuses names (s.TooLarge task what) ending (CourseRefuses A) is h refusal told
+      by analysed.Program (i.Leaves place) is told = told_refuses names (s.Overflow (o.At place)) ending (CourseRefuses A) is h refusal told
+      by analysed.Other (i.TooLarge task what) is told =
+          told_refuses names (s.OtherFault (i.TooLarge task what)) (e.OfOther ending) (RefusedOf analysed.Other (CourseRefuses A)) (ap (option_map e.OfOther) is) h refusal told
+      by analysed.Other (i.Leaves place) is told =
+          told_refuses names (s.OtherFault (i.Leaves place)) (e.OfOther ending) (RefusedOf analysed.Other (CourseRefuses A)) (ap (option_map e.OfOther) is) h refusal told
+
+  pub course_refuses : (fault : InferFault) → InferCause A fault → (refusal : Refusal) → CourseRefusal whose names fault refusal → Refuses names (RefusedOf whose (CourseRefuses A)) refusal
+  course_refuses i.NoMemory h refusal told = inl told
+  course_refuses (i.TooLarge task what) h refusal told = course_told (i.TooLarge task what) _ refl h refusal told
+  course_refuses (i.Leaves (at.Solve task pivots row col)) h refusal told = course_told (i.Leaves (at.Solve task pivots row col)) _ refl (omega arith, h) refusal told
+  course_refuses (i.Leaves (at.Row task row)) h refusal told = course_told (i.Leaves (at.Row task row)) _ refl (omega arith, h) refusal told
+  course_refuses (i.Leaves (at.Scale task entry)) h refusal told = course_told (i.Leaves (at.Scale task entry)) _ refl (omega arith, h) refusal told
+  course_refuses (i.Leaves (at.Rescale task block)) h refusal told = course_told (i.Leaves (at.Rescale task block)) _ refl (omega arith, h) refusal told
+  course_refuses (i.Leaves (at.Check block path index)) h refusal told = course_told (i.Leaves (at.Check block path index)) _ refl h refusal told
+  course_refuses (i.Leaves (at.Refute task column)) h refusal told = course_told (i.Leaves (at.Refute task column)) _ refl (omega arith, h) refusal told
+  course_refuses (i.Leaves (at.Least task column)) h refusal told = course_told (i.Leaves (at.Least task column)) _ refl (omega arith, h) refusal told
 
 -- certificates that are read
 module _ (names : Names) (N : Program) (cert : Certificate) where

@@ -17,10 +17,14 @@ use Rattle.refusals.specs.Refusals.{IsWanting}
 use Rattle.refusals.specs.declared.answer.Report.{Report}
 use Rattle.refusals.specs.declared.answer.Refusal.{Refusal as TheRefusal}
 use Rattle.raml_top.specs.Outside.{Promised, Store}
-use Rattle.raml_top.specs.Steps.{Answer, Refusal, Step, refused, goes_on, OfFile, OfSource, OfProgram, OfNormal}
+use Rattle.raml_top.specs.Steps.{Answer, Refusal, Step, refused, goes_on, OfFile, OfSource, OfProgram, OfNormal, file_of}
+use Rattle.raml_top.specs.Prices.{PricesRefuse, OfPrices}
+use Rattle.price_file.specs.Construct.{Prices}
+use Rattle.price_file.specs.Spelling.{Spells, prices_in}
+use Rattle.refusal_text.specs.declared.task.Analysed.{Analysed}
 use Rattle.raml_top.specs.Analysis.{OfCertificate, TextRefuses}
 use Rattle.raml_top.specs.Call.{Placed, IsNamed, OfArguments, OfCall}
-use Rattle.raml_top.specs.Parts.{Refuses, Gives, IsShort, FileRefuses, IsProgram, ProgramRefuses, IsCertificateFile, CertificateRefuses, CallRefuses}
+use Rattle.raml_top.specs.Parts.{Refuses, Gives, IsShort, FileRefuses, IsProgram, ProgramRefuses, ArePrices, PriceFileRefuses, IsCertificateFile, CertificateRefuses, CallRefuses}
 
 -- what follows of each answer follows of what is given
 pub gives_map : (Q R : Answer → Type 0) → ((a : Answer) → Q a → R a) → (r : Result Report TheRefusal) → Gives Q r → Gives R r
@@ -59,16 +63,34 @@ module _ (store : Store) (which : Which) (file : Text) (Rest : List ℕ → Answ
   file_comes bytes short a rest = goes_on bytes short.read (goes_on tt short.short rest)
 
 -- programs
-module _ (store : Store) (file : Text) (Rest : Prog → Answer → Type 0) where
-  program_refused : (e : Ending) → ProgramRefuses store file e → OfProgram Promised store file Rest (Refusal no_names e)
-  program_refused e (inl h) = file_refused store w.Program file (λ source. OfSource source Rest) e h
-  program_refused e (inr h) = file_comes store w.Program file (λ source. OfSource source Rest) h.0 h.1 (Refusal no_names e) (refused e h.2 refl)
+module _ (store : Store) (whose : Analysed) (file : Text) (Rest : Prog → Answer → Type 0) where
+  program_refused : (e : Ending) → ProgramRefuses store whose file e → OfProgram Promised store whose file Rest (Refusal no_names e)
+  program_refused e (inl h) = file_refused store (file_of whose) file (λ source. OfSource whose source Rest) e h
+  program_refused e (inr h) = file_comes store (file_of whose) file (λ source. OfSource whose source Rest) h.0 h.1 (Refusal no_names e) (refused e h.2 refl)
 
-  pub program_refusal : (refusal : TheRefusal) → Refuses no_names (ProgramRefuses store file) refusal → Gives (OfProgram Promised store file Rest) (Err refusal)
-  program_refusal refusal h = refusal_gives (OfProgram Promised store file Rest) no_names (ProgramRefuses store file) program_refused refusal h
+  pub program_refusal : (refusal : TheRefusal) → Refuses no_names (ProgramRefuses store whose file) refusal → Gives (OfProgram Promised store whose file Rest) (Err refusal)
+  program_refusal refusal h = refusal_gives (OfProgram Promised store whose file Rest) no_names (ProgramRefuses store whose file) program_refused refusal h
 
-  pub program_goes : (P : Prog) → IsProgram store file P → (r : Result Report TheRefusal) → Gives (Rest P) r → Gives (OfProgram Promised store file Rest) r
-  program_goes P is r h = gives_map (Rest P) (OfProgram Promised store file Rest) (λ a q. file_comes store w.Program file (λ source. OfSource source Rest) is.source is.within a (goes_on P is.typed q)) r h
+  pub program_goes : (P : Prog) → IsProgram store whose file P → (r : Result Report TheRefusal) → Gives (Rest P) r → Gives (OfProgram Promised store whose file Rest) r
+  program_goes P is r h =
+      gives_map (Rest P) (OfProgram Promised store whose file Rest) (λ a q. file_comes store (file_of whose) file (λ source. OfSource whose source Rest) is.source is.within a (goes_on P is.typed q)) r h
+
+-- tables of prices
+module _ (store : Store) (file : Text) (Rest : Prices → Answer → Type 0) where
+  abbrev OfTable : List ℕ → Answer → Type 0
+  OfTable bytes = Step no_names (PricesRefuse bytes) (Spells bytes) (λ table. Rest (prices_in table))
+
+  prices_refused : (e : Ending) → PriceFileRefuses store file e → OfPrices Promised store file Rest (Refusal no_names e)
+  prices_refused e (inl h) = file_refused store w.Prices file OfTable e h
+  prices_refused e (inr h) = file_comes store w.Prices file OfTable h.0 h.1 (Refusal no_names e) (refused e h.2 refl)
+
+  pub prices_refusal : (refusal : TheRefusal) → Refuses no_names (PriceFileRefuses store file) refusal → Gives (OfPrices Promised store file Rest) (Err refusal)
+  prices_refusal refusal h = refusal_gives (OfPrices Promised store file Rest) no_names (PriceFileRefuses store file) prices_refused refusal h
+
+  pub prices_go : (prices : Prices) → ArePrices store file prices → (r : Result Report TheRefusal) → Gives (Rest prices) r → Gives (OfPrices Promised store file Rest) r
+  prices_go prices are r h =
+      gives_map (Rest prices) (OfPrices Promised store file Rest)
+      (λ a q. file_comes store w.Prices file OfTable are.bytes are.within a (goes_on are.table are.spelled (subst (λ p. Rest p a) are.are q))) r h
 
 -- certificates
 module _ (store : Store) (file : Text) (Rest : Certificate → Answer → Type 0) where

@@ -20,11 +20,13 @@ use Rattle.cert_check.specs.Fault as f
 use Rattle.cert_check.specs.Finds as check
 use Rattle.bound_infer.specs.Inferred.{IsInferred, LeavesInCheck, IsVerified, VectorFault, TaskFault}
 use Rattle.analysis_report.specs.Lines.{LinesHold}
-use Rattle.refusals.specs.Ending.{Ending, Certified, Json, Check, NotRefuted, TooLarge, Overflows, OnTask, InCheck}
+use Rattle.analysis_report.specs.Powers.{FirstLeaves}
+use Rattle.refusals.specs.Ending.{Ending, Certified, Json, Check, NotRefuted, TooLarge, Overflows, OnTask, InCheck, InPowers}
 use Rattle.refusals.specs.Line.{no_names}
 use Rattle.raml_top.specs.Outside.{Side, Also, Store}
-use Rattle.raml_top.specs.Steps.{Answer, Step, Test, OfFile, names_of}
+use Rattle.raml_top.specs.Steps.{Answer, Step, Test, RefusedOf, OfFile, names_of}
 use Rattle.refusal_text.specs.declared.plain.Which.TheVariants as w
+use Rattle.refusal_text.specs.declared.task.Analysed.{Analysed}
 
 -- the column that a rule answers for gains
 abbrev pub pick_of : Rule → List ℤ → ℤ → Option ℕ
@@ -56,10 +58,15 @@ pub record IsCourse (side : Side) (P : Prog) (A : Analysis) (c : Certificate) : 
   pub proved : Also side (IsProved P A.program c)
   pub least : Also side (AllLeast A.program c)
 
--- The course of the analysis of a program.
-abbrev pub OfCourse : Side → Prog → Program → ℕ → Rule → (Certificate → Answer → Type 0) → Answer → Type 0
-OfCourse side P N degree rule Rest =
-    Step (names_of P N) (CourseRefuses (analysis N degree rule)) (IsCourse side P (analysis N degree rule)) Rest
+-- The course of the analysis of a program: that of a call, or one to compare it with.
+abbrev pub OfCourse : Side → Analysed → Prog → Program → ℕ → Rule → (Certificate → Answer → Type 0) → Answer → Type 0
+OfCourse side whose P N degree rule Rest =
+    Step (names_of P N) (RefusedOf whose (CourseRefuses (analysis N degree rule))) (IsCourse side P (analysis N degree rule)) Rest
+
+-- Why bounds are not written as powers: the first power form that leaves 128 bits.
+abbrev pub PowersRefuse : Prog → Program → Certificate → Ending → Type 0
+PowersRefuse P N c (Overflows (InPowers f meter)) = FirstLeaves P N c f meter
+PowersRefuse P N c _ = ⊥
 
 -- Why bytes are no certificate.
 abbrev pub TextRefuses : List ℕ → Ending → Type 0

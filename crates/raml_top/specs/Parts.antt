@@ -12,8 +12,13 @@ use Rattle.annot_types.specs.Certificate.{Certificate}
 use Rattle.cert_json.specs.Told.{IsFile}
 use Rattle.refusal_text.specs.declared.plain.Which.{Which}
 use Rattle.refusal_text.specs.declared.plain.Which.TheVariants as w
+use Rattle.refusal_text.specs.declared.task.Analysed.{Analysed}
+use Rattle.price_file.specs.Construct.{Prices}
+use Rattle.price_file.specs.Spelling.{Table, Spells, prices_in}
 use Rattle.analysis_report.specs.declared.bounds.FloorFault.{FloorFault}
 use Rattle.analysis_report.specs.declared.bounds.FloorFault.TheVariants as floor
+use Rattle.analysis_report.specs.declared.powers_fault.PowersFault.{PowersFault}
+use Rattle.analysis_report.specs.declared.powers_fault.PowersFault.TheVariants as powers
 use Rattle.refusals.specs.Ending.{Ending, Usage, ReadFault, TooLong, Source, Types, NoFunction, ending_of}
 use Rattle.refusals.specs.Line.{Names, no_names, line_of}
 use Rattle.refusals.specs.Refusals.{line_text, IsWanting, IsToldOr}
@@ -23,9 +28,10 @@ use Rattle.refusals.specs.declared.status.Status.{Status}
 use Rattle.refusals.specs.declared.status.Status.TheVariants as status
 use Rattle.refusals.specs.declared.status.OverflowAt.TheVariants as overflow
 use Rattle.raml_top.specs.Outside.{Promised, Store, IsRead}
-use Rattle.raml_top.specs.Steps.{Answer, Refusal, most_bytes, SourceRefuses, IsTyped}
+use Rattle.raml_top.specs.Steps.{Answer, Refusal, most_bytes, SourceRefuses, IsTyped, RefusedOf, file_of}
 use Rattle.raml_top.specs.Steps as s
 use Rattle.raml_top.specs.Analysis.{TextRefuses}
+use Rattle.raml_top.specs.Prices.{PricesRefuse}
 use Rattle.raml_top.specs.Call.{Placed, IsNamed, DataRefuses, Limits, Ends}
 use Rattle.raml_words.specs.Words as words
 use Rattle.raml_words.specs.Words.{Request, AsksNothing}
@@ -66,14 +72,26 @@ FileRefuses store which file (TooLong other) =
 FileRefuses store which file _ = ⊥
 
 -- the typed program that a file spells
-pub record IsProgram (store : Store) (file : List ℕ) (P : Prog) : Type 0 where
+pub record IsProgram (store : Store) (whose : Analysed) (file : List ℕ) (P : Prog) : Type 0 where
   pub source : List ℕ
-  pub within : IsShort store w.Program file source
+  pub within : IsShort store (file_of whose) file source
   pub typed : IsTyped source P
 
-abbrev pub ProgramRefuses : Store → List ℕ → Ending → Type 0
-ProgramRefuses store file e =
-    FileRefuses store w.Program file e ⊎ ((source : List ℕ) × IsShort store w.Program file source × SourceRefuses source e)
+abbrev pub ProgramRefuses : Store → Analysed → List ℕ → Ending → Type 0
+ProgramRefuses store whose file e =
+    FileRefuses store (file_of whose) file e ⊎ ((source : List ℕ) × IsShort store (file_of whose) file source × RefusedOf whose (SourceRefuses source) e)
+
+-- the prices that a file tells
+pub record ArePrices (store : Store) (file : List ℕ) (prices : Prices) : Type 0 where
+  pub bytes : List ℕ
+  pub within : IsShort store w.Prices file bytes
+  pub table : Table
+  pub spelled : Spells bytes table
+  pub are : prices ≡ prices_in table
+
+abbrev pub PriceFileRefuses : Store → List ℕ → Ending → Type 0
+PriceFileRefuses store file e =
+    FileRefuses store w.Prices file e ⊎ ((bytes : List ℕ) × IsShort store w.Prices file bytes × PricesRefuse bytes e)
 
 -- the certificate that a file is
 pub record IsCertificateFile (store : Store) (file : List ℕ) (c : Certificate) : Type 0 where
@@ -107,6 +125,11 @@ TypesRefuse P _ = ⊥
 abbrev pub FloorRefusal : FloorFault → TheRefusal → Type 0
 FloorRefusal (floor.Leaves meter) refusal = IsToldOr no_names (status.Overflow (overflow.Point meter)) refusal
 FloorRefusal floor.NoMemory refusal = IsWanting refusal
+
+-- the refusal of a power form that is not worked out
+abbrev pub PowerRefusal : Names → PowersFault → TheRefusal → Type 0
+PowerRefusal names (powers.Leaves fun meter) refusal = IsToldOr names (status.Overflow (overflow.Powers fun meter)) refusal
+PowerRefusal names powers.NoMemory refusal = IsWanting refusal
 
 -- the words stand in these cells for arguments of the function
 pub record HasArguments (P : Prog) (f : Placed) (cells : List Cell) (words : List Word) (args : List Value) : Type 0 where
@@ -162,7 +185,11 @@ DegreeWithin (Some degree) = (1 ≤ degree) × (degree ≤ 4)
 abbrev pub IsWithin : Request → Type 0
 IsWithin (words.Analyse file degree rule) = (1 ≤ degree) × (degree ≤ 4)
 IsWithin (words.Certify file degree rule) = (1 ≤ degree) × (degree ≤ 4)
-IsWithin (words.Run file name data_file steps cells degree) = (steps ≤ 1000000000) × CellsWithin cells × DegreeWithin degree
+IsWithin (words.Run file name input steps cells degree) = (steps ≤ 1000000000) × CellsWithin cells × DegreeWithin degree
+IsWithin (words.Priced file prices degree) = (1 ≤ degree) × (degree ≤ 4)
+IsWithin (words.Spend file prices name input steps cells) = (steps ≤ 1000000000) × CellsWithin cells
+IsWithin (words.Compare file other degree) = (1 ≤ degree) × (degree ≤ 4)
+IsWithin (words.Powers file degree) = (1 ≤ degree) × (degree ≤ 4)
 IsWithin (words.Trial count) = count ≤ 100
 IsWithin request = Unit {0}
 

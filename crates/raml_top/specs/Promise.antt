@@ -16,17 +16,23 @@ use Rattle.report_text.specs.Report.{type_lines}
 use Rattle.report_text.specs.Claims.{lines_text}
 use Rattle.report_text.specs.RunBounds.{run_bound_lines}
 use Rattle.report_text.specs.Trial.{trial_text, trial_function, trial_data, functions_line}
+use Rattle.price_file.specs.Construct.{Prices}
+use Rattle.price_file.specs.Applied.{applied_program}
 use Rattle.analysis_report.specs.Lines.{lines_of, AreLines}
+use Rattle.analysis_report.specs.Comparison.{AreComparisons}
+use Rattle.analysis_report.specs.Powers.{ArePowersFitting, ArePowerLines}
 use Rattle.analysis_report.specs.Floors.{Floors}
-use Rattle.refusals.specs.Ending.{Ending, Usage, Overflows, OnTask, ending_of}
+use Rattle.refusals.specs.Ending.{Ending, Usage, Overflows, OnTask, OfOther, ending_of}
 use Rattle.refusals.specs.Line.{Names, no_names, line_of}
 use Rattle.refusals.specs.declared.status.Status.{Status}
 use Rattle.refusals.specs.declared.status.Status.TheVariants.{WriteFault, NoMemory}
 use Rattle.raml_top.specs.Outside.{Outside, Store, Sink, Side, Promised, Needed, Rises, GainsNothing, Gains, GainsFront}
-use Rattle.raml_top.specs.Steps.{Answer, Report, Refusal, ending_in, Step, Prints, OfShort, OfSource, OfProgram, OfNormal}
-use Rattle.raml_top.specs.Analysis.{OfCourse, OfCertificate, OfCheck}
+use Rattle.raml_top.specs.Steps.{Answer, Report, Refusal, ending_in, Step, Test, Prints, OfShort, OfSource, OfProgram, OfNormal, names_of}
+use Rattle.raml_top.specs.Analysis.{OfCourse, OfCertificate, OfCheck, PowersRefuse}
+use Rattle.raml_top.specs.Prices.{OfPrices, ArePricedLines, Spends}
 use Rattle.raml_top.specs.Call.{Placed, Limits, OfFunction, OfArguments, OfCall, OfFloors, Runs, cells_or}
 use Rattle.refusal_text.specs.declared.plain.Which.TheVariants as which
+use Rattle.refusal_text.specs.declared.task.Analysed.TheVariants as analysed
 
 -- ---- the commands, each of a program
 
@@ -46,10 +52,10 @@ PrintsCertificate side c = Prints side (λ text. text ≡ text_of c ++ codes "\n
 
 -- The lines of the certificate of the course of its analysis, and the certificate.
 abbrev pub Analyses : Side → ℕ → Rule → Prog → Answer → Type 0
-Analyses side degree rule P = OfNormal P (λ N. OfCourse side P N degree rule (λ c. PrintsLines side P N c))
+Analyses side degree rule P = OfNormal P (λ N. OfCourse side analysed.Program P N degree rule (λ c. PrintsLines side P N c))
 
 abbrev pub Certifies : Side → ℕ → Rule → Prog → Answer → Type 0
-Certifies side degree rule P = OfNormal P (λ N. OfCourse side P N degree rule (λ c. PrintsCertificate side c))
+Certifies side degree rule P = OfNormal P (λ N. OfCourse side analysed.Program P N degree rule (λ c. PrintsCertificate side c))
 
 -- The lines of a certificate that is read.
 abbrev pub Verifies : Side → Store → Text → Prog → Answer → Type 0
@@ -68,11 +74,39 @@ RunsBounded side P f args steps cells floors =
     Runs side P f args (record { steps = steps; cells = cells_or cells (floors Cells) }) [] (bound_lines floors)
 
 abbrev pub BoundedCall : Side → ℕ → Option ℕ → ℕ → Prog → Placed → List Value → Answer → Type 0
-BoundedCall side steps cells degree P f args = OfNormal P (λ N. OfCourse side P N degree rule.Least (λ c.
+BoundedCall side steps cells degree P f args = OfNormal P (λ N. OfCourse side analysed.Program P N degree rule.Least (λ c.
     OfFloors side P N c f args (λ floors. RunsBounded side P f args steps cells floors)))
 
 abbrev pub RunsWithBounds : Side → Store → Text → Text → ℕ → Option ℕ → ℕ → Prog → Answer → Type 0
 RunsWithBounds side store name file steps cells degree P = OfCall side store P name file (λ f args. BoundedCall side steps cells degree P f args)
+
+-- The lines of ticks of a program under a table of prices; and a run of it, whose ticks are its cost under the prices.
+abbrev pub PricesLines : Side → ℕ → Prog → Prices → Answer → Type 0
+PricesLines side degree P prices = OfNormal (applied_program prices P) (λ N.
+    OfCourse side analysed.Program (applied_program prices P) N degree rule.Least (λ c. Prints side (ArePricedLines prices P N c)))
+
+abbrev pub PricesProgram : Side → Store → Text → ℕ → Prog → Answer → Type 0
+PricesProgram side store file degree P = OfPrices side store file (PricesLines side degree P)
+
+abbrev pub SpendsWithin : Side → Store → Text → Text → Text → Limits → Prog → Answer → Type 0
+SpendsWithin side store file name input limits P =
+    OfPrices side store file (λ prices. OfCall side store P name input (λ f args. Spends side prices P f args limits))
+
+-- How the bounds of a program stand to those of another. The program is analysed before the other is read.
+abbrev pub ComparesWith : Side → ℕ → Prog → Program → Certificate → Prog → Answer → Type 0
+ComparesWith side degree P N c Q = OfNormal Q (λ M.
+    OfCourse side analysed.Other Q M degree rule.Least (λ e. Prints side (AreComparisons P N c Q M e)))
+
+abbrev pub Compares : Side → Store → Text → ℕ → Prog → Answer → Type 0
+Compares side store file degree P = OfNormal P (λ N. OfCourse side analysed.Program P N degree rule.Least (λ c.
+    OfProgram side store analysed.Other file (ComparesWith side degree P N c)))
+
+-- The bounds of flat functions as powers of element counts.
+abbrev pub PrintsPowers : Side → Prog → Program → Certificate → Answer → Type 0
+PrintsPowers side P N c = Test (names_of P N) (PowersRefuse P N c) (ArePowersFitting P N c) (Prints side (ArePowerLines P N c))
+
+abbrev pub ShowsPowers : Side → ℕ → Prog → Answer → Type 0
+ShowsPowers side degree P = OfNormal P (λ N. OfCourse side analysed.Program P N degree rule.Least (PrintsPowers side P N))
 
 -- Of a made program: how many functions it has, the lines of the last one, and its run.
 abbrev pub RunsTrial : Side → ℕ → Prog → Program → Certificate → Placed → List Value → Answer → Type 0
@@ -84,20 +118,25 @@ TriesCall side count P N c =
     OfFunction P (trial_function count) (λ f. OfArguments trial_data f.1 (λ args. RunsTrial side count P N c f args))
 
 abbrev pub Tries : Side → ℕ → Prog → Answer → Type 0
-Tries side count P = OfNormal P (λ N. OfCourse side P N 1 rule.Least (λ c. TriesCall side count P N c))
+Tries side count P = OfNormal P (λ N. OfCourse side analysed.Program P N 1 rule.Least (λ c. TriesCall side count P N c))
 
 -- what a request asks for
 abbrev pub Answers : Side → Store → Request → Answer → Type 0
-Answers side store (w.Types file) = OfProgram side store file (ListsTypes side)
-Answers side store (w.Code file) = OfProgram side store file (ListsCode side)
-Answers side store (w.Analyse file degree rule) = OfProgram side store file (Analyses side degree rule)
-Answers side store (w.Certify file degree rule) = OfProgram side store file (Certifies side degree rule)
-Answers side store (w.Verify file certificate) = OfProgram side store file (Verifies side store certificate)
-Answers side store (w.Run file name data_file steps cells None) =
-    OfProgram side store file (RunsWithin side store name data_file (record { steps = steps; cells = cells_or cells None }))
-Answers side store (w.Run file name data_file steps cells (Some degree)) =
-    OfProgram side store file (RunsWithBounds side store name data_file steps cells degree)
-Answers side store (w.Trial count) = OfShort which.Program (trial_text count) (OfSource (trial_text count) (Tries side count))
+Answers side store (w.Types file) = OfProgram side store analysed.Program file (ListsTypes side)
+Answers side store (w.Code file) = OfProgram side store analysed.Program file (ListsCode side)
+Answers side store (w.Analyse file degree rule) = OfProgram side store analysed.Program file (Analyses side degree rule)
+Answers side store (w.Certify file degree rule) = OfProgram side store analysed.Program file (Certifies side degree rule)
+Answers side store (w.Verify file certificate) = OfProgram side store analysed.Program file (Verifies side store certificate)
+Answers side store (w.Run file name input steps cells None) =
+    OfProgram side store analysed.Program file (RunsWithin side store name input (record { steps = steps; cells = cells_or cells None }))
+Answers side store (w.Run file name input steps cells (Some degree)) =
+    OfProgram side store analysed.Program file (RunsWithBounds side store name input steps cells degree)
+Answers side store (w.Priced file prices degree) = OfProgram side store analysed.Program file (PricesProgram side store prices degree)
+Answers side store (w.Spend file prices name input steps cells) =
+    OfProgram side store analysed.Program file (SpendsWithin side store prices name input (record { steps = steps; cells = cells_or cells None }))
+Answers side store (w.Compare file other degree) = OfProgram side store analysed.Program file (Compares side store other degree)
+Answers side store (w.Powers file degree) = OfProgram side store analysed.Program file (ShowsPowers side degree)
+Answers side store (w.Trial count) = OfShort which.Program (trial_text count) (OfSource analysed.Program (trial_text count) (Tries side count))
 
 -- what words ask for
 abbrev pub WordsAnswer : Side → List Text → Store → Answer → Type 0
@@ -129,6 +168,7 @@ Cause o status = LacksMemory o status ⊎ ((a : Answer) × Comes Promised o a ×
 -- The same ending. Where several numbers are refused at once any one of them may be told: then it is the same task, and the same kind of place.
 abbrev pub Alike : Ending → Ending → Type 0
 Alike (Overflows (OnTask task place)) (Overflows (OnTask other last)) = (task ≡ other) × (stage place ≡ stage last)
+Alike (OfOther e) (OfOther other) = Alike e other
 Alike e other = e ≡ other
 
 abbrev pub EndsAlike : Ending → Status → Type 0

@@ -7,11 +7,13 @@ use Rattle.simple_types.specs.Walk.{walk_program}
 use Rattle.call_groups.specs.Groups.{Grouping, IsGrouping}
 use Rattle.rules_soundness_laws.specs.Laws.{normal_of}
 use Rattle.annot_types.specs.Program.{Program}
-use Rattle.refusals.specs.Ending.{Ending, Done, ReadFault, TooLong, Source, Parse, Types}
+use Rattle.refusals.specs.Ending.{Ending, Done, ReadFault, TooLong, Source, Parse, Types, OfOther}
 use Rattle.refusals.specs.Line.{Names, no_names}
 use Rattle.raml_top.specs.Outside.{Side, Also, Store, IsRead}
 use Rattle.refusal_text.specs.declared.plain.Which.{Which}
 use Rattle.refusal_text.specs.declared.plain.Which.TheVariants as w
+use Rattle.refusal_text.specs.declared.task.Analysed.{Analysed}
+use Rattle.refusal_text.specs.declared.task.Analysed.TheVariants as a
 
 -- What a call answers: a report, which ends so, or a refusal.
 pub data Answer : Type 0 where
@@ -41,6 +43,8 @@ abbrev pub most_bytes : Which → ℕ
 most_bytes w.Program = 1048576
 most_bytes w.Data = 4194304
 most_bytes w.Certificate = 16777216
+most_bytes w.Prices = 1048576
+most_bytes w.Other = 1048576
 
 abbrev pub IsTooLong : Which → List ℕ → Type 0
 IsTooLong which bytes = suc (most_bytes which) ≤ length bytes
@@ -69,13 +73,23 @@ pub record IsTyped (source : List ℕ) (P : Prog) : Type 0 where
   pub spelled : spelling.Spells source P
   pub typed : types.Typed P
 
+-- The program of a call, or one to compare it with: what refuses that one is what would refuse the program.
+abbrev pub RefusedOf : Analysed → (Ending → Type 0) → Ending → Type 0
+RefusedOf a.Program Refuses e = Refuses e
+RefusedOf a.Other Refuses (OfOther e) = Refuses e
+RefusedOf a.Other Refuses _ = ⊥
+
+abbrev pub file_of : Analysed → Which
+file_of a.Program = w.Program
+file_of a.Other = w.Other
+
 -- A source spells a typed program.
-abbrev pub OfSource : List ℕ → (Prog → Answer → Type 0) → Answer → Type 0
-OfSource source Rest = Step no_names (SourceRefuses source) (IsTyped source) Rest
+abbrev pub OfSource : Analysed → List ℕ → (Prog → Answer → Type 0) → Answer → Type 0
+OfSource whose source Rest = Step no_names (RefusedOf whose (SourceRefuses source)) (IsTyped source) Rest
 
 -- A file does.
-abbrev pub OfProgram : Side → Store → Text → (Prog → Answer → Type 0) → Answer → Type 0
-OfProgram side store file Rest = OfFile side store w.Program file (λ source. OfSource source Rest)
+abbrev pub OfProgram : Side → Store → Analysed → Text → (Prog → Answer → Type 0) → Answer → Type 0
+OfProgram side store whose file Rest = OfFile side store (file_of whose) file (λ source. OfSource whose source Rest)
 
 -- The normal form of a program, with the groups of its functions.
 pub record OfNormal (P : Prog) (Rest : Program → Answer → Type 0) (a : Answer) : Type 0 where

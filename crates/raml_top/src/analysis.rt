@@ -3,7 +3,6 @@ ghost use Rattle.std.specs.Prelude.{◌≡◌, ◌≤◌, length, IfOk, IfErr};
 ghost use Rattle.raml_syntax.specs.Read.{program_of};
 ghost use Rattle.rules_soundness_laws.specs.Laws.{normal_of};
 ghost use Rattle.call_groups.specs.Groups.{IsGrouping};
-ghost use Rattle.infer_spec.specs.Generator.{Analysis};
 ghost use Rattle.infer_spec.specs.Good.{AllLeast};
 ghost use Rattle.infer_systems_laws.specs.Analysed.{analysis_of};
 ghost use Rattle.share_normal.specs.Program.{source_in};
@@ -12,6 +11,7 @@ ghost use Rattle.simplex_checked.specs.Rules.{least_pick, greatest_pick};
 ghost use Rattle.bound_infer.specs.Inferred.{IsInferred, InferCause};
 ghost use Rattle.refusals.specs.Refusals.{names_in};
 ghost use Rattle.raml_top.specs.Analysis.{analysis, CourseRefuses, IsProved};
+ghost use Rattle.raml_top.specs.Steps.{RefusedOf};
 ghost use Rattle.raml_top.specs.Parts.{Refuses};
 
 use bound_infer::{InferFault, Verified, infer};
@@ -19,7 +19,8 @@ use call_groups::group_calls;
 use frac128::Frac;
 use infer_spec::laws::lines_tell;
 use raml_words::Rule;
-use refusals::{Refusal, overflow, too_large};
+use refusal_text::Analysed;
+use refusals::{Refusal, course_refusal};
 use rules_soundness_laws::laws::lines_are_true;
 use share_normal::{NormProgram, normalise};
 use simple_types::Typed;
@@ -43,6 +44,7 @@ pub fn normal_form<'a>(alloc: Global, typed: &'a Typed) -> Result<NormProgram<'a
 /// The certificate of the course of its analysis, by the rule.
 pub fn analyse<'p, 'a>(
     alloc: Global,
+    whose: Analysed,
     program: &'p NormProgram<'a>,
     degree: u8,
     rule: Rule,
@@ -53,14 +55,14 @@ pub fn analyse<'p, 'a>(
     ensures course { IfOk result (λ verified. IsInferred (analysis (program_in program.now) degree rule) verified.certificate) }
     ensures least { IfOk result (λ verified. AllLeast (program_in program.now) verified.certificate) }
     ensures proved { IfOk result (λ verified. IsProved (source_in program.now) (program_in program.now) verified.certificate) }
-    ensures err { IfErr result (Refuses (names_in program.now) (CourseRefuses (analysis (program_in program.now) degree rule))) }
+    ensures err { IfErr result (Refuses (names_in program.now) (RefusedOf whose (CourseRefuses (analysis (program_in program.now) degree rule)))) }
 {
     match by_rule(alloc, program, degree, rule) {
         Ok(verified) => {
             proved(program, &verified);
             Ok(verified)
         }
-        Err(fault) => Err(course_refusal(alloc, program, fault)),
+        Err(fault) => Err(course_refusal(alloc, whose, program, fault)),
     }
 }
 
@@ -128,15 +130,4 @@ fn by_greatest<'p, 'a>(
 {
     let chooser = Chooser::new(|gains: &[Frac]| greatest_column(gains));
     infer(alloc, program, degree, &chooser)
-}
-
-// Why the course has no certificate.
-fn course_refusal(alloc: Global, program: &NormProgram<'_>, fault: InferFault) -> Refusal
-    ensures { (A : Analysis) → InferCause A fault → Refuses (names_in program.now) (CourseRefuses A) result }
-{
-    match fault {
-        InferFault::TooLarge { task, what } => too_large(alloc, program, task, what),
-        InferFault::Leaves(at) => overflow(alloc, program, at),
-        InferFault::NoMemory => Refusal::no_memory(),
-    }
 }

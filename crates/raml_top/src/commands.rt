@@ -8,21 +8,23 @@ ghost use Rattle.stack_compile.specs.Text.{code_text};
 ghost use Rattle.annot_types.specs.Certificate as c;
 ghost use Rattle.annot_types.specs.Read.{certificate_of};
 ghost use Rattle.cert_json.specs.Told.{text_of};
-ghost use Rattle.refusals.specs.Refusals.{IsWanting};
+ghost use Rattle.refusals.specs.Refusals.{IsWanting, names_in};
 ghost use Rattle.raml_top.specs.Outside.{Promised, store_of};
 ghost use Rattle.raml_top.specs.Analysis.{OfCourse, OfCheck};
-ghost use Rattle.raml_top.specs.Promise.{ListsTypes, ListsCode, PrintsLines, PrintsCertificate, Analyses, Certifies, Verifies};
-ghost use Rattle.raml_top.specs.Parts.{Before, IsReady, Gives};
+ghost use Rattle.raml_top.specs.Promise.{ListsTypes, ListsCode, PrintsLines, PrintsCertificate, PrintsPowers, Analyses, Certifies, ShowsPowers, Verifies};
+ghost use Rattle.raml_words.specs.declared.request.Rule.TheVariants as rule;
+ghost use Rattle.raml_top.specs.Parts.{Before, IsReady, Gives, PowerRefusal};
 
 use crate::analysis::{analyse, normal_form};
 use crate::verification::{read_certificate, verified};
-use analysis_report::lines;
+use analysis_report::{PowersFault, lines, power_lines};
 use annot_types::Certificate;
 use bound_infer::Verified;
 use cert_json::write;
 use raml_io::Store;
 use raml_words::Rule;
-use refusals::{Refusal, Report, Status};
+use refusal_text::Analysed;
+use refusals::{Refusal, Report, Status, powers_refusal};
 use report_text::type_lines;
 use share_normal::NormProgram;
 use simple_types::Typed;
@@ -84,10 +86,10 @@ fn course_lines(
 ) -> Result<Report, Refusal>
     requires least_degree { 1 ≤ degree }
     requires most_degree { degree ≤ 4 }
-    ensures { Gives (OfCourse Promised (source_in program.now) (program_in program.now) degree rule
+    ensures { Gives (OfCourse Promised Analysed.Program (source_in program.now) (program_in program.now) degree rule
         (λ c. PrintsLines Promised (source_in program.now) (program_in program.now) c)) result }
 {
-    match analyse(alloc, program, degree, rule) {
+    match analyse(alloc, Analysed::Program, program, degree, rule) {
         Ok(verified) => line_report(alloc, program, &verified),
         Err(refusal) => Err(refusal),
     }
@@ -134,9 +136,9 @@ fn course_certificate(
 ) -> Result<Report, Refusal>
     requires least_degree { 1 ≤ degree }
     requires most_degree { degree ≤ 4 }
-    ensures { Gives (OfCourse Promised (source_in program.now) (program_in program.now) degree rule (λ c. PrintsCertificate Promised c)) result }
+    ensures { Gives (OfCourse Promised Analysed.Program (source_in program.now) (program_in program.now) degree rule (λ c. PrintsCertificate Promised c)) result }
 {
-    match analyse(alloc, program, degree, rule) {
+    match analyse(alloc, Analysed::Program, program, degree, rule) {
         Ok(verified) => certificate_report(alloc, verified.certificate()),
         Err(refusal) => Err(refusal),
     }
@@ -161,6 +163,58 @@ fn certificate_text(alloc: Global, certificate: &Certificate) -> Result<Vec<u8>,
     let mut bytes = write(alloc, certificate)?;
     bytes.push(b'\n')?;
     Ok(bytes)
+}
+
+/// The bounds of flat functions in the certificate of its course, as powers.
+pub fn analysis_powers(alloc: Global, typed: &Typed, degree: u8) -> Result<Report, Refusal>
+    requires ready { IsReady (program_of typed.now) }
+    requires least_degree { 1 ≤ degree }
+    requires most_degree { degree ≤ 4 }
+    ensures { Gives (ShowsPowers Promised degree (program_of typed.now)) result }
+{
+    match normal_form(alloc, typed) {
+        Ok(program) => course_powers(alloc, &program, degree),
+        Err(_) => Err(Refusal::no_memory()),
+    }
+}
+
+fn course_powers(
+    alloc: Global,
+    program: &NormProgram<'_>,
+    degree: u8,
+) -> Result<Report, Refusal>
+    requires least_degree { 1 ≤ degree }
+    requires most_degree { degree ≤ 4 }
+    ensures { Gives (OfCourse Promised Analysed.Program (source_in program.now) (program_in program.now) degree rule.Least
+        (PrintsPowers Promised (source_in program.now) (program_in program.now))) result }
+{
+    match analyse(alloc, Analysed::Program, program, degree, Rule::Least) {
+        Ok(verified) => power_report(alloc, program, &verified),
+        Err(refusal) => Err(refusal),
+    }
+}
+
+fn power_report(
+    alloc: Global,
+    program: &NormProgram<'_>,
+    verified: &Verified<'_, '_>,
+) -> Result<Report, Refusal>
+    requires { verified.now.program ≡ program.now }
+    ensures { Gives (PrintsPowers Promised (source_in program.now) (program_in program.now) verified.now.certificate) result }
+{
+    match power_lines(alloc, program, verified) {
+        Ok(text) => Ok(Report::done(text)),
+        Err(fault) => Err(power_refusal(alloc, program, fault)),
+    }
+}
+
+fn power_refusal(alloc: Global, program: &NormProgram<'_>, fault: PowersFault) -> Refusal
+    ensures { PowerRefusal (names_in program.now) fault result }
+{
+    match fault {
+        PowersFault::Leaves { fun, meter } => powers_refusal(alloc, program, fun, meter),
+        PowersFault::NoMemory => Refusal::no_memory(),
+    }
 }
 
 /// The lines of the certificate in a file.

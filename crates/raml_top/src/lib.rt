@@ -4,7 +4,10 @@
 mod analysis;
 mod call;
 mod commands;
+mod comparison;
 mod file;
+mod prices;
+mod requests;
 mod run;
 mod runs;
 mod source;

@@ -33,7 +33,7 @@ pub fn execute(
     args: Vec<Word>,
     limits: Limits,
 ) -> Result<Report, Refusal>
-    requires few_nodes { program_nodes (program_of typed.now) ≤ 1048576 }
+    requires few_nodes { program_nodes (program_of typed.now) ≤ 2097152 }
     requires steps { limits.steps ≤ 1000000000 }
     requires cells { limits.cells ≤ 16777216 }
     requires arguments { (f : Placed) × (vs : List Value) × (f.0 ≡ place.0) × HasArguments (program_of typed.now) f heap.cells args.items vs }

@@ -2,6 +2,7 @@
 ghost use Rattle.std.specs.Prelude.{◌≡◌, ◌≤◌, ◌++◌, ℕ, List, [], None, true, IfOk, IfErr};
 ghost use Rattle.raml_syntax.specs.Tree.{Text};
 ghost use Rattle.raml_syntax.specs.Value.{Value};
+ghost use Rattle.raml_syntax.specs.Node.{program_nodes};
 ghost use Rattle.raml_syntax.specs.Read.{program_of};
 ghost use Rattle.rules_plan.specs.Read.{program_in};
 ghost use Rattle.share_normal.specs.Program.{source_in};
@@ -23,6 +24,7 @@ use analysis_report::{FloorFault, Floors, floors_at};
 use bound_infer::Verified;
 use raml_io::Store;
 use raml_words::Rule;
+use refusal_text::Analysed;
 use refusals::{Refusal, Report, point_refusal};
 use report_text::push_run_bounds;
 use share_normal::NormProgram;
@@ -54,14 +56,15 @@ pub fn run_within<S: Store>(
     }
 }
 
-fn limited_call(
+/// A call within limits.
+pub fn limited_call(
     alloc: Global,
     typed: &Typed,
     call: Call,
     steps: u64,
     cells: Option<u32>,
 ) -> Result<Report, Refusal>
-    requires ready { IsReady (program_of typed.now) }
+    requires few_nodes { program_nodes (program_of typed.now) ≤ 2097152 }
     requires steps { steps ≤ 1000000000 }
     requires cells { CellsWithin cells }
     requires call { (f : Placed) × (vs : List Value) × IsCallOf (program_of typed.now) f call vs }
@@ -143,10 +146,10 @@ fn course_call(
     requires most_degree { degree ≤ 4 }
     requires call { (f : Placed) × (vs : List Value) × IsCallOf (program_of typed.now) f call vs }
     ensures { (f : Placed) (vs : List Value) → IsCallOf (program_of typed.now) f call vs →
-        Gives (OfCourse Promised (program_of typed.now) (program_in program.now) degree rule.Least
+        Gives (OfCourse Promised Analysed.Program (program_of typed.now) (program_in program.now) degree rule.Least
         (λ c. OfFloors Promised (program_of typed.now) (program_in program.now) c f vs (λ floors. RunsBounded Promised (program_of typed.now) f vs steps cells floors))) result }
 {
-    match analyse(alloc, program, degree, Rule::Least) {
+    match analyse(alloc, Analysed::Program, program, degree, Rule::Least) {
         Ok(verified) => floors_call(alloc, typed, &verified, call, steps, cells),
         Err(refusal) => Err(refusal),
     }

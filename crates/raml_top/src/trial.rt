@@ -25,7 +25,7 @@ use analysis_report::function_lines;
 use bound_infer::Verified;
 use raml_syntax::FunId;
 use raml_words::Rule;
-use refusal_text::Which;
+use refusal_text::{Analysed, Which};
 use refusals::{Refusal, Report};
 use report_text::{functions_line, trial_data, trial_function, trial_source};
 use share_normal::NormProgram;
@@ -34,7 +34,7 @@ use std::alloc::{AllocError, Global};
 
 /// Analyses the made program with so many functions of each kind, and runs the last of them.
 pub fn trial(alloc: Global, count: u32) -> Result<Report, Refusal>
-    ensures { Gives (OfShort which.Program (t.trial_text count) (OfSource (t.trial_text count) (Tries Promised count))) result }
+    ensures { Gives (OfShort which.Program (t.trial_text count) (OfSource Analysed.Program (t.trial_text count) (Tries Promised count))) result }
 {
     match trial_source(alloc, count) {
         Ok(source) => try_source(alloc, source.as_bytes(), count),
@@ -43,12 +43,12 @@ pub fn trial(alloc: Global, count: u32) -> Result<Report, Refusal>
 }
 
 fn try_source(alloc: Global, source: &[u8], count: u32) -> Result<Report, Refusal>
-    ensures { Gives (OfShort which.Program source.now (OfSource source.now (Tries Promised count))) result }
+    ensures { Gives (OfShort which.Program source.now (OfSource Analysed.Program source.now (Tries Promised count))) result }
 {
     if source.len() as u64 > most_bytes(Which::Program) {
         return Err(Refusal::too_long(Which::Program));
     }
-    match typed_program(alloc, source) {
+    match typed_program(alloc, Analysed::Program, source) {
         Ok(typed) => try_program(alloc, &typed, count),
         Err(refusal) => Err(refusal),
     }
@@ -72,10 +72,10 @@ fn try_course(
 ) -> Result<Report, Refusal>
     requires ready { IsReady (program_of typed.now) }
     requires source { program.now.source ≡ typed.now }
-    ensures { Gives (OfCourse Promised (program_of typed.now) (program_in program.now) 1 rule.Least
+    ensures { Gives (OfCourse Promised Analysed.Program (program_of typed.now) (program_in program.now) 1 rule.Least
         (λ c. TriesCall Promised count (program_of typed.now) (program_in program.now) c)) result }
 {
-    match analyse(alloc, program, 1, Rule::Least) {
+    match analyse(alloc, Analysed::Program, program, 1, Rule::Least) {
         Ok(verified) => try_function(alloc, typed, &verified, count),
         Err(refusal) => Err(refusal),
     }

@@ -8,6 +8,7 @@ use Rattle.cert_json.specs.declared.whole.Place.{Place}
 use Rattle.cert_json.specs.declared.whole.Place.TheVariants.{Head, Block}
 use Rattle.cert_check.specs.Fault.{Fault, Shape, Fails, Leaves, TooLarge}
 use Rattle.refusal_text.specs.Tasks.{too_large_line}
+use Rattle.refusal_text.specs.declared.task.Analysed.TheVariants as analysed
 use Rattle.refusal_text.specs.Places.{condition_text, check_line}
 
 abbrev pub part_text : Place → Text
@@ -41,5 +42,5 @@ abbrev pub certificate_line : Prog → List (List ℕ) → Option Fault → Text
 certificate_line P groups None = []
 certificate_line P groups (Some (Shape block)) = shape_line block
 certificate_line P groups (Some (Fails block path index)) = fails_line block path index
-certificate_line P groups (Some (Leaves block path index)) = check_line block path index
-certificate_line P groups (Some (TooLarge task)) = too_large_line P groups task Indices
+certificate_line P groups (Some (Leaves block path index)) = check_line analysed.Program block path index
+certificate_line P groups (Some (TooLarge task)) = too_large_line analysed.Program P groups task Indices

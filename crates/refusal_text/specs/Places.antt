@@ -3,8 +3,9 @@ use Rattle.std.specs.Prelude.{ℕ, List, [], ◌∷◌, ◌++◌, codes, decimal
 use Rattle.raml_syntax.specs.Tree.{Text, Prog}
 use Rattle.cost_free.specs.Task.{Task}
 use Rattle.cost_free.specs.declared.task.Meter.{Meter}
-use Rattle.report_text.specs.Names.{meter_text}
-use Rattle.refusal_text.specs.Tasks.{task_text}
+use Rattle.report_text.specs.Names.{name_at, meter_text}
+use Rattle.refusal_text.specs.Tasks.{head, task_text}
+use Rattle.refusal_text.specs.declared.task.Analysed.{Analysed}
 
 -- the numbers, with a point before each
 abbrev pub steps_text : List ℕ → Text
@@ -21,24 +22,28 @@ abbrev pub condition_text : List ℕ → ℕ → Text
 condition_text path index = path_text path ++ codes " index " ++ decimal index
 
 -- in the check of a certificate: in a condition of a block
-abbrev pub check_line : ℕ → List ℕ → ℕ → Text
-check_line block path index = codes "raml: overflow: check block " ++ decimal block ++ codes " at " ++ condition_text path index ++ codes "\n"
+abbrev pub check_line : Analysed → ℕ → List ℕ → ℕ → Text
+check_line whose block path index = head whose ++ codes "overflow: check block " ++ decimal block ++ codes " at " ++ condition_text path index ++ codes "\n"
 
 -- at the data, in the bound of a meter
 abbrev pub point_line : Meter → Text
 point_line meter = codes "raml: overflow: point " ++ meter_text meter ++ codes "\n"
 
+-- in the power form of a bound of the function at this place
+abbrev pub powers_line : Prog → ℕ → Meter → Text
+powers_line P f meter = codes "raml: overflow: powers " ++ name_at P f ++ codes " " ++ meter_text meter ++ codes "\n"
+
 -- Of a program with these groups.
-module _ (P : Prog) (groups : List (List ℕ)) where
+module _ (whose : Analysed) (P : Prog) (groups : List (List ℕ)) where
   -- what is done for the task, and the place there: a word and a number
   abbrev pub place_line : Text → Task → Text → ℕ → Text
   place_line deed task place number =
-      codes "raml: overflow: " ++ deed ++ codes " " ++ task_text P groups task ++ codes " " ++ place ++ codes " " ++ decimal number ++ codes "\n"
+      head whose ++ codes "overflow: " ++ deed ++ codes " " ++ task_text P groups task ++ codes " " ++ place ++ codes " " ++ decimal number ++ codes "\n"
 
   -- in solving the system, after so many pivots, in this row and column of the tableau
   abbrev pub solve_line : Task → ℕ → ℕ → ℕ → Text
   solve_line task pivots row column =
-      codes "raml: overflow: solve " ++ task_text P groups task ++ codes " pivots " ++ decimal pivots ++ codes " row " ++ decimal row ++ codes " column "
+      head whose ++ codes "overflow: solve " ++ task_text P groups task ++ codes " pivots " ++ decimal pivots ++ codes " row " ++ decimal row ++ codes " column "
       ++ decimal column ++ codes "\n"
 
   -- in this row of the system

@@ -2,7 +2,7 @@
 use Rattle.std.specs.Prelude.{codes}
 use Rattle.raml_syntax.specs.Tree.{Text}
 use Rattle.refusal_text.specs.declared.plain.Which.{Which}
-use Rattle.refusal_text.specs.declared.plain.Which.TheVariants.{Program, Data, Certificate}
+use Rattle.refusal_text.specs.declared.plain.Which.TheVariants.{Program, Data, Certificate, Prices, Other}
 
 abbrev pub usage_line : Text
 usage_line = codes "raml: usage\n"
@@ -12,12 +12,16 @@ abbrev pub unread_line : Which → Text
 unread_line Program = codes "raml: cannot read program\n"
 unread_line Data = codes "raml: cannot read data\n"
 unread_line Certificate = codes "raml: cannot read certificate\n"
+unread_line Prices = codes "raml: cannot read prices\n"
+unread_line Other = codes "raml: cannot read other\n"
 
 -- the file has too many bytes
 abbrev pub too_long_line : Which → Text
 too_long_line Program = codes "raml: too long: program\n"
 too_long_line Data = codes "raml: too long: data\n"
 too_long_line Certificate = codes "raml: too long: certificate\n"
+too_long_line Prices = codes "raml: too long: prices\n"
+too_long_line Other = codes "raml: too long: other\n"
 
 abbrev pub no_function_line : Text
 no_function_line = codes "raml: no function\n"

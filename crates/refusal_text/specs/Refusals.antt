@@ -44,6 +44,10 @@ source_text («Type» fault) = fault_text (fault_of fault)
 abbrev pub source_line : SourceFault → Text
 source_line fault = codes "raml: source: " ++ source_text fault ++ codes "\n"
 
+-- of the source of a program to compare with
+abbrev pub other_source_line : SourceFault → Text
+other_source_line fault = codes "raml: other source: " ++ source_text fault ++ codes "\n"
+
 -- the first fault of data; want of memory is none
 abbrev pub data_text : DataFault → Text
 data_text (d.NotUtf8 at) = placed (codes "not utf-8") at.0

@@ -6,6 +6,8 @@ use Rattle.cost_free.specs.Blocked.{row}
 use Rattle.constraint_gen.specs.declared.fault.What.{What}
 use Rattle.constraint_gen.specs.declared.fault.What.TheVariants.{Indices, Unknowns, Rows}
 use Rattle.report_text.specs.Names.{name_at, meter_text}
+use Rattle.refusal_text.specs.declared.task.Analysed.{Analysed}
+use Rattle.refusal_text.specs.declared.task.Analysed.TheVariants.{Program, Other}
 
 -- the name of the first of these functions; no group is empty
 abbrev pub first_name : Prog → List ℕ → Text
@@ -31,5 +33,10 @@ what_text Indices = codes "indices"
 what_text Unknowns = codes "unknowns"
 what_text Rows = codes "rows"
 
-abbrev pub too_large_line : Prog → List (List ℕ) → Task → What → Text
-too_large_line P groups task what = codes "raml: too large: " ++ task_text P groups task ++ codes ": " ++ what_text what ++ codes "\n"
+-- how a line begins that tells of the analysis of a program, and of that of one to compare with
+abbrev pub head : Analysed → Text
+head Program = codes "raml: "
+head Other = codes "raml: other: "
+
+abbrev pub too_large_line : Analysed → Prog → List (List ℕ) → Task → What → Text
+too_large_line whose P groups task what = head whose ++ codes "too large: " ++ task_text P groups task ++ codes ": " ++ what_text what ++ codes "\n"

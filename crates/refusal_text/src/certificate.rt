@@ -7,7 +7,7 @@ ghost use Rattle.refusal_text.specs.Certificates as c;
 ghost use Rattle.refusal_text.specs.Certificates.{part_text, json_text};
 
 use crate::places::{check_line, push_condition, push_counted};
-use crate::task::too_large_line;
+use crate::task::{Analysed, too_large_line};
 use cert_check::CertFault;
 use cert_json::{JsonFault, Place};
 use constraint_gen::What;
@@ -68,10 +68,10 @@ pub fn certificate_line(
             fails_line(alloc, *block, path.as_slice(), *index)
         }
         CertFault::Leaves { block, path, index } => {
-            check_line(alloc, *block, path.as_slice(), *index)
+            check_line(alloc, Analysed::Program, *block, path.as_slice(), *index)
         }
         CertFault::TooLarge { task } => {
-            too_large_line(alloc, program, groups, task, What::Indices)
+            too_large_line(alloc, Analysed::Program, program, groups, task, What::Indices)
         }
         CertFault::NoMemory => Ok(String::new(alloc)),
     }

@@ -8,6 +8,9 @@ pub enum Which {
     Program,
     Data,
     Certificate,
+    Prices,
+    /// The program that another is compared with.
+    Other,
 }
 
 /// The words are refused.
@@ -25,6 +28,8 @@ pub fn unread_line(which: Which) -> &'static str
         Which::Program => "raml: cannot read program\n",
         Which::Data => "raml: cannot read data\n",
         Which::Certificate => "raml: cannot read certificate\n",
+        Which::Prices => "raml: cannot read prices\n",
+        Which::Other => "raml: cannot read other\n",
     }
 }
 
@@ -36,6 +41,8 @@ pub fn too_long_line(which: Which) -> &'static str
         Which::Program => "raml: too long: program\n",
         Which::Data => "raml: too long: data\n",
         Which::Certificate => "raml: too long: certificate\n",
+        Which::Prices => "raml: too long: prices\n",
+        Which::Other => "raml: too long: other\n",
     }
 }
 

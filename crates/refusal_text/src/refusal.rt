@@ -1,7 +1,7 @@
 // The lines of a source and of data that are refused.
 ghost use Rattle.std.specs.Prelude.{◌≡◌, ◌++◌, OnOk, IfOk, string_bytes, decimal};
 ghost use Rattle.simple_types.specs.Read.{fault_of};
-ghost use Rattle.refusal_text.specs.Refusals.{source_line, data_line, placed, parse_text, data_text, fault_text};
+ghost use Rattle.refusal_text.specs.Refusals.{source_line, other_source_line, source_text, data_line, placed, parse_text, data_text, fault_text};
 
 use crate::source::SourceFault;
 use itoa::Buffer;
@@ -17,12 +17,29 @@ pub fn source_line(alloc: Global, fault: &SourceFault) -> Result<String, AllocEr
     ensures { IfOk result (λ line. string_bytes line ≡ source_line fault.now) }
 {
     let mut line = String::from_str(alloc, "raml: source: ")?;
-    match fault {
-        SourceFault::Parse(fault) => push_parse_fault(&mut line, *fault)?,
-        SourceFault::Type(fault) => push_type_fault(&mut line, fault)?,
-    }
+    push_source_fault(&mut line, fault)?;
     line.push_str("\n")?;
     Ok(line)
+}
+
+/// The line of the source of a program to compare with, where it is refused.
+pub fn other_source_line(alloc: Global, fault: &SourceFault) -> Result<String, AllocError>
+    ensures { IfOk result (λ line. string_bytes line ≡ other_source_line fault.now) }
+{
+    let mut line = String::from_str(alloc, "raml: other source: ")?;
+    push_source_fault(&mut line, fault)?;
+    line.push_str("\n")?;
+    Ok(line)
+}
+
+// Appends the first fault of a source.
+fn push_source_fault(line: &mut String, fault: &SourceFault) -> Result<(), AllocError>
+    ensures { OnOk result (string_bytes line.new ≡ string_bytes line.old ++ source_text fault.now) }
+{
+    match fault {
+        SourceFault::Parse(fault) => push_parse_fault(line, *fault),
+        SourceFault::Type(fault) => push_type_fault(line, fault),
+    }
 }
 
 /// The line of data that is refused.

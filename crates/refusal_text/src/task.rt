@@ -3,7 +3,7 @@ ghost use Rattle.std.specs.Prelude.{◌≡◌, ◌++◌, OnOk, IfOk, string_byte
 ghost use Rattle.raml_syntax.specs.Read.{program_of};
 ghost use Rattle.cost_free.specs.Blocked.{row};
 ghost use Rattle.cost_free.specs.Read.{kind_of, task_of, ids_of, lists_of};
-ghost use Rattle.refusal_text.specs.Tasks.{first_name, free_text, kind_text, task_text, what_text, too_large_line};
+ghost use Rattle.refusal_text.specs.Tasks.{head, first_name, free_text, kind_text, task_text, what_text, too_large_line};
 
 use constraint_gen::What;
 use cost_free::{Task, TaskKind};
@@ -12,17 +12,40 @@ use raml_syntax::{FunId, Program};
 use report_text::{meter_name, name_at};
 use std::alloc::{AllocError, Global};
 
+/// Whose analysis a line tells of.
+#[derive(Clone, Copy, Debug, PartialEq, Eq)]
+pub enum Analysed {
+    /// That of the program.
+    Program,
+    /// That of a program to compare with.
+    Other,
+}
+
+impl Analysed {
+    /// How such a line begins.
+    pub fn head(self) -> &'static str
+        ensures { result.now ≡ head self }
+    {
+        match self {
+            Analysed::Program => "raml: ",
+            Analysed::Other => "raml: other: ",
+        }
+    }
+}
+
 /// The line of a task that exceeds a limit. The groups are those of the program.
 pub fn too_large_line(
     alloc: Global,
+    whose: Analysed,
     program: &Program,
     groups: &[Vec<FunId>],
     task: &Task,
     what: What,
 ) -> Result<String, AllocError>
-    ensures { IfOk result (λ line. string_bytes line ≡ too_large_line (program_of program.now) (lists_of groups.now) (task_of task.now) what) }
+    ensures { IfOk result (λ line. string_bytes line ≡ too_large_line whose (program_of program.now) (lists_of groups.now) (task_of task.now) what) }
 {
-    let mut line = String::from_str(alloc, "raml: too large: ")?;
+    let mut line = String::from_str(alloc, whose.head())?;
+    line.push_str("too large: ")?;
     push_task(&mut line, program, groups, task)?;
     line.push_str(": ")?;
     line.push_str(word(what))?;

@@ -23,6 +23,9 @@ use Rattle.bound_infer.specs.Inferred.{what_of}
 use Rattle.bound_infer.specs.Told.{told_of}
 use Rattle.bound_infer.specs.declared.leaves.LeavesAt.{LeavesAt}
 use Rattle.bound_infer.specs.declared.leaves.LeavesAt.TheVariants as at
+use Rattle.bound_infer.specs.declared.refusal.InferFault.{InferFault}
+use Rattle.bound_infer.specs.declared.refusal.InferFault.TheVariants as infer
+use Rattle.price_file.specs.declared.fault.PriceFault.{PriceFault}
 use Rattle.refusals.specs.declared.status.Status.{Status}
 use Rattle.refusals.specs.declared.status.Status.TheVariants as s
 use Rattle.refusal_text.specs.declared.plain.Which.{Which}
@@ -44,13 +47,15 @@ pub data CertificateEnding : Type 0 where
   Check : check.Fault → CertificateEnding
   NotRefuted : ℕ → CertificateEnding
 
--- Where a number leaves its range: at a place on a task, in the check of a condition of the rules, or at a bound on a meter where it is worked out.
+-- Where a number leaves its range: at a place on a task, in the check of a condition of the rules, at a bound on a meter where it is worked out, or in the power form of
+-- a function's bound.
 pub data Overflow : Type 0 where
   OnTask : Task → Place → Overflow
   InCheck : ℕ → List ℕ → ℕ → Overflow
   AtPoint : Meter → Overflow
+  InPowers : ℕ → Meter → Overflow
 
--- The ends of a call, beside want of memory.
+-- The ends of a call, beside want of memory. What refuses a program to compare with is what would refuse the program.
 pub data Ending : Type 0 where
   Done : Ending
   Usage : Ending
@@ -65,6 +70,8 @@ pub data Ending : Type 0 where
   Stopped : Ending
   HeapFull : Ending
   WriteFault : Ending
+  BadPrices : PriceFault → Ending
+  OfOther : Ending → Ending
 
 -- What the code's statuses are as endings. None is one for want of memory, nor one that holds another call's want of memory.
 abbrev pub parse_ending : ParseFault → Option Ending
@@ -104,6 +111,12 @@ leaving place = option_map (λ told. OnTask told.0 told.1) (told_of place)
 abbrev pub overflow_of : OverflowAt → Option Overflow
 overflow_of (o.At place) = leaving place
 overflow_of (o.Point meter) = Some (AtPoint meter)
+overflow_of (o.Powers fun meter) = Some (InPowers fun.0 meter)
+
+abbrev pub course_ending : InferFault → Option Ending
+course_ending (infer.TooLarge task what) = Some (TooLarge (task_of task) (what_of what))
+course_ending (infer.Leaves place) = option_map Overflows (leaving place)
+course_ending infer.NoMemory = None
 
 abbrev pub ending_of : Status → Option Ending
 ending_of s.Done = Some Done
@@ -119,6 +132,9 @@ ending_of (s.Overflow place) = option_map Overflows (overflow_of place)
 ending_of s.Stopped = Some Stopped
 ending_of s.HeapFull = Some HeapFull
 ending_of s.WriteFault = Some WriteFault
+ending_of (s.Prices fault) = Some (BadPrices fault)
+ending_of (s.OtherSource fault) = option_map OfOther (source_ending fault)
+ending_of (s.OtherFault fault) = option_map OfOther (course_ending fault)
 ending_of s.NoMemory = None
 
 -- the number that the program ends with
@@ -136,4 +152,7 @@ code_of (s.Overflow place) = 9
 code_of s.Stopped = 10
 code_of s.HeapFull = 11
 code_of s.WriteFault = 12
+code_of (s.Prices fault) = 15
+code_of (s.OtherSource fault) = 16
+code_of (s.OtherFault fault) = 17
 code_of s.NoMemory = 70

@@ -18,7 +18,12 @@ use Rattle.cert_check.specs.Read.{fault_of}
 use Rattle.cert_check.specs.declared.fault.CertFault.{CertFault}
 use Rattle.bound_infer.specs.declared.leaves.LeavesAt.{LeavesAt}
 use Rattle.bound_infer.specs.declared.leaves.LeavesAt.TheVariants.{Check}
+use Rattle.bound_infer.specs.declared.refusal.InferFault.{InferFault}
+use Rattle.bound_infer.specs.declared.refusal.InferFault.TheVariants as infer
+use Rattle.refusal_text.specs.declared.source.SourceFault.{SourceFault}
 use Rattle.refusal_text.specs.declared.source.SourceFault.TheVariants as source
+use Rattle.refusal_text.specs.declared.task.Analysed.{Analysed}
+use Rattle.refusal_text.specs.declared.task.Analysed.TheVariants.{Program, Other}
 use Rattle.refusals.specs.Line.{Names, no_names, line_of}
 use Rattle.refusals.specs.declared.answer.Line.{Line}
 use Rattle.refusals.specs.declared.answer.Line.TheVariants.{Fixed, Made}
@@ -45,13 +50,17 @@ abbrev pub IsToldOr : Names → Status → TheRefusal → Type 0
 IsToldOr names status refusal = IsWanting refusal ⊎ IsOf names status refusal
 
 -- the refusals of the parser's faults, of the check of types', and of the reader of data's
-abbrev pub ParseRefusal : ParseFault → TheRefusal → Type 0
-ParseRefusal parse.NoMemory refusal = IsWanting refusal
-ParseRefusal fault refusal = IsToldOr no_names (status.Source (source.Parse fault)) refusal
+abbrev pub source_status : Analysed → SourceFault → Status
+source_status Program fault = status.Source fault
+source_status Other fault = status.OtherSource fault
 
-abbrev pub TypeRefusal : TypeFault → TheRefusal → Type 0
-TypeRefusal types.NoMemory refusal = IsWanting refusal
-TypeRefusal fault refusal = IsToldOr no_names (status.Source (source.«Type» fault)) refusal
+abbrev pub ParseRefusal : Analysed → ParseFault → TheRefusal → Type 0
+ParseRefusal whose parse.NoMemory refusal = IsWanting refusal
+ParseRefusal whose fault refusal = IsToldOr no_names (source_status whose (source.Parse fault)) refusal
+
+abbrev pub TypeRefusal : Analysed → TypeFault → TheRefusal → Type 0
+TypeRefusal whose types.NoMemory refusal = IsWanting refusal
+TypeRefusal whose fault refusal = IsToldOr no_names (source_status whose (source.«Type» fault)) refusal
 
 abbrev pub DataRefusal : DataFault → TheRefusal → Type 0
 DataRefusal data_fault.NoMemory refusal = IsWanting refusal
@@ -64,6 +73,17 @@ JsonRefusal fault refusal = IsToldOr no_names (status.Certificate (answer.Json f
 -- the names of a program in normal form
 abbrev pub names_in : Kept → Names
 names_in kept = record { program = source_in kept; groups = kept.groups.list }
+
+-- why the course of a program's analysis has no certificate
+abbrev pub course_status : Analysed → InferFault → Status
+course_status Program (infer.TooLarge task what) = status.TooLarge task what
+course_status Program (infer.Leaves place) = status.Overflow (overflow.At place)
+course_status Program infer.NoMemory = NoMemory
+course_status Other fault = status.OtherFault fault
+
+abbrev pub CourseRefusal : Analysed → Names → InferFault → TheRefusal → Type 0
+CourseRefusal whose names infer.NoMemory refusal = IsWanting refusal
+CourseRefusal whose names fault refusal = IsToldOr names (course_status whose fault) refusal
 
 -- the place is that of a condition in the check
 abbrev pub IsCheckAt : ℕ → List ℕ → ℕ → LeavesAt → Type 0

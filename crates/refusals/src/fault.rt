@@ -1,41 +1,58 @@
 // Faults of the parts of a call, as refusals.
 ghost use Rattle.refusals.specs.Line.{no_names};
-ghost use Rattle.refusals.specs.Refusals.{IsToldOr, ParseRefusal, TypeRefusal, DataRefusal};
+ghost use Rattle.refusals.specs.Refusals.{IsToldOr, source_status, ParseRefusal, TypeRefusal, DataRefusal};
 
 use crate::answer::Refusal;
 use crate::status::{OverflowAt, Status};
 use cost_free::Meter;
+use price_file::{PriceFault, fault_line};
 use raml_parse::ParseFault;
-use refusal_text::{SourceFault, data_line, point_line, source_line};
+use refusal_text::{Analysed, SourceFault, data_line, other_source_line, point_line, source_line};
 use simple_types::TypeFault;
 use std::alloc::Global;
 use value_text::DataFault;
 
 /// A fault of the parser.
-pub fn parse_refusal(alloc: Global, fault: ParseFault) -> Refusal
-    ensures { ParseRefusal fault result }
+pub fn parse_refusal(alloc: Global, whose: Analysed, fault: ParseFault) -> Refusal
+    ensures { ParseRefusal whose fault result }
 {
     match fault {
         ParseFault::NoMemory => Refusal::no_memory(),
-        fault => source_refusal(alloc, SourceFault::Parse(fault)),
+        fault => source_refusal(alloc, whose, SourceFault::Parse(fault)),
     }
 }
 
 /// A fault of types.
-pub fn type_refusal(alloc: Global, fault: TypeFault) -> Refusal
-    ensures { TypeRefusal fault result }
+pub fn type_refusal(alloc: Global, whose: Analysed, fault: TypeFault) -> Refusal
+    ensures { TypeRefusal whose fault result }
 {
     match fault {
         TypeFault::NoMemory => Refusal::no_memory(),
-        fault => source_refusal(alloc, SourceFault::Type(fault)),
+        fault => source_refusal(alloc, whose, SourceFault::Type(fault)),
     }
 }
 
-fn source_refusal(alloc: Global, fault: SourceFault) -> Refusal
-    ensures { IsToldOr no_names (Status.Source fault) result }
+fn source_refusal(alloc: Global, whose: Analysed, fault: SourceFault) -> Refusal
+    ensures { IsToldOr no_names (source_status whose fault) result }
 {
-    let line = source_line(alloc, &fault);
-    Refusal::told(Status::Source(fault), line)
+    match whose {
+        Analysed::Program => {
+            let line = source_line(alloc, &fault);
+            Refusal::told(Status::Source(fault), line)
+        }
+        Analysed::Other => {
+            let line = other_source_line(alloc, &fault);
+            Refusal::told(Status::OtherSource(fault), line)
+        }
+    }
+}
+
+/// A fault of a table of prices.
+pub fn price_refusal(alloc: Global, fault: PriceFault) -> Refusal
+    ensures { IsToldOr no_names (Status.Prices fault) result }
+{
+    let line = fault_line(alloc, fault);
+    Refusal::told(Status::Prices(fault), line)
 }
 
 /// A fault of data.

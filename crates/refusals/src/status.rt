@@ -2,11 +2,13 @@
 ghost use Rattle.std.specs.Prelude.{◌≡◌};
 ghost use Rattle.refusals.specs.Ending.{code_of};
 
-use bound_infer::LeavesAt;
+use bound_infer::{InferFault, LeavesAt};
 use cert_check::CertFault;
 use cert_json::JsonFault;
 use constraint_gen::What;
 use cost_free::{Meter, Task};
+use price_file::PriceFault;
+use raml_syntax::FunId;
 use refusal_text::{SourceFault, Which};
 use value_text::DataFault;
 
@@ -28,6 +30,8 @@ pub enum OverflowAt {
     At(LeavesAt),
     /// In the bound on this meter, at the data.
     Point { meter: Meter },
+    /// In the power form of the function's bound on this meter.
+    Powers { fun: FunId, meter: Meter },
 }
 
 /// How a call ends.
@@ -59,6 +63,12 @@ pub enum Status {
     HeapFull,
     /// A front of the report is written: the rest was refused.
     WriteFault,
+    /// The table of prices is refused.
+    Prices(PriceFault),
+    /// The source of the program to compare with is refused. The fault is no want of memory.
+    OtherSource(SourceFault),
+    /// Its analysis is refused. The fault is no want of memory.
+    OtherFault(InferFault),
     /// Memory ran out, and nothing of the report is written.
     NoMemory,
 }
@@ -82,6 +92,9 @@ impl Status {
             Status::Stopped => 10,
             Status::HeapFull => 11,
             Status::WriteFault => 12,
+            Status::Prices(_) => 15,
+            Status::OtherSource(_) => 16,
+            Status::OtherFault(_) => 17,
             Status::NoMemory => 70,
         }
     }

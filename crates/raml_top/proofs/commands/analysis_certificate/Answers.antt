@@ -1,4 +1,5 @@
 use Rattle.raml_top.specs.Outside.{Promised}
+use Rattle.refusal_text.specs.declared.task.Analysed.TheVariants as analysed
 use Rattle.raml_top.specs.Analysis.{OfCourse}
 use Rattle.raml_top.specs.Promise.{PrintsCertificate}
 use Rattle.raml_top.proofs.Proved.{kept_gives}
@@ -7,4 +8,4 @@ use Rattle.raml_top.proofs.commands.analysis_certificate.Goals as goal
 pub returns-in-Ok : goal.returns-in-Ok
 returns-in-Ok c =
     kept_gives c.args.typed.now c.in-Ok.program c.in-Ok.ensures.source c.in-Ok.ensures.groups c.in-Ok.ensures.normal
-    (λ P N. OfCourse Promised P N c.args.degree c.args.rule (λ c. PrintsCertificate Promised c)) c.course_certificate.result c.course_certificate.ensures
+    (λ P N. OfCourse Promised analysed.Program P N c.args.degree c.args.rule (λ c. PrintsCertificate Promised c)) c.course_certificate.result c.course_certificate.ensures

@@ -1,0 +1,46 @@
+-- What a table of prices tells is one thing.
+use Rattle.std.proofs.Common.{◌≡◌, ℕ, List, Result, Ok, Err, ap, subst, sym}
+use Rattle.raml_syntax.specs.Tree.{Text}
+use Rattle.price_file.specs.Construct.{Prices}
+use Rattle.price_file.specs.Listed.{AreSmall}
+use Rattle.price_file.specs.Spelling.{Table, Spells, FirstFault, prices_in}
+use Rattle.price_file.specs.declared.fault.PriceFault.{PriceFault}
+use Rattle.price_file.proofs.Tables.{one_answer}
+use Rattle.refusal_text.specs.declared.plain.Which.TheVariants as w
+use Rattle.refusals.specs.Ending.{Ending, BadPrices}
+use Rattle.refusals.specs.Line.{no_names}
+use Rattle.raml_top.specs.Outside.{Promised, Needed, Store}
+use Rattle.raml_top.specs.Steps.{Answer, Step}
+use Rattle.raml_top.specs.Prices.{PricesRefuse, OfPrices}
+use Rattle.raml_top.proofs.Alike.{alike_same, Same, steps_same}
+use Rattle.raml_top.proofs.OneSource.{file_same}
+use Rattle.raml_top.proofs.Pricing.{spelled_small}
+
+module _ (bytes : List ℕ) where
+  one_table : (t u : Table) → Spells bytes t → Spells bytes u → t ≡ u
+  one_table t u h k = let e : ◌≡◌ {A = Result Table PriceFault} (Ok t) (Ok u) = one_answer bytes (Ok t) (Ok u) h k in cc
+
+  refusals_same : (e f : Ending) → PricesRefuse bytes e → PricesRefuse bytes f → e ≡ f
+  refusals_same (BadPrices x) (BadPrices y) h k = let e : ◌≡◌ {A = Result Table PriceFault} (Err x) (Err y) = one_answer bytes (Err x) (Err y) h k in cc
+  refusals_same (BadPrices x) f h k = absurd k
+  refusals_same e f h k = absurd h
+
+  refused_or_spelled : (e : Ending) (t : Table) → PricesRefuse bytes e → Spells bytes t → ⊥
+  refused_or_spelled (BadPrices x) t h k = let e : ◌≡◌ {A = Result Table PriceFault} (Err x) (Ok t) = one_answer bytes (Err x) (Ok t) h k in absurd (cc)
+  refused_or_spelled e t h k = absurd h
+
+  table_same : (Q T : Prices → Answer → Type 0) → ((prices : Prices) → AreSmall prices → (a b : Answer) → Q prices a → T prices b → Same a b) → (a b : Answer) →
+      Step no_names (PricesRefuse bytes) (Spells bytes) (λ table. Q (prices_in table)) a → Step no_names (PricesRefuse bytes) (Spells bytes) (λ table. T (prices_in table)) b → Same a b
+  table_same Q T rest =
+      steps_same no_names no_names (PricesRefuse bytes) (PricesRefuse bytes) (Spells bytes) (Spells bytes) (λ table. Q (prices_in table)) (λ table. T (prices_in table))
+      (record {
+        refusals = λ e f r s. alike_same e f (refusals_same e f r s);
+        not_left = refused_or_spelled;
+        not_right = λ t e h s. refused_or_spelled e t s h;
+        one = one_table;
+      })
+      (λ table h k. rest (prices_in table) (spelled_small bytes table h))
+
+pub prices_same : (store : Store) (file : Text) (Q T : Prices → Answer → Type 0) → ((prices : Prices) → AreSmall prices → (a b : Answer) → Q prices a → T prices b → Same a b) →
+    (a b : Answer) → OfPrices Needed store file Q a → OfPrices Promised store file T b → Same a b
+prices_same store file Q T rest = file_same store w.Prices file _ _ (λ bytes. table_same bytes Q T rest)
