@@ -20,14 +20,23 @@ pub fn store_of(
     data: &[u8],
     failing: &[u64],
 ) -> Result<MemStore, AllocError> {
-    let mut files = Vec::new(alloc);
-    for (name, content) in [("f.raml", source), ("d", data)] {
-        files.push((
-            String::from_str(alloc, name)?,
-            Vec::from_slice(alloc, content)?,
+    store_with(alloc, &[("f.raml", source), ("d", data)], failing)
+}
+
+// A store that holds these files.
+fn store_with(
+    alloc: Global,
+    files: &[(&str, &[u8])],
+    failing: &[u64],
+) -> Result<MemStore, AllocError> {
+    let mut held = Vec::new(alloc);
+    for (name, content) in files {
+        held.push((
+            String::from_str(alloc, *name)?,
+            Vec::from_slice(alloc, *content)?,
         ))?;
     }
-    Ok(MemStore::new(files, Vec::from_slice(alloc, failing)?))
+    Ok(MemStore::new(held, Vec::from_slice(alloc, failing)?))
 }
 
 /// A sink with ample room, whose attempts with these numbers fail.
@@ -47,7 +56,16 @@ pub fn answer_on(
     source: &[u8],
     data: &[u8],
 ) -> Result<String, Fail> {
-    let mut store = store_of(alloc, source, data, &[])?;
+    answer_over(alloc, words, &[("f.raml", source), ("d", data)])
+}
+
+/// What a call does over these files.
+pub fn answer_over(
+    alloc: Global,
+    words: &[&str],
+    files: &[(&str, &[u8])],
+) -> Result<String, Fail> {
+    let mut store = store_with(alloc, files, &[])?;
     let mut out = sink_of(alloc, &[])?;
     let mut err = sink_of(alloc, &[])?;
     let status = raml(alloc, words, &mut store, &mut out, &mut err);

@@ -1,9 +1,11 @@
 // Whole calls over files and streams in memory.
+use bound_infer::InferFault;
 use constraint_gen::What;
 use cost_free::{Meter, Task, TaskKind};
+use price_file::PriceFault;
 use raml_lex::LexFault;
 use raml_parse::ParseFault;
-use raml_syntax::Pos;
+use raml_syntax::{FunId, Pos};
 use raml_top::{CertAnswer, OverflowAt, SourceFault, Status, Which, raml};
 use simple_types::TypeFault;
 use std::test::Fail;
@@ -306,6 +308,19 @@ fn each_status_has_its_number(rt: HostRuntime) {
         (Status::Stopped, 10),
         (Status::HeapFull, 11),
         (Status::WriteFault, 12),
+        (Status::Prices(PriceFault::Shape { line: 1 }), 15),
+        (
+            Status::OtherSource(SourceFault::Parse(ParseFault::Syntax { at })),
+            16,
+        ),
+        (Status::OtherFault(InferFault::NoMemory), 17),
+        (
+            Status::Overflow(OverflowAt::Powers {
+                fun: FunId(0),
+                meter,
+            }),
+            9,
+        ),
         (Status::NoMemory, 70),
     ];
     for (status, number) in cases {
