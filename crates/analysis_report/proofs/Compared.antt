@@ -18,8 +18,8 @@ use Rattle.annot_types.specs.Held.{Claim, Bound}
 use Rattle.report_text.specs.Names.{name_at}
 use Rattle.analysis_report.specs.Comparison.{Promises, AreRelated, AreCompared, ClaimsCompare, IsComparison, comparisons_text, AreComparisons}
 use Rattle.analysis_report.specs.Steps.{IsCounterpartIn, ComparesIn}
-use Rattle.analysis_report.specs.declared.comparison.Comparison.{Comparison}
-use Rattle.analysis_report.specs.declared.comparison.Comparison.TheVariants.{Absent, NoBound, Relates}
+use Rattle.bound_compare.specs.declared.compared.Compared.{Compared}
+use Rattle.bound_compare.specs.declared.compared.Compared.TheVariants.{Absent, NoBound, Bounds}
 use Rattle.analysis_report.proofs.InOrder.{AreTold}
 
 -- The relation of two polynomials promises what it promises.
@@ -48,19 +48,19 @@ never_absent (Bound den terms) (h.CallsUnbounded f) h = cc
 never_absent h.NoBound y h = cc
 never_absent (h.CallsUnbounded f) y h = cc
 
-pub is_comparison : (N : Program) (c : Certificate) (Q : Prog) (M : Program) (e : Certificate) (f : ℕ) (g : Function) (meter : Meter) (other : Option ℕ) (comparison : Comparison) →
+pub is_comparison : (N : Program) (c : Certificate) (Q : Prog) (M : Program) (e : Certificate) (f : ℕ) (g : Function) (meter : Meter) (other : Option ℕ) (comparison : Compared) →
     IsCounterpartIn Q g other → ComparesIn N c f M e other meter comparison → IsComparison N c Q M e f g meter comparison
 is_comparison N c Q M e f g meter None comparison none is = subst (IsComparison N c Q M e f g meter) (sym is) none
 is_comparison N c Q M e f g meter (Some other) Absent counterpart compare = absurd (never_absent compare.claim compare.other_claim compare.compared)
 is_comparison N c Q M e f g meter (Some other) NoBound counterpart compare = (other, counterpart, compare)
-is_comparison N c Q M e f g meter (Some other) (Relates r) counterpart compare = (other, counterpart, compare)
+is_comparison N c Q M e f g meter (Some other) (Bounds r) counterpart compare = (other, counterpart, compare)
 
 -- The comparisons of the first functions.
 module _ (P : Prog) (N : Program) (c : Certificate) (Q : Prog) (M : Program) (e : Certificate) where
-  abbrev pub FunctionCompares : ℕ → (Meter → Comparison) → Type 0
+  abbrev pub FunctionCompares : ℕ → (Meter → Compared) → Type 0
   FunctionCompares f comparisons = (g : Function) (meter : Meter) → slice_get P f ≡ Some g → IsComparison N c Q M e f g meter (comparisons meter)
 
-  abbrev pub function_text : ℕ → (Meter → Comparison) → Text
+  abbrev pub function_text : ℕ → (Meter → Compared) → Text
   function_text f comparisons = comparisons_text (name_at P f) comparisons
 
   abbrev pub FirstCompare : ℕ → Text → Type 0

@@ -1,5 +1,5 @@
 -- The lines of bounds as powers of element counts.
-use Rattle.std.specs.Prelude.{◌≡◌, ◌<◌, ◌⊎◌, ℕ, ◌*◌, pos, true, false, List, ◌++◌, length, flat_map, codes, slice_get, Some}
+use Rattle.std.specs.Prelude.{◌≡◌, ◌<◌, ◌⊎◌, ℕ, ◌*◌, pos, true, false, List, length, flat_map, slice_get, Some}
 use Rattle.std.specs.List.{Contains, range_with_len}
 use Rattle.raml_syntax.specs.Tree.{Text, Type', Function, Prog}
 use Rattle.raml_syntax.specs.Types.{types_of}
@@ -7,6 +7,7 @@ use Rattle.raml_syntax.specs.Value.{Value}
 use Rattle.base_poly.specs.Poly.{Term}
 use Rattle.poly_point.specs.Point.{worth}
 use Rattle.bound_compare.specs.Powers.{Powers, are_flat, ArePowers, Fits, Leaves, powers_worth, element_counts}
+use Rattle.bound_compare.specs.Text.{powers_line, not_flat_line}
 use Rattle.cost_free.specs.declared.task.Meter.{Meter}
 use Rattle.cost_free.specs.Schedule.{meters}
 use Rattle.annot_types.specs.Program.{Program}
@@ -46,18 +47,10 @@ pub record ToldInPowers (N : Program) (c : Certificate) (f : ℕ) (g : Function)
   pub claims : Claims N c f meter claim
   pub is : IsPowersOf (types_of g) claim told
 
--- NAME METER <= POWERS
-abbrev pub powers_line : Text → Meter → ℕ → Powers → Text
-powers_line name meter over ps = name ++ codes " " ++ meter_text meter ++ codes " <= " ++ powers_text over ps ++ codes "\n"
-
--- NAME METER not flat
-abbrev pub not_flat_line : Text → Meter → Text
-not_flat_line name meter = name ++ codes " " ++ meter_text meter ++ codes " not flat\n"
-
--- where there is no bound, the line is that of an analysis
+-- the line of a function and a meter: where there is no bound, that of an analysis
 abbrev pub power_line : Prog → Text → Meter → PowerClaim → Text
-power_line P name meter (InPowers over ps) = powers_line name meter over ps
-power_line P name meter NotFlat = not_flat_line name meter
+power_line P name meter (InPowers over ps) = powers_line name (meter_text meter) over ps
+power_line P name meter NotFlat = not_flat_line name (meter_text meter)
 power_line P name meter NoBound = no_bound_line name meter
 power_line P name meter (CallsUnbounded f) = calls_line name meter (name_at P f)
 

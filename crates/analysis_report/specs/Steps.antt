@@ -1,5 +1,5 @@
 -- What the private steps of the lines make.
-use Rattle.std.specs.Prelude.{◌≡◌, ◌<◌, ℕ, ◌++◌, unsigned_abs, Option, Some, None, slice_get}
+use Rattle.std.specs.Prelude.{◌≡◌, ◌<◌, ◌<ℤ◌, ℕ, pos, ◌++◌, unsigned_abs, Option, Some, None, slice_get}
 use Rattle.std.specs.List.{Contains}
 use Rattle.raml_syntax.specs.Tree.{Text, Function, Prog}
 use Rattle.cost_free.specs.declared.task.Meter.{Meter}
@@ -11,8 +11,8 @@ use Rattle.report_text.specs.Names.{name_at}
 use Rattle.analysis_report.specs.Comparison.{IsCounterpart, ClaimsCompare}
 use Rattle.analysis_report.specs.Powers.{PowerClaim, InPowers, NotFlat, NoBound, CallsUnbounded, ToldInPowers, power_line, power_lines_of, FitsAt, LeavesAt}
 use Rattle.analysis_report.specs.declared.comparing.Comparisons.{Comparisons}
-use Rattle.analysis_report.specs.declared.comparison.Comparison.{Comparison}
-use Rattle.analysis_report.specs.declared.comparison.Comparison.TheVariants.{Absent}
+use Rattle.bound_compare.specs.declared.compared.Compared.{Compared}
+use Rattle.bound_compare.specs.declared.compared.Compared.TheVariants.{Absent}
 use Rattle.analysis_report.specs.declared.powering.PowerLine.{PowerLine}
 use Rattle.analysis_report.specs.declared.powering.PowerLine.TheVariants as line
 use Rattle.analysis_report.specs.declared.powers_fault.PowersFault.{PowersFault}
@@ -23,13 +23,13 @@ abbrev pub IsCounterpartIn : Prog → Function → Option ℕ → Type 0
 IsCounterpartIn Q g None = (other : ℕ) → IsCounterpart Q g other → ⊥
 IsCounterpartIn Q g (Some other) = IsCounterpart Q g other
 
-abbrev pub by_meter : Comparisons → Meter → Comparison
+abbrev pub by_meter : Comparisons → Meter → Compared
 by_meter found Ticks = found.ticks
 by_meter found Cells = found.cells
 by_meter found Work = found.work
 
 -- the comparison with the counterpart, where there is one
-abbrev pub ComparesIn : Program → Certificate → ℕ → Program → Certificate → Option ℕ → Meter → Comparison → Type 0
+abbrev pub ComparesIn : Program → Certificate → ℕ → Program → Certificate → Option ℕ → Meter → Compared → Type 0
 ComparesIn N c f M e None meter comparison = comparison ≡ Absent
 ComparesIn N c f M e (Some other) meter comparison = ClaimsCompare N c f M e other meter comparison
 
@@ -38,6 +38,11 @@ told_of (line.Powers form) = InPowers (unsigned_abs form.den) form.terms.items
 told_of line.NotFlat = NotFlat
 told_of line.NoBound = NoBound
 told_of (line.Calls fun) = CallsUnbounded fun.0
+
+-- powers stand over a positive denominator
+abbrev pub CanBeWritten : PowerLine → Type 0
+CanBeWritten (line.Powers form) = pos 0 <ℤ form.den
+CanBeWritten told = Unit {0}
 
 -- the powers of this bound leave
 abbrev pub LeavesHere : Prog → Program → Certificate → ℕ → Meter → PowersFault → Type 0

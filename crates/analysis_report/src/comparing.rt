@@ -8,10 +8,11 @@ ghost use Rattle.share_normal.specs.Program.{source_in};
 ghost use Rattle.annot_types.specs.Certificate.{has_work};
 ghost use Rattle.rules_plan.specs.Read.{program_in};
 ghost use Rattle.report_text.specs.Report.{types_in};
-ghost use Rattle.analysis_report.specs.Comparison.{ClaimsCompare, comparison_text, comparison_line, comparisons_text, AreComparisons};
+ghost use Rattle.analysis_report.specs.Comparison.{ClaimsCompare, comparisons_text, AreComparisons};
 ghost use Rattle.analysis_report.specs.Steps.{IsCounterpartIn, ComparesIn, by_meter};
 
-use crate::comparison::{Comparison, compared};
+use crate::comparison::compared;
+use bound_compare::{Compared, push_compared_line};
 use bound_infer::Verified;
 use cost_free::Meter;
 use raml_syntax::{Fun, FunId, FunctionNames, Param, Program};
@@ -22,9 +23,9 @@ use std::alloc::{AllocError, Global};
 /// The comparisons of a function with its counterpart.
 #[derive(Clone, Copy, Debug, PartialEq, Eq)]
 pub(crate) struct Comparisons {
-    ticks: Comparison,
-    cells: Comparison,
-    work: Comparison,
+    ticks: Compared,
+    cells: Compared,
+    work: Compared,
 }
 
 /// How the bounds of a program stand to those of another one: three lines for each of its functions, in
@@ -116,9 +117,9 @@ fn comparisons(
 {
     match counterpart {
         None => Ok(Comparisons {
-            ticks: Comparison::Absent,
-            cells: Comparison::Absent,
-            work: Comparison::Absent,
+            ticks: Compared::Absent,
+            cells: Compared::Absent,
+            work: Compared::Absent,
         }),
         Some(place) => Ok(Comparisons {
             ticks: comparison(alloc, verified, fun, other, place, Meter::Ticks)?,
@@ -136,7 +137,7 @@ fn comparison(
     other: &Verified<'_, '_>,
     counterpart: FunId,
     meter: Meter,
-) -> Result<Comparison, AllocError>
+) -> Result<Compared, AllocError>
     requires fun { fun.0 < length (source_in verified.now.program) }
     requires work { has_work verified.now.certificate ≡ true }
     requires counterpart { counterpart.0 < length (source_in other.now.program) }
@@ -153,33 +154,7 @@ fn comparison(
 fn push_comparisons(text: &mut String, name: &str, found: Comparisons) -> Result<(), AllocError>
     ensures { OnOk result (string_bytes text.new ≡ string_bytes text.old ++ comparisons_text name.now (by_meter found)) }
 {
-    push_comparison(text, name, Meter::Ticks, found.ticks)?;
-    push_comparison(text, name, Meter::Cells, found.cells)?;
-    push_comparison(text, name, Meter::Work, found.work)
-}
-
-fn push_comparison(
-    text: &mut String,
-    name: &str,
-    meter: Meter,
-    comparison: Comparison,
-) -> Result<(), AllocError>
-    ensures { OnOk result (string_bytes text.new ≡ string_bytes text.old ++ comparison_line name.now meter comparison) }
-{
-    text.push_str(name)?;
-    text.push_str(" ")?;
-    text.push_str(meter_name(meter))?;
-    text.push_str(" ")?;
-    text.push_str(words(comparison))?;
-    text.push_str("\n")
-}
-
-fn words(comparison: Comparison) -> &'static str
-    ensures { result.now ≡ comparison_text comparison }
-{
-    match comparison {
-        Comparison::Absent => "absent",
-        Comparison::NoBound => "no bound",
-        Comparison::Relates(relation) => relation.word(),
-    }
+    push_compared_line(text, name, meter_name(Meter::Ticks), found.ticks)?;
+    push_compared_line(text, name, meter_name(Meter::Cells), found.cells)?;
+    push_compared_line(text, name, meter_name(Meter::Work), found.work)
 }

@@ -7,40 +7,29 @@ ghost use Rattle.analysis_report.specs.Comparison.{AreRelated, AreCompared};
 
 use base_poly::Poly;
 use bound_compare::laws::relations_promise;
-use bound_compare::{Relation, compare};
+use bound_compare::{Compared, Relation, compare};
 use bound_infer::Line;
 
-/// How the bound of a function on a meter stands to that of its counterpart in another program.
-#[derive(Clone, Copy, Debug, PartialEq, Eq)]
-pub enum Comparison {
-    /// There is no counterpart.
-    Absent,
-    /// There is one, and one of the two has no bound.
-    NoBound,
-    /// The coefficients stand in this relation.
-    Relates(Relation),
-}
-
 /// What is told of both compared.
-pub(crate) fn compared(first: &Line, second: &Line) -> Comparison
+pub(crate) fn compared(first: &Line, second: &Line) -> Compared
     requires first { IsWritten first.now }
     requires second { IsWritten second.now }
     ensures { AreCompared (claim_of first.now) (claim_of second.now) result }
 {
     match first {
         Line::Bound(bound) => compared_bound(bound, second),
-        Line::NoBound | Line::Calls(_) => Comparison::NoBound,
+        Line::NoBound | Line::Calls(_) => Compared::NoBound,
     }
 }
 
-fn compared_bound(first: &Poly, second: &Line) -> Comparison
+fn compared_bound(first: &Poly, second: &Line) -> Compared
     requires first { IsPoly first.now }
     requires second { IsWritten second.now }
     ensures { AreCompared (Bound (den_of first.now) (terms_of first.now)) (claim_of second.now) result }
 {
     match second {
-        Line::Bound(bound) => Comparison::Relates(relation(first, bound)),
-        Line::NoBound | Line::Calls(_) => Comparison::NoBound,
+        Line::Bound(bound) => Compared::Bounds(relation(first, bound)),
+        Line::NoBound | Line::Calls(_) => Compared::NoBound,
     }
 }
 

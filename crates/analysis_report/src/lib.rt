@@ -13,7 +13,6 @@ mod powers_fault;
 
 pub use bounds::{FloorFault, Floors, floors_at};
 pub use comparing::comparison_lines;
-pub use comparison::Comparison;
 pub use listing::{function_lines, lines, meter_lines};
 pub use powering::power_lines;
 pub use powers_fault::PowersFault;

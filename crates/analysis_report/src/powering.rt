@@ -1,5 +1,5 @@
 // Bounds as powers of element counts.
-ghost use Rattle.std.specs.Prelude.{◌≡◌, ◌≤◌, ◌<◌, ◌++◌, true, All, length, unsigned_abs, slice_get, Some, OnOk, IfOk, IfErr, IsErrOf, string_bytes};
+ghost use Rattle.std.specs.Prelude.{◌≡◌, ◌≤◌, ◌<◌, ◌++◌, true, All, length, slice_get, Some, OnOk, IfOk, IfErr, IsErrOf, string_bytes};
 ghost use Rattle.std.specs.List.{Contains};
 ghost use Rattle.raml_syntax.specs.Tree.{Function};
 ghost use Rattle.raml_syntax.specs.Types.{types_of};
@@ -16,8 +16,8 @@ ghost use Rattle.annot_types.specs.Held.{Bound};
 ghost use Rattle.rules_plan.specs.Read.{program_in};
 ghost use Rattle.report_text.specs.Names.{name_at};
 ghost use Rattle.report_text.specs.Report.{types_in};
-ghost use Rattle.analysis_report.specs.Powers.{powers_line, not_flat_line, power_line, IsPowersOf, ToldInPowers, FitsAt, AllFitBefore, ArePowerLines};
-ghost use Rattle.analysis_report.specs.Steps.{told_of, LeavesHere, HasPowerLine, HasPowerLines, AllFitBelow};
+ghost use Rattle.analysis_report.specs.Powers.{power_line, IsPowersOf, ToldInPowers, FitsAt, AllFitBefore, ArePowerLines};
+ghost use Rattle.analysis_report.specs.Steps.{told_of, CanBeWritten, LeavesHere, HasPowerLine, HasPowerLines, AllFitBelow};
 ghost use Rattle.analysis_report.specs.Told.{PowersRefused};
 
 use crate::laws::bounds_are_of_parameters;
@@ -25,7 +25,7 @@ use crate::listing::counts_work;
 use crate::powers_fault::PowersFault;
 use base_poly::Poly;
 use bound_compare::laws::powers_keep_worth;
-use bound_compare::{PowerFault, PowerForm, is_flat, powers, push_powers};
+use bound_compare::{PowerFault, PowerForm, is_flat, powers, push_not_flat_line, push_powers_line};
 use bound_infer::{Line, Verified};
 use cost_free::Meter;
 use raml_syntax::{FunId, Param, Program, Ty};
@@ -153,6 +153,7 @@ fn power_line(
     requires meter { Contains (meters (has_work verified.now.certificate)) meter }
     ensures told { IfOk result (λ line. (g : Function) → slice_get (source_in verified.now.program) fun.0 ≡ Some g →
         ToldInPowers (program_in verified.now.program) verified.now.certificate fun.0 g meter (told_of line)) }
+    ensures written { IfOk result CanBeWritten }
     ensures fits { OnOk result (FitsAt (source_in verified.now.program) (program_in verified.now.program) verified.now.certificate fun.0 meter) }
     ensures leaves { IfErr result (LeavesHere (source_in verified.now.program) (program_in verified.now.program) verified.now.certificate fun.0 meter) }
 {
@@ -175,6 +176,7 @@ fn in_powers(alloc: Global, poly: &Poly, types: &[Ty]) -> Result<PowerLine, Powe
     requires poly { IsPoly poly.now }
     requires tuples { All (λ t. AreIndices t.0 (context_of types.now) × (degrees t.0 ≤ 4)) (terms_of poly.now) }
     ensures told { IfOk result (λ line. IsPowersOf (context_of types.now) (Bound (den_of poly.now) (terms_of poly.now)) (told_of line)) }
+    ensures written { IfOk result CanBeWritten }
     ensures fits { OnOk result (are_flat (context_of types.now) ≡ true → Fits (den_of poly.now) (terms_of poly.now)) }
     ensures leaves { IsErrOf result PowerFault.Leaves → (are_flat (context_of types.now) ≡ true) × Leaves (den_of poly.now) (terms_of poly.now) }
 {
@@ -194,39 +196,15 @@ fn push_told(
     meter: Meter,
     line: &PowerLine,
 ) -> Result<(), AllocError>
+    requires { CanBeWritten line.now }
     ensures { OnOk result (string_bytes text.new ≡ string_bytes text.old
         ++ power_line (program_of program.now) (name_at (program_of program.now) fun.0) meter (told_of line.now)) }
 {
     let name = name_at(program, fun);
     match line {
-        PowerLine::Powers(form) => push_powers_line(text, name, meter, form),
-        PowerLine::NotFlat => push_not_flat_line(text, name, meter),
+        PowerLine::Powers(form) => push_powers_line(text, name, meter_name(meter), form),
+        PowerLine::NotFlat => push_not_flat_line(text, name, meter_name(meter)),
         PowerLine::NoBound => push_no_bound_line(text, name, meter),
         PowerLine::Calls(callee) => push_calls_line(text, name, meter, name_at(program, *callee)),
     }
-}
-
-fn push_powers_line(
-    text: &mut String,
-    name: &str,
-    meter: Meter,
-    form: &PowerForm,
-) -> Result<(), AllocError>
-    ensures { OnOk result (string_bytes text.new ≡ string_bytes text.old ++ powers_line name.now meter (unsigned_abs form.now.den) form.now.terms.items) }
-{
-    text.push_str(name)?;
-    text.push_str(" ")?;
-    text.push_str(meter_name(meter))?;
-    text.push_str(" <= ")?;
-    push_powers(text, form)?;
-    text.push_str("\n")
-}
-
-fn push_not_flat_line(text: &mut String, name: &str, meter: Meter) -> Result<(), AllocError>
-    ensures { OnOk result (string_bytes text.new ≡ string_bytes text.old ++ not_flat_line name.now meter) }
-{
-    text.push_str(name)?;
-    text.push_str(" ")?;
-    text.push_str(meter_name(meter))?;
-    text.push_str(" not flat\n")
 }
