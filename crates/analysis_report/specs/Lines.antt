@@ -32,6 +32,11 @@ pub record AreLines (P : Prog) (N : Program) (c : Certificate) (text : Text) : T
   pub is : text ≡ lines_text P (lines N c)
   pub each : AllClaim N c (length P)
 
+-- The text is the lines of one meter: one for each function, in the order of the source.
+pub record AreMeterLines (P : Prog) (N : Program) (c : Certificate) (meter : Meter) (text : Text) : Type 0 where
+  pub is : text ≡ lines_text P (flat_map (λ f. lines_for N c f meter) (range_with_len 0 (length P)))
+  pub each : (f : ℕ) → f < length P → (claim : Claim) × Claims N c f meter claim
+
 -- What the lines of a certificate say is true: a polynomial bounds what the function costs; where there is none, the task of the function's group is refuted,
 -- or waits for a function that is told.
 pub record LinesHold (P : Prog) (N : Program) (c : Certificate) : Type 0 where

@@ -14,9 +14,12 @@ use Rattle.annot_types.specs.Held.{Bound}
 use Rattle.analysis_report.specs.Lines.{Claims}
 use Rattle.analysis_report.specs.Floors as f
 use Rattle.analysis_report.specs.Floors.{IsFloor, Leaves, FloorsHold}
+use Rattle.analysis_report.specs.Powers.{FirstLeaves}
 use Rattle.analysis_report.specs.declared.bounds.Floors.{Floors}
 use Rattle.analysis_report.specs.declared.bounds.FloorFault.{FloorFault}
 use Rattle.analysis_report.specs.declared.bounds.FloorFault.TheVariants as fault
+use Rattle.analysis_report.specs.declared.powers_fault.PowersFault.{PowersFault}
+use Rattle.analysis_report.specs.declared.powers_fault.PowersFault.TheVariants as powers
 
 abbrev pub floors_of : Floors → f.Floors
 floors_of floors Ticks = floors.ticks
@@ -57,3 +60,8 @@ IsBound P f args meter (Some n) = (fun : Function) → slice_get P f ≡ Some fu
 -- what all of them are good for
 abbrev pub AllHold : Prog → ℕ → List Value → f.Floors → Type 0
 AllHold P f args floors = (fun : Function) → slice_get P f ≡ Some fun → HaveTypes args (types_of fun) → FloorsHold P f fun args floors
+
+-- why bounds are not written as powers
+abbrev pub PowersRefused : Prog → Program → Certificate → PowersFault → Type 0
+PowersRefused P N c (powers.Leaves fun meter) = FirstLeaves P N c fun.0 meter
+PowersRefused P N c powers.NoMemory = Unit {0}

@@ -9,7 +9,7 @@ ghost use Rattle.annot_types.specs.Certificate.{has_work};
 ghost use Rattle.annot_types.specs.Held.{Claim, lines_for};
 ghost use Rattle.rules_plan.specs.Read.{program_in};
 ghost use Rattle.report_text.specs.Claims.{lines_text};
-ghost use Rattle.analysis_report.specs.Lines.{lines_of, Claims, AreLines, lines_between, AllClaim};
+ghost use Rattle.analysis_report.specs.Lines.{lines_of, Claims, AreLines, AreMeterLines, lines_between, AllClaim};
 
 use bound_infer::{Line, Verified};
 use cost_free::Meter;
@@ -66,7 +66,7 @@ fn push_lines(
 }
 
 // Whether the certificate counts work.
-fn counts_work(verified: &Verified<'_, '_>) -> bool
+pub(crate) fn counts_work(verified: &Verified<'_, '_>) -> bool
     ensures { result ≡ has_work verified.now.certificate }
 {
     verified.certificate().work_scale.is_some()
@@ -118,6 +118,41 @@ fn all_lines(
     let mut text = String::new(alloc);
     for place in 0..program.funs.len() {
         push_lines(alloc, &mut text, program, verified, FunId(place as u32))?;
+    }
+    Ok(text)
+}
+
+/// The lines of one meter: one for each function, in the order of the source.
+pub fn meter_lines(
+    alloc: Global,
+    program: &NormProgram<'_>,
+    verified: &Verified<'_, '_>,
+    meter: Meter,
+) -> Result<String, AllocError>
+    requires program { verified.now.program ≡ program.now }
+    requires meter { Contains (meters (has_work verified.now.certificate)) meter }
+    ensures { IfOk result (λ text.
+        AreMeterLines (source_in verified.now.program) (program_in verified.now.program) verified.now.certificate meter (string_bytes text)) }
+{
+    each_line(alloc, program.source(), verified, meter)
+}
+
+// That of each function of the source.
+fn each_line(
+    alloc: Global,
+    program: &Program,
+    verified: &Verified<'_, '_>,
+    meter: Meter,
+) -> Result<String, AllocError>
+    requires program { program_of program.now ≡ source_in verified.now.program }
+    requires few { length (program_of program.now) ≤ 256 }
+    requires meter { Contains (meters (has_work verified.now.certificate)) meter }
+    ensures { IfOk result (λ text.
+        AreMeterLines (source_in verified.now.program) (program_in verified.now.program) verified.now.certificate meter (string_bytes text)) }
+{
+    let mut text = String::new(alloc);
+    for place in 0..program.funs.len() {
+        push_line(alloc, &mut text, program, verified, FunId(place as u32), meter)?;
     }
     Ok(text)
 }

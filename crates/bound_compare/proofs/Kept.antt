@@ -15,11 +15,11 @@ use Rattle.base_poly.specs.Laws.{choose}
 use Rattle.base_poly.specs.Poly.{Term}
 use Rattle.base_poly.proofs.Recursion.{binomials}
 use Rattle.base_poly.proofs.Sums.{total_joined, total_map}
+use Rattle.poly_point.specs.Point.{worth}
 use Rattle.bound_compare.specs.Laws.{PowersKeepWorth}
 use Rattle.bound_compare.specs.Order.{tied_exponents}
 use Rattle.bound_compare.specs.Powers.{Powers, is_scalar, is_flat, are_flat, counts, factorial, factorials, brings, above, below, positive, negative, exponent_order, listed_at, ArePowers, monomial, powers_worth, element_counts}
 use Rattle.bound_compare.specs.Steps.{expansion}
-use Rattle.bound_compare.specs.Worth.{worth}
 use Rattle.bound_compare.proofs.Counts.{counts_low, division_is_exact}
 use Rattle.bound_compare.proofs.Expanded.{at_sum, expanded, above_scaled, below_scaled, times_zero}
 use Rattle.bound_compare.proofs.Made.{power_halves}

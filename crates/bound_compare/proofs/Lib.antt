@@ -1,3 +1,4 @@
+pub mod Alone
 pub mod Computed
 pub mod Counts
 pub mod Decided
@@ -6,6 +7,7 @@ pub mod Grouped
 pub mod Kept
 pub mod Made
 pub mod Numbers
+pub mod Ranked
 pub mod Valued
 pub mod Weights
 pub mod Worths

@@ -11,7 +11,7 @@ use Rattle.base_poly.specs.Base.{total, bases}
 use Rattle.base_poly.specs.Poly.{Term, terms_of, den_of, IsPoly}
 use Rattle.base_poly.specs.declared.tuple.Poly.{Poly}
 use Rattle.base_poly.specs.Total.{alike_is, order_total}
-use Rattle.bound_compare.specs.Worth.{worth}
+use Rattle.poly_point.specs.Point.{worth}
 use Rattle.bound_compare.specs.Compare.{sum_of, term_at, number_at, AtMost}
 use Rattle.bound_compare.specs.Laws.{RelationsPromise, WorthAtMost}
 use Rattle.bound_compare.proofs.Numbers.{same_keys, term_at_head, others_at_most}

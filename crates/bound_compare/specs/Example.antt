@@ -1,25 +1,22 @@
 -- Small cases, worked out by hand.
-use Rattle.std.specs.Prelude.{◌≡◌, ℕ, zero, suc, pos, negsuc, List, [], ◌∷◌}
-use Rattle.base_poly.specs.Plain.{Plain, Unit', End, Then}
+use Rattle.std.specs.Prelude.{◌≡◌, ℕ, pos, negsuc, List, [], ◌∷◌}
+use Rattle.base_poly.specs.Plain.{Unit'}
 use Rattle.base_poly.specs.Poly.{Term}
 use Rattle.bound_compare.specs.Compare.{number_at}
+use Rattle.bound_compare.specs.Laws.{picks}
 use Rattle.bound_compare.specs.Powers.{falling, power_at, positive, negative}
-
-abbrev entries : ℕ → Plain
-entries zero = End
-entries (suc n) = Then Unit' (entries n)
 
 -- the work of quicksort: 4 + 24*<[_]> + 23*<[_, _]>
 abbrev quicksort : List Term
-quicksort = (entries 0 ∷ [], 4) ∷ (entries 1 ∷ [], 24) ∷ (entries 2 ∷ [], 23) ∷ []
+quicksort = (picks 0 ∷ [], 4) ∷ (picks 1 ∷ [], 24) ∷ (picks 2 ∷ [], 23) ∷ []
 
 -- 7*<[_], [_]> + 1*<[], [_, _]>
 abbrev two_lists : List Term
-two_lists = (entries 1 ∷ entries 1 ∷ [], 7) ∷ (entries 0 ∷ entries 2 ∷ [], 1) ∷ []
+two_lists = (picks 1 ∷ picks 1 ∷ [], 7) ∷ (picks 0 ∷ picks 2 ∷ [], 1) ∷ []
 
 -- 3*<_, [_]>, of an integer and a list or tree
 abbrev behind_integer : List Term
-behind_integer = (Unit' ∷ entries 1 ∷ [], 3) ∷ []
+behind_integer = (Unit' ∷ picks 1 ∷ [], 3) ∷ []
 
 pub record Examples : Type 0 where
   -- n * (n - 1) * (n - 2) * (n - 3) is -6*n + 11*n^2 - 6*n^3 + n^4
@@ -29,8 +26,8 @@ pub record Examples : Type 0 where
   pub fourth : falling 4 4 ≡ pos 1
   pub none : falling 0 0 ≡ pos 1
   -- pairs of n elements are -1/2*n + 1/2*n^2, which is -12 and 12 over 24
-  pub pairs : power_at (1 ∷ []) ((entries 2 ∷ [], 1) ∷ []) ≡ negsuc 11
-  pub squares : power_at (2 ∷ []) ((entries 2 ∷ [], 1) ∷ []) ≡ pos 12
+  pub pairs : power_at (1 ∷ []) ((picks 2 ∷ [], 1) ∷ []) ≡ negsuc 11
+  pub squares : power_at (2 ∷ []) ((picks 2 ∷ [], 1) ∷ []) ≡ pos 12
   -- 4 + 25/2*n + 23/2*n^2
   pub constant : power_at (0 ∷ []) quicksort ≡ pos 96
   pub linear : power_at (1 ∷ []) quicksort ≡ pos 300
@@ -45,5 +42,5 @@ pub record Examples : Type 0 where
   pub other_list : power_at (1 ∷ 0 ∷ []) two_lists ≡ pos 0
   -- 3*n2
   pub second_parameter : power_at (0 ∷ 1 ∷ []) behind_integer ≡ pos 72
-  pub coefficient : number_at (entries 1 ∷ []) quicksort ≡ 24
-  pub no_term : number_at (entries 3 ∷ []) quicksort ≡ 0
+  pub coefficient : number_at (picks 1 ∷ []) quicksort ≡ 24
+  pub no_term : number_at (picks 3 ∷ []) quicksort ≡ 0

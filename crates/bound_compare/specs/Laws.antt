@@ -1,13 +1,14 @@
 -- Laws of comparisons and of powers.
-use Rattle.std.specs.Prelude.{◌≡◌, ◌≤◌, ◌*◌, ◌/◌, pos, true, List, length, All}
-use Rattle.raml_syntax.specs.Tree.{Type'}
+use Rattle.std.specs.Prelude.{◌≡◌, ◌≤◌, ℕ, zero, suc, ◌*◌, ◌/◌, pos, true, List, map, length, All}
+use Rattle.raml_syntax.specs.Tree.{Text, Type'}
 use Rattle.raml_syntax.specs.Value.{Value}
-use Rattle.base_poly.specs.Indices.{AreIndices}
-use Rattle.base_poly.specs.Plain.{Plain, degrees}
+use Rattle.base_poly.specs.Indices.{AreIndices, tuple_order}
+use Rattle.base_poly.specs.Plain.{Plain, Unit', End, Then, degrees}
 use Rattle.base_poly.specs.Poly.{Term, den_of, terms_of, IsPoly}
 use Rattle.base_poly.specs.declared.tuple.Poly.{Poly}
-use Rattle.bound_compare.specs.Powers.{Powers, are_flat, counts, factorials, ArePowers, powers_worth, element_counts}
-use Rattle.bound_compare.specs.Worth.{worth}
+use Rattle.poly_point.specs.Point.{worth}
+use Rattle.bound_compare.specs.Powers.{Powers, are_flat, counts, factorials, exponent_order, ArePowers, powers_worth, element_counts}
+use Rattle.bound_compare.specs.Text.{IsTextOf}
 use Rattle.bound_compare.specs.Compare.{Sum, sum_of, Stands}
 use Rattle.bound_compare.specs.declared.relation.Relation.{Relation}
 use Rattle.bound_compare.specs.declared.relation.Relation.TheVariants.{Equal, Below}
@@ -33,3 +34,20 @@ DivisionIsExact = (t : List Plain) → degrees t ≤ 4 → factorials (counts t)
 abbrev pub PowersKeepWorth : Type 0
 PowersKeepWorth = (As : List Type') (ts : List Term) (ps : Powers) → are_flat As ≡ true → All (λ t. AreIndices t.0 As) ts → All (λ t. degrees t.0 ≤ 4) ts → ArePowers ts ps →
     (values : List Value) → length values ≡ length As → powers_worth (element_counts values) ps ≡ pos (24 * worth ts values)
+
+-- the index that picks so many elements of a list of integers
+abbrev pub picks : ℕ → Plain
+picks zero = End
+picks (suc n) = Then Unit' (picks n)
+
+-- Exponents are ordered as the tuples that pick so many elements of lists.
+abbrev pub ExponentsAreOrdered : Type 0
+ExponentsAreOrdered = (es fs : List ℕ) → exponent_order es fs ≡ tuple_order (map picks es) (map picks fs)
+
+-- A sum of terms has its powers once.
+abbrev pub PowersAreOne : Type 0
+PowersAreOne = (ts : List Term) (ps qs : Powers) → ArePowers ts ps → ArePowers ts qs → ps ≡ qs
+
+-- A polynomial has one text in powers.
+abbrev pub BoundsHaveOneText : Type 0
+BoundsHaveOneText = (den : ℕ) (ts : List Term) (text other : Text) → IsTextOf den ts text → IsTextOf den ts other → text ≡ other

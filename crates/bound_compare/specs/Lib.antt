@@ -4,5 +4,5 @@ pub mod Laws
 pub mod Order
 pub mod Powers
 pub mod Steps
+pub mod Text
 pub mod Tests
-pub mod Worth

@@ -1,5 +1,5 @@
 // Laws: each is the contract of a function that does nothing.
-ghost use Rattle.bound_compare.specs.Laws.{RelationsAreOne, RelationsPromise, DivisionIsExact, PowersKeepWorth};
+ghost use Rattle.bound_compare.specs.Laws.{RelationsAreOne, RelationsPromise, DivisionIsExact, PowersKeepWorth, ExponentsAreOrdered, PowersAreOne, BoundsHaveOneText};
 ghost use Rattle.bound_compare.specs.Example.{Examples};
 
 /// Two polynomials stand in one relation.
@@ -21,6 +21,21 @@ pub fn division_is_exact()
 /// arguments.
 pub fn powers_keep_worth()
     ensures { PowersKeepWorth }
+{}
+
+/// Exponents are ordered as the tuples that pick so many elements of lists.
+pub fn exponents_are_ordered()
+    ensures { ExponentsAreOrdered }
+{}
+
+/// A sum of terms has its powers once.
+pub fn powers_are_one()
+    ensures { PowersAreOne }
+{}
+
+/// A polynomial has one text in powers.
+pub fn bounds_have_one_text()
+    ensures { BoundsHaveOneText }
 {}
 
 /// Small coefficients and powers are what was worked out by hand.

@@ -1,0 +1,74 @@
+-- What is told of functions and their counterparts.
+use Rattle.std.proofs.Common.{◌≡◌, ◌<◌, ◌<ℤ◌, ℕ, pos, ℤ, Option, Some, None, slice_get, List, [], ◌++◌, length, refl, sym, ap, ◌∙◌, subst, arith}
+use Rattle.std.specs.Prelude.{unsigned_abs}
+use Rattle.std.proofs.lemmas.Int.{ints}
+use Rattle.std.proofs.lemmas.Option.{slice_get_within}
+use Rattle.raml_syntax.specs.Tree.{Text, Function, Prog}
+use Rattle.base_poly.specs.Poly.{IsPoly}
+use Rattle.base_poly.specs.declared.tuple.Poly.{Poly}
+use Rattle.bound_compare.specs.Compare.{Sum, sum_of, Stands}
+use Rattle.bound_compare.specs.Laws.{RelationsPromise}
+use Rattle.bound_compare.specs.declared.relation.Relation.{Relation}
+use Rattle.bound_compare.specs.declared.relation.Relation.TheVariants.{Equal, Below, Above, Mixed}
+use Rattle.cost_free.specs.declared.task.Meter.{Meter}
+use Rattle.annot_types.specs.Program.{Program}
+use Rattle.annot_types.specs.Certificate.{Certificate}
+use Rattle.annot_types.specs.Held as h
+use Rattle.annot_types.specs.Held.{Claim, Bound}
+use Rattle.report_text.specs.Names.{name_at}
+use Rattle.analysis_report.specs.Comparison.{Promises, AreRelated, AreCompared, ClaimsCompare, IsComparison, comparisons_text, AreComparisons}
+use Rattle.analysis_report.specs.Steps.{IsCounterpartIn, ComparesIn}
+use Rattle.bound_compare.specs.declared.compared.Compared.{Compared}
+use Rattle.bound_compare.specs.declared.compared.Compared.TheVariants.{Absent, NoBound, Bounds}
+use Rattle.analysis_report.proofs.InOrder.{AreTold}
+
+-- The relation of two polynomials promises what it promises.
+pub are_related : RelationsPromise → (r : Relation) (p q : Poly) → IsPoly p → IsPoly q → Stands r (sum_of p) (sum_of q) → AreRelated r (sum_of p) (sum_of q)
+are_related law r p q first second stands = record {
+  first_positive = above_zero p.den first.positive;
+  second_positive = above_zero q.den second.positive;
+  stands = stands;
+  promises = promised r stands;
+}
+  where
+    above_zero : (z : ℤ) → pos 0 <ℤ z → 0 < unsigned_abs z
+    above_zero z h = grind (arith, ints, h)
+
+    promised : (r : Relation) → Stands r (sum_of p) (sum_of q) → Promises r (sum_of p) (sum_of q)
+    promised Equal h = (λ values. (law.equal p q first second h values).0, λ values. (law.equal p q first second h values).1)
+    promised Below h = law.below p q first second h
+    promised Above h = law.below q p second first h
+    promised Mixed h = tt
+
+-- claims that are compared are told of a counterpart
+never_absent : (x y : Claim) → AreCompared x y Absent → ⊥
+never_absent (Bound den terms) (Bound other others) h = h
+never_absent (Bound den terms) h.NoBound h = cc
+never_absent (Bound den terms) (h.CallsUnbounded f) h = cc
+never_absent h.NoBound y h = cc
+never_absent (h.CallsUnbounded f) y h = cc
+
+pub is_comparison : (N : Program) (c : Certificate) (Q : Prog) (M : Program) (e : Certificate) (f : ℕ) (g : Function) (meter : Meter) (other : Option ℕ) (comparison : Compared) →
+    IsCounterpartIn Q g other → ComparesIn N c f M e other meter comparison → IsComparison N c Q M e f g meter comparison
+is_comparison N c Q M e f g meter None comparison none is = subst (IsComparison N c Q M e f g meter) (sym is) none
+is_comparison N c Q M e f g meter (Some other) Absent counterpart compare = absurd (never_absent compare.claim compare.other_claim compare.compared)
+is_comparison N c Q M e f g meter (Some other) NoBound counterpart compare = (other, counterpart, compare)
+is_comparison N c Q M e f g meter (Some other) (Bounds r) counterpart compare = (other, counterpart, compare)
+
+-- The comparisons of the first functions.
+module _ (P : Prog) (N : Program) (c : Certificate) (Q : Prog) (M : Program) (e : Certificate) where
+  abbrev pub FunctionCompares : ℕ → (Meter → Compared) → Type 0
+  FunctionCompares f comparisons = (g : Function) (meter : Meter) → slice_get P f ≡ Some g → IsComparison N c Q M e f g meter (comparisons meter)
+
+  abbrev pub function_text : ℕ → (Meter → Compared) → Text
+  function_text f comparisons = comparisons_text (name_at P f) comparisons
+
+  abbrev pub FirstCompare : ℕ → Text → Type 0
+  FirstCompare n text = AreTold FunctionCompares function_text n text
+
+  pub all_compare : (n : ℕ) (text : Text) → n ≡ length P → FirstCompare n text → AreComparisons P N c Q M e text
+  all_compare n text all told = record {
+    comparisons = told.told;
+    each = λ f g meter there. told.each f (let below = slice_get_within P f g there in omega (arith, below, all)) g meter there;
+    is = subst (λ m. text ≡ _) all told.is;
+  }
