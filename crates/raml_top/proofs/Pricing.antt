@@ -1,5 +1,5 @@
 -- Programs under prices, and those in which the prices are written out.
-use Rattle.std.proofs.Common.{◌≡◌, ◌≤◌, ◌*◌, ℕ, length, List, [], ◌∷◌, Some, sym, ap, subst, ◌∙◌, refl, arith, Bool, cond, true, false}
+use Rattle.std.proofs.Common.{◌≡◌, ◌≤◌, ◌*◌, ℕ, length, List, [], ◌∷◌, Some, sym, ap, subst, ◌∙◌, refl, arith, Bool, Option, cond, true, false}
 use Rattle.std.specs.Prelude.{slice_get, nat_eq}
 use Rattle.std.specs.List.{All, Contains}
 use Rattle.std.specs.Option.{option_map}
@@ -32,20 +32,17 @@ use Rattle.raml_top.specs.Parts.{IsCallOf}
 use Rattle.raml_top.specs.declared.call.Call.{Call}
 
 -- the prices of a table that a file spells are small
-small_listed : (lines : List Text) (table : Table) → SetEach lines table → (c : Construct) → or_free (listed table c) ≤ 1000000
-small_listed lines table set c = by lines table set
-  where
-    by : (lines : List Text) (table : Table) → SetEach lines table → or_free (listed table c) ≤ 1000000
-    by lines [] set = omega arith
-    by [] (entry ∷ table) set = absurd set
-    by (line ∷ lines) (entry ∷ table) set = split (nat_eq (place c) (place entry.0))
-      where
-        split : (b : Bool) → or_free (cond b (Some entry.1) (listed table c)) ≤ 1000000
-        split true = set.0.most
-        split false = by lines table set.1
+small_or : (b : Bool) (n : ℕ) (o : Option ℕ) → n ≤ 1000000 → or_free o ≤ 1000000 → or_free (cond b (Some n) o) ≤ 1000000
+small_or true n o small rest = small
+small_or false n o small rest = rest
+
+small_listed : (c : Construct) (lines : List Text) (table : Table) → SetEach lines table → or_free (listed table c) ≤ 1000000
+small_listed c lines [] set = omega arith
+small_listed c [] (entry ∷ table) set = absurd set
+small_listed c (line ∷ lines) (entry ∷ table) set = small_or (nat_eq (place c) (place entry.0)) entry.1 (listed table c) set.0.most (small_listed c lines table set.1)
 
 pub spelled_small : (bytes : Text) (table : Table) → Spells bytes table → AreSmall (prices_in table)
-spelled_small bytes table spells c = small_listed _ table spells.lines.set c
+spelled_small bytes table spells c = small_listed c _ table spells.lines.set
 
 -- ticks are counted by each certificate
 pub ticks_counted : (work : Bool) → Contains (meters work) Ticks
