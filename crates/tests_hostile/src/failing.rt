@@ -32,6 +32,17 @@ run f.raml main d => 2 => 0|value 5
 run f.raml main d --degree 1 => 0 => 2||raml: cannot read program
 run f.raml main d --degree 1 => 1 => 2||raml: cannot read data
 run f.raml main d --degree 1 => 2 => 0|value 5
+priced f.raml d --degree 1 => 0 => 2||raml: cannot read program
+priced f.raml d --degree 1 => 1 => 2||raml: cannot read prices
+priced f.raml d --degree 1 => 2 => 15||raml: prices: line 1: shape
+spend f.raml d main d => 0 => 2||raml: cannot read program
+spend f.raml d main d => 1 => 2||raml: cannot read prices
+spend f.raml d main d => 2 => 15||raml: prices: line 1: shape
+compare f.raml f.raml --degree 1 => 0 => 2||raml: cannot read program
+compare f.raml f.raml --degree 1 => 1 => 2||raml: cannot read other
+compare f.raml f.raml --degree 1 => 2 => 0|main ticks equal
+powers f.raml --degree 1 => 0 => 2||raml: cannot read program
+powers f.raml --degree 1 => 1 => 0|main ticks <= 3
 trial 1 => 0 => 0|functions 2"#;
 
 #[test]
