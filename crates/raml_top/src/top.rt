@@ -134,11 +134,11 @@ fn request_answer<S: Store>(
         Request::Run {
             file,
             name,
-            data,
+            input,
             steps,
             cells,
             degree,
-        } => run_request(alloc, store, file, name, data, *steps, *cells, *degree),
+        } => run_request(alloc, store, file, name, input, *steps, *cells, *degree),
         Request::Trial { count } => trial(alloc, *count),
     }
 }

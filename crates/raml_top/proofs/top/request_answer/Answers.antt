@@ -43,8 +43,8 @@ pub returns-in-Run-clause-gives : goal.returns-in-Run-clause-gives
 returns-in-Run-clause-gives g c =
     let store = store_of (g.S.Store.holds c.args.store.now) (g.S.Store.faults c.args.store.now) (g.S.Store.faults c.run_request.new.store) in
     subst (λ request. Gives (Answers Promised store (request_of request)) c.run_request.result) (sym c.in-Run.is)
-    (subst (λ file. Gives (Answers Promised store (w.Run file (string_bytes c.in-Run.name) (string_bytes c.in-Run.data) c.in-Run.steps c.in-Run.cells c.in-Run.degree)) c.run_request.result) c.deref-in-Run.ensures
-    (subst (λ name. Gives (Answers Promised store (w.Run c.deref-in-Run.result.now name (string_bytes c.in-Run.data) c.in-Run.steps c.in-Run.cells c.in-Run.degree)) c.run_request.result) c.deref-in-Run-2.ensures
+    (subst (λ file. Gives (Answers Promised store (w.Run file (string_bytes c.in-Run.name) (string_bytes c.in-Run.input) c.in-Run.steps c.in-Run.cells c.in-Run.degree)) c.run_request.result) c.deref-in-Run.ensures
+    (subst (λ name. Gives (Answers Promised store (w.Run c.deref-in-Run.result.now name (string_bytes c.in-Run.input) c.in-Run.steps c.in-Run.cells c.in-Run.degree)) c.run_request.result) c.deref-in-Run-2.ensures
     (subst (λ told. Gives (Answers Promised store (w.Run c.deref-in-Run.result.now c.deref-in-Run-2.result.now told c.in-Run.steps c.in-Run.cells c.in-Run.degree)) c.run_request.result) c.deref-in-Run-3.ensures c.run_request.ensures.gives)))
 
 pub returns-in-Trial-clause-gives : goal.returns-in-Trial-clause-gives
