@@ -1,5 +1,5 @@
 -- What `clap` makes of the ordered words of a command with a degree and a rule: word by word.
-use Rattle.std.proofs.Common.{◌≡◌, Bool, true, false, List, [], ◌∷◌, ◌++◌, map, Option, Some, None, codes, refl, ap, ◌∙◌}
+use Rattle.std.proofs.Common.{◌≡◌, Bool, true, false, List, [], ◌∷◌, Option, Some, None, codes, refl, ap, ◌∙◌}
 use Rattle.std.specs.Prelude.{◌&&◌, is_some}
 use Rattle.clap.specs.ValueTests.{is_unsigned_in}
 use Rattle.clap.specs.Walk.{nothing_held, walk, walked}
@@ -10,7 +10,7 @@ use Rattle.clap.proofs.OnLiterals.{clap_on_literals}
 use Rattle.raml_words.specs.Words.{Text}
 use Rattle.raml_words.specs.Apps.{bounds_app, bounds_pairs, maybe, option_word, has_one, ordered}
 use Rattle.raml_words.specs.Clapped.{none, is_taken}
-use Rattle.raml_words.proofs.RunWalk.{tail, step_good, step_bad, row, with_row, W}
+use Rattle.raml_words.proofs.Walk.{tail, step_good, step_bad, row, with_row, W, words_of, end}
 
 abbrev S : Shape
 S = (built bounds_app).top
@@ -50,12 +50,6 @@ start_from ws (Some p) = refl
 
 start : (command : Text) (ws : List Text) → fault_of bounds_app (command ∷ ws) ≡ tail S (W []) ws
 start command ws = start_from ws (walk S.rules [] nothing_held ws).stopped
-
-abbrev words_of : List (Text × Text) → List Text → List Text
-words_of options rest = map (λ (p : Text × Text). option_word p.0 p.1) options ++ rest
-
-abbrev end : List Text → List Text
-end os = codes "--" ∷ os
 
 pivot_part : (v : Text) (p : Option Text) (os : List Text) → none (tail S (W (row (codes "degree") v ∷ [])) (words_of (maybe (codes "pivot") p []) (end os))) ≡ has_one os
 pivot_part v None os = operands v None os

@@ -136,7 +136,7 @@ bounds_law command (Some v) p [] n = bounds_other command v p [] refl
 bounds_law command (Some v) p (f ∷ []) n = bounds_one command v f p (is_unsigned_in 1 4 v) n refl
 bounds_law command (Some v) p (f ∷ g ∷ os) n = bounds_other command v p (f ∷ g ∷ os) refl
 
-no_needed : (d : Option Text) → given_number d ≡ false → needed 1 4 d ≡ None
+pub no_needed : (d : Option Text) → given_number d ≡ false → needed 1 4 d ≡ None
 no_needed None e = absurd (cc)
 no_needed (Some v) e = no_number 1 4 v e
 

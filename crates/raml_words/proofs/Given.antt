@@ -1,7 +1,7 @@
 -- What options give, by steps and as a relation.
-use Rattle.std.proofs.Common.{◌≡◌, ◌⊎◌, ◌≤◌, ◌<◌, ℕ, zero, suc, Bool, true, false, not, cond, List, [], ◌∷◌, length, Option, Some, None, inl, inr, ⊎_elim, refl, sym, ap, subst, ◌+◌, arith, codes}
+use Rattle.std.proofs.Common.{◌≡◌, ◌⊎◌, ◌<◌, ℕ, zero, suc, Bool, true, false, not, cond, List, [], ◌∷◌, Option, Some, None, inl, inr, ⊎_elim, refl, sym, ap, subst, arith, codes}
 use Rattle.std.specs.Prelude.{slice_index_or, option_map}
-use Rattle.std.specs.List.{Contains, AllByRecursion}
+use Rattle.std.specs.List.{Contains}
 use Rattle.std.specs.Str.{bytes_eq}
 use Rattle.std.proofs.lemmas.Bool.{and_parts, or_parts, not-true, false_from_ne_true}
 use Rattle.std.proofs.lemmas.Slice.Eq.{bytes_eq-Decides}
@@ -128,7 +128,14 @@ pub once_to : (ps : List (Text × Text)) → Once ps → once ps ≡ true
 once_to [] h = refl
 once_to (p ∷ ps) h = rw (not_is_named p.0 ps h.0, once_to ps h.1) refl
 
--- one of two names, and of three
+-- one of one name, of two, and of three
+pub one_of_one : (a name : Text) → Contains (a ∷ []) name → a ≡ name
+one_of_one a name h = by h.0 h.1 h.2
+  where
+    by : (k : ℕ) → k < 1 → slice_index_or (a ∷ []) k name ≡ name → a ≡ name
+    by zero l e = e
+    by (suc k) l e = absurd (omega (arith, l))
+
 pub one_of_two : (a b name : Text) → Contains (a ∷ b ∷ []) name → (a ≡ name) ⊎ (b ≡ name)
 one_of_two a b name h = by h.0 h.1 h.2
   where
@@ -145,61 +152,3 @@ one_of_three a b c name h = by h.0 h.1 h.2
     by (suc zero) l e = inr (inl e)
     by (suc (suc zero)) l e = inr (inr e)
     by (suc (suc (suc k))) l e = absurd (omega arith)
-
--- the pairs without the first of a name
-abbrev without : Text → List (Text × Text) → List (Text × Text)
-without name [] = []
-without name (p ∷ ps) = cond (bytes_eq p.0 name) ps (p ∷ without name ps)
-
-shorter : (name : Text) (ps : List (Text × Text)) → length ps ≤ length (without name ps) + 1
-shorter name [] = omega arith
-shorter name (p ∷ ps) = by (bytes_eq p.0 name) (shorter name ps)
-  where
-    by : (t : Bool) → length ps ≤ length (without name ps) + 1 → length (p ∷ ps) ≤ length (cond t ps (p ∷ without name ps)) + 1
-    by true h = omega arith
-    by false h = omega (arith, h)
-
--- all pairs have one of the names
-abbrev Named : (Text → Type 0) → List (Text × Text) → Type 0
-Named Q [] = Unit {0}
-Named Q (p ∷ ps) = Q p.0 × Named Q ps
-
-none_left : (name : Text) (Q : Text → Type 0) (ps : List (Text × Text)) → NotNamed name ps → Named (λ m. (name ≡ m) ⊎ Q m) ps → Named Q ps
-none_left name Q [] n h = tt
-none_left name Q (p ∷ ps) n h = (⊎_elim (λ e. absurd (n.0 (sym e))) (λ q. q) h.0, none_left name Q ps n.1 h.1)
-
-still_not : (m name : Text) (ps : List (Text × Text)) → NotNamed m ps → NotNamed m (without name ps)
-still_not m name [] n = tt
-still_not m name (p ∷ ps) n = by (bytes_eq p.0 name) (still_not m name ps n.1)
-  where
-    by : (t : Bool) → NotNamed m (without name ps) → NotNamed m (cond t ps (p ∷ without name ps))
-    by true ih = n.1
-    by false ih = (n.0, ih)
-
-removed : (name : Text) (Q : Text → Type 0) (ps : List (Text × Text)) → Once ps → Named (λ m. (name ≡ m) ⊎ Q m) ps → Once (without name ps) × Named Q (without name ps)
-removed name Q [] o h = (tt, tt)
-removed name Q (p ∷ ps) o h = by (bytes_eq p.0 name) refl (removed name Q ps o.1 h.1)
-  where
-    by : (t : Bool) → bytes_eq p.0 name ≡ t → Once (without name ps) × Named Q (without name ps) → Once (cond t ps (p ∷ without name ps)) × Named Q (cond t ps (p ∷ without name ps))
-    by true e ih = (o.1, none_left name Q ps (subst (λ m. NotNamed m ps) (same p.0 name e) o.0) h.1)
-    by false e ih = ((still_not p.0 name ps o.0, ih.0), (⊎_elim (λ q. absurd (apart p.0 name e (sym q))) (λ q. q) h.0, ih.1))
-
-nothing : (ps : List (Text × Text)) → Named (λ m. ⊥) ps → length ps ≤ 0
-nothing [] h = omega arith
-nothing (p ∷ ps) h = absurd h.0
-
-pub few : (a b c : Text) (ps : List (Text × Text)) → Once ps → Named (λ m. (a ≡ m) ⊎ ((b ≡ m) ⊎ ((c ≡ m) ⊎ ⊥))) ps → length ps ≤ 3
-few a b c ps o h =
-    let x = removed a (λ m. (b ≡ m) ⊎ ((c ≡ m) ⊎ ⊥)) ps o h in
-    let y = removed b (λ m. (c ≡ m) ⊎ ⊥) (without a ps) x.0 x.1 in
-    let z = removed c (λ m. ⊥) (without b (without a ps)) y.0 y.1 in
-    omega (arith, shorter a ps, shorter b (without a ps), shorter c (without b (without a ps)), nothing (without c (without b (without a ps))) z.1)
-
-pub all_named : (a b c : Text) (ps : List (Text × Text)) → AllByRecursion (λ (v : Text × Text). Contains (a ∷ b ∷ c ∷ []) v.0) ps → Named (λ m. (a ≡ m) ⊎ ((b ≡ m) ⊎ ((c ≡ m) ⊎ ⊥))) ps
-all_named a b c [] h = tt
-all_named a b c (p ∷ ps) h = (⊎_elim inl (λ k. inr (⊎_elim inl (λ e. inr (inl e)) k)) (one_of_three a b c p.0 h.0), all_named a b c ps h.1)
-
--- options of two names are of three
-pub two_named : (a b : Text) (ps : List (Text × Text)) → AllByRecursion (λ (v : Text × Text). Contains (a ∷ b ∷ []) v.0) ps → Named (λ m. (a ≡ m) ⊎ ((b ≡ m) ⊎ ((b ≡ m) ⊎ ⊥))) ps
-two_named a b [] h = tt
-two_named a b (p ∷ ps) h = (⊎_elim inl (λ k. inr (inl k)) (one_of_two a b p.0 h.0), two_named a b ps h.1)

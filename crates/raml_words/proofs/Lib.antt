@@ -6,7 +6,11 @@ pub mod Worded
 pub mod Telling
 pub mod Accepts
 pub mod Parsed
+pub mod Walk
 pub mod RunWalk
 pub mod BoundsWalk
 pub mod Found
 pub mod RunFound
+pub mod DegreeWalk
+pub mod SpendWalk
+pub mod SpendFound

@@ -12,7 +12,7 @@ use Rattle.clap.proofs.OnLiterals.{clap_on_literals}
 use Rattle.clap.proofs.WalkLemmas.{first_value-rows}
 use Rattle.raml_words.specs.Words.{Text}
 use Rattle.raml_words.specs.Asked.{TellsFault}
-use Rattle.raml_words.specs.Apps.{one_app, two_app, count_app, bounds_app, run_app}
+use Rattle.raml_words.specs.Apps.{one_app, two_app, count_app, bounds_app, run_app, file_degree_app, files_degree_app, spend_app}
 use Rattle.raml_words.specs.Clapped.{none, is_taken, found, taken_as, values_in, Refuses}
 use Rattle.raml_words.specs.declared.request.WordsFault.{WordsFault}
 use Rattle.raml_words.specs.declared.request.WordsFault.TheVariants.{Usage, NoMemory}
@@ -41,6 +41,18 @@ bounds_simple = record { simple = refl; free = refl }
 pub run_simple : IsSimple run_app
 unfolding clap_on_literals
 run_simple = record { simple = refl; free = refl }
+
+pub file_degree_simple : IsSimple file_degree_app
+unfolding clap_on_literals
+file_degree_simple = record { simple = refl; free = refl }
+
+pub files_degree_simple : IsSimple files_degree_app
+unfolding clap_on_literals
+files_degree_simple = record { simple = refl; free = refl }
+
+pub spend_simple : IsSimple spend_app
+unfolding clap_on_literals
+spend_simple = record { simple = refl; free = refl }
 
 -- what is made of the values of a parse is what is made of those that are found
 pub parsed : {A : Type 0} (app a : App) (of_values : (Text → Option Text) → Option A) (words : List Text) (m : ArgMatches) → IsSimple app → a ≡ app → HasMatchesOf a words m → (is_simple_and_free a ≡ true → fault_of a words ≡ [])

@@ -9,14 +9,14 @@ use Rattle.raml_words.specs.Made.{given_number, run_clapped, run_made}
 use Rattle.raml_words.proofs.RunWalk.{run_taken, run_finds}
 use Rattle.raml_words.proofs.Found.{refused_number}
 
-and_false : (a : Bool) → (a && false) ≡ false
+pub and_false : (a : Bool) → (a && false) ≡ false
 and_false true = refl
 and_false false = refl
 
 run_not : (words : List Text) → is_taken run_app words ≡ false → taken_as run_app run_texts words ≡ None
 run_not words e = ap (λ b. cond b (run_texts (found run_app words)) None) e
 
-refused_option : (least most : ℕ) (o : Option Text) → given_number o ≡ true → accepted least most o ≡ false → optional least most o ≡ None
+pub refused_option : (least most : ℕ) (o : Option Text) → given_number o ≡ true → accepted least most o ≡ false → optional least most o ≡ None
 refused_option least most None n e = absurd (cc)
 refused_option least most (Some v) n e = ap (option_map Some) (refused_number least most v n e)
 
@@ -33,8 +33,8 @@ no_degree a b x (Some s) None d e = refl
 no_degree a b x (Some s) (Some c) d e = rw e refl
 
 found_three : (s l g : Option Text) (a b x : Text) → is_taken run_app (ordered (codes "run") (run_pairs s l g) (a ∷ b ∷ x ∷ [])) ≡ true
-    → taken_as run_app run_texts (ordered (codes "run") (run_pairs s l g) (a ∷ b ∷ x ∷ [])) ≡ Some (record { file = a; name = b; data_file = x; steps = s; cells = l; degree = g })
-found_three s l g a b x e = let f = run_finds s l g a b x in rw (e, f.file, f.name, f.data_file, f.steps, f.cells, f.degree) refl
+    → taken_as run_app run_texts (ordered (codes "run") (run_pairs s l g) (a ∷ b ∷ x ∷ [])) ≡ Some (record { file = a; name = b; input = x; steps = s; cells = l; degree = g })
+found_three s l g a b x e = let f = run_finds s l g a b x in rw (e, f.file, f.name, f.input, f.steps, f.cells, f.degree) refl
 
 three : (s l g : Option Text) (a b x : Text) (i j k : Bool) → given_number s ≡ true → given_number l ≡ true → given_number g ≡ true
     → accepted 1 1000000000 s ≡ i → accepted 0 16777216 l ≡ j → accepted 1 4 g ≡ k → option_and_then run_made (run_clapped s l g (a ∷ b ∷ x ∷ [])) ≡ run_by (a ∷ b ∷ x ∷ []) s l g
@@ -69,7 +69,7 @@ run_law s l g (a ∷ []) n m o = other s l g (a ∷ []) refl
 run_law s l g (a ∷ b ∷ []) n m o = other s l g (a ∷ b ∷ []) refl
 run_law s l g (a ∷ b ∷ x ∷ y ∷ os) n m o = other s l g (a ∷ b ∷ x ∷ y ∷ os) refl
 
-no_number : (least most : ℕ) (o : Option Text) → given_number o ≡ false → optional least most o ≡ None
+pub no_number : (least most : ℕ) (o : Option Text) → given_number o ≡ false → optional least most o ≡ None
 no_number least most None e = absurd (cc)
 no_number least most (Some v) e = rw e refl
 

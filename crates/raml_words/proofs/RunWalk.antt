@@ -1,50 +1,19 @@
--- What `clap` makes of the ordered words of `run`: word by word, from where the walk stands.
-use Rattle.std.proofs.Common.{◌≡◌, Bool, true, false, List, [], ◌∷◌, ◌++◌, map, Option, Some, None, codes, refl, ap, ◌∙◌}
-use Rattle.std.specs.Prelude.{◌&&◌, fold, is_some}
+-- What `clap` makes of the ordered words of `run`: word by word.
+use Rattle.std.proofs.Common.{◌≡◌, true, false, List, [], ◌∷◌, Option, Some, None, codes, refl, ap, ◌∙◌}
+use Rattle.std.specs.Prelude.{◌&&◌, is_some}
 use Rattle.raml_words.specs.Words.{Text}
-use Rattle.clap.specs.Kinds.{Kinds, or_else}
 use Rattle.clap.specs.ValueTests.{is_unsigned_in}
-use Rattle.clap.specs.Walk.{Row, Walk, Held, nothing_held, walk, walked, walk_from, settled, finished}
+use Rattle.clap.specs.Walk.{nothing_held, walk, walked}
 use Rattle.clap.specs.Simple.{Shape, built, entered}
-use Rattle.clap.specs.Faults.{level_fault, entered_fault, fault_of, walk_fault, turn_fault, settle_fault, defaults_fault, check_fault}
-use Rattle.clap.specs.declared.error.kind.ErrorKind.{ErrorKind}
+use Rattle.clap.specs.Faults.{level_fault, entered_fault, fault_of, turn_fault}
 use Rattle.clap.specs.declared.error.kind.ErrorKind.TheVariants as kind
-use Rattle.clap.specs.declared.builder.value_parser.Reading.TheVariants as reading
-use Rattle.clap.specs.declared.parser.matches.ValueSource.TheVariants.{CommandLine}
 use Rattle.clap.proofs.OnLiterals.{clap_on_literals}
 use Rattle.raml_words.specs.Apps.{run_app, run_pairs, maybe, option_word, accepted, has_three, ordered}
 use Rattle.raml_words.specs.Clapped.{none, is_taken, found}
-
--- what is wrong at the end of the words
-abbrev pub ending : Shape → Held → Kinds
-ending S end = or_else (settle_fault S.rules S.args_override_self end) (or_else (defaults_fault (settled S.rules end).rows S.rules) (check_fault S (finished S.rules end) false))
-
--- what is wrong with the words from here
-abbrev pub tail : Shape → Walk → List Text → Kinds
-tail S w ws = or_else (walk_fault S [] w ws) (ending S (fold (walked S.rules []) w ws).held)
-
-pub step_good : (S : Shape) (w : Walk) (word : Text) (rest : List Text) (v : Walk) → turn_fault S [] w word ≡ [] → walked S.rules [] w word ≡ v → tail S w (word ∷ rest) ≡ tail S v rest
-unfolding walk_fault
-step_good S w word rest v p q =
-    ap (λ t. or_else (or_else t (walk_fault S [] (walked S.rules [] w word) rest)) (ending S (fold (walked S.rules []) (walked S.rules [] w word) rest).held)) p
-    ∙ ap (λ u. tail S u rest) q
-
-pub step_bad : (S : Shape) (w : Walk) (word : Text) (rest : List Text) (k : ErrorKind) → turn_fault S [] w word ≡ k ∷ [] → none (tail S w (word ∷ rest)) ≡ false
-unfolding walk_fault
-step_bad S w word rest k p = rw p refl
+use Rattle.raml_words.proofs.Walk.{tail, option_step, row, with_row, W, words_of, end}
 
 abbrev S : Shape
 S = (built run_app).top
-
-abbrev pub row : Text → Text → Row
-row id v = record { id = id; values = v ∷ []; count = None; source = Some CommandLine; reading = reading.AsWritten }
-
-abbrev pub with_row : Text → Option Text → List Row → List Row
-with_row id None rows = rows
-with_row id (Some v) rows = row id v ∷ rows
-
-abbrev pub W : List Row → Walk
-W rows = walk_from (record { rows = rows; pending = None; skip = 0 })
 
 steps_good : (s : Text) → is_unsigned_in 1 1000000000 s ≡ true → turn_fault S [] (W []) (option_word (codes "steps") s) ≡ []
 unfolding clap_on_literals
@@ -144,35 +113,19 @@ start_from ws (Some p) = refl
 start : (ws : List Text) → fault_of run_app (codes "run" ∷ ws) ≡ tail S (W []) ws
 start ws = start_from ws (walk S.rules [] nothing_held ws).stopped
 
-abbrev words_of : List (Text × Text) → List Text → List Text
-words_of options rest = map (λ (p : Text × Text). option_word p.0 p.1) options ++ rest
-
-abbrev end : List Text → List Text
-end os = codes "--" ∷ os
-
 degree_part : (s l g : Option Text) (os : List Text) → none (tail S (W (with_row (codes "steps") s (with_row (codes "cells") l []))) (words_of (maybe (codes "degree") g []) (end os))) ≡ (accepted 1 4 g && has_three os)
 degree_part s l None os = operands s l None os
-degree_part s l (Some g) os = by (is_unsigned_in 1 4 g) refl
-  where
-    by : (t : Bool) → is_unsigned_in 1 4 g ≡ t → none (tail S (W (with_row (codes "steps") s (with_row (codes "cells") l []))) (option_word (codes "degree") g ∷ end os)) ≡ (t && has_three os)
-    by true e = ap none (step_good S _ (option_word (codes "degree") g) (end os) _ (degree_good s l g e) (degree_walked s l g)) ∙ operands s l (Some g) os
-    by false e = step_bad S _ (option_word (codes "degree") g) (end os) _ (degree_bad s l g e)
+degree_part s l (Some g) os = option_step S _ (option_word (codes "degree") g) (end os) _ _ (is_unsigned_in 1 4 g) _ (degree_good s l g) (degree_bad s l g) (degree_walked s l g) (operands s l (Some g) os)
 
 cells_part : (s l g : Option Text) (os : List Text) → none (tail S (W (with_row (codes "steps") s [])) (words_of (maybe (codes "cells") l (maybe (codes "degree") g [])) (end os))) ≡ (accepted 0 16777216 l && (accepted 1 4 g && has_three os))
 cells_part s None g os = degree_part s None g os
-cells_part s (Some l) g os = by (is_unsigned_in 0 16777216 l) refl
-  where
-    by : (t : Bool) → is_unsigned_in 0 16777216 l ≡ t → none (tail S (W (with_row (codes "steps") s [])) (option_word (codes "cells") l ∷ words_of (maybe (codes "degree") g []) (end os))) ≡ (t && (accepted 1 4 g && has_three os))
-    by true e = ap none (step_good S _ (option_word (codes "cells") l) (words_of (maybe (codes "degree") g []) (end os)) _ (cells_good s l e) (cells_walked s l)) ∙ degree_part s (Some l) g os
-    by false e = step_bad S _ (option_word (codes "cells") l) (words_of (maybe (codes "degree") g []) (end os)) _ (cells_bad s l e)
+cells_part s (Some l) g os =
+    option_step S _ (option_word (codes "cells") l) (words_of (maybe (codes "degree") g []) (end os)) _ _ (is_unsigned_in 0 16777216 l) _ (cells_good s l) (cells_bad s l) (cells_walked s l) (degree_part s (Some l) g os)
 
 steps_part : (s l g : Option Text) (os : List Text) → none (tail S (W []) (words_of (maybe (codes "steps") s (maybe (codes "cells") l (maybe (codes "degree") g []))) (end os))) ≡ (accepted 1 1000000000 s && (accepted 0 16777216 l && (accepted 1 4 g && has_three os)))
 steps_part None l g os = cells_part None l g os
-steps_part (Some s) l g os = by (is_unsigned_in 1 1000000000 s) refl
-  where
-    by : (t : Bool) → is_unsigned_in 1 1000000000 s ≡ t → none (tail S (W []) (option_word (codes "steps") s ∷ words_of (maybe (codes "cells") l (maybe (codes "degree") g [])) (end os))) ≡ (t && (accepted 0 16777216 l && (accepted 1 4 g && has_three os)))
-    by true e = ap none (step_good S _ (option_word (codes "steps") s) (words_of (maybe (codes "cells") l (maybe (codes "degree") g [])) (end os)) _ (steps_good s e) (steps_walked s)) ∙ cells_part (Some s) l g os
-    by false e = step_bad S _ (option_word (codes "steps") s) (words_of (maybe (codes "cells") l (maybe (codes "degree") g [])) (end os)) _ (steps_bad s e)
+steps_part (Some s) l g os =
+    option_step S _ (option_word (codes "steps") s) (words_of (maybe (codes "cells") l (maybe (codes "degree") g [])) (end os)) _ _ (is_unsigned_in 1 1000000000 s) _ (steps_good s) (steps_bad s) (steps_walked s) (cells_part (Some s) l g os)
 
 -- `run` takes its words exactly where each number that is given is in its range, and there are three operands
 pub run_taken : (s l g : Option Text) (os : List Text) → is_taken run_app (ordered (codes "run") (run_pairs s l g) os) ≡ (accepted 1 1000000000 s && (accepted 0 16777216 l && (accepted 1 4 g && has_three os)))
@@ -182,18 +135,18 @@ run_taken s l g os = ap none (start (words_of (maybe (codes "steps") s (maybe (c
 pub record RunFinds (s l g : Option Text) (a b x : Text) : Type 0 where
   pub file : found run_app (ordered (codes "run") (run_pairs s l g) (a ∷ b ∷ x ∷ [])) (codes "file") ≡ Some a
   pub name : found run_app (ordered (codes "run") (run_pairs s l g) (a ∷ b ∷ x ∷ [])) (codes "name") ≡ Some b
-  pub data_file : found run_app (ordered (codes "run") (run_pairs s l g) (a ∷ b ∷ x ∷ [])) (codes "data") ≡ Some x
+  pub input : found run_app (ordered (codes "run") (run_pairs s l g) (a ∷ b ∷ x ∷ [])) (codes "input") ≡ Some x
   pub steps : found run_app (ordered (codes "run") (run_pairs s l g) (a ∷ b ∷ x ∷ [])) (codes "steps") ≡ s
   pub cells : found run_app (ordered (codes "run") (run_pairs s l g) (a ∷ b ∷ x ∷ [])) (codes "cells") ≡ l
   pub degree : found run_app (ordered (codes "run") (run_pairs s l g) (a ∷ b ∷ x ∷ [])) (codes "degree") ≡ g
 
 pub run_finds : (s l g : Option Text) (a b x : Text) → RunFinds s l g a b x
 unfolding clap_on_literals
-run_finds None None None a b x = record { file = refl; name = refl; data_file = refl; steps = refl; cells = refl; degree = refl }
-run_finds None None (Some g) a b x = record { file = refl; name = refl; data_file = refl; steps = refl; cells = refl; degree = refl }
-run_finds None (Some l) None a b x = record { file = refl; name = refl; data_file = refl; steps = refl; cells = refl; degree = refl }
-run_finds None (Some l) (Some g) a b x = record { file = refl; name = refl; data_file = refl; steps = refl; cells = refl; degree = refl }
-run_finds (Some s) None None a b x = record { file = refl; name = refl; data_file = refl; steps = refl; cells = refl; degree = refl }
-run_finds (Some s) None (Some g) a b x = record { file = refl; name = refl; data_file = refl; steps = refl; cells = refl; degree = refl }
-run_finds (Some s) (Some l) None a b x = record { file = refl; name = refl; data_file = refl; steps = refl; cells = refl; degree = refl }
-run_finds (Some s) (Some l) (Some g) a b x = record { file = refl; name = refl; data_file = refl; steps = refl; cells = refl; degree = refl }
+run_finds None None None a b x = record { file = refl; name = refl; input = refl; steps = refl; cells = refl; degree = refl }
+run_finds None None (Some g) a b x = record { file = refl; name = refl; input = refl; steps = refl; cells = refl; degree = refl }
+run_finds None (Some l) None a b x = record { file = refl; name = refl; input = refl; steps = refl; cells = refl; degree = refl }
+run_finds None (Some l) (Some g) a b x = record { file = refl; name = refl; input = refl; steps = refl; cells = refl; degree = refl }
+run_finds (Some s) None None a b x = record { file = refl; name = refl; input = refl; steps = refl; cells = refl; degree = refl }
+run_finds (Some s) None (Some g) a b x = record { file = refl; name = refl; input = refl; steps = refl; cells = refl; degree = refl }
+run_finds (Some s) (Some l) None a b x = record { file = refl; name = refl; input = refl; steps = refl; cells = refl; degree = refl }
+run_finds (Some s) (Some l) (Some g) a b x = record { file = refl; name = refl; input = refl; steps = refl; cells = refl; degree = refl }

@@ -46,7 +46,19 @@ abbrev pub run_options_app : App
 run_options_app = with_rule run_limits_app (number_rule (codes "degree") false 1 4)
 
 abbrev pub run_app : App
-run_app = with_rule (with_rule (with_rule run_options_app (operand_rule (codes "file"))) (operand_rule (codes "name"))) (operand_rule (codes "data"))
+run_app = with_rule (with_rule (with_rule run_options_app (operand_rule (codes "file"))) (operand_rule (codes "name"))) (operand_rule (codes "input"))
+
+abbrev pub file_degree_app : App
+file_degree_app = with_rule (with_rule bare (number_rule (codes "degree") true 1 4)) (operand_rule (codes "file"))
+
+abbrev pub files_degree_app : App
+files_degree_app = with_rule file_degree_app (operand_rule (codes "other"))
+
+abbrev pub spend_files_app : App
+spend_files_app = with_rule (with_rule run_limits_app (operand_rule (codes "file"))) (operand_rule (codes "prices"))
+
+abbrev pub spend_app : App
+spend_app = with_rule (with_rule spend_files_app (operand_rule (codes "name"))) (operand_rule (codes "input"))
 
 -- ---- ordered words
 
@@ -71,15 +83,17 @@ bounds_pairs degree pivot = maybe (codes "degree") degree (maybe (codes "pivot")
 abbrev pub run_pairs : Option Text → Option Text → Option Text → List (Text × Text)
 run_pairs steps cells degree = maybe (codes "steps") steps (maybe (codes "cells") cells (maybe (codes "degree") degree []))
 
+abbrev pub degree_pairs : Option Text → List (Text × Text)
+degree_pairs degree = maybe (codes "degree") degree []
+
+abbrev pub spend_pairs : Option Text → Option Text → List (Text × Text)
+spend_pairs steps cells = maybe (codes "steps") steps (maybe (codes "cells") cells [])
+
 -- ---- what `clap` takes
 
 abbrev pub accepted : ℕ → ℕ → Option Text → Bool
 accepted least most None = true
 accepted least most (Some v) = is_unsigned_in least most v
-
-abbrev pub required : ℕ → ℕ → Option Text → Bool
-required least most None = false
-required least most (Some v) = is_unsigned_in least most v
 
 abbrev pub has_one : List Text → Bool
 has_one (a ∷ []) = true
@@ -92,3 +106,7 @@ has_two _ = false
 abbrev pub has_three : List Text → Bool
 has_three (a ∷ b ∷ c ∷ []) = true
 has_three _ = false
+
+abbrev pub has_four : List Text → Bool
+has_four (a ∷ b ∷ c ∷ d ∷ []) = true
+has_four _ = false

@@ -1,5 +1,5 @@
 -- What `clap` finds in ordered words.
-use Rattle.std.specs.Prelude.{◌≡◌, Bool, true, false, cond, List, [], ◌∷◌, Option, Some, None, option_map, option_and_then, codes}
+use Rattle.std.specs.Prelude.{◌≡◌, Bool, true, false, cond, List, [], ◌∷◌, Option, Some, None, codes}
 use Rattle.std.specs.Borrow.{Bor}
 use Rattle.clap.specs.Kinds.{Kinds}
 use Rattle.clap.specs.Walk.{first_of}
@@ -10,11 +10,13 @@ use Rattle.clap.specs.declared.error.kind.ErrorKind.{ErrorKind}
 use Rattle.clap.specs.declared.error.kind.ErrorKind.TheVariants as kind
 use Rattle.clap.specs.declared.parser.matches.Found.{Found}
 use Rattle.raml_words.specs.Words.{Text}
-use Rattle.raml_words.specs.Sorting.{lent}
+use Rattle.raml_words.specs.Sorting.{lent, both}
 use Rattle.raml_words.specs.declared.request.WordsFault.{WordsFault}
 use Rattle.raml_words.specs.declared.request.WordsFault.TheVariants.{Usage, NoMemory}
 use Rattle.raml_words.specs.declared.clapped.BoundsTexts.{BoundsTexts as BoundsTexts'}
 use Rattle.raml_words.specs.declared.clapped.RunTexts.{RunTexts as RunTexts'}
+use Rattle.raml_words.specs.declared.clapped.FilesTexts.{FilesTexts}
+use Rattle.raml_words.specs.declared.clapped.SpendTexts.{SpendTexts as SpendTexts'}
 
 -- no kind
 abbrev pub none : Kinds → Bool
@@ -39,9 +41,6 @@ taken_as app of_values words = cond (is_taken app words) (of_values (found app w
 abbrev pub one_text : (Text → Option Text) → Option Text
 one_text value = value (codes "file")
 
-abbrev pub both : {A B : Type 0} → Option A → Option B → Option (A × B)
-both o p = option_and_then (λ a. option_map (λ b. (a, b)) p) o
-
 abbrev pub two_texts : (Text → Option Text) → Option (Text × Text)
 two_texts value = both (value (codes "file")) (value (codes "other"))
 
@@ -63,20 +62,42 @@ bounds_texts value = bounds_texts_with (value (codes "file")) (value (codes "deg
 pub record RunTexts : Type 0 where
   pub file : Text
   pub name : Text
-  pub data_file : Text
+  pub input : Text
   pub steps : Option Text
   pub cells : Option Text
   pub degree : Option Text
 
 abbrev pub run_texts_with : Option Text → Option Text → Option Text → Option Text → Option Text → Option Text → Option RunTexts
-run_texts_with (Some file) (Some name) (Some data_file) steps cells degree =
-    Some (record { file = file; name = name; data_file = data_file; steps = steps; cells = cells; degree = degree })
-run_texts_with file name data_file steps cells degree = None
+run_texts_with (Some file) (Some name) (Some input) steps cells degree =
+    Some (record { file = file; name = name; input = input; steps = steps; cells = cells; degree = degree })
+run_texts_with file name input steps cells degree = None
 
 abbrev pub run_texts : (Text → Option Text) → Option RunTexts
 run_texts value =
-    run_texts_with (value (codes "file")) (value (codes "name")) (value (codes "data"))
+    run_texts_with (value (codes "file")) (value (codes "name")) (value (codes "input"))
     (value (codes "steps")) (value (codes "cells")) (value (codes "degree"))
+
+-- what the operands are, and the degree
+abbrev pub degree_texts : {A : Type 0} → ((Text → Option Text) → Option A) → (Text → Option Text) → Option (A × Text)
+degree_texts of_values value = both (of_values value) (value (codes "degree"))
+
+pub record SpendTexts : Type 0 where
+  pub file : Text
+  pub prices : Text
+  pub name : Text
+  pub input : Text
+  pub steps : Option Text
+  pub cells : Option Text
+
+abbrev pub spend_texts_with : Option Text → Option Text → Option Text → Option Text → Option Text → Option Text → Option SpendTexts
+spend_texts_with (Some file) (Some prices) (Some name) (Some input) steps cells =
+    Some (record { file = file; prices = prices; name = name; input = input; steps = steps; cells = cells })
+spend_texts_with file prices name input steps cells = None
+
+abbrev pub spend_texts : (Text → Option Text) → Option SpendTexts
+spend_texts value =
+    spend_texts_with (value (codes "file")) (value (codes "prices")) (value (codes "name")) (value (codes "input"))
+    (value (codes "steps")) (value (codes "cells"))
 
 -- ---- the code's texts as plain data
 
@@ -93,4 +114,10 @@ abbrev pub bounds_texts_of : BoundsTexts' → BoundsTexts
 bounds_texts_of t = record { file = t.file.now; degree = t.degree.now; pivot = lent t.pivot }
 
 abbrev pub run_texts_of : RunTexts' → RunTexts
-run_texts_of t = record { file = t.file.now; name = t.name.now; data_file = t.«data».now; steps = lent t.steps; cells = lent t.cells; degree = lent t.degree }
+run_texts_of t = record { file = t.file.now; name = t.name.now; input = t.input.now; steps = lent t.steps; cells = lent t.cells; degree = lent t.degree }
+
+abbrev pub files_texts_of : FilesTexts → (Text × Text) × Text
+files_texts_of t = ((t.file.now, t.other.now), t.degree.now)
+
+abbrev pub spend_texts_of : SpendTexts' → SpendTexts
+spend_texts_of t = record { file = t.file.now; prices = t.prices.now; name = t.name.now; input = t.input.now; steps = lent t.steps; cells = lent t.cells }

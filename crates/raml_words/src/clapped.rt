@@ -3,11 +3,14 @@ ghost use Rattle.std.specs.Prelude.{◌≡◌, map, option_map, string_bytes};
 ghost use Rattle.clap.specs.Values.{kind_of};
 ghost use Rattle.clap.specs.Matches.{found_of};
 ghost use Rattle.raml_words.specs.Sorting.{lent, lent_parts};
-ghost use Rattle.raml_words.specs.Apps.{one_app, two_app, count_app, bounds_app, run_app};
-ghost use Rattle.raml_words.specs.Clapped.{now_of, taken_as, one_text, two_texts, count_text, bounds_texts, run_texts, values_in, pair_of, bounds_texts_of, run_texts_of, Refuses};
+ghost use Rattle.raml_words.specs.Apps.{one_app, two_app, count_app, bounds_app, run_app, file_degree_app, files_degree_app, spend_app};
+ghost use Rattle.raml_words.specs.Clapped.{now_of, taken_as, one_text, two_texts, count_text, bounds_texts, run_texts, values_in, pair_of, bounds_texts_of, run_texts_of, degree_texts, files_texts_of, spend_texts, spend_texts_of, Refuses};
 ghost use Rattle.raml_words.specs.Asked.{Tells};
 
-use crate::commands::{bounds_command, count_command, one_command, run_command, two_command};
+use crate::commands::{
+    bounds_command, count_command, file_degree_command, files_degree_command, one_command, run_command,
+    spend_command, two_command,
+};
 use crate::request::WordsFault;
 use clap::error::ErrorKind;
 use clap::{ArgMatches, Error};
@@ -124,7 +127,7 @@ fn bounds_texts<'a>(matches: &ArgMatches<'a>) -> Option<BoundsTexts<'a>>
 pub struct RunTexts<'a> {
     pub file: &'a str,
     pub name: &'a str,
-    pub data: &'a str,
+    pub input: &'a str,
     pub steps: Option<&'a str>,
     pub cells: Option<&'a str>,
     pub degree: Option<&'a str>,
@@ -149,13 +152,118 @@ fn run_texts<'a>(matches: &ArgMatches<'a>) -> Option<RunTexts<'a>>
 {
     let file = matches.get_str("file")?;
     let name = matches.get_str("name")?;
-    let data = matches.get_str("data")?;
+    let input = matches.get_str("input")?;
     Some(RunTexts {
         file,
         name,
-        data,
+        input,
         steps: matches.get_str("steps"),
         cells: matches.get_str("cells"),
         degree: matches.get_str("degree"),
+    })
+}
+
+/// The operand and the degree of ordered words.
+pub fn file_degree_matches<'a>(
+    alloc: Global,
+    words: &'a [String],
+) -> Result<(&'a str, &'a str), WordsFault>
+    ensures { Tells pair_of result (taken_as file_degree_app (degree_texts one_text) (map string_bytes words.now)) }
+{
+    let command = file_degree_command(alloc)?;
+    match command.try_get_matches_from(words) {
+        Ok(matches) => match file_degree_texts(&matches) {
+            Some(found) => Ok(found),
+            None => Err(WordsFault::Usage),
+        },
+        Err(error) => Err(fault_of(&error)),
+    }
+}
+
+fn file_degree_texts<'a>(matches: &ArgMatches<'a>) -> Option<(&'a str, &'a str)>
+    ensures { option_map pair_of result ≡ degree_texts one_text (values_in (found_of matches.now)) }
+{
+    let file = matches.get_str("file")?;
+    let degree = matches.get_str("degree")?;
+    Some((file, degree))
+}
+
+/// The texts of a command with two operands and a degree.
+#[derive(Clone, Copy)]
+pub struct FilesTexts<'a> {
+    pub file: &'a str,
+    pub other: &'a str,
+    pub degree: &'a str,
+}
+
+/// The two operands and the degree of ordered words.
+pub fn files_degree_matches<'a>(
+    alloc: Global,
+    words: &'a [String],
+) -> Result<FilesTexts<'a>, WordsFault>
+    ensures { Tells files_texts_of result (taken_as files_degree_app (degree_texts two_texts) (map string_bytes words.now)) }
+{
+    let command = files_degree_command(alloc)?;
+    match command.try_get_matches_from(words) {
+        Ok(matches) => match files_degree_texts(&matches) {
+            Some(found) => Ok(found),
+            None => Err(WordsFault::Usage),
+        },
+        Err(error) => Err(fault_of(&error)),
+    }
+}
+
+fn files_degree_texts<'a>(matches: &ArgMatches<'a>) -> Option<FilesTexts<'a>>
+    ensures { option_map files_texts_of result ≡ degree_texts two_texts (values_in (found_of matches.now)) }
+{
+    let file = matches.get_str("file")?;
+    let other = matches.get_str("other")?;
+    let degree = matches.get_str("degree")?;
+    Some(FilesTexts {
+        file,
+        other,
+        degree,
+    })
+}
+
+/// The texts of `spend`.
+#[derive(Clone, Copy)]
+pub struct SpendTexts<'a> {
+    pub file: &'a str,
+    pub prices: &'a str,
+    pub name: &'a str,
+    pub input: &'a str,
+    pub steps: Option<&'a str>,
+    pub cells: Option<&'a str>,
+}
+
+/// What ordered words give `spend`.
+pub fn spend_matches<'a>(alloc: Global, words: &'a [String]) -> Result<SpendTexts<'a>, WordsFault>
+    ensures { Tells spend_texts_of result (taken_as spend_app spend_texts (map string_bytes words.now)) }
+{
+    let command = spend_command(alloc)?;
+    match command.try_get_matches_from(words) {
+        Ok(matches) => match spend_texts(&matches) {
+            Some(found) => Ok(found),
+            None => Err(WordsFault::Usage),
+        },
+        Err(error) => Err(fault_of(&error)),
+    }
+}
+
+fn spend_texts<'a>(matches: &ArgMatches<'a>) -> Option<SpendTexts<'a>>
+    ensures { option_map spend_texts_of result ≡ spend_texts (values_in (found_of matches.now)) }
+{
+    let file = matches.get_str("file")?;
+    let prices = matches.get_str("prices")?;
+    let name = matches.get_str("name")?;
+    let input = matches.get_str("input")?;
+    Some(SpendTexts {
+        file,
+        prices,
+        name,
+        input,
+        steps: matches.get_str("steps"),
+        cells: matches.get_str("cells"),
     })
 }

@@ -1,7 +1,7 @@
 // The commands as `clap` has them.
 ghost use Rattle.std.specs.Prelude.{◌≡◌, IfOk};
 ghost use Rattle.clap.specs.Simple.{app_of};
-ghost use Rattle.raml_words.specs.Apps.{bare, one_app, two_app, count_app, bounds_options_app, bounds_app, run_limits_app, run_options_app, run_app};
+ghost use Rattle.raml_words.specs.Apps.{bare, one_app, two_app, count_app, bounds_options_app, bounds_app, run_limits_app, run_options_app, run_app, file_degree_app, files_degree_app, spend_files_app, spend_app};
 
 use clap::builder::ValueParser;
 use clap::{Arg, Command};
@@ -97,6 +97,50 @@ pub fn run_command<'a>(alloc: Global) -> Result<Command<'a>, AllocError>
     let with_file = options.arg(file)?;
     let name = Arg::new(alloc, "name").required(true);
     let with_name = with_file.arg(name)?;
-    let data = Arg::new(alloc, "data").required(true);
-    with_name.arg(data)
+    let input = Arg::new(alloc, "input").required(true);
+    with_name.arg(input)
+}
+
+/// A command with one operand and a degree.
+pub fn file_degree_command<'a>(alloc: Global) -> Result<Command<'a>, AllocError>
+    ensures { IfOk result (λ c. app_of c ≡ file_degree_app) }
+{
+    let degree = Arg::new(alloc, "degree")
+        .long("degree")
+        .required(true)
+        .value_parser(ValueParser::Unsigned(1, 4));
+    let command = bare(alloc);
+    let with_degree = command.arg(degree)?;
+    let file = Arg::new(alloc, "file").required(true);
+    with_degree.arg(file)
+}
+
+/// A command with two operands and a degree.
+pub fn files_degree_command<'a>(alloc: Global) -> Result<Command<'a>, AllocError>
+    ensures { IfOk result (λ c. app_of c ≡ files_degree_app) }
+{
+    let command = file_degree_command(alloc)?;
+    let other = Arg::new(alloc, "other").required(true);
+    command.arg(other)
+}
+
+fn spend_files<'a>(alloc: Global) -> Result<Command<'a>, AllocError>
+    ensures { IfOk result (λ c. app_of c ≡ spend_files_app) }
+{
+    let limits = run_limits(alloc)?;
+    let file = Arg::new(alloc, "file").required(true);
+    let with_file = limits.arg(file)?;
+    let prices = Arg::new(alloc, "prices").required(true);
+    with_file.arg(prices)
+}
+
+/// The command `spend`.
+pub fn spend_command<'a>(alloc: Global) -> Result<Command<'a>, AllocError>
+    ensures { IfOk result (λ c. app_of c ≡ spend_app) }
+{
+    let files = spend_files(alloc)?;
+    let name = Arg::new(alloc, "name").required(true);
+    let with_name = files.arg(name)?;
+    let input = Arg::new(alloc, "input").required(true);
+    with_name.arg(input)
 }

@@ -3,7 +3,9 @@
 
 mod clapped;
 mod commands;
+mod degrees;
 pub mod laws;
+mod limits;
 mod made;
 mod number;
 mod options;
@@ -11,5 +13,6 @@ mod ordered;
 mod request;
 mod run;
 mod sorting;
+mod spend;
 
 pub use request::{Request, Rule, WordsFault, read_words};

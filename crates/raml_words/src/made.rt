@@ -7,6 +7,7 @@ ghost use Rattle.raml_words.specs.Clapped.{bounds_texts_of};
 ghost use Rattle.raml_words.specs.Asked.{Tells, bounds_of, files_of};
 
 use crate::clapped::{BoundsTexts, bounds_matches, count_matches, one_matches, two_matches};
+use crate::limits::{MOST_COUNT, MOST_DEGREE};
 use crate::number::{are_numbers, given_number, number_in};
 use crate::options::{has_none, once, value_of};
 use crate::ordered::{ordered, ordered_bounds};
@@ -33,9 +34,9 @@ pub struct Files {
 pub fn read_one(alloc: Global, command: &str, rest: &[&str]) -> Result<String, WordsFault>
     ensures { Tells string_bytes result (given_one (texts rest.now)) }
 {
-    match Given::of(rest, &[]) {
-        Some(given) => one_given(alloc, command, &given),
-        None => Err(WordsFault::Usage),
+    match Given::of(alloc, rest, &[]) {
+        Ok(given) => one_given(alloc, command, &given),
+        Err(fault) => Err(fault),
     }
 }
 
@@ -63,9 +64,9 @@ fn one_ordered(alloc: Global, command: &str, operands: &[&str]) -> Result<String
 pub fn read_two(alloc: Global, command: &str, rest: &[&str]) -> Result<Files, WordsFault>
     ensures { Tells files_of result (given_two (texts rest.now)) }
 {
-    match Given::of(rest, &[]) {
-        Some(given) => two_given(alloc, command, &given),
-        None => Err(WordsFault::Usage),
+    match Given::of(alloc, rest, &[]) {
+        Ok(given) => two_given(alloc, command, &given),
+        Err(fault) => Err(fault),
     }
 }
 
@@ -96,9 +97,9 @@ fn two_ordered(alloc: Global, command: &str, operands: &[&str]) -> Result<Files,
 pub fn read_count(alloc: Global, command: &str, rest: &[&str]) -> Result<u32, WordsFault>
     ensures { Tells (λ count. count) result (given_count (texts rest.now)) }
 {
-    match Given::of(rest, &[]) {
-        Some(given) => count_given(alloc, command, &given),
-        None => Err(WordsFault::Usage),
+    match Given::of(alloc, rest, &[]) {
+        Ok(given) => count_given(alloc, command, &given),
+        Err(fault) => Err(fault),
     }
 }
 
@@ -140,9 +141,9 @@ fn count_ordered(alloc: Global, command: &str, operands: &[&str]) -> Result<u32,
 pub fn read_bounds(alloc: Global, command: &str, rest: &[&str]) -> Result<Bounds, WordsFault>
     ensures { Tells bounds_of result (given_bounds (texts rest.now)) }
 {
-    match Given::of(rest, &["degree", "pivot"]) {
-        Some(given) => bounds_given(alloc, command, &given),
-        None => Err(WordsFault::Usage),
+    match Given::of(alloc, rest, &["degree", "pivot"]) {
+        Ok(given) => bounds_given(alloc, command, &given),
+        Err(fault) => Err(fault),
     }
 }
 
@@ -234,9 +235,3 @@ fn rule_named(word: &str) -> Option<Rule>
         _ => None,
     }
 }
-
-/// The greatest degree of polynomials.
-const MOST_DEGREE: u64 = 4;
-
-/// The greatest number of pairs of functions.
-const MOST_COUNT: u64 = 100;

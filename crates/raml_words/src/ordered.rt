@@ -2,7 +2,7 @@
 ghost use Rattle.std.specs.Prelude.{◌≡◌, ◌++◌, IfOk, map, string_bytes, codes};
 ghost use Rattle.raml_words.specs.Words.{texts};
 ghost use Rattle.raml_words.specs.Sorting.{pairs, lent};
-ghost use Rattle.raml_words.specs.Apps.{ordered, options_words, bounds_pairs, run_pairs};
+ghost use Rattle.raml_words.specs.Apps.{ordered, options_words, bounds_pairs, run_pairs, degree_pairs, spend_pairs};
 
 use std::alloc::{AllocError, Global};
 
@@ -38,7 +38,7 @@ fn with_options(
     Ok(words)
 }
 
-/// The ordered words of a command with a degree and a rule.
+/// The ordered words of a command with a degree and perhaps a rule.
 pub fn ordered_bounds(
     alloc: Global,
     command: &str,
@@ -101,6 +101,51 @@ fn run_values<'a>(
     }
     if let Some(value) = degree {
         options.push(("degree", value))?;
+    }
+    Ok(options)
+}
+
+/// The ordered words of a command with a degree.
+pub fn ordered_degree(
+    alloc: Global,
+    command: &str,
+    degree: Option<&str>,
+    operands: &[&str],
+) -> Result<Vec<String>, AllocError>
+    ensures { IfOk result (λ words. map string_bytes words.items ≡ ordered command.now (degree_pairs (lent degree.entry)) (texts operands.now)) }
+{
+    match degree {
+        Some(value) => ordered(alloc, command, &[("degree", value)], operands),
+        None => ordered(alloc, command, &[], operands),
+    }
+}
+
+/// The ordered words of `spend`.
+pub fn ordered_spend(
+    alloc: Global,
+    steps: Option<&str>,
+    cells: Option<&str>,
+    operands: &[&str],
+) -> Result<Vec<String>, AllocError>
+    ensures { IfOk result (λ words. map string_bytes words.items ≡ ordered (codes "spend") (spend_pairs (lent steps.entry) (lent cells.entry)) (texts operands.now)) }
+{
+    let options = spend_values(alloc, steps, cells)?;
+    ordered(alloc, "spend", &options, operands)
+}
+
+fn spend_values<'a>(
+    alloc: Global,
+    steps: Option<&'a str>,
+    cells: Option<&'a str>,
+) -> Result<Vec<(&'a str, &'a str)>, AllocError>
+    ensures { IfOk result (λ options. pairs options.items ≡ spend_pairs (lent steps.entry) (lent cells.entry)) }
+{
+    let mut options = Vec::new(alloc);
+    if let Some(value) = steps {
+        options.push(("steps", value))?;
+    }
+    if let Some(value) = cells {
+        options.push(("cells", value))?;
     }
     Ok(options)
 }

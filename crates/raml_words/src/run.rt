@@ -1,13 +1,14 @@
 // What the words behind `run` give it: sorted and tested here, and then read by `clap`.
 ghost use Rattle.std.specs.Prelude.{◌≡◌, option_and_then};
 ghost use Rattle.raml_words.specs.Words.{texts};
-ghost use Rattle.raml_words.specs.Sorting.{lent, given_of, optional, run_by, run_in, given_run};
+ghost use Rattle.raml_words.specs.Sorting.{lent, given_of, run_by, run_in, given_run};
 ghost use Rattle.raml_words.specs.Clapped.{run_texts_of};
 ghost use Rattle.raml_words.specs.Made.{run_made, run_clapped};
 ghost use Rattle.raml_words.specs.Asked.{Tells, request_of};
 
 use crate::clapped::{RunTexts, run_matches};
-use crate::number::{given_number, number_in};
+use crate::limits::{USUAL_STEPS, cells_in, degree_in, steps_in};
+use crate::number::given_number;
 use crate::options::{once, value_of};
 use crate::ordered::ordered_run;
 use crate::request::{Request, WordsFault};
@@ -18,9 +19,9 @@ use std::alloc::Global;
 pub fn read_run(alloc: Global, rest: &[&str]) -> Result<Request, WordsFault>
     ensures { Tells request_of result (given_run (texts rest.now)) }
 {
-    match Given::of(rest, &["steps", "cells", "degree"]) {
-        Some(given) => run_given(alloc, &given),
-        None => Err(WordsFault::Usage),
+    match Given::of(alloc, rest, &["steps", "cells", "degree"]) {
+        Ok(given) => run_given(alloc, &given),
+        Err(fault) => Err(fault),
     }
 }
 
@@ -87,57 +88,9 @@ fn make_run(alloc: Global, texts: RunTexts) -> Result<Request, WordsFault>
     Ok(Request::Run {
         file: String::from_str(alloc, texts.file)?,
         name: String::from_str(alloc, texts.name)?,
-        data: String::from_str(alloc, texts.data)?,
+        input: String::from_str(alloc, texts.input)?,
         steps: steps.unwrap_or(USUAL_STEPS),
         cells,
         degree,
     })
 }
-
-fn steps_in(value: Option<&str>) -> Option<Option<u64>>
-    ensures { result ≡ optional 1 1000000000 (lent value.entry) }
-{
-    match value {
-        Some(word) => match number_in(1, MOST_STEPS, word) {
-            Some(number) => Some(Some(number)),
-            None => None,
-        },
-        None => Some(None),
-    }
-}
-
-fn cells_in(value: Option<&str>) -> Option<Option<u32>>
-    ensures { result ≡ optional 0 16777216 (lent value.entry) }
-{
-    match value {
-        Some(word) => match number_in(0, MOST_CELLS, word) {
-            Some(number) => Some(Some(number as u32)),
-            None => None,
-        },
-        None => Some(None),
-    }
-}
-
-fn degree_in(value: Option<&str>) -> Option<Option<u8>>
-    ensures { result ≡ optional 1 4 (lent value.entry) }
-{
-    match value {
-        Some(word) => match number_in(1, MOST_DEGREE, word) {
-            Some(number) => Some(Some(number as u8)),
-            None => None,
-        },
-        None => Some(None),
-    }
-}
-
-/// The greatest number of instructions that may be asked for.
-const MOST_STEPS: u64 = 1_000_000_000;
-
-/// The number of instructions where none is asked for.
-const USUAL_STEPS: u64 = 10_000_000;
-
-/// The greatest number of cells that may be asked for.
-const MOST_CELLS: u64 = 16_777_216;
-
-/// The greatest degree of polynomials.
-const MOST_DEGREE: u64 = 4;
