@@ -127,12 +127,13 @@ fn written(rt: &HostRuntime, words: &[&str]) -> Result<MemSink, Refusal> {
     }
 }
 
-// A sink with this room, in which no put fails before.
-fn sink(alloc: Global, room: usize) -> Result<MemSink, Refusal> {
+/// A sink with this room, in which no put fails before.
+pub fn sink(alloc: Global, room: usize) -> Result<MemSink, Refusal> {
     Ok(MemSink::new(alloc, room, usize::MAX, Vec::new(alloc))?)
 }
 
-fn push_digest(out: &mut String, name: &str, text: &str, bytes: &[u8]) -> Result<(), Refusal> {
+/// Adds the digest of a text: a line, as `sha256sum` writes it.
+pub fn push_digest(out: &mut String, name: &str, text: &str, bytes: &[u8]) -> Result<(), Refusal> {
     for byte in Sha256::digest(bytes) {
         write!(out, "{byte:02x}")?;
     }

@@ -1,7 +1,10 @@
-//! The program `tests_expected`, for tests: the digests of all texts of the programs in its folder. With two
-//! words, which name a source and a certificate of its analysis, the rows of each task that was tried.
+//! The program `tests_expected`, for tests: the digests of all texts of the programs in its folder, and of all
+//! answers of the calls there. With two words, which name a source and a certificate of its analysis, the rows of
+//! each task that was tried.
 #![tactic(auto)]
 
+mod calls;
+mod cases;
 mod digests;
 mod prices;
 mod read;
@@ -9,6 +12,7 @@ mod refusal;
 mod tasks;
 mod text;
 
+use crate::calls::push_answers;
 use crate::digests::all_digests;
 use crate::read::{read_certificate, read_source};
 use crate::refusal::Refusal;
@@ -30,12 +34,19 @@ fn main(rt: HostRuntime) -> ExitCode {
 fn run(rt: &HostRuntime) -> Result<(), Refusal> {
     let args: Vec<String> = env::args(rt)?.skip(1).collect(rt.alloc())?;
     let text = match args.as_slice() {
-        [] => all_digests(rt)?,
+        [] => digest_lines(rt)?,
         [source, certificate] => rows_in(rt, source, certificate)?,
         _ => return Err(Refusal::Words),
     };
     rt.print(text.as_str())?;
     Ok(())
+}
+
+// The digests of texts, and then those of answers.
+fn digest_lines(rt: &HostRuntime) -> Result<String, Refusal> {
+    let mut text = all_digests(rt)?;
+    push_answers(rt, &mut text)?;
+    Ok(text)
 }
 
 // The rows of the tasks of a certificate, where these are the names of the files.

@@ -11,6 +11,8 @@ pub enum Refusal {
     Source,
     /// It can't be read, is too long, or is no certificate.
     Certificate,
+    /// They can't be read, or are none.
+    Cases,
     /// Of a task that is not of the program, or that has no system.
     Task,
     /// A call of `raml` did not end well.
@@ -27,6 +29,7 @@ impl Refusal {
             Refusal::Words => "tests_expected [SOURCE CERTIFICATE]",
             Refusal::Source => "the source can't be read",
             Refusal::Certificate => "the certificate can't be read",
+            Refusal::Cases => "the cases can't be read",
             Refusal::Task => "a task has no rows",
             Refusal::Text => "a text is not written",
             Refusal::System => "the words are no text, or the output can't be written",
