@@ -73,11 +73,14 @@ pub record IsTyped (source : List ℕ) (P : Prog) : Type 0 where
   pub spelled : spelling.Spells source P
   pub typed : types.Typed P
 
--- The program of a call, or one to compare it with: what refuses that one is what would refuse the program.
+-- What refuses a program to compare with is what would refuse the program of the call.
+abbrev pub OtherRefused : (Ending → Type 0) → Ending → Type 0
+OtherRefused Refuses (OfOther e) = Refuses e
+OtherRefused Refuses _ = ⊥
+
 abbrev pub RefusedOf : Analysed → (Ending → Type 0) → Ending → Type 0
-RefusedOf a.Program Refuses e = Refuses e
-RefusedOf a.Other Refuses (OfOther e) = Refuses e
-RefusedOf a.Other Refuses _ = ⊥
+RefusedOf a.Program Refuses = Refuses
+RefusedOf a.Other Refuses = OtherRefused Refuses
 
 abbrev pub file_of : Analysed → Which
 file_of a.Program = w.Program

@@ -26,8 +26,8 @@ limited_call-requires-clause-call c =
     let prices = prices_of c.args.prices.now in
     ((is.0.0, applied_function prices is.0.1), is.1, applied_call prices (program_of c.args.typed.now) (program_of c.in_ok-applied.applied) c.in_ok-applied.ensures.applied c.args.call is.0 is.1 is.2)
 
-pub returns-in_ok-applied : goal.returns-in_ok-applied
-returns-in_ok-applied c f vs is =
+pub returns : goal.returns
+returns c f vs is =
     let P = program_of c.args.typed.now in
     let prices = prices_of c.args.prices.now in
     let made = program_of c.in_ok-applied.applied in
