@@ -10,7 +10,7 @@ use Rattle.clap.specs.declared.error.kind.ErrorKind.TheVariants as kind
 use Rattle.clap.proofs.OnLiterals.{clap_on_literals}
 use Rattle.raml_words.specs.Apps.{run_app, run_pairs, maybe, option_word, accepted, has_three, ordered}
 use Rattle.raml_words.specs.Clapped.{none, is_taken, found}
-use Rattle.raml_words.proofs.Walk.{tail, option_step, row, with_row, W, words_of, end}
+use Rattle.raml_words.proofs.Walk.{tail, option_step, with_row, W, words_of, end}
 
 abbrev S : Shape
 S = (built run_app).top

@@ -1,10 +1,10 @@
 -- What is read of the words is what they ask for.
-use Rattle.std.proofs.Common.{◌≡◌, ◌≤◌, ◌≢◌, ℕ, Bool, true, false, cond, List, [], ◌∷◌, length, Option, Some, None, Result, Ok, Err, IfOk, ⊎_elim, refl, sym, ap, subst, ◌∙◌, arith, codes}
+use Rattle.std.proofs.Common.{◌≡◌, ◌≢◌, ℕ, Bool, true, false, cond, List, [], ◌∷◌, Option, Some, None, Result, Ok, Err, IfOk, ⊎_elim, refl, sym, ap, subst, ◌∙◌, arith, codes}
 use Rattle.std.specs.Prelude.{option_map, option_and_then, IfErr}
 use Rattle.std.specs.Str.{bytes_eq}
 use Rattle.std.proofs.lemmas.Slice.Eq.{bytes_eq-Decides}
 use Rattle.raml_words.specs.Words.{Text, Request, Types, Code, Analyse, Certify, Verify, Run, Trial, Priced, Spend, Compare, Powers, Sorted, Once, Usual, bounds_options, run_options, degree_options, spend_options, AsksOfFile, AsksOfFiles, AsksBounds, AsksTrial, AsksAtDegree, Asks, AsksNothing}
-use Rattle.raml_words.specs.Sorting.{Arguments, halves, arguments, optional, needed, usual_steps, rule_in, value_of, once, without_options, one_of, two_of, count_of, Bounds, bounds_with, bounds_by, bounds_in, run_with, run_by, run_in, both, degree_in, spend_with, spend_by, spend_in, priced_with, compare_with, powers_with, analyse_with, certify_with, verify_with, given_one, given_two, given_count, given_bounds, given_degree, given_spend, request_by, request_in}
+use Rattle.raml_words.specs.Sorting.{Arguments, halves, arguments, optional, needed, usual_steps, rule_in, value_of, once, without_options, one_of, two_of, count_of, Bounds, bounds_with, bounds_by, bounds_in, run_with, run_by, run_in, both, degree_in, spend_with, spend_by, spend_in, priced_with, compare_with, powers_with, analyse_with, certify_with, verify_with, given_one, given_two, given_count, given_bounds, given_degree, request_by, request_in}
 use Rattle.raml_words.specs.Asked.{request_of, Tells}
 use Rattle.raml_words.specs.declared.request.Rule.{Rule}
 use Rattle.raml_words.specs.declared.request.Request.{Request as Request'}
@@ -285,7 +285,6 @@ request_read words (Run file name input steps cells degree) h =
     let d = may_to (codes "degree") 1 4 h.values degree h.once h.degree_given in
     let made : run_in (file ∷ name ∷ input ∷ [], h.values) ≡ Some (Run file name input (usual_steps h.given) cells degree) = rw (once_to h.values h.once) (rw (s, c, d) refl) in
     ap request_in h.command ∙ ap (option_and_then run_in) given ∙ made ∙ ap (λ n. Some (Run file name input n cells degree)) (usual_to h.given steps h.steps_usual)
-
 request_read words (Priced file prices degree) h = ap request_in h.command ∙ ap (option_map priced_with) (degree_there two_of (codes "priced") words (file ∷ prices ∷ []) (file, prices) degree refl h)
 request_read words (Compare file other degree) h = ap request_in h.command ∙ ap (option_map compare_with) (degree_there two_of (codes "compare") words (file ∷ other ∷ []) (file, other) degree refl h)
 request_read words (Powers file degree) h = ap request_in h.command ∙ ap (option_map powers_with) (degree_there one_of (codes "powers") words (file ∷ []) file degree refl h)

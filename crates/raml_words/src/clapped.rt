@@ -8,8 +8,8 @@ ghost use Rattle.raml_words.specs.Clapped.{now_of, taken_as, one_text, two_texts
 ghost use Rattle.raml_words.specs.Asked.{Tells};
 
 use crate::commands::{
-    bounds_command, count_command, file_degree_command, files_degree_command, one_command, run_command,
-    spend_command, two_command,
+    bounds_command, count_command, file_degree_command, files_degree_command, one_command,
+    run_command, spend_command, two_command,
 };
 use crate::request::WordsFault;
 use clap::error::ErrorKind;

@@ -46,11 +46,7 @@ pub fn read_file_degree(
     }
 }
 
-fn file_degree_given(
-    alloc: Global,
-    command: &str,
-    given: &Given,
-) -> Result<FileDegree, WordsFault>
+fn file_degree_given(alloc: Global, command: &str, given: &Given) -> Result<FileDegree, WordsFault>
     ensures { Tells file_degree_of result (degree_in one_of (given_of given.now)) }
 {
     match degree_words(alloc, command, given) {
@@ -132,7 +128,7 @@ fn make_files_degree(alloc: Global, texts: FilesTexts) -> Result<FilesDegree, Wo
 }
 
 // By hand: each option once, and its value one to ten digits, since `clap` takes `+1` and any number of
-// zeros in front.
+// zeros in front. That the degree is there, and in its range, is for `clap` to say.
 fn degree_words(alloc: Global, command: &str, given: &Given) -> Result<Vec<String>, WordsFault>
     ensures { Tells (λ words. map string_bytes words.items) result (degree_words command.now (given_of given.now)) }
 {
