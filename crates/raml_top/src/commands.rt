@@ -178,11 +178,7 @@ pub fn analysis_powers(alloc: Global, typed: &Typed, degree: u8) -> Result<Repor
     }
 }
 
-fn course_powers(
-    alloc: Global,
-    program: &NormProgram<'_>,
-    degree: u8,
-) -> Result<Report, Refusal>
+fn course_powers(alloc: Global, program: &NormProgram<'_>, degree: u8) -> Result<Report, Refusal>
     requires least_degree { 1 ≤ degree }
     requires most_degree { degree ≤ 4 }
     ensures { Gives (OfCourse Promised Analysed.Program (source_in program.now) (program_in program.now) degree rule.Least

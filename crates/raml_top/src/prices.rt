@@ -75,12 +75,7 @@ pub fn priced_lines<S: Store>(
     }
 }
 
-fn lines_under(
-    alloc: Global,
-    typed: &Typed,
-    prices: &Prices,
-    degree: u8,
-) -> Result<Report, Refusal>
+fn lines_under(alloc: Global, typed: &Typed, prices: &Prices, degree: u8) -> Result<Report, Refusal>
     requires ready { IsReady (program_of typed.now) }
     requires least_degree { 1 ≤ degree }
     requires most_degree { degree ≤ 4 }

@@ -266,9 +266,7 @@ fn spend_answer<S: Store>(
     ensures later { (name : Text) → S.faults store.old name ≤ S.faults store.new name }
 {
     match read_program(alloc, store, Analysed::Program, file) {
-        Ok(typed) => {
-            spend_within(alloc, store, &typed, prices, name, input, steps, cells)
-        }
+        Ok(typed) => { spend_within(alloc, store, &typed, prices, name, input, steps, cells) }
         Err(refusal) => Err(refusal),
     }
 }

@@ -71,7 +71,14 @@ pub fn certificate_line(
             check_line(alloc, Analysed::Program, *block, path.as_slice(), *index)
         }
         CertFault::TooLarge { task } => {
-            too_large_line(alloc, Analysed::Program, program, groups, task, What::Indices)
+            too_large_line(
+                alloc,
+                Analysed::Program,
+                program,
+                groups,
+                task,
+                What::Indices,
+            )
         }
         CertFault::NoMemory => Ok(String::new(alloc)),
     }

@@ -10,7 +10,8 @@ mod task;
 
 pub use certificate::{certificate_line, fails_line, json_line, not_refuted_line, shape_line};
 pub use places::{
-    check_line, least_line, point_line, powers_line, refute_line, rescale_line, row_line, scale_line, solve_line,
+    check_line, least_line, point_line, powers_line, refute_line, rescale_line, row_line,
+    scale_line, solve_line,
 };
 pub use plain::{
     Which, no_function_line, no_memory_line, too_long_line, unread_line, usage_line,

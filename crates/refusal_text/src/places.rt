@@ -75,7 +75,9 @@ pub fn rescale_line(
 ) -> Result<String, AllocError>
     ensures { IfOk result (λ line. string_bytes line ≡ p.rescale_line whose (program_of program.now) (lists_of groups.now) (task_of task.now) block) }
 {
-    place_line(alloc, whose, program, groups, "rescale", task, "block", block)
+    place_line(
+        alloc, whose, program, groups, "rescale", task, "block", block,
+    )
 }
 
 /// In the check of the vector that refutes the task, at this column.
@@ -89,7 +91,9 @@ pub fn refute_line(
 ) -> Result<String, AllocError>
     ensures { IfOk result (λ line. string_bytes line ≡ p.refute_line whose (program_of program.now) (lists_of groups.now) (task_of task.now) column) }
 {
-    place_line(alloc, whose, program, groups, "refute", task, "column", column)
+    place_line(
+        alloc, whose, program, groups, "refute", task, "column", column,
+    )
 }
 
 /// In the check that the task's solution is least, at this column.
@@ -103,7 +107,9 @@ pub fn least_line(
 ) -> Result<String, AllocError>
     ensures { IfOk result (λ line. string_bytes line ≡ p.least_line whose (program_of program.now) (lists_of groups.now) (task_of task.now) column) }
 {
-    place_line(alloc, whose, program, groups, "least", task, "column", column)
+    place_line(
+        alloc, whose, program, groups, "least", task, "column", column,
+    )
 }
 
 // What is done for the task, and the place there: a word and a number.

@@ -58,12 +58,7 @@ fn other_course_refusal(alloc: Global, program: &NormProgram<'_>, fault: InferFa
 }
 
 /// The power form of the function's bound on the meter leaves 128 bits.
-pub fn powers_refusal(
-    alloc: Global,
-    program: &NormProgram<'_>,
-    fun: FunId,
-    meter: Meter,
-) -> Refusal
+pub fn powers_refusal(alloc: Global, program: &NormProgram<'_>, fun: FunId, meter: Meter) -> Refusal
     ensures { IsToldOr (names_in program.now) (Status.Overflow (OverflowAt.Powers fun meter)) result }
 {
     let line = powers_line(alloc, program.source(), fun, meter);
@@ -89,7 +84,14 @@ fn too_large_text(
     ensures { IfOk result (λ line. string_bytes line
         ≡ too_large_line whose (source_in program.now) program.now.groups.list (task_of task.now) what) }
 {
-    too_large_line(alloc, whose, program.source(), program.groups().list(), task, what)
+    too_large_line(
+        alloc,
+        whose,
+        program.source(),
+        program.groups().list(),
+        task,
+        what,
+    )
 }
 
 /// A number leaves 128 bits.
@@ -120,11 +122,15 @@ fn leaves_line(
         } => solve_line(alloc, whose, source, groups, task, pivots.len(), *row, *col),
         LeavesAt::Row { task, row } => row_line(alloc, whose, source, groups, task, *row),
         LeavesAt::Scale { task, entry } => scale_line(alloc, whose, source, groups, task, *entry),
-        LeavesAt::Rescale { task, block } => rescale_line(alloc, whose, source, groups, task, *block),
+        LeavesAt::Rescale { task, block } => rescale_line(
+            alloc, whose, source, groups, task, *block,
+        ),
         LeavesAt::Check { block, path, index } => {
             check_line(alloc, whose, *block as usize, path, *index as usize)
         }
-        LeavesAt::Refute { task, column } => refute_line(alloc, whose, source, groups, task, *column),
+        LeavesAt::Refute { task, column } => refute_line(
+            alloc, whose, source, groups, task, *column,
+        ),
         LeavesAt::Least { task, column } => least_line(alloc, whose, source, groups, task, *column),
     }
 }

@@ -60,11 +60,7 @@ pub fn answer_on(
 }
 
 /// What a call does over these files.
-pub fn answer_over(
-    alloc: Global,
-    words: &[&str],
-    files: &[(&str, &[u8])],
-) -> Result<String, Fail> {
+pub fn answer_over(alloc: Global, words: &[&str], files: &[(&str, &[u8])]) -> Result<String, Fail> {
     let mut store = store_with(alloc, files, &[])?;
     let mut out = sink_of(alloc, &[])?;
     let mut err = sink_of(alloc, &[])?;

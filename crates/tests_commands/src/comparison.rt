@@ -3,7 +3,8 @@ use crate::sources::{APPEND, FIRST, SPIN};
 use std::test::Fail;
 use tests_calls::answer_over;
 
-const TICKING: &str = "fun append (x : int list, y : int list) : int list = match x with nil -> y | h :: t -> tick 1 in h :: append(t, y)";
+const TICKING: &str =
+    "fun append (x : int list, y : int list) : int list = match x with nil -> y | h :: t -> tick 1 in h :: append(t, y)";
 
 #[test]
 fn bounds_are_compared(rt: HostRuntime) -> Result<(), Fail> {
@@ -63,8 +64,10 @@ fn bounds_are_compared(rt: HostRuntime) -> Result<(), Fail> {
     ];
     for (source, other, want) in cases {
         let words = ["compare", "f.raml", "g.raml", "--degree", "1"];
-        let files: [(&str, &[u8]); 2] =
-            [("f.raml", source.as_bytes()), ("g.raml", other.as_bytes())];
+        let files: [(&str, &[u8]); 2] = [
+            ("f.raml", source.as_bytes()),
+            ("g.raml", other.as_bytes()),
+        ];
         let found = answer_over(alloc, &words, &files)?;
         assert_eq!(rt; found.as_str(), want, "at {source} beside {other}");
     }
@@ -72,7 +75,8 @@ fn bounds_are_compared(rt: HostRuntime) -> Result<(), Fail> {
 }
 
 // Two functions of eight lists, whose parameters are held in four variables more.
-const WIDE: &str = "fun k (a : int list, b : int list, c : int list, d : int list, e : int list, f : int list, g : int list, h : int list) : int = 0 fun w (a : int list, b : int list, c : int list, d : int list, e : int list, f : int list, g : int list, h : int list) : int = let p = a in let q = b in let r = c in let s = d in k(p, q, r, s, e, f, g, h)";
+const WIDE: &str =
+    "fun k (a : int list, b : int list, c : int list, d : int list, e : int list, f : int list, g : int list, h : int list) : int = 0 fun w (a : int list, b : int list, c : int list, d : int list, e : int list, f : int list, g : int list, h : int list) : int = let p = a in let q = b in let r = c in let s = d in k(p, q, r, s, e, f, g, h)";
 
 #[test]
 fn other_programs_are_refused(rt: HostRuntime) -> Result<(), Fail> {
@@ -80,7 +84,10 @@ fn other_programs_are_refused(rt: HostRuntime) -> Result<(), Fail> {
     let words = ["compare", "f.raml", "g.raml", "--degree", "4"];
     let files: [(&str, &[u8]); 2] = [("f.raml", FIRST.as_bytes()), ("g.raml", WIDE.as_bytes())];
     let found = answer_over(alloc, &words, &files)?;
-    assert_eq!(rt; found.as_str(), "17 raml: other: too large: w ticks: unknowns\n");
+    assert_eq!(rt;
+        found.as_str(),
+        "17 raml: other: too large: w ticks: unknowns\n"
+    );
     let files: [(&str, &[u8]); 2] = [("f.raml", WIDE.as_bytes()), ("g.raml", FIRST.as_bytes())];
     let found = answer_over(alloc, &words, &files)?;
     assert_eq!(rt; found.as_str(), "8 raml: too large: w ticks: unknowns\n");

@@ -5,11 +5,14 @@ use std::fmt::Write;
 use std::test::Fail;
 use tests_calls::answer_over;
 
-const SORT: &str = "fun insert (x : int, l : int list) : int list = match l with nil -> x :: nil | h :: t -> tick 1 in if x <= h then x :: h :: t else h :: insert(x, t) fun isort (l : int list) : int list = match l with nil -> nil | h :: t -> insert(h, isort(t))";
+const SORT: &str =
+    "fun insert (x : int, l : int list) : int list = match l with nil -> x :: nil | h :: t -> tick 1 in if x <= h then x :: h :: t else h :: insert(x, t) fun isort (l : int list) : int list = match l with nil -> nil | h :: t -> insert(h, isort(t))";
 
-const QUICK: &str = " fun part (p : int, l : int list) : int list * int list = match l with nil -> (nil, nil) | h :: t -> let (a, b) = part(p, t) in tick 1 in if h < p then (h :: a, b) else (a, h :: b) fun qsort (l : int list) : int list = match l with nil -> nil | h :: t -> let (a, b) = part(h, t) in append(qsort(a), h :: qsort(b))";
+const QUICK: &str =
+    " fun part (p : int, l : int list) : int list * int list = match l with nil -> (nil, nil) | h :: t -> let (a, b) = part(p, t) in tick 1 in if h < p then (h :: a, b) else (a, h :: b) fun qsort (l : int list) : int list = match l with nil -> nil | h :: t -> let (a, b) = part(h, t) in append(qsort(a), h :: qsort(b))";
 
-const FLAT: &str = " fun flat (x : int list list) : int list = match x with nil -> nil | h :: t -> append(h, flat(t))";
+const FLAT: &str =
+    " fun flat (x : int list list) : int list = match x with nil -> nil | h :: t -> append(h, flat(t))";
 
 // What `powers` of the source does at a degree.
 fn powers_of(alloc: Global, source: &str, degree: &str) -> Result<String, Fail> {

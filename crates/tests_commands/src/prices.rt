@@ -86,7 +86,12 @@ fn prices_are_spent(rt: HostRuntime) -> Result<(), Fail> {
             "([], [])",
             "15 raml: prices: line 1: shape\n",
         ),
-        (&["append", "d"], "", "([], [)", "5 raml: data: shape at 6\n"),
+        (
+            &["append", "d"],
+            "",
+            "([], [)",
+            "5 raml: data: shape at 6\n",
+        ),
         (&["append", "e"], "", "", "2 raml: cannot read data\n"),
         (&["append"], "", "", "1 raml: usage\n"),
     ];
