@@ -1,6 +1,7 @@
 -- What is told of functions and their counterparts.
-use Rattle.std.proofs.Common.{◌≡◌, ◌<◌, ◌<ℤ◌, ℕ, pos, ℤ, Option, Some, None, slice_get, List, [], ◌++◌, length, refl, sym, ap, ◌∙◌, subst, arith}
+use Rattle.std.proofs.Common.{◌≡◌, ◌<◌, ◌<ℤ◌, ℕ, pos, ℤ, Option, Some, None, slice_get, List, [], ◌++◌, ◌+◌, length, flat_map, refl, sym, ap, ◌∙◌, subst, arith}
 use Rattle.std.specs.Prelude.{unsigned_abs}
+use Rattle.std.specs.List.{range_with_len}
 use Rattle.std.proofs.lemmas.Int.{ints}
 use Rattle.std.proofs.lemmas.Option.{slice_get_within}
 use Rattle.raml_syntax.specs.Tree.{Text, Function, Prog}
@@ -17,10 +18,10 @@ use Rattle.annot_types.specs.Held as h
 use Rattle.annot_types.specs.Held.{Claim, Bound}
 use Rattle.report_text.specs.Names.{name_at}
 use Rattle.analysis_report.specs.Comparison.{Promises, AreRelated, AreCompared, ClaimsCompare, IsComparison, comparisons_text, AreComparisons}
-use Rattle.analysis_report.specs.Steps.{IsCounterpartIn, ComparesIn}
+use Rattle.analysis_report.specs.Steps.{IsCounterpartIn, ComparesIn, HasComparisons}
 use Rattle.bound_compare.specs.declared.compared.Compared.{Compared}
 use Rattle.bound_compare.specs.declared.compared.Compared.TheVariants.{Absent, NoBound, Bounds}
-use Rattle.analysis_report.proofs.InOrder.{AreTold}
+use Rattle.analysis_report.proofs.InOrder.{AreTold, none_told, next_told}
 
 -- The relation of two polynomials promises what it promises.
 pub are_related : RelationsPromise → (r : Relation) (p q : Poly) → IsPoly p → IsPoly q → Stands r (sum_of p) (sum_of q) → AreRelated r (sum_of p) (sum_of q)
@@ -66,9 +67,15 @@ module _ (P : Prog) (N : Program) (c : Certificate) (Q : Prog) (M : Program) (e 
   abbrev pub FirstCompare : ℕ → Text → Type 0
   FirstCompare n text = AreTold FunctionCompares function_text n text
 
+  pub none_compare : FirstCompare 0 []
+  none_compare = none_told FunctionCompares function_text (λ meter. Absent)
+
+  pub next_compare : (n : ℕ) (old new : Text) → FirstCompare n old → HasComparisons P N c Q M e n old new → FirstCompare (n + 1) new
+  next_compare n old new first more = next_told FunctionCompares function_text n old new first more.comparisons more.each more.is
+
   pub all_compare : (n : ℕ) (text : Text) → n ≡ length P → FirstCompare n text → AreComparisons P N c Q M e text
   all_compare n text all told = record {
     comparisons = told.told;
     each = λ f g meter there. told.each f (let below = slice_get_within P f g there in omega (arith, below, all)) g meter there;
-    is = subst (λ m. text ≡ _) all told.is;
+    is = told.is ∙ ap (λ m. flat_map (λ f. comparisons_text (name_at P f) (told.told f)) (range_with_len 0 m)) all;
   }

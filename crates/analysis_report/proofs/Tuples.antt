@@ -2,6 +2,7 @@
 use Rattle.std.proofs.Common.{◌≡◌, ◌≤◌, ◌<◌, inl, ⊎_elim, ℕ, zero, suc, true, List, [], ◌∷◌, length, slice_get, Option, Some, None, refl, sym, ap, ◌∙◌, subst, arith}
 use Rattle.std.specs.Prelude.{slice_index_or, unsigned_abs}
 use Rattle.std.specs.List.{All, Contains}
+use Rattle.std.proofs.lemmas.Bool.{and_parts}
 use Rattle.std.proofs.lemmas.Option.{same_Some, slice_get-get_or}
 use Rattle.raml_syntax.specs.Tree.{Type'}
 use Rattle.base_poly.specs.Plain.{Plain, degrees}
@@ -48,7 +49,7 @@ module _ (N : Program) (certificate : Certificate) (held : Held N certificate) w
       by block.body (held.blocks there.0 block (slice_get-get_or certificate.blocks there.0 block there.1 ∙ ap Some there.2)).holds m
     where
       kind : block.task.kind ≡ k.With meter
-      kind = of_meter meter block.task.kind (and-true _ _ on).0
+      kind = of_meter meter block.task.kind (and_parts _ _ on).0
 
       same : {x : Claim} → IsOfParameters f x → Among claim (x ∷ []) → IsOfParameters f claim
       same h m = ⊎_elim (λ e. subst (IsOfParameters f) e h) (λ none. absurd none) m
