@@ -1,5 +1,5 @@
--- A sum of terms has its powers once, and so has their text.
-use Rattle.std.proofs.Common.{◌≡◌, ◌≢◌, ◌*◌, ℕ, ℤ, pos, Bool, true, false, cond, List, [], ◌∷◌, map, All, refl, sym, ap, ◌∙◌, subst}
+-- A sum of terms has its powers once.
+use Rattle.std.proofs.Common.{◌≡◌, ℕ, ℤ, pos, Bool, true, false, cond, List, [], ◌∷◌, map, All, refl, sym, ap, ◌∙◌}
 use Rattle.std.specs.declared.cmp.Ordering.{Ordering}
 use Rattle.std.specs.declared.cmp.Ordering.TheVariants.{Less, Equal, Greater}
 use Rattle.std.specs.Ordering.{ordering_reverse, is_eq}
@@ -7,16 +7,13 @@ use Rattle.std.specs.Str.{bytes_eq}
 use Rattle.std.proofs.lemmas.List.Elements.{All-head, All-tail}
 use Rattle.std.proofs.lemmas.Slice.Eq.{bytes_eq-Decides}
 use Rattle.base_poly.specs.Indices.{IsBefore, Ascends}
-use Rattle.bound_compare.specs.Laws.{PowersAreOne, BoundsHaveOneText}
+use Rattle.bound_compare.specs.Laws.{PowersAreOne}
 use Rattle.bound_compare.specs.Order.{exponents_total, tied_exponents}
 use Rattle.bound_compare.specs.Powers.{Powers, exponent_order, listed_at}
-use Rattle.bound_compare.specs.Text.{powers_text}
+use Rattle.bound_compare.proofs.Grouped.{IsNonzero}
 
 abbrev keys : Powers → List (List ℕ)
 keys ps = map (λ p. p.0) ps
-
-abbrev IsNonzero : List ℕ × ℤ → Type 0
-IsNonzero p = p.1 ≢ pos 0
 
 -- exponents before all of these are not among them
 none_listed : (k : List ℕ) (ps : Powers) → IsBefore exponent_order k (keys ps) → listed_at k ps ≡ pos 0
@@ -65,6 +62,3 @@ same_lists (p ∷ ps) (q ∷ qs) m n a b e =
 
 pub powers_are_one : PowersAreOne
 powers_are_one ts ps qs f g = same_lists ps qs f.nonzero g.nonzero f.ascends g.ascends (λ es. f.each es ∙ sym (g.each es))
-
-pub bounds_have_one_text : BoundsHaveOneText
-bounds_have_one_text den ts text other f g = f.is ∙ ap (powers_text (24 * den)) (powers_are_one ts f.powers g.powers f.are g.are) ∙ sym g.is

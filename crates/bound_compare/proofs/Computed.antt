@@ -1,8 +1,10 @@
 -- The examples compute.
 use Rattle.std.proofs.Common.{refl}
+use Rattle.std.specs.Fmt.{digits}
 use Rattle.bound_compare.specs.Example.{Examples}
 
 pub examples : Examples
+unfolding digits
 examples = record {
   first = refl;
   second = refl;
@@ -23,4 +25,16 @@ examples = record {
   second_parameter = refl;
   coefficient = refl;
   no_term = refl;
+  ticks_text = refl;
+  cells_text = refl;
+  work_text = refl;
+  thirds_text = refl;
+  two_text = refl;
+  less_text = refl;
+  no_text = refl;
+  line = refl;
+  not_flat = refl;
+  below_line = refl;
+  absent_line = refl;
+  no_bound_line = refl;
 }

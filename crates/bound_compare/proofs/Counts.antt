@@ -45,7 +45,7 @@ product_fits a b f g = fits_signed_from_abs w128 (a *ℤ b) (subst (λ n. n < 2 
 
 -- The factorials of counts that are at most 4 together divide 24.
 
-abbrev adds : List ℕ → ℕ
+abbrev pub adds : List ℕ → ℕ
 adds [] = 0
 adds (k ∷ ks) = k + adds ks
 
@@ -83,7 +83,7 @@ divided (k ∷ ks) b h l =
     regroup : (a x m c : ℕ) → a * x * (m * c) ≡ a * (x * m) * c
     regroup a x m c = grind arith
 
-counts_add : (t : List Plain) → adds (counts t) ≤ degrees t
+pub counts_add : (t : List Plain) → adds (counts t) ≤ degrees t
 counts_add [] = omega arith
 counts_add (i ∷ is) = let one = count_low i in let more = counts_add is in omega (arith, one, more)
 

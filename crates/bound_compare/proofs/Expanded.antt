@@ -47,7 +47,7 @@ table h z (suc (suc (suc (suc (suc k))))) e l = absurd (omega arith)
 pub times_zero : (x : ℤ) → x *ℤ pos 0 ≡ pos 0
 times_zero x = grind (arith, ints)
 
-zero_times : (x : ℤ) → pos 0 *ℤ x ≡ pos 0
+pub zero_times : (x : ℤ) → pos 0 *ℤ x ≡ pos 0
 zero_times x = grind (arith, ints)
 
 -- one power before the others

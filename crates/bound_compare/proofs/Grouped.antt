@@ -171,7 +171,7 @@ numbers_ascend (g ∷ gs) h = by (numbers_ascend gs h.1) (g.1.0 == g.1.1)
     by f true = f
     by f false = (numbers_behind g.0 gs h.0, f)
 
-abbrev IsNonzero : List ℕ × ℤ → Type 0
+abbrev pub IsNonzero : List ℕ × ℤ → Type 0
 IsNonzero p = p.1 ≢ pos 0
 
 pub numbers_nonzero : (gs : List Part) → All IsNonzero (numbers gs)

@@ -121,7 +121,7 @@ unit_of (ListOf A) i f h = no f
 unit_of (TreeOf A) i f h = no f
 unit_of (OptionOf A) i f h = no f
 
-list_units : (A : Type') (r : Plain) → is_scalar A ≡ true → IsIndex r (ListOf A) → r ≡ many (replicate (entry_count r) Unit')
+pub list_units : (A : Type') (r : Plain) → is_scalar A ≡ true → IsIndex r (ListOf A) → r ≡ many (replicate (entry_count r) Unit')
 list_units A End f h = refl
 list_units A (Then i r) f h = let one = unit_of A i f h.0 in let more = list_units A r f h.1 in λ n. Then (one n) (more n)
 list_units A r f h = absurd h

@@ -5,6 +5,7 @@ pub mod Decided
 pub mod Expanded
 pub mod Grouped
 pub mod Kept
+pub mod Listed
 pub mod Made
 pub mod Numbers
 pub mod Ranked

@@ -17,7 +17,7 @@ abbrev without : List ℕ → Entries → Entries
 without k [] = []
 without k (p ∷ xs) = cond (bytes_eq k p.0) (without k xs) (p ∷ without k xs)
 
-abbrev has : List ℕ → List (List ℕ) → Bool
+abbrev pub has : List ℕ → List (List ℕ) → Bool
 has k [] = false
 has k (j ∷ js) = cond (bytes_eq k j) true (has k js)
 

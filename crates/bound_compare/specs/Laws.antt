@@ -1,14 +1,13 @@
 -- Laws of comparisons and of powers.
-use Rattle.std.specs.Prelude.{◌≡◌, ◌≤◌, ℕ, zero, suc, ◌*◌, ◌/◌, pos, true, List, map, length, All}
-use Rattle.raml_syntax.specs.Tree.{Text, Type'}
+use Rattle.std.specs.Prelude.{◌≡◌, ◌≤◌, ℕ, ◌*◌, ◌/◌, pos, true, List, map, length, replicate, All}
+use Rattle.raml_syntax.specs.Tree.{Type'}
 use Rattle.raml_syntax.specs.Value.{Value}
 use Rattle.base_poly.specs.Indices.{AreIndices, tuple_order}
-use Rattle.base_poly.specs.Plain.{Plain, Unit', End, Then, degrees}
+use Rattle.base_poly.specs.Plain.{Plain, Unit', many, degrees}
 use Rattle.base_poly.specs.Poly.{Term, den_of, terms_of, IsPoly}
 use Rattle.base_poly.specs.declared.tuple.Poly.{Poly}
 use Rattle.poly_point.specs.Point.{worth}
-use Rattle.bound_compare.specs.Powers.{Powers, are_flat, counts, factorials, exponent_order, ArePowers, powers_worth, element_counts}
-use Rattle.bound_compare.specs.Text.{IsTextOf}
+use Rattle.bound_compare.specs.Powers.{Powers, are_flat, counts, factorials, exponent_order, powers_of, ArePowers, powers_worth, element_counts}
 use Rattle.bound_compare.specs.Compare.{Sum, sum_of, Stands}
 use Rattle.bound_compare.specs.declared.relation.Relation.{Relation}
 use Rattle.bound_compare.specs.declared.relation.Relation.TheVariants.{Equal, Below}
@@ -37,8 +36,7 @@ PowersKeepWorth = (As : List Type') (ts : List Term) (ps : Powers) → are_flat 
 
 -- the index that picks so many elements of a list of integers
 abbrev pub picks : ℕ → Plain
-picks zero = End
-picks (suc n) = Then Unit' (picks n)
+picks n = many (replicate n Unit')
 
 -- Exponents are ordered as the tuples that pick so many elements of lists.
 abbrev pub ExponentsAreOrdered : Type 0
@@ -48,6 +46,6 @@ ExponentsAreOrdered = (es fs : List ℕ) → exponent_order es fs ≡ tuple_orde
 abbrev pub PowersAreOne : Type 0
 PowersAreOne = (ts : List Term) (ps qs : Powers) → ArePowers ts ps → ArePowers ts qs → ps ≡ qs
 
--- A polynomial has one text in powers.
-abbrev pub BoundsHaveOneText : Type 0
-BoundsHaveOneText = (den : ℕ) (ts : List Term) (text other : Text) → IsTextOf den ts text → IsTextOf den ts other → text ≡ other
+-- They are found by going through the exponents of the parameters.
+abbrev pub PowersAreThese : Type 0
+PowersAreThese = (As : List Type') (ts : List Term) → All (λ t. AreIndices t.0 As) ts → All (λ t. degrees t.0 ≤ 4) ts → ArePowers ts (powers_of (length As) ts)

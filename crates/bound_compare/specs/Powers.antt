@@ -1,5 +1,5 @@
 -- Polynomials of flat functions as powers of element counts.
-use Rattle.std.specs.Prelude.{◌≡◌, ◌≢◌, ◌<◌, ◌≤◌, ℕ, zero, suc, ◌*◌, ◌/◌, ◌^◌, ℤ, pos, negsuc, ◌+ℤ◌, ◌-ℤ◌, ◌*ℤ◌, Bool, true, false, cond, List, [], ◌∷◌, map, sum, length, All}
+use Rattle.std.specs.Prelude.{◌≡◌, ◌≢◌, ◌<◌, ◌≤◌, ℕ, zero, suc, ◌*◌, ◌/◌, ◌^◌, ℤ, pos, negsuc, ◌+ℤ◌, ◌-ℤ◌, ◌*ℤ◌, Bool, true, false, not, cond, List, [], ◌∷◌, map, filter, replicate, sum, length, All}
 use Rattle.std.specs.declared.cmp.Ordering.{Ordering}
 use Rattle.std.specs.Ordering.{ordering_then, nat_cmp}
 use Rattle.std.specs.Cmp.Lexicographic.{slice_cmp}
@@ -8,7 +8,7 @@ use Rattle.std.specs.Str.{bytes_eq}
 use Rattle.raml_syntax.specs.Tree.{Type', Integer, Boolean, ListOf, TreeOf}
 use Rattle.raml_syntax.specs.Value.{Value}
 use Rattle.base_poly.specs.Plain.{Plain, entry_count}
-use Rattle.base_poly.specs.Indices.{Ascends}
+use Rattle.base_poly.specs.Indices.{Ascends, index_list}
 use Rattle.base_poly.specs.Base.{total, elements}
 use Rattle.base_poly.specs.Poly.{Term}
 
@@ -113,6 +113,18 @@ pub record ArePowers (ts : List Term) (ps : Powers) : Type 0 where
   pub nonzero : All (λ p. p.1 ≢ pos 0) ps
   pub ascends : Ascends exponent_order (map (λ p. p.0) ps)
   pub each : (es : List ℕ) → listed_at es ps ≡ power_at es ts
+
+-- the exponents of so many parameters with a sum of at most 4, in order: how many elements the tuples of as many lists pick
+abbrev pub exponents_of : ℕ → List (List ℕ)
+exponents_of p = map counts (index_list (replicate p (ListOf Integer)) 4)
+
+abbrev pub is_zero : ℤ → Bool
+is_zero (pos zero) = true
+is_zero _ = false
+
+-- the powers of a sum of terms in so many parameters: each of these exponents with its number, where that is not 0
+abbrev pub powers_of : ℕ → List Term → Powers
+powers_of p ts = filter (λ x. not (is_zero x.1)) (map (λ es. (es, power_at es ts)) (exponents_of p))
 
 -- the product of the n_j ^ e_j
 abbrev pub monomial : List ℕ → List ℕ → ℕ

@@ -1,9 +1,9 @@
 -- The text of powers, and the lines that are told of a function and a meter.
-use Rattle.std.specs.Prelude.{◌≡◌, ℕ, suc, ◌*◌, ◌==◌, ℤ, pos, negsuc, unsigned_abs, cond, List, [], ◌∷◌, ◌++◌, codes, decimal}
+use Rattle.std.specs.Prelude.{ℕ, suc, ◌*◌, ◌==◌, ℤ, pos, negsuc, unsigned_abs, cond, List, [], ◌∷◌, ◌++◌, codes, decimal}
 use Rattle.raml_syntax.specs.Tree.{Text}
 use Rattle.base_poly.specs.Poly.{Term}
 use Rattle.poly_text.specs.Text.{coefficient_text}
-use Rattle.bound_compare.specs.Powers.{Powers, ArePowers}
+use Rattle.bound_compare.specs.Powers.{Powers, powers_of}
 use Rattle.bound_compare.specs.Compare.{word_of}
 use Rattle.bound_compare.specs.declared.compared.Compared.{Compared}
 use Rattle.bound_compare.specs.declared.compared.Compared.TheVariants.{Absent, NoBound, Bounds}
@@ -39,11 +39,9 @@ abbrev pub powers_text : ℕ → Powers → Text
 powers_text den [] = codes "0"
 powers_text den (p ∷ ps) = sign_text p.1 ++ (power_text den p ++ more_powers den ps)
 
--- the text of a sum of terms over a denominator, in powers
-pub record IsTextOf (den : ℕ) (terms : List Term) (text : Text) : Type 0 where
-  pub powers : Powers
-  pub are : ArePowers terms powers
-  pub is : text ≡ powers_text (24 * den) powers
+-- the text of a sum of terms over a denominator, in powers of so many parameters' element counts
+abbrev pub bound_text : ℕ → ℕ → List Term → Text
+bound_text p den terms = powers_text (24 * den) (powers_of p terms)
 
 -- NAME METER <= POWERS
 abbrev pub powers_line : Text → Text → ℕ → Powers → Text

@@ -1,5 +1,5 @@
 // Bounds as powers of element counts.
-ghost use Rattle.std.specs.Prelude.{◌≡◌, ◌≤◌, ◌<◌, ◌*◌, ◌^◌, ◌-ℤ◌, ◌≤ℤ◌, ℕ, ℤ, pos, All, [], map, unsigned_abs, FitsSigned, IfOk, OnOk, IsErrOf, IsTrue};
+ghost use Rattle.std.specs.Prelude.{◌≡◌, ◌≤◌, ◌<◌, ◌*◌, ◌^◌, ◌-ℤ◌, ◌≤ℤ◌, ◌<ℤ◌, ℕ, ℤ, pos, length, All, [], map, unsigned_abs, FitsSigned, IfOk, OnOk, IsErrOf, IsTrue};
 ghost use Rattle.std.specs.Int.{w128};
 ghost use Rattle.std.specs.Option.{SomeIff};
 ghost use Rattle.std.specs.Str.{bytes_eq};
@@ -8,7 +8,7 @@ ghost use Rattle.base_poly.specs.Plain.{degrees};
 ghost use Rattle.base_poly.specs.Indices.{AreIndices};
 ghost use Rattle.base_poly.specs.Poly.{den_of, magnitudes, terms_of, IsPoly};
 ghost use Rattle.base_poly.specs.Read.{context_of};
-ghost use Rattle.bound_compare.specs.Powers.{is_scalar, is_flat, are_flat, ArePowers, Fits, Leaves};
+ghost use Rattle.bound_compare.specs.Powers.{is_scalar, is_flat, are_flat, powers_of, ArePowers, Fits, Leaves};
 ghost use Rattle.bound_compare.specs.Steps.{both, leads, joined, numbers, AreSmall, HasLarge};
 
 use crate::exponents::Exponents;
@@ -65,7 +65,9 @@ pub fn powers(alloc: Global, poly: &Poly, params: &[Ty]) -> Result<PowerForm, Po
     requires tuples { All (λ t. AreIndices t.0 (context_of params.now)) poly.now.terms.items }
     requires low { All (λ t. degrees t.0 ≤ 4) poly.now.terms.items }
     ensures den { IfOk result (λ form. form.den ≡ pos (24 * den_of poly.now)) }
+    ensures positive { IfOk result (λ form. pos 0 <ℤ form.den) }
     ensures powers { IfOk result (λ form. ArePowers (terms_of poly.now) form.terms.items) }
+    ensures these { IfOk result (λ form. form.terms.items ≡ powers_of (length params.now) (terms_of poly.now)) }
     ensures fits { OnOk result (Fits (den_of poly.now) (terms_of poly.now)) }
     ensures leaves { IsErrOf result PowerFault.Leaves → Leaves (den_of poly.now) (terms_of poly.now) }
 {

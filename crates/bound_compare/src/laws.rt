@@ -1,5 +1,5 @@
 // Laws: each is the contract of a function that does nothing.
-ghost use Rattle.bound_compare.specs.Laws.{RelationsAreOne, RelationsPromise, DivisionIsExact, PowersKeepWorth, ExponentsAreOrdered, PowersAreOne, BoundsHaveOneText};
+ghost use Rattle.bound_compare.specs.Laws.{RelationsAreOne, RelationsPromise, DivisionIsExact, PowersKeepWorth, ExponentsAreOrdered, PowersAreOne, PowersAreThese};
 ghost use Rattle.bound_compare.specs.Example.{Examples};
 
 /// Two polynomials stand in one relation.
@@ -33,9 +33,9 @@ pub fn powers_are_one()
     ensures { PowersAreOne }
 {}
 
-/// A polynomial has one text in powers.
-pub fn bounds_have_one_text()
-    ensures { BoundsHaveOneText }
+/// They are found by going through the exponents of the parameters.
+pub fn powers_are_these()
+    ensures { PowersAreThese }
 {}
 
 /// Small coefficients and powers are what was worked out by hand.

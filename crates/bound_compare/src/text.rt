@@ -19,11 +19,7 @@ pub fn push_powers(text: &mut String, form: &PowerForm) -> Result<(), AllocError
 }
 
 // Appends the powers one after the other, or a zero.
-fn push_sum(
-    text: &mut String,
-    terms: &[(Exponents, i128)],
-    den: u128,
-) -> Result<(), AllocError>
+fn push_sum(text: &mut String, terms: &[(Exponents, i128)], den: u128) -> Result<(), AllocError>
     requires { den ≢ 0 }
     ensures { OnOk result (string_bytes text.new ≡ string_bytes text.old ++ powers_text den terms.now) }
 {
@@ -38,11 +34,7 @@ fn push_sum(
 }
 
 // Appends each of the powers behind others.
-fn push_more(
-    text: &mut String,
-    terms: &[(Exponents, i128)],
-    den: u128,
-) -> Result<(), AllocError>
+fn push_more(text: &mut String, terms: &[(Exponents, i128)], den: u128) -> Result<(), AllocError>
     requires { den ≢ 0 }
     ensures { OnOk result (string_bytes text.new ≡ string_bytes text.old ++ more_powers den terms.now) }
 {
