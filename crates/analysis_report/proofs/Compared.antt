@@ -1,10 +1,13 @@
 -- What is told of functions and their counterparts.
-use Rattle.std.proofs.Common.{◌≡◌, ◌<◌, ◌<ℤ◌, ℕ, pos, ℤ, Option, Some, None, slice_get, List, [], ◌++◌, ◌+◌, length, flat_map, refl, sym, ap, ◌∙◌, subst, arith}
+use Rattle.std.proofs.Common.{◌≡◌, ◌<◌, ◌<ℤ◌, ℕ, pos, ℤ, Option, Some, None, slice_get, List, [], ◌++◌, ◌+◌, length, map, flat_map, refl, sym, ap, ◌∙◌, subst, arith}
 use Rattle.std.specs.Prelude.{unsigned_abs}
 use Rattle.std.specs.List.{range_with_len}
 use Rattle.std.proofs.lemmas.Int.{ints}
-use Rattle.std.proofs.lemmas.Option.{slice_get_within}
+use Rattle.std.specs.Option.{option_map}
+use Rattle.std.proofs.lemmas.Option.{same_Some, slice_get_within, slice_get-map}
 use Rattle.raml_syntax.specs.Tree.{Text, Function, Prog}
+use Rattle.raml_syntax.specs.Read.{function_of}
+use Rattle.raml_syntax.specs.declared.program.Fun.{Fun}
 use Rattle.base_poly.specs.Poly.{IsPoly}
 use Rattle.base_poly.specs.declared.tuple.Poly.{Poly}
 use Rattle.bound_compare.specs.Compare.{Sum, sum_of, Stands}
@@ -18,7 +21,8 @@ use Rattle.annot_types.specs.Held as h
 use Rattle.annot_types.specs.Held.{Claim, Bound}
 use Rattle.report_text.specs.Names.{name_at}
 use Rattle.analysis_report.specs.Comparison.{Promises, AreRelated, AreCompared, ClaimsCompare, IsComparison, comparisons_text, AreComparisons}
-use Rattle.analysis_report.specs.Steps.{IsCounterpartIn, ComparesIn, HasComparisons}
+use Rattle.analysis_report.specs.Steps.{IsCounterpartIn, ComparesIn, HasComparisons, by_meter}
+use Rattle.analysis_report.specs.declared.comparing.Comparisons.{Comparisons}
 use Rattle.bound_compare.specs.declared.compared.Compared.{Compared}
 use Rattle.bound_compare.specs.declared.compared.Compared.TheVariants.{Absent, NoBound, Bounds}
 use Rattle.analysis_report.proofs.InOrder.{AreTold, none_told, next_told}
@@ -55,6 +59,23 @@ is_comparison N c Q M e f g meter None comparison none is = subst (IsComparison 
 is_comparison N c Q M e f g meter (Some other) Absent counterpart compare = absurd (never_absent compare.claim compare.other_claim compare.compared)
 is_comparison N c Q M e f g meter (Some other) NoBound counterpart compare = (other, counterpart, compare)
 is_comparison N c Q M e f g meter (Some other) (Bounds r) counterpart compare = (other, counterpart, compare)
+
+-- The function at a place is the reading of that of the code.
+same_function : (P : Prog) (funs : List Fun) → map function_of funs ≡ P → (f : ℕ) (x : Fun) → slice_get funs f ≡ Some x → (g : Function) → slice_get P f ≡ Some g → function_of x ≡ g
+same_function P funs is f x there g at =
+    same_Some (function_of x) g (sym (ap (option_map function_of) there) ∙ sym (slice_get-map function_of funs f) ∙ ap (λ gs. slice_get gs f) is ∙ at)
+
+pub has_comparisons : (P : Prog) (N : Program) (c : Certificate) (Q : Prog) (M : Program) (e : Certificate) (funs : List Fun) → map function_of funs ≡ P →
+    (f : ℕ) (x : Fun) → slice_get funs f ≡ Some x → (other : Option ℕ) → IsCounterpartIn Q (function_of x) other →
+    (found : Comparisons) → ((meter : Meter) → ComparesIn N c f M e other meter (by_meter found meter)) →
+    (old new : Text) → new ≡ old ++ comparisons_text (name_at P f) (by_meter found) → HasComparisons P N c Q M e f old new
+has_comparisons P N c Q M e funs is f x there other counterpart found compare old new longer = record {
+  comparisons = by_meter found;
+  each = λ g meter at.
+      is_comparison N c Q M e f g meter other (by_meter found meter)
+      (subst (λ h. IsCounterpartIn Q h other) (same_function P funs is f x there g at) counterpart) (compare meter);
+  is = longer;
+}
 
 -- The comparisons of the first functions.
 module _ (P : Prog) (N : Program) (c : Certificate) (Q : Prog) (M : Program) (e : Certificate) where

@@ -42,7 +42,7 @@ pub are_powers_of : PowersKeepWorth → (As : List Type') (den : ℕ) (ts : List
     All (λ (t : Term). AreIndices t.0 As × (degrees t.0 ≤ 4)) ts → over ≡ pos (24 * den) → ArePowers ts ps → ArePowersOf As den ts (unsigned_abs over) ps
 are_powers_of law As den ts over ps flat tuples is powers = record {
   flat = flat;
-  den = ap unsigned_abs is;
+  scaled = ap unsigned_abs is;
   powers = powers;
   worth = law As ts ps flat (λ k d l. (tuples k d l).0) (λ k d l. (tuples k d l).1) powers;
 }
@@ -89,7 +89,7 @@ module _ (P : Prog) (N : Program) (c : Certificate) where
   pub bound_leaves : (f : ℕ) (meter : Meter) (As : List Type') (den : ℕ) (ts : List Term) → ((g : Function) → slice_get P f ≡ Some g → As ≡ types_of g) → f < length P →
       Claims N c f meter (Bound den ts) → are_flat As ≡ true → Leaves den ts → LeavesAt P N c f meter
   bound_leaves f meter As den ts same below claims flat leaves = ⊎_elim
-      (λ found. record { fun = found.0; there = found.2.0; flat = ap are_flat (sym (same found.0 found.2.0)) ∙ flat; den = den; terms = ts; claims = claims; leaves = leaves })
+      (λ found. record { fun = found.0; there = found.2; flat = ap are_flat (sym (same found.0 found.2)) ∙ flat; den = den; terms = ts; claims = claims; leaves = leaves })
       (λ past. let far = past.0 in absurd (omega (arith, far, below)))
       (slice_get_cases P f).1
 
