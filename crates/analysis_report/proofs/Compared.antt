@@ -1,12 +1,14 @@
 -- What is told of functions and their counterparts.
-use Rattle.std.proofs.Common.{◌≡◌, ◌<◌, ◌<ℤ◌, ℕ, pos, ℤ, Option, Some, None, slice_get, List, [], ◌++◌, ◌+◌, length, map, flat_map, refl, sym, ap, ◌∙◌, subst, arith}
+use Rattle.std.proofs.Common.{◌≡◌, ◌<◌, ◌<ℤ◌, ℕ, pos, ℤ, Option, Some, None, slice_get, get_or, List, [], ◌++◌, ◌+◌, length, map, flat_map, refl, sym, ap, ◌∙◌, subst, arith}
 use Rattle.std.specs.Prelude.{unsigned_abs}
 use Rattle.std.specs.List.{range_with_len}
 use Rattle.std.proofs.lemmas.Int.{ints}
 use Rattle.std.specs.Option.{option_map}
-use Rattle.std.proofs.lemmas.Option.{same_Some, slice_get_within, slice_get-map}
+use Rattle.std.proofs.lemmas.Option.{same_Some, slice_get_within, slice_get_read, slice_get-map}
 use Rattle.raml_syntax.specs.Tree.{Text, Function, Prog}
+use Rattle.raml_syntax.specs.Place.{place_of}
 use Rattle.raml_syntax.specs.Read.{function_of}
+use Rattle.raml_syntax.specs.Types.{types_of}
 use Rattle.raml_syntax.specs.declared.program.Fun.{Fun}
 use Rattle.base_poly.specs.Poly.{IsPoly}
 use Rattle.base_poly.specs.declared.tuple.Poly.{Poly}
@@ -20,7 +22,8 @@ use Rattle.annot_types.specs.Certificate.{Certificate}
 use Rattle.annot_types.specs.Held as h
 use Rattle.annot_types.specs.Held.{Claim, Bound}
 use Rattle.report_text.specs.Names.{name_at}
-use Rattle.analysis_report.specs.Comparison.{Promises, AreRelated, AreCompared, ClaimsCompare, IsComparison, comparisons_text, AreComparisons}
+use Rattle.report_text.specs.Report.{types_in}
+use Rattle.analysis_report.specs.Comparison.{IsCounterpart, Promises, AreRelated, AreCompared, ClaimsCompare, IsComparison, comparisons_text, AreComparisons}
 use Rattle.analysis_report.specs.Steps.{IsCounterpartIn, ComparesIn, HasComparisons, by_meter}
 use Rattle.analysis_report.specs.declared.comparing.Comparisons.{Comparisons}
 use Rattle.bound_compare.specs.declared.compared.Compared.{Compared}
@@ -44,6 +47,36 @@ are_related law r p q first second stands = record {
     promised Below h = law.below p q first second h
     promised Above h = law.below q p second first h
     promised Mixed h = tt
+
+-- Of functions of the code: the one of the other program at the place of this one's name, and the types of the parameters of both.
+pub record AreNamed (funs : List Fun) (x y : Fun) (other : ℕ) : Type 0 where
+  pub named : place_of x.name (map function_of funs) ≡ Some other
+  pub there : slice_get funs other ≡ Some y
+
+pub are_named : (funs xs : List Fun) → xs ≡ funs → (x y : Fun) (name : Text) → name ≡ x.name → (other : ℕ) → Some other ≡ place_of name (map function_of funs) →
+    other < length xs → y ≡ get_or xs other y → AreNamed funs x y other
+are_named funs xs same x y name is other found below at = record {
+  named = sym (found ∙ ap (λ t. place_of t (map function_of funs)) is);
+  there = ap (λ ys. slice_get ys other) (sym same) ∙ slice_get_read xs (length xs) other y refl below at;
+}
+
+pub is_counterpart : (funs : List Fun) (x y : Fun) (other : ℕ) → AreNamed funs x y other → types_in y.params.items ≡ types_in x.params.items →
+    IsCounterpart (map function_of funs) (function_of x) other
+is_counterpart funs x y other named types = record {
+  named = named.named;
+  fun = function_of y;
+  there = slice_get-map function_of funs other ∙ ap (option_map function_of) named.there;
+  types = types;
+}
+
+pub no_counterpart : (funs : List Fun) (x y : Fun) (other : ℕ) → AreNamed funs x y other → (types_in y.params.items ≡ types_in x.params.items → ⊥) →
+    (k : ℕ) → IsCounterpart (map function_of funs) (function_of x) k → ⊥
+no_counterpart funs x y other named differ k h = differ (ap types_of (same_Some (function_of y) h.fun found) ∙ h.types)
+  where
+    found : Some (function_of y) ≡ Some h.fun
+    found =
+        sym (ap (option_map function_of) named.there) ∙ sym (slice_get-map function_of funs other)
+        ∙ ap (slice_get (map function_of funs)) (same_Some other k (sym named.named ∙ h.named)) ∙ h.there
 
 -- claims that are compared are told of a counterpart
 never_absent : (x y : Claim) → AreCompared x y Absent → ⊥
