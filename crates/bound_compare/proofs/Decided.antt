@@ -7,13 +7,15 @@ use Rattle.std.specs.Map.{keys_of}
 use Rattle.std.proofs.lemmas.Map.Keys.{IsDistinct-tail}
 use Rattle.std.proofs.lemmas.Bool.Decides.{nat_tests}
 use Rattle.base_poly.specs.Plain.{Plain, alike}
-use Rattle.base_poly.specs.Poly.{Term}
+use Rattle.base_poly.specs.Poly.{Term, den_of, terms_of, IsPoly}
+use Rattle.base_poly.specs.declared.tuple.Poly.{Poly}
 use Rattle.base_poly.specs.Total.{alike_is}
-use Rattle.bound_compare.specs.Compare.{Sum, term_at, number_at, AtMost, AllEqual, Stands}
-use Rattle.bound_compare.specs.Tests.{relation_of, all_at_most}
-use Rattle.bound_compare.specs.Laws.{RelationsAreOne}
+use Rattle.bound_compare.specs.Compare.{Sum, sum_of, term_at, number_at, AtMost, AllEqual, Stands}
+use Rattle.bound_compare.specs.Tests.{relation_of, all_at_most, relation_between}
+use Rattle.bound_compare.specs.Laws.{RelationsAreOne, RelationIsFound}
+use Rattle.bound_compare.specs.declared.relation.Relation.{Relation}
 use Rattle.bound_compare.specs.declared.relation.Relation.TheVariants.{Equal, Below, Above, Mixed}
-use Rattle.bound_compare.proofs.Numbers.{term_at_head, others_at_most}
+use Rattle.bound_compare.proofs.Numbers.{same_keys, term_at_head, others_at_most}
 
 both : (a b : Bool) → a ≡ true → b ≡ true → (a && b) ≡ true
 both a b p q = cc
@@ -98,3 +100,14 @@ relations_are_one p q Mixed Equal h g = absurd (h.0 g)
 relations_are_one p q Mixed Below h g = absurd (h.1 g)
 relations_are_one p q Mixed Above h g = absurd (h.2 g)
 relations_are_one p q Mixed Mixed h g = refl
+
+pub relation_is_found : RelationIsFound
+relation_is_found p q f g =
+    stands (sum_of p) (sum_of q)
+    (all_at_most (terms_of p) (den_of p) (terms_of q) (den_of q)) (all_at_most (terms_of q) (den_of q) (terms_of p) (den_of p))
+    (at_most_decided (sum_of p) (sum_of q) (subst (IsDistinct alike) (same_keys p.terms.items) f.terms.distinct))
+    (at_most_decided (sum_of q) (sum_of p) (subst (IsDistinct alike) (same_keys q.terms.items) g.terms.distinct))
+
+-- what stands is found
+pub found : (p q : Poly) (r : Relation) → IsPoly p → IsPoly q → Stands r (sum_of p) (sum_of q) → r ≡ relation_between (sum_of p) (sum_of q)
+found p q r f g h = relations_are_one (sum_of p) (sum_of q) r (relation_between (sum_of p) (sum_of q)) h (relation_is_found p q f g)

@@ -17,7 +17,8 @@ use Rattle.base_poly.specs.Poly.{Term}
 use Rattle.base_poly.proofs.Among.{Among, among_contains}
 use Rattle.base_poly.proofs.Sums.{total_map, total_parts, total_same}
 use Rattle.bound_compare.specs.Order.{exponents_total}
-use Rattle.bound_compare.specs.Powers.{counts, factorials, fallings, brings, power_at, above, below, positive, negative, exponent_order, ArePowers, Fits, Leaves, by_positive, by_negative}
+use Rattle.bound_compare.specs.Powers.{counts, factorials, fallings, brings, power_at, above, below, positive, negative, exponent_order, ArePowers, Fits, Leaves, by_den, by_positive, by_negative}
+use Rattle.bound_compare.specs.Laws.{FitsOrLeaves}
 use Rattle.bound_compare.specs.Steps.{Part, capped, parts_of, expansion, joined, numbers, AreSmall, HasLarge}
 use Rattle.bound_compare.proofs.Counts.{counts_low}
 use Rattle.bound_compare.proofs.Expanded.{expanded, above_scaled, below_scaled}
@@ -189,3 +190,8 @@ of_error (Err x) e f h g = sym h ∙ (let p : x ≡ f = cc in p)
 pub twice_ok : {X E : Type 0} (r : Result X E) (P Q : X → Type 0) (S : Type 0) → IfOk r P → OnOk r S → ((x : X) → P x → S → Q x) → IfOk r Q
 twice_ok (Ok x) P Q S p s f = f x p s
 twice_ok (Err e) P Q S p s f = tt
+
+pub fits_or_leaves : FitsOrLeaves
+fits_or_leaves den ts f (by_den h) = let fits = f.scaled in omega (arith, h, fits)
+fits_or_leaves den ts f (by_positive es h) = let fits = f.positive es in omega (arith, h, fits)
+fits_or_leaves den ts f (by_negative es h) = let fits = f.negative es in omega (arith, h, fits)

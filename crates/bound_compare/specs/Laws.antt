@@ -7,14 +7,19 @@ use Rattle.base_poly.specs.Plain.{Plain, Unit', many, degrees}
 use Rattle.base_poly.specs.Poly.{Term, den_of, terms_of, IsPoly}
 use Rattle.base_poly.specs.declared.tuple.Poly.{Poly}
 use Rattle.poly_point.specs.Point.{worth}
-use Rattle.bound_compare.specs.Powers.{Powers, are_flat, counts, factorials, exponent_order, powers_of, ArePowers, powers_worth, element_counts}
+use Rattle.bound_compare.specs.Powers.{Powers, are_flat, counts, factorials, exponent_order, powers_of, ArePowers, Fits, Leaves, powers_worth, element_counts}
 use Rattle.bound_compare.specs.Compare.{Sum, sum_of, Stands}
+use Rattle.bound_compare.specs.Tests.{relation_between}
 use Rattle.bound_compare.specs.declared.relation.Relation.{Relation}
 use Rattle.bound_compare.specs.declared.relation.Relation.TheVariants.{Equal, Below}
 
 -- Two polynomials stand in one relation.
 abbrev pub RelationsAreOne : Type 0
 RelationsAreOne = (p q : Sum) (r s : Relation) → Stands r p q → Stands s p q → r ≡ s
+
+-- It is found by looking at the terms of both.
+abbrev pub RelationIsFound : Type 0
+RelationIsFound = (p q : Poly) → IsPoly p → IsPoly q → Stands (relation_between (sum_of p) (sum_of q)) (sum_of p) (sum_of q)
 
 -- the first is worth no more than the second at these arguments
 abbrev pub WorthAtMost : Poly → Poly → List Value → Type 0
@@ -37,6 +42,10 @@ PowersKeepWorth = (As : List Type') (ts : List Term) (ps : Powers) → are_flat 
 -- the index that picks so many elements of a list of integers
 abbrev pub picks : ℕ → Plain
 picks n = many (replicate n Unit')
+
+-- What fits does not leave.
+abbrev pub FitsOrLeaves : Type 0
+FitsOrLeaves = (den : ℕ) (ts : List Term) → Fits den ts → ¬ Leaves den ts
 
 -- Exponents are ordered as the tuples that pick so many elements of lists.
 abbrev pub ExponentsAreOrdered : Type 0

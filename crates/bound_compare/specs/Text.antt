@@ -60,3 +60,7 @@ compared_word (Bounds relation) = word_of relation
 -- NAME METER WORD
 abbrev pub compared_line : Text → Text → Compared → Text
 compared_line name meter compared = name ++ codes " " ++ meter ++ codes " " ++ compared_word compared ++ codes "\n"
+
+-- the line where powers leave 128 bits
+abbrev pub leaves_line : Text → Text → Text
+leaves_line name meter = codes "raml: overflow: powers " ++ name ++ codes " " ++ meter ++ codes "\n"

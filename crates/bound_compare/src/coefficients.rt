@@ -6,7 +6,7 @@ ghost use Rattle.std.specs.List.{IsDistinct};
 ghost use Rattle.base_poly.specs.Plain.{alike};
 ghost use Rattle.base_poly.specs.Poly.{magnitudes, IsPoly};
 ghost use Rattle.bound_compare.specs.Compare.{sum_of, term_at, AtMost, Stands};
-ghost use Rattle.bound_compare.specs.Tests.{relation_of, all_at_most};
+ghost use Rattle.bound_compare.specs.Tests.{relation_of, all_at_most, relation_between};
 
 use crate::relation::Relation;
 use base_poly::{Poly, Tuple};
@@ -20,7 +20,8 @@ use std::cmp::Ordering;
 pub fn compare(first: &Poly, second: &Poly) -> Relation
     requires first { IsPoly first.now }
     requires second { IsPoly second.now }
-    ensures { Stands result (sum_of first.now) (sum_of second.now) }
+    ensures stands { Stands result (sum_of first.now) (sum_of second.now) }
+    ensures found { result ≡ relation_between (sum_of first.now) (sum_of second.now) }
 {
     let at_most = is_at_most(first, second);
     let at_least = is_at_most(second, first);

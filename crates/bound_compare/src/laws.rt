@@ -1,10 +1,15 @@
 // Laws: each is the contract of a function that does nothing.
-ghost use Rattle.bound_compare.specs.Laws.{RelationsAreOne, RelationsPromise, DivisionIsExact, PowersKeepWorth, ExponentsAreOrdered, PowersAreOne, PowersAreThese};
+ghost use Rattle.bound_compare.specs.Laws.{RelationsAreOne, RelationIsFound, RelationsPromise, DivisionIsExact, PowersKeepWorth, FitsOrLeaves, ExponentsAreOrdered, PowersAreOne, PowersAreThese};
 ghost use Rattle.bound_compare.specs.Example.{Examples};
 
 /// Two polynomials stand in one relation.
 pub fn relations_are_one()
     ensures { RelationsAreOne }
+{}
+
+/// It is found by looking at the terms of both.
+pub fn relation_is_found()
+    ensures { RelationIsFound }
 {}
 
 /// Where a polynomial is equal to another one or below it, it is worth no more at any arguments.
@@ -21,6 +26,11 @@ pub fn division_is_exact()
 /// arguments.
 pub fn powers_keep_worth()
     ensures { PowersKeepWorth }
+{}
+
+/// What fits does not leave.
+pub fn fits_or_leaves()
+    ensures { FitsOrLeaves }
 {}
 
 /// Exponents are ordered as the tuples that pick so many elements of lists.

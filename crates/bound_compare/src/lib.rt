@@ -17,6 +17,6 @@ pub use compared::Compared;
 pub use exponents::Exponents;
 pub use fault::PowerFault;
 pub use form::{PowerForm, is_flat, powers};
-pub use lines::{push_compared_line, push_not_flat_line, push_powers_line};
+pub use lines::{leaves_line, push_compared_line, push_not_flat_line, push_powers_line};
 pub use relation::Relation;
 pub use text::push_powers;

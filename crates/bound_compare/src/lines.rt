@@ -1,11 +1,11 @@
 // The lines of powers and of comparisons.
-ghost use Rattle.std.specs.Prelude.{◌≡◌, ◌++◌, ◌<ℤ◌, pos, codes, unsigned_abs, string_bytes, OnOk};
-ghost use Rattle.bound_compare.specs.Text.{powers_line, not_flat_line, compared_line};
+ghost use Rattle.std.specs.Prelude.{◌≡◌, ◌++◌, ◌<ℤ◌, pos, codes, unsigned_abs, string_bytes, IfOk, OnOk};
+ghost use Rattle.bound_compare.specs.Text.{powers_line, not_flat_line, compared_line, leaves_line};
 
 use crate::compared::Compared;
 use crate::form::PowerForm;
 use crate::text::push_powers;
-use std::alloc::AllocError;
+use std::alloc::{AllocError, Global};
 
 /// Appends that the powers are a bound of the function on the meter.
 pub fn push_powers_line(
@@ -45,6 +45,16 @@ pub fn push_compared_line(
     text.push_str(" ")?;
     text.push_str(compared.word())?;
     text.push_str("\n")
+}
+
+/// The line that tells that the function's powers on the meter leave 128 bits.
+pub fn leaves_line(alloc: Global, name: &str, meter: &str) -> Result<String, AllocError>
+    ensures { IfOk result (λ line. string_bytes line ≡ leaves_line name.now meter.now) }
+{
+    let mut line = String::from_str(alloc, "raml: overflow: powers ")?;
+    push_subject(&mut line, name, meter)?;
+    line.push_str("\n")?;
+    Ok(line)
 }
 
 // Appends the name of the function and that of the meter.

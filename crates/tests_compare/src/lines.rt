@@ -2,7 +2,7 @@
 ghost use Rattle.std.specs.Prelude.{◌<ℤ◌, pos, IfOk};
 
 use bound_compare::{
-    Compared, Exponents, PowerForm, Relation, push_compared_line, push_not_flat_line,
+    Compared, Exponents, PowerForm, Relation, leaves_line, push_compared_line, push_not_flat_line,
     push_powers_line,
 };
 use std::alloc::{AllocError, Global};
@@ -30,6 +30,13 @@ fn bounds_have_lines(rt: HostRuntime) -> Result<(), Fail> {
         text.as_str(),
         "qsort cells <= 1/2*n1 + 3/2*n1^2\nflat cells not flat\n"
     );
+    Ok(())
+}
+
+#[test]
+fn powers_that_leave_have_a_line(rt: HostRuntime) -> Result<(), Fail> {
+    let line = leaves_line(rt.alloc(), "f121", "work")?;
+    assert_eq!(rt; line.as_str(), "raml: overflow: powers f121 work\n");
     Ok(())
 }
 
