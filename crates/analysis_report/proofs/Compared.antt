@@ -94,7 +94,7 @@ is_comparison N c Q M e f g meter (Some other) NoBound counterpart compare = (ot
 is_comparison N c Q M e f g meter (Some other) (Bounds r) counterpart compare = (other, counterpart, compare)
 
 -- The function at a place is the reading of that of the code.
-same_function : (P : Prog) (funs : List Fun) → map function_of funs ≡ P → (f : ℕ) (x : Fun) → slice_get funs f ≡ Some x → (g : Function) → slice_get P f ≡ Some g → function_of x ≡ g
+pub same_function : (P : Prog) (funs : List Fun) → map function_of funs ≡ P → (f : ℕ) (x : Fun) → slice_get funs f ≡ Some x → (g : Function) → slice_get P f ≡ Some g → function_of x ≡ g
 same_function P funs is f x there g at =
     same_Some (function_of x) g (sym (ap (option_map function_of) there) ∙ sym (slice_get-map function_of funs f) ∙ ap (λ gs. slice_get gs f) is ∙ at)
 

@@ -1,6 +1,5 @@
 pub mod InOrder
 pub mod Listed
-pub mod Low
 pub mod Holding
 pub mod MeterLines
 pub mod Compared

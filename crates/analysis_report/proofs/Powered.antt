@@ -1,14 +1,16 @@
 -- Bounds in powers, and their lines one after the other.
-use Rattle.std.proofs.Common.{◌≡◌, ◌≤◌, ◌<◌, ◌+◌, ◌*◌, inl, inr, ⊎_elim, ℕ, zero, suc, ℤ, pos, true, false, List, [], ◌∷◌, ◌++◌, length, flat_map, append_assoc, slice_get, Option, Some, None, refl, sym, ap, ◌∙◌, subst, arith}
-use Rattle.std.specs.Prelude.{unsigned_abs}
+use Rattle.std.proofs.Common.{◌≡◌, ◌≤◌, ◌<◌, ◌+◌, ◌*◌, inl, inr, ⊎_elim, ℕ, zero, suc, ℤ, pos, true, false, List, [], ◌∷◌, ◌++◌, length, map, flat_map, append_assoc, slice_get, Option, Some, None, Result, Ok, Err, refl, sym, ap, ◌∙◌, subst, arith}
+use Rattle.std.specs.Prelude.{unsigned_abs, IfErr, IsErrAnd}
 use Rattle.std.specs.List.{All, Contains, range_with_len}
 use Rattle.std.proofs.lemmas.List.{append-nil}
 use Rattle.std.proofs.lemmas.Option.{same_Some, slice_get_within, slice_get_cases}
 use Rattle.raml_syntax.specs.Tree.{Text, Type', Function, Prog}
+use Rattle.raml_syntax.specs.Read.{function_of}
 use Rattle.raml_syntax.specs.Types.{types_of}
+use Rattle.raml_syntax.specs.declared.program.Fun.{Fun}
 use Rattle.base_poly.specs.Indices.{AreIndices}
-use Rattle.base_poly.specs.Plain.{Plain, degrees}
-use Rattle.base_poly.specs.Poly.{Term, magnitudes}
+use Rattle.base_poly.specs.Plain.{degrees}
+use Rattle.base_poly.specs.Poly.{Term}
 use Rattle.base_poly.proofs.Among.{Among, contains_among}
 use Rattle.bound_compare.specs.Laws.{PowersKeepWorth}
 use Rattle.bound_compare.specs.Powers.{Powers, are_flat, ArePowers, Fits, Leaves}
@@ -24,18 +26,17 @@ use Rattle.annot_types.specs.Certificate.{Certificate, has_work}
 use Rattle.annot_types.specs.Held as h
 use Rattle.annot_types.specs.Held.{Claim, Bound, Line, line, Held}
 use Rattle.report_text.specs.Names.{name_at}
+use Rattle.report_text.specs.Report.{types_in}
 use Rattle.analysis_report.specs.Floors.{rank}
 use Rattle.analysis_report.specs.Lines.{Claims}
 use Rattle.analysis_report.specs.Tuples.{AreOfParameters, BoundsAreOfParameters}
-use Rattle.analysis_report.specs.Powers.{PowerClaim, NotFlat, ArePowersOf, ToldInPowers, power_line, power_lines_of, FitsAt, LeavesAt, IsBefore, AllFitBefore, ArePowerLines}
-use Rattle.analysis_report.specs.Steps.{HasPowerLine, HasPowerLines, AllFitBelow}
+use Rattle.analysis_report.specs.Powers.{PowerClaim, NotFlat, ArePowersOf, ToldInPowers, power_line, power_lines_of, FitsAt, LeavesAt, IsBefore, AllFitBefore, FirstLeaves, ArePowerLines}
+use Rattle.analysis_report.specs.Steps.{LeavesHere, HasPowerLine, HasPowerLines, AllFitBelow}
+use Rattle.analysis_report.specs.Told.{PowersRefused}
+use Rattle.analysis_report.specs.declared.powers_fault.PowersFault.{PowersFault}
+use Rattle.analysis_report.specs.declared.powers_fault.PowersFault.TheVariants as fault
+use Rattle.analysis_report.proofs.Compared.{same_function}
 use Rattle.analysis_report.proofs.InOrder.{AreTold, none_told, next_told, last_or_before}
-
--- what holds of the tuples of the terms as plain data holds of those of the code's
-pub of_terms : (Q : List Plain → Type 0) (ts : List (List Plain × ℤ)) → All (λ (t : Term). Q t.0) (magnitudes ts) → All (λ (t : List Plain × ℤ). Q t.0) ts
-of_terms Q [] h k x l = absurd (omega (arith, l))
-of_terms Q (t ∷ ts) h zero x l = h 0 (t.0, 0) (omega arith)
-of_terms Q (t ∷ ts) h (suc k) x l = of_terms Q ts (λ i d m. h (suc i) d (omega (arith, m))) k x (omega (arith, l))
 
 -- The powers of a flat function's bound.
 pub are_powers_of : PowersKeepWorth → (As : List Type') (den : ℕ) (ts : List Term) (over : ℤ) (ps : Powers) → are_flat As ≡ true →
@@ -69,6 +70,11 @@ are_of_source law P N is forms c held f g there As same meter den terms claims k
       omega (arith, few, most),
     )
 
+-- The types of the parameters of the code's function are those of the source's.
+pub types_are : (P : Prog) (funs : List Fun) → map function_of funs ≡ P → (f : ℕ) (x : Fun) → slice_get funs f ≡ Some x → (As : List Type') → As ≡ types_in x.params.items →
+    (g : Function) → slice_get P f ≡ Some g → As ≡ types_of g
+types_are P funs is f x there As are g at = are ∙ ap types_of (same_function P funs is f x there g at)
+
 module _ (P : Prog) (N : Program) (c : Certificate) where
   -- One place
 
@@ -92,6 +98,17 @@ module _ (P : Prog) (N : Program) (c : Certificate) where
       (λ found. record { fun = found.0; there = found.2; flat = ap are_flat (sym (same found.0 found.2)) ∙ flat; den = den; terms = ts; claims = claims; leaves = leaves })
       (λ past. let far = past.0 in absurd (omega (arith, far, below)))
       (slice_get_cases P f).1
+
+  -- the first place that leaves, where all before it fit
+  pub leaves_first : {A : Type 0} → (f : ℕ) (meter : Meter) → Contains (meters (has_work c)) meter → AllFitBefore P N c f meter → (r : Result A PowersFault) (e : PowersFault) →
+      IsErrAnd r (λ x. x ≡ e) → LeavesHere P N c f meter e → IfErr r (PowersRefused P N c)
+  leaves_first f meter counted before (Ok a) e same h = tt
+  leaves_first f meter counted before (Err x) e same h = subst (PowersRefused P N c) (sym same) (by e h)
+    where
+      by : (e : PowersFault) → LeavesHere P N c f meter e → PowersRefused P N c e
+      by (fault.Leaves fun other) h =
+          subst (λ m. FirstLeaves P N c fun.0 m) (sym h.1) (subst (λ k. FirstLeaves P N c k meter) (sym h.0) (record { counted = counted; leaves = h.2; before = before }))
+      by fault.NoMemory h = tt
 
   -- The lines of a function
 
