@@ -20,7 +20,7 @@ flat_map_next g n =
     ∙ ap (λ t. flat_map g (range_with_len 0 n) ++ t) (append-nil (g n))
 
 -- a place that comes before the next one
-last_or_before : (k n : ℕ) → k < n + 1 → (k < n) ⊎ (k ≡ n)
+pub last_or_before : (k n : ℕ) → k < n + 1 → (k < n) ⊎ (k ≡ n)
 last_or_before k n below = grind (arith, nat_tests)
 
 flat_map_same : {X : Type 0} (g h : ℕ → List X) (from n : ℕ) → ((k : ℕ) → k < from + n → g k ≡ h k) → flat_map g (range_with_len from n) ≡ flat_map h (range_with_len from n)

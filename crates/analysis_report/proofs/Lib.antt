@@ -1,9 +1,9 @@
-pub mod Listed
-pub mod Low
-pub mod Holding
 pub mod InOrder
+pub mod Listed
+pub mod Holding
 pub mod MeterLines
 pub mod Compared
 pub mod Tuples
 pub mod Places
+pub mod Powered
 mod Limits

@@ -1,5 +1,5 @@
 -- Lines of one function after the other.
-use Rattle.std.proofs.Common.{◌≡◌, ◌<◌, ◌+◌, ◌-◌, ℕ, suc, List, [], ◌∷◌, ◌++◌, append_assoc, refl, sym, ap, subst, ◌∙◌, arith, ⊎_elim, ◌⊎◌}
+use Rattle.std.proofs.Common.{◌≡◌, ◌<◌, ◌+◌, ◌-◌, ℕ, suc, length, List, [], ◌∷◌, ◌++◌, append_assoc, refl, sym, ap, subst, ◌∙◌, arith, ⊎_elim, ◌⊎◌}
 use Rattle.std.proofs.lemmas.Bool.Decides.{nat_tests}
 use Rattle.std.specs.Prelude.{flat_map}
 use Rattle.std.specs.List.{Contains, range_with_len}
@@ -8,9 +8,10 @@ use Rattle.cost_free.specs.declared.task.Meter.{Meter}
 use Rattle.cost_free.specs.Schedule.{meters}
 use Rattle.annot_types.specs.Program.{Program}
 use Rattle.annot_types.specs.Certificate.{Certificate, has_work}
-use Rattle.annot_types.specs.Held.{Claim, Line}
+use Rattle.annot_types.specs.Held.{Claim, Line, lines_for}
 use Rattle.report_text.specs.Claims.{line_text, lines_text}
-use Rattle.analysis_report.specs.Lines.{lines_of, lines_between, Claims, AllClaim}
+use Rattle.analysis_report.specs.Lines.{lines_of, lines_between, Claims, AllClaim, AreMeterLines}
+use Rattle.analysis_report.proofs.InOrder.{flat_map_next, last_or_before}
 
 pub lines_append : (P : Prog) (ls more : List Line) → lines_text P (ls ++ more) ≡ lines_text P ls ++ lines_text P more
 lines_append P [] more = refl
@@ -45,3 +46,34 @@ module _ (P : Prog) (N : Program) (c : Certificate) where
       append_nil : (t : Text) → t ++ [] ≡ t
       append_nil [] = refl
       append_nil (x ∷ t) = ap (λ u. x ∷ u) (append_nil t)
+
+  -- the text is the lines of a meter of the first n functions
+  pub record AreFirstLines (meter : Meter) (n : ℕ) (text : Text) : Type 0 where
+    pub is : text ≡ lines_text P (flat_map (λ f. lines_for N c f meter) (range_with_len 0 n))
+    pub each : (f : ℕ) → f < n → (claim : Claim) × Claims N c f meter claim
+
+  pub none_listed : (meter : Meter) → AreFirstLines meter 0 []
+  none_listed meter = record { is = refl; each = λ f below. absurd (omega (arith, below)) }
+
+  pub one_listed : (meter : Meter) (n : ℕ) (old new : Text) → AreFirstLines meter n old → new ≡ old ++ lines_text P (lines_for N c n meter) →
+      (claim : Claim) × Claims N c n meter claim → AreFirstLines meter (n + 1) new
+  one_listed meter n old new before longer here = record { is = is; each = each }
+    where
+      of : ℕ → List Line
+      of = λ f. lines_for N c f meter
+
+      is : new ≡ lines_text P (flat_map of (range_with_len 0 (n + 1)))
+      is =
+          longer
+          ∙ ap (λ t. t ++ lines_text P (of n)) before.is
+          ∙ sym (lines_append P (flat_map of (range_with_len 0 n)) (of n))
+          ∙ ap (lines_text P) (sym (flat_map_next of n))
+
+      each : (f : ℕ) → f < n + 1 → (claim : Claim) × Claims N c f meter claim
+      each f below = ⊎_elim (λ less. before.each f less) (λ same. subst (λ g. (claim : Claim) × Claims N c g meter claim) (sym same) here) (last_or_before f n below)
+
+  pub all_listed : (meter : Meter) (n : ℕ) (text : Text) → n ≡ length P → AreFirstLines meter n text → AreMeterLines P N c meter text
+  all_listed meter n text all first = record {
+    is = first.is ∙ ap (λ m. lines_text P (flat_map (λ f. lines_for N c f meter) (range_with_len 0 m))) all;
+    each = λ f below. first.each f (omega (arith, below, all));
+  }

@@ -13,8 +13,8 @@ pub meter_lines_are_lines : (N : Program) (c : Certificate) (f : ℕ) (meter : M
     Contains (lines_for N c f meter) l → Contains (lines N c) l
 meter_lines_are_lines N c f meter l below counted there =
     among_contains l (lines N c)
-    (part_among of_function f l (range_with_len 0 (length N.funs)) (contains_among f _ in_range)
-    (part_among (lines_for N c f) meter l (meters (has_work c)) (contains_among meter _ counted) (contains_among l _ there)))
+    (part_among of_function f l (range_with_len 0 (length N.funs)) (contains_among f (range_with_len 0 (length N.funs)) in_range)
+    (part_among (lines_for N c f) meter l (meters (has_work c)) (contains_among meter (meters (has_work c)) counted) (contains_among l (lines_for N c f meter) there)))
   where
     of_function : ℕ → List Line
     of_function = λ g. flat_map (lines_for N c g) (meters (has_work c))

@@ -1,9 +1,8 @@
 -- The first of the lines whose powers do not fit.
-use Rattle.std.proofs.Common.{◌≡◌, ◌<◌, ◌⊎◌, inl, inr, ⊎_elim, ℕ, List, refl, sym, subst, arith}
+use Rattle.std.proofs.Common.{◌≡◌, ◌<◌, ◌⊎◌, inl, inr, ⊎_elim, ℕ, refl, sym, subst, arith}
 use Rattle.std.proofs.lemmas.Bool.Decides.{nat_tests}
 use Rattle.raml_syntax.specs.Tree.{Prog}
-use Rattle.base_poly.specs.Poly.{Term}
-use Rattle.bound_compare.specs.Powers.{Fits, Leaves, by_den, by_positive, by_negative}
+use Rattle.bound_compare.proofs.Made.{fits_or_leaves}
 use Rattle.cost_free.specs.declared.task.Meter.{Meter}
 use Rattle.cost_free.specs.declared.task.Meter.TheVariants.{Ticks, Cells, Work}
 use Rattle.annot_types.specs.Program.{Program}
@@ -11,15 +10,9 @@ use Rattle.annot_types.specs.Certificate.{Certificate}
 use Rattle.analysis_report.specs.Floors.{rank}
 use Rattle.analysis_report.specs.Powers.{FitsAt, LeavesAt, ArePowersFitting, FirstLeaves}
 
--- powers that fit do not leave
-fit_or_leave : (den : ℕ) (terms : List Term) → Fits den terms → Leaves den terms → ⊥
-fit_or_leave den terms fits (by_den over) = let few = fits.scaled in omega (arith, few, over)
-fit_or_leave den terms fits (by_positive es over) = let few = fits.positive es in omega (arith, few, over)
-fit_or_leave den terms fits (by_negative es over) = let few = fits.negative es in omega (arith, few, over)
-
 module _ (P : Prog) (N : Program) (c : Certificate) where
   at_one_place : (f : ℕ) (meter : Meter) → FitsAt P N c f meter → LeavesAt P N c f meter → ⊥
-  at_one_place f meter fits leaves = fit_or_leave leaves.den leaves.terms (fits leaves.fun leaves.den leaves.terms leaves.there leaves.flat leaves.claims) leaves.leaves
+  at_one_place f meter fits leaves = fits_or_leaves leaves.den leaves.terms (fits leaves.fun leaves.den leaves.terms leaves.there leaves.flat leaves.claims) leaves.leaves
 
   -- where all fit, none leaves
   pub fitting_leaves_none : (f : ℕ) (meter : Meter) → FirstLeaves P N c f meter → ArePowersFitting P N c → ⊥

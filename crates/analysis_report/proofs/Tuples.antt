@@ -1,12 +1,13 @@
 -- The bounds that a held certificate claims are over tuples of the function's parameters.
-use Rattle.std.proofs.Common.{◌≡◌, ◌≤◌, ◌<◌, inl, ⊎_elim, ℕ, zero, suc, true, List, [], ◌∷◌, length, slice_get, Option, Some, None, refl, sym, ap, ◌∙◌, subst, arith}
+use Rattle.std.proofs.Common.{◌≡◌, ◌≤◌, ◌<◌, inl, ⊎_elim, ℕ, zero, suc, ℤ, true, List, [], ◌∷◌, length, slice_get, Option, Some, None, refl, sym, ap, ◌∙◌, subst, arith}
 use Rattle.std.specs.Prelude.{slice_index_or, unsigned_abs}
 use Rattle.std.specs.List.{All, Contains}
+use Rattle.std.proofs.lemmas.Bool.{and_parts}
 use Rattle.std.proofs.lemmas.Option.{same_Some, slice_get-get_or}
 use Rattle.raml_syntax.specs.Tree.{Type'}
 use Rattle.base_poly.specs.Plain.{Plain, degrees}
 use Rattle.base_poly.specs.Indices.{AreIndices, index_list}
-use Rattle.base_poly.specs.Poly.{Term}
+use Rattle.base_poly.specs.Poly.{Term, magnitudes}
 use Rattle.base_poly.proofs.Among.{Among, among_contains, among_kept, among_mapped, among_part}
 use Rattle.base_poly.proofs.Exact.{each_listed}
 use Rattle.normal_spec.specs.Norm.{NormFun}
@@ -22,6 +23,12 @@ use Rattle.annot_types.specs.Held.{before, scale_of, scale_for, Claim, Bound, Li
 use Rattle.rules_soundness_laws.proofs.Blocks.{of_meter}
 use Rattle.cert_check.proofs.Signed.{function_of}
 use Rattle.analysis_report.specs.Tuples.{AreOfParameters, BoundsAreOfParameters}
+
+-- what holds of the tuples of the terms as plain data holds of those of the code's
+pub of_terms : (Q : List Plain → Type 0) (ts : List (List Plain × ℤ)) → All (λ (t : Term). Q t.0) (magnitudes ts) → All (λ (t : List Plain × ℤ). Q t.0) ts
+of_terms Q [] h k x l = absurd (omega (arith, l))
+of_terms Q (t ∷ ts) h zero x l = h 0 (t.0, 0) (omega arith)
+of_terms Q (t ∷ ts) h (suc k) x l = of_terms Q ts (λ i d m. h (suc i) d (omega (arith, m))) k x (omega (arith, l))
 
 abbrev IsOf : List Type' → ℕ → List Plain → Type 0
 IsOf As d t = AreIndices t As × (degrees t ≤ d)
@@ -48,7 +55,7 @@ module _ (N : Program) (certificate : Certificate) (held : Held N certificate) w
       by block.body (held.blocks there.0 block (slice_get-get_or certificate.blocks there.0 block there.1 ∙ ap Some there.2)).holds m
     where
       kind : block.task.kind ≡ k.With meter
-      kind = of_meter meter block.task.kind (and-true _ _ on).0
+      kind = of_meter meter block.task.kind (and_parts _ _ on).0
 
       same : {x : Claim} → IsOfParameters f x → Among claim (x ∷ []) → IsOfParameters f claim
       same h m = ⊎_elim (λ e. subst (IsOfParameters f) e h) (λ none. absurd none) m

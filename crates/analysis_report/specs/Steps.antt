@@ -8,7 +8,7 @@ use Rattle.cost_free.specs.Schedule.{meters}
 use Rattle.annot_types.specs.Program.{Program}
 use Rattle.annot_types.specs.Certificate.{Certificate, has_work}
 use Rattle.report_text.specs.Names.{name_at}
-use Rattle.analysis_report.specs.Comparison.{IsCounterpart, ClaimsCompare}
+use Rattle.analysis_report.specs.Comparison.{IsCounterpart, ClaimsCompare, IsComparison, comparisons_text}
 use Rattle.analysis_report.specs.Powers.{PowerClaim, InPowers, NotFlat, NoBound, CallsUnbounded, ToldInPowers, power_line, power_lines_of, FitsAt, LeavesAt}
 use Rattle.analysis_report.specs.declared.comparing.Comparisons.{Comparisons}
 use Rattle.bound_compare.specs.declared.compared.Compared.{Compared}
@@ -32,6 +32,12 @@ by_meter found Work = found.work
 abbrev pub ComparesIn : Program → Certificate → ℕ → Program → Certificate → Option ℕ → Meter → Compared → Type 0
 ComparesIn N c f M e None meter comparison = comparison ≡ Absent
 ComparesIn N c f M e (Some other) meter comparison = ClaimsCompare N c f M e other meter comparison
+
+-- The text goes on with the comparisons of a function.
+pub record HasComparisons (P : Prog) (N : Program) (c : Certificate) (Q : Prog) (M : Program) (e : Certificate) (f : ℕ) (old new : Text) : Type 0 where
+  pub comparisons : Meter → Compared
+  pub each : (g : Function) (meter : Meter) → slice_get P f ≡ Some g → IsComparison N c Q M e f g meter (comparisons meter)
+  pub is : new ≡ old ++ comparisons_text (name_at P f) comparisons
 
 abbrev pub told_of : PowerLine → PowerClaim
 told_of (line.Powers form) = InPowers (unsigned_abs form.den) form.terms.items

@@ -9,14 +9,14 @@ ghost use Rattle.annot_types.specs.Certificate.{has_work};
 ghost use Rattle.rules_plan.specs.Read.{program_in};
 ghost use Rattle.report_text.specs.Report.{types_in};
 ghost use Rattle.analysis_report.specs.Comparison.{ClaimsCompare, comparisons_text, AreComparisons};
-ghost use Rattle.analysis_report.specs.Steps.{IsCounterpartIn, ComparesIn, by_meter};
+ghost use Rattle.analysis_report.specs.Steps.{IsCounterpartIn, ComparesIn, HasComparisons, by_meter};
 
 use crate::comparison::compared;
 use bound_compare::{Compared, push_compared_line};
 use bound_infer::Verified;
 use cost_free::Meter;
 use raml_syntax::{Fun, FunId, FunctionNames, Param, Program};
-use report_text::meter_name;
+use report_text::{meter_name, name_at};
 use share_normal::NormProgram;
 use std::alloc::{AllocError, Global};
 
@@ -66,12 +66,33 @@ fn all_comparisons(
 {
     let mut text = String::new(alloc);
     for place in 0..program.funs.len() {
-        let fun = &program.funs[place];
-        let counterpart = counterpart(names, fun);
-        let found = comparisons(alloc, verified, FunId(place as u32), other, counterpart)?;
-        push_comparisons(&mut text, fun.name.text(), found)?;
+        let fun = FunId(place as u32);
+        push_function(alloc, &mut text, program, verified, names, other, fun)?;
     }
     Ok(text)
+}
+
+// Appends those of a function.
+fn push_function(
+    alloc: Global,
+    text: &mut String,
+    program: &Program,
+    verified: &Verified<'_, '_>,
+    names: &FunctionNames<'_>,
+    other: &Verified<'_, '_>,
+    fun: FunId,
+) -> Result<(), AllocError>
+    requires program { program_of program.now ≡ source_in verified.now.program }
+    requires fun { fun.0 < length (source_in verified.now.program) }
+    requires work { has_work verified.now.certificate ≡ true }
+    requires names { program_of names.now.program.now ≡ source_in other.now.program }
+    requires other_work { has_work other.now.certificate ≡ true }
+    ensures { OnOk result (HasComparisons (source_in verified.now.program) (program_in verified.now.program) verified.now.certificate
+        (source_in other.now.program) (program_in other.now.program) other.now.certificate fun.0 (string_bytes text.old) (string_bytes text.new)) }
+{
+    let counterpart = counterpart(names, &program.funs[fun.0 as usize]);
+    let found = comparisons(alloc, verified, fun, other, counterpart)?;
+    push_comparisons(text, name_at(program, fun), found)
 }
 
 // The function of the other program that has the name and the parameter types of this one.

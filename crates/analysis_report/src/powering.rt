@@ -137,7 +137,8 @@ fn push_line(
     ensures leaves { IfErr result (PowersRefused (source_in verified.now.program) (program_in verified.now.program) verified.now.certificate) }
 {
     let line = power_line(alloc, verified, fun, types, meter)?;
-    Ok(push_told(text, program, fun, meter, &line)?)
+    push_told(text, program, fun, meter, &line)?;
+    Ok(())
 }
 
 // What is told of a function and a meter.

@@ -1,0 +1,15 @@
+use Rattle.std.proofs.Common.{◌≡◌, length, ap, sym, ◌∙◌, arith}
+use Rattle.std.proofs.lemmas.List.{length-map}
+use Rattle.raml_syntax.specs.Read.{function_of}
+use Rattle.share_normal.specs.Program.{source_in}
+use Rattle.rules_plan.specs.Read.{program_in}
+use Rattle.analysis_report.proofs.Powered.{none_in_powers, next_in_powers, all_in_powers}
+use Rattle.analysis_report.proofs.powering.each_function.Goals as goal
+
+pub loop-place-init : goal.loop-place-init
+loop-place-init c = none_in_powers (source_in c.args.verified.now.program) (program_in c.args.verified.now.program) c.args.verified.now.certificate
+
+pub loop-place-preserved : goal.loop-place-preserved
+loop-place-preserved c =
+    next_in_powers (source_in c.args.verified.now.program) (program_in c.args.verified.now.program) c.args.verified.now.certificate
+    c.loop-place.place _ _ c.loop-place.invariant c.in_ok-push_function.ensures.lines
