@@ -36,15 +36,23 @@ fn source_refusal(alloc: Global, whose: Analysed, fault: SourceFault) -> Refusal
     ensures { IsToldOr no_names (source_status whose fault) result }
 {
     match whose {
-        Analysed::Program => {
-            let line = source_line(alloc, &fault);
-            Refusal::told(Status::Source(fault), line)
-        }
-        Analysed::Other => {
-            let line = other_source_line(alloc, &fault);
-            Refusal::told(Status::OtherSource(fault), line)
-        }
+        Analysed::Program => own_source_refusal(alloc, fault),
+        Analysed::Other => other_source_refusal(alloc, fault),
     }
+}
+
+fn own_source_refusal(alloc: Global, fault: SourceFault) -> Refusal
+    ensures { IsToldOr no_names (Status.Source fault) result }
+{
+    let line = source_line(alloc, &fault);
+    Refusal::told(Status::Source(fault), line)
+}
+
+fn other_source_refusal(alloc: Global, fault: SourceFault) -> Refusal
+    ensures { IsToldOr no_names (Status.OtherSource fault) result }
+{
+    let line = other_source_line(alloc, &fault);
+    Refusal::told(Status::OtherSource(fault), line)
 }
 
 /// A fault of a table of prices.

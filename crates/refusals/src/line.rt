@@ -47,14 +47,30 @@ fn own_course_refusal(alloc: Global, program: &NormProgram<'_>, fault: InferFaul
 fn other_course_refusal(alloc: Global, program: &NormProgram<'_>, fault: InferFault) -> Refusal
     ensures { CourseRefusal Analysed.Other (names_in program.now) fault result }
 {
-    let line = match &fault {
+    match fault {
+        InferFault::NoMemory => Refusal::no_memory(),
+        fault => {
+            let line = other_line(alloc, program, &fault);
+            Refusal::told(Status::OtherFault(fault), line)
+        }
+    }
+}
+
+// The line of a fault in the analysis of the other program; empty where memory is wanting.
+fn other_line(
+    alloc: Global,
+    program: &NormProgram<'_>,
+    fault: &InferFault,
+) -> Result<String, AllocError>
+    ensures { IfOk result (λ line. string_bytes line ≡ l.course_line Analysed.Other (names_in program.now) fault.now) }
+{
+    match fault {
         InferFault::TooLarge { task, what } => {
             too_large_text(alloc, Analysed::Other, program, task, *what)
         }
         InferFault::Leaves(at) => leaves_line(alloc, Analysed::Other, program, at),
-        InferFault::NoMemory => return Refusal::no_memory(),
-    };
-    Refusal::told(Status::OtherFault(fault), line)
+        InferFault::NoMemory => Ok(String::new(alloc)),
+    }
 }
 
 /// The power form of the function's bound on the meter leaves 128 bits.
