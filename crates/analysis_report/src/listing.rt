@@ -152,7 +152,14 @@ fn each_line(
 {
     let mut text = String::new(alloc);
     for place in 0..program.funs.len() {
-        push_line(alloc, &mut text, program, verified, FunId(place as u32), meter)?;
+        push_line(
+            alloc,
+            &mut text,
+            program,
+            verified,
+            FunId(place as u32),
+            meter,
+        )?;
     }
     Ok(text)
 }

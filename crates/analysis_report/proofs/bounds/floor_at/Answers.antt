@@ -15,5 +15,5 @@ at-requires-clause-low c =
     let held = c.certificate-certificate.ensures.valid.held in
     let terms = c.in-Bound.poly.terms.items in
     let tuples = bounds_are_of_parameters N cert held c.args.fun.0 c.args.meter _ (magnitudes terms)
-        (subst (λ (told : Line). Claims N cert c.args.fun.0 c.args.meter (claim_of told)) c.in-Bound.is c.in_ok-poly.ensures.line) in
+    (subst (λ (told : Line). Claims N cert c.args.fun.0 c.args.meter (claim_of told)) c.in-Bound.is c.in_ok-poly.ensures.line) in
     of_terms (λ t. degrees t ≤ 4) terms (λ k d l. let few = (tuples.each k d l).1 in let most = held.most_degree in omega (arith, few, most))
