@@ -12,7 +12,7 @@ use Rattle.raml_syntax.specs.Types.{types_of}
 use Rattle.raml_syntax.specs.declared.program.Fun.{Fun}
 use Rattle.base_poly.specs.Poly.{IsPoly}
 use Rattle.base_poly.specs.declared.tuple.Poly.{Poly}
-use Rattle.bound_compare.specs.Compare.{Sum, sum_of, Stands}
+use Rattle.bound_compare.specs.Compare.{sum_of, Stands}
 use Rattle.bound_compare.specs.Laws.{RelationsPromise}
 use Rattle.bound_compare.specs.declared.relation.Relation.{Relation}
 use Rattle.bound_compare.specs.declared.relation.Relation.TheVariants.{Equal, Below, Above, Mixed}
@@ -23,7 +23,7 @@ use Rattle.annot_types.specs.Held as h
 use Rattle.annot_types.specs.Held.{Claim, Bound}
 use Rattle.report_text.specs.Names.{name_at}
 use Rattle.report_text.specs.Report.{types_in}
-use Rattle.analysis_report.specs.Comparison.{IsCounterpart, Promises, AreRelated, AreCompared, ClaimsCompare, IsComparison, comparisons_text, AreComparisons}
+use Rattle.analysis_report.specs.Comparison.{IsCounterpart, Promises, AreRelated, AreCompared, IsComparison, comparisons_text, AreComparisons}
 use Rattle.analysis_report.specs.Steps.{IsCounterpartIn, ComparesIn, HasComparisons, by_meter}
 use Rattle.analysis_report.specs.declared.comparing.Comparisons.{Comparisons}
 use Rattle.bound_compare.specs.declared.compared.Compared.{Compared}
@@ -121,8 +121,8 @@ module _ (P : Prog) (N : Program) (c : Certificate) (Q : Prog) (M : Program) (e 
   abbrev pub FirstCompare : ℕ → Text → Type 0
   FirstCompare n text = AreTold FunctionCompares function_text n text
 
-  pub none_compare : FirstCompare 0 []
-  none_compare = none_told FunctionCompares function_text (λ meter. Absent)
+  pub none_compare : (text : Text) → text ≡ [] → FirstCompare 0 text
+  none_compare text none = none_told FunctionCompares function_text text none (λ meter. Absent)
 
   pub next_compare : (n : ℕ) (old new : Text) → FirstCompare n old → HasComparisons P N c Q M e n old new → FirstCompare (n + 1) new
   next_compare n old new first more = next_told FunctionCompares function_text n old new first more.comparisons more.each more.is

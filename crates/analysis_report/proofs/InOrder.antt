@@ -1,5 +1,5 @@
 -- Texts of places, one after the other.
-use Rattle.std.proofs.Common.{◌≡◌, ◌<◌, ◌+◌, ◌⊎◌, inl, inr, ⊎_elim, ℕ, zero, suc, nat_eq, Bool, true, false, cond, List, [], ◌∷◌, ◌++◌, map, flat_map, append_assoc, refl, sym, ap, ◌∙◌, subst, arith}
+use Rattle.std.proofs.Common.{◌≡◌, ◌<◌, ◌+◌, ◌⊎◌, ⊎_elim, ℕ, zero, suc, nat_eq, Bool, true, false, cond, List, [], ◌∷◌, ◌++◌, map, flat_map, refl, sym, ap, ◌∙◌, subst, arith}
 use Rattle.std.specs.List.{range_with_len}
 use Rattle.std.proofs.lemmas.Bool.{eqb-true}
 use Rattle.std.proofs.lemmas.Bool.Decides.{nat_tests}
@@ -58,8 +58,8 @@ module _ {A : Type 0} where
     pub each : (k : ℕ) → k < n → Q k (told k)
     pub is : text ≡ flat_map (λ k. line k (told k)) (range_with_len 0 n)
 
-  pub none_told : (Q : ℕ → A → Type 0) (line : ℕ → A → Text) → A → AreTold Q line 0 []
-  none_told Q line a = record { told = λ k. a; each = λ k below. absurd (omega (arith, below)); is = refl }
+  pub none_told : (Q : ℕ → A → Type 0) (line : ℕ → A → Text) (text : Text) → text ≡ [] → A → AreTold Q line 0 text
+  none_told Q line text none a = record { told = λ k. a; each = λ k below. absurd (omega (arith, below)); is = none }
 
   pub next_told : (Q : ℕ → A → Type 0) (line : ℕ → A → Text) (n : ℕ) (old new : Text) → AreTold Q line n old → (a : A) → Q n a → new ≡ old ++ line n a → AreTold Q line (n + 1) new
   next_told Q line n old new before a here longer = record { told = more; each = each; is = is }

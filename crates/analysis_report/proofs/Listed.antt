@@ -52,8 +52,8 @@ module _ (P : Prog) (N : Program) (c : Certificate) where
     pub is : text ≡ lines_text P (flat_map (λ f. lines_for N c f meter) (range_with_len 0 n))
     pub each : (f : ℕ) → f < n → (claim : Claim) × Claims N c f meter claim
 
-  pub none_listed : (meter : Meter) → AreFirstLines meter 0 []
-  none_listed meter = record { is = refl; each = λ f below. absurd (omega (arith, below)) }
+  pub none_listed : (meter : Meter) (text : Text) → text ≡ [] → AreFirstLines meter 0 text
+  none_listed meter text none = record { is = none; each = λ f below. absurd (omega (arith, below)) }
 
   pub one_listed : (meter : Meter) (n : ℕ) (old new : Text) → AreFirstLines meter n old → new ≡ old ++ lines_text P (lines_for N c n meter) →
       (claim : Claim) × Claims N c n meter claim → AreFirstLines meter (n + 1) new

@@ -5,7 +5,6 @@ use Rattle.raml_syntax.specs.Tree.{Text, Function, Prog}
 use Rattle.raml_syntax.specs.Types.{types_of}
 use Rattle.raml_syntax.specs.Value.{Value}
 use Rattle.raml_syntax.specs.Place.{place_of}
-use Rattle.base_poly.specs.Poly.{Term}
 use Rattle.poly_point.specs.Point.{worth}
 use Rattle.bound_compare.specs.Compare.{Sum, Stands}
 use Rattle.bound_compare.specs.Text.{compared_line}

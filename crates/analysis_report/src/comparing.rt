@@ -91,7 +91,7 @@ fn push_function(
         (source_in other.now.program) (program_in other.now.program) other.now.certificate fun.0 (string_bytes text.old) (string_bytes text.new)) }
 {
     let counterpart = counterpart(names, &program.funs[fun.0 as usize]);
-    let found = compare_meters(alloc, verified, fun, other, counterpart)?;
+    let found = compare_on_meters(alloc, verified, fun, other, counterpart)?;
     push_comparisons(text, name_at(program, fun), found)
 }
 
@@ -122,7 +122,7 @@ fn have_same_types(first: &[Param], second: &[Param]) -> bool
 }
 
 // The comparisons of a function on the three meters.
-fn compare_meters(
+fn compare_on_meters(
     alloc: Global,
     verified: &Verified<'_, '_>,
     fun: FunId,

@@ -9,7 +9,7 @@ use Rattle.analysis_report.proofs.comparing.all_comparisons.Goals as goal
 pub loop-place-init : goal.loop-place-init
 loop-place-init c =
     none_compare (source_in c.args.verified.now.program) (program_in c.args.verified.now.program) c.args.verified.now.certificate
-    (source_in c.args.other.now.program) (program_in c.args.other.now.program) c.args.other.now.certificate
+    (source_in c.args.other.now.program) (program_in c.args.other.now.program) c.args.other.now.certificate _ c.new-text.ensures.bytes
 
 pub loop-place-preserved : goal.loop-place-preserved
 loop-place-preserved c =

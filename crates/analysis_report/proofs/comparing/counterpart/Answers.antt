@@ -1,7 +1,6 @@
 use Rattle.std.proofs.Common.{◌≡◌, true, false, refl, sym, ap, ◌∙◌}
-use Rattle.raml_syntax.specs.declared.program.Fun.{Fun}
 use Rattle.report_text.specs.Report.{types_in}
-use Rattle.analysis_report.proofs.Compared.{AreNamed, are_named, is_counterpart, no_counterpart}
+use Rattle.analysis_report.proofs.Compared.{are_named, is_counterpart, no_counterpart}
 use Rattle.analysis_report.proofs.comparing.counterpart.Goals as goal
 
 pub returns-then-have_same_types : goal.returns-then-have_same_types

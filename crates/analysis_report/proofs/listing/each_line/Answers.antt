@@ -7,7 +7,7 @@ use Rattle.analysis_report.proofs.Listed.{none_listed, one_listed, all_listed}
 use Rattle.analysis_report.proofs.listing.each_line.Goals as goal
 
 pub loop-place-init : goal.loop-place-init
-loop-place-init c = none_listed (source_in c.args.verified.now.program) (program_in c.args.verified.now.program) c.args.verified.now.certificate c.args.meter
+loop-place-init c = none_listed (source_in c.args.verified.now.program) (program_in c.args.verified.now.program) c.args.verified.now.certificate c.args.meter _ c.new-text.ensures.bytes
 
 pub loop-place-preserved : goal.loop-place-preserved
 loop-place-preserved c =

@@ -7,9 +7,16 @@ use Rattle.analysis_report.proofs.Powered.{none_in_powers, next_in_powers, all_i
 use Rattle.analysis_report.proofs.powering.each_function.Goals as goal
 
 pub loop-place-init : goal.loop-place-init
-loop-place-init c = none_in_powers (source_in c.args.verified.now.program) (program_in c.args.verified.now.program) c.args.verified.now.certificate
+loop-place-init c = none_in_powers (source_in c.args.verified.now.program) (program_in c.args.verified.now.program) c.args.verified.now.certificate _ c.new-text.ensures.bytes
 
 pub loop-place-preserved : goal.loop-place-preserved
 loop-place-preserved c =
     next_in_powers (source_in c.args.verified.now.program) (program_in c.args.verified.now.program) c.args.verified.now.certificate
     c.loop-place.place _ _ c.loop-place.invariant c.in_ok-push_function.ensures.lines
+
+pub returns-clause-lines : goal.returns-clause-lines
+returns-clause-lines c =
+    let P = source_in c.args.verified.now.program in
+    let long : length P ≡ length c.args.program.now.funs.items = ap length (sym c.requires.program) ∙ length-map c.args.program.now.funs.items function_of in
+    all_in_powers P (program_in c.args.verified.now.program) c.args.verified.now.certificate c.loop-place.place _ (omega (arith, long, c.loop-place-test.false, c.len-place-end.ensures))
+    c.loop-place.invariant
