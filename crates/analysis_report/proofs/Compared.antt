@@ -2,8 +2,8 @@
 use Rattle.std.proofs.Common.{◌≡◌, ◌<◌, ◌<ℤ◌, ℕ, pos, ℤ, Option, Some, None, slice_get, get_or, List, [], ◌++◌, ◌+◌, length, map, flat_map, refl, sym, ap, ◌∙◌, subst, arith}
 use Rattle.std.specs.Prelude.{unsigned_abs}
 use Rattle.std.specs.List.{range_with_len}
-use Rattle.std.proofs.lemmas.Int.{ints}
 use Rattle.std.specs.Option.{option_map}
+use Rattle.std.proofs.lemmas.Int.{ints}
 use Rattle.std.proofs.lemmas.Option.{same_Some, slice_get_within, slice_get_read, slice_get-map}
 use Rattle.raml_syntax.specs.Tree.{Text, Function, Prog}
 use Rattle.raml_syntax.specs.Place.{place_of}
@@ -14,6 +14,8 @@ use Rattle.base_poly.specs.Poly.{IsPoly}
 use Rattle.base_poly.specs.declared.tuple.Poly.{Poly}
 use Rattle.bound_compare.specs.Compare.{sum_of, Stands}
 use Rattle.bound_compare.specs.Laws.{RelationsPromise}
+use Rattle.bound_compare.specs.declared.compared.Compared.{Compared}
+use Rattle.bound_compare.specs.declared.compared.Compared.TheVariants.{Absent, NoBound, Bounds}
 use Rattle.bound_compare.specs.declared.relation.Relation.{Relation}
 use Rattle.bound_compare.specs.declared.relation.Relation.TheVariants.{Equal, Below, Above, Mixed}
 use Rattle.cost_free.specs.declared.task.Meter.{Meter}
@@ -26,11 +28,9 @@ use Rattle.report_text.specs.Report.{types_in}
 use Rattle.analysis_report.specs.Comparison.{IsCounterpart, Promises, AreRelated, AreCompared, IsComparison, comparisons_text, AreComparisons}
 use Rattle.analysis_report.specs.Steps.{IsCounterpartIn, ComparesIn, HasComparisons, by_meter}
 use Rattle.analysis_report.specs.declared.comparing.Comparisons.{Comparisons}
-use Rattle.bound_compare.specs.declared.compared.Compared.{Compared}
-use Rattle.bound_compare.specs.declared.compared.Compared.TheVariants.{Absent, NoBound, Bounds}
 use Rattle.analysis_report.proofs.InOrder.{AreTold, none_told, next_told}
 
--- The relation of two polynomials promises what it promises.
+-- The relation in which two polynomials stand, with what it promises.
 pub are_related : RelationsPromise → (r : Relation) (p q : Poly) → IsPoly p → IsPoly q → Stands r (sum_of p) (sum_of q) → AreRelated r (sum_of p) (sum_of q)
 are_related law r p q first second stands = record {
   first_positive = above_zero p.den first.positive;
@@ -48,7 +48,7 @@ are_related law r p q first second stands = record {
     promised Above h = law.below q p second first h
     promised Mixed h = tt
 
--- Of functions of the code: the one of the other program at the place of this one's name, and the types of the parameters of both.
+-- Of functions of the code: the other one stands at the place of the first of this one's name.
 pub record AreNamed (funs : List Fun) (x y : Fun) (other : ℕ) : Type 0 where
   pub named : place_of x.name (map function_of funs) ≡ Some other
   pub there : slice_get funs other ≡ Some y

@@ -30,7 +30,8 @@ pub data PowerClaim : Type 0 where
 -- The powers of the bound of a flat function, over 24 times its denominator. At the element counts of any arguments they are worth what it is.
 pub record ArePowersOf (As : List Type') (den : ℕ) (terms : List Term) (over : ℕ) (ps : Powers) : Type 0 where
   pub flat : are_flat As ≡ true
-  pub scaled : over ≡ 24 * den
+  pub positive : 0 < den
+  pub over_is : over ≡ 24 * den
   pub powers : ArePowers terms ps
   pub worth : (values : List Value) → length values ≡ length As → powers_worth (element_counts values) ps ≡ pos (24 * worth terms values)
 

@@ -2,6 +2,8 @@
 use Rattle.std.specs.Prelude.{◌≡◌, ◌<◌, ◌<ℤ◌, ℕ, pos, ◌++◌, unsigned_abs, Option, Some, None, slice_get}
 use Rattle.std.specs.List.{Contains}
 use Rattle.raml_syntax.specs.Tree.{Text, Function, Prog}
+use Rattle.bound_compare.specs.declared.compared.Compared.{Compared}
+use Rattle.bound_compare.specs.declared.compared.Compared.TheVariants.{Absent}
 use Rattle.cost_free.specs.declared.task.Meter.{Meter}
 use Rattle.cost_free.specs.declared.task.Meter.TheVariants.{Ticks, Cells, Work}
 use Rattle.cost_free.specs.Schedule.{meters}
@@ -11,8 +13,6 @@ use Rattle.report_text.specs.Names.{name_at}
 use Rattle.analysis_report.specs.Comparison.{IsCounterpart, ClaimsCompare, IsComparison, comparisons_text}
 use Rattle.analysis_report.specs.Powers.{PowerClaim, InPowers, NotFlat, NoBound, CallsUnbounded, ToldInPowers, power_line, power_lines_of, FitsAt, LeavesAt}
 use Rattle.analysis_report.specs.declared.comparing.Comparisons.{Comparisons}
-use Rattle.bound_compare.specs.declared.compared.Compared.{Compared}
-use Rattle.bound_compare.specs.declared.compared.Compared.TheVariants.{Absent}
 use Rattle.analysis_report.specs.declared.powering.PowerLine.{PowerLine}
 use Rattle.analysis_report.specs.declared.powering.PowerLine.TheVariants as line
 use Rattle.analysis_report.specs.declared.powers_fault.PowersFault.{PowersFault}
