@@ -1,8 +1,9 @@
 -- Faults of other calls, as refusals of this one.
-use Rattle.std.proofs.Common.{◌≡◌, ◌⊎◌, ℕ, List, Option, Some, None, Err, refl, sym, ap, subst, ◌∙◌, inl, inr, arith}
+use Rattle.std.proofs.Common.{◌≡◌, ◌⊎◌, ℕ, List, Option, Some, None, Result, Ok, Err, refl, sym, ap, subst, ◌∙◌, inl, inr, arith}
+use Rattle.std.specs.Prelude.{IfErr}
 use Rattle.raml_syntax.specs.Tree.{Function, Prog}
 use Rattle.raml_syntax.specs.Types.{types_of}
-use Rattle.raml_parse.specs.Spelling.{FirstFault}
+use Rattle.raml_parse.specs.Spelling.{FirstFault, Spells}
 use Rattle.raml_parse.specs.declared.fault.ParseFault.{ParseFault}
 use Rattle.raml_parse.specs.declared.fault.ParseFault.TheVariants as p
 use Rattle.raml_lex.specs.declared.token.LexFault.TheVariants as l
@@ -50,6 +51,7 @@ use Rattle.raml_top.specs.Prices.{PricesRefuse}
 use Rattle.raml_top.specs.Analysis.{CourseRefuses, TextRefuses, CheckRefuses}
 use Rattle.raml_top.specs.Call.{DataRefuses}
 use Rattle.raml_top.specs.Parts.{Refuses, TypesRefuse}
+use Rattle.raml_top.proofs.Stepping.{refuses_map}
 use Rattle.refusal_text.specs.declared.source.SourceFault.{SourceFault}
 use Rattle.refusal_text.specs.declared.source.SourceFault.TheVariants as source
 use Rattle.refusal_text.specs.declared.task.Analysed.{Analysed}
@@ -104,6 +106,23 @@ module _ (whose : Analysed) (P : Prog) where
   type_refuses (t.NeedsType a) h refusal told = type_told (t.NeedsType a) _ refl (h _ refl) refusal told
   type_refuses (t.Arity a want got) h refusal told = type_told (t.Arity a want got) _ refl (h _ refl) refusal told
   type_refuses t.NoMemory h refusal told = inl told
+
+-- a program that a source spells is not typed
+types_cause : (bytes : List ℕ) (P : Prog) → Spells bytes P → (ending : Ending) → TypesRefuse P ending → SourceRefuses bytes ending
+types_cause bytes P spells (e.Source (e.Types fault)) h = (P, spells, h)
+types_cause bytes P spells (e.Source (e.Parse fault)) h = absurd h
+types_cause bytes P spells ending h = absurd h
+
+of_either : (whose : Analysed) (Q R : Ending → Type 0) → ((ending : Ending) → Q ending → R ending) → (ending : Ending) → RefusedOf whose Q ending → RefusedOf whose R ending
+of_either analysed.Program Q R go ending h = go ending h
+of_either analysed.Other Q R go (e.OfOther ending) h = go ending h
+of_either analysed.Other Q R go ending h = absurd h
+
+pub untyped_refused : {T : Type 0} (whose : Analysed) (bytes : List ℕ) (P : Prog) → Spells bytes P → (r : Result T Refusal) →
+    IfErr r (Refuses no_names (RefusedOf whose (TypesRefuse P))) → IfErr r (Refuses no_names (RefusedOf whose (SourceRefuses bytes)))
+untyped_refused whose bytes P spells (Ok t) h = tt
+untyped_refused whose bytes P spells (Err refusal) h =
+    refuses_map no_names (RefusedOf whose (TypesRefuse P)) (RefusedOf whose (SourceRefuses bytes)) (of_either whose (TypesRefuse P) (SourceRefuses bytes) (types_cause bytes P spells)) refusal h
 
 module _ (bytes : List ℕ) (fun : Function) where
   data_told : (fault : DataFault) → ending_of (s.Data fault) ≡ Some (e.BadData fault) → reading.Answers bytes (types_of fun) (Err fault) →
