@@ -1,9 +1,9 @@
-mod CostSame
-mod Kept
+pub mod CostSame
+pub mod Kept
 mod Paid
 mod Cuts
 mod Entries
-mod Tables
+pub mod Tables
 mod Computed
 mod Terms
 mod Answered

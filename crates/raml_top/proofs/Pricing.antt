@@ -21,7 +21,8 @@ use Rattle.analysis_report.specs.Lines.{Claims, AreMeterLines}
 use Rattle.analysis_report.proofs.MeterLines.{meter_lines_are_lines}
 use Rattle.raml_top.specs.Analysis.{IsProved}
 use Rattle.rules_soundness_laws.specs.Laws.{IsTrue}
-use Rattle.price_file.specs.Construct.{Construct, Prices, place}
+use Rattle.price_file.specs.declared.construct.Construct.{Construct}
+use Rattle.price_file.specs.Construct.{Prices, place}
 use Rattle.price_file.specs.Listed.{AreSmall, or_free}
 use Rattle.price_file.specs.Spelling.{Table, Spells, SetEach, listed, prices_in}
 use Rattle.price_file.specs.Applied.{applied_function, applied_program}
