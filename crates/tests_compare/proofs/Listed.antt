@@ -4,7 +4,8 @@ use Rattle.std.specs.List.{AllByRecursion, IsDistinct}
 use Rattle.std.specs.declared.cmp.Ordering.TheVariants.{Less, Greater}
 use Rattle.std.specs.Ordering.{ordering_reverse}
 use Rattle.raml_syntax.specs.Tree.{Type'}
-use Rattle.base_poly.specs.Plain.{Plain, degrees, alike}
+use Rattle.std.proofs.lemmas.Int.{ints}
+use Rattle.base_poly.specs.Plain.{Plain, Unit', End, Then, degrees, alike}
 use Rattle.base_poly.specs.Indices.{AreIndices, IsBefore, Ascends, tuple_order, index_list}
 use Rattle.base_poly.specs.Poly.{AreTerms}
 use Rattle.base_poly.specs.Total.{tuple_total, alike_is}
@@ -52,3 +53,24 @@ module _ (As : List Type') (d : ℕ) (few : d ≤ 4) (tuples : List (List Plain)
     low = each (λ t. degrees t < 2 ^ 32) (λ t is low. omega (arith, few, low));
     distinct = subst (IsDistinct alike) (sym (same ∙ all)) (distinct (index_list As d) (exact As d).ascends);
   }
+
+-- two terms whose tuples stand in another order
+
+abbrev reversed : List (List Plain × ℤ)
+reversed = (Then Unit' End ∷ [], pos 3) ∷ (End ∷ [], pos 2) ∷ []
+
+reversed_differ : IsDistinct alike (map (λ (t : List Plain × ℤ). t.0) reversed)
+unfolding IsDistinct
+reversed_differ = ((refl, tt), (tt, tt))
+
+both : (P : List Plain × ℤ → Type 0) → P (Then Unit' End ∷ [], pos 3) → P (End ∷ [], pos 2) → All P reversed
+both P h g zero d l = h
+both P h g (suc zero) d l = g
+both P h g (suc (suc k)) d l = absurd (omega (arith, l))
+
+pub reversed_terms : (ts : List (List Plain × ℤ)) → ts ≡ reversed → AreTerms ts
+reversed_terms ts e = subst AreTerms (sym e) (record {
+  natural = both (λ t. pos 0 ≤ℤ t.1) (omega (arith, ints)) (omega (arith, ints));
+  low = both (λ t. degrees t.0 < 2 ^ 32) (omega arith) (omega arith);
+  distinct = reversed_differ;
+})

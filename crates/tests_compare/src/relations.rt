@@ -1,5 +1,6 @@
 //! How polynomials stand to each other.
-ghost use Rattle.std.specs.Prelude.{◌≤ℤ◌, pos, [], ◌∷◌, IfOk};
+ghost use Rattle.std.specs.Prelude.{◌≡◌, ◌<ℤ◌, pos, [], ◌∷◌, IfOk};
+ghost use Rattle.base_poly.specs.Plain.{Unit', End, Then};
 ghost use Rattle.base_poly.specs.Poly.{IsPoly};
 
 use crate::polys::poly_of;
@@ -55,22 +56,37 @@ fn relations_are_those_of_the_table(rt: HostRuntime) -> Result<(), Fail> {
     Ok(())
 }
 
-// The list index with an entry, and then the one without.
-fn one_before_none(alloc: Global) -> Result<Poly, AllocError>
+// The tuple that picks an element.
+fn one(alloc: Global) -> Result<Tuple, AllocError>
+    ensures { IfOk result (λ made. made ≡ Then Unit' End ∷ []) }
+{
+    let entry = Tuple::new(Vec::new(alloc))
+        .with_first(alloc, &Index::Unit)?
+        .into_list();
+    Tuple::new(Vec::new(alloc)).with_first(alloc, &entry)
+}
+
+// The tuple that picks none.
+fn none(alloc: Global) -> Result<Tuple, AllocError>
+    ensures { IfOk result (λ made. made ≡ End ∷ []) }
+{
+    let empty = Tuple::new(Vec::new(alloc)).into_list();
+    Tuple::new(Vec::new(alloc)).with_first(alloc, &empty)
+}
+
+// The second of the tuples in their order before the first.
+fn one_before_none(alloc: Global, den: i128) -> Result<Poly, AllocError>
+    requires { pos 0 <ℤ den }
     ensures { IfOk result IsPoly }
 {
-    let one = Tuple::new(vec![in alloc; Index::List(vec![in alloc; Index::Unit]?)]?);
-    let none = Tuple::new(vec![in alloc; Index::List(Vec::new(alloc))]?);
-    Ok(Poly {
-        den: 1,
-        terms: vec![in alloc; (one, 3), (none, 2)]?,
-    })
+    let terms = vec![in alloc; (one(alloc)?, 3), (none(alloc)?, 2)]?;
+    Ok(Poly { den, terms })
 }
 
 #[test]
 fn terms_may_stand_in_any_order(rt: HostRuntime) -> Result<(), Fail> {
     let params = context(rt.alloc(), "int list")?;
-    let first = one_before_none(rt.alloc())?;
+    let first = one_before_none(rt.alloc(), 1)?;
     let same = poly_of(rt.alloc(), &params, 1, 1, &[2, 3])?;
     assert_eq!(rt; compare(&first, &same).word(), "equal");
     assert_eq!(rt; compare(&same, &first).word(), "equal");
