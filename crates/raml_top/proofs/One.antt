@@ -32,9 +32,9 @@ use Rattle.refusals.specs.declared.status.Status.{Status}
 use Rattle.refusals.specs.declared.status.Status.TheVariants.{NoMemory}
 use Rattle.raml_top.specs.Outside.{Outside, Promised, Needed, Store}
 use Rattle.raml_top.specs.Steps.{Answer, Report, Refusal, ending_in, Prints, IsTyped, OfProgram, OfNormal}
-use Rattle.raml_top.specs.Prices.{ArePricedLines}
+use Rattle.raml_top.specs.Prices.{ArePricedLines, Spends}
 use Rattle.raml_top.specs.Analysis.{OfCourse, OfCheck}
-use Rattle.raml_top.specs.Call.{Placed, Limits, OfFloors}
+use Rattle.raml_top.specs.Call.{Placed, Limits, OfCall, OfFloors}
 use Rattle.raml_top.specs.Promise.{PrintsLines, PrintsCertificate, ListsTypes, ListsCode, Analyses, Certifies, Verifies, RunsBounded, BoundedCall, PricesLines, PricesProgram, SpendsWithin, ComparesWith, Compares, PrintsPowers, RunsTrial, TriesCall, Tries, Answers, WordsAnswer, EndsBy, Cause, EndsAlike, IsWritable, Forced}
 use Rattle.raml_top.proofs.Alike.{alike_same, Same, steps_same, prints_same}
 use Rattle.raml_top.proofs.OneSource.{short_same, source_same, program_same}
@@ -96,8 +96,12 @@ module _ (laws : CourseLaws) where
   spent_same : (store : Store) (file name input : Text) (limits : Limits) (P : Prog) (a b : Answer) → SpendsWithin Needed store file name input limits P a →
       SpendsWithin Promised store file name input limits P b → Same a b
   spent_same store file name input limits P =
-      prices_same store file _ _ (λ prices small. call_same store P name input _ _ (λ f args a b h k.
-      runs_same (applied_program prices P) (f.0, applied_function prices f.1) args limits [] [] [] [] a b h.runs k.runs))
+      prices_same store file
+      (λ prices. OfCall Needed store P name input (λ f args. Spends Needed prices P f args limits)) (λ prices. OfCall Promised store P name input (λ f args. Spends Promised prices P f args limits))
+      (λ prices small. call_same store P name input (λ f args. Spends Needed prices P f args limits) (λ f args. Spends Promised prices P f args limits) (run_same prices))
+    where
+      run_same : (prices : Prices) (f : Placed) (args : List Value) (a b : Answer) → Spends Needed prices P f args limits a → Spends Promised prices P f args limits b → Same a b
+      run_same prices f args a b h k = runs_same (applied_program prices P) (f.0, applied_function prices f.1) args limits [] [] [] [] a b h.runs k.runs
 
   compared_same : (store : Store) (file : Text) (degree : ℕ) (P : Prog) → IsKnown P → (a b : Answer) → Compares Needed store file degree P a → Compares Promised store file degree P b → Same a b
   compared_same store file degree P is =
