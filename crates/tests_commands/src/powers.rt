@@ -60,11 +60,11 @@ fn callers_of_the_unbounded_are_told(rt: HostRuntime) -> Result<(), Fail> {
 }
 
 // Functions of which each calls the one before twice, so that ticks and work double with each.
-fn doubling(alloc: Global, count: u32) -> Result<String, Fail> {
+fn doubling(alloc: Global, last: u8) -> Result<String, Fail> {
     let mut text = String::from_str(alloc, "fun f0 (x : int) : int = tick 1 in x")?;
-    for k in 1..count + 1 {
-        let j = k - 1;
-        write!(text, "\nfun f{k} (x : int) : int = f{j}(f{j}(x))")?;
+    for k in 0..last {
+        let next = u32::from(k) + 1;
+        write!(text, "\nfun f{next} (x : int) : int = f{k}(f{k}(x))")?;
     }
     Ok(text)
 }
