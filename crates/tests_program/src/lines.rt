@@ -3,8 +3,7 @@ use cost_free::{Meter, Task, TaskKind};
 use raml_parse::parse;
 use raml_syntax::{FunId, Program};
 use refusal_text::{
-    Analysed, check_line, declared_leaves_line, declared_too_large_line, least_line, refute_line,
-    rescale_line, row_line, scale_line, solve_line,
+    Analysed, check_line, least_line, refute_line, rescale_line, row_line, scale_line, solve_line,
 };
 use std::alloc::Global;
 use std::test::Fail;
@@ -63,13 +62,8 @@ fn columns_are_told(rt: HostRuntime) -> Result<(), Fail> {
 }
 
 #[test]
-fn conditions_and_declared_bounds_are_told(rt: HostRuntime) -> Result<(), Fail> {
-    let alloc = rt.alloc();
-    let line = check_line(alloc, Analysed::Program, 2, &[1, 0], 4)?;
+fn conditions_are_told(rt: HostRuntime) -> Result<(), Fail> {
+    let line = check_line(rt.alloc(), Analysed::Program, 2, &[1, 0], 4)?;
     assert_eq!(rt; line.as_str(), "raml: overflow: check block 2 at 1.0 index 4\n");
-    let line = declared_too_large_line(alloc, 12)?;
-    assert_eq!(rt; line.as_str(), "raml: too large: bounds line 12: rows\n");
-    let line = declared_leaves_line(alloc, 12)?;
-    assert_eq!(rt; line.as_str(), "raml: overflow: bounds line 12\n");
     Ok(())
 }
