@@ -71,6 +71,11 @@ FileRefuses store which file (TooLong other) =
     (other ≡ which) × ((bytes : List ℕ) × IsRead Promised store (most_bytes which) file (Some bytes) × s.IsTooLong which bytes)
 FileRefuses store which file _ = ⊥
 
+-- why what a file spells is not read: the file is not, or its bytes are refused
+abbrev pub ReadRefuses : Store → Which → List ℕ → (List ℕ → Ending → Type 0) → Ending → Type 0
+ReadRefuses store which file BytesRefuse e =
+    FileRefuses store which file e ⊎ ((bytes : List ℕ) × IsShort store which file bytes × BytesRefuse bytes e)
+
 -- the typed program that a file spells
 pub record IsProgram (store : Store) (whose : Analysed) (file : List ℕ) (P : Prog) : Type 0 where
   pub source : List ℕ
@@ -78,8 +83,7 @@ pub record IsProgram (store : Store) (whose : Analysed) (file : List ℕ) (P : P
   pub typed : IsTyped source P
 
 abbrev pub ProgramRefuses : Store → Analysed → List ℕ → Ending → Type 0
-ProgramRefuses store whose file e =
-    FileRefuses store (file_of whose) file e ⊎ ((source : List ℕ) × IsShort store (file_of whose) file source × RefusedOf whose (SourceRefuses source) e)
+ProgramRefuses store whose file e = ReadRefuses store (file_of whose) file (λ source. RefusedOf whose (SourceRefuses source)) e
 
 -- the prices that a file tells
 pub record ArePrices (store : Store) (file : List ℕ) (prices : Prices) : Type 0 where
@@ -90,8 +94,7 @@ pub record ArePrices (store : Store) (file : List ℕ) (prices : Prices) : Type 
   pub are : prices ≡ prices_in table
 
 abbrev pub PriceFileRefuses : Store → List ℕ → Ending → Type 0
-PriceFileRefuses store file e =
-    FileRefuses store w.Prices file e ⊎ ((bytes : List ℕ) × IsShort store w.Prices file bytes × PricesRefuse bytes e)
+PriceFileRefuses store file e = ReadRefuses store w.Prices file PricesRefuse e
 
 -- the certificate that a file is
 pub record IsCertificateFile (store : Store) (file : List ℕ) (c : Certificate) : Type 0 where
@@ -100,8 +103,7 @@ pub record IsCertificateFile (store : Store) (file : List ℕ) (c : Certificate)
   pub is : IsFile bytes c
 
 abbrev pub CertificateRefuses : Store → List ℕ → Ending → Type 0
-CertificateRefuses store file e =
-    FileRefuses store w.Certificate file e ⊎ ((bytes : List ℕ) × IsShort store w.Certificate file bytes × TextRefuses bytes e)
+CertificateRefuses store file e = ReadRefuses store w.Certificate file TextRefuses e
 
 -- why a call is not read
 abbrev pub CallRefuses : Store → Prog → List ℕ → List ℕ → Ending → Type 0
