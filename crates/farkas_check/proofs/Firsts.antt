@@ -1,10 +1,10 @@
 -- The first fault of a list of checks.
-use Rattle.std.proofs.Common.{◌≡◌, refl, sym, subst, ℕ, List, [], ◌∷◌, ◌++◌, true, false, Option, Some, None, is_some, inl, inr, ◌↔◌, unwrap_or}
+use Rattle.std.proofs.Common.{◌≡◌, refl, sym, ap, ◌∙◌, subst, ℕ, List, [], ◌∷◌, ◌++◌, true, false, Option, Some, None, is_some, inl, inr, ◌↔◌, unwrap_or}
 use mathlib.Core.Bool.{false≢true}
 use Rattle.raml_num.specs.Sums.{total}
 use Rattle.farkas_check.specs.declared.Verdict.{Verdict}
 use Rattle.farkas_check.specs.declared.Verdict.TheVariants.{Yes, No, Leaves}
-use Rattle.farkas_check.specs.Checks.{Check, Meets, Passes, EachPasses, EachFits, IsFirstFault, IsVerdict}
+use Rattle.farkas_check.specs.Checks.{Check, Meets, Passes, EachPasses, EachFits, IsFault, IsFirstFault, IsVerdict}
 use Rattle.farkas_check.specs.Faults.{FaultOf, FirstFaultOf}
 
 -- what is found in the rest is found in all
@@ -91,3 +91,41 @@ yes_where ks v P met h = (λ e. let q = passing_both ks (subst (IsVerdict ks) e 
 -- and never No where P holds
 pub no_where : (ks : List Check) (v : Verdict) (P : Type 0) → (EachMeets ks ↔ P) → IsVerdict ks v → (c : ℕ) → v ≡ No c → P → ⊥
 no_where ks v P met h c e p = never_no ks c (met.1 p) (subst (IsVerdict ks) e h)
+
+fails_not : (k : Check) (v : Verdict) → Passes k → IsFault k v → ⊥
+fails_not k Yes p f = f
+fails_not k (No c) p f = f.2 p.meets
+fails_not k (Leaves c) p f = f.1 p.fit
+
+none_fails : (ks : List Check) (v : Verdict) → EachPasses ks → IsFirstFault ks v → ⊥
+none_fails [] v p h = h
+none_fails (k ∷ ks) v p (inl f) = fails_not k v p.0 f
+none_fails (k ∷ ks) v p (inr q) = none_fails ks v p.1 q.1
+
+-- a check fails in one way, a list at one place, and so there is one verdict
+one_fault : (k : Check) (v w : Verdict) → IsFault k v → IsFault k w → v ≡ w
+one_fault k Yes w f g = absurd f
+one_fault k (No c) Yes f g = absurd g
+one_fault k (No c) (No d) f g = ap (λ (n : ℕ). No n) (f.0 ∙ sym g.0)
+one_fault k (No c) (Leaves d) f g = absurd (g.1 f.1)
+one_fault k (Leaves c) Yes f g = absurd g
+one_fault k (Leaves c) (No d) f g = absurd (f.1 g.1)
+one_fault k (Leaves c) (Leaves d) f g = ap (λ (n : ℕ). Leaves n) (f.0 ∙ sym g.0)
+
+one_first : (ks : List Check) (v w : Verdict) → IsFirstFault ks v → IsFirstFault ks w → v ≡ w
+one_first [] v w f g = absurd f
+one_first (k ∷ ks) v w (inl f) (inl g) = one_fault k v w f g
+one_first (k ∷ ks) v w (inl f) (inr q) = absurd (fails_not k v q.0 f)
+one_first (k ∷ ks) v w (inr p) (inl g) = absurd (fails_not k w p.0 g)
+one_first (k ∷ ks) v w (inr p) (inr q) = one_first ks v w p.1 q.1
+
+pub one_verdict : (ks : List Check) (v w : Verdict) → IsVerdict ks v → IsVerdict ks w → v ≡ w
+one_verdict ks Yes Yes f g = refl
+one_verdict ks Yes (No d) f g = absurd (none_fails ks (No d) f g)
+one_verdict ks Yes (Leaves d) f g = absurd (none_fails ks (Leaves d) f g)
+one_verdict ks (No c) Yes f g = absurd (none_fails ks (No c) g f)
+one_verdict ks (No c) (No d) f g = one_first ks (No c) (No d) f g
+one_verdict ks (No c) (Leaves d) f g = one_first ks (No c) (Leaves d) f g
+one_verdict ks (Leaves c) Yes f g = absurd (none_fails ks (Leaves c) g f)
+one_verdict ks (Leaves c) (No d) f g = one_first ks (Leaves c) (No d) f g
+one_verdict ks (Leaves c) (Leaves d) f g = one_first ks (Leaves c) (Leaves d) f g

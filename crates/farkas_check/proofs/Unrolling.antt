@@ -4,8 +4,9 @@ use Rattle.std.proofs.lemmas.Int.{ints}
 use Rattle.std.specs.Int.{w128}
 use Rattle.raml_num.specs.Sums.{NoneNegative}
 use Rattle.raml_num.proofs.Differences.{diffs, diff-pos, is_diff, diff_same}
-use Rattle.linear_rows.specs.Terms.{SparseRow, Terms}
+use Rattle.linear_rows.specs.Terms.{SparseRow, Terms, coefficient}
 use Rattle.farkas_check.specs.Totals.{products}
+use Rattle.farkas_check.specs.Checks.{column}
 use Rattle.farkas_check.specs.Sides.{sparse_products}
 
 pub cut : {X : Type 0} (xs : List X) (i : ℕ) (d : X) → i < length xs → drop i xs ≡ get_or xs i d ∷ drop (i + 1) xs
@@ -15,6 +16,11 @@ pub right_next : (y : List ℤ) (rows : List SparseRow) (i : ℕ) (r : SparseRow
     → products (drop i y) (map (λ row. row.right) (drop i rows)) ≡ (get_or y i (pos 0) *ℤ r.right) ∷ products (drop (i + 1) y) (map (λ row. row.right) (drop (i + 1) rows))
 right_next y rows i r h l e =
     rw (cut y i (pos 0) (omega arith), cut rows i r h) (ap (λ (v : SparseRow). (get_or y i (pos 0) *ℤ v.right) ∷ products (drop (i + 1) y) (map (λ row. row.right) (drop (i + 1) rows))) (sym e))
+
+pub column_next : (u : ℕ) (y : List ℤ) (rows : List SparseRow) (i : ℕ) (r : SparseRow) → i < length rows → length y ≡ length rows → r ≡ get_or rows i r
+    → products (drop i y) (column u (drop i rows)) ≡ (get_or y i (pos 0) *ℤ coefficient u r.terms) ∷ products (drop (i + 1) y) (column u (drop (i + 1) rows))
+column_next u y rows i r h l e =
+    rw (cut y i (pos 0) (omega arith), cut rows i r h) (ap (λ (v : SparseRow). (get_or y i (pos 0) *ℤ coefficient u v.terms) ∷ products (drop (i + 1) y) (column u (drop (i + 1) rows))) (sym e))
 
 negated : (a b : ℤ) → neg_ℤ (a *ℤ b) ≡ a *ℤ (pos 0 -ℤ b)
 negated a b = rw (is_diff a, is_diff b) (simp (diffs, diff-pos) (diff_same _ _ _ _ (omega arith)))

@@ -1,6 +1,6 @@
-//! The totals of all columns, in one walk over the rows.
+//! The totals of columns: of one, and of all in one walk over the rows.
 
-ghost use Rattle.std.specs.Prelude.{◌≡◌, ◌<ℤ◌, ◌∷◌, ◌++◌, [], ℕ, ℤ, List, pos, neg_ℤ, ◌*ℤ◌, length, slice_index_or, IfOk};
+ghost use Rattle.std.specs.Prelude.{◌≡◌, ◌<◌, ◌<ℤ◌, ◌∷◌, ◌++◌, [], ℕ, ℤ, List, pos, neg_ℤ, ◌*ℤ◌, length, slice_index_or, IfOk};
 ghost use Rattle.linear_rows.specs.Systems.{IsSystem, IsBelow, AllBelow};
 ghost use Rattle.farkas_check.specs.Checks.{column};
 ghost use Rattle.farkas_check.specs.Totals.{products};
@@ -73,6 +73,26 @@ fn weight_total(weight: i128, scale: i128) -> Option<Totals>
     ensures { IsTotals (neg_ℤ (scale *ℤ weight) ∷ []) result }
 {
     Totals::zero().with(-scale, weight)
+}
+
+/// The total of `y` and one column.
+pub(crate) fn column_total(system: &System, y: &[i128], unknown: u32) -> Option<Totals>
+    requires { length y.now ≡ length system.now.rows }
+    ensures { IsTotals (products y.now (column unknown system.now.rows)) result }
+{
+    Totals::zero().with_column(y, system.rows(), unknown)
+}
+
+/// The total of `y` and one column, less `scale` times its weight.
+pub(crate) fn dual_total(system: &System, y: &[i128], scale: i128, unknown: u32) -> Option<Totals>
+    requires one_each { length y.now ≡ length system.now.rows }
+    requires positive { pos 0 <ℤ scale }
+    requires inside { unknown < system.now.unknowns }
+    ensures { IsTotals (neg_ℤ (scale *ℤ slice_index_or system.now.weights unknown (pos 0)) ∷ products y.now (column unknown system.now.rows)) result }
+{
+    let weights = system.weights();
+    let weight = weight_total(weights[unknown as usize], scale)?;
+    weight.with_column(y, system.rows(), unknown)
 }
 
 /// The totals of the weights, `scale` times less.

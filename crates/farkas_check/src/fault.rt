@@ -9,7 +9,7 @@ ghost use Rattle.farkas_check.specs.Sides.{IsTotals};
 ghost use Rattle.farkas_check.specs.Faults.{demand_of, FaultOf, FirstFaultOf};
 
 use crate::Verdict;
-use crate::columns::{column_totals, dual_totals};
+use crate::columns::{column_total, column_totals, dual_total, dual_totals};
 use crate::totals::Totals;
 use linear_rows::{Row, System};
 use std::alloc::{AllocError, Global};
@@ -57,7 +57,22 @@ fn of_check(totals: Option<Totals>, asked: Asked, column: u32) -> Option<Verdict
 }
 
 /// Of `y A`, which is to be at most 0.
-fn of_columns(alloc: Global, system: &System, y: &[i128]) -> Result<Option<Verdict>, AllocError>
+fn of_columns(system: &System, y: &[i128]) -> Option<Verdict>
+    requires { length y.now ≡ length system.now.rows }
+    ensures { FirstFaultOf (refuting_columns 0 system.now.unknowns system.now.rows y.now) result }
+{
+    for unknown in 0..system.unknowns() {
+        let total = column_total(system, y, unknown);
+        let fault = of_check(total, Asked::AtMostZero, unknown);
+        if fault.is_some() {
+            return fault;
+        }
+    }
+    None
+}
+
+/// Of `y A`, by the totals of all columns.
+fn of_all_columns(alloc: Global, system: &System, y: &[i128]) -> Result<Option<Verdict>, AllocError>
     requires { length y.now ≡ length system.now.rows }
     ensures { IfOk result (λ fault. FirstFaultOf (refuting_columns 0 system.now.unknowns system.now.rows y.now) fault) }
 {
@@ -71,6 +86,17 @@ fn of_columns(alloc: Global, system: &System, y: &[i128]) -> Result<Option<Verdi
     Ok(None)
 }
 
+/// Of `y A`, by the totals of all columns where there is memory for them.
+fn of_columns_quickly(alloc: Global, system: &System, y: &[i128]) -> Option<Verdict>
+    requires { length y.now ≡ length system.now.rows }
+    ensures { FirstFaultOf (refuting_columns 0 system.now.unknowns system.now.rows y.now) result }
+{
+    match of_all_columns(alloc, system, y) {
+        Ok(fault) => fault,
+        Err(_) => of_columns(system, y),
+    }
+}
+
 /// Of `y b`, which is to be positive.
 fn of_right_sides(system: &System, y: &[i128]) -> Option<Verdict>
     requires { length y.now ≡ length system.now.rows }
@@ -81,7 +107,24 @@ fn of_right_sides(system: &System, y: &[i128]) -> Option<Verdict>
 }
 
 /// Of `y A`, which is to be at most `scale` times the weights.
-fn of_dual_columns(
+fn of_dual_columns(system: &System, y: &[i128], scale: i128) -> Option<Verdict>
+    requires one_each { length y.now ≡ length system.now.rows }
+    requires positive { pos 0 <ℤ scale }
+    requires sound { IsSystem system.now }
+    ensures { FirstFaultOf (dual_columns 0 system.now.weights system.now.rows y.now scale) result }
+{
+    for unknown in 0..system.unknowns() {
+        let total = dual_total(system, y, scale, unknown);
+        let fault = of_check(total, Asked::AtMostZero, unknown);
+        if fault.is_some() {
+            return fault;
+        }
+    }
+    None
+}
+
+/// Of `y A` less `scale` times the weights, by the totals of all columns.
+fn of_all_dual_columns(
     alloc: Global,
     system: &System,
     y: &[i128],
@@ -99,6 +142,24 @@ fn of_dual_columns(
         }
     }
     Ok(None)
+}
+
+/// Of `y A` less `scale` times the weights, by the totals of all columns where there is memory for them.
+fn of_dual_columns_quickly(
+    alloc: Global,
+    system: &System,
+    y: &[i128],
+    scale: i128,
+) -> Option<Verdict>
+    requires one_each { length y.now ≡ length system.now.rows }
+    requires positive { pos 0 <ℤ scale }
+    requires sound { IsSystem system.now }
+    ensures { FirstFaultOf (dual_columns 0 system.now.weights system.now.rows y.now scale) result }
+{
+    match of_all_dual_columns(alloc, system, y, scale) {
+        Ok(fault) => fault,
+        Err(_) => of_dual_columns(system, y, scale),
+    }
 }
 
 /// The totals of a row at `x`, less `scale` times the right side.
@@ -152,43 +213,71 @@ fn of_sums(system: &System, x: &[i128], y: &[i128]) -> Option<Verdict>
 }
 
 /// Of `y`, which is to refute the system.
-pub(crate) fn of_refuting(
-    alloc: Global,
-    system: &System,
-    y: &[i128],
-) -> Result<Option<Verdict>, AllocError>
+pub(crate) fn of_refuting(system: &System, y: &[i128]) -> Option<Verdict>
     requires { length y.now ≡ length system.now.rows }
-    ensures { IfOk result (λ fault. FirstFaultOf (refuting system.now y.now) fault) }
+    ensures { FirstFaultOf (refuting system.now y.now) result }
 {
-    let fault = of_columns(alloc, system, y)?;
+    let fault = of_columns(system, y);
     if fault.is_some() {
-        return Ok(fault);
+        return fault;
     }
-    Ok(of_right_sides(system, y))
+    of_right_sides(system, y)
+}
+
+/// As `of_refuting`, and quick where there is memory for a total of each column.
+pub(crate) fn of_refuting_quickly(alloc: Global, system: &System, y: &[i128]) -> Option<Verdict>
+    requires { length y.now ≡ length system.now.rows }
+    ensures { FirstFaultOf (refuting system.now y.now) result }
+{
+    let fault = of_columns_quickly(alloc, system, y);
+    if fault.is_some() {
+        return fault;
+    }
+    of_right_sides(system, y)
 }
 
 /// Of `x` and `y`, which are to prove the weighted sum of `x` least.
-pub(crate) fn of_least(
+pub(crate) fn of_least(system: &System, x: &[i128], y: &[i128], scale: i128) -> Option<Verdict>
+    requires each_unknown { length x.now ≡ system.now.unknowns }
+    requires each_row { length y.now ≡ length system.now.rows }
+    requires natural { NoneNegative x.now }
+    requires positive { pos 0 <ℤ scale }
+    ensures first { FirstFaultOf (proving_least system.now x.now y.now scale) result }
+    ensures sound { IsSystem system.now }
+{
+    let rows = of_rows(system, x, scale);
+    if rows.is_some() {
+        return rows;
+    }
+    let columns = of_dual_columns(system, y, scale);
+    if columns.is_some() {
+        return columns;
+    }
+    of_sums(system, x, y)
+}
+
+/// As `of_least`, and quick where there is memory for a total of each column.
+pub(crate) fn of_least_quickly(
     alloc: Global,
     system: &System,
     x: &[i128],
     y: &[i128],
     scale: i128,
-) -> Result<Option<Verdict>, AllocError>
+) -> Option<Verdict>
     requires each_unknown { length x.now ≡ system.now.unknowns }
     requires each_row { length y.now ≡ length system.now.rows }
     requires natural { NoneNegative x.now }
     requires positive { pos 0 <ℤ scale }
-    ensures first { IfOk result (λ fault. FirstFaultOf (proving_least system.now x.now y.now scale) fault) }
+    ensures first { FirstFaultOf (proving_least system.now x.now y.now scale) result }
     ensures sound { IsSystem system.now }
 {
     let rows = of_rows(system, x, scale);
     if rows.is_some() {
-        return Ok(rows);
+        return rows;
     }
-    let columns = of_dual_columns(alloc, system, y, scale)?;
+    let columns = of_dual_columns_quickly(alloc, system, y, scale);
     if columns.is_some() {
-        return Ok(columns);
+        return columns;
     }
-    Ok(of_sums(system, x, y))
+    of_sums(system, x, y)
 }

@@ -39,6 +39,7 @@ pub(crate) struct Totals {
 impl Totals {
     ghost use Rattle.std.specs.Prelude.{◌≡◌, ◌≤◌, ◌+ℤ◌, ◌*ℤ◌, pos, map, length, ◌∷◌, [], neg_ℤ};
     ghost use Rattle.raml_num.specs.Sums.{NoneNegative};
+    ghost use Rattle.farkas_check.specs.Checks.{column};
     ghost use Rattle.farkas_check.specs.Totals.{products};
     ghost use Rattle.farkas_check.specs.Sides.{MovedBy, IsTotals, sparse_products, AllInside};
 
@@ -89,6 +90,18 @@ impl Totals {
         let mut totals = self;
         for i in 0..rows.len() {
             totals = totals.with(y[i], rows[i].right())?;
+        }
+        Some(totals)
+    }
+
+    /// With the products of `y` and an unknown's numbers in the rows.
+    pub(crate) fn with_column(self, y: &[i128], rows: &[Row], unknown: u32) -> Option<Totals>
+        requires { length y.now ≡ length rows.now }
+        ensures { MovedBy self (products y.now (column unknown rows.now)) result }
+    {
+        let mut totals = self;
+        for i in 0..rows.len() {
+            totals = totals.with(y[i], rows[i].coefficient(unknown))?;
         }
         Some(totals)
     }

@@ -1,15 +1,17 @@
--- Two answers for one system agree.
-use Rattle.std.proofs.Common.{ℕ, List, ◌*ℤ◌, ◌≤ℤ◌, arith}
+-- Two answers for one system agree, and there is none exactly where its course rises.
+use Rattle.std.proofs.Common.{ℕ, List, ◌*ℤ◌, ◌≤ℤ◌, arith, ◌↔◌}
 use Rattle.std.proofs.lemmas.Int.{ints}
-use Rattle.linear_rows.specs.Systems.{LinearSystem}
+use Rattle.linear_rows.specs.Systems.{LinearSystem, IsSystem}
 use Rattle.linear_rows.specs.Vectors.{dot}
 use Rattle.linear_rows.proofs.Duality.{no_solution}
 use Rattle.simplex_spec.specs.Tableaux.{solution, ray}
-use Rattle.simplex_spec.specs.Courses.{Rule}
+use Rattle.simplex_spec.specs.Courses.{Rule, AnswersOnce, RisesBy}
+use Rattle.simplex_spec.proofs.Agreeing as ends
+use Rattle.simplex_spec.proofs.Paths.{rise_refused}
 use Rattle.frac128.specs.declared.Frac.{Frac}
 use Rattle.simplex.specs.declared.answer.Answer.{Answer}
 use Rattle.simplex.specs.declared.answer.Answer.TheVariants.{Best, NoSolution, Leaves}
-use Rattle.simplex.specs.Solving.{IsAnswer, IsBest, IsRefuted, EqualSums, Agree}
+use Rattle.simplex.specs.Solving.{IsAnswer, IsBest, IsRefuted, SaysNone, EqualSums, Agree}
 
 equal_sums : (r q : Rule) (s : LinearSystem) (ps qs : List (ℕ × ℕ)) (x y z w : List Frac) → IsBest r s ps x y → IsBest q s qs z w → EqualSums s x z
 equal_sums r q s ps qs x y z w a b = record {
@@ -34,3 +36,10 @@ answers_agree r q s (Best x y ps) (Leaves qs i c) f g = tt
 answers_agree r q s (NoSolution y ps) (Best z w qs) f g = not_both q r s qs.items ps.items z.items w.items y.items g f
 answers_agree r q s (NoSolution y ps) (NoSolution z qs) f g = tt
 answers_agree r q s (NoSolution y ps) (Leaves qs i c) f g = tt
+
+pub none_where_risen : (rule : Rule) (s : LinearSystem) (a : Answer) → IsSystem s → IsAnswer rule s a → AnswersOnce rule → (SaysNone a ↔ RisesBy rule s)
+none_where_risen rule s (Best x y ps) h best once = (λ none. absurd none, λ r. ends.not_both s ps.items r.pivots best.t r.t r.column h best.ends r.rises)
+none_where_risen rule s (NoSolution y ps) h risen once =
+    (λ none. record { pivots = ps.items; t = risen.t; column = risen.column; rises = risen.rises; follows = risen.follows; answers = risen.answers }, λ r. tt)
+none_where_risen rule s (Leaves ps i c) h refuses once =
+    (λ none. absurd none, λ r. rise_refused rule once s r.pivots ps.items r.t r.column i c h r.rises r.follows r.answers refuses)

@@ -64,6 +64,12 @@ IsAnswer rule s (Best x dual pivots) = IsBest rule s pivots.items x.items dual.i
 IsAnswer rule s (NoSolution farkas pivots) = IsRefuted rule s pivots.items farkas.items
 IsAnswer rule s (Leaves pivots row column) = Refuses rule s pivots.items row column
 
+-- the answer is that there is no solution
+abbrev pub SaysNone : Answer → Type 0
+SaysNone (Best x dual pivots) = ⊥
+SaysNone (NoSolution farkas pivots) = Unit {0}
+SaysNone (Leaves pivots row column) = ⊥
+
 -- marks of the rows in n columns
 pub record IsReady (n : ℕ) (rows : List Entries) (scratch : Scratch) : Type 0 where
   pub cover : Cover n rows scratch.marks.items

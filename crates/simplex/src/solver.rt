@@ -1,10 +1,11 @@
 //! The loop of the solver.
 
-ghost use Rattle.std.specs.Prelude.{◌≡◌, ◌<◌, ◌^◌, ℕ, length, IfOk};
+ghost use Rattle.std.specs.Prelude.{◌≡◌, ◌<◌, ◌^◌, ◌↔◌, ℕ, length, IfOk};
 ghost use Rattle.std.specs.Fn.{FnReturnsAt};
 ghost use Rattle.simplex_spec.specs.Tableaux.{right};
+ghost use Rattle.simplex_spec.specs.Courses.{AnswersOnce, RisesBy};
 ghost use Rattle.simplex.specs.Choosing.{IsChooser};
-ghost use Rattle.simplex.specs.Solving.{rule_of, Reached, IsReady, IsStep, IsAnswer, Agree};
+ghost use Rattle.simplex.specs.Solving.{rule_of, Reached, IsReady, IsStep, IsAnswer, SaysNone, Agree};
 
 use crate::answer::Answer;
 use crate::chooser::Chooser;
@@ -148,7 +149,8 @@ pub(crate) fn new_scratch(
     })
 }
 
-/// Solves a system, with the entering columns of the chooser.
+/// Solves a system, with the entering columns of the chooser. Where its rule has one answer for the same
+/// gains, there is no solution exactly where no row bounds a column that enters so.
 pub fn solve<F: Fn(&[Frac]) -> Option<usize>>(
     alloc: Global,
     system: &System,
@@ -157,8 +159,10 @@ pub fn solve<F: Fn(&[Frac]) -> Option<usize>>(
     requires callable { F.IsAlwaysCallable chooser.now }
     requires chooses { IsChooser F.Fn chooser.now }
     requires fits { right system.now < 2 ^ 32 }
-    ensures { IfOk result (IsAnswer (rule_of F.Fn chooser.now) system.now) }
+    ensures answer { IfOk result (IsAnswer (rule_of F.Fn chooser.now) system.now) }
+    ensures none { IfOk result (λ answer. AnswersOnce (rule_of F.Fn chooser.now) → (SaysNone answer ↔ RisesBy (rule_of F.Fn chooser.now) system.now)) }
 {
+    let columns = system.rows().len() + system.unknowns() as usize;
     let mut table = match opening(alloc, system) {
         Ok(table) => table,
         Err(Fault::NoMemory) => return Err(AllocError),
@@ -170,7 +174,6 @@ pub fn solve<F: Fn(&[Frac]) -> Option<usize>>(
             });
         }
     };
-    let columns = system.rows().len() + system.unknowns() as usize;
     let mut scratch = new_scratch(alloc, &table.rows, columns)?;
     loop {
         match make_step(alloc, system, chooser, &mut table, &mut scratch)? {

@@ -10,4 +10,5 @@ mod Counting
 pub mod Ending
 pub mod Reading
 pub mod Agreeing
-mod Paths
+pub mod Paths
+mod Searching

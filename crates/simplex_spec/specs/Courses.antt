@@ -45,6 +45,10 @@ Rule = List ℤ → ℤ → Option ℕ → Type 0
 abbrev pub rule_by : (List ℤ → ℤ → Option ℕ) → Rule
 rule_by pick ns d o = pick ns d ≡ o
 
+-- for gains over a positive number, the rule has one answer
+abbrev pub AnswersOnce : Rule → Type 0
+AnswersOnce rule = (ns : List ℤ) (d : ℤ) (o p : Option ℕ) → pos 0 <ℤ d → rule ns d o → rule ns d p → o ≡ p
+
 -- for the gains of the columns before the right side, the rule answers column c
 abbrev pub Answers : Rule → LinearSystem → Tableau → ℕ → Type 0
 Answers rule s t c = rule (take (right s) t.gains) t.over (Some c)
@@ -56,6 +60,15 @@ FollowsFrom rule s t (p ∷ ps) = Answers rule s t p.1 × FollowsFrom rule s (pi
 
 abbrev pub Follows : Rule → LinearSystem → List (ℕ × ℕ) → Type 0
 Follows rule s pivots = FollowsFrom rule s (opening s) pivots
+
+-- after some pivots by the rule, its column has gain and no row bounds it
+pub record RisesBy (rule : Rule) (s : LinearSystem) : Type 0 where
+  pub pivots : List (ℕ × ℕ)
+  pub t : Tableau
+  pub column : ℕ
+  pub rises : Rises s pivots t column
+  pub follows : Follows rule s pivots
+  pub answers : Answers rule s t column
 
 -- after these pivots, all by the rule, the number at (i, c) leaves the range of fractions: at the opening,
 -- or with the rule's entering column e

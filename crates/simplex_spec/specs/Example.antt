@@ -1,7 +1,8 @@
 -- Small systems, with their pivots.
 use Rattle.std.specs.Prelude.{◌≡◌, refl, [], ◌∷◌, pos, neg_ℤ}
 use Rattle.linear_rows.specs.Systems.{LinearSystem}
-use Rattle.simplex_spec.specs.Tableaux.{Tableau, opening, pivot, solution, dual, ray, right, slacks}
+use Rattle.simplex_spec.specs.Tableaux.{Tableau, opening, pivot, solution, dual, ray, right, slacks, compared}
+use Rattle.simplex_spec.specs.Refusals.{IsCompared}
 
 -- one unknown of weight 1, which is at least 3
 abbrev pub at_least_three : LinearSystem
@@ -22,6 +23,19 @@ two_rows = record {
 -- its tableau after a pivot in each row
 abbrev pub two_pivots : Tableau
 two_pivots = pivot 1 1 (pivot 0 0 (opening two_rows))
+
+-- two unknowns of weight 1, whose sum is at least 1
+abbrev pub one_sum : LinearSystem
+one_sum = record { unknowns = 2; rows = record { terms = (0, pos 1) ∷ (1, pos 1) ∷ []; right = pos 1 } ∷ []; weights = pos 1 ∷ pos 1 ∷ [] }
+
+-- Of the two rows that bound column 0 the right sides find the least, row 0, so that no quotient is looked at
+-- in the slacks. Of one_sum they leave both rows, and the first slack finds row 1: no second one is looked at
+pub record Searches : Type 0 where
+  pub right_side : IsCompared (compared two_rows) (opening two_rows) 0 0 4
+  pub decided : IsCompared (compared two_rows) (opening two_rows) 0 0 2 → ⊥
+  pub lost : IsCompared (compared two_rows) (opening two_rows) 0 1 2 → ⊥
+  pub tied : IsCompared (compared one_sum) (opening one_sum) 0 0 1
+  pub found : IsCompared (compared one_sum) (opening one_sum) 0 1 2 → ⊥
 
 pub record Examples : Type 0 where
   pub opened : opening at_least_three ≡ record { rows = (pos 1 ∷ pos 1 ∷ pos 1 ∷ []) ∷ []; gains = pos 3 ∷ pos 0 ∷ pos 0 ∷ []; over = pos 1; basis = 1 ∷ [] }

@@ -5,7 +5,7 @@
 #![tactic(auto)]
 
 ghost use Rattle.simplex_spec.specs.Laws.{EndsAreLeast, RisesRefute, CoursesEnd, OneRowExits, EndsAgree, EndsOrRises, OneCourse};
-ghost use Rattle.simplex_spec.specs.Example.{Examples};
+ghost use Rattle.simplex_spec.specs.Example.{Examples, Searches};
 
 /// Where no gain is left, the tableau has a solution and a dual solution of the same sum.
 pub fn ends_are_least()
@@ -44,5 +44,6 @@ pub fn one_course()
 
 /// Small systems come out as they should.
 pub fn examples()
-    ensures { Examples }
+    ensures tableaux { Examples }
+    ensures searches { Searches }
 {}
