@@ -10,14 +10,14 @@ ghost use Rattle.rules_spec.specs.Systems.{IsTask};
 ghost use Rattle.rules_walk.specs.Remembers.{Remembers};
 ghost use Rattle.rules_plan.specs.Read.{program_in};
 ghost use Rattle.infer_spec.specs.Generator.{limit_of};
-ghost use Rattle.infer_spec.specs.Verifying.{NoneLeaves};
+ghost use Rattle.infer_spec.specs.Verifying.{NoneLeaves, vector_of};
 ghost use Rattle.infer_systems_laws.specs.Analysed.{generator_of};
 ghost use Rattle.infer_systems_laws.specs.Laws.{LimitsAreTold};
 ghost use Rattle.bound_infer.specs.Cleared.{fault_of, gen_fault, Tells};
 
 use constraint_gen::{GenFault, What, rows};
 use cost_free::Task;
-use farkas_check::{Verdict, refutes};
+use farkas_check::{Verdict, refutes_quickly};
 use linear_rows::System;
 use rules_walk::Earlier;
 use share_normal::NormProgram;
@@ -71,23 +71,35 @@ fn vector(alloc: Global, farkas: &[(u32, i128)], count: usize) -> Result<Vec<i12
     Ok(made)
 }
 
+// The check of a number for each row, those of these entries. It never wants memory.
+fn check_numbers(
+    alloc: Global,
+    system: &System,
+    farkas: &[(u32, i128)],
+    numbers: &[i128],
+) -> Result<(), VectorFault>
+    requires rise { Rise farkas.now }
+    requires rows { AreRows (length system.now.rows) farkas.now }
+    requires numbers { numbers.now ≡ vector_of system.now farkas.now }
+    ensures told { NoneLeaves system.now → Tells result None system.now farkas.now }
+    ensures never { result ≡ Err VectorFault.NoMemory → ⊥ }
+{
+    match refutes_quickly(alloc, system, numbers) {
+        Verdict::Yes => Ok(()),
+        Verdict::No { .. } => Err(VectorFault::NotRefuted),
+        Verdict::Leaves { column } => Err(VectorFault::Refute { column }),
+    }
+}
+
 // The check of a vector of so many numbers as there are rows.
 fn check_vector(alloc: Global, system: &System, farkas: &[(u32, i128)]) -> Result<(), VectorFault>
     requires rise { Rise farkas.now }
     requires rows { AreRows (length system.now.rows) farkas.now }
     ensures { NoneLeaves system.now → Tells result None system.now farkas.now }
 {
-    let count = system.rows().len();
-    let Ok(vector) = vector(alloc, farkas, count) else {
-        return Err(VectorFault::NoMemory);
-    };
-    let Ok(verdict) = refutes(alloc, system, &vector) else {
-        return Err(VectorFault::NoMemory);
-    };
-    match verdict {
-        Verdict::Yes => Ok(()),
-        Verdict::No { .. } => Err(VectorFault::NotRefuted),
-        Verdict::Leaves { column } => Err(VectorFault::Refute { column }),
+    match vector(alloc, farkas, system.rows().len()) {
+        Ok(numbers) => check_numbers(alloc, system, farkas, &numbers),
+        Err(_) => Err(VectorFault::NoMemory),
     }
 }
 

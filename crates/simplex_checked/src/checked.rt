@@ -10,7 +10,7 @@ ghost use Rattle.simplex_checked.specs.Wholes.{AreLeast, AreRefuting, HaveWholes
 use crate::answer::Answer;
 use crate::fault::AnswerFault;
 use crate::wholes::{common_denominator, numbers_over, own_denominator, own_numbers};
-use farkas_check::{Verdict, least, refutes};
+use farkas_check::{Verdict, least_quickly, refutes_quickly};
 use frac128::Frac;
 use linear_rows::System;
 use simplex_integers::laws;
@@ -39,7 +39,7 @@ fn check_least(
     ensures passed { OnOk result (EachPasses (proving_least system.now x.now dual.now (pos denominator))) }
     ensures leaves { IfErr result (LeastCheckLeaves system.now x.now dual.now denominator) }
 {
-    match least(alloc, system, x, dual, denominator as i128)? {
+    match least_quickly(alloc, system, x, dual, denominator as i128) {
         Verdict::Yes => Ok(()),
         Verdict::No { .. } => unreachable!(),
         Verdict::Leaves { column } => Err(AnswerFault::Least { column }),
@@ -52,7 +52,7 @@ fn check_vector(alloc: Global, system: &System, y: &[i128]) -> Result<(), Answer
     ensures passed { OnOk result (EachPasses (refuting system.now y.now)) }
     ensures leaves { IfErr result (VectorCheckLeaves system.now y.now) }
 {
-    match refutes(alloc, system, y)? {
+    match refutes_quickly(alloc, system, y) {
         Verdict::Yes => Ok(()),
         Verdict::No { .. } => unreachable!(),
         Verdict::Leaves { column } => Err(AnswerFault::Refute { column }),

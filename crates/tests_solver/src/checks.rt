@@ -1,7 +1,7 @@
 //! Checks of vectors, on small systems.
 ghost use Rattle.std.specs.Prelude.{◌≡◌, length};
 
-use farkas_check::{Verdict, least, refutes};
+use farkas_check::{Verdict, least, least_quickly, refutes, refutes_quickly};
 use linear_rows::{Row, System};
 use std::alloc::Global;
 use std::test::Fail;
@@ -30,6 +30,7 @@ fn repeated(alloc: Global, times: i128, right: i128, rows: u32) -> Result<System
 /// What is said of these two numbers, where the row `times * x >= right` stands twice.
 fn refuted(
     alloc: Global,
+    quickly: bool,
     times: i128,
     right: i128,
     first: i128,
@@ -37,7 +38,13 @@ fn refuted(
 ) -> Result<Option<Verdict>, Fail> {
     let system = repeated(alloc, times, right, 2)?;
     if system.rows().len() == 2 && first >= 0 && second >= 0 {
-        Ok(Some(refutes(alloc, &system, &[first, second])?))
+        let numbers = [first, second];
+        let said = if quickly {
+            refutes_quickly(alloc, &system, &numbers)
+        } else {
+            refutes(&system, &numbers)
+        };
+        Ok(Some(said))
     } else {
         Ok(None)
     }
@@ -57,17 +64,33 @@ const REFUTATIONS: [(i128, i128, i128, i128, Verdict); 7] = [
 #[test]
 fn refutations(rt: HostRuntime) -> Result<(), Fail> {
     for (times, right, first, second, want) in &REFUTATIONS {
-        let said = refuted(rt.alloc(), *times, *right, *first, *second)?;
+        let said = refuted(rt.alloc(), false, *times, *right, *first, *second)?;
         assert!(rt; said == Some(*want), "of {times}, {first} and {second}");
+        let quick = refuted(rt.alloc(), true, *times, *right, *first, *second)?;
+        assert!(rt;
+            quick == Some(*want),
+            "quickly of {times}, {first} and {second}"
+        );
     }
     Ok(())
 }
 
 /// What is said of `x` and `y` over `scale`, where the one row is `x >= 3`.
-fn told_least(alloc: Global, x: i128, y: i128, scale: i128) -> Result<Option<Verdict>, Fail> {
+fn told_least(
+    alloc: Global,
+    quickly: bool,
+    x: i128,
+    y: i128,
+    scale: i128,
+) -> Result<Option<Verdict>, Fail> {
     let three = repeated(alloc, 1, 3, 1)?;
     if three.unknowns() == 1 && three.rows().len() == 1 && x >= 0 && y >= 0 && scale > 0 {
-        Ok(Some(least(alloc, &three, &[x], &[y], scale)?))
+        let said = if quickly {
+            least_quickly(alloc, &three, &[x], &[y], scale)
+        } else {
+            least(&three, &[x], &[y], scale)
+        };
+        Ok(Some(said))
     } else {
         Ok(None)
     }
@@ -88,8 +111,10 @@ const LEAST: [(i128, i128, i128, Verdict); 6] = [
 #[test]
 fn least_solutions(rt: HostRuntime) -> Result<(), Fail> {
     for (x, y, scale, want) in &LEAST {
-        let said = told_least(rt.alloc(), *x, *y, *scale)?;
+        let said = told_least(rt.alloc(), false, *x, *y, *scale)?;
         assert!(rt; said == Some(*want), "of {x} and {y} over {scale}");
+        let quick = told_least(rt.alloc(), true, *x, *y, *scale)?;
+        assert!(rt; quick == Some(*want), "quickly of {x} and {y} over {scale}");
     }
     Ok(())
 }
