@@ -269,3 +269,11 @@ module _ (law : LeastDenominators) (entries : RefusedEntriesLeave) (rule : Rule)
 pub passed_on : {A X : Type 0} (P : X → Type 0) (r : Result A X) (e : X) → IsErrAnd r (λ x. x ≡ e) → P e → IfErr r P
 passed_on P (Ok x) e h k = tt
 passed_on P (Err x) e h k = subst P (sym h) k
+
+-- what fails of a vector that refutes is no outcome
+pub vector_fails : (rule : Rule) (s : LinearSystem) (ps : List (ℕ × ℕ)) (y : List Frac) → IsRefuted rule s ps y → (fault : AnswerFault) → RefutingFails s y fault → NoOutcome rule s fault
+vector_fails rule s ps y h (f.Solve pivots row column) k = absurd k
+vector_fails rule s ps y h (f.Scale entry) k = (ps, y, h, k)
+vector_fails rule s ps y h (f.Refute column) k = (ps, y, h, k)
+vector_fails rule s ps y h (f.Least column) k = absurd k
+vector_fails rule s ps y h f.NoMemory k = tt
