@@ -1,0 +1,15 @@
+mod Cuts
+mod Tupled
+mod Stacks
+mod Terms
+mod Sums
+mod Stepped
+mod Words
+mod Named
+mod Stripped
+mod LineRead
+mod Placed
+mod Bounds
+mod Told
+mod Answered
+mod Computed

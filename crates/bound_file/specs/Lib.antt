@@ -1,0 +1,15 @@
+pub mod Lines
+pub mod Read
+pub mod Spelling
+pub mod Declares
+pub mod Answers
+pub mod Text
+pub mod Digits
+pub mod Tuples
+pub mod Names
+pub mod Reading
+pub mod Seen
+pub mod Strip
+pub mod Lined
+pub mod Laws
+pub mod Example
