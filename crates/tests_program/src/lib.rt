@@ -5,4 +5,6 @@
 #[cfg(test)]
 mod calls;
 #[cfg(test)]
+mod lines;
+#[cfg(test)]
 mod runs;
