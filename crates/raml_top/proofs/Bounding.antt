@@ -19,13 +19,13 @@ use Rattle.refusals.specs.declared.answer.Report.{Report}
 use Rattle.refusals.specs.declared.answer.Refusal.{Refusal}
 use Rattle.refusals.specs.declared.status.Status.TheVariants as s
 use Rattle.refusals.specs.declared.status.OverflowAt.TheVariants as o
-use Rattle.raml_top.specs.Outside.{Promised}
-use Rattle.raml_top.specs.Call.{Placed, PointRefuses, AreFloors, OfFloors}
-use Rattle.raml_top.specs.Promise.{RunsBounded}
-use Rattle.raml_top.specs.Parts.{Gives, IsCallOf, FloorRefusal}
-use Rattle.raml_top.specs.declared.call.Call.{Call}
-use Rattle.raml_top.proofs.Stepping.{step_refused, step_goes}
-use Rattle.raml_top.proofs.Refusing.{told_refuses}
+use Rattle.raml_promise.specs.Outside.{Promised}
+use Rattle.raml_promise.specs.Call.{Placed, PointRefuses, AreFloors, OfFloors}
+use Rattle.raml_promise.specs.Promise.{RunsBounded}
+use Rattle.raml_parts.specs.Parts.{Gives, IsCallOf, FloorRefusal}
+use Rattle.raml_parts.specs.declared.call.Call.{Call}
+use Rattle.raml_parts.proofs.Stepping.{step_refused, step_goes}
+use Rattle.raml_parts.proofs.Refusing.{told_refuses}
 
 module _ (typed : TheProgram) (kept : Kept) (cert : Certificate) (source : kept.source ≡ typed) (call : Call) (f : Placed) (vs : List Value) (is : IsCallOf (program_of typed) f call vs)
     (steps : ℕ) (cells : Option ℕ) (words : List Word) (same : words ≡ call.args.words.items) where

@@ -7,10 +7,10 @@ use Rattle.refusals.specs.declared.answer.Report.{Report as TheReport}
 use Rattle.refusals.specs.declared.answer.Refusal.{Refusal as TheRefusal}
 use Rattle.refusals.specs.declared.status.Status.{Status}
 use Rattle.refusals.specs.declared.status.Status.TheVariants.{WriteFault, NoMemory}
-use Rattle.raml_top.specs.Outside.{Promised, Outside, GainsNothing, Gains, GainsFront}
-use Rattle.raml_top.specs.Steps.{Report, Refusal}
-use Rattle.raml_top.specs.Promise.{WordsAnswer, Tells, Cause}
-use Rattle.raml_top.specs.Parts as parts
+use Rattle.raml_promise.specs.Outside.{Promised, Outside, GainsNothing, Gains, GainsFront}
+use Rattle.raml_promise.specs.Steps.{Report, Refusal}
+use Rattle.raml_promise.specs.Promise.{WordsAnswer, Tells, Cause}
+use Rattle.raml_parts.specs.Parts as parts
 
 module _ (o : Outside) where
   pub written_cause : (report : TheReport) → parts.Gives (WordsAnswer Promised o.words o.store) (Ok report) → Gains report.text.items o.out → GainsNothing o.err → Cause o report.status

@@ -13,13 +13,13 @@ use Rattle.refusals.specs.declared.answer.Report.{Report}
 use Rattle.refusals.specs.declared.answer.Refusal.{Refusal}
 use Rattle.refusals.specs.declared.status.Status.TheVariants as s
 use Rattle.refusals.specs.declared.status.OverflowAt.TheVariants as o
-use Rattle.raml_top.specs.Outside.{Promised}
-use Rattle.raml_top.specs.Steps.{Prints, goes_on}
-use Rattle.raml_top.specs.Analysis.{PowersRefuse}
-use Rattle.raml_top.specs.Promise.{PrintsPowers}
-use Rattle.raml_top.specs.Parts.{Gives, PowerRefusal}
-use Rattle.raml_top.proofs.Stepping.{step_refused}
-use Rattle.raml_top.proofs.Refusing.{told_refuses}
+use Rattle.raml_promise.specs.Outside.{Promised}
+use Rattle.raml_promise.specs.Steps.{Prints, goes_on}
+use Rattle.raml_promise.specs.Analysis.{PowersRefuse}
+use Rattle.raml_promise.specs.Promise.{PrintsPowers}
+use Rattle.raml_parts.specs.Parts.{Gives, PowerRefusal}
+use Rattle.raml_parts.proofs.Stepping.{step_refused}
+use Rattle.raml_parts.proofs.Refusing.{told_refuses}
 
 pub powers_given : (kept : Kept) (c : Certificate) (report : Report) → ending_of report.status ≡ Some Done → ArePowerLines (source_in kept) (program_in kept) c report.text.items →
     Gives (PrintsPowers Promised (source_in kept) (program_in kept) c) (Ok report)

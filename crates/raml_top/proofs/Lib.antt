@@ -1,21 +1,5 @@
-pub mod Stepping
-pub mod Running
-pub mod Placing
-pub mod Proved
-pub mod Reporting
-pub mod Bounding
-pub mod Calling
-pub mod Causes
-pub mod Refusing
-pub mod Choosing
-pub mod Reading
-pub mod Pricing
-pub mod Comparing
-pub mod Alike
-pub mod OneSource
-pub mod OneCourse
-pub mod OneCheck
-pub mod OneRun
-pub mod OnePrices
-pub mod OnePowers
-pub mod One
+mod Reporting
+mod Bounding
+mod Causes
+mod Pricing
+mod Comparing

@@ -19,7 +19,7 @@ use Rattle.annot_types.specs.Certificate.{Certificate, has_work}
 use Rattle.annot_types.specs.Held.{Claim, Bound, NoBound, CallsUnbounded, line, lines_for}
 use Rattle.analysis_report.specs.Lines.{Claims, AreMeterLines}
 use Rattle.analysis_report.proofs.MeterLines.{meter_lines_are_lines}
-use Rattle.raml_top.specs.Analysis.{IsProved}
+use Rattle.raml_promise.specs.Analysis.{IsProved}
 use Rattle.rules_soundness_laws.specs.Laws.{IsTrue}
 use Rattle.price_file.specs.declared.construct.Construct.{Construct}
 use Rattle.price_file.specs.Construct.{Prices, place}
@@ -27,23 +27,10 @@ use Rattle.price_file.specs.Listed.{AreSmall, or_free}
 use Rattle.price_file.specs.Spelling.{Table, Spells, SetEach, listed, prices_in}
 use Rattle.price_file.specs.Applied.{applied_function, applied_program}
 use Rattle.price_file.proofs.CostSame.{costs_prices}
-use Rattle.raml_top.specs.Prices.{IsTrueUnder, ArePricedLines, GivesUnder}
-use Rattle.raml_top.specs.Call.{Placed}
-use Rattle.raml_top.specs.Parts.{IsCallOf}
-use Rattle.raml_top.specs.declared.call.Call.{Call}
-
--- the prices of a table that a file spells are small
-small_or : (b : Bool) (n : ℕ) (o : Option ℕ) → n ≤ 1000000 → or_free o ≤ 1000000 → or_free (cond b (Some n) o) ≤ 1000000
-small_or true n o small rest = small
-small_or false n o small rest = rest
-
-small_listed : (c : Construct) (lines : List Text) (table : Table) → SetEach lines table → or_free (listed table c) ≤ 1000000
-small_listed c lines [] set = omega arith
-small_listed c [] (entry ∷ table) set = absurd set
-small_listed c (line ∷ lines) (entry ∷ table) set = small_or (nat_eq (place c) (place entry.0)) entry.1 (listed table c) set.0.most (small_listed c lines table set.1)
-
-pub spelled_small : (bytes : Text) (table : Table) → Spells bytes table → AreSmall (prices_in table)
-spelled_small bytes table spells c = small_listed c _ table spells.lines.set
+use Rattle.raml_promise.specs.Prices.{IsTrueUnder, ArePricedLines, GivesUnder}
+use Rattle.raml_promise.specs.Call.{Placed}
+use Rattle.raml_parts.specs.Parts.{IsCallOf}
+use Rattle.raml_parts.specs.declared.call.Call.{Call}
 
 -- ticks are counted by each certificate
 pub ticks_counted : (work : Bool) → Contains (meters work) Ticks

@@ -9,9 +9,9 @@ use Rattle.refusals.specs.Ending.{ending_of}
 use Rattle.refusals.specs.Refusals.{IsWanting}
 use Rattle.refusals.specs.declared.answer.Report.{Report}
 use Rattle.refusals.specs.declared.answer.Refusal.{Refusal}
-use Rattle.raml_top.specs.Outside.{Promised}
-use Rattle.raml_top.specs.Call.{Placed, Limits, Runs}
-use Rattle.raml_top.specs.Parts.{Gives, HasArguments, RanOn}
+use Rattle.raml_promise.specs.Outside.{Promised}
+use Rattle.raml_promise.specs.Call.{Placed, Limits, Runs}
+use Rattle.raml_parts.specs.Parts.{Gives, HasArguments, RanOn}
 
 append_nil : (t : Text) → t ++ [] ≡ t
 append_nil [] = refl

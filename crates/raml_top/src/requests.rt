@@ -3,11 +3,11 @@ ghost use Rattle.std.specs.Prelude.{◌≡◌, ◌≤◌, None};
 ghost use Rattle.raml_syntax.specs.Tree.{Text};
 ghost use Rattle.raml_words.specs.Words as asked_words;
 ghost use Rattle.raml_words.specs.Asked.{request_of};
-ghost use Rattle.raml_top.specs.Outside.{Promised, store_of};
-ghost use Rattle.raml_top.specs.Steps.{OfProgram};
-ghost use Rattle.raml_top.specs.Call.{cells_or};
-ghost use Rattle.raml_top.specs.Promise.{Answers, ListsTypes, ListsCode, Analyses, Certifies, Verifies, RunsWithin, RunsWithBounds, PricesProgram, SpendsWithin, Compares, ShowsPowers};
-ghost use Rattle.raml_top.specs.Parts.{Gives, IsWithin, CellsWithin, DegreeWithin};
+ghost use Rattle.raml_promise.specs.Outside.{Promised, store_of};
+ghost use Rattle.raml_promise.specs.Steps.{OfProgram};
+ghost use Rattle.raml_promise.specs.Call.{cells_or};
+ghost use Rattle.raml_promise.specs.Promise.{Answers, ListsTypes, ListsCode, Analyses, Certifies, Verifies, RunsWithin, RunsWithBounds, PricesProgram, SpendsWithin, Compares, ShowsPowers};
+ghost use Rattle.raml_parts.specs.Parts.{Gives, IsWithin, CellsWithin, DegreeWithin};
 
 use crate::commands::{
     analysis_certificate, analysis_lines, analysis_powers, list_code, list_types, verification,
@@ -15,9 +15,9 @@ use crate::commands::{
 use crate::comparison::comparison;
 use crate::prices::{priced_lines, spend_within};
 use crate::runs::{bounded_run, run_within};
-use crate::source::read_program;
 use crate::trial::trial;
 use raml_io::Store;
+use raml_parts::read_program;
 use raml_words::{Request, Rule};
 use refusal_text::Analysed;
 use refusals::{Refusal, Report};

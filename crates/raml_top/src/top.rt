@@ -4,15 +4,13 @@ ghost use Rattle.raml_syntax.specs.Tree.{Text};
 ghost use Rattle.raml_words.specs.Words.{texts, Asks};
 ghost use Rattle.raml_words.specs.Asked.{request_of};
 ghost use Rattle.refusals.specs.Line.{no_names};
-ghost use Rattle.raml_top.specs.Outside.{Promised, store_of, sink_of, outside_of, Gains, GainsFront};
-ghost use Rattle.raml_top.specs.Known.{CourseLaws};
-ghost use Rattle.raml_top.specs.Promise.{Cause, Forced, WordsAnswer};
-ghost use Rattle.raml_top.specs.Parts.{Gives, Refuses, WordsRefuse, IsWithin};
+ghost use Rattle.raml_promise.specs.Outside.{Promised, store_of, sink_of, outside_of, Gains, GainsFront};
+ghost use Rattle.raml_promise.specs.Promise.{Cause, Forced, WordsAnswer};
+ghost use Rattle.raml_parts.specs.Parts.{Gives, Refuses, WordsRefuse, IsWithin};
 
 use crate::requests::request_answer;
-use infer_spec::laws::{ends_or_stops, one_certificate, one_place};
-use infer_systems_laws::laws::{normals_are_ordered, systems_generate};
 use raml_io::{Sink, Store, put_all};
+use raml_promise::laws::causes_force;
 use raml_words::{Request, WordsFault, read_words};
 use refusal_text::write_failed_line;
 use refusals::{Refusal, Report, Status};
@@ -43,7 +41,7 @@ pub fn raml<S: Store, O: Sink, E: Sink>(
     ensures out_later { O.faults out.old ≤ O.faults out.new }
     ensures err_later { E.faults err.old ≤ E.faults err.new }
 {
-    course_laws();
+    causes_force();
     match answer(alloc, words, store) {
         Ok(report) => match put_all(out, &report.text) {
             Ok(()) => report.status,
@@ -57,17 +55,6 @@ pub fn raml<S: Store, O: Sink, E: Sink>(
             refusal.status
         }
     }
-}
-
-// What is known of courses.
-fn course_laws()
-    ensures { CourseLaws }
-{
-    one_certificate();
-    ends_or_stops();
-    one_place();
-    systems_generate();
-    normals_are_ordered();
 }
 
 // Writes the line, as far as the sink takes it.

@@ -1,8 +1,8 @@
-use Rattle.raml_top.specs.Outside.{Promised}
+use Rattle.raml_promise.specs.Outside.{Promised}
 use Rattle.refusal_text.specs.declared.task.Analysed.TheVariants as analysed
-use Rattle.raml_top.specs.Analysis.{OfCourse}
-use Rattle.raml_top.specs.Promise.{PrintsLines}
-use Rattle.raml_top.proofs.Proved.{kept_gives}
+use Rattle.raml_promise.specs.Analysis.{OfCourse}
+use Rattle.raml_promise.specs.Promise.{PrintsLines}
+use Rattle.raml_parts.proofs.Proved.{kept_gives}
 use Rattle.raml_top.proofs.commands.analysis_lines.Goals as goal
 
 pub returns-in-Ok : goal.returns-in-Ok

@@ -1,9 +1,9 @@
 use Rattle.std.proofs.Common.{subst}
 use Rattle.refusal_text.specs.declared.task.Analysed.TheVariants as analysed
-use Rattle.raml_top.specs.Outside.{Promised}
-use Rattle.raml_top.specs.Promise.{PrintsCertificate}
-use Rattle.raml_top.specs.Parts.{Gives}
-use Rattle.raml_top.proofs.Proved.{course_given, course_denied}
+use Rattle.raml_promise.specs.Outside.{Promised}
+use Rattle.raml_promise.specs.Promise.{PrintsCertificate}
+use Rattle.raml_parts.specs.Parts.{Gives}
+use Rattle.raml_parts.proofs.Proved.{course_given, course_denied}
 use Rattle.raml_top.proofs.commands.course_certificate.Goals as goal
 
 pub returns-in-Ok : goal.returns-in-Ok

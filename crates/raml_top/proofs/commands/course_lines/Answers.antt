@@ -1,9 +1,9 @@
 use Rattle.share_normal.specs.Program.{source_in}
 use Rattle.rules_plan.specs.Read.{program_in}
 use Rattle.refusal_text.specs.declared.task.Analysed.TheVariants as analysed
-use Rattle.raml_top.specs.Outside.{Promised}
-use Rattle.raml_top.specs.Promise.{PrintsLines}
-use Rattle.raml_top.proofs.Proved.{course_given, course_denied}
+use Rattle.raml_promise.specs.Outside.{Promised}
+use Rattle.raml_promise.specs.Promise.{PrintsLines}
+use Rattle.raml_parts.proofs.Proved.{course_given, course_denied}
 use Rattle.raml_top.proofs.commands.course_lines.Goals as goal
 
 pub returns-in-Ok : goal.returns-in-Ok

@@ -2,9 +2,9 @@ use Rattle.share_normal.specs.Program.{source_in}
 use Rattle.rules_plan.specs.Read.{program_in}
 use Rattle.raml_words.specs.declared.request.Rule.TheVariants as rule
 use Rattle.refusal_text.specs.declared.task.Analysed.TheVariants as analysed
-use Rattle.raml_top.specs.Outside.{Promised}
-use Rattle.raml_top.specs.Promise.{PrintsPowers}
-use Rattle.raml_top.proofs.Proved.{course_given, course_denied}
+use Rattle.raml_promise.specs.Outside.{Promised}
+use Rattle.raml_promise.specs.Promise.{PrintsPowers}
+use Rattle.raml_parts.proofs.Proved.{course_given, course_denied}
 use Rattle.raml_top.proofs.commands.course_powers.Goals as goal
 
 pub returns-in-Ok : goal.returns-in-Ok

@@ -1,11 +1,11 @@
 use Rattle.raml_syntax.specs.Read.{program_of}
 use Rattle.annot_types.specs.Read.{certificate_of}
-use Rattle.raml_top.specs.Outside.{Promised, store_of}
-use Rattle.raml_top.specs.Steps.{OfNormal}
-use Rattle.raml_top.specs.Analysis.{OfCheck}
-use Rattle.raml_top.specs.Promise.{PrintsLines}
-use Rattle.raml_top.proofs.Stepping.{certificate_goes, certificate_refusal}
-use Rattle.raml_top.proofs.Proved.{kept_gives}
+use Rattle.raml_promise.specs.Outside.{Promised, store_of}
+use Rattle.raml_promise.specs.Steps.{OfNormal}
+use Rattle.raml_promise.specs.Analysis.{OfCheck}
+use Rattle.raml_promise.specs.Promise.{PrintsLines}
+use Rattle.raml_parts.proofs.Stepping.{certificate_goes, certificate_refusal}
+use Rattle.raml_parts.proofs.Proved.{kept_gives}
 use Rattle.raml_top.proofs.commands.verification.Goals as goal
 
 pub returns-in-Ok-normal_form-clause-gives : goal.returns-in-Ok-normal_form-clause-gives

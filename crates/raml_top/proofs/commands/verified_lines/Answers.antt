@@ -3,11 +3,11 @@ use Rattle.share_normal.specs.Program.{source_in}
 use Rattle.rules_plan.specs.Read.{program_in}
 use Rattle.annot_types.specs.Read.{certificate_of}
 use Rattle.refusals.specs.Refusals.{names_in}
-use Rattle.raml_top.specs.Outside.{Promised}
-use Rattle.raml_top.specs.Analysis.{CheckRefuses, IsChecked, IsProved}
-use Rattle.raml_top.specs.Promise.{PrintsLines}
-use Rattle.raml_top.specs.Parts.{Gives}
-use Rattle.raml_top.proofs.Stepping.{step_refused, step_goes}
+use Rattle.raml_promise.specs.Outside.{Promised}
+use Rattle.raml_promise.specs.Analysis.{CheckRefuses, IsChecked, IsProved}
+use Rattle.raml_promise.specs.Promise.{PrintsLines}
+use Rattle.raml_parts.specs.Parts.{Gives}
+use Rattle.raml_parts.proofs.Stepping.{step_refused, step_goes}
 use Rattle.raml_top.proofs.commands.verified_lines.Goals as goal
 
 pub returns-in-Ok : goal.returns-in-Ok

@@ -3,10 +3,10 @@ use Rattle.rules_plan.specs.Read.{program_in}
 use Rattle.raml_words.specs.declared.request.Rule.TheVariants as rule
 use Rattle.refusal_text.specs.declared.task.Analysed.TheVariants as analysed
 use Rattle.analysis_report.specs.Comparison.{AreComparisons}
-use Rattle.raml_top.specs.Outside.{Promised}
-use Rattle.raml_top.specs.Steps.{Prints}
-use Rattle.raml_top.specs.Analysis.{OfCourse}
-use Rattle.raml_top.proofs.Proved.{kept_gives}
+use Rattle.raml_promise.specs.Outside.{Promised}
+use Rattle.raml_promise.specs.Steps.{Prints}
+use Rattle.raml_promise.specs.Analysis.{OfCourse}
+use Rattle.raml_parts.proofs.Proved.{kept_gives}
 use Rattle.raml_top.proofs.comparison.compare_with.Goals as goal
 
 pub returns-in-Ok : goal.returns-in-Ok

@@ -1,10 +1,10 @@
 use Rattle.raml_words.specs.declared.request.Rule.TheVariants as rule
 use Rattle.refusal_text.specs.declared.task.Analysed.TheVariants as analysed
-use Rattle.raml_top.specs.Outside.{Promised, store_of}
-use Rattle.raml_top.specs.Steps.{OfProgram}
-use Rattle.raml_top.specs.Analysis.{OfCourse}
-use Rattle.raml_top.specs.Promise.{ComparesWith}
-use Rattle.raml_top.proofs.Proved.{kept_gives}
+use Rattle.raml_promise.specs.Outside.{Promised, store_of}
+use Rattle.raml_promise.specs.Steps.{OfProgram}
+use Rattle.raml_promise.specs.Analysis.{OfCourse}
+use Rattle.raml_promise.specs.Promise.{ComparesWith}
+use Rattle.raml_parts.proofs.Proved.{kept_gives}
 use Rattle.raml_top.proofs.comparison.comparison.Goals as goal
 
 pub returns-in-Ok-clause-gives : goal.returns-in-Ok-clause-gives

@@ -2,10 +2,10 @@ use Rattle.share_normal.specs.Program.{source_in}
 use Rattle.rules_plan.specs.Read.{program_in}
 use Rattle.raml_words.specs.declared.request.Rule.TheVariants as rule
 use Rattle.refusal_text.specs.declared.task.Analysed.TheVariants as analysed
-use Rattle.raml_top.specs.Outside.{Promised, store_of}
-use Rattle.raml_top.specs.Steps.{OfProgram}
-use Rattle.raml_top.specs.Promise.{ComparesWith}
-use Rattle.raml_top.proofs.Proved.{course_given, course_denied, counts_work}
+use Rattle.raml_promise.specs.Outside.{Promised, store_of}
+use Rattle.raml_promise.specs.Steps.{OfProgram}
+use Rattle.raml_promise.specs.Promise.{ComparesWith}
+use Rattle.raml_parts.proofs.Proved.{course_given, course_denied, counts_work}
 use Rattle.raml_top.proofs.comparison.course_beside.Goals as goal
 
 pub verified_beside-requires-clause-work : goal.verified_beside-requires-clause-work

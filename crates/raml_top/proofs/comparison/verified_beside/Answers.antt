@@ -2,9 +2,9 @@ use Rattle.raml_syntax.specs.Read.{program_of}
 use Rattle.share_normal.specs.Program.{source_in}
 use Rattle.rules_plan.specs.Read.{program_in}
 use Rattle.refusal_text.specs.declared.task.Analysed.TheVariants as analysed
-use Rattle.raml_top.specs.Outside.{Promised, store_of}
-use Rattle.raml_top.specs.Promise.{ComparesWith}
-use Rattle.raml_top.proofs.Stepping.{program_goes, program_refusal}
+use Rattle.raml_promise.specs.Outside.{Promised, store_of}
+use Rattle.raml_promise.specs.Promise.{ComparesWith}
+use Rattle.raml_parts.proofs.Stepping.{program_goes, program_refusal}
 use Rattle.raml_top.proofs.comparison.verified_beside.Goals as goal
 
 pub returns-in-Ok-clause-gives : goal.returns-in-Ok-clause-gives

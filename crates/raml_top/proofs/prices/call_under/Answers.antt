@@ -6,11 +6,11 @@ use Rattle.raml_syntax.specs.Node.{AllNodes, NumberFits, program_nodes}
 use Rattle.raml_syntax.specs.Read.{program_of}
 use Rattle.price_file.specs.Read.{prices_of}
 use Rattle.price_file.specs.Applied.{applied_function}
-use Rattle.raml_top.specs.Outside.{Promised}
-use Rattle.raml_top.specs.Call.{Runs, Limits, cells_or}
-use Rattle.raml_top.specs.Prices.{Spends}
-use Rattle.raml_top.specs.Parts.{Gives, IsCallOf}
-use Rattle.raml_top.proofs.Stepping.{gives_map}
+use Rattle.raml_promise.specs.Outside.{Promised}
+use Rattle.raml_promise.specs.Call.{Runs, Limits, cells_or}
+use Rattle.raml_promise.specs.Prices.{Spends}
+use Rattle.raml_parts.specs.Parts.{Gives, IsCallOf}
+use Rattle.raml_parts.proofs.Stepping.{gives_map}
 use Rattle.raml_top.proofs.Pricing.{spent, applied_call}
 use Rattle.raml_top.proofs.prices.call_under.Goals as goal
 

@@ -1,10 +1,10 @@
 use Rattle.rules_plan.specs.Read.{program_in}
 use Rattle.raml_words.specs.declared.request.Rule.TheVariants as rule
 use Rattle.refusal_text.specs.declared.task.Analysed.TheVariants as analysed
-use Rattle.raml_top.specs.Outside.{Promised}
-use Rattle.raml_top.specs.Steps.{Prints}
-use Rattle.raml_top.specs.Prices.{ArePricedLines}
-use Rattle.raml_top.proofs.Proved.{course_given, course_denied}
+use Rattle.raml_promise.specs.Outside.{Promised}
+use Rattle.raml_promise.specs.Steps.{Prints}
+use Rattle.raml_promise.specs.Prices.{ArePricedLines}
+use Rattle.raml_parts.proofs.Proved.{course_given, course_denied}
 use Rattle.raml_top.proofs.prices.course_under.Goals as goal
 
 pub returns-in-Ok : goal.returns-in-Ok

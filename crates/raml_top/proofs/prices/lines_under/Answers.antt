@@ -5,12 +5,12 @@ use Rattle.price_file.specs.Read.{prices_of}
 use Rattle.annot_types.specs.Program.{Program}
 use Rattle.raml_words.specs.declared.request.Rule.TheVariants as rule
 use Rattle.refusal_text.specs.declared.task.Analysed.TheVariants as analysed
-use Rattle.raml_top.specs.Outside.{Promised}
-use Rattle.raml_top.specs.Steps.{Answer, OfNormal, Prints}
-use Rattle.raml_top.specs.Analysis.{OfCourse}
-use Rattle.raml_top.specs.Prices.{ArePricedLines}
-use Rattle.raml_top.specs.Parts.{Gives}
-use Rattle.raml_top.proofs.Proved.{kept_gives}
+use Rattle.raml_promise.specs.Outside.{Promised}
+use Rattle.raml_promise.specs.Steps.{Answer, OfNormal, Prints}
+use Rattle.raml_promise.specs.Analysis.{OfCourse}
+use Rattle.raml_promise.specs.Prices.{ArePricedLines}
+use Rattle.raml_parts.specs.Parts.{Gives}
+use Rattle.raml_parts.proofs.Proved.{kept_gives}
 use Rattle.raml_top.proofs.prices.lines_under.Goals as goal
 
 pub normal_form-requires : goal.normal_form-requires

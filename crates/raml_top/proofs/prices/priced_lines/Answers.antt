@@ -1,8 +1,8 @@
 use Rattle.raml_syntax.specs.Read.{program_of}
 use Rattle.price_file.specs.Read.{prices_of}
-use Rattle.raml_top.specs.Outside.{Promised, store_of}
-use Rattle.raml_top.specs.Promise.{PricesLines}
-use Rattle.raml_top.proofs.Stepping.{prices_go, prices_refusal}
+use Rattle.raml_promise.specs.Outside.{Promised, store_of}
+use Rattle.raml_promise.specs.Promise.{PricesLines}
+use Rattle.raml_parts.proofs.Stepping.{prices_go, prices_refusal}
 use Rattle.raml_top.proofs.prices.priced_lines.Goals as goal
 
 pub returns-in-Ok-clause-gives : goal.returns-in-Ok-clause-gives

@@ -3,11 +3,11 @@ use Rattle.price_file.specs.Spelling.{Table, Spells, FirstFault, prices_in}
 use Rattle.price_file.specs.Read.{prices_of}
 use Rattle.refusal_text.specs.declared.plain.Which.TheVariants as w
 use Rattle.refusals.specs.Line.{no_names}
-use Rattle.raml_top.specs.Outside.{store_of}
-use Rattle.raml_top.specs.Prices.{PricesRefuse}
-use Rattle.raml_top.specs.Parts.{FileRefuses, PriceFileRefuses}
-use Rattle.raml_top.proofs.Stepping.{refuses_map}
-use Rattle.raml_top.proofs.Refusing.{prices_refuse}
+use Rattle.raml_promise.specs.Outside.{store_of}
+use Rattle.raml_promise.specs.Prices.{PricesRefuse}
+use Rattle.raml_parts.specs.Parts.{FileRefuses, PriceFileRefuses}
+use Rattle.raml_parts.proofs.Stepping.{refuses_map}
+use Rattle.raml_parts.proofs.Refusing.{prices_refuse}
 use Rattle.raml_top.proofs.prices.read_prices.Goals as goal
 
 pub read-requires : goal.read-requires

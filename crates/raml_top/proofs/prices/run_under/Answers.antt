@@ -1,11 +1,11 @@
 use Rattle.std.proofs.Common.{None}
 use Rattle.raml_syntax.specs.Read.{program_of}
 use Rattle.price_file.specs.Read.{prices_of}
-use Rattle.raml_top.specs.Outside.{Promised, store_of}
-use Rattle.raml_top.specs.Call.{cells_or}
-use Rattle.raml_top.specs.Prices.{Spends}
-use Rattle.raml_top.proofs.Stepping.{call_refusal}
-use Rattle.raml_top.proofs.Calling.{call_of, call_gives}
+use Rattle.raml_promise.specs.Outside.{Promised, store_of}
+use Rattle.raml_promise.specs.Call.{cells_or}
+use Rattle.raml_promise.specs.Prices.{Spends}
+use Rattle.raml_parts.proofs.Stepping.{call_refusal}
+use Rattle.raml_parts.proofs.Calling.{call_of, call_gives}
 use Rattle.raml_top.proofs.prices.run_under.Goals as goal
 
 pub call_under-requires-clause-call : goal.call_under-requires-clause-call

@@ -1,11 +1,11 @@
 use Rattle.std.proofs.Common.{None}
 use Rattle.raml_syntax.specs.Read.{program_of}
 use Rattle.price_file.specs.Read.{prices_of}
-use Rattle.raml_top.specs.Outside.{Promised, store_of}
-use Rattle.raml_top.specs.Call.{OfCall, cells_or}
-use Rattle.raml_top.specs.Prices.{Spends}
-use Rattle.raml_top.proofs.Stepping.{prices_refusal}
-use Rattle.raml_top.proofs.Reading.{earlier_still, prices_then}
+use Rattle.raml_promise.specs.Outside.{Promised, store_of}
+use Rattle.raml_promise.specs.Call.{OfCall, cells_or}
+use Rattle.raml_promise.specs.Prices.{Spends}
+use Rattle.raml_parts.proofs.Stepping.{prices_refusal}
+use Rattle.raml_parts.proofs.Reading.{earlier_still, prices_then}
 use Rattle.raml_top.proofs.prices.spend_within.Goals as goal
 
 pub returns-in-Ok-clause-gives : goal.returns-in-Ok-clause-gives

@@ -8,7 +8,7 @@ use Rattle.annot_types.specs.Certificate.{has_work}
 use Rattle.price_file.specs.Applied.{applied_program}
 use Rattle.analysis_report.specs.Lines.{AreMeterLines}
 use Rattle.refusals.specs.Ending.{Done, ending_of}
-use Rattle.raml_top.specs.Analysis.{IsProved}
+use Rattle.raml_promise.specs.Analysis.{IsProved}
 use Rattle.raml_top.proofs.Pricing.{ticks_counted, lines_under}
 use Rattle.raml_top.proofs.prices.tick_report.Goals as goal
 

@@ -1,9 +1,9 @@
 use Rattle.raml_syntax.specs.Read.{program_of}
 use Rattle.refusal_text.specs.declared.task.Analysed.TheVariants as analysed
-use Rattle.raml_top.specs.Outside.{Promised, store_of}
-use Rattle.raml_top.specs.Promise.{Analyses}
-use Rattle.raml_top.proofs.Stepping.{program_goes, program_refusal}
-use Rattle.raml_top.proofs.Reading.{from_now}
+use Rattle.raml_promise.specs.Outside.{Promised, store_of}
+use Rattle.raml_promise.specs.Promise.{Analyses}
+use Rattle.raml_parts.proofs.Stepping.{program_goes, program_refusal}
+use Rattle.raml_parts.proofs.Reading.{from_now}
 use Rattle.raml_top.proofs.requests.analyse_answer.Goals as goal
 
 pub returns-in-Ok-clause-gives : goal.returns-in-Ok-clause-gives

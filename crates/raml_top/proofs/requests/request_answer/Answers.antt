@@ -3,10 +3,10 @@ use Rattle.refusal_text.specs.declared.task.Analysed.TheVariants as analysed
 use Rattle.std.specs.Prelude.{string_bytes}
 use Rattle.raml_words.specs.Words as w
 use Rattle.raml_words.specs.Asked.{request_of}
-use Rattle.raml_top.specs.Outside.{Promised, store_of}
-use Rattle.raml_top.specs.Steps.{OfProgram}
-use Rattle.raml_top.specs.Promise.{Answers, ListsTypes, ListsCode, Analyses, Certifies, Verifies}
-use Rattle.raml_top.specs.Parts.{Gives}
+use Rattle.raml_promise.specs.Outside.{Promised, store_of}
+use Rattle.raml_promise.specs.Steps.{OfProgram}
+use Rattle.raml_promise.specs.Promise.{Answers, ListsTypes, ListsCode, Analyses, Certifies, Verifies}
+use Rattle.raml_parts.specs.Parts.{Gives}
 use Rattle.raml_top.proofs.requests.request_answer.Goals as goal
 
 pub returns-in-Types-clause-gives : goal.returns-in-Types-clause-gives

@@ -1,8 +1,8 @@
 use Rattle.std.proofs.Common.{sym, subst}
 use Rattle.raml_words.specs.Words as w
-use Rattle.raml_top.specs.Outside.{Promised, store_of}
-use Rattle.raml_top.specs.Promise.{Answers}
-use Rattle.raml_top.specs.Parts.{Gives}
+use Rattle.raml_promise.specs.Outside.{Promised, store_of}
+use Rattle.raml_promise.specs.Promise.{Answers}
+use Rattle.raml_parts.specs.Parts.{Gives}
 use Rattle.raml_top.proofs.requests.run_request.Goals as goal
 
 pub returns-in-None-clause-gives : goal.returns-in-None-clause-gives

@@ -1,11 +1,11 @@
 use Rattle.raml_syntax.specs.Read.{program_of}
 use Rattle.refusal_text.specs.declared.task.Analysed.TheVariants as analysed
 use Rattle.raml_words.specs.declared.request.Rule.TheVariants as rule
-use Rattle.raml_top.specs.Outside.{Promised}
-use Rattle.raml_top.specs.Analysis.{OfCourse}
-use Rattle.raml_top.specs.Call.{OfFloors}
-use Rattle.raml_top.specs.Promise.{RunsBounded}
-use Rattle.raml_top.proofs.Proved.{kept_gives}
+use Rattle.raml_promise.specs.Outside.{Promised}
+use Rattle.raml_promise.specs.Analysis.{OfCourse}
+use Rattle.raml_promise.specs.Call.{OfFloors}
+use Rattle.raml_promise.specs.Promise.{RunsBounded}
+use Rattle.raml_parts.proofs.Proved.{kept_gives}
 use Rattle.raml_top.proofs.runs.bounded_call.Goals as goal
 
 pub returns-in-Ok : goal.returns-in-Ok

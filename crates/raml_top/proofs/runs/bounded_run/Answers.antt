@@ -1,8 +1,8 @@
 use Rattle.raml_syntax.specs.Read.{program_of}
-use Rattle.raml_top.specs.Outside.{Promised, store_of}
-use Rattle.raml_top.specs.Promise.{BoundedCall}
-use Rattle.raml_top.proofs.Stepping.{call_refusal}
-use Rattle.raml_top.proofs.Calling.{call_of, call_gives}
+use Rattle.raml_promise.specs.Outside.{Promised, store_of}
+use Rattle.raml_promise.specs.Promise.{BoundedCall}
+use Rattle.raml_parts.proofs.Stepping.{call_refusal}
+use Rattle.raml_parts.proofs.Calling.{call_of, call_gives}
 use Rattle.raml_top.proofs.runs.bounded_run.Goals as goal
 
 pub bounded_call-requires-clause-call : goal.bounded_call-requires-clause-call

@@ -3,11 +3,11 @@ use Rattle.raml_syntax.specs.Read.{program_of}
 use Rattle.share_normal.specs.Program.{Kept}
 use Rattle.rules_plan.specs.Read.{program_in}
 use Rattle.raml_words.specs.declared.request.Rule.TheVariants as rule
-use Rattle.raml_top.specs.Outside.{Promised}
-use Rattle.raml_top.specs.Call.{OfFloors}
-use Rattle.raml_top.specs.Promise.{RunsBounded}
-use Rattle.raml_top.specs.Parts.{Gives}
-use Rattle.raml_top.proofs.Proved.{course_goes, course_refused, counts_work}
+use Rattle.raml_promise.specs.Outside.{Promised}
+use Rattle.raml_promise.specs.Call.{OfFloors}
+use Rattle.raml_promise.specs.Promise.{RunsBounded}
+use Rattle.raml_parts.specs.Parts.{Gives}
+use Rattle.raml_parts.proofs.Proved.{course_goes, course_refused, counts_work}
 use Rattle.raml_top.proofs.runs.course_call.Goals as goal
 
 pub floors_call-requires-clause-source : goal.floors_call-requires-clause-source

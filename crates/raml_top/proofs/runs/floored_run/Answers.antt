@@ -1,10 +1,10 @@
 use Rattle.std.proofs.Common.{[], subst}
 use Rattle.raml_syntax.specs.Read.{program_of}
 use Rattle.analysis_report.specs.Told.{floors_of}
-use Rattle.raml_top.specs.Outside.{Promised}
-use Rattle.raml_top.specs.Call.{Runs}
-use Rattle.raml_top.specs.Promise.{bound_lines}
-use Rattle.raml_top.specs.Parts.{Gives}
+use Rattle.raml_promise.specs.Outside.{Promised}
+use Rattle.raml_promise.specs.Call.{Runs}
+use Rattle.raml_promise.specs.Promise.{bound_lines}
+use Rattle.raml_parts.specs.Parts.{Gives}
 use Rattle.raml_top.proofs.Reporting.{behind_gives}
 use Rattle.raml_top.proofs.runs.floored_run.Goals as goal
 

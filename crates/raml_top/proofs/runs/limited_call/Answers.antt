@@ -1,8 +1,8 @@
 use Rattle.std.proofs.Common.{[], subst}
 use Rattle.raml_syntax.specs.Read.{program_of}
-use Rattle.raml_top.specs.Outside.{Promised}
-use Rattle.raml_top.specs.Call.{Runs}
-use Rattle.raml_top.specs.Parts.{Gives}
+use Rattle.raml_promise.specs.Outside.{Promised}
+use Rattle.raml_promise.specs.Call.{Runs}
+use Rattle.raml_parts.specs.Parts.{Gives}
 use Rattle.raml_top.proofs.Reporting.{ran_gives}
 use Rattle.raml_top.proofs.runs.limited_call.Goals as goal
 

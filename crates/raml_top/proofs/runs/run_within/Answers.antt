@@ -1,9 +1,9 @@
 use Rattle.std.proofs.Common.{[], None}
 use Rattle.raml_syntax.specs.Read.{program_of}
-use Rattle.raml_top.specs.Outside.{Promised, store_of}
-use Rattle.raml_top.specs.Call.{Runs, cells_or}
-use Rattle.raml_top.proofs.Stepping.{call_refusal}
-use Rattle.raml_top.proofs.Calling.{call_of, call_gives}
+use Rattle.raml_promise.specs.Outside.{Promised, store_of}
+use Rattle.raml_promise.specs.Call.{Runs, cells_or}
+use Rattle.raml_parts.proofs.Stepping.{call_refusal}
+use Rattle.raml_parts.proofs.Calling.{call_of, call_gives}
 use Rattle.raml_top.proofs.runs.run_within.Goals as goal
 
 pub limited_call-requires-clause-call : goal.limited_call-requires-clause-call

@@ -1,10 +1,10 @@
 use Rattle.raml_words.specs.Words.{texts, Asks}
 use Rattle.raml_words.specs.Asked.{request_of}
 use Rattle.refusals.specs.Line.{no_names}
-use Rattle.raml_top.specs.Outside.{Promised, store_of}
-use Rattle.raml_top.specs.Promise.{Answers}
-use Rattle.raml_top.specs.Parts.{WordsRefuse}
-use Rattle.raml_top.proofs.Stepping.{step_refused, step_goes}
+use Rattle.raml_promise.specs.Outside.{Promised, store_of}
+use Rattle.raml_promise.specs.Promise.{Answers}
+use Rattle.raml_parts.specs.Parts.{WordsRefuse}
+use Rattle.raml_parts.proofs.Stepping.{step_refused, step_goes}
 use Rattle.raml_top.proofs.top.answer.Goals as goal
 
 pub returns-in-Ok-clause-gives : goal.returns-in-Ok-clause-gives

@@ -3,8 +3,8 @@ use Rattle.raml_words.specs.Words.{texts}
 use Rattle.refusals.specs.Ending as e
 use Rattle.refusals.specs.Line.{no_names}
 use Rattle.refusals.specs.declared.status.Status.TheVariants as s
-use Rattle.raml_top.specs.Parts.{WordsRefuse}
-use Rattle.raml_top.proofs.Refusing.{told_refuses}
+use Rattle.raml_parts.specs.Parts.{WordsRefuse}
+use Rattle.raml_parts.proofs.Refusing.{told_refuses}
 use Rattle.raml_top.proofs.top.asked.Goals as goal
 
 pub returns-in-Err-Usage-clause-err : goal.returns-in-Err-Usage-clause-err

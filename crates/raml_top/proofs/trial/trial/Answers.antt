@@ -1,10 +1,10 @@
 use Rattle.std.proofs.Common.{◌∙◌, subst}
 use Rattle.refusal_text.specs.declared.plain.Which.TheVariants as w
 use Rattle.refusal_text.specs.declared.task.Analysed.TheVariants as analysed
-use Rattle.raml_top.specs.Outside.{Promised}
-use Rattle.raml_top.specs.Steps.{OfShort, OfSource}
-use Rattle.raml_top.specs.Promise.{Tries}
-use Rattle.raml_top.specs.Parts.{Gives}
+use Rattle.raml_promise.specs.Outside.{Promised}
+use Rattle.raml_promise.specs.Steps.{OfShort, OfSource}
+use Rattle.raml_promise.specs.Promise.{Tries}
+use Rattle.raml_parts.specs.Parts.{Gives}
 use Rattle.raml_top.proofs.trial.trial.Goals as goal
 
 pub returns-in-Ok : goal.returns-in-Ok

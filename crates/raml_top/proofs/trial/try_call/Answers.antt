@@ -3,10 +3,10 @@ use Rattle.raml_syntax.specs.Read.{program_of}
 use Rattle.rules_plan.specs.Read.{program_in}
 use Rattle.report_text.specs.Trial.{trial_data}
 use Rattle.refusals.specs.Line.{no_names}
-use Rattle.raml_top.specs.Outside.{Promised}
-use Rattle.raml_top.specs.Promise.{RunsTrial}
-use Rattle.raml_top.specs.Parts.{ReadsArguments, ArgumentsRefuse, Refuses}
-use Rattle.raml_top.proofs.Calling.{arguments_give, arguments_refuse}
+use Rattle.raml_promise.specs.Outside.{Promised}
+use Rattle.raml_promise.specs.Promise.{RunsTrial}
+use Rattle.raml_parts.specs.Parts.{ReadsArguments, ArgumentsRefuse, Refuses}
+use Rattle.raml_parts.proofs.Calling.{arguments_give, arguments_refuse}
 use Rattle.raml_top.proofs.trial.try_call.Goals as goal
 
 pub returns-in-Ok : goal.returns-in-Ok

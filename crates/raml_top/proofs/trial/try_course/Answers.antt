@@ -3,10 +3,10 @@ use Rattle.raml_syntax.specs.Read.{program_of}
 use Rattle.share_normal.specs.Program.{Kept}
 use Rattle.rules_plan.specs.Read.{program_in}
 use Rattle.raml_words.specs.declared.request.Rule.TheVariants as rule
-use Rattle.raml_top.specs.Outside.{Promised}
-use Rattle.raml_top.specs.Promise.{TriesCall}
-use Rattle.raml_top.specs.Parts.{Gives}
-use Rattle.raml_top.proofs.Proved.{course_goes, course_refused}
+use Rattle.raml_promise.specs.Outside.{Promised}
+use Rattle.raml_promise.specs.Promise.{TriesCall}
+use Rattle.raml_parts.specs.Parts.{Gives}
+use Rattle.raml_parts.proofs.Proved.{course_goes, course_refused}
 use Rattle.raml_top.proofs.trial.try_course.Goals as goal
 
 pub try_function-requires-clause-source : goal.try_function-requires-clause-source

@@ -8,12 +8,12 @@ use Rattle.refusals.specs.Ending as e
 use Rattle.refusals.specs.Ending.{Ending}
 use Rattle.refusals.specs.Line.{no_names}
 use Rattle.refusals.specs.declared.status.Status.TheVariants as s
-use Rattle.raml_top.specs.Outside.{Promised}
-use Rattle.raml_top.specs.Call.{IsNamed, OfArguments}
-use Rattle.raml_top.specs.Promise.{RunsTrial}
-use Rattle.raml_top.proofs.Placing.{named}
-use Rattle.raml_top.proofs.Stepping.{step_refused, step_goes}
-use Rattle.raml_top.proofs.Refusing.{told_refuses}
+use Rattle.raml_promise.specs.Outside.{Promised}
+use Rattle.raml_promise.specs.Call.{IsNamed, OfArguments}
+use Rattle.raml_promise.specs.Promise.{RunsTrial}
+use Rattle.raml_parts.proofs.Placing.{named}
+use Rattle.raml_parts.proofs.Stepping.{step_refused, step_goes}
+use Rattle.raml_parts.proofs.Refusing.{told_refuses}
 use Rattle.raml_top.proofs.trial.try_function.Goals as goal
 
 pub try_call-requires-clause-place : goal.try_call-requires-clause-place

@@ -7,11 +7,11 @@ use Rattle.refusals.specs.Ending.{Ending}
 use Rattle.refusals.specs.Line.{no_names}
 use Rattle.refusals.specs.declared.status.Status.TheVariants as s
 use Rattle.std.proofs.Common.{◌≡◌}
-use Rattle.raml_top.specs.Outside.{Promised}
-use Rattle.raml_top.specs.Steps.{IsTooLong, SourceRefuses, IsTyped, OfSource}
-use Rattle.raml_top.specs.Promise.{Tries}
-use Rattle.raml_top.proofs.Stepping.{step_refused, step_goes}
-use Rattle.raml_top.proofs.Refusing.{told_refuses}
+use Rattle.raml_promise.specs.Outside.{Promised}
+use Rattle.raml_promise.specs.Steps.{IsTooLong, SourceRefuses, IsTyped, OfSource}
+use Rattle.raml_promise.specs.Promise.{Tries}
+use Rattle.raml_parts.proofs.Stepping.{step_refused, step_goes}
+use Rattle.raml_parts.proofs.Refusing.{told_refuses}
 use Rattle.raml_top.proofs.trial.try_source.Goals as goal
 
 pub returns-then-source-most_bytes : goal.returns-then-source-most_bytes

@@ -1,0 +1,130 @@
+-- What parts of a call answer, step by step.
+use Rattle.std.proofs.Common.{◌≡◌, ℕ, List, Result, Ok, Err, refl, ap, subst, inl, inr}
+use Rattle.raml_syntax.specs.Tree.{Text, Prog}
+use Rattle.raml_syntax.specs.Value.{Value}
+use Rattle.call_groups.specs.Groups.{Grouping, IsGrouping}
+use Rattle.rules_soundness_laws.specs.Laws.{normal_of}
+use Rattle.annot_types.specs.Program.{Program}
+use Rattle.annot_types.specs.Certificate.{Certificate}
+use Rattle.refusal_text.specs.declared.plain.Which.{Which}
+use Rattle.refusal_text.specs.declared.plain.Which.TheVariants as w
+use Rattle.cert_json.specs.Told.{IsFile}
+use Rattle.value_text.specs.Reading.{Answers}
+use Rattle.raml_syntax.specs.Types.{types_of}
+use Rattle.refusals.specs.Ending.{Ending, ReadFault, TooLong}
+use Rattle.refusals.specs.Line.{Names, no_names}
+use Rattle.refusals.specs.Refusals.{IsWanting}
+use Rattle.refusals.specs.declared.answer.Report.{Report}
+use Rattle.refusals.specs.declared.answer.Refusal.{Refusal as TheRefusal}
+use Rattle.raml_promise.specs.Outside.{Promised, Store}
+use Rattle.raml_promise.specs.Steps.{Answer, Refusal, Step, refused, goes_on, OfFile, OfSource, OfProgram, OfNormal, file_of}
+use Rattle.raml_promise.specs.Prices.{PricesRefuse, OfPrices}
+use Rattle.price_file.specs.Construct.{Prices}
+use Rattle.price_file.specs.Spelling.{Spells, prices_in}
+use Rattle.refusal_text.specs.declared.task.Analysed.{Analysed}
+use Rattle.raml_promise.specs.Analysis.{OfCertificate, TextRefuses}
+use Rattle.raml_promise.specs.Call.{Placed, IsNamed, OfArguments, OfCall}
+use Rattle.raml_parts.specs.Parts.{Refuses, Gives, IsShort, FileRefuses, IsProgram, ProgramRefuses, ArePrices, PriceFileRefuses, IsCertificateFile, CertificateRefuses, CallRefuses}
+
+-- what follows of each answer follows of what is given
+pub gives_map : (Q R : Answer → Type 0) → ((a : Answer) → Q a → R a) → (r : Result Report TheRefusal) → Gives Q r → Gives R r
+gives_map Q R go (Ok report) h = (h.0, h.1, go _ h.2)
+gives_map Q R go (Err refusal) (inl wanting) = inl wanting
+gives_map Q R go (Err refusal) (inr h) = inr (h.0, h.1, h.2, h.3, go _ h.4)
+
+pub wanting_gives : (Q : Answer → Type 0) (refusal : TheRefusal) → IsWanting refusal → Gives Q (Err refusal)
+wanting_gives Q refusal h = inl h
+
+pub refusal_gives : (Q : Answer → Type 0) (names : Names) (R : Ending → Type 0) → ((e : Ending) → R e → Q (Refusal names e)) →
+    (refusal : TheRefusal) → Refuses names R refusal → Gives Q (Err refusal)
+refusal_gives Q names R go refusal (inl wanting) = inl wanting
+refusal_gives Q names R go refusal (inr h) = inr (names, h.0, h.1, h.2, go h.0 h.3)
+
+pub refuses_map : (names : Names) (Q R : Ending → Type 0) → ((e : Ending) → Q e → R e) → (refusal : TheRefusal) → Refuses names Q refusal → Refuses names R refusal
+refuses_map names Q R go refusal (inl wanting) = inl wanting
+refuses_map names Q R go refusal (inr h) = inr (h.0, h.1, h.2, go h.0 h.3)
+
+-- a step is refused, or goes on
+module _ {X : Type 0} (names : Names) (R : Ending → Type 0) (C : X → Type 0) (Rest : X → Answer → Type 0) where
+  pub step_refused : (refusal : TheRefusal) → Refuses names R refusal → Gives (Step names R C Rest) (Err refusal)
+  step_refused refusal h = refusal_gives (Step names R C Rest) names R (λ e r. refused e r refl) refusal h
+
+  pub step_goes : (x : X) → C x → (r : Result Report TheRefusal) → Gives (Rest x) r → Gives (Step names R C Rest) r
+  step_goes x comes r h = gives_map (Rest x) (Step names R C Rest) (λ a q. goes_on x comes q) r h
+
+-- files
+module _ (store : Store) (which : Which) (file : Text) (Rest : List ℕ → Answer → Type 0) where
+  pub file_refused : (e : Ending) → FileRefuses store which file e → OfFile Promised store which file Rest (Refusal no_names e)
+  file_refused (ReadFault other) h = refused (ReadFault other) (ap ReadFault h.0, h.1) refl
+  file_refused (TooLong other) h = goes_on h.1.0 h.1.1 (refused (TooLong other) (ap TooLong h.0, h.1.2) refl)
+  file_refused e h = absurd h
+
+  pub file_comes : (bytes : List ℕ) → IsShort store which file bytes → (a : Answer) → Rest bytes a → OfFile Promised store which file Rest a
+  file_comes bytes short a rest = goes_on bytes short.read (goes_on tt short.short rest)
+
+-- programs
+module _ (store : Store) (whose : Analysed) (file : Text) (Rest : Prog → Answer → Type 0) where
+  program_refused : (e : Ending) → ProgramRefuses store whose file e → OfProgram Promised store whose file Rest (Refusal no_names e)
+  program_refused e (inl h) = file_refused store (file_of whose) file (λ source. OfSource whose source Rest) e h
+  program_refused e (inr h) = file_comes store (file_of whose) file (λ source. OfSource whose source Rest) h.0 h.1 (Refusal no_names e) (refused e h.2 refl)
+
+  pub program_refusal : (refusal : TheRefusal) → Refuses no_names (ProgramRefuses store whose file) refusal → Gives (OfProgram Promised store whose file Rest) (Err refusal)
+  program_refusal refusal h = refusal_gives (OfProgram Promised store whose file Rest) no_names (ProgramRefuses store whose file) program_refused refusal h
+
+  pub program_goes : (P : Prog) → IsProgram store whose file P → (r : Result Report TheRefusal) → Gives (Rest P) r → Gives (OfProgram Promised store whose file Rest) r
+  program_goes P is r h =
+      gives_map (Rest P) (OfProgram Promised store whose file Rest) (λ a q. file_comes store (file_of whose) file (λ source. OfSource whose source Rest) is.source is.within a (goes_on P is.typed q)) r h
+
+-- tables of prices
+module _ (store : Store) (file : Text) (Rest : Prices → Answer → Type 0) where
+  abbrev OfTable : List ℕ → Answer → Type 0
+  OfTable bytes = Step no_names (PricesRefuse bytes) (Spells bytes) (λ table. Rest (prices_in table))
+
+  prices_refused : (e : Ending) → PriceFileRefuses store file e → OfPrices Promised store file Rest (Refusal no_names e)
+  prices_refused e (inl h) = file_refused store w.Prices file OfTable e h
+  prices_refused e (inr h) = file_comes store w.Prices file OfTable h.0 h.1 (Refusal no_names e) (refused e h.2 refl)
+
+  pub prices_refusal : (refusal : TheRefusal) → Refuses no_names (PriceFileRefuses store file) refusal → Gives (OfPrices Promised store file Rest) (Err refusal)
+  prices_refusal refusal h = refusal_gives (OfPrices Promised store file Rest) no_names (PriceFileRefuses store file) prices_refused refusal h
+
+  pub prices_go : (prices : Prices) → ArePrices store file prices → (r : Result Report TheRefusal) → Gives (Rest prices) r → Gives (OfPrices Promised store file Rest) r
+  prices_go prices are r h =
+      gives_map (Rest prices) (OfPrices Promised store file Rest)
+      (λ a q. file_comes store w.Prices file OfTable are.bytes are.within a (goes_on are.table are.spelled (subst (λ p. Rest p a) are.are q))) r h
+
+-- certificates
+module _ (store : Store) (file : Text) (Rest : Certificate → Answer → Type 0) where
+  abbrev OfText : List ℕ → Answer → Type 0
+  OfText bytes = Step no_names (TextRefuses bytes) (IsFile bytes) Rest
+
+  certificate_refused : (e : Ending) → CertificateRefuses store file e → OfCertificate Promised store file Rest (Refusal no_names e)
+  certificate_refused e (inl h) = file_refused store w.Certificate file OfText e h
+  certificate_refused e (inr h) = file_comes store w.Certificate file OfText h.0 h.1 (Refusal no_names e) (refused e h.2 refl)
+
+  pub certificate_refusal : (refusal : TheRefusal) → Refuses no_names (CertificateRefuses store file) refusal → Gives (OfCertificate Promised store file Rest) (Err refusal)
+  certificate_refusal refusal h = refusal_gives (OfCertificate Promised store file Rest) no_names (CertificateRefuses store file) certificate_refused refusal h
+
+  pub certificate_goes : (c : Certificate) → IsCertificateFile store file c → (r : Result Report TheRefusal) → Gives (Rest c) r → Gives (OfCertificate Promised store file Rest) r
+  certificate_goes c is r h = gives_map (Rest c) (OfCertificate Promised store file Rest) (λ a q. file_comes store w.Certificate file OfText is.bytes is.within a (goes_on c is.is q)) r h
+
+-- calls
+module _ (store : Store) (P : Prog) (name file : Text) (Rest : Placed → List Value → Answer → Type 0) where
+  call_refused : (e : Ending) → CallRefuses store P name file e → OfCall Promised store P name file Rest (Refusal no_names e)
+  call_refused e (inl h) = refused e h refl
+  call_refused e (inr (f, named, inl h)) = goes_on f named (file_refused store w.Data file (λ bytes. OfArguments bytes f.1 (Rest f)) e h)
+  call_refused e (inr (f, named, inr h)) = goes_on f named (file_comes store w.Data file (λ bytes. OfArguments bytes f.1 (Rest f)) h.0 h.1 (Refusal no_names e) (refused e h.2 refl))
+
+  pub call_refusal : (refusal : TheRefusal) → Refuses no_names (CallRefuses store P name file) refusal → Gives (OfCall Promised store P name file Rest) (Err refusal)
+  call_refusal refusal h = refusal_gives (OfCall Promised store P name file Rest) no_names (CallRefuses store P name file) call_refused refusal h
+
+  pub call_goes : (f : Placed) (args : List Value) (bytes : List ℕ) → IsNamed P name f → IsShort store w.Data file bytes →
+      Answers bytes (types_of f.1) (Ok args) →
+      (r : Result Report TheRefusal) → Gives (Rest f args) r → Gives (OfCall Promised store P name file Rest) r
+  call_goes f args bytes named short spelled r h =
+      gives_map (Rest f args) (OfCall Promised store P name file Rest) (λ a q. goes_on f named (file_comes store w.Data file (λ bytes. OfArguments bytes f.1 (Rest f)) bytes short a (goes_on args spelled q))) r h
+
+-- the normal form
+pub normal_gives : (P : Prog) (Rest : Program → Answer → Type 0) (groups : Grouping) (N : Program) → IsGrouping P groups → N ≡ normal_of P groups.list →
+    (r : Result Report TheRefusal) → Gives (Rest N) r → Gives (OfNormal P Rest) r
+normal_gives P Rest groups N grouping same r h =
+    gives_map (Rest N) (OfNormal P Rest) (λ a q. record { groups = groups; grouping = grouping; rest = subst (λ M. Rest M a) same q }) r h

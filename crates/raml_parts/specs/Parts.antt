@@ -1,0 +1,197 @@
+-- What the parts of a call answer.
+use Rattle.std.specs.Prelude.{◌≡◌, ◌≤◌, ◌<◌, ◌⊎◌, ◌^◌, ℕ, List, length, slice_get, Result, Ok, Err, Option, Some, None}
+use Rattle.std.specs.List.{All}
+use Rattle.raml_syntax.specs.Tree.{Text, Function, Prog}
+use Rattle.raml_syntax.specs.Value.{Value, HaveTypes}
+use Rattle.raml_syntax.specs.Types.{types_of}
+use Rattle.value_text.specs.declared.word.Word.{Word}
+use Rattle.value_text.specs.declared.word.Cell.{Cell}
+use Rattle.value_text.specs.Stands.{StandForAll}
+use Rattle.value_text.specs.Reading.{Answers}
+use Rattle.annot_types.specs.Certificate.{Certificate}
+use Rattle.cert_json.specs.Told.{IsFile}
+use Rattle.refusal_text.specs.declared.plain.Which.{Which}
+use Rattle.refusal_text.specs.declared.plain.Which.TheVariants as w
+use Rattle.refusal_text.specs.declared.task.Analysed.{Analysed}
+use Rattle.price_file.specs.Construct.{Prices}
+use Rattle.price_file.specs.Spelling.{Table, Spells, prices_in}
+use Rattle.analysis_report.specs.declared.bounds.FloorFault.{FloorFault}
+use Rattle.analysis_report.specs.declared.bounds.FloorFault.TheVariants as floor
+use Rattle.analysis_report.specs.declared.powers_fault.PowersFault.{PowersFault}
+use Rattle.analysis_report.specs.declared.powers_fault.PowersFault.TheVariants as powers
+use Rattle.refusals.specs.Ending.{Ending, Usage, ReadFault, TooLong, Source, Types, NoFunction, ending_of}
+use Rattle.refusals.specs.Line.{Names, no_names, line_of}
+use Rattle.refusals.specs.Refusals.{line_text, IsWanting, IsToldOr}
+use Rattle.refusals.specs.declared.answer.Report.{Report}
+use Rattle.refusals.specs.declared.answer.Refusal.{Refusal as TheRefusal}
+use Rattle.refusals.specs.declared.status.Status.{Status}
+use Rattle.refusals.specs.declared.status.Status.TheVariants as status
+use Rattle.refusals.specs.declared.status.OverflowAt.TheVariants as overflow
+use Rattle.raml_promise.specs.Outside.{Promised, Store, IsRead}
+use Rattle.raml_promise.specs.Steps.{Answer, Refusal, most_bytes, SourceRefuses, IsTyped, RefusedOf, file_of}
+use Rattle.raml_promise.specs.Steps as s
+use Rattle.raml_promise.specs.Analysis.{TextRefuses}
+use Rattle.raml_promise.specs.Prices.{PricesRefuse}
+use Rattle.raml_promise.specs.Call.{Placed, IsNamed, DataRefuses, Limits, Ends}
+use Rattle.raml_words.specs.Words as words
+use Rattle.raml_words.specs.Words.{Request, AsksNothing}
+use Rattle.raml_parts.specs.declared.run.Limits.{Limits as TheLimits}
+use Rattle.raml_parts.specs.declared.call.Arguments.{Arguments}
+use Rattle.raml_parts.specs.declared.call.Call.{Call}
+use Rattle.raml_syntax.specs.Place.{place_of}
+use Rattle.simple_types.specs.Walk.{walk_program}
+use Rattle.value_text.specs.Spelling.{sizes}
+use Rattle.raml_syntax.specs.Node.{WithinLimits, program_nodes}
+
+-- the refusal has an ending of which Q holds, and its line is that of its status; or memory is wanting
+abbrev pub Refuses : Names → (Ending → Type 0) → TheRefusal → Type 0
+Refuses names Q refusal =
+    IsWanting refusal
+    ⊎ ((e : Ending) × (ending_of refusal.status ≡ Some e) × (line_text refusal.line ≡ line_of names refusal.status) × Q e)
+
+-- the report, or the refusal, is an answer of which Q holds; or memory is wanting
+abbrev pub Gives : (Answer → Type 0) → Result Report TheRefusal → Type 0
+Gives Q (Ok report) = (e : Ending) × (ending_of report.status ≡ Some e) × Q (s.Report e report.text.items)
+Gives Q (Err refusal) =
+    IsWanting refusal
+    ⊎ ((names : Names) × (e : Ending) × (ending_of refusal.status ≡ Some e) × (line_text refusal.line ≡ line_of names refusal.status) × Q (Refusal names e))
+
+abbrev pub Before : (Text → ℕ) → (Text → ℕ) → Type 0
+Before before now = (name : Text) → before name ≤ now name
+
+-- the bytes of a file, no more than its limit
+pub record IsShort (store : Store) (which : Which) (file bytes : List ℕ) : Type 0 where
+  pub read : IsRead Promised store (most_bytes which) file (Some bytes)
+  pub short : length bytes ≤ most_bytes which
+
+-- why there are none
+abbrev pub FileRefuses : Store → Which → List ℕ → Ending → Type 0
+FileRefuses store which file (ReadFault other) = (other ≡ which) × IsRead Promised store (most_bytes which) file None
+FileRefuses store which file (TooLong other) =
+    (other ≡ which) × ((bytes : List ℕ) × IsRead Promised store (most_bytes which) file (Some bytes) × s.IsTooLong which bytes)
+FileRefuses store which file _ = ⊥
+
+-- the typed program that a file spells
+pub record IsProgram (store : Store) (whose : Analysed) (file : List ℕ) (P : Prog) : Type 0 where
+  pub source : List ℕ
+  pub within : IsShort store (file_of whose) file source
+  pub typed : IsTyped source P
+
+abbrev pub ProgramRefuses : Store → Analysed → List ℕ → Ending → Type 0
+ProgramRefuses store whose file e =
+    FileRefuses store (file_of whose) file e ⊎ ((source : List ℕ) × IsShort store (file_of whose) file source × RefusedOf whose (SourceRefuses source) e)
+
+-- the prices that a file tells
+pub record ArePrices (store : Store) (file : List ℕ) (prices : Prices) : Type 0 where
+  pub bytes : List ℕ
+  pub within : IsShort store w.Prices file bytes
+  pub table : Table
+  pub spelled : Spells bytes table
+  pub are : prices ≡ prices_in table
+
+abbrev pub PriceFileRefuses : Store → List ℕ → Ending → Type 0
+PriceFileRefuses store file e =
+    FileRefuses store w.Prices file e ⊎ ((bytes : List ℕ) × IsShort store w.Prices file bytes × PricesRefuse bytes e)
+
+-- the certificate that a file is
+pub record IsCertificateFile (store : Store) (file : List ℕ) (c : Certificate) : Type 0 where
+  pub bytes : List ℕ
+  pub within : IsShort store w.Certificate file bytes
+  pub is : IsFile bytes c
+
+abbrev pub CertificateRefuses : Store → List ℕ → Ending → Type 0
+CertificateRefuses store file e =
+    FileRefuses store w.Certificate file e ⊎ ((bytes : List ℕ) × IsShort store w.Certificate file bytes × TextRefuses bytes e)
+
+-- why a call is not read
+abbrev pub CallRefuses : Store → Prog → List ℕ → List ℕ → Ending → Type 0
+CallRefuses store P name file e =
+    ((e ≡ NoFunction) × (place_of name P ≡ None))
+    ⊎ ((f : Placed) × IsNamed P name f
+    × (FileRefuses store w.Data file e ⊎ ((bytes : List ℕ) × IsShort store w.Data file bytes × DataRefuses bytes f.1 e)))
+
+-- what is known of a typed program that a source within its limit spells
+pub record IsReady (P : Prog) : Type 0 where
+  pub limits : WithinLimits P
+  pub few_nodes : program_nodes P ≤ 1048576
+  pub parameters : All (λ (g : Function). 1 ≤ length g.params) P
+
+-- the program that a source spells is not typed
+abbrev pub TypesRefuse : Prog → Ending → Type 0
+TypesRefuse P (Source (Types fault)) = walk_program P ≡ Err fault
+TypesRefuse P _ = ⊥
+
+-- the refusal of a bound that is not worked out
+abbrev pub FloorRefusal : FloorFault → TheRefusal → Type 0
+FloorRefusal (floor.Leaves meter) refusal = IsToldOr no_names (status.Overflow (overflow.Point meter)) refusal
+FloorRefusal floor.NoMemory refusal = IsWanting refusal
+
+-- the refusal of a power form that is not worked out
+abbrev pub PowerRefusal : Names → PowersFault → TheRefusal → Type 0
+PowerRefusal names (powers.Leaves fun meter) refusal = IsToldOr names (status.Overflow (overflow.Powers fun meter)) refusal
+PowerRefusal names powers.NoMemory refusal = IsWanting refusal
+
+-- the words stand in these cells for arguments of the function
+pub record HasArguments (P : Prog) (f : Placed) (cells : List Cell) (words : List Word) (args : List Value) : Type 0 where
+  pub there : slice_get P f.0 ≡ Some f.1
+  pub stand : StandForAll cells words args
+  pub types : HaveTypes args (types_of f.1)
+  pub few_cells : length cells < 2 ^ 31
+  pub small : sizes args ≤ 1048576
+
+-- the report of the run of the function at the place on these words
+abbrev pub RanOn : Prog → ℕ → List Cell → List Word → Limits → Status → List ℕ → Type 0
+RanOn P place cells words limits how text =
+    (f : Placed) (args : List Value) → f.0 ≡ place → HasArguments P f cells words args →
+    (e : Ending) × (ending_of how ≡ Some e) × Ends Promised P f args limits text e
+
+abbrev pub limits_of : TheLimits → Limits
+limits_of limits = record { steps = limits.steps; cells = limits.cells }
+
+-- The arguments are what the bytes spell for the function at the place.
+pub record ReadsArguments (P : Prog) (place : ℕ) (bytes : List ℕ) (args : Arguments) : Type 0 where
+  pub fun : Function
+  pub values : List Value
+  pub arguments : HasArguments P (place, fun) args.heap.cells args.words.items values
+  pub spelled : Answers bytes (types_of fun) (Ok values)
+
+pub record ArgumentsRefuse (P : Prog) (place : ℕ) (bytes : List ℕ) (e : Ending) : Type 0 where
+  pub fun : Function
+  pub there : slice_get P place ≡ Some fun
+  pub refuses : DataRefuses bytes fun e
+
+-- The call is of the function of the name, on the arguments that the file spells.
+pub record ReadsCall (store : Store) (P : Prog) (name file : List ℕ) (call : Call) : Type 0 where
+  pub place : place_of name P ≡ Some call.place.0
+  pub bytes : List ℕ
+  pub within : IsShort store w.Data file bytes
+  pub reads : ReadsArguments P call.place.0 bytes call.args
+
+-- the call is of this function on these arguments
+pub record IsCallOf (P : Prog) (f : Placed) (call : Call) (args : List Value) : Type 0 where
+  pub place : f.0 ≡ call.place.0
+  pub arguments : HasArguments P f call.args.heap.cells call.args.words.items args
+
+-- the cells that the words allow a run
+abbrev pub CellsWithin : Option ℕ → Type 0
+CellsWithin None = Unit {0}
+CellsWithin (Some cells) = cells ≤ 16777216
+
+abbrev pub DegreeWithin : Option ℕ → Type 0
+DegreeWithin None = Unit {0}
+DegreeWithin (Some degree) = (1 ≤ degree) × (degree ≤ 4)
+
+-- the numbers of a request are within their ranges
+abbrev pub IsWithin : Request → Type 0
+IsWithin (words.Analyse file degree rule) = (1 ≤ degree) × (degree ≤ 4)
+IsWithin (words.Certify file degree rule) = (1 ≤ degree) × (degree ≤ 4)
+IsWithin (words.Run file name input steps cells degree) = (steps ≤ 1000000000) × CellsWithin cells × DegreeWithin degree
+IsWithin (words.Priced file prices degree) = (1 ≤ degree) × (degree ≤ 4)
+IsWithin (words.Spend file prices name input steps cells) = (steps ≤ 1000000000) × CellsWithin cells
+IsWithin (words.Compare file other degree) = (1 ≤ degree) × (degree ≤ 4)
+IsWithin (words.Powers file degree) = (1 ≤ degree) × (degree ≤ 4)
+IsWithin (words.Trial count) = count ≤ 100
+IsWithin request = Unit {0}
+
+abbrev pub WordsRefuse : List Text → Ending → Type 0
+WordsRefuse given e = (e ≡ Usage) × AsksNothing given

@@ -1,0 +1,159 @@
+-- What is needed for an answer brings it.
+use Rattle.std.proofs.Common.{◌≡◌, ◌⊎◌, ℕ, List, [], Option, Some, None, refl, sym, ◌∙◌, inl, inr}
+use Rattle.std.specs.Prelude.{◌++◌, codes}
+use Rattle.raml_syntax.specs.Tree.{Text, Prog}
+use Rattle.raml_syntax.specs.Value.{Value}
+use Rattle.raml_syntax.specs.Types.{Typed}
+use Rattle.raml_syntax.specs.Node.{WithinLimits}
+use Rattle.raml_parse.proofs.Limits.{within_limits}
+use Rattle.rules_soundness_laws.specs.Laws.{normal_of}
+use Rattle.annot_types.specs.Program.{Program}
+use Rattle.annot_types.specs.Certificate.{Certificate}
+use Rattle.raml_words.specs.Words as w
+use Rattle.raml_words.specs.Words.{Request, Asks, AsksNothing}
+use Rattle.raml_words.proofs.Worded.{one_request}
+use Rattle.raml_words.specs.declared.request.Rule.{Rule}
+use Rattle.raml_words.specs.declared.request.Rule.TheVariants as rule
+use Rattle.stack_compile.specs.Text.{code_text}
+use Rattle.cert_json.specs.Told.{text_of}
+use Rattle.report_text.specs.Report.{type_lines}
+use Rattle.report_text.specs.Trial.{trial_text, trial_function, trial_data}
+use Rattle.refusal_text.specs.declared.plain.Which.TheVariants as which
+use Rattle.analysis_report.specs.Lines.{AreLines}
+use Rattle.analysis_report.specs.Comparison.{AreComparisons}
+use Rattle.price_file.specs.Construct.{Prices}
+use Rattle.price_file.specs.Listed.{AreSmall}
+use Rattle.price_file.specs.Applied.{applied_function, applied_program}
+use Rattle.price_file.proofs.Kept.{keeps_programs}
+use Rattle.refusal_text.specs.declared.task.Analysed.{Analysed}
+use Rattle.refusal_text.specs.declared.task.Analysed.TheVariants as analysed
+use Rattle.refusals.specs.Line.{no_names}
+use Rattle.refusals.specs.declared.status.Status.{Status}
+use Rattle.refusals.specs.declared.status.Status.TheVariants.{NoMemory}
+use Rattle.raml_promise.specs.Outside.{Outside, Promised, Needed, Store}
+use Rattle.raml_promise.specs.Steps.{Answer, Report, Refusal, ending_in, Prints, IsTyped, OfProgram, OfNormal}
+use Rattle.raml_promise.specs.Prices.{ArePricedLines, Spends}
+use Rattle.raml_promise.specs.Analysis.{OfCourse, OfCheck}
+use Rattle.raml_promise.specs.Call.{Placed, Limits, OfCall, OfFloors}
+use Rattle.raml_promise.specs.Promise.{PrintsLines, PrintsCertificate, ListsTypes, ListsCode, Analyses, Certifies, Verifies, RunsBounded, BoundedCall, PricesLines, PricesProgram, SpendsWithin, ComparesWith, Compares, PrintsPowers, RunsTrial, TriesCall, Tries, Answers, WordsAnswer, EndsBy, Cause, EndsAlike, IsWritable, Forced}
+use Rattle.raml_promise.proofs.Alike.{alike_same, Same, steps_same, prints_same}
+use Rattle.raml_promise.proofs.OneSource.{short_same, source_same, program_same}
+use Rattle.raml_promise.specs.Known.{CourseLaws}
+use Rattle.raml_promise.proofs.OneCourse.{normal_same, course_same}
+use Rattle.raml_promise.proofs.OneCheck.{certificate_same, check_same}
+use Rattle.raml_promise.proofs.OnePrices.{prices_same}
+use Rattle.raml_promise.proofs.OnePowers.{powers_same}
+use Rattle.raml_promise.proofs.OneRun.{function_same, arguments_same, call_same, floors_same, runs_same}
+
+-- a typed program that is within the limits
+record IsKnown (P : Prog) : Type 0 where
+  pub typed : Typed P
+  pub limits : WithinLimits P
+
+-- such is what a source spells, also with prices written out
+known : (source : List ℕ) (P : Prog) → IsTyped source P → IsKnown P
+known source P is = record { typed = is.typed; limits = within_limits 200 is.spelled.tokens P is.spelled.derives }
+
+known_under : (prices : Prices) → AreSmall prices → (P : Prog) → IsKnown P → IsKnown (applied_program prices P)
+known_under prices small P is = let keeps = keeps_programs prices P in record { typed = keeps.typed is.typed; limits = keeps.limits small is.limits }
+
+module _ (laws : CourseLaws) where
+  -- over the courses of one program
+  of_courses : (whose : Analysed) (P : Prog) → IsKnown P → (degree : ℕ) (rule : Rule) (Q T : Program → Certificate → Answer → Type 0) →
+      ((N : Program) (c : Certificate) (a b : Answer) → Q N c a → T N c b → Same a b) → (a b : Answer) →
+      OfNormal P (λ N. OfCourse Needed whose P N degree rule (Q N)) a → OfNormal P (λ N. OfCourse Promised whose P N degree rule (T N)) b → Same a b
+  of_courses whose P known degree rule Q T rest =
+      normal_same P (λ N. OfCourse Needed whose P N degree rule (Q N)) (λ N. OfCourse Promised whose P N degree rule (T N))
+      (λ groups grouping. course_same laws whose P known.typed known.limits.numbers groups grouping degree rule (Q (normal_of P groups.list)) (T (normal_of P groups.list)) (rest (normal_of P groups.list)))
+
+  verified_same : (store : Store) (file : Text) (P : Prog) (a b : Answer) → Verifies Needed store file P a → Verifies Promised store file P b → Same a b
+  verified_same store file P =
+      certificate_same store file (λ c. OfNormal P (λ N. OfCheck Needed P N c (PrintsLines Needed P N c))) (λ c. OfNormal P (λ N. OfCheck Promised P N c (PrintsLines Promised P N c)))
+      (λ c. normal_same P (λ N. OfCheck Needed P N c (PrintsLines Needed P N c)) (λ N. OfCheck Promised P N c (PrintsLines Promised P N c))
+      (λ groups grouping. check_same (normal_of P groups.list) c P (PrintsLines Needed P (normal_of P groups.list) c) (PrintsLines Promised P (normal_of P groups.list) c)
+      (prints_same (AreLines P (normal_of P groups.list) c) (AreLines P (normal_of P groups.list) c))))
+
+  bounded_same : (P : Prog) → IsKnown P → (steps : ℕ) (cells : Option ℕ) (degree : ℕ) (f : Placed) (args : List Value) (a b : Answer) →
+      BoundedCall Needed steps cells degree P f args a → BoundedCall Promised steps cells degree P f args b → Same a b
+  bounded_same P is steps cells degree f args =
+      of_courses analysed.Program P is degree rule.Least
+      (λ N c. OfFloors Needed P N c f args (λ floors. RunsBounded Needed P f args steps cells floors)) (λ N c. OfFloors Promised P N c f args (λ floors. RunsBounded Promised P f args steps cells floors))
+      (λ N c. floors_same P N c f args (λ floors. RunsBounded Needed P f args steps cells floors) (λ floors. RunsBounded Promised P f args steps cells floors)
+      (λ floors. runs_same P f args _ _ _ _ _))
+
+  tried_same : (P : Prog) → IsKnown P → (count : ℕ) (a b : Answer) → Tries Needed count P a → Tries Promised count P b → Same a b
+  tried_same P is count =
+      of_courses analysed.Program P is 1 rule.Least (TriesCall Needed count P) (TriesCall Promised count P)
+      (λ N c. function_same P (trial_function count) _ _
+      (λ f. arguments_same trial_data f.1 (λ args. RunsTrial Needed count P N c f args) (λ args. RunsTrial Promised count P N c f args) (λ args. runs_same P f args _ _ _ _ _)))
+
+  priced_same : (store : Store) (file : Text) (degree : ℕ) (P : Prog) → IsKnown P → (a b : Answer) → PricesProgram Needed store file degree P a → PricesProgram Promised store file degree P b → Same a b
+  priced_same store file degree P is =
+      prices_same store file (PricesLines Needed degree P) (PricesLines Promised degree P)
+      (λ prices small. of_courses analysed.Program (applied_program prices P) (known_under prices small P is) degree rule.Least
+      (λ N c. Prints Needed (ArePricedLines prices P N c)) (λ N c. Prints Promised (ArePricedLines prices P N c)) (λ N c. prints_same (ArePricedLines prices P N c) (ArePricedLines prices P N c)))
+
+  spent_same : (store : Store) (file name input : Text) (limits : Limits) (P : Prog) (a b : Answer) → SpendsWithin Needed store file name input limits P a →
+      SpendsWithin Promised store file name input limits P b → Same a b
+  spent_same store file name input limits P =
+      prices_same store file
+      (λ prices. OfCall Needed store P name input (λ f args. Spends Needed prices P f args limits)) (λ prices. OfCall Promised store P name input (λ f args. Spends Promised prices P f args limits))
+      (λ prices small. call_same store P name input (λ f args. Spends Needed prices P f args limits) (λ f args. Spends Promised prices P f args limits) (run_same prices))
+    where
+      run_same : (prices : Prices) (f : Placed) (args : List Value) (a b : Answer) → Spends Needed prices P f args limits a → Spends Promised prices P f args limits b → Same a b
+      run_same prices f args a b h k = runs_same (applied_program prices P) (f.0, applied_function prices f.1) args limits [] [] [] [] a b h.runs k.runs
+
+  compared_same : (store : Store) (file : Text) (degree : ℕ) (P : Prog) → IsKnown P → (a b : Answer) → Compares Needed store file degree P a → Compares Promised store file degree P b → Same a b
+  compared_same store file degree P is =
+      of_courses analysed.Program P is degree rule.Least
+      (λ N c. OfProgram Needed store analysed.Other file (ComparesWith Needed degree P N c)) (λ N c. OfProgram Promised store analysed.Other file (ComparesWith Promised degree P N c))
+      (λ N c. program_same store analysed.Other file (ComparesWith Needed degree P N c) (ComparesWith Promised degree P N c)
+      (λ source Q typed. of_courses analysed.Other Q (known source Q typed) degree rule.Least
+      (λ M e. Prints Needed (AreComparisons P N c Q M e)) (λ M e. Prints Promised (AreComparisons P N c Q M e)) (λ M e. prints_same (AreComparisons P N c Q M e) (AreComparisons P N c Q M e))))
+
+  answers_same : (store : Store) (request : Request) (a b : Answer) → Answers Needed store request a → Answers Promised store request b → Same a b
+  answers_same store (w.Types file) = program_same store analysed.Program file (ListsTypes Needed) (ListsTypes Promised) (λ source P is. prints_same (λ text. text ≡ type_lines P) (λ text. text ≡ type_lines P))
+  answers_same store (w.Code file) = program_same store analysed.Program file (ListsCode Needed) (ListsCode Promised) (λ source P is. prints_same (λ text. text ≡ code_text P) (λ text. text ≡ code_text P))
+  answers_same store (w.Analyse file degree rule) =
+      program_same store analysed.Program file (Analyses Needed degree rule) (Analyses Promised degree rule)
+      (λ source P is. of_courses analysed.Program P (known source P is) degree rule (λ N c. PrintsLines Needed P N c) (λ N c. PrintsLines Promised P N c) (λ N c. prints_same (AreLines P N c) (AreLines P N c)))
+  answers_same store (w.Certify file degree rule) =
+      program_same store analysed.Program file (Certifies Needed degree rule) (Certifies Promised degree rule)
+      (λ source P is. of_courses analysed.Program P (known source P is) degree rule (λ N c. PrintsCertificate Needed c) (λ N c. PrintsCertificate Promised c) (λ N c. prints_same (λ text. text ≡ text_of c ++ codes "\n") (λ text. text ≡ text_of c ++ codes "\n")))
+  answers_same store (w.Verify file certificate) =
+      program_same store analysed.Program file (Verifies Needed store certificate) (Verifies Promised store certificate) (λ source P is. verified_same store certificate P)
+  answers_same store (w.Run file name input steps cells None) =
+      program_same store analysed.Program file _ _ (λ source P is. call_same store P name input _ _ (λ f args. runs_same P f args _ _ _ _ _))
+  answers_same store (w.Run file name input steps cells (Some degree)) =
+      program_same store analysed.Program file _ _ (λ source P is. call_same store P name input _ _ (bounded_same P (known source P is) steps cells degree))
+  answers_same store (w.Priced file prices degree) = program_same store analysed.Program file _ _ (λ source P is. priced_same store prices degree P (known source P is))
+  answers_same store (w.Spend file prices name input steps cells) = program_same store analysed.Program file _ _ (λ source P is. spent_same store prices name input _ P)
+  answers_same store (w.Compare file other degree) = program_same store analysed.Program file _ _ (λ source P is. compared_same store other degree P (known source P is))
+  answers_same store (w.Powers file degree) =
+      program_same store analysed.Program file _ _
+      (λ source P is. of_courses analysed.Program P (known source P is) degree rule.Least (PrintsPowers Needed P) (PrintsPowers Promised P) (λ N c. powers_same P N c))
+  answers_same store (w.Trial count) =
+      short_same which.Program (trial_text count) _ _ (source_same (trial_text count) analysed.Program _ _ (λ P is. tried_same P (known (trial_text count) P is) count))
+
+  words_same : (words : List Text) (store : Store) (a b : Answer) → WordsAnswer Needed words store a → WordsAnswer Promised words store b → Same a b
+  words_same words store =
+      steps_same no_names no_names _ _ (Asks words) (Asks words) (λ request. Answers Needed store request) (λ request. Answers Promised store request)
+      (record {
+        refusals = λ e f r s. alike_same e f (r.0 ∙ sym s.0);
+        not_left = λ e request r asks. r.1 request asks;
+        not_right = λ request e asks r. r.1 request asks;
+        one = λ r s h k. one_request words r s h k;
+      })
+      (λ request x y. answers_same store request)
+
+  -- a call whose cause is known ends as what is needed brings
+  pub causes_force : (o : Outside) (status : Status) → Cause o status → Forced o status
+  causes_force o status (inl h) a needed writable = inl h.0
+  causes_force o status (inr (b, comes, ends)) a needed writable = by a b (words_same o.words o.store a b needed comes) writable ends
+    where
+      by : (a b : Answer) → Same a b → IsWritable o.out a → EndsBy o b status → (status ≡ NoMemory) ⊎ EndsAlike (ending_in a) status
+      by (Report e text) (Report f other) same writable (inl h) = inr (f, h.0, same)
+      by (Report e text) (Report f other) same writable (inr h) = absurd (writable h.1.1)
+      by (Refusal names e) (Refusal others f) same writable h = inr (f, h.0, same)
+      by (Report e text) (Refusal others f) same writable h = absurd same
+      by (Refusal names e) (Report f other) same writable h = absurd same

@@ -1,0 +1,5 @@
+use Rattle.raml_promise.proofs.One.{causes_force}
+use Rattle.raml_promise.proofs.laws.causes_force.Goals as goal
+
+pub returns : goal.returns
+returns c = causes_force c.course_laws.ensures

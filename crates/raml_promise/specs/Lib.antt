@@ -1,0 +1,7 @@
+pub mod Outside
+pub mod Steps
+pub mod Analysis
+pub mod Call
+pub mod Prices
+pub mod Promise
+pub mod Known

@@ -1,0 +1,188 @@
+-- What the top call promises.
+use Rattle.std.specs.Prelude.{◌≡◌, ◌⊎◌, ℕ, List, [], ◌++◌, Option, Some, None, codes}
+use Rattle.raml_syntax.specs.Tree.{Text, Prog}
+use Rattle.raml_syntax.specs.Value.{Value}
+use Rattle.raml_words.specs.Words as w
+use Rattle.raml_words.specs.Words.{Request, Asks, AsksNothing}
+use Rattle.raml_words.specs.declared.request.Rule.{Rule}
+use Rattle.raml_words.specs.declared.request.Rule.TheVariants as rule
+use Rattle.stack_compile.specs.Text.{code_text}
+use Rattle.cost_free.specs.declared.task.Meter.TheVariants.{Ticks, Cells, Work}
+use Rattle.annot_types.specs.Program.{Program}
+use Rattle.annot_types.specs.Certificate.{Certificate}
+use Rattle.infer_spec.specs.Places.{stage}
+use Rattle.cert_json.specs.Told.{text_of}
+use Rattle.report_text.specs.Report.{type_lines}
+use Rattle.report_text.specs.Claims.{lines_text}
+use Rattle.report_text.specs.RunBounds.{run_bound_lines}
+use Rattle.report_text.specs.Trial.{trial_text, trial_function, trial_data, functions_line}
+use Rattle.price_file.specs.Construct.{Prices}
+use Rattle.price_file.specs.Applied.{applied_program}
+use Rattle.analysis_report.specs.Lines.{lines_of, AreLines}
+use Rattle.analysis_report.specs.Comparison.{AreComparisons}
+use Rattle.analysis_report.specs.Powers.{ArePowersFitting, ArePowerLines}
+use Rattle.analysis_report.specs.Floors.{Floors}
+use Rattle.refusals.specs.Ending.{Ending, Usage, Overflows, OnTask, OfOther, ending_of}
+use Rattle.refusals.specs.Line.{Names, no_names, line_of}
+use Rattle.refusals.specs.declared.status.Status.{Status}
+use Rattle.refusals.specs.declared.status.Status.TheVariants.{WriteFault, NoMemory}
+use Rattle.raml_promise.specs.Outside.{Outside, Store, Sink, Side, Promised, Needed, Rises, GainsNothing, Gains, GainsFront}
+use Rattle.raml_promise.specs.Steps.{Answer, Report, Refusal, ending_in, Step, Test, Prints, OfShort, OfSource, OfProgram, OfNormal, names_of}
+use Rattle.raml_promise.specs.Analysis.{OfCourse, OfCertificate, OfCheck, PowersRefuse}
+use Rattle.raml_promise.specs.Prices.{OfPrices, ArePricedLines, Spends}
+use Rattle.raml_promise.specs.Call.{Placed, Limits, OfFunction, OfArguments, OfCall, OfFloors, Runs, cells_or}
+use Rattle.refusal_text.specs.declared.plain.Which.TheVariants as which
+use Rattle.refusal_text.specs.declared.task.Analysed.TheVariants as analysed
+
+-- ---- the commands, each of a program
+
+-- the types of its functions, and their code
+abbrev pub ListsTypes : Side → Prog → Answer → Type 0
+ListsTypes side P = Prints side (λ text. text ≡ type_lines P)
+
+abbrev pub ListsCode : Side → Prog → Answer → Type 0
+ListsCode side P = Prints side (λ text. text ≡ code_text P)
+
+-- the lines of a certificate, each function's in the order of the source; and its text
+abbrev pub PrintsLines : Side → Prog → Program → Certificate → Answer → Type 0
+PrintsLines side P N c = Prints side (AreLines P N c)
+
+abbrev pub PrintsCertificate : Side → Certificate → Answer → Type 0
+PrintsCertificate side c = Prints side (λ text. text ≡ text_of c ++ codes "\n")
+
+-- The lines of the certificate of the course of its analysis, and the certificate.
+abbrev pub Analyses : Side → ℕ → Rule → Prog → Answer → Type 0
+Analyses side degree rule P = OfNormal P (λ N. OfCourse side analysed.Program P N degree rule (λ c. PrintsLines side P N c))
+
+abbrev pub Certifies : Side → ℕ → Rule → Prog → Answer → Type 0
+Certifies side degree rule P = OfNormal P (λ N. OfCourse side analysed.Program P N degree rule (λ c. PrintsCertificate side c))
+
+-- The lines of a certificate that is read.
+abbrev pub Verifies : Side → Store → Text → Prog → Answer → Type 0
+Verifies side store file P = OfCertificate side store file (λ c. OfNormal P (λ N. OfCheck side P N c (PrintsLines side P N c)))
+
+-- A run within limits.
+abbrev pub RunsWithin : Side → Store → Text → Text → Limits → Prog → Answer → Type 0
+RunsWithin side store name file limits P = OfCall side store P name file (λ f args. Runs side P f args limits [] [])
+
+-- One with its bounds at the arguments, which tell how many cells it may take where the words do not.
+abbrev pub bound_lines : Floors → Text
+bound_lines floors = run_bound_lines (floors Ticks) (floors Cells) (floors Work)
+
+abbrev pub RunsBounded : Side → Prog → Placed → List Value → ℕ → Option ℕ → Floors → Answer → Type 0
+RunsBounded side P f args steps cells floors =
+    Runs side P f args (record { steps = steps; cells = cells_or cells (floors Cells) }) [] (bound_lines floors)
+
+abbrev pub BoundedCall : Side → ℕ → Option ℕ → ℕ → Prog → Placed → List Value → Answer → Type 0
+BoundedCall side steps cells degree P f args = OfNormal P (λ N. OfCourse side analysed.Program P N degree rule.Least (λ c.
+    OfFloors side P N c f args (λ floors. RunsBounded side P f args steps cells floors)))
+
+abbrev pub RunsWithBounds : Side → Store → Text → Text → ℕ → Option ℕ → ℕ → Prog → Answer → Type 0
+RunsWithBounds side store name file steps cells degree P = OfCall side store P name file (λ f args. BoundedCall side steps cells degree P f args)
+
+-- The lines of ticks of a program under a table of prices; and a run of it, whose ticks are its cost under the prices.
+abbrev pub PricesLines : Side → ℕ → Prog → Prices → Answer → Type 0
+PricesLines side degree P prices = OfNormal (applied_program prices P) (λ N.
+    OfCourse side analysed.Program (applied_program prices P) N degree rule.Least (λ c. Prints side (ArePricedLines prices P N c)))
+
+abbrev pub PricesProgram : Side → Store → Text → ℕ → Prog → Answer → Type 0
+PricesProgram side store file degree P = OfPrices side store file (PricesLines side degree P)
+
+abbrev pub SpendsWithin : Side → Store → Text → Text → Text → Limits → Prog → Answer → Type 0
+SpendsWithin side store file name input limits P =
+    OfPrices side store file (λ prices. OfCall side store P name input (λ f args. Spends side prices P f args limits))
+
+-- How the bounds of a program stand to those of another. The program is analysed before the other is read.
+abbrev pub ComparesWith : Side → ℕ → Prog → Program → Certificate → Prog → Answer → Type 0
+ComparesWith side degree P N c Q = OfNormal Q (λ M.
+    OfCourse side analysed.Other Q M degree rule.Least (λ e. Prints side (AreComparisons P N c Q M e)))
+
+abbrev pub Compares : Side → Store → Text → ℕ → Prog → Answer → Type 0
+Compares side store file degree P = OfNormal P (λ N. OfCourse side analysed.Program P N degree rule.Least (λ c.
+    OfProgram side store analysed.Other file (ComparesWith side degree P N c)))
+
+-- The bounds of flat functions as powers of element counts.
+abbrev pub PrintsPowers : Side → Prog → Program → Certificate → Answer → Type 0
+PrintsPowers side P N c = Test (names_of P N) (PowersRefuse P N c) (ArePowersFitting P N c) (Prints side (ArePowerLines P N c))
+
+abbrev pub ShowsPowers : Side → ℕ → Prog → Answer → Type 0
+ShowsPowers side degree P = OfNormal P (λ N. OfCourse side analysed.Program P N degree rule.Least (PrintsPowers side P N))
+
+-- Of a made program: how many functions it has, the lines of the last one, and its run.
+abbrev pub RunsTrial : Side → ℕ → Prog → Program → Certificate → Placed → List Value → Answer → Type 0
+RunsTrial side count P N c f args =
+    Runs side P f args (record { steps = 10000000; cells = 1048576 }) (functions_line count ++ lines_text P (lines_of N c f.0)) []
+
+abbrev pub TriesCall : Side → ℕ → Prog → Program → Certificate → Answer → Type 0
+TriesCall side count P N c =
+    OfFunction P (trial_function count) (λ f. OfArguments trial_data f.1 (λ args. RunsTrial side count P N c f args))
+
+abbrev pub Tries : Side → ℕ → Prog → Answer → Type 0
+Tries side count P = OfNormal P (λ N. OfCourse side analysed.Program P N 1 rule.Least (λ c. TriesCall side count P N c))
+
+-- what a request asks for
+abbrev pub Answers : Side → Store → Request → Answer → Type 0
+Answers side store (w.Types file) = OfProgram side store analysed.Program file (ListsTypes side)
+Answers side store (w.Code file) = OfProgram side store analysed.Program file (ListsCode side)
+Answers side store (w.Analyse file degree rule) = OfProgram side store analysed.Program file (Analyses side degree rule)
+Answers side store (w.Certify file degree rule) = OfProgram side store analysed.Program file (Certifies side degree rule)
+Answers side store (w.Verify file certificate) = OfProgram side store analysed.Program file (Verifies side store certificate)
+Answers side store (w.Run file name input steps cells None) =
+    OfProgram side store analysed.Program file (RunsWithin side store name input (record { steps = steps; cells = cells_or cells None }))
+Answers side store (w.Run file name input steps cells (Some degree)) =
+    OfProgram side store analysed.Program file (RunsWithBounds side store name input steps cells degree)
+Answers side store (w.Priced file prices degree) = OfProgram side store analysed.Program file (PricesProgram side store prices degree)
+Answers side store (w.Spend file prices name input steps cells) =
+    OfProgram side store analysed.Program file (SpendsWithin side store prices name input (record { steps = steps; cells = cells_or cells None }))
+Answers side store (w.Compare file other degree) = OfProgram side store analysed.Program file (Compares side store other degree)
+Answers side store (w.Powers file degree) = OfProgram side store analysed.Program file (ShowsPowers side degree)
+Answers side store (w.Trial count) = OfShort which.Program (trial_text count) (OfSource analysed.Program (trial_text count) (Tries side count))
+
+-- what words ask for
+abbrev pub WordsAnswer : Side → List Text → Store → Answer → Type 0
+WordsAnswer side words store = Step no_names (λ e. (e ≡ Usage) × AsksNothing words) (Asks words) (λ request. Answers side store request)
+
+abbrev pub Comes : Side → Outside → Answer → Type 0
+Comes side o = WordsAnswer side o.words o.store
+
+-- ---- how a call ends
+
+-- the line is written on err, or a front of it where err's count rises
+abbrev pub Tells : Names → Status → Sink → Type 0
+Tells names status err = Gains (line_of names status) err ⊎ GainsFront (line_of names status) err
+
+-- A report is written whole on out, or a front of it where out's count rises. Of a refusal nothing is written there, but its line on err.
+abbrev pub EndsBy : Outside → Answer → Status → Type 0
+EndsBy o (Report e text) status =
+    ((ending_of status ≡ Some e) × Gains text o.out × GainsNothing o.err) ⊎ ((status ≡ WriteFault) × GainsFront text o.out × Tells no_names WriteFault o.err)
+EndsBy o (Refusal names e) status = (ending_of status ≡ Some e) × GainsNothing o.out × Tells names status o.err
+
+-- Memory was wanting.
+abbrev pub LacksMemory : Outside → Status → Type 0
+LacksMemory o status = (status ≡ NoMemory) × GainsNothing o.out × Tells no_names NoMemory o.err
+
+-- Why a call ends so, and what it writes: an answer that is promised, or want of memory.
+abbrev pub Cause : Outside → Status → Type 0
+Cause o status = LacksMemory o status ⊎ ((a : Answer) × Comes Promised o a × EndsBy o a status)
+
+-- The same ending. Where several numbers are refused at once any one of them may be told: then it is the same task, and the same kind of place.
+abbrev pub Alike : Ending → Ending → Type 0
+Alike (Overflows (OnTask task place)) (Overflows (OnTask other last)) = (task ≡ other) × (stage place ≡ stage last)
+Alike (OfOther e) (OfOther other) = Alike e other
+Alike e other = e ≡ other
+
+abbrev pub EndsAlike : Ending → Status → Type 0
+EndsAlike e status = (other : Ending) × (ending_of status ≡ Some other) × Alike e other
+
+-- out's count does not rise, where a report is to be written
+abbrev pub IsWritable : Sink → Answer → Type 0
+IsWritable out (Report e text) = ¬ (Rises out.count)
+IsWritable out (Refusal names e) = Unit {0}
+
+-- What is needed for an answer brings it, or want of memory.
+abbrev pub Forced : Outside → Status → Type 0
+Forced o status = (a : Answer) → Comes Needed o a → IsWritable o.out a → (status ≡ NoMemory) ⊎ EndsAlike (ending_in a) status
+
+-- Of each call: where its cause is known, what is needed for an answer brings it.
+abbrev pub CausesForce : Type 0
+CausesForce = (o : Outside) (status : Status) → Cause o status → Forced o status

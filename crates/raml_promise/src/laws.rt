@@ -1,0 +1,24 @@
+// Laws of calls: each is the contract of a function that does nothing.
+ghost use Rattle.raml_promise.specs.Known.{CourseLaws};
+ghost use Rattle.raml_promise.specs.Promise.{CausesForce};
+
+use infer_spec::laws::{ends_or_stops, one_certificate, one_place};
+use infer_systems_laws::laws::{normals_are_ordered, systems_generate};
+
+/// What is needed for an answer brings it, or want of memory, where each answer comes by its cause alone.
+pub fn causes_force()
+    ensures { CausesForce }
+{
+    course_laws();
+}
+
+// What is known of courses.
+fn course_laws()
+    ensures { CourseLaws }
+{
+    one_certificate();
+    ends_or_stops();
+    one_place();
+    systems_generate();
+    normals_are_ordered();
+}

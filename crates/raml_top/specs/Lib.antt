@@ -1,8 +1,0 @@
-pub mod Outside
-pub mod Steps
-pub mod Analysis
-pub mod Call
-pub mod Prices
-pub mod Promise
-pub mod Parts
-pub mod Known
