@@ -17,14 +17,17 @@ use Rattle.refusals.specs.Refusals.{IsWanting}
 use Rattle.refusals.specs.declared.answer.Report.{Report}
 use Rattle.refusals.specs.declared.answer.Refusal.{Refusal as TheRefusal}
 use Rattle.raml_promise.specs.Outside.{Promised, Store}
-use Rattle.raml_promise.specs.Steps.{Answer, Refusal, Step, refused, goes_on, OfFile, OfSource, OfProgram, OfNormal, file_of}
+use Rattle.raml_promise.specs.Steps.{Answer, Refusal, Step, refused, goes_on, OfFile, OfProgram, OfNormal, SourceRefuses, IsTyped, RefusedOf, file_of}
 use Rattle.raml_promise.specs.Prices.{PricesRefuse, OfPrices}
+use Rattle.raml_promise.specs.Contracts.{BoundsRefuse, OfBounds}
+use Rattle.bound_file.specs.Lines.{Line}
+use Rattle.bound_file.specs.Spelling as bounds
 use Rattle.price_file.specs.Construct.{Prices}
 use Rattle.price_file.specs.Spelling.{Spells, prices_in}
 use Rattle.refusal_text.specs.declared.task.Analysed.{Analysed}
 use Rattle.raml_promise.specs.Analysis.{OfCertificate, TextRefuses}
 use Rattle.raml_promise.specs.Call.{Placed, IsNamed, OfArguments, OfCall}
-use Rattle.raml_parts.specs.Parts.{Refuses, Gives, IsShort, FileRefuses, IsProgram, ProgramRefuses, ArePrices, PriceFileRefuses, IsCertificateFile, CertificateRefuses, CallRefuses}
+use Rattle.raml_parts.specs.Parts.{Refuses, Gives, IsShort, FileRefuses, ReadRefuses, IsProgram, ProgramRefuses, ArePrices, PriceFileRefuses, AreBounds, BoundsFileRefuses, IsCertificateFile, CertificateRefuses, CallRefuses}
 
 -- what follows of each answer follows of what is given
 pub gives_map : (Q R : Answer → Type 0) → ((a : Answer) → Q a → R a) → (r : Result Report TheRefusal) → Gives Q r → Gives R r
@@ -62,50 +65,54 @@ module _ (store : Store) (which : Which) (file : Text) (Rest : List ℕ → Answ
   pub file_comes : (bytes : List ℕ) → IsShort store which file bytes → (a : Answer) → Rest bytes a → OfFile Promised store which file Rest a
   file_comes bytes short a rest = goes_on bytes short.read (goes_on tt short.short rest)
 
+-- files whose bytes are refused, or come to something
+module _ {X : Type 0} (store : Store) (which : Which) (file : Text) (BytesRefuse : List ℕ → Ending → Type 0) (Comes : List ℕ → X → Type 0) (Rest : X → Answer → Type 0) where
+  abbrev OfBytes : List ℕ → Answer → Type 0
+  OfBytes bytes = Step no_names (BytesRefuse bytes) (Comes bytes) Rest
+
+  read_refused : (e : Ending) → ReadRefuses store which file BytesRefuse e → OfFile Promised store which file OfBytes (Refusal no_names e)
+  read_refused e (inl h) = file_refused store which file OfBytes e h
+  read_refused e (inr h) = file_comes store which file OfBytes h.0 h.1 (Refusal no_names e) (refused e h.2 refl)
+
+  read_refusal : (refusal : TheRefusal) → Refuses no_names (ReadRefuses store which file BytesRefuse) refusal → Gives (OfFile Promised store which file OfBytes) (Err refusal)
+  read_refusal refusal h = refusal_gives (OfFile Promised store which file OfBytes) no_names (ReadRefuses store which file BytesRefuse) read_refused refusal h
+
+  read_goes : (bytes : List ℕ) → IsShort store which file bytes → (x : X) → Comes bytes x → (r : Result Report TheRefusal) → Gives (Rest x) r →
+      Gives (OfFile Promised store which file OfBytes) r
+  read_goes bytes short x comes r h = gives_map (Rest x) (OfFile Promised store which file OfBytes) (λ a q. file_comes store which file OfBytes bytes short a (goes_on x comes q)) r h
+
 -- programs
 module _ (store : Store) (whose : Analysed) (file : Text) (Rest : Prog → Answer → Type 0) where
-  program_refused : (e : Ending) → ProgramRefuses store whose file e → OfProgram Promised store whose file Rest (Refusal no_names e)
-  program_refused e (inl h) = file_refused store (file_of whose) file (λ source. OfSource whose source Rest) e h
-  program_refused e (inr h) = file_comes store (file_of whose) file (λ source. OfSource whose source Rest) h.0 h.1 (Refusal no_names e) (refused e h.2 refl)
-
   pub program_refusal : (refusal : TheRefusal) → Refuses no_names (ProgramRefuses store whose file) refusal → Gives (OfProgram Promised store whose file Rest) (Err refusal)
-  program_refusal refusal h = refusal_gives (OfProgram Promised store whose file Rest) no_names (ProgramRefuses store whose file) program_refused refusal h
+  program_refusal refusal h = read_refusal store (file_of whose) file (λ source. RefusedOf whose (SourceRefuses source)) IsTyped Rest refusal h
 
   pub program_goes : (P : Prog) → IsProgram store whose file P → (r : Result Report TheRefusal) → Gives (Rest P) r → Gives (OfProgram Promised store whose file Rest) r
-  program_goes P is r h =
-      gives_map (Rest P) (OfProgram Promised store whose file Rest) (λ a q. file_comes store (file_of whose) file (λ source. OfSource whose source Rest) is.source is.within a (goes_on P is.typed q)) r h
+  program_goes P is r h = read_goes store (file_of whose) file (λ source. RefusedOf whose (SourceRefuses source)) IsTyped Rest is.source is.within P is.typed r h
 
 -- tables of prices
 module _ (store : Store) (file : Text) (Rest : Prices → Answer → Type 0) where
-  abbrev OfTable : List ℕ → Answer → Type 0
-  OfTable bytes = Step no_names (PricesRefuse bytes) (Spells bytes) (λ table. Rest (prices_in table))
-
-  prices_refused : (e : Ending) → PriceFileRefuses store file e → OfPrices Promised store file Rest (Refusal no_names e)
-  prices_refused e (inl h) = file_refused store w.Prices file OfTable e h
-  prices_refused e (inr h) = file_comes store w.Prices file OfTable h.0 h.1 (Refusal no_names e) (refused e h.2 refl)
-
   pub prices_refusal : (refusal : TheRefusal) → Refuses no_names (PriceFileRefuses store file) refusal → Gives (OfPrices Promised store file Rest) (Err refusal)
-  prices_refusal refusal h = refusal_gives (OfPrices Promised store file Rest) no_names (PriceFileRefuses store file) prices_refused refusal h
+  prices_refusal refusal h = read_refusal store w.Prices file PricesRefuse Spells (λ table. Rest (prices_in table)) refusal h
 
   pub prices_go : (prices : Prices) → ArePrices store file prices → (r : Result Report TheRefusal) → Gives (Rest prices) r → Gives (OfPrices Promised store file Rest) r
   prices_go prices are r h =
-      gives_map (Rest prices) (OfPrices Promised store file Rest)
-      (λ a q. file_comes store w.Prices file OfTable are.bytes are.within a (goes_on are.table are.spelled (subst (λ p. Rest p a) are.are q))) r h
+      read_goes store w.Prices file PricesRefuse Spells (λ table. Rest (prices_in table)) are.bytes are.within are.table are.spelled r (subst (λ p. Gives (Rest p) r) are.are h)
+
+-- files of declared bounds
+module _ (store : Store) (file : Text) (P : Prog) (degree : ℕ) (Rest : List Line → Answer → Type 0) where
+  pub bounds_refusal : (refusal : TheRefusal) → Refuses no_names (BoundsFileRefuses store file P degree) refusal → Gives (OfBounds Promised store file P degree Rest) (Err refusal)
+  bounds_refusal refusal h = read_refusal store w.Bounds file (BoundsRefuse P degree) (λ bytes. bounds.Spells bytes P degree) Rest refusal h
+
+  pub bounds_go : (lines : List Line) → AreBounds store file P degree lines → (r : Result Report TheRefusal) → Gives (Rest lines) r → Gives (OfBounds Promised store file P degree Rest) r
+  bounds_go lines are r h = read_goes store w.Bounds file (BoundsRefuse P degree) (λ bytes. bounds.Spells bytes P degree) Rest are.bytes are.within lines are.spelled r h
 
 -- certificates
 module _ (store : Store) (file : Text) (Rest : Certificate → Answer → Type 0) where
-  abbrev OfText : List ℕ → Answer → Type 0
-  OfText bytes = Step no_names (TextRefuses bytes) (IsFile bytes) Rest
-
-  certificate_refused : (e : Ending) → CertificateRefuses store file e → OfCertificate Promised store file Rest (Refusal no_names e)
-  certificate_refused e (inl h) = file_refused store w.Certificate file OfText e h
-  certificate_refused e (inr h) = file_comes store w.Certificate file OfText h.0 h.1 (Refusal no_names e) (refused e h.2 refl)
-
   pub certificate_refusal : (refusal : TheRefusal) → Refuses no_names (CertificateRefuses store file) refusal → Gives (OfCertificate Promised store file Rest) (Err refusal)
-  certificate_refusal refusal h = refusal_gives (OfCertificate Promised store file Rest) no_names (CertificateRefuses store file) certificate_refused refusal h
+  certificate_refusal refusal h = read_refusal store w.Certificate file TextRefuses IsFile Rest refusal h
 
   pub certificate_goes : (c : Certificate) → IsCertificateFile store file c → (r : Result Report TheRefusal) → Gives (Rest c) r → Gives (OfCertificate Promised store file Rest) r
-  certificate_goes c is r h = gives_map (Rest c) (OfCertificate Promised store file Rest) (λ a q. file_comes store w.Certificate file OfText is.bytes is.within a (goes_on c is.is q)) r h
+  certificate_goes c is r h = read_goes store w.Certificate file TextRefuses IsFile Rest is.bytes is.within c is.is r h
 
 -- calls
 module _ (store : Store) (P : Prog) (name file : Text) (Rest : Placed → List Value → Answer → Type 0) where

@@ -14,9 +14,14 @@ use Rattle.refusal_text.specs.declared.plain.Which.{Which}
 use Rattle.refusal_text.specs.declared.plain.Which.TheVariants as w
 use Rattle.refusal_text.specs.declared.task.Analysed.{Analysed}
 use Rattle.price_file.specs.Construct.{Prices}
-use Rattle.price_file.specs.Spelling.{Table, Spells, prices_in}
+use Rattle.price_file.specs.Spelling.{Table, prices_in}
+use Rattle.price_file.specs.Spelling as prices_spelling
+use Rattle.bound_file.specs.Lines.{Line}
+use Rattle.bound_file.specs.Spelling.{Spells}
 use Rattle.analysis_report.specs.declared.bounds.FloorFault.{FloorFault}
 use Rattle.analysis_report.specs.declared.bounds.FloorFault.TheVariants as floor
+use Rattle.contract_report.specs.declared.fault.VerdictsFault.{VerdictsFault}
+use Rattle.contract_report.specs.declared.fault.VerdictsFault.TheVariants as verdicts
 use Rattle.analysis_report.specs.declared.powers_fault.PowersFault.{PowersFault}
 use Rattle.analysis_report.specs.declared.powers_fault.PowersFault.TheVariants as powers
 use Rattle.refusals.specs.Ending.{Ending, Usage, ReadFault, TooLong, Source, Types, NoFunction, ending_of}
@@ -32,6 +37,7 @@ use Rattle.raml_promise.specs.Steps.{Answer, Refusal, most_bytes, SourceRefuses,
 use Rattle.raml_promise.specs.Steps as s
 use Rattle.raml_promise.specs.Analysis.{TextRefuses}
 use Rattle.raml_promise.specs.Prices.{PricesRefuse}
+use Rattle.raml_promise.specs.Contracts.{BoundsRefuse}
 use Rattle.raml_promise.specs.Call.{Placed, IsNamed, DataRefuses, Limits, Ends}
 use Rattle.raml_words.specs.Words as words
 use Rattle.raml_words.specs.Words.{Request, AsksNothing}
@@ -71,6 +77,11 @@ FileRefuses store which file (TooLong other) =
     (other ≡ which) × ((bytes : List ℕ) × IsRead Promised store (most_bytes which) file (Some bytes) × s.IsTooLong which bytes)
 FileRefuses store which file _ = ⊥
 
+-- why what a file spells is not read: the file is not, or its bytes are refused
+abbrev pub ReadRefuses : Store → Which → List ℕ → (List ℕ → Ending → Type 0) → Ending → Type 0
+ReadRefuses store which file BytesRefuse e =
+    FileRefuses store which file e ⊎ ((bytes : List ℕ) × IsShort store which file bytes × BytesRefuse bytes e)
+
 -- the typed program that a file spells
 pub record IsProgram (store : Store) (whose : Analysed) (file : List ℕ) (P : Prog) : Type 0 where
   pub source : List ℕ
@@ -78,20 +89,27 @@ pub record IsProgram (store : Store) (whose : Analysed) (file : List ℕ) (P : P
   pub typed : IsTyped source P
 
 abbrev pub ProgramRefuses : Store → Analysed → List ℕ → Ending → Type 0
-ProgramRefuses store whose file e =
-    FileRefuses store (file_of whose) file e ⊎ ((source : List ℕ) × IsShort store (file_of whose) file source × RefusedOf whose (SourceRefuses source) e)
+ProgramRefuses store whose file e = ReadRefuses store (file_of whose) file (λ source. RefusedOf whose (SourceRefuses source)) e
 
 -- the prices that a file tells
 pub record ArePrices (store : Store) (file : List ℕ) (prices : Prices) : Type 0 where
   pub bytes : List ℕ
   pub within : IsShort store w.Prices file bytes
   pub table : Table
-  pub spelled : Spells bytes table
+  pub spelled : prices_spelling.Spells bytes table
   pub are : prices ≡ prices_in table
 
 abbrev pub PriceFileRefuses : Store → List ℕ → Ending → Type 0
-PriceFileRefuses store file e =
-    FileRefuses store w.Prices file e ⊎ ((bytes : List ℕ) × IsShort store w.Prices file bytes × PricesRefuse bytes e)
+PriceFileRefuses store file e = ReadRefuses store w.Prices file PricesRefuse e
+
+-- the bounds that a file declares for a program at a degree
+pub record AreBounds (store : Store) (file : List ℕ) (P : Prog) (degree : ℕ) (lines : List Line) : Type 0 where
+  pub bytes : List ℕ
+  pub within : IsShort store w.Bounds file bytes
+  pub spelled : Spells bytes P degree lines
+
+abbrev pub BoundsFileRefuses : Store → List ℕ → Prog → ℕ → Ending → Type 0
+BoundsFileRefuses store file P degree e = ReadRefuses store w.Bounds file (BoundsRefuse P degree) e
 
 -- the certificate that a file is
 pub record IsCertificateFile (store : Store) (file : List ℕ) (c : Certificate) : Type 0 where
@@ -100,8 +118,7 @@ pub record IsCertificateFile (store : Store) (file : List ℕ) (c : Certificate)
   pub is : IsFile bytes c
 
 abbrev pub CertificateRefuses : Store → List ℕ → Ending → Type 0
-CertificateRefuses store file e =
-    FileRefuses store w.Certificate file e ⊎ ((bytes : List ℕ) × IsShort store w.Certificate file bytes × TextRefuses bytes e)
+CertificateRefuses store file e = ReadRefuses store w.Certificate file TextRefuses e
 
 -- why a call is not read
 abbrev pub CallRefuses : Store → Prog → List ℕ → List ℕ → Ending → Type 0
@@ -130,6 +147,12 @@ FloorRefusal floor.NoMemory refusal = IsWanting refusal
 abbrev pub PowerRefusal : Names → PowersFault → TheRefusal → Type 0
 PowerRefusal names (powers.Leaves fun meter) refusal = IsToldOr names (status.Overflow (overflow.Powers fun meter)) refusal
 PowerRefusal names powers.NoMemory refusal = IsWanting refusal
+
+-- the refusal of a declared bound that is not decided
+abbrev pub VerdictRefusal : VerdictsFault → TheRefusal → Type 0
+VerdictRefusal (verdicts.TooLarge line) refusal = IsToldOr no_names (status.LineTooLarge line) refusal
+VerdictRefusal (verdicts.Leaves line) refusal = IsToldOr no_names (status.Overflow (overflow.DeclaredBound line)) refusal
+VerdictRefusal verdicts.NoMemory refusal = IsWanting refusal
 
 -- the words stand in these cells for arguments of the function
 pub record HasArguments (P : Prog) (f : Placed) (cells : List Cell) (words : List Word) (args : List Value) : Type 0 where
@@ -188,6 +211,7 @@ IsWithin (words.Certify file degree rule) = (1 ≤ degree) × (degree ≤ 4)
 IsWithin (words.Run file name input steps cells degree) = (steps ≤ 1000000000) × CellsWithin cells × DegreeWithin degree
 IsWithin (words.Priced file prices degree) = (1 ≤ degree) × (degree ≤ 4)
 IsWithin (words.Spend file prices name input steps cells) = (steps ≤ 1000000000) × CellsWithin cells
+IsWithin (words.Contract file bounds degree) = (1 ≤ degree) × (degree ≤ 4)
 IsWithin (words.Compare file other degree) = (1 ≤ degree) × (degree ≤ 4)
 IsWithin (words.Powers file degree) = (1 ≤ degree) × (degree ≤ 4)
 IsWithin (words.Trial count) = count ≤ 100

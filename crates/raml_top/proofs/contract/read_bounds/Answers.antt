@@ -1,0 +1,40 @@
+use Rattle.std.proofs.Common.{◌≡◌, ◌≤◌, ◌<◌, ◌^◌, length, sym, subst, arith, inl, inr}
+use Rattle.raml_syntax.specs.Read.{program_of}
+use Rattle.bound_file.specs.Spelling.{Spells, FirstFault}
+use Rattle.refusal_text.specs.declared.plain.Which.TheVariants as w
+use Rattle.refusals.specs.Line.{no_names}
+use Rattle.raml_promise.specs.Outside.{store_of}
+use Rattle.raml_promise.specs.Contracts.{BoundsRefuse}
+use Rattle.raml_parts.specs.Parts.{FileRefuses, BoundsFileRefuses}
+use Rattle.raml_parts.proofs.Stepping.{refuses_map}
+use Rattle.raml_parts.proofs.Refusing.{bounds_refuse}
+use Rattle.raml_top.proofs.contract.read_bounds.Goals as goal
+
+pub read-requires : goal.read-requires
+read-requires g c =
+    let short = (c.in-Ok.ensures.ok (g.S.Store.faults c.args.store.now)).short in
+    let few : length c.in-Ok.bytes.items < 2 ^ 31 = omega (arith, short) in
+    subst (λ bytes. length bytes < 2 ^ 31) (sym c.deref.ensures.value) few
+
+pub returns-in-Ok-read-clause-ok : goal.returns-in-Ok-read-clause-ok
+returns-in-Ok-read-clause-ok g c before =
+    record {
+      bytes = c.in-Ok.bytes.items;
+      within = c.in-Ok.ensures.ok before;
+      spelled = subst (λ bytes. Spells bytes (program_of c.args.typed.now) c.args.degree c.in-Ok-read.declared.lines) c.deref.ensures.value c.in-Ok-read.ensures.lines;
+    }
+
+pub returns-in-Ok-clause-err : goal.returns-in-Ok-clause-err
+returns-in-Ok-clause-err g c before earlier =
+    let store = store_of (g.S.Store.holds c.args.store.now) before (g.S.Store.faults c.read_file.new.store) in
+    let P = program_of c.args.typed.now in
+    let bytes = c.in-Ok.bytes.items in
+    refuses_map no_names (BoundsRefuse P c.args.degree bytes) (BoundsFileRefuses store c.args.file.now P c.args.degree) (λ e r. inr (bytes, c.in-Ok.ensures.ok before, r)) c.bounds_refusal.result
+    (bounds_refuse P c.args.degree bytes c.in-Err-read.fault (subst (λ b. FirstFault b P c.args.degree c.in-Err-read.fault) c.deref.ensures.value c.in-Err-read.ensures.fault) c.bounds_refusal.result
+    c.bounds_refusal.ensures)
+
+pub returns-clause-err : goal.returns-clause-err
+returns-clause-err g c before earlier =
+    let store = store_of (g.S.Store.holds c.args.store.now) before (g.S.Store.faults c.read_file.new.store) in
+    refuses_map no_names (FileRefuses store w.Bounds c.args.file.now) (BoundsFileRefuses store c.args.file.now (program_of c.args.typed.now) c.args.degree) (λ e r. inl r) c.in-Err.refusal
+    (c.in-Err.ensures.err before earlier)
