@@ -40,7 +40,7 @@ use Rattle.bound_infer.specs.declared.refusal.VerifyFault.TheVariants as r
 use Rattle.refusals.specs.Ending as e
 use Rattle.refusals.specs.Ending.{Ending, ending_of}
 use Rattle.refusals.specs.Line.{Names, no_names, line_of}
-use Rattle.refusals.specs.Refusals.{IsToldOr, source_status, ParseRefusal, TypeRefusal, DataRefusal, BoundsRefusal, JsonRefusal, CheckRefusal, CourseRefusal, IsCheckAt}
+use Rattle.refusals.specs.Refusals.{IsToldOr, source_status, ParseRefusal, TypeRefusal, DataRefusal, JsonRefusal, CheckRefusal, CourseRefusal, IsCheckAt}
 use Rattle.refusals.specs.declared.answer.Refusal.{Refusal}
 use Rattle.refusals.specs.declared.status.Status.{Status}
 use Rattle.refusals.specs.declared.status.Status.TheVariants as s
@@ -58,9 +58,8 @@ use Rattle.refusal_text.specs.declared.source.SourceFault.TheVariants as source
 use Rattle.refusal_text.specs.declared.task.Analysed.{Analysed}
 use Rattle.refusal_text.specs.declared.task.Analysed.TheVariants as analysed
 use Rattle.price_file.specs.Spelling as prices
-use Rattle.bound_file.specs.Spelling as bounds
+use Rattle.bound_file.specs.Answers as bounds
 use Rattle.bound_file.specs.declared.fault.DeclFault.{DeclFault}
-use Rattle.bound_file.specs.declared.fault.DeclFault.TheVariants as b
 use Rattle.price_file.specs.declared.fault.PriceFault.{PriceFault}
 use Rattle.std.specs.Option.{option_map}
 
@@ -151,19 +150,9 @@ pub prices_refuse : (bytes : List ℕ) (fault : PriceFault) → prices.FirstFaul
 prices_refuse bytes fault h refusal told = told_refuses no_names (s.Prices fault) (e.BadPrices fault) (PricesRefuse bytes) refl h refusal told
 
 -- the refusal of a file of declared bounds
-module _ (P : Prog) (degree : ℕ) (bytes : List ℕ) where
-  bounds_told : (fault : DeclFault) → e.bounds_ending fault ≡ Some (e.BadBounds fault) → bounds.FirstFault bytes P degree fault → (refusal : Refusal) → IsToldOr no_names (s.Declared fault) refusal →
-      Refuses no_names (BoundsRefuse P degree bytes) refusal
-  bounds_told fault is h refusal told = told_refuses no_names (s.Declared fault) (e.BadBounds fault) (BoundsRefuse P degree bytes) is h refusal told
-
-  pub bounds_refuse : (fault : DeclFault) → bounds.FirstFault bytes P degree fault → (refusal : Refusal) → BoundsRefusal fault refusal → Refuses no_names (BoundsRefuse P degree bytes) refusal
-  bounds_refuse (b.NotUtf8 a) h refusal told = bounds_told (b.NotUtf8 a) refl h refusal told
-  bounds_refuse (b.Shape line) h refusal told = bounds_told (b.Shape line) refl h refusal told
-  bounds_refuse (b.Number line) h refusal told = bounds_told (b.Number line) refl h refusal told
-  bounds_refuse (b.Unknown line) h refusal told = bounds_told (b.Unknown line) refl h refusal told
-  bounds_refuse (b.Index line) h refusal told = bounds_told (b.Index line) refl h refusal told
-  bounds_refuse (b.Twice line) h refusal told = bounds_told (b.Twice line) refl h refusal told
-  bounds_refuse b.NoMemory h refusal told = inl told
+pub bounds_refuse : (P : Prog) (degree : ℕ) (bytes : List ℕ) (fault : DeclFault) → bounds.FirstFault P degree bytes fault → (refusal : Refusal) → IsToldOr no_names (s.Declared fault) refusal →
+    Refuses no_names (BoundsRefuse P degree bytes) refusal
+bounds_refuse P degree bytes fault h refusal told = told_refuses no_names (s.Declared fault) (e.BadBounds fault) (BoundsRefuse P degree bytes) refl h refusal told
 
 -- courses
 module _ (whose : Analysed) (names : Names) (A : Analysis) where

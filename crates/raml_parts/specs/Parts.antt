@@ -16,8 +16,8 @@ use Rattle.refusal_text.specs.declared.task.Analysed.{Analysed}
 use Rattle.price_file.specs.Construct.{Prices}
 use Rattle.price_file.specs.Spelling.{Table, prices_in}
 use Rattle.price_file.specs.Spelling as prices_spelling
-use Rattle.bound_file.specs.Lines.{Line}
-use Rattle.bound_file.specs.Spelling.{Spells}
+use Rattle.bound_file.specs.Lines.{Declaration}
+use Rattle.bound_file.specs.Answers.{Spells}
 use Rattle.analysis_report.specs.declared.bounds.FloorFault.{FloorFault}
 use Rattle.analysis_report.specs.declared.bounds.FloorFault.TheVariants as floor
 use Rattle.contract_report.specs.declared.fault.VerdictsFault.{VerdictsFault}
@@ -103,10 +103,10 @@ abbrev pub PriceFileRefuses : Store → List ℕ → Ending → Type 0
 PriceFileRefuses store file e = ReadRefuses store w.Prices file PricesRefuse e
 
 -- the bounds that a file declares for a program at a degree
-pub record AreBounds (store : Store) (file : List ℕ) (P : Prog) (degree : ℕ) (lines : List Line) : Type 0 where
+pub record AreBounds (store : Store) (file : List ℕ) (P : Prog) (degree : ℕ) (declared : Declaration) : Type 0 where
   pub bytes : List ℕ
   pub within : IsShort store w.Bounds file bytes
-  pub spelled : Spells bytes P degree lines
+  pub spelled : Spells P degree bytes declared
 
 abbrev pub BoundsFileRefuses : Store → List ℕ → Prog → ℕ → Ending → Type 0
 BoundsFileRefuses store file P degree e = ReadRefuses store w.Bounds file (BoundsRefuse P degree) e

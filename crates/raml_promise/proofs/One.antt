@@ -108,8 +108,8 @@ module _ (laws : CourseLaws) where
   contracted_same : (store : Store) (file : Text) (degree : ℕ) (P : Prog) → IsKnown P → (a b : Answer) → ChecksBounds Needed store file degree P a → ChecksBounds Promised store file degree P b → Same a b
   contracted_same store file degree P is =
       bounds_same store file P degree _ _
-      (λ lines. of_courses analysed.Program P is degree rule.Least (λ N. PrintsVerdicts Needed P N lines) (λ N. PrintsVerdicts Promised P N lines)
-      (λ N c. verdicts_same P N lines c))
+      (λ declared. of_courses analysed.Program P is degree rule.Least (λ N. PrintsVerdicts Needed P N declared.lines) (λ N. PrintsVerdicts Promised P N declared.lines)
+      (λ N c. verdicts_same P N declared.lines c))
 
   compared_same : (store : Store) (file : Text) (degree : ℕ) (P : Prog) → IsKnown P → (a b : Answer) → Compares Needed store file degree P a → Compares Promised store file degree P b → Same a b
   compared_same store file degree P is =

@@ -6,8 +6,8 @@ use Rattle.cost_free.specs.Task.{Task}
 use Rattle.annot_types.specs.Program.{Program}
 use Rattle.annot_types.specs.Certificate.{Block, Certificate}
 use Rattle.simplex_checked.specs.Rules.{least_pick}
-use Rattle.bound_file.specs.Lines.{Line}
-use Rattle.bound_file.specs.Spelling.{Spells, FirstFault}
+use Rattle.bound_file.specs.Lines.{Line, Declaration}
+use Rattle.bound_file.specs.Answers.{Spells, FirstFault}
 use Rattle.bound_file.specs.declared.fault.DeclFault.{DeclFault}
 use Rattle.bound_file.proofs.Answered.{one_answer}
 use Rattle.contract_report.specs.Verdicts.{AreVerdictLines}
@@ -25,33 +25,33 @@ use Rattle.raml_promise.proofs.OneSource.{file_same}
 -- ---- files of bounds
 
 module _ (P : Prog) (degree : ℕ) (bytes : List ℕ) where
-  one_file : (ls ms : List Line) → Spells bytes P degree ls → Spells bytes P degree ms → ls ≡ ms
-  one_file ls ms h k = let e : ◌≡◌ {A = Result (List Line) DeclFault} (Ok ls) (Ok ms) = one_answer bytes P degree (Ok ls) (Ok ms) h k in cc
+  one_file : (D E : Declaration) → Spells P degree bytes D → Spells P degree bytes E → D ≡ E
+  one_file D E h k = let e : ◌≡◌ {A = Result Declaration DeclFault} (Ok D) (Ok E) = one_answer P degree bytes (Ok D) (Ok E) h k in cc
 
   bounds_refusals : (e f : Ending) → BoundsRefuse P degree bytes e → BoundsRefuse P degree bytes f → e ≡ f
-  bounds_refusals (BadBounds x) (BadBounds y) h k = let e : ◌≡◌ {A = Result (List Line) DeclFault} (Err x) (Err y) = one_answer bytes P degree (Err x) (Err y) h k in cc
+  bounds_refusals (BadBounds x) (BadBounds y) h k = let e : ◌≡◌ {A = Result Declaration DeclFault} (Err x) (Err y) = one_answer P degree bytes (Err x) (Err y) h k in cc
   bounds_refusals (BadBounds x) f h k = absurd k
   bounds_refusals e f h k = absurd h
 
-  refused_or_spelled : (e : Ending) (ls : List Line) → BoundsRefuse P degree bytes e → Spells bytes P degree ls → ⊥
-  refused_or_spelled (BadBounds x) ls h k = let e : ◌≡◌ {A = Result (List Line) DeclFault} (Err x) (Ok ls) = one_answer bytes P degree (Err x) (Ok ls) h k in absurd (cc)
-  refused_or_spelled e ls h k = absurd h
+  refused_or_spelled : (e : Ending) (D : Declaration) → BoundsRefuse P degree bytes e → Spells P degree bytes D → ⊥
+  refused_or_spelled (BadBounds x) D h k = let e : ◌≡◌ {A = Result Declaration DeclFault} (Err x) (Ok D) = one_answer P degree bytes (Err x) (Ok D) h k in absurd (cc)
+  refused_or_spelled e D h k = absurd h
 
-  lines_same : (Q T : List Line → Answer → Type 0) → ((ls : List Line) (a b : Answer) → Q ls a → T ls b → Same a b) → (a b : Answer) →
-      Step no_names (BoundsRefuse P degree bytes) (Spells bytes P degree) Q a → Step no_names (BoundsRefuse P degree bytes) (Spells bytes P degree) T b → Same a b
-  lines_same Q T rest =
-      steps_same no_names no_names (BoundsRefuse P degree bytes) (BoundsRefuse P degree bytes) (Spells bytes P degree) (Spells bytes P degree) Q T
+  declared_same : (Q T : Declaration → Answer → Type 0) → ((D : Declaration) (a b : Answer) → Q D a → T D b → Same a b) → (a b : Answer) →
+      Step no_names (BoundsRefuse P degree bytes) (Spells P degree bytes) Q a → Step no_names (BoundsRefuse P degree bytes) (Spells P degree bytes) T b → Same a b
+  declared_same Q T rest =
+      steps_same no_names no_names (BoundsRefuse P degree bytes) (BoundsRefuse P degree bytes) (Spells P degree bytes) (Spells P degree bytes) Q T
       (record {
         refusals = λ e f r s. alike_same e f (bounds_refusals e f r s);
         not_left = refused_or_spelled;
-        not_right = λ ls e h s. refused_or_spelled e ls s h;
+        not_right = λ D e h s. refused_or_spelled e D s h;
         one = one_file;
       })
-      (λ ls h k. rest ls)
+      (λ D h k. rest D)
 
-pub bounds_same : (store : Store) (file : Text) (P : Prog) (degree : ℕ) (Q T : List Line → Answer → Type 0) → ((ls : List Line) (a b : Answer) → Q ls a → T ls b → Same a b) →
+pub bounds_same : (store : Store) (file : Text) (P : Prog) (degree : ℕ) (Q T : Declaration → Answer → Type 0) → ((D : Declaration) (a b : Answer) → Q D a → T D b → Same a b) →
     (a b : Answer) → OfBounds Needed store file P degree Q a → OfBounds Promised store file P degree T b → Same a b
-bounds_same store file P degree Q T rest = file_same store w.Bounds file _ _ (λ bytes. lines_same P degree bytes Q T rest)
+bounds_same store file P degree Q T rest = file_same store w.Bounds file _ _ (λ bytes. declared_same P degree bytes Q T rest)
 
 -- ---- verdicts
 

@@ -111,8 +111,8 @@ ShowsPowers side degree P = OfNormal P (λ N. OfCourse side analysed.Program P N
 
 -- The verdicts of the bounds that a file declares. The file is read before the program is analysed.
 abbrev pub ChecksBounds : Side → Store → Text → ℕ → Prog → Answer → Type 0
-ChecksBounds side store file degree P = OfBounds side store file P degree (λ lines.
-    OfNormal P (λ N. OfCourse side analysed.Program P N degree rule.Least (PrintsVerdicts side P N lines)))
+ChecksBounds side store file degree P = OfBounds side store file P degree (λ declared.
+    OfNormal P (λ N. OfCourse side analysed.Program P N degree rule.Least (PrintsVerdicts side P N declared.lines)))
 
 -- Of a made program: how many functions it has, the lines of the last one, and its run.
 abbrev pub RunsTrial : Side → ℕ → Prog → Program → Certificate → Placed → List Value → Answer → Type 0

@@ -15,7 +15,7 @@ ghost use Rattle.raml_promise.specs.Contracts.{PrintsVerdicts};
 ghost use Rattle.raml_promise.specs.Promise.{ChecksBounds};
 ghost use Rattle.raml_parts.specs.Parts.{Before, IsReady, Gives, Refuses, AreBounds, BoundsFileRefuses, VerdictRefusal};
 
-use bound_file::{Declared, read};
+use bound_file::{DeclError, Declared, read};
 use bound_infer::Verified;
 use contract_report::{VerdictsFault, verdict_lines};
 use raml_io::Store;
@@ -38,7 +38,7 @@ fn read_bounds<S: Store>(
     requires ready { IsReady (program_of typed.now) }
     requires most_degree { degree ≤ 4 }
     ensures ok { (before : Text → ℕ) →
-        IfOk result (λ declared. AreBounds (store_of (S.holds store.old) before (S.faults store.new)) file.now (program_of typed.now) degree declared.lines) }
+        IfOk result (λ declared. AreBounds (store_of (S.holds store.old) before (S.faults store.new)) file.now (program_of typed.now) degree declared) }
     ensures degree { IfOk result (λ declared. declared.degree ≡ degree) }
     ensures err { (before : Text → ℕ) → Before before (S.faults store.old) →
         IfErr result (Refuses no_names (BoundsFileRefuses (store_of (S.holds store.old) before (S.faults store.new)) file.now (program_of typed.now) degree)) }
@@ -48,7 +48,8 @@ fn read_bounds<S: Store>(
     match read_file(alloc, store, file, Which::Bounds) {
         Ok(bytes) => match read(alloc, &bytes, typed.program(), degree) {
             Ok(declared) => Ok(declared),
-            Err(fault) => Err(bounds_refusal(alloc, fault)),
+            Err(DeclError::Fault(fault)) => Err(bounds_refusal(alloc, fault)),
+            Err(DeclError::NoMemory) => Err(Refusal::no_memory()),
         },
         Err(refusal) => Err(refusal),
     }

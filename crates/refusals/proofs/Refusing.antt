@@ -2,15 +2,13 @@
 use Rattle.std.proofs.Common.{◌≢◌, refl}
 use Rattle.value_text.specs.declared.fault.DataFault.{DataFault}
 use Rattle.value_text.specs.declared.fault.DataFault.TheVariants as d
-use Rattle.bound_file.specs.declared.fault.DeclFault.{DeclFault}
-use Rattle.bound_file.specs.declared.fault.DeclFault.TheVariants as b
 use Rattle.cert_json.specs.declared.whole.JsonFault.{JsonFault}
 use Rattle.cert_json.specs.declared.whole.JsonFault.TheVariants as j
 use Rattle.bound_infer.specs.declared.refusal.InferFault.{InferFault}
 use Rattle.bound_infer.specs.declared.refusal.InferFault.TheVariants as i
 use Rattle.refusal_text.specs.declared.task.Analysed.TheVariants.{Other}
 use Rattle.refusals.specs.Line.{Names, no_names}
-use Rattle.refusals.specs.Refusals.{IsToldOr, DataRefusal, BoundsRefusal, JsonRefusal, CourseRefusal}
+use Rattle.refusals.specs.Refusals.{IsToldOr, DataRefusal, JsonRefusal, CourseRefusal}
 use Rattle.refusals.specs.declared.answer.Refusal.{Refusal}
 use Rattle.refusals.specs.declared.status.Status.TheVariants as s
 use Rattle.refusals.specs.declared.status.CertAnswer.TheVariants as c
@@ -21,15 +19,6 @@ data_refusal (d.Shape a) some refusal told = told
 data_refusal (d.TooDeep a) some refusal told = told
 data_refusal d.TooManyCells some refusal told = told
 data_refusal d.NoMemory some refusal told = absurd (some refl)
-
-pub bounds_refusal : (fault : DeclFault) → (fault ≢ b.NoMemory) → (refusal : Refusal) → IsToldOr no_names (s.Declared fault) refusal → BoundsRefusal fault refusal
-bounds_refusal (b.NotUtf8 a) some refusal told = told
-bounds_refusal (b.Shape line) some refusal told = told
-bounds_refusal (b.Number line) some refusal told = told
-bounds_refusal (b.Unknown line) some refusal told = told
-bounds_refusal (b.Index line) some refusal told = told
-bounds_refusal (b.Twice line) some refusal told = told
-bounds_refusal b.NoMemory some refusal told = absurd (some refl)
 
 pub json_refusal : (fault : JsonFault) → (fault ≢ j.NoMemory) → (refusal : Refusal) → IsToldOr no_names (s.Certificate (c.Json fault)) refusal → JsonRefusal fault refusal
 json_refusal j.NotJson some refusal told = told

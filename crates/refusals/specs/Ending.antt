@@ -27,7 +27,6 @@ use Rattle.bound_infer.specs.declared.refusal.InferFault.{InferFault}
 use Rattle.bound_infer.specs.declared.refusal.InferFault.TheVariants as infer
 use Rattle.price_file.specs.declared.fault.PriceFault.{PriceFault}
 use Rattle.bound_file.specs.declared.fault.DeclFault.{DeclFault}
-use Rattle.bound_file.specs.declared.fault.DeclFault.TheVariants as b
 use Rattle.refusals.specs.declared.status.Status.{Status}
 use Rattle.refusals.specs.declared.status.Status.TheVariants as s
 use Rattle.refusal_text.specs.declared.plain.Which.{Which}
@@ -92,10 +91,6 @@ abbrev pub data_ending : DataFault → Option Ending
 data_ending d.NoMemory = None
 data_ending fault = Some (BadData fault)
 
-abbrev pub bounds_ending : DeclFault → Option Ending
-bounds_ending b.NoMemory = None
-bounds_ending fault = Some (BadBounds fault)
-
 abbrev pub json_ending : JsonFault → Option Ending
 json_ending j.NotJson = Some (Certified (Json text.NotJson))
 json_ending (j.Shape place) = Some (Certified (Json (text.Shape (place_of place))))
@@ -143,7 +138,7 @@ ending_of s.Stopped = Some Stopped
 ending_of s.HeapFull = Some HeapFull
 ending_of s.WriteFault = Some WriteFault
 ending_of (s.Prices fault) = Some (BadPrices fault)
-ending_of (s.Declared fault) = bounds_ending fault
+ending_of (s.Declared fault) = Some (BadBounds fault)
 ending_of (s.LineTooLarge line) = Some (LineTooLarge line)
 ending_of (s.OtherSource fault) = option_map OfOther (source_ending fault)
 ending_of (s.OtherFault fault) = option_map OfOther (course_ending fault)

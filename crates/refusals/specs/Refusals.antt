@@ -7,8 +7,6 @@ use Rattle.simple_types.specs.declared.fault.TypeFault.{TypeFault}
 use Rattle.simple_types.specs.declared.fault.TypeFault.TheVariants as types
 use Rattle.value_text.specs.declared.fault.DataFault.{DataFault}
 use Rattle.value_text.specs.declared.fault.DataFault.TheVariants as data_fault
-use Rattle.bound_file.specs.declared.fault.DeclFault.{DeclFault}
-use Rattle.bound_file.specs.declared.fault.DeclFault.TheVariants as bounds
 use Rattle.cert_json.specs.declared.whole.JsonFault.{JsonFault}
 use Rattle.cert_json.specs.declared.whole.JsonFault.TheVariants as json
 use Rattle.share_normal.specs.Program.{Kept, source_in}
@@ -51,7 +49,7 @@ IsWanting refusal = IsOf no_names NoMemory refusal
 abbrev pub IsToldOr : Names → Status → TheRefusal → Type 0
 IsToldOr names status refusal = IsWanting refusal ⊎ IsOf names status refusal
 
--- the refusals of the parser's faults, of the check of types', and of the readers of data's and of declared bounds'
+-- the refusals of the parser's faults, of the check of types', and of the reader of data's
 abbrev pub source_status : Analysed → SourceFault → Status
 source_status Program fault = status.Source fault
 source_status Other fault = status.OtherSource fault
@@ -67,10 +65,6 @@ TypeRefusal whose fault refusal = IsToldOr no_names (source_status whose (source
 abbrev pub DataRefusal : DataFault → TheRefusal → Type 0
 DataRefusal data_fault.NoMemory refusal = IsWanting refusal
 DataRefusal fault refusal = IsToldOr no_names (status.Data fault) refusal
-
-abbrev pub BoundsRefusal : DeclFault → TheRefusal → Type 0
-BoundsRefusal bounds.NoMemory refusal = IsWanting refusal
-BoundsRefusal fault refusal = IsToldOr no_names (status.Declared fault) refusal
 
 abbrev pub JsonRefusal : JsonFault → TheRefusal → Type 0
 JsonRefusal json.NoMemory refusal = IsWanting refusal

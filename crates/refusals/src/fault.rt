@@ -1,6 +1,6 @@
 // Faults of the parts of a call, as refusals.
 ghost use Rattle.refusals.specs.Line.{no_names};
-ghost use Rattle.refusals.specs.Refusals.{IsToldOr, source_status, ParseRefusal, TypeRefusal, DataRefusal, BoundsRefusal};
+ghost use Rattle.refusals.specs.Refusals.{IsToldOr, source_status, ParseRefusal, TypeRefusal, DataRefusal};
 
 use crate::answer::Refusal;
 use crate::status::{OverflowAt, Status};
@@ -69,15 +69,10 @@ pub fn price_refusal(alloc: Global, fault: PriceFault) -> Refusal
 
 /// A fault of a file of declared bounds.
 pub fn bounds_refusal(alloc: Global, fault: DeclFault) -> Refusal
-    ensures { BoundsRefusal fault result }
+    ensures { IsToldOr no_names (Status.Declared fault) result }
 {
-    match fault {
-        DeclFault::NoMemory => Refusal::no_memory(),
-        fault => {
-            let line = bound_file::fault_line(alloc, fault);
-            Refusal::told(Status::Declared(fault), line)
-        }
-    }
+    let line = bound_file::fault_line(alloc, fault);
+    Refusal::told(Status::Declared(fault), line)
 }
 
 /// The system of the declared bound on this line has too many rows.

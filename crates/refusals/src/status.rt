@@ -68,7 +68,7 @@ pub enum Status {
     WriteFault,
     /// The table of prices is refused.
     Prices(PriceFault),
-    /// The file of declared bounds is refused. The fault is no want of memory.
+    /// The file of declared bounds is refused.
     Declared(DeclFault),
     /// With the rows of the declared bound on this line of its file, a system has more than 2000 rows.
     LineTooLarge { line: u32 },

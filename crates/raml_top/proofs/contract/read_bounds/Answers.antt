@@ -1,6 +1,6 @@
 use Rattle.std.proofs.Common.{◌≡◌, ◌≤◌, ◌<◌, ◌^◌, length, sym, subst, arith, inl, inr}
 use Rattle.raml_syntax.specs.Read.{program_of}
-use Rattle.bound_file.specs.Spelling.{Spells, FirstFault}
+use Rattle.bound_file.specs.Answers.{Spells, FirstFault, OfFault}
 use Rattle.refusal_text.specs.declared.plain.Which.TheVariants as w
 use Rattle.refusals.specs.Line.{no_names}
 use Rattle.raml_promise.specs.Outside.{store_of}
@@ -21,7 +21,7 @@ returns-in-Ok-read-clause-ok g c before =
     record {
       bytes = c.in-Ok.bytes.items;
       within = c.in-Ok.ensures.ok before;
-      spelled = subst (λ bytes. Spells bytes (program_of c.args.typed.now) c.args.degree c.in-Ok-read.declared.lines) c.deref.ensures.value c.in-Ok-read.ensures.lines;
+      spelled = subst (λ bytes. Spells (program_of c.args.typed.now) c.args.degree bytes c.in-Ok-read.declared) c.deref.ensures.value c.in-Ok-read.ensures.spelled;
     }
 
 pub returns-in-Ok-clause-err : goal.returns-in-Ok-clause-err
@@ -30,7 +30,7 @@ returns-in-Ok-clause-err g c before earlier =
     let P = program_of c.args.typed.now in
     let bytes = c.in-Ok.bytes.items in
     refuses_map no_names (BoundsRefuse P c.args.degree bytes) (BoundsFileRefuses store c.args.file.now P c.args.degree) (λ e r. inr (bytes, c.in-Ok.ensures.ok before, r)) c.bounds_refusal.result
-    (bounds_refuse P c.args.degree bytes c.in-Err-read.fault (subst (λ b. FirstFault b P c.args.degree c.in-Err-read.fault) c.deref.ensures.value c.in-Err-read.ensures.fault) c.bounds_refusal.result
+    (bounds_refuse P c.args.degree bytes c.in-Err-read-Fault.fault (subst (λ b. FirstFault P c.args.degree b c.in-Err-read-Fault.fault) c.deref.ensures.value c.in-Err-read.ensures.fault) c.bounds_refusal.result
     c.bounds_refusal.ensures)
 
 pub returns-clause-err : goal.returns-clause-err
