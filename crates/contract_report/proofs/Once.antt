@@ -40,12 +40,13 @@ module _ (N : Program) (c : Certificate) (pick : List ℤ → ℤ → Option ℕ
 
   line_once : (line : Line) (e f : Excess) → LineExceeds N c pick line e → LineExceeds N c pick line f → e ≡ f
   line_once line e f h k =
-      let x = h.each h.task h.place h.own h.is in
-      let y = k.each h.task h.place h.own h.is in
-      sym x.is ∙ (excess_same h.task h.place line x.at y.at x.first y.first ∙ y.is)
+      let place : h.place ≡ k.place = (let a = h.is.first in let b = k.is.first in cc) in
+      let own : h.own ≡ k.own = (let a = h.is.there in let b = k.is.there in cc) in
+      let moved = subst (λ (b : Block). IsFirst N c h.place b.task line pick k.at) (sym own) (subst (λ n. IsFirst N c n k.own.task line pick k.at) (sym place) k.first) in
+      sym h.excess_is ∙ (excess_same h.own.task h.place line h.at k.at h.first moved ∙ k.excess_is)
 
   line_clear : (line : Line) (e : Excess) → LineExceeds N c pick line e → IsLineClear N c pick line → ⊥
-  line_clear line e h clear = let x = h.each h.task h.place h.own h.is in clear h.task h.place h.own h.is x.tried x.at x.first.comes
+  line_clear line e h clear = clear h.place h.own h.is h.tried h.at h.first.comes
 
   module _ (lines : List Line) where
     pub clear_exceeds_none : (n : ℕ) (e : Excess) → FirstExceeds N c pick lines n e → AllLinesClear N c pick lines → ⊥

@@ -1,6 +1,5 @@
 -- Which declared bound is the first that is not decided, and why.
 use Rattle.std.specs.Prelude.{◌≡◌, ◌<◌, ℕ, ℤ, suc, List, Option, Some, slice_get}
-use Rattle.cost_free.specs.Task.{Task}
 use Rattle.annot_types.specs.Program.{Program}
 use Rattle.annot_types.specs.Certificate.{Block, Certificate}
 use Rattle.other_blocks.specs.Other.{IsTried}
@@ -21,21 +20,17 @@ excess_at _ = Number
 module _ (N : Program) (c : Certificate) (pick : List ℤ → ℤ → Option ℕ) where
   -- no place comes where the line is decided
   abbrev pub IsLineClear : Line → Type 0
-  IsLineClear line = (task : Task) (place : ℕ) (own : Block) → IsOwn N c line task place own → IsTried own.body → IsClear N c place task line pick
+  IsLineClear line = (place : ℕ) (own : Block) → IsOwn N c line place own → IsTried own.body → IsClear N c place own.task line pick
 
-  -- The line's block was tried, and the first place that comes there is one of this excess.
-  pub record Exceeds (line : Line) (task : Task) (place : ℕ) (own : Block) (excess : Excess) : Type 0 where
-    pub tried : IsTried own.body
-    pub at : Place
-    pub first : IsFirst N c place task line pick at
-    pub is : excess_at at ≡ excess
-
+  -- The certificate's own block for the line was tried, and the first place that comes there is one of this excess.
   pub record LineExceeds (line : Line) (excess : Excess) : Type 0 where
-    pub task : Task
     pub place : ℕ
     pub own : Block
-    pub is : IsOwn N c line task place own
-    pub each : (task : Task) (place : ℕ) (own : Block) → IsOwn N c line task place own → Exceeds line task place own excess
+    pub is : IsOwn N c line place own
+    pub tried : IsTried own.body
+    pub at : Place
+    pub first : IsFirst N c place own.task line pick at
+    pub excess_is : excess_at at ≡ excess
 
   -- The line of this number, counted from 1, is the first that exceeds; so it does.
   pub record FirstExceeds (lines : List Line) (number : ℕ) (excess : Excess) : Type 0 where

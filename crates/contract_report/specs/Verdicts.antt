@@ -4,7 +4,6 @@ use Rattle.raml_syntax.specs.Tree.{Text, Function, Prog}
 use Rattle.raml_syntax.specs.Types.{types_of}
 use Rattle.linear_rows.specs.Systems.{Refutes}
 use Rattle.farkas_check.specs.Checks.{EachPasses, refuting}
-use Rattle.cost_free.specs.Task.{Task}
 use Rattle.annot_types.specs.Program.{Program}
 use Rattle.annot_types.specs.Certificate as a
 use Rattle.annot_types.specs.Certificate.{Block, Certificate}
@@ -25,22 +24,22 @@ pub data Verdict : Type 0 where
   Waits : ℕ → Verdict
 
 -- By the certificate's own block for the line's function and meter, which stands at this place.
-module _ (N : Program) (c : Certificate) (line : Line) (task : Task) (place : ℕ) (own : Block) where
+module _ (N : Program) (c : Certificate) (line : Line) (place : ℕ) (own : Block) where
   -- It was tried, and some annotation holds in its place and lies under the line.
   pub record KeepsLine : Type 0 where
     pub tried : IsTried own.body
     pub block : Block
-    pub task_is : block.task ≡ task
+    pub task_is : block.task ≡ own.task
     pub t : ℕ
-    pub keeps : KeepsThere N c place task line block t
+    pub keeps : KeepsThere N c place own.task line block t
 
   -- It was tried, none does, and a vector passed the check that it refutes the task's system with the line.
   pub record RefutesLine : Type 0 where
     pub tried : IsTried own.body
-    pub none : NoneKeepsThere N c place task line
+    pub none : NoneKeepsThere N c place own.task line
     pub vector : List ℤ
-    pub refutes : Refutes (system_there N c place task line) vector
-    pub passes : EachPasses (refuting (system_there N c place task line) vector)
+    pub refutes : Refutes (system_there N c place own.task line) vector
+    pub passes : EachPasses (refuting (system_there N c place own.task line) vector)
 
   abbrev pub IsVerdict : Verdict → Type 0
   IsVerdict Kept = KeepsLine
@@ -49,11 +48,10 @@ module _ (N : Program) (c : Certificate) (line : Line) (task : Task) (place : �
 
 -- There is such a block, and this is the verdict by it.
 pub record Decides (N : Program) (c : Certificate) (line : Line) (verdict : Verdict) : Type 0 where
-  pub task : Task
   pub place : ℕ
   pub own : Block
-  pub is : IsOwn N c line task place own
-  pub verdict : IsVerdict N c line task place own verdict
+  pub is : IsOwn N c line place own
+  pub verdict : IsVerdict N c line place own verdict
 
 -- What is declared bounds the function's cost on the meter, on all arguments, at every limit and after every number of instructions. It is told by the numbers
 -- over any one denominator that are those of the line.
