@@ -217,5 +217,10 @@ IsWithin (words.Powers file degree) = (1 ≤ degree) × (degree ≤ 4)
 IsWithin (words.Trial count) = count ≤ 100
 IsWithin request = Unit {0}
 
+-- of a made program this is claimed
+abbrev pub OfTrial : Request → Type 0 → Type 0
+OfTrial (words.Trial count) claim = claim
+OfTrial request claim = Unit {0}
+
 abbrev pub WordsRefuse : List Text → Ending → Type 0
 WordsRefuse given e = (e ≡ Usage) × AsksNothing given

@@ -7,7 +7,7 @@ ghost use Rattle.raml_promise.specs.Outside.{Promised, store_of};
 ghost use Rattle.raml_promise.specs.Steps.{OfProgram};
 ghost use Rattle.raml_promise.specs.Call.{cells_or};
 ghost use Rattle.raml_promise.specs.Promise.{Answers, ListsTypes, ListsCode, Analyses, Certifies, Verifies, RunsWithin, RunsWithBounds, PricesProgram, SpendsWithin, Compares, ChecksBounds, ShowsPowers};
-ghost use Rattle.raml_parts.specs.Parts.{Gives, IsWithin, CellsWithin, DegreeWithin};
+ghost use Rattle.raml_parts.specs.Parts.{Gives, IsWithin, CellsWithin, DegreeWithin, OfTrial};
 
 use crate::commands::{
     analysis_certificate, analysis_lines, analysis_powers, list_code, list_types, verification,
@@ -32,6 +32,7 @@ pub fn request_answer<S: Store>(
 ) -> Result<Report, Refusal>
     requires { IsWithin (request_of request.now) }
     ensures gives { Gives (Answers Promised (store_of (S.holds store.old) (S.faults store.old) (S.faults store.new)) (request_of request.now)) result }
+    ensures still { OfTrial (request_of request.now) (store.new ≡ store.old) }
     ensures kept { S.holds store.new ≡ S.holds store.old }
     ensures later { (name : Text) → S.faults store.old name ≤ S.faults store.new name }
 {

@@ -1,7 +1,7 @@
 // The top call.
-ghost use Rattle.std.specs.Prelude.{◌≡◌, ◌≤◌, ◌⊎◌, None, IfOk, IfErr};
+ghost use Rattle.std.specs.Prelude.{◌≡◌, ◌≤◌, ◌⊎◌, ℕ, None, IfOk, IfErr};
 ghost use Rattle.raml_syntax.specs.Tree.{Text};
-ghost use Rattle.raml_words.specs.Words.{texts, Asks};
+ghost use Rattle.raml_words.specs.Words.{texts, Asks, Trial};
 ghost use Rattle.raml_words.specs.Asked.{request_of};
 ghost use Rattle.refusals.specs.Line.{no_names};
 ghost use Rattle.raml_promise.specs.Outside.{Promised, store_of, sink_of, outside_of, Gains, GainsFront};
@@ -34,6 +34,9 @@ pub fn raml<S: Store, O: Sink, E: Sink>(
     ensures forced { Forced (outside_of (texts words.now) (store_of (S.holds store.old) (S.faults store.old) (S.faults store.new))
         (sink_of (O.faults out.old) (O.faults out.new) (O.written out.old) (O.written out.new))
         (sink_of (E.faults err.old) (E.faults err.new) (E.written err.old) (E.written err.new))) result }
+
+    // A made program is analysed and run without the store.
+    ensures still { (count : ℕ) → Asks (texts words.now) (Trial count) → store.new ≡ store.old }
 
     // What the store holds stays, and no count falls.
     ensures kept { S.holds store.new ≡ S.holds store.old }
@@ -69,6 +72,7 @@ fn put_line<E: Sink>(err: &mut E, line: &str)
 // What the words ask for.
 fn answer<S: Store>(alloc: Global, words: &[&str], store: &mut S) -> Result<Report, Refusal>
     ensures gives { Gives (WordsAnswer Promised (texts words.now) (store_of (S.holds store.old) (S.faults store.old) (S.faults store.new))) result }
+    ensures still { (count : ℕ) → Asks (texts words.now) (Trial count) → store.new ≡ store.old }
     ensures kept { S.holds store.new ≡ S.holds store.old }
     ensures later { (name : Text) → S.faults store.old name ≤ S.faults store.new name }
 {
