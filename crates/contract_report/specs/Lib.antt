@@ -1,3 +1,4 @@
 pub mod Verdicts
 pub mod Refused
 pub mod Told
+pub mod Steps
