@@ -1,5 +1,5 @@
 // The verdicts of declared bounds.
-ghost use Rattle.std.specs.Prelude.{◌≡◌, ◌<◌, ◌^◌, ◌++◌, ℕ, ℤ, true, List, length, Option, OnOk, IfOk, IfErr, string_bytes};
+ghost use Rattle.std.specs.Prelude.{◌≡◌, ◌<◌, ◌^◌, ◌++◌, ℕ, ℤ, suc, true, codes, List, length, slice_get, Option, Some, OnOk, IfOk, IfErr, string_bytes};
 ghost use Rattle.raml_syntax.specs.Read.{program_of};
 ghost use Rattle.share_normal.specs.Program.{source_in};
 ghost use Rattle.rules_plan.specs.Read.{program_in};
@@ -44,7 +44,7 @@ pub fn verdict_lines(
     requires work { has_work checked.now.certificate ≡ true }
     requires degree { declared.now.degree ≡ checked.now.certificate.degree }
     requires few { length declared.now.lines < 2 ^ 31 }
-    requires asked { (line : Line) → List.Contains declared.now.lines line → MayBeAsked checked.now line }
+    requires asked { (number : ℕ) (line : Line) → slice_get declared.now.lines number ≡ Some line → MayBeAsked checked.now line }
     ensures lines { IfOk result (λ text.
         AreVerdictLines (source_in checked.now.program) (program_in checked.now.program) checked.now.certificate declared.now.lines (string_bytes text)) }
     ensures clear { OnOk result (AllLinesClear (program_in checked.now.program) checked.now.certificate least_pick declared.now.lines) }
