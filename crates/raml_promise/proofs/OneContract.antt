@@ -9,7 +9,7 @@ use Rattle.simplex_checked.specs.Rules.{least_pick}
 use Rattle.bound_file.specs.Lines.{Line, Declaration}
 use Rattle.bound_file.specs.Answers.{Spells, FirstFault}
 use Rattle.bound_file.specs.declared.fault.DeclFault.{DeclFault}
-use Rattle.bound_file.proofs.Answered.{one_answer}
+use Rattle.bound_file.proofs.Told.{one_answer}
 use Rattle.contract_report.specs.Verdicts.{AreVerdictLines}
 use Rattle.contract_report.specs.Refused.{Excess, Rows, Number, FirstExceeds, AllLinesClear}
 use Rattle.contract_report.proofs.Once.{one_exceeds_first, clear_exceeds_none}
