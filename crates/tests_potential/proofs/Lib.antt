@@ -1,3 +1,0 @@
-mod SampledPoints
-mod SampledTexts
-mod There
