@@ -4,3 +4,7 @@ pub mod Spelling
 pub mod Declares
 pub mod Answers
 pub mod Text
+pub mod Numbers
+pub mod Tuples
+pub mod Reading
+pub mod Lined

@@ -1,0 +1,14 @@
+-- How the digits of a number are told.
+use Rattle.std.specs.Prelude.{◌≡◌, Bool, true, false, not, nat_eq, ◌&&◌, ◌||◌, ◌==◌, List, [], ◌∷◌, length}
+use Rattle.std.specs.Str.{all_ascii_digits}
+use Rattle.raml_syntax.specs.Tree.{Text}
+
+-- one or more digits, the first of them a zero only where it is the only one
+abbrev pub is_number : Text → Bool
+is_number [] = false
+is_number (byte ∷ text) = (not (nat_eq byte 48) || length text == 0) && all_ascii_digits (byte ∷ text)
+
+-- the digits are those of numbers, and there may be no second number
+pub record AreNumbers (numerator denominator : Text) : Type 0 where
+  pub numerator : is_number numerator ≡ true
+  pub denominator : (length denominator == 0 || is_number denominator) ≡ true
