@@ -4,7 +4,10 @@ pub mod Spelling
 pub mod Declares
 pub mod Answers
 pub mod Text
-pub mod Numbers
+pub mod Digits
 pub mod Tuples
+pub mod Names
 pub mod Reading
+pub mod Seen
+pub mod Strip
 pub mod Lined

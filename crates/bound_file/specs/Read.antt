@@ -20,6 +20,9 @@ lines_of lines = map line_of lines
 abbrev pub ArePositive : List (ℕ × ℤ × ℤ) → Type 0
 ArePositive cs = All (λ c. (pos 0 <ℤ c.1) × (pos 0 <ℤ c.2)) cs
 
+abbrev pub IsSigned : DeclLine → Type 0
+IsSigned line = ArePositive line.bound.items
+
 pub record IsSound (line : DeclLine) : Type 0 where
   pub proper : IsProper (line_of line)
-  pub positive : ArePositive line.bound.items
+  pub positive : IsSigned line

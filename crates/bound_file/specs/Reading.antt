@@ -16,7 +16,7 @@ use Rattle.bound_file.specs.Lines.{Coefficient, Line}
 use Rattle.bound_file.specs.Spelling.{Term, tuple_text, Written}
 use Rattle.bound_file.specs.Declares.{numerator_of, denominator_of}
 use Rattle.bound_file.specs.Answers.{longer, is_declared}
-use Rattle.bound_file.specs.Numbers.{is_number}
+use Rattle.bound_file.specs.Digits.{is_number}
 use Rattle.bound_file.specs.Tuples.{is_tuple}
 use Rattle.bound_file.specs.declared.fault.LineFault.{LineFault}
 use Rattle.bound_file.specs.declared.fault.LineFault.TheVariants.{Shape, Number, Unknown, Index, Twice}
@@ -201,11 +201,15 @@ abbrev pub or_index : ℕ → Meter → Option (List Coefficient) → Result Lin
 or_index place meter None = Err Index
 or_index place meter (Some bound) = Ok (record { fun = place; meter = meter; bound = bound })
 
+-- what the terms declare of a function at its place
+abbrev pub of_function : ℕ → ℕ → Meter → List Counted → Function → Result Line LineFault
+of_function d place meter cs fun = or_index place meter (bound_read (types_of fun) d cs)
+
 module _ (P : Prog) (d : ℕ) where
   -- a place that is found is that of a function
   abbrev pub at_function : ℕ → Meter → List Counted → Option Function → Result Line LineFault
   at_function place meter cs None = Err Unknown
-  at_function place meter cs (Some fun) = or_index place meter (bound_read (types_of fun) d cs)
+  at_function place meter cs (Some fun) = of_function d place meter cs fun
 
   abbrev pub at_place : Meter → List Counted → Option ℕ → Result Line LineFault
   at_place meter cs None = Err Unknown
@@ -215,9 +219,17 @@ module _ (P : Prog) (d : ℕ) where
   with_all w None = Err Number
   with_all w (Some cs) = at_place w.meter cs (place_of w.name P)
 
-  abbrev pub declared_by : Option Written → Result Line LineFault
-  declared_by None = Err Shape
-  declared_by (Some w) = with_all w (all_counted w.terms)
+  -- what is declared by what is written
+  abbrev pub declared_by : Written → Result Line LineFault
+  declared_by w = with_all w (all_counted w.terms)
+
+  abbrev pub or_shape : Option Written → Result Line LineFault
+  or_shape None = Err Shape
+  or_shape (Some w) = declared_by w
+
+  -- what a text declares as a line
+  abbrev pub text_read : Text → Result Line LineFault
+  text_read text = or_shape (line_read text)
 
   -- the lines with what is declared, or the fault
   abbrev pub with_line : List Line → Result Line LineFault → Result (List Line) LineFault
@@ -225,4 +237,4 @@ module _ (P : Prog) (d : ℕ) where
   with_line lines (Ok line) = cond (is_declared lines line.fun line.meter) (Err Twice) (Ok (lines ++ line ∷ []))
 
   abbrev pub line_added : List Line → Text → Result (List Line) LineFault
-  line_added lines text = with_line lines (declared_by (line_read text))
+  line_added lines text = with_line lines (text_read text)

@@ -1,5 +1,5 @@
 -- How the text of a tuple is read, byte by byte.
-use Rattle.std.specs.Prelude.{◌≡◌, ℕ, nat_eq, Bool, true, false, ◌&&◌, ◌||◌, List, [], ◌∷◌, ◌++◌, cond, Option, Some, None, option_map}
+use Rattle.std.specs.Prelude.{◌≡◌, ℕ, nat_eq, Bool, true, false, not, ◌&&◌, ◌||◌, List, [], ◌∷◌, ◌++◌, cond, Option, Some, None, option_map}
 use Rattle.raml_syntax.specs.Tree.{Text}
 pub use Rattle.bound_file.specs.declared.tuple.Goal.{Goal}
 pub use Rattle.bound_file.specs.declared.tuple.Goal.TheVariants.{Index, Entries, More, Byte}
@@ -17,10 +17,10 @@ met Entries byte = cond (nat_eq byte 93) (Some []) (option_map (λ goals. goals 
 met (More close) byte = cond (nat_eq byte close) (Some []) (cond (nat_eq byte 44) (Some (Byte 32 ∷ Index ∷ More close ∷ [])) None)
 met (Byte wanted) byte = cond (nat_eq byte wanted) (Some []) None
 
--- an entry of a list begins with the byte
-abbrev pub is_entry : Goal → ℕ → Bool
-is_entry Entries byte = cond (nat_eq byte 93) false true
-is_entry _ byte = false
+-- an entry of a list begins with the byte, or was seen before
+abbrev pub seen_by : Goal → ℕ → Bool → Bool
+seen_by Entries byte seen = seen || not (nat_eq byte 93)
+seen_by goal byte seen = seen
 
 abbrev pub after : Option (List Goal) → (List Goal → Bool) → Bool
 after None read = false
@@ -31,7 +31,7 @@ abbrev pub reads : Bool → List Goal → Text → Bool
 reads seen [] [] = seen
 reads seen (goal ∷ goals) [] = false
 reads seen [] (byte ∷ text) = false
-reads seen (goal ∷ goals) (byte ∷ text) = after (met goal byte) (λ more. reads (seen || is_entry goal byte) (more ++ goals) text)
+reads seen (goal ∷ goals) (byte ∷ text) = after (met goal byte) (λ more. reads (seen_by goal byte seen) (more ++ goals) text)
 
 -- the text of a tuple that is not the zero tuple
 abbrev pub is_tuple : Text → Bool

@@ -54,6 +54,35 @@ impl<T: Drop> From<AllocFailed<T>> for DeclError {
     }
 }
 
+/// Why no line is read.
+#[derive(Clone, Copy, PartialEq, Eq, Debug)]
+pub enum LineError {
+    Fault(LineFault),
+    NoMemory,
+}
+
+impl From<AllocError> for LineError {
+    ghost use Rattle.std.specs.Prelude.{◌≡◌};
+    ghost use Rattle.bound_file.specs.declared.fault.LineError.TheVariants.{NoMemory};
+
+    ghost from_gives = { λ _ e. e ≡ NoMemory };
+
+    fn from(_: AllocError) -> Self {
+        LineError::NoMemory
+    }
+}
+
+impl<T: Drop> From<AllocFailed<T>> for LineError {
+    ghost use Rattle.std.specs.Prelude.{◌≡◌};
+    ghost use Rattle.bound_file.specs.declared.fault.LineError.TheVariants.{NoMemory};
+
+    ghost from_gives = { λ _ e. e ≡ NoMemory };
+
+    fn from(_: AllocFailed<T>) -> Self {
+        LineError::NoMemory
+    }
+}
+
 /// The line that tells the fault: `raml: bounds: line 3: shape`.
 pub fn fault_line(alloc: Global, fault: DeclFault) -> Result<String, AllocError>
     ensures { IfOk result (λ line. string_bytes line ≡ bounds_line fault) }

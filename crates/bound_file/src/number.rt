@@ -2,7 +2,7 @@
 ghost use Rattle.std.specs.Prelude.{◌≡◌, ◌<ℤ◌, pos, IfSome, true, option_map, unsigned_abs};
 ghost use Rattle.std.specs.Str.{all_ascii_digits};
 ghost use Rattle.std.specs.Str.Parse.{digits_value};
-ghost use Rattle.bound_file.specs.Numbers.{is_number};
+ghost use Rattle.bound_file.specs.Digits.{is_number};
 ghost use Rattle.bound_file.specs.Reading.{in_range};
 
 fn are_digits(bytes: &[u8]) -> bool

@@ -1,5 +1,5 @@
 // Terms as they are written.
-ghost use Rattle.bound_file.specs.Numbers.{AreNumbers};
+ghost use Rattle.bound_file.specs.Digits.{AreNumbers};
 
 /// What is written in a term: the digits of its numbers, and its tuple. Without a stroke nothing stands
 /// for the denominator, and nothing stands for the zero tuple.

@@ -1,6 +1,6 @@
 // The texts of tuples of indices.
 ghost use Rattle.std.specs.Prelude.{◌≡◌, ◌∷◌, [], IfOk, false};
-ghost use Rattle.bound_file.specs.Tuples.{Index, More, begin_index, met, is_entry, reads, is_tuple, Meets};
+ghost use Rattle.bound_file.specs.Tuples.{Index, Entries, More, begin_index, met, seen_by, reads, is_tuple, Meets};
 
 use std::alloc::{AllocError, Global};
 
@@ -76,11 +76,14 @@ fn meet(goals: &mut Vec<Goal>, goal: Goal, byte: u8) -> Result<bool, AllocError>
     }
 }
 
-// Whether an entry of a list begins with the byte.
-fn is_entry(goal: Goal, byte: u8) -> bool
-    ensures { result ≡ is_entry goal byte }
+// Whether an entry of a list begins with the byte, or was seen before.
+fn seen_by(goal: Goal, byte: u8, seen: bool) -> bool
+    ensures { result ≡ seen_by goal byte seen }
 {
-    matches!(goal, Goal::Entries) && byte != b']'
+    match goal {
+        Goal::Entries => seen || byte != b']',
+        _ => seen,
+    }
 }
 
 // Whether indices are read in the text, and then a bracket, which ends it; and an entry of a list among them.
@@ -94,7 +97,7 @@ fn reads(alloc: Global, text: &[u8]) -> Result<bool, AllocError>
         let Some(goal) = goals.pop() else {
             return Ok(false);
         };
-        seen = seen || is_entry(goal, *byte);
+        seen = seen_by(goal, *byte, seen);
         if !meet(&mut goals, goal, *byte)? {
             return Ok(false);
         }

@@ -8,7 +8,6 @@ abbrev pub is_number : Text → Bool
 is_number [] = false
 is_number (byte ∷ text) = (not (nat_eq byte 48) || length text == 0) && all_ascii_digits (byte ∷ text)
 
--- the digits are those of numbers, and there may be no second number
-pub record AreNumbers (numerator denominator : Text) : Type 0 where
-  pub numerator : is_number numerator ≡ true
-  pub denominator : (length denominator == 0 || is_number denominator) ≡ true
+-- the digits are those of a number, and the others are too, or there are none
+abbrev pub AreNumbers : Text → Text → Type 0
+AreNumbers numerator denominator = (is_number numerator ≡ true) × ((length denominator == 0 || is_number denominator) ≡ true)
