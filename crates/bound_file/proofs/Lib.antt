@@ -1,1 +1,5 @@
+mod Cuts
 mod Tupled
+mod Terms
+mod Sums
+mod Words

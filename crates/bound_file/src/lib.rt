@@ -4,11 +4,11 @@
 mod counted;
 mod cut;
 mod declaration;
-mod declares;
 mod fault;
 mod file;
 mod line;
 mod matching;
+mod meaning;
 mod name;
 mod number;
 mod numbers;

@@ -22,7 +22,7 @@ pub struct Parts<'a> {
 }
 
 // The parts of a line around the sign `<=`.
-fn parts<'a>(text: &'a str) -> Option<Parts<'a>>
+fn cut_parts<'a>(text: &'a str) -> Option<Parts<'a>>
     ensures { option_map parts_of result ≡ parts_read text.now }
 {
     let (name, behind) = cut_at(text, ' ')?;
@@ -74,7 +74,7 @@ fn are_distinct<'a>(terms: &[Term<'a>]) -> bool
 
 // The line of a name and a meter, and of these terms, if no tuple stands twice in them.
 fn with_terms<'a>(name: &'a str, meter: Meter, terms: Vec<Term<'a>>) -> Option<Line<'a>>
-    ensures { option_map written_of result ≡ with_terms name.now meter (terms_of terms.items) }
+    ensures { option_map written_of result ≡ with_terms name.now meter (terms_of terms.entry.items) }
 {
     if are_distinct(&terms) {
         Some(Line { name, meter, terms })
@@ -105,7 +105,7 @@ pub fn line<'a>(alloc: Global, text: &'a str) -> Result<Option<Line<'a>>, AllocE
     requires { length text.now < 2 ^ 31 }
     ensures { IfOk result (λ found. option_map written_of found ≡ line_read text.now) }
 {
-    match parts(text) {
+    match cut_parts(text) {
         Some(parts) => line_from(alloc, parts),
         None => Ok(None),
     }
