@@ -1,5 +1,9 @@
 mod Cuts
 mod Tupled
+mod Stacks
 mod Terms
 mod Sums
 mod Words
+mod LineRead
+mod Bounds
+mod Told

@@ -2,11 +2,13 @@
 use Rattle.std.proofs.Common.{◌≡◌, ◌≢◌, ◌<◌, ℕ, suc, Bool, true, false, cond, List, [], ◌∷◌, ◌++◌, length, Option, Some, None, refl, sym, ap, subst, ◌∙◌, arith, append_assoc, append-nil}
 use Rattle.std.specs.Prelude.{nat_eq, option_map, codes}
 use Rattle.std.specs.Str.{bytes_eq}
+use Rattle.std.specs.Option.{MatchOption}
+use Rattle.std.specs.Borrow.{Bor}
 use Rattle.std.specs.Cmp.Lexicographic.{bytes_decides}
 use Rattle.std.proofs.lemmas.Bool.{ne_eqb}
 use Rattle.raml_syntax.specs.Tree.{Text}
 use Rattle.bound_file.specs.Spelling.{Term, term_text, more_terms, AreTerms, IsTerm, IsSum}
-use Rattle.bound_file.specs.Reading.{cut_at, behind_space, before_space, and_then, term_read, last_read, inner_read, pieces, with_term, each_read, sum_read}
+use Rattle.bound_file.specs.Reading.{lent, cut_at, behind_space, before_space, and_then, term_read, last_read, inner_read, pieces, with_term, each_read, sum_read}
 use Rattle.bound_file.proofs.Cuts.{nat_same, cut_there, lacks_both, pieces_none, pieces_some, SomeParts, some_pieces, joined, pieces_join}
 use Rattle.bound_file.proofs.Terms.{term_there, term_lacks, IsRead, term_is}
 
@@ -150,3 +152,20 @@ sum_is text ts e = at (bytes_eq text (codes " 0")) (bytes_decides text (codes " 
       where
         no : false ≡ true → ⊥
         no q = cc
+
+-- what stripping a space answers
+pub before_from : (text : Text) (r : Option (Bor Text)) → MatchOption r ((front : List ℕ) → text ≢ front ++ 32 ∷ []) (λ x. text ≡ x.now ++ 32 ∷ []) → lent r ≡ before_space text
+before_from text None h = at (before_space text) (before_is text)
+  where
+    at : (o : Option Text) → ((front : Text) → o ≡ Some front → text ≡ front ++ 32 ∷ []) → None ≡ o
+    at None is = refl
+    at (Some front) is = absurd (h front (is front refl))
+before_from text (Some x) h = sym (ap before_space h ∙ before_there x.now)
+
+pub behind_from : (text : Text) (r : Option (Bor Text)) → MatchOption r ((rest : List ℕ) → text ≢ 32 ∷ rest) (λ x. text ≡ 32 ∷ x.now) → lent r ≡ behind_space text
+behind_from text None h = at (behind_space text) (behind_is text)
+  where
+    at : (o : Option Text) → ((rest : Text) → o ≡ Some rest → text ≡ 32 ∷ rest) → None ≡ o
+    at None is = refl
+    at (Some rest) is = absurd (h rest (is rest refl))
+behind_from text (Some x) h = sym (ap behind_space h)

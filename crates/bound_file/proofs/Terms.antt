@@ -1,12 +1,14 @@
 -- What is read as a term is one.
-use Rattle.std.proofs.Common.{◌≡◌, ◌≢◌, ◌≤◌, ◌<◌, ◌+◌, ℕ, suc, Bool, true, false, cond, not, List, [], ◌∷◌, ◌++◌, length, get_or, Option, Some, None, refl, sym, ap, subst, ◌∙◌, arith, append_assoc, append-nil}
+use Rattle.std.proofs.Common.{◌≡◌, ◌≢◌, ◌≤◌, ◌<◌, ◌+◌, ◌^◌, ℕ, ℤ, pos, suc, Result, Ok, Err, Bool, true, false, cond, not, List, [], ◌∷◌, ◌++◌, length, get_or, Option, Some, None, refl, sym, ap, subst, ◌∙◌, arith, append_assoc, append-nil}
 use Rattle.std.proofs.lemmas.Bool.{and_parts, eqb-true, eqb-false, eq-eqb, ne_eqb}
 use Rattle.std.proofs.lemmas.Bool.Decides.{nat_tests}
-use Rattle.std.proofs.lemmas.Str.Parse.{IsNumeralModel, numerals_by_value, tells_digits, tells_all_ascii_digits, not_in_digits}
+use Rattle.std.proofs.lemmas.Str.Parse.{IsNumeralModel, numerals_by_value, tells_digits, tells_all_ascii_digits, not_in_digits, parse_signed_digits}
 use Rattle.std.specs.Prelude.{nat_eq, nat_lt, ◌||◌, ◌&&◌, ◌==◌, ◌⊎◌, codes, option_map}
 use Rattle.std.specs.Int.{IsInRange}
 use Rattle.std.specs.Str.{all_ascii_digits}
-use Rattle.std.specs.Str.Parse.{AllDigits, IsNumeral, digits_value}
+use Rattle.std.specs.Str.Parse.{AllDigits, IsNumeral, digits_value, ParsesSigned}
+use Rattle.std.specs.Result.{OkIff}
+use Rattle.std.specs.Int.{w128}
 use mathlib.Core.Logic.{inl, inr}
 use Rattle.raml_syntax.specs.Tree.{Text}
 use Rattle.base_poly.specs.Plain.{Plain, Unit', Pair, End, Then, NoEntry, OneEntry, many, degrees}
@@ -14,7 +16,7 @@ use Rattle.poly_text.specs.Text.{index_text, more_entries, entries_text}
 use Rattle.bound_file.specs.Spelling.{Term, behind, term_text, IsNumber, tuple_text, IsTuple, IsTerm}
 use Rattle.bound_file.specs.Digits.{is_number}
 use Rattle.bound_file.specs.Tuples.{is_tuple}
-use Rattle.bound_file.specs.Reading.{cut_at, with_front, whole_read, over_read, quotient_from, quotient_read, term_from, term_read}
+use Rattle.bound_file.specs.Reading.{in_range, cut_at, with_front, whole_read, over_read, quotient_from, quotient_read, term_from, term_read}
 use Rattle.bound_file.proofs.Cuts.{cut_is, cut_there, no_cut, lacks_both}
 use Rattle.bound_file.proofs.Tupled.{some_have, tuple_read, tuple_is}
 
@@ -222,3 +224,22 @@ term_is w t e = at (cut_at 42 w) (cut_is 42 w) e
     at : (o : Option (Text × Text)) → ((parts : Text × Text) → o ≡ Some parts → w ≡ parts.0 ++ 42 ∷ parts.1) → term_from w o ≡ Some t → IsRead w t
     at None is e = joined w [] (sym (append-nil w)) ([], refl) (quotient_is w [] t e)
     at (Some parts) is e = some parts.0 parts.1 (is parts refl) (is_tuple parts.1) (λ f. f) e
+
+-- what parsing refuses is out of range
+pub number_refused : {E : Type 0} (digits : Text) (r : Result ℤ E) (e : E) → r ≡ Err e → is_number digits ≡ true → ParsesSigned w128 10 digits r → ◌≡◌ {A = Option ℕ} None (in_range (digits_value 10 digits))
+number_refused {E} digits r e is told parsed =
+    let h = (number_is digits told).numeral in
+    at r is (parse_signed_digits ascii w128 digits r parsed (ascii.from digits h.1))
+  where
+    n : ℕ
+    n = digits_value 10 digits
+
+    out : (n < 2 ^ 127 → ⊥) → ◌≡◌ {A = Option ℕ} None (in_range n)
+    out wide = sym (ap (λ b. cond b (Some n) None) (test wide))
+      where
+        test : (n < 2 ^ 127 → ⊥) → (nat_lt 0 n && nat_lt n (2 ^ 127)) ≡ false
+        test wide = grind (arith, nat_tests, wide)
+
+    at : (r : Result ℤ E) → r ≡ Err e → OkIff r ((0 < length digits) × (n < 2 ^ 127)) (pos n) → ◌≡◌ {A = Option ℕ} None (in_range n)
+    at (Ok x) is h = absurd (cc)
+    at (Err x) is h = out (λ low. h ((number_is digits told).numeral.0, low))

@@ -37,10 +37,10 @@ abbrev pub is_declared : List Line → ℕ → Meter → Bool
 is_declared [] fun meter = false
 is_declared (line ∷ lines) fun meter = (nat_eq line.fun fun && same_meter line.meter meter) || is_declared lines fun meter
 
--- no function is declared twice on a meter
-abbrev pub EachOnce : List Line → Type 0
-EachOnce [] = Unit {0}
-EachOnce (line ∷ lines) = (is_declared lines line.fun line.meter ≡ false) × EachOnce lines
+-- behind these lines, each declares what none before it does
+abbrev pub EachNew : List Line → List Line → Type 0
+EachNew before [] = Unit {0}
+EachNew before (line ∷ lines) = (is_declared before line.fun line.meter ≡ false) × EachNew (before ++ line ∷ []) lines
 
 -- the bounds are those of functions of the program, at positions that their parameters have
 abbrev pub AreWithin : Prog → Declaration → Type 0
@@ -56,7 +56,7 @@ module _ (P : Prog) (d : ℕ) where
 
   pub record AreDeclared (texts : List Text) (lines : List Line) : Type 0 where
     pub each : DeclareEach texts lines
-    pub once : EachOnce lines
+    pub new : EachNew [] lines
 
   -- the bytes spell these declared bounds
   pub record Spells (bytes : Text) (D : Declaration) : Type 0 where

@@ -1,0 +1,45 @@
+-- What stacks of goals come to.
+use Rattle.std.proofs.Common.{◌≡◌, ℕ, Bool, true, false, cond, List, [], ◌∷◌, ◌++◌, Option, Some, None, refl, sym, ap, subst, ◌∙◌, arith, append_assoc, append-nil}
+use Rattle.std.specs.Prelude.{nat_eq, option_map}
+use Rattle.bound_file.specs.Tuples.{Goal, Index, Entries, More, Byte, begin_index, met, next_first, Meets}
+
+pub next_first_both : (xs ys : List Goal) → next_first (xs ++ ys) ≡ next_first ys ++ next_first xs
+next_first_both [] ys = sym (append-nil (next_first ys))
+next_first_both (x ∷ xs) ys = ap (λ gs. gs ++ x ∷ []) (next_first_both xs ys) ∙ append_assoc (next_first ys) (next_first xs) (x ∷ [])
+
+pub begins_pair : (byte : ℕ) (old new : List Goal) → byte ≡ 40 → new ≡ old ++ (Byte 41 ∷ Index ∷ Byte 32 ∷ Byte 44 ∷ Index ∷ []) → Meets true (begin_index byte) old new
+begins_pair byte old new is e = subst (λ b. Meets true (begin_index b) old new) (sym is) (ap next_first e ∙ next_first_both old (Byte 41 ∷ Index ∷ Byte 32 ∷ Byte 44 ∷ Index ∷ []))
+
+pub begins_list : (byte : ℕ) (old new : List Goal) → byte ≡ 91 → new ≡ old ++ Entries ∷ [] → Meets true (begin_index byte) old new
+begins_list byte old new is e = subst (λ b. Meets true (begin_index b) old new) (sym is) (ap next_first e ∙ next_first_both old (Entries ∷ []))
+
+pub goes_on : (byte close : ℕ) (old new : List Goal) → (byte ≡ close → ⊥) → byte ≡ 44 → new ≡ old ++ (More close ∷ Index ∷ Byte 32 ∷ []) → Meets true (met (More close) byte) old new
+goes_on byte close old new apart is e = at (nat_eq byte close) (nat_eq byte 44) (λ q. apart (same byte close q)) (comma byte is)
+  where
+    same : (a b : ℕ) → nat_eq a b ≡ true → a ≡ b
+    same a b q = grind (arith, q)
+
+    comma : (a : ℕ) → a ≡ 44 → nat_eq a 44 ≡ true
+    comma a q = grind (arith, q)
+
+    at : (u v : Bool) → (u ≡ true → ⊥) → v ≡ true → Meets true (cond u (Some []) (cond v (Some (Byte 32 ∷ Index ∷ More close ∷ [])) None)) old new
+    at true v f q = absurd (f refl)
+    at false true f q = ap next_first e ∙ next_first_both old (More close ∷ Index ∷ Byte 32 ∷ [])
+    at false false f q = absurd (cc)
+
+-- an entry is begun above what goes on behind it
+pub entry_met : (byte : ℕ) (can : Bool) (old between new : List Goal) → (byte ≡ 93 → ⊥) → between ≡ old ++ More 93 ∷ [] → Meets can (begin_index byte) between new → Meets can (met Entries byte) old new
+entry_met byte can old between new apart e h = at (nat_eq byte 93) (λ q. apart (same byte 93 q))
+  where
+    same : (a b : ℕ) → nat_eq a b ≡ true → a ≡ b
+    same a b q = grind (arith, q)
+
+    above : (can : Bool) (o : Option (List Goal)) → Meets can o between new → Meets can (option_map (λ (gs : List Goal). gs ++ More 93 ∷ []) o) old new
+    above true (Some gs) h = h ∙ ap (λ ws. gs ++ ws) (ap next_first e ∙ next_first_both old (More 93 ∷ [])) ∙ sym (append_assoc gs (More 93 ∷ []) (next_first old))
+    above false None h = tt
+    above true None h = h
+    above false (Some gs) h = h
+
+    at : (u : Bool) → (u ≡ true → ⊥) → Meets can (cond u (Some []) (option_map (λ (gs : List Goal). gs ++ More 93 ∷ []) (begin_index byte))) old new
+    at true f = absurd (f refl)
+    at false f = above can (begin_index byte) h
