@@ -4,6 +4,9 @@ mod Stacks
 mod Terms
 mod Sums
 mod Words
+mod Named
 mod LineRead
 mod Bounds
 mod Told
+mod Answered
+mod Computed

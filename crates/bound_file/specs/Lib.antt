@@ -11,3 +11,5 @@ pub mod Reading
 pub mod Seen
 pub mod Strip
 pub mod Lined
+pub mod Laws
+pub mod Example

@@ -6,6 +6,7 @@ mod cut;
 mod declaration;
 mod fault;
 mod file;
+pub mod laws;
 mod line;
 mod matching;
 mod meaning;
