@@ -3,12 +3,13 @@ use Rattle.std.proofs.Common.{◌≡◌, ◌≢◌, ◌≤◌, ◌<◌, ◌+◌,
 use Rattle.std.proofs.lemmas.Bool.{and_parts, leb-true, leb-false, le-leb}
 use Rattle.std.proofs.lemmas.Bool.Decides.{nat_tests}
 use Rattle.std.specs.Prelude.{nat_eq, nat_le, nat_lt, ◌&&◌, ◌||◌, slice_get, Contains}
-use Rattle.std.specs.List.{list_all, list_any}
+use Rattle.std.specs.List.{All, list_all, list_any}
 use Rattle.std.specs.Str.{bytes_eq}
 use Rattle.std.specs.Cmp.Lexicographic.{bytes_decides}
 use Rattle.raml_syntax.specs.Tree.{Text, Type'}
 use Rattle.raml_syntax.specs.Types.{Differ}
-use Rattle.base_poly.specs.Plain.{Plain}
+use Rattle.base_poly.specs.Plain.{Plain, degrees}
+use Rattle.base_poly.proofs.Exact.{each_listed}
 use Rattle.base_poly.specs.Indices.{index_list}
 use Rattle.base_poly.proofs.Among.{Among, among_contains, contains_among, among_mapped, mapped_among}
 use Rattle.bound_file.specs.Lines.{Coefficient, AscendFrom, AreInRange, AreBelow}
@@ -303,7 +304,9 @@ module _ (As : List Type') (d : ℕ) (ts : List Term) (differ : Differ (tuples t
       let t = h.0 in
       let o = h.2 in
       let m = mapped_among counted_as t ts (contains_among t ts h.1) in
-      let there : Among (coefficient x.position (counted_as t)) bound = gathered_there 0 us cs (apart ts differ) x.position o.at.0 (counted_as t) o.at.1 m o.at.2 in
+      let from : 0 + x.position ≡ x.position = omega arith in
+      let there : Among (coefficient x.position (counted_as t)) bound =
+      subst (λ n. Among (coefficient n (counted_as t)) bound) from (gathered_there 0 us cs (apart ts differ) x.position o.at.0 (counted_as t) o.at.1 m o.at.2) in
       let same : coefficient x.position (counted_as t) ≡ x = λ i. record { position = x.position; numerator = sym o.numerator i; denominator = sym o.denominator i } in
       among_contains x bound (subst (λ y. Among y bound) same there)
 
@@ -415,3 +418,19 @@ below As d ts (c ∷ cs) is =
 
 pub bound_below : (As : List Type') (d : ℕ) (ts : List Term) (b : List Coefficient) → IsBound As d ts b → AreBelow (length (index_list As d)) b
 bound_below As d ts b g = below As d ts b (λ c m. (g.exactly c).0 (among_contains c b m))
+
+-- What is read of terms, by how many positions there are
+
+pub low_tuples : (As : List Type') (d : ℕ) → d < 256 → (ts : List (List Plain)) → ts ≡ index_list As d → All (λ t. degrees t < 2 ^ 32) ts
+low_tuples As d few ts e = subst (All (λ t. degrees t < 2 ^ 32)) (sym e) (each_listed (λ t. degrees t < 2 ^ 32) As d (λ t is less. omega (arith, few, less)))
+
+pub bound_few : (As : List Type') (d : ℕ) (xs : List Counted) → (length xs ≡ 0 → ⊥) → length (index_list As d) ≤ 2000 → bound_read As d xs ≡ bound_over (index_list As d) xs
+bound_few As d [] some few = absurd (some refl)
+bound_few As d (x ∷ xs) some few = ap (λ b. cond b (bound_over (index_list As d) (x ∷ xs)) None) (le-leb (length (index_list As d)) 2000 few)
+
+pub bound_many : (As : List Type') (d : ℕ) (xs : List Counted) → (length xs ≡ 0 → ⊥) → 2000 < length (index_list As d) → bound_read As d xs ≡ None
+bound_many As d [] some many = absurd (some refl)
+bound_many As d (x ∷ xs) some many = ap (λ b. cond b (bound_over (index_list As d) (x ∷ xs)) None) (above (length (index_list As d)) many)
+  where
+    above : (n : ℕ) → 2000 < n → nat_le n 2000 ≡ false
+    above n h = grind (arith, nat_tests, h)

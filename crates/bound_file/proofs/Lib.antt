@@ -5,7 +5,9 @@ mod Terms
 mod Sums
 mod Words
 mod Named
+mod Stripped
 mod LineRead
+mod Placed
 mod Bounds
 mod Told
 mod Answered

@@ -85,7 +85,7 @@ parts_there name sum m lacks =
     ap (λ o. and_then o (λ p. and_then (cut_at 32 p.1) (λ q. and_then (cut_at 61 q.1) (at_sign p.0 q.0)))) (cut_there 32 name behind lacks)
     ∙ ap (λ o. and_then o (λ q. and_then (cut_at 61 q.1) (at_sign name q.0))) (meter_cut m (60 ∷ 61 ∷ 32 ∷ sum))
 
-parts_is : (line : Text) (p : Parts) → parts_read line ≡ Some p → line ≡ p.name ++ 32 ∷ (p.meter ++ 32 ∷ 60 ∷ 61 ∷ p.sum)
+pub parts_is : (line : Text) (p : Parts) → parts_read line ≡ Some p → line ≡ p.name ++ 32 ∷ (p.meter ++ 32 ∷ 60 ∷ 61 ∷ p.sum)
 parts_is line p e = at (cut_at 32 line) (cut_is 32 line) e
   where
     sign : (name meter : Text) (parts : Text × Text) (behind : Text) → behind ≡ parts.0 ++ 61 ∷ parts.1 → line ≡ name ++ 32 ∷ (meter ++ 32 ∷ behind) → (b : Bool) → (b ≡ true → parts.0 ≡ codes "<") → cond b (Some (parts_with name meter parts.1)) None ≡ Some p → line ≡ p.name ++ 32 ∷ (p.meter ++ 32 ∷ 60 ∷ 61 ∷ p.sum)
@@ -130,7 +130,7 @@ line_is line w e = at (parts_read line) (parts_is line) e
         let f : written p.name m ts ≡ w = cc in
         subst (IsLine line) f (record {
           sum = s.sum;
-          is = whole ∙ (λ i. p.name ++ 32 ∷ (meter i ++ 32 ∷ 60 ∷ 61 ∷ s.text i));
+          is = whole ∙ (λ i. p.name ++ 32 ∷ (meter i ++ 32 ∷ 60 ∷ 61 ∷ s.spaced i));
           name = name;
           spelled = s.is;
           terms = s.terms;

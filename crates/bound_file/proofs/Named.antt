@@ -1,5 +1,5 @@
 -- One token that is a name is a name, and a name is one token.
-use Rattle.std.proofs.Common.{◌≡◌, ◌≤◌, ◌<◌, ◌+◌, ◌-◌, ℕ, Bool, true, false, List, [], ◌∷◌, ◌++◌, length, take, drop, Result, Ok, Err, refl, sym, ap, subst, ◌∙◌, arith, append-nil, length-append}
+use Rattle.std.proofs.Common.{◌≡◌, ◌≤◌, ◌<◌, ◌+◌, ◌-◌, ℕ, Bool, true, false, List, [], ◌∷◌, ◌++◌, length, take, drop, ◌⊎◌, inl, inr, Result, Ok, Err, refl, sym, ap, subst, ◌∙◌, arith, append-nil, length-append}
 use Rattle.std.proofs.lemmas.Bool.{and_parts, eqb-true, eq-eqb}
 use Rattle.std.specs.Prelude.{◌&&◌, ◌==◌, All, slice_range}
 use Rattle.raml_syntax.specs.declared.tree.Pos.{Pos}
@@ -8,10 +8,11 @@ use Rattle.raml_lex.specs.declared.token.Token.{Token}
 use Rattle.raml_lex.specs.declared.token.TokenKind.{TokenKind}
 use Rattle.raml_lex.specs.declared.token.TokenKind.TheVariants.{Name, Keyword, Number, Symbol}
 use Rattle.raml_lex.specs.declared.token.LexFault.{LexFault}
+use Rattle.raml_lex.specs.declared.token.LexFault.TheVariants.{NoMemory}
 use Rattle.raml_lex.specs.Lexemes.{IsFront, is_lower, IsWord, IsLexeme}
 use Rattle.raml_lex.specs.Lexing.{OpensComment, Cut, start, token, word, Spelled, FirstFault, Answers, HasOneAnswer, StandsIn}
 use Rattle.raml_lex.proofs.Words.{clash}
-use Rattle.bound_file.specs.Names.{is_name_kind, is_whole_name}
+use Rattle.bound_file.specs.Names.{is_name_kind, is_whole_name, is_want}
 use Rattle.bound_file.specs.Reading.{is_name}
 use Rattle.bound_file.proofs.Words.{name_is, name_told}
 
@@ -99,3 +100,11 @@ module _ (text : Text) (answers : HasOneAnswer text) where
           let same : Err fault ≡ Ok (whole text ∷ []) = answers (Err fault) (Ok (whole text ∷ [])) h (spelled text (f refl)) in
           absurd (cc)
       at false f = refl
+
+  -- a text that is refused, but not for want of memory
+  pub refused_tells : (fault : LexFault) → is_want fault ≡ false → (fault ≡ NoMemory) ⊎ FirstFault text fault → false ≡ is_name text
+  refused_tells fault known (inl e) = absurd (apart (sym (ap is_want e) ∙ known))
+    where
+      apart : true ≡ false → ⊥
+      apart q = cc
+  refused_tells fault known (inr h) = fault_tells fault h

@@ -8,7 +8,7 @@ use Rattle.std.specs.Cmp.Lexicographic.{bytes_decides}
 use Rattle.std.proofs.lemmas.Bool.{ne_eqb}
 use Rattle.raml_syntax.specs.Tree.{Text}
 use Rattle.bound_file.specs.Spelling.{Term, term_text, more_terms, AreTerms, IsTerm, IsSum}
-use Rattle.bound_file.specs.Reading.{lent, cut_at, behind_space, before_space, and_then, term_read, last_read, inner_read, pieces, with_term, each_read, sum_read}
+use Rattle.bound_file.specs.Reading.{lent, lent_parts, cut_at, behind_space, before_space, and_then, term_read, last_read, inner_read, pieces, with_term, each_read, sum_read}
 use Rattle.bound_file.proofs.Cuts.{nat_same, cut_there, lacks_both, pieces_none, pieces_some, SomeParts, some_pieces, joined, pieces_join}
 use Rattle.bound_file.proofs.Terms.{term_there, term_lacks, IsRead, term_is}
 
@@ -130,7 +130,7 @@ each_spelled part (next ∷ parts) ts e = at (inner_read part) (inner_is part) (
 
 pub record IsSumRead (text : Text) (ts : List Term) : Type 0 where
   pub sum : Text
-  pub text : text ≡ 32 ∷ sum
+  pub spaced : text ≡ 32 ∷ sum
   pub is : IsSum sum ts
   pub terms : AreTerms ts
 
@@ -143,12 +143,12 @@ sum_is text ts e = at (bytes_eq text (codes " 0")) (bytes_decides text (codes " 
         subst (λ w. Spelled w ts) (ap joined (sym s.are) ∙ pieces_join text) (each_spelled s.first s.more ts (ap each_read (sym s.are) ∙ e))
 
     at : (b : Bool) → (b ≡ true → text ≡ codes " 0") → (text ≡ codes " 0" → b ≡ true) → cond b (Some []) (each_read (pieces text)) ≡ Some ts → IsSumRead text ts
-    at true same there e = let f : [] ≡ ts = cc in record { sum = codes "0"; text = same refl; is = subst (IsSum (codes "0")) f refl; terms = subst AreTerms f tt }
+    at true same there e = let f : [] ≡ ts = cc in record { sum = codes "0"; spaced = same refl; is = subst (IsSum (codes "0")) f refl; terms = subst AreTerms f tt }
     at false same there e =
         let s = spelled e in
         let sum = term_text s.first ++ more_terms s.more in
         let apart : sum ≢ codes "0" = λ z. no (there (s.is ∙ ap (λ w. 32 ∷ w) z)) in
-        record { sum = sum; text = s.is; is = subst (IsSum sum) (sym s.are) (apart, refl); terms = subst AreTerms (sym s.are) s.terms }
+        record { sum = sum; spaced = s.is; is = subst (IsSum sum) (sym s.are) (apart, refl); terms = subst AreTerms (sym s.are) s.terms }
       where
         no : false ≡ true → ⊥
         no q = cc
@@ -169,3 +169,23 @@ behind_from text None h = at (behind_space text) (behind_is text)
     at None is = refl
     at (Some rest) is = absurd (h rest (is rest refl))
 behind_from text (Some x) h = sym (ap behind_space h)
+
+-- A step of the loop over the parts of a sum
+pub parts_after : (parts : Option (Bor Text × Bor Text)) (x : Bor Text × Bor Text) (rest : Text) → lent_parts parts ≡ cut_at 43 rest → parts ≡ Some x → cut_at 43 rest ≡ Some (x.0.now, x.1.now)
+parts_after parts x rest e is = sym e ∙ ap lent_parts is
+
+pub each_none : (rest piece behind : Text) → cut_at 43 rest ≡ Some (piece, behind) → inner_read piece ≡ None → each_read (pieces rest) ≡ None
+each_none rest piece behind cut none =
+    ap each_read (pieces_some rest (piece, behind) cut) ∙ each_step piece (pieces behind) (some_pieces behind) ∙ ap (λ o. with_term o (each_read (pieces behind))) none
+
+pub each_more : (rest piece behind : Text) (t : Term) → cut_at 43 rest ≡ Some (piece, behind) → inner_read piece ≡ Some t → each_read (pieces rest) ≡ with_term (Some t) (each_read (pieces behind))
+each_more rest piece behind t cut some =
+    ap each_read (pieces_some rest (piece, behind) cut) ∙ each_step piece (pieces behind) (some_pieces behind) ∙ ap (λ o. with_term o (each_read (pieces behind))) some
+
+pub each_last : (rest : Text) → cut_at 43 rest ≡ None → each_read (pieces rest) ≡ with_term (last_read rest) (Some [])
+each_last rest cut = ap each_read (pieces_none rest cut)
+
+-- what was found stands before what is read of the rest
+pub found_more : (found : List Term) (t : Term) (o whole : Option (List Term)) → option_map (λ (ts : List Term). found ++ ts) (with_term (Some t) o) ≡ whole → option_map (λ (ts : List Term). (found ++ t ∷ []) ++ ts) o ≡ whole
+found_more found t None whole e = e
+found_more found t (Some ts) whole e = ap Some (append_assoc found (t ∷ []) ts) ∙ e

@@ -78,14 +78,17 @@ mutual
   index_lacks : (i : Plain) → cut_at 43 (index_text i) ≡ None
   index_lacks Unit' = refl
   index_lacks (Pair a b) =
-      lacks_both 43 (codes "(") _ refl (lacks_both 43 (index_text a) _ (index_lacks a) (lacks_both 43 (codes ", ") _ refl (lacks_both 43 (index_text b) _ (index_lacks b) refl)))
+      lacks_both 43 (codes "(") (index_text a ++ (codes ", " ++ (index_text b ++ codes ")"))) refl
+      (lacks_both 43 (index_text a) (codes ", " ++ (index_text b ++ codes ")")) (index_lacks a) (lacks_both 43 (codes ", ") (index_text b ++ codes ")") refl (lacks_both 43 (index_text b) (codes ")") (index_lacks b) refl)))
   index_lacks End = refl
-  index_lacks (Then i r) = lacks_both 43 (codes "[") _ refl (lacks_both 43 (index_text i ++ more_entries r) _ (lacks_both 43 (index_text i) _ (index_lacks i) (more_lack r)) refl)
+  index_lacks (Then i r) =
+      lacks_both 43 (codes "[") ((index_text i ++ more_entries r) ++ codes "]") refl
+      (lacks_both 43 (index_text i ++ more_entries r) (codes "]") (lacks_both 43 (index_text i) (more_entries r) (index_lacks i) (more_lack r)) refl)
   index_lacks NoEntry = refl
-  index_lacks (OneEntry i) = lacks_both 43 (codes "[") _ refl (lacks_both 43 (index_text i) _ (index_lacks i) refl)
+  index_lacks (OneEntry i) = lacks_both 43 (codes "[") (index_text i ++ codes "]") refl (lacks_both 43 (index_text i) (codes "]") (index_lacks i) refl)
 
   more_lack : (r : Plain) → cut_at 43 (more_entries r) ≡ None
-  more_lack (Then i r) = lacks_both 43 (codes ", ") _ refl (lacks_both 43 (index_text i) _ (index_lacks i) (more_lack r))
+  more_lack (Then i r) = lacks_both 43 (codes ", ") (index_text i ++ more_entries r) refl (lacks_both 43 (index_text i) (more_entries r) (index_lacks i) (more_lack r))
   more_lack Unit' = refl
   more_lack (Pair a b) = refl
   more_lack End = refl
@@ -94,14 +97,14 @@ mutual
 
 entries_lack : (t : List Plain) → cut_at 43 (entries_text (many t)) ≡ None
 entries_lack [] = refl
-entries_lack (i ∷ t) = lacks_both 43 (index_text i) _ (index_lacks i) (more_lack (many t))
+entries_lack (i ∷ t) = lacks_both 43 (index_text i) (more_entries (many t)) (index_lacks i) (more_lack (many t))
 
 tuple_lacks : (t : List Plain) → cut_at 43 (tuple_text t) ≡ None
 tuple_lacks t = at (degrees t == 0)
   where
     at : (b : Bool) → cut_at 43 (cond b [] (codes "<" ++ (entries_text (many t) ++ codes ">"))) ≡ None
     at true = refl
-    at false = lacks_both 43 (codes "<") _ refl (lacks_both 43 (entries_text (many t)) _ (entries_lack t) refl)
+    at false = lacks_both 43 (codes "<") (entries_text (many t) ++ codes ">") refl (lacks_both 43 (entries_text (many t)) (codes ">") (entries_lack t) refl)
 
 -- the text of a tuple is none, or it is read as one
 pub tuple_told : (c : ℕ) (s : Text) → IsTuple (c ∷ s) → is_tuple (c ∷ s) ≡ true
@@ -164,8 +167,8 @@ term_there t h = term_with_there t.numerator t.denominator t.tuple h.numerator h
 -- a term has no plus
 pub term_lacks : (t : Term) → IsTerm t → cut_at 43 (term_text t) ≡ None
 term_lacks t h =
-    lacks_both 43 t.numerator _ (number_lacks 43 not_plus t.numerator h.numerator)
-    (lacks_both 43 (behind 47 t.denominator) _ (over_lacks 43 not_plus refl t.denominator h.denominator) (tail t.tuple h.tuple))
+    lacks_both 43 t.numerator (behind 47 t.denominator ++ behind 42 t.tuple) (number_lacks 43 not_plus t.numerator h.numerator)
+    (lacks_both 43 (behind 47 t.denominator) (behind 42 t.tuple) (over_lacks 43 not_plus refl t.denominator h.denominator) (tail t.tuple h.tuple))
   where
     tail : (u : Text) → IsTuple u → cut_at 43 (behind 42 u) ≡ None
     tail [] i = refl

@@ -77,7 +77,7 @@ module _ (P : Prog) (d : ℕ) where
   read_as : (text : Text) (w : Written) → IsLine text w → AllInRange w.terms → text_read P d text ≡ at_place P d w.meter (map counted_as w.terms) (place_of w.name P)
   read_as text w is range = ap (or_shape P d) (line_there text w is) ∙ ap (with_all P d w) (all_told w.terms range)
 
-  read_of : (text : Text) (w : Written) (place : ℕ) (fun : Function) → Names P text w place fun → text_read P d text ≡ or_index place w.meter (bound_read (types_of fun) d (map counted_as w.terms))
+  read_of : (text : Text) (w : Written) (place : ℕ) (fun : Function) → Names P d text w place fun → text_read P d text ≡ or_index place w.meter (bound_read (types_of fun) d (map counted_as w.terms))
   read_of text w place fun n =
       read_as text w n.is n.ranged ∙ ap (at_place P d w.meter (map counted_as w.terms)) n.named ∙ ap (at_function P d place w.meter (map counted_as w.terms)) n.there
 
@@ -141,26 +141,30 @@ module _ (P : Prog) (d : ℕ) where
   faulty lines text Twice h = absurd h
 
   module _ (bytes : Text) (utf8 : IsUtf8 bytes) where
+    step_fault : (text : Text) (rest : List Text) (lines : List Line) (number : ℕ) → Reaches P d bytes (suc number) lines text → (fault : LineFault) → IsFaulty P d lines text fault → IsFileAs bytes (read_lines P d (Err (f.Line (suc number) fault)) (suc number) rest)
+    step_fault text rest lines number reached fault g = subst (IsFileAs bytes) (sym (fault_stays (f.Line (suc number) fault) (suc number) rest)) (lines, text, reached, g)
+
+    -- what is read of one line, over what is read behind it
+    step : (text : Text) (rest : List Text) (lines : List Line) (number : ℕ) → Reaches P d bytes (suc number) lines text → (r : Result Line LineFault) → IsAs text r →
+        ((line : Line) → Declares P d text line → is_declared lines line.fun line.meter ≡ false → IsFileAs bytes (read_lines P d (Ok (lines ++ line ∷ [])) (suc number) rest)) →
+        IsFileAs bytes (read_lines P d (numbered (suc number) (with_line P d lines r)) (suc number) rest)
+    step text rest lines number reached (Err fault) g more = step_fault text rest lines number reached fault (faulty lines text fault g)
+    step text rest lines number reached (Ok line) g more = at (is_declared lines line.fun line.meter) refl
+      where
+        at : (b : Bool) → is_declared lines line.fun line.meter ≡ b → IsFileAs bytes (read_lines P d (numbered (suc number) (cond b (Err Twice) (Ok (lines ++ line ∷ [])))) (suc number) rest)
+        at true e = step_fault text rest lines number reached Twice (line, g, e)
+        at false e = more line g e
+
     told_behind : (rest before : List Text) (lines : List Line) (number : ℕ) → number ≡ length before → AreDeclared P d before lines → lines_in bytes ≡ before ++ rest → IsFileAs bytes (read_lines P d (Ok lines) number rest)
     told_behind [] before lines number count h are = subst (λ ts. AreDeclared P d ts lines) (sym (are ∙ append-nil before)) h
-    told_behind (text ∷ rest) before lines number count h are = at (text_read P d text) (line_told text)
+    told_behind (text ∷ rest) before lines number count h are =
+        step text rest lines number reached (text_read P d text) (line_told text)
+        (λ line g e. told_behind rest (before ++ text ∷ []) (lines ++ line ∷ []) (suc number) (let l = length-append before (text ∷ []) in omega (arith, count, l))
+        (record { each = each_more before lines text line h.each g; new = new_more [] lines line h.new e })
+        (are ∙ sym (append_assoc before (text ∷ []) rest)))
       where
         reached : Reaches P d bytes (suc number) lines text
         reached = record { utf8 = utf8; before = before; behind = rest; are = are; counted = ap suc count; declared = h }
-
-        first : (fault : LineFault) → IsFaulty P d lines text fault → IsFileAs bytes (read_lines P d (Err (f.Line (suc number) fault)) (suc number) rest)
-        first fault g = subst (IsFileAs bytes) (sym (fault_stays (f.Line (suc number) fault) (suc number) rest)) (lines, text, reached, g)
-
-        next : (line : Line) → Declares P d text line → (b : Bool) → is_declared lines line.fun line.meter ≡ b → IsFileAs bytes (read_lines P d (numbered (suc number) (cond b (Err Twice) (Ok (lines ++ line ∷ [])))) (suc number) rest)
-        next line g true e = first Twice (line, g, e)
-        next line g false e =
-            told_behind rest (before ++ text ∷ []) (lines ++ line ∷ []) (suc number) (let l = length-append before (text ∷ []) in omega (arith, count, l))
-            (record { each = each_more before lines text line h.each g; new = new_more [] lines line h.new e })
-            (are ∙ sym (append_assoc before (text ∷ []) rest))
-
-        at : (r : Result Line LineFault) → IsAs text r → IsFileAs bytes (read_lines P d (numbered (suc number) (with_line P d lines r)) (suc number) rest)
-        at (Err fault) g = first fault (faulty lines text fault g)
-        at (Ok line) g = next line g (is_declared lines line.fun line.meter) refl
 
     pub told : IsFileAs bytes (whole bytes)
     told = told_behind (lines_in bytes) [] [] 0 refl (record { each = tt; new = tt }) refl
@@ -177,7 +181,7 @@ module _ (P : Prog) (d : ℕ) where
       let line : text_read P d text ≡ Ok l = line_one text (Ok l) h.0 in
       let step : numbered (suc number) (with_line P d lines (text_read P d text)) ≡ Ok (lines ++ l ∷ []) =
       ap (λ r. numbered (suc number) (with_line P d lines r)) line ∙ ap (λ b. numbered (suc number) (cond b (Err Twice) (Ok (lines ++ l ∷ [])))) new.0 in
-      let count : suc number + length texts ≡ number + suc (length texts) = omega arith in
+      let count : suc number + length texts ≡ number + length (text ∷ texts) = omega arith in
       ap (λ r. read_lines P d r (suc number) (texts ++ rest)) step
       ∙ reads_declared texts more rest (lines ++ l ∷ []) (suc number) h.1 new.1
       ∙ (λ i. read_lines P d (Ok (append_assoc lines (l ∷ []) more i)) (count i) rest)
@@ -196,6 +200,7 @@ module _ (P : Prog) (d : ℕ) where
   fault_read : (bytes : Text) (number : ℕ) (fault : LineFault) (lines : List Line) (text : Text) → Reaches P d bytes number lines text → IsFaulty P d lines text fault → whole bytes ≡ Err (f.Line number fault)
   fault_read bytes number fault lines text r h =
       ap (read_lines P d (Ok []) 0) r.are ∙ reads_declared r.before lines (text ∷ r.behind) [] 0 r.declared.each r.declared.new
+      ∙ ap (λ n. read_lines P d (Ok lines) n (text ∷ r.behind)) (let e : 0 + length r.before ≡ length r.before = omega arith in e)
       ∙ ap (λ x. read_lines P d (numbered (suc (length r.before)) x) (suc (length r.before)) r.behind) (line_fault lines text fault h)
       ∙ fault_stays (f.Line (suc (length r.before)) fault) (suc (length r.before)) r.behind
       ∙ ap (λ n. Err (f.Line n fault)) (sym r.counted)
@@ -238,8 +243,8 @@ module _ (P : Prog) (d : ℕ) where
   -- What is true of lines that are declared
   pub all_declared : (F : Line → Type 0) → ((text : Text) (line : Line) → Declares P d text line → F line) → (texts : List Text) (lines : List Line) → DeclareEach P d texts lines → All F lines
   all_declared F g [] [] h k e low = absurd (omega (arith, low))
-  all_declared F g [] (l ∷ lines) h = absurd h
-  all_declared F g (t ∷ texts) [] h = absurd h
+  all_declared F g [] (l ∷ lines) h k e low = absurd h
+  all_declared F g (t ∷ texts) [] h k e low = absurd h
   all_declared F g (t ∷ texts) (l ∷ lines) h zero e low = g t l h.0
   all_declared F g (t ∷ texts) (l ∷ lines) h (suc k) e low = all_declared F g texts lines h.1 k e (omega (arith, low))
 

@@ -28,8 +28,17 @@ abbrev pub some_have : List Plain → Bool
 some_have is = nat_lt 0 (degrees is)
 
 sum_has : (m n : ℕ) → nat_lt 0 (m + n) ≡ (nat_lt 0 m || nat_lt 0 n)
-sum_has zero n = refl
+sum_has zero n = ap (nat_lt 0) (let e : 0 + n ≡ n = omega arith in e)
 sum_has (suc m) n = grind (arith, nat_tests)
+
+one_entry : (m : ℕ) → nat_lt 0 (1 + m) ≡ true
+one_entry m = grind (arith, nat_tests)
+
+some_entries : (m n : ℕ) → nat_lt 0 (1 + m + n) ≡ true
+some_entries m n = grind (arith, nat_tests)
+
+has_then : (i r : Plain) → has (Then i r) ≡ true
+has_then i r = some_entries (deg i) (deg r)
 
 -- the first entry of a list
 entries_begin : (seen : Bool) (goals : List Goal) (i : Plain) (text : Text) → reads seen (Entries ∷ goals) (index_text i ++ text) ≡ reads true (Index ∷ More 93 ∷ goals) (index_text i ++ text)
@@ -61,13 +70,13 @@ mutual
       ∙ entries_begin seen goals i (more_entries r ++ (93 ∷ text))
       ∙ index_reads true (More 93 ∷ goals) i (more_entries r ++ (93 ∷ text))
       ∙ more_reads goals r text
-      ∙ ap (λ t. reads t goals text) (sym (or_true seen))
+      ∙ ap (λ t. reads t goals text) (sym (or_true seen) ∙ ap (λ t. seen || t) (sym (has_then i r)))
   index_reads seen goals NoEntry text = refl
   index_reads seen goals (OneEntry i) text =
       ap (reads seen (Entries ∷ goals)) (append_assoc (index_text i) (93 ∷ []) text)
       ∙ entries_begin seen goals i (93 ∷ text)
       ∙ index_reads true (More 93 ∷ goals) i (93 ∷ text)
-      ∙ ap (λ t. reads t goals text) (sym (or_true seen))
+      ∙ ap (λ t. reads t goals text) (sym (or_true seen) ∙ ap (λ t. seen || t) (sym (one_entry (deg i))))
 
   more_reads : (goals : List Goal) (r : Plain) (text : Text) → reads true (More 93 ∷ goals) (more_entries r ++ (93 ∷ text)) ≡ reads true goals text
   more_reads goals (Then i r) text =
@@ -175,7 +184,7 @@ module _ (goals : List Goal) (text : Text) where
       p.4 ∙ (λ n. p.5.1 n ++ (q.4 ∙ ap (λ w. w ++ q.1) q.5.1) n)
       ∙ sym (append_assoc (index_text i) (more_entries (many is) ++ 93 ∷ []) q.1)
       ∙ ap (λ w. w ++ q.1) (sym (append_assoc (index_text i) (more_entries (many is)) (93 ∷ []))) in
-      (true, (entries_text (many (i ∷ is)) ++ 93 ∷ [], q.1, true, q.3, both, (i ∷ is, refl, refl), q.6, refl), or_true seen)
+      (true, (entries_text (many (i ∷ is)) ++ 93 ∷ [], q.1, true, q.3, both, (i ∷ is, refl, sym (has_then i (many is))), q.6, refl), or_true seen)
 
   close_step : (seen : Bool) (close : ℕ) → Found seen goals text → Found seen (More close ∷ goals) (close ∷ text)
   close_step seen close f = (f.0, (close ∷ [], text, false, f.0, refl, ([], refl, refl), f.1, refl), f.2)

@@ -1,6 +1,8 @@
 -- Tokens of which there is one, which is a name.
 use Rattle.std.specs.Prelude.{ℕ, Bool, true, false, ◌&&◌, ◌==◌, List, [], ◌∷◌}
 use Rattle.raml_lex.specs.declared.token.Token.{Token}
+use Rattle.raml_lex.specs.declared.token.LexFault.{LexFault}
+use Rattle.raml_lex.specs.declared.token.LexFault.TheVariants.{NoMemory}
 use Rattle.raml_lex.specs.declared.token.TokenKind.{TokenKind}
 use Rattle.raml_lex.specs.declared.token.TokenKind.TheVariants.{Name, Keyword, Number, Symbol}
 
@@ -13,3 +15,7 @@ abbrev pub is_whole_name : List Token → ℕ → Bool
 is_whole_name [] len = false
 is_whole_name (token ∷ []) len = is_name_kind token.kind && (token.at.0 == 0 && token.end.0 == len)
 is_whole_name (token ∷ next ∷ tokens) len = false
+
+abbrev pub is_want : LexFault → Bool
+is_want NoMemory = true
+is_want _ = false

@@ -1,7 +1,7 @@
 // Texts behind the texts of indices.
 ghost use Rattle.std.specs.Prelude.{◌≡◌, ◌<◌, ◌^◌};
 ghost use Rattle.std.specs.Str.{bytes_eq};
-ghost use Rattle.base_poly.specs.Plain.{Pair, OneEntry, many, degrees};
+ghost use Rattle.base_poly.specs.Plain.{OneEntry, many, degrees};
 ghost use Rattle.base_poly.specs.Read.{index_of, plains_of};
 ghost use Rattle.poly_text.specs.Text.{index_text, entries_text};
 ghost use Rattle.bound_file.specs.Spelling.{tuple_text};
@@ -20,26 +20,22 @@ fn strip<'a>(text: Option<&'a [u8]>, word: &[u8]) -> Option<&'a [u8]>
 }
 
 // The text behind that of the index.
+#[tactic(auto, using(crate::proofs::Stripped::pair_stripped))]
 #[cycle(strip)]
 fn strip_index<'a>(text: Option<&'a [u8]>, index: &Index) -> Option<&'a [u8]>
     ensures { lent_bytes result ≡ stripped (lent_bytes text.entry) (index_text (index_of index.now)) }
 {
     match index {
         Index::Unit => strip(text, b"_"),
-        Index::Pair(first, second) => strip_pair(text, first, second),
+        Index::Pair(first, second) => {
+            let rest = strip_index(strip(text, b"("), first);
+            let rest = strip_index(strip(rest, b", "), second);
+            strip(rest, b")")
+        }
         Index::List(entries) => strip_list(text, entries),
         Index::Opt(None) => strip(text, b"[]"),
         Index::Opt(Some(entry)) => strip_option(text, entry),
     }
-}
-
-#[cycle(strip)]
-fn strip_pair<'a>(text: Option<&'a [u8]>, first: &Index, second: &Index) -> Option<&'a [u8]>
-    ensures { lent_bytes result ≡ stripped (lent_bytes text.entry) (index_text (Pair (index_of first.now) (index_of second.now))) }
-{
-    let rest = strip_index(strip(text, b"("), first);
-    let rest = strip_index(strip(rest, b", "), second);
-    strip(rest, b")")
 }
 
 #[cycle(strip)]

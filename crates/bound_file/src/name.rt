@@ -1,7 +1,7 @@
 // Names of functions in texts.
 ghost use Rattle.std.specs.Prelude.{◌≡◌, ◌<◌, ◌^◌, length, IfOk};
 ghost use Rattle.bound_file.specs.Reading.{is_name};
-ghost use Rattle.bound_file.specs.Names.{is_whole_name};
+ghost use Rattle.bound_file.specs.Names.{is_whole_name, is_want};
 
 use raml_lex::{LexFault, Token, TokenKind, tokens};
 use std::alloc::{AllocError, Global};
@@ -18,6 +18,12 @@ fn is_whole_name(tokens: &[Token], len: usize) -> bool
     }
 }
 
+fn is_want(fault: LexFault) -> bool
+    ensures { result ≡ is_want fault }
+{
+    matches!(fault, LexFault::NoMemory)
+}
+
 /// Whether the word is a name, and no keyword.
 pub fn is_name(alloc: Global, word: &str) -> Result<bool, AllocError>
     requires { length word.now < 2 ^ 31 }
@@ -25,7 +31,12 @@ pub fn is_name(alloc: Global, word: &str) -> Result<bool, AllocError>
 {
     match tokens(alloc, word) {
         Ok(found) => Ok(is_whole_name(&found, word.len())),
-        Err(LexFault::NoMemory) => Err(AllocError),
-        Err(_) => Ok(false),
+        Err(fault) => {
+            if is_want(fault) {
+                Err(AllocError)
+            } else {
+                Ok(false)
+            }
+        }
     }
 }

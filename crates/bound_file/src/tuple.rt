@@ -47,7 +47,8 @@ fn begin_entries(goals: &mut Vec<Goal>, byte: u8) -> Result<bool, AllocError>
         return Ok(true);
     }
     goals.push(Goal::More(b']'))?;
-    begin_index(goals, byte)
+    let can = begin_index(goals, byte)?;
+    Ok(can)
 }
 
 // The same for what stands behind an index.
@@ -98,7 +99,8 @@ fn reads(alloc: Global, text: &[u8]) -> Result<bool, AllocError>
             return Ok(false);
         };
         seen = seen_by(goal, *byte, seen);
-        if !meet(&mut goals, goal, *byte)? {
+        let can = meet(&mut goals, goal, *byte)?;
+        if !can {
             return Ok(false);
         }
     }
