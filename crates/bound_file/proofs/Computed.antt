@@ -82,9 +82,9 @@ examples_hold = record {
   );
   unknown = (
     [],
-    codes "b cells <= 1*<[]>",
-    record { utf8 = text (codes "b cells <= 1*<[]>") refl; before = []; behind = []; are = refl; counted = refl; declared = none },
-    line_told program 1 (codes "b cells <= 1*<[]>"),
+    codes "b cells <= 1*<[_]>",
+    record { utf8 = text (codes "b cells <= 1*<[_]>") refl; before = []; behind = []; are = refl; counted = refl; declared = none },
+    line_told program 1 (codes "b cells <= 1*<[_]>"),
   );
   above_degree = (
     [],

@@ -3,6 +3,7 @@ mod Tupled
 mod Stacks
 mod Terms
 mod Sums
+mod Stepped
 mod Words
 mod Named
 mod Stripped

@@ -34,8 +34,8 @@ word_is text = ap (λ n. take n text) (let e : length text - 0 ≡ length text =
 spelled : (text : Text) → IsLexeme Name text → Spelled text (whole text ∷ [])
 spelled text h =
     let same = word_is text in
-    token start (record {
-      ends = sym (ap length same);
+    token {t = whole text} start (record {
+      ends = (let l = ap length same in omega (arith, l));
       no_comment = no_comment text h.0;
       longest = record {
         front = ([], sym (append-nil (word text (whole text)) ∙ same));

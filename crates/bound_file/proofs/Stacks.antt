@@ -1,7 +1,8 @@
 -- What stacks of goals come to.
-use Rattle.std.proofs.Common.{◌≡◌, ◌<◌, ◌+◌, ℕ, suc, Bool, true, false, cond, List, [], ◌∷◌, ◌++◌, length, drop, drop-cons, get_or, Option, Some, None, refl, sym, ap, subst, ◌∙◌, arith, append_assoc, append-nil}
+use Rattle.std.proofs.Common.{◌≡◌, ◌<◌, ◌≤◌, ◌+◌, ℕ, suc, Bool, true, false, cond, List, [], ◌∷◌, ◌++◌, length, drop, drop-cons, get_or, Option, Some, None, refl, sym, ap, subst, ◌∙◌, arith, append_assoc, append-nil}
+use Rattle.std.proofs.lemmas.List.{drop_all}
 use Rattle.std.specs.Prelude.{nat_eq, option_map}
-use Rattle.bound_file.specs.Tuples.{Goal, Index, Entries, More, Byte, begin_index, met, seen_by, after, reads, next_first, Meets}
+use Rattle.bound_file.specs.Tuples.{Goal, Index, Entries, More, Byte, begin_index, met, seen_by, after, reads, is_done, next_first, Meets}
 
 pub next_first_both : (xs ys : List Goal) → next_first (xs ++ ys) ≡ next_first ys ++ next_first xs
 next_first_both [] ys = sym (append-nil (next_first ys))
@@ -73,3 +74,15 @@ met_some seen goal old left new text byte i can are low is some h =
     at true (Some more) e h = ap (λ gs. reads (seen_by goal byte seen) gs (drop (suc i) text)) (sym h)
     at true None e h = absurd h
     at false o e h = absurd (let p : false ≡ true = e in cc)
+
+-- at the end of the text
+pub done : (seen : Bool) (goals : List Goal) (text : List ℕ) (i : ℕ) → length text ≤ i → is_done seen goals ≡ reads seen (next_first goals) (drop i text)
+done seen goals text i end = at goals ∙ ap (reads seen (next_first goals)) (sym (drop_all i text end))
+  where
+    last : (gs : List Goal) (g : Goal) → reads seen (gs ++ g ∷ []) [] ≡ false
+    last [] g = refl
+    last (x ∷ gs) g = refl
+
+    at : (goals : List Goal) → is_done seen goals ≡ reads seen (next_first goals) []
+    at [] = refl
+    at (g ∷ goals) = sym (last (next_first goals) g)

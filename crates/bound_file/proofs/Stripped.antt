@@ -1,5 +1,5 @@
 -- What stands behind words that are stripped.
-use Rattle.std.proofs.Common.{◌≡◌, ℕ, suc, arith, Bool, true, false, cond, List, [], ◌∷◌, ◌++◌, length, take, drop, Option, Some, None, refl, sym, ap, subst, ◌∙◌, append_assoc}
+use Rattle.std.proofs.Common.{◌≡◌, ◌<◌, ℕ, suc, arith, drop-cons, get_or, Bool, true, false, cond, List, [], ◌∷◌, ◌++◌, length, take, drop, Option, Some, None, refl, sym, ap, subst, ◌∙◌, append_assoc}
 use Rattle.std.proofs.lemmas.Bool.{ne_eqb}
 use Rattle.std.specs.Prelude.{nat_eq, ◌&&◌, ◌==◌, ◌+◌, codes}
 use Rattle.std.specs.Option.{MatchOption}
@@ -8,7 +8,9 @@ use Rattle.std.specs.Str.{bytes_eq}
 use Rattle.std.specs.Cmp.Lexicographic.{bytes_decides}
 use lib.Pointwise.{pointwise}
 use Rattle.raml_syntax.specs.Tree.{Text}
-use Rattle.base_poly.specs.Plain.{Plain, Pair, OneEntry, Then, many, degrees}
+use Rattle.base_poly.specs.Plain.{Plain, Pair, many, degrees}
+use Rattle.base_poly.specs.Read.{index_of, plains_of}
+use Rattle.base_poly.specs.declared.index.Index.{Index}
 use Rattle.poly_text.specs.Text.{index_text, more_entries, entries_text}
 use Rattle.poly_text.proofs.Ordered.{bracketed}
 use Rattle.bound_file.specs.Spelling.{tuple_text}
@@ -113,3 +115,9 @@ text_told s t u n b o p q r count some same is e f g k =
     let none : (degrees t == 0) ≡ false = ne_eqb (degrees t) 0 (λ z. some (count ∙ z)) in
     let text : tuple_text t ≡ 60 ∷ (entries_text (many t) ++ 62 ∷ []) = ap (λ b. cond b [] (codes "<" ++ (entries_text (many t) ++ codes ">"))) none in
     k ∙ ap is_at_end (whole ∙ ap (λ x. stripped x (60 ∷ (entries_text (many t) ++ 62 ∷ []))) is) ∙ at_end s (60 ∷ (entries_text (many t) ++ 62 ∷ [])) ∙ ap (bytes_eq s) (sym text)
+
+-- the entries from a place on
+pub entries_at : (entries : List Index) (i : ℕ) (e : Index) → i < length entries → e ≡ get_or entries i e → plains_of (drop i entries) ≡ index_of e ∷ plains_of (drop (i + 1) entries)
+entries_at entries i e low is =
+    let one : suc i ≡ i + 1 = omega arith in
+    ap plains_of (drop-cons entries i e low ∙ (λ n. sym is n ∷ drop (one n) entries))

@@ -41,6 +41,6 @@ pub record Examples : Type 0 where
   pub keyword : FirstFault program 1 (codes "let cells <= 1") (f.Line 1 Shape)
   pub nought : FirstFault program 1 (codes "a cells <= 1 + 0*<[_], []>") (f.Line 1 Number)
   pub past : FirstFault program 1 (codes "b cells <= 170141183460469231731687303715884105728") (f.Line 1 Number)
-  pub unknown : FirstFault program 1 (codes "b cells <= 1*<[]>") (f.Line 1 Unknown)
+  pub unknown : FirstFault program 1 (codes "b cells <= 1*<[_]>") (f.Line 1 Unknown)
   pub above_degree : FirstFault program 1 (codes "a cells <= 1*<[_, _], []>") (f.Line 1 Index)
   pub twice : FirstFault program 1 (codes "a cells <= 0\na ticks <= 0\na cells <= 1\na") (f.Line 3 Twice)

@@ -33,6 +33,11 @@ reads seen (goal ∷ goals) [] = false
 reads seen [] (byte ∷ text) = false
 reads seen (goal ∷ goals) (byte ∷ text) = after (met goal byte) (λ more. reads (seen_by goal byte seen) (more ++ goals) text)
 
+-- nothing is left to be read, and an entry was seen
+abbrev pub is_done : Bool → List Goal → Bool
+is_done seen [] = seen
+is_done seen (goal ∷ goals) = false
+
 -- the text of a tuple that is not the zero tuple
 abbrev pub is_tuple : Text → Bool
 is_tuple [] = false

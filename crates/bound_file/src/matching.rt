@@ -1,5 +1,5 @@
 // Texts behind the texts of indices.
-ghost use Rattle.std.specs.Prelude.{◌≡◌, ◌<◌, ◌^◌};
+ghost use Rattle.std.specs.Prelude.{◌≡◌, ◌<◌, ◌^◌, ◌∷◌, [], cond};
 ghost use Rattle.std.specs.Str.{bytes_eq};
 ghost use Rattle.base_poly.specs.Plain.{OneEntry, many, degrees};
 ghost use Rattle.base_poly.specs.Read.{index_of, plains_of};
@@ -19,8 +19,14 @@ fn strip<'a>(text: Option<&'a [u8]>, word: &[u8]) -> Option<&'a [u8]>
     }
 }
 
+// The text behind a comma and a space, which do not stand before the first entry.
+fn strip_comma<'a>(text: Option<&'a [u8]>, first: bool) -> Option<&'a [u8]>
+    ensures { lent_bytes result ≡ cond first (lent_bytes text.entry) (stripped (lent_bytes text.entry) (44 ∷ 32 ∷ [])) }
+{
+    if first { text } else { strip(text, b", ") }
+}
+
 // The text behind that of the index.
-#[tactic(auto, using(crate::proofs::Stripped::pair_stripped))]
 #[cycle(strip)]
 fn strip_index<'a>(text: Option<&'a [u8]>, index: &Index) -> Option<&'a [u8]>
     ensures { lent_bytes result ≡ stripped (lent_bytes text.entry) (index_text (index_of index.now)) }
@@ -61,11 +67,8 @@ fn strip_entries<'a>(text: Option<&'a [u8]>, entries: &[Index]) -> Option<&'a [u
     let mut first = true;
     let mut rest = text;
     for entry in entries {
-        if !first {
-            rest = strip(rest, b", ");
-        }
+        rest = strip_index(strip_comma(rest, first), entry);
         first = false;
-        rest = strip_index(rest, entry);
     }
     rest
 }

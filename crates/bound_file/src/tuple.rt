@@ -1,6 +1,6 @@
 // The texts of tuples of indices.
 ghost use Rattle.std.specs.Prelude.{◌≡◌, ◌∷◌, [], IfOk, false};
-ghost use Rattle.bound_file.specs.Tuples.{Index, Entries, More, begin_index, met, seen_by, reads, is_tuple, Meets};
+ghost use Rattle.bound_file.specs.Tuples.{Index, Entries, More, begin_index, met, seen_by, is_done, reads, is_tuple, Meets};
 
 use std::alloc::{AllocError, Global};
 
@@ -87,6 +87,16 @@ fn seen_by(goal: Goal, byte: u8, seen: bool) -> bool
     }
 }
 
+// Whether nothing is left to be read, and an entry of a list was seen.
+fn is_done(seen: bool, goals: &[Goal]) -> bool
+    ensures { result ≡ is_done seen goals.now }
+{
+    match goals {
+        [] => seen,
+        [_goal, _more @ ..] => false,
+    }
+}
+
 // Whether indices are read in the text, and then a bracket, which ends it; and an entry of a list among them.
 fn reads(alloc: Global, text: &[u8]) -> Result<bool, AllocError>
     ensures { IfOk result (λ can. can ≡ reads false (Index ∷ More 62 ∷ []) text.now) }
@@ -104,7 +114,7 @@ fn reads(alloc: Global, text: &[u8]) -> Result<bool, AllocError>
             return Ok(false);
         }
     }
-    Ok(seen && goals.is_empty())
+    Ok(is_done(seen, &goals))
 }
 
 /// Whether this is the text of a tuple that is not the zero tuple, as `<[_], []>`: of any indices, as deep
