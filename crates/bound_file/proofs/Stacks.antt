@@ -50,28 +50,28 @@ pub stuck : (seen : Bool) (goals : List Goal) (text : List ℕ) (i : ℕ) → le
 stuck seen [] text i none low = ap (reads seen []) (drop-cons text i 0 low)
 stuck seen (g ∷ goals) text i none low = absurd (omega (arith, none))
 
-next_step : (seen : Bool) (goal : Goal) (old left : List Goal) (text : List ℕ) (byte i : ℕ) → old ≡ left ++ goal ∷ [] → i < length text → byte ≡ get_or text i byte →
-    reads seen (next_first old) (drop i text) ≡ after (met goal byte) (λ more. reads (seen_by goal byte seen) (more ++ next_first left) (drop (suc i) text))
-next_step seen goal old left text byte i are low is =
-    (λ n. reads seen ((ap next_first are ∙ next_first_both left (goal ∷ [])) n) (drop-cons text i byte low n))
-    ∙ ap (λ b. after (met goal b) (λ more. reads (seen_by goal b seen) (more ++ next_first left) (drop (suc i) text))) (sym is)
+next_step : (seen : Bool) (goal : Goal) (old left : List Goal) (text : List ℕ) (i d : ℕ) → old ≡ left ++ goal ∷ [] → i < length text →
+    reads seen (next_first old) (drop i text) ≡ after (met goal (get_or text i d)) (λ more. reads (seen_by goal (get_or text i d) seen) (more ++ next_first left) (drop (suc i) text))
+next_step seen goal old left text i d are low = λ n. reads seen ((ap next_first are ∙ next_first_both left (goal ∷ [])) n) (drop-cons text i d low n)
 
-pub met_none : (seen : Bool) (goal : Goal) (old left new : List Goal) (text : List ℕ) (byte i : ℕ) (can : Bool) → old ≡ left ++ goal ∷ [] → i < length text → byte ≡ get_or text i byte → can ≡ false → Meets can (met goal byte) left new →
+pub met_none : (seen : Bool) (goal : Goal) (old left new : List Goal) (text : List ℕ) (i d : ℕ) (can : Bool) → old ≡ left ++ goal ∷ [] → i < length text → can ≡ false → Meets can (met goal (get_or text i d)) left new →
     reads seen (next_first old) (drop i text) ≡ false
-met_none seen goal old left new text byte i can are low is none h = next_step seen goal old left text byte i are low is ∙ at can (met goal byte) none h
+met_none seen goal old left new text i d can are low none h = next_step seen goal old left text i d are low ∙ at can (met goal (get_or text i d)) none h
   where
-    at : (can : Bool) (o : Option (List Goal)) → can ≡ false → Meets can o left new → after o (λ more. reads (seen_by goal byte seen) (more ++ next_first left) (drop (suc i) text)) ≡ false
+    at : (can : Bool) (o : Option (List Goal)) → can ≡ false → Meets can o left new → after o (λ more. reads (seen_by goal (get_or text i d) seen) (more ++ next_first left) (drop (suc i) text)) ≡ false
     at false None e h = refl
     at false (Some more) e h = absurd h
     at true o e h = absurd (let p : true ≡ false = e in cc)
 
-pub met_some : (seen : Bool) (goal : Goal) (old left new : List Goal) (text : List ℕ) (byte i : ℕ) (can : Bool) → old ≡ left ++ goal ∷ [] → i < length text → byte ≡ get_or text i byte → can ≡ true → Meets can (met goal byte) left new →
-    reads seen (next_first old) (drop i text) ≡ reads (seen_by goal byte seen) (next_first new) (drop (i + 1) text)
-met_some seen goal old left new text byte i can are low is some h =
-    next_step seen goal old left text byte i are low is ∙ at can (met goal byte) some h ∙ ap (λ n. reads (seen_by goal byte seen) (next_first new) (drop n text)) (let e : suc i ≡ i + 1 = omega arith in e)
+pub met_some : (seen : Bool) (goal : Goal) (old left new : List Goal) (text : List ℕ) (i d : ℕ) (can : Bool) → old ≡ left ++ goal ∷ [] → i < length text → can ≡ true → Meets can (met goal (get_or text i d)) left new →
+    reads seen (next_first old) (drop i text) ≡ reads (seen_by goal (get_or text i d) seen) (next_first new) (drop (i + 1) text)
+met_some seen goal old left new text i d can are low some h =
+    next_step seen goal old left text i d are low ∙ at can (met goal (get_or text i d)) some h
+    ∙ ap (λ n. reads (seen_by goal (get_or text i d) seen) (next_first new) (drop n text)) (let e : suc i ≡ i + 1 = omega arith in e)
   where
-    at : (can : Bool) (o : Option (List Goal)) → can ≡ true → Meets can o left new → after o (λ more. reads (seen_by goal byte seen) (more ++ next_first left) (drop (suc i) text)) ≡ reads (seen_by goal byte seen) (next_first new) (drop (suc i) text)
-    at true (Some more) e h = ap (λ gs. reads (seen_by goal byte seen) gs (drop (suc i) text)) (sym h)
+    at : (can : Bool) (o : Option (List Goal)) → can ≡ true → Meets can o left new →
+        after o (λ more. reads (seen_by goal (get_or text i d) seen) (more ++ next_first left) (drop (suc i) text)) ≡ reads (seen_by goal (get_or text i d) seen) (next_first new) (drop (suc i) text)
+    at true (Some more) e h = ap (λ gs. reads (seen_by goal (get_or text i d) seen) gs (drop (suc i) text)) (sym h)
     at true None e h = absurd h
     at false o e h = absurd (let p : false ≡ true = e in cc)
 

@@ -1,6 +1,7 @@
 use Rattle.std.proofs.Common.{◌≡◌, [], ◌∷◌, ◌+◌, cond, drop, subst, sym, ap, ◌∙◌}
 use Rattle.base_poly.specs.Plain.{many}
 use Rattle.base_poly.specs.Read.{index_of, plains_of}
+use Rattle.base_poly.proofs.Many.{as_pair}
 use Rattle.poly_text.specs.Text.{index_text, entries_text, more_entries}
 use Rattle.bound_file.specs.Strip.{lent_bytes, stripped}
 use Rattle.bound_file.proofs.Stripped.{three_stripped, list_stripped, pair_stripped, entry_stripped, entries_at}
@@ -33,4 +34,4 @@ strip_index-returns-in-Pair t c =
     c.strip-in-Pair-2.ensures
     (c.strip_index-rest-in-Pair.ensures ∙ ap (λ v. stripped (lent_bytes c.strip-in-Pair-2.result) (index_text (index_of v))) c.deref-in-Pair.ensures)
     c.strip-in-Pair-3.ensures
-    ∙ ap (λ v. stripped (lent_bytes c.args.text) (index_text (index_of v))) (sym c.in-Pair.is)
+    ∙ ap (λ v. stripped (lent_bytes c.args.text) (index_text v)) (sym (as_pair c.args.index.now c.in-Pair.first c.in-Pair.second c.in-Pair.is))

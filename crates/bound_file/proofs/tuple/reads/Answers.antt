@@ -9,13 +9,13 @@ returns-in_default c =
 
 pub returns-then-not-can : goal.returns-then-not-can
 returns-then-not-can c =
-    sym (met_none c.loop-byte.seen c.in-Some.goal c.loop-byte.goals.items c.pop.new.self.items c.meet.new.goals.items c.args.text.now c.byte-item.result c.loop-byte.byte-index c.in_ok-can.can c.in-Some.ensures.items c.loop-byte-test.true c.byte-item.is c.if-not-can.true c.in_ok-can.ensures)
+    sym (met_none c.loop-byte.seen c.in-Some.goal c.loop-byte.goals.items c.pop.new.self.items c.meet.new.goals.items c.args.text.now c.loop-byte.byte-index _ c.in_ok-can.can c.in-Some.ensures.items c.loop-byte-test.true c.if-not-can.true c.in_ok-can.ensures)
     ∙ c.loop-byte.invariant
 
 pub loop-byte-preserved : goal.loop-byte-preserved
 loop-byte-preserved c =
     ap (λ s. reads s (next_first c.meet.new.goals.items) (drop (c.loop-byte.byte-index + 1) c.args.text.now)) c.seen_by-seen.ensures
-    ∙ sym (met_some c.loop-byte.seen c.in-Some.goal c.loop-byte.goals.items c.pop.new.self.items c.meet.new.goals.items c.args.text.now c.byte-item.result c.loop-byte.byte-index c.in_ok-can.can c.in-Some.ensures.items c.loop-byte-test.true c.byte-item.is c.if-not-can.false c.in_ok-can.ensures)
+    ∙ sym (met_some c.loop-byte.seen c.in-Some.goal c.loop-byte.goals.items c.pop.new.self.items c.meet.new.goals.items c.args.text.now c.loop-byte.byte-index _ c.in_ok-can.can c.in-Some.ensures.items c.loop-byte-test.true c.if-not-can.false c.in_ok-can.ensures)
     ∙ c.loop-byte.invariant
 
 pub returns : goal.returns
