@@ -292,12 +292,15 @@ module _ (As : List Type') (d : ℕ) (ts : List Term) (differ : Differ (tuples t
       let g = gathered_is 0 us cs x (contains_among x bound has) in
       let r = among_mapped counted_as g.term ts g.among in
       let at : slice_get us x.position ≡ Some g.tuple = ap (slice_get us) (let p = g.position in omega (arith, p)) ∙ g.there in
-      let tuple : r.0.tuple ≡ tuple_text g.tuple = ap (λ (c : Counted). c.tuple) r.2 ∙ g.is in
-      (r.0, among_contains r.0 ts r.1, record {
-        at = (g.tuple, at, tuple);
-        numerator = g.numerator ∙ ap (λ (c : Counted). c.numerator) (sym r.2);
-        denominator = g.denominator ∙ ap (λ (c : Counted). c.denominator) (sym r.2);
-      })
+      let tuple : r.0.tuple ≡ tuple_text g.tuple = ap (λ (c : Counted). c.tuple) r.2 ∙ g.is in (
+        r.0,
+        among_contains r.0 ts r.1,
+        record {
+          at = (g.tuple, at, tuple);
+          numerator = g.numerator ∙ ap (λ (c : Counted). c.numerator) (sym r.2);
+          denominator = g.denominator ∙ ap (λ (c : Counted). c.denominator) (sym r.2);
+        },
+      )
 
   member_there : (x : Coefficient) → IsOfSome As d ts x → Contains bound x
   member_there x h =

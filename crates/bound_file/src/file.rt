@@ -9,8 +9,8 @@ ghost use Rattle.bound_file.specs.Lined.{first_of, read_lines, Reads, Leaves, at
 
 use crate::cut::cut_at;
 use crate::declaration::{DeclLine, Declared};
-use crate::meaning::of_text;
 use crate::fault::{DeclError, DeclFault, LineError, LineFault};
+use crate::meaning::of_text;
 use cost_free::Meter;
 use raml_syntax::{FunId, Pos, Program};
 use std::alloc::Global;
