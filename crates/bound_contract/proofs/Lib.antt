@@ -1,0 +1,12 @@
+pub mod Behind
+pub mod Solutions
+pub mod Readings
+pub mod Bounding
+pub mod Refused
+pub mod First
+pub mod Computed
+pub mod Adding
+pub mod OnlyOne
+pub mod Alike
+pub mod Owned
+pub mod Firsts
