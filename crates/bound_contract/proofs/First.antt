@@ -1,5 +1,5 @@
 -- Places are tried in one order, and by a rule that is a function one of them is seen.
-use Rattle.std.proofs.Common.{◌≤◌, ◌≡◌, ◌<◌, ℕ, ℤ, pos, List, map, slice_index_or, Option, None, Some, refl, sym, subst, arith}
+use Rattle.std.proofs.Common.{◌≤◌, ◌<◌, ℕ, ℤ, List, slice_index_or, Option, None, Some, refl, sym, subst, arith}
 use Rattle.std.proofs.lemmas.Option.{none-some}
 use Rattle.linear_rows.specs.Systems.{LinearSystem, IsSystem}
 use Rattle.simplex_spec.specs.Courses.{Refuses, rule_by}
@@ -22,7 +22,7 @@ use Rattle.other_blocks.specs.Laws.{OneOtherFault}
 use Rattle.bound_file.specs.Lines.{Line}
 use Rattle.bound_contract.specs.Kept.{system_there}
 use Rattle.bound_contract.specs.Places as p
-use Rattle.bound_contract.specs.Places.{Place, RescaleLeaves, stage, Comes, IsFirst, IsClear}
+use Rattle.bound_contract.specs.Places.{Place, RescaleLeaves, stage, Comes}
 use Rattle.bound_contract.specs.Clear.{RowsFit, IsFew, AreFine, Rises, Finds, PlacesAreFirst, FineIsClear, SeenIsFirst, AllFineIsClear}
 
 module _ (paths : OneCourse) (pick : List ℤ → ℤ → Option ℕ) (s : LinearSystem) (system : IsSystem s) where

@@ -10,3 +10,7 @@ pub mod OnlyOne
 pub mod Alike
 pub mod Owned
 pub mod Firsts
+pub mod Limits
+pub mod Sited
+pub mod Counting
+pub mod Telling

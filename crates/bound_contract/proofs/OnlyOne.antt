@@ -5,7 +5,7 @@ use Rattle.share_normal.specs.Program as s
 use Rattle.cost_free.specs.Task.{Task}
 use Rattle.annot_types.specs.Program.{Program, blocker_of}
 use Rattle.annot_types.specs.Certificate as a
-use Rattle.annot_types.specs.Certificate.{Sig, Hint, Body, IsSolved, Block, Certificate}
+use Rattle.annot_types.specs.Certificate.{Body, IsSolved, Block, Certificate}
 use Rattle.annot_types.specs.Held.{before, done_before, scale_for, NamesBlocker}
 use Rattle.rules_plan.specs.Read.{program_in}
 use Rattle.other_blocks.specs.Over.{Over}

@@ -1,21 +1,21 @@
 -- The certificate's block of a line.
-use Rattle.std.proofs.Common.{◌≡◌, refl, ap, sym, ◌∙◌, subst, inl, inr, ◌⊎◌, ⊎_elim}
+use Rattle.std.proofs.Common.{◌≡◌, refl, ap, sym, ◌∙◌, inl, inr, ◌⊎◌, ⊎_elim}
 use Rattle.std.specs.Prelude.{ℕ, zero, suc, ◌<◌, nat_eq, Bool, true, false, cond, ◌&&◌, ◌||◌, List, [], ◌∷◌, ◌++◌, length, slice_get, Option, Some, None, option_map}
 use Rattle.std.specs.List.{Contains}
 use Rattle.std.proofs.lemmas.Bool.{eq-eqb}
 use Rattle.std.proofs.lemmas.Option.{same_Some, none-some}
 use Rattle.raml_syntax.specs.Tree.{Prog}
-use Rattle.call_groups.specs.Groups.{ComesNext, AreInOrder}
+use Rattle.call_groups.specs.Groups.{AreInOrder}
 use Rattle.base_poly.proofs.Among.{Among, contains_among, among_contains, among_either}
 use Rattle.cost_free.specs.declared.task.Meter.{Meter}
 use Rattle.cost_free.specs.declared.task.Meter.TheVariants.{Ticks, Cells, Work}
 use Rattle.cost_free.specs.Task as k
-use Rattle.cost_free.specs.Task.{Kind, Task}
+use Rattle.cost_free.specs.Task.{Task}
 use Rattle.cost_free.specs.Schedule.{meters}
 use Rattle.cost_free.specs.Blocked.{row, is_among, is_for_meter}
 use Rattle.annot_types.specs.Program.{Program, members}
 use Rattle.annot_types.specs.Certificate.{Block, Certificate, has_work}
-use Rattle.annot_types.specs.Held.{is_for_function, Held}
+use Rattle.annot_types.specs.Held.{is_for_function}
 use Rattle.annot_types.proofs.Raised.{same_self}
 use Rattle.rules_soundness_laws.proofs.Blocks.{of_meter}
 use Rattle.infer_spec.specs.Lines.{BlocksAreThere}

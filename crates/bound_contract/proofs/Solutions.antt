@@ -1,6 +1,6 @@
 -- What solves a task's system with a declared bound holds under the bound, and what holds under it solves the system.
 use Rattle.std.proofs.Common.{◌≡◌, ap, sym, ◌∙◌, subst, arith}
-use Rattle.std.specs.Prelude.{ℕ, ◌+◌, ◌*◌, ◌<◌, ◌≤◌, true, pos, List, [], map, length, slice_get, Some}
+use Rattle.std.specs.Prelude.{ℕ, ◌+◌, ◌*◌, ◌<◌, ◌≤◌, true, pos, List, map, length, slice_get, Some}
 use Rattle.std.proofs.lemmas.Int.{ints}
 use Rattle.linear_rows.specs.Terms.{SparseRow}
 use Rattle.linear_rows.specs.Systems.{LinearSystem, IsSystem, Solves}
@@ -13,7 +13,7 @@ use Rattle.cost_free.specs.Task.{Task, Kind, Free}
 use Rattle.cost_free.specs.Blocked.{is_among}
 use Rattle.annot_types.specs.Program.{Program, members}
 use Rattle.annot_types.specs.Certificate as c
-use Rattle.annot_types.specs.Certificate.{annotation, Sig, Block}
+use Rattle.annot_types.specs.Certificate.{Sig, Block}
 use Rattle.annot_types.specs.Rules.{With}
 use Rattle.annot_types.specs.Signature.{sig_among}
 use Rattle.annot_types.specs.Rows.{size as size_of}

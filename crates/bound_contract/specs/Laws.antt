@@ -1,5 +1,5 @@
 -- Systems with a declared bound are solved by what holds under it, and by nothing else; and what is kept is a bound.
-use Rattle.std.specs.Prelude.{◌≡◌, ◌<◌, ℕ, ℤ, pos, true, List, [], map, slice_get, Option, Some, None, ◌*◌, ◌↔◌}
+use Rattle.std.specs.Prelude.{◌≡◌, ◌<◌, ℕ, ℤ, pos, true, List, map, slice_get, Option, Some, None, ◌*◌, ◌↔◌}
 use Rattle.std.specs.List.{All}
 use Rattle.raml_syntax.specs.Tree.{Function, Prog}
 use Rattle.raml_syntax.specs.Types.{Typed, types_of}
@@ -10,22 +10,21 @@ use Rattle.normal_spec.specs.Two.{norm}
 use Rattle.share_normal.specs.Program.{source_in, norm_in}
 use Rattle.cost_free.specs.Task as k
 use Rattle.cost_free.specs.Task.{Task}
-use Rattle.annot_types.specs.Program.{Program, members, blocker_of}
-use Rattle.annot_types.specs.Rules.{Mode}
+use Rattle.annot_types.specs.Program.{Program, blocker_of}
 use Rattle.annot_types.specs.Certificate as c
 use Rattle.annot_types.specs.Certificate.{Sig, Block, Certificate, sigs_of, hints_of}
 use Rattle.annot_types.specs.Holds.{raised}
-use Rattle.annot_types.specs.Held.{before, done_before, scale_for, Held}
+use Rattle.annot_types.specs.Held.{before, done_before, Held}
 use Rattle.annot_types.specs.Least.{solving}
 use Rattle.annot_types.specs.Rows.{size}
 use Rattle.annot_types.specs.System.{is_kept, system}
-use Rattle.rules_spec.specs.Systems.{IsTask, AreReady}
+use Rattle.rules_spec.specs.Systems.{IsTask}
 use Rattle.rules_soundness_laws.specs.Bounds.{Bounds}
 use Rattle.rules_soundness_laws.specs.Laws.{normal_of}
 use Rattle.infer_systems_laws.specs.Tried.{IsOrdered}
 use Rattle.rules_systems_laws.specs.Laws.{told}
 use Rattle.simplex_integers.specs.Reading.{ReadsSolution, ReadsVector}
-use Rattle.rules_plan.specs.Read.{program_in, group_bodies}
+use Rattle.rules_plan.specs.Read.{program_in}
 use Rattle.cert_check.specs.Fault.{Fault}
 use Rattle.cert_check.specs.Finds.{AreWithin}
 use Rattle.other_blocks.specs.Over.{Over, IsOver}
@@ -33,8 +32,7 @@ use Rattle.other_blocks.specs.Laws.{IsTotal}
 use Rattle.other_blocks.specs.Other.{place_among, ScaleFits, OtherFinds}
 use Rattle.bound_file.specs.Lines.{Coefficient, Line, ArePositive}
 use Rattle.bound_contract.specs.Under.{IsUnder, AreDeclared, terms_at}
-use Rattle.rules_systems_laws.specs.Arguments.{first_from}
-use Rattle.bound_contract.specs.System.{at_most, declared_system, first_in}
+use Rattle.bound_contract.specs.System.{at_most, declared_system}
 use Rattle.bound_contract.specs.Kept.{IsTaskOf, Keeps, NoneKeeps, system_there, KeepsThere, NoneKeepsThere}
 
 -- Each solution x over t stands for signatures and hints that hold with t, under the line.
@@ -129,10 +127,3 @@ abbrev pub RaisedDecideAlike : Type 0
 RaisedDecideAlike =
     (P : Program) (d : ℕ) (earlier : List Block) (task : Task) (scale : ℕ) (line : Line) (r : ℕ) → task.kind ≡ k.With line.meter → 0 < r →
     NoneKeeps P d earlier task scale line ↔ NoneKeeps P d (map (raised line.meter r) earlier) task (r * scale) line
-
--- The first unknown by the sizes of a group's plans is that of the line's rows.
-abbrev pub FirstsAgree : Type 0
-FirstsAgree =
-    (P : Program) (d : ℕ) (earlier : List Block) (task : Task) (scale : ℕ) (mode : Mode) →
-    AreReady (record { program = P; earlier = earlier; group = members P task.group; sigs = []; budget = d; scale = scale }) mode (members P task.group) →
-    (f : ℕ) → first_in (group_bodies P task.group [] d) (members P task.group) f 0 ≡ first_from P d 0 (members P task.group) f

@@ -1,6 +1,5 @@
 -- What the code's declared bounds, decisions and faults are as plain data.
-use Rattle.std.specs.Prelude.{◌==◌, if◌then◌else◌, ℕ, ℤ, pos, ◌<ℤ◌, unsigned_abs, List, [], ◌∷◌, map, Option, Some, None}
-use Rattle.other_blocks.specs.Over.{Over}
+use Rattle.std.specs.Prelude.{◌==◌, if◌then◌else◌, ℕ, ℤ, pos, ◌<ℤ◌, List, [], ◌∷◌, Option, Some, None}
 use Rattle.bound_contract.specs.Decided as d
 use Rattle.bound_contract.specs.Decided.{Decided}
 use Rattle.bound_contract.specs.Places as p

@@ -255,11 +255,13 @@ impl<'c, 'p, 'a> Decider<'c, 'p, 'a> {
         let kept = self.kept.take();
         match decide_line(alloc, checked, asked, front, kept, chooser) {
             Err(fault) => Err(fault),
-            Ok(Tried {
-                decision,
-                front,
-                kept,
-            }) => {
+            Ok(
+                Tried {
+                    decision,
+                    front,
+                    kept,
+                },
+            ) => {
                 self.front = front;
                 self.kept = kept;
                 Ok(decision)

@@ -1,17 +1,16 @@
 // The system of a declared bound: the rows of its task, and those of the bound behind them.
 ghost use Rattle.std.specs.Prelude.{◌≡◌, ◌<◌, ◌≤◌, ◌^◌, ℕ, ℤ, List, Option, map, length, IfOk, IfErr, OnOk};
 ghost use Rattle.simplex_spec.specs.Tableaux.{right};
-ghost use Rattle.rules_spec.specs.Tasks.{sides_count};
 ghost use Rattle.rules_spec.specs.Told.{bodies_of};
 ghost use Rattle.rules_plan.specs.Read.{body_of};
 ghost use Rattle.bound_contract.specs.Sites.{program_at, certificate_at, before_at, task_at, own_at, system_at, IsSite, AreBefore, OwnFits, FineAt, StopsAt};
 
 use crate::fault::{DecideFault, DeclAt};
-use crate::laws::{firsts_agree, seen_is_first};
+use crate::laws::seen_is_first;
 use crate::rows::{LineFault, add_rows};
 use crate::site::Site;
 use crate::span::span_of;
-use cert_check::members;
+use cert_check::{members, scale_for};
 use constraint_gen::{GenFault, rows_by};
 use infer_systems_laws::laws::{limits_are_told, tried_have_tasks};
 use linear_rows::System;
@@ -38,10 +37,11 @@ fn own_rows(
     tried_have_tasks();
     limits_are_told();
     seen_is_first();
-    let degree = site.checked.certificate().degree;
-    let task = site.task();
-    let scale = site.scale().unsigned_abs();
     let program = site.checked.program();
+    let certificate = site.checked.certificate();
+    let task = site.task();
+    let scale = scale_for(certificate, task.kind);
+    let degree = certificate.degree;
     match rows_by(site.alloc, program, degree, earlier, &task, scale, bodies) {
         Ok(made) => Ok(made),
         Err(GenFault::Leaves { row }) => Err(DecideFault::Leaves(DeclAt::Row { row })),
@@ -98,7 +98,6 @@ pub(crate) fn line_system(
     ensures first { IfErr result (StopsAt site.now) }
 {
     tried_have_tasks();
-    firsts_agree();
     seen_is_first();
     let system = match own_rows(site, earlier, bodies) {
         Ok(system) => system,

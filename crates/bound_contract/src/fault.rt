@@ -16,9 +16,13 @@ pub enum DecideFault {
 #[derive(Debug, Drop)]
 pub enum DeclAt {
     /// In this row of the task's system.
-    Row { row: u32 },
+    Row {
+        row: u32,
+    },
     /// In the right side of the line's row at this position of the function's arguments.
-    Right { position: u32 },
+    Right {
+        position: u32,
+    },
     /// In solving: after these pivots, each a row and a column, in this row and column of the tableau.
     Solve {
         pivots: Vec<(u32, u32)>,
@@ -26,15 +30,21 @@ pub enum DeclAt {
         col: u32,
     },
     /// In this entry of the solution, or of the vector that refutes, taken to whole numbers.
-    Scale { entry: u32 },
+    Scale {
+        entry: u32,
+    },
     /// In this block, the first of the line's meter, or in the meter's scale, multiplied by the denominator
     /// of the solution; where no block of the meter is solved before that of the task, in the scale.
-    Rescale { block: usize },
+    Rescale {
+        block: usize,
+    },
     /// In a condition of the block that the solution stands for: of this index, at this path.
     Check {
         path: SmallVec<u32, 8>,
         index: usize,
     },
     /// In the check of the vector that refutes, at this column.
-    Refute { column: u32 },
+    Refute {
+        column: u32,
+    },
 }

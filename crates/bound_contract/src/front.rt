@@ -1,8 +1,7 @@
 // What walks take from the blocks of a certificate before a place.
-ghost use Rattle.std.specs.Prelude.{◌≡◌, ◌≤◌, ◌<◌, length, IfOk, IfSome, OnOk};
+ghost use Rattle.std.specs.Prelude.{◌≡◌, ◌≤◌, length, IfOk, IfSome};
 ghost use Rattle.annot_types.specs.Held.{before};
 ghost use Rattle.annot_types.specs.Read.{certificate_of};
-ghost use Rattle.rules_walk.specs.Remembers.{Remembers};
 ghost use Rattle.rules_plan.specs.Read.{program_in};
 ghost use Rattle.bound_contract.specs.Fronts.{IsFront};
 
@@ -20,7 +19,11 @@ pub(crate) struct Front {
 }
 
 // Those of no blocks.
-fn start(alloc: Global, program: &NormProgram<'_>, certificate: &Certificate) -> Result<Front, AllocError>
+fn start(
+    alloc: Global,
+    program: &NormProgram<'_>,
+    certificate: &Certificate,
+) -> Result<Front, AllocError>
     ensures { IfOk result (IsFront (program_in program.now) (certificate_of certificate.now)) }
 {
     let functions = program.functions();
@@ -66,7 +69,13 @@ pub(crate) fn front_at(
     let mut front = begun(alloc, program, certificate, front, place)?;
     for number in front.place..place {
         let block = &certificate.blocks[number];
-        remember_block(alloc, program, certificate.degree, &mut front.earlier, block)?;
+        remember_block(
+            alloc,
+            program,
+            certificate.degree,
+            &mut front.earlier,
+            block,
+        )?;
     }
     front.place = place;
     Ok(front)

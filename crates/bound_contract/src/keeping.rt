@@ -1,6 +1,7 @@
 // The block that a solution stands for.
-ghost use Rattle.std.specs.Prelude.{◌≡◌, ◌<ℤ◌, ℕ, ℤ, pos, unsigned_abs, List, Option, map, IfOk, IfErr, IfSome, IfNone, OnOk};
+ghost use Rattle.std.specs.Prelude.{◌≡◌, ◌*◌, ◌≤◌, ◌<ℤ◌, ⊥, nat_lt, ℕ, ℤ, pos, unsigned_abs, List, length, Option, map, IfOk, IfErr, IfSome, IfNone, OnOk};
 ghost use Rattle.annot_types.specs.Read as a;
+ghost use Rattle.simplex_integers.specs.Wholes.{most};
 ghost use Rattle.rules_systems_laws.specs.Laws.{told};
 ghost use Rattle.rules_plan.specs.Read.{ArePlansOf};
 ghost use Rattle.bound_contract.specs.Sites.{program_at, certificate_at, before_at, task_at, IsSite, AreBefore, FineAt, ClearAt, RescaleAt, ReadsAt, IsReadAt, IsToldAt, IsToldBy, IsKeptAt, StopsWith};
@@ -9,8 +10,9 @@ use crate::fault::{DecideFault, DeclAt};
 use crate::laws::{fine_is_clear, read_leaves_alone, readings_decide, seen_is_first};
 use crate::site::Site;
 use annot_types::{Block, BlockBody};
-use cert_check::CertFault;
+use cert_check::{CertFault, scale_for};
 use constraint_gen::told_by;
+use cost_free::TaskKind;
 use infer_systems_laws::laws::{limits_are_told, tried_have_tasks};
 use other_blocks::laws::rises_fit;
 use other_blocks::{OtherBlock, first_leaving, other_by};
@@ -38,25 +40,35 @@ fn told(
     })
 }
 
+// Whether the scale of the meter fits when it is multiplied.
+fn scale_fits(times: u128, scale: u128) -> bool
+    ensures { result ≡ nat_lt (times * scale) most }
+{
+    match times.checked_mul(scale) {
+        Some(product) => i128::try_from(product).is_ok(),
+        None => false,
+    }
+}
+
 // Where a number of an earlier block of the meter, or the scale, leaves when it is multiplied.
 fn rescaled(site: &Site<'_, '_, '_>, times: i128) -> Option<usize>
-    requires { pos 0 <ℤ times }
+    requires positive { pos 0 <ℤ times }
+    requires low { site.now.place ≤ length (certificate_at site.now).blocks }
     ensures some { IfSome result (RescaleAt site.now (unsigned_abs times)) }
     ensures none { IfNone result ((block : ℕ) → RescaleAt site.now (unsigned_abs times) block → ⊥) }
 {
-    let blocks = &site.checked.certificate().blocks;
-    let scale = site.scale();
-    match first_leaving(
-        &blocks[..site.place],
-        site.meter,
-        times,
-        scale.unsigned_abs(),
-    ) {
+    let certificate = site.checked.certificate();
+    let scale = scale_for(certificate, TaskKind::With(site.meter));
+    let before = &certificate.blocks[..site.place];
+    match first_leaving(before, site.meter, times, scale) {
         Some(block) => Some(block),
-        None => match scale.checked_mul(times) {
-            Some(_) => None,
-            None => Some(site.place),
-        },
+        None => {
+            if scale_fits(times.unsigned_abs(), scale) {
+                None
+            } else {
+                Some(site.place)
+            }
+        }
     }
 }
 

@@ -2,12 +2,12 @@
 ghost use Rattle.bound_contract.specs.Decided.{CallsExactly, DecidedOnce, OneOwn, OwnsAreThere};
 ghost use Rattle.bound_contract.specs.Example.{Examples};
 ghost use Rattle.bound_contract.specs.Clear.{AllFineIsClear, SeenIsFirst};
-ghost use Rattle.bound_contract.specs.Laws.{DeclaredIsSystem, FirstsAgree, KeptIsBound, LineRowsAreNeeded, LinesHaveNumbers, OthersUnderAreBounds, RaisedDecideAlike, ReadLeavesAlone, ReadingsDecide, RefutedIsNotKept, SolutionsKeep, WhatKeepsSolves};
+ghost use Rattle.bound_contract.specs.Laws.{DeclaredIsSystem, KeptIsBound, LineRowsAreNeeded, LinesHaveNumbers, OthersUnderAreBounds, RaisedDecideAlike, ReadLeavesAlone, ReadingsDecide, RefutedIsNotKept, SolutionsKeep, WhatKeepsSolves};
 
 use infer_spec::laws::blocks_are_there;
+use infer_systems_laws::laws::{ordered_are_proper, tried_have_tasks};
 use other_blocks::laws::one_other_fault;
 use simplex_spec::one_course;
-use infer_systems_laws::laws::{ordered_are_proper, tried_have_tasks};
 
 /// Each solution of a system with a declared bound stands for what holds under the bound.
 pub fn solutions_keep()
@@ -110,9 +110,4 @@ pub fn owns_are_there()
 /// It is one.
 pub fn one_own()
     ensures { OneOwn }
-{}
-
-/// The first unknown by the sizes of plans is that of a declared bound's rows.
-pub fn firsts_agree()
-    ensures { FirstsAgree }
 {}

@@ -17,4 +17,4 @@ mod span;
 
 pub use decider::{Decider, decide};
 pub use decision::Decision;
-pub use fault::{DeclAt, DecideFault};
+pub use fault::{DecideFault, DeclAt};

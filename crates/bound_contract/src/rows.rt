@@ -1,5 +1,5 @@
 // The rows of a declared bound.
-ghost use Rattle.std.specs.Prelude.{◌≡◌, ◌≢◌, [], ◌∷◌, neg_ℤ, SomeIff, ◌≤◌, ◌<◌, ◌+◌, ◌*◌, ◌≤ℤ◌, ◌<ℤ◌, ◌^◌, ℕ, pos, unsigned_abs, IfOk, IfErr, IfSome, IfNone, OnOk};
+ghost use Rattle.std.specs.Prelude.{◌≡◌, ◌≢◌, [], ◌∷◌, neg_ℤ, SomeIff, ◌≤◌, ◌<◌, ◌+◌, ◌*◌, ◌≤ℤ◌, ◌<ℤ◌, ◌^◌, ℕ, pos, unsigned_abs, IfOk, IfSome, IfNone, OnOk};
 ghost use Rattle.simplex_integers.specs.Wholes.{most};
 ghost use Rattle.bound_file.specs.Lines.{numerator_at, denominator_at};
 ghost use Rattle.bound_contract.specs.System.{at_most, line_rows, with_rows};

@@ -1,13 +1,14 @@
 use Rattle.std.proofs.Common.{◌≡◌, ◌≤◌, ◌+◌, drop, map}
 use Rattle.call_groups.specs.Read.{ids_of}
 use Rattle.rules_spec.specs.Tasks.{sides_count}
-use Rattle.rules_plan.specs.Read.{function_of}
-use Rattle.bound_contract.specs.System.{first_in}
-use Rattle.bound_contract.proofs.begins.first_unknown.Given as goal
+use Rattle.rules_plan.specs.Read.{body_of}
+use Rattle.bound_contract.specs.System.{first_in, count_in}
+use Rattle.bound_contract.proofs.span.span_of.Given as goal
 
 -- what is left begins where the whole does, and is few
 abbrev pub invariant-loop-place : goal.invariant-loop-place
 invariant-loop-place l = record {
-  same : first_in (map function_of (drop l.place l.functions)) (ids_of (drop l.place l.group)) l.fun.0 l.next ≡ first_in (map function_of l.functions) (ids_of l.group) l.fun.0 0;
-  few : l.next + sides_count (map function_of (drop l.place l.functions)) ≤ 2000;
+  same : first_in (map body_of (drop l.place l.bodies)) (ids_of (drop l.place l.group)) l.fun.0 l.first ≡ first_in (map body_of l.bodies) (ids_of l.group) l.fun.0 0;
+  count : count_in (map body_of (drop l.place l.bodies)) (ids_of (drop l.place l.group)) l.fun.0 ≡ count_in (map body_of l.bodies) (ids_of l.group) l.fun.0;
+  few : l.first + sides_count (map body_of (drop l.place l.bodies)) ≤ 2000;
 }
