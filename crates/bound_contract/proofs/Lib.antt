@@ -12,5 +12,6 @@ pub mod Owned
 pub mod Firsts
 pub mod Limits
 pub mod Sited
+pub mod Rowing
 pub mod Counting
 pub mod Telling

@@ -68,7 +68,7 @@ impl<'c, 'p, 'a> Model for Decider<'c, 'p, 'a> {
 
 // A decision, and what is kept for the next.
 #[derive(Drop)]
-struct Tried<'p, 'a> {
+struct Step<'p, 'a> {
     decision: Decision<'p, 'a>,
     front: Option<Front>,
     kept: Option<KeptPlans>,
@@ -117,16 +117,16 @@ fn tried<'p, 'a, F: Fn(&[Frac]) -> Option<usize>>(
     front: Option<Front>,
     kept: Option<KeptPlans>,
     chooser: &Chooser<F>,
-) -> Result<Tried<'p, 'a>, DecideFault>
+) -> Result<Step<'p, 'a>, DecideFault>
     requires callable { F.IsAlwaysCallable chooser.now }
     requires chooses { IsChooser F.Fn chooser.now }
     requires one { AnswersByOne F.Fn chooser.now }
     requires site { IsSite site.now }
     requires front { IfSome front (IsFront (program_at site.now) (certificate_at site.now)) }
     requires kept { IfSome kept (AreKept (program_at site.now)) }
-    ensures front { IfOk result (λ tried. IfSome tried.front (IsFront (program_at site.now) (certificate_at site.now))) }
-    ensures kept { IfOk result (λ tried. IfSome tried.kept (AreKept (program_at site.now))) }
-    ensures decided { IfOk result (λ tried. IsDecidedAt site.now (decided_of tried.decision)) }
+    ensures front { IfOk result (λ step. IfSome step.front (IsFront (program_at site.now) (certificate_at site.now))) }
+    ensures kept { IfOk result (λ step. IfSome step.kept (AreKept (program_at site.now))) }
+    ensures decided { IfOk result (λ step. IsDecidedAt site.now (decided_of step.decision)) }
     ensures clear { OnOk result ((pick : List ℤ → ℤ → Option ℕ) → AnswersBy F.Fn chooser.now pick → ClearAt site.now pick) }
     ensures first { IfErr result (λ fault. (pick : List ℤ → ℤ → Option ℕ) → AnswersBy F.Fn chooser.now pick → StopsWith site.now pick fault) }
 {
@@ -141,7 +141,7 @@ fn tried<'p, 'a, F: Fn(&[Frac]) -> Option<usize>>(
     };
     match decided(site, &mut front.earlier, &plans, chooser) {
         Err(fault) => Err(fault),
-        Ok((decision, serve)) => Ok(Tried {
+        Ok((decision, serve)) => Ok(Step {
             decision,
             front: if serve { Some(front) } else { None },
             kept: with_plans(kept, plans),
@@ -157,7 +157,7 @@ fn decide_line<'p, 'a, F: Fn(&[Frac]) -> Option<usize>>(
     front: Option<Front>,
     kept: Option<KeptPlans>,
     chooser: &Chooser<F>,
-) -> Result<Tried<'p, 'a>, DecideFault>
+) -> Result<Step<'p, 'a>, DecideFault>
     requires callable { F.IsAlwaysCallable chooser.now }
     requires chooses { IsChooser F.Fn chooser.now }
     requires one { AnswersByOne F.Fn chooser.now }
@@ -166,9 +166,9 @@ fn decide_line<'p, 'a, F: Fn(&[Frac]) -> Option<usize>>(
     requires asked { MayBeAsked checked.now (line_of line.now) }
     requires front { IfSome front (IsFront (program_in checked.now.program) checked.now.certificate) }
     requires kept { IfSome kept (AreKept (program_in checked.now.program)) }
-    ensures front { IfOk result (λ tried. IfSome tried.front (IsFront (program_in checked.now.program) checked.now.certificate)) }
-    ensures kept { IfOk result (λ tried. IfSome tried.kept (AreKept (program_in checked.now.program))) }
-    ensures decided { IfOk result (λ tried. Decides checked.now (line_of line.now) (decided_of tried.decision)) }
+    ensures front { IfOk result (λ step. IfSome step.front (IsFront (program_in checked.now.program) checked.now.certificate)) }
+    ensures kept { IfOk result (λ step. IfSome step.kept (AreKept (program_in checked.now.program))) }
+    ensures decided { IfOk result (λ step. Decides checked.now (line_of line.now) (decided_of step.decision)) }
     ensures clear { OnOk result ((pick : List ℤ → ℤ → Option ℕ) → AnswersBy F.Fn chooser.now pick → NoneComes checked.now (line_of line.now) pick) }
     ensures first { IfErr result (λ fault. (pick : List ℤ → ℤ → Option ℕ) → AnswersBy F.Fn chooser.now pick →
         OfPlace (place_of fault) (ComesFirst checked.now (line_of line.now) pick)) }
@@ -186,7 +186,7 @@ fn decide_line<'p, 'a, F: Fn(&[Frac]) -> Option<usize>>(
     };
     let block = &certificate.blocks[place];
     match &block.body {
-        BlockBody::Calls { fun } => Ok(Tried {
+        BlockBody::Calls { fun } => Ok(Step {
             decision: Decision::Calls(*fun),
             front,
             kept,
@@ -256,7 +256,7 @@ impl<'c, 'p, 'a> Decider<'c, 'p, 'a> {
         match decide_line(alloc, checked, asked, front, kept, chooser) {
             Err(fault) => Err(fault),
             Ok(
-                Tried {
+                Step {
                     decision,
                     front,
                     kept,
