@@ -21,7 +21,7 @@ use Rattle.infer_spec.proofs.Single.{one_whole, one_solution, one_vector, never_
 use Rattle.annot_types.proofs.Lists.{some_none}
 
 -- a list of checks that pass has no first fault
-none_leaves : (ks : List Check) (column : ℕ) → EachPasses ks → IsFirstFault ks (Leaves column) → ⊥
+pub none_leaves : (ks : List Check) (column : ℕ) → EachPasses ks → IsFirstFault ks (Leaves column) → ⊥
 none_leaves [] column h f = f
 none_leaves (k ∷ ks) column h f = ⊎_elim (λ g. g.1 h.0.fit) (λ g. none_leaves ks column h.1 g.1) f
 
@@ -36,7 +36,7 @@ take_natural [] (suc n) = refl
 take_natural (x ∷ xs) (suc n) = λ i. pos x ∷ take_natural xs n i
 
 -- numbers that fit over their least denominator, which fits, leave at no entry
-none_scale : (d : ℤ) → pos 0 <ℤ d → (ns : List ℤ) (t : ℕ) (xs : List ℕ) → AreLeastWholes d ns t xs → t < most →
+pub none_scale : (d : ℤ) → pos 0 <ℤ d → (ns : List ℤ) (t : ℕ) (xs : List ℕ) → AreLeastWholes d ns t xs → t < most →
     ((i : ℕ) → slice_index_or xs i 0 < most) → (entry : ℕ) → ScaleLeaves d ns entry → ⊥
 none_scale d pd ns t xs h low each entry (InDenominator inside u v ys zs a big b small) =
     let over = take_scale (pos t) ns (suc entry) ∙ ap (take (suc entry)) h.are.over ∙ sym (ap (scale d) (take_natural xs (suc entry)) ∙ take_scale d (map pos xs) (suc entry)) in

@@ -6,9 +6,9 @@ mod Raising
 pub mod Running
 pub mod Asked
 mod Certifying
-mod Single
+pub mod Single
 pub mod Short
-mod Clear
+pub mod Clear
 mod Lines
 pub mod Beginning
 mod Present

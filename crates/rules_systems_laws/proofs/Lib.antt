@@ -5,6 +5,7 @@ pub mod Functions
 pub mod Priceless
 pub mod Weights
 pub mod Targets
+pub mod Arguments
 pub mod Meeting
 pub mod Solutions
 pub mod Filled

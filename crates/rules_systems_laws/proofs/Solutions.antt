@@ -29,9 +29,11 @@ use Rattle.rules_spec.specs.Systems.{IsTask}
 use Rattle.rules_spec.specs.Found.{group_from}
 use Rattle.rules_spec.specs.Told.{bodies_of, sigs_told, hints_told}
 use Rattle.annot_types.proofs.Lists.{some_is}
-use Rattle.rules_systems_laws.specs.Laws.{IsNumbered, told, SolutionsHold, SolutionsWeigh, WhatHoldsSolves}
+use Rattle.rules_systems_laws.specs.Arguments.{TellsArguments}
+use Rattle.rules_systems_laws.specs.Laws.{IsNumbered, told, NumbersAreTold, SolutionsHold, SolutionsWeigh, WhatHoldsSolves}
 use Rattle.rules_systems_laws.proofs.Functions.{here, J, none, whole, reads, sides_told, told_long, told_hold, held_come}
 use Rattle.rules_systems_laws.proofs.Targets.{meet_covers, covers_meet}
+use Rattle.rules_systems_laws.proofs.Arguments.{args_are}
 use Rattle.rules_systems_laws.proofs.Weights.{all_weighed}
 use Rattle.rules_systems_laws.proofs.Meeting.{Meets, raised_job, bodies_are, raised_task, solves_meets, meets_solves}
 
@@ -114,6 +116,11 @@ solutions_weigh P d earlier task scale x is_task =
     all_weighed P d earlier task scale sigs x (members P task.group) sigs ((at_zero P d earlier task scale).1 - length (weights_of_sigs P d earlier task scale)) is_task.0
     (sides_told P d earlier task scale x sigs 0 (members P task.group))
 
+pub numbers_are_told : NumbersAreTold
+numbers_are_told P d earlier task scale x is_task =
+    let sigs = sigs_told (bodies_of P d earlier task) x in
+    args_are P d earlier task scale sigs x 0 (members P task.group) sigs is_task.0 (sides_told P d earlier task scale x sigs 0 (members P task.group))
+
 abbrev task_of : ℕ → Kind → Task
 task_of group kind = record { group = group; kind = kind }
 
@@ -130,6 +137,7 @@ module _ (P : Program) (d : ℕ) (earlier : List Block) (group scale t : ℕ) (s
       (x : List ℕ)
       × Solves (system P d earlier (task_of group kind) scale) (map pos x) (pos t)
       × (dot (system P d earlier (task_of group kind) scale).weights (map pos x) ≡ pos (weight P d (solving (task_of group kind) sigs hints)))
+      × TellsArguments P d (task_of group kind) sigs x
   solved_by kind is_task h =
       let task = task_of group kind in
       let later = blocks_before kind t earlier in
@@ -139,6 +147,7 @@ module _ (P : Program) (d : ℕ) (earlier : List Block) (group scale t : ℕ) (s
         x,
         meets_solves P d earlier group scale t x kind is_task h.positive (record { count = come.count; target = target_met x kind is_task come.long come.sides h.reaches; bodies = come.meet }),
         all_weighed P d later task (scale * t) sigs x (members P group) sigs ((at_zero P d earlier task scale).1 - length (weights_of_sigs P d earlier task scale)) ready come.sides,
+        args_are P d later task (scale * t) sigs x 0 (members P group) sigs ready come.sides,
       )
 
 pub what_holds_solves : WhatHoldsSolves

@@ -1,5 +1,5 @@
 // Laws of a task's system: each is the contract of a function that does nothing.
-ghost use Rattle.rules_systems_laws.specs.Laws.{SolutionsHold, SolutionsWeigh, WhatHoldsSolves};
+ghost use Rattle.rules_systems_laws.specs.Laws.{ArgumentsAreUnknowns, NumbersAreTold, SolutionsHold, SolutionsWeigh, WhatHoldsSolves};
 
 /// Each solution of a task's system stands for signatures and hints that hold.
 pub fn solutions_hold()
@@ -11,7 +11,17 @@ pub fn solutions_weigh()
     ensures { SolutionsWeigh }
 {}
 
-/// All signatures and hints that hold come from a solution.
+/// Numbers for the unknowns of a function's arguments are those of the signature that they stand for.
+pub fn numbers_are_told()
+    ensures { NumbersAreTold }
+{}
+
+/// The unknowns of a function's arguments are among those of the system.
+pub fn arguments_are_unknowns()
+    ensures { ArgumentsAreUnknowns }
+{}
+
+/// All signatures and hints that hold come from a solution, which tells these very signatures.
 pub fn what_holds_solves()
     ensures { WhatHoldsSolves }
 {}

@@ -1,7 +1,7 @@
 -- What is told of fractions is an answer, by the rule that is named.
-use Rattle.std.proofs.Common.{◌≡◌, ◌<◌, ℕ, ℤ, pos, ◌*ℤ◌, ◌<ℤ◌, List, [], ◌∷◌, ◌++◌, slice_index_or, Option, refl, ◌∙◌, subst, arith}
+use Rattle.std.proofs.Common.{◌≡◌, ◌<◌, ℕ, ℤ, pos, ◌*ℤ◌, ◌<ℤ◌, List, [], ◌∷◌, ◌++◌, slice_index_or, Option, refl, sym, ◌∙◌, subst, arith}
 use Rattle.std.proofs.lemmas.Int.{ints}
-use Rattle.std.specs.Prelude.{Result, Ok, Err, IfOk, IfErr}
+use Rattle.std.specs.Prelude.{Result, Ok, Err, IfOk, IfErr, IsErrAnd}
 use lib.IntN.{negsuc}
 use Rattle.raml_num.proofs.Signed.{lt_mul}
 use Rattle.linear_rows.specs.Systems.{LinearSystem, ProvesLeast}
@@ -17,8 +17,10 @@ use Rattle.simplex_checked.specs.declared.answer.Answer.{Answer}
 use Rattle.simplex_checked.specs.declared.answer.Answer.TheVariants as a
 use Rattle.simplex_checked.specs.declared.fault.AnswerFault.{AnswerFault}
 use Rattle.simplex_checked.specs.declared.fault.AnswerFault.TheVariants as f
-use Rattle.simplex_checked.specs.Wholes.{AreLeast, AreRefuting, AreTaken, EntryLeaves, InDenominator, InNumber, IsLeastOver, IsLeastAnswer, IsVectorAnswer, LeastFails, RefutingFails}
+use Rattle.simplex_checked.specs.Wholes.{AreLeast, AreRefuting, AreTaken, EntryLeaves, InDenominator, InNumber, IsLeastOver, IsLeastAnswer, IsInOwn, IsVectorAnswer, EntryIsRefused, LeastFails, RefutingFails}
+use Rattle.simplex_checked.specs.Outcomes.{NoOutcome}
 use Rattle.simplex_checked.specs.Answers.{IsSolution, IsAnswer, Stops}
+use Rattle.simplex_checked.specs.Alone.{OfSolution, OfVector, IsAlone, StopsAlone}
 use Rattle.simplex_checked.proofs.Joining.{length_map, over_parts, both_natural}
 
 -- By a function of the gains that answers as the rule does
@@ -144,6 +146,28 @@ module _ (law : LeastDenominators) (rule : Rule) (s : LinearSystem) (ps : List (
   least_stops entries (f.Solve pivots row column) k = absurd k
   least_stops entries (f.Refute column) k = absurd k
 
+  pub is_alone : (answer : Answer) → IsInOwn x answer → IsAlone rule s answer
+  is_alone (a.Solution denominator numbers) k = (
+    k.0,
+    all_over k.0 x,
+    k.1,
+    k.2,
+    record {
+      solution = record { pivots = ps; table = h.t; ends = h.ends; follows = h.follows; whole = law h.t.over (solution s h.t) x own k.0 k.3.denominator.is };
+      denominator = k.3.denominator.fits;
+      numbers = k.3.numbers;
+    },
+  )
+  is_alone (a.Vector numbers) k = absurd k
+
+  pub alone_stops : RefusedEntriesLeave → (fault : AnswerFault) → EntryIsRefused x fault → StopsAlone rule s fault
+  alone_stops entries (f.Scale entry) k =
+      (h.t.over, solution s h.t, OfSolution ps h.t h.ends h.follows refl refl, scale_leaves entries h.t.over (solution s h.t) x own entry k)
+  alone_stops entries f.NoMemory k = tt
+  alone_stops entries (f.Solve pivots row column) k = absurd k
+  alone_stops entries (f.Refute column) k = absurd k
+  alone_stops entries (f.Least column) k = absurd k
+
 -- A vector
 
 module _ (law : LeastDenominators) (rule : Rule) (s : LinearSystem) (ps : List (ℕ × ℕ)) (y : List Frac) (h : IsRefuted rule s ps y) where
@@ -178,6 +202,18 @@ module _ (law : LeastDenominators) (rule : Rule) (s : LinearSystem) (ps : List (
   vector_stops entries (f.Solve pivots row column) k = absurd k
   vector_stops entries (f.Least column) k = absurd k
 
+  pub vector_is_alone : (answer : Answer) → IsVectorAnswer s y answer → IsAlone rule s answer
+  vector_is_alone (a.Solution denominator numbers) k = absurd k
+  vector_is_alone (a.Vector numbers) k = is_vector (a.Vector numbers) k
+
+  pub vector_stops_alone : RefusedEntriesLeave → (fault : AnswerFault) → RefutingFails s y fault → StopsAlone rule s fault
+  vector_stops_alone entries (f.Scale entry) k =
+      (h.t.over, ray s h.column h.t, OfVector ps h.t h.column h.rises h.follows h.answers refl refl, scale_leaves entries h.t.over (ray s h.column h.t) y natural entry k)
+  vector_stops_alone entries (f.Refute column) k = vector_stops entries (f.Refute column) k
+  vector_stops_alone entries f.NoMemory k = tt
+  vector_stops_alone entries (f.Solve pivots row column) k = absurd k
+  vector_stops_alone entries (f.Least column) k = absurd k
+
 -- What the code comes to
 
 abbrev pub IsMore : (List ℤ → ℤ → Option ℕ) → Rule → Type 0
@@ -194,12 +230,42 @@ module _ (law : LeastDenominators) (rule : Rule) (s : LinearSystem) (ps : List (
   best_err x y h entries (Ok answer) k = tt
   best_err x y h entries (Err fault) k = λ pick more. least_stops law (rule_by pick) s ps x y (best_by pick rule more s ps x y h) entries fault k
 
-  pub vector_ok : (y : List Frac) → IsRefuted rule s ps y → (r : Result Answer AnswerFault) → IfOk r (IsVectorAnswer s y) →
-      IfOk r (λ answer. (pick : List ℤ → ℤ → Option ℕ) → IsMore pick rule → IsAnswer (rule_by pick) s answer)
-  vector_ok y h (Ok answer) k = λ pick more. is_vector law (rule_by pick) s ps y (refuted_by pick rule more s ps y h) answer k
-  vector_ok y h (Err fault) k = tt
+  pub vector_ok : (y : List Frac) → IsRefuted rule s ps y → (answer : Answer) → IsVectorAnswer s y answer →
+      (pick : List ℤ → ℤ → Option ℕ) → IsMore pick rule → IsAnswer (rule_by pick) s answer
+  vector_ok y h answer k pick more = is_vector law (rule_by pick) s ps y (refuted_by pick rule more s ps y h) answer k
 
-  pub vector_err : (y : List Frac) → IsRefuted rule s ps y → RefusedEntriesLeave → (r : Result Answer AnswerFault) → IfErr r (RefutingFails s y) →
-      IfErr r (λ fault. (pick : List ℤ → ℤ → Option ℕ) → IsMore pick rule → Stops (rule_by pick) s fault)
-  vector_err y h entries (Ok answer) k = tt
-  vector_err y h entries (Err fault) k = λ pick more. vector_stops law (rule_by pick) s ps y (refuted_by pick rule more s ps y h) entries fault k
+  -- the same where what proves a solution least is not looked at
+  pub alone_ok : (x y : List Frac) → IsBest rule s ps x y → (r : Result Answer AnswerFault) → IfOk r (IsInOwn x) →
+      IfOk r (λ answer. (pick : List ℤ → ℤ → Option ℕ) → IsMore pick rule → IsAlone (rule_by pick) s answer)
+  alone_ok x y h (Ok answer) k = λ pick more. is_alone law (rule_by pick) s ps x y (best_by pick rule more s ps x y h) answer k
+  alone_ok x y h (Err fault) k = tt
+
+  pub alone_err : (x y : List Frac) → IsBest rule s ps x y → RefusedEntriesLeave → (r : Result Answer AnswerFault) → IfErr r (EntryIsRefused x) →
+      IfErr r (λ fault. (pick : List ℤ → ℤ → Option ℕ) → IsMore pick rule → StopsAlone (rule_by pick) s fault)
+  alone_err x y h entries (Ok answer) k = tt
+  alone_err x y h entries (Err fault) k = λ pick more. alone_stops law (rule_by pick) s ps x y (best_by pick rule more s ps x y h) entries fault k
+
+  pub vector_alone_ok : (y : List Frac) → IsRefuted rule s ps y → (answer : Answer) → IsVectorAnswer s y answer →
+      (pick : List ℤ → ℤ → Option ℕ) → IsMore pick rule → IsAlone (rule_by pick) s answer
+  vector_alone_ok y h answer k pick more = vector_is_alone law (rule_by pick) s ps y (refuted_by pick rule more s ps y h) answer k
+
+-- where there is no outcome
+module _ (law : LeastDenominators) (entries : RefusedEntriesLeave) (rule : Rule) (s : LinearSystem) where
+  pub no_outcome_stops : (fault : AnswerFault) → NoOutcome rule s fault → (pick : List ℤ → ℤ → Option ℕ) → IsMore pick rule → Stops (rule_by pick) s fault
+  no_outcome_stops (f.Solve pivots row column) k pick more = refuses_by pick rule more s pivots.items row column k
+  no_outcome_stops f.NoMemory k pick more = tt
+  no_outcome_stops (f.Scale entry) k pick more = vector_stops law (rule_by pick) s k.0 k.1 (refuted_by pick rule more s k.0 k.1 k.2) entries (f.Scale entry) k.3
+  no_outcome_stops (f.Refute column) k pick more = vector_stops law (rule_by pick) s k.0 k.1 (refuted_by pick rule more s k.0 k.1 k.2) entries (f.Refute column) k.3
+  no_outcome_stops (f.Least column) k pick more = absurd k.3
+
+  pub no_outcome_stops_alone : (fault : AnswerFault) → NoOutcome rule s fault → (pick : List ℤ → ℤ → Option ℕ) → IsMore pick rule → StopsAlone (rule_by pick) s fault
+  no_outcome_stops_alone (f.Solve pivots row column) k pick more = no_outcome_stops (f.Solve pivots row column) k pick more
+  no_outcome_stops_alone f.NoMemory k pick more = tt
+  no_outcome_stops_alone (f.Scale entry) k pick more = vector_stops_alone law (rule_by pick) s k.0 k.1 (refuted_by pick rule more s k.0 k.1 k.2) entries (f.Scale entry) k.3
+  no_outcome_stops_alone (f.Refute column) k pick more = no_outcome_stops (f.Refute column) k pick more
+  no_outcome_stops_alone (f.Least column) k pick more = absurd k.3
+
+-- a fault that is passed on
+pub passed_on : {A X : Type 0} (P : X → Type 0) (r : Result A X) (e : X) → IsErrAnd r (λ x. x ≡ e) → P e → IfErr r P
+passed_on P (Ok x) e h k = tt
+passed_on P (Err x) e h k = subst P (sym h) k

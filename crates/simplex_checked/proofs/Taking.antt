@@ -123,6 +123,12 @@ module _ (s : LinearSystem) (x y : List Frac) (h : AreLeast s x y) where
       let rows = h.y_are.count ∙ h.proves.dual.one_each in
       omega (arith, low, all, columns, rows)
 
+  pub few_first : right s < 2 ^ 32 → length x < 2 ^ 32
+  few_first low =
+      let all = few_both low (x ++ y) refl in
+      let both = length_both x y in
+      omega (arith, all, both)
+
   module _ (law : LeastDenominators) (l : ℕ) (taken : AreTaken (x ++ y) l) where
     parts : InProportion h.d (pos l) h.xs (map pos (all_over l x)) × InProportion h.d (pos l) h.ys (map pos (all_over l y))
     parts =

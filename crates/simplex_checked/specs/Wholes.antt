@@ -71,10 +71,18 @@ VectorCheckLeaves s y (f.Refute column) = IsVerdict (refuting s y) (Leaves colum
 VectorCheckLeaves s y f.NoMemory = Unit {0}
 VectorCheckLeaves s y fault = ⊥
 
+-- the answer is these fractions as a solution, over a number that is so
+abbrev pub IsSolutionOver : (ℕ → Type 0) → List Frac → Answer → Type 0
+IsSolutionOver is_so x (Solution denominator numbers) = (t : ℕ) × (denominator ≡ pos t) × (numbers.items ≡ map pos (all_over t x)) × is_so t
+IsSolutionOver is_so x (Vector numbers) = ⊥
+
 -- the answer is these fractions over their own least denominator
 abbrev pub IsInWholes : List Frac → Answer → Type 0
-IsInWholes x (Solution denominator numbers) = (t : ℕ) × (denominator ≡ pos t) × (numbers.items ≡ map pos (all_over t x)) × IsDenominator (denominators x) t
-IsInWholes x (Vector numbers) = ⊥
+IsInWholes x = IsSolutionOver (IsDenominator (denominators x)) x
+
+-- and over it all numbers fit
+abbrev pub IsInOwn : List Frac → Answer → Type 0
+IsInOwn x = IsSolutionOver (AreTaken x) x
 
 -- x over its own least denominator, where with the dual y it is checked over what serves for both
 pub record IsLeastOver (s : LinearSystem) (x y : List Frac) (t : ℕ) : Type 0 where
@@ -85,8 +93,7 @@ pub record IsLeastOver (s : LinearSystem) (x y : List Frac) (t : ℕ) : Type 0 w
 
 -- the answer is the solution x so
 abbrev pub IsLeastAnswer : LinearSystem → List Frac → List Frac → Answer → Type 0
-IsLeastAnswer s x y (Solution denominator numbers) = (t : ℕ) × (denominator ≡ pos t) × (numbers.items ≡ map pos (all_over t x)) × IsLeastOver s x y t
-IsLeastAnswer s x y (Vector numbers) = ⊥
+IsLeastAnswer s x y = IsSolutionOver (IsLeastOver s x y) x
 
 -- the fault is an entry of both that leaves, or a column at which the check over their denominator does
 abbrev pub LeastFails : LinearSystem → List Frac → List Frac → AnswerFault → Type 0

@@ -13,4 +13,4 @@ pub use answer::Answer;
 pub use fault::AnswerFault;
 pub use named::{answer_by_greatest, answer_by_least};
 pub use rules::{greatest_column, least_column};
-pub use solving::whole_answer;
+pub use solving::{answer_alone, whole_answer};

@@ -1,38 +1,35 @@
-use Rattle.simplex.specs.Solving.{IsBest, IsRefuted, rule_of}
-use Rattle.simplex_spec.specs.Courses.{Refuses}
-use Rattle.simplex_checked.proofs.ByPick.{best_ok, best_err, vector_ok, vector_err, are_refuting, refuses_by}
+use Rattle.std.specs.Prelude.{ℕ, ℤ, List, Option}
+use Rattle.simplex_spec.specs.Courses.{rule_by}
+use Rattle.simplex.specs.Solving.{rule_of}
+use Rattle.simplex_checked.specs.Answers.{Stops}
+use Rattle.simplex_checked.specs.Outcomes.{IsOutcome}
+use Rattle.simplex_checked.specs.declared.solving.Outcome.TheVariants.{Solution, Refuted}
+use Rattle.simplex_checked.proofs.ByPick.{best_ok, best_err, vector_ok, are_least, no_outcome_stops, passed_on, IsMore}
 use Rattle.simplex_checked.proofs.solving.whole_answer.Goals as goal
 
-pub returns-in-Best-clause-answer : goal.returns-in-Best-clause-answer
-returns-in-Best-clause-answer g c =
-    let best : IsBest (rule_of g.F.Fn c.args.chooser.now) c.args.system.now c.in-Best.pivots.items c.in-Best.x.items c.in-Best.dual.items = rw c.in-Best.is at c.in_ok-x.ensures in
-    best_ok c.least_denominators.ensures (rule_of g.F.Fn c.args.chooser.now) c.args.system.now c.in-Best.pivots.items c.in-Best.x.items c.in-Best.dual.items best _
-    (rw (c.deref.ensures.value, c.deref-in-Best.ensures.value) at c.checked_solution.ensures.answer)
+pub checked_solution-requires-clause-least : goal.checked_solution-requires-clause-least
+checked_solution-requires-clause-least g c =
+    let o : IsOutcome (rule_of g.F.Fn c.args.chooser.now) c.args.system.now (Solution c.in-Solution.x c.in-Solution.dual) = rw c.in-Solution.is at c.in_ok-x.ensures.outcome in
+    rw (c.deref.ensures.value, c.deref-in-Solution.ensures.value) (are_least (rule_of g.F.Fn c.args.chooser.now) c.args.system.now o.0 c.in-Solution.x.items c.in-Solution.dual.items o.1)
 
-pub returns-in-Best-clause-fault : goal.returns-in-Best-clause-fault
-returns-in-Best-clause-fault g c =
-    let best : IsBest (rule_of g.F.Fn c.args.chooser.now) c.args.system.now c.in-Best.pivots.items c.in-Best.x.items c.in-Best.dual.items = rw c.in-Best.is at c.in_ok-x.ensures in
-    best_err c.least_denominators.ensures (rule_of g.F.Fn c.args.chooser.now) c.args.system.now c.in-Best.pivots.items c.in-Best.x.items c.in-Best.dual.items best
-    c.refused_entries_leave.ensures _ (rw (c.deref.ensures.value, c.deref-in-Best.ensures.value) at c.checked_solution.ensures.fault)
+pub returns-in-Solution-clause-answer : goal.returns-in-Solution-clause-answer
+returns-in-Solution-clause-answer g c =
+    let o : IsOutcome (rule_of g.F.Fn c.args.chooser.now) c.args.system.now (Solution c.in-Solution.x c.in-Solution.dual) = rw c.in-Solution.is at c.in_ok-x.ensures.outcome in
+    best_ok c.least_denominators.ensures (rule_of g.F.Fn c.args.chooser.now) c.args.system.now o.0 c.in-Solution.x.items c.in-Solution.dual.items o.1 _
+    (rw (c.deref.ensures.value, c.deref-in-Solution.ensures.value) at c.checked_solution.ensures.answer)
 
-pub checked_vector-requires-clause-refuting : goal.checked_vector-requires-clause-refuting
-checked_vector-requires-clause-refuting g c =
-    let refuted : IsRefuted (rule_of g.F.Fn c.args.chooser.now) c.args.system.now c.in-NoSolution.pivots.items c.in-NoSolution.farkas.items = rw c.in-NoSolution.is at c.in_ok-x.ensures in
-    rw c.deref-in-NoSolution.ensures.value (are_refuting (rule_of g.F.Fn c.args.chooser.now) c.args.system.now c.in-NoSolution.pivots.items c.in-NoSolution.farkas.items refuted)
+pub returns-in-Solution-clause-fault : goal.returns-in-Solution-clause-fault
+returns-in-Solution-clause-fault g c =
+    let o : IsOutcome (rule_of g.F.Fn c.args.chooser.now) c.args.system.now (Solution c.in-Solution.x c.in-Solution.dual) = rw c.in-Solution.is at c.in_ok-x.ensures.outcome in
+    best_err c.least_denominators.ensures (rule_of g.F.Fn c.args.chooser.now) c.args.system.now o.0 c.in-Solution.x.items c.in-Solution.dual.items o.1
+    c.refused_entries_leave.ensures _ (rw (c.deref.ensures.value, c.deref-in-Solution.ensures.value) at c.checked_solution.ensures.fault)
 
-pub returns-in-NoSolution-clause-answer : goal.returns-in-NoSolution-clause-answer
-returns-in-NoSolution-clause-answer g c =
-    let refuted : IsRefuted (rule_of g.F.Fn c.args.chooser.now) c.args.system.now c.in-NoSolution.pivots.items c.in-NoSolution.farkas.items = rw c.in-NoSolution.is at c.in_ok-x.ensures in
-    vector_ok c.least_denominators.ensures (rule_of g.F.Fn c.args.chooser.now) c.args.system.now c.in-NoSolution.pivots.items c.in-NoSolution.farkas.items refuted _
-    (rw c.deref-in-NoSolution.ensures.value at c.checked_vector.ensures.answer)
+pub returns-in-Refuted-clause-answer : goal.returns-in-Refuted-clause-answer
+returns-in-Refuted-clause-answer g c =
+    let o : IsOutcome (rule_of g.F.Fn c.args.chooser.now) c.args.system.now (Refuted c.in-Refuted.answer) = rw c.in-Refuted.is at c.in_ok-x.ensures.outcome in
+    vector_ok c.least_denominators.ensures (rule_of g.F.Fn c.args.chooser.now) c.args.system.now o.0 o.1 o.2 c.in-Refuted.answer o.3
 
-pub returns-in-NoSolution-clause-fault : goal.returns-in-NoSolution-clause-fault
-returns-in-NoSolution-clause-fault g c =
-    let refuted : IsRefuted (rule_of g.F.Fn c.args.chooser.now) c.args.system.now c.in-NoSolution.pivots.items c.in-NoSolution.farkas.items = rw c.in-NoSolution.is at c.in_ok-x.ensures in
-    vector_err c.least_denominators.ensures (rule_of g.F.Fn c.args.chooser.now) c.args.system.now c.in-NoSolution.pivots.items c.in-NoSolution.farkas.items refuted
-    c.refused_entries_leave.ensures _ (rw c.deref-in-NoSolution.ensures.value at c.checked_vector.ensures.fault)
-
-pub returns-clause-fault : goal.returns-clause-fault
-returns-clause-fault g c =
-    let refuses : Refuses (rule_of g.F.Fn c.args.chooser.now) c.args.system.now c.in-Leaves.pivots.items c.in-Leaves.row c.in-Leaves.col = rw c.in-Leaves.is at c.in_ok-x.ensures in
-    λ pick more. refuses_by pick (rule_of g.F.Fn c.args.chooser.now) more c.args.system.now c.in-Leaves.pivots.items c.in-Leaves.row c.in-Leaves.col refuses
+pub returns-in_err-x-clause-fault : goal.returns-in_err-x-clause-fault
+returns-in_err-x-clause-fault g c = passed_on
+    (λ fault. (pick : List ℤ → ℤ → Option ℕ) → IsMore pick (rule_of g.F.Fn c.args.chooser.now) → Stops (rule_by pick) c.args.system.now fault) _ _ c.from_residual.ensures.1
+    (no_outcome_stops c.least_denominators.ensures c.refused_entries_leave.ensures (rule_of g.F.Fn c.args.chooser.now) c.args.system.now _ c.in_err-x.ensures.fault)
