@@ -21,7 +21,7 @@ use Rattle.annot_types.specs.Least.{solving}
 use Rattle.annot_types.specs.System.{unsigned, args_of, system}
 use Rattle.rules_spec.specs.Systems.{IsTask}
 use Rattle.rules_spec.specs.Told.{bodies_of, sigs_told, number_in}
-use Rattle.infer_spec.proofs.Lists.{length_map}
+use Rattle.annot_types.proofs.Lists.{length_map}
 use Rattle.rules_systems_laws.specs.Laws.{told}
 use Rattle.rules_systems_laws.proofs.Functions.{told_long}
 use Rattle.rules_systems_laws.proofs.Arguments.{ready_there, among_signed, arguments_are_unknowns}
