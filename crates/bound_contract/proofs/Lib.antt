@@ -13,5 +13,6 @@ pub mod Firsts
 pub mod Limits
 pub mod Sited
 pub mod Rowing
+pub mod Spans
 pub mod Counting
 pub mod Telling

@@ -82,9 +82,11 @@ fn planned(site: &Site<'_, '_, '_>, kept: &mut KeptPlans) -> Result<GroupPlans, 
     ensures plans { IfOk result (ArePlansOf (program_at site.now) site.now.group (certificate_at site.now).degree) }
 {
     limits_are_told();
-    let degree = site.checked.certificate().degree;
+    let program = site.checked.program();
+    let certificate = site.checked.certificate();
+    let degree = certificate.degree;
     let last = kept.take(site.group, degree);
-    match next_plans(site.alloc, site.checked.program(), last, site.group, degree) {
+    match next_plans(site.alloc, program, last, site.group, degree) {
         Ok(plans) => Ok(plans),
         Err(PlanFault::NoMemory) => Err(AllocError),
         Err(PlanFault::TooMany) => unreachable!(),

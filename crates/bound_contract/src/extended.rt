@@ -1,9 +1,9 @@
 // The system of a declared bound: the rows of its task, and those of the bound behind them.
-ghost use Rattle.std.specs.Prelude.{◌≡◌, ◌<◌, ◌≤◌, ◌^◌, ℕ, ℤ, List, Option, map, length, IfOk, IfErr, OnOk};
+ghost use Rattle.std.specs.Prelude.{◌≡◌, ◌<◌, ◌≤◌, ◌+◌, ◌^◌, ℕ, ℤ, List, Option, map, length, IfOk, IfErr, OnOk};
 ghost use Rattle.simplex_spec.specs.Tableaux.{right};
 ghost use Rattle.rules_spec.specs.Told.{bodies_of};
 ghost use Rattle.rules_plan.specs.Read.{body_of};
-ghost use Rattle.bound_contract.specs.Sites.{program_at, certificate_at, before_at, task_at, own_at, system_at, IsSite, AreBefore, OwnFits, FineAt, StopsAt};
+ghost use Rattle.bound_contract.specs.Sites.{program_at, certificate_at, before_at, task_at, own_at, system_at, first_at, count_at, IsSite, AreBefore, OwnFits, FineAt, StopsAt};
 
 use crate::fault::{DecideFault, DeclAt};
 use crate::laws::seen_is_first;

@@ -24,15 +24,13 @@ fn start(
     program: &NormProgram<'_>,
     certificate: &Certificate,
 ) -> Result<Front, AllocError>
-    ensures { IfOk result (IsFront (program_in program.now) (certificate_of certificate.now)) }
+    ensures front { IfOk result (IsFront (program_in program.now) (certificate_of certificate.now)) }
+    ensures place { IfOk result (λ front. front.place ≡ 0) }
 {
-    let functions = program.functions();
     let _source = program.source();
-    let _certificate = certificate.degree;
-    Ok(Front {
-        earlier: Earlier::new(alloc, functions.len())?,
-        place: 0,
-    })
+    let functions = program.functions();
+    let earlier = Earlier::new(alloc, functions.len())?;
+    Ok(Front { earlier, place: 0 })
 }
 
 // The given ones, where they are not behind the place.

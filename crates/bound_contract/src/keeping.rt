@@ -1,5 +1,5 @@
 // The block that a solution stands for.
-ghost use Rattle.std.specs.Prelude.{◌≡◌, ◌*◌, ◌≤◌, ◌<ℤ◌, ⊥, nat_lt, ℕ, ℤ, pos, unsigned_abs, List, length, Option, map, IfOk, IfErr, IfSome, IfNone, OnOk};
+ghost use Rattle.std.specs.Prelude.{◌≡◌, ◌*◌, ◌≤◌, ◌<ℤ◌, nat_lt, ℕ, ℤ, pos, unsigned_abs, List, length, Option, map, IfOk, IfErr, IfSome, IfNone, OnOk};
 ghost use Rattle.annot_types.specs.Read as a;
 ghost use Rattle.simplex_integers.specs.Wholes.{most};
 ghost use Rattle.rules_systems_laws.specs.Laws.{told};
