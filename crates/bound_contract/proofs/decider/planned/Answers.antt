@@ -1,4 +1,4 @@
-use Rattle.std.proofs.Common.{◌≡◌, ℕ, Option, Some, None, IfSome, sym, subst}
+use Rattle.std.proofs.Common.{◌≡◌, ℕ, Option, Some, None, IfSome, Err, ap, sym, subst}
 use Rattle.share_normal.specs.Program.{Kept}
 use Rattle.annot_types.specs.Program.{Program}
 use Rattle.rules_plan.specs.Read.{program_in, AreKept, ArePlansIn, GroupWithin}
@@ -15,12 +15,12 @@ plans_in (Some made) kept P h k = h P k
 pub next_plans-requires-clause-last : goal.next_plans-requires-clause-last
 next_plans-requires-clause-last c =
     subst (λ K. IfSome c.take-last.result (ArePlansIn (program_in K))) (sym c.program-program.ensures)
-    (plans_in _ _ (program_at c.args.site.now) c.take-last.ensures.taken c.requires.kept)
+    (plans_in c.take-last.result c.args.kept.now (program_at c.args.site.now) c.take-last.ensures.taken c.requires.kept)
 
 pub unreachable-requires : goal.unreachable-requires
 unreachable-requires c =
     let site = c.args.site.now in
-    c.in-Err-TooMany.ensures.many c.in-Err-TooMany.field-0-is
+    c.in-Err-TooMany.ensures.many (ap Err c.in-Err-TooMany.field-0-is)
     (subst (λ (x : Kept × ℕ). GroupWithin (program_in x.0) site.group x.1)
     (λ i. (sym c.program-program.ensures i, (sym c.certificate-certificate.ensures.certificate i).degree))
     (is_within c.limits_are_told.ensures (program_at site) (certificate_at site).degree (before_at site) (task_at site) (scale_at site) c.requires.site.within))
