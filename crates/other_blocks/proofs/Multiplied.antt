@@ -8,7 +8,6 @@ use Rattle.std.proofs.lemmas.Bool.Decides.{nat_tests}
 use Rattle.std.proofs.lemmas.List.Elements.{All-nil, All-cons, All-head, All-tail}
 use Rattle.std.proofs.lemmas.Option.{same_Some, none-some}
 use Rattle.cost_free.specs.declared.task.Meter.{Meter}
-use Rattle.cost_free.specs.Task as k
 use Rattle.cost_free.specs.Blocked.{is_for_meter}
 use Rattle.annot_types.specs.Certificate as c
 use Rattle.annot_types.specs.Certificate.{Entries, Sig, Hint, Body, Solved, IsSolved, Block}
@@ -18,7 +17,7 @@ use Rattle.rules_soundness_laws.proofs.Blocks.{of_meter}
 use Rattle.simplex_integers.specs.Wholes.{most}
 use Rattle.infer_spec.specs.States.{State}
 use Rattle.infer_spec.specs.Places.{EntriesFit, SigFits, HintFits, BodyFits, IsOfMeter, RaisedFits, BlockLeaves}
-use Rattle.other_blocks.specs.Leaving.{NoneSolved, entries_fit, sig_fits, hint_fits, body_fits, is_solved, is_leaving, first_leaving}
+use Rattle.other_blocks.specs.Leaving.{entries_fit, sig_fits, hint_fits, body_fits, is_solved, is_leaving, first_leaving}
 
 both_true : (a b : Bool) → (a && b) ≡ true → (a ≡ true) × (b ≡ true)
 both_true true b e = (refl, e)

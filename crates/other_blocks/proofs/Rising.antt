@@ -1,6 +1,6 @@
 -- Where nothing that is raised leaves, the raised scale fits.
 use Rattle.std.proofs.Common.{◌≡◌, refl, sym, subst, arith, inl, inr}
-use Rattle.std.specs.Prelude.{ℕ, zero, suc, ◌*◌, ◌<◌, ◌≤◌, ◌⊎◌, ℤ, unsigned_abs, List, [], ◌∷◌, slice_get, Option, Some}
+use Rattle.std.specs.Prelude.{ℕ, zero, suc, ◌*◌, ◌<◌, ◌≤◌, ◌⊎◌, unsigned_abs, List, [], ◌∷◌, slice_get, Some}
 use Rattle.std.proofs.lemmas.Option.{same_Some, none-some}
 use Rattle.cost_free.specs.declared.task.Meter.{Meter}
 use Rattle.cost_free.specs.Task as k

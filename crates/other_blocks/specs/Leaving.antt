@@ -1,5 +1,5 @@
 -- Which blocks leave 127 bits where their numbers are multiplied.
-use Rattle.std.specs.Prelude.{◌≡◌, ℕ, suc, ℤ, pos, ◌*ℤ◌, unsigned_abs, Bool, true, false, cond, not, ◌&&◌, List, [], ◌∷◌, slice_get, Option, None, Some, option_map}
+use Rattle.std.specs.Prelude.{◌≡◌, ℕ, suc, ℤ, ◌*ℤ◌, unsigned_abs, Bool, true, false, cond, not, ◌&&◌, List, [], ◌∷◌, slice_get, Option, None, Some, option_map}
 use Rattle.std.specs.List.{list_all}
 use Rattle.cost_free.specs.declared.task.Meter.{Meter}
 use Rattle.cost_free.specs.Blocked.{is_for_meter}

@@ -24,7 +24,7 @@ ghost use Rattle.other_blocks.specs.Other.{place_among, IsOwn, ThereFinds, Raise
 
 use crate::block::{OtherBlock, keep};
 use crate::place::{is_tried, place_of};
-use crate::tables::tables;
+use crate::remembering::tables;
 use annot_types::{Block, BlockBody, Certificate};
 use cert_check::{At, CertFault, Checked, budget_of, check_planned, scale_for};
 use cost_free::{Meter, Task, TaskKind};

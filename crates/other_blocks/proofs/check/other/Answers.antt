@@ -1,6 +1,5 @@
 use Rattle.std.proofs.Common.{◌≡◌, ◌<◌, refl, ap, sym, ◌∙◌, subst, length, true, false, Bool, Some}
 use Rattle.std.specs.Prelude.{unsigned_abs}
-use Rattle.cost_free.specs.Read.{task_of}
 use Rattle.annot_types.specs.Read as a
 use Rattle.rules_plan.specs.Read.{program_in}
 use Rattle.cert_check.specs.Fault.{Shape}

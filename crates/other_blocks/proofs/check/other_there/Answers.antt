@@ -1,4 +1,4 @@
-use Rattle.std.proofs.Common.{◌≡◌, ap, sym, subst, Some, arith}
+use Rattle.std.proofs.Common.{◌≡◌, sym, subst, Some, arith}
 use Rattle.std.specs.Prelude.{unsigned_abs}
 use Rattle.std.proofs.lemmas.List.{length-map}
 use Rattle.cost_free.specs.Read.{task_of, kind_of}

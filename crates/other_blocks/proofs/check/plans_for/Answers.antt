@@ -1,5 +1,4 @@
 use Rattle.std.proofs.Common.{subst}
-use Rattle.cost_free.specs.Read.{kind_of}
 use Rattle.rules_plan.specs.Read.{program_in, ArePlansOf}
 use Rattle.other_blocks.proofs.check.plans_for.Goals as goal
 
