@@ -1,5 +1,5 @@
 -- The blocks of a held certificate before a place, as a course that has come there.
-use Rattle.std.proofs.Common.{◌≡◌, refl, sym, subst}
+use Rattle.std.proofs.Common.{◌≡◌, refl, sym, subst, arith}
 use Rattle.std.specs.Prelude.{ℕ, ◌<◌, ℤ, pos, ◌<ℤ◌, unsigned_abs, take, slice_get, None, Some}
 use Rattle.std.proofs.lemmas.Int.{ints}
 use Rattle.linear_rows.specs.Systems.{IsSystem}
