@@ -191,9 +191,9 @@ module _ (meter : Meter) (t scale : ℕ) where
       all (suc i) other there of = h.1 i other there of
     behind q (Some m) h (Some n) e =
         (subst (IsFirst (b ∷ bs)) (same_Some (suc m) n e) (record { block = h.0.block; there = h.0.there; of = h.0.of; leaves = h.0.leaves; earlier = before }), tt) where
-      before : (i : ℕ) (other : Block) → i < suc m → slice_get (b ∷ bs) i ≡ Some other → IsOfMeter meter other → Fit other
-      before zero other low there of = subst Fit (same_Some b other there) (stays_so b q (subst (IsOfMeter meter) (sym (same_Some b other there)) of))
-      before (suc i) other low there of = h.0.earlier i other (omega (arith, low)) there of
+          before : (i : ℕ) (other : Block) → i < suc m → slice_get (b ∷ bs) i ≡ Some other → IsOfMeter meter other → Fit other
+          before zero other low there of = subst Fit (same_Some b other there) (stays_so b q (subst (IsOfMeter meter) (sym (same_Some b other there)) of))
+          before (suc i) other low there of = h.0.earlier i other (omega (arith, low)) there of
 
     by : (l : Bool) → leaving b ≡ l → (rest : Option ℕ) → first_leaving meter (pos t) scale_fits bs ≡ rest → IfSome rest (IsFirst bs) × IfNone rest (AllFit bs) → (o : Option ℕ) → cond l (Some 0) (option_map suc (first_leaving meter (pos t) scale_fits bs)) ≡ o →
         IfSome o (IsFirst (b ∷ bs)) × IfNone o (AllFit (b ∷ bs))

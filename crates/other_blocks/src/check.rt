@@ -145,7 +145,16 @@ fn check_raised(
     ensures scale { IfOk result (λ scale. scale ≡ pos (scale_for (certificate_of certificate.now) (kind_of block.now.task.kind) * times)) }
     ensures once { times ≡ 1 → earlier.new ≡ earlier.old }
 {
-    match check_over(alloc, program, certificate, place, block, times, plans, earlier) {
+    match check_over(
+        alloc,
+        program,
+        certificate,
+        place,
+        block,
+        times,
+        plans,
+        earlier,
+    ) {
         Err(fault) => Err(fault),
         Ok(()) => fitting(
             alloc,
@@ -190,7 +199,16 @@ pub fn other_by<'p, 'a>(
     let _functions = program.functions();
     let _groups = program.groups();
     let times = times.unsigned_abs();
-    match check_raised(alloc, program, certificate, place, &block, times, plans, earlier) {
+    match check_raised(
+        alloc,
+        program,
+        certificate,
+        place,
+        &block,
+        times,
+        plans,
+        earlier,
+    ) {
         Err(fault) => Err(fault),
         Ok(scale) => Ok(keep(program, certificate.degree, scale, block)),
     }
