@@ -101,10 +101,6 @@ module _ (P : Program) (c : Certificate) (times : ℕ) (block : Block) (n : ℕ)
       by (Refuted farkas) s = absurd s
       by (Calls fun) s = absurd s
 
--- a block of the code's list
-item_there : (xs : List Given) (k : ℕ) (d : Given) → k < length xs → slice_get (blocks_of xs) k ≡ Some (block_of (slice_index_or xs k d))
-item_there xs k d low = slice_get-map block_of xs k ∙ ap (option_map block_of) (slice_get-get_or xs k d low)
-
 -- whether the first block of the task was tried, as it is read
 module _ (c : Certificate) (block : Block) (xs : List Given) (are : c.blocks ≡ blocks_of xs) (n : ℕ) (first : place_among block.task c.blocks ≡ Some n) (d : Given)
     (low : n < length xs) (is : d ≡ slice_index_or xs n d) where

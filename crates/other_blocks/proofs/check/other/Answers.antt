@@ -1,5 +1,7 @@
 use Rattle.std.proofs.Common.{◌≡◌, ◌<◌, refl, ap, sym, ◌∙◌, subst, length, true, false, Bool, Some}
 use Rattle.std.specs.Prelude.{unsigned_abs}
+use Rattle.std.specs.Int.{w128}
+use Rattle.std.proofs.lemmas.Int.{to_z-of_z}
 use Rattle.annot_types.specs.Read as a
 use Rattle.rules_plan.specs.Read.{program_in}
 use Rattle.cert_check.specs.Fault.{Shape}
@@ -34,3 +36,12 @@ other_there-requires-clause-own c =
     let low : c.in-Some.place < length cert.blocks.items = subst (λ xs. c.in-Some.place < length xs) c.deref.ensures.value c.in-Some.ensures.there in
     subst (λ x. IsOwn x block.task c.in-Some.place) c.certificate-certificate.ensures.certificate
     (own_is held block cert.blocks.items refl c.in-Some.place first c.index.result.now low c.index.ensures (c.is_tried.ensures.0 c.if-not-is_tried.false))
+
+pub returns-clause-fits : goal.returns-clause-fits
+returns-clause-fits c = simp (to_z-of_z w128 _ c.ranges.times) at c.other_there.ensures.fits
+
+pub returns-clause-kept : goal.returns-clause-kept
+returns-clause-kept c = simp (to_z-of_z w128 _ c.ranges.times) at c.other_there.ensures.kept
+
+pub returns-clause-fault : goal.returns-clause-fault
+returns-clause-fault c = simp (to_z-of_z w128 _ c.ranges.times) at c.other_there.ensures.fault

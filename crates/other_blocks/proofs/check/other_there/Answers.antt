@@ -1,5 +1,7 @@
 use Rattle.std.proofs.Common.{◌≡◌, sym, subst, Some, arith}
 use Rattle.std.specs.Prelude.{unsigned_abs}
+use Rattle.std.specs.Int.{w128}
+use Rattle.std.proofs.lemmas.Int.{to_z-of_z}
 use Rattle.std.proofs.lemmas.List.{length-map}
 use Rattle.cost_free.specs.Read.{task_of, kind_of}
 use Rattle.share_normal.specs.Program.{Kept}
@@ -47,3 +49,12 @@ pub other_by-requires-clause-remembers : goal.other_by-requires-clause-remembers
 other_by-requires-clause-remembers c =
     subst (λ (x : Kept × Certificate). Remembers (program_in x.0) x.1.degree (before x.1 c.args.place) c.in-Ok.earlier)
     (λ i. (c.program-program.ensures i, c.certificate-certificate.ensures.certificate i)) c.in-Ok.ensures
+
+pub returns-clause-fits : goal.returns-clause-fits
+returns-clause-fits c = simp (to_z-of_z w128 _ c.ranges.times) at c.other_by.ensures.fits
+
+pub returns-clause-kept : goal.returns-clause-kept
+returns-clause-kept c = simp (to_z-of_z w128 _ c.ranges.times) at c.other_by.ensures.kept
+
+pub returns-clause-fault : goal.returns-clause-fault
+returns-clause-fault c = simp (to_z-of_z w128 _ c.ranges.times) at c.other_by.ensures.fault
