@@ -87,6 +87,7 @@ systems_generate tasks systems targets P ordered d pick =
           solutions_hold P d st.blocks task (scale_at st.scales task.kind) t x (tasks A ordered st task stands) (numbered P d task.group task.kind (targets A st task stands.next)) positive solves;
       shape = λ st task stands t x positive solves. told_rise P d st.blocks task x;
       weigh = λ st task stands t x positive solves. solutions_weigh P d st.blocks task (scale_at st.scales task.kind) x (tasks A ordered st task stands);
-      solve = λ st task stands t sigs hints holds. what_holds_solves P d st.blocks task (scale_at st.scales task.kind) t sigs hints (tasks A ordered st task stands) holds;
+      solve = λ st task stands t sigs hints holds.
+          let x = what_holds_solves P d st.blocks task (scale_at st.scales task.kind) t sigs hints (tasks A ordered st task stands) holds in (x.0, x.1, x.2);
       raised = λ st task stands kind r positive. systems_rise P d pick st task kind r positive;
     }

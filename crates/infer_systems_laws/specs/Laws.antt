@@ -10,6 +10,7 @@ use Rattle.annot_types.specs.Program.{Program, members}
 use Rattle.annot_types.specs.Holds.{budget_of}
 use Rattle.rules_plan.specs.Within.{FunctionWithin}
 use Rattle.rules_soundness_laws.specs.Laws.{normal_of}
+use Rattle.cert_check.specs.Laws.{IsProper}
 use Rattle.infer_spec.specs.Generator.{Generates}
 use Rattle.infer_systems_laws.specs.Tried.{IsOrdered}
 use Rattle.infer_systems_laws.specs.Analysed.{generator_of, analysis_of}
@@ -30,3 +31,7 @@ NormalsAreOrdered =
     (P : Prog) → Typed P → All (λ (g : Function). AllNodes NumberFits g.body) P →
     (groups : Grouping) → IsGrouping P groups →
     IsOrdered (normal_of P groups.list)
+
+-- What is ordered is proper.
+abbrev pub OrderedAreProper : Type 0
+OrderedAreProper = (P : Program) → IsOrdered P → IsProper P

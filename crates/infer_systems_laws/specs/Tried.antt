@@ -1,5 +1,5 @@
 -- Tasks that are tried.
-use Rattle.std.specs.Prelude.{◌≡◌, ◌≤◌, ◌⊎◌, ℕ, nat_eq, true, false, List, [], ◌∷◌, take, slice_get, Some}
+use Rattle.std.specs.Prelude.{◌≡◌, ◌≤◌, ◌⊎◌, ℕ, nat_eq, true, false, List, [], ◌∷◌, take, slice_get, Some, None}
 use Rattle.std.specs.List.{list_any}
 use Rattle.linear_rows.specs.Systems.{IsSystem}
 use Rattle.normal_spec.specs.Norm.{NormFun}
@@ -8,7 +8,10 @@ use Rattle.cost_free.specs.Task as k
 use Rattle.cost_free.specs.Task.{Kind, Free, Task}
 use Rattle.cost_free.specs.Target.{Target, degree_of, targets}
 use Rattle.cost_free.specs.Blocked.{is_among, in_any}
-use Rattle.annot_types.specs.Program.{Program, members, called_in}
+use Rattle.annot_types.specs.Program.{Program, members, called_in, blocker_of}
+use Rattle.annot_types.specs.Certificate.{Block, Certificate}
+use Rattle.annot_types.specs.Held.{Held, before, done_before, scale_for}
+use Rattle.annot_types.specs.System.{system}
 use Rattle.rules_spec.specs.Systems.{IsTask}
 use Rattle.infer_spec.specs.States.{State, scale_at}
 use Rattle.infer_spec.specs.Generator.{Analysis, next_at, system_at, Stands}
@@ -36,6 +39,14 @@ TriedAreTasks =
 -- It has a system, over its own unknowns and with natural weights.
 abbrev pub TriedHaveSystems : Type 0
 TriedHaveSystems = (A : Analysis) → IsOrdered A.program → (st : State) (task : Task) → Stands A st task → IsSystem (system_at A st task)
+
+-- Of a certificate that is held, a block that was tried is of a task, over the blocks before it, that has a system.
+abbrev pub TriedHaveTasks : Type 0
+TriedHaveTasks =
+    (P : Program) → IsOrdered P → (c : Certificate) → Held P c → (place : ℕ) (block : Block) →
+    slice_get c.blocks place ≡ Some block → blocker_of P block.task (done_before c place) ≡ None →
+    IsTask P c.degree (before c place) block.task (scale_for c block.task.kind)
+    × IsSystem (system P c.degree (before c place) block.task (scale_for c block.task.kind))
 
 -- The function is of the group, the budget is at most d, and the number is that of a target of the function, whose degree is at most the budget.
 pub record IsOfTarget (P : Program) (d group budget f number : ℕ) : Type 0 where

@@ -1,6 +1,6 @@
 // Laws of tasks that are tried, and of the systems of a program: each is the contract of a function that does nothing.
-ghost use Rattle.infer_systems_laws.specs.Laws.{LimitsAreTold, NormalsAreOrdered, SystemsGenerate};
-ghost use Rattle.infer_systems_laws.specs.Tried.{TargetsAreNumbered, TriedAreTasks, TriedHaveSystems};
+ghost use Rattle.infer_systems_laws.specs.Laws.{LimitsAreTold, NormalsAreOrdered, OrderedAreProper, SystemsGenerate};
+ghost use Rattle.infer_systems_laws.specs.Tried.{TargetsAreNumbered, TriedAreTasks, TriedHaveSystems, TriedHaveTasks};
 
 use cost_free::laws::blockers_are_least;
 use rules_spec::laws::systems_are_walked;
@@ -26,6 +26,11 @@ pub fn normals_are_ordered()
     blockers_are_least();
 }
 
+/// A program that is ordered is proper.
+pub fn ordered_are_proper()
+    ensures { OrderedAreProper }
+{}
+
 /// The next task of a course, where it is tried, is a task over the blocks before it.
 pub fn tried_are_tasks()
     ensures { TriedAreTasks }
@@ -39,6 +44,14 @@ pub fn tried_have_systems()
 {
     blockers_are_least();
     systems_are_walked();
+}
+
+/// A block of a held certificate that was tried is of a task that has a system.
+pub fn tried_have_tasks()
+    ensures { TriedHaveTasks }
+{
+    tried_are_tasks();
+    tried_have_systems();
 }
 
 /// The number of a cost-free task is that of a target of its function.

@@ -3,3 +3,6 @@ pub mod Over
 pub mod Bounding
 pub mod Exactly
 pub mod Keeping
+pub mod Totals
+pub mod Multiplied
+pub mod Rising

@@ -1,14 +1,14 @@
 -- Over the raised blocks.
-use Rattle.std.proofs.Common.{◌≡◌, refl, ap, sym, ◌∙◌, subst, inl}
+use Rattle.std.proofs.Common.{◌≡◌, refl, ap, sym, ◌∙◌, subst, inl, inr}
 use Rattle.std.specs.Prelude.{◌≤◌, ◌<◌, ℕ, List, map, take, length, slice_get, slice_index_or, Option, Some}
-use Rattle.std.specs.Option.{option_map}
+use Rattle.std.specs.Option.{option_map, unwrap_or}
 use Rattle.std.specs.List.{All}
 use Rattle.std.proofs.lemmas.List.{length-map, length-take-le}
-use Rattle.std.proofs.lemmas.Option.{slice_get-map, slice_get-get_or, same_Some}
+use Rattle.std.proofs.lemmas.Option.{slice_get-map, slice_get-get_or, slice_get_within, same_Some}
 use Rattle.cost_free.specs.Task as k
 use Rattle.cost_free.specs.Task.{Kind, Free, Task}
 use Rattle.annot_types.specs.Program.{Program, members}
-use Rattle.annot_types.specs.Certificate.{Sig, Hint, Solved, Block, Certificate}
+use Rattle.annot_types.specs.Certificate.{Sig, Hint, Body, Solved, Refuted, Calls, IsSolved, Block, Certificate}
 use Rattle.annot_types.specs.Rules.{With}
 use Rattle.annot_types.specs.Read.{body_of, block_of, blocks_of}
 use Rattle.annot_types.specs.declared.block.Block.{Block as Given}
@@ -20,10 +20,12 @@ use Rattle.rules_spec.proofs.Refuted.{blocks_raised}
 use Rattle.rules_spec.proofs.Planning.{bodies_kept}
 use Rattle.rules_walk.specs.Remembers.{Tables, Knows}
 use Rattle.rules_plan.specs.Within.{FunctionWithin}
-use Rattle.cert_check.specs.Fault.{Fault}
+use Rattle.rules_plan.specs.Read.{GroupWithin, ArePlansOf}
+use Rattle.rules_plan.specs.declared.body.GroupPlans.{GroupPlans}
+use Rattle.cert_check.specs.Fault.{Fault, Shape, TooLarge}
 use Rattle.cert_check.specs.Finds.{AreWithin, job, ShapeFinds, BodyFinds}
 use Rattle.other_blocks.specs.Raised.{raised_for}
-use Rattle.other_blocks.specs.Other.{place, IsTried, OwnIsTried, raised_certificate, raised_before, ThereFinds}
+use Rattle.other_blocks.specs.Other.{place, place_among, IsTried, IsOwn, OwnIsTried, raised_certificate, raised_before, ThereFinds, OtherFinds}
 
 -- the degree is that of the certificate, and there are as many blocks
 degree_raised : (t : ℕ) (c : Certificate) (kind : Kind) → (raised_for t c kind).degree ≡ c.degree
@@ -75,14 +77,48 @@ module _ (P : Program) (c : Certificate) (times : ℕ) (block : Block) where
 item_there : (xs : List Given) (k : ℕ) (d : Given) → k < length xs → slice_get (blocks_of xs) k ≡ Some (block_of (slice_index_or xs k d))
 item_there xs k d low = slice_get-map block_of xs k ∙ ap (option_map block_of) (slice_get-get_or xs k d low)
 
--- whether the certificate's block of the task was tried
-module _ (P : Program) (c : Certificate) (times : ℕ) (block : Block) (xs : List Given) (are : c.blocks ≡ blocks_of xs) (n : ℕ) (here : n ≡ place P c times block) (d : Given)
+-- the plans of a task's group are small enough
+pub planned_within : (P : Program) (c : Certificate) (task : Task) (made : GroupPlans) → ArePlansOf P task.group (budget_of c.degree task.kind) made → AreWithin P c task
+planned_within P c task made h = subst (λ group. GroupWithin P group (budget_of c.degree task.kind)) h.group_is (subst (GroupWithin P made.group) h.budget_is h.are.within)
+
+-- the certificate's block of the task, which was tried
+module _ (P : Program) (c : Certificate) (times : ℕ) (block : Block) (n : ℕ) (own : IsOwn c block.task n) where
+  pub here_is : n ≡ place P c times block
+  here_is = sym (ap (λ o. unwrap_or o 0) own.first)
+
+  pub tried_is : OwnIsTried P c times block
+  tried_is other there = own.tried other (ap (slice_get c.blocks) here_is ∙ there)
+
+  -- where its group is too large, that is the fault
+  pub too_large_is : IsSolved block.body → (AreWithin P c block.task → ⊥) → OtherFinds P c times block (Some (TooLarge block.task))
+  too_large_is solved large = inl (tried_is, inr (TooLarge block.task, by block.body solved, refl))
+    where
+      by : (body : Body) → IsSolved body → BodyFinds P (raised_certificate P c times block) (raised_before P c times block) block.task body (Some (TooLarge block.task))
+      by (Solved sigs hints) s = inr (
+        λ within. large (subst (λ d. All (λ f. FunctionWithin 2000 (slice_get P.funs f) (budget_of d block.task.kind)) (members P block.task.group)) (sym (same_degree P c times block)) within),
+        refl,
+      )
+      by (Refuted farkas) s = absurd s
+      by (Calls fun) s = absurd s
+
+-- whether the first block of the task was tried, as it is read
+module _ (c : Certificate) (block : Block) (xs : List Given) (are : c.blocks ≡ blocks_of xs) (n : ℕ) (first : place_among block.task c.blocks ≡ Some n) (d : Given)
     (low : n < length xs) (is : d ≡ slice_index_or xs n d) where
-  there_is : slice_get c.blocks (place P c times block) ≡ Some (block_of d)
-  there_is = (λ i. slice_get (are i) (sym here i)) ∙ item_there xs n d low ∙ ap (λ b. Some (block_of b)) (sym is)
+  there_is : slice_get c.blocks n ≡ Some (block_of d)
+  there_is = ap (λ bs. slice_get bs n) are ∙ item_there xs n d low ∙ ap (λ b. Some (block_of b)) (sym is)
 
-  pub own_tried : IsTried (body_of d.body) → OwnIsTried P c times block
-  own_tried h own there = subst (λ (b : Block). IsTried b.body) (same_Some (block_of d) own (sym there_is ∙ there)) h
+  pub own_is : IsTried (body_of d.body) → IsOwn c block.task n
+  own_is h = record {
+    first = first;
+    there = slice_get_within c.blocks n (block_of d) there_is;
+    tried = λ own there. subst (λ (b : Block). IsTried b.body) (same_Some (block_of d) own (sym there_is ∙ there)) h;
+  }
 
-  pub own_waits : (IsTried (body_of d.body) → ⊥) → OwnIsTried P c times block → ⊥
-  own_waits waits tried = waits (tried (block_of d) there_is)
+  -- a block that waits is the fault
+  pub waiting_is : (P : Program) (t : ℕ) → (IsTried (body_of d.body) → ⊥) → OtherFinds P c t block (Some (Shape n))
+  waiting_is P t waits =
+      let here : place P c t block ≡ n = ap (λ o. unwrap_or o 0) first in
+      inr (
+        (λ tried. waits (tried (block_of d) (ap (slice_get c.blocks) here ∙ there_is))),
+        ap (λ m. Some (Shape m)) (sym here),
+      )

@@ -1,6 +1,6 @@
 -- The scale and the blocks of a meter, multiplied.
-use Rattle.std.proofs.Common.{◌≡◌, ◌∙◌, arith}
-use Rattle.std.specs.Prelude.{ℕ, ◌*◌, ℤ, pos, ◌*ℤ◌, unsigned_abs, List, map}
+use Rattle.std.proofs.Common.{◌≡◌, sym, ap, ◌∙◌, subst, arith}
+use Rattle.std.specs.Prelude.{ℕ, ◌*◌, ℤ, pos, ◌*ℤ◌, unsigned_abs, List, map, option_map}
 use Rattle.std.proofs.lemmas.Int.{ints}
 use Rattle.cost_free.specs.declared.task.Meter.{Meter}
 use Rattle.cost_free.specs.declared.task.Meter.TheVariants.{Ticks, Cells, Work}
@@ -10,6 +10,7 @@ use Rattle.annot_types.specs.Program.{Program, members}
 use Rattle.annot_types.specs.Certificate.{Body, Block, Certificate, sigs_of}
 use Rattle.annot_types.specs.Holds.{raised, setting}
 use Rattle.annot_types.specs.Held.{scale_of, scale_for}
+use Rattle.rules_walk.specs.Remembers.{Tables, Remembers, Knows, capped_signature}
 use Rattle.cert_check.proofs.Fitting.{before_once}
 use Rattle.other_blocks.specs.Raised.{raised_for}
 
@@ -37,3 +38,9 @@ same_setting P c earlier meter t group body = λ i. record {
 } where
   once : (n : ℕ) → n * 1 ≡ n
   once n = grind arith
+
+-- tables know of blocks that are multiplied by 1 what they remember of them
+pub known_once : (P : Program) (d : ℕ) (meter : Meter) (blocks : List Block) (times : ℕ) → times ≡ 1 → (T : Tables) → Remembers P d blocks T → Knows P d (map (raised meter times) blocks) T
+known_once P d meter blocks times e T h =
+    subst (λ bs. Knows P d bs T) (sym (before_once (k.With meter) blocks) ∙ (λ i. map (raised meter (sym e i)) blocks))
+    (record { free = h.free; cost = λ m f. ap (option_map capped_signature) (h.cost m f) })

@@ -1,4 +1,5 @@
 pub mod Raised
 pub mod Other
 pub mod Over
+pub mod Leaving
 pub mod Laws

@@ -1,5 +1,5 @@
 -- The first fault of another block of a task, whose meter is multiplied by t.
-use Rattle.std.specs.Prelude.{◌≡◌, ◌⊎◌, ◌<◌, ℕ, suc, cond, List, [], ◌∷◌, slice_get, Option, None, Some, option_map}
+use Rattle.std.specs.Prelude.{◌≡◌, ◌⊎◌, ◌<◌, ℕ, suc, cond, List, [], ◌∷◌, length, slice_get, Option, None, Some, option_map}
 use Rattle.std.specs.Option.{unwrap_or}
 use Rattle.cost_free.specs.Task.{Task}
 use Rattle.annot_types.specs.Program.{Program}
@@ -21,6 +21,12 @@ place_among task (b ∷ bs) = cond (same_task task b.task) (Some 0) (option_map 
 abbrev pub IsTried : Body → Type 0
 IsTried (Calls fun) = ⊥
 IsTried body = Unit {0}
+
+-- The certificate's first block of the task stands at this place, and it was tried.
+pub record IsOwn (c : Certificate) (task : Task) (place : ℕ) : Type 0 where
+  pub first : place_among task c.blocks ≡ Some place
+  pub there : place < length c.blocks
+  pub tried : (own : Block) → slice_get c.blocks place ≡ Some own → IsTried own.body
 
 module _ (P : Program) (c : Certificate) (t : ℕ) (block : Block) where
   -- where the certificate's block of the task stands

@@ -1,5 +1,5 @@
 // Laws of other blocks: each is the contract of a function that does nothing.
-ghost use Rattle.other_blocks.specs.Laws.{OneOtherFault, OthersExactly};
+ghost use Rattle.other_blocks.specs.Laws.{HoldsLeavesAlone, OneOtherFault, OthersExactly, RisesFit};
 
 /// There is one first fault of another block, or none.
 pub fn one_other_fault()
@@ -10,4 +10,14 @@ pub fn one_other_fault()
 /// that was tried, is of the right shape and small, and no number of it leaves 127 bits.
 pub fn others_exactly()
     ensures { OthersExactly }
+{}
+
+/// What holds with its factor is refused for a total alone, where the scale times the factor fits.
+pub fn holds_leaves_alone()
+    ensures { HoldsLeavesAlone }
+{}
+
+/// Where no number of the blocks before leaves, the scale times the factor fits.
+pub fn rises_fit()
+    ensures { RisesFit }
 {}

@@ -5,9 +5,12 @@
 mod block;
 mod check;
 pub mod laws;
+mod leaving;
 mod place;
-mod tables;
+mod remembering;
 
 pub use block::OtherBlock;
-pub use check::other;
+pub use check::{other, other_by};
+pub use leaving::first_leaving;
 pub use place::place_of;
+pub use remembering::tables;

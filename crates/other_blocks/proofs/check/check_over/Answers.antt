@@ -10,14 +10,15 @@ use Rattle.cert_check.specs.Finds.{ShapeFinds}
 use Rattle.cert_check.specs.Read.{fault_of}
 use Rattle.cert_check.proofs.Telling.{of_fault}
 use Rattle.other_blocks.specs.Other.{raised_certificate, raised_before, ThereFinds}
-use Rattle.other_blocks.proofs.Over.{same_degree, count_here, known_here, bodies_here, there_found}
+use Rattle.other_blocks.proofs.Over.{planned_within, same_degree, count_here, known_here, bodies_here, there_found}
 use Rattle.other_blocks.proofs.check.check_over.Goals as goal
 
-pub returns-in-Ok-check_planned : goal.returns-in-Ok-check_planned
-returns-in-Ok-check_planned c = λ within.
+pub returns-in-Ok-check_planned-clause-tells : goal.returns-in-Ok-check_planned-clause-tells
+returns-in-Ok-check_planned-clause-tells c =
     let P = program_in c.args.program.now in
     let held = a.certificate_of c.args.certificate.now in
     let block = a.block_of c.args.block.now in
+    let within = planned_within P held block.task c.args.plans.now c.requires.plans in
     let t = c.args.times in
     let low : c.args.place ≤ length held.blocks = omega (arith, c.requires.there, length-map c.args.certificate.now.blocks.items a.block_of) in
     let body : block.body ≡ Solved (map a.sig_of c.deref-2.result.now) (map a.hints_of c.deref-3.result.now) =
@@ -34,11 +35,12 @@ returns-in-Ok-check_planned c = λ within.
           (c.raise_for.ensures.knows P held.degree (before held c.args.place) c.requires.remembers);
     }) (bodies_here P held t block c.args.place c.requires.place (map body_of c.deref.result.now) bodies))
 
-pub returns : goal.returns
-returns c = λ within.
+pub returns-clause-tells : goal.returns-clause-tells
+returns-clause-tells c =
     let P = program_in c.args.program.now in
     let held = a.certificate_of c.args.certificate.now in
     let block = a.block_of c.args.block.now in
+    let within = planned_within P held block.task c.args.plans.now c.requires.plans in
     let t = c.args.times in
     let low : c.args.place ≤ length held.blocks = omega (arith, c.requires.there, length-map c.args.certificate.now.blocks.items a.block_of) in
     let bodies = ap (map body_of) c.deref.ensures.value

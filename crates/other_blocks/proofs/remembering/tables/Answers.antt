@@ -6,7 +6,7 @@ use Rattle.annot_types.specs.Read.{block_of, blocks_of, certificate_of}
 use Rattle.rules_plan.specs.Read.{program_in}
 use Rattle.rules_walk.specs.Remembers.{Remembers}
 use Rattle.cert_check.proofs.Walking.{front_is}
-use Rattle.other_blocks.proofs.tables.tables.Goals as goal
+use Rattle.other_blocks.proofs.remembering.tables.Goals as goal
 
 pub loop-number-init : goal.loop-number-init
 loop-number-init c =

@@ -11,7 +11,7 @@ use rules_walk::Earlier;
 use share_normal::NormProgram;
 use std::alloc::{AllocError, Global};
 
-/// The tables of the blocks before a place.
+/// The tables of the blocks before a place: what walks take from them.
 pub fn tables(
     alloc: Global,
     program: &NormProgram<'_>,
