@@ -23,13 +23,13 @@ none_keeps P d earlier task scale line none (a.Calls f) t solved h = solved
 waits : (body : Body) (f : ℕ) → IsTried body → body ≡ a.Calls f → ⊥
 waits body f tried e = subst IsTried e tried
 
-module _ (program : s.Kept) (c : Certificate) (line : Line) (task : Task) (place : ℕ) (own : Block) where
-  not_both : (o : Over) (y : List ℤ) → IsKept program c line task place own o → IsNotKept program c line task place own y → ⊥
+module _ (program : s.Kept) (c : Certificate) (line : Line) (place : ℕ) (own : Block) where
+  not_both : (o : Over) (y : List ℤ) → IsKept program c line place own o → IsNotKept program c line place own y → ⊥
   not_both o y k n =
-      none_keeps (program_in program) c.degree (before c place) task (scale_for c task.kind) line n.none o.block.body k.t k.keeps.holds.solved
-      (subst (λ u. Keeps (program_in program) c.degree (before c place) (scale_for c task.kind) line (record { task = u; body = o.block.body }) k.t) k.task_is k.keeps)
+      none_keeps (program_in program) c.degree (before c place) own.task (scale_for c own.task.kind) line n.none o.block.body k.t k.keeps.holds.solved
+      (subst (λ u. Keeps (program_in program) c.degree (before c place) (scale_for c own.task.kind) line (record { task = u; body = o.block.body }) k.t) k.task_is k.keeps)
 
-  one : OneIsDecided program c line task place own
+  one : OneIsDecided program c line place own
   one = record {
     not_both = not_both;
     kept_tried = λ o f k e. waits own.body f k.tried e;
@@ -37,7 +37,7 @@ module _ (program : s.Kept) (c : Certificate) (line : Line) (task : Task) (place
   }
 
 pub decided_once : DecidedOnce
-decided_once program c line task place own = one program c line task place own
+decided_once program c line place own = one program c line place own
 
 calls_are : (o : Option ℕ) (body : Body) → NamesBlocker o body → (f : ℕ) → (body ≡ a.Calls f) ↔ (o ≡ Some f)
 calls_are (Some g) body h f = (λ e. ap Some (same g f (sym h ∙ e)), λ e. h ∙ ap a.Calls (of g f e)) where
