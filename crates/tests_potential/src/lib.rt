@@ -1,7 +1,9 @@
-//! Tests of indices, products and maps against tables that were worked out apart. There is nothing
+//! Tests of indices, products, maps and places of tuples against tables that were worked out apart. There is nothing
 //! else here: so the crates below are proved once.
 #![tactic(auto)]
 
+#[cfg(test)]
+mod counting;
 #[cfg(test)]
 mod index_text;
 #[cfg(test)]
@@ -12,6 +14,8 @@ mod maps;
 mod points;
 #[cfg(test)]
 mod products;
+#[cfg(test)]
+mod ranks;
 #[cfg(test)]
 mod texts;
 #[cfg(test)]

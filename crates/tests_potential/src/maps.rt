@@ -1,9 +1,10 @@
 //! Maps between contexts.
 ghost use Rattle.std.specs.Prelude.{◌≤◌, ◌<◌, length};
 
-use crate::types::{context, lists};
+use crate::types::{context, joined_lists, lists};
+use base_poly::degrees;
 use index_shift::{
-    Entry, MapFault, drop_var, empty_part, share_map, shift_list, shift_option, shift_tree,
+    Entry, Local, MapFault, drop_var, empty_part, share_map, shift_list, shift_option, shift_tree,
     split_pair,
 };
 use raml_syntax::Ty;
@@ -109,6 +110,51 @@ fn check_map(
     Ok(())
 }
 
+/// What becomes of a variable of the type, whatever stands beside it.
+fn alone(alloc: Global, change: Change, ty: &Ty, d: u8) -> Result<Local, MapFault>
+    requires low { d ≤ 4 }
+{
+    match change {
+        Change::Opens => Local::opening(alloc, ty, d),
+        Change::Leaves | Change::Drops => Local::leaving(alloc, ty, d),
+        Change::Shares => Local::sharing(alloc, ty, d),
+    }
+}
+
+/// The entries of the same map, made of that and of the degrees of the tuples before the variable and
+/// behind it.
+fn lifted(
+    alloc: Global,
+    change: Change,
+    types: &[Ty],
+    at: usize,
+    d: u8,
+) -> Result<Vec<Entry>, MapFault>
+    requires there { at < length types.now }
+    requires low { d ≤ 4 }
+{
+    let local = alone(alloc, change, &types[at], d)?;
+    let before = degrees(alloc, &types[..at], d, 2000)?;
+    let behind = degrees(alloc, &types[at + 1..], d, 2000)?;
+    local.map(alloc, &before, &behind)
+}
+
+/// Whether it has the table's entries at the degrees from 1 to 3, too.
+fn check_lifted(
+    rt: &impl Abort,
+    alloc: Global,
+    change: Change,
+    types: &[Ty],
+    at: usize,
+    table: &str,
+) -> Result<(), Fail> {
+    assert!(rt; at < types.len());
+    for d in 1..4 {
+        check(rt, d, &lifted(alloc, change, types, at, d)?, table)?;
+    }
+    Ok(())
+}
+
 /// Types, the place of a variable, and the entries of the map.
 const OPENED: [(&str, usize, &str); 10] = [
     ("int list", 0, tables::LIST_ONE),
@@ -169,6 +215,45 @@ fn variables_leave_or_are_shared(rt: HostRuntime) -> Result<(), Fail> {
     for (change, words, at, table) in &CHANGED {
         let types = context(rt.alloc(), words)?;
         check_map(&rt, rt.alloc(), *change, &types, *at, table)?;
+    }
+    Ok(())
+}
+
+#[test]
+fn maps_are_made_of_the_variable_alone(rt: HostRuntime) -> Result<(), Fail> {
+    for (words, at, table) in &OPENED {
+        let types = context(rt.alloc(), words)?;
+        check_lifted(&rt, rt.alloc(), Change::Opens, &types, *at, table)?;
+    }
+    for (change, words, at, table) in &CHANGED {
+        let types = context(rt.alloc(), words)?;
+        check_lifted(&rt, rt.alloc(), *change, &types, *at, table)?;
+    }
+    Ok(())
+}
+
+/// Whether so many lists, paired, are too many for a variable alone.
+fn are_too_many(alloc: Global, change: Change, count: usize) -> Result<bool, Fail> {
+    let ty = joined_lists(alloc, count)?;
+    match alone(alloc, change, &ty, 4) {
+        Ok(_) => Ok(false),
+        Err(fault) => Ok(fault == MapFault::TooMany),
+    }
+}
+
+#[test]
+fn a_variable_alone_may_be_too_large(rt: HostRuntime) -> Result<(), Fail> {
+    // 12 lists have 1820 indices of degree at most 4, and 13 have 2380; what is shared stands twice
+    for (change, most) in [
+        (Change::Opens, 12),
+        (Change::Leaves, 12),
+        (Change::Shares, 6),
+    ] {
+        assert!(rt; !are_too_many(rt.alloc(), change, most)?, "{most} lists");
+        assert!(rt;
+            are_too_many(rt.alloc(), change, most + 1)?,
+            "{most} lists and one"
+        );
     }
     Ok(())
 }

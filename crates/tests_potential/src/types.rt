@@ -56,3 +56,13 @@ pub fn lists(alloc: Global, count: usize) -> Result<Vec<Ty>, AllocError> {
     }
     Ok(types)
 }
+
+/// A pair of an `int list` and the rest, as often as there are to be lists.
+pub fn joined_lists(alloc: Global, count: usize) -> Result<Ty, AllocError> {
+    let mut joined = Ty::List(Box::new(alloc, Ty::Int)?);
+    for _ in 1..count {
+        let list = Box::new(alloc, Ty::List(Box::new(alloc, Ty::Int)?))?;
+        joined = Ty::Pair(list, Box::new(alloc, joined)?);
+    }
+    Ok(joined)
+}
