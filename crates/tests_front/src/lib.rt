@@ -1,8 +1,10 @@
-//! Tests of tokens, parsing and typing, above the crates that they test.
+//! Tests of tokens, parsing, typing and names of functions, above the crates that they test.
 #![tactic(auto)]
 
 #[cfg(test)]
 mod lexing;
+#[cfg(test)]
+mod names;
 #[cfg(test)]
 mod parsing;
 #[cfg(test)]

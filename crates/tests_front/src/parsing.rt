@@ -273,7 +273,8 @@ fun f (x : int list) : int = match x with nil -> 0 | h :: t -> f(t) fun g(x:int)
 fun f (x : int list option) : int option tree option = none => 0 f 7:x (option (list int)) : (option (tree (option int))) = 55:none;
 fun f (x : (int * bool) option) : int = some(x) :: some(none) :: nil => 0 f 7:x (option (* int bool)) : int = (40 cons (40 some 45:x) (51 cons (51 some 56:none) 65:nil));
 fun f (x : int option) : int = match x with none -> 0 | some(y) -> y + 1 => 0 f 7:x (option int) : int = (31 match 37:x 52:0 61:y (67 Add 67:y 71:1));
-fun f (x : int * int option) : int = not some((none : int option)) + nones => 0 f 7:x (* int (option int)) : int = (37 Add (37 not (41 some (46 typed 47:none (option int)))) 69:nones);";
+fun f (x : int * int option) : int = not some((none : int option)) + nones => 0 f 7:x (* int (option int)) : int = (37 Add (37 not (41 some (46 typed 47:none (option int)))) 69:nones);
+fun f (x : int) : int = g(x,x,x,x,x,x,x,x) => 0 f 7:x int : int = (24 call g 26:x 28:x 30:x 32:x 34:x 36:x 38:x 40:x);";
 
 #[test]
 fn programs(rt: HostRuntime) -> Result<(), Fail> {
@@ -433,6 +434,49 @@ fn faults_of_bodies(rt: HostRuntime) -> Result<(), Fail> {
             is_refused(rt.alloc(), body, place.parse::<u32>()?)?,
             "at {body}"
         );
+    }
+    Ok(())
+}
+
+// All keywords.
+const KEYWORDS: &str =
+    "fun let in if then else match with nil leaf node true false not tick div mod int bool list tree option none some";
+
+// What stands in front of a name, and what behind it: of a function, a parameter, a variable, and one of a pattern.
+const NAMED: [(&str, &str); 4] = [
+    ("fun ", " (x : int) : int = 1"),
+    ("fun f (", " : int) : int = 1"),
+    ("fun f (x : int) : int = let ", " = 1 in x"),
+    (
+        "fun f (x : int list) : int = match x with nil -> 0 | ",
+        " :: t -> 1",
+    ),
+];
+
+// The word in each of these places is refused there.
+fn check_refused(rt: &impl Abort, alloc: Global, word: &str) -> Result<(), Fail> {
+    for (front, end) in &NAMED {
+        let source = repeated(alloc, front, word, 1, end)?;
+        let want = format!(in alloc; "Syntax {{ at: Pos({}) }}", front.len())?;
+        compare(rt, alloc, source.as_str(), want.as_str())?;
+    }
+    Ok(())
+}
+
+#[test]
+fn keywords_are_no_names(rt: HostRuntime) -> Result<(), Fail> {
+    for word in KEYWORDS.split_whitespace() {
+        check_refused(&rt, rt.alloc(), word)?;
+    }
+    Ok(())
+}
+
+// A name in each of these places is taken.
+#[test]
+fn other_words_are_names(rt: HostRuntime) -> Result<(), Fail> {
+    for (front, end) in &NAMED {
+        let source = repeated(rt.alloc(), front, "some'", 1, end)?;
+        assert!(rt; is_program(rt.alloc(), source.as_str()), "at {front}");
     }
     Ok(())
 }
