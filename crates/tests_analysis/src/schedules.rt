@@ -208,5 +208,10 @@ fn large_groups_are_refused(rt: HostRuntime) -> Result<(), Fail> {
         Ok(_) => assert!(rt; false),
         Err(fault) => assert_eq!(rt; fault, IndexFault::TooMany),
     }
+    let many = Some(IndexFault::TooMany);
+    assert!(rt; schedule.record(Done::Solved).err() == many);
+    assert_eq!(rt; schedule.done().len(), 3);
+    let next = next(alloc, &results, &groups, 4, false, schedule.done());
+    assert!(rt; next.err() == many);
     Ok(())
 }
