@@ -1,5 +1,5 @@
 -- The worked examples, computed.
-use Rattle.std.proofs.Common.{◌≡◌, ℕ, zero, suc, Bool, true, [], ◌∷◌, refl, arith, ltb-true}
+use Rattle.std.proofs.Common.{◌≡◌, zero, suc, Bool, true, [], ◌∷◌, refl, arith, ltb-true}
 use Rattle.std.proofs.lemmas.Bool.{and_parts}
 use Rattle.std.proofs.lemmas.Str.{IsUtf8-from_ascii}
 use Rattle.std.specs.Prelude.{codes, nat_lt, ◌&&◌}

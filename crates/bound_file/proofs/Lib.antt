@@ -9,6 +9,7 @@ mod Named
 mod Stripped
 mod LineRead
 mod Placed
+mod Counting
 mod Bounds
 mod Told
 mod Answered

@@ -1,16 +1,15 @@
 -- One token that is a name is a name, and a name is one token.
-use Rattle.std.proofs.Common.{◌≡◌, ◌≤◌, ◌<◌, ◌+◌, ◌-◌, ℕ, Bool, true, false, List, [], ◌∷◌, ◌++◌, length, take, drop, ◌⊎◌, inl, inr, Result, Ok, Err, refl, sym, ap, subst, ◌∙◌, arith, append-nil, length-append}
+use Rattle.std.proofs.Common.{◌≡◌, ◌-◌, ℕ, Bool, true, false, List, [], ◌∷◌, length, take, ◌⊎◌, inl, inr, Ok, Err, refl, sym, ap, subst, ◌∙◌, arith, append-nil, length-append}
 use Rattle.std.proofs.lemmas.Bool.{and_parts, eqb-true, eq-eqb}
 use Rattle.std.specs.Prelude.{◌&&◌, ◌==◌, All, slice_range}
-use Rattle.raml_syntax.specs.declared.tree.Pos.{Pos}
 use Rattle.raml_syntax.specs.Tree.{Text}
 use Rattle.raml_lex.specs.declared.token.Token.{Token}
 use Rattle.raml_lex.specs.declared.token.TokenKind.{TokenKind}
 use Rattle.raml_lex.specs.declared.token.TokenKind.TheVariants.{Name, Keyword, Number, Symbol}
 use Rattle.raml_lex.specs.declared.token.LexFault.{LexFault}
 use Rattle.raml_lex.specs.declared.token.LexFault.TheVariants.{NoMemory}
-use Rattle.raml_lex.specs.Lexemes.{IsFront, is_lower, IsWord, IsLexeme}
-use Rattle.raml_lex.specs.Lexing.{OpensComment, Cut, start, token, word, Spelled, FirstFault, Answers, HasOneAnswer, StandsIn}
+use Rattle.raml_lex.specs.Lexemes.{is_lower, IsWord, IsLexeme}
+use Rattle.raml_lex.specs.Lexing.{OpensComment, start, token, word, Spelled, FirstFault, HasOneAnswer, StandsIn}
 use Rattle.raml_lex.proofs.Words.{clash}
 use Rattle.bound_file.specs.Names.{is_name_kind, is_whole_name, is_want}
 use Rattle.bound_file.specs.Reading.{is_name}

@@ -1,15 +1,13 @@
 -- Functions at their places, and what lines declare of them.
-use Rattle.std.proofs.Common.{◌≡◌, ◌<◌, ◌≤◌, ℕ, zero, suc, List, [], ◌∷◌, ◌++◌, map, length, slice_index_or, Result, Option, Some, None, refl, sym, ap, ◌∙◌, arith, length-append}
+use Rattle.std.proofs.Common.{◌≡◌, ◌<◌, ◌≤◌, ℕ, zero, suc, List, [], ◌∷◌, ◌++◌, map, length, slice_index_or, Some, sym, ap, ◌∙◌, arith, length-append}
 use Rattle.std.specs.Prelude.{slice_get}
 use Rattle.raml_syntax.specs.Tree.{Text, Function, Prog}
 use Rattle.raml_syntax.specs.Place.{place_of}
 use Rattle.raml_syntax.specs.Read.{function_of}
 use Rattle.raml_syntax.specs.declared.program.Fun.{Fun}
 use Rattle.raml_syntax.proofs.Places.{functions_have_places}
-use Rattle.bound_file.specs.Lines.{Line}
 use Rattle.bound_file.specs.Spelling.{Written}
 use Rattle.bound_file.specs.Reading.{Counted, Parts, all_counted, of_function, at_function, at_place, with_all, declared_by, parts_read}
-use Rattle.bound_file.specs.declared.fault.LineFault.{LineFault}
 use Rattle.bound_file.proofs.LineRead.{parts_is}
 
 below : (funs : List Fun) (k : ℕ) (g : Function) → slice_get (map function_of funs) k ≡ Some g → k < length funs

@@ -1,5 +1,5 @@
 -- Steps of the loop over the terms of a sum.
-use Rattle.std.proofs.Common.{◌≡◌, List, [], ◌∷◌, ◌++◌, map, Option, Some, None, refl, sym, ap, ◌∙◌}
+use Rattle.std.proofs.Common.{◌≡◌, List, [], ◌∷◌, ◌++◌, Option, Some, None, refl, sym, ap, ◌∙◌}
 use Rattle.std.specs.Prelude.{option_map}
 use Rattle.bound_file.specs.Spelling as s
 use Rattle.bound_file.specs.Seen.{term_of, terms_of}

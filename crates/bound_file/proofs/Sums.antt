@@ -1,16 +1,15 @@
 -- What is read as a sum is one.
-use Rattle.std.proofs.Common.{◌≡◌, ◌≢◌, ◌<◌, ℕ, suc, Bool, true, false, cond, List, [], ◌∷◌, ◌++◌, length, Option, Some, None, refl, sym, ap, subst, ◌∙◌, arith, append_assoc, append-nil}
+use Rattle.std.proofs.Common.{◌≡◌, ◌≢◌, ℕ, Bool, true, false, cond, List, [], ◌∷◌, ◌++◌, Option, Some, None, refl, sym, ap, subst, ◌∙◌, append_assoc, append-nil}
 use Rattle.std.specs.Prelude.{nat_eq, option_map, codes}
 use Rattle.std.specs.Str.{bytes_eq}
 use Rattle.std.specs.Option.{MatchOption}
 use Rattle.std.specs.Borrow.{Bor}
 use Rattle.std.specs.Cmp.Lexicographic.{bytes_decides}
-use Rattle.std.proofs.lemmas.Bool.{ne_eqb}
 use Rattle.raml_syntax.specs.Tree.{Text}
 use Rattle.bound_file.specs.Spelling.{Term, term_text, more_terms, AreTerms, IsTerm, IsSum}
 use Rattle.bound_file.specs.Reading.{lent, lent_parts, cut_at, behind_space, before_space, and_then, term_read, last_read, inner_read, pieces, with_term, each_read, sum_read}
 use Rattle.bound_file.proofs.Cuts.{nat_same, cut_there, lacks_both, pieces_none, pieces_some, SomeParts, some_pieces, joined, pieces_join}
-use Rattle.bound_file.proofs.Terms.{term_there, term_lacks, IsRead, term_is}
+use Rattle.bound_file.proofs.Terms.{term_there, term_lacks, term_is}
 
 -- a text before a space
 before_there : (w : Text) → before_space (w ++ 32 ∷ []) ≡ Some w

@@ -1,12 +1,12 @@
 -- What is read as a term is one.
-use Rattle.std.proofs.Common.{◌≡◌, ◌≢◌, ◌≤◌, ◌<◌, ◌+◌, ◌^◌, ℕ, ℤ, pos, suc, Result, Ok, Err, Bool, true, false, cond, not, List, [], ◌∷◌, ◌++◌, length, get_or, Option, Some, None, refl, sym, ap, subst, ◌∙◌, arith, append_assoc, append-nil}
+use Rattle.std.proofs.Common.{◌≡◌, ◌<◌, ◌+◌, ◌^◌, ℕ, ℤ, pos, Result, Ok, Err, Bool, true, false, cond, not, List, [], ◌∷◌, ◌++◌, length, Option, Some, None, refl, sym, ap, subst, ◌∙◌, arith, append_assoc, append-nil}
 use Rattle.std.proofs.lemmas.Bool.{and_parts, eqb-true, eqb-false, eq-eqb, ne_eqb}
 use Rattle.std.proofs.lemmas.Bool.Decides.{nat_tests}
 use Rattle.std.proofs.lemmas.Str.Parse.{IsNumeralModel, numerals_by_value, tells_digits, tells_all_ascii_digits, not_in_digits, parse_signed_digits}
-use Rattle.std.specs.Prelude.{nat_eq, nat_lt, ◌||◌, ◌&&◌, ◌==◌, ◌⊎◌, codes, option_map}
+use Rattle.std.specs.Prelude.{nat_eq, nat_lt, ◌||◌, ◌&&◌, ◌==◌, ◌⊎◌, codes}
 use Rattle.std.specs.Int.{IsInRange}
 use Rattle.std.specs.Str.{all_ascii_digits}
-use Rattle.std.specs.Str.Parse.{AllDigits, IsNumeral, digits_value, ParsesSigned}
+use Rattle.std.specs.Str.Parse.{AllDigits, digits_value, ParsesSigned}
 use Rattle.std.specs.Result.{OkIff}
 use Rattle.std.specs.Int.{w128}
 use mathlib.Core.Logic.{inl, inr}
@@ -16,7 +16,7 @@ use Rattle.poly_text.specs.Text.{index_text, more_entries, entries_text}
 use Rattle.bound_file.specs.Spelling.{Term, behind, term_text, IsNumber, tuple_text, IsTuple, IsTerm}
 use Rattle.bound_file.specs.Digits.{is_number}
 use Rattle.bound_file.specs.Tuples.{is_tuple}
-use Rattle.bound_file.specs.Reading.{in_range, cut_at, with_front, whole_read, over_read, quotient_from, quotient_read, term_from, term_read}
+use Rattle.bound_file.specs.Reading.{in_range, cut_at, quotient_from, quotient_read, term_from, term_read}
 use Rattle.bound_file.proofs.Cuts.{cut_is, cut_there, no_cut, lacks_both}
 use Rattle.bound_file.proofs.Tupled.{some_have, tuple_read, tuple_is}
 

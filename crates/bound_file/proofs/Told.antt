@@ -1,26 +1,27 @@
 -- What is read of bytes is what they are.
-use Rattle.std.proofs.Common.{◌≡◌, ◌≢◌, ◌≤◌, ◌<◌, ◌+◌, ℕ, zero, suc, Bool, true, false, cond, List, [], ◌∷◌, ◌++◌, map, length, Result, Ok, Err, Option, Some, None, refl, sym, ap, subst, ◌∙◌, arith, append_assoc, append-nil, length-append}
+use Rattle.std.proofs.Common.{◌≡◌, ◌+◌, ℕ, zero, suc, Bool, true, false, cond, List, [], ◌∷◌, ◌++◌, map, length, Result, Ok, Err, Option, Some, None, refl, sym, ap, subst, ◌∙◌, arith, append_assoc, append-nil, length-append}
 use Rattle.std.specs.Prelude.{slice_get}
 use Rattle.std.specs.List.{All}
 use Rattle.std.specs.Str.{IsUtf8, IsValidUpTo}
 use Rattle.std.proofs.lemmas.Str.{utf8_valid_len-IsUtf8, utf8_valid_len-IsValidUpTo}
 use Rattle.raml_syntax.specs.Tree.{Text, Function, Prog}
-use Rattle.raml_syntax.specs.Types.{types_of, Differ}
+use Rattle.raml_syntax.specs.Types.{types_of}
 use Rattle.raml_syntax.specs.Place.{place_of}
 use Rattle.raml_syntax.proofs.Places.{functions_have_places}
 use Rattle.base_poly.specs.Indices.{index_list}
 use Rattle.bound_file.specs.Lines.{Coefficient, Line, Declaration, AreBelow, IsProper}
-use Rattle.bound_file.specs.Spelling.{Term, Written, IsLine}
+use Rattle.bound_file.specs.Spelling.{Written, IsLine}
 use Rattle.bound_file.specs.Declares.{AllInRange, IsBound, HaveNoPlaces, Names, Declares, DeclaresNothing}
-use Rattle.bound_file.specs.Answers.{lines_in, is_declared, EachNew, DeclareEach, AreDeclared, Spells, Reaches, DeclaresAgain, IsFaulty, FirstFault, Answers, HasOneAnswer, AreWithin}
-use Rattle.bound_file.specs.Reading.{Counted, line_read, all_counted, bound_read, or_index, of_function, at_function, at_place, with_all, declared_by, or_shape, text_read, with_line, line_added}
-use Rattle.bound_file.specs.Lined.{Lines, numbered, and_on, read_lines}
+use Rattle.bound_file.specs.Answers.{lines_in, is_declared, EachNew, DeclareEach, AreDeclared, Reaches, IsFaulty, FirstFault, Answers, HasOneAnswer}
+use Rattle.bound_file.specs.Reading.{Counted, line_read, all_counted, bound_read, or_index, at_function, at_place, with_all, or_shape, text_read, with_line}
+use Rattle.bound_file.specs.Lined.{Lines, numbered, read_lines}
 use Rattle.bound_file.specs.declared.fault.LineFault.{LineFault}
 use Rattle.bound_file.specs.declared.fault.LineFault.TheVariants.{Shape, Number, Unknown, Index, Twice}
 use Rattle.bound_file.specs.declared.fault.DeclFault.{DeclFault}
 use Rattle.bound_file.specs.declared.fault.DeclFault.TheVariants as f
 use Rattle.bound_file.proofs.LineRead.{line_there, line_is}
-use Rattle.bound_file.proofs.Bounds.{counted_as, all_told, AreCounted, all_are, bound_is, bound_none, bound_there, no_bound, bound_numbers, bound_below}
+use Rattle.bound_file.proofs.Counting.{counted_as, all_told, AreCounted, all_are}
+use Rattle.bound_file.proofs.Bounds.{bound_is, bound_none, bound_there, no_bound, bound_numbers, bound_below}
 
 -- Lines
 

@@ -1,5 +1,5 @@
 -- What the bytes of a file of declared bounds declare, and their first fault.
-use Rattle.std.specs.Prelude.{◌≡◌, ◌<◌, ℕ, suc, nat_eq, Bool, false, true, ◌&&◌, ◌||◌, List, [], ◌∷◌, ◌++◌, length, cond, slice_get, Some, Result, Ok, Err}
+use Rattle.std.specs.Prelude.{◌≡◌, ℕ, suc, nat_eq, Bool, false, true, ◌&&◌, ◌||◌, List, [], ◌∷◌, ◌++◌, length, cond, slice_get, Some, Result, Ok, Err}
 use Rattle.std.specs.List.{All}
 use Rattle.std.specs.Str.{IsUtf8, IsValidUpTo}
 use Rattle.raml_syntax.specs.Tree.{Text, Function, Prog}
@@ -10,7 +10,7 @@ use Rattle.cost_free.specs.declared.task.Meter.TheVariants.{Ticks, Cells, Work}
 use Rattle.bound_file.specs.Lines.{Line, Declaration, AreBelow}
 use Rattle.bound_file.specs.Declares.{Declares, DeclaresNothing}
 use Rattle.bound_file.specs.declared.fault.LineFault.{LineFault}
-use Rattle.bound_file.specs.declared.fault.LineFault.TheVariants.{Shape, Number, Unknown, Index, Twice}
+use Rattle.bound_file.specs.declared.fault.LineFault.TheVariants.{Twice}
 use Rattle.bound_file.specs.declared.fault.DeclFault.{DeclFault}
 use Rattle.bound_file.specs.declared.fault.DeclFault.TheVariants as f
 use Rattle.bound_file.specs.declared.fault.DeclError.{DeclError}

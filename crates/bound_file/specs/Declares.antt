@@ -1,5 +1,5 @@
 -- What a line declares of a program, at a degree; or why it declares nothing.
-use Rattle.std.specs.Prelude.{◌≡◌, ◌≤◌, ◌<◌, ◌^◌, ◌⊎◌, ◌↔◌, ◌==◌, ℕ, List, [], ◌∷◌, length, cond, slice_get, Option, Some, None, Contains}
+use Rattle.std.specs.Prelude.{◌≡◌, ◌≤◌, ◌<◌, ◌^◌, ◌⊎◌, ◌↔◌, ◌==◌, ℕ, List, [], ◌∷◌, length, cond, slice_get, Some, None, Contains}
 use Rattle.std.specs.Str.Parse.{digits_value}
 use Rattle.raml_syntax.specs.Tree.{Text, Type', Function, Prog}
 use Rattle.raml_syntax.specs.Types.{types_of}

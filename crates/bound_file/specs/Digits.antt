@@ -1,5 +1,5 @@
 -- How the digits of a number are told.
-use Rattle.std.specs.Prelude.{◌≡◌, Bool, true, false, not, nat_eq, ◌&&◌, ◌||◌, ◌==◌, List, [], ◌∷◌, length}
+use Rattle.std.specs.Prelude.{◌≡◌, Bool, true, false, not, nat_eq, ◌&&◌, ◌||◌, ◌==◌, [], ◌∷◌, length}
 use Rattle.std.specs.Str.{all_ascii_digits}
 use Rattle.raml_syntax.specs.Tree.{Text}
 

@@ -1,7 +1,7 @@
 -- Small files, worked out by hand.
 use Rattle.std.specs.Prelude.{◌≡◌, ℕ, [], ◌∷◌, codes}
 use Rattle.raml_syntax.specs.Tree as t
-use Rattle.raml_syntax.specs.Tree.{Text, Integer, ListOf, Parameter, Function, Prog}
+use Rattle.raml_syntax.specs.Tree.{Text, Integer, ListOf, Parameter, Prog}
 use Rattle.cost_free.specs.declared.task.Meter.TheVariants.{Ticks, Cells}
 use Rattle.bound_file.specs.Lines.{Coefficient, Line, Declaration}
 use Rattle.bound_file.specs.Answers.{lines_in, Spells, FirstFault}

@@ -1,5 +1,5 @@
 -- How the lines of a file are read, one after the other.
-use Rattle.std.specs.Prelude.{◌≡◌, ℕ, suc, nat_eq, List, [], ◌∷◌, Option, Some, None, Result, Ok, Err}
+use Rattle.std.specs.Prelude.{◌≡◌, ℕ, suc, List, [], ◌∷◌, Option, Some, None, Result, Ok, Err}
 use Rattle.std.specs.Global.{Vec}
 use Rattle.raml_syntax.specs.Tree.{Text, Prog}
 use Rattle.bound_file.specs.Lines.{Line}

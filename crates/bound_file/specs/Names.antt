@@ -4,7 +4,7 @@ use Rattle.raml_lex.specs.declared.token.Token.{Token}
 use Rattle.raml_lex.specs.declared.token.LexFault.{LexFault}
 use Rattle.raml_lex.specs.declared.token.LexFault.TheVariants.{NoMemory}
 use Rattle.raml_lex.specs.declared.token.TokenKind.{TokenKind}
-use Rattle.raml_lex.specs.declared.token.TokenKind.TheVariants.{Name, Keyword, Number, Symbol}
+use Rattle.raml_lex.specs.declared.token.TokenKind.TheVariants.{Name}
 
 abbrev pub is_name_kind : TokenKind → Bool
 is_name_kind Name = true

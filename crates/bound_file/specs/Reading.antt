@@ -1,8 +1,7 @@
 -- How a file of declared bounds is read, line by line.
-use Rattle.std.specs.Prelude.{ℕ, zero, suc, Bool, true, false, not, nat_eq, nat_le, nat_lt, ◌&&◌, ◌||◌, ◌==◌, ◌^◌, List, [], ◌∷◌, ◌++◌, map, length, cond, Option, Some, None, option_map, slice_get, codes, Result, Ok, Err}
+use Rattle.std.specs.Prelude.{ℕ, suc, Bool, true, false, not, nat_eq, nat_le, nat_lt, ◌&&◌, ◌^◌, List, [], ◌∷◌, ◌++◌, map, length, cond, Option, Some, None, option_map, slice_get, codes, Result, Ok, Err}
 use Rattle.std.specs.List.{list_all, list_any}
-use Rattle.std.specs.Str.{bytes_eq, all_ascii_digits}
-use Rattle.std.specs.Str.Parse.{digits_value}
+use Rattle.std.specs.Str.{bytes_eq}
 use Rattle.std.specs.Borrow.{Bor}
 use Rattle.raml_syntax.specs.Tree.{Text, Type', Function, Prog}
 use Rattle.raml_syntax.specs.Types.{types_of}

@@ -1,5 +1,5 @@
 -- What is written in a line, as the code holds it.
-use Rattle.std.specs.Prelude.{ℤ, List, map, unsigned_abs}
+use Rattle.std.specs.Prelude.{List, map, unsigned_abs}
 use Rattle.raml_syntax.specs.Tree.{Text}
 use Rattle.bound_file.specs.Spelling as s
 use Rattle.bound_file.specs.Reading as r

@@ -2,7 +2,7 @@
 ghost use Rattle.std.specs.Prelude.{◌≡◌, ◌<◌, ◌^◌, [], Ok, length, IfOk, IfErr};
 ghost use Rattle.std.specs.List.{All};
 ghost use Rattle.raml_syntax.specs.Read.{program_of};
-ghost use Rattle.bound_file.specs.Read.{lines_of, IsSound, IsSigned};
+ghost use Rattle.bound_file.specs.Read.{lines_of, IsSigned};
 ghost use Rattle.bound_file.specs.Answers.{lines_in, is_declared, Spells, AreWithin, FirstFault, HasOneAnswer, OfFault};
 ghost use Rattle.bound_file.specs.Reading.{cut_at, line_added};
 ghost use Rattle.bound_file.specs.Lined.{first_of, read_lines, Reads, Leaves, at_line, ItemsOf};

@@ -1,5 +1,5 @@
 // What a line declares.
-ghost use Rattle.std.specs.Prelude.{◌≡◌, ◌<◌, ◌^◌, length, IfOk};
+ghost use Rattle.std.specs.Prelude.{◌<◌, ◌^◌, length, IfOk};
 ghost use Rattle.raml_syntax.specs.Read.{program_of, function_of};
 ghost use Rattle.bound_file.specs.Read.{ArePositive};
 ghost use Rattle.bound_file.specs.Reading.{of_function, declared_by, text_read};

@@ -1,5 +1,5 @@
 // The positions of terms.
-ghost use Rattle.std.specs.Prelude.{◌≡◌, ◌<◌, ◌≤◌, ◌^◌, [], length, map, option_map, IfOk, IfSome};
+ghost use Rattle.std.specs.Prelude.{◌≡◌, ◌<◌, ◌≤◌, ◌^◌, length, map, option_map, IfOk, IfSome};
 ghost use Rattle.std.specs.List.{All};
 ghost use Rattle.base_poly.specs.Plain.{degrees};
 ghost use Rattle.base_poly.specs.Read.{context_of};

@@ -1,4 +1,4 @@
-use Rattle.std.proofs.Common.{◌≡◌, ◌∙◌, sym, ap, subst, Ok, Err}
+use Rattle.std.proofs.Common.{◌∙◌, sym, ap, subst, Err}
 use Rattle.raml_syntax.specs.Read.{program_of}
 use Rattle.bound_file.specs.Read.{lines_of}
 use Rattle.bound_file.specs.Answers.{Spells, AreWithin}

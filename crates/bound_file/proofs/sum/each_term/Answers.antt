@@ -1,4 +1,4 @@
-use Rattle.std.proofs.Common.{◌≡◌, ◌∙◌, ◌++◌, List, [], Some, None, sym, ap, rules, arith}
+use Rattle.std.proofs.Common.{◌∙◌, ◌++◌, List, [], Some, sym, ap, rules, arith}
 use Rattle.std.specs.Option.{option_map}
 use Rattle.bound_file.specs.Spelling as s
 use Rattle.bound_file.specs.Reading.{with_term, each_read, pieces}
