@@ -39,7 +39,10 @@ fn rows_and_entries_are_told(rt: HostRuntime) -> Result<(), Fail> {
     let two = two(alloc)?;
     let own = Analysed::Program;
     let line = solve_line(alloc, own, &two.program, &two.groups, &TASK, 3, 5, 7)?;
-    assert_eq!(rt; line.as_str(), "raml: overflow: solve g ticks pivots 3 row 5 column 7\n");
+    assert_eq!(rt;
+        line.as_str(),
+        "raml: overflow: solve g ticks pivots 3 row 5 column 7\n"
+    );
     let line = row_line(alloc, own, &two.program, &two.groups, &TASK, 4)?;
     assert_eq!(rt; line.as_str(), "raml: overflow: row g ticks row 4\n");
     let line = scale_line(alloc, own, &two.program, &two.groups, &TASK, 6)?;
@@ -55,15 +58,24 @@ fn columns_are_told(rt: HostRuntime) -> Result<(), Fail> {
     let two = two(alloc)?;
     let other = Analysed::Other;
     let line = refute_line(alloc, other, &two.program, &two.groups, &TASK, 8)?;
-    assert_eq!(rt; line.as_str(), "raml: other: overflow: refute g ticks column 8\n");
+    assert_eq!(rt;
+        line.as_str(),
+        "raml: other: overflow: refute g ticks column 8\n"
+    );
     let line = least_line(alloc, other, &two.program, &two.groups, &TASK, 9)?;
-    assert_eq!(rt; line.as_str(), "raml: other: overflow: least g ticks column 9\n");
+    assert_eq!(rt;
+        line.as_str(),
+        "raml: other: overflow: least g ticks column 9\n"
+    );
     Ok(())
 }
 
 #[test]
 fn conditions_are_told(rt: HostRuntime) -> Result<(), Fail> {
     let line = check_line(rt.alloc(), Analysed::Program, 2, &[1, 0], 4)?;
-    assert_eq!(rt; line.as_str(), "raml: overflow: check block 2 at 1.0 index 4\n");
+    assert_eq!(rt;
+        line.as_str(),
+        "raml: overflow: check block 2 at 1.0 index 4\n"
+    );
     Ok(())
 }
