@@ -23,7 +23,7 @@ struct Two {
     groups: Vec<Vec<FunId>>,
 }
 
-fn two(alloc: Global) -> Result<Two, Fail> {
+fn two_functions(alloc: Global) -> Result<Two, Fail> {
     let Ok(program) = parse(alloc, TWO) else {
         return Err(Fail::from("no program"));
     };
@@ -36,7 +36,7 @@ fn two(alloc: Global) -> Result<Two, Fail> {
 #[test]
 fn rows_and_entries_are_told(rt: HostRuntime) -> Result<(), Fail> {
     let alloc = rt.alloc();
-    let two = two(alloc)?;
+    let two = two_functions(alloc)?;
     let own = Analysed::Program;
     let line = solve_line(alloc, own, &two.program, &two.groups, &TASK, 3, 5, 7)?;
     assert_eq!(rt;
@@ -55,7 +55,7 @@ fn rows_and_entries_are_told(rt: HostRuntime) -> Result<(), Fail> {
 #[test]
 fn columns_are_told(rt: HostRuntime) -> Result<(), Fail> {
     let alloc = rt.alloc();
-    let two = two(alloc)?;
+    let two = two_functions(alloc)?;
     let other = Analysed::Other;
     let line = refute_line(alloc, other, &two.program, &two.groups, &TASK, 8)?;
     assert_eq!(rt;
