@@ -8,7 +8,7 @@ use refusal_text::{
 use std::alloc::Global;
 use std::test::Fail;
 
-const TWO: &[u8] = b"fun f (x : int) : int = x fun g (x : int) : int = f(x)";
+const SOURCE: &[u8] = b"fun f (x : int) : int = x fun g (x : int) : int = f(x)";
 
 // The task of the second function on ticks.
 const TASK: Task = Task {
@@ -18,19 +18,19 @@ const TASK: Task = Task {
 
 // A program of two functions, each a group of its own.
 #[derive(Drop)]
-struct Two {
+struct Setting {
     program: Program,
     groups: Vec<Vec<FunId>>,
 }
 
-fn two_functions(alloc: Global) -> Result<Two, Fail> {
-    let Ok(program) = parse(alloc, TWO) else {
+fn two_functions(alloc: Global) -> Result<Setting, Fail> {
+    let Ok(program) = parse(alloc, SOURCE) else {
         return Err(Fail::from("no program"));
     };
     let mut groups = Vec::new(alloc);
     groups.push(vec![in alloc; FunId(0)]?)?;
     groups.push(vec![in alloc; FunId(1)]?)?;
-    Ok(Two { program, groups })
+    Ok(Setting { program, groups })
 }
 
 #[test]
