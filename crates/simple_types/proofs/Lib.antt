@@ -2,6 +2,7 @@ mod Same
 mod Forms
 mod Names
 pub mod Places
+mod Counted
 mod Tables
 mod Standing
 mod Steps

@@ -1,5 +1,5 @@
 -- Types by their places in a table, which has each once.
-use Rattle.std.specs.Prelude.{nat_eq, List, [], ◌∷◌, ◌++◌, Bool, true, false, ◌&&◌, cond, Option, Some, None, fold, get_or, take}
+use Rattle.std.specs.Prelude.{ℕ, ◌+◌, nat_eq, List, [], ◌∷◌, ◌++◌, Bool, true, false, ◌&&◌, cond, Option, Some, None, fold, get_or, take}
 use Rattle.std.specs.List.{list_any, position_or_len}
 use Rattle.raml_syntax.specs.Tree.{Type', Integer, Boolean, PairOf, ListOf, TreeOf, OptionOf}
 use Rattle.simple_types.specs.declared.types.TypeId.{TypeId}
@@ -93,3 +93,16 @@ tree_element _ = None
 abbrev pub option_content : Node → Option TypeId
 option_content (Opt a) = Some a
 option_content _ = None
+
+-- the nodes of a type
+abbrev pub type_nodes : Type' → ℕ
+type_nodes Integer = 1
+type_nodes Boolean = 1
+type_nodes (PairOf A B) = 1 + type_nodes A + type_nodes B
+type_nodes (ListOf A) = 1 + type_nodes A
+type_nodes (TreeOf A) = 1 + type_nodes A
+type_nodes (OptionOf A) = 1 + type_nodes A
+
+-- how many nodes a type has at most that a fault tells
+abbrev pub most_told : ℕ
+most_told = 1048576

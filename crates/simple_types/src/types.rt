@@ -1,7 +1,7 @@
 // Types at hand, each once.
-ghost use Rattle.std.specs.Prelude.{◌≡◌, ◌≤◌, IfOk};
+ghost use Rattle.std.specs.Prelude.{◌≡◌, ◌≤◌, ◌<◌, ◌-◌, IfOk, IfSome, IfNone, SomeIff};
 ghost use Rattle.raml_syntax.specs.Read.{ty_of};
-ghost use Rattle.simple_types.specs.Table.{base, node_at, placed, among, made_from, types_before, type_of, numbered};
+ghost use Rattle.simple_types.specs.Table.{base, node_at, placed, among, made_from, types_before, type_of, type_nodes, most_told, numbered};
 
 use indexmap::IndexSet;
 use raml_syntax::Ty;
@@ -103,47 +103,45 @@ impl Types {
         }
     }
 
-    /// The type at a place, as one of its own. One of too many nodes ends as want of memory does.
-    pub fn spell(&self, id: TypeId) -> Result<Ty, AllocError>
-        ensures { IfOk result (λ ty. ty_of ty ≡ type_of self.now.nodes.keys id) }
+    /// The type at a place, as one of its own; none where it has too many nodes to be told.
+    pub fn spell(&self, id: TypeId) -> Result<Option<Ty>, AllocError>
+        ensures told { IfOk result (λ told. IfSome told (λ ty. ty_of ty ≡ type_of self.now.nodes.keys id)) }
+        ensures small { IfOk result (λ told. IfSome told (λ ty. type_nodes (type_of self.now.nodes.keys id) ≤ most_told)) }
+        ensures large { IfOk result (λ told. IfNone told (most_told < type_nodes (type_of self.now.nodes.keys id))) }
     {
-        if self.count(id, 0) > MOST_TOLD {
-            return Err(AllocError);
+        match self.left(id, MOST_TOLD) {
+            Some(_) => Ok(Some(self.copy(id)?)),
+            None => Ok(None),
         }
-        self.copy(id)
     }
 
-    /// The nodes of a type and those counted before, up to one more than may be told.
-    #[cycle(count)]
-    fn count(&self, id: TypeId, before: u32) -> u32
-        requires { before ≤ 1048577 }
-        ensures { result ≤ 1048577 }
+    /// What is left of so many nodes behind those of a type; none where it has more.
+    #[cycle(left)]
+    fn left(&self, id: TypeId, nodes: u32) -> Option<u32>
+        ensures { SomeIff result (type_nodes (made_from (types_before self.now.nodes.keys id) (node_at self.now.nodes.keys id)) ≤ nodes) (nodes - type_nodes (made_from (types_before self.now.nodes.keys id) (node_at self.now.nodes.keys id))) }
     {
-        if before > MOST_TOLD {
-            return before;
-        }
-        let counted = before + 1;
+        let nodes = nodes.checked_sub(1)?;
         match self.node(id) {
-            Node::Int | Node::Bool => counted,
+            Node::Int | Node::Bool => Some(nodes),
             Node::Pair(first, second) => {
-                self.count_part(id, second, self.count_part(id, first, counted))
+                let nodes = self.left_by_part(id, first, nodes)?;
+                self.left_by_part(id, second, nodes)
             }
             Node::List(part) | Node::Tree(part) | Node::Opt(part) => {
-                self.count_part(id, part, counted)
+                self.left_by_part(id, part, nodes)
             }
         }
     }
 
     /// The same of a part, which stands before the type that it is part of.
-    #[cycle(count)]
-    fn count_part(&self, whole: TypeId, part: TypeId, before: u32) -> u32
-        requires { before ≤ 1048577 }
-        ensures { result ≤ 1048577 }
+    #[cycle(left)]
+    fn left_by_part(&self, whole: TypeId, part: TypeId, nodes: u32) -> Option<u32>
+        ensures { SomeIff result (type_nodes (among (types_before self.now.nodes.keys whole) part) ≤ nodes) (nodes - type_nodes (among (types_before self.now.nodes.keys whole) part)) }
     {
         if part.0 < whole.0 {
-            self.count(part, before)
+            self.left(part, nodes)
         } else {
-            before
+            nodes.checked_sub(1)
         }
     }
 

@@ -46,12 +46,12 @@ pub fn wrong(types: &Types, at: Pos, want: TypeId, got: Shape) -> TypeFault
     ensures { IsWanted at.0 (f.Is (type_of types.now.nodes.keys want)) (kind_of got) result }
 {
     match types.spell(want) {
-        Ok(ty) => TypeFault::Wanted {
+        Ok(Some(ty)) => TypeFault::Wanted {
             at,
             want: Shape::Is(ty),
             got,
         },
-        Err(_) => TypeFault::NoMemory,
+        Ok(None) | Err(_) => TypeFault::NoMemory,
     }
 }
 
@@ -60,12 +60,12 @@ pub fn wrong_subject(types: &Types, at: Pos, want: Shape, got: TypeId) -> TypeFa
     ensures { IsWanted at.0 (kind_of want) (f.Is (type_of types.now.nodes.keys got)) result }
 {
     match types.spell(got) {
-        Ok(ty) => TypeFault::Wanted {
+        Ok(Some(ty)) => TypeFault::Wanted {
             at,
             want,
             got: Shape::Is(ty),
         },
-        Err(_) => TypeFault::NoMemory,
+        Ok(None) | Err(_) => TypeFault::NoMemory,
     }
 }
 
@@ -84,8 +84,10 @@ pub fn settle_as(
             if ty.0 == found.0 {
                 Ok(found)
             } else {
-                let got = Shape::Is(types.spell(found)?);
-                Err(wrong(types, at, ty, got))
+                match types.spell(found)? {
+                    Some(got) => Err(wrong(types, at, ty, Shape::Is(got))),
+                    None => Err(TypeFault::NoMemory),
+                }
             }
         }
     }
