@@ -20,7 +20,7 @@ use Rattle.infer_spec.specs.Verifying.{NoneLeaves}
 use Rattle.infer_systems_laws.specs.Analysed.{generator_of}
 use Rattle.infer_systems_laws.specs.Laws.{LimitsAreTold}
 use Rattle.bound_infer.specs.Cleared.{gen_fault, OfFault}
-use Rattle.bound_infer.proofs.FitRows.{row_fits_so, system_row}
+use Rattle.infer_systems_laws.proofs.FitRows.{row_fits_so, system_row}
 
 module _ (G : Generator) (task : Task) (s : LinearSystem) where
   limits : (a b c : Bool) → G.within task ≡ a → nat_lt 2000 s.unknowns ≡ b → nat_lt 2000 (length s.rows) ≡ c →

@@ -17,7 +17,7 @@ use Rattle.infer_spec.specs.Generator.{Indices, Analysis, limit_of, limit_at, sy
 use Rattle.infer_spec.specs.Places.{RowFits, RowLeaves}
 use Rattle.infer_spec.specs.Clear.{RowsAreFine}
 use Rattle.bound_infer.specs.Told.{what_of}
-use Rattle.bound_infer.proofs.FitRows.{row_fits_so, system_row}
+use Rattle.infer_systems_laws.proofs.FitRows.{row_fits_so, system_row}
 use Rattle.bound_infer.proofs.Exceeded.{no_limit, indices, unknowns, rows}
 
 each_fits : (rows : List SparseRow) → All (λ row. row_fits row ≡ true) rows → (place : ℕ) (row : SparseRow) → slice_get rows place ≡ Some row → RowFits row

@@ -6,3 +6,4 @@ pub mod Proper
 pub mod Generating
 pub mod Limits
 pub mod Ordered
+pub mod FitRows

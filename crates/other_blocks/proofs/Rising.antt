@@ -16,14 +16,14 @@ use Rattle.other_blocks.proofs.Multiplied.{of_meter_or}
 use Rattle.other_blocks.proofs.Raised.{scale_raised}
 
 -- the first block of the meter that is solved
-record IsFirstSolved (meter : Meter) (bs : List Block) : Type 0 where
-  place : ℕ
-  block : Block
-  there : slice_get bs place ≡ Some block
-  is : IsOfMeter meter block
-  none_earlier : (i : ℕ) (other : Block) → i < place → slice_get bs i ≡ Some other → IsOfMeter meter other → ⊥
+pub record IsFirstSolved (meter : Meter) (bs : List Block) : Type 0 where
+  pub place : ℕ
+  pub block : Block
+  pub there : slice_get bs place ≡ Some block
+  pub is : IsOfMeter meter block
+  pub none_earlier : (i : ℕ) (other : Block) → i < place → slice_get bs i ≡ Some other → IsOfMeter meter other → ⊥
 
-first_solved : (meter : Meter) (bs : List Block) → IsFirstSolved meter bs ⊎ NoneSolved meter bs
+pub first_solved : (meter : Meter) (bs : List Block) → IsFirstSolved meter bs ⊎ NoneSolved meter bs
 first_solved meter [] = inr (λ i block there h. none-some block there)
 first_solved meter (b ∷ bs) = by (of_meter_or meter b) (first_solved meter bs) where
   by : (IsOfMeter meter b ⊎ (IsOfMeter meter b → ⊥)) → (IsFirstSolved meter bs ⊎ NoneSolved meter bs) → IsFirstSolved meter (b ∷ bs) ⊎ NoneSolved meter (b ∷ bs)
