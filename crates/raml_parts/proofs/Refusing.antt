@@ -48,6 +48,7 @@ use Rattle.refusals.specs.declared.status.CertAnswer.TheVariants as c
 use Rattle.refusals.specs.declared.status.OverflowAt.TheVariants as o
 use Rattle.raml_promise.specs.Steps.{SourceRefuses, RefusedOf}
 use Rattle.raml_promise.specs.Prices.{PricesRefuse}
+use Rattle.raml_promise.specs.DeclaredBounds.{BoundsRefuse}
 use Rattle.raml_promise.specs.Analysis.{CourseRefuses, TextRefuses, CheckRefuses}
 use Rattle.raml_promise.specs.Call.{DataRefuses}
 use Rattle.raml_parts.specs.Parts.{Refuses, TypesRefuse}
@@ -57,6 +58,8 @@ use Rattle.refusal_text.specs.declared.source.SourceFault.TheVariants as source
 use Rattle.refusal_text.specs.declared.task.Analysed.{Analysed}
 use Rattle.refusal_text.specs.declared.task.Analysed.TheVariants as analysed
 use Rattle.price_file.specs.Spelling as prices
+use Rattle.bound_file.specs.Answers as bounds
+use Rattle.bound_file.specs.declared.fault.DeclFault.{DeclFault}
 use Rattle.price_file.specs.declared.fault.PriceFault.{PriceFault}
 use Rattle.std.specs.Option.{option_map}
 
@@ -145,6 +148,11 @@ json_refuses bytes j.NoMemory h refusal told = inl told
 -- the refusal of a table of prices
 pub prices_refuse : (bytes : List ℕ) (fault : PriceFault) → prices.FirstFault bytes fault → (refusal : Refusal) → IsToldOr no_names (s.Prices fault) refusal → Refuses no_names (PricesRefuse bytes) refusal
 prices_refuse bytes fault h refusal told = told_refuses no_names (s.Prices fault) (e.BadPrices fault) (PricesRefuse bytes) refl h refusal told
+
+-- the refusal of a file of declared bounds
+pub bounds_refuse : (P : Prog) (degree : ℕ) (bytes : List ℕ) (fault : DeclFault) → bounds.FirstFault P degree bytes fault → (refusal : Refusal) → IsToldOr no_names (s.Declared fault) refusal →
+    Refuses no_names (BoundsRefuse P degree bytes) refusal
+bounds_refuse P degree bytes fault h refusal told = told_refuses no_names (s.Declared fault) (e.BadBounds fault) (BoundsRefuse P degree bytes) refl h refusal told
 
 -- courses
 module _ (whose : Analysed) (names : Names) (A : Analysis) where

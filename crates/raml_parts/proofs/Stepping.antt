@@ -19,12 +19,15 @@ use Rattle.refusals.specs.declared.answer.Refusal.{Refusal as TheRefusal}
 use Rattle.raml_promise.specs.Outside.{Promised, Store}
 use Rattle.raml_promise.specs.Steps.{Answer, Refusal, Step, refused, goes_on, OfFile, OfProgram, OfNormal, SourceRefuses, IsTyped, RefusedOf, file_of}
 use Rattle.raml_promise.specs.Prices.{PricesRefuse, OfPrices}
+use Rattle.raml_promise.specs.DeclaredBounds.{BoundsRefuse, OfBounds}
+use Rattle.bound_file.specs.Lines.{Declaration}
+use Rattle.bound_file.specs.Answers as bounds
 use Rattle.price_file.specs.Construct.{Prices}
 use Rattle.price_file.specs.Spelling.{Spells, prices_in}
 use Rattle.refusal_text.specs.declared.task.Analysed.{Analysed}
 use Rattle.raml_promise.specs.Analysis.{OfCertificate, TextRefuses}
 use Rattle.raml_promise.specs.Call.{Placed, IsNamed, OfArguments, OfCall}
-use Rattle.raml_parts.specs.Parts.{Refuses, Gives, IsShort, FileRefuses, ReadRefuses, IsProgram, ProgramRefuses, ArePrices, PriceFileRefuses, IsCertificateFile, CertificateRefuses, CallRefuses}
+use Rattle.raml_parts.specs.Parts.{Refuses, Gives, IsShort, FileRefuses, ReadRefuses, IsProgram, ProgramRefuses, ArePrices, PriceFileRefuses, AreBounds, BoundsFileRefuses, IsCertificateFile, CertificateRefuses, CallRefuses}
 
 -- what follows of each answer follows of what is given
 pub gives_map : (Q R : Answer → Type 0) → ((a : Answer) → Q a → R a) → (r : Result Report TheRefusal) → Gives Q r → Gives R r
@@ -94,6 +97,14 @@ module _ (store : Store) (file : Text) (Rest : Prices → Answer → Type 0) whe
   pub prices_go : (prices : Prices) → ArePrices store file prices → (r : Result Report TheRefusal) → Gives (Rest prices) r → Gives (OfPrices Promised store file Rest) r
   prices_go prices are r h =
       read_goes store w.Prices file PricesRefuse Spells (λ table. Rest (prices_in table)) are.bytes are.within are.table are.spelled r (subst (λ p. Gives (Rest p) r) are.are h)
+
+-- files of declared bounds
+module _ (store : Store) (file : Text) (P : Prog) (degree : ℕ) (Rest : Declaration → Answer → Type 0) where
+  pub bounds_refusal : (refusal : TheRefusal) → Refuses no_names (BoundsFileRefuses store file P degree) refusal → Gives (OfBounds Promised store file P degree Rest) (Err refusal)
+  bounds_refusal refusal h = read_refusal store w.Bounds file (BoundsRefuse P degree) (bounds.Spells P degree) Rest refusal h
+
+  pub bounds_go : (declared : Declaration) → AreBounds store file P degree declared → (r : Result Report TheRefusal) → Gives (Rest declared) r → Gives (OfBounds Promised store file P degree Rest) r
+  bounds_go declared are r h = read_goes store w.Bounds file (BoundsRefuse P degree) (bounds.Spells P degree) Rest are.bytes are.within declared are.spelled r h
 
 -- certificates
 module _ (store : Store) (file : Text) (Rest : Certificate → Answer → Type 0) where

@@ -14,9 +14,14 @@ use Rattle.refusal_text.specs.declared.plain.Which.{Which}
 use Rattle.refusal_text.specs.declared.plain.Which.TheVariants as w
 use Rattle.refusal_text.specs.declared.task.Analysed.{Analysed}
 use Rattle.price_file.specs.Construct.{Prices}
-use Rattle.price_file.specs.Spelling.{Table, Spells, prices_in}
+use Rattle.price_file.specs.Spelling.{Table, prices_in}
+use Rattle.price_file.specs.Spelling as prices_spelling
+use Rattle.bound_file.specs.Lines.{Declaration}
+use Rattle.bound_file.specs.Answers.{Spells}
 use Rattle.analysis_report.specs.declared.bounds.FloorFault.{FloorFault}
 use Rattle.analysis_report.specs.declared.bounds.FloorFault.TheVariants as floor
+use Rattle.contract_report.specs.declared.fault.VerdictsFault.{VerdictsFault}
+use Rattle.contract_report.specs.declared.fault.VerdictsFault.TheVariants as verdicts
 use Rattle.analysis_report.specs.declared.powers_fault.PowersFault.{PowersFault}
 use Rattle.analysis_report.specs.declared.powers_fault.PowersFault.TheVariants as powers
 use Rattle.refusals.specs.Ending.{Ending, Usage, ReadFault, TooLong, Source, Types, NoFunction, ending_of}
@@ -32,6 +37,7 @@ use Rattle.raml_promise.specs.Steps.{Answer, Refusal, most_bytes, SourceRefuses,
 use Rattle.raml_promise.specs.Steps as s
 use Rattle.raml_promise.specs.Analysis.{TextRefuses}
 use Rattle.raml_promise.specs.Prices.{PricesRefuse}
+use Rattle.raml_promise.specs.DeclaredBounds.{BoundsRefuse}
 use Rattle.raml_promise.specs.Call.{Placed, IsNamed, DataRefuses, Limits, Ends}
 use Rattle.raml_words.specs.Words as words
 use Rattle.raml_words.specs.Words.{Request, AsksNothing}
@@ -90,11 +96,20 @@ pub record ArePrices (store : Store) (file : List ℕ) (prices : Prices) : Type 
   pub bytes : List ℕ
   pub within : IsShort store w.Prices file bytes
   pub table : Table
-  pub spelled : Spells bytes table
+  pub spelled : prices_spelling.Spells bytes table
   pub are : prices ≡ prices_in table
 
 abbrev pub PriceFileRefuses : Store → List ℕ → Ending → Type 0
 PriceFileRefuses store file e = ReadRefuses store w.Prices file PricesRefuse e
+
+-- the bounds that a file declares for a program at a degree
+pub record AreBounds (store : Store) (file : List ℕ) (P : Prog) (degree : ℕ) (declared : Declaration) : Type 0 where
+  pub bytes : List ℕ
+  pub within : IsShort store w.Bounds file bytes
+  pub spelled : Spells P degree bytes declared
+
+abbrev pub BoundsFileRefuses : Store → List ℕ → Prog → ℕ → Ending → Type 0
+BoundsFileRefuses store file P degree e = ReadRefuses store w.Bounds file (BoundsRefuse P degree) e
 
 -- the certificate that a file is
 pub record IsCertificateFile (store : Store) (file : List ℕ) (c : Certificate) : Type 0 where
@@ -132,6 +147,12 @@ FloorRefusal floor.NoMemory refusal = IsWanting refusal
 abbrev pub PowerRefusal : Names → PowersFault → TheRefusal → Type 0
 PowerRefusal names (powers.Leaves fun meter) refusal = IsToldOr names (status.Overflow (overflow.Powers fun meter)) refusal
 PowerRefusal names powers.NoMemory refusal = IsWanting refusal
+
+-- the refusal of a declared bound that is not decided
+abbrev pub VerdictRefusal : VerdictsFault → TheRefusal → Type 0
+VerdictRefusal (verdicts.TooLarge line) refusal = IsToldOr no_names (status.LineTooLarge line) refusal
+VerdictRefusal (verdicts.Leaves line) refusal = IsToldOr no_names (status.Overflow (overflow.DeclaredBound line)) refusal
+VerdictRefusal verdicts.NoMemory refusal = IsWanting refusal
 
 -- the words stand in these cells for arguments of the function
 pub record HasArguments (P : Prog) (f : Placed) (cells : List Cell) (words : List Word) (args : List Value) : Type 0 where
@@ -190,6 +211,7 @@ IsWithin (words.Certify file degree rule) = (1 ≤ degree) × (degree ≤ 4)
 IsWithin (words.Run file name input steps cells degree) = (steps ≤ 1000000000) × CellsWithin cells × DegreeWithin degree
 IsWithin (words.Priced file prices degree) = (1 ≤ degree) × (degree ≤ 4)
 IsWithin (words.Spend file prices name input steps cells) = (steps ≤ 1000000000) × CellsWithin cells
+IsWithin (words.Contract file bounds degree) = (1 ≤ degree) × (degree ≤ 4)
 IsWithin (words.Compare file other degree) = (1 ≤ degree) × (degree ≤ 4)
 IsWithin (words.Powers file degree) = (1 ≤ degree) × (degree ≤ 4)
 IsWithin (words.Trial count) = count ≤ 100

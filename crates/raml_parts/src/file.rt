@@ -16,7 +16,7 @@ pub fn most_bytes(which: Which) -> u64
     ensures { result ≡ most_bytes which }
 {
     match which {
-        Which::Program | Which::Prices | Which::Other => 1_048_576,
+        Which::Program | Which::Prices | Which::Bounds | Which::Other => 1_048_576,
         Which::Data => 4_194_304,
         Which::Certificate => 16_777_216,
     }

@@ -5,4 +5,5 @@ mod OneCheck
 mod OneRun
 mod OnePrices
 mod OnePowers
+mod OneContract
 mod One

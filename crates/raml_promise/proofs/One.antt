@@ -32,17 +32,19 @@ use Rattle.refusals.specs.declared.status.Status.{Status}
 use Rattle.refusals.specs.declared.status.Status.TheVariants.{NoMemory}
 use Rattle.raml_promise.specs.Outside.{Outside, Promised, Needed, Store}
 use Rattle.raml_promise.specs.Steps.{Answer, Report, Refusal, ending_in, Prints, IsTyped, OfProgram, OfNormal}
+use Rattle.raml_promise.specs.DeclaredBounds.{PrintsVerdicts}
 use Rattle.raml_promise.specs.Prices.{ArePricedLines, Spends}
 use Rattle.raml_promise.specs.Analysis.{OfCourse, OfCheck}
 use Rattle.raml_promise.specs.Call.{Placed, Limits, OfCall, OfFloors}
-use Rattle.raml_promise.specs.Promise.{PrintsLines, PrintsCertificate, ListsTypes, ListsCode, Analyses, Certifies, Verifies, RunsBounded, BoundedCall, PricesLines, PricesProgram, SpendsWithin, ComparesWith, Compares, PrintsPowers, RunsTrial, TriesCall, Tries, Answers, WordsAnswer, EndsBy, Cause, EndsAlike, IsWritable, Forced}
+use Rattle.raml_promise.specs.Promise.{PrintsLines, PrintsCertificate, ListsTypes, ListsCode, Analyses, Certifies, Verifies, RunsBounded, BoundedCall, PricesLines, PricesProgram, SpendsWithin, ComparesWith, Compares, PrintsPowers, ChecksBounds, RunsTrial, TriesCall, Tries, Answers, WordsAnswer, EndsBy, Cause, EndsAlike, IsWritable, Forced}
 use Rattle.raml_promise.proofs.Alike.{alike_same, Same, steps_same, prints_same}
 use Rattle.raml_promise.proofs.OneSource.{short_same, source_same, program_same}
-use Rattle.raml_promise.specs.Known.{CourseLaws}
+use Rattle.raml_promise.specs.Known.{KnownLaws}
 use Rattle.raml_promise.proofs.OneCourse.{normal_same, course_same}
 use Rattle.raml_promise.proofs.OneCheck.{certificate_same, check_same}
 use Rattle.raml_promise.proofs.OnePrices.{prices_same}
 use Rattle.raml_promise.proofs.OnePowers.{powers_same}
+use Rattle.raml_promise.proofs.OneContract.{bounds_same, verdicts_same}
 use Rattle.raml_promise.proofs.OneRun.{function_same, arguments_same, call_same, floors_same, runs_same}
 
 -- a typed program that is within the limits
@@ -57,7 +59,7 @@ known source P is = record { typed = is.typed; limits = within_limits 200 is.spe
 known_under : (prices : Prices) → AreSmall prices → (P : Prog) → IsKnown P → IsKnown (applied_program prices P)
 known_under prices small P is = let keeps = keeps_programs prices P in record { typed = keeps.typed is.typed; limits = keeps.limits small is.limits }
 
-module _ (laws : CourseLaws) where
+module _ (laws : KnownLaws) where
   -- over the courses of one program
   of_courses : (whose : Analysed) (P : Prog) → IsKnown P → (degree : ℕ) (rule : Rule) (Q T : Program → Certificate → Answer → Type 0) →
       ((N : Program) (c : Certificate) (a b : Answer) → Q N c a → T N c b → Same a b) → (a b : Answer) →
@@ -103,6 +105,12 @@ module _ (laws : CourseLaws) where
       run_same : (prices : Prices) (f : Placed) (args : List Value) (a b : Answer) → Spends Needed prices P f args limits a → Spends Promised prices P f args limits b → Same a b
       run_same prices f args a b h k = runs_same (applied_program prices P) (f.0, applied_function prices f.1) args limits [] [] [] [] a b h.runs k.runs
 
+  contracted_same : (store : Store) (file : Text) (degree : ℕ) (P : Prog) → IsKnown P → (a b : Answer) → ChecksBounds Needed store file degree P a → ChecksBounds Promised store file degree P b → Same a b
+  contracted_same store file degree P is =
+      bounds_same laws.files store file P degree _ _
+      (λ declared. of_courses analysed.Program P is degree rule.Least (λ N. PrintsVerdicts Needed P N declared.lines) (λ N. PrintsVerdicts Promised P N declared.lines)
+      (λ N c. verdicts_same P N declared.lines c))
+
   compared_same : (store : Store) (file : Text) (degree : ℕ) (P : Prog) → IsKnown P → (a b : Answer) → Compares Needed store file degree P a → Compares Promised store file degree P b → Same a b
   compared_same store file degree P is =
       of_courses analysed.Program P is degree rule.Least
@@ -132,6 +140,7 @@ module _ (laws : CourseLaws) where
   answers_same store (w.Powers file degree) =
       program_same store analysed.Program file _ _
       (λ source P is. of_courses analysed.Program P (known source P is) degree rule.Least (PrintsPowers Needed P) (PrintsPowers Promised P) (λ N c. powers_same P N c))
+  answers_same store (w.Contract file bounds degree) = program_same store analysed.Program file _ _ (λ source P is. contracted_same store bounds degree P (known source P is))
   answers_same store (w.Trial count) =
       short_same which.Program (trial_text count) _ _ (source_same (trial_text count) analysed.Program _ _ (λ P is. tried_same P (known (trial_text count) P is) count))
 

@@ -25,7 +25,7 @@ use Rattle.raml_promise.specs.Outside.{Promised, Needed}
 use Rattle.raml_promise.specs.Steps.{Answer, OfNormal, RefusedOf, names_of}
 use Rattle.refusal_text.specs.declared.task.Analysed.{Analysed}
 use Rattle.raml_promise.specs.Analysis.{analysis, pick_of, CourseRefuses, IsCourse, OfCourse}
-use Rattle.raml_promise.specs.Known.{CourseLaws}
+use Rattle.raml_promise.specs.Known.{KnownLaws}
 use Rattle.raml_promise.specs.Promise.{Alike}
 use Rattle.base_poly.proofs.Among.{Among, among_contains, contains_among}
 use Rattle.raml_promise.proofs.Alike.{alike_same, Same, steps_same, either_refused, neither_refused}
@@ -102,7 +102,7 @@ module _ (P : Prog) where
 
 -- ---- courses
 
-module _ (laws : CourseLaws) (A : Analysis) (generates : Generates A) where
+module _ (laws : KnownLaws) (A : Analysis) (generates : Generates A) where
   never : (c : Certificate) (st : State) (task : Task) (place : Place) → EndsAt A c → StopsAt A st task place → ⊥
   never c st task place ends stops = laws.ends_or_stops A generates c st task place ends stops
 
@@ -134,6 +134,7 @@ module _ (laws : CourseLaws) (A : Analysis) (generates : Generates A) where
   course_refusals (TooLarge task what) (Overflows (InCheck block path index)) h k = absurd (never k.certificate h.0 task (p.TooLarge what) k.ends h.1)
   course_refusals (TooLarge task what) (Overflows (e.AtPoint meter)) h k = absurd k
   course_refusals (TooLarge task what) (Overflows (e.InPowers f meter)) h k = absurd k
+  course_refusals (TooLarge task what) (Overflows (e.OnLine line)) h k = absurd k
   course_refusals (Overflows (e.OnTask task place)) (TooLarge other last) h k =
       let same = laws.one_place A generates h.1.0 k.0 task other place (p.TooLarge last) h.1.1 k.1 in absurd (omega (arith, same.2, h.0))
   course_refusals (Overflows (e.OnTask task place)) (Overflows (e.OnTask other last)) h k =
@@ -141,6 +142,7 @@ module _ (laws : CourseLaws) (A : Analysis) (generates : Generates A) where
   course_refusals (Overflows (e.OnTask task place)) (Overflows (InCheck block path index)) h k = absurd (never k.certificate h.1.0 task place k.ends h.1.1)
   course_refusals (Overflows (e.OnTask task place)) (Overflows (e.AtPoint meter)) h k = absurd k
   course_refusals (Overflows (e.OnTask task place)) (Overflows (e.InPowers f meter)) h k = absurd k
+  course_refusals (Overflows (e.OnTask task place)) (Overflows (e.OnLine line)) h k = absurd k
   course_refusals (Overflows (InCheck block path index)) (TooLarge other last) h k = absurd (never h.certificate k.0 other (p.TooLarge last) h.ends k.1)
   course_refusals (Overflows (InCheck block path index)) (Overflows (e.OnTask other place)) h k = absurd (never h.certificate k.1.0 other place h.ends k.1.1)
   course_refusals (Overflows (InCheck block path index)) (Overflows (InCheck b q i)) h k =
@@ -148,8 +150,10 @@ module _ (laws : CourseLaws) (A : Analysis) (generates : Generates A) where
       let same : Overflows (InCheck block path index) ≡ Overflows (InCheck b q i) = cc in alike_same _ _ same
   course_refusals (Overflows (InCheck block path index)) (Overflows (e.AtPoint meter)) h k = absurd k
   course_refusals (Overflows (InCheck block path index)) (Overflows (e.InPowers f meter)) h k = absurd k
+  course_refusals (Overflows (InCheck block path index)) (Overflows (e.OnLine line)) h k = absurd k
   course_refusals (Overflows (e.AtPoint meter)) other h k = absurd h
   course_refusals (Overflows (e.InPowers f meter)) other h k = absurd h
+  course_refusals (Overflows (e.OnLine line)) other h k = absurd h
   course_refusals (TooLarge task what) other h k = absurd k
   course_refusals (Overflows (e.OnTask task place)) other h k = absurd k
   course_refusals (Overflows (InCheck block path index)) other h k = absurd k
@@ -162,9 +166,10 @@ module _ (laws : CourseLaws) (A : Analysis) (generates : Generates A) where
       let found = found_same (Some (f.Leaves block path index)) None h.certificate c h.ends k.ends h.first k.passes in absurd (cc)
   refused_or_ends (Overflows (e.AtPoint meter)) c h k = absurd h
   refused_or_ends (Overflows (e.InPowers f meter)) c h k = absurd h
+  refused_or_ends (Overflows (e.OnLine line)) c h k = absurd h
   refused_or_ends e c h k = absurd h
 
-pub course_same : CourseLaws → (whose : Analysed) (P : Prog) → Typed P → All (λ (g : Function). AllNodes NumberFits g.body) P → (groups : Grouping) → IsGrouping P groups → (degree : ℕ) (rule : Rule) →
+pub course_same : KnownLaws → (whose : Analysed) (P : Prog) → Typed P → All (λ (g : Function). AllNodes NumberFits g.body) P → (groups : Grouping) → IsGrouping P groups → (degree : ℕ) (rule : Rule) →
     (Q T : Certificate → Answer → Type 0) → ((c : Certificate) → (a b : Answer) → Q c a → T c b → Same a b) →
     (a b : Answer) → OfCourse Needed whose P (normal_of P groups.list) degree rule Q a → OfCourse Promised whose P (normal_of P groups.list) degree rule T b → Same a b
 course_same laws whose P typed numbers groups grouping degree rule Q T rest =

@@ -29,6 +29,7 @@ use Rattle.refusals.specs.declared.status.Status.TheVariants.{WriteFault, NoMemo
 use Rattle.raml_promise.specs.Outside.{Outside, Store, Sink, Side, Promised, Needed, Rises, GainsNothing, Gains, GainsFront}
 use Rattle.raml_promise.specs.Steps.{Answer, Report, Refusal, ending_in, Step, Test, Prints, OfShort, OfSource, OfProgram, OfNormal, names_of}
 use Rattle.raml_promise.specs.Analysis.{OfCourse, OfCertificate, OfCheck, PowersRefuse}
+use Rattle.raml_promise.specs.DeclaredBounds.{OfBounds, PrintsVerdicts}
 use Rattle.raml_promise.specs.Prices.{OfPrices, ArePricedLines, Spends}
 use Rattle.raml_promise.specs.Call.{Placed, Limits, OfFunction, OfArguments, OfCall, OfFloors, Runs, cells_or}
 use Rattle.refusal_text.specs.declared.plain.Which.TheVariants as which
@@ -108,6 +109,11 @@ PrintsPowers side P N c = Test (names_of P N) (PowersRefuse P N c) (ArePowersFit
 abbrev pub ShowsPowers : Side → ℕ → Prog → Answer → Type 0
 ShowsPowers side degree P = OfNormal P (λ N. OfCourse side analysed.Program P N degree rule.Least (PrintsPowers side P N))
 
+-- The verdicts of the bounds that a file declares. The file is read before the program is analysed.
+abbrev pub ChecksBounds : Side → Store → Text → ℕ → Prog → Answer → Type 0
+ChecksBounds side store file degree P = OfBounds side store file P degree (λ declared.
+    OfNormal P (λ N. OfCourse side analysed.Program P N degree rule.Least (PrintsVerdicts side P N declared.lines)))
+
 -- Of a made program: how many functions it has, the lines of the last one, and its run.
 abbrev pub RunsTrial : Side → ℕ → Prog → Program → Certificate → Placed → List Value → Answer → Type 0
 RunsTrial side count P N c f args =
@@ -136,6 +142,7 @@ Answers side store (w.Spend file prices name input steps cells) =
     OfProgram side store analysed.Program file (SpendsWithin side store prices name input (record { steps = steps; cells = cells_or cells None }))
 Answers side store (w.Compare file other degree) = OfProgram side store analysed.Program file (Compares side store other degree)
 Answers side store (w.Powers file degree) = OfProgram side store analysed.Program file (ShowsPowers side degree)
+Answers side store (w.Contract file bounds degree) = OfProgram side store analysed.Program file (ChecksBounds side store bounds degree)
 Answers side store (w.Trial count) = OfShort which.Program (trial_text count) (OfSource analysed.Program (trial_text count) (Tries side count))
 
 -- what words ask for

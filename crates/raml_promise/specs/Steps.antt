@@ -44,6 +44,7 @@ most_bytes w.Program = 1048576
 most_bytes w.Data = 4194304
 most_bytes w.Certificate = 16777216
 most_bytes w.Prices = 1048576
+most_bytes w.Bounds = 1048576
 most_bytes w.Other = 1048576
 
 abbrev pub IsTooLong : Which → List ℕ → Type 0

@@ -1,7 +1,8 @@
 // Laws of calls: each is the contract of a function that does nothing.
-ghost use Rattle.raml_promise.specs.Known.{CourseLaws};
+ghost use Rattle.raml_promise.specs.Known.{KnownLaws};
 ghost use Rattle.raml_promise.specs.Promise.{CausesForce};
 
+use bound_file::laws::files_have_one_answer;
 use infer_spec::laws::{ends_or_stops, one_certificate, one_place};
 use infer_systems_laws::laws::{normals_are_ordered, systems_generate};
 
@@ -9,16 +10,17 @@ use infer_systems_laws::laws::{normals_are_ordered, systems_generate};
 pub fn causes_force()
     ensures { CausesForce }
 {
-    course_laws();
+    known_laws();
 }
 
-// What is known of courses.
-fn course_laws()
-    ensures { CourseLaws }
+// What is known of courses, and of files of declared bounds.
+fn known_laws()
+    ensures { KnownLaws }
 {
     one_certificate();
     ends_or_stops();
     one_place();
     systems_generate();
     normals_are_ordered();
+    files_have_one_answer();
 }

@@ -1,5 +1,5 @@
 -- Reports of bounds as powers, and their refusals.
-use Rattle.std.proofs.Common.{◌≡◌, Option, Some, Result, Ok, Err, refl, subst, inl}
+use Rattle.std.proofs.Common.{◌≡◌, Some, Ok, Err, refl, subst, inl}
 use Rattle.share_normal.specs.Program.{Kept, source_in}
 use Rattle.rules_plan.specs.Read.{program_in}
 use Rattle.annot_types.specs.Certificate.{Certificate}

@@ -3,3 +3,4 @@ mod Bounding
 mod Causes
 mod Pricing
 mod Comparing
+mod Declaring

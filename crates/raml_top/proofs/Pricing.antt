@@ -1,6 +1,6 @@
 -- Programs under prices, and those in which the prices are written out.
-use Rattle.std.proofs.Common.{◌≡◌, ◌≤◌, ◌*◌, ℕ, length, List, [], ◌∷◌, Some, sym, ap, subst, ◌∙◌, refl, arith, Bool, Option, cond, true, false}
-use Rattle.std.specs.Prelude.{slice_get, nat_eq}
+use Rattle.std.proofs.Common.{◌≡◌, ◌≤◌, ◌*◌, ℕ, length, List, Some, sym, ap, subst, ◌∙◌, refl, arith, Bool, true, false}
+use Rattle.std.specs.Prelude.{slice_get}
 use Rattle.std.specs.List.{All, Contains}
 use Rattle.std.specs.Option.{option_map}
 use Rattle.std.proofs.lemmas.Option.{slice_get-map, slice_get_within}
@@ -8,7 +8,6 @@ use Rattle.raml_syntax.specs.Tree.{Text, Function, Prog}
 use Rattle.raml_syntax.specs.Value.{Value, HaveTypes}
 use Rattle.raml_syntax.specs.Types.{Typed, types_of}
 use Rattle.raml_syntax.specs.Node.{AllNodes, NumberFits}
-use Rattle.base_poly.specs.Poly.{Term}
 use Rattle.poly_point.specs.Point.{worth}
 use Rattle.stack_compile.specs.Machine.{Halted}
 use Rattle.stack_compile.specs.Laws.{at, MachineIsLinked}
@@ -21,10 +20,7 @@ use Rattle.analysis_report.specs.Lines.{Claims, AreMeterLines}
 use Rattle.analysis_report.proofs.MeterLines.{meter_lines_are_lines}
 use Rattle.raml_promise.specs.Analysis.{IsProved}
 use Rattle.rules_soundness_laws.specs.Laws.{IsTrue}
-use Rattle.price_file.specs.declared.construct.Construct.{Construct}
-use Rattle.price_file.specs.Construct.{Prices, place}
-use Rattle.price_file.specs.Listed.{AreSmall, or_free}
-use Rattle.price_file.specs.Spelling.{Table, Spells, SetEach, listed, prices_in}
+use Rattle.price_file.specs.Construct.{Prices}
 use Rattle.price_file.specs.Applied.{applied_function, applied_program}
 use Rattle.price_file.proofs.CostSame.{costs_prices}
 use Rattle.raml_promise.specs.Prices.{IsTrueUnder, ArePricedLines, GivesUnder}

@@ -3,6 +3,7 @@
 
 mod commands;
 mod comparison;
+mod contract;
 mod prices;
 mod requests;
 mod runs;

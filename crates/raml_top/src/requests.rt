@@ -6,13 +6,14 @@ ghost use Rattle.raml_words.specs.Asked.{request_of};
 ghost use Rattle.raml_promise.specs.Outside.{Promised, store_of};
 ghost use Rattle.raml_promise.specs.Steps.{OfProgram};
 ghost use Rattle.raml_promise.specs.Call.{cells_or};
-ghost use Rattle.raml_promise.specs.Promise.{Answers, ListsTypes, ListsCode, Analyses, Certifies, Verifies, RunsWithin, RunsWithBounds, PricesProgram, SpendsWithin, Compares, ShowsPowers};
+ghost use Rattle.raml_promise.specs.Promise.{Answers, ListsTypes, ListsCode, Analyses, Certifies, Verifies, RunsWithin, RunsWithBounds, PricesProgram, SpendsWithin, Compares, ChecksBounds, ShowsPowers};
 ghost use Rattle.raml_parts.specs.Parts.{Gives, IsWithin, CellsWithin, DegreeWithin, OfTrial};
 
 use crate::commands::{
     analysis_certificate, analysis_lines, analysis_powers, list_code, list_types, verification,
 };
 use crate::comparison::comparison;
+use crate::contract::bound_verdicts;
 use crate::prices::{priced_lines, spend_within};
 use crate::runs::{bounded_run, run_within};
 use crate::trial::trial;
@@ -71,6 +72,11 @@ pub fn request_answer<S: Store>(
             other,
             degree,
         } => compare_answer(alloc, store, file, other, *degree),
+        Request::Contract {
+            file,
+            bounds,
+            degree,
+        } => contract_answer(alloc, store, file, bounds, *degree),
         Request::Powers { file, degree } => powers_answer(alloc, store, file, *degree),
         Request::Trial { count } => trial(alloc, *count),
     }
@@ -288,6 +294,26 @@ fn compare_answer<S: Store>(
 {
     match read_program(alloc, store, Analysed::Program, file) {
         Ok(typed) => comparison(alloc, store, &typed, other, degree),
+        Err(refusal) => Err(refusal),
+    }
+}
+
+fn contract_answer<S: Store>(
+    alloc: Global,
+    store: &mut S,
+    file: &str,
+    bounds: &str,
+    degree: u8,
+) -> Result<Report, Refusal>
+    requires least_degree { 1 ≤ degree }
+    requires most_degree { degree ≤ 4 }
+    ensures gives { Gives (OfProgram Promised (store_of (S.holds store.old) (S.faults store.old) (S.faults store.new)) Analysed.Program file.now
+        (ChecksBounds Promised (store_of (S.holds store.old) (S.faults store.old) (S.faults store.new)) bounds.now degree)) result }
+    ensures kept { S.holds store.new ≡ S.holds store.old }
+    ensures later { (name : Text) → S.faults store.old name ≤ S.faults store.new name }
+{
+    match read_program(alloc, store, Analysed::Program, file) {
+        Ok(typed) => bound_verdicts(alloc, store, &typed, bounds, degree),
         Err(refusal) => Err(refusal),
     }
 }

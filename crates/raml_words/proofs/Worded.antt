@@ -3,8 +3,8 @@ use Rattle.std.proofs.Common.{◌≡◌, ◌≢◌, ℕ, Bool, true, false, cond
 use Rattle.std.specs.Prelude.{option_map, option_and_then, IfErr}
 use Rattle.std.specs.Str.{bytes_eq}
 use Rattle.std.proofs.lemmas.Slice.Eq.{bytes_eq-Decides}
-use Rattle.raml_words.specs.Words.{Text, Request, Types, Code, Analyse, Certify, Verify, Run, Trial, Priced, Spend, Compare, Powers, Sorted, Once, Usual, bounds_options, run_options, degree_options, spend_options, AsksOfFile, AsksOfFiles, AsksBounds, AsksTrial, AsksAtDegree, Asks, AsksNothing}
-use Rattle.raml_words.specs.Sorting.{Arguments, halves, arguments, optional, needed, usual_steps, rule_in, value_of, once, without_options, one_of, two_of, count_of, Bounds, bounds_with, bounds_by, bounds_in, run_with, run_by, run_in, both, degree_in, spend_with, spend_by, spend_in, priced_with, compare_with, powers_with, analyse_with, certify_with, verify_with, given_one, given_two, given_count, given_bounds, given_degree, request_by, request_in}
+use Rattle.raml_words.specs.Words.{Text, Request, Types, Code, Analyse, Certify, Verify, Run, Trial, Priced, Spend, Compare, Powers, Contract, Sorted, Once, Usual, bounds_options, run_options, degree_options, spend_options, AsksOfFile, AsksOfFiles, AsksBounds, AsksTrial, AsksAtDegree, Asks, AsksNothing}
+use Rattle.raml_words.specs.Sorting.{Arguments, halves, arguments, optional, needed, usual_steps, rule_in, value_of, once, without_options, one_of, two_of, count_of, Bounds, bounds_with, bounds_by, bounds_in, run_with, run_by, run_in, both, degree_in, spend_with, spend_by, spend_in, priced_with, compare_with, contract_with, powers_with, analyse_with, certify_with, verify_with, given_one, given_two, given_count, given_bounds, given_degree, request_by, request_in}
 use Rattle.raml_words.specs.Asked.{request_of, Tells}
 use Rattle.raml_words.specs.declared.request.Rule.{Rule}
 use Rattle.raml_words.specs.declared.request.Request.{Request as Request'}
@@ -242,7 +242,8 @@ module _ (command : Text) (words : List Text) (r : Request) where
       (asked_if (codes "spend") _ _ (sorted_as spend_options words spend_in r _ (spend_sorted words r))
       (asked_if (codes "compare") _ _ (made compare_with (given_degree two_of words) r (Asks (codes "compare" ∷ words)) (degree_asked two_of _ two_spelled (codes "compare") words))
       (asked_if (codes "powers") _ _ (made powers_with (given_degree one_of words) r (Asks (codes "powers" ∷ words)) (degree_asked one_of _ one_spelled (codes "powers") words))
-      (λ e. absurd (cc))))))))))))
+      (asked_if (codes "contract") _ _ (made contract_with (given_degree two_of words) r (Asks (codes "contract" ∷ words)) (degree_asked two_of _ two_spelled (codes "contract") words))
+      (λ e. absurd (cc)))))))))))))
 
 -- and what they ask for is read
 one_there : (name : Text) (words : List Text) (file : Text) → (h : AsksOfFile name words file) → given_one h.rest ≡ Some file
@@ -288,6 +289,7 @@ request_read words (Run file name input steps cells degree) h =
 request_read words (Priced file prices degree) h = ap request_in h.command ∙ ap (option_map priced_with) (degree_there two_of (codes "priced") words (file ∷ prices ∷ []) (file, prices) degree refl h)
 request_read words (Compare file other degree) h = ap request_in h.command ∙ ap (option_map compare_with) (degree_there two_of (codes "compare") words (file ∷ other ∷ []) (file, other) degree refl h)
 request_read words (Powers file degree) h = ap request_in h.command ∙ ap (option_map powers_with) (degree_there one_of (codes "powers") words (file ∷ []) file degree refl h)
+request_read words (Contract file bounds degree) h = ap request_in h.command ∙ ap (option_map contract_with) (degree_there two_of (codes "contract") words (file ∷ bounds ∷ []) (file, bounds) degree refl h)
 request_read words (Spend file prices name input steps cells) h =
     let given = arguments_of spend_options h.rest (file ∷ prices ∷ name ∷ input ∷ []) h.values spend_plain h.sorted in
     let s = may_to (codes "steps") 1 1000000000 h.values h.given h.once h.steps_given in

@@ -3,3 +3,4 @@ pub mod Refusals
 pub mod Tasks
 pub mod Places
 pub mod Certificates
+pub mod DeclaredLines

@@ -2,7 +2,7 @@
 use Rattle.std.specs.Prelude.{codes}
 use Rattle.raml_syntax.specs.Tree.{Text}
 use Rattle.refusal_text.specs.declared.plain.Which.{Which}
-use Rattle.refusal_text.specs.declared.plain.Which.TheVariants.{Program, Data, Certificate, Prices, Other}
+use Rattle.refusal_text.specs.declared.plain.Which.TheVariants.{Program, Data, Certificate, Prices, Bounds, Other}
 
 abbrev pub usage_line : Text
 usage_line = codes "raml: usage\n"
@@ -13,6 +13,7 @@ unread_line Program = codes "raml: cannot read program\n"
 unread_line Data = codes "raml: cannot read data\n"
 unread_line Certificate = codes "raml: cannot read certificate\n"
 unread_line Prices = codes "raml: cannot read prices\n"
+unread_line Bounds = codes "raml: cannot read bounds\n"
 unread_line Other = codes "raml: cannot read other\n"
 
 -- the file has too many bytes
@@ -21,6 +22,7 @@ too_long_line Program = codes "raml: too long: program\n"
 too_long_line Data = codes "raml: too long: data\n"
 too_long_line Certificate = codes "raml: too long: certificate\n"
 too_long_line Prices = codes "raml: too long: prices\n"
+too_long_line Bounds = codes "raml: too long: bounds\n"
 too_long_line Other = codes "raml: too long: other\n"
 
 abbrev pub no_function_line : Text

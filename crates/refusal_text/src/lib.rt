@@ -1,6 +1,7 @@
 //! The lines on the error stream.
 #![tactic(auto)]
 
+mod bounds;
 mod certificate;
 mod places;
 mod plain;
@@ -8,6 +9,7 @@ mod refusal;
 mod source;
 mod task;
 
+pub use bounds::{declared_leaves_line, declared_too_large_line};
 pub use certificate::{certificate_line, fails_line, json_line, not_refuted_line, shape_line};
 pub use places::{
     check_line, least_line, point_line, powers_line, refute_line, rescale_line, row_line,

@@ -9,6 +9,8 @@ pub enum Which {
     Data,
     Certificate,
     Prices,
+    /// Declared bounds.
+    Bounds,
     /// The program that another is compared with.
     Other,
 }
@@ -29,6 +31,7 @@ pub fn unread_line(which: Which) -> &'static str
         Which::Data => "raml: cannot read data\n",
         Which::Certificate => "raml: cannot read certificate\n",
         Which::Prices => "raml: cannot read prices\n",
+        Which::Bounds => "raml: cannot read bounds\n",
         Which::Other => "raml: cannot read other\n",
     }
 }
@@ -42,6 +45,7 @@ pub fn too_long_line(which: Which) -> &'static str
         Which::Data => "raml: too long: data\n",
         Which::Certificate => "raml: too long: certificate\n",
         Which::Prices => "raml: too long: prices\n",
+        Which::Bounds => "raml: too long: bounds\n",
         Which::Other => "raml: too long: other\n",
     }
 }

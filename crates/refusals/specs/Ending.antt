@@ -26,6 +26,7 @@ use Rattle.bound_infer.specs.declared.leaves.LeavesAt.TheVariants as at
 use Rattle.bound_infer.specs.declared.refusal.InferFault.{InferFault}
 use Rattle.bound_infer.specs.declared.refusal.InferFault.TheVariants as infer
 use Rattle.price_file.specs.declared.fault.PriceFault.{PriceFault}
+use Rattle.bound_file.specs.declared.fault.DeclFault.{DeclFault}
 use Rattle.refusals.specs.declared.status.Status.{Status}
 use Rattle.refusals.specs.declared.status.Status.TheVariants as s
 use Rattle.refusal_text.specs.declared.plain.Which.{Which}
@@ -47,13 +48,14 @@ pub data CertificateEnding : Type 0 where
   Check : check.Fault → CertificateEnding
   NotRefuted : ℕ → CertificateEnding
 
--- Where a number leaves its range: at a place on a task, in the check of a condition of the rules, at a bound on a meter where it is worked out, or in the power form of
--- a function's bound.
+-- Where a number leaves its range: at a place on a task, in the check of a condition of the rules, at a bound on a meter where it is worked out, in the power form of
+-- a function's bound, or where the declared bound on a line of its file is decided.
 pub data Overflow : Type 0 where
   OnTask : Task → Place → Overflow
   InCheck : ℕ → List ℕ → ℕ → Overflow
   AtPoint : Meter → Overflow
   InPowers : ℕ → Meter → Overflow
+  OnLine : ℕ → Overflow
 
 -- The ends of a call, beside want of memory. What refuses a program to compare with is what would refuse the program.
 pub data Ending : Type 0 where
@@ -71,6 +73,8 @@ pub data Ending : Type 0 where
   HeapFull : Ending
   WriteFault : Ending
   BadPrices : PriceFault → Ending
+  BadBounds : DeclFault → Ending
+  LineTooLarge : ℕ → Ending
   OfOther : Ending → Ending
 
 -- What the code's statuses are as endings. None is one for want of memory, nor one that holds another call's want of memory.
@@ -112,6 +116,7 @@ abbrev pub overflow_of : OverflowAt → Option Overflow
 overflow_of (o.At place) = leaving place
 overflow_of (o.Point meter) = Some (AtPoint meter)
 overflow_of (o.Powers fun meter) = Some (InPowers fun.0 meter)
+overflow_of (o.DeclaredBound line) = Some (OnLine line)
 
 abbrev pub course_ending : InferFault → Option Ending
 course_ending (infer.TooLarge task what) = Some (TooLarge (task_of task) (what_of what))
@@ -133,6 +138,8 @@ ending_of s.Stopped = Some Stopped
 ending_of s.HeapFull = Some HeapFull
 ending_of s.WriteFault = Some WriteFault
 ending_of (s.Prices fault) = Some (BadPrices fault)
+ending_of (s.Declared fault) = Some (BadBounds fault)
+ending_of (s.LineTooLarge line) = Some (LineTooLarge line)
 ending_of (s.OtherSource fault) = option_map OfOther (source_ending fault)
 ending_of (s.OtherFault fault) = option_map OfOther (course_ending fault)
 ending_of s.NoMemory = None
@@ -148,10 +155,12 @@ code_of (s.Data fault) = 5
 code_of s.NoFunction = 6
 code_of (s.Certificate answer) = 7
 code_of (s.TooLarge task what) = 8
+code_of (s.LineTooLarge line) = 8
 code_of (s.Overflow place) = 9
 code_of s.Stopped = 10
 code_of s.HeapFull = 11
 code_of s.WriteFault = 12
+code_of (s.Declared fault) = 14
 code_of (s.Prices fault) = 15
 code_of (s.OtherSource fault) = 16
 code_of (s.OtherFault fault) = 17

@@ -10,6 +10,8 @@ use Rattle.refusal_text.specs.Places.{solve_line, row_line, scale_line, rescale_
 use Rattle.refusal_text.specs.declared.task.Analysed.{Analysed}
 use Rattle.refusal_text.specs.declared.task.Analysed.TheVariants as analysed
 use Rattle.price_file.specs.Text.{price_line}
+use Rattle.bound_file.specs.Text.{bounds_line}
+use Rattle.refusal_text.specs.DeclaredLines.{declared_too_large_line, declared_leaves_line}
 use Rattle.refusal_text.specs.Certificates.{json_line, certificate_line, not_refuted_line}
 use Rattle.bound_infer.specs.declared.leaves.LeavesAt.{LeavesAt}
 use Rattle.bound_infer.specs.declared.refusal.InferFault.{InferFault}
@@ -60,6 +62,9 @@ line_of names (s.Overflow (o.At place)) = leaves_line analysed.Program names pla
 line_of names (s.Overflow (o.Point meter)) = point_line meter
 line_of names (s.Overflow (o.Powers fun meter)) = powers_line names.program fun.0 meter
 line_of names (s.Prices fault) = price_line fault
+line_of names (s.Declared fault) = bounds_line fault
+line_of names (s.LineTooLarge line) = declared_too_large_line line
+line_of names (s.Overflow (o.DeclaredBound line)) = declared_leaves_line line
 line_of names (s.OtherSource fault) = other_source_line fault
 line_of names (s.OtherFault fault) = course_line analysed.Other names fault
 line_of names s.WriteFault = write_failed_line

@@ -4,10 +4,14 @@ ghost use Rattle.refusals.specs.Refusals.{IsToldOr, source_status, ParseRefusal,
 
 use crate::answer::Refusal;
 use crate::status::{OverflowAt, Status};
+use bound_file::DeclFault;
 use cost_free::Meter;
 use price_file::{PriceFault, fault_line};
 use raml_parse::ParseFault;
-use refusal_text::{Analysed, SourceFault, data_line, other_source_line, point_line, source_line};
+use refusal_text::{
+    Analysed, SourceFault, data_line, declared_leaves_line, declared_too_large_line,
+    other_source_line, point_line, source_line,
+};
 use simple_types::TypeFault;
 use std::alloc::Global;
 use value_text::DataFault;
@@ -61,6 +65,30 @@ pub fn price_refusal(alloc: Global, fault: PriceFault) -> Refusal
 {
     let line = fault_line(alloc, fault);
     Refusal::told(Status::Prices(fault), line)
+}
+
+/// A fault of a file of declared bounds.
+pub fn bounds_refusal(alloc: Global, fault: DeclFault) -> Refusal
+    ensures { IsToldOr no_names (Status.Declared fault) result }
+{
+    let line = bound_file::fault_line(alloc, fault);
+    Refusal::told(Status::Declared(fault), line)
+}
+
+/// The system of the declared bound on this line has too many rows.
+pub fn declared_too_large(alloc: Global, line: u32) -> Refusal
+    ensures { IsToldOr no_names (Status.LineTooLarge line) result }
+{
+    let text = declared_too_large_line(alloc, line);
+    Refusal::told(Status::LineTooLarge { line }, text)
+}
+
+/// A number leaves its range where the declared bound on this line is decided.
+pub fn declared_leaves(alloc: Global, line: u32) -> Refusal
+    ensures { IsToldOr no_names (Status.Overflow (OverflowAt.DeclaredBound line)) result }
+{
+    let text = declared_leaves_line(alloc, line);
+    Refusal::told(Status::Overflow(OverflowAt::DeclaredBound { line }), text)
 }
 
 /// A fault of data.

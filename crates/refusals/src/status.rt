@@ -2,6 +2,7 @@
 ghost use Rattle.std.specs.Prelude.{◌≡◌};
 ghost use Rattle.refusals.specs.Ending.{code_of};
 
+use bound_file::DeclFault;
 use bound_infer::{InferFault, LeavesAt};
 use cert_check::CertFault;
 use cert_json::JsonFault;
@@ -32,6 +33,8 @@ pub enum OverflowAt {
     Point { meter: Meter },
     /// In the power form of the function's bound on this meter.
     Powers { fun: FunId, meter: Meter },
+    /// Where the declared bound on this line of its file is decided.
+    DeclaredBound { line: u32 },
 }
 
 /// How a call ends.
@@ -65,6 +68,10 @@ pub enum Status {
     WriteFault,
     /// The table of prices is refused.
     Prices(PriceFault),
+    /// The file of declared bounds is refused.
+    Declared(DeclFault),
+    /// With the rows of the declared bound on this line of its file, a system has more than 2000 rows.
+    LineTooLarge { line: u32 },
     /// The source of the program to compare with is refused. The fault is no want of memory.
     OtherSource(SourceFault),
     /// Its analysis is refused. The fault is no want of memory.
@@ -87,11 +94,12 @@ impl Status {
             Status::Data(_) => 5,
             Status::NoFunction => 6,
             Status::Certificate(_) => 7,
-            Status::TooLarge { .. } => 8,
+            Status::TooLarge { .. } | Status::LineTooLarge { .. } => 8,
             Status::Overflow(_) => 9,
             Status::Stopped => 10,
             Status::HeapFull => 11,
             Status::WriteFault => 12,
+            Status::Declared(_) => 14,
             Status::Prices(_) => 15,
             Status::OtherSource(_) => 16,
             Status::OtherFault(_) => 17,

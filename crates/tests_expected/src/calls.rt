@@ -1,4 +1,5 @@
-// Digests of all that calls over files in memory answer: prices, comparisons and powers.
+// Digests of all that calls over files in memory answer: prices, comparisons, powers and declared
+// bounds.
 use crate::cases::{read_cases, read_file};
 use crate::digests::{push_digest, sink};
 use crate::refusal::Refusal;
@@ -32,9 +33,16 @@ spin_loops
 zip_unzip";
 
 // And these have their sources within.
-const OTHERS: [&str; 4] = ["comparisons", "forms", "prices_faults", "rows"];
+const OTHERS: [&str; 6] = [
+    "bounds_faults",
+    "bounds_lines",
+    "comparisons",
+    "forms",
+    "prices_faults",
+    "rows",
+];
 
-const COMMANDS: [&str; 4] = ["priced", "spend", "compare", "powers"];
+const COMMANDS: [&str; 5] = ["priced", "spend", "compare", "powers", "contract"];
 
 // Room for what a call writes, in bytes.
 const ROOM: usize = 1 << 16;

@@ -1,11 +1,10 @@
 use Rattle.share_normal.specs.Program.{source_in}
 use Rattle.rules_plan.specs.Read.{program_in}
-use Rattle.annot_types.specs.Certificate.{Certificate}
 use Rattle.raml_words.specs.declared.request.Rule.TheVariants as rule
 use Rattle.refusal_text.specs.declared.task.Analysed.TheVariants as analysed
 use Rattle.analysis_report.specs.Comparison.{AreComparisons}
 use Rattle.raml_promise.specs.Outside.{Promised}
-use Rattle.raml_promise.specs.Steps.{Answer, Prints}
+use Rattle.raml_promise.specs.Steps.{Prints}
 use Rattle.raml_parts.proofs.Proved.{course_given, course_denied, counts_work}
 use Rattle.raml_top.proofs.comparison.compare_courses.Goals as goal
 

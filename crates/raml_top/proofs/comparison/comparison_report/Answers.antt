@@ -1,5 +1,5 @@
-use Rattle.std.proofs.Common.{ap, sym, subst, string_bytes}
-use Rattle.share_normal.specs.Program.{Kept, source_in}
+use Rattle.std.proofs.Common.{ap, sym, subst}
+use Rattle.share_normal.specs.Program.{source_in}
 use Rattle.rules_plan.specs.Read.{program_in}
 use Rattle.analysis_report.specs.Comparison.{AreComparisons}
 use Rattle.refusals.specs.Ending.{Done, ending_of}

@@ -1,15 +1,15 @@
-use Rattle.std.proofs.Common.{◌≤◌, ◌*◌, [], None, sym, subst, arith}
+use Rattle.std.proofs.Common.{[], None, subst, arith}
 use Rattle.std.specs.List.{All}
 use Rattle.raml_syntax.specs.Tree.{Function}
 use Rattle.raml_syntax.specs.Types.{Typed}
-use Rattle.raml_syntax.specs.Node.{AllNodes, NumberFits, program_nodes}
+use Rattle.raml_syntax.specs.Node.{AllNodes, NumberFits}
 use Rattle.raml_syntax.specs.Read.{program_of}
 use Rattle.price_file.specs.Read.{prices_of}
 use Rattle.price_file.specs.Applied.{applied_function}
 use Rattle.raml_promise.specs.Outside.{Promised}
 use Rattle.raml_promise.specs.Call.{Runs, Limits, cells_or}
 use Rattle.raml_promise.specs.Prices.{Spends}
-use Rattle.raml_parts.specs.Parts.{Gives, IsCallOf}
+use Rattle.raml_parts.specs.Parts.{Gives}
 use Rattle.raml_parts.proofs.Stepping.{gives_map}
 use Rattle.raml_top.proofs.Pricing.{spent, applied_call}
 use Rattle.raml_top.proofs.prices.call_under.Goals as goal

@@ -1,4 +1,4 @@
-use Rattle.std.proofs.Common.{◌≡◌, ◌≤◌, ◌<◌, ◌^◌, length, sym, subst, arith, inl, inr}
+use Rattle.std.proofs.Common.{◌≡◌, ◌<◌, ◌^◌, length, sym, subst, arith, inl, inr}
 use Rattle.price_file.specs.Spelling.{Table, Spells, FirstFault, prices_in}
 use Rattle.price_file.specs.Read.{prices_of}
 use Rattle.refusal_text.specs.declared.plain.Which.TheVariants as w

@@ -5,10 +5,8 @@ use Rattle.share_normal.specs.Program.{Kept, source_in}
 use Rattle.rules_plan.specs.Read.{program_in}
 use Rattle.cost_free.specs.declared.task.Meter.TheVariants.{Ticks}
 use Rattle.annot_types.specs.Certificate.{has_work}
-use Rattle.price_file.specs.Applied.{applied_program}
 use Rattle.analysis_report.specs.Lines.{AreMeterLines}
 use Rattle.refusals.specs.Ending.{Done, ending_of}
-use Rattle.raml_promise.specs.Analysis.{IsProved}
 use Rattle.raml_top.proofs.Pricing.{ticks_counted, lines_under}
 use Rattle.raml_top.proofs.prices.tick_report.Goals as goal
 

@@ -71,6 +71,13 @@ returns-in-Compare-clause-gives g c =
     (subst (λ told. Gives (Answers Promised store (w.Compare told (string_bytes c.in-Compare.other) c.in-Compare.degree)) c.compare_answer.result) c.deref-in-Compare.ensures
     (subst (λ told. Gives (Answers Promised store (w.Compare c.deref-in-Compare.result.now told c.in-Compare.degree)) c.compare_answer.result) c.deref-in-Compare-2.ensures c.compare_answer.ensures.gives))
 
+pub returns-in-Contract-clause-gives : goal.returns-in-Contract-clause-gives
+returns-in-Contract-clause-gives g c =
+    let store = store_of (g.S.Store.holds c.args.store.now) (g.S.Store.faults c.args.store.now) (g.S.Store.faults c.contract_answer.new.store) in
+    subst (λ request. Gives (Answers Promised store (request_of request)) c.contract_answer.result) (sym c.in-Contract.is)
+    (subst (λ told. Gives (Answers Promised store (w.Contract told (string_bytes c.in-Contract.bounds) c.in-Contract.degree)) c.contract_answer.result) c.deref-in-Contract.ensures
+    (subst (λ told. Gives (Answers Promised store (w.Contract c.deref-in-Contract.result.now told c.in-Contract.degree)) c.contract_answer.result) c.deref-in-Contract-2.ensures c.contract_answer.ensures.gives))
+
 pub returns-in-Powers-clause-gives : goal.returns-in-Powers-clause-gives
 returns-in-Powers-clause-gives g c =
     let store = store_of (g.S.Store.holds c.args.store.now) (g.S.Store.faults c.args.store.now) (g.S.Store.faults c.powers_answer.new.store) in

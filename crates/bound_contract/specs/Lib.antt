@@ -1,0 +1,12 @@
+pub mod Under
+pub mod System
+pub mod Kept
+pub mod Decided
+pub mod Places
+pub mod Read
+pub mod Asked
+pub mod Sites
+pub mod Fronts
+pub mod Laws
+pub mod Clear
+pub mod Example

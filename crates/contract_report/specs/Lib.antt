@@ -1,0 +1,4 @@
+pub mod Verdicts
+pub mod Refused
+pub mod Told
+pub mod Steps

@@ -1,0 +1,35 @@
+use Rattle.std.proofs.Common.{◌≡◌, None, ap, sym, subst}
+use Rattle.share_normal.specs.Program.{Kept, source_in}
+use Rattle.annot_types.specs.Certificate.{Certificate}
+use Rattle.annot_types.specs.Held.{before, scale_for}
+use Rattle.annot_types.specs.System.{system}
+use Rattle.infer_spec.specs.Generator.{limit_of}
+use Rattle.infer_systems_laws.specs.Analysed.{generator_of}
+use Rattle.rules_plan.specs.Read.{program_in}
+use Rattle.simplex_checked.specs.Rules.{least_pick}
+use Rattle.infer_systems_laws.specs.Tried.{IsOrdered}
+use Rattle.bound_contract.specs.Asked.{MayBeAsked}
+use Rattle.raml_words.specs.declared.request.Rule.TheVariants as rule
+use Rattle.raml_promise.specs.Analysis.{analysis}
+use Rattle.raml_parts.proofs.Proved.{counts_work}
+use Rattle.tests_declared.proofs.kept.may_be_asked.Goals as goal
+
+pub returns-clause-work : goal.returns-clause-work
+returns-clause-work c = counts_work (program_in c.args.program.now) 1 rule.Least c.args.verified.now.certificate c.requires.course
+
+pub returns-clause-degree : goal.returns-clause-degree
+returns-clause-degree c = ap (λ c. c.degree) c.requires.course.ends.is
+
+pub returns-clause-asked : goal.returns-clause-asked
+returns-clause-asked c line there =
+    let N = program_in c.args.program.now in
+    let cert = c.args.verified.now.certificate in
+    let ordered = subst (λ funs. IsOrdered (record { funs = funs; groups = c.args.program.now.groups.list })) (sym c.functions-functions.ensures.norm)
+    (c.normals_are_ordered.ensures (source_in c.args.program.now) c.source-source.ensures.typed c.source-source.ensures.numbers c.args.program.now.groups c.groups-groups.ensures.grouping) in
+    let within = c.courses_stay_within.ensures (analysis N 1 rule.Least) (c.systems_generate.ensures N ordered 1 least_pick) c.args.verified.now.certificate c.requires.course.ends in
+    subst (λ (k : Kept). MayBeAsked (record { program = k; certificate = c.args.verified.now.certificate }) line) (sym c.requires.program)
+    (record {
+      fun = there;
+      within = λ place own is free. subst (λ d. limit_of (generator_of N d) own.task (system N cert.degree (before cert place) own.task (scale_for cert own.task.kind)) ≡ None)
+          (sym (ap (λ (c : Certificate). c.degree) c.requires.course.ends.is)) (within.limits place own is.there free);
+    })
