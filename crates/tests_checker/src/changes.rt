@@ -31,6 +31,7 @@ const OF_MAIN: &str = r#""3" => "2" => block 1 fails at 0 index 0
 const OF_APPEND: &str =
     r#""sigs":[[[[0,"1"]],[[0,"1"]]]],"target":0},{"budget":1 => "sigs":[[[],[]]],"target":0},{"budget":1 => block 0 fails at 0 index 0
 2,"1"]],[[1,"1"]]]],"target":1 => 3,"1"]],[[1,"1"]]]],"target":1 => block 1 is not in the schedule
+2,"1"]],[[1,"1"]]]],"target":1 => 2,"1"]],[[0,"1"]]]],"target":1 => block 1 fails at 0 index 1
 ,{"group":0,"hints":[[{"let":[[[0,"1"]]]},{"call":[[0,"1"]]}]],"kind":"cells","sigs":[[[[2,"1"]],[]]]} =>  => block 3 is not in the schedule
 [[0,"1"]],[[0,"1"]] => [[0,"1"]],[[0,"2"]] => block 0 fails at 0.0 index 0
 [[[[2,"1"]],[]]] => [[[[0,"170141183460469231731687303715884105727"],[2,"1"]],[]]] => overflow at block 3 at 0.1.0 index 0
@@ -119,6 +120,22 @@ et":[[],[[0,"1"]]]},{"share":[[1,"1"],[2,"1 => et":[[],[[0,"1"]]]},{"share":[[2,
 ]],[[0,"1"]], => ]],[[0,"2"]], => block 13 fails at 0.1.0.0.1 index 1
 ,{"share":[[0,"1"]]},{"let":[[[0,"1"]]]},{"call => ,{"share":[[0,"1"]]},{"let":[[[0,"2"]]]},{"call => block 22 fails at 0.0.0.0.0.0.0 index 1"#;
 
+// Two groups of two functions that call each other. In each line the fault is in one function of a group, whose place
+// there is the first number of the path, or its target is missed. In the first two the second function leaves nothing
+// of its target, and then the first one, which the second wants. In the next ones there is too little where the
+// second function calls the first one, or the first calls the second one; the numbers of ticks stand over 2.
+const OF_PING_PONG: &str =
+    r#""function":3,"group":1,"hints":[[{"let":[[[0,"1"]]]},{"call":[]},{"let":[[[0,"1"]]]}],[{"call":[]}]],"kind":"free","sigs":[[[[0,"1"]],[[0,"1"]]],[[[0,"1"]],[[0,"1"]]] => "function":3,"group":1,"hints":[[{"let":[[[0,"1"]]]},{"call":[]},{"let":[[[0,"1"]]]}],[{"call":[]}]],"kind":"free","sigs":[[[[0,"1"]],[[0,"1"]]],[[[0,"1"]],[]] => block 6 fails at 1 index 0
+"function":2,"group":1,"hints":[[{"let":[[[0,"1"]]]},{"call":[]},{"let":[[[0,"1"]]]}],[{"call":[]}]],"kind":"free","sigs":[[[[0,"1"]],[[0,"1"]]],[[[0,"1"]],[[0,"1"]]] => "function":2,"group":1,"hints":[[{"let":[[[0,"1"]]]},{"call":[]},{"let":[[[0,"1"]]]}],[{"call":[]}]],"kind":"free","sigs":[[[[0,"1"]],[]],[[[0,"1"]],[[0,"1"]]] => block 5 fails at 0 index 0
+"function":3,"group":1,"hints":[[{"let":[[[0,"1"]]]},{"call":[]},{"let":[[[0,"1"]]]}],[{"call":[]}]],"kind":"free","sigs":[[[[0,"1"]],[[0,"1"]]],[[[0,"1"]],[[0,"1"]]] => "function":3,"group":1,"hints":[[{"let":[[[0,"1"]]]},{"call":[]},{"let":[[[0,"1"]]]}],[{"call":[]}]],"kind":"free","sigs":[[[[0,"1"]],[]],[[[0,"1"]],[[0,"1"]]] => block 6 fails at 1.1.0 index 1
+[[[0,"1"],[1,"1"]],[]],[[[1,"1"]],[]] => [[[0,"1"],[1,"1"]],[]],[[],[]] => block 7 fails at 1.1.0 index 0
+[[[0,"1"],[1,"1"]],[]],[[[1,"1"]],[]] => [[[0,"1"],[1,"2"]],[]],[[[1,"1"]],[]] => block 7 fails at 1.1.0 index 1
+[[[0,"1"],[1,"1"]],[]],[[[1,"1"]],[]] => [[[0,"1"],[1,"1"]],[]],[[[1,"2"]],[]] => block 7 fails at 0.1.0.0.0 index 1
+[[[0,"1"],[1,"1"]],[]],[[[1,"1"]],[]] => [[[1,"1"]],[]],[[[1,"1"]],[]] => block 7 fails at 0.1.0 index 0
+"ticks":"2" => "ticks":"1" => held
+"ticks":"2" => "ticks":"3" => block 7 fails at 0.1.0 index 0
+"function":3 => "function":2 => block 6 is not in the schedule"#;
+
 #[test]
 fn changes_of_main_are_told(rt: HostRuntime) -> Result<(), Fail> {
     changes_are_told(
@@ -193,5 +210,16 @@ fn changes_of_sharing_are_told(rt: HostRuntime) -> Result<(), Fail> {
         texts::SHARING,
         texts::SHARING_CERTIFICATE,
         OF_SHARING,
+    )
+}
+
+#[test]
+fn changes_of_ping_pong_are_told(rt: HostRuntime) -> Result<(), Fail> {
+    changes_are_told(
+        &rt,
+        rt.alloc(),
+        texts::PING_PONG,
+        texts::PING_PONG_CERTIFICATE,
+        OF_PING_PONG,
     )
 }

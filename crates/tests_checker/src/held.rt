@@ -5,7 +5,7 @@ use std::process::Abort;
 use std::test::Fail;
 
 // A program, its certificate, and the lines.
-const HELD: [(&str, &str, &str); 8] = [
+const HELD: [(&str, &str, &str); 9] = [
     (texts::MAIN, texts::MAIN_CERTIFICATE, texts::MAIN_LINES),
     (
         texts::APPEND,
@@ -38,6 +38,11 @@ const HELD: [(&str, &str, &str); 8] = [
         texts::SHARING_CERTIFICATE,
         texts::SHARING_LINES,
     ),
+    (
+        texts::PING_PONG,
+        texts::PING_PONG_CERTIFICATE,
+        texts::PING_PONG_LINES,
+    ),
 ];
 
 #[test]
@@ -46,21 +51,5 @@ fn certificates_give_their_lines(rt: HostRuntime) -> Result<(), Fail> {
         let found = told(rt.alloc(), source, certificate)?;
         assert_eq!(rt; found.as_str(), want);
     }
-    Ok(())
-}
-
-// Thirteen lists have 2380 indices of degree 4 or less.
-#[test]
-fn large_types_are_refused(rt: HostRuntime) -> Result<(), Fail> {
-    let types =
-        "int list * int list * int list * int list * int list * int list * int list * int list * int list * int list * int list * int list * int list";
-    let source = format!(in rt.alloc(); "fun big (x : {types}) : int = 0")?;
-    let certificate = texts::MAIN_CERTIFICATE;
-    let Some((front, rest)) = certificate.split_once("\"degree\":1") else {
-        return Err(Fail::from("it has no degree"));
-    };
-    let text = format!(in rt.alloc(); "{front}\"degree\":4{rest}")?;
-    let found = told(rt.alloc(), &source, &text)?;
-    assert_eq!(rt; found.as_str(), "too large: group 0");
     Ok(())
 }

@@ -11,6 +11,8 @@ mod held;
 #[cfg(test)]
 mod json;
 #[cfg(test)]
+mod large;
+#[cfg(test)]
 mod others;
 #[cfg(test)]
 mod texts;

@@ -113,6 +113,27 @@ const OF_TRIPLES: [Case; 1] = [Case {
     want: "block 12 is not in the schedule",
 }];
 
+// The certificate's block refutes, so that its contexts were not looked at. They are too large, be there hints for
+// the function or not.
+const OF_BIG: [Case; 2] = [
+    Case {
+        place: 1,
+        times: 1,
+        fun: 0,
+        old: r#"{"farkas":[],"group":0,"kind":"ticks"}"#,
+        new: r#"{"group":0,"hints":[[]],"kind":"ticks","sigs":[[[],[]]]}"#,
+        want: "too large: group 0 ticks",
+    },
+    Case {
+        place: 2,
+        times: 1,
+        fun: 0,
+        old: r#"{"farkas":[],"group":0,"kind":"cells"}"#,
+        new: r#"{"group":0,"hints":[],"kind":"cells","sigs":[[[],[]]]}"#,
+        want: "too large: group 0 cells",
+    },
+];
+
 fn cases_are_told(
     rt: &impl Abort,
     alloc: Global,
@@ -163,4 +184,9 @@ fn others_of_triples_are_told(rt: HostRuntime) -> Result<(), Fail> {
         texts::TRIPLES_CERTIFICATE,
         &OF_TRIPLES,
     )
+}
+
+#[test]
+fn others_of_large_contexts_are_told(rt: HostRuntime) -> Result<(), Fail> {
+    cases_are_told(&rt, rt.alloc(), texts::BIG, texts::BIG_CERTIFICATE, &OF_BIG)
 }

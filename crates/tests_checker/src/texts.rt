@@ -173,3 +173,39 @@ triple ticks <= 0
 triple cells <= 2
 triple work <= 6
 "#;
+
+pub const PING_PONG: &str =
+    r#"(* mutual recursion: even and odd length, and a rally that pays at every second turn *)
+fun even (l : int list) : bool = match l with nil -> true | h :: t -> odd(t)
+fun odd (l : int list) : bool = match l with nil -> false | h :: t -> even(t)
+fun ping (l : int list) : int = match l with nil -> 0 | h :: t -> tick 1 in pong(t) + 1
+fun pong (l : int list) : int = match l with nil -> 0 | h :: t -> ping(t)
+fun rally (l : int list) : int = if even(l) then ping(l) else pong(l)"#;
+
+pub const PING_PONG_CERTIFICATE: &str =
+    r#"{"blocks":[{"budget":0,"function":0,"group":0,"hints":[[{"call":[]}],[{"call":[]}]],"kind":"free","sigs":[[[[0,"1"]],[[0,"1"]]],[[[0,"1"]],[[0,"1"]]]],"target":0},{"budget":0,"function":1,"group":0,"hints":[[{"call":[]}],[{"call":[]}]],"kind":"free","sigs":[[[[0,"1"]],[[0,"1"]]],[[[0,"1"]],[[0,"1"]]]],"target":0},{"group":0,"hints":[[{"call":[]}],[{"call":[]}]],"kind":"ticks","sigs":[[[],[]],[[],[]]]},{"group":0,"hints":[[{"call":[]}],[{"call":[]}]],"kind":"cells","sigs":[[[],[]],[[],[]]]},{"group":0,"hints":[[{"call":[]}],[{"call":[]}]],"kind":"work","sigs":[[[[0,"8"],[1,"8"]],[]],[[[0,"8"],[1,"8"]],[]]]},{"budget":0,"function":2,"group":1,"hints":[[{"let":[[[0,"1"]]]},{"call":[]},{"let":[[[0,"1"]]]}],[{"call":[]}]],"kind":"free","sigs":[[[[0,"1"]],[[0,"1"]]],[[[0,"1"]],[[0,"1"]]]],"target":0},{"budget":0,"function":3,"group":1,"hints":[[{"let":[[[0,"1"]]]},{"call":[]},{"let":[[[0,"1"]]]}],[{"call":[]}]],"kind":"free","sigs":[[[[0,"1"]],[[0,"1"]]],[[[0,"1"]],[[0,"1"]]]],"target":0},{"group":1,"hints":[[{"let":[[]]},{"call":[]},{"let":[[]]}],[{"call":[]}]],"kind":"ticks","sigs":[[[[0,"1"],[1,"1"]],[]],[[[1,"1"]],[]]]},{"group":1,"hints":[[{"let":[[]]},{"call":[]},{"let":[[]]}],[{"call":[]}]],"kind":"cells","sigs":[[[],[]],[[],[]]]},{"group":1,"hints":[[{"let":[[[0,"2"]]]},{"call":[[6,"2"]]},{"let":[[]]}],[{"call":[]}]],"kind":"work","sigs":[[[[0,"11"],[1,"11"]],[]],[[[0,"8"],[1,"11"]],[]]]},{"budget":0,"function":4,"group":2,"hints":[[{"share":[[0,"1"]]},{"let":[[[0,"1"]]]},{"call":[[1,"1"]]},{"call":[[6,"1"]]},{"call":[[6,"1"]]}]],"kind":"free","sigs":[[[[0,"1"]],[[0,"1"]]]],"target":0},{"group":2,"hints":[[{"share":[[0,"1"],[1,"1"]]},{"let":[[[0,"1"]],[[0,"1"]]]},{"call":[[1,"1"]]},{"call":[[1,"1"]]},{"call":[]},{"call":[]}]],"kind":"ticks","sigs":[[[[0,"1"],[1,"1"]],[]]]},{"group":2,"hints":[[{"share":[]},{"let":[[],[]]},{"call":[]},{"call":[]},{"call":[]},{"call":[]}]],"kind":"cells","sigs":[[[],[]]]},{"group":2,"hints":[[{"share":[[0,"27"],[1,"11"],[2,"8"]]},{"let":[[[0,"13"]],[[0,"11"]]]},{"call":[[1,"13"]]},{"call":[[1,"11"]]},{"call":[]},{"call":[]}]],"kind":"work","sigs":[[[[0,"27"],[1,"19"]],[]]]}],"degree":1,"scale":{"cells":"1","ticks":"2","work":"2"},"version":2}"#;
+
+pub const PING_PONG_LINES: &str = r#"even ticks <= 0
+even cells <= 0
+even work <= 4 + 4*<[_]>
+odd ticks <= 0
+odd cells <= 0
+odd work <= 4 + 4*<[_]>
+ping ticks <= 1/2 + 1/2*<[_]>
+ping cells <= 0
+ping work <= 11/2 + 11/2*<[_]>
+pong ticks <= 1/2*<[_]>
+pong cells <= 0
+pong work <= 4 + 11/2*<[_]>
+rally ticks <= 1/2 + 1/2*<[_]>
+rally cells <= 0
+rally work <= 27/2 + 19/2*<[_]>
+"#;
+
+// A function of thirteen lists.
+pub const BIG: &str =
+    "fun big (x : int list * int list * int list * int list * int list * int list * int list * int list * int list * int list * int list * int list * int list) : int = 0";
+
+// Its blocks for ticks and cells are refuted, so nothing is walked.
+pub const BIG_CERTIFICATE: &str =
+    r#"{"blocks":[{"budget":0,"function":0,"group":0,"hints":[[]],"kind":"free","sigs":[[[[0,"1"]],[[0,"1"]]]],"target":0},{"farkas":[],"group":0,"kind":"ticks"},{"farkas":[],"group":0,"kind":"cells"}],"degree":4,"scale":{"cells":"1","ticks":"1"},"version":1}"#;

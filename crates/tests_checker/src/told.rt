@@ -8,13 +8,14 @@ ghost use Rattle.annot_types.specs.Read.{body_of};
 
 use annot_types::{Block, BlockBody, Certificate};
 use call_groups::group_calls;
-use cert_check::{CertFault, Checked, check};
+use cert_check::{CertFault, Checked, check, check_with};
 use cert_json::{JsonFault, Place, read};
-use cost_free::{Meter, TaskKind};
+use cost_free::{Meter, Task, TaskKind};
 use other_blocks::{OtherBlock, other, place_of as place_of_task};
 use poly_text::print;
 use raml_parse::parse;
 use raml_syntax::FunId;
+use rules_plan::KeptPlans;
 use share_normal::{NormProgram, normalise};
 use simple_types::Typed;
 use std::alloc::{AllocError, Global};
@@ -51,10 +52,54 @@ fn told_of(
     certificate: Certificate,
 ) -> Result<String, Fail> {
     let work = certificate.work_scale.is_some();
-    match check(alloc, program, certificate) {
+    let found = check(alloc, program, certificate);
+    found_text(alloc, program, found, work)
+}
+
+fn found_text<'p, 'a>(
+    alloc: Global,
+    program: &'p NormProgram<'a>,
+    found: Result<Checked<'p, 'a>, CertFault>,
+    work: bool,
+) -> Result<String, Fail> {
+    match found {
         Ok(checked) => Ok(lines(alloc, program, &checked, work)?),
         Err(fault) => Ok(cert_fault(alloc, fault)?),
     }
+}
+
+/// What becomes of the head of a certificate.
+#[derive(Clone, Copy)]
+pub enum Head {
+    Stays,
+    Degree(u8),
+    Ticks(i128),
+    Cells(i128),
+    Work(i128),
+}
+
+fn set_head(certificate: &mut Certificate, head: Head) {
+    match head {
+        Head::Stays => {}
+        Head::Degree(degree) => certificate.degree = degree,
+        Head::Ticks(scale) => certificate.ticks_scale = scale,
+        Head::Cells(scale) => certificate.cells_scale = scale,
+        Head::Work(scale) => certificate.work_scale = Some(scale),
+    }
+}
+
+/// The same of a certificate whose head is changed, checked with no plans that were made before.
+pub fn told_with_head(alloc: Global, source: &str, text: &str, head: Head) -> Result<String, Fail> {
+    let typed = typed_program(alloc, source)?;
+    let groups = group_calls(alloc, typed.program())?;
+    let program = normalise(alloc, &typed, groups)?;
+    let Ok(mut certificate) = read(alloc, text.as_bytes()) else {
+        return Err(Fail::from("it is no certificate"));
+    };
+    set_head(&mut certificate, head);
+    let work = certificate.work_scale.is_some();
+    let found = check_with(alloc, &program, certificate, KeptPlans::new(alloc));
+    found_text(alloc, &program, found, work)
 }
 
 /// What is answered to a certificate with a part changed: its fault, or that it is held.
@@ -193,8 +238,26 @@ fn cert_fault(alloc: Global, fault: CertFault) -> Result<String, AllocError> {
             let path = path_text(alloc, &path)?;
             format!(in alloc; "overflow at block {block} at {path} index {index}")
         }
-        CertFault::TooLarge { task } => format!(in alloc; "too large: group {}", task.group),
+        CertFault::TooLarge { task } => {
+            let task = task_text(alloc, &task)?;
+            format!(in alloc; "too large: {task}")
+        }
         CertFault::NoMemory => Err(AllocError),
+    }
+}
+
+fn task_text(alloc: Global, task: &Task) -> Result<String, AllocError> {
+    let group = task.group;
+    match task.kind {
+        TaskKind::Free {
+            budget,
+            fun,
+            target,
+        } => format!(in alloc;
+            "group {group} budget {budget} function {} target {target}",
+            fun.0
+        ),
+        TaskKind::With(meter) => format!(in alloc; "group {group} {}", meter_word(meter)),
     }
 }
 

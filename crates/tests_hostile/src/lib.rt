@@ -11,6 +11,8 @@ mod limits;
 #[cfg(test)]
 mod outcome;
 #[cfg(test)]
+mod places;
+#[cfg(test)]
 mod real;
 #[cfg(test)]
 mod verified;

@@ -1,7 +1,11 @@
 // Limits of the words and of the data, from both sides.
 use crate::outcome::{Faults, NO_FAULTS, outcome};
+use raml_io::MemSink;
+use raml_top::raml;
 use std::alloc::Global;
+use std::fmt::Write;
 use std::test::Fail;
+use tests_calls::{TYPES, store_of};
 
 const QUOT: &str = "fun quot (x : int, y : int) : int = x div y";
 
@@ -68,5 +72,56 @@ fn data_with_white_space_has_a_limit(rt: HostRuntime) -> Result<(), Fail> {
         let found = outcome(alloc, &words, QUOT, data.as_str(), faults)?;
         assert_eq!(rt; found.as_str(), want);
     }
+    Ok(())
+}
+
+// A pair of a variable with itself, so often, where an integer is wanted.
+fn doubled(alloc: Global, times: u32) -> Result<String, Fail> {
+    let mut source = String::from_str(alloc, "fun f (x : int) : int = ")?;
+    for _ in 0..times {
+        source.push_str("let x = (x, x) in ")?;
+    }
+    source.push_str("x")?;
+    Ok(source)
+}
+
+// What is said of 19 such pairs, whose type has 2^20 - 1 nodes.
+fn told_at_19(alloc: Global) -> Result<String, Fail> {
+    let mut ty = String::from_str(alloc, "int * int")?;
+    for _ in 1..19 {
+        let mut pair = String::new(alloc);
+        write!(pair, "({ty}) * {ty}")?;
+        ty = pair;
+    }
+    let mut line = String::new(alloc);
+    write!(line, "raml: source: wanted int, got {ty} at 366\n")?;
+    Ok(line)
+}
+
+// The status and the line where err has room for it.
+fn refused(alloc: Global, source: &str) -> Result<(u8, String), Fail> {
+    let mut store = store_of(alloc, source.as_bytes(), b"", &[])?;
+    let mut out = MemSink::new(alloc, 10, 10, Vec::new(alloc))?;
+    let mut err = MemSink::new(alloc, 4_000_000, 4_000_000, Vec::new(alloc))?;
+    let status = raml(alloc, &TYPES, &mut store, &mut out, &mut err);
+    match std::str::from_utf8(err.bytes()) {
+        Ok(line) => Ok((status.code(), String::from_str(alloc, line)?)),
+        Err(_) => Err(Fail::from("no text is written")),
+    }
+}
+
+#[test]
+fn types_that_are_told_have_a_limit(rt: HostRuntime) -> Result<(), Fail> {
+    let alloc = rt.alloc();
+    let (status, line) = refused(alloc, doubled(alloc, 19)?.as_str())?;
+    assert_eq!(rt; status, 4);
+    assert_eq!(rt; line.len(), 3_670_049);
+    assert!(rt;
+        line.as_str() == told_at_19(alloc)?.as_str(),
+        "the line of 19"
+    );
+    let (status, line) = refused(alloc, doubled(alloc, 20)?.as_str())?;
+    assert_eq!(rt; status, 70);
+    assert_eq!(rt; line.as_str(), "raml: out of memory\n");
     Ok(())
 }

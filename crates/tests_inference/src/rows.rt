@@ -1,9 +1,9 @@
-//! Rows of tasks that leave 128 bits, and what a solution of a task stands for, at degree 1.
+//! Rows of tasks that leave 128 bits, and what a solution of a task stands for, at degree 1; weights at each degree.
 use crate::programs::{budget_of, certificate, kept, typed_program};
 use annot_types::{Hint, Sig};
 use call_groups::group_calls;
 use constraint_gen::{GenFault, hints_of, plans, rows};
-use cost_free::Task;
+use cost_free::{Meter, Task, TaskKind};
 use linear_rows::{Row, System};
 use rules_walk::Earlier;
 use share_normal::{NormProgram, normalise};
@@ -196,5 +196,78 @@ fn numbers_stand_for_signatures_and_hints(rt: HostRuntime) -> Result<(), Fail> {
     let program = normalise(rt.alloc(), &typed, groups)?;
     let found = told_numbers(rt.alloc(), &program)?;
     assert_eq!(rt; found.as_str(), "[(0, 5)] [(0, 3)] call [(0, 2)]");
+    Ok(())
+}
+
+/// Writes the weights of the task of ticks of the first group.
+fn push_weights(
+    out: &mut String,
+    alloc: Global,
+    program: &NormProgram<'_>,
+    d: u8,
+) -> Result<(), Fail> {
+    let earlier = Earlier::new(alloc, program.functions().len())?;
+    let task = Task {
+        group: 0,
+        kind: TaskKind::With(Meter::Ticks),
+    };
+    if d > 4 {
+        return Err(Fail::new("the degree"));
+    }
+    let Ok(system) = rows(alloc, program, d, &earlier, &task, 1) else {
+        return Err(Fail::new("there is no system"));
+    };
+    for weight in system.weights() {
+        write!(out, "{weight} ")?;
+    }
+    Ok(())
+}
+
+fn weights_of(alloc: Global, source: &str, d: u8) -> Result<String, Fail> {
+    let typed = typed_program(alloc, source)?;
+    let groups = group_calls(alloc, typed.program())?;
+    let program = normalise(alloc, &typed, groups)?;
+    let mut out = String::new(alloc);
+    push_weights(&mut out, alloc, &program, d)?;
+    Ok(out)
+}
+
+/// Of the arguments there is a tuple of degree 0, two of degree 1, four of degree 2, and so on; of the result one
+/// of each degree.
+const TWO_LISTS: &str = "fun g (x : int list, y : int list list) : int list = x";
+
+/// Each has weights for its argument, and none for its result.
+const TWO_FUNCTIONS: &str = "fun f (x : int list) : int = g(x) fun g (x : int list) : int = f(x)";
+
+/// A program, a degree, and its weights: ten to the degree of each tuple of the arguments.
+const WEIGHTS: [(&str, u8, &str); 6] = [
+    (TWO_LISTS, 1, "1 10 10 0 0 "),
+    (TWO_LISTS, 2, "1 10 10 100 100 100 100 0 0 0 "),
+    (
+        TWO_LISTS,
+        3,
+        "1 10 10 100 100 100 100 1000 1000 1000 1000 1000 1000 1000 1000 0 0 0 0 ",
+    ),
+    (
+        TWO_LISTS,
+        4,
+        "1 10 10 100 100 100 100 1000 1000 1000 1000 1000 1000 1000 1000 \
+         10000 10000 10000 10000 10000 10000 10000 10000 \
+         10000 10000 10000 10000 10000 10000 10000 10000 0 0 0 0 0 ",
+    ),
+    (TWO_FUNCTIONS, 1, "1 10 0 1 10 0 "),
+    (
+        TWO_FUNCTIONS,
+        4,
+        "1 10 100 1000 10000 0 1 10 100 1000 10000 0 ",
+    ),
+];
+
+#[test]
+fn weights_are_powers_of_ten(rt: HostRuntime) -> Result<(), Fail> {
+    for (source, d, want) in &WEIGHTS {
+        let found = weights_of(rt.alloc(), source, *d)?;
+        assert!(rt; found.as_str() == *want, "{found} of {source} at {d}");
+    }
     Ok(())
 }
