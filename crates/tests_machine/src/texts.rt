@@ -60,7 +60,7 @@ fun round_trip (x : int list, y : bool list) : (int * bool) list =
   let (a, b) = unzip(zip(x, y)) in zip(a, b)
 ";
 
-/// A sort by parts, each element of which costs three ticks.
+/// The code of the ends.
 pub const ENDS_CODE: &str = "fun head
 0 Load 0
 1 CaseList 6
@@ -128,6 +128,7 @@ fun sum_ends
 15 Return
 ";
 
+/// That of the sort by search trees.
 pub const TREES_CODE: &str = "fun add
 0 Load 1
 1 CaseTree 31
@@ -225,6 +226,7 @@ fun tree_sort
 5 Return
 ";
 
+/// That of lists of pairs and pairs of lists.
 pub const ZIPS_CODE: &str = "fun zip
 0 Load 0
 1 CaseList 16

@@ -1,15 +1,15 @@
 -- At degree 0 a context has one tuple.
-use Rattle.std.proofs.Common.{◌≡◌, ◌-◌, Bool, true, false, not, cond, List, [], ◌∷◌, ◌++◌, map, length, refl, sym, ap, ◌∙◌}
+use Rattle.std.proofs.Common.{◌≡◌, ◌-◌, ℕ, Bool, true, false, not, cond, List, [], ◌∷◌, ◌++◌, map, length, refl, sym, ap, ◌∙◌, arith}
 use Rattle.std.proofs.lemmas.List.{map-append}
 use Rattle.std.specs.List.{position_or_len}
 use Rattle.raml_syntax.specs.Tree.{Type'}
 use Rattle.base_poly.specs.Plain.{Plain, degrees, alike}
 use Rattle.base_poly.specs.Indices.{zero_of, index_list}
 use Rattle.base_poly.specs.Total.{alike_self}
-use Rattle.base_poly.proofs.Least.{one_listed}
+use Rattle.base_poly.proofs.Least.{one_listed, one_long}
 use Rattle.base_poly.proofs.Longer.{some_zeros}
 use Rattle.index_shift.specs.Contexts.{marked_items, other_items}
-use Rattle.tuple_ranks.specs.Spots.{spot, half_spots, joined_spots, all_counts}
+use Rattle.tuple_ranks.specs.Spots.{spot, half_spots, joined_spots, all_counts, IsSmall}
 
 stands_first : (As : List Type') (t : List Plain) → t ≡ map zero_of As → spot As 0 t ≡ 0
 stands_first As t e = (λ i. position_or_len (alike (e i)) (one_listed As i)) ∙ ap (λ b. cond (not b) 1 0) (alike_self (map zero_of As))
@@ -46,3 +46,6 @@ least_joined As Bs =
 
 pub least_counts : (As : List Type') → 1 ∷ [] ≡ all_counts As 0
 least_counts As = ap (λ l. length l ∷ []) (sym (one_listed As))
+
+pub least_small : (As : List Type') (d : ℕ) → d ≡ 0 → IsSmall As d
+least_small As d e = let one = one_long As d e in omega (arith, one)

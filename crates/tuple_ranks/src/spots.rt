@@ -96,6 +96,7 @@ pub fn cut_spots(
     ensures others { IfOk result (λ cut. cut.others.items ≡ all_counts (other_items marks.now (context_of types.now)) d) }
     ensures bound { IfOk result (λ cut. cut.bound.items ≡ all_counts (ty_of bound.now ∷ []) d) }
     ensures rest { IfOk result (λ cut. cut.rest.items ≡ all_counts (other_items marks.now (context_of types.now) ++ ty_of bound.now ∷ []) d) }
+    ensures few { OnOk result (IsSmall (context_of types.now) d × IsSmall (other_items marks.now (context_of types.now) ++ ty_of bound.now ∷ []) d) }
     ensures many { IsErrOf result IndexFault.TooMany → IsLarge (context_of types.now) d
         ⊎ IsLarge (other_items marks.now (context_of types.now) ++ ty_of bound.now ∷ []) d }
 {
@@ -316,6 +317,7 @@ impl<'s> Contexts<'s> {
         ensures bound { IfOk result (λ made. made.bound.ranks ≡ table_by (last.now ∷ []) d) }
         ensures bound_numbers { IfOk result (λ made. made.bound.numbers ≡ all_rows (last.now ∷ []) d) }
         ensures rest { IfOk result (λ made. made.rest ≡ table_by (half_items false marks.now 0 (map items_of sizes.now) ++ last.now ∷ []) d) }
+        ensures small { OnOk result (AreSmall (map items_of sizes.now) d) }
         ensures few { OnOk result (AreSmall (half_items true marks.now 0 (map items_of sizes.now)) d × AreSmall (half_items false marks.now 0 (map items_of sizes.now)) d
             × AreSmall (half_items false marks.now 0 (map items_of sizes.now) ++ last.now ∷ []) d) }
         ensures many { IsErrOf result IndexFault.TooMany → AreCutLarge marks.now (map items_of sizes.now) last.now d }

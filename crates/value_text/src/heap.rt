@@ -6,8 +6,8 @@ use crate::word::Cell;
 use std::alloc::{AllocError, Global};
 use std::marker::Model;
 
-/// Cells by their numbers, from 0. A cell names only cells before it, and none is ever changed or
-/// taken away.
+/// Cells by their numbers, from 0. A cell names only cells before it. None is ever changed, and only the
+/// last ones are taken away, where a text whose cells were added is refused.
 #[derive(Drop)]
 pub struct DataHeap {
     cells: Vec<Cell>,

@@ -1,4 +1,4 @@
-use Rattle.std.proofs.Common.{◌≡◌, ◌∙◌, Err, inr, true, false, ◌∷◌, [], ◌++◌, ap, length, map, sym, arith}
+use Rattle.std.proofs.Common.{◌≡◌, ◌∙◌, Err, inr, true, false, ◌∷◌, [], ◌++◌, ap, length, map, sym, subst, arith}
 use Rattle.std.proofs.lemmas.List.{length-map}
 use Rattle.raml_syntax.specs.Read.{ty_of}
 use Rattle.base_poly.specs.Read.{context_of}
@@ -7,10 +7,10 @@ use Rattle.index_shift.proofs.Shorter.{back_few}
 use Rattle.tuple_ranks.specs.Columns.{table_by, place}
 use Rattle.tuple_ranks.specs.Read.{items_of}
 use Rattle.tuple_ranks.specs.Slots.{picked, half_items, behind_at}
-use Rattle.tuple_ranks.specs.Spots.{half_spots, joined_spots, all_counts}
+use Rattle.tuple_ranks.specs.Spots.{half_spots, joined_spots, all_counts, IsSmall}
 use Rattle.tuple_ranks.proofs.Made.{of_fault}
 use Rattle.tuple_ranks.proofs.Behind.{joins_are}
-use Rattle.tuple_ranks.proofs.Least.{least_halves, least_joined, least_counts}
+use Rattle.tuple_ranks.proofs.Least.{least_halves, least_joined, least_counts, least_small}
 use Rattle.tuple_ranks.proofs.Picked.{halves_are}
 use Rattle.tuple_ranks.proofs.Rows.{half_sized, both_sized, rows_of, rows_listed, others_are, marked_are, counts_are}
 use Rattle.tuple_ranks.proofs.spots.cut_spots.Goals as goal
@@ -53,6 +53,23 @@ returns-then-d-eq0-clause-bound c =
 pub returns-then-d-eq0-clause-rest : goal.returns-then-d-eq0-clause-rest
 returns-then-d-eq0-clause-rest c =
     c.in_ok-least_cut.ensures.rest ∙ least_counts ((other_items c.args.marks.now (context_of c.args.types.now)) ++ ty_of c.args.bound.now ∷ []) ∙ ap (all_counts ((other_items c.args.marks.now (context_of c.args.types.now)) ++ ty_of c.args.bound.now ∷ [])) (sym c.if-d-eq0.true)
+
+pub returns-then-d-eq0-clause-few : goal.returns-then-d-eq0-clause-few
+returns-then-d-eq0-clause-few c =
+    let As = context_of c.args.types.now in (least_small As c.args.d c.if-d-eq0.true, least_small (other_items c.args.marks.now As ++ ty_of c.args.bound.now ∷ []) c.args.d c.if-d-eq0.true)
+
+pub returns-clause-few : goal.returns-clause-few
+returns-clause-few c =
+    let d = c.args.d in
+    let As = context_of c.args.types.now in
+    let A = ty_of c.args.bound.now in
+    let marks = c.args.marks.now in
+    let made = c.in_ok-contexts.ensures in
+    let sizes = ap (map items_of) c.deref.ensures.value ∙ c.in_ok-sizes.ensures.all in
+    let last = ap (λ ps. ps ∷ []) (c.deref-2.ensures.value ∙ c.in_ok-last.ensures.all) in
+    let Os = half_items false marks 0 As in
+    let both = both_sized Os (A ∷ []) d _ _ (sym (half_sized false marks As d _ sizes)) last in
+    (made.small As (sym sizes), subst (λ Bs. IsSmall (Bs ++ A ∷ []) d) (others_are marks As) (made.few.2 (Os ++ A ∷ []) both))
 
 pub returns-clause-halves : goal.returns-clause-halves
 returns-clause-halves c =
