@@ -1,6 +1,6 @@
 -- Another block has no fault exactly where it holds with its factor and nothing of it leaves its range.
 use Rattle.std.proofs.Common.{◌≡◌, refl, ap, sym, ◌∙◌, subst, inl, inr}
-use Rattle.std.specs.Prelude.{◌<◌, ◌↔◌, ℕ, List, map, length, None, Some}
+use Rattle.std.specs.Prelude.{◌<◌, ◌↔◌, ℕ, List, map, length, Option, None, Some}
 use Rattle.std.specs.Option.{option_map}
 use Rattle.std.proofs.lemmas.Option.{none-some}
 use Rattle.cost_free.specs.declared.task.Meter.{Meter}
@@ -11,6 +11,8 @@ use Rattle.annot_types.specs.Certificate.{Sig, Hint, Body, Solved, Refuted, Call
 use Rattle.annot_types.specs.Rules.{With}
 use Rattle.annot_types.specs.Holds.{raised, FunctionsHold}
 use Rattle.annot_types.specs.Held.{before, scale_for}
+use Rattle.cert_check.specs.Fault.{Fault}
+use Rattle.cert_check.specs.Read.{OfFault}
 use Rattle.cert_check.specs.Finds.{at_block, job, job_conditions}
 use Rattle.cert_check.specs.Laws.{IsProper}
 use Rattle.cert_check.proofs.Alone.{totals_fit, all_fit_none}
@@ -100,3 +102,10 @@ others_exactly P proper c t positive block meter kind solved = by block.task.gro
   by group (k.With other) e (Solved sigs hints) s = (is_other P proper c t positive group other sigs hints, finds_none P proper c t positive group other sigs hints)
   by group (k.With other) e (Refuted farkas) s = absurd s
   by group (k.With other) e (Calls fun) s = absurd s
+
+-- so one that has a fault is not so
+pub other_refuses : (P : Program) → IsProper P → (c : Certificate) (t : ℕ) → 0 < t → (block : Block) (meter : Meter) → block.task.kind ≡ k.With meter → IsSolved block.body →
+    (o : Option Fault) → OfFault o (OtherFinds P c t block) → OfFault o (λ _. IsOther P c t block → ⊥)
+other_refuses P proper c t positive b meter kind solved None h = tt
+other_refuses P proper c t positive b meter kind solved (Some fault) h =
+    λ other. none-some fault (one_other_fault P c t b None (Some fault) ((others_exactly P proper c t positive b meter kind solved).1 other) h)

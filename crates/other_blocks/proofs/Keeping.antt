@@ -6,23 +6,23 @@ use Rattle.cost_free.specs.declared.task.Meter.{Meter}
 use Rattle.cost_free.specs.Task as k
 use Rattle.share_normal.specs.Program.{Kept}
 use Rattle.annot_types.specs.Certificate.{IsSolved, Block, Certificate}
-use Rattle.annot_types.specs.Held.{scale_of, scale_for, Held}
+use Rattle.annot_types.specs.Held.{scale_of, scale_for}
 use Rattle.rules_plan.specs.Read.{program_in}
-use Rattle.cert_check.specs.Laws.{IsProper}
+use Rattle.cert_check.specs.Laws.{IsProper, IsFaultless}
 use Rattle.other_blocks.specs.Over.{IsOver}
-use Rattle.other_blocks.specs.Other.{place, OtherFinds}
+use Rattle.other_blocks.specs.Other.{OtherFinds}
 use Rattle.other_blocks.proofs.Exactly.{others_exactly}
 
-abs_positive : (z : ℤ) → pos 0 <ℤ z → 0 < unsigned_abs z
+pub abs_positive : (z : ℤ) → pos 0 <ℤ z → 0 < unsigned_abs z
 abs_positive z h = grind (arith, ints, h)
 
-module _ (kept : Kept) (c : Certificate) (held : Held (program_in kept) c) (times : ℤ) (above : pos 0 <ℤ times) (block : Block) (meter : Meter) (kind : block.task.kind ≡ k.With meter)
+module _ (kept : Kept) (c : Certificate) (faultless : IsFaultless (program_in kept) c) (times : ℤ) (above : pos 0 <ℤ times) (block : Block) (meter : Meter) (kind : block.task.kind ≡ k.With meter)
     (scale : ℤ) (is : scale ≡ pos (scale_for c block.task.kind * unsigned_abs times)) where
   scale_is : scale ≡ pos (unsigned_abs (scale_of c meter) * unsigned_abs times)
   scale_is = is ∙ ap (λ k. pos (scale_for c k * unsigned_abs times)) kind
 
   pub scale_positive : pos 0 <ℤ scale
-  scale_positive = subst (λ z. pos 0 <ℤ z) (sym scale_is) (product (unsigned_abs (scale_of c meter)) (unsigned_abs times) (abs_positive (scale_of c meter) (held.scales meter)) (abs_positive times above)) where
+  scale_positive = subst (λ z. pos 0 <ℤ z) (sym scale_is) (product (unsigned_abs (scale_of c meter)) (unsigned_abs times) (abs_positive (scale_of c meter) (faultless.held.scales meter)) (abs_positive times above)) where
     product : (a b : ℕ) → 0 < a → 0 < b → pos 0 <ℤ pos (a * b)
     product a b p q = grind (arith, ints)
 
@@ -32,10 +32,9 @@ module _ (kept : Kept) (c : Certificate) (held : Held (program_in kept) c) (time
     meter = meter;
     kind = kind;
     certificate = c;
-    held = held;
+    faultless = faultless;
     degree = refl;
-    place = place (program_in kept) c (unsigned_abs times) block;
     t = unsigned_abs times;
     scale = ap unsigned_abs scale_is;
-    holds = ((others_exactly (program_in kept) proper c (unsigned_abs times) (abs_positive times above) block meter kind solved).0 finds).holds;
+    other = (others_exactly (program_in kept) proper c (unsigned_abs times) (abs_positive times above) block meter kind solved).0 finds;
   }

@@ -13,7 +13,7 @@ use Rattle.annot_types.specs.Rules.{With}
 use Rattle.annot_types.specs.Read.{body_of, block_of, blocks_of}
 use Rattle.annot_types.specs.declared.block.Block.{Block as Given}
 use Rattle.annot_types.specs.Holds.{raised, blocks_before, budget_of}
-use Rattle.annot_types.specs.Held.{before}
+use Rattle.annot_types.specs.Held.{before, IfSolved}
 use Rattle.rules_spec.specs.Tasks as t
 use Rattle.rules_spec.specs.Told.{bodies_of}
 use Rattle.rules_spec.proofs.Refuted.{blocks_raised}
@@ -24,6 +24,7 @@ use Rattle.rules_plan.specs.Read.{GroupWithin, ArePlansOf}
 use Rattle.rules_plan.specs.declared.body.GroupPlans.{GroupPlans}
 use Rattle.cert_check.specs.Fault.{Fault, Shape, TooLarge}
 use Rattle.cert_check.specs.Finds.{AreWithin, job, ShapeFinds, BodyFinds}
+use Rattle.cert_check.specs.Laws.{IsSmall}
 use Rattle.other_blocks.specs.Raised.{raised_for}
 use Rattle.other_blocks.specs.Other.{place, place_among, IsTried, IsOwn, OwnIsTried, raised_certificate, raised_before, ThereFinds, OtherFinds}
 
@@ -77,6 +78,12 @@ module _ (P : Program) (c : Certificate) (times : ℕ) (block : Block) where
 item_there : (xs : List Given) (k : ℕ) (d : Given) → k < length xs → slice_get (blocks_of xs) k ≡ Some (block_of (slice_index_or xs k d))
 item_there xs k d low = slice_get-map block_of xs k ∙ ap (option_map block_of) (slice_get-get_or xs k d low)
 
+-- where a certificate is within the limits, the walks of its solved blocks are
+pub solved_within : (P : Program) (c : Certificate) (xs : List Given) → c.blocks ≡ blocks_of xs → IsSmall P c → (k : ℕ) (x : Given) → k < length xs → x ≡ slice_index_or xs k x →
+    IfSolved (body_of x.body) (AreWithin P c (block_of x).task)
+solved_within P c xs are small k x low is =
+    small.within k (block_of x) (ap (λ bs. slice_get bs k) are ∙ item_there xs k x low ∙ ap (λ y. Some (block_of y)) (sym is))
+
 -- the plans of a task's group are small enough
 pub planned_within : (P : Program) (c : Certificate) (task : Task) (made : GroupPlans) → ArePlansOf P task.group (budget_of c.degree task.kind) made → AreWithin P c task
 planned_within P c task made h = subst (λ group. GroupWithin P group (budget_of c.degree task.kind)) h.group_is (subst (GroupWithin P made.group) h.budget_is h.are.within)
@@ -114,11 +121,9 @@ module _ (c : Certificate) (block : Block) (xs : List Given) (are : c.blocks ≡
     tried = λ own there. subst (λ (b : Block). IsTried b.body) (same_Some (block_of d) own (sym there_is ∙ there)) h;
   }
 
-  -- a block that waits is the fault
+  -- a block that waits was not, and it is the fault
+  pub not_tried : (P : Program) (t : ℕ) → (IsTried (body_of d.body) → ⊥) → OwnIsTried P c t block → ⊥
+  not_tried P t waits tried = waits (tried (block_of d) (ap (λ o. slice_get c.blocks (unwrap_or o 0)) first ∙ there_is))
+
   pub waiting_is : (P : Program) (t : ℕ) → (IsTried (body_of d.body) → ⊥) → OtherFinds P c t block (Some (Shape n))
-  waiting_is P t waits =
-      let here : place P c t block ≡ n = ap (λ o. unwrap_or o 0) first in
-      inr (
-        (λ tried. waits (tried (block_of d) (ap (slice_get c.blocks) here ∙ there_is))),
-        ap (λ m. Some (Shape m)) (sym here),
-      )
+  waiting_is P t waits = inr (not_tried P t waits, ap (λ o. Some (Shape (unwrap_or o 0))) (sym first))

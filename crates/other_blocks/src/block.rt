@@ -24,7 +24,7 @@ use std::alloc::{AllocError, Global};
 use std::marker::Model;
 
 /// A solved block of a task with cost, which holds in the place of a certificate's block of that task,
-/// over a multiple of the certificate's scale; with its program.
+/// within the limits, over a multiple of the certificate's scale; with its program.
 #[derive(Drop)]
 pub struct OtherBlock<'p, 'a> {
     program: &'p NormProgram<'a>,
@@ -103,7 +103,8 @@ fn is_among(fun: FunId, functions: &[FunId]) -> bool
 impl<'p, 'a> OtherBlock<'p, 'a> {
     /// The block.
     pub fn block(&self) -> &Block
-        ensures { block_of result.now ≡ self.now.block }
+        ensures block { block_of result.now ≡ self.now.block }
+        ensures over { IsOver self.now }
     {
         &self.block
     }
@@ -117,8 +118,6 @@ impl<'p, 'a> OtherBlock<'p, 'a> {
 
     /// The argument annotation that the block has for a function of its group, over the block's scale. It
     /// bounds what the function costs.
-    ///
-    /// Where its parameters have more than 2000 tuples of indices, that memory is wanting is told too.
     pub fn bound(&self, alloc: Global, fun: FunId) -> Result<Poly, AllocError>
         requires { IsTrue (is_among fun.0 (members (program_in self.now.program) self.now.block.task.group)) }
         ensures told { IfOk result (λ poly. Some (told_of poly)

@@ -21,6 +21,7 @@ ghost use Rattle.cert_check.specs.Finds.{AreWithin};
 ghost use Rattle.cert_check.specs.Read.{fault_of, OfFault};
 ghost use Rattle.other_blocks.specs.Raised.{raised_for};
 ghost use Rattle.other_blocks.specs.Other.{place_among, IsOwn, ThereFinds, RaisedFinds, OtherFinds};
+ghost use Rattle.other_blocks.specs.Laws.{IsOther};
 
 use crate::block::{OtherBlock, keep};
 use crate::place::{is_tried, place_of};
@@ -87,6 +88,8 @@ fn check_over(
     ensures tells { Tells result (ThereFinds (program_in program.now) (certificate_of certificate.now) times (a.block_of block.now)) }
     ensures once { times ≡ 1 → earlier.new ≡ earlier.old }
 {
+    let _source = program.source();
+    let _groups = program.groups();
     raise_for(earlier, block.task.kind, times);
     let at = At {
         alloc,
@@ -184,6 +187,7 @@ pub fn other_by<'p, 'a>(
     requires plans { ArePlansOf (program_in checked.now.program) block.task.group (budget_of checked.now.certificate.degree (kind_of block.task.kind)) plans.now }
     requires remembers { Remembers (program_in checked.now.program) checked.now.certificate.degree (before checked.now.certificate place) earlier.old }
     ensures fits { OnOk result (OtherFinds (program_in checked.now.program) checked.now.certificate (unsigned_abs times) (a.block_of block) None) }
+    ensures valid { OnOk result (IsOther (program_in checked.now.program) checked.now.certificate (unsigned_abs times) (a.block_of block)) }
     ensures kept { IfOk result (λ other. other ≡ record {
       program = checked.now.program;
       degree = checked.now.certificate.degree;
@@ -192,10 +196,13 @@ pub fn other_by<'p, 'a>(
     }) }
     ensures fault { IfErr result (λ fault. OfFault (fault_of fault)
         (OtherFinds (program_in checked.now.program) checked.now.certificate (unsigned_abs times) (a.block_of block))) }
+    ensures invalid { IfErr result (λ fault. OfFault (fault_of fault)
+        (λ _. IsOther (program_in checked.now.program) checked.now.certificate (unsigned_abs times) (a.block_of block) → ⊥)) }
     ensures once { times ≡ pos 1 → earlier.new ≡ earlier.old }
 {
     let program = checked.program();
     let certificate = checked.certificate();
+    let _source = program.source();
     let _functions = program.functions();
     let _groups = program.groups();
     let times = times.unsigned_abs();
@@ -248,6 +255,7 @@ fn other_there<'p, 'a>(
     requires cost { (meter : Counted) × (kind_of block.task.kind ≡ With meter) }
     requires own { IsOwn checked.now.certificate (task_of block.task) place }
     ensures fits { OnOk result (OtherFinds (program_in checked.now.program) checked.now.certificate (unsigned_abs times) (a.block_of block) None) }
+    ensures valid { OnOk result (IsOther (program_in checked.now.program) checked.now.certificate (unsigned_abs times) (a.block_of block)) }
     ensures kept { IfOk result (λ other. other ≡ record {
       program = checked.now.program;
       degree = checked.now.certificate.degree;
@@ -256,6 +264,8 @@ fn other_there<'p, 'a>(
     }) }
     ensures fault { IfErr result (λ fault. OfFault (fault_of fault)
         (OtherFinds (program_in checked.now.program) checked.now.certificate (unsigned_abs times) (a.block_of block))) }
+    ensures invalid { IfErr result (λ fault. OfFault (fault_of fault)
+        (λ _. IsOther (program_in checked.now.program) checked.now.certificate (unsigned_abs times) (a.block_of block) → ⊥)) }
 {
     let program = checked.program();
     let certificate = checked.certificate();
@@ -281,6 +291,7 @@ pub fn other<'p, 'a>(
     requires cost { (meter : Counted) × (kind_of block.task.kind ≡ With meter) }
     requires there { IsSome (place_among (task_of block.task) checked.now.certificate.blocks) }
     ensures fits { OnOk result (OtherFinds (program_in checked.now.program) checked.now.certificate (unsigned_abs times) (a.block_of block) None) }
+    ensures valid { OnOk result (IsOther (program_in checked.now.program) checked.now.certificate (unsigned_abs times) (a.block_of block)) }
     ensures kept { IfOk result (λ other. other ≡ record {
       program = checked.now.program;
       degree = checked.now.certificate.degree;
@@ -289,6 +300,8 @@ pub fn other<'p, 'a>(
     }) }
     ensures fault { IfErr result (λ fault. OfFault (fault_of fault)
         (OtherFinds (program_in checked.now.program) checked.now.certificate (unsigned_abs times) (a.block_of block))) }
+    ensures invalid { IfErr result (λ fault. OfFault (fault_of fault)
+        (λ _. IsOther (program_in checked.now.program) checked.now.certificate (unsigned_abs times) (a.block_of block) → ⊥)) }
 {
     let certificate = checked.certificate();
     let Some(place) = place_of(&block.task, &certificate.blocks) else {

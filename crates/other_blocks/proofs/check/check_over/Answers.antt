@@ -8,6 +8,7 @@ use Rattle.rules_walk.specs.Filled.{uses_of}
 use Rattle.rules_plan.specs.Read.{program_in, body_of}
 use Rattle.cert_check.specs.Finds.{ShapeFinds}
 use Rattle.cert_check.specs.Read.{fault_of}
+use Rattle.cert_check.proofs.Few.{kept_bodies_few}
 use Rattle.cert_check.proofs.Telling.{of_fault}
 use Rattle.other_blocks.specs.Other.{raised_certificate, raised_before, ThereFinds}
 use Rattle.other_blocks.proofs.Over.{planned_within, same_degree, count_here, known_here, bodies_here, there_found}
@@ -59,3 +60,18 @@ returns-clause-tells c =
       knows = known_here P held t block c.args.place c.requires.place c.raise_for.new.earlier
           (c.raise_for.ensures.knows P held.degree (before held c.args.place) c.requires.remembers);
     }) (bodies_here P held t block c.args.place c.requires.place (map body_of c.deref.result.now) bodies))
+
+pub check_planned-requires-clause-within : goal.check_planned-requires-clause-within
+check_planned-requires-clause-within c =
+    planned_within (program_in c.args.program.now) (a.certificate_of c.args.certificate.now) (a.block_of c.args.block.now).task c.args.plans.now c.requires.plans
+
+pub check_planned-requires-clause-few : goal.check_planned-requires-clause-few
+check_planned-requires-clause-few c =
+    let P = program_in c.args.program.now in
+    let held = a.certificate_of c.args.certificate.now in
+    let block = a.block_of c.args.block.now in
+    kept_bodies_few c.args.program.now c.source-source.ensures.small.functions c.groups-groups.ensures.grouping block.task.group (budget_of held.degree block.task.kind)
+    (before held c.args.place) c.deref.result.now
+    (ap (map body_of) c.deref.ensures.value
+    ∙ c.in-Ok.ensures P block.task.group (budget_of held.degree block.task.kind) (before held c.args.place) c.requires.plans
+    (λ f d. (λ i. uses_of (c.raise_for.ensures.uses i) d f) ∙ c.requires.remembers.usable f d))

@@ -19,7 +19,7 @@ use Rattle.rules_soundness_laws.specs.Bounds.{Bounds}
 use Rattle.rules_plan.specs.Read.{program_in}
 use Rattle.cert_check.specs.Bound.{told_of}
 use Rattle.other_blocks.specs.Over.{Over}
-use Rattle.other_blocks.proofs.Bounding.{not_missing, not_unsigned, params_annotated, told_is, bounds_over}
+use Rattle.other_blocks.proofs.Bounding.{not_missing, not_unsigned, params_annotated, params_few, told_is, bounds_over}
 use Rattle.other_blocks.proofs.block.OtherBlock.bound.Goals as goal
 
 pub unreachable-requires : goal.unreachable-requires
@@ -47,6 +47,15 @@ poly_of-requires-clause-within c =
     let signed : sig_in (program_in o.program) o.block c.args.fun.0 ≡ Some s =
     sym (c.in-Some-sig_of.ensures ∙ (λ i. sig_among (c.members-functions.ensures i) (c.sigs_of.ensures i) c.args.fun.0)) in
     params_annotated o c.self.invariant.1 c.args.fun.0 s (parameters_of c.in-Some.params.now) signed c.in-Some.ensures
+
+pub poly_of-requires-clause-few : goal.poly_of-requires-clause-few
+poly_of-requires-clause-few c =
+    let inside = c.self.inside in
+    let o : Over = record { program = inside.program.now; degree = inside.degree; scale = unsigned_abs inside.scale; block = a.block_of inside.block } in
+    let s = a.sig_of c.in-Some-sig_of.sig.now in
+    let signed : sig_in (program_in o.program) o.block c.args.fun.0 ≡ Some s =
+    sym (c.in-Some-sig_of.ensures ∙ (λ i. sig_among (c.members-functions.ensures i) (c.sigs_of.ensures i) c.args.fun.0)) in
+    params_few o c.self.invariant.1 c.args.fun.0 s (parameters_of c.in-Some.params.now) signed c.in-Some.ensures
 
 pub returns-clause-bounds : goal.returns-clause-bounds
 returns-clause-bounds c =
