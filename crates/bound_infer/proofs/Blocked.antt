@@ -78,9 +78,9 @@ module _ (P : Program) (cert : Certificate) where
 
   -- Where all are clear the certificate is verified.
   module _ (clear : ClearBefore P cert (length cert.blocks)) where
-    pub is_verified : FirstFault P cert None → IsVerified P cert
-    is_verified passes = record {
-      passes = passes;
+    pub is_verified : IsFaultless P cert → IsVerified P cert
+    is_verified faultless = record {
+      faultless = faultless;
       clear = λ place fault f. none_before (length cert.blocks) clear place fault (slice_get_within cert.blocks place f.block f.there) f;
     }
 

@@ -38,11 +38,9 @@ fn rescale(task: &Task, fault: RaiseFault) -> InferFault
         RaiseCause (task_of task.now) t st result }
 {
     match fault {
-        RaiseFault::Leaves { block } => match u32::try_from(block) {
-            Ok(block) => InferFault::Leaves(LeavesAt::Rescale { task: *task, block }),
-            // so many blocks have no room in memory
-            Err(_) => InferFault::NoMemory,
-        },
+        RaiseFault::Leaves { block } => {
+            InferFault::Leaves(LeavesAt::Rescale { task: *task, block })
+        }
         RaiseFault::NoMemory => InferFault::NoMemory,
     }
 }

@@ -145,6 +145,7 @@ fn course_certificate(
 
 // The text of a certificate, and a line feed.
 fn certificate_report(alloc: Global, certificate: &Certificate) -> Result<Report, Refusal>
+    requires complete { IsComplete (certificate_of certificate.now) }
     ensures { Gives (PrintsCertificate Promised (certificate_of certificate.now)) result }
 {
     match certificate_text(alloc, certificate) {
@@ -157,7 +158,8 @@ fn certificate_report(alloc: Global, certificate: &Certificate) -> Result<Report
 }
 
 fn certificate_text(alloc: Global, certificate: &Certificate) -> Result<Vec<u8>, AllocError>
-    ensures { IfOk result (λ text. text.items ≡ text_of (certificate_of certificate.now) ++ codes "\n") }
+    requires complete { IsComplete (certificate_of certificate.now) }
+    ensures { IfOk result (λ text. IsTextOf (certificate_of certificate.now) text.items) }
 {
     let mut bytes = write(alloc, certificate)?;
     bytes.push(b'\n')?;
