@@ -23,8 +23,8 @@ use share_normal::NormProgram;
 use simplex::Chooser;
 use std::alloc::Global;
 
-// The program is ordered.
-fn ordered(program: &NormProgram<'_>)
+/// The program is ordered.
+pub(crate) fn ordered(program: &NormProgram<'_>)
     ensures { IsOrdered (program_in program.now) }
 {
     normals_are_ordered();

@@ -15,10 +15,11 @@ ghost use Rattle.bound_infer.specs.Inferred.{SystemsAreSmall, VerifiesAgain};
 ghost use Rattle.bound_infer.specs.Told.{claim_of, IsWritten};
 
 use crate::claims::{block_for, told};
+use crate::inference::ordered;
 use crate::line::Line;
 use annot_types::Certificate;
 use cert_check::Checked;
-use cert_check::laws::one_first_fault;
+use cert_check::laws::{faultless_exactly, one_first_fault};
 use cost_free::Meter;
 use infer_spec::laws::none_unrefuted;
 use raml_syntax::FunId;
@@ -90,8 +91,10 @@ impl<'p, 'a> Verified<'p, 'a> {
         ensures refuted { AllRefuted (program_in self.now.program) self.now.certificate }
         ensures again { VerifiesAgain (program_in self.now.program) self.now.certificate }
     {
-        none_unrefuted();
+        ordered(self.checked.program());
+        faultless_exactly();
         one_first_fault();
+        none_unrefuted();
         self.checked.certificate()
     }
 
