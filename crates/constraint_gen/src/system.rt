@@ -17,7 +17,9 @@ ghost use Rattle.rules_spec.specs.Systems.{IsTask};
 ghost use Rattle.rules_walk.specs.Remembers.{Remembers};
 ghost use Rattle.rules_plan.specs.Read.{program_in, body_of, ArePlansIn, ArePlansOf};
 ghost use Rattle.rules_spec.specs.Told.{bodies_of};
+ghost use Rattle.rules_systems_laws.specs.Laws.{IsNumbered};
 ghost use Rattle.constraint_gen.specs.Cause.{IsWithin, IsMade, IsCause};
+ghost use Rattle.constraint_gen.specs.Solutions.{SolutionsHoldFor, WhatHoldsSolvesIt};
 
 use crate::counts::{all_asked, hints_within, sides_within};
 use crate::fault::{GenFault, What};
@@ -27,6 +29,7 @@ use crate::task::{budget_of, fill, members, sig_weights};
 use cost_free::Task;
 use linear_rows::System;
 use rules_plan::{Body, GroupPlans, PlanFault, next_plans};
+use rules_systems_laws::laws::{solutions_hold, solutions_weigh, what_holds_solves};
 use rules_walk::laws::walks_without_cost;
 use rules_walk::{Ask, Earlier};
 use share_normal::NormProgram;
@@ -35,6 +38,10 @@ use std::alloc::Global;
 /// The system of a task at degree `d` over the blocks before it, with prices times `scale`.
 ///
 /// First `TooLarge` is tried, of indices, of unknowns and of rows, and then `Leaves`.
+///
+/// Of the blocks before the task it is not asked that they hold. By the law `shaped_are_tasks` of `rules_systems_laws`
+/// it is one, and its target is numbered, where the program is ordered, each solved block has a signature for each
+/// function of its group, and the task is the next one of the schedule and waits for no function.
 pub fn rows(
     alloc: Global,
     program: &NormProgram<'_>,
@@ -52,7 +59,18 @@ pub fn rows(
     ensures fault { IfErr result (λ fault. (blocks : List c.Block) → Remembers (program_in program.now) d blocks earlier.now →
         IsTask (program_in program.now) d blocks (task_of task.now) (unsigned_abs scale) →
         IsCause (program_in program.now) d blocks (task_of task.now) (unsigned_abs scale) fault) }
+    ensures holds { IfOk result (λ made. (blocks : List c.Block) → Remembers (program_in program.now) d blocks earlier.now →
+        IsTask (program_in program.now) d blocks (task_of task.now) (unsigned_abs scale) →
+        IsNumbered (program_in program.now) d (kind_of task.now.kind) →
+        SolutionsHoldFor (program_in program.now) d blocks (task_of task.now) (unsigned_abs scale) made) }
+    ensures solves { IfOk result (λ made. (blocks : List c.Block) → Remembers (program_in program.now) d blocks earlier.now →
+        IsTask (program_in program.now) d blocks (task_of task.now) (unsigned_abs scale) →
+        WhatHoldsSolvesIt (program_in program.now) d blocks (task_of task.now) (unsigned_abs scale) made) }
 {
+    // the system of a task is solved by what holds, and by nothing else
+    solutions_hold();
+    solutions_weigh();
+    what_holds_solves();
     let plans = plans(alloc, program, d, None, task)?;
     let bodies = plans.over(alloc, earlier)?;
     rows_by(

@@ -1,4 +1,3 @@
-mod Numbered
 mod Tried
 mod Systems
 pub mod Certified
