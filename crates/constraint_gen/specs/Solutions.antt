@@ -36,8 +36,8 @@ module _ (P : Program) (d : ℕ) (earlier : List Block) (task : Task) (scale : �
 
 -- The numbers are one for each unknown of the system of the task, over blocks that the tables remember.
 pub record HasOneEach (P : Program) (d : ℕ) (t : Tables) (task : Task) (numbers : List ℤ) : Type 0 where
-  pub blocks : List Block
+  pub before : List Block
   pub scale : ℕ
-  pub remembers : Remembers P d blocks t
-  pub is_task : IsTask P d blocks task scale
-  pub one_each : length numbers ≡ (system P d blocks task scale).unknowns
+  pub remembers : Remembers P d before t
+  pub is_task : IsTask P d before task scale
+  pub one_each : length numbers ≡ (system P d before task scale).unknowns

@@ -6,7 +6,7 @@ ghost use Rattle.rules_spec.specs.Solving.{rows_of};
 ghost use Rattle.rules_spec.specs.Tasks as t;
 ghost use Rattle.rules_spec.specs.Tasks.{sides_count, unknowns, given_conditions};
 ghost use Rattle.rules_walk.specs.Asks.{asks_of};
-ghost use Rattle.constraint_gen.specs.Given.{all_counts};
+ghost use Rattle.constraint_gen.specs.Given.{all_counts, unknowns_of};
 ghost use Rattle.constraint_gen.specs.Made.{HasRows, RowCause, PlanCause, IsProper, JobMade, JobCause};
 ghost use Rattle.constraint_gen.specs.Weights.{weights_of};
 ghost use Rattle.constraint_gen.specs.Walked.{job_in};
@@ -73,15 +73,7 @@ pub fn rows(
     what_holds_solves();
     let plans = plans(alloc, program, d, None, task)?;
     let bodies = plans.over(alloc, earlier)?;
-    rows_by(
-        alloc,
-        program,
-        d,
-        earlier,
-        task,
-        scale.unsigned_abs(),
-        &bodies,
-    )
+    rows_by(alloc, program, d, earlier, task, scale, &bodies)
 }
 
 /// The plans of a task's group, where `last` were made last. `TooLarge` where a context or a type of its
@@ -114,27 +106,26 @@ pub fn rows_by(
     d: u8,
     earlier: &Earlier,
     task: &Task,
-    scale: u128,
+    scale: i128,
     plans: &[Body<'_>],
 ) -> Result<System, GenFault>
     requires budget { budget_of d (kind_of task.now.kind) ≤ 4 }
     requires indices { IsWithin (program_in program.now) d (task_of task.now) }
+    requires natural { pos 0 ≤ℤ scale }
     ensures made { IfOk result (λ made. (blocks : List c.Block) → Remembers (program_in program.now) d blocks earlier.now →
         map body_of plans.now ≡ bodies_of (program_in program.now) d blocks (task_of task.now) →
-        IsTask (program_in program.now) d blocks (task_of task.now) scale →
-        IsMade (program_in program.now) d blocks (task_of task.now) scale made) }
+        IsTask (program_in program.now) d blocks (task_of task.now) (unsigned_abs scale) →
+        IsMade (program_in program.now) d blocks (task_of task.now) (unsigned_abs scale) made) }
+    ensures unknowns { IfOk result (λ made. made.unknowns ≡ unknowns_of (map body_of plans.now)) }
     ensures fault { IfErr result (λ fault. (blocks : List c.Block) → Remembers (program_in program.now) d blocks earlier.now →
         map body_of plans.now ≡ bodies_of (program_in program.now) d blocks (task_of task.now) →
-        IsTask (program_in program.now) d blocks (task_of task.now) scale →
-        IsCause (program_in program.now) d blocks (task_of task.now) scale fault) }
+        IsTask (program_in program.now) d blocks (task_of task.now) (unsigned_abs scale) →
+        IsCause (program_in program.now) d blocks (task_of task.now) (unsigned_abs scale) fault) }
 {
-    // scales are numbers of 127 bits
-    if scale > i128::MAX as u128 {
-        return Err(GenFault::NoMemory);
-    }
     // a walk that pays no prices reads no signature that pays
     walks_without_cost();
-    of_plans(alloc, program, d, earlier, task, scale, plans)
+    let prices = scale.unsigned_abs();
+    of_plans(alloc, program, d, earlier, task, prices, plans)
 }
 
 // The system, where these are the bodies.
@@ -152,6 +143,7 @@ fn of_plans(
         JobMade (job_in (program_in program.now) d earlier.now (map body_of planned.now) (task_of task.now) scale) (weights_of program.now d task.now) made) }
     ensures fault { IfErr result (λ fault. IsProper (job_in (program_in program.now) d earlier.now (map body_of planned.now) (task_of task.now) scale) (weights_of program.now d task.now) →
         JobCause (job_in (program_in program.now) d earlier.now (map body_of planned.now) (task_of task.now) scale) fault) }
+    ensures unknowns { IfOk result (λ made. made.unknowns ≡ unknowns_of (map body_of planned.now)) }
 {
     // each function has an unknown at least
     if planned.len() > 2000 {
@@ -196,6 +188,7 @@ fn of_bodies(
         HasRows count (rows_of count (given_conditions forms unknown (job_in (program_in program.now) d earlier.now (map body_of planned.now) (task_of task.now) scale))) (weights_of program.now d task.now) made) }
     ensures fault { IfErr result (λ fault. IsProper (job_in (program_in program.now) d earlier.now (map body_of planned.now) (task_of task.now) scale) (weights_of program.now d task.now) →
         RowCause (rows_of count (given_conditions forms unknown (job_in (program_in program.now) d earlier.now (map body_of planned.now) (task_of task.now) scale))) fault) }
+    ensures unknowns { IfOk result (λ made. made.unknowns ≡ count) }
 {
     let rows = heard(
         alloc, program, d, earlier, task, scale, planned, asks, count,
