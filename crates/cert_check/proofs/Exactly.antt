@@ -6,8 +6,11 @@ use Rattle.cost_free.specs.Task.{Task}
 use Rattle.annot_types.specs.Program.{Program}
 use Rattle.annot_types.specs.Certificate.{Body, Solved, Refuted, Calls, Block, Certificate}
 use Rattle.annot_types.specs.Held.{IfSolved, before}
+use Rattle.cert_check.specs.Fault.{Fault}
 use Rattle.cert_check.specs.Finds.{GoesOn, AreWithin, job, job_conditions, BodyFinds, BlockFinds, EndFinds, FirstFault}
 use Rattle.cert_check.specs.Laws.{IsProper, NoneLeaves, IsFaultless, FaultlessExactly}
+use Rattle.cert_check.specs.Read.{OfFault}
+use Rattle.cert_check.proofs.OneFault.{one_first_fault}
 use Rattle.cert_check.proofs.Faultless.{passed, goes_on, none_at, blocks_pass, no_fault_is_held}
 use Rattle.cert_check.proofs.Alone.{totals_fit, head_fits, blocks_find_none}
 
@@ -59,3 +62,8 @@ faultless_exactly P proper c = (
   λ x. is_faultless P c x proper,
   λ h. inl (head_fits P proper c h.held h.small, blocks_find_none P proper c h.held h.small h.totals [] c.blocks refl),
 )
+
+-- so one that has a fault is not so
+pub fault_refuses : (P : Program) → IsProper P → (c : Certificate) (o : Option Fault) → OfFault o (FirstFault P c) → OfFault o (λ _. IsFaultless P c → ⊥)
+fault_refuses P proper c None h = tt
+fault_refuses P proper c (Some fault) h = λ faultless. none-some fault (one_first_fault P c None (Some fault) ((faultless_exactly P proper c).1 faultless) h)

@@ -51,8 +51,14 @@ module _ (kept : Kept) (count : length kept.results ≡ length kept.functions) (
     pub next_there : next_in (plan_in course) course.done ≡ next_after (program_in kept) c blocks
     next_there = λ i. next_in (plan_is i) (done_is i)
 
+    refused_after : IsRefused 2000 (plan_in course) course.done → IsRefused 2000 (schedule (program_in kept) c) (map outcome blocks)
+    refused_after r = subst (λ (x : Plan × List Outcome). IsRefused 2000 x.0 x.1) (λ i. (plan_is i, done_is i)) r
+
     pub refused_there : IsRefused 2000 (plan_in course) course.done → GoesOn (program_in kept) c blocks → ⊥
-    refused_there r g = g (subst (λ (x : Plan × List Outcome). IsRefused 2000 x.0 x.1) (λ i. (plan_is i, done_is i)) r)
+    refused_there r g = g (refused_after r)
+
+    pub refused_somewhere : IsRefused 2000 (plan_in course) course.done → (done : List Outcome) × IsRefused 2000 (schedule (program_in kept) c) done
+    refused_somewhere r = (map outcome blocks, refused_after r)
 
     pub goes_there : (IsRefused 2000 (plan_in course) course.done → ⊥) → GoesOn (program_in kept) c blocks
     goes_there g r = g (subst (λ (x : Plan × List Outcome). IsRefused 2000 x.0 x.1) (λ i. (sym plan_is i, sym done_is i)) r)

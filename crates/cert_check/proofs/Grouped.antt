@@ -31,7 +31,7 @@ reaching P f g (there {g = h} c r) l = by (slice_get P f) refl c where
   by (Some x) e c = slice_get_within P f x e
 
 -- functions, each named once
-pub AreFunctions : ℕ → List ℕ → Type 0
+unfoldable pub AreFunctions : ℕ → List ℕ → Type 0
 AreFunctions n [] = Unit {0}
 AreFunctions n (f ∷ fs) = (f < n) × (is_among f fs ≡ false) × AreFunctions n fs
 

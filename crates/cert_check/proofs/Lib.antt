@@ -24,3 +24,6 @@ pub mod Terms
 pub mod Signed
 pub mod Listing
 pub mod Staying
+pub mod Proper
+pub mod Few
+pub mod Small

@@ -1,5 +1,5 @@
 -- What the signatures with cost of a held certificate bound.
-use Rattle.std.proofs.Common.{◌≡◌, ℕ, suc, ◌*◌, nat_eq, Bool, true, false, cond, List, [], ◌∷◌, slice_get, Option, Some, None, refl, sym, ap, ◌∙◌, subst, arith}
+use Rattle.std.proofs.Common.{◌≡◌, ℕ, suc, ◌*◌, nat_eq, Bool, true, false, cond, List, [], ◌∷◌, length, ◌≤◌, slice_get, Option, Some, None, refl, sym, ap, ◌∙◌, subst, arith}
 use Rattle.std.specs.Prelude.{unsigned_abs, IfSome}
 use Rattle.std.specs.List.{All}
 use Rattle.std.specs.Option.{option_map}
@@ -7,6 +7,7 @@ use Rattle.std.proofs.lemmas.Bool.{eqb-true}
 use Rattle.raml_syntax.specs.Tree.{Function, Prog}
 use Rattle.raml_syntax.specs.Types.{Typed}
 use Rattle.raml_syntax.specs.Node.{AllNodes, NumberFits}
+use Rattle.base_poly.specs.Indices.{index_list}
 use Rattle.base_poly.specs.Poly as p
 use Rattle.base_poly.specs.Poly.{Term}
 use Rattle.base_poly.specs.declared.tuple.Poly.{Poly}
@@ -23,12 +24,16 @@ use Rattle.annot_types.specs.Signature.{sig_among, sig_in, or_else, cost_sig}
 use Rattle.annot_types.specs.Rules.{Mode, Setting}
 use Rattle.annot_types.specs.Holds.{mode_of, budget_of, setting, FunctionHolds, FunctionsHold}
 use Rattle.annot_types.specs.Held.{before, scale_of, scale_for, terms_of, IsOne, HoldsInPlace, IfSolved, Held}
+use Rattle.rules_plan.specs.Within.{FunctionWithin}
 use Rattle.rules_soundness_laws.specs.Bounds.{Bounds}
 use Rattle.rules_soundness_laws.specs.Laws.{HoldsAt, Signs, normal_of}
 use Rattle.rules_soundness_laws.proofs.Blocks.{of_meter}
 use Rattle.rules_soundness_laws.proofs.Source.{is_form, of_block}
 use Rattle.rules_soundness_laws.proofs.Weighed.{some_is}
+use Rattle.cert_check.specs.Finds.{AreWithin}
+use Rattle.cert_check.specs.Laws.{IsSmall}
 use Rattle.cert_check.specs.Bound.{Told, told_of, told_by, told}
+use Rattle.cert_check.proofs.Small.{member_within, params_within}
 
 -- the derivation of a function of a group
 pub function_of : (S : Setting) (m : Mode) (fs : List ℕ) (ss : List Sig) (hss : List (List Hint)) → FunctionsHold S m fs ss hss →
@@ -69,19 +74,20 @@ module _ (P : Program) (c : Certificate) (held : Held P c) (meter : Meter) (f : 
       by (Refuted farkas) e h = absurd (no_sig (members P block.task.group) block.body (ap sigs_of e) sig)
       by (Calls fun) e h = absurd (no_sig (members P block.task.group) block.body (ap sigs_of e) sig)
 
-  among : (bs : List Block) → ((place : ℕ) (block : Block) → slice_get bs place ≡ Some block → block.task.kind ≡ k.With meter → sig_in P block f ≡ Some s → Signs P c meter 1 f s) →
-      cost_sig P meter bs f ≡ Some s → Signs P c meter 1 f s
-  among [] signs e = absurd (cc)
-  among (b ∷ bs) signs e = by (is_for_meter meter b.task.kind) refl (sig_in P b f) refl e (among bs (λ place. signs (suc place)))
+  -- what follows from a block of the meter that has the signature follows from the signature with cost
+  among : (A : Type 0) (bs : List Block) → ((place : ℕ) (block : Block) → slice_get bs place ≡ Some block → block.task.kind ≡ k.With meter → sig_in P block f ≡ Some s → A) →
+      cost_sig P meter bs f ≡ Some s → A
+  among A [] all e = absurd (cc)
+  among A (b ∷ bs) all e = by (is_for_meter meter b.task.kind) refl (sig_in P b f) refl e (among A bs (λ place. all (suc place)))
     where
       by : (t : Bool) → is_for_meter meter b.task.kind ≡ t → (o : Option Sig) → sig_in P b f ≡ o → or_else (cond t o None) (cost_sig P meter bs f) ≡ Some s →
-          (cost_sig P meter bs f ≡ Some s → Signs P c meter 1 f s) → Signs P c meter 1 f s
-      by true q (Some u) r e rest = signs 0 b refl (of_meter meter b.task.kind q) (r ∙ e)
+          (cost_sig P meter bs f ≡ Some s → A) → A
+      by true q (Some u) r e rest = all 0 b refl (of_meter meter b.task.kind q) (r ∙ e)
       by true q None r e rest = rest e
       by false q o r e rest = rest e
 
   signs : cost_sig P meter c.blocks f ≡ Some s → Signs P c meter 1 f s
-  signs = among c.blocks at_place
+  signs = among (Signs P c meter 1 f s) c.blocks at_place
 
   -- it annotates the function's parameters
   annotates : (g : NormFun) → slice_get P.funs f ≡ Some g → cost_sig P meter c.blocks f ≡ Some s → Annotates (types g.params) c.degree s.args
@@ -99,6 +105,21 @@ module _ (P : Program) (c : Certificate) (held : Held P c) (meter : Meter) (f : 
       by : (o : Option NormFun) → slice_get P.funs f ≡ o → Some params ≡ option_map (λ (g : NormFun). g.params) o → Annotates (types params) c.degree s.args
       by None q i = absurd (cc)
       by (Some g) q i = subst (λ ps. Annotates (types ps) c.degree s.args) (sym (some_is params g.params i)) (annotates g q e)
+
+  -- where the block is within the limits, the parameters have few tuples
+  few_at : IsSmall P c → (place : ℕ) (block : Block) → slice_get c.blocks place ≡ Some block → block.task.kind ≡ k.With meter → sig_in P block f ≡ Some s →
+      FunctionWithin 2000 (slice_get P.funs f) c.degree
+  few_at small place block there kind sig = by block.body refl (small.within place block there)
+    where
+      by : (body : Body) → block.body ≡ body → IfSolved body (AreWithin P c block.task) → FunctionWithin 2000 (slice_get P.funs f) c.degree
+      by (Solved sigs hints) e h = subst (FunctionWithin 2000 (slice_get P.funs f)) (ap (budget_of c.degree) kind)
+          (member_within (members P block.task.group) (sigs_of block.body) (λ g. FunctionWithin 2000 (slice_get P.funs g) (budget_of c.degree block.task.kind)) h f s sig)
+      by (Refuted farkas) e h = absurd (no_sig (members P block.task.group) block.body (ap sigs_of e) sig)
+      by (Calls fun) e h = absurd (no_sig (members P block.task.group) block.body (ap sigs_of e) sig)
+
+  pub params_few : IsSmall P c → (params : Context) → Some params ≡ option_map (λ (g : NormFun). g.params) (slice_get P.funs f) → cost_sig P meter c.blocks f ≡ Some s →
+      length (index_list (types params) c.degree) ≤ 2000
+  params_few small params is e = params_within (slice_get P.funs f) c.degree params is (among (FunctionWithin 2000 (slice_get P.funs f) c.degree) c.blocks (few_at small) e)
 
 module _ (source : Prog) (typed : Typed source) (numbers : All (λ (g : Function). AllNodes NumberFits g.body) source) (groups : List (List ℕ)) (c : Certificate) where
   bounds_norm : Held (normal_of source groups) c → (meter : Meter) (f den : ℕ) (terms : List Term) →

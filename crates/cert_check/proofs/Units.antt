@@ -98,9 +98,9 @@ module _ (A : Type') (d budget number : ℕ) (q : Annotation) where
         past : number < length all → ⊥
         past l = grind (arith, nat_tests, e, l)
 
-  -- Whether a unit target is reached, where so many are unit targets, and the budget has so many tuples.
-  pub unit_told : (units count : ℕ) (missing : Option ℕ) → units ≡ length (index_list (A ∷ []) d) → number < units → count ≡ length all →
-      missing ≡ cond (nat_lt number count) (cond (nat_lt 0 (q number)) None (Some number)) (Some 0) → Tells missing
-  unit_told units count missing all_units among all_count e =
-      subst Tells (sym (e ∙ ap (λ n. cond (nat_lt number n) (cond (nat_lt 0 (q number)) None (Some number)) (Some 0)) all_count))
-      (tells (omega (arith, all_units, among)) (nat_lt number (length all)) (nat_lt 0 (q number)) refl refl)
+  -- whether a unit target is reached
+  pub unit_told : (is_unit is_position : Bool) (missing : Option ℕ) → is_unit ≡ nat_lt number (length (index_list (A ∷ []) d)) → is_unit ≡ true →
+      is_position ≡ nat_lt number (length all) → missing ≡ cond is_position (cond (nat_lt 0 (q number)) None (Some number)) (Some 0) → Tells missing
+  unit_told is_unit is_position missing unit holds position e =
+      subst Tells (sym e)
+      (tells (let less = sym unit ∙ holds in grind (arith, nat_tests, less)) is_position (nat_lt 0 (q number)) (sym position) refl)

@@ -1,7 +1,6 @@
 -- The walk through the blocks of a certificate.
 use Rattle.std.proofs.Common.{◌≡◌, refl, ap, sym, ◌∙◌, subst, inl, inr, arith, drop-cons}
-use Rattle.std.specs.Prelude.{ℕ, zero, suc, ◌+◌, ◌<◌, List, [], ◌∷◌, ◌++◌, take, drop, length, slice_index_or, slice_get, Option, None, Some}
-use Rattle.std.proofs.lemmas.Option.{get_or_from_slice_get, slice_get_within}
+use Rattle.std.specs.Prelude.{ℕ, zero, suc, ◌+◌, ◌<◌, List, [], ◌∷◌, ◌++◌, take, drop, length, slice_index_or, Option, None, Some}
 use Rattle.std.proofs.lemmas.List.{length-map}
 use Rattle.std.proofs.Math.Seq.{drop-nil}
 use Rattle.std.proofs.Math.ListN.{get_or-map}
@@ -9,9 +8,6 @@ use Rattle.annot_types.specs.Program.{Program}
 use Rattle.annot_types.specs.Certificate.{Block, Certificate}
 use Rattle.annot_types.specs.Read.{block_of, blocks_of}
 use Rattle.annot_types.specs.declared.block.Block.{Block as Given}
-use Rattle.normal_spec.specs.Norm.{NormFun, NormProg}
-use Rattle.normal_spec.specs.Uses.{Uses, IsNormal}
-use Rattle.std.specs.List.{All}
 use Rattle.cert_check.specs.Fault.{Fault}
 use Rattle.cert_check.specs.Finds.{BlockFinds, BlocksFind}
 use Rattle.cert_check.specs.Read.{OfFault}
@@ -55,7 +51,3 @@ module _ (P : Program) (c : Certificate) (xs : List Given) (k : ℕ) (d : Given)
   pub stopped : Reduces P c (blocks_of xs) k → (o : Option Fault) → OfFault o (BlockFinds P c (take k (blocks_of xs)) b) → OfFault o (BlocksFind P c [] (blocks_of xs))
   stopped r None h = tt
   stopped r (Some fault) h = r (Some fault) (subst (λ l. BlocksFind P c (take k (blocks_of xs)) l (Some fault)) (sym rest_is) (inr (fault, h, refl)))
-
--- all functions of a normal program use their parameters
-pub all_use : (N : NormProg) → All (IsNormal N) N → (f : ℕ) (g : NormFun) → slice_get N f ≡ Some g → Uses N g.params g.body g.result
-all_use N h f g e = subst (λ (g : NormFun). Uses N g.params g.body g.result) (get_or_from_slice_get N f g g e) (h f g (slice_get_within N f g e)).body

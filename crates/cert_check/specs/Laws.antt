@@ -1,11 +1,17 @@
 -- What the first fault is.
 use Rattle.std.specs.Prelude.{◌≡◌, ◌<◌, ◌↔◌, ℕ, List, [], ◌∷◌, slice_get, Option, None, Some}
+use Rattle.std.specs.List.{All}
+use Rattle.raml_syntax.specs.Tree.{Function, Prog}
+use Rattle.raml_syntax.specs.Types.{Typed}
+use Rattle.raml_syntax.specs.Node.{AllNodes, NumberFits}
 use Rattle.normal_spec.specs.Norm.{NormFun}
 use Rattle.normal_spec.specs.Uses.{Uses}
+use Rattle.call_groups.specs.Groups.{Grouping, IsGrouping}
 use Rattle.annot_types.specs.Program.{Program, members}
 use Rattle.annot_types.specs.Certificate.{Solved, Body, Block, Certificate}
 use Rattle.annot_types.specs.Held.{Held, IfSolved, before}
 use Rattle.cost_free.specs.Task.{Task}
+use Rattle.rules_soundness_laws.specs.Laws.{normal_of}
 use Rattle.rules_spec.specs.Numbers.{Condition}
 use Rattle.rules_spec.specs.Kinds.{Amount, total_left, total_right}
 use Rattle.rules_spec.specs.Faults.{too_great}
@@ -25,6 +31,13 @@ AllThere P (f ∷ fs) = ((g : NormFun) × (slice_get P.funs f ≡ Some g)) × Al
 pub record IsProper (P : Program) : Type 0 where
   pub uses : (f : ℕ) (g : NormFun) → slice_get P.funs f ≡ Some g → Uses P.funs g.params g.body g.result
   pub there : (group : ℕ) → AllThere P (members P group)
+
+-- The normal form of a typed program, with its groups, is proper.
+abbrev pub NormalsAreProper : Type 0
+NormalsAreProper =
+    (P : Prog) → Typed P → All (λ (g : Function). AllNodes NumberFits g.body) P →
+    (groups : Grouping) → IsGrouping P groups →
+    IsProper (normal_of P groups.list)
 
 -- A certificate without fault is held.
 abbrev pub NoFaultIsHeld : Type 0

@@ -84,6 +84,7 @@ pub fn check_body(
     body: &BlockBody,
 ) -> Result<Vec<(usize, usize)>, CertFault>
     requires low { h.budget_of at.now.degree (kind_of at.now.task.kind) ≤ 4 }
+    requires remembers { (blocks : List c.Block) × Remembers (program_at at.now) at.now.degree blocks at.now.earlier.now }
     requires kept { AreKept (program_at at.now) kept.old }
     ensures kept { OnOk result (AreKept (program_at at.now) kept.new) }
     ensures tells { (held : c.Certificate) (blocks : List c.Block) → IsAt at.now held blocks → Remembers (program_at at.now) held.degree blocks at.now.earlier.now →

@@ -2,7 +2,7 @@
 ghost use Rattle.std.specs.Prelude.{◌≡◌, ◌↔◌, ◌≤◌, ◌++◌, ◌∷◌, [], List, length, true, IsTrue, OnOk};
 ghost use Rattle.std.specs.Option.{option_map};
 ghost use Rattle.cost_free.specs.Read.{task_of};
-ghost use Rattle.cost_free.specs.Refused.{next_in, plan_in};
+ghost use Rattle.cost_free.specs.Refused.{next_in, plan_in, IsRefused};
 ghost use Rattle.cost_free.specs.Blocked.{blocked as blocked_in};
 ghost use Rattle.annot_types.specs.Held.{NamesBlocker};
 ghost use Rattle.cert_check.specs.Same.{is_task};
@@ -52,7 +52,8 @@ fn check_next(
     next: Option<Task>,
 ) -> Result<(), CertFault>
     requires degree { certificate.now.degree ≤ 4 }
-    requires same { schedule.old.degree ≡ certificate.now.degree }
+    requires came { (blocks : List c.Block) × HasCome program.now (certificate_of certificate.now) blocks schedule.old earlier.old }
+    requires goes_on { IsRefused 2000 (plan_in schedule.old) schedule.old.done → ⊥ }
     requires next { option_map task_of next ≡ next_in (plan_in schedule.old) schedule.old.done }
     requires kept { AreKept (program_in program.now) kept.old }
     ensures kept { OnOk result (AreKept (program_in program.now) kept.new) }
@@ -92,7 +93,7 @@ pub fn check_block(
     block: &Block,
 ) -> Result<(), CertFault>
     requires degree { certificate.now.degree ≤ 4 }
-    requires same { schedule.old.degree ≡ certificate.now.degree }
+    requires came { (blocks : List c.Block) × HasCome program.now (certificate_of certificate.now) blocks schedule.old earlier.old }
     requires kept { AreKept (program_in program.now) kept.old }
     ensures kept { OnOk result (AreKept (program_in program.now) kept.new) }
     ensures tells { (blocks : List c.Block) → HasCome program.now (certificate_of certificate.now) blocks schedule.old earlier.old → length blocks ≡ number →
@@ -128,6 +129,7 @@ pub fn check_end(
     earlier: &Earlier,
     number: usize,
 ) -> Result<(), CertFault>
+    requires { (blocks : List c.Block) × HasCome program.now (certificate_of certificate.now) blocks schedule.old earlier.now }
     ensures { (blocks : List c.Block) → HasCome program.now (certificate_of certificate.now) blocks schedule.old earlier.now → length blocks ≡ number →
         Tells result (EndFinds (program_in program.now) (certificate_of certificate.now) blocks) }
 {

@@ -12,17 +12,17 @@ ghost use Rattle.cost_free.specs.Read.{kind_of};
 ghost use Rattle.annot_types.specs.Certificate.{Annotates, sigs_of};
 ghost use Rattle.annot_types.specs.Signature.{sig_in, cost_sig};
 ghost use Rattle.annot_types.specs.Held as h;
-ghost use Rattle.annot_types.specs.Held.{Held};
 ghost use Rattle.annot_types.specs.Read as a;
 ghost use Rattle.rules_spec.specs.Stand.{Within};
 ghost use Rattle.rules_plan.specs.Read.{program_in};
 ghost use Rattle.cert_check.specs.Bound.{over, told, told_of};
+ghost use Rattle.cert_check.specs.Laws.{IsFaultless};
 
 use crate::at::members;
 use crate::head::scale_of;
 use crate::target::sig_of;
 use annot_types::{Annot, Block, BlockBody, Certificate, Sig};
-use base_poly::{Poly, Tuple, indices};
+use base_poly::{IndexFault, Poly, Tuple, indices};
 use cost_free::{Meter, TaskKind};
 use raml_syntax::{FunId, Ty};
 use share_normal::NormProgram;
@@ -107,14 +107,16 @@ pub fn types_of(alloc: Global, params: &[(u32, Ty)]) -> Result<Vec<Ty>, AllocErr
     Ok(made)
 }
 
-// The tuples of the parameters' types, at most 2000.
+// The tuples of the parameters' types, of which there are at most 2000.
 fn tuples_of(alloc: Global, params: &[(u32, Ty)], degree: u8) -> Result<Vec<Tuple>, AllocError>
+    requires { length (index_list (types (parameters_of params.now)) degree) ≤ 2000 }
     ensures { IfOk result (λ all. all.items ≡ index_list (types (parameters_of params.now)) degree) }
 {
     let types = types_of(alloc, params)?;
     match indices(alloc, &types, degree, 2000) {
         Ok(all) => Ok(all),
-        Err(_) => Err(AllocError),
+        Err(IndexFault::TooMany) => unreachable!(),
+        Err(IndexFault::NoMemory) => Err(AllocError),
     }
 }
 
@@ -135,9 +137,7 @@ fn terms_of(
     Ok(terms)
 }
 
-/// An annotation of the parameters over a scale.
-///
-/// Where the parameters have more than 2000 tuples of indices, that memory is wanting is told too.
+/// An annotation of the parameters over a scale. They have at most 2000 tuples of indices.
 pub fn poly_of(
     alloc: Global,
     scale: i128,
@@ -147,6 +147,7 @@ pub fn poly_of(
 ) -> Result<Poly, AllocError>
     requires positive { pos 0 <ℤ scale }
     requires low { degree ≤ 4 }
+    requires few { length (index_list (types (parameters_of params.now)) degree) ≤ 2000 }
     requires within { Annotates (types (parameters_of params.now)) degree annot.now }
     ensures told { IfOk result (λ poly. told_of poly ≡ (unsigned_abs scale, h.terms_of (types (parameters_of params.now)) degree annot.now)) }
     ensures poly { IfOk result IsPoly }
@@ -164,7 +165,7 @@ pub fn bound_of(
     fun: FunId,
     meter: Meter,
 ) -> Result<Option<Poly>, AllocError>
-    requires { Held (program_in program.now) (a.certificate_of certificate.now) }
+    requires { IsFaultless (program_in program.now) (a.certificate_of certificate.now) }
     ensures told { IfOk result (λ found. option_map told_of found ≡ told (program_in program.now) (a.certificate_of certificate.now) fun.0 meter) }
     ensures poly { IfOk result (λ found. IfSome found IsPoly) }
 {

@@ -8,6 +8,7 @@ ghost use Rattle.annot_types.specs.Read.{certificate_of};
 ghost use Rattle.rules_soundness_laws.specs.Bounds.{Bounds};
 ghost use Rattle.rules_plan.specs.Read.{program_in};
 ghost use Rattle.cert_check.specs.Bound.{told, told_of};
+ghost use Rattle.cert_check.specs.Laws.{IsFaultless};
 ghost use Rattle.base_poly.specs.Poly.{den_of, terms_of, IsPoly};
 
 use crate::bound::bound_of;
@@ -19,7 +20,8 @@ use share_normal::NormProgram;
 use std::alloc::{AllocError, Global};
 use std::marker::Model;
 
-/// A certificate that is held, with its program.
+/// A certificate without fault, with its program: it is held, within the limits, and no total of it
+/// leaves 127 bits.
 #[derive(Drop)]
 pub struct Checked<'p, 'a> {
     program: &'p NormProgram<'a>,
@@ -33,10 +35,10 @@ impl<'p, 'a> Model for Checked<'p, 'a> {
     ghost use Rattle.raml_syntax.specs.contracts.tree.Expr as source_expr;
     ghost use Rattle.normal_spec.specs.contracts.form.NormForm as form;
     ghost use Rattle.normal_spec.specs.contracts.form.NormExpr as expr;
-    ghost use Rattle.annot_types.specs.Held.{Held};
     ghost use Rattle.annot_types.specs.Read.{certificate_of};
     ghost use Rattle.rules_plan.specs.Read.{program_in};
     ghost use Rattle.cert_check.specs.Checked.{Checking};
+    ghost use Rattle.cert_check.specs.Laws.{IsFaultless};
 
     ghost Value = { Checking };
 
@@ -54,12 +56,12 @@ impl<'p, 'a> Model for Checked<'p, 'a> {
       certificate = certificate_of checked.certificate;
     } };
 
-    ghost invariant = { λ checked. Held (program_in checked.program.now) (certificate_of checked.certificate) };
+    ghost invariant = { λ checked. IsFaultless (program_in checked.program.now) (certificate_of checked.certificate) };
 }
 
-// A certificate that is held is kept.
+// A certificate without fault is kept.
 pub fn keep<'p, 'a>(program: &'p NormProgram<'a>, certificate: Certificate) -> Checked<'p, 'a>
-    requires { Held (program_in program.now) (certificate_of certificate) }
+    requires { IsFaultless (program_in program.now) (certificate_of certificate) }
     ensures { result ≡ record { program = program.now; certificate = certificate_of certificate } }
 {
     Checked {
@@ -80,14 +82,13 @@ impl<'p, 'a> Checked<'p, 'a> {
     pub fn certificate(&self) -> &Certificate
         ensures certificate { certificate_of result.now ≡ self.now.certificate }
         ensures held { Held (program_in self.now.program) self.now.certificate }
+        ensures faultless { IsFaultless (program_in self.now.program) self.now.certificate }
     {
         &self.certificate
     }
 
     /// The argument annotation of a function over the meter's scale; none exactly where no block of the
     /// meter that has a signature for the function is solved. It bounds what the function costs.
-    ///
-    /// Where its parameters have more than 2000 tuples of indices, that memory is wanting is told too.
     pub fn bound(&self, alloc: Global, fun: FunId, meter: Meter) -> Result<Option<Poly>, AllocError>
         ensures told { IfOk result (λ found. option_map told_of found ≡ told (program_in self.now.program) self.now.certificate fun.0 meter) }
         ensures poly { IfOk result (λ found. IfSome found IsPoly) }

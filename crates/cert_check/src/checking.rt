@@ -5,7 +5,7 @@ ghost use Rattle.rules_plan.specs.Read.{program_in, AreKept};
 ghost use Rattle.cert_check.specs.At.{Tells};
 ghost use Rattle.annot_types.specs.Held.{Held};
 ghost use Rattle.cert_check.specs.Finds.{BlocksFind, FirstFault};
-ghost use Rattle.cert_check.specs.Laws.{IsProper, IsSmall};
+ghost use Rattle.cert_check.specs.Laws.{IsProper, IsSmall, IsFaultless};
 ghost use Rattle.cert_check.specs.Read.{fault_of, OfFault};
 
 use crate::blocks::{check_block, check_end};
@@ -66,8 +66,10 @@ pub fn check<'p, 'a>(
     certificate: Certificate,
 ) -> Result<Checked<'p, 'a>, CertFault>
     ensures fits { OnOk result (FirstFault (program_in program.now) (certificate_of certificate) None) }
+    ensures valid { OnOk result (IsFaultless (program_in program.now) (certificate_of certificate)) }
     ensures kept { IfOk result (λ checked. checked ≡ record { program = program.now; certificate = certificate_of certificate }) }
     ensures fault { IfErr result (λ fault. OfFault (fault_of fault) (FirstFault (program_in program.now) (certificate_of certificate))) }
+    ensures invalid { IfErr result (λ fault. OfFault (fault_of fault) (λ _. IsFaultless (program_in program.now) (certificate_of certificate) → ⊥)) }
 {
     check_with(alloc, program, certificate, KeptPlans::new(alloc))
 }
@@ -81,14 +83,17 @@ pub fn check_with<'p, 'a>(
 ) -> Result<Checked<'p, 'a>, CertFault>
     requires plans { AreKept (program_in program.now) kept }
     ensures fits { OnOk result (FirstFault (program_in program.now) (certificate_of certificate) None) }
+    ensures valid { OnOk result (IsFaultless (program_in program.now) (certificate_of certificate)) }
     ensures kept { IfOk result (λ checked. checked ≡ record { program = program.now; certificate = certificate_of certificate }) }
     ensures fault { IfErr result (λ fault. OfFault (fault_of fault) (FirstFault (program_in program.now) (certificate_of certificate))) }
+    ensures invalid { IfErr result (λ fault. OfFault (fault_of fault) (λ _. IsFaultless (program_in program.now) (certificate_of certificate) → ⊥)) }
 {
+    let _source = program.source();
+    let _functions = program.functions();
+    let _groups = program.groups();
     if !head_fits(&certificate) {
         return Err(CertFault::Shape { block: 0 });
     }
-    let _functions = program.functions();
-    let _groups = program.groups();
     match check_blocks(alloc, program, &certificate, &mut kept) {
         Err(fault) => Err(fault),
         Ok(()) => Ok(keep(program, certificate)),
@@ -107,8 +112,10 @@ pub fn check_held<'p, 'a>(
     requires held { Held (program_in program.now) (certificate_of certificate) }
     requires small { IsSmall (program_in program.now) (certificate_of certificate) }
     ensures fits { OnOk result (FirstFault (program_in program.now) (certificate_of certificate) None) }
+    ensures valid { OnOk result (IsFaultless (program_in program.now) (certificate_of certificate)) }
     ensures kept { IfOk result (λ checked. checked ≡ record { program = program.now; certificate = certificate_of certificate }) }
     ensures fault { IfErr result (λ fault. OfFault (fault_of fault) (FirstFault (program_in program.now) (certificate_of certificate))) }
+    ensures invalid { IfErr result (λ fault. OfFault (fault_of fault) (λ _. IsFaultless (program_in program.now) (certificate_of certificate) → ⊥)) }
 {
     faultless_exactly();
     totals_stay_small();

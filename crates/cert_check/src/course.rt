@@ -1,6 +1,8 @@
 // The walk through the blocks of a certificate.
 ghost use Rattle.std.specs.Prelude.{◌≡◌, ◌≤◌, ◌++◌, ◌∷◌, [], List, length, Some, OnOk};
 ghost use Rattle.cost_free.specs.Read.{kind_of, task_of};
+ghost use Rattle.cost_free.specs.Refused.{plan_in, IsRefused};
+ghost use Rattle.cost_free.specs.Task.{Outcome};
 ghost use Rattle.annot_types.specs.Certificate as c;
 ghost use Rattle.annot_types.specs.Certificate.{done_as};
 ghost use Rattle.annot_types.specs.Held.{IfSolved};
@@ -11,7 +13,7 @@ ghost use Rattle.rules_walk.specs.Remembers.{Remembers};
 ghost use Rattle.rules_plan.specs.Read.{program_in, AreKept};
 ghost use Rattle.cert_check.specs.At.{Tells, sizes_in};
 ghost use Rattle.cert_check.specs.Course.{HasCome};
-ghost use Rattle.cert_check.specs.Finds.{next_after, refusal, BodyFinds};
+ghost use Rattle.cert_check.specs.Finds.{schedule as schedule_of, next_after, refusal, BodyFinds};
 ghost use Rattle.cert_check.specs.Read.{fault_of, OfFault};
 
 use crate::at::{At, members};
@@ -20,6 +22,7 @@ use crate::fault::CertFault;
 use crate::head::scale_for;
 use crate::refusal::large_task;
 use annot_types::{Block, BlockBody, Certificate};
+use base_poly::IndexFault;
 use cost_free::{Done, Schedule};
 use rules_plan::KeptPlans;
 use rules_walk::Earlier;
@@ -37,11 +40,14 @@ fn done_as(body: &BlockBody) -> Done
     }
 }
 
-/// What is told where the schedule does not go on. It is told of a task wherever that is so.
+/// What is told where the schedule does not go on.
 pub fn refused(alloc: Global, program: &NormProgram<'_>, certificate: &Certificate) -> CertFault
+    requires { (done : List Outcome) × IsRefused 2000 (schedule_of (program_in program.now) (certificate_of certificate.now)) done }
     ensures { OfFault (fault_of result) (λ found. found ≡ refusal (program_in program.now) (certificate_of certificate.now)) }
 {
+    let _source = program.source();
     let _functions = program.functions();
+    let _groups = program.groups();
     match large_task(
         alloc,
         program.results(),
@@ -49,7 +55,8 @@ pub fn refused(alloc: Global, program: &NormProgram<'_>, certificate: &Certifica
         program.groups().list(),
     ) {
         Ok(Some(task)) => CertFault::TooLarge { task },
-        Ok(None) | Err(_) => CertFault::NoMemory,
+        Ok(None) => unreachable!(),
+        Err(_) => CertFault::NoMemory,
     }
 }
 
@@ -82,6 +89,7 @@ fn go_on(
     block: &Block,
     sizes: &[(usize, usize)],
 ) -> Result<(), AllocError>
+    requires { IsRefused 2000 (plan_in schedule.old) schedule.old.done → ⊥ }
     ensures { OnOk result ((held : c.Certificate) (blocks : List c.Block) → held.degree ≡ degree →
         HasCome program.now held blocks schedule.old earlier.old →
         next_after (program_in program.now) held blocks ≡ Some (task_of block.now.task) →
@@ -91,7 +99,8 @@ fn go_on(
     let _functions = program.functions();
     let _results = program.results();
     match schedule.record(done_as(&block.body)) {
-        Err(_) => Err(AllocError),
+        Err(IndexFault::TooMany) => unreachable!(),
+        Err(IndexFault::NoMemory) => Err(AllocError),
         Ok(()) => remember(alloc, program, degree, earlier, block, sizes),
     }
 }
@@ -108,6 +117,8 @@ pub fn check_there(
     block: &Block,
 ) -> Result<(), CertFault>
     requires low { budget_of certificate.now.degree (kind_of block.now.task.kind) ≤ 4 }
+    requires came { (blocks : List c.Block) × HasCome program.now (certificate_of certificate.now) blocks schedule.old earlier.old }
+    requires goes_on { IsRefused 2000 (plan_in schedule.old) schedule.old.done → ⊥ }
     requires kept { AreKept (program_in program.now) kept.old }
     ensures kept { OnOk result (AreKept (program_in program.now) kept.new) }
     ensures tells { (blocks : List c.Block) → HasCome program.now (certificate_of certificate.now) blocks schedule.old earlier.old → length blocks ≡ number →

@@ -1,9 +1,14 @@
 // Laws of faults: each is the contract of a function that does nothing.
-ghost use Rattle.cert_check.specs.Laws.{FaultlessExactly, HeldLeavesAlone, NoFaultIsHeld, OneFirstFault};
+ghost use Rattle.cert_check.specs.Laws.{FaultlessExactly, HeldLeavesAlone, NoFaultIsHeld, NormalsAreProper, OneFirstFault};
 
 /// There is one first fault, or none.
 pub fn one_first_fault()
     ensures { OneFirstFault }
+{}
+
+/// The normal form of a typed program, with its groups, is proper.
+pub fn normals_are_proper()
+    ensures { NormalsAreProper }
 {}
 
 /// A certificate without fault is held.

@@ -7,7 +7,7 @@ ghost use Rattle.annot_types.specs.Held.{SigsRise, AllHintsRise};
 ghost use Rattle.annot_types.specs.Holds as h;
 ghost use Rattle.annot_types.specs.Read as a;
 ghost use Rattle.rules_walk.specs.Remembers.{Remembers};
-ghost use Rattle.rules_plan.specs.Read.{body_of, ArePlansOf, AreKept};
+ghost use Rattle.rules_plan.specs.Read.{body_of, GroupWithin, ArePlansOf, AreKept};
 ghost use Rattle.cert_check.specs.At.{program_at, IsAt, Tells, sizes_of};
 ghost use Rattle.cert_check.specs.Asking.{all_asks_of};
 ghost use Rattle.cert_check.specs.Finds.{SigsFit, AllFit, asks_by, job, ShapeFinds, BodyFinds};
@@ -38,6 +38,8 @@ fn check_shape(
     sigs: &[Sig],
     hints: &[Vec<Hint>],
 ) -> Result<(), CertFault>
+    requires within { GroupWithin (program_at at.now) at.now.task.group (h.budget_of at.now.degree (kind_of at.now.task.kind)) }
+    requires few { length bodies.now ≤ 256 }
     requires asked { all_asks_of asks.now ≡ asks_by (map body_of bodies.now) }
     ensures { (held : c.Certificate) (blocks : List c.Block) → IsAt at.now held blocks →
         map body_of bodies.now ≡ (job (program_at at.now) held blocks (task_of at.now.task)).bodies →
@@ -68,6 +70,8 @@ pub fn check_planned(
     sigs: &[Sig],
     hints: &[Vec<Hint>],
 ) -> Result<Vec<(usize, usize)>, CertFault>
+    requires within { GroupWithin (program_at at.now) at.now.task.group (h.budget_of at.now.degree (kind_of at.now.task.kind)) }
+    requires few { length bodies.now ≤ 256 }
     ensures tells { (held : c.Certificate) (blocks : List c.Block) → IsAt at.now held blocks →
         map body_of bodies.now ≡ (job (program_at at.now) held blocks (task_of at.now.task)).bodies →
         Tells result (ShapeFinds (program_at at.now) held blocks (task_of at.now.task) (map a.sig_of sigs.now) (map a.hints_of hints.now)) }
@@ -92,12 +96,15 @@ fn check_over(
     sigs: &[Sig],
     hints: &[Vec<Hint>],
 ) -> Result<Vec<(usize, usize)>, CertFault>
+    requires remembers { (blocks : List c.Block) × Remembers (program_at at.now) at.now.degree blocks at.now.earlier.now }
     requires plans { ArePlansOf (program_at at.now) at.now.task.group (h.budget_of at.now.degree (kind_of at.now.task.kind)) plans.now }
     ensures tells { (held : c.Certificate) (blocks : List c.Block) → IsAt at.now held blocks → Remembers (program_at at.now) held.degree blocks at.now.earlier.now →
         Tells result (BodyFinds (program_at at.now) held blocks (task_of at.now.task) (Solved (map a.sig_of sigs.now) (map a.hints_of hints.now))) }
     ensures sizes { IfOk result (λ sizes. (held : c.Certificate) (blocks : List c.Block) → IsAt at.now held blocks → Remembers (program_at at.now) held.degree blocks at.now.earlier.now →
         sizes.items ≡ sizes_of (job (program_at at.now) held blocks (task_of at.now.task)).bodies) }
 {
+    let _source = at.program.source();
+    let _groups = at.program.groups();
     match plans.over(at.alloc, at.earlier) {
         Err(_) => Err(CertFault::NoMemory),
         Ok(bodies) => check_planned(at, &bodies, sigs, hints),
@@ -112,6 +119,7 @@ pub fn check_solved(
     hints: &[Vec<Hint>],
 ) -> Result<Vec<(usize, usize)>, CertFault>
     requires low { h.budget_of at.now.degree (kind_of at.now.task.kind) ≤ 4 }
+    requires remembers { (blocks : List c.Block) × Remembers (program_at at.now) at.now.degree blocks at.now.earlier.now }
     requires kept { AreKept (program_at at.now) kept.old }
     ensures kept { OnOk result (AreKept (program_at at.now) kept.new) }
     ensures tells { (held : c.Certificate) (blocks : List c.Block) → IsAt at.now held blocks → Remembers (program_at at.now) held.degree blocks at.now.earlier.now →

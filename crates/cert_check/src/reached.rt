@@ -1,13 +1,15 @@
 // The check of a solved block's target.
-ghost use Rattle.std.specs.Prelude.{◌≡◌, List, [], ◌∷◌, map, length, Some, IfOk, IfSome, IfNone};
+ghost use Rattle.std.specs.Prelude.{◌≡◌, ◌≤◌, List, [], ◌∷◌, map, length, Some, IfOk, IfSome, IfNone};
 ghost use Rattle.std.specs.Option.{unwrap_or};
+ghost use Rattle.base_poly.specs.Indices.{index_list};
 ghost use Rattle.cost_free.specs.Read.{task_of, kind_of};
 ghost use Rattle.cost_free.specs.Task.{Free};
 ghost use Rattle.annot_types.specs.Certificate as c;
+ghost use Rattle.annot_types.specs.Holds as h;
 ghost use Rattle.annot_types.specs.Read as a;
 ghost use Rattle.annot_types.specs.Program.{members};
 ghost use Rattle.rules_spec.specs.Planned.{place_in};
-ghost use Rattle.rules_plan.specs.Read.{body_of};
+ghost use Rattle.rules_plan.specs.Read.{body_of, GroupWithin};
 ghost use Rattle.cert_check.specs.At.{program_at, IsAt, Tells, ReachesAt, MissesAt};
 ghost use Rattle.cert_check.specs.Asking.{all_asks_of};
 ghost use Rattle.cert_check.specs.Fault.{Fails};
@@ -20,7 +22,7 @@ ghost use Rattle.cert_check.specs.Covering.{IsReached, IsMissed};
 use crate::at::{At, members, result_of};
 use crate::fault::CertFault;
 use crate::solved::check_rules;
-use crate::target::{aim_at, covers, first_missing, place_of, sig_of, tuple_count, unit_missing};
+use crate::target::{aim_at, covers, first_missing, has_tuple, place_of, sig_of, unit_missing};
 use annot_types::{Annot, Hint, Sig};
 use cost_free::TaskKind;
 use raml_syntax::{FunId, Ty};
@@ -38,15 +40,16 @@ fn missing(
     number: u32,
     annot: &Annot,
 ) -> Result<Option<usize>, AllocError>
+    requires { length (index_list (ty_of ty.now ∷ []) budget) ≤ 2000 }
     ensures reached { IfOk result (λ missing. IfNone missing (IsReached (ty_of ty.now) at.now.degree budget number (annotation annot.now))) }
     ensures missed { IfOk result (λ missing. IfSome missing (λ index. IsMissed (ty_of ty.now) at.now.degree budget number (annotation annot.now) index)) }
 {
-    let units = tuple_count(at.alloc, ty, at.degree)?;
-    if number as usize >= units {
+    let is_unit = has_tuple(at.alloc, ty, at.degree, number)?;
+    if !is_unit {
         return listed_missing(at, ty, budget, number, annot);
     }
-    let count = tuple_count(at.alloc, ty, budget)?;
-    Ok(unit_missing(number, count, annot))
+    let is_position = has_tuple(at.alloc, ty, budget, number)?;
+    Ok(unit_missing(number, is_position, annot))
 }
 
 // The same of any target, by the list of all tuples.
@@ -57,6 +60,7 @@ fn listed_missing(
     number: u32,
     annot: &Annot,
 ) -> Result<Option<usize>, AllocError>
+    requires { length (index_list (ty_of ty.now ∷ []) budget) ≤ 2000 }
     ensures reached { IfOk result (λ missing. IfNone missing (IsReached (ty_of ty.now) at.now.degree budget number (annotation annot.now))) }
     ensures missed { IfOk result (λ missing. IfSome missing (λ index. IsMissed (ty_of ty.now) at.now.degree budget number (annotation annot.now) index)) }
 {
@@ -80,6 +84,7 @@ fn missed(
     fun: FunId,
     target: u32,
 ) -> Result<Option<usize>, AllocError>
+    requires within { GroupWithin (program_at at.now) at.now.task.group budget }
     ensures reached { IfOk result (λ missed. IfNone missed (ReachesAt at.now (map a.sig_of sigs.now) budget fun.0 target)) }
     ensures missed { IfOk result (λ missed. IfSome missed (λ index. MissesAt at.now (map a.sig_of sigs.now) budget fun.0 target index)) }
 {
@@ -97,14 +102,12 @@ fn missed(
 fn miss(at: &At<'_, '_>, fun: FunId, index: usize) -> Result<CertFault, AllocError>
     ensures { IfOk result (λ fault. fault_of fault ≡ Some (Fails at.now.number (unwrap_or (place_in (members (program_at at.now) at.now.task.group) fun.0) 0 ∷ []) index)) }
 {
+    let _source = at.program.source();
+    let _groups = at.program.groups();
     let place = place_of(members(at.program, at.task.group), fun);
-    // so many functions have no room in memory
-    let Ok(place) = u32::try_from(place) else {
-        return Err(AllocError);
-    };
     Ok(CertFault::Fails {
         block: at.number,
-        path: SmallVec::from_slice(at.alloc, &[place])?,
+        path: SmallVec::from_slice(at.alloc, &[place as u32])?,
         index,
     })
 }
@@ -120,6 +123,8 @@ fn check_free(
     fun: FunId,
     target: u32,
 ) -> Result<(), CertFault>
+    requires within { GroupWithin (program_at at.now) at.now.task.group (h.budget_of at.now.degree (kind_of at.now.task.kind)) }
+    requires few { length bodies.now ≤ 256 }
     requires asked { length asks.now ≡ length bodies.now }
     requires told { length hints.now ≡ length bodies.now }
     requires kind { kind_of at.now.task.kind ≡ Free budget fun.0 target }
@@ -146,6 +151,8 @@ pub fn check_target(
     sigs: &[Sig],
     hints: &[Vec<Hint>],
 ) -> Result<(), CertFault>
+    requires within { GroupWithin (program_at at.now) at.now.task.group (h.budget_of at.now.degree (kind_of at.now.task.kind)) }
+    requires few { length bodies.now ≤ 256 }
     requires asked { length asks.now ≡ length bodies.now }
     requires told { length hints.now ≡ length bodies.now }
     ensures { (held : c.Certificate) (blocks : List c.Block) → IsAt at.now held blocks →

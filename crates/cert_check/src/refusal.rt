@@ -1,5 +1,5 @@
 // What is told where the schedule does not go on.
-ghost use Rattle.std.specs.Prelude.{◌≡◌, ℕ, Bool, List, Some, slice_get, IfOk};
+ghost use Rattle.std.specs.Prelude.{◌≡◌, ◌≤◌, ℕ, Bool, length, List, Some, slice_get, IfOk};
 ghost use Rattle.raml_syntax.specs.Read.{ty_of};
 ghost use Rattle.std.specs.Option.{option_map};
 ghost use Rattle.base_poly.specs.Read.{context_of};
@@ -60,22 +60,19 @@ fn large_in(
     Ok(None)
 }
 
-/// The first of all groups.
+/// The first of all groups, which are few.
 pub fn large_task(
     alloc: Global,
     results: &[Ty],
     degree: u8,
     groups: &[Vec<FunId>],
 ) -> Result<Option<Task>, AllocError>
+    requires { length groups.now ≤ 256 }
     ensures { IfOk result (λ task. (all : List (List ℕ)) (work : Bool) → option_map task_of task
         ≡ large_from (record { results = context_of results.now; groups = all; degree = degree; work = work }) 0 (lists_of groups.now)) }
 {
     for group in 0..groups.len() {
-        // so many groups have no room in memory
-        let Ok(number) = u32::try_from(group) else {
-            return Err(AllocError);
-        };
-        let found = large_in(alloc, results, degree, number, &groups[group])?;
+        let found = large_in(alloc, results, degree, group as u32, &groups[group])?;
         if found.is_some() {
             return Ok(found);
         }

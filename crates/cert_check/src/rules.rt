@@ -1,5 +1,5 @@
 // The rules of a solved block.
-ghost use Rattle.std.specs.Prelude.{◌≡◌, map, length, IfOk, OnOk};
+ghost use Rattle.std.specs.Prelude.{◌≡◌, ◌≤◌, ◌<◌, map, length, IfOk, OnOk};
 ghost use Rattle.annot_types.specs.Read as a;
 ghost use Rattle.rules_spec.specs.Capped.{capped, capped_amount};
 ghost use Rattle.rules_spec.specs.Carried.{hint_to};
@@ -43,15 +43,12 @@ fn judge_body(
     hints: &[Hint],
     judge: &mut FaultJudge,
 ) -> Result<(), AllocError>
+    requires { place < 256 }
     ensures { OnOk result (verdict_of judge.new ≡ after (verdict_of judge.old)
         (body_walked capped (known_of known.now) (body_of body.now).plan (mode_of mode) place (map (hint_to capped_amount) (hints_at (asks_of asks.now) (map a.hint_of hints.now)))).found) }
 {
-    // so many functions have no room in memory
-    let Ok(place) = u32::try_from(place) else {
-        return Err(AllocError);
-    };
     let walked = walked_hints(alloc, asks, hints)?;
-    body.walk(alloc, known, mode, place, &walked, judge)?;
+    body.walk(alloc, known, mode, place as u32, &walked, judge)?;
     Ok(())
 }
 
@@ -64,6 +61,7 @@ pub fn judged(
     asks: &[Vec<Ask>],
     hints: &[Vec<Hint>],
 ) -> Result<FaultJudge, AllocError>
+    requires few { length bodies.now ≤ 256 }
     requires asked { length asks.now ≡ length bodies.now }
     requires told { length hints.now ≡ length bodies.now }
     ensures { IfOk result (λ judge. verdict_of judge ≡ first_fault (bodies_walked (known_of known.now) (mode_of mode) 0 (map body_of bodies.now)

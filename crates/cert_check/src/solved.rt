@@ -1,5 +1,5 @@
 // The check of a solved block.
-ghost use Rattle.std.specs.Prelude.{◌≡◌, List, map, length, Some, IfOk};
+ghost use Rattle.std.specs.Prelude.{◌≡◌, ◌≤◌, List, map, length, Some, IfOk};
 ghost use Rattle.std.specs.Option.{option_map};
 ghost use Rattle.cost_free.specs.Read.{task_of};
 ghost use Rattle.annot_types.specs.Certificate as c;
@@ -56,6 +56,7 @@ fn judge_rules(
     sigs: &[Sig],
     hints: &[Vec<Hint>],
 ) -> Result<FaultJudge, AllocError>
+    requires few { length bodies.now ≤ 256 }
     requires asked { length asks.now ≡ length bodies.now }
     requires told { length hints.now ≡ length bodies.now }
     ensures { IfOk result (λ judge. (held : c.Certificate) (blocks : List c.Block) → IsAt at.now held blocks →
@@ -80,6 +81,7 @@ pub fn check_rules(
     sigs: &[Sig],
     hints: &[Vec<Hint>],
 ) -> Result<(), CertFault>
+    requires few { length bodies.now ≤ 256 }
     requires asked { length asks.now ≡ length bodies.now }
     requires told { length hints.now ≡ length bodies.now }
     ensures { (held : c.Certificate) (blocks : List c.Block) → IsAt at.now held blocks →

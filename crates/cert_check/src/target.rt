@@ -1,5 +1,5 @@
 // Whether a block without cost reaches its target.
-ghost use Rattle.std.specs.Prelude.{◌≡◌, ◌∷◌, [], nat_eq, nat_lt, ◌&&◌, cond, unsigned_abs, map, length, slice_get, IfOk, IfSome, IfNone, Some, None};
+ghost use Rattle.std.specs.Prelude.{◌≡◌, ◌≤◌, ◌∷◌, [], nat_eq, nat_lt, ◌&&◌, cond, unsigned_abs, map, length, slice_get, IfOk, IfSome, IfNone, Some, None};
 ghost use Rattle.std.specs.Option.{option_map, unwrap_or};
 ghost use Rattle.std.specs.List.{list_any};
 ghost use Rattle.raml_syntax.specs.Read.{ty_of};
@@ -15,7 +15,7 @@ ghost use Rattle.cert_check.specs.Finds.{missing_from};
 ghost use Rattle.cert_check.specs.Covering.{has_from, has_all, AreFew};
 
 use annot_types::{Annot, Sig};
-use base_poly::{Tuple, indices, positions};
+use base_poly::{IndexFault, Tuple, indices, positions};
 use cost_free::{Target, targets};
 use raml_syntax::{FunId, Ty};
 use std::alloc::{AllocError, Global};
@@ -49,7 +49,8 @@ pub fn sig_of<'s>(functions: &[FunId], sigs: &'s [Sig], fun: FunId) -> Option<&'
 
 /// Its place in the group, 0 where it has none.
 pub fn place_of(functions: &[FunId], fun: FunId) -> usize
-    ensures { result ≡ unwrap_or (place_in (ids_of functions.now) fun.0) 0 }
+    ensures low { result ≤ length functions.now }
+    ensures is { result ≡ unwrap_or (place_in (ids_of functions.now) fun.0) 0 }
 {
     for place in 0..functions.len() {
         if functions[place].0 == fun.0 {
@@ -59,22 +60,24 @@ pub fn place_of(functions: &[FunId], fun: FunId) -> usize
     0
 }
 
-/// How many tuples the type has at a degree: so many targets are unit targets, each with one tuple.
-pub fn tuple_count(alloc: Global, ty: &Ty, degree: u8) -> Result<usize, AllocError>
-    ensures { IfOk result (λ count. count ≡ length (index_list (ty_of ty.now ∷ []) degree)) }
+/// Whether the type has a tuple with this place at a degree. So many targets are unit targets, each with
+/// one tuple.
+pub fn has_tuple(alloc: Global, ty: &Ty, degree: u8, place: u32) -> Result<bool, AllocError>
+    ensures { IfOk result (λ has. has ≡ nat_lt place (length (index_list (ty_of ty.now ∷ []) degree))) }
 {
-    match positions(alloc, slice::from_ref(ty), degree, usize::MAX) {
-        Ok(count) => Ok(count),
-        Err(_) => Err(AllocError),
+    match positions(alloc, slice::from_ref(ty), degree, place as usize) {
+        Ok(_) => Ok(false),
+        Err(IndexFault::TooMany) => Ok(true),
+        Err(IndexFault::NoMemory) => Err(AllocError),
     }
 }
 
 /// Of a unit target, whose position is its number, the position at which the annotation has no number;
-/// 0 where there are not so many tuples.
-pub fn unit_missing(number: u32, count: usize, annot: &Annot) -> Option<usize>
-    ensures { result ≡ cond (nat_lt number count) (cond (nat_lt 0 (annotation annot.now number)) None (Some number)) (Some 0) }
+/// 0 where it is no position of a tuple.
+pub fn unit_missing(number: u32, is_position: bool, annot: &Annot) -> Option<usize>
+    ensures { result ≡ cond is_position (cond (nat_lt 0 (annotation annot.now number)) None (Some number)) (Some 0) }
 {
-    if number as usize >= count {
+    if !is_position {
         return Some(0);
     }
     if annot.get(number).unsigned_abs() > 0 {
@@ -93,14 +96,16 @@ fn target_at(alloc: Global, ty: &Ty, degree: u8, number: u32) -> Result<Option<T
     }
 }
 
-// The tuples of a type, which are few where the walks are small enough.
+// The tuples of a type, of which there are few.
 fn all_tuples(alloc: Global, ty: &Ty, budget: u8) -> Result<Vec<Tuple>, AllocError>
+    requires { length (index_list (ty_of ty.now ∷ []) budget) ≤ 2000 }
     ensures all { IfOk result (λ all. all.items ≡ index_list (ty_of ty.now ∷ []) budget) }
     ensures few { IfOk result (λ all. AreFew all.items) }
 {
     match indices(alloc, slice::from_ref(ty), budget, 2000) {
         Ok(all) => Ok(all),
-        Err(_) => Err(AllocError),
+        Err(IndexFault::TooMany) => unreachable!(),
+        Err(IndexFault::NoMemory) => Err(AllocError),
     }
 }
 
@@ -112,6 +117,7 @@ pub fn aim_at(
     budget: u8,
     number: u32,
 ) -> Result<Option<Aim>, AllocError>
+    requires { length (index_list (ty_of ty.now ∷ []) budget) ≤ 2000 }
     ensures there { IfOk result (λ found. IfSome found (λ aim. slice_get (targets (ty_of ty.now) degree) number ≡ Some aim.target)) }
     ensures tuples { IfOk result (λ found. IfSome found (λ aim. aim.tuples.items ≡ index_list (ty_of ty.now ∷ []) budget)) }
     ensures few { IfOk result (λ found. IfSome found (λ aim. AreFew aim.tuples.items)) }

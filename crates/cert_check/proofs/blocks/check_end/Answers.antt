@@ -8,7 +8,7 @@ use Rattle.cert_check.specs.Fault.{Shape}
 use Rattle.cert_check.specs.Finds.{refusal, EndFinds}
 use Rattle.cert_check.specs.Read.{fault_of}
 use Rattle.cert_check.proofs.Telling.{of_fault}
-use Rattle.cert_check.proofs.Going.{refused_there, goes_there, next_there}
+use Rattle.cert_check.proofs.Going.{refused_there, refused_somewhere, goes_there, next_there}
 use Rattle.cert_check.proofs.blocks.check_end.Goals as goal
 
 pub returns-in-Err-TooMany : goal.returns-in-Err-TooMany
@@ -53,3 +53,13 @@ returns-in-Ok-Some c = λ blocks come n.
         ap (λ k. Some (Shape k)) (sym n),
       ),
     )
+
+pub refused-requires : goal.refused-requires
+refused-requires c =
+    let kept = c.args.program.now in
+    let came = c.requires in
+    let count : length kept.results ≡ length kept.functions =
+    ap length (sym c.results-results.ensures.results) ∙ c.results-results.ensures.count
+    ∙ sym (ap length (sym c.functions-functions.ensures.functions) ∙ c.functions-functions.ensures.count) in
+    refused_somewhere kept count (certificate_of c.args.certificate.now) came.0 c.args.schedule.now c.args.earlier.now came.1
+    (c.in-Err-TooMany.ensures.many (ap Err c.in-Err-TooMany.field-0-is))

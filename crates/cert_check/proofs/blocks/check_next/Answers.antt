@@ -3,6 +3,7 @@ use Rattle.std.specs.Option.{option_map}
 use Rattle.std.proofs.lemmas.Result.{on_ok_weaker}
 use Rattle.base_poly.specs.Read.{context_of}
 use Rattle.cost_free.specs.Read.{task_of}
+use Rattle.cost_free.specs.Refused.{Course}
 use Rattle.annot_types.specs.Holds.{budget_of}
 use Rattle.annot_types.specs.Held.{NamesBlocker}
 use Rattle.annot_types.specs.Read.{body_of, block_of, certificate_of}
@@ -23,8 +24,9 @@ check_there-requires c =
     let s = c.args.schedule.now in
     let t = task_of c.args.block.now.task in
     let is = task_is t (option_map task_of c.args.next) (c.is_scheduled.ensures.0 c.if-is_scheduled.true).0 in
-    let low = subst (λ d. budget_of d t.kind ≤ d) c.requires.same (task_is_low (context_of s.results) s.groups s.degree s.work s.done t (sym c.requires.next ∙ is)) in
-    record { low = omega (arith, low, c.requires.degree); kept = c.requires.kept }
+    let same : s.degree ≡ c.args.certificate.now.degree = ap (λ (x : Course). x.degree) c.requires.came.1.course_is in
+    let low = subst (λ d. budget_of d t.kind ≤ d) same (task_is_low (context_of s.results) s.groups s.degree s.work s.done t (sym c.requires.next ∙ is)) in
+    record { low = omega (arith, low, c.requires.degree); came = c.requires.came; goes_on = c.requires.goes_on; kept = c.requires.kept }
 
 pub returns-then-is_scheduled-clause-tells : goal.returns-then-is_scheduled-clause-tells
 returns-then-is_scheduled-clause-tells c = λ blocks come n.

@@ -82,3 +82,9 @@ returns c =
     tells_more c.check_end.result (EndFinds P held (take k bs)) (BlocksFind P held [] bs)
     (λ x h. c.loop-number.invariant.reduces x (subst (λ l. BlocksFind P held (take k bs) l x) (sym (ap (λ n. drop n bs) all ∙ drop-length bs)) h))
     (c.check_end.ensures (take k bs) c.loop-number.invariant.come (omega (arith, n, le, ge, count)))
+
+pub check_block-requires-clause-came : goal.check_block-requires-clause-came
+check_block-requires-clause-came c = (take c.loop-number.number (blocks_of c.args.certificate.now.blocks.items), c.loop-number.invariant.come)
+
+pub check_end-requires : goal.check_end-requires
+check_end-requires c = (take c.loop-number.number (blocks_of c.args.certificate.now.blocks.items), c.loop-number.invariant.come)

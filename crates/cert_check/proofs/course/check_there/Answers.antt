@@ -22,3 +22,6 @@ returns-in-Ok-go_on-clause-goes c = λ blocks come count next.
       scale = ap cap c.scale_for.ensures;
       knows = knows_of P held.degree blocks c.args.earlier.now come.remembers;
     }) come.remembers))
+
+pub check_body-requires-clause-remembers : goal.check_body-requires-clause-remembers
+check_body-requires-clause-remembers c = (c.requires.came.0, c.requires.came.1.remembers)

@@ -1,4 +1,4 @@
-use Rattle.std.proofs.Common.{◌≡◌, ◌++◌, ◌∷◌, [], sym, subst, ap, ◌∙◌, length}
+use Rattle.std.proofs.Common.{◌≡◌, ◌++◌, ◌∷◌, [], sym, subst, ap, ◌∙◌, length, Err}
 use Rattle.std.proofs.lemmas.Result.{on_ok_weaker}
 use Rattle.cost_free.specs.Refused.{gone_on}
 use Rattle.annot_types.specs.Read.{block_of}
@@ -22,3 +22,6 @@ returns-in-Ok c = on_ok_weaker c.remember.result
     (c.in-Ok.ensures.done ∙ ap (λ o. gone_on o c.args.schedule.now) c.done_as.ensures)
     (subst (λ d. Remembers P d (blocks ++ b ∷ []) new) (sym degree) (all blocks (subst (λ d. Remembers P d blocks old) degree come.remembers) sizes)))
     c.remember.ensures
+
+pub unreachable-requires : goal.unreachable-requires
+unreachable-requires c = c.requires (c.in-Err-TooMany.ensures.many (ap Err c.in-Err-TooMany.field-0-is))

@@ -6,6 +6,7 @@ use Rattle.annot_types.specs.Read as a
 use Rattle.rules_plan.specs.Read.{body_of, group_bodies, GroupWithin}
 use Rattle.cert_check.specs.At.{program_at, sizes_of}
 use Rattle.cert_check.specs.Finds.{ShapeFinds, BodyFinds}
+use Rattle.cert_check.proofs.Few.{kept_bodies_few}
 use Rattle.cert_check.proofs.Telling.{if_ok, tells_more}
 use Rattle.cert_check.proofs.planned.check_over.Goals as goal
 
@@ -33,3 +34,18 @@ returns-in-Ok-clause-sizes c = if_ok c.check_planned.result _ _ (λ s e held blo
     ∙ c.in-Ok.ensures P at.task.group (h.budget_of at.degree (kind_of at.task.kind)) blocks c.requires.plans remembers.usable
     ∙ ap (λ d. group_bodies P at.task.group blocks (h.budget_of d (kind_of at.task.kind))) is.degree))
     c.check_planned.ensures.sizes
+
+pub check_planned-requires-clause-within : goal.check_planned-requires-clause-within
+check_planned-requires-clause-within c =
+    let at = c.args.at.now in
+    let plans = c.requires.plans in
+    subst (GroupWithin (program_at at) at.task.group) plans.budget_is (subst (λ g. GroupWithin (program_at at) g c.args.plans.now.budget) plans.group_is plans.are.within)
+
+pub check_planned-requires-clause-few : goal.check_planned-requires-clause-few
+check_planned-requires-clause-few c =
+    let at = c.args.at.now in
+    let P = program_at at in
+    let budget = h.budget_of at.degree (kind_of at.task.kind) in
+    let blocks = c.requires.remembers.0 in
+    kept_bodies_few at.program.now c.source-source.ensures.small.functions c.groups-groups.ensures.grouping at.task.group budget blocks c.deref.result.now
+    (ap (map body_of) c.deref.ensures.value ∙ c.in-Ok.ensures P at.task.group budget blocks c.requires.plans c.requires.remembers.1.usable)

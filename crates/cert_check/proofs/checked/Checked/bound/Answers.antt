@@ -19,5 +19,5 @@ returns-clause-bounds c =
     c.self.view_is
     (IfOk-weaker c.bound_of.result _ _
     (bounds_told (source_in kept) c.source-source.ensures.typed c.source-source.ensures.numbers kept.groups.list (certificate_of c.self.inside.certificate)
-    (norm_in kept) c.functions-functions.ensures.norm c.self.invariant c.args.meter f)
+    (norm_in kept) c.functions-functions.ensures.norm c.self.invariant.held c.args.meter f)
     c.bound_of.ensures.told)
