@@ -50,7 +50,6 @@ pub fn rows(
     task: &Task,
     scale: i128,
 ) -> Result<System, GenFault>
-    requires degree { d ≤ 4 }
     requires budget { budget_of d (kind_of task.now.kind) ≤ 4 }
     requires natural { pos 0 ≤ℤ scale }
     ensures made { IfOk result (λ made. (blocks : List c.Block) → Remembers (program_in program.now) d blocks earlier.now →

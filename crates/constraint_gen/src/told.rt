@@ -246,7 +246,6 @@ pub fn hints_of(
     task: &Task,
     solution: &[i128],
 ) -> Result<(Vec<Sig>, Vec<Vec<Hint>>), AllocError>
-    requires degree { d ≤ 4 }
     requires budget { h.budget_of d (kind_of task.now.kind) ≤ 4 }
     requires indices { IsWithin (program_in program.now) d (task_of task.now) }
     requires one_each { HasOneEach (program_in program.now) d earlier.now (task_of task.now) solution.now }
