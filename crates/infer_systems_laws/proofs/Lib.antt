@@ -6,3 +6,4 @@ pub mod Generating
 pub mod Limits
 pub mod Ordered
 pub mod FitRows
+pub mod Below
