@@ -14,6 +14,7 @@ use Rattle.infer_spec.specs.Good.{AllRefuted}
 use Rattle.infer_spec.specs.Verifying as v
 use Rattle.infer_systems_laws.specs.Tried.{IsOrdered}
 use Rattle.cert_check.specs.Finds.{FirstFault}
+use Rattle.cert_check.specs.Laws.{IsFaultless}
 use Rattle.bound_infer.specs.Laws.{VectorsRefute}
 use Rattle.bound_infer.specs.Cleared.{OfFault, IsClear, BodyClear, ClearBefore, Faulty, LeavesThere, BlockCause, system_at, limit_at}
 use Rattle.bound_infer.specs.Inferred.{IsVerified, VectorFault, TaskFault, LeavesVector, VerifyCause}
