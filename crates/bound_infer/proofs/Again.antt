@@ -28,7 +28,7 @@ use Rattle.cert_check.specs.Read.{fault_of}
 use Rattle.cert_check.specs.declared.fault.CertFault.{CertFault}
 use Rattle.cert_check.specs.declared.fault.CertFault.TheVariants as h
 use Rattle.bound_infer.specs.Laws.{CheckLeaves, OnlyLeaves, CertificatesVerify}
-use Rattle.bound_infer.specs.Inferred.{VerifyCause}
+use Rattle.bound_infer.specs.Inferred.{VerifyCause, SystemsAreSmall, VerifiesAgain}
 use Rattle.bound_infer.specs.declared.refusal.VerifyFault.{VerifyFault}
 use Rattle.bound_infer.specs.declared.refusal.VerifyFault.TheVariants as r
 use Rattle.bound_infer.proofs.NeverNo.{never_no}
@@ -99,3 +99,13 @@ certificates_verify generate told certify stay large unrefuted alone P ordered d
     let generates = generate P ordered d pick in
     only_leaves told alone large unrefuted P ordered d pick generates cert ends
     (certify (analysis_of P d pick) generates least most cert ends) (stay (analysis_of P d pick) generates cert ends)
+
+-- A certificate that passes the check, whose vectors refute systems within the limits, is refused for numbers of vectors alone.
+module _ (P : Program) (cert : Certificate) (one : (first other : Option f.Fault) → FirstFault P cert first → FirstFault P cert other → first ≡ other)
+    (unrefuted : (place : ℕ) → v.BlockFault P (generator_of P cert.degree) cert place v.NotRefuted → ⊥) (systems : SystemsAreSmall P cert) (passes : FirstFault P cert None) where
+  pub verifies_again : VerifiesAgain P cert
+  verifies_again (r.Cert fault) h = h.0 (one (fault_of fault) None h.1 passes)
+  verifies_again (r.NotRefuted block) h = unrefuted block h.first.is
+  verifies_again (r.TooLarge task what) h = systems h.place _ h.has.first.is
+  verifies_again (r.Leaves at) h = tt
+  verifies_again r.NoMemory h = tt

@@ -14,6 +14,7 @@ use Rattle.infer_spec.specs.Good.{AllRefuted}
 use Rattle.infer_spec.specs.Verifying as v
 use Rattle.infer_systems_laws.specs.Tried.{IsOrdered}
 use Rattle.cert_check.specs.Finds.{FirstFault}
+use Rattle.cert_check.specs.Laws.{IsFaultless}
 use Rattle.bound_infer.specs.Laws.{VectorsRefute}
 use Rattle.bound_infer.specs.Cleared.{OfFault, IsClear, BodyClear, ClearBefore, Faulty, LeavesThere, BlockCause, system_at, limit_at}
 use Rattle.bound_infer.specs.Inferred.{IsVerified, VectorFault, TaskFault, LeavesVector, VerifyCause}
@@ -78,9 +79,9 @@ module _ (P : Program) (cert : Certificate) where
 
   -- Where all are clear the certificate is verified.
   module _ (clear : ClearBefore P cert (length cert.blocks)) where
-    pub is_verified : FirstFault P cert None → IsVerified P cert
-    is_verified passes = record {
-      passes = passes;
+    pub is_verified : IsFaultless P cert → IsVerified P cert
+    is_verified faultless = record {
+      faultless = faultless;
       clear = λ place fault f. none_before (length cert.blocks) clear place fault (slice_get_within cert.blocks place f.block f.there) f;
     }
 

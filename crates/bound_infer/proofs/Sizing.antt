@@ -12,7 +12,7 @@ use Rattle.normal_spec.specs.Read.{fun_of, funs_of}
 use Rattle.cost_free.specs.Blocked.{is_among}
 use Rattle.annot_types.specs.Program.{Program, members}
 use Rattle.rules_walk.specs.Sizes.{AreSizes}
-use Rattle.infer_systems_laws.specs.Tried.{AreApart, IsOrdered}
+use Rattle.rules_systems_laws.specs.Ordered.{AreApart, IsOrdered}
 use Rattle.bound_infer.specs.Sized.{sizes_in}
 
 pub function_there : (As : List Ty) (gs : List NormFun) (k : ℕ) (g : NormFun) (d : Ty) → k < length As → slice_get gs k ≡ Some g →

@@ -61,11 +61,6 @@ IsRefusal large (i.TooLarge told what) = (large ≡ Some (task_of told)) × (wha
 IsRefusal large (i.Leaves at) = ⊥
 IsRefusal large i.NoMemory = Unit {0}
 
--- this total of the check
-abbrev pub IsCheckAt : ℕ → List ℕ → ℕ → LeavesAt → Type 0
-IsCheckAt block path index (Check b p i) = (b ≡ block) × (p.items ≡ path) × (i ≡ index)
-IsCheckAt block path index at = ⊥
-
 -- a fault that is found is a total that leaves
 abbrev pub LeavesAlone : Option f.Fault → Type 0
 LeavesAlone found = (fault : f.Fault) → found ≡ Some fault → IsLeaving fault

@@ -4,12 +4,14 @@ use Rattle.cost_free.specs.Task.{Task}
 use Rattle.cost_free.specs.Read.{task_of}
 use Rattle.annot_types.specs.Program.{Program}
 use Rattle.annot_types.specs.Certificate.{Block, Certificate}
+use Rattle.infer_spec.specs.Generator as g
 use Rattle.infer_spec.specs.Generator.{Analysis}
 use Rattle.infer_spec.specs.Places as p
 use Rattle.infer_spec.specs.Courses.{EndsAt}
 use Rattle.infer_spec.specs.Verifying as v
 use Rattle.cert_check.specs.Fault as f
 use Rattle.cert_check.specs.Finds.{FirstFault}
+use Rattle.cert_check.specs.Laws.{IsFaultless}
 use Rattle.cert_check.specs.Read.{fault_of}
 use Rattle.infer_systems_laws.specs.Analysed.{generator_of}
 use Rattle.bound_infer.specs.After.{ComesTo}
@@ -49,10 +51,14 @@ InferCause A (i.TooLarge task what) = ComesTo A (Some (task_of task, p.TooLarge 
 InferCause A (i.Leaves at) = LeavesIn A at
 InferCause A i.NoMemory = Unit {0}
 
--- The check finds no fault in the certificate, and no vector of it has one.
+-- The certificate is held, within the limits, and no total leaves 128 bits; and no vector of it has a fault.
 pub record IsVerified (P : Program) (c : Certificate) : Type 0 where
-  pub passes : FirstFault P c None
+  pub faultless : IsFaultless P c
   pub clear : (place : ℕ) (fault : v.Fault) → v.BlockFault P (generator_of P c.degree) c place fault → ⊥
+
+-- The system of no refuted block leaves the limits.
+abbrev pub SystemsAreSmall : Program → Certificate → Type 0
+SystemsAreSmall P c = (place : ℕ) (what : g.What) → v.BlockFault P (generator_of P c.degree) c place (v.TooLarge what) → ⊥
 
 -- The check finds none, and this is the first fault of a vector, of the block at this place.
 pub record VectorFault (P : Program) (c : Certificate) (place : ℕ) (fault : v.Fault) : Type 0 where
@@ -80,3 +86,15 @@ VerifyCause P c (r.NotRefuted block) = VectorFault P c block v.NotRefuted
 VerifyCause P c (r.TooLarge task what) = TaskFault P c (task_of task) (v.TooLarge (what_of what))
 VerifyCause P c (r.Leaves at) = LeavesVector P c at
 VerifyCause P c r.NoMemory = Unit {0}
+
+-- a number that leaves 128 bits in the check of a vector, or want of memory
+abbrev pub VectorsLeave : VerifyFault → Type 0
+VectorsLeave (r.Cert fault) = ⊥
+VectorsLeave (r.NotRefuted block) = ⊥
+VectorsLeave (r.TooLarge task what) = ⊥
+VectorsLeave (r.Leaves at) = Unit {0}
+VectorsLeave r.NoMemory = Unit {0}
+
+-- The certificate, verified again with the same program, is refused for nothing else.
+abbrev pub VerifiesAgain : Program → Certificate → Type 0
+VerifiesAgain P c = (fault : VerifyFault) → VerifyCause P c fault → VectorsLeave fault

@@ -26,17 +26,14 @@ use rules_walk::Earlier;
 use share_normal::NormProgram;
 use std::alloc::{AllocError, Global};
 
-// What is told of a block whose vector has a fault. So many blocks have no room in memory.
+// What is told of a block whose vector has a fault.
 fn told(number: usize, task: Task, fault: VectorFault) -> VerifyFault
     ensures { (P : Program) (c : c.Certificate) → OfFault (fault_of fault) (Faulty P c number) → BlockCause P c number (task_of task) result }
 {
     match fault {
         VectorFault::TooLarge { what } => VerifyFault::TooLarge { task, what },
         VectorFault::Row { row } => VerifyFault::Leaves(LeavesAt::Row { task, row }),
-        VectorFault::NotRefuted => match u32::try_from(number) {
-            Ok(block) => VerifyFault::NotRefuted { block },
-            Err(_) => VerifyFault::NoMemory,
-        },
+        VectorFault::NotRefuted => VerifyFault::NotRefuted { block: number },
         VectorFault::Refute { column } => VerifyFault::Leaves(LeavesAt::Refute { task, column }),
         VectorFault::NoMemory => VerifyFault::NoMemory,
     }

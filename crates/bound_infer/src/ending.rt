@@ -8,8 +8,9 @@ ghost use Rattle.cert_check.specs.Laws.{IsProper, IsSmall};
 ghost use Rattle.cert_check.specs.Read.{fault_of};
 ghost use Rattle.infer_spec.specs.Good.{AllRefuted};
 ghost use Rattle.infer_spec.specs.States as s;
+ghost use Rattle.bound_infer.specs.Inferred.{SystemsAreSmall};
 ghost use Rattle.bound_infer.specs.Keeping.{state_of};
-ghost use Rattle.bound_infer.specs.Found.{IsCheckAt, LeavesAlone, IsCheckFault, CheckCause};
+ghost use Rattle.bound_infer.specs.Found.{LeavesAlone, IsCheckFault, CheckCause};
 
 use crate::leaves::LeavesAt;
 use crate::refusal::InferFault;
@@ -20,7 +21,7 @@ use cert_check::laws::held_leaves_alone;
 use cert_check::{CertFault, check_held};
 use rules_plan::KeptPlans;
 use share_normal::NormProgram;
-use std::alloc::{AllocError, Global};
+use std::alloc::Global;
 
 // The certificate of the blocks and the scales.
 fn certificate(d: u8, run: Run<'_>) -> Certificate
@@ -43,39 +44,15 @@ fn certificate(d: u8, run: Run<'_>) -> Certificate
     }
 }
 
-// A total that leaves, by numbers of 32 bits.
-fn leaves_at(
-    alloc: Global,
-    block: usize,
-    path: &[u32],
-    index: usize,
-) -> Result<LeavesAt, AllocError>
-    ensures { IfOk result (IsCheckAt block path.now index) }
-{
-    // so many blocks, or indices, have no room in memory
-    let Ok(block) = u32::try_from(block) else {
-        return Err(AllocError);
-    };
-    let Ok(index) = u32::try_from(index) else {
-        return Err(AllocError);
-    };
-    Ok(LeavesAt::Check {
-        block,
-        path: Vec::from_slice(alloc, path)?,
-        index,
-    })
-}
-
 // A fault of the check, which is no other than a total that leaves.
-fn check_fault(alloc: Global, fault: CertFault) -> InferFault
+fn check_fault(fault: CertFault) -> InferFault
     requires { LeavesAlone (fault_of fault) }
     ensures { IsCheckFault (fault_of fault) result }
 {
     match fault {
-        CertFault::Leaves { block, path, index } => match leaves_at(alloc, block, &path, index) {
-            Ok(at) => InferFault::Leaves(at),
-            Err(_) => InferFault::NoMemory,
-        },
+        CertFault::Leaves { block, path, index } => {
+            InferFault::Leaves(LeavesAt::Check { block, path, index })
+        }
         CertFault::NoMemory => InferFault::NoMemory,
         CertFault::Shape { .. } => unreachable!(),
         CertFault::Fails { .. } => unreachable!(),
@@ -95,6 +72,7 @@ pub(crate) fn ended<'p, 'a>(
     requires small { IsSmall (program_in program.now) (s.certificate_of d true (state_of run)) }
     requires valid { Valid (program_in program.now) (s.certificate_of d true (state_of run)) }
     requires refuted { AllRefuted (program_in program.now) (s.certificate_of d true (state_of run)) }
+    requires systems { SystemsAreSmall (program_in program.now) (s.certificate_of d true (state_of run)) }
     requires kept { AreKept (program_in program.now) kept }
     ensures certificate { IfOk result (λ verified. verified ≡ record { program = program.now; certificate = s.certificate_of d true (state_of run.entry) }) }
     ensures passes { OnOk result (FirstFault (program_in program.now) (s.certificate_of d true (state_of run.entry)) None) }
@@ -103,6 +81,6 @@ pub(crate) fn ended<'p, 'a>(
     held_leaves_alone();
     match check_held(alloc, program, certificate(d, run), kept) {
         Ok(checked) => Ok(keep(checked)),
-        Err(fault) => Err(check_fault(alloc, fault)),
+        Err(fault) => Err(check_fault(fault)),
     }
 }

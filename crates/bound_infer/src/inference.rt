@@ -16,15 +16,15 @@ use crate::run::{Run, begin};
 use crate::step::all_steps;
 use crate::verified::Verified;
 use frac128::Frac;
-use infer_spec::laws::{courses_certify, courses_stay_within};
+use infer_spec::laws::{courses_certify, courses_stay_within, none_too_large};
 use infer_systems_laws::laws::{limits_are_told, normals_are_ordered, systems_generate};
 use rules_plan::KeptPlans;
 use share_normal::NormProgram;
 use simplex::Chooser;
 use std::alloc::Global;
 
-// The program is ordered.
-fn ordered(program: &NormProgram<'_>)
+/// The program is ordered.
+pub(crate) fn ordered(program: &NormProgram<'_>)
     ensures { IsOrdered (program_in program.now) }
 {
     normals_are_ordered();
@@ -86,6 +86,7 @@ pub fn infer<'p, 'a, F: Fn(&[Frac]) -> Option<usize>>(
     limits_are_told();
     courses_certify();
     courses_stay_within();
+    none_too_large();
     let mut kept = KeptPlans::new(alloc);
     match course(alloc, program, d, &mut kept, chooser) {
         Ok(run) => ended(alloc, program, d, run, kept),

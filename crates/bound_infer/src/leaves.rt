@@ -1,5 +1,6 @@
 // Where numbers leave 128 bits.
 use cost_free::Task;
+use smallvec::SmallVec;
 
 /// Where a number leaves 128 bits.
 #[derive(Debug, Drop)]
@@ -27,13 +28,13 @@ pub enum LeavesAt {
     /// solution.
     Rescale {
         task: Task,
-        block: u32,
+        block: usize,
     },
     /// In the check of the certificate: in the condition of this index at the path in the block.
     Check {
-        block: u32,
-        path: Vec<u32>,
-        index: u32,
+        block: usize,
+        path: SmallVec<u32, 8>,
+        index: usize,
     },
     /// In the check of the vector that refutes the task, at this column.
     Refute {

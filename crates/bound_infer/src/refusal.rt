@@ -20,7 +20,7 @@ pub enum VerifyFault {
     /// The check finds a fault, which is no want of memory.
     Cert(CertFault),
     /// The vector of this refuted block does not refute its task.
-    NotRefuted { block: u32 },
+    NotRefuted { block: usize },
     /// Of the task of a refuted block there are more than 2000 indices, unknowns or rows.
     TooLarge { task: Task, what: What },
     /// A number of its system, or a total of the check of its vector, leaves 128 bits.

@@ -5,10 +5,9 @@ ghost use Rattle.raml_syntax.specs.declared.program.FunId.{FunId as TheFunId};
 ghost use Rattle.cost_free.specs.Read.{task_of};
 ghost use Rattle.cost_free.specs.Refused.{IsRefused};
 ghost use Rattle.annot_types.specs.Certificate as c;
-ghost use Rattle.annot_types.specs.Certificate.{done_as, outcome};
+ghost use Rattle.annot_types.specs.Certificate.{outcome};
 ghost use Rattle.annot_types.specs.Held.{IfSolved};
 ghost use Rattle.annot_types.specs.Program.{blocker_of};
-ghost use Rattle.rules_walk.specs.Remembers.{Remembers};
 ghost use Rattle.annot_types.specs.Read as a;
 ghost use Rattle.rules_plan.specs.Read.{program_in};
 ghost use Rattle.cert_check.specs.At.{sizes_in};
@@ -18,11 +17,11 @@ ghost use Rattle.infer_spec.specs.States.{start, with_block};
 ghost use Rattle.bound_infer.specs.Keeping.{state_of, first_of, Keeps};
 
 use crate::fitting::body_fits;
-use crate::kinds::members;
 use crate::scales::Scales;
-use annot_types::{Block, BlockBody};
+use annot_types::Block;
 use base_poly::IndexFault;
-use cost_free::{Done, Schedule, Task, blocked};
+use cert_check::{done_as, remember};
+use cost_free::{Schedule, Task, blocked};
 use raml_syntax::FunId;
 use rules_walk::Earlier;
 use share_normal::NormProgram;
@@ -88,36 +87,6 @@ pub(crate) fn waits_for(
     let _functions = program.functions();
     let _results = program.results();
     blocked(program.groups(), task, run.schedule.done())
-}
-
-// How a task came out.
-fn done_as(body: &BlockBody) -> Done
-    ensures { result ≡ done_as (a.body_of body.now) }
-{
-    match body {
-        BlockBody::Solved { .. } => Done::Solved,
-        BlockBody::Refuted { .. } => Done::Refuted,
-        BlockBody::Calls { .. } => Done::Calls,
-    }
-}
-
-// The tables go past a block.
-fn remember(
-    alloc: Global,
-    program: &NormProgram<'_>,
-    d: u8,
-    earlier: &mut Earlier,
-    block: &Block,
-    sizes: &[(usize, usize)],
-) -> Result<(), AllocError>
-    ensures { OnOk result ((blocks : List c.Block) → Remembers (program_in program.now) d blocks earlier.old →
-        IfSolved (a.body_of block.now.body) (sizes.now ≡ sizes_in (program_in program.now) d blocks (task_of block.now.task)) →
-        Remembers (program_in program.now) d (blocks ++ a.block_of block.now ∷ []) earlier.new) }
-{
-    let _functions = program.functions();
-    let _groups = program.groups();
-    let functions = members(program, block.task.group);
-    earlier.add(alloc, d, block, functions, sizes)
 }
 
 // The schedule and the tables do.

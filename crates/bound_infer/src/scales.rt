@@ -1,5 +1,5 @@
 // The scales of meters.
-ghost use Rattle.std.specs.Prelude.{◌≡◌, cond};
+ghost use Rattle.std.specs.Prelude.{◌≡◌, pos, cond};
 ghost use Rattle.cost_free.specs.declared.task.Meter.TheVariants.{Ticks, Cells, Work};
 ghost use Rattle.cost_free.specs.Task.{same_meter};
 ghost use Rattle.cost_free.specs.Read.{kind_of};
@@ -43,12 +43,12 @@ impl Scales {
     }
 
     /// That of a task, 1 for one without cost.
-    pub(crate) fn of_kind(&self, kind: TaskKind) -> u128
-        ensures { result ≡ scale_at (scales_of self.now) (kind_of kind) }
+    pub(crate) fn of_kind(&self, kind: TaskKind) -> i128
+        ensures { result ≡ pos (scale_at (scales_of self.now) (kind_of kind)) }
     {
         match kind {
             TaskKind::Free { .. } => 1,
-            TaskKind::With(meter) => self.of_meter(meter).size(),
+            TaskKind::With(meter) => self.of_meter(meter).value(),
         }
     }
 

@@ -1,5 +1,6 @@
 // Tasks that are solved, and tasks that are refuted.
-ghost use Rattle.std.specs.Prelude.{◌≡◌, ℕ, ℤ, pos, unsigned_abs, List, Option, map, Some, IfOk, IfErr, OnOk};
+ghost use Rattle.std.specs.Prelude.{◌≡◌, ◌≤◌, ℕ, ℤ, pos, unsigned_abs, List, length, Option, map, Some, IfOk, IfErr, OnOk};
+ghost use Rattle.raml_num.specs.Sums.{NoneNegative};
 ghost use Rattle.cost_free.specs.Read.{task_of, kind_of};
 ghost use Rattle.cost_free.specs.Task.{With};
 ghost use Rattle.annot_types.specs.Certificate as c;
@@ -7,6 +8,7 @@ ghost use Rattle.annot_types.specs.Read as a;
 ghost use Rattle.annot_types.specs.Holds.{budget_of};
 ghost use Rattle.rules_spec.specs.Told.{bodies_of, sigs_told, hints_told};
 ghost use Rattle.rules_plan.specs.Read.{program_in, function_of, ArePlansOf};
+ghost use Rattle.constraint_gen.specs.Given.{unknowns_of};
 ghost use Rattle.cert_check.specs.At.{sizes_of};
 ghost use Rattle.cert_check.specs.Finds.{next_after};
 ghost use Rattle.infer_spec.specs.States.{State, raise as raise_state, with_block};
@@ -38,11 +40,9 @@ fn rescale(task: &Task, fault: RaiseFault) -> InferFault
         RaiseCause (task_of task.now) t st result }
 {
     match fault {
-        RaiseFault::Leaves { block } => match u32::try_from(block) {
-            Ok(block) => InferFault::Leaves(LeavesAt::Rescale { task: *task, block }),
-            // so many blocks have no room in memory
-            Err(_) => InferFault::NoMemory,
-        },
+        RaiseFault::Leaves { block } => {
+            InferFault::Leaves(LeavesAt::Rescale { task: *task, block })
+        }
         RaiseFault::NoMemory => InferFault::NoMemory,
     }
 }
@@ -173,6 +173,9 @@ fn told(
 ) -> Result<(Vec<Sig>, Vec<Vec<Hint>>), AllocError>
     requires keeps { Keeps program.now d run.now }
     requires plans { ArePlansOf (program_in program.now) task.now.group (budget_of d (kind_of task.now.kind)) plans.now }
+    requires one_each { length numbers.now ≡ unknowns_of (bodies_of (program_in program.now) d (a.blocks_of run.now.blocks.items) (task_of task.now)) }
+    requires few { length numbers.now ≤ 2000 }
+    requires natural { NoneNegative numbers.now }
     ensures sigs { IfOk result (λ told. map a.sig_of told.0.items
         ≡ sigs_told (bodies_of (program_in program.now) d (a.blocks_of run.now.blocks.items) (task_of task.now)) (map unsigned_abs numbers.now)) }
     ensures hints { IfOk result (λ told. map a.hints_of told.1.items
@@ -197,6 +200,9 @@ pub(crate) fn solved(
     requires begins { Begins (state_of run.old) }
     requires next { next_after (program_in program.now) (first_of d) (a.blocks_of run.old.blocks.items) ≡ Some (task_of task.now) }
     requires plans { ArePlansOf (program_in program.now) task.now.group (budget_of d (kind_of task.now.kind)) plans.now }
+    requires one_each { length numbers.now ≡ unknowns_of (bodies_of (program_in program.now) d (a.blocks_of run.old.blocks.items) (task_of task.now)) }
+    requires few { length numbers.now ≤ 2000 }
+    requires natural { NoneNegative numbers.now }
     ensures keeps { OnOk result (Keeps program.now d run.new) }
     ensures state { OnOk result ((pick : List ℤ → ℤ → Option ℕ) → state_of run.new
         ≡ after (analysis_in program.now d pick) (task_of task.now) (Has factor.now (map unsigned_abs numbers.now)) (state_of run.old)) }

@@ -23,7 +23,7 @@ use cert_check::budget_of;
 use cost_free::Task;
 use frac128::Frac;
 use infer_spec::laws::{courses_are_good, fine_is_clear, scales_begin, seen_is_first};
-use infer_systems_laws::laws::systems_generate;
+use infer_systems_laws::laws::{systems_generate, tried_are_tasks};
 use rules_plan::{GroupPlans, KeptPlans};
 use share_normal::NormProgram;
 use simplex::Chooser;
@@ -42,6 +42,7 @@ fn carried<F: Fn(&[Frac]) -> Option<usize>>(
     chooser: &Chooser<F>,
 ) -> Result<(), InferFault>
     requires one { AnswersByOne F.Fn chooser.now }
+    requires ordered { IsOrdered (program_in program.now) }
     requires keeps { Keeps program.now d run.old }
     requires begins { Begins (state_of run.old) }
     requires here { ByEach F.Fn chooser.now (λ pick. IsAtHand (analysis_in program.now d pick) (state_of run.old) (task_of task.now)) }
@@ -54,6 +55,7 @@ fn carried<F: Fn(&[Frac]) -> Option<usize>>(
 {
     fine_is_clear();
     seen_is_first();
+    tried_are_tasks();
     match answer {
         Answer::Solution {
             denominator,

@@ -11,19 +11,23 @@ ghost use Rattle.rules_soundness_laws.specs.Laws.{IsTrue};
 ghost use Rattle.rules_plan.specs.Read.{program_in};
 ghost use Rattle.infer_spec.specs.Good.{AllRefuted};
 ghost use Rattle.infer_spec.specs.Lines.{Tells};
+ghost use Rattle.bound_infer.specs.Inferred.{SystemsAreSmall, VerifiesAgain};
 ghost use Rattle.bound_infer.specs.Told.{claim_of, IsWritten};
 
 use crate::claims::{block_for, told};
+use crate::inference::ordered;
 use crate::line::Line;
 use annot_types::Certificate;
 use cert_check::Checked;
+use cert_check::laws::{faultless_exactly, one_first_fault};
 use cost_free::Meter;
+use infer_spec::laws::none_unrefuted;
 use raml_syntax::FunId;
 use std::alloc::{AllocError, Global};
 use std::marker::Model;
 
 /// A valid certificate with its program: its solved blocks hold, and the tasks of its refuted blocks have
-/// no solution.
+/// no solution. The systems of these are within the limits.
 #[derive(Drop)]
 pub struct Verified<'p, 'a> {
     checked: Checked<'p, 'a>,
@@ -40,6 +44,7 @@ impl<'p, 'a> Model for Verified<'p, 'a> {
     ghost use Rattle.infer_spec.specs.Good.{AllRefuted};
     ghost use Rattle.rules_plan.specs.Read.{program_in};
     ghost use Rattle.cert_check.specs.Checked.{Checking};
+    ghost use Rattle.bound_infer.specs.Inferred.{SystemsAreSmall};
 
     ghost Value = { Checking };
 
@@ -55,13 +60,16 @@ impl<'p, 'a> Model for Verified<'p, 'a> {
     ghost view = { λ verified. verified.checked };
 
     ghost invariant = { λ verified. Valid (program_in verified.checked.program) verified.checked.certificate
-        × AllRefuted (program_in verified.checked.program) verified.checked.certificate };
+        × AllRefuted (program_in verified.checked.program) verified.checked.certificate
+        × SystemsAreSmall (program_in verified.checked.program) verified.checked.certificate };
 }
 
-/// A certificate that was checked is kept, where it is valid and its refuted tasks have no solution.
+/// A certificate that was checked is kept, where it is valid, and its refuted tasks have no solution and
+/// systems within the limits.
 pub(crate) fn keep<'p, 'a>(checked: Checked<'p, 'a>) -> Verified<'p, 'a>
     requires valid { Valid (program_in checked.program) checked.certificate }
     requires refuted { AllRefuted (program_in checked.program) checked.certificate }
+    requires small { SystemsAreSmall (program_in checked.program) checked.certificate }
     ensures { result ≡ checked.entry }
 {
     Verified { checked }
@@ -75,12 +83,18 @@ impl<'p, 'a> Verified<'p, 'a> {
         &self.checked
     }
 
-    /// The certificate.
+    /// The certificate. `verify` with the same program takes it again, but where a number of a vector's
+    /// check leaves 128 bits, or memory is wanting.
     pub fn certificate(&self) -> &Certificate
         ensures certificate { certificate_of result.now ≡ self.now.certificate }
         ensures valid { Valid (program_in self.now.program) self.now.certificate }
         ensures refuted { AllRefuted (program_in self.now.program) self.now.certificate }
+        ensures again { VerifiesAgain (program_in self.now.program) self.now.certificate }
     {
+        ordered(self.checked.program());
+        faultless_exactly();
+        one_first_fault();
+        none_unrefuted();
         self.checked.certificate()
     }
 

@@ -29,8 +29,8 @@ use rules_walk::Earlier;
 use share_normal::NormProgram;
 use std::alloc::{AllocError, Global};
 
-// How a block came out.
-fn done_as(body: &BlockBody) -> Done
+/// How a block came out.
+pub fn done_as(body: &BlockBody) -> Done
     ensures { result ≡ done_as (a.body_of body.now) }
 {
     match body {

@@ -36,3 +36,7 @@ pub use head::scale_for;
 pub use planned::check_planned;
 pub use sizes::remember_block;
 pub use target::sig_of;
+
+// what a course of the schedule shares with the check
+pub use course::{done_as, remember};
+pub use refusal::large_task;

@@ -1,7 +1,8 @@
 -- What reading a file gives.
-use Rattle.std.proofs.Common.{◌≡◌, ◌⊎◌, ℕ, Bool, false, cond, List, Option, Some, None, Result, Ok, Err, IfOk, refl, sym, ap, subst, ◌∙◌, ⊎_elim}
+use Rattle.std.proofs.Common.{rules, ◌≡◌, ◌⊎◌, ℕ, ◌^◌, ◌<◌, length, codes, Bool, false, cond, List, Option, Some, None, Result, Ok, Err, IfOk, refl, sym, ap, subst, ◌∙◌, ⊎_elim}
 use Rattle.std.specs.Prelude.{IfErr, IsErrAnd, MatchResult, IsUtf8, is_some, ◌≤◌, Vec}
 use Rattle.std.specs.Global.{Global}
+use Rattle.std.proofs.lemmas.Str.{IsUtf8-append, IsUtf8-from_ascii}
 use Rattle.serde_json.specs.Data.{Data, depth}
 use Rattle.serde_json.specs.Read.{read, max_depth}
 use Rattle.serde_json.specs.Written.{compact_text, has_float}
@@ -16,12 +17,14 @@ use Rattle.cert_json.specs.Numbers.{Wide, CertificateHas}
 use Rattle.cert_json.specs.Faults as f
 use Rattle.cert_json.specs.Faults.{HasParts, Refuses}
 use Rattle.cert_json.specs.Steps.{fault_at, read_certificate}
-use Rattle.cert_json.specs.Told.{json_of, text_of, place_of, TellsFault, Tells, IsWritten, IsFile, IsTold, IsRefused, RefusedBy, Cause}
+use Rattle.cert_json.specs.Told.{json_of, text_of, place_of, TellsFault, Tells, IsWritten, IsComplete, IsFile, IsTold, IsRefused, RefusedBy, Cause}
 use Rattle.cert_json.specs.declared.whole.Place.{Place}
 use Rattle.cert_json.specs.declared.whole.JsonFault.{JsonFault}
 use Rattle.cert_json.specs.declared.whole.JsonFault.TheVariants.{NotJson, Shape, Number, NoMemory}
 use Rattle.cert_json.proofs.Plain.{no_float, shallow}
-use Rattle.cert_json.proofs.Parted.{parts_are, parts_tell}
+use Rattle.cert_json.proofs.Parted.{parts_are, undone_whole, parts_tell}
+use Rattle.cert_json.proofs.Lined.{lined, read_lined}
+use Rattle.cert_json.proofs.Fitted.{certificate_fits}
 use Rattle.cert_json.proofs.Alone.{refusal, refused_is}
 use Rattle.cert_json.proofs.Unique.{read_is_written}
 use Rattle.cert_json.proofs.Certificates.{certificate_sound, certificate_complete, certificate_refused}
@@ -47,6 +50,20 @@ is_written (Ok b) d cert e n u h = record {
   numbers = subst (CertificateHas Wide) (sym (parts_are cert)) n;
 }
 is_written (Err x) d cert e n u h = tt
+
+-- with a line feed behind it, it is a file
+file_of : (bytes : List ℕ) (cert : c.Certificate) → bytes ≡ text_of cert → IsWritten bytes cert → IsComplete cert → length bytes < 2 ^ 31 → IsFile (lined bytes) cert
+file_of bytes cert e w i h = record {
+  text = IsUtf8-append bytes (codes "\n") w.text (IsUtf8-from_ascii (codes "\n") (search rules));
+  value = json_of cert;
+  read = read_lined bytes ∙ w.json;
+  is = certificate_fits (parts cert) (subst IsComplete (sym (undone_whole cert)) i) w.numbers (record { text = subst (λ b. length b < 2 ^ 31) e h });
+}
+
+pub is_file : {E : Type 0} (r : Result (Vec ℕ Global) E) (cert : c.Certificate) → IfOk r (λ b. b.items ≡ text_of cert) → IfOk r (λ b. IsWritten b.items cert)
+    → IfOk r (λ b. IsComplete cert → length b.items < 2 ^ 31 → IsFile (lined b.items) cert)
+is_file (Ok b) cert e w = file_of b.items cert e w
+is_file (Err x) cert e w = tt
 
 -- ---- what is read
 

@@ -12,4 +12,7 @@ pub mod Certificates
 pub mod Parted
 pub mod Answering
 pub mod Unique
+pub mod Lined
+pub mod Shorter
+pub mod Fitted
 pub mod Alone

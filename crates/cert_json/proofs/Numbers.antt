@@ -87,7 +87,7 @@ rises n (e ∷ es) h k =
     let a = and_parts (nat_le n e.0) (ascend_from (suc e.0) es) k in
     (leb-true n e.0 a.0, positive e.1 h.0.number, rises (suc e.0) es h.1 a.1)
 
-ascends : (n : ℕ) (es : Entries ℤ) → RiseFrom n es → ascend_from n es ≡ true
+pub ascends : (n : ℕ) (es : Entries ℤ) → RiseFrom n es → ascend_from n es ≡ true
 ascends n [] r = refl
 ascends n (e ∷ es) r = rw (le-leb n e.0 r.0) (ascends (suc e.0) es r.2)
 

@@ -53,18 +53,18 @@ undone : {A B : Type 0} (f : A → B) (g : B → A) → ((x : A) → g (f x) ≡
 undone f g e [] = refl
 undone f g e (x ∷ xs) = ap₂ (λ y ys. y ∷ ys) (e x) (undone f g e xs)
 
-abbrev sig_back : p.Sig ℤ → c.Sig
+abbrev pub sig_back : p.Sig ℤ → c.Sig
 sig_back s = record { args = s.args; result = s.result }
 
-abbrev hint_back : p.Hint ℤ → c.Hint
+abbrev pub hint_back : p.Hint ℤ → c.Hint
 hint_back (p.Let annots) = c.Let annots
 hint_back (p.Share annot) = c.Share annot
 hint_back (p.Call uses) = c.Call uses
 
-abbrev hints_back : List (p.Hint ℤ) → List c.Hint
+abbrev pub hints_back : List (p.Hint ℤ) → List c.Hint
 hints_back hints = map hint_back hints
 
-abbrev body_back : p.Body ℤ → c.Body
+abbrev pub body_back : p.Body ℤ → c.Body
 body_back (p.Solved sigs hints) = c.Solved (map sig_back sigs) (map hints_back hints)
 body_back (p.Refuted farkas) = c.Refuted farkas
 body_back (p.Calls fun) = c.Calls fun
@@ -72,13 +72,13 @@ body_back (p.Calls fun) = c.Calls fun
 abbrev with_body : Task → c.Body → c.Block
 with_body task body = record { task = task; body = body }
 
-abbrev block_back : p.Block ℤ → c.Block
+abbrev pub block_back : p.Block ℤ → c.Block
 block_back b = with_body b.task (body_back b.body)
 
 abbrev with_blocks : p.Head ℤ → List c.Block → c.Certificate
 with_blocks h blocks = record { degree = h.degree; ticks_scale = h.ticks; cells_scale = h.cells; work_scale = h.work; blocks = blocks }
 
-abbrev back : p.Certificate ℤ → c.Certificate
+abbrev pub back : p.Certificate ℤ → c.Certificate
 back cert = with_blocks cert.head (map block_back cert.blocks)
 
 hint_undone : (hint : c.Hint) → hint_back (hint_parts hint) ≡ hint
@@ -97,7 +97,7 @@ body_undone (c.Calls fun) = refl
 block_undone : (block : c.Block) → block_back (block_parts block) ≡ block
 block_undone block = ap (with_body block.task) (body_undone block.body)
 
-undone_whole : (cert : c.Certificate) → back (parts cert) ≡ cert
+pub undone_whole : (cert : c.Certificate) → back (parts cert) ≡ cert
 undone_whole cert = ap (with_blocks (parts cert).head) (undone block_parts block_back block_undone cert.blocks)
 
 -- certificates with the same parts are the same

@@ -1,5 +1,5 @@
 -- Two certificates with the same JSON are the same.
-use Rattle.std.proofs.Common.{◌≡◌, ℕ, suc, ◌^◌, ◌<◌, ℤ, pos, negsuc, List, [], ◌∷◌, map, Option, Some, None, refl, sym, ap, ap₂, subst, ◌∙◌, arith, decimal, true, codes}
+use Rattle.std.proofs.Common.{◌≡◌, Bool, ℕ, suc, ◌^◌, ◌<◌, ℤ, pos, negsuc, List, [], ◌∷◌, map, Option, Some, None, refl, sym, ap, ap₂, subst, ◌∙◌, arith, decimal, true, codes}
 use Rattle.std.specs.Fmt.{signed_decimal}
 use Rattle.std.specs.Str.Parse.{digits_value, IsNumeral}
 use Rattle.std.proofs.lemmas.Fmt.{decimal_is_IsNumeral_wide}
@@ -10,9 +10,9 @@ use Rattle.cost_free.specs.declared.task.Meter.TheVariants.{Ticks, Cells, Work}
 use Rattle.cost_free.specs.Task.{Kind, Free, With}
 use Rattle.cert_json.specs.Parts.{Entries, Sig, Hint, Let, Share, Call, Body, Solved, Refuted, Calls, Block, Certificate}
 use Rattle.cert_json.specs.Form.{Text, natural, list_json, entry_json, entries_json, sig_json, hint_json, hints_json, body_json, block_json, scale_json, certificate_json, meter_text, version}
-use Rattle.cert_json.specs.Fits.{Each, FitsOption, InRange, FitsList, FitsEntry, FitsAnnot, FitsHint, FitsBody}
-use Rattle.cert_json.specs.Numbers.{Wide, EntryHas, EntriesHave, SigHas, HintHas, HintsHave, BodyHas, BlockHas, CertificateHas}
-use Rattle.cert_json.specs.Faults.{HasParts}
+use Rattle.cert_json.specs.Fits.{Each, FitsOption, InRange, FitsList, FitsEntry, FitsAnnot, FitsHint, FitsBody, FitsKind}
+use Rattle.cert_json.specs.Numbers.{Wide, KindFits, EntryHas, EntriesHave, SigHas, HintHas, HintsHave, BodyHas, BlockHas, CertificateHas}
+use Rattle.cert_json.specs.Faults.{HasParts, with_work}
 use Rattle.cert_json.specs.Reading.{meter_of, fields, head_keys, solved_keys, solved_free_keys, other_keys, other_free_keys}
 
 -- g tells those apart of which P holds
@@ -278,7 +278,7 @@ every h [] p = tt
 every h (x ∷ xs) p = (h x p.0, every h xs p.1)
 
 wide_entries : (es : Entries ℤ) → FitsList (FitsEntry InRange) es → EntriesHave Wide es
-wide_entries es h = every (λ e k. record { number = wide e.1 k.number }) es h.each
+wide_entries es h = every (λ e k. record { position = k.position; number = wide e.1 k.number }) es h.each
 
 wide_annot : (es : Entries ℤ) → FitsAnnot InRange es → EntriesHave Wide es
 wide_annot es h = wide_entries es h.entries
@@ -292,7 +292,11 @@ wide_body : (b : Body ℤ) → FitsBody InRange b → BodyHas Wide b
 wide_body (Solved sigs hints) h =
     (every (λ s k. record { args = wide_annot s.args k.args; result = wide_annot s.result k.result }) sigs h.0.each, every (λ hs k. every wide_hint hs k.each) hints h.1.each)
 wide_body (Refuted farkas) h = wide_entries farkas h
-wide_body (Calls fun) h = tt
+wide_body (Calls fun) h = h
+
+kind_fits : (work : Bool) (kind : Kind) → FitsKind work kind → KindFits kind
+kind_fits work (Free budget fun target) h = h
+kind_fits work (With meter) h = tt
 
 wide_option : (o : Option ℤ) → FitsOption InRange o → FitsOption Wide o
 wide_option None h = tt
@@ -303,7 +307,7 @@ wide_certificate d c h = record {
   ticks = wide c.head.ticks h.head.ticks;
   cells = wide c.head.cells h.head.cells;
   work = wide_option c.head.work h.head.work;
-  blocks = every (λ b k. record { body = wide_body b.body k.body }) c.blocks h.blocks.each;
+  blocks = every (λ b k. record { group = k.group; kind = kind_fits (with_work c.head) b.task.kind k.kind; body = wide_body b.body k.body }) c.blocks h.blocks.each;
 }
 
 -- the JSON of a certificate is that of no other one

@@ -1,6 +1,7 @@
--- What holds of all numbers of the analysis in a part of a certificate.
-use Rattle.std.specs.Prelude.{ℕ, ℤ, List, Option, FitsSigned}
+-- What holds of all numbers in a part of a certificate: P of those of the analysis, and the others fit their fields.
+use Rattle.std.specs.Prelude.{ℕ, ◌^◌, ◌<◌, ℤ, List, Option, FitsSigned}
 use Rattle.std.specs.Int.{w128}
+use Rattle.cost_free.specs.Task.{Kind, Free, With}
 use Rattle.cert_json.specs.Parts.{Entries, Sig, Hint, Let, Share, Call, Body, Solved, Refuted, Calls, Block, Certificate}
 use Rattle.cert_json.specs.Fits.{Each, FitsOption}
 
@@ -9,6 +10,7 @@ abbrev pub Wide : ℤ → Type 0
 Wide z = FitsSigned w128 z
 
 pub record EntryHas (P : ℤ → Type 0) (e : ℕ × ℤ) : Type 0 where
+  pub position : e.0 < 2 ^ 32
   pub number : P e.1
 
 abbrev pub EntriesHave : (ℤ → Type 0) → Entries ℤ → Type 0
@@ -29,9 +31,15 @@ HintsHave P hs = Each (HintHas P) hs
 abbrev pub BodyHas : (ℤ → Type 0) → Body ℤ → Type 0
 BodyHas P (Solved sigs hints) = Each (SigHas P) sigs × Each (HintsHave P) hints
 BodyHas P (Refuted farkas) = EntriesHave P farkas
-BodyHas P (Calls fun) = Unit {0}
+BodyHas P (Calls fun) = fun < 2 ^ 32
+
+abbrev pub KindFits : Kind → Type 0
+KindFits (Free budget fun target) = (budget < 256) × (fun < 2 ^ 32) × (target < 2 ^ 32)
+KindFits (With meter) = Unit {0}
 
 pub record BlockHas (P : ℤ → Type 0) (b : Block ℤ) : Type 0 where
+  pub group : b.task.group < 2 ^ 32
+  pub kind : KindFits b.task.kind
   pub body : BodyHas P b.body
 
 pub record ScaleHas (P : ℤ → Type 0) (t c : ℤ) (w : Option ℤ) : Type 0 where

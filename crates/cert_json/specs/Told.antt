@@ -1,10 +1,12 @@
 -- What is written, what is read, and what the code answers.
-use Rattle.std.specs.Prelude.{◌≡◌, ℕ, List, Result, Ok, Err, Some, IsUtf8}
+use Rattle.std.specs.Prelude.{◌≡◌, ◌≤◌, ◌<ℤ◌, ℕ, pos, true, List, slice_get, Result, Ok, Err, Some, IsUtf8}
 use Rattle.std.specs.Fmt.{signed_decimal}
 use Rattle.serde_json.specs.Data.{Data}
 use Rattle.serde_json.specs.Read.{read}
 use Rattle.serde_json.specs.Written.{compact_text}
-use Rattle.annot_types.specs.Certificate.{Certificate}
+use Rattle.cost_free.specs.declared.task.Meter.{Meter}
+use Rattle.annot_types.specs.Certificate.{Block, Certificate, has_work}
+use Rattle.annot_types.specs.Held.{scale_of, IsShaped}
 use Rattle.cert_json.specs.Parts.{parts}
 use Rattle.cert_json.specs.Form.{certificate_json}
 use Rattle.cert_json.specs.Faults as f
@@ -23,7 +25,7 @@ json_of c = certificate_json signed_decimal (parts c)
 abbrev pub text_of : Certificate → List ℕ
 text_of c = compact_text (json_of c)
 
--- The bytes are read as the JSON of the certificate, whose numbers fit 128 bits.
+-- The bytes are read as the JSON of the certificate, whose numbers fit their fields, those of the analysis 128 bits.
 pub record IsWritten (bytes : List ℕ) (c : Certificate) : Type 0 where
   pub text : IsUtf8 bytes
   pub json : read bytes ≡ Some (json_of c)
@@ -35,6 +37,14 @@ pub record IsFile (bytes : List ℕ) (c : Certificate) : Type 0 where
   pub value : Data
   pub read : read bytes ≡ Some value
   pub is : HasParts value (parts c)
+
+-- It has what a file's certificate must have: a degree from 1 to 4, a scale of each meter, all of them positive, and blocks of the right shape.
+pub record IsComplete (c : Certificate) : Type 0 where
+  pub least_degree : 1 ≤ c.degree
+  pub most_degree : c.degree ≤ 4
+  pub work : has_work c ≡ true
+  pub scales : (meter : Meter) → pos 0 <ℤ scale_of c meter
+  pub shape : (place : ℕ) (block : Block) → slice_get c.blocks place ≡ Some block → IsShaped block.body
 
 -- ---- faults
 

@@ -4,7 +4,6 @@
 
 mod block;
 mod head;
-pub mod laws;
 mod likeness;
 mod pieces;
 mod reading;

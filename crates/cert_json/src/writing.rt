@@ -1,5 +1,5 @@
 // The text of a certificate.
-ghost use Rattle.std.specs.Prelude.{◌≡◌, IfOk, OnOk, map, codes};
+ghost use Rattle.std.specs.Prelude.{◌≡◌, ◌<◌, ◌^◌, ◌++◌, IfOk, OnOk, length, map, codes};
 ghost use Rattle.std.specs.Fmt.{signed_decimal};
 ghost use Rattle.serde_json.specs.Data.{number, unsigned, string, object, no_members, put as with_member};
 ghost use Rattle.serde_json.specs.View.{view, members_view};
@@ -7,8 +7,8 @@ ghost use Rattle.cost_free.specs.Read.{kind_of};
 ghost use Rattle.annot_types.specs.Read.{certificate_of};
 ghost use Rattle.cert_json.specs.Read.{sig_of, hint_of, hints_of, block_of, parts_of, body_of};
 ghost use Rattle.cert_json.specs.Fits.{Each, FitsOption};
-ghost use Rattle.cert_json.specs.Numbers.{Wide, EntryHas, EntriesHave, SigHas, HintHas, HintsHave, BodyHas, BlockHas, ScaleHas, CertificateHas};
-ghost use Rattle.cert_json.specs.Told.{text_of, IsWritten};
+ghost use Rattle.cert_json.specs.Numbers.{Wide, KindFits, EntryHas, EntriesHave, SigHas, HintHas, HintsHave, BodyHas, BlockHas, ScaleHas, CertificateHas};
+ghost use Rattle.cert_json.specs.Told.{text_of, IsWritten, IsComplete, IsFile};
 ghost use Rattle.cert_json.specs.Form.{list_json, natural, pair_json, entry_json, entries_json, sig_json, hint_json, hints_json, block_json, certificate_json, sole_json, meter_text, scale_json, version};
 ghost use Rattle.cert_json.specs.Members.{with_free, with_task, with_solved, with_body, with_work, head_members};
 
@@ -24,6 +24,13 @@ fn number_json(alloc: Global, number: i128) -> Result<Value, AllocError>
 {
     let mut buffer = Buffer::new();
     Value::try_from_str(alloc, buffer.format(number))
+}
+
+fn natural_json(number: u32) -> Value
+    ensures value { view result ≡ natural number }
+    ensures fits { number < 2 ^ 32 }
+{
+    Value::from(number)
 }
 
 fn pair_json(alloc: Global, first: Value, second: Value) -> Result<Value, AllocError>
@@ -48,7 +55,7 @@ fn entry_json(alloc: Global, position: u32, number: i128) -> Result<Value, Alloc
     ensures numbers { IfOk result (λ _. EntryHas Wide (position, number)) }
 {
     let number = number_json(alloc, number)?;
-    pair_json(alloc, Value::from(position), number)
+    pair_json(alloc, natural_json(position), number)
 }
 
 fn sig_json(alloc: Global, sig: &Sig) -> Result<Value, AllocError>
@@ -164,7 +171,7 @@ fn put_natural(
 ) -> Result<(), AllocError>
     ensures { OnOk result (members_view members.new.entries ≡ with_member key.now (natural number) (members_view members.old.entries)) }
 {
-    put(members, alloc, key, Value::from(number))
+    put(members, alloc, key, natural_json(number))
 }
 
 fn put_text(
@@ -186,7 +193,8 @@ fn put_free(
     fun: u32,
     target: u32,
 ) -> Result<(), AllocError>
-    ensures { OnOk result (members_view members.new.entries ≡ with_free budget fun target (members_view members.old.entries)) }
+    ensures value { OnOk result (members_view members.new.entries ≡ with_free budget fun target (members_view members.old.entries)) }
+    ensures numbers { OnOk result ((budget < 256) × (fun < 2 ^ 32) × (target < 2 ^ 32)) }
 {
     put_natural(members, alloc, "budget", u32::from(budget))?;
     put_natural(members, alloc, "function", fun)?;
@@ -200,7 +208,8 @@ fn put_task(
     group: u32,
     kind: TaskKind,
 ) -> Result<(), AllocError>
-    ensures { OnOk result (members_view members.new.entries ≡ with_task group (kind_of kind) (members_view members.old.entries)) }
+    ensures value { OnOk result (members_view members.new.entries ≡ with_task group (kind_of kind) (members_view members.old.entries)) }
+    ensures numbers { OnOk result (KindFits (kind_of kind)) }
 {
     put_natural(members, alloc, "group", group)?;
     match kind {
@@ -215,7 +224,8 @@ fn put_task(
 
 // The members that tell a task.
 fn task_members(alloc: Global, group: u32, kind: TaskKind) -> Result<Map<String, Value>, AllocError>
-    ensures { IfOk result (λ m. members_view m.entries ≡ with_task group (kind_of kind) no_members) }
+    ensures value { IfOk result (λ m. members_view m.entries ≡ with_task group (kind_of kind) no_members) }
+    ensures numbers { IfOk result (λ _. (group < 2 ^ 32) × KindFits (kind_of kind)) }
 {
     let mut members = Map::new(alloc);
     put_task(&mut members, alloc, group, kind)?;
@@ -252,7 +262,7 @@ fn body_json(
         BlockBody::Refuted { farkas } => {
             object_with(members, "farkas", entries_json(alloc, farkas)?, alloc)
         }
-        BlockBody::Calls { fun } => object_with(members, "calls", Value::from(fun.0), alloc),
+        BlockBody::Calls { fun } => object_with(members, "calls", natural_json(fun.0), alloc),
     }
 }
 
@@ -360,6 +370,7 @@ fn certificate_json(alloc: Global, certificate: &Certificate) -> Result<Value, A
 pub fn write(alloc: Global, certificate: &Certificate) -> Result<Vec<u8>, AllocError>
     ensures text { IfOk result (λ bytes. bytes.items ≡ text_of (certificate_of certificate.now)) }
     ensures written { IfOk result (λ bytes. IsWritten bytes.items (certificate_of certificate.now)) }
+    ensures file { IfOk result (λ bytes. IsComplete (certificate_of certificate.now) → length bytes.items < 2 ^ 31 → IsFile (bytes.items ++ codes "\n") (certificate_of certificate.now)) }
 {
     certificate_json(alloc, certificate)?.to_vec(alloc)
 }

@@ -1,6 +1,8 @@
 -- Entries of numbers, one by one.
 use Rattle.std.proofs.Common.{◌≡◌, refl, ap, ◌∙◌, arith}
-use Rattle.std.specs.Prelude.{ℕ, zero, suc, ◌+◌, nat_eq, cond, Bool, true, false, pos, List, [], ◌∷◌, ◌++◌, length}
+use Rattle.std.specs.Prelude.{ℕ, zero, suc, ◌+◌, ◌<◌, nat_eq, cond, Bool, true, false, ℤ, pos, ◌≤ℤ◌, unsigned_abs, List, [], ◌∷◌, ◌++◌, map, length, slice_index_or}
+use Rattle.std.proofs.lemmas.Int.{ints}
+use Rattle.raml_num.specs.Sums.{NoneNegative}
 use Rattle.annot_types.specs.Certificate.{Entries}
 use Rattle.rules_spec.specs.Asked.{given}
 use Rattle.rules_spec.specs.Told.{entries_from, entries}
@@ -25,3 +27,16 @@ pub entries_next : (give : ℕ → ℕ) (from k : ℕ) → entries (given give f
 entries_next give from k =
     let place : k ≡ 0 + length (given give from k) = omega (arith, length_given give from k) in
     ap (λ p. entries (given give from k) ++ entry p (give (from + k))) place ∙ entries_more 0 (given give from k) (give (from + k)) ∙ ap entries (given_more give from k)
+
+-- natural numbers are those of their sizes
+pub natural_back : (xs : List ℤ) → NoneNegative xs → map pos (map unsigned_abs xs) ≡ xs
+natural_back [] h = refl
+natural_back (x ∷ xs) h = λ i. one x h.0 i ∷ natural_back xs h.1 i
+  where
+    one : (x : ℤ) → pos 0 ≤ℤ x → pos (unsigned_abs x) ≡ x
+    one x h = grind (arith, ints, h)
+
+pub natural_at : (xs : List ℤ) (k : ℕ) → NoneNegative xs → k < length xs → pos 0 ≤ℤ slice_index_or xs k (pos 0)
+natural_at [] k h l = absurd (omega (arith, l))
+natural_at (x ∷ xs) zero h l = h.0
+natural_at (x ∷ xs) (suc k) h l = natural_at xs k h.1 (omega (arith, l))

@@ -40,6 +40,7 @@ use Rattle.rules_spec.specs.CappedRows.{capped_form, capped_forms, capped_condit
 use Rattle.rules_spec.proofs.CappingRows.{same_form, capped_rows}
 use Rattle.constraint_gen.specs.Sums.{Sum, sums, form_of}
 use Rattle.constraint_gen.specs.Sums as c
+use Rattle.constraint_gen.specs.Given.{unknowns_of}
 use Rattle.constraint_gen.specs.Walked.{job_in}
 use Rattle.constraint_gen.specs.Heard.{Heard, hear_all}
 use Rattle.rules_spec.specs.Sure.{AreSure}
@@ -151,6 +152,11 @@ module _ (law : WalksWithoutCost) (P : Program) (d : ℕ) (blocks : List Block) 
           rows = (h.rows_are ∙ rows_are) i;
           weights = (h.weights_are ∙ ap (λ n. filled n weights) unknowns_are) i;
         }
+
+-- the unknowns of a task's system are those of its bodies
+pub counted_in : (P : Program) (d : ℕ) (blocks : List Block) (task : Task) (scale : ℕ) {bodies : List Body} → bodies ≡ bodies_of P d blocks task → IsTask P d blocks task scale →
+    (s.system P d blocks task scale).unknowns ≡ unknowns_of bodies
+counted_in P d blocks task scale e is = ap (λ (l : LinearSystem). l.unknowns) (systems_are_walked P d blocks task scale is) ∙ sym (ap unknowns_of e)
 
 -- weights are natural
 pub natural_append : (xs ys : List ℤ) → NoneNegative xs → NoneNegative ys → NoneNegative (xs ++ ys)

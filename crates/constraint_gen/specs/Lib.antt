@@ -8,3 +8,4 @@ pub mod Walked
 pub mod Finished
 pub mod Made
 pub mod Numbers
+pub mod Solutions

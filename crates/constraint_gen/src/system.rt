@@ -6,7 +6,7 @@ ghost use Rattle.rules_spec.specs.Solving.{rows_of};
 ghost use Rattle.rules_spec.specs.Tasks as t;
 ghost use Rattle.rules_spec.specs.Tasks.{sides_count, unknowns, given_conditions};
 ghost use Rattle.rules_walk.specs.Asks.{asks_of};
-ghost use Rattle.constraint_gen.specs.Given.{all_counts};
+ghost use Rattle.constraint_gen.specs.Given.{all_counts, unknowns_of};
 ghost use Rattle.constraint_gen.specs.Made.{HasRows, RowCause, PlanCause, IsProper, JobMade, JobCause};
 ghost use Rattle.constraint_gen.specs.Weights.{weights_of};
 ghost use Rattle.constraint_gen.specs.Walked.{job_in};
@@ -17,7 +17,9 @@ ghost use Rattle.rules_spec.specs.Systems.{IsTask};
 ghost use Rattle.rules_walk.specs.Remembers.{Remembers};
 ghost use Rattle.rules_plan.specs.Read.{program_in, body_of, ArePlansIn, ArePlansOf};
 ghost use Rattle.rules_spec.specs.Told.{bodies_of};
+ghost use Rattle.rules_systems_laws.specs.Laws.{IsNumbered};
 ghost use Rattle.constraint_gen.specs.Cause.{IsWithin, IsMade, IsCause};
+ghost use Rattle.constraint_gen.specs.Solutions.{SolutionsHoldFor, WhatHoldsSolvesIt};
 
 use crate::counts::{all_asked, hints_within, sides_within};
 use crate::fault::{GenFault, What};
@@ -27,6 +29,7 @@ use crate::task::{budget_of, fill, members, sig_weights};
 use cost_free::Task;
 use linear_rows::System;
 use rules_plan::{Body, GroupPlans, PlanFault, next_plans};
+use rules_systems_laws::laws::{solutions_hold, solutions_weigh, what_holds_solves};
 use rules_walk::laws::walks_without_cost;
 use rules_walk::{Ask, Earlier};
 use share_normal::NormProgram;
@@ -35,6 +38,10 @@ use std::alloc::Global;
 /// The system of a task at degree `d` over the blocks before it, with prices times `scale`.
 ///
 /// First `TooLarge` is tried, of indices, of unknowns and of rows, and then `Leaves`.
+///
+/// Of the blocks before the task it is not asked that they hold. By the law `shaped_are_tasks` of `rules_systems_laws`
+/// it is one, and its target is numbered, where the program is ordered, each solved block has a signature for each
+/// function of its group, and the task is the next one of the schedule and waits for no function.
 pub fn rows(
     alloc: Global,
     program: &NormProgram<'_>,
@@ -43,7 +50,6 @@ pub fn rows(
     task: &Task,
     scale: i128,
 ) -> Result<System, GenFault>
-    requires degree { d ≤ 4 }
     requires budget { budget_of d (kind_of task.now.kind) ≤ 4 }
     requires natural { pos 0 ≤ℤ scale }
     ensures made { IfOk result (λ made. (blocks : List c.Block) → Remembers (program_in program.now) d blocks earlier.now →
@@ -52,18 +58,21 @@ pub fn rows(
     ensures fault { IfErr result (λ fault. (blocks : List c.Block) → Remembers (program_in program.now) d blocks earlier.now →
         IsTask (program_in program.now) d blocks (task_of task.now) (unsigned_abs scale) →
         IsCause (program_in program.now) d blocks (task_of task.now) (unsigned_abs scale) fault) }
+    ensures holds { IfOk result (λ made. (blocks : List c.Block) → Remembers (program_in program.now) d blocks earlier.now →
+        IsTask (program_in program.now) d blocks (task_of task.now) (unsigned_abs scale) →
+        IsNumbered (program_in program.now) d (kind_of task.now.kind) →
+        SolutionsHoldFor (program_in program.now) d blocks (task_of task.now) (unsigned_abs scale) made) }
+    ensures solves { IfOk result (λ made. (blocks : List c.Block) → Remembers (program_in program.now) d blocks earlier.now →
+        IsTask (program_in program.now) d blocks (task_of task.now) (unsigned_abs scale) →
+        WhatHoldsSolvesIt (program_in program.now) d blocks (task_of task.now) (unsigned_abs scale) made) }
 {
+    // the system of a task is solved by what holds, and by nothing else
+    solutions_hold();
+    solutions_weigh();
+    what_holds_solves();
     let plans = plans(alloc, program, d, None, task)?;
     let bodies = plans.over(alloc, earlier)?;
-    rows_by(
-        alloc,
-        program,
-        d,
-        earlier,
-        task,
-        scale.unsigned_abs(),
-        &bodies,
-    )
+    rows_by(alloc, program, d, earlier, task, scale, &bodies)
 }
 
 /// The plans of a task's group, where `last` were made last. `TooLarge` where a context or a type of its
@@ -96,27 +105,26 @@ pub fn rows_by(
     d: u8,
     earlier: &Earlier,
     task: &Task,
-    scale: u128,
+    scale: i128,
     plans: &[Body<'_>],
 ) -> Result<System, GenFault>
     requires budget { budget_of d (kind_of task.now.kind) ≤ 4 }
     requires indices { IsWithin (program_in program.now) d (task_of task.now) }
+    requires natural { pos 0 ≤ℤ scale }
     ensures made { IfOk result (λ made. (blocks : List c.Block) → Remembers (program_in program.now) d blocks earlier.now →
         map body_of plans.now ≡ bodies_of (program_in program.now) d blocks (task_of task.now) →
-        IsTask (program_in program.now) d blocks (task_of task.now) scale →
-        IsMade (program_in program.now) d blocks (task_of task.now) scale made) }
+        IsTask (program_in program.now) d blocks (task_of task.now) (unsigned_abs scale) →
+        IsMade (program_in program.now) d blocks (task_of task.now) (unsigned_abs scale) made) }
+    ensures unknowns { IfOk result (λ made. made.unknowns ≡ unknowns_of (map body_of plans.now)) }
     ensures fault { IfErr result (λ fault. (blocks : List c.Block) → Remembers (program_in program.now) d blocks earlier.now →
         map body_of plans.now ≡ bodies_of (program_in program.now) d blocks (task_of task.now) →
-        IsTask (program_in program.now) d blocks (task_of task.now) scale →
-        IsCause (program_in program.now) d blocks (task_of task.now) scale fault) }
+        IsTask (program_in program.now) d blocks (task_of task.now) (unsigned_abs scale) →
+        IsCause (program_in program.now) d blocks (task_of task.now) (unsigned_abs scale) fault) }
 {
-    // scales are numbers of 127 bits
-    if scale > i128::MAX as u128 {
-        return Err(GenFault::NoMemory);
-    }
     // a walk that pays no prices reads no signature that pays
     walks_without_cost();
-    of_plans(alloc, program, d, earlier, task, scale, plans)
+    let prices = scale.unsigned_abs();
+    of_plans(alloc, program, d, earlier, task, prices, plans)
 }
 
 // The system, where these are the bodies.
@@ -134,6 +142,7 @@ fn of_plans(
         JobMade (job_in (program_in program.now) d earlier.now (map body_of planned.now) (task_of task.now) scale) (weights_of program.now d task.now) made) }
     ensures fault { IfErr result (λ fault. IsProper (job_in (program_in program.now) d earlier.now (map body_of planned.now) (task_of task.now) scale) (weights_of program.now d task.now) →
         JobCause (job_in (program_in program.now) d earlier.now (map body_of planned.now) (task_of task.now) scale) fault) }
+    ensures unknowns { IfOk result (λ made. made.unknowns ≡ unknowns_of (map body_of planned.now)) }
 {
     // each function has an unknown at least
     if planned.len() > 2000 {
@@ -178,6 +187,7 @@ fn of_bodies(
         HasRows count (rows_of count (given_conditions forms unknown (job_in (program_in program.now) d earlier.now (map body_of planned.now) (task_of task.now) scale))) (weights_of program.now d task.now) made) }
     ensures fault { IfErr result (λ fault. IsProper (job_in (program_in program.now) d earlier.now (map body_of planned.now) (task_of task.now) scale) (weights_of program.now d task.now) →
         RowCause (rows_of count (given_conditions forms unknown (job_in (program_in program.now) d earlier.now (map body_of planned.now) (task_of task.now) scale))) fault) }
+    ensures unknowns { IfOk result (λ made. made.unknowns ≡ count) }
 {
     let rows = heard(
         alloc, program, d, earlier, task, scale, planned, asks, count,

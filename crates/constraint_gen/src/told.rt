@@ -1,50 +1,54 @@
 // What a solution stands for.
-ghost use Rattle.std.specs.Prelude.{◌≡◌, ◌≤◌, ◌<◌, ◌+◌, ◌^◌, ◌++◌, unsigned_abs, List, map, length, IfOk, OnOk};
+ghost use Rattle.std.specs.Prelude.{◌≡◌, ◌≤◌, ◌<◌, ◌+◌, ◌++◌, ◌≤ℤ◌, ℕ, pos, unsigned_abs, List, map, length, IfOk, OnOk};
 ghost use Rattle.raml_num.specs.Sums.{NoneNegative};
+ghost use Rattle.cost_free.specs.Task as k;
+ghost use Rattle.cost_free.specs.Read.{task_of, kind_of};
+ghost use Rattle.annot_types.specs.Program.{Program};
 ghost use Rattle.annot_types.specs.Certificate as c;
 ghost use Rattle.annot_types.specs.Holds as h;
 ghost use Rattle.annot_types.specs.Read.{sig_of, hint_of, hints_of};
-ghost use Rattle.cost_free.specs.Read.{task_of, kind_of};
 ghost use Rattle.rules_spec.specs.Asked.{given, given_each, given_blocks, answer, answers, sum_of, count, counts};
-ghost use Rattle.rules_spec.specs.Tasks.{sides_count, sides_given, hints_given};
+ghost use Rattle.rules_spec.specs.Tasks.{sides_count, sides_given};
+ghost use Rattle.rules_spec.specs.Systems.{IsTask};
 ghost use Rattle.rules_spec.specs.Told as t;
 ghost use Rattle.rules_spec.specs.Told.{bodies_of, sigs_told, hints_told, entries, named};
 ghost use Rattle.rules_walk.specs.Remembers.{Remembers};
 ghost use Rattle.rules_walk.specs.Asks.{ask_of, asks_of};
 ghost use Rattle.rules_plan.specs.Read.{program_in, body_of};
+ghost use Rattle.rules_systems_laws.specs.Laws.{IsNumbered};
 ghost use Rattle.constraint_gen.specs.Cause.{IsWithin};
-ghost use Rattle.constraint_gen.specs.Given.{all_counts, all_answers};
-ghost use Rattle.constraint_gen.specs.Numbers.{numbers, entry};
+ghost use Rattle.constraint_gen.specs.Given.{all_counts, all_answers, unknowns_of};
+ghost use Rattle.constraint_gen.specs.Numbers.{AreNumbers, numbers, entry};
+ghost use Rattle.constraint_gen.specs.Solutions.{HasOneEach, HoldWhereSolved};
 
 use crate::counts::all_asked;
 use crate::fault::GenFault;
-use crate::system::{count, plans};
+use crate::system::plans;
 use annot_types::{Annot, Hint, Sig};
 use cost_free::Task;
 use rules_plan::Body;
+use rules_systems_laws::laws::solutions_hold;
 use rules_walk::{Ask, Earlier};
 use share_normal::NormProgram;
 use std::alloc::{AllocError, Global};
 
-// The number of an unknown, 0 behind the last.
-fn number_at(solution: &[i128], unknown: u32) -> u128
-    ensures { result ≡ numbers solution.now unknown }
+// The number of an unknown.
+fn number_at(solution: &[i128], unknown: u32) -> i128
+    requires numbers { AreNumbers solution.now }
+    requires there { unknown < length solution.now }
+    ensures number { unsigned_abs result ≡ numbers solution.now unknown }
+    ensures natural { pos 0 ≤ℤ result }
 {
-    match solution.get(unknown as usize) {
-        Some(number) => number.unsigned_abs(),
-        None => 0,
-    }
+    solution[unknown as usize]
 }
 
-// An entry at a place, unless its number is 0; only numbers of 127 bits have a place in memory.
-fn append(found: &mut Vec<(u32, i128)>, place: u32, number: u128) -> Result<(), AllocError>
-    ensures { OnOk result (found.new.items ≡ found.old.items ++ entry place number) }
+// An entry at a place, unless its number is 0.
+fn append(found: &mut Vec<(u32, i128)>, place: u32, number: i128) -> Result<(), AllocError>
+    requires natural { pos 0 ≤ℤ number }
+    ensures { OnOk result (found.new.items ≡ found.old.items ++ entry place (unsigned_abs number)) }
 {
-    if number > i128::MAX as u128 {
-        return Err(AllocError);
-    }
     if number != 0 {
-        found.push((place, number as i128))?;
+        found.push((place, number))?;
     }
     Ok(())
 }
@@ -56,7 +60,8 @@ fn found(
     next: &mut u32,
     size: usize,
 ) -> Result<Vec<(u32, i128)>, AllocError>
-    requires room { next.old + size < 2 ^ 32 }
+    requires numbers { AreNumbers solution.now }
+    requires room { next.old + size ≤ length solution.now }
     ensures told { IfOk result (λ made. made.items ≡ entries (given (numbers solution.now) next.old size)) }
     ensures next { OnOk result (next.new ≡ next.old + size) }
 {
@@ -70,7 +75,8 @@ fn found(
 
 // The same as an annotation.
 fn annot(alloc: Global, solution: &[i128], next: &mut u32, size: usize) -> Result<Annot, AllocError>
-    requires room { next.old + size < 2 ^ 32 }
+    requires numbers { AreNumbers solution.now }
+    requires room { next.old + size ≤ length solution.now }
     ensures told { IfOk result (λ made. made ≡ entries (given (numbers solution.now) next.old size)) }
     ensures next { OnOk result (next.new ≡ next.old + size) }
 {
@@ -87,7 +93,8 @@ fn annots(
     next: &mut u32,
     sizes: &[usize],
 ) -> Result<Vec<Annot>, AllocError>
-    requires room { next.old + sum_of sizes.now < 2 ^ 32 }
+    requires numbers { AreNumbers solution.now }
+    requires room { next.old + sum_of sizes.now ≤ length solution.now }
     ensures told { IfOk result (λ made. made.items ≡ map entries (given_each (numbers solution.now) next.old sizes.now)) }
     ensures next { OnOk result (next.new ≡ next.old + sum_of sizes.now) }
 {
@@ -105,7 +112,8 @@ fn multiples(
     next: &mut u32,
     blocks: &[u32],
 ) -> Result<Vec<(u32, i128)>, AllocError>
-    requires room { next.old + length blocks.now < 2 ^ 32 }
+    requires numbers { AreNumbers solution.now }
+    requires room { next.old + length blocks.now ≤ length solution.now }
     ensures told { IfOk result (λ made. made.items ≡ named (given_blocks (numbers solution.now) next.old blocks.now)) }
     ensures next { OnOk result (next.new ≡ next.old + length blocks.now) }
 {
@@ -119,7 +127,8 @@ fn multiples(
 
 // A hint that is asked for.
 fn hint(alloc: Global, solution: &[i128], next: &mut u32, ask: &Ask) -> Result<Hint, AllocError>
-    requires room { next.old + count (ask_of ask.now) < 2 ^ 32 }
+    requires numbers { AreNumbers solution.now }
+    requires room { next.old + count (ask_of ask.now) ≤ length solution.now }
     ensures told { IfOk result (λ made. hint_of made ≡ t.hint (answer (numbers solution.now) next.old (ask_of ask.now))) }
     ensures next { OnOk result (next.new ≡ next.old + count (ask_of ask.now)) }
 {
@@ -142,7 +151,8 @@ fn hints(
     next: &mut u32,
     asks: &[Ask],
 ) -> Result<Vec<Hint>, AllocError>
-    requires room { next.old + counts (asks_of asks.now) < 2 ^ 32 }
+    requires numbers { AreNumbers solution.now }
+    requires room { next.old + counts (asks_of asks.now) ≤ length solution.now }
     ensures told { IfOk result (λ made. hints_of made ≡ map t.hint (answers (numbers solution.now) next.old (asks_of asks.now))) }
     ensures next { OnOk result (next.new ≡ next.old + counts (asks_of asks.now)) }
 {
@@ -160,7 +170,8 @@ fn all_hints(
     next: &mut u32,
     asks: &[Vec<Ask>],
 ) -> Result<Vec<Vec<Hint>>, AllocError>
-    requires room { next.old + all_counts (map (λ a. asks_of a.items) asks.now) < 2 ^ 32 }
+    requires numbers { AreNumbers solution.now }
+    requires room { next.old + all_counts (map (λ a. asks_of a.items) asks.now) ≤ length solution.now }
     ensures told { IfOk result (λ made. map hints_of made.items ≡ map (map t.hint) (all_answers (numbers solution.now) next.old (map (λ a. asks_of a.items) asks.now))) }
 {
     let mut made = Vec::with_capacity(alloc, asks.len())?;
@@ -172,7 +183,8 @@ fn all_hints(
 
 // The signature of a body.
 fn sig(alloc: Global, solution: &[i128], next: &mut u32, body: &Body<'_>) -> Result<Sig, AllocError>
-    requires room { next.old + (body.now.args + body.now.result) < 2 ^ 32 }
+    requires numbers { AreNumbers solution.now }
+    requires room { next.old + (body.now.args + body.now.result) ≤ length solution.now }
     ensures told { IfOk result (λ made. sig_of made ≡ t.sig (record { args = given (numbers solution.now) next.old body.now.args; result = given (numbers solution.now) (next.old + body.now.args) body.now.result })) }
     ensures next { OnOk result (next.new ≡ next.old + (body.now.args + body.now.result)) }
 {
@@ -188,7 +200,8 @@ fn sigs(
     next: &mut u32,
     bodies: &[Body<'_>],
 ) -> Result<Vec<Sig>, AllocError>
-    requires room { next.old + sides_count (map body_of bodies.now) < 2 ^ 32 }
+    requires numbers { AreNumbers solution.now }
+    requires room { next.old + sides_count (map body_of bodies.now) ≤ length solution.now }
     ensures told { IfOk result (λ made. map sig_of made.items ≡ map t.sig (sides_given (numbers solution.now) next.old (map body_of bodies.now))) }
     ensures next { OnOk result (next.new ≡ next.old + sides_count (map body_of bodies.now)) }
 {
@@ -199,28 +212,32 @@ fn sigs(
     Ok(made)
 }
 
-/// The signatures and hints that numbers stand for, in the order of unknowns, by the plans of a task's group.
+/// The signatures and hints that numbers stand for, one for each unknown in their order, by the plans of a
+/// task's group. Where the numbers solve the task's system, these hold.
 pub fn told_by(
     alloc: Global,
     plans: &[Body<'_>],
     solution: &[i128],
 ) -> Result<(Vec<Sig>, Vec<Vec<Hint>>), AllocError>
+    requires one_each { length solution.now ≡ unknowns_of (map body_of plans.now) }
+    requires few { length solution.now ≤ 2000 }
+    requires natural { NoneNegative solution.now }
     ensures sigs { IfOk result (λ told. map sig_of told.0.items ≡ sigs_told (map body_of plans.now) (map unsigned_abs solution.now)) }
     ensures hints { IfOk result (λ told. map hints_of told.1.items ≡ hints_told (map body_of plans.now) (map unsigned_abs solution.now)) }
+    ensures holds { IfOk result (λ told. (P : Program) (d : ℕ) (blocks : List c.Block) (task : k.Task) (scale : ℕ) →
+        map body_of plans.now ≡ bodies_of P d blocks task → IsTask P d blocks task scale → IsNumbered P d task.kind →
+        HoldWhereSolved P d blocks task scale solution.now (map sig_of told.0.items) (map hints_of told.1.items)) }
 {
+    solutions_hold();
     let asks = all_asked(alloc, plans)?;
-    // a task of more unknowns has no system, and so no solution
-    if count(plans, &asks).is_none() {
-        return Err(AllocError);
-    }
     let mut next = 0;
     let signatures = sigs(alloc, solution, &mut next, plans)?;
     let all = all_hints(alloc, solution, &mut next, &asks)?;
     Ok((signatures, all))
 }
 
-/// The signatures and hints of a task's group that numbers stand for, in the order of its unknowns. The
-/// contexts and types of its walks have at most 2000 indices.
+/// The signatures and hints of a task's group that numbers stand for, one for each unknown in their order. Where
+/// the numbers solve the task's system, these hold. The contexts and types of its walks have at most 2000 indices.
 pub fn hints_of(
     alloc: Global,
     program: &NormProgram<'_>,
@@ -229,14 +246,18 @@ pub fn hints_of(
     task: &Task,
     solution: &[i128],
 ) -> Result<(Vec<Sig>, Vec<Vec<Hint>>), AllocError>
-    requires degree { d ≤ 4 }
     requires budget { h.budget_of d (kind_of task.now.kind) ≤ 4 }
     requires indices { IsWithin (program_in program.now) d (task_of task.now) }
+    requires one_each { HasOneEach (program_in program.now) d earlier.now (task_of task.now) solution.now }
+    requires few { length solution.now ≤ 2000 }
     requires natural { NoneNegative solution.now }
     ensures sigs { IfOk result (λ told. (blocks : List c.Block) → Remembers (program_in program.now) d blocks earlier.now →
         map sig_of told.0.items ≡ sigs_told (bodies_of (program_in program.now) d blocks (task_of task.now)) (map unsigned_abs solution.now)) }
     ensures hints { IfOk result (λ told. (blocks : List c.Block) → Remembers (program_in program.now) d blocks earlier.now →
         map hints_of told.1.items ≡ hints_told (bodies_of (program_in program.now) d blocks (task_of task.now)) (map unsigned_abs solution.now)) }
+    ensures holds { IfOk result (λ told. (blocks : List c.Block) (scale : ℕ) → Remembers (program_in program.now) d blocks earlier.now →
+        IsTask (program_in program.now) d blocks (task_of task.now) scale → IsNumbered (program_in program.now) d (kind_of task.now.kind) →
+        HoldWhereSolved (program_in program.now) d blocks (task_of task.now) scale solution.now (map sig_of told.0.items) (map hints_of told.1.items)) }
 {
     match plans(alloc, program, d, None, task) {
         Ok(plans) => {

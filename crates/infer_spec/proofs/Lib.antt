@@ -1,6 +1,6 @@
 pub mod Lists
 mod Vectors
-mod Found
+pub mod Found
 mod RaisedRows
 mod Raising
 pub mod Running

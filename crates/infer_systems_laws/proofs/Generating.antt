@@ -15,19 +15,15 @@ use Rattle.annot_types.specs.System.{system}
 use Rattle.annot_types.specs.Laws.{raised_scale}
 use Rattle.rules_spec.specs.Raised.{times_right, raised_by}
 use Rattle.rules_spec.proofs.Refuted.{rows_are_raised}
-use Rattle.infer_spec.specs.States.{State, scale_at, raised_scales, raise}
+use Rattle.infer_spec.specs.States.{State, done, scale_at, raised_scales, raise}
 use Rattle.infer_spec.specs.Generator.{Analysis, AreRaised, system_at}
-use Rattle.infer_systems_laws.specs.Tried.{HasNumber, TriedAreTasks, TriedHaveSystems, TargetsAreNumbered}
+use Rattle.infer_systems_laws.specs.Tried.{TriedAreTasks, TriedHaveSystems}
 use Rattle.infer_systems_laws.specs.Analysed.{analysis_of}
-use Rattle.rules_systems_laws.specs.Laws.{IsNumbered}
+use Rattle.rules_systems_laws.specs.Shaped.{TargetsAreNumbered}
 use Rattle.infer_systems_laws.specs.Laws.{SystemsGenerate}
-use Rattle.rules_systems_laws.proofs.Numbered.{have_positions}
+use Rattle.rules_systems_laws.proofs.Scheduled.{numbered}
 use Rattle.rules_systems_laws.proofs.Shapes.{told_rise}
 use Rattle.rules_systems_laws.proofs.Solutions.{solutions_hold, solutions_weigh, what_holds_solves}
-
-numbered : (P : Program) (d group : ℕ) (kind : Kind) → HasNumber P d group kind → IsNumbered P d kind
-numbered P d group (Free budget f number) h = λ g there. let t = h.target g there in (t.0, t.1, have_positions g.result d budget number t.0 t.1 t.2)
-numbered P d group (k.With meter) h = tt
 
 -- Raised systems
 
@@ -84,7 +80,7 @@ systems_generate tasks systems targets P ordered d pick =
     record {
       system = λ st task stands. systems A ordered st task stands;
       hold = λ st task stands t x positive solves.
-          solutions_hold P d st.blocks task (scale_at st.scales task.kind) t x (tasks A ordered st task stands) (numbered P d task.group task.kind (targets A st task stands.next)) positive solves;
+          solutions_hold P d st.blocks task (scale_at st.scales task.kind) t x (tasks A ordered st task stands) (numbered P d task.group task.kind (targets P d A.work (done st) task stands.next)) positive solves;
       shape = λ st task stands t x positive solves. told_rise P d st.blocks task x;
       weigh = λ st task stands t x positive solves. solutions_weigh P d st.blocks task (scale_at st.scales task.kind) x (tasks A ordered st task stands);
       solve = λ st task stands t sigs hints holds.

@@ -1,4 +1,3 @@
-mod Numbered
 mod Tried
 mod Systems
 pub mod Certified
@@ -7,3 +6,4 @@ pub mod Generating
 pub mod Limits
 pub mod Ordered
 pub mod FitRows
+pub mod Below

@@ -22,7 +22,7 @@ use Rattle.cost_free.specs.Blocked.{is_among, row, in_any, blocks, blocked}
 use Rattle.cost_free.specs.Laws.{BlockersAreLeast}
 use Rattle.annot_types.specs.Program.{called_in}
 use Rattle.annot_types.proofs.Lists.{length_map, map_get, map_inv}
-use Rattle.infer_systems_laws.specs.Tried.{AreApart}
+use Rattle.rules_systems_laws.specs.Ordered.{AreApart}
 use Rattle.rules_spec.proofs.SameCalls.{same_blocker}
 use Rattle.infer_systems_laws.specs.Laws.{NormalsAreOrdered}
 

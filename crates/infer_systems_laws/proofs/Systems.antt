@@ -10,7 +10,6 @@ use Rattle.linear_rows.specs.Systems.{LinearSystem, AllBelow}
 use Rattle.base_poly.specs.Plain.{Plain, degrees}
 use Rattle.base_poly.specs.Indices.{index_list}
 use Rattle.normal_spec.specs.Norm.{NormFun}
-use Rattle.cost_free.specs.Laws.{BlockersAreLeast}
 use Rattle.annot_types.specs.Program.{Program, members}
 use Rattle.annot_types.specs.Certificate.{Block}
 use Rattle.annot_types.specs.Rules.{Mode, Setting}
@@ -22,6 +21,7 @@ use Rattle.rules_spec.specs.Tasks.{sides_count}
 use Rattle.rules_spec.specs.Jobs.{body_of}
 use Rattle.rules_spec.specs.Systems.{AreReady, SystemsAreWalked}
 use Rattle.cost_free.specs.Task.{Task}
+use Rattle.rules_systems_laws.specs.Shaped.{ShapedAreTasks}
 use Rattle.infer_spec.specs.States.{scale_at}
 use Rattle.annot_types.proofs.Lists.{length_map}
 use Rattle.infer_systems_laws.specs.Tried.{TriedHaveSystems}
@@ -110,11 +110,11 @@ weights_count P group earlier budget S mode same (f ∷ fs) h =
 filled_up : (m n : ℕ) → m ≤ n → m + (n - m) ≡ n
 filled_up m n l = omega (arith, l)
 
-pub tried_have_systems : BlockersAreLeast → SystemsAreWalked → TriedHaveSystems
-tried_have_systems least walked A ordered st task stands =
+pub tried_have_systems : ShapedAreTasks → SystemsAreWalked → TriedHaveSystems
+tried_have_systems tasks walked A ordered st task stands =
     let P = A.program in
     let scale = scale_at st.scales task.kind in
-    let is_task = tried_are_tasks least A ordered st task stands in
+    let is_task = tried_are_tasks tasks A ordered st task stands in
     let count = weights_count A.program (members A.program task.group) st.blocks (budget_of A.degree task.kind) (unsigned A.program A.degree st.blocks task scale) (mode_of task.kind) refl (members A.program task.group) is_task.0 in
     let all = ap (λ (s : LinearSystem). s.unknowns) (walked A.program A.degree st.blocks task scale is_task) in
     let n = (at_zero A.program A.degree st.blocks task scale).1 in

@@ -1,9 +1,10 @@
 // Laws of tasks that are tried, and of the systems of a program: each is the contract of a function that does nothing.
 ghost use Rattle.infer_systems_laws.specs.Laws.{LimitsAreTold, NormalsAreOrdered, OrderedAreProper, SystemsGenerate};
-ghost use Rattle.infer_systems_laws.specs.Tried.{TargetsAreNumbered, TriedAreTasks, TriedHaveSystems, TriedHaveTasks};
+ghost use Rattle.infer_systems_laws.specs.Tried.{TriedAreTasks, TriedHaveSystems, TriedHaveTasks};
 
 use cost_free::laws::blockers_are_least;
 use rules_spec::laws::systems_are_walked;
+use rules_systems_laws::laws::{shaped_are_tasks, targets_are_numbered};
 
 /// The systems of a program's tasks are what courses ask for.
 pub fn systems_generate()
@@ -35,14 +36,14 @@ pub fn ordered_are_proper()
 pub fn tried_are_tasks()
     ensures { TriedAreTasks }
 {
-    blockers_are_least();
+    shaped_are_tasks();
 }
 
 /// It has a system.
 pub fn tried_have_systems()
     ensures { TriedHaveSystems }
 {
-    blockers_are_least();
+    shaped_are_tasks();
     systems_are_walked();
 }
 
@@ -53,8 +54,3 @@ pub fn tried_have_tasks()
     tried_are_tasks();
     tried_have_systems();
 }
-
-/// The number of a cost-free task is that of a target of its function.
-pub fn targets_are_numbered()
-    ensures { TargetsAreNumbered }
-{}

@@ -1,3 +1,5 @@
 pub mod Answered
 pub mod Limits
 pub mod OneAnswer
+pub mod Told
+pub mod Counted

@@ -15,12 +15,12 @@ use Rattle.refusals.specs.Line.{no_names}
 use Rattle.refusals.specs.declared.answer.Report.{Report}
 use Rattle.refusals.specs.declared.answer.Refusal.{Refusal as TheRefusal}
 use Rattle.raml_promise.specs.Outside.{Promised, Store}
-use Rattle.raml_promise.specs.Steps.{Answer}
+use Rattle.raml_promise.specs.Steps.{Answer, refused, goes_on}
 use Rattle.raml_promise.specs.Call.{Placed, IsNamed, DataRefuses, OfArguments, OfCall}
 use Rattle.raml_parts.specs.Parts.{Gives, Refuses, HasArguments, ReadsArguments, ArgumentsRefuse, ReadsCall, IsCallOf, CallRefuses, IsShort, FileRefuses}
 use Rattle.raml_parts.specs.declared.call.Arguments.{Arguments}
 use Rattle.raml_parts.specs.declared.call.Call.{Call}
-use Rattle.raml_parts.proofs.Stepping.{step_refused, step_goes, refuses_map, call_goes}
+use Rattle.raml_parts.proofs.Stepping.{step_refused, step_goes, refuses_map, by_file, by_bytes, call_goes}
 
 -- one function stands at a place
 one_at : (P : Prog) (place : ℕ) (f : Placed) (fun : Function) → f.0 ≡ place → slice_get P f.0 ≡ Some f.1 → slice_get P place ≡ Some fun → f ≡ (place, fun)
@@ -73,15 +73,16 @@ module _ (store : Store) (P : Prog) (name file : Text) where
       call_goes store P name file Rest (call.place.0, a.fun) a.values reads.bytes (record { place = reads.place; there = a.arguments.there }) reads.within a.spelled r
       (given (call.place.0, a.fun) a.values (record { place = refl; arguments = a.arguments }))
 
-  pub nameless : (e : Ending) → (e ≡ NoFunction) → place_of name P ≡ None → CallRefuses store P name file e
-  nameless e is none = inl (is, none)
+  pub nameless : place_of name P ≡ None → CallRefuses store P name file NoFunction
+  nameless none = refused NoFunction (refl, none) refl
 
   -- the file is refused, or its bytes
   pub file_refuses : (f : Placed) → IsNamed P name f → (refusal : TheRefusal) → Refuses no_names (FileRefuses store w.Data file) refusal → Refuses no_names (CallRefuses store P name file) refusal
-  file_refuses f named refusal h = refuses_map no_names (FileRefuses store w.Data file) (CallRefuses store P name file) (λ e r. inr (f, named, inl r)) refusal h
+  file_refuses f named refusal h = refuses_map no_names (FileRefuses store w.Data file) (CallRefuses store P name file) (λ e r. goes_on f named (by_file store w.Data file (λ bytes. DataRefuses bytes f.1) (λ bytes args. Answers bytes (types_of f.1) (Ok args)) e r)) refusal h
 
   pub data_refuses_call : (f : Placed) → IsNamed P name f → (bytes : List ℕ) → IsShort store w.Data file bytes → (refusal : TheRefusal) →
       Refuses no_names (ArgumentsRefuse P f.0 bytes) refusal → Refuses no_names (CallRefuses store P name file) refusal
   data_refuses_call f named bytes short refusal h =
       refuses_map no_names (ArgumentsRefuse P f.0 bytes) (CallRefuses store P name file)
-      (λ e r. inr (f, named, inr (bytes, short, subst (λ (g : Placed). DataRefuses bytes g.1 e) (sym (one_at P f.0 f r.fun refl named.there r.there)) r.refuses))) refusal h
+      (λ e r. goes_on f named (by_bytes store w.Data file (λ bytes. DataRefuses bytes f.1) (λ bytes args. Answers bytes (types_of f.1) (Ok args)) bytes short e
+      (subst (λ (g : Placed). DataRefuses bytes g.1 e) (sym (one_at P f.0 f r.fun refl named.there r.there)) r.refuses))) refusal h

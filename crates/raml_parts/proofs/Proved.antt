@@ -11,12 +11,13 @@ use Rattle.rules_plan.specs.Read.{program_in}
 use Rattle.annot_types.specs.Program.{Program}
 use Rattle.annot_types.specs.Certificate.{Certificate}
 use Rattle.annot_types.specs.System.{Valid}
-use Rattle.annot_types.specs.Held.{Line, lines}
+use Rattle.annot_types.specs.Held.{Line, lines, Held}
 use Rattle.rules_soundness_laws.specs.Laws.{normal_of, LinesAreTrue, IsTrue}
 use Rattle.infer_spec.specs.Good.{AllRefuted, AllLeast}
 use Rattle.infer_spec.specs.Lines.{LinesTell}
 use Rattle.std.proofs.Common.{Result, Err, true}
 use Rattle.annot_types.specs.Certificate.{has_work}
+use Rattle.cert_json.specs.Told.{IsComplete}
 use Rattle.bound_infer.specs.Inferred.{IsInferred}
 use Rattle.raml_words.specs.declared.request.Rule.{Rule}
 use Rattle.refusals.specs.Refusals.{names_in}
@@ -90,6 +91,15 @@ module _ (typed : TheProgram) (kept : Kept) (source : kept.source ≡ typed) (de
       subst (λ s. Gives (OfCourse Promised analysed.Program (program_of s) (program_in kept) degree rule Rest) (Err refusal)) source
       (course_denied analysed.Program kept degree rule Rest refusal h)
 
--- the certificate of a course counts work
+-- the certificate of a course counts work, and is complete
 pub counts_work : (N : Program) (degree : ℕ) (rule : Rule) (c : Certificate) → IsInferred (analysis N degree rule) c → has_work c ≡ true
 counts_work N degree rule c inferred = ap has_work inferred.ends.is
+
+pub completes : (N : Program) (degree : ℕ) (rule : Rule) (c : Certificate) → IsInferred (analysis N degree rule) c → Held N c → IsComplete c
+completes N degree rule c inferred held = record {
+  least_degree = held.least_degree;
+  most_degree = held.most_degree;
+  work = counts_work N degree rule c inferred;
+  scales = held.scales;
+  shape = λ place block there. (held.blocks place block there).shape;
+}

@@ -8,14 +8,15 @@ use Rattle.refusal_text.specs.declared.plain.Which.{Which}
 use Rattle.refusal_text.specs.declared.task.Analysed.{Analysed}
 use Rattle.refusal_text.specs.declared.task.Analysed.TheVariants as analysed
 use Rattle.price_file.specs.Construct.{Prices}
+use Rattle.refusals.specs.Ending.{TooLong}
 use Rattle.refusals.specs.Line.{no_names}
 use Rattle.refusals.specs.declared.answer.Refusal.{Refusal}
-use Rattle.raml_promise.specs.Outside.{Promised, Store, store_of, IsRead}
-use Rattle.raml_promise.specs.Steps.{most_bytes, IsTooLong, SourceRefuses, IsTyped, RefusedOf, file_of, Answer, OfProgram}
+use Rattle.raml_promise.specs.Outside.{Promised, Store, store_of}
+use Rattle.raml_promise.specs.Steps.{most_bytes, SourceRefuses, IsTyped, RefusedOf, file_of, Answer, OfProgram}
 use Rattle.raml_promise.specs.Prices.{OfPrices}
-use Rattle.raml_parts.specs.Parts.{Before, Gives, IsShort, IsProgram, ProgramRefuses, ArePrices, Refuses}
+use Rattle.raml_parts.specs.Parts.{Before, Gives, IsShort, FileRefuses, IsProgram, ProgramRefuses, ArePrices, Refuses}
 use Rattle.refusals.specs.declared.answer.Report.{Report}
-use Rattle.raml_parts.proofs.Stepping.{refuses_map, program_goes, prices_go}
+use Rattle.raml_parts.proofs.Stepping.{refuses_map, file_long, by_bytes, program_goes, prices_go}
 
 -- a count that rose has risen from any that came before
 pub still_rises : (before old now : ℕ) → before ≤ old → Rose old now → Rose before now
@@ -23,8 +24,8 @@ still_rises before old now earlier h = ⊎_elim (λ less. inl (omega (arith, les
 
 pub too_long_read : (store : Store) (which : Which) (file bytes : List ℕ) → length bytes ≤ suc (most_bytes which) →
     IfSome store.holds (λ files. IsFront files file (suc (most_bytes which)) bytes) → most_bytes which < length bytes →
-    (which ≡ which) × ((some : List ℕ) × IsRead Promised store (most_bytes which) file (Some some) × IsTooLong which some)
-too_long_read store which file bytes few front long = (refl, (bytes, record { few = few; front = front }, omega (arith, long)))
+    FileRefuses store which file (TooLong which)
+too_long_read store which file bytes few front long = file_long store which file bytes (record { few = few; front = front }) (omega (arith, long))
 
 -- what a file spells, by what its bytes do
 module _ {T E : Type 0} (program : T → Prog) (store : Store) (whose : Analysed) (file source seen : List ℕ) (same : seen ≡ source)
@@ -37,7 +38,7 @@ pub program_unread : {T : Type 0} (store : Store) (whose : Analysed) (file sourc
     IfErr r (Refuses no_names (RefusedOf whose (SourceRefuses seen))) → IfErr r (Refuses no_names (ProgramRefuses store whose file))
 program_unread store whose file source seen same within (Ok t) h = tt
 program_unread store whose file source seen same within (Err e) h =
-    refuses_map no_names (RefusedOf whose (SourceRefuses source)) (ProgramRefuses store whose file) (λ x q. inr (source, within, q)) e
+    refuses_map no_names (RefusedOf whose (SourceRefuses source)) (ProgramRefuses store whose file) (by_bytes store (file_of whose) file (λ s. RefusedOf whose (SourceRefuses s)) IsTyped source within) e
     (subst (λ s. Refuses no_names (RefusedOf whose (SourceRefuses s)) e) same h)
 
 -- no file that holds a program is longer

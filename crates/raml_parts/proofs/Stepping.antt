@@ -1,5 +1,5 @@
 -- What parts of a call answer, step by step.
-use Rattle.std.proofs.Common.{◌≡◌, ℕ, List, Result, Ok, Err, refl, ap, subst, inl, inr}
+use Rattle.std.proofs.Common.{◌≡◌, ℕ, List, Some, None, Result, Ok, Err, refl, subst, inl, inr}
 use Rattle.raml_syntax.specs.Tree.{Text, Prog}
 use Rattle.raml_syntax.specs.Value.{Value}
 use Rattle.call_groups.specs.Groups.{Grouping, IsGrouping}
@@ -16,8 +16,8 @@ use Rattle.refusals.specs.Line.{Names, no_names}
 use Rattle.refusals.specs.Refusals.{IsWanting}
 use Rattle.refusals.specs.declared.answer.Report.{Report}
 use Rattle.refusals.specs.declared.answer.Refusal.{Refusal as TheRefusal}
-use Rattle.raml_promise.specs.Outside.{Promised, Store}
-use Rattle.raml_promise.specs.Steps.{Answer, Refusal, Step, refused, goes_on, OfFile, OfProgram, OfNormal, SourceRefuses, IsTyped, RefusedOf, file_of}
+use Rattle.raml_promise.specs.Outside.{Promised, Store, IsRead}
+use Rattle.raml_promise.specs.Steps.{Answer, Refusal, Step, refused, goes_on, most_bytes, IsTooLong, OfShort, OfFile, OfProgram, OfNormal, SourceRefuses, IsTyped, RefusedOf, file_of}
 use Rattle.raml_promise.specs.Prices.{PricesRefuse, OfPrices}
 use Rattle.raml_promise.specs.DeclaredBounds.{BoundsRefuse, OfBounds}
 use Rattle.bound_file.specs.Lines.{Declaration}
@@ -26,8 +26,8 @@ use Rattle.price_file.specs.Construct.{Prices}
 use Rattle.price_file.specs.Spelling.{Spells, prices_in}
 use Rattle.refusal_text.specs.declared.task.Analysed.{Analysed}
 use Rattle.raml_promise.specs.Analysis.{OfCertificate, TextRefuses}
-use Rattle.raml_promise.specs.Call.{Placed, IsNamed, OfArguments, OfCall}
-use Rattle.raml_parts.specs.Parts.{Refuses, Gives, IsShort, FileRefuses, ReadRefuses, IsProgram, ProgramRefuses, ArePrices, PriceFileRefuses, AreBounds, BoundsFileRefuses, IsCertificateFile, CertificateRefuses, CallRefuses}
+use Rattle.raml_promise.specs.Call.{Placed, IsNamed, DataRefuses, OfArguments, OfCall}
+use Rattle.raml_parts.specs.Parts.{nothing, Refuses, Gives, IsShort, FileRefuses, IsProgram, ProgramRefuses, ArePrices, PriceFileRefuses, AreBounds, BoundsFileRefuses, IsCertificateFile, CertificateRefuses, CallRefuses}
 
 -- what follows of each answer follows of what is given
 pub gives_map : (Q R : Answer → Type 0) → ((a : Answer) → Q a → R a) → (r : Result Report TheRefusal) → Gives Q r → Gives R r
@@ -55,31 +55,49 @@ module _ {X : Type 0} (names : Names) (R : Ending → Type 0) (C : X → Type 0)
   pub step_goes : (x : X) → C x → (r : Result Report TheRefusal) → Gives (Rest x) r → Gives (Step names R C Rest) r
   step_goes x comes r h = gives_map (Rest x) (Step names R C Rest) (λ a q. goes_on x comes q) r h
 
+-- what comes behind a step may say less
+pub step_map : {X : Type 0} (names : Names) (R : Ending → Type 0) (C : X → Type 0) (Q T : X → Answer → Type 0) → ((x : X) (a : Answer) → Q x a → T x a) →
+    (a : Answer) → Step names R C Q a → Step names R C T a
+step_map names R C Q T go a (refused e r is) = refused e r is
+step_map names R C Q T go a (goes_on x comes q) = goes_on x comes (go x a q)
+
 -- files
-module _ (store : Store) (which : Which) (file : Text) (Rest : List ℕ → Answer → Type 0) where
-  pub file_refused : (e : Ending) → FileRefuses store which file e → OfFile Promised store which file Rest (Refusal no_names e)
-  file_refused (ReadFault other) h = refused (ReadFault other) (ap ReadFault h.0, h.1) refl
-  file_refused (TooLong other) h = goes_on h.1.0 h.1.1 (refused (TooLong other) (ap TooLong h.0, h.1.2) refl)
-  file_refused e h = absurd h
+module _ (store : Store) (which : Which) (file : Text) where
+  pub file_unread : IsRead Promised store (most_bytes which) file None → FileRefuses store which file (ReadFault which)
+  file_unread rises = refused (ReadFault which) (refl, rises) refl
 
-  pub file_comes : (bytes : List ℕ) → IsShort store which file bytes → (a : Answer) → Rest bytes a → OfFile Promised store which file Rest a
-  file_comes bytes short a rest = goes_on bytes short.read (goes_on tt short.short rest)
+  pub file_long : (bytes : List ℕ) → IsRead Promised store (most_bytes which) file (Some bytes) → IsTooLong which bytes → FileRefuses store which file (TooLong which)
+  file_long bytes seen long = goes_on bytes seen (refused (TooLong which) (refl, long) refl)
 
--- files whose bytes are refused, or come to something
-module _ {X : Type 0} (store : Store) (which : Which) (file : Text) (BytesRefuse : List ℕ → Ending → Type 0) (Comes : List ℕ → X → Type 0) (Rest : X → Answer → Type 0) where
-  abbrev OfBytes : List ℕ → Answer → Type 0
-  OfBytes bytes = Step no_names (BytesRefuse bytes) (Comes bytes) Rest
+  pub file_comes : (Rest : List ℕ → Answer → Type 0) (bytes : List ℕ) → IsShort store which file bytes → (a : Answer) → Rest bytes a → OfFile Promised store which file Rest a
+  file_comes Rest bytes short a rest = goes_on bytes short.read (goes_on tt short.short rest)
 
-  read_refused : (e : Ending) → ReadRefuses store which file BytesRefuse e → OfFile Promised store which file OfBytes (Refusal no_names e)
-  read_refused e (inl h) = file_refused store which file OfBytes e h
-  read_refused e (inr h) = file_comes store which file OfBytes h.0 h.1 (Refusal no_names e) (refused e h.2 refl)
+  file_map : (Q T : List ℕ → Answer → Type 0) → ((bytes : List ℕ) (a : Answer) → Q bytes a → T bytes a) → (a : Answer) →
+      OfFile Promised store which file Q a → OfFile Promised store which file T a
+  file_map Q T go = step_map no_names _ _ (λ bytes. OfShort which bytes (Q bytes)) (λ bytes. OfShort which bytes (T bytes)) (λ bytes. step_map no_names _ _ (λ done. Q bytes) (λ done. T bytes) (λ done. go bytes))
 
-  read_refusal : (refusal : TheRefusal) → Refuses no_names (ReadRefuses store which file BytesRefuse) refusal → Gives (OfFile Promised store which file OfBytes) (Err refusal)
-  read_refusal refusal h = refusal_gives (OfFile Promised store which file OfBytes) no_names (ReadRefuses store which file BytesRefuse) read_refused refusal h
+  -- whose bytes are refused, or come to something
+  module _ {X : Type 0} (BytesRefuse : List ℕ → Ending → Type 0) (Comes : List ℕ → X → Type 0) where
+    abbrev OfBytes : (X → Answer → Type 0) → List ℕ → Answer → Type 0
+    OfBytes Rest bytes = Step no_names (BytesRefuse bytes) (Comes bytes) Rest
 
-  read_goes : (bytes : List ℕ) → IsShort store which file bytes → (x : X) → Comes bytes x → (r : Result Report TheRefusal) → Gives (Rest x) r →
-      Gives (OfFile Promised store which file OfBytes) r
-  read_goes bytes short x comes r h = gives_map (Rest x) (OfFile Promised store which file OfBytes) (λ a q. file_comes store which file OfBytes bytes short a (goes_on x comes q)) r h
+    pub by_file : (e : Ending) → FileRefuses store which file e → OfFile Promised store which file (OfBytes nothing) (Refusal no_names e)
+    by_file e h = file_map nothing (OfBytes nothing) (λ bytes a none. absurd none) (Refusal no_names e) h
+
+    pub by_bytes : (bytes : List ℕ) → IsShort store which file bytes → (e : Ending) → BytesRefuse bytes e → OfFile Promised store which file (OfBytes nothing) (Refusal no_names e)
+    by_bytes bytes short e r = file_comes (OfBytes nothing) bytes short (Refusal no_names e) (refused e r refl)
+
+    pub read_map : (Rest : X → Answer → Type 0) (a : Answer) → OfFile Promised store which file (OfBytes nothing) a → OfFile Promised store which file (OfBytes Rest) a
+    read_map Rest = file_map (OfBytes nothing) (OfBytes Rest) (λ bytes. step_map no_names (BytesRefuse bytes) (Comes bytes) nothing Rest (λ x a none. absurd none))
+
+    pub read_refusal : (Rest : X → Answer → Type 0) (refusal : TheRefusal) → Refuses no_names (λ e. OfFile Promised store which file (OfBytes nothing) (Refusal no_names e)) refusal →
+        Gives (OfFile Promised store which file (OfBytes Rest)) (Err refusal)
+    read_refusal Rest refusal h = refusal_gives _ no_names _ (λ e. read_map Rest (Refusal no_names e)) refusal h
+
+    pub read_goes : (Rest : X → Answer → Type 0) (bytes : List ℕ) → IsShort store which file bytes → (x : X) → Comes bytes x → (r : Result Report TheRefusal) → Gives (Rest x) r →
+        Gives (OfFile Promised store which file (OfBytes Rest)) r
+    read_goes Rest bytes short x comes r h =
+        gives_map (Rest x) (OfFile Promised store which file (OfBytes Rest)) (λ a q. file_comes (OfBytes Rest) bytes short a (goes_on x comes q)) r h
 
 -- programs
 module _ (store : Store) (whose : Analysed) (file : Text) (Rest : Prog → Answer → Type 0) where
@@ -116,13 +134,12 @@ module _ (store : Store) (file : Text) (Rest : Certificate → Answer → Type 0
 
 -- calls
 module _ (store : Store) (P : Prog) (name file : Text) (Rest : Placed → List Value → Answer → Type 0) where
-  call_refused : (e : Ending) → CallRefuses store P name file e → OfCall Promised store P name file Rest (Refusal no_names e)
-  call_refused e (inl h) = refused e h refl
-  call_refused e (inr (f, named, inl h)) = goes_on f named (file_refused store w.Data file (λ bytes. OfArguments bytes f.1 (Rest f)) e h)
-  call_refused e (inr (f, named, inr h)) = goes_on f named (file_comes store w.Data file (λ bytes. OfArguments bytes f.1 (Rest f)) h.0 h.1 (Refusal no_names e) (refused e h.2 refl))
-
   pub call_refusal : (refusal : TheRefusal) → Refuses no_names (CallRefuses store P name file) refusal → Gives (OfCall Promised store P name file Rest) (Err refusal)
-  call_refusal refusal h = refusal_gives (OfCall Promised store P name file Rest) no_names (CallRefuses store P name file) call_refused refusal h
+  call_refusal refusal h =
+      refusal_gives (OfCall Promised store P name file Rest) no_names (CallRefuses store P name file)
+      (λ e. step_map no_names _ (IsNamed P name) (λ f. OfFile Promised store w.Data file (λ bytes. OfArguments bytes f.1 nothing)) (λ f. OfFile Promised store w.Data file (λ bytes. OfArguments bytes f.1 (Rest f)))
+      (λ f. read_map store w.Data file (λ bytes. DataRefuses bytes f.1) (λ bytes args. Answers bytes (types_of f.1) (Ok args)) (Rest f)) (Refusal no_names e))
+      refusal h
 
   pub call_goes : (f : Placed) (args : List Value) (bytes : List ℕ) → IsNamed P name f → IsShort store w.Data file bytes →
       Answers bytes (types_of f.1) (Ok args) →

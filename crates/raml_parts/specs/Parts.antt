@@ -24,7 +24,7 @@ use Rattle.contract_report.specs.declared.fault.VerdictsFault.{VerdictsFault}
 use Rattle.contract_report.specs.declared.fault.VerdictsFault.TheVariants as verdicts
 use Rattle.analysis_report.specs.declared.powers_fault.PowersFault.{PowersFault}
 use Rattle.analysis_report.specs.declared.powers_fault.PowersFault.TheVariants as powers
-use Rattle.refusals.specs.Ending.{Ending, Usage, ReadFault, TooLong, Source, Types, NoFunction, ending_of}
+use Rattle.refusals.specs.Ending.{Ending, Usage, Source, Types, ending_of}
 use Rattle.refusals.specs.Line.{Names, no_names, line_of}
 use Rattle.refusals.specs.Refusals.{line_text, IsWanting, IsToldOr}
 use Rattle.refusals.specs.declared.answer.Report.{Report}
@@ -33,12 +33,12 @@ use Rattle.refusals.specs.declared.status.Status.{Status}
 use Rattle.refusals.specs.declared.status.Status.TheVariants as status
 use Rattle.refusals.specs.declared.status.OverflowAt.TheVariants as overflow
 use Rattle.raml_promise.specs.Outside.{Promised, Store, IsRead}
-use Rattle.raml_promise.specs.Steps.{Answer, Refusal, most_bytes, SourceRefuses, IsTyped, RefusedOf, file_of}
+use Rattle.raml_promise.specs.Steps.{Answer, Refusal, most_bytes, IsTyped, file_of, OfFile, OfProgram}
 use Rattle.raml_promise.specs.Steps as s
-use Rattle.raml_promise.specs.Analysis.{TextRefuses}
-use Rattle.raml_promise.specs.Prices.{PricesRefuse}
-use Rattle.raml_promise.specs.DeclaredBounds.{BoundsRefuse}
-use Rattle.raml_promise.specs.Call.{Placed, IsNamed, DataRefuses, Limits, Ends}
+use Rattle.raml_promise.specs.Analysis.{OfCertificate}
+use Rattle.raml_promise.specs.Prices.{OfPrices}
+use Rattle.raml_promise.specs.DeclaredBounds.{OfBounds}
+use Rattle.raml_promise.specs.Call.{Placed, DataRefuses, Limits, Ends, OfCall}
 use Rattle.raml_words.specs.Words as words
 use Rattle.raml_words.specs.Words.{Request, AsksNothing}
 use Rattle.raml_parts.specs.declared.run.Limits.{Limits as TheLimits}
@@ -70,17 +70,12 @@ pub record IsShort (store : Store) (which : Which) (file bytes : List ℕ) : Typ
   pub read : IsRead Promised store (most_bytes which) file (Some bytes)
   pub short : length bytes ≤ most_bytes which
 
--- why there are none
-abbrev pub FileRefuses : Store → Which → List ℕ → Ending → Type 0
-FileRefuses store which file (ReadFault other) = (other ≡ which) × IsRead Promised store (most_bytes which) file None
-FileRefuses store which file (TooLong other) =
-    (other ≡ which) × ((bytes : List ℕ) × IsRead Promised store (most_bytes which) file (Some bytes) × s.IsTooLong which bytes)
-FileRefuses store which file _ = ⊥
+-- Why a part comes to nothing: the step of the call at which it is refused, with nothing behind it.
+abbrev pub nothing : {X : Type 0} → X → Answer → Type 0
+nothing x a = ⊥
 
--- why what a file spells is not read: the file is not, or its bytes are refused
-abbrev pub ReadRefuses : Store → Which → List ℕ → (List ℕ → Ending → Type 0) → Ending → Type 0
-ReadRefuses store which file BytesRefuse e =
-    FileRefuses store which file e ⊎ ((bytes : List ℕ) × IsShort store which file bytes × BytesRefuse bytes e)
+abbrev pub FileRefuses : Store → Which → List ℕ → Ending → Type 0
+FileRefuses store which file e = OfFile Promised store which file nothing (Refusal no_names e)
 
 -- the typed program that a file spells
 pub record IsProgram (store : Store) (whose : Analysed) (file : List ℕ) (P : Prog) : Type 0 where
@@ -89,7 +84,7 @@ pub record IsProgram (store : Store) (whose : Analysed) (file : List ℕ) (P : P
   pub typed : IsTyped source P
 
 abbrev pub ProgramRefuses : Store → Analysed → List ℕ → Ending → Type 0
-ProgramRefuses store whose file e = ReadRefuses store (file_of whose) file (λ source. RefusedOf whose (SourceRefuses source)) e
+ProgramRefuses store whose file e = OfProgram Promised store whose file nothing (Refusal no_names e)
 
 -- the prices that a file tells
 pub record ArePrices (store : Store) (file : List ℕ) (prices : Prices) : Type 0 where
@@ -100,7 +95,7 @@ pub record ArePrices (store : Store) (file : List ℕ) (prices : Prices) : Type 
   pub are : prices ≡ prices_in table
 
 abbrev pub PriceFileRefuses : Store → List ℕ → Ending → Type 0
-PriceFileRefuses store file e = ReadRefuses store w.Prices file PricesRefuse e
+PriceFileRefuses store file e = OfPrices Promised store file nothing (Refusal no_names e)
 
 -- the bounds that a file declares for a program at a degree
 pub record AreBounds (store : Store) (file : List ℕ) (P : Prog) (degree : ℕ) (declared : Declaration) : Type 0 where
@@ -109,7 +104,7 @@ pub record AreBounds (store : Store) (file : List ℕ) (P : Prog) (degree : ℕ)
   pub spelled : Spells P degree bytes declared
 
 abbrev pub BoundsFileRefuses : Store → List ℕ → Prog → ℕ → Ending → Type 0
-BoundsFileRefuses store file P degree e = ReadRefuses store w.Bounds file (BoundsRefuse P degree) e
+BoundsFileRefuses store file P degree e = OfBounds Promised store file P degree nothing (Refusal no_names e)
 
 -- the certificate that a file is
 pub record IsCertificateFile (store : Store) (file : List ℕ) (c : Certificate) : Type 0 where
@@ -118,14 +113,11 @@ pub record IsCertificateFile (store : Store) (file : List ℕ) (c : Certificate)
   pub is : IsFile bytes c
 
 abbrev pub CertificateRefuses : Store → List ℕ → Ending → Type 0
-CertificateRefuses store file e = ReadRefuses store w.Certificate file TextRefuses e
+CertificateRefuses store file e = OfCertificate Promised store file nothing (Refusal no_names e)
 
 -- why a call is not read
 abbrev pub CallRefuses : Store → Prog → List ℕ → List ℕ → Ending → Type 0
-CallRefuses store P name file e =
-    ((e ≡ NoFunction) × (place_of name P ≡ None))
-    ⊎ ((f : Placed) × IsNamed P name f
-    × (FileRefuses store w.Data file e ⊎ ((bytes : List ℕ) × IsShort store w.Data file bytes × DataRefuses bytes f.1 e)))
+CallRefuses store P name file e = OfCall Promised store P name file (λ f. nothing) (Refusal no_names e)
 
 -- what is known of a typed program that a source within its limit spells
 pub record IsReady (P : Prog) : Type 0 where

@@ -73,7 +73,7 @@ fn verify_refusal(alloc: Global, program: &NormProgram<'_>, fault: VerifyFault) 
     match fault {
         VerifyFault::Cert(fault) => check_refusal(alloc, program, fault),
         VerifyFault::NotRefuted { block } => {
-            let line = not_refuted_line(alloc, block as usize);
+            let line = not_refuted_line(alloc, block);
             Refusal::told(Status::Certificate(CertAnswer::NotRefuted { block }), line)
         }
         VerifyFault::TooLarge { task, what } => too_large(alloc, program, task, what),

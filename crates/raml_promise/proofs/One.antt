@@ -1,6 +1,5 @@
 -- What is needed for an answer brings it.
 use Rattle.std.proofs.Common.{◌≡◌, ◌⊎◌, ℕ, List, [], Option, Some, None, refl, sym, ◌∙◌, inl, inr}
-use Rattle.std.specs.Prelude.{◌++◌, codes}
 use Rattle.raml_syntax.specs.Tree.{Text, Prog}
 use Rattle.raml_syntax.specs.Value.{Value}
 use Rattle.raml_syntax.specs.Types.{Typed}
@@ -9,13 +8,15 @@ use Rattle.raml_parse.proofs.Limits.{within_limits}
 use Rattle.rules_soundness_laws.specs.Laws.{normal_of}
 use Rattle.annot_types.specs.Program.{Program}
 use Rattle.annot_types.specs.Certificate.{Certificate}
+use Rattle.call_groups.specs.Groups.{Grouping, IsGrouping}
+use Rattle.cert_check.specs.Finds.{FirstFault}
+use Rattle.cert_check.specs.Laws.{IsFaultless}
 use Rattle.raml_words.specs.Words as w
 use Rattle.raml_words.specs.Words.{Request, Asks, AsksNothing}
 use Rattle.raml_words.proofs.Worded.{one_request}
 use Rattle.raml_words.specs.declared.request.Rule.{Rule}
 use Rattle.raml_words.specs.declared.request.Rule.TheVariants as rule
 use Rattle.stack_compile.specs.Text.{code_text}
-use Rattle.cert_json.specs.Told.{text_of}
 use Rattle.report_text.specs.Report.{type_lines}
 use Rattle.report_text.specs.Trial.{trial_text, trial_function, trial_data}
 use Rattle.refusal_text.specs.declared.plain.Which.TheVariants as which
@@ -36,7 +37,7 @@ use Rattle.raml_promise.specs.DeclaredBounds.{PrintsVerdicts}
 use Rattle.raml_promise.specs.Prices.{ArePricedLines, Spends}
 use Rattle.raml_promise.specs.Analysis.{OfCourse, OfCheck}
 use Rattle.raml_promise.specs.Call.{Placed, Limits, OfCall, OfFloors}
-use Rattle.raml_promise.specs.Promise.{PrintsLines, PrintsCertificate, ListsTypes, ListsCode, Analyses, Certifies, Verifies, RunsBounded, BoundedCall, PricesLines, PricesProgram, SpendsWithin, ComparesWith, Compares, PrintsPowers, ChecksBounds, RunsTrial, TriesCall, Tries, Answers, WordsAnswer, EndsBy, Cause, EndsAlike, IsWritable, Forced}
+use Rattle.raml_promise.specs.Promise.{PrintsLines, IsTextOf, PrintsCertificate, ListsTypes, ListsCode, Analyses, Certifies, Verifies, RunsBounded, BoundedCall, PricesLines, PricesProgram, SpendsWithin, ComparesWith, Compares, PrintsPowers, ChecksBounds, RunsTrial, TriesCall, Tries, Answers, WordsAnswer, EndsBy, Cause, EndsAlike, IsWritable, Forced}
 use Rattle.raml_promise.proofs.Alike.{alike_same, Same, steps_same, prints_same}
 use Rattle.raml_promise.proofs.OneSource.{short_same, source_same, program_same}
 use Rattle.raml_promise.specs.Known.{KnownLaws}
@@ -68,11 +69,16 @@ module _ (laws : KnownLaws) where
       normal_same P (λ N. OfCourse Needed whose P N degree rule (Q N)) (λ N. OfCourse Promised whose P N degree rule (T N))
       (λ groups grouping. course_same laws whose P known.typed known.limits.numbers groups grouping degree rule (Q (normal_of P groups.list)) (T (normal_of P groups.list)) (rest (normal_of P groups.list)))
 
-  verified_same : (store : Store) (file : Text) (P : Prog) (a b : Answer) → Verifies Needed store file P a → Verifies Promised store file P b → Same a b
-  verified_same store file P =
+  -- a certificate that is held, within the limits, and whose totals fit, passes the check
+  passes : (P : Prog) → IsKnown P → (groups : Grouping) → IsGrouping P groups → (c : Certificate) → IsFaultless (normal_of P groups.list) c → FirstFault (normal_of P groups.list) c None
+  passes P is groups grouping c =
+      let N = normal_of P groups.list in (laws.faultless N (laws.proper N (laws.ordered P is.typed is.limits.numbers groups grouping)) c).1
+
+  verified_same : (store : Store) (file : Text) (P : Prog) → IsKnown P → (a b : Answer) → Verifies Needed store file P a → Verifies Promised store file P b → Same a b
+  verified_same store file P is =
       certificate_same store file (λ c. OfNormal P (λ N. OfCheck Needed P N c (PrintsLines Needed P N c))) (λ c. OfNormal P (λ N. OfCheck Promised P N c (PrintsLines Promised P N c)))
       (λ c. normal_same P (λ N. OfCheck Needed P N c (PrintsLines Needed P N c)) (λ N. OfCheck Promised P N c (PrintsLines Promised P N c))
-      (λ groups grouping. check_same (normal_of P groups.list) c P (PrintsLines Needed P (normal_of P groups.list) c) (PrintsLines Promised P (normal_of P groups.list) c)
+      (λ groups grouping. check_same (normal_of P groups.list) c (passes P is groups grouping c) P (PrintsLines Needed P (normal_of P groups.list) c) (PrintsLines Promised P (normal_of P groups.list) c)
       (prints_same (AreLines P (normal_of P groups.list) c) (AreLines P (normal_of P groups.list) c))))
 
   bounded_same : (P : Prog) → IsKnown P → (steps : ℕ) (cells : Option ℕ) (degree : ℕ) (f : Placed) (args : List Value) (a b : Answer) →
@@ -127,9 +133,9 @@ module _ (laws : KnownLaws) where
       (λ source P is. of_courses analysed.Program P (known source P is) degree rule (λ N c. PrintsLines Needed P N c) (λ N c. PrintsLines Promised P N c) (λ N c. prints_same (AreLines P N c) (AreLines P N c)))
   answers_same store (w.Certify file degree rule) =
       program_same store analysed.Program file (Certifies Needed degree rule) (Certifies Promised degree rule)
-      (λ source P is. of_courses analysed.Program P (known source P is) degree rule (λ N c. PrintsCertificate Needed c) (λ N c. PrintsCertificate Promised c) (λ N c. prints_same (λ text. text ≡ text_of c ++ codes "\n") (λ text. text ≡ text_of c ++ codes "\n")))
+      (λ source P is. of_courses analysed.Program P (known source P is) degree rule (λ N c. PrintsCertificate Needed c) (λ N c. PrintsCertificate Promised c) (λ N c. prints_same (IsTextOf c) (IsTextOf c)))
   answers_same store (w.Verify file certificate) =
-      program_same store analysed.Program file (Verifies Needed store certificate) (Verifies Promised store certificate) (λ source P is. verified_same store certificate P)
+      program_same store analysed.Program file (Verifies Needed store certificate) (Verifies Promised store certificate) (λ source P is. verified_same store certificate P (known source P is))
   answers_same store (w.Run file name input steps cells None) =
       program_same store analysed.Program file _ _ (λ source P is. call_same store P name input _ _ (λ f args. runs_same P f args _ _ _ _ _))
   answers_same store (w.Run file name input steps cells (Some degree)) =

@@ -29,6 +29,7 @@ use Rattle.cert_json.proofs.Certificates.{certificate_complete}
 use Rattle.cert_json.proofs.Parted.{parts_tell}
 use Rattle.cert_check.specs.Fault as f
 use Rattle.cert_check.specs.Finds as check
+use Rattle.cert_check.specs.Laws.{IsFaultless}
 use Rattle.cert_check.proofs.OneFault.{one_first_fault}
 use Rattle.infer_systems_laws.specs.Analysed.{generator_of}
 use Rattle.bound_infer.specs.Inferred.{IsVerified, VectorFault, TaskFault}
@@ -77,7 +78,7 @@ module _ (bytes : List ℕ) where
   file_or_fault (j.Shape place) cert h is = read_or_refused (j.Shape place) cert h is
   file_or_fault (j.Number place) cert h is = read_or_refused (j.Number place) cert h is
 
-  one_file : (x y : Certificate) → IsFile bytes x → IsFile bytes y → x ≡ y
+  pub one_file : (x y : Certificate) → IsFile bytes x → IsFile bytes y → x ≡ y
   one_file x y h k =
       let same = one_value k.value h.value k.read h.read in
       let a = certificate_complete h.value (parts x) h.is in
@@ -92,7 +93,7 @@ module _ (bytes : List ℕ) where
   text_refusals (Certified (Json x)) e h k = absurd k
   text_refusals e other h k = absurd h
 
-  text_or_file : (e : Ending) (cert : Certificate) → TextRefuses bytes e → IsFile bytes cert → ⊥
+  pub text_or_file : (e : Ending) (cert : Certificate) → TextRefuses bytes e → IsFile bytes cert → ⊥
   text_or_file (Certified (Json x)) cert h is = file_or_fault x cert h is
   text_or_file e cert h is = absurd h
 
@@ -254,18 +255,18 @@ module _ (N : Program) (cert : Certificate) where
       let fault = one_block_fault i a b h.first.is (subst (λ z. At z b) (sym place) g.first.is) in
       is ∙ (λ t. of_vector (place t) (block_is t).task (fault t)) ∙ sym are
 
-  found_or_none : (x : Ending) → Found x → IsVerified N cert → ⊥
-  found_or_none x (by_check a h is) ok = let s = one_first_fault N cert (Some a) None h ok.passes in absurd (cc)
-  found_or_none x (by_vector place a block there h is) ok = ok.clear place a h.first.is
+  found_or_none : (IsFaultless N cert → check.FirstFault N cert None) → (x : Ending) → Found x → IsVerified N cert → ⊥
+  found_or_none passes x (by_check a h is) ok = let s = one_first_fault N cert (Some a) None h (passes ok.faultless) in absurd (cc)
+  found_or_none passes x (by_vector place a block there h is) ok = ok.clear place a h.first.is
 
-  pub check_same : (P : Prog) (Q T : Answer → Type 0) → ((a b : Answer) → Q a → T b → Same a b) → (a b : Answer) →
+  pub check_same : (IsFaultless N cert → check.FirstFault N cert None) → (P : Prog) (Q T : Answer → Type 0) → ((a b : Answer) → Q a → T b → Same a b) → (a b : Answer) →
       OfCheck Needed P N cert Q a → OfCheck Promised P N cert T b → Same a b
-  check_same P Q T rest =
+  check_same passes P Q T rest =
       steps_same (names_of P N) (names_of P N) (CheckRefuses N cert) (CheckRefuses N cert) (λ (done : Unit {0}). IsChecked Needed P N cert) (λ (done : Unit {0}). IsChecked Promised P N cert) (λ done. Q) (λ done. T)
       (record {
         refusals = λ x y r s. alike_same x y (one_found x y (found_by x r) (found_by y s));
-        not_left = λ x done r ok. found_or_none x (found_by x r) ok.verified;
-        not_right = λ done x ok r. found_or_none x (found_by x r) ok.verified;
+        not_left = λ x done r ok. found_or_none passes x (found_by x r) ok.verified;
+        not_right = λ done x ok r. found_or_none passes x (found_by x r) ok.verified;
         one = λ x y a b. unit x y;
       })
       (λ done x y. rest)

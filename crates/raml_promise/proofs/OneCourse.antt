@@ -85,7 +85,7 @@ module _ (P : Prog) where
   none_left : (before group : List ℕ) → ComesNext P before group → ((f : ℕ) → f < length P → Contains before f) → ⊥
   none_left before group h all = h.may_come.new (all h.least h.may_come.is_function)
 
-  one_order : (before : List ℕ) (gs hs : List (List ℕ)) → AreInOrder P before gs → AreInOrder P before hs → gs ≡ hs
+  pub one_order : (before : List ℕ) (gs hs : List (List ℕ)) → AreInOrder P before gs → AreInOrder P before hs → gs ≡ hs
   one_order before [] [] g h = refl
   one_order before [] (y ∷ hs) g h = absurd (none_left before y h.0 g)
   one_order before (x ∷ gs) [] g h = absurd (none_left before x g.0 h)

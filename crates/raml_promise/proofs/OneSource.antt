@@ -18,10 +18,10 @@ use Rattle.raml_promise.specs.Steps.{Answer, most_bytes, IsTooLong, OfShort, OfF
 use Rattle.raml_promise.proofs.Alike.{alike_same, Same, steps_same, either_refused, neither_refused}
 
 -- what is told to be held begins with what was read
-told_front : (store : Store) (limit : ℕ) (file bytes : List ℕ) (files : Files) → store.holds ≡ Some files → IsSeen store limit file bytes → IsFront files file (suc limit) bytes
+pub told_front : (store : Store) (limit : ℕ) (file bytes : List ℕ) (files : Files) → store.holds ≡ Some files → IsSeen store limit file bytes → IsFront files file (suc limit) bytes
 told_front store limit file bytes files told seen = subst (λ h. IfSome h (λ files. IsFront files file (suc limit) bytes)) told seen.front
 
-front_is : (limit : ℕ) (file bytes content : List ℕ) (files : Files) → files file ≡ Some content → IsFront files file (suc limit) bytes → take (suc limit) content ≡ bytes
+pub front_is : (limit : ℕ) (file bytes content : List ℕ) (files : Files) → files file ≡ Some content → IsFront files file (suc limit) bytes → take (suc limit) content ≡ bytes
 front_is limit file bytes content files held front =
     let h = front.held in
     let same : content ≡ front.content = cc in
@@ -75,7 +75,7 @@ file_same store which file Q T rest =
 
 -- a source spells one program, or has one fault
 module _ (source : List ℕ) where
-  one_program : (P Q : Prog) → Spells source P → Spells source Q → P ≡ Q
+  pub one_program : (P Q : Prog) → Spells source P → Spells source Q → P ≡ Q
   one_program P Q h k = let e : ◌≡◌ {A = Result Prog ParseFault} (Ok P) (Ok Q) = one_answer source (Ok P) (Ok Q) h k in cc
 
   one_fault : (f g : ParseFault) → FirstFault source f → FirstFault source g → f ≡ g
@@ -99,7 +99,7 @@ module _ (source : List ℕ) where
   refusals_same (Source f) e r s = absurd s
   refusals_same e f r s = absurd r
 
-  refused_or_typed : (e : Ending) (P : Prog) → SourceRefuses source e → IsTyped source P → ⊥
+  pub refused_or_typed : (e : Ending) (P : Prog) → SourceRefuses source e → IsTyped source P → ⊥
   refused_or_typed (Source (Parse f)) P r is = no_fault P f is.spelled r
   refused_or_typed (Source (Types f)) P r is = faulty_or_typed f r.0 P r.1 r.2 is
   refused_or_typed e P r is = absurd r

@@ -89,7 +89,7 @@ CheckRefuses N c (Overflows (OnTask task (p.Row row))) = TaskFault N c task (v.R
 CheckRefuses N c (Overflows (OnTask task (p.Refute column))) = TaskFault N c task (v.Refute column)
 CheckRefuses N c _ = ⊥
 
--- The certificate is verified.
+-- The certificate is held, within the limits, and no number leaves 128 bits; and its vectors refute.
 pub record IsChecked (side : Side) (P : Prog) (N : Program) (c : Certificate) : Type 0 where
   pub verified : IsVerified N c
   pub proved : Also side (IsProved P N c)

@@ -1,7 +1,8 @@
--- What is known of courses, and of files of declared bounds.
-use Rattle.infer_spec.specs.Laws.{OneCertificate, EndsOrStops, OnePlace}
+-- What is known of courses, of certificates, and of files of declared bounds.
+use Rattle.infer_spec.specs.Laws.{OneCertificate, EndsOrStops, OnePlace, NoneTooLarge, NoneUnrefuted}
+use Rattle.cert_check.specs.Laws.{FaultlessExactly}
 use Rattle.bound_file.specs.Laws.{FilesHaveOneAnswer}
-use Rattle.infer_systems_laws.specs.Laws.{SystemsGenerate, NormalsAreOrdered}
+use Rattle.infer_systems_laws.specs.Laws.{SystemsGenerate, NormalsAreOrdered, OrderedAreProper}
 
 pub record KnownLaws : Type 0 where
   pub one : OneCertificate
@@ -10,3 +11,7 @@ pub record KnownLaws : Type 0 where
   pub generate : SystemsGenerate
   pub ordered : NormalsAreOrdered
   pub files : FilesHaveOneAnswer
+  pub proper : OrderedAreProper
+  pub faultless : FaultlessExactly
+  pub large : NoneTooLarge
+  pub unrefuted : NoneUnrefuted

@@ -1,5 +1,5 @@
 -- What the top call promises.
-use Rattle.std.specs.Prelude.{◌≡◌, ◌⊎◌, ℕ, List, [], ◌++◌, Option, Some, None, codes}
+use Rattle.std.specs.Prelude.{◌≡◌, ◌≤◌, ◌⊎◌, ℕ, List, [], ◌++◌, length, Option, Some, None, codes}
 use Rattle.raml_syntax.specs.Tree.{Text, Prog}
 use Rattle.raml_syntax.specs.Value.{Value}
 use Rattle.raml_words.specs.Words as w
@@ -11,7 +11,7 @@ use Rattle.cost_free.specs.declared.task.Meter.TheVariants.{Ticks, Cells, Work}
 use Rattle.annot_types.specs.Program.{Program}
 use Rattle.annot_types.specs.Certificate.{Certificate}
 use Rattle.infer_spec.specs.Places.{stage}
-use Rattle.cert_json.specs.Told.{text_of}
+use Rattle.cert_json.specs.Told.{text_of, IsFile}
 use Rattle.report_text.specs.Report.{type_lines}
 use Rattle.report_text.specs.Claims.{lines_text}
 use Rattle.report_text.specs.RunBounds.{run_bound_lines}
@@ -27,7 +27,7 @@ use Rattle.refusals.specs.Line.{Names, no_names, line_of}
 use Rattle.refusals.specs.declared.status.Status.{Status}
 use Rattle.refusals.specs.declared.status.Status.TheVariants.{WriteFault, NoMemory}
 use Rattle.raml_promise.specs.Outside.{Outside, Store, Sink, Side, Promised, Needed, Rises, GainsNothing, Gains, GainsFront}
-use Rattle.raml_promise.specs.Steps.{Answer, Report, Refusal, ending_in, Step, Test, Prints, OfShort, OfSource, OfProgram, OfNormal, names_of}
+use Rattle.raml_promise.specs.Steps.{Answer, Report, Refusal, ending_in, Step, Test, Prints, most_bytes, OfShort, OfSource, OfProgram, OfNormal, names_of}
 use Rattle.raml_promise.specs.Analysis.{OfCourse, OfCertificate, OfCheck, PowersRefuse}
 use Rattle.raml_promise.specs.DeclaredBounds.{OfBounds, PrintsVerdicts}
 use Rattle.raml_promise.specs.Prices.{OfPrices, ArePricedLines, Spends}
@@ -48,8 +48,12 @@ ListsCode side P = Prints side (λ text. text ≡ code_text P)
 abbrev pub PrintsLines : Side → Prog → Program → Certificate → Answer → Type 0
 PrintsLines side P N c = Prints side (AreLines P N c)
 
+-- Where it is no longer than a certificate may be, it is read as this certificate.
+abbrev pub IsTextOf : Certificate → Text → Type 0
+IsTextOf c text = (text ≡ text_of c ++ codes "\n") × (length text ≤ most_bytes which.Certificate → IsFile text c)
+
 abbrev pub PrintsCertificate : Side → Certificate → Answer → Type 0
-PrintsCertificate side c = Prints side (λ text. text ≡ text_of c ++ codes "\n")
+PrintsCertificate side c = Prints side (IsTextOf c)
 
 -- The lines of the certificate of the course of its analysis, and the certificate.
 abbrev pub Analyses : Side → ℕ → Rule → Prog → Answer → Type 0

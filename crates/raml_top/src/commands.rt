@@ -7,11 +7,11 @@ ghost use Rattle.share_normal.specs.Program.{source_in};
 ghost use Rattle.stack_compile.specs.Text.{code_text};
 ghost use Rattle.annot_types.specs.Certificate as c;
 ghost use Rattle.annot_types.specs.Read.{certificate_of};
-ghost use Rattle.cert_json.specs.Told.{text_of};
+ghost use Rattle.cert_json.specs.Told.{IsComplete};
 ghost use Rattle.refusals.specs.Refusals.{IsWanting, names_in};
 ghost use Rattle.raml_promise.specs.Outside.{Promised, store_of};
 ghost use Rattle.raml_promise.specs.Analysis.{OfCourse, OfCheck};
-ghost use Rattle.raml_promise.specs.Promise.{ListsTypes, ListsCode, PrintsLines, PrintsCertificate, PrintsPowers, Analyses, Certifies, ShowsPowers, Verifies};
+ghost use Rattle.raml_promise.specs.Promise.{ListsTypes, ListsCode, PrintsLines, IsTextOf, PrintsCertificate, PrintsPowers, Analyses, Certifies, ShowsPowers, Verifies};
 ghost use Rattle.raml_words.specs.declared.request.Rule.TheVariants as rule;
 ghost use Rattle.raml_parts.specs.Parts.{Before, IsReady, Gives, PowerRefusal};
 
@@ -145,6 +145,7 @@ fn course_certificate(
 
 // The text of a certificate, and a line feed.
 fn certificate_report(alloc: Global, certificate: &Certificate) -> Result<Report, Refusal>
+    requires { IsComplete (certificate_of certificate.now) }
     ensures { Gives (PrintsCertificate Promised (certificate_of certificate.now)) result }
 {
     match certificate_text(alloc, certificate) {
@@ -157,7 +158,8 @@ fn certificate_report(alloc: Global, certificate: &Certificate) -> Result<Report
 }
 
 fn certificate_text(alloc: Global, certificate: &Certificate) -> Result<Vec<u8>, AllocError>
-    ensures { IfOk result (λ text. text.items ≡ text_of (certificate_of certificate.now) ++ codes "\n") }
+    requires { IsComplete (certificate_of certificate.now) }
+    ensures { IfOk result (λ text. IsTextOf (certificate_of certificate.now) text.items) }
 {
     let mut bytes = write(alloc, certificate)?;
     bytes.push(b'\n')?;

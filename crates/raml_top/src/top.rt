@@ -5,12 +5,13 @@ ghost use Rattle.raml_words.specs.Words.{texts, Asks, Trial};
 ghost use Rattle.raml_words.specs.Asked.{request_of};
 ghost use Rattle.refusals.specs.Line.{no_names};
 ghost use Rattle.raml_promise.specs.Outside.{Promised, store_of, sink_of, outside_of, Gains, GainsFront};
+ghost use Rattle.raml_promise.specs.Again.{VerifiesAgain};
 ghost use Rattle.raml_promise.specs.Promise.{Cause, Forced, WordsAnswer};
 ghost use Rattle.raml_parts.specs.Parts.{Gives, Refuses, WordsRefuse, IsWithin};
 
 use crate::requests::request_answer;
 use raml_io::{Sink, Store, put_all};
-use raml_promise::laws::causes_force;
+use raml_promise::laws::{causes_force, written_verifies};
 use raml_words::{Request, WordsFault, read_words};
 use refusal_text::write_failed_line;
 use refusals::{Refusal, Report, Status};
@@ -35,6 +36,11 @@ pub fn raml<S: Store, O: Sink, E: Sink>(
         (sink_of (O.faults out.old) (O.faults out.new) (O.written out.old) (O.written out.new))
         (sink_of (E.faults err.old) (E.faults err.new) (E.written err.old) (E.written err.new))) result }
 
+    // What `certify` wrote is verified again.
+    ensures again { VerifiesAgain (outside_of (texts words.now) (store_of (S.holds store.old) (S.faults store.old) (S.faults store.new))
+        (sink_of (O.faults out.old) (O.faults out.new) (O.written out.old) (O.written out.new))
+        (sink_of (E.faults err.old) (E.faults err.new) (E.written err.old) (E.written err.new))) result }
+
     // A made program is analysed and run without the store.
     ensures still { (count : ℕ) → Asks (texts words.now) (Trial count) → store.new ≡ store.old }
 
@@ -45,6 +51,7 @@ pub fn raml<S: Store, O: Sink, E: Sink>(
     ensures err_later { E.faults err.old ≤ E.faults err.new }
 {
     causes_force();
+    written_verifies();
     match answer(alloc, words, store) {
         Ok(report) => match put_all(out, &report.text) {
             Ok(()) => report.status,

@@ -47,7 +47,16 @@ pub fn row_line(
 ) -> Result<String, AllocError>
     ensures { IfOk result (λ line. string_bytes line ≡ p.row_line whose (program_of program.now) (lists_of groups.now) (task_of task.now) row) }
 {
-    place_line(alloc, whose, program, groups, "row", task, "row", row)
+    place_line(
+        alloc,
+        whose,
+        program,
+        groups,
+        "row",
+        task,
+        "row",
+        row as usize,
+    )
 }
 
 /// In this entry of the task's answer, taken to whole numbers.
@@ -61,7 +70,16 @@ pub fn scale_line(
 ) -> Result<String, AllocError>
     ensures { IfOk result (λ line. string_bytes line ≡ p.scale_line whose (program_of program.now) (lists_of groups.now) (task_of task.now) entry) }
 {
-    place_line(alloc, whose, program, groups, "scale", task, "entry", entry)
+    place_line(
+        alloc,
+        whose,
+        program,
+        groups,
+        "scale",
+        task,
+        "entry",
+        entry as usize,
+    )
 }
 
 /// In this earlier block, multiplied by the denominator of the task's solution.
@@ -71,7 +89,7 @@ pub fn rescale_line(
     program: &Program,
     groups: &[Vec<FunId>],
     task: &Task,
-    block: u32,
+    block: usize,
 ) -> Result<String, AllocError>
     ensures { IfOk result (λ line. string_bytes line ≡ p.rescale_line whose (program_of program.now) (lists_of groups.now) (task_of task.now) block) }
 {
@@ -92,7 +110,14 @@ pub fn refute_line(
     ensures { IfOk result (λ line. string_bytes line ≡ p.refute_line whose (program_of program.now) (lists_of groups.now) (task_of task.now) column) }
 {
     place_line(
-        alloc, whose, program, groups, "refute", task, "column", column,
+        alloc,
+        whose,
+        program,
+        groups,
+        "refute",
+        task,
+        "column",
+        column as usize,
     )
 }
 
@@ -108,7 +133,14 @@ pub fn least_line(
     ensures { IfOk result (λ line. string_bytes line ≡ p.least_line whose (program_of program.now) (lists_of groups.now) (task_of task.now) column) }
 {
     place_line(
-        alloc, whose, program, groups, "least", task, "column", column,
+        alloc,
+        whose,
+        program,
+        groups,
+        "least",
+        task,
+        "column",
+        column as usize,
     )
 }
 
@@ -121,7 +153,7 @@ fn place_line(
     deed: &str,
     task: &Task,
     place: &str,
-    number: u32,
+    number: usize,
 ) -> Result<String, AllocError>
     ensures { IfOk result (λ line. string_bytes line ≡ p.place_line whose (program_of program.now) (lists_of groups.now) deed.now (task_of task.now) place.now number) }
 {
@@ -132,7 +164,7 @@ fn place_line(
     push_task(&mut line, program, groups, task)?;
     line.push_str(" ")?;
     line.push_str(place)?;
-    push_counted(&mut line, " ", number as usize)?;
+    push_counted(&mut line, " ", number)?;
     line.push_str("\n")?;
     Ok(line)
 }

@@ -1,7 +1,6 @@
 // Faults of certificates, as refusals.
-ghost use Rattle.std.specs.Prelude.{IfOk};
 ghost use Rattle.cert_check.specs.Read.{fault_of};
-ghost use Rattle.refusals.specs.Refusals.{JsonRefusal, CheckRefusal, IsToldOr, IsCheckAt, names_in};
+ghost use Rattle.refusals.specs.Refusals.{JsonRefusal, CheckRefusal, IsToldOr, names_in};
 
 use crate::answer::Refusal;
 use crate::line::{overflow, too_large};
@@ -12,7 +11,7 @@ use cert_json::JsonFault;
 use constraint_gen::What;
 use refusal_text::{certificate_line, json_line};
 use share_normal::NormProgram;
-use std::alloc::{AllocError, Global};
+use std::alloc::Global;
 
 /// A fault of the text.
 pub fn json_refusal(alloc: Global, fault: JsonFault) -> Refusal
@@ -34,10 +33,7 @@ pub fn check_refusal(alloc: Global, program: &NormProgram<'_>, fault: CertFault)
     match fault {
         CertFault::TooLarge { task } => too_large(alloc, program, task, What::Indices),
         CertFault::Leaves { block, path, index } => {
-            match leaves_at(alloc, block, path.as_slice(), index) {
-                Ok(at) => overflow(alloc, program, at),
-                Err(_) => Refusal::no_memory(),
-            }
+            overflow(alloc, program, LeavesAt::Check { block, path, index })
         }
         CertFault::Shape { block } => told_fault(alloc, program, CertFault::Shape { block }),
         CertFault::Fails { block, path, index } => {
@@ -53,27 +49,4 @@ fn told_fault(alloc: Global, program: &NormProgram<'_>, fault: CertFault) -> Ref
 {
     let line = certificate_line(alloc, program.source(), program.groups().list(), &fault);
     Refusal::told(Status::Certificate(CertAnswer::Check(fault)), line)
-}
-
-// A total that leaves, by numbers of 32 bits.
-fn leaves_at(
-    alloc: Global,
-    block: usize,
-    path: &[u32],
-    index: usize,
-) -> Result<LeavesAt, AllocError>
-    ensures { IfOk result (IsCheckAt block path.now index) }
-{
-    // so many blocks, or indices, have no room in memory
-    let Ok(block) = u32::try_from(block) else {
-        return Err(AllocError);
-    };
-    let Ok(index) = u32::try_from(index) else {
-        return Err(AllocError);
-    };
-    Ok(LeavesAt::Check {
-        block,
-        path: Vec::from_slice(alloc, path)?,
-        index,
-    })
 }

@@ -142,7 +142,7 @@ fn leaves_line(
             alloc, whose, source, groups, task, *block,
         ),
         LeavesAt::Check { block, path, index } => {
-            check_line(alloc, whose, *block as usize, path, *index as usize)
+            check_line(alloc, whose, *block, path.as_slice(), *index)
         }
         LeavesAt::Refute { task, column } => refute_line(
             alloc, whose, source, groups, task, *column,

@@ -21,7 +21,7 @@ pub enum CertAnswer {
     /// It is not one of the program: the first fault of its shape or of the conditions of the rules.
     Check(CertFault),
     /// The vector of this refuted block does not refute its task.
-    NotRefuted { block: u32 },
+    NotRefuted { block: usize },
 }
 
 /// Where a number leaves its range.

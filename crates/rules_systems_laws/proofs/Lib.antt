@@ -11,3 +11,5 @@ pub mod Solutions
 pub mod Filled
 pub mod Numbered
 pub mod Shapes
+pub mod Scheduled
+pub mod Ready

@@ -17,7 +17,7 @@ use Rattle.cost_free.specs.Target.{Joined, joined, cut_lists, joined_over, joine
 use Rattle.annot_types.proofs.Lists.{some_is, length_map}
 use Rattle.rules_systems_laws.proofs.Filled.{degree, degree_all, AllIndices, AllAll, entries_index, are_pieces, Fits, size_of, sum_from, AllFit, piece, filled_fits}
 
-both_true : (a b : Bool) → (a && b) ≡ true → (a ≡ true) × (b ≡ true)
+pub both_true : (a b : Bool) → (a && b) ≡ true → (a ≡ true) × (b ≡ true)
 both_true true b e = (refl, e)
 both_true false b e = absurd (cc)
 

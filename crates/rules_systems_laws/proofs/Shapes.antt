@@ -1,7 +1,6 @@
 -- What numbers stand for is in order.
 use Rattle.std.proofs.Common.{◌≡◌, refl, arith}
-use Rattle.std.specs.Prelude.{ℕ, zero, suc, ◌+◌, ◌≤◌, nat_eq, pos, ◌<ℤ◌, Bool, true, false, cond, List, [], ◌∷◌, ◌++◌, map, slice_get, slice_index_or, Option, None, Some}
-use Rattle.std.proofs.lemmas.Int.{ints}
+use Rattle.std.specs.Prelude.{ℕ, zero, suc, ◌+◌, ◌≤◌, nat_eq, pos, Bool, true, false, cond, List, [], ◌∷◌, ◌++◌, map, slice_get, slice_index_or, Option, None, Some}
 use Rattle.raml_syntax.specs.Tree.{Type'}
 use Rattle.normal_spec.specs.Norm as n
 use Rattle.normal_spec.specs.Norm.{Norm, NormFun}
@@ -9,7 +8,7 @@ use Rattle.normal_spec.specs.Context.{Context, without, opened, parts_of, copies
 use Rattle.cost_free.specs.Task.{Task}
 use Rattle.annot_types.specs.Program.{Program, members}
 use Rattle.annot_types.specs.Carried.{tuples}
-use Rattle.annot_types.specs.Certificate.{Entries, RiseFrom, Block}
+use Rattle.annot_types.specs.Certificate.{RiseFrom, Block}
 use Rattle.annot_types.specs.Holds.{budget_of}
 use Rattle.annot_types.specs.Held.{AllRise, SigsRise, HintsRise, AllHintsRise}
 use Rattle.annot_types.specs.Signature.{sig_in, free_budget}

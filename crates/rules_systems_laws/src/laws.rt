@@ -1,5 +1,8 @@
 // Laws of a task's system: each is the contract of a function that does nothing.
 ghost use Rattle.rules_systems_laws.specs.Laws.{ArgumentsAreUnknowns, NumbersAreTold, SolutionsHold, SolutionsWeigh, WhatHoldsSolves};
+ghost use Rattle.rules_systems_laws.specs.Shaped.{ShapedAreTasks, TargetsAreNumbered};
+
+use cost_free::laws::blockers_are_least;
 
 /// Each solution of a task's system stands for signatures and hints that hold.
 pub fn solutions_hold()
@@ -25,3 +28,16 @@ pub fn arguments_are_unknowns()
 pub fn what_holds_solves()
     ensures { WhatHoldsSolves }
 {}
+
+/// The number of a cost-free task is that of a target of its function.
+pub fn targets_are_numbered()
+    ensures { TargetsAreNumbered }
+{}
+
+/// The next task of a schedule, where it waits for no function, is a task over the blocks before it, of which it is
+/// asked that they have their signatures, and not that they hold.
+pub fn shaped_are_tasks()
+    ensures { ShapedAreTasks }
+{
+    blockers_are_least();
+}

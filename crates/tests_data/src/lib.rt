@@ -6,6 +6,7 @@
 mod faults;
 #[cfg(test)]
 mod heaps;
+pub mod laws;
 #[cfg(test)]
 mod limits;
 #[cfg(test)]

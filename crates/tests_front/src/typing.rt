@@ -142,6 +142,16 @@ fn options_have_types(rt: HostRuntime) -> Result<(), Fail> {
     Ok(())
 }
 
+// A call with as many arguments as there may be.
+const EIGHT: &str =
+    "fun f (a : int, b : int, c : int, d : int, e : int, g : int, h : int, i : int) : int = f(a, b, c, d, e, g, h, i)";
+
+#[test]
+fn a_call_with_eight_arguments_has_a_type(rt: HostRuntime) -> Result<(), Fail> {
+    assert!(rt; is_typed(rt.alloc(), EIGHT)?);
+    Ok(())
+}
+
 // A pair of a variable with itself, as often as the height of a body allows.
 fn push_doubled(source: &mut String, name: &str, first: &str) -> Result<(), Fail> {
     write!(source, "let {name}0 = {first} in ")?;

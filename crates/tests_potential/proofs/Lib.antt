@@ -1,3 +1,4 @@
+mod PrintedPolynomials
 mod SampledPoints
 mod SampledTexts
 mod There

@@ -6,6 +6,7 @@
 mod counting;
 #[cfg(test)]
 mod index_text;
+pub mod laws;
 #[cfg(test)]
 mod listing;
 #[cfg(test)]

@@ -1,14 +1,16 @@
 // Certificates are read, and written back byte for byte.
 use crate::json::texts::{FIRST_VERSION, OF_KINDS, OF_LISTS, OF_LOOPS, OF_NUMBERS};
-use cert_json::{JsonFault, laws, read, write};
+use cert_json::{JsonFault, read, write};
 use std::alloc::Global;
 use std::process::Abort;
 use std::test::Fail;
 
-// Whether the text is that of the certificate that is read from it.
+// Whether the text is that of the certificate that is read from it, also once a line feed was written behind it.
 fn is_copied(alloc: Global, text: &str) -> Result<bool, JsonFault> {
     let certificate = read(alloc, text.as_bytes())?;
-    let again = laws::copied(alloc, &certificate)?;
+    let mut bytes = write(alloc, &certificate)?;
+    bytes.push(b'\n')?;
+    let again = read(alloc, &bytes)?;
     let bytes = write(alloc, &again)?;
     Ok(bytes.as_slice() == text.as_bytes())
 }

@@ -7,6 +7,7 @@ use Rattle.infer_spec.specs.Good.{AllRefuted}
 use Rattle.infer_spec.specs.States.{certificate_of}
 use Rattle.rules_plan.specs.Read.{program_in}
 use Rattle.cert_check.specs.Checked.{Checking}
+use Rattle.bound_infer.specs.Inferred.{SystemsAreSmall}
 use Rattle.bound_infer.specs.Keeping.{state_of}
 use Rattle.bound_infer.proofs.Whole.{found_there}
 use Rattle.bound_infer.proofs.ending.ended.Goals as goal
@@ -14,6 +15,10 @@ use Rattle.bound_infer.proofs.ending.ended.Goals as goal
 pub keep-requires-clause-refuted : goal.keep-requires-clause-refuted
 keep-requires-clause-refuted c =
     subst (λ (x : Checking). AllRefuted (program_in x.program) x.certificate) (sym (c.in-Ok.ensures.kept ∙ (λ i. record { program = c.args.program.now; certificate = c.certificate.ensures i }))) c.requires.refuted
+
+pub keep-requires-clause-small : goal.keep-requires-clause-small
+keep-requires-clause-small c =
+    subst (λ (x : Checking). SystemsAreSmall (program_in x.program) x.certificate) (sym (c.in-Ok.ensures.kept ∙ (λ i. record { program = c.args.program.now; certificate = c.certificate.ensures i }))) c.requires.systems
 
 pub check_fault-requires : goal.check_fault-requires
 check_fault-requires c = λ fault e.

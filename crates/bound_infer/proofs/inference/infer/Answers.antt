@@ -43,6 +43,14 @@ ended-requires-clause-refuted g c =
     let certifies = c.courses_certify.ensures A g' c.requires.least_degree c.requires.most_degree cert (c.in-Ok.ensures.ends one.pick one.answers) in
     certifies.refuted
 
+pub ended-requires-clause-systems : goal.ended-requires-clause-systems
+ended-requires-clause-systems g c =
+    let P = program_in c.args.program.now in
+    let one = c.requires.answers in
+    let A = analysis_in c.args.program.now c.args.d one.pick in
+    let g' = c.systems_generate.ensures P c.ordered.ensures c.args.d one.pick in
+    c.none_too_large.ensures A g' (certificate_of c.args.d true (state_of c.in-Ok.run')) (c.in-Ok.ensures.ends one.pick one.answers)
+
 pub returns-in-Ok-clause-least : goal.returns-in-Ok-clause-least
 returns-in-Ok-clause-least g c =
     let P = program_in c.args.program.now in

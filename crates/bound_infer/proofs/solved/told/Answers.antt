@@ -1,11 +1,20 @@
-use Rattle.std.proofs.Common.{map, ap, ◌∙◌, unsigned_abs}
+use Rattle.std.proofs.Common.{map, sym, ap, ◌∙◌, unsigned_abs}
 use Rattle.cost_free.specs.Read.{task_of}
 use Rattle.annot_types.specs.Holds.{budget_of}
 use Rattle.annot_types.specs.Read.{blocks_of}
 use Rattle.rules_plan.specs.Read.{program_in, body_of}
 use Rattle.rules_spec.specs.Told.{sigs_told, hints_told}
+use Rattle.constraint_gen.specs.Given.{unknowns_of}
 use Rattle.constraint_gen.proofs.Whole.{if_ok}
 use Rattle.bound_infer.proofs.solved.told.Goals as goal
+
+pub told_by-requires-clause-one_each : goal.told_by-requires-clause-one_each
+told_by-requires-clause-one_each c =
+    let task = task_of c.args.task.now in
+    let run = c.args.run.now in
+    let same = ap (map body_of) c.deref.ensures.value
+    ∙ c.in_ok-bodies.ensures (program_in c.args.program.now) task.group (budget_of c.args.d task.kind) (blocks_of run.blocks.items) c.requires.plans c.requires.keeps.come.remembers.usable in
+    c.requires.one_each ∙ ap unknowns_of (sym same)
 
 pub returns-clause-sigs : goal.returns-clause-sigs
 returns-clause-sigs c =

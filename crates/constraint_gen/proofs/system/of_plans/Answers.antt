@@ -8,7 +8,7 @@ use Rattle.rules_spec.specs.Tasks.{sides_count, unknowns, given_conditions}
 use Rattle.rules_spec.specs.Solving.{rows_of}
 use Rattle.rules_walk.specs.Asks.{asks_of}
 use Rattle.rules_plan.specs.Read.{program_in, body_of}
-use Rattle.constraint_gen.specs.Given.{all_counts}
+use Rattle.constraint_gen.specs.Given.{all_counts, unknowns_of}
 use Rattle.constraint_gen.specs.Made.{HasRows, IsProper, JobMade, RowCause, JobCause}
 use Rattle.constraint_gen.specs.Walked.{job_in}
 use Rattle.constraint_gen.proofs.Giving.{counts_are}
@@ -52,3 +52,10 @@ returns-clause-fault c proper =
     let counts = ap all_counts c.in_ok-asks.ensures ∙ counts_are bs in
     let over : 2000 < sides_count bs + all_counts (map (λ a. asks_of a.items) c.in_ok-asks.asks.items) = search rules in
     omega (arith, over, counts)
+
+pub returns-in-Some-clause-unknowns : goal.returns-in-Some-clause-unknowns
+returns-in-Some-clause-unknowns c =
+    let bs = map body_of c.args.planned.now in
+    let counted : c.in-Some.count ≡ sides_count bs + all_counts (map (λ a. asks_of a.items) c.in_ok-asks.asks.items) = search rules in
+    let count : c.in-Some.count ≡ unknowns_of bs = counted ∙ ap (λ n. sides_count bs + n) (ap all_counts c.in_ok-asks.ensures ∙ counts_are bs) in
+    if_ok c.of_bodies.result _ _ (λ made e. e ∙ count) c.of_bodies.ensures.unknowns

@@ -9,7 +9,7 @@ use Rattle.raml_promise.specs.Outside.{store_of}
 use Rattle.raml_parts.specs.Parts.{Refuses, ReadsArguments, ArgumentsRefuse, CallRefuses}
 use Rattle.raml_parts.proofs.Placing.{named}
 use Rattle.raml_parts.proofs.Refusing.{told_refuses}
-use Rattle.raml_parts.proofs.Calling.{file_refuses, data_refuses_call}
+use Rattle.raml_parts.proofs.Calling.{nameless, file_refuses, data_refuses_call}
 use Rattle.raml_parts.proofs.call.read_call.Goals as goal
 
 pub read_arguments-requires-clause-place : goal.read_arguments-requires-clause-place
@@ -61,4 +61,4 @@ returns-clause-err g c before earlier =
     let name = c.args.name.now in
     let none : None ≡ place_of name P = c.in-None.ensures ∙ ap (place_of name) (ap program_of c.program.ensures.program) in
     let store = store_of (g.S.Store.holds c.args.store.now) before (g.S.Store.faults c.args.store.now) in
-    told_refuses no_names s.NoFunction e.NoFunction (CallRefuses store P name c.args.file.now) refl (inl (refl, sym none)) c.no_function.result (inr (c.no_function.ensures no_names))
+    told_refuses no_names s.NoFunction e.NoFunction (CallRefuses store P name c.args.file.now) refl (nameless store P name c.args.file.now (sym none)) c.no_function.result (inr (c.no_function.ensures no_names))

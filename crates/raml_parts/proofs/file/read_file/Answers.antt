@@ -8,6 +8,7 @@ use Rattle.raml_promise.specs.Outside.{store_of}
 use Rattle.raml_promise.specs.Steps.{most_bytes}
 use Rattle.raml_parts.specs.Parts.{FileRefuses}
 use Rattle.raml_parts.proofs.Refusing.{told_refuses}
+use Rattle.raml_parts.proofs.Stepping.{file_unread}
 use Rattle.raml_parts.proofs.Reading.{still_rises, too_long_read}
 use Rattle.raml_parts.proofs.file.read_file.Goals as goal
 
@@ -24,4 +25,4 @@ pub returns-in-Err-Failed-clause-err : goal.returns-in-Err-Failed-clause-err
 returns-in-Err-Failed-clause-err g c before earlier =
     let store = store_of (g.S.Store.holds c.args.store.now) before (g.S.Store.faults c.read.new.self) in
     told_refuses no_names (s.ReadFault c.args.which) (e.ReadFault c.args.which) (FileRefuses store c.args.which c.args.name.now) refl
-    (refl, still_rises _ _ _ (earlier c.args.name.now) (search rules)) c.unread.result (inr (c.unread.ensures no_names))
+    (file_unread store c.args.which c.args.name.now (still_rises _ _ _ (earlier c.args.name.now) (search rules))) c.unread.result (inr (c.unread.ensures no_names))

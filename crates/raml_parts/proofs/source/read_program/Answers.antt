@@ -1,10 +1,10 @@
-use Rattle.std.proofs.Common.{subst, inl}
+use Rattle.std.proofs.Common.{subst}
 use Rattle.raml_syntax.specs.Read.{program_of}
 use Rattle.refusals.specs.Line.{no_names}
 use Rattle.raml_promise.specs.Outside.{store_of}
-use Rattle.raml_promise.specs.Steps.{file_of}
+use Rattle.raml_promise.specs.Steps.{file_of, SourceRefuses, IsTyped, RefusedOf}
 use Rattle.raml_parts.specs.Parts.{IsShort, FileRefuses, ProgramRefuses}
-use Rattle.raml_parts.proofs.Stepping.{refuses_map}
+use Rattle.raml_parts.proofs.Stepping.{refuses_map, by_file}
 use Rattle.raml_parts.proofs.Reading.{program_read, program_unread, program_short}
 use Rattle.raml_parts.proofs.source.read_program.Goals as goal
 
@@ -29,6 +29,6 @@ returns-in-Ok-clause-err g c before earlier =
 pub returns-in-Err-clause-err : goal.returns-in-Err-clause-err
 returns-in-Err-clause-err g c before earlier =
     let store = store_of (g.S.Store.holds c.args.store.now) before (g.S.Store.faults c.read_file.new.store) in
-    refuses_map no_names (FileRefuses store (file_of c.args.whose) c.args.file.now) (ProgramRefuses store c.args.whose c.args.file.now) (λ e r. inl r) c.in-Err.refusal
+    refuses_map no_names (FileRefuses store (file_of c.args.whose) c.args.file.now) (ProgramRefuses store c.args.whose c.args.file.now) (by_file store (file_of c.args.whose) c.args.file.now (λ source. RefusedOf c.args.whose (SourceRefuses source)) IsTyped) c.in-Err.refusal
     (refuses_map no_names (FileRefuses store c.file_of.result c.args.file.now) (FileRefuses store (file_of c.args.whose) c.args.file.now)
     (λ e r. subst (λ which. FileRefuses store which c.args.file.now e) c.file_of.ensures r) c.in-Err.refusal (c.in-Err.ensures.err before earlier))

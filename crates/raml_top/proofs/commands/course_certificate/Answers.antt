@@ -1,10 +1,17 @@
-use Rattle.std.proofs.Common.{subst}
+use Rattle.std.proofs.Common.{sym, subst}
+use Rattle.rules_plan.specs.Read.{program_in}
+use Rattle.cert_json.specs.Told.{IsComplete}
 use Rattle.refusal_text.specs.declared.task.Analysed.TheVariants as analysed
 use Rattle.raml_promise.specs.Outside.{Promised}
 use Rattle.raml_promise.specs.Promise.{PrintsCertificate}
 use Rattle.raml_parts.specs.Parts.{Gives}
-use Rattle.raml_parts.proofs.Proved.{course_given, course_denied}
+use Rattle.raml_parts.proofs.Proved.{course_given, course_denied, completes}
 use Rattle.raml_top.proofs.commands.course_certificate.Goals as goal
+
+pub certificate_report-requires : goal.certificate_report-requires
+certificate_report-requires c =
+    subst IsComplete (sym c.certificate.ensures.certificate)
+    (completes (program_in c.args.program.now) c.args.degree c.args.rule c.in-Ok.verified.certificate c.in-Ok.ensures.course c.in-Ok.ensures.proved.valid.held)
 
 pub returns-in-Ok : goal.returns-in-Ok
 returns-in-Ok c =

@@ -1,4 +1,4 @@
-use Rattle.std.proofs.Common.{◌<◌, ◌^◌, length, sym, subst, arith, inl, inr}
+use Rattle.std.proofs.Common.{◌<◌, ◌^◌, length, sym, subst, arith}
 use Rattle.raml_syntax.specs.Read.{program_of}
 use Rattle.bound_file.specs.Answers.{AreWithin, Spells, FirstFault, OfFault}
 use Rattle.refusal_text.specs.declared.plain.Which.TheVariants as w
@@ -6,7 +6,7 @@ use Rattle.refusals.specs.Line.{no_names}
 use Rattle.raml_promise.specs.Outside.{store_of}
 use Rattle.raml_promise.specs.DeclaredBounds.{BoundsRefuse}
 use Rattle.raml_parts.specs.Parts.{FileRefuses, BoundsFileRefuses}
-use Rattle.raml_parts.proofs.Stepping.{refuses_map}
+use Rattle.raml_parts.proofs.Stepping.{refuses_map, by_file, by_bytes}
 use Rattle.raml_parts.proofs.Refusing.{bounds_refuse}
 use Rattle.raml_top.proofs.Declaring.{declared_are_few}
 use Rattle.raml_top.proofs.contract.read_bounds.Goals as goal
@@ -44,11 +44,11 @@ returns-in-Err-Fault-clause-err g c before earlier =
     let first = subst (λ p. FirstFault (program_of p) c.args.degree bytes c.in-Err-Fault.fault) c.program.ensures.program
     (subst (λ b. FirstFault (program_of c.program.result.now) c.args.degree b c.in-Err-Fault.fault) c.deref.ensures.value
     (subst (OfFault (FirstFault (program_of c.program.result.now) c.args.degree c.deref.result.now)) c.in-Err-Fault.field-0-is c.in-Err-Fault.ensures.fault)) in
-    refuses_map no_names (BoundsRefuse P c.args.degree bytes) (BoundsFileRefuses store c.args.file.now P c.args.degree) (λ e r. inr (bytes, c.in-Ok.ensures.ok before, r)) c.bounds_refusal.result
+    refuses_map no_names (BoundsRefuse P c.args.degree bytes) (BoundsFileRefuses store c.args.file.now P c.args.degree) (by_bytes store w.Bounds c.args.file.now (BoundsRefuse P c.args.degree) (Spells P c.args.degree) bytes (c.in-Ok.ensures.ok before)) c.bounds_refusal.result
     (bounds_refuse P c.args.degree bytes c.in-Err-Fault.fault first c.bounds_refusal.result c.bounds_refusal.ensures)
 
 pub returns-clause-err : goal.returns-clause-err
 returns-clause-err g c before earlier =
     let store = store_of (g.S.Store.holds c.args.store.now) before (g.S.Store.faults c.read_file.new.store) in
-    refuses_map no_names (FileRefuses store w.Bounds c.args.file.now) (BoundsFileRefuses store c.args.file.now (program_of c.args.typed.now) c.args.degree) (λ e r. inl r) c.in-Err.refusal
+    refuses_map no_names (FileRefuses store w.Bounds c.args.file.now) (BoundsFileRefuses store c.args.file.now (program_of c.args.typed.now) c.args.degree) (by_file store w.Bounds c.args.file.now (BoundsRefuse (program_of c.args.typed.now) c.args.degree) (Spells (program_of c.args.typed.now) c.args.degree)) c.in-Err.refusal
     (c.in-Err.ensures.err before earlier)

@@ -1,4 +1,4 @@
-use Rattle.std.proofs.Common.{◌≡◌, ◌<◌, ◌^◌, length, sym, subst, arith, inl, inr}
+use Rattle.std.proofs.Common.{◌≡◌, ◌<◌, ◌^◌, length, sym, subst, arith}
 use Rattle.price_file.specs.Spelling.{Table, Spells, FirstFault, prices_in}
 use Rattle.price_file.specs.Read.{prices_of}
 use Rattle.refusal_text.specs.declared.plain.Which.TheVariants as w
@@ -6,7 +6,7 @@ use Rattle.refusals.specs.Line.{no_names}
 use Rattle.raml_promise.specs.Outside.{store_of}
 use Rattle.raml_promise.specs.Prices.{PricesRefuse}
 use Rattle.raml_parts.specs.Parts.{FileRefuses, PriceFileRefuses}
-use Rattle.raml_parts.proofs.Stepping.{refuses_map}
+use Rattle.raml_parts.proofs.Stepping.{refuses_map, by_file, by_bytes}
 use Rattle.raml_parts.proofs.Refusing.{prices_refuse}
 use Rattle.raml_top.proofs.prices.read_prices.Goals as goal
 
@@ -25,10 +25,10 @@ pub returns-in-Ok-clause-err : goal.returns-in-Ok-clause-err
 returns-in-Ok-clause-err g c before earlier =
     let store = store_of (g.S.Store.holds c.args.store.now) before (g.S.Store.faults c.read_file.new.store) in
     let bytes = c.in-Ok.bytes.items in
-    refuses_map no_names (PricesRefuse bytes) (PriceFileRefuses store c.args.file.now) (λ e r. inr (bytes, c.in-Ok.ensures.ok before, r)) c.price_refusal.result
+    refuses_map no_names (PricesRefuse bytes) (PriceFileRefuses store c.args.file.now) (by_bytes store w.Prices c.args.file.now PricesRefuse Spells bytes (c.in-Ok.ensures.ok before)) c.price_refusal.result
     (prices_refuse bytes c.in-Err-read.fault (subst (λ b. FirstFault b c.in-Err-read.fault) c.deref.ensures.value c.in-Err-read.ensures.fault) c.price_refusal.result c.price_refusal.ensures)
 
 pub returns-clause-err : goal.returns-clause-err
 returns-clause-err g c before earlier =
     let store = store_of (g.S.Store.holds c.args.store.now) before (g.S.Store.faults c.read_file.new.store) in
-    refuses_map no_names (FileRefuses store w.Prices c.args.file.now) (PriceFileRefuses store c.args.file.now) (λ e r. inl r) c.in-Err.refusal (c.in-Err.ensures.err before earlier)
+    refuses_map no_names (FileRefuses store w.Prices c.args.file.now) (PriceFileRefuses store c.args.file.now) (by_file store w.Prices c.args.file.now PricesRefuse Spells) c.in-Err.refusal (c.in-Err.ensures.err before earlier)

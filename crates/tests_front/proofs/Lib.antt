@@ -1,0 +1,3 @@
+mod LexedTexts
+mod ReadTokens
+mod FoundTypes
