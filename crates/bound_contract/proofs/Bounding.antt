@@ -43,6 +43,7 @@ use Rattle.rules_soundness_laws.proofs.Blocks.{KindPays, own_pays, all_before}
 use Rattle.share_normal.specs.Program.{source_in}
 use Rattle.rules_plan.specs.Read.{program_in}
 use Rattle.bound_file.specs.Lines.{Coefficient, ArePositive, numerator_at, denominator_at}
+use Rattle.other_blocks.specs.Other.{place}
 use Rattle.bound_contract.specs.Under.{IsUnder, LiesUnder, AreDeclared, with_numbers, terms_at}
 use Rattle.bound_contract.specs.Kept.{KeepsThere}
 use Rattle.bound_contract.specs.Laws.{KeptIsBound, LinesHaveNumbers, OthersUnderAreBounds}
@@ -205,16 +206,17 @@ same_meter kind a b e h = of (sym e ∙ h) where
 pub others_under_are_bounds : OthersUnderAreBounds
 others_under_are_bounds o over typed fit same line positive kind under fun at den p q declared =
     let c = over.certificate in
+    let at_place = place (program_in o.program) c over.t o.block in
     let text = source_in o.program in
     let groups = o.program.groups.list in
     let meters : over.meter ≡ line.meter = same_meter o.block.task.kind over.meter line.meter over.kind kind in
     let scale : o.scale ≡ scale_for c o.block.task.kind * over.t = over.scale ∙ ap (λ kind. scale_for c kind * over.t) (sym over.kind) in
     let there : Program = normal_of text groups in
     let whole : program_in o.program ≡ there = ap (λ (N : NormProg). record { funs = N; groups = groups }) same in
-    let held : Held there c = subst (λ P. Held P c) whole over.held in
-    let keeps : KeepsThere there c over.place o.block.task line o.block over.t =
-    subst (λ P. KeepsThere P c over.place o.block.task line o.block over.t) whole
-    (record { holds = over.holds; under = subst (λ n. IsUnder (program_in o.program) c.degree line n o.block) scale (subst (λ d. IsUnder (program_in o.program) d line o.scale o.block) over.degree under) }) in
+    let held : Held there c = subst (λ P. Held P c) whole over.faultless.held in
+    let keeps : KeepsThere there c at_place o.block.task line o.block over.t =
+    subst (λ P. KeepsThere P c at_place o.block.task line o.block over.t) whole
+    (record { holds = over.other.holds; under = subst (λ n. IsUnder (program_in o.program) c.degree line n o.block) scale (subst (λ d. IsUnder (program_in o.program) d line o.scale o.block) over.degree under) }) in
     subst (λ d. Bounds text line.fun fun line.meter den (terms_at (source.types_of fun) d q)) (sym over.degree)
-    (kept_is_bound text typed fit groups c held line positive over.place o.block over.t kind keeps fun at den p q
+    (kept_is_bound text typed fit groups c held line positive at_place o.block over.t kind keeps fun at den p q
     (subst (λ d. AreDeclared line.bound (size (source.types_of fun) d) den q) over.degree declared))

@@ -3,6 +3,7 @@ ghost use Rattle.std.specs.Prelude.{◌≡◌, ◌≤◌, length, IfOk, IfSome};
 ghost use Rattle.annot_types.specs.Held.{before};
 ghost use Rattle.annot_types.specs.Read.{certificate_of};
 ghost use Rattle.rules_plan.specs.Read.{program_in};
+ghost use Rattle.cert_check.specs.Laws.{IsSmall};
 ghost use Rattle.bound_contract.specs.Fronts.{IsFront};
 
 use annot_types::Certificate;
@@ -61,6 +62,7 @@ pub(crate) fn front_at(
 ) -> Result<Front, AllocError>
     requires front { IfSome front (IsFront (program_in program.now) (certificate_of certificate.now)) }
     requires low { place ≤ length certificate.now.blocks.items }
+    requires small { IsSmall (program_in program.now) (certificate_of certificate.now) }
     ensures front { IfOk result (IsFront (program_in program.now) (certificate_of certificate.now)) }
     ensures place { IfOk result (λ front. front.place ≡ place) }
 {
