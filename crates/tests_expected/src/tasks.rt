@@ -68,8 +68,11 @@ fn push_tried(
     requires budget { h.budget_of d (kind_of task.now.kind) ≤ 4 }
     requires within { IsWithin (program_in program.now) d (task_of task.now) }
 {
+    let Ok(scale) = i128::try_from(prices.scale) else {
+        return Err(Refusal::Task);
+    };
     let bodies = plans.over(alloc, earlier)?;
-    match rows_by(alloc, program, d, earlier, task, prices.scale, &bodies) {
+    match rows_by(alloc, program, d, earlier, task, scale, &bodies) {
         Ok(system) => Ok(push_task(alloc, out, program, task, &bodies, &system, prices.raised)?),
         Err(_) => Err(Refusal::Task),
     }
@@ -86,7 +89,7 @@ fn push_block(
     prices: Prices,
 ) -> Result<(), Refusal> {
     let task = &block.task;
-    if budget_of(d, task) > 4 || prices.scale > i128::MAX as u128 {
+    if budget_of(d, task) > 4 {
         return Err(Refusal::Task);
     }
     match plans(alloc, program, d, None, task) {

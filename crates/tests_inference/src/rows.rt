@@ -2,7 +2,7 @@
 use crate::programs::{budget_of, certificate, kept, typed_program};
 use annot_types::{Hint, Sig};
 use call_groups::group_calls;
-use constraint_gen::{GenFault, hints_of, plans, rows};
+use constraint_gen::{GenFault, plans, rows, rows_by, told_by};
 use cost_free::{Meter, Task, TaskKind};
 use linear_rows::{Row, System};
 use rules_walk::Earlier;
@@ -167,10 +167,17 @@ fn told_by_numbers(
     if budget_of(task) > 4 {
         return Err(Fail::new("the budget"));
     }
-    let Ok(_) = plans(alloc, program, 1, None, task) else {
+    let Ok(plans) = plans(alloc, program, 1, None, task) else {
         return Err(Fail::new("there are no plans"));
     };
-    let (sigs, hints) = hints_of(alloc, program, 1, earlier, task, &[5, 3, 2])?;
+    let bodies = plans.over(alloc, earlier)?;
+    let Ok(system) = rows_by(alloc, program, 1, earlier, task, 1, &bodies) else {
+        return Err(Fail::new("there is no system"));
+    };
+    if system.unknowns() != 3 {
+        return Err(Fail::new("the unknowns"));
+    }
+    let (sigs, hints) = told_by(alloc, &bodies, &[5, 3, 2])?;
     text_of(alloc, &sigs, &hints)
 }
 
