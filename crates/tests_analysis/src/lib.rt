@@ -6,6 +6,7 @@
 mod annotations;
 #[cfg(test)]
 mod index_text;
+pub mod laws;
 #[cfg(test)]
 mod schedules;
 #[cfg(test)]
