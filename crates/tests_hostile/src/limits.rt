@@ -143,7 +143,7 @@ fn verified(alloc: Global, pairs: u32) -> Result<String, Fail> {
 }
 
 // The pair of number n makes the nodes of both copies of a type of 2^n - 1 nodes, but for those of the type that is
-// copied: 2^(n + 1) - 2. It takes some 600 MB for a moment.
+// copied: 2^(n + 1) - 2. It takes some 500 MB for a moment.
 #[test]
 fn types_of_normal_forms_have_a_limit(rt: HostRuntime) -> Result<(), Fail> {
     let alloc = rt.alloc();
