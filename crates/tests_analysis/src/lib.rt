@@ -1,11 +1,12 @@
-//! Tests of targets, of schedules and of annotations. There is nothing else here: so the crates below
-//! are proved once.
+//! Tests of targets, of schedules and of annotations, and worked examples of their definitions. There is
+//! nothing else here: so the crates below are proved once.
 #![tactic(auto)]
 
 #[cfg(test)]
 mod annotations;
 #[cfg(test)]
 mod index_text;
+pub mod laws;
 #[cfg(test)]
 mod schedules;
 #[cfg(test)]

@@ -1,5 +1,5 @@
-//! Tests of indices, products, maps and places of tuples against tables that were worked out apart. There is nothing
-//! else here: so the crates below are proved once.
+//! Tests of indices, products, maps and places of tuples against tables that were worked out apart, and worked
+//! examples of texts. There is nothing else here: so the crates below are proved once.
 #![tactic(auto)]
 
 #[cfg(test)]

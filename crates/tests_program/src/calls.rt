@@ -71,6 +71,20 @@ fn sources_have_their_reports_and_refusals(rt: HostRuntime) -> Result<(), Fail> 
     Ok(())
 }
 
+const CALLER_FIRST: &[u8] =
+    b"fun main (x : int) : int = tick 1 in two(x) fun two (x : int) : int = tick 2 in x";
+
+// The lines are in the order of the source, also where a function comes before the one that it calls.
+#[test]
+fn lines_are_in_the_order_of_the_source(rt: HostRuntime) -> Result<(), Fail> {
+    let found = answer(rt.alloc(), &ANALYSE, CALLER_FIRST)?;
+    assert_eq!(rt;
+        found.as_str(),
+        "0 main ticks <= 3\nmain cells <= 0\nmain work <= 6\ntwo ticks <= 2\ntwo cells <= 0\ntwo work <= 3\n"
+    );
+    Ok(())
+}
+
 // Words with one space between any two, and what comes of them.
 const WORDS: &str = "\
 analyse f.raml --degree 1 => bounds

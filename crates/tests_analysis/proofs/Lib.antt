@@ -1,0 +1,2 @@
+mod ScaledHeld
+mod NineJoined
