@@ -21,3 +21,4 @@ pub mod Rescaling
 pub mod Refuting
 pub mod Asking
 pub mod Bounded
+pub mod OneEach

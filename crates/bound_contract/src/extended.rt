@@ -10,7 +10,7 @@ use crate::laws::seen_is_first;
 use crate::rows::{LineFault, add_rows};
 use crate::site::Site;
 use crate::span::span_of;
-use cert_check::{members, scale_for};
+use cert_check::members;
 use constraint_gen::{GenFault, rows_by};
 use infer_systems_laws::laws::{limits_are_told, tried_have_tasks};
 use linear_rows::System;
@@ -40,7 +40,7 @@ fn own_rows(
     let program = site.checked.program();
     let certificate = site.checked.certificate();
     let task = site.task();
-    let scale = scale_for(certificate, task.kind);
+    let scale = site.scale();
     let degree = certificate.degree;
     match rows_by(site.alloc, program, degree, earlier, &task, scale, bodies) {
         Ok(made) => Ok(made),

@@ -1,9 +1,12 @@
 // The block that a solution stands for.
 ghost use Rattle.std.specs.Prelude.{◌≡◌, ◌*◌, ◌≤◌, ◌<ℤ◌, nat_lt, ℕ, ℤ, pos, unsigned_abs, List, length, Option, map, IfOk, IfErr, IfSome, IfNone, OnOk};
+ghost use Rattle.raml_num.specs.Sums.{NoneNegative};
 ghost use Rattle.annot_types.specs.Read as a;
 ghost use Rattle.simplex_integers.specs.Wholes.{most};
 ghost use Rattle.rules_systems_laws.specs.Laws.{told};
+ghost use Rattle.rules_spec.specs.Told.{bodies_of};
 ghost use Rattle.rules_plan.specs.Read.{ArePlansOf};
+ghost use Rattle.constraint_gen.specs.Given.{unknowns_of};
 ghost use Rattle.bound_contract.specs.Sites.{program_at, certificate_at, before_at, task_at, IsSite, AreBefore, FineAt, ClearAt, RescaleAt, ReadsAt, IsReadAt, IsToldAt, IsToldBy, IsKeptAt, StopsWith};
 
 use crate::fault::{DecideFault, DeclAt};
@@ -29,6 +32,9 @@ fn told(
 ) -> Result<Block, AllocError>
     requires before { AreBefore site.now earlier.now }
     requires plans { ArePlansOf (program_at site.now) site.now.group (certificate_at site.now).degree plans.now }
+    requires one_each { length numbers.now ≡ unknowns_of (bodies_of (program_at site.now) (certificate_at site.now).degree (before_at site.now) (task_at site.now)) }
+    requires few { length numbers.now ≤ 2000 }
+    requires natural { NoneNegative numbers.now }
     ensures { IfOk result (λ block. (x : List ℕ) → numbers.now ≡ map pos x →
         a.block_of block ≡ told (program_at site.now) (certificate_at site.now).degree (before_at site.now) (task_at site.now) x) }
 {

@@ -3,7 +3,17 @@ use Rattle.std.proofs.lemmas.Int.{to_z-of_z}
 use Rattle.std.proofs.lemmas.Result.{on_ok_weaker, IfErr-weaker}
 use Rattle.annot_types.specs.Read.{block_of}
 use Rattle.bound_contract.proofs.Telling.{told_by_read, rescale_first}
+use Rattle.bound_contract.proofs.OneEach.{one_each, few, natural}
 use Rattle.bound_contract.proofs.keeping.kept.Goals as goal
+
+pub told-requires-clause-one_each : goal.told-requires-clause-one_each
+told-requires-clause-one_each c = one_each c.args.site.now c.requires.site c.tried_have_tasks.ensures c.args.times c.args.numbers.now c.requires.read
+
+pub told-requires-clause-few : goal.told-requires-clause-few
+told-requires-clause-few c = few c.args.site.now c.requires.site c.tried_have_tasks.ensures c.args.times c.args.numbers.now c.requires.read
+
+pub told-requires-clause-natural : goal.told-requires-clause-natural
+told-requires-clause-natural c = natural c.args.site.now c.requires.site c.tried_have_tasks.ensures c.args.times c.args.numbers.now c.requires.read
 
 pub returns-in-Some-clause-first : goal.returns-in-Some-clause-first
 returns-in-Some-clause-first c = λ pick t x e n reads.
