@@ -1,6 +1,6 @@
 -- What `certify` wrote is verified again.
-use Rattle.std.proofs.Common.{◌≡◌, ◌≤◌, ℕ, suc, List, length, take, ◌++◌, Option, Some, None, refl, sym, ap, subst, ◌∙◌, arith, inl, inr}
-use Rattle.std.proofs.lemmas.List.{take_all, length-take-le, length-take}
+use Rattle.std.proofs.Common.{◌≡◌, ◌≤◌, ℕ, suc, List, [], length, take, ◌++◌, Option, Some, None, refl, sym, ap, subst, ◌∙◌, arith, inl, inr}
+use Rattle.std.proofs.lemmas.List.{take_all, length-take}
 use Rattle.std.specs.Prelude.{codes}
 use Rattle.raml_syntax.specs.Tree.{Text, Prog}
 use Rattle.raml_parse.proofs.Limits.{within_limits}
@@ -15,12 +15,13 @@ use Rattle.annot_types.specs.Certificate.{Certificate}
 use Rattle.infer_spec.specs.Generator.{What, Analysis}
 use Rattle.infer_spec.specs.Verifying as v
 use Rattle.infer_systems_laws.specs.Analysed.{generator_of}
+use Rattle.infer_systems_laws.specs.Tried.{IsOrdered}
 use Rattle.cert_json.specs.Told.{text_of, IsFile}
 use Rattle.cert_check.specs.Fault as f
 use Rattle.cert_check.specs.Finds.{FirstFault}
 use Rattle.cert_check.proofs.OneFault.{one_first_fault}
-use Rattle.bound_infer.specs.Inferred.{SystemsAreSmall}
-use Rattle.bound_infer.proofs.NeverNo.{never_no}
+use Rattle.bound_infer.specs.Inferred.{SystemsAreSmall, VectorFault}
+use Rattle.bound_infer.specs.declared.refusal.VerifyFault.TheVariants.{NotRefuted as NotRefutedAt}
 use Rattle.analysis_report.specs.Lines.{AreLines}
 use Rattle.refusals.specs.Ending as e
 use Rattle.refusals.specs.Ending.{Ending, ending_of, Done, ReadFault, TooLong, TooLarge, Certified, Json, NotRefuted, Overflows}
@@ -49,14 +50,14 @@ module _ (store : Store) (file content bytes : Text) (limit : ℕ) (tells : Tell
 
   -- no more than what it holds
   pub fewer : length bytes ≤ length content
-  fewer = let l = length-take-le (suc limit) content in let s = ap length front in omega (arith, l, s)
+  fewer = let l = length-take (suc limit) content in let s = ap length front in omega (arith, l, s)
 
   -- and all of it, where that is no more than the limit
   pub all_of : length bytes ≤ limit → bytes ≡ content
   all_of short = let l = length-take (suc limit) content in let s = ap length front in sym front ∙ take_all (suc limit) content (omega (arith, short, l, s))
 
 module _ (P : Prog) (N : Program) (cert : Certificate) (text : Text) (passes : FirstFault N cert None)
-    (unrefuted : (place : ℕ) → v.BlockFault N (generator_of N cert.degree) cert place v.NotRefuted → ⊥) (small : SystemsAreSmall N cert) where
+    (unrefuted : (block : ℕ) → VectorFault N cert block v.NotRefuted → ⊥) (small : SystemsAreSmall N cert) where
   abbrev Again : Answer → Type 0
   Again = AnswersAgain (AreLines P N cert) text
 
@@ -66,7 +67,7 @@ module _ (P : Prog) (N : Program) (cert : Certificate) (text : Text) (passes : F
   refusal : (names : Names) (x : Ending) → CheckRefuses N cert x → Again (Refusal names x)
   refusal names (Certified (e.Check (f.Shape block))) h = absurd (no_fault (f.Shape block) h)
   refusal names (Certified (e.Check (f.Fails block path index))) h = absurd (no_fault (f.Fails block path index) h)
-  refusal names (Certified (NotRefuted block)) h = absurd (unrefuted block h.first.is)
+  refusal names (Certified (NotRefuted block)) h = absurd (unrefuted block h)
   refusal names (TooLarge task what) (inl h) = absurd (no_fault (f.TooLarge task) h.0)
   refusal names (TooLarge task what) (inr h) = absurd (small h.place what h.has.first.is)
   refusal names (Overflows place) h = tt
@@ -86,10 +87,10 @@ module _ (laws : KnownLaws) where
   module _ (P : Prog) (source : Text) (typed : IsTyped source P) (groups : Grouping) (grouping : IsGrouping P groups) (degree : ℕ) (rule : Rule) (cert : Certificate)
       (course : IsCourse Promised P (analysis (normal_of P groups.list) degree rule) cert) (text : Text) (file : length text ≤ most_bytes which.Certificate → IsFile text cert)
       (short : length source ≤ most_bytes which.Program) where
-    N : Program
+    abbrev N : Program
     N = normal_of P groups.list
 
-    A : Analysis
+    abbrev A : Analysis
     A = analysis N degree rule
 
     abbrev Answered : Answer → Type 0
@@ -98,13 +99,17 @@ module _ (laws : KnownLaws) where
     degree_is : cert.degree ≡ degree
     degree_is = ap (λ (x : Certificate). x.degree) course.inferred.ends.is
 
+    ordered : IsOrdered N
+    ordered = laws.ordered P typed.typed (within_limits 200 typed.spelled.tokens P typed.spelled.derives).numbers groups grouping
+
     small : SystemsAreSmall N cert
     small place what h =
-        laws.large A (laws.generate N (laws.ordered P typed.typed (within_limits 200 typed.spelled.tokens P typed.spelled.derives).numbers groups grouping) degree (pick_of rule))
-        cert course.inferred.ends place what (subst (λ n. v.BlockFault N (generator_of N n) cert place (v.TooLarge what)) degree_is h)
+        laws.large A (laws.generate N ordered degree (pick_of rule)) cert course.inferred.ends place what (subst (λ n. v.BlockFault N (generator_of N n) cert place (v.TooLarge what)) degree_is h)
 
-    unrefuted : (place : ℕ) → v.BlockFault N (generator_of N cert.degree) cert place v.NotRefuted → ⊥
-    unrefuted place h = laws.unrefuted never_no N (generator_of N cert.degree) cert course.proved.valid place h
+    unrefuted : (block : ℕ) → VectorFault N cert block v.NotRefuted → ⊥
+    unrefuted block h =
+        let held = course.proved.valid.held in
+        laws.verify N ordered degree (subst (λ n. 1 ≤ n) degree_is held.least_degree) (subst (λ n. n ≤ 4) degree_is held.most_degree) (pick_of rule) cert course.inferred.ends (NotRefutedAt block) h
 
     module _ (other : Outside) (named spelled : Text) (program : Tells other.store named (Some source)) (certified : Tells other.store spelled (Some text)) where
       of_normal : (a : Answer) → OfNormal P (λ M. OfCheck Promised P M cert (PrintsLines Promised P M cert)) a → Answered a

@@ -7,3 +7,4 @@ mod OnePrices
 mod OnePowers
 mod OneContract
 mod One
+mod Again

@@ -1,5 +1,6 @@
 -- What is known of courses, of certificates, and of files of declared bounds.
-use Rattle.infer_spec.specs.Laws.{OneCertificate, EndsOrStops, OnePlace, NoneTooLarge, NoneUnrefuted}
+use Rattle.infer_spec.specs.Laws.{OneCertificate, EndsOrStops, OnePlace, NoneTooLarge}
+use Rattle.bound_infer.specs.Laws.{CertificatesVerify}
 use Rattle.cert_check.specs.Laws.{FaultlessExactly}
 use Rattle.bound_file.specs.Laws.{FilesHaveOneAnswer}
 use Rattle.infer_systems_laws.specs.Laws.{SystemsGenerate, NormalsAreOrdered, OrderedAreProper}
@@ -14,4 +15,4 @@ pub record KnownLaws : Type 0 where
   pub proper : OrderedAreProper
   pub faultless : FaultlessExactly
   pub large : NoneTooLarge
-  pub unrefuted : NoneUnrefuted
+  pub verify : CertificatesVerify

@@ -6,3 +6,4 @@ pub mod Prices
 pub mod DeclaredBounds
 pub mod Promise
 pub mod Known
+pub mod Again

@@ -4,8 +4,9 @@ ghost use Rattle.raml_promise.specs.Known.{KnownLaws};
 ghost use Rattle.raml_promise.specs.Promise.{CausesForce};
 
 use bound_file::laws::files_have_one_answer;
+use bound_infer::laws::certificates_verify;
 use cert_check::laws::faultless_exactly;
-use infer_spec::laws::{ends_or_stops, none_too_large, none_unrefuted, one_certificate, one_place};
+use infer_spec::laws::{ends_or_stops, none_too_large, one_certificate, one_place};
 use infer_systems_laws::laws::{normals_are_ordered, ordered_are_proper, systems_generate};
 
 /// What is needed for an answer brings it, or want of memory, where each answer comes by its cause alone.
@@ -35,5 +36,5 @@ fn known_laws()
     ordered_are_proper();
     faultless_exactly();
     none_too_large();
-    none_unrefuted();
+    certificates_verify();
 }
