@@ -1,5 +1,5 @@
 -- Functions that are called, and their arguments.
-use Rattle.std.proofs.Common.{◌≡◌, ◌≤◌, ◌<◌, ◌+◌, ◌^◌, length, ℕ, List, Some, None, Result, Ok, Err, refl, sym, ap, subst, ◌∙◌, inl, inr, arith}
+use Rattle.std.proofs.Common.{◌≡◌, ◌≤◌, ◌<◌, ◌+◌, ◌^◌, length, ℕ, List, Some, None, Result, Ok, Err, refl, sym, ap, subst, ◌∙◌, arith}
 use Rattle.std.proofs.lemmas.List.{length-append}
 use Rattle.std.specs.Prelude.{slice_get}
 use Rattle.raml_syntax.specs.Tree.{Text, Function, Prog}
@@ -10,7 +10,7 @@ use Rattle.value_text.specs.Reading.{Answers, AreRead, most_cells}
 use Rattle.value_text.specs.declared.word.Word.{Word}
 use Rattle.value_text.specs.declared.word.Cell.{Cell}
 use Rattle.refusal_text.specs.declared.plain.Which.TheVariants as w
-use Rattle.refusals.specs.Ending.{Ending, NoFunction}
+use Rattle.refusals.specs.Ending.{NoFunction}
 use Rattle.refusals.specs.Line.{no_names}
 use Rattle.refusals.specs.declared.answer.Report.{Report}
 use Rattle.refusals.specs.declared.answer.Refusal.{Refusal as TheRefusal}

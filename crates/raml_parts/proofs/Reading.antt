@@ -1,5 +1,5 @@
 -- What is read of files.
-use Rattle.std.proofs.Common.{◌≡◌, ◌≤◌, ◌<◌, ℕ, suc, List, length, Option, Some, Result, Ok, Err, refl, sym, subst, inl, inr, ⊎_elim, arith}
+use Rattle.std.proofs.Common.{◌≡◌, ◌≤◌, ◌<◌, ℕ, suc, List, length, Option, Result, Ok, Err, sym, subst, inl, inr, ⊎_elim, arith}
 use Rattle.raml_io.specs.Faults.{Rose}
 use Rattle.std.specs.Prelude.{IfSome, IfOk, IfErr}
 use Rattle.raml_io.specs.Files.{Files, IsFront}

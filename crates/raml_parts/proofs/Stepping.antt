@@ -92,7 +92,9 @@ module _ (store : Store) (which : Which) (file : Text) where
 
     pub read_refusal : (Rest : X → Answer → Type 0) (refusal : TheRefusal) → Refuses no_names (λ e. OfFile Promised store which file (OfBytes nothing) (Refusal no_names e)) refusal →
         Gives (OfFile Promised store which file (OfBytes Rest)) (Err refusal)
-    read_refusal Rest refusal h = refusal_gives _ no_names _ (λ e. read_map Rest (Refusal no_names e)) refusal h
+    read_refusal Rest refusal h =
+        refusal_gives (OfFile Promised store which file (OfBytes Rest)) no_names (λ e. OfFile Promised store which file (OfBytes nothing) (Refusal no_names e))
+        (λ e. read_map Rest (Refusal no_names e)) refusal h
 
     pub read_goes : (Rest : X → Answer → Type 0) (bytes : List ℕ) → IsShort store which file bytes → (x : X) → Comes bytes x → (r : Result Report TheRefusal) → Gives (Rest x) r →
         Gives (OfFile Promised store which file (OfBytes Rest)) r

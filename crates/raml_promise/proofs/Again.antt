@@ -1,5 +1,5 @@
 -- What `certify` wrote is verified again.
-use Rattle.std.proofs.Common.{◌≡◌, ◌≤◌, ℕ, suc, List, [], length, take, ◌++◌, Option, Some, None, refl, sym, ap, subst, ◌∙◌, arith, inl, inr}
+use Rattle.std.proofs.Common.{◌≡◌, ◌≤◌, ℕ, suc, [], length, take, ◌++◌, Some, None, sym, ap, subst, ◌∙◌, arith, inl, inr}
 use Rattle.std.proofs.lemmas.List.{take_all, length-take}
 use Rattle.std.specs.Prelude.{codes}
 use Rattle.raml_syntax.specs.Tree.{Text, Prog}
@@ -12,7 +12,7 @@ use Rattle.call_groups.specs.Groups.{Grouping, IsGrouping}
 use Rattle.rules_soundness_laws.specs.Laws.{normal_of}
 use Rattle.annot_types.specs.Program.{Program}
 use Rattle.annot_types.specs.Certificate.{Certificate}
-use Rattle.infer_spec.specs.Generator.{What, Analysis}
+use Rattle.infer_spec.specs.Generator.{Analysis}
 use Rattle.infer_spec.specs.Verifying as v
 use Rattle.infer_systems_laws.specs.Analysed.{generator_of}
 use Rattle.infer_systems_laws.specs.Tried.{IsOrdered}
@@ -28,14 +28,13 @@ use Rattle.refusals.specs.Ending.{Ending, ending_of, Done, ReadFault, TooLong, T
 use Rattle.refusals.specs.Line.{Names, no_names}
 use Rattle.refusals.specs.declared.status.Status.{Status}
 use Rattle.refusals.specs.declared.status.Status.TheVariants as s
-use Rattle.refusal_text.specs.declared.plain.Which.{Which}
 use Rattle.refusal_text.specs.declared.plain.Which.TheVariants as which
 use Rattle.refusal_text.specs.declared.task.Analysed.TheVariants as analysed
-use Rattle.raml_promise.specs.Outside.{Outside, Store, Promised, Tells, IsSeen, IsRead, Gains}
-use Rattle.raml_promise.specs.Steps.{Answer, Report, Refusal, Step, refused, goes_on, Prints, most_bytes, IsTooLong, OfShort, OfFile, SourceRefuses, IsTyped, OfSource, OfProgram, OfNormal, names_of}
-use Rattle.raml_promise.specs.Analysis.{analysis, pick_of, CourseRefuses, IsCourse, OfCourse, TextRefuses, OfCertificate, CheckRefuses, IsChecked, OfCheck}
-use Rattle.raml_promise.specs.Promise.{IsTextOf, PrintsCertificate, PrintsLines, Certifies, Verifies, Answers, EndsBy, Cause, Comes}
-use Rattle.raml_promise.specs.Again.{VerifiesText, AnswersAgain, WritesCertificate, VerifiesAgain, WrittenVerifies}
+use Rattle.raml_promise.specs.Outside.{Outside, Store, Promised, Tells, IsSeen, Gains}
+use Rattle.raml_promise.specs.Steps.{Answer, Report, Refusal, Step, refused, goes_on, most_bytes, SourceRefuses, IsTyped, OfSource, OfProgram, OfNormal, names_of}
+use Rattle.raml_promise.specs.Analysis.{analysis, pick_of, CourseRefuses, IsCourse, OfCourse, TextRefuses, CheckRefuses, OfCheck}
+use Rattle.raml_promise.specs.Promise.{PrintsCertificate, PrintsLines, Certifies, Verifies, Answers, EndsBy, Comes}
+use Rattle.raml_promise.specs.Again.{VerifiesText, AnswersAgain, WritesCertificate, WrittenVerifies}
 use Rattle.raml_promise.specs.Known.{KnownLaws}
 use Rattle.raml_promise.proofs.OneSource.{told_front, front_is, one_program, refused_or_typed}
 use Rattle.raml_promise.proofs.OneCourse.{one_order}

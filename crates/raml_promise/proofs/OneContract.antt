@@ -1,17 +1,15 @@
 -- Declared bounds have one verdict each, or the first that exceeds is refused.
-use Rattle.std.proofs.Common.{◌≡◌, ◌<◌, ◌⊎◌, ℕ, List, Result, Ok, Err, Some, suc, refl, sym, ap, subst, inl, inr, arith}
-use Rattle.std.specs.Prelude.{nat_eq, cond, slice_get}
+use Rattle.std.proofs.Common.{◌≡◌, ℕ, List, Result, Ok, Err, refl, ap}
 use Rattle.raml_syntax.specs.Tree.{Text, Prog}
-use Rattle.cost_free.specs.Task.{Task}
 use Rattle.annot_types.specs.Program.{Program}
-use Rattle.annot_types.specs.Certificate.{Block, Certificate}
+use Rattle.annot_types.specs.Certificate.{Certificate}
 use Rattle.simplex_checked.specs.Rules.{least_pick}
 use Rattle.bound_file.specs.Lines.{Line, Declaration}
-use Rattle.bound_file.specs.Answers.{Spells, FirstFault}
+use Rattle.bound_file.specs.Answers.{Spells}
 use Rattle.bound_file.specs.declared.fault.DeclFault.{DeclFault}
 use Rattle.bound_file.specs.Laws.{FilesHaveOneAnswer}
 use Rattle.contract_report.specs.Verdicts.{AreVerdictLines}
-use Rattle.contract_report.specs.Refused.{Excess, Rows, Number, FirstExceeds, AllLinesClear}
+use Rattle.contract_report.specs.Refused.{Rows, Number, FirstExceeds, AllLinesClear}
 use Rattle.contract_report.proofs.Once.{one_exceeds_first, clear_exceeds_none}
 use Rattle.refusal_text.specs.declared.plain.Which.TheVariants as w
 use Rattle.refusals.specs.Ending.{Ending, BadBounds, LineTooLarge, Overflows, OnLine}

@@ -1,5 +1,5 @@
 -- The bounds of a certificate are written as powers, or the first that leaves is refused.
-use Rattle.std.proofs.Common.{◌≡◌, refl, ap}
+use Rattle.std.proofs.Common.{◌≡◌, refl}
 use Rattle.raml_syntax.specs.Tree.{Prog}
 use Rattle.annot_types.specs.Program.{Program}
 use Rattle.annot_types.specs.Certificate.{Certificate}

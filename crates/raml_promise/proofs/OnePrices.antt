@@ -1,11 +1,11 @@
 -- What a table of prices tells is one thing.
-use Rattle.std.proofs.Common.{◌≡◌, ◌≤◌, ℕ, List, [], ◌∷◌, Result, Ok, Err, Option, Some, Bool, cond, true, false, ap, subst, sym, arith}
+use Rattle.std.proofs.Common.{◌≡◌, ◌≤◌, ℕ, List, [], ◌∷◌, Result, Ok, Err, Option, Some, Bool, cond, true, false, arith}
 use Rattle.std.specs.Prelude.{nat_eq}
 use Rattle.raml_syntax.specs.Tree.{Text}
 use Rattle.price_file.specs.declared.construct.Construct.{Construct}
 use Rattle.price_file.specs.Construct.{Prices, place}
 use Rattle.price_file.specs.Listed.{AreSmall, or_free}
-use Rattle.price_file.specs.Spelling.{Table, Spells, SetEach, FirstFault, listed, prices_in}
+use Rattle.price_file.specs.Spelling.{Table, Spells, SetEach, listed, prices_in}
 use Rattle.price_file.specs.declared.fault.PriceFault.{PriceFault}
 use Rattle.price_file.proofs.Tables.{one_answer}
 use Rattle.refusal_text.specs.declared.plain.Which.TheVariants as w

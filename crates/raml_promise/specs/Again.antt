@@ -1,5 +1,5 @@
 -- What `verify` answers to what `certify` wrote.
-use Rattle.std.specs.Prelude.{◌≡◌, ◌≤◌, ℕ, List, ◌++◌, length, Some, codes}
+use Rattle.std.specs.Prelude.{◌≡◌, ℕ, ◌++◌, Some, codes}
 use Rattle.raml_syntax.specs.Tree.{Text, Prog}
 use Rattle.raml_words.specs.Words as w
 use Rattle.raml_words.specs.Words.{Asks}

@@ -1,5 +1,5 @@
 -- Calls with declared bounds.
-use Rattle.std.specs.Prelude.{◌≡◌, ℕ, List}
+use Rattle.std.specs.Prelude.{ℕ, List}
 use Rattle.raml_syntax.specs.Tree.{Text, Prog}
 use Rattle.annot_types.specs.Program.{Program}
 use Rattle.annot_types.specs.Certificate.{Certificate}

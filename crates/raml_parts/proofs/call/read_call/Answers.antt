@@ -1,4 +1,4 @@
-use Rattle.std.proofs.Common.{◌≡◌, ◌≤◌, ◌∙◌, ap, refl, sym, subst, length, None, Some, inl, inr}
+use Rattle.std.proofs.Common.{◌≡◌, ◌≤◌, ◌∙◌, ap, refl, sym, subst, length, None, Some, inr}
 use Rattle.std.proofs.lemmas.Option.{slice_get_within}
 use Rattle.raml_syntax.specs.Read.{program_of}
 use Rattle.raml_syntax.specs.Place.{place_of}
