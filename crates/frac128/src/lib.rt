@@ -65,7 +65,7 @@ fn reduced(num: i128, den: u128, shared: u128) -> Frac
 }
 
 impl Frac {
-    ghost use Rattle.std.specs.Prelude.{IsTrue, ◌≡◌, ◌≢◌, ◌↔◌, ℕ, ℤ, pos, neg_ℤ, unsigned_abs, IsSome, IfSome, ◌+ℤ◌};
+    ghost use Rattle.std.specs.Prelude.{IsTrue, ◌≡◌, ◌≢◌, ◌↔◌, ℕ, ℤ, pos, neg_ℤ, unsigned_abs, IsSome, IfSome, ◌+ℤ◌, ◌*ℤ◌, ◌<ℤ◌};
     ghost use Rattle.raml_num.specs.Divisors.{IsLcm};
     ghost use Rattle.frac128.specs.Values.{numerator, denominator, IsProduct, IsQuotient, IsSum, IsDifference, SumFits, DifferenceFits, Tells, Fits, IsReciprocal};
 
@@ -96,6 +96,16 @@ impl Frac {
         } else {
             Some(over_one(n))
         }
+    }
+
+    /// `num` over `den`, which is positive, in lowest terms.
+    #[inline(always)]
+    pub fn short(num: i64, den: i64) -> Frac
+        requires { pos 0 <ℤ den }
+        ensures { numerator result *ℤ den ≡ num *ℤ pos (denominator result) }
+    {
+        let den = den as u128;
+        reduced(i128::from(num), den, den)
     }
 
     /// The numerator, which has the sign.

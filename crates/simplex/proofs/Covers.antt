@@ -1,7 +1,6 @@
 -- Where numbers stand after a pivot.
-use Rattle.std.proofs.Common.{◌≡◌, ◌≢◌, refl, sym, ap, subst, ◌∙◌, ℕ, ◌+◌, ◌*◌, ◌<◌, ℤ, pos, ◌-ℤ◌, ◌*ℤ◌, ◌<ℤ◌, arith, List, [], ◌∷◌, length, ◌==◌, Bool, false, ◌⊎◌, inl, inr}
+use Rattle.std.proofs.Common.{◌≡◌, ◌≢◌, sym, ap, subst, ◌∙◌, ℕ, ◌+◌, ◌*◌, ◌<◌, ℤ, pos, ◌-ℤ◌, ◌*ℤ◌, ◌<ℤ◌, arith, List, [], ◌∷◌, length, map, Bool, ◌⊎◌, inl, inr}
 use Rattle.std.proofs.lemmas.Int.{ints}
-use Rattle.std.proofs.lemmas.Bool.Decides.{nat_tests}
 use Rattle.std.proofs.Math.Nat.{mul-pos}
 use Rattle.raml_num.proofs.Differences.{diffs, diff-pos, is_diff, diff_same}
 use Rattle.raml_num.proofs.Signed.{cancelled}
@@ -10,8 +9,8 @@ use Rattle.frac128.specs.Values.{IsQuotient}
 use Rattle.simplex_rows.specs.Entries.{Entries, at, columns_of, IsLess}
 use Rattle.simplex.specs.Among.{Among}
 use Rattle.simplex.specs.Standing.{entries_at, AreTouching, IsPivoted}
-use Rattle.simplex.specs.Covering.{IsMarked, Cover, Grow, HasOne}
-use Rattle.simplex.proofs.Marks.{inside, apart}
+use Rattle.simplex.specs.Covering.{block_of, blocks_of, IsMarked, Cover, Grow, HasOne}
+use Rattle.simplex.proofs.Marks.{inside, block_inside, apart, listed}
 use Rattle.simplex_spec.proofs.Pivoting.{same_or_not}
 
 gone : (a : ℤ) (d : ℕ) → 0 < d → a *ℤ pos d ≡ pos 0 → a ≡ pos 0
@@ -81,60 +80,57 @@ less_itself x q r l e =
     (product_left p.num x.den q.den ∙ l.is_product ∙ ap (λ (z : ℤ). (x.num *ℤ z) *ℤ pos p.den) e ∙ product_right x.num q.den p.den) in
     difference_none x p r (sym m) l.is_difference
 
--- a number that is not 0 has its column among the row's
-pub among_columns : (es : Entries) (c : ℕ) → (at c es).num ≢ pos 0 → Among c (columns_of es)
-among_columns [] c n = absurd (n refl)
-among_columns (e ∷ es) c n = elim (same_or_not c e.0) [
-  | inl s ↦ inl s
-  | inr d ↦ inr (among_columns es c (let t : (e.0 == c) ≡ false = grind (arith, nat_tests) in rw t at n))
-]
-
 pub positive_not_none : {z : ℤ} → pos 0 <ℤ z → z ≢ pos 0
 positive_not_none h e = omega (arith, ints)
 
 none_or_not : (z : ℤ) → (z ≡ pos 0) ⊎ (z ≢ pos 0)
 none_or_not z = grind (arith, ints)
 
--- marks that cover the rows before a pivot, with the rows that it touches in the lead's columns, and the lead
+among_map : (f : ℕ → ℕ) (x : ℕ) (xs : List ℕ) → Among x xs → Among (f x) (map f xs)
+among_map f x [] a = absurd a
+among_map f x (y ∷ ys) (inl e) = inl (ap f e)
+among_map f x (y ∷ ys) (inr a) = inr (among_map f x ys a)
+
+-- marks that cover the rows before a pivot, with the blocks that it touches in the lead's columns, and the lead's
 -- alone in the entering column, cover them after it
 module _ (n l s : ℕ) (rows : List Entries) (gains : Entries) (new : List Entries) (new_gains : Entries) (touching : List ℕ) (old grown final : List Bool)
     (h : l < length rows) (number : (at s (entries_at rows l)).num ≢ pos 0) (cover : Cover n rows old) (touches : AreTouching s rows touching) (made : IsPivoted l s rows gains new new_gains)
-    (grow : Grow (length rows) (columns_of (entries_at new l)) touching old grown) (one : HasOne (length rows) s l grown final) where
-  lead_covered : (c : ℕ) → c < n → (at c (entries_at new l)).num ≢ pos 0 → IsMarked (length rows) old c l
+    (grow : Grow (blocks_of (length rows)) (columns_of (entries_at new l)) (map block_of touching) old grown) (one : HasOne (blocks_of (length rows)) s (block_of l) grown final) where
+  lead_covered : (c : ℕ) → c < n → (at c (entries_at new l)).num ≢ pos 0 → IsMarked (blocks_of (length rows)) old c (block_of l)
   lead_covered c b m = cover.all c b l h (λ z. m (ap (λ (es : Entries). (at c es).num) made.rows_swept.here ∙ quotient_of_none (at c (entries_at rows l)) (at s (entries_at rows l)) (at c made.lead) (made.quotients c) z number))
 
-  other_covered : (c i : ℕ) → c < n → i < length rows → i ≢ l → (at c (entries_at new i)).num ≢ pos 0 → IsMarked (length rows) grown c i
+  other_covered : (c i : ℕ) → c < n → i < length rows → i ≢ l → (at c (entries_at new i)).num ≢ pos 0 → IsMarked (blocks_of (length rows)) grown c (block_of i)
   other_covered c i b k d m = elim (none_or_not (at c (entries_at rows i)).num) [
-    | inr p ↦ grow.kept (c * length rows + i) (cover.all c b i k p)
+    | inr p ↦ grow.kept (c * blocks_of (length rows) + block_of i) (cover.all c b i k p)
     | inl z ↦
         let w = (made.rows_swept.others i k d).each c in
-        grow.has c i (let low = inside n (length rows) c i b k in let count = cover.places in omega (arith, low, count))
-        (among_columns (entries_at new l) c (λ e. m (less_none_is_none (at c (entries_at rows i)) (at s (entries_at rows i)) (at c made.lead) (at c (entries_at new i)) w z (inr (sym (ap (λ (es : Entries). (at c es).num) made.rows_swept.here) ∙ e)))))
-        (touches.all i k (λ e. m (less_none_is_none (at c (entries_at rows i)) (at s (entries_at rows i)) (at c made.lead) (at c (entries_at new i)) w z (inl e))))
+        grow.has c (block_of i) (let low = inside n (blocks_of (length rows)) c (block_of i) b (block_inside (length rows) i k) in let count = cover.places in omega (arith, low, count))
+        (listed c (entries_at new l) (λ e. m (less_none_is_none (at c (entries_at rows i)) (at s (entries_at rows i)) (at c made.lead) (at c (entries_at new i)) w z (inr (sym (ap (λ (es : Entries). (at c es).num) made.rows_swept.here) ∙ e)))))
+        (among_map block_of i touching (touches.all i k (λ e. m (less_none_is_none (at c (entries_at rows i)) (at s (entries_at rows i)) (at c made.lead) (at c (entries_at new i)) w z (inl e)))))
   ]
 
   entering_left : (i : ℕ) → i < length rows → i ≢ l → (at s (entries_at new i)).num ≡ pos 0
   entering_left i k d = less_itself (at s (entries_at rows i)) (at s made.lead) (at s (entries_at new i)) ((made.rows_swept.others i k d).each s) (quotient_itself (at s (entries_at rows l)) (at s made.lead) (made.quotients s) number)
 
-  in_grown : (c i : ℕ) → c < n → i < length rows → (at c (entries_at new i)).num ≢ pos 0 → IsMarked (length rows) grown c i
+  in_grown : (c i : ℕ) → c < n → i < length rows → (at c (entries_at new i)).num ≢ pos 0 → IsMarked (blocks_of (length rows)) grown c (block_of i)
   in_grown c i b k m = elim (same_or_not i l) [
-    | inl e ↦ subst (IsMarked (length rows) grown c) (sym e) (grow.kept (c * length rows + l) (lead_covered c b (λ z. m (ap (λ (j : ℕ). (at c (entries_at new j)).num) e ∙ z))))
+    | inl e ↦ subst (λ (j : ℕ). IsMarked (blocks_of (length rows)) grown c (block_of j)) (sym e) (grow.kept (c * blocks_of (length rows) + block_of l) (lead_covered c b (λ z. m (ap (λ (j : ℕ). (at c (entries_at new j)).num) e ∙ z))))
     | inr d ↦ other_covered c i b k d m
   ]
 
-  in_final : (c i : ℕ) → c < n → i < length rows → (at c (entries_at new i)).num ≢ pos 0 → IsMarked (length rows) final c i
+  in_final : (c i : ℕ) → c < n → i < length rows → (at c (entries_at new i)).num ≢ pos 0 → IsMarked (blocks_of (length rows)) final c (block_of i)
   in_final c i b k m = elim (same_or_not c s) [
     | inl e ↦ elim (same_or_not i l) [
       | inl f ↦ rw (e, f) one.here
       | inr d ↦ absurd (m (ap (λ (z : ℕ). (at z (entries_at new i)).num) e ∙ entering_left i k d))
     ]
-    | inr d ↦ one.others (c * length rows + i) (apart (length rows) c s i d k) ∙ in_grown c i b k m
+    | inr d ↦ one.others (c * blocks_of (length rows) + block_of i) (apart (blocks_of (length rows)) c s (block_of i) d (block_inside (length rows) i k)) ∙ in_grown c i b k m
   ]
 
   pub covered : Cover n new final
   covered =
       let count : length new ≡ length rows = made.rows_swept.count in
       record {
-        places = one.places ∙ grow.places ∙ cover.places ∙ ap (λ (m : ℕ). n * m) (sym count);
-        all = λ c b i k m. subst (λ (height : ℕ). IsMarked height final c i) (sym count) (in_final c i b (subst (λ (m : ℕ). i < m) count k) m);
+        places = one.places ∙ grow.places ∙ cover.places ∙ ap (λ (m : ℕ). n * blocks_of m) (sym count);
+        all = λ c b i k m. subst (λ (m : ℕ). IsMarked (blocks_of m) final c (block_of i)) (sym count) (in_final c i b (subst (λ (m : ℕ). i < m) count k) m);
       }

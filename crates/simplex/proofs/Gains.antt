@@ -1,155 +1,118 @@
--- Gains that stand in the places of their columns.
-use Rattle.std.proofs.Common.{◌≡◌, ◌≢◌, refl, sym, ap, subst, ◌∙◌, ℕ, zero, suc, ◌+◌, ◌*◌, ◌<◌, ◌≤◌, ℤ, pos, ◌*ℤ◌, ◌<ℤ◌, arith, List, [], ◌∷◌, length, get_or, set, take, drop, true, false, ◌==◌, ◌⊎◌, inl, inr}
+-- The gains in the places of their columns, as a pivot leaves them.
+use Rattle.std.proofs.Common.{◌≡◌, ◌≢◌, refl, sym, ap, subst, ◌∙◌, ℕ, ◌+◌, ◌*◌, ◌<◌, ◌≤◌, ℤ, pos, ◌-ℤ◌, ◌*ℤ◌, ◌<ℤ◌, arith, List, [], ◌∷◌, length, get_or, set, take, false, ◌==◌, inl, inr}
 use Rattle.std.proofs.lemmas.Int.{ints}
 use Rattle.std.proofs.lemmas.Bool.Decides.{nat_tests}
-use Rattle.std.proofs.lemmas.List.{get_or_default, take_all}
+use Rattle.std.proofs.Math.Nat.{mul-pos}
 use lib.IntN.{*ℤ_comm}
+use Rattle.raml_num.proofs.Differences.{diffs, diff-pos, is_diff, diff_same}
 use Rattle.raml_num.proofs.Signed.{cancelled}
 use Rattle.frac128.specs.declared.Frac.{Frac}
-use Rattle.frac128.specs.Values.{numerator, denominator, IsQuotient}
+use Rattle.frac128.specs.Order.{same_parts}
+use Rattle.frac128.specs.Values.{numerator, denominator}
 use Rattle.frac128.specs.Nought.{nought}
-use Rattle.simplex_rows.specs.Entries.{Entries, at, IsLess, LessLeaves, SparseFrom}
-use Rattle.simplex_rows.proofs.Differing.{less_nothing}
-use Rattle.simplex_rows.proofs.Finding.{present}
-use Rattle.simplex_spec.specs.Places as places
+use Rattle.simplex_rows.specs.Entries.{Entries, at, columns_of, IsLess}
+use Rattle.simplex_rows.specs.Sweeping.{IsSwept}
 use Rattle.simplex_spec.proofs.Pivoting.{same_or_not}
-use Rattle.simplex.specs.Dense.{dense_from, dense}
-use Rattle.simplex.specs.Reading.{frac_at, HaveParts}
-use Rattle.simplex.specs.Standing.{RowStands, IsSwept, SweepLeaves}
-use Rattle.simplex.proofs.Listing.{entry_column, entry_number, column_after, more_here, more_there, length-set, set_here, set_there}
+use Rattle.simplex.specs.Among.{Among}
+use Rattle.simplex.specs.Reading.{frac_at, HaveParts, AreOf, IsWritten}
+use Rattle.simplex.proofs.Listing.{length-set, set_here, set_there}
+use Rattle.simplex.proofs.Rows.{among_or_not, among_take, among_taken, among_take_more, take_whole}
 
-at_from : (b c : ℕ) (xs : List Frac) → at (b + c) (dense_from b xs) ≡ frac_at xs c
-at_from b zero [] = refl
-at_from b (suc c) [] = refl
-at_from b zero (x ∷ xs) = let t : (b == b + 0) ≡ true = grind (arith, nat_tests) in rw t refl
-at_from b (suc c) (x ∷ xs) =
-    let t : (b == b + suc c) ≡ false = grind (arith, nat_tests) in
-    let e : suc b + c ≡ b + suc c = omega arith in
-    rw t (subst (λ (k : ℕ). at k (dense_from (suc b) xs) ≡ frac_at xs c) e (at_from (suc b) c xs))
+-- no column is written yet
+pub none_written : (row : Entries) (xs : List Frac) → IsWritten row [] xs xs
+none_written row xs = record { count = refl; nums = λ c a. absurd a; dens = λ c a. absurd a; others = λ c n. refl }
 
-pub at_dense : (c : ℕ) (xs : List Frac) → at c (dense xs) ≡ frac_at xs c
-at_dense c xs = let e : 0 + c ≡ c = omega arith in subst (λ (k : ℕ). at k (dense xs) ≡ frac_at xs c) e (at_from 0 c xs)
+-- one column more, where it has a place or not
+module _ (k c : ℕ) (row : Entries) (cs : List ℕ) (old xs : List Frac) (inside : k < length cs) (e : c ≡ get_or cs k 0) (w : IsWritten row (take k cs) old xs) where
+  before : (j : ℕ) → j ≢ c → Among j (take (k + 1) cs) → Among j (take k cs)
+  before j n a = elim (among_take_more k cs j inside a) [ inl b ↦ b | inr q ↦ absurd (n (q ∙ sym e)) ]
 
--- a part of the gains
-taken : (xs : List Frac) (n i : ℕ) → i < n → frac_at (take n xs) i ≡ frac_at xs i
-taken xs zero i h = absurd (omega arith)
-taken [] (suc n) i h = refl
-taken (x ∷ xs) (suc n) zero h = refl
-taken (x ∷ xs) (suc n) (suc i) h = taken xs n i (omega arith)
-
-dropped : (xs : List Frac) (m i : ℕ) → frac_at (drop m xs) i ≡ frac_at xs (m + i)
-dropped xs zero i = let e : i ≡ 0 + i = omega arith in ap (frac_at xs) e
-dropped [] (suc m) i = nothing m i
-  where
-    nothing : (m i : ℕ) → frac_at [] i ≡ frac_at [] (suc m + i)
-    nothing m zero = refl
-    nothing m (suc i) = refl
-dropped (x ∷ xs) (suc m) i =
-    let e : suc (m + i) ≡ suc m + i = omega arith in
-    dropped xs m i ∙ ap (frac_at (x ∷ xs)) e
-
-part_long : (xs : List Frac) (m n : ℕ) → m + n ≤ length xs → length (take n (drop m xs)) ≡ n
-part_long xs zero zero h = refl
-part_long [] zero (suc n) h = absurd (omega arith)
-part_long (x ∷ xs) zero (suc n) h = ap suc (part_long xs zero n (omega arith))
-part_long [] (suc m) n h = absurd (omega arith)
-part_long (x ∷ xs) (suc m) n h = part_long xs m n (omega arith)
-
-pub part_seen : (m n : ℕ) (xs : List Frac) → m + n ≤ length xs → HaveParts n (λ i. numerator (at (m + i) (dense xs))) (λ i. denominator (at (m + i) (dense xs))) (take n (drop m xs))
-part_seen m n xs h = record {
-  count = part_long xs m n h;
-  nums = λ i q. ap numerator (taken (drop m xs) n i q ∙ dropped xs m i ∙ sym (at_dense (m + i) xs));
-  dens = λ i q. ap denominator (taken (drop m xs) n i q ∙ dropped xs m i ∙ sym (at_dense (m + i) xs));
-}
-
--- the first k entries of the lead, times f, are taken from the gains
-pub record Sweeping (f : Frac) (k : ℕ) (lead : Entries) (old new : List Frac) : Type 0 where
-  pub count : length new ≡ length old
-  pub done : (c : ℕ) → IsLess (frac_at old c) f (at c (take k lead)) (frac_at new c)
-  pub left : (c : ℕ) → ((i : ℕ) → i < k → entry_column lead i ≢ c) → frac_at new c ≡ frac_at old c
-
-pub sweeping_none : (f : Frac) (lead : Entries) (old : List Frac) → Sweeping f 0 lead old old
-sweeping_none f lead old = record { count = refl; done = λ c. less_nothing (frac_at old c) f nought refl; left = λ c n. refl }
-
-columns_rise : (b : ℕ) (es : Entries) (i k : ℕ) → SparseFrom b es → i < k → k < length es → entry_column es i < entry_column es k
-columns_rise b [] i k s l h = absurd (omega arith)
-columns_rise b (e ∷ es) i zero s l h = absurd (omega arith)
-columns_rise b (e ∷ es) zero (suc k) s l h = let m = column_after (suc e.0) es k s.2 (omega arith) in omega arith
-columns_rise b (e ∷ es) (suc i) (suc k) s l h = columns_rise (suc e.0) es i k s.2 (omega arith) (omega arith)
-
-module _ (f : Frac) (k : ℕ) (lead : Entries) (old now : List Frac) (sparse : SparseFrom 0 lead) (inside : k < length lead) (sweeping : Sweeping f k lead old now) where
-  -- the gain that comes is as it was
-  untouched : frac_at now (entry_column lead k) ≡ frac_at old (entry_column lead k)
-  untouched = sweeping.left (entry_column lead k) (λ i l same. let rise = columns_rise 0 lead i k sparse l inside in omega arith)
-
-  sweeps_next : (r : Frac) → entry_column lead k < length now → IsLess (frac_at now (entry_column lead k)) f (entry_number lead k) r → Sweeping f (k + 1) lead old (set now (entry_column lead k) r)
-  sweeps_next r low less = let next : suc k ≡ k + 1 = omega arith in record {
-    count = length-set now (entry_column lead k) r ∙ sweeping.count;
-    done = λ c. subst (λ (m : ℕ). IsLess (frac_at old c) f (at c (take m lead)) (frac_at (set now (entry_column lead k) r) c)) next (elim (same_or_not c (entry_column lead k)) [
-      | inl same ↦ subst (λ (j : ℕ). IsLess (frac_at old j) f (at j (take (suc k) lead)) (frac_at (set now (entry_column lead k) r) j)) (sym same)
-          (rw (more_here 0 lead k sparse inside, set_here now (entry_column lead k) r low, ← untouched) less)
-      | inr other ↦ rw (set_there now (entry_column lead k) c r other, more_there lead k c inside (λ g. other (sym g))) (sweeping.done c)
-    ]);
-    left = λ c n. set_there now (entry_column lead k) c r (λ same. n k (omega arith) (sym same)) ∙ sweeping.left c (λ i l. n i (omega arith));
+  pub written_more : (x : Frac) → c < length xs → numerator x ≡ numerator (at c row) → denominator x ≡ denominator (at c row) → IsWritten row (take (k + 1) cs) old (set xs c x)
+  written_more x low num den = record {
+    count = length-set xs c x ∙ w.count;
+    nums = λ j a l. elim (same_or_not j c) [
+      | inl q ↦ ap numerator (ap (frac_at (set xs c x)) q ∙ set_here xs c x low) ∙ num ∙ ap (λ (i : ℕ). numerator (at i row)) (sym q)
+      | inr n ↦ ap numerator (set_there xs c j x n) ∙ w.nums j (before j n a) l
+    ];
+    dens = λ j a l. elim (same_or_not j c) [
+      | inl q ↦ ap denominator (ap (frac_at (set xs c x)) q ∙ set_here xs c x low) ∙ den ∙ ap (λ (i : ℕ). denominator (at i row)) (sym q)
+      | inr n ↦ ap denominator (set_there xs c j x n) ∙ w.dens j (before j n a) l
+    ];
+    others = λ j n. set_there xs c j x (λ q. n (subst (λ (i : ℕ). Among i (take (k + 1) cs)) (sym (q ∙ e)) (among_taken k cs inside))) ∙ w.others j (λ a. n (among_take k cs j inside a));
   }
 
-  sweep_leaves : (s : ℕ) → f ≡ frac_at old s → LessLeaves (frac_at now (entry_column lead k)) f (entry_number lead k) → SweepLeaves s (entry_column lead k) lead (dense old)
-  sweep_leaves s g leaves = record { leaves = rw (at_dense (entry_column lead k) old, at_dense s old, present 0 lead k sparse inside, ← untouched, ← g) leaves }
+  pub written_past : length xs ≤ c → IsWritten row (take (k + 1) cs) old xs
+  written_past past = record {
+    count = w.count;
+    nums = λ j a l. w.nums j (before j (λ q. let n = w.count in omega arith) a) l;
+    dens = λ j a l. w.dens j (before j (λ q. let n = w.count in omega arith) a) l;
+    others = λ j n. w.others j (λ a. n (among_take k cs j inside a));
+  }
 
-  -- the same, as the code reads it
-  module _ (d e : ℕ × Frac) (x : Frac) where
-    pub low_column : (n : ℕ) → ((c : ℕ) → numerator (at c lead) ≢ pos 0 → c < n) → (let y = get_or lead k d in y.0) < n
-    low_column n low = rw (get_or_default lead k d (0, nought) inside) (low (entry_column lead k) (rw (present 0 lead k sparse inside) (none_zero 0 lead k sparse inside)))
-      where
-        none_zero : (b : ℕ) (es : Entries) (i : ℕ) → SparseFrom b es → i < length es → numerator (entry_number es i) ≢ pos 0
-        none_zero b [] i s h = absurd (omega arith)
-        none_zero b (d ∷ es) zero s h = s.1
-        none_zero b (d ∷ es) (suc i) s h = none_zero (suc d.0) es i s.2 (omega arith)
+pub all_written : (k : ℕ) (row : Entries) (cs : List ℕ) (old xs : List Frac) → length cs ≤ k → IsWritten row (take k cs) old xs → IsWritten row cs old xs
+all_written k row cs old xs h w = subst (λ (ds : List ℕ). IsWritten row ds old xs) (take_whole k cs h) w
 
-    module _ (low : (c : ℕ) → numerator (at c lead) ≢ pos 0 → c < length now) where
-      low_here : entry_column lead k < length now
-      low_here = rw (get_or_default lead k d (0, nought) inside) at low_column (length now) low
+-- a row has no number at a column that is not its own
+none_elsewhere : (es : Entries) (c : ℕ) → (Among c (columns_of es) → ⊥) → at c es ≡ nought
+none_elsewhere [] c n = refl
+none_elsewhere (e ∷ es) c n =
+    let other : e.0 ≢ c = (λ q. n (inl (sym q))) in
+    let t : (e.0 == c) ≡ false = grind (arith, nat_tests) in
+    rw t (none_elsewhere es c (λ a. n (inr a)))
 
-      pub sweeps_read : (r : Frac) → IsLess (get_or now (let y = get_or lead k d in y.0) x) f (let z = get_or lead k e in z.1) r → Sweeping f (k + 1) lead old (set now (let y = get_or lead k d in y.0) r)
-      sweeps_read r less = rw (get_or_default lead k d (0, nought) inside) (sweeps_next r low_here (rw (get_or_default lead k d (0, nought) inside, get_or_default lead k e (0, nought) inside, get_or_default now (entry_column lead k) x nought low_here) at less))
-
-      pub leaves_read : (s : ℕ) → f ≡ frac_at old s → LessLeaves (get_or now (let y = get_or lead k d in y.0) x) f (let z = get_or lead k e in z.1) → SweepLeaves s (let y = get_or lead k d in y.0) lead (dense old)
-      leaves_read s g leaves = rw (get_or_default lead k d (0, nought) inside) (sweep_leaves s g (rw (get_or_default lead k d (0, nought) inside, get_or_default lead k e (0, nought) inside, get_or_default now (entry_column lead k) x nought low_here) at leaves))
-
-pub all_swept : (f : Frac) (k s : ℕ) (lead : Entries) (old new : List Frac) → length lead ≤ k → f ≡ frac_at old s → Sweeping f k lead old new → IsSwept s lead (dense old) (dense new)
-all_swept f k s lead old new h e sweeping = record {
-  each = λ c.
-      let w : IsLess (frac_at old c) f (at c lead) (frac_at new c) = subst (λ (es : Entries). IsLess (frac_at old c) f (at c es) (frac_at new c)) (take_all k lead h) (sweeping.done c) in
-      rw (at_dense c old, at_dense s old, at_dense c new, ← e) w;
+-- written over zeros, the slice has the row's fractions
+pub written_over_zeros : (n : ℕ) (row : Entries) (zeros xs : List Frac) → HaveParts n (λ _. pos 0) (λ _. 1) zeros → IsWritten row (columns_of row) zeros xs → AreOf n row xs
+written_over_zeros n row zeros xs z w = record {
+  count = w.count ∙ z.count;
+  nums = λ c q. elim (among_or_not c (columns_of row)) [
+    | inl a ↦ w.nums c a (let l = z.count in omega arith)
+    | inr m ↦ ap numerator (w.others c m) ∙ z.nums c q ∙ ap numerator (sym (none_elsewhere row c m))
+  ];
+  dens = λ c q. elim (among_or_not c (columns_of row)) [
+    | inl a ↦ w.dens c a (let l = z.count in omega arith)
+    | inr m ↦ ap denominator (w.others c m) ∙ z.dens c q ∙ ap denominator (sym (none_elsewhere row c m))
+  ];
 }
-
--- a row has no number past its end
-pub past : (xs : List ℤ) (c : ℕ) → length xs ≤ c → places.at xs c ≡ pos 0
-past [] c h = refl
-past (x ∷ xs) zero h = absurd (omega arith)
-past (x ∷ xs) (suc c) h = past xs c (omega arith)
-
-below_or_from : (m n : ℕ) → (m < n) ⊎ (n ≤ m)
-below_or_from m n = grind arith
 
 nothing_left : (a d : ℤ) → pos 0 <ℤ d → a *ℤ d ≡ pos 0 → a ≡ pos 0
 nothing_left a d p e =
     let z : d *ℤ pos 0 ≡ pos 0 = omega (arith, ints) in
     cancelled d a (pos 0) (λ n. omega (arith, ints)) (*ℤ_comm d a ∙ e ∙ sym z)
 
-pub ends_within : (d : ℤ) (ns : List ℤ) (es : Entries) (c : ℕ) → pos 0 <ℤ d → RowStands d ns es → numerator (at c es) ≢ pos 0 → c < length ns
-ends_within d ns es c p stands n = elim (below_or_from c (length ns)) [
-  | inl l ↦ l
-  | inr g ↦
-      let x = at c es in
-      let none : places.at ns c *ℤ pos x.den ≡ pos 0 = rw (past ns c g) (omega (arith, ints)) in
-      absurd (n (nothing_left x.num d p ((stands.each c).is ∙ none)))
-]
+times_none : (a b : ℤ) → b ≡ pos 0 → a *ℤ b ≡ pos 0
+times_none a b e = rw e (omega (arith, ints))
 
--- a quotient is not 0 where the number is not
-pub not_divided : (x by q : Frac) → IsQuotient x by q → by.num ≢ pos 0 → q.num ≢ pos 0 → x.num ≢ pos 0
-not_divided x by q d b n e =
-    let z : x.num *ℤ pos (q.den * by.den) ≡ pos 0 = rw e (omega (arith, ints)) in
-    let y : q.num *ℤ by.num ≡ pos 0 = nothing_left (q.num *ℤ by.num) (pos x.den) (let p = x.lowest.positive in omega (arith, ints)) (sym d ∙ z) in
-    let w : by.num *ℤ pos 0 ≡ pos 0 = omega (arith, ints) in
-    n (cancelled by.num q.num (pos 0) b (*ℤ_comm by.num q.num ∙ y ∙ sym w))
+none_times : (a : ℤ) → pos 0 *ℤ a ≡ pos 0
+none_times a = omega (arith, ints)
+
+less_left : (R : ℤ) (x p : ℕ) → pos p *ℤ (R *ℤ pos x) ≡ R *ℤ pos (x * p)
+less_left R x p = rw (is_diff R) (simp (diffs, diff-pos) (diff_same _ _ _ _ (omega arith)))
+
+less_right : (X : ℤ) (x p r : ℕ) → (X *ℤ pos p -ℤ pos 0 *ℤ pos x) *ℤ pos r ≡ pos p *ℤ (X *ℤ pos r)
+less_right X x p r = rw (is_diff X) (simp (diffs, diff-pos) (diff_same _ _ _ _ (omega arith)))
+
+-- less a product with 0 a fraction has the same parts
+less_same : (x f q r : Frac) → IsLess x f q r → q.num ≡ pos 0 → (r.num ≡ x.num) × (r.den ≡ x.den)
+less_same x f q r l e =
+    let p : Frac = l.product in
+    let zero : (f.num *ℤ q.num) *ℤ pos p.den ≡ pos 0 = ap (λ (z : ℤ). z *ℤ pos p.den) (times_none f.num q.num e) ∙ none_times (pos p.den) in
+    let n : p.num ≡ pos 0 = nothing_left p.num (pos (f.den * q.den)) (let m = mul-pos f.lowest.positive q.lowest.positive in omega (arith, ints)) (l.is_product ∙ zero) in
+    same_parts r x (cancelled (pos p.den) (r.num *ℤ pos x.den) (x.num *ℤ pos r.den) (λ z. let m = p.lowest.positive in omega (arith, ints))
+    (less_left r.num x.den p.den ∙ (rw n at l.is_difference) ∙ less_right x.num x.den p.den r.den))
+
+-- written at the lead's columns, the slice follows the gains
+pub written_after : (n s : ℕ) (lead gains new : Entries) (xs ys : List Frac) → AreOf n gains xs → IsSwept s lead gains new → IsWritten new (columns_of lead) xs ys → AreOf n new ys
+written_after n s lead gains new xs ys h swept w = record {
+  count = w.count ∙ h.count;
+  nums = λ c q. elim (among_or_not c (columns_of lead)) [
+    | inl a ↦ w.nums c a (let l = h.count in omega arith)
+    | inr m ↦ ap numerator (w.others c m) ∙ h.nums c q ∙ sym (same c m).0
+  ];
+  dens = λ c q. elim (among_or_not c (columns_of lead)) [
+    | inl a ↦ w.dens c a (let l = h.count in omega arith)
+    | inr m ↦ ap denominator (w.others c m) ∙ h.dens c q ∙ sym (same c m).1
+  ];
+}
+  where
+    same : (c : ℕ) → (Among c (columns_of lead) → ⊥) → ((at c new).num ≡ (at c gains).num) × ((at c new).den ≡ (at c gains).den)
+    same c m = less_same (at c gains) (at s gains) (at c lead) (at c new) (swept.each c) (ap numerator (none_elsewhere lead c m))

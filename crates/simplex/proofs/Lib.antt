@@ -16,3 +16,4 @@ mod Agreement
 mod Marks
 mod Wholes
 pub mod ByRule
+mod Limits

@@ -73,6 +73,10 @@ wider X d p = rw (is_diff X, is_diff d, is_diff p) (simp diffs (diff_same _ _ _ 
 wider_right : (a p : ℤ) (x : ℕ) → (a *ℤ pos x) *ℤ p ≡ (a *ℤ p) *ℤ pos x
 wider_right a p x = rw (is_diff a, is_diff p) (simp (diffs, diff-pos) (diff_same _ _ _ _ (omega arith)))
 
+-- what has the parts of a fraction stands as it does
+pub stands_with : (d n : ℤ) (x y : Frac) → y.num ≡ x.num → y.den ≡ x.den → Stands d n x → Stands d n y
+stands_with d n x y e f s = let is : y.num *ℤ d ≡ n *ℤ pos y.den = rw (e, f) s.is in record { is = is }
+
 pub stands_wider : (d p a : ℤ) (x : Frac) → Stands d a x → Stands (d *ℤ p) (a *ℤ p) x
 stands_wider d p a x i = record { is = wider x.num d p ∙ ap (λ (v : ℤ). v *ℤ p) i.is ∙ wider_right a p x.den }
 

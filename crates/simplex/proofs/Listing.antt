@@ -1,11 +1,8 @@
 -- Lists of fractions that are made one by one.
-use Rattle.std.proofs.Common.{◌≡◌, ◌≢◌, refl, sym, ap, subst, ◌∙◌, ℕ, zero, suc, ◌+◌, ◌<◌, ◌≤◌, ℤ, pos, arith, List, [], ◌∷◌, ◌++◌, length, get_or, set, take, true, false, ◌==◌, if◌then◌else◌, inl, inr}
-use Rattle.std.proofs.lemmas.Bool.Decides.{nat_tests}
+use Rattle.std.proofs.Common.{◌≡◌, ◌≢◌, refl, sym, ap, subst, ◌∙◌, ℕ, zero, suc, ◌+◌, ◌<◌, ◌≤◌, ℤ, pos, arith, List, [], ◌∷◌, ◌++◌, length, set, inl, inr}
 use lib.ListN.{length-append}
 use Rattle.frac128.specs.declared.Frac.{Frac}
 use Rattle.frac128.specs.Values.{numerator, denominator}
-use Rattle.frac128.specs.Nought.{nought}
-use Rattle.simplex_rows.specs.Entries.{Entries, at, SparseFrom}
 use Rattle.simplex.specs.Reading.{frac_at, column_at, HaveParts, NoneTwice, IsSpreadTo}
 use Rattle.simplex.proofs.Rows.{earlier_or_here}
 
@@ -77,28 +74,3 @@ spread_skip k n cs xs ys past h = record {
   elsewhere = λ c q f. h.elsewhere c q (λ i l e. f i (omega arith) e);
   whole = λ c q f. h.whole c q (λ i l e. f i (omega arith) e);
 }
-
--- one entry more
-abbrev pub entry_column : Entries → ℕ → ℕ
-entry_column es i = let e = get_or es i (0, nought) in e.0
-
-abbrev pub entry_number : Entries → ℕ → Frac
-entry_number es i = let e = get_or es i (0, nought) in e.1
-
-pub column_after : (b : ℕ) (es : Entries) (k : ℕ) → SparseFrom b es → k < length es → b ≤ entry_column es k
-column_after b [] k s h = absurd (omega arith)
-column_after b (e ∷ es) zero s h = s.0
-column_after b (e ∷ es) (suc k) s h = let l = s.0 in let m = column_after (suc e.0) es k s.2 (omega arith) in omega arith
-
-pub more_here : (b : ℕ) (es : Entries) (k : ℕ) → SparseFrom b es → k < length es → at (entry_column es k) (take (suc k) es) ≡ entry_number es k
-more_here b [] k s h = absurd (omega arith)
-more_here b (e ∷ es) zero s h = let t : (e.0 == e.0) ≡ true = grind (arith, nat_tests) in rw t refl
-more_here b (e ∷ es) (suc k) s h =
-    let m = column_after (suc e.0) es k s.2 (omega arith) in
-    let t : (e.0 == entry_column es k) ≡ false = grind (arith, nat_tests) in
-    rw t (more_here (suc e.0) es k s.2 (omega arith))
-
-pub more_there : (es : Entries) (k c : ℕ) → k < length es → entry_column es k ≢ c → at c (take (suc k) es) ≡ at c (take k es)
-more_there [] k c h n = absurd (omega arith)
-more_there (e ∷ es) zero c h n = let t : (e.0 == c) ≡ false = grind (arith, nat_tests) in rw t refl
-more_there (e ∷ es) (suc k) c h n = ap (λ (y : Frac). if e.0 == c then e.1 else y) (more_there es k c (omega arith) n)

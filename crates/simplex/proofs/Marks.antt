@@ -1,15 +1,20 @@
--- Marks of rows by column.
-use Rattle.std.proofs.Common.{◌≡◌, ◌≢◌, refl, sym, ap, subst, ◌∙◌, ℕ, zero, suc, ◌+◌, ◌*◌, ◌<◌, ◌≤◌, ◌==◌, if◌then◌else◌, Bool, true, false, pos, arith, List, [], ◌∷◌, length, get_or, slice_set, take, ◌⊎◌, inl, inr}
+-- Marks of blocks of rows by column.
+use Rattle.std.proofs.Common.{◌≡◌, ◌≢◌, refl, sym, ap, subst, ◌∙◌, ℕ, zero, suc, ◌+◌, ◌-◌, ◌*◌, ◌<◌, ◌≤◌, ◌==◌, if◌then◌else◌, Bool, true, false, not, ℤ, pos, int_cmp, arith, List, [], ◌∷◌, ◌++◌, length, map, get_or, slice_set, take, min, ◌⊎◌, inl, inr}
 use Rattle.std.proofs.lemmas.Bool.{eqb-true}
 use mathlib.Core.Bool.{false≢true}
 use Rattle.std.proofs.lemmas.Nat.{mul-le}
-use Rattle.std.proofs.lemmas.List.{take_all, length-set, get_or-set_same, get_or-set_other}
-use Rattle.frac128.specs.declared.Frac.{Frac}
+use Rattle.std.proofs.lemmas.List.{length-map, get_or-map, length-set, length-take, length-take-le, get_or-take, get_or-set_same, get_or-set_other}
+use Rattle.std.proofs.lemmas.Int.{ints}
+use Rattle.std.proofs.lemmas.Cmp.{int_ranked}
+use Rattle.std.specs.Ordering.{ordering_index}
+use Rattle.std.specs.declared.cmp.Ordering.{Ordering}
+use Rattle.std.specs.declared.cmp.Ordering.TheVariants.{Less, Equal, Greater}
 use Rattle.simplex_rows.specs.Entries.{Entries, at, columns_of}
+use Rattle.simplex.specs.declared.covering.TheConstants.{BLOCK}
 use Rattle.simplex.specs.Among.{Among}
-use Rattle.simplex.specs.Standing.{entries_at}
-use Rattle.simplex.specs.Covering.{HasMark, IsMarked, Grow, Clears, HasOne}
-use Rattle.simplex.proofs.Rows.{row_is, among_take, among_taken, among_take_more, earlier_or_here}
+use Rattle.simplex.specs.Standing.{entries_at, AreTouching}
+use Rattle.simplex.specs.Covering.{block_of, blocks_of, HasMark, IsMarked, IsCovered, Grow, Clears, HasOne}
+use Rattle.simplex.proofs.Rows.{row_is, among_take, among_taken, among_take_more, earlier_or_here, Picked, picked_more}
 use Rattle.simplex_spec.proofs.Pivoting.{same_or_not}
 
 -- Places
@@ -17,8 +22,11 @@ use Rattle.simplex_spec.proofs.Pivoting.{same_or_not}
 pub column_inside : (n h c : ℕ) → c < n → c * h + h ≤ n * h
 column_inside n h c l = let m : (c + 1) * h ≤ n * h = mul-le (c + 1) h n h (omega arith) (omega arith) in omega (arith, m)
 
-pub inside : (n h c i : ℕ) → c < n → i < h → c * h + i < n * h
-inside n h c i l k = let m = column_inside n h c l in omega (arith, m, k)
+pub inside : (n h c b : ℕ) → c < n → b < h → c * h + b < n * h
+inside n h c b l k = let m = column_inside n h c l in omega (arith, m, k)
+
+pub block_inside : (n i : ℕ) → i < n → block_of i < blocks_of n
+block_inside n i h = omega arith
 
 before_or_after : (c d : ℕ) → c ≢ d → (c < d) ⊎ (d < c)
 before_or_after zero zero n = absurd (n refl)
@@ -26,10 +34,10 @@ before_or_after zero (suc d) n = inl (omega arith)
 before_or_after (suc c) zero n = inr (omega arith)
 before_or_after (suc c) (suc d) n = elim (before_or_after c d (λ e. n (ap suc e))) [ inl k ↦ inl (omega (arith, k)) | inr k ↦ inr (omega (arith, k)) ]
 
--- a row's place in another column
-pub apart : (h c d i : ℕ) → c ≢ d → i < h → (c * h + i < d * h) ⊎ (d * h + h ≤ c * h + i)
-apart h c d i n l = elim (before_or_after c d n) [
-  | inl k ↦ inl (inside d h c i k l)
+-- a block's place in another column
+pub apart : (h c d b : ℕ) → c ≢ d → b < h → (c * h + b < d * h) ⊎ (d * h + h ≤ c * h + b)
+apart h c d b n l = elim (before_or_after c d n) [
+  | inl k ↦ inl (inside d h c b k l)
   | inr k ↦ inr (let m = column_inside c h d k in omega (arith, m))
 ]
 
@@ -55,85 +63,87 @@ set_past [] i h = refl
 set_past (x ∷ xs) zero h = absurd (omega (arith, h))
 set_past (x ∷ xs) (suc i) h = ap (λ (ys : List Bool). x ∷ ys) (set_past xs i (omega (arith, h)))
 
-pub row_marked : (h c i : ℕ) (old : List Bool) → Grow h (c ∷ []) (i ∷ []) old (slice_set old (c * h + i) true)
-row_marked h c i old = record {
-  places = length-set old (c * h + i) true;
-  kept = λ p m. still_marked old (c * h + i) p m;
+pub block_marked : (h c b : ℕ) (old : List Bool) → Grow h (c ∷ []) (b ∷ []) old (slice_set old (c * h + b) true)
+block_marked h c b old = record {
+  places = length-set old (c * h + b) true;
+  kept = λ p m. still_marked old (c * h + b) p m;
   has = λ k j l m a. elim m [
-    | inl q ↦ elim a [ inl r ↦ rw (q, r) (get_or-set_same old (c * h + i) true false (rw (q, r) at l)) | inr r ↦ absurd r ]
+    | inl q ↦ elim a [ inl r ↦ rw (q, r) (get_or-set_same old (c * h + b) true false (rw (q, r) at l)) | inr r ↦ absurd r ]
     | inr q ↦ absurd q
   ];
-  only = λ p m. elim (only_marked old (c * h + i) p m) [
+  only = λ p m. elim (only_marked old (c * h + b) p m) [
     | inl w ↦ inl w
-    | inr e ↦ inr (record { column = c; row = i; is = e; in_columns = inl refl; in_rows = inl refl })
+    | inr e ↦ inr (record { column = c; block = b; is = e; in_columns = inl refl; in_blocks = inl refl })
   ];
 }
 
 -- no vector has such a place
-pub no_place : (h c i : ℕ) (old : List Bool) → length old ≤ c * h + i → Grow h (c ∷ []) (i ∷ []) old old
-no_place h c i old l = subst (Grow h (c ∷ []) (i ∷ []) old) (sym (set_past old (c * h + i) l)) (row_marked h c i old)
+pub no_place : (h c b : ℕ) (old : List Bool) → length old ≤ c * h + b → Grow h (c ∷ []) (b ∷ []) old old
+no_place h c b old l = subst (Grow h (c ∷ []) (b ∷ []) old) (sym (set_past old (c * h + b) l)) (block_marked h c b old)
 
--- the columns of a row
-columns_count : (es : Entries) → length (columns_of es) ≡ length es
-columns_count [] = refl
-columns_count (e ∷ es) = ap suc (columns_count es)
-
-column_read : (es : Entries) (k b : ℕ) (d : ℕ × Frac) → k < length es → (let e = get_or es k d in e.0) ≡ get_or (columns_of es) k b
-column_read [] k b d h = absurd (omega (arith, h))
-column_read (e ∷ es) zero b d h = refl
-column_read (e ∷ es) (suc k) b d h = column_read es k b d (omega (arith, h))
+taken : (k : ℕ) (xs : List ℕ) (x : ℕ) → k < length xs → Among x (get_or xs k 0 ∷ []) → Among x (take (k + 1) xs)
+taken k xs x l (inl e) = subst (λ (z : ℕ). Among z (take (k + 1) xs)) (sym e) (among_taken k xs l)
+taken k xs x l (inr a) = absurd a
 
 -- one column more
-pub column_more : (h k : ℕ) (columns rows : List ℕ) (old mid new : List Bool) → k < length columns → Grow h (take k columns) rows old mid → Grow h (get_or columns k 0 ∷ []) rows mid new → Grow h (take (k + 1) columns) rows old new
-column_more h k columns rows old mid new l g m = record {
+pub column_more : (h k : ℕ) (columns blocks : List ℕ) (old mid new : List Bool) → k < length columns → Grow h (take k columns) blocks old mid → Grow h (get_or columns k 0 ∷ []) blocks mid new → Grow h (take (k + 1) columns) blocks old new
+column_more h k columns blocks old mid new l g m = record {
   places = m.places ∙ g.places;
   kept = λ p a. m.kept p (g.kept p a);
-  has = λ c i q b a. elim (among_take_more k columns c l b) [
-    | inl d ↦ m.kept (c * h + i) (g.has c i q d a)
-    | inr e ↦ m.has c i (rw g.places q) (inl e) a
+  has = λ c b q i a. elim (among_take_more k columns c l i) [
+    | inl d ↦ m.kept (c * h + b) (g.has c b q d a)
+    | inr e ↦ m.has c b (rw g.places q) (inl e) a
   ];
   only = λ p a. elim (m.only p a) [
-    | inl b ↦ elim (g.only p b) [
+    | inl o ↦ elim (g.only p o) [
       | inl d ↦ inl d
-      | inr w ↦ inr (record { column = w.column; row = w.row; is = w.is; in_columns = among_take k columns w.column l w.in_columns; in_rows = w.in_rows })
+      | inr w ↦ inr (record { column = w.column; block = w.block; is = w.is; in_columns = among_take k columns w.column l w.in_columns; in_blocks = w.in_blocks })
     ]
-    | inr w ↦ inr (record { column = w.column; row = w.row; is = w.is; in_columns = taken w.column w.in_columns; in_rows = w.in_rows })
+    | inr w ↦ inr (record { column = w.column; block = w.block; is = w.is; in_columns = taken k columns w.column l w.in_columns; in_blocks = w.in_blocks })
   ];
 }
-  where
-    taken : (c : ℕ) → Among c (get_or columns k 0 ∷ []) → Among c (take (k + 1) columns)
-    taken c (inl e) = subst (λ (z : ℕ). Among z (take (k + 1) columns)) (sym e) (among_taken k columns l)
-    taken c (inr a) = absurd a
 
--- the column of one entry more
-pub entry_more : (h k : ℕ) (es : Entries) (rows : List ℕ) (old mid new : List Bool) (e : ℕ × Frac) → k < length es → e ≡ get_or es k e → Grow h (take k (columns_of es)) rows old mid → Grow h (e.0 ∷ []) rows mid new → Grow h (take (k + 1) (columns_of es)) rows old new
-entry_more h k es rows old mid new e l is g m =
-    column_more h k (columns_of es) rows old mid new (rw (columns_count es) l) g (subst (λ (c : ℕ). Grow h (c ∷ []) rows mid new) (ap (λ (d : ℕ × Frac). d.0) is ∙ column_read es k 0 e l) m)
-
-pub all_entries : (h k : ℕ) (es : Entries) (rows : List ℕ) (old new : List Bool) → length es ≤ k → Grow h (take k (columns_of es)) rows old new → Grow h (columns_of es) rows old new
-all_entries h k es rows old new l g = rw (take_all k (columns_of es) (rw (columns_count es) l)) at g
-
--- one row more
-pub row_more : (h k : ℕ) (columns rows : List ℕ) (old mid new : List Bool) → k < length rows → Grow h columns (take k rows) old mid → Grow h columns (get_or rows k 0 ∷ []) mid new → Grow h columns (take (k + 1) rows) old new
-row_more h k columns rows old mid new l g m = record {
+-- one block more
+pub block_more : (h k : ℕ) (columns blocks : List ℕ) (old mid new : List Bool) → k < length blocks → Grow h columns (take k blocks) old mid → Grow h columns (get_or blocks k 0 ∷ []) mid new → Grow h columns (take (k + 1) blocks) old new
+block_more h k columns blocks old mid new l g m = record {
   places = m.places ∙ g.places;
   kept = λ p a. m.kept p (g.kept p a);
-  has = λ c i q b a. elim (among_take_more k rows i l a) [
-    | inl d ↦ m.kept (c * h + i) (g.has c i q b d)
-    | inr e ↦ m.has c i (rw g.places q) b (inl e)
+  has = λ c b q a i. elim (among_take_more k blocks b l i) [
+    | inl d ↦ m.kept (c * h + b) (g.has c b q a d)
+    | inr e ↦ m.has c b (rw g.places q) a (inl e)
   ];
   only = λ p a. elim (m.only p a) [
-    | inl b ↦ elim (g.only p b) [
+    | inl o ↦ elim (g.only p o) [
       | inl d ↦ inl d
-      | inr w ↦ inr (record { column = w.column; row = w.row; is = w.is; in_columns = w.in_columns; in_rows = among_take k rows w.row l w.in_rows })
+      | inr w ↦ inr (record { column = w.column; block = w.block; is = w.is; in_columns = w.in_columns; in_blocks = among_take k blocks w.block l w.in_blocks })
     ]
-    | inr w ↦ inr (record { column = w.column; row = w.row; is = w.is; in_columns = w.in_columns; in_rows = taken w.row w.in_rows })
+    | inr w ↦ inr (record { column = w.column; block = w.block; is = w.is; in_columns = w.in_columns; in_blocks = taken k blocks w.block l w.in_blocks })
   ];
 }
-  where
-    taken : (i : ℕ) → Among i (get_or rows k 0 ∷ []) → Among i (take (k + 1) rows)
-    taken i (inl e) = subst (λ (z : ℕ). Among z (take (k + 1) rows)) (sym e) (among_taken k rows l)
-    taken i (inr a) = absurd a
+
+-- a block that has its marks
+pub block_again : (h k : ℕ) (columns blocks : List ℕ) (old new : List Bool) → k < length blocks → Among (get_or blocks k 0) (take k blocks) → Grow h columns (take k blocks) old new → Grow h columns (take (k + 1) blocks) old new
+block_again h k columns blocks old new l again g = record {
+  places = g.places;
+  kept = g.kept;
+  has = λ c b q a i. g.has c b q a (elim (among_take_more k blocks b l i) [ inl d ↦ d | inr e ↦ subst (λ (z : ℕ). Among z (take k blocks)) (sym e) again ]);
+  only = λ p a. elim (g.only p a) [
+    | inl d ↦ inl d
+    | inr w ↦ inr (record { column = w.column; block = w.block; is = w.is; in_columns = w.in_columns; in_blocks = among_take k blocks w.block l w.in_blocks })
+  ];
+}
+
+-- a place before k
+among_before : (xs : List ℕ) (j k : ℕ) → j < k → k ≤ length xs → Among (get_or xs j 0) (take k xs)
+among_before [] j k l h = absurd (omega (arith, l, h))
+among_before (x ∷ xs) j zero l h = absurd (omega (arith, l))
+among_before (x ∷ xs) zero (suc k) l h = inl refl
+among_before (x ∷ xs) (suc j) (suc k) l h = inr (among_before xs j k (omega (arith, l)) (omega (arith, h)))
+
+-- the block of the row before
+pub same_as_last : (rows : List ℕ) (k : ℕ) → 0 < k → k < length rows → block_of (get_or rows (k - 1) 0) ≡ block_of (get_or rows k 0) → Among (block_of (get_or rows k 0)) (take k (map block_of rows))
+same_as_last rows k p h e = subst (λ (b : ℕ). Among b (take k (map block_of rows))) (get_or-map block_of rows (k - 1) 0 0 (omega (arith, h)) ∙ e)
+    (among_before (map block_of rows) (k - 1) k (omega (arith, p)) (rw (length-map rows block_of) (omega (arith, h))))
 
 -- Marks that are taken away
 
@@ -152,21 +162,21 @@ clears_more first k old mid o l h = record {
 }
 
 -- the column is cleared, and has one mark then
-pub one_kept : (h c i : ℕ) (old mid : List Bool) → c * h + h ≤ length old → i < h → Clears (c * h) (c * h + h) old mid → HasOne h c i old (slice_set mid (c * h + i) true)
-one_kept h c i old mid l b k =
+pub one_kept : (h c b : ℕ) (old mid : List Bool) → c * h + h ≤ length old → b < h → Clears (c * h) (c * h + h) old mid → HasOne h c b old (slice_set mid (c * h + b) true)
+one_kept h c b old mid l i k =
     let count = k.places in
     record {
-      places = length-set mid (c * h + i) true ∙ k.places;
-      here = get_or-set_same mid (c * h + i) true false (omega (arith, count, l, b));
-      alone = λ j q m. elim (only_marked mid (c * h + i) (c * h + j) m) [
+      places = length-set mid (c * h + b) true ∙ k.places;
+      here = get_or-set_same mid (c * h + b) true false (omega (arith, count, l, i));
+      alone = λ j q m. elim (only_marked mid (c * h + b) (c * h + j) m) [
         | inl w ↦ absurd (k.none (c * h + j) (omega arith) (omega (arith, q)) w)
         | inr e ↦ omega (arith, e)
       ];
-      others = λ p w. get_or-set_other mid (c * h + i) p true false (λ e. elim w [ inl q ↦ absurd (omega (arith, q, e)) | inr q ↦ absurd (omega (arith, q, e, b)) ]) ∙ k.others p w;
+      others = λ p w. get_or-set_other mid (c * h + b) p true false (λ e. elim w [ inl q ↦ absurd (omega (arith, q, e)) | inr q ↦ absurd (omega (arith, q, e, i)) ]) ∙ k.others p w;
     }
 
--- a row's columns
-listed : (c : ℕ) (es : Entries) → (at c es).num ≢ pos 0 → Among c (columns_of es)
+-- a number that is not 0 has its column among the row's
+pub listed : (c : ℕ) (es : Entries) → (at c es).num ≢ pos 0 → Among c (columns_of es)
 listed c [] n = absurd (n refl)
 listed c ((k, x) ∷ es) n = by (k == c) refl n (listed c es)
   where
@@ -174,25 +184,88 @@ listed c ((k, x) ∷ es) n = by (k == c) refl n (listed c es)
     by true e m f = inl (sym (eqb-true k c e))
     by false e m f = inr (f m)
 
--- the marks of n columns: each of the first k rows with a number in one of them is marked there
+-- the marks of n columns: each of the first k rows with a number in one of them is in a block that is marked there
 pub record CoverFirst (n k : ℕ) (rows : List Entries) (marks : List Bool) : Type 0 where
-  pub places : length marks ≡ n * length rows
-  pub all : (c i : ℕ) → c < n → i < k → (at c (entries_at rows i)).num ≢ pos 0 → IsMarked (length rows) marks c i
+  pub places : length marks ≡ n * blocks_of (length rows)
+  pub all : (c i : ℕ) → c < n → i < k → (at c (entries_at rows i)).num ≢ pos 0 → IsMarked (blocks_of (length rows)) marks c (block_of i)
 
-pub none_first : (n : ℕ) (rows : List Entries) (marks : List Bool) → length marks ≡ n * length rows → CoverFirst n 0 rows marks
+pub none_first : (n : ℕ) (rows : List Entries) (marks : List Bool) → length marks ≡ n * blocks_of (length rows) → CoverFirst n 0 rows marks
 none_first n rows marks e = record { places = e; all = λ c i l m z. absurd (omega (arith, m)) }
 
 -- one row more is covered
-pub covered_more : (n k : ℕ) (rows : List Entries) (d : Entries) (columns : List ℕ) (old new : List Bool) → k < length rows → d ≡ get_or rows k d → columns ≡ columns_of d → CoverFirst n k rows old → Grow (length rows) columns (k ∷ []) old new → CoverFirst n (k + 1) rows new
-covered_more n k rows d columns old new h e f o g = record {
-  places = g.places ∙ o.places;
-  all = λ c i l m z. elim (earlier_or_here i k m) [
-    | inl b ↦ g.kept (c * length rows + i) (o.all c i l b z)
-    | inr q ↦ g.has c i (let low = inside n (length rows) c i l (omega (arith, q, h)) in let count = o.places in omega (arith, low, count))
-        (subst (Among c) (sym f) (listed c d (subst (λ (es : Entries). (at c es).num ≢ pos 0) (ap (entries_at rows) q ∙ sym (row_is rows k d h e)) z))) (inl q)
-  ];
-}
+pub covered_more : (n k : ℕ) (rows : List Entries) (d : Entries) (old new : List Bool) → k < length rows → d ≡ get_or rows k d → CoverFirst n k rows old → Grow (blocks_of (length rows)) (columns_of d) (block_of k ∷ []) old new → CoverFirst n (k + 1) rows new
+covered_more n k rows d old new h e o g =
+    let height = blocks_of (length rows) in
+    record {
+      places = g.places ∙ o.places;
+      all = λ c i l m z. elim (earlier_or_here i k m) [
+        | inl b ↦ g.kept (c * height + block_of i) (o.all c i l b z)
+        | inr q ↦ g.has c (block_of i) (let low = inside n height c (block_of i) l (block_inside (length rows) i (omega (arith, q, h))) in let count = o.places in omega (arith, low, count))
+            (listed c d (subst (λ (es : Entries). (at c es).num ≢ pos 0) (ap (entries_at rows) q ∙ sym (row_is rows k d h e)) z)) (inl (ap block_of q))
+      ];
+    }
 
--- a row whose mark is read as false has none
-pub not_marked : (marks : List Bool) (p : ℕ) → get_or marks p false ≡ false → HasMark marks p → ⊥
-not_marked marks p f m = false≢true (sym f ∙ m)
+-- The rows with a number, of those up to a place
+
+module _ (s k : ℕ) (rows : List Entries) (inside : k ≤ length rows) where
+  front_read : (i : ℕ) → i < k → entries_at (take k rows) i ≡ entries_at rows i
+  front_read i h = get_or-take k rows i [] h
+
+  pub picked : (is : List ℕ) → AreTouching s (take k rows) is → Picked (λ i. i < k) (λ i. (at s (entries_at rows i)).num ≢ pos 0) is
+  picked is t =
+      let count : length (take k rows) ≡ k = length-take-le k rows inside in
+      record {
+        of = λ i a. let l = t.inside i a in omega (arith, l, count);
+        only = λ i a. rw (front_read i (let l = t.inside i a in omega (arith, l, count))) at (t.only i a);
+        all = λ i l n. t.all i (omega (arith, l, count)) (rw (front_read i l) n);
+        differ = t.differ;
+      }
+
+  pub picked_touching : (is : List ℕ) → Picked (λ i. i < k) (λ i. (at s (entries_at rows i)).num ≢ pos 0) is → AreTouching s (take k rows) is
+  picked_touching is p =
+      let count : length (take k rows) ≡ k = length-take-le k rows inside in
+      record {
+        inside = λ i a. let l = p.of i a in omega (arith, l, count);
+        only = λ i a. rw (front_read i (p.of i a)) (p.only i a);
+        all = λ i l n. let m : i < k = omega (arith, l, count) in p.all i m (rw (front_read i m) at n);
+        differ = p.differ;
+      }
+
+-- one row more, which has a number
+pub touching_more : (s k : ℕ) (rows : List Entries) (is new : List ℕ) → k < length rows → AreTouching s (take k rows) is → (at s (entries_at rows k)).num ≢ pos 0 → new ≡ is ++ k ∷ [] → AreTouching s (take (k + 1) rows) new
+touching_more s k rows is new l t n e = picked_touching s (k + 1) rows (omega (arith, l)) new
+    (picked_more (λ i. i < k) (λ i. i < k + 1) (λ i. (at s (entries_at rows i)).num ≢ pos 0) is k (picked s k rows (omega (arith, l)) is t) (λ i h. earlier_or_here i k h) (λ i h. omega (arith, h)) new (omega arith) (λ h. omega (arith, h)) n e)
+
+-- more rows, which have none
+pub touching_skips : (s k m : ℕ) (rows : List Entries) (is : List ℕ) → k ≤ m → k ≤ length rows → ((i : ℕ) → k ≤ i → i < m → i < length rows → (at s (entries_at rows i)).num ≢ pos 0 → ⊥) → AreTouching s (take k rows) is → AreTouching s (take m rows) is
+touching_skips s k m rows is o h none t =
+    let p = picked s k rows h is t in
+    let count : length (take m rows) ≡ min m (length rows) = length-take m rows in
+    record {
+      inside = λ i a. let l = p.of i a in omega (arith, l, count, o, h);
+      only = λ i a. rw (get_or-take m rows i [] (let l = p.of i a in omega (arith, l, o))) (p.only i a);
+      all = λ i l n. let q : i < m = omega (arith, l, count) in
+          let number = rw (get_or-take m rows i [] q) at n in
+          elim (earlier_or_not i k) [ inl b ↦ p.all i b number | inr b ↦ absurd (none i b q (omega (arith, l, count)) number) ];
+      differ = p.differ;
+    }
+  where
+    earlier_or_not : (i k : ℕ) → (i < k) ⊎ (k ≤ i)
+    earlier_or_not i k = grind arith
+
+-- more rows, of a block without a mark
+pub block_skipped : (s b : ℕ) (rows : List Entries) (marks : List Bool) (is : List ℕ) → b < blocks_of (length rows) → IsCovered s rows marks → get_or marks (s * blocks_of (length rows) + b) false ≡ false → AreTouching s (take (b * BLOCK) rows) is → AreTouching s (take ((b + 1) * BLOCK) rows) is
+block_skipped s b rows marks is h cover none = touching_skips s (b * BLOCK) ((b + 1) * BLOCK) rows is (omega arith) (omega (arith, h)) (λ i low high l n.
+    let same : block_of i ≡ b = omega (arith, low, high) in
+    false≢true (sym none ∙ subst (λ (j : ℕ). IsMarked (blocks_of (length rows)) marks s j) same (cover i l n)))
+
+-- the sign of a number, compared with that of 0
+pub is_not_none : (z : ℤ) (o : Ordering) → o ≡ int_cmp z (pos 0) → not (ordering_index o == 1) ≡ true → z ≢ pos 0
+is_not_none z Less e t = let l = int_ranked z (pos 0) Less e in λ q. omega (arith, ints, l, q)
+is_not_none z Equal e t = absurd (false≢true t)
+is_not_none z Greater e t = let l = int_ranked z (pos 0) Greater e in λ q. omega (arith, ints, l, q)
+
+pub is_none : (z : ℤ) (o : Ordering) → o ≡ int_cmp z (pos 0) → not (ordering_index o == 1) ≡ false → z ≡ pos 0
+is_none z Less e t = absurd (false≢true (sym t))
+is_none z Equal e t = int_ranked z (pos 0) Equal e
+is_none z Greater e t = absurd (false≢true (sym t))

@@ -1,39 +1,43 @@
 -- A row that is made column by column.
-use Rattle.std.proofs.Common.{◌*ℤ◌, ◌≡◌, ◌≢◌, refl, sym, ap, subst, ◌∙◌, ℕ, zero, suc, ◌+◌, ◌-◌, ◌<◌, ◌≤◌, ◌==◌, false, ℤ, pos, arith, List, [], ◌∷◌, ◌++◌, length, map, get_or, set, slice_set, take, Result, Ok, Err, OnOk, IsErrAnd, ◌⊎◌, inl, inr}
+use Rattle.std.proofs.Common.{◌*ℤ◌, ◌≡◌, ◌≢◌, refl, sym, ap, subst, ◌∙◌, ℕ, zero, suc, ◌+◌, ◌-◌, ◌<◌, ◌≤◌, ◌==◌, false, ℤ, pos, arith, List, [], ◌∷◌, ◌++◌, length, map, get_or, slice_set, take, Result, Ok, Err, OnOk, IsErrAnd, ◌⊎◌, inl, inr}
 use Rattle.frac128.specs.declared.Frac.{Frac}
-use Rattle.frac128.specs.Values.{numerator, denominator}
 use Rattle.frac128.specs.Nought.{nought}
+use Rattle.frac128.specs.Values.{numerator, denominator}
 use Rattle.simplex_rows.specs.Entries.{Entries, at, EndsBefore}
+use Rattle.simplex_rows.specs.Sweeping.{AddsWhole}
 use Rattle.linear_rows.specs.Terms.{Terms, SparseRow, coefficient, unknown_at, number_at, IsSparse}
 use Rattle.linear_rows.proofs.Places.{coefficient_at as coefficient_of}
 use Rattle.simplex_spec.specs.Places as places
 use Rattle.std.proofs.lemmas.Bool.Decides.{nat_tests}
 use Rattle.linear_rows.specs.Systems.{LinearSystem, AllBelow}
-use Rattle.std.proofs.lemmas.List.{take_all}
 use lib.ListN.{length-append}
 use Rattle.simplex_spec.specs.Tableaux.{right, opening_row, opening, entry}
 use Rattle.simplex_spec.specs.Refusals.{least_number}
 use Rattle.simplex_spec.proofs.Opening.{coefficients, at_slack, at_right, only_here, only_there, at-front, length-map, length-opening_row, length-opened, row_opened, value_at_slack}
 use Rattle.simplex.specs.Standing.{Stands, RowStands, RowsStand, entries_at}
 use Rattle.simplex.proofs.Steps.{entry_in, entry_last}
+use Rattle.simplex.proofs.Lifting.{stands_with}
 use Rattle.simplex.proofs.Rows.{value_of}
 use Rattle.simplex.proofs.Sweeping.{here, there, length-slice_set}
-use Rattle.simplex.specs.Opening.{AddsWhole, OpensTo, OpeningLeaves, AreEmpty, AddsInRow, AddsColumn, ColumnsOpen}
+use Rattle.simplex.specs.Opening.{OpensTo, OpeningLeaves, AreEmpty, AddsInRow, AddsColumn, ColumnsOpen}
 use Rattle.simplex_spec.proofs.Pivoting.{same_or_not}
-use Rattle.simplex.specs.Dense.{dense}
-use Rattle.simplex.specs.Reading.{frac_at, HaveParts}
-use Rattle.simplex.proofs.Gains.{at_dense, past}
-use Rattle.simplex.proofs.Listing.{length-set, set_here, set_there}
 use Rattle.simplex.proofs.Rows.{earlier_or_here}
 
 whole_stands : (x : Frac) (n : ℤ) → x.num ≡ n → x.den ≡ 1 → Stands (pos 1) n x
 whole_stands x n e f = let is : x.num *ℤ pos 1 ≡ n *ℤ pos x.den = rw (e, f) refl in record { is = is }
 
+-- what AddsWhole tells of the other columns
+other_parts : {c : ℕ} {n : ℤ} {old new : Entries} → AddsWhole c n old new → (k : ℕ) → k ≢ c → (numerator (at k new) ≡ numerator (at k old)) × (denominator (at k new) ≡ denominator (at k old))
+other_parts a k n = a.others k n
+
+stands_still : {c : ℕ} {n m : ℤ} {old new : Entries} → AddsWhole c n old new → (k : ℕ) → k ≢ c → Stands (pos 1) m (at k old) → Stands (pos 1) m (at k new)
+stands_still {m = m} {old = old} {new = new} a k q h = let e = other_parts a k q in stands_with (pos 1) m (at k old) (at k new) e.0 e.1 h
+
 pub opens_more : (j : ℕ) (n : ℤ) (ns : List ℤ) (es new : Entries) → OpensTo j ns es → AddsWhole j n es new → n ≡ places.at ns j → EndsBefore (j + 1) new → OpensTo (j + 1) ns new
 opens_more j n ns es new o a e b = record {
   before = b;
   each = λ c h. elim (earlier_or_here c j h) [
-    | inl l ↦ subst (Stands (pos 1) (places.at ns c)) (sym (a.others c (λ q. omega arith))) (o.each c l)
+    | inl l ↦ stands_still a c (λ q. omega arith) (o.each c l)
     | inr q ↦ subst (λ (z : ℕ). Stands (pos 1) (places.at ns z) (at z new)) (sym q) (whole_stands (at j new) (places.at ns j) (a.num ∙ e) a.den)
   ];
 }
@@ -51,6 +55,12 @@ none_from c k (d ∷ es) e h =
     let t : (d.0 == k) ≡ false = grind (arith, nat_tests) in
     rw t (none_from c k es e.1 h)
 
+-- a row has no number past its end
+past : (xs : List ℤ) (c : ℕ) → length xs ≤ c → places.at xs c ≡ pos 0
+past [] c h = refl
+past (x ∷ xs) zero h = absurd (omega arith)
+past (x ∷ xs) (suc c) h = past xs c (omega arith)
+
 front_or_back : (c n : ℕ) → (c < n) ⊎ ((i : ℕ) × (c ≡ n + i))
 front_or_back c n = elim (there c n) [ inl h ↦ inl h | inr h ↦ inr (c - n, omega arith) ]
   where
@@ -59,8 +69,8 @@ front_or_back c n = elim (there c n) [ inl h ↦ inl h | inr h ↦ inr (c - n, o
 
 module _ (s : LinearSystem) (i : ℕ) (inside : i < s.unknowns) (es one new : Entries)
     (o : OpensTo (length s.rows) (coefficients s i) es) (a : AddsWhole (length s.rows + i) (pos 1) es one) (b : AddsWhole (right s) (places.at s.weights i) one new) where
-  unchanged : (c : ℕ) → c ≢ length s.rows + i → c ≢ right s → at c new ≡ at c es
-  unchanged c n m = b.others c m ∙ a.others c n
+  unchanged : (c : ℕ) → c ≢ length s.rows + i → c ≢ right s → Stands (pos 1) (places.at (opening_row s i) c) (at c es) → Stands (pos 1) (places.at (opening_row s i) c) (at c new)
+  unchanged c n m h = stands_still b c m (stands_still a c n h)
 
   -- a place of the opening row that is 0
   no_slack : (k : ℕ) → k ≢ i → k ≢ s.unknowns → places.at (opening_row s i) (length s.rows + k) ≡ pos 0
@@ -78,12 +88,12 @@ module _ (s : LinearSystem) (i : ℕ) (inside : i < s.unknowns) (es one new : En
       | inl e ↦ subst (λ (z : ℕ). Stands (pos 1) (places.at (opening_row s i) z) (at z new)) (sym e) (whole_stands (at (right s) new) (places.at (opening_row s i) (right s)) (b.num ∙ sym (at_right s i)) b.den)
       | inr m ↦ elim (same_or_not c (length s.rows + i)) [
         | inl e ↦ subst (λ (z : ℕ). Stands (pos 1) (places.at (opening_row s i) z) (at z new)) (sym e)
-            (whole_stands (at (length s.rows + i) new) (places.at (opening_row s i) (length s.rows + i)) (ap (λ (x : Frac). x.num) (b.others (length s.rows + i) (λ q. omega arith)) ∙ a.num ∙ sym (at_slack s i i inside ∙ only_here s.unknowns i (pos 1) inside))
-            (ap (λ (x : Frac). x.den) (b.others (length s.rows + i) (λ q. omega arith)) ∙ a.den))
+            (stands_still b (length s.rows + i) (λ q. omega arith)
+            (whole_stands (at (length s.rows + i) one) (places.at (opening_row s i) (length s.rows + i)) (a.num ∙ sym (at_slack s i i inside ∙ only_here s.unknowns i (pos 1) inside)) a.den))
         | inr n ↦ elim (front_or_back c (length s.rows)) [
-          | inl h ↦ subst (Stands (pos 1) (places.at (opening_row s i) c)) (sym (unchanged c n m)) (subst (λ (z : ℤ). Stands (pos 1) z (at c es)) (sym (at-front (coefficients s i) _ c (let l = length-map (λ (row : SparseRow). coefficient i row.terms) s.rows in omega arith))) (o.each c h))
-          | inr h ↦ subst (Stands (pos 1) (places.at (opening_row s i) c)) (sym (unchanged c n m ∙ none_from (length s.rows) c es o.before (let e = h.1 in omega arith)))
-              (subst (λ (z : ℤ). Stands (pos 1) z nought) (sym (ap (places.at (opening_row s i)) h.1 ∙ no_slack h.0 (λ e. n (h.1 ∙ ap (λ (z : ℕ). length s.rows + z) e)) (λ e. m (h.1 ∙ ap (λ (z : ℕ). length s.rows + z) e)))) nought_stands)
+          | inl h ↦ unchanged c n m (subst (λ (z : ℤ). Stands (pos 1) z (at c es)) (sym (at-front (coefficients s i) _ c (let l = length-map (λ (row : SparseRow). coefficient i row.terms) s.rows in omega arith))) (o.each c h))
+          | inr h ↦ unchanged c n m (subst (Stands (pos 1) (places.at (opening_row s i) c)) (sym (none_from (length s.rows) c es o.before (let e = h.1 in omega arith)))
+              (subst (λ (z : ℤ). Stands (pos 1) z nought) (sym (ap (places.at (opening_row s i)) h.1 ∙ no_slack h.0 (λ e. n (h.1 ∙ ap (λ (z : ℕ). length s.rows + z) e)) (λ e. m (h.1 ∙ ap (λ (z : ℕ). length s.rows + z) e)))) nought_stands))
         ]
       ]
     ];
@@ -154,7 +164,7 @@ no_number : (c : ℕ) (es : Entries) → EndsBefore c es → AddsWhole c (pos 0)
 no_number c es h = let e = none_from c c es h (omega arith) in record {
   num = ap (λ (x : Frac). x.num) e;
   den = ap (λ (x : Frac). x.den) e;
-  others = λ k n. refl;
+  others = λ k n. (refl, refl);
 }
 
 pub no_term : (c : ℕ) (rows : List Entries) → ((i : ℕ) → i < length rows → EndsBefore c (entries_at rows i)) → AddsColumn c [] rows rows
@@ -265,41 +275,17 @@ row_leaves s i j c h e o = ap (λ (z : ℕ). entry (opening s) z c) e ∙ entry_
 pub gains_leave : (s : LinearSystem) (i c : ℕ) → i ≡ s.unknowns → c < length s.rows → OpeningLeaves (map (λ row. row.right) s.rows) c → entry (opening s) i c ≡ least_number
 gains_leave s i c e h o = entry_last (opening s) i c (e ∙ sym (length-opened s)) ∙ at-front (map (λ (row : SparseRow). row.right) s.rows) _ c (let l = length-map (λ (row : SparseRow). row.right) s.rows in omega arith) ∙ o.is
 
--- one right side more
+-- the right sides
 pub at_take : (xs : List ℤ) (n i : ℕ) → i < n → places.at (take n xs) i ≡ places.at xs i
 at_take xs zero i h = absurd (omega arith)
 at_take [] (suc n) i h = refl
 at_take (x ∷ xs) (suc n) zero h = refl
 at_take (x ∷ xs) (suc n) (suc i) h = at_take xs n i (omega arith)
 
-at_take_other : (xs : List ℤ) (j i : ℕ) → i ≢ j → places.at (take (suc j) xs) i ≡ places.at (take j xs) i
-at_take_other [] zero i n = refl
-at_take_other [] (suc j) i n = refl
-at_take_other (x ∷ xs) zero zero n = absurd (n refl)
-at_take_other (x ∷ xs) zero (suc i) n = refl
-at_take_other (x ∷ xs) (suc j) zero n = refl
-at_take_other (x ∷ xs) (suc j) (suc i) n = at_take_other xs j i (λ e. n (ap suc e))
-
-pub rights_more : (n j : ℕ) (ns : List ℤ) (xs : List Frac) (x : Frac) → j < length xs → numerator x ≡ places.at ns j → denominator x ≡ 1 → HaveParts n (λ c. places.at (take j ns) c) (λ _. 1) xs → HaveParts n (λ c. places.at (take (j + 1) ns) c) (λ _. 1) (set xs j x)
-rights_more n j ns xs x low num den h = subst (λ (k : ℕ). HaveParts n (λ c. places.at (take k ns) c) (λ _. 1) (set xs j x)) (let e : suc j ≡ j + 1 = omega arith in e) (record {
-  count = length-set xs j x ∙ h.count;
-  nums = λ i q. elim (same_or_not i j) [
-    | inl e ↦ ap numerator (ap (frac_at (set xs j x)) e ∙ set_here xs j x low) ∙ num ∙ sym (ap (places.at (take (suc j) ns)) e ∙ at_take ns (suc j) j (omega arith))
-    | inr d ↦ ap numerator (set_there xs j i x d) ∙ h.nums i q ∙ sym (at_take_other ns j i d)
-  ];
-  dens = λ i q. elim (same_or_not i j) [
-    | inl e ↦ ap denominator (ap (frac_at (set xs j x)) e ∙ set_here xs j x low) ∙ den
-    | inr d ↦ ap denominator (set_there xs j i x d) ∙ h.dens i q
-  ];
-})
-
 pub right_at : (rows : List SparseRow) (j : ℕ) (d : SparseRow) → j < length rows → d ≡ get_or rows j d → d.right ≡ places.at (map (λ row. row.right) rows) j
 right_at [] j d h e = absurd (omega arith)
 right_at (r ∷ rows) zero d h e = ap (λ (row : SparseRow). row.right) e
 right_at (r ∷ rows) (suc j) d h e = right_at rows j d (omega arith) e
-
-pub all_rights : (n j : ℕ) (ns : List ℤ) (xs : List Frac) → length ns ≤ j → HaveParts n (λ c. places.at (take j ns) c) (λ _. 1) xs → HaveParts n (λ c. places.at ns c) (λ _. 1) xs
-all_rights n j ns xs h p = subst (λ (ms : List ℤ). HaveParts n (λ c. places.at ms c) (λ _. 1) xs) (take_all j ns h) p
 
 -- the gains after the right sides are 0
 gains_at : (s : LinearSystem) (c : ℕ) → places.at (opening s).gains c ≡ places.at (map (λ row. row.right) s.rows) c
@@ -310,19 +296,16 @@ gains_at s c =
       | inr h ↦ ap (places.at (opening s).gains) h.1 ∙ value_at_slack s h.0 ∙ sym (past (map (λ (row : SparseRow). row.right) s.rows) c (let e = h.1 in omega arith))
     ]
 
-fraction_past : (xs : List Frac) (c : ℕ) → length xs ≤ c → frac_at xs c ≡ nought
-fraction_past [] c h = refl
-fraction_past (x ∷ xs) zero h = absurd (omega arith)
-fraction_past (x ∷ xs) (suc c) h = fraction_past xs c (omega arith)
+pub no_right_sides : (ns : List ℤ) (es : Entries) → es ≡ [] → OpensTo 0 ns es
+no_right_sides ns es e = subst (OpensTo 0 ns) (sym e) (record { before = tt; each = λ c l. absurd (omega arith) })
 
-pub gains_open : (s : LinearSystem) (n : ℕ) (xs : List Frac) → length s.rows ≤ n → HaveParts n (λ c. places.at (map (λ row. row.right) s.rows) c) (λ _. 1) xs → RowStands (pos 1) (opening s).gains (dense xs)
-gains_open s n xs wide h = record {
-  each = λ c. rw (at_dense c xs, gains_at s c) (elim (front_or_back c n) [
-    | inl l ↦ whole_stands (frac_at xs c) (places.at (map (λ row. row.right) s.rows) c) (h.nums c l) (h.dens c l)
+pub gains_open : (s : LinearSystem) (es : Entries) → OpensTo (length s.rows) (map (λ row. row.right) s.rows) es → RowStands (pos 1) (opening s).gains es
+gains_open s es o = record {
+  each = λ c. rw (gains_at s c) (elim (front_or_back c (length s.rows)) [
+    | inl l ↦ o.each c l
     | inr g ↦
         let long = length-map (λ (row : SparseRow). row.right) s.rows in
-        let count = h.count in
         let e = g.1 in
-        rw (fraction_past xs c (omega arith), past (map (λ row. row.right) s.rows) c (omega arith)) (record { is = refl })
+        rw (none_from (length s.rows) c es o.before (omega arith), past (map (λ row. row.right) s.rows) c (omega arith)) (record { is = refl })
   ]);
 }

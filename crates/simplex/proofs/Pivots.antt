@@ -3,6 +3,7 @@ use Rattle.std.proofs.Common.{◌≡◌, refl, sym, subst, ◌∙◌, ℕ, ◌<�
 use Rattle.frac128.specs.declared.Frac.{Frac}
 use Rattle.frac128.specs.Values.{IsQuotient}
 use Rattle.simplex_rows.specs.Entries.{Entries, at}
+use Rattle.simplex_rows.specs.Sweeping.{IsSwept}
 use Rattle.simplex_spec.specs.Places as places
 use Rattle.simplex_spec.specs.Places.{row_at, swept}
 use Rattle.simplex_spec.specs.Tableaux.{Tableau, pivot, sweep}
@@ -12,7 +13,7 @@ use Rattle.simplex_spec.proofs.Ending.{Good}
 use Rattle.simplex_spec.proofs.Opening.{width}
 use Rattle.linear_rows.specs.Systems.{LinearSystem}
 use Rattle.linear_rows.specs.Vectors.{scale}
-use Rattle.simplex.specs.Standing.{Stands, RowStands, RowsStand, IsSwept, RowsSwept, entries_at}
+use Rattle.simplex.specs.Standing.{Stands, RowStands, RowsStand, RowsSwept, entries_at}
 use Rattle.simplex.proofs.Lifting.{quotient_stands, lead_stands, less_stands}
 
 -- a number under another name

@@ -1,6 +1,10 @@
 -- Rows by their numbers, and lists of these.
-use Rattle.std.proofs.Common.{◌≡◌, ◌≢◌, refl, sym, ap, subst, ◌∙◌, ℕ, zero, suc, ◌+◌, ◌<◌, ◌≤◌, ℤ, pos, ◌<ℤ◌, ◌≤ℤ◌, arith, List, [], ◌∷◌, ◌++◌, length, get_or, take, ◌⊎◌, inl, inr}
+use Rattle.std.proofs.Common.{◌≡◌, refl, sym, ap, subst, ◌∙◌, ℕ, zero, suc, ◌+◌, ◌<◌, ◌≤◌, ℤ, pos, ◌<ℤ◌, ◌≤ℤ◌, arith, List, [], ◌∷◌, ◌++◌, length, get_or, take, true, false, ◌==◌, ◌⊎◌, inl, inr}
 use Rattle.std.proofs.lemmas.Int.{ints}
+use Rattle.std.proofs.lemmas.Cmp.{int_ranked}
+use Rattle.std.specs.Ordering.{MatchOrdering, int_cmp, ordering_index}
+use Rattle.std.specs.declared.cmp.Ordering.{Ordering}
+use Rattle.std.specs.declared.cmp.Ordering.TheVariants.{Less, Equal, Greater}
 use Rattle.simplex_rows.specs.Entries.{Entries, at}
 use Rattle.simplex.specs.Among.{Among, AllDiffer}
 use Rattle.simplex.specs.Standing.{entries_at, AreTouching}
@@ -114,9 +118,6 @@ module _ (Q R P : ℕ → Type 0) (is : List ℕ) (x : ℕ) (picked : Picked Q P
     differ = picked.differ;
   }
 
-pub touching_all : (k s : ℕ) (rows : List Entries) (is : List ℕ) → length rows ≤ k → k ≤ length rows → Picked (λ i. i < k) (λ i. (at s (entries_at rows i)).num ≢ pos 0) is → AreTouching s rows is
-touching_all k s rows is h g p = record { inside = λ i a. let l = p.of i a in omega arith; only = p.only; all = λ i l n. p.all i (omega arith) n; differ = p.differ }
-
 pub is_bounding : (s : ℕ) (rows : List Entries) (k : ℕ) (n : ℤ) → k < length rows → n ≡ (at s (entries_at rows k)).num → pos 0 <ℤ n → IsBounding s rows k
 is_bounding s rows k n h e p = record { inside = h; positive = subst (λ (z : ℤ). pos 0 <ℤ z) e p }
 
@@ -129,6 +130,23 @@ bounding_all k s rows touching is h t p = record {
   all = λ i b. p.all i (subst (Among i) (sym (take_whole k touching h)) (t.all i b.inside (λ e. let q = b.positive in omega (arith, ints)))) b;
   differ = p.differ;
 }
+
+-- what the sign of a number tells
+pub greater : (n : ℤ) (r : Ordering) → r ≡ int_cmp n (pos 0) → true ≡ (ordering_index r == 2) → pos 0 <ℤ n
+greater n r e t = by_rank n r (int_ranked n (pos 0) r e) t
+  where
+    by_rank : (n : ℤ) (r : Ordering) → MatchOrdering r (n <ℤ pos 0) (n ≡ pos 0) (pos 0 <ℤ n) → true ≡ (ordering_index r == 2) → pos 0 <ℤ n
+    by_rank n Less h t = absurd (cc)
+    by_rank n Equal h t = absurd (cc)
+    by_rank n Greater h t = h
+
+pub not_greater : (n : ℤ) (r : Ordering) → r ≡ int_cmp n (pos 0) → false ≡ (ordering_index r == 2) → n ≤ℤ pos 0
+not_greater n r e t = by_rank n r (int_ranked n (pos 0) r e) t
+  where
+    by_rank : (n : ℤ) (r : Ordering) → MatchOrdering r (n <ℤ pos 0) (n ≡ pos 0) (pos 0 <ℤ n) → false ≡ (ordering_index r == 2) → n ≤ℤ pos 0
+    by_rank n Less h t = omega (arith, ints)
+    by_rank n Equal h t = omega (arith, ints)
+    by_rank n Greater h t = absurd (cc)
 
 -- the number that was read at a place
 pub number_read : (s : ℕ) (rows : List Entries) (k : ℕ) (d : Entries) (n : ℤ) → k < length rows → d ≡ get_or rows k d → n ≡ (at s d).num → n ≡ (at s (entries_at rows k)).num

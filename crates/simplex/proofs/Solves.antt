@@ -3,33 +3,29 @@ use Rattle.std.proofs.Common.{◌≡◌, ◌≢◌, refl, sym, ap, subst, ◌∙
 use Rattle.std.proofs.lemmas.Int.{ints, unsigned_abs-mul}
 use Rattle.std.specs.declared.alloc.AllocError.{AllocError}
 use Rattle.frac128.specs.declared.Frac.{Frac}
-use Rattle.frac128.specs.Values.{numerator, denominator}
 use Rattle.frac128.specs.Nought.{nought}
 use Rattle.simplex_rows.specs.Entries.{Entries, at}
 use Rattle.linear_rows.specs.Systems.{LinearSystem, IsSystem}
-use Rattle.linear_rows.specs.Terms.{SparseRow}
 use Rattle.simplex_spec.specs.Places.{row_at}
 use Rattle.simplex_spec.specs.Places as places
 use Rattle.simplex_spec.specs.Tableaux.{Tableau, right, opening, pivot, entry, compared}
 use Rattle.simplex_spec.specs.Refusals.{least_number, Refused, InSearch, InExitingRow, InProduct, InDifference}
 use Rattle.simplex_spec.specs.Courses.{Rule, Enters, Leads, Course, Ends, Rises, Follows, FollowsFrom, Answers, Refuses, AtPivot}
-use Rattle.simplex_spec.proofs.Opening.{length-opened, width}
+use Rattle.simplex_spec.proofs.Opening.{length-opened}
 use Rattle.simplex_spec.proofs.Ending.{Good, good_course}
-use Rattle.simplex_spec.proofs.Rows.{wide_at}
 use Rattle.simplex_spec.proofs.Agreeing.{course_ends}
 use Rattle.simplex.specs.Standing.{Stands, RowStands, RowsStand, IsPivoted, PivotLeaves, entries_at}
 use Rattle.simplex.specs.Ties.{IsBounding, IsExiting, SearchLeaves}
 use Rattle.simplex.specs.Choosing.{Chooses}
-use Rattle.simplex.specs.Reading.{AreOver, HaveParts, frac_at}
+use Rattle.simplex.specs.Reading.{AreOver, AreOf, frac_at}
 use Rattle.simplex.specs.declared.fault.Fault.{Fault}
-use Rattle.simplex.specs.Dense.{dense}
 use Rattle.simplex.specs.declared.table.Table.{Table}
 use Rattle.simplex.specs.declared.solver.Step.{Step}
 use Rattle.simplex.specs.declared.solver.Step.TheVariants as step
-use Rattle.simplex.specs.Solving.{rule_over, IsAfter, Reached, ReachedEnd, ReachedRise, IsStep}
+use Rattle.simplex.specs.Solving.{rule_over, IsAfter, Reached, ReachedEnd, ReachedRise, IsStep, IsCut, Below}
 use lib.ListN.{length-append}
 use Rattle.simplex.proofs.Narrowing.{same_sign, sign_back}
-use Rattle.simplex.proofs.Gains.{part_seen, ends_within}
+use Rattle.simplex.proofs.Lifting.{stands_with}
 use Rattle.simplex.proofs.Opens.{at_take}
 use Rattle.simplex.proofs.Steps.{entry_in, entry_last, steps, pivot_faults, search_faults}
 
@@ -91,25 +87,21 @@ length-take xs zero h = refl
 length-take [] (suc n) h = absurd (omega arith)
 length-take (x ∷ xs) (suc n) h = ap suc (length-take xs n (omega arith))
 
-pub stands_with : (d n : ℤ) (x y : Frac) → numerator y ≡ numerator x → denominator y ≡ denominator x → Stands d n x → Stands d n y
-stands_with d n x y e f s = let is : y.num *ℤ d ≡ n *ℤ pos y.den = rw (e, f) s.is in record { is = is }
-
 module _ (s : LinearSystem) (system : IsSystem s) (pivots : List (ℕ × ℕ)) (basis : List ℕ) (rows : List Entries) (gains : Entries) (t : Tableau) (after : IsAfter s pivots basis rows gains t) where
   good : Good s t
   good = good_course s pivots t system after.course
 
-  pub gains_seen : (fs : List Frac) → HaveParts (right s) (λ i. numerator (at (0 + i) gains)) (λ i. denominator (at (0 + i) gains)) fs → AreOver t.over (take (right s) t.gains) fs
+  pub gains_seen : (fs : List Frac) → AreOf (right s) gains fs → AreOver t.over (take (right s) t.gains) fs
   gains_seen fs h =
       let long : length (take (right s) t.gains) ≡ right s = length-take t.gains (right s) (let w = good.sound.gains_wide in omega arith) in
       record {
         count = h.count ∙ sym long;
         each = λ i q. let q' : i < right s = omega arith in
-            let z : 0 + i ≡ i = omega arith in
             subst (λ (n : ℤ). Stands t.over n (frac_at fs i)) (sym (at_take t.gains (right s) i q'))
-            (stands_with t.over (places.at t.gains i) (at i gains) (frac_at fs i) (h.nums i q' ∙ ap (λ (k : ℕ). numerator (at k gains)) z) (h.dens i q' ∙ ap (λ (k : ℕ). denominator (at k gains)) z) (after.stand.gains_stand.each i));
+            (stands_with t.over (places.at t.gains i) (at i gains) (frac_at fs i) (h.nums i q') (h.dens i q') (after.stand.gains_stand.each i));
       }
 
-  module _ (answers : List Frac → Option ℕ → Type 0) (chooses : Chooses answers) (fs : List Frac) (h : HaveParts (right s) (λ i. numerator (at (0 + i) gains)) (λ i. denominator (at (0 + i) gains)) fs) where
+  module _ (answers : List Frac → Option ℕ → Type 0) (chooses : Chooses answers) (fs : List Frac) (h : AreOf (right s) gains fs) where
     pub answers_so : (c : ℕ) → answers fs (Some c) → Answers (rule_over answers) s t c
     answers_so c a = (fs, gains_seen fs h, a)
 
@@ -117,16 +109,14 @@ module _ (s : LinearSystem) (system : IsSystem s) (pivots : List (ℕ × ℕ)) (
     enters_so c a =
         let k = chooses.some fs c a in
         let b : c < right s = (let n = h.count in let m = k.0 in omega arith) in
-        let z : 0 + c ≡ c = omega arith in
-        let p : pos 0 <ℤ (at c gains).num = subst (λ (v : ℤ). pos 0 <ℤ v) (h.nums c b ∙ ap (λ (j : ℕ). numerator (at j gains)) z) k.1 in
+        let p : pos 0 <ℤ (at c gains).num = subst (λ (v : ℤ). pos 0 <ℤ v) (h.nums c b) k.1 in
         record { before = b; gain = same_sign (at c gains).num t.over (places.at t.gains c) (at c gains).den good.sound.positive (after.stand.gains_stand.each c).is (at c gains).lowest.positive p }
 
     pub ends_so : answers fs None → Ends s pivots t
     ends_so a = record {
       course = after.course;
       none = λ c b.
-          let z : 0 + c ≡ c = omega arith in
-          let k : (at c gains).num ≤ℤ pos 0 = subst (λ (v : ℤ). v ≤ℤ pos 0) (h.nums c b ∙ ap (λ (j : ℕ). numerator (at j gains)) z) (chooses.none fs a c (let n = h.count in omega arith)) in
+          let k : (at c gains).num ≤ℤ pos 0 = subst (λ (v : ℤ). v ≤ℤ pos 0) (h.nums c b) (chooses.none fs a c (let n = h.count in omega arith)) in
           not_positive (places.at t.gains c) (λ p. let q : pos 0 <ℤ (at c gains).num = sign_back (at c gains).num t.over (places.at t.gains c) (at c gains).den good.sound.positive (after.stand.gains_stand.each c).is (at c gains).lowest.positive p in omega (arith, ints));
     }
       where
@@ -168,37 +158,38 @@ module _ (s : LinearSystem) (system : IsSystem s) (pivots : List (ℕ × ℕ)) (
 
 -- what comes of a step
 module _ (answers : List Frac → Option ℕ → Type 0) (chooses : Chooses answers) (s : LinearSystem) (system : IsSystem s) (table : Table) (r : Reached (rule_over answers) s table)
-    (fs : List Frac) (h : HaveParts (right s) (λ i. numerator (at (0 + i) (dense table.gains.items))) (λ i. denominator (at (0 + i) (dense table.gains.items))) fs) where
+    (fs : List Frac) (h : AreOf (right s) table.gains fs) where
   pub reaches_end : answers fs None → ReachedEnd (rule_over answers) s table
-  reaches_end a = record { reached = r; ends = ends_so s system table.pivots.items table.basis.items table.rows.items (dense table.gains.items) r.t r.after answers chooses fs h a }
+  reaches_end a = record { reached = r; ends = ends_so s system table.pivots.items table.basis.items table.rows.items table.gains r.t r.after answers chooses fs h a }
 
   module _ (c : ℕ) (a : answers fs (Some c)) where
     enters : Enters s r.t c
-    enters = enters_so s system table.pivots.items table.basis.items table.rows.items (dense table.gains.items) r.t r.after answers chooses fs h c a
+    enters = enters_so s system table.pivots.items table.basis.items table.rows.items table.gains r.t r.after answers chooses fs h c a
 
     by_rule : Answers (rule_over answers) s r.t c
-    by_rule = answers_so s system table.pivots.items table.basis.items table.rows.items (dense table.gains.items) r.t r.after answers chooses fs h c a
+    by_rule = answers_so s system table.pivots.items table.basis.items table.rows.items table.gains r.t r.after answers chooses fs h c a
+
+    pub is_cut : (m : ℕ) → length table.pivots.items ≡ m → IsCut (rule_over answers) s m table.pivots.items
+    is_cut m e = record { t = r.t; column = c; course = r.after.course; follows = r.follows; count = e; enters = enters; answers = by_rule }
 
     pub reaches_rise : ((i : ℕ) → IsBounding c table.rows.items i → ⊥) → ReachedRise (rule_over answers) s table c
-    reaches_rise none = record { reached = r; rises = rises_so s system table.pivots.items table.basis.items table.rows.items (dense table.gains.items) r.t r.after c enters none; answers = by_rule }
+    reaches_rise none = record { reached = r; rises = rises_so s system table.pivots.items table.basis.items table.rows.items table.gains r.t r.after c enters none; answers = by_rule }
 
     pub search_refuses : (i k : ℕ) → SearchLeaves (compared s) c table.rows.items i k → Refuses (rule_over answers) s table.pivots.items i k × (i ≤ s.unknowns)
     search_refuses i k w =
-        let q = search_refused s system table.pivots.items table.basis.items table.rows.items (dense table.gains.items) r.t r.after c i k w in
+        let q = search_refused s system table.pivots.items table.basis.items table.rows.items table.gains r.t r.after c i k w in
         (AtPivot r.t c r.after.course r.follows enters by_rule q.0, q.1)
 
-    pub pivot_refuses : (l i k : ℕ) → IsExiting (compared s) c table.rows.items l → PivotLeaves l c table.rows.items (dense table.gains.items) i k → Refuses (rule_over answers) s table.pivots.items i k × (i ≤ s.unknowns)
+    pub pivot_refuses : (l i k : ℕ) → IsExiting (compared s) c table.rows.items l → PivotLeaves l c table.rows.items table.gains i k → Refuses (rule_over answers) s table.pivots.items i k × (i ≤ s.unknowns)
     pivot_refuses l i k leaving w =
-        let q = pivot_refused_at s system table.pivots.items table.basis.items table.rows.items (dense table.gains.items) r.t r.after c l i k leaving w in
+        let q = pivot_refused_at s system table.pivots.items table.basis.items table.rows.items table.gains r.t r.after c l i k leaving w in
         (AtPivot r.t c r.after.course r.follows enters by_rule q.0, q.1)
 
-    pub pivot_reaches : (l : ℕ) (new : Table) → IsExiting (compared s) c table.rows.items l → IsPivoted l c table.rows.items (dense table.gains.items) new.rows.items (dense new.gains.items)
-        → length new.gains.items ≡ length table.gains.items → new.basis.items ≡ set table.basis.items l c → new.pivots.items ≡ table.pivots.items ++ (l, c) ∷ [] → Reached (rule_over answers) s new
-    pivot_reaches l new leaving made w e f = record {
+    pub pivot_reaches : (l : ℕ) (new : Table) → IsExiting (compared s) c table.rows.items l → IsPivoted l c table.rows.items table.gains new.rows.items new.gains → new.basis.items ≡ set table.basis.items l c → new.pivots.items ≡ table.pivots.items ++ (l, c) ∷ [] → Reached (rule_over answers) s new
+    pivot_reaches l new leaving made e f = record {
       t = pivot l c r.t;
-      after = rw (e, f) (after_pivot s system table.pivots.items table.basis.items table.rows.items (dense table.gains.items) r.t r.after l c new.rows.items (dense new.gains.items) enters leaving made);
-      follows = subst (Follows (rule_over answers) s) (sym f) (follows_pivot s system table.pivots.items table.basis.items table.rows.items (dense table.gains.items) r.t r.after (rule_over answers) l c r.follows by_rule);
-      wide = w ∙ r.wide;
+      after = rw (e, f) (after_pivot s system table.pivots.items table.basis.items table.rows.items table.gains r.t r.after l c new.rows.items new.gains enters leaving made);
+      follows = subst (Follows (rule_over answers) s) (sym f) (follows_pivot s system table.pivots.items table.basis.items table.rows.items table.gains r.t r.after (rule_over answers) l c r.follows by_rule);
     }
 
 pub one_longer : (ps : List (ℕ × ℕ)) (p : ℕ × ℕ) → length (ps ++ p ∷ []) ≡ length ps + 1
@@ -210,28 +201,11 @@ basis_long rule s table system r =
     let g = good_course s table.pivots.items r.t system r.after.course in
     ap length (sym r.after.basis_is) ∙ sym g.sound.one_each ∙ sym r.after.stand.rows_stand.count
 
--- the gains that the rule sees
-pub seen : (rule : Rule) (s : LinearSystem) (table : Table) → Reached rule s table → (rows : List SparseRow) (n : ℕ) (gains : List Frac) → rows ≡ s.rows → n ≡ s.unknowns → gains ≡ table.gains.items
-    → HaveParts (right s) (λ i. numerator (at (0 + i) (dense table.gains.items))) (λ i. denominator (at (0 + i) (dense table.gains.items))) (take (length rows + n) gains)
-seen rule s table r rows n gains e f g =
-    let wide = r.wide in
-    rw (e, f, g) (part_seen 0 (right s) table.gains.items (omega arith))
-
--- no row has a number in a column that has no gain
-pub row_inside : (rule : Rule) (s : LinearSystem) (table : Table) → IsSystem s → Reached rule s table → (i c : ℕ) → i < length table.rows.items → numerator (at c (entries_at table.rows.items i)) ≢ pos 0 → c < length table.gains.items
-row_inside rule s table system r i c h n =
-    let g = good_course s table.pivots.items r.t system r.after.course in
-    let inside : i < length r.t.rows = (let m = r.after.stand.rows_stand.count in omega arith) in
-    let low = ends_within r.t.over (row_at r.t.rows i) (entries_at table.rows.items i) c g.sound.positive (r.after.stand.rows_stand.each i inside) n in
-    let wide = wide_at (width s) i r.t.rows g.sound.wide inside in
-    let count = r.wide in
-    omega arith
-
 -- a step that was stopped
-pub stops : (rule : Rule) (s : LinearSystem) (old new : Table) (fault : Fault) (r : Result Step AllocError) → ((i k : ℕ) → fault ≡ Fault.Leaves i k → Refuses rule s new.pivots.items i k)
-    → IfOk r (λ x. (i : ℕ) × (c : ℕ) × (fault ≡ Fault.Leaves i c) × (x ≡ step.Leaves i c)) → IfOk r (IsStep rule s old new)
-stops rule s old new fault (Ok x) f p = subst (IsStep rule s old new) (sym p.3) (f p.0 p.1 p.2)
-stops rule s old new fault (Err e) f p = tt
+pub stops : (rule : Rule) (s : LinearSystem) (most : Option ℕ) (old new : Table) (fault : Fault) (r : Result Step AllocError) → ((i k : ℕ) → fault ≡ Fault.Leaves i k → Refuses rule s new.pivots.items i k) → Below most (length new.pivots.items)
+    → IfOk r (λ x. (i : ℕ) × (c : ℕ) × (fault ≡ Fault.Leaves i c) × (x ≡ step.Leaves i c)) → IfOk r (IsStep rule s most old new)
+stops rule s most old new fault (Ok x) f b p = subst (IsStep rule s most old new) (sym p.3) (f p.0 p.1 p.2, b)
+stops rule s most old new fault (Err e) f b p = tt
 
 -- what is written back
 module _ {X : Type 0} where

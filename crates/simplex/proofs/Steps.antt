@@ -1,6 +1,7 @@
 -- A step of the code, as a step of a course.
 use Rattle.std.proofs.Common.{◌≡◌, ◌≢◌, refl, sym, ap, subst, ◌∙◌, ℕ, zero, suc, ◌+◌, ◌-◌, ◌<◌, ◌≤◌, ℤ, pos, ◌*ℤ◌, ◌<ℤ◌, arith, List, [], ◌∷◌, ◌++◌, length, ◌⊎◌, inl, inr}
 use Rattle.simplex_rows.specs.Entries.{Entries, at}
+use Rattle.simplex_rows.specs.Sweeping.{IsSwept, SweepLeaves}
 use Rattle.linear_rows.specs.Systems.{LinearSystem, IsSystem}
 use Rattle.simplex_spec.specs.Places.{row_at, counted}
 use Rattle.simplex_spec.specs.Places as places
@@ -11,7 +12,7 @@ use Rattle.simplex_spec.proofs.Pivoting.{above}
 use Rattle.simplex_spec.proofs.Rows.{wide_at}
 use Rattle.simplex_spec.proofs.Opening.{width}
 use Rattle.simplex_spec.proofs.Ending.{Good, good_course, one_row_exits}
-use Rattle.simplex.specs.Standing.{Stands, RowStands, TableStands, IsSwept, SweepLeaves, IsPivoted, PivotLeaves, InLead, InRow, InGains, entries_at}
+use Rattle.simplex.specs.Standing.{Stands, RowStands, TableStands, IsPivoted, PivotLeaves, InLead, InRow, InGains, entries_at}
 use Rattle.simplex.specs.Ties.{IsExiting, SearchLeaves, columns_to}
 use Rattle.simplex.proofs.Lifting.{no_quotient, less_refused, product_is_there, difference_is_there, quotient_is_there}
 use Rattle.simplex.proofs.Pivots.{lead_over, swept_stands, rows_stand}

@@ -1,14 +1,13 @@
 -- Rows that are swept one after the other.
-use Rattle.std.proofs.Common.{◌≡◌, ◌≢◌, refl, sym, ap, subst, ◌∙◌, ℕ, zero, suc, ◌+◌, ◌<◌, ◌≤◌, pos, arith, List, [], ◌∷◌, length, get_or, slice_set, take, inl, inr, Result, Ok, Err, OnOk}
+use Rattle.std.proofs.Common.{◌≡◌, ◌≢◌, refl, sym, ap, subst, ◌∙◌, ℕ, zero, suc, ◌+◌, ◌<◌, ◌≤◌, pos, arith, List, [], ◌∷◌, length, get_or, slice_set, take, inl, inr}
 use Rattle.std.proofs.lemmas.Int.{ints}
-use Rattle.frac128.specs.declared.Frac.{Frac}
 use Rattle.frac128.specs.Values.{IsQuotient}
-use Rattle.simplex_rows.specs.Entries.{Entries, at, IsLess, LessLeaves, QuotientLeaves}
-use Rattle.simplex_rows.proofs.Differing.{less_none}
-use Rattle.simplex_rows.specs.declared.fault.RowFault.{RowFault}
+use Rattle.simplex_rows.specs.Entries.{Entries, at, QuotientLeaves}
+use Rattle.simplex_rows.specs.Sweeping.{IsSwept, SweepLeaves}
+use Rattle.simplex_rows.proofs.Sweeping.{stays}
 use Rattle.simplex.specs.Among.{Among, AllDiffer}
 use Rattle.simplex.proofs.Rows.{among_or_not, among_take, among_taken, among_take_more, not_yet, take_whole, value_of}
-use Rattle.simplex.specs.Standing.{entries_at, IsSwept, SweepLeaves, AreTouching, AmongSwept, RowLeaves, IsPivoted, PivotLeaves, InLead, InRow, InGains}
+use Rattle.simplex.specs.Standing.{entries_at, AreTouching, AmongSwept, RowLeaves, IsPivoted, PivotLeaves, InLead, InRow, InGains}
 use Rattle.simplex_spec.proofs.Pivoting.{same_or_not}
 
 pub here : (rows : List Entries) (i : ℕ) (x : Entries) → i < length rows → entries_at (slice_set rows i x) i ≡ x
@@ -60,28 +59,6 @@ row_leaves k j i c s among lead old rows d h differ e inside t same touched leav
 
 pub all_swept : (k s : ℕ) (among : List ℕ) (lead : Entries) (old rows : List Entries) → length among ≤ k → AmongSwept (take k among) s lead old rows → AmongSwept among s lead old rows
 all_swept k s among lead old rows h t = subst (λ (is : List ℕ). AmongSwept is s lead old rows) (take_whole k among h) t
-
--- the factor by its parts
-pub swept_by : (s : ℕ) (lead old new : Entries) (f : Frac) → f.num ≡ (at s old).num → f.den ≡ (at s old).den → ((c : ℕ) → IsLess (at c old) f (at c lead) (at c new)) → IsSwept s lead old new
-swept_by s lead old new f e g h = record { each = λ c. factor_same (at c old) f (at c lead) (at c new) (at s old) e g (h c) }
-  where
-    factor_same : (x f q r k : Frac) → f.num ≡ k.num → f.den ≡ k.den → IsLess x f q r → IsLess x k q r
-    factor_same x f q r k e g l = record { product = l.product; is_product = rw (← e, ← g) l.is_product; fits = l.fits; is_difference = l.is_difference }
-
-pub swept_where_made : (s : ℕ) (lead old new : Entries) (f : Frac) (r : Result (Unit {0}) RowFault) → f.num ≡ (at s old).num → f.den ≡ (at s old).den → OnOk r ((c : ℕ) → IsLess (at c old) f (at c lead) (at c new)) → OnOk r (IsSwept s lead old new)
-swept_where_made s lead old new f (Ok u) e g h = swept_by s lead old new f e g h
-swept_where_made s lead old new f (Err x) e g h = tt
-
-pub left_by : (s c : ℕ) (lead old : Entries) (f : Frac) → f.num ≡ (at s old).num → f.den ≡ (at s old).den → LessLeaves (at c old) f (at c lead) → SweepLeaves s c lead old
-left_by s c lead old f e g l = record { leaves = factor_left (at c old) f (at c lead) (at s old) e g l }
-  where
-    factor_left : (x f q k : Frac) → f.num ≡ k.num → f.den ≡ k.den → LessLeaves x f q → LessLeaves x k q
-    factor_left x f q k e g (inl n) = inl (λ p i. n p (rw (e, g) i))
-    factor_left x f q k e g (inr (p, i, n)) = inr (p, rw (← e, ← g) i, n)
-
--- a row without a number at the column stays
-pub stays : (s : ℕ) (lead old : Entries) → (at s old).num ≡ pos 0 → IsSwept s lead old old
-stays s lead old e = record { each = λ c. less_none (at c old) (at s old) (at c lead) e }
 
 -- row l is taken out, those that the column touches are swept, and the lead is put at its place
 module _ (l s : ℕ) (old : List Entries) (d : Entries) (h : l < length old) (touching : List ℕ) (touches : AreTouching s old touching) where

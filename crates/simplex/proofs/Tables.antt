@@ -10,22 +10,22 @@ use Rattle.linear_rows.specs.Systems.{LinearSystem, IsSystem}
 use Rattle.linear_rows.specs.Vectors.{plus}
 use Rattle.simplex_spec.specs.Places.{row_at, at_each, column, counted, only, spread}
 use Rattle.simplex_spec.specs.Places as places
-use Rattle.simplex_spec.specs.Tableaux.{Tableau, right, slacks, opening, solution, dual, ray}
+use Rattle.simplex_spec.specs.Tableaux.{Tableau, right, opening, solution, dual, ray}
 use Rattle.simplex_spec.proofs.Rows.{at-zeros, length-column}
 use Rattle.simplex_spec.proofs.Opening.{length-only, only_here, only_there, length-map, length-counted}
 use Rattle.simplex_spec.proofs.Reading.{length-spread}
 use Rattle.linear_rows.proofs.Duality.{least}
 use Rattle.linear_rows.proofs.Proportions.{agree as proportional}
 use Rattle.simplex.proofs.Wholes.{in_proportion}
+use Rattle.simplex.proofs.Lifting.{stands_with}
 use Rattle.simplex_spec.proofs.Ending.{Good, good_course}
 use Rattle.simplex_spec.proofs.Agreeing.{ends_least, rise_refutes}
 use Rattle.simplex_spec.specs.Courses.{Rule, Course, Follows}
 use Rattle.simplex.specs.Standing.{Stands, RowStands, RowsStand, entries_at}
 use Rattle.simplex.specs.Reading.{AreOver, HaveParts, NoneTwice, IsSpreadTo, frac_at, column_at}
-use Rattle.simplex.specs.Dense.{dense}
 use Rattle.simplex.specs.declared.table.Table.{Table}
 use Rattle.simplex.specs.Solving.{IsAfter, IsAt, IsOpening, Reached, ReachedEnd, ReachedRise, IsBest, IsRefuted}
-use Rattle.simplex.proofs.Solves.{stands_with, opening_after, fewer}
+use Rattle.simplex.proofs.Solves.{opening_after, fewer}
 use Rattle.simplex_spec.proofs.Pivoting.{same_or_not}
 
 -- the numbers of a spread list
@@ -127,13 +127,13 @@ at-column c [] i h = absurd (omega arith)
 at-column c (r ∷ rows) zero h = refl
 at-column c (r ∷ rows) (suc i) h = at-column c rows i (omega arith)
 
-pub counted_over : (d : ℤ) (ns : List ℤ) (es : Entries) (k n : ℕ) (xs : List Frac) → RowStands d ns es → HaveParts n (λ i. numerator (at (k + i) es)) (λ i. denominator (at (k + i) es)) xs → AreOver d (at_each ns (counted k n)) xs
+pub counted_over : (d : ℤ) (ns : List ℤ) (es : Entries) (k n : ℕ) (xs : List Frac) → RowStands d ns es → HaveParts n (λ i. neg_ℤ (numerator (at (k + i) es))) (λ i. denominator (at (k + i) es)) xs → AreOver d (map neg_ℤ (at_each ns (counted k n))) xs
 counted_over d ns es k n xs r h =
-    let l : length (at_each ns (counted k n)) ≡ n = length-at_each ns (counted k n) ∙ length-counted k n in
+    let l : length (map neg_ℤ (at_each ns (counted k n))) ≡ n = length-map neg_ℤ (at_each ns (counted k n)) ∙ length-at_each ns (counted k n) ∙ length-counted k n in
     record {
       count = h.count ∙ sym l;
       each = λ i q. let q' : i < n = omega arith in
-          subst (λ (z : ℤ). Stands d z (frac_at xs i)) (sym (at-counted ns k n i q')) (stands_with d (places.at ns (k + i)) (at (k + i) es) (frac_at xs i) (h.nums i q') (h.dens i q') (r.each (k + i)));
+          subst (λ (z : ℤ). Stands d z (frac_at xs i)) (sym (at-neg (at_each ns (counted k n)) i ∙ ap neg_ℤ (at-counted ns k n i q'))) (neg_stands d (places.at ns (k + i)) (at (k + i) es) (frac_at xs i) (h.nums i q') (h.dens i q') (r.each (k + i)));
     }
 
 pub column_over : (t : Tableau) (rows : List Entries) (c : ℕ) (xs : List Frac) → RowsStand t rows → HaveParts (length rows) (λ i. numerator (at c (entries_at rows i))) (λ i. denominator (at c (entries_at rows i))) xs → AreOver t.over (column c t.rows) xs
@@ -192,9 +192,8 @@ module _ (s : LinearSystem) (system : IsSystem s) (pivots : List (ℕ × ℕ)) (
       apart c cs o f (suc i) zero h k e = absurd (f i (omega arith) e)
       apart c cs o f (suc i) (suc j) h k e = ap suc (o.once i j (omega arith) (omega arith) e)
 
-  pub reads_solution : (xs ys : List Frac) → HaveParts s.unknowns (λ i. numerator (at (length s.rows + i) gains)) (λ i. denominator (at (length s.rows + i) gains)) xs
-      → HaveParts (length xs) (λ i. neg_ℤ (numerator (frac_at xs i))) (λ i. denominator (frac_at xs i)) ys → AreOver t.over (solution s t) ys
-  reads_solution xs ys h k = neg_over t.over (at_each t.gains (slacks s)) xs ys (counted_over t.over t.gains gains (length s.rows) s.unknowns xs after.stand.gains_stand h) k
+  pub reads_solution : (xs : List Frac) → HaveParts s.unknowns (λ i. neg_ℤ (numerator (at (length s.rows + i) gains))) (λ i. denominator (at (length s.rows + i) gains)) xs → AreOver t.over (solution s t) xs
+  reads_solution xs h = counted_over t.over t.gains gains (length s.rows) s.unknowns xs after.stand.gains_stand h
 
   pub reads_dual : (xs ys : List Frac) → HaveParts (length rows) (λ i. numerator (at (right s) (entries_at rows i))) (λ i. denominator (at (right s) (entries_at rows i))) xs
       → IsSpreadTo (length basis) (length s.rows) basis xs ys → AreOver t.over (dual s t) ys
@@ -219,9 +218,6 @@ module _ (s : LinearSystem) (system : IsSystem s) (pivots : List (ℕ × ℕ)) (
       first_over d zs x xs e f o = record { count = ap suc o.count; each = number_over d zs x xs e f o }
 
   -- the same, under the names of the code
-  parts_as : (m n : ℕ) (slack : ℕ) (xs : List Frac) → slack ≡ length s.rows → m ≡ n → HaveParts m (λ i. numerator (at (slack + i) gains)) (λ i. denominator (at (slack + i) gains)) xs → HaveParts n (λ i. numerator (at (length s.rows + i) gains)) (λ i. denominator (at (length s.rows + i) gains)) xs
-  parts_as m n slack xs e f h = subst (λ (k : ℕ). HaveParts k (λ i. numerator (at (length s.rows + i) gains)) (λ i. denominator (at (length s.rows + i) gains)) xs) f (subst (λ (k : ℕ). HaveParts m (λ i. numerator (at (k + i) gains)) (λ i. denominator (at (k + i) gains)) xs) e h)
-
   negated_as : (zs xs ys : List Frac) → zs ≡ xs → HaveParts (length zs) (λ i. neg_ℤ (numerator (frac_at zs i))) (λ i. denominator (frac_at zs i)) ys → HaveParts (length xs) (λ i. neg_ℤ (numerator (frac_at xs i))) (λ i. denominator (frac_at xs i)) ys
   negated_as zs xs ys e h = subst (λ (w : List Frac). HaveParts (length w) (λ i. neg_ℤ (numerator (frac_at w i))) (λ i. denominator (frac_at w i)) ys) e h
 
@@ -231,10 +227,6 @@ module _ (s : LinearSystem) (system : IsSystem s) (pivots : List (ℕ × ℕ)) (
 
   spread_as : (bs cs : List ℕ) (n m : ℕ) (zs xs ys : List Frac) → bs ≡ cs → n ≡ m → zs ≡ xs → IsSpreadTo (length bs) n bs zs ys → IsSpreadTo (length cs) m cs xs ys
   spread_as bs cs n m zs xs ys e f g h = subst (λ (b : List ℕ). IsSpreadTo (length b) m b xs ys) e (subst (λ (k : ℕ). IsSpreadTo (length bs) k bs xs ys) f (subst (λ (w : List Frac). IsSpreadTo (length bs) n bs w ys) g h))
-
-  pub solution_read : (slack n : ℕ) (xs zs ys : List Frac) → slack ≡ length s.rows → n ≡ s.unknowns → zs ≡ xs → HaveParts n (λ i. numerator (at (slack + i) gains)) (λ i. denominator (at (slack + i) gains)) xs
-      → HaveParts (length zs) (λ i. neg_ℤ (numerator (frac_at zs i))) (λ i. denominator (frac_at zs i)) ys → AreOver t.over (solution s t) ys
-  solution_read slack n xs zs ys e f g h k = reads_solution xs ys (parts_as n s.unknowns slack xs e f h) (negated_as zs xs ys g k)
 
   pub dual_read : (es : List Entries) (r n : ℕ) (bs : List ℕ) (xs zs ys : List Frac) → es ≡ rows → r ≡ right s → bs ≡ basis → n ≡ length s.rows → zs ≡ xs
       → HaveParts (length es) (λ i. numerator (at r (entries_at es i))) (λ i. denominator (at r (entries_at es i))) xs → IsSpreadTo (length bs) n bs zs ys → AreOver t.over (dual s t) ys
@@ -248,25 +240,24 @@ module _ (s : LinearSystem) (system : IsSystem s) (pivots : List (ℕ × ℕ)) (
 -- what the loop's ends are
 pub opened_reached : (rule : Rule) (s : LinearSystem) (table : Table) → IsOpening s table → Reached rule s table
 opened_reached rule s table o =
-    let a = opening_after s table.rows.items (dense table.gains.items) o.rows o.gains in
+    let a = opening_after s table.rows.items table.gains o.rows o.gains in
     record {
       t = opening s;
       after = record { course = subst (λ (ps : List (ℕ × ℕ)). Course s ps (opening s)) (sym o.none) a.course; stand = a.stand; basis_is = sym o.basis; height = a.height };
       follows = subst (Follows rule s) (sym o.none) tt;
-      wide = o.wide;
     }
 
 pub fewer_pivots : (rule : Rule) (s : LinearSystem) (table : Table) → IsSystem s → Reached rule s table → length table.pivots.items < 2 ^ right s
-fewer_pivots rule s table system r = fewer s system table.pivots.items table.basis.items table.rows.items (dense table.gains.items) r.t r.after
+fewer_pivots rule s table system r = fewer s system table.pivots.items table.basis.items table.rows.items table.gains r.t r.after
 
 pub shrinks : (n a b : ℕ) → b ≡ a + 1 → b < n → n - b < n - a
 shrinks n a b e h = omega arith
 
 pub differ_at : (rule : Rule) (s : LinearSystem) (table : Table) → IsSystem s → Reached rule s table → NoneTwice table.basis.items
-differ_at rule s table system r = none_twice s system table.pivots.items table.basis.items table.rows.items (dense table.gains.items) r.t r.after
+differ_at rule s table system r = none_twice s system table.pivots.items table.basis.items table.rows.items table.gains r.t r.after
 
 pub differ_rising : (rule : Rule) (s : LinearSystem) (table : Table) (c : ℕ) → IsSystem s → ReachedRise rule s table c → NoneTwice (c ∷ table.basis.items)
-differ_rising rule s table c system r = still_once s system table.pivots.items table.basis.items table.rows.items (dense table.gains.items) r.reached.t r.reached.after c r.rises.enters.gain
+differ_rising rule s table c system r = still_once s system table.pivots.items table.basis.items table.rows.items table.gains r.reached.t r.reached.after c r.rises.enters.gain
 
 pub best_of : (rule : Rule) (s : LinearSystem) (table : Table) (x y : List Frac) → IsSystem s → ReachedEnd rule s table → ((t : Tableau) → IsAt s table t → AreOver t.over (solution s t) x) → ((t : Tableau) → IsAt s table t → AreOver t.over (dual s t) y) → IsBest rule s table.pivots.items x y
 best_of rule s table x y system r f g =

@@ -7,4 +7,3 @@ pub mod Opening
 pub mod Reading
 pub mod Solving
 pub mod Laws
-pub mod Dense

@@ -1,17 +1,11 @@
 -- Rows of whole numbers, made column by column.
 use Rattle.std.specs.Prelude.{◌≡◌, ◌≢◌, ℕ, ◌+◌, ◌<◌, List, [], length, map, ℤ, pos}
-use Rattle.frac128.specs.Values.{numerator, denominator}
 use Rattle.simplex_rows.specs.Entries.{Entries, at, EndsBefore}
+use Rattle.simplex_rows.specs.Sweeping.{AddsWhole}
 use Rattle.linear_rows.specs.Terms.{Terms, SparseRow, coefficient}
 use Rattle.simplex_spec.specs.Places as places
 use Rattle.simplex_spec.specs.Refusals.{least_number}
 use Rattle.simplex.specs.Standing.{Stands, entries_at}
-
--- new has n over 1 at column c, and as old at the others
-pub record AddsWhole (c : ℕ) (n : ℤ) (old new : Entries) : Type 0 where
-  pub num : numerator (at c new) ≡ n
-  pub den : denominator (at c new) ≡ 1
-  pub others : (k : ℕ) → k ≢ c → at k new ≡ at k old
 
 -- in the columns before j, the row has the numbers ns, and nothing after them
 pub record OpensTo (j : ℕ) (ns : List ℤ) (es : Entries) : Type 0 where

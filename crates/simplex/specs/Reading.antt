@@ -3,7 +3,9 @@ use Rattle.std.specs.Prelude.{◌≡◌, ℕ, ◌<◌, List, length, ℤ, pos, s
 use Rattle.frac128.specs.declared.Frac.{Frac}
 use Rattle.frac128.specs.Values.{numerator, denominator}
 use Rattle.frac128.specs.Nought.{nought}
+use Rattle.simplex_rows.specs.Entries.{Entries, at}
 use Rattle.simplex_spec.specs.Places as places
+use Rattle.simplex.specs.Among.{Among}
 use Rattle.simplex.specs.Standing.{Stands}
 
 abbrev pub frac_at : List Frac → ℕ → Frac
@@ -17,6 +19,17 @@ pub record HaveParts (n : ℕ) (num : ℕ → ℤ) (den : ℕ → ℕ) (xs : Lis
   pub count : length xs ≡ n
   pub nums : (i : ℕ) → i < n → numerator (frac_at xs i) ≡ num i
   pub dens : (i : ℕ) → i < n → denominator (frac_at xs i) ≡ den i
+
+-- the row's fractions in the first n columns, by their parts
+abbrev pub AreOf : ℕ → Entries → List Frac → Type 0
+AreOf n row xs = HaveParts n (λ c. numerator (at c row)) (λ c. denominator (at c row)) xs
+
+-- at these columns new has the row's fractions, where it has a place, and the others are as they were
+pub record IsWritten (row : Entries) (cs : List ℕ) (old new : List Frac) : Type 0 where
+  pub count : length new ≡ length old
+  pub nums : (c : ℕ) → Among c cs → c < length old → numerator (frac_at new c) ≡ numerator (at c row)
+  pub dens : (c : ℕ) → Among c cs → c < length old → denominator (frac_at new c) ≡ denominator (at c row)
+  pub others : (c : ℕ) → (Among c cs → ⊥) → frac_at new c ≡ frac_at old c
 
 -- no column comes twice
 pub record NoneTwice (cs : List ℕ) : Type 0 where

@@ -1,22 +1,23 @@
 -- The tableau that the code keeps, and what solving answers.
-use Rattle.std.specs.Prelude.{◌≡◌, ℕ, ◌+◌, List, [], length, ℤ, pos, ◌*ℤ◌, ◌<ℤ◌, Option}
+use Rattle.std.specs.Prelude.{◌≡◌, ℕ, ◌+◌, ◌<◌, ◌≤◌, List, [], length, ℤ, pos, ◌*ℤ◌, ◌<ℤ◌, Option, Some}
 use Rattle.std.specs.Fn.{Shared, FnReturnsAt}
 use Rattle.std.specs.Borrow.{Bor}
 use Rattle.frac128.specs.declared.Frac.{Frac}
 use Rattle.simplex_rows.specs.Entries.{Entries}
 use Rattle.linear_rows.specs.Systems.{LinearSystem, Refutes, ProvesLeast, IsLeast}
 use Rattle.linear_rows.specs.Vectors.{dot}
-use Rattle.simplex_spec.specs.Tableaux.{Tableau, opening, right, slacks, solution, dual, ray}
-use Rattle.simplex_spec.specs.Courses.{Rule, Course, Ends, Rises, Follows, Answers, Refuses}
+use Rattle.simplex_spec.specs.Tableaux.{Tableau, opening, slacks, solution, dual, ray}
+use Rattle.simplex_spec.specs.Courses.{Rule, Course, Enters, Ends, Rises, Follows, Answers, Refuses}
 use Rattle.simplex.specs.declared.answer.Answer.{Answer}
 use Rattle.simplex.specs.declared.answer.Answer.TheVariants.{Best, NoSolution, Leaves}
+use Rattle.simplex.specs.declared.answer.Within.{Within}
+use Rattle.simplex.specs.declared.answer.Within.TheVariants.{Answered, Cut}
 use Rattle.simplex.specs.declared.table.Table.{Table}
 use Rattle.simplex.specs.declared.solver.Scratch.{Scratch}
 use Rattle.simplex.specs.declared.solver.Step.{Step}
 use Rattle.simplex.specs.declared.solver.Step.TheVariants as step
 use Rattle.simplex.specs.Standing.{TableStands, RowsStand, RowStands}
-use Rattle.simplex.specs.Dense.{dense}
-use Rattle.simplex.specs.Reading.{AreOver}
+use Rattle.simplex.specs.Reading.{AreOver, AreOf}
 use Rattle.simplex.specs.Covering.{Cover}
 
 -- the answers to fractions, as a rule for whole numbers over d
@@ -70,27 +71,60 @@ SaysNone (Best x dual pivots) = ⊥
 SaysNone (NoSolution farkas pivots) = Unit {0}
 SaysNone (Leaves pivots row column) = ⊥
 
--- marks of the rows in n columns
-pub record IsReady (n : ℕ) (rows : List Entries) (scratch : Scratch) : Type 0 where
-  pub cover : Cover n rows scratch.marks.items
+-- just so many pivots by the rule are made, and there it answers a column still
+pub record IsCut (rule : Rule) (s : LinearSystem) (most : ℕ) (pivots : List (ℕ × ℕ)) : Type 0 where
+  pub t : Tableau
+  pub column : ℕ
+  pub course : Course s pivots t
+  pub follows : Follows rule s pivots
+  pub count : length pivots ≡ most
+  pub enters : Enters s t column
+  pub answers : Answers rule s t column
+
+-- an answer has its cause, and what is cut has just so many pivots as the limit
+abbrev pub IsWithin : Rule → LinearSystem → Option ℕ → Within → Type 0
+IsWithin rule s most (Answered answer) = IsAnswer rule s answer
+IsWithin rule s most (Cut pivots) = (m : ℕ) × (most ≡ Some m) × IsCut rule s m pivots.items
+
+-- it is cut
+abbrev pub SaysCut : Within → Type 0
+SaysCut (Answered answer) = ⊥
+SaysCut (Cut pivots) = Unit {0}
+
+-- there is a limit, and after so many pivots by the rule it answers a column still
+pub record CutsBy (rule : Rule) (s : LinearSystem) (most : Option ℕ) : Type 0 where
+  pub limit : ℕ
+  pub is_limit : most ≡ Some limit
+  pub pivots : List (ℕ × ℕ)
+  pub cut : IsCut rule s limit pivots
+
+-- the limit, where there is one, is at least n, or more
+abbrev pub UpTo : Option ℕ → ℕ → Type 0
+UpTo most n = (m : ℕ) → most ≡ Some m → n ≤ m
+
+abbrev pub Below : Option ℕ → ℕ → Type 0
+Below most n = (m : ℕ) → most ≡ Some m → n < m
+
+-- of n columns, marks of the table's rows and the fractions of its gains
+pub record IsReady (n : ℕ) (table : Table) (scratch : Scratch) : Type 0 where
+  pub cover : Cover n table.rows.items scratch.marks.items
+  pub seen : AreOf n table.gains scratch.gains.items
 
 abbrev pub IsAt : LinearSystem → Table → Tableau → Type 0
-IsAt s table t = IsAfter s table.pivots.items table.basis.items table.rows.items (dense table.gains.items) t
+IsAt s table t = IsAfter s table.pivots.items table.basis.items table.rows.items table.gains t
 
 -- the table is the opening one
 pub record IsOpening (s : LinearSystem) (table : Table) : Type 0 where
   pub rows : RowsStand (opening s) table.rows.items
-  pub gains : RowStands (pos 1) (opening s).gains (dense table.gains.items)
-  pub wide : length table.gains.items ≡ right s + 1
+  pub gains : RowStands (pos 1) (opening s).gains table.gains
   pub basis : table.basis.items ≡ slacks s
   pub none : table.pivots.items ≡ []
 
 -- the table is that of a course by the rule
 pub record Reached (rule : Rule) (s : LinearSystem) (table : Table) : Type 0 where
   pub t : Tableau
-  pub after : IsAfter s table.pivots.items table.basis.items table.rows.items (dense table.gains.items) t
+  pub after : IsAfter s table.pivots.items table.basis.items table.rows.items table.gains t
   pub follows : Follows rule s table.pivots.items
-  pub wide : length table.gains.items ≡ right s + 1
 
 -- the course ends there
 pub record ReachedEnd (rule : Rule) (s : LinearSystem) (table : Table) : Type 0 where
@@ -103,12 +137,13 @@ pub record ReachedRise (rule : Rule) (s : LinearSystem) (table : Table) (c : ℕ
   pub rises : Rises s table.pivots.items reached.t c
   pub answers : Answers rule s reached.t c
 
--- each step has its cause
-abbrev pub IsStep : Rule → LinearSystem → Table → Table → Step → Type 0
-IsStep rule s old new step.Pivot = Reached rule s new × (length new.pivots.items ≡ length old.pivots.items + 1)
-IsStep rule s old new step.Best = ReachedEnd rule s new
-IsStep rule s old new (step.Rises c) = ReachedRise rule s new c
-IsStep rule s old new (step.Leaves i c) = Refuses rule s new.pivots.items i c
+-- each step has its cause, and keeps the limit of pivots
+abbrev pub IsStep : Rule → LinearSystem → Option ℕ → Table → Table → Step → Type 0
+IsStep rule s most old new step.Pivot = Reached rule s new × (length new.pivots.items ≡ length old.pivots.items + 1) × UpTo most (length new.pivots.items)
+IsStep rule s most old new step.Best = ReachedEnd rule s new × UpTo most (length new.pivots.items)
+IsStep rule s most old new (step.Rises c) = ReachedRise rule s new c × Below most (length new.pivots.items)
+IsStep rule s most old new (step.Leaves i c) = Refuses rule s new.pivots.items i c × Below most (length new.pivots.items)
+IsStep rule s most old new step.Cut = (m : ℕ) × (most ≡ Some m) × IsCut rule s m new.pivots.items
 
 -- the weighted sums of x and z are equal, over all numbers over which they are whole
 pub record EqualSums (s : LinearSystem) (x z : List Frac) : Type 0 where

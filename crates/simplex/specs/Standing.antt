@@ -2,7 +2,8 @@
 use Rattle.std.specs.Prelude.{◌≡◌, ◌≢◌, ℕ, ◌<◌, List, [], length, ℤ, pos, ◌*ℤ◌, slice_index_or}
 use Rattle.frac128.specs.declared.Frac.{Frac}
 use Rattle.frac128.specs.Values.{numerator, denominator, IsQuotient}
-use Rattle.simplex_rows.specs.Entries.{Entries, at, IsLess, LessLeaves, QuotientLeaves}
+use Rattle.simplex_rows.specs.Entries.{Entries, at, QuotientLeaves}
+use Rattle.simplex_rows.specs.Sweeping.{IsSwept, SweepLeaves}
 use Rattle.simplex_spec.specs.Places.{row_at}
 use Rattle.simplex_spec.specs.Places as places
 use Rattle.simplex_spec.specs.Tableaux.{Tableau}
@@ -27,10 +28,6 @@ pub record TableStands (t : Tableau) (rows : List Entries) (gains : Entries) : T
   pub rows_stand : RowsStand t rows
   pub gains_stand : RowStands t.over t.gains gains
 
--- new is the row less its fraction at column s times the lead
-pub record IsSwept (s : ℕ) (lead old new : Entries) : Type 0 where
-  pub each : (c : ℕ) → IsLess (at c old) (at s old) (at c lead) (at c new)
-
 -- each row but that at l is swept, and that one is the lead
 pub record RowsSwept (l s : ℕ) (lead : Entries) (old new : List Entries) : Type 0 where
   pub count : length new ≡ length old
@@ -43,10 +40,6 @@ pub record IsPivoted (l s : ℕ) (rows : List Entries) (gains : Entries) (new : 
   pub quotients : (c : ℕ) → IsQuotient (at c (entries_at rows l)) (at s (entries_at rows l)) (at c lead)
   pub rows_swept : RowsSwept l s lead rows new
   pub gains_swept : IsSwept s lead gains new_gains
-
--- in the row es, the change at column c leaves the range
-pub record SweepLeaves (s c : ℕ) (lead es : Entries) : Type 0 where
-  pub leaves : LessLeaves (at c es) (at s es) (at c lead)
 
 -- the pivot leaves the range in row i and column c, where the gains come after the other rows
 pub data PivotLeaves (l s : ℕ) (rows : List Entries) (gains : Entries) (i c : ℕ) : Type 0 where

@@ -25,3 +25,11 @@ pub enum Answer {
         col: u32,
     },
 }
+
+/// What solving with a limit of pivots comes to.
+#[derive(Debug, Drop)]
+pub enum Within {
+    Answered(Answer),
+    /// So many pivots are made, and the rule answers a column still.
+    Cut { pivots: Vec<(u32, u32)> },
+}

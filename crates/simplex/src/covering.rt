@@ -1,17 +1,20 @@
-//! For each column, marks at the rows that may have a number there, so that a pivot looks at no other row.
-//! They stand in one vector, column after column.
+//! For each column, marks at the blocks of rows that may have a number there, so that a pivot looks at no other
+//! row. They stand in one vector, column after column.
 
-ghost use Rattle.std.specs.Prelude.{◌≡◌, ◌<◌, ◌≤◌, ◌+◌, ◌*◌, ◌^◌, [], ◌∷◌, true, length, slice_set, IfOk, OnOk};
+ghost use Rattle.std.specs.Prelude.{IsTrue, ◌≡◌, ◌<◌, ◌≤◌, ◌+◌, ◌*◌, ◌^◌, [], ◌∷◌, true, length, map, take, slice_index_or, slice_set, IfOk, OnOk};
 ghost use Rattle.std.specs.Option.{SomeIff};
-ghost use Rattle.simplex_rows.specs.Entries.{columns_of};
+ghost use Rattle.simplex.specs.Among.{Among};
 ghost use Rattle.simplex.specs.Standing.{AreTouching};
-ghost use Rattle.simplex.specs.Covering.{Cover, IsCovered, Grow, Clears, HasOne, Follows};
+ghost use Rattle.simplex.specs.Covering.{block_of, blocks_of, Cover, IsCovered, Grow, Clears, HasOne, Follows};
 
-use frac128::Frac;
 use simplex_rows::FracRow;
 use std::alloc::{AllocError, Global};
+use std::cmp::Ordering;
 
-/// For each of the first columns, marks at the rows that have a number there.
+/// How many rows share a mark.
+const BLOCK: usize = 16;
+
+/// For each of the first columns, marks at the blocks of rows that have a number there.
 pub(crate) fn covering(
     alloc: Global,
     rows: &[FracRow],
@@ -19,56 +22,70 @@ pub(crate) fn covering(
 ) -> Result<Vec<bool>, AllocError>
     ensures { IfOk result (λ marks. Cover columns rows.now marks.items) }
 {
-    let mut marks = no_marks(alloc, columns, rows.len())?;
+    let blocks = rows.len().div_ceil(BLOCK);
+    let mut marks = no_marks(alloc, columns, blocks)?;
+    let mut of_row = Vec::new(alloc);
     for i in 0..rows.len() {
-        mark_row(&mut marks, rows.len(), rows[i].entries(), i);
+        rows[i].columns(&mut of_row)?;
+        mark_block(&mut marks, blocks, &of_row, i / BLOCK);
     }
     Ok(marks)
 }
 
-/// A place for each row in each of the first columns, and no mark.
-fn no_marks(alloc: Global, columns: usize, rows: usize) -> Result<Vec<bool>, AllocError>
-    ensures { IfOk result (λ marks. length marks.items ≡ columns * rows) }
+/// A place for each block in each of the first columns, and no mark.
+fn no_marks(alloc: Global, columns: usize, blocks: usize) -> Result<Vec<bool>, AllocError>
+    ensures { IfOk result (λ marks. length marks.items ≡ columns * blocks) }
 {
-    let Some(count) = columns.checked_mul(rows) else {
+    let Some(count) = columns.checked_mul(blocks) else {
         return Err(AllocError);
     };
     vec![in alloc; false; count]
 }
 
-/// Marks these rows in the columns of these fractions, where both have a place.
-fn mark_rows(marks: &mut [bool], height: usize, entries: &[(u32, Frac)], rows: &[usize])
-    ensures { Grow height (columns_of entries.now) rows.now marks.old marks.new }
+/// Marks the blocks of these rows in these columns, where both have a place. A block whose rows stand side by
+/// side is marked once.
+fn mark_rows(marks: &mut [bool], blocks: usize, columns: &[u32], rows: &[usize])
+    ensures { Grow blocks columns.now (map block_of rows.now) marks.old marks.new }
 {
-    for row in rows {
-        mark_row(marks, height, entries, *row);
+    for k in 0..rows.len() {
+        if !is_in_last_block(rows, k) {
+            mark_block(marks, blocks, columns, rows[k] / BLOCK);
+        }
     }
 }
 
-/// Marks a row in the columns of these fractions, where both have a place.
-fn mark_row(marks: &mut [bool], height: usize, entries: &[(u32, Frac)], row: usize)
-    ensures { Grow height (columns_of entries.now) (row ∷ []) marks.old marks.new }
+/// Whether the row at this place is of the same block as the one before.
+fn is_in_last_block(rows: &[usize], k: usize) -> bool
+    requires { k < length rows.now }
+    ensures { IsTrue result → Among (block_of (slice_index_or rows.now k 0)) (take k (map block_of rows.now)) }
 {
-    for entry in entries {
-        mark(marks, height, entry.0, row);
+    k > 0 && rows[k - 1] / BLOCK == rows[k] / BLOCK
+}
+
+/// Marks a block in these columns, where both have a place.
+fn mark_block(marks: &mut [bool], blocks: usize, columns: &[u32], block: usize)
+    ensures { Grow blocks columns.now (block ∷ []) marks.old marks.new }
+{
+    for column in columns {
+        mark(marks, blocks, *column, block);
     }
 }
 
-/// Marks a row in a column, where both have a place.
-fn mark(marks: &mut [bool], height: usize, column: u32, row: usize)
-    ensures { Grow height (column ∷ []) (row ∷ []) marks.old marks.new }
+/// Marks a block in a column, where both have a place.
+fn mark(marks: &mut [bool], blocks: usize, column: u32, block: usize)
+    ensures { Grow blocks (column ∷ []) (block ∷ []) marks.old marks.new }
 {
-    match place_of(height, column, row) {
+    match place_of(blocks, column, block) {
         Some(place) => set(marks, place),
         None => {}
     }
 }
 
-/// The place of a row in a column, where each column has `height` places.
-fn place_of(height: usize, column: u32, row: usize) -> Option<usize>
-    ensures { SomeIff result (column * height + row < 2 ^ 64) (column * height + row) }
+/// The place of a block in a column, where each column has so many places.
+fn place_of(blocks: usize, column: u32, block: usize) -> Option<usize>
+    ensures { SomeIff result (column * blocks + block < 2 ^ 64) (column * blocks + block) }
 {
-    (column as usize).checked_mul(height)?.checked_add(row)
+    (column as usize).checked_mul(blocks)?.checked_add(block)
 }
 
 /// Marks a place, if there is one.
@@ -92,14 +109,14 @@ fn clear(marks: &mut [bool], first: usize, end: usize)
 }
 
 /// Leaves one mark in a column.
-fn keep_one(marks: &mut [bool], height: usize, column: u32, row: usize)
-    requires column { column * height + height ≤ length marks.old }
-    requires row { row < height }
-    ensures { HasOne height column row marks.old marks.new }
+fn keep_one(marks: &mut [bool], blocks: usize, column: u32, block: usize)
+    requires column { column * blocks + blocks ≤ length marks.old }
+    requires block { block < blocks }
+    ensures { HasOne blocks column block marks.old marks.new }
 {
-    let first = column as usize * height;
-    clear(marks, first, first + height);
-    marks[first + row] = true;
+    let first = column as usize * blocks;
+    clear(marks, first, first + blocks);
+    marks[first + block] = true;
 }
 
 /// Follows the pivot in this row and column: these rows may have numbers in the lead's columns, and in the
@@ -107,17 +124,18 @@ fn keep_one(marks: &mut [bool], height: usize, column: u32, row: usize)
 pub(crate) fn follow(
     marks: &mut [bool],
     height: usize,
-    lead: &[(u32, Frac)],
+    lead: &[u32],
     rows: &[usize],
     column: u32,
     row: usize,
 )
-    requires column { column * height + height ≤ length marks.old }
+    requires column { column * blocks_of height + blocks_of height ≤ length marks.old }
     requires row { row < height }
-    ensures { Follows height (columns_of lead.now) rows.now column row marks.old marks.new }
+    ensures { Follows height lead.now rows.now column row marks.old marks.new }
 {
-    mark_rows(marks, height, lead, rows);
-    keep_one(marks, height, column, row);
+    let blocks = height.div_ceil(BLOCK);
+    mark_rows(marks, blocks, lead, rows);
+    keep_one(marks, blocks, column, row / BLOCK);
 }
 
 /// Makes `all` the rows with a number at column `s` that is not 0.
@@ -127,14 +145,34 @@ pub(crate) fn touching(
     s: u32,
     all: &mut Vec<usize>,
 ) -> Result<(), AllocError>
-    requires column { s * length rows.now + length rows.now ≤ length marks.now }
+    requires column { s * blocks_of (length rows.now) + blocks_of (length rows.now) ≤ length marks.now }
     requires covers { IsCovered s rows.now marks.now }
     ensures { OnOk result (AreTouching s rows.now all.new.items) }
 {
     all.clear();
-    let first = s as usize * rows.len();
-    for i in 0..rows.len() {
-        if marks[first + i] && rows[i].at(s).num() != 0 {
+    let blocks = rows.len().div_ceil(BLOCK);
+    let first = s as usize * blocks;
+    for block in 0..blocks {
+        if marks[first + block] {
+            push_touching(rows, s, block * BLOCK, all)?;
+        }
+    }
+    Ok(())
+}
+
+/// Adds the rows with a number at column `s` that is not 0 among those of the block that begins at `first`.
+fn push_touching(
+    rows: &[FracRow],
+    s: u32,
+    first: usize,
+    all: &mut Vec<usize>,
+) -> Result<(), AllocError>
+    requires inside { first ≤ length rows.now }
+    requires before { AreTouching s (take first rows.now) all.old.items }
+    ensures { OnOk result (AreTouching s (take (first + BLOCK) rows.now) all.new.items) }
+{
+    for i in first..(first + BLOCK).min(rows.len()) {
+        if rows[i].sign_at(s) != Ordering::Equal {
             all.push(i)?;
         }
     }

@@ -1,10 +1,9 @@
 //! The row that exits the basis.
 
-ghost use Rattle.std.specs.Prelude.{◌≡◌, ◌<◌, ◌≤◌, ◌<ℤ◌, ℕ, pos, length, IfOk, OnOk, MatchOption};
-ghost use Rattle.frac128.specs.Values.{numerator, IsQuotient};
+ghost use Rattle.std.specs.Prelude.{◌≡◌, ◌<◌, ◌≤◌, ℕ, length, IfOk, OnOk};
 ghost use Rattle.frac128.specs.declared.Frac.{Frac};
 ghost use Rattle.frac128.specs.Nought.{nought};
-ghost use Rattle.simplex_rows.specs.Entries.{at, QuotientLeaves};
+ghost use Rattle.simplex_rows.specs.Entries.{at};
 ghost use Rattle.simplex.specs.Among.{Among};
 ghost use Rattle.simplex.specs.Standing.{entries_at, AreTouching};
 ghost use Rattle.simplex.specs.Ties.{IsBounding, AreBounding, AreTied, RatioLeaves, Keeps, ratio_order, IsExiting, SearchLeaves, columns_to};
@@ -27,19 +26,11 @@ fn bounding(
 {
     all.clear();
     for row in touching {
-        if rows[*row].at(entering).num() > 0 {
+        if rows[*row].sign_at(entering) == Ordering::Greater {
             all.push(*row)?;
         }
     }
     Ok(())
-}
-
-/// The ratio of a row's number at `column` to that at `entering`, or None where it leaves the range.
-fn ratio_of(row: &FracRow, entering: u32, column: u32) -> Option<Frac>
-    requires { pos 0 <ℤ numerator (at entering row.now) }
-    ensures { MatchOption result (QuotientLeaves (at column row.now) (at entering row.now)) (IsQuotient (at column row.now) (at entering row.now)) }
-{
-    row.at(column).div(&row.at(entering))
 }
 
 /// How a ratio compares with the least so far. Where there is none so far, it is less.
@@ -84,7 +75,7 @@ fn ties(
     let mut tied = Vec::new(alloc);
     let mut least = Frac::zero();
     for row in among {
-        match ratio_of(&rows[*row], entering, column) {
+        match rows[*row].ratio(column, entering) {
             Some(ratio) => keep(&mut tied, &mut least, *row, ratio)?,
             None => return Err(Fault::Leaves { row: *row, column }),
         }
@@ -155,7 +146,7 @@ fn alone(
     ensures leaves { (i c : ℕ) → result ≡ Err (Fault.Leaves i c) → SearchLeaves (columns_to right slack right) entering rows.now i c }
 {
     let row = all[0];
-    match ratio_of(&rows[row], entering, right) {
+    match rows[row].ratio(right, entering) {
         Some(_) => Ok(row),
         None => Err(Fault::Leaves { row, column: right }),
     }

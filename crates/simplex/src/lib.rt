@@ -1,10 +1,11 @@
 //! Exact linear programming over fractions, by the simplex method.
 //!
-//! The rows of the tableau are sparse rows of fractions, and the gains stand in the places of their columns.
-//! Beside the rows stand, for each column, marks at those that may have a number there, so that a step looks
-//! at no others. `specs/` says what the rows stand for, and what each answer tells. The laws here say that a step which is made is a step of a lawful course, and
-//! that one which is not made is refused there. Solving ends with every rule that chooses columns with
-//! gain, since no basis comes twice.
+//! The rows of the tableau and its gains are sparse rows of fractions. Beside them stand, for each column,
+//! marks at the blocks of rows that may have a number there, so that a step looks at no others, and its gain
+//! in the place of the column, for the rule. `specs/` says what the rows stand for, and what each answer
+//! tells. The laws here say that a step which is made is a step of a lawful course, and that one which is not
+//! made is refused there. Solving ends with every rule that chooses columns with gain, since no basis comes
+//! twice.
 #![tactic(auto)]
 
 ghost use Rattle.simplex.specs.Laws.{StepsAreLawful, PivotFaultsAreRefused, SearchFaultsAreRefused};
@@ -20,9 +21,9 @@ mod reading;
 mod solver;
 mod table;
 
-pub use answer::Answer;
+pub use answer::{Answer, Within};
 pub use chooser::Chooser;
-pub use solver::{agree, solve};
+pub use solver::{agree, solve, solve_within};
 
 /// A pivot that is made is one of a lawful course.
 pub fn steps_are_lawful()

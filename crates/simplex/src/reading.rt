@@ -1,10 +1,10 @@
 //! Numbers that are read from rows.
 
-ghost use Rattle.std.specs.Prelude.{◌≡◌, ℕ, length, pos, neg_ℤ, IfOk};
+ghost use Rattle.std.specs.Prelude.{◌≡◌, ◌<◌, ◌+◌, ◌^◌, ℕ, length, pos, neg_ℤ, IfOk};
 ghost use Rattle.frac128.specs.Values.{numerator, denominator};
 ghost use Rattle.simplex_rows.specs.Entries.{at};
 ghost use Rattle.simplex.specs.Standing.{entries_at};
-ghost use Rattle.simplex.specs.Reading.{HaveParts, NoneTwice, IsSpreadTo, frac_at};
+ghost use Rattle.simplex.specs.Reading.{HaveParts, AreOf, IsWritten, NoneTwice, IsSpreadTo, frac_at};
 
 use frac128::Frac;
 use simplex_rows::FracRow;
@@ -34,6 +34,46 @@ pub(crate) fn negated(alloc: Global, numbers: &[Frac]) -> Result<Vec<Frac>, Allo
         all.push(numbers[i].neg())?;
     }
     Ok(all)
+}
+
+/// The row's fractions at `count` columns from `first` on, with the other sign.
+pub(crate) fn negated_at(
+    alloc: Global,
+    row: &FracRow,
+    first: u32,
+    count: u32,
+) -> Result<Vec<Frac>, AllocError>
+    requires { first + count < 2 ^ 32 }
+    ensures { IfOk result (λ xs. HaveParts count (λ i. neg_ℤ (numerator (at (first + i) row.now))) (λ i. denominator (at (first + i) row.now)) xs.items) }
+{
+    let mut all = Vec::with_capacity(alloc, count as usize)?;
+    for i in 0..count {
+        all.push(row.at(first + i).neg())?;
+    }
+    Ok(all)
+}
+
+/// The row's fractions in the first `count` columns, each in the place of its column.
+pub(crate) fn first_of(alloc: Global, row: &FracRow, count: usize) -> Result<Vec<Frac>, AllocError>
+    ensures { IfOk result (λ xs. AreOf count row.now xs.items) }
+{
+    let mut all = zeros(alloc, count)?;
+    let mut columns = Vec::new(alloc);
+    row.columns(&mut columns)?;
+    write(&mut all, row, &columns);
+    Ok(all)
+}
+
+/// Writes the row's fractions at these columns in the places of the columns, where there is one.
+pub(crate) fn write(all: &mut [Frac], row: &FracRow, columns: &[u32])
+    ensures { IsWritten row.now columns.now all.old all.new }
+{
+    for column in columns {
+        let place = *column as usize;
+        if place < all.len() {
+            all[place] = row.at(*column);
+        }
+    }
 }
 
 /// `count` fractions: each of these numbers at its column, where that is below `count`, and 0 at the

@@ -1,32 +1,34 @@
 //! The loop of the solver.
 
-ghost use Rattle.std.specs.Prelude.{◌≡◌, ◌<◌, ◌^◌, ◌↔◌, ℕ, length, IfOk};
+ghost use Rattle.std.specs.Prelude.{◌≡◌, ◌<◌, ◌^◌, ◌↔◌, ℕ, true, false, length, IfOk};
 ghost use Rattle.std.specs.Fn.{FnReturnsAt};
 ghost use Rattle.simplex_spec.specs.Tableaux.{right};
 ghost use Rattle.simplex_spec.specs.Courses.{AnswersOnce, RisesBy};
 ghost use Rattle.simplex.specs.Choosing.{IsChooser};
-ghost use Rattle.simplex.specs.Solving.{rule_of, Reached, IsReady, IsStep, IsAnswer, SaysNone, Agree};
+ghost use Rattle.simplex.specs.Solving.{rule_of, Reached, IsOpening, IsReady, UpTo, Below, IsStep, IsAnswer, SaysNone, Agree, IsWithin, SaysCut, CutsBy};
 
-use crate::answer::Answer;
+use crate::answer::{Answer, Within};
 use crate::chooser::Chooser;
 use crate::covering::{covering, follow, touching};
 use crate::exiting::exiting;
 use crate::fault::Fault;
-use crate::opening::ROOM;
 use crate::pivot::pivot;
+use crate::reading::{first_of, write};
 use crate::table::{Table, dual, opening, ray, solution};
 use frac128::Frac;
 use linear_rows::System;
-use simplex_rows::FracRow;
+use simplex_rows::RowScratch;
 use std::alloc::{AllocError, Global};
 
-/// What steps hand on beside the table: a row in which new rows are made, for each column before the right
-/// sides marks at the rows that may have a number there, and of the last step the rows with a number in its
-/// column and those with a positive one.
+/// What steps hand on beside the table: room in which new rows are made, for each column before the right
+/// sides marks at the blocks of rows that may have a number there and its gain in the place of the column, and
+/// of the last step the columns of its lead, the rows with a number in its column and those with a positive one.
 #[derive(Drop)]
 pub(crate) struct Scratch {
-    row: FracRow,
+    rows: RowScratch,
     marks: Vec<bool>,
+    gains: Vec<Frac>,
+    columns: Vec<u32>,
     touching: Vec<usize>,
     bounding: Vec<usize>,
 }
@@ -38,6 +40,8 @@ pub(crate) enum Step {
     Pivot,
     /// No gain is left.
     Best,
+    /// As many pivots are made as the limit, and the rule answers a column still.
+    Cut,
     /// No row bounds this column, which has gain.
     Rises { column: u32 },
     /// A number in this row and column leaves the range of fractions.
@@ -71,11 +75,24 @@ fn stopped(fault: Fault) -> Result<Step, AllocError>
     }
 }
 
-/// One step: a pivot by the rule, or how the course ends.
+/// Whether the limit, if there is one, is reached.
+fn is_limit(most: Option<usize>, pivots: usize) -> bool
+    requires { UpTo most pivots }
+    ensures reached { result ≡ true → most ≡ Some pivots }
+    ensures below { result ≡ false → Below most pivots }
+{
+    match most {
+        Some(most) => pivots == most,
+        None => false,
+    }
+}
+
+/// One step: a pivot by the rule, or how the course ends or is cut.
 pub(crate) fn make_step<F: Fn(&[Frac]) -> Option<usize>>(
     alloc: Global,
     system: &System,
     chooser: &Chooser<F>,
+    most: Option<usize>,
     table: &mut Table,
     scratch: &mut Scratch,
 ) -> Result<Step, AllocError>
@@ -83,17 +100,21 @@ pub(crate) fn make_step<F: Fn(&[Frac]) -> Option<usize>>(
     requires chooses { IsChooser F.Fn chooser.now }
     requires columns { right system.now < 2 ^ 32 }
     requires reached { Reached (rule_of F.Fn chooser.now) system.now table.old }
-    requires ready { IsReady (right system.now) table.old.rows.items scratch.old }
-    ensures step { IfOk result (IsStep (rule_of F.Fn chooser.now) system.now table.old table.new) }
-    ensures ready { result ≡ Ok Step.Pivot → IsReady (right system.now) table.new.rows.items scratch.new }
+    requires ready { IsReady (right system.now) table.old scratch.old }
+    requires limit { UpTo most (length table.old.pivots.items) }
+    ensures step { IfOk result (IsStep (rule_of F.Fn chooser.now) system.now most table.old table.new) }
+    ensures ready { result ≡ Ok Step.Pivot → IsReady (right system.now) table.new scratch.new }
 {
     let slack = system.rows().len() as u32;
     let right = slack + system.unknowns();
     let height = table.rows.len();
-    let column = match entering(chooser, &table.gains[..right as usize]) {
+    let column = match entering(chooser, &scratch.gains) {
         Some(column) => column,
         None => return Ok(Step::Best),
     };
+    if is_limit(most, table.pivots.len()) {
+        return Ok(Step::Cut);
+    }
     touching(&table.rows, &scratch.marks, column, &mut scratch.touching)?;
     let row = match exiting(
         alloc,
@@ -115,15 +136,17 @@ pub(crate) fn make_step<F: Fn(&[Frac]) -> Option<usize>>(
         &scratch.touching,
         row,
         column,
-        &mut scratch.row,
+        right as usize + 1,
+        &mut scratch.rows,
     ) {
         return stopped(fault);
     }
-    let lead = table.rows[row].entries();
+    table.rows[row].columns(&mut scratch.columns)?;
+    write(&mut scratch.gains, &table.gains, &scratch.columns);
     follow(
         &mut scratch.marks,
         height,
-        lead,
+        &scratch.columns,
         &scratch.touching,
         column,
         row,
@@ -133,20 +156,102 @@ pub(crate) fn make_step<F: Fn(&[Frac]) -> Option<usize>>(
     Ok(Step::Pivot)
 }
 
-/// The scratch of steps from these rows on, over this many columns.
+/// The scratch of steps from this table on, with this many columns before the right sides.
 pub(crate) fn new_scratch(
     alloc: Global,
-    rows: &[FracRow],
+    table: &Table,
     columns: usize,
 ) -> Result<Scratch, AllocError>
-    ensures { IfOk result (IsReady columns rows.now) }
+    ensures { IfOk result (IsReady columns table.now) }
 {
     Ok(Scratch {
-        row: FracRow::with_capacity(alloc, ROOM)?,
-        marks: covering(alloc, rows, columns)?,
-        touching: Vec::with_capacity(alloc, rows.len())?,
-        bounding: Vec::with_capacity(alloc, rows.len())?,
+        rows: RowScratch::new(alloc),
+        marks: covering(alloc, &table.rows, columns)?,
+        gains: first_of(alloc, &table.gains, columns)?,
+        columns: Vec::new(alloc),
+        touching: Vec::with_capacity(alloc, table.rows.len())?,
+        bounding: Vec::with_capacity(alloc, table.rows.len())?,
     })
+}
+
+/// Makes steps from the opening table on, until the course ends or is cut.
+fn run<F: Fn(&[Frac]) -> Option<usize>>(
+    alloc: Global,
+    system: &System,
+    chooser: &Chooser<F>,
+    most: Option<usize>,
+    mut table: Table,
+) -> Result<Within, AllocError>
+    requires callable { F.IsAlwaysCallable chooser.now }
+    requires chooses { IsChooser F.Fn chooser.now }
+    requires fits { right system.now < 2 ^ 32 }
+    requires opens { IsOpening system.now table }
+    ensures within { IfOk result (IsWithin (rule_of F.Fn chooser.now) system.now most) }
+    ensures cut { IfOk result (λ within. AnswersOnce (rule_of F.Fn chooser.now) → (SaysCut within ↔ CutsBy (rule_of F.Fn chooser.now) system.now most)) }
+{
+    let columns = system.rows().len() + system.unknowns() as usize;
+    let mut scratch = new_scratch(alloc, &table, columns)?;
+    loop {
+        match make_step(alloc, system, chooser, most, &mut table, &mut scratch)? {
+            Step::Pivot => {}
+            Step::Best => {
+                let x = solution(alloc, system, &table)?;
+                let dual = dual(alloc, system, &table)?;
+                return Ok(Within::Answered(Answer::Best {
+                    x,
+                    dual,
+                    pivots: table.pivots,
+                }));
+            }
+            Step::Rises { column } => {
+                let farkas = ray(alloc, system, &table, column)?;
+                return Ok(Within::Answered(Answer::NoSolution {
+                    farkas,
+                    pivots: table.pivots,
+                }));
+            }
+            Step::Leaves { row, column } => {
+                return Ok(Within::Answered(Answer::Leaves {
+                    pivots: table.pivots,
+                    row,
+                    col: column,
+                }));
+            }
+            Step::Cut => {
+                return Ok(Within::Cut {
+                    pivots: table.pivots,
+                });
+            }
+        }
+    }
+}
+
+/// Solves a system with at most so many pivots, with the entering columns of the chooser. Without a limit it
+/// is never cut. Where its rule has one answer for the same gains, it is cut exactly where, after so many
+/// pivots, the rule answers a column still.
+pub fn solve_within<F: Fn(&[Frac]) -> Option<usize>>(
+    alloc: Global,
+    system: &System,
+    chooser: &Chooser<F>,
+    most: Option<usize>,
+) -> Result<Within, AllocError>
+    requires callable { F.IsAlwaysCallable chooser.now }
+    requires chooses { IsChooser F.Fn chooser.now }
+    requires fits { right system.now < 2 ^ 32 }
+    ensures within { IfOk result (IsWithin (rule_of F.Fn chooser.now) system.now most) }
+    ensures none { (answer : Answer) → result ≡ Ok (Within.Answered answer) → AnswersOnce (rule_of F.Fn chooser.now) → (SaysNone answer ↔ RisesBy (rule_of F.Fn chooser.now) system.now) }
+    ensures cut { IfOk result (λ within. AnswersOnce (rule_of F.Fn chooser.now) → (SaysCut within ↔ CutsBy (rule_of F.Fn chooser.now) system.now most)) }
+    ensures never { most ≡ None → IfOk result (λ within. SaysCut within → ⊥) }
+{
+    match opening(alloc, system) {
+        Ok(table) => run(alloc, system, chooser, most, table),
+        Err(Fault::NoMemory) => Err(AllocError),
+        Err(Fault::Leaves { row, column }) => Ok(Within::Answered(Answer::Leaves {
+            pivots: Vec::new(alloc),
+            row: row as u32,
+            col: column,
+        })),
+    }
 }
 
 /// Solves a system, with the entering columns of the chooser. Where its rule has one answer for the same
@@ -162,46 +267,9 @@ pub fn solve<F: Fn(&[Frac]) -> Option<usize>>(
     ensures answer { IfOk result (IsAnswer (rule_of F.Fn chooser.now) system.now) }
     ensures none { IfOk result (λ answer. AnswersOnce (rule_of F.Fn chooser.now) → (SaysNone answer ↔ RisesBy (rule_of F.Fn chooser.now) system.now)) }
 {
-    let columns = system.rows().len() + system.unknowns() as usize;
-    let mut table = match opening(alloc, system) {
-        Ok(table) => table,
-        Err(Fault::NoMemory) => return Err(AllocError),
-        Err(Fault::Leaves { row, column }) => {
-            return Ok(Answer::Leaves {
-                pivots: Vec::new(alloc),
-                row: row as u32,
-                col: column,
-            });
-        }
-    };
-    let mut scratch = new_scratch(alloc, &table.rows, columns)?;
-    loop {
-        match make_step(alloc, system, chooser, &mut table, &mut scratch)? {
-            Step::Pivot => {}
-            Step::Best => {
-                let x = solution(alloc, system, &table)?;
-                let dual = dual(alloc, system, &table)?;
-                return Ok(Answer::Best {
-                    x,
-                    dual,
-                    pivots: table.pivots,
-                });
-            }
-            Step::Rises { column } => {
-                let farkas = ray(alloc, system, &table, column)?;
-                return Ok(Answer::NoSolution {
-                    farkas,
-                    pivots: table.pivots,
-                });
-            }
-            Step::Leaves { row, column } => {
-                return Ok(Answer::Leaves {
-                    pivots: table.pivots,
-                    row,
-                    col: column,
-                });
-            }
-        }
+    match solve_within(alloc, system, chooser, None)? {
+        Within::Answered(answer) => Ok(answer),
+        Within::Cut { .. } => unreachable!(),
     }
 }
 

@@ -1,6 +1,7 @@
 //! The table that the solver keeps, and the numbers that are read there.
 
 ghost use Rattle.std.specs.Prelude.{◌≡◌, ◌+◌, ◌<◌, ◌≤◌, ◌^◌, ◌∷◌, ℕ, length, IfOk, pos, ◌<ℤ◌};
+ghost use Rattle.linear_rows.specs.Systems.{IsSystem};
 ghost use Rattle.simplex_spec.specs.Tableaux.{Tableau, opening, right, solution, dual, ray, entry};
 ghost use Rattle.simplex_spec.specs.Places.{counted};
 ghost use Rattle.simplex_spec.specs.Places as places;
@@ -10,18 +11,17 @@ ghost use Rattle.simplex.specs.Solving.{IsOpening, IsAt};
 
 use crate::fault::Fault;
 use crate::opening::{opening_gains, opening_rows};
-use crate::reading::{column_of, negated, spread};
+use crate::reading::{column_of, negated, negated_at, spread};
 use frac128::Frac;
 use linear_rows::System;
 use simplex_rows::FracRow;
 use std::alloc::{AllocError, Global};
 
-/// A tableau as sparse rows and gains for all columns, with the basis column of each row, and the pivots that led
-/// to it.
+/// A tableau as sparse rows and gains, with the basis column of each row, and the pivots that led to it.
 #[derive(Drop)]
 pub(crate) struct Table {
     pub(crate) rows: Vec<FracRow>,
-    pub(crate) gains: Vec<Frac>,
+    pub(crate) gains: FracRow,
     pub(crate) basis: Vec<u32>,
     pub(crate) pivots: Vec<(u32, u32)>,
 }
@@ -30,6 +30,7 @@ pub(crate) struct Table {
 pub(crate) fn opening(alloc: Global, system: &System) -> Result<Table, Fault>
     requires { right system.now < 2 ^ 32 }
     ensures table { IfOk result (IsOpening system.now) }
+    ensures sound { IfOk result (λ _. IsSystem system.now) }
     ensures leaves { (i c : ℕ) → result ≡ Err (Fault.Leaves i c) → entry (opening system.now) i c ≡ least_number }
     ensures inside { (i c : ℕ) → result ≡ Err (Fault.Leaves i c) → i ≤ system.now.unknowns }
 {
@@ -62,12 +63,11 @@ pub(crate) fn solution(
     system: &System,
     table: &Table,
 ) -> Result<Vec<Frac>, AllocError>
-    requires { length table.now.gains.items ≡ right system.now + 1 }
+    requires { right system.now < 2 ^ 32 }
     ensures { (t : Tableau) → IsAt system.now table.now t → IfOk result (λ x. AreOver t.over (solution system.now t) x.items) }
 {
-    let slack = system.rows().len();
-    let right = slack + system.unknowns() as usize;
-    negated(alloc, &table.gains[slack..right])
+    let slack = system.rows().len() as u32;
+    negated_at(alloc, &table.gains, slack, system.unknowns())
 }
 
 /// The dual solution, with one number for each row of the system.

@@ -2,7 +2,28 @@ pub mod Differing
 pub mod Pointwise
 mod Fronts
 pub mod Finding
+mod FewFinding
+mod FewAppending
+mod FewMerging
+mod FewCombining
+mod FewDividing
 mod Appending
 mod Walking
 mod Quotients
-mod Short
+mod Products
+pub mod Sweeping
+pub mod Overs
+pub mod ShortLaws
+pub mod ShortReads
+pub mod ShortSweeps
+pub mod ShortTells
+pub mod Widening
+mod Sharing
+pub mod ManyPlaces
+mod ManyChanging
+mod ManyListing
+mod ManyDividing
+mod ManyReaching
+mod ManyCombining
+pub mod Pushing
+pub mod Likewise

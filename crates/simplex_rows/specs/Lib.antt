@@ -1,3 +1,11 @@
 pub mod Entries
 pub mod Merging
 pub mod Dividing
+pub mod Sweeping
+pub mod ShortRows
+pub mod Over
+pub mod Forms
+pub mod Sharing
+pub mod Combining
+pub mod Tightening
+pub mod Placed

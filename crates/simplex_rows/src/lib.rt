@@ -1,11 +1,20 @@
 //! Sparse rows of fractions: those that are not 0, in order of column.
 #![tactic(auto)]
 
+mod factors;
 mod fault;
+mod few;
+mod few_dividing;
+mod few_merging;
+mod many;
 mod numbers;
+mod places;
 mod rest;
 mod row;
+mod scratch;
+mod short;
+mod wide;
 
 pub use fault::RowFault;
-pub use numbers::less;
 pub use row::FracRow;
+pub use scratch::RowScratch;

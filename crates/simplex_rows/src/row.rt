@@ -1,37 +1,43 @@
 //! A row.
 
-ghost use Rattle.std.specs.Prelude.{◌≡◌, ◌≢◌, ◌<◌, ◌++◌, [], ℕ, pos, IfOk, IfErr, OnOk, OnErr};
+ghost use Rattle.std.specs.Prelude.{◌≡◌, ◌≢◌, ◌<◌, ◌<ℤ◌, ◌^◌, [], ℕ, pos, neg_ℤ, IfOk, OnOk, MatchOption, true, false};
+ghost use Rattle.std.specs.Ordering.{int_cmp};
 ghost use Rattle.frac128.specs.Values.{numerator, denominator, IsQuotient};
-ghost use Rattle.frac128.specs.Nought.{nought};
-ghost use Rattle.simplex_rows.specs.Entries.{Entries, at, IsNextColumn, IsSparse, EndsBefore, Adds, IsLess, LessLeaves, QuotientLeaves};
-ghost use Rattle.simplex_rows.specs.Merging.{put, Merges, MergeLeaves};
+ghost use Rattle.simplex_rows.specs.Entries.{Entries, at, columns_of, IsNextColumn, IsSparse, EndsBefore, QuotientLeaves};
+ghost use Rattle.simplex_rows.specs.Forms.{entries_of};
+ghost use Rattle.simplex_rows.specs.Sweeping.{AddsWhole, IsSwept, SweepLeaves, SameFractions};
 
 use crate::fault::RowFault;
-use crate::numbers::{divide, is_one, less};
-use crate::rest::Rest;
+use crate::few::FewRow;
+use crate::scratch::RowScratch;
+use crate::short::ShortNumbers;
+use crate::wide::WideRow;
 use frac128::Frac;
 use std::alloc::{AllocError, Global};
+use std::cmp::Ordering;
 use std::marker::Model;
-use std::mem;
 
-/// Up to so many fractions are put one by one, and more in one piece.
-const FEW: usize = 3;
+/// The fractions of a row.
+#[derive(Debug, Drop)]
+pub(crate) enum Numbers {
+    /// Whole numbers of 63 bits over one denominator, in which nothing ever leaves the range.
+    Short(ShortNumbers),
+    /// Any fractions.
+    Wide(WideRow),
+}
 
-/// Up to so many columns are looked through one by one, and more are searched.
-const SHORT: usize = 8;
-
-/// A row of fractions. It keeps those that are not 0, each behind its column, in order of column.
+/// A row of fractions. It keeps those that are not 0, each behind its column, in order of column; and of many of
+/// few bits one number for each column.
 #[derive(Debug, Drop)]
 pub struct FracRow {
-    entries: Vec<(u32, Frac)>,
+    alloc: Global,
+    numbers: Numbers,
 }
 
 impl Model for FracRow {
     ghost Value = { Entries };
 
-    ghost view = { λ r. r.entries.items };
-
-    ghost invariant = { λ r. IsSparse r.entries.items };
+    ghost view = { λ r. entries_of r.numbers };
 }
 
 impl FracRow {
@@ -40,7 +46,8 @@ impl FracRow {
         ensures { result ≡ [] }
     {
         FracRow {
-            entries: Vec::new(alloc),
+            alloc,
+            numbers: Numbers::Short(ShortNumbers::Few(FewRow::new(alloc))),
         }
     }
 
@@ -48,17 +55,29 @@ impl FracRow {
     pub fn with_capacity(alloc: Global, capacity: usize) -> Result<FracRow, AllocError>
         ensures { IfOk result (λ row. row ≡ []) }
     {
+        let row = FewRow::with_capacity(alloc, capacity)?;
         Ok(FracRow {
-            entries: Vec::with_capacity(alloc, capacity)?,
+            alloc,
+            numbers: Numbers::Short(ShortNumbers::Few(row)),
         })
     }
 
-    /// The fractions that are not 0, each behind its column, in order of column.
-    pub fn entries(&self) -> &[(u32, Frac)]
-        ensures all { result.now ≡ self.now }
-        ensures sparse { IsSparse self.now }
+    /// How many numbers it keeps.
+    pub fn kept(&self) -> usize {
+        match &self.numbers {
+            Numbers::Short(row) => row.kept(),
+            Numbers::Wide(row) => row.entries().len(),
+        }
+    }
+
+    /// Makes `all` the columns at which the fraction is not 0, in order.
+    pub fn columns(&self, all: &mut Vec<u32>) -> Result<(), AllocError>
+        ensures columns { OnOk result (all.new.items ≡ columns_of self.now) }
     {
-        &self.entries
+        match &self.numbers {
+            Numbers::Short(row) => row.columns(all),
+            Numbers::Wide(row) => row.columns(all),
+        }
     }
 
     /// The fraction at a column.
@@ -66,21 +85,30 @@ impl FracRow {
         ensures num { numerator result ≡ numerator (at column self.now) }
         ensures den { denominator result ≡ denominator (at column self.now) }
     {
-        if self.entries.len() <= SHORT {
-            look_through(&self.entries, column)
-        } else {
-            self.search(column)
+        match &self.numbers {
+            Numbers::Short(row) => row.at(column),
+            Numbers::Wide(row) => row.at(column),
         }
     }
 
-    /// The fraction at a column of a long row.
-    fn search(&self, column: u32) -> Frac
-        ensures num { numerator result ≡ numerator (at column self.now) }
-        ensures den { denominator result ≡ denominator (at column self.now) }
+    /// How the fraction at a column compares with 0.
+    pub fn sign_at(&self, column: u32) -> Ordering
+        ensures { result ≡ int_cmp (numerator (at column self.now)) (pos 0) }
     {
-        match self.entries.binary_search_by_key(&column, |entry| entry.0) {
-            Ok(place) => self.entries[place].1,
-            Err(_) => Frac::zero(),
+        match &self.numbers {
+            Numbers::Short(row) => row.sign_at(column),
+            Numbers::Wide(row) => row.at(column).num().cmp(&0),
+        }
+    }
+
+    /// The fraction at `column` over that at `by`, or None where it leaves the range.
+    pub fn ratio(&self, column: u32, by: u32) -> Option<Frac>
+        requires { pos 0 <ℤ numerator (at by self.now) }
+        ensures { MatchOption result (QuotientLeaves (at column self.now) (at by self.now)) (IsQuotient (at column self.now) (at by self.now)) }
+    {
+        match &self.numbers {
+            Numbers::Short(row) => Some(row.ratio(column, by)),
+            Numbers::Wide(row) => row.ratio(column, by),
         }
     }
 
@@ -88,162 +116,125 @@ impl FracRow {
     pub fn next_column(&self, from: u32) -> Option<u32>
         ensures { IsNextColumn from self.now result }
     {
-        let place = self.entries.partition_point(|entry| entry.0 < from);
-        if place < self.entries.len() {
-            Some(self.entries[place].0)
-        } else {
-            None
+        match &self.numbers {
+            Numbers::Short(row) => row.next_column(from),
+            Numbers::Wide(row) => row.next_column(from),
         }
     }
 
-    /// Adds a fraction at a column after the others.
-    pub fn push(&mut self, column: u32, number: Frac) -> Result<(), AllocError>
+    /// Adds a whole number at a column after the others, unless it is `-2^127`, which no fraction is.
+    pub fn push_whole(&mut self, column: u32, n: i128) -> Result<(), RowFault>
         requires { EndsBefore column self.old }
-        ensures added { OnOk result (Adds column number self.old self.new) }
+        ensures added { OnOk result (AddsWhole column n self.old self.new) }
         ensures before { (c : ℕ) → column < c → OnOk result (EndsBefore c self.new) }
-        ensures kept { OnErr result (self.new ≡ self.old) }
+        ensures leaves { (c : ℕ) → result ≡ Err (RowFault.Leaves c) → (c ≡ column) × (n ≡ neg_ℤ (pos (2 ^ 127))) }
     {
-        self.put(column, number)
-    }
-
-    /// Each fraction over `by`, or a column at which the quotient leaves the range. Takes no memory.
-    pub fn over(self, by: &Frac) -> Result<FracRow, u32>
-        requires { numerator by.now ≢ pos 0 }
-        ensures each { IfOk result (λ r. (c : ℕ) → IsQuotient (at c self) by.now (at c r)) }
-        ensures leaves { (c : ℕ) → result ≡ Err c → QuotientLeaves (at c self) by.now }
-    {
-        if is_one(by) {
-            return Ok(self);
-        }
-        let FracRow { mut entries } = self;
-        match divide(&mut entries, by) {
-            Ok(()) => Ok(FracRow { entries }),
-            Err(column) => Err(column),
+        match &mut self.numbers {
+            Numbers::Short(row) => {
+                if row.push_whole(column, n)? {
+                    return Ok(());
+                }
+                let mut wide = row.widened(self.alloc)?;
+                wide.push_whole(column, n)?;
+                self.numbers = Numbers::Wide(wide);
+                Ok(())
+            }
+            Numbers::Wide(row) => row.push_whole(column, n),
         }
     }
 
-    /// Takes `times` times the lead from the row. The new row is made in `spare`, whose memory it takes;
-    /// `spare` gets the memory of the old one.
-    pub fn subtract(
-        &mut self,
-        times: &Frac,
-        lead: &FracRow,
-        spare: &mut FracRow,
-    ) -> Result<(), RowFault>
-        ensures each { OnOk result ((c : ℕ) → IsLess (at c self.old) times.now (at c lead.now) (at c self.new)) }
-        ensures leaves { (c : ℕ) → result ≡ Err (RowFault.Leaves c) → LessLeaves (at c self.old) times.now (at c lead.now) }
-        ensures kept { OnErr result (self.new ≡ self.old) }
+    /// Each fraction over that at a column, as a list; or a column at which the quotient leaves the range.
+    pub fn over_its(self, column: u32) -> Result<FracRow, RowFault>
+        requires { pos 0 <ℤ numerator (at column self) }
+        ensures each { IfOk result (λ r. (c : ℕ) → IsQuotient (at c self) (at column self) (at c r)) }
+        ensures leaves { (c : ℕ) → result ≡ Err (RowFault.Leaves c) → QuotientLeaves (at c self) (at column self) }
     {
-        spare.clear();
-        spare.entries.reserve(self.entries.len())?;
-        spare.put_difference(self.rest(), times, lead.rest())?;
-        mem::swap(self, spare);
-        Ok(())
-    }
-
-    /// The whole row, for a walk.
-    fn rest(&self) -> Rest<'_>
-        ensures all { result ≡ self.now }
-        ensures sparse { IsSparse self.now }
-    {
-        Rest::new(&self.entries)
-    }
-
-    /// Lets go of all fractions, and keeps the memory.
-    fn clear(&mut self)
-        ensures { self.new ≡ [] }
-    {
-        self.entries.clear();
-    }
-
-    /// Puts a fraction after the others, unless it is 0.
-    fn put(&mut self, column: u32, number: Frac) -> Result<(), AllocError>
-        requires { EndsBefore column self.old }
-        ensures added { OnOk result (self.new ≡ self.old ++ put column number []) }
-        ensures kept { OnErr result (self.new ≡ self.old) }
-    {
-        if number.num() == 0 {
-            return Ok(());
-        }
-        self.entries.push((column, number))?;
-        Ok(())
-    }
-
-    /// Puts what is left of another row after the others.
-    #[inline(always)]
-    fn put_all(&mut self, rest: Rest<'_>) -> Result<(), AllocError>
-        requires { IsSparse (self.old ++ rest) }
-        ensures added { OnOk result (self.new ≡ self.old ++ rest.entry) }
-    {
-        let count = rest.entries().len();
-        if count == 0 {
-            Ok(())
-        } else if count <= FEW {
-            self.put_each(rest)
-        } else {
-            self.put_slices(rest)
-        }
-    }
-
-    /// The same one by one, which is quicker for a few.
-    #[inline(never)]
-    fn put_each(&mut self, rest: Rest<'_>) -> Result<(), AllocError>
-        requires { IsSparse (self.old ++ rest) }
-        ensures added { OnOk result (self.new ≡ self.old ++ rest.entry) }
-    {
-        let mut rest = rest;
-        while let Some((column, number)) = rest.take_first() {
-            self.put(column, number)?;
-        }
-        Ok(())
-    }
-
-    /// The same in one piece, which is quicker for many.
-    #[inline(never)]
-    fn put_slices(&mut self, rest: Rest<'_>) -> Result<(), AllocError>
-        requires { IsSparse (self.old ++ rest) }
-        ensures added { OnOk result (self.new ≡ self.old ++ rest.entry) }
-    {
-        self.entries.extend_from_slice(rest.entries())
-    }
-
-    /// Puts a row less `times` times a lead, column by column.
-    fn put_difference(
-        &mut self,
-        row: Rest<'_>,
-        times: &Frac,
-        lead: Rest<'_>,
-    ) -> Result<(), RowFault>
-        requires empty { self.old ≡ [] }
-        requires row { IsSparse row }
-        requires lead { IsSparse lead }
-        ensures merged { OnOk result (Merges times.now row.entry lead.entry self.new) }
-        ensures leaves { (c : ℕ) → result ≡ Err (RowFault.Leaves c) → MergeLeaves times.now row.entry lead.entry c }
-    {
-        let mut row = row;
-        let mut lead = lead;
-        while let Some((column, q)) = lead.take_first() {
-            self.put_all(row.take_before(column))?;
-            let x = row.take(column);
-            match less(&x, times, &q) {
-                Some(number) => self.put(column, number)?,
-                None => return Err(RowFault::Leaves { column }),
+        let FracRow { alloc, numbers } = self;
+        match numbers {
+            Numbers::Short(row) => {
+                let row = row.over_its(alloc, column)?;
+                Ok(FracRow {
+                    alloc,
+                    numbers: Numbers::Short(ShortNumbers::Few(row)),
+                })
+            }
+            Numbers::Wide(row) => {
+                let row = row.over_its(column)?;
+                Ok(FracRow {
+                    alloc,
+                    numbers: Numbers::Wide(row),
+                })
             }
         }
-        self.put_all(row)?;
-        Ok(())
     }
-}
 
-/// The fraction at a column, which is looked for from the first on.
-fn look_through(entries: &[(u32, Frac)], column: u32) -> Frac
-    ensures num { numerator result ≡ numerator (at column entries.now) }
-    ensures den { denominator result ≡ denominator (at column entries.now) }
-{
-    for entry in entries {
-        if entry.0 == column {
-            return entry.1;
+    /// Takes the row's fraction at a column times the lead from it. Where the row has more than `most` short
+    /// numbers, it keeps a place for each column from then on.
+    pub fn sweep(
+        &mut self,
+        column: u32,
+        lead: &FracRow,
+        most: usize,
+        scratch: &mut RowScratch,
+    ) -> Result<(), RowFault>
+        ensures swept { OnOk result (IsSwept column lead.now self.old self.new) }
+        ensures leaves { (c : ℕ) → result ≡ Err (RowFault.Leaves c) → SweepLeaves column c lead.now self.old }
+        ensures touched { (c : ℕ) → result ≡ Err (RowFault.Leaves c) → numerator (at column self.old) ≢ pos 0 }
+    {
+        if self.sweep_short(column, lead, most, scratch)? {
+            return Ok(());
+        }
+        match &lead.numbers {
+            Numbers::Short(lead) => {
+                let lead = lead.widened(self.alloc)?;
+                self.sweep_wide(column, &lead, scratch)
+            }
+            Numbers::Wide(lead) => self.sweep_wide(column, lead, scratch),
         }
     }
-    Frac::zero()
+
+    /// The same, and says so, where the row and the lead are short and the lead a list, and all stays so.
+    fn sweep_short(
+        &mut self,
+        column: u32,
+        lead: &FracRow,
+        most: usize,
+        scratch: &mut RowScratch,
+    ) -> Result<bool, AllocError>
+        ensures swept { result ≡ Ok true → IsSwept column lead.now self.old self.new }
+        ensures kept { result ≡ Ok false → SameFractions self.old self.new }
+    {
+        let Numbers::Short(lead) = &lead.numbers else {
+            return Ok(false);
+        };
+        let Some(lead) = lead.list() else {
+            return Ok(false);
+        };
+        match &mut self.numbers {
+            Numbers::Short(row) => row.sweep(self.alloc, column, lead, most, &mut scratch.short),
+            Numbers::Wide(_) => Ok(false),
+        }
+    }
+
+    /// The same by a lead of any fractions, as any fractions.
+    fn sweep_wide(
+        &mut self,
+        column: u32,
+        lead: &WideRow,
+        scratch: &mut RowScratch,
+    ) -> Result<(), RowFault>
+        ensures swept { OnOk result (IsSwept column lead.now self.old self.new) }
+        ensures leaves { (c : ℕ) → result ≡ Err (RowFault.Leaves c) → SweepLeaves column c lead.now self.old }
+        ensures touched { (c : ℕ) → result ≡ Err (RowFault.Leaves c) → numerator (at column self.old) ≢ pos 0 }
+    {
+        match &mut self.numbers {
+            Numbers::Short(row) => {
+                let mut wide = row.widened(self.alloc)?;
+                wide.sweep(column, lead, &mut scratch.wide)?;
+                self.numbers = Numbers::Wide(wide);
+                Ok(())
+            }
+            Numbers::Wide(row) => row.sweep(column, lead, &mut scratch.wide),
+        }
+    }
 }

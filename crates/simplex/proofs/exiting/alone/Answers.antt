@@ -19,8 +19,8 @@ offset_bounds-rows-row c =
     let inside : get_or c.args.all.now 0 0 < length c.args.rows.now = (c.requires.bounding.only (get_or c.args.all.now 0 0) (first_among c.args.all.now 0 (let n = c.requires.one in omega arith))).inside in
     search rules
 
-pub ratio_of-requires : goal.ratio_of-requires
-ratio_of-requires c =
+pub ratio-requires : goal.ratio-requires
+ratio-requires c =
     let i : ℕ = get_or c.args.all.now 0 0 in
     let b : IsBounding c.args.entering c.args.rows.now i = c.requires.bounding.only i (first_among c.args.all.now 0 (let n = c.requires.one in omega arith)) in
     subst (λ (es : Entries). pos 0 <ℤ (at c.args.entering es).num) (sym (row_is c.args.rows.now i c.index-rows-row.result b.inside c.index-rows-row.is)) b.positive

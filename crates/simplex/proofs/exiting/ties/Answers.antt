@@ -17,8 +17,8 @@ offset_bounds-rows-row c =
     let inside : get_or c.args.among.now c.loop-row.row-index 0 < length c.args.rows.now = (c.requires (get_or c.args.among.now c.loop-row.row-index 0) (among_at c.args.among.now c.loop-row.row-index 0 (omega arith))).inside in
     search rules
 
-pub ratio_of-requires : goal.ratio_of-requires
-ratio_of-requires c =
+pub ratio-requires : goal.ratio-requires
+ratio-requires c =
     let i : ℕ = get_or c.args.among.now c.loop-row.row-index 0 in
     let b : IsBounding c.args.entering c.args.rows.now i = c.requires i (among_at c.args.among.now c.loop-row.row-index 0 (omega arith)) in
     subst (λ (es : Entries). pos 0 <ℤ (at c.args.entering es).num) (sym (row_is c.args.rows.now i c.index-rows-row.result b.inside c.index-rows-row.is)) b.positive

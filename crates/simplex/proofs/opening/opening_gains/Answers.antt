@@ -1,20 +1,14 @@
-use Rattle.std.proofs.Common.{◌≡◌, ◌∙◌, ap, sym, arith, length, Err}
+use Rattle.std.proofs.Common.{◌≡◌, ◌∙◌, ap, Err}
+use Rattle.simplex.specs.declared.fault.Fault.{Fault}
 use Rattle.simplex.proofs.Opens.{gains_open, gains_leave}
-use Rattle.simplex.proofs.Solves.{written_back}
 use Rattle.simplex.proofs.opening.opening_gains.Goals as goal
 
 pub returns-in-Ok-clause-row : goal.returns-in-Ok-clause-row
-returns-in-Ok-clause-row c =
-    let made = rw (c.deref_mut.ensures.value, c.rows-2.ensures.all) at c.in-Ok.ensures.opened in
-    let back = written_back c.in_ok-gains.gains.len c.in_ok-gains.gains.items c.put_right_sides.new.gains c.in_ok-gains.gains.ok.0 made.count in
-    let rows = ap length c.rows.ensures.all in
-    let count = c.in_ok-gains.ensures.count in
-    rw back (gains_open c.args.system.now (length c.in_ok-gains.gains.items) c.put_right_sides.new.gains (omega arith) made)
+returns-in-Ok-clause-row c = gains_open c.args.system.now c.push_right_sides.new.gains (rw c.rows.ensures.all at c.in-Ok.ensures.opened)
 
 pub returns-in-Err-clause-leaves : goal.returns-in-Err-clause-leaves
 returns-in-Err-clause-leaves c i k e =
-    let row : c.unknowns-in-Err.result ≡ i = cc in
-    let column : c.in-Err.column ≡ k = cc in
-    let leaves = rw c.rows-2.ensures.all at c.in-Err.ensures.leaves in
-    let there = leaves k (ap Err column) in
-    gains_leave c.args.system.now i k (sym row ∙ c.unknowns-in-Err.ensures) there.0 there.1
+    let same : c.in_row.result ≡ Fault.Leaves i k = cc in
+    let f = c.in_row.ensures i k same in
+    let there = rw c.rows.ensures.all at c.in-Err.ensures.leaves k (ap Err f.1) in
+    gains_leave c.args.system.now i k (f.0 ∙ c.unknowns.ensures) there.0 there.1

@@ -11,7 +11,7 @@ pub returns-clause-row : goal.returns-clause-row
 returns-clause-row c =
     let fits : FitsSigned w128 (get_or c.weights.result.now c.args.unknown (pos 0)) = search rules in
     let last = simp (to_z-of_z w128 _ fits) at c.push_whole-2.ensures.added in
-    on_ok c.push_whole-2.result (opens_row c.args.system.now c.args.unknown c.requires.inside c.args.row.now c.push_whole.new.row c.push_whole-2.new.row c.requires.opened (rw c.rows.ensures.all at c.in_ok-push_whole.ensures.added))
+    on_ok c.push_whole-2.result (opens_row c.args.system.now c.args.unknown c.requires.inside c.args.row.now c.push_whole.new.self c.push_whole-2.new.self c.requires.opened (rw c.rows.ensures.all at c.in_ok-push_whole.ensures.added))
     (rw (c.rows.ensures.all, c.unknowns.ensures, c.weights.ensures.all) at last)
 
 pub returns-clause-leaves : goal.returns-clause-leaves

@@ -25,7 +25,7 @@ pub loop-row-preserved : goal.loop-row-preserved
 loop-row-preserved c =
     let j : ℕ = get_or c.args.among.now c.loop-row.row-index 0 in
     let inside = c.requires.inside j (among_at c.args.among.now c.loop-row.row-index 0 (omega arith)) in
-    one_more c.loop-row.row-index j c.args.entering c.args.among.now c.args.lead.now c.args.rows.now c.loop-row.rows c.sweep.new.row (omega arith) c.requires.differ refl inside c.loop-row.invariant c.index-rows-row.result c.in_default.ensures.swept
+    one_more c.loop-row.row-index j c.args.entering c.args.among.now c.args.lead.now c.args.rows.now c.loop-row.rows c.sweep.new.self (omega arith) c.requires.differ refl inside c.loop-row.invariant c.index-rows-row.result c.in_default.ensures.swept
 
 pub returns-clause-swept : goal.returns-clause-swept
 returns-clause-swept c =

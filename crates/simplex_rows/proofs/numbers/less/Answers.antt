@@ -1,7 +1,7 @@
 use Rattle.std.proofs.Common.{rules, refl, FitsSigned}
 use Rattle.std.proofs.lemmas.Int.{to_z-of_z}
 use Rattle.std.specs.Int.{w128}
-use Rattle.simplex_rows.proofs.Short.{product_fits, difference_fits, short_less}
+use Rattle.simplex_rows.proofs.Products.{product_fits, difference_fits, short_less}
 use Rattle.simplex_rows.proofs.numbers.less.Goals as goal
 
 pub overflow_mul-num : goal.overflow_mul-num

@@ -1,0 +1,14 @@
+use Rattle.std.proofs.Common.{ap, subst, sym, Ok}
+use Rattle.simplex_rows.specs.Entries.{EndsBefore}
+use Rattle.simplex_rows.specs.Forms.{row_of}
+use Rattle.simplex_rows.specs.ShortRows.{fractions_of}
+use Rattle.simplex_rows.proofs.row.FracRow.push_whole.Goals as goal
+
+pub returns-then-branch-clause-before : goal.returns-then-branch-clause-before
+returns-then-branch-clause-before c k h = c.in_ok-push_whole-in-Short.ensures.before k h (ap Ok c.if-branch.true)
+
+pub push_whole-requires-in-Short : goal.push_whole-requires-in-Short
+push_whole-requires-in-Short c =
+    let kept = c.in_ok-push_whole-in-Short.ensures.kept (ap Ok c.if-branch.false) in
+    let before : EndsBefore c.args.column (fractions_of (row_of c.in-Short.row)) = rw c.in-Short.is at (subst (EndsBefore c.args.column) (sym c.self.view_is) c.requires) in
+    c.in_ok-wide-in-Short.ensures.ends c.args.column (rw kept before)
