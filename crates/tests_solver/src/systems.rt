@@ -4,13 +4,13 @@ ghost use Rattle.std.specs.Prelude.{◌<◌, ◌^◌};
 ghost use Rattle.simplex_spec.specs.Tableaux.{right};
 
 use self::lines::SYSTEMS;
-use self::small::{BOTH, SMALL};
+use self::small::{BOTH, GREAT, LIMITED, SMALL};
 use crate::choosers::{greatest_column, least_column};
 use crate::plain;
-use crate::text::{shown, system, write_answer};
+use crate::text::{shown, shown_within, system, write_answer};
 use frac128::Frac;
 use linear_rows::System;
-use simplex::{Answer, Chooser, agree, solve};
+use simplex::{Answer, Chooser, agree, solve, solve_within};
 use std::alloc::Global;
 use std::process::Abort;
 use std::str::Lines;
@@ -102,6 +102,55 @@ fn choosers_agree(rt: HostRuntime) -> Result<(), Fail> {
             Some(*second),
             "of {text}"
         );
+    }
+    Ok(())
+}
+
+/// Solves systems whose numbers all are near 2^62.
+#[test]
+fn great_numbers(rt: HostRuntime) -> Result<(), Fail> {
+    for (text, answer) in &GREAT {
+        let system = system(rt.alloc(), &mut text.lines())?;
+        let found = solved(rt.alloc(), &system)?;
+        assert_eq!(rt; found.as_str(), *answer, "of {text}");
+    }
+    Ok(())
+}
+
+/// The lines of what comes of at most so many pivots, where the least column enters.
+fn solved_within(alloc: Global, system: &System, most: Option<usize>) -> Result<String, Fail>
+    requires { right system.now < 2 ^ 32 }
+{
+    let least = Chooser::new(|gains: &[Frac]| least_column(gains));
+    shown_within(alloc, &solve_within(alloc, system, &least, most)?)
+}
+
+/// Solves with no pivot and with more, one by one, of which each is too few.
+fn check_cuts(rt: &impl Abort, alloc: Global, text: &str, cuts: &[&str]) -> Result<(), Fail> {
+    let system = system(alloc, &mut text.lines())?;
+    for most in 0..cuts.len() {
+        let found = solved_within(alloc, &system, Some(most))?;
+        assert_eq!(rt; found.as_str(), cuts[most], "{most} pivots of {text}");
+    }
+    Ok(())
+}
+
+/// Solves with the least limit that cuts nothing, with the greatest, and with none, as `solve` does.
+fn check_answers(rt: &impl Abort, alloc: Global, text: &str, least: usize) -> Result<(), Fail> {
+    let system = system(alloc, &mut text.lines())?;
+    let answer = solved(alloc, &system)?;
+    for most in [Some(least), Some(usize::MAX), None] {
+        let found = solved_within(alloc, &system, most)?;
+        assert_eq!(rt; found.as_str(), answer.as_str(), "of {text}");
+    }
+    Ok(())
+}
+
+#[test]
+fn limits(rt: HostRuntime) -> Result<(), Fail> {
+    for (text, cuts) in &LIMITED {
+        check_cuts(&rt, rt.alloc(), text, cuts)?;
+        check_answers(&rt, rt.alloc(), text, cuts.len())?;
     }
     Ok(())
 }

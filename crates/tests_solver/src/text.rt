@@ -9,7 +9,7 @@ ghost use Rattle.simplex_spec.specs.Tableaux.{right};
 
 use frac128::Frac;
 use linear_rows::{Row, System};
-use simplex::Answer;
+use simplex::{Answer, Within};
 use std::alloc::Global;
 use std::fmt::Write;
 use std::str::{Lines, SplitWhitespace};
@@ -163,5 +163,18 @@ pub(super) fn write_answer(out: &mut String, answer: &Answer) -> Result<(), Fail
 pub(super) fn shown(alloc: Global, answer: &Answer) -> Result<String, Fail> {
     let mut out = String::new(alloc);
     write_answer(&mut out, answer)?;
+    Ok(out)
+}
+
+/// The lines of an answer, or of the pivots after which solving is cut.
+pub(super) fn shown_within(alloc: Global, within: &Within) -> Result<String, Fail> {
+    let mut out = String::new(alloc);
+    match within {
+        Within::Answered(answer) => write_answer(&mut out, answer)?,
+        Within::Cut { pivots } => {
+            out.push_str("cut\n")?;
+            write_pivots(&mut out, pivots)?;
+        }
+    }
     Ok(out)
 }

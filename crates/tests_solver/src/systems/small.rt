@@ -84,3 +84,42 @@ pub(super) const BOTH: [(&str, &str, &str); 4] = [
         "answer none\nfarkas 0:1\npivots\n",
     ),
 ];
+
+/// Systems whose numbers all are near 2^62, and their answers.
+pub(super) const GREAT: [(&str, &str); 4] = [
+    (
+        "system 1 1\nweights 0:4611686018427387903\nrow 4611686018427387905 0:4611686018427387901\n",
+        "answer best\nx 0:4611686018427387905/4611686018427387901\ndual 0:4611686018427387903/4611686018427387901\npivots 0:0\n",
+    ),
+    (
+        "system 1 2\nweights 0:4611686018427387905\nrow 4611686018427387904 0:4611686018427387903\nrow 4611686018427387904 0:-4611686018427387901\n",
+        "answer none\nfarkas 0:4611686018427387901/4611686018427387903 1:1\npivots 0:0\n",
+    ),
+    (
+        "system 2 2\nweights 0:4611686018427387904 1:4611686018427387903\nrow 4611686018427387905 0:4611686018427387907 1:4611686018427387901\nrow 4611686018427387899 0:4611686018427387897 1:4611686018427387909\n",
+        "answer leaves 2 2\npivots 0:0\n",
+    ),
+    (
+        "system 2 2\nweights 0:4611686018427387904 1:4611686018427387903\nrow 4611686018427387905 0:4611686018427387907\nrow 4611686018427387899 1:4611686018427387909\n",
+        "answer leaves 2 4\npivots 0:0\n",
+    ),
+];
+
+/// A system, and what solving is cut with where it may make no pivot, one and so on, by the rule of the least
+/// column. With one pivot more it answers.
+pub(super) const LIMITED: [(&str, &[&str]); 3] = [
+    (
+        "system 2 2\nweights 0:2 1:3\nrow 4 0:2 1:1\nrow 6 0:1 1:3\n",
+        &["cut\npivots\n", "cut\npivots 0:0\n"],
+    ),
+    // after one pivot the column of the second row has gain, which no row bounds
+    (
+        "system 1 2\nweights 0:1\nrow 3 0:1\nrow 1\n",
+        &["cut\npivots\n", "cut\npivots 0:0\n"],
+    ),
+    // the opening is refused, and needs no pivot
+    (
+        "system 1 1\nweights 0:1\nrow 0 0:-170141183460469231731687303715884105728\n",
+        &[],
+    ),
+];
