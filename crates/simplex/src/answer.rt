@@ -30,7 +30,6 @@ pub enum Answer {
 #[derive(Debug, Drop)]
 pub enum Within {
     Answered(Answer),
-    /// So many pivots are made, and neither end is reached: that no gain is left, or that no row bounds the
-    /// rule's column.
+    /// So many pivots are made, and the rule answers a column still.
     Cut { pivots: Vec<(u32, u32)> },
 }
