@@ -24,7 +24,7 @@ no_product a b c d e =
 less_zero : (n : ℤ) (d : ℕ) → n *ℤ pos (d * 1) ≡ (n *ℤ pos 1 -ℤ pos 0 *ℤ pos d) *ℤ pos d
 less_zero n d = rw (is_diff n) (simp (diffs, diff-pos) (diff_same _ _ _ _ (omega arith)))
 
-times_one : (a : ℤ) → a *ℤ pos 1 ≡ a
+pub times_one : (a : ℤ) → a *ℤ pos 1 ≡ a
 times_one a = omega (arith, ints)
 
 plus_none : (a : ℤ) (n : ℕ) → a +ℤ neg_ℤ (pos 0) *ℤ pos n ≡ a

@@ -1,12 +1,11 @@
 -- A row of whole numbers and a lead, put together within the bounds.
-use Rattle.std.proofs.Common.{◌≡◌, refl, ℕ, suc, ◌<◌, ◌+◌, ◌*◌, [], ◌∷◌, arith, to_z, of_z, w64, negsuc, ℤ, pos, ◌<ℤ◌, ◌≤ℤ◌, ◌+ℤ◌, ◌-ℤ◌, ◌*ℤ◌, unsigned_abs, ◌^◌, true, false, ◌==◌, inl, inr}
+use Rattle.std.proofs.Common.{◌≡◌, refl, ℕ, suc, [], ◌∷◌, arith, to_z, of_z, w64, ℤ, pos, ◌<ℤ◌, ◌≤ℤ◌, ◌+ℤ◌, ◌*ℤ◌, unsigned_abs, ◌^◌, true, false, ◌==◌, inl, inr}
 use Rattle.std.proofs.lemmas.Int.{ints}
 use Rattle.std.proofs.lemmas.Bool.Decides.{nat_tests}
-use Rattle.std.proofs.Math.Nat.{mul-pos}
 use Rattle.simplex_rows.specs.ShortRows.{Wholes, ShortRow, IsShort, whole_at, AscendsFrom, AreWithin, IsCombined}
 use Rattle.simplex_rows.specs.Combining.{CanCombine}
-use Rattle.simplex_rows.proofs.FewAppending.{number_within, kept_whole}
-use Rattle.simplex_rows.proofs.FewMerging.{none_before, before_or_from, products_within}
+use Rattle.simplex_rows.proofs.Wholes.{number_within, kept_whole, none_before, before_or_from, product_positive, difference_within}
+use Rattle.simplex_rows.proofs.FewMerging.{products_within}
 
 -- a row is within what none of its numbers is above
 pub within_if_each : (b : ℕ) (m : ℤ) (es : Wholes) → pos 0 ≤ℤ m → AscendsFrom b es → ((c : ℕ) → pos (unsigned_abs (whole_at c es)) ≤ℤ m) → AreWithin m es
@@ -21,14 +20,6 @@ within_if_each b m ((k, n) ∷ es) z s h =
             rw there at (h c)
       ]),
     )
-
-pub product_positive : (a b : ℤ) → pos 0 <ℤ a → pos 0 <ℤ b → pos 0 <ℤ (a *ℤ b)
-product_positive (negsuc a) b h k = absurd (omega (arith, ints))
-product_positive (pos a) (negsuc b) h k = absurd (omega (arith, ints))
-product_positive (pos a) (pos b) h k = let m : 0 < a * b = mul-pos (omega (arith, ints)) (omega (arith, ints)) in omega (arith, ints)
-
-difference_within : (a b : ℤ) (m : ℤ) → pos (unsigned_abs a + unsigned_abs b) ≤ℤ m → pos (unsigned_abs (a -ℤ b)) ≤ℤ m
-difference_within a b m h = grind (arith, ints)
 
 -- what fits by the bounds
 module _ (p q bound : ℤ) (row lead : ShortRow) (row_short : IsShort row) (lead_short : IsShort lead) (positive : pos 0 <ℤ p) (within : (p *ℤ row.bound +ℤ pos (unsigned_abs q) *ℤ lead.bound) ≤ℤ bound) (fits : bound <ℤ pos (2 ^ 63)) where

@@ -18,7 +18,7 @@ entry_column es i = let e = whole_entry_at es i in e.0
 abbrev pub entry_number : Wholes → ℕ → ℤ
 entry_number es i = let e = whole_entry_at es i in e.1
 
-columns_from : (b : ℕ) (es : Wholes) (i : ℕ) → AscendsFrom b es → i < length es → b ≤ entry_column es i
+pub columns_from : (b : ℕ) (es : Wholes) (i : ℕ) → AscendsFrom b es → i < length es → b ≤ entry_column es i
 columns_from b [] i s h = absurd (omega arith)
 columns_from b (e ∷ es) zero s h = s.0
 columns_from b (e ∷ es) (suc i) s h = let n = s.0 in let m = columns_from (suc e.0) es i s.2 (omega arith) in omega arith

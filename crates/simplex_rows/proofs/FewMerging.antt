@@ -1,5 +1,5 @@
 -- A walk over two rows of whole numbers, column by column.
-use Rattle.std.proofs.Common.{◌≡◌, ◌≢◌, refl, sym, ap, subst, ◌∙◌, ℕ, zero, suc, ◌<◌, ◌≤◌, ◌+◌, ◌*◌, [], ◌∷◌, ◌++◌, take, drop, take-append-drop, get_or, negsuc, is_ok, Result, Ok, Err, OnOk, to_z, of_z, w64, length, arith, ℤ, pos, ◌<ℤ◌, ◌≤ℤ◌, ◌+ℤ◌, ◌-ℤ◌, ◌*ℤ◌, unsigned_abs, ◌^◌, ◌-◌, Bool, true, false, ◌==◌, if◌then◌else◌, ◌⊎◌, inl, inr}
+use Rattle.std.proofs.Common.{◌≡◌, ◌≢◌, refl, sym, ap, subst, ◌∙◌, ℕ, zero, suc, ◌<◌, ◌≤◌, ◌+◌, ◌*◌, [], ◌∷◌, ◌++◌, take, drop, take-append-drop, negsuc, is_ok, Result, Ok, Err, OnOk, to_z, of_z, w64, length, arith, ℤ, pos, ◌<ℤ◌, ◌≤ℤ◌, ◌+ℤ◌, ◌-ℤ◌, ◌*ℤ◌, unsigned_abs, ◌^◌, ◌-◌, Bool, true, false, ◌==◌, if◌then◌else◌, inl, inr}
 use Rattle.std.proofs.lemmas.Int.{ints, unsigned_abs-mul}
 use Rattle.std.proofs.Math.Nat.{mul-pos, mul-le-mul}
 use Rattle.std.proofs.lemmas.Bool.Decides.{nat_tests}
@@ -8,7 +8,8 @@ use Rattle.std.specs.Ordering.{int_eq}
 use Rattle.std.specs.declared.alloc.AllocError.{AllocError}
 use Rattle.simplex_rows.specs.ShortRows.{Wholes, whole_at, AscendsFrom, AreWithin, WholesEndBefore, put_whole, IsCombined}
 use Rattle.simplex_rows.specs.Combining.{times, TimesFit, first_at, after, WholesStartAt, CanCombine}
-use Rattle.simplex_rows.proofs.FewAppending.{ascend_on, end_both, end_up_to, at_within, kept_whole}
+use Rattle.simplex_rows.proofs.Wholes.{end_up_to, at_within, kept_whole, before_or_from, none_before}
+use Rattle.simplex_rows.proofs.FewAppending.{ascend_on, end_both}
 
 -- the numbers before and after a place
 pub ends_before : (c n : ℕ) (es : Wholes) → AllWithin (λ e. e.0 < c) es 0 n → WholesEndBefore c (take n es)
@@ -21,14 +22,6 @@ starts_at c zero [] h = tt
 starts_at c zero (e ∷ es) h = h (omega arith) e
 starts_at c (suc n) [] h = tt
 starts_at c (suc n) (e ∷ es) h = starts_at c n es (λ lt d. h (omega arith) d)
-
--- where a row has nothing
-pub none_before : (b c : ℕ) (es : Wholes) → AscendsFrom b es → c < b → whole_at c es ≡ pos 0
-none_before b c [] s h = refl
-none_before b c (e ∷ es) s h =
-    let l = s.0 in
-    let t : (e.0 == c) ≡ false = grind (arith, nat_tests) in
-    rw t (none_before (suc e.0) c es s.2 (omega arith))
 
 none_from : (b c : ℕ) (es : Wholes) → WholesEndBefore b es → b ≤ c → whole_at c es ≡ pos 0
 none_from b c [] e h = refl
@@ -152,9 +145,6 @@ put_at c n = by (int_eq n (pos 0)) refl
     by : (t : Bool) → int_eq n (pos 0) ≡ t → whole_at c (if t then [] else (c, n) ∷ []) ≡ n
     by true e = let z : n ≡ pos 0 = grind (arith, nat_tests) in sym z
     by false e = let t : (c == c) ≡ true = grind (arith, nat_tests) in rw t refl
-
-pub before_or_from : (k b : ℕ) → (k < b) ⊎ (b ≤ k)
-before_or_from k b = grind arith
 
 less_none : (p q a : ℤ) → p *ℤ a ≡ p *ℤ a -ℤ q *ℤ pos 0
 less_none p q a = let z : q *ℤ pos 0 ≡ pos 0 = sym (times_zero q) in rw z (omega (arith, ints))
@@ -309,20 +299,8 @@ module _ (p q : ℤ) (xs qs : Wholes) (can : CanCombine p q xs qs) (c : ℕ) whe
       let both = products_within p (whole_at c xs) can.row_bound q (whole_at c qs) can.lead_bound (pos (2 ^ 63 - 1)) can.positive row_at_within lead_at_within (omega (arith, ints)) in
       omega (arith, ints)
 
--- the number at a place, and those after it
-pub next_of : (i : ℕ) (es : Wholes) → i < length es → drop i es ≡ get_or es i (0, pos 0) ∷ drop (i + 1) es
-next_of i [] h = absurd (omega arith)
-next_of zero (e ∷ es) h = refl
-next_of (suc i) (e ∷ es) h =
-    let place : suc i + 1 ≡ suc (i + 1) = omega arith in
-    rw place (next_of i es (omega arith))
-
 pub split_is : (i : ℕ) (es front rest : Wholes) → front ≡ take i es → rest ≡ drop i es → es ≡ front ++ rest
 split_is i es front rest f r = rw (f, r) (sym (take-append-drop i es))
-
-pub on_ok : {A B : Type 0} (r : Result (Unit {0}) AllocError) → (A → B) → OnOk r A → OnOk r B
-on_ok (Ok u) f a = f a
-on_ok (Err e) f a = tt
 
 times_one : (es : Wholes) → times (pos 1) es ≡ es
 times_one [] = refl

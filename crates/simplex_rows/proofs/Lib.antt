@@ -3,9 +3,11 @@ pub mod Pointwise
 mod Fronts
 pub mod Finding
 mod FewFinding
+pub mod Wholes
 mod FewAppending
 mod FewMerging
 mod FewCombining
+mod Divisors
 mod FewDividing
 mod Appending
 mod Walking

@@ -1,6 +1,5 @@
 -- What is said of rows holds of rows of the same fractions.
 use Rattle.std.proofs.Common.{refl, ℕ, inl, inr, Result, Ok, Err, OnOk}
-use Rattle.simplex_rows.specs.declared.fault.RowFault.{RowFault}
 use Rattle.frac128.specs.declared.Frac.{Frac}
 use Rattle.simplex_rows.specs.Entries.{Entries, at, IsLess, LessLeaves}
 use Rattle.simplex_rows.specs.Sweeping.{SameParts, SameFractions, IsSwept, SweepLeaves}
@@ -26,7 +25,7 @@ leaves_as s c lead led old row l o w = record { leaves = left_as (at c old) (at 
 pub same_entries : (es : Entries) → SameFractions es es
 same_entries es c = (refl, refl)
 
--- where the rows are swept
-pub on_ok : {A B : Type 0} (r : Result (Unit {0}) RowFault) → (A → B) → OnOk r A → OnOk r B
+-- where it went well
+pub on_ok : {A B E : Type 0} (r : Result (Unit {0}) E) → (A → B) → OnOk r A → OnOk r B
 on_ok (Ok u) f a = f a
 on_ok (Err e) f a = tt

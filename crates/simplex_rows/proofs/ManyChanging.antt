@@ -6,7 +6,7 @@ use Rattle.std.proofs.lemmas.List.{get_or-set_same, get_or-set_other, get_or_pas
 use Rattle.std.specs.Int.{w64}
 use Rattle.simplex_rows.specs.ShortRows.{Wholes, whole_at, AscendsFrom, WholesEndBefore}
 use Rattle.simplex_rows.specs.Placed.{placed, ProductsFit, DifferencesFit, AreMultiplied, AreLessened}
-use Rattle.simplex_rows.proofs.ManyPlaces.{none_before, same_or_not, before_or_from}
+use Rattle.simplex_rows.proofs.Wholes.{none_before, same_or_not, before_or_from}
 
 -- R is between the numbers before and after at the first k places, and the others are as before
 pub record Changing (R : ℤ → ℤ → Type 0) (k : ℕ) (old now : List ℤ) : Type 0 where
@@ -26,16 +26,6 @@ module _ (R : ℤ → ℤ → Type 0) (k : ℕ) (old now : List ℤ) (changing :
       | inr other ↦ subst (R (placed old c)) (sym (get_or-set_other now k c n (pos 0) other)) (changing.done c (omega arith))
     ];
     left = λ c l. get_or-set_other now k c n (pos 0) (λ e. omega arith) ∙ changing.left c (omega arith);
-  }
-
-  pub change_none : R (placed old k) (placed now k) → Changing R (k + 1) old now
-  change_none r = record {
-    count = changing.count;
-    done = λ c l. elim (same_or_not c k) [
-      | inl same ↦ subst (λ (j : ℕ). R (placed old j) (placed now j)) (sym same) r
-      | inr other ↦ changing.done c (omega arith)
-    ];
-    left = λ c l. changing.left c (omega arith);
   }
 
   pub all_changed : length now ≤ k → R (pos 0) (pos 0) → (c : ℕ) → R (placed old c) (placed now c)
@@ -101,7 +91,7 @@ module _ (q : ℤ) (k : ℕ) (n : ℤ) (rest lead : Wholes) (old now : List ℤ)
     each = λ c. elim (same_or_not c k) [
       | inl same ↦ subst (λ (j : ℕ). placed (set now k (placed now k -ℤ q *ℤ n)) j -ℤ q *ℤ whole_at j rest ≡ placed old j -ℤ q *ℤ whole_at j lead) (sym same) (
           let e = lessening.each k in
-          rw (get_or-set_same now k (placed now k -ℤ q *ℤ n) (pos 0) low_place, none_before k (suc k) rest (omega arith) lessening.ascends.2, less_none (placed now k -ℤ q *ℤ n) q) (rw head at e))
+          rw (get_or-set_same now k (placed now k -ℤ q *ℤ n) (pos 0) low_place, none_before (suc k) k rest lessening.ascends.2 (omega arith), less_none (placed now k -ℤ q *ℤ n) q) (rw head at e))
       | inr other ↦ rw (get_or-set_other now k c (placed now k -ℤ q *ℤ n) (pos 0) other) (let e = lessening.each c in rw (behind_head c other) at e)
     ];
     left = λ c l. get_or-set_other now k c (placed now k -ℤ q *ℤ n) (pos 0) (λ e. omega arith) ∙ lessening.left c (let m = lessening.ascends.0 in omega arith);

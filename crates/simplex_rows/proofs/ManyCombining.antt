@@ -1,14 +1,15 @@
 -- Rows of many numbers that are combined or reduced.
-use Rattle.std.proofs.Common.{◌≡◌, refl, sym, ap, ◌∙◌, ℕ, ◌+◌, ◌*◌, ◌<◌, ◌≤◌, ◌^◌, ℤ, pos, ◌*ℤ◌, ◌-ℤ◌, ◌+ℤ◌, ◌<ℤ◌, ◌≤ℤ◌, FitsSigned, unsigned_abs, arith, List, [], ◌++◌, length, take, drop}
+use Rattle.std.proofs.Common.{◌≡◌, refl, ap, ◌∙◌, ℕ, ◌+◌, ◌*◌, ◌<◌, ◌≤◌, ◌^◌, ℤ, pos, ◌*ℤ◌, ◌-ℤ◌, ◌+ℤ◌, ◌<ℤ◌, ◌≤ℤ◌, FitsSigned, unsigned_abs, arith, List, [], ◌++◌, length, take, drop}
 use Rattle.std.proofs.lemmas.Int.{ints, unsigned_abs-mul, fits_signed_from_abs}
 use Rattle.std.proofs.lemmas.List.{take_all, drop_all, append-nil, get_or_past}
-use lib.IntN.{*ℤ_comm, negsuc}
+use lib.IntN.{negsuc}
 use Rattle.std.specs.Int.{w64}
-use Rattle.raml_num.proofs.Signed.{le_mul, lt_mul, lt_cancel, none_mul}
-use Rattle.raml_num.proofs.Differences.{mul_assoc}
+use Rattle.raml_num.proofs.Signed.{le_mul, none_mul}
 use Rattle.simplex_rows.specs.ShortRows.{whole_at, ShortRow, IsShort, listed_from, IsCombined, SameValues}
 use Rattle.simplex_rows.specs.Placed.{placed, AreOf63Bits, StayWithin, ProductsFit, DifferencesFit, AreMultiplied, AreDivided, AreLessened, AreKept}
-use Rattle.simplex_rows.proofs.ManyPlaces.{at_listed, within_at, stay_within, short_of}
+use Rattle.simplex_rows.proofs.Divisors.{positive_factor, quotient_within, swapped}
+use Rattle.simplex_rows.proofs.Wholes.{at_within, product_positive, difference_within}
+use Rattle.simplex_rows.proofs.ManyPlaces.{at_listed, stay_within, short_of}
 
 -- a vector that was changed in place, as long as it was
 pub written_back_whole : (n : ℕ) (xs ys : List ℤ) → n ≡ length xs → length ys ≡ length xs → take n (ys ++ drop (length ys) xs) ≡ ys
@@ -20,47 +21,21 @@ written_back_whole n xs ys e l =
 pub of_63_bits : (b : ℤ) (ns : List ℤ) → b <ℤ pos (2 ^ 63) → StayWithin b ns → AreOf63Bits ns
 of_63_bits b ns l h = record { each = λ c. let w = h.each c in omega (arith, ints) }
 
-not_greater : (m k n : ℕ) → 0 < k → m * k ≡ n → m ≤ n
-not_greater m k n p e = grind arith
-
 -- each number over what divides all is under the bound, too
 pub divided_within : (b k : ℤ) (old new : List ℤ) → pos 0 <ℤ k → AreDivided k old new → StayWithin b old → StayWithin b new
-divided_within b k old new p d h = record {
-  each = λ c.
-      let e : unsigned_abs (placed new c) * unsigned_abs k ≡ unsigned_abs (placed old c) = sym (unsigned_abs-mul (placed new c) k) ∙ ap unsigned_abs (d.each c) in
-      let l : unsigned_abs (placed new c) ≤ unsigned_abs (placed old c) = not_greater (unsigned_abs (placed new c)) (unsigned_abs k) (unsigned_abs (placed old c)) (let q : pos 0 <ℤ k = p in omega (arith, ints)) e in
-      let w = h.each c in
-      omega (arith, ints);
-}
-
-positive_part : (d k n : ℤ) → pos 0 <ℤ k → d *ℤ k ≡ n → pos 0 <ℤ n → pos 0 <ℤ d
-positive_part d (pos k) n p e q =
-    let z : pos k *ℤ pos 0 ≡ pos 0 = omega (arith, ints) in
-    lt_cancel (pos 0) d k (rw (z, *ℤ_comm (pos k) d, e) q)
-positive_part d (negsuc k) n p e q = absurd (omega (arith, ints))
-
-lesser_part : (d k n : ℤ) → pos 0 <ℤ k → pos 0 <ℤ n → d *ℤ k ≡ n → d ≤ℤ n
-lesser_part d k n p q e =
-    let s : unsigned_abs d * unsigned_abs k ≡ unsigned_abs n = sym (unsigned_abs-mul d k) ∙ ap unsigned_abs e in
-    let l = not_greater (unsigned_abs d) (unsigned_abs k) (unsigned_abs n) (omega (arith, ints)) s in
-    omega (arith, ints)
-
-swapped : (n d k : ℤ) → n *ℤ (d *ℤ k) ≡ (n *ℤ k) *ℤ d
-swapped n d k = ap (λ (z : ℤ). n *ℤ z) (*ℤ_comm d k) ∙ sym (mul_assoc n k d)
+divided_within b k old new p d h = record { each = λ c. let l = quotient_within (placed new c) (placed old c) k p (d.each c) in let w = h.each c in omega (arith, ints) }
 
 module _ (k : ℤ) (old new : List ℤ) (den less bound : ℤ) (p : pos 0 <ℤ k) (d : AreDivided k old new) (e : less *ℤ k ≡ den) (short : IsShort (record { numbers = listed_from 0 old; den = den; bound = bound })) where
   pub reduced_short : IsShort (record { numbers = listed_from 0 new; den = less; bound = bound })
   reduced_short =
-      let q = positive_part less k den p e short.positive in
-      let l = lesser_part less k den p short.positive e in
+      let q = positive_factor less k den p short.positive e in
+      let l = quotient_within less den k p e in
+      let s = short.positive in
       let m = short.den_within in
       short_of new less bound (divided_within bound k old new p d (stay_within old den bound short)) q (omega (arith, ints)) short.fits
 
   pub reduced_same : (b : ℤ) → SameValues (record { numbers = listed_from 0 old; den = den; bound = bound }) (record { numbers = listed_from 0 new; den = less; bound = b })
   reduced_same b = record { each = λ c. rw (at_listed c new, at_listed c old, ← e, ← d.each c) (swapped (placed new c) less k) }
-
-pub all_same : (r : ShortRow) → SameValues r r
-all_same r = record { each = λ c. refl }
 
 -- a row under the least bound
 pub tightened : (ns : List ℤ) (d b least : ℤ) → IsShort (record { numbers = listed_from 0 ns; den = d; bound = b }) → d ≤ℤ least → StayWithin least ns → least <ℤ pos (2 ^ 63) → IsShort (record { numbers = listed_from 0 ns; den = d; bound = least })
@@ -79,12 +54,6 @@ first_below a b bound h k = omega (arith, ints)
 both_below : (a : ℕ) (bound : ℤ) → pos a ≤ℤ bound → bound <ℤ pos (2 ^ 63) → a < 2 ^ 63
 both_below a bound h k = omega (arith, ints)
 
-difference_size : (x y : ℤ) → unsigned_abs (x -ℤ y) ≤ unsigned_abs x + unsigned_abs y
-difference_size x y = grind (arith, ints)
-
-difference_within : (x y bound : ℤ) → pos (unsigned_abs x + unsigned_abs y) ≤ℤ bound → pos (unsigned_abs (x -ℤ y)) ≤ℤ bound
-difference_within x y bound h = let l = difference_size x y in omega (arith, ints)
-
 first_within : (a b c bound : ℤ) → a ≤ℤ b → pos 0 ≤ℤ c → (b +ℤ c) ≤ℤ bound → a ≤ℤ bound
 first_within a b c bound h k l = omega (arith, ints)
 
@@ -94,12 +63,6 @@ positive_below n bound p l s = omega (arith, ints)
 positive_times : (p : ℤ) (n : ℕ) → pos 0 <ℤ p → p *ℤ pos n ≡ pos (unsigned_abs p * n)
 positive_times (pos p) n h = refl
 positive_times (negsuc p) n h = absurd (omega (arith, ints))
-
-product_positive : (a b : ℤ) → pos 0 <ℤ a → pos 0 <ℤ b → pos 0 <ℤ (a *ℤ b)
-product_positive (pos a) b p q =
-    let z : pos a *ℤ pos 0 ≡ pos 0 = omega (arith, ints) in
-    rw z at (lt_mul (pos 0) b a (omega (arith, ints)) q)
-product_positive (negsuc a) b p q = absurd (omega (arith, ints))
 
 -- what is known of a row with places for all columns of a lead, before it is taken times p less q times the lead
 pub record Ready (p q bound : ℤ) (row : List ℤ) (row_den row_bound : ℤ) (lead : ShortRow) (reached : List ℤ) : Type 0 where
@@ -132,7 +95,7 @@ module _ (p q bound : ℤ) (row : List ℤ) (row_den row_bound : ℤ) (lead : Sh
   row_part c = rw (← positive_times p (unsigned_abs (placed reached c)) is.positive) (le_mul (pos (unsigned_abs (placed reached c))) row_bound p (row_within c) (let h = is.positive in omega (arith, ints)))
 
   lead_part : (c : ℕ) → pos (unsigned_abs q * unsigned_abs (whole_at c lead.numbers)) ≤ℤ (pos (unsigned_abs q) *ℤ lead.bound)
-  lead_part c = le_mul (pos (unsigned_abs (whole_at c lead.numbers))) lead.bound (pos (unsigned_abs q)) (within_at lead.bound lead.numbers c lead_positive is.lead_short.within) (omega (arith, ints))
+  lead_part c = le_mul (pos (unsigned_abs (whole_at c lead.numbers))) lead.bound (pos (unsigned_abs q)) (at_within lead.bound lead.numbers c lead_positive is.lead_short.within) (omega (arith, ints))
 
   together : (c : ℕ) → pos (unsigned_abs p * unsigned_abs (placed reached c) + unsigned_abs q * unsigned_abs (whole_at c lead.numbers)) ≤ℤ bound
   together c = sum_below _ _ _ _ bound (row_part c) (lead_part c) is.fits
@@ -183,7 +146,7 @@ placed_none c = get_or_past [] c (pos 0) (omega arith)
 
 module _ (few : ShortRow) (short : IsShort few) (reached : List ℤ) (kept : AreKept [] reached) where
   few_within : (c : ℕ) → pos (unsigned_abs (whole_at c few.numbers)) ≤ℤ few.bound
-  few_within c = within_at few.bound few.numbers c (let a = short.positive in let b = short.den_within in omega (arith, ints)) short.within
+  few_within c = at_within few.bound few.numbers c (let a = short.positive in let b = short.den_within in omega (arith, ints)) short.within
 
   pub spread_fits : DifferencesFit (negsuc 0) few.numbers reached
   spread_fits = record {

@@ -5,7 +5,8 @@ use Rattle.std.proofs.lemmas.Int.{to_z-of_z}
 use Rattle.std.specs.Int.{w64}
 use Rattle.simplex_rows.specs.ShortRows.{Wholes, put_whole, listed_from, IsNextWhole}
 use Rattle.simplex_rows.specs.Placed.{placed}
-use Rattle.simplex_rows.proofs.ManyPlaces.{by_zero, at_listed, before_or_from, earlier_or_here}
+use Rattle.simplex_rows.proofs.Wholes.{before_or_from, earlier_or_here}
+use Rattle.simplex_rows.proofs.ManyPlaces.{by_zero, at_listed}
 
 -- what was made of the first k numbers is a front of the list of all
 pub record Listing (k : ℕ) (ns : List ℤ) (made : Wholes) : Type 0 where

@@ -1,19 +1,11 @@
 -- A list of numbers in their places, as a row.
-use Rattle.std.proofs.Common.{◌≡◌, ◌≢◌, refl, sym, subst, ◌∙◌, ℕ, zero, suc, ◌+◌, ◌<◌, ◌≤◌, ◌^◌, ◌⊎◌, ℤ, pos, ◌<ℤ◌, ◌≤ℤ◌, unsigned_abs, arith, List, [], ◌∷◌, Bool, true, false, ◌==◌, if◌then◌else◌}
+use Rattle.std.proofs.Common.{◌≡◌, ◌≢◌, refl, sym, subst, ◌∙◌, ℕ, zero, suc, ◌+◌, ◌≤◌, ◌^◌, ℤ, pos, ◌<ℤ◌, ◌≤ℤ◌, unsigned_abs, arith, List, [], ◌∷◌, Bool, true, false, ◌==◌, if◌then◌else◌}
 use Rattle.std.proofs.lemmas.Int.{ints}
 use Rattle.std.proofs.lemmas.Bool.Decides.{nat_tests, Decides-int_eq, not_from_Decides}
 use Rattle.std.specs.Ordering.{int_eq}
 use Rattle.simplex_rows.specs.ShortRows.{Wholes, whole_at, AscendsFrom, AreWithin, IsShort, put_whole, listed_from}
 use Rattle.simplex_rows.specs.Placed.{placed, StayWithin}
-
-pub same_or_not : (a b : ℕ) → (a ≡ b) ⊎ (a ≢ b)
-same_or_not a b = grind (arith, nat_tests)
-
-pub before_or_from : (m n : ℕ) → (m < n) ⊎ (n ≤ m)
-before_or_from m n = grind arith
-
-pub earlier_or_here : (c k : ℕ) → c < k + 1 → (c < k) ⊎ (c ≡ k)
-earlier_or_here c k l = grind arith
+use Rattle.simplex_rows.proofs.Wholes.{ascends_sooner, none_before, at_within}
 
 -- a number that is put, by cases
 pub by_zero : {P : Type 0} (n : ℤ) → (n ≡ pos 0 → int_eq n (pos 0) ≡ true → P) → (n ≢ pos 0 → int_eq n (pos 0) ≡ false → P) → P
@@ -22,17 +14,6 @@ by_zero {P} n z f = by (int_eq n (pos 0)) refl
     by : (b : Bool) → int_eq n (pos 0) ≡ b → P
     by true e = let d = Decides-int_eq n (pos 0) in z (d.0 e) e
     by false e = let d = Decides-int_eq n (pos 0) in f (not_from_Decides (int_eq n (pos 0)) d e) e
-
--- no row that begins later has a number at the column
-pub none_before : (c b : ℕ) (ns : Wholes) → c < b → AscendsFrom b ns → whole_at c ns ≡ pos 0
-none_before c b [] l a = refl
-none_before c b ((k, n) ∷ ns) l a =
-    let t : (k == c) ≡ false = let m = a.0 in grind (arith, nat_tests) in
-    rw t (none_before c (suc k) ns (let m = a.0 in omega arith) a.2)
-
-ascends_sooner : (a b : ℕ) (ns : Wholes) → a ≤ b → AscendsFrom b ns → AscendsFrom a ns
-ascends_sooner a b [] l h = tt
-ascends_sooner a b ((k, n) ∷ ns) l h = (let m = h.0 in omega arith, h.1, h.2)
 
 pub put_there : (c k : ℕ) (n : ℤ) (ns : Wholes) → k ≢ c → whole_at c (put_whole k n ns) ≡ whole_at c ns
 put_there c k n ns h = by (int_eq n (pos 0))
@@ -60,7 +41,7 @@ listed_at b c [] = nothing c
     nothing (suc c) = refl
 listed_at b zero (n ∷ ns) =
     let e : b ≡ b + 0 = omega arith in
-    subst (λ (k : ℕ). whole_at k (listed_from b (n ∷ ns)) ≡ n) e (put_here b n (listed_from (suc b) ns) (none_before b (suc b) (listed_from (suc b) ns) (omega arith) (listed_ascends (suc b) ns)))
+    subst (λ (k : ℕ). whole_at k (listed_from b (n ∷ ns)) ≡ n) e (put_here b n (listed_from (suc b) ns) (none_before (suc b) b (listed_from (suc b) ns) (listed_ascends (suc b) ns) (omega arith)))
 listed_at b (suc c) (n ∷ ns) =
     let e : suc b + c ≡ b + suc c = omega arith in
     put_there (b + suc c) b n (listed_from (suc b) ns) (λ s. omega arith) ∙ subst (λ (k : ℕ). whole_at k (listed_from (suc b) ns) ≡ placed ns c) e (listed_at (suc b) c ns)
@@ -75,16 +56,8 @@ listed_within b k (n ∷ ns) h =
     let rest = listed_within b (suc k) ns (record { each = λ c. h.each (suc c) }) in
     by_zero n (λ z t. rw t rest) (λ f t. rw t (h.each 0, rest))
 
-pub within_at : (b : ℤ) (ns : Wholes) (c : ℕ) → pos 0 ≤ℤ b → AreWithin b ns → pos (unsigned_abs (whole_at c ns)) ≤ℤ b
-within_at b [] c p h = p
-within_at b ((k, n) ∷ ns) c p h = by (k == c) (within_at b ns c p h.1)
-  where
-    by : (t : Bool) → pos (unsigned_abs (whole_at c ns)) ≤ℤ b → pos (unsigned_abs (if t then n else whole_at c ns)) ≤ℤ b
-    by true g = h.0
-    by false g = g
-
 pub stay_within : (ns : List ℤ) (d b : ℤ) → IsShort (record { numbers = listed_from 0 ns; den = d; bound = b }) → StayWithin b ns
-stay_within ns d b h = record { each = λ c. subst (λ (n : ℤ). pos (unsigned_abs n) ≤ℤ b) (at_listed c ns) (within_at b (listed_from 0 ns) c (let p = h.positive in let q = h.den_within in omega (arith, ints)) h.within) }
+stay_within ns d b h = record { each = λ c. subst (λ (n : ℤ). pos (unsigned_abs n) ≤ℤ b) (at_listed c ns) (at_within b (listed_from 0 ns) c (let p = h.positive in let q = h.den_within in omega (arith, ints)) h.within) }
 
 pub short_of : (ns : List ℤ) (d b : ℤ) → StayWithin b ns → pos 0 <ℤ d → d ≤ℤ b → b <ℤ pos (2 ^ 63) → IsShort (record { numbers = listed_from 0 ns; den = d; bound = b })
 short_of ns d b h p l f = record { ascends = listed_ascends 0 ns; within = listed_within b 0 ns h; positive = p; den_within = l; fits = f }

@@ -2,10 +2,6 @@
 use Rattle.std.proofs.Common.{◌≡◌, ℕ, zero, suc, ◌+◌, ◌-◌, ◌<◌, ◌≤◌, ℤ, pos, arith, [], ◌∷◌, length, get_or}
 use Rattle.simplex_rows.specs.ShortRows.{Wholes, AscendsFrom, WholesEndBefore}
 
-pub later_ends : (m n : ℕ) (es : Wholes) → m ≤ n → WholesEndBefore m es → WholesEndBefore n es
-later_ends m n [] l h = tt
-later_ends m n ((k, x) ∷ es) l h = (let e = h.0 in omega arith, later_ends m n es l h.1)
-
 ends_at : (b i : ℕ) (es : Wholes) (d : ℕ × ℤ) → AscendsFrom b es → suc i ≡ length es → (b ≤ (let e = get_or es i d in e.0)) × WholesEndBefore ((let e = get_or es i d in e.0) + 1) es
 ends_at b i [] d a e = absurd (omega arith)
 ends_at b zero ((k, x) ∷ []) d a e = (a.0, (let l : k < k + 1 = omega arith in l, tt))

@@ -9,6 +9,7 @@ use Rattle.raml_num.specs.Divisors.{IsLcm}
 use Rattle.frac128.specs.declared.Frac.{Frac}
 use Rattle.frac128.specs.Lowest.{InLowestTerms}
 use Rattle.frac128.specs.Values.{Fits, DifferenceFits}
+use Rattle.simplex_rows.proofs.Differing.{times_one}
 use Rattle.simplex_rows.specs.Entries.{IsLess, LessLeaves}
 
 short_product : (a b : ℤ) → unsigned_abs a < 2 ^ 63 → unsigned_abs b < 2 ^ 63 → unsigned_abs (a *ℤ b) < 2 ^ 126
@@ -30,9 +31,6 @@ in_range n h = omega (arith, ints)
 
 pub difference_fits : (x a b : ℤ) → unsigned_abs x < 2 ^ 63 → unsigned_abs a < 2 ^ 63 → unsigned_abs b < 2 ^ 63 → FitsSigned w128 (x -ℤ a *ℤ b)
 difference_fits x a b l h k = in_range (x -ℤ a *ℤ b) (apart x (a *ℤ b) l (short_product a b h k))
-
-times_one : (a : ℤ) → a *ℤ pos 1 ≡ a
-times_one a = omega (arith, ints)
 
 negative_fits : (p : ℤ) → unsigned_abs p < 2 ^ 126 → Fits (neg_ℤ p)
 negative_fits p h = omega (arith, ints)

@@ -1,25 +1,14 @@
 -- What a row and a lead are multiplied by.
 use Rattle.std.proofs.Common.{◌≡◌, refl, sym, ◌∙◌, ℕ, ◌-◌, ◌*◌, ◌<◌, ◌≤◌, ◌^◌, ℤ, pos, ◌+ℤ◌, ◌*ℤ◌, ◌<ℤ◌, unsigned_abs, Option, Some, None, IfSome, FitsSigned, to_z, of_z, w64, arith}
 use Rattle.std.specs.Int.{w128}
-use Rattle.std.specs.Int.RustNames.{int_div}
 use Rattle.std.proofs.lemmas.Int.{ints, unsigned_abs-mul, fits_signed_from_abs, to_z-of_z}
 use Rattle.std.proofs.lemmas.Nat.{mul-le}
 use Rattle.simplex_rows.specs.Sharing.{Shares}
 use Rattle.simplex_rows.specs.declared.factors.Factors.{Factors}
-use Rattle.simplex_rows.specs.Tightening.{IsMultiple}
-use Rattle.simplex_rows.proofs.FewDividing.{exact, positive_factor}
+use Rattle.simplex_rows.proofs.Divisors.{positive_factor}
 
-pub by_one : (n : ℤ) (d : ℤ) → d ≡ pos 1 → Shares n d (pos 1) n
-by_one n d e = record { divisor = pos 1; own_positive = omega (arith, ints); divisor_positive = omega (arith, ints); number_is = omega (arith, ints); den_is = e ∙ omega (arith, ints) }
-
-pub by_divisor : (n d g : ℤ) → pos 0 <ℤ d → pos 0 <ℤ g → IsMultiple g d → IsMultiple g n → Shares n d (int_div d g) (int_div n g)
-by_divisor n d g p q h k = record {
-  divisor = g;
-  own_positive = positive_factor (int_div d g) g d q p (exact d g h);
-  divisor_positive = q;
-  number_is = sym (exact n g k);
-  den_is = sym (exact d g h);
-}
+pub by_divisor : (n d g own times : ℤ) → pos 0 <ℤ d → pos 0 <ℤ g → own *ℤ g ≡ d → times *ℤ g ≡ n → Shares n d own times
+by_divisor n d g own times p q h k = record { divisor = g; own_positive = positive_factor own g d q p h; divisor_positive = q; number_is = sym k; den_is = sym h }
 
 -- products of numbers of 64 bits
 product_size : (a b : ℤ) (m n : ℕ) → unsigned_abs a ≤ m → unsigned_abs b ≤ n → unsigned_abs (a *ℤ b) ≤ m * n

@@ -5,9 +5,10 @@ use Rattle.raml_num.proofs.Signed.{cancelled}
 use Rattle.frac128.specs.declared.Frac.{Frac}
 use Rattle.frac128.specs.Nought.{nought}
 use Rattle.frac128.specs.Values.{numerator, denominator, IsOver}
-use Rattle.simplex_rows.specs.Entries.{at, columns_of, SparseFrom, EndsBefore}
+use Rattle.simplex_rows.specs.Entries.{at, columns_of, EndsBefore}
 use Rattle.simplex_rows.specs.ShortRows.{Wholes, whole_at, AscendsFrom, AreWithin, WholesEndBefore, ShortRow, IsShort, fractions_over, fractions_of}
 use Rattle.simplex_rows.specs.Over.{over}
+use Rattle.simplex_rows.proofs.Wholes.{number_within}
 use Rattle.simplex_rows.proofs.Overs.{over_is}
 
 -- a number and the fraction that it makes
@@ -32,10 +33,6 @@ module _ (d : ℤ) (positive : pos 0 <ℤ d) (small : d <ℤ pos (2 ^ 63)) where
       by : (t : Bool) → IsOver (whole_at c ns) (unsigned_abs d) (at c (fractions_over d ns)) → IsOver (if t then n else whole_at c ns) (unsigned_abs d) (if t then over n d else at c (fractions_over d ns))
       by true r = is_over n (let l = w.0 in omega (arith, ints))
       by false r = r
-
-  pub sparse : (b : ℕ) (bound : ℤ) (ns : Wholes) → AreWithin bound ns → bound <ℤ pos (2 ^ 63) → AscendsFrom b ns → SparseFrom b (fractions_over d ns)
-  sparse b bound [] w h a = tt
-  sparse b bound ((k, n) ∷ ns) w h a = (a.0, not_nought n (let l = w.0 in omega (arith, ints)) a.1, sparse (suc k) bound ns w.1 h a.2)
 
 pub same_columns : (d : ℤ) (ns : Wholes) → columns_of (fractions_over d ns) ≡ map (λ e. e.0) ns
 same_columns d [] = refl
@@ -66,19 +63,8 @@ module _ (row : ShortRow) (is : IsShort row) where
   pub row_reads : (c : ℕ) → IsOver (whole_at c row.numbers) (unsigned_abs row.den) (at c (fractions_of row))
   row_reads c = reads row.den is.positive den_small c 0 row.bound row.numbers is.within is.fits
 
-  pub row_sparse : SparseFrom 0 (fractions_of row)
-  row_sparse = sparse row.den is.positive den_small 0 row.bound row.numbers is.within is.fits is.ascends
-
   pub number_small : (c : ℕ) → unsigned_abs (whole_at c row.numbers) < 2 ^ 63
-  number_small c = within c row.numbers is.within
-    where
-      within : (c : ℕ) (ns : Wholes) → AreWithin row.bound ns → unsigned_abs (whole_at c ns) < 2 ^ 63
-      within c [] w = omega arith
-      within c ((k, n) ∷ ns) w = by (k == c) (within c ns w.1)
-        where
-          by : (t : Bool) → unsigned_abs (whole_at c ns) < 2 ^ 63 → unsigned_abs (if t then n else whole_at c ns) < 2 ^ 63
-          by true l = let m = w.0 in let f = is.fits in omega (arith, ints)
-          by false l = l
+  number_small c = let w = number_within row c is in let f = is.fits in omega (arith, ints)
 
   pub den_positive : 0 < unsigned_abs row.den
   den_positive = let p = is.positive in omega (arith, ints)

@@ -1,5 +1,5 @@
 -- Whole numbers over one denominator, put one by one into a row of fractions.
-use Rattle.std.proofs.Common.{◌≡◌, ◌≢◌, refl, sym, ap, subst, unsigned_abs, ℕ, zero, suc, ◌+◌, ◌<◌, ◌≤◌, [], ◌∷◌, length, take, ℤ, pos, ◌*ℤ◌, true, false, ◌==◌, if◌then◌else◌, ◌⊎◌, inl, inr, FitsSigned, arith}
+use Rattle.std.proofs.Common.{◌≡◌, ◌≢◌, refl, sym, ap, subst, unsigned_abs, ℕ, zero, suc, ◌+◌, ◌<◌, ◌≤◌, [], ◌∷◌, length, take, ℤ, pos, ◌*ℤ◌, true, false, ◌==◌, if◌then◌else◌, inl, inr, FitsSigned, arith}
 use Rattle.std.proofs.lemmas.Int.{ints}
 use Rattle.std.proofs.lemmas.Bool.Decides.{nat_tests}
 use Rattle.std.proofs.lemmas.List.{take_all}
@@ -9,20 +9,16 @@ use Rattle.frac128.specs.Values.{numerator, denominator, IsOver}
 use Rattle.simplex_rows.specs.Entries.{Entries, at, EndsBefore, Adds}
 use Rattle.simplex_rows.specs.Sweeping.{SameFractions}
 use Rattle.simplex_rows.specs.ShortRows.{Wholes, whole_at, AscendsFrom, WholesEndBefore, ShortRow, IsShort, fractions_of}
+use Rattle.simplex_rows.proofs.Wholes.{same_or_not}
 use Rattle.simplex_rows.proofs.ShortReads.{row_reads, den_positive, den_is, ends_before}
 use Rattle.simplex_rows.proofs.ShortTells.{parts_same, number_fits}
-use Rattle.simplex_rows.proofs.FewFinding.{entry_column, entry_number, present}
-
-column_from : (b : ℕ) (es : Wholes) (i : ℕ) → AscendsFrom b es → i < length es → b ≤ entry_column es i
-column_from b [] i s h = absurd (omega arith)
-column_from b (e ∷ es) zero s h = s.0
-column_from b (e ∷ es) (suc i) s h = let n = s.0 in let m = column_from (suc e.0) es i s.2 (omega arith) in omega arith
+use Rattle.simplex_rows.proofs.FewFinding.{columns_from, entry_column, entry_number, present}
 
 more_here : (b : ℕ) (es : Wholes) (i : ℕ) → AscendsFrom b es → i < length es → whole_at (entry_column es i) (take (suc i) es) ≡ entry_number es i
 more_here b [] i s h = absurd (omega arith)
 more_here b (e ∷ es) zero s h = let t : (e.0 == e.0) ≡ true = grind (arith, nat_tests) in rw t refl
 more_here b (e ∷ es) (suc i) s h =
-    let m = column_from (suc e.0) es i s.2 (omega arith) in
+    let m = columns_from (suc e.0) es i s.2 (omega arith) in
     let t : (e.0 == entry_column es i) ≡ false = grind (arith, nat_tests) in
     rw t (more_here (suc e.0) es i s.2 (omega arith))
 
@@ -35,15 +31,12 @@ more_there (e ∷ es) (suc i) c h n = ap (λ (m : ℤ). if e.0 == c then e.1 els
 taken_before : (b : ℕ) (es : Wholes) (i : ℕ) → AscendsFrom b es → i < length es → WholesEndBefore (entry_column es i) (take i es)
 taken_before b [] i s h = absurd (omega arith)
 taken_before b (e ∷ es) zero s h = tt
-taken_before b (e ∷ es) (suc i) s h = (let m = column_from (suc e.0) es i s.2 (omega arith) in omega arith, taken_before (suc e.0) es i s.2 (omega arith))
+taken_before b (e ∷ es) (suc i) s h = (let m = columns_from (suc e.0) es i s.2 (omega arith) in omega arith, taken_before (suc e.0) es i s.2 (omega arith))
 
 last_before : (es : Wholes) (i c : ℕ) → i < length es → WholesEndBefore c (take (suc i) es) → entry_column es i < c
 last_before [] i c h e = absurd (omega arith)
 last_before (d ∷ es) zero c h e = e.0
 last_before (d ∷ es) (suc i) c h e = last_before es i c (omega arith) e.1
-
-same_or_not : (m n : ℕ) → (m ≡ n) ⊎ (m ≢ n)
-same_or_not m n = grind arith
 
 -- the first i numbers are in the row of fractions
 pub record Widening (d i : ℕ) (es : Wholes) (wide : Entries) : Type 0 where

@@ -7,5 +7,5 @@ pub mod Over
 pub mod Forms
 pub mod Sharing
 pub mod Combining
-pub mod Tightening
+pub mod Multiples
 pub mod Placed

@@ -1,5 +1,4 @@
 -- Whole numbers in the places of their columns.
-use Prim.Native.Nat.{◌∣◌}
 use Rattle.std.specs.Prelude.{◌≡◌, ℕ, ◌*◌, ◌<◌, ◌+◌, ◌^◌, List, length, slice_index_or, ℤ, pos, ◌*ℤ◌, ◌-ℤ◌, ◌≤ℤ◌, unsigned_abs}
 use Rattle.simplex_rows.specs.ShortRows.{Wholes, whole_at}
 
@@ -41,7 +40,3 @@ pub record AreLessened (q : ℤ) (lead : Wholes) (old new : List ℤ) : Type 0 w
 -- new has the numbers of old, and perhaps more places
 pub record AreKept (old new : List ℤ) : Type 0 where
   pub each : (c : ℕ) → placed new c ≡ placed old c
-
--- k divides each number
-pub record AreMultiples (k : ℤ) (ns : List ℤ) : Type 0 where
-  pub each : (c : ℕ) → unsigned_abs k ∣ unsigned_abs (placed ns c)

@@ -3,7 +3,7 @@
 ghost use Rattle.std.specs.Prelude.{◌≡◌, pos, ◌<ℤ◌, ◌≤ℤ◌, ◌+ℤ◌, ◌*ℤ◌, unsigned_abs, IfSome};
 ghost use Rattle.simplex_rows.specs.Sharing.{Shares};
 
-use crate::few_dividing::common_with;
+use crate::dividing::{common_with, over};
 
 /// A row is multiplied by `own` and the lead by `times`, and no number that comes of it is greater than `bound`,
 /// without its sign.
@@ -29,7 +29,12 @@ pub(crate) fn find_factors(
     ensures bound { IfSome result (λ f. (f.own *ℤ bound +ℤ pos (unsigned_abs f.times) *ℤ lead_bound) ≤ℤ f.bound) }
 {
     let divisor = common_with(lead_den, number);
-    bounded(lead_den / divisor, number / divisor, bound, lead_bound)
+    bounded(
+        over(lead_den, divisor),
+        over(number, divisor),
+        bound,
+        lead_bound,
+    )
 }
 
 /// These factors with the bound of what comes of them, or None where it passes 63 bits.

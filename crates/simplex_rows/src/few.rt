@@ -5,6 +5,7 @@ ghost use Rattle.simplex_rows.specs.ShortRows.{ShortRow, IsShort, whole_at, put_
 ghost use Rattle.simplex_rows.specs.Entries.{at};
 ghost use Rattle.frac128.specs.Values.{numerator, IsQuotient};
 
+use crate::dividing::over;
 use crate::few_dividing::{common_divisor, divide_each, greatest};
 use crate::few_merging::put_combined;
 use std::alloc::{AllocError, Global};
@@ -205,7 +206,7 @@ impl FewRow {
             return;
         }
         divide_each(&mut self.entries, common);
-        self.den /= common;
+        self.den = over(self.den, common);
     }
 
     /// The row over its number at a column, which is positive. No number changes but by what they have in common.

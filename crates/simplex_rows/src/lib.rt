@@ -1,6 +1,7 @@
 //! Sparse rows of fractions: those that are not 0, in order of column.
 #![tactic(auto)]
 
+mod dividing;
 mod factors;
 mod fault;
 mod few;

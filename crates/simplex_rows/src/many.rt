@@ -3,10 +3,9 @@
 ghost use Rattle.std.specs.Prelude.{◌≡◌, ◌≤◌, ◌^◌, length, map, ℕ, pos, ◌<ℤ◌, ◌≤ℤ◌, ◌+ℤ◌, ◌*ℤ◌, unsigned_abs, IfOk, OnOk};
 ghost use Rattle.simplex_rows.specs.ShortRows.{ShortRow, IsShort, whole_at, listed_from, IsNextWhole, IsCombined, SameValues};
 
+use crate::dividing::over;
 use crate::few::FewRow;
-use crate::places::{
-    common_divisor, divide, greatest, lessen, list_numbers, multiply, over, reach,
-};
+use crate::places::{common_divisor, divide, greatest, lessen, list_numbers, multiply, reach};
 use std::alloc::{AllocError, Global};
 use std::marker::Model;
 

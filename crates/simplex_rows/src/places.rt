@@ -1,11 +1,11 @@
 //! Whole numbers that stand in the places of their columns.
 
-ghost use Rattle.std.specs.Prelude.{◌≡◌, ◌≤◌, ◌^◌, length, pos, ◌<ℤ◌, ◌≤ℤ◌, ◌*ℤ◌, unsigned_abs, IfOk, OnOk};
-ghost use Prim.Native.Nat.{◌∣◌};
+ghost use Rattle.std.specs.Prelude.{◌≡◌, ◌≤◌, ◌^◌, length, pos, ◌<ℤ◌, ◌≤ℤ◌, IfOk, OnOk};
 ghost use Rattle.simplex_rows.specs.ShortRows.{AscendsFrom, WholesEndBefore, listed_from};
-ghost use Rattle.simplex_rows.specs.Placed.{AreOf63Bits, StayWithin, ProductsFit, DifferencesFit, AreMultiplied, AreDivided, AreLessened, AreKept, AreMultiples};
+ghost use Rattle.simplex_rows.specs.Placed.{AreOf63Bits, StayWithin, ProductsFit, DifferencesFit, AreMultiplied, AreDivided, AreLessened, AreKept};
+ghost use Rattle.simplex_rows.specs.Multiples.{IsMultiple, AreMultiples};
 
-use raml_num::gcd;
+use crate::dividing::{common_with, over};
 use std::alloc::{AllocError, Global};
 
 /// So many places reach to the last column.
@@ -72,20 +72,11 @@ pub(crate) fn divide(numbers: &mut [i64], by: i64)
     }
 }
 
-/// A number over one that divides it. Many are 0, and need no division.
-pub(crate) fn over(number: i64, by: i64) -> i64
-    requires positive { pos 0 <ℤ by }
-    requires multiple { unsigned_abs by ∣ unsigned_abs number }
-    ensures { result *ℤ by ≡ number }
-{
-    if number == 0 { 0 } else { number / by }
-}
-
 /// What divides a positive number and all of a list.
 pub(crate) fn common_divisor(first: i64, numbers: &[i64]) -> i64
     requires { pos 0 <ℤ first }
     ensures positive { pos 0 <ℤ result }
-    ensures first { unsigned_abs result ∣ unsigned_abs first }
+    ensures first { IsMultiple result first }
     ensures multiples { AreMultiples result numbers.now }
 {
     let mut common = first;
@@ -93,26 +84,9 @@ pub(crate) fn common_divisor(first: i64, numbers: &[i64]) -> i64
         if common == 1 {
             return common;
         }
-        common = shared(common, *number);
+        common = common_with(common, *number);
     }
     common
-}
-
-/// The greatest that divides a positive number and another one.
-fn shared(common: i64, number: i64) -> i64
-    requires { pos 0 <ℤ common }
-    ensures positive { pos 0 <ℤ result }
-    ensures common { unsigned_abs result ∣ unsigned_abs common }
-    ensures number { unsigned_abs result ∣ unsigned_abs number }
-{
-    if number % common == 0 {
-        return common;
-    }
-    let divisor = gcd(
-        u128::from(common.unsigned_abs()),
-        u128::from(number.unsigned_abs()),
-    );
-    divisor as i64
 }
 
 /// The greatest of a positive number and all of a list, without their signs.

@@ -1,6 +1,6 @@
 use Rattle.std.proofs.Common.{arith, w64, ◌*ℤ◌}
 use Rattle.std.proofs.lemmas.Int.{to_z-of_z}
-use Rattle.simplex_rows.proofs.FewAppending.{kept_whole}
+use Rattle.simplex_rows.proofs.Wholes.{kept_whole}
 use Rattle.simplex_rows.proofs.FewMerging.{difference_kept}
 use Rattle.simplex_rows.proofs.few_merging.difference.Goals as goal
 

@@ -1,9 +1,10 @@
 use Rattle.std.proofs.Common.{◌≡◌, arith, ap, ◌∙◌, ◌++◌, ◌*ℤ◌, ◌-ℤ◌, ◌<ℤ◌, [], ℕ, ℤ, pos, drop, slice_index_or, to_z, of_z, w64}
 use Rattle.std.proofs.lemmas.Int.{to_z-of_z}
-use Rattle.std.proofs.lemmas.List.{drop_all}
+use Rattle.std.proofs.lemmas.List.{drop_all, drop_more}
 use Rattle.simplex_rows.specs.ShortRows.{WholesEndBefore, put_whole}
 use Rattle.simplex_rows.specs.Combining.{WholesStartAt}
-use Rattle.simplex_rows.proofs.FewMerging.{starts, front_fits, row_number, lead_number, row_kept, lead_kept, products_fit, turns, ended, next_of, split_is, on_ok, ends_before, starts_at}
+use Rattle.simplex_rows.proofs.FewMerging.{starts, front_fits, row_number, lead_number, row_kept, lead_kept, products_fit, turns, ended, split_is, ends_before, starts_at}
+use Rattle.simplex_rows.proofs.Likewise.{on_ok}
 use Rattle.simplex_rows.proofs.few_merging.put_combined.Goals as goal
 
 pub loop-entry-init : goal.loop-entry-init
@@ -12,7 +13,7 @@ loop-entry-init c = rw (to_z-of_z w64 _ c.ranges.p, to_z-of_z w64 _ c.ranges.q, 
 pub put_times-requires : goal.put_times-requires
 put_times-requires c =
     let entry : ℕ × ℤ = slice_index_or c.args.lead.now c.loop-entry.entry-index (0, pos 0) in
-    let lead_is = next_of c.loop-entry.entry-index c.args.lead.now c.loop-entry-test.true in
+    let lead_is = drop_more c.args.lead.now c.loop-entry.entry-index (0, pos 0) c.loop-entry-test.true in
     let row_is = split_is _ _ _ _ c.split_at.ensures.front c.split_at.ensures.back in
     let ends : WholesEndBefore entry.0 c.split_at.result.0.now = rw c.split_at.ensures.front (ends_before entry.0 c.count_before.result _ c.count_before.ensures.before) in
     front_fits _ _ _ _ _ _ _ c.loop-entry.invariant _ _ _ lead_is _ _ row_is ends
@@ -20,7 +21,7 @@ put_times-requires c =
 pub difference-requires : goal.difference-requires
 difference-requires c =
     let entry : ℕ × ℤ = slice_index_or c.args.lead.now c.loop-entry.entry-index (0, pos 0) in
-    let lead_is = next_of c.loop-entry.entry-index c.args.lead.now c.loop-entry-test.true in
+    let lead_is = drop_more c.args.lead.now c.loop-entry.entry-index (0, pos 0) c.loop-entry-test.true in
     let row_is = split_is _ _ _ _ c.split_at.ensures.front c.split_at.ensures.back in
     let ends : WholesEndBefore entry.0 c.split_at.result.0.now = rw c.split_at.ensures.front (ends_before entry.0 c.count_before.result _ c.count_before.ensures.before) in
     let begins : WholesStartAt entry.0 c.split_at.result.1.now = rw c.split_at.ensures.back (starts_at entry.0 c.count_before.result _ c.count_before.ensures.next) in
@@ -32,7 +33,7 @@ difference-requires c =
 pub loop-entry-preserved : goal.loop-entry-preserved
 loop-entry-preserved c =
     let entry : ℕ × ℤ = slice_index_or c.args.lead.now c.loop-entry.entry-index (0, pos 0) in
-    let lead_is = next_of c.loop-entry.entry-index c.args.lead.now c.loop-entry-test.true in
+    let lead_is = drop_more c.args.lead.now c.loop-entry.entry-index (0, pos 0) c.loop-entry-test.true in
     let row_is = split_is _ _ _ _ c.split_at.ensures.front c.split_at.ensures.back in
     let ends : WholesEndBefore entry.0 c.split_at.result.0.now = rw c.split_at.ensures.front (ends_before entry.0 c.count_before.result _ c.count_before.ensures.before) in
     let begins : WholesStartAt entry.0 c.split_at.result.1.now = rw c.split_at.ensures.back (starts_at entry.0 c.count_before.result _ c.count_before.ensures.next) in

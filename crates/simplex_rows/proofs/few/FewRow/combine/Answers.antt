@@ -2,7 +2,7 @@ use Rattle.std.proofs.Common.{arith, pos, w64, ◌+ℤ◌, ◌*ℤ◌, ◌<ℤ�
 use Rattle.std.proofs.lemmas.Int.{ints, to_z-of_z, fits_signed_from_abs}
 use lib.IntN.{*ℤ_comm}
 use Rattle.simplex_rows.specs.ShortRows.{IsCombined}
-use Rattle.simplex_rows.proofs.FewAppending.{short_den_kept}
+use Rattle.simplex_rows.proofs.Wholes.{short_den_kept}
 use Rattle.simplex_rows.proofs.FewCombining.{can_combine, den_positive, den_within, den_kept, combined_short}
 use Rattle.simplex_rows.proofs.few.FewRow.combine.Goals as goal
 

@@ -2,7 +2,7 @@ use Rattle.std.proofs.Common.{◌≡◌, sym, subst, pos, ◌<ℤ◌}
 use Rattle.frac128.specs.Values.{numerator, IsQuotient}
 use Rattle.simplex_rows.specs.Entries.{at}
 use Rattle.simplex_rows.specs.ShortRows.{ShortRow, whole_at, fractions_of}
-use Rattle.simplex_rows.proofs.FewAppending.{number_kept}
+use Rattle.simplex_rows.proofs.Wholes.{number_kept}
 use Rattle.simplex_rows.proofs.FewDividing.{over_short}
 use Rattle.simplex_rows.proofs.ShortTells.{number_positive}
 use Rattle.simplex_rows.proofs.ShortSweeps.{is_over_its}

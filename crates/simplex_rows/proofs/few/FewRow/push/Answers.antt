@@ -1,7 +1,8 @@
 use Rattle.std.proofs.Common.{◌≢◌, refl, [], ◌∷◌, pos, arith}
 use Rattle.std.proofs.lemmas.Int.{ints}
 use Rattle.simplex_rows.specs.ShortRows.{WholesEndBefore}
-use Rattle.simplex_rows.proofs.FewAppending.{end_up_to, end_both, put_some, kept_whole, pushed_short}
+use Rattle.simplex_rows.proofs.Wholes.{end_up_to, kept_whole}
+use Rattle.simplex_rows.proofs.FewAppending.{end_both, put_some, pushed_short}
 use Rattle.simplex_rows.proofs.few.FewRow.push.Goals as goal
 
 pub returns-then-n-eq0-clause-before : goal.returns-then-n-eq0-clause-before

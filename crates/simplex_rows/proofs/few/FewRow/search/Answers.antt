@@ -2,7 +2,7 @@ use Rattle.std.proofs.Common.{ℕ, ℤ, pos, rules, sym, ap, ◌∙◌}
 use Rattle.std.proofs.lemmas.List.{get_or_default}
 use Rattle.std.proofs.lemmas.List.Sorted.{answers_always}
 use Rattle.simplex_rows.proofs.FewFinding.{found, missing}
-use Rattle.simplex_rows.proofs.FewAppending.{number_kept}
+use Rattle.simplex_rows.proofs.Wholes.{number_kept}
 use Rattle.simplex_rows.proofs.few.FewRow.search.Goals as goal
 
 pub returns-in-Ok : goal.returns-in-Ok

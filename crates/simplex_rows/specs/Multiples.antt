@@ -1,5 +1,5 @@
 -- Whole numbers that have a factor in common.
-use Rattle.std.specs.Prelude.{[], ◌∷◌, ℤ, unsigned_abs, int_div}
+use Rattle.std.specs.Prelude.{List, [], ◌∷◌, ℤ, unsigned_abs, int_div}
 use Rattle.simplex_rows.specs.ShortRows.{Wholes}
 use Prim.Native.Nat.{◌∣◌}
 
@@ -8,9 +8,9 @@ abbrev pub IsMultiple : ℤ → ℤ → Type 0
 IsMultiple k n = unsigned_abs k ∣ unsigned_abs n
 
 -- k divides each number
-abbrev pub AreMultiples : ℤ → Wholes → Type 0
+abbrev pub AreMultiples : ℤ → List ℤ → Type 0
 AreMultiples k [] = Unit {0}
-AreMultiples k ((c, n) ∷ ns) = IsMultiple k n × AreMultiples k ns
+AreMultiples k (n ∷ ns) = IsMultiple k n × AreMultiples k ns
 
 -- each number over k
 abbrev pub quotients : ℤ → Wholes → Wholes
