@@ -12,7 +12,7 @@ use Rattle.simplex_spec.proofs.Ending.{Good, good_opening, good_pivot, good_cour
 use Rattle.simplex.specs.declared.answer.Answer.{Answer}
 use Rattle.simplex.specs.declared.answer.Within.{Within}
 use Rattle.simplex.specs.declared.answer.Within.TheVariants.{Answered, Cut}
-use Rattle.simplex.specs.Solving.{SaysNone, IsCut, IsWithin, SaysCut, CutsBy, UpTo, Below}
+use Rattle.simplex.specs.Solving.{SaysNone, Bounds, IsCut, IsWithin, SaysCut, CutsBy, UpTo, Below}
 use Rattle.simplex.proofs.Agreement.{none_where_risen}
 
 some_is : (a b : ℕ) → Some a ≡ Some b → a ≡ b
@@ -54,18 +54,29 @@ module _ (rule : Rule) (once : AnswersOnce rule) (s : LinearSystem) where
   over_positive : (ps : List (ℕ × ℕ)) (t : Tableau) → IsSystem s → Course s ps t → pos 0 <ℤ t.over
   over_positive ps t h course = let g = good_course s ps t h course in g.sound.positive
 
-  pub end_not_cut : (ps : List (ℕ × ℕ)) (t : Tableau) (most : Option ℕ) → IsSystem s → Ends s ps t → Follows rule s ps → UpTo most (length ps) → CutsBy rule s most → ⊥
-  end_not_cut ps t most h e f up b =
+  -- where the course stops at the limit, it is cut there
+  stops_there : (ps : List (ℕ × ℕ)) (t : Tableau) (most : Option ℕ) → IsSystem s → Course s ps t → Follows rule s ps → ((l c : ℕ) → IsPivot s t l c → Answers rule s t c → ⊥) → UpTo most (length ps) → (b : CutsBy rule s most) → t ≡ b.cut.t
+  stops_there ps t most h course f stops up b =
       let low = up b.limit b.is_limit in
       let count = b.cut.count in
-      let same : t ≡ b.cut.t = (from_opening ps b.pivots t b.cut.t h e.course f (λ l c p a. low_high (places.at t.gains c) (e.none c p.enters.before) p.enters.gain) b.cut.course b.cut.follows).1 (omega arith) in
+      (from_opening ps b.pivots t b.cut.t h course f stops b.cut.course b.cut.follows).1 (omega arith)
+
+  pub end_not_cut : (ps : List (ℕ × ℕ)) (t : Tableau) (most : Option ℕ) → IsSystem s → Ends s ps t → Follows rule s ps → UpTo most (length ps) → CutsBy rule s most → ⊥
+  end_not_cut ps t most h e f up b =
+      let same : t ≡ b.cut.t = stops_there ps t most h e.course f (λ l c p a. low_high (places.at t.gains c) (e.none c p.enters.before) p.enters.gain) up b in
       let here : Enters s t b.cut.column = subst (λ (w : Tableau). Enters s w b.cut.column) (sym same) b.cut.enters in
       low_high (places.at t.gains b.cut.column) (e.none b.cut.column here.before) here.gain
 
-  pub rise_not_cut : (ps : List (ℕ × ℕ)) (t : Tableau) (e : ℕ) (most : Option ℕ) → IsSystem s → Rises s ps t e → Follows rule s ps → Answers rule s t e → Below most (length ps) → CutsBy rule s most → ⊥
-  rise_not_cut ps t e most h r f answers below b = stops_before ps t most h r.course f (λ l c p a.
+  -- no row bounds the rule's column where the course rises
+  none_bounds : (ps : List (ℕ × ℕ)) (t : Tableau) (e c i : ℕ) → IsSystem s → Rises s ps t e → Answers rule s t e → Answers rule s t c → Bounds t c i → ⊥
+  none_bounds ps t e c i h r answers a bounds =
       let same : c ≡ e = one_answer t c e (over_positive ps t h r.course) a answers in
-      low_high (places.at (row_at t.rows l) c) (subst (λ (k : ℕ). places.at (row_at t.rows l) k ≤ℤ pos 0) (sym same) (r.none l p.exits.inside)) p.exits.positive) below b
+      low_high (places.at (row_at t.rows i) c) (subst (λ (k : ℕ). places.at (row_at t.rows i) k ≤ℤ pos 0) (sym same) (r.none i bounds.inside)) bounds.positive
+
+  pub rise_not_cut : (ps : List (ℕ × ℕ)) (t : Tableau) (e : ℕ) (most : Option ℕ) → IsSystem s → Rises s ps t e → Follows rule s ps → Answers rule s t e → UpTo most (length ps) → CutsBy rule s most → ⊥
+  rise_not_cut ps t e most h r f answers up b =
+      let same : t ≡ b.cut.t = stops_there ps t most h r.course f (λ l c p a. none_bounds ps t e c l h r answers a (record { inside = p.exits.inside; positive = p.exits.positive })) up b in
+      none_bounds ps t e b.cut.column b.cut.row h r answers (subst (λ (w : Tableau). Answers rule s w b.cut.column) (sym same) b.cut.answers) (subst (λ (w : Tableau). Bounds w b.cut.column b.cut.row) (sym same) b.cut.bounds)
 
   pub refusal_not_cut : (ps : List (ℕ × ℕ)) (i k : ℕ) (most : Option ℕ) → IsSystem s → Refuses rule s ps i k → Below most (length ps) → CutsBy rule s most → ⊥
   refusal_not_cut ps i k most h (AtOpening n o) below b = b.cut.course.opens i k o

@@ -64,6 +64,10 @@ take_more (x ∷ xs) (suc k) d h =
     let e : suc k + 1 ≡ suc (k + 1) = omega arith in
     ap (λ (n : ℕ). take n (x ∷ xs)) e ∙ ap (λ (ys : List ℕ). x ∷ ys) (take_more xs k d (omega arith))
 
+pub none_among : (i : ℕ) (xs : List ℕ) → length xs ≡ 0 → Among i xs → ⊥
+none_among i [] e a = a
+none_among i (x ∷ xs) e a = absurd (omega arith)
+
 pub among_at : (xs : List ℕ) (k d : ℕ) → k < length xs → Among (get_or xs k d) xs
 among_at [] k d h = absurd (omega arith)
 among_at (x ∷ xs) zero d h = inl refl

@@ -22,7 +22,7 @@ use Rattle.simplex.specs.declared.fault.Fault.{Fault}
 use Rattle.simplex.specs.declared.table.Table.{Table}
 use Rattle.simplex.specs.declared.solver.Step.{Step}
 use Rattle.simplex.specs.declared.solver.Step.TheVariants as step
-use Rattle.simplex.specs.Solving.{rule_over, IsAfter, Reached, ReachedEnd, ReachedRise, IsStep, IsCut, Below}
+use Rattle.simplex.specs.Solving.{rule_over, IsAfter, Reached, ReachedEnd, ReachedRise, Bounds, IsMade, MakingLeaves, Searching, Pivoting, IsStep, IsCut, Below}
 use lib.ListN.{length-append}
 use Rattle.simplex.proofs.Narrowing.{same_sign, sign_back}
 use Rattle.simplex.proofs.Lifting.{stands_with}
@@ -136,6 +136,14 @@ module _ (s : LinearSystem) (system : IsSystem s) (pivots : List (ℕ × ℕ)) (
       not_positive : (z : ℤ) → (pos 0 <ℤ z → ⊥) → z ≤ℤ pos 0
       not_positive z n = grind (arith, ints)
 
+  pub bounds_so : (c i : ℕ) → IsBounding c rows i → Bounds t c i
+  bounds_so c i b =
+      let inside : i < length t.rows = (let n = after.stand.rows_stand.count in let h = b.inside in omega arith) in
+      record {
+        inside = inside;
+        positive = same_sign (at c (entries_at rows i)).num t.over (places.at (row_at t.rows i) c) (at c (entries_at rows i)).den good.sound.positive ((after.stand.rows_stand.each i inside).each c).is (at c (entries_at rows i)).lowest.positive b.positive;
+      }
+
   pub after_pivot : (l c : ℕ) (new : List Entries) (new_gains : Entries) → Enters s t c → IsExiting (compared s) c rows l → IsPivoted l c rows gains new new_gains → IsAfter s (pivots ++ (l, c) ∷ []) (set basis l c) new new_gains (pivot l c t)
   after_pivot l c new new_gains e leaving made =
       let r = steps s pivots t c rows gains l new new_gains system after.course after.stand e leaving made in
@@ -169,27 +177,35 @@ module _ (answers : List Frac → Option ℕ → Type 0) (chooses : Chooses answ
     by_rule : Answers (rule_over answers) s r.t c
     by_rule = answers_so s system table.pivots.items table.basis.items table.rows.items table.gains r.t r.after answers chooses fs h c a
 
-    pub is_cut : (m : ℕ) → length table.pivots.items ≡ m → IsCut (rule_over answers) s m table.pivots.items
-    is_cut m e = record { t = r.t; column = c; course = r.after.course; follows = r.follows; count = e; enters = enters; answers = by_rule }
+    pub is_cut : (m i : ℕ) → length table.pivots.items ≡ m → IsBounding c table.rows.items i → IsCut (rule_over answers) s m table.pivots.items
+    is_cut m i e b = record {
+      t = r.t;
+      column = c;
+      course = r.after.course;
+      follows = r.follows;
+      count = e;
+      enters = enters;
+      answers = by_rule;
+      row = i;
+      bounds = bounds_so s system table.pivots.items table.basis.items table.rows.items table.gains r.t r.after c i b;
+    }
 
     pub reaches_rise : ((i : ℕ) → IsBounding c table.rows.items i → ⊥) → ReachedRise (rule_over answers) s table c
     reaches_rise none = record { reached = r; rises = rises_so s system table.pivots.items table.basis.items table.rows.items table.gains r.t r.after c enters none; answers = by_rule }
 
-    pub search_refuses : (i k : ℕ) → SearchLeaves (compared s) c table.rows.items i k → Refuses (rule_over answers) s table.pivots.items i k × (i ≤ s.unknowns)
-    search_refuses i k w =
+    pub making_refuses : (i k : ℕ) → MakingLeaves s c table i k → Refuses (rule_over answers) s table.pivots.items i k × (i ≤ s.unknowns)
+    making_refuses i k (Searching w) =
         let q = search_refused s system table.pivots.items table.basis.items table.rows.items table.gains r.t r.after c i k w in
         (AtPivot r.t c r.after.course r.follows enters by_rule q.0, q.1)
-
-    pub pivot_refuses : (l i k : ℕ) → IsExiting (compared s) c table.rows.items l → PivotLeaves l c table.rows.items table.gains i k → Refuses (rule_over answers) s table.pivots.items i k × (i ≤ s.unknowns)
-    pivot_refuses l i k leaving w =
+    making_refuses i k (Pivoting l leaving w) =
         let q = pivot_refused_at s system table.pivots.items table.basis.items table.rows.items table.gains r.t r.after c l i k leaving w in
         (AtPivot r.t c r.after.course r.follows enters by_rule q.0, q.1)
 
-    pub pivot_reaches : (l : ℕ) (new : Table) → IsExiting (compared s) c table.rows.items l → IsPivoted l c table.rows.items table.gains new.rows.items new.gains → new.basis.items ≡ set table.basis.items l c → new.pivots.items ≡ table.pivots.items ++ (l, c) ∷ [] → Reached (rule_over answers) s new
-    pivot_reaches l new leaving made e f = record {
-      t = pivot l c r.t;
-      after = rw (e, f) (after_pivot s system table.pivots.items table.basis.items table.rows.items table.gains r.t r.after l c new.rows.items new.gains enters leaving made);
-      follows = subst (Follows (rule_over answers) s) (sym f) (follows_pivot s system table.pivots.items table.basis.items table.rows.items table.gains r.t r.after (rule_over answers) l c r.follows by_rule);
+    pub made_reaches : (new : Table) → IsMade s c table new → Reached (rule_over answers) s new
+    made_reaches new m = record {
+      t = pivot m.row c r.t;
+      after = rw (m.basis_is, m.pivots_are) (after_pivot s system table.pivots.items table.basis.items table.rows.items table.gains r.t r.after m.row c new.rows.items new.gains enters m.exits m.pivoted);
+      follows = subst (Follows (rule_over answers) s) (sym m.pivots_are) (follows_pivot s system table.pivots.items table.basis.items table.rows.items table.gains r.t r.after (rule_over answers) m.row c r.follows by_rule);
     }
 
 pub one_longer : (ps : List (ℕ × ℕ)) (p : ℕ × ℕ) → length (ps ++ p ∷ []) ≡ length ps + 1
@@ -202,10 +218,10 @@ basis_long rule s table system r =
     ap length (sym r.after.basis_is) ∙ sym g.sound.one_each ∙ sym r.after.stand.rows_stand.count
 
 -- a step that was stopped
-pub stops : (rule : Rule) (s : LinearSystem) (most : Option ℕ) (old new : Table) (fault : Fault) (r : Result Step AllocError) → ((i k : ℕ) → fault ≡ Fault.Leaves i k → Refuses rule s new.pivots.items i k) → Below most (length new.pivots.items)
+pub stops : (rule : Rule) (s : LinearSystem) (most : Option ℕ) (old new : Table) (fault : Fault) (r : Result Step AllocError) → ((i k : ℕ) → fault ≡ Fault.Leaves i k → Refuses rule s new.pivots.items i k × Below most (length new.pivots.items))
     → IfOk r (λ x. (i : ℕ) × (c : ℕ) × (fault ≡ Fault.Leaves i c) × (x ≡ step.Leaves i c)) → IfOk r (IsStep rule s most old new)
-stops rule s most old new fault (Ok x) f b p = subst (IsStep rule s most old new) (sym p.3) (f p.0 p.1 p.2, b)
-stops rule s most old new fault (Err e) f b p = tt
+stops rule s most old new fault (Ok x) f p = subst (IsStep rule s most old new) (sym p.3) (f p.0 p.1 p.2)
+stops rule s most old new fault (Err e) f p = tt
 
 -- what is written back
 module _ {X : Type 0} where

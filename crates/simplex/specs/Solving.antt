@@ -1,12 +1,14 @@
 -- The tableau that the code keeps, and what solving answers.
-use Rattle.std.specs.Prelude.{◌≡◌, ℕ, ◌+◌, ◌<◌, ◌≤◌, List, [], length, ℤ, pos, ◌*ℤ◌, ◌<ℤ◌, Option, Some}
+use Rattle.std.specs.Prelude.{◌≡◌, ℕ, ◌+◌, ◌<◌, ◌≤◌, List, [], length, ℤ, pos, ◌*ℤ◌, ◌<ℤ◌, Option, Some, ◌∷◌, ◌++◌, slice_set}
 use Rattle.std.specs.Fn.{Shared, FnReturnsAt}
 use Rattle.std.specs.Borrow.{Bor}
 use Rattle.frac128.specs.declared.Frac.{Frac}
 use Rattle.simplex_rows.specs.Entries.{Entries}
 use Rattle.linear_rows.specs.Systems.{LinearSystem, Refutes, ProvesLeast, IsLeast}
 use Rattle.linear_rows.specs.Vectors.{dot}
-use Rattle.simplex_spec.specs.Tableaux.{Tableau, opening, slacks, solution, dual, ray}
+use Rattle.simplex_spec.specs.Places.{row_at}
+use Rattle.simplex_spec.specs.Places as places
+use Rattle.simplex_spec.specs.Tableaux.{Tableau, compared, opening, slacks, solution, dual, ray}
 use Rattle.simplex_spec.specs.Courses.{Rule, Course, Enters, Ends, Rises, Follows, Answers, Refuses}
 use Rattle.simplex.specs.declared.answer.Answer.{Answer}
 use Rattle.simplex.specs.declared.answer.Answer.TheVariants.{Best, NoSolution, Leaves}
@@ -16,7 +18,8 @@ use Rattle.simplex.specs.declared.table.Table.{Table}
 use Rattle.simplex.specs.declared.solver.Scratch.{Scratch}
 use Rattle.simplex.specs.declared.solver.Step.{Step}
 use Rattle.simplex.specs.declared.solver.Step.TheVariants as step
-use Rattle.simplex.specs.Standing.{TableStands, RowsStand, RowStands}
+use Rattle.simplex.specs.Standing.{TableStands, RowsStand, RowStands, AreTouching, IsPivoted, PivotLeaves}
+use Rattle.simplex.specs.Ties.{AreBounding, IsExiting, SearchLeaves}
 use Rattle.simplex.specs.Reading.{AreOver, AreOf}
 use Rattle.simplex.specs.Covering.{Cover}
 
@@ -71,7 +74,12 @@ SaysNone (Best x dual pivots) = ⊥
 SaysNone (NoSolution farkas pivots) = Unit {0}
 SaysNone (Leaves pivots row column) = ⊥
 
--- just so many pivots by the rule are made, and there it answers a column still
+-- row i has a positive number at column c
+pub record Bounds (t : Tableau) (c i : ℕ) : Type 0 where
+  pub inside : i < length t.rows
+  pub positive : pos 0 <ℤ places.at (row_at t.rows i) c
+
+-- just so many pivots by the rule are made, and there some row bounds its column
 pub record IsCut (rule : Rule) (s : LinearSystem) (most : ℕ) (pivots : List (ℕ × ℕ)) : Type 0 where
   pub t : Tableau
   pub column : ℕ
@@ -80,6 +88,8 @@ pub record IsCut (rule : Rule) (s : LinearSystem) (most : ℕ) (pivots : List (�
   pub count : length pivots ≡ most
   pub enters : Enters s t column
   pub answers : Answers rule s t column
+  pub row : ℕ
+  pub bounds : Bounds t column row
 
 -- an answer has its cause, and what is cut has just so many pivots as the limit
 abbrev pub IsWithin : Rule → LinearSystem → Option ℕ → Within → Type 0
@@ -91,7 +101,7 @@ abbrev pub SaysCut : Within → Type 0
 SaysCut (Answered answer) = ⊥
 SaysCut (Cut pivots) = Unit {0}
 
--- there is a limit, and after so many pivots by the rule it answers a column still
+-- there is a limit, and after so many pivots by the rule some row bounds its column
 pub record CutsBy (rule : Rule) (s : LinearSystem) (most : Option ℕ) : Type 0 where
   pub limit : ℕ
   pub is_limit : most ≡ Some limit
@@ -109,6 +119,30 @@ Below most n = (m : ℕ) → most ≡ Some m → n < m
 pub record IsReady (n : ℕ) (table : Table) (scratch : Scratch) : Type 0 where
   pub cover : Cover n table.rows.items scratch.marks.items
   pub seen : AreOf n table.gains scratch.gains.items
+
+-- the rows with a number at column c, and those that bound it, of which there is one
+pub record AreFound (c : ℕ) (table : Table) (scratch : Scratch) : Type 0 where
+  pub touching : AreTouching c table.rows.items scratch.touching.items
+  pub bounding : AreBounding c table.rows.items scratch.bounding.items
+  pub some : 0 < length scratch.bounding.items
+
+-- new is old after the pivot in column c, and the row that exits for it
+pub record IsMade (s : LinearSystem) (c : ℕ) (old new : Table) : Type 0 where
+  pub row : ℕ
+  pub exits : IsExiting (compared s) c old.rows.items row
+  pub pivoted : IsPivoted row c old.rows.items old.gains new.rows.items new.gains
+  pub basis_is : new.basis.items ≡ slice_set old.basis.items row c
+  pub pivots_are : new.pivots.items ≡ old.pivots.items ++ (row, c) ∷ []
+
+-- in the search for the row that exits for column c, or in the pivot, row i and column k leave the range
+pub data MakingLeaves (s : LinearSystem) (c : ℕ) (table : Table) (i k : ℕ) : Type 0 where
+  Searching : SearchLeaves (compared s) c table.rows.items i k → MakingLeaves s c table i k
+  Pivoting : (l : ℕ) → IsExiting (compared s) c table.rows.items l → PivotLeaves l c table.rows.items table.gains i k → MakingLeaves s c table i k
+
+-- the pivot is not made, and new has the pivots that old has
+pub record IsNotMade (s : LinearSystem) (c : ℕ) (old new : Table) (i k : ℕ) : Type 0 where
+  pub leaves : MakingLeaves s c old i k
+  pub pivots_stay : new.pivots.items ≡ old.pivots.items
 
 abbrev pub IsAt : LinearSystem → Table → Tableau → Type 0
 IsAt s table t = IsAfter s table.pivots.items table.basis.items table.rows.items table.gains t
@@ -141,7 +175,7 @@ pub record ReachedRise (rule : Rule) (s : LinearSystem) (table : Table) (c : ℕ
 abbrev pub IsStep : Rule → LinearSystem → Option ℕ → Table → Table → Step → Type 0
 IsStep rule s most old new step.Pivot = Reached rule s new × (length new.pivots.items ≡ length old.pivots.items + 1) × UpTo most (length new.pivots.items)
 IsStep rule s most old new step.Best = ReachedEnd rule s new × UpTo most (length new.pivots.items)
-IsStep rule s most old new (step.Rises c) = ReachedRise rule s new c × Below most (length new.pivots.items)
+IsStep rule s most old new (step.Rises c) = ReachedRise rule s new c × UpTo most (length new.pivots.items)
 IsStep rule s most old new (step.Leaves i c) = Refuses rule s new.pivots.items i c × Below most (length new.pivots.items)
 IsStep rule s most old new step.Cut = (m : ℕ) × (most ≡ Some m) × IsCut rule s m new.pivots.items
 

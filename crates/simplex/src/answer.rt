@@ -30,6 +30,7 @@ pub enum Answer {
 #[derive(Debug, Drop)]
 pub enum Within {
     Answered(Answer),
-    /// So many pivots are made, and the rule answers a column still.
+    /// So many pivots are made, and neither end is reached: that no gain is left, or that no row bounds the
+    /// rule's column.
     Cut { pivots: Vec<(u32, u32)> },
 }

@@ -15,7 +15,7 @@ use std::alloc::{AllocError, Global};
 use std::cmp::Ordering;
 
 /// Makes `all` the rows with a positive number at column `entering`, of those that have one there.
-fn bounding(
+pub(crate) fn bounding(
     rows: &[FracRow],
     entering: u32,
     touching: &[usize],
@@ -83,34 +83,9 @@ fn ties(
     Ok(tied)
 }
 
-/// The row that exits the basis for column `entering`, or None where no row bounds that column. Rows are
-/// compared by their ratios at column `right`, and where these tie at the columns from `slack` on, until
-/// one is left. The rows that bound it are kept in `all`.
+/// The row that exits the basis for column `entering`, of those that bound it. They are compared by their
+/// ratios at column `right`, and where these tie at the columns from `slack` on, until one is left.
 pub(crate) fn exiting(
-    alloc: Global,
-    rows: &[FracRow],
-    touching: &[usize],
-    entering: u32,
-    slack: u32,
-    right: u32,
-    all: &mut Vec<usize>,
-) -> Result<Option<usize>, Fault>
-    requires order { slack ≤ right }
-    requires touching { AreTouching entering rows.now touching.now }
-    ensures row { (l : ℕ) → result ≡ Ok (Some l) → IsExiting (columns_to right slack right) entering rows.now l }
-    ensures none { (i : ℕ) → result ≡ Ok None → ¬ IsBounding entering rows.now i }
-    ensures leaves { (i c : ℕ) → result ≡ Err (Fault.Leaves i c) → SearchLeaves (columns_to right slack right) entering rows.now i c }
-{
-    bounding(rows, entering, touching, all)?;
-    if all.is_empty() {
-        return Ok(None);
-    }
-    let row = left_of(alloc, rows, entering, slack, right, all)?;
-    Ok(Some(row))
-}
-
-/// The row that is left of these, which are all that bound column `entering`.
-fn left_of(
     alloc: Global,
     rows: &[FracRow],
     entering: u32,

@@ -14,6 +14,13 @@ use std::mem;
 /// A row keeps a place for each column once it has numbers in more than one of so many.
 const SPARSE: usize = 8;
 
+/// The row that exits the basis at a pivot, and the column that enters it.
+#[derive(Clone, Copy)]
+pub(crate) struct Place {
+    pub(crate) row: usize,
+    pub(crate) column: u32,
+}
+
 /// Sweeps these rows, which keep a place for each column where they have more than `most` numbers.
 fn sweep_rows(
     rows: &mut [FracRow],
@@ -36,33 +43,33 @@ fn sweep_rows(
     Ok(())
 }
 
-/// The pivot in row `exiting` and column `entering`, where the row's number is positive, of rows and gains over
-/// `width` columns. New rows are made in `scratch`.
+/// The pivot at a place, where the row's number is positive, of rows and gains over `width` columns. New rows
+/// are made in `scratch`.
 pub(crate) fn pivot(
     alloc: Global,
     rows: &mut [FracRow],
     gains: &mut FracRow,
     touching: &[usize],
-    exiting: usize,
-    entering: u32,
+    place: Place,
     width: usize,
     scratch: &mut RowScratch,
 ) -> Result<(), Fault>
-    requires inside { exiting < length rows.old }
-    requires number { pos 0 <ℤ numerator (at entering (entries_at rows.old exiting)) }
-    requires touching { AreTouching entering rows.old touching.now }
-    ensures pivoted { OnOk result (IsPivoted exiting entering rows.old gains.old rows.new gains.new) }
-    ensures leaves { (i c : ℕ) → result ≡ Err (Fault.Leaves i c) → PivotLeaves exiting entering rows.old gains.old i c }
+    requires inside { place.row < length rows.old }
+    requires number { pos 0 <ℤ numerator (at place.column (entries_at rows.old place.row)) }
+    requires touching { AreTouching place.column rows.old touching.now }
+    ensures pivoted { OnOk result (IsPivoted place.row place.column rows.old gains.old rows.new gains.new) }
+    ensures leaves { (i c : ℕ) → result ≡ Err (Fault.Leaves i c) → PivotLeaves place.row place.column rows.old gains.old i c }
 {
-    let row = mem::replace(&mut rows[exiting], FracRow::new(alloc));
-    let lead = match row.over_its(entering) {
+    let Place { row, column } = place;
+    let above = mem::replace(&mut rows[row], FracRow::new(alloc));
+    let lead = match above.over_its(column) {
         Ok(lead) => lead,
-        Err(fault) => return Err(in_row(exiting, fault)),
+        Err(fault) => return Err(in_row(row, fault)),
     };
-    sweep_rows(rows, touching, entering, &lead, width / SPARSE, scratch)?;
-    if let Err(fault) = gains.sweep(entering, &lead, width, scratch) {
+    sweep_rows(rows, touching, column, &lead, width / SPARSE, scratch)?;
+    if let Err(fault) = gains.sweep(column, &lead, width, scratch) {
         return Err(in_row(rows.len(), fault));
     }
-    rows[exiting] = lead;
+    rows[row] = lead;
     Ok(())
 }

@@ -1,18 +1,19 @@
 //! The loop of the solver.
 
-ghost use Rattle.std.specs.Prelude.{◌≡◌, ◌<◌, ◌^◌, ◌↔◌, ℕ, true, false, length, IfOk};
+ghost use Rattle.std.specs.Prelude.{◌≡◌, ◌<◌, ◌^◌, ◌↔◌, ℕ, true, false, length, IfOk, OnOk};
 ghost use Rattle.std.specs.Fn.{FnReturnsAt};
+ghost use Rattle.linear_rows.specs.Systems.{IsSystem};
 ghost use Rattle.simplex_spec.specs.Tableaux.{right};
 ghost use Rattle.simplex_spec.specs.Courses.{AnswersOnce, RisesBy};
 ghost use Rattle.simplex.specs.Choosing.{IsChooser};
-ghost use Rattle.simplex.specs.Solving.{rule_of, Reached, IsOpening, IsReady, UpTo, Below, IsStep, IsAnswer, SaysNone, Agree, IsWithin, SaysCut, CutsBy};
+ghost use Rattle.simplex.specs.Solving.{rule_of, Reached, IsOpening, IsReady, AreFound, IsMade, IsNotMade, UpTo, Below, IsStep, IsAnswer, SaysNone, Agree, IsWithin, SaysCut, CutsBy};
 
 use crate::answer::{Answer, Within};
 use crate::chooser::Chooser;
 use crate::covering::{covering, follow, touching};
-use crate::exiting::exiting;
+use crate::exiting::{bounding, exiting};
 use crate::fault::Fault;
-use crate::pivot::pivot;
+use crate::pivot::{Place, pivot};
 use crate::reading::{first_of, write};
 use crate::table::{Table, dual, opening, ray, solution};
 use frac128::Frac;
@@ -40,10 +41,10 @@ pub(crate) enum Step {
     Pivot,
     /// No gain is left.
     Best,
-    /// As many pivots are made as the limit, and the rule answers a column still.
-    Cut,
     /// No row bounds this column, which has gain.
     Rises { column: u32 },
+    /// As many pivots are made as the limit, and some row bounds the rule's column.
+    Cut,
     /// A number in this row and column leaves the range of fractions.
     Leaves { row: u32, column: u32 },
 }
@@ -87,60 +88,37 @@ fn is_limit(most: Option<usize>, pivots: usize) -> bool
     }
 }
 
-/// One step: a pivot by the rule, or how the course ends or is cut.
-pub(crate) fn make_step<F: Fn(&[Frac]) -> Option<usize>>(
+/// Makes the pivot in a column, and the row that exits for it, where the scratch has the rows of this column.
+fn make_pivot(
     alloc: Global,
     system: &System,
-    chooser: &Chooser<F>,
-    most: Option<usize>,
+    column: u32,
     table: &mut Table,
     scratch: &mut Scratch,
-) -> Result<Step, AllocError>
-    requires callable { F.IsAlwaysCallable chooser.now }
-    requires chooses { IsChooser F.Fn chooser.now }
-    requires columns { right system.now < 2 ^ 32 }
-    requires reached { Reached (rule_of F.Fn chooser.now) system.now table.old }
+) -> Result<(), Fault>
+    requires fits { right system.now < 2 ^ 32 }
+    requires column { column < right system.now }
+    requires height { length table.old.rows.items ≡ system.now.unknowns }
+    requires basis { length table.old.basis.items ≡ length table.old.rows.items }
     requires ready { IsReady (right system.now) table.old scratch.old }
-    requires limit { UpTo most (length table.old.pivots.items) }
-    ensures step { IfOk result (IsStep (rule_of F.Fn chooser.now) system.now most table.old table.new) }
-    ensures ready { result ≡ Ok Step.Pivot → IsReady (right system.now) table.new scratch.new }
+    requires found { AreFound column table.old scratch.old }
+    ensures made { OnOk result (IsMade system.now column table.old table.new) }
+    ensures ready { OnOk result (IsReady (right system.now) table.new scratch.new) }
+    ensures leaves { (i c : ℕ) → result ≡ Err (Fault.Leaves i c) → IsNotMade system.now column table.old table.new i c }
 {
     let slack = system.rows().len() as u32;
     let right = slack + system.unknowns();
     let height = table.rows.len();
-    let column = match entering(chooser, &scratch.gains) {
-        Some(column) => column,
-        None => return Ok(Step::Best),
-    };
-    if is_limit(most, table.pivots.len()) {
-        return Ok(Step::Cut);
-    }
-    touching(&table.rows, &scratch.marks, column, &mut scratch.touching)?;
-    let row = match exiting(
-        alloc,
-        &table.rows,
-        &scratch.touching,
-        column,
-        slack,
-        right,
-        &mut scratch.bounding,
-    ) {
-        Ok(Some(row)) => row,
-        Ok(None) => return Ok(Step::Rises { column }),
-        Err(fault) => return stopped(fault),
-    };
-    if let Err(fault) = pivot(
+    let row = exiting(alloc, &table.rows, column, slack, right, &scratch.bounding)?;
+    pivot(
         alloc,
         &mut table.rows,
         &mut table.gains,
         &scratch.touching,
-        row,
-        column,
+        Place { row, column },
         right as usize + 1,
         &mut scratch.rows,
-    ) {
-        return stopped(fault);
-    }
+    )?;
     table.rows[row].columns(&mut scratch.columns)?;
     write(&mut scratch.gains, &table.gains, &scratch.columns);
     follow(
@@ -153,7 +131,50 @@ pub(crate) fn make_step<F: Fn(&[Frac]) -> Option<usize>>(
     );
     table.basis[row] = column;
     table.pivots.push((row as u32, column))?;
-    Ok(Step::Pivot)
+    Ok(())
+}
+
+/// One step: a pivot by the rule, or how the course ends or is cut. Whether it ends is asked before the limit,
+/// and the limit before any ratio is computed.
+pub(crate) fn make_step<F: Fn(&[Frac]) -> Option<usize>>(
+    alloc: Global,
+    system: &System,
+    chooser: &Chooser<F>,
+    most: Option<usize>,
+    table: &mut Table,
+    scratch: &mut Scratch,
+) -> Result<Step, AllocError>
+    requires callable { F.IsAlwaysCallable chooser.now }
+    requires chooses { IsChooser F.Fn chooser.now }
+    requires sound { IsSystem system.now }
+    requires columns { right system.now < 2 ^ 32 }
+    requires reached { Reached (rule_of F.Fn chooser.now) system.now table.old }
+    requires ready { IsReady (right system.now) table.old scratch.old }
+    requires limit { UpTo most (length table.old.pivots.items) }
+    ensures step { IfOk result (IsStep (rule_of F.Fn chooser.now) system.now most table.old table.new) }
+    ensures ready { result ≡ Ok Step.Pivot → IsReady (right system.now) table.new scratch.new }
+{
+    let column = match entering(chooser, &scratch.gains) {
+        Some(column) => column,
+        None => return Ok(Step::Best),
+    };
+    touching(&table.rows, &scratch.marks, column, &mut scratch.touching)?;
+    bounding(
+        &table.rows,
+        column,
+        &scratch.touching,
+        &mut scratch.bounding,
+    )?;
+    if scratch.bounding.is_empty() {
+        return Ok(Step::Rises { column });
+    }
+    if is_limit(most, table.pivots.len()) {
+        return Ok(Step::Cut);
+    }
+    match make_pivot(alloc, system, column, table, scratch) {
+        Ok(()) => Ok(Step::Pivot),
+        Err(fault) => stopped(fault),
+    }
 }
 
 /// The scratch of steps from this table on, with this many columns before the right sides.
@@ -227,8 +248,8 @@ fn run<F: Fn(&[Frac]) -> Option<usize>>(
 }
 
 /// Solves a system with at most so many pivots, with the entering columns of the chooser. Without a limit it
-/// is never cut. Where its rule has one answer for the same gains, it is cut exactly where, after so many
-/// pivots, the rule answers a column still.
+/// is never cut. Where its rule has one answer for the same gains, it is cut exactly where so many pivots are
+/// made and neither end is reached: that no gain is left, or that no row bounds the rule's column.
 pub fn solve_within<F: Fn(&[Frac]) -> Option<usize>>(
     alloc: Global,
     system: &System,
