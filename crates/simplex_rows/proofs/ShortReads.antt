@@ -5,7 +5,7 @@ use Rattle.raml_num.proofs.Signed.{cancelled}
 use Rattle.frac128.specs.declared.Frac.{Frac}
 use Rattle.frac128.specs.Nought.{nought}
 use Rattle.frac128.specs.Values.{numerator, denominator, IsOver}
-use Rattle.simplex_rows.specs.Entries.{at, columns_of, EndsBefore}
+use Rattle.simplex_rows.specs.Entries.{at, columns_of, SparseFrom, IsSparse, EndsBefore}
 use Rattle.simplex_rows.specs.ShortRows.{Wholes, whole_at, AscendsFrom, AreWithin, WholesEndBefore, ShortRow, IsShort, fractions_over, fractions_of}
 use Rattle.simplex_rows.specs.Over.{over}
 use Rattle.simplex_rows.proofs.Wholes.{number_within}
@@ -34,6 +34,10 @@ module _ (d : ℤ) (positive : pos 0 <ℤ d) (small : d <ℤ pos (2 ^ 63)) where
       by true r = is_over n (let l = w.0 in omega (arith, ints))
       by false r = r
 
+  fractions_ascend : (b : ℕ) (bound : ℤ) (ns : Wholes) → AscendsFrom b ns → AreWithin bound ns → bound <ℤ pos (2 ^ 63) → SparseFrom b (fractions_over d ns)
+  fractions_ascend b bound [] a w h = tt
+  fractions_ascend b bound ((k, n) ∷ ns) a w h = (a.0, not_nought n (let l = w.0 in omega (arith, ints)) a.1, fractions_ascend (suc k) bound ns a.2 w.1 h)
+
 pub same_columns : (d : ℤ) (ns : Wholes) → columns_of (fractions_over d ns) ≡ map (λ e. e.0) ns
 same_columns d [] = refl
 same_columns d ((k, n) ∷ ns) = ap (λ (ks : List ℕ). k ∷ ks) (same_columns d ns)
@@ -59,6 +63,9 @@ none_there c b d ((k, n) ∷ ns) a e = by (k == c) (none_there c (suc k) d ns a.
 module _ (row : ShortRow) (is : IsShort row) where
   den_small : row.den <ℤ pos (2 ^ 63)
   den_small = let f = is.fits in let w = is.den_within in omega (arith, ints)
+
+  pub row_sparse : IsSparse (fractions_of row)
+  row_sparse = fractions_ascend row.den is.positive den_small 0 row.bound row.numbers is.ascends is.within is.fits
 
   pub row_reads : (c : ℕ) → IsOver (whole_at c row.numbers) (unsigned_abs row.den) (at c (fractions_of row))
   row_reads c = reads row.den is.positive den_small c 0 row.bound row.numbers is.within is.fits

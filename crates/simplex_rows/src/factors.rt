@@ -28,6 +28,9 @@ pub(crate) fn find_factors(
     ensures shares { IfSome result (λ f. Shares number lead_den f.own f.times) }
     ensures bound { IfSome result (λ f. (f.own *ℤ bound +ℤ pos (unsigned_abs f.times) *ℤ lead_bound) ≤ℤ f.bound) }
 {
+    if lead_den == 1 {
+        return bounded(1, number, bound, lead_bound);
+    }
     let divisor = common_with(lead_den, number);
     bounded(
         over(lead_den, divisor),

@@ -136,6 +136,7 @@ impl FewRow {
     /// Makes `all` the columns at which the number is not 0, in order.
     pub(crate) fn columns(&self, all: &mut Vec<u32>) -> Result<(), AllocError>
         ensures columns { OnOk result (all.new.items ≡ map (λ e. e.0) self.now.numbers) }
+        ensures short { IsShort self.now }
     {
         all.clear();
         for entry in &self.entries {

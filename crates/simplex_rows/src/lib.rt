@@ -1,4 +1,4 @@
-//! Sparse rows of fractions: those that are not 0, in order of column.
+//! Rows of fractions, kept as whole numbers over one denominator where these are short.
 #![tactic(auto)]
 
 mod dividing;

@@ -90,6 +90,7 @@ impl ManyRow {
     /// Makes `all` the columns at which the number is not 0, in order.
     pub(crate) fn columns(&self, all: &mut Vec<u32>) -> Result<(), AllocError>
         ensures columns { OnOk result (all.new.items ≡ map (λ e. e.0) self.now.numbers) }
+        ensures short { IsShort self.now }
     {
         all.clear();
         for place in 0..self.numbers.len() {

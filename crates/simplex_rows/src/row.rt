@@ -73,6 +73,7 @@ impl FracRow {
     /// Makes `all` the columns at which the fraction is not 0, in order.
     pub fn columns(&self, all: &mut Vec<u32>) -> Result<(), AllocError>
         ensures columns { OnOk result (all.new.items ≡ columns_of self.now) }
+        ensures sparse { IsSparse self.now }
     {
         match &self.numbers {
             Numbers::Short(row) => row.columns(all),

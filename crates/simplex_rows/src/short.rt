@@ -3,7 +3,7 @@
 ghost use Rattle.std.specs.Prelude.{◌≡◌, ◌<◌, ℕ, pos, ◌<ℤ◌, ◌≤ℤ◌, ◌+ℤ◌, ◌*ℤ◌, unsigned_abs, IfOk, IfSome, OnOk, true, false};
 ghost use Rattle.std.specs.Ordering.{int_cmp};
 ghost use Rattle.frac128.specs.Values.{numerator, IsQuotient};
-ghost use Rattle.simplex_rows.specs.Entries.{at, columns_of, IsNextColumn, EndsBefore};
+ghost use Rattle.simplex_rows.specs.Entries.{at, columns_of, IsNextColumn, IsSparse, EndsBefore};
 ghost use Rattle.simplex_rows.specs.ShortRows.{IsShort, whole_at, IsCombined, SameValues, fractions_of};
 ghost use Rattle.simplex_rows.specs.Sharing.{Shares};
 ghost use Rattle.simplex_rows.specs.Forms.{row_of};
@@ -104,7 +104,8 @@ impl ShortNumbers {
 
     /// Makes `all` the columns at which the number is not 0, in order.
     pub(crate) fn columns(&self, all: &mut Vec<u32>) -> Result<(), AllocError>
-        ensures { OnOk result (all.new.items ≡ columns_of (fractions_of (row_of self.now))) }
+        ensures columns { OnOk result (all.new.items ≡ columns_of (fractions_of (row_of self.now))) }
+        ensures sparse { IsSparse (fractions_of (row_of self.now)) }
     {
         match self {
             ShortNumbers::Few(row) => row.columns(all),
