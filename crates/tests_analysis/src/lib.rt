@@ -4,12 +4,8 @@
 
 #[cfg(test)]
 mod annotations;
-#[cfg(test)]
-mod index_text;
 pub mod laws;
 #[cfg(test)]
 mod schedules;
 #[cfg(test)]
 mod targets;
-#[cfg(test)]
-mod types;

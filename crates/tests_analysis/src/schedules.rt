@@ -1,5 +1,4 @@
 //! Runs of schedules that were worked out by hand.
-use crate::types::{last_type, types};
 use base_poly::IndexFault;
 use call_groups::{Groups, group_calls};
 use cost_free::{Done, Meter, Schedule, Task, TaskKind, blocked, next};
@@ -8,6 +7,7 @@ use std::alloc::{AllocError, Global};
 use std::fmt::Write;
 use std::process::Abort;
 use std::test::Fail;
+use tests_support::types::{context, last_type};
 
 fn call(callee: Name, args: Vec<Expr>) -> Expr {
     Expr {
@@ -172,7 +172,7 @@ const RUNS: [Run; 6] = [
 fn schedules_go_on_as_reckoned(rt: HostRuntime) -> Result<(), Fail> {
     let alloc = rt.alloc();
     for case in &RUNS {
-        let results = types(alloc, case.results)?;
+        let results = context(alloc, case.results)?;
         let groups = groups(alloc, case.calls)?;
         let tasks = tasks_that_come(
             &rt,

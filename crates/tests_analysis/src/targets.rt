@@ -1,14 +1,24 @@
 //! The targets of types, against a table that was worked out apart.
-use crate::index_text::write_tuples;
-use crate::types::last_type;
-use base_poly::IndexFault;
+use base_poly::{IndexFault, Tuple};
 use cost_free::{TargetList, targets};
 use raml_syntax::Ty;
-use std::alloc::Global;
+use std::alloc::{AllocError, Global};
 use std::process::Abort;
 use std::test::Fail;
+use tests_support::index_text::write_all;
+use tests_support::types::last_type;
 
 mod tables;
+
+// A line with tuples.
+fn write_tuples(out: &mut String, tuples: &[Tuple]) -> Result<(), AllocError> {
+    for tuple in tuples {
+        out.push_str(" <")?;
+        write_all(out, tuple.parts())?;
+        out.push_str(">")?;
+    }
+    out.push_str("\n")
+}
 
 // The tuples of the target of this number.
 fn write_target(

@@ -4,6 +4,7 @@ use crate::told::told_of_change;
 use std::alloc::Global;
 use std::process::Abort;
 use std::test::Fail;
+use tests_support::programs;
 
 // Each line of a table has a part of the certificate, what it is changed to, and the answer.
 fn changes_are_told(
@@ -163,7 +164,7 @@ fn changes_of_appends_are_told(rt: HostRuntime) -> Result<(), Fail> {
     changes_are_told(
         &rt,
         rt.alloc(),
-        texts::APPENDS,
+        programs::APPENDS,
         texts::APPENDS_CERTIFICATE,
         OF_APPENDS,
     )
@@ -174,7 +175,7 @@ fn changes_of_ends_are_told(rt: HostRuntime) -> Result<(), Fail> {
     changes_are_told(
         &rt,
         rt.alloc(),
-        texts::ENDS,
+        programs::ENDS,
         texts::ENDS_CERTIFICATE,
         OF_ENDS,
     )
@@ -185,7 +186,7 @@ fn changes_of_quicksort_are_told(rt: HostRuntime) -> Result<(), Fail> {
     changes_are_told(
         &rt,
         rt.alloc(),
-        texts::QUICKSORT,
+        programs::QUICKSORT,
         texts::QUICKSORT_CERTIFICATE,
         OF_QUICKSORT,
     )
@@ -196,7 +197,7 @@ fn changes_of_triples_are_told(rt: HostRuntime) -> Result<(), Fail> {
     changes_are_told(
         &rt,
         rt.alloc(),
-        texts::TRIPLES,
+        programs::TRIPLES,
         texts::TRIPLES_CERTIFICATE,
         OF_TRIPLES,
     )
@@ -207,7 +208,7 @@ fn changes_of_sharing_are_told(rt: HostRuntime) -> Result<(), Fail> {
     changes_are_told(
         &rt,
         rt.alloc(),
-        texts::SHARING,
+        programs::SHARING,
         texts::SHARING_CERTIFICATE,
         OF_SHARING,
     )
@@ -218,7 +219,7 @@ fn changes_of_ping_pong_are_told(rt: HostRuntime) -> Result<(), Fail> {
     changes_are_told(
         &rt,
         rt.alloc(),
-        texts::PING_PONG,
+        programs::PING_PONG,
         texts::PING_PONG_CERTIFICATE,
         OF_PING_PONG,
     )

@@ -3,6 +3,7 @@ use crate::texts;
 use crate::told::told;
 use std::process::Abort;
 use std::test::Fail;
+use tests_support::programs;
 
 // A program, its certificate, and the lines.
 const HELD: [(&str, &str, &str); 9] = [
@@ -18,28 +19,28 @@ const HELD: [(&str, &str, &str); 9] = [
         "loop ticks no bound\nloop cells <= 0\n",
     ),
     (
-        texts::APPENDS,
+        programs::APPENDS,
         texts::APPENDS_CERTIFICATE,
         texts::APPENDS_LINES,
     ),
-    (texts::ENDS, texts::ENDS_CERTIFICATE, texts::ENDS_LINES),
+    (programs::ENDS, texts::ENDS_CERTIFICATE, texts::ENDS_LINES),
     (
-        texts::QUICKSORT,
+        programs::QUICKSORT,
         texts::QUICKSORT_CERTIFICATE,
         texts::QUICKSORT_LINES,
     ),
     (
-        texts::TRIPLES,
+        programs::TRIPLES,
         texts::TRIPLES_CERTIFICATE,
         texts::TRIPLES_LINES,
     ),
     (
-        texts::SHARING,
+        programs::SHARING,
         texts::SHARING_CERTIFICATE,
         texts::SHARING_LINES,
     ),
     (
-        texts::PING_PONG,
+        programs::PING_PONG,
         texts::PING_PONG_CERTIFICATE,
         texts::PING_PONG_LINES,
     ),

@@ -5,6 +5,7 @@ use raml_syntax::FunId;
 use std::alloc::Global;
 use std::process::Abort;
 use std::test::Fail;
+use tests_support::programs;
 
 // What is asked, and what is answered. The block is that of the certificate with a part changed.
 struct Case {
@@ -180,7 +181,7 @@ fn others_of_triples_are_told(rt: HostRuntime) -> Result<(), Fail> {
     cases_are_told(
         &rt,
         rt.alloc(),
-        texts::TRIPLES,
+        programs::TRIPLES,
         texts::TRIPLES_CERTIFICATE,
         &OF_TRIPLES,
     )

@@ -7,12 +7,12 @@ ghost use Rattle.base_poly.specs.Read.{context_of};
 ghost use Rattle.bound_compare.specs.Powers.{are_flat};
 
 use crate::polys::poly_of;
-use crate::types::context;
 use base_poly::Poly;
 use bound_compare::{PowerFault, is_flat, powers, push_powers};
 use raml_syntax::Ty;
 use std::alloc::{AllocError, Global};
 use std::test::Fail;
+use tests_support::types::context;
 
 /// The powers of the polynomial with these numbers of the tuples of the types, over a denominator, or
 /// why there are none.

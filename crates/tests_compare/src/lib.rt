@@ -14,5 +14,3 @@ mod lines;
 mod polys;
 #[cfg(test)]
 mod relations;
-#[cfg(test)]
-mod types;

@@ -4,11 +4,11 @@ ghost use Rattle.base_poly.specs.Plain.{Unit', End, Then};
 ghost use Rattle.base_poly.specs.Poly.{IsPoly};
 
 use crate::polys::poly_of;
-use crate::types::context;
 use base_poly::{Index, Poly, Tuple};
 use bound_compare::compare;
 use std::alloc::{AllocError, Global};
 use std::test::Fail;
+use tests_support::types::context;
 
 // A denominator, and the numbers of the tuples.
 type Given = (i128, &'static [i128]);

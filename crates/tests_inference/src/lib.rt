@@ -11,5 +11,3 @@ mod programs;
 mod raising;
 #[cfg(test)]
 mod rows;
-#[cfg(test)]
-mod text;

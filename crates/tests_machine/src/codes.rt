@@ -1,9 +1,10 @@
 // Codes of small programs, as their texts.
 use crate::programs::typed_program;
-use crate::texts::{ENDS, ENDS_CODE, TREES, TREES_CODE, ZIPS, ZIPS_CODE};
+use crate::texts::{ENDS_CODE, TREES_CODE, ZIPS_CODE};
 use stack_compile::{compile, print};
 use std::alloc::Global;
 use std::test::Fail;
+use tests_support::programs::{ENDS, SEARCH_TREE, ZIPS};
 
 /// The text of a program's code.
 fn code_text(alloc: Global, source: &str) -> Result<String, Fail> {
@@ -13,7 +14,11 @@ fn code_text(alloc: Global, source: &str) -> Result<String, Fail> {
 }
 
 /// Programs and the texts of their codes.
-const CODES: [(&str, &str); 3] = [(ENDS, ENDS_CODE), (TREES, TREES_CODE), (ZIPS, ZIPS_CODE)];
+const CODES: [(&str, &str); 3] = [
+    (ENDS, ENDS_CODE),
+    (SEARCH_TREE, TREES_CODE),
+    (ZIPS, ZIPS_CODE),
+];
 
 #[test]
 fn codes_have_their_texts(rt: HostRuntime) -> Result<(), Fail> {

@@ -1,6 +1,8 @@
 // More programs with the normal forms of their functions, one a line. Variables are shown by the order in which
 // they come first, and the nodes of a form behind it.
 
+use tests_support::programs;
+
 pub const MERGE_SORT: (&str, &str) = (
     "\
 (* merge sort: split by turns, sort both halves, merge *)
@@ -59,13 +61,7 @@ control [v0, v1]: Let(v2, Let(v3, Number(16)#1, Let(v4, Let(v5, Number(2)#1, Let
 );
 
 pub const PING_PONG: (&str, &str) = (
-    "\
-(* mutual recursion: even and odd length, and a rally that pays at every second turn *)
-fun even (l : int list) : bool = match l with nil -> true | h :: t -> odd(t)
-fun odd (l : int list) : bool = match l with nil -> false | h :: t -> even(t)
-fun ping (l : int list) : int = match l with nil -> 0 | h :: t -> tick 1 in pong(t) + 1
-fun pong (l : int list) : int = match l with nil -> 0 | h :: t -> ping(t)
-fun rally (l : int list) : int = if even(l) then ping(l) else pong(l)",
+    programs::PING_PONG,
     "\
 even [v0]: CaseList(v0, Truth(true)#1, v1, v2, Drop(v1, Call 1[v2]#2))#3
 odd [v0]: CaseList(v0, Truth(false)#1, v1, v2, Drop(v1, Call 0[v2]#2))#3
@@ -76,21 +72,7 @@ rally [v0]: Share(v0, v1, v2, Let(v3, Call 0[v1]#2, If(v3, Call 2[v2]#2, Call 3[
 );
 
 pub const QUICKSORT: (&str, &str) = (
-    "\
-(* quicksort with a partition that costs three ticks per element *)
-fun append (x : int list, y : int list) : int list =
-  match x with nil -> y | h :: t -> h :: append(t, y)
-fun part (p : int, l : int list) : int list * int list =
-  match l with
-    nil -> (nil, nil)
-  | h :: t ->
-      let (low, high) = part(p, t) in
-      tick 3 in
-      if h < p then (h :: low, high) else (low, h :: high)
-fun qsort (l : int list) : int list =
-  match l with
-    nil -> nil
-  | h :: t -> let (low, high) = part(h, t) in append(qsort(low), h :: qsort(high))",
+    programs::QUICKSORT,
     "\
 append [v0, v1]: CaseList(v0, Var v1#1, v2, v3, Let(v4, Call 0[v3, v1]#3, Cons(v2, v4))#2)#3
 part [v0, v1]: CaseList(v1, Drop(v0, Let(v2, Nil#1, Let(v3, Nil#1, Pair(v2, v3)))#1), v4, v5, Share(v0, v6, v7, Let(v8, Call 1[v6, v5]#3, Split(v8, v9, v10, Tick(3, Share(v4, v11, v12, Let(v13, Compare(Less, v11, v7)#3, If(v13, Let(v14, Cons(v12, v9)#3, Pair(v14, v10))#2, Let(v15, Cons(v12, v10)#3, Pair(v9, v15))#2))#1))#1))#1))#3
@@ -145,24 +127,7 @@ decode [v0]: CaseList(v0, Nil#1, v1, v2, Split(v1, v3, v4, Let(v5, Call 3[v2]#2,
 );
 
 pub const SAFE_HEAD_OPTION: (&str, &str) = (
-    "\
-(* head, last and least element, each with an option *)
-fun head (l : int list) : int option = match l with nil -> none | h :: t -> some(h)
-fun last (l : int list) : int option =
-  match l with
-    nil -> none
-  | h :: t -> match t with nil -> some(h) | k :: u -> tick 1 in last(t)
-fun least (l : int list) : int option =
-  match l with
-    nil -> none
-  | h :: t ->
-      match least(t) with
-        none -> some(h)
-      | some(m) -> if h < m then some(h) else some(m)
-fun sum_ends (l : int list) : int =
-  match head(l) with
-    none -> 0
-  | some(a) -> match last(l) with none -> a | some(b) -> a + b",
+    programs::ENDS,
     "\
 head [v0]: CaseList(v0, None#1, v1, v2, Drop(v2, Some(v1)#2))#3
 last [v0]: CaseList(v0, None#1, v1, v2, Share(v2, v3, v4, CaseList(v3, Drop(v4, Some(v1)#2), v5, v6, Drop(v1, Drop(v5, Drop(v6, Tick(1, Call 1[v4]#2)#1))))#2))#3
@@ -172,26 +137,7 @@ sum_ends [v0]: Share(v0, v1, v2, Let(v3, Call 0[v1]#2, CaseOption(v3, Drop(v2, N
 );
 
 pub const SEARCH_TREE: (&str, &str) = (
-    "\
-(* binary search tree: insertion, a tree from a list, look-up, sorting by a tree *)
-fun add (x : int, t : int tree) : int tree =
-  match t with
-    leaf -> node(x, leaf, leaf)
-  | node(a, l, r) ->
-      tick 1 in
-      if x = a then node(a, l, r)
-      else if x < a then node(a, add(x, l), r)
-      else node(a, l, add(x, r))
-fun build (l : int list, t : int tree) : int tree =
-  match l with nil -> t | h :: rest -> build(rest, add(h, t))
-fun member (x : int, t : int tree) : bool =
-  match t with
-    leaf -> false
-  | node(a, l, r) ->
-      if x = a then true else tick 1 in if x < a then member(x, l) else member(x, r)
-fun walk (t : int tree, acc : int list) : int list =
-  match t with leaf -> acc | node(a, l, r) -> walk(l, a :: walk(r, acc))
-fun tree_sort (l : int list) : int list = walk(build(l, leaf), nil)",
+    programs::SEARCH_TREE,
     "\
 add [v0, v1]: CaseTree(v1, Let(v2, Leaf#1, Let(v3, Leaf#1, Node(v0, v2, v3)))#2, v4, v5, v6, Tick(1, Share(v0, v7, v8, Share(v4, v9, v10, Let(v11, Compare(Equal, v7, v9)#3, If(v11, Drop(v8, Node(v10, v5, v6)#4), Share(v8, v12, v13, Share(v10, v14, v15, Let(v16, Compare(Less, v12, v14)#3, If(v16, Let(v17, Call 0[v13, v5]#3, Node(v15, v17, v6))#3, Let(v18, Call 0[v13, v6]#3, Node(v15, v5, v18))#3))#1))))#1)))#1)#3
 build [v0, v1]: CaseList(v0, Var v1#1, v2, v3, Let(v4, Call 0[v2, v1]#3, Call 1[v3, v4])#2)#3
@@ -248,16 +194,7 @@ main [v0]: Share(v0, v1, v2, Let(v3, Let(v4, Leaf#1, Let(v5, Number(5)#1, Call 0
 );
 
 pub const SHARING: (&str, &str) = (
-    "\
-(* a variable used many times: each use is a copy of its potential *)
-fun length (l : int list) : int = match l with nil -> 0 | h :: t -> tick 1 in 1 + length(t)
-fun sum (l : int list) : int = match l with nil -> 0 | h :: t -> tick 1 in h + sum(t)
-fun mean (l : int list) : int = sum(l) div length(l)
-fun square (l : int list, m : int list) : int list =
-  match m with nil -> nil | h :: t -> length(l) :: square(l, t)
-fun self (l : int list) : int list = square(l, l)
-fun four (l : int list) : int = length(l) + length(l) + length(l) + length(l)
-fun triple (l : int list) : int list * (int list * int list) = (l, (l, l))",
+    programs::SHARING,
     "\
 length [v0]: CaseList(v0, Number(0)#1, v1, v2, Drop(v1, Tick(1, Let(v3, Number(1)#1, Let(v4, Call 0[v2]#2, Arith(Add, v3, v4)))#1)#1))#3
 sum [v0]: CaseList(v0, Number(0)#1, v1, v2, Tick(1, Let(v3, Call 1[v2]#2, Arith(Add, v1, v3))#2)#1)#3
@@ -331,14 +268,7 @@ run_block [v0, v1]: CaseList(v0, Var v1#1, v2, v3, Split(v2, v4, v5, Split(v5, v
 );
 
 pub const TRIPLES: (&str, &str) = (
-    "\
-(* all triples of a list in order: a bound of degree 3 *)
-fun with_two (a : int, b : int, l : int list, acc : (int * (int * int)) list) : (int * (int * int)) list =
-  match l with nil -> acc | c :: t -> tick 1 in (a, (b, c)) :: with_two(a, b, t, acc)
-fun with_one (a : int, l : int list, acc : (int * (int * int)) list) : (int * (int * int)) list =
-  match l with nil -> acc | b :: t -> with_two(a, b, t, with_one(a, t, acc))
-fun triples (l : int list) : (int * (int * int)) list =
-  match l with nil -> nil | a :: t -> with_one(a, t, triples(t))",
+    programs::TRIPLES,
     "\
 with_two [v0, v1, v2, v3]: CaseList(v2, Drop(v0, Drop(v1, Var v3#1)), v4, v5, Tick(1, Share(v0, v6, v7, Share(v1, v8, v9, Let(v10, Let(v11, Pair(v8, v4)#3, Pair(v6, v11))#2, Let(v12, Call 0[v7, v9, v5, v3]#5, Cons(v10, v12)))#1)))#1)#3
 with_one [v0, v1, v2]: CaseList(v1, Drop(v0, Var v2#1), v3, v4, Share(v0, v5, v6, Share(v4, v7, v8, Let(v9, Call 1[v5, v7, v2]#4, Call 0[v6, v3, v8, v9])#4)))#3
@@ -378,21 +308,7 @@ through [v0]: Share(v0, v1, v2, Let(v3, Let(v4, Let(v5, Nil#1, Let(v6, Nil#1, Pa
 );
 
 pub const ZIP_UNZIP: (&str, &str) = (
-    "\
-(* zip, unzip and their round trip *)
-fun zip (x : int list, y : bool list) : (int * bool) list =
-  match x with
-    nil -> nil
-  | a :: t -> match y with nil -> nil | b :: u -> (a, b) :: zip(t, u)
-fun unzip (l : (int * bool) list) : int list * bool list =
-  match l with
-    nil -> (nil, nil)
-  | p :: t ->
-      let (a, b) = p in
-      let (x, y) = unzip(t) in
-      tick 1 in (a :: x, b :: y)
-fun round_trip (x : int list, y : bool list) : (int * bool) list =
-  let (a, b) = unzip(zip(x, y)) in zip(a, b)",
+    programs::ZIPS,
     "\
 zip [v0, v1]: CaseList(v0, Drop(v1, Nil#1), v2, v3, CaseList(v1, Drop(v2, Drop(v3, Nil#1)), v4, v5, Let(v6, Pair(v2, v4)#3, Let(v7, Call 0[v3, v5]#3, Cons(v6, v7)))#1)#2)#3
 unzip [v0]: CaseList(v0, Let(v1, Nil#1, Let(v2, Nil#1, Pair(v1, v2)))#1, v3, v4, Split(v3, v5, v6, Let(v7, Call 1[v4]#2, Split(v7, v8, v9, Tick(1, Let(v10, Cons(v5, v8)#3, Let(v11, Cons(v6, v9)#3, Pair(v10, v11)))#1)#1))#1)#2)#3

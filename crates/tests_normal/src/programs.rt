@@ -1,6 +1,8 @@
 // Programs with the normal forms of their functions, one a line. Variables are shown by the order in which
 // they come first, and the nodes of a form behind it.
 
+use tests_support::programs;
+
 pub const ACKERMANN: (&str, &str) = (
     "\
 (* Ackermann's function on numbers and on lists: no bound of any degree *)
@@ -23,14 +25,7 @@ ack_list [v0, v1]: Tick(1, Share(v0, v2, v3, CaseList(v2, Drop(v3, Let(v4, Numbe
 );
 
 pub const APPEND: (&str, &str) = (
-    "\
-(* append of two lists, and two ways to append three *)
-fun append (x : int list, y : int list) : int list =
-  match x with nil -> y | h :: t -> h :: append(t, y)
-fun leftmost (x : int list, y : int list, z : int list) : int list =
-  append(append(x, y), z)
-fun rightmost (x : int list, y : int list, z : int list) : int list =
-  append(x, append(y, z))",
+    programs::APPENDS,
     "\
 append [v0, v1]: CaseList(v0, Var v1#1, v2, v3, Let(v4, Call 0[v3, v1]#3, Cons(v2, v4))#2)#3
 leftmost [v0, v1, v2]: Let(v3, Call 0[v0, v1]#3, Call 0[v3, v2])#3

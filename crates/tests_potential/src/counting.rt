@@ -1,11 +1,11 @@
 //! Tuples component by component, their degrees and their number, worked out by hand.
-use crate::index_text::write_tuple;
-use crate::types::context;
 use base_poly::{IndexFault, degrees, positions, tuples_up_to};
 use raml_syntax::Ty;
 use std::alloc::Global;
 use std::fmt::Write;
 use std::test::Fail;
+use tests_support::index_text::write_tuple;
+use tests_support::types::context;
 
 // Types, a degree, the degrees of the tuples, and these. Where all types are scalars or lists of scalars the
 // tuples are counted by another way than where they are not.

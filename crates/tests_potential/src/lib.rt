@@ -4,8 +4,6 @@
 
 #[cfg(test)]
 mod counting;
-#[cfg(test)]
-mod index_text;
 pub mod laws;
 #[cfg(test)]
 mod listing;
@@ -19,5 +17,3 @@ mod products;
 mod ranks;
 #[cfg(test)]
 mod texts;
-#[cfg(test)]
-mod types;

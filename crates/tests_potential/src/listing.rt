@@ -1,6 +1,4 @@
 //! Lists of the tuples of contexts.
-use crate::index_text::{write_index, write_tuple};
-use crate::types::{context, last_type, lists};
 use base_poly::{Index, IndexFault, Tuple, indices};
 use indexmap::IndexMap;
 use raml_syntax::Ty;
@@ -8,6 +6,8 @@ use std::alloc::{AllocError, Global};
 use std::fmt::Write;
 use std::process::Abort;
 use std::test::Fail;
+use tests_support::index_text::{write_index, write_tuple};
+use tests_support::types::{context, last_type, lists};
 
 mod tables;
 

@@ -1,7 +1,6 @@
 //! Maps between contexts.
 ghost use Rattle.std.specs.Prelude.{◌≤◌, ◌<◌, length};
 
-use crate::types::{context, joined_lists, lists};
 use base_poly::degrees;
 use index_shift::{
     Entry, Local, MapFault, drop_var, empty_part, share_map, shift_list, shift_option, shift_tree,
@@ -11,6 +10,7 @@ use raml_syntax::Ty;
 use std::alloc::Global;
 use std::process::Abort;
 use std::test::Fail;
+use tests_support::types::{context, joined_lists, lists};
 
 mod tables;
 

@@ -5,14 +5,14 @@ ghost use Rattle.base_poly.specs.Plain.{deg, degrees};
 ghost use Rattle.base_poly.specs.Indices.{IsIndex, AreIndices};
 ghost use Rattle.base_poly.specs.Read.{index_of};
 
-use crate::index_text::write_index;
-use crate::types::last_type;
 use base_poly::{Index, IndexFault, Tuple, indices, multiply};
 use indexmap::IndexMap;
 use raml_syntax::Ty;
 use std::alloc::{AllocError, Global};
 use std::fmt::Write;
 use std::test::Fail;
+use tests_support::index_text::write_index;
+use tests_support::types::last_type;
 
 mod tables;
 

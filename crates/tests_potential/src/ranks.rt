@@ -3,11 +3,11 @@
 //! Up to degree 2 two lists have the tuples 0: <[], []>, 1: <[], [_]>, 2: <[_], []>, 3: <[], [_, _]>,
 //! 4: <[_], [_]> and 5: <[_, _], []>. Up to degree 1 some lists have the zero tuple, and then one for each list,
 //! that for the last one first.
-use crate::types::{context, last_type, lists};
 use base_poly::IndexFault;
 use std::alloc::Global;
 use std::fmt::Write;
 use std::test::Fail;
+use tests_support::types::{context, last_type, lists};
 use tuple_ranks::{Joined, cut_spots, half_spots, joined_spots, permuted_spots};
 
 // Where each variable stands among those behind it, the types, those in the other order, a degree, and the places.

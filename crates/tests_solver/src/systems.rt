@@ -7,7 +7,7 @@ use self::lines::SYSTEMS;
 use self::small::{BOTH, GREAT, LIMITED, SMALL};
 use crate::choosers::{greatest_column, least_column};
 use crate::plain;
-use crate::text::{shown, shown_within, system, write_answer};
+use crate::text::{shown, shown_within, write_answer};
 use frac128::Frac;
 use linear_rows::System;
 use simplex::{Answer, Chooser, agree, solve, solve_within};
@@ -15,6 +15,7 @@ use std::alloc::Global;
 use std::process::Abort;
 use std::str::Lines;
 use std::test::Fail;
+use tests_support::systems::system;
 
 mod lines;
 mod small;

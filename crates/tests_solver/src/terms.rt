@@ -1,8 +1,8 @@
 //! Rows of a system: each call once, and the edges of 128 bits.
-use crate::text::system;
 use linear_rows::{LeavesRow, Row, RowFault};
 use std::process::Abort;
 use std::test::Fail;
+use tests_support::systems::system;
 
 /// Adds each term, and compares the terms that stand then.
 fn check_sum(

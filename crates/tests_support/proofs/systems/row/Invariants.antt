@@ -1,5 +1,5 @@
 use Rattle.linear_rows.specs.Systems.{IsBelow}
-use Rattle.tests_solver.proofs.text.row.Given as goal
+use Rattle.tests_support.proofs.systems.row.Given as goal
 
 abbrev pub invariant-loop-word : goal.invariant-loop-word
 invariant-loop-word l = IsBelow l.unknowns l.row

@@ -1,20 +1,20 @@
-//! Systems as text.
+//! Linear systems as text.
 //!
-//! `system UNKNOWNS` is followed by a line `weights I:W ..` and by a line `row RIGHT I:N ..` for each row,
-//! without the numbers that are 0.
-ghost use Rattle.std.specs.Prelude.{◌≡◌, ◌<◌, ◌^◌, ◌≤ℤ◌, pos, IfOk, OnOk, IsTrue, vec_len};
+//! `system UNKNOWNS ROWS` is followed by a line `weights I:W ..` and by a line `row RIGHT I:N ..` for each
+//! row, without the numbers that are 0.
+ghost use Rattle.std.specs.Prelude.{◌≡◌, ◌<◌, ◌^◌, ◌≤ℤ◌, pos, IfOk, IsTrue, vec_len};
 ghost use Rattle.raml_num.specs.Sums.{NoneNegative};
 ghost use Rattle.linear_rows.specs.Systems.{IsBelow};
 ghost use Rattle.simplex_spec.specs.Tableaux.{right};
 
 use linear_rows::{Row, System};
 use std::alloc::Global;
-use std::str::SplitWhitespace;
+use std::str::{Lines, SplitWhitespace};
 use std::test::Fail;
 
-/// What comes after the first word of a line.
-fn after<'a>(line: &'a str, first: &str) -> Result<SplitWhitespace<'a>, Fail> {
-    let mut words = line.split_whitespace();
+/// What comes after the first word of the next line.
+fn after<'a>(lines: &mut Lines<'a>, first: &str) -> Result<SplitWhitespace<'a>, Fail> {
+    let mut words = lines.next().ok_or("a line is missing")?.split_whitespace();
     if words.next() == Some(first) {
         Ok(words)
     } else {
@@ -22,14 +22,9 @@ fn after<'a>(line: &'a str, first: &str) -> Result<SplitWhitespace<'a>, Fail> {
     }
 }
 
-/// The number of unknowns.
-fn unknowns(line: &str) -> Option<u32> {
-    let (first, rest) = line.split_once(' ')?;
-    if first == "system" {
-        rest.parse::<u32>().ok()
-    } else {
-        None
-    }
+/// The number that is the next word.
+fn number(words: &mut SplitWhitespace<'_>) -> Option<u32> {
+    words.next()?.parse::<u32>().ok()
 }
 
 /// The right side that is the next word.
@@ -66,23 +61,11 @@ fn weights(alloc: Global, unknowns: u32, line: &str) -> Result<Vec<i128>, Fail>
 {
     let mut all = Vec::new(alloc);
     for unknown in 0..unknowns {
-        let words = after(line, "weights")?;
+        let mut words = line.split_whitespace();
+        words.next();
         all.push(weight(words, unknown)?)?;
     }
     Ok(all)
-}
-
-/// Adds a term over this many unknowns.
-fn add_term(row: &mut Row, unknowns: u32, word: &str) -> Result<(), Fail>
-    requires { IsBelow unknowns row.old }
-    ensures { OnOk result (IsBelow unknowns row.new) }
-{
-    let (unknown, times) = term(word).ok_or("no term")?;
-    if unknown >= unknowns {
-        return Err(Fail::new("no such unknown"));
-    }
-    row.add(unknown, times)?;
-    Ok(())
 }
 
 /// A row over this many unknowns.
@@ -93,7 +76,11 @@ fn row(alloc: Global, unknowns: u32, words: SplitWhitespace<'_>) -> Result<Row, 
     let mut row = Row::new(alloc);
     row.add_right(right_side(&mut words).ok_or("no right side")?)?;
     for word in words {
-        add_term(&mut row, unknowns, word)?;
+        let (unknown, times) = term(word).ok_or("no term")?;
+        if unknown >= unknowns {
+            return Err(Fail::new("no such unknown"));
+        }
+        row.add(unknown, times)?;
     }
     Ok(row)
 }
@@ -105,28 +92,18 @@ fn fits(system: &System) -> bool
     system.rows().len() <= (u32::MAX - system.unknowns()) as usize
 }
 
-/// A system of weights alone.
-fn without_rows(alloc: Global, unknowns: u32, line: &str) -> Result<System, Fail> {
-    let weights = weights(alloc, unknowns, line)?;
-    Ok(System::new(unknowns, Vec::new(alloc), weights))
-}
-
-/// Adds the row of a line.
-fn add_row(alloc: Global, system: &mut System, line: &str) -> Result<(), Fail> {
-    let words = after(line, "row")?;
-    system.add_row(row(alloc, system.unknowns(), words)?)?;
-    Ok(())
-}
-
-/// The system that a text spells.
-pub(crate) fn system(alloc: Global, text: &str) -> Result<System, Fail>
+/// The system that the next lines spell.
+pub fn system(alloc: Global, lines: &mut Lines<'_>) -> Result<System, Fail>
     ensures { IfOk result (λ s. right s < 2 ^ 32) }
 {
-    let mut lines = text.lines();
-    let unknowns = unknowns(lines.next().unwrap_or("")).ok_or("no unknowns")?;
-    let mut system = without_rows(alloc, unknowns, lines.next().unwrap_or(""))?;
-    for line in lines {
-        add_row(alloc, &mut system, line)?;
+    let mut head = after(lines, "system")?;
+    let unknowns = number(&mut head).ok_or("no unknowns")?;
+    let rows = number(&mut head).ok_or("no rows")?;
+    let weights = weights(alloc, unknowns, lines.next().ok_or("no weights")?)?;
+    let mut system = System::new(unknowns, Vec::new(alloc), weights);
+    for _ in 0..rows {
+        let words = after(lines, "row")?;
+        system.add_row(row(alloc, system.unknowns(), words)?)?;
     }
     if fits(&system) {
         Ok(system)

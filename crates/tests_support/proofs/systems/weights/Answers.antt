@@ -2,8 +2,8 @@ use Rattle.std.proofs.Common.{rules, sym, subst, FitsSigned}
 use Rattle.std.specs.Int.{w128}
 use Rattle.std.proofs.lemmas.Int.{to_z-of_z}
 use Rattle.raml_num.specs.Sums.{NoneNegative}
-use Rattle.tests_inference.proofs.Spelling.{natural_more}
-use Rattle.tests_inference.proofs.text.weights.Goals as goal
+use Rattle.tests_support.proofs.Spelling.{natural_more}
+use Rattle.tests_support.proofs.systems.weights.Goals as goal
 
 pub loop-unknown-preserved : goal.loop-unknown-preserved
 loop-unknown-preserved c =

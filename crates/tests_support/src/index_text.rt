@@ -2,6 +2,7 @@
 use base_poly::{Index, Tuple};
 use std::alloc::AllocError;
 
+/// Appends the text of an index.
 #[cycle(write)]
 pub fn write_index(out: &mut String, index: &Index) -> Result<(), AllocError> {
     match index {
@@ -27,6 +28,7 @@ pub fn write_index(out: &mut String, index: &Index) -> Result<(), AllocError> {
     }
 }
 
+/// Appends the texts of indices, with commas between.
 #[cycle(write)]
 pub fn write_all(out: &mut String, indices: &[Index]) -> Result<(), AllocError> {
     let mut first = true;
@@ -40,6 +42,7 @@ pub fn write_all(out: &mut String, indices: &[Index]) -> Result<(), AllocError> 
     Ok(())
 }
 
+/// Appends a line with the text of a tuple.
 pub fn write_tuple(out: &mut String, tuple: &Tuple) -> Result<(), AllocError> {
     out.push_str("<")?;
     write_all(out, tuple.parts())?;
