@@ -112,10 +112,11 @@ pub(super) const LIMITED: [(&str, &[&str]); 3] = [
         "system 2 2\nweights 0:2 1:3\nrow 4 0:2 1:1\nrow 6 0:1 1:3\n",
         &["cut\npivots\n", "cut\npivots 0:0\n"],
     ),
-    // after one pivot the column of the second row has gain, which no row bounds
+    // after one pivot the column of the second row has gain, and no row bounds it: that ends the course, also
+    // where one pivot is the limit
     (
         "system 1 2\nweights 0:1\nrow 3 0:1\nrow 1\n",
-        &["cut\npivots\n", "cut\npivots 0:0\n"],
+        &["cut\npivots\n"],
     ),
     // the opening is refused, and needs no pivot
     (
