@@ -4,6 +4,7 @@ ghost use Rattle.std.specs.Prelude.{◌<◌, ◌^◌};
 ghost use Rattle.simplex_spec.specs.Tableaux.{right};
 
 use self::lines::SYSTEMS;
+use self::random::RANDOM;
 use self::small::{BOTH, GREAT, LIMITED, SMALL};
 use crate::choosers::{greatest_column, least_column};
 use crate::plain;
@@ -18,6 +19,7 @@ use std::test::Fail;
 use tests_support::systems::system;
 
 mod lines;
+mod random;
 mod small;
 
 /// The lines of the answer where the least column enters.
@@ -70,6 +72,11 @@ fn check_table(rt: &impl Abort, alloc: Global, text: &str, systems: u32) -> Resu
 #[test]
 fn table(rt: HostRuntime) -> Result<(), Fail> {
     check_table(&rt, rt.alloc(), SYSTEMS, 20)
+}
+
+#[test]
+fn random_systems(rt: HostRuntime) -> Result<(), Fail> {
+    check_table(&rt, rt.alloc(), RANDOM, 20)
 }
 
 #[test]
