@@ -12,7 +12,8 @@ use std::process::Abort;
 use std::test::Fail;
 use tests_support::types::{context, joined_lists, lists};
 
-mod tables;
+mod changed;
+mod opened;
 
 /// The degree and the entry of a line of a table.
 fn read(line: &str) -> Option<(u8, Entry)> {
@@ -157,20 +158,20 @@ fn check_lifted(
 
 /// Types, the place of a variable, and the entries of the map.
 const OPENED: [(&str, usize, &str); 10] = [
-    ("int list", 0, tables::LIST_ONE),
-    ("int list list int list", 0, tables::LIST_TWO),
-    ("int int list int pair list", 1, tables::LIST_THREE),
-    ("int option list", 0, tables::LIST_FOUR),
-    ("int tree", 0, tables::TREE_ONE),
-    ("int list int list tree", 1, tables::TREE_TWO),
-    ("int list int tree pair", 0, tables::PAIR_ONE),
+    ("int list", 0, opened::LIST_ONE),
+    ("int list list int list", 0, opened::LIST_TWO),
+    ("int int list int pair list", 1, opened::LIST_THREE),
+    ("int option list", 0, opened::LIST_FOUR),
+    ("int tree", 0, opened::TREE_ONE),
+    ("int list int list tree", 1, opened::TREE_TWO),
+    ("int list int tree pair", 0, opened::PAIR_ONE),
     (
         "int list int int list int list pair pair",
         1,
-        tables::PAIR_TWO,
+        opened::PAIR_TWO,
     ),
-    ("int list option", 0, tables::OPTION_ONE),
-    ("int list int list int pair option", 1, tables::OPTION_TWO),
+    ("int list option", 0, opened::OPTION_ONE),
+    ("int list int list int pair option", 1, opened::OPTION_TWO),
 ];
 
 #[test]
@@ -184,30 +185,35 @@ fn variables_are_taken_apart(rt: HostRuntime) -> Result<(), Fail> {
 
 /// What becomes of a variable, types, its place, and the entries of the map.
 const CHANGED: [(Change, &str, usize, &str); 9] = [
-    (Change::Leaves, "int list int list", 0, tables::EMPTY_ONE),
+    (Change::Leaves, "int list int list", 0, changed::EMPTY_ONE),
     (
         Change::Leaves,
         "int list tree int list",
         0,
-        tables::EMPTY_TWO,
+        changed::EMPTY_TWO,
     ),
     (
         Change::Leaves,
         "int list option int list",
         0,
-        tables::EMPTY_THREE,
+        changed::EMPTY_ONE,
     ),
-    (Change::Drops, "int list int list list", 1, tables::DROP_ONE),
-    (Change::Drops, "int option int option", 1, tables::DROP_TWO),
-    (Change::Shares, "int list", 0, tables::SHARE_ONE),
-    (Change::Shares, "int int list list", 1, tables::SHARE_TWO),
+    (
+        Change::Drops,
+        "int list int list list",
+        1,
+        changed::DROP_ONE,
+    ),
+    (Change::Drops, "int option int option", 1, changed::DROP_TWO),
+    (Change::Shares, "int list", 0, changed::SHARE_ONE),
+    (Change::Shares, "int int list list", 1, changed::SHARE_TWO),
     (
         Change::Shares,
         "int list int list pair int list",
         0,
-        tables::SHARE_THREE,
+        changed::SHARE_THREE,
     ),
-    (Change::Shares, "int list option", 0, tables::SHARE_FOUR),
+    (Change::Shares, "int list option", 0, changed::SHARE_FOUR),
 ];
 
 #[test]

@@ -87,7 +87,7 @@ fn products_of(alloc: Global, ty: Ty) -> Result<String, IndexFault> {
 const PRODUCTS: [(&str, &str); 7] = [
     ("int list", tables::LIST_PRODUCTS),
     ("int list list", tables::NESTED_PRODUCTS),
-    ("int tree", tables::TREE_PRODUCTS),
+    ("int tree", tables::LIST_PRODUCTS),
     ("int list int list pair", tables::PAIR_PRODUCTS),
     ("int int list pair list", tables::LIST_OF_PAIRS_PRODUCTS),
     ("int list option", tables::OPTION_PRODUCTS),

@@ -28,7 +28,7 @@ degree 4: 1
 <_>
 ";
 
-/// The tuples of (int list), and their number, for each degree.
+/// The tuples of (int list), which are those of (int tree), and their number, for each degree.
 pub(super) const LIST: &str = "\
 degree 0: 1
 <[]>
@@ -96,7 +96,7 @@ degree 4: 15
 <[_, _, _, _], []>
 ";
 
-/// The tuples of (int list list), and their number, for each degree.
+/// The tuples of (int list list), which are those of (int list tree), and their number, for each degree.
 pub(super) const NESTED: &str = "\
 degree 0: 1
 <[]>
@@ -134,30 +134,6 @@ degree 4: 16
 <[[_], [_]]>
 <[[_, _], []]>
 <[[_, _, _]]>
-";
-
-/// The tuples of (int tree), and their number, for each degree.
-pub(super) const TREE: &str = "\
-degree 0: 1
-<[]>
-degree 1: 2
-<[]>
-<[_]>
-degree 2: 3
-<[]>
-<[_]>
-<[_, _]>
-degree 3: 4
-<[]>
-<[_]>
-<[_, _]>
-<[_, _, _]>
-degree 4: 5
-<[]>
-<[_]>
-<[_, _]>
-<[_, _, _]>
-<[_, _, _, _]>
 ";
 
 /// The tuples of (int list * bool list), and their number, for each degree.
@@ -242,46 +218,6 @@ degree 4: 16
 <[(_, [_]), (_, [_])], _>
 <[(_, [_, _]), (_, [])], _>
 <[(_, [_, _, _])], _>
-";
-
-/// The tuples of (int list tree), and their number, for each degree.
-pub(super) const TREE_OF_LISTS: &str = "\
-degree 0: 1
-<[]>
-degree 1: 2
-<[]>
-<[[]]>
-degree 2: 4
-<[]>
-<[[]]>
-<[[], []]>
-<[[_]]>
-degree 3: 8
-<[]>
-<[[]]>
-<[[], []]>
-<[[_]]>
-<[[], [], []]>
-<[[], [_]]>
-<[[_], []]>
-<[[_, _]]>
-degree 4: 16
-<[]>
-<[[]]>
-<[[], []]>
-<[[_]]>
-<[[], [], []]>
-<[[], [_]]>
-<[[_], []]>
-<[[_, _]]>
-<[[], [], [], []]>
-<[[], [], [_]]>
-<[[], [_], []]>
-<[[], [_, _]]>
-<[[_], [], []]>
-<[[_], [_]]>
-<[[_, _], []]>
-<[[_, _, _]]>
 ";
 
 /// The tuples of (int list, int tree, int list list), and their number, for each degree.

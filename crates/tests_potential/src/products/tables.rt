@@ -1,6 +1,6 @@
 //! Products that were worked out by an independent reading.
 
-/// Products of indices of int list.
+/// Products of indices of int list, which are those of int tree.
 pub(super) const LIST_PRODUCTS: &str = "\
 [] * [] = 1 []
 [] * [_] = 1 [_]
@@ -51,23 +51,6 @@ pub(super) const NESTED_PRODUCTS: &str = "\
 [[_], []] * [[]] = 1 [[], [_], []] + 2 [[_], []] + 2 [[_], [], []]
 [[_, _]] * [] = 1 [[_, _]]
 [[_, _]] * [[]] = 1 [[], [_, _]] + 1 [[_, _]] + 1 [[_, _], []]
-";
-
-/// Products of indices of int tree.
-pub(super) const TREE_PRODUCTS: &str = "\
-[] * [] = 1 []
-[] * [_] = 1 [_]
-[] * [_, _] = 1 [_, _]
-[] * [_, _, _] = 1 [_, _, _]
-[_] * [] = 1 [_]
-[_] * [_] = 1 [_] + 2 [_, _]
-[_] * [_, _] = 2 [_, _] + 3 [_, _, _]
-[_] * [_, _, _] = 3 [_, _, _] + 4 [_, _, _, _]
-[_, _] * [] = 1 [_, _]
-[_, _] * [_] = 2 [_, _] + 3 [_, _, _]
-[_, _] * [_, _] = 1 [_, _] + 6 [_, _, _] + 6 [_, _, _, _]
-[_, _, _] * [] = 1 [_, _, _]
-[_, _, _] * [_] = 3 [_, _, _] + 4 [_, _, _, _]
 ";
 
 /// Products of indices of int list * int list.
