@@ -12,8 +12,8 @@ use std::process::Abort;
 use std::test::Fail;
 use tests_support::types::{context, joined_lists, lists};
 
-mod changed;
-mod opened;
+mod changes;
+mod openings;
 
 /// The degree and the entry of a line of a table.
 fn read(line: &str) -> Option<(u8, Entry)> {
@@ -158,20 +158,20 @@ fn check_lifted(
 
 /// Types, the place of a variable, and the entries of the map.
 const OPENED: [(&str, usize, &str); 10] = [
-    ("int list", 0, opened::LIST_ONE),
-    ("int list list int list", 0, opened::LIST_TWO),
-    ("int int list int pair list", 1, opened::LIST_THREE),
-    ("int option list", 0, opened::LIST_FOUR),
-    ("int tree", 0, opened::TREE_ONE),
-    ("int list int list tree", 1, opened::TREE_TWO),
-    ("int list int tree pair", 0, opened::PAIR_ONE),
+    ("int list", 0, openings::LIST_ONE),
+    ("int list list int list", 0, openings::LIST_TWO),
+    ("int int list int pair list", 1, openings::LIST_THREE),
+    ("int option list", 0, openings::LIST_FOUR),
+    ("int tree", 0, openings::TREE_ONE),
+    ("int list int list tree", 1, openings::TREE_TWO),
+    ("int list int tree pair", 0, openings::PAIR_ONE),
     (
         "int list int int list int list pair pair",
         1,
-        opened::PAIR_TWO,
+        openings::PAIR_TWO,
     ),
-    ("int list option", 0, opened::OPTION_ONE),
-    ("int list int list int pair option", 1, opened::OPTION_TWO),
+    ("int list option", 0, openings::OPTION_ONE),
+    ("int list int list int pair option", 1, openings::OPTION_TWO),
 ];
 
 #[test]
@@ -185,35 +185,35 @@ fn variables_are_taken_apart(rt: HostRuntime) -> Result<(), Fail> {
 
 /// What becomes of a variable, types, its place, and the entries of the map.
 const CHANGED: [(Change, &str, usize, &str); 9] = [
-    (Change::Leaves, "int list int list", 0, changed::EMPTY_ONE),
+    (Change::Leaves, "int list int list", 0, changes::EMPTY_ONE),
     (
         Change::Leaves,
         "int list tree int list",
         0,
-        changed::EMPTY_TWO,
+        changes::EMPTY_TWO,
     ),
     (
         Change::Leaves,
         "int list option int list",
         0,
-        changed::EMPTY_ONE,
+        changes::EMPTY_ONE,
     ),
     (
         Change::Drops,
         "int list int list list",
         1,
-        changed::DROP_ONE,
+        changes::DROP_ONE,
     ),
-    (Change::Drops, "int option int option", 1, changed::DROP_TWO),
-    (Change::Shares, "int list", 0, changed::SHARE_ONE),
-    (Change::Shares, "int int list list", 1, changed::SHARE_TWO),
+    (Change::Drops, "int option int option", 1, changes::DROP_TWO),
+    (Change::Shares, "int list", 0, changes::SHARE_ONE),
+    (Change::Shares, "int int list list", 1, changes::SHARE_TWO),
     (
         Change::Shares,
         "int list int list pair int list",
         0,
-        changed::SHARE_THREE,
+        changes::SHARE_THREE,
     ),
-    (Change::Shares, "int list option", 0, changed::SHARE_FOUR),
+    (Change::Shares, "int list option", 0, changes::SHARE_FOUR),
 ];
 
 #[test]
