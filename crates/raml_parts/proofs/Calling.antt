@@ -14,7 +14,7 @@ use Rattle.refusals.specs.Ending.{NoFunction}
 use Rattle.refusals.specs.Line.{no_names}
 use Rattle.refusals.specs.declared.answer.Report.{Report}
 use Rattle.refusals.specs.declared.answer.Refusal.{Refusal as TheRefusal}
-use Rattle.raml_promise.specs.Outside.{Promised, Store}
+use Rattle.raml_promise.specs.Outside.{Sound, Store}
 use Rattle.raml_promise.specs.Steps.{Answer, refused, goes_on}
 use Rattle.raml_promise.specs.Call.{Placed, IsNamed, DataRefuses, OfArguments, OfCall}
 use Rattle.raml_parts.specs.Parts.{Gives, Refuses, HasArguments, ReadsArguments, ArgumentsRefuse, ReadsCall, IsCallOf, CallRefuses, IsShort, FileRefuses}
@@ -67,7 +67,7 @@ module _ (store : Store) (P : Prog) (name file : Text) where
   call_of call reads = ((call.place.0, reads.reads.fun), reads.reads.values, record { place = refl; arguments = reads.reads.arguments })
 
   pub call_gives : (call : Call) (reads : ReadsCall store P name file call) (Rest : Placed → List Value → Answer → Type 0) (r : Result Report TheRefusal) →
-      ((f : Placed) (vs : List Value) → IsCallOf P f call vs → Gives (Rest f vs) r) → Gives (OfCall Promised store P name file Rest) r
+      ((f : Placed) (vs : List Value) → IsCallOf P f call vs → Gives (Rest f vs) r) → Gives (OfCall Sound store P name file Rest) r
   call_gives call reads Rest r given =
       let a = reads.reads in
       call_goes store P name file Rest (call.place.0, a.fun) a.values reads.bytes (record { place = reads.place; there = a.arguments.there }) reads.within a.spelled r

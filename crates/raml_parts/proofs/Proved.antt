@@ -23,7 +23,7 @@ use Rattle.raml_words.specs.declared.request.Rule.{Rule}
 use Rattle.refusals.specs.Refusals.{names_in}
 use Rattle.refusals.specs.declared.answer.Report.{Report}
 use Rattle.refusals.specs.declared.answer.Refusal.{Refusal}
-use Rattle.raml_promise.specs.Outside.{Promised}
+use Rattle.raml_promise.specs.Outside.{Sound}
 use Rattle.raml_syntax.specs.Read.{program_of}
 use Rattle.raml_syntax.specs.declared.program.Program.{Program as TheProgram}
 use Rattle.call_groups.specs.Groups.{IsGrouping}
@@ -69,26 +69,26 @@ module _ (whose : Analysed) (kept : Kept) (degree : ℕ) (rule : Rule) (Rest : C
   A = analysis (program_in kept) degree rule
 
   pub course_given : (c : Certificate) → IsInferred A c → IsProved (source_in kept) (program_in kept) c → AllLeast (program_in kept) c →
-      (r : Result Report Refusal) → Gives (Rest c) r → Gives (OfCourse Promised whose (source_in kept) (program_in kept) degree rule Rest) r
+      (r : Result Report Refusal) → Gives (Rest c) r → Gives (OfCourse Sound whose (source_in kept) (program_in kept) degree rule Rest) r
   course_given c inferred proved least r given =
-      step_goes (names_in kept) (RefusedOf whose (CourseRefuses A)) (IsCourse Promised (source_in kept) A) Rest c (record { inferred = inferred; proved = proved; least = least }) r given
+      step_goes (names_in kept) (RefusedOf whose (CourseRefuses A)) (IsCourse Sound (source_in kept) A) Rest c (record { inferred = inferred; proved = proved; least = least }) r given
 
   pub course_denied : (refusal : Refusal) → Refuses (names_in kept) (RefusedOf whose (CourseRefuses A)) refusal →
-      Gives (OfCourse Promised whose (source_in kept) (program_in kept) degree rule Rest) (Err refusal)
-  course_denied refusal h = step_refused (names_in kept) (RefusedOf whose (CourseRefuses A)) (IsCourse Promised (source_in kept) A) Rest refusal h
+      Gives (OfCourse Sound whose (source_in kept) (program_in kept) degree rule Rest) (Err refusal)
+  course_denied refusal h = step_refused (names_in kept) (RefusedOf whose (CourseRefuses A)) (IsCourse Sound (source_in kept) A) Rest refusal h
 
 -- over what it was typed from
 module _ (typed : TheProgram) (kept : Kept) (source : kept.source ≡ typed) (degree : ℕ) (rule : Rule) (Rest : Certificate → Answer → Type 0) where
   pub course_goes : (c : Certificate) → IsInferred (analysis (program_in kept) degree rule) c → IsProved (source_in kept) (program_in kept) c → AllLeast (program_in kept) c →
-      (r : Result Report Refusal) → Gives (Rest c) r → Gives (OfCourse Promised analysed.Program (program_of typed) (program_in kept) degree rule Rest) r
+      (r : Result Report Refusal) → Gives (Rest c) r → Gives (OfCourse Sound analysed.Program (program_of typed) (program_in kept) degree rule Rest) r
   course_goes c inferred proved least r given =
-      subst (λ s. Gives (OfCourse Promised analysed.Program (program_of s) (program_in kept) degree rule Rest) r) source
+      subst (λ s. Gives (OfCourse Sound analysed.Program (program_of s) (program_in kept) degree rule Rest) r) source
       (course_given analysed.Program kept degree rule Rest c inferred proved least r given)
 
   pub course_refused : (refusal : Refusal) → Refuses (names_in kept) (CourseRefuses (analysis (program_in kept) degree rule)) refusal →
-      Gives (OfCourse Promised analysed.Program (program_of typed) (program_in kept) degree rule Rest) (Err refusal)
+      Gives (OfCourse Sound analysed.Program (program_of typed) (program_in kept) degree rule Rest) (Err refusal)
   course_refused refusal h =
-      subst (λ s. Gives (OfCourse Promised analysed.Program (program_of s) (program_in kept) degree rule Rest) (Err refusal)) source
+      subst (λ s. Gives (OfCourse Sound analysed.Program (program_of s) (program_in kept) degree rule Rest) (Err refusal)) source
       (course_denied analysed.Program kept degree rule Rest refusal h)
 
 -- the certificate of a course counts work, and is complete

@@ -11,7 +11,7 @@ use Rattle.price_file.specs.Construct.{Prices}
 use Rattle.refusals.specs.Ending.{TooLong}
 use Rattle.refusals.specs.Line.{no_names}
 use Rattle.refusals.specs.declared.answer.Refusal.{Refusal}
-use Rattle.raml_promise.specs.Outside.{Promised, Store, store_of}
+use Rattle.raml_promise.specs.Outside.{Sound, Store, store_of}
 use Rattle.raml_promise.specs.Steps.{most_bytes, SourceRefuses, IsTyped, RefusedOf, file_of, Answer, OfProgram}
 use Rattle.raml_promise.specs.Prices.{OfPrices}
 use Rattle.raml_parts.specs.Parts.{Before, Gives, IsShort, FileRefuses, IsProgram, ProgramRefuses, ArePrices, Refuses}
@@ -72,7 +72,7 @@ from_now counts name = omega arith
 -- What comes after a program was read stands over the counts before it.
 pub program_then : (whose : Analysed) (holds told : Option Files) (before read later : Text → ℕ) (file : List ℕ) (Rest : Store → Prog → Answer → Type 0) (P : Prog) → told ≡ holds →
     IsProgram (store_of holds before read) whose file P → (r : Result Report Refusal) → Gives (Rest (store_of told before later) P) r →
-    Gives (OfProgram Promised (store_of holds before later) whose file (Rest (store_of holds before later))) r
+    Gives (OfProgram Sound (store_of holds before later) whose file (Rest (store_of holds before later))) r
 program_then whose holds told before read later file Rest P same is r given =
     program_goes (store_of holds before later) whose file (Rest (store_of holds before later)) P (program_stays holds before read before later whose file P is) r
     (subst (λ h. Gives (Rest (store_of h before later) P) r) same given)
@@ -83,7 +83,7 @@ earlier_still before old now earlier later name = let a = earlier name in let b 
 -- What comes after prices were read stands over the counts before them.
 pub prices_then : (holds told : Option Files) (before read later : Text → ℕ) (file : List ℕ) (Rest : Store → Prices → Answer → Type 0) (prices : Prices) → told ≡ holds →
     ArePrices (store_of holds before read) file prices → (r : Result Report Refusal) → Gives (Rest (store_of told before later) prices) r →
-    Gives (OfPrices Promised (store_of holds before later) file (Rest (store_of holds before later))) r
+    Gives (OfPrices Sound (store_of holds before later) file (Rest (store_of holds before later))) r
 prices_then holds told before read later file Rest prices same are r given =
     prices_go (store_of holds before later) file (Rest (store_of holds before later)) prices (prices_stay holds before read before later file prices are) r
     (subst (λ h. Gives (Rest (store_of h before later) prices) r) same given)

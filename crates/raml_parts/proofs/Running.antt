@@ -24,7 +24,7 @@ use Rattle.report_text.specs.Report.{value_lines, stopped_lines, full_lines}
 use Rattle.refusals.specs.Ending as e
 use Rattle.refusals.specs.declared.answer.Report.{Report}
 use Rattle.refusals.specs.declared.status.Status.TheVariants.{Done, Stopped, HeapFull}
-use Rattle.raml_promise.specs.Outside.{Promised}
+use Rattle.raml_promise.specs.Outside.{Sound}
 use Rattle.raml_promise.specs.Call.{Placed, Limits, Finishes, Stops, Fills, NoWorkWithin}
 use Rattle.raml_parts.specs.Parts.{HasArguments, RanOn}
 
@@ -72,7 +72,7 @@ module _ (P : Prog) (f : Placed) (cells : List Cell) (words : List Word) (args :
       let keeps = (typed_runs_keep P typed numbers).runs g.limit f.1.name f.1 args (found P typed f.0 f.1 r.there) r.types in
       record { value = h.value; stands = h.stands; has = keeps.value h.value g.value }
 
-  finishes : (w : Word) (text : List ℕ) → HasHalted w new → ((v : Value) → StandsFor (cells_in new) w v → text ≡ value_lines v f.1.result (state_in new)) → Finishes Promised P f args limits text
+  finishes : (w : Word) (text : List ℕ) → HasHalted w new → ((v : Value) → StandsFor (cells_in new) w v → text ≡ value_lines v f.1.result (state_in new)) → Finishes Sound P f args limits text
   finishes w text h printed =
       let s = state_in new in
       record {
@@ -92,7 +92,7 @@ module _ (P : Prog) (f : Placed) (cells : List Cell) (words : List Word) (args :
       let less = bounds.machine args limits.steps r.types (subst (λ (t : State). IsGoing t.at) same going) in
       absurd (omega (arith, less, few))
 
-  stops : (text : List ℕ) → HasStopped limits.steps new → text ≡ stopped_lines (state_in new) → Stops Promised P f args limits text
+  stops : (text : List ℕ) → HasStopped limits.steps new → text ≡ stopped_lines (state_in new) → Stops Sound P f args limits text
   stops text h printed =
       let same : state_in new ≡ at P f.0 args limits.steps = state_is ∙ ap (at P f.0 args) h.made in
       record {
@@ -104,7 +104,7 @@ module _ (P : Prog) (f : Placed) (cells : List Cell) (words : List Word) (args :
         printed = printed ∙ ap stopped_lines same;
       }
 
-  fills : NeverAsks → (text : List ℕ) → IsFull limits.steps new → text ≡ full_lines (state_in new) → Fills Promised P f args limits text
+  fills : NeverAsks → (text : List ℕ) → IsFull limits.steps new → text ≡ full_lines (state_in new) → Fills Sound P f args limits text
   fills never text h printed =
       let s = state_in new in
       let going = subst (λ (t : State). IsGoing t.at) state_is h.going in

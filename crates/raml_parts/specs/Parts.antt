@@ -32,7 +32,7 @@ use Rattle.refusals.specs.declared.answer.Refusal.{Refusal as TheRefusal}
 use Rattle.refusals.specs.declared.status.Status.{Status}
 use Rattle.refusals.specs.declared.status.Status.TheVariants as status
 use Rattle.refusals.specs.declared.status.OverflowAt.TheVariants as overflow
-use Rattle.raml_promise.specs.Outside.{Promised, Store, IsRead}
+use Rattle.raml_promise.specs.Outside.{Sound, Store, IsRead}
 use Rattle.raml_promise.specs.Steps.{Answer, Refusal, most_bytes, IsTyped, file_of, OfFile, OfProgram}
 use Rattle.raml_promise.specs.Steps as s
 use Rattle.raml_promise.specs.Analysis.{OfCertificate}
@@ -67,7 +67,7 @@ Before before now = (name : Text) → before name ≤ now name
 
 -- the bytes of a file, no more than its limit
 pub record IsShort (store : Store) (which : Which) (file bytes : List ℕ) : Type 0 where
-  pub read : IsRead Promised store (most_bytes which) file (Some bytes)
+  pub read : IsRead Sound store (most_bytes which) file (Some bytes)
   pub short : length bytes ≤ most_bytes which
 
 -- Why a part comes to nothing: the step of the call at which it is refused, with nothing behind it.
@@ -75,7 +75,7 @@ abbrev pub nothing : {X : Type 0} → X → Answer → Type 0
 nothing x a = ⊥
 
 abbrev pub FileRefuses : Store → Which → List ℕ → Ending → Type 0
-FileRefuses store which file e = OfFile Promised store which file nothing (Refusal no_names e)
+FileRefuses store which file e = OfFile Sound store which file nothing (Refusal no_names e)
 
 -- the typed program that a file spells
 pub record IsProgram (store : Store) (whose : Analysed) (file : List ℕ) (P : Prog) : Type 0 where
@@ -84,7 +84,7 @@ pub record IsProgram (store : Store) (whose : Analysed) (file : List ℕ) (P : P
   pub typed : IsTyped source P
 
 abbrev pub ProgramRefuses : Store → Analysed → List ℕ → Ending → Type 0
-ProgramRefuses store whose file e = OfProgram Promised store whose file nothing (Refusal no_names e)
+ProgramRefuses store whose file e = OfProgram Sound store whose file nothing (Refusal no_names e)
 
 -- the prices that a file tells
 pub record ArePrices (store : Store) (file : List ℕ) (prices : Prices) : Type 0 where
@@ -95,7 +95,7 @@ pub record ArePrices (store : Store) (file : List ℕ) (prices : Prices) : Type 
   pub are : prices ≡ prices_in table
 
 abbrev pub PriceFileRefuses : Store → List ℕ → Ending → Type 0
-PriceFileRefuses store file e = OfPrices Promised store file nothing (Refusal no_names e)
+PriceFileRefuses store file e = OfPrices Sound store file nothing (Refusal no_names e)
 
 -- the bounds that a file declares for a program at a degree
 pub record AreBounds (store : Store) (file : List ℕ) (P : Prog) (degree : ℕ) (declared : Declaration) : Type 0 where
@@ -104,7 +104,7 @@ pub record AreBounds (store : Store) (file : List ℕ) (P : Prog) (degree : ℕ)
   pub spelled : Spells P degree bytes declared
 
 abbrev pub BoundsFileRefuses : Store → List ℕ → Prog → ℕ → Ending → Type 0
-BoundsFileRefuses store file P degree e = OfBounds Promised store file P degree nothing (Refusal no_names e)
+BoundsFileRefuses store file P degree e = OfBounds Sound store file P degree nothing (Refusal no_names e)
 
 -- the certificate that a file is
 pub record IsCertificateFile (store : Store) (file : List ℕ) (c : Certificate) : Type 0 where
@@ -113,11 +113,11 @@ pub record IsCertificateFile (store : Store) (file : List ℕ) (c : Certificate)
   pub is : IsFile bytes c
 
 abbrev pub CertificateRefuses : Store → List ℕ → Ending → Type 0
-CertificateRefuses store file e = OfCertificate Promised store file nothing (Refusal no_names e)
+CertificateRefuses store file e = OfCertificate Sound store file nothing (Refusal no_names e)
 
 -- why a call is not read
 abbrev pub CallRefuses : Store → Prog → List ℕ → List ℕ → Ending → Type 0
-CallRefuses store P name file e = OfCall Promised store P name file (λ f. nothing) (Refusal no_names e)
+CallRefuses store P name file e = OfCall Sound store P name file (λ f. nothing) (Refusal no_names e)
 
 -- what is known of a typed program that a source within its limit spells
 pub record IsReady (P : Prog) : Type 0 where
@@ -158,7 +158,7 @@ pub record HasArguments (P : Prog) (f : Placed) (cells : List Cell) (words : Lis
 abbrev pub RanOn : Prog → ℕ → List Cell → List Word → Limits → Status → List ℕ → Type 0
 RanOn P place cells words limits how text =
     (f : Placed) (args : List Value) → f.0 ≡ place → HasArguments P f cells words args →
-    (e : Ending) × (ending_of how ≡ Some e) × Ends Promised P f args limits text e
+    (e : Ending) × (ending_of how ≡ Some e) × Ends Sound P f args limits text e
 
 abbrev pub limits_of : TheLimits → Limits
 limits_of limits = record { steps = limits.steps; cells = limits.cells }

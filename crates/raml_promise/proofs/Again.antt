@@ -30,7 +30,7 @@ use Rattle.refusals.specs.declared.status.Status.{Status}
 use Rattle.refusals.specs.declared.status.Status.TheVariants as s
 use Rattle.refusal_text.specs.declared.plain.Which.TheVariants as which
 use Rattle.refusal_text.specs.declared.task.Analysed.TheVariants as analysed
-use Rattle.raml_promise.specs.Outside.{Outside, Store, Promised, Tells, IsSeen, Gains}
+use Rattle.raml_promise.specs.Outside.{Outside, Store, Sound, Tells, IsSeen, Gains}
 use Rattle.raml_promise.specs.Steps.{Answer, Report, Refusal, Step, refused, goes_on, most_bytes, SourceRefuses, IsTyped, OfSource, OfProgram, OfNormal, names_of}
 use Rattle.raml_promise.specs.Analysis.{analysis, pick_of, CourseRefuses, IsCourse, OfCourse, TextRefuses, CheckRefuses, OfCheck}
 use Rattle.raml_promise.specs.Promise.{PrintsCertificate, PrintsLines, Certifies, Verifies, Answers, EndsBy, Comes}
@@ -72,11 +72,11 @@ module _ (P : Prog) (N : Program) (cert : Certificate) (text : Text) (passes : F
   refusal names (Overflows place) h = tt
   refusal names x h = absurd h
 
-  printed : (a : Answer) → PrintsLines Promised P N cert a → Again a
+  printed : (a : Answer) → PrintsLines Sound P N cert a → Again a
   printed (Report Done lines) h = h
   printed a h = absurd h
 
-  pub checked : (a : Answer) → OfCheck Promised P N cert (PrintsLines Promised P N cert) a → Again a
+  pub checked : (a : Answer) → OfCheck Sound P N cert (PrintsLines Sound P N cert) a → Again a
   checked a (refused x r is) = subst Again (sym is) (refusal (names_of P N) x r)
   checked a (goes_on done h rest) = printed a rest
 
@@ -84,7 +84,7 @@ module _ (P : Prog) (N : Program) (cert : Certificate) (text : Text) (passes : F
 
 module _ (laws : KnownLaws) where
   module _ (P : Prog) (source : Text) (typed : IsTyped source P) (groups : Grouping) (grouping : IsGrouping P groups) (degree : ℕ) (rule : Rule) (cert : Certificate)
-      (course : IsCourse Promised P (analysis (normal_of P groups.list) degree rule) cert) (text : Text) (file : length text ≤ most_bytes which.Certificate → IsFile text cert)
+      (course : IsCourse Sound P (analysis (normal_of P groups.list) degree rule) cert) (text : Text) (file : length text ≤ most_bytes which.Certificate → IsFile text cert)
       (short : length source ≤ most_bytes which.Program) where
     abbrev N : Program
     N = normal_of P groups.list
@@ -111,43 +111,43 @@ module _ (laws : KnownLaws) where
         laws.verify N ordered degree (subst (λ n. 1 ≤ n) degree_is held.least_degree) (subst (λ n. n ≤ 4) degree_is held.most_degree) (pick_of rule) cert course.inferred.ends (NotRefutedAt block) h
 
     module _ (other : Outside) (named spelled : Text) (program : Tells other.store named (Some source)) (certified : Tells other.store spelled (Some text)) where
-      of_normal : (a : Answer) → OfNormal P (λ M. OfCheck Promised P M cert (PrintsLines Promised P M cert)) a → Answered a
+      of_normal : (a : Answer) → OfNormal P (λ M. OfCheck Sound P M cert (PrintsLines Sound P M cert)) a → Answered a
       of_normal a h =
           let same = one_order P [] h.groups.list groups.list h.grouping.in_order grouping.in_order in
-          checked P N cert text course.inferred.passes unrefuted small a (subst (λ gs. OfCheck Promised P (normal_of P gs) cert (PrintsLines Promised P (normal_of P gs) cert) a) same h.rest)
+          checked P N cert text course.inferred.passes unrefuted small a (subst (λ gs. OfCheck Sound P (normal_of P gs) cert (PrintsLines Sound P (normal_of P gs) cert) a) same h.rest)
 
       of_text : length text ≤ most_bytes which.Certificate → (a : Answer) →
-          Step no_names (TextRefuses text) (IsFile text) (λ c. OfNormal P (λ M. OfCheck Promised P M c (PrintsLines Promised P M c))) a → Answered a
+          Step no_names (TextRefuses text) (IsFile text) (λ c. OfNormal P (λ M. OfCheck Sound P M c (PrintsLines Sound P M c))) a → Answered a
       of_text low a (refused x r is) = absurd (text_or_file text x cert r (file low))
       of_text low a (goes_on c is rest) =
-          of_normal a (subst (λ c. OfNormal P (λ M. OfCheck Promised P M c (PrintsLines Promised P M c)) a) (one_file text c cert is (file low)) rest)
+          of_normal a (subst (λ c. OfNormal P (λ M. OfCheck Sound P M c (PrintsLines Sound P M c)) a) (one_file text c cert is (file low)) rest)
 
-      of_certificate : (a : Answer) → Verifies Promised other.store spelled P a → Answered a
+      of_certificate : (a : Answer) → Verifies Sound other.store spelled P a → Answered a
       of_certificate a (refused x r is) = subst Answered (sym (is ∙ ap (Refusal no_names) r.0)) tt
       of_certificate a (goes_on bytes seen (refused x r is)) =
           subst Answered (sym (is ∙ ap (Refusal no_names) r.0)) (let l = fewer other.store spelled text bytes (most_bytes which.Certificate) certified seen in omega (arith, l, r.1))
       of_certificate a (goes_on bytes seen (goes_on done low rest)) =
           let same = all_of other.store spelled text bytes (most_bytes which.Certificate) certified seen low in
           of_text (subst (λ b. length b ≤ most_bytes which.Certificate) same low) a
-          (subst (λ b. Step no_names (TextRefuses b) (IsFile b) (λ c. OfNormal P (λ M. OfCheck Promised P M c (PrintsLines Promised P M c))) a) same rest)
+          (subst (λ b. Step no_names (TextRefuses b) (IsFile b) (λ c. OfNormal P (λ M. OfCheck Sound P M c (PrintsLines Sound P M c))) a) same rest)
 
-      of_source : (a : Answer) → OfSource analysed.Program source (Verifies Promised other.store spelled) a → Answered a
+      of_source : (a : Answer) → OfSource analysed.Program source (Verifies Sound other.store spelled) a → Answered a
       of_source a (refused x r is) = absurd (refused_or_typed source x P r typed)
-      of_source a (goes_on Q are rest) = of_certificate a (subst (λ Q. Verifies Promised other.store spelled Q a) (one_program source Q P are.spelled typed.spelled) rest)
+      of_source a (goes_on Q are rest) = of_certificate a (subst (λ Q. Verifies Sound other.store spelled Q a) (one_program source Q P are.spelled typed.spelled) rest)
 
-      of_program : (a : Answer) → OfProgram Promised other.store analysed.Program named (Verifies Promised other.store spelled) a → Answered a
+      of_program : (a : Answer) → OfProgram Sound other.store analysed.Program named (Verifies Sound other.store spelled) a → Answered a
       of_program a (refused x r is) = subst Answered (sym (is ∙ ap (Refusal no_names) r.0)) tt
       of_program a (goes_on bytes seen (refused x r is)) =
           let l = fewer other.store named source bytes (most_bytes which.Program) program seen in absurd (omega (arith, l, r.1, short))
       of_program a (goes_on bytes seen (goes_on done low rest)) =
           let same = all_of other.store named source bytes (most_bytes which.Program) program seen low in
-          of_source a (subst (λ b. OfSource analysed.Program b (Verifies Promised other.store spelled) a) same rest)
+          of_source a (subst (λ b. OfSource analysed.Program b (Verifies Sound other.store spelled) a) same rest)
 
-    pub answered : (other : Outside) (a : Answer) → VerifiesText other source text → Comes Promised other a → Answered a
+    pub answered : (other : Outside) (a : Answer) → VerifiesText other source text → Comes Sound other a → Answered a
     answered other a call (refused x r is) = absurd (r.1 (w.Verify call.file call.certificate) call.asks)
     answered other a call (goes_on request asks rest) =
         of_program other call.file call.certificate call.program call.certified a
-        (subst (λ q. Answers Promised other.store q a) (one_request other.words request (w.Verify call.file call.certificate) asks call.asks) rest)
+        (subst (λ q. Answers Sound other.store q a) (one_request other.words request (w.Verify call.file call.certificate) asks call.asks) rest)
 
   module _ (o : Outside) (status : Status) (done : status ≡ s.Done) (file : Text) (degree : ℕ) (rule : Rule) where
     -- a call that is refused does not end with Done
@@ -162,8 +162,8 @@ module _ (laws : KnownLaws) where
 
     module _ (source : Text) (seen : IsSeen o.store (most_bytes which.Program) file source) (short : length source ≤ most_bytes which.Program) (P : Prog) (typed : IsTyped source P)
         (groups : Grouping) (grouping : IsGrouping P groups) where
-      written : (cert : Certificate) → IsCourse Promised P (analysis (normal_of P groups.list) degree rule) cert → (a : Answer) → EndsBy o a status →
-          PrintsCertificate Promised cert a → WritesCertificate o file degree rule
+      written : (cert : Certificate) → IsCourse Sound P (analysis (normal_of P groups.list) degree rule) cert → (a : Answer) → EndsBy o a status →
+          PrintsCertificate Sound cert a → WritesCertificate o file degree rule
       written cert course (Report Done text) ends is = record {
         source = source;
         seen = seen;
@@ -178,12 +178,12 @@ module _ (laws : KnownLaws) where
       }
       written cert course a ends is = absurd is
 
-      of_course : (a : Answer) → EndsBy o a status → OfCourse Promised analysed.Program P (normal_of P groups.list) degree rule (PrintsCertificate Promised) a → WritesCertificate o file degree rule
+      of_course : (a : Answer) → EndsBy o a status → OfCourse Sound analysed.Program P (normal_of P groups.list) degree rule (PrintsCertificate Sound) a → WritesCertificate o file degree rule
       of_course a ends (refused x r is) =
           absurd (subst (CourseRefuses (analysis (normal_of P groups.list) degree rule)) (not_refused a (names_of P (normal_of P groups.list)) x is ends) r)
       of_course a ends (goes_on cert course prints) = written cert course a ends prints
 
-    certifies : (a : Answer) → EndsBy o a status → OfProgram Promised o.store analysed.Program file (Certifies Promised degree rule) a → WritesCertificate o file degree rule
+    certifies : (a : Answer) → EndsBy o a status → OfProgram Sound o.store analysed.Program file (Certifies Sound degree rule) a → WritesCertificate o file degree rule
     certifies a ends (refused x r is) = absurd (let q = sym r.0 ∙ not_refused a no_names x is ends in cc)
     certifies a ends (goes_on source seen (refused x r is)) = absurd (let q = sym r.0 ∙ not_refused a no_names x is ends in cc)
     certifies a ends (goes_on source seen (goes_on u short (refused x r is))) = absurd (subst (SourceRefuses source) (not_refused a no_names x is ends) r)
@@ -193,7 +193,7 @@ module _ (laws : KnownLaws) where
   written_verifies o status (inl lacks) file degree rule asks done = absurd (let wrong = sym lacks.0 ∙ done in cc)
   written_verifies o status (inr (a, comes, ends)) file degree rule asks done = by comes
     where
-      by : Comes Promised o a → WritesCertificate o file degree rule
+      by : Comes Sound o a → WritesCertificate o file degree rule
       by (refused x r is) = absurd (r.1 (w.Certify file degree rule) asks)
       by (goes_on request asked rest) =
-          certifies o status done file degree rule a ends (subst (λ q. Answers Promised o.store q a) (one_request o.words request (w.Certify file degree rule) asked asks) rest)
+          certifies o status done file degree rule a ends (subst (λ q. Answers Sound o.store q a) (one_request o.words request (w.Certify file degree rule) asked asks) rest)

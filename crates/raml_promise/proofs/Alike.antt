@@ -6,7 +6,7 @@ use Rattle.raml_syntax.specs.Tree.{Text}
 use Rattle.refusals.specs.Ending.{Ending, Done, Overflows, OnTask, OfOther}
 use Rattle.refusals.specs.Line.{Names}
 use Rattle.raml_promise.specs.Steps.{Answer, Report, Refusal, ending_in, Step, refused, goes_on, RefusedOf, Prints}
-use Rattle.raml_promise.specs.Outside.{Promised, Needed}
+use Rattle.raml_promise.specs.Outside.{Sound, Complete}
 use Rattle.raml_promise.specs.Promise.{Alike}
 
 pub alike_refl : (e : Ending) → Alike e e
@@ -64,7 +64,7 @@ neither_refused analysed.Other R none (OfOther e) r = none e r
 neither_refused analysed.Other R none e r = absurd r
 
 -- two reports that end with Done
-pub prints_same : (Is Also : Text → Type 0) (a b : Answer) → Prints Needed Is a → Prints Promised Also b → Same a b
+pub prints_same : (Is Also : Text → Type 0) (a b : Answer) → Prints Complete Is a → Prints Sound Also b → Same a b
 prints_same Is Also (Report Done t) (Report Done u) h k = refl
 prints_same Is Also (Report Done t) b h k = absurd k
 prints_same Is Also a b h k = absurd h

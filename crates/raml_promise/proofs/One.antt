@@ -31,7 +31,7 @@ use Rattle.refusal_text.specs.declared.task.Analysed.TheVariants as analysed
 use Rattle.refusals.specs.Line.{no_names}
 use Rattle.refusals.specs.declared.status.Status.{Status}
 use Rattle.refusals.specs.declared.status.Status.TheVariants.{NoMemory}
-use Rattle.raml_promise.specs.Outside.{Outside, Promised, Needed, Store}
+use Rattle.raml_promise.specs.Outside.{Outside, Sound, Complete, Store}
 use Rattle.raml_promise.specs.Steps.{Answer, Report, Refusal, ending_in, Prints, IsTyped, OfProgram, OfNormal}
 use Rattle.raml_promise.specs.DeclaredBounds.{PrintsVerdicts}
 use Rattle.raml_promise.specs.Prices.{ArePricedLines, Spends}
@@ -64,9 +64,9 @@ module _ (laws : KnownLaws) where
   -- over the courses of one program
   of_courses : (whose : Analysed) (P : Prog) → IsKnown P → (degree : ℕ) (rule : Rule) (Q T : Program → Certificate → Answer → Type 0) →
       ((N : Program) (c : Certificate) (a b : Answer) → Q N c a → T N c b → Same a b) → (a b : Answer) →
-      OfNormal P (λ N. OfCourse Needed whose P N degree rule (Q N)) a → OfNormal P (λ N. OfCourse Promised whose P N degree rule (T N)) b → Same a b
+      OfNormal P (λ N. OfCourse Complete whose P N degree rule (Q N)) a → OfNormal P (λ N. OfCourse Sound whose P N degree rule (T N)) b → Same a b
   of_courses whose P known degree rule Q T rest =
-      normal_same P (λ N. OfCourse Needed whose P N degree rule (Q N)) (λ N. OfCourse Promised whose P N degree rule (T N))
+      normal_same P (λ N. OfCourse Complete whose P N degree rule (Q N)) (λ N. OfCourse Sound whose P N degree rule (T N))
       (λ groups grouping. course_same laws whose P known.typed known.limits.numbers groups grouping degree rule (Q (normal_of P groups.list)) (T (normal_of P groups.list)) (rest (normal_of P groups.list)))
 
   -- a certificate that is held, within the limits, and whose totals fit, passes the check
@@ -74,68 +74,68 @@ module _ (laws : KnownLaws) where
   passes P is groups grouping c =
       let N = normal_of P groups.list in (laws.faultless N (laws.proper N (laws.ordered P is.typed is.limits.numbers groups grouping)) c).1
 
-  verified_same : (store : Store) (file : Text) (P : Prog) → IsKnown P → (a b : Answer) → Verifies Needed store file P a → Verifies Promised store file P b → Same a b
+  verified_same : (store : Store) (file : Text) (P : Prog) → IsKnown P → (a b : Answer) → Verifies Complete store file P a → Verifies Sound store file P b → Same a b
   verified_same store file P is =
-      certificate_same store file (λ c. OfNormal P (λ N. OfCheck Needed P N c (PrintsLines Needed P N c))) (λ c. OfNormal P (λ N. OfCheck Promised P N c (PrintsLines Promised P N c)))
-      (λ c. normal_same P (λ N. OfCheck Needed P N c (PrintsLines Needed P N c)) (λ N. OfCheck Promised P N c (PrintsLines Promised P N c))
-      (λ groups grouping. check_same (normal_of P groups.list) c (passes P is groups grouping c) P (PrintsLines Needed P (normal_of P groups.list) c) (PrintsLines Promised P (normal_of P groups.list) c)
+      certificate_same store file (λ c. OfNormal P (λ N. OfCheck Complete P N c (PrintsLines Complete P N c))) (λ c. OfNormal P (λ N. OfCheck Sound P N c (PrintsLines Sound P N c)))
+      (λ c. normal_same P (λ N. OfCheck Complete P N c (PrintsLines Complete P N c)) (λ N. OfCheck Sound P N c (PrintsLines Sound P N c))
+      (λ groups grouping. check_same (normal_of P groups.list) c (passes P is groups grouping c) P (PrintsLines Complete P (normal_of P groups.list) c) (PrintsLines Sound P (normal_of P groups.list) c)
       (prints_same (AreLines P (normal_of P groups.list) c) (AreLines P (normal_of P groups.list) c))))
 
   bounded_same : (P : Prog) → IsKnown P → (steps : ℕ) (cells : Option ℕ) (degree : ℕ) (f : Placed) (args : List Value) (a b : Answer) →
-      BoundedCall Needed steps cells degree P f args a → BoundedCall Promised steps cells degree P f args b → Same a b
+      BoundedCall Complete steps cells degree P f args a → BoundedCall Sound steps cells degree P f args b → Same a b
   bounded_same P is steps cells degree f args =
       of_courses analysed.Program P is degree rule.Least
-      (λ N c. OfFloors Needed P N c f args (λ floors. RunsBounded Needed P f args steps cells floors)) (λ N c. OfFloors Promised P N c f args (λ floors. RunsBounded Promised P f args steps cells floors))
-      (λ N c. floors_same P N c f args (λ floors. RunsBounded Needed P f args steps cells floors) (λ floors. RunsBounded Promised P f args steps cells floors)
+      (λ N c. OfFloors Complete P N c f args (λ floors. RunsBounded Complete P f args steps cells floors)) (λ N c. OfFloors Sound P N c f args (λ floors. RunsBounded Sound P f args steps cells floors))
+      (λ N c. floors_same P N c f args (λ floors. RunsBounded Complete P f args steps cells floors) (λ floors. RunsBounded Sound P f args steps cells floors)
       (λ floors. runs_same P f args _ _ _ _ _))
 
-  tried_same : (P : Prog) → IsKnown P → (count : ℕ) (a b : Answer) → Tries Needed count P a → Tries Promised count P b → Same a b
+  tried_same : (P : Prog) → IsKnown P → (count : ℕ) (a b : Answer) → Tries Complete count P a → Tries Sound count P b → Same a b
   tried_same P is count =
-      of_courses analysed.Program P is 1 rule.Least (TriesCall Needed count P) (TriesCall Promised count P)
+      of_courses analysed.Program P is 1 rule.Least (TriesCall Complete count P) (TriesCall Sound count P)
       (λ N c. function_same P (trial_function count) _ _
-      (λ f. arguments_same trial_data f.1 (λ args. RunsTrial Needed count P N c f args) (λ args. RunsTrial Promised count P N c f args) (λ args. runs_same P f args _ _ _ _ _)))
+      (λ f. arguments_same trial_data f.1 (λ args. RunsTrial Complete count P N c f args) (λ args. RunsTrial Sound count P N c f args) (λ args. runs_same P f args _ _ _ _ _)))
 
-  priced_same : (store : Store) (file : Text) (degree : ℕ) (P : Prog) → IsKnown P → (a b : Answer) → PricesProgram Needed store file degree P a → PricesProgram Promised store file degree P b → Same a b
+  priced_same : (store : Store) (file : Text) (degree : ℕ) (P : Prog) → IsKnown P → (a b : Answer) → PricesProgram Complete store file degree P a → PricesProgram Sound store file degree P b → Same a b
   priced_same store file degree P is =
-      prices_same store file (PricesLines Needed degree P) (PricesLines Promised degree P)
+      prices_same store file (PricesLines Complete degree P) (PricesLines Sound degree P)
       (λ prices small. of_courses analysed.Program (applied_program prices P) (known_under prices small P is) degree rule.Least
-      (λ N c. Prints Needed (ArePricedLines prices P N c)) (λ N c. Prints Promised (ArePricedLines prices P N c)) (λ N c. prints_same (ArePricedLines prices P N c) (ArePricedLines prices P N c)))
+      (λ N c. Prints Complete (ArePricedLines prices P N c)) (λ N c. Prints Sound (ArePricedLines prices P N c)) (λ N c. prints_same (ArePricedLines prices P N c) (ArePricedLines prices P N c)))
 
-  spent_same : (store : Store) (file name input : Text) (limits : Limits) (P : Prog) (a b : Answer) → SpendsWithin Needed store file name input limits P a →
-      SpendsWithin Promised store file name input limits P b → Same a b
+  spent_same : (store : Store) (file name input : Text) (limits : Limits) (P : Prog) (a b : Answer) → SpendsWithin Complete store file name input limits P a →
+      SpendsWithin Sound store file name input limits P b → Same a b
   spent_same store file name input limits P =
       prices_same store file
-      (λ prices. OfCall Needed store P name input (λ f args. Spends Needed prices P f args limits)) (λ prices. OfCall Promised store P name input (λ f args. Spends Promised prices P f args limits))
-      (λ prices small. call_same store P name input (λ f args. Spends Needed prices P f args limits) (λ f args. Spends Promised prices P f args limits) (run_same prices))
+      (λ prices. OfCall Complete store P name input (λ f args. Spends Complete prices P f args limits)) (λ prices. OfCall Sound store P name input (λ f args. Spends Sound prices P f args limits))
+      (λ prices small. call_same store P name input (λ f args. Spends Complete prices P f args limits) (λ f args. Spends Sound prices P f args limits) (run_same prices))
     where
-      run_same : (prices : Prices) (f : Placed) (args : List Value) (a b : Answer) → Spends Needed prices P f args limits a → Spends Promised prices P f args limits b → Same a b
+      run_same : (prices : Prices) (f : Placed) (args : List Value) (a b : Answer) → Spends Complete prices P f args limits a → Spends Sound prices P f args limits b → Same a b
       run_same prices f args a b h k = runs_same (applied_program prices P) (f.0, applied_function prices f.1) args limits [] [] [] [] a b h.runs k.runs
 
-  contracted_same : (store : Store) (file : Text) (degree : ℕ) (P : Prog) → IsKnown P → (a b : Answer) → ChecksBounds Needed store file degree P a → ChecksBounds Promised store file degree P b → Same a b
+  contracted_same : (store : Store) (file : Text) (degree : ℕ) (P : Prog) → IsKnown P → (a b : Answer) → ChecksBounds Complete store file degree P a → ChecksBounds Sound store file degree P b → Same a b
   contracted_same store file degree P is =
       bounds_same laws.files store file P degree _ _
-      (λ declared. of_courses analysed.Program P is degree rule.Least (λ N. PrintsVerdicts Needed P N declared.lines) (λ N. PrintsVerdicts Promised P N declared.lines)
+      (λ declared. of_courses analysed.Program P is degree rule.Least (λ N. PrintsVerdicts Complete P N declared.lines) (λ N. PrintsVerdicts Sound P N declared.lines)
       (λ N c. verdicts_same P N declared.lines c))
 
-  compared_same : (store : Store) (file : Text) (degree : ℕ) (P : Prog) → IsKnown P → (a b : Answer) → Compares Needed store file degree P a → Compares Promised store file degree P b → Same a b
+  compared_same : (store : Store) (file : Text) (degree : ℕ) (P : Prog) → IsKnown P → (a b : Answer) → Compares Complete store file degree P a → Compares Sound store file degree P b → Same a b
   compared_same store file degree P is =
       of_courses analysed.Program P is degree rule.Least
-      (λ N c. OfProgram Needed store analysed.Other file (ComparesWith Needed degree P N c)) (λ N c. OfProgram Promised store analysed.Other file (ComparesWith Promised degree P N c))
-      (λ N c. program_same store analysed.Other file (ComparesWith Needed degree P N c) (ComparesWith Promised degree P N c)
+      (λ N c. OfProgram Complete store analysed.Other file (ComparesWith Complete degree P N c)) (λ N c. OfProgram Sound store analysed.Other file (ComparesWith Sound degree P N c))
+      (λ N c. program_same store analysed.Other file (ComparesWith Complete degree P N c) (ComparesWith Sound degree P N c)
       (λ source Q typed. of_courses analysed.Other Q (known source Q typed) degree rule.Least
-      (λ M e. Prints Needed (AreComparisons P N c Q M e)) (λ M e. Prints Promised (AreComparisons P N c Q M e)) (λ M e. prints_same (AreComparisons P N c Q M e) (AreComparisons P N c Q M e))))
+      (λ M e. Prints Complete (AreComparisons P N c Q M e)) (λ M e. Prints Sound (AreComparisons P N c Q M e)) (λ M e. prints_same (AreComparisons P N c Q M e) (AreComparisons P N c Q M e))))
 
-  answers_same : (store : Store) (request : Request) (a b : Answer) → Answers Needed store request a → Answers Promised store request b → Same a b
-  answers_same store (w.Types file) = program_same store analysed.Program file (ListsTypes Needed) (ListsTypes Promised) (λ source P is. prints_same (λ text. text ≡ type_lines P) (λ text. text ≡ type_lines P))
-  answers_same store (w.Code file) = program_same store analysed.Program file (ListsCode Needed) (ListsCode Promised) (λ source P is. prints_same (λ text. text ≡ code_text P) (λ text. text ≡ code_text P))
+  answers_same : (store : Store) (request : Request) (a b : Answer) → Answers Complete store request a → Answers Sound store request b → Same a b
+  answers_same store (w.Types file) = program_same store analysed.Program file (ListsTypes Complete) (ListsTypes Sound) (λ source P is. prints_same (λ text. text ≡ type_lines P) (λ text. text ≡ type_lines P))
+  answers_same store (w.Code file) = program_same store analysed.Program file (ListsCode Complete) (ListsCode Sound) (λ source P is. prints_same (λ text. text ≡ code_text P) (λ text. text ≡ code_text P))
   answers_same store (w.Analyse file degree rule) =
-      program_same store analysed.Program file (Analyses Needed degree rule) (Analyses Promised degree rule)
-      (λ source P is. of_courses analysed.Program P (known source P is) degree rule (λ N c. PrintsLines Needed P N c) (λ N c. PrintsLines Promised P N c) (λ N c. prints_same (AreLines P N c) (AreLines P N c)))
+      program_same store analysed.Program file (Analyses Complete degree rule) (Analyses Sound degree rule)
+      (λ source P is. of_courses analysed.Program P (known source P is) degree rule (λ N c. PrintsLines Complete P N c) (λ N c. PrintsLines Sound P N c) (λ N c. prints_same (AreLines P N c) (AreLines P N c)))
   answers_same store (w.Certify file degree rule) =
-      program_same store analysed.Program file (Certifies Needed degree rule) (Certifies Promised degree rule)
-      (λ source P is. of_courses analysed.Program P (known source P is) degree rule (λ N c. PrintsCertificate Needed c) (λ N c. PrintsCertificate Promised c) (λ N c. prints_same (IsTextOf c) (IsTextOf c)))
+      program_same store analysed.Program file (Certifies Complete degree rule) (Certifies Sound degree rule)
+      (λ source P is. of_courses analysed.Program P (known source P is) degree rule (λ N c. PrintsCertificate Complete c) (λ N c. PrintsCertificate Sound c) (λ N c. prints_same (IsTextOf c) (IsTextOf c)))
   answers_same store (w.Verify file certificate) =
-      program_same store analysed.Program file (Verifies Needed store certificate) (Verifies Promised store certificate) (λ source P is. verified_same store certificate P (known source P is))
+      program_same store analysed.Program file (Verifies Complete store certificate) (Verifies Sound store certificate) (λ source P is. verified_same store certificate P (known source P is))
   answers_same store (w.Run file name input steps cells None) =
       program_same store analysed.Program file _ _ (λ source P is. call_same store P name input _ _ (λ f args. runs_same P f args _ _ _ _ _))
   answers_same store (w.Run file name input steps cells (Some degree)) =
@@ -145,14 +145,14 @@ module _ (laws : KnownLaws) where
   answers_same store (w.Compare file other degree) = program_same store analysed.Program file _ _ (λ source P is. compared_same store other degree P (known source P is))
   answers_same store (w.Powers file degree) =
       program_same store analysed.Program file _ _
-      (λ source P is. of_courses analysed.Program P (known source P is) degree rule.Least (PrintsPowers Needed P) (PrintsPowers Promised P) (λ N c. powers_same P N c))
+      (λ source P is. of_courses analysed.Program P (known source P is) degree rule.Least (PrintsPowers Complete P) (PrintsPowers Sound P) (λ N c. powers_same P N c))
   answers_same store (w.Contract file bounds degree) = program_same store analysed.Program file _ _ (λ source P is. contracted_same store bounds degree P (known source P is))
   answers_same store (w.Trial count) =
       short_same which.Program (trial_text count) _ _ (source_same (trial_text count) analysed.Program _ _ (λ P is. tried_same P (known (trial_text count) P is) count))
 
-  words_same : (words : List Text) (store : Store) (a b : Answer) → WordsAnswer Needed words store a → WordsAnswer Promised words store b → Same a b
+  words_same : (words : List Text) (store : Store) (a b : Answer) → WordsAnswer Complete words store a → WordsAnswer Sound words store b → Same a b
   words_same words store =
-      steps_same no_names no_names _ _ (Asks words) (Asks words) (λ request. Answers Needed store request) (λ request. Answers Promised store request)
+      steps_same no_names no_names _ _ (Asks words) (Asks words) (λ request. Answers Complete store request) (λ request. Answers Sound store request)
       (record {
         refusals = λ e f r s. alike_same e f (r.0 ∙ sym s.0);
         not_left = λ e request r asks. r.1 request asks;

@@ -37,7 +37,7 @@ use Rattle.refusal_text.specs.declared.plain.Which.TheVariants as w
 use Rattle.refusals.specs.Ending as e
 use Rattle.refusals.specs.Ending.{Ending, Certified, Json, NotRefuted, TooLarge, Overflows, OnTask, InCheck}
 use Rattle.refusals.specs.Line.{no_names}
-use Rattle.raml_promise.specs.Outside.{Promised, Needed, Store}
+use Rattle.raml_promise.specs.Outside.{Sound, Complete, Store}
 use Rattle.raml_promise.specs.Steps.{Answer, names_of, Step}
 use Rattle.raml_promise.specs.Analysis.{TextRefuses, OfCertificate, CheckRefuses, IsChecked, OfCheck}
 use Rattle.raml_promise.proofs.Alike.{alike_same, Same, steps_same}
@@ -110,7 +110,7 @@ module _ (bytes : List ℕ) where
       (λ cert x y. rest cert)
 
 pub certificate_same : (store : Store) (file : Text) (Q T : Certificate → Answer → Type 0) → ((cert : Certificate) (a b : Answer) → Q cert a → T cert b → Same a b) →
-    (a b : Answer) → OfCertificate Needed store file Q a → OfCertificate Promised store file T b → Same a b
+    (a b : Answer) → OfCertificate Complete store file Q a → OfCertificate Sound store file T b → Same a b
 certificate_same store file Q T rest =
     file_same store w.Certificate file (λ bytes. Step no_names (TextRefuses bytes) (IsFile bytes) Q) (λ bytes. Step no_names (TextRefuses bytes) (IsFile bytes) T)
     (λ bytes. text_same bytes Q T rest)
@@ -260,9 +260,9 @@ module _ (N : Program) (cert : Certificate) where
   found_or_none passes x (by_vector place a block there h is) ok = ok.clear place a h.first.is
 
   pub check_same : (IsFaultless N cert → check.FirstFault N cert None) → (P : Prog) (Q T : Answer → Type 0) → ((a b : Answer) → Q a → T b → Same a b) → (a b : Answer) →
-      OfCheck Needed P N cert Q a → OfCheck Promised P N cert T b → Same a b
+      OfCheck Complete P N cert Q a → OfCheck Sound P N cert T b → Same a b
   check_same passes P Q T rest =
-      steps_same (names_of P N) (names_of P N) (CheckRefuses N cert) (CheckRefuses N cert) (λ (done : Unit {0}). IsChecked Needed P N cert) (λ (done : Unit {0}). IsChecked Promised P N cert) (λ done. Q) (λ done. T)
+      steps_same (names_of P N) (names_of P N) (CheckRefuses N cert) (CheckRefuses N cert) (λ (done : Unit {0}). IsChecked Complete P N cert) (λ (done : Unit {0}). IsChecked Sound P N cert) (λ done. Q) (λ done. T)
       (record {
         refusals = λ x y r s. alike_same x y (one_found x y (found_by x r) (found_by y s));
         not_left = λ x done r ok. found_or_none passes x (found_by x r) ok.verified;

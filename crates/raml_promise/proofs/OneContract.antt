@@ -14,7 +14,7 @@ use Rattle.contract_report.proofs.Once.{one_exceeds_first, clear_exceeds_none}
 use Rattle.refusal_text.specs.declared.plain.Which.TheVariants as w
 use Rattle.refusals.specs.Ending.{Ending, BadBounds, LineTooLarge, Overflows, OnLine}
 use Rattle.refusals.specs.Line.{no_names}
-use Rattle.raml_promise.specs.Outside.{Promised, Needed, Store}
+use Rattle.raml_promise.specs.Outside.{Sound, Complete, Store}
 use Rattle.raml_promise.specs.Steps.{Answer, Step, Prints, names_of}
 use Rattle.raml_promise.specs.DeclaredBounds.{BoundsRefuse, OfBounds, LinesRefuse, PrintsVerdicts}
 use Rattle.raml_promise.proofs.Alike.{alike_same, Same, steps_same, prints_same}
@@ -48,7 +48,7 @@ module _ (files : FilesHaveOneAnswer) (P : Prog) (degree : ℕ) (bytes : List �
       (λ D h k. rest D)
 
 pub bounds_same : FilesHaveOneAnswer → (store : Store) (file : Text) (P : Prog) (degree : ℕ) (Q T : Declaration → Answer → Type 0) → ((D : Declaration) (a b : Answer) → Q D a → T D b → Same a b) →
-    (a b : Answer) → OfBounds Needed store file P degree Q a → OfBounds Promised store file P degree T b → Same a b
+    (a b : Answer) → OfBounds Complete store file P degree Q a → OfBounds Sound store file P degree T b → Same a b
 bounds_same files store file P degree Q T rest = file_same store w.Bounds file _ _ (λ bytes. declared_same files P degree bytes Q T rest)
 
 -- ---- verdicts
@@ -81,11 +81,11 @@ module _ (P : Prog) (N : Program) (lines : List Line) (c : Certificate) where
   one : (x y : Unit {0}) → x ≡ y
   one x y = refl
 
-  pub verdicts_same : (a b : Answer) → PrintsVerdicts Needed P N lines c a → PrintsVerdicts Promised P N lines c b → Same a b
+  pub verdicts_same : (a b : Answer) → PrintsVerdicts Complete P N lines c a → PrintsVerdicts Sound P N lines c b → Same a b
   verdicts_same =
       steps_same (names_of P N) (names_of P N) (LinesRefuse N c lines) (LinesRefuse N c lines)
       (λ (done : Unit {0}). AllLinesClear N c least_pick lines) (λ (done : Unit {0}). AllLinesClear N c least_pick lines)
-      (λ done. Prints Needed (AreVerdictLines P N c lines)) (λ done. Prints Promised (AreVerdictLines P N c lines))
+      (λ done. Prints Complete (AreVerdictLines P N c lines)) (λ done. Prints Sound (AreVerdictLines P N c lines))
       (record {
         refusals = λ e f r s. alike_same e f (refusals_same e f r s);
         not_left = λ e done r clear. refused_or_clear e r clear;

@@ -21,7 +21,7 @@ use Rattle.bound_infer.specs.Inferred.{IsInferred}
 use Rattle.raml_words.specs.declared.request.Rule.{Rule}
 use Rattle.refusals.specs.Ending as e
 use Rattle.refusals.specs.Ending.{Ending, TooLarge, Overflows, InCheck}
-use Rattle.raml_promise.specs.Outside.{Promised, Needed}
+use Rattle.raml_promise.specs.Outside.{Sound, Complete}
 use Rattle.raml_promise.specs.Steps.{Answer, OfNormal, RefusedOf, names_of}
 use Rattle.refusal_text.specs.declared.task.Analysed.{Analysed}
 use Rattle.raml_promise.specs.Analysis.{analysis, pick_of, CourseRefuses, IsCourse, OfCourse}
@@ -171,9 +171,9 @@ module _ (laws : KnownLaws) (A : Analysis) (generates : Generates A) where
 
 pub course_same : KnownLaws → (whose : Analysed) (P : Prog) → Typed P → All (λ (g : Function). AllNodes NumberFits g.body) P → (groups : Grouping) → IsGrouping P groups → (degree : ℕ) (rule : Rule) →
     (Q T : Certificate → Answer → Type 0) → ((c : Certificate) → (a b : Answer) → Q c a → T c b → Same a b) →
-    (a b : Answer) → OfCourse Needed whose P (normal_of P groups.list) degree rule Q a → OfCourse Promised whose P (normal_of P groups.list) degree rule T b → Same a b
+    (a b : Answer) → OfCourse Complete whose P (normal_of P groups.list) degree rule Q a → OfCourse Sound whose P (normal_of P groups.list) degree rule T b → Same a b
 course_same laws whose P typed numbers groups grouping degree rule Q T rest =
-    steps_same (names_of P N) (names_of P N) (RefusedOf whose (CourseRefuses A)) (RefusedOf whose (CourseRefuses A)) (IsCourse Needed P A) (IsCourse Promised P A) Q T
+    steps_same (names_of P N) (names_of P N) (RefusedOf whose (CourseRefuses A)) (RefusedOf whose (CourseRefuses A)) (IsCourse Complete P A) (IsCourse Sound P A) Q T
     (record {
       refusals = either_refused whose (CourseRefuses A) (CourseRefuses A) (course_refusals laws A generates);
       not_left = λ e c r d. neither_refused whose (CourseRefuses A) (λ f s. refused_or_ends laws A generates f c s d.inferred) e r;

@@ -6,7 +6,7 @@ use Rattle.annot_types.specs.Certificate.{Certificate}
 use Rattle.analysis_report.specs.Powers.{ArePowersFitting, ArePowerLines}
 use Rattle.analysis_report.proofs.Places.{fitting_leaves_none, one_leaves_first}
 use Rattle.refusals.specs.Ending.{Ending, Overflows, InPowers}
-use Rattle.raml_promise.specs.Outside.{Promised, Needed}
+use Rattle.raml_promise.specs.Outside.{Sound, Complete}
 use Rattle.raml_promise.specs.Steps.{Answer, Prints, names_of}
 use Rattle.raml_promise.specs.Analysis.{PowersRefuse}
 use Rattle.raml_promise.specs.Promise.{PrintsPowers}
@@ -25,10 +25,10 @@ module _ (P : Prog) (N : Program) (c : Certificate) where
   one : (x y : Unit {0}) → x ≡ y
   one x y = refl
 
-  pub powers_same : (a b : Answer) → PrintsPowers Needed P N c a → PrintsPowers Promised P N c b → Same a b
+  pub powers_same : (a b : Answer) → PrintsPowers Complete P N c a → PrintsPowers Sound P N c b → Same a b
   powers_same =
       steps_same (names_of P N) (names_of P N) (PowersRefuse P N c) (PowersRefuse P N c) (λ (done : Unit {0}). ArePowersFitting P N c) (λ (done : Unit {0}). ArePowersFitting P N c)
-      (λ done. Prints Needed (ArePowerLines P N c)) (λ done. Prints Promised (ArePowerLines P N c))
+      (λ done. Prints Complete (ArePowerLines P N c)) (λ done. Prints Sound (ArePowerLines P N c))
       (record {
         refusals = λ e f r s. alike_same e f (refusals_same e f r s);
         not_left = λ e done r fit. refused_or_fit e r fit;

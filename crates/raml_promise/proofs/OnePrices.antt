@@ -11,7 +11,7 @@ use Rattle.price_file.proofs.Tables.{one_answer}
 use Rattle.refusal_text.specs.declared.plain.Which.TheVariants as w
 use Rattle.refusals.specs.Ending.{Ending, BadPrices}
 use Rattle.refusals.specs.Line.{no_names}
-use Rattle.raml_promise.specs.Outside.{Promised, Needed, Store}
+use Rattle.raml_promise.specs.Outside.{Sound, Complete, Store}
 use Rattle.raml_promise.specs.Steps.{Answer, Step}
 use Rattle.raml_promise.specs.Prices.{PricesRefuse, OfPrices}
 use Rattle.raml_promise.proofs.Alike.{alike_same, Same, steps_same}
@@ -56,5 +56,5 @@ module _ (bytes : List ℕ) where
       (λ table h k. rest (prices_in table) (spelled_small bytes table h))
 
 pub prices_same : (store : Store) (file : Text) (Q T : Prices → Answer → Type 0) → ((prices : Prices) → AreSmall prices → (a b : Answer) → Q prices a → T prices b → Same a b) →
-    (a b : Answer) → OfPrices Needed store file Q a → OfPrices Promised store file T b → Same a b
+    (a b : Answer) → OfPrices Complete store file Q a → OfPrices Sound store file T b → Same a b
 prices_same store file Q T rest = file_same store w.Prices file _ _ (λ bytes. table_same bytes Q T rest)

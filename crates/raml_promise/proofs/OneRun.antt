@@ -25,7 +25,7 @@ use Rattle.analysis_report.specs.Floors.{Floors, FloorOf, IsFloor, rank, Leaves}
 use Rattle.refusal_text.specs.declared.plain.Which.TheVariants as w
 use Rattle.refusals.specs.Ending.{Ending, Done, Stopped, HeapFull, BadData, Overflows, AtPoint}
 use Rattle.refusals.specs.Line.{no_names}
-use Rattle.raml_promise.specs.Outside.{Side, Promised, Needed, Store}
+use Rattle.raml_promise.specs.Outside.{Side, Sound, Complete, Store}
 use Rattle.raml_promise.specs.Steps.{Answer}
 use Rattle.raml_promise.specs.Call.{Placed, IsNamed, OfFunction, DataRefuses, OfArguments, OfCall, Limits, Finishes, Stops, Fills, Ends, Runs, PointRefuses, AreFloors, OfFloors}
 use Rattle.raml_promise.proofs.Alike.{alike_same, Same, same_reports, steps_same}
@@ -94,7 +94,7 @@ module _ (bytes : List ℕ) (fun : Function) where
 
 pub call_same : (store : Store) (P : Prog) (name file : Text) (Q T : Placed → List Value → Answer → Type 0) →
     ((f : Placed) (args : List Value) (a b : Answer) → Q f args a → T f args b → Same a b) → (a b : Answer) →
-    OfCall Needed store P name file Q a → OfCall Promised store P name file T b → Same a b
+    OfCall Complete store P name file Q a → OfCall Sound store P name file T b → Same a b
 call_same store P name file Q T rest =
     function_same P name _ _
     (λ f. file_same store w.Data file (λ bytes. OfArguments bytes f.1 (Q f)) (λ bytes. OfArguments bytes f.1 (T f)) (λ bytes. arguments_same bytes f.1 (Q f) (T f) (rest f)))
@@ -148,9 +148,9 @@ module _ (P : Prog) (N : Program) (c : Certificate) (f : Placed) (args : List Va
   refused_or_floors x floors h are = absurd h
 
   pub floors_same : (Q T : Floors → Answer → Type 0) → ((floors : Floors) (a b : Answer) → Q floors a → T floors b → Same a b) → (a b : Answer) →
-      OfFloors Needed P N c f args Q a → OfFloors Promised P N c f args T b → Same a b
+      OfFloors Complete P N c f args Q a → OfFloors Sound P N c f args T b → Same a b
   floors_same Q T rest =
-      steps_same no_names no_names (PointRefuses N c f args) (PointRefuses N c f args) (AreFloors Needed P N c f args) (AreFloors Promised P N c f args) Q T
+      steps_same no_names no_names (PointRefuses N c f args) (PointRefuses N c f args) (AreFloors Complete P N c f args) (AreFloors Sound P N c f args) Q T
       (record {
         refusals = λ x y r s. alike_same x y (point_refusals x y r s);
         not_left = λ x floors r h. refused_or_floors x floors r h.are;
@@ -202,7 +202,7 @@ module _ (P : Prog) (f : Placed) (args : List Value) (limits : Limits) where
     stops_or_fills : Stops x P f args limits t → Fills y P f args limits u → ⊥
     stops_or_fills h k = overfull k.made limits.steps k.all k.takes k.fewer h.few_cells
 
-  ends_same : (t u : Text) (x y : Ending) → Ends Needed P f args limits t x → Ends Promised P f args limits u y → x ≡ y
+  ends_same : (t u : Text) (x y : Ending) → Ends Complete P f args limits t x → Ends Sound P f args limits u y → x ≡ y
   ends_same t u Done Done h k = refl
   ends_same t u Done Stopped h k = absurd (finishes_or_stops t u h k)
   ends_same t u Done HeapFull h k = absurd (finishes_or_fills t u h k)
@@ -217,6 +217,6 @@ module _ (P : Prog) (f : Placed) (args : List Value) (limits : Limits) where
   ends_same t u HeapFull y h k = absurd k
   ends_same t u x y h k = absurd h
 
-  pub runs_same : (front behind before after : Text) (a b : Answer) → Runs Needed P f args limits front behind a → Runs Promised P f args limits before after b → Same a b
+  pub runs_same : (front behind before after : Text) (a b : Answer) → Runs Complete P f args limits front behind a → Runs Sound P f args limits before after b → Same a b
   runs_same front behind before after a b h k =
       same_reports a b h.whole k.whole h.ending k.ending h.is k.is (alike_same h.ending k.ending (ends_same h.text k.text h.ending k.ending h.ends k.ends))

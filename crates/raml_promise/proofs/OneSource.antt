@@ -13,7 +13,7 @@ use Rattle.refusal_text.specs.declared.plain.Which.{Which}
 use Rattle.refusal_text.specs.declared.task.Analysed.{Analysed}
 use Rattle.refusals.specs.Ending.{Ending, Source, Parse, Types}
 use Rattle.refusals.specs.Line.{no_names}
-use Rattle.raml_promise.specs.Outside.{Promised, Needed, Store, IsSeen, IsRead}
+use Rattle.raml_promise.specs.Outside.{Sound, Complete, Store, IsSeen, IsRead}
 use Rattle.raml_promise.specs.Steps.{Answer, most_bytes, IsTooLong, OfShort, OfFile, SourceRefuses, IsTyped, RefusedOf, OfSource, OfProgram, file_of}
 use Rattle.raml_promise.proofs.Alike.{alike_same, Same, steps_same, either_refused, neither_refused}
 
@@ -31,15 +31,15 @@ no_front : (limit : ℕ) (file bytes : List ℕ) (files : Files) → files file 
 no_front limit file bytes files none front = let h = front.held in absurd (cc)
 
 module _ (store : Store) (limit : ℕ) (file : List ℕ) where
-  one_read : (bytes other : List ℕ) → IsRead Needed store limit file (Some bytes) → IsRead Promised store limit file (Some other) → bytes ≡ other
+  one_read : (bytes other : List ℕ) → IsRead Complete store limit file (Some bytes) → IsRead Sound store limit file (Some other) → bytes ≡ other
   one_read bytes other told seen =
       let t = told.tells in
       told.front ∙ front_is limit file other told.content t.files t.held (told_front store limit file other t.files t.told seen)
 
-  read_or_not : (bytes : List ℕ) → IsRead Needed store limit file (Some bytes) → IsRead Promised store limit file None → ⊥
+  read_or_not : (bytes : List ℕ) → IsRead Complete store limit file (Some bytes) → IsRead Sound store limit file None → ⊥
   read_or_not bytes told rises = told.calm rises
 
-  not_or_read : (bytes : List ℕ) → IsRead Needed store limit file None → IsRead Promised store limit file (Some bytes) → ⊥
+  not_or_read : (bytes : List ℕ) → IsRead Complete store limit file None → IsRead Sound store limit file (Some bytes) → ⊥
   not_or_read bytes told seen = no_front limit file bytes told.files told.held (told_front store limit file bytes told.files told.told seen)
 
 -- bytes are too many or not
@@ -62,7 +62,7 @@ short_same which bytes Q T rest =
     unit x y = refl
 
 pub file_same : (store : Store) (which : Which) (file : Text) (Q T : List ℕ → Answer → Type 0) → ((bytes : List ℕ) (a b : Answer) → Q bytes a → T bytes b → Same a b) →
-    (a b : Answer) → OfFile Needed store which file Q a → OfFile Promised store which file T b → Same a b
+    (a b : Answer) → OfFile Complete store which file Q a → OfFile Sound store which file T b → Same a b
 file_same store which file Q T rest =
     steps_same no_names no_names _ _ _ _ (λ bytes. OfShort which bytes (Q bytes)) (λ bytes. OfShort which bytes (T bytes))
     (record {
@@ -118,6 +118,6 @@ module _ (source : List ℕ) where
 
 pub program_same : (store : Store) (whose : Analysed) (file : Text) (Q T : Prog → Answer → Type 0) →
     ((source : List ℕ) (P : Prog) → IsTyped source P → (a b : Answer) → Q P a → T P b → Same a b) →
-    (a b : Answer) → OfProgram Needed store whose file Q a → OfProgram Promised store whose file T b → Same a b
+    (a b : Answer) → OfProgram Complete store whose file Q a → OfProgram Sound store whose file T b → Same a b
 program_same store whose file Q T rest =
     file_same store (file_of whose) file (λ source. OfSource whose source Q) (λ source. OfSource whose source T) (λ source. source_same source whose Q T (rest source))

@@ -14,7 +14,7 @@ use Rattle.refusals.specs.Ending.{Done, ReadFault, TooLong, Overflows}
 use Rattle.refusals.specs.declared.status.Status.{Status}
 use Rattle.refusals.specs.declared.status.Status.TheVariants as s
 use Rattle.refusal_text.specs.declared.plain.Which.TheVariants as which
-use Rattle.raml_promise.specs.Outside.{Outside, Promised, Tells, IsRead, Gains}
+use Rattle.raml_promise.specs.Outside.{Outside, Sound, Tells, IsRead, Gains}
 use Rattle.raml_promise.specs.Steps.{Answer, Report, Refusal, most_bytes, IsTooLong, IsTyped}
 use Rattle.raml_promise.specs.Analysis.{analysis}
 use Rattle.raml_promise.specs.Promise.{Comes, Cause}
@@ -39,7 +39,7 @@ AnswersAgain Lines text _ = ⊥
 -- given with the same source is answered with the lines of this certificate, or in those other ways.
 pub record WritesCertificate (o : Outside) (file : Text) (degree : ℕ) (rule : Rule) : Type 0 where
   pub source : Text
-  pub seen : IsRead Promised o.store (most_bytes which.Program) file (Some source)
+  pub seen : IsRead Sound o.store (most_bytes which.Program) file (Some source)
   pub program : Prog
   pub typed : IsTyped source program
   pub groups : Grouping
@@ -47,7 +47,7 @@ pub record WritesCertificate (o : Outside) (file : Text) (degree : ℕ) (rule : 
   pub certificate : Certificate
   pub inferred : IsInferred (analysis (normal_of program groups.list) degree rule) certificate
   pub written : Gains (text_of certificate ++ codes "\n") o.out
-  pub again : (other : Outside) (a : Answer) → VerifiesText other source (text_of certificate ++ codes "\n") → Comes Promised other a →
+  pub again : (other : Outside) (a : Answer) → VerifiesText other source (text_of certificate ++ codes "\n") → Comes Sound other a →
       AnswersAgain (AreLines program (normal_of program groups.list) certificate) (text_of certificate ++ codes "\n") a
 
 -- A call of `certify` that ends with status 0 does so.

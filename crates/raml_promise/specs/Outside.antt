@@ -43,15 +43,16 @@ sink_of before after old new = record { count = record { before = before; after 
 abbrev pub outside_of : List Text → Store → Sink → Sink → Outside
 outside_of words store out err = record { words = words; store = store; out = out; err = err }
 
--- The two sides of what is promised. An answer of a call is Promised with all that is then true; and what is Needed for an answer brings it.
+-- The two sides of a promise. Sound: a call answers so only where all this is true. Complete: where what the answer needs is true, the
+-- call answers so.
 pub data Side : Type 0 where
-  Promised : Side
-  Needed : Side
+  Sound : Side
+  Complete : Side
 
--- a promise beside what is needed
+-- what is true of an answer beyond what it needs
 abbrev pub Also : Side → Type 0 → Type 0
-Also Promised promise = promise
-Also Needed promise = Unit {0}
+Also Sound promise = promise
+Also Complete promise = Unit {0}
 
 -- the store tells what the file holds; none where it holds no such file
 pub record Tells (store : Store) (file : Text) (content : Option (List ℕ)) : Type 0 where
@@ -73,10 +74,10 @@ pub record IsToldCalmly (store : Store) (limit : ℕ) (file bytes : List ℕ) : 
 
 -- What is read of a file. None where it is not: then the store's count for it rose; and it is not read where it is told that there is no such file.
 abbrev pub IsRead : Side → Store → ℕ → List ℕ → Option (List ℕ) → Type 0
-IsRead Promised store limit file (Some bytes) = IsSeen store limit file bytes
-IsRead Promised store limit file None = Rises (store.reads file)
-IsRead Needed store limit file (Some bytes) = IsToldCalmly store limit file bytes
-IsRead Needed store limit file None = Tells store file None
+IsRead Sound store limit file (Some bytes) = IsSeen store limit file bytes
+IsRead Sound store limit file None = Rises (store.reads file)
+IsRead Complete store limit file (Some bytes) = IsToldCalmly store limit file bytes
+IsRead Complete store limit file None = Tells store file None
 
 -- a sink gains nothing, the whole text, or a front of it where its count rises
 abbrev pub GainsNothing : Sink → Type 0

@@ -26,7 +26,7 @@ use Rattle.refusals.specs.Ending.{Ending, Usage, Overflows, OnTask, OfOther, end
 use Rattle.refusals.specs.Line.{Names, no_names, line_of}
 use Rattle.refusals.specs.declared.status.Status.{Status}
 use Rattle.refusals.specs.declared.status.Status.TheVariants.{WriteFault, NoMemory}
-use Rattle.raml_promise.specs.Outside.{Outside, Store, Sink, Side, Promised, Needed, Rises, GainsNothing, Gains, GainsFront}
+use Rattle.raml_promise.specs.Outside.{Outside, Store, Sink, Side, Sound, Complete, Rises, GainsNothing, Gains, GainsFront}
 use Rattle.raml_promise.specs.Steps.{Answer, Report, Refusal, ending_in, Step, Test, Prints, most_bytes, OfShort, OfSource, OfProgram, OfNormal, names_of}
 use Rattle.raml_promise.specs.Analysis.{OfCourse, OfCertificate, OfCheck, PowersRefuse}
 use Rattle.raml_promise.specs.DeclaredBounds.{OfBounds, PrintsVerdicts}
@@ -174,7 +174,7 @@ LacksMemory o status = (status ≡ NoMemory) × GainsNothing o.out × Tells no_n
 
 -- Why a call ends so, and what it writes: an answer that is promised, or want of memory.
 abbrev pub Cause : Outside → Status → Type 0
-Cause o status = LacksMemory o status ⊎ ((a : Answer) × Comes Promised o a × EndsBy o a status)
+Cause o status = LacksMemory o status ⊎ ((a : Answer) × Comes Sound o a × EndsBy o a status)
 
 -- The same ending. Where several numbers are refused at once any one of them may be told: then it is the same task, and the same kind of place.
 abbrev pub Alike : Ending → Ending → Type 0
@@ -192,7 +192,7 @@ IsWritable out (Refusal names e) = Unit {0}
 
 -- What is needed for an answer brings it, or want of memory.
 abbrev pub Forced : Outside → Status → Type 0
-Forced o status = (a : Answer) → Comes Needed o a → IsWritable o.out a → (status ≡ NoMemory) ⊎ EndsAlike (ending_in a) status
+Forced o status = (a : Answer) → Comes Complete o a → IsWritable o.out a → (status ≡ NoMemory) ⊎ EndsAlike (ending_in a) status
 
 -- Of each call: where its cause is known, what is needed for an answer brings it.
 abbrev pub CausesForce : Type 0

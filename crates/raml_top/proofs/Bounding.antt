@@ -19,7 +19,7 @@ use Rattle.refusals.specs.declared.answer.Report.{Report}
 use Rattle.refusals.specs.declared.answer.Refusal.{Refusal}
 use Rattle.refusals.specs.declared.status.Status.TheVariants as s
 use Rattle.refusals.specs.declared.status.OverflowAt.TheVariants as o
-use Rattle.raml_promise.specs.Outside.{Promised}
+use Rattle.raml_promise.specs.Outside.{Sound}
 use Rattle.raml_promise.specs.Call.{Placed, PointRefuses, AreFloors, OfFloors}
 use Rattle.raml_promise.specs.Promise.{RunsBounded}
 use Rattle.raml_parts.specs.Parts.{Gives, IsCallOf, FloorRefusal}
@@ -34,12 +34,12 @@ module _ (typed : TheProgram) (kept : Kept) (cert : Certificate) (source : kept.
 
   pub floors_give : (floors : Floors) → ((us : List Value) → StandForAll call.args.heap.cells words us → FloorsAre (program_in kept) cert call.place.0 us (floors_of floors)) →
       ((us : List Value) → StandForAll call.args.heap.cells words us → AllHold (source_in kept) call.place.0 us (floors_of floors)) →
-      (r : Result Report Refusal) → Gives (RunsBounded Promised (program_of typed) f vs steps cells (floors_of floors)) r →
-      Gives (OfFloors Promised (program_of typed) (program_in kept) cert f vs (λ floors. RunsBounded Promised (program_of typed) f vs steps cells floors)) r
+      (r : Result Report Refusal) → Gives (RunsBounded Sound (program_of typed) f vs steps cells (floors_of floors)) r →
+      Gives (OfFloors Sound (program_of typed) (program_in kept) cert f vs (λ floors. RunsBounded Sound (program_of typed) f vs steps cells floors)) r
   floors_give floors ok hold r gives =
       let P = program_of typed in
       let all = subst (λ k. AllHold P k vs (floors_of floors)) (sym is.place) (subst (λ Q. AllHold Q call.place.0 vs (floors_of floors)) (ap program_of source) (hold vs stand)) in
-      step_goes no_names (PointRefuses (program_in kept) cert f vs) (AreFloors Promised P (program_in kept) cert f vs) (λ floors. RunsBounded Promised P f vs steps cells floors) (floors_of floors)
+      step_goes no_names (PointRefuses (program_in kept) cert f vs) (AreFloors Sound P (program_in kept) cert f vs) (λ floors. RunsBounded Sound P f vs steps cells floors) (floors_of floors)
       (record {
         are = λ meter. subst (λ k. IsFloor (program_in kept) cert k vs meter (floors_of floors meter)) (sym is.place) (ok vs stand meter);
         hold = all f.1 is.arguments.there is.arguments.types;
@@ -48,10 +48,10 @@ module _ (typed : TheProgram) (kept : Kept) (cert : Certificate) (source : kept.
 
   pub floors_refused : (fault : FloorFault) → ((us : List Value) → StandForAll call.args.heap.cells words us → FloorsRefused (program_in kept) cert call.place.0 us fault) →
       (refusal : Refusal) → FloorRefusal fault refusal →
-      Gives (OfFloors Promised (program_of typed) (program_in kept) cert f vs (λ floors. RunsBounded Promised (program_of typed) f vs steps cells floors)) (Err refusal)
+      Gives (OfFloors Sound (program_of typed) (program_in kept) cert f vs (λ floors. RunsBounded Sound (program_of typed) f vs steps cells floors)) (Err refusal)
   floors_refused (floor.Leaves meter) err refusal told =
       let P = program_of typed in
-      step_refused no_names (PointRefuses (program_in kept) cert f vs) (AreFloors Promised P (program_in kept) cert f vs) (λ floors. RunsBounded Promised P f vs steps cells floors) refusal
+      step_refused no_names (PointRefuses (program_in kept) cert f vs) (AreFloors Sound P (program_in kept) cert f vs) (λ floors. RunsBounded Sound P f vs steps cells floors) refusal
       (told_refuses no_names (s.Overflow (o.Point meter)) (Overflows (AtPoint meter)) (PointRefuses (program_in kept) cert f vs) refl
       (subst (λ k. Leaves (program_in kept) cert k vs meter) (sym is.place) (err vs stand)) refusal told)
   floors_refused floor.NoMemory err refusal told = inl told

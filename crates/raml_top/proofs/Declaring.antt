@@ -23,7 +23,7 @@ use Rattle.refusals.specs.declared.answer.Refusal.{Refusal}
 use Rattle.refusals.specs.declared.status.Status.{Status}
 use Rattle.refusals.specs.declared.status.Status.TheVariants as s
 use Rattle.refusals.specs.declared.status.OverflowAt.TheVariants as o
-use Rattle.raml_promise.specs.Outside.{Promised}
+use Rattle.raml_promise.specs.Outside.{Sound}
 use Rattle.raml_promise.specs.Steps.{Prints, goes_on}
 use Rattle.raml_promise.specs.DeclaredBounds.{LinesRefuse, PrintsVerdicts}
 use Rattle.raml_parts.specs.Parts.{Gives, VerdictRefusal}
@@ -61,7 +61,7 @@ all_there Q lines all number line there = subst Q (get_or_from_slice_get lines n
 
 module _ (kept : Kept) (c : Certificate) (lines : List Line) (K : Checking) (same : K ≡ record { program = kept; certificate = c }) where
   pub verdicts_given : (report : Report) → ending_of report.status ≡ Some Done → AllLinesClear (program_in K.program) K.certificate least_pick lines →
-      AreVerdictLines (source_in K.program) (program_in K.program) K.certificate lines report.text.items → Gives (PrintsVerdicts Promised (source_in kept) (program_in kept) lines c) (Ok report)
+      AreVerdictLines (source_in K.program) (program_in K.program) K.certificate lines report.text.items → Gives (PrintsVerdicts Sound (source_in kept) (program_in kept) lines c) (Ok report)
   verdicts_given report status clear told = (
     Done,
     status,
@@ -70,18 +70,18 @@ module _ (kept : Kept) (c : Certificate) (lines : List Line) (K : Checking) (sam
   )
 
   denied : (refusal : Refusal) (status : Status) (ending : Ending) → ending_of status ≡ Some ending → LinesRefuse (program_in kept) c lines ending → IsToldOr (names_in kept) status refusal →
-      Gives (PrintsVerdicts Promised (source_in kept) (program_in kept) lines c) (Err refusal)
+      Gives (PrintsVerdicts Sound (source_in kept) (program_in kept) lines c) (Err refusal)
   denied refusal status ending is h told =
       step_refused (names_in kept) (LinesRefuse (program_in kept) c lines) (λ (done : Unit {0}). AllLinesClear (program_in kept) c least_pick lines)
-      (λ done. Prints Promised (AreVerdictLines (source_in kept) (program_in kept) c lines)) refusal
+      (λ done. Prints Sound (AreVerdictLines (source_in kept) (program_in kept) c lines)) refusal
       (told_refuses (names_in kept) status ending (LinesRefuse (program_in kept) c lines) is h refusal told)
 
   refused : (fault : VerdictsFault) → VerdictsRefused (program_in kept) c least_pick lines fault → (refusal : Refusal) → VerdictRefusal fault refusal →
-      Gives (PrintsVerdicts Promised (source_in kept) (program_in kept) lines c) (Err refusal)
+      Gives (PrintsVerdicts Sound (source_in kept) (program_in kept) lines c) (Err refusal)
   refused (verdicts.TooLarge line) h refusal told = denied refusal (s.LineTooLarge line) (LineTooLarge line) refl h told
   refused (verdicts.Leaves line) h refusal told = denied refusal (s.Overflow (o.DeclaredBound line)) (Overflows (OnLine line)) refl h told
   refused verdicts.NoMemory h refusal told = inl told
 
   pub verdicts_denied : (fault : VerdictsFault) → VerdictsRefused (program_in K.program) K.certificate least_pick lines fault → (refusal : Refusal) → VerdictRefusal fault refusal →
-      Gives (PrintsVerdicts Promised (source_in kept) (program_in kept) lines c) (Err refusal)
+      Gives (PrintsVerdicts Sound (source_in kept) (program_in kept) lines c) (Err refusal)
   verdicts_denied fault h refusal told = refused fault (subst (λ (K : Checking). VerdictsRefused (program_in K.program) K.certificate least_pick lines fault) same h) refusal told

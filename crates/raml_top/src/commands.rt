@@ -9,7 +9,7 @@ ghost use Rattle.annot_types.specs.Certificate as c;
 ghost use Rattle.annot_types.specs.Read.{certificate_of};
 ghost use Rattle.cert_json.specs.Told.{IsComplete};
 ghost use Rattle.refusals.specs.Refusals.{IsWanting, names_in};
-ghost use Rattle.raml_promise.specs.Outside.{Promised, store_of};
+ghost use Rattle.raml_promise.specs.Outside.{Sound, store_of};
 ghost use Rattle.raml_promise.specs.Analysis.{OfCourse, OfCheck};
 ghost use Rattle.raml_promise.specs.Promise.{ListsTypes, ListsCode, PrintsLines, IsTextOf, PrintsCertificate, PrintsPowers, Analyses, Certifies, ShowsPowers, Verifies};
 ghost use Rattle.raml_words.specs.declared.request.Rule.TheVariants as rule;
@@ -32,7 +32,7 @@ use std::alloc::{AllocError, Global};
 
 /// The types of its functions.
 pub fn list_types(alloc: Global, typed: &Typed) -> Result<Report, Refusal>
-    ensures { Gives (ListsTypes Promised (program_of typed.now)) result }
+    ensures { Gives (ListsTypes Sound (program_of typed.now)) result }
 {
     match type_lines(alloc, typed.program()) {
         Ok(text) => Ok(Report::done(text)),
@@ -43,7 +43,7 @@ pub fn list_types(alloc: Global, typed: &Typed) -> Result<Report, Refusal>
 /// The code of its functions.
 pub fn list_code(alloc: Global, typed: &Typed) -> Result<Report, Refusal>
     requires ready { IsReady (program_of typed.now) }
-    ensures { Gives (ListsCode Promised (program_of typed.now)) result }
+    ensures { Gives (ListsCode Sound (program_of typed.now)) result }
 {
     match code_lines(alloc, typed) {
         Ok(text) => Ok(Report::done(text)),
@@ -69,7 +69,7 @@ pub fn analysis_lines(
     requires ready { IsReady (program_of typed.now) }
     requires least_degree { 1 ≤ degree }
     requires most_degree { degree ≤ 4 }
-    ensures { Gives (Analyses Promised degree rule (program_of typed.now)) result }
+    ensures { Gives (Analyses Sound degree rule (program_of typed.now)) result }
 {
     match normal_form(alloc, typed) {
         Ok(program) => course_lines(alloc, &program, degree, rule),
@@ -85,8 +85,8 @@ fn course_lines(
 ) -> Result<Report, Refusal>
     requires least_degree { 1 ≤ degree }
     requires most_degree { degree ≤ 4 }
-    ensures { Gives (OfCourse Promised Analysed.Program (source_in program.now) (program_in program.now) degree rule
-        (λ c. PrintsLines Promised (source_in program.now) (program_in program.now) c)) result }
+    ensures { Gives (OfCourse Sound Analysed.Program (source_in program.now) (program_in program.now) degree rule
+        (λ c. PrintsLines Sound (source_in program.now) (program_in program.now) c)) result }
 {
     match analyse(alloc, Analysed::Program, program, degree, rule) {
         Ok(verified) => line_report(alloc, program, &verified),
@@ -101,7 +101,7 @@ fn line_report(
     verified: &Verified<'_, '_>,
 ) -> Result<Report, Refusal>
     requires { verified.now.program ≡ program.now }
-    ensures { Gives (PrintsLines Promised (source_in program.now) (program_in program.now) verified.now.certificate) result }
+    ensures { Gives (PrintsLines Sound (source_in program.now) (program_in program.now) verified.now.certificate) result }
 {
     match lines(alloc, program, verified) {
         Ok(text) => Ok(Report::done(text)),
@@ -119,7 +119,7 @@ pub fn analysis_certificate(
     requires ready { IsReady (program_of typed.now) }
     requires least_degree { 1 ≤ degree }
     requires most_degree { degree ≤ 4 }
-    ensures { Gives (Certifies Promised degree rule (program_of typed.now)) result }
+    ensures { Gives (Certifies Sound degree rule (program_of typed.now)) result }
 {
     match normal_form(alloc, typed) {
         Ok(program) => course_certificate(alloc, &program, degree, rule),
@@ -135,7 +135,7 @@ fn course_certificate(
 ) -> Result<Report, Refusal>
     requires least_degree { 1 ≤ degree }
     requires most_degree { degree ≤ 4 }
-    ensures { Gives (OfCourse Promised Analysed.Program (source_in program.now) (program_in program.now) degree rule (λ c. PrintsCertificate Promised c)) result }
+    ensures { Gives (OfCourse Sound Analysed.Program (source_in program.now) (program_in program.now) degree rule (λ c. PrintsCertificate Sound c)) result }
 {
     match analyse(alloc, Analysed::Program, program, degree, rule) {
         Ok(verified) => certificate_report(alloc, verified.certificate()),
@@ -146,7 +146,7 @@ fn course_certificate(
 // The text of a certificate, and a line feed.
 fn certificate_report(alloc: Global, certificate: &Certificate) -> Result<Report, Refusal>
     requires { IsComplete (certificate_of certificate.now) }
-    ensures { Gives (PrintsCertificate Promised (certificate_of certificate.now)) result }
+    ensures { Gives (PrintsCertificate Sound (certificate_of certificate.now)) result }
 {
     match certificate_text(alloc, certificate) {
         Ok(text) => Ok(Report {
@@ -171,7 +171,7 @@ pub fn analysis_powers(alloc: Global, typed: &Typed, degree: u8) -> Result<Repor
     requires ready { IsReady (program_of typed.now) }
     requires least_degree { 1 ≤ degree }
     requires most_degree { degree ≤ 4 }
-    ensures { Gives (ShowsPowers Promised degree (program_of typed.now)) result }
+    ensures { Gives (ShowsPowers Sound degree (program_of typed.now)) result }
 {
     match normal_form(alloc, typed) {
         Ok(program) => course_powers(alloc, &program, degree),
@@ -182,8 +182,8 @@ pub fn analysis_powers(alloc: Global, typed: &Typed, degree: u8) -> Result<Repor
 fn course_powers(alloc: Global, program: &NormProgram<'_>, degree: u8) -> Result<Report, Refusal>
     requires least_degree { 1 ≤ degree }
     requires most_degree { degree ≤ 4 }
-    ensures { Gives (OfCourse Promised Analysed.Program (source_in program.now) (program_in program.now) degree rule.Least
-        (PrintsPowers Promised (source_in program.now) (program_in program.now))) result }
+    ensures { Gives (OfCourse Sound Analysed.Program (source_in program.now) (program_in program.now) degree rule.Least
+        (PrintsPowers Sound (source_in program.now) (program_in program.now))) result }
 {
     match analyse(alloc, Analysed::Program, program, degree, Rule::Least) {
         Ok(verified) => power_report(alloc, program, &verified),
@@ -197,7 +197,7 @@ fn power_report(
     verified: &Verified<'_, '_>,
 ) -> Result<Report, Refusal>
     requires { verified.now.program ≡ program.now }
-    ensures { Gives (PrintsPowers Promised (source_in program.now) (program_in program.now) verified.now.certificate) result }
+    ensures { Gives (PrintsPowers Sound (source_in program.now) (program_in program.now) verified.now.certificate) result }
 {
     match power_lines(alloc, program, verified) {
         Ok(text) => Ok(Report::done(text)),
@@ -223,7 +223,7 @@ pub fn verification<S: Store>(
 ) -> Result<Report, Refusal>
     requires ready { IsReady (program_of typed.now) }
     ensures gives { (before : Text → ℕ) → Before before (S.faults store.old) →
-        Gives (Verifies Promised (store_of (S.holds store.old) before (S.faults store.new)) file.now (program_of typed.now)) result }
+        Gives (Verifies Sound (store_of (S.holds store.old) before (S.faults store.new)) file.now (program_of typed.now)) result }
     ensures kept { S.holds store.new ≡ S.holds store.old }
     ensures later { (other : Text) → S.faults store.old other ≤ S.faults store.new other }
 {
@@ -241,8 +241,8 @@ fn verified_lines(
     program: &NormProgram<'_>,
     certificate: Certificate,
 ) -> Result<Report, Refusal>
-    ensures { Gives (OfCheck Promised (source_in program.now) (program_in program.now) (certificate_of certificate)
-        (PrintsLines Promised (source_in program.now) (program_in program.now) (certificate_of certificate))) result }
+    ensures { Gives (OfCheck Sound (source_in program.now) (program_in program.now) (certificate_of certificate)
+        (PrintsLines Sound (source_in program.now) (program_in program.now) (certificate_of certificate))) result }
 {
     match verified(alloc, program, certificate) {
         Ok(verified) => line_report(alloc, program, &verified),

@@ -7,7 +7,7 @@ ghost use Rattle.share_normal.specs.Program.{source_in};
 ghost use Rattle.annot_types.specs.Certificate.{has_work};
 ghost use Rattle.raml_words.specs.declared.request.Rule.TheVariants as rule;
 ghost use Rattle.analysis_report.specs.Comparison.{AreComparisons};
-ghost use Rattle.raml_promise.specs.Outside.{Promised, store_of};
+ghost use Rattle.raml_promise.specs.Outside.{Sound, store_of};
 ghost use Rattle.raml_promise.specs.Steps.{Prints, OfProgram};
 ghost use Rattle.raml_promise.specs.Analysis.{OfCourse};
 ghost use Rattle.raml_promise.specs.Promise.{Compares, ComparesWith};
@@ -36,7 +36,7 @@ pub fn comparison<S: Store>(
     requires least_degree { 1 ≤ degree }
     requires most_degree { degree ≤ 4 }
     ensures gives { (before : Text → ℕ) → Before before (S.faults store.old) →
-        Gives (Compares Promised (store_of (S.holds store.old) before (S.faults store.new)) file.now degree (program_of typed.now)) result }
+        Gives (Compares Sound (store_of (S.holds store.old) before (S.faults store.new)) file.now degree (program_of typed.now)) result }
     ensures kept { S.holds store.new ≡ S.holds store.old }
     ensures later { (other : Text) → S.faults store.old other ≤ S.faults store.new other }
 {
@@ -57,9 +57,9 @@ fn course_beside<S: Store>(
     requires least_degree { 1 ≤ degree }
     requires most_degree { degree ≤ 4 }
     ensures gives { (before : Text → ℕ) → Before before (S.faults store.old) →
-        Gives (OfCourse Promised Analysed.Program (source_in program.now) (program_in program.now) degree rule.Least (λ c.
-        OfProgram Promised (store_of (S.holds store.old) before (S.faults store.new)) Analysed.Other file.now
-        (ComparesWith Promised degree (source_in program.now) (program_in program.now) c))) result }
+        Gives (OfCourse Sound Analysed.Program (source_in program.now) (program_in program.now) degree rule.Least (λ c.
+        OfProgram Sound (store_of (S.holds store.old) before (S.faults store.new)) Analysed.Other file.now
+        (ComparesWith Sound degree (source_in program.now) (program_in program.now) c))) result }
     ensures kept { S.holds store.new ≡ S.holds store.old }
     ensures later { (other : Text) → S.faults store.old other ≤ S.faults store.new other }
 {
@@ -82,8 +82,8 @@ fn verified_beside<S: Store>(
     requires least_degree { 1 ≤ degree }
     requires most_degree { degree ≤ 4 }
     ensures gives { (before : Text → ℕ) → Before before (S.faults store.old) →
-        Gives (OfProgram Promised (store_of (S.holds store.old) before (S.faults store.new)) Analysed.Other file.now
-        (ComparesWith Promised degree (source_in program.now) (program_in program.now) verified.now.certificate)) result }
+        Gives (OfProgram Sound (store_of (S.holds store.old) before (S.faults store.new)) Analysed.Other file.now
+        (ComparesWith Sound degree (source_in program.now) (program_in program.now) verified.now.certificate)) result }
     ensures kept { S.holds store.new ≡ S.holds store.old }
     ensures later { (other : Text) → S.faults store.old other ≤ S.faults store.new other }
 {
@@ -105,7 +105,7 @@ fn compare_with(
     requires ready { IsReady (program_of other.now) }
     requires least_degree { 1 ≤ degree }
     requires most_degree { degree ≤ 4 }
-    ensures { Gives (ComparesWith Promised degree (source_in program.now) (program_in program.now) verified.now.certificate (program_of other.now)) result }
+    ensures { Gives (ComparesWith Sound degree (source_in program.now) (program_in program.now) verified.now.certificate (program_of other.now)) result }
 {
     match normal_form(alloc, other) {
         Ok(other) => compare_courses(alloc, program, verified, &other, degree),
@@ -124,8 +124,8 @@ fn compare_courses(
     requires work { has_work verified.now.certificate ≡ true }
     requires least_degree { 1 ≤ degree }
     requires most_degree { degree ≤ 4 }
-    ensures { Gives (OfCourse Promised Analysed.Other (source_in other.now) (program_in other.now) degree rule.Least (λ e.
-        Prints Promised (AreComparisons (source_in program.now) (program_in program.now) verified.now.certificate
+    ensures { Gives (OfCourse Sound Analysed.Other (source_in other.now) (program_in other.now) degree rule.Least (λ e.
+        Prints Sound (AreComparisons (source_in program.now) (program_in program.now) verified.now.certificate
         (source_in other.now) (program_in other.now) e))) result }
 {
     match analyse(alloc, Analysed::Other, other, degree, Rule::Least) {
@@ -145,7 +145,7 @@ fn comparison_report(
     requires work { has_work verified.now.certificate ≡ true }
     requires other_program { found.now.program ≡ other.now }
     requires other_work { has_work found.now.certificate ≡ true }
-    ensures { Gives (Prints Promised (AreComparisons (source_in program.now) (program_in program.now) verified.now.certificate
+    ensures { Gives (Prints Sound (AreComparisons (source_in program.now) (program_in program.now) verified.now.certificate
         (source_in other.now) (program_in other.now) found.now.certificate)) result }
 {
     match comparison_lines(alloc, program, verified, other, found) {

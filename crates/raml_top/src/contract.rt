@@ -11,7 +11,7 @@ ghost use Rattle.share_normal.specs.Program.{source_in};
 ghost use Rattle.bound_infer.specs.Inferred.{IsInferred};
 ghost use Rattle.raml_words.specs.declared.request.Rule.TheVariants as rule;
 ghost use Rattle.refusals.specs.Line.{no_names};
-ghost use Rattle.raml_promise.specs.Outside.{Promised, store_of};
+ghost use Rattle.raml_promise.specs.Outside.{Sound, store_of};
 ghost use Rattle.raml_promise.specs.Steps.{OfNormal};
 ghost use Rattle.raml_promise.specs.Analysis.{analysis, IsProved, OfCourse};
 ghost use Rattle.raml_promise.specs.DeclaredBounds.{PrintsVerdicts};
@@ -74,7 +74,7 @@ pub fn bound_verdicts<S: Store>(
     requires least_degree { 1 ≤ degree }
     requires most_degree { degree ≤ 4 }
     ensures gives { (before : Text → ℕ) → Before before (S.faults store.old) →
-        Gives (ChecksBounds Promised (store_of (S.holds store.old) before (S.faults store.new)) file.now degree (program_of typed.now)) result }
+        Gives (ChecksBounds Sound (store_of (S.holds store.old) before (S.faults store.new)) file.now degree (program_of typed.now)) result }
     ensures kept { S.holds store.new ≡ S.holds store.old }
     ensures later { (other : Text) → S.faults store.old other ≤ S.faults store.new other }
 {
@@ -96,8 +96,8 @@ fn verdicts(
     requires within { AreWithin (program_of typed.now) declared.now }
     requires least_degree { 1 ≤ degree }
     requires most_degree { degree ≤ 4 }
-    ensures { Gives (OfNormal (program_of typed.now) (λ N. OfCourse Promised Analysed.Program (program_of typed.now) N degree rule.Least
-        (PrintsVerdicts Promised (program_of typed.now) N declared.now.lines))) result }
+    ensures { Gives (OfNormal (program_of typed.now) (λ N. OfCourse Sound Analysed.Program (program_of typed.now) N degree rule.Least
+        (PrintsVerdicts Sound (program_of typed.now) N declared.now.lines))) result }
 {
     match normal_form(alloc, typed) {
         Ok(program) => course_verdicts(alloc, &program, declared, degree),
@@ -116,8 +116,8 @@ fn course_verdicts(
     requires within { AreWithin (source_in program.now) declared.now }
     requires least_degree { 1 ≤ degree }
     requires most_degree { degree ≤ 4 }
-    ensures { Gives (OfCourse Promised Analysed.Program (source_in program.now) (program_in program.now) degree rule.Least
-        (PrintsVerdicts Promised (source_in program.now) (program_in program.now) declared.now.lines)) result }
+    ensures { Gives (OfCourse Sound Analysed.Program (source_in program.now) (program_in program.now) degree rule.Least
+        (PrintsVerdicts Sound (source_in program.now) (program_in program.now) declared.now.lines)) result }
 {
     match analyse(alloc, Analysed::Program, program, degree, Rule::Least) {
         Ok(verified) => verdict_report(alloc, program, &verified, declared, degree),
@@ -153,7 +153,7 @@ fn verdict_report(
     requires degree { declared.now.degree ≡ degree }
     requires few { length declared.now.lines < 2 ^ 31 }
     requires within { AreWithin (source_in program.now) declared.now }
-    ensures { Gives (PrintsVerdicts Promised (source_in program.now) (program_in program.now) declared.now.lines verified.now.certificate) result }
+    ensures { Gives (PrintsVerdicts Sound (source_in program.now) (program_in program.now) declared.now.lines verified.now.certificate) result }
 {
     may_be_asked(program, verified, degree);
     match verdict_lines(alloc, verified.checked(), declared) {

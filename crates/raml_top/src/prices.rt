@@ -10,7 +10,7 @@ ghost use Rattle.price_file.specs.Applied.{applied_program};
 ghost use Rattle.price_file.specs.Read.{prices_of};
 ghost use Rattle.raml_words.specs.declared.request.Rule.TheVariants as rule;
 ghost use Rattle.refusals.specs.Line.{no_names};
-ghost use Rattle.raml_promise.specs.Outside.{Promised, store_of};
+ghost use Rattle.raml_promise.specs.Outside.{Sound, store_of};
 ghost use Rattle.raml_promise.specs.Steps.{Prints};
 ghost use Rattle.raml_promise.specs.Analysis.{IsProved, OfCourse};
 ghost use Rattle.raml_promise.specs.Call.{Placed, OfCall, cells_or};
@@ -63,7 +63,7 @@ pub fn priced_lines<S: Store>(
     requires least_degree { 1 ≤ degree }
     requires most_degree { degree ≤ 4 }
     ensures gives { (before : Text → ℕ) → Before before (S.faults store.old) →
-        Gives (PricesProgram Promised (store_of (S.holds store.old) before (S.faults store.new)) file.now degree (program_of typed.now)) result }
+        Gives (PricesProgram Sound (store_of (S.holds store.old) before (S.faults store.new)) file.now degree (program_of typed.now)) result }
     ensures kept { S.holds store.new ≡ S.holds store.old }
     ensures later { (other : Text) → S.faults store.old other ≤ S.faults store.new other }
 {
@@ -77,7 +77,7 @@ fn lines_under(alloc: Global, typed: &Typed, prices: &Prices, degree: u8) -> Res
     requires ready { IsReady (program_of typed.now) }
     requires least_degree { 1 ≤ degree }
     requires most_degree { degree ≤ 4 }
-    ensures { Gives (PricesLines Promised degree (program_of typed.now) (prices_of prices.now)) result }
+    ensures { Gives (PricesLines Sound degree (program_of typed.now) (prices_of prices.now)) result }
 {
     let applied = apply(alloc, typed, prices)?;
     match normal_form(alloc, &applied) {
@@ -91,8 +91,8 @@ fn course_under(alloc: Global, program: &NormProgram<'_>, degree: u8) -> Result<
     requires least_degree { 1 ≤ degree }
     requires most_degree { degree ≤ 4 }
     ensures { (prices : ThePrices) (P : Prog) → source_in program.now ≡ applied_program prices P →
-        Gives (OfCourse Promised Analysed.Program (source_in program.now) (program_in program.now) degree rule.Least
-        (λ c. Prints Promised (ArePricedLines prices P (program_in program.now) c))) result }
+        Gives (OfCourse Sound Analysed.Program (source_in program.now) (program_in program.now) degree rule.Least
+        (λ c. Prints Sound (ArePricedLines prices P (program_in program.now) c))) result }
 {
     match analyse(alloc, Analysed::Program, program, degree, Rule::Least) {
         Ok(verified) => tick_report(alloc, program, &verified),
@@ -108,7 +108,7 @@ fn tick_report(
     requires program { verified.now.program ≡ program.now }
     requires proved { IsProved (source_in program.now) (program_in program.now) verified.now.certificate }
     ensures { (prices : ThePrices) (P : Prog) → source_in program.now ≡ applied_program prices P →
-        Gives (Prints Promised (ArePricedLines prices P (program_in program.now) verified.now.certificate)) result }
+        Gives (Prints Sound (ArePricedLines prices P (program_in program.now) verified.now.certificate)) result }
 {
     let _functions = program.functions();
     match meter_lines(alloc, program, verified, Meter::Ticks) {
@@ -132,7 +132,7 @@ pub fn spend_within<S: Store>(
     requires steps { steps ≤ 1000000000 }
     requires cells { CellsWithin cells }
     ensures gives { (before : Text → ℕ) → Before before (S.faults store.old) →
-        Gives (SpendsWithin Promised (store_of (S.holds store.old) before (S.faults store.new)) file.now name.now input.now
+        Gives (SpendsWithin Sound (store_of (S.holds store.old) before (S.faults store.new)) file.now name.now input.now
         (record { steps = steps; cells = cells_or cells None }) (program_of typed.now)) result }
     ensures kept { S.holds store.new ≡ S.holds store.old }
     ensures later { (other : Text) → S.faults store.old other ≤ S.faults store.new other }
@@ -157,8 +157,8 @@ fn run_under<S: Store>(
     requires steps { steps ≤ 1000000000 }
     requires cells { CellsWithin cells }
     ensures gives { (before : Text → ℕ) → Before before (S.faults store.old) →
-        Gives (OfCall Promised (store_of (S.holds store.old) before (S.faults store.new)) (program_of typed.now) name.now input.now
-        (λ f args. Spends Promised (prices_of prices.now) (program_of typed.now) f args (record { steps = steps; cells = cells_or cells None }))) result }
+        Gives (OfCall Sound (store_of (S.holds store.old) before (S.faults store.new)) (program_of typed.now) name.now input.now
+        (λ f args. Spends Sound (prices_of prices.now) (program_of typed.now) f args (record { steps = steps; cells = cells_or cells None }))) result }
     ensures kept { S.holds store.new ≡ S.holds store.old }
     ensures later { (other : Text) → S.faults store.old other ≤ S.faults store.new other }
 {
@@ -181,7 +181,7 @@ fn call_under(
     requires cells { CellsWithin cells }
     requires call { (f : Placed) × (vs : List Value) × IsCallOf (program_of typed.now) f call vs }
     ensures { (f : Placed) (vs : List Value) → IsCallOf (program_of typed.now) f call vs →
-        Gives (Spends Promised (prices_of prices.now) (program_of typed.now) f vs (record { steps = steps; cells = cells_or cells None })) result }
+        Gives (Spends Sound (prices_of prices.now) (program_of typed.now) f vs (record { steps = steps; cells = cells_or cells None })) result }
 {
     machine_is_linked();
     let applied = apply(alloc, typed, prices)?;

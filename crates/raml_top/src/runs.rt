@@ -8,7 +8,7 @@ ghost use Rattle.rules_plan.specs.Read.{program_in};
 ghost use Rattle.share_normal.specs.Program.{source_in};
 ghost use Rattle.analysis_report.specs.Told.{floors_of};
 ghost use Rattle.refusals.specs.Refusals.{IsWanting};
-ghost use Rattle.raml_promise.specs.Outside.{Promised, store_of};
+ghost use Rattle.raml_promise.specs.Outside.{Sound, store_of};
 ghost use Rattle.raml_words.specs.declared.request.Rule.TheVariants as rule;
 ghost use Rattle.annot_types.specs.Certificate.{has_work};
 ghost use Rattle.report_text.specs.RunBounds.{run_bound_lines};
@@ -43,7 +43,7 @@ pub fn run_within<S: Store>(
     requires steps { steps ≤ 1000000000 }
     requires cells { CellsWithin cells }
     ensures gives { (before : Text → ℕ) → Before before (S.faults store.old) →
-        Gives (RunsWithin Promised (store_of (S.holds store.old) before (S.faults store.new)) name.now file.now
+        Gives (RunsWithin Sound (store_of (S.holds store.old) before (S.faults store.new)) name.now file.now
         (record { steps = steps; cells = cells_or cells None }) (program_of typed.now)) result }
     ensures kept { S.holds store.new ≡ S.holds store.old }
     ensures later { (other : Text) → S.faults store.old other ≤ S.faults store.new other }
@@ -67,7 +67,7 @@ pub fn limited_call(
     requires cells { CellsWithin cells }
     requires call { (f : Placed) × (vs : List Value) × IsCallOf (program_of typed.now) f call vs }
     ensures { (f : Placed) (vs : List Value) → IsCallOf (program_of typed.now) f call vs →
-        Gives (Runs Promised (program_of typed.now) f vs (record { steps = steps; cells = cells_or cells None }) [] []) result }
+        Gives (Runs Sound (program_of typed.now) f vs (record { steps = steps; cells = cells_or cells None }) [] []) result }
 {
     let limits = Limits {
         steps,
@@ -94,7 +94,7 @@ pub fn bounded_run<S: Store>(
     requires least_degree { 1 ≤ degree }
     requires most_degree { degree ≤ 4 }
     ensures gives { (before : Text → ℕ) → Before before (S.faults store.old) →
-        Gives (RunsWithBounds Promised (store_of (S.holds store.old) before (S.faults store.new)) name.now file.now steps cells degree (program_of typed.now)) result }
+        Gives (RunsWithBounds Sound (store_of (S.holds store.old) before (S.faults store.new)) name.now file.now steps cells degree (program_of typed.now)) result }
     ensures kept { S.holds store.new ≡ S.holds store.old }
     ensures later { (other : Text) → S.faults store.old other ≤ S.faults store.new other }
 {
@@ -119,7 +119,7 @@ fn bounded_call(
     requires most_degree { degree ≤ 4 }
     requires call { (f : Placed) × (vs : List Value) × IsCallOf (program_of typed.now) f call vs }
     ensures { (f : Placed) (vs : List Value) → IsCallOf (program_of typed.now) f call vs →
-        Gives (BoundedCall Promised steps cells degree (program_of typed.now) f vs) result }
+        Gives (BoundedCall Sound steps cells degree (program_of typed.now) f vs) result }
 {
     match normal_form(alloc, typed) {
         Ok(program) => course_call(alloc, typed, &program, call, steps, cells, degree),
@@ -144,8 +144,8 @@ fn course_call(
     requires most_degree { degree ≤ 4 }
     requires call { (f : Placed) × (vs : List Value) × IsCallOf (program_of typed.now) f call vs }
     ensures { (f : Placed) (vs : List Value) → IsCallOf (program_of typed.now) f call vs →
-        Gives (OfCourse Promised Analysed.Program (program_of typed.now) (program_in program.now) degree rule.Least
-        (λ c. OfFloors Promised (program_of typed.now) (program_in program.now) c f vs (λ floors. RunsBounded Promised (program_of typed.now) f vs steps cells floors))) result }
+        Gives (OfCourse Sound Analysed.Program (program_of typed.now) (program_in program.now) degree rule.Least
+        (λ c. OfFloors Sound (program_of typed.now) (program_in program.now) c f vs (λ floors. RunsBounded Sound (program_of typed.now) f vs steps cells floors))) result }
 {
     match analyse(alloc, Analysed::Program, program, degree, Rule::Least) {
         Ok(verified) => floors_call(alloc, typed, &verified, call, steps, cells),
@@ -168,8 +168,8 @@ fn floors_call(
     requires cells { CellsWithin cells }
     requires call { (f : Placed) × (vs : List Value) × IsCallOf (program_of typed.now) f call vs }
     ensures { (f : Placed) (vs : List Value) → IsCallOf (program_of typed.now) f call vs →
-        Gives (OfFloors Promised (program_of typed.now) (program_in verified.now.program) verified.now.certificate f vs
-        (λ floors. RunsBounded Promised (program_of typed.now) f vs steps cells floors)) result }
+        Gives (OfFloors Sound (program_of typed.now) (program_in verified.now.program) verified.now.certificate f vs
+        (λ floors. RunsBounded Sound (program_of typed.now) f vs steps cells floors)) result }
 {
     match floors_at(
         alloc,
@@ -205,7 +205,7 @@ fn floored_run(
     requires cells { CellsWithin cells }
     requires call { (f : Placed) × (vs : List Value) × IsCallOf (program_of typed.now) f call vs }
     ensures { (f : Placed) (vs : List Value) → IsCallOf (program_of typed.now) f call vs →
-        Gives (RunsBounded Promised (program_of typed.now) f vs steps cells (floors_of floors)) result }
+        Gives (RunsBounded Sound (program_of typed.now) f vs steps cells (floors_of floors)) result }
 {
     let limits = Limits {
         steps,

@@ -4,7 +4,7 @@ ghost use Rattle.raml_syntax.specs.Tree.{Text};
 ghost use Rattle.raml_words.specs.Words.{texts, Asks, Trial};
 ghost use Rattle.raml_words.specs.Asked.{request_of};
 ghost use Rattle.refusals.specs.Line.{no_names};
-ghost use Rattle.raml_promise.specs.Outside.{Promised, store_of, sink_of, outside_of, Gains, GainsFront};
+ghost use Rattle.raml_promise.specs.Outside.{Sound, store_of, sink_of, outside_of, Gains, GainsFront};
 ghost use Rattle.raml_promise.specs.Again.{VerifiesAgain};
 ghost use Rattle.raml_promise.specs.Promise.{Cause, Forced, WordsAnswer};
 ghost use Rattle.raml_parts.specs.Parts.{Gives, Refuses, WordsRefuse, IsWithin};
@@ -78,7 +78,7 @@ fn put_line<E: Sink>(err: &mut E, line: &str)
 
 // What the words ask for.
 fn answer<S: Store>(alloc: Global, words: &[&str], store: &mut S) -> Result<Report, Refusal>
-    ensures gives { Gives (WordsAnswer Promised (texts words.now) (store_of (S.holds store.old) (S.faults store.old) (S.faults store.new))) result }
+    ensures gives { Gives (WordsAnswer Sound (texts words.now) (store_of (S.holds store.old) (S.faults store.old) (S.faults store.new))) result }
     ensures still { (count : ℕ) → Asks (texts words.now) (Trial count) → store.new ≡ store.old }
     ensures kept { S.holds store.new ≡ S.holds store.old }
     ensures later { (name : Text) → S.faults store.old name ≤ S.faults store.new name }

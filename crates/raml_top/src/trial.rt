@@ -8,7 +8,7 @@ ghost use Rattle.report_text.specs.Trial as t;
 ghost use Rattle.report_text.specs.Claims.{lines_text};
 ghost use Rattle.analysis_report.specs.Lines.{lines_of};
 ghost use Rattle.refusals.specs.Refusals.{IsWanting};
-ghost use Rattle.raml_promise.specs.Outside.{Promised};
+ghost use Rattle.raml_promise.specs.Outside.{Sound};
 ghost use Rattle.raml_promise.specs.Steps.{OfShort, OfSource};
 ghost use Rattle.raml_promise.specs.Analysis.{OfCourse};
 ghost use Rattle.raml_promise.specs.Call.{Placed, OfArguments};
@@ -32,7 +32,7 @@ use std::alloc::{AllocError, Global};
 
 /// Analyses the made program with so many functions of each kind, and runs the last of them.
 pub fn trial(alloc: Global, count: u32) -> Result<Report, Refusal>
-    ensures { Gives (OfShort which.Program (t.trial_text count) (OfSource Analysed.Program (t.trial_text count) (Tries Promised count))) result }
+    ensures { Gives (OfShort which.Program (t.trial_text count) (OfSource Analysed.Program (t.trial_text count) (Tries Sound count))) result }
 {
     match trial_source(alloc, count) {
         Ok(source) => try_source(alloc, source.as_bytes(), count),
@@ -41,7 +41,7 @@ pub fn trial(alloc: Global, count: u32) -> Result<Report, Refusal>
 }
 
 fn try_source(alloc: Global, source: &[u8], count: u32) -> Result<Report, Refusal>
-    ensures { Gives (OfShort which.Program source.now (OfSource Analysed.Program source.now (Tries Promised count))) result }
+    ensures { Gives (OfShort which.Program source.now (OfSource Analysed.Program source.now (Tries Sound count))) result }
 {
     if source.len() as u64 > most_bytes(Which::Program) {
         return Err(Refusal::too_long(Which::Program));
@@ -54,7 +54,7 @@ fn try_source(alloc: Global, source: &[u8], count: u32) -> Result<Report, Refusa
 
 fn try_program(alloc: Global, typed: &Typed, count: u32) -> Result<Report, Refusal>
     requires ready { IsReady (program_of typed.now) }
-    ensures { Gives (Tries Promised count (program_of typed.now)) result }
+    ensures { Gives (Tries Sound count (program_of typed.now)) result }
 {
     match normal_form(alloc, typed) {
         Ok(program) => try_course(alloc, typed, &program, count),
@@ -70,8 +70,8 @@ fn try_course(
 ) -> Result<Report, Refusal>
     requires ready { IsReady (program_of typed.now) }
     requires source { program.now.source ≡ typed.now }
-    ensures { Gives (OfCourse Promised Analysed.Program (program_of typed.now) (program_in program.now) 1 rule.Least
-        (λ c. TriesCall Promised count (program_of typed.now) (program_in program.now) c)) result }
+    ensures { Gives (OfCourse Sound Analysed.Program (program_of typed.now) (program_in program.now) 1 rule.Least
+        (λ c. TriesCall Sound count (program_of typed.now) (program_in program.now) c)) result }
 {
     match analyse(alloc, Analysed::Program, program, 1, Rule::Least) {
         Ok(verified) => try_function(alloc, typed, &verified, count),
@@ -87,7 +87,7 @@ fn try_function(
 ) -> Result<Report, Refusal>
     requires ready { IsReady (program_of typed.now) }
     requires source { verified.now.program.source ≡ typed.now }
-    ensures { Gives (TriesCall Promised count (program_of typed.now) (program_in verified.now.program) verified.now.certificate) result }
+    ensures { Gives (TriesCall Sound count (program_of typed.now) (program_in verified.now.program) verified.now.certificate) result }
 {
     match trial_function(alloc, count) {
         Ok(name) => match typed.program().find(name.as_str()) {
@@ -109,7 +109,7 @@ fn try_call(
     requires source { verified.now.program.source ≡ typed.now }
     requires place { place.0 < length (program_of typed.now) }
     ensures { (f : Placed) → f.0 ≡ place.0 → slice_get (program_of typed.now) f.0 ≡ Some f.1 →
-        Gives (OfArguments t.trial_data f.1 (λ args. RunsTrial Promised count (program_of typed.now) (program_in verified.now.program) verified.now.certificate f args)) result }
+        Gives (OfArguments t.trial_data f.1 (λ args. RunsTrial Sound count (program_of typed.now) (program_in verified.now.program) verified.now.certificate f args)) result }
 {
     match read_arguments(alloc, typed, place, trial_data().as_bytes()) {
         Ok(args) => try_run(alloc, typed, verified, count, place, args),
@@ -130,7 +130,7 @@ fn try_run(
     requires place { place.0 < length (program_of typed.now) }
     requires arguments { (f : Placed) × (vs : List Value) × (f.0 ≡ place.0) × HasArguments (program_of typed.now) f args.heap.cells args.words.items vs }
     ensures { (f : Placed) (vs : List Value) → f.0 ≡ place.0 → HasArguments (program_of typed.now) f args.heap.cells args.words.items vs →
-        Gives (RunsTrial Promised count (program_of typed.now) (program_in verified.now.program) verified.now.certificate f vs) result }
+        Gives (RunsTrial Sound count (program_of typed.now) (program_in verified.now.program) verified.now.certificate f vs) result }
 {
     let limits = Limits {
         steps: 10_000_000,

@@ -1,4 +1,4 @@
-use Rattle.raml_promise.specs.Outside.{Promised}
+use Rattle.raml_promise.specs.Outside.{Sound}
 use Rattle.refusal_text.specs.declared.task.Analysed.TheVariants as analysed
 use Rattle.raml_promise.specs.Analysis.{OfCourse}
 use Rattle.raml_promise.specs.Promise.{PrintsCertificate}
@@ -8,4 +8,4 @@ use Rattle.raml_top.proofs.commands.analysis_certificate.Goals as goal
 pub returns-in-Ok : goal.returns-in-Ok
 returns-in-Ok c =
     kept_gives c.args.typed.now c.in-Ok.program c.in-Ok.ensures.source c.in-Ok.ensures.groups c.in-Ok.ensures.normal
-    (λ P N. OfCourse Promised analysed.Program P N c.args.degree c.args.rule (λ c. PrintsCertificate Promised c)) c.course_certificate.result c.course_certificate.ensures
+    (λ P N. OfCourse Sound analysed.Program P N c.args.degree c.args.rule (λ c. PrintsCertificate Sound c)) c.course_certificate.result c.course_certificate.ensures

@@ -1,6 +1,6 @@
 use Rattle.raml_syntax.specs.Read.{program_of}
 use Rattle.annot_types.specs.Read.{certificate_of}
-use Rattle.raml_promise.specs.Outside.{Promised, store_of}
+use Rattle.raml_promise.specs.Outside.{Sound, store_of}
 use Rattle.raml_promise.specs.Steps.{OfNormal}
 use Rattle.raml_promise.specs.Analysis.{OfCheck}
 use Rattle.raml_promise.specs.Promise.{PrintsLines}
@@ -13,12 +13,12 @@ returns-in-Ok-normal_form-clause-gives g c before earlier =
     let store = store_of (g.S.Store.holds c.args.store.now) before (g.S.Store.faults c.read_certificate.new.store) in
     let P = program_of c.args.typed.now in
     let cert = certificate_of c.in-Ok.certificate in
-    certificate_goes store c.args.file.now (λ c. OfNormal P (λ N. OfCheck Promised P N c (PrintsLines Promised P N c))) cert (c.in-Ok.ensures.ok before) c.verified_lines.result
+    certificate_goes store c.args.file.now (λ c. OfNormal P (λ N. OfCheck Sound P N c (PrintsLines Sound P N c))) cert (c.in-Ok.ensures.ok before) c.verified_lines.result
     (kept_gives c.args.typed.now c.in-Ok-normal_form.program c.in-Ok-normal_form.ensures.source c.in-Ok-normal_form.ensures.groups c.in-Ok-normal_form.ensures.normal
-    (λ P N. OfCheck Promised P N cert (PrintsLines Promised P N cert)) c.verified_lines.result c.verified_lines.ensures)
+    (λ P N. OfCheck Sound P N cert (PrintsLines Sound P N cert)) c.verified_lines.result c.verified_lines.ensures)
 
 pub returns-in-Err-clause-gives : goal.returns-in-Err-clause-gives
 returns-in-Err-clause-gives g c before earlier =
     let store = store_of (g.S.Store.holds c.args.store.now) before (g.S.Store.faults c.read_certificate.new.store) in
     let P = program_of c.args.typed.now in
-    certificate_refusal store c.args.file.now (λ c. OfNormal P (λ N. OfCheck Promised P N c (PrintsLines Promised P N c))) c.in-Err.refusal (c.in-Err.ensures.err before earlier)
+    certificate_refusal store c.args.file.now (λ c. OfNormal P (λ N. OfCheck Sound P N c (PrintsLines Sound P N c))) c.in-Err.refusal (c.in-Err.ensures.err before earlier)

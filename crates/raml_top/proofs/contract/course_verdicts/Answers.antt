@@ -2,17 +2,17 @@ use Rattle.share_normal.specs.Program.{source_in}
 use Rattle.rules_plan.specs.Read.{program_in}
 use Rattle.raml_words.specs.declared.request.Rule.TheVariants as rule
 use Rattle.refusal_text.specs.declared.task.Analysed.TheVariants as analysed
-use Rattle.raml_promise.specs.Outside.{Promised}
+use Rattle.raml_promise.specs.Outside.{Sound}
 use Rattle.raml_promise.specs.DeclaredBounds.{PrintsVerdicts}
 use Rattle.raml_parts.proofs.Proved.{course_given, course_denied}
 use Rattle.raml_top.proofs.contract.course_verdicts.Goals as goal
 
 pub returns-in-Ok : goal.returns-in-Ok
 returns-in-Ok c =
-    course_given analysed.Program c.args.program.now c.args.degree rule.Least (PrintsVerdicts Promised (source_in c.args.program.now) (program_in c.args.program.now) c.args.declared.now.lines)
+    course_given analysed.Program c.args.program.now c.args.degree rule.Least (PrintsVerdicts Sound (source_in c.args.program.now) (program_in c.args.program.now) c.args.declared.now.lines)
     c.in-Ok.verified.certificate c.in-Ok.ensures.course c.in-Ok.ensures.proved c.in-Ok.ensures.least c.verdict_report.result c.verdict_report.ensures
 
 pub returns-in-Err : goal.returns-in-Err
 returns-in-Err c =
-    course_denied analysed.Program c.args.program.now c.args.degree rule.Least (PrintsVerdicts Promised (source_in c.args.program.now) (program_in c.args.program.now) c.args.declared.now.lines)
+    course_denied analysed.Program c.args.program.now c.args.degree rule.Least (PrintsVerdicts Sound (source_in c.args.program.now) (program_in c.args.program.now) c.args.declared.now.lines)
     c.in-Err.refusal c.in-Err.ensures.err

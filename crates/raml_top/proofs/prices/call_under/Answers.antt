@@ -6,7 +6,7 @@ use Rattle.raml_syntax.specs.Node.{AllNodes, NumberFits}
 use Rattle.raml_syntax.specs.Read.{program_of}
 use Rattle.price_file.specs.Read.{prices_of}
 use Rattle.price_file.specs.Applied.{applied_function}
-use Rattle.raml_promise.specs.Outside.{Promised}
+use Rattle.raml_promise.specs.Outside.{Sound}
 use Rattle.raml_promise.specs.Call.{Runs, Limits, cells_or}
 use Rattle.raml_promise.specs.Prices.{Spends}
 use Rattle.raml_parts.specs.Parts.{Gives}
@@ -33,9 +33,9 @@ returns c f vs is =
     let made = program_of c.in_ok-applied.applied in
     let same = c.in_ok-applied.ensures.applied in
     let limits : Limits = record { steps = c.args.steps; cells = cells_or c.args.cells None } in
-    let ran = subst (λ Q. Gives (Runs Promised Q (f.0, applied_function prices f.1) vs limits [] []) c.limited_call.result) same
+    let ran = subst (λ Q. Gives (Runs Sound Q (f.0, applied_function prices f.1) vs limits [] []) c.limited_call.result) same
     (c.limited_call.ensures (f.0, applied_function prices f.1) vs (applied_call prices P made same c.args.call f vs is)) in
     let typed = subst Typed same c.program-program.ensures.typed in
     let numbers = subst (λ Q. All (λ (g : Function). AllNodes NumberFits g.body) Q) same (c.in_ok-applied.ensures.limits c.requires.ready.limits).numbers in
-    gives_map _ (Spends Promised prices P f vs limits)
+    gives_map _ (Spends Sound prices P f vs limits)
     (λ a runs. record { runs = runs; costs = spent prices P c.machine_is_linked.ensures typed numbers f vs is.arguments.there is.arguments.types }) c.limited_call.result ran

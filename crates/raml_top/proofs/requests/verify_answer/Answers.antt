@@ -1,6 +1,6 @@
 use Rattle.raml_syntax.specs.Read.{program_of}
 use Rattle.refusal_text.specs.declared.task.Analysed.TheVariants as analysed
-use Rattle.raml_promise.specs.Outside.{Promised, store_of}
+use Rattle.raml_promise.specs.Outside.{Sound, store_of}
 use Rattle.raml_promise.specs.Promise.{Verifies}
 use Rattle.raml_parts.proofs.Stepping.{program_refusal}
 use Rattle.raml_parts.proofs.Reading.{from_now, program_then}
@@ -10,10 +10,10 @@ pub returns-in-Ok-clause-gives : goal.returns-in-Ok-clause-gives
 returns-in-Ok-clause-gives g c =
     let before = g.S.Store.faults c.args.store.now in
     program_then analysed.Program (g.S.Store.holds c.args.store.now) (g.S.Store.holds c.read_program.new.store) before (g.S.Store.faults c.read_program.new.store) (g.S.Store.faults c.verification.new.store)
-    c.args.file.now (λ store. Verifies Promised store c.args.certificate.now) (program_of c.in-Ok.typed) c.in-Ok.ensures.kept (c.in-Ok.ensures.ok before) c.verification.result (c.verification.ensures.gives before c.in-Ok.ensures.later)
+    c.args.file.now (λ store. Verifies Sound store c.args.certificate.now) (program_of c.in-Ok.typed) c.in-Ok.ensures.kept (c.in-Ok.ensures.ok before) c.verification.result (c.verification.ensures.gives before c.in-Ok.ensures.later)
 
 pub returns-in-Err-clause-gives : goal.returns-in-Err-clause-gives
 returns-in-Err-clause-gives g c =
     let before = g.S.Store.faults c.args.store.now in
     let store = store_of (g.S.Store.holds c.args.store.now) before (g.S.Store.faults c.read_program.new.store) in
-    program_refusal store analysed.Program c.args.file.now (Verifies Promised store c.args.certificate.now) c.in-Err.refusal (c.in-Err.ensures.err before (from_now before))
+    program_refusal store analysed.Program c.args.file.now (Verifies Sound store c.args.certificate.now) c.in-Err.refusal (c.in-Err.ensures.err before (from_now before))

@@ -1,5 +1,5 @@
 use Rattle.raml_syntax.specs.Read.{program_of}
-use Rattle.raml_promise.specs.Outside.{Promised, store_of}
+use Rattle.raml_promise.specs.Outside.{Sound, store_of}
 use Rattle.raml_promise.specs.Promise.{BoundedCall}
 use Rattle.raml_parts.proofs.Stepping.{call_refusal}
 use Rattle.raml_parts.proofs.Calling.{call_of, call_gives}
@@ -13,9 +13,9 @@ bounded_call-requires-clause-call g c =
 pub returns-in-Ok-clause-gives : goal.returns-in-Ok-clause-gives
 returns-in-Ok-clause-gives g c before earlier =
     call_gives (store_of (g.S.Store.holds c.args.store.now) before (g.S.Store.faults c.read_call.new.store)) (program_of c.args.typed.now) c.args.name.now c.args.file.now c.in-Ok.call (c.in-Ok.ensures.ok before)
-    (λ f args. BoundedCall Promised c.args.steps c.args.cells c.args.degree (program_of c.args.typed.now) f args) c.bounded_call.result c.bounded_call.ensures
+    (λ f args. BoundedCall Sound c.args.steps c.args.cells c.args.degree (program_of c.args.typed.now) f args) c.bounded_call.result c.bounded_call.ensures
 
 pub returns-in-Err-clause-gives : goal.returns-in-Err-clause-gives
 returns-in-Err-clause-gives g c before earlier =
     call_refusal (store_of (g.S.Store.holds c.args.store.now) before (g.S.Store.faults c.read_call.new.store)) (program_of c.args.typed.now) c.args.name.now c.args.file.now
-    (λ f args. BoundedCall Promised c.args.steps c.args.cells c.args.degree (program_of c.args.typed.now) f args) c.in-Err.refusal (c.in-Err.ensures.err before earlier)
+    (λ f args. BoundedCall Sound c.args.steps c.args.cells c.args.degree (program_of c.args.typed.now) f args) c.in-Err.refusal (c.in-Err.ensures.err before earlier)
