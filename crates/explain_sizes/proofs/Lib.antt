@@ -1,0 +1,9 @@
+mod Adding
+mod Binomials
+mod Reading
+mod Told
+mod Computed
+mod Chosen
+mod Exactly
+mod Within
+mod Uniform

@@ -1,0 +1,6 @@
+pub mod Sizes
+pub mod Counts
+pub mod Read
+pub mod Shares
+pub mod Laws
+pub mod Example

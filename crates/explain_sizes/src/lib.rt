@@ -1,0 +1,13 @@
+//! The value of a bound at sizes.
+#![tactic(auto)]
+
+mod binomial;
+mod counted;
+pub mod laws;
+mod share;
+mod share_type;
+mod size;
+mod value;
+
+pub use size::Size;
+pub use value::value_at;
