@@ -7,6 +7,8 @@ pub mod laws;
 mod share;
 mod share_type;
 mod size;
+#[cfg(test)]
+mod tests;
 mod value;
 
 pub use size::Size;
