@@ -1,3 +1,4 @@
 pub mod Algebra
 pub mod Example
+pub mod Laws
 pub mod Steps

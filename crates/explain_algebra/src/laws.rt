@@ -1,7 +1,13 @@
 // Laws: each is the contract of a function that does nothing.
 ghost use Rattle.explain_algebra.specs.Example.{Examples};
+ghost use Rattle.explain_algebra.specs.Laws.{CountAsNumbers};
 
 /// Small bounds in algebra are what was worked out by hand.
 pub fn small_examples()
     ensures { Examples }
+{}
+
+/// A list or tree of numbers, truth values or pairs of these counts as one of numbers does.
+pub fn count_as_numbers()
+    ensures { CountAsNumbers }
 {}

@@ -1,0 +1,31 @@
+-- What holds nothing that has a size counts as a number does.
+use Rattle.std.specs.Prelude.{◌≡◌, ◌&&◌, Bool, true, false}
+use Rattle.raml_syntax.specs.Tree.{Type', Integer, Boolean, PairOf, ListOf, TreeOf}
+use Rattle.raml_syntax.specs.Value.{Value, Has}
+use Rattle.base_poly.specs.Plain.{Plain, deg, entry_count}
+use Rattle.base_poly.specs.Indices.{IsIndex, zero_of}
+use Rattle.base_poly.specs.Base.{base}
+use Rattle.bound_compare.specs.Laws.{picks}
+
+-- a number, a truth value, or a pair of these
+abbrev pub holds_no_size : Type' → Bool
+holds_no_size Integer = true
+holds_no_size Boolean = true
+holds_no_size (PairOf A B) = holds_no_size A && holds_no_size B
+holds_no_size A = false
+
+-- the type has the index of degree 0 and no other, and it counts 1 at every value
+pub record CountsOne (A : Type') : Type 0 where
+  pub only : (i : Plain) → IsIndex i A → i ≡ zero_of A
+  pub degree : deg (zero_of A) ≡ 0
+  pub one : (v : Value) → Has v A → base (zero_of A) v ≡ 1
+
+-- an index of the first type counts, at each of its values, what the index with as many entries over numbers does
+abbrev pub CountsByEntries : Type' → Type 0
+CountsByEntries A = (i : Plain) (v : Value) → IsIndex i A → Has v A → base i v ≡ base (picks (entry_count i)) v
+
+-- So a list or a tree of such elements counts as one of numbers.
+pub record CountAsNumbers : Type 0 where
+  pub elements : (A : Type') → holds_no_size A ≡ true → CountsOne A
+  pub lists : (A : Type') → holds_no_size A ≡ true → CountsByEntries (ListOf A)
+  pub trees : (A : Type') → holds_no_size A ≡ true → CountsByEntries (TreeOf A)
