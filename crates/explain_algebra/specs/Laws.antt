@@ -1,11 +1,14 @@
--- What holds nothing that has a size counts as a number does.
-use Rattle.std.specs.Prelude.{◌≡◌, ◌&&◌, Bool, true, false}
+-- What holds nothing that has a size counts as a number does, and no power is left out.
+use Rattle.std.specs.Prelude.{◌≡◌, ◌≢◌, ◌≤◌, ◌&&◌, ℕ, pos, Bool, true, false, None, List, length, All, slice_index_or}
 use Rattle.raml_syntax.specs.Tree.{Type', Integer, Boolean, PairOf, ListOf, TreeOf}
 use Rattle.raml_syntax.specs.Value.{Value, Has}
 use Rattle.base_poly.specs.Plain.{Plain, deg, entry_count}
-use Rattle.base_poly.specs.Indices.{IsIndex, zero_of}
+use Rattle.base_poly.specs.Indices.{IsIndex, AreIndices, zero_of}
 use Rattle.base_poly.specs.Base.{base}
+use Rattle.base_poly.specs.Poly.{Term}
 use Rattle.bound_compare.specs.Laws.{picks}
+use Rattle.bound_compare.specs.Powers.{are_flat, power_at}
+use Rattle.explain_algebra.specs.Algebra.{size_names, name_at}
 
 -- a number, a truth value, or a pair of these
 abbrev pub holds_no_size : Type' → Bool
@@ -29,3 +32,8 @@ pub record CountAsNumbers : Type 0 where
   pub elements : (A : Type') → holds_no_size A ≡ true → CountsOne A
   pub lists : (A : Type') → holds_no_size A ≡ true → CountsByEntries (ListOf A)
   pub trees : (A : Type') → holds_no_size A ≡ true → CountsByEntries (TreeOf A)
+
+-- Each power that a flat function's polynomial has is written: at exponents of which one stands at a parameter without a name, there is nothing.
+abbrev pub NoneIsUnnamed : Type 0
+NoneIsUnnamed = (As : List Type') (ts : List Term) → are_flat As ≡ true → length As ≤ 8 → All (λ t. AreIndices t.0 As) ts →
+    (es : List ℕ) (j : ℕ) → name_at (size_names As) j ≡ None → slice_index_or es j 0 ≢ 0 → power_at es ts ≡ pos 0
