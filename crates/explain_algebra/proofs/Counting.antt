@@ -10,9 +10,8 @@ use Rattle.base_poly.proofs.Sums.{over_more}
 use Rattle.bound_compare.specs.Laws.{picks}
 use Rattle.explain_algebra.specs.Laws.{holds_no_size, CountsOne, CountsByEntries, CountAsNumbers}
 
-both : (a b : Bool) → (a && b) ≡ true → (a ≡ true) × (b ≡ true)
-both true true h = (refl, refl)
-both true false h = cc
+pub both : (a b : Bool) → (a && b) ≡ true → (a ≡ true) × (b ≡ true)
+both true b h = (refl, h)
 both false b h = cc
 
 only : (A : Type') → holds_no_size A ≡ true → (i : Plain) → IsIndex i A → i ≡ zero_of A

@@ -1,5 +1,5 @@
 -- No power stands at a parameter whose size has no name.
-use Rattle.std.proofs.Common.{◌≡◌, ◌≢◌, ◌⊎◌, inl, inr, ⊎_elim, ◌≤◌, ◌<◌, ◌+◌, ◌/◌, ℕ, zero, suc, pos, ◌*ℤ◌, ◌+ℤ◌, Bool, true, false, ◌&&◌, cond, None, Some, List, [], ◌∷◌, length, refl, ap, ◌∙◌, arith}
+use Rattle.std.proofs.Common.{◌≡◌, ◌≢◌, ◌⊎◌, inl, inr, ⊎_elim, ◌≤◌, ◌<◌, ◌+◌, ◌/◌, ℕ, zero, suc, pos, ◌*ℤ◌, ◌+ℤ◌, Bool, true, false, cond, None, Some, List, [], ◌∷◌, length, refl, ap, ◌∙◌, arith}
 use Rattle.std.specs.Prelude.{slice_index_or}
 use Rattle.std.proofs.lemmas.List.Elements.{All-head, All-tail}
 use Rattle.raml_syntax.specs.Tree.{Type', Integer, Boolean, PairOf, ListOf, TreeOf, OptionOf}
@@ -9,10 +9,7 @@ use Rattle.bound_compare.specs.Powers.{is_flat, are_flat, falling, fallings, fac
 use Rattle.bound_compare.proofs.Expanded.{times_zero, zero_times}
 use Rattle.explain_algebra.specs.Algebra.{has_size, letter, named_from, name_at}
 use Rattle.explain_algebra.specs.Laws.{NoneIsUnnamed}
-
-both : (a b : Bool) → (a && b) ≡ true → (a ≡ true) × (b ≡ true)
-both true b h = (refl, h)
-both false b h = cc
+use Rattle.explain_algebra.proofs.Counting.{both}
 
 some_none : (c : ℕ) → Some c ≡ None → ⊥
 some_none c h = cc
