@@ -4,17 +4,17 @@ use Rattle.raml_syntax.specs.Value.{Value}
 use Rattle.stack_compile.specs.Machine as m
 use Rattle.stack_compile.specs.Machine.{Going, State, unbind}
 use Rattle.stack_compile.specs.declared.instr.Instr.{Instr}
-use Rattle.value_text.specs.Heap.{Heap, IsBelow, NamesBelow, NameEarlier}
+use Rattle.value_text.specs.Heap.{IsBelow, NamesBelow, NameEarlier}
 use Rattle.value_text.specs.Held.{Held, value_held, held_at, value_of, held_of, held}
 use Rattle.value_text.specs.declared.word.Word.{Word}
 use Rattle.value_text.specs.declared.word.Word.TheVariants as w
 use Rattle.value_text.specs.declared.word.Cell.{Cell}
 use Rattle.value_text.proofs.Earlier.{earlier_added}
 use Rattle.value_text.proofs.Holding.{value_more, held_snoc, length_held, at_last}
-use Rattle.metered_vm.specs.declared.machine.Frame.{Frame}
-use Rattle.metered_vm.specs.Running.{values_of, stack_of, locals_below, frames_of, state, AllBelow, Sound}
+use Rattle.metered_vm.specs.declared.machine.Machine.{Machine}
+use Rattle.metered_vm.specs.Running.{values_of, stack_of, locals_below, frames_of, locals_in, frames_in, state, state_of, AllBelow, IsSound, Sound}
 use Rattle.metered_vm.specs.Moving.{acts}
-use Rattle.metered_vm.proofs.Lists.{stack_snoc, length_values, locals_append, frames_append, locals_take, frames_take, below_snoc, below_init_is, all_more}
+use Rattle.metered_vm.proofs.Lists.{stack_snoc, length_values, locals_append, frames_append, locals_take, frames_take, below_snoc, below_init_is, below_last_is, below_take, all_more}
 
 -- an instruction that adds no ticks and no cells
 pub same : (f p : ℕ) (st st' ls ls' : List Value) (fs fs' : List m.Frame) (a b n : ℕ) → st ≡ st' → ls ≡ ls' → fs ≡ fs' → ◌≡◌ {A = State} (state (Going f p st ls fs) a b n) (state (Going f p st' ls' fs') (a + 0) (b + 0) n)
@@ -23,46 +23,57 @@ same f p st st' ls ls' fs fs' a b n x y z =
     let cells : b ≡ b + 0 = omega arith in
     λ i. state (Going f p (x i) (y i) (z i)) (ticks i) (cells i) n
 
--- the stack before it, written out
-pub acted : (i : Instr) (f p : ℕ) (st st' ls : List Value) (fs : List m.Frame) (a b n : ℕ) (s : State) → st ≡ st' → s ≡ acts i (state (Going f p st' ls fs) a b n) → s ≡ acts i (state (Going f p st ls fs) a b n)
-acted i f p st st' ls fs a b n s e h = h ∙ ap (λ l. acts i (state (Going f p l ls fs) a b n)) (sym e)
-
 pub popped_is : (hs : List Held) (ws us : List Word) (w : Word) → us ≡ ws ++ w ∷ [] → stack_of hs us [] ≡ value_of hs w ∷ stack_of hs ws []
 popped_is hs ws us w e = ap (λ l. stack_of hs l []) e ∙ stack_snoc hs ws w []
 
 -- what the locals of the newest call, and all frames, become
-pub record Locals (hs : List Held) (gs : List Frame) (base : ℕ) (ws : List Word) (vs : List Value) (us : List Word) : Type 0 where
-  pub newest : drop base (values_of hs us) ≡ vs
-  pub frames : frames_of (values_of hs us) gs [] ≡ frames_of (values_of hs ws) gs []
-  pub within : base ≤ length us
+pub record Locals (x : Machine) (vs : List Value) (us : List Word) : Type 0 where
+  pub newest : drop x.base (values_of (held x.heap.cells) us) ≡ vs
+  pub frames : frames_of (values_of (held x.heap.cells) us) x.frames.items [] ≡ frames_in x
+  pub within : x.base ≤ length us
+  pub below : AllBelow (length x.heap.cells) us
 
--- one local more
-pub bound_one : (hs : List Held) (gs : List Frame) (base : ℕ) (ws us : List Word) (w : Word) → us ≡ ws ++ w ∷ [] → locals_below gs ≡ base → base ≤ length ws → Locals hs gs base ws (drop base (values_of hs ws) ++ value_of hs w ∷ []) us
-bound_one hs gs base ws us w e below within = record {
-  newest = ap (λ l. drop base (values_of hs l)) e ∙ locals_append hs base ws (w ∷ []) within;
-  frames = ap (λ l. frames_of (values_of hs l) gs []) e ∙ frames_append hs gs ws (w ∷ []) (omega (arith, below, within));
-  within = omega (arith, within, ap length e, length-append ws (w ∷ []));
+-- nothing
+pub bound_none : (x : Machine) → IsSound x → (us : List Word) → us ≡ x.locals.items → Locals x (locals_in x) us
+bound_none x h us e = record {
+  newest = ap (λ l. drop x.base (values_of (held x.heap.cells) l)) e;
+  frames = ap (λ l. frames_of (values_of (held x.heap.cells) l) x.frames.items []) e;
+  within = omega (arith, h.within, ap length e);
+  below = subst (AllBelow (length x.heap.cells)) (sym e) h.locals;
 }
 
--- and one more again
-pub bound_next : (hs : List Held) (gs : List Frame) (base : ℕ) (ws us ts : List Word) (vs : List Value) (w : Word) → ts ≡ us ++ w ∷ [] → locals_below gs ≡ base → Locals hs gs base ws vs us → Locals hs gs base ws (vs ++ value_of hs w ∷ []) ts
-bound_next hs gs base ws us ts vs w e below h =
-    let one = bound_one hs gs base us ts w e below h.within in
-    record { newest = one.newest ∙ ap (λ l. l ++ value_of hs w ∷ []) h.newest; frames = one.frames ∙ h.frames; within = one.within }
+-- one local more
+pub bound_next : (x : Machine) → IsSound x → (us ts : List Word) (vs : List Value) (w : Word) → ts ≡ us ++ w ∷ [] → IsBelow (length x.heap.cells) w → Locals x vs us → Locals x (vs ++ value_of (held x.heap.cells) w ∷ []) ts
+bound_next x h us ts vs w e below l =
+    let hs = held x.heap.cells in
+    record {
+      newest = ap (λ k. drop x.base (values_of hs k)) e ∙ locals_append hs x.base us (w ∷ []) l.within ∙ ap (λ k. k ++ value_of hs w ∷ []) l.newest;
+      frames = ap (λ k. frames_of (values_of hs k) x.frames.items []) e ∙ frames_append hs x.frames.items us (w ∷ []) (omega (arith, h.base, l.within)) ∙ l.frames;
+      within = omega (arith, l.within, ap length e, length-append us (w ∷ []));
+      below = subst (AllBelow (length x.heap.cells)) (sym e) (below_snoc (length x.heap.cells) us w l.below below);
+    }
+
+-- two more, in room that was made before
+pub bound_both : (x : Machine) → IsSound x → (rs us ts : List Word) (w v : Word) → rs ≡ x.locals.items → us ≡ rs ++ w ∷ [] → ts ≡ us ++ v ∷ [] → IsBelow (length x.heap.cells) w → IsBelow (length x.heap.cells) v → Locals x ((locals_in x ++ value_of (held x.heap.cells) w ∷ []) ++ value_of (held x.heap.cells) v ∷ []) ts
+bound_both x h rs us ts w v room first second below_w below_v = bound_next x h us ts _ v second below_v (bound_next x h rs us _ w first below_w (bound_none x h rs room))
 
 -- some of the last ones fewer
-pub unbound : (hs : List Held) (gs : List Frame) (base k : ℕ) (ws us : List Word) → us ≡ take (length ws - k) ws → locals_below gs ≡ base → base ≤ length ws → k ≤ length (drop base (values_of hs ws)) → Locals hs gs base ws (unbind k (drop base (values_of hs ws))) us
-unbound hs gs base k ws us e below within enough =
+pub unbound : (x : Machine) → IsSound x → (k : ℕ) (us : List Word) → us ≡ take (length x.locals.items - k) x.locals.items → k ≤ length (locals_in x) → Locals x (unbind k (locals_in x)) us
+unbound x h k us e enough =
+    let hs = held x.heap.cells in
+    let gs = x.frames.items in
+    let ws = x.locals.items in
     let vs = values_of hs ws in
-    let len = length-drop base vs in
-    let few : k + base ≤ length ws = omega (arith, len, enough, within, length_values hs ws) in
-    let n : length ws - k ≡ base + (length (drop base vs) - k) = omega (arith, len, enough, within, length_values hs ws) in
+    let len = length-drop x.base vs in
+    let few : k + x.base ≤ length ws = omega (arith, len, enough, h.within, length_values hs ws) in
+    let n : length ws - k ≡ x.base + (length (drop x.base vs) - k) = omega (arith, len, enough, h.within, length_values hs ws) in
     let le : length ws - k ≤ length ws = omega arith in
-    let low : locals_below gs ≤ length ws - k = omega (arith, below, few) in
+    let low : locals_below gs ≤ length ws - k = omega (arith, h.base, few) in
     record {
-      newest = ap (λ l. drop base (values_of hs l)) e ∙ locals_take hs base (length ws - k) (length (drop base vs) - k) ws n;
+      newest = ap (λ l. drop x.base (values_of hs l)) e ∙ locals_take hs x.base (length ws - k) (length (drop x.base vs) - k) ws n;
       frames = ap (λ l. frames_of (values_of hs l) gs []) e ∙ frames_take hs gs ws (length ws - k) low le;
       within = omega (arith, ap length e, length-take (length ws - k) ws, few);
+      below = subst (AllBelow (length x.heap.cells)) (sym e) (below_take _ _ ws h.locals);
     }
 
 stack_more : (hs more : List Held) (ws : List Word) (vs : List Value) → AllBelow (length hs) ws → stack_of (hs ++ more) ws vs ≡ stack_of hs ws vs
@@ -104,13 +115,18 @@ celled cells new cell ws us ls n earlier below_ws below_ls names is number pushe
 pub both_popped : (hs : List Held) (ws us ts : List Word) (w v : Word) → ts ≡ us ++ v ∷ [] → us ≡ ws ++ w ∷ [] → stack_of hs ts [] ≡ value_of hs v ∷ value_of hs w ∷ stack_of hs ws []
 both_popped hs ws us ts w v e d = popped_is hs us ts v e ∙ ap (λ l. value_of hs v ∷ l) (popped_is hs ws us w d)
 
+pub both_below : (n : ℕ) (ws us ts : List Word) (w v : Word) → ts ≡ us ++ v ∷ [] → us ≡ ws ++ w ∷ [] → AllBelow n ts → AllBelow n ws × IsBelow n w × IsBelow n v
+both_below n ws us ts w v e d h =
+    let left = below_init_is n us ts v e h in
+    (below_init_is n ws us w d left, below_last_is n ws us w d left, below_last_is n us ts v e h)
+
 -- one word in place of the two
 pub replaced_below : (n : ℕ) (ws us ts rs : List Word) (w v u : Word) → AllBelow n ts → ts ≡ us ++ v ∷ [] → us ≡ ws ++ w ∷ [] → rs ≡ ws ++ u ∷ [] → IsBelow n u → AllBelow n rs
-replaced_below n ws us ts rs w v u h e d c below = subst (AllBelow n) (sym c) (below_snoc n ws u (below_init_is n ws us w d (below_init_is n us ts v e h)) below)
+replaced_below n ws us ts rs w v u h e d c below = subst (AllBelow n) (sym c) (below_snoc n ws u (both_below n ws us ts w v e d h).0 below)
 
--- a machine with another stack, or with other locals
-pub sound_stack : (heap : Heap) (ws us ls : List Word) (base : ℕ) (gs : List Frame) (taken limit : ℕ) → Sound heap ws ls base gs taken limit → AllBelow (length heap.cells) us → Sound heap us ls base gs taken limit
-sound_stack heap ws us ls base gs taken limit h below = record {
+-- a machine with another stack, and other locals
+pub sound_stack : (x : Machine) (us : List Word) → IsSound x → AllBelow (length x.heap.cells) us → Sound x.heap us x.locals.items x.base x.frames.items x.cells x.limit
+sound_stack x us h below = record {
   earlier = h.earlier;
   stack = below;
   locals = h.locals;
@@ -120,13 +136,26 @@ sound_stack heap ws us ls base gs taken limit h below = record {
   spare = h.spare;
 }
 
-pub sound_locals : (heap : Heap) (ws ls us : List Word) (base : ℕ) (gs : List Frame) (taken limit : ℕ) → Sound heap ws ls base gs taken limit → AllBelow (length heap.cells) us → base ≤ length us → Sound heap ws us base gs taken limit
-sound_locals heap ws ls us base gs taken limit h below within = record {
+pub sound_locals : (x : Machine) (ws us : List Word) (vs : List Value) → IsSound x → AllBelow (length x.heap.cells) ws → Locals x vs us → Sound x.heap ws us x.base x.frames.items x.cells x.limit
+sound_locals x ws us vs h below l = record {
   earlier = h.earlier;
-  stack = h.stack;
-  locals = below;
+  stack = below;
+  locals = l.below;
   base = h.base;
-  within = within;
+  within = l.within;
   taken = h.taken;
   spare = h.spare;
 }
+
+-- and where one word is popped
+pub sound_taken : (x : Machine) → IsSound x → (ws us : List Word) (w : Word) (vs : List Value) → x.stack.items ≡ ws ++ w ∷ [] → Locals x vs us → Sound x.heap ws us x.base x.frames.items x.cells x.limit
+sound_taken x h ws us w vs e l = sound_locals x ws us vs h (below_init_is (length x.heap.cells) ws x.stack.items w e h.stack) l
+
+-- an instruction that takes a value from the stack and changes the locals
+pub taken : (i : Instr) (x : Machine) (p n : ℕ) (ws us : List Word) (w : Word) (v : Value) (vs : List Value) → x.stack.items ≡ ws ++ w ∷ [] → value_of (held x.heap.cells) w ≡ v → Locals x vs us →
+    (let st = stack_of (held x.heap.cells) ws [] in ◌≡◌ {A = State} (state (Going x.fun.0 p st vs (frames_in x)) (x.ticks + 0) (x.cells + 0) n) (acts i (state (Going x.fun.0 x.place (v ∷ st) (locals_in x) (frames_in x)) x.ticks x.cells x.made))) →
+    ◌≡◌ {A = State} (state (Going x.fun.0 p (stack_of (held x.heap.cells) ws []) (drop x.base (values_of (held x.heap.cells) us)) (frames_of (values_of (held x.heap.cells) us) x.frames.items [])) x.ticks x.cells n) (acts i (state_of x))
+taken i x p n ws us w v vs popped is l does =
+    let hs = held x.heap.cells in
+    let st = popped_is hs ws x.stack.items w popped ∙ ap (λ u. u ∷ stack_of hs ws []) is in
+    same _ _ _ _ _ _ _ _ _ _ _ refl l.newest l.frames ∙ does ∙ ap (λ k. acts i (state (Going x.fun.0 x.place k (locals_in x) (frames_in x)) x.ticks x.cells x.made)) (sym st)

@@ -34,9 +34,7 @@ pub fn number(stack: &mut Vec<Word>) -> i64
 {
     match pop(stack) {
         Word::Int(n) => n,
-        Word::Bool(_) => unreachable!(),
-        Word::Empty => unreachable!(),
-        Word::Cell(_) => unreachable!(),
+        _ => unreachable!(),
     }
 }
 
@@ -50,9 +48,7 @@ pub fn truth(stack: &mut Vec<Word>) -> bool
 {
     match pop(stack) {
         Word::Bool(b) => b,
-        Word::Int(_) => unreachable!(),
-        Word::Empty => unreachable!(),
-        Word::Cell(_) => unreachable!(),
+        _ => unreachable!(),
     }
 }
 
@@ -69,9 +65,7 @@ pub fn pair_parts(heap: &DataHeap, word: Word) -> (Word, Word)
             Cell::Node(_, _, _) => unreachable!(),
             Cell::Just(_) => unreachable!(),
         },
-        Word::Int(_) => unreachable!(),
-        Word::Bool(_) => unreachable!(),
-        Word::Empty => unreachable!(),
+        _ => unreachable!(),
     }
 }
 
@@ -89,8 +83,7 @@ pub fn list_parts(heap: &DataHeap, word: Word) -> Option<(Word, Word)>
             Cell::Just(_) => unreachable!(),
         },
         Word::Empty => None,
-        Word::Int(_) => unreachable!(),
-        Word::Bool(_) => unreachable!(),
+        _ => unreachable!(),
     }
 }
 
@@ -108,8 +101,7 @@ pub fn tree_parts(heap: &DataHeap, word: Word) -> Option<(Word, Word, Word)>
             Cell::Just(_) => unreachable!(),
         },
         Word::Empty => None,
-        Word::Int(_) => unreachable!(),
-        Word::Bool(_) => unreachable!(),
+        _ => unreachable!(),
     }
 }
 
@@ -127,7 +119,6 @@ pub fn content(heap: &DataHeap, word: Word) -> Option<Word>
             Cell::Node(_, _, _) => unreachable!(),
         },
         Word::Empty => None,
-        Word::Int(_) => unreachable!(),
-        Word::Bool(_) => unreachable!(),
+        _ => unreachable!(),
     }
 }

@@ -79,30 +79,13 @@ fn step(code: &Code, body: &[Instr], m: &mut Machine) -> Result<Outcome, AllocEr
         Instr::Mod => acts::arith(m, ArithOp::Mod),
         Instr::Compare(op) => acts::compare(m, op),
         Instr::Not => acts::negate(m),
-        Instr::Pair => {
-            if is_full(m) {
-                return Ok(Outcome::Full);
-            }
-            acts::pair(m);
-        }
-        Instr::Cons => {
-            if is_full(m) {
-                return Ok(Outcome::Full);
-            }
-            acts::cons(m);
-        }
-        Instr::Node => {
-            if is_full(m) {
-                return Ok(Outcome::Full);
-            }
-            acts::node(m);
-        }
-        Instr::Some => {
-            if is_full(m) {
-                return Ok(Outcome::Full);
-            }
-            acts::some(m);
-        }
+        Instr::Pair | Instr::Cons | Instr::Node | Instr::Some if is_full(m) => return Ok(
+            Outcome::Full,
+        ),
+        Instr::Pair => acts::pair(m),
+        Instr::Cons => acts::cons(m),
+        Instr::Node => acts::node(m),
+        Instr::Some => acts::some(m),
         Instr::Unpair => acts::unpair(m)?,
         Instr::CaseList(to) => acts::case_list(m, to)?,
         Instr::CaseTree(to) => acts::case_tree(m, to)?,
@@ -113,12 +96,10 @@ fn step(code: &Code, body: &[Instr], m: &mut Machine) -> Result<Outcome, AllocEr
             call(code, m, fun)?;
             return Ok(Outcome::Moved);
         }
-        Instr::Return => {
-            return Ok(match leave(m) {
-                Some(word) => Outcome::Halted(word),
-                None => Outcome::Moved,
-            });
-        }
+        Instr::Return => match leave(m) {
+            Some(word) => return Ok(Outcome::Halted(word)),
+            None => return Ok(Outcome::Moved),
+        },
         Instr::Tick(n) => acts::tick(m, n),
     }
     Ok(Outcome::Made)

@@ -28,4 +28,4 @@ pub returns-clause-sound : goal.returns-clause-sound
 returns-clause-sound c =
     let x = c.args.m.now in
     let below = replaced_below (length x.heap.cells) _ _ x.stack.items _ _ _ _ c.requires.sound.stack c.number-right.ensures.items c.number-left.ensures.items c.put.ensures.items tt in
-    sound_stack _ _ _ _ _ _ _ _ c.requires.sound below
+    sound_stack x _ c.requires.sound below

@@ -1,10 +1,9 @@
-use Rattle.std.proofs.Common.{[], drop, ◌∷◌, ◌++◌, length, refl, ap, subst, sym, ◌∙◌}
+use Rattle.std.proofs.Common.{refl, subst}
 use Rattle.value_text.specs.Held.{held}
 use Rattle.stack_compile.specs.Ready.{TopIs, IsTree}
 use Rattle.stack_compile.specs.declared.instr.Instr.TheVariants as i
-use Rattle.metered_vm.specs.Running.{values_of, stack_of, frames_of, AllBelow, Sound}
-use Rattle.metered_vm.proofs.Lists.{below_snoc, below_init_is, below_last_is}
-use Rattle.metered_vm.proofs.Acting.{same, acted, popped_is, bound_one, bound_next, sound_stack, sound_locals}
+use Rattle.metered_vm.proofs.Lists.{below_last_is}
+use Rattle.metered_vm.proofs.Acting.{popped_is, bound_none, bound_next, bound_both, taken, sound_taken}
 use Rattle.metered_vm.proofs.acts.case_tree.Goals as goal
 
 pub tree_parts-requires-clause-tree : goal.tree_parts-requires-clause-tree
@@ -16,43 +15,25 @@ tree_parts-requires-clause-below c = below_last_is _ _ _ _ c.pop-word.ensures.it
 pub returns-in-Some-clause-does : goal.returns-in-Some-clause-does
 returns-in-Some-clause-does c =
     let x = c.args.m.now in
-    let hs = held x.heap.cells in
     let h = c.requires.sound in
-    let items = c.put.ensures.items ∙ ap (λ l. l ++ c.in-Some.element ∷ []) c.reserve.ensures.items in
-    let one = bound_one hs x.frames.items x.base x.locals.items _ _ items h.base h.within in
-    let two = bound_next hs x.frames.items x.base x.locals.items _ _ _ _ c.put-in-Some.ensures.items h.base one in
-    let three = bound_next hs x.frames.items x.base x.locals.items _ _ _ _ c.put-in-Some-2.ensures.items h.base two in
-    let st = popped_is hs _ _ c.pop-word.result c.pop-word.ensures.items ∙ ap (λ v. v ∷ stack_of hs c.pop-word.new.stack.items []) c.in-Some.ensures.0 in
-    acted (i.CaseTree c.args.to) x.fun.0 x.place _ _ _ _ x.ticks x.cells x.made _ st (same _ _ _ _ _ _ _ _ _ _ _ refl three.newest three.frames)
+    let two = bound_both x h _ _ _ _ _ c.reserve.ensures.items c.put.ensures.items c.put-in-Some.ensures.items c.in-Some.ensures.1 c.in-Some.ensures.2 in
+    let three = bound_next x h _ _ _ _ c.put-in-Some-2.ensures.items c.in-Some.ensures.3 two in
+    taken (i.CaseTree c.args.to) x _ _ _ _ _ _ _ c.pop-word.ensures.items c.in-Some.ensures.0 three refl
 
 pub returns-in-Some-clause-sound : goal.returns-in-Some-clause-sound
 returns-in-Some-clause-sound c =
     let x = c.args.m.now in
-    let hs = held x.heap.cells in
     let h = c.requires.sound in
-    let items = c.put.ensures.items ∙ ap (λ l. l ++ c.in-Some.element ∷ []) c.reserve.ensures.items in
-    let one = bound_one hs x.frames.items x.base x.locals.items _ _ items h.base h.within in
-    let two = bound_next hs x.frames.items x.base x.locals.items _ _ _ _ c.put-in-Some.ensures.items h.base one in
-    let three = bound_next hs x.frames.items x.base x.locals.items _ _ _ _ c.put-in-Some-2.ensures.items h.base two in
-    let n = length x.heap.cells in
-    let first = subst (AllBelow n) (sym items) (below_snoc n _ _ h.locals c.in-Some.ensures.1) in
-    let second = subst (AllBelow n) (sym c.put-in-Some.ensures.items) (below_snoc n _ _ first c.in-Some.ensures.2) in
-    let third = subst (AllBelow n) (sym c.put-in-Some-2.ensures.items) (below_snoc n _ _ second c.in-Some.ensures.3) in
-    let popped = below_init_is n _ _ _ c.pop-word.ensures.items h.stack in
-    sound_stack _ _ _ _ _ _ _ _ (sound_locals _ _ _ _ _ _ _ _ h third three.within) popped
+    let two = bound_both x h _ _ _ _ _ c.reserve.ensures.items c.put.ensures.items c.put-in-Some.ensures.items c.in-Some.ensures.1 c.in-Some.ensures.2 in
+    let three = bound_next x h _ _ _ _ c.put-in-Some-2.ensures.items c.in-Some.ensures.3 two in
+    sound_taken x h _ _ _ _ c.pop-word.ensures.items three
 
 pub returns-in-None-clause-does : goal.returns-in-None-clause-does
 returns-in-None-clause-does c =
     let x = c.args.m.now in
-    let hs = held x.heap.cells in
-    let st = popped_is hs _ _ c.pop-word.result c.pop-word.ensures.items ∙ ap (λ v. v ∷ stack_of hs c.pop-word.new.stack.items []) c.in-None.ensures in
-    let ls = ap (λ l. values_of hs l) c.reserve.ensures.items in
-    acted (i.CaseTree c.args.to) x.fun.0 x.place _ _ _ _ x.ticks x.cells x.made _ st (same _ _ _ _ _ _ _ _ _ _ _ refl (ap (drop x.base) ls) (ap (λ l. frames_of l x.frames.items []) ls))
+    taken (i.CaseTree c.args.to) x _ _ _ _ _ _ _ c.pop-word.ensures.items c.in-None.ensures (bound_none x c.requires.sound _ c.reserve.ensures.items) refl
 
 pub returns-in-None-clause-sound : goal.returns-in-None-clause-sound
 returns-in-None-clause-sound c =
     let x = c.args.m.now in
-    let h = c.requires.sound in
-    let n = length x.heap.cells in
-    let popped = below_init_is n _ _ _ c.pop-word.ensures.items h.stack in
-    subst (λ l. Sound x.heap c.pop-word.new.stack.items l x.base x.frames.items x.cells x.limit) (sym c.reserve.ensures.items) (sound_stack _ _ _ _ _ _ _ _ h popped)
+    sound_taken x c.requires.sound _ _ _ _ c.pop-word.ensures.items (bound_none x c.requires.sound _ c.reserve.ensures.items)

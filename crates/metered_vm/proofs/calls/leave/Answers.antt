@@ -57,4 +57,4 @@ returns-in-None-clause-sound c =
     let old = no_frames x.frames.items (omega (arith, c.in-None.ensures.cases, x.frames.ok.0)) in
     let new = no_frames c.pop.new.self.items (omega (arith, c.in-None.ensures.cases, c.pop.new.self.ok.0)) in
     let left = below_init_is _ _ _ _ c.pop-in-None.ensures.items c.requires.sound.stack in
-    subst (λ gs. Sound x.heap c.pop-in-None.new.stack.items x.locals.items x.base gs x.cells x.limit) (old ∙ sym new) (sound_stack _ _ _ _ _ _ _ _ c.requires.sound left)
+    subst (λ gs. Sound x.heap c.pop-in-None.new.stack.items x.locals.items x.base gs x.cells x.limit) (old ∙ sym new) (sound_stack x _ c.requires.sound left)
