@@ -1,5 +1,5 @@
 -- The worked examples, computed.
-use Rattle.std.proofs.Common.{◌≡◌, ℕ, zero, suc, Bool, true, [], ◌∷◌, Some, None, refl, sym, ◌∙◌, arith, ltb-true}
+use Rattle.std.proofs.Common.{◌≡◌, ℕ, zero, suc, Bool, true, List, [], ◌∷◌, ◌++◌, length, Some, None, refl, sym, ◌∙◌, arith, ltb-true}
 use Rattle.std.proofs.lemmas.Bool.{and_parts}
 use Rattle.std.proofs.lemmas.Str.{IsUtf8-from_ascii}
 use Rattle.std.specs.Prelude.{codes, nat_lt, ◌&&◌}
@@ -7,7 +7,7 @@ use Rattle.std.specs.Str.{IsUtf8, IsAscii}
 use Rattle.raml_syntax.specs.Tree.{Text}
 use Rattle.price_file.specs.Construct as c
 use Rattle.price_file.specs.Construct.{Construct}
-use Rattle.price_file.specs.Spelling.{SetsNothing}
+use Rattle.price_file.specs.Spelling.{Table, AreTable, Reaches, SetsNothing, lines_of}
 use Rattle.price_file.specs.Reading.{entry_of}
 use Rattle.price_file.specs.Example.{Examples}
 use Rattle.price_file.proofs.Entries.{is_set, is_read}
@@ -30,6 +30,16 @@ ascii_at (byte ∷ bytes) e (suc i) = ascii_at bytes (and_parts (nat_lt byte 128
 text : (bytes : Text) → all_ascii bytes ≡ true → IsUtf8 bytes
 text bytes e = IsUtf8-from_ascii bytes (ascii_at bytes e)
 
+-- the line behind these is reached
+reached : (bytes : Text) (table : Table) (before : List Text) (line : Text) (behind : List Text) → all_ascii bytes ≡ true → lines_of bytes ≡ before ++ line ∷ behind → AreTable before table → Reaches bytes (suc (length before)) table line
+reached bytes table before line behind ascii are lists = record { utf8 = text bytes ascii; before = before; behind = behind; are = are; counted = refl; lists = lists }
+
+no_table : AreTable [] []
+no_table = record { set = tt; once = tt }
+
+cons_one : AreTable (codes "cons 1" ∷ []) ((c.Cons, 1) ∷ [])
+cons_one = record { set = (is_set (codes "cons 1") c.Cons 1 refl, tt); once = (refl, tt) }
+
 pub examples_hold : Examples
 examples_hold = record {
   no_lines = refl;
@@ -47,87 +57,20 @@ examples_hold = record {
     utf8 = text (codes "call 0000000\n") refl;
     lines = record { set = (is_set (codes "call 0000000") c.Call 0 refl, tt); once = (refl, tt) };
   };
-  above = (
-    [],
-    codes "call 1000001",
-    record {
-      utf8 = text (codes "call 1000001\n") refl;
-      before = [];
-      behind = [];
-      are = refl;
-      counted = refl;
-      lists = record { set = tt; once = tt };
-    },
-    sets_nothing (codes "call 1000001") refl,
-  );
-  eight_digits = (
-    (c.Cons, 1) ∷ [],
-    codes "call 00000001",
-    record {
-      utf8 = text (codes "cons 1\ncall 00000001") refl;
-      before = codes "cons 1" ∷ [];
-      behind = [];
-      are = refl;
-      counted = refl;
-      lists = record { set = (is_set (codes "cons 1") c.Cons 1 refl, tt); once = (refl, tt) };
-    },
-    sets_nothing (codes "call 00000001") refl,
-  );
-  carriage_return = (
-    [],
-    codes "call 1\r",
-    record {
-      utf8 = text (codes "call 1\r\n") refl;
-      before = [];
-      behind = [];
-      are = refl;
-      counted = refl;
-      lists = record { set = tt; once = tt };
-    },
-    sets_nothing (codes "call 1\r") refl,
-  );
-  nothing_behind = (
-    (c.Cons, 1) ∷ [],
-    [],
-    record {
-      utf8 = text (codes "cons 1\n\n") refl;
-      before = codes "cons 1" ∷ [];
-      behind = [];
-      are = refl;
-      counted = refl;
-      lists = record { set = (is_set (codes "cons 1") c.Cons 1 refl, tt); once = (refl, tt) };
-    },
-    sets_nothing [] refl,
-  );
+  above = ([], codes "call 1000001", reached (codes "call 1000001\n") _ [] (codes "call 1000001") [] refl refl no_table, sets_nothing (codes "call 1000001") refl);
+  eight_digits = ((c.Cons, 1) ∷ [], codes "call 00000001", reached (codes "cons 1\ncall 00000001") _ (codes "cons 1" ∷ []) (codes "call 00000001") [] refl refl cons_one, sets_nothing (codes "call 00000001") refl);
+  carriage_return = ([], codes "call 1\r", reached (codes "call 1\r\n") _ [] (codes "call 1\r") [] refl refl no_table, sets_nothing (codes "call 1\r") refl);
+  nothing_behind = ((c.Cons, 1) ∷ [], [], reached (codes "cons 1\n\n") _ (codes "cons 1" ∷ []) [] [] refl refl cons_one, sets_nothing [] refl);
   twice = (
     (c.Cons, 0) ∷ (c.Let, 1) ∷ [],
     codes "cons 2",
-    record {
-      utf8 = text (codes "cons 0\nlet 1\ncons 2\ncall") refl;
-      before = codes "cons 0" ∷ codes "let 1" ∷ [];
-      behind = codes "call" ∷ [];
-      are = refl;
-      counted = refl;
-      lists = record {
-        set = (is_set (codes "cons 0") c.Cons 0 refl, (is_set (codes "let 1") c.Let 1 refl, tt));
-        once = (refl, (refl, tt));
-      };
-    },
+    reached (codes "cons 0\nlet 1\ncons 2\ncall") _ (codes "cons 0" ∷ codes "let 1" ∷ []) (codes "cons 2") (codes "call" ∷ []) refl refl (record {
+      set = (is_set (codes "cons 0") c.Cons 0 refl, (is_set (codes "let 1") c.Let 1 refl, tt));
+      once = (refl, (refl, tt));
+    }),
     record { construct = c.Cons; price = 2; sets = is_set (codes "cons 2") c.Cons 2 refl; again = refl },
   );
-  shape_before_twice = (
-    (c.Cons, 1) ∷ [],
-    codes "cons x",
-    record {
-      utf8 = text (codes "cons 1\ncons x\ncons 1\n") refl;
-      before = codes "cons 1" ∷ [];
-      behind = codes "cons 1" ∷ [];
-      are = refl;
-      counted = refl;
-      lists = record { set = (is_set (codes "cons 1") c.Cons 1 refl, tt); once = (refl, tt) };
-    },
-    sets_nothing (codes "cons x") refl,
-  );
+  shape_before_twice = ((c.Cons, 1) ∷ [], codes "cons x", reached (codes "cons 1\ncons x\ncons 1\n") _ (codes "cons 1" ∷ []) (codes "cons x") (codes "cons 1" ∷ []) refl refl cons_one, sets_nothing (codes "cons x") refl);
   append_costs_nine = refl;
   cut_keeps_prices = refl;
   nothing_after_cut = refl;
