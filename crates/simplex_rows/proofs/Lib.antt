@@ -26,6 +26,7 @@ mod ManyChanging
 mod ManyListing
 mod ManyDividing
 mod ManyReaching
+mod Narrowing
 mod ManyCombining
 pub mod Pushing
 pub mod Likewise

@@ -26,7 +26,7 @@ part_whole (negsuc m) g e = negative_part (suc m / g) g (suc m) e
 spread : (p : ℤ) (g e : ℕ) → p *ℤ pos (g * e) ≡ (p *ℤ pos g) *ℤ pos e
 spread p g e = rw (is_diff p) (simp (diffs, diff-pos) (diff_same _ _ _ _ (omega arith)))
 
-crossed : (p n : ℤ) (d e g : ℕ) → p *ℤ pos g ≡ n → g * e ≡ d → p *ℤ pos d ≡ n *ℤ pos e
+pub crossed : (p n : ℤ) (d e g : ℕ) → p *ℤ pos g ≡ n → g * e ≡ d → p *ℤ pos d ≡ n *ℤ pos e
 crossed p n d e g h k = rw (← h, ← k) (spread p g e)
 
 over_where_is : (n : ℤ) (d : ℕ) (b : Bool) (e : are_parts (unsigned_abs n) d ≡ b) → b ≡ true → numerator (over_where n d b e) *ℤ pos d ≡ n *ℤ pos (denominator (over_where n d b e))

@@ -1,5 +1,6 @@
 pub mod Entries
 pub mod Merging
+pub mod Narrowing
 pub mod Dividing
 pub mod Sweeping
 pub mod ShortRows

@@ -58,7 +58,8 @@ impl FewRow {
     /// The row of these numbers, each behind its column, over a denominator.
     pub(crate) fn from_parts(entries: Vec<(u32, i64)>, den: i64, bound: i64) -> FewRow
         requires { IsShort (record { numbers = entries.items; den = den; bound = bound }) }
-        ensures { result ≡ record { numbers = entries.items; den = den; bound = bound } }
+        ensures parts { result ≡ record { numbers = entries.items; den = den; bound = bound } }
+        ensures short { IsShort result }
     {
         FewRow {
             entries,

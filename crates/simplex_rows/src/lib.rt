@@ -8,6 +8,7 @@ mod few;
 mod few_dividing;
 mod few_merging;
 mod many;
+mod narrow;
 mod numbers;
 mod places;
 mod rest;

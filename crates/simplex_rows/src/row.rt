@@ -9,6 +9,7 @@ ghost use Rattle.simplex_rows.specs.Sweeping.{AddsWhole, IsSwept, SweepLeaves, S
 
 use crate::fault::RowFault;
 use crate::few::FewRow;
+use crate::narrow::narrowed;
 use crate::scratch::RowScratch;
 use crate::short::ShortNumbers;
 use crate::wide::WideRow;
@@ -161,10 +162,12 @@ impl FracRow {
             }
             Numbers::Wide(row) => {
                 let row = row.over_its(column)?;
-                Ok(FracRow {
+                let mut row = FracRow {
                     alloc,
                     numbers: Numbers::Wide(row),
-                })
+                };
+                row.narrow()?;
+                Ok(row)
             }
         }
     }
@@ -185,16 +188,12 @@ impl FracRow {
         if self.sweep_short(column, lead, most, scratch)? {
             return Ok(());
         }
-        match &lead.numbers {
-            Numbers::Short(lead) => {
-                let lead = lead.widened(self.alloc)?;
-                self.sweep_wide(column, &lead, scratch)
-            }
-            Numbers::Wide(lead) => self.sweep_wide(column, lead, scratch),
-        }
+        self.sweep_fractions(column, lead, scratch)?;
+        self.narrow()?;
+        Ok(())
     }
 
-    /// The same, and says so, where the row and the lead are short and the lead a list, and all stays so.
+    /// Does that and says so where the row and the lead are short, the lead is a list, and all stays short.
     fn sweep_short(
         &mut self,
         column: u32,
@@ -217,7 +216,27 @@ impl FracRow {
         }
     }
 
-    /// The same by a lead of any fractions, as any fractions.
+    /// Takes the row's fraction at a column times the lead from it, as fractions.
+    fn sweep_fractions(
+        &mut self,
+        column: u32,
+        lead: &FracRow,
+        scratch: &mut RowScratch,
+    ) -> Result<(), RowFault>
+        ensures swept { OnOk result (IsSwept column lead.now self.old self.new) }
+        ensures leaves { (c : ℕ) → result ≡ Err (RowFault.Leaves c) → SweepLeaves column c lead.now self.old }
+        ensures touched { (c : ℕ) → result ≡ Err (RowFault.Leaves c) → numerator (at column self.old) ≢ pos 0 }
+    {
+        match &lead.numbers {
+            Numbers::Short(lead) => {
+                let lead = lead.widened(self.alloc)?;
+                self.sweep_wide(column, &lead, scratch)
+            }
+            Numbers::Wide(lead) => self.sweep_wide(column, lead, scratch),
+        }
+    }
+
+    /// Takes the row's fraction at a column times a lead of any fractions from it.
     fn sweep_wide(
         &mut self,
         column: u32,
@@ -237,5 +256,17 @@ impl FracRow {
             }
             Numbers::Wide(row) => row.sweep(column, lead, &mut scratch.wide),
         }
+    }
+    /// Keeps whole numbers of 63 bits over one denominator where all fractions are such.
+    fn narrow(&mut self) -> Result<(), AllocError>
+        ensures { OnOk result (SameFractions self.old self.new) }
+    {
+        let Numbers::Wide(row) = &self.numbers else {
+            return Ok(());
+        };
+        if let Some(row) = narrowed(self.alloc, row)? {
+            self.numbers = Numbers::Short(ShortNumbers::Few(row));
+        }
+        Ok(())
     }
 }

@@ -14,7 +14,7 @@ returns-in_err-sweep-in-Short-clause-leaves c k e =
 
 pub returns-in_ok-sweep-in-Short-clause-swept : goal.returns-in_ok-sweep-in-Short-clause-swept
 returns-in_ok-sweep-in-Short-clause-swept c =
-    rw (← c.self.view_is, c.in-Short.is) (swept_as c.args.column c.args.lead.now c.args.lead.now (fractions_of (row_of c.in-Short.row)) c.in_ok-wide-in-Short.wide c.sweep.new.self (same_entries c.args.lead.now) c.in_ok-wide-in-Short.ensures.same c.in_ok-sweep-in-Short.ensures.swept)
+    rw (← c.self.view_is, c.in-Short.is) (swept_as c.args.column c.args.lead.now c.args.lead.now (fractions_of (row_of c.in-Short.row)) c.in_ok-wide-in-Short.wide c.sweep.new.self c.sweep.new.self (same_entries c.args.lead.now) c.in_ok-wide-in-Short.ensures.same (same_entries c.sweep.new.self) c.in_ok-sweep-in-Short.ensures.swept)
 
 pub returns-in-Wide-clause-leaves : goal.returns-in-Wide-clause-leaves
 returns-in-Wide-clause-leaves c k e = rw (← c.self.view_is, c.in-Wide.is) (c.sweep-in-Wide.ensures.leaves k e)
