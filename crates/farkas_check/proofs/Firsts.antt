@@ -59,7 +59,7 @@ never_yes [] h = h
 never_yes (k ∷ ks) (inl f) = f
 never_yes (k ∷ ks) (inr q) = never_yes ks q.1
 
-pub verdict_of : (ks : List Check) (o : Option Verdict) → FirstFaultOf ks o → IsVerdict ks (unwrap_or o Yes)
+verdict_of : (ks : List Check) (o : Option Verdict) → FirstFaultOf ks o → IsVerdict ks (unwrap_or o Yes)
 verdict_of ks None h = h
 verdict_of ks (Some Yes) h = absurd (never_yes ks h)
 verdict_of ks (Some (No c)) h = h
@@ -84,13 +84,20 @@ yes_at ks Yes h m f = refl
 yes_at ks (No c) h m f = absurd (never_no ks c m h)
 yes_at ks (Leaves c) h m f = absurd (never_leaves ks c f h)
 
--- where the demands are met exactly where P holds, the verdict is Yes exactly where P holds and the totals fit
-pub yes_where : (ks : List Check) (v : Verdict) (P : Type 0) → (EachMeets ks ↔ P) → IsVerdict ks v → (v ≡ Yes ↔ P × EachFits ks)
-yes_where ks v P met h = (λ e. let q = passing_both ks (subst (IsVerdict ks) e h) in (met.0 q.0, q.1), λ p. yes_at ks v h (met.1 p.0) p.1)
+-- Where the demands are met exactly where P holds: the verdict is Yes exactly where P holds and the totals fit, and never No where P holds.
+pub record Says (ks : List Check) (P : Type 0) (v : Verdict) : Type 0 where
+  pub first : IsVerdict ks v
+  pub yes : v ≡ Yes ↔ P × EachFits ks
+  pub no : (c : ℕ) → v ≡ No c → P → ⊥
 
--- and never No where P holds
-pub no_where : (ks : List Check) (v : Verdict) (P : Type 0) → (EachMeets ks ↔ P) → IsVerdict ks v → (c : ℕ) → v ≡ No c → P → ⊥
-no_where ks v P met h c e p = never_no ks c (met.1 p) (subst (IsVerdict ks) e h)
+pub says : (ks : List Check) (P : Type 0) (o : Option Verdict) (v : Verdict) → (EachMeets ks ↔ P) → FirstFaultOf ks o → v ≡ unwrap_or o Yes → Says ks P v
+says ks P o v met h e =
+    let first = subst (IsVerdict ks) (sym e) (verdict_of ks o h) in
+    record {
+      first = first;
+      yes = (λ y. let q = passing_both ks (subst (IsVerdict ks) y first) in (met.0 q.0, q.1), λ p. yes_at ks v first (met.1 p.0) p.1);
+      no = λ c n p. never_no ks c (met.1 p) (subst (IsVerdict ks) n first);
+    }
 
 fails_not : (k : Check) (v : Verdict) → Passes k → IsFault k v → ⊥
 fails_not k Yes p f = f

@@ -86,11 +86,14 @@ fn of_all_columns(alloc: Global, system: &System, y: &[i128]) -> Result<Option<V
     Ok(None)
 }
 
-/// Of `y A`, by the totals of all columns where there is memory for them.
-fn of_columns_quickly(alloc: Global, system: &System, y: &[i128]) -> Option<Verdict>
+/// Of `y A`, by the totals of all columns where there is an allocator with memory for them.
+fn of_columns_with(alloc: Option<Global>, system: &System, y: &[i128]) -> Option<Verdict>
     requires { length y.now ≡ length system.now.rows }
     ensures { FirstFaultOf (refuting_columns 0 system.now.unknowns system.now.rows y.now) result }
 {
+    let Some(alloc) = alloc else {
+        return of_columns(system, y);
+    };
     match of_all_columns(alloc, system, y) {
         Ok(fault) => fault,
         Err(_) => of_columns(system, y),
@@ -144,9 +147,10 @@ fn of_all_dual_columns(
     Ok(None)
 }
 
-/// Of `y A` less `scale` times the weights, by the totals of all columns where there is memory for them.
-fn of_dual_columns_quickly(
-    alloc: Global,
+/// Of `y A` less `scale` times the weights, by the totals of all columns where there is an allocator with
+/// memory for them.
+fn of_dual_columns_with(
+    alloc: Option<Global>,
     system: &System,
     y: &[i128],
     scale: i128,
@@ -156,6 +160,9 @@ fn of_dual_columns_quickly(
     requires sound { IsSystem system.now }
     ensures { FirstFaultOf (dual_columns 0 system.now.weights system.now.rows y.now scale) result }
 {
+    let Some(alloc) = alloc else {
+        return of_dual_columns(system, y, scale);
+    };
     match of_all_dual_columns(alloc, system, y, scale) {
         Ok(fault) => fault,
         Err(_) => of_dual_columns(system, y, scale),
@@ -212,53 +219,23 @@ fn of_sums(system: &System, x: &[i128], y: &[i128]) -> Option<Verdict>
     of_check(sum_totals(system, x, y), Asked::Zero, system.unknowns())
 }
 
-/// Of `y`, which is to refute the system.
-pub(crate) fn of_refuting(system: &System, y: &[i128]) -> Option<Verdict>
+/// Of `y`, which is to refute the system. With an allocator it is quick, where there is memory for a total
+/// of each column.
+pub(crate) fn of_refuting(alloc: Option<Global>, system: &System, y: &[i128]) -> Option<Verdict>
     requires { length y.now ≡ length system.now.rows }
     ensures { FirstFaultOf (refuting system.now y.now) result }
 {
-    let fault = of_columns(system, y);
+    let fault = of_columns_with(alloc, system, y);
     if fault.is_some() {
         return fault;
     }
     of_right_sides(system, y)
 }
 
-/// As `of_refuting`, and quick where there is memory for a total of each column.
-pub(crate) fn of_refuting_quickly(alloc: Global, system: &System, y: &[i128]) -> Option<Verdict>
-    requires { length y.now ≡ length system.now.rows }
-    ensures { FirstFaultOf (refuting system.now y.now) result }
-{
-    let fault = of_columns_quickly(alloc, system, y);
-    if fault.is_some() {
-        return fault;
-    }
-    of_right_sides(system, y)
-}
-
-/// Of `x` and `y`, which are to prove the weighted sum of `x` least.
-pub(crate) fn of_least(system: &System, x: &[i128], y: &[i128], scale: i128) -> Option<Verdict>
-    requires each_unknown { length x.now ≡ system.now.unknowns }
-    requires each_row { length y.now ≡ length system.now.rows }
-    requires natural { NoneNegative x.now }
-    requires positive { pos 0 <ℤ scale }
-    ensures first { FirstFaultOf (proving_least system.now x.now y.now scale) result }
-    ensures sound { IsSystem system.now }
-{
-    let rows = of_rows(system, x, scale);
-    if rows.is_some() {
-        return rows;
-    }
-    let columns = of_dual_columns(system, y, scale);
-    if columns.is_some() {
-        return columns;
-    }
-    of_sums(system, x, y)
-}
-
-/// As `of_least`, and quick where there is memory for a total of each column.
-pub(crate) fn of_least_quickly(
-    alloc: Global,
+/// Of `x` and `y`, which are to prove the weighted sum of `x` least. With an allocator it is quick, where
+/// there is memory for a total of each column.
+pub(crate) fn of_least(
+    alloc: Option<Global>,
     system: &System,
     x: &[i128],
     y: &[i128],
@@ -275,7 +252,7 @@ pub(crate) fn of_least_quickly(
     if rows.is_some() {
         return rows;
     }
-    let columns = of_dual_columns_quickly(alloc, system, y, scale);
+    let columns = of_dual_columns_with(alloc, system, y, scale);
     if columns.is_some() {
         return columns;
     }

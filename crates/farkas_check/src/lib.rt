@@ -34,7 +34,7 @@ pub fn refutes(system: &System, y: &[i128]) -> Verdict
     ensures yes { result ≡ Verdict.Yes ↔ (Refutes system.now y.now × EachFits (refuting system.now y.now)) }
     ensures no { (c : ℕ) → result ≡ Verdict.No c → Refutes system.now y.now → ⊥ }
 {
-    fault::of_refuting(system, y).unwrap_or(Verdict::Yes)
+    fault::of_refuting(None, system, y).unwrap_or(Verdict::Yes)
 }
 
 /// What `refutes` answers. Where there is memory for a total of each column, one walk over the rows is
@@ -47,7 +47,7 @@ pub fn refutes_quickly(alloc: Global, system: &System, y: &[i128]) -> Verdict
     ensures yes { result ≡ Verdict.Yes ↔ (Refutes system.now y.now × EachFits (refuting system.now y.now)) }
     ensures no { (c : ℕ) → result ≡ Verdict.No c → Refutes system.now y.now → ⊥ }
 {
-    fault::of_refuting_quickly(alloc, system, y).unwrap_or(Verdict::Yes)
+    fault::of_refuting(Some(alloc), system, y).unwrap_or(Verdict::Yes)
 }
 
 /// Whether `x` over `scale`, a number for each unknown, is a least solution of the system, since `y`
@@ -62,7 +62,7 @@ pub fn least(system: &System, x: &[i128], y: &[i128], scale: i128) -> Verdict
     ensures yes { result ≡ Verdict.Yes ↔ (ProvesLeast system.now x.now y.now scale × EachFits (proving_least system.now x.now y.now scale)) }
     ensures no { (c : ℕ) → result ≡ Verdict.No c → ProvesLeast system.now x.now y.now scale → ⊥ }
 {
-    fault::of_least(system, x, y, scale).unwrap_or(Verdict::Yes)
+    fault::of_least(None, system, x, y, scale).unwrap_or(Verdict::Yes)
 }
 
 /// What `least` answers. Where there is memory for a total of each column, one walk over the rows is
@@ -78,5 +78,5 @@ pub fn least_quickly(alloc: Global, system: &System, x: &[i128], y: &[i128], sca
     ensures yes { result ≡ Verdict.Yes ↔ (ProvesLeast system.now x.now y.now scale × EachFits (proving_least system.now x.now y.now scale)) }
     ensures no { (c : ℕ) → result ≡ Verdict.No c → ProvesLeast system.now x.now y.now scale → ⊥ }
 {
-    fault::of_least_quickly(alloc, system, x, y, scale).unwrap_or(Verdict::Yes)
+    fault::of_least(Some(alloc), system, x, y, scale).unwrap_or(Verdict::Yes)
 }

@@ -1,18 +1,9 @@
-use Rattle.farkas_check.specs.Checks.{refuting}
 use Rattle.linear_rows.specs.Systems.{Refutes}
-use Rattle.farkas_check.proofs.Firsts.{verdict_of, yes_where, no_where}
+use Rattle.farkas_check.proofs.Firsts.{says}
 use Rattle.farkas_check.proofs.Meaning.{refutes_met}
 use Rattle.farkas_check.proofs.refutes.Goals as goal
 
-pub returns-clause-first : goal.returns-clause-first
-returns-clause-first c = rw c.unwrap_or.ensures (verdict_of _ _ c.of_refuting.ensures)
-
-pub returns-clause-yes : goal.returns-clause-yes
-returns-clause-yes c =
-    rw c.unwrap_or.ensures
-    (yes_where (refuting c.args.system.now c.args.y.now) _ (Refutes c.args.system.now c.args.y.now) (refutes_met _ _ c.requires.one_each c.requires.natural) (verdict_of _ _ c.of_refuting.ensures))
-
-pub returns-clause-no : goal.returns-clause-no
-returns-clause-no c =
-    rw c.unwrap_or.ensures
-    (no_where (refuting c.args.system.now c.args.y.now) _ (Refutes c.args.system.now c.args.y.now) (refutes_met _ _ c.requires.one_each c.requires.natural) (verdict_of _ _ c.of_refuting.ensures))
+pub returns : goal.returns
+returns c =
+    let s = says _ (Refutes c.args.system.now c.args.y.now) _ c.unwrap_or.result (refutes_met _ _ c.requires.one_each c.requires.natural) c.of_refuting.ensures c.unwrap_or.ensures in
+    record { first = s.first; yes = s.yes; no = s.no }

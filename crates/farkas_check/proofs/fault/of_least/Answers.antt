@@ -12,11 +12,11 @@ returns-then-is_some-clause-first c =
 pub returns-then-is_some-2-clause-first : goal.returns-then-is_some-2-clause-first
 returns-then-is_some-2-clause-first c =
     let rows = simp (to_z-of_z w128 _ c.ranges.scale) at c.of_rows-rows.ensures.first in
-    let columns = simp (to_z-of_z w128 _ c.ranges.scale) at c.of_dual_columns-columns.ensures in
+    let columns = simp (to_z-of_z w128 _ c.ranges.scale) at c.of_dual_columns_with-columns.ensures in
     found_next _ _ _ _ (sym c.if-is_some.ensures) rows (found_first _ _ _ (sym c.if-is_some-2.ensures) columns)
 
 pub returns-clause-first : goal.returns-clause-first
 returns-clause-first c =
     let rows = simp (to_z-of_z w128 _ c.ranges.scale) at c.of_rows-rows.ensures.first in
-    let columns = simp (to_z-of_z w128 _ c.ranges.scale) at c.of_dual_columns-columns.ensures in
+    let columns = simp (to_z-of_z w128 _ c.ranges.scale) at c.of_dual_columns_with-columns.ensures in
     found_next _ _ _ _ (sym c.if-is_some.ensures) rows (found_next _ _ _ _ (sym c.if-is_some-2.ensures) columns (single _ _ c.of_sums.ensures))
