@@ -1,13 +1,14 @@
 -- What `clap` finds in ordered words.
-use Rattle.std.specs.Prelude.{◌≡◌, Bool, true, false, cond, List, [], ◌∷◌, Option, Some, None, codes}
+use Rattle.std.specs.Prelude.{◌≡◌, Bool, true, false, cond, List, [], ◌∷◌, Option, Some, None, Result, Ok, Err, codes}
 use Rattle.std.specs.Borrow.{Bor}
 use Rattle.clap.specs.Kinds.{Kinds}
 use Rattle.clap.specs.Walk.{first_of}
 use Rattle.clap.specs.Simple.{App, matches_of}
 use Rattle.clap.specs.Faults.{fault_of}
-use Rattle.clap.specs.Matches.{first_value}
+use Rattle.clap.specs.Matches.{found_of, first_value}
 use Rattle.clap.specs.declared.error.kind.ErrorKind.{ErrorKind}
 use Rattle.clap.specs.declared.error.kind.ErrorKind.TheVariants as kind
+use Rattle.clap.specs.declared.parser.matches.ArgMatches.{ArgMatches}
 use Rattle.clap.specs.declared.parser.matches.Found.{Found}
 use Rattle.raml_words.specs.Words.{Text}
 use Rattle.raml_words.specs.Sorting.{lent, both}
@@ -33,6 +34,12 @@ found app words id = first_of id (matches_of app words)
 abbrev pub Refuses : ErrorKind → WordsFault → Type 0
 Refuses k NoMemory = Unit {0}
 Refuses k Usage = k ≡ kind.OutOfMemory → ⊥
+
+-- what is found where the command takes the words, or that it does not take them, unless memory was missing
+abbrev pub Finds : App → List Text → Result ArgMatches WordsFault → Type 0
+Finds app words (Ok m) = (is_taken app words ≡ true) × (found app words ≡ first_value (found_of m))
+Finds app words (Err Usage) = is_taken app words ≡ false
+Finds app words (Err NoMemory) = Unit {0}
 
 -- what a command makes of the values that are found, by their names, where the words are taken
 abbrev pub taken_as : {A : Type 0} → App → ((Text → Option Text) → Option A) → List Text → Option A

@@ -1,10 +1,12 @@
 // What `clap` finds in ordered words.
-ghost use Rattle.std.specs.Prelude.{◌≡◌, map, option_map, string_bytes};
+ghost use Rattle.std.specs.Prelude.{◌≡◌, true, map, option_map, string_bytes};
 ghost use Rattle.clap.specs.Values.{kind_of};
 ghost use Rattle.clap.specs.Matches.{found_of};
+ghost use Rattle.clap.specs.Simple.{app_of};
+ghost use Rattle.clap.specs.Faults.{is_simple_and_free};
 ghost use Rattle.raml_words.specs.Sorting.{lent, lent_parts};
 ghost use Rattle.raml_words.specs.Apps.{one_app, two_app, count_app, bounds_app, run_app, file_degree_app, files_degree_app, spend_app};
-ghost use Rattle.raml_words.specs.Clapped.{now_of, taken_as, one_text, two_texts, count_text, bounds_texts, run_texts, values_in, pair_of, bounds_texts_of, run_texts_of, degree_texts, files_texts_of, spend_texts, spend_texts_of, Refuses};
+ghost use Rattle.raml_words.specs.Clapped.{now_of, taken_as, one_text, two_texts, count_text, bounds_texts, run_texts, values_in, pair_of, bounds_texts_of, run_texts_of, degree_texts, files_texts_of, spend_texts, spend_texts_of, Finds, Refuses};
 ghost use Rattle.raml_words.specs.Asked.{Tells};
 
 use crate::commands::{
@@ -13,7 +15,7 @@ use crate::commands::{
 };
 use crate::request::WordsFault;
 use clap::error::ErrorKind;
-use clap::{ArgMatches, Error};
+use clap::{ArgMatches, Command, Error};
 use std::alloc::Global;
 
 fn fault_of(error: &Error) -> WordsFault
@@ -26,18 +28,22 @@ fn fault_of(error: &Error) -> WordsFault
     }
 }
 
+/// What a command finds in words.
+fn matches_of<'a>(command: Command<'a>, words: &'a [String]) -> Result<ArgMatches<'a>, WordsFault>
+    ensures { is_simple_and_free (app_of command.entry) ≡ true → Finds (app_of command.entry) (map string_bytes words.now) result }
+{
+    match command.try_get_matches_from(words) {
+        Ok(matches) => Ok(matches),
+        Err(error) => Err(fault_of(&error)),
+    }
+}
+
 /// The one operand of ordered words.
 pub fn one_matches<'a>(alloc: Global, words: &'a [String]) -> Result<&'a str, WordsFault>
     ensures { Tells now_of result (taken_as one_app one_text (map string_bytes words.now)) }
 {
-    let command = one_command(alloc)?;
-    match command.try_get_matches_from(words) {
-        Ok(matches) => match one_text(&matches) {
-            Some(found) => Ok(found),
-            None => Err(WordsFault::Usage),
-        },
-        Err(error) => Err(fault_of(&error)),
-    }
+    let matches = matches_of(one_command(alloc)?, words)?;
+    one_text(&matches).ok_or(WordsFault::Usage)
 }
 
 fn one_text<'a>(matches: &ArgMatches<'a>) -> Option<&'a str>
@@ -50,14 +56,8 @@ fn one_text<'a>(matches: &ArgMatches<'a>) -> Option<&'a str>
 pub fn two_matches<'a>(alloc: Global, words: &'a [String]) -> Result<(&'a str, &'a str), WordsFault>
     ensures { Tells pair_of result (taken_as two_app two_texts (map string_bytes words.now)) }
 {
-    let command = two_command(alloc)?;
-    match command.try_get_matches_from(words) {
-        Ok(matches) => match two_texts(&matches) {
-            Some(found) => Ok(found),
-            None => Err(WordsFault::Usage),
-        },
-        Err(error) => Err(fault_of(&error)),
-    }
+    let matches = matches_of(two_command(alloc)?, words)?;
+    two_texts(&matches).ok_or(WordsFault::Usage)
 }
 
 fn two_texts<'a>(matches: &ArgMatches<'a>) -> Option<(&'a str, &'a str)>
@@ -72,14 +72,8 @@ fn two_texts<'a>(matches: &ArgMatches<'a>) -> Option<(&'a str, &'a str)>
 pub fn count_matches<'a>(alloc: Global, words: &'a [String]) -> Result<&'a str, WordsFault>
     ensures { Tells now_of result (taken_as count_app count_text (map string_bytes words.now)) }
 {
-    let command = count_command(alloc)?;
-    match command.try_get_matches_from(words) {
-        Ok(matches) => match count_text(&matches) {
-            Some(found) => Ok(found),
-            None => Err(WordsFault::Usage),
-        },
-        Err(error) => Err(fault_of(&error)),
-    }
+    let matches = matches_of(count_command(alloc)?, words)?;
+    count_text(&matches).ok_or(WordsFault::Usage)
 }
 
 fn count_text<'a>(matches: &ArgMatches<'a>) -> Option<&'a str>
@@ -100,14 +94,8 @@ pub struct BoundsTexts<'a> {
 pub fn bounds_matches<'a>(alloc: Global, words: &'a [String]) -> Result<BoundsTexts<'a>, WordsFault>
     ensures { Tells bounds_texts_of result (taken_as bounds_app bounds_texts (map string_bytes words.now)) }
 {
-    let command = bounds_command(alloc)?;
-    match command.try_get_matches_from(words) {
-        Ok(matches) => match bounds_texts(&matches) {
-            Some(found) => Ok(found),
-            None => Err(WordsFault::Usage),
-        },
-        Err(error) => Err(fault_of(&error)),
-    }
+    let matches = matches_of(bounds_command(alloc)?, words)?;
+    bounds_texts(&matches).ok_or(WordsFault::Usage)
 }
 
 fn bounds_texts<'a>(matches: &ArgMatches<'a>) -> Option<BoundsTexts<'a>>
@@ -137,14 +125,8 @@ pub struct RunTexts<'a> {
 pub fn run_matches<'a>(alloc: Global, words: &'a [String]) -> Result<RunTexts<'a>, WordsFault>
     ensures { Tells run_texts_of result (taken_as run_app run_texts (map string_bytes words.now)) }
 {
-    let command = run_command(alloc)?;
-    match command.try_get_matches_from(words) {
-        Ok(matches) => match run_texts(&matches) {
-            Some(found) => Ok(found),
-            None => Err(WordsFault::Usage),
-        },
-        Err(error) => Err(fault_of(&error)),
-    }
+    let matches = matches_of(run_command(alloc)?, words)?;
+    run_texts(&matches).ok_or(WordsFault::Usage)
 }
 
 fn run_texts<'a>(matches: &ArgMatches<'a>) -> Option<RunTexts<'a>>
@@ -170,14 +152,8 @@ pub fn file_degree_matches<'a>(
 ) -> Result<(&'a str, &'a str), WordsFault>
     ensures { Tells pair_of result (taken_as file_degree_app (degree_texts one_text) (map string_bytes words.now)) }
 {
-    let command = file_degree_command(alloc)?;
-    match command.try_get_matches_from(words) {
-        Ok(matches) => match file_degree_texts(&matches) {
-            Some(found) => Ok(found),
-            None => Err(WordsFault::Usage),
-        },
-        Err(error) => Err(fault_of(&error)),
-    }
+    let matches = matches_of(file_degree_command(alloc)?, words)?;
+    file_degree_texts(&matches).ok_or(WordsFault::Usage)
 }
 
 fn file_degree_texts<'a>(matches: &ArgMatches<'a>) -> Option<(&'a str, &'a str)>
@@ -203,14 +179,8 @@ pub fn files_degree_matches<'a>(
 ) -> Result<FilesTexts<'a>, WordsFault>
     ensures { Tells files_texts_of result (taken_as files_degree_app (degree_texts two_texts) (map string_bytes words.now)) }
 {
-    let command = files_degree_command(alloc)?;
-    match command.try_get_matches_from(words) {
-        Ok(matches) => match files_degree_texts(&matches) {
-            Some(found) => Ok(found),
-            None => Err(WordsFault::Usage),
-        },
-        Err(error) => Err(fault_of(&error)),
-    }
+    let matches = matches_of(files_degree_command(alloc)?, words)?;
+    files_degree_texts(&matches).ok_or(WordsFault::Usage)
 }
 
 fn files_degree_texts<'a>(matches: &ArgMatches<'a>) -> Option<FilesTexts<'a>>
@@ -241,14 +211,8 @@ pub struct SpendTexts<'a> {
 pub fn spend_matches<'a>(alloc: Global, words: &'a [String]) -> Result<SpendTexts<'a>, WordsFault>
     ensures { Tells spend_texts_of result (taken_as spend_app spend_texts (map string_bytes words.now)) }
 {
-    let command = spend_command(alloc)?;
-    match command.try_get_matches_from(words) {
-        Ok(matches) => match spend_texts(&matches) {
-            Some(found) => Ok(found),
-            None => Err(WordsFault::Usage),
-        },
-        Err(error) => Err(fault_of(&error)),
-    }
+    let matches = matches_of(spend_command(alloc)?, words)?;
+    spend_texts(&matches).ok_or(WordsFault::Usage)
 }
 
 fn spend_texts<'a>(matches: &ArgMatches<'a>) -> Option<SpendTexts<'a>>

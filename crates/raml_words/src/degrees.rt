@@ -40,10 +40,8 @@ pub fn read_file_degree(
 ) -> Result<FileDegree, WordsFault>
     ensures { Tells file_degree_of result (given_degree one_of (texts rest.now)) }
 {
-    match Given::of(alloc, rest, &["degree"]) {
-        Ok(given) => file_degree_given(alloc, command, &given),
-        Err(fault) => Err(fault),
-    }
+    let given = Given::of(alloc, rest, &["degree"])?;
+    file_degree_given(alloc, command, &given)
 }
 
 fn file_degree_given(alloc: Global, command: &str, given: &Given) -> Result<FileDegree, WordsFault>
@@ -84,10 +82,8 @@ pub fn read_files_degree(
 ) -> Result<FilesDegree, WordsFault>
     ensures { Tells files_degree_of result (given_degree two_of (texts rest.now)) }
 {
-    match Given::of(alloc, rest, &["degree"]) {
-        Ok(given) => files_degree_given(alloc, command, &given),
-        Err(fault) => Err(fault),
-    }
+    let given = Given::of(alloc, rest, &["degree"])?;
+    files_degree_given(alloc, command, &given)
 }
 
 fn files_degree_given(

@@ -34,10 +34,8 @@ pub struct Files {
 pub fn read_one(alloc: Global, command: &str, rest: &[&str]) -> Result<String, WordsFault>
     ensures { Tells string_bytes result (given_one (texts rest.now)) }
 {
-    match Given::of(alloc, rest, &[]) {
-        Ok(given) => one_given(alloc, command, &given),
-        Err(fault) => Err(fault),
-    }
+    let given = Given::of(alloc, rest, &[])?;
+    one_given(alloc, command, &given)
 }
 
 fn one_given(alloc: Global, command: &str, given: &Given) -> Result<String, WordsFault>
@@ -64,10 +62,8 @@ fn one_ordered(alloc: Global, command: &str, operands: &[&str]) -> Result<String
 pub fn read_two(alloc: Global, command: &str, rest: &[&str]) -> Result<Files, WordsFault>
     ensures { Tells files_of result (given_two (texts rest.now)) }
 {
-    match Given::of(alloc, rest, &[]) {
-        Ok(given) => two_given(alloc, command, &given),
-        Err(fault) => Err(fault),
-    }
+    let given = Given::of(alloc, rest, &[])?;
+    two_given(alloc, command, &given)
 }
 
 fn two_given(alloc: Global, command: &str, given: &Given) -> Result<Files, WordsFault>
@@ -97,10 +93,8 @@ fn two_ordered(alloc: Global, command: &str, operands: &[&str]) -> Result<Files,
 pub fn read_count(alloc: Global, command: &str, rest: &[&str]) -> Result<u32, WordsFault>
     ensures { Tells (λ count. count) result (given_count (texts rest.now)) }
 {
-    match Given::of(alloc, rest, &[]) {
-        Ok(given) => count_given(alloc, command, &given),
-        Err(fault) => Err(fault),
-    }
+    let given = Given::of(alloc, rest, &[])?;
+    count_given(alloc, command, &given)
 }
 
 fn count_given(alloc: Global, command: &str, given: &Given) -> Result<u32, WordsFault>
@@ -141,10 +135,8 @@ fn count_ordered(alloc: Global, command: &str, operands: &[&str]) -> Result<u32,
 pub fn read_bounds(alloc: Global, command: &str, rest: &[&str]) -> Result<Bounds, WordsFault>
     ensures { Tells bounds_of result (given_bounds (texts rest.now)) }
 {
-    match Given::of(alloc, rest, &["degree", "pivot"]) {
-        Ok(given) => bounds_given(alloc, command, &given),
-        Err(fault) => Err(fault),
-    }
+    let given = Given::of(alloc, rest, &["degree", "pivot"])?;
+    bounds_given(alloc, command, &given)
 }
 
 // By hand: each option once.

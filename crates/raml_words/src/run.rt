@@ -19,10 +19,8 @@ use std::alloc::Global;
 pub fn read_run(alloc: Global, rest: &[&str]) -> Result<Request, WordsFault>
     ensures { Tells request_of result (given_run (texts rest.now)) }
 {
-    match Given::of(alloc, rest, &["steps", "cells", "degree"]) {
-        Ok(given) => run_given(alloc, &given),
-        Err(fault) => Err(fault),
-    }
+    let given = Given::of(alloc, rest, &["steps", "cells", "degree"])?;
+    run_given(alloc, &given)
 }
 
 // By hand: each option once.

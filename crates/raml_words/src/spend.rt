@@ -19,10 +19,8 @@ use std::alloc::Global;
 pub fn read_spend(alloc: Global, rest: &[&str]) -> Result<Request, WordsFault>
     ensures { Tells request_of result (given_spend (texts rest.now)) }
 {
-    match Given::of(alloc, rest, &["steps", "cells"]) {
-        Ok(given) => spend_given(alloc, &given),
-        Err(fault) => Err(fault),
-    }
+    let given = Given::of(alloc, rest, &["steps", "cells"])?;
+    spend_given(alloc, &given)
 }
 
 // By hand: each option once.

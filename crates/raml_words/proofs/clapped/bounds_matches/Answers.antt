@@ -1,18 +1,8 @@
-use Rattle.std.proofs.Common.{map, string_bytes, sym, ◌∙◌}
-use Rattle.clap.specs.Simple.{app_of}
 use Rattle.raml_words.specs.Apps.{bounds_app}
-use Rattle.raml_words.specs.Clapped.{bounds_texts}
-use Rattle.raml_words.proofs.Parsed.{bounds_simple, parsed, refused}
+use Rattle.raml_words.specs.Clapped.{bounds_texts, bounds_texts_of}
+use Rattle.raml_words.proofs.Parsed.{are_simple, parsed}
 use Rattle.raml_words.proofs.clapped.bounds_matches.Goals as goal
-
-pub returns-in-Some : goal.returns-in-Some
-returns-in-Some c =
-    parsed bounds_app (app_of c.in_ok-command.command) bounds_texts (map string_bytes c.args.words.now) c.in-Ok.matches bounds_simple c.in_ok-command.ensures c.in-Ok.ensures.matches c.in-Ok.ensures.kinds ∙ sym c.in-Some.ensures
-
-pub returns-in-Ok : goal.returns-in-Ok
-returns-in-Ok c =
-    parsed bounds_app (app_of c.in_ok-command.command) bounds_texts (map string_bytes c.args.words.now) c.in-Ok.matches bounds_simple c.in_ok-command.ensures c.in-Ok.ensures.matches c.in-Ok.ensures.kinds ∙ sym c.in-None.ensures
 
 pub returns : goal.returns
 returns c =
-    refused bounds_app (app_of c.in_ok-command.command) bounds_texts (map string_bytes c.args.words.now) c.in-Err.error c.fault_of.result bounds_simple c.in_ok-command.ensures c.in-Err.ensures.kinds c.fault_of.ensures
+    parsed bounds_texts_of bounds_app _ bounds_texts _ c.in_ok-matches.matches c.bounds_texts.result c.ok_or.result are_simple.bounds c.in_ok-bounds_command.ensures c.in_ok-matches.ensures c.bounds_texts.ensures c.ok_or.ensures.value

@@ -1,18 +1,8 @@
-use Rattle.std.proofs.Common.{map, string_bytes, sym, ◌∙◌}
-use Rattle.clap.specs.Simple.{app_of}
 use Rattle.raml_words.specs.Apps.{count_app}
-use Rattle.raml_words.specs.Clapped.{count_text}
-use Rattle.raml_words.proofs.Parsed.{count_simple, parsed, refused}
+use Rattle.raml_words.specs.Clapped.{count_text, now_of}
+use Rattle.raml_words.proofs.Parsed.{are_simple, parsed}
 use Rattle.raml_words.proofs.clapped.count_matches.Goals as goal
-
-pub returns-in-Some : goal.returns-in-Some
-returns-in-Some c =
-    parsed count_app (app_of c.in_ok-command.command) count_text (map string_bytes c.args.words.now) c.in-Ok.matches count_simple c.in_ok-command.ensures c.in-Ok.ensures.matches c.in-Ok.ensures.kinds ∙ sym c.in-Some.ensures
-
-pub returns-in-Ok : goal.returns-in-Ok
-returns-in-Ok c =
-    parsed count_app (app_of c.in_ok-command.command) count_text (map string_bytes c.args.words.now) c.in-Ok.matches count_simple c.in_ok-command.ensures c.in-Ok.ensures.matches c.in-Ok.ensures.kinds ∙ sym c.in-None.ensures
 
 pub returns : goal.returns
 returns c =
-    refused count_app (app_of c.in_ok-command.command) count_text (map string_bytes c.args.words.now) c.in-Err.error c.fault_of.result count_simple c.in_ok-command.ensures c.in-Err.ensures.kinds c.fault_of.ensures
+    parsed now_of count_app _ count_text _ c.in_ok-matches.matches c.count_text.result c.ok_or.result are_simple.count c.in_ok-count_command.ensures c.in_ok-matches.ensures c.count_text.ensures c.ok_or.ensures.value

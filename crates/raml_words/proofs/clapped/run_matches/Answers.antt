@@ -1,18 +1,8 @@
-use Rattle.std.proofs.Common.{map, string_bytes, sym, ◌∙◌}
-use Rattle.clap.specs.Simple.{app_of}
 use Rattle.raml_words.specs.Apps.{run_app}
-use Rattle.raml_words.specs.Clapped.{run_texts}
-use Rattle.raml_words.proofs.Parsed.{run_simple, parsed, refused}
+use Rattle.raml_words.specs.Clapped.{run_texts, run_texts_of}
+use Rattle.raml_words.proofs.Parsed.{are_simple, parsed}
 use Rattle.raml_words.proofs.clapped.run_matches.Goals as goal
-
-pub returns-in-Some : goal.returns-in-Some
-returns-in-Some c =
-    parsed run_app (app_of c.in_ok-command.command) run_texts (map string_bytes c.args.words.now) c.in-Ok.matches run_simple c.in_ok-command.ensures c.in-Ok.ensures.matches c.in-Ok.ensures.kinds ∙ sym c.in-Some.ensures
-
-pub returns-in-Ok : goal.returns-in-Ok
-returns-in-Ok c =
-    parsed run_app (app_of c.in_ok-command.command) run_texts (map string_bytes c.args.words.now) c.in-Ok.matches run_simple c.in_ok-command.ensures c.in-Ok.ensures.matches c.in-Ok.ensures.kinds ∙ sym c.in-None.ensures
 
 pub returns : goal.returns
 returns c =
-    refused run_app (app_of c.in_ok-command.command) run_texts (map string_bytes c.args.words.now) c.in-Err.error c.fault_of.result run_simple c.in_ok-command.ensures c.in-Err.ensures.kinds c.fault_of.ensures
+    parsed run_texts_of run_app _ run_texts _ c.in_ok-matches.matches c.run_texts.result c.ok_or.result are_simple.run c.in_ok-run_command.ensures c.in_ok-matches.ensures c.run_texts.ensures c.ok_or.ensures.value
