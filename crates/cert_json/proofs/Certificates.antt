@@ -1,5 +1,5 @@
 -- What reading step by step gives is what the text is, and why it is refused.
-use Rattle.std.proofs.Common.{◌≡◌, ℕ, suc, ◌+◌, ◌<◌, ℤ, Bool, List, [], ◌∷◌, ◌++◌, length, map, Option, Some, None, Result, Ok, Err, refl, sym, ap, ap₂, subst, ◌∙◌, arith, add-one, append_assoc, get_or, drop, drop-cons}
+use Rattle.std.proofs.Common.{◌≡◌, ℕ, suc, ◌+◌, ℤ, Bool, List, [], ◌∷◌, ◌++◌, length, map, Option, Some, None, Result, Ok, Err, refl, sym, ap, ap₂, subst, ◌∙◌, arith, add-one, append_assoc}
 use Rattle.std.specs.Fmt.{signed_decimal}
 use Rattle.serde_json.specs.Data.{Data}
 use Rattle.cert_json.specs.Parts.{Block, Head, Certificate}
@@ -177,7 +177,3 @@ blocks_step work all found more n ds d rest b p q m e =
 
 pub heads_none : (d : Data) → head_of number_of d ≡ None → read_certificate d ≡ Err (fault_at (head_of Some d) InHead)
 heads_none d e = rw e refl
-
--- the items from n on
-pub from_here : {A B : Type 0} (g : A → B) (xs : List A) (n : ℕ) (x : A) → n < length xs → x ≡ get_or xs n x → map g (drop n xs) ≡ g x ∷ map g (drop (n + 1) xs)
-from_here g xs n x h at = ap (map g) (drop-cons xs n x h ∙ ap (λ y. y ∷ drop (suc n) xs) (sym at)) ∙ rw add-one refl

@@ -1,6 +1,6 @@
 -- Loops over the items of a list, step by step.
-use Rattle.std.proofs.Common.{◌≡◌, ℕ, ◌+◌, ◌<◌, ◌≤◌, ◌++◌, [], ◌∷◌, List, length, map, take, drop, get_or, Option, Some, None, refl, sym, ap, ap₂, ◌∙◌, subst, append_assoc}
-use Rattle.std.specs.Prelude.{option_map}
+use Rattle.std.proofs.Common.{◌≡◌, ℕ, suc, add-one, ◌+◌, ◌<◌, ◌≤◌, ◌++◌, [], ◌∷◌, List, length, map, take, drop, drop-cons, get_or, Option, Some, None, refl, sym, ap, ap₂, ◌∙◌, subst, append_assoc}
+use Rattle.std.specs.Prelude.{option_map, option_and_then}
 use Rattle.std.proofs.lemmas.List.{map-append, append-nil, take_more, drop_all}
 use Rattle.serde_json.specs.Data.{Data}
 use Rattle.cert_json.specs.Reading.{each}
@@ -8,24 +8,31 @@ use Rattle.cert_json.specs.Fits.{Each}
 
 -- ---- what is read of each item, where the first ones are read
 
-pub each_none : {B : Type 0} (f : Data → Option B) (whole : Option (List B)) (found : List B) (ds : List Data) (d : Data) (rest : List Data)
-    → ds ≡ d ∷ rest → f d ≡ None → whole ≡ option_map (λ more. found ++ more) (each f ds) → None ≡ whole
-each_none f whole found ds d rest p q e = sym (e ∙ ap (λ xs. option_map (λ more. found ++ more) (each f xs)) p ∙ rw q refl)
+-- the items from n on
+pub from_here : {A B : Type 0} (g : A → B) (xs : List A) (n : ℕ) (x : A) → n < length xs → x ≡ get_or xs n x → map g (drop n xs) ≡ g x ∷ map g (drop (n + 1) xs)
+from_here g xs n x h at = ap (map g) (drop-cons xs n x h ∙ ap (λ y. y ∷ drop (suc n) xs) (sym at)) ∙ rw add-one refl
+
+-- Of the items of a list, which is there: one of which nothing is read, one of which this is read, and the end.
+pub read_none : {V B : Type 0} (f : Data → Option B) (see : V → Data) (list : Option (List Data)) (found : List B) (items : List V) (n : ℕ) (item : V) → Some (map see items) ≡ list → n < length items → item ≡ get_or items n item
+    → None ≡ f (see item) → each f (map see items) ≡ option_map (λ more. found ++ more) (each f (map see (drop n items))) → None ≡ option_and_then (each f) list
+read_none f see list found items n item there h at none e =
+    sym (e ∙ ap (λ xs. option_map (λ more. found ++ more) (each f xs)) (from_here see items n item h at) ∙ rw (sym none) refl) ∙ ap (option_and_then (each f)) there
 
 appended : {B : Type 0} (found : List B) (b : B) (o : Option (List B)) → option_map (λ more. found ++ more) (option_map (λ ys. b ∷ ys) o) ≡ option_map (λ more. (found ++ b ∷ []) ++ more) o
 appended found b None = refl
 appended found b (Some ys) = ap Some (sym (append_assoc found (b ∷ []) ys))
 
-pub each_step : {B : Type 0} (f : Data → Option B) (whole : Option (List B)) (found now : List B) (ds : List Data) (d : Data) (rest : List Data) (b : B)
-    → ds ≡ d ∷ rest → f d ≡ Some b → now ≡ found ++ b ∷ [] → whole ≡ option_map (λ more. found ++ more) (each f ds) → whole ≡ option_map (λ more. now ++ more) (each f rest)
-each_step f whole found now ds d rest b p q m e =
-    let one : each f ds ≡ option_map (λ ys. b ∷ ys) (each f rest) = ap (each f) p ∙ rw q refl in
-    e ∙ ap (option_map (λ more. found ++ more)) one ∙ appended found b (each f rest) ∙ ap (λ xs. option_map (λ more. xs ++ more) (each f rest)) (sym m)
+pub read_one : {V B : Type 0} (f : Data → Option B) (see : V → Data) (whole : Option (List B)) (found now : List B) (items : List V) (n : ℕ) (item : V) (b : B) → n < length items → item ≡ get_or items n item
+    → Some b ≡ f (see item) → now ≡ found ++ b ∷ [] → whole ≡ option_map (λ more. found ++ more) (each f (map see (drop n items))) → whole ≡ option_map (λ more. now ++ more) (each f (map see (drop (n + 1) items)))
+read_one f see whole found now items n item b h at some more e =
+    let rest = map see (drop (n + 1) items) in
+    let one : each f (map see (drop n items)) ≡ option_map (λ ys. b ∷ ys) (each f rest) = ap (each f) (from_here see items n item h at) ∙ rw (sym some) refl in
+    e ∙ ap (option_map (λ more. found ++ more)) one ∙ appended found b (each f rest) ∙ ap (λ xs. option_map (λ more. xs ++ more) (each f rest)) (sym more)
 
-pub each_end : {V B : Type 0} (f : Data → Option B) (see : V → Data) (whole : Option (List B)) (found : List B) (xs : List V) (n : ℕ)
-    → length xs ≤ n → whole ≡ option_map (λ more. found ++ more) (each f (map see (drop n xs))) → Some found ≡ whole
-each_end f see whole found xs n h e =
-    sym (e ∙ ap (λ ys. option_map (λ more. found ++ more) (each f (map see ys))) (drop_all n xs h) ∙ ap Some (append-nil found))
+pub read_all : {V B : Type 0} (f : Data → Option B) (see : V → Data) (list : Option (List Data)) (found : List B) (items : List V) (n : ℕ) → Some (map see items) ≡ list → length items ≤ n
+    → each f (map see items) ≡ option_map (λ more. found ++ more) (each f (map see (drop n items))) → Some found ≡ option_and_then (each f) list
+read_all f see list found items n there h e =
+    sym (e ∙ ap (λ ys. option_map (λ more. found ++ more) (each f (map see ys))) (drop_all n items h) ∙ ap Some (append-nil found)) ∙ ap (option_and_then (each f)) there
 
 -- ---- what is written of each item
 

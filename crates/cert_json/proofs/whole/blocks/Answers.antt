@@ -7,7 +7,8 @@ use Rattle.cert_json.specs.Reading as spec
 use Rattle.cert_json.specs.Steps.{read_blocks, map_ok}
 use Rattle.cert_json.specs.declared.whole.Place.TheVariants as place
 use Rattle.cert_json.proofs.Likenesses.{blocks_like}
-use Rattle.cert_json.proofs.Certificates.{blocks_none, blocks_step, from_here}
+use Rattle.cert_json.proofs.Certificates.{blocks_none, blocks_step}
+use Rattle.cert_json.proofs.Walked.{from_here}
 use Rattle.cert_json.proofs.Answering.{told}
 use Rattle.cert_json.proofs.whole.blocks.Goals as goal
 

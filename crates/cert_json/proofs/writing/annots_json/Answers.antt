@@ -7,11 +7,7 @@ use Rattle.cert_json.proofs.Walked.{plain_step, each_plain}
 use Rattle.cert_json.proofs.writing.annots_json.Goals as goal
 
 pub loop-annot-preserved : goal.loop-annot-preserved
-loop-annot-preserved c =
-    let n = c.loop-annot.annot-index in
-    let x = c.annot-item.result in
-    let items = c.loop-annot.items.items in
-    record {
-      same = plain_step view (entries_json signed_decimal) items c.push.new.list.items c.in_ok-entries_json.field-0 c.args.annots.now n x c.loop-annot-test.true c.annot-item.is c.in_ok-push.ensures.ok (c.in_ok-entries_json.ensures.value ∙ ap (entries_json signed_decimal) c.entries.ensures.all) c.loop-annot.invariant.same;
-      numbers = each_plain (EntriesHave Wide) c.args.annots.now n x c.loop-annot-test.true c.annot-item.is c.loop-annot.invariant.numbers (subst (EntriesHave Wide) c.entries.ensures.all c.in_ok-entries_json.ensures.numbers);
-    }
+loop-annot-preserved c = record {
+  same = plain_step view (entries_json signed_decimal) c.loop-annot.items.items c.push.new.list.items c.in_ok-entries_json.field-0 c.args.annots.now _ c.annot-item.result c.loop-annot-test.true c.annot-item.is c.in_ok-push.ensures.ok (c.in_ok-entries_json.ensures.value ∙ ap (entries_json signed_decimal) c.entries.ensures.all) c.loop-annot.invariant.same;
+  numbers = each_plain (EntriesHave Wide) c.args.annots.now _ c.annot-item.result c.loop-annot-test.true c.annot-item.is c.loop-annot.invariant.numbers (subst (EntriesHave Wide) c.entries.ensures.all c.in_ok-entries_json.ensures.numbers);
+}
