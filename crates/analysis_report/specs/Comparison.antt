@@ -53,7 +53,8 @@ AreCompared (Bound den terms) (Bound other_den others) comparison = ⊥
 AreCompared claim other comparison = comparison ≡ NoBound
 
 -- what both certificates claim of these functions and the meter is so compared
-pub record ClaimsCompare (N : Program) (c : Certificate) (f : ℕ) (M : Program) (e : Certificate) (other : ℕ) (meter : Meter) (comparison : Compared) : Type 0 where
+pub record ClaimsCompare (N : Program) (c : Certificate) (f : ℕ) (M : Program) (e : Certificate)
+    (other : ℕ) (meter : Meter) (comparison : Compared) : Type 0 where
   pub claim : Claim
   pub claims : Claims N c f meter claim
   pub other_claim : Claim
@@ -72,7 +73,8 @@ comparison_line name meter comparison = compared_line name (meter_text meter) co
 -- the lines of a function: of ticks, cells and work
 abbrev pub comparisons_text : Text → (Meter → Compared) → Text
 comparisons_text name comparisons =
-    comparison_line name Ticks (comparisons Ticks) ++ comparison_line name Cells (comparisons Cells) ++ comparison_line name Work (comparisons Work)
+    comparison_line name Ticks (comparisons Ticks) ++ comparison_line name Cells (comparisons Cells)
+    ++ comparison_line name Work (comparisons Work)
 
 -- The text is the comparisons of P with Q: three lines for each function, in the order of the source.
 pub record AreComparisons (P : Prog) (N : Program) (c : Certificate) (Q : Prog) (M : Program) (e : Certificate) (text : Text) : Type 0 where

@@ -37,8 +37,8 @@ pub record AreMeterLines (P : Prog) (N : Program) (c : Certificate) (meter : Met
   pub is : text ≡ lines_text P (flat_map (λ f. lines_for N c f meter) (range_with_len 0 (length P)))
   pub each : (f : ℕ) → f < length P → (claim : Claim) × Claims N c f meter claim
 
--- What the lines of a certificate say is true: a polynomial bounds what the function costs; where there is none, the task of the function's group is refuted,
--- or waits for a function that is told.
+-- What the lines of a certificate say is true: a polynomial bounds what the function costs; where there is none, the
+-- task of the function's group is refuted, or waits for a function that is told.
 pub record LinesHold (P : Prog) (N : Program) (c : Certificate) : Type 0 where
   pub bounds : (l : Line) → Contains (lines N c) l → IsTrue P l.fun l.meter l.claim
   pub tell : (l : Line) → Contains (lines N c) l → Tells N c l.fun l.meter l.claim

@@ -19,15 +19,16 @@ use Rattle.report_text.specs.Claims.{no_bound_line, calls_line}
 use Rattle.analysis_report.specs.Floors.{rank}
 use Rattle.analysis_report.specs.Lines.{Claims}
 
--- What is told of a function and a meter: powers over a denominator; that the function is not flat; that there is no bound; or that there is none
--- since a function that is called has none.
+-- What is told of a function and a meter: powers over a denominator; that the function is not flat; that there is no
+-- bound; or that there is none since a function that is called has none.
 pub data PowerClaim : Type 0 where
   InPowers : ℕ → Powers → PowerClaim
   NotFlat : PowerClaim
   NoBound : PowerClaim
   CallsUnbounded : ℕ → PowerClaim
 
--- The powers of the bound of a flat function, over 24 times its denominator. At the element counts of any arguments they are worth what it is.
+-- The powers of the bound of a flat function, over 24 times its denominator. At the element counts of any arguments
+-- they are worth what it is.
 pub record ArePowersOf (As : List Type') (den : ℕ) (terms : List Term) (over : ℕ) (ps : Powers) : Type 0 where
   pub flat : are_flat As ≡ true
   pub positive : 0 < den
@@ -58,7 +59,8 @@ power_line P name meter (CallsUnbounded f) = calls_line name meter (name_at P f)
 -- where a flat function has a bound, its powers fit 128 bits
 abbrev pub FitsAt : Prog → Program → Certificate → ℕ → Meter → Type 0
 FitsAt P N c f meter =
-    (g : Function) (den : ℕ) (terms : List Term) → slice_get P f ≡ Some g → are_flat (types_of g) ≡ true → Claims N c f meter (Bound den terms) → Fits den terms
+    (g : Function) (den : ℕ) (terms : List Term) → slice_get P f ≡ Some g → are_flat (types_of g) ≡ true →
+    Claims N c f meter (Bound den terms) → Fits den terms
 
 -- a flat function has a bound whose powers do not
 pub record LeavesAt (P : Prog) (N : Program) (c : Certificate) (f : ℕ) (meter : Meter) : Type 0 where
@@ -92,9 +94,11 @@ pub record FirstLeaves (P : Prog) (N : Program) (c : Certificate) (f : ℕ) (met
 abbrev pub power_lines_of : Prog → Certificate → ℕ → (Meter → PowerClaim) → Text
 power_lines_of P c f told = flat_map (λ meter. power_line P (name_at P f) meter (told meter)) (meters (has_work c))
 
--- The text is the bounds in powers: for each function, in the order of the source, a line for each meter that the certificate counts. All of them fit.
+-- The text is the bounds in powers: for each function, in the order of the source, a line for each meter that the
+-- certificate counts. All of them fit.
 pub record ArePowerLines (P : Prog) (N : Program) (c : Certificate) (text : Text) : Type 0 where
   pub told : ℕ → Meter → PowerClaim
-  pub each : (f : ℕ) (g : Function) (meter : Meter) → slice_get P f ≡ Some g → Contains (meters (has_work c)) meter → ToldInPowers N c f g meter (told f meter)
+  pub each : (f : ℕ) (g : Function) (meter : Meter) → slice_get P f ≡ Some g →
+      Contains (meters (has_work c)) meter → ToldInPowers N c f g meter (told f meter)
   pub is : text ≡ flat_map (λ f. power_lines_of P c f (told f)) (range_with_len 0 (length P))
   pub fits : ArePowersFitting P N c

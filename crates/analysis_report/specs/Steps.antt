@@ -11,7 +11,8 @@ use Rattle.annot_types.specs.Program.{Program}
 use Rattle.annot_types.specs.Certificate.{Certificate, has_work}
 use Rattle.report_text.specs.Names.{name_at}
 use Rattle.analysis_report.specs.Comparison.{IsCounterpart, ClaimsCompare, IsComparison, comparisons_text}
-use Rattle.analysis_report.specs.Powers.{PowerClaim, InPowers, NotFlat, NoBound, CallsUnbounded, ToldInPowers, power_line, power_lines_of, FitsAt, LeavesAt}
+use Rattle.analysis_report.specs.Powers.{PowerClaim, InPowers, NotFlat, NoBound, CallsUnbounded, ToldInPowers, power_line, power_lines_of}
+use Rattle.analysis_report.specs.Powers.{FitsAt, LeavesAt}
 use Rattle.analysis_report.specs.declared.comparing.Comparisons.{Comparisons}
 use Rattle.analysis_report.specs.declared.powering.PowerLine.{PowerLine}
 use Rattle.analysis_report.specs.declared.powering.PowerLine.TheVariants as line
@@ -34,7 +35,8 @@ ComparesIn N c f M e None meter comparison = comparison ≡ Absent
 ComparesIn N c f M e (Some other) meter comparison = ClaimsCompare N c f M e other meter comparison
 
 -- The text goes on with the comparisons of a function.
-pub record HasComparisons (P : Prog) (N : Program) (c : Certificate) (Q : Prog) (M : Program) (e : Certificate) (f : ℕ) (old new : Text) : Type 0 where
+pub record HasComparisons (P : Prog) (N : Program) (c : Certificate) (Q : Prog) (M : Program)
+    (e : Certificate) (f : ℕ) (old new : Text) : Type 0 where
   pub comparisons : Meter → Compared
   pub each : (g : Function) (meter : Meter) → slice_get P f ≡ Some g → IsComparison N c Q M e f g meter (comparisons meter)
   pub is : new ≡ old ++ comparisons_text (name_at P f) comparisons
@@ -65,7 +67,8 @@ pub record HasPowerLine (P : Prog) (N : Program) (c : Certificate) (f : ℕ) (me
 -- the same with those of a function
 pub record HasPowerLines (P : Prog) (N : Program) (c : Certificate) (f : ℕ) (old new : Text) : Type 0 where
   pub told : Meter → PowerClaim
-  pub each : (g : Function) (meter : Meter) → slice_get P f ≡ Some g → Contains (meters (has_work c)) meter → ToldInPowers N c f g meter (told meter)
+  pub each : (g : Function) (meter : Meter) → slice_get P f ≡ Some g →
+      Contains (meters (has_work c)) meter → ToldInPowers N c f g meter (told meter)
   pub is : new ≡ old ++ power_lines_of P c f told
   pub fits : (meter : Meter) → Contains (meters (has_work c)) meter → FitsAt P N c f meter
 

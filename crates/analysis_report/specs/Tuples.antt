@@ -21,5 +21,6 @@ pub record AreOfParameters (N : Program) (degree f : ℕ) (terms : List Term) : 
 -- The bounds that a held certificate claims are over such tuples, of at most its degree.
 abbrev pub BoundsAreOfParameters : Type 0
 BoundsAreOfParameters =
-    (N : Program) (c : Certificate) → Held N c → (f : ℕ) (meter : Meter) (den : ℕ) (terms : List Term) → Claims N c f meter (Bound den terms) →
+    (N : Program) (c : Certificate) → Held N c →
+    (f : ℕ) (meter : Meter) (den : ℕ) (terms : List Term) → Claims N c f meter (Bound den terms) →
     AreOfParameters N c.degree f terms

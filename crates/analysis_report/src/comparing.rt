@@ -61,7 +61,8 @@ fn all_comparisons(
     requires work { has_work verified.now.certificate ≡ true }
     requires names { program_of names.now.program.now ≡ source_in other.now.program }
     requires other_work { has_work other.now.certificate ≡ true }
-    ensures { IfOk result (λ text. AreComparisons (source_in verified.now.program) (program_in verified.now.program) verified.now.certificate
+    ensures { IfOk result (λ text. AreComparisons (source_in verified.now.program)
+        (program_in verified.now.program) verified.now.certificate
         (source_in other.now.program) (program_in other.now.program) other.now.certificate (string_bytes text)) }
 {
     let mut text = String::new(alloc);
@@ -88,7 +89,8 @@ fn push_function(
     requires names { program_of names.now.program.now ≡ source_in other.now.program }
     requires other_work { has_work other.now.certificate ≡ true }
     ensures { OnOk result (HasComparisons (source_in verified.now.program) (program_in verified.now.program) verified.now.certificate
-        (source_in other.now.program) (program_in other.now.program) other.now.certificate fun.0 (string_bytes text.old) (string_bytes text.new)) }
+        (source_in other.now.program) (program_in other.now.program) other.now.certificate fun.0
+        (string_bytes text.old) (string_bytes text.new)) }
 {
     let counterpart = counterpart(names, &program.funs[fun.0 as usize]);
     let found = compare_on_meters(alloc, verified, fun, other, counterpart)?;

@@ -112,8 +112,10 @@ fn all_lines(
     requires program { program_of program.now ≡ source_in verified.now.program }
     requires few { length (program_of program.now) ≤ 256 }
     ensures text { IfOk result (λ text. string_bytes text
-        ≡ lines_between (source_in verified.now.program) (program_in verified.now.program) verified.now.certificate 0 (length (source_in verified.now.program))) }
-    ensures each { OnOk result (AllClaim (program_in verified.now.program) verified.now.certificate (length (source_in verified.now.program))) }
+        ≡ lines_between (source_in verified.now.program)
+        (program_in verified.now.program) verified.now.certificate 0 (length (source_in verified.now.program))) }
+    ensures each { OnOk result
+        (AllClaim (program_in verified.now.program) verified.now.certificate (length (source_in verified.now.program))) }
 {
     let mut text = String::new(alloc);
     for place in 0..program.funs.len() {
@@ -132,7 +134,8 @@ pub fn meter_lines(
     requires program { verified.now.program ≡ program.now }
     requires meter { Contains (meters (has_work verified.now.certificate)) meter }
     ensures { IfOk result (λ text.
-        AreMeterLines (source_in verified.now.program) (program_in verified.now.program) verified.now.certificate meter (string_bytes text)) }
+        AreMeterLines (source_in verified.now.program)
+        (program_in verified.now.program) verified.now.certificate meter (string_bytes text)) }
 {
     each_line(alloc, program.source(), verified, meter)
 }
@@ -148,7 +151,8 @@ fn each_line(
     requires few { length (program_of program.now) ≤ 256 }
     requires meter { Contains (meters (has_work verified.now.certificate)) meter }
     ensures { IfOk result (λ text.
-        AreMeterLines (source_in verified.now.program) (program_in verified.now.program) verified.now.certificate meter (string_bytes text)) }
+        AreMeterLines (source_in verified.now.program)
+        (program_in verified.now.program) verified.now.certificate meter (string_bytes text)) }
 {
     let mut text = String::new(alloc);
     for place in 0..program.funs.len() {

@@ -58,7 +58,8 @@ pub fn power_lines(
     requires program { verified.now.program ≡ program.now }
     ensures lines { IfOk result (λ text.
         ArePowerLines (source_in verified.now.program) (program_in verified.now.program) verified.now.certificate (string_bytes text)) }
-    ensures leaves { IfErr result (PowersRefused (source_in verified.now.program) (program_in verified.now.program) verified.now.certificate) }
+    ensures leaves { IfErr result
+        (PowersRefused (source_in verified.now.program) (program_in verified.now.program) verified.now.certificate) }
 {
     each_function(alloc, program.source(), verified)
 }
@@ -73,7 +74,8 @@ fn each_function(
     requires few { length (program_of program.now) ≤ 256 }
     ensures lines { IfOk result (λ text.
         ArePowerLines (source_in verified.now.program) (program_in verified.now.program) verified.now.certificate (string_bytes text)) }
-    ensures leaves { IfErr result (PowersRefused (source_in verified.now.program) (program_in verified.now.program) verified.now.certificate) }
+    ensures leaves { IfErr result
+        (PowersRefused (source_in verified.now.program) (program_in verified.now.program) verified.now.certificate) }
 {
     let mut text = String::new(alloc);
     for place in 0..program.funs.len() {
@@ -93,9 +95,11 @@ fn push_function(
     requires program { program_of program.now ≡ source_in verified.now.program }
     requires fun { fun.0 < length (source_in verified.now.program) }
     requires before { AllFitBelow (source_in verified.now.program) (program_in verified.now.program) verified.now.certificate fun.0 }
-    ensures lines { OnOk result (HasPowerLines (source_in verified.now.program) (program_in verified.now.program) verified.now.certificate fun.0
+    ensures lines { OnOk result
+        (HasPowerLines (source_in verified.now.program) (program_in verified.now.program) verified.now.certificate fun.0
         (string_bytes text.old) (string_bytes text.new)) }
-    ensures leaves { IfErr result (PowersRefused (source_in verified.now.program) (program_in verified.now.program) verified.now.certificate) }
+    ensures leaves { IfErr result
+        (PowersRefused (source_in verified.now.program) (program_in verified.now.program) verified.now.certificate) }
 {
     let types = parameter_types(alloc, &program.funs[fun.0 as usize].params)?;
     push_line(alloc, text, program, verified, fun, &types, Meter::Ticks)?;
@@ -132,9 +136,11 @@ fn push_line(
     requires types { (g : Function) → slice_get (source_in verified.now.program) fun.0 ≡ Some g → context_of types.now ≡ types_of g }
     requires meter { Contains (meters (has_work verified.now.certificate)) meter }
     requires before { AllFitBefore (source_in verified.now.program) (program_in verified.now.program) verified.now.certificate fun.0 meter }
-    ensures line { OnOk result (HasPowerLine (source_in verified.now.program) (program_in verified.now.program) verified.now.certificate fun.0 meter
+    ensures line { OnOk result
+        (HasPowerLine (source_in verified.now.program) (program_in verified.now.program) verified.now.certificate fun.0 meter
         (string_bytes text.old) (string_bytes text.new)) }
-    ensures leaves { IfErr result (PowersRefused (source_in verified.now.program) (program_in verified.now.program) verified.now.certificate) }
+    ensures leaves { IfErr result
+        (PowersRefused (source_in verified.now.program) (program_in verified.now.program) verified.now.certificate) }
 {
     let line = power_line(alloc, verified, fun, types, meter)?;
     push_told(text, program, fun, meter, &line)?;
@@ -155,8 +161,10 @@ fn power_line(
     ensures told { IfOk result (λ line. (g : Function) → slice_get (source_in verified.now.program) fun.0 ≡ Some g →
         ToldInPowers (program_in verified.now.program) verified.now.certificate fun.0 g meter (told_of line)) }
     ensures written { IfOk result CanBeWritten }
-    ensures fits { OnOk result (FitsAt (source_in verified.now.program) (program_in verified.now.program) verified.now.certificate fun.0 meter) }
-    ensures leaves { IfErr result (LeavesHere (source_in verified.now.program) (program_in verified.now.program) verified.now.certificate fun.0 meter) }
+    ensures fits { OnOk result
+        (FitsAt (source_in verified.now.program) (program_in verified.now.program) verified.now.certificate fun.0 meter) }
+    ensures leaves { IfErr result
+        (LeavesHere (source_in verified.now.program) (program_in verified.now.program) verified.now.certificate fun.0 meter) }
 {
     bounds_are_of_parameters();
     let _functions = verified.checked().program().functions();
@@ -179,7 +187,8 @@ fn in_powers(alloc: Global, poly: &Poly, types: &[Ty]) -> Result<PowerLine, Powe
     ensures told { IfOk result (λ line. IsPowersOf (context_of types.now) (Bound (den_of poly.now) (terms_of poly.now)) (told_of line)) }
     ensures written { IfOk result CanBeWritten }
     ensures fits { OnOk result (are_flat (context_of types.now) ≡ true → Fits (den_of poly.now) (terms_of poly.now)) }
-    ensures leaves { IsErrOf result PowerFault.Leaves → (are_flat (context_of types.now) ≡ true) × Leaves (den_of poly.now) (terms_of poly.now) }
+    ensures leaves { IsErrOf result PowerFault.Leaves → (are_flat (context_of types.now) ≡ true)
+        × Leaves (den_of poly.now) (terms_of poly.now) }
 {
     powers_keep_worth();
     if is_flat(types) {

@@ -33,16 +33,18 @@ module _ (checking : Checking) (line : Line) where
   -- It is of a function of the program, whose task waits or has a system that exceeds no limit.
   pub record MayBeAsked : Type 0 where
     pub fun : line.fun < length (source_in checking.program)
-    pub within : (place : ℕ) (own : Block) → IsOwn program certificate line place own → blocker_of program own.task (done_before certificate place) ≡ None →
+    pub within : (place : ℕ) (own : Block) → IsOwn program certificate line place own →
+        blocker_of program own.task (done_before certificate place) ≡ None →
         limit_of (generator_of program certificate.degree) own.task
         (system program certificate.degree (before certificate place) own.task (scale_for certificate own.task.kind)) ≡ None
 
   -- over the certificate's block for its meter and the group of its function
   abbrev pub Decides : Decided → Type 0
-  Decides decided = (place : ℕ) (own : Block) → IsOwn program certificate line place own → IsDecided checking.program certificate line place own decided
+  Decides decided =
+      (place : ℕ) (own : Block) → IsOwn program certificate line place own → IsDecided checking.program certificate line place own decided
 
-  -- What is declared bounds what the function costs, in the source and on the machine. It is told by the numbers over any one denominator that are those
-  -- of the line, at the tuples of this degree.
+  -- What is declared bounds what the function costs, in the source and on the machine. It is told by the numbers over
+  -- any one denominator that are those of the line, at the tuples of this degree.
   abbrev pub IsBound : ℕ → Type 0
   IsBound degree =
       (fun : Function) → slice_get (source_in checking.program) line.fun ≡ Some fun →
@@ -58,8 +60,12 @@ module _ (checking : Checking) (line : Line) where
   module _ (pick : List ℤ → ℤ → Option ℕ) where
     -- Its task waits, or no number leaves 128 bits and there are few enough rows.
     abbrev pub NoneComes : Type 0
-    NoneComes = (place : ℕ) (own : Block) → IsOwn program certificate line place own → IsTried own.body → IsClear program certificate place own.task line pick
+    NoneComes =
+        (place : ℕ) (own : Block) → IsOwn program certificate line place own → IsTried own.body →
+        IsClear program certificate place own.task line pick
 
     -- Its task was tried, and this place comes first.
     abbrev pub ComesFirst : Place → Type 0
-    ComesFirst p = (place : ℕ) (own : Block) → IsOwn program certificate line place own → IsTried own.body × IsFirst program certificate place own.task line pick p
+    ComesFirst p =
+        (place : ℕ) (own : Block) → IsOwn program certificate line place own → IsTried own.body
+        × IsFirst program certificate place own.task line pick p

@@ -65,17 +65,23 @@ module _ (P : Program) (c : Certificate) (place : ℕ) (task : Task) (line : Lin
     pub row : (row : ℕ) → RowLeaves own.rows row → First (p.Row row)
     pub too_large : RowsFit → most_allowed < length whole.rows → First p.TooLarge
     pub right : RowsFit → IsFew → (position : ℕ) → RightLeaves line.bound positions scale position → First (p.Right position)
-    pub solve : AreFine → (pivots : List (ℕ × ℕ)) (row column : ℕ) → Refuses (rule_by pick) whole pivots row column → First (p.Solve pivots row column)
-    pub scaled : AreFine → (d : ℤ) (ns : List ℤ) → ReadAlone (rule_by pick) whole d ns → (entry : ℕ) → ScaleLeaves d ns entry → First (p.Scale entry)
-    pub refute : AreFine → (y : List ℕ) → VectorIsFine (rule_by pick) whole y → (column : ℕ) → IsVerdict (refuting whole (map pos y)) (Leaves column) →
+    pub solve : AreFine → (pivots : List (ℕ × ℕ)) (row column : ℕ) →
+        Refuses (rule_by pick) whole pivots row column → First (p.Solve pivots row column)
+    pub scaled : AreFine → (d : ℤ) (ns : List ℤ) → ReadAlone (rule_by pick) whole d ns →
+        (entry : ℕ) → ScaleLeaves d ns entry → First (p.Scale entry)
+    pub refute : AreFine → (y : List ℕ) → VectorIsFine (rule_by pick) whole y → (column : ℕ) →
+        IsVerdict (refuting whole (map pos y)) (Leaves column) →
         First (p.Refute column)
-    pub rescale : AreFine → (t : ℕ) (x : List ℕ) → SolutionFits (rule_by pick) whole t x → (block : ℕ) → RescaleLeaves P c place task line pick t block → First (p.Rescale block)
-    pub check : AreFine → (t : ℕ) (x : List ℕ) → SolutionFits (rule_by pick) whole t x → Rises t → (path : List ℕ) (index : ℕ) → Finds t x (Some (f.Leaves place path index)) →
+    pub rescale : AreFine → (t : ℕ) (x : List ℕ) → SolutionFits (rule_by pick) whole t x → (block : ℕ) →
+        RescaleLeaves P c place task line pick t block → First (p.Rescale block)
+    pub check : AreFine → (t : ℕ) (x : List ℕ) → SolutionFits (rule_by pick) whole t x → Rises t →
+        (path : List ℕ) (index : ℕ) → Finds t x (Some (f.Leaves place path index)) →
         First (p.Check path index)
 
   -- Where all is fine, no place comes.
   pub record FineIsClear : Type 0 where
-    pub kept : AreFine → (t : ℕ) (x : List ℕ) → SolutionFits (rule_by pick) whole t x → Rises t → Finds t x None → IsClear P c place task line pick
+    pub kept : AreFine → (t : ℕ) (x : List ℕ) → SolutionFits (rule_by pick) whole t x → Rises t →
+        Finds t x None → IsClear P c place task line pick
     pub not_kept : AreFine → (y : List ℕ) → VectorIsFine (rule_by pick) whole y → IsPassed whole y → IsClear P c place task line pick
 
 abbrev pub SeenIsFirst : Type 0

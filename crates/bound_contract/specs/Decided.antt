@@ -32,7 +32,8 @@ pub record IsOwn (P : Program) (c : Certificate) (line : Line) (place : ℕ) (ow
   pub there : slice_get c.blocks place ≡ Some own
 
 module _ (program : s.Kept) (c : Certificate) (line : Line) (place : ℕ) (own : Block) where
-  -- The certificate's block was tried. The block is of its task, stands over the certificate's scale times t, holds in its place, and lies under the line.
+  -- The certificate's block was tried. The block is of its task, stands over the certificate's scale times t, holds in
+  -- its place, and lies under the line.
   pub record IsKept (o : Over) : Type 0 where
     pub tried : IsTried own.body
     pub program_is : o.program ≡ program
@@ -42,7 +43,8 @@ module _ (program : s.Kept) (c : Certificate) (line : Line) (place : ℕ) (own :
     pub scale : o.scale ≡ scale_for c own.task.kind * t
     pub keeps : KeepsThere (program_in program) c place own.task line o.block t
 
-  -- The certificate's block was tried. Nothing holds in its place under the line, and the vector passed the check that it refutes the line's system.
+  -- The certificate's block was tried. Nothing holds in its place under the line, and the vector passed the check that
+  -- it refutes the line's system.
   pub record IsNotKept (y : List ℤ) : Type 0 where
     pub tried : IsTried own.body
     pub none : NoneKeepsThere (program_in program) c place own.task line
@@ -72,10 +74,12 @@ CallsExactly =
 -- Of a certificate that is held and counts work there is one such block for each function of the program and each meter.
 abbrev pub OwnsAreThere : Type 0
 OwnsAreThere =
-    (S : Prog) (P : Program) → AreInOrder S [] P.groups → (c : Certificate) → Held P c → has_work c ≡ true → (line : Line) → line.fun < length S →
+    (S : Prog) (P : Program) → AreInOrder S [] P.groups → (c : Certificate) → Held P c →
+    has_work c ≡ true → (line : Line) → line.fun < length S →
     (place : ℕ) × (own : Block) × IsOwn P c line place own
 
 abbrev pub OneOwn : Type 0
 OneOwn =
-    (P : Program) (c : Certificate) (line : Line) (place other : ℕ) (own one : Block) → IsOwn P c line place own → IsOwn P c line other one →
+    (P : Program) (c : Certificate) (line : Line) (place other : ℕ) (own one : Block) →
+    IsOwn P c line place own → IsOwn P c line other one →
     (place ≡ other) × (own ≡ one)

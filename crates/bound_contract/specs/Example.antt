@@ -35,7 +35,8 @@ number_at line k = (numerator_at line.bound k, denominator_at line.bound k)
 
 -- over the blocks before, at degree 1 and this scale
 abbrev over_cells : ℕ → Line → LinearSystem
-over_cells scale line = declared_system (program append) 1 (one_left ∷ length_left ∷ no_ticks ∷ []) (record { group = 0; kind = With Cells }) scale line
+over_cells scale line =
+    declared_system (program append) 1 (one_left ∷ length_left ∷ no_ticks ∷ []) (record { group = 0; kind = With Cells }) scale line
 
 abbrev plus : ℕ → ℕ × ℤ
 plus u = (u, pos 1)
@@ -71,5 +72,6 @@ pub record Examples : Type 0 where
   -- at scale 2 the right sides are twice as great
   pub thirds : map (λ (r : SparseRow). r.right) (over_cells 2 in_thirds).rows
       ≡ pos 0 ∷ pos 0 ∷ pos 0 ∷ pos 0 ∷ pos 0 ∷ pos 0 ∷ pos 0 ∷ pos 2 ∷ pos 0 ∷ neg_ℤ (pos 14) ∷ pos 0 ∷ neg_ℤ (pos 10) ∷ []
-  pub refuting : mix 9 vector (matrix (over_cells 1 of_second)) ≡ pos 0 ∷ pos 0 ∷ pos 0 ∷ pos 0 ∷ neg_ℤ (pos 1) ∷ pos 0 ∷ pos 0 ∷ pos 0 ∷ pos 0 ∷ []
+  pub refuting : mix 9 vector (matrix (over_cells 1 of_second))
+      ≡ pos 0 ∷ pos 0 ∷ pos 0 ∷ pos 0 ∷ neg_ℤ (pos 1) ∷ pos 0 ∷ pos 0 ∷ pos 0 ∷ pos 0 ∷ []
   pub positive : dot vector (right_sides (over_cells 1 of_second)) ≡ pos 1

@@ -26,7 +26,8 @@ pub record Keeps (P : Program) (d : ℕ) (earlier : List Block) (scale : ℕ) (l
 
 -- No positive t, signatures and hints hold for the task with the function's annotation under the line.
 abbrev pub NoneKeeps : Program → ℕ → List Block → Task → ℕ → Line → Type 0
-NoneKeeps P d earlier task scale line = (t : ℕ) (sigs : List Sig) (hints : List (List c.Hint)) → Keeps P d earlier scale line (solving task sigs hints) t → ⊥
+NoneKeeps P d earlier task scale line =
+    (t : ℕ) (sigs : List Sig) (hints : List (List c.Hint)) → Keeps P d earlier scale line (solving task sigs hints) t → ⊥
 
 -- At a place of a certificate, over the blocks before it and at the certificate's scale.
 module _ (P : Program) (c : Certificate) (place : ℕ) (task : Task) (line : Line) where

@@ -46,7 +46,8 @@ SolutionsKeep =
 -- All signatures and hints that hold with t, under the line, come from a solution over t.
 abbrev pub WhatKeepsSolves : Type 0
 WhatKeepsSolves =
-    (P : Program) (d : ℕ) (earlier : List Block) (task : Task) (scale : ℕ) (line : Line) (t : ℕ) (sigs : List Sig) (hints : List (List c.Hint)) →
+    (P : Program) (d : ℕ) (earlier : List Block) (task : Task) (scale : ℕ) (line : Line) (t : ℕ)
+    (sigs : List Sig) (hints : List (List c.Hint)) →
     IsTask P d earlier task scale → IsTaskOf P line task →
     Keeps P d earlier scale line (solving task sigs hints) t →
     (x : List ℕ) × Solves (declared_system P d earlier task scale line) (map pos x) (pos t)
@@ -61,7 +62,8 @@ RefutedIsNotKept =
 
 -- A row of a declared bound is never one that may be left out.
 abbrev pub LineRowsAreNeeded : Type 0
-LineRowsAreNeeded = (unknown numerator denominator scale : ℕ) → 0 < denominator → is_kept (at_most unknown numerator denominator scale) ≡ true
+LineRowsAreNeeded =
+    (unknown numerator denominator scale : ℕ) → 0 < denominator → is_kept (at_most unknown numerator denominator scale) ≡ true
 
 -- The rows speak of the system's unknowns alone.
 abbrev pub DeclaredIsSystem : Type 0
@@ -71,8 +73,10 @@ DeclaredIsSystem =
     IsSystem (declared_system P d earlier task scale line)
 
 -- What is read of the system decides: a solution keeps the line, and where a vector is read nothing does.
-pub record ReadingDecides (P : Program) (c : Certificate) (place : ℕ) (task : Task) (line : Line) (pick : List ℤ → ℤ → Option ℕ) : Type 0 where
-  pub kept : (t : ℕ) (x : List ℕ) → ReadsSolution (rule_by pick) (system_there P c place task line) t x → KeepsThere P c place task line (told P c.degree (before c place) task x) t
+pub record ReadingDecides (P : Program) (c : Certificate) (place : ℕ) (task : Task)
+    (line : Line) (pick : List ℤ → ℤ → Option ℕ) : Type 0 where
+  pub kept : (t : ℕ) (x : List ℕ) → ReadsSolution (rule_by pick) (system_there P c place task line) t x →
+      KeepsThere P c place task line (told P c.degree (before c place) task x) t
   pub not_kept : (y : List ℕ) → ReadsVector (rule_by pick) (system_there P c place task line) y → NoneKeepsThere P c place task line
 
 abbrev pub ReadingsDecide : Type 0
@@ -82,8 +86,9 @@ ReadingsDecide =
     (line : Line) → IsTaskOf P line block.task → (pick : List ℤ → ℤ → Option ℕ) →
     ReadingDecides P c place block.task line pick
 
--- What keeps a line bounds the function: on all arguments, at every limit and after every number of instructions, what is declared is at least what the
--- function costs on the meter. It is told by the numbers over any one denominator that are those of the line.
+-- What keeps a line bounds the function: on all arguments, at every limit and after every number of instructions, what
+-- is declared is at least what the function costs on the meter. It is told by the numbers over any one denominator that
+-- are those of the line.
 abbrev pub KeptIsBound : Type 0
 KeptIsBound =
     (P : Prog) → Typed P → All (λ (g : Function). AllNodes NumberFits g.body) P →
@@ -97,7 +102,8 @@ KeptIsBound =
 
 -- There are such numbers.
 abbrev pub LinesHaveNumbers : Type 0
-LinesHaveNumbers = (bound : List Coefficient) → ArePositive bound → (count : ℕ) → (den : ℕ) × (0 < den) × (q : ℕ → ℕ) × AreDeclared bound count den q
+LinesHaveNumbers =
+    (bound : List Coefficient) → ArePositive bound → (count : ℕ) → (den : ℕ) × (0 < den) × (q : ℕ → ℕ) × AreDeclared bound count den q
 
 -- Of another block, whose annotation lies under the line at its scale, the same.
 abbrev pub OthersUnderAreBounds : Type 0
@@ -110,7 +116,8 @@ OthersUnderAreBounds =
     (den : ℕ) → 0 < den → (q : ℕ → ℕ) → AreDeclared line.bound (size (types_of fun) o.degree) den q →
     Bounds (source_in o.program) line.fun fun line.meter den (terms_at (types_of fun) o.degree q)
 
--- A solution that is read of a line's system stands for a block that, over the certificate, is refused for a total alone, where the scale times t fits.
+-- A solution that is read of a line's system stands for a block that, over the certificate, is refused for a total
+-- alone, where the scale times t fits.
 abbrev pub ReadLeavesAlone : Type 0
 ReadLeavesAlone =
     (P : Program) → IsOrdered P → (c : Certificate) → Held P c →

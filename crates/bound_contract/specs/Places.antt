@@ -49,8 +49,8 @@ stage (Rescale block) = 5
 stage (Check path index) = 6
 
 module _ (P : Program) (c : Certificate) (place : ℕ) (task : Task) (line : Line) (pick : List ℤ → ℤ → Option ℕ) where
-  -- A number of a solved block of the meter before the place, times t, leaves 128 bits, or the meter's scale does, which is told at the first such block;
-  -- where there is none, at the place itself.
+  -- A number of a solved block of the meter before the place, times t, leaves 128 bits, or the meter's scale does,
+  -- which is told at the first such block; where there is none, at the place itself.
   abbrev pub RescaleLeaves : ℕ → ℕ → Type 0
   RescaleLeaves t block = BlockLeaves line.meter t (state_before c place) block
       ⊎ (NoneSolved line.meter (before c place) × (block ≡ place) × (most ≤ t * unsigned_abs (scale_of c line.meter)))
@@ -58,10 +58,12 @@ module _ (P : Program) (c : Certificate) (place : ℕ) (task : Task) (line : Lin
   abbrev pub Comes : Place → Type 0
   Comes (Row row) = RowLeaves (system P c.degree (before c place) task (scale_for c task.kind)).rows row
   Comes TooLarge = let s = system_there P c place task line in most_allowed < length s.rows
-  Comes (Right position) = RightLeaves line.bound (count P c.degree (before c place) task (scale_for c task.kind) line) (scale_for c task.kind) position
+  Comes (Right position) =
+      RightLeaves line.bound (count P c.degree (before c place) task (scale_for c task.kind) line) (scale_for c task.kind) position
   Comes (Solve pivots row column) = Refuses (rule_by pick) (system_there P c place task line) pivots row column
   Comes (Scale entry) = (d : ℤ) × (ns : List ℤ) × ReadAlone (rule_by pick) (system_there P c place task line) d ns × ScaleLeaves d ns entry
-  Comes (Rescale block) = (t : ℕ) × (x : List ℕ) × ReadsSolution (rule_by pick) (system_there P c place task line) t x × RescaleLeaves t block
+  Comes (Rescale block) =
+      (t : ℕ) × (x : List ℕ) × ReadsSolution (rule_by pick) (system_there P c place task line) t x × RescaleLeaves t block
   Comes (Check path index) = (t : ℕ) × (x : List ℕ) × ReadsSolution (rule_by pick) (system_there P c place task line) t x
       × OtherFinds P c t (told P c.degree (before c place) task x) (Some (f.Leaves place path index))
   Comes (Refute column) = (y : List ℕ) × ReadsVector (rule_by pick) (system_there P c place task line) y

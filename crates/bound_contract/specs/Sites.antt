@@ -105,7 +105,8 @@ ClearAt site pick = IsClear (program_at site) (certificate_at site) site.place (
 
 -- a number of an earlier block of the meter, or the scale, leaves when it is multiplied
 abbrev pub RescaleAt : Site → ℕ → ℕ → Type 0
-RescaleAt site t block = RescaleLeaves (program_at site) (certificate_at site) site.place (task_at site) (line_at site) (λ gains over. None) t block
+RescaleAt site t block =
+    RescaleLeaves (program_at site) (certificate_at site) site.place (task_at site) (line_at site) (λ gains over. None) t block
 
 -- a solution that fits is read, over this denominator
 abbrev pub ReadsAt : Site → (List ℤ → ℤ → Option ℕ) → ℕ → List ℕ → Type 0

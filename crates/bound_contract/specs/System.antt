@@ -14,11 +14,13 @@ use Rattle.bound_file.specs.Lines.{Coefficient, Line, numerator_at, denominator_
 
 -- The unknown, times the denominator, is at most the numerator times the scale.
 abbrev pub at_most : ℕ → ℕ → ℕ → ℕ → SparseRow
-at_most unknown numerator denominator scale = record { terms = (unknown, neg_ℤ (pos denominator)) ∷ []; right = neg_ℤ (pos (numerator * scale)) }
+at_most unknown numerator denominator scale =
+    record { terms = (unknown, neg_ℤ (pos denominator)) ∷ []; right = neg_ℤ (pos (numerator * scale)) }
 
 -- of an annotation of so many positions, whose unknowns begin with this one
 abbrev pub line_rows : List Coefficient → ℕ → ℕ → ℕ → List SparseRow
-line_rows bound first count scale = map (λ k. at_most (first + k) (numerator_at bound k) (denominator_at bound k) scale) (range_with_len 0 count)
+line_rows bound first count scale =
+    map (λ k. at_most (first + k) (numerator_at bound k) (denominator_at bound k) scale) (range_with_len 0 count)
 
 -- a system with rows behind its own
 abbrev pub with_rows : LinearSystem → List SparseRow → LinearSystem

@@ -130,7 +130,8 @@ fn tried<'p, 'a, F: Fn(&[Frac]) -> Option<usize>>(
     ensures kept { IfOk result (λ step. IfSome step.kept (AreKept (program_at site.now))) }
     ensures decided { IfOk result (λ step. IsDecidedAt site.now (decided_of step.decision)) }
     ensures clear { OnOk result ((pick : List ℤ → ℤ → Option ℕ) → AnswersBy F.Fn chooser.now pick → ClearAt site.now pick) }
-    ensures first { IfErr result (λ fault. (pick : List ℤ → ℤ → Option ℕ) → AnswersBy F.Fn chooser.now pick → StopsWith site.now pick fault) }
+    ensures first { IfErr result
+        (λ fault. (pick : List ℤ → ℤ → Option ℕ) → AnswersBy F.Fn chooser.now pick → StopsWith site.now pick fault) }
 {
     let program = site.checked.program();
     let certificate = site.checked.certificate();
@@ -171,7 +172,8 @@ fn decide_line<'p, 'a, F: Fn(&[Frac]) -> Option<usize>>(
     ensures front { IfOk result (λ step. IfSome step.front (IsFront (program_in checked.now.program) checked.now.certificate)) }
     ensures kept { IfOk result (λ step. IfSome step.kept (AreKept (program_in checked.now.program))) }
     ensures decided { IfOk result (λ step. Decides checked.now (line_of line.now) (decided_of step.decision)) }
-    ensures clear { OnOk result ((pick : List ℤ → ℤ → Option ℕ) → AnswersBy F.Fn chooser.now pick → NoneComes checked.now (line_of line.now) pick) }
+    ensures clear { OnOk result
+        ((pick : List ℤ → ℤ → Option ℕ) → AnswersBy F.Fn chooser.now pick → NoneComes checked.now (line_of line.now) pick) }
     ensures first { IfErr result (λ fault. (pick : List ℤ → ℤ → Option ℕ) → AnswersBy F.Fn chooser.now pick →
         OfPlace (place_of fault) (ComesFirst checked.now (line_of line.now) pick)) }
 {
@@ -241,8 +243,10 @@ impl<'c, 'p, 'a> Decider<'c, 'p, 'a> {
         requires asked { OfLine declared.now line (MayBeAsked self.old) }
         ensures same { self.new ≡ self.old }
         ensures decided { IfOk result (λ decision. OfLine declared.now line (λ l. Decides self.old l (decided_of decision))) }
-        ensures bounds { IfOk result (λ decision. OfLine declared.now line (λ l. BoundsWhereKept self.old l declared.now.degree (decided_of decision))) }
-        ensures clear { OnOk result ((pick : List ℤ → ℤ → Option ℕ) → AnswersBy F.Fn chooser.now pick → OfLine declared.now line (λ l. NoneComes self.old l pick)) }
+        ensures bounds { IfOk result
+            (λ decision. OfLine declared.now line (λ l. BoundsWhereKept self.old l declared.now.degree (decided_of decision))) }
+        ensures clear { OnOk result
+            ((pick : List ℤ → ℤ → Option ℕ) → AnswersBy F.Fn chooser.now pick → OfLine declared.now line (λ l. NoneComes self.old l pick)) }
         ensures first { IfErr result (λ fault. (pick : List ℤ → ℤ → Option ℕ) → AnswersBy F.Fn chooser.now pick →
             OfPlace (place_of fault) (λ place. OfLine declared.now line (λ l. ComesFirst self.old l pick place))) }
     {
@@ -290,8 +294,10 @@ pub fn decide<'p, 'a, F: Fn(&[Frac]) -> Option<usize>>(
     requires there { line < length declared.now.lines }
     requires asked { OfLine declared.now line (MayBeAsked checked.now) }
     ensures decided { IfOk result (λ decision. OfLine declared.now line (λ l. Decides checked.now l (decided_of decision))) }
-    ensures bounds { IfOk result (λ decision. OfLine declared.now line (λ l. BoundsWhereKept checked.now l declared.now.degree (decided_of decision))) }
-    ensures clear { OnOk result ((pick : List ℤ → ℤ → Option ℕ) → AnswersBy F.Fn chooser.now pick → OfLine declared.now line (λ l. NoneComes checked.now l pick)) }
+    ensures bounds { IfOk result
+        (λ decision. OfLine declared.now line (λ l. BoundsWhereKept checked.now l declared.now.degree (decided_of decision))) }
+    ensures clear { OnOk result
+        ((pick : List ℤ → ℤ → Option ℕ) → AnswersBy F.Fn chooser.now pick → OfLine declared.now line (λ l. NoneComes checked.now l pick)) }
     ensures first { IfErr result (λ fault. (pick : List ℤ → ℤ → Option ℕ) → AnswersBy F.Fn chooser.now pick →
         OfPlace (place_of fault) (λ place. OfLine declared.now line (λ l. ComesFirst checked.now l pick place))) }
 {

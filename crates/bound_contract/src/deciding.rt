@@ -7,7 +7,8 @@ ghost use Rattle.simplex_checked.specs.Alone.{IsAlone};
 ghost use Rattle.simplex_checked.specs.Choosing.{AnswersBy, AnswersByOne};
 ghost use Rattle.rules_plan.specs.Read.{ArePlansOf};
 ghost use Rattle.bound_contract.specs.Read.{decided_of};
-ghost use Rattle.bound_contract.specs.Sites.{program_at, certificate_at, system_at, IsSite, AreBefore, FineAt, ClearAt, IsDecidedAt, StopsAt, StopsWith};
+ghost use Rattle.bound_contract.specs.Sites.{program_at, certificate_at, system_at, IsSite, AreBefore, FineAt, ClearAt, IsDecidedAt};
+ghost use Rattle.bound_contract.specs.Sites.{StopsAt, StopsWith};
 
 use crate::decision::Decision;
 use crate::extended::line_system;
@@ -57,11 +58,13 @@ fn by_answer<'p, 'a, F: Fn(&[Frac]) -> Option<usize>>(
     requires before { AreBefore site.now earlier.old }
     requires plans { ArePlansOf (program_at site.now) site.now.group (certificate_at site.now).degree plans.now }
     requires fine { (pick : List ℤ → ℤ → Option ℕ) → FineAt site.now pick }
-    requires answer { (pick : List ℤ → ℤ → Option ℕ) → AnswersBy F.Fn chooser.now pick → IsAlone (rule_by pick) (system_at site.now) answer }
+    requires answer { (pick : List ℤ → ℤ → Option ℕ) → AnswersBy F.Fn chooser.now pick →
+        IsAlone (rule_by pick) (system_at site.now) answer }
     ensures decided { IfOk result (λ answer. IsDecidedAt site.now (decided_of answer.0)) }
     ensures serve { IfOk result (λ answer. IsTrue answer.1 → AreBefore site.now earlier.new) }
     ensures clear { OnOk result ((pick : List ℤ → ℤ → Option ℕ) → AnswersBy F.Fn chooser.now pick → ClearAt site.now pick) }
-    ensures first { IfErr result (λ fault. (pick : List ℤ → ℤ → Option ℕ) → AnswersBy F.Fn chooser.now pick → StopsWith site.now pick fault) }
+    ensures first { IfErr result
+        (λ fault. (pick : List ℤ → ℤ → Option ℕ) → AnswersBy F.Fn chooser.now pick → StopsWith site.now pick fault) }
 {
     fine_is_clear();
     readings_decide();
@@ -94,7 +97,8 @@ pub(crate) fn decided<'p, 'a, F: Fn(&[Frac]) -> Option<usize>>(
     ensures decided { IfOk result (λ answer. IsDecidedAt site.now (decided_of answer.0)) }
     ensures serve { IfOk result (λ answer. IsTrue answer.1 → AreBefore site.now earlier.new) }
     ensures clear { OnOk result ((pick : List ℤ → ℤ → Option ℕ) → AnswersBy F.Fn chooser.now pick → ClearAt site.now pick) }
-    ensures first { IfErr result (λ fault. (pick : List ℤ → ℤ → Option ℕ) → AnswersBy F.Fn chooser.now pick → StopsWith site.now pick fault) }
+    ensures first { IfErr result
+        (λ fault. (pick : List ℤ → ℤ → Option ℕ) → AnswersBy F.Fn chooser.now pick → StopsWith site.now pick fault) }
 {
     let system = match system_by(site, earlier, plans) {
         Ok(system) => system,

@@ -3,7 +3,8 @@ ghost use Rattle.std.specs.Prelude.{◌≡◌, ◌<◌, ◌≤◌, ◌+◌, ◌^
 ghost use Rattle.simplex_spec.specs.Tableaux.{right};
 ghost use Rattle.rules_spec.specs.Told.{bodies_of};
 ghost use Rattle.rules_plan.specs.Read.{body_of};
-ghost use Rattle.bound_contract.specs.Sites.{program_at, certificate_at, before_at, task_at, own_at, system_at, first_at, count_at, IsSite, AreBefore, OwnFits, FineAt, StopsAt};
+ghost use Rattle.bound_contract.specs.Sites.{program_at, certificate_at, before_at, task_at, own_at, system_at, first_at, count_at, IsSite};
+ghost use Rattle.bound_contract.specs.Sites.{AreBefore, OwnFits, FineAt, StopsAt};
 
 use crate::fault::{DecideFault, DeclAt};
 use crate::laws::seen_is_first;
@@ -28,7 +29,8 @@ fn own_rows(
 ) -> Result<System, DecideFault>
     requires site { IsSite site.now }
     requires before { AreBefore site.now earlier.now }
-    requires bodies { map body_of bodies.now ≡ bodies_of (program_at site.now) (certificate_at site.now).degree (before_at site.now) (task_at site.now) }
+    requires bodies { map body_of bodies.now
+        ≡ bodies_of (program_at site.now) (certificate_at site.now).degree (before_at site.now) (task_at site.now) }
     ensures made { IfOk result (λ made. made ≡ own_at site.now) }
     ensures few { IfOk result (λ made. made.unknowns ≤ 2000) }
     ensures fit { OnOk result (OwnFits site.now) }
@@ -92,7 +94,8 @@ pub(crate) fn line_system(
 ) -> Result<System, DecideFault>
     requires site { IsSite site.now }
     requires before { AreBefore site.now earlier.now }
-    requires bodies { map body_of bodies.now ≡ bodies_of (program_at site.now) (certificate_at site.now).degree (before_at site.now) (task_at site.now) }
+    requires bodies { map body_of bodies.now
+        ≡ bodies_of (program_at site.now) (certificate_at site.now).degree (before_at site.now) (task_at site.now) }
     ensures made { IfOk result (λ made. made ≡ system_at site.now) }
     ensures few { IfOk result (λ made. right made < 2 ^ 32) }
     ensures fine { OnOk result ((pick : List ℤ → ℤ → Option ℕ) → FineAt site.now pick) }

@@ -1,5 +1,6 @@
 // The block that a solution stands for.
-ghost use Rattle.std.specs.Prelude.{◌≡◌, ◌*◌, ◌≤◌, ◌<ℤ◌, nat_lt, ℕ, ℤ, pos, unsigned_abs, List, length, Option, map, IfOk, IfErr, IfSome, IfNone, OnOk};
+ghost use Rattle.std.specs.Prelude.{◌≡◌, ◌*◌, ◌≤◌, ◌<ℤ◌, nat_lt, ℕ, ℤ, pos, unsigned_abs, List, length, Option, map, IfOk, IfErr, IfSome};
+ghost use Rattle.std.specs.Prelude.{IfNone, OnOk};
 ghost use Rattle.raml_num.specs.Sums.{NoneNegative};
 ghost use Rattle.annot_types.specs.Read as a;
 ghost use Rattle.simplex_integers.specs.Wholes.{most};
@@ -7,7 +8,8 @@ ghost use Rattle.rules_systems_laws.specs.Laws.{told};
 ghost use Rattle.rules_spec.specs.Told.{bodies_of};
 ghost use Rattle.rules_plan.specs.Read.{ArePlansOf};
 ghost use Rattle.constraint_gen.specs.Given.{unknowns_of};
-ghost use Rattle.bound_contract.specs.Sites.{program_at, certificate_at, before_at, task_at, IsSite, AreBefore, FineAt, ClearAt, RescaleAt, ReadsAt, IsReadAt, IsToldAt, IsToldBy, IsKeptAt, StopsWith};
+ghost use Rattle.bound_contract.specs.Sites.{program_at, certificate_at, before_at, task_at, IsSite, AreBefore, FineAt, ClearAt, RescaleAt};
+ghost use Rattle.bound_contract.specs.Sites.{ReadsAt, IsReadAt, IsToldAt, IsToldBy, IsKeptAt, StopsWith};
 
 use crate::fault::{DecideFault, DeclAt};
 use crate::laws::{fine_is_clear, read_leaves_alone, readings_decide, seen_is_first};
@@ -32,7 +34,8 @@ fn told(
 ) -> Result<Block, AllocError>
     requires before { AreBefore site.now earlier.now }
     requires plans { ArePlansOf (program_at site.now) site.now.group (certificate_at site.now).degree plans.now }
-    requires one_each { length numbers.now ≡ unknowns_of (bodies_of (program_at site.now) (certificate_at site.now).degree (before_at site.now) (task_at site.now)) }
+    requires one_each { length numbers.now
+        ≡ unknowns_of (bodies_of (program_at site.now) (certificate_at site.now).degree (before_at site.now) (task_at site.now)) }
     requires few { length numbers.now ≤ 2000 }
     requires natural { NoneNegative numbers.now }
     ensures { IfOk result (λ block. (x : List ℕ) → numbers.now ≡ map pos x →
@@ -94,8 +97,12 @@ fn checked_block<'p, 'a>(
     requires told { IsToldAt site.now (unsigned_abs times) (a.block_of block) }
     requires rises { (number : ℕ) → RescaleAt site.now (unsigned_abs times) number → ⊥ }
     ensures kept { IfOk result (IsKeptAt site.now (unsigned_abs times)) }
-    ensures clear { OnOk result ((pick : List ℤ → ℤ → Option ℕ) (x : List ℕ) → IsToldBy site.now pick (unsigned_abs times) x (a.block_of block) → ClearAt site.now pick) }
-    ensures first { IfErr result (λ fault. (pick : List ℤ → ℤ → Option ℕ) (x : List ℕ) → IsToldBy site.now pick (unsigned_abs times) x (a.block_of block) → StopsWith site.now pick fault) }
+    ensures clear { OnOk result
+        ((pick : List ℤ → ℤ → Option ℕ) (x : List ℕ) →
+        IsToldBy site.now pick (unsigned_abs times) x (a.block_of block) → ClearAt site.now pick) }
+    ensures first { IfErr result
+        (λ fault. (pick : List ℤ → ℤ → Option ℕ) (x : List ℕ) →
+        IsToldBy site.now pick (unsigned_abs times) x (a.block_of block) → StopsWith site.now pick fault) }
     ensures once { times ≡ pos 1 → earlier.new ≡ earlier.old }
 {
     seen_is_first();
@@ -139,8 +146,12 @@ pub(crate) fn kept<'p, 'a>(
     requires fine { (pick : List ℤ → ℤ → Option ℕ) → FineAt site.now pick }
     requires read { IsReadAt site.now times numbers.now }
     ensures kept { IfOk result (IsKeptAt site.now (unsigned_abs times)) }
-    ensures clear { OnOk result ((pick : List ℤ → ℤ → Option ℕ) (t : ℕ) (x : List ℕ) → times ≡ pos t → numbers.now ≡ map pos x → ReadsAt site.now pick t x → ClearAt site.now pick) }
-    ensures first { IfErr result (λ fault. (pick : List ℤ → ℤ → Option ℕ) (t : ℕ) (x : List ℕ) → times ≡ pos t → numbers.now ≡ map pos x → ReadsAt site.now pick t x →
+    ensures clear { OnOk result
+        ((pick : List ℤ → ℤ → Option ℕ) (t : ℕ) (x : List ℕ) → times ≡ pos t → numbers.now ≡ map pos x →
+        ReadsAt site.now pick t x → ClearAt site.now pick) }
+    ensures first { IfErr result
+        (λ fault. (pick : List ℤ → ℤ → Option ℕ) (t : ℕ) (x : List ℕ) → times ≡ pos t →
+        numbers.now ≡ map pos x → ReadsAt site.now pick t x →
         StopsWith site.now pick fault) }
     ensures once { times ≡ pos 1 → earlier.new ≡ earlier.old }
 {

@@ -2,7 +2,9 @@
 ghost use Rattle.bound_contract.specs.Decided.{CallsExactly, DecidedOnce, OneOwn, OwnsAreThere};
 ghost use Rattle.bound_contract.specs.Example.{Examples};
 ghost use Rattle.bound_contract.specs.Clear.{AllFineIsClear, SeenIsFirst};
-ghost use Rattle.bound_contract.specs.Laws.{DeclaredIsSystem, KeptIsBound, LineRowsAreNeeded, LinesHaveNumbers, OthersUnderAreBounds, RaisedDecideAlike, ReadLeavesAlone, ReadingsDecide, RefutedIsNotKept, SolutionsKeep, WhatKeepsSolves};
+ghost use Rattle.bound_contract.specs.Laws.{DeclaredIsSystem, KeptIsBound, LineRowsAreNeeded, LinesHaveNumbers, OthersUnderAreBounds};
+ghost use Rattle.bound_contract.specs.Laws.{RaisedDecideAlike, ReadLeavesAlone, ReadingsDecide, RefutedIsNotKept, SolutionsKeep};
+ghost use Rattle.bound_contract.specs.Laws.{WhatKeepsSolves};
 
 use infer_spec::laws::blocks_are_there;
 use infer_systems_laws::laws::{ordered_are_proper, tried_have_tasks};

@@ -1,5 +1,6 @@
 // The rows of a declared bound.
-ghost use Rattle.std.specs.Prelude.{◌≡◌, ◌≢◌, [], ◌∷◌, neg_ℤ, SomeIff, ◌≤◌, ◌<◌, ◌+◌, ◌*◌, ◌≤ℤ◌, ◌<ℤ◌, ◌^◌, ℕ, pos, unsigned_abs, IfOk, IfSome, IfNone, OnOk};
+ghost use Rattle.std.specs.Prelude.{◌≡◌, ◌≢◌, [], ◌∷◌, neg_ℤ, SomeIff, ◌≤◌, ◌<◌, ◌+◌, ◌*◌, ◌≤ℤ◌, ◌<ℤ◌, ◌^◌, ℕ, pos, unsigned_abs, IfOk};
+ghost use Rattle.std.specs.Prelude.{IfSome, IfNone, OnOk};
 ghost use Rattle.simplex_integers.specs.Wholes.{most};
 ghost use Rattle.bound_file.specs.Lines.{numerator_at, denominator_at};
 ghost use Rattle.bound_contract.specs.System.{at_most, line_rows, with_rows};
@@ -87,7 +88,8 @@ fn row_for(
     requires natural { pos 0 ≤ℤ numerator }
     requires positive { pos 0 <ℤ denominator }
     requires scaled { pos 0 ≤ℤ scale }
-    ensures made { IfOk result (λ made. IfSome made (λ row. row ≡ at_most unknown (unsigned_abs numerator) (unsigned_abs denominator) (unsigned_abs scale))) }
+    ensures made { IfOk result
+        (λ made. IfSome made (λ row. row ≡ at_most unknown (unsigned_abs numerator) (unsigned_abs denominator) (unsigned_abs scale))) }
     ensures fits { IfOk result (λ made. IfSome made (λ row. unsigned_abs numerator * unsigned_abs scale < most)) }
     ensures leaves { IfOk result (λ made. IfNone made (most ≤ unsigned_abs numerator * unsigned_abs scale)) }
 {
@@ -121,8 +123,10 @@ fn row_at(
     requires scaled { pos 0 ≤ℤ scale }
     requires fits { first + position < 2 ^ 32 }
     ensures made { IfOk result (λ made. IfSome made (λ row. row
-        ≡ at_most (first + position) (numerator_at (coefficients_of bound.now) position) (denominator_at (coefficients_of bound.now) position) (unsigned_abs scale))) }
-    ensures fits { IfOk result (λ made. IfSome made (λ row. numerator_at (coefficients_of bound.now) position * unsigned_abs scale < most)) }
+        ≡ at_most (first + position) (numerator_at (coefficients_of bound.now) position)
+        (denominator_at (coefficients_of bound.now) position) (unsigned_abs scale))) }
+    ensures fits { IfOk result
+        (λ made. IfSome made (λ row. numerator_at (coefficients_of bound.now) position * unsigned_abs scale < most)) }
     ensures leaves { IfOk result (λ made. IfNone made (most ≤ numerator_at (coefficients_of bound.now) position * unsigned_abs scale)) }
 {
     let numerator = numerator_in(bound, position);
@@ -143,9 +147,11 @@ pub(crate) fn add_rows(
     requires positive { AllPositive bound.now }
     requires scaled { pos 0 ≤ℤ scale }
     requires unknowns { first + count ≤ system.old.unknowns }
-    ensures added { OnOk result (system.new ≡ with_rows system.old (line_rows (coefficients_of bound.now) first count (unsigned_abs scale))) }
+    ensures added { OnOk result
+        (system.new ≡ with_rows system.old (line_rows (coefficients_of bound.now) first count (unsigned_abs scale))) }
     ensures fit { OnOk result ((k : ℕ) → k < count → numerator_at (coefficients_of bound.now) k * unsigned_abs scale < most) }
-    ensures leaves { (position : ℕ) → result ≡ Err (f.Right position) → RightLeaves (coefficients_of bound.now) count (unsigned_abs scale) position }
+    ensures leaves { (position : ℕ) → result ≡ Err (f.Right position) →
+        RightLeaves (coefficients_of bound.now) count (unsigned_abs scale) position }
 {
     let _unknowns = system.unknowns();
     for position in 0..count {

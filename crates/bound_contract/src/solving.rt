@@ -53,8 +53,10 @@ pub(crate) fn answered<F: Fn(&[Frac]) -> Option<usize>>(
     requires system { system.now ≡ system_at site.now }
     requires few { right system.now < 2 ^ 32 }
     requires fine { (pick : List ℤ → ℤ → Option ℕ) → FineAt site.now pick }
-    ensures answer { IfOk result (λ answer. (pick : List ℤ → ℤ → Option ℕ) → AnswersBy F.Fn chooser.now pick → IsAlone (rule_by pick) (system_at site.now) answer) }
-    ensures first { IfErr result (λ fault. (pick : List ℤ → ℤ → Option ℕ) → AnswersBy F.Fn chooser.now pick → StopsWith site.now pick fault) }
+    ensures answer { IfOk result
+        (λ answer. (pick : List ℤ → ℤ → Option ℕ) → AnswersBy F.Fn chooser.now pick → IsAlone (rule_by pick) (system_at site.now) answer) }
+    ensures first { IfErr result
+        (λ fault. (pick : List ℤ → ℤ → Option ℕ) → AnswersBy F.Fn chooser.now pick → StopsWith site.now pick fault) }
 {
     let _rows = system.rows();
     match answer_alone(site.alloc, system, chooser) {

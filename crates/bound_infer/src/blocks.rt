@@ -28,7 +28,8 @@ use std::alloc::{AllocError, Global};
 
 // What is told of a block whose vector has a fault.
 fn told(number: usize, task: Task, fault: VectorFault) -> VerifyFault
-    ensures { (P : Program) (c : c.Certificate) → OfFault (fault_of fault) (Faulty P c number) → BlockCause P c number (task_of task) result }
+    ensures { (P : Program) (c : c.Certificate) → OfFault (fault_of fault) (Faulty P c number) →
+        BlockCause P c number (task_of task) result }
 {
     match fault {
         VectorFault::TooLarge { what } => VerifyFault::TooLarge { task, what },
@@ -50,11 +51,13 @@ fn verify_refuted(
     farkas: &[(u32, i128)],
 ) -> Result<(), VerifyFault>
     requires held { Held (program_in program.now) (certificate_of certificate.now) }
-    requires there { slice_get (blocks_of certificate.now.blocks.items) number ≡ Some (record { task = task_of task.now; body = c.Refuted farkas.now }) }
+    requires there { slice_get (blocks_of certificate.now.blocks.items) number
+        ≡ Some (record { task = task_of task.now; body = c.Refuted farkas.now }) }
     requires ordered { IsOrdered (program_in program.now) }
     requires limits { LimitsAreTold }
     ensures { Remembers (program_in program.now) certificate.now.degree (before (certificate_of certificate.now) number) earlier.now →
-        BlockTells (program_in program.now) (certificate_of certificate.now) number (record { task = task_of task.now; body = c.Refuted farkas.now }) result }
+        BlockTells (program_in program.now) (certificate_of certificate.now) number
+        (record { task = task_of task.now; body = c.Refuted farkas.now }) result }
 {
     refuted_are_tasks();
     let scale = scale_for(certificate, task.kind);
@@ -157,7 +160,8 @@ pub fn verify_blocks(
     requires passes { FirstFault (program_in program.now) (certificate_of certificate.now) None }
     requires ordered { IsOrdered (program_in program.now) }
     requires limits { LimitsAreTold }
-    ensures clear { OnOk result (ClearBefore (program_in program.now) (certificate_of certificate.now) (length (blocks_of certificate.now.blocks.items))) }
+    ensures clear { OnOk result
+        (ClearBefore (program_in program.now) (certificate_of certificate.now) (length (blocks_of certificate.now.blocks.items))) }
     ensures fault { IfErr result (VerifyCause (program_in program.now) (certificate_of certificate.now)) }
 {
     let _source = program.source();

@@ -46,8 +46,10 @@ pub fn block_for<'c>(
     fun: FunId,
     meter: Meter,
 ) -> &'c Block
-    requires { (block : c.Block) × (filter (is_for_function (program_in program.now) meter fun.0) (blocks_of certificate.now.blocks.items) ≡ block ∷ []) }
-    ensures { filter (is_for_function (program_in program.now) meter fun.0) (blocks_of certificate.now.blocks.items) ≡ block_of result.now ∷ [] }
+    requires { (block : c.Block)
+        × (filter (is_for_function (program_in program.now) meter fun.0) (blocks_of certificate.now.blocks.items) ≡ block ∷ []) }
+    ensures { filter (is_for_function (program_in program.now) meter fun.0)
+        (blocks_of certificate.now.blocks.items) ≡ block_of result.now ∷ [] }
 {
     for block in &certificate.blocks {
         if is_for_function(program, meter, fun, block) {

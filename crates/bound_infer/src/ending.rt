@@ -74,7 +74,8 @@ pub(crate) fn ended<'p, 'a>(
     requires refuted { AllRefuted (program_in program.now) (s.certificate_of d true (state_of run)) }
     requires systems { SystemsAreSmall (program_in program.now) (s.certificate_of d true (state_of run)) }
     requires kept { AreKept (program_in program.now) kept }
-    ensures certificate { IfOk result (λ verified. verified ≡ record { program = program.now; certificate = s.certificate_of d true (state_of run.entry) }) }
+    ensures certificate { IfOk result
+        (λ verified. verified ≡ record { program = program.now; certificate = s.certificate_of d true (state_of run.entry) }) }
     ensures passes { OnOk result (FirstFault (program_in program.now) (s.certificate_of d true (state_of run.entry)) None) }
     ensures fault { IfErr result (CheckCause (program_in program.now) (s.certificate_of d true (state_of run.entry))) }
 {

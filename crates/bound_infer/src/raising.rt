@@ -113,8 +113,11 @@ pub fn raise(
     ensures raised { OnOk result (blocks_of blocks.new ≡ map (raised meter factor.now) (blocks_of blocks.old)) }
     ensures scale { IfOk result (λ new. new ≡ pos factor.now *ℤ scale) }
     ensures each { OnOk result (AllFit meter factor.now (blocks_of blocks.old)) }
-    ensures fit { OnOk result ((st : State) → st.blocks ≡ blocks_of blocks.old → pos (st.scales meter) ≡ scale → (place : ℕ) → BlockLeaves meter factor.now st place → ⊥) }
-    ensures leaves { (place : ℕ) → result ≡ Err (RaiseFault.Leaves place) → (st : State) → st.blocks ≡ blocks_of blocks.old → pos (st.scales meter) ≡ scale → BlockLeaves meter factor.now st place }
+    ensures fit { OnOk result
+        ((st : State) → st.blocks ≡ blocks_of blocks.old → pos (st.scales meter) ≡ scale →
+        (place : ℕ) → BlockLeaves meter factor.now st place → ⊥) }
+    ensures leaves { (place : ℕ) → result ≡ Err (RaiseFault.Leaves place) → (st : State) →
+        st.blocks ≡ blocks_of blocks.old → pos (st.scales meter) ≡ scale → BlockLeaves meter factor.now st place }
 {
     match factor.times(scale) {
         Some(product) => match raise_blocks(alloc, blocks, meter, factor) {

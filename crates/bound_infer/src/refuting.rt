@@ -144,7 +144,8 @@ pub fn check_refuted(
     requires limits { LimitsAreTold }
     ensures { (blocks : List c.Block) → Remembers (program_in program.now) d blocks earlier.now →
         IsTask (program_in program.now) d blocks (task_of task.now) (unsigned_abs scale) →
-        Tells result (limit_of (generator_of (program_in program.now) d) (task_of task.now) (system (program_in program.now) d blocks (task_of task.now) (unsigned_abs scale)))
+        Tells result (limit_of (generator_of (program_in program.now) d) (task_of task.now)
+        (system (program_in program.now) d blocks (task_of task.now) (unsigned_abs scale)))
         (system (program_in program.now) d blocks (task_of task.now) (unsigned_abs scale)) farkas.now }
 {
     match rows(alloc, program, d, earlier, task, scale) {

@@ -65,9 +65,11 @@ pub(crate) fn current(
     requires keeps { Keeps program.now d run.old }
     ensures keeps { Keeps program.now d run.new }
     ensures state { state_of run.new ≡ state_of run.old }
-    ensures next { IfOk result (λ task. option_map task_of task ≡ next_after (program_in program.now) (first_of d) (a.blocks_of run.old.blocks.items)) }
+    ensures next { IfOk result
+        (λ task. option_map task_of task ≡ next_after (program_in program.now) (first_of d) (a.blocks_of run.old.blocks.items)) }
     ensures goes_on { OnOk result (GoesOn (program_in program.now) (first_of d) (a.blocks_of run.old.blocks.items)) }
-    ensures many { IsErrOf result IndexFault.TooMany → IsRefused 2000 (schedule (program_in program.now) (first_of d)) (map outcome (a.blocks_of run.old.blocks.items)) }
+    ensures many { IsErrOf result IndexFault.TooMany →
+        IsRefused 2000 (schedule (program_in program.now) (first_of d)) (map outcome (a.blocks_of run.old.blocks.items)) }
 {
     let _functions = program.functions();
     let _results = program.results();
@@ -82,7 +84,8 @@ pub(crate) fn waits_for(
     task: &Task,
 ) -> Option<FunId>
     requires keeps { Keeps program.now d run.now }
-    ensures { option_map (λ (f : TheFunId). f.0) result ≡ blocker_of (program_in program.now) (task_of task.now) (map outcome (a.blocks_of run.now.blocks.items)) }
+    ensures { option_map (λ (f : TheFunId). f.0) result
+        ≡ blocker_of (program_in program.now) (task_of task.now) (map outcome (a.blocks_of run.now.blocks.items)) }
 {
     let _functions = program.functions();
     let _results = program.results();
@@ -123,7 +126,8 @@ pub(crate) fn push(
 ) -> Result<(), AllocError>
     requires keeps { Keeps program.now d run.old }
     requires next { next_after (program_in program.now) (first_of d) (a.blocks_of run.old.blocks.items) ≡ Some (task_of block.task) }
-    requires sizes { IfSolved (a.body_of block.body) (sizes.now ≡ sizes_in (program_in program.now) d (a.blocks_of run.old.blocks.items) (task_of block.task)) }
+    requires sizes { IfSolved (a.body_of block.body)
+        (sizes.now ≡ sizes_in (program_in program.now) d (a.blocks_of run.old.blocks.items) (task_of block.task)) }
     ensures keeps { OnOk result (Keeps program.now d run.new) }
     ensures state { OnOk result (state_of run.new ≡ with_block (task_of block.task) (a.body_of block.body) (state_of run.old)) }
 {

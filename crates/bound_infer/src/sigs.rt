@@ -115,7 +115,9 @@ pub(crate) fn times_all_hints(
     factor: &Factor,
 ) -> Result<Vec<Vec<Hint>>, TimesFault>
     requires { 0 < factor.now }
-    ensures made { IfOk result (λ made. map hints_of made.items ≡ map (λ (hs : Vec TheHint TheGlobal). map (λ h. times_hint factor.now (hint_of h)) hs.items) lists.now) }
+    ensures made { IfOk result
+        (λ made. map hints_of made.items ≡ map
+        (λ (hs : Vec TheHint TheGlobal). map (λ h. times_hint factor.now (hint_of h)) hs.items) lists.now) }
     ensures fit { IfOk result (λ _. All (λ (hs : Vec TheHint TheGlobal). HintsFit factor.now hs.items) lists.now) }
     ensures leaves { result ≡ Err TimesFault.Leaves → All (λ (hs : Vec TheHint TheGlobal). HintsFit factor.now hs.items) lists.now → ⊥ }
 {

@@ -173,13 +173,16 @@ fn told(
 ) -> Result<(Vec<Sig>, Vec<Vec<Hint>>), AllocError>
     requires keeps { Keeps program.now d run.now }
     requires plans { ArePlansOf (program_in program.now) task.now.group (budget_of d (kind_of task.now.kind)) plans.now }
-    requires one_each { length numbers.now ≡ unknowns_of (bodies_of (program_in program.now) d (a.blocks_of run.now.blocks.items) (task_of task.now)) }
+    requires one_each { length numbers.now
+        ≡ unknowns_of (bodies_of (program_in program.now) d (a.blocks_of run.now.blocks.items) (task_of task.now)) }
     requires few { length numbers.now ≤ 2000 }
     requires natural { NoneNegative numbers.now }
     ensures sigs { IfOk result (λ told. map a.sig_of told.0.items
-        ≡ sigs_told (bodies_of (program_in program.now) d (a.blocks_of run.now.blocks.items) (task_of task.now)) (map unsigned_abs numbers.now)) }
+        ≡ sigs_told (bodies_of (program_in program.now) d (a.blocks_of run.now.blocks.items)
+        (task_of task.now)) (map unsigned_abs numbers.now)) }
     ensures hints { IfOk result (λ told. map a.hints_of told.1.items
-        ≡ hints_told (bodies_of (program_in program.now) d (a.blocks_of run.now.blocks.items) (task_of task.now)) (map unsigned_abs numbers.now)) }
+        ≡ hints_told (bodies_of (program_in program.now) d (a.blocks_of run.now.blocks.items)
+        (task_of task.now)) (map unsigned_abs numbers.now)) }
 {
     let bodies = plans.over(alloc, &run.earlier)?;
     told_by(alloc, &bodies, numbers)
@@ -200,7 +203,8 @@ pub(crate) fn solved(
     requires begins { Begins (state_of run.old) }
     requires next { next_after (program_in program.now) (first_of d) (a.blocks_of run.old.blocks.items) ≡ Some (task_of task.now) }
     requires plans { ArePlansOf (program_in program.now) task.now.group (budget_of d (kind_of task.now.kind)) plans.now }
-    requires one_each { length numbers.now ≡ unknowns_of (bodies_of (program_in program.now) d (a.blocks_of run.old.blocks.items) (task_of task.now)) }
+    requires one_each { length numbers.now
+        ≡ unknowns_of (bodies_of (program_in program.now) d (a.blocks_of run.old.blocks.items) (task_of task.now)) }
     requires few { length numbers.now ≤ 2000 }
     requires natural { NoneNegative numbers.now }
     ensures keeps { OnOk result (Keeps program.now d run.new) }
@@ -249,7 +253,9 @@ pub(crate) fn refuted(
     requires keeps { Keeps program.now d run.old }
     requires next { next_after (program_in program.now) (first_of d) (a.blocks_of run.old.blocks.items) ≡ Some (task_of task.now) }
     ensures keeps { OnOk result (Keeps program.now d run.new) }
-    ensures state { OnOk result ((ys : List ℕ) → numbers.now ≡ map pos ys → state_of run.new ≡ with_block (task_of task.now) (c.Refuted (listed 0 ys)) (state_of run.old)) }
+    ensures state { OnOk result
+        ((ys : List ℕ) → numbers.now ≡ map pos ys →
+        state_of run.new ≡ with_block (task_of task.now) (c.Refuted (listed 0 ys)) (state_of run.old)) }
 {
     let farkas = entries(alloc, numbers)?;
     let block = Block {

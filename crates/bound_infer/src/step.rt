@@ -48,10 +48,13 @@ fn carried<F: Fn(&[Frac]) -> Option<usize>>(
     requires here { ByEach F.Fn chooser.now (λ pick. IsAtHand (analysis_in program.now d pick) (state_of run.old) (task_of task.now)) }
     requires stands { StandsAt program.now d (state_of run.old) (task_of task.now) }
     requires plans { ArePlansOf (program_in program.now) task.now.group (budget_of d (kind_of task.now.kind)) plans.now }
-    requires answer { ByEach F.Fn chooser.now (λ pick. HasAnswer (analysis_in program.now d pick) (state_of run.old) (task_of task.now) answer) }
+    requires answer { ByEach F.Fn chooser.now
+        (λ pick. HasAnswer (analysis_in program.now d pick) (state_of run.old) (task_of task.now) answer) }
     ensures keeps { OnOk result (Keeps program.now d run.new) }
-    ensures steps { OnOk result (ByEach F.Fn chooser.now (λ pick. IsAfter (analysis_in program.now d pick) (state_of run.old) (state_of run.new) true)) }
-    ensures stops { IfErr result (λ fault. ByEach F.Fn chooser.now (λ pick. StopsOn (analysis_in program.now d pick) (state_of run.old) (task_of task.now) fault)) }
+    ensures steps { OnOk result
+        (ByEach F.Fn chooser.now (λ pick. IsAfter (analysis_in program.now d pick) (state_of run.old) (state_of run.new) true)) }
+    ensures stops { IfErr result
+        (λ fault. ByEach F.Fn chooser.now (λ pick. StopsOn (analysis_in program.now d pick) (state_of run.old) (task_of task.now) fault)) }
 {
     fine_is_clear();
     seen_is_first();
@@ -93,8 +96,10 @@ fn by_plans<F: Fn(&[Frac]) -> Option<usize>>(
     requires plans { ArePlansOf (program_in program.now) task.now.group (budget_of d (kind_of task.now.kind)) plans.now }
     requires fits { IsWithin (program_in program.now) d (task_of task.now) }
     ensures keeps { OnOk result (Keeps program.now d run.new) }
-    ensures steps { OnOk result (ByEach F.Fn chooser.now (λ pick. IsAfter (analysis_in program.now d pick) (state_of run.old) (state_of run.new) true)) }
-    ensures stops { IfErr result (λ fault. ByEach F.Fn chooser.now (λ pick. StopsOn (analysis_in program.now d pick) (state_of run.old) (task_of task.now) fault)) }
+    ensures steps { OnOk result
+        (ByEach F.Fn chooser.now (λ pick. IsAfter (analysis_in program.now d pick) (state_of run.old) (state_of run.new) true)) }
+    ensures stops { IfErr result
+        (λ fault. ByEach F.Fn chooser.now (λ pick. StopsOn (analysis_in program.now d pick) (state_of run.old) (task_of task.now) fault)) }
 {
     match answered(alloc, program, d, run, task, plans, chooser) {
         Err(fault) => Err(fault),
@@ -124,8 +129,10 @@ fn tried<F: Fn(&[Frac]) -> Option<usize>>(
     requires stands { StandsAt program.now d (state_of run.old) (task_of task.now) }
     ensures keeps { OnOk result (Keeps program.now d run.new) }
     ensures kept { OnOk result (AreKept (program_in program.now) kept.new) }
-    ensures steps { OnOk result (ByEach F.Fn chooser.now (λ pick. IsAfter (analysis_in program.now d pick) (state_of run.old) (state_of run.new) true)) }
-    ensures stops { IfErr result (λ fault. ByEach F.Fn chooser.now (λ pick. StopsOn (analysis_in program.now d pick) (state_of run.old) (task_of task.now) fault)) }
+    ensures steps { OnOk result
+        (ByEach F.Fn chooser.now (λ pick. IsAfter (analysis_in program.now d pick) (state_of run.old) (state_of run.new) true)) }
+    ensures stops { IfErr result
+        (λ fault. ByEach F.Fn chooser.now (λ pick. StopsOn (analysis_in program.now d pick) (state_of run.old) (task_of task.now) fault)) }
 {
     let last = kept.take(task.group, budget_of(d, task.kind));
     match planned(alloc, program, d, last, run, task) {
@@ -160,8 +167,10 @@ fn at_task<F: Fn(&[Frac]) -> Option<usize>>(
     requires here { ByEach F.Fn chooser.now (λ pick. IsAtHand (analysis_in program.now d pick) (state_of run.old) (task_of task.now)) }
     ensures keeps { OnOk result (Keeps program.now d run.new) }
     ensures kept { OnOk result (AreKept (program_in program.now) kept.new) }
-    ensures steps { OnOk result (ByEach F.Fn chooser.now (λ pick. IsAfter (analysis_in program.now d pick) (state_of run.old) (state_of run.new) true)) }
-    ensures stops { IfErr result (λ fault. ByEach F.Fn chooser.now (λ pick. StopsOn (analysis_in program.now d pick) (state_of run.old) (task_of task.now) fault)) }
+    ensures steps { OnOk result
+        (ByEach F.Fn chooser.now (λ pick. IsAfter (analysis_in program.now d pick) (state_of run.old) (state_of run.new) true)) }
+    ensures stops { IfErr result
+        (λ fault. ByEach F.Fn chooser.now (λ pick. StopsOn (analysis_in program.now d pick) (state_of run.old) (task_of task.now) fault)) }
 {
     systems_generate();
     courses_are_good();
@@ -194,8 +203,10 @@ fn step<F: Fn(&[Frac]) -> Option<usize>>(
     requires reached { ByEach F.Fn chooser.now (λ pick. Reached (analysis_in program.now d pick) (state_of run.old)) }
     ensures keeps { OnOk result (Keeps program.now d run.new) }
     ensures kept { OnOk result (AreKept (program_in program.now) kept.new) }
-    ensures steps { IfOk result (λ on. ByEach F.Fn chooser.now (λ pick. IsAfter (analysis_in program.now d pick) (state_of run.old) (state_of run.new) on)) }
-    ensures stops { IfErr result (λ fault. ByEach F.Fn chooser.now (λ pick. StopsIn (analysis_in program.now d pick) (state_of run.old) fault)) }
+    ensures steps { IfOk result
+        (λ on. ByEach F.Fn chooser.now (λ pick. IsAfter (analysis_in program.now d pick) (state_of run.old) (state_of run.new) on)) }
+    ensures stops { IfErr result
+        (λ fault. ByEach F.Fn chooser.now (λ pick. StopsIn (analysis_in program.now d pick) (state_of run.old) fault)) }
 {
     systems_generate();
     match current(program, d, run) {

@@ -61,7 +61,8 @@ pub(crate) fn planned(
     requires stands { StandsAt program.now d (state_of run.now) (task_of task.now) }
     ensures plans { IfOk result (ArePlansOf (program_in program.now) task.now.group (budget_of d (kind_of task.now.kind))) }
     ensures fits { OnOk result (IsWithin (program_in program.now) d (task_of task.now)) }
-    ensures fault { IfErr result (λ fault. (pick : List ℤ → ℤ → Option ℕ) → StopsOn (analysis_in program.now d pick) (state_of run.now) (task_of task.now) fault) }
+    ensures fault { IfErr result
+        (λ fault. (pick : List ℤ → ℤ → Option ℕ) → StopsOn (analysis_in program.now d pick) (state_of run.now) (task_of task.now) fault) }
 {
     limits_are_told();
     seen_is_first();
@@ -87,8 +88,10 @@ fn system(
     requires plans { map body_of plans.now ≡ bodies_of (program_in program.now) d (blocks_of run.now.blocks.items) (task_of task.now) }
     requires indices { IsWithin (program_in program.now) d (task_of task.now) }
     ensures few { IfOk result (λ made. right made < 2 ^ 32) }
-    ensures made { IfOk result (λ made. (pick : List ℤ → ℤ → Option ℕ) → HasSystem (analysis_in program.now d pick) (state_of run.now) (task_of task.now) made) }
-    ensures fault { IfErr result (λ fault. (pick : List ℤ → ℤ → Option ℕ) → StopsOn (analysis_in program.now d pick) (state_of run.now) (task_of task.now) fault) }
+    ensures made { IfOk result
+        (λ made. (pick : List ℤ → ℤ → Option ℕ) → HasSystem (analysis_in program.now d pick) (state_of run.now) (task_of task.now) made) }
+    ensures fault { IfErr result
+        (λ fault. (pick : List ℤ → ℤ → Option ℕ) → StopsOn (analysis_in program.now d pick) (state_of run.now) (task_of task.now) fault) }
 {
     limits_are_told();
     seen_is_first();
@@ -157,8 +160,11 @@ pub(crate) fn answered<F: Fn(&[Frac]) -> Option<usize>>(
     requires stands { StandsAt program.now d (state_of run.now) (task_of task.now) }
     requires plans { ArePlansOf (program_in program.now) task.now.group (budget_of d (kind_of task.now.kind)) plans.now }
     requires indices { IsWithin (program_in program.now) d (task_of task.now) }
-    ensures answer { IfOk result (λ answer. ByEach F.Fn chooser.now (λ pick. HasAnswer (analysis_in program.now d pick) (state_of run.now) (task_of task.now) answer)) }
-    ensures fault { IfErr result (λ fault. ByEach F.Fn chooser.now (λ pick. StopsOn (analysis_in program.now d pick) (state_of run.now) (task_of task.now) fault)) }
+    ensures answer { IfOk result
+        (λ answer. ByEach F.Fn chooser.now
+        (λ pick. HasAnswer (analysis_in program.now d pick) (state_of run.now) (task_of task.now) answer)) }
+    ensures fault { IfErr result
+        (λ fault. ByEach F.Fn chooser.now (λ pick. StopsOn (analysis_in program.now d pick) (state_of run.now) (task_of task.now) fault)) }
 {
     let Ok(bodies) = plans.over(alloc, &run.earlier) else {
         return Err(InferFault::NoMemory);

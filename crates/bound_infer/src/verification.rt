@@ -34,7 +34,8 @@ fn is_memory(fault: &CertFault) -> bool
 
 // What is told where the check finds a fault.
 fn refused(fault: CertFault) -> VerifyFault
-    ensures { (P : Program) (certificate : c.Certificate) → OfFault (fault_of fault) (FirstFault P certificate) → VerifyCause P certificate result }
+    ensures { (P : Program) (certificate : c.Certificate) →
+        OfFault (fault_of fault) (FirstFault P certificate) → VerifyCause P certificate result }
 {
     if is_memory(&fault) {
         VerifyFault::NoMemory

@@ -103,7 +103,8 @@ impl<'p, 'a> Verified<'p, 'a> {
     pub fn line(&self, alloc: Global, fun: FunId, meter: Meter) -> Result<Line, AllocError>
         requires fun { fun.0 < length (source_in self.now.program) }
         requires meter { Contains (meters (has_work self.now.certificate)) meter }
-        ensures line { IfOk result (λ told. lines_for (program_in self.now.program) self.now.certificate fun.0 meter ≡ line fun.0 meter (claim_of told) ∷ []) }
+        ensures line { IfOk result
+            (λ told. lines_for (program_in self.now.program) self.now.certificate fun.0 meter ≡ line fun.0 meter (claim_of told) ∷ []) }
         ensures poly { IfOk result IsWritten }
         ensures bounds { IfOk result (λ told. IsTrue (source_in self.now.program) fun.0 meter (claim_of told)) }
         ensures tells { IfOk result (λ told. Tells (program_in self.now.program) self.now.certificate fun.0 meter (claim_of told)) }

@@ -53,11 +53,12 @@ pub record Decides (N : Program) (c : Certificate) (line : Line) (verdict : Verd
   pub is : IsOwn N c line place own
   pub decided : IsVerdict N c line place own verdict
 
--- What is declared bounds the function's cost on the meter, on all arguments, at every limit and after every number of instructions. It is told by the numbers
--- over any one denominator that are those of the line.
+-- What is declared bounds the function's cost on the meter, on all arguments, at every limit and after every number of
+-- instructions. It is told by the numbers over any one denominator that are those of the line.
 abbrev pub IsDeclaredBound : Prog → ℕ → Line → Type 0
 IsDeclaredBound P degree line =
-    (g : Function) → slice_get P line.fun ≡ Some g → (den : ℕ) → 0 < den → (q : ℕ → ℕ) → AreDeclared line.bound (size (types_of g) degree) den q →
+    (g : Function) → slice_get P line.fun ≡ Some g → (den : ℕ) → 0 < den → (q : ℕ → ℕ) →
+    AreDeclared line.bound (size (types_of g) degree) den q →
     Bounds P line.fun g line.meter den (terms_at (types_of g) degree q)
 
 -- what a verdict is good for
@@ -75,5 +76,6 @@ verdict_line P line (Waits f) = calls_line (name_at P line.fun) line.meter (name
 abbrev pub AreVerdictLines : Prog → Program → Certificate → List Line → Text → Type 0
 AreVerdictLines P N c [] text = text ≡ []
 AreVerdictLines P N c (line ∷ lines) text =
-    (verdict : Verdict) × (rest : Text) × Decides N c line verdict × VerdictHolds P c.degree line verdict × (text ≡ verdict_line P line verdict ++ rest)
+    (verdict : Verdict) × (rest : Text) × Decides N c line verdict
+    × VerdictHolds P c.degree line verdict × (text ≡ verdict_line P line verdict ++ rest)
     × AreVerdictLines P N c lines rest

@@ -1,5 +1,6 @@
 // The verdicts of declared bounds.
-ghost use Rattle.std.specs.Prelude.{◌≡◌, ◌<◌, ◌^◌, ◌++◌, ℕ, ℤ, suc, true, codes, List, length, slice_get, Option, Some, OnOk, IfOk, IfErr, string_bytes};
+ghost use Rattle.std.specs.Prelude.{◌≡◌, ◌<◌, ◌^◌, ◌++◌, ℕ, ℤ, suc, true, codes, List, length, slice_get, Option, Some, OnOk, IfOk, IfErr};
+ghost use Rattle.std.specs.Prelude.{string_bytes};
 ghost use Rattle.raml_syntax.specs.Read.{program_of};
 ghost use Rattle.share_normal.specs.Program.{source_in};
 ghost use Rattle.rules_plan.specs.Read.{program_in};
@@ -46,7 +47,8 @@ pub fn verdict_lines(
     requires few { length declared.now.lines < 2 ^ 31 }
     requires asked { (number : ℕ) (line : Line) → slice_get declared.now.lines number ≡ Some line → MayBeAsked checked.now line }
     ensures lines { IfOk result (λ text.
-        AreVerdictLines (source_in checked.now.program) (program_in checked.now.program) checked.now.certificate declared.now.lines (string_bytes text)) }
+        AreVerdictLines (source_in checked.now.program)
+        (program_in checked.now.program) checked.now.certificate declared.now.lines (string_bytes text)) }
     ensures clear { OnOk result (AllLinesClear (program_in checked.now.program) checked.now.certificate least_pick declared.now.lines) }
     ensures fault { IfErr result (VerdictsRefused (program_in checked.now.program) checked.now.certificate least_pick declared.now.lines) }
 {
@@ -75,7 +77,8 @@ fn each_line<F: Fn(&[Frac]) -> Option<usize>>(
     requires few { length declared.now.lines < 2 ^ 31 }
     requires asked { AllCanBeAsked checked.now declared.now.lines }
     ensures lines { IfOk result (λ text.
-        AreVerdictLines (source_in checked.now.program) (program_in checked.now.program) checked.now.certificate declared.now.lines (string_bytes text)) }
+        AreVerdictLines (source_in checked.now.program)
+        (program_in checked.now.program) checked.now.certificate declared.now.lines (string_bytes text)) }
     ensures clear { OnOk result ((pick : List ℤ → ℤ → Option ℕ) → AnswersBy F.Fn chooser.now pick →
         AllLinesClear (program_in checked.now.program) checked.now.certificate pick declared.now.lines) }
     ensures fault { IfErr result (λ fault. (pick : List ℤ → ℤ → Option ℕ) → AnswersBy F.Fn chooser.now pick →
@@ -116,10 +119,12 @@ fn push_line<F: Fn(&[Frac]) -> Option<usize>>(
     requires there { number < length declared.now.lines }
     requires few { length declared.now.lines < 2 ^ 31 }
     requires asked { AllCanBeAsked decider.old declared.now.lines }
-    requires before { (pick : List ℤ → ℤ → Option ℕ) → AnswersBy F.Fn chooser.now pick → ClearBelow decider.old declared.now.lines pick number }
+    requires before { (pick : List ℤ → ℤ → Option ℕ) → AnswersBy F.Fn chooser.now pick →
+        ClearBelow decider.old declared.now.lines pick number }
     ensures same { decider.new ≡ decider.old }
     ensures line { OnOk result (HasVerdictLine decider.old declared.now.lines number (string_bytes text.old) (string_bytes text.new)) }
-    ensures clear { OnOk result ((pick : List ℤ → ℤ → Option ℕ) → AnswersBy F.Fn chooser.now pick → ClearBelow decider.old declared.now.lines pick (suc number)) }
+    ensures clear { OnOk result
+        ((pick : List ℤ → ℤ → Option ℕ) → AnswersBy F.Fn chooser.now pick → ClearBelow decider.old declared.now.lines pick (suc number)) }
     ensures fault { IfErr result (λ fault. (pick : List ℤ → ℤ → Option ℕ) → AnswersBy F.Fn chooser.now pick →
         VerdictsRefused (program_in decider.old.program) decider.old.certificate pick declared.now.lines fault) }
 {

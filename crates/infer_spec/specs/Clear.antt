@@ -10,7 +10,8 @@ use Rattle.infer_spec.specs.States.{State}
 use Rattle.infer_spec.specs.Generator.{What, Analysis, blocker_at, limit_at, system_at}
 use Rattle.simplex_integers.specs.Reading.{ReadsSolution, Read, BothAreFine, VectorIsFine, ArePassed, IsPassed}
 use Rattle.simplex_integers.specs.Wholes.{ScaleLeaves}
-use Rattle.infer_spec.specs.Places.{TooLarge, Row, Solve, Scale, Refute, Least, Rescale, RowFits, RowLeaves, RescaleLeaves, rule_of, IsPlace, IsClear}
+use Rattle.infer_spec.specs.Places.{TooLarge, Row, Solve, Scale, Refute, Least, Rescale, RowFits, RowLeaves, RescaleLeaves, rule_of}
+use Rattle.infer_spec.specs.Places.{IsPlace, IsClear}
 
 module _ (A : Analysis) (st : State) (task : Task) where
   -- no limit is exceeded, and every row fits
@@ -41,13 +42,15 @@ module _ (A : Analysis) (st : State) (task : Task) where
         IsVerdict (refuting (system_at A st task) (map pos y)) (Leaves column) → IsPlace A st task (Refute column)
     pub least : RowsAreFine → (t : ℕ) (x y : List ℕ) → BothAreFine (rule_of A) (system_at A st task) t x y → (column : ℕ) →
         IsVerdict (proving_least (system_at A st task) (map pos x) (map pos y) (pos t)) (Leaves column) → IsPlace A st task (Least column)
-    pub rescale : RowsAreFine → (u : ℕ) (z y : List ℕ) → BothAreFine (rule_of A) (system_at A st task) u z y → ArePassed (system_at A st task) u z y →
+    pub rescale : RowsAreFine → (u : ℕ) (z y : List ℕ) →
+        BothAreFine (rule_of A) (system_at A st task) u z y → ArePassed (system_at A st task) u z y →
         (t : ℕ) (x : List ℕ) → ReadsSolution (rule_of A) (system_at A st task) t x → (place : ℕ) → RescaleLeaves task.kind t st place →
         IsPlace A st task (Rescale place)
 
 -- Where all is fine, no place comes on the task.
 pub record FineIsClear : Type 0 where
-  pub solved : (A : Analysis) (st : State) (task : Task) (t : ℕ) (x : List ℕ) → RowsAreFine A st task → IsSolvedFine A st task t x → IsClear A st task
+  pub solved : (A : Analysis) (st : State) (task : Task) (t : ℕ) (x : List ℕ) →
+      RowsAreFine A st task → IsSolvedFine A st task t x → IsClear A st task
   pub refuted : (A : Analysis) (st : State) (task : Task) (y : List ℕ) → RowsAreFine A st task →
       VectorIsFine (rule_of A) (system_at A st task) y → IsPassed (system_at A st task) y → IsClear A st task
 

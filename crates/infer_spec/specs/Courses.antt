@@ -57,8 +57,8 @@ module _ (A : Analysis) where
   abbrev pub large_of : List ℕ → List ℕ
   large_of funs = filter (λ fun. has_more most_allowed A.degree (slice_get (results A.program) fun)) funs
 
-  -- The schedule does not go on. The task that is named is that of the full budget and of target 0, for the first function of the group whose result has
-  -- too many indices.
+  -- The schedule does not go on. The task that is named is that of the full budget and of target 0, for the first
+  -- function of the group whose result has too many indices.
   pub record OnGroup (st : State) (task : Task) (p : Place) : Type 0 where
     pub refused : IsRefusedAt A st
     pub fun : ℕ

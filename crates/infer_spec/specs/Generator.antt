@@ -20,8 +20,9 @@ pub data What : Type 0 where
   Unknowns : What
   Rows : What
 
--- For a task over the blocks before it: the signatures and the hints that numbers for its unknowns stand for. And whether all contexts and types of the
--- walks through the bodies of a task's group have few enough indices at its budget.
+-- For a task over the blocks before it: the signatures and the hints that numbers for its unknowns stand for. And
+-- whether all contexts and types of the walks through the bodies of a task's group have few enough indices at its
+-- budget.
 pub record Generator : Type 0 where
   pub sigs : List Block → Task → List ℕ → List Sig
   pub hints : List Block → Task → List ℕ → List (List Hint)

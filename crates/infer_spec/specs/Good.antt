@@ -48,5 +48,6 @@ AllLeast P certificate = (place : ℕ) (block : Block) → slice_get certificate
 
 -- the tasks of its refuted blocks are refuted
 abbrev pub AllRefuted : Program → Certificate → Type 0
-AllRefuted P certificate = (place : ℕ) (block : Block) (farkas : Entries) → slice_get certificate.blocks place ≡ Some block → block.body ≡ c.Refuted farkas →
+AllRefuted P certificate =
+    (place : ℕ) (block : Block) (farkas : Entries) → slice_get certificate.blocks place ≡ Some block → block.body ≡ c.Refuted farkas →
     Refuted P certificate.degree (before certificate place) block.task (scale_for certificate block.task.kind)

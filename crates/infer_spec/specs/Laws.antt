@@ -61,7 +61,8 @@ schedule_of P c = record { results = results P; groups = P.groups; degree = c.de
 -- At no place does the schedule refuse to go on, and no task that is tried exceeds a limit over the blocks before it.
 pub record StaysWithin (A : Analysis) (c : Certificate) : Type 0 where
   pub goes_on : (place : ℕ) → IsRefused most_allowed (schedule_of A.program c) (done_before c place) → ⊥
-  pub limits : (place : ℕ) (block : Block) → slice_get c.blocks place ≡ Some block → blocker_of A.program block.task (done_before c place) ≡ None →
+  pub limits : (place : ℕ) (block : Block) → slice_get c.blocks place ≡ Some block →
+      blocker_of A.program block.task (done_before c place) ≡ None →
       limit_of A.generator block.task (system A.program c.degree (before c place) block.task (scale_for c block.task.kind)) ≡ None
 
 abbrev pub CoursesStayWithin : Type 0

@@ -37,7 +37,8 @@ Tells P c f meter NoBound = IsUnbounded P c f meter
 Tells P c f meter (CallsUnbounded fun) = WaitsFor P c f meter fun
 
 abbrev pub LinesTell : Type 0
-LinesTell = (P : Program) (c : Certificate) → Held P c → AllRefuted P c → (l : Line) → Contains (lines P c) l → Tells P c l.fun l.meter l.claim
+LinesTell =
+    (P : Program) (c : Certificate) → Held P c → AllRefuted P c → (l : Line) → Contains (lines P c) l → Tells P c l.fun l.meter l.claim
 
 -- A certificate that is held has a block for each meter that it counts and each group, and so for each function of the group.
 abbrev pub BlocksAreThere : Type 0

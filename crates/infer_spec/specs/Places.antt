@@ -69,7 +69,8 @@ pub record BlockLeaves (meter : Meter) (t : ℕ) (st : State) (place : ℕ) : Ty
   pub there : slice_get st.blocks place ≡ Some block
   pub of_meter : IsOfMeter meter block
   pub leaves : RaisedFits meter t st block → ⊥
-  pub before : (i : ℕ) (other : Block) → i < place → slice_get st.blocks i ≡ Some other → IsOfMeter meter other → RaisedFits meter t st other
+  pub before : (i : ℕ) (other : Block) → i < place → slice_get st.blocks i ≡ Some other →
+      IsOfMeter meter other → RaisedFits meter t st other
 
 -- nothing is raised for a cost-free task
 abbrev pub RescaleLeaves : Kind → ℕ → State → ℕ → Type 0
@@ -101,7 +102,8 @@ module _ (A : Analysis) where
       × IsVerdict (refuting (system_at A st task) (map pos y)) (Leaves column)
   Comes st task (Least column) = (t : ℕ) × (x : List ℕ) × (y : List ℕ) × ReadsBoth (rule_of A) (system_at A st task) t x y
       × IsVerdict (proving_least (system_at A st task) (map pos x) (map pos y) (pos t)) (Leaves column)
-  Comes st task (Rescale place) = (t : ℕ) × (x : List ℕ) × ReadsSolution (rule_of A) (system_at A st task) t x × RescaleLeaves task.kind t st place
+  Comes st task (Rescale place) =
+      (t : ℕ) × (x : List ℕ) × ReadsSolution (rule_of A) (system_at A st task) t x × RescaleLeaves task.kind t st place
 
   -- the task is tried, and this place comes first on it
   pub record IsPlace (st : State) (task : Task) (p : Place) : Type 0 where

@@ -26,13 +26,14 @@ vector_of s farkas = map (λ row. number_at row farkas) (range_with_len 0 (lengt
 abbrev pub NoneLeaves : LinearSystem → Type 0
 NoneLeaves s = (place : ℕ) → RowLeaves s.rows place → ⊥
 
--- The faults of a vector in the order in which they are tried: the limit that its task exceeds, a row of its system, an entry at a number that is no
--- row, and the check, which refuses the vector or leaves 128 bits.
+-- The faults of a vector in the order in which they are tried: the limit that its task exceeds, a row of its system, an
+-- entry at a number that is no row, and the check, which refuses the vector or leaves 128 bits.
 abbrev pub VectorFault : Option What → LinearSystem → Entries → Fault → Type 0
 VectorFault limit s farkas (TooLarge what) = limit ≡ Some what
 VectorFault limit s farkas (Row place) = (limit ≡ None) × RowLeaves s.rows place
 VectorFault limit s farkas NotRefuted = (limit ≡ None) × NoneLeaves s
-    × ((AreRows (length s.rows) farkas → ⊥) ⊎ (AreRows (length s.rows) farkas × (column : ℕ) × IsVerdict (refuting s (vector_of s farkas)) (No column)))
+    × ((AreRows (length s.rows) farkas → ⊥)
+    ⊎ (AreRows (length s.rows) farkas × (column : ℕ) × IsVerdict (refuting s (vector_of s farkas)) (No column)))
 VectorFault limit s farkas (Refute column) = (limit ≡ None) × NoneLeaves s
     × AreRows (length s.rows) farkas × IsVerdict (refuting s (vector_of s farkas)) (Leaves column)
 

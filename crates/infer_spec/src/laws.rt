@@ -1,6 +1,8 @@
 // Laws of courses: each is the contract of a function that does nothing.
 ghost use Rattle.infer_spec.specs.Clear.{FineIsClear, SeenIsFirst};
-ghost use Rattle.infer_spec.specs.Laws.{CoursesAreGood, CoursesCertify, CoursesEnd, CoursesStayWithin, EndsOrStops, FoundIsLeast, FoundIsRefuted, NoneTooLarge, NoneUnrefuted, OneCertificate, OnePlace, RaisedRowsAreRefuted, RaisedStayGood, ScalesBegin};
+ghost use Rattle.infer_spec.specs.Laws.{CoursesAreGood, CoursesCertify, CoursesEnd, CoursesStayWithin, EndsOrStops, FoundIsLeast};
+ghost use Rattle.infer_spec.specs.Laws.{FoundIsRefuted, NoneTooLarge, NoneUnrefuted, OneCertificate, OnePlace, RaisedRowsAreRefuted};
+ghost use Rattle.infer_spec.specs.Laws.{RaisedStayGood, ScalesBegin};
 ghost use Rattle.infer_spec.specs.Lines.{BlocksAreThere, LinesTell};
 
 use simplex_spec::one_course;

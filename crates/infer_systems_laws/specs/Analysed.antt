@@ -24,10 +24,12 @@ is_within (n.Let k x A a b) C T d = are_small C T d
     && is_within b (others a C ++ (x, A) ∷ []) T d
 is_within (n.Split k x y z a) C T d = are_small C T d && is_within a (opened x (y ∷ z ∷ []) parts_of C) T d
 is_within (n.If k x a b) C T d = are_small C T d && is_within a (without x C) T d && is_within b (without x C) T d
-is_within (n.CaseList k x a h t b) C T d = are_small C T d && is_within a (without x C) T d && is_within b (opened x (h ∷ t ∷ []) parts_of C) T d
+is_within (n.CaseList k x a h t b) C T d =
+    are_small C T d && is_within a (without x C) T d && is_within b (opened x (h ∷ t ∷ []) parts_of C) T d
 is_within (n.CaseTree k x a e y z b) C T d =
     are_small C T d && is_within a (without x C) T d && is_within b (opened x (e ∷ y ∷ z ∷ []) parts_of C) T d
-is_within (n.CaseOption k x a y b) C T d = are_small C T d && is_within a (without x C) T d && is_within b (opened x (y ∷ []) parts_of C) T d
+is_within (n.CaseOption k x a y b) C T d =
+    are_small C T d && is_within a (without x C) T d && is_within b (opened x (y ∷ []) parts_of C) T d
 is_within (n.Tick k i a) C T d = are_small C T d && is_within a C T d
 is_within (n.Share k x y z a) C T d = are_small C T d && is_within a (opened x (y ∷ z ∷ []) copies_of C) T d
 is_within (n.Drop k x a) C T d = are_small C T d && is_within a (without x C) T d

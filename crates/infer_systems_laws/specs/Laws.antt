@@ -23,7 +23,8 @@ SystemsGenerate = (P : Program) → IsOrdered P → (d : ℕ) (pick : List ℤ �
 abbrev pub LimitsAreTold : Type 0
 LimitsAreTold =
     (P : Program) (d : ℕ) (task : Task) →
-    IsTrue ((generator_of P d).within task) ↔ All (λ f. FunctionWithin 2000 (slice_get P.funs f) (budget_of d task.kind)) (members P task.group)
+    IsTrue ((generator_of P d).within task) ↔ All
+    (λ f. FunctionWithin 2000 (slice_get P.funs f) (budget_of d task.kind)) (members P task.group)
 
 -- The normal form of a typed program, with its groups, is ordered.
 abbrev pub NormalsAreOrdered : Type 0

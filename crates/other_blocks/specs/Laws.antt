@@ -19,10 +19,12 @@ use Rattle.other_blocks.specs.Other.{place, OwnIsTried, raised_certificate, rais
 -- There is one first fault, or none.
 abbrev pub OneOtherFault : Type 0
 OneOtherFault =
-    (P : Program) (c : Certificate) (t : ℕ) (block : Block) (first other : Option Fault) → OtherFinds P c t block first → OtherFinds P c t block other → first ≡ other
+    (P : Program) (c : Certificate) (t : ℕ) (block : Block) (first other : Option Fault) →
+    OtherFinds P c t block first → OtherFinds P c t block other → first ≡ other
 
--- The certificate's block of the task was tried; the block is of the right shape and holds with t over the blocks before that one; no context or type in
--- its walk has more than 2000 indices at its budget; and no total of its conditions over the raised blocks leaves 127 bits, nor does its scale.
+-- The certificate's block of the task was tried; the block is of the right shape and holds with t over the blocks
+-- before that one; no context or type in its walk has more than 2000 indices at its budget; and no total of its
+-- conditions over the raised blocks leaves 127 bits, nor does its scale.
 pub record IsOther (P : Program) (c : Certificate) (t : ℕ) (block : Block) : Type 0 where
   pub tried : OwnIsTried P c t block
   pub shape : IsShaped block.body
@@ -34,15 +36,18 @@ pub record IsOther (P : Program) (c : Certificate) (t : ℕ) (block : Block) : T
 -- A solved block with cost has no fault exactly where it is so.
 abbrev pub OthersExactly : Type 0
 OthersExactly =
-    (P : Program) → IsProper P → (c : Certificate) (t : ℕ) → 0 < t → (block : Block) (meter : Meter) → block.task.kind ≡ k.With meter → IsSolved block.body →
+    (P : Program) → IsProper P → (c : Certificate) (t : ℕ) → 0 < t → (block : Block) (meter : Meter) →
+    block.task.kind ≡ k.With meter → IsSolved block.body →
     OtherFinds P c t block None ↔ IsOther P c t block
 
 -- The fault is the first condition of the block's walk over the raised blocks of which a total leaves 127 bits.
-pub record IsTotal (P : Program) (c : Certificate) (t : ℕ) (block : Block) (sigs : List Sig) (hints : List (List Hint)) (fault : Fault) : Type 0 where
+pub record IsTotal (P : Program) (c : Certificate) (t : ℕ) (block : Block) (sigs : List Sig)
+    (hints : List (List Hint)) (fault : Fault) : Type 0 where
   pub path : List ℕ
   pub index : ℕ
   pub is : fault ≡ Leaves (place P c t block) path index
-  pub first : first_fault (job_conditions (job P (raised_certificate P c t block) (raised_before P c t block) block.task) sigs hints) ≡ Some (w.Leaves path index)
+  pub first : first_fault (job_conditions
+      (job P (raised_certificate P c t block) (raised_before P c t block) block.task) sigs hints) ≡ Some (w.Leaves path index)
 
 -- A block of a task that was tried, which holds with t and whose numbers rise, has no other fault than that, where the scale times t fits.
 abbrev pub HoldsLeavesAlone : Type 0

@@ -1,5 +1,6 @@
 -- Which blocks leave 127 bits where their numbers are multiplied.
-use Rattle.std.specs.Prelude.{◌≡◌, ℕ, suc, ℤ, ◌*ℤ◌, unsigned_abs, Bool, true, false, cond, not, ◌&&◌, List, [], ◌∷◌, slice_get, Option, None, Some, option_map}
+use Rattle.std.specs.Prelude.{◌≡◌, ℕ, suc, ℤ, ◌*ℤ◌, unsigned_abs, Bool, true, false, cond, not, ◌&&◌, List, [], ◌∷◌, slice_get, Option}
+use Rattle.std.specs.Prelude.{None, Some, option_map}
 use Rattle.std.specs.List.{list_all}
 use Rattle.cost_free.specs.declared.task.Meter.{Meter}
 use Rattle.cost_free.specs.Blocked.{is_for_meter}
@@ -41,9 +42,11 @@ is_solved body = false
 
 -- a solved block with cost of the meter leaves, where the scale does or a number of it
 abbrev pub is_leaving : Meter → ℤ → Bool → Block → Bool
-is_leaving meter t scale_fits block = (is_for_meter meter block.task.kind && is_solved block.body) && not (scale_fits && body_fits t block.body)
+is_leaving meter t scale_fits block =
+    (is_for_meter meter block.task.kind && is_solved block.body) && not (scale_fits && body_fits t block.body)
 
 -- the place of the first that leaves
 abbrev pub first_leaving : Meter → ℤ → Bool → List Block → Option ℕ
 first_leaving meter t scale_fits [] = None
-first_leaving meter t scale_fits (b ∷ bs) = cond (is_leaving meter t scale_fits b) (Some 0) (option_map suc (first_leaving meter t scale_fits bs))
+first_leaving meter t scale_fits (b ∷ bs) =
+    cond (is_leaving meter t scale_fits b) (Some 0) (option_map suc (first_leaving meter t scale_fits bs))

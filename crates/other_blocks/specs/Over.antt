@@ -16,8 +16,8 @@ pub record Over : Type 0 where
   pub scale : ℕ
   pub block : Block
 
--- In the place of a block of its meter it holds with t, within the limits, over the blocks of a certificate without fault, whose scale times t is the
--- block's.
+-- In the place of a block of its meter it holds with t, within the limits, over the blocks of a certificate without
+-- fault, whose scale times t is the block's.
 pub record IsOver (o : Over) : Type 0 where
   pub meter : Meter
   pub kind : o.block.task.kind ≡ k.With meter

@@ -121,7 +121,8 @@ impl<'p, 'a> OtherBlock<'p, 'a> {
     pub fn bound(&self, alloc: Global, fun: FunId) -> Result<Poly, AllocError>
         requires { IsTrue (is_among fun.0 (members (program_in self.now.program) self.now.block.task.group)) }
         ensures told { IfOk result (λ poly. Some (told_of poly)
-            ≡ told_by self.now.scale self.now.degree (slice_get (program_in self.now.program).funs fun.0) (sig_in (program_in self.now.program) self.now.block fun.0)) }
+            ≡ told_by self.now.scale self.now.degree (slice_get (program_in self.now.program).funs fun.0)
+            (sig_in (program_in self.now.program) self.now.block fun.0)) }
         ensures poly { IfOk result IsPoly }
         ensures bounds { IfOk result (λ poly. (meter : Counted) → self.now.block.task.kind ≡ With meter →
             (source : Function) → slice_get (source_in self.now.program) fun.0 ≡ Some source →

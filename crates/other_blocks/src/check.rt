@@ -1,5 +1,6 @@
 // The check of another block of a task.
-ghost use Rattle.std.specs.Prelude.{◌≡◌, ◌≤◌, ◌<◌, ◌<ℤ◌, ◌*◌, ℕ, pos, unsigned_abs, List, [], map, length, Some, None, IsSome, IfOk, OnOk, IfErr};
+ghost use Rattle.std.specs.Prelude.{◌≡◌, ◌≤◌, ◌<◌, ◌<ℤ◌, ◌*◌, ℕ, pos, unsigned_abs, List, [], map, length, Some, None, IsSome, IfOk, OnOk};
+ghost use Rattle.std.specs.Prelude.{IfErr};
 ghost use Rattle.std.specs.Option.{unwrap_or};
 ghost use Rattle.cost_free.specs.declared.task.Meter.{Meter as Counted};
 ghost use Rattle.cost_free.specs.Read.{kind_of, task_of};
@@ -38,7 +39,8 @@ use std::alloc::Global;
 // The blocks of a meter are multiplied. Where that changes none of them, the tables stay as they are.
 fn raise_meter(earlier: &mut Earlier, meter: Meter, times: u128)
     ensures uses { earlier.new.usable ≡ earlier.old.usable }
-    ensures knows { (P : Program) (degree : ℕ) (blocks : List c.Block) → Remembers P degree blocks earlier.old → Knows P degree (map (raised meter times) blocks) earlier.new }
+    ensures knows { (P : Program) (degree : ℕ) (blocks : List c.Block) → Remembers P degree blocks earlier.old →
+        Knows P degree (map (raised meter times) blocks) earlier.new }
     ensures once { times ≡ 1 → earlier.new ≡ earlier.old }
 {
     if times != 1 {
@@ -49,7 +51,8 @@ fn raise_meter(earlier: &mut Earlier, meter: Meter, times: u128)
 // The blocks of the task's meter are multiplied; none of them is where it is one without cost.
 fn raise_for(earlier: &mut Earlier, kind: TaskKind, times: u128)
     ensures uses { earlier.new.usable ≡ earlier.old.usable }
-    ensures knows { (P : Program) (degree : ℕ) (blocks : List c.Block) → Remembers P degree blocks earlier.old → Knows P degree (blocks_before (kind_of kind) times blocks) earlier.new }
+    ensures knows { (P : Program) (degree : ℕ) (blocks : List c.Block) → Remembers P degree blocks earlier.old →
+        Knows P degree (blocks_before (kind_of kind) times blocks) earlier.new }
     ensures once { times ≡ 1 → earlier.new ≡ earlier.old }
 {
     match kind {
@@ -83,8 +86,10 @@ fn check_over(
     requires solved { IsSolved (a.body_of block.now.body) }
     requires place { place ≡ unwrap_or (place_among (task_of block.now.task) (a.blocks_of certificate.now.blocks.items)) 0 }
     requires there { place < length certificate.now.blocks.items }
-    requires remembers { Remembers (program_in program.now) certificate.now.degree (before (certificate_of certificate.now) place) earlier.old }
-    requires plans { ArePlansOf (program_in program.now) block.now.task.group (budget_of certificate.now.degree (kind_of block.now.task.kind)) plans.now }
+    requires remembers { Remembers (program_in program.now) certificate.now.degree
+        (before (certificate_of certificate.now) place) earlier.old }
+    requires plans { ArePlansOf (program_in program.now) block.now.task.group
+        (budget_of certificate.now.degree (kind_of block.now.task.kind)) plans.now }
     ensures tells { Tells result (ThereFinds (program_in program.now) (certificate_of certificate.now) times (a.block_of block.now)) }
     ensures once { times ≡ 1 → earlier.new ≡ earlier.old }
 {
@@ -142,8 +147,10 @@ fn check_raised(
     requires cost { (meter : Counted) × (kind_of block.now.task.kind ≡ With meter) }
     requires place { place ≡ unwrap_or (place_among (task_of block.now.task) (a.blocks_of certificate.now.blocks.items)) 0 }
     requires there { place < length certificate.now.blocks.items }
-    requires remembers { Remembers (program_in program.now) certificate.now.degree (before (certificate_of certificate.now) place) earlier.old }
-    requires plans { ArePlansOf (program_in program.now) block.now.task.group (budget_of certificate.now.degree (kind_of block.now.task.kind)) plans.now }
+    requires remembers { Remembers (program_in program.now) certificate.now.degree
+        (before (certificate_of certificate.now) place) earlier.old }
+    requires plans { ArePlansOf (program_in program.now) block.now.task.group
+        (budget_of certificate.now.degree (kind_of block.now.task.kind)) plans.now }
     ensures tells { Tells result (RaisedFinds (program_in program.now) (certificate_of certificate.now) times (a.block_of block.now)) }
     ensures scale { IfOk result (λ scale. scale ≡ pos (scale_for (certificate_of certificate.now) (kind_of block.now.task.kind) * times)) }
     ensures once { times ≡ 1 → earlier.new ≡ earlier.old }
@@ -184,9 +191,12 @@ pub fn other_by<'p, 'a>(
     requires solved { IsSolved (a.body_of block.body) }
     requires cost { (meter : Counted) × (kind_of block.task.kind ≡ With meter) }
     requires own { IsOwn checked.now.certificate (task_of block.task) place }
-    requires plans { ArePlansOf (program_in checked.now.program) block.task.group (budget_of checked.now.certificate.degree (kind_of block.task.kind)) plans.now }
-    requires remembers { Remembers (program_in checked.now.program) checked.now.certificate.degree (before checked.now.certificate place) earlier.old }
-    ensures fits { OnOk result (OtherFinds (program_in checked.now.program) checked.now.certificate (unsigned_abs times) (a.block_of block) None) }
+    requires plans { ArePlansOf (program_in checked.now.program) block.task.group
+        (budget_of checked.now.certificate.degree (kind_of block.task.kind)) plans.now }
+    requires remembers { Remembers (program_in checked.now.program) checked.now.certificate.degree
+        (before checked.now.certificate place) earlier.old }
+    ensures fits { OnOk result
+        (OtherFinds (program_in checked.now.program) checked.now.certificate (unsigned_abs times) (a.block_of block) None) }
     ensures valid { OnOk result (IsOther (program_in checked.now.program) checked.now.certificate (unsigned_abs times) (a.block_of block)) }
     ensures kept { IfOk result (λ other. other ≡ record {
       program = checked.now.program;
@@ -232,7 +242,8 @@ fn plans_for(
     requires cost { (meter : Counted) × (kind_of task.kind ≡ With meter) }
     ensures plans { IfOk result (ArePlansOf (program_in program.now) task.group (budget_of certificate.now.degree (kind_of task.kind))) }
     ensures large { IfErr result (λ fault. OfFault (fault_of fault) (λ found.
-        (found ≡ Some (TooLarge (task_of task))) × (AreWithin (program_in program.now) (certificate_of certificate.now) (task_of task) → ⊥))) }
+        (found ≡ Some (TooLarge (task_of task)))
+        × (AreWithin (program_in program.now) (certificate_of certificate.now) (task_of task) → ⊥))) }
 {
     let budget = budget_of(certificate.degree, task.kind);
     match group_plans(alloc, program, task.group, budget) {
@@ -254,7 +265,8 @@ fn other_there<'p, 'a>(
     requires solved { IsSolved (a.body_of block.body) }
     requires cost { (meter : Counted) × (kind_of block.task.kind ≡ With meter) }
     requires own { IsOwn checked.now.certificate (task_of block.task) place }
-    ensures fits { OnOk result (OtherFinds (program_in checked.now.program) checked.now.certificate (unsigned_abs times) (a.block_of block) None) }
+    ensures fits { OnOk result
+        (OtherFinds (program_in checked.now.program) checked.now.certificate (unsigned_abs times) (a.block_of block) None) }
     ensures valid { OnOk result (IsOther (program_in checked.now.program) checked.now.certificate (unsigned_abs times) (a.block_of block)) }
     ensures kept { IfOk result (λ other. other ≡ record {
       program = checked.now.program;
@@ -290,7 +302,8 @@ pub fn other<'p, 'a>(
     requires solved { IsSolved (a.body_of block.body) }
     requires cost { (meter : Counted) × (kind_of block.task.kind ≡ With meter) }
     requires there { IsSome (place_among (task_of block.task) checked.now.certificate.blocks) }
-    ensures fits { OnOk result (OtherFinds (program_in checked.now.program) checked.now.certificate (unsigned_abs times) (a.block_of block) None) }
+    ensures fits { OnOk result
+        (OtherFinds (program_in checked.now.program) checked.now.certificate (unsigned_abs times) (a.block_of block) None) }
     ensures valid { OnOk result (IsOther (program_in checked.now.program) checked.now.certificate (unsigned_abs times) (a.block_of block)) }
     ensures kept { IfOk result (λ other. other ≡ record {
       program = checked.now.program;

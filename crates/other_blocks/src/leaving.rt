@@ -149,8 +149,12 @@ fn product_fits(factor: u128, scale: u128) -> bool
 /// bits where it is multiplied by the factor; None where there is no such block. No memory is taken.
 pub fn first_leaving(blocks: &[Block], meter: Meter, factor: i128, scale: u128) -> Option<usize>
     requires { pos 0 <ℤ factor }
-    ensures some { IfSome result (λ place. (st : State) → st.blocks ≡ blocks_of blocks.now → st.scales meter ≡ scale → BlockLeaves meter (unsigned_abs factor) st place) }
-    ensures none { IfNone result ((st : State) → st.blocks ≡ blocks_of blocks.now → st.scales meter ≡ scale → (place : ℕ) → BlockLeaves meter (unsigned_abs factor) st place → ⊥) }
+    ensures some { IfSome result
+        (λ place. (st : State) → st.blocks ≡ blocks_of blocks.now → st.scales meter ≡ scale →
+        BlockLeaves meter (unsigned_abs factor) st place) }
+    ensures none { IfNone result
+        ((st : State) → st.blocks ≡ blocks_of blocks.now → st.scales meter ≡ scale → (place : ℕ) →
+        BlockLeaves meter (unsigned_abs factor) st place → ⊥) }
 {
     let scale_fits = product_fits(factor.unsigned_abs(), scale);
     first_among(meter, factor, scale_fits, blocks)

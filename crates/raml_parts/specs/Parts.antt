@@ -60,7 +60,8 @@ abbrev pub Gives : (Answer → Type 0) → Result Report TheRefusal → Type 0
 Gives Q (Ok report) = (e : Ending) × (ending_of report.status ≡ Some e) × Q (s.Report e report.text.items)
 Gives Q (Err refusal) =
     IsWanting refusal
-    ⊎ ((names : Names) × (e : Ending) × (ending_of refusal.status ≡ Some e) × (line_text refusal.line ≡ line_of names refusal.status) × Q (Refusal names e))
+    ⊎ ((names : Names) × (e : Ending) × (ending_of refusal.status ≡ Some e)
+    × (line_text refusal.line ≡ line_of names refusal.status) × Q (Refusal names e))
 
 abbrev pub Before : (Text → ℕ) → (Text → ℕ) → Type 0
 Before before now = (name : Text) → before name ≤ now name

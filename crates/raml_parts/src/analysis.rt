@@ -55,7 +55,8 @@ pub fn analyse<'p, 'a>(
     ensures course { IfOk result (λ verified. IsInferred (analysis (program_in program.now) degree rule) verified.certificate) }
     ensures least { IfOk result (λ verified. AllLeast (program_in program.now) verified.certificate) }
     ensures proved { IfOk result (λ verified. IsProved (source_in program.now) (program_in program.now) verified.certificate) }
-    ensures err { IfErr result (Refuses (names_in program.now) (RefusedOf whose (CourseRefuses (analysis (program_in program.now) degree rule)))) }
+    ensures err { IfErr result
+        (Refuses (names_in program.now) (RefusedOf whose (CourseRefuses (analysis (program_in program.now) degree rule)))) }
 {
     match by_rule(alloc, program, degree, rule) {
         Ok(verified) => {

@@ -44,7 +44,8 @@ pub fn read_call<S: Store>(
     ensures ok { (before : Text → ℕ) →
         IfOk result (ReadsCall (store_of (S.holds store.old) before (S.faults store.new)) (program_of typed.now) name.now file.now) }
     ensures err { (before : Text → ℕ) → Before before (S.faults store.old) →
-        IfErr result (Refuses no_names (CallRefuses (store_of (S.holds store.old) before (S.faults store.new)) (program_of typed.now) name.now file.now)) }
+        IfErr result (Refuses no_names
+        (CallRefuses (store_of (S.holds store.old) before (S.faults store.new)) (program_of typed.now) name.now file.now)) }
     ensures kept { S.holds store.new ≡ S.holds store.old }
     ensures later { (other : Text) → S.faults store.old other ≤ S.faults store.new other }
 {

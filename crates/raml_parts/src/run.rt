@@ -36,8 +36,10 @@ pub fn execute(
     requires few_nodes { program_nodes (program_of typed.now) ≤ 2097152 }
     requires steps { limits.steps ≤ 1000000000 }
     requires cells { limits.cells ≤ 16777216 }
-    requires arguments { (f : Placed) × (vs : List Value) × (f.0 ≡ place.0) × HasArguments (program_of typed.now) f heap.cells args.items vs }
-    ensures ok { IfOk result (λ report. RanOn (program_of typed.now) place.0 heap.cells args.items (limits_of limits) report.status (report.text.items)) }
+    requires arguments { (f : Placed) × (vs : List Value) × (f.0 ≡ place.0)
+        × HasArguments (program_of typed.now) f heap.cells args.items vs }
+    ensures ok { IfOk result
+        (λ report. RanOn (program_of typed.now) place.0 heap.cells args.items (limits_of limits) report.status (report.text.items)) }
     ensures err { IfErr result IsWanting }
 {
     never_asks();

@@ -30,7 +30,8 @@ pub fn read_certificate<S: Store>(
     file: &str,
 ) -> Result<Certificate, Refusal>
     ensures ok { (before : Text → ℕ) →
-        IfOk result (λ certificate. IsCertificateFile (store_of (S.holds store.old) before (S.faults store.new)) file.now (certificate_of certificate)) }
+        IfOk result (λ certificate. IsCertificateFile
+        (store_of (S.holds store.old) before (S.faults store.new)) file.now (certificate_of certificate)) }
     ensures err { (before : Text → ℕ) → Before before (S.faults store.old) →
         IfErr result (Refuses no_names (CertificateRefuses (store_of (S.holds store.old) before (S.faults store.new)) file.now)) }
     ensures kept { S.holds store.new ≡ S.holds store.old }
@@ -68,7 +69,8 @@ pub fn verified<'p, 'a>(
 
 // Why a certificate is not verified.
 fn verify_refusal(alloc: Global, program: &NormProgram<'_>, fault: VerifyFault) -> Refusal
-    ensures { (c : a.Certificate) → VerifyCause (program_in program.now) c fault → Refuses (names_in program.now) (CheckRefuses (program_in program.now) c) result }
+    ensures { (c : a.Certificate) → VerifyCause (program_in program.now) c fault →
+        Refuses (names_in program.now) (CheckRefuses (program_in program.now) c) result }
 {
     match fault {
         VerifyFault::Cert(fault) => check_refusal(alloc, program, fault),

@@ -35,8 +35,9 @@ AnswersAgain Lines text (Refusal names (ReadFault file)) = Unit {0}
 AnswersAgain Lines text (Refusal names (TooLong which.Certificate)) = IsTooLong which.Certificate text
 AnswersAgain Lines text _ = ⊥
 
--- What `certify` wrote is the text of a certificate, that in which the analysis of the source's program ends; and each call of `verify` to which it is
--- given with the same source is answered with the lines of this certificate, or in those other ways.
+-- What `certify` wrote is the text of a certificate, that in which the analysis of the source's program ends; and each
+-- call of `verify` to which it is given with the same source is answered with the lines of this certificate, or in
+-- those other ways.
 pub record WritesCertificate (o : Outside) (file : Text) (degree : ℕ) (rule : Rule) : Type 0 where
   pub source : Text
   pub seen : IsRead Sound o.store (most_bytes which.Program) file (Some source)
@@ -52,7 +53,9 @@ pub record WritesCertificate (o : Outside) (file : Text) (degree : ℕ) (rule : 
 
 -- A call of `certify` that ends with status 0 does so.
 abbrev pub VerifiesAgain : Outside → Status → Type 0
-VerifiesAgain o status = (file : Text) (degree : ℕ) (rule : Rule) → Asks o.words (w.Certify file degree rule) → status ≡ s.Done → WritesCertificate o file degree rule
+VerifiesAgain o status =
+    (file : Text) (degree : ℕ) (rule : Rule) → Asks o.words (w.Certify file degree rule) →
+    status ≡ s.Done → WritesCertificate o file degree rule
 
 -- Of each call whose cause is known.
 abbrev pub WrittenVerifies : Type 0

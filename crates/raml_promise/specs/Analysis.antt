@@ -37,16 +37,17 @@ pick_of rule.Greatest = greatest_pick
 abbrev pub analysis : Program → ℕ → Rule → Analysis
 analysis N degree rule = analysis_of N degree (pick_of rule)
 
--- Why a course has no certificate: it comes to a task that is too large, or to a place where a number leaves 128 bits; or it ends, and a total does in the
--- check of its certificate.
+-- Why a course has no certificate: it comes to a task that is too large, or to a place where a number leaves 128 bits;
+-- or it ends, and a total does in the check of its certificate.
 abbrev pub CourseRefuses : Analysis → Ending → Type 0
 CourseRefuses A (TooLarge task what) = (st : State) × StopsAt A st task (p.TooLarge what)
 CourseRefuses A (Overflows (OnTask task place)) = (1 ≤ stage place) × ((st : State) × StopsAt A st task place)
 CourseRefuses A (Overflows (InCheck block path index)) = LeavesInCheck A block path index
 CourseRefuses A _ = ⊥
 
--- What is proved of each certificate whose lines are printed. It is valid: solved blocks hold, and the vector of each refuted block refutes its system. So no
--- annotation holds for the task of a refuted block. And what its lines say is true.
+-- What is proved of each certificate whose lines are printed. It is valid: solved blocks hold, and the vector of each
+-- refuted block refutes its system. So no annotation holds for the task of a refuted block. And what its lines say is
+-- true.
 pub record IsProved (P : Prog) (N : Program) (c : Certificate) : Type 0 where
   pub valid : Valid N c
   pub refuted : AllRefuted N c

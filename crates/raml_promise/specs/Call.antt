@@ -59,15 +59,16 @@ pub record Limits : Type 0 where
 
 -- No bound of cells is at most this at the arguments.
 abbrev pub NoCellsWithin : Prog → Placed → List Value → ℕ → Type 0
-NoCellsWithin P f args cells = (den : ℕ) (terms : List Term) → 0 < den → Bounds P f.0 f.1 Cells den terms → worth terms args / den ≤ cells → ⊥
+NoCellsWithin P f args cells =
+    (den : ℕ) (terms : List Term) → 0 < den → Bounds P f.0 f.1 Cells den terms → worth terms args / den ≤ cells → ⊥
 
 -- No bound of work is at most a quarter of this.
 abbrev pub NoWorkWithin : Prog → Placed → List Value → ℕ → Type 0
 NoWorkWithin P f args steps = (den : ℕ) (terms : List Term) → Bounds P f.0 f.1 Work den terms → 4 * (worth terms args / den) ≤ steps → ⊥
 
 module _ (side : Side) (P : Prog) (f : Placed) (args : List Value) (limits : Limits) (text : Text) where
-  -- The machine halts within the limits, with the value that the source's evaluation has at some depth limit, and with its ticks and cells. The text is
-  -- that value and the meters.
+  -- The machine halts within the limits, with the value that the source's evaluation has at some depth limit, and with
+  -- its ticks and cells. The text is that value and the meters.
   pub record Finishes : Type 0 where
     pub value : Value
     pub made : ℕ
@@ -78,8 +79,8 @@ module _ (side : Side) (P : Prog) (f : Placed) (args : List Value) (limits : Lim
     pub evaluated : Also side (Gives P f.1 args value (at P f.0 args made))
     pub printed : Also side (text ≡ value_lines value f.1.result (at P f.0 args made))
 
-  -- The machine goes on after all the steps. So evaluation at the next limit has more than a quarter of them as work, and no bound of work has as little.
-  -- The text is the meters there.
+  -- The machine goes on after all the steps. So evaluation at the next limit has more than a quarter of them as work,
+  -- and no bound of work has as little. The text is the meters there.
   pub record Stops : Type 0 where
     pub going : IsGoing (at P f.0 args limits.steps).at
     pub few_cells : (at P f.0 args limits.steps).cells ≤ limits.cells
@@ -88,8 +89,8 @@ module _ (side : Side) (P : Prog) (f : Placed) (args : List Value) (limits : Lim
     pub unbounded : Also side (NoWorkWithin P f args limits.steps)
     pub printed : Also side (text ≡ stopped_lines (at P f.0 args limits.steps))
 
-  -- After fewer instructions than the steps all cells are taken, and the next instruction takes one more. So no bound of cells is within the limit. The text
-  -- is the meters there.
+  -- After fewer instructions than the steps all cells are taken, and the next instruction takes one more. So no bound
+  -- of cells is within the limit. The text is the meters there.
   pub record Fills : Type 0 where
     pub made : ℕ
     pub fewer : made < limits.steps
@@ -108,7 +109,8 @@ Ends side P f args limits text HeapFull = Fills side P f args limits text
 Ends side P f args limits text _ = ⊥
 
 -- A run on the machine. Its text stands in the report between two others.
-pub record Runs (side : Side) (P : Prog) (f : Placed) (args : List Value) (limits : Limits) (front behind : Text) (a : Answer) : Type 0 where
+pub record Runs (side : Side) (P : Prog) (f : Placed) (args : List Value) (limits : Limits)
+    (front behind : Text) (a : Answer) : Type 0 where
   pub ending : Ending
   pub text : Text
   pub ends : Ends side P f args limits text ending
@@ -122,14 +124,16 @@ PointRefuses N c f args (Overflows (AtPoint meter)) = Leaves N c f.0 args meter
 PointRefuses N c f args _ = ⊥
 
 -- The bounds of a call at its arguments, rounded down.
-pub record AreFloors (side : Side) (P : Prog) (N : Program) (c : Certificate) (f : Placed) (args : List Value) (floors : Floors) : Type 0 where
+pub record AreFloors (side : Side) (P : Prog) (N : Program) (c : Certificate) (f : Placed)
+    (args : List Value) (floors : Floors) : Type 0 where
   pub are : (meter : Meter) → IsFloor N c f.0 args meter (floors meter)
   pub hold : Also side (FloorsHold P f.0 f.1 args floors)
 
 abbrev pub OfFloors : Side → Prog → Program → Certificate → Placed → List Value → (Floors → Answer → Type 0) → Answer → Type 0
 OfFloors side P N c f args Rest = Step no_names (PointRefuses N c f args) (AreFloors side P N c f args) Rest
 
--- The cells that a run may take: as the words say; else the floor of the bound of cells, where there is one of at most 16777216; else 1048576.
+-- The cells that a run may take: as the words say; else the floor of the bound of cells, where there is one of at most
+-- 16777216; else 1048576.
 abbrev pub floor_cells : Option ℕ → ℕ
 floor_cells None = 1048576
 floor_cells (Some floor) = cond (nat_le floor 16777216) floor 1048576

@@ -72,7 +72,8 @@ pub record IsToldCalmly (store : Store) (limit : ℕ) (file bytes : List ℕ) : 
   pub front : bytes ≡ take (suc limit) content
   pub calm : ¬ (Rises (store.reads file))
 
--- What is read of a file. None where it is not: then the store's count for it rose; and it is not read where it is told that there is no such file.
+-- What is read of a file. None where it is not: then the store's count for it rose; and it is not read where it is told
+-- that there is no such file.
 abbrev pub IsRead : Side → Store → ℕ → List ℕ → Option (List ℕ) → Type 0
 IsRead Sound store limit file (Some bytes) = IsSeen store limit file bytes
 IsRead Sound store limit file None = Rises (store.reads file)

@@ -1,5 +1,5 @@
--- Calls under tables of prices. What a function costs under prices is told of the program that was read; it is analysed, and run, as the program in which the
--- prices are written out as ticks.
+-- Calls under tables of prices. What a function costs under prices is told of the program that was read; it is
+-- analysed, and run, as the program in which the prices are written out as ticks.
 use Rattle.std.specs.Prelude.{◌≡◌, ◌≤◌, ◌*◌, ℕ, List, [], Some, slice_get}
 use Rattle.raml_syntax.specs.Tree.{Text, Function, Prog}
 use Rattle.raml_syntax.specs.Value.{Value, HaveTypes}
@@ -34,8 +34,8 @@ abbrev pub OfPrices : Side → Store → Text → (Prices → Answer → Type 0)
 OfPrices side store file Rest =
     OfFile side store w.Prices file (λ bytes. Step no_names (PricesRefuse bytes) (Spells bytes) (λ table. Rest (prices_in table)))
 
--- On all arguments of the function's types and at every limit, the polynomial over this denominator is at least the ticks of the run under the prices,
--- whether it has a value or is cut.
+-- On all arguments of the function's types and at every limit, the polynomial over this denominator is at least the
+-- ticks of the run under the prices, whether it has a value or is cut.
 abbrev pub BoundsPriced : Prices → Prog → Function → ℕ → List Term → Type 0
 BoundsPriced prices P g den terms =
     (args : List Value) (limit : ℕ) → HaveTypes args (types_of g) → den * (run_of prices P g args limit).ticks ≤ worth terms args
@@ -45,7 +45,8 @@ IsTrueUnder prices P f (Bound den terms) = (g : Function) → slice_get P f ≡ 
 IsTrueUnder prices P f NoBound = Unit {0}
 IsTrueUnder prices P f (CallsUnbounded callee) = Unit {0}
 
--- The lines of ticks of the program in which the prices are written out; and what they say is true of the ticks of the program under the prices.
+-- The lines of ticks of the program in which the prices are written out; and what they say is true of the ticks of the
+-- program under the prices.
 pub record ArePricedLines (prices : Prices) (P : Prog) (N : Program) (c : Certificate) (text : Text) : Type 0 where
   pub lines : AreMeterLines (applied_program prices P) N c Ticks text
   pub hold : (f : ℕ) (claim : Claim) → Claims N c f Ticks claim → IsTrueUnder prices P f claim
@@ -57,8 +58,8 @@ pub record GivesUnder (prices : Prices) (P : Prog) (g : Function) (args : List V
   pub ticks : s.ticks ≡ (run_of prices P g args limit).ticks
   pub cells : s.cells ≡ (run_of prices P g args limit).cells
 
--- A run of the program in which the prices are written out; and where the machine halts, it has the value that the program has under the prices, with its
--- ticks and cells.
+-- A run of the program in which the prices are written out; and where the machine halts, it has the value that the
+-- program has under the prices, with its ticks and cells.
 pub record Spends (side : Side) (prices : Prices) (P : Prog) (f : Placed) (args : List Value) (limits : Limits) (a : Answer) : Type 0 where
   pub runs : Runs side (applied_program prices P) (f.0, applied_function prices f.1) args limits [] [] a
   pub costs : Also side ((v : Value) (m : ℕ) → (at (applied_program prices P) f.0 args m).at ≡ Halted v →

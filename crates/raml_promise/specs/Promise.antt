@@ -27,7 +27,8 @@ use Rattle.refusals.specs.Line.{Names, no_names, line_of}
 use Rattle.refusals.specs.declared.status.Status.{Status}
 use Rattle.refusals.specs.declared.status.Status.TheVariants.{WriteFault, NoMemory}
 use Rattle.raml_promise.specs.Outside.{Outside, Store, Sink, Side, Sound, Complete, Rises, GainsNothing, Gains, GainsFront}
-use Rattle.raml_promise.specs.Steps.{Answer, Report, Refusal, ending_in, Step, Test, Prints, most_bytes, OfShort, OfSource, OfProgram, OfNormal, names_of}
+use Rattle.raml_promise.specs.Steps.{Answer, Report, Refusal, ending_in, Step, Test, Prints, most_bytes, OfShort, OfSource, OfProgram}
+use Rattle.raml_promise.specs.Steps.{OfNormal, names_of}
 use Rattle.raml_promise.specs.Analysis.{OfCourse, OfCertificate, OfCheck, PowersRefuse}
 use Rattle.raml_promise.specs.DeclaredBounds.{OfBounds, PrintsVerdicts}
 use Rattle.raml_promise.specs.Prices.{OfPrices, ArePricedLines, Spends}
@@ -83,7 +84,8 @@ BoundedCall side steps cells degree P f args = OfNormal P (λ N. OfCourse side a
     OfFloors side P N c f args (λ floors. RunsBounded side P f args steps cells floors)))
 
 abbrev pub RunsWithBounds : Side → Store → Text → Text → ℕ → Option ℕ → ℕ → Prog → Answer → Type 0
-RunsWithBounds side store name file steps cells degree P = OfCall side store P name file (λ f args. BoundedCall side steps cells degree P f args)
+RunsWithBounds side store name file steps cells degree P =
+    OfCall side store P name file (λ f args. BoundedCall side steps cells degree P f args)
 
 -- The lines of ticks of a program under a table of prices; and a run of it, whose ticks are its cost under the prices.
 abbrev pub PricesLines : Side → ℕ → Prog → Prices → Answer → Type 0
@@ -143,11 +145,13 @@ Answers side store (w.Run file name input steps cells (Some degree)) =
     OfProgram side store analysed.Program file (RunsWithBounds side store name input steps cells degree)
 Answers side store (w.Priced file prices degree) = OfProgram side store analysed.Program file (PricesProgram side store prices degree)
 Answers side store (w.Spend file prices name input steps cells) =
-    OfProgram side store analysed.Program file (SpendsWithin side store prices name input (record { steps = steps; cells = cells_or cells None }))
+    OfProgram side store analysed.Program file
+    (SpendsWithin side store prices name input (record { steps = steps; cells = cells_or cells None }))
 Answers side store (w.Compare file other degree) = OfProgram side store analysed.Program file (Compares side store other degree)
 Answers side store (w.Powers file degree) = OfProgram side store analysed.Program file (ShowsPowers side degree)
 Answers side store (w.Contract file bounds degree) = OfProgram side store analysed.Program file (ChecksBounds side store bounds degree)
-Answers side store (w.Trial count) = OfShort which.Program (trial_text count) (OfSource analysed.Program (trial_text count) (Tries side count))
+Answers side store (w.Trial count) =
+    OfShort which.Program (trial_text count) (OfSource analysed.Program (trial_text count) (Tries side count))
 
 -- what words ask for
 abbrev pub WordsAnswer : Side → List Text → Store → Answer → Type 0
@@ -165,7 +169,8 @@ Tells names status err = Gains (line_of names status) err ⊎ GainsFront (line_o
 -- A report is written whole on out, or a front of it where out's count rises. Of a refusal nothing is written there, but its line on err.
 abbrev pub EndsBy : Outside → Answer → Status → Type 0
 EndsBy o (Report e text) status =
-    ((ending_of status ≡ Some e) × Gains text o.out × GainsNothing o.err) ⊎ ((status ≡ WriteFault) × GainsFront text o.out × Tells no_names WriteFault o.err)
+    ((ending_of status ≡ Some e) × Gains text o.out × GainsNothing o.err)
+    ⊎ ((status ≡ WriteFault) × GainsFront text o.out × Tells no_names WriteFault o.err)
 EndsBy o (Refusal names e) status = (ending_of status ≡ Some e) × GainsNothing o.out × Tells names status o.err
 
 -- Memory was wanting.
@@ -176,7 +181,8 @@ LacksMemory o status = (status ≡ NoMemory) × GainsNothing o.out × Tells no_n
 abbrev pub Cause : Outside → Status → Type 0
 Cause o status = LacksMemory o status ⊎ ((a : Answer) × Comes Sound o a × EndsBy o a status)
 
--- The same ending. Where several numbers are refused at once any one of them may be told: then it is the same task, and the same kind of place.
+-- The same ending. Where several numbers are refused at once any one of them may be told: then it is the same task, and
+-- the same kind of place.
 abbrev pub Alike : Ending → Ending → Type 0
 Alike (Overflows (OnTask task place)) (Overflows (OnTask other last)) = (task ≡ other) × (stage place ≡ stage last)
 Alike (OfOther e) (OfOther other) = Alike e other

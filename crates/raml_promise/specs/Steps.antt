@@ -25,7 +25,8 @@ ending_in (Report ending text) = ending
 ending_in (Refusal names ending) = ending
 
 -- A step of a call. It is refused, and that is the answer; or it comes to something, of which the rest answers.
-pub data Step {X : Type 0} (names : Names) (Refuses : Ending → Type 0) (Comes : X → Type 0) (Rest : X → Answer → Type 0) (a : Answer) : Type 0 where
+pub data Step {X : Type 0} (names : Names) (Refuses : Ending → Type 0) (Comes : X → Type 0)
+    (Rest : X → Answer → Type 0) (a : Answer) : Type 0 where
   refused : (e : Ending) → Refuses e → a ≡ Refusal names e → Step names Refuses Comes Rest a
   goes_on : (x : X) → Comes x → Rest x a → Step names Refuses Comes Rest a
 

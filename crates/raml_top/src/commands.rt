@@ -11,7 +11,8 @@ ghost use Rattle.cert_json.specs.Told.{IsComplete};
 ghost use Rattle.refusals.specs.Refusals.{IsWanting, names_in};
 ghost use Rattle.raml_promise.specs.Outside.{Sound, store_of};
 ghost use Rattle.raml_promise.specs.Analysis.{OfCourse, OfCheck};
-ghost use Rattle.raml_promise.specs.Promise.{ListsTypes, ListsCode, PrintsLines, IsTextOf, PrintsCertificate, PrintsPowers, Analyses, Certifies, ShowsPowers, Verifies};
+ghost use Rattle.raml_promise.specs.Promise.{ListsTypes, ListsCode, PrintsLines, IsTextOf, PrintsCertificate, PrintsPowers, Analyses};
+ghost use Rattle.raml_promise.specs.Promise.{Certifies, ShowsPowers, Verifies};
 ghost use Rattle.raml_words.specs.declared.request.Rule.TheVariants as rule;
 ghost use Rattle.raml_parts.specs.Parts.{Before, IsReady, Gives, PowerRefusal};
 
@@ -135,7 +136,8 @@ fn course_certificate(
 ) -> Result<Report, Refusal>
     requires least_degree { 1 ≤ degree }
     requires most_degree { degree ≤ 4 }
-    ensures { Gives (OfCourse Sound Analysed.Program (source_in program.now) (program_in program.now) degree rule (λ c. PrintsCertificate Sound c)) result }
+    ensures { Gives (OfCourse Sound Analysed.Program (source_in program.now)
+        (program_in program.now) degree rule (λ c. PrintsCertificate Sound c)) result }
 {
     match analyse(alloc, Analysed::Program, program, degree, rule) {
         Ok(verified) => certificate_report(alloc, verified.certificate()),

@@ -105,7 +105,8 @@ fn compare_with(
     requires ready { IsReady (program_of other.now) }
     requires least_degree { 1 ≤ degree }
     requires most_degree { degree ≤ 4 }
-    ensures { Gives (ComparesWith Sound degree (source_in program.now) (program_in program.now) verified.now.certificate (program_of other.now)) result }
+    ensures { Gives (ComparesWith Sound degree (source_in program.now)
+        (program_in program.now) verified.now.certificate (program_of other.now)) result }
 {
     match normal_form(alloc, other) {
         Ok(other) => compare_courses(alloc, program, verified, &other, degree),

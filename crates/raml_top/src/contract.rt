@@ -43,12 +43,14 @@ fn read_bounds<S: Store>(
     requires ready { IsReady (program_of typed.now) }
     requires most_degree { degree ≤ 4 }
     ensures ok { (before : Text → ℕ) →
-        IfOk result (λ declared. AreBounds (store_of (S.holds store.old) before (S.faults store.new)) file.now (program_of typed.now) degree declared) }
+        IfOk result (λ declared. AreBounds
+        (store_of (S.holds store.old) before (S.faults store.new)) file.now (program_of typed.now) degree declared) }
     ensures degree { IfOk result (λ declared. declared.degree ≡ degree) }
     ensures few { IfOk result (λ declared. length declared.lines < 2 ^ 31) }
     ensures within { IfOk result (AreWithin (program_of typed.now)) }
     ensures err { (before : Text → ℕ) → Before before (S.faults store.old) →
-        IfErr result (Refuses no_names (BoundsFileRefuses (store_of (S.holds store.old) before (S.faults store.new)) file.now (program_of typed.now) degree)) }
+        IfErr result (Refuses no_names
+        (BoundsFileRefuses (store_of (S.holds store.old) before (S.faults store.new)) file.now (program_of typed.now) degree)) }
     ensures kept { S.holds store.new ≡ S.holds store.old }
     ensures later { (other : Text) → S.faults store.old other ≤ S.faults store.new other }
 {
@@ -74,7 +76,8 @@ pub fn bound_verdicts<S: Store>(
     requires least_degree { 1 ≤ degree }
     requires most_degree { degree ≤ 4 }
     ensures gives { (before : Text → ℕ) → Before before (S.faults store.old) →
-        Gives (ChecksBounds Sound (store_of (S.holds store.old) before (S.faults store.new)) file.now degree (program_of typed.now)) result }
+        Gives (ChecksBounds Sound
+        (store_of (S.holds store.old) before (S.faults store.new)) file.now degree (program_of typed.now)) result }
     ensures kept { S.holds store.new ≡ S.holds store.old }
     ensures later { (other : Text) → S.faults store.old other ≤ S.faults store.new other }
 {
@@ -153,7 +156,8 @@ fn verdict_report(
     requires degree { declared.now.degree ≡ degree }
     requires few { length declared.now.lines < 2 ^ 31 }
     requires within { AreWithin (source_in program.now) declared.now }
-    ensures { Gives (PrintsVerdicts Sound (source_in program.now) (program_in program.now) declared.now.lines verified.now.certificate) result }
+    ensures { Gives (PrintsVerdicts Sound (source_in program.now)
+        (program_in program.now) declared.now.lines verified.now.certificate) result }
 {
     may_be_asked(program, verified, degree);
     match verdict_lines(alloc, verified.checked(), declared) {

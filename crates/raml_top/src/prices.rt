@@ -63,7 +63,8 @@ pub fn priced_lines<S: Store>(
     requires least_degree { 1 ≤ degree }
     requires most_degree { degree ≤ 4 }
     ensures gives { (before : Text → ℕ) → Before before (S.faults store.old) →
-        Gives (PricesProgram Sound (store_of (S.holds store.old) before (S.faults store.new)) file.now degree (program_of typed.now)) result }
+        Gives (PricesProgram Sound
+        (store_of (S.holds store.old) before (S.faults store.new)) file.now degree (program_of typed.now)) result }
     ensures kept { S.holds store.new ≡ S.holds store.old }
     ensures later { (other : Text) → S.faults store.old other ≤ S.faults store.new other }
 {
@@ -158,7 +159,8 @@ fn run_under<S: Store>(
     requires cells { CellsWithin cells }
     ensures gives { (before : Text → ℕ) → Before before (S.faults store.old) →
         Gives (OfCall Sound (store_of (S.holds store.old) before (S.faults store.new)) (program_of typed.now) name.now input.now
-        (λ f args. Spends Sound (prices_of prices.now) (program_of typed.now) f args (record { steps = steps; cells = cells_or cells None }))) result }
+        (λ f args. Spends Sound (prices_of prices.now) (program_of typed.now) f args
+        (record { steps = steps; cells = cells_or cells None }))) result }
     ensures kept { S.holds store.new ≡ S.holds store.old }
     ensures later { (other : Text) → S.faults store.old other ≤ S.faults store.new other }
 {
@@ -181,7 +183,8 @@ fn call_under(
     requires cells { CellsWithin cells }
     requires call { (f : Placed) × (vs : List Value) × IsCallOf (program_of typed.now) f call vs }
     ensures { (f : Placed) (vs : List Value) → IsCallOf (program_of typed.now) f call vs →
-        Gives (Spends Sound (prices_of prices.now) (program_of typed.now) f vs (record { steps = steps; cells = cells_or cells None })) result }
+        Gives (Spends Sound (prices_of prices.now) (program_of typed.now) f vs
+        (record { steps = steps; cells = cells_or cells None })) result }
 {
     machine_is_linked();
     let applied = apply(alloc, typed, prices)?;

@@ -6,7 +6,8 @@ ghost use Rattle.raml_words.specs.Asked.{request_of};
 ghost use Rattle.raml_promise.specs.Outside.{Sound, store_of};
 ghost use Rattle.raml_promise.specs.Steps.{OfProgram};
 ghost use Rattle.raml_promise.specs.Call.{cells_or};
-ghost use Rattle.raml_promise.specs.Promise.{Answers, ListsTypes, ListsCode, Analyses, Certifies, Verifies, RunsWithin, RunsWithBounds, PricesProgram, SpendsWithin, Compares, ChecksBounds, ShowsPowers};
+ghost use Rattle.raml_promise.specs.Promise.{Answers, ListsTypes, ListsCode, Analyses, Certifies, Verifies, RunsWithin, RunsWithBounds};
+ghost use Rattle.raml_promise.specs.Promise.{PricesProgram, SpendsWithin, Compares, ChecksBounds, ShowsPowers};
 ghost use Rattle.raml_parts.specs.Parts.{Gives, IsWithin, CellsWithin, DegreeWithin, OfTrial};
 
 use crate::commands::{
@@ -31,7 +32,8 @@ pub fn request_answer<S: Store>(
     request: &Request,
 ) -> Result<Report, Refusal>
     requires { IsWithin (request_of request.now) }
-    ensures gives { Gives (Answers Sound (store_of (S.holds store.old) (S.faults store.old) (S.faults store.new)) (request_of request.now)) result }
+    ensures gives { Gives (Answers Sound
+        (store_of (S.holds store.old) (S.faults store.old) (S.faults store.new)) (request_of request.now)) result }
     ensures still { OfTrial (request_of request.now) (store.new ≡ store.old) }
     ensures kept { S.holds store.new ≡ S.holds store.old }
     ensures later { (name : Text) → S.faults store.old name ≤ S.faults store.new name }
@@ -108,7 +110,8 @@ fn run_request<S: Store>(
 }
 
 fn types_answer<S: Store>(alloc: Global, store: &mut S, file: &str) -> Result<Report, Refusal>
-    ensures gives { Gives (OfProgram Sound (store_of (S.holds store.old) (S.faults store.old) (S.faults store.new)) Analysed.Program file.now
+    ensures gives { Gives (OfProgram Sound
+        (store_of (S.holds store.old) (S.faults store.old) (S.faults store.new)) Analysed.Program file.now
         (ListsTypes Sound)) result }
     ensures kept { S.holds store.new ≡ S.holds store.old }
     ensures later { (name : Text) → S.faults store.old name ≤ S.faults store.new name }
@@ -120,7 +123,8 @@ fn types_answer<S: Store>(alloc: Global, store: &mut S, file: &str) -> Result<Re
 }
 
 fn code_answer<S: Store>(alloc: Global, store: &mut S, file: &str) -> Result<Report, Refusal>
-    ensures gives { Gives (OfProgram Sound (store_of (S.holds store.old) (S.faults store.old) (S.faults store.new)) Analysed.Program file.now
+    ensures gives { Gives (OfProgram Sound
+        (store_of (S.holds store.old) (S.faults store.old) (S.faults store.new)) Analysed.Program file.now
         (ListsCode Sound)) result }
     ensures kept { S.holds store.new ≡ S.holds store.old }
     ensures later { (name : Text) → S.faults store.old name ≤ S.faults store.new name }
@@ -140,7 +144,8 @@ fn analyse_answer<S: Store>(
 ) -> Result<Report, Refusal>
     requires least_degree { 1 ≤ degree }
     requires most_degree { degree ≤ 4 }
-    ensures gives { Gives (OfProgram Sound (store_of (S.holds store.old) (S.faults store.old) (S.faults store.new)) Analysed.Program file.now
+    ensures gives { Gives (OfProgram Sound
+        (store_of (S.holds store.old) (S.faults store.old) (S.faults store.new)) Analysed.Program file.now
         (Analyses Sound degree rule)) result }
     ensures kept { S.holds store.new ≡ S.holds store.old }
     ensures later { (name : Text) → S.faults store.old name ≤ S.faults store.new name }
@@ -160,7 +165,8 @@ fn certify_answer<S: Store>(
 ) -> Result<Report, Refusal>
     requires least_degree { 1 ≤ degree }
     requires most_degree { degree ≤ 4 }
-    ensures gives { Gives (OfProgram Sound (store_of (S.holds store.old) (S.faults store.old) (S.faults store.new)) Analysed.Program file.now
+    ensures gives { Gives (OfProgram Sound
+        (store_of (S.holds store.old) (S.faults store.old) (S.faults store.new)) Analysed.Program file.now
         (Certifies Sound degree rule)) result }
     ensures kept { S.holds store.new ≡ S.holds store.old }
     ensures later { (name : Text) → S.faults store.old name ≤ S.faults store.new name }
@@ -177,7 +183,8 @@ fn verify_answer<S: Store>(
     file: &str,
     certificate: &str,
 ) -> Result<Report, Refusal>
-    ensures gives { Gives (OfProgram Sound (store_of (S.holds store.old) (S.faults store.old) (S.faults store.new)) Analysed.Program file.now
+    ensures gives { Gives (OfProgram Sound
+        (store_of (S.holds store.old) (S.faults store.old) (S.faults store.new)) Analysed.Program file.now
         (Verifies Sound (store_of (S.holds store.old) (S.faults store.old) (S.faults store.new)) certificate.now)) result }
     ensures kept { S.holds store.new ≡ S.holds store.old }
     ensures later { (name : Text) → S.faults store.old name ≤ S.faults store.new name }
@@ -199,8 +206,10 @@ fn run_answer<S: Store>(
 ) -> Result<Report, Refusal>
     requires steps { steps ≤ 1000000000 }
     requires cells { CellsWithin cells }
-    ensures gives { Gives (OfProgram Sound (store_of (S.holds store.old) (S.faults store.old) (S.faults store.new)) Analysed.Program file.now
-        (RunsWithin Sound (store_of (S.holds store.old) (S.faults store.old) (S.faults store.new)) name.now input.now (record { steps = steps; cells = cells_or cells None }))) result }
+    ensures gives { Gives (OfProgram Sound
+        (store_of (S.holds store.old) (S.faults store.old) (S.faults store.new)) Analysed.Program file.now
+        (RunsWithin Sound (store_of (S.holds store.old) (S.faults store.old) (S.faults store.new)) name.now input.now
+        (record { steps = steps; cells = cells_or cells None }))) result }
     ensures kept { S.holds store.new ≡ S.holds store.old }
     ensures later { (name : Text) → S.faults store.old name ≤ S.faults store.new name }
 {
@@ -224,8 +233,10 @@ fn bounded_answer<S: Store>(
     requires cells { CellsWithin cells }
     requires least_degree { 1 ≤ degree }
     requires most_degree { degree ≤ 4 }
-    ensures gives { Gives (OfProgram Sound (store_of (S.holds store.old) (S.faults store.old) (S.faults store.new)) Analysed.Program file.now
-        (RunsWithBounds Sound (store_of (S.holds store.old) (S.faults store.old) (S.faults store.new)) name.now input.now steps cells degree)) result }
+    ensures gives { Gives (OfProgram Sound
+        (store_of (S.holds store.old) (S.faults store.old) (S.faults store.new)) Analysed.Program file.now
+        (RunsWithBounds Sound (store_of (S.holds store.old) (S.faults store.old)
+        (S.faults store.new)) name.now input.now steps cells degree)) result }
     ensures kept { S.holds store.new ≡ S.holds store.old }
     ensures later { (name : Text) → S.faults store.old name ≤ S.faults store.new name }
 {
@@ -244,7 +255,8 @@ fn priced_answer<S: Store>(
 ) -> Result<Report, Refusal>
     requires least_degree { 1 ≤ degree }
     requires most_degree { degree ≤ 4 }
-    ensures gives { Gives (OfProgram Sound (store_of (S.holds store.old) (S.faults store.old) (S.faults store.new)) Analysed.Program file.now
+    ensures gives { Gives (OfProgram Sound
+        (store_of (S.holds store.old) (S.faults store.old) (S.faults store.new)) Analysed.Program file.now
         (PricesProgram Sound (store_of (S.holds store.old) (S.faults store.old) (S.faults store.new)) prices.now degree)) result }
     ensures kept { S.holds store.new ≡ S.holds store.old }
     ensures later { (name : Text) → S.faults store.old name ≤ S.faults store.new name }
@@ -267,8 +279,10 @@ fn spend_answer<S: Store>(
 ) -> Result<Report, Refusal>
     requires steps { steps ≤ 1000000000 }
     requires cells { CellsWithin cells }
-    ensures gives { Gives (OfProgram Sound (store_of (S.holds store.old) (S.faults store.old) (S.faults store.new)) Analysed.Program file.now
-        (SpendsWithin Sound (store_of (S.holds store.old) (S.faults store.old) (S.faults store.new)) prices.now name.now input.now (record { steps = steps; cells = cells_or cells None }))) result }
+    ensures gives { Gives (OfProgram Sound
+        (store_of (S.holds store.old) (S.faults store.old) (S.faults store.new)) Analysed.Program file.now
+        (SpendsWithin Sound (store_of (S.holds store.old) (S.faults store.old)
+        (S.faults store.new)) prices.now name.now input.now (record { steps = steps; cells = cells_or cells None }))) result }
     ensures kept { S.holds store.new ≡ S.holds store.old }
     ensures later { (name : Text) → S.faults store.old name ≤ S.faults store.new name }
 {
@@ -287,7 +301,8 @@ fn compare_answer<S: Store>(
 ) -> Result<Report, Refusal>
     requires least_degree { 1 ≤ degree }
     requires most_degree { degree ≤ 4 }
-    ensures gives { Gives (OfProgram Sound (store_of (S.holds store.old) (S.faults store.old) (S.faults store.new)) Analysed.Program file.now
+    ensures gives { Gives (OfProgram Sound
+        (store_of (S.holds store.old) (S.faults store.old) (S.faults store.new)) Analysed.Program file.now
         (Compares Sound (store_of (S.holds store.old) (S.faults store.old) (S.faults store.new)) other.now degree)) result }
     ensures kept { S.holds store.new ≡ S.holds store.old }
     ensures later { (name : Text) → S.faults store.old name ≤ S.faults store.new name }
@@ -307,7 +322,8 @@ fn contract_answer<S: Store>(
 ) -> Result<Report, Refusal>
     requires least_degree { 1 ≤ degree }
     requires most_degree { degree ≤ 4 }
-    ensures gives { Gives (OfProgram Sound (store_of (S.holds store.old) (S.faults store.old) (S.faults store.new)) Analysed.Program file.now
+    ensures gives { Gives (OfProgram Sound
+        (store_of (S.holds store.old) (S.faults store.old) (S.faults store.new)) Analysed.Program file.now
         (ChecksBounds Sound (store_of (S.holds store.old) (S.faults store.old) (S.faults store.new)) bounds.now degree)) result }
     ensures kept { S.holds store.new ≡ S.holds store.old }
     ensures later { (name : Text) → S.faults store.old name ≤ S.faults store.new name }
@@ -326,7 +342,8 @@ fn powers_answer<S: Store>(
 ) -> Result<Report, Refusal>
     requires least_degree { 1 ≤ degree }
     requires most_degree { degree ≤ 4 }
-    ensures gives { Gives (OfProgram Sound (store_of (S.holds store.old) (S.faults store.old) (S.faults store.new)) Analysed.Program file.now
+    ensures gives { Gives (OfProgram Sound
+        (store_of (S.holds store.old) (S.faults store.old) (S.faults store.new)) Analysed.Program file.now
         (ShowsPowers Sound degree)) result }
     ensures kept { S.holds store.new ≡ S.holds store.old }
     ensures later { (name : Text) → S.faults store.old name ≤ S.faults store.new name }

@@ -94,7 +94,8 @@ pub fn bounded_run<S: Store>(
     requires least_degree { 1 ≤ degree }
     requires most_degree { degree ≤ 4 }
     ensures gives { (before : Text → ℕ) → Before before (S.faults store.old) →
-        Gives (RunsWithBounds Sound (store_of (S.holds store.old) before (S.faults store.new)) name.now file.now steps cells degree (program_of typed.now)) result }
+        Gives (RunsWithBounds Sound
+        (store_of (S.holds store.old) before (S.faults store.new)) name.now file.now steps cells degree (program_of typed.now)) result }
     ensures kept { S.holds store.new ≡ S.holds store.old }
     ensures later { (other : Text) → S.faults store.old other ≤ S.faults store.new other }
 {
@@ -145,7 +146,8 @@ fn course_call(
     requires call { (f : Placed) × (vs : List Value) × IsCallOf (program_of typed.now) f call vs }
     ensures { (f : Placed) (vs : List Value) → IsCallOf (program_of typed.now) f call vs →
         Gives (OfCourse Sound Analysed.Program (program_of typed.now) (program_in program.now) degree rule.Least
-        (λ c. OfFloors Sound (program_of typed.now) (program_in program.now) c f vs (λ floors. RunsBounded Sound (program_of typed.now) f vs steps cells floors))) result }
+        (λ c. OfFloors Sound (program_of typed.now) (program_in program.now) c f vs
+        (λ floors. RunsBounded Sound (program_of typed.now) f vs steps cells floors))) result }
 {
     match analyse(alloc, Analysed::Program, program, degree, Rule::Least) {
         Ok(verified) => floors_call(alloc, typed, &verified, call, steps, cells),
@@ -249,7 +251,8 @@ fn floor_cells(floor: Option<u128>) -> u32
 
 // The report with the lines of the bounds behind it.
 fn with_bounds(alloc: Global, report: Report, floors: Floors) -> Result<Report, Refusal>
-    ensures text { IfOk result (λ bounded. bounded.text.items ≡ report.text.items ++ run_bound_lines floors.ticks floors.cells floors.work) }
+    ensures text { IfOk result
+        (λ bounded. bounded.text.items ≡ report.text.items ++ run_bound_lines floors.ticks floors.cells floors.work) }
     ensures status { IfOk result (λ bounded. bounded.status ≡ report.status) }
     ensures err { IfErr result IsWanting }
 {

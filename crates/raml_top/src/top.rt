@@ -78,7 +78,8 @@ fn put_line<E: Sink>(err: &mut E, line: &str)
 
 // What the words ask for.
 fn answer<S: Store>(alloc: Global, words: &[&str], store: &mut S) -> Result<Report, Refusal>
-    ensures gives { Gives (WordsAnswer Sound (texts words.now) (store_of (S.holds store.old) (S.faults store.old) (S.faults store.new))) result }
+    ensures gives { Gives (WordsAnswer Sound (texts words.now)
+        (store_of (S.holds store.old) (S.faults store.old) (S.faults store.new))) result }
     ensures still { (count : ℕ) → Asks (texts words.now) (Trial count) → store.new ≡ store.old }
     ensures kept { S.holds store.new ≡ S.holds store.old }
     ensures later { (name : Text) → S.faults store.old name ≤ S.faults store.new name }

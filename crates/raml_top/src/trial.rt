@@ -32,7 +32,8 @@ use std::alloc::{AllocError, Global};
 
 /// Analyses the made program with so many functions of each kind, and runs the last of them.
 pub fn trial(alloc: Global, count: u32) -> Result<Report, Refusal>
-    ensures { Gives (OfShort which.Program (t.trial_text count) (OfSource Analysed.Program (t.trial_text count) (Tries Sound count))) result }
+    ensures { Gives (OfShort which.Program (t.trial_text count)
+        (OfSource Analysed.Program (t.trial_text count) (Tries Sound count))) result }
 {
     match trial_source(alloc, count) {
         Ok(source) => try_source(alloc, source.as_bytes(), count),
@@ -109,7 +110,9 @@ fn try_call(
     requires source { verified.now.program.source ≡ typed.now }
     requires place { place.0 < length (program_of typed.now) }
     ensures { (f : Placed) → f.0 ≡ place.0 → slice_get (program_of typed.now) f.0 ≡ Some f.1 →
-        Gives (OfArguments t.trial_data f.1 (λ args. RunsTrial Sound count (program_of typed.now) (program_in verified.now.program) verified.now.certificate f args)) result }
+        Gives (OfArguments t.trial_data f.1
+        (λ args. RunsTrial Sound count (program_of typed.now)
+        (program_in verified.now.program) verified.now.certificate f args)) result }
 {
     match read_arguments(alloc, typed, place, trial_data().as_bytes()) {
         Ok(args) => try_run(alloc, typed, verified, count, place, args),
@@ -128,7 +131,8 @@ fn try_run(
     requires ready { IsReady (program_of typed.now) }
     requires source { verified.now.program.source ≡ typed.now }
     requires place { place.0 < length (program_of typed.now) }
-    requires arguments { (f : Placed) × (vs : List Value) × (f.0 ≡ place.0) × HasArguments (program_of typed.now) f args.heap.cells args.words.items vs }
+    requires arguments { (f : Placed) × (vs : List Value) × (f.0 ≡ place.0)
+        × HasArguments (program_of typed.now) f args.heap.cells args.words.items vs }
     ensures { (f : Placed) (vs : List Value) → f.0 ≡ place.0 → HasArguments (program_of typed.now) f args.heap.cells args.words.items vs →
         Gives (RunsTrial Sound count (program_of typed.now) (program_in verified.now.program) verified.now.certificate f vs) result }
 {

@@ -31,7 +31,8 @@ shape_line block = codes "raml: certificate: block " ++ decimal block ++ codes "
 
 -- a condition of a block is not met
 abbrev pub fails_line : ℕ → List ℕ → ℕ → Text
-fails_line block path index = codes "raml: certificate: block " ++ decimal block ++ codes " fails at " ++ condition_text path index ++ codes "\n"
+fails_line block path index =
+    codes "raml: certificate: block " ++ decimal block ++ codes " fails at " ++ condition_text path index ++ codes "\n"
 
 -- the vector of a block refutes nothing
 abbrev pub not_refuted_line : ℕ → Text

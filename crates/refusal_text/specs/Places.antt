@@ -23,7 +23,8 @@ condition_text path index = path_text path ++ codes " index " ++ decimal index
 
 -- in the check of a certificate: in a condition of a block
 abbrev pub check_line : Analysed → ℕ → List ℕ → ℕ → Text
-check_line whose block path index = head whose ++ codes "overflow: check block " ++ decimal block ++ codes " at " ++ condition_text path index ++ codes "\n"
+check_line whose block path index =
+    head whose ++ codes "overflow: check block " ++ decimal block ++ codes " at " ++ condition_text path index ++ codes "\n"
 
 -- at the data, in the bound of a meter
 abbrev pub point_line : Meter → Text
@@ -38,12 +39,14 @@ module _ (whose : Analysed) (P : Prog) (groups : List (List ℕ)) where
   -- what is done for the task, and the place there: a word and a number
   abbrev pub place_line : Text → Task → Text → ℕ → Text
   place_line deed task place number =
-      head whose ++ codes "overflow: " ++ deed ++ codes " " ++ task_text P groups task ++ codes " " ++ place ++ codes " " ++ decimal number ++ codes "\n"
+      head whose ++ codes "overflow: " ++ deed ++ codes " " ++ task_text P groups task ++ codes " "
+      ++ place ++ codes " " ++ decimal number ++ codes "\n"
 
   -- in solving the system, after so many pivots, in this row and column of the tableau
   abbrev pub solve_line : Task → ℕ → ℕ → ℕ → Text
   solve_line task pivots row column =
-      head whose ++ codes "overflow: solve " ++ task_text P groups task ++ codes " pivots " ++ decimal pivots ++ codes " row " ++ decimal row ++ codes " column "
+      head whose ++ codes "overflow: solve " ++ task_text P groups task ++ codes " pivots "
+      ++ decimal pivots ++ codes " row " ++ decimal row ++ codes " column "
       ++ decimal column ++ codes "\n"
 
   -- in this row of the system

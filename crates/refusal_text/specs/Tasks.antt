@@ -39,4 +39,5 @@ head Program = codes "raml: "
 head Other = codes "raml: other: "
 
 abbrev pub too_large_line : Analysed → Prog → List (List ℕ) → Task → What → Text
-too_large_line whose P groups task what = head whose ++ codes "too large: " ++ task_text P groups task ++ codes ": " ++ what_text what ++ codes "\n"
+too_large_line whose P groups task what =
+    head whose ++ codes "too large: " ++ task_text P groups task ++ codes ": " ++ what_text what ++ codes "\n"

@@ -60,7 +60,8 @@ pub fn certificate_line(
     groups: &[Vec<FunId>],
     fault: &CertFault,
 ) -> Result<String, AllocError>
-    ensures { IfOk result (λ line. string_bytes line ≡ c.certificate_line (program_of program.now) (lists_of groups.now) (fault_of fault.now)) }
+    ensures { IfOk result (λ line. string_bytes line
+        ≡ c.certificate_line (program_of program.now) (lists_of groups.now) (fault_of fault.now)) }
 {
     match fault {
         CertFault::Shape { block } => shape_line(alloc, *block),

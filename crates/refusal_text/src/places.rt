@@ -24,7 +24,8 @@ pub fn solve_line(
     row: u32,
     column: u32,
 ) -> Result<String, AllocError>
-    ensures { IfOk result (λ line. string_bytes line ≡ p.solve_line whose (program_of program.now) (lists_of groups.now) (task_of task.now) pivots row column) }
+    ensures { IfOk result (λ line. string_bytes line
+        ≡ p.solve_line whose (program_of program.now) (lists_of groups.now) (task_of task.now) pivots row column) }
 {
     let mut line = String::from_str(alloc, whose.head())?;
     line.push_str("overflow: solve ")?;
@@ -45,7 +46,8 @@ pub fn row_line(
     task: &Task,
     row: u32,
 ) -> Result<String, AllocError>
-    ensures { IfOk result (λ line. string_bytes line ≡ p.row_line whose (program_of program.now) (lists_of groups.now) (task_of task.now) row) }
+    ensures { IfOk result (λ line. string_bytes line
+        ≡ p.row_line whose (program_of program.now) (lists_of groups.now) (task_of task.now) row) }
 {
     place_line(
         alloc,
@@ -68,7 +70,8 @@ pub fn scale_line(
     task: &Task,
     entry: u32,
 ) -> Result<String, AllocError>
-    ensures { IfOk result (λ line. string_bytes line ≡ p.scale_line whose (program_of program.now) (lists_of groups.now) (task_of task.now) entry) }
+    ensures { IfOk result (λ line. string_bytes line
+        ≡ p.scale_line whose (program_of program.now) (lists_of groups.now) (task_of task.now) entry) }
 {
     place_line(
         alloc,
@@ -91,7 +94,8 @@ pub fn rescale_line(
     task: &Task,
     block: usize,
 ) -> Result<String, AllocError>
-    ensures { IfOk result (λ line. string_bytes line ≡ p.rescale_line whose (program_of program.now) (lists_of groups.now) (task_of task.now) block) }
+    ensures { IfOk result (λ line. string_bytes line
+        ≡ p.rescale_line whose (program_of program.now) (lists_of groups.now) (task_of task.now) block) }
 {
     place_line(
         alloc, whose, program, groups, "rescale", task, "block", block,
@@ -107,7 +111,8 @@ pub fn refute_line(
     task: &Task,
     column: u32,
 ) -> Result<String, AllocError>
-    ensures { IfOk result (λ line. string_bytes line ≡ p.refute_line whose (program_of program.now) (lists_of groups.now) (task_of task.now) column) }
+    ensures { IfOk result (λ line. string_bytes line
+        ≡ p.refute_line whose (program_of program.now) (lists_of groups.now) (task_of task.now) column) }
 {
     place_line(
         alloc,
@@ -130,7 +135,8 @@ pub fn least_line(
     task: &Task,
     column: u32,
 ) -> Result<String, AllocError>
-    ensures { IfOk result (λ line. string_bytes line ≡ p.least_line whose (program_of program.now) (lists_of groups.now) (task_of task.now) column) }
+    ensures { IfOk result (λ line. string_bytes line
+        ≡ p.least_line whose (program_of program.now) (lists_of groups.now) (task_of task.now) column) }
 {
     place_line(
         alloc,
@@ -155,7 +161,8 @@ fn place_line(
     place: &str,
     number: usize,
 ) -> Result<String, AllocError>
-    ensures { IfOk result (λ line. string_bytes line ≡ p.place_line whose (program_of program.now) (lists_of groups.now) deed.now (task_of task.now) place.now number) }
+    ensures { IfOk result (λ line. string_bytes line
+        ≡ p.place_line whose (program_of program.now) (lists_of groups.now) deed.now (task_of task.now) place.now number) }
 {
     let mut line = String::from_str(alloc, whose.head())?;
     line.push_str("overflow: ")?;

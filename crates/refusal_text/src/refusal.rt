@@ -1,7 +1,8 @@
 // The lines of a source and of data that are refused.
 ghost use Rattle.std.specs.Prelude.{◌≡◌, ◌++◌, OnOk, IfOk, string_bytes, decimal};
 ghost use Rattle.simple_types.specs.Read.{fault_of};
-ghost use Rattle.refusal_text.specs.Refusals.{source_line, other_source_line, source_text, data_line, placed, parse_text, data_text, fault_text};
+ghost use Rattle.refusal_text.specs.Refusals.{source_line, other_source_line, source_text, data_line, placed, parse_text, data_text};
+ghost use Rattle.refusal_text.specs.Refusals.{fault_text};
 
 use crate::source::SourceFault;
 use itoa::Buffer;

@@ -42,7 +42,8 @@ pub fn too_large_line(
     task: &Task,
     what: What,
 ) -> Result<String, AllocError>
-    ensures { IfOk result (λ line. string_bytes line ≡ too_large_line whose (program_of program.now) (lists_of groups.now) (task_of task.now) what) }
+    ensures { IfOk result (λ line. string_bytes line
+        ≡ too_large_line whose (program_of program.now) (lists_of groups.now) (task_of task.now) what) }
 {
     let mut line = String::from_str(alloc, whose.head())?;
     line.push_str("too large: ")?;
@@ -71,7 +72,8 @@ pub fn push_task(
     groups: &[Vec<FunId>],
     task: &Task,
 ) -> Result<(), AllocError>
-    ensures { OnOk result (string_bytes line.new ≡ string_bytes line.old ++ task_text (program_of program.now) (lists_of groups.now) (task_of task.now)) }
+    ensures { OnOk result (string_bytes line.new ≡ string_bytes line.old
+        ++ task_text (program_of program.now) (lists_of groups.now) (task_of task.now)) }
 {
     let name = first_name(program, group(groups, task.group));
     push_kind(line, program, name, task.kind)

@@ -48,8 +48,9 @@ pub data CertificateEnding : Type 0 where
   Check : check.Fault → CertificateEnding
   NotRefuted : ℕ → CertificateEnding
 
--- Where a number leaves its range: at a place on a task, in the check of a condition of the rules, at a bound on a meter where it is worked out, in the power form of
--- a function's bound, or where the declared bound on a line of its file is decided.
+-- Where a number leaves its range: at a place on a task, in the check of a condition of the rules, at a bound on a
+-- meter where it is worked out, in the power form of a function's bound, or where the declared bound on a line of its
+-- file is decided.
 pub data Overflow : Type 0 where
   OnTask : Task → Place → Overflow
   InCheck : ℕ → List ℕ → ℕ → Overflow

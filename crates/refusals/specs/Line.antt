@@ -6,7 +6,8 @@ use Rattle.cert_check.specs.Read.{fault_of}
 use Rattle.refusal_text.specs.Plain.{usage_line, unread_line, too_long_line, no_function_line, write_failed_line, no_memory_line}
 use Rattle.refusal_text.specs.Refusals.{source_line, other_source_line, data_line}
 use Rattle.refusal_text.specs.Tasks.{too_large_line}
-use Rattle.refusal_text.specs.Places.{solve_line, row_line, scale_line, rescale_line, check_line, refute_line, least_line, point_line, powers_line}
+use Rattle.refusal_text.specs.Places.{solve_line, row_line, scale_line, rescale_line, check_line, refute_line, least_line, point_line}
+use Rattle.refusal_text.specs.Places.{powers_line}
 use Rattle.refusal_text.specs.declared.task.Analysed.{Analysed}
 use Rattle.refusal_text.specs.declared.task.Analysed.TheVariants as analysed
 use Rattle.price_file.specs.Text.{price_line}
@@ -32,7 +33,8 @@ no_names = record { program = []; groups = [] }
 
 -- where a number leaves 128 bits
 abbrev pub leaves_line : Analysed → Names → LeavesAt → Text
-leaves_line whose names (Solve task pivots row col) = solve_line whose names.program names.groups (task_of task) (length pivots.items) row col
+leaves_line whose names (Solve task pivots row col) =
+    solve_line whose names.program names.groups (task_of task) (length pivots.items) row col
 leaves_line whose names (Row task row) = row_line whose names.program names.groups (task_of task) row
 leaves_line whose names (Scale task entry) = scale_line whose names.program names.groups (task_of task) entry
 leaves_line whose names (Rescale task block) = rescale_line whose names.program names.groups (task_of task) block

@@ -21,7 +21,9 @@ use value_text::Word;
 pub fn value_report(alloc: Global, vm: &Vm<'_>, word: Word, ty: &Ty) -> Result<Report, Refusal>
     requires { StandsForSome (cells_in vm.now) word (ty_of ty.now) }
     ensures status { IfOk result (λ report. report.status ≡ Done) }
-    ensures text { IfOk result (λ report. (value : Value) → StandsFor (cells_in vm.now) word value → report.text.items ≡ r.value_lines value (ty_of ty.now) (state_in vm.now)) }
+    ensures text { IfOk result
+        (λ report. (value : Value) → StandsFor (cells_in vm.now) word value →
+        report.text.items ≡ r.value_lines value (ty_of ty.now) (state_in vm.now)) }
     ensures err { IfErr result IsWanting }
 {
     let text = value_lines(alloc, vm, word, ty)?;

@@ -23,4 +23,5 @@ polynomial_text den terms = sum_text den (in_order (filter (λ (t : Term). not (
 
 -- It is the text that a polynomial has, and the only one.
 abbrev pub PolynomialsHaveThisText : Type 0
-PolynomialsHaveThisText = (p : Poly) (text : Text) → IsPoly p → IsTextOf (den_of p) (terms_of p) text → text ≡ polynomial_text (den_of p) (terms_of p)
+PolynomialsHaveThisText =
+    (p : Poly) (text : Text) → IsPoly p → IsTextOf (den_of p) (terms_of p) text → text ≡ polynomial_text (den_of p) (terms_of p)

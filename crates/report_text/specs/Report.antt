@@ -43,7 +43,8 @@ meter_lines s =
 -- the value of this type, where its text is not too long
 abbrev pub value_line : Value → Type' → Text
 value_line v A =
-    cond (nat_le (length (printed v A)) most_text) (codes "value " ++ printed v A ++ codes "\n") (codes "value longer than 16777216 bytes\n")
+    cond (nat_le (length (printed v A)) most_text) (codes "value " ++ printed v A ++ codes "\n")
+    (codes "value longer than 16777216 bytes\n")
 
 -- the report of a machine that has halted with a value, of one that was stopped, and of one whose cells are all taken
 abbrev pub value_lines : Value → Type' → State → Text

@@ -19,7 +19,8 @@ copied_text before = cond (before == 0) (codes "x") (codes "c" ++ decimal before
 -- the function ci, with i one more than this number
 abbrev pub copy_line : ℕ → Text
 copy_line before =
-    codes "fun c" ++ decimal (before + 1) ++ codes " (x : int list) : int list = a" ++ decimal (before + 1) ++ codes "(" ++ copied_text before
+    codes "fun c" ++ decimal (before + 1) ++ codes " (x : int list) : int list = a"
+    ++ decimal (before + 1) ++ codes "(" ++ copied_text before
     ++ codes ", nil)\n"
 
 abbrev pub copy_lines : ℕ → Text

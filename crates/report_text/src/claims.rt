@@ -20,7 +20,8 @@ pub fn push_bound_line(
     poly: &Poly,
 ) -> Result<(), AllocError>
     requires { IsPoly poly.now }
-    ensures { OnOk result (string_bytes text.new ≡ string_bytes text.old ++ bound_line name.now meter (den_of poly.now) (terms_of poly.now)) }
+    ensures { OnOk result (string_bytes text.new ≡ string_bytes text.old
+        ++ bound_line name.now meter (den_of poly.now) (terms_of poly.now)) }
 {
     let bound = polynomial(alloc, poly)?;
     push_subject(text, name, meter)?;

@@ -16,7 +16,8 @@ use value_text::{DataHeap, PrintFault, Word, print};
 /// The lines of a machine that has halted with the word, which stands for a value of the type.
 pub fn value_lines(alloc: Global, vm: &Vm<'_>, word: Word, ty: &Ty) -> Result<String, AllocError>
     requires { StandsForSome (cells_in vm.now) word (ty_of ty.now) }
-    ensures { IfOk result (λ text. (value : Value) → StandsFor (cells_in vm.now) word value → string_bytes text ≡ value_lines value (ty_of ty.now) (state_in vm.now)) }
+    ensures { IfOk result (λ text. (value : Value) → StandsFor (cells_in vm.now) word value →
+        string_bytes text ≡ value_lines value (ty_of ty.now) (state_in vm.now)) }
 {
     let mut text = value_line(alloc, vm.heap(), word, ty)?;
     push_meters(&mut text, vm)?;
@@ -26,7 +27,8 @@ pub fn value_lines(alloc: Global, vm: &Vm<'_>, word: Word, ty: &Ty) -> Result<St
 // The line of a value, which tells no more than that its text is too long where it is.
 fn value_line(alloc: Global, heap: &DataHeap, word: Word, ty: &Ty) -> Result<String, AllocError>
     requires { StandsForSome heap.now.cells word (ty_of ty.now) }
-    ensures { IfOk result (λ text. (value : Value) → StandsFor heap.now.cells word value → string_bytes text ≡ value_line value (ty_of ty.now)) }
+    ensures { IfOk result (λ text. (value : Value) → StandsFor heap.now.cells word value →
+        string_bytes text ≡ value_line value (ty_of ty.now)) }
 {
     match print(alloc, heap, word, ty) {
         Ok(value) => spelled_line(alloc, value.as_str()),

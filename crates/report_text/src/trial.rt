@@ -1,6 +1,7 @@
 // The program of a trial.
 ghost use Rattle.std.specs.Prelude.{◌≡◌, ◌<◌, ◌-◌, ◌^◌, ◌++◌, decimal, IfOk, OnOk, string_bytes};
-ghost use Rattle.report_text.specs.Trial.{append_line, append_lines, copied_text, copy_line, copy_lines, trial_text, trial_function, trial_data, functions_line};
+ghost use Rattle.report_text.specs.Trial.{append_line, append_lines, copied_text, copy_line, copy_lines, trial_text, trial_function};
+ghost use Rattle.report_text.specs.Trial.{trial_data, functions_line};
 
 use itoa::Buffer;
 use std::alloc::{AllocError, Global};
