@@ -2,56 +2,36 @@
 use Rattle.std.proofs.Common.{◌≡◌, Bool, true, false, cond, List, [], ◌∷◌, Option, Some, None, codes, refl, sym, ap, ◌∙◌}
 use Rattle.std.specs.Prelude.{◌&&◌, is_some, option_map, option_and_then}
 use Rattle.clap.specs.ValueTests.{is_unsigned_in}
-use Rattle.clap.specs.Walk.{nothing_held, walk, walked}
-use Rattle.clap.specs.Simple.{App, built, entered}
-use Rattle.clap.specs.Faults.{level_fault, entered_fault, fault_of, turn_fault}
-use Rattle.clap.specs.declared.error.kind.ErrorKind.TheVariants as kind
+use Rattle.clap.specs.Simple.{App, built, argument_words}
 use Rattle.clap.proofs.OnLiterals.{clap_on_literals}
 use Rattle.raml_words.specs.Words.{Text}
 use Rattle.raml_words.specs.Sorting.{Arguments, number_in, needed, value_of, once, one_of, two_of, both, degree_in}
 use Rattle.raml_words.specs.Apps.{file_degree_app, files_degree_app, degree_pairs, option_word, ordered}
 use Rattle.raml_words.specs.Clapped.{none, is_taken, found, one_text, two_texts, degree_texts}
 use Rattle.raml_words.specs.Made.{given_number, degree_words, degree_made, degree_read}
-use Rattle.raml_words.proofs.Walk.{tail, option_step, row, W, end}
+use Rattle.raml_words.proofs.Walk.{tail, Takes, option_step, row, W, end, starts}
 use Rattle.raml_words.proofs.Found.{refused_number, no_needed}
 
 -- `clap` has such a command: it takes one degree, and the operands of which something is made
 record TakesDegree {A : Type 0} (app : App) (of_values : (Text → Option Text) → Option A) (of_operands : List Text → Option A) : Type 0 where
-  good : (v : Text) → is_unsigned_in 1 4 v ≡ true → turn_fault (built app).top [] (W []) (option_word (codes "degree") v) ≡ []
-  bad : (v : Text) → is_unsigned_in 1 4 v ≡ false → turn_fault (built app).top [] (W []) (option_word (codes "degree") v) ≡ kind.ValueValidation ∷ []
-  goes_on : (v : Text) → walked (built app).top.rules [] (W []) (option_word (codes "degree") v) ≡ W (row (codes "degree") v ∷ [])
+  option : (v : Text) → Takes (built app).top (W []) (option_word (codes "degree") v) (W (row (codes "degree") v ∷ [])) (is_unsigned_in 1 4 v)
   ends : (v : Text) (os : List Text) → none (tail (built app).top (W (row (codes "degree") v ∷ [])) (codes "--" ∷ os)) ≡ is_some (of_operands os)
-  starts : (command : Text) (ws : List Text) → fault_of app (command ∷ ws) ≡ tail (built app).top (W []) ws
+  alone : built app ≡ record { top = (built app).top; subs = [] }
+  named : (command : Text) (ws : List Text) → argument_words app (command ∷ ws) ≡ ws
   without : (command : Text) (os : List Text) → is_taken app (ordered command [] os) ≡ false
   finds : (command v : Text) (os : List Text) (a : A) → of_operands os ≡ Some a → degree_texts of_values (found app (ordered command (degree_pairs (Some v)) os)) ≡ Some (a, v)
 
 -- ---- one operand
 
-file_good : (v : Text) → is_unsigned_in 1 4 v ≡ true → turn_fault (built file_degree_app).top [] (W []) (option_word (codes "degree") v) ≡ []
+file_option : (v : Text) → Takes (built file_degree_app).top (W []) (option_word (codes "degree") v) (W (row (codes "degree") v ∷ [])) (is_unsigned_in 1 4 v)
 unfolding clap_on_literals
-file_good v e = rw e refl
-
-file_bad : (v : Text) → is_unsigned_in 1 4 v ≡ false → turn_fault (built file_degree_app).top [] (W []) (option_word (codes "degree") v) ≡ kind.ValueValidation ∷ []
-unfolding clap_on_literals
-file_bad v e = rw e refl
-
-file_goes_on : (v : Text) → walked (built file_degree_app).top.rules [] (W []) (option_word (codes "degree") v) ≡ W (row (codes "degree") v ∷ [])
-unfolding clap_on_literals
-file_goes_on v = refl
+file_option v = record { good = λ e. rw e refl; bad = λ e. rw e refl; goes_on = refl }
 
 file_ends : (v : Text) (os : List Text) → none (tail (built file_degree_app).top (W (row (codes "degree") v ∷ [])) (codes "--" ∷ os)) ≡ is_some (one_of os)
 unfolding clap_on_literals
 file_ends v [] = refl
 file_ends v (f ∷ []) = refl
 file_ends v (f ∷ g ∷ os) = refl
-
-file_starts_from : (ws : List Text) (o : Option (Text × List Text))
-    → level_fault (built file_degree_app).top [] nothing_held ws (is_some (entered (built file_degree_app) o)) (entered_fault (built file_degree_app) o) ≡ tail (built file_degree_app).top (W []) ws
-file_starts_from ws None = refl
-file_starts_from ws (Some p) = refl
-
-file_starts : (command : Text) (ws : List Text) → fault_of file_degree_app (command ∷ ws) ≡ tail (built file_degree_app).top (W []) ws
-file_starts command ws = file_starts_from ws (walk (built file_degree_app).top.rules [] nothing_held ws).stopped
 
 file_without : (command : Text) (os : List Text) → is_taken file_degree_app (ordered command [] os) ≡ false
 unfolding clap_on_literals
@@ -69,21 +49,13 @@ file_finds command v [] a e = absurd (cc)
 file_finds command v (f ∷ g ∷ os) a e = absurd (cc)
 
 file_takes : TakesDegree file_degree_app one_text one_of
-file_takes = record { good = file_good; bad = file_bad; goes_on = file_goes_on; ends = file_ends; starts = file_starts; without = file_without; finds = file_finds }
+file_takes = record { option = file_option; ends = file_ends; alone = refl; named = λ command ws. refl; without = file_without; finds = file_finds }
 
 -- ---- two operands
 
-files_good : (v : Text) → is_unsigned_in 1 4 v ≡ true → turn_fault (built files_degree_app).top [] (W []) (option_word (codes "degree") v) ≡ []
+files_option : (v : Text) → Takes (built files_degree_app).top (W []) (option_word (codes "degree") v) (W (row (codes "degree") v ∷ [])) (is_unsigned_in 1 4 v)
 unfolding clap_on_literals
-files_good v e = rw e refl
-
-files_bad : (v : Text) → is_unsigned_in 1 4 v ≡ false → turn_fault (built files_degree_app).top [] (W []) (option_word (codes "degree") v) ≡ kind.ValueValidation ∷ []
-unfolding clap_on_literals
-files_bad v e = rw e refl
-
-files_goes_on : (v : Text) → walked (built files_degree_app).top.rules [] (W []) (option_word (codes "degree") v) ≡ W (row (codes "degree") v ∷ [])
-unfolding clap_on_literals
-files_goes_on v = refl
+files_option v = record { good = λ e. rw e refl; bad = λ e. rw e refl; goes_on = refl }
 
 files_ends : (v : Text) (os : List Text) → none (tail (built files_degree_app).top (W (row (codes "degree") v ∷ [])) (codes "--" ∷ os)) ≡ is_some (two_of os)
 unfolding clap_on_literals
@@ -91,14 +63,6 @@ files_ends v [] = refl
 files_ends v (f ∷ []) = refl
 files_ends v (f ∷ g ∷ []) = refl
 files_ends v (f ∷ g ∷ h ∷ os) = refl
-
-files_starts_from : (ws : List Text) (o : Option (Text × List Text))
-    → level_fault (built files_degree_app).top [] nothing_held ws (is_some (entered (built files_degree_app) o)) (entered_fault (built files_degree_app) o) ≡ tail (built files_degree_app).top (W []) ws
-files_starts_from ws None = refl
-files_starts_from ws (Some p) = refl
-
-files_starts : (command : Text) (ws : List Text) → fault_of files_degree_app (command ∷ ws) ≡ tail (built files_degree_app).top (W []) ws
-files_starts command ws = files_starts_from ws (walk (built files_degree_app).top.rules [] nothing_held ws).stopped
 
 files_without : (command : Text) (os : List Text) → is_taken files_degree_app (ordered command [] os) ≡ false
 unfolding clap_on_literals
@@ -118,7 +82,7 @@ files_finds command v (f ∷ []) a e = absurd (cc)
 files_finds command v (f ∷ g ∷ h ∷ os) a e = absurd (cc)
 
 files_takes : TakesDegree files_degree_app two_texts two_of
-files_takes = record { good = files_good; bad = files_bad; goes_on = files_goes_on; ends = files_ends; starts = files_starts; without = files_without; finds = files_finds }
+files_takes = record { option = files_option; ends = files_ends; alone = refl; named = λ command ws. refl; without = files_without; finds = files_finds }
 
 -- ---- what is made of the words
 
@@ -129,8 +93,8 @@ both_none (Some a) p e = ap (option_map (λ b. (a, b))) e
 module _ {A : Type 0} (app : App) (of_values : (Text → Option Text) → Option A) (of_operands : List Text → Option A) (takes : TakesDegree app of_values of_operands) (command : Text) where
   taken : (v : Text) (os : List Text) → is_taken app (ordered command (degree_pairs (Some v)) os) ≡ (is_unsigned_in 1 4 v && is_some (of_operands os))
   taken v os =
-      ap none (takes.starts command (option_word (codes "degree") v ∷ end os))
-      ∙ option_step (built app).top (W []) (option_word (codes "degree") v) (end os) _ _ (is_unsigned_in 1 4 v) _ (takes.good v) (takes.bad v) (takes.goes_on v) (takes.ends v os)
+      ap none (starts app command (option_word (codes "degree") v ∷ end os) takes.alone (takes.named command _))
+      ∙ option_step (built app).top _ _ _ _ _ (end os) (takes.option v) (takes.ends v os)
 
   not_taken : (words : List Text) → is_taken app words ≡ false → degree_read app of_values words ≡ None
   not_taken words e = ap (λ b. option_and_then degree_made (cond b (degree_texts of_values (found app words)) None)) e

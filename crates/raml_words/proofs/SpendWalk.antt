@@ -1,46 +1,25 @@
 -- What `clap` makes of the ordered words of `spend`: word by word.
-use Rattle.std.proofs.Common.{◌≡◌, true, false, List, [], ◌∷◌, Option, Some, None, codes, refl, ap, ◌∙◌}
-use Rattle.std.specs.Prelude.{◌&&◌, is_some}
+use Rattle.std.proofs.Common.{◌≡◌, List, [], ◌∷◌, Option, Some, None, codes, refl, ap, ◌∙◌}
+use Rattle.std.specs.Prelude.{◌&&◌}
 use Rattle.raml_words.specs.Words.{Text}
 use Rattle.clap.specs.ValueTests.{is_unsigned_in}
-use Rattle.clap.specs.Walk.{nothing_held, walk, walked}
-use Rattle.clap.specs.Simple.{Shape, built, entered}
-use Rattle.clap.specs.Faults.{level_fault, entered_fault, fault_of, turn_fault}
-use Rattle.clap.specs.declared.error.kind.ErrorKind.TheVariants as kind
+use Rattle.clap.specs.Simple.{Shape, built}
 use Rattle.clap.proofs.OnLiterals.{clap_on_literals}
 use Rattle.raml_words.specs.Apps.{spend_app, spend_pairs, maybe, option_word, accepted, has_four, ordered}
 use Rattle.raml_words.specs.Clapped.{none, is_taken, found}
-use Rattle.raml_words.proofs.Walk.{tail, option_step, with_row, W, words_of, end}
+use Rattle.raml_words.proofs.Walk.{tail, Takes, option_step, with_row, W, words_of, end, starts}
 
 abbrev S : Shape
 S = (built spend_app).top
 
-steps_good : (s : Text) → is_unsigned_in 1 1000000000 s ≡ true → turn_fault S [] (W []) (option_word (codes "steps") s) ≡ []
+takes_steps : (s : Text) → Takes S (W []) (option_word (codes "steps") s) (W (with_row (codes "steps") (Some s) [])) (is_unsigned_in 1 1000000000 s)
 unfolding clap_on_literals
-steps_good s e = rw e refl
+takes_steps s = record { good = λ e. rw e refl; bad = λ e. rw e refl; goes_on = refl }
 
-steps_bad : (s : Text) → is_unsigned_in 1 1000000000 s ≡ false → turn_fault S [] (W []) (option_word (codes "steps") s) ≡ kind.ValueValidation ∷ []
+takes_cells : (s : Option Text) (l : Text) → Takes S (W (with_row (codes "steps") s [])) (option_word (codes "cells") l) (W (with_row (codes "steps") s (with_row (codes "cells") (Some l) []))) (is_unsigned_in 0 16777216 l)
 unfolding clap_on_literals
-steps_bad s e = rw e refl
-
-steps_walked : (s : Text) → walked S.rules [] (W []) (option_word (codes "steps") s) ≡ W (with_row (codes "steps") (Some s) [])
-unfolding clap_on_literals
-steps_walked s = refl
-
-cells_good : (s : Option Text) (l : Text) → is_unsigned_in 0 16777216 l ≡ true → turn_fault S [] (W (with_row (codes "steps") s [])) (option_word (codes "cells") l) ≡ []
-unfolding clap_on_literals
-cells_good None l e = rw e refl
-cells_good (Some s) l e = rw e refl
-
-cells_bad : (s : Option Text) (l : Text) → is_unsigned_in 0 16777216 l ≡ false → turn_fault S [] (W (with_row (codes "steps") s [])) (option_word (codes "cells") l) ≡ kind.ValueValidation ∷ []
-unfolding clap_on_literals
-cells_bad None l e = rw e refl
-cells_bad (Some s) l e = rw e refl
-
-cells_walked : (s : Option Text) (l : Text) → walked S.rules [] (W (with_row (codes "steps") s [])) (option_word (codes "cells") l) ≡ W (with_row (codes "steps") s (with_row (codes "cells") (Some l) []))
-unfolding clap_on_literals
-cells_walked None l = refl
-cells_walked (Some s) l = refl
+takes_cells None l = record { good = λ e. rw e refl; bad = λ e. rw e refl; goes_on = refl }
+takes_cells (Some s) l = record { good = λ e. rw e refl; bad = λ e. rw e refl; goes_on = refl }
 
 operands : (s l : Option Text) (os : List Text) → none (tail S (W (with_row (codes "steps") s (with_row (codes "cells") l []))) (codes "--" ∷ os)) ≡ has_four os
 unfolding clap_on_literals
@@ -69,25 +48,18 @@ operands (Some s) (Some l) (a ∷ b ∷ c ∷ []) = refl
 operands (Some s) (Some l) (a ∷ b ∷ c ∷ d ∷ []) = refl
 operands (Some s) (Some l) (a ∷ b ∷ c ∷ d ∷ e ∷ os) = refl
 
-start_from : (ws : List Text) (o : Option (Text × List Text)) → level_fault S [] nothing_held ws (is_some (entered (built spend_app) o)) (entered_fault (built spend_app) o) ≡ tail S (W []) ws
-start_from ws None = refl
-start_from ws (Some p) = refl
-
-start : (ws : List Text) → fault_of spend_app (codes "spend" ∷ ws) ≡ tail S (W []) ws
-start ws = start_from ws (walk S.rules [] nothing_held ws).stopped
-
 cells_part : (s l : Option Text) (os : List Text) → none (tail S (W (with_row (codes "steps") s [])) (words_of (maybe (codes "cells") l []) (end os))) ≡ (accepted 0 16777216 l && has_four os)
 cells_part s None os = operands s None os
-cells_part s (Some l) os = option_step S _ (option_word (codes "cells") l) (end os) _ _ (is_unsigned_in 0 16777216 l) _ (cells_good s l) (cells_bad s l) (cells_walked s l) (operands s (Some l) os)
+cells_part s (Some l) os = option_step S _ _ _ _ _ (end os) (takes_cells s l) (operands s (Some l) os)
 
 steps_part : (s l : Option Text) (os : List Text) → none (tail S (W []) (words_of (maybe (codes "steps") s (maybe (codes "cells") l [])) (end os))) ≡ (accepted 1 1000000000 s && (accepted 0 16777216 l && has_four os))
 steps_part None l os = cells_part None l os
 steps_part (Some s) l os =
-    option_step S _ (option_word (codes "steps") s) (words_of (maybe (codes "cells") l []) (end os)) _ _ (is_unsigned_in 1 1000000000 s) _ (steps_good s) (steps_bad s) (steps_walked s) (cells_part (Some s) l os)
+    option_step S _ _ _ _ _ (words_of (maybe (codes "cells") l []) (end os)) (takes_steps s) (cells_part (Some s) l os)
 
 -- `spend` takes its words exactly where each number that is given is in its range, and there are four operands
 pub spend_taken : (s l : Option Text) (os : List Text) → is_taken spend_app (ordered (codes "spend") (spend_pairs s l) os) ≡ (accepted 1 1000000000 s && (accepted 0 16777216 l && has_four os))
-spend_taken s l os = ap none (start (words_of (maybe (codes "steps") s (maybe (codes "cells") l [])) (end os))) ∙ steps_part s l os
+spend_taken s l os = ap none (starts spend_app (codes "spend") (words_of (maybe (codes "steps") s (maybe (codes "cells") l [])) (end os)) refl refl) ∙ steps_part s l os
 
 -- and what it finds in them
 pub record SpendFinds (s l : Option Text) (a b c d : Text) : Type 0 where

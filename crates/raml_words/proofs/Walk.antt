@@ -1,11 +1,12 @@
 -- What `clap` makes of ordered words: word by word, from where the walk stands.
 use Rattle.std.proofs.Common.{◌≡◌, Bool, true, false, List, [], ◌∷◌, ◌++◌, map, Option, Some, None, codes, refl, ap, ◌∙◌}
-use Rattle.std.specs.Prelude.{◌&&◌, fold}
+use Rattle.std.specs.Prelude.{◌&&◌, fold, is_some}
 use Rattle.clap.specs.Kinds.{Kinds, or_else}
-use Rattle.clap.specs.Walk.{Row, Walk, Held, walked, walk_from, settled, finished}
-use Rattle.clap.specs.Simple.{Shape}
-use Rattle.clap.specs.Faults.{walk_fault, turn_fault, settle_fault, defaults_fault, check_fault}
+use Rattle.clap.specs.Walk.{Row, Walk, Held, nothing_held, walk, walked, walk_from, settled, finished}
+use Rattle.clap.specs.Simple.{Shape, App, built, entered, argument_words}
+use Rattle.clap.specs.Faults.{walk_fault, turn_fault, settle_fault, defaults_fault, check_fault, level_fault, entered_fault, built_fault, fault_of}
 use Rattle.clap.specs.declared.error.kind.ErrorKind.{ErrorKind}
+use Rattle.clap.specs.declared.error.kind.ErrorKind.TheVariants.{ValueValidation}
 use Rattle.clap.specs.declared.builder.value_parser.Reading.TheVariants as reading
 use Rattle.clap.specs.declared.parser.matches.ValueSource.TheVariants.{CommandLine}
 use Rattle.raml_words.specs.Words.{Text}
@@ -30,12 +31,15 @@ pub step_bad : (S : Shape) (w : Walk) (word : Text) (rest : List Text) (k : Erro
 unfolding walk_fault
 step_bad S w word rest k p = rw p refl
 
--- an option that a test takes or refuses, before the rest of the words
-pub option_step : (S : Shape) (w : Walk) (word : Text) (rest : List Text) (v : Walk) (k : ErrorKind) (t b : Bool)
-    → (t ≡ true → turn_fault S [] w word ≡ []) → (t ≡ false → turn_fault S [] w word ≡ k ∷ []) → walked S.rules [] w word ≡ v → none (tail S v rest) ≡ b
-    → none (tail S w (word ∷ rest)) ≡ (t && b)
-option_step S w word rest v k true b good bad q h = ap none (step_good S w word rest v (good refl) q) ∙ h
-option_step S w word rest v k false b good bad q h = step_bad S w word rest k (bad refl)
+-- An option whose value passes this test is taken, and the walk goes on from there; one whose value does not is refused.
+pub record Takes (S : Shape) (w : Walk) (word : Text) (v : Walk) (test : Bool) : Type 0 where
+  pub good : test ≡ true → turn_fault S [] w word ≡ []
+  pub bad : test ≡ false → turn_fault S [] w word ≡ ValueValidation ∷ []
+  pub goes_on : walked S.rules [] w word ≡ v
+
+pub option_step : (S : Shape) (w : Walk) (word : Text) (v : Walk) (test b : Bool) (rest : List Text) → Takes S w word v test → none (tail S v rest) ≡ b → none (tail S w (word ∷ rest)) ≡ (test && b)
+option_step S w word v true b rest takes h = ap none (step_good S w word rest v (takes.good refl) takes.goes_on) ∙ h
+option_step S w word v false b rest takes h = step_bad S w word rest ValueValidation (takes.bad refl)
 
 abbrev pub row : Text → Text → Row
 row id v = record { id = id; values = v ∷ []; count = None; source = Some CommandLine; reading = reading.AsWritten }
@@ -52,3 +56,11 @@ words_of options rest = map (λ (p : Text × Text). option_word p.0 p.1) options
 
 abbrev pub end : List Text → List Text
 end os = codes "--" ∷ os
+
+-- where the walk begins: a command alone, without commands below it
+alone : (S : Shape) (ws : List Text) (stop : Option (Text × List Text)) → level_fault S [] nothing_held ws (is_some (entered (record { top = S; subs = [] }) stop)) (entered_fault (record { top = S; subs = [] }) stop) ≡ tail S (W []) ws
+alone S ws None = refl
+alone S ws (Some p) = refl
+
+pub starts : (app : App) (command : Text) (ws : List Text) → built app ≡ record { top = (built app).top; subs = [] } → argument_words app (command ∷ ws) ≡ ws → fault_of app (command ∷ ws) ≡ tail (built app).top (W []) ws
+starts app command ws is words = (λ i. built_fault (is i) nothing_held (words i)) ∙ alone (built app).top ws (walk (built app).top.rules [] nothing_held ws).stopped
