@@ -3,6 +3,8 @@
 
 mod answer;
 mod status;
+#[cfg(test)]
+mod tests;
 mod top;
 
 pub use answer::answer;
