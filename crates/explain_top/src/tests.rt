@@ -6,8 +6,11 @@ use std::fmt::Write;
 use std::test::Fail;
 
 const TYPED: &str = "fun f (x : int) : int = x\n";
+
 const GREATER: &str = "fun f (x : int) : bool =\n\tx > 1\n";
+
 const UNTYPED: &str = "fun f (x : int) : bool = x\n";
+
 const BELL: &str = "fun f (x : int) : int = \u{7}\n";
 
 fn store_of(alloc: Global) -> Result<MemStore, AllocError> {
@@ -47,24 +50,36 @@ fn told(alloc: Global, words: &[&str]) -> Result<String, Fail> {
 #[test]
 fn says_nothing_of_what_is_typed(rt: HostRuntime) -> Result<(), Fail> {
     assert_eq!(rt; told(rt.alloc(), &["check", "typed"])?.as_str(), "0 |");
-    assert_eq!(rt; told(rt.alloc(), &["check", "typed", "typed"])?.as_str(), "0 |");
+    assert_eq!(rt;
+        told(rt.alloc(), &["check", "typed", "typed"])?.as_str(),
+        "0 |"
+    );
     Ok(())
 }
 
 #[test]
 fn points_at_the_first_fault(rt: HostRuntime) -> Result<(), Fail> {
-    assert_eq!(rt; told(rt.alloc(), &["check", "greater"])?.as_str(),
-        "1 |greater:2:4: error: syntax error: '>' is not in the language\n\tx > 1\n\t  ^\nhint: write 'b < a' for 'a > b', and 'b <= a' for 'a >= b'\n");
-    assert_eq!(rt; told(rt.alloc(), &["check", "untyped"])?.as_str(),
-        "1 |untyped:1:26: error: bool wanted, but this is int\nfun f (x : int) : bool = x\n                         ^\n");
+    assert_eq!(rt;
+        told(rt.alloc(), &["check", "greater"])?.as_str(),
+        "1 |greater:2:4: error: syntax error: '>' is not in the language\n\tx > 1\n\t  ^\nhint: write 'b < a' for 'a > b', and 'b <= a' for 'a >= b'\n"
+    );
+    assert_eq!(rt;
+        told(rt.alloc(), &["check", "untyped"])?.as_str(),
+        "1 |untyped:1:26: error: bool wanted, but this is int\nfun f (x : int) : bool = x\n                         ^\n"
+    );
     Ok(())
 }
 
 #[test]
 fn takes_the_worst_of_several_files(rt: HostRuntime) -> Result<(), Fail> {
-    assert_eq!(rt; told(rt.alloc(), &["check", "untyped", "typed", "none"])?.as_str(),
-        "2 |untyped:1:26: error: bool wanted, but this is int\nfun f (x : int) : bool = x\n                         ^\nnone: error: cannot be read\n");
-    assert_eq!(rt; told(rt.alloc(), &["check", "none", "typed"])?.as_str(), "2 |none: error: cannot be read\n");
+    assert_eq!(rt;
+        told(rt.alloc(), &["check", "untyped", "typed", "none"])?.as_str(),
+        "2 |untyped:1:26: error: bool wanted, but this is int\nfun f (x : int) : bool = x\n                         ^\nnone: error: cannot be read\n"
+    );
+    assert_eq!(rt;
+        told(rt.alloc(), &["check", "none", "typed"])?.as_str(),
+        "2 |none: error: cannot be read\n"
+    );
     Ok(())
 }
 
@@ -78,11 +93,22 @@ fn shows_no_control_characters(rt: HostRuntime) -> Result<(), Fail> {
 
 #[test]
 fn tells_its_version_and_its_commands(rt: HostRuntime) -> Result<(), Fail> {
-    assert_eq!(rt; told(rt.alloc(), &["--version"])?.as_str(), "0 explain 1.0.0\n|");
+    assert_eq!(rt;
+        told(rt.alloc(), &["--version"])?.as_str(),
+        "0 explain 1.0.0\n|"
+    );
     let help = told(rt.alloc(), &["--help"])?;
-    assert!(rt; help.as_str().starts_with("0 ") && help.as_str().contains("check") && help.as_str().ends_with("|"));
+    assert!(rt;
+        help.as_str().starts_with("0 ")
+            && help.as_str().contains("check")
+            && help.as_str().ends_with("|")
+    );
     let check = told(rt.alloc(), &["check", "--help"])?;
-    assert!(rt; check.as_str().starts_with("0 ") && check.as_str().contains("FILE") && check.as_str().ends_with("|"));
+    assert!(rt;
+        check.as_str().starts_with("0 ")
+            && check.as_str().contains("FILE")
+            && check.as_str().ends_with("|")
+    );
     Ok(())
 }
 

@@ -13,8 +13,7 @@ pub fn explain<S: Store, O: Sink, E: Sink>(
     store: &mut S,
     out: &mut O,
     err: &mut E,
-) -> Status
-{
+) -> Status {
     match read_words(alloc, words) {
         Ok(request) => answer(alloc, &request, store, err),
         Err(WordsFault::Shown { text }) => match put_all(out, text.as_bytes()) {
