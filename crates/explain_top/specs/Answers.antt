@@ -1,5 +1,5 @@
 -- How calls of `explain` end, and what they write.
-use Rattle.std.specs.Prelude.{◌≡◌, ℕ, ◌×◌, ◌⊎◌, List, Option}
+use Rattle.std.specs.Prelude.{◌≡◌, ℕ, ◌⊎◌, List, Option}
 use Rattle.raml_io.specs.Files.{Files}
 use Rattle.raml_io.specs.Written.{grown, GrewByFront}
 use Rattle.raml_syntax.specs.Tree.{Text}

@@ -1,5 +1,5 @@
 // The top call.
-use crate::answer::{answer, no_memory};
+use crate::asked::{answer, no_memory};
 use crate::status::Status;
 use explain_words::{WordsFault, read_words};
 use raml_io::{Sink, Store, put_all};
