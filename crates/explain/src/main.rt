@@ -1,0 +1,31 @@
+//! The program `explain`: what the words of the command line ask for, on the real files and streams.
+#![tactic(auto)]
+
+use explain_top::{Status, explain};
+use raml_io::{DirStore, StdSink};
+use std::process::ExitCode;
+use std::{env, io};
+
+/// The status where the runtime refuses the words for another cause than want of memory, as where one
+/// is no UTF-8.
+const NO_WORDS: u8 = 71;
+
+fn main(rt: HostRuntime) -> ExitCode {
+    match run(&rt) {
+        Ok(status) => ExitCode::from(status.code()),
+        Err(error) if error.kind() == io::ErrorKind::OutOfMemory => {
+            ExitCode::from(Status::NoMemory.code())
+        }
+        Err(_) => ExitCode::from(NO_WORDS),
+    }
+}
+
+// Takes the words from the runtime, and does what they ask for.
+fn run(rt: &HostRuntime) -> io::Result<Status> {
+    let args: Vec<String> = env::args(rt)?.skip(1).collect(rt.alloc())?;
+    let words: Vec<&str> = args.iter().map(|word| word.as_str()).collect(rt.alloc())?;
+    let mut store = DirStore::new(rt);
+    let mut out = StdSink::new(rt.stdout());
+    let mut err = StdSink::new(rt.stderr());
+    Ok(explain(rt.alloc(), &words, &mut store, &mut out, &mut err))
+}

@@ -1,0 +1,69 @@
+-- What checks of sources and files tell.
+use Rattle.std.specs.Prelude.{◌≡◌, ℕ, ◌<◌, ◌≤◌, ◌⊎◌, List, [], ◌∷◌, ◌++◌, map, length, Some, Err, codes}
+use Rattle.std.specs.Fmt.{decimal}
+use Rattle.std.specs.Borrow.{Bor}
+use Rattle.raml_io.specs.Files.{Files}
+use Rattle.raml_syntax.specs.Tree.{Text, Prog}
+use Rattle.raml_syntax.specs.Types.{Typed}
+use Rattle.raml_parse.specs.Spelling.{Spells, FirstFault}
+use Rattle.raml_parse.specs.declared.fault.ParseFault.{ParseFault}
+use Rattle.simple_types.specs.Read.{fault_of}
+use Rattle.simple_types.specs.Fault.{Fault}
+use Rattle.simple_types.specs.Walk.{walk_program}
+use Rattle.simple_types.specs.declared.fault.TypeFault.{TypeFault}
+use Rattle.explain_messages.specs.Places.{syntax_place, type_place}
+use Rattle.explain_places.specs.Places.{line, column}
+use Rattle.explain_check.specs.declared.verdict.Verdict.{Verdict}
+use Rattle.explain_check.specs.declared.verdict.Verdict.TheVariants as v
+
+abbrev pub IsTypedSource : Text → Type 0
+IsTypedSource source = (P : Prog) × Spells source P × Typed P
+
+-- it spells no program: its first fault is at this byte
+abbrev pub UnspelledAt : Text → ℕ → Type 0
+UnspelledAt source at = (fault : ParseFault) × FirstFault source fault × (syntax_place fault ≡ Some at)
+
+-- the program that it spells is not typed: the first fault of its types is at this byte
+abbrev pub UntypedAt : Text → ℕ → Type 0
+UntypedAt source at = (P : Prog) × (fault : TypeFault) × (first : Fault) × Spells source P × (fault_of fault ≡ Some first) × (walk_program P ≡ Err first) × (type_place fault ≡ Some at)
+
+-- the byte that `raml` names where it refuses the source
+abbrev pub RefusedAt : Text → ℕ → Type 0
+RefusedAt source at = UnspelledAt source at ⊎ UntypedAt source at
+
+-- NAME:LINE:COLUMN: error:
+abbrev pub fault_head : Text → Text → ℕ → Text
+fault_head name source at = name ++ (codes ":" ++ (decimal (line source at) ++ (codes ":" ++ (decimal (column source at) ++ codes ": error: "))))
+
+-- NAME: error: WHY
+abbrev pub error_line : Text → Text → Text
+error_line name why = name ++ (codes ": error: " ++ (why ++ codes "\n"))
+
+abbrev pub worse : Verdict → Verdict → Verdict
+worse v.Unread other = v.Unread
+worse v.Faulty v.Unread = v.Unread
+worse v.Faulty other = v.Faulty
+worse v.Typed other = other
+
+-- what is told of a source: nothing of one that is typed, and of another the line and column of the byte that `raml` names
+abbrev pub FaultIs : Text → Text → Verdict → Text → Type 0
+FaultIs name source v.Typed part = IsTypedSource source × (part ≡ [])
+FaultIs name source v.Faulty part = (at : ℕ) × (rest : Text) × RefusedAt source at × (part ≡ fault_head name source at ++ rest)
+FaultIs name source v.Unread part = ⊥
+
+abbrev pub most_bytes : ℕ
+most_bytes = 1048576
+
+-- the texts that are lent
+abbrev pub texts : List (Bor Text) → List Text
+texts = map (λ (name : Bor Text). name.now)
+
+-- what is told of a file: that of its source, or that it is longer than a source may be, or that the store failed
+abbrev pub FileIs : Files → Text → Verdict → Text → Type 0
+FileIs files name v.Unread part = ((source : Text) × (files name ≡ Some source) × (most_bytes < length source) × (part ≡ error_line name (codes "longer than 1048576 bytes"))) ⊎ (part ≡ error_line name (codes "cannot be read"))
+FileIs files name verdict part = (source : Text) × (files name ≡ Some source) × (length source ≤ most_bytes) × FaultIs name source verdict part
+
+-- what is told of files: the worst, and all parts in order
+abbrev pub FilesAre : Files → List Text → Verdict → Text → Type 0
+FilesAre files [] verdict parts = (verdict ≡ v.Typed) × (parts ≡ [])
+FilesAre files (name ∷ names) verdict parts = (first : Verdict) × (others : Verdict) × (part : Text) × (rest : Text) × FileIs files name first part × FilesAre files names others rest × (verdict ≡ worse first others) × (parts ≡ part ++ rest)

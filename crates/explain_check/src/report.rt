@@ -1,0 +1,101 @@
+// The report of a fault: its place and what is wrong, the line, a caret below the place, and a hint.
+ghost use Rattle.std.specs.Prelude.{◌≡◌, ◌++◌, OnOk, string_bytes};
+ghost use Rattle.raml_syntax.specs.Tree.{Text};
+ghost use Rattle.explain_check.specs.Checks.{fault_head, error_line};
+
+use explain_messages::Message;
+use explain_places::{Place, caret, line_at};
+use std::alloc::{AllocError, Global};
+use std::fmt::Write;
+
+/// What stands for a character that can't be shown.
+const NOT_SHOWN: char = '\u{fffd}';
+
+/// Appends the report of a fault of the source of this name.
+pub(crate) fn push_message(
+    alloc: Global,
+    name: &str,
+    source: &[u8],
+    message: &Message,
+    report: &mut String,
+) -> Result<(), AllocError>
+    ensures { OnOk result ((rest : Text) × (string_bytes report.new ≡ string_bytes report.old ++ (fault_head name.now source.now message.now ++ rest))) }
+{
+    push_head(name, source, message.at(), report)?;
+    push_body(alloc, source, message, report)
+}
+
+/// Appends where the fault stands, as `NAME:LINE:COLUMN: error: `.
+fn push_head(name: &str, source: &[u8], at: usize, report: &mut String) -> Result<(), AllocError>
+    ensures { OnOk result (string_bytes report.new ≡ string_bytes report.old ++ fault_head name.now source.now at) }
+{
+    let place = Place::of(source, at);
+    write!(report, "{name}:{place}: error: ")
+}
+
+/// Appends what is wrong, the line with a caret below the place, and the hint.
+fn push_body(
+    alloc: Global,
+    source: &[u8],
+    message: &Message,
+    report: &mut String,
+) -> Result<(), AllocError>
+    ensures { OnOk result ((rest : Text) × (string_bytes report.new ≡ string_bytes report.old ++ rest)) }
+{
+    report.push_str(message.text())?;
+    report.push('\n')?;
+    push_line(line_at(source, message.at()), report)?;
+    report.push('\n')?;
+    report.push_str(caret(alloc, source, message.at())?.as_str())?;
+    report.push('\n')?;
+    match message.hint() {
+        Some(hint) => {
+            report.push_str("hint: ")?;
+            report.push_str(hint.text())?;
+            report.push('\n')
+        }
+        None => Ok(()),
+    }
+}
+
+/// Appends a line of a source, as a terminal can show it.
+fn push_line(line: &[u8], report: &mut String) -> Result<(), AllocError>
+    ensures { OnOk result ((rest : Text) × (string_bytes report.new ≡ string_bytes report.old ++ rest)) }
+{
+    match std::str::from_utf8(line) {
+        Ok(text) => push_characters(text, report),
+        Err(_) => push_bytes(line, report),
+    }
+}
+
+fn push_characters(text: &str, report: &mut String) -> Result<(), AllocError>
+    ensures { OnOk result ((rest : Text) × (string_bytes report.new ≡ string_bytes report.old ++ rest)) }
+{
+    for c in text.chars() {
+        report.push(if c == '\t' || !c.is_control() {
+            c
+        } else {
+            NOT_SHOWN
+        })?;
+    }
+    Ok(())
+}
+
+fn push_bytes(line: &[u8], report: &mut String) -> Result<(), AllocError>
+    ensures { OnOk result ((rest : Text) × (string_bytes report.new ≡ string_bytes report.old ++ rest)) }
+{
+    for byte in line {
+        report.push(match byte {
+            b'\t' | b' '..=b'~' => *byte as char,
+            _ => NOT_SHOWN,
+        })?;
+    }
+    Ok(())
+}
+
+/// Appends that a file is refused as a whole, as `NAME: error: WHY`.
+pub(crate) fn push_error(name: &str, why: &str, report: &mut String) -> Result<(), AllocError>
+    ensures { OnOk result (string_bytes report.new ≡ string_bytes report.old ++ error_line name.now why.now) }
+{
+    write!(report, "{name}: error: {why}\n")
+}

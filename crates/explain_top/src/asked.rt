@@ -1,0 +1,52 @@
+// What a request asks for.
+ghost use Rattle.std.specs.Prelude.{◌≡◌, Some};
+ghost use Rattle.raml_io.specs.Files.{Files};
+ghost use Rattle.raml_syntax.specs.Tree.{Text};
+ghost use Rattle.explain_top.specs.Answers.{IsAnswer, IsChecked};
+
+use crate::status::Status;
+use explain_check::{Verdict, check_files};
+use explain_words::Request;
+use raml_io::{Sink, Store, put_all};
+use std::alloc::{AllocError, Global};
+
+/// The line where no memory is left.
+const NO_MEMORY: &str = "explain: out of memory\n";
+
+/// Does what a request asks for, and writes to `err` what is wrong.
+pub fn answer<S: Store, E: Sink>(
+    alloc: Global,
+    request: &Request,
+    store: &mut S,
+    err: &mut E,
+) -> Status
+    ensures checked { (files : Files) → S.holds store.old ≡ Some files → IsAnswer files request.now (E.written err.old) (E.written err.new) result }
+    ensures kept { S.holds store.new ≡ S.holds store.old }
+{
+    match request {
+        Request::Check { files } => check(alloc, files, store, err),
+    }
+}
+
+/// Checks the files of these names, and writes what is wrong with them to `err`.
+fn check<S: Store, E: Sink>(alloc: Global, names: &[&str], store: &mut S, err: &mut E) -> Status
+    ensures checked { (files : Files) → S.holds store.old ≡ Some files → IsChecked files names.now (E.written err.old) (E.written err.new) result }
+    ensures kept { S.holds store.new ≡ S.holds store.old }
+{
+    let mut report = String::new(alloc);
+    match check_files(alloc, store, names, &mut report) {
+        Ok(verdict) => {
+            let _ = put_all(err, report.as_bytes());
+            Status::from(verdict)
+        }
+        Err(AllocError) => no_memory(err),
+    }
+}
+
+/// Says that no memory is left.
+pub(crate) fn no_memory<E: Sink>(err: &mut E) -> Status
+    ensures { result ≡ Status.NoMemory }
+{
+    let _ = put_all(err, NO_MEMORY.as_bytes());
+    Status::NoMemory
+}

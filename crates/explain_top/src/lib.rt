@@ -1,0 +1,12 @@
+//! What the program `explain` does: what the words of a call ask for, on a store and two sinks.
+#![tactic(auto)]
+
+mod asked;
+mod status;
+#[cfg(test)]
+mod tests;
+mod top;
+
+pub use asked::answer;
+pub use status::Status;
+pub use top::explain;

@@ -1,0 +1,47 @@
+// How a call ends.
+ghost use Rattle.std.specs.Prelude.{◌≡◌};
+ghost use Rattle.explain_top.specs.Answers.{code_of, status_of};
+
+use explain_check::Verdict;
+
+/// How a call ends.
+#[derive(Clone, Copy, Debug, PartialEq, Eq)]
+pub enum Status {
+    /// What was asked for is done, and nothing is wrong.
+    Done,
+    /// A source spells no typed program.
+    Faulty,
+    /// The words ask for nothing that there is, or a file can't be read.
+    Refused,
+    /// Out was not written as a whole.
+    WriteFault,
+    /// No memory was left.
+    NoMemory,
+}
+
+impl Status {
+    /// The status of the process: 0, 1, 2, 12 or 70.
+    pub fn code(self) -> u8
+        ensures { result ≡ code_of self }
+    {
+        match self {
+            Status::Done => 0,
+            Status::Faulty => 1,
+            Status::Refused => 2,
+            Status::WriteFault => 12,
+            Status::NoMemory => 70,
+        }
+    }
+}
+
+impl From<Verdict> for Status {
+    ghost from_gives = { λ verdict status. status ≡ status_of verdict };
+
+    fn from(verdict: Verdict) -> Status {
+        match verdict {
+            Verdict::Typed => Status::Done,
+            Verdict::Faulty => Status::Faulty,
+            Verdict::Unread => Status::Refused,
+        }
+    }
+}
