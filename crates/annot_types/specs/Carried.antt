@@ -58,8 +58,8 @@ tuples C d = index_list (types C) d
 abbrev pub marks : Norm → Context → List Bool
 marks a C = map (λ (b : ℕ × Type'). free_in b.0 a) C
 
--- Of a Let: the part of an annotation at a tuple j of the variables that the bound form does not use. It has, at each tuple of those that it uses, the
--- number of both tuples together, and its budget is d less the degree of j.
+-- Of a Let: the part of an annotation at a tuple j of the variables that the bound form does not use. It has, at each
+-- tuple of those that it uses, the number of both tuples together, and its budget is d less the degree of j.
 abbrev pub part : Norm → Context → ℕ → List Plain → Annotation → Annotation
 part a C d j q = moved (projection (marks a C) (types C) d j) q
 

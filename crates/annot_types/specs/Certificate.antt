@@ -46,8 +46,8 @@ pub data Hint : Type 0 where
   Share : Entries → Hint
   Call : List (ℕ × ℤ) → Hint
 
--- Solved has a signature and a list of hints for each function of the group; Refuted a vector, by the numbers of its rows; Calls the function that
--- has no bound.
+-- Solved has a signature and a list of hints for each function of the group; Refuted a vector, by the numbers of its
+-- rows; Calls the function that has no bound.
 pub data Body : Type 0 where
   Solved : List Sig → List (List Hint) → Body
   Refuted : Entries → Body

@@ -86,8 +86,8 @@ abbrev pub IfSolved : Body → Type 0 → Type 0
 IfSolved (Solved sigs hints) claim = claim
 IfSolved body claim = Unit {0}
 
--- The block is that of the schedule, it is not tried exactly where it waits, it is of the right shape, and where it is solved it holds over the
--- blocks before it.
+-- The block is that of the schedule, it is not tried exactly where it waits, it is of the right shape, and where it is
+-- solved it holds over the blocks before it.
 pub record IsInPlace (P : Program) (c : Certificate) (place : ℕ) (block : Block) : Type 0 where
   pub task : next_task P c.degree (has_work c) (done_before c place) ≡ Some block.task
   pub waits : NamesBlocker (blocker_of P block.task (done_before c place)) block.body
@@ -102,8 +102,8 @@ pub record Held (P : Program) (c : Certificate) : Type 0 where
   pub blocks : (place : ℕ) (block : Block) → slice_get c.blocks place ≡ Some block → IsInPlace P c place block
   pub ended : next_task P c.degree (has_work c) (map outcome c.blocks) ≡ None
 
--- What is told of a function and a meter: a polynomial, by its denominator and terms; that there is no bound; or that there is none since a function
--- that is called has none.
+-- What is told of a function and a meter: a polynomial, by its denominator and terms; that there is no bound; or that
+-- there is none since a function that is called has none.
 pub data Claim : Type 0 where
   Bound : ℕ → List Term → Claim
   NoBound : Claim
@@ -139,7 +139,8 @@ line f meter claim = record { fun = f; meter = meter; claim = claim }
 abbrev pub lines_for : Program → Certificate → ℕ → Meter → List Line
 lines_for P c f meter = map (line f meter) (flat_map (λ b. claim_of P c meter b f b.body) (filter (is_for_function P meter f) c.blocks))
 
--- For each function in the order of the source, and each meter, its argument annotation over the meter's scale where the block of its group is solved,
--- no bound where it is refuted, and the function that is called and has none where it waits.
+-- For each function in the order of the source, and each meter, its argument annotation over the meter's scale where
+-- the block of its group is solved, no bound where it is refuted, and the function that is called and has none where it
+-- waits.
 abbrev pub lines : Program → Certificate → List Line
 lines P c = flat_map (λ f. flat_map (lines_for P c f) (meters (has_work c))) (range_with_len 0 (length P.funs))

@@ -106,8 +106,8 @@ abbrev pub ReachesTarget : Program → ℕ → Block → ℕ → Kind → Type 0
 ReachesTarget P d block t (Free budget f number) = Reaches P d budget f number block t
 ReachesTarget P d block t (k.With meter) = Unit {0}
 
--- Over the earlier blocks, of which those of its meter stand at this scale, and with a positive t: a block with cost stands at the scale times t, and a
--- cost-free block reaches t times its target.
+-- Over the earlier blocks, of which those of its meter stand at this scale, and with a positive t: a block with cost
+-- stands at the scale times t, and a cost-free block reaches t times its target.
 pub record Holds (P : Program) (d : ℕ) (earlier : List Block) (scale : ℕ) (block : Block) (t : ℕ) : Type 0 where
   pub positive : 0 < t
   pub solved : IsSolved block.body

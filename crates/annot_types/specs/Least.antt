@@ -16,7 +16,8 @@ solving task sigs hints = record { task = task; body = Solved sigs hints }
 
 -- no positive t, signatures and hints hold for the task
 abbrev pub Refuted : Program → ℕ → List Block → Task → ℕ → Type 0
-Refuted P d earlier task scale = (t : ℕ) (sigs : List Sig) (hints : List (List Hint)) → Holds P d earlier scale (solving task sigs hints) t → ⊥
+Refuted P d earlier task scale =
+    (t : ℕ) (sigs : List Sig) (hints : List (List Hint)) → Holds P d earlier scale (solving task sigs hints) t → ⊥
 
 -- the weighted sum of a function's argument annotation: the entry of a tuple weighs ten to its degree
 abbrev pub args_weight : Option NormFun → ℕ → Sig → ℕ

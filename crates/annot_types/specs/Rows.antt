@@ -126,7 +126,8 @@ module _ (S : Setting) (own : List Unsolved) (x : Assignment) where
   multiplied first (t ∷ ts) = record { budget = t.budget; sig = t.sig; times = x first } ∷ multiplied (suc first) ts
 
   -- a call's rows: one for each position of the context, and then one for each position of the result
-  abbrev pub arg_row : Mode → ℕ → Context → Annotation → Annotation → List ℕ → List Type' → List Unsolved → List Taken → List Taken → ℕ → Row
+  abbrev pub arg_row : Mode → ℕ → Context → Annotation → Annotation → List ℕ → List Type' →
+      List Unsolved → List Taken → List Taken → ℕ → Row
   arg_row m d C q owed xs As mine paid multiples k = record {
     has = q k;
     asks = total (λ (u : Unsolved). at_operands C xs As S.budget d (unknown u.args) k) mine + asked S C xs As d multiples k;
@@ -140,14 +141,15 @@ module _ (S : Setting) (own : List Unsolved) (x : Assignment) where
     right = pos 0 -ℤ pos (left S T d paid k);
   }
 
-  abbrev pub call_rows : Mode → ℕ → Context → Annotation → Annotation → ℕ → List ℕ → Type' → Annotation → Option NormFun → List Taken → List Row
+  abbrev pub call_rows : Mode → ℕ → Context → Annotation → Annotation → ℕ → List ℕ → Type' →
+      Annotation → Option NormFun → List Taken → List Row
   call_rows m d C q owed f xs T r None multiples = []
   call_rows m d C q owed f xs T r (Some g) multiples =
       map (arg_row m d C q owed xs (types g.params) (own_taken m f) (paid_taken m f) multiples) (range_with_len 0 (size (types C) d))
       ++ map (result_row d T r (own_taken m f) (paid_taken m f) multiples) (range_with_len 0 (size (T ∷ []) d))
 
-  -- The rows of a form in the order of the walk, with the annotation q less `owed` of its context and r of its result: those of the rule, and then
-  -- those of its parts. A hint's unknowns come before those of the parts.
+  -- The rows of a form in the order of the walk, with the annotation q less `owed` of its context and r of its result:
+  -- those of the rule, and then those of its parts. A hint's unknowns come before those of the parts.
   abbrev pub walk : Mode → ℕ → Context → Annotation → Annotation → Norm → Type' → Annotation → Made
   walk m d C q owed (n.Var k y) T r = pays m k q owed (λ owed. rows_only (cover_rows (types C) d q owed r))
   walk m d C q owed (n.Number k i) T r = pays m k q owed (λ owed. rows_only (first_row q owed (r 0)))
@@ -175,24 +177,29 @@ module _ (S : Setting) (own : List Unsolved) (x : Assignment) where
       (walk m d (others a C ++ (y, A) ∷ [])
       (joined (types (others a C)) A d (tuples (others a C) d) (let_results A d first (tuples (others a C) d))) none b T r)))
   walk m d C q owed (n.Split k y v w a) T r = pays m k q owed (λ owed.
-      walk m d (opened y (v ∷ w ∷ []) parts_of C) (moved (opening (types C) (place y C) d) q) (moved (opening (types C) (place y C) d) owed) a T r)
+      walk m d (opened y (v ∷ w ∷ []) parts_of C) (moved (opening (types C) (place y C) d) q)
+      (moved (opening (types C) (place y C) d) owed) a T r)
   walk m d C q owed (n.If k y a b) T r = pays m k q owed (λ owed. both
       (walk m d (without y C) (moved (leaving (types C) (place y C) d) q) (moved (leaving (types C) (place y C) d) owed) a T r)
       (walk m d (without y C) (moved (leaving (types C) (place y C) d) q) (moved (leaving (types C) (place y C) d) owed) b T r))
   walk m d C q owed (n.CaseList k y a h t b) T r = pays m k q owed (λ owed. both
       (walk m d (without y C) (moved (leaving (types C) (place y C) d) q) (moved (leaving (types C) (place y C) d) owed) a T r)
-      (walk m d (opened y (h ∷ t ∷ []) parts_of C) (moved (opening (types C) (place y C) d) q) (moved (opening (types C) (place y C) d) owed) b T r))
+      (walk m d (opened y (h ∷ t ∷ []) parts_of C) (moved (opening (types C) (place y C) d) q)
+      (moved (opening (types C) (place y C) d) owed) b T r))
   walk m d C q owed (n.CaseTree k y a e v w b) T r = pays m k q owed (λ owed. both
       (walk m d (without y C) (moved (leaving (types C) (place y C) d) q) (moved (leaving (types C) (place y C) d) owed) a T r)
-      (walk m d (opened y (e ∷ v ∷ w ∷ []) parts_of C) (moved (opening (types C) (place y C) d) q) (moved (opening (types C) (place y C) d) owed) b T r))
+      (walk m d (opened y (e ∷ v ∷ w ∷ []) parts_of C) (moved (opening (types C) (place y C) d) q)
+      (moved (opening (types C) (place y C) d) owed) b T r))
   walk m d C q owed (n.CaseOption k y a w b) T r = pays m k q owed (λ owed. both
       (walk m d (without y C) (moved (leaving (types C) (place y C) d) q) (moved (leaving (types C) (place y C) d) owed) a T r)
-      (walk m d (opened y (w ∷ []) parts_of C) (moved (opening (types C) (place y C) d) q) (moved (opening (types C) (place y C) d) owed) b T r))
+      (walk m d (opened y (w ∷ []) parts_of C) (moved (opening (types C) (place y C) d) q)
+      (moved (opening (types C) (place y C) d) owed) b T r))
   -- the number at the zero index pays the ticks
   walk m d C q owed (n.Tick k i a) T r = pays m k q owed (λ owed. both
       (rows_only (first_row q (more (price S m 0 i 0) owed) 0))
       (walk m d C q (more (price S m 0 i 0) owed) a T r))
-  walk m d C q owed (n.Share k y v w a) T r = pays m k q owed (λ owed. taking (size (types (opened y (v ∷ w ∷ []) copies_of C)) d) (λ first. both
+  walk m d C q owed (n.Share k y v w a) T r =
+      pays m k q owed (λ owed. taking (size (types (opened y (v ∷ w ∷ []) copies_of C)) d) (λ first. both
       (rows_only (cover_rows (types C) d q owed (moved (sharing (types C) (place y C) d) (unknown first))))
       (walk m d (opened y (v ∷ w ∷ []) copies_of C) (unknown first) none a T r)))
   walk m d C q owed (n.Drop k y a) T r = pays m k q owed (λ owed.
@@ -212,7 +219,8 @@ module _ (S : Setting) (own : List Unsolved) (x : Assignment) where
   abbrev pub target_rows : Type' → ℕ → Target → List Row
   target_rows A first target =
       map (λ k. record { has = unknown first k; asks = 0; right = pos 1 })
-      (filter (λ k. list_any (alike (slice_index_or (index_list (A ∷ []) S.budget) k [])) target) (range_with_len 0 (size (A ∷ []) S.budget)))
+      (filter (λ k. list_any (alike (slice_index_or (index_list (A ∷ []) S.budget) k [])) target)
+      (range_with_len 0 (size (A ∷ []) S.budget)))
 
   abbrev pub rows_at_target : ℕ → ℕ → ℕ → Option NormFun → List Unsolved → List Row
   rows_at_target d f number (Some g) (u ∷ us) = target_rows g.result u.result (slice_index_or (targets g.result d) number [])

@@ -15,15 +15,15 @@ use Rattle.annot_types.specs.Certificate.{Entries, annotation, Annotates, Sig, H
 use Rattle.annot_types.specs.Signature.{sig_among, sig_in, free_budget, or_else, cost_sig}
 use Rattle.annot_types.specs.Carried.{Covers, less, more, rebudgeted, at_operands, at_parts, tuples, part, joined}
 
--- With a meter prices are paid. In the other two modes none are: in mode Own a call of the present block's group takes the block's signature, and in
--- mode Past no call does.
+-- With a meter prices are paid. In the other two modes none are: in mode Own a call of the present block's group takes
+-- the block's signature, and in mode Past no call does.
 pub data Mode : Type 0 where
   With : Meter → Mode
   Own : Mode
   Past : Mode
 
--- where a rule is used: the program, the blocks before the present one, the present group's functions with their signatures, the present block's
--- budget, and the scale of the prices
+-- where a rule is used: the program, the blocks before the present one, the present group's functions with their
+-- signatures, the present block's budget, and the scale of the prices
 pub record Setting : Type 0 where
   pub program : Program
   pub earlier : List Block
@@ -51,8 +51,8 @@ abbrev pub TakesCall : List Hint → (Entries → List Hint → Type 0) → Type
 TakesCall (Call multiples ∷ rest) rule = rule multiples rest
 TakesCall _ rule = ⊥
 
--- Of a Let's bound form, whose type is A: for each tuple of the other variables there is a hint, an annotation of its result. The first tuple, that of
--- zero indices, is in the mode, and all others are in mode Past.
+-- Of a Let's bound form, whose type is A: for each tuple of the other variables there is a hint, an annotation of its
+-- result. The first tuple, that of zero indices, is in the mode, and all others are in mode Past.
 abbrev pub Parts : Type' → ℕ → (Mode → List Plain → Annotation → List Hint → List Hint → Type 0) → Mode → List (List Plain) → List Entries →
     List Hint → List Hint → Type 0
 Parts A d child mode [] [] hs out = hs ≡ out
@@ -89,7 +89,8 @@ module _ (S : Setting) where
   abbrev pub paid_sig : Meter → ℕ → Option Sig
   paid_sig meter f = or_else (own_sig f) (cost_sig S.program meter S.earlier f)
 
-  -- the signatures that a call takes once: exactly one with cost; in mode Own that of its own group, if it is of the group; in mode Past none
+  -- the signatures that a call takes once: exactly one with cost; in mode Own that of its own group, if it is of the
+  -- group; in mode Past none
   abbrev pub TakesOnce : Mode → ℕ → List Sig → Type 0
   TakesOnce (With meter) f sigs = (s : Sig) × (paid_sig meter f ≡ Some s) × (sigs ≡ s ∷ [])
   TakesOnce Own f sigs = sigs ≡ option_to_list (own_sig f)
@@ -121,7 +122,8 @@ module _ (S : Setting) where
   left T d all k = total (λ (t : Taken). t.times * rebudgeted (T ∷ []) t.budget d (annotation t.sig.result) k) all
 
   -- a call of the function on operands that are the whole context; tuples are matched by what they are
-  pub record CallRule (mode : Mode) (d : ℕ) (C : Context) (q : Annotation) (f : ℕ) (xs : List ℕ) (T : Type') (r : Annotation) (hint : Entries) : Type 0 where
+  pub record CallRule (mode : Mode) (d : ℕ) (C : Context) (q : Annotation) (f : ℕ) (xs : List ℕ)
+      (T : Type') (r : Annotation) (hint : Entries) : Type 0 where
     pub fun : NormFun
     pub there : slice_get S.program.funs f ≡ Some fun
     pub once : List Sig
@@ -131,8 +133,9 @@ module _ (S : Setting) where
     pub args : Covers (types C) d (more (refund mode) q) (asked C xs (types fun.params) d (all_taken once multiples))
     pub result : Covers (T ∷ []) d (left T d (all_taken once multiples)) r
 
-  -- In this mode and at budget d, the annotation q of the context C and the annotation r of the form's result, of type T, fit the form. Its hints are
-  -- taken from the front of `hs`, in the order of the walk, and `out` is what is left of them.
+  -- In this mode and at budget d, the annotation q of the context C and the annotation r of the form's result, of type
+  -- T, fit the form. Its hints are taken from the front of `hs`, in the order of the walk, and `out` is what is left of
+  -- them.
   abbrev pub Ann : Mode → ℕ → Context → Annotation → Norm → Type' → Annotation → List Hint → List Hint → Type 0
   -- the variable is the whole context
   Ann m d C q (n.Var k x) T r hs out = Pays m k 0 0 q (λ q. Covers (types C) d q r) × (hs ≡ out)
@@ -154,8 +157,10 @@ module _ (S : Setting) where
   Ann m d C q (n.Call k f xs) T r hs out = Pays m k 0 0 q (λ q. TakesCall hs (λ hint rest. CallRule m d C q f xs T r hint × (rest ≡ out)))
   -- The bound form is walked once for each tuple of the other variables, and then the rest.
   Ann m d C q (n.Let k x A a b) T r hs out = Pays m k 0 0 q (λ q. TakesLet hs (λ rs rest. (between : List Hint)
-      × Parts A d (λ m j s hs out. Ann m (d - degrees j) (inners a C) (part a C d j q) a A s hs out) m (tuples (others a C) d) rs rest between
-      × Ann m d (others a C ++ (x, A) ∷ []) (joined (types (others a C)) A d (tuples (others a C) d) (map annotation rs)) b T r between out))
+      × Parts A d (λ m j s hs out. Ann m (d - degrees j) (inners a C)
+      (part a C d j q) a A s hs out) m (tuples (others a C) d) rs rest between
+      × Ann m d (others a C ++ (x, A) ∷ [])
+      (joined (types (others a C)) A d (tuples (others a C) d) (map annotation rs)) b T r between out))
   Ann m d C q (n.Split k x y z a) T r hs out = Pays m k 0 0 q (λ q.
       Ann m d (opened x (y ∷ z ∷ []) parts_of C) (moved (opening (types C) (place x C) d) q) a T r hs out)
   Ann m d C q (n.If k x a b) T r hs out = Pays m k 0 0 q (λ q. (between : List Hint)
@@ -177,4 +182,5 @@ module _ (S : Setting) where
       Annotates (types (opened x (y ∷ z ∷ []) copies_of C)) d p
       × Covers (types C) d q (moved (sharing (types C) (place x C) d) (annotation p))
       × Ann m d (opened x (y ∷ z ∷ []) copies_of C) (annotation p) a T r rest out))
-  Ann m d C q (n.Drop k x a) T r hs out = Pays m k 0 0 q (λ q. Ann m d (without x C) (moved (leaving (types C) (place x C) d) q) a T r hs out)
+  Ann m d C q (n.Drop k x a) T r hs out =
+      Pays m k 0 0 q (λ q. Ann m d (without x C) (moved (leaving (types C) (place x C) d) q) a T r hs out)

@@ -27,7 +27,8 @@ abbrev pub result_of : Option NormFun → List Type'
 result_of None = []
 result_of (Some g) = g.result ∷ []
 
--- The unknowns of the signatures come first, from this one on: for each function of the group, the positions of its arguments and then those of its result.
+-- The unknowns of the signatures come first, from this one on: for each function of the group, the positions of its
+-- arguments and then those of its result.
 abbrev pub unsolved : Program → ℕ → List ℕ → ℕ → List Unsolved
 unsolved P budget [] next = []
 unsolved P budget (f ∷ fs) next =
@@ -62,7 +63,9 @@ module _ (P : Program) (d : ℕ) (earlier : List Block) (task : Task) (scale : �
 
   -- the rows at numbers for the unknowns, and how many unknowns there are
   abbrev pub made : Assignment → List Row × ℕ
-  made x = task_rows (unsigned P d earlier task scale) (unsolved P (budget_of d task.kind) (members P task.group) 0) x d task.kind (length weights_of_sigs)
+  made x =
+      task_rows (unsigned P d earlier task scale)
+      (unsolved P (budget_of d task.kind) (members P task.group) 0) x d task.kind (length weights_of_sigs)
 
   abbrev pub at_zero : List Row × ℕ
   at_zero = made (λ u. 0)

@@ -38,7 +38,8 @@ on_content f _ = 0
 -- A value whose type the index does not have meets a default; no value of the type does.
 abbrev mutual
   -- The unit counts 1, a pair multiplies its parts. A list index adds up, over all choices of as many increasing positions as it has
-  -- entries, the products of its entries at the elements there. An option's entry counts at what the option holds, and 0 where it holds nothing.
+  -- entries, the products of its entries at the elements there. An option's entry counts at what the option holds, and
+  -- 0 where it holds nothing.
   pub base : Plain → Value → ℕ
   base Unit' v = 1
   base (Pair i j) v = on_parts (base i) (base j) v

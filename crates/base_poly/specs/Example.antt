@@ -21,10 +21,13 @@ units (suc n) = Then Unit' (units n)
 
 pub record Examples : Type 0 where
   pub two_of_three : choices {X = ℕ} 2 (1 ∷ 2 ∷ 3 ∷ []) ≡ (1 ∷ 2 ∷ []) ∷ (1 ∷ 3 ∷ []) ∷ (2 ∷ 3 ∷ []) ∷ []
-  pub two_lists : index_list (ListOf Integer ∷ ListOf Integer ∷ []) 1 ≡ (units 0 ∷ units 0 ∷ []) ∷ (units 0 ∷ units 1 ∷ []) ∷ (units 1 ∷ units 0 ∷ []) ∷ []
+  pub two_lists : index_list (ListOf Integer ∷ ListOf Integer ∷ []) 1
+      ≡ (units 0 ∷ units 0 ∷ []) ∷ (units 0 ∷ units 1 ∷ []) ∷ (units 1 ∷ units 0 ∷ []) ∷ []
   pub two_lists_more : index_list (ListOf Integer ∷ ListOf Integer ∷ []) 2
-      ≡ (units 0 ∷ units 0 ∷ []) ∷ (units 0 ∷ units 1 ∷ []) ∷ (units 1 ∷ units 0 ∷ []) ∷ (units 0 ∷ units 2 ∷ []) ∷ (units 1 ∷ units 1 ∷ []) ∷ (units 2 ∷ units 0 ∷ []) ∷ []
-  pub nested : index_list (ListOf (ListOf Integer) ∷ []) 2 ≡ (End ∷ []) ∷ (Then End End ∷ []) ∷ (Then End (Then End End) ∷ []) ∷ (Then (units 1) End ∷ []) ∷ []
+      ≡ (units 0 ∷ units 0 ∷ []) ∷ (units 0 ∷ units 1 ∷ []) ∷ (units 1 ∷ units 0 ∷ []) ∷
+      (units 0 ∷ units 2 ∷ []) ∷ (units 1 ∷ units 1 ∷ []) ∷ (units 2 ∷ units 0 ∷ []) ∷ []
+  pub nested : index_list (ListOf (ListOf Integer) ∷ []) 2
+      ≡ (End ∷ []) ∷ (Then End End ∷ []) ∷ (Then End (Then End End) ∷ []) ∷ (Then (units 1) End ∷ []) ∷ []
   pub none : index_list [] 3 ≡ [] ∷ []
   pub options : index_list (OptionOf (ListOf Integer) ∷ []) 2 ≡ (NoEntry ∷ []) ∷ (OneEntry (units 0) ∷ []) ∷ (OneEntry (units 1) ∷ []) ∷ []
   pub no_list : index_list (Integer ∷ []) 4 ≡ (Unit' ∷ []) ∷ []
@@ -41,5 +44,6 @@ pub record Examples : Type 0 where
   pub option : base (OneEntry (units 2)) (Just (numbers 4)) ≡ 6
   pub no_option : base (OneEntry (units 0)) Empty ≡ 0
   -- of a list of options that hold 2, no, and 3 numbers: a number of one of them and a later option that holds something
-  pub later_option : base (Then (OneEntry (units 1)) (Then (OneEntry (units 0)) End)) (listed (Just (numbers 2) ∷ Empty ∷ Just (numbers 3) ∷ [])) ≡ 2
+  pub later_option : base (Then (OneEntry (units 1)) (Then (OneEntry (units 0)) End))
+      (listed (Just (numbers 2) ∷ Empty ∷ Just (numbers 3) ∷ [])) ≡ 2
   pub option_square : product (OneEntry (units 1)) (OneEntry (units 1)) ≡ OneEntry (units 2) ∷ OneEntry (units 2) ∷ OneEntry (units 1) ∷ []

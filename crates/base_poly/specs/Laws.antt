@@ -14,7 +14,8 @@ pub record IndicesAreListed : Type 0 where
 
 -- The tuples of a lower degree stand first in the list, at the same positions.
 abbrev pub LowerStandFirst : Type 0
-LowerStandFirst = (As : List Type') (low high : ℕ) → low ≤ high → (more : List (List Plain)) × (index_list As high ≡ index_list As low ++ more)
+LowerStandFirst =
+    (As : List Type') (low high : ℕ) → low ≤ high → (more : List (List Plain)) × (index_list As high ≡ index_list As low ++ more)
 
 -- Tuples whose degrees fit 32 bits are ordered by degree, and then component by component.
 abbrev pub TuplesAreOrdered : Type 0
@@ -40,10 +41,12 @@ pub record BaseByValue : Type 0 where
   pub at_none : (v : Value) → base (many []) v ≡ 1
   pub at_empty : (i : Plain) (is : List Plain) → base (many (i ∷ is)) Empty ≡ 0
   -- the first entry stands at the head or not
-  pub at_cons : (i : Plain) (is : List Plain) (h t : Value) → base (many (i ∷ is)) (Cons h t) ≡ base i h * base (many is) t + base (many (i ∷ is)) t
+  pub at_cons : (i : Plain) (is : List Plain) (h t : Value) →
+      base (many (i ∷ is)) (Cons h t) ≡ base i h * base (many is) t + base (many (i ∷ is)) t
   -- the first entry stands at the node or not, and of the others the left tree has the first ones
   pub at_node : (i : Plain) (is : List Plain) (a l r : Value) → base (many (i ∷ is)) (Node a l r)
-      ≡ base i a * total (λ c. base (many c.0) l * base (many c.1) r) (cuts is) + total (λ c. base (many c.0) l * base (many c.1) r) (cuts (i ∷ is))
+      ≡ base i a * total (λ c. base (many c.0) l * base (many c.1) r) (cuts is) + total
+      (λ c. base (many c.0) l * base (many c.1) r) (cuts (i ∷ is))
   -- of an option without an entry, and of one with an entry at none and at some value
   pub at_option : (v : Value) → base NoEntry v ≡ 1
   pub at_nothing : (i : Plain) → base (OneEntry i) Empty ≡ 0

@@ -54,7 +54,8 @@ rank (Then x r) = 3
 rank NoEntry = 4
 rank (OneEntry x) = 5
 
--- The unit before pairs before lists before options; pairs by first part, then second; lists entry by entry, a proper prefix first; options without an entry first, then by it.
+-- The unit before pairs before lists before options; pairs by first part, then second; lists entry by entry, a proper
+-- prefix first; options without an entry first, then by it.
 abbrev pub order : Plain → Plain → Ordering
 order (Pair a b) (Pair c d) = ordering_then (order a c) (order b d)
 order (Then x r) (Then y s) = ordering_then (order x y) (order r s)

@@ -2,10 +2,12 @@
 use Rattle.std.specs.Prelude.{List, [], ◌∷◌, ◌++◌, map, flat_map}
 use Rattle.base_poly.specs.Plain.{Plain, Unit', Pair, End, Then, NoEntry, OneEntry}
 
--- of the list index with the first i and the rest r: the least position is that of i alone, that of the other's first alone, or both stand at one
+-- of the list index with the first i and the rest r: the least position is that of i alone, that of the other's first
+-- alone, or both stand at one
 abbrev pub mixed : Plain → Plain → (Plain → List Plain) → (Plain → List Plain) → Plain → List Plain
 mixed i r with_first with_rest (Then j s) =
-    map (λ k. Then i k) (with_rest (Then j s)) ++ (map (λ k. Then j k) (mixed i r with_first with_rest s) ++ flat_map (λ h. map (λ k. Then h k) (with_rest s)) (with_first j))
+    map (λ k. Then i k) (with_rest (Then j s))
+    ++ (map (λ k. Then j k) (mixed i r with_first with_rest s) ++ flat_map (λ h. map (λ k. Then h k) (with_rest s)) (with_first j))
 mixed i r with_first with_rest End = Then i r ∷ []
 mixed i r with_first with_rest _ = []
 

@@ -45,4 +45,5 @@ read_stored (OneEntry x) ns parts = ap (λ l. read l parts) (append_assoc (store
 
 abbrev pub coded_plain : Coded Plain
 coded_plain =
-    code_by (List ℕ) (coded_list coded_ℕ) stored (λ ns. newest (read ns [])) (λ x. ap (λ l. newest (read l [])) (sym (append-nil (stored x))) ∙ ap newest (read_stored x [] []))
+    code_by (List ℕ) (coded_list coded_ℕ) stored (λ ns. newest (read ns []))
+    (λ x. ap (λ l. newest (read l [])) (sym (append-nil (stored x))) ∙ ap newest (read_stored x [] []))

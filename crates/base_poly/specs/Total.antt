@@ -7,7 +7,8 @@ use Rattle.std.specs.Ordering.{ordering_then, ordering_reverse, is_eq, eq_by_cmp
 use Rattle.std.specs.Cmp.{IsTotalOrder}
 use Rattle.std.specs.Cmp.Lexicographic.{slice_cmp}
 use Rattle.std.proofs.lemmas.Cmp.{on_total, then_total, nat_cmp_total, nat_list_cmp_total, eq_by_cmp_equiv}
-use Rattle.base_poly.specs.Plain.{Plain, Unit', Pair, End, Then, NoEntry, OneEntry, many, entries_of, degrees, capped, order, same, alike, writes}
+use Rattle.base_poly.specs.Plain.{Plain, Unit', Pair, End, Then, NoEntry, OneEntry, many, entries_of, degrees, capped, order, same, alike}
+use Rattle.base_poly.specs.Plain.{writes}
 use Rattle.base_poly.specs.Indices.{each_in_turn, tuple_order, capped_order}
 
 -- an index as a list of numbers, which sorts as the index does
@@ -37,7 +38,8 @@ two : (a b c d r s : List ℕ) (p q : Ordering) →
 two a b c d r s p q f g =
     rw (append_assoc a b r, append_assoc c d s, f (b ++ r) (d ++ s), g r s) (sym (then_assoc p q (slice_cmp nat_cmp r s)))
 
-by_spell : (x y : Plain) (r s : List ℕ) → slice_cmp nat_cmp (spell x ++ r) (spell y ++ s) ≡ ordering_then (order x y) (slice_cmp nat_cmp r s)
+by_spell : (x y : Plain) (r s : List ℕ) →
+    slice_cmp nat_cmp (spell x ++ r) (spell y ++ s) ≡ ordering_then (order x y) (slice_cmp nat_cmp r s)
 by_spell (Pair a b) (Pair c d) r s = two (spell a) (spell b) (spell c) (spell d) r s (order a c) (order b d) (by_spell a c) (by_spell b d)
 by_spell (Then x q) (Then y t) r s = two (spell x) (spell q) (spell y) (spell t) r s (order x y) (order q t) (by_spell x y) (by_spell q t)
 by_spell (OneEntry x) (OneEntry y) r s = by_spell x y r s
@@ -61,7 +63,9 @@ order_many (i ∷ is) [] = refl
 order_many (i ∷ is) (j ∷ js) = ap (ordering_then (order i j)) (order_many is js)
 
 pub tuple_total : IsTotalOrder tuple_order
-tuple_total = subst IsTotalOrder (λ n x y. ordering_then (nat_cmp (degrees x) (degrees y)) (order_many x y n)) (then_total (on_total degrees nat_cmp_total) (on_total many order_total))
+tuple_total =
+    subst IsTotalOrder (λ n x y. ordering_then (nat_cmp (degrees x) (degrees y)) (order_many x y n))
+    (then_total (on_total degrees nat_cmp_total) (on_total many order_total))
 
 pub capped_total : IsTotalOrder capped_order
 capped_total = then_total (on_total (λ t. capped (degrees t)) nat_cmp_total) (on_total many order_total)

@@ -1,5 +1,6 @@
 // Laws of indices and of base polynomials: each is the contract of a function that does nothing.
-ghost use Rattle.base_poly.specs.Laws.{IndicesAreListed, LowerStandFirst, TuplesAreOrdered, TypesHaveZero, BaseByValue, BinomialsAreBase, BaseIsBounded};
+ghost use Rattle.base_poly.specs.Laws.{IndicesAreListed, LowerStandFirst, TuplesAreOrdered, TypesHaveZero, BaseByValue, BinomialsAreBase};
+ghost use Rattle.base_poly.specs.Laws.{BaseIsBounded};
 ghost use Rattle.base_poly.specs.Example.{Examples};
 
 /// The tuples of a context up to a degree have one list in order.

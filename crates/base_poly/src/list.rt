@@ -1,5 +1,6 @@
 // Lists of all indices up to a degree.
-ghost use Rattle.std.specs.Prelude.{◌≡◌, ◌<◌, ◌≤◌, ◌+◌, ◌-◌, [], ◌∷◌, ◌++◌, All, map, filter, not, length, nat_eq, vec_len, IfOk, OnOk, IsErrOf};
+ghost use Rattle.std.specs.Prelude.{◌≡◌, ◌<◌, ◌≤◌, ◌+◌, ◌-◌, [], ◌∷◌, ◌++◌, All, map, filter, not, length, nat_eq, vec_len, IfOk, OnOk};
+ghost use Rattle.std.specs.Prelude.{IsErrOf};
 ghost use Rattle.raml_syntax.specs.Read.{ty_of};
 ghost use Rattle.base_poly.specs.Plain.{Pair, OneEntry, many, deg, degrees};
 ghost use Rattle.base_poly.specs.Indices.{tuples_led, pairs_led, lists, options, indices_up_to, tuples_up_to, index_list, ListsTuples};
@@ -140,7 +141,8 @@ fn append_by_first_type(
     requires { vec_len found.old ≤ most }
     ensures all { OnOk result (found.new.items
         ≡ found.old.items
-        ++ map (λ t. plains_of before.old.items ++ t) (tuples_led (tuples_up_to (context_of rest.now)) d (indices_up_to (ty_of first.now) d))) }
+        ++ map (λ t. plains_of before.old.items ++ t)
+        (tuples_led (tuples_up_to (context_of rest.now)) d (indices_up_to (ty_of first.now) d))) }
     ensures kept { OnOk result (before.new.items ≡ before.old.items) }
     ensures few { OnOk result (vec_len found.new ≤ most) }
     ensures many { IsErrOf result IndexFault.TooMany →
@@ -169,7 +171,8 @@ fn append_by_first_index(
     requires low { deg (index_of head.now) ≤ d }
     ensures all { OnOk result (found.new.items
         ≡ found.old.items
-        ++ map (λ r. plains_of before.old.items ++ index_of head.now ∷ r) (tuples_up_to (context_of rest.now) (d - deg (index_of head.now)))) }
+        ++ map (λ r. plains_of before.old.items ++ index_of head.now ∷ r)
+        (tuples_up_to (context_of rest.now) (d - deg (index_of head.now)))) }
     ensures kept { OnOk result (before.new.items ≡ before.old.items) }
     ensures few { OnOk result (vec_len found.new ≤ most) }
     ensures many { IsErrOf result IndexFault.TooMany →
@@ -261,7 +264,8 @@ fn pairs_up_to(
     d: u32,
     most: usize,
 ) -> Result<Vec<Index>, IndexFault>
-    ensures all { IfOk result (λ found. plains_of found.items ≡ pairs_led (indices_up_to (ty_of second.now)) d (indices_up_to (ty_of first.now) d)) }
+    ensures all { IfOk result
+        (λ found. plains_of found.items ≡ pairs_led (indices_up_to (ty_of second.now)) d (indices_up_to (ty_of first.now) d)) }
     ensures few { IfOk result (λ found. vec_len found ≤ most) }
     ensures many { IsErrOf result IndexFault.TooMany →
         most < length (pairs_led (indices_up_to (ty_of second.now)) d (indices_up_to (ty_of first.now) d)) }
@@ -382,7 +386,8 @@ fn append_lists_by_head(
     requires low { deg (index_of head.now) ≤ d }
     ensures all { OnOk result (found.new.items
         ≡ found.old.items
-        ++ map (λ r. index_of head.now ∷ r) (lists (indices_up_to (ty_of element.now)) (d - deg (index_of head.now)) (d - deg (index_of head.now)))) }
+        ++ map (λ r. index_of head.now ∷ r)
+        (lists (indices_up_to (ty_of element.now)) (d - deg (index_of head.now)) (d - deg (index_of head.now)))) }
     ensures few { OnOk result (vec_len found.new ≤ most) }
     ensures many { IsErrOf result IndexFault.TooMany →
         most < length found.old.items

@@ -109,7 +109,8 @@ fn product(alloc: Global, left: &Index, right: &Index) -> Result<Vec<Index>, All
 
 // The pairs of each first with each second.
 fn pairs(alloc: Global, firsts: &[Index], seconds: &[Index]) -> Result<Vec<Index>, AllocError>
-    ensures { IfOk result (λ found. plains_of found.items ≡ flat_map (λ h. map (λ k. Pair h k) (plains_of seconds.now)) (plains_of firsts.now)) }
+    ensures { IfOk result (λ found. plains_of found.items ≡ flat_map
+        (λ h. map (λ k. Pair h k) (plains_of seconds.now)) (plains_of firsts.now)) }
 {
     let mut found = Vec::new(alloc);
     for first in firsts {
@@ -125,7 +126,8 @@ fn pair_all(
     first: &Index,
     seconds: &[Index],
 ) -> Result<(), AllocError>
-    ensures { OnOk result (plains_of found.new.items ≡ plains_of found.old.items ++ map (λ k. Pair (index_of first.now) k) (plains_of seconds.now)) }
+    ensures { OnOk result (plains_of found.new.items ≡ plains_of found.old.items ++ map
+        (λ k. Pair (index_of first.now) k) (plains_of seconds.now)) }
 {
     for second in seconds {
         found.push(pair(alloc, first, second.copy(alloc)?)?)?;
@@ -179,8 +181,10 @@ fn mixed_product(
     others: &[Index],
 ) -> Result<Vec<Tuple>, AllocError>
     ensures { IfOk result (λ found. map many found.items ≡ map (λ k. Then (index_of first.now) k) (map many mine.now)
-        ++ (map (λ k. Then (index_of other.now) k) (product (Then (index_of first.now) (many (plains_of rest.now))) (many (plains_of others.now)))
-        ++ flat_map (λ h. map (λ k. Then h k) (product (many (plains_of rest.now)) (many (plains_of others.now)))) (product (index_of first.now) (index_of other.now)))) }
+        ++ (map (λ k. Then (index_of other.now) k)
+        (product (Then (index_of first.now) (many (plains_of rest.now))) (many (plains_of others.now)))
+        ++ flat_map (λ h. map (λ k. Then h k)
+        (product (many (plains_of rest.now)) (many (plains_of others.now)))) (product (index_of first.now) (index_of other.now)))) }
 {
     let theirs = led_product(alloc, first, rest, others)?;
     let heads = product(alloc, first, other)?;

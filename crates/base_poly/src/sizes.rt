@@ -132,7 +132,8 @@ fn of_pairs(
     d: u8,
     most: usize,
 ) -> Result<Vec<u8>, IndexFault>
-    ensures all { IfOk result (λ found. found.items ≡ map deg (pairs_led (indices_up_to (ty_of second.now)) d (indices_up_to (ty_of first.now) d))) }
+    ensures all { IfOk result
+        (λ found. found.items ≡ map deg (pairs_led (indices_up_to (ty_of second.now)) d (indices_up_to (ty_of first.now) d))) }
     ensures few { IfOk result (λ found. vec_len found ≤ most) }
     ensures many { IsErrOf result IndexFault.TooMany →
         most < length (pairs_led (indices_up_to (ty_of second.now)) d (indices_up_to (ty_of first.now) d)) }

@@ -1,5 +1,6 @@
 -- What the private steps of `powers` make.
-use Rattle.std.specs.Prelude.{ℕ, zero, suc, ◌+◌, ◌-◌, ◌<◌, ◌≤◌, ◌*◌, ◌/◌, ◌^◌, ◌==◌, min, ℤ, pos, negsuc, ◌-ℤ◌, ◌*ℤ◌, Bool, false, cond, ◌⊎◌, List, [], ◌∷◌, map, flat_map, unsigned_abs}
+use Rattle.std.specs.Prelude.{ℕ, zero, suc, ◌+◌, ◌-◌, ◌<◌, ◌≤◌, ◌*◌, ◌/◌, ◌^◌, ◌==◌, min, ℤ, pos, negsuc, ◌-ℤ◌, ◌*ℤ◌, Bool, false, cond}
+use Rattle.std.specs.Prelude.{◌⊎◌, List, [], ◌∷◌, map, flat_map, unsigned_abs}
 use Rattle.std.specs.Str.{bytes_eq}
 use Rattle.base_poly.specs.Poly.{Term}
 use Rattle.bound_compare.specs.Powers.{Powers, counts, factorials, above, below}

@@ -1,5 +1,6 @@
 // Laws: each is the contract of a function that does nothing.
-ghost use Rattle.bound_compare.specs.Laws.{RelationsAreOne, RelationIsFound, RelationsPromise, DivisionIsExact, PowersKeepWorth, FitsOrLeaves, ExponentsAreOrdered, PowersAreOne, PowersAreThese};
+ghost use Rattle.bound_compare.specs.Laws.{RelationsAreOne, RelationIsFound, RelationsPromise, DivisionIsExact, PowersKeepWorth};
+ghost use Rattle.bound_compare.specs.Laws.{FitsOrLeaves, ExponentsAreOrdered, PowersAreOne, PowersAreThese};
 ghost use Rattle.bound_compare.specs.Example.{Examples};
 
 /// Two polynomials stand in one relation.

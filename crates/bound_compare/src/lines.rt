@@ -15,7 +15,8 @@ pub fn push_powers_line(
     form: &PowerForm,
 ) -> Result<(), AllocError>
     requires { pos 0 <ℤ form.now.den }
-    ensures { OnOk result (string_bytes text.new ≡ string_bytes text.old ++ powers_line name.now meter.now (unsigned_abs form.now.den) form.now.terms.items) }
+    ensures { OnOk result (string_bytes text.new ≡ string_bytes text.old
+        ++ powers_line name.now meter.now (unsigned_abs form.now.den) form.now.terms.items) }
 {
     push_subject(text, name, meter)?;
     text.push_str(" <= ")?;

@@ -1,5 +1,6 @@
 -- What the bytes of a file of declared bounds declare, and their first fault.
-use Rattle.std.specs.Prelude.{◌≡◌, ℕ, suc, nat_eq, Bool, false, true, ◌&&◌, ◌||◌, List, [], ◌∷◌, ◌++◌, length, cond, slice_get, Some, Result, Ok, Err}
+use Rattle.std.specs.Prelude.{◌≡◌, ℕ, suc, nat_eq, Bool, false, true, ◌&&◌, ◌||◌, List, [], ◌∷◌, ◌++◌, length, cond, slice_get, Some}
+use Rattle.std.specs.Prelude.{Result, Ok, Err}
 use Rattle.std.specs.List.{All}
 use Rattle.std.specs.Str.{IsUtf8, IsValidUpTo}
 use Rattle.raml_syntax.specs.Tree.{Text, Function, Prog}
@@ -44,7 +45,9 @@ EachNew before (line ∷ lines) = (is_declared before line.fun line.meter ≡ fa
 
 -- the bounds are those of functions of the program, at positions that their parameters have
 abbrev pub AreWithin : Prog → Declaration → Type 0
-AreWithin P D = All (λ line. (fun : Function) × (slice_get P line.fun ≡ Some fun) × AreBelow (length (index_list (types_of fun) D.degree)) line.bound) D.lines
+AreWithin P D =
+    All (λ line. (fun : Function) × (slice_get P line.fun ≡ Some fun)
+    × AreBelow (length (index_list (types_of fun) D.degree)) line.bound) D.lines
 
 -- Of a program, at a degree:
 module _ (P : Prog) (d : ℕ) where

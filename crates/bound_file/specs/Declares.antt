@@ -81,5 +81,6 @@ module _ (P : Prog) (d : ℕ) where
   DeclaresNothing text Shape = (w : Written) → IsLine text w → ⊥
   DeclaresNothing text Number = (w : Written) × IsLine text w × (AllInRange w.terms → ⊥)
   DeclaresNothing text Unknown = (w : Written) × IsLine text w × AllInRange w.terms × (place_of w.name P ≡ None)
-  DeclaresNothing text Index = (w : Written) × (place : ℕ) × (fun : Function) × Names text w place fun × HaveNoPlaces (types_of fun) d w.terms
+  DeclaresNothing text Index =
+      (w : Written) × (place : ℕ) × (fun : Function) × Names text w place fun × HaveNoPlaces (types_of fun) d w.terms
   DeclaresNothing text Twice = ⊥

@@ -13,7 +13,15 @@ integers name = record { at = 0; name = name; type = ListOf Integer }
 
 -- fun a (x : int list, y : int list) : int list = y
 abbrev pub program : Prog
-program = record { at = 0; name = codes "a"; params = integers (codes "x") ∷ integers (codes "y") ∷ []; result = ListOf Integer; body = t.Var 0 (codes "y") } ∷ []
+program =
+    record {
+      at = 0;
+      name = codes "a";
+      params = integers (codes "x") ∷ integers
+          (codes "y") ∷ [];
+      result = ListOf Integer;
+      body = t.Var 0 (codes "y");
+    } ∷ []
 
 abbrev coefficient : ℕ → ℕ → ℕ → Coefficient
 coefficient k n m = record { position = k; numerator = n; denominator = m }

@@ -35,7 +35,8 @@ module _ (P : Prog) (d : ℕ) where
   -- what these texts, behind so many others, make of the lines that were read before
   abbrev pub read_lines : Lines → ℕ → List Text → Lines
   read_lines before number [] = before
-  read_lines before number (text ∷ texts) = read_lines (and_on before (λ lines. numbered (suc number) (line_added P d lines text))) (suc number) texts
+  read_lines before number (text ∷ texts) =
+      read_lines (and_on before (λ lines. numbered (suc number) (line_added P d lines text))) (suc number) texts
 
 -- the lines in a vector
 abbrev pub ItemsOf : Result (Vec DeclLine) DeclError → Result (List DeclLine) DeclError

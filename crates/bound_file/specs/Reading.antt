@@ -1,5 +1,6 @@
 -- How a file of declared bounds is read, line by line.
-use Rattle.std.specs.Prelude.{ℕ, suc, Bool, true, false, not, nat_eq, nat_le, nat_lt, ◌&&◌, ◌^◌, List, [], ◌∷◌, ◌++◌, map, length, cond, Option, Some, None, option_map, slice_get, codes, Result, Ok, Err}
+use Rattle.std.specs.Prelude.{ℕ, suc, Bool, true, false, not, nat_eq, nat_le, nat_lt, ◌&&◌, ◌^◌, List, [], ◌∷◌, ◌++◌, map, length, cond}
+use Rattle.std.specs.Prelude.{Option, Some, None, option_map, slice_get, codes, Result, Ok, Err}
 use Rattle.std.specs.List.{list_all, list_any}
 use Rattle.std.specs.Str.{bytes_eq}
 use Rattle.std.specs.Borrow.{Bor}
@@ -57,7 +58,8 @@ whole_read numerator tuple = cond (is_number numerator) (Some (record { numerato
 
 abbrev pub over_read : Text → Text → Text → Option Term
 over_read numerator denominator tuple =
-    cond (is_number numerator && is_number denominator) (Some (record { numerator = numerator; denominator = denominator; tuple = tuple })) None
+    cond (is_number numerator && is_number denominator)
+    (Some (record { numerator = numerator; denominator = denominator; tuple = tuple })) None
 
 abbrev pub quotient_from : Text → Text → Option (Text × Text) → Option Term
 quotient_from coefficient tuple None = whole_read coefficient tuple
@@ -103,7 +105,9 @@ sum_read sum = cond (bytes_eq sum (codes " 0")) (Some []) (each_read (pieces sum
 -- Lines
 
 abbrev pub meter_read : Text → Option Meter
-meter_read word = cond (bytes_eq word (codes "ticks")) (Some Ticks) (cond (bytes_eq word (codes "cells")) (Some Cells) (cond (bytes_eq word (codes "work")) (Some Work) None))
+meter_read word =
+    cond (bytes_eq word (codes "ticks")) (Some Ticks)
+    (cond (bytes_eq word (codes "cells")) (Some Cells) (cond (bytes_eq word (codes "work")) (Some Work) None))
 
 abbrev pub is_word : Text → Bool
 is_word [] = false
@@ -130,11 +134,13 @@ abbrev pub parts_read : Text → Option Parts
 parts_read line = and_then (cut_at 32 line) (λ p. and_then (cut_at 32 p.1) (λ q. and_then (cut_at 61 q.1) (at_sign p.0 q.0)))
 
 abbrev pub with_terms : Text → Meter → List Term → Option Written
-with_terms name meter terms = cond (distinct (map (λ (t : Term). t.tuple) terms)) (Some (record { name = name; meter = meter; terms = terms })) None
+with_terms name meter terms =
+    cond (distinct (map (λ (t : Term). t.tuple) terms)) (Some (record { name = name; meter = meter; terms = terms })) None
 
 abbrev pub line_from : Parts → Option Written
 line_from parts =
-    cond (is_name parts.name) (and_then (meter_read parts.meter) (λ meter. and_then (sum_read parts.sum) (with_terms parts.name meter))) None
+    cond (is_name parts.name)
+    (and_then (meter_read parts.meter) (λ meter. and_then (sum_read parts.sum) (with_terms parts.name meter))) None
 
 abbrev pub line_read : Text → Option Written
 line_read line = and_then (parts_read line) line_from

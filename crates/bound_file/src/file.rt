@@ -38,7 +38,8 @@ fn add_line(
     requires short { length text.now < 2 ^ 31 }
     requires few { length (program_of program.now) < 2 ^ 31 }
     requires signed { All IsSigned lines.old.items }
-    ensures leaves { Leaves result (lines_of lines.new.items) (line_added (program_of program.now) degree (lines_of lines.old.items) text.now) }
+    ensures leaves { Leaves result (lines_of lines.new.items)
+        (line_added (program_of program.now) degree (lines_of lines.old.items) text.now) }
     ensures signed { All IsSigned lines.new.items }
 {
     let line = of_text(alloc, program, degree, text)?;

@@ -86,7 +86,8 @@ fn bound_over<'a>(
 ) -> Result<Option<Vec<(u32, i128, i128)>>, AllocError>
     requires low { All (λ t. degrees t < 2 ^ 32) tuples.now }
     requires few { length tuples.now ≤ 2000 }
-    ensures bound { IfOk result (λ found. option_map (λ cs. coefficients_of cs.items) found ≡ bound_over tuples.now (all_counted_of terms.now)) }
+    ensures bound { IfOk result
+        (λ found. option_map (λ cs. coefficients_of cs.items) found ≡ bound_over tuples.now (all_counted_of terms.now)) }
     ensures positive { IfOk result (λ found. IfSome found (λ cs. ArePositive cs.items)) }
 {
     if all_placed(tuples, terms) {
@@ -105,7 +106,8 @@ pub fn bound<'a>(
     degree: u8,
     terms: &[Counted<'a>],
 ) -> Result<Option<Vec<(u32, i128, i128)>>, AllocError>
-    ensures bound { IfOk result (λ found. option_map (λ cs. coefficients_of cs.items) found ≡ bound_read (context_of types.now) degree (all_counted_of terms.now)) }
+    ensures bound { IfOk result
+        (λ found. option_map (λ cs. coefficients_of cs.items) found ≡ bound_read (context_of types.now) degree (all_counted_of terms.now)) }
     ensures positive { IfOk result (λ found. IfSome found (λ cs. ArePositive cs.items)) }
 {
     if terms.is_empty() {

@@ -1,6 +1,7 @@
 // Terms and sums from texts.
 ghost use Rattle.std.specs.Prelude.{◌≡◌, option_map, IfOk};
-ghost use Rattle.bound_file.specs.Reading.{whole_read, over_read, quotient_read, term_read, last_read, inner_read, each_read, pieces, sum_read};
+ghost use Rattle.bound_file.specs.Reading.{whole_read, over_read, quotient_read, term_read, last_read, inner_read, each_read, pieces};
+ghost use Rattle.bound_file.specs.Reading.{sum_read};
 ghost use Rattle.bound_file.specs.Seen.{term_of, terms_of};
 
 use crate::cut::{before_space, behind_space, cut_at};

@@ -93,7 +93,8 @@ NoneIsReady waits_for count placed = (f : ℕ) → f < count → IsReady waits_f
 module _ (rows : Table) (count : ℕ) where
   abbrev pub Front : Members → List (List ℕ) → Members → Type 0
   Front placed [] last = placed ≡ last
-  Front placed (g ∷ gs) last = (f : ℕ) × IsNext (waits rows) count placed f × (g ≡ below count (group rows f)) × Front (joined placed (group rows f)) gs last
+  Front placed (g ∷ gs) last =
+      (f : ℕ) × IsNext (waits rows) count placed f × (g ≡ below count (group rows f)) × Front (joined placed (group rows f)) gs last
 
   -- all of them: at the end no function is ready
   pub record Placed (gs : List (List ℕ)) : Type 0 where

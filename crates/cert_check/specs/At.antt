@@ -21,8 +21,8 @@ use Rattle.cert_check.specs.declared.fault.CertFault.{CertFault}
 abbrev pub program_at : At → Program
 program_at at = program_in at.program.now
 
--- It stands behind these blocks, in a certificate of this degree and these scales. Of a number that leaves 128 bits, what is known is the greatest one of
--- 128 bits.
+-- It stands behind these blocks, in a certificate of this degree and these scales. Of a number that leaves 128 bits,
+-- what is known is the greatest one of 128 bits.
 pub record IsAt (at : At) (held : c.Certificate) (blocks : List c.Block) : Type 0 where
   pub count : length blocks ≡ at.number
   pub degree : at.degree ≡ held.degree

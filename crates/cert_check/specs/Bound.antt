@@ -27,6 +27,7 @@ abbrev pub told_by : ℕ → ℕ → Option NormFun → Option Sig → Option To
 told_by scale d (Some g) (Some s) = Some (scale, terms_of (types g.params) d s.args)
 told_by scale d _ _ = None
 
--- the argument annotation of the function in the meter's solved block of its group, over the meter's scale; None where there is no such block
+-- the argument annotation of the function in the meter's solved block of its group, over the meter's scale; None where
+-- there is no such block
 abbrev pub told : Program → Certificate → ℕ → Meter → Option Told
 told P c f meter = told_by (unsigned_abs (scale_of c meter)) c.degree (slice_get P.funs f) (cost_sig P meter c.blocks f)

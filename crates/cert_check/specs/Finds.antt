@@ -95,7 +95,8 @@ missing_in d budget number _ _ = 0
 abbrev pub large_in : Plan → ℕ → List ℕ → Option Task
 large_in plan group [] = None
 large_in plan group (f ∷ fs) =
-    cond (has_more 2000 plan.degree (slice_get plan.results f)) (Some (record { group = group; kind = Free plan.degree f 0 })) (large_in plan group fs)
+    cond (has_more 2000 plan.degree (slice_get plan.results f))
+    (Some (record { group = group; kind = Free plan.degree f 0 })) (large_in plan group fs)
 
 abbrev pub or_task : Option Task → Option Task → Option Task
 or_task None later = later
@@ -110,7 +111,8 @@ module _ (P : Program) (c : Certificate) where
   abbrev pub schedule : Plan
   schedule = record { results = results P; groups = P.groups; degree = c.degree; work = has_work c }
 
-  -- The schedule goes on after these blocks: its next task is not the first of a group that has a function whose result has more than 2000 indices.
+  -- The schedule goes on after these blocks: its next task is not the first of a group that has a function whose result
+  -- has more than 2000 indices.
   abbrev pub GoesOn : List Block → Type 0
   GoesOn earlier = IsRefused 2000 schedule (map outcome earlier) → ⊥
 
@@ -134,8 +136,8 @@ module _ (P : Program) (c : Certificate) where
   abbrev pub job : List Block → Task → Job
   job earlier task = job_of P c.degree earlier task (scale_for c task.kind)
 
-  -- Signatures and hints are as many as there are functions and as the walks ask for, of their kinds and in their ranges; positions and numbers of blocks
-  -- ascend, and all other numbers are positive.
+  -- Signatures and hints are as many as there are functions and as the walks ask for, of their kinds and in their
+  -- ranges; positions and numbers of blocks ascend, and all other numbers are positive.
   pub record IsShapely (earlier : List Block) (task : Task) (sigs : List Sig) (hints : List (List Hint)) : Type 0 where
     pub sigs_fit : SigsFit (job earlier task).bodies sigs
     pub sigs_rise : SigsRise sigs

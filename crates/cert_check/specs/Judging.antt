@@ -11,4 +11,5 @@ use Rattle.rules_walk.specs.Place.{body_walked}
 abbrev pub bodies_walked : Known Amount → Mode → ℕ → List Body → List (List (Hint Amount)) → List (Condition Amount)
 bodies_walked G mode place [] hss = []
 bodies_walked G mode place (b ∷ bs) [] = []
-bodies_walked G mode place (b ∷ bs) (hs ∷ hss) = let w = body_walked capped G b.plan mode place hs in w.found ++ bodies_walked G mode (suc place) bs hss
+bodies_walked G mode place (b ∷ bs) (hs ∷ hss) =
+    let w = body_walked capped G b.plan mode place hs in w.found ++ bodies_walked G mode (suc place) bs hss

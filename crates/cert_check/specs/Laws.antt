@@ -50,8 +50,8 @@ IsLeaving (Shape number) = ⊥
 IsLeaving (Fails number path index) = ⊥
 IsLeaving (TooLarge task) = ⊥
 
--- The schedule goes on after all first blocks, and no context or type of the walks through the bodies of a solved block's group has more than 2000 indices
--- at its budget.
+-- The schedule goes on after all first blocks, and no context or type of the walks through the bodies of a solved
+-- block's group has more than 2000 indices at its budget.
 pub record IsSmall (P : Program) (c : Certificate) : Type 0 where
   pub goes_on : (place : ℕ) → GoesOn P c (before c place)
   pub within : (place : ℕ) (block : Block) → slice_get c.blocks place ≡ Some block → IfSolved block.body (AreWithin P c block.task)

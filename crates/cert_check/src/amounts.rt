@@ -55,7 +55,8 @@ pub fn all_sides(
     bodies: &[Body<'_>],
     sigs: &[Sig],
 ) -> Result<Vec<Sides<Amount>>, AllocError>
-    ensures { IfOk result (λ made. map sides_of made.items ≡ map (sides_to capped_amount) (sides_at (map body_of bodies.now) (map a.sig_of sigs.now))) }
+    ensures { IfOk result (λ made. map sides_of made.items
+        ≡ map (sides_to capped_amount) (sides_at (map body_of bodies.now) (map a.sig_of sigs.now))) }
 {
     let mut made = Vec::with_capacity(alloc, bodies.len())?;
     let mut sigs = sigs;
@@ -105,7 +106,8 @@ fn multiples(alloc: Global, told: &[(u32, i128)]) -> Result<Vec<(u32, Amount)>, 
 
 // A hint of the kind that is asked for.
 fn walked_hint(alloc: Global, ask: &Ask, told: &Told) -> Result<Option<Hint<Amount>>, AllocError>
-    ensures { IfOk result (λ hint. map hint_of (option_to_list hint) ≡ map (hint_to capped_amount) (hint_at (ask_of ask.now) (a.hint_of told.now))) }
+    ensures { IfOk result (λ hint. map hint_of (option_to_list hint)
+        ≡ map (hint_to capped_amount) (hint_at (ask_of ask.now) (a.hint_of told.now))) }
 {
     match ask {
         Ask::Results(sizes) => match told {
@@ -133,7 +135,8 @@ pub fn walked_hints(
     asks: &[Ask],
     told: &[Told],
 ) -> Result<Vec<Hint<Amount>>, AllocError>
-    ensures { IfOk result (λ made. hints_of made.items ≡ map (hint_to capped_amount) (hints_at (asks_of asks.now) (map a.hint_of told.now))) }
+    ensures { IfOk result (λ made. hints_of made.items
+        ≡ map (hint_to capped_amount) (hints_at (asks_of asks.now) (map a.hint_of told.now))) }
 {
     let mut made = Vec::with_capacity(alloc, asks.len())?;
     let mut told = told;

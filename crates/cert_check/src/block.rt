@@ -87,9 +87,12 @@ pub fn check_body(
     requires remembers { (blocks : List c.Block) × Remembers (program_at at.now) at.now.degree blocks at.now.earlier.now }
     requires kept { AreKept (program_at at.now) kept.old }
     ensures kept { OnOk result (AreKept (program_at at.now) kept.new) }
-    ensures tells { (held : c.Certificate) (blocks : List c.Block) → IsAt at.now held blocks → Remembers (program_at at.now) held.degree blocks at.now.earlier.now →
+    ensures tells { (held : c.Certificate) (blocks : List c.Block) → IsAt at.now held blocks →
+        Remembers (program_at at.now) held.degree blocks at.now.earlier.now →
         Tells result (BodyFinds (program_at at.now) held blocks (task_of at.now.task) (a.body_of body.now)) }
-    ensures sizes { IfOk result (λ sizes. (held : c.Certificate) (blocks : List c.Block) → IsAt at.now held blocks → Remembers (program_at at.now) held.degree blocks at.now.earlier.now →
+    ensures sizes { IfOk result
+        (λ sizes. (held : c.Certificate) (blocks : List c.Block) → IsAt at.now held blocks →
+        Remembers (program_at at.now) held.degree blocks at.now.earlier.now →
         IfSolved (a.body_of body.now) (sizes.items ≡ sizes_of (job (program_at at.now) held blocks (task_of at.now.task)).bodies)) }
 {
     match body {

@@ -33,7 +33,8 @@ fn is_scheduled(
     next: Option<Task>,
 ) -> bool
     ensures { IsTrue result ↔ ((is_task (task_of block.now.task) (option_map task_of next) ≡ true)
-        × NamesBlocker (blocked_in program.now.groups.list program.now.groups.calls (task_of block.now.task) schedule.now.done) (a.body_of block.now.body)) }
+        × NamesBlocker (blocked_in program.now.groups.list program.now.groups.calls
+        (task_of block.now.task) schedule.now.done) (a.body_of block.now.body)) }
 {
     let blocker = blocked(program.groups(), &block.task, schedule.done());
     is_task(&block.task, next) && names_blocker(blocker, &block.body)
@@ -57,9 +58,12 @@ fn check_next(
     requires next { option_map task_of next ≡ next_in (plan_in schedule.old) schedule.old.done }
     requires kept { AreKept (program_in program.now) kept.old }
     ensures kept { OnOk result (AreKept (program_in program.now) kept.new) }
-    ensures tells { (blocks : List c.Block) → HasCome program.now (certificate_of certificate.now) blocks schedule.old earlier.old → length blocks ≡ number →
+    ensures tells { (blocks : List c.Block) →
+        HasCome program.now (certificate_of certificate.now) blocks schedule.old earlier.old → length blocks ≡ number →
         Tells result (ScheduledFinds (program_in program.now) (certificate_of certificate.now) blocks (a.block_of block.now)) }
-    ensures goes { OnOk result ((blocks : List c.Block) → HasCome program.now (certificate_of certificate.now) blocks schedule.old earlier.old → length blocks ≡ number →
+    ensures goes { OnOk result
+        ((blocks : List c.Block) →
+        HasCome program.now (certificate_of certificate.now) blocks schedule.old earlier.old → length blocks ≡ number →
         HasCome program.now (certificate_of certificate.now) (blocks ++ a.block_of block.now ∷ []) schedule.new earlier.new) }
 {
     let _functions = program.functions();
@@ -96,9 +100,12 @@ pub fn check_block(
     requires came { (blocks : List c.Block) × HasCome program.now (certificate_of certificate.now) blocks schedule.old earlier.old }
     requires kept { AreKept (program_in program.now) kept.old }
     ensures kept { OnOk result (AreKept (program_in program.now) kept.new) }
-    ensures tells { (blocks : List c.Block) → HasCome program.now (certificate_of certificate.now) blocks schedule.old earlier.old → length blocks ≡ number →
+    ensures tells { (blocks : List c.Block) →
+        HasCome program.now (certificate_of certificate.now) blocks schedule.old earlier.old → length blocks ≡ number →
         Tells result (BlockFinds (program_in program.now) (certificate_of certificate.now) blocks (a.block_of block.now)) }
-    ensures goes { OnOk result ((blocks : List c.Block) → HasCome program.now (certificate_of certificate.now) blocks schedule.old earlier.old → length blocks ≡ number →
+    ensures goes { OnOk result
+        ((blocks : List c.Block) →
+        HasCome program.now (certificate_of certificate.now) blocks schedule.old earlier.old → length blocks ≡ number →
         HasCome program.now (certificate_of certificate.now) (blocks ++ a.block_of block.now ∷ []) schedule.new earlier.new) }
 {
     let _functions = program.functions();
@@ -130,7 +137,8 @@ pub fn check_end(
     number: usize,
 ) -> Result<(), CertFault>
     requires { (blocks : List c.Block) × HasCome program.now (certificate_of certificate.now) blocks schedule.old earlier.now }
-    ensures { (blocks : List c.Block) → HasCome program.now (certificate_of certificate.now) blocks schedule.old earlier.now → length blocks ≡ number →
+    ensures { (blocks : List c.Block) →
+        HasCome program.now (certificate_of certificate.now) blocks schedule.old earlier.now → length blocks ≡ number →
         Tells result (EndFinds (program_in program.now) (certificate_of certificate.now) blocks) }
 {
     let _functions = program.functions();

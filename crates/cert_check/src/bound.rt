@@ -149,7 +149,8 @@ pub fn poly_of(
     requires low { degree ≤ 4 }
     requires few { length (index_list (types (parameters_of params.now)) degree) ≤ 2000 }
     requires within { Annotates (types (parameters_of params.now)) degree annot.now }
-    ensures told { IfOk result (λ poly. told_of poly ≡ (unsigned_abs scale, h.terms_of (types (parameters_of params.now)) degree annot.now)) }
+    ensures told { IfOk result
+        (λ poly. told_of poly ≡ (unsigned_abs scale, h.terms_of (types (parameters_of params.now)) degree annot.now)) }
     ensures poly { IfOk result IsPoly }
 {
     let tuples = tuples_of(alloc, params, degree)?;
@@ -166,7 +167,8 @@ pub fn bound_of(
     meter: Meter,
 ) -> Result<Option<Poly>, AllocError>
     requires { IsFaultless (program_in program.now) (a.certificate_of certificate.now) }
-    ensures told { IfOk result (λ found. option_map told_of found ≡ told (program_in program.now) (a.certificate_of certificate.now) fun.0 meter) }
+    ensures told { IfOk result
+        (λ found. option_map told_of found ≡ told (program_in program.now) (a.certificate_of certificate.now) fun.0 meter) }
     ensures poly { IfOk result (λ found. IfSome found IsPoly) }
 {
     let Some(params) = params_of(program, fun) else {

@@ -90,9 +90,11 @@ impl<'p, 'a> Checked<'p, 'a> {
     /// The argument annotation of a function over the meter's scale; none exactly where no block of the
     /// meter that has a signature for the function is solved. It bounds what the function costs.
     pub fn bound(&self, alloc: Global, fun: FunId, meter: Meter) -> Result<Option<Poly>, AllocError>
-        ensures told { IfOk result (λ found. option_map told_of found ≡ told (program_in self.now.program) self.now.certificate fun.0 meter) }
+        ensures told { IfOk result
+            (λ found. option_map told_of found ≡ told (program_in self.now.program) self.now.certificate fun.0 meter) }
         ensures poly { IfOk result (λ found. IfSome found IsPoly) }
-        ensures bounds { IfOk result (λ found. IfSome found (λ poly. (source : Function) → slice_get (source_in self.now.program) fun.0 ≡ Some source →
+        ensures bounds { IfOk result
+            (λ found. IfSome found (λ poly. (source : Function) → slice_get (source_in self.now.program) fun.0 ≡ Some source →
             Bounds (source_in self.now.program) fun.0 source meter (den_of poly) (terms_of poly))) }
     {
         let _source = self.program.source();

@@ -31,7 +31,8 @@ fn check_blocks(
 ) -> Result<(), CertFault>
     requires degree { certificate.now.degree ≤ 4 }
     requires kept { AreKept (program_in program.now) kept.old }
-    ensures { Tells result (BlocksFind (program_in program.now) (certificate_of certificate.now) [] (blocks_of certificate.now.blocks.items)) }
+    ensures { Tells result (BlocksFind (program_in program.now)
+        (certificate_of certificate.now) [] (blocks_of certificate.now.blocks.items)) }
 {
     let work = certificate.work_scale.is_some();
     let functions = program.functions();
@@ -69,7 +70,8 @@ pub fn check<'p, 'a>(
     ensures valid { OnOk result (IsFaultless (program_in program.now) (certificate_of certificate)) }
     ensures kept { IfOk result (λ checked. checked ≡ record { program = program.now; certificate = certificate_of certificate }) }
     ensures fault { IfErr result (λ fault. OfFault (fault_of fault) (FirstFault (program_in program.now) (certificate_of certificate))) }
-    ensures invalid { IfErr result (λ fault. OfFault (fault_of fault) (λ _. IsFaultless (program_in program.now) (certificate_of certificate) → ⊥)) }
+    ensures invalid { IfErr result
+        (λ fault. OfFault (fault_of fault) (λ _. IsFaultless (program_in program.now) (certificate_of certificate) → ⊥)) }
 {
     check_with(alloc, program, certificate, KeptPlans::new(alloc))
 }
@@ -86,7 +88,8 @@ pub fn check_with<'p, 'a>(
     ensures valid { OnOk result (IsFaultless (program_in program.now) (certificate_of certificate)) }
     ensures kept { IfOk result (λ checked. checked ≡ record { program = program.now; certificate = certificate_of certificate }) }
     ensures fault { IfErr result (λ fault. OfFault (fault_of fault) (FirstFault (program_in program.now) (certificate_of certificate))) }
-    ensures invalid { IfErr result (λ fault. OfFault (fault_of fault) (λ _. IsFaultless (program_in program.now) (certificate_of certificate) → ⊥)) }
+    ensures invalid { IfErr result
+        (λ fault. OfFault (fault_of fault) (λ _. IsFaultless (program_in program.now) (certificate_of certificate) → ⊥)) }
 {
     let _source = program.source();
     let _functions = program.functions();
@@ -115,7 +118,8 @@ pub fn check_held<'p, 'a>(
     ensures valid { OnOk result (IsFaultless (program_in program.now) (certificate_of certificate)) }
     ensures kept { IfOk result (λ checked. checked ≡ record { program = program.now; certificate = certificate_of certificate }) }
     ensures fault { IfErr result (λ fault. OfFault (fault_of fault) (FirstFault (program_in program.now) (certificate_of certificate))) }
-    ensures invalid { IfErr result (λ fault. OfFault (fault_of fault) (λ _. IsFaultless (program_in program.now) (certificate_of certificate) → ⊥)) }
+    ensures invalid { IfErr result
+        (λ fault. OfFault (fault_of fault) (λ _. IsFaultless (program_in program.now) (certificate_of certificate) → ⊥)) }
 {
     faultless_exactly();
     totals_stay_small();

@@ -121,9 +121,13 @@ pub fn check_there(
     requires goes_on { IsRefused 2000 (plan_in schedule.old) schedule.old.done → ⊥ }
     requires kept { AreKept (program_in program.now) kept.old }
     ensures kept { OnOk result (AreKept (program_in program.now) kept.new) }
-    ensures tells { (blocks : List c.Block) → HasCome program.now (certificate_of certificate.now) blocks schedule.old earlier.old → length blocks ≡ number →
-        Tells result (BodyFinds (program_in program.now) (certificate_of certificate.now) blocks (task_of block.now.task) (a.body_of block.now.body)) }
-    ensures goes { OnOk result ((blocks : List c.Block) → HasCome program.now (certificate_of certificate.now) blocks schedule.old earlier.old → length blocks ≡ number →
+    ensures tells { (blocks : List c.Block) →
+        HasCome program.now (certificate_of certificate.now) blocks schedule.old earlier.old → length blocks ≡ number →
+        Tells result (BodyFinds (program_in program.now) (certificate_of certificate.now) blocks
+        (task_of block.now.task) (a.body_of block.now.body)) }
+    ensures goes { OnOk result
+        ((blocks : List c.Block) →
+        HasCome program.now (certificate_of certificate.now) blocks schedule.old earlier.old → length blocks ≡ number →
         next_after (program_in program.now) (certificate_of certificate.now) blocks ≡ Some (task_of block.now.task) →
         HasCome program.now (certificate_of certificate.now) (blocks ++ a.block_of block.now ∷ []) schedule.new earlier.new) }
 {

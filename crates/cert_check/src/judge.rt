@@ -35,7 +35,8 @@ pub struct FaultJudge {
 }
 
 fn trouble_of(leaves: bool, fails: bool) -> Option<Trouble>
-    ensures { (path : List ℕ) (index : ℕ) → option_map (located path index) result ≡ cond leaves (Some (Leaves path index)) (cond fails (Some (Fails path index)) None) }
+    ensures { (path : List ℕ) (index : ℕ) →
+        option_map (located path index) result ≡ cond leaves (Some (Leaves path index)) (cond fails (Some (Fails path index)) None) }
 {
     if leaves {
         return Some(Trouble::Leaves);
@@ -48,7 +49,8 @@ fn trouble_of(leaves: bool, fails: bool) -> Option<Trouble>
 
 // The totals of a condition are tried, and then compared.
 fn compare(left: &Amount, right: &Amount) -> Option<Trouble>
-    ensures { (path : List ℕ) (index : ℕ) → option_map (located path index) result ≡ fault_at (record { path = path; index = index; left = left.now; right = right.now }) }
+    ensures { (path : List ℕ) (index : ℕ) →
+        option_map (located path index) result ≡ fault_at (record { path = path; index = index; left = left.now; right = right.now }) }
 {
     let total_left = left.plus().saturating_add(right.minus());
     let total_right = right.plus().saturating_add(left.minus());
@@ -125,7 +127,8 @@ impl Judge<Amount> for FaultJudge {
         left: &[Amount],
         right: &[Amount],
     ) -> Result<(), AllocError>
-        ensures { OnOk result (verdict_of self.new ≡ after (verdict_of self.old) (numbered path.now index (against capped left.now right.now))) }
+        ensures { OnOk result (verdict_of self.new
+            ≡ after (verdict_of self.old) (numbered path.now index (against capped left.now right.now))) }
     {
         if self.found.is_some() {
             return Ok(());

@@ -8,7 +8,8 @@ ghost use Rattle.cost_free.specs.Read.{kind_of};
 ghost use Rattle.annot_types.specs.Holds as h;
 ghost use Rattle.rules_plan.specs.Read.{function_of, ArePlansOf, AreKept};
 ghost use Rattle.rules_spec.specs.Small.{GrowthsWithin};
-ghost use Rattle.cert_check.specs.Limits.{factor, greatest, EntriesSmall, AnnotsSmall, SigSmall, SigsSmall, HintSmall, HintsSmall, AllHintsSmall, BodySmall, BlocksSmall, ScalesSmall, StaysSmall, PlansStay, AllStay};
+ghost use Rattle.cert_check.specs.Limits.{factor, greatest, EntriesSmall, AnnotsSmall, SigSmall, SigsSmall, HintSmall, HintsSmall};
+ghost use Rattle.cert_check.specs.Limits.{AllHintsSmall, BodySmall, BlocksSmall, ScalesSmall, StaysSmall, PlansStay, AllStay};
 
 use crate::at::budget_of;
 use annot_types::{Annot, Block, BlockBody, Certificate, Hint, Sig};

@@ -98,9 +98,13 @@ fn check_over(
 ) -> Result<Vec<(usize, usize)>, CertFault>
     requires remembers { (blocks : List c.Block) × Remembers (program_at at.now) at.now.degree blocks at.now.earlier.now }
     requires plans { ArePlansOf (program_at at.now) at.now.task.group (h.budget_of at.now.degree (kind_of at.now.task.kind)) plans.now }
-    ensures tells { (held : c.Certificate) (blocks : List c.Block) → IsAt at.now held blocks → Remembers (program_at at.now) held.degree blocks at.now.earlier.now →
-        Tells result (BodyFinds (program_at at.now) held blocks (task_of at.now.task) (Solved (map a.sig_of sigs.now) (map a.hints_of hints.now))) }
-    ensures sizes { IfOk result (λ sizes. (held : c.Certificate) (blocks : List c.Block) → IsAt at.now held blocks → Remembers (program_at at.now) held.degree blocks at.now.earlier.now →
+    ensures tells { (held : c.Certificate) (blocks : List c.Block) → IsAt at.now held blocks →
+        Remembers (program_at at.now) held.degree blocks at.now.earlier.now →
+        Tells result (BodyFinds (program_at at.now) held blocks (task_of at.now.task)
+        (Solved (map a.sig_of sigs.now) (map a.hints_of hints.now))) }
+    ensures sizes { IfOk result
+        (λ sizes. (held : c.Certificate) (blocks : List c.Block) → IsAt at.now held blocks →
+        Remembers (program_at at.now) held.degree blocks at.now.earlier.now →
         sizes.items ≡ sizes_of (job (program_at at.now) held blocks (task_of at.now.task)).bodies) }
 {
     let _source = at.program.source();
@@ -122,9 +126,13 @@ pub fn check_solved(
     requires remembers { (blocks : List c.Block) × Remembers (program_at at.now) at.now.degree blocks at.now.earlier.now }
     requires kept { AreKept (program_at at.now) kept.old }
     ensures kept { OnOk result (AreKept (program_at at.now) kept.new) }
-    ensures tells { (held : c.Certificate) (blocks : List c.Block) → IsAt at.now held blocks → Remembers (program_at at.now) held.degree blocks at.now.earlier.now →
-        Tells result (BodyFinds (program_at at.now) held blocks (task_of at.now.task) (Solved (map a.sig_of sigs.now) (map a.hints_of hints.now))) }
-    ensures sizes { IfOk result (λ sizes. (held : c.Certificate) (blocks : List c.Block) → IsAt at.now held blocks → Remembers (program_at at.now) held.degree blocks at.now.earlier.now →
+    ensures tells { (held : c.Certificate) (blocks : List c.Block) → IsAt at.now held blocks →
+        Remembers (program_at at.now) held.degree blocks at.now.earlier.now →
+        Tells result (BodyFinds (program_at at.now) held blocks (task_of at.now.task)
+        (Solved (map a.sig_of sigs.now) (map a.hints_of hints.now))) }
+    ensures sizes { IfOk result
+        (λ sizes. (held : c.Certificate) (blocks : List c.Block) → IsAt at.now held blocks →
+        Remembers (program_at at.now) held.degree blocks at.now.earlier.now →
         sizes.items ≡ sizes_of (job (program_at at.now) held blocks (task_of at.now.task)).bodies) }
 {
     let budget = budget_of(at.degree, at.task.kind);

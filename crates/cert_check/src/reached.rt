@@ -41,8 +41,10 @@ fn missing(
     annot: &Annot,
 ) -> Result<Option<usize>, AllocError>
     requires { length (index_list (ty_of ty.now ∷ []) budget) ≤ 2000 }
-    ensures reached { IfOk result (λ missing. IfNone missing (IsReached (ty_of ty.now) at.now.degree budget number (annotation annot.now))) }
-    ensures missed { IfOk result (λ missing. IfSome missing (λ index. IsMissed (ty_of ty.now) at.now.degree budget number (annotation annot.now) index)) }
+    ensures reached { IfOk result
+        (λ missing. IfNone missing (IsReached (ty_of ty.now) at.now.degree budget number (annotation annot.now))) }
+    ensures missed { IfOk result
+        (λ missing. IfSome missing (λ index. IsMissed (ty_of ty.now) at.now.degree budget number (annotation annot.now) index)) }
 {
     let is_unit = has_tuple(at.alloc, ty, at.degree, number)?;
     if !is_unit {
@@ -61,8 +63,10 @@ fn listed_missing(
     annot: &Annot,
 ) -> Result<Option<usize>, AllocError>
     requires { length (index_list (ty_of ty.now ∷ []) budget) ≤ 2000 }
-    ensures reached { IfOk result (λ missing. IfNone missing (IsReached (ty_of ty.now) at.now.degree budget number (annotation annot.now))) }
-    ensures missed { IfOk result (λ missing. IfSome missing (λ index. IsMissed (ty_of ty.now) at.now.degree budget number (annotation annot.now) index)) }
+    ensures reached { IfOk result
+        (λ missing. IfNone missing (IsReached (ty_of ty.now) at.now.degree budget number (annotation annot.now))) }
+    ensures missed { IfOk result
+        (λ missing. IfSome missing (λ index. IsMissed (ty_of ty.now) at.now.degree budget number (annotation annot.now) index)) }
 {
     match aim_at(at.alloc, ty, at.degree, budget, number)? {
         None => Ok(Some(0)),
@@ -100,7 +104,8 @@ fn missed(
 
 // The fault of a target that is missed.
 fn miss(at: &At<'_, '_>, fun: FunId, index: usize) -> Result<CertFault, AllocError>
-    ensures { IfOk result (λ fault. fault_of fault ≡ Some (Fails at.now.number (unwrap_or (place_in (members (program_at at.now) at.now.task.group) fun.0) 0 ∷ []) index)) }
+    ensures { IfOk result (λ fault. fault_of fault
+        ≡ Some (Fails at.now.number (unwrap_or (place_in (members (program_at at.now) at.now.task.group) fun.0) 0 ∷ []) index)) }
 {
     let _source = at.program.source();
     let _groups = at.program.groups();
@@ -131,7 +136,8 @@ fn check_free(
     ensures { (held : c.Certificate) (blocks : List c.Block) → IsAt at.now held blocks →
         map body_of bodies.now ≡ (job (program_at at.now) held blocks (task_of at.now.task)).bodies →
         all_asks_of asks.now ≡ asks_by (map body_of bodies.now) →
-        Tells result (TargetFinds (program_at at.now) held blocks (task_of at.now.task) (map a.sig_of sigs.now) (map a.hints_of hints.now)) }
+        Tells result (TargetFinds (program_at at.now) held blocks (task_of at.now.task)
+        (map a.sig_of sigs.now) (map a.hints_of hints.now)) }
 {
     match missed(at, sigs, budget, fun, target) {
         Err(_) => Err(CertFault::NoMemory),
@@ -158,7 +164,8 @@ pub fn check_target(
     ensures { (held : c.Certificate) (blocks : List c.Block) → IsAt at.now held blocks →
         map body_of bodies.now ≡ (job (program_at at.now) held blocks (task_of at.now.task)).bodies →
         all_asks_of asks.now ≡ asks_by (map body_of bodies.now) →
-        Tells result (TargetFinds (program_at at.now) held blocks (task_of at.now.task) (map a.sig_of sigs.now) (map a.hints_of hints.now)) }
+        Tells result (TargetFinds (program_at at.now) held blocks (task_of at.now.task)
+        (map a.sig_of sigs.now) (map a.hints_of hints.now)) }
 {
     match at.task.kind {
         TaskKind::Free {

@@ -43,7 +43,12 @@ fn large_in(
     functions: &[FunId],
 ) -> Result<Option<Task>, AllocError>
     ensures { IfOk result (λ task. (groups : List (List ℕ)) (work : Bool) → option_map task_of task
-        ≡ large_in (record { results = context_of results.now; groups = groups; degree = degree; work = work }) group (ids_of functions.now)) }
+        ≡ large_in (record {
+          results = context_of results.now;
+          groups = groups;
+          degree = degree;
+          work = work;
+        }) group (ids_of functions.now)) }
 {
     for fun in functions {
         if is_large(alloc, results, degree, *fun)? {

@@ -45,7 +45,8 @@ fn judge_body(
 ) -> Result<(), AllocError>
     requires { place < 256 }
     ensures { OnOk result (verdict_of judge.new ≡ after (verdict_of judge.old)
-        (body_walked capped (known_of known.now) (body_of body.now).plan (mode_of mode) place (map (hint_to capped_amount) (hints_at (asks_of asks.now) (map a.hint_of hints.now)))).found) }
+        (body_walked capped (known_of known.now) (body_of body.now).plan (mode_of mode) place
+        (map (hint_to capped_amount) (hints_at (asks_of asks.now) (map a.hint_of hints.now)))).found) }
 {
     let walked = walked_hints(alloc, asks, hints)?;
     body.walk(alloc, known, mode, place as u32, &walked, judge)?;
@@ -64,7 +65,8 @@ pub fn judged(
     requires few { length bodies.now ≤ 256 }
     requires asked { length asks.now ≡ length bodies.now }
     requires told { length hints.now ≡ length bodies.now }
-    ensures { IfOk result (λ judge. verdict_of judge ≡ first_fault (bodies_walked (known_of known.now) (mode_of mode) 0 (map body_of bodies.now)
+    ensures { IfOk result (λ judge. verdict_of judge
+        ≡ first_fault (bodies_walked (known_of known.now) (mode_of mode) 0 (map body_of bodies.now)
         (map (map (hint_to capped_amount)) (hints_by (all_asks_of asks.now) (map a.hints_of hints.now))))) }
 {
     let mut judge = FaultJudge { found: None };

@@ -104,7 +104,8 @@ pub fn remember_block(
     earlier: &mut Earlier,
     block: &Block,
 ) -> Result<(), AllocError>
-    requires { IfSolved (a.body_of block.now.body) (GroupWithin (program_in program.now) block.now.task.group (h.budget_of degree (kind_of block.now.task.kind))) }
+    requires { IfSolved (a.body_of block.now.body)
+        (GroupWithin (program_in program.now) block.now.task.group (h.budget_of degree (kind_of block.now.task.kind))) }
     ensures { OnOk result ((blocks : List c.Block) → Remembers (program_in program.now) degree blocks earlier.old →
         Remembers (program_in program.now) degree (blocks ++ a.block_of block.now ∷ []) earlier.new) }
 {

@@ -62,7 +62,8 @@ fn judge_rules(
     ensures { IfOk result (λ judge. (held : c.Certificate) (blocks : List c.Block) → IsAt at.now held blocks →
         map body_of bodies.now ≡ (job (program_at at.now) held blocks (task_of at.now.task)).bodies →
         all_asks_of asks.now ≡ asks_by (map body_of bodies.now) →
-        verdict_of judge ≡ job_fault (job (program_at at.now) held blocks (task_of at.now.task)) (map a.sig_of sigs.now) (map a.hints_of hints.now)) }
+        verdict_of judge ≡ job_fault (job (program_at at.now) held blocks (task_of at.now.task))
+        (map a.sig_of sigs.now) (map a.hints_of hints.now)) }
 {
     let group = all_sides(at.alloc, bodies, sigs)?;
     let known = at.earlier.known(

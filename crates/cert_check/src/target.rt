@@ -1,5 +1,6 @@
 // Whether a block without cost reaches its target.
-ghost use Rattle.std.specs.Prelude.{◌≡◌, ◌≤◌, ◌∷◌, [], nat_eq, nat_lt, ◌&&◌, cond, unsigned_abs, map, length, slice_get, IfOk, IfSome, IfNone, Some, None};
+ghost use Rattle.std.specs.Prelude.{◌≡◌, ◌≤◌, ◌∷◌, [], nat_eq, nat_lt, ◌&&◌, cond, unsigned_abs, map, length, slice_get, IfOk, IfSome};
+ghost use Rattle.std.specs.Prelude.{IfNone, Some, None};
 ghost use Rattle.std.specs.Option.{option_map, unwrap_or};
 ghost use Rattle.std.specs.List.{list_any};
 ghost use Rattle.raml_syntax.specs.Read.{ty_of};

@@ -80,4 +80,5 @@ Refuses d (Number InHead) =
     ((h : Head Text) × (blocks : List Data) × IsLikeHead d h blocks) × ((h : Head ℤ) (blocks : List Data) → ¬ (IsHead d h blocks))
 Refuses d (Shape (InBlock i)) = (work : Bool) × (e : Data) × ReachesBlock d i work e × ((b : Block Text) → ¬ (IsLikeBlock work e b))
 Refuses d (Number (InBlock i)) =
-    (work : Bool) × (e : Data) × ReachesBlock d i work e × ((b : Block Text) × IsLikeBlock work e b) × ((b : Block ℤ) → ¬ (IsBlock work e b))
+    (work : Bool) × (e : Data) × ReachesBlock d i work e
+    × ((b : Block Text) × IsLikeBlock work e b) × ((b : Block ℤ) → ¬ (IsBlock work e b))

@@ -67,7 +67,8 @@ other_json group (With meter) key d =
     object (member key d (member (codes "group") (natural group) (member (codes "kind") (string (meter_text meter)) no_members)))
 
 abbrev pub body_json : {N : Type 0} → (N → Text) → ℕ → Kind → Body N → Data
-body_json f group kind (Solved sigs hints) = solved_json group kind (list_json (map (hints_json f) hints)) (list_json (map (sig_json f) sigs))
+body_json f group kind (Solved sigs hints) =
+    solved_json group kind (list_json (map (hints_json f) hints)) (list_json (map (sig_json f) sigs))
 body_json f group kind (Refuted farkas) = other_json group kind (codes "farkas") (entries_json f farkas)
 body_json f group kind (Calls fun) = other_json group kind (codes "calls") (natural fun)
 
@@ -77,7 +78,8 @@ block_json f b = body_json f b.task.group b.task.kind b.body
 abbrev pub scale_json : {N : Type 0} → (N → Text) → N → N → Option N → Data
 scale_json f ticks cells None = object (member (codes "cells") (string (f cells)) (member (codes "ticks") (string (f ticks)) no_members))
 scale_json f ticks cells (Some work) =
-    object (member (codes "cells") (string (f cells)) (member (codes "ticks") (string (f ticks)) (member (codes "work") (string (f work)) no_members)))
+    object (member (codes "cells") (string (f cells))
+    (member (codes "ticks") (string (f ticks)) (member (codes "work") (string (f work)) no_members)))
 
 abbrev pub version : {N : Type 0} → Option N → ℕ
 version None = 1

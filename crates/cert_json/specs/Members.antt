@@ -15,7 +15,8 @@ with_task group (Free budget fun target) ms = with_free budget fun target (put (
 with_task group (With meter) ms = put (codes "kind") (string (meter_text meter)) (put (codes "group") (natural group) ms)
 
 abbrev pub with_solved : {N : Type 0} → (N → Text) → List (Sig N) → List (List (Hint N)) → Members → Members
-with_solved f sigs hints ms = put (codes "sigs") (list_json (map (sig_json f) sigs)) (put (codes "hints") (list_json (map (hints_json f) hints)) ms)
+with_solved f sigs hints ms =
+    put (codes "sigs") (list_json (map (sig_json f) sigs)) (put (codes "hints") (list_json (map (hints_json f) hints)) ms)
 
 abbrev pub with_body : {N : Type 0} → (N → Text) → Body N → Members → Members
 with_body f (Solved sigs hints) ms = with_solved f sigs hints ms

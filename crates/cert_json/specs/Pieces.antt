@@ -4,7 +4,8 @@ use Rattle.serde_json.specs.Data.{Data}
 use Rattle.cost_free.specs.Task.{Task}
 use Rattle.cert_json.specs.Parts.{Body, Block}
 use Rattle.cert_json.specs.Form.{Text}
-use Rattle.cert_json.specs.Reading.{solved_of, refuted_of, calls_of, block_with, with_of, free_of, fields, or_else, solved_keys, solved_free_keys, other_keys, other_free_keys}
+use Rattle.cert_json.specs.Reading.{solved_of, refuted_of, calls_of, block_with, with_of, free_of, fields, or_else, solved_keys}
+use Rattle.cert_json.specs.Reading.{solved_free_keys, other_keys, other_free_keys}
 
 -- Solved has hints and signatures.
 pub data Piece : Type 0 where
@@ -20,7 +21,8 @@ solved_in work (group ∷ hints ∷ kind ∷ sigs ∷ []) = pieced (with_of work
 solved_in work _ = None
 
 abbrev pub solved_free_in : List Data → Option (Task × Piece)
-solved_free_in (budget ∷ fun ∷ group ∷ hints ∷ kind ∷ sigs ∷ target ∷ []) = pieced (free_of budget fun group kind target) (Solved hints sigs)
+solved_free_in (budget ∷ fun ∷ group ∷ hints ∷ kind ∷ sigs ∷ target ∷ []) =
+    pieced (free_of budget fun group kind target) (Solved hints sigs)
 solved_free_in _ = None
 
 abbrev pub other_in : (Data → Piece) → Bool → List Data → Option (Task × Piece)

@@ -1,5 +1,6 @@
 -- Reading a certificate from its JSON, part by part. A number of the analysis is read by `num` from the text of a string.
-use Rattle.std.specs.Prelude.{ℕ, suc, ℤ, pos, ◌^◌, Bool, true, false, cond, ◌&&◌, nat_eq, nat_lt, nat_le, List, [], ◌∷◌, length, map, codes, decimal, Option, Some, None, option_map, option_and_then}
+use Rattle.std.specs.Prelude.{ℕ, suc, ℤ, pos, ◌^◌, Bool, true, false, cond, ◌&&◌, nat_eq, nat_lt, nat_le, List, [], ◌∷◌, length, map, codes}
+use Rattle.std.specs.Prelude.{decimal, Option, Some, None, option_map, option_and_then}
 use Rattle.std.specs.Str.{bytes_eq}
 use Rattle.std.specs.Borrow.{Bor}
 use Rattle.std.specs.Str.Parse.{digits_value}
@@ -47,7 +48,8 @@ abbrev pub text_number : {N : Type 0} → (Text → Option N) → Data → Optio
 text_number num d = option_and_then num (as_str d)
 
 abbrev pub entry_of : {N : Type 0} → (Text → Option N) → Data → Option (ℕ × N)
-entry_of num d = option_and_then (λ p. option_and_then (λ at. option_map (λ n. (at, n)) (text_number num p.1)) (natural_of (2 ^ 32) p.0)) (two_of d)
+entry_of num d =
+    option_and_then (λ p. option_and_then (λ at. option_map (λ n. (at, n)) (text_number num p.1)) (natural_of (2 ^ 32) p.0)) (two_of d)
 
 abbrev pub entries_of : {N : Type 0} → (Text → Option N) → Data → Option (Entries N)
 entries_of num d = option_and_then (each (entry_of num)) (list_of d)
@@ -64,7 +66,9 @@ abbrev pub annot_of : {N : Type 0} → (Text → Option N) → Data → Option (
 annot_of num d = option_and_then in_order (entries_of num d)
 
 abbrev pub sig_of : {N : Type 0} → (Text → Option N) → Data → Option (Sig N)
-sig_of num d = option_and_then (λ p. option_and_then (λ args. option_map (λ result. record { args = args; result = result }) (annot_of num p.1)) (annot_of num p.0)) (two_of d)
+sig_of num d =
+    option_and_then (λ p. option_and_then
+    (λ args. option_map (λ result. record { args = args; result = result }) (annot_of num p.1)) (annot_of num p.0)) (two_of d)
 
 abbrev pub each_of : {A : Type 0} → (Data → Option A) → Data → Option (List A)
 each_of f d = option_and_then (each f) (list_of d)
@@ -127,18 +131,21 @@ abbrev pub task_with : ℕ × Kind → Task
 task_with p = record { group = p.0; kind = p.1 }
 
 abbrev pub with_of : Bool → Data → Data → Option Task
-with_of work group kind = option_map task_with (both (natural_of (2 ^ 32) group) (option_map With (option_and_then (meter_of work) (as_str kind))))
+with_of work group kind =
+    option_map task_with (both (natural_of (2 ^ 32) group) (option_map With (option_and_then (meter_of work) (as_str kind))))
 
 abbrev pub free_kind : Data → Data → Data → Option Kind
 free_kind budget fun target =
-    option_and_then (λ b. option_and_then (λ f. option_map (λ t. Free b f t) (natural_of (2 ^ 32) target)) (natural_of (2 ^ 32) fun)) (natural_of 256 budget)
+    option_and_then (λ b. option_and_then
+    (λ f. option_map (λ t. Free b f t) (natural_of (2 ^ 32) target)) (natural_of (2 ^ 32) fun)) (natural_of 256 budget)
 
 abbrev pub is_free : Data → Bool
 is_free (string s) = bytes_eq s (codes "free")
 is_free _ = false
 
 abbrev pub free_of : Data → Data → Data → Data → Data → Option Task
-free_of budget fun group kind target = cond (is_free kind) (option_map task_with (both (natural_of (2 ^ 32) group) (free_kind budget fun target))) None
+free_of budget fun group kind target =
+    cond (is_free kind) (option_map task_with (both (natural_of (2 ^ 32) group) (free_kind budget fun target))) None
 
 abbrev pub solved_of : {N : Type 0} → (Text → Option N) → Data → Data → Option (Body N)
 solved_of num hints sigs = option_map (λ p. Solved p.1 p.0) (both (each_of (each_of (hint_of num)) hints) (each_of (sig_of num) sigs))
@@ -172,7 +179,8 @@ solved_in num work (group ∷ hints ∷ kind ∷ sigs ∷ []) = block_by (with_o
 solved_in num work _ = None
 
 abbrev pub solved_free_in : {N : Type 0} → (Text → Option N) → List Data → Option (Block N)
-solved_free_in num (budget ∷ fun ∷ group ∷ hints ∷ kind ∷ sigs ∷ target ∷ []) = block_by (free_of budget fun group kind target) (solved_of num hints sigs)
+solved_free_in num (budget ∷ fun ∷ group ∷ hints ∷ kind ∷ sigs ∷ target ∷ []) =
+    block_by (free_of budget fun group kind target) (solved_of num hints sigs)
 solved_free_in num _ = None
 
 abbrev pub other_in : {N : Type 0} → (Data → Option (Body N)) → Bool → List Data → Option (Block N)
@@ -214,7 +222,8 @@ scale_one num _ = None
 
 abbrev pub scale_two : {N : Type 0} → (Text → Option N) → List Data → Option (Scale N)
 scale_two num (cells ∷ ticks ∷ work ∷ []) =
-    option_and_then (λ c. option_and_then (λ t. option_map (λ w. (t, c, Some w)) (text_number num work)) (text_number num ticks)) (text_number num cells)
+    option_and_then (λ c. option_and_then
+    (λ t. option_map (λ w. (t, c, Some w)) (text_number num work)) (text_number num ticks)) (text_number num cells)
 scale_two num _ = None
 
 abbrev pub scale_of : {N : Type 0} → (Text → Option N) → ℕ → Data → Option (Scale N)
@@ -231,7 +240,8 @@ head_with p = record { degree = p.0; ticks = p.1.0; cells = p.1.1; work = p.1.2 
 -- the head, and the blocks that are not yet read
 abbrev pub head_in : {N : Type 0} → (Text → Option N) → List Data → Option (Head N × List Data)
 head_in num (blocks ∷ degree ∷ scale ∷ version ∷ []) =
-    both (option_map head_with (both (degree_of degree) (option_and_then (λ v. scale_of num v scale) (natural_of 3 version)))) (list_of blocks)
+    both (option_map head_with
+    (both (degree_of degree) (option_and_then (λ v. scale_of num v scale) (natural_of 3 version)))) (list_of blocks)
 head_in num _ = None
 
 abbrev pub head_of : {N : Type 0} → (Text → Option N) → Data → Option (Head N × List Data)

@@ -20,7 +20,8 @@ map_ok f (Err e) = Err e
 abbrev pub read_blocks : Bool → ℕ → List Data → Result (List (Block ℤ)) Fault
 read_blocks work i [] = Ok []
 read_blocks work i (d ∷ ds) =
-    then (block_of number_of work d) (fault_at (block_of Some work d) (InBlock i)) (λ b. map_ok (λ bs. b ∷ bs) (read_blocks work (suc i) ds))
+    then (block_of number_of work d) (fault_at (block_of Some work d) (InBlock i))
+    (λ b. map_ok (λ bs. b ∷ bs) (read_blocks work (suc i) ds))
 
 abbrev pub read_certificate : Data → Result (Certificate ℤ) Fault
 read_certificate d =

@@ -38,7 +38,8 @@ pub record IsFile (bytes : List ℕ) (c : Certificate) : Type 0 where
   pub read : read bytes ≡ Some value
   pub is : HasParts value (parts c)
 
--- It has what a file's certificate must have: a degree from 1 to 4, a scale of each meter, all of them positive, and blocks of the right shape.
+-- It has what a file's certificate must have: a degree from 1 to 4, a scale of each meter, all of them positive, and
+-- blocks of the right shape.
 pub record IsComplete (c : Certificate) : Type 0 where
   pub least_degree : 1 ≤ c.degree
   pub most_degree : c.degree ≤ 4

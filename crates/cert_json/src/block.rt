@@ -66,7 +66,8 @@ pub fn free_task(
     kind: &Value,
     target: &Value,
 ) -> Option<Task>
-    ensures { option_map task_of result ≡ free_of (view budget_value.now) (view fun.now) (view group.now) (view kind.now) (view target.now) }
+    ensures { option_map task_of result
+        ≡ free_of (view budget_value.now) (view fun.now) (view group.now) (view kind.now) (view target.now) }
 {
     if is_free(kind) {
         let group = position(group)?;

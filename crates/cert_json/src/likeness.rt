@@ -2,7 +2,9 @@
 ghost use Rattle.std.specs.Prelude.{◌≡◌, IfOk, map};
 ghost use Rattle.std.specs.List.{list_all};
 ghost use Rattle.serde_json.specs.View.{view};
-ghost use Rattle.cert_json.specs.Likeness.{like_entry, like_annot_from, like_annot, like_entries, like_sig, like_hint, like_hint_by, like_hints, like_all, like_solved, position_in, like_piece, like_block, like_scale_one, like_scale_two, like_scale, like_head_in, like_head};
+ghost use Rattle.cert_json.specs.Likeness.{like_entry, like_annot_from, like_annot, like_entries, like_sig, like_hint, like_hint_by};
+ghost use Rattle.cert_json.specs.Likeness.{like_hints, like_all, like_solved, position_in, like_piece, like_block, like_scale_one};
+ghost use Rattle.cert_json.specs.Likeness.{like_scale_two, like_scale, like_head_in, like_head};
 ghost use Rattle.cert_json.specs.ReadPieces.{piece_of};
 
 use crate::head::{degree, version};

@@ -3,7 +3,8 @@ ghost use Rattle.std.specs.Prelude.{◌≡◌, IfOk, map, option_map};
 ghost use Rattle.serde_json.specs.View.{view};
 ghost use Rattle.cost_free.specs.Read.{task_of};
 ghost use Rattle.cert_json.specs.Pieces as spec;
-ghost use Rattle.cert_json.specs.Pieces.{pieced, solved_in, solved_free_in, other_in, other_free_in, solved_free_or, refuted_or, refuted_free_or, calls_or, calls_free_or};
+ghost use Rattle.cert_json.specs.Pieces.{pieced, solved_in, solved_free_in, other_in, other_free_in, solved_free_or, refuted_or};
+ghost use Rattle.cert_json.specs.Pieces.{refuted_free_or, calls_or, calls_free_or};
 ghost use Rattle.cert_json.specs.ReadPieces.{piece_of, pieces_of};
 
 use crate::block::{free_task, with_task};

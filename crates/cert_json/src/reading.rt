@@ -4,7 +4,8 @@ ghost use Rattle.serde_json.specs.Data.{number, unsigned, string};
 ghost use Rattle.serde_json.specs.View.{view, members_view};
 ghost use Rattle.cert_json.specs.Read.{sig_of, hint_of, hints_of};
 ghost use Rattle.cert_json.specs.Reading as spec;
-ghost use Rattle.cert_json.specs.Reading.{number_of, number_by, texts, natural_of, list_of, text_number, two_of, entry_of, entries_of, annot_of, sole_of, fields, taken, is_done, each_of};
+ghost use Rattle.cert_json.specs.Reading.{number_of, number_by, texts, natural_of, list_of, text_number, two_of, entry_of, entries_of};
+ghost use Rattle.cert_json.specs.Reading.{annot_of, sole_of, fields, taken, is_done, each_of};
 ghost use Rattle.serde_json.specs.Find.{as_object};
 
 use annot_types::{Annot, Hint, Sig};

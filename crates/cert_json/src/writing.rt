@@ -7,9 +7,11 @@ ghost use Rattle.cost_free.specs.Read.{kind_of};
 ghost use Rattle.annot_types.specs.Read.{certificate_of};
 ghost use Rattle.cert_json.specs.Read.{sig_of, hint_of, hints_of, block_of, parts_of, body_of};
 ghost use Rattle.cert_json.specs.Fits.{Each, FitsOption};
-ghost use Rattle.cert_json.specs.Numbers.{Wide, KindFits, EntryHas, EntriesHave, SigHas, HintHas, HintsHave, BodyHas, BlockHas, ScaleHas, CertificateHas};
+ghost use Rattle.cert_json.specs.Numbers.{Wide, KindFits, EntryHas, EntriesHave, SigHas, HintHas, HintsHave, BodyHas, BlockHas, ScaleHas};
+ghost use Rattle.cert_json.specs.Numbers.{CertificateHas};
 ghost use Rattle.cert_json.specs.Told.{text_of, IsWritten, IsComplete, IsFile};
-ghost use Rattle.cert_json.specs.Form.{list_json, natural, pair_json, entry_json, entries_json, sig_json, hint_json, hints_json, block_json, certificate_json, sole_json, meter_text, scale_json, version};
+ghost use Rattle.cert_json.specs.Form.{list_json, natural, pair_json, entry_json, entries_json, sig_json, hint_json, hints_json};
+ghost use Rattle.cert_json.specs.Form.{block_json, certificate_json, sole_json, meter_text, scale_json, version};
 ghost use Rattle.cert_json.specs.Members.{with_free, with_task, with_solved, with_body, with_work, head_members};
 
 use annot_types::{Annot, Block, BlockBody, Certificate, Hint, Sig};
@@ -238,7 +240,8 @@ fn solved_json(
     sigs: &[Sig],
     alloc: Global,
 ) -> Result<Value, AllocError>
-    ensures value { IfOk result (λ v. view v ≡ object (with_solved signed_decimal (map sig_of sigs.now) (map hints_of hints.now) (members_view members.entries))) }
+    ensures value { IfOk result
+        (λ v. view v ≡ object (with_solved signed_decimal (map sig_of sigs.now) (map hints_of hints.now) (members_view members.entries))) }
     ensures sigs { IfOk result (λ _. Each (SigHas Wide) (map sig_of sigs.now)) }
     ensures hints { IfOk result (λ _. Each (HintsHave Wide) (map hints_of hints.now)) }
 {
@@ -292,7 +295,8 @@ fn put_number(
     key: &str,
     number: i128,
 ) -> Result<(), AllocError>
-    ensures value { OnOk result (members_view members.new.entries ≡ with_member key.now (string (signed_decimal number)) (members_view members.old.entries)) }
+    ensures value { OnOk result
+        (members_view members.new.entries ≡ with_member key.now (string (signed_decimal number)) (members_view members.old.entries)) }
     ensures numbers { OnOk result (Wide number) }
 {
     let number = number_json(alloc, number)?;

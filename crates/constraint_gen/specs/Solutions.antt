@@ -14,13 +14,15 @@ use Rattle.rules_systems_laws.specs.Arguments.{TellsArguments}
 use Rattle.rules_systems_laws.specs.Laws.{told}
 
 module _ (P : Program) (d : ℕ) (earlier : List Block) (task : Task) (scale : ℕ) where
-  -- Natural numbers over t that solve the system that was made stand for signatures and hints that hold with t, whose weight is their weighted sum.
+  -- Natural numbers over t that solve the system that was made stand for signatures and hints that hold with t, whose
+  -- weight is their weighted sum.
   abbrev pub SolutionsHoldFor : LinearSystem → Type 0
   SolutionsHoldFor made =
       (t : ℕ) (x : List ℕ) → 0 < t → Solves made (map pos x) (pos t) →
       Holds P d earlier scale (told P d earlier task x) t × (dot made.weights (map pos x) ≡ pos (weight P d (told P d earlier task x)))
 
-  -- All signatures and hints that hold with a t come from numbers over t that solve it, whose weighted sum is their weight; these tell the very signatures.
+  -- All signatures and hints that hold with a t come from numbers over t that solve it, whose weighted sum is their
+  -- weight; these tell the very signatures.
   abbrev pub WhatHoldsSolvesIt : LinearSystem → Type 0
   WhatHoldsSolvesIt made =
       (t : ℕ) (sigs : List Sig) (hints : List (List Hint)) → Holds P d earlier scale (solving task sigs hints) t →

@@ -1,5 +1,6 @@
 -- The sums of unknowns that the code keeps.
-use Rattle.std.specs.Prelude.{◌≡◌, ◌<◌, ◌≤◌, ◌==◌, if◌then◌else◌, ℕ, ◌+◌, ◌-◌, ◌*◌, ◌^◌, nat_lt, cond, List, [], ◌∷◌, map, length, slice_index_or}
+use Rattle.std.specs.Prelude.{◌≡◌, ◌<◌, ◌≤◌, ◌==◌, if◌then◌else◌, ℕ, ◌+◌, ◌-◌, ◌*◌, ◌^◌, nat_lt, cond, List, [], ◌∷◌, map, length}
+use Rattle.std.specs.Prelude.{slice_index_or}
 use Rattle.rules_spec.specs.Numbers.{Numbers}
 use Rattle.rules_spec.specs.Kinds.{Form}
 use Rattle.rules_spec.specs.Capped.{cap}

@@ -29,7 +29,8 @@ job_in P d earlier bodies task scale = record {
 -- at each position the result has at least 1
 abbrev pub reached : ℕ → List Sum → List ℕ → List (Condition Sum)
 reached function result [] = []
-reached function result (p ∷ ps) = record { path = function ∷ []; index = p; left = at sums result p; right = sums.number 1 } ∷ reached function result ps
+reached function result (p ∷ ps) =
+    record { path = function ∷ []; index = p; left = at sums result p; right = sums.number 1 } ∷ reached function result ps
 
 -- the bodies from this place on
 abbrev pub bodies_walked : Known Sum → Mode → ℕ → List t.Body → List (List (Hint Sum)) → List (Condition Sum)

@@ -58,7 +58,8 @@ impl Collector {
 
     // Each entry on the right with the one at its place on the left.
     fn take_all(&mut self, alloc: Global, left: &[Form], right: &[Form]) -> Result<(), AllocError>
-        ensures { OnOk result ((path : List ℕ) (index : ℕ) → self.new ≡ hear_all self.old (numbered path index (against sums left.now right.now))) }
+        ensures { OnOk result ((path : List ℕ) (index : ℕ) →
+            self.new ≡ hear_all self.old (numbered path index (against sums left.now right.now))) }
     {
         let none = Form::none(alloc);
         for place in 0..right.len() {

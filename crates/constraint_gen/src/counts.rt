@@ -66,7 +66,8 @@ fn add_asks(count: u32, asks: &[Ask], most: u32) -> Option<u32>
 /// How many numbers there are with those of all hints.
 pub fn hints_within(count: u32, asks: &[Vec<Ask>], most: u32) -> Option<u32>
     requires { count ≤ most }
-    ensures { SomeIff result (count + all_counts (map (λ a. asks_of a.items) asks.now) ≤ most) (count + all_counts (map (λ a. asks_of a.items) asks.now)) }
+    ensures { SomeIff result (count + all_counts (map (λ a. asks_of a.items) asks.now) ≤ most)
+        (count + all_counts (map (λ a. asks_of a.items) asks.now)) }
 {
     let mut sum = count;
     for asked in asks {

@@ -95,7 +95,8 @@ pub fn all_answers(
     asks: &[Vec<Ask>],
 ) -> Result<Vec<Vec<Hint<Form>>>, AllocError>
     requires room { next.old + all_counts (map (λ a. asks_of a.items) asks.now) < 2 ^ 32 }
-    ensures given { IfOk result (λ made. map (λ h. hints_of h.items) made.items ≡ all_answers unknown next.old (map (λ a. asks_of a.items) asks.now)) }
+    ensures given { IfOk result
+        (λ made. map (λ h. hints_of h.items) made.items ≡ all_answers unknown next.old (map (λ a. asks_of a.items) asks.now)) }
     ensures next { OnOk result (next.new ≡ next.old + all_counts (map (λ a. asks_of a.items) asks.now)) }
 {
     let mut made = Vec::with_capacity(alloc, asks.len())?;

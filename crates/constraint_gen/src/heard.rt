@@ -55,7 +55,8 @@ fn hear_bodies(
     requires hints { length hints.now ≡ length bodies.now }
     requires few { length bodies.now ≤ 2000 }
     ensures { OnOk result (collector.new
-        ≡ hear_all collector.old (bodies_walked (known_of known.now) (w.mode_of mode) 0 (map body_of bodies.now) (map (λ h. hints_of h.items) hints.now))) }
+        ≡ hear_all collector.old
+        (bodies_walked (known_of known.now) (w.mode_of mode) 0 (map body_of bodies.now) (map (λ h. hints_of h.items) hints.now))) }
 {
     for place in 0..bodies.len() {
         bodies[place].walk(alloc, known, mode, place as u32, &hints[place], collector)?;
@@ -88,9 +89,11 @@ fn hear_all(
     requires few { length bodies.now ≤ 2000 }
     ensures { OnOk result (collector.new ≡ hear_all (hear_all collector.old
         (reached (target_place (p.members (program_in program.now) task.now.group) (kind_of task.now.kind))
-        (sides_at (known_of known.now).group (target_place (p.members (program_in program.now) task.now.group) (kind_of task.now.kind))).result
+        (sides_at (known_of known.now).group
+        (target_place (p.members (program_in program.now) task.now.group) (kind_of task.now.kind))).result
         (target_positions (program_in program.now) d (kind_of task.now.kind))))
-        (bodies_walked (known_of known.now) (h.mode_of (kind_of task.now.kind)) 0 (map body_of bodies.now) (map (λ h. hints_of h.items) hints.now))) }
+        (bodies_walked (known_of known.now) (h.mode_of (kind_of task.now.kind)) 0
+        (map body_of bodies.now) (map (λ h. hints_of h.items) hints.now))) }
 {
     let place = target_place(members(program, task.group), task.kind);
     let positions = target_positions(alloc, program, d, task.kind)?;

@@ -1,5 +1,6 @@
 // The row of a condition.
-ghost use Rattle.std.specs.Prelude.{◌≡◌, ◌<◌, ◌+◌, ◌-ℤ◌, ℕ, [], pos, nat_lt, true, false, not, ◌&&◌, length, IsTrue, IfOk, IfSome, IfNone, IsOkAnd, SomeIff};
+ghost use Rattle.std.specs.Prelude.{◌≡◌, ◌<◌, ◌+◌, ◌-ℤ◌, ℕ, [], pos, nat_lt, true, false, not, ◌&&◌, length, IsTrue, IfOk, IfSome, IfNone};
+ghost use Rattle.std.specs.Prelude.{IsOkAnd, SomeIff};
 ghost use Rattle.std.specs.List.{list_all};
 ghost use Rattle.annot_types.specs.System.{is_kept};
 ghost use Rattle.rules_spec.specs.Capped.{cap};

@@ -1,5 +1,6 @@
 // The system of a task.
-ghost use Rattle.std.specs.Prelude.{◌≡◌, ◌≤◌, ◌<◌, ◌+◌, ◌^◌, ◌≤ℤ◌, ℕ, pos, unsigned_abs, List, map, length, IfOk, IfErr, IfSome, OnOk, SomeIff};
+ghost use Rattle.std.specs.Prelude.{◌≡◌, ◌≤◌, ◌<◌, ◌+◌, ◌^◌, ◌≤ℤ◌, ℕ, pos, unsigned_abs, List, map, length, IfOk, IfErr, IfSome, OnOk};
+ghost use Rattle.std.specs.Prelude.{SomeIff};
 ghost use Rattle.rules_spec.specs.Asked.{asked};
 ghost use Rattle.rules_spec.specs.Kinds.{forms, unknown};
 ghost use Rattle.rules_spec.specs.Solving.{rows_of};
@@ -138,9 +139,14 @@ fn of_plans(
     planned: &[Body<'_>],
 ) -> Result<System, GenFault>
     requires budget { budget_of d (kind_of task.now.kind) ≤ 4 }
-    ensures made { IfOk result (λ made. IsProper (job_in (program_in program.now) d earlier.now (map body_of planned.now) (task_of task.now) scale) (weights_of program.now d task.now) →
-        JobMade (job_in (program_in program.now) d earlier.now (map body_of planned.now) (task_of task.now) scale) (weights_of program.now d task.now) made) }
-    ensures fault { IfErr result (λ fault. IsProper (job_in (program_in program.now) d earlier.now (map body_of planned.now) (task_of task.now) scale) (weights_of program.now d task.now) →
+    ensures made { IfOk result
+        (λ made. IsProper (job_in (program_in program.now) d earlier.now (map body_of planned.now)
+        (task_of task.now) scale) (weights_of program.now d task.now) →
+        JobMade (job_in (program_in program.now) d earlier.now (map body_of planned.now)
+        (task_of task.now) scale) (weights_of program.now d task.now) made) }
+    ensures fault { IfErr result
+        (λ fault. IsProper (job_in (program_in program.now) d earlier.now (map body_of planned.now)
+        (task_of task.now) scale) (weights_of program.now d task.now) →
         JobCause (job_in (program_in program.now) d earlier.now (map body_of planned.now) (task_of task.now) scale) fault) }
     ensures unknowns { IfOk result (λ made. made.unknowns ≡ unknowns_of (map body_of planned.now)) }
 {
@@ -183,10 +189,18 @@ fn of_bodies(
     requires counted { count ≡ unknowns (job_in (program_in program.now) d earlier.now (map body_of planned.now) (task_of task.now) scale) }
     requires few { count ≤ 2000 }
     requires bodies { length planned.now ≤ 2000 }
-    ensures made { IfOk result (λ made. IsProper (job_in (program_in program.now) d earlier.now (map body_of planned.now) (task_of task.now) scale) (weights_of program.now d task.now) →
-        HasRows count (rows_of count (given_conditions forms unknown (job_in (program_in program.now) d earlier.now (map body_of planned.now) (task_of task.now) scale))) (weights_of program.now d task.now) made) }
-    ensures fault { IfErr result (λ fault. IsProper (job_in (program_in program.now) d earlier.now (map body_of planned.now) (task_of task.now) scale) (weights_of program.now d task.now) →
-        RowCause (rows_of count (given_conditions forms unknown (job_in (program_in program.now) d earlier.now (map body_of planned.now) (task_of task.now) scale))) fault) }
+    ensures made { IfOk result
+        (λ made. IsProper (job_in (program_in program.now) d earlier.now (map body_of planned.now)
+        (task_of task.now) scale) (weights_of program.now d task.now) →
+        HasRows count (rows_of count
+        (given_conditions forms unknown
+        (job_in (program_in program.now) d earlier.now (map body_of planned.now)
+        (task_of task.now) scale))) (weights_of program.now d task.now) made) }
+    ensures fault { IfErr result
+        (λ fault. IsProper (job_in (program_in program.now) d earlier.now (map body_of planned.now)
+        (task_of task.now) scale) (weights_of program.now d task.now) →
+        RowCause (rows_of count (given_conditions forms unknown
+        (job_in (program_in program.now) d earlier.now (map body_of planned.now) (task_of task.now) scale))) fault) }
     ensures unknowns { IfOk result (λ made. made.unknowns ≡ count) }
 {
     let rows = heard(

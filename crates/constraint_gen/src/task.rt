@@ -1,5 +1,6 @@
 // What a task is about: the types of its functions, its weights and its target.
-ghost use Rattle.std.specs.Prelude.{◌≡◌, ◌≤◌, ◌^◌, ◌++◌, ◌∷◌, [], ◌&&◌, nat_eq, nat_lt, cond, pos, map, filter, length, replicate, slice_get, slice_index_or, vec_len, IfOk, OnOk};
+ghost use Rattle.std.specs.Prelude.{◌≡◌, ◌≤◌, ◌^◌, ◌++◌, ◌∷◌, [], ◌&&◌, nat_eq, nat_lt, cond, pos, map, filter, length, replicate};
+ghost use Rattle.std.specs.Prelude.{slice_get, slice_index_or, vec_len, IfOk, OnOk};
 ghost use Rattle.std.specs.List.{list_any, range_with_len};
 ghost use Rattle.raml_syntax.specs.Read.{ty_of};
 ghost use Rattle.base_poly.specs.Plain.{alike, degrees};

@@ -172,7 +172,9 @@ fn all_hints(
 ) -> Result<Vec<Vec<Hint>>, AllocError>
     requires numbers { AreNumbers solution.now }
     requires room { next.old + all_counts (map (λ a. asks_of a.items) asks.now) ≤ length solution.now }
-    ensures told { IfOk result (λ made. map hints_of made.items ≡ map (map t.hint) (all_answers (numbers solution.now) next.old (map (λ a. asks_of a.items) asks.now))) }
+    ensures told { IfOk result
+        (λ made. map hints_of made.items
+        ≡ map (map t.hint) (all_answers (numbers solution.now) next.old (map (λ a. asks_of a.items) asks.now))) }
 {
     let mut made = Vec::with_capacity(alloc, asks.len())?;
     for asked in asks {
@@ -185,7 +187,13 @@ fn all_hints(
 fn sig(alloc: Global, solution: &[i128], next: &mut u32, body: &Body<'_>) -> Result<Sig, AllocError>
     requires numbers { AreNumbers solution.now }
     requires room { next.old + (body.now.args + body.now.result) ≤ length solution.now }
-    ensures told { IfOk result (λ made. sig_of made ≡ t.sig (record { args = given (numbers solution.now) next.old body.now.args; result = given (numbers solution.now) (next.old + body.now.args) body.now.result })) }
+    ensures told { IfOk result
+        (λ made. sig_of made ≡ t.sig
+        (record {
+          args = given (numbers solution.now) next.old body.now.args;
+          result = given
+              (numbers solution.now) (next.old + body.now.args) body.now.result;
+        })) }
     ensures next { OnOk result (next.new ≡ next.old + (body.now.args + body.now.result)) }
 {
     let args = annot(alloc, solution, next, body.args)?;
@@ -202,7 +210,8 @@ fn sigs(
 ) -> Result<Vec<Sig>, AllocError>
     requires numbers { AreNumbers solution.now }
     requires room { next.old + sides_count (map body_of bodies.now) ≤ length solution.now }
-    ensures told { IfOk result (λ made. map sig_of made.items ≡ map t.sig (sides_given (numbers solution.now) next.old (map body_of bodies.now))) }
+    ensures told { IfOk result
+        (λ made. map sig_of made.items ≡ map t.sig (sides_given (numbers solution.now) next.old (map body_of bodies.now))) }
     ensures next { OnOk result (next.new ≡ next.old + sides_count (map body_of bodies.now)) }
 {
     let mut made = Vec::with_capacity(alloc, bodies.len())?;
@@ -252,12 +261,15 @@ pub fn hints_of(
     requires few { length solution.now ≤ 2000 }
     requires natural { NoneNegative solution.now }
     ensures sigs { IfOk result (λ told. (blocks : List c.Block) → Remembers (program_in program.now) d blocks earlier.now →
-        map sig_of told.0.items ≡ sigs_told (bodies_of (program_in program.now) d blocks (task_of task.now)) (map unsigned_abs solution.now)) }
+        map sig_of told.0.items ≡ sigs_told
+        (bodies_of (program_in program.now) d blocks (task_of task.now)) (map unsigned_abs solution.now)) }
     ensures hints { IfOk result (λ told. (blocks : List c.Block) → Remembers (program_in program.now) d blocks earlier.now →
-        map hints_of told.1.items ≡ hints_told (bodies_of (program_in program.now) d blocks (task_of task.now)) (map unsigned_abs solution.now)) }
+        map hints_of told.1.items
+        ≡ hints_told (bodies_of (program_in program.now) d blocks (task_of task.now)) (map unsigned_abs solution.now)) }
     ensures holds { IfOk result (λ told. (blocks : List c.Block) (scale : ℕ) → Remembers (program_in program.now) d blocks earlier.now →
         IsTask (program_in program.now) d blocks (task_of task.now) scale → IsNumbered (program_in program.now) d (kind_of task.now.kind) →
-        HoldWhereSolved (program_in program.now) d blocks (task_of task.now) scale solution.now (map sig_of told.0.items) (map hints_of told.1.items)) }
+        HoldWhereSolved (program_in program.now) d blocks (task_of task.now) scale solution.now
+        (map sig_of told.0.items) (map hints_of told.1.items)) }
 {
     match plans(alloc, program, d, None, task) {
         Ok(plans) => {

@@ -96,7 +96,8 @@ pub record ScheduleExamples : Type 0 where
   pub ticks : next_of_list false (constant ∷ linear ∷ []) ≡ Some (task 0 (With Ticks))
   pub cells : next_of_list false (constant ∷ linear ∷ refuted (task 0 (With Ticks)) ∷ []) ≡ Some (task 0 (With Cells))
   pub end : next_of_list false (constant ∷ linear ∷ solved (task 0 (With Ticks)) ∷ solved (task 0 (With Cells)) ∷ []) ≡ None
-  pub work : next_of_list true (constant ∷ linear ∷ solved (task 0 (With Ticks)) ∷ solved (task 0 (With Cells)) ∷ []) ≡ Some (task 0 (With Work))
+  pub work : next_of_list true
+      (constant ∷ linear ∷ solved (task 0 (With Ticks)) ∷ solved (task 0 (With Cells)) ∷ []) ≡ Some (task 0 (With Work))
   pub second_group : next (Integer ∷ Integer ∷ []) ((1 ∷ []) ∷ (0 ∷ []) ∷ []) 1 false
       (solved (task 0 (Free 0 1 0)) ∷ solved (task 0 (With Ticks)) ∷ solved (task 0 (With Cells)) ∷ []) ≡ Some (task 1 (Free 0 0 0))
   pub waits : blocked_second (task 1 (With Ticks)) (refuted (task 0 (With Ticks)) ∷ solved (task 0 (With Cells)) ∷ []) ≡ Some 0

@@ -17,7 +17,8 @@ with_degrees plan funs = map (λ fun. (fun, degrees_at (slice_get plan.results f
 -- a function's tasks at a budget, whose targets are numbered from this number on
 abbrev pub tasks_by : ℕ → ℕ → ℕ → ℕ → List ℕ → List Task
 tasks_by group budget fun number [] = []
-tasks_by group budget fun number (n ∷ ns) = cond (nat_le n budget) (record { group = group; kind = Free budget fun number } ∷ []) [] ++ tasks_by group budget fun (suc number) ns
+tasks_by group budget fun number (n ∷ ns) =
+    cond (nat_le n budget) (record { group = group; kind = Free budget fun number } ∷ []) [] ++ tasks_by group budget fun (suc number) ns
 
 -- those of all functions
 abbrev pub tasks_of_all : ℕ → ℕ → List (ℕ × List ℕ) → List Task

@@ -1,5 +1,6 @@
 -- The order of tasks. A program is given by the result type of each function and by its groups, callees first.
-use Rattle.std.specs.Prelude.{ℕ, suc, nat_eq, nat_le, Bool, false, cond, ◌&&◌, List, [], ◌∷◌, ◌++◌, map, flat_map, Option, Some, None, slice_get}
+use Rattle.std.specs.Prelude.{ℕ, suc, nat_eq, nat_le, Bool, false, cond, ◌&&◌, List, [], ◌∷◌, ◌++◌, map, flat_map, Option, Some, None}
+use Rattle.std.specs.Prelude.{slice_get}
 use Rattle.std.specs.List.{list_any, range_with_len}
 use Rattle.raml_syntax.specs.Tree.{Type'}
 use Rattle.cost_free.specs.declared.task.Done.TheVariants.{Solved}
@@ -16,16 +17,19 @@ targets_at None d = []
 targets_at (Some A) d = targets A d
 
 module _ (results : List Type') (d : ℕ) (work : Bool) where
-  -- A function's cost-free tasks at a budget: one for each target of degree at most the budget. The targets are numbered from this number on.
+  -- A function's cost-free tasks at a budget: one for each target of degree at most the budget. The targets are
+  -- numbered from this number on.
   abbrev pub tasks_for : ℕ → ℕ → ℕ → ℕ → List Target → List Task
   tasks_for group budget fun number [] = []
   tasks_for group budget fun number (t ∷ ts) =
-      cond (nat_le (degree_of t) budget) (record { group = group; kind = Free budget fun number } ∷ []) [] ++ tasks_for group budget fun (suc number) ts
+      cond (nat_le (degree_of t) budget)
+      (record { group = group; kind = Free budget fun number } ∷ []) [] ++ tasks_for group budget fun (suc number) ts
 
   -- the cost-free tasks of a group: for each budget from 0 to d, for each function of the group, for each target
   abbrev pub free_tasks : ℕ → List ℕ → List Task
   free_tasks group funs =
-      flat_map (λ budget. flat_map (λ fun. tasks_for group budget fun 0 (targets_at (slice_get results fun) d)) funs) (range_with_len 0 (suc d))
+      flat_map (λ budget. flat_map
+      (λ fun. tasks_for group budget fun 0 (targets_at (slice_get results fun) d)) funs) (range_with_len 0 (suc d))
 
   -- then those with cost, one for each meter
   abbrev pub group_tasks : ℕ → List ℕ → List Task
@@ -51,8 +55,8 @@ abbrev pub is_left_out : List Outcome → Kind → Bool
 is_left_out past (Free budget fun target) = list_any (solves fun target) past
 is_left_out past (With meter) = false
 
--- Of these tasks, after some that are past, the next one: those that are left out are passed over, and of the others each has come out as `done`
--- says, in this order, as far as it goes.
+-- Of these tasks, after some that are past, the next one: those that are left out are passed over, and of the others
+-- each has come out as `done` says, in this order, as far as it goes.
 abbrev pub next_of : List Task → List Outcome → List Outcome → Option Task
 next_of [] past done = None
 next_of (c ∷ cs) past [] = cond (is_left_out past c.kind) (next_of cs past []) (Some c)

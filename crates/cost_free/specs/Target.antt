@@ -122,7 +122,8 @@ joined_over A d (h ∷ hs) = map (joined A (map (λ (i : Holder). i.place) (h �
 
 -- by degree of the list index, then by the list index, then by the places entry by entry, a prefix first
 abbrev pub joined_order : Joined → Joined → Ordering
-joined_order x y = ordering_then (nat_cmp (deg x.list) (deg y.list)) (ordering_then (order x.list y.list) (slice_cmp nat_cmp x.places y.places))
+joined_order x y =
+    ordering_then (nat_cmp (deg x.list) (deg y.list)) (ordering_then (order x.list y.list) (slice_cmp nat_cmp x.places y.places))
 
 abbrev pub put : Joined → List Joined → List Joined
 put x [] = x ∷ []

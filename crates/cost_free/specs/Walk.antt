@@ -1,5 +1,6 @@
 -- A walk over the schedule, which keeps the solved targets and the tasks of one group.
-use Rattle.std.specs.Prelude.{◌≡◌, ◌<◌, ◌+◌, ℕ, Bool, true, false, cond, List, [], ◌∷◌, ◌++◌, length, take, drop, Option, Some, None, slice_get}
+use Rattle.std.specs.Prelude.{◌≡◌, ◌<◌, ◌+◌, ℕ, Bool, true, false, cond, List, [], ◌∷◌, ◌++◌, length, take, drop, Option, Some, None}
+use Rattle.std.specs.Prelude.{slice_get}
 use Rattle.std.specs.List.{list_any}
 use Rattle.std.specs.Ordering.{ordering_then, nat_cmp, is_eq}
 use Rattle.cost_free.specs.Task.{Kind, Task, Free, With, Outcome}
@@ -101,7 +102,8 @@ pub record GroupCame (plan : Plan) (done : List Outcome) (group : ℕ) : Type 0 
 
 -- Where the last group that was entered has a function whose result has too many indices, a task of it came.
 abbrev pub Fits : ℕ → Plan → List Outcome → ℕ → Type 0
-Fits most plan done entered = (group : ℕ) → group + 1 ≡ entered → any_has_more most plan (row plan.groups group) ≡ true → GroupCame plan done group
+Fits most plan done entered =
+    (group : ℕ) → group + 1 ≡ entered → any_has_more most plan (row plan.groups group) ≡ true → GroupCame plan done group
 
 -- After these outcomes a walk that enters no group that is too large, but for one of which a task came, stands at this place.
 pub record Stands (plan : Plan) (done : List Outcome) (p : Place) : Type 0 where

@@ -54,7 +54,8 @@ fn at_component(
     pieces: &[&[Index]],
 ) -> Result<Index, AllocError>
     requires { index_of zero ≡ zero_of (ty_of ty.now) }
-    ensures index { IfOk result (λ index. index_of index ≡ piece_or_zero (ty_of ty.now) (piece_at place.old places.now (pieces_of pieces.now))) }
+    ensures index { IfOk result
+        (λ index. index_of index ≡ piece_or_zero (ty_of ty.now) (piece_at place.old places.now (pieces_of pieces.now))) }
     ensures behind { OnOk result (place.new ≡ place.old + 1) }
 {
     let piece = piece_at(*place, places, pieces);
@@ -158,7 +159,8 @@ fn append_cuts<'a>(
 ) -> Result<(), AllocError>
     ensures all { OnOk result (found.new.items
         ≡ found.old.items
-        ++ map (λ p. filled (ty_of ty.now) 0 places.now (pieces_of before.old.items ++ p) ∷ []) (cut_pieces count (cuts (plains_of entries.now)))) }
+        ++ map (λ p. filled (ty_of ty.now) 0 places.now (pieces_of before.old.items ++ p) ∷ [])
+        (cut_pieces count (cuts (plains_of entries.now)))) }
     ensures kept { OnOk result (before.new.items ≡ before.old.items) }
 {
     for cut in 0..entries.len() + 1 {
@@ -190,7 +192,8 @@ fn append_cut<'a>(
 ) -> Result<(), AllocError>
     ensures all { OnOk result (found.new.items
         ≡ found.old.items
-        ++ map (λ p. filled (ty_of ty.now) 0 places.now (pieces_of before.old.items ++ p) ∷ []) (map (λ p. plains_of piece.now ∷ p) (pieces count (plains_of entries.now)))) }
+        ++ map (λ p. filled (ty_of ty.now) 0 places.now (pieces_of before.old.items ++ p) ∷ [])
+        (map (λ p. plains_of piece.now ∷ p) (pieces count (plains_of entries.now)))) }
     ensures kept { OnOk result (before.new.items ≡ before.old.items) }
 {
     let place = before.len();

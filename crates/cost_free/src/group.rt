@@ -32,7 +32,8 @@ fn degrees_of(
 ) -> Result<Vec<u32>, IndexFault>
     ensures all { IfOk result (λ found. found.items ≡ degrees_at (slice_get (plan_of plan.entry).results fun.0) plan.entry.degree) }
     ensures few { OnOk result (has_more most plan.entry.degree (slice_get (plan_of plan.entry).results fun.0) ≡ false) }
-    ensures many { IsErrOf result IndexFault.TooMany → has_more most plan.entry.degree (slice_get (plan_of plan.entry).results fun.0) ≡ true }
+    ensures many { IsErrOf result IndexFault.TooMany →
+        has_more most plan.entry.degree (slice_get (plan_of plan.entry).results fun.0) ≡ true }
 {
     match plan.results.get(fun.0 as usize) {
         None => Ok(Vec::new(alloc)),
@@ -136,7 +137,8 @@ fn append_free_tasks(
 
 // Appends those with cost.
 fn append_meters(tasks: &mut Vec<Task>, group: u32, work: bool) -> Result<(), AllocError>
-    ensures { OnOk result (tasks_of tasks.new.items ≡ tasks_of tasks.old.items ++ map (λ meter. record { group = group; kind = plain.With meter }) (meters work)) }
+    ensures { OnOk result (tasks_of tasks.new.items ≡ tasks_of tasks.old.items ++ map
+        (λ meter. record { group = group; kind = plain.With meter }) (meters work)) }
 {
     append_task(tasks, group, TaskKind::With(Meter::Ticks))?;
     append_task(tasks, group, TaskKind::With(Meter::Cells))?;
@@ -175,7 +177,9 @@ pub fn group_tasks(
     funs: &[FunId],
     most: usize,
 ) -> Result<Vec<Task>, IndexFault>
-    ensures all { IfOk result (λ tasks. tasks_of tasks.items ≡ group_tasks (plan_of plan.entry).results plan.entry.degree plan.entry.work place (ids_of funs.now)) }
+    ensures all { IfOk result
+        (λ tasks. tasks_of tasks.items
+        ≡ group_tasks (plan_of plan.entry).results plan.entry.degree plan.entry.work place (ids_of funs.now)) }
     ensures few { OnOk result (any_has_more most (plan_of plan.entry) (ids_of funs.now) ≡ false) }
     ensures many { IsErrOf result IndexFault.TooMany → any_has_more most (plan_of plan.entry) (ids_of funs.now) ≡ true }
 {

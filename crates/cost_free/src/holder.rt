@@ -27,7 +27,8 @@ fn append_holder<'a>(
     element: &'a Ty,
     place: &mut usize,
 ) -> Result<(), AllocError>
-    ensures all { OnOk result (holders_of found.new.items ≡ holders_of found.old.items ++ record { place = place.old; element = ty_of element.now } ∷ []) }
+    ensures all { OnOk result
+        (holders_of found.new.items ≡ holders_of found.old.items ++ record { place = place.old; element = ty_of element.now } ∷ []) }
     ensures behind { OnOk result (place.new ≡ place.old + 1) }
 {
     found.push(Holder {
@@ -109,7 +110,8 @@ fn append_set<'a>(
     found: &mut Vec<Vec<Holder<'a>>>,
     holders: &[Holder<'a>],
 ) -> Result<(), AllocError>
-    ensures { OnOk result (sets_of found.new.items ≡ sets_of found.old.items ++ cond (can_join (holders_of holders.now)) (holders_of holders.now ∷ []) []) }
+    ensures { OnOk result (sets_of found.new.items ≡ sets_of found.old.items
+        ++ cond (can_join (holders_of holders.now)) (holders_of holders.now ∷ []) []) }
 {
     if can_join(holders) {
         found.push(Vec::from_slice(alloc, holders)?)?;
@@ -153,7 +155,8 @@ fn append_with<'a>(
 ) -> Result<(), AllocError>
     ensures all { OnOk result (sets_of found.new.items
         ≡ sets_of found.old.items
-        ++ filter can_join (map (λ s. holders_of before.old.items ++ s) (map (λ s. holder_of first.entry ∷ s) (subsets (holders_of more.now))))) }
+        ++ filter can_join (map (λ s. holders_of before.old.items ++ s)
+        (map (λ s. holder_of first.entry ∷ s) (subsets (holders_of more.now))))) }
     ensures kept { OnOk result (before.new.items ≡ before.old.items) }
 {
     let count = before.len();

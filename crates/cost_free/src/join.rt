@@ -43,7 +43,8 @@ fn append_positive(
     found: &mut Vec<Index>,
     indices: &[Index],
 ) -> Result<(), AllocError>
-    ensures { OnOk result (plains_of found.new.items ≡ plains_of found.old.items ++ filter (λ l. nat_lt 0 (deg l)) (plains_of indices.now)) }
+    ensures { OnOk result (plains_of found.new.items ≡ plains_of found.old.items ++ filter
+        (λ l. nat_lt 0 (deg l)) (plains_of indices.now)) }
 {
     for index in indices {
         if is_positive(index) {
@@ -134,7 +135,8 @@ fn append_joined<'a>(
 ) -> Result<(), AllocError>
     requires some { 0 < length holders.now }
     requires low { All (λ i. deg (index_of i) ≤ 255) lists.items }
-    ensures { OnOk result (all_joined found.new.items ≡ all_joined found.old.items ++ map (joined (ty_of ty.now) (places_of holders.now)) (plains_of lists.items)) }
+    ensures { OnOk result (all_joined found.new.items ≡ all_joined found.old.items
+        ++ map (joined (ty_of ty.now) (places_of holders.now)) (plains_of lists.items)) }
 {
     for list in lists {
         found.push(joined(alloc, ty, holders, list)?)?;
@@ -150,7 +152,8 @@ fn append_joined_over<'a>(
     d: u8,
     holders: &[Holder<'_>],
 ) -> Result<(), AllocError>
-    ensures { OnOk result (all_joined found.new.items ≡ all_joined found.old.items ++ joined_over (ty_of ty.now) d (holders_of holders.now)) }
+    ensures { OnOk result (all_joined found.new.items ≡ all_joined found.old.items
+        ++ joined_over (ty_of ty.now) d (holders_of holders.now)) }
 {
     match holders {
         [] => Ok(()),

@@ -13,7 +13,8 @@ use std::cmp::Ordering;
 
 // Of one degree: by the list index, then by the places.
 fn order_of_alike(one: &Joined<'_>, other: &Joined<'_>) -> Ordering
-    ensures { result ≡ ordering_then (index_order (index_of one.now.list) (index_of other.now.list)) (slice_cmp nat_cmp one.now.places.items other.now.places.items) }
+    ensures { result ≡ ordering_then (index_order (index_of one.now.list) (index_of other.now.list))
+        (slice_cmp nat_cmp one.now.places.items other.now.places.items) }
 {
     one.list
         .cmp(&other.list)
@@ -34,7 +35,8 @@ fn order(one: &Joined<'_>, other: &Joined<'_>) -> Ordering
 // How many of those in order stand before the target.
 fn place_among(ordered: &[Joined<'_>], target: &Joined<'_>) -> usize
     ensures low { result ≤ length ordered.now }
-    ensures place { all_joined (take result ordered.now) ++ joined_of target.now ∷ all_joined (drop result ordered.now) ≡ put (joined_of target.now) (all_joined ordered.now) }
+    ensures place { all_joined (take result ordered.now)
+        ++ joined_of target.now ∷ all_joined (drop result ordered.now) ≡ put (joined_of target.now) (all_joined ordered.now) }
 {
     let mut place = 0;
     for other in ordered {

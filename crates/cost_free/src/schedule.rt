@@ -214,9 +214,22 @@ pub fn next(
     work: bool,
     done: &[(Task, Done)],
 ) -> Result<Option<Task>, IndexFault>
-    ensures next { IfOk result (λ task. option_map task_of task ≡ next (context_of results.now) groups.now.list d work (outcomes_of done.now)) }
-    ensures fits { OnOk result (IsRefused 2000 (record { results = context_of results.now; groups = groups.now.list; degree = d; work = work }) (outcomes_of done.now) → ⊥) }
-    ensures many { IsErrOf result IndexFault.TooMany → IsRefused 2000 (record { results = context_of results.now; groups = groups.now.list; degree = d; work = work }) (outcomes_of done.now) }
+    ensures next { IfOk result
+        (λ task. option_map task_of task ≡ next (context_of results.now) groups.now.list d work (outcomes_of done.now)) }
+    ensures fits { OnOk result
+        (IsRefused 2000 (record {
+          results = context_of results.now;
+          groups = groups.now.list;
+          degree = d;
+          work = work;
+        }) (outcomes_of done.now) → ⊥) }
+    ensures many { IsErrOf result IndexFault.TooMany →
+        IsRefused 2000 (record {
+          results = context_of results.now;
+          groups = groups.now.list;
+          degree = d;
+          work = work;
+        }) (outcomes_of done.now) }
 {
     let plan = plan(results, groups, d, work);
     let mut walk = begin(alloc);

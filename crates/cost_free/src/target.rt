@@ -64,7 +64,8 @@ impl<'a> Model for TargetList<'a> {
 
     ghost coded = { coded_list (coded_list (coded_list coded_plain)) };
 
-    ghost view = { λ targets. map (λ t. t ∷ []) targets.units.items ++ map (λ (j : plain.Joined). j.target) (all_joined targets.joined.items) };
+    ghost view = { λ targets. map (λ t. t ∷ []) targets.units.items ++ map
+        (λ (j : plain.Joined). j.target) (all_joined targets.joined.items) };
 }
 
 impl<'a> TargetList<'a> {

@@ -41,7 +41,8 @@ fn all_degrees(alloc: Global, ty: &Ty, d: u8, units: &[u8]) -> Result<Vec<u32>, 
 
 // Appends those of each degree from 0 on.
 fn append_ascending(found: &mut Vec<u32>, units: &[u8], d: u8) -> Result<(), AllocError>
-    ensures { OnOk result (found.new.items ≡ found.old.items ++ flat_map (λ g. filter (λ n. nat_eq n g) units.now) (range_with_len 0 (d + 1))) }
+    ensures { OnOk result (found.new.items ≡ found.old.items ++ flat_map
+        (λ g. filter (λ n. nat_eq n g) units.now) (range_with_len 0 (d + 1))) }
 {
     for degree in 0..u32::from(d) + 1 {
         append_equal(found, units, degree)?;

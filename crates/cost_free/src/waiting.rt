@@ -53,7 +53,8 @@ fn any_calls(calls: &[Vec<FunId>], fun: u32, members: &[FunId]) -> bool
 
 // The place of a group that it is in.
 fn place_in(fun: u32, groups: &[Vec<FunId>]) -> Option<usize>
-    ensures some { IfSome result (λ place. (in_any fun (lists_of groups.now) ≡ true) × (is_among fun (row (lists_of groups.now) place) ≡ true)) }
+    ensures some { IfSome result
+        (λ place. (in_any fun (lists_of groups.now) ≡ true) × (is_among fun (row (lists_of groups.now) place) ≡ true)) }
     ensures none { IfNone result (in_any fun (lists_of groups.now) ≡ false) }
 {
     for (place, group) in groups.iter().enumerate() {
@@ -115,7 +116,8 @@ fn begin_of(done: &[(Task, Done)], group: usize) -> usize
 
 // Whether the meter's task of the group is found to be solved, where the group's tasks begin.
 fn pays_at(meter: Meter, done: &[(Task, Done)], group: usize) -> bool
-    ensures { IsTrue result → (groups : List (List ℕ)) (f : ℕ) → is_among f (row groups group) ≡ true → has_bound groups meter (outcomes_of done.now) f ≡ true }
+    ensures { IsTrue result → (groups : List (List ℕ)) (f : ℕ) → is_among f (row groups group) ≡ true →
+        has_bound groups meter (outcomes_of done.now) f ≡ true }
 {
     let mut place = begin_of(done, group);
     while place < done.len() && done[place].0.group as usize == group {
@@ -161,7 +163,8 @@ fn is_unpaid(
     done: &[(Task, Done)],
     fun: u32,
 ) -> bool
-    ensures { result ≡ (in_any fun (take group (lists_of groups.now)) && not (has_bound (lists_of groups.now) meter (outcomes_of done.now) fun)) }
+    ensures { result ≡ (in_any fun (take group (lists_of groups.now))
+        && not (has_bound (lists_of groups.now) meter (outcomes_of done.now) fun)) }
 {
     match place_in(fun, before(groups, group)) {
         Some(place) => !is_bound(groups, meter, done, fun, place),
@@ -190,7 +193,8 @@ fn least(
     done: &[(Task, Done)],
 ) -> Option<FunId>
     requires { length calls.now < 2 ^ 32 }
-    ensures { option_map (λ (f : FunId). f.0) result ≡ least_from (blocks (lists_of groups.now) (lists_of calls.now) group meter (outcomes_of done.now)) (length calls.now) 0 }
+    ensures { option_map (λ (f : FunId). f.0) result
+        ≡ least_from (blocks (lists_of groups.now) (lists_of calls.now) group meter (outcomes_of done.now)) (length calls.now) 0 }
 {
     for fun in 0..calls.len() as u32 {
         if blocks(groups, calls, group, meter, done, fun) {
@@ -208,7 +212,8 @@ fn blocked_by(
     done: &[(Task, Done)],
 ) -> Option<FunId>
     requires { length calls.now < 2 ^ 32 }
-    ensures { option_map (λ (f : FunId). f.0) result ≡ blocked (lists_of groups.now) (lists_of calls.now) (task_of task.now) (outcomes_of done.now) }
+    ensures { option_map (λ (f : FunId). f.0) result
+        ≡ blocked (lists_of groups.now) (lists_of calls.now) (task_of task.now) (outcomes_of done.now) }
 {
     match task.kind {
         TaskKind::Free { .. } => None,

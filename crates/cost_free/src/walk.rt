@@ -50,7 +50,8 @@ fn pass_solved(tasks: &[Task], place: &mut usize, solved: &BTreeSet<(u32, u32)>)
 
 // Adds the target of an entry that is solved.
 fn note(solved: &mut BTreeSet<(u32, u32)>, entry: &(Task, Done)) -> Result<(), AllocError>
-    ensures known { OnOk result ((past : List plain.Outcome) → Knows solved.old.keys past → Knows solved.new.keys (outcome_of entry.now ∷ past)) }
+    ensures known { OnOk result
+        ((past : List plain.Outcome) → Knows solved.old.keys past → Knows solved.new.keys (outcome_of entry.now ∷ past)) }
     ensures kept { OnErr result ((past : List plain.Outcome) → Knows solved.old.keys past → Knows solved.new.keys past) }
 {
     match entry.1 {
@@ -94,11 +95,13 @@ fn enter(
     walk: &mut Walk,
 ) -> Result<Option<Task>, IndexFault>
     requires { (place_of walk.old).left ≡ [] }
-    ensures place { OnOk result (place_of walk.new ≡ into (plan_of plan.entry) (place_of walk.old) (slice_get (plan_of plan.entry).groups walk.old.entered)) }
+    ensures place { OnOk result
+        (place_of walk.new ≡ into (plan_of plan.entry) (place_of walk.old) (slice_get (plan_of plan.entry).groups walk.old.entered)) }
     ensures next { IfOk result (λ task. option_map task_of task ≡ first (place_of walk.new).left) }
     ensures few { OnOk result (any_has_more most (plan_of plan.entry) (row (plan_of plan.entry).groups walk.old.entered) ≡ false) }
     ensures kept { OnErr result (place_of walk.new ≡ place_of walk.old) }
-    ensures many { IsErrOf result IndexFault.TooMany → any_has_more most (plan_of plan.entry) (row (plan_of plan.entry).groups walk.old.entered) ≡ true }
+    ensures many { IsErrOf result IndexFault.TooMany →
+        any_has_more most (plan_of plan.entry) (row (plan_of plan.entry).groups walk.old.entered) ≡ true }
 {
     match plan.groups.get(walk.entered) {
         None => Ok(None),

@@ -1,5 +1,6 @@
 -- The bound of a flat function in algebra, such as `3/2·n² + 1/2·n`.
-use Rattle.std.specs.Prelude.{ℕ, suc, ◌==◌, ◌&&◌, ℤ, unsigned_abs, Bool, true, false, cond, Option, Some, None, List, [], ◌∷◌, ◌++◌, map, reverse, codes, decimal, encode_utf8, slice_get, slice_index_or}
+use Rattle.std.specs.Prelude.{ℕ, suc, ◌==◌, ◌&&◌, ℤ, unsigned_abs, Bool, true, false, cond, Option, Some, None, List, [], ◌∷◌, ◌++◌, map}
+use Rattle.std.specs.Prelude.{reverse, codes, decimal, encode_utf8, slice_get, slice_index_or}
 use Rattle.std.specs.Borrow.{Bor}
 use Rattle.raml_syntax.specs.Tree.{Text, Type', ListOf, TreeOf}
 use Rattle.poly_text.specs.Text.{coefficient_text}
@@ -70,7 +71,8 @@ with_coefficient is_one c fs = cond (is_one && has_any fs) fs (c ∷ fs)
 
 -- the term without its sign: a number over the denominator, and its factors
 abbrev pub term_text : ℕ → List (Option ℕ) → List ℕ × ℤ → Text
-term_text den names p = joined times (with_coefficient (unsigned_abs p.1 == den) (coefficient_text (unsigned_abs p.1) den) (factors names 0 p.0))
+term_text den names p =
+    joined times (with_coefficient (unsigned_abs p.1 == den) (coefficient_text (unsigned_abs p.1) den) (factors names 0 p.0))
 
 abbrev pub more_terms : ℕ → List (Option ℕ) → Powers → Text
 more_terms den names [] = []

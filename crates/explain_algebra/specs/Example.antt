@@ -30,7 +30,8 @@ abbrev behind_number : List Term
 behind_number = (Unit' ∷ picks 0 ∷ [], 1) ∷ (Unit' ∷ picks 2 ∷ [], 2) ∷ []
 
 pub record Examples : Type 0 where
-  pub names : size_names (Boolean ∷ numbers ∷ Integer ∷ TreeOf Boolean ∷ OptionOf numbers ∷ PairOf numbers numbers ∷ numbers ∷ []) ≡ None ∷ n ∷ None ∷ Some 109 ∷ None ∷ None ∷ Some 107 ∷ []
+  pub names : size_names (Boolean ∷ numbers ∷ Integer ∷ TreeOf Boolean ∷ OptionOf numbers ∷ PairOf numbers numbers
+      ∷ numbers ∷ []) ≡ None ∷ n ∷ None ∷ Some 109 ∷ None ∷ None ∷ Some 107 ∷ []
   pub dot : times ≡ encode_utf8_all (codes "·")
   pub square : exponent_text 2 ≡ encode_utf8_all (codes "²")
   pub cube : exponent_text 3 ≡ encode_utf8_all (codes "³")

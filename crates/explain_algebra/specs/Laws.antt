@@ -33,7 +33,8 @@ pub record CountAsNumbers : Type 0 where
   pub lists : (A : Type') → holds_no_size A ≡ true → CountsByEntries (ListOf A)
   pub trees : (A : Type') → holds_no_size A ≡ true → CountsByEntries (TreeOf A)
 
--- Each power that a flat function's polynomial has is written: at exponents of which one stands at a parameter without a name, there is nothing.
+-- Each power that a flat function's polynomial has is written: at exponents of which one stands at a parameter without
+-- a name, there is nothing.
 abbrev pub NoneIsUnnamed : Type 0
 NoneIsUnnamed = (As : List Type') (ts : List Term) → are_flat As ≡ true → length As ≤ 8 → All (λ t. AreIndices t.0 As) ts →
     (es : List ℕ) (j : ℕ) → name_at (size_names As) j ≡ None → slice_index_or es j 0 ≢ 0 → power_at es ts ≡ pos 0

@@ -1,5 +1,6 @@
 // Bounds in algebra.
-ghost use Rattle.std.specs.Prelude.{◌≡◌, ◌++◌, ◌<ℤ◌, ◌≢◌, [], pos, unsigned_abs, reverse, decimal, encode_utf8, string_bytes, cond, OnOk, IfOk};
+ghost use Rattle.std.specs.Prelude.{◌≡◌, ◌++◌, ◌<ℤ◌, ◌≢◌, [], pos, unsigned_abs, reverse, decimal, encode_utf8, string_bytes, cond, OnOk};
+ghost use Rattle.std.specs.Prelude.{IfOk};
 ghost use Rattle.poly_text.specs.Text.{coefficient_text};
 ghost use Rattle.bound_compare.specs.Text.{sign_text, joint_text};
 ghost use Rattle.explain_algebra.specs.Steps.{marked, still};
@@ -19,7 +20,8 @@ pub fn push_algebra(
     names: &[Option<char>],
 ) -> Result<(), AllocError>
     requires { pos 0 <ℤ form.now.den }
-    ensures { OnOk result (string_bytes text.new ≡ string_bytes text.old ++ algebra_text (unsigned_abs form.now.den) names.now form.now.terms.items) }
+    ensures { OnOk result (string_bytes text.new ≡ string_bytes text.old
+        ++ algebra_text (unsigned_abs form.now.den) names.now form.now.terms.items) }
 {
     push_sum(text, &form.terms, names, form.den.unsigned_abs())
 }
@@ -144,7 +146,8 @@ fn push_factors(
     names: &[Option<char>],
     exponents: &[u8],
 ) -> Result<bool, AllocError>
-    ensures text { OnOk result (string_bytes text.new ≡ string_bytes text.old ++ marked is_first times (factors names.now 0 exponents.now)) }
+    ensures text { OnOk result
+        (string_bytes text.new ≡ string_bytes text.old ++ marked is_first times (factors names.now 0 exponents.now)) }
     ensures first { IfOk result (λ first. first ≡ still is_first (factors names.now 0 exponents.now)) }
 {
     let mut first = is_first;

@@ -25,7 +25,9 @@ UnspelledAt source at = (fault : ParseFault) × FirstFault source fault × (synt
 
 -- the program that it spells is not typed: the first fault of its types is at this byte
 abbrev pub UntypedAt : Text → ℕ → Type 0
-UntypedAt source at = (P : Prog) × (fault : TypeFault) × (first : Fault) × Spells source P × (fault_of fault ≡ Some first) × (walk_program P ≡ Err first) × (type_place fault ≡ Some at)
+UntypedAt source at =
+    (P : Prog) × (fault : TypeFault) × (first : Fault) × Spells source P × (fault_of fault ≡ Some first)
+    × (walk_program P ≡ Err first) × (type_place fault ≡ Some at)
 
 -- the byte that `raml` names where it refuses the source
 abbrev pub RefusedAt : Text → ℕ → Type 0
@@ -33,7 +35,8 @@ RefusedAt source at = UnspelledAt source at ⊎ UntypedAt source at
 
 -- NAME:LINE:COLUMN: error:
 abbrev pub fault_head : Text → Text → ℕ → Text
-fault_head name source at = name ++ (codes ":" ++ (decimal (line source at) ++ (codes ":" ++ (decimal (column source at) ++ codes ": error: "))))
+fault_head name source at =
+    name ++ (codes ":" ++ (decimal (line source at) ++ (codes ":" ++ (decimal (column source at) ++ codes ": error: "))))
 
 -- NAME: error: WHY
 abbrev pub error_line : Text → Text → Text
@@ -60,10 +63,15 @@ texts = map (λ (name : Bor Text). name.now)
 
 -- what is told of a file: that of its source, or that it is longer than a source may be, or that the store failed
 abbrev pub FileIs : Files → Text → Verdict → Text → Type 0
-FileIs files name v.Unread part = ((source : Text) × (files name ≡ Some source) × (most_bytes < length source) × (part ≡ error_line name (codes "longer than 1048576 bytes"))) ⊎ (part ≡ error_line name (codes "cannot be read"))
-FileIs files name verdict part = (source : Text) × (files name ≡ Some source) × (length source ≤ most_bytes) × FaultIs name source verdict part
+FileIs files name v.Unread part =
+    ((source : Text) × (files name ≡ Some source) × (most_bytes < length source)
+    × (part ≡ error_line name (codes "longer than 1048576 bytes"))) ⊎ (part ≡ error_line name (codes "cannot be read"))
+FileIs files name verdict part =
+    (source : Text) × (files name ≡ Some source) × (length source ≤ most_bytes) × FaultIs name source verdict part
 
 -- what is told of files: the worst, and all parts in order
 abbrev pub FilesAre : Files → List Text → Verdict → Text → Type 0
 FilesAre files [] verdict parts = (verdict ≡ v.Typed) × (parts ≡ [])
-FilesAre files (name ∷ names) verdict parts = (first : Verdict) × (others : Verdict) × (part : Text) × (rest : Text) × FileIs files name first part × FilesAre files names others rest × (verdict ≡ worse first others) × (parts ≡ part ++ rest)
+FilesAre files (name ∷ names) verdict parts =
+    (first : Verdict) × (others : Verdict) × (part : Text) × (rest : Text) × FileIs files name first part
+    × FilesAre files names others rest × (verdict ≡ worse first others) × (parts ≡ part ++ rest)

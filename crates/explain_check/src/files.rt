@@ -22,7 +22,8 @@ pub fn check_files<S: Store>(
     report: &mut String,
 ) -> Result<Verdict, AllocError>
     ensures told { (files : Files) → S.holds store.old ≡ Some files →
-        IfOk result (λ verdict. (part : Text) × FilesAre files (texts names.now) verdict part × (string_bytes report.new ≡ string_bytes report.old ++ part)) }
+        IfOk result (λ verdict. (part : Text) × FilesAre files (texts names.now) verdict part
+        × (string_bytes report.new ≡ string_bytes report.old ++ part)) }
     ensures kept { S.holds store.new ≡ S.holds store.old }
 {
     let mut verdict = Verdict::Typed;
@@ -41,7 +42,8 @@ fn check_file<S: Store>(
     report: &mut String,
 ) -> Result<Verdict, AllocError>
     ensures told { (files : Files) → S.holds store.old ≡ Some files →
-        IfOk result (λ verdict. (part : Text) × FileIs files name.now verdict part × (string_bytes report.new ≡ string_bytes report.old ++ part)) }
+        IfOk result (λ verdict. (part : Text) × FileIs files name.now verdict part
+        × (string_bytes report.new ≡ string_bytes report.old ++ part)) }
     ensures kept { S.holds store.new ≡ S.holds store.old }
 {
     match store.read(alloc, name, MOST + 1) {

@@ -19,7 +19,8 @@ pub(crate) fn push_message(
     message: &Message,
     report: &mut String,
 ) -> Result<(), AllocError>
-    ensures { OnOk result ((rest : Text) × (string_bytes report.new ≡ string_bytes report.old ++ (fault_head name.now source.now message.now ++ rest))) }
+    ensures { OnOk result ((rest : Text)
+        × (string_bytes report.new ≡ string_bytes report.old ++ (fault_head name.now source.now message.now ++ rest))) }
 {
     push_head(name, source, message.at(), report)?;
     push_body(alloc, source, message, report)

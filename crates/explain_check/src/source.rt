@@ -23,7 +23,9 @@ pub fn check_source(
     report: &mut String,
 ) -> Result<Verdict, AllocError>
     requires { length source.now < 2 ^ 31 }
-    ensures told { IfOk result (λ verdict. (part : Text) × FaultIs name.now source.now verdict part × (string_bytes report.new ≡ string_bytes report.old ++ part)) }
+    ensures told { IfOk result
+        (λ verdict. (part : Text) × FaultIs name.now source.now verdict part
+        × (string_bytes report.new ≡ string_bytes report.old ++ part)) }
 {
     match first_fault(alloc, source)? {
         Some(message) => {

@@ -8,9 +8,10 @@ use Rattle.base_poly.specs.declared.tuple.Poly.{Poly}
 use Rattle.explain_sizes.specs.Sizes.{Sizes, Parts, Content, Elements}
 
 abbrev mutual
-  -- The unit counts 1, and a pair multiplies its parts. A list index counts the ways to choose as many of the elements as it has entries, times
-  -- what each of the entries counts at an element's sizes. An option's entry counts at the sizes of what the option holds. Sizes that are not
-  -- of the index's type count as the value of no size does in a base polynomial.
+  -- The unit counts 1, and a pair multiplies its parts. A list index counts the ways to choose as many of the elements
+  -- as it has entries, times what each of the entries counts at an element's sizes. An option's entry counts at the
+  -- sizes of what the option holds. Sizes that are not of the index's type count as the value of no size does in a base
+  -- polynomial.
   pub counts : Plain → Sizes → ℕ
   counts Unit' s = 1
   counts (Pair i j) (Parts s t) = counts i s * counts j t

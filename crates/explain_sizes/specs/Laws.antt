@@ -15,7 +15,8 @@ pub record IsWorthAtExactSizes : Type 0 where
 -- Its worth at values within the sizes is no more, and so is its whole part.
 pub record BoundsWorthWithinSizes : Type 0 where
   pub sum : (ts : List Term) (ss : List Sizes) (vs : List Value) → AreWithin ss vs → worth ts vs ≤ worth_at ts ss
-  pub whole : (p : Poly) (ss : List Sizes) (vs : List Value) → 0 < den_of p → AreWithin ss vs → worth (terms_of p) vs / den_of p ≤ whole_at p ss
+  pub whole : (p : Poly) (ss : List Sizes) (vs : List Value) → 0 < den_of p → AreWithin ss vs →
+      worth (terms_of p) vs / den_of p ≤ whole_at p ss
 
 -- Some value has exactly the sizes.
 abbrev pub SizesAreMet : Type 0

@@ -31,7 +31,8 @@ Writes old new text = (new ≡ grown old text) ⊎ GrewByFront old new text
 -- the worst of what is found in the files, with a report of it; or memory ran out
 abbrev pub IsChecked : Files → List (Bor Text) → Option Text → Option Text → Status → Type 0
 IsChecked files names old new status =
-    (status ≡ s.NoMemory) ⊎ ((verdict : Verdict) × (report : Text) × FilesAre files (texts names) verdict report × (status ≡ status_of verdict) × Writes old new report)
+    (status ≡ s.NoMemory) ⊎ ((verdict : Verdict) × (report : Text)
+    × FilesAre files (texts names) verdict report × (status ≡ status_of verdict) × Writes old new report)
 
 abbrev pub IsAnswer : Files → Request → Option Text → Option Text → Status → Type 0
 IsAnswer files (Check names) old new status = IsChecked files names.items old new status

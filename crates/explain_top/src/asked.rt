@@ -20,7 +20,8 @@ pub fn answer<S: Store, E: Sink>(
     store: &mut S,
     err: &mut E,
 ) -> Status
-    ensures checked { (files : Files) → S.holds store.old ≡ Some files → IsAnswer files request.now (E.written err.old) (E.written err.new) result }
+    ensures checked { (files : Files) → S.holds store.old ≡ Some files →
+        IsAnswer files request.now (E.written err.old) (E.written err.new) result }
     ensures kept { S.holds store.new ≡ S.holds store.old }
 {
     match request {
@@ -30,7 +31,8 @@ pub fn answer<S: Store, E: Sink>(
 
 /// Checks the files of these names, and writes what is wrong with them to `err`.
 fn check<S: Store, E: Sink>(alloc: Global, names: &[&str], store: &mut S, err: &mut E) -> Status
-    ensures checked { (files : Files) → S.holds store.old ≡ Some files → IsChecked files names.now (E.written err.old) (E.written err.new) result }
+    ensures checked { (files : Files) → S.holds store.old ≡ Some files →
+        IsChecked files names.now (E.written err.old) (E.written err.new) result }
     ensures kept { S.holds store.new ≡ S.holds store.old }
 {
     let mut report = String::new(alloc);

@@ -61,11 +61,13 @@ column u rows = map (λ row. coefficient u row.terms) rows
 -- y A is at most 0 at the n unknowns from u on
 abbrev pub refuting_columns : ℕ → ℕ → List SparseRow → List ℤ → List Check
 refuting_columns u zero rows y = []
-refuting_columns u (suc n) rows y = record { column = u; demand = NotAbove; terms = products y (column u rows) } ∷ refuting_columns (suc u) n rows y
+refuting_columns u (suc n) rows y =
+    record { column = u; demand = NotAbove; terms = products y (column u rows) } ∷ refuting_columns (suc u) n rows y
 
 -- y A is at most 0 at each unknown, and y b is positive
 abbrev pub refuting : LinearSystem → List ℤ → List Check
-refuting s y = refuting_columns 0 s.unknowns s.rows y ++ record { column = s.unknowns; demand = Above; terms = products y (right_sides s) } ∷ []
+refuting s y =
+    refuting_columns 0 s.unknowns s.rows y ++ record { column = s.unknowns; demand = Above; terms = products y (right_sides s) } ∷ []
 
 -- a x - t b is at least 0 at a row
 abbrev pub solving_row : ℕ → List ℤ → ℤ → SparseRow → Check
@@ -77,7 +79,8 @@ solving_rows n x t rows = map (solving_row n x t) rows
 -- y A - t c is at most 0 at the unknowns from u on, which have the weights c
 abbrev pub dual_columns : ℕ → List ℤ → List SparseRow → List ℤ → ℤ → List Check
 dual_columns u [] rows y t = []
-dual_columns u (c ∷ cs) rows y t = record { column = u; demand = NotAbove; terms = neg_ℤ (t *ℤ c) ∷ products y (column u rows) } ∷ dual_columns (suc u) cs rows y t
+dual_columns u (c ∷ cs) rows y t =
+    record { column = u; demand = NotAbove; terms = neg_ℤ (t *ℤ c) ∷ products y (column u rows) } ∷ dual_columns (suc u) cs rows y t
 
 -- y b and c x are equal
 abbrev pub equal_sums : LinearSystem → List ℤ → List ℤ → Check

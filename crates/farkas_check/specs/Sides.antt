@@ -1,5 +1,6 @@
 -- Totals that grow by the terms of a list.
-use Rattle.std.specs.Prelude.{◌≡◌, ℕ, ◌<◌, ℤ, pos, ◌+ℤ◌, ◌*ℤ◌, List, [], ◌∷◌, ◌++◌, map, length, slice_index_or, FitsSigned, Option, Some, None}
+use Rattle.std.specs.Prelude.{◌≡◌, ℕ, ◌<◌, ℤ, pos, ◌+ℤ◌, ◌*ℤ◌, List, [], ◌∷◌, ◌++◌, map, length, slice_index_or, FitsSigned, Option, Some}
+use Rattle.std.specs.Prelude.{None}
 use Rattle.std.specs.Int.{w128}
 use Rattle.linear_rows.specs.Terms.{SparseRow, Terms, coefficient, unknown_at}
 use Rattle.farkas_check.specs.declared.totals.Totals.{Totals}

@@ -35,7 +35,8 @@ fn add_row(totals: &mut [Option<Totals>], y: i128, row: &Row)
 fn add_rows(totals: &mut [Option<Totals>], y: &[i128], rows: &[Row])
     requires one_each { length y.now ≡ length rows.now }
     requires below { AllBelow (length totals.old) rows.now }
-    ensures { (n : ℕ) (terms : ℕ → List ℤ) → AreTotals n terms totals.old → AreTotals n (λ u. terms u ++ products y.now (column u rows.now)) totals.new }
+    ensures { (n : ℕ) (terms : ℕ → List ℤ) → AreTotals n terms totals.old → AreTotals n
+        (λ u. terms u ++ products y.now (column u rows.now)) totals.new }
 {
     for i in 0..rows.len() {
         add_row(totals, y[i], &rows[i]);
@@ -88,7 +89,8 @@ pub(crate) fn dual_total(system: &System, y: &[i128], scale: i128, unknown: u32)
     requires one_each { length y.now ≡ length system.now.rows }
     requires positive { pos 0 <ℤ scale }
     requires inside { unknown < system.now.unknowns }
-    ensures { IsTotals (neg_ℤ (scale *ℤ slice_index_or system.now.weights unknown (pos 0)) ∷ products y.now (column unknown system.now.rows)) result }
+    ensures { IsTotals (neg_ℤ
+        (scale *ℤ slice_index_or system.now.weights unknown (pos 0)) ∷ products y.now (column unknown system.now.rows)) result }
 {
     let weights = system.weights();
     let weight = weight_total(weights[unknown as usize], scale)?;
@@ -102,7 +104,8 @@ fn weight_totals(
     scale: i128,
 ) -> Result<Vec<Option<Totals>>, AllocError>
     requires { pos 0 <ℤ scale }
-    ensures { IfOk result (λ totals. AreTotals (length weights.now) (λ u. neg_ℤ (scale *ℤ slice_index_or weights.now u (pos 0)) ∷ []) totals.items) }
+    ensures { IfOk result (λ totals. AreTotals (length weights.now)
+        (λ u. neg_ℤ (scale *ℤ slice_index_or weights.now u (pos 0)) ∷ []) totals.items) }
 {
     let mut totals = Vec::with_capacity(alloc, weights.len())?;
     for weight in weights {
@@ -120,7 +123,9 @@ pub(crate) fn dual_totals(
 ) -> Result<Vec<Option<Totals>>, AllocError>
     requires one_each { length y.now ≡ length system.now.rows }
     requires positive { pos 0 <ℤ scale }
-    ensures totals { IfOk result (λ totals. AreTotals system.now.unknowns (λ u. neg_ℤ (scale *ℤ slice_index_or system.now.weights u (pos 0)) ∷ products y.now (column u system.now.rows)) totals.items) }
+    ensures totals { IfOk result
+        (λ totals. AreTotals system.now.unknowns
+        (λ u. neg_ℤ (scale *ℤ slice_index_or system.now.weights u (pos 0)) ∷ products y.now (column u system.now.rows)) totals.items) }
     ensures sound { IsSystem system.now }
 {
     let mut totals = weight_totals(alloc, system.weights(), scale)?;

@@ -3,7 +3,8 @@
 ghost use Rattle.std.specs.Prelude.{◌≡◌, ◌<ℤ◌, ◌↔◌, IsTrue, pos, length, ℤ, ℕ, List, map, neg_ℤ, ◌*ℤ◌, ◌∷◌, ◌++◌, IfOk};
 ghost use Rattle.raml_num.specs.Sums.{NoneNegative};
 ghost use Rattle.linear_rows.specs.Systems.{IsBelow, IsSystem, numbers_from, right_sides};
-ghost use Rattle.farkas_check.specs.Checks.{Meets, Demand, Check, refuting_columns, solving_row, solving_rows, dual_columns, equal_sums, refuting, proving_least};
+ghost use Rattle.farkas_check.specs.Checks.{Meets, Demand, Check, refuting_columns, solving_row, solving_rows, dual_columns, equal_sums};
+ghost use Rattle.farkas_check.specs.Checks.{refuting, proving_least};
 ghost use Rattle.farkas_check.specs.Totals.{products};
 ghost use Rattle.farkas_check.specs.Sides.{IsTotals};
 ghost use Rattle.farkas_check.specs.Faults.{demand_of, FaultOf, FirstFaultOf};
@@ -42,7 +43,8 @@ impl Asked {
 
 /// The fault of a check, if it does not pass.
 fn of_check(totals: Option<Totals>, asked: Asked, column: u32) -> Option<Verdict>
-    ensures { (terms : List ℤ) → IsTotals terms totals → FaultOf (record { column = column; demand = demand_of asked; terms = terms }) result }
+    ensures { (terms : List ℤ) → IsTotals terms totals →
+        FaultOf (record { column = column; demand = demand_of asked; terms = terms }) result }
 {
     match totals {
         None => Some(Verdict::Leaves { column }),
@@ -103,7 +105,11 @@ fn of_columns_with(alloc: Option<Global>, system: &System, y: &[i128]) -> Option
 /// Of `y b`, which is to be positive.
 fn of_right_sides(system: &System, y: &[i128]) -> Option<Verdict>
     requires { length y.now ≡ length system.now.rows }
-    ensures { FaultOf (record { column = system.now.unknowns; demand = Demand.Above; terms = products y.now (right_sides system.now) }) result }
+    ensures { FaultOf (record {
+      column = system.now.unknowns;
+      demand = Demand.Above;
+      terms = products y.now (right_sides system.now);
+    }) result }
 {
     let totals = Totals::zero().with_right_sides(y, system.rows());
     of_check(totals, Asked::MoreThanZero, system.unknowns())

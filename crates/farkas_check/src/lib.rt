@@ -59,7 +59,8 @@ pub fn least(system: &System, x: &[i128], y: &[i128], scale: i128) -> Verdict
     requires y_natural { NoneNegative y.now }
     requires positive { pos 0 <ℤ scale }
     ensures first { IsVerdict (proving_least system.now x.now y.now scale) result }
-    ensures yes { result ≡ Verdict.Yes ↔ (ProvesLeast system.now x.now y.now scale × EachFits (proving_least system.now x.now y.now scale)) }
+    ensures yes { result ≡ Verdict.Yes
+        ↔ (ProvesLeast system.now x.now y.now scale × EachFits (proving_least system.now x.now y.now scale)) }
     ensures no { (c : ℕ) → result ≡ Verdict.No c → ProvesLeast system.now x.now y.now scale → ⊥ }
 {
     fault::of_least(None, system, x, y, scale).unwrap_or(Verdict::Yes)
@@ -75,7 +76,8 @@ pub fn least_quickly(alloc: Global, system: &System, x: &[i128], y: &[i128], sca
     requires positive { pos 0 <ℤ scale }
     ensures first { IsVerdict (proving_least system.now x.now y.now scale) result }
     ensures same { (plain : Verdict) → IsVerdict (proving_least system.now x.now y.now scale) plain → result ≡ plain }
-    ensures yes { result ≡ Verdict.Yes ↔ (ProvesLeast system.now x.now y.now scale × EachFits (proving_least system.now x.now y.now scale)) }
+    ensures yes { result ≡ Verdict.Yes
+        ↔ (ProvesLeast system.now x.now y.now scale × EachFits (proving_least system.now x.now y.now scale)) }
     ensures no { (c : ℕ) → result ≡ Verdict.No c → ProvesLeast system.now x.now y.now scale → ⊥ }
 {
     fault::of_least(Some(alloc), system, x, y, scale).unwrap_or(Verdict::Yes)

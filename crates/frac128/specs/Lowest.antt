@@ -21,4 +21,6 @@ signed_by false n = pos n
 
 -- the parts of the sum of a/b and c/d are in the range, where g is the greatest common divisor of b and d
 abbrev pub JoinFits : ℤ → ℕ → ℤ → ℕ → ℕ → Type 0
-JoinFits a b c d g = (b * (d / g) < 2 ^ 127) × (unsigned_abs a * (d / g) < 2 ^ 127) × (unsigned_abs c * (b / g) < 2 ^ 127) × (unsigned_abs (a *ℤ pos (d / g) +ℤ c *ℤ pos (b / g)) < 2 ^ 127)
+JoinFits a b c d g =
+    (b * (d / g) < 2 ^ 127) × (unsigned_abs a * (d / g) < 2 ^ 127) × (unsigned_abs c * (b / g) < 2 ^ 127)
+    × (unsigned_abs (a *ℤ pos (d / g) +ℤ c *ℤ pos (b / g)) < 2 ^ 127)

@@ -6,7 +6,8 @@ use Rattle.frac128.specs.declared.Frac.{Frac}
 use Rattle.frac128.specs.Lowest.{InLowestTerms}
 
 pub zero_over_one : InLowestTerms 0 1
-zero_over_one = record { small = omega arith; positive = omega arith; fits = omega arith; coprime = record { common = λ d p q. eq-one_of_dvd-one q } }
+zero_over_one =
+    record { small = omega arith; positive = omega arith; fits = omega arith; coprime = record { common = λ d p q. eq-one_of_dvd-one q } }
 
 abbrev pub nought : Frac
 nought = record { num = pos 0; den = 1; lowest = zero_over_one }

@@ -21,7 +21,8 @@ order_of x y = int_cmp (x.num *ℤ pos y.den) (y.num *ℤ pos x.den)
 -- equal values have equal parts
 pub same_parts : (x y : Frac) → x.num *ℤ pos y.den ≡ y.num *ℤ pos x.den → (x.num ≡ y.num) × (x.den ≡ y.den)
 same_parts x y e =
-    let m : unsigned_abs y.num * x.den ≡ unsigned_abs x.num * y.den = sym (unsigned_abs-mul y.num (pos x.den)) ∙ ap unsigned_abs (sym e) ∙ unsigned_abs-mul x.num (pos y.den) in
+    let m : unsigned_abs y.num * x.den ≡ unsigned_abs x.num * y.den = sym (unsigned_abs-mul y.num (pos x.den))
+    ∙ ap unsigned_abs (sym e) ∙ unsigned_abs-mul x.num (pos y.den) in
     let d : x.den ≡ y.den = (lowest_unique (unsigned_abs x.num) x.den (unsigned_abs y.num) y.den x.lowest.coprime y.lowest.coprime m).1 in
     let n : x.num *ℤ pos y.den ≡ y.num *ℤ pos y.den = e ∙ ap (λ (v : ℕ). y.num *ℤ pos v) d in
     (cancelled (pos y.den) x.num y.num (not_zero y.den y.lowest.positive) (*ℤ_comm (pos y.den) x.num ∙ n ∙ *ℤ_comm y.num (pos y.den)), d)
@@ -46,7 +47,9 @@ pub order_is_total : IsTotalOrder order_of
 order_is_total = record {
   antisymm = λ x y. int_cmp_total.antisymm (x.num *ℤ pos y.den) (y.num *ℤ pos x.den);
   trans = λ x y z p q.
-      sym (int_cmp_is _ _ Less (along x.num y.num z.num x.den y.den z.den x.lowest.positive z.lowest.positive (int_ranked _ _ Less (sym p)) (int_ranked _ _ Less (sym q))));
+      sym (int_cmp_is _ _ Less
+      (along x.num y.num z.num x.den y.den z.den x.lowest.positive z.lowest.positive
+      (int_ranked _ _ Less (sym p)) (int_ranked _ _ Less (sym q))));
   congr = λ x y z p. let e = same_parts x y (int_ranked (x.num *ℤ pos y.den) (y.num *ℤ pos x.den) Equal (sym p)) in rw (e.0, e.1) refl;
 }
 
@@ -57,10 +60,18 @@ unlike : (a c : ℤ) (b d : ℕ) → (a ≡ c → b ≡ d → ⊥) → (int_eq a
 unlike a c b d n = grind (arith, nat_tests)
 
 by_order : (x y : Frac) (o : Ordering) → o ≡ order_of x y → (int_eq x.num y.num && (x.den == y.den)) ≡ is_eq o
-by_order x y Less p = let h : (x.num *ℤ pos y.den) <ℤ (y.num *ℤ pos x.den) = int_ranked _ _ Less p in unlike x.num y.num x.den y.den (λ e f. let g = rw (e, f) at h in omega (arith, ints))
-by_order x y Equal p = let e = same_parts x y (int_ranked (x.num *ℤ pos y.den) (y.num *ℤ pos x.den) Equal p) in alike x.num y.num x.den y.den e.0 e.1
-by_order x y Greater p = let h : (y.num *ℤ pos x.den) <ℤ (x.num *ℤ pos y.den) = int_ranked _ _ Greater p in unlike x.num y.num x.den y.den (λ e f. let g = rw (e, f) at h in omega (arith, ints))
+by_order x y Less p =
+    let h : (x.num *ℤ pos y.den) <ℤ
+    (y.num *ℤ pos x.den) = int_ranked _ _ Less p in unlike x.num y.num x.den y.den
+    (λ e f. let g = rw (e, f) at h in omega (arith, ints))
+by_order x y Equal p =
+    let e = same_parts x y (int_ranked (x.num *ℤ pos y.den) (y.num *ℤ pos x.den) Equal p) in alike x.num y.num x.den y.den e.0 e.1
+by_order x y Greater p =
+    let h : (y.num *ℤ pos x.den) <ℤ
+    (x.num *ℤ pos y.den) = int_ranked _ _ Greater p in unlike x.num y.num x.den y.den
+    (λ e f. let g = rw (e, f) at h in omega (arith, ints))
 
 -- and only equal parts have equal values
-pub order_matches_eq : (x y : Frac) → eq_of_both (on (λ (f : Frac). f.num) int_eq) (on (λ (f : Frac). f.den) ◌==◌) x y ≡ eq_by_cmp order_of x y
+pub order_matches_eq : (x y : Frac) →
+    eq_of_both (on (λ (f : Frac). f.num) int_eq) (on (λ (f : Frac). f.den) ◌==◌) x y ≡ eq_by_cmp order_of x y
 order_matches_eq x y = by_order x y (order_of x y) refl

@@ -67,7 +67,8 @@ fn reduced(num: i128, den: u128, shared: u128) -> Frac
 impl Frac {
     ghost use Rattle.std.specs.Prelude.{IsTrue, ◌≡◌, ◌≢◌, ◌↔◌, ℕ, ℤ, pos, neg_ℤ, unsigned_abs, IsSome, IfSome, ◌+ℤ◌, ◌*ℤ◌, ◌<ℤ◌};
     ghost use Rattle.raml_num.specs.Divisors.{IsLcm};
-    ghost use Rattle.frac128.specs.Values.{numerator, denominator, IsProduct, IsQuotient, IsSum, IsDifference, SumFits, DifferenceFits, Tells, Fits, IsReciprocal};
+    ghost use Rattle.frac128.specs.Values.{numerator, denominator, IsProduct, IsQuotient, IsSum, IsDifference, SumFits, DifferenceFits};
+    ghost use Rattle.frac128.specs.Values.{Tells, Fits, IsReciprocal};
 
     /// The number 0.
     pub fn zero() -> Frac
@@ -231,7 +232,8 @@ impl Frac {
 
     /// The difference: the sum with the other negated, or None where that is None.
     pub fn sub(&self, other: &Frac) -> Option<Frac>
-        ensures fits { (m : ℕ) → IsLcm (denominator self.now) (denominator other.now) m → (IsSome result ↔ DifferenceFits self.now other.now m) }
+        ensures fits { (m : ℕ) → IsLcm (denominator self.now) (denominator other.now) m →
+            (IsSome result ↔ DifferenceFits self.now other.now m) }
         ensures value { IfSome result (IsDifference self.now other.now) }
     {
         self.add(&other.neg())

@@ -27,13 +27,15 @@ projects marks others t = if alike (other_items marks t) others then (marked_ite
 
 -- The projection of a context to its marked variables at a tuple of the others, which leaves so much of the degree.
 abbrev pub projection : List Bool → List Type' → ℕ → List Plain → List Entry
-projection marks As d others = entries_from 0 (projects marks others) (index_list As d) (index_list (marked_items marks As) (d - degrees others))
+projection marks As d others =
+    entries_from 0 (projects marks others) (index_list As d) (index_list (marked_items marks As) (d - degrees others))
 
 -- Each tuple of the other variables counts its base polynomial times the potential of the projection at it.
 abbrev pub split_potential : List Bool → List Type' → ℕ → Annotation → List Value → ℕ
 split_potential marks As d q vs =
     total
-    (λ others. bases others (other_items marks vs) * potential (marked_items marks As) (d - degrees others) (moved (projection marks As d others) q) (marked_items marks vs))
+    (λ others. bases others (other_items marks vs) * potential (marked_items marks As) (d - degrees others)
+    (moved (projection marks As d others) q) (marked_items marks vs))
     (index_list (other_items marks As) d)
 
 -- Potential is that sum, where each variable has a mark.

@@ -28,7 +28,8 @@ pub record Examples : Type 0 where
   pub list_left : leaving (list ∷ list ∷ []) 0 2 ≡ entry 0 0 1 ∷ entry 1 1 1 ∷ entry 3 2 1 ∷ []
   pub option_left : leaving (OptionOf list ∷ list ∷ []) 0 1 ≡ entry 0 0 1 ∷ entry 1 1 1 ∷ []
   -- a list twice: the product of its length with itself is the length and twice its pairs
-  pub list_shared : sharing (list ∷ []) 0 2 ≡ entry 0 0 1 ∷ entry 1 1 1 ∷ entry 2 1 1 ∷ entry 3 2 1 ∷ entry 4 2 2 ∷ entry 4 1 1 ∷ entry 5 2 1 ∷ []
+  pub list_shared : sharing (list ∷ []) 0 2
+      ≡ entry 0 0 1 ∷ entry 1 1 1 ∷ entry 2 1 1 ∷ entry 3 2 1 ∷ entry 4 2 2 ∷ entry 4 1 1 ∷ entry 5 2 1 ∷ []
   -- 5, 7 times the length and 11 times the pairs of a list of four
   pub worth : potential (list ∷ []) 2 (λ k. slice_index (5 ∷ 7 ∷ 11 ∷ []) k) (four ∷ []) ≡ 99
   pub brought : moved (entry 0 3 1 ∷ entry 1 2 9 ∷ entry 1 3 2 ∷ []) (λ k. slice_index (5 ∷ 7 ∷ []) k) 3 ≡ 19

@@ -28,11 +28,14 @@ KeepsRest es As at d v = (vs : List Value) → IsAt As vs at v → Keeps es d As
 -- A value at the place leaves, and the tuples stay that have the zero index there.
 abbrev pub KeepsZero : List Entry → List Type' → ℕ → ℕ → Value → Type 0
 KeepsZero es As at d v = (vs : List Value) → IsAt As vs at v → (q : Annotation) →
-    potential (in_place at none As) d (moved es q) (in_place at none vs) ≡ weighed (λ t. if deg (slice_index_or t at Unit') == 0 then bases t vs else 0) (index_list As d) q
+    potential (in_place at none As) d (moved es q) (in_place at none vs) ≡ weighed
+    (λ t. if deg (slice_index_or t at Unit') == 0 then bases t vs else 0) (index_list As d) q
 
 -- The same where the potential may fall.
 abbrev pub LowersRest : List Entry → List Type' → ℕ → ℕ → Value → Type 0
-LowersRest es As at d v = (vs : List Value) → IsAt As vs at v → (q : Annotation) → potential (in_place at none As) d (moved es q) (in_place at none vs) ≤ potential As d q vs
+LowersRest es As at d v =
+    (vs : List Value) → IsAt As vs at v → (q : Annotation) →
+    potential (in_place at none As) d (moved es q) (in_place at none vs) ≤ potential As d q vs
 
 -- A value twice becomes the value once.
 abbrev pub KeepsShared : List Entry → List Type' → ℕ → ℕ → Value → Type 0

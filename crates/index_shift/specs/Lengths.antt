@@ -27,7 +27,14 @@ abbrev pub left_at : ℕ → Middle
 left_at n = record { degree = n; targets = cond (nat_lt 0 n) [] (length_target 0 ∷ []) }
 
 abbrev pub lists_opened : ℕ → Alone
-lists_opened d = record { degree = d; old = range_with_len 0 (d + 1); new = range_with_len 0 (d + 1); middles = map opened_at (range_with_len 0 (d + 1)) }
+lists_opened d =
+    record {
+      degree = d;
+      old = range_with_len 0 (d + 1);
+      new = range_with_len 0
+          (d + 1);
+      middles = map opened_at (range_with_len 0 (d + 1));
+    }
 
 abbrev pub lists_left : ℕ → Alone
 lists_left d = record { degree = d; old = range_with_len 0 (d + 1); new = 0 ∷ []; middles = map left_at (range_with_len 0 (d + 1)) }

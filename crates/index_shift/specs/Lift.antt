@@ -8,7 +8,9 @@ pub record Middle : Type 0 where
   pub degree : ℕ
   pub targets : List Target
 
--- What is known of the new context: the degrees of the tuples before the place, how many tuples of the types behind it have a degree, where the tuples of a degree begin that begin as the k-th before the place, and what is before the m-th tuple of the new types.
+-- What is known of the new context: the degrees of the tuples before the place, how many tuples of the types behind it
+-- have a degree, where the tuples of a degree begin that begin as the k-th before the place, and what is before the
+-- m-th tuple of the new types.
 pub record Counts : Type 0 where
   pub before : List ℕ
   pub after : ℕ → ℕ

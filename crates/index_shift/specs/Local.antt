@@ -74,12 +74,18 @@ pub record StandsBetween (c : Carry) (As Fs Ts Bs : List Type') (d : ℕ) (xs : 
 
 -- The entries are the map between any such contexts.
 abbrev pub IsMapBetween : List ℕ → Alone → List ℕ → List Entry → Type 0
-IsMapBetween xs l bs es = (c : Carry) (As Fs Ts Bs : List Type') (d : ℕ) → StandsBetween c As Fs Ts Bs d xs l bs → es ≡ entries (behind (length As) c) (As ++ (Fs ++ Bs)) (As ++ (Ts ++ Bs)) d
+IsMapBetween xs l bs es =
+    (c : Carry) (As Fs Ts Bs : List Type') (d : ℕ) → StandsBetween c As Fs Ts Bs d xs l bs →
+    es ≡ entries (behind (length As) c) (As ++ (Fs ++ Bs)) (As ++ (Ts ++ Bs)) d
 
 -- None of the two has too many indices.
 abbrev pub AreSmall : List ℕ → Alone → List ℕ → Type 0
-AreSmall xs l bs = (c : Carry) (As Fs Ts Bs : List Type') (d : ℕ) → StandsBetween c As Fs Ts Bs d xs l bs → IsTooLarge (As ++ (Fs ++ Bs)) (As ++ (Ts ++ Bs)) d → ⊥
+AreSmall xs l bs =
+    (c : Carry) (As Fs Ts Bs : List Type') (d : ℕ) → StandsBetween c As Fs Ts Bs d xs l bs →
+    IsTooLarge (As ++ (Fs ++ Bs)) (As ++ (Ts ++ Bs)) d → ⊥
 
 -- One of the two has.
 abbrev pub AreLarge : List ℕ → Alone → List ℕ → Type 0
-AreLarge xs l bs = (c : Carry) (As Fs Ts Bs : List Type') (d : ℕ) → StandsBetween c As Fs Ts Bs d xs l bs → IsTooLarge (As ++ (Fs ++ Bs)) (As ++ (Ts ++ Bs)) d
+AreLarge xs l bs =
+    (c : Carry) (As Fs Ts Bs : List Type') (d : ℕ) → StandsBetween c As Fs Ts Bs d xs l bs →
+    IsTooLarge (As ++ (Fs ++ Bs)) (As ++ (Ts ++ Bs)) d

@@ -1,5 +1,6 @@
 -- The maps.
-use Rattle.std.specs.Prelude.{ℕ, zero, suc, ◌<◌, ◌==◌, ◌⊎◌, if◌then◌else◌, List, [], ◌∷◌, ◌++◌, map, flat_map, length, position, slice_index_or, Option, None, Some}
+use Rattle.std.specs.Prelude.{ℕ, zero, suc, ◌<◌, ◌==◌, ◌⊎◌, if◌then◌else◌, List, [], ◌∷◌, ◌++◌, map, flat_map, length, position}
+use Rattle.std.specs.Prelude.{slice_index_or, Option, None, Some}
 use Rattle.raml_syntax.specs.Tree.{Type', Integer}
 use Rattle.base_poly.specs.Plain.{Plain, deg, alike}
 use Rattle.base_poly.specs.Indices.{index_list}

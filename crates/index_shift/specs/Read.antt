@@ -40,7 +40,13 @@ abbrev pub table_at : List (SmallVec ℕ) → ℕ → ℕ → ℕ
 table_at t h k = slice_index_or (slice_index_or (map items_of t) h []) k 0
 
 abbrev pub counts_of : Counts → l.Counts
-counts_of c = record { before = c.before.now; after = λ r. slice_index_or c.after.items r 0; first = table_at c.first.items; second = table_at c.second.items }
+counts_of c =
+    record {
+      before = c.before.now;
+      after = λ r. slice_index_or c.after.items r 0;
+      first = table_at c.first.items;
+      second = table_at c.second.items;
+    }
 
 abbrev pub middle_of : Middle → l.Middle
 middle_of m = record { degree = m.degree; targets = m.targets.items }

@@ -165,9 +165,13 @@ fn between(
     after: &[u8],
     d: u8,
 ) -> Result<Vec<Entry>, MapFault>
-    ensures map { IfOk result (λ found. IsMapBetween before.now (record { degree = d; old = old.now; new = new.now; middles = middles_of middles.now }) after.now found.items) }
-    ensures few { OnOk result (AreSmall before.now (record { degree = d; old = old.now; new = new.now; middles = middles_of middles.now }) after.now) }
-    ensures many { IsErrOf result MapFault.TooMany → AreLarge before.now (record { degree = d; old = old.now; new = new.now; middles = middles_of middles.now }) after.now }
+    ensures map { IfOk result
+        (λ found. IsMapBetween before.now
+        (record { degree = d; old = old.now; new = new.now; middles = middles_of middles.now }) after.now found.items) }
+    ensures few { OnOk result
+        (AreSmall before.now (record { degree = d; old = old.now; new = new.now; middles = middles_of middles.now }) after.now) }
+    ensures many { IsErrOf result MapFault.TooMany →
+        AreLarge before.now (record { degree = d; old = old.now; new = new.now; middles = middles_of middles.now }) after.now }
 {
     counts(alloc, before, old, after, d, MOST)?;
     let counts = counts(alloc, before, new, after, d, MOST)?;

@@ -24,7 +24,8 @@ pub fn shift_list(alloc: Global, context: &[Ty], at: usize, d: u8) -> Result<Vec
     ensures map { IfOk result (λ found. found.items ≡ opening (context_of context.now) at d) }
     ensures kept { IfOk result (λ found. (h t : Value) → KeepsParts found.items (context_of context.now) at d (Cons h t)) }
     ensures few { OnOk result (IsTooLarge (context_of context.now) (in_place at type_parts (context_of context.now)) d → ⊥) }
-    ensures many { IsErrOf result MapFault.TooMany → IsTooLarge (context_of context.now) (in_place at type_parts (context_of context.now)) d }
+    ensures many { IsErrOf result MapFault.TooMany →
+        IsTooLarge (context_of context.now) (in_place at type_parts (context_of context.now)) d }
 {
     opening(alloc, context, at, d)
 }
@@ -38,7 +39,8 @@ pub fn shift_tree(alloc: Global, context: &[Ty], at: usize, d: u8) -> Result<Vec
     ensures map { IfOk result (λ found. found.items ≡ opening (context_of context.now) at d) }
     ensures kept { IfOk result (λ found. (a l r : Value) → KeepsParts found.items (context_of context.now) at d (Node a l r)) }
     ensures few { OnOk result (IsTooLarge (context_of context.now) (in_place at type_parts (context_of context.now)) d → ⊥) }
-    ensures many { IsErrOf result MapFault.TooMany → IsTooLarge (context_of context.now) (in_place at type_parts (context_of context.now)) d }
+    ensures many { IsErrOf result MapFault.TooMany →
+        IsTooLarge (context_of context.now) (in_place at type_parts (context_of context.now)) d }
 {
     opening(alloc, context, at, d)
 }
@@ -52,7 +54,8 @@ pub fn shift_option(alloc: Global, context: &[Ty], at: usize, d: u8) -> Result<V
     ensures map { IfOk result (λ found. found.items ≡ opening (context_of context.now) at d) }
     ensures kept { IfOk result (λ found. (v : Value) → KeepsParts found.items (context_of context.now) at d (Just v)) }
     ensures few { OnOk result (IsTooLarge (context_of context.now) (in_place at type_parts (context_of context.now)) d → ⊥) }
-    ensures many { IsErrOf result MapFault.TooMany → IsTooLarge (context_of context.now) (in_place at type_parts (context_of context.now)) d }
+    ensures many { IsErrOf result MapFault.TooMany →
+        IsTooLarge (context_of context.now) (in_place at type_parts (context_of context.now)) d }
 {
     opening(alloc, context, at, d)
 }
@@ -81,7 +84,8 @@ pub fn split_pair(alloc: Global, context: &[Ty], at: usize, d: u8) -> Result<Vec
     ensures map { IfOk result (λ found. found.items ≡ opening (context_of context.now) at d) }
     ensures kept { IfOk result (λ found. (v w : Value) → KeepsParts found.items (context_of context.now) at d (Both v w)) }
     ensures few { OnOk result (IsTooLarge (context_of context.now) (in_place at type_parts (context_of context.now)) d → ⊥) }
-    ensures many { IsErrOf result MapFault.TooMany → IsTooLarge (context_of context.now) (in_place at type_parts (context_of context.now)) d }
+    ensures many { IsErrOf result MapFault.TooMany →
+        IsTooLarge (context_of context.now) (in_place at type_parts (context_of context.now)) d }
 {
     opening(alloc, context, at, d)
 }
@@ -125,7 +129,8 @@ fn opening(alloc: Global, context: &[Ty], at: usize, d: u8) -> Result<Vec<Entry>
     ensures map { IfOk result (λ found. found.items ≡ opening (context_of context.now) at d) }
     ensures kept { IfOk result (λ found. (v : Value) → value_parts v ≢ [] → KeepsParts found.items (context_of context.now) at d v) }
     ensures few { OnOk result (IsTooLarge (context_of context.now) (in_place at type_parts (context_of context.now)) d → ⊥) }
-    ensures many { IsErrOf result MapFault.TooMany → IsTooLarge (context_of context.now) (in_place at type_parts (context_of context.now)) d }
+    ensures many { IsErrOf result MapFault.TooMany →
+        IsTooLarge (context_of context.now) (in_place at type_parts (context_of context.now)) d }
 {
     let local = Local::opening(alloc, &context[at], d)?;
     map_at(alloc, context, at, &local, d)
@@ -156,7 +161,8 @@ fn map_at(
 ) -> Result<Vec<Entry>, MapFault>
     requires there { at < length context.now }
     ensures map { IfOk result (λ found. (c : Carry) (Fs Ts : List Type') → IsLocal c Fs Ts d local.now →
-        found.items ≡ entries (behind at c) (in_place at (λ _. Fs) (context_of context.now)) (in_place at (λ _. Ts) (context_of context.now)) d) }
+        found.items ≡ entries (behind at c) (in_place at (λ _. Fs) (context_of context.now))
+        (in_place at (λ _. Ts) (context_of context.now)) d) }
     ensures few { OnOk result ((c : Carry) (Fs Ts : List Type') → IsLocal c Fs Ts d local.now →
         IsTooLarge (in_place at (λ _. Fs) (context_of context.now)) (in_place at (λ _. Ts) (context_of context.now)) d → ⊥) }
     ensures many { IsErrOf result MapFault.TooMany → (c : Carry) (Fs Ts : List Type') → IsLocal c Fs Ts d local.now →

@@ -74,9 +74,12 @@ fn rows(
     d: u8,
     most: u16,
 ) -> Result<(Vec<SmallVec<u16, 8>>, SmallVec<u16, 8>), MapFault>
-    ensures table { IfOk result (λ found. map items_of found.0.items ≡ listed (λ g. sums (fits (λ r. slice_index_or numbers.now r 0) g) 0 degrees.now) 0 (1 + d)) }
-    ensures totals { IfOk result (λ found. found.1.items ≡ listed (λ g. total (fits (λ r. slice_index_or numbers.now r 0) g) degrees.now) 0 (1 + d)) }
-    ensures many { IsErrOf result MapFault.TooMany → (g : ℕ) × (g ≤ d) × (most < total (fits (λ r. slice_index_or numbers.now r 0) g) degrees.now) }
+    ensures table { IfOk result
+        (λ found. map items_of found.0.items ≡ listed (λ g. sums (fits (λ r. slice_index_or numbers.now r 0) g) 0 degrees.now) 0 (1 + d)) }
+    ensures totals { IfOk result
+        (λ found. found.1.items ≡ listed (λ g. total (fits (λ r. slice_index_or numbers.now r 0) g) degrees.now) 0 (1 + d)) }
+    ensures many { IsErrOf result MapFault.TooMany → (g : ℕ) × (g ≤ d)
+        × (most < total (fits (λ r. slice_index_or numbers.now r 0) g) degrees.now) }
 {
     let mut table = Vec::with_capacity(alloc, usize::from(d) + 1)?;
     let mut totals = SmallVec::new(alloc);
@@ -97,9 +100,11 @@ fn running(
     most: u16,
 ) -> Result<Vec<SmallVec<u16, 8>>, MapFault>
     ensures table { IfOk result (λ found. map items_of found.items
-        ≡ listed (λ h. sums (fits (λ r. slice_index_or numbers.now r 0) h) (lows (λ r. slice_index_or numbers.now r 0) degrees.now h) degrees.now) 0 (1 + d)) }
+        ≡ listed (λ h. sums (fits (λ r. slice_index_or numbers.now r 0) h)
+        (lows (λ r. slice_index_or numbers.now r 0) degrees.now h) degrees.now) 0 (1 + d)) }
     ensures few { OnOk result (lows (λ r. slice_index_or numbers.now r 0) degrees.now (1 + d) ≤ most) }
-    ensures many { IsErrOf result MapFault.TooMany → (h : ℕ) × (h ≤ d) × (most < lows (λ r. slice_index_or numbers.now r 0) degrees.now (1 + h)) }
+    ensures many { IsErrOf result MapFault.TooMany → (h : ℕ) × (h ≤ d)
+        × (most < lows (λ r. slice_index_or numbers.now r 0) degrees.now (1 + h)) }
 {
     let mut table = Vec::with_capacity(alloc, usize::from(d) + 1)?;
     let mut low = 0;

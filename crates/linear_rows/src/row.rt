@@ -1,8 +1,10 @@
 //! One inequality.
 
-ghost use Rattle.std.specs.Prelude.{◌≡◌, ◌+ℤ◌, [], ℕ, pos, IfOk, IfErr, OnOk, OnErr, FitsSigned, IsOk, IsTrue, ◌↔◌, ◌<◌, ◌≤◌, length, vec_len};
+ghost use Rattle.std.specs.Prelude.{◌≡◌, ◌+ℤ◌, [], ℕ, pos, IfOk, IfErr, OnOk, OnErr, FitsSigned, IsOk, IsTrue, ◌↔◌, ◌<◌, ◌≤◌, length};
+ghost use Rattle.std.specs.Prelude.{vec_len};
 ghost use Rattle.std.specs.Int.{w128};
-ghost use Rattle.linear_rows.specs.Terms.{SparseRow, Terms, coefficient, IsSparse, AddsAt, IsAt, IsGapFor, number_at, with_number, with_term};
+ghost use Rattle.linear_rows.specs.Terms.{SparseRow, Terms, coefficient, IsSparse, AddsAt, IsAt, IsGapFor, number_at, with_number};
+ghost use Rattle.linear_rows.specs.Terms.{with_term};
 
 use std::alloc::Global;
 use std::marker::Model;

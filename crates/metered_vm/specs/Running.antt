@@ -53,7 +53,8 @@ abbrev pub AllBelow : ℕ → List Word → Type 0
 AllBelow n [] = Unit {0}
 AllBelow n (w ∷ ws) = IsBelow n w × AllBelow n ws
 
--- Words name cells that are there, frames have the locals below those of the newest call, and there is room for each cell that may be taken.
+-- Words name cells that are there, frames have the locals below those of the newest call, and there is room for each
+-- cell that may be taken.
 pub record Sound (heap : Heap) (ws ls : List Word) (begin : ℕ) (gs : List Frame) (cells limit : ℕ) : Type 0 where
   pub earlier : NameEarlier heap.cells
   pub stack : AllBelow (length heap.cells) ws

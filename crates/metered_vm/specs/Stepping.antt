@@ -39,4 +39,5 @@ EndsAt code steps y e.HeapFull = (y.made < steps) × (y.cells ≡ y.limit) × Ta
 
 -- how far a machine has come
 abbrev pub Goes : ℕ → Machine → Machine → Type 0
-Goes steps x y = (x.made ≤ y.made) × (y.made ≤ steps) × (y.ticks ≤ y.made * 2 ^ 32) × (y.limit ≡ x.limit) × IsFront x.heap.cells y.heap.cells
+Goes steps x y =
+    (x.made ≤ y.made) × (y.made ≤ steps) × (y.ticks ≤ y.made * 2 ^ 32) × (y.limit ≡ x.limit) × IsFront x.heap.cells y.heap.cells

@@ -50,4 +50,5 @@ form_below env locals want e = one.one (program_in env) want (locals ++ scope_in
 -- the form of the other branch of a match, below the names of its pattern: it is of the type of the first branch
 abbrev pub other_below : Env → one.Scope → Option Type' → t.Term → t.Term → n.Norm
 other_below env locals want first e =
-    one.one (program_in env) (Some (one.type_of (program_in env) want (scope_in env.scope.now) first)) (locals ++ scope_in env.scope.now) e (env.free + length locals)
+    one.one (program_in env) (Some (one.type_of (program_in env) want (scope_in env.scope.now) first))
+    (locals ++ scope_in env.scope.now) e (env.free + length locals)

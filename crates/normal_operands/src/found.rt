@@ -109,7 +109,8 @@ fn found_let_pair<'s, 'a>(
     bound: &'a Expr,
     rest: &'a Expr,
 ) -> Result<Ty, AllocError>
-    ensures { IfOk result (λ ty. ty_of ty ≡ found_in env.entry (t.LetPair 0 (bound_of x.now) (bound_of y.now) (term_of bound.now) (term_of rest.now))) }
+    ensures { IfOk result (λ ty. ty_of ty
+        ≡ found_in env.entry (t.LetPair 0 (bound_of x.now) (bound_of y.now) (term_of bound.now) (term_of rest.now))) }
 {
     let ty = found(env, maker, bound)?;
     let first = Local {
@@ -133,7 +134,8 @@ fn found_below<'s, 'a>(
     local: Local<'s, 'a>,
     e: &'a Expr,
 ) -> Result<Ty, AllocError>
-    ensures { IfOk result (λ ty. ty_of ty ≡ one.found (program_in env.entry) (one.types_in (named local.entry ∷ scope_in env.entry.scope.now)) (term_of e.now)) }
+    ensures { IfOk result (λ ty. ty_of ty
+        ≡ one.found (program_in env.entry) (one.types_in (named local.entry ∷ scope_in env.entry.scope.now)) (term_of e.now)) }
 {
     let scope = Scope::Bound {
         local,
@@ -155,7 +157,9 @@ fn found_below_two<'s, 'a>(
     second: Local<'s, 'a>,
     e: &'a Expr,
 ) -> Result<Ty, AllocError>
-    ensures { IfOk result (λ ty. ty_of ty ≡ one.found (program_in env.entry) (one.types_in (named second.entry ∷ (named first.entry ∷ scope_in env.entry.scope.now))) (term_of e.now)) }
+    ensures { IfOk result (λ ty. ty_of ty
+        ≡ one.found (program_in env.entry)
+        (one.types_in (named second.entry ∷ (named first.entry ∷ scope_in env.entry.scope.now))) (term_of e.now)) }
 {
     let scope = Scope::Bound {
         local: first,

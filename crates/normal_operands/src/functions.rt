@@ -30,7 +30,8 @@ pub fn function_named<'a>(names: &FunctionNames<'a>, name: &str) -> Option<&'a F
 /// The place of the function of this name. A typed program calls no other; for one that is not there it is
 /// the place behind all functions.
 pub fn place_named(names: &FunctionNames, name: &str) -> Result<FunId, AllocError>
-    ensures { IfOk result (λ fun. fun.0 ≡ one.place_or (length (program_of names.now.program.now)) (place_of name.now (program_of names.now.program.now))) }
+    ensures { IfOk result (λ fun. fun.0
+        ≡ one.place_or (length (program_of names.now.program.now)) (place_of name.now (program_of names.now.program.now))) }
 {
     match names.find(name) {
         Some(fun) => Ok(fun),

@@ -63,7 +63,8 @@ fn type_of<'s, 'a>(
     want: Option<TyRef>,
     e: &'a Expr,
 ) -> Result<Ty, AllocError>
-    ensures { IfOk result (λ ty. ty_of ty ≡ one.type_of (program_in env.entry) (wanted want.entry) (scope_in env.entry.scope.now) (term_of e.now)) }
+    ensures { IfOk result (λ ty. ty_of ty
+        ≡ one.type_of (program_in env.entry) (wanted want.entry) (scope_in env.entry.scope.now) (term_of e.now)) }
 {
     match want {
         Some(ty) => maker.owned(ty),

@@ -170,7 +170,8 @@ pub fn close_three(
     third: Operand,
     form: NormForm,
 ) -> Result<Box<NormExpr>, AllocError>
-    ensures { IfOk result (λ made. norm_in made ≡ one.with_three (λ x y z. form_of form 0) (operand_of first) (operand_of second) (operand_of third)) }
+    ensures { IfOk result (λ made. norm_in made ≡ one.with_three
+        (λ x y z. form_of form 0) (operand_of first) (operand_of second) (operand_of third)) }
 {
     let last = maker.form(0, form)?;
     let nodes = plus(1, plus(first.bare(), plus(second.bare(), third.bare())?)?)?;

@@ -67,7 +67,15 @@ spin = record { at = 0; name = 115 ∷ []; params = par x Integer ∷ []; result
 
 -- fun f (x : int) : int = s(x) + x
 abbrev waits : Function
-waits = record { at = 0; name = f; params = par x Integer ∷ []; result = Integer; body = t.Arith 0 Add (t.Call 0 (115 ∷ []) (t.More (var x) t.None)) (var x) }
+waits =
+    record {
+      at = 0;
+      name = f;
+      params = par x Integer ∷ [];
+      result = Integer;
+      body = t.Arith 0 Add
+          (t.Call 0 (115 ∷ []) (t.More (var x) t.None)) (var x);
+    }
 
 -- fun f (x : int list) : int option = match x with nil -> none | h :: t -> some(h)
 abbrev first : Function
@@ -105,12 +113,16 @@ one = Number (pos 1)
 
 pub record Examples : Type 0 where
   -- 7 of work an element, 3 at the end, and 1 of the run
-  pub work : run_norm (norm (append ∷ [])) (norm_fun (append ∷ []) append) (Cons one Empty ∷ Empty ∷ []) 3 ≡ record { out = Some (Cons one Empty); ticks = 0; cells = 1; work = 11 }
-  pub source_work : run_of (append ∷ []) append (Cons one Empty ∷ Empty ∷ []) 3 ≡ record { out = Some (Cons one Empty); ticks = 0; cells = 1; work = 11 }
+  pub work : run_norm (norm (append ∷ [])) (norm_fun (append ∷ []) append) (Cons one Empty ∷ Empty ∷ []) 3
+      ≡ record { out = Some (Cons one Empty); ticks = 0; cells = 1; work = 11 }
+  pub source_work : run_of (append ∷ []) append (Cons one Empty ∷ Empty ∷ []) 3
+      ≡ record { out = Some (Cons one Empty); ticks = 0; cells = 1; work = 11 }
   -- where a run is cut before a variable operand, the normal form has paid for it
-  pub cut_work : run_norm (norm (waits ∷ (spin ∷ []))) (norm_fun (waits ∷ (spin ∷ [])) waits) (one ∷ []) 2 ≡ record { out = None; ticks = 0; cells = 0; work = 9 }
+  pub cut_work : run_norm (norm (waits ∷ (spin ∷ []))) (norm_fun (waits ∷ (spin ∷ [])) waits) (one ∷ []) 2
+      ≡ record { out = None; ticks = 0; cells = 0; work = 9 }
   pub source_cut_work : run_of (waits ∷ (spin ∷ [])) waits (one ∷ []) 2 ≡ record { out = None; ticks = 0; cells = 0; work = 8 }
-  pub drop_and_share : norm (twice ∷ []) ≡ record { params = (1, Integer) ∷ (2, Integer) ∷ []; result = Integer; body = n.Drop 0 2 (n.Share 0 1 3 4 (n.Arith 4 Add 3 4)) } ∷ []
+  pub drop_and_share : norm (twice ∷ [])
+      ≡ record { params = (1, Integer) ∷ (2, Integer) ∷ []; result = Integer; body = n.Drop 0 2 (n.Share 0 1 3 4 (n.Arith 4 Add 3 4)) } ∷ []
   pub append : norm (append ∷ []) ≡ record {
     params = (1, ints) ∷ (2, ints) ∷ [];
     result = ints;
@@ -119,7 +131,8 @@ pub record Examples : Type 0 where
   pub again : norm (again ∷ []) ≡ record {
     params = (1, ints) ∷ (2, ints) ∷ [];
     result = ints;
-    body = n.Drop 0 2 (n.Share 0 1 3 4 (n.CaseList 3 3 (n.Var 1 4) 5 6 (n.Drop 0 5 (n.Drop 0 6 (n.Share 0 4 7 8 (n.Call 3 0 (7 ∷ 8 ∷ [])))))));
+    body =
+        n.Drop 0 2 (n.Share 0 1 3 4 (n.CaseList 3 3 (n.Var 1 4) 5 6 (n.Drop 0 5 (n.Drop 0 6 (n.Share 0 4 7 8 (n.Call 3 0 (7 ∷ 8 ∷ [])))))));
   } ∷ []
   pub first : norm (first ∷ []) ≡ record {
     params = (1, ints) ∷ [];
@@ -136,5 +149,6 @@ pub record Examples : Type 0 where
     params = (1, PairOf Integer Integer) ∷ [];
     result = Integer;
     body = n.Split 3 1 2 3 (n.Tick 1 3 (n.Share 0 2 4 5 (n.Share 0 3 6 7
-        (n.Let 1 8 Integer (n.Arith 3 Add 4 6) (n.Let 0 9 Integer (n.Let 1 10 (PairOf Integer Integer) (n.Pair 3 7 5) (n.Call 0 0 (10 ∷ []))) (n.Arith 0 Add 8 9))))));
+        (n.Let 1 8 Integer (n.Arith 3 Add 4 6)
+        (n.Let 0 9 Integer (n.Let 1 10 (PairOf Integer Integer) (n.Pair 3 7 5) (n.Call 0 0 (10 ∷ []))) (n.Arith 0 Add 8 9))))));
   } ∷ []

@@ -38,7 +38,9 @@ pub record IsNormalForm (P : Prog) (k : ℕ) (g : Function) (h : NormFun) : Type
   pub result : h.result ≡ g.result
 
 abbrev pub NormalFormsKeep : Type 0
-NormalFormsKeep = (P : Prog) → Typed P → All (λ (g : Function). AllNodes NumberFits g.body) P → (k : ℕ) (g : Function) → slice_get P k ≡ Some g → IsNormalForm P k g (norm_fun P g)
+NormalFormsKeep =
+    (P : Prog) → Typed P → All (λ (g : Function). AllNodes NumberFits g.body) P → (k : ℕ) (g : Function) →
+    slice_get P k ≡ Some g → IsNormalForm P k g (norm_fun P g)
 
 -- Where a function runs in normal form on arguments of its types, a value has its result type.
 abbrev pub NormalRunsKeepTypes : Type 0

@@ -205,14 +205,17 @@ module _ (P : Prog) where
     one want S (t.Nothing p) k = n.Nothing 1
     one want S (t.Var p x) k = n.Var 1 (number_of x S)
     one want S (t.Arith p op a b) k =
-        norm_two (n.Arith 0 op) (operand (plain a) S Integer (one (Some Integer) S a)) (operand (plain b) S Integer (one (Some Integer) S b)) k
+        norm_two (n.Arith 0 op) (operand (plain a) S Integer (one (Some Integer) S a))
+        (operand (plain b) S Integer (one (Some Integer) S b)) k
     one want S (t.Compare p op a b) k =
-        norm_two (n.Compare 0 op) (operand (plain a) S Integer (one (Some Integer) S a)) (operand (plain b) S Integer (one (Some Integer) S b)) k
+        norm_two (n.Compare 0 op) (operand (plain a) S Integer (one (Some Integer) S a))
+        (operand (plain b) S Integer (one (Some Integer) S b)) k
     one want S (t.Not p a) k = norm_one (λ j. n.Not 0) (operand (plain a) S Boolean (one (Some Boolean) S a)) k
     one want S (t.Pair p a b) k =
         let first = part_of first_part want in
         let second = part_of second_part want in
-        norm_two (n.Pair 0) (operand (plain a) S (type_of first S a) (one first S a)) (operand (plain b) S (type_of second S b) (one second S b)) k
+        norm_two (n.Pair 0) (operand (plain a) S (type_of first S a) (one first S a))
+        (operand (plain b) S (type_of second S b) (one second S b)) k
     one want S (t.Cons p a b) k =
         let head = part_of element want in
         let A = type_of head S a in
@@ -220,7 +223,8 @@ module _ (P : Prog) where
     one want S (t.Node p a b c) k =
         let head = part_of element want in
         let A = type_of head S a in
-        norm_three (n.Node 0) (operand (plain a) S A (one head S a)) (operand (plain b) S (TreeOf A) (one (Some (TreeOf A)) S b)) (operand (plain c) S (TreeOf A) (one (Some (TreeOf A)) S c)) k
+        norm_three (n.Node 0) (operand (plain a) S A (one head S a))
+        (operand (plain b) S (TreeOf A) (one (Some (TreeOf A)) S b)) (operand (plain c) S (TreeOf A) (one (Some (TreeOf A)) S c)) k
     one want S (t.Just p a) k =
         let content = part_of element want in
         norm_one (λ j. n.Just 0) (operand (plain a) S (type_of content S a) (one content S a)) k
@@ -230,18 +234,24 @@ module _ (P : Prog) where
         n.Let 1 k A (one None S a k) (one want (bound x.name k A S) b (k + 1))
     one want S (t.LetPair p x y a b) k =
         let T = found (types_in S) a in
-        norm_one (split_form (λ j. one want (bound_two x.name y.name (first_part T) (second_part T) S j) b (j + 2))) (operand (plain a) S T (one None S a)) k
+        norm_one (split_form (λ j. one want (bound_two x.name y.name (first_part T) (second_part T) S j) b
+        (j + 2))) (operand (plain a) S T (one None S a)) k
     one want S (t.If p c a b) k =
         norm_one (if_form (one want S a) (one (Some (type_of want S a)) S b)) (operand (plain c) S Boolean (one (Some Boolean) S c)) k
     one want S (t.MatchList p c a x y b) k =
         let T = found (types_in S) c in
-        norm_one (list_form (one want S a) (λ j. one (Some (type_of want S a)) (bound_two x.name y.name (element T) T S j) b (j + 2))) (operand (plain c) S T (one None S c)) k
+        norm_one (list_form (one want S a)
+        (λ j. one (Some (type_of want S a)) (bound_two x.name y.name (element T) T S j) b
+        (j + 2))) (operand (plain c) S T (one None S c)) k
     one want S (t.MatchTree p c a x y z b) k =
         let T = found (types_in S) c in
-        norm_one (tree_form (one want S a) (λ j. one (Some (type_of want S a)) (bound_three x.name y.name z.name (element T) T T S j) b (j + 3))) (operand (plain c) S T (one None S c)) k
+        norm_one (tree_form (one want S a)
+        (λ j. one (Some (type_of want S a)) (bound_three x.name y.name z.name (element T) T T S j) b
+        (j + 3))) (operand (plain c) S T (one None S c)) k
     one want S (t.MatchOption p c a x b) k =
         let T = found (types_in S) c in
-        norm_one (option_form (one want S a) (λ j. one (Some (type_of want S a)) (bound x.name j (element T) S) b (j + 1))) (operand (plain c) S T (one None S c)) k
+        norm_one (option_form (one want S a)
+        (λ j. one (Some (type_of want S a)) (bound x.name j (element T) S) b (j + 1))) (operand (plain c) S T (one None S c)) k
     one want S (t.Tick p i a) k = n.Tick 1 i (one want S a k)
     one want S (t.Typed p a A) k = one (Some A) S a k
 

@@ -2,7 +2,8 @@
 use Rattle.std.specs.Prelude.{ℕ, zero, suc, pos, nat_eq, List, [], ◌∷◌, map, cond, ◌+◌, ◌-◌, Option, Some, None, slice_get}
 use Rattle.raml_syntax.specs.Tree.{Type'}
 use Rattle.raml_syntax.specs.Value.{Value, Number, Truth, Both, Empty, Cons, Node, Just}
-use Rattle.raml_syntax.specs.Eval.{Run, done, cut, costs, and_then, new_cell, arith, compare, branch, negation, pair_case, list_case, tree_case, option_case}
+use Rattle.raml_syntax.specs.Eval.{Run, done, cut, costs, and_then, new_cell, arith, compare, branch, negation, pair_case, list_case}
+use Rattle.raml_syntax.specs.Eval.{tree_case, option_case}
 use Rattle.normal_spec.specs.Norm as n
 use Rattle.normal_spec.specs.Norm.{NormFun, NormProg}
 
@@ -55,7 +56,8 @@ walk_norm call (n.CaseList k x a h t b) env =
     spend k (list_case (value_at x env) (walk_norm call a env) (λ v w. walk_norm call b ((t, w) ∷ (h, v) ∷ env)))
 walk_norm call (n.CaseTree k x a h l r b) env =
     spend k (tree_case (value_at x env) (walk_norm call a env) (λ u v w. walk_norm call b ((r, w) ∷ (l, v) ∷ (h, u) ∷ env)))
-walk_norm call (n.CaseOption k x a w b) env = spend k (option_case (value_at x env) (walk_norm call a env) (λ v. walk_norm call b ((w, v) ∷ env)))
+walk_norm call (n.CaseOption k x a w b) env =
+    spend k (option_case (value_at x env) (walk_norm call a env) (λ v. walk_norm call b ((w, v) ∷ env)))
 walk_norm call (n.Tick k i a) env = spend k (costs i 0 0 (walk_norm call a env))
 walk_norm call (n.Share k x p q a) env = spend k (walk_norm call a ((q, value_at x env) ∷ (p, value_at x env) ∷ env))
 walk_norm call (n.Drop k x a) env = spend k (walk_norm call a env)

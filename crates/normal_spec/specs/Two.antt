@@ -1,5 +1,6 @@
 -- Step two: each variable is used once. Every variable that is bound gets a new number.
-use Rattle.std.specs.Prelude.{ℕ, nat_eq, ◌+◌, List, [], ◌∷◌, ◌++◌, map, length, Bool, true, false, cond, not, ◌||◌, ◌&&◌, Option, Some, None}
+use Rattle.std.specs.Prelude.{ℕ, nat_eq, ◌+◌, List, [], ◌∷◌, ◌++◌, map, length, Bool, true, false, cond, not, ◌||◌, ◌&&◌, Option, Some}
+use Rattle.std.specs.Prelude.{None}
 use Rattle.raml_syntax.specs.Tree.{Type', Function, Prog}
 use Rattle.normal_spec.specs.Norm as n
 use Rattle.normal_spec.specs.Norm.{NormFun, NormProg}
@@ -81,8 +82,15 @@ abbrev pub to_second : ℕ × ℕ → Parted × ℕ → Parted × ℕ
 to_second s r = (record { first = r.0.first; second = s ∷ r.0.second; shares = r.0.shares }, r.1)
 
 abbrev pub to_both : ℕ × ℕ → ℕ → Parted × ℕ → Parted × ℕ
-to_both s k r =
-    (record { first = slot s.0 k ∷ r.0.first; second = slot s.0 (k + 1) ∷ r.0.second; shares = record { variable = s.1; first = k; second = k + 1 } ∷ r.0.shares }, r.1)
+to_both s k r = (
+  record {
+    first = slot s.0 k ∷ r.0.first;
+    second = slot s.0
+        (k + 1) ∷ r.0.second;
+    shares = record { variable = s.1; first = k; second = k + 1 } ∷ r.0.shares;
+  },
+  r.1,
+)
 
 abbrev pub part : n.Norm → n.Norm → Slots → Made Parted
 part a b [] k = (record { first = []; second = []; shares = [] }, k)

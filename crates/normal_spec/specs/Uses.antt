@@ -86,7 +86,8 @@ module _ (N : NormProg) where
   Uses C (n.CaseList k x a h t b) T =
       (A : Type') × IsIn x (ListOf A) C × AreNew (h ∷ t ∷ []) C × Uses (without x C) a T × Uses (opened x (h ∷ t ∷ []) parts_of C) b T
   Uses C (n.CaseTree k x a h l r b) T =
-      (A : Type') × IsIn x (TreeOf A) C × AreNew (h ∷ l ∷ r ∷ []) C × Uses (without x C) a T × Uses (opened x (h ∷ l ∷ r ∷ []) parts_of C) b T
+      (A : Type') × IsIn x (TreeOf A) C × AreNew (h ∷ l ∷ r ∷ []) C × Uses (without x C) a T
+      × Uses (opened x (h ∷ l ∷ r ∷ []) parts_of C) b T
   Uses C (n.CaseOption k x a w b) T =
       (A : Type') × IsIn x (OptionOf A) C × AreNew (w ∷ []) C × Uses (without x C) a T × Uses (opened x (w ∷ []) parts_of C) b T
   Uses C (n.Tick k i a) T = Uses C a T

@@ -9,7 +9,8 @@ use Rattle.parse_table.specs.declared.token.Piece.{Piece}
 use Rattle.parse_table.specs.Tokens.{Token}
 use Rattle.parse_table.specs.declared.token.Sign.{Sign}
 use Rattle.parse_table.specs.declared.token.Sign.TheVariants as g
-use Rattle.parse_table.specs.Table.{Part, At, Phrase, Exprs, expr_level, key, grammar, let_act, let_pair_act, if_act, node_act, some_act, match_list_act, match_option_act, match_tree_act}
+use Rattle.parse_table.specs.Table.{Part, At, Phrase, Exprs, expr_level, key, grammar, let_act, let_pair_act, if_act, node_act, some_act}
+use Rattle.parse_table.specs.Table.{match_list_act, match_option_act, match_tree_act}
 use Rattle.parse_table.specs.Fronts.{Front, name_then, pair_front, list_front, option_front, tree_front}
 use Rattle.parse_table.specs.Read.{term_in, rest}
 
@@ -54,7 +55,8 @@ abbrev pub let_of : ℕ → ℕ → List Token → Answer Token Part
 let_of d p s = pick (taken (key g.Open) s) (λ ws. if nat_le 1 d then let_pair_of d p (rest_of s) else Err (TooDeep, s)) (let_one_of d p s)
 
 abbrev pub if_of : ℕ → ℕ → List Token → Answer Token Part
-if_of d p s = part_before d g.Then s >>= (λ y. two_parts d g.Else y.2 >>= (λ z. Ok (if_act (z.0 ++ (y.0 ∷ At p ∷ [])), suc (max y.1 z.1), z.2)))
+if_of d p s =
+    part_before d g.Then s >>= (λ y. two_parts d g.Else y.2 >>= (λ z. Ok (if_act (z.0 ++ (y.0 ∷ At p ∷ [])), suc (max y.1 z.1), z.2)))
 
 -- An arrow and the first case, and then the other case of the subject e: its pattern, and its body.
 abbrev pub cases_of : Front → (List Part → Part) → ℕ → Part → ℕ → List Token → Answer Token Part

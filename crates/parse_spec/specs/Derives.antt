@@ -32,7 +32,8 @@ mutual
         → s ≡ a ++ t ∷ b
         → Is g x c (suc n) s f (suc (max h i))
 
-  -- IsRest g x r vs s e h: after the values vs the tokens s are the rest r of a form with value e; h is the greatest height of the phrases in s, or 0
+  -- IsRest g x r vs s e h: after the values vs the tokens s are the rest r of a form with value e; h is the greatest
+  -- height of the phrases in s, or 0
   pub data IsRest {T V C : Type 0} (g : Grammar T V C) (x : ℕ) : Rule T V C → List V → List T → V → ℕ → Type 0 where
     done : {act : List V → V} {vs : List V} {s : List T} {e : V} → s ≡ [] → e ≡ act vs → IsRest g x (Done act) vs s e 0
     take :
@@ -63,7 +64,8 @@ mutual
         → IsRest g x (Many k f item r) vs s e h
 
   -- an item and then more, behind c others, where a list has at most k more than one
-  pub data IsMany {T V C : Type 0} (g : Grammar T V C) (x : ℕ) : ℕ → ℕ → (T → Option (List V)) → Rule T V C → Rule T V C → List V → List T → V → ℕ → Type 0 where
+  pub data IsMany {T V C : Type 0} (g : Grammar T V C) (x : ℕ) : ℕ → ℕ → (T → Option (List V)) →
+      Rule T V C → Rule T V C → List V → List T → V → ℕ → Type 0 where
     last :
         {k c : ℕ} {f : T → Option (List V)} {item r : Rule T V C} {vs : List V} {s a b : List T} {e v : V} {h i : ℕ}
         → IsRest g x item [] a v h

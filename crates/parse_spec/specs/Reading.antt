@@ -1,5 +1,7 @@
--- What a reader with one token in view answers: a value, its height and the tokens behind it, or the kind of a fault and the tokens from it on.
-use Rattle.std.specs.Prelude.{ℕ, zero, suc, max, ◌+◌, List, [], ◌∷◌, ◌++◌, Option, Some, None, Bool, true, false, Result, Ok, Err, nat_le, nat_eq, if◌then◌else◌}
+-- What a reader with one token in view answers: a value, its height and the tokens behind it, or the kind of a fault
+-- and the tokens from it on.
+use Rattle.std.specs.Prelude.{ℕ, zero, suc, max, ◌+◌, List, [], ◌∷◌, ◌++◌, Option, Some, None, Bool, true, false, Result, Ok, Err, nat_le}
+use Rattle.std.specs.Prelude.{nat_eq, if◌then◌else◌}
 use Rattle.parse_spec.specs.Rules.{Rule, Done, Take, Sub, Either, Many, Grammar, opening}
 use Rattle.parse_spec.specs.Derives.{Kind, Syntax, TooDeep, TooMany}
 
@@ -47,10 +49,13 @@ parts (Sub c n r) = 1
 parts (Either f r q) = parts q
 parts (Many k f item r) = 1
 
--- The items behind those that gave the values vs and are of height h, at most k of them. Shut, so that a contract that names it stays short.
-unfoldable pub items_of : {T V : Type 0} → (List T → Answer T V) → (T → Option (List V)) → ℕ → List V → ℕ → List T → Result (List V × ℕ × List T) (Fault T)
+-- The items behind those that gave the values vs and are of height h, at most k of them. Shut, so that a contract that
+-- names it stays short.
+unfoldable pub items_of : {T V : Type 0} → (List T → Answer T V) → (T → Option (List V)) → ℕ →
+    List V → ℕ → List T → Result (List V × ℕ × List T) (Fault T)
 items_of item f zero vs h s = pick (taken f s) (λ ws. Err (TooMany, s)) (Ok (vs, h, s))
-items_of item f (suc k) vs h s = pick (taken f s) (λ ws. item (rest_of s) >>= (λ x. items_of item f k (x.0 ∷ ws ++ vs) (max h x.1) x.2)) (Ok (vs, h, s))
+items_of item f (suc k) vs h s =
+    pick (taken f s) (λ ws. item (rest_of s) >>= (λ x. items_of item f k (x.0 ∷ ws ++ vs) (max h x.1) x.2)) (Ok (vs, h, s))
 
 -- an item, and at most k more
 abbrev pub list_of : {T V : Type 0} → (List T → Answer T V) → (T → Option (List V)) → ℕ → List T → Result (List V × ℕ × List T) (Fault T)
@@ -89,7 +94,8 @@ module _ {T V C : Type 0} (g : Grammar T V C) (sub : C → ℕ → List T → An
   rule_of (Sub c n r) vs s = do
     y ← sub c n s
     higher y.1 (rule_of r (y.0 ∷ vs) y.2)
-  rule_of (Either f r q) vs s = pick (taken f s) (λ ws. if nat_le (parts r) d then rule_of r (ws ++ vs) (rest_of s) else Err (TooDeep, s)) (rule_of q vs s)
+  rule_of (Either f r q) vs s =
+      pick (taken f s) (λ ws. if nat_le (parts r) d then rule_of r (ws ++ vs) (rest_of s) else Err (TooDeep, s)) (rule_of q vs s)
   rule_of (Many k f item r) vs s = do
     y ← list_of (rule_of item []) f (k + x) s
     higher y.1 (rule_of r (y.0 ++ vs) y.2)
@@ -97,7 +103,8 @@ module _ {T V C : Type 0} (g : Grammar T V C) (sub : C → ℕ → List T → An
   -- the form that begins here, where it is of level n
   abbrev pub form_of : ℕ → Option (ℕ × Rule T V C) → List T → Answer T V → Answer T V
   form_of n None s other = other
-  form_of n (Some y) s other = if nat_eq y.0 n then (if nat_le (parts y.1) d then formed (rule_of y.1 (opening g s) (rest_of s)) else Err (TooDeep, s)) else other
+  form_of n (Some y) s other =
+      if nat_eq y.0 n then (if nat_le (parts y.1) d then formed (rule_of y.1 (opening g s) (rest_of s)) else Err (TooDeep, s)) else other
 
   abbrev pub start_of : C → ℕ → List T → Answer T V → Answer T V
   start_of c n [] other = other
@@ -106,7 +113,8 @@ module _ {T V C : Type 0} (g : Grammar T V C) (sub : C → ℕ → List T → An
   -- the form that goes on here behind e, of which the first token has the value w
   abbrev pub more_of : List V → (V → ℕ → List T → Answer T V) → Option (Rule T V C) → V → ℕ → List T → Answer T V
   more_of w go None e h s = Ok (e, h, s)
-  more_of w go (Some r) e h s = if nat_le h d then (rule_of r (e ∷ w) (rest_of s) >>= (λ y. go y.0 (suc (max h y.1)) y.2)) else Err (TooDeep, s)
+  more_of w go (Some r) e h s =
+      if nat_le h d then (rule_of r (e ∷ w) (rest_of s) >>= (λ y. go y.0 (suc (max h y.1)) y.2)) else Err (TooDeep, s)
 
   -- k more of them at most
   abbrev pub chain_of : C → ℕ → List V → ℕ → V → ℕ → List T → Answer T V

@@ -1,7 +1,9 @@
 -- The rules of the forms that the code tells apart.
 use Rattle.std.specs.Prelude.{ℕ, List}
 use Rattle.parse_spec.specs.Rules.{Done, Sub}
-use Rattle.parse_table.specs.Table.{Part, Rules, Exprs, int_act, bool_act, inner_type_rule, list_act, tree_act, option_act, number_act, truth_act, nil_act, leaf_act, none_act, name_rule, node_rule, some_rule, not_rule, parens_rule, let_rule, if_rule, match_rule, tick_rule, arith_act, compare_act, cons_act}
+use Rattle.parse_table.specs.Table.{Part, Rules, Exprs, int_act, bool_act, inner_type_rule, list_act, tree_act, option_act, number_act}
+use Rattle.parse_table.specs.Table.{truth_act, nil_act, leaf_act, none_act, name_rule, node_rule, some_rule, not_rule, parens_rule}
+use Rattle.parse_table.specs.Table.{let_rule, if_rule, match_rule, tick_rule, arith_act, compare_act, cons_act}
 use Rattle.raml_syntax.specs.declared.tree.ArithOp.{ArithOp}
 use Rattle.raml_syntax.specs.declared.tree.ArithOp.TheVariants as op
 use Rattle.parse_table.specs.declared.form.TypeStart.{TypeStart}

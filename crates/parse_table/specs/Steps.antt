@@ -2,7 +2,8 @@
 use Rattle.std.specs.Prelude.{ℕ, suc, max, List, [], ◌∷◌, Result, Ok, Err, nat_le, if◌then◌else◌}
 use Rattle.parse_spec.specs.Rules.{opening}
 use Rattle.parse_spec.specs.declared.Kind.TheVariants.{Syntax, TooDeep}
-use Rattle.parse_spec.specs.Reading.{Fault, Answer, ◌>>=◌, rest_of, pick, formed, parts, starts_at, goes_at, more_of, again_of, chain_of, rule_of, level_of, read, whole_of}
+use Rattle.parse_spec.specs.Reading.{Fault, Answer, ◌>>=◌, rest_of, pick, formed, parts, starts_at, goes_at, more_of, again_of, chain_of}
+use Rattle.parse_spec.specs.Reading.{rule_of, level_of, read, whole_of}
 use Rattle.parse_table.specs.Tokens.{Token}
 use Rattle.parse_table.specs.Table.{Part, At, Class, Types, Exprs, Rules, text_rule, grammar}
 use Rattle.parse_table.specs.Forms.{infix_level, infix_rule}
@@ -23,7 +24,8 @@ goes_on c d n w e h s = chain_of grammar (read grammar 0 d) 0 d c n w (suc d) e 
 
 -- the same by its first step
 abbrev pub more_on : Class → ℕ → ℕ → List Part → Part → ℕ → List Token → Answer Token Part
-more_on c d n w e h s = more_of grammar (read grammar 0 d) 0 d w (again_of (grammar.chains c n) (goes_on c d n w)) (goes_at grammar c n s) e h s
+more_on c d n w e h s =
+    more_of grammar (read grammar 0 d) 0 d w (again_of (grammar.chains c n) (goes_on c d n w)) (goes_at grammar c n s) e h s
 
 -- what stands behind an operator with the left operand e of height h
 abbrev pub behind_of : ℕ → Infix → List Part → Part → ℕ → List Token → Answer Token Part

@@ -30,7 +30,8 @@ pub data Class : Type 0 where
 abbrev pub type_level : ℕ
 type_level = 2
 
--- Levels of expressions: 0 what needs no parentheses, 1 products, 2 sums, 3 `::`, 4 comparisons, and all that begins with `let`, `if`, `match` or `tick`.
+-- Levels of expressions: 0 what needs no parentheses, 1 products, 2 sums, 3 `::`, 4 comparisons, and all that begins
+-- with `let`, `if`, `match` or `tick`.
 abbrev pub expr_level : ℕ
 expr_level = 4
 
@@ -205,7 +206,8 @@ match_list_act (Phrase b ∷ Named r y ∷ Named q x ∷ Phrase a ∷ Phrase e �
 match_list_act _ = Nothing
 
 abbrev pub match_tree_act : List Part → Part
-match_tree_act (Phrase b ∷ Named u z ∷ Named r y ∷ Named q x ∷ Phrase a ∷ Phrase e ∷ At p ∷ ps) = Phrase (t.MatchTree p e a (bound q x) (bound r y) (bound u z) b)
+match_tree_act (Phrase b ∷ Named u z ∷ Named r y ∷ Named q x ∷ Phrase a ∷ Phrase e ∷ At p ∷ ps) =
+    Phrase (t.MatchTree p e a (bound q x) (bound r y) (bound u z) b)
 match_tree_act _ = Nothing
 
 abbrev pub match_option_act : List Part → Part
@@ -391,7 +393,8 @@ function_act _ = Nothing
 
 -- the functions before these, each behind its `fun`, the last one first
 abbrev pub program_of_parts : Prog → List Part → Part
-program_of_parts P (Headed f params A e ∷ At p ∷ ps) = program_of_parts (record { at = p; name = f; params = params; result = A; body = e } ∷ P) ps
+program_of_parts P (Headed f params A e ∷ At p ∷ ps) =
+    program_of_parts (record { at = p; name = f; params = params; result = A; body = e } ∷ P) ps
 program_of_parts P [] = Whole P
 program_of_parts P _ = Nothing
 

@@ -4,7 +4,8 @@ ghost use Rattle.std.specs.Option.{option_map};
 ghost use Rattle.parse_spec.specs.Reading.{starts_at, goes_at};
 ghost use Rattle.parse_table.specs.Tokens.{Key};
 ghost use Rattle.parse_table.specs.Table.{Types, Exprs, starts, goes, second_rule, grammar};
-ghost use Rattle.parse_table.specs.Forms.{type_form, type_rule, suffix_rule, start_form, start_rule, infix_form, infix_rule, infix_level, right_level};
+ghost use Rattle.parse_table.specs.Forms.{type_form, type_rule, suffix_rule, start_form, start_rule, infix_form, infix_rule, infix_level};
+ghost use Rattle.parse_table.specs.Forms.{right_level};
 ghost use Rattle.parse_table.specs.Read.{Finds, pieces, rest, token_of};
 
 use crate::token::{Piece, Sign, Word};
@@ -103,7 +104,8 @@ impl<'a> Start<'a> {
     /// The form of this level that begins here, and the tokens behind its first token.
     #[tactic(auto, unfolding(crate::specs::Table::grammar))]
     pub fn at(tokens: &'a [Piece<'a>], level: u32) -> Option<(Start<'a>, &'a [Piece<'a>])>
-        ensures { Finds (λ x. start_rule x.0) (λ x. rest x.1) result (starts_at grammar Exprs level (pieces tokens.now)) (pieces tokens.now) }
+        ensures { Finds (λ x. start_rule x.0)
+            (λ x. rest x.1) result (starts_at grammar Exprs level (pieces tokens.now)) (pieces tokens.now) }
     {
         let [first, rest @ ..] = tokens else {
             return None;
@@ -159,7 +161,8 @@ impl Infix {
     /// The form that goes on here from this level, and the tokens behind its operator.
     #[tactic(auto, unfolding(crate::specs::Table::grammar))]
     pub fn at<'a>(tokens: &'a [Piece<'a>], level: u32) -> Option<(Infix, &'a [Piece<'a>])>
-        ensures found { Finds (λ x. infix_rule x.0) (λ x. rest x.1) result (goes_at grammar Exprs level (pieces tokens.now)) (pieces tokens.now) }
+        ensures found { Finds (λ x. infix_rule x.0)
+            (λ x. rest x.1) result (goes_at grammar Exprs level (pieces tokens.now)) (pieces tokens.now) }
         ensures level { IfSome result (λ x. infix_level x.0 ≡ level) }
     {
         let [first, rest @ ..] = tokens else {

@@ -192,7 +192,8 @@ pub fn list_cases(
     tail: NameAt,
     rest: Box<Expr>,
 ) -> Result<Expr, AllocError>
-    ensures { IfOk result (λ e. term_of e ≡ t.MatchList at.0 (term_in subject) (term_in empty) (bound_at head.entry) (bound_at tail.entry) (term_in rest)) }
+    ensures { IfOk result (λ e. term_of e
+        ≡ t.MatchList at.0 (term_in subject) (term_in empty) (bound_at head.entry) (bound_at tail.entry) (term_in rest)) }
 {
     let head = binder(alloc, head)?;
     let tail = binder(alloc, tail)?;
@@ -213,7 +214,9 @@ pub fn tree_cases(
     right: NameAt,
     rest: Box<Expr>,
 ) -> Result<Expr, AllocError>
-    ensures { IfOk result (λ e. term_of e ≡ t.MatchTree at.0 (term_in subject) (term_in empty) (bound_at element.entry) (bound_at left.entry) (bound_at right.entry) (term_in rest)) }
+    ensures { IfOk result (λ e. term_of e
+        ≡ t.MatchTree at.0 (term_in subject) (term_in empty) (bound_at element.entry)
+        (bound_at left.entry) (bound_at right.entry) (term_in rest)) }
 {
     let element = binder(alloc, element)?;
     let left = binder(alloc, left)?;
@@ -264,7 +267,8 @@ pub fn operation(at: Pos, operator: Infix, left: Box<Expr>, right: Box<Expr>) ->
 }
 
 pub fn parameter(alloc: Global, parameter: NameAt, ty: Box<Ty>) -> Result<Param, AllocError>
-    ensures { IfOk result (λ p. parameter_of p ≡ record { at = parameter.entry.at.0; name = parameter.entry.name.now; type = ty_of ty.value }) }
+    ensures { IfOk result (λ p. parameter_of p
+        ≡ record { at = parameter.entry.at.0; name = parameter.entry.name.now; type = ty_of ty.value }) }
 {
     Ok(Param {
         at: parameter.at,
@@ -283,7 +287,9 @@ pub fn function(
     ty: Box<Ty>,
     body: Box<Expr>,
 ) -> Result<Fun, AllocError>
-    ensures is { IfOk result (λ f. function_act (Phrase (term_in body) ∷ Typing (ty_of ty.value) ∷ (headers_back params.items ++ named_part function.entry ∷ [])) ≡ headed f) }
+    ensures is { IfOk result
+        (λ f. function_act (Phrase (term_in body) ∷ Typing (ty_of ty.value) ∷
+        (headers_back params.items ++ named_part function.entry ∷ [])) ≡ headed f) }
     ensures place { IfOk result (λ f. f.at ≡ at) }
     ensures params { IfOk result (λ f. f.params ≡ params) }
 {

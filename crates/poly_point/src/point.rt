@@ -32,7 +32,8 @@ pub fn at(alloc: Global, poly: &Poly, heap: &DataHeap, args: &[Word]) -> Result<
     requires low { AreLow poly.now }
     requires args { AreArguments heap.now.cells args.now }
     ensures point { IfOk result (λ point. (vs : List Value) → StandForAll heap.now.cells args.now vs → IsPoint poly.now vs point) }
-    ensures leaves { IsErrOf result PointFault.Leaves → (vs : List Value) → StandForAll heap.now.cells args.now vs → 2 ^ 128 ≤ worth (terms_of poly.now) vs }
+    ensures leaves { IsErrOf result PointFault.Leaves → (vs : List Value) →
+        StandForAll heap.now.cells args.now vs → 2 ^ 128 ≤ worth (terms_of poly.now) vs }
 {
     names_earlier(heap);
     let numerator = numerator(alloc, &poly.terms, heap, args)?;

@@ -3,7 +3,8 @@ use Rattle.std.specs.Prelude.{ℕ, List, [], ◌∷◌, Option, Some, None, code
 use Rattle.raml_syntax.specs.Tree as t
 use Rattle.raml_syntax.specs.Tree.{Text}
 pub use Rattle.price_file.specs.declared.construct.Construct.{Construct}
-pub use Rattle.price_file.specs.declared.construct.Construct.TheVariants.{Number, Truth, Var, Nil, Leaf, Nothing, Arith, Compare, Not, Pair, Cons, Node, Just, Call, Let, If, Match, Tick}
+pub use Rattle.price_file.specs.declared.construct.Construct.TheVariants.{Number, Truth, Var, Nil, Leaf, Nothing, Arith, Compare, Not, Pair}
+pub use Rattle.price_file.specs.declared.construct.Construct.TheVariants.{Cons, Node, Just, Call, Let, If, Match, Tick}
 
 -- prices, in ticks
 abbrev pub Prices : Type 0

@@ -95,7 +95,8 @@ pub record Examples : Type 0 where
   -- the first of two faulty lines is told
   pub shape_before_twice : FirstFault (codes "cons 1\ncons x\ncons 1\n") (Shape 2)
   -- three cells at 1, three calls at 2, and the first call at none: ([1, 2, 3], [4])
-  pub append_costs_nine : run_of (prices_in some_prices) program appending (list 1 2 (Cons (Number (pos 3)) Empty) ∷ Cons (Number (pos 4)) Empty ∷ []) 3
+  pub append_costs_nine : run_of (prices_in some_prices) program appending
+      (list 1 2 (Cons (Number (pos 3)) Empty) ∷ Cons (Number (pos 4)) Empty ∷ []) 3
       ≡ gives (list 1 2 (list 3 4 Empty)) 9 3 25
   -- 1 :: a(1, 1), where a may not be entered: the price of the call stands, and that of the list element before it
   pub cut_keeps_prices : under some_prices 0 (t.Cons 0 (num 1) (call (num 1) (num 1))) ≡ cuts 3 0 5
@@ -115,7 +116,8 @@ pub record Examples : Type 0 where
   pub match_option : under other_prices 0 (t.MatchOption 0 (t.Nothing 0) (num 1) (bound x) (var x)) ≡ gives one 19 0 3
   pub match_tree : under other_prices 0 (t.MatchTree 0 (t.Leaf 0) (num 1) (bound x) (bound y) (bound h) (var x)) ≡ gives one 16 0 3
   -- at 5 stands (1 :: nil), of which 1 stands at 6: `tick 1 in` stands at 5, and what costs nothing is as it was
-  pub position_stays : applied (prices_in some_prices) (t.Cons 5 (t.Number 6 (pos 1)) (t.Nil 8)) ≡ t.Tick 5 1 (t.Cons 5 (t.Number 6 (pos 1)) (t.Nil 8))
+  pub position_stays : applied (prices_in some_prices) (t.Cons 5 (t.Number 6 (pos 1)) (t.Nil 8))
+      ≡ t.Tick 5 1 (t.Cons 5 (t.Number 6 (pos 1)) (t.Nil 8))
   -- (tick 3 in 1 : int)
   pub annotation_stays : applied (prices_in other_prices) (t.Typed 0 (t.Tick 1 3 (t.Number 2 (pos 1))) Integer)
       ≡ t.Typed 0 (t.Tick 1 5 (t.Tick 1 3 (t.Tick 2 7 (t.Number 2 (pos 1))))) Integer

@@ -21,8 +21,10 @@ pub record CostSame {A : Type 0} (r s : Run A) : Type 0 where
 -- what the program in which prices are written out costs is what the program costs under the prices, at every limit, also where it is
 -- cut; and its functions are those of the program
 pub record CostsPrices (prices : Prices) (P : Prog) : Type 0 where
-  pub expressions : (n : ℕ) (env : Env) (e : t.Term) → CostSame (eval (applied_program prices P) n env (applied prices e)) (priced.eval prices P n env e)
-  pub runs : (n : ℕ) (g : Function) (args : List Value) → CostSame (run_of (applied_program prices P) (applied_function prices g) args n) (priced.run_of prices P g args n)
+  pub expressions : (n : ℕ) (env : Env) (e : t.Term) →
+      CostSame (eval (applied_program prices P) n env (applied prices e)) (priced.eval prices P n env e)
+  pub runs : (n : ℕ) (g : Function) (args : List Value) →
+      CostSame (run_of (applied_program prices P) (applied_function prices g) args n) (priced.run_of prices P g args n)
   pub functions : (f : Text) → find f (applied_program prices P) ≡ option_map (applied_function prices) (find f P)
 
 abbrev pub AppliedCostsPrices : Type 0

@@ -1,5 +1,6 @@
 -- How a text of prices is read, line by line.
-use Rattle.std.specs.Prelude.{ℕ, suc, Bool, nat_eq, nat_le, ◌&&◌, List, [], ◌∷◌, length, cond, Option, Some, None, option_map, is_some, Result, Ok, Err}
+use Rattle.std.specs.Prelude.{ℕ, suc, Bool, nat_eq, nat_le, ◌&&◌, List, [], ◌∷◌, length, cond, Option, Some, None, option_map, is_some}
+use Rattle.std.specs.Prelude.{Result, Ok, Err}
 use Rattle.std.specs.Str.{bytes_eq, all_ascii_digits}
 use Rattle.std.specs.Str.Parse.{digits_value}
 use Rattle.std.specs.Borrow.{Bor}
@@ -67,4 +68,5 @@ and_then (Ok list) next = next list
 -- what these lines, behind so many others, make of what was read before
 abbrev pub read_lines : Result Listed PriceFault → ℕ → List Text → Result Listed PriceFault
 read_lines before number [] = before
-read_lines before number (line ∷ lines) = read_lines (and_then before (λ list. with_entry list (suc number) (entry_of line))) (suc number) lines
+read_lines before number (line ∷ lines) =
+    read_lines (and_then before (λ list. with_entry list (suc number) (entry_of line))) (suc number) lines

@@ -1,5 +1,6 @@
 -- The words of the language, each as a whole. A text is its list of bytes.
-use Rattle.std.specs.Prelude.{◌≡◌, ◌≢◌, ◌+◌, ◌-◌, ◌*◌, ◌^◌, ◌<◌, ◌==◌, ◌&&◌, ◌||◌, ℕ, suc, Bool, List, [], ◌∷◌, ◌++◌, IsTrue, Contains, fold, nat_le, codes, ⊤}
+use Rattle.std.specs.Prelude.{◌≡◌, ◌≢◌, ◌+◌, ◌-◌, ◌*◌, ◌^◌, ◌<◌, ◌==◌, ◌&&◌, ◌||◌, ℕ, suc, Bool, List, [], ◌∷◌, ◌++◌, IsTrue, Contains}
+use Rattle.std.specs.Prelude.{fold, nat_le, codes, ⊤}
 use Rattle.std.specs.List.{AllPass}
 use Rattle.raml_syntax.specs.Tree.{Text}
 use Rattle.raml_lex.specs.declared.token.TokenKind.{TokenKind}

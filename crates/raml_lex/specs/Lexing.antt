@@ -1,5 +1,6 @@
 -- The tokens of a text by longest match, and its first lexical fault.
-use Rattle.std.specs.Prelude.{◌≡◌, ◌+◌, ◌^◌, ◌<◌, ◌≤◌, ◌⊎◌, ℕ, List, [], ◌∷◌, ◌++◌, length, drop, slice_range, IsTrue, IsCharBoundary, AllPairs, Result, Ok, Err, codes}
+use Rattle.std.specs.Prelude.{◌≡◌, ◌+◌, ◌^◌, ◌<◌, ◌≤◌, ◌⊎◌, ℕ, List, [], ◌∷◌, ◌++◌, length, drop, slice_range, IsTrue, IsCharBoundary}
+use Rattle.std.specs.Prelude.{AllPairs, Result, Ok, Err, codes}
 use Rattle.raml_syntax.specs.Tree.{Text}
 use Rattle.raml_lex.specs.declared.token.TokenKind.{TokenKind}
 use Rattle.raml_lex.specs.declared.token.TokenKind.TheVariants.{Number}

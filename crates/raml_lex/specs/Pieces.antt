@@ -1,5 +1,6 @@
 -- What stands at the front of a text that is not empty.
-use Rattle.std.specs.Prelude.{◌≡◌, ◌+◌, ◌≤◌, ◌||◌, ℕ, zero, suc, Option, Some, None, [], ◌∷◌, length, take, nat_eq, if◌then◌else◌, option_map, codes, bytes_eq}
+use Rattle.std.specs.Prelude.{◌≡◌, ◌+◌, ◌≤◌, ◌||◌, ℕ, zero, suc, Option, Some, None, [], ◌∷◌, length, take, nat_eq, if◌then◌else◌}
+use Rattle.std.specs.Prelude.{option_map, codes, bytes_eq}
 use Rattle.std.specs.List.{starts_with, list_any}
 use Rattle.raml_syntax.specs.declared.tree.Pos.{Pos}
 use Rattle.raml_syntax.specs.Tree.{Text}
@@ -39,7 +40,8 @@ FaultAt place s NoMemory = ⊥
 abbrev pub symbol_len : Text → Option ℕ
 symbol_len [] = None
 symbol_len (c ∷ s) =
-    if starts_with nat_eq (c ∷ s) (codes "::") || starts_with nat_eq (c ∷ s) (codes "<=") || starts_with nat_eq (c ∷ s) (codes "->") then Some 2
+    if starts_with nat_eq (c ∷ s) (codes "::") || starts_with nat_eq (c ∷ s)
+    (codes "<=") || starts_with nat_eq (c ∷ s) (codes "->") then Some 2
     else (if list_any (λ y. nat_eq y c) (codes "(),:=<+-*|") then Some 1 else None)
 
 abbrev pub word_kind : Text → TokenKind

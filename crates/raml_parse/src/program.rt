@@ -3,7 +3,8 @@ ghost use Rattle.std.specs.Prelude.{◌≡◌, ◌≤◌, ◌<◌, ◌^◌, [], 
 ghost use Rattle.parse_spec.specs.Reading.{list_of};
 ghost use Rattle.parse_table.specs.Table.{param_rule, params_rule, body_rule, function_rule, text_rule, key, place};
 ghost use Rattle.parse_table.specs.Steps.{reads};
-ghost use Rattle.parse_table.specs.Read.{Gives, StartsAt, HaveParameters, pieces, header, headers, headers_back, function, functions, whole, named_part};
+ghost use Rattle.parse_table.specs.Read.{Gives, StartsAt, HaveParameters, pieces, header, headers, headers_back, function, functions};
+ghost use Rattle.parse_table.specs.Read.{whole, named_part};
 ghost use Rattle.parse_table.specs.declared.token.Sign.TheVariants as s;
 
 use parse_exprs::parse_part;
@@ -77,7 +78,8 @@ fn parse_body<'a>(
 ) -> FoundFunction<'a>
     requires depth { depth < 2 ^ 30 }
     requires some { 1 ≤ length params.items }
-    ensures same { Gives function result (reads depth body_rule (headers_back params.items ++ named_part name.entry ∷ []) (pieces tokens.now)) }
+    ensures same { Gives function result
+        (reads depth body_rule (headers_back params.items ++ named_part name.entry ∷ []) (pieces tokens.now)) }
     ensures low { IfOk result (λ x. x.1 ≤ depth) }
     ensures place { IfOk result (λ x. x.0.at ≡ at) }
     ensures some { IfOk result (λ x. 1 ≤ length x.0.params.items) }

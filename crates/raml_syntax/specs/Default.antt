@@ -63,7 +63,8 @@ module _ (call : Calls) (asked : Asked) where
     NoDefault (t.Nothing p) env = Unit {0}
     NoDefault (t.Var p x) env = IsBound x env
     NoDefault (t.Arith p op a b) env = NoDefault a env × NoDefault b env × Each (walk call a env) IsNumber × Each (walk call b env) IsNumber
-    NoDefault (t.Compare p op a b) env = NoDefault a env × NoDefault b env × Each (walk call a env) IsNumber × Each (walk call b env) IsNumber
+    NoDefault (t.Compare p op a b) env =
+        NoDefault a env × NoDefault b env × Each (walk call a env) IsNumber × Each (walk call b env) IsNumber
     NoDefault (t.Not p a) env = NoDefault a env × Each (walk call a env) IsTruth
     NoDefault (t.Pair p a b) env = NoDefault a env × NoDefault b env
     NoDefault (t.Cons p a b) env = NoDefault a env × NoDefault b env
@@ -77,7 +78,8 @@ module _ (call : Calls) (asked : Asked) where
     NoDefault (t.MatchList p c a x y b) env =
         NoDefault c env × Each (walk call c env) (λ v. TakenList v (NoDefault a env) (λ h r. NoDefault b ((y.name, r) ∷ (x.name, h) ∷ env)))
     NoDefault (t.MatchTree p c a x y z b) env =
-        NoDefault c env × Each (walk call c env) (λ v. TakenTree v (NoDefault a env) (λ e l r. NoDefault b ((z.name, r) ∷ (y.name, l) ∷ (x.name, e) ∷ env)))
+        NoDefault c env × Each (walk call c env)
+        (λ v. TakenTree v (NoDefault a env) (λ e l r. NoDefault b ((z.name, r) ∷ (y.name, l) ∷ (x.name, e) ∷ env)))
     NoDefault (t.MatchOption p c a x b) env =
         NoDefault c env × Each (walk call c env) (λ v. TakenOption v (NoDefault a env) (λ w. NoDefault b ((x.name, w) ∷ env)))
     NoDefault (t.Tick p k a) env = NoDefault a env

@@ -2,7 +2,8 @@
 --
 -- It is total: where an operand is not of the form that it should be, a default stands in its place. No typed program meets one
 -- (`NoDefault`).
-use Rattle.std.specs.Prelude.{ℕ, zero, suc, ℤ, pos, ◌+ℤ◌, ◌-ℤ◌, ◌*ℤ◌, int_div, int_rem, int_lt, int_le, List, [], ◌∷◌, map, Bool, true, false, cond, ◌&&◌, ◌+◌, Option, Some, None}
+use Rattle.std.specs.Prelude.{ℕ, zero, suc, ℤ, pos, ◌+ℤ◌, ◌-ℤ◌, ◌*ℤ◌, int_div, int_rem, int_lt, int_le, List, [], ◌∷◌, map, Bool, true}
+use Rattle.std.specs.Prelude.{false, cond, ◌&&◌, ◌+◌, Option, Some, None}
 use Rattle.std.specs.Int.{int_wrap, w64}
 use Rattle.std.specs.Str.{bytes_eq}
 use Rattle.raml_syntax.specs.declared.tree.ArithOp.TheVariants.{Add, Sub, Mul, Div, Mod}
@@ -150,7 +151,8 @@ abbrev mutual
   walk call (t.MatchList p c a x y b) env =
       node (and_then (walk call c env) (λ v. list_case v (walk call a env) (λ h r. walk call b ((y.name, r) ∷ (x.name, h) ∷ env))))
   walk call (t.MatchTree p c a x y z b) env =
-      node (and_then (walk call c env) (λ v. tree_case v (walk call a env) (λ e l r. walk call b ((z.name, r) ∷ (y.name, l) ∷ (x.name, e) ∷ env))))
+      node (and_then (walk call c env)
+      (λ v. tree_case v (walk call a env) (λ e l r. walk call b ((z.name, r) ∷ (y.name, l) ∷ (x.name, e) ∷ env))))
   walk call (t.MatchOption p c a x b) env =
       node (and_then (walk call c env) (λ v. option_case v (walk call a env) (λ w. walk call b ((x.name, w) ∷ env))))
   walk call (t.Tick p k a) env = node (costs k 0 0 (walk call a env))

@@ -132,9 +132,17 @@ pub record Examples : Type 0 where
   -- match 2 :: nil with nil -> 0 | x :: x -> x
   pub list_of_one_name : at 0 (t.MatchList 0 (t.Cons 0 (num 2) (t.Nil 0)) (num 0) (bound x) (bound x) (var x)) ≡ gives Empty 0 1 5
   -- match node(2, leaf, node(1, leaf, leaf)) with leaf -> leaf | node(x, x, x) -> x
-  pub tree_of_one_name : at 0 (t.MatchTree 0 two_nodes (t.Leaf 0) (bound x) (bound x) (bound x) (var x)) ≡ gives (Node one Empty Empty) 0 2 9
+  pub tree_of_one_name : at 0
+      (t.MatchTree 0 two_nodes (t.Leaf 0) (bound x) (bound x) (bound x) (var x)) ≡ gives (Node one Empty Empty) 0 2 9
   -- fun f (x : int, x : int) : int = x, run on (2, 1)
-  pub parameters_of_one_name : run_of [] (record { at = 0; name = f; params = integer x ∷ integer x ∷ []; result = Integer; body = var x }) (Number (pos 2) ∷ one ∷ []) 0 ≡ gives one 0 0 2
+  pub parameters_of_one_name : run_of []
+      (record {
+        at = 0;
+        name = f;
+        params = integer x ∷ integer x ∷ [];
+        result = Integer;
+        body = var x;
+      }) (Number (pos 2) ∷ one ∷ []) 0 ≡ gives one 0 0 2
   -- if not true then 2 else 1
   pub branch : at 0 (t.If 0 (t.Not 0 (t.Truth 0 true)) (num 2) (num 1)) ≡ gives one 0 0 4
   -- (1 : int) is no more work than 1

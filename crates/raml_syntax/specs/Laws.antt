@@ -31,8 +31,9 @@ pub record Keeps (T : Type') (r : Run Value) (MeetsNone : Type 0) : Type 0 where
 pub record Holds (G : Context) (env : Env) : Type 0 where
   pub at : (x : Text) (A : Type') → type_at x G ≡ Some A → Has (look x env) A × IsBound x env
 
--- In a typed program whose numbers fit: a typed expression of typed values gives a value of its type or is cut, and so does the run of a function on
--- arguments of its parameters' types, which is what a call does at one limit more; neither meets a default
+-- In a typed program whose numbers fit: a typed expression of typed values gives a value of its type or is cut, and so
+-- does the run of a function on arguments of its parameters' types, which is what a call does at one limit more;
+-- neither meets a default
 pub record TypesAreKept (P : Prog) : Type 0 where
   pub expressions : (n : ℕ) (way : Way) (G : Context) (env : Env) (e : t.Term) (T : Type') →
       AllNodes NumberFits e →
@@ -44,8 +45,8 @@ pub record TypesAreKept (P : Prog) : Type 0 where
       HaveTypes args (types_of g) →
       Keeps g.result (run_of P g args n) (CallMeetsNone P (suc n) f args)
 
--- at the place of a name stands the function that is found for the name, and none is found where it has no place; where the names differ, each function
--- stands at the place of its name
+-- at the place of a name stands the function that is found for the name, and none is found where it has no place; where
+-- the names differ, each function stands at the place of its name
 pub record PlacesAreOfNames (P : Prog) : Type 0 where
   pub placed : (f : Text) (k : ℕ) → place_of f P ≡ Some k → (g : Function) × (slice_get P k ≡ Some g) × (g.name ≡ f) × (find f P ≡ Some g)
   pub absent : (f : Text) → place_of f P ≡ None → find f P ≡ None

@@ -78,7 +78,8 @@ abbrev pub parameter_of : Param → t.Parameter
 parameter_of p = record { at = p.at.0; name = p.name; type = ty_of p.ty }
 
 abbrev pub function_of : Fun → t.Function
-function_of g = record { at = g.at.0; name = g.name; params = map parameter_of g.params.items; result = ty_of g.result; body = term_of g.body }
+function_of g =
+    record { at = g.at.0; name = g.name; params = map parameter_of g.params.items; result = ty_of g.result; body = term_of g.body }
 
 abbrev pub program_of : Program → t.Prog
 program_of P = map function_of P.funs.items

@@ -69,12 +69,15 @@ module _ (P : Prog) where
     HasType way G (t.Call p f args) T = (g : Function) × (find f P ≡ Some g) × (T ≡ g.result) × CheckEach G args (types_of g)
     HasType way G (t.Let p x a b) T = (A : Type') × HasType Finding G a A × HasType way ((x.name, A) ∷ G) b T
     HasType way G (t.LetPair p x y a b) T =
-        (A : Type') × (B : Type') × Differ (x.name ∷ y.name ∷ []) × HasType Finding G a (PairOf A B) × HasType way ((y.name, B) ∷ (x.name, A) ∷ G) b T
+        (A : Type') × (B : Type') × Differ (x.name ∷ y.name ∷ []) × HasType Finding G a (PairOf A B)
+        × HasType way ((y.name, B) ∷ (x.name, A) ∷ G) b T
     HasType way G (t.If p c a b) T = HasType Checking G c Boolean × HasType way G a T × HasType Checking G b T
     HasType way G (t.MatchList p c a x y b) T =
-        (A : Type') × Differ (x.name ∷ y.name ∷ []) × HasType Finding G c (ListOf A) × HasType way G a T × HasType Checking ((y.name, ListOf A) ∷ (x.name, A) ∷ G) b T
+        (A : Type') × Differ (x.name ∷ y.name ∷ []) × HasType Finding G c (ListOf A) × HasType way G a T
+        × HasType Checking ((y.name, ListOf A) ∷ (x.name, A) ∷ G) b T
     HasType way G (t.MatchTree p c a x y z b) T =
-        (A : Type') × Differ (x.name ∷ y.name ∷ z.name ∷ []) × HasType Finding G c (TreeOf A) × HasType way G a T × HasType Checking ((z.name, TreeOf A) ∷ (y.name, TreeOf A) ∷ (x.name, A) ∷ G) b T
+        (A : Type') × Differ (x.name ∷ y.name ∷ z.name ∷ []) × HasType Finding G c (TreeOf A) × HasType way G a T
+        × HasType Checking ((z.name, TreeOf A) ∷ (y.name, TreeOf A) ∷ (x.name, A) ∷ G) b T
     HasType way G (t.MatchOption p c a x b) T =
         (A : Type') × HasType Finding G c (OptionOf A) × HasType way G a T × HasType Checking ((x.name, A) ∷ G) b T
     HasType way G (t.Tick p k a) T = HasType way G a T

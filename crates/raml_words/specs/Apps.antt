@@ -46,7 +46,9 @@ abbrev pub run_options_app : App
 run_options_app = with_rule run_limits_app (number_rule (codes "degree") false 1 4)
 
 abbrev pub run_app : App
-run_app = with_rule (with_rule (with_rule run_options_app (operand_rule (codes "file"))) (operand_rule (codes "name"))) (operand_rule (codes "input"))
+run_app =
+    with_rule (with_rule (with_rule run_options_app (operand_rule (codes "file")))
+    (operand_rule (codes "name"))) (operand_rule (codes "input"))
 
 abbrev pub file_degree_app : App
 file_degree_app = with_rule (with_rule bare (number_rule (codes "degree") true 1 4)) (operand_rule (codes "file"))

@@ -121,10 +121,12 @@ abbrev pub bounds_texts_of : BoundsTexts' → BoundsTexts
 bounds_texts_of t = record { file = t.file.now; degree = t.degree.now; pivot = lent t.pivot }
 
 abbrev pub run_texts_of : RunTexts' → RunTexts
-run_texts_of t = record { file = t.file.now; name = t.name.now; input = t.input.now; steps = lent t.steps; cells = lent t.cells; degree = lent t.degree }
+run_texts_of t =
+    record { file = t.file.now; name = t.name.now; input = t.input.now; steps = lent t.steps; cells = lent t.cells; degree = lent t.degree }
 
 abbrev pub files_texts_of : FilesTexts → (Text × Text) × Text
 files_texts_of t = ((t.file.now, t.other.now), t.degree.now)
 
 abbrev pub spend_texts_of : SpendTexts' → SpendTexts
-spend_texts_of t = record { file = t.file.now; prices = t.prices.now; name = t.name.now; input = t.input.now; steps = lent t.steps; cells = lent t.cells }
+spend_texts_of t =
+    record { file = t.file.now; prices = t.prices.now; name = t.name.now; input = t.input.now; steps = lent t.steps; cells = lent t.cells }

@@ -2,10 +2,13 @@
 use Rattle.std.specs.Prelude.{ℕ, Bool, true, cond, ◌&&◌, List, [], Option, Some, None, option_map, option_and_then, codes}
 use Rattle.std.specs.Option.{is_some}
 use Rattle.raml_words.specs.Words.{Text, Request}
-use Rattle.raml_words.specs.Sorting.{is_number, number_in, optional, rule_in, Arguments, value_of, once, Bounds, bounds_with, run_with, spend_with}
-use Rattle.raml_words.specs.Apps.{one_app, two_app, count_app, bounds_app, run_app, spend_app, ordered, bounds_pairs, run_pairs, degree_pairs, spend_pairs}
+use Rattle.raml_words.specs.Sorting.{is_number, number_in, optional, rule_in, Arguments, value_of, once, Bounds, bounds_with, run_with}
+use Rattle.raml_words.specs.Sorting.{spend_with}
+use Rattle.raml_words.specs.Apps.{one_app, two_app, count_app, bounds_app, run_app, spend_app, ordered, bounds_pairs, run_pairs}
+use Rattle.raml_words.specs.Apps.{degree_pairs, spend_pairs}
 use Rattle.clap.specs.Simple.{App}
-use Rattle.raml_words.specs.Clapped.{taken_as, one_text, two_texts, count_text, BoundsTexts, bounds_texts, RunTexts, run_texts, degree_texts, SpendTexts, spend_texts}
+use Rattle.raml_words.specs.Clapped.{taken_as, one_text, two_texts, count_text, BoundsTexts, bounds_texts, RunTexts, run_texts}
+use Rattle.raml_words.specs.Clapped.{degree_texts, SpendTexts, spend_texts}
 
 -- a value that is there is a number of few digits
 abbrev pub given_number : Option Text → Bool
@@ -39,7 +42,8 @@ run_made t = run_with t.file t.name t.input (optional 1 1000000000 t.steps) (opt
 -- the ordered words of a command with a degree: each option stands once, and its value is a number of few digits
 abbrev pub degree_words : Text → Arguments → Option (List Text)
 degree_words command given =
-    cond (once given.1 && given_number (value_of (codes "degree") given.1)) (Some (ordered command (degree_pairs (value_of (codes "degree") given.1)) given.0)) None
+    cond (once given.1 && given_number (value_of (codes "degree") given.1))
+    (Some (ordered command (degree_pairs (value_of (codes "degree") given.1)) given.0)) None
 
 abbrev pub degree_made : {A : Type 0} → A × Text → Option (A × ℕ)
 degree_made t = option_map (λ degree. (t.0, degree)) (number_in 1 4 t.1)

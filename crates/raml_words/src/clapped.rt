@@ -6,7 +6,9 @@ ghost use Rattle.clap.specs.Simple.{app_of};
 ghost use Rattle.clap.specs.Faults.{is_simple_and_free};
 ghost use Rattle.raml_words.specs.Sorting.{lent, lent_parts};
 ghost use Rattle.raml_words.specs.Apps.{one_app, two_app, count_app, bounds_app, run_app, file_degree_app, files_degree_app, spend_app};
-ghost use Rattle.raml_words.specs.Clapped.{now_of, taken_as, one_text, two_texts, count_text, bounds_texts, run_texts, values_in, pair_of, bounds_texts_of, run_texts_of, degree_texts, files_texts_of, spend_texts, spend_texts_of, Finds, Refuses};
+ghost use Rattle.raml_words.specs.Clapped.{now_of, taken_as, one_text, two_texts, count_text, bounds_texts, run_texts, values_in, pair_of};
+ghost use Rattle.raml_words.specs.Clapped.{bounds_texts_of, run_texts_of, degree_texts, files_texts_of, spend_texts, spend_texts_of, Finds};
+ghost use Rattle.raml_words.specs.Clapped.{Refuses};
 ghost use Rattle.raml_words.specs.Asked.{Tells};
 
 use crate::commands::{

@@ -1,7 +1,8 @@
 // The commands as `clap` has them.
 ghost use Rattle.std.specs.Prelude.{◌≡◌, IfOk};
 ghost use Rattle.clap.specs.Simple.{app_of};
-ghost use Rattle.raml_words.specs.Apps.{bare, one_app, two_app, count_app, bounds_options_app, bounds_app, run_limits_app, run_options_app, run_app, file_degree_app, files_degree_app, spend_files_app, spend_app};
+ghost use Rattle.raml_words.specs.Apps.{bare, one_app, two_app, count_app, bounds_options_app, bounds_app, run_limits_app, run_options_app};
+ghost use Rattle.raml_words.specs.Apps.{run_app, file_degree_app, files_degree_app, spend_files_app, spend_app};
 
 use clap::builder::ValueParser;
 use clap::{Arg, Command};

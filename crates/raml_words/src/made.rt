@@ -1,7 +1,8 @@
 // What the words behind a command give it: sorted and tested here, and then read by `clap`.
 ghost use Rattle.std.specs.Prelude.{◌≡◌, option_and_then, string_bytes};
 ghost use Rattle.raml_words.specs.Words.{texts};
-ghost use Rattle.raml_words.specs.Sorting.{lent, given_of, number_in, rule_in, rule_named, one_of, two_of, count_of, without_options, bounds_by, bounds_in, given_one, given_two, given_count, given_bounds};
+ghost use Rattle.raml_words.specs.Sorting.{lent, given_of, number_in, rule_in, rule_named, one_of, two_of, count_of, without_options};
+ghost use Rattle.raml_words.specs.Sorting.{bounds_by, bounds_in, given_one, given_two, given_count, given_bounds};
 ghost use Rattle.raml_words.specs.Made.{given_rule, bounds_made, bounds_clapped, count_clapped};
 ghost use Rattle.raml_words.specs.Clapped.{bounds_texts_of};
 ghost use Rattle.raml_words.specs.Asked.{Tells, bounds_of, files_of};
@@ -177,7 +178,8 @@ fn bounds_ordered(
     pivot: Option<&str>,
     operands: &[&str],
 ) -> Result<Bounds, WordsFault>
-    ensures { Tells bounds_of result (option_and_then bounds_made (bounds_clapped command.now (lent degree.entry) (lent pivot.entry) (texts operands.now))) }
+    ensures { Tells bounds_of result
+        (option_and_then bounds_made (bounds_clapped command.now (lent degree.entry) (lent pivot.entry) (texts operands.now))) }
 {
     let words = ordered_bounds(alloc, command, degree, pivot, operands)?;
     match bounds_matches(alloc, &words) {

@@ -46,7 +46,8 @@ pub fn ordered_bounds(
     pivot: Option<&str>,
     operands: &[&str],
 ) -> Result<Vec<String>, AllocError>
-    ensures { IfOk result (λ words. map string_bytes words.items ≡ ordered command.now (bounds_pairs (lent degree.entry) (lent pivot.entry)) (texts operands.now)) }
+    ensures { IfOk result (λ words. map string_bytes words.items
+        ≡ ordered command.now (bounds_pairs (lent degree.entry) (lent pivot.entry)) (texts operands.now)) }
 {
     let options = bounds_values(alloc, degree, pivot)?;
     ordered(alloc, command, &options, operands)
@@ -112,7 +113,8 @@ pub fn ordered_degree(
     degree: Option<&str>,
     operands: &[&str],
 ) -> Result<Vec<String>, AllocError>
-    ensures { IfOk result (λ words. map string_bytes words.items ≡ ordered command.now (degree_pairs (lent degree.entry)) (texts operands.now)) }
+    ensures { IfOk result (λ words. map string_bytes words.items
+        ≡ ordered command.now (degree_pairs (lent degree.entry)) (texts operands.now)) }
 {
     match degree {
         Some(value) => ordered(alloc, command, &[("degree", value)], operands),

@@ -62,7 +62,8 @@ fn run_ordered(
     degree: Option<&str>,
     operands: &[&str],
 ) -> Result<Request, WordsFault>
-    ensures { Tells request_of result (option_and_then run_made (run_clapped (lent steps.entry) (lent cells.entry) (lent degree.entry) (texts operands.now))) }
+    ensures { Tells request_of result
+        (option_and_then run_made (run_clapped (lent steps.entry) (lent cells.entry) (lent degree.entry) (texts operands.now))) }
 {
     let words = ordered_run(alloc, steps, cells, degree, operands)?;
     match run_matches(alloc, &words) {

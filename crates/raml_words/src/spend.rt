@@ -59,7 +59,8 @@ fn spend_ordered(
     cells: Option<&str>,
     operands: &[&str],
 ) -> Result<Request, WordsFault>
-    ensures { Tells request_of result (option_and_then spend_made (spend_clapped (lent steps.entry) (lent cells.entry) (texts operands.now))) }
+    ensures { Tells request_of result
+        (option_and_then spend_made (spend_clapped (lent steps.entry) (lent cells.entry) (texts operands.now))) }
 {
     let words = ordered_spend(alloc, steps, cells, operands)?;
     match spend_matches(alloc, &words) {

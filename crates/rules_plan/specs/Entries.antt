@@ -19,7 +19,8 @@ placed_at n from (p ∷ ps) = cond (nat_lt p n) (entry from p ∷ placed_at n (s
 -- the same of those alone whose first number is this one
 abbrev pub picked_at : ℕ → ℕ → ℕ → List (ℕ × ℕ) → List Entry
 picked_at q n from [] = []
-picked_at q n from (p ∷ ps) = cond (nat_eq p.0 q && nat_lt p.1 n) (entry from p.1 ∷ picked_at q n (suc from) ps) (picked_at q n (suc from) ps)
+picked_at q n from (p ∷ ps) =
+    cond (nat_eq p.0 q && nat_lt p.1 n) (entry from p.1 ∷ picked_at q n (suc from) ps) (picked_at q n (suc from) ps)
 
 -- the entries from and to positions below the limits
 abbrev pub restricted : ℕ → ℕ → List Entry → List Entry

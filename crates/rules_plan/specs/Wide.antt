@@ -30,7 +30,8 @@ at_budget sizes d = slice_index_or sizes d 0
 
 -- a map at a budget, from its entries at the greatest
 abbrev pub narrowed : List Ty → List Ty → List Entry → ℕ → p.Step
-narrowed from to wide d = record { size = size_of (context_of to) d; entries = restricted (size_of (context_of from) d) (size_of (context_of to) d) wide }
+narrowed from to wide d =
+    record { size = size_of (context_of to) d; entries = restricted (size_of (context_of from) d) (size_of (context_of to) d) wide }
 
 -- a constructor's maps at a budget
 abbrev pub built_steps : Built → ℕ → List p.Step
@@ -66,7 +67,8 @@ pub record IsCallee (G : Given) (C : Context) (f : ℕ) (xs : List ℕ) (T : Typ
   pub operands : c.operands.items ≡ operand_entries C xs (args_of (slice_get G.funs f)) G.top G.top
   pub same : c.same.items ≡ entries_of (to (λ t. t)) (T ∷ []) G.top (T ∷ []) G.top
 
--- a tuple of the variables that a Let's bound form does not use: its degree, and the entries to the bound form's context and from its result
+-- a tuple of the variables that a Let's bound form does not use: its degree, and the entries to the bound form's
+-- context and from its result
 pub record WideSeam : Type 0 where
   pub degree : ℕ
   pub there : List Entry
@@ -83,7 +85,8 @@ wide_seam a C A top j = record {
   joins = entries_of (to (λ t. j ++ t)) (A ∷ []) (top - degrees j) (types (others a C) ++ A ∷ []) top;
 }
 
--- The same by positions: from where the halves of all tuples stand, how many positions there are, the place of the tuple and what stands behind it.
+-- The same by positions: from where the halves of all tuples stand, how many positions there are, the place of the
+-- tuple and what stands behind it.
 abbrev pub seam_at : List (ℕ × ℕ) → ℕ → ℕ → ℕ → ℕ × List ℕ → WideSeam
 seam_at halves inner rest q j = record { degree = j.0; there = picked_at q inner 0 halves; joins = placed_at rest 0 j.1 }
 

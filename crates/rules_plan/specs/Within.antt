@@ -14,14 +14,16 @@ module _ (most : ℕ) where
   abbrev pub AreSmall : Context → Type' → ℕ → Type 0
   AreSmall C T d = (size_of (types C) d ≤ most) × (size_of (T ∷ []) d ≤ most)
 
-  -- Of a form at this budget, all contexts and types that a walk comes to are small. A Let's bound form is walked at the budget that each tuple leaves.
+  -- Of a form at this budget, all contexts and types that a walk comes to are small. A Let's bound form is walked at
+  -- the budget that each tuple leaves.
   abbrev pub IsWithin : Norm → Context → Type' → ℕ → Type 0
   IsWithin (n.Let k x A a b) C T d = AreSmall C T d
       × All (λ j. IsWithin a (inners a C) A (d - degrees j)) (tuples (others a C) d)
       × IsWithin b (others a C ++ (x, A) ∷ []) T d
   IsWithin (n.Split k x y z a) C T d = AreSmall C T d × IsWithin a (opened x (y ∷ z ∷ []) parts_of C) T d
   IsWithin (n.If k x a b) C T d = AreSmall C T d × IsWithin a (without x C) T d × IsWithin b (without x C) T d
-  IsWithin (n.CaseList k x a h t b) C T d = AreSmall C T d × IsWithin a (without x C) T d × IsWithin b (opened x (h ∷ t ∷ []) parts_of C) T d
+  IsWithin (n.CaseList k x a h t b) C T d =
+      AreSmall C T d × IsWithin a (without x C) T d × IsWithin b (opened x (h ∷ t ∷ []) parts_of C) T d
   IsWithin (n.CaseTree k x a e y z b) C T d =
       AreSmall C T d × IsWithin a (without x C) T d × IsWithin b (opened x (e ∷ y ∷ z ∷ []) parts_of C) T d
   IsWithin (n.CaseOption k x a y b) C T d = AreSmall C T d × IsWithin a (without x C) T d × IsWithin b (opened x (y ∷ []) parts_of C) T d

@@ -14,7 +14,8 @@ ghost use Rattle.rules_walk.specs.Read.{plan_of, hints_of, known_of, mode_of};
 ghost use Rattle.rules_walk.specs.Filled.{table_of};
 ghost use Rattle.rules_walk.specs.Remembers.{TellsUses};
 ghost use Rattle.rules_plan.specs.Given.{given_of, made_of};
-ghost use Rattle.rules_plan.specs.Read.{program_in, function_of, over_of, body_of, group_bodies, GroupWithin, ArePlansIn, ArePlansOf, AreBodies, IsBody};
+ghost use Rattle.rules_plan.specs.Read.{program_in, function_of, over_of, body_of, group_bodies, GroupWithin, ArePlansIn, ArePlansOf};
+ghost use Rattle.rules_plan.specs.Read.{AreBodies, IsBody};
 ghost use Rattle.rules_plan.specs.Within.{FunctionWithin};
 
 use crate::env::{Env, Reach};
@@ -82,7 +83,8 @@ impl Body<'_> {
         judge: &mut J,
     ) -> Result<&'h [Hint<T>], AllocError>
         ensures heard { OnOk result (J.verdict judge.new
-            ≡ J.after (J.verdict judge.old) (body_walked T.kind (known_of known.now) (body_of self.now).plan (mode_of mode) place (hints_of hints.now)).found) }
+            ≡ J.after (J.verdict judge.old)
+            (body_walked T.kind (known_of known.now) (body_of self.now).plan (mode_of mode) place (hints_of hints.now)).found) }
         ensures left { IfOk result (λ out. hints_of out.now
             ≡ (body_walked T.kind (known_of known.now) (body_of self.now).plan (mode_of mode) place (hints_of hints.now)).left) }
     {
@@ -109,7 +111,8 @@ impl GroupPlans {
         alloc: Global,
         earlier: &'k Earlier,
     ) -> Result<Vec<Body<'k>>, AllocError>
-        ensures { IfOk result (λ made. (P : Program) (group budget : ℕ) (blocks : List c.Block) → ArePlansOf P group budget self.now → TellsUses P blocks earlier.now →
+        ensures { IfOk result (λ made. (P : Program) (group budget : ℕ) (blocks : List c.Block) →
+            ArePlansOf P group budget self.now → TellsUses P blocks earlier.now →
             map body_of made.items ≡ group_bodies P group blocks budget) }
     {
         over(alloc, &self.functions, self.budget as usize, earlier.uses())
@@ -188,8 +191,10 @@ fn check_all(
     group: &[FunId],
     budget: u8,
 ) -> Result<(), PlanFault>
-    ensures fits { OnOk result (All (λ f. FunctionWithin 2000 (slice_get (funs_of results.now functions.now) f) budget) (ids_of group.now)) }
-    ensures many { IsErrOf result PlanFault.TooMany → All (λ f. FunctionWithin 2000 (slice_get (funs_of results.now functions.now) f) budget) (ids_of group.now) → ⊥ }
+    ensures fits { OnOk result
+        (All (λ f. FunctionWithin 2000 (slice_get (funs_of results.now functions.now) f) budget) (ids_of group.now)) }
+    ensures many { IsErrOf result PlanFault.TooMany → All
+        (λ f. FunctionWithin 2000 (slice_get (funs_of results.now functions.now) f) budget) (ids_of group.now) → ⊥ }
 {
     for place in 0..group.len() {
         check_function(alloc, functions, results, group[place], budget)?;
@@ -267,7 +272,8 @@ fn planned(
     budget: u8,
 ) -> Result<Vec<FunctionPlan>, AllocError>
     requires low { budget ≤ 4 }
-    ensures { IfOk result (λ made. (group : ℕ) → ids_of functions.now ≡ members (program_in program.now) group → map function_of made.items ≡ group_bodies (program_in program.now) group [] budget) }
+    ensures { IfOk result (λ made. (group : ℕ) → ids_of functions.now ≡ members (program_in program.now) group →
+        map function_of made.items ≡ group_bodies (program_in program.now) group [] budget) }
 {
     let env = Env {
         alloc,

@@ -88,7 +88,8 @@ pub fn moves(
     rests: Vec<Box<Plan>>,
 ) -> Result<Vec<Box<Plan>>, AllocError>
     requires low { top ≤ 4 }
-    ensures { IfOk result (λ made. made_of made.items ≡ each_down (λ d e. p.Moves nodes (step_at change.now d) e) top (made_of rests.items)) }
+    ensures { IfOk result (λ made. made_of made.items ≡ each_down
+        (λ d e. p.Moves nodes (step_at change.now d) e) top (made_of rests.items)) }
 {
     let mut made = Vec::new(alloc);
     let mut d = top;
@@ -109,7 +110,8 @@ fn doubled(
     rest: Box<Plan>,
 ) -> Result<Box<Plan>, AllocError>
     requires low { d ≤ 4 }
-    ensures { IfOk result (λ made. plan_of made.value ≡ p.Shares nodes (size_of (context_of types.now) d) (step_at change.now d) (plan_of rest.value)) }
+    ensures { IfOk result (λ made. plan_of made.value
+        ≡ p.Shares nodes (size_of (context_of types.now) d) (step_at change.now d) (plan_of rest.value)) }
 {
     let step = change.step(alloc, d)?;
     let size = size(alloc, types, d)?;
@@ -149,7 +151,8 @@ fn forked(
     d: u8,
 ) -> Result<Box<Plan>, AllocError>
     requires low { d ≤ 4 }
-    ensures { IfOk result (λ made. plan_of made.value ≡ p.Forks nodes (step_at change.now d) (plan_of first.value) (step_at other.now d) (plan_of second.value)) }
+    ensures { IfOk result (λ made. plan_of made.value
+        ≡ p.Forks nodes (step_at change.now d) (plan_of first.value) (step_at other.now d) (plan_of second.value)) }
 {
     let step = change.step(alloc, d)?;
     let other = other.step(alloc, d)?;
@@ -169,7 +172,8 @@ pub fn forks(
 ) -> Result<Vec<Box<Plan>>, AllocError>
     requires low { top ≤ 4 }
     ensures { IfOk result (λ made. made_of made.items
-        ≡ both_down (λ d a b. p.Forks nodes (step_at change.now d) a (step_at other.now d) b) top (made_of seconds.items) (made_of firsts.items)) }
+        ≡ both_down (λ d a b. p.Forks nodes (step_at change.now d) a (step_at other.now d) b) top
+        (made_of seconds.items) (made_of firsts.items)) }
 {
     let mut made = Vec::new(alloc);
     let mut d = top;

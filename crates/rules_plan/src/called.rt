@@ -122,7 +122,8 @@ fn called_at(alloc: Global, nodes: u32, callee: &Callee, d: u8) -> Result<Box<Pl
 
 // The call at the budgets that are reached.
 fn at_budgets(env: &Env<'_>, nodes: u32, callee: &Callee) -> Result<Vec<Box<Plan>>, AllocError>
-    ensures { IfOk result (λ made. made_of made.items ≡ map (λ d. p.Calls nodes (called_at callee.now d)) (reached env.now.reach (λ d. d) env.now.top)) }
+    ensures { IfOk result (λ made. made_of made.items ≡ map
+        (λ d. p.Calls nodes (called_at callee.now d)) (reached env.now.reach (λ d. d) env.now.top)) }
 {
     let mut made = Vec::new(env.alloc);
     for d in &budgets(env)? {
@@ -163,7 +164,8 @@ pub fn calls(
     context: &[(u32, Ty)],
     ty: &Ty,
 ) -> Result<Vec<Box<Plan>>, AllocError>
-    ensures { IfOk result (λ made. ArePlans (given_of env.now) (n.Call nodes fun.0 args.now) (parameters_of context.now) (ty_of ty.now) (made_of made.items)) }
+    ensures { IfOk result (λ made. ArePlans (given_of env.now) (n.Call nodes fun.0 args.now)
+        (parameters_of context.now) (ty_of ty.now) (made_of made.items)) }
 {
     let callee = made_once(env, fun, args, context, ty)?;
     at_budgets(env, nodes, &callee)

@@ -97,7 +97,8 @@ impl Move {
         next: Vec<(u32, Ty)>,
     ) -> Result<Move, AllocError>
         ensures { IfOk result (λ made. (d : ℕ) → step_at made d
-            ≡ step (types (parameters_of next.items)) d (changed change (types (parameters_of context.now)) (place x (parameters_of context.now)) d)) }
+            ≡ step (types (parameters_of next.items)) d
+            (changed change (types (parameters_of context.now)) (place x (parameters_of context.now)) d)) }
     {
         let types = context::types(alloc, context)?;
         Ok(Move {

@@ -94,7 +94,8 @@ fn at_budget(alloc: Global, nodes: u32, built: &Built, d: u8) -> Result<Box<Plan
 
 // A constructor at the budgets that are reached.
 fn at_budgets(env: &Env<'_>, nodes: u32, built: &Built) -> Result<Vec<Box<Plan>>, AllocError>
-    ensures { IfOk result (λ made. made_of made.items ≡ map (λ d. p.Ends nodes 1 (built_steps built.now d)) (reached env.now.reach (λ d. d) env.now.top)) }
+    ensures { IfOk result (λ made. made_of made.items ≡ map
+        (λ d. p.Ends nodes 1 (built_steps built.now d)) (reached env.now.reach (λ d. d) env.now.top)) }
 {
     let mut made = Vec::new(env.alloc);
     for d in &budgets(env)? {
@@ -112,7 +113,8 @@ pub fn constructors(
     ty: &Ty,
 ) -> Result<Vec<Box<Plan>>, AllocError>
     requires low { env.now.top ≤ 4 }
-    ensures { IfOk result (λ made. made_of made.items ≡ reached env.now.reach (λ d. p.Ends nodes 1 (part_steps (parameters_of context.now) operands.now (ty_of ty.now) d)) env.now.top) }
+    ensures { IfOk result (λ made. made_of made.items ≡ reached env.now.reach
+        (λ d. p.Ends nodes 1 (part_steps (parameters_of context.now) operands.now (ty_of ty.now) d)) env.now.top) }
 {
     let built = made_once(env, operands, context, ty)?;
     at_budgets(env, nodes, &built)

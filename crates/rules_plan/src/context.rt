@@ -128,7 +128,8 @@ pub fn without(alloc: Global, context: &[(u32, Ty)], x: u32) -> Result<Vec<(u32,
 // The type of the variable, int by default, as the types of its parts or of its two copies.
 #[tactic(auto, using(crate::proofs::Contexts::type_there, crate::proofs::Contexts::no_type))]
 fn parts_in(alloc: Global, context: &[(u32, Ty)], x: u32) -> Result<Vec<Ty>, AllocError>
-    ensures { IfOk result (λ found. context_of found.items ≡ parts_of (type_at (place x (parameters_of context.now)) (parameters_of context.now))) }
+    ensures { IfOk result (λ found. context_of found.items
+        ≡ parts_of (type_at (place x (parameters_of context.now)) (parameters_of context.now))) }
 {
     let at = place(context, x);
     if at < context.len() {
@@ -140,7 +141,8 @@ fn parts_in(alloc: Global, context: &[(u32, Ty)], x: u32) -> Result<Vec<Ty>, All
 
 #[tactic(auto, using(crate::proofs::Contexts::type_there, crate::proofs::Contexts::no_type))]
 fn copies_in(alloc: Global, context: &[(u32, Ty)], x: u32) -> Result<Vec<Ty>, AllocError>
-    ensures { IfOk result (λ found. context_of found.items ≡ copies_of (type_at (place x (parameters_of context.now)) (parameters_of context.now))) }
+    ensures { IfOk result (λ found. context_of found.items
+        ≡ copies_of (type_at (place x (parameters_of context.now)) (parameters_of context.now))) }
 {
     let at = place(context, x);
     if at < context.len() {

@@ -117,7 +117,8 @@ fn bound_at(
     rest: Box<Plan>,
 ) -> Result<Box<Plan>, AllocError>
     requires below { d ≤ top }
-    ensures { IfOk result (λ made. plan_of made.value ≡ p.Lets nodes (parts_at cut.now d) (plans (drop (top - d) (map (λ r. plan_of (rc_value r)) firsts.now)))
+    ensures { IfOk result (λ made. plan_of made.value
+        ≡ p.Lets nodes (parts_at cut.now d) (plans (drop (top - d) (map (λ r. plan_of (rc_value r)) firsts.now)))
         (at_budget cut.now.sizes.rest.items d) (plan_of rest.value)) }
 {
     let parts = parts(alloc, cut, d as usize)?;
@@ -135,7 +136,8 @@ pub fn lets(
     top: u8,
     rests: Vec<Box<Plan>>,
 ) -> Result<Vec<Box<Plan>>, AllocError>
-    ensures { IfOk result (λ made. made_of made.items ≡ each_down (λ d e. p.Lets nodes (parts_at cut.now d) (plans (drop (top - d) (map (λ r. plan_of (rc_value r)) firsts.now)))
+    ensures { IfOk result (λ made. made_of made.items ≡ each_down
+        (λ d e. p.Lets nodes (parts_at cut.now d) (plans (drop (top - d) (map (λ r. plan_of (rc_value r)) firsts.now)))
         (at_budget cut.now.sizes.rest.items d) e) top (made_of rests.items)) }
 {
     let mut made = Vec::new(alloc);

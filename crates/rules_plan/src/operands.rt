@@ -45,7 +45,8 @@ fn in_order(context: &[(u32, Ty)], operands: &[u32], types: &[Ty]) -> bool
 // The same of a first variable and the others.
 #[cycle(in_order)]
 fn led_in_order(first: &(u32, Ty), context: &[(u32, Ty)], operands: &[u32], types: &[Ty]) -> bool
-    ensures { IsTrue result → AreInOrder ((first.now.0, ty_of first.now.1) ∷ parameters_of context.now) operands.now (context_of types.now) }
+    ensures { IsTrue result →
+        AreInOrder ((first.now.0, ty_of first.now.1) ∷ parameters_of context.now) operands.now (context_of types.now) }
 {
     match operands {
         [] => false,

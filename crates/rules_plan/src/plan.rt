@@ -95,7 +95,8 @@ pub fn plans(
     ty: &Ty,
 ) -> Result<Vec<Box<Plan>>, AllocError>
     requires low { env.now.top ≤ 4 }
-    ensures { IfOk result (λ made. ArePlans (given_of env.now) (norm_of expr.now) (parameters_of context.now) (ty_of ty.now) (made_of made.items)) }
+    ensures { IfOk result (λ made. ArePlans (given_of env.now) (norm_of expr.now)
+        (parameters_of context.now) (ty_of ty.now) (made_of made.items)) }
 {
     let nodes = expr.nodes;
     match &expr.form {
@@ -175,7 +176,8 @@ fn plan_split(
     ty: &Ty,
 ) -> Result<Vec<Box<Plan>>, AllocError>
     requires low { env.now.top ≤ 4 }
-    ensures { IfOk result (λ made. ArePlans (given_of env.now) (n.Split nodes x first second (norm_of a.now)) (parameters_of context.now) (ty_of ty.now) (made_of made.items)) }
+    ensures { IfOk result (λ made. ArePlans (given_of env.now) (n.Split nodes x first second (norm_of a.now))
+        (parameters_of context.now) (ty_of ty.now) (made_of made.items)) }
 {
     let branch = taken_apart(env, x, &[first, second], a, context, ty)?;
     let rests = branch.rests;
@@ -193,7 +195,8 @@ fn plan_drop(
     ty: &Ty,
 ) -> Result<Vec<Box<Plan>>, AllocError>
     requires low { env.now.top ≤ 4 }
-    ensures { IfOk result (λ made. ArePlans (given_of env.now) (n.Drop nodes x (norm_of a.now)) (parameters_of context.now) (ty_of ty.now) (made_of made.items)) }
+    ensures { IfOk result (λ made. ArePlans (given_of env.now) (n.Drop nodes x (norm_of a.now))
+        (parameters_of context.now) (ty_of ty.now) (made_of made.items)) }
 {
     let branch = left(env, x, a, context, ty)?;
     let rests = branch.rests;
@@ -212,7 +215,8 @@ fn plan_if(
     ty: &Ty,
 ) -> Result<Vec<Box<Plan>>, AllocError>
     requires low { env.now.top ≤ 4 }
-    ensures { IfOk result (λ made. ArePlans (given_of env.now) (n.If nodes x (norm_of a.now) (norm_of b.now)) (parameters_of context.now) (ty_of ty.now) (made_of made.items)) }
+    ensures { IfOk result (λ made. ArePlans (given_of env.now) (n.If nodes x (norm_of a.now) (norm_of b.now))
+        (parameters_of context.now) (ty_of ty.now) (made_of made.items)) }
 {
     let first = left(env, x, a, context, ty)?;
     let second = left(env, x, b, context, ty)?;
@@ -233,9 +237,11 @@ fn plan_case(
 ) -> Result<Vec<Box<Plan>>, AllocError>
     requires low { env.now.top ≤ 4 }
     ensures { IfOk result (λ made. AreReached (given_of env.now) (λ P d. p.Forks nodes
-        (leaving_step (parameters_of context.now) x d) (planned (given_of env.now) (norm_of a.now) (without x (parameters_of context.now)) (ty_of ty.now) P d)
+        (leaving_step (parameters_of context.now) x d)
+        (planned (given_of env.now) (norm_of a.now) (without x (parameters_of context.now)) (ty_of ty.now) P d)
         (opening_step (parameters_of context.now) x names.now d)
-        (planned (given_of env.now) (norm_of b.now) (opened x names.now parts_of (parameters_of context.now)) (ty_of ty.now) P d)) (made_of made.items)) }
+        (planned (given_of env.now) (norm_of b.now)
+        (opened x names.now parts_of (parameters_of context.now)) (ty_of ty.now) P d)) (made_of made.items)) }
 {
     let first = left(env, x, a, context, ty)?;
     let second = taken_apart(env, x, names, b, context, ty)?;
@@ -250,7 +256,8 @@ fn forked(
     second: Branch,
 ) -> Result<Vec<Box<Plan>>, AllocError>
     requires low { env.now.top ≤ 4 }
-    ensures { IfOk result (λ made. made_of made.items ≡ both_down (λ d a b. p.Forks nodes (step_at first.change d) a (step_at second.change d) b) env.now.top
+    ensures { IfOk result (λ made. made_of made.items ≡ both_down
+        (λ d a b. p.Forks nodes (step_at first.change d) a (step_at second.change d) b) env.now.top
         (made_of second.rests.items) (made_of first.rests.items)) }
 {
     let firsts = first.rests;
@@ -277,7 +284,8 @@ fn plan_tick(
     ty: &Ty,
 ) -> Result<Vec<Box<Plan>>, AllocError>
     requires low { env.now.top ≤ 4 }
-    ensures { IfOk result (λ made. ArePlans (given_of env.now) (n.Tick nodes ticks (norm_of a.now)) (parameters_of context.now) (ty_of ty.now) (made_of made.items)) }
+    ensures { IfOk result (λ made. ArePlans (given_of env.now) (n.Tick nodes ticks (norm_of a.now))
+        (parameters_of context.now) (ty_of ty.now) (made_of made.items)) }
 {
     let rests = plans(env, a, context, ty)?;
     pays(env.alloc, nodes, ticks, rests)
@@ -296,7 +304,8 @@ fn plan_share(
     ty: &Ty,
 ) -> Result<Vec<Box<Plan>>, AllocError>
     requires low { env.now.top ≤ 4 }
-    ensures { IfOk result (λ made. ArePlans (given_of env.now) (n.Share nodes x first second (norm_of a.now)) (parameters_of context.now) (ty_of ty.now) (made_of made.items)) }
+    ensures { IfOk result (λ made. ArePlans (given_of env.now) (n.Share nodes x first second (norm_of a.now))
+        (parameters_of context.now) (ty_of ty.now) (made_of made.items)) }
 {
     let next = context::shared(env.alloc, context, x, &[first, second])?;
     let rests = plans(env, a, &next, ty)?;
@@ -315,7 +324,8 @@ fn bound_plans(
     ty: &Ty,
 ) -> Result<Vec<Rc<Plan>>, AllocError>
     requires low { env.now.top ≤ 4 }
-    ensures { IfOk result (λ made. ArePlans (all_down (given_of env.now)) (norm_of a.now) (parameters_of context.now) (ty_of ty.now) (map (λ r. plan_of (rc_value r)) made.items)) }
+    ensures { IfOk result (λ made. ArePlans (all_down (given_of env.now)) (norm_of a.now)
+        (parameters_of context.now) (ty_of ty.now) (map (λ r. plan_of (rc_value r)) made.items)) }
 {
     let down = env.all_down();
     let firsts = plans(&down, a, context, ty)?;
@@ -335,7 +345,8 @@ fn plan_let(
     ty: &Ty,
 ) -> Result<Vec<Box<Plan>>, AllocError>
     requires low { env.now.top ≤ 4 }
-    ensures { IfOk result (λ made. ArePlans (given_of env.now) (n.Let nodes x (ty_of bound.now) (norm_of a.now) (norm_of b.now)) (parameters_of context.now) (ty_of ty.now) (made_of made.items)) }
+    ensures { IfOk result (λ made. ArePlans (given_of env.now)
+        (n.Let nodes x (ty_of bound.now) (norm_of a.now) (norm_of b.now)) (parameters_of context.now) (ty_of ty.now) (made_of made.items)) }
 {
     let inner = context::inners(env.alloc, a, context)?;
     let outer = context::others(env.alloc, a, context)?;

@@ -158,12 +158,14 @@ pub fn cut_spots(
     d: u8,
 ) -> Result<Cut, AllocError>
     ensures halves { IfOk result (λ cut. cut.halves.items ≡ half_spots marks.now (context_of types.now) d) }
-    ensures joined { IfOk result (λ cut. cut.joined.items ≡ joined_spots (other_items marks.now (context_of types.now)) (ty_of bound.now ∷ []) d) }
+    ensures joined { IfOk result
+        (λ cut. cut.joined.items ≡ joined_spots (other_items marks.now (context_of types.now)) (ty_of bound.now ∷ []) d) }
     ensures whole { IfOk result (λ cut. cut.whole.items ≡ up (size_of (context_of types.now)) d) }
     ensures marked { IfOk result (λ cut. cut.marked.items ≡ up (size_of (marked_items marks.now (context_of types.now))) d) }
     ensures others { IfOk result (λ cut. cut.others.items ≡ up (size_of (other_items marks.now (context_of types.now))) d) }
     ensures bound { IfOk result (λ cut. cut.bound.items ≡ up (size_of (ty_of bound.now ∷ [])) d) }
-    ensures rest { IfOk result (λ cut. cut.rest.items ≡ up (size_of (other_items marks.now (context_of types.now) ++ ty_of bound.now ∷ [])) d) }
+    ensures rest { IfOk result
+        (λ cut. cut.rest.items ≡ up (size_of (other_items marks.now (context_of types.now) ++ ty_of bound.now ∷ [])) d) }
 {
     match tuple_ranks::cut_spots(alloc, marks, types, bound, d) {
         Ok(cut) => Ok(cut),

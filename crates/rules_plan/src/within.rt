@@ -83,7 +83,8 @@ fn check_without(
     d: u8,
 ) -> Result<(), PlanFault>
     ensures fits { OnOk result (IsWithin 2000 (norm_of a.now) (without x (parameters_of context.now)) (ty_of ty.now) d) }
-    ensures many { IsErrOf result PlanFault.TooMany → IsWithin 2000 (norm_of a.now) (without x (parameters_of context.now)) (ty_of ty.now) d → ⊥ }
+    ensures many { IsErrOf result PlanFault.TooMany →
+        IsWithin 2000 (norm_of a.now) (without x (parameters_of context.now)) (ty_of ty.now) d → ⊥ }
 {
     let rest = context::without(alloc, context, x)?;
     check(alloc, a, &rest, ty, d)
@@ -101,7 +102,8 @@ fn check_opened(
     d: u8,
 ) -> Result<(), PlanFault>
     ensures fits { OnOk result (IsWithin 2000 (norm_of a.now) (opened x names.now parts_of (parameters_of context.now)) (ty_of ty.now) d) }
-    ensures many { IsErrOf result PlanFault.TooMany → IsWithin 2000 (norm_of a.now) (opened x names.now parts_of (parameters_of context.now)) (ty_of ty.now) d → ⊥ }
+    ensures many { IsErrOf result PlanFault.TooMany →
+        IsWithin 2000 (norm_of a.now) (opened x names.now parts_of (parameters_of context.now)) (ty_of ty.now) d → ⊥ }
 {
     let rest = context::opened(alloc, context, x, names)?;
     check(alloc, a, &rest, ty, d)
@@ -119,7 +121,8 @@ fn check_shared(
     d: u8,
 ) -> Result<(), PlanFault>
     ensures fits { OnOk result (IsWithin 2000 (norm_of a.now) (opened x names.now copies_of (parameters_of context.now)) (ty_of ty.now) d) }
-    ensures many { IsErrOf result PlanFault.TooMany → IsWithin 2000 (norm_of a.now) (opened x names.now copies_of (parameters_of context.now)) (ty_of ty.now) d → ⊥ }
+    ensures many { IsErrOf result PlanFault.TooMany →
+        IsWithin 2000 (norm_of a.now) (opened x names.now copies_of (parameters_of context.now)) (ty_of ty.now) d → ⊥ }
 {
     let rest = context::shared(alloc, context, x, names)?;
     check(alloc, a, &rest, ty, d)
@@ -136,8 +139,12 @@ fn check_both(
     ty: &Ty,
     d: u8,
 ) -> Result<(), PlanFault>
-    ensures fits { OnOk result (IsWithin 2000 (norm_of a.now) (without x (parameters_of context.now)) (ty_of ty.now) d × IsWithin 2000 (norm_of b.now) (without x (parameters_of context.now)) (ty_of ty.now) d) }
-    ensures many { IsErrOf result PlanFault.TooMany → IsWithin 2000 (norm_of a.now) (without x (parameters_of context.now)) (ty_of ty.now) d × IsWithin 2000 (norm_of b.now) (without x (parameters_of context.now)) (ty_of ty.now) d → ⊥ }
+    ensures fits { OnOk result
+        (IsWithin 2000 (norm_of a.now) (without x (parameters_of context.now)) (ty_of ty.now) d
+        × IsWithin 2000 (norm_of b.now) (without x (parameters_of context.now)) (ty_of ty.now) d) }
+    ensures many { IsErrOf result PlanFault.TooMany →
+        IsWithin 2000 (norm_of a.now) (without x (parameters_of context.now)) (ty_of ty.now) d
+        × IsWithin 2000 (norm_of b.now) (without x (parameters_of context.now)) (ty_of ty.now) d → ⊥ }
 {
     check_without(alloc, x, a, context, ty, d)?;
     check_without(alloc, x, b, context, ty, d)
@@ -155,8 +162,12 @@ fn check_case(
     ty: &Ty,
     d: u8,
 ) -> Result<(), PlanFault>
-    ensures fits { OnOk result (IsWithin 2000 (norm_of a.now) (without x (parameters_of context.now)) (ty_of ty.now) d × IsWithin 2000 (norm_of b.now) (opened x names.now parts_of (parameters_of context.now)) (ty_of ty.now) d) }
-    ensures many { IsErrOf result PlanFault.TooMany → IsWithin 2000 (norm_of a.now) (without x (parameters_of context.now)) (ty_of ty.now) d × IsWithin 2000 (norm_of b.now) (opened x names.now parts_of (parameters_of context.now)) (ty_of ty.now) d → ⊥ }
+    ensures fits { OnOk result
+        (IsWithin 2000 (norm_of a.now) (without x (parameters_of context.now)) (ty_of ty.now) d
+        × IsWithin 2000 (norm_of b.now) (opened x names.now parts_of (parameters_of context.now)) (ty_of ty.now) d) }
+    ensures many { IsErrOf result PlanFault.TooMany →
+        IsWithin 2000 (norm_of a.now) (without x (parameters_of context.now)) (ty_of ty.now) d
+        × IsWithin 2000 (norm_of b.now) (opened x names.now parts_of (parameters_of context.now)) (ty_of ty.now) d → ⊥ }
 {
     check_without(alloc, x, a, context, ty, d)?;
     check_opened(alloc, x, names, b, context, ty, d)
@@ -172,7 +183,8 @@ fn check_bound(
     d: u8,
 ) -> Result<(), PlanFault>
     ensures fits { OnOk result (IsWithin 2000 (norm_of a.now) (inners (norm_of a.now) (parameters_of context.now)) (ty_of ty.now) d) }
-    ensures many { IsErrOf result PlanFault.TooMany → IsWithin 2000 (norm_of a.now) (inners (norm_of a.now) (parameters_of context.now)) (ty_of ty.now) d → ⊥ }
+    ensures many { IsErrOf result PlanFault.TooMany →
+        IsWithin 2000 (norm_of a.now) (inners (norm_of a.now) (parameters_of context.now)) (ty_of ty.now) d → ⊥ }
 {
     let used = context::inners(alloc, a, context)?;
     check(alloc, a, &used, ty, d)
@@ -190,8 +202,11 @@ fn check_rest(
     ty: &Ty,
     d: u8,
 ) -> Result<(), PlanFault>
-    ensures fits { OnOk result (IsWithin 2000 (norm_of b.now) (others (norm_of a.now) (parameters_of context.now) ++ (x, ty_of bound.now) ∷ []) (ty_of ty.now) d) }
-    ensures many { IsErrOf result PlanFault.TooMany → IsWithin 2000 (norm_of b.now) (others (norm_of a.now) (parameters_of context.now) ++ (x, ty_of bound.now) ∷ []) (ty_of ty.now) d → ⊥ }
+    ensures fits { OnOk result
+        (IsWithin 2000 (norm_of b.now) (others (norm_of a.now) (parameters_of context.now) ++ (x, ty_of bound.now) ∷ []) (ty_of ty.now) d) }
+    ensures many { IsErrOf result PlanFault.TooMany →
+        IsWithin 2000 (norm_of b.now)
+        (others (norm_of a.now) (parameters_of context.now) ++ (x, ty_of bound.now) ∷ []) (ty_of ty.now) d → ⊥ }
 {
     let unused = context::others(alloc, a, context)?;
     let rest = context::with_bound(alloc, &unused, x, bound)?;
@@ -210,8 +225,14 @@ fn check_let(
     ty: &Ty,
     d: u8,
 ) -> Result<(), PlanFault>
-    ensures fits { OnOk result (BoundWithin 2000 (norm_of a.now) (parameters_of context.now) (ty_of bound.now) d × IsWithin 2000 (norm_of b.now) (others (norm_of a.now) (parameters_of context.now) ++ (x, ty_of bound.now) ∷ []) (ty_of ty.now) d) }
-    ensures many { IsErrOf result PlanFault.TooMany → BoundWithin 2000 (norm_of a.now) (parameters_of context.now) (ty_of bound.now) d × IsWithin 2000 (norm_of b.now) (others (norm_of a.now) (parameters_of context.now) ++ (x, ty_of bound.now) ∷ []) (ty_of ty.now) d → ⊥ }
+    ensures fits { OnOk result
+        (BoundWithin 2000 (norm_of a.now) (parameters_of context.now) (ty_of bound.now) d
+        × IsWithin 2000 (norm_of b.now)
+        (others (norm_of a.now) (parameters_of context.now) ++ (x, ty_of bound.now) ∷ []) (ty_of ty.now) d) }
+    ensures many { IsErrOf result PlanFault.TooMany →
+        BoundWithin 2000 (norm_of a.now) (parameters_of context.now) (ty_of bound.now) d
+        × IsWithin 2000 (norm_of b.now)
+        (others (norm_of a.now) (parameters_of context.now) ++ (x, ty_of bound.now) ∷ []) (ty_of ty.now) d → ⊥ }
 {
     check_bound(alloc, a, context, bound, d)?;
     check_rest(alloc, x, bound, a, b, context, ty, d)

@@ -37,9 +37,10 @@ setting_at P c place block t = setting P c.degree (before c place) (scale_for c 
 abbrev pub StandsOver : ℕ → Block → Mode → ℕ → Type 0
 StandsOver degree block mode d = ((mode ≡ mode_of block.task.kind) × (budget_of degree block.task.kind ≤ d)) ⊎ (mode ≡ Past)
 
--- Of a certificate that is held, a form that fits the rules over a block, which holds over those before it: at every limit, the potential of the
--- context is enough for what the run owes and for the potential of its outcome. So without cost potential does not rise; with cost it falls by what
--- the run costs; and where the run is cut, there was enough for what it cost so far.
+-- Of a certificate that is held, a form that fits the rules over a block, which holds over those before it: at every
+-- limit, the potential of the context is enough for what the run owes and for the potential of its outcome. So without
+-- cost potential does not rise; with cost it falls by what the run costs; and where the run is cut, there was enough
+-- for what it cost so far.
 abbrev pub FormsPay : Type 0
 FormsPay =
     (P : Program) → All (IsNormal P.funs) P.funs → (c : Certificate) → Held P c →
@@ -49,8 +50,8 @@ FormsPay =
     (q r : Annotation) (hs out : List Hint) → Ann (setting_at P c place block t) mode d C q e T r hs out →
     (n : ℕ) → Enough (scale_for c block.task.kind * t) mode d C env q T r (eval_norm P.funs n env e)
 
--- Over the blocks before a place of a certificate a block of the meter holds with t, and has this signature for the function. Each solved block of a
--- held certificate with cost holds so with 1.
+-- Over the blocks before a place of a certificate a block of the meter holds with t, and has this signature for the
+-- function. Each solved block of a held certificate with cost holds so with 1.
 pub record Signs (P : Program) (c : Certificate) (meter : Meter) (t f : ℕ) (s : Sig) : Type 0 where
   pub place : ℕ
   pub block : Block

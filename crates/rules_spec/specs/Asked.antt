@@ -4,8 +4,8 @@ use Rattle.rules_spec.specs.Plan as p
 use Rattle.rules_spec.specs.Plan.{Part}
 use Rattle.rules_spec.specs.Numbers.{Hint, Results, Copies, Multiples}
 
--- A hint that is asked for: how many positions the result has at each tuple, or the context with both copies has, or the blocks whose signatures may be
--- taken.
+-- A hint that is asked for: how many positions the result has at each tuple, or the context with both copies has, or
+-- the blocks whose signatures may be taken.
 pub data Ask : Type 0 where
   ResultsOf : List ℕ → Ask
   CopiesOf : ℕ → Ask
@@ -24,7 +24,8 @@ abbrev mutual
   asked (p.Forks n step a other b) = asked a ++ asked b
   asked (p.Shares n size step e) = CopiesOf size ∷ asked e
   asked (p.Calls n c) = MultiplesOf c.usable ∷ []
-  asked (p.Lets n parts firsts size e) = ResultsOf (map (λ (part : Part). part.size) parts) ∷ (each_asked (all_asked firsts) parts ++ asked e)
+  asked (p.Lets n parts firsts size e) =
+      ResultsOf (map (λ (part : Part). part.size) parts) ∷ (each_asked (all_asked firsts) parts ++ asked e)
 
   pub all_asked : p.Plans → List (List Ask)
   all_asked p.NoPlans = []

@@ -21,8 +21,9 @@ pub record Signature : Type 0 where
   pub args : List ℕ
   pub result : List ℕ
 
--- What a walk knows beside its plan: the scale of the prices, the present block's budget, the signatures of its group in order, those of the earlier
--- cost-free blocks, by the block and the function, and those with cost, by the meter and the function.
+-- What a walk knows beside its plan: the scale of the prices, the present block's budget, the signatures of its group
+-- in order, those of the earlier cost-free blocks, by the block and the function, and those with cost, by the meter and
+-- the function.
 pub record Known (E : Type 0) : Type 0 where
   pub scale : ℕ
   pub budget : ℕ
@@ -30,8 +31,8 @@ pub record Known (E : Type 0) : Type 0 where
   pub free : ℕ → ℕ → Signature
   pub cost : Meter → ℕ → Option Signature
 
--- What the rules leave open: of a Let a result for each tuple, of a Share the annotation of the context with both copies, and of a call how often the
--- signatures of earlier blocks are taken.
+-- What the rules leave open: of a Let a result for each tuple, of a Share the annotation of the context with both
+-- copies, and of a call how often the signatures of earlier blocks are taken.
 pub data Hint (E : Type 0) : Type 0 where
   Results : List (List E) → Hint E
   Copies : List E → Hint E

@@ -7,16 +7,18 @@ pub record Step : Type 0 where
   pub size : ℕ
   pub entries : List Entry
 
--- Of a Let, a tuple of the variables that the bound form does not use: the map to the bound form's context, at the budget that the tuple leaves; how
--- many positions the bound form's result has there, and the entries from these to the context of the rest; and the tuple's degree.
+-- Of a Let, a tuple of the variables that the bound form does not use: the map to the bound form's context, at the
+-- budget that the tuple leaves; how many positions the bound form's result has there, and the entries from these to the
+-- context of the rest; and the tuple's degree.
 pub record Part : Type 0 where
   pub there : Step
   pub size : ℕ
   pub joins : List Entry
   pub degree : ℕ
 
--- Of a call: the function, its place in the present group where it is of it, the numbers of the cost-free blocks whose signatures may be taken, how many
--- positions the context and the result have, and, for a signature at each budget from 0 on, the entries from its arguments and from its result.
+-- Of a call: the function, its place in the present group where it is of it, the numbers of the cost-free blocks whose
+-- signatures may be taken, how many positions the context and the result have, and, for a signature at each budget from
+-- 0 on, the entries from its arguments and from its result.
 pub record Called : Type 0 where
   pub function : ℕ
   pub own : Option ℕ
@@ -40,8 +42,8 @@ mutual
     -- how many positions the context has with the variable twice, the map from there, and the rest
     Shares : ℕ → ℕ → Step → Plan → Plan
     Calls : ℕ → Called → Plan
-    -- the tuples of the other variables, the bound form at each budget from the present one down, how many positions the context of the rest has, and
-    -- the rest
+    -- the tuples of the other variables, the bound form at each budget from the present one down, how many positions
+    -- the context of the rest has, and the rest
     Lets : ℕ → List Part → Plans → ℕ → Plan → Plan
 
   pub data Plans : Type 0 where

@@ -1,5 +1,6 @@
 -- The plan of a form: its rules at the positions of its contexts.
-use Rattle.std.specs.Prelude.{ℕ, zero, suc, ◌-◌, nat_eq, nat_le, cond, Bool, false, List, [], ◌∷◌, ◌++◌, map, slice_get, max, Option, None, Some, option_map}
+use Rattle.std.specs.Prelude.{ℕ, zero, suc, ◌-◌, nat_eq, nat_le, cond, Bool, false, List, [], ◌∷◌, ◌++◌, map, slice_get, max, Option, None}
+use Rattle.std.specs.Prelude.{Some, option_map}
 use Rattle.std.specs.List.{range_with_len}
 use Rattle.raml_syntax.specs.Tree.{Type'}
 use Rattle.base_poly.specs.Plain.{Plain, degrees}

@@ -19,8 +19,8 @@ abbrev pub AreAmong : List ℕ → Entries → Type 0
 AreAmong blocks [] = Unit {0}
 AreAmong blocks (m ∷ ms) = Contains blocks m.0 × AreAmong blocks ms
 
--- A hint of the kind that is asked for, in whose range it stays. That the positions of annotations ascend, and that their numbers are positive, is a fact
--- of annotations; multiples have to be looked at.
+-- A hint of the kind that is asked for, in whose range it stays. That the positions of annotations ascend, and that
+-- their numbers are positive, is a fact of annotations; multiples have to be looked at.
 abbrev pub FitsAsk : Ask → c.Hint → Type 0
 FitsAsk (ResultsOf sizes) (c.Let results) = EachWithin sizes results
 FitsAsk (CopiesOf size) (c.Share copies) = Within size copies

@@ -33,7 +33,8 @@ system_of j weights = record { unknowns = unknowns j; rows = rows_of (unknowns j
 abbrev pub amount : List ℕ → ℕ → Amount
 amount x u = record { plus = slice_index_or x u 0; minus = 0 }
 
--- Numbers over t solve the rows exactly where the signatures and hints that they give meet all conditions, prices and earlier numbers taken t times.
+-- Numbers over t solve the rows exactly where the signatures and hints that they give meet all conditions, prices and
+-- earlier numbers taken t times.
 abbrev pub RowsAreConditions : Type 0
 RowsAreConditions = (j : Job) (weights : List ℤ) (t : ℕ) (x : List ℕ) → length x ≡ unknowns j →
     Solves (system_of j weights) (map pos x) (pos t) ↔ AllMeet (given_conditions (amounts t) (amount x) j)

@@ -1,5 +1,6 @@
 -- Entries over amounts, as the annotations of the rules.
-use Rattle.std.specs.Prelude.{◌≡◌, ℕ, ℤ, ◌+◌, ◌<◌, unsigned_abs, List, [], ◌∷◌, length, slice_get, slice_index_or, Contains, Option, None, Some}
+use Rattle.std.specs.Prelude.{◌≡◌, ℕ, ℤ, ◌+◌, ◌<◌, unsigned_abs, List, [], ◌∷◌, length, slice_get, slice_index_or, Contains, Option, None}
+use Rattle.std.specs.Prelude.{Some}
 use Rattle.index_shift.specs.Potential.{Annotation}
 use Rattle.index_shift.specs.declared.entry.Entry.{Entry}
 use Rattle.normal_spec.specs.Norm.{NormFun}
@@ -89,8 +90,10 @@ pub record Reads (S : Setting) (group : List (Sides Amount)) (free : ℕ → ℕ
   pub own : (f k : ℕ) (g : NormFun) → slice_get S.program.funs f ≡ Some g → place_in S.group f ≡ Some k →
       (s : Sig) × (own_sig S f ≡ Some s) × SidesStand g S.budget (slice_index_or group k (record { args = []; result = [] })) s
   pub own_none : (f : ℕ) → place_in S.group f ≡ None → own_sig S f ≡ None
-  pub cost_some : (meter : Meter) (f : ℕ) (g : NormFun) (numbers : Signature) → slice_get S.program.funs f ≡ Some g → cost meter f ≡ Some numbers →
+  pub cost_some : (meter : Meter) (f : ℕ) (g : NormFun) (numbers : Signature) →
+      slice_get S.program.funs f ≡ Some g → cost meter f ≡ Some numbers →
       (s : Sig) × (cost_sig S.program meter S.earlier f ≡ Some s) × SidesNumbered g S.budget numbers s
   pub cost_none : (meter : Meter) (f : ℕ) → cost meter f ≡ None → cost_sig S.program meter S.earlier f ≡ None
-  pub free_is : (k f budget : ℕ) (g : NormFun) (block : Block) (s : Sig) → slice_get S.program.funs f ≡ Some g → slice_get S.earlier k ≡ Some block →
+  pub free_is : (k f budget : ℕ) (g : NormFun) (block : Block) (s : Sig) →
+      slice_get S.program.funs f ≡ Some g → slice_get S.earlier k ≡ Some block →
       free_budget block.task.kind ≡ Some budget → sig_in S.program block f ≡ Some s → SidesNumbered g budget (free k f) s

@@ -13,8 +13,8 @@ pub record Body : Type 0 where
   pub args : ℕ
   pub result : ℕ
 
--- The bodies of the group in order, the mode in which they are walked, the scale, the budget, the signatures of earlier blocks, and the target: the place
--- of its function in the group, and the positions of its tuples.
+-- The bodies of the group in order, the mode in which they are walked, the scale, the budget, the signatures of earlier
+-- blocks, and the target: the place of its function in the group, and the positions of its tuples.
 pub record Job : Type 0 where
   pub bodies : List Body
   pub mode : Mode

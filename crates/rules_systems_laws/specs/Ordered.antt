@@ -11,8 +11,8 @@ abbrev pub AreApart : List ℕ → Type 0
 AreApart [] = Unit {0}
 AreApart (f ∷ fs) = (list_any (nat_eq f) fs ≡ false) × AreApart fs
 
--- Each function uses its parameters; the groups have functions of the program, none twice in a group; and what a function of a group calls is of that
--- group or of an earlier one.
+-- Each function uses its parameters; the groups have functions of the program, none twice in a group; and what a
+-- function of a group calls is of that group or of an earlier one.
 pub record IsOrdered (P : Program) : Type 0 where
   pub uses : (f : ℕ) (g : NormFun) → slice_get P.funs f ≡ Some g → Uses P.funs g.params g.body g.result
   pub there : (group f : ℕ) → is_among f (members P group) ≡ true → (g : NormFun) × (slice_get P.funs f ≡ Some g)

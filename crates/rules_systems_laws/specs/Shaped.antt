@@ -12,11 +12,13 @@ use Rattle.rules_spec.specs.Systems.{IsTask}
 use Rattle.rules_systems_laws.specs.Laws.{IsNumbered}
 use Rattle.rules_systems_laws.specs.Ordered.{IsOrdered}
 
--- The function is of the group, the budget is at most d, and the number is that of a target of the function, whose degree is at most the budget.
+-- The function is of the group, the budget is at most d, and the number is that of a target of the function, whose
+-- degree is at most the budget.
 pub record IsOfTarget (P : Program) (d group budget f number : ℕ) : Type 0 where
   pub member : is_among f (members P group) ≡ true
   pub budget_fits : budget ≤ d
-  pub target : (g : NormFun) → slice_get P.funs f ≡ Some g → (t : Target) × (slice_get (targets g.result d) number ≡ Some t) × (degree_of t ≤ budget)
+  pub target : (g : NormFun) → slice_get P.funs f ≡ Some g → (t : Target)
+      × (slice_get (targets g.result d) number ≡ Some t) × (degree_of t ≤ budget)
 
 abbrev pub HasNumber : Program → ℕ → ℕ → Kind → Type 0
 HasNumber P d group (Free budget f number) = IsOfTarget P d group budget f number
@@ -36,8 +38,9 @@ IsSigned P block = IfSolved block.body (length (sigs_of block.body) ≡ length (
 abbrev pub AreSigned : Program → List Block → Type 0
 AreSigned P earlier = (place : ℕ) (block : Block) → slice_get earlier place ≡ Some block → IsSigned P block
 
--- What the system of a task asks for is there where the task is the next one after these blocks, and waits for no function: its functions, its target,
--- and a signature with cost for each function that is called from outside of its group. It is not asked that the blocks hold.
+-- What the system of a task asks for is there where the task is the next one after these blocks, and waits for no
+-- function: its functions, its target, and a signature with cost for each function that is called from outside of its
+-- group. It is not asked that the blocks hold.
 abbrev pub ShapedAreTasks : Type 0
 ShapedAreTasks =
     (P : Program) (d : ℕ) (work : Bool) (earlier : List Block) (task : Task) (scale : ℕ) →

@@ -31,7 +31,8 @@ module _ (uses : Uses) where
     result_from = c.result_from;
   }
 
-  -- A plan at budget d, whose calls may take these. The first plan of a Let's bound form is at the same budget, and each other one at the next lower one.
+  -- A plan at budget d, whose calls may take these. The first plan of a Let's bound form is at the same budget, and
+  -- each other one at the next lower one.
   abbrev mutual
     pub filled : ℕ → p.Plan → p.Plan
     filled d (p.Ends n cells steps) = p.Ends n cells steps

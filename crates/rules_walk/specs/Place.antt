@@ -19,7 +19,8 @@ module _ {T : Type 0} (A : n.Numbers T) where
   -- for one of them
   abbrev pub part_at : Place T → p.Plans → p.Part → ℕ → List ℕ → List T → List (n.Hint T) → n.Walked T
   part_at at es part number path q hs =
-      slice_index_or (w.walks A (known_of at.known.now) es) part.degree w.still (mode_of at.mode) (path ++ number ∷ []) (w.moved A part.there q) at.result.now hs
+      slice_index_or (w.walks A (known_of at.known.now) es) part.degree w.still (mode_of at.mode)
+      (path ++ number ∷ []) (w.moved A part.there q) at.result.now hs
 
   -- the body of the function at this place of the group, with its signature
   abbrev pub body_walked : n.Known T → p.Plan → r.Mode → ℕ → List (n.Hint T) → n.Walked T

@@ -30,5 +30,6 @@ NonePasses P meter t earlier = (f : ℕ) (s : Sig) → cost_sig P meter earlier 
 pub record Rises (meter : Meter) (t : ℕ) (old new : Tables) : Type 0 where
   pub free : new.free ≡ old.free
   pub usable : new.usable ≡ old.usable
-  pub paying : map (option_map signature_of) (costs new meter) ≡ map (option_map (raised_signature t)) (map (option_map signature_of) (costs old meter))
+  pub paying : map (option_map signature_of) (costs new meter)
+      ≡ map (option_map (raised_signature t)) (map (option_map signature_of) (costs old meter))
   pub others : (other : Meter) → same_meter other meter ≡ false → costs new other ≡ costs old other

@@ -1,5 +1,6 @@
 -- What the code's plans, hints and signatures are as plain data.
-use Rattle.std.specs.Prelude.{ℕ, zero, suc, ◌+◌, ◌*◌, Vec, nat_eq, cond, List, [], ◌∷◌, map, slice_index_or, Option, None, option_map, Bool, false, ◌&&◌}
+use Rattle.std.specs.Prelude.{ℕ, zero, suc, ◌+◌, ◌*◌, Vec, nat_eq, cond, List, [], ◌∷◌, map, slice_index_or, Option, None, option_map, Bool}
+use Rattle.std.specs.Prelude.{false, ◌&&◌}
 use Rattle.std.specs.Option.{is_none}
 use Rattle.std.specs.Global.{Global}
 use Rattle.std.specs.declared.rc.Rc.{Rc}
@@ -131,7 +132,8 @@ charged (r.With Work) Work n = n
 charged mode meter n = 0
 
 -- the bound form of a Let, for each tuple from this one on
-abbrev pub each_from : {T : Type 0} → n.Numbers T → Known T → p.Plans → ℕ → List p.Part → List (List T) → r.Mode → List ℕ → List T → List (n.Hint T) → n.Walked T
+abbrev pub each_from : {T : Type 0} → n.Numbers T → Known T → p.Plans → ℕ → List p.Part →
+    List (List T) → r.Mode → List ℕ → List T → List (n.Hint T) → n.Walked T
 each_from A s es k parts rs mode path q hs = w.each A (known_of s) (w.walks A (known_of s) es) k parts rs q mode path hs
 
 -- what a recursion on a plan goes down in

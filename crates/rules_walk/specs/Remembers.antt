@@ -15,8 +15,8 @@ use Rattle.rules_walk.specs.Read.{signature_of, signed}
 use Rattle.rules_walk.specs.Filled.{uses_of}
 use Rattle.rules_walk.specs.declared.plan.Usage.{Usage}
 
--- For each block the signatures that it has without cost, for each function the blocks that have one, by ascending number, and for each meter and each
--- function the signature that pays.
+-- For each block the signatures that it has without cost, for each function the blocks that have one, by ascending
+-- number, and for each meter and each function the signature that pays.
 pub record Tables : Type 0 where
   pub free : List (List Signed)
   pub usable : List (List Usage)
@@ -59,4 +59,5 @@ capped_signature s = record { budget = s.budget; args = map cap s.args; result =
 -- The tables tell of the blocks what walks hear. Of a number that leaves 128 bits, this is the greatest one of 128 bits.
 pub record Knows (P : Program) (d : ℕ) (earlier : List Block) (t : Tables) : Type 0 where
   pub free : (k f : ℕ) → free_at t k f ≡ free_from (over P d earlier) k f
-  pub cost : (meter : Meter) (f : ℕ) → option_map capped_signature (cost_at t meter f) ≡ option_map capped_signature (cost_from (over P d earlier) meter f)
+  pub cost : (meter : Meter) (f : ℕ) →
+      option_map capped_signature (cost_at t meter f) ≡ option_map capped_signature (cost_from (over P d earlier) meter f)

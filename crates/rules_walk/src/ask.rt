@@ -46,7 +46,8 @@ fn append(
     plan: &Plan,
     asks: &mut Vec<Ask>,
 ) -> Result<(), AllocError>
-    ensures { OnOk result (asks_of asks.new.items ≡ asks_of asks.old.items ++ asked (filled (uses_of (table_of uses.now)) budget (plan_of plan.now))) }
+    ensures { OnOk result (asks_of asks.new.items ≡ asks_of asks.old.items
+        ++ asked (filled (uses_of (table_of uses.now)) budget (plan_of plan.now))) }
 {
     match plan {
         Plan::Ends(_, _, _) => Ok(()),
@@ -74,7 +75,8 @@ fn append_both(
     asks: &mut Vec<Ask>,
 ) -> Result<(), AllocError>
     ensures { OnOk result (asks_of asks.new.items ≡ asks_of asks.old.items
-        ++ (asked (filled (uses_of (table_of uses.now)) budget (plan_of first.now)) ++ asked (filled (uses_of (table_of uses.now)) budget (plan_of second.now)))) }
+        ++ (asked (filled (uses_of (table_of uses.now)) budget (plan_of first.now))
+        ++ asked (filled (uses_of (table_of uses.now)) budget (plan_of second.now)))) }
 {
     append(alloc, uses, budget, first, asks)?;
     append(alloc, uses, budget, second, asks)
@@ -90,7 +92,8 @@ fn append_shared(
     rest: &Plan,
     asks: &mut Vec<Ask>,
 ) -> Result<(), AllocError>
-    ensures { OnOk result (asks_of asks.new.items ≡ asks_of asks.old.items ++ (CopiesOf size ∷ asked (filled (uses_of (table_of uses.now)) budget (plan_of rest.now)))) }
+    ensures { OnOk result (asks_of asks.new.items ≡ asks_of asks.old.items
+        ++ (CopiesOf size ∷ asked (filled (uses_of (table_of uses.now)) budget (plan_of rest.now)))) }
 {
     asks.push(Ask::Copies(size))?;
     append(alloc, uses, budget, rest, asks)
@@ -132,7 +135,8 @@ fn append_called(
     called: &Called,
     asks: &mut Vec<Ask>,
 ) -> Result<(), AllocError>
-    ensures { OnOk result (asks_of asks.new.items ≡ asks_of asks.old.items ++ (MultiplesOf (uses_of (table_of uses.now) budget called.now.function) ∷ [])) }
+    ensures { OnOk result (asks_of asks.new.items ≡ asks_of asks.old.items
+        ++ (MultiplesOf (uses_of (table_of uses.now) budget called.now.function) ∷ [])) }
 {
     let blocks = usable(alloc, uses, budget, called.function)?;
     asks.push(Ask::Multiples(blocks))?;
@@ -183,7 +187,8 @@ fn append_each(
     asks: &mut Vec<Ask>,
 ) -> Result<(), AllocError>
     ensures { OnOk result (asks_of asks.new.items
-        ≡ asks_of asks.old.items ++ each_asked (all_asked (all_filled (uses_of (table_of uses.now)) budget (plans_of firsts.now))) (map part_of parts.now)) }
+        ≡ asks_of asks.old.items
+        ++ each_asked (all_asked (all_filled (uses_of (table_of uses.now)) budget (plans_of firsts.now))) (map part_of parts.now)) }
 {
     for part in parts {
         append_at(alloc, uses, budget, firsts, part.degree, asks)?;
@@ -202,7 +207,8 @@ fn append_at(
     asks: &mut Vec<Ask>,
 ) -> Result<(), AllocError>
     ensures { OnOk result (asks_of asks.new.items
-        ≡ asks_of asks.old.items ++ slice_index_or (all_asked (all_filled (uses_of (table_of uses.now)) budget (plans_of firsts.now))) place []) }
+        ≡ asks_of asks.old.items
+        ++ slice_index_or (all_asked (all_filled (uses_of (table_of uses.now)) budget (plans_of firsts.now))) place []) }
 {
     if place >= firsts.len() {
         return Ok(());

@@ -2,8 +2,10 @@
 ghost use Rattle.std.specs.Prelude.{◌≡◌, [], ◌∷◌, map, option_map, IfOk, OnOk};
 ghost use Rattle.std.specs.Option.{unwrap_or};
 ghost use Rattle.std.specs.Borrow.{Bor};
-ghost use Rattle.rules_spec.specs.Walk.{brought, nothing, taken, none_taken, group_sides, cost_sides, free_sides, paid, once, used, refunded, sums};
-ghost use Rattle.rules_walk.specs.Read.{mode_of, called_of, sides_of, signature_of, no_signature, signed, known_of, cost_of, lent, is_unpaid};
+ghost use Rattle.rules_spec.specs.Walk.{brought, nothing, taken, none_taken, group_sides, cost_sides, free_sides, paid, once, used};
+ghost use Rattle.rules_spec.specs.Walk.{refunded, sums};
+ghost use Rattle.rules_walk.specs.Read.{mode_of, called_of, sides_of, signature_of, no_signature, signed, known_of, cost_of, lent};
+ghost use Rattle.rules_walk.specs.Read.{is_unpaid};
 
 use crate::entries::{bring, bring_multiples, bring_numbers, entries_at, lower_first, nothing};
 use crate::kind::Kind;
@@ -22,7 +24,8 @@ fn take<T: Kind>(
     result_of: &[T],
     out: &mut Sides<T>,
 ) -> Result<(), AllocError>
-    ensures { OnOk result (sides_of out.new ≡ taken T.kind (known_of s.now) (called_of called.now) budget (lent args.now result_of.now) (sides_of out.old)) }
+    ensures { OnOk result (sides_of out.new
+        ≡ taken T.kind (known_of s.now) (called_of called.now) budget (lent args.now result_of.now) (sides_of out.old)) }
 {
     bring(
         alloc,
@@ -46,7 +49,9 @@ fn take_numbers<T: Kind>(
     given: &Signature,
     out: &mut Sides<T>,
 ) -> Result<(), AllocError>
-    ensures { OnOk result (sides_of out.new ≡ taken T.kind (known_of s.now) (called_of called.now) given.now.budget (cost_sides T.kind (known_of s.now) (signature_of given.now)) (sides_of out.old)) }
+    ensures { OnOk result (sides_of out.new
+        ≡ taken T.kind (known_of s.now) (called_of called.now) given.now.budget
+        (cost_sides T.kind (known_of s.now) (signature_of given.now)) (sides_of out.old)) }
 {
     bring_numbers(
         alloc,
@@ -71,7 +76,9 @@ fn take_multiples<T: Kind>(
     entry: &T,
     out: &mut Sides<T>,
 ) -> Result<(), AllocError>
-    ensures { OnOk result (sides_of out.new ≡ taken T.kind (known_of s.now) (called_of called.now) given.now.budget (free_sides T.kind (known_of s.now) (signature_of given.now) entry.now) (sides_of out.old)) }
+    ensures { OnOk result (sides_of out.new
+        ≡ taken T.kind (known_of s.now) (called_of called.now) given.now.budget
+        (free_sides T.kind (known_of s.now) (signature_of given.now) entry.now) (sides_of out.old)) }
 {
     bring_multiples(
         alloc,
@@ -111,7 +118,8 @@ fn own<T: Kind>(
     place: usize,
 ) -> Result<Sides<T>, AllocError>
     ensures { IfOk result (λ out. sides_of out
-        ≡ taken T.kind (known_of s.now) (called_of called.now) s.now.budget (group_sides T.kind (known_of s.now) place) (none_taken T.kind (known_of s.now) (called_of called.now))) }
+        ≡ taken T.kind (known_of s.now) (called_of called.now) s.now.budget (group_sides T.kind (known_of s.now) place)
+        (none_taken T.kind (known_of s.now) (called_of called.now))) }
 {
     let mut out = none_taken(alloc, s, called)?;
     let args = args_at(s.group, place);
@@ -140,7 +148,8 @@ fn paid<T: Kind>(
     given: Option<&Signature>,
 ) -> Result<Sides<T>, AllocError>
     ensures { IfOk result (λ out. sides_of out
-        ≡ paid T.kind (known_of s.now) (called_of called.now) (option_map (λ (given : Bor Signature). signature_of given.now) given.entry)) }
+        ≡ paid T.kind (known_of s.now) (called_of called.now)
+        (option_map (λ (given : Bor Signature). signature_of given.now) given.entry)) }
 {
     let mut out = none_taken(alloc, s, called)?;
     if let Some(signature) = given {
@@ -173,7 +182,8 @@ fn once<T: Kind>(
 
 // The first of these signatures that is the function's.
 fn find(signatures: &[Signed], function: usize) -> Option<&Signature>
-    ensures { unwrap_or (option_map (λ (given : Bor Signature). signature_of given.now) result) no_signature ≡ signed function signatures.now }
+    ensures { unwrap_or (option_map
+        (λ (given : Bor Signature). signature_of given.now) result) no_signature ≡ signed function signatures.now }
 {
     for signed in signatures {
         if signed.function == function {
@@ -192,7 +202,8 @@ fn use_multiple<T: Kind>(
     entry: &T,
     out: &mut Sides<T>,
 ) -> Result<(), AllocError>
-    ensures { OnOk result (sides_of out.new ≡ used T.kind (known_of s.now) (called_of called.now) ((block, entry.now) ∷ []) (sides_of out.old)) }
+    ensures { OnOk result (sides_of out.new
+        ≡ used T.kind (known_of s.now) (called_of called.now) ((block, entry.now) ∷ []) (sides_of out.old)) }
 {
     match find(entries_at(s.free, block as usize), called.function) {
         Some(given) => take_multiples(alloc, s, called, given, entry, out),

@@ -116,7 +116,9 @@ impl Earlier {
         sizes: &[(usize, usize)],
     ) -> Result<(), AllocError>
         ensures all { OnOk result ((P : Program) (earlier : List c.Block) →
-            ids_of functions.now ≡ members P block.now.task.group → IfSolved (body_of block.now.body) (AreSizes P (budget_of degree (kind_of block.now.task.kind)) (members P block.now.task.group) sizes.now) →
+            ids_of functions.now ≡ members P block.now.task.group →
+            IfSolved (body_of block.now.body)
+            (AreSizes P (budget_of degree (kind_of block.now.task.kind)) (members P block.now.task.group) sizes.now) →
             Remembers P degree earlier self.old → Remembers P degree (earlier ++ block_of block.now ∷ []) self.new) }
         ensures kept { OnErr result (self.new ≡ self.old) }
     {
@@ -194,7 +196,8 @@ impl Earlier {
         ensures uses { self.new.usable ≡ self.old.usable }
         ensures remembers { (P : Program) (degree : ℕ) (earlier : List c.Block) → NonePasses P meter factor earlier →
             Remembers P degree earlier self.old → Remembers P degree (map (raised meter factor) earlier) self.new }
-        ensures knows { (P : Program) (degree : ℕ) (earlier : List c.Block) → Remembers P degree earlier self.old → Knows P degree (map (raised meter factor) earlier) self.new }
+        ensures knows { (P : Program) (degree : ℕ) (earlier : List c.Block) → Remembers P degree earlier self.old →
+            Knows P degree (map (raised meter factor) earlier) self.new }
     {
         self.rise(meter, factor);
     }
@@ -218,7 +221,8 @@ impl Earlier {
 
     /// What a walk knows at this scale, in a block of this budget with these signatures of its group.
     pub fn known<'a, T>(&'a self, scale: u128, budget: usize, group: &'a [Sides<T>]) -> Known<'a, T>
-        ensures { known_of result ≡ record { scale = scale; budget = budget; group = map sides_of group.now; free = free_at self.now; cost = cost_at self.now } }
+        ensures { known_of result
+            ≡ record { scale = scale; budget = budget; group = map sides_of group.now; free = free_at self.now; cost = cost_at self.now } }
     {
         Known {
             scale,

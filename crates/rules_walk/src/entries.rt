@@ -191,7 +191,8 @@ pub fn joined<T: Kind>(
     parts: &[Part],
     results: &[Vec<T>],
 ) -> Result<Vec<T>, AllocError>
-    ensures { IfOk result (λ out. out.items ≡ joined T.kind (nothing T.kind size) 0 (map part_of parts.now) (map (λ v. v.items) results.now)) }
+    ensures { IfOk result (λ out. out.items
+        ≡ joined T.kind (nothing T.kind size) 0 (map part_of parts.now) (map (λ v. v.items) results.now)) }
 {
     let mut out = nothing(alloc, size)?;
     for number in 0..parts.len() {

@@ -57,7 +57,8 @@ fn join_spans(parts: &[Part]) -> Option<u128>
 
 // A bound form for one tuple, by what its plan at each budget makes.
 fn part_growth(budgets: &[u128], part: &Part) -> Option<u128>
-    ensures { IfSome result (λ all. all ≡ slice_index_or budgets.now (part_of part.now).degree 0 * (1 + span (part_of part.now).there.entries)) }
+    ensures { IfSome result (λ all. all
+        ≡ slice_index_or budgets.now (part_of part.now).degree 0 * (1 + span (part_of part.now).there.entries)) }
 {
     match budgets.get(part.degree) {
         Some(growth) => growth.checked_mul(1u128.checked_add(span(&part.there.entries)?)?),
@@ -149,7 +150,9 @@ fn bound_growth(
     rest: &Plan,
     factor: u128,
 ) -> Option<u128>
-    ensures { IfSome result (λ all. all ≡ (1 + each_growth (growths factor (plans_of firsts.now)) parts.now) * (1 + nodes) + growth factor (plan_of rest.now) * (1 + join_spans parts.now)) }
+    ensures { IfSome result (λ all. all
+        ≡ (1 + each_growth (growths factor (plans_of firsts.now)) parts.now) * (1 + nodes) + growth factor
+        (plan_of rest.now) * (1 + join_spans parts.now)) }
 {
     let tuples = parts.list();
     let budgets = growths(alloc, firsts, factor)?;

@@ -32,7 +32,8 @@ fn raise_entry(entry: &mut Option<Signature>, factor: u128)
 
 /// The signatures of a table.
 pub fn raise_all(table: &mut Vec<Option<Signature>>, factor: u128)
-    ensures { map (option_map signature_of) table.new.items ≡ map (option_map (raised_signature factor)) (map (option_map signature_of) table.old.items) }
+    ensures { map (option_map signature_of) table.new.items
+        ≡ map (option_map (raised_signature factor)) (map (option_map signature_of) table.old.items) }
 {
     for place in 0..table.len() {
         raise_entry(&mut table[place], factor);

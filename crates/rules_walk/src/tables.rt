@@ -10,7 +10,8 @@ use std::alloc::AllocError;
 // The block is noted for a function.
 fn note(uses: &mut Vec<Vec<Usage>>, function: usize, usage: Usage) -> Result<(), AllocError>
     ensures noted { OnOk result (map (λ us. us.items) uses.new.items
-        ≡ slice_set (map (λ us. us.items) uses.old.items) function (slice_index_or (map (λ us. us.items) uses.old.items) function [] ++ usage ∷ [])) }
+        ≡ slice_set (map (λ us. us.items) uses.old.items) function
+        (slice_index_or (map (λ us. us.items) uses.old.items) function [] ++ usage ∷ [])) }
     ensures kept { OnErr result (map (λ us. us.items) uses.new.items ≡ map (λ us. us.items) uses.old.items) }
 {
     if function < uses.len() {
@@ -22,7 +23,8 @@ fn note(uses: &mut Vec<Vec<Usage>>, function: usize, usage: Usage) -> Result<(),
 // It is noted no more.
 fn forget(uses: &mut Vec<Vec<Usage>>, function: usize)
     ensures { map (λ us. us.items) uses.new.items
-        ≡ slice_set (map (λ us. us.items) uses.old.items) function (front (slice_index_or (map (λ us. us.items) uses.old.items) function [])) }
+        ≡ slice_set (map (λ us. us.items) uses.old.items) function
+        (front (slice_index_or (map (λ us. us.items) uses.old.items) function [])) }
 {
     if function < uses.len() {
         uses[function].pop();
@@ -38,7 +40,8 @@ pub fn note_all(
     place: usize,
     usage: Usage,
 ) -> Result<(), AllocError>
-    ensures noted { OnOk result (map (λ us. us.items) uses.new.items ≡ noted usage (drop place signed.now) (map (λ us. us.items) uses.old.items)) }
+    ensures noted { OnOk result
+        (map (λ us. us.items) uses.new.items ≡ noted usage (drop place signed.now) (map (λ us. us.items) uses.old.items)) }
     ensures kept { OnErr result (map (λ us. us.items) uses.new.items ≡ map (λ us. us.items) uses.old.items) }
 {
     if place >= signed.len() {
@@ -58,7 +61,8 @@ pub fn note_all(
 fn fill(table: &mut Vec<Option<Signature>>, signed: Signed)
     ensures { map (option_map signature_of) table.new.items
         ≡ slice_set (map (option_map signature_of) table.old.items) signed.function
-        (Some (standing (slice_index_or (map (option_map signature_of) table.old.items) signed.function None) (signature_of signed.signature))) }
+        (Some (standing (slice_index_or
+        (map (option_map signature_of) table.old.items) signed.function None) (signature_of signed.signature))) }
 {
     let place = signed.function;
     if place < table.len() && table[place].is_none() {
@@ -68,7 +72,8 @@ fn fill(table: &mut Vec<Option<Signature>>, signed: Signed)
 
 /// So does each of these.
 pub fn fill_all(table: &mut Vec<Option<Signature>>, signed: Vec<Signed>)
-    ensures { map (option_map signature_of) table.new.items ≡ filled (all_signed signed.items) (map (option_map signature_of) table.old.items) }
+    ensures { map (option_map signature_of) table.new.items
+        ≡ filled (all_signed signed.items) (map (option_map signature_of) table.old.items) }
 {
     for one in signed {
         fill(table, one);

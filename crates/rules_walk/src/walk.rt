@@ -3,7 +3,8 @@ ghost use Rattle.std.specs.Prelude.{◌≡◌, ◌*◌, ◌+◌, ◌++◌, ◌�
 ghost use Rattle.rules_spec.specs.Plan as p;
 ghost use Rattle.rules_spec.specs.Walk.{at, at_zero, missing, numbered};
 ghost use Rattle.rules_walk.specs.Steps.{step_of, part_of};
-ghost use Rattle.rules_walk.specs.Read.{mode_of, plan_of, plans_of, called_of, hints_of, known_of, nodes_rows, nodes_index, nodes_left, charged};
+ghost use Rattle.rules_walk.specs.Read.{mode_of, plan_of, plans_of, called_of, hints_of, known_of, nodes_rows, nodes_index, nodes_left};
+ghost use Rattle.rules_walk.specs.Read.{charged};
 ghost use Rattle.rules_walk.specs.Place.{walked_at, each_at, part_at, body_walked};
 
 use crate::calls::{is_unpaid, sums};
@@ -43,7 +44,9 @@ fn pay<T: Kind, J: Judge<T>>(
     path: &[u32],
     entries: &mut Vec<T>,
 ) -> Result<(), AllocError>
-    ensures heard { OnOk result (J.verdict judge.new ≡ J.after (J.verdict judge.old) (numbered path.now index ((at T.kind entries.old.items 0, T.kind.number (n * here.now.known.now.scale)) ∷ []))) }
+    ensures heard { OnOk result
+        (J.verdict judge.new ≡ J.after (J.verdict judge.old)
+        (numbered path.now index ((at T.kind entries.old.items 0, T.kind.number (n * here.now.known.now.scale)) ∷ []))) }
     ensures left { OnOk result (entries.new.items ≡ at_zero (T.kind.less (n * here.now.known.now.scale)) entries.old.items) }
 {
     let price = number_alone(here.alloc, n, here.known.scale)?;
@@ -60,7 +63,8 @@ fn begin<T: Kind, J: Judge<T>>(
     path: &[u32],
     entries: &mut Vec<T>,
 ) -> Result<usize, AllocError>
-    ensures heard { OnOk result (J.verdict judge.new ≡ J.after (J.verdict judge.old) (nodes_rows T.kind here.now.known.now.scale paid path.now entries.old.items)) }
+    ensures heard { OnOk result
+        (J.verdict judge.new ≡ J.after (J.verdict judge.old) (nodes_rows T.kind here.now.known.now.scale paid path.now entries.old.items)) }
     ensures left { OnOk result (entries.new.items ≡ nodes_left T.kind here.now.known.now.scale paid entries.old.items) }
     ensures index { IfOk result (λ index. index ≡ nodes_index paid) }
 {
@@ -81,8 +85,11 @@ pub fn walk<'h, T: Kind, J: Judge<T>>(
     q: Vec<T>,
     hints: &'h [Hint<T>],
 ) -> Result<&'h [Hint<T>], AllocError>
-    ensures heard { OnOk result (J.verdict judge.new ≡ J.after (J.verdict judge.old) (walked_at T.kind here.now (plan_of plan.now) path.old.items q.items (hints_of hints.now)).found) }
-    ensures left { IfOk result (λ out. hints_of out.now ≡ (walked_at T.kind here.now (plan_of plan.now) path.old.items q.items (hints_of hints.now)).left) }
+    ensures heard { OnOk result
+        (J.verdict judge.new ≡ J.after (J.verdict judge.old)
+        (walked_at T.kind here.now (plan_of plan.now) path.old.items q.items (hints_of hints.now)).found) }
+    ensures left { IfOk result
+        (λ out. hints_of out.now ≡ (walked_at T.kind here.now (plan_of plan.now) path.old.items q.items (hints_of hints.now)).left) }
     ensures path { OnOk result (path.new.items ≡ path.old.items) }
 {
     match plan {
@@ -119,8 +126,12 @@ fn walk_ends<'h, T: Kind, J: Judge<T>>(
     q: Vec<T>,
     hints: &'h [Hint<T>],
 ) -> Result<&'h [Hint<T>], AllocError>
-    ensures heard { OnOk result (J.verdict judge.new ≡ J.after (J.verdict judge.old) (walked_at T.kind here.now (p.Ends nodes cells (map step_of steps.now)) path.old.items q.items (hints_of hints.now)).found) }
-    ensures left { IfOk result (λ out. hints_of out.now ≡ (walked_at T.kind here.now (p.Ends nodes cells (map step_of steps.now)) path.old.items q.items (hints_of hints.now)).left) }
+    ensures heard { OnOk result
+        (J.verdict judge.new ≡ J.after (J.verdict judge.old)
+        (walked_at T.kind here.now (p.Ends nodes cells (map step_of steps.now)) path.old.items q.items (hints_of hints.now)).found) }
+    ensures left { IfOk result
+        (λ out. hints_of out.now
+        ≡ (walked_at T.kind here.now (p.Ends nodes cells (map step_of steps.now)) path.old.items q.items (hints_of hints.now)).left) }
     ensures path { OnOk result (path.new.items ≡ path.old.items) }
 {
     let mut q = q;
@@ -153,8 +164,12 @@ fn walk_pays<'h, T: Kind, J: Judge<T>>(
     q: Vec<T>,
     hints: &'h [Hint<T>],
 ) -> Result<&'h [Hint<T>], AllocError>
-    ensures heard { OnOk result (J.verdict judge.new ≡ J.after (J.verdict judge.old) (walked_at T.kind here.now (p.Pays nodes ticks (plan_of rest.now)) path.old.items q.items (hints_of hints.now)).found) }
-    ensures left { IfOk result (λ out. hints_of out.now ≡ (walked_at T.kind here.now (p.Pays nodes ticks (plan_of rest.now)) path.old.items q.items (hints_of hints.now)).left) }
+    ensures heard { OnOk result
+        (J.verdict judge.new ≡ J.after (J.verdict judge.old)
+        (walked_at T.kind here.now (p.Pays nodes ticks (plan_of rest.now)) path.old.items q.items (hints_of hints.now)).found) }
+    ensures left { IfOk result
+        (λ out. hints_of out.now
+        ≡ (walked_at T.kind here.now (p.Pays nodes ticks (plan_of rest.now)) path.old.items q.items (hints_of hints.now)).left) }
     ensures path { OnOk result (path.new.items ≡ path.old.items) }
 {
     let mut q = q;
@@ -189,8 +204,14 @@ fn walk_moves<'h, T: Kind, J: Judge<T>>(
     q: Vec<T>,
     hints: &'h [Hint<T>],
 ) -> Result<&'h [Hint<T>], AllocError>
-    ensures heard { OnOk result (J.verdict judge.new ≡ J.after (J.verdict judge.old) (walked_at T.kind here.now (p.Moves nodes (step_of step.now) (plan_of rest.now)) path.old.items q.items (hints_of hints.now)).found) }
-    ensures left { IfOk result (λ out. hints_of out.now ≡ (walked_at T.kind here.now (p.Moves nodes (step_of step.now) (plan_of rest.now)) path.old.items q.items (hints_of hints.now)).left) }
+    ensures heard { OnOk result
+        (J.verdict judge.new ≡ J.after (J.verdict judge.old)
+        (walked_at T.kind here.now
+        (p.Moves nodes (step_of step.now) (plan_of rest.now)) path.old.items q.items (hints_of hints.now)).found) }
+    ensures left { IfOk result
+        (λ out. hints_of out.now
+        ≡ (walked_at T.kind here.now
+        (p.Moves nodes (step_of step.now) (plan_of rest.now)) path.old.items q.items (hints_of hints.now)).left) }
     ensures path { OnOk result (path.new.items ≡ path.old.items) }
 {
     let mut q = q;
@@ -220,8 +241,16 @@ fn walk_forks<'h, T: Kind, J: Judge<T>>(
     q: Vec<T>,
     hints: &'h [Hint<T>],
 ) -> Result<&'h [Hint<T>], AllocError>
-    ensures heard { OnOk result (J.verdict judge.new ≡ J.after (J.verdict judge.old) (walked_at T.kind here.now (p.Forks nodes (step_of step.now) (plan_of first.now) (step_of other.now) (plan_of second.now)) path.old.items q.items (hints_of hints.now)).found) }
-    ensures left { IfOk result (λ out. hints_of out.now ≡ (walked_at T.kind here.now (p.Forks nodes (step_of step.now) (plan_of first.now) (step_of other.now) (plan_of second.now)) path.old.items q.items (hints_of hints.now)).left) }
+    ensures heard { OnOk result
+        (J.verdict judge.new ≡ J.after (J.verdict judge.old)
+        (walked_at T.kind here.now
+        (p.Forks nodes (step_of step.now) (plan_of first.now) (step_of other.now)
+        (plan_of second.now)) path.old.items q.items (hints_of hints.now)).found) }
+    ensures left { IfOk result
+        (λ out. hints_of out.now
+        ≡ (walked_at T.kind here.now
+        (p.Forks nodes (step_of step.now) (plan_of first.now) (step_of other.now)
+        (plan_of second.now)) path.old.items q.items (hints_of hints.now)).left) }
     ensures path { OnOk result (path.new.items ≡ path.old.items) }
 {
     let mut q = q;
@@ -252,8 +281,14 @@ fn walk_shares<'h, T: Kind, J: Judge<T>>(
     q: Vec<T>,
     hints: &'h [Hint<T>],
 ) -> Result<&'h [Hint<T>], AllocError>
-    ensures heard { OnOk result (J.verdict judge.new ≡ J.after (J.verdict judge.old) (walked_at T.kind here.now (p.Shares nodes size (step_of step.now) (plan_of rest.now)) path.old.items q.items (hints_of hints.now)).found) }
-    ensures left { IfOk result (λ out. hints_of out.now ≡ (walked_at T.kind here.now (p.Shares nodes size (step_of step.now) (plan_of rest.now)) path.old.items q.items (hints_of hints.now)).left) }
+    ensures heard { OnOk result
+        (J.verdict judge.new ≡ J.after (J.verdict judge.old)
+        (walked_at T.kind here.now
+        (p.Shares nodes size (step_of step.now) (plan_of rest.now)) path.old.items q.items (hints_of hints.now)).found) }
+    ensures left { IfOk result
+        (λ out. hints_of out.now
+        ≡ (walked_at T.kind here.now
+        (p.Shares nodes size (step_of step.now) (plan_of rest.now)) path.old.items q.items (hints_of hints.now)).left) }
     ensures path { OnOk result (path.new.items ≡ path.old.items) }
 {
     let mut q = q;
@@ -283,8 +318,12 @@ fn walk_child<'h, T: Kind, J: Judge<T>>(
     q: Vec<T>,
     hints: &'h [Hint<T>],
 ) -> Result<&'h [Hint<T>], AllocError>
-    ensures heard { OnOk result (J.verdict judge.new ≡ J.after (J.verdict judge.old) (walked_at T.kind here.now (plan_of plan.now) (path.old.items ++ number ∷ []) q.items (hints_of hints.now)).found) }
-    ensures left { IfOk result (λ out. hints_of out.now ≡ (walked_at T.kind here.now (plan_of plan.now) (path.old.items ++ number ∷ []) q.items (hints_of hints.now)).left) }
+    ensures heard { OnOk result
+        (J.verdict judge.new ≡ J.after (J.verdict judge.old)
+        (walked_at T.kind here.now (plan_of plan.now) (path.old.items ++ number ∷ []) q.items (hints_of hints.now)).found) }
+    ensures left { IfOk result
+        (λ out. hints_of out.now
+        ≡ (walked_at T.kind here.now (plan_of plan.now) (path.old.items ++ number ∷ []) q.items (hints_of hints.now)).left) }
     ensures path { OnOk result (path.new.items ≡ path.old.items) }
 {
     path.push(number)?;
@@ -303,7 +342,9 @@ fn hear_missing<T: Kind, J: Judge<T>>(
 ) -> Result<usize, AllocError>
     requires { index < 2 }
     ensures heard { OnOk result (J.verdict judge.new
-        ≡ J.after (J.verdict judge.old) (numbered path.now index (missing T.kind (known_of here.now.known.now) (mode_of here.now.mode) (called_of called.now) called.now.own))) }
+        ≡ J.after (J.verdict judge.old)
+        (numbered path.now index
+        (missing T.kind (known_of here.now.known.now) (mode_of here.now.mode) (called_of called.now) called.now.own))) }
     ensures index { IfOk result (λ next. next
         ≡ index + length (missing T.kind (known_of here.now.known.now) (mode_of here.now.mode) (called_of called.now) called.now.own)) }
 {
@@ -325,8 +366,12 @@ fn walk_calls<'h, T: Kind, J: Judge<T>>(
     q: Vec<T>,
     hints: &'h [Hint<T>],
 ) -> Result<&'h [Hint<T>], AllocError>
-    ensures heard { OnOk result (J.verdict judge.new ≡ J.after (J.verdict judge.old) (walked_at T.kind here.now (p.Calls nodes (called_of called.now)) path.old.items q.items (hints_of hints.now)).found) }
-    ensures left { IfOk result (λ out. hints_of out.now ≡ (walked_at T.kind here.now (p.Calls nodes (called_of called.now)) path.old.items q.items (hints_of hints.now)).left) }
+    ensures heard { OnOk result
+        (J.verdict judge.new ≡ J.after (J.verdict judge.old)
+        (walked_at T.kind here.now (p.Calls nodes (called_of called.now)) path.old.items q.items (hints_of hints.now)).found) }
+    ensures left { IfOk result
+        (λ out. hints_of out.now
+        ≡ (walked_at T.kind here.now (p.Calls nodes (called_of called.now)) path.old.items q.items (hints_of hints.now)).left) }
     ensures path { OnOk result (path.new.items ≡ path.old.items) }
 {
     let mut q = q;
@@ -365,8 +410,14 @@ fn walk_lets<'h, T: Kind, J: Judge<T>>(
     q: Vec<T>,
     hints: &'h [Hint<T>],
 ) -> Result<&'h [Hint<T>], AllocError>
-    ensures heard { OnOk result (J.verdict judge.new ≡ J.after (J.verdict judge.old) (walked_at T.kind here.now (p.Lets nodes parts.now (plans_of firsts.now) size (plan_of rest.now)) path.old.items q.items (hints_of hints.now)).found) }
-    ensures left { IfOk result (λ out. hints_of out.now ≡ (walked_at T.kind here.now (p.Lets nodes parts.now (plans_of firsts.now) size (plan_of rest.now)) path.old.items q.items (hints_of hints.now)).left) }
+    ensures heard { OnOk result
+        (J.verdict judge.new ≡ J.after (J.verdict judge.old)
+        (walked_at T.kind here.now
+        (p.Lets nodes parts.now (plans_of firsts.now) size (plan_of rest.now)) path.old.items q.items (hints_of hints.now)).found) }
+    ensures left { IfOk result
+        (λ out. hints_of out.now
+        ≡ (walked_at T.kind here.now
+        (p.Lets nodes parts.now (plans_of firsts.now) size (plan_of rest.now)) path.old.items q.items (hints_of hints.now)).left) }
     ensures path { OnOk result (path.new.items ≡ path.old.items) }
 {
     let mut q = q;
@@ -399,9 +450,11 @@ fn walk_each<'h, T: Kind, J: Judge<T>>(
 ) -> Result<&'h [Hint<T>], AllocError>
     requires few { length parts.now < 2 ^ 32 }
     ensures heard { OnOk result (J.verdict judge.new ≡ J.after (J.verdict judge.old)
-        (each_at T.kind here.now (plans_of firsts.now) 0 (map part_of parts.now) (map (λ v. v.items) told.now) path.old.items q.now (hints_of hints.now)).found) }
+        (each_at T.kind here.now (plans_of firsts.now) 0 (map part_of parts.now)
+        (map (λ v. v.items) told.now) path.old.items q.now (hints_of hints.now)).found) }
     ensures left { IfOk result (λ out. hints_of out.now
-        ≡ (each_at T.kind here.now (plans_of firsts.now) 0 (map part_of parts.now) (map (λ v. v.items) told.now) path.old.items q.now (hints_of hints.now)).left) }
+        ≡ (each_at T.kind here.now (plans_of firsts.now) 0 (map part_of parts.now)
+        (map (λ v. v.items) told.now) path.old.items q.now (hints_of hints.now)).left) }
     ensures path { OnOk result (path.new.items ≡ path.old.items) }
 {
     let mut mode = here.mode;
@@ -467,7 +520,8 @@ pub fn walk_body<'h, T: Kind, J: Judge<T>>(
     judge: &mut J,
 ) -> Result<&'h [Hint<T>], AllocError>
     ensures heard { OnOk result (J.verdict judge.new
-        ≡ J.after (J.verdict judge.old) (body_walked T.kind (known_of known.now) (plan_of plan.now) (mode_of mode) place (hints_of hints.now)).found) }
+        ≡ J.after (J.verdict judge.old)
+        (body_walked T.kind (known_of known.now) (plan_of plan.now) (mode_of mode) place (hints_of hints.now)).found) }
     ensures left { IfOk result (λ out. hints_of out.now
         ≡ (body_walked T.kind (known_of known.now) (plan_of plan.now) (mode_of mode) place (hints_of hints.now)).left) }
 {

@@ -40,12 +40,16 @@ AreFree xs e = (x : ℕ) → among x xs ≡ free_in x e
 
 -- the lists are those of the form's parts
 abbrev pub ShowsParts : Frees → n.Norm → Type 0
-ShowsParts t (n.Let k x A a b) = (AreFree (own (first t)) a × ShowsParts (first t) a) × (AreFree (own (second t)) b × ShowsParts (second t) b)
+ShowsParts t (n.Let k x A a b) =
+    (AreFree (own (first t)) a × ShowsParts (first t) a) × (AreFree (own (second t)) b × ShowsParts (second t) b)
 ShowsParts t (n.Split k x p q a) = AreFree (own (first t)) a × ShowsParts (first t) a
 ShowsParts t (n.If k x a b) = (AreFree (own (first t)) a × ShowsParts (first t) a) × (AreFree (own (second t)) b × ShowsParts (second t) b)
-ShowsParts t (n.CaseList k x a h l b) = (AreFree (own (first t)) a × ShowsParts (first t) a) × (AreFree (own (second t)) b × ShowsParts (second t) b)
-ShowsParts t (n.CaseTree k x a h l r b) = (AreFree (own (first t)) a × ShowsParts (first t) a) × (AreFree (own (second t)) b × ShowsParts (second t) b)
-ShowsParts t (n.CaseOption k x a w b) = (AreFree (own (first t)) a × ShowsParts (first t) a) × (AreFree (own (second t)) b × ShowsParts (second t) b)
+ShowsParts t (n.CaseList k x a h l b) =
+    (AreFree (own (first t)) a × ShowsParts (first t) a) × (AreFree (own (second t)) b × ShowsParts (second t) b)
+ShowsParts t (n.CaseTree k x a h l r b) =
+    (AreFree (own (first t)) a × ShowsParts (first t) a) × (AreFree (own (second t)) b × ShowsParts (second t) b)
+ShowsParts t (n.CaseOption k x a w b) =
+    (AreFree (own (first t)) a × ShowsParts (first t) a) × (AreFree (own (second t)) b × ShowsParts (second t) b)
 ShowsParts t (n.Tick k i a) = AreFree (own (first t)) a × ShowsParts (first t) a
 ShowsParts t (n.Share k x p q a) = AreFree (own (first t)) a × ShowsParts (first t) a
 ShowsParts t (n.Drop k x a) = AreFree (own (first t)) a × ShowsParts (first t) a
@@ -73,12 +77,17 @@ pub AreFree-prop : (xs : List ℕ) (e : n.Norm) → IsProp (AreFree xs e)
 AreFree-prop xs e = Π_prop (λ x. Bool-set _ _)
 
 pub ShowsParts-prop : (t : Frees) (e : n.Norm) → IsProp (ShowsParts t e)
-ShowsParts-prop t (n.Let k x A a b) = ×_prop (×_prop (AreFree-prop _ a) (ShowsParts-prop (first t) a)) (×_prop (AreFree-prop _ b) (ShowsParts-prop (second t) b))
+ShowsParts-prop t (n.Let k x A a b) =
+    ×_prop (×_prop (AreFree-prop _ a) (ShowsParts-prop (first t) a)) (×_prop (AreFree-prop _ b) (ShowsParts-prop (second t) b))
 ShowsParts-prop t (n.Split k x p q a) = ×_prop (AreFree-prop _ a) (ShowsParts-prop (first t) a)
-ShowsParts-prop t (n.If k x a b) = ×_prop (×_prop (AreFree-prop _ a) (ShowsParts-prop (first t) a)) (×_prop (AreFree-prop _ b) (ShowsParts-prop (second t) b))
-ShowsParts-prop t (n.CaseList k x a h l b) = ×_prop (×_prop (AreFree-prop _ a) (ShowsParts-prop (first t) a)) (×_prop (AreFree-prop _ b) (ShowsParts-prop (second t) b))
-ShowsParts-prop t (n.CaseTree k x a h l r b) = ×_prop (×_prop (AreFree-prop _ a) (ShowsParts-prop (first t) a)) (×_prop (AreFree-prop _ b) (ShowsParts-prop (second t) b))
-ShowsParts-prop t (n.CaseOption k x a w b) = ×_prop (×_prop (AreFree-prop _ a) (ShowsParts-prop (first t) a)) (×_prop (AreFree-prop _ b) (ShowsParts-prop (second t) b))
+ShowsParts-prop t (n.If k x a b) =
+    ×_prop (×_prop (AreFree-prop _ a) (ShowsParts-prop (first t) a)) (×_prop (AreFree-prop _ b) (ShowsParts-prop (second t) b))
+ShowsParts-prop t (n.CaseList k x a h l b) =
+    ×_prop (×_prop (AreFree-prop _ a) (ShowsParts-prop (first t) a)) (×_prop (AreFree-prop _ b) (ShowsParts-prop (second t) b))
+ShowsParts-prop t (n.CaseTree k x a h l r b) =
+    ×_prop (×_prop (AreFree-prop _ a) (ShowsParts-prop (first t) a)) (×_prop (AreFree-prop _ b) (ShowsParts-prop (second t) b))
+ShowsParts-prop t (n.CaseOption k x a w b) =
+    ×_prop (×_prop (AreFree-prop _ a) (ShowsParts-prop (first t) a)) (×_prop (AreFree-prop _ b) (ShowsParts-prop (second t) b))
 ShowsParts-prop t (n.Tick k i a) = ×_prop (AreFree-prop _ a) (ShowsParts-prop (first t) a)
 ShowsParts-prop t (n.Share k x p q a) = ×_prop (AreFree-prop _ a) (ShowsParts-prop (first t) a)
 ShowsParts-prop t (n.Drop k x a) = ×_prop (AreFree-prop _ a) (ShowsParts-prop (first t) a)

@@ -153,7 +153,8 @@ impl Sharing {
         second: Marked<'a>,
         slots: &[Slot],
     ) -> Result<NormExpr, AllocError>
-        ensures { IsMade result self.new.next (two.two (n.If nodes condition (form_in first.entry) (form_in second.entry)) slots.now self.old.next) }
+        ensures { IsMade result self.new.next
+            (two.two (n.If nodes condition (form_in first.entry) (form_in second.entry)) slots.now self.old.next) }
     {
         let again = first.has_free(condition) || second.has_free(condition);
         let Taken { name, stay, shares } = self.take_slot(again, condition, slots)?;

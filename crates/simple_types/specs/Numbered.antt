@@ -7,7 +7,8 @@ use Rattle.raml_syntax.specs.Types.{types_of}
 use Rattle.raml_syntax.specs.Node.{count}
 use Rattle.simple_types.specs.Fault.{Is, SomeList, SomeTree, SomeOption, SomePair, Fault, Unknown, Wanted, NeedsType}
 use Rattle.simple_types.specs.Walk.{◌>>=◌, or_fault, place, distinct, arity, function_name, walk_headers}
-use Rattle.simple_types.specs.Table.{Table, base, integer, boolean, node_at, placed, type_of, numbered, numbered_all, pair_parts, list_element, tree_element, option_content}
+use Rattle.simple_types.specs.Table.{Table, base, integer, boolean, node_at, placed, type_of, numbered, numbered_all, pair_parts}
+use Rattle.simple_types.specs.Table.{list_element, tree_element, option_content}
 use Rattle.simple_types.specs.declared.types.TypeId.{TypeId}
 use Rattle.simple_types.specs.declared.types.Node.TheVariants.{Pair, List as ListAt, Tree, Opt}
 

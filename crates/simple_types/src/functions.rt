@@ -41,7 +41,9 @@ fn param_types(
     types: &mut Types,
     params: &[Param],
 ) -> Result<Vec<TypeId>, AllocError>
-    ensures ids { IfOk result (λ ids. (types.new.nodes.keys, ids.items) ≡ numbered_all types.old.nodes.keys [] (map (λ (p : Parameter). p.type) (map parameter_of params.now))) }
+    ensures ids { IfOk result
+        (λ ids. (types.new.nodes.keys, ids.items)
+        ≡ numbered_all types.old.nodes.keys [] (map (λ (p : Parameter). p.type) (map parameter_of params.now))) }
     ensures as_many { IfOk result (λ ids. length ids.items ≡ length params.now) }
 {
     let mut ids = Vec::new(alloc);
@@ -71,7 +73,8 @@ impl<'a> Functions<'a> {
         program: &'a Program,
     ) -> Result<Functions<'a>, TypeFault>
         requires few { All (λ (g : Function). length g.params ≤ 8) (program_of program.now) }
-        ensures signed { IfOk result (λ functions. (types.new.nodes.keys, sigs_of functions) ≡ signatures types.old.nodes.keys no_sigs (program_of program.now)) }
+        ensures signed { IfOk result
+            (λ functions. (types.new.nodes.keys, sigs_of functions) ≡ signatures types.old.nodes.keys no_sigs (program_of program.now)) }
         ensures differ { IfOk result (λ functions. distinct (map function_name (program_of program.now)) ≡ Ok tt) }
         ensures fault { IfErr result (EndsWith (distinct (map function_name (program_of program.now)))) }
     {
@@ -90,7 +93,8 @@ impl<'a> Functions<'a> {
     /// Adds a signature, and tells whether its name is new. Otherwise the functions are of no use.
     fn add(&mut self, name: &'a str, signature: Signature) -> Result<bool, AllocError>
         ensures new { IfOk result (λ new. new ≡ not (is_some (sigs_of self.old name.now))) }
-        ensures signed { IfOk result (λ new. IsTrue new → (f : Text) → sigs_of self.new f ≡ signed (sigs_of self.old) name.now (sig_of signature) f) }
+        ensures signed { IfOk result
+            (λ new. IsTrue new → (f : Text) → sigs_of self.new f ≡ signed (sigs_of self.old) name.now (sig_of signature) f) }
     {
         match self.signatures.insert(name, signature) {
             Ok(None) => Ok(true),

@@ -140,7 +140,8 @@ fn check_bodies<'a>(
     funs: &'a [Fun],
 ) -> Result<(), TypeFault>
     requires few { All (λ (g : Function). AllNodes FewArguments g.body) (map function_of funs.now) }
-    ensures { Leaves (numbered.walk_bodies (sigs_of functions.now) types.old.nodes.keys (map function_of funs.now)) types.new.nodes.keys result }
+    ensures { Leaves (numbered.walk_bodies (sigs_of functions.now) types.old.nodes.keys
+        (map function_of funs.now)) types.new.nodes.keys result }
 {
     for fun in funs {
         let scope = Scope::Empty;

@@ -118,7 +118,8 @@ impl Types {
     /// What is left of so many nodes behind those of a type; none where it has more.
     #[cycle(left)]
     fn left(&self, id: TypeId, nodes: u32) -> Option<u32>
-        ensures { SomeIff result (type_nodes (made_from (types_before self.now.nodes.keys id) (node_at self.now.nodes.keys id)) ≤ nodes) (nodes - type_nodes (made_from (types_before self.now.nodes.keys id) (node_at self.now.nodes.keys id))) }
+        ensures { SomeIff result (type_nodes (made_from (types_before self.now.nodes.keys id) (node_at self.now.nodes.keys id)) ≤ nodes)
+            (nodes - type_nodes (made_from (types_before self.now.nodes.keys id) (node_at self.now.nodes.keys id))) }
     {
         let nodes = nodes.checked_sub(1)?;
         match self.node(id) {
@@ -136,7 +137,8 @@ impl Types {
     /// The same of a part, which stands before the type that it is part of.
     #[cycle(left)]
     fn left_by_part(&self, whole: TypeId, part: TypeId, nodes: u32) -> Option<u32>
-        ensures { SomeIff result (type_nodes (among (types_before self.now.nodes.keys whole) part) ≤ nodes) (nodes - type_nodes (among (types_before self.now.nodes.keys whole) part)) }
+        ensures { SomeIff result (type_nodes (among (types_before self.now.nodes.keys whole) part) ≤ nodes)
+            (nodes - type_nodes (among (types_before self.now.nodes.keys whole) part)) }
     {
         if part.0 < whole.0 {
             self.left(part, nodes)

@@ -110,7 +110,8 @@ pub fn walk_below_one<'s, 'a>(
     want: Option<TypeId>,
 ) -> Result<TypeId, TypeFault>
     requires few { AllNodes FewArguments (term_of e.now) }
-    ensures { Gives (walk_below env.entry types.old.nodes.keys (local_of local.entry ∷ []) want (term_of e.now)) types.new.nodes.keys result }
+    ensures { Gives (walk_below env.entry types.old.nodes.keys (local_of local.entry ∷ []) want
+        (term_of e.now)) types.new.nodes.keys result }
 {
     let scope = Scope::Bound {
         name: local.name,
@@ -140,7 +141,8 @@ pub fn walk_below_two<'s, 'a>(
     want: Option<TypeId>,
 ) -> Result<TypeId, TypeFault>
     requires few { AllNodes FewArguments (term_of e.now) }
-    ensures { Gives (walk_below env.entry types.old.nodes.keys (local_of second.entry ∷ local_of first.entry ∷ []) want (term_of e.now)) types.new.nodes.keys result }
+    ensures { Gives (walk_below env.entry types.old.nodes.keys
+        (local_of second.entry ∷ local_of first.entry ∷ []) want (term_of e.now)) types.new.nodes.keys result }
 {
     let scope = Scope::Bound {
         name: first.name,
@@ -172,7 +174,8 @@ pub fn walk_below_three<'s, 'a>(
     want: Option<TypeId>,
 ) -> Result<TypeId, TypeFault>
     requires few { AllNodes FewArguments (term_of e.now) }
-    ensures { Gives (walk_below env.entry types.old.nodes.keys (local_of third.entry ∷ local_of second.entry ∷ local_of first.entry ∷ []) want (term_of e.now)) types.new.nodes.keys result }
+    ensures { Gives (walk_below env.entry types.old.nodes.keys
+        (local_of third.entry ∷ local_of second.entry ∷ local_of first.entry ∷ []) want (term_of e.now)) types.new.nodes.keys result }
 {
     let scope = Scope::Bound {
         name: first.name,

@@ -8,7 +8,8 @@ use Rattle.frac128.specs.Nought.{nought}
 
 -- for every list of gains the rule answers the place of a positive one, and none only where there is none
 pub record Chooses (answers : List Frac → Option ℕ → Type 0) : Type 0 where
-  pub some : (gains : List Frac) (c : ℕ) → answers gains (Some c) → (c < length gains) × (pos 0 <ℤ numerator (slice_index_or gains c nought))
+  pub some : (gains : List Frac) (c : ℕ) → answers gains (Some c) → (c < length gains)
+      × (pos 0 <ℤ numerator (slice_index_or gains c nought))
   pub none : (gains : List Frac) → answers gains None → (c : ℕ) → c < length gains → numerator (slice_index_or gains c nought) ≤ℤ pos 0
 
 -- the rule that a chooser keeps chooses so

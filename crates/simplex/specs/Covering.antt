@@ -25,7 +25,8 @@ IsMarked h marks c b = HasMark marks (c * h + b)
 
 -- each row with a number in column c is in a block that is marked there
 abbrev pub IsCovered : ℕ → List Entries → List Bool → Type 0
-IsCovered c rows marks = (i : ℕ) → i < length rows → numerator (at c (entries_at rows i)) ≢ pos 0 → IsMarked (blocks_of (length rows)) marks c (block_of i)
+IsCovered c rows marks =
+    (i : ℕ) → i < length rows → numerator (at c (entries_at rows i)) ≢ pos 0 → IsMarked (blocks_of (length rows)) marks c (block_of i)
 
 -- the marks of n columns: each row with a number in one of them is in a block that is marked there
 pub record Cover (n : ℕ) (rows : List Entries) (marks : List Bool) : Type 0 where

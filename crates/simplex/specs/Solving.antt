@@ -32,7 +32,8 @@ abbrev pub rule_of : {F : Type 0} → Shared F (Bor (List Frac) × Unit {0}) (Op
 rule_of g rule = rule_over (FnReturnsAt g rule)
 
 -- these pivots lead to t, and the rows, the gains and the basis are those of t
-pub record IsAfter (s : LinearSystem) (pivots : List (ℕ × ℕ)) (basis : List ℕ) (rows : List Entries) (gains : Entries) (t : Tableau) : Type 0 where
+pub record IsAfter (s : LinearSystem) (pivots : List (ℕ × ℕ)) (basis : List ℕ)
+    (rows : List Entries) (gains : Entries) (t : Tableau) : Type 0 where
   pub course : Course s pivots t
   pub stand : TableStands t rows gains
   pub basis_is : t.basis ≡ basis
@@ -137,7 +138,8 @@ pub record IsMade (s : LinearSystem) (c : ℕ) (old new : Table) : Type 0 where
 -- in the search for the row that exits for column c, or in the pivot, row i and column k leave the range
 pub data MakingLeaves (s : LinearSystem) (c : ℕ) (table : Table) (i k : ℕ) : Type 0 where
   Searching : SearchLeaves (compared s) c table.rows.items i k → MakingLeaves s c table i k
-  Pivoting : (l : ℕ) → IsExiting (compared s) c table.rows.items l → PivotLeaves l c table.rows.items table.gains i k → MakingLeaves s c table i k
+  Pivoting : (l : ℕ) → IsExiting (compared s) c table.rows.items l →
+      PivotLeaves l c table.rows.items table.gains i k → MakingLeaves s c table i k
 
 -- the pivot is not made, and new has the pivots that old has
 pub record IsNotMade (s : LinearSystem) (c : ℕ) (old new : Table) (i k : ℕ) : Type 0 where
@@ -173,7 +175,8 @@ pub record ReachedRise (rule : Rule) (s : LinearSystem) (table : Table) (c : ℕ
 
 -- each step has its cause, and keeps the limit of pivots
 abbrev pub IsStep : Rule → LinearSystem → Option ℕ → Table → Table → Step → Type 0
-IsStep rule s most old new step.Pivot = Reached rule s new × (length new.pivots.items ≡ length old.pivots.items + 1) × UpTo most (length new.pivots.items)
+IsStep rule s most old new step.Pivot =
+    Reached rule s new × (length new.pivots.items ≡ length old.pivots.items + 1) × UpTo most (length new.pivots.items)
 IsStep rule s most old new step.Best = ReachedEnd rule s new × UpTo most (length new.pivots.items)
 IsStep rule s most old new (step.Rises c) = ReachedRise rule s new c × UpTo most (length new.pivots.items)
 IsStep rule s most old new (step.Leaves i c) = Refuses rule s new.pivots.items i c × Below most (length new.pivots.items)

@@ -73,4 +73,5 @@ pub record IsExiting (cs : List ℕ) (s : ℕ) (rows : List Entries) (l : ℕ) :
 
 -- the search looks at the ratio of row i in column c, which leaves the range
 pub record SearchLeaves (cs : List ℕ) (s : ℕ) (rows : List Entries) (i c : ℕ) : Type 0 where
-  pub leaves : (t : Tableau) → pos 0 <ℤ t.over → RowsStand t rows → IsCompared cs t s i c × NoFraction (places.at (row_at t.rows i) c) (places.at (row_at t.rows i) s)
+  pub leaves : (t : Tableau) → pos 0 <ℤ t.over → RowsStand t rows → IsCompared cs t s i c
+      × NoFraction (places.at (row_at t.rows i) c) (places.at (row_at t.rows i) s)

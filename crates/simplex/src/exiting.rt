@@ -6,7 +6,8 @@ ghost use Rattle.frac128.specs.Nought.{nought};
 ghost use Rattle.simplex_rows.specs.Entries.{at};
 ghost use Rattle.simplex.specs.Among.{Among};
 ghost use Rattle.simplex.specs.Standing.{entries_at, AreTouching};
-ghost use Rattle.simplex.specs.Ties.{IsBounding, AreBounding, AreTied, RatioLeaves, Keeps, ratio_order, IsExiting, SearchLeaves, columns_to};
+ghost use Rattle.simplex.specs.Ties.{IsBounding, AreBounding, AreTied, RatioLeaves, Keeps, ratio_order, IsExiting, SearchLeaves};
+ghost use Rattle.simplex.specs.Ties.{columns_to};
 
 use crate::fault::Fault;
 use frac128::Frac;

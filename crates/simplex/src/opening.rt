@@ -47,7 +47,8 @@ fn push_terms(rows: &mut [FracRow], column: u32, terms: &[(u32, i128)]) -> Resul
     requires below { (u : ℕ) → length rows.old ≤ u → coefficient u terms.now ≡ pos 0 }
     requires before { (i : ℕ) → i < length rows.old → EndsBefore column (entries_at rows.old i) }
     ensures added { OnOk result (AddsColumn column terms.now rows.old rows.new) }
-    ensures leaves { (i c : ℕ) → result ≡ Err (Fault.Leaves i c) → (i < length rows.old) × (c ≡ column) × (coefficient i terms.now ≡ least_number) }
+    ensures leaves { (i c : ℕ) → result ≡ Err (Fault.Leaves i c) → (i < length rows.old)
+        × (c ≡ column) × (coefficient i terms.now ≡ least_number) }
 {
     for term in terms {
         push_term(rows, column, term.0, term.1)?;
@@ -61,7 +62,8 @@ fn push_columns(rows: &mut [FracRow], inequalities: &[Row]) -> Result<(), Fault>
     requires below { AllBelow (length rows.old) inequalities.now }
     requires empty { AreEmpty (length rows.old) rows.old }
     ensures opened { OnOk result (ColumnsOpen (length inequalities.now) (length rows.old) inequalities.now rows.new) }
-    ensures leaves { (i c : ℕ) → result ≡ Err (Fault.Leaves i c) → (i < length rows.old) × (c < length inequalities.now) × OpeningLeaves (map (λ row. coefficient i row.terms) inequalities.now) c }
+    ensures leaves { (i c : ℕ) → result ≡ Err (Fault.Leaves i c) → (i < length rows.old) × (c < length inequalities.now)
+        × OpeningLeaves (map (λ row. coefficient i row.terms) inequalities.now) c }
 {
     for j in 0..inequalities.len() {
         push_terms(rows, j as u32, inequalities[j].terms())?;
@@ -118,7 +120,8 @@ fn push_right_sides(gains: &mut FracRow, rows: &[Row]) -> Result<(), RowFault>
     requires columns { length rows.now < 2 ^ 32 }
     requires empty { gains.old ≡ [] }
     ensures opened { OnOk result (OpensTo (length rows.now) (map (λ row. row.right) rows.now) gains.new) }
-    ensures leaves { (c : ℕ) → result ≡ Err (RowFault.Leaves c) → (c < length rows.now) × OpeningLeaves (map (λ row. row.right) rows.now) c }
+    ensures leaves { (c : ℕ) → result ≡ Err (RowFault.Leaves c) → (c < length rows.now)
+        × OpeningLeaves (map (λ row. row.right) rows.now) c }
 {
     for j in 0..rows.len() {
         gains.push_whole(j as u32, rows[j].right())?;

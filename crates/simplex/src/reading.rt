@@ -16,7 +16,8 @@ pub(crate) fn column_of(
     rows: &[FracRow],
     column: u32,
 ) -> Result<Vec<Frac>, AllocError>
-    ensures { IfOk result (λ xs. HaveParts (length rows.now) (λ i. numerator (at column (entries_at rows.now i))) (λ i. denominator (at column (entries_at rows.now i))) xs.items) }
+    ensures { IfOk result (λ xs. HaveParts (length rows.now) (λ i. numerator (at column (entries_at rows.now i)))
+        (λ i. denominator (at column (entries_at rows.now i))) xs.items) }
 {
     let mut all = Vec::with_capacity(alloc, rows.len())?;
     for i in 0..rows.len() {
@@ -27,7 +28,8 @@ pub(crate) fn column_of(
 
 /// The fractions with the other sign.
 pub(crate) fn negated(alloc: Global, numbers: &[Frac]) -> Result<Vec<Frac>, AllocError>
-    ensures { IfOk result (λ xs. HaveParts (length numbers.now) (λ i. neg_ℤ (numerator (frac_at numbers.now i))) (λ i. denominator (frac_at numbers.now i)) xs.items) }
+    ensures { IfOk result (λ xs. HaveParts (length numbers.now)
+        (λ i. neg_ℤ (numerator (frac_at numbers.now i))) (λ i. denominator (frac_at numbers.now i)) xs.items) }
 {
     let mut all = Vec::with_capacity(alloc, numbers.len())?;
     for i in 0..numbers.len() {
@@ -44,7 +46,8 @@ pub(crate) fn negated_at(
     count: u32,
 ) -> Result<Vec<Frac>, AllocError>
     requires { first + count < 2 ^ 32 }
-    ensures { IfOk result (λ xs. HaveParts count (λ i. neg_ℤ (numerator (at (first + i) row.now))) (λ i. denominator (at (first + i) row.now)) xs.items) }
+    ensures { IfOk result (λ xs. HaveParts count (λ i. neg_ℤ (numerator (at (first + i) row.now)))
+        (λ i. denominator (at (first + i) row.now)) xs.items) }
 {
     let mut all = Vec::with_capacity(alloc, count as usize)?;
     for i in 0..count {

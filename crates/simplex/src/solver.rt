@@ -6,7 +6,8 @@ ghost use Rattle.linear_rows.specs.Systems.{IsSystem};
 ghost use Rattle.simplex_spec.specs.Tableaux.{right};
 ghost use Rattle.simplex_spec.specs.Courses.{AnswersOnce, RisesBy};
 ghost use Rattle.simplex.specs.Choosing.{IsChooser};
-ghost use Rattle.simplex.specs.Solving.{rule_of, Reached, IsOpening, IsReady, AreFound, IsMade, IsNotMade, UpTo, Below, IsStep, IsAnswer, SaysNone, Agree, IsWithin, SaysCut, CutsBy};
+ghost use Rattle.simplex.specs.Solving.{rule_of, Reached, IsOpening, IsReady, AreFound, IsMade, IsNotMade, UpTo, Below, IsStep, IsAnswer};
+ghost use Rattle.simplex.specs.Solving.{SaysNone, Agree, IsWithin, SaysCut, CutsBy};
 
 use crate::answer::{Answer, Within};
 use crate::chooser::Chooser;
@@ -208,7 +209,8 @@ fn run<F: Fn(&[Frac]) -> Option<usize>>(
     requires fits { right system.now < 2 ^ 32 }
     requires opens { IsOpening system.now table }
     ensures within { IfOk result (IsWithin (rule_of F.Fn chooser.now) system.now most) }
-    ensures cut { IfOk result (λ within. AnswersOnce (rule_of F.Fn chooser.now) → (SaysCut within ↔ CutsBy (rule_of F.Fn chooser.now) system.now most)) }
+    ensures cut { IfOk result
+        (λ within. AnswersOnce (rule_of F.Fn chooser.now) → (SaysCut within ↔ CutsBy (rule_of F.Fn chooser.now) system.now most)) }
 {
     let columns = system.rows().len() + system.unknowns() as usize;
     let mut scratch = new_scratch(alloc, &table, columns)?;
@@ -260,8 +262,10 @@ pub fn solve_within<F: Fn(&[Frac]) -> Option<usize>>(
     requires chooses { IsChooser F.Fn chooser.now }
     requires fits { right system.now < 2 ^ 32 }
     ensures within { IfOk result (IsWithin (rule_of F.Fn chooser.now) system.now most) }
-    ensures none { (answer : Answer) → result ≡ Ok (Within.Answered answer) → AnswersOnce (rule_of F.Fn chooser.now) → (SaysNone answer ↔ RisesBy (rule_of F.Fn chooser.now) system.now) }
-    ensures cut { IfOk result (λ within. AnswersOnce (rule_of F.Fn chooser.now) → (SaysCut within ↔ CutsBy (rule_of F.Fn chooser.now) system.now most)) }
+    ensures none { (answer : Answer) → result ≡ Ok (Within.Answered answer) → AnswersOnce (rule_of F.Fn chooser.now) →
+        (SaysNone answer ↔ RisesBy (rule_of F.Fn chooser.now) system.now) }
+    ensures cut { IfOk result
+        (λ within. AnswersOnce (rule_of F.Fn chooser.now) → (SaysCut within ↔ CutsBy (rule_of F.Fn chooser.now) system.now most)) }
     ensures never { most ≡ None → IfOk result (λ within. SaysCut within → ⊥) }
 {
     match opening(alloc, system) {
@@ -286,7 +290,8 @@ pub fn solve<F: Fn(&[Frac]) -> Option<usize>>(
     requires chooses { IsChooser F.Fn chooser.now }
     requires fits { right system.now < 2 ^ 32 }
     ensures answer { IfOk result (IsAnswer (rule_of F.Fn chooser.now) system.now) }
-    ensures none { IfOk result (λ answer. AnswersOnce (rule_of F.Fn chooser.now) → (SaysNone answer ↔ RisesBy (rule_of F.Fn chooser.now) system.now)) }
+    ensures none { IfOk result
+        (λ answer. AnswersOnce (rule_of F.Fn chooser.now) → (SaysNone answer ↔ RisesBy (rule_of F.Fn chooser.now) system.now)) }
 {
     match solve_within(alloc, system, chooser, None)? {
         Within::Answered(answer) => Ok(answer),

@@ -92,7 +92,8 @@ pub(crate) fn ray(
 ) -> Result<Vec<Frac>, AllocError>
     requires one_each { length table.now.rows.items ≡ length table.now.basis.items }
     requires once { NoneTwice (column ∷ table.now.basis.items) }
-    ensures { (t : Tableau) → IsAt system.now table.now t → pos 0 <ℤ places.at t.gains column → IfOk result (λ y. AreOver t.over (ray system.now column t) y.items) }
+    ensures { (t : Tableau) → IsAt system.now table.now t → pos 0 <ℤ places.at t.gains column → IfOk result
+        (λ y. AreOver t.over (ray system.now column t) y.items) }
 {
     let read = column_of(alloc, &table.rows, column)?;
     let mut numbers = negated(alloc, &read)?;

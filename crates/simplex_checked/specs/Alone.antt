@@ -13,8 +13,10 @@ use Rattle.simplex_checked.specs.declared.fault.AnswerFault.TheVariants as f
 
 -- what is read, over the tableau's number: the solution alone, or the vector
 pub data ReadAlone (rule : Rule) (s : LinearSystem) (d : ℤ) (ns : List ℤ) : Type 0 where
-  OfSolution : (pivots : List (ℕ × ℕ)) (t : Tableau) → Ends s pivots t → Follows rule s pivots → d ≡ t.over → ns ≡ solution s t → ReadAlone rule s d ns
-  OfVector : (pivots : List (ℕ × ℕ)) (t : Tableau) (column : ℕ) → Rises s pivots t column → Follows rule s pivots → Answers rule s t column →
+  OfSolution : (pivots : List (ℕ × ℕ)) (t : Tableau) → Ends s pivots t → Follows rule s pivots →
+      d ≡ t.over → ns ≡ solution s t → ReadAlone rule s d ns
+  OfVector : (pivots : List (ℕ × ℕ)) (t : Tableau) (column : ℕ) → Rises s pivots t column →
+      Follows rule s pivots → Answers rule s t column →
       d ≡ t.over → ns ≡ ray s column t → ReadAlone rule s d ns
 
 -- x over t is read where the pivots end, and its numbers fit
@@ -25,7 +27,8 @@ pub record SolutionFits (rule : Rule) (s : LinearSystem) (t : ℕ) (x : List ℕ
 
 -- the numbers are natural ones, and are a solution over the denominator; a vector is that of the whole answer
 abbrev pub IsAlone : Rule → LinearSystem → Answer → Type 0
-IsAlone rule s (Solution denominator numbers) = (t : ℕ) × (x : List ℕ) × (denominator ≡ pos t) × (numbers.items ≡ map pos x) × SolutionFits rule s t x
+IsAlone rule s (Solution denominator numbers) =
+    (t : ℕ) × (x : List ℕ) × (denominator ≡ pos t) × (numbers.items ≡ map pos x) × SolutionFits rule s t x
 IsAlone rule s (Vector numbers) = IsAnswer rule s (Vector numbers)
 
 -- where a number leaves, and all that is tried before it was fine: no entry of the dual solution does, and none in a check of what is least

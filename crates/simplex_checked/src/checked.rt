@@ -5,7 +5,8 @@ ghost use Rattle.farkas_check.specs.Checks.{EachPasses, refuting, proving_least}
 ghost use Rattle.simplex_spec.specs.Tableaux.{right};
 ghost use Rattle.simplex_integers.specs.Wholes.{most};
 ghost use Rattle.simplex_integers.specs.Denominators.{all_over};
-ghost use Rattle.simplex_checked.specs.Wholes.{AreLeast, AreRefuting, HaveWholes, IsInWholes, IsLeastAnswer, LeastFails, IsVectorAnswer, RefutingFails, LeastCheckLeaves, VectorCheckLeaves};
+ghost use Rattle.simplex_checked.specs.Wholes.{AreLeast, AreRefuting, HaveWholes, IsInWholes, IsLeastAnswer, LeastFails, IsVectorAnswer};
+ghost use Rattle.simplex_checked.specs.Wholes.{RefutingFails, LeastCheckLeaves, VectorCheckLeaves};
 
 use crate::answer::Answer;
 use crate::fault::AnswerFault;

@@ -78,8 +78,10 @@ pub fn whole_answer<F: Fn(&[Frac]) -> Option<usize>>(
     requires callable { F.IsAlwaysCallable chooser.now }
     requires chooses { IsChooser F.Fn chooser.now }
     requires fits { right system.now < 2 ^ 32 }
-    ensures answer { IfOk result (λ answer. (pick : List ℤ → ℤ → Option ℕ) → AnswersBy F.Fn chooser.now pick → IsAnswer (rule_by pick) system.now answer) }
-    ensures fault { IfErr result (λ fault. (pick : List ℤ → ℤ → Option ℕ) → AnswersBy F.Fn chooser.now pick → Stops (rule_by pick) system.now fault) }
+    ensures answer { IfOk result
+        (λ answer. (pick : List ℤ → ℤ → Option ℕ) → AnswersBy F.Fn chooser.now pick → IsAnswer (rule_by pick) system.now answer) }
+    ensures fault { IfErr result
+        (λ fault. (pick : List ℤ → ℤ → Option ℕ) → AnswersBy F.Fn chooser.now pick → Stops (rule_by pick) system.now fault) }
 {
     laws::least_denominators();
     laws::refused_entries_leave();
@@ -100,8 +102,10 @@ pub fn answer_alone<F: Fn(&[Frac]) -> Option<usize>>(
     requires callable { F.IsAlwaysCallable chooser.now }
     requires chooses { IsChooser F.Fn chooser.now }
     requires fits { right system.now < 2 ^ 32 }
-    ensures answer { IfOk result (λ answer. (pick : List ℤ → ℤ → Option ℕ) → AnswersBy F.Fn chooser.now pick → IsAlone (rule_by pick) system.now answer) }
-    ensures fault { IfErr result (λ fault. (pick : List ℤ → ℤ → Option ℕ) → AnswersBy F.Fn chooser.now pick → StopsAlone (rule_by pick) system.now fault) }
+    ensures answer { IfOk result
+        (λ answer. (pick : List ℤ → ℤ → Option ℕ) → AnswersBy F.Fn chooser.now pick → IsAlone (rule_by pick) system.now answer) }
+    ensures fault { IfErr result
+        (λ fault. (pick : List ℤ → ℤ → Option ℕ) → AnswersBy F.Fn chooser.now pick → StopsAlone (rule_by pick) system.now fault) }
 {
     laws::least_denominators();
     laws::refused_entries_leave();

@@ -14,7 +14,9 @@ pub record AreNatural (d : ℤ) (ns : List ℤ) (fs : List Frac) : Type 0 where
 
 -- The least denominator that serves is the least common multiple.
 abbrev pub LeastDenominators : Type 0
-LeastDenominators = (d : ℤ) (ns : List ℤ) (fs : List Frac) → AreNatural d ns fs → (l : ℕ) → IsLcmOf (denominators fs) l → AreLeastWholes d ns l (all_over l fs)
+LeastDenominators =
+    (d : ℤ) (ns : List ℤ) (fs : List Frac) → AreNatural d ns fs → (l : ℕ) →
+    IsLcmOf (denominators fs) l → AreLeastWholes d ns l (all_over l fs)
 
 -- Where the code refuses an entry, the entry leaves.
 pub record RefusedEntriesLeave : Type 0 where

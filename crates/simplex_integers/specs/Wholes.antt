@@ -16,8 +16,8 @@ pub record AreLeastWholes (d : ℤ) (ns : List ℤ) (t : ℕ) (xs : List ℕ) : 
 abbrev pub most : ℕ
 most = 2 ^ 127
 
--- Of the numbers ns over d, the least denominator that serves for those up to an entry is too great, and for no fewer; or over the least denominator of
--- all the entry is the first that is too great.
+-- Of the numbers ns over d, the least denominator that serves for those up to an entry is too great, and for no fewer;
+-- or over the least denominator of all the entry is the first that is too great.
 pub data ScaleLeaves (d : ℤ) (ns : List ℤ) (entry : ℕ) : Type 0 where
   InDenominator : entry < length ns → (t u : ℕ) (xs zs : List ℕ) →
       AreLeastWholes d (take (suc entry) ns) t xs → most ≤ t → AreLeastWholes d (take entry ns) u zs → u < most → ScaleLeaves d ns entry

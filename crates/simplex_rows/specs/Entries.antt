@@ -1,5 +1,6 @@
 -- Rows of fractions, and fractions less a product.
-use Rattle.std.specs.Prelude.{◌≡◌, ◌≢◌, ℕ, suc, ◌≤◌, ◌<◌, List, [], ◌∷◌, map, slice_index_or, Option, Some, None, pos, ◌⊎◌, if◌then◌else◌, ◌==◌}
+use Rattle.std.specs.Prelude.{◌≡◌, ◌≢◌, ℕ, suc, ◌≤◌, ◌<◌, List, [], ◌∷◌, map, slice_index_or, Option, Some, None, pos, ◌⊎◌, if◌then◌else◌}
+use Rattle.std.specs.Prelude.{◌==◌}
 use Rattle.raml_num.specs.Divisors.{IsLcm}
 use Rattle.frac128.specs.declared.Frac.{Frac}
 use Rattle.frac128.specs.Nought.{nought}
@@ -47,7 +48,9 @@ pub record IsLess (x f q r : Frac) : Type 0 where
 
 -- f times q, or x less that product, leaves the range
 abbrev pub LessLeaves : Frac → Frac → Frac → Type 0
-LessLeaves x f q = ((p : Frac) → IsProduct f q p → ⊥) ⊎ ((p : Frac) × IsProduct f q p × ((m : ℕ) → IsLcm (denominator x) (denominator p) m → DifferenceFits x p m → ⊥))
+LessLeaves x f q =
+    ((p : Frac) → IsProduct f q p → ⊥)
+    ⊎ ((p : Frac) × IsProduct f q p × ((m : ℕ) → IsLcm (denominator x) (denominator p) m → DifferenceFits x p m → ⊥))
 
 -- no fraction of the range is x over y
 abbrev pub QuotientLeaves : Frac → Frac → Type 0

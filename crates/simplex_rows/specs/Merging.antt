@@ -34,7 +34,8 @@ pub record Steps (xs qs : Entries) (c : ℕ) (x q : Frac) (xs' qs' : Entries) : 
 -- column by column, rs is xs less f times qs
 pub data Merges (f : Frac) : Entries → Entries → Entries → Type 0 where
   End : {xs qs rs : Entries} → least_column xs qs ≡ None → rs ≡ [] → Merges f xs qs rs
-  Step : {xs qs xs' qs' rs : Entries} {c : ℕ} {x q r : Frac} → Steps xs qs c x q xs' qs' → IsLess x f q r → Merges f xs' qs' rs → Merges f xs qs (put c r rs)
+  Step : {xs qs xs' qs' rs : Entries} {c : ℕ} {x q r : Frac} → Steps xs qs c x q xs' qs' →
+      IsLess x f q r → Merges f xs' qs' rs → Merges f xs qs (put c r rs)
 
 -- at column c it leaves the range
 pub data MergeLeaves (f : Frac) : Entries → Entries → ℕ → Type 0 where

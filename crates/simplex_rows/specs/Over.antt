@@ -28,7 +28,8 @@ part_size : (n : ℤ) (g : ℕ) → unsigned_abs (part n g) ≡ unsigned_abs n /
 part_size (pos m) g = refl
 part_size (negsuc m) g = omega (arith, ints)
 
-pub lowest_part : (n : ℤ) (d g : ℕ) → are_parts (unsigned_abs n) d ≡ true → IsGcd (unsigned_abs n) d g → InLowestTerms (unsigned_abs (part n g)) (d / g)
+pub lowest_part : (n : ℤ) (d g : ℕ) → are_parts (unsigned_abs n) d ≡ true →
+    IsGcd (unsigned_abs n) d g → InLowestTerms (unsigned_abs (part n g)) (d / g)
 lowest_part n d g e divides =
     let small : unsigned_abs n < 2 ^ 127 = grind (arith, nat_tests) in
     let positive : 0 < d = grind (arith, nat_tests) in

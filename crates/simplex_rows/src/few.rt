@@ -1,7 +1,8 @@
 //! A row of few whole numbers over one denominator.
 
 ghost use Rattle.std.specs.Prelude.{◌≡◌, ◌≢◌, ◌<◌, ◌++◌, ◌^◌, [], length, map, ℕ, pos, ◌<ℤ◌, ◌≤ℤ◌, ◌+ℤ◌, ◌*ℤ◌, unsigned_abs, IfOk, OnOk};
-ghost use Rattle.simplex_rows.specs.ShortRows.{ShortRow, IsShort, whole_at, put_whole, WholesEndBefore, IsNextWhole, IsCombined, SameValues, fractions_of};
+ghost use Rattle.simplex_rows.specs.ShortRows.{ShortRow, IsShort, whole_at, put_whole, WholesEndBefore, IsNextWhole, IsCombined};
+ghost use Rattle.simplex_rows.specs.ShortRows.{SameValues, fractions_of};
 ghost use Rattle.simplex_rows.specs.Entries.{at};
 ghost use Rattle.frac128.specs.Values.{numerator, IsQuotient};
 

@@ -23,13 +23,16 @@ impl Model for ManyRow {
 
     ghost view = { λ r. record { numbers = listed_from 0 r.numbers.items; den = r.den; bound = r.bound } };
 
-    ghost invariant = { λ r. IsShort (record { numbers = listed_from 0 r.numbers.items; den = r.den; bound = r.bound }) × (length r.numbers.items ≤ 2 ^ 32) };
+    ghost invariant = { λ r. IsShort
+        (record { numbers = listed_from 0 r.numbers.items; den = r.den; bound = r.bound }) × (length r.numbers.items ≤ 2 ^ 32) };
 }
 
 impl ManyRow {
     /// The numbers of a list, each in the place of its column.
     pub(crate) fn from_few(alloc: Global, few: &FewRow) -> Result<ManyRow, AllocError>
-        ensures same { IfOk result (λ row. ((c : ℕ) → whole_at c row.numbers ≡ whole_at c few.now.numbers) × (row.den ≡ few.now.den) × (row.bound ≡ few.now.bound)) }
+        ensures same { IfOk result
+            (λ row. ((c : ℕ) → whole_at c row.numbers ≡ whole_at c few.now.numbers)
+            × (row.den ≡ few.now.den) × (row.bound ≡ few.now.bound)) }
         ensures short { IfOk result (λ row. IsShort row) }
     {
         let mut numbers = Vec::new(alloc);

@@ -2,7 +2,8 @@
 
 ghost use Rattle.std.specs.Prelude.{◌≡◌, ◌≤◌, ◌^◌, length, pos, ◌<ℤ◌, ◌≤ℤ◌, IfOk, OnOk};
 ghost use Rattle.simplex_rows.specs.ShortRows.{AscendsFrom, WholesEndBefore, listed_from};
-ghost use Rattle.simplex_rows.specs.Placed.{AreOf63Bits, StayWithin, ProductsFit, DifferencesFit, AreMultiplied, AreDivided, AreLessened, AreKept};
+ghost use Rattle.simplex_rows.specs.Placed.{AreOf63Bits, StayWithin, ProductsFit, DifferencesFit, AreMultiplied, AreDivided, AreLessened};
+ghost use Rattle.simplex_rows.specs.Placed.{AreKept};
 ghost use Rattle.simplex_rows.specs.Multiples.{IsMultiple, AreMultiples};
 
 use crate::dividing::{common_with, over};

@@ -106,7 +106,8 @@ impl FracRow {
     /// The fraction at `column` over that at `by`, or None where it leaves the range.
     pub fn ratio(&self, column: u32, by: u32) -> Option<Frac>
         requires { pos 0 <ℤ numerator (at by self.now) }
-        ensures { MatchOption result (QuotientLeaves (at column self.now) (at by self.now)) (IsQuotient (at column self.now) (at by self.now)) }
+        ensures { MatchOption result (QuotientLeaves (at column self.now) (at by self.now))
+            (IsQuotient (at column self.now) (at by self.now)) }
     {
         match &self.numbers {
             Numbers::Short(row) => Some(row.ratio(column, by)),

@@ -153,7 +153,8 @@ impl ShortNumbers {
     /// Each fraction over that at a column, as a list.
     pub(crate) fn over_its(self, alloc: Global, column: u32) -> Result<FewRow, AllocError>
         requires { pos 0 <ℤ numerator (at column (fractions_of (row_of self))) }
-        ensures { IfOk result (λ row. (c : ℕ) → IsQuotient (at c (fractions_of (row_of self))) (at column (fractions_of (row_of self))) (at c (fractions_of row))) }
+        ensures { IfOk result (λ row. (c : ℕ) →
+            IsQuotient (at c (fractions_of (row_of self))) (at column (fractions_of (row_of self))) (at c (fractions_of row))) }
     {
         let listed = self.listed(alloc)?;
         Ok(listed.over_its(column))
@@ -207,7 +208,8 @@ impl ShortNumbers {
     ) -> Result<(), AllocError>
         requires positive { pos 0 <ℤ factors.own }
         requires fits { (factors.own *ℤ (row_of self.old).bound +ℤ pos (unsigned_abs factors.times) *ℤ lead.now.bound) ≤ℤ factors.bound }
-        ensures combined { OnOk result (IsCombined factors.own factors.times lead.now.numbers (row_of self.old).numbers (row_of self.new).numbers) }
+        ensures combined { OnOk result
+            (IsCombined factors.own factors.times lead.now.numbers (row_of self.old).numbers (row_of self.new).numbers) }
         ensures den { OnOk result ((row_of self.new).den ≡ factors.own *ℤ (row_of self.old).den) }
         ensures short { OnOk result (IsShort (row_of self.new)) }
     {
@@ -250,7 +252,8 @@ impl ShortNumbers {
     ) -> Result<(), AllocError>
         requires positive { pos 0 <ℤ factors.own }
         requires fits { (factors.own *ℤ (row_of self.old).bound +ℤ pos (unsigned_abs factors.times) *ℤ lead.now.bound) ≤ℤ factors.bound }
-        ensures combined { OnOk result (IsCombined factors.own factors.times lead.now.numbers (row_of self.old).numbers (row_of self.new).numbers) }
+        ensures combined { OnOk result
+            (IsCombined factors.own factors.times lead.now.numbers (row_of self.old).numbers (row_of self.new).numbers) }
         ensures den { OnOk result ((row_of self.new).den ≡ factors.own *ℤ (row_of self.old).den) }
         ensures short { OnOk result (IsShort (row_of self.new)) }
     {
@@ -268,7 +271,8 @@ impl ShortNumbers {
         most: usize,
         spare: &mut Vec<(u32, i64)>,
     ) -> Result<bool, AllocError>
-        ensures swept { result ≡ Ok true → IsSwept column (fractions_of lead.now) (fractions_of (row_of self.old)) (fractions_of (row_of self.new)) }
+        ensures swept { result ≡ Ok true →
+            IsSwept column (fractions_of lead.now) (fractions_of (row_of self.old)) (fractions_of (row_of self.new)) }
         ensures kept { result ≡ Ok false → SameFractions (fractions_of (row_of self.old)) (fractions_of (row_of self.new)) }
     {
         if let Some(factors) = self.factors(column, lead) {

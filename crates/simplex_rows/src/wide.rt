@@ -3,7 +3,8 @@
 ghost use Rattle.std.specs.Prelude.{◌≡◌, ◌≢◌, ◌<◌, ◌<ℤ◌, ◌^◌, ◌++◌, [], ℕ, pos, neg_ℤ, IfOk, IfErr, OnOk, OnErr, MatchOption};
 ghost use Rattle.frac128.specs.Values.{numerator, denominator, IsQuotient};
 ghost use Rattle.frac128.specs.Nought.{nought};
-ghost use Rattle.simplex_rows.specs.Entries.{Entries, at, columns_of, IsNextColumn, IsSparse, EndsBefore, Adds, IsLess, LessLeaves, QuotientLeaves};
+ghost use Rattle.simplex_rows.specs.Entries.{Entries, at, columns_of, IsNextColumn, IsSparse, EndsBefore, Adds, IsLess, LessLeaves};
+ghost use Rattle.simplex_rows.specs.Entries.{QuotientLeaves};
 ghost use Rattle.simplex_rows.specs.Merging.{put, Merges, MergeLeaves};
 ghost use Rattle.simplex_rows.specs.Sweeping.{AddsWhole, IsSwept, SweepLeaves};
 
@@ -112,7 +113,8 @@ impl WideRow {
     /// The fraction at `column` over that at `by`, or None where it leaves the range.
     pub(crate) fn ratio(&self, column: u32, by: u32) -> Option<Frac>
         requires { pos 0 <ℤ numerator (at by self.now) }
-        ensures { MatchOption result (QuotientLeaves (at column self.now) (at by self.now)) (IsQuotient (at column self.now) (at by self.now)) }
+        ensures { MatchOption result (QuotientLeaves (at column self.now) (at by self.now))
+            (IsQuotient (at column self.now) (at by self.now)) }
     {
         self.at(column).div(&self.at(by))
     }

@@ -74,4 +74,5 @@ pub record RisesBy (rule : Rule) (s : LinearSystem) : Type 0 where
 -- or with the rule's entering column e
 pub data Refuses (rule : Rule) (s : LinearSystem) (pivots : List (ℕ × ℕ)) (i c : ℕ) : Type 0 where
   AtOpening : pivots ≡ [] → entry (opening s) i c ≡ least_number → Refuses rule s pivots i c
-  AtPivot : (t : Tableau) (e : ℕ) → Course s pivots t → Follows rule s pivots → Enters s t e → Answers rule s t e → Refused s t e i c → Refuses rule s pivots i c
+  AtPivot : (t : Tableau) (e : ℕ) → Course s pivots t → Follows rule s pivots → Enters s t e →
+      Answers rule s t e → Refused s t e i c → Refuses rule s pivots i c

@@ -16,7 +16,8 @@ never = record { unknowns = 1; rows = record { terms = []; right = pos 1 } ∷ [
 abbrev pub two_rows : LinearSystem
 two_rows = record {
   unknowns = 2;
-  rows = record { terms = (0, pos 2) ∷ (1, pos 1) ∷ []; right = pos 4 } ∷ record { terms = (0, pos 1) ∷ (1, pos 3) ∷ []; right = pos 6 } ∷ [];
+  rows =
+      record { terms = (0, pos 2) ∷ (1, pos 1) ∷ []; right = pos 4 } ∷ record { terms = (0, pos 1) ∷ (1, pos 3) ∷ []; right = pos 6 } ∷ [];
   weights = pos 2 ∷ pos 3 ∷ [];
 }
 
@@ -38,7 +39,8 @@ pub record Searches : Type 0 where
   pub found : IsCompared (compared one_sum) (opening one_sum) 0 1 2 → ⊥
 
 pub record Examples : Type 0 where
-  pub opened : opening at_least_three ≡ record { rows = (pos 1 ∷ pos 1 ∷ pos 1 ∷ []) ∷ []; gains = pos 3 ∷ pos 0 ∷ pos 0 ∷ []; over = pos 1; basis = 1 ∷ [] }
+  pub opened : opening at_least_three
+      ≡ record { rows = (pos 1 ∷ pos 1 ∷ pos 1 ∷ []) ∷ []; gains = pos 3 ∷ pos 0 ∷ pos 0 ∷ []; over = pos 1; basis = 1 ∷ [] }
   pub three : solution at_least_three (pivot 0 0 (opening at_least_three)) ≡ pos 3 ∷ []
   pub one : dual at_least_three (pivot 0 0 (opening at_least_three)) ≡ pos 1 ∷ []
   pub refuting : ray never 0 (opening never) ≡ pos 1 ∷ []
@@ -55,4 +57,17 @@ pub record Examples : Type 0 where
   pub based : two_pivots.basis ≡ 0 ∷ 1 ∷ []
 
 pub examples : Examples
-examples = record { opened = refl; three = refl; one = refl; refuting = refl; columns = (refl, refl); first_pivot = refl; fifths = refl; least = refl; proof = refl; based = refl }
+examples =
+    record {
+      opened = refl;
+      three = refl;
+      one = refl;
+      refuting = refl;
+      columns =
+          (refl, refl);
+      first_pivot = refl;
+      fifths = refl;
+      least = refl;
+      proof = refl;
+      based = refl;
+    }

@@ -6,7 +6,8 @@ use Rattle.simplex_spec.specs.Tableaux.{Tableau, right, solution, dual, ray, Exi
 use Rattle.simplex_spec.specs.Courses.{Course, Ends, Rises, Follows, Answers, Refuses, rule_by}
 
 abbrev pub EndsAreLeast : Type 0
-EndsAreLeast = (s : LinearSystem) (pivots : List (ℕ × ℕ)) (t : Tableau) → IsSystem s → Ends s pivots t → ProvesLeast s (solution s t) (dual s t) t.over
+EndsAreLeast =
+    (s : LinearSystem) (pivots : List (ℕ × ℕ)) (t : Tableau) → IsSystem s → Ends s pivots t → ProvesLeast s (solution s t) (dual s t) t.over
 
 abbrev pub RisesRefute : Type 0
 RisesRefute = (s : LinearSystem) (pivots : List (ℕ × ℕ)) (t : Tableau) (c : ℕ) → IsSystem s → Rises s pivots t c → Refutes s (ray s c t)
@@ -17,7 +18,9 @@ CoursesEnd = (s : LinearSystem) (pivots : List (ℕ × ℕ)) (t : Tableau) → I
 
 -- at most one row can exit
 abbrev pub OneRowExits : Type 0
-OneRowExits = (s : LinearSystem) (pivots : List (ℕ × ℕ)) (t : Tableau) (c l m : ℕ) → IsSystem s → Course s pivots t → Exits s c t l → Exits s c t m → l ≡ m
+OneRowExits =
+    (s : LinearSystem) (pivots : List (ℕ × ℕ)) (t : Tableau) (c l m : ℕ) → IsSystem s →
+    Course s pivots t → Exits s c t l → Exits s c t m → l ≡ m
 
 -- two ends of one system have the same weighted sum
 abbrev pub EndsAgree : Type 0
@@ -26,7 +29,8 @@ EndsAgree = (s : LinearSystem) (pivots others : List (ℕ × ℕ)) (t u : Tablea
 
 -- and no course ends where another rises
 abbrev pub EndsOrRises : Type 0
-EndsOrRises = (s : LinearSystem) (pivots others : List (ℕ × ℕ)) (t u : Tableau) (c : ℕ) → IsSystem s → Ends s pivots t → Rises s others u c → ⊥
+EndsOrRises =
+    (s : LinearSystem) (pivots others : List (ℕ × ℕ)) (t u : Tableau) (c : ℕ) → IsSystem s → Ends s pivots t → Rises s others u c → ⊥
 
 -- by a rule that is a function, a system has one end or one rise, after the same pivots, and no refusal
 -- beside it
@@ -42,6 +46,7 @@ pub record OneCourse : Type 0 where
   pub end_or_refusal : (pick : List ℤ → ℤ → Option ℕ) (s : LinearSystem) (pivots others : List (ℕ × ℕ)) (t : Tableau) (i k : ℕ) → IsSystem s
       → Ends s pivots t → Follows (rule_by pick) s pivots
       → Refuses (rule_by pick) s others i k → ⊥
-  pub rise_or_refusal : (pick : List ℤ → ℤ → Option ℕ) (s : LinearSystem) (pivots others : List (ℕ × ℕ)) (t : Tableau) (c i k : ℕ) → IsSystem s
+  pub rise_or_refusal : (pick : List ℤ → ℤ → Option ℕ) (s : LinearSystem)
+      (pivots others : List (ℕ × ℕ)) (t : Tableau) (c i k : ℕ) → IsSystem s
       → Rises s pivots t c → Follows (rule_by pick) s pivots → Answers (rule_by pick) s t c
       → Refuses (rule_by pick) s others i k → ⊥

@@ -65,7 +65,8 @@ pub record IsLeastRow (cs : List ℕ) (c : ℕ) (t : Tableau) (i : ℕ) : Type 0
   pub inside : i < length t.rows
   pub positive : pos 0 <ℤ at (row_at t.rows i) c
   pub least : (m : ℕ) → m < length t.rows → pos 0 <ℤ at (row_at t.rows m) c
-      → LexAtMost (scale (at (row_at t.rows m) c) (at_each (row_at t.rows i) cs)) (scale (at (row_at t.rows i) c) (at_each (row_at t.rows m) cs))
+      → LexAtMost (scale (at (row_at t.rows m) c) (at_each (row_at t.rows i) cs))
+      (scale (at (row_at t.rows i) c) (at_each (row_at t.rows m) cs))
 
 -- the columns by which rows are compared, in order
 abbrev pub compared : LinearSystem → List ℕ

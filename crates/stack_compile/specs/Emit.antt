@@ -75,7 +75,8 @@ size e = nodes (term_of e)
 abbrev pub NumbersFit : Expr → Type 0
 NumbersFit e = AllNodes NumberFits (term_of e)
 
--- The depth is the number of locals. So many more locals and so many nodes, behind so many instructions, have numbers and places of 32 bits.
+-- The depth is the number of locals. So many more locals and so many nodes, behind so many instructions, have numbers
+-- and places of 32 bits.
 abbrev pub HasRoom : Env → ℕ → ℕ → ℕ → Type 0
 HasRoom env more at n = (env.depth ≡ length (locals_in env)) × (env.depth + more + 3 * n < 2 ^ 32) × (at + 4 * n < 2 ^ 32)
 

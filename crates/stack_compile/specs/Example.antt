@@ -100,7 +100,8 @@ operator op = function (codes "main") (parameter x Integer ∷ parameter y Integ
 
 -- fun main (x : int, y : int) : bool = not (x <= y)
 abbrev greater : Prog
-greater = function (codes "main") (parameter x Integer ∷ parameter y Integer ∷ []) Boolean (t.Not 0 (t.Compare 0 AtMost (var x) (var y))) ∷ []
+greater =
+    function (codes "main") (parameter x Integer ∷ parameter y Integer ∷ []) Boolean (t.Not 0 (t.Compare 0 AtMost (var x) (var y))) ∷ []
 
 -- fun loop (x : int) : int = loop(x)
 abbrev loop : Prog
@@ -129,7 +130,8 @@ flat =
 abbrev flatten : Function
 flatten =
     function (codes "flatten") (parameter x (TreeOf Integer) ∷ []) int_list
-    (t.MatchTree 0 (var x) (t.Nil 0) (bound head) (bound tail) (bound rest) (call_with (codes "append") (call (codes "flatten") (var tail)) (t.Cons 0 (var head) (call (codes "flatten") (var rest)))))
+    (t.MatchTree 0 (var x) (t.Nil 0) (bound head) (bound tail) (bound rest)
+    (call_with (codes "append") (call (codes "flatten") (var tail)) (t.Cons 0 (var head) (call (codes "flatten") (var rest)))))
 
 -- fun part (x : int, y : int list) : int list * int list = match y with nil -> (nil, nil) | h :: t ->
 -- let (s, r) = part(x, t) in tick 1 in if h < x then (h :: s, r) else (s, h :: r)
@@ -139,7 +141,8 @@ part =
     (match_list (var y) (t.Pair 0 (t.Nil 0) (t.Nil 0)) head tail
     (t.LetPair 0 (bound second) (bound rest) (call_with (codes "part") (var x) (var tail))
     (t.Tick 0 1
-    (t.If 0 (t.Compare 0 Less (var head) (var x)) (t.Pair 0 (t.Cons 0 (var head) (var second)) (var rest)) (t.Pair 0 (var second) (t.Cons 0 (var head) (var rest)))))))
+    (t.If 0 (t.Compare 0 Less (var head) (var x)) (t.Pair 0 (t.Cons 0 (var head) (var second)) (var rest))
+    (t.Pair 0 (var second) (t.Cons 0 (var head) (var rest)))))))
 
 -- fun qsort (x : int list) : int list = match x with nil -> nil | h :: t -> let (s, r) = part(h, t) in append(qsort(s), h :: qsort(r))
 abbrev qsort : Function
@@ -158,7 +161,8 @@ half =
 -- fun first (x : int list) : int option = match x with nil -> none | h :: t -> some(h)
 abbrev first : Function
 first =
-    function (codes "first") (parameter x int_list ∷ []) (OptionOf Integer) (match_list (var x) (t.Nothing 0) head tail (t.Just 0 (var head)))
+    function (codes "first") (parameter x int_list ∷ []) (OptionOf Integer)
+    (match_list (var x) (t.Nothing 0) head tail (t.Just 0 (var head)))
 
 -- fun unwrap (x : int list option) : int list = match x with none -> nil | some(h) -> append(h, nil)
 abbrev unwrap : Function
@@ -205,9 +209,12 @@ pub record Examples : Type 0 where
   pub spin_goes_on : Going (at spin 0 (number 5 ∷ []) 10) 4 0 10
   -- append([1, 2, 3], [4]), before its last cell and at its end
   pub append_going : Going (at (append ∷ []) 0 (numbers (1 ∷ 2 ∷ 3 ∷ []) ∷ numbers (4 ∷ []) ∷ []) 30) 0 2 30
-  pub append_halted : at (append ∷ []) 0 (numbers (1 ∷ 2 ∷ 3 ∷ []) ∷ numbers (4 ∷ []) ∷ []) 34 ≡ halted (numbers (1 ∷ 2 ∷ 3 ∷ 4 ∷ [])) 0 3 34
+  pub append_halted : at (append ∷ []) 0 (numbers (1 ∷ 2 ∷ 3 ∷ []) ∷ numbers (4 ∷ []) ∷ []) 34
+      ≡ halted (numbers (1 ∷ 2 ∷ 3 ∷ 4 ∷ [])) 0 3 34
   -- flat([[1, 2], [], [3]]) and flat([])
-  pub flat_halted : at (append ∷ flat ∷ []) 1 (v.Cons (numbers (1 ∷ 2 ∷ [])) (v.Cons (numbers []) (v.Cons (numbers (3 ∷ [])) v.Empty)) ∷ []) 73 ≡ halted (numbers (1 ∷ 2 ∷ 3 ∷ [])) 0 3 73
+  pub flat_halted : at (append ∷ flat ∷ []) 1
+      (v.Cons (numbers (1 ∷ 2 ∷ []))
+      (v.Cons (numbers []) (v.Cons (numbers (3 ∷ [])) v.Empty)) ∷ []) 73 ≡ halted (numbers (1 ∷ 2 ∷ 3 ∷ [])) 0 3 73
   pub flat_empty : at (append ∷ flat ∷ []) 1 (v.Empty ∷ []) 4 ≡ halted v.Empty 0 0 4
   pub flatten_halted : at (append ∷ flatten ∷ []) 1 (small_tree ∷ []) 74 ≡ halted (numbers (1 ∷ 2 ∷ 3 ∷ [])) 0 4 74
   -- qsort([3, 2, 1]): pairs, comparisons and branches

@@ -38,7 +38,8 @@ pub record Linked (P : Prog) (f : ℕ) (g : Function) (args : List Value) : Type
   pub halts : (n : ℕ) (v : Value) → (run_of P g args n).out ≡ Some v → Halts P f args v (run_of P g args n)
   pub halts_only : (m : ℕ) (v : Value) → (at P f args m).at ≡ Halted v → Gives P g args v (at P f args m)
   -- after m instructions it costs no more than evaluation at every limit that is no less, whether that one has a value or is cut
-  pub at_most : (m n : ℕ) → m ≤ n → ((at P f args m).ticks ≤ (run_of P g args n).ticks) × ((at P f args m).cells ≤ (run_of P g args n).cells)
+  pub at_most : (m n : ℕ) → m ≤ n → ((at P f args m).ticks ≤ (run_of P g args n).ticks)
+      × ((at P f args m).cells ≤ (run_of P g args n).cells)
   -- where it goes on after m instructions, 4 times the work of evaluation at the next limit is more than m
   pub goes_on : (m : ℕ) → IsGoing (at P f args m).at → m < 4 * (run_of P g args (suc m)).work
   -- no instruction ever misses what it takes

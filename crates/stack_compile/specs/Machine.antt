@@ -11,7 +11,9 @@ use Rattle.raml_syntax.specs.Eval.{arith, compare, negation, branch, pair_case, 
 use Rattle.stack_compile.specs.Code.{Body}
 use Rattle.stack_compile.specs.declared.instr.Instr.{Instr}
 use Rattle.stack_compile.specs.declared.instr.Instr.TheVariants as instr
-use Rattle.stack_compile.specs.declared.instr.Instr.TheVariants.{Int, Bool, Empty, Load, Bind, Unbind, Add, Sub, Mul, Div, Mod, Compare, Not, Pair, Cons, Node, Unpair, CaseList, CaseTree, CaseOption, Branch, Jump, Call, Return, Tick}
+use Rattle.stack_compile.specs.declared.instr.Instr.TheVariants.{Int, Bool, Empty, Load, Bind, Unbind, Add, Sub, Mul, Div, Mod, Compare}
+use Rattle.stack_compile.specs.declared.instr.Instr.TheVariants.{Not, Pair, Cons, Node, Unpair, CaseList, CaseTree, CaseOption, Branch}
+use Rattle.stack_compile.specs.declared.instr.Instr.TheVariants.{Jump, Call, Return, Tick}
 
 -- where a call returns to, and the locals there
 pub record Frame : Type 0 where
@@ -115,7 +117,8 @@ act code (Some (CaseOption to)) f p st ls fs =
 act code (Some (Branch to)) f p st ls fs = goes (branch (top st) (Going f (p + 1) (under st) ls fs) (Going f to (under st) ls fs))
 act code (Some (Jump to)) f p st ls fs = goes (Going f to st ls fs)
 act code (Some (Call g)) f p st ls fs =
-    goes (entered (slice_get code g.0) (Going f p st ls fs) (λ n. Going g.0 0 (left n st) (popped n st []) (record { fun = f; place = p + 1; locals = ls } ∷ fs)))
+    goes (entered (slice_get code g.0) (Going f p st ls fs)
+    (λ n. Going g.0 0 (left n st) (popped n st []) (record { fun = f; place = p + 1; locals = ls } ∷ fs)))
 act code (Some Return) f p st ls fs = goes (leave fs st)
 act code (Some (Tick n)) f p st ls fs = goes_with_ticks n (Going f (p + 1) st ls fs)
 

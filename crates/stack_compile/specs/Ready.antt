@@ -7,7 +7,8 @@ use Rattle.stack_compile.specs.Code.{Body}
 use Rattle.stack_compile.specs.Machine.{Config, Going, Halted, fetch}
 use Rattle.stack_compile.specs.declared.instr.Instr.{Instr}
 use Rattle.stack_compile.specs.declared.instr.Instr.TheVariants as instr
-use Rattle.stack_compile.specs.declared.instr.Instr.TheVariants.{Load, Bind, Unbind, Add, Sub, Mul, Div, Mod, Compare, Not, Pair, Cons, Node, Unpair, CaseList, CaseTree, CaseOption, Branch, Call, Return}
+use Rattle.stack_compile.specs.declared.instr.Instr.TheVariants.{Load, Bind, Unbind, Add, Sub, Mul, Div, Mod, Compare, Not, Pair, Cons}
+use Rattle.stack_compile.specs.declared.instr.Instr.TheVariants.{Node, Unpair, CaseList, CaseTree, CaseOption, Branch, Call, Return}
 
 abbrev pub IsPair : Value → Type 0
 IsPair (Both v w) = Unit {0}

@@ -148,7 +148,8 @@ fn compile_all<'a>(
 ) -> Result<Vec<Body>, AllocError>
     requires parameters { All (λ (g : Function). length g.params ≤ 8) (map function_of funs.now) }
     requires nodes { program_nodes (map function_of funs.now) < 2 ^ 28 }
-    ensures bodies { IfOk result (λ bodies. map body_in bodies.items ≡ map (body_of (program_of functions.now.program.now)) (map function_of funs.now)) }
+    ensures bodies { IfOk result
+        (λ bodies. map body_in bodies.items ≡ map (body_of (program_of functions.now.program.now)) (map function_of funs.now)) }
     ensures numbers { OnOk result (All (λ (g : Function). AllNodes NumberFits g.body) (map function_of funs.now)) }
 {
     let mut bodies = Vec::new(alloc);

@@ -4,7 +4,8 @@ ghost use Rattle.raml_syntax.specs.Read.{program_of, terms_of};
 ghost use Rattle.raml_syntax.specs.Node.{nodes_of_all, AllOf, NumberFits};
 ghost use Rattle.stack_compile.specs.Code as c;
 ghost use Rattle.stack_compile.specs.Code.{fun_of, one, seq, fork};
-ghost use Rattle.stack_compile.specs.Emit.{here, below, bound_in, leave_of, size, NumbersFit, HasRoom, Appended, binders, arguments_in, call_in, let_in, match_in, node_in};
+ghost use Rattle.stack_compile.specs.Emit.{here, below, bound_in, leave_of, size, NumbersFit, HasRoom, Appended, binders, arguments_in};
+ghost use Rattle.stack_compile.specs.Emit.{call_in, let_in, match_in, node_in};
 ghost use Rattle.stack_compile.specs.declared.instr.Instr.TheVariants.{Branch, Tick};
 
 use crate::instr::Instr;
@@ -273,7 +274,8 @@ fn emit_if<'s, 'a>(
     no: &'a Expr,
 ) -> Result<(), AllocError>
     requires { HasRoom env 0 (vec_len code.old) (1 + size condition.now + size yes.now + size no.now) }
-    ensures code { OnOk result (Appended (fork (here env.entry condition.now) Branch (here env.entry yes.now) (here env.entry no.now)) code.old code.new) }
+    ensures code { OnOk result
+        (Appended (fork (here env.entry condition.now) Branch (here env.entry yes.now) (here env.entry no.now)) code.old code.new) }
     ensures short { OnOk result (vec_len code.new ≤ vec_len code.old + 4 * (1 + size condition.now + size yes.now + size no.now)) }
     ensures numbers { OnOk result (NumbersFit condition.now × NumbersFit yes.now × NumbersFit no.now) }
 {

@@ -3,7 +3,8 @@ ghost use Rattle.std.specs.Prelude.{◌≡◌, ◌++◌, ◌<◌, ◌^◌, codes
 ghost use Rattle.raml_syntax.specs.Read.{program_of, function_of};
 ghost use Rattle.stack_compile.specs.Code.{bodies_of};
 ghost use Rattle.stack_compile.specs.Read.{code_at};
-ghost use Rattle.stack_compile.specs.Text.{word_of, sign_of, name_in, operand_of, line_text, lines_text, function_text, functions_text, code_text};
+ghost use Rattle.stack_compile.specs.Text.{word_of, sign_of, name_in, operand_of, line_text, lines_text, function_text, functions_text};
+ghost use Rattle.stack_compile.specs.Text.{code_text};
 ghost use Rattle.std.specs.Option.{option_map};
 
 use crate::code::Code;

@@ -40,7 +40,14 @@ cells = block (With Cells) (at_zero 3) [] []
 
 -- a tick costs 2, and a cell 3
 abbrev pub scaled : ℕ → Certificate
-scaled k = record { degree = 1; ticks_scale = pos 2; cells_scale = pos 3; work_scale = None; blocks = zero_left ∷ entry_left ∷ ticks k ∷ cells ∷ [] }
+scaled k =
+    record {
+      degree = 1;
+      ticks_scale = pos 2;
+      cells_scale = pos 3;
+      work_scale = None;
+      blocks = zero_left ∷ entry_left ∷ ticks k ∷ cells ∷ [];
+    }
 
 -- fun main (x : int) : int = tick 1 in two(x), and fun two (x : int) : int = tick 2 in x: the group of the second comes first
 abbrev pub two_functions : Program
@@ -54,7 +61,8 @@ two_functions = record {
 
 -- what a group's block claims
 abbrev pub claims : ℕ → Meter → Entries → Block
-claims group meter args = record { task = record { group = group; kind = With meter }; body = Solved (record { args = args; result = [] } ∷ []) ([] ∷ []) }
+claims group meter args =
+    record { task = record { group = group; kind = With meter }; body = Solved (record { args = args; result = [] } ∷ []) ([] ∷ []) }
 
 abbrev pub of_two : Certificate
 of_two = certificate None (claims 0 Ticks (at_zero 2) ∷ claims 0 Cells [] ∷ claims 1 Ticks (at_zero 3) ∷ claims 1 Cells [] ∷ [])
@@ -62,10 +70,12 @@ of_two = certificate None (claims 0 Ticks (at_zero 2) ∷ claims 0 Cells [] ∷ 
 pub record ScaledExamples : Type 0 where
   pub held : Held (program ticking) (scaled 6)
   pub unpaid : Held (program ticking) (scaled 5) → ⊥
-  pub over_scales : lines (program ticking) (scaled 6) ≡ line 0 Ticks (Bound 2 (constant_term 6)) ∷ line 0 Cells (Bound 3 (constant_term 3)) ∷ []
+  pub over_scales : lines (program ticking) (scaled 6)
+      ≡ line 0 Ticks (Bound 2 (constant_term 6)) ∷ line 0 Cells (Bound 3 (constant_term 3)) ∷ []
   -- the rows of three ticks that cost 2 each
   pub rows : (system (program three_ticks) 1 (constant ∷ []) (record { group = 0; kind = With Ticks }) 2).rows
       ≡ record { terms = (0, pos 1) ∷ []; right = pos 6 } ∷ record { terms = (0, pos 1) ∷ (1, neg_ℤ (pos 1)) ∷ []; right = pos 6 } ∷ []
   -- in the order of the source, whatever that of the groups is
   pub in_order : lines two_functions of_two
-      ≡ line 0 Ticks (Bound 1 (constant_term 3)) ∷ line 0 Cells (Bound 1 []) ∷ line 1 Ticks (Bound 1 (constant_term 2)) ∷ line 1 Cells (Bound 1 []) ∷ []
+      ≡ line 0 Ticks (Bound 1 (constant_term 3)) ∷ line 0 Cells (Bound 1 []) ∷ line 1 Ticks
+      (Bound 1 (constant_term 2)) ∷ line 1 Cells (Bound 1 []) ∷ []

@@ -43,11 +43,14 @@ pub record SpelledData : Type 0 where
   pub too_deep : Faults (ints ∷ []) 1 (kinds (placed (codes "[1]"))) TooDeep (s.Number (pos 1) ∷ Key CloseList ∷ [])
   -- one space behind each comma, and nowhere else
   pub numbers : printed two ints ≡ codes "[1, -2]"
-  pub text : printed (Both (Cons (Truth true) (Cons (Truth false) Empty)) node) (PairOf (ListOf Boolean) (TreeOf Boolean)) ≡ codes "([true, false], node(true, leaf, leaf))"
+  pub text : printed (Both (Cons (Truth true) (Cons (Truth false) Empty)) node)
+      (PairOf (ListOf Boolean) (TreeOf Boolean)) ≡ codes "([true, false], node(true, leaf, leaf))"
   -- the empty value is printed as its type has it
-  pub empty_texts : printed (Both Empty (Both Empty (Just Empty))) (PairOf ints (PairOf (TreeOf Integer) (OptionOf (OptionOf Integer)))) ≡ codes "([], (leaf, some(none)))"
+  pub empty_texts : printed (Both Empty (Both Empty (Just Empty)))
+      (PairOf ints (PairOf (TreeOf Integer) (OptionOf (OptionOf Integer)))) ≡ codes "([], (leaf, some(none)))"
   -- a list is one higher than its highest element, however long it is
   pub height_of_list : height (Cons one (Cons one (Cons one Empty))) ≡ 2
   pub height_of_lists : height (Cons Empty (Cons (Cons one Empty) Empty)) ≡ 3
   -- a word names a cell, which names earlier cells
-  pub held_pair : value_of (held (c.Cons (w.Int (pos 1)) w.Empty ∷ c.Pair (w.Cell 0) (w.Bool true) ∷ [])) (w.Cell 1) ≡ Both (Cons one Empty) (Truth true)
+  pub held_pair : value_of
+      (held (c.Cons (w.Int (pos 1)) w.Empty ∷ c.Pair (w.Cell 0) (w.Bool true) ∷ [])) (w.Cell 1) ≡ Both (Cons one Empty) (Truth true)

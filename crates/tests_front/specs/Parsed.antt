@@ -41,7 +41,8 @@ chain = head (Name 17 x ∷ Key 18 s.Less ∷ Name 19 x ∷ Key 20 s.Less ∷ Na
 
 -- fun f(x:int):int=f(x,x,x,x,x,x,x,x and these
 abbrev pub call : List Token → List Token
-call more = head (Name 17 f ∷ Key 18 s.Open ∷ Name 19 x ∷ Key 20 s.Comma ∷ Name 21 x ∷ Key 22 s.Comma ∷ Name 23 x ∷ Key 24 s.Comma ∷ Name 25 x
+call more =
+    head (Name 17 f ∷ Key 18 s.Open ∷ Name 19 x ∷ Key 20 s.Comma ∷ Name 21 x ∷ Key 22 s.Comma ∷ Name 23 x ∷ Key 24 s.Comma ∷ Name 25 x
     ∷ Key 26 s.Comma ∷ Name 27 x ∷ Key 28 s.Comma ∷ Name 29 x ∷ Key 30 s.Comma ∷ Name 31 x ∷ Key 32 s.Comma ∷ Name 33 x ∷ more)
 
 -- , x ), where a ninth argument begins

@@ -32,7 +32,9 @@ first = t.MatchList 0 (t.Var 6 x) (t.Nothing 17) (bound 24 y) (bound 29 x) (t.Ju
 
 -- let (x, y) = (1, true) in (y, x :: nil)
 abbrev pub swapped : t.Term
-swapped = t.LetPair 0 (bound 5 x) (bound 8 y) (t.Pair 13 (t.Number 14 (pos 1)) (t.Truth 17 true)) (t.Pair 26 (t.Var 27 y) (t.Cons 30 (t.Var 30 x) (t.Nil 35)))
+swapped =
+    t.LetPair 0 (bound 5 x) (bound 8 y) (t.Pair 13 (t.Number 14 (pos 1)) (t.Truth 17 true))
+    (t.Pair 26 (t.Var 27 y) (t.Cons 30 (t.Var 30 x) (t.Nil 35)))
 
 -- fun f (x : int list) : int option = and the body
 abbrev pub function : ℕ → List Parameter → Type' → t.Term → Function

@@ -25,7 +25,8 @@ below n (suc g) = below n g + n g
 abbrev pub lower_count : List (List ℕ) → ℕ → ℕ
 lower_count pss = below (count pss)
 
--- What is known of a variable: the degrees of its indices, and, for each degree, how many tuples of the variables behind it have this degree.
+-- What is known of a variable: the degrees of its indices, and, for each degree, how many tuples of the variables
+-- behind it have this degree.
 pub record Column : Type 0 where
   pub sizes : List ℕ
   pub behind : List ℕ

@@ -1,5 +1,6 @@
 -- The numbers of a tuple that is made of the indices of another one.
-use Rattle.std.specs.Prelude.{ℕ, zero, suc, not, cond, Bool, false, Option, None, Some, List, [], ◌∷◌, ◌++◌, ◌-◌, map, take, length, slice_get, slice_index_or}
+use Rattle.std.specs.Prelude.{ℕ, zero, suc, not, cond, Bool, false, Option, None, Some, List, [], ◌∷◌, ◌++◌, ◌-◌, map, take, length}
+use Rattle.std.specs.Prelude.{slice_get, slice_index_or}
 use Rattle.std.specs.List.{position_or_len}
 use Rattle.raml_syntax.specs.Tree.{Type'}
 use Rattle.base_poly.specs.Plain.{alike}
@@ -54,7 +55,8 @@ abbrev pub plain_slots : ℕ → ℕ → List Slot
 plain_slots k zero = []
 plain_slots k (suc n) = (k, None) ∷ plain_slots (suc k) n
 
--- Of the tuple with these numbers its degree, and where the tuples of another context stand behind it whose degree is not too high: from the two contexts, both together, and the numbers of all tuples of the second.
+-- Of the tuple with these numbers its degree, and where the tuples of another context stand behind it whose degree is
+-- not too high: from the two contexts, both together, and the numbers of all tuples of the second.
 abbrev pub behind_at : Table → Table → Table → List (List ℕ) → List ℕ → ℕ × List ℕ
 behind_at first second whole rows js =
     let g = degree_at first (picked (plain_slots 0 (length first.columns)) js) in

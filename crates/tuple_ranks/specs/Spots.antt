@@ -17,7 +17,12 @@ permuted_spots order As Bs d = map (λ t. spot Bs d (permutation order t)) (inde
 
 -- of each tuple where its indices without a mark stand, and where the marked ones
 abbrev pub half_spots : List Bool → List Type' → ℕ → List (ℕ × ℕ)
-half_spots marks As d = map (λ t. (spot (other_items marks As) d (other_items marks t), spot (marked_items marks As) d (marked_items marks t))) (index_list As d)
+half_spots marks As d =
+    map (λ t. (
+      spot (other_items marks As) d (other_items marks t),
+      spot
+          (marked_items marks As) d (marked_items marks t),
+    )) (index_list As d)
 
 -- of each tuple j of As its degree, and where each tuple of Bs stands behind it whose degree is not too high
 abbrev pub joined_spots : List Type' → List Type' → ℕ → List (ℕ × List ℕ)
@@ -43,4 +48,6 @@ AreLarge pss d = (As : List Type') → sizes As d ≡ pss → IsLarge As d
 
 -- of a context that is cut in two by marks, or of its others before a last type
 abbrev pub AreCutLarge : List Bool → List (List ℕ) → List ℕ → ℕ → Type 0
-AreCutLarge marks pss ps d = (As : List Type') (A : Type') → sizes As d ≡ pss → sizes (A ∷ []) d ≡ ps ∷ [] → IsLarge As d ⊎ IsLarge (other_items marks As ++ A ∷ []) d
+AreCutLarge marks pss ps d =
+    (As : List Type') (A : Type') → sizes As d ≡ pss → sizes (A ∷ []) d ≡ ps ∷ [] → IsLarge As d
+    ⊎ IsLarge (other_items marks As ++ A ∷ []) d

@@ -129,8 +129,10 @@ fn totals(
     degrees: &[u8],
     d: u8,
 ) -> Result<SmallVec<u16, 8>, IndexFault>
-    ensures all { IfOk result (λ found. found.items ≡ listed (λ g. total (fits (λ r. slice_index_or numbers.now r 0) g) degrees.now) 0 (1 + d)) }
-    ensures many { IsErrOf result IndexFault.TooMany → (g : ℕ) × (g ≤ d) × (2000 < total (fits (λ r. slice_index_or numbers.now r 0) g) degrees.now) }
+    ensures all { IfOk result
+        (λ found. found.items ≡ listed (λ g. total (fits (λ r. slice_index_or numbers.now r 0) g) degrees.now) 0 (1 + d)) }
+    ensures many { IsErrOf result IndexFault.TooMany → (g : ℕ) × (g ≤ d)
+        × (2000 < total (fits (λ r. slice_index_or numbers.now r 0) g) degrees.now) }
 {
     let mut found = SmallVec::new(alloc);
     for g in 0..u16::from(d) + 1 {

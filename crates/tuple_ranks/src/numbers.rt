@@ -100,7 +100,8 @@ fn append_led(
     columns: &[Column<'_>],
     g: u16,
 ) -> Result<(), AllocError>
-    ensures all { OnOk result (found.new.items ≡ found.old.items ++ flat_behind before.old.items (led (numbered (sizes_in columns.now)) g 0 sizes.now)) }
+    ensures all { OnOk result
+        (found.new.items ≡ found.old.items ++ flat_behind before.old.items (led (numbered (sizes_in columns.now)) g 0 sizes.now)) }
     ensures kept { OnOk result (before.new.items ≡ before.old.items) }
 {
     for (number, size) in sizes.iter().enumerate() {

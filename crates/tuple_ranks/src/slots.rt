@@ -1,5 +1,6 @@
 // The indices of one tuple that make another.
-ghost use Rattle.std.specs.Prelude.{◌≡◌, ◌⊎◌, [], ◌∷◌, ◌++◌, length, slice_get, slice_index_or, map, cond, None, option_map, IfOk, OnOk, IsErrOf};
+ghost use Rattle.std.specs.Prelude.{◌≡◌, ◌⊎◌, [], ◌∷◌, ◌++◌, length, slice_get, slice_index_or, map, cond, None, option_map, IfOk, OnOk};
+ghost use Rattle.std.specs.Prelude.{IsErrOf};
 ghost use Rattle.std.specs.List.{position_or_len, range_with_len};
 ghost use Rattle.raml_syntax.specs.Read.{ty_of};
 ghost use Rattle.base_poly.specs.Plain.{alike};
@@ -225,7 +226,8 @@ fn table_between(
     at: usize,
     d: u8,
 ) -> Result<Option<Vec<usize>>, IndexFault>
-    ensures all { IfOk result (λ table. option_map items_of table ≡ table_between (slice_get (context_of from.now) pick) (slice_get (context_of to.now) at) d) }
+    ensures all { IfOk result
+        (λ table. option_map items_of table ≡ table_between (slice_get (context_of from.now) pick) (slice_get (context_of to.now) at) d) }
     ensures many { IsErrOf result IndexFault.TooMany → IsLarge (context_of from.now) d ⊎ IsLarge (context_of to.now) d }
 {
     match from.get(pick) {

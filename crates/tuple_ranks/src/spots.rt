@@ -8,7 +8,8 @@ ghost use Rattle.tuple_ranks.specs.Columns.{sizes, sizes_in, table_by, place, up
 ghost use Rattle.tuple_ranks.specs.Numbers.{all_rows, table_rows};
 ghost use Rattle.tuple_ranks.specs.Read.{items_of, lists_of};
 ghost use Rattle.tuple_ranks.specs.Slots.{picked, half_items, half_slots, behind_at};
-ghost use Rattle.tuple_ranks.specs.Spots.{IsSmall, IsLarge, AreSmall, AreLarge, AreCutLarge, permuted_spots, half_spots, joined_spots, all_counts};
+ghost use Rattle.tuple_ranks.specs.Spots.{IsSmall, IsLarge, AreSmall, AreLarge, AreCutLarge, permuted_spots, half_spots, joined_spots};
+ghost use Rattle.tuple_ranks.specs.Spots.{all_counts};
 
 use crate::columns::{Column, sizes_of};
 use crate::numbers::{Numbers, split};
@@ -90,13 +91,16 @@ pub fn cut_spots(
     d: u8,
 ) -> Result<Cut, IndexFault>
     ensures halves { IfOk result (λ cut. cut.halves.items ≡ half_spots marks.now (context_of types.now) d) }
-    ensures joined { IfOk result (λ cut. cut.joined.items ≡ joined_spots (other_items marks.now (context_of types.now)) (ty_of bound.now ∷ []) d) }
+    ensures joined { IfOk result
+        (λ cut. cut.joined.items ≡ joined_spots (other_items marks.now (context_of types.now)) (ty_of bound.now ∷ []) d) }
     ensures whole { IfOk result (λ cut. cut.whole.items ≡ all_counts (context_of types.now) d) }
     ensures marked { IfOk result (λ cut. cut.marked.items ≡ all_counts (marked_items marks.now (context_of types.now)) d) }
     ensures others { IfOk result (λ cut. cut.others.items ≡ all_counts (other_items marks.now (context_of types.now)) d) }
     ensures bound { IfOk result (λ cut. cut.bound.items ≡ all_counts (ty_of bound.now ∷ []) d) }
-    ensures rest { IfOk result (λ cut. cut.rest.items ≡ all_counts (other_items marks.now (context_of types.now) ++ ty_of bound.now ∷ []) d) }
-    ensures few { OnOk result (IsSmall (context_of types.now) d × IsSmall (other_items marks.now (context_of types.now) ++ ty_of bound.now ∷ []) d) }
+    ensures rest { IfOk result
+        (λ cut. cut.rest.items ≡ all_counts (other_items marks.now (context_of types.now) ++ ty_of bound.now ∷ []) d) }
+    ensures few { OnOk result
+        (IsSmall (context_of types.now) d × IsSmall (other_items marks.now (context_of types.now) ++ ty_of bound.now ∷ []) d) }
     ensures many { IsErrOf result IndexFault.TooMany → IsLarge (context_of types.now) d
         ⊎ IsLarge (other_items marks.now (context_of types.now) ++ ty_of bound.now ∷ []) d }
 {
@@ -316,9 +320,12 @@ impl<'s> Contexts<'s> {
         ensures other_slots { IfOk result (λ made. made.others.slots.items ≡ half_slots false marks.now 0 (length sizes.now)) }
         ensures bound { IfOk result (λ made. made.bound.ranks ≡ table_by (last.now ∷ []) d) }
         ensures bound_numbers { IfOk result (λ made. made.bound.numbers ≡ all_rows (last.now ∷ []) d) }
-        ensures rest { IfOk result (λ made. made.rest ≡ table_by (half_items false marks.now 0 (map items_of sizes.now) ++ last.now ∷ []) d) }
+        ensures rest { IfOk result
+            (λ made. made.rest ≡ table_by (half_items false marks.now 0 (map items_of sizes.now) ++ last.now ∷ []) d) }
         ensures small { OnOk result (AreSmall (map items_of sizes.now) d) }
-        ensures few { OnOk result (AreSmall (half_items true marks.now 0 (map items_of sizes.now)) d × AreSmall (half_items false marks.now 0 (map items_of sizes.now)) d
+        ensures few { OnOk result
+            (AreSmall (half_items true marks.now 0 (map items_of sizes.now)) d
+            × AreSmall (half_items false marks.now 0 (map items_of sizes.now)) d
             × AreSmall (half_items false marks.now 0 (map items_of sizes.now) ++ last.now ∷ []) d) }
         ensures many { IsErrOf result IndexFault.TooMany → AreCutLarge marks.now (map items_of sizes.now) last.now d }
     {
@@ -338,7 +345,13 @@ impl<'s> Contexts<'s> {
 
     // What is made of them.
     fn cut(&self, alloc: Global) -> Result<Cut, AllocError>
-        ensures halves { IfOk result (λ cut. cut.halves.items ≡ map (λ ns. (place self.now.others.ranks (picked self.now.others.slots.items ns), place self.now.marked.ranks (picked self.now.marked.slots.items ns))) self.now.whole.numbers) }
+        ensures halves { IfOk result
+            (λ cut. cut.halves.items ≡ map
+            (λ ns. (
+              place self.now.others.ranks (picked self.now.others.slots.items ns),
+              place self.now.marked.ranks
+                  (picked self.now.marked.slots.items ns),
+            )) self.now.whole.numbers) }
         ensures joined { IfOk result (λ cut. cut.joined.items ≡ map (behind_at self.now.others.ranks self.now.bound.ranks self.now.rest self.now.bound.numbers) (table_rows self.now.others.ranks)) }
         ensures whole { IfOk result (λ cut. cut.whole.items ≡ listed (up_to self.now.whole.ranks) 0 (1 + self.now.whole.ranks.degree)) }
         ensures marked { IfOk result (λ cut. cut.marked.items ≡ listed (up_to self.now.marked.ranks) 0 (1 + self.now.marked.ranks.degree)) }
@@ -423,7 +436,12 @@ fn both_places(
     others: &Half<'_>,
     marked: &Half<'_>,
 ) -> Result<Vec<(usize, usize)>, AllocError>
-    ensures { IfOk result (λ found. found.items ≡ map (λ ns. (place others.now.ranks (picked others.now.slots.items ns), place marked.now.ranks (picked marked.now.slots.items ns))) numbers.now) }
+    ensures { IfOk result (λ found. found.items ≡ map
+        (λ ns. (
+          place others.now.ranks (picked others.now.slots.items ns),
+          place marked.now.ranks
+              (picked marked.now.slots.items ns),
+        )) numbers.now) }
 {
     let mut found = Vec::with_capacity(alloc, numbers.count)?;
     let mut rest = &numbers.numbers[..];
@@ -484,7 +502,8 @@ fn spots_behind(
     whole: &Ranks<'_>,
     slots: &[Slot],
 ) -> Result<Vec<usize>, AllocError>
-    ensures { IfOk result (λ found. found.items ≡ map (λ ns. place whole.now (picked slots.now (row.now ++ ns))) (take (up_to second.now (second.now.degree - degree)) last.now)) }
+    ensures { IfOk result (λ found. found.items ≡ map
+        (λ ns. place whole.now (picked slots.now (row.now ++ ns))) (take (up_to second.now (second.now.degree - degree)) last.now)) }
 {
     let left = second.degree.saturating_sub(degree);
     let count = second.up_to(left).min(last.count);

@@ -54,10 +54,12 @@ abbrev pub spell_first : Value → Type' → List Token → List Token
 spell_first (v.Cons x y) A s = spell x A (spell_tail y A s)
 spell_first _ A s = Key CloseList ∷ s
 
--- Run i gs vs s fin: behind the values vs the tokens s are what is still to be read, with no value higher than i, and then the values are fin
+-- Run i gs vs s fin: behind the values vs the tokens s are what is still to be read, with no value higher than i, and
+-- then the values are fin
 abbrev pub Run : ℕ → List Goal → List Value → List Token → List Value → Type 0
 Run i [] vs s fin = (s ≡ []) × (fin ≡ vs)
-Run i (Value' A l ∷ gs) vs s fin = (x : Value) × (r : List Token) × Has x A × (height x + l ≤ i) × (s ≡ spell x A r) × Run i gs (x ∷ vs) r fin
+Run i (Value' A l ∷ gs) vs s fin =
+    (x : Value) × (r : List Token) × Has x A × (height x + l ≤ i) × (s ≡ spell x A r) × Run i gs (x ∷ vs) r fin
 Run i (First A l ∷ gs) vs s fin =
     (x : Value) × (r : List Token) × Has x (ListOf A) × (height x + l ≤ i)
     × (s ≡ spell_first x A r) × Run i gs (x ∷ vs) r fin
@@ -117,7 +119,8 @@ abbrev pub more_goals : Type' → ℕ → Token → List Goal → List Goal
 more_goals (PairOf A B) l (Key Open) gs = Value' A (suc l) ∷ Sign' Comma ∷ Value' B (suc l) ∷ Sign' Close ∷ Pair ∷ gs
 more_goals (ListOf A) l (Key OpenList) gs = First A l ∷ gs
 more_goals (TreeOf A) l (Key k.Node) gs =
-    Sign' Open ∷ Value' A (suc l) ∷ Sign' Comma ∷ Value' (TreeOf A) (suc l) ∷ Sign' Comma ∷ Value' (TreeOf A) (suc l) ∷ Sign' Close ∷ Node ∷ gs
+    Sign' Open ∷ Value' A (suc l) ∷ Sign' Comma ∷ Value' (TreeOf A)
+    (suc l) ∷ Sign' Comma ∷ Value' (TreeOf A) (suc l) ∷ Sign' Close ∷ Node ∷ gs
 more_goals (OptionOf A) l (Key k.Just) gs = Sign' Open ∷ Value' A (suc l) ∷ Sign' Close ∷ Just ∷ gs
 more_goals A l t gs = gs
 

@@ -1,5 +1,6 @@
 -- The tokens of data. White space may stand between them; words and numbers are as long as they can be.
-use Rattle.std.specs.Prelude.{◌==◌, ℕ, zero, suc, List, [], ◌∷◌, length, take, drop, pos, neg_ℤ, nat_lt, nat_le, if◌then◌else◌, codes, bytes_eq, true, false, map}
+use Rattle.std.specs.Prelude.{◌==◌, ℕ, zero, suc, List, [], ◌∷◌, length, take, drop, pos, neg_ℤ, nat_lt, nat_le, if◌then◌else◌, codes}
+use Rattle.std.specs.Prelude.{bytes_eq, true, false, map}
 use Rattle.std.specs.List.{prefix_len}
 use Rattle.raml_syntax.specs.Tree.{Text}
 use Rattle.raml_lex.specs.Lexemes.{is_space, is_digit, is_lower, is_name_part, number_value}

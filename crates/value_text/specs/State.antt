@@ -91,7 +91,8 @@ IsVerdict A l t a.TooDeep = (h : ℕ) × (begins A t ≡ Some h) × (most_height
 IsVerdict A l t a.Shape = begins A t ≡ None
 
 -- the goal is met as far as it goes
-pub record Turned (g : Goal) (gs : List Goal) (vs : List Value) (s : List Placed) (n : ℕ) (gs' : List Goal) (vs' : List Value) (s' : List Placed) (n' : ℕ) : Type 0 where
+pub record Turned (g : Goal) (gs : List Goal) (vs : List Value) (s : List Placed) (n : ℕ) (gs' : List Goal)
+    (vs' : List Value) (s' : List Placed) (n' : ℕ) : Type 0 where
   pub taken : List Placed
   pub split : s ≡ taken ++ s'
   pub moves : Moves (g ∷ gs) vs (kinds taken) gs' vs'

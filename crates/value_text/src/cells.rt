@@ -88,7 +88,8 @@ pub fn make_just(heap: &mut DataHeap, words: &mut Vec<Word>) -> Result<(), Alloc
 pub fn join(heap: &mut DataHeap, words: &mut Vec<Word>, count: usize) -> Result<(), AllocError>
     requires words { AllBelow (length heap.old.cells) words.old.items }
     requires room { length heap.old.cells + count < 2 ^ 32 }
-    ensures value { OnOk result (values_of heap.new.cells words.new.items ≡ joined count (values_of heap.old.cells words.old.items) v.Empty) }
+    ensures value { OnOk result
+        (values_of heap.new.cells words.new.items ≡ joined count (values_of heap.old.cells words.old.items) v.Empty) }
     ensures below { OnOk result (AllBelow (length heap.new.cells) words.new.items) }
     ensures count { OnOk result (length heap.new.cells ≡ length heap.old.cells + count) }
     ensures grows { Grows heap.old.cells heap.new.cells }

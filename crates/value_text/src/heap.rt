@@ -22,7 +22,8 @@ impl Model for DataHeap {
 
     ghost view = { λ h. record { cells = h.cells.items; spare = h.spare } };
 
-    ghost invariant = { λ h. NameEarlier h.cells.items × (vec_len h.cells + h.spare ≤ vec_capacity h.cells) × (vec_len h.cells + h.spare < 2 ^ 32) };
+    ghost invariant = { λ h. NameEarlier h.cells.items
+        × (vec_len h.cells + h.spare ≤ vec_capacity h.cells) × (vec_len h.cells + h.spare < 2 ^ 32) };
 }
 
 impl DataHeap {

@@ -7,7 +7,8 @@ ghost use Rattle.value_text.specs.Spelling.{sizes};
 ghost use Rattle.value_text.specs.Lexing.{placed};
 ghost use Rattle.value_text.specs.Tokens.{token_of};
 ghost use Rattle.value_text.specs.Goals.{First, Tail, More, least, more_goals, more_values, FitAll, Sane};
-ghost use Rattle.value_text.specs.State.{TakesToken, goal_of, goals_of, values_in, values_of, AllBelow, owed, IsVerdict, Taken, TurnedTo, Fails, Grows, AreCounted};
+ghost use Rattle.value_text.specs.State.{TakesToken, goal_of, goals_of, values_in, values_of, AllBelow, owed, IsVerdict, Taken, TurnedTo};
+ghost use Rattle.value_text.specs.State.{Fails, Grows, AreCounted};
 ghost use Rattle.value_text.specs.declared.goal.Verdict.TheVariants as a;
 
 use crate::cells::{join, make_just, make_node, make_pair};
@@ -223,7 +224,8 @@ fn turn_tail<'a, 'b>(
         (goals_of goals.old.items) (values_of heap.old.cells words.old.items) text.now
         (goals_of goals.new.items) (values_of heap.new.cells words.new.items) rest.now) }
     ensures fails { IfErr result (λ stop.
-        Fails stop (Tail (ty_of ty.now) level count ∷ goals_of goals.old.items) (values_of heap.old.cells words.old.items) (placed text.now)) }
+        Fails stop (Tail (ty_of ty.now) level count ∷ goals_of goals.old.items)
+        (values_of heap.old.cells words.old.items) (placed text.now)) }
     ensures below { OnOk result (AllBelow (length heap.new.cells) words.new.items) }
     ensures count { OnOk result (AreCounted heap.old.cells words.old.items heap.new.cells words.new.items) }
     ensures grows { Grows heap.old.cells heap.new.cells }

@@ -47,7 +47,8 @@ pub fn name_below_two<'s, 'a>(
     second: Local<'s, 'a>,
     e: &'a Expr,
 ) -> Result<Box<NormExpr>, AllocError>
-    ensures { IfOk result (λ made. norm_in made ≡ form_below env.entry (named second.entry ∷ (named first.entry ∷ [])) (wanted want.entry) (term_of e.now)) }
+    ensures { IfOk result (λ made. norm_in made
+        ≡ form_below env.entry (named second.entry ∷ (named first.entry ∷ [])) (wanted want.entry) (term_of e.now)) }
 {
     let scope = Scope::Bound {
         local: first,
@@ -71,7 +72,8 @@ pub fn name_below_three<'s, 'a>(
     third: Local<'s, 'a>,
     e: &'a Expr,
 ) -> Result<Box<NormExpr>, AllocError>
-    ensures { IfOk result (λ made. norm_in made ≡ form_below env.entry (named third.entry ∷ (named second.entry ∷ (named first.entry ∷ []))) (wanted want.entry) (term_of e.now)) }
+    ensures { IfOk result (λ made. norm_in made
+        ≡ form_below env.entry (named third.entry ∷ (named second.entry ∷ (named first.entry ∷ []))) (wanted want.entry) (term_of e.now)) }
 {
     let scope = Scope::Bound {
         local: first,
@@ -94,7 +96,8 @@ pub fn name_let<'s, 'a>(
     bound: &'a Expr,
     rest: &'a Expr,
 ) -> Result<Box<NormExpr>, AllocError>
-    ensures { IfOk result (λ made. norm_in made ≡ form_at env.entry (wanted want.entry) (t.Let 0 (bound_of x.now) (term_of bound.now) (term_of rest.now))) }
+    ensures { IfOk result (λ made. norm_in made
+        ≡ form_at env.entry (wanted want.entry) (t.Let 0 (bound_of x.now) (term_of bound.now) (term_of rest.now))) }
 {
     let free = plus(env.free, 1)?;
     let form = name_expr(env, maker, None, bound)?;
@@ -119,7 +122,8 @@ pub fn name_let_pair<'s, 'a>(
     bound: &'a Expr,
     rest: &'a Expr,
 ) -> Result<Box<NormExpr>, AllocError>
-    ensures { IfOk result (λ made. norm_in made ≡ form_at env.entry (wanted want.entry) (t.LetPair 0 (bound_of x.now) (bound_of y.now) (term_of bound.now) (term_of rest.now))) }
+    ensures { IfOk result (λ made. norm_in made
+        ≡ form_at env.entry (wanted want.entry) (t.LetPair 0 (bound_of x.now) (bound_of y.now) (term_of bound.now) (term_of rest.now))) }
 {
     let pair = name_operand(env, maker, None, bound)?;
     let first_number = pair.after(env.free)?;

@@ -41,7 +41,8 @@ fn name_arguments<'s, 'a>(
     args: &'a [Expr],
     params: &[Param],
 ) -> Result<Vec<Operand>, AllocError>
-    ensures { IfOk result (λ operands. operands_of operands.items ≡ one.operands (program_in env.entry) (scope_in env.entry.scope.now) (terms_of args.now) (types_in params.now) env.entry.free) }
+    ensures { IfOk result (λ operands. operands_of operands.items
+        ≡ one.operands (program_in env.entry) (scope_in env.entry.scope.now) (terms_of args.now) (types_in params.now) env.entry.free) }
 {
     let mut operands = Vec::new(maker.alloc);
     let mut free = env.free;

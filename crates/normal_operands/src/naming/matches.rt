@@ -28,7 +28,8 @@ pub fn name_if<'s, 'a>(
     yes: &'a Expr,
     no: &'a Expr,
 ) -> Result<Box<NormExpr>, AllocError>
-    ensures { IfOk result (λ made. norm_in made ≡ form_at env.entry (wanted want.entry) (t.If 0 (term_of condition.now) (term_of yes.now) (term_of no.now))) }
+    ensures { IfOk result (λ made. norm_in made
+        ≡ form_at env.entry (wanted want.entry) (t.If 0 (term_of condition.now) (term_of yes.now) (term_of no.now))) }
 {
     let condition = name_operand(env, maker, Some(TyRef::Bool), condition)?;
     let free = condition.after(env.free)?;
@@ -52,7 +53,8 @@ fn list_form<'s, 'a>(
     tail: Local<'s, 'a>,
     rest: &'a Expr,
 ) -> Result<NormForm, AllocError>
-    ensures { IfOk result (λ form. form_of form 0 ≡ n.CaseList 0 list (form_at env.entry (wanted want.entry) (term_of empty.now)) head.entry.number tail.entry.number
+    ensures { IfOk result (λ form. form_of form 0
+        ≡ n.CaseList 0 list (form_at env.entry (wanted want.entry) (term_of empty.now)) head.entry.number tail.entry.number
         (other_below env.entry (named tail.entry ∷ (named head.entry ∷ [])) (wanted want.entry) (term_of empty.now) (term_of rest.now))) }
 {
     let free = plus(env.free, 2)?;
@@ -110,8 +112,11 @@ fn tree_form<'s, 'a>(
     right: Local<'s, 'a>,
     rest: &'a Expr,
 ) -> Result<NormForm, AllocError>
-    ensures { IfOk result (λ form. form_of form 0 ≡ n.CaseTree 0 tree (form_at env.entry (wanted want.entry) (term_of empty.now)) element.entry.number left.entry.number right.entry.number
-        (other_below env.entry (named right.entry ∷ (named left.entry ∷ (named element.entry ∷ []))) (wanted want.entry) (term_of empty.now) (term_of rest.now))) }
+    ensures { IfOk result (λ form. form_of form 0
+        ≡ n.CaseTree 0 tree (form_at env.entry (wanted want.entry)
+        (term_of empty.now)) element.entry.number left.entry.number right.entry.number
+        (other_below env.entry (named right.entry ∷ (named left.entry ∷ (named element.entry ∷ [])))
+        (wanted want.entry) (term_of empty.now) (term_of rest.now))) }
 {
     let free = plus(env.free, 3)?;
     let first = name_expr(env, maker, want, empty)?;
@@ -191,7 +196,8 @@ fn option_form<'s, 'a>(
     content: Local<'s, 'a>,
     rest: &'a Expr,
 ) -> Result<NormForm, AllocError>
-    ensures { IfOk result (λ form. form_of form 0 ≡ n.CaseOption 0 option (form_at env.entry (wanted want.entry) (term_of empty.now)) content.entry.number
+    ensures { IfOk result (λ form. form_of form 0
+        ≡ n.CaseOption 0 option (form_at env.entry (wanted want.entry) (term_of empty.now)) content.entry.number
         (other_below env.entry (named content.entry ∷ []) (wanted want.entry) (term_of empty.now) (term_of rest.now))) }
 {
     let free = plus(env.free, 1)?;

@@ -73,7 +73,8 @@ pub fn name_pair<'s, 'a>(
     first: &'a Expr,
     second: &'a Expr,
 ) -> Result<Box<NormExpr>, AllocError>
-    ensures { IfOk result (λ made. norm_in made ≡ form_at env.entry (wanted want.entry) (t.Pair 0 (term_of first.now) (term_of second.now))) }
+    ensures { IfOk result (λ made. norm_in made
+        ≡ form_at env.entry (wanted want.entry) (t.Pair 0 (term_of first.now) (term_of second.now))) }
 {
     let first = name_operand(env, maker, first_of(want), first)?;
     let free = first.after(env.free)?;
@@ -112,7 +113,8 @@ pub fn name_node<'s, 'a>(
     left: &'a Expr,
     right: &'a Expr,
 ) -> Result<Box<NormExpr>, AllocError>
-    ensures { IfOk result (λ made. norm_in made ≡ form_at env.entry (wanted want.entry) (t.Node 0 (term_of element.now) (term_of left.now) (term_of right.now))) }
+    ensures { IfOk result (λ made. norm_in made
+        ≡ form_at env.entry (wanted want.entry) (t.Node 0 (term_of element.now) (term_of left.now) (term_of right.now))) }
 {
     let item = type_of(env, maker, element_of(want), element)?;
     let tree = maker.tree(item)?;

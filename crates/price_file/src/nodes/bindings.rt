@@ -18,7 +18,8 @@ fn let_one<'a>(
     bound: Box<Expr>,
     rest: Box<Expr>,
 ) -> Result<Box<Expr>, AllocError>
-    ensures { IfOk result (λ made. term_in made ≡ behind_price maker.entry c.Let at.0 (t.Let at.0 (bound_of x.now) (term_in bound) (term_in rest))) }
+    ensures { IfOk result (λ made. term_in made
+        ≡ behind_price maker.entry c.Let at.0 (t.Let at.0 (bound_of x.now) (term_in bound) (term_in rest))) }
 {
     let x = copy_binder(maker.alloc, x)?;
     node(maker, at, Construct::Let, Form::Let(x, bound, rest))
@@ -32,7 +33,8 @@ fn let_pair<'a>(
     bound: Box<Expr>,
     rest: Box<Expr>,
 ) -> Result<Box<Expr>, AllocError>
-    ensures { IfOk result (λ made. term_in made ≡ behind_price maker.entry c.Let at.0 (t.LetPair at.0 (bound_of x.now) (bound_of y.now) (term_in bound) (term_in rest))) }
+    ensures { IfOk result (λ made. term_in made
+        ≡ behind_price maker.entry c.Let at.0 (t.LetPair at.0 (bound_of x.now) (bound_of y.now) (term_in bound) (term_in rest))) }
 {
     let x = copy_binder(maker.alloc, x)?;
     let y = copy_binder(maker.alloc, y)?;
@@ -47,7 +49,8 @@ pub fn apply_let<'a>(
     bound: &Expr,
     rest: &Expr,
 ) -> Result<Box<Expr>, AllocError>
-    ensures { IfOk result (λ made. term_in made ≡ applied_by maker.entry (t.Let at.0 (bound_of x.now) (term_of bound.now) (term_of rest.now))) }
+    ensures { IfOk result (λ made. term_in made
+        ≡ applied_by maker.entry (t.Let at.0 (bound_of x.now) (term_of bound.now) (term_of rest.now))) }
 {
     let bound = apply_expr(maker, bound)?;
     let rest = apply_expr(maker, rest)?;
@@ -63,7 +66,8 @@ pub fn apply_let_pair<'a>(
     bound: &Expr,
     rest: &Expr,
 ) -> Result<Box<Expr>, AllocError>
-    ensures { IfOk result (λ made. term_in made ≡ applied_by maker.entry (t.LetPair at.0 (bound_of x.now) (bound_of y.now) (term_of bound.now) (term_of rest.now))) }
+    ensures { IfOk result (λ made. term_in made
+        ≡ applied_by maker.entry (t.LetPair at.0 (bound_of x.now) (bound_of y.now) (term_of bound.now) (term_of rest.now))) }
 {
     let bound = apply_expr(maker, bound)?;
     let rest = apply_expr(maker, rest)?;

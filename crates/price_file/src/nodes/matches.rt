@@ -19,7 +19,8 @@ pub fn apply_if<'a>(
     first: &Expr,
     second: &Expr,
 ) -> Result<Box<Expr>, AllocError>
-    ensures { IfOk result (λ made. term_in made ≡ applied_by maker.entry (t.If at.0 (term_of condition.now) (term_of first.now) (term_of second.now))) }
+    ensures { IfOk result (λ made. term_in made
+        ≡ applied_by maker.entry (t.If at.0 (term_of condition.now) (term_of first.now) (term_of second.now))) }
 {
     let condition = apply_expr(maker, condition)?;
     let first = apply_expr(maker, first)?;
@@ -36,7 +37,9 @@ fn match_list<'a>(
     tail: &Binder,
     rest: Box<Expr>,
 ) -> Result<Box<Expr>, AllocError>
-    ensures { IfOk result (λ made. term_in made ≡ behind_price maker.entry c.Match at.0 (t.MatchList at.0 (term_in subject) (term_in empty) (bound_of head.now) (bound_of tail.now) (term_in rest))) }
+    ensures { IfOk result (λ made. term_in made
+        ≡ behind_price maker.entry c.Match at.0
+        (t.MatchList at.0 (term_in subject) (term_in empty) (bound_of head.now) (bound_of tail.now) (term_in rest))) }
 {
     let head = copy_binder(maker.alloc, head)?;
     let tail = copy_binder(maker.alloc, tail)?;
@@ -58,7 +61,10 @@ fn match_tree<'a>(
     right: &Binder,
     rest: Box<Expr>,
 ) -> Result<Box<Expr>, AllocError>
-    ensures { IfOk result (λ made. term_in made ≡ behind_price maker.entry c.Match at.0 (t.MatchTree at.0 (term_in subject) (term_in empty) (bound_of element.now) (bound_of left.now) (bound_of right.now) (term_in rest))) }
+    ensures { IfOk result (λ made. term_in made
+        ≡ behind_price maker.entry c.Match at.0
+        (t.MatchTree at.0 (term_in subject) (term_in empty) (bound_of element.now)
+        (bound_of left.now) (bound_of right.now) (term_in rest))) }
 {
     let element = copy_binder(maker.alloc, element)?;
     let left = copy_binder(maker.alloc, left)?;
@@ -79,7 +85,9 @@ fn match_option<'a>(
     content: &Binder,
     rest: Box<Expr>,
 ) -> Result<Box<Expr>, AllocError>
-    ensures { IfOk result (λ made. term_in made ≡ behind_price maker.entry c.Match at.0 (t.MatchOption at.0 (term_in subject) (term_in empty) (bound_of content.now) (term_in rest))) }
+    ensures { IfOk result (λ made. term_in made
+        ≡ behind_price maker.entry c.Match at.0
+        (t.MatchOption at.0 (term_in subject) (term_in empty) (bound_of content.now) (term_in rest))) }
 {
     let content = copy_binder(maker.alloc, content)?;
     node(
@@ -100,7 +108,9 @@ pub fn apply_match_list<'a>(
     tail: &Binder,
     rest: &Expr,
 ) -> Result<Box<Expr>, AllocError>
-    ensures { IfOk result (λ made. term_in made ≡ applied_by maker.entry (t.MatchList at.0 (term_of subject.now) (term_of empty.now) (bound_of head.now) (bound_of tail.now) (term_of rest.now))) }
+    ensures { IfOk result (λ made. term_in made
+        ≡ applied_by maker.entry
+        (t.MatchList at.0 (term_of subject.now) (term_of empty.now) (bound_of head.now) (bound_of tail.now) (term_of rest.now))) }
 {
     let subject = apply_expr(maker, subject)?;
     let empty = apply_expr(maker, empty)?;
@@ -119,7 +129,10 @@ pub fn apply_match_tree<'a>(
     right: &Binder,
     rest: &Expr,
 ) -> Result<Box<Expr>, AllocError>
-    ensures { IfOk result (λ made. term_in made ≡ applied_by maker.entry (t.MatchTree at.0 (term_of subject.now) (term_of empty.now) (bound_of element.now) (bound_of left.now) (bound_of right.now) (term_of rest.now))) }
+    ensures { IfOk result (λ made. term_in made
+        ≡ applied_by maker.entry
+        (t.MatchTree at.0 (term_of subject.now) (term_of empty.now) (bound_of element.now)
+        (bound_of left.now) (bound_of right.now) (term_of rest.now))) }
 {
     let subject = apply_expr(maker, subject)?;
     let empty = apply_expr(maker, empty)?;
@@ -136,7 +149,8 @@ pub fn apply_match_option<'a>(
     content: &Binder,
     rest: &Expr,
 ) -> Result<Box<Expr>, AllocError>
-    ensures { IfOk result (λ made. term_in made ≡ applied_by maker.entry (t.MatchOption at.0 (term_of subject.now) (term_of empty.now) (bound_of content.now) (term_of rest.now))) }
+    ensures { IfOk result (λ made. term_in made
+        ≡ applied_by maker.entry (t.MatchOption at.0 (term_of subject.now) (term_of empty.now) (bound_of content.now) (term_of rest.now))) }
 {
     let subject = apply_expr(maker, subject)?;
     let empty = apply_expr(maker, empty)?;

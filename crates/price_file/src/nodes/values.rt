@@ -46,7 +46,8 @@ pub fn apply_node<'a>(
     left: &Expr,
     right: &Expr,
 ) -> Result<Box<Expr>, AllocError>
-    ensures { IfOk result (λ made. term_in made ≡ applied_by maker.entry (t.Node at.0 (term_of element.now) (term_of left.now) (term_of right.now))) }
+    ensures { IfOk result (λ made. term_in made
+        ≡ applied_by maker.entry (t.Node at.0 (term_of element.now) (term_of left.now) (term_of right.now))) }
 {
     let element = apply_expr(maker, element)?;
     let left = apply_expr(maker, left)?;

@@ -32,7 +32,8 @@ pub fn walk_let<'s, 'a>(
     want: Option<TypeId>,
 ) -> Result<TypeId, TypeFault>
     requires few { AllNodes FewArguments (term_of bound.now) × AllNodes FewArguments (term_of rest.now) }
-    ensures { Gives (walk_in env.entry types.old.nodes.keys want (t.Let 0 (bound_of x.now) (term_of bound.now) (term_of rest.now))) types.new.nodes.keys result }
+    ensures { Gives (walk_in env.entry types.old.nodes.keys want
+        (t.Let 0 (bound_of x.now) (term_of bound.now) (term_of rest.now))) types.new.nodes.keys result }
 {
     let ty = walk(types, env, bound, None)?;
     let name = &x.name;
@@ -51,7 +52,8 @@ pub fn walk_let_pair<'s, 'a>(
     want: Option<TypeId>,
 ) -> Result<TypeId, TypeFault>
     requires few { AllNodes FewArguments (term_of bound.now) × AllNodes FewArguments (term_of rest.now) }
-    ensures { Gives (walk_in env.entry types.old.nodes.keys want (t.LetPair 0 (bound_of x.now) (bound_of y.now) (term_of bound.now) (term_of rest.now))) types.new.nodes.keys result }
+    ensures { Gives (walk_in env.entry types.old.nodes.keys want
+        (t.LetPair 0 (bound_of x.now) (bound_of y.now) (term_of bound.now) (term_of rest.now))) types.new.nodes.keys result }
 {
     differ_two(x, y)?;
     let pair = walk(types, env, bound, None)?;

@@ -64,7 +64,8 @@ fn check_pair<'s, 'a>(
     want: TypeId,
 ) -> Result<TypeId, TypeFault>
     requires few { AllNodes FewArguments (term_of first.now) × AllNodes FewArguments (term_of second.now) }
-    ensures { Gives (walk_in env.entry types.old.nodes.keys (Some want) (t.Pair at.0 (term_of first.now) (term_of second.now))) types.new.nodes.keys result }
+    ensures { Gives (walk_in env.entry types.old.nodes.keys (Some want)
+        (t.Pair at.0 (term_of first.now) (term_of second.now))) types.new.nodes.keys result }
 {
     match types.node(want) {
         Node::Pair(left, right) => check_parts(types, env, first, second, left, right, want),
@@ -85,7 +86,8 @@ pub fn walk_pair<'s, 'a>(
     want: Option<TypeId>,
 ) -> Result<TypeId, TypeFault>
     requires few { AllNodes FewArguments (term_of first.now) × AllNodes FewArguments (term_of second.now) }
-    ensures { Gives (walk_in env.entry types.old.nodes.keys want (t.Pair at.0 (term_of first.now) (term_of second.now))) types.new.nodes.keys result }
+    ensures { Gives (walk_in env.entry types.old.nodes.keys want
+        (t.Pair at.0 (term_of first.now) (term_of second.now))) types.new.nodes.keys result }
 {
     match want {
         None => find_pair(types, env, first, second),
@@ -103,7 +105,8 @@ fn find_cons<'s, 'a>(
 ) -> Result<TypeId, TypeFault>
     requires few { AllNodes FewArguments (term_of head.now) × AllNodes FewArguments (term_of tail.now) }
     ensures { Gives (and_then (walk_in env.entry types.old.nodes.keys None (term_of head.now)) (λ A.
-        and_then (gives (placed A.0 (n.List A.1))) (λ L. walk_in env.entry L.0 (Some L.1) (term_of tail.now)))) types.new.nodes.keys result }
+        and_then (gives (placed A.0 (n.List A.1)))
+        (λ L. walk_in env.entry L.0 (Some L.1) (term_of tail.now)))) types.new.nodes.keys result }
 {
     let element = walk(types, env, head, None)?;
     let list = types.place(Node::List(element))?;
@@ -121,7 +124,8 @@ fn check_list<'s, 'a>(
     want: TypeId,
 ) -> Result<TypeId, TypeFault>
     requires few { AllNodes FewArguments (term_of head.now) × AllNodes FewArguments (term_of tail.now) }
-    ensures { Gives (and_then (walk_in env.entry types.old.nodes.keys (Some element) (term_of head.now)) (λ A. walk_in env.entry A.0 (Some want) (term_of tail.now))) types.new.nodes.keys result }
+    ensures { Gives (and_then (walk_in env.entry types.old.nodes.keys (Some element) (term_of head.now))
+        (λ A. walk_in env.entry A.0 (Some want) (term_of tail.now))) types.new.nodes.keys result }
 {
     walk(types, env, head, Some(element))?;
     walk(types, env, tail, Some(want))
@@ -138,7 +142,8 @@ fn check_cons<'s, 'a>(
     want: TypeId,
 ) -> Result<TypeId, TypeFault>
     requires few { AllNodes FewArguments (term_of head.now) × AllNodes FewArguments (term_of tail.now) }
-    ensures { Gives (walk_in env.entry types.old.nodes.keys (Some want) (t.Cons at.0 (term_of head.now) (term_of tail.now))) types.new.nodes.keys result }
+    ensures { Gives (walk_in env.entry types.old.nodes.keys (Some want)
+        (t.Cons at.0 (term_of head.now) (term_of tail.now))) types.new.nodes.keys result }
 {
     match types.node(want) {
         Node::List(element) => check_list(types, env, head, tail, element, want),
@@ -159,7 +164,8 @@ pub fn walk_cons<'s, 'a>(
     want: Option<TypeId>,
 ) -> Result<TypeId, TypeFault>
     requires few { AllNodes FewArguments (term_of head.now) × AllNodes FewArguments (term_of tail.now) }
-    ensures { Gives (walk_in env.entry types.old.nodes.keys want (t.Cons at.0 (term_of head.now) (term_of tail.now))) types.new.nodes.keys result }
+    ensures { Gives (walk_in env.entry types.old.nodes.keys want
+        (t.Cons at.0 (term_of head.now) (term_of tail.now))) types.new.nodes.keys result }
 {
     match want {
         None => find_cons(types, env, head, tail),
@@ -177,7 +183,8 @@ fn check_trees<'s, 'a>(
     want: TypeId,
 ) -> Result<TypeId, TypeFault>
     requires few { AllNodes FewArguments (term_of left.now) × AllNodes FewArguments (term_of right.now) }
-    ensures { Gives (and_then (walk_in env.entry types.old.nodes.keys (Some want) (term_of left.now)) (λ A. walk_in env.entry A.0 (Some want) (term_of right.now))) types.new.nodes.keys result }
+    ensures { Gives (and_then (walk_in env.entry types.old.nodes.keys (Some want) (term_of left.now))
+        (λ A. walk_in env.entry A.0 (Some want) (term_of right.now))) types.new.nodes.keys result }
 {
     walk(types, env, left, Some(want))?;
     walk(types, env, right, Some(want))
@@ -192,7 +199,8 @@ fn find_node<'s, 'a>(
     left: &'a Expr,
     right: &'a Expr,
 ) -> Result<TypeId, TypeFault>
-    requires few { AllNodes FewArguments (term_of element.now) × AllNodes FewArguments (term_of left.now) × AllNodes FewArguments (term_of right.now) }
+    requires few { AllNodes FewArguments (term_of element.now)
+        × AllNodes FewArguments (term_of left.now) × AllNodes FewArguments (term_of right.now) }
     ensures { Gives (and_then (walk_in env.entry types.old.nodes.keys None (term_of element.now)) (λ A.
         and_then (gives (placed A.0 (n.Tree A.1))) (λ L. and_then (walk_in env.entry L.0 (Some L.1) (term_of left.now)) (λ B.
         walk_in env.entry B.0 (Some L.1) (term_of right.now))))) types.new.nodes.keys result }
@@ -213,7 +221,8 @@ fn check_tree<'s, 'a>(
     item: TypeId,
     want: TypeId,
 ) -> Result<TypeId, TypeFault>
-    requires few { AllNodes FewArguments (term_of element.now) × AllNodes FewArguments (term_of left.now) × AllNodes FewArguments (term_of right.now) }
+    requires few { AllNodes FewArguments (term_of element.now)
+        × AllNodes FewArguments (term_of left.now) × AllNodes FewArguments (term_of right.now) }
     ensures { Gives (and_then (walk_in env.entry types.old.nodes.keys (Some item) (term_of element.now)) (λ A.
         and_then (walk_in env.entry A.0 (Some want) (term_of left.now)) (λ B.
         walk_in env.entry B.0 (Some want) (term_of right.now)))) types.new.nodes.keys result }
@@ -233,8 +242,10 @@ fn check_node<'s, 'a>(
     right: &'a Expr,
     want: TypeId,
 ) -> Result<TypeId, TypeFault>
-    requires few { AllNodes FewArguments (term_of element.now) × AllNodes FewArguments (term_of left.now) × AllNodes FewArguments (term_of right.now) }
-    ensures { Gives (walk_in env.entry types.old.nodes.keys (Some want) (t.Node at.0 (term_of element.now) (term_of left.now) (term_of right.now))) types.new.nodes.keys result }
+    requires few { AllNodes FewArguments (term_of element.now)
+        × AllNodes FewArguments (term_of left.now) × AllNodes FewArguments (term_of right.now) }
+    ensures { Gives (walk_in env.entry types.old.nodes.keys (Some want)
+        (t.Node at.0 (term_of element.now) (term_of left.now) (term_of right.now))) types.new.nodes.keys result }
 {
     match types.node(want) {
         Node::Tree(item) => check_tree(types, env, element, left, right, item, want),
@@ -255,8 +266,10 @@ pub fn walk_node<'s, 'a>(
     right: &'a Expr,
     want: Option<TypeId>,
 ) -> Result<TypeId, TypeFault>
-    requires few { AllNodes FewArguments (term_of element.now) × AllNodes FewArguments (term_of left.now) × AllNodes FewArguments (term_of right.now) }
-    ensures { Gives (walk_in env.entry types.old.nodes.keys want (t.Node at.0 (term_of element.now) (term_of left.now) (term_of right.now))) types.new.nodes.keys result }
+    requires few { AllNodes FewArguments (term_of element.now)
+        × AllNodes FewArguments (term_of left.now) × AllNodes FewArguments (term_of right.now) }
+    ensures { Gives (walk_in env.entry types.old.nodes.keys want
+        (t.Node at.0 (term_of element.now) (term_of left.now) (term_of right.now))) types.new.nodes.keys result }
 {
     match want {
         None => find_node(types, env, element, left, right),
@@ -272,7 +285,8 @@ fn find_just<'s, 'a>(
     content: &'a Expr,
 ) -> Result<TypeId, TypeFault>
     requires few { AllNodes FewArguments (term_of content.now) }
-    ensures { Gives (and_then (walk_in env.entry types.old.nodes.keys None (term_of content.now)) (λ A. gives (placed A.0 (n.Opt A.1)))) types.new.nodes.keys result }
+    ensures { Gives (and_then (walk_in env.entry types.old.nodes.keys None (term_of content.now))
+        (λ A. gives (placed A.0 (n.Opt A.1)))) types.new.nodes.keys result }
 {
     let found = walk(types, env, content, None)?;
     Ok(types.place(Node::Opt(found))?)
@@ -288,7 +302,8 @@ fn check_content<'s, 'a>(
     want: TypeId,
 ) -> Result<TypeId, TypeFault>
     requires few { AllNodes FewArguments (term_of content.now) }
-    ensures { Gives (and_then (walk_in env.entry types.old.nodes.keys (Some part) (term_of content.now)) (λ A. gives (A.0, want))) types.new.nodes.keys result }
+    ensures { Gives (and_then (walk_in env.entry types.old.nodes.keys (Some part) (term_of content.now))
+        (λ A. gives (A.0, want))) types.new.nodes.keys result }
 {
     walk(types, env, content, Some(part))?;
     Ok(want)

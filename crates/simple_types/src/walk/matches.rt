@@ -40,7 +40,8 @@ fn walk_list_branches<'s, 'a>(
 ) -> Result<TypeId, TypeFault>
     requires few { AllNodes FewArguments (term_of empty.now) × AllNodes FewArguments (term_of rest.now) }
     ensures { Gives (and_then (walk_in env.entry types.old.nodes.keys want (term_of empty.now)) (λ A.
-        walk_below env.entry A.0 (local_of tail.entry ∷ local_of head.entry ∷ []) (Some A.1) (term_of rest.now))) types.new.nodes.keys result }
+        walk_below env.entry A.0 (local_of tail.entry ∷ local_of head.entry ∷ []) (Some A.1)
+        (term_of rest.now))) types.new.nodes.keys result }
 {
     let found = walk(types, env, empty, want)?;
     walk_below_two(types, env, head, tail, rest, Some(found))
@@ -58,9 +59,11 @@ pub fn walk_match_list<'s, 'a>(
     rest: &'a Expr,
     want: Option<TypeId>,
 ) -> Result<TypeId, TypeFault>
-    requires few { AllNodes FewArguments (term_of subject.now) × AllNodes FewArguments (term_of empty.now) × AllNodes FewArguments (term_of rest.now) }
+    requires few { AllNodes FewArguments (term_of subject.now)
+        × AllNodes FewArguments (term_of empty.now) × AllNodes FewArguments (term_of rest.now) }
     ensures { Gives (walk_in env.entry types.old.nodes.keys want
-        (t.MatchList 0 (term_of subject.now) (term_of empty.now) (bound_of x.now) (bound_of y.now) (term_of rest.now))) types.new.nodes.keys result }
+        (t.MatchList 0 (term_of subject.now) (term_of empty.now) (bound_of x.now) (bound_of y.now)
+        (term_of rest.now))) types.new.nodes.keys result }
 {
     differ_two(x, y)?;
     let list = walk(types, env, subject, None)?;
@@ -96,7 +99,8 @@ fn walk_tree_branches<'s, 'a>(
 ) -> Result<TypeId, TypeFault>
     requires few { AllNodes FewArguments (term_of empty.now) × AllNodes FewArguments (term_of rest.now) }
     ensures { Gives (and_then (walk_in env.entry types.old.nodes.keys want (term_of empty.now)) (λ A.
-        walk_below env.entry A.0 (local_of right.entry ∷ local_of left.entry ∷ local_of element.entry ∷ []) (Some A.1) (term_of rest.now))) types.new.nodes.keys result }
+        walk_below env.entry A.0 (local_of right.entry ∷ local_of left.entry ∷ local_of element.entry ∷ [])
+        (Some A.1) (term_of rest.now))) types.new.nodes.keys result }
 {
     let found = walk(types, env, empty, want)?;
     walk_below_three(types, env, element, left, right, rest, Some(found))
@@ -115,9 +119,11 @@ pub fn walk_match_tree<'s, 'a>(
     rest: &'a Expr,
     want: Option<TypeId>,
 ) -> Result<TypeId, TypeFault>
-    requires few { AllNodes FewArguments (term_of subject.now) × AllNodes FewArguments (term_of empty.now) × AllNodes FewArguments (term_of rest.now) }
+    requires few { AllNodes FewArguments (term_of subject.now)
+        × AllNodes FewArguments (term_of empty.now) × AllNodes FewArguments (term_of rest.now) }
     ensures { Gives (walk_in env.entry types.old.nodes.keys want
-        (t.MatchTree 0 (term_of subject.now) (term_of empty.now) (bound_of x.now) (bound_of y.now) (bound_of z.now) (term_of rest.now))) types.new.nodes.keys result }
+        (t.MatchTree 0 (term_of subject.now) (term_of empty.now) (bound_of x.now) (bound_of y.now)
+        (bound_of z.now) (term_of rest.now))) types.new.nodes.keys result }
 {
     differ_three(x, y, z)?;
     let tree = walk(types, env, subject, None)?;
@@ -172,8 +178,10 @@ pub fn walk_match_option<'s, 'a>(
     rest: &'a Expr,
     want: Option<TypeId>,
 ) -> Result<TypeId, TypeFault>
-    requires few { AllNodes FewArguments (term_of subject.now) × AllNodes FewArguments (term_of empty.now) × AllNodes FewArguments (term_of rest.now) }
-    ensures { Gives (walk_in env.entry types.old.nodes.keys want (t.MatchOption 0 (term_of subject.now) (term_of empty.now) (bound_of x.now) (term_of rest.now))) types.new.nodes.keys result }
+    requires few { AllNodes FewArguments (term_of subject.now)
+        × AllNodes FewArguments (term_of empty.now) × AllNodes FewArguments (term_of rest.now) }
+    ensures { Gives (walk_in env.entry types.old.nodes.keys want
+        (t.MatchOption 0 (term_of subject.now) (term_of empty.now) (bound_of x.now) (term_of rest.now))) types.new.nodes.keys result }
 {
     let option = walk(types, env, subject, None)?;
     match types.node(option) {

@@ -61,7 +61,8 @@ pub fn walk_typed<'s, 'a>(
     want: Option<TypeId>,
 ) -> Result<TypeId, TypeFault>
     requires few { AllNodes FewArguments (term_of e.now) }
-    ensures { Gives (walk_in env.entry types.old.nodes.keys want (t.Typed at.0 (term_of e.now) (ty_of ty.now))) types.new.nodes.keys result }
+    ensures { Gives (walk_in env.entry types.old.nodes.keys want
+        (t.Typed at.0 (term_of e.now) (ty_of ty.now))) types.new.nodes.keys result }
 {
     let known = types.intern(ty)?;
     walk(types, env, e, Some(known))?;
@@ -78,8 +79,10 @@ pub fn walk_if<'s, 'a>(
     no: &'a Expr,
     want: Option<TypeId>,
 ) -> Result<TypeId, TypeFault>
-    requires few { AllNodes FewArguments (term_of condition.now) × AllNodes FewArguments (term_of yes.now) × AllNodes FewArguments (term_of no.now) }
-    ensures { Gives (walk_in env.entry types.old.nodes.keys want (t.If 0 (term_of condition.now) (term_of yes.now) (term_of no.now))) types.new.nodes.keys result }
+    requires few { AllNodes FewArguments (term_of condition.now)
+        × AllNodes FewArguments (term_of yes.now) × AllNodes FewArguments (term_of no.now) }
+    ensures { Gives (walk_in env.entry types.old.nodes.keys want
+        (t.If 0 (term_of condition.now) (term_of yes.now) (term_of no.now))) types.new.nodes.keys result }
 {
     walk(types, env, condition, Some(BOOL))?;
     let found = walk(types, env, yes, want)?;
