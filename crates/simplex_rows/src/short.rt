@@ -184,19 +184,14 @@ impl ShortNumbers {
         }
     }
 
-    /// The factors for this row and a lead, unless a number may pass 63 bits.
-    fn factors(&self, column: u32, lead: &FewRow) -> Option<Factors>
-        ensures shares { IfSome result (λ f. Shares (whole_at column (row_of self.now).numbers) lead.now.den f.own f.times) }
+    /// The factors for this row, of which a number is taken, and a lead, unless a number may pass 63 bits.
+    fn factors(&self, number: i64, lead: &FewRow) -> Option<Factors>
+        ensures shares { IfSome result (λ f. Shares number lead.now.den f.own f.times) }
         ensures short { IsShort (row_of self.now) }
         ensures lead { IsShort lead.now }
         ensures bound { IfSome result (λ f. (f.own *ℤ (row_of self.now).bound +ℤ pos (unsigned_abs f.times) *ℤ lead.now.bound) ≤ℤ f.bound) }
     {
-        find_factors(
-            self.number_at(column),
-            self.bound(),
-            lead.den(),
-            lead.bound(),
-        )
+        find_factors(number, self.bound(), lead.den(), lead.bound())
     }
 
     /// Makes the row `own` times itself less `times` times the lead.
@@ -275,12 +270,16 @@ impl ShortNumbers {
             IsSwept column (fractions_of lead.now) (fractions_of (row_of self.old)) (fractions_of (row_of self.new)) }
         ensures kept { result ≡ Ok false → SameFractions (fractions_of (row_of self.old)) (fractions_of (row_of self.new)) }
     {
-        if let Some(factors) = self.factors(column, lead) {
+        let number = self.number_at(column);
+        if number == 0 {
+            return Ok(true);
+        }
+        if let Some(factors) = self.factors(number, lead) {
             self.combine_and_spread(alloc, factors, lead, most, spare)?;
             return Ok(true);
         }
         self.tighten();
-        match self.factors(column, lead) {
+        match self.factors(self.number_at(column), lead) {
             Some(factors) => {
                 self.combine_and_spread(alloc, factors, lead, most, spare)?;
                 Ok(true)
