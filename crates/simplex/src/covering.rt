@@ -15,20 +15,21 @@ use std::cmp::Ordering;
 /// How many rows share a mark.
 const BLOCK: usize = 16;
 
-/// For each of the first columns, marks at the blocks of rows that have a number there.
+/// For each of the first columns, marks at the blocks of rows that have a number there. The columns of each row
+/// are made in `of_row`.
 pub(crate) fn covering(
     alloc: Global,
     rows: &[FracRow],
     columns: usize,
+    of_row: &mut Vec<u32>,
 ) -> Result<Vec<bool>, AllocError>
     ensures { IfOk result (λ marks. Cover columns rows.now marks.items) }
 {
     let blocks = rows.len().div_ceil(BLOCK);
     let mut marks = no_marks(alloc, columns, blocks)?;
-    let mut of_row = Vec::new(alloc);
     for i in 0..rows.len() {
-        rows[i].columns(&mut of_row)?;
-        mark_block(&mut marks, blocks, &of_row, i / BLOCK);
+        rows[i].columns(of_row)?;
+        mark_block(&mut marks, blocks, of_row, i / BLOCK);
     }
     Ok(marks)
 }

@@ -56,14 +56,19 @@ pub(crate) fn negated_at(
     Ok(all)
 }
 
-/// The row's fractions in the first `count` columns, each in the place of its column.
-pub(crate) fn first_of(alloc: Global, row: &FracRow, count: usize) -> Result<Vec<Frac>, AllocError>
+/// The row's fractions in the first `count` columns, each in the place of its column. The row's columns are made
+/// in `columns`.
+pub(crate) fn first_of(
+    alloc: Global,
+    row: &FracRow,
+    count: usize,
+    columns: &mut Vec<u32>,
+) -> Result<Vec<Frac>, AllocError>
     ensures { IfOk result (λ xs. AreOf count row.now xs.items) }
 {
     let mut all = zeros(alloc, count)?;
-    let mut columns = Vec::new(alloc);
-    row.columns(&mut columns)?;
-    write(&mut all, row, &columns);
+    row.columns(columns)?;
+    write(&mut all, row, columns);
     Ok(all)
 }
 

@@ -186,11 +186,12 @@ pub(crate) fn new_scratch(
 ) -> Result<Scratch, AllocError>
     ensures { IfOk result (IsReady columns table.now) }
 {
+    let mut of_row = Vec::new(alloc);
     Ok(Scratch {
         rows: RowScratch::new(alloc),
-        marks: covering(alloc, &table.rows, columns)?,
-        gains: first_of(alloc, &table.gains, columns)?,
-        columns: Vec::new(alloc),
+        marks: covering(alloc, &table.rows, columns, &mut of_row)?,
+        gains: first_of(alloc, &table.gains, columns, &mut of_row)?,
+        columns: of_row,
         touching: Vec::with_capacity(alloc, table.rows.len())?,
         bounding: Vec::with_capacity(alloc, table.rows.len())?,
     })

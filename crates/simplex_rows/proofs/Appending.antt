@@ -7,6 +7,7 @@ use Rattle.frac128.specs.declared.Frac.{Frac}
 use Rattle.frac128.specs.Nought.{nought}
 use Rattle.simplex_rows.specs.Entries.{Entries, at, SparseFrom, IsSparse, EndsBefore, Adds}
 use Rattle.simplex_rows.specs.Merging.{put}
+use Rattle.simplex_rows.specs.Sweeping.{AddsWhole}
 use Rattle.simplex_rows.proofs.Pointwise.{over_one}
 
 pub append_sparse : (b c : ℕ) (x : Frac) (es : Entries) → SparseFrom b es → EndsBefore c es → b ≤ c → x.num ≢ pos 0 → SparseFrom b (es ++ (c, x) ∷ [])
@@ -112,3 +113,7 @@ module _ (all es rest : Entries) (putting : Putting all es rest) (c : ℕ) (x : 
     sparse = putting.sparse;
     joined = ap (λ (z : Entries). z ++ later) (e ∙ ap (λ (z : Entries). es ++ z) (whole_put c x here.1)) ∙ snoc es (c, x) later ∙ ap (λ (z : Entries). es ++ z) (sym rest_is) ∙ putting.joined;
   }
+
+-- a 0 after the others stores nothing
+pub adds_none : (c : ℕ) (es : Entries) → EndsBefore c es → AddsWhole c (pos 0) es es
+adds_none c es e = let n = none_from c c es e (omega arith) in record { num = rw n refl; den = rw n refl; others = λ k m. (refl, refl) }

@@ -1,12 +1,12 @@
 -- Fractions as whole numbers over a common denominator.
-use Rattle.std.proofs.Common.{negsuc, ◌≡◌, ◌≢◌, refl, sym, ap, subst, ◌∙◌, ℕ, suc, ◌+◌, ◌*◌, ◌/◌, ◌<◌, ◌≤◌, ◌^◌, ◌-◌, [], ◌∷◌, ◌++◌, List, length, drop, slice_index_or, FitsSigned, to_z, of_z, w64, ℤ, pos, ◌*ℤ◌, ◌<ℤ◌, ◌≤ℤ◌, unsigned_abs, Bool, true, false, ◌==◌, if◌then◌else◌, Option, Some, None, IfSome, SomeIff, arith}
+use Rattle.std.proofs.Common.{negsuc, ◌≡◌, ◌≢◌, refl, sym, ap, subst, ◌∙◌, ℕ, suc, ◌+◌, ◌*◌, ◌/◌, ◌<◌, ◌^◌, ◌-◌, [], ◌∷◌, ◌++◌, length, drop, slice_index_or, FitsSigned, to_z, of_z, w64, ℤ, pos, ◌*ℤ◌, ◌<ℤ◌, ◌≤ℤ◌, unsigned_abs, Bool, true, false, ◌==◌, if◌then◌else◌, Option, Some, None, IfSome, SomeIff, arith}
 use Rattle.std.specs.Int.{w128}
 use Rattle.std.specs.Int.RustNames.{int_div}
-use Rattle.std.proofs.lemmas.Int.{ints, unsigned_abs-mul, quot_is, quot_fits, fits_signed_from_abs, to_z-of_z}
+use Rattle.std.proofs.lemmas.Int.{ints, unsigned_abs-mul, quot_is, quot_fits, fits_signed_from_abs}
 use Rattle.std.proofs.lemmas.List.{append-nil, append_assoc, drop_more}
 use Rattle.std.proofs.lemmas.Nat.{mul-lt}
 use Rattle.std.proofs.lemmas.Nat.Gcd.{dvd_refl, dvd_trans, le_of_dvd}
-use Rattle.std.proofs.Math.Nat.{mul-div_cancel', dvd-mul_right, div-le_self}
+use Rattle.std.proofs.Math.Nat.{mul-div_cancel', dvd-mul_right}
 use lib.IntN.{*ℤ_comm}
 use Prim.Native.Nat.{◌∣◌}
 use Rattle.frac128.specs.declared.Frac.{Frac}

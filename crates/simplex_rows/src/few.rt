@@ -87,7 +87,8 @@ impl FewRow {
 
     /// What no number is above, without its sign, and the denominator is not.
     pub(crate) fn bound(&self) -> i64
-        ensures { result ≡ self.now.bound }
+        ensures value { result ≡ self.now.bound }
+        ensures short { IsShort self.now }
     {
         self.bound
     }

@@ -61,7 +61,8 @@ impl ManyRow {
 
     /// What no number exceeds, without its sign, nor the denominator.
     pub(crate) fn bound(&self) -> i64
-        ensures { result ≡ self.now.bound }
+        ensures value { result ≡ self.now.bound }
+        ensures short { IsShort self.now }
     {
         self.bound
     }

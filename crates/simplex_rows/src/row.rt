@@ -125,13 +125,17 @@ impl FracRow {
         }
     }
 
-    /// Adds a whole number at a column after the others, unless it is `-2^127`, which no fraction is.
+    /// Adds a whole number at a column after the others, unless it is `-2^127`, which no fraction is. A 0 stores
+    /// nothing.
     pub fn push_whole(&mut self, column: u32, n: i128) -> Result<(), RowFault>
         requires { EndsBefore column self.old }
         ensures added { OnOk result (AddsWhole column n self.old self.new) }
         ensures before { (c : ℕ) → column < c → OnOk result (EndsBefore c self.new) }
         ensures leaves { (c : ℕ) → result ≡ Err (RowFault.Leaves c) → (c ≡ column) × (n ≡ neg_ℤ (pos (2 ^ 127))) }
     {
+        if n == 0 {
+            return Ok(());
+        }
         match &mut self.numbers {
             Numbers::Short(row) => {
                 if row.push_whole(column, n)? {
@@ -258,6 +262,7 @@ impl FracRow {
             Numbers::Wide(row) => row.sweep(column, lead, &mut scratch.wide),
         }
     }
+
     /// Keeps whole numbers of 63 bits over one denominator where all fractions are such.
     fn narrow(&mut self) -> Result<(), AllocError>
         ensures { OnOk result (SameFractions self.old self.new) }

@@ -51,7 +51,8 @@ impl ShortNumbers {
 
     /// What no number, without its sign, is above.
     fn bound(&self) -> i64
-        ensures { result ≡ (row_of self.now).bound }
+        ensures value { result ≡ (row_of self.now).bound }
+        ensures short { IsShort (row_of self.now) }
     {
         match self {
             ShortNumbers::Few(row) => row.bound(),

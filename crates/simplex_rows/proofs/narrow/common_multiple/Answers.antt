@@ -1,4 +1,4 @@
-use Rattle.std.proofs.Common.{◌≡◌, ◌∙◌, ap, ◌<ℤ◌, ◌*ℤ◌, FitsSigned, rules, arith, unsigned_abs, ℤ, pos, to_z, of_z, w64}
+use Rattle.std.proofs.Common.{◌≡◌, ◌<ℤ◌, ◌*ℤ◌, FitsSigned, rules, arith, unsigned_abs, ℤ, pos, to_z, of_z, w64}
 use Rattle.std.specs.Int.{w128}
 use Rattle.std.proofs.lemmas.Int.{ints, to_z-of_z}
 use Rattle.std.proofs.Math.Nat.{one-dvd}

@@ -27,7 +27,7 @@ invariant_of-result c =
     let b : FitsSigned w64 c.bound.result = search rules in
     let l = let x = spread c in x.count in
     let most = c.in_ok-reach.ensures.most in
-    rw (back c, to_z-of_z w64 _ d, to_z-of_z w64 _ b, c.den.ensures.den, c.bound.ensures) (
+    rw (back c, to_z-of_z w64 _ d, to_z-of_z w64 _ b, c.den.ensures.den, c.bound.ensures.value) (
       spread_short c.args.few.now c.entries.ensures.short c.reach.new.numbers.items (kept c) c.lessen.new.numbers (spread c),
       omega arith,
     )
@@ -36,7 +36,7 @@ pub returns-clause-short : goal.returns-clause-short
 returns-clause-short c =
     let d : FitsSigned w64 c.den.result = search rules in
     let b : FitsSigned w64 c.bound.result = search rules in
-    rw (back c, to_z-of_z w64 _ d, to_z-of_z w64 _ b, c.den.ensures.den, c.bound.ensures) (spread_short c.args.few.now c.entries.ensures.short c.reach.new.numbers.items (kept c) c.lessen.new.numbers (spread c))
+    rw (back c, to_z-of_z w64 _ d, to_z-of_z w64 _ b, c.den.ensures.den, c.bound.ensures.value) (spread_short c.args.few.now c.entries.ensures.short c.reach.new.numbers.items (kept c) c.lessen.new.numbers (spread c))
 
 pub returns-clause-same : goal.returns-clause-same
 returns-clause-same c =
@@ -45,5 +45,5 @@ returns-clause-same c =
     rw (back c, to_z-of_z w64 _ d, to_z-of_z w64 _ b) (
       spread_same c.args.few.now c.entries.ensures.short c.reach.new.numbers.items (kept c) c.lessen.new.numbers (spread c),
       c.den.ensures.den,
-      c.bound.ensures,
+      c.bound.ensures.value,
     )
