@@ -1,9 +1,11 @@
 -- Marks of blocks of rows by column.
-use Rattle.std.proofs.Common.{◌≡◌, ◌≢◌, refl, sym, ap, subst, ◌∙◌, ℕ, zero, suc, ◌+◌, ◌-◌, ◌*◌, ◌<◌, ◌≤◌, ◌==◌, if◌then◌else◌, Bool, true, false, not, ℤ, pos, int_cmp, arith, List, [], ◌∷◌, ◌++◌, length, map, get_or, slice_set, take, min, ◌⊎◌, inl, inr}
+use Rattle.std.proofs.Common.{◌≡◌, ◌≢◌, refl, sym, ap, subst, ◌∙◌, ℕ, zero, suc, ◌+◌, ◌-◌, ◌*◌, ◌<◌, ◌≤◌, ◌==◌, if◌then◌else◌, Bool, true, false, not, ℤ, pos, int_cmp, arith, List, [], ◌∷◌, ◌++◌, length, map, get_or, slice_set, take, min, replicate, ◌⊎◌, inl, inr, Result, Ok, Err, IfOk, Vec}
+use Rattle.std.specs.Global.{Global}
+use Rattle.std.specs.declared.alloc.AllocError.{AllocError}
 use Rattle.std.proofs.lemmas.Bool.{eqb-true}
 use mathlib.Core.Bool.{false≢true}
 use Rattle.std.proofs.lemmas.Nat.{mul-le}
-use Rattle.std.proofs.lemmas.List.{length-map, get_or-map, length-set, length-take, length-take-le, get_or-take, get_or-set_same, get_or-set_other}
+use Rattle.std.proofs.lemmas.List.{length-map, get_or-map, length-set, length-take, length-take-le, get_or-take, get_or-set_same, get_or-set_other, length-replicate, get_or-replicate}
 use Rattle.std.proofs.lemmas.Int.{ints}
 use Rattle.std.proofs.lemmas.Cmp.{int_ranked}
 use Rattle.std.specs.Ordering.{ordering_index}
@@ -13,7 +15,7 @@ use Rattle.simplex_rows.specs.Entries.{Entries, at, columns_of}
 use Rattle.simplex.specs.declared.covering.TheConstants.{BLOCK}
 use Rattle.simplex.specs.Among.{Among}
 use Rattle.simplex.specs.Standing.{entries_at, AreTouching}
-use Rattle.simplex.specs.Covering.{block_of, blocks_of, HasMark, IsMarked, IsCovered, Grow, Clears, HasOne}
+use Rattle.simplex.specs.Covering.{block_of, blocks_of, HasMark, IsMarked, IsCovered, Cover, Grow, Clears, HasOne}
 use Rattle.simplex.proofs.Rows.{row_is, among_take, among_taken, among_take_more, earlier_or_here, Picked, picked_more}
 use Rattle.simplex_spec.proofs.Pivoting.{same_or_not}
 
@@ -204,6 +206,17 @@ covered_more n k rows d old new h e o g =
             (listed c d (subst (λ (es : Entries). (at c es).num ≢ pos 0) (ap (entries_at rows) q ∙ sym (row_is rows k d h e)) z)) (inl (ap block_of q))
       ];
     }
+
+-- a mark at each block in each column
+marked_everywhere : (n : ℕ) (rows : List Entries) → Cover n rows (replicate (n * blocks_of (length rows)) true)
+marked_everywhere n rows = record {
+  places = length-replicate (n * blocks_of (length rows)) true;
+  all = λ c l i h z. get_or-replicate (n * blocks_of (length rows)) _ true false (inside n (blocks_of (length rows)) c (block_of i) l (block_inside (length rows) i h));
+}
+
+pub marked_where_made : (n : ℕ) (rows : List Entries) (r : Result (Vec Bool Global) AllocError) → IfOk r (λ marks. marks.items ≡ replicate (n * blocks_of (length rows)) true) → IfOk r (λ marks. Cover n rows marks.items)
+marked_where_made n rows (Ok marks) e = rw e (marked_everywhere n rows)
+marked_where_made n rows (Err x) e = tt
 
 -- The rows with a number, of those up to a place
 

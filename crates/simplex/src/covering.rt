@@ -1,7 +1,7 @@
 //! For each column, marks at the blocks of rows that may have a number there, so that a pivot looks at no other
 //! row. They stand in one vector, column after column.
 
-ghost use Rattle.std.specs.Prelude.{IsTrue, ◌≡◌, ◌<◌, ◌≤◌, ◌+◌, ◌*◌, ◌^◌, [], ◌∷◌, true, length, map, take, slice_index_or, slice_set};
+ghost use Rattle.std.specs.Prelude.{IsTrue, ◌≡◌, ◌<◌, ◌≤◌, ◌+◌, ◌*◌, ◌^◌, [], ◌∷◌, true, length, map, take, slice_index_or, slice_set, replicate};
 ghost use Rattle.std.specs.Prelude.{IfOk, OnOk};
 ghost use Rattle.std.specs.Option.{SomeIff};
 ghost use Rattle.simplex.specs.Among.{Among};
@@ -16,7 +16,7 @@ use std::cmp::Ordering;
 const BLOCK: usize = 16;
 
 /// For each of the first columns, marks at the blocks of rows that have a number there. The columns of each row
-/// are made in `of_row`.
+/// are made in `of_row`. Where there is one block, it is marked in each column.
 pub(crate) fn covering(
     alloc: Global,
     rows: &[FracRow],
@@ -26,7 +26,10 @@ pub(crate) fn covering(
     ensures { IfOk result (λ marks. Cover columns rows.now marks.items) }
 {
     let blocks = rows.len().div_ceil(BLOCK);
-    let mut marks = no_marks(alloc, columns, blocks)?;
+    if blocks <= 1 {
+        return marks(alloc, true, columns, blocks);
+    }
+    let mut marks = marks(alloc, false, columns, blocks)?;
     for i in 0..rows.len() {
         rows[i].columns(of_row)?;
         mark_block(&mut marks, blocks, of_row, i / BLOCK);
@@ -34,14 +37,19 @@ pub(crate) fn covering(
     Ok(marks)
 }
 
-/// A place for each block in each of the first columns, and no mark.
-fn no_marks(alloc: Global, columns: usize, blocks: usize) -> Result<Vec<bool>, AllocError>
-    ensures { IfOk result (λ marks. length marks.items ≡ columns * blocks) }
+/// A place for each block in each of the first columns, with a mark in all of them or in none.
+fn marks(
+    alloc: Global,
+    is_marked: bool,
+    columns: usize,
+    blocks: usize,
+) -> Result<Vec<bool>, AllocError>
+    ensures { IfOk result (λ marks. marks.items ≡ replicate (columns * blocks) is_marked) }
 {
     let Some(count) = columns.checked_mul(blocks) else {
         return Err(AllocError);
     };
-    vec![in alloc; false; count]
+    vec![in alloc; is_marked; count]
 }
 
 /// Marks the blocks of these rows in these columns, where both have a place. A block whose rows stand side by
