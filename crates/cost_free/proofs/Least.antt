@@ -1,27 +1,18 @@
 -- The first number that passes a test.
-use Rattle.std.proofs.Common.{◌≡◌, ◌≤◌, ◌<◌, ◌-◌, ◌+◌, ℕ, zero, suc, nat_eq, Bool, true, false, cond, length, Option, None, Some, refl}
-use Rattle.std.proofs.Common.{arith, ap, sym, ◌∙◌, subst}
+use Rattle.std.proofs.Common.{◌≡◌, ◌≤◌, ◌<◌, ◌+◌, ℕ, zero, suc, nat_eq, Bool, true, false, cond, length, None, Some, refl}
+use Rattle.std.proofs.Common.{arith, subst}
 use Rattle.std.proofs.lemmas.Bool.Decides.{nat_tests}
 use Rattle.cost_free.specs.Blocked.{least_from, blocks}
 use Rattle.cost_free.specs.Laws.{BlockersAreLeast}
 
--- a number that does not pass is left behind
-pub least_step : (test : ℕ → Bool) (count fewer k : ℕ) (b : Bool) (all : Option ℕ) → 0 < count → fewer ≡ count - 1 → b ≡ test k → b ≡ false →
-    least_from test count k ≡ all → least_from test fewer (k + 1) ≡ all
-least_step test zero fewer k b all some is_fewer is out before = absurd (omega (arith, some))
-least_step test (suc count) fewer k b all some is_fewer is out before =
-    let same : fewer ≡ count = omega (arith, is_fewer) in
-    let next : k + 1 ≡ suc k = omega arith in
-    (λ i. least_from test (same i) (next i)) ∙ sym (ap (λ c. cond c (Some k) (least_from test count (suc k))) (sym is ∙ out)) ∙ before
-
 -- what is found passes the test, and nothing before it does
-record IsFirst (test : ℕ → Bool) (count k f : ℕ) : Type 0 where
-  from : k ≤ f
-  below : f < k + count
-  passes : test f ≡ true
-  first : (g : ℕ) → k ≤ g → g < f → test g ≡ false
+pub record IsFirst (test : ℕ → Bool) (count k f : ℕ) : Type 0 where
+  pub from : k ≤ f
+  pub below : f < k + count
+  pub passes : test f ≡ true
+  pub first : (g : ℕ) → k ≤ g → g < f → test g ≡ false
 
-is_first : (test : ℕ → Bool) (count k f : ℕ) → least_from test count k ≡ Some f → IsFirst test count k f
+pub is_first : (test : ℕ → Bool) (count k f : ℕ) → least_from test count k ≡ Some f → IsFirst test count k f
 is_first test zero k f e = absurd (cc)
 is_first test (suc count) k f e = by (test k) refl e (λ e. is_first test count (suc k) f e)
   where
@@ -43,7 +34,7 @@ is_first test (suc count) k f e = by (test k) refl e (λ e. is_first test count 
         at g low high rest true e = let same : k ≡ g = grind (arith, nat_tests) in subst (λ n. test n ≡ false) same is
         at g low high rest false e = let above : suc k ≤ g = grind (arith, nat_tests) in rest.first g above high
 
-none_passes : (test : ℕ → Bool) (count k f : ℕ) → least_from test count k ≡ None → k ≤ f → f < k + count → test f ≡ false
+pub none_passes : (test : ℕ → Bool) (count k f : ℕ) → least_from test count k ≡ None → k ≤ f → f < k + count → test f ≡ false
 none_passes test zero k f e low high = absurd (omega (arith, low, high))
 none_passes test (suc count) k f e low high = by (test k) refl e (λ e. none_passes test count (suc k) f e) (nat_eq k f) refl
   where

@@ -1,5 +1,6 @@
 mod Computed
 mod Least
+mod Called
 pub mod Components
 pub mod Sets
 pub mod Cuts

@@ -4,6 +4,7 @@ pub mod Joining
 pub mod Task
 pub mod Schedule
 pub mod Blocked
+pub mod Called
 pub mod Refused
 pub mod Walk
 pub mod Numbered

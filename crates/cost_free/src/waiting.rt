@@ -3,7 +3,8 @@ ghost use Rattle.std.specs.Prelude.{◌≡◌, ◌≤◌, ◌<◌, ◌^◌, ◌&
 ghost use Rattle.std.specs.Option.{option_map};
 ghost use Rattle.raml_syntax.specs.declared.program.FunId.{FunId};
 ghost use Rattle.cost_free.specs.Task.{same_meter};
-ghost use Rattle.cost_free.specs.Blocked.{is_among, row, any_calls, in_any, pays_for, has_bound, blocks, least_from, blocked};
+ghost use Rattle.cost_free.specs.Blocked.{is_among, row, in_any, pays_for, has_bound, blocks, least_from, blocked};
+ghost use Rattle.cost_free.specs.Called.{is_less, is_unpaid, least_in};
 ghost use Rattle.cost_free.specs.Read.{ids_of, lists_of, task_of, outcome_of, outcomes_of};
 
 use crate::task::{Done, Meter, Task, TaskKind};
@@ -38,17 +39,6 @@ fn row(rows: &[Vec<FunId>], place: u32) -> &[FunId]
         Some(row) => row,
         None => &[],
     }
-}
-
-fn any_calls(calls: &[Vec<FunId>], fun: u32, members: &[FunId]) -> bool
-    ensures { result ≡ any_calls (lists_of calls.now) fun (ids_of members.now) }
-{
-    for member in members {
-        if is_among(fun, row(calls, member.0)) {
-            return true;
-        }
-    }
-    false
 }
 
 // The place of a group that it is in.
@@ -163,8 +153,7 @@ fn is_unpaid(
     done: &[(Task, Done)],
     fun: u32,
 ) -> bool
-    ensures { result ≡ (in_any fun (take group (lists_of groups.now))
-        && not (has_bound (lists_of groups.now) meter (outcomes_of done.now) fun)) }
+    ensures { result ≡ is_unpaid (lists_of groups.now) group meter (outcomes_of done.now) fun }
 {
     match place_in(fun, before(groups, group)) {
         Some(place) => !is_bound(groups, meter, done, fun, place),
@@ -172,19 +161,40 @@ fn is_unpaid(
     }
 }
 
-fn blocks(
+// It is less than the least so far, or, where there is none, than so many.
+fn is_less(fun: u32, least: Option<FunId>, count: u32) -> bool
+    ensures { result ≡ is_less fun (option_map (λ (f : FunId). f.0) least) count }
+{
+    match least {
+        Some(least) => fun < least.0,
+        None => fun < count,
+    }
+}
+
+// The least of these functions that is in an earlier group and has no bound, and less than the least so far.
+fn least_unpaid(
     groups: &[Vec<FunId>],
-    calls: &[Vec<FunId>],
     group: u32,
     meter: Meter,
     done: &[(Task, Done)],
-    fun: u32,
-) -> bool
-    ensures { result ≡ blocks (lists_of groups.now) (lists_of calls.now) group meter (outcomes_of done.now) fun }
+    count: u32,
+    callees: &[FunId],
+    so_far: Option<FunId>,
+) -> Option<FunId>
+    ensures { option_map (λ (f : FunId). f.0) result
+        ≡ least_in (is_unpaid (lists_of groups.now) group meter (outcomes_of done.now)) count (ids_of callees.now)
+        (option_map (λ (f : FunId). f.0) so_far) }
 {
-    any_calls(calls, fun, row(groups, group)) && is_unpaid(groups, group, meter, done, fun)
+    let mut least = so_far;
+    for callee in callees {
+        if is_less(callee.0, least, count) && is_unpaid(groups, group, meter, done, callee.0) {
+            least = Some(*callee);
+        }
+    }
+    least
 }
 
+// The least that a function of the group calls.
 fn least(
     groups: &[Vec<FunId>],
     calls: &[Vec<FunId>],
@@ -196,12 +206,21 @@ fn least(
     ensures { option_map (λ (f : FunId). f.0) result
         ≡ least_from (blocks (lists_of groups.now) (lists_of calls.now) group meter (outcomes_of done.now)) (length calls.now) 0 }
 {
-    for fun in 0..calls.len() as u32 {
-        if blocks(groups, calls, group, meter, done, fun) {
-            return Some(FunId(fun));
-        }
+    let count = calls.len() as u32;
+    let members = row(groups, group);
+    let mut least = None;
+    for member in members {
+        least = least_unpaid(
+            groups,
+            group,
+            meter,
+            done,
+            count,
+            row(calls, member.0),
+            least,
+        );
     }
-    None
+    least
 }
 
 // The same, for groups and calls by themselves.

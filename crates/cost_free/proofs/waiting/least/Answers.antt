@@ -1,10 +1,11 @@
-use Rattle.std.proofs.Common.{◌≡◌, ◌-◌, ◌+◌, ◌<◌, length, arith}
-use Rattle.cost_free.proofs.Least.{least_step}
+use Rattle.std.proofs.Common.{◌∙◌, length}
+use Rattle.std.proofs.lemmas.List.{drop_all}
+use Rattle.cost_free.specs.Read.{lists_of, outcomes_of}
+use Rattle.cost_free.proofs.Called.{least_is_first}
 use Rattle.cost_free.proofs.waiting.least.Goals as goal
 
-pub loop-fun-preserved : goal.loop-fun-preserved
-loop-fun-preserved c =
-    let n = length c.args.calls.now in
-    let some : 0 < n - c.loop-fun.fun = omega (arith, c.loop-fun-test.true) in
-    let next : n - (c.loop-fun.fun + 1) ≡ n - c.loop-fun.fun - 1 = omega arith in
-    least_step _ (n - c.loop-fun.fun) (n - (c.loop-fun.fun + 1)) c.loop-fun.fun c.blocks-in-loop-fun.result _ some next c.blocks-in-loop-fun.ensures c.if-blocks.false c.loop-fun.invariant
+pub returns : goal.returns
+returns c =
+    let all = drop_all c.loop-member.member-index c.row-members.result.now c.loop-member-test.false in
+    (rw all at c.loop-member.invariant)
+    ∙ least_is_first (lists_of c.args.groups.now) (lists_of c.args.calls.now) c.args.group c.args.meter (outcomes_of c.args.done.now) (length c.args.calls.now)

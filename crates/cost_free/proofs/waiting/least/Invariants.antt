@@ -1,9 +1,12 @@
-use Rattle.std.proofs.Common.{◌≡◌, ◌-◌, length}
-use Rattle.cost_free.specs.Blocked.{blocks, least_from}
-use Rattle.cost_free.specs.Read.{lists_of, outcomes_of}
+use Rattle.std.proofs.Common.{◌≡◌, drop, length, None}
+use Rattle.std.specs.Option.{option_map}
+use Rattle.raml_syntax.specs.declared.program.FunId.{FunId}
+use Rattle.cost_free.specs.Blocked.{row}
+use Rattle.cost_free.specs.Called.{is_unpaid, least_called}
+use Rattle.cost_free.specs.Read.{ids_of, lists_of, outcomes_of}
 use Rattle.cost_free.proofs.waiting.least.Given as goal
 
-abbrev pub invariant-loop-fun : goal.invariant-loop-fun
-invariant-loop-fun l =
-    least_from (blocks (lists_of l.groups) (lists_of l.calls) l.group l.meter (outcomes_of l.done)) (length l.calls - l.fun) l.fun
-    ≡ least_from (blocks (lists_of l.groups) (lists_of l.calls) l.group l.meter (outcomes_of l.done)) (length l.calls) 0
+abbrev pub invariant-loop-member : goal.invariant-loop-member
+invariant-loop-member l =
+    let called = least_called (is_unpaid (lists_of l.groups) l.group l.meter (outcomes_of l.done)) (length l.calls) (lists_of l.calls) in
+    called (ids_of (drop l.member-index l.members)) (option_map (λ (f : FunId). f.0) l.least) ≡ called (row (lists_of l.groups) l.group) None
