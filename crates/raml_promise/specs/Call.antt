@@ -132,11 +132,18 @@ pub record AreFloors (side : Side) (P : Prog) (N : Program) (c : Certificate) (f
 abbrev pub OfFloors : Side → Prog → Program → Certificate → Placed → List Value → (Floors → Answer → Type 0) → Answer → Type 0
 OfFloors side P N c f args Rest = Step no_names (PointRefuses N c f args) (AreFloors side P N c f args) Rest
 
--- The cells that a run may take: as the words say; else the floor of the bound of cells, where there is one of at most
--- 16777216; else 1048576.
+-- the cells that a run may take where nothing is known of it, and the most that it may take by its bound
+abbrev pub usual_cells : ℕ
+usual_cells = 1048576
+
+abbrev pub most_cells : ℕ
+most_cells = 16777216
+
+-- The cells that a run may take: as the words say; else the floor of the bound of cells, where that is not too large;
+-- else the usual ones.
 abbrev pub floor_cells : Option ℕ → ℕ
-floor_cells None = 1048576
-floor_cells (Some floor) = cond (nat_le floor 16777216) floor 1048576
+floor_cells None = usual_cells
+floor_cells (Some floor) = cond (nat_le floor most_cells) floor usual_cells
 
 abbrev pub cells_or : Option ℕ → Option ℕ → ℕ
 cells_or (Some cells) floor = cells

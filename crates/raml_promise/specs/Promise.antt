@@ -32,133 +32,147 @@ use Rattle.raml_promise.specs.Steps.{OfNormal, names_of}
 use Rattle.raml_promise.specs.Analysis.{OfCourse, OfCertificate, OfCheck, PowersRefuse}
 use Rattle.raml_promise.specs.DeclaredBounds.{OfBounds, PrintsVerdicts}
 use Rattle.raml_promise.specs.Prices.{OfPrices, ArePricedLines, Spends}
-use Rattle.raml_promise.specs.Call.{Placed, Limits, OfFunction, OfArguments, OfCall, OfFloors, Runs, cells_or}
+use Rattle.raml_promise.specs.Call.{Placed, Limits, OfFunction, OfArguments, OfCall, OfFloors, Runs, cells_or, usual_cells}
 use Rattle.refusal_text.specs.declared.plain.Which.TheVariants as which
 use Rattle.refusal_text.specs.declared.task.Analysed.TheVariants as analysed
 
--- ---- the commands, each of a program
+-- ---- limits of runs
 
--- the types of its functions, and their code
-abbrev pub ListsTypes : Side → Prog → Answer → Type 0
-ListsTypes side P = Prints side (λ text. text ≡ type_lines P)
+-- those that the words tell; where they tell no cells, as many as where there is no bound
+abbrev pub run_limits : ℕ → Option ℕ → Limits
+run_limits steps cells = record { steps = steps; cells = cells_or cells None }
 
-abbrev pub ListsCode : Side → Prog → Answer → Type 0
-ListsCode side P = Prints side (λ text. text ≡ code_text P)
+-- those of the run of a made program
+abbrev pub trial_limits : Limits
+trial_limits = record { steps = 10000000; cells = usual_cells }
 
--- the lines of a certificate, each function's in the order of the source; and its text
-abbrev pub PrintsLines : Side → Prog → Program → Certificate → Answer → Type 0
-PrintsLines side P N c = Prints side (AreLines P N c)
+-- ---- texts
 
--- Where it is no longer than a certificate may be, it is read as this certificate.
+-- The text of a certificate. Where it is no longer than a certificate may be, it is read as this certificate.
 abbrev pub IsTextOf : Certificate → Text → Type 0
 IsTextOf c text = (text ≡ text_of c ++ codes "\n") × (length text ≤ most_bytes which.Certificate → IsFile text c)
 
-abbrev pub PrintsCertificate : Side → Certificate → Answer → Type 0
-PrintsCertificate side c = Prints side (IsTextOf c)
-
--- The lines of the certificate of the course of its analysis, and the certificate.
-abbrev pub Analyses : Side → ℕ → Rule → Prog → Answer → Type 0
-Analyses side degree rule P = OfNormal P (λ N. OfCourse side analysed.Program P N degree rule (λ c. PrintsLines side P N c))
-
-abbrev pub Certifies : Side → ℕ → Rule → Prog → Answer → Type 0
-Certifies side degree rule P = OfNormal P (λ N. OfCourse side analysed.Program P N degree rule (λ c. PrintsCertificate side c))
-
--- The lines of a certificate that is read.
-abbrev pub Verifies : Side → Store → Text → Prog → Answer → Type 0
-Verifies side store file P = OfCertificate side store file (λ c. OfNormal P (λ N. OfCheck side P N c (PrintsLines side P N c)))
-
--- A run within limits.
-abbrev pub RunsWithin : Side → Store → Text → Text → Limits → Prog → Answer → Type 0
-RunsWithin side store name file limits P = OfCall side store P name file (λ f args. Runs side P f args limits [] [])
-
--- One with its bounds at the arguments, which tell how many cells it may take where the words do not.
+-- the bounds of a run at its arguments
 abbrev pub bound_lines : Floors → Text
 bound_lines floors = run_bound_lines (floors Ticks) (floors Cells) (floors Work)
 
-abbrev pub RunsBounded : Side → Prog → Placed → List Value → ℕ → Option ℕ → Floors → Answer → Type 0
-RunsBounded side P f args steps cells floors =
-    Runs side P f args (record { steps = steps; cells = cells_or cells (floors Cells) }) [] (bound_lines floors)
+-- ---- the commands, each of a program: what a side promises of them
 
-abbrev pub BoundedCall : Side → ℕ → Option ℕ → ℕ → Prog → Placed → List Value → Answer → Type 0
-BoundedCall side steps cells degree P f args = OfNormal P (λ N. OfCourse side analysed.Program P N degree rule.Least (λ c.
-    OfFloors side P N c f args (λ floors. RunsBounded side P f args steps cells floors)))
+module _ (side : Side) where
+  -- the types of its functions, and their code
+  abbrev pub ListsTypes : Prog → Answer → Type 0
+  ListsTypes P = Prints side (λ text. text ≡ type_lines P)
 
-abbrev pub RunsWithBounds : Side → Store → Text → Text → ℕ → Option ℕ → ℕ → Prog → Answer → Type 0
-RunsWithBounds side store name file steps cells degree P =
-    OfCall side store P name file (λ f args. BoundedCall side steps cells degree P f args)
+  abbrev pub ListsCode : Prog → Answer → Type 0
+  ListsCode P = Prints side (λ text. text ≡ code_text P)
 
--- The lines of ticks of a program under a table of prices; and a run of it, whose ticks are its cost under the prices.
-abbrev pub PricesLines : Side → ℕ → Prog → Prices → Answer → Type 0
-PricesLines side degree P prices = OfNormal (applied_program prices P) (λ N.
-    OfCourse side analysed.Program (applied_program prices P) N degree rule.Least (λ c. Prints side (ArePricedLines prices P N c)))
+  -- the lines of a certificate, each function's in the order of the source; and its text
+  abbrev pub PrintsLines : Prog → Program → Certificate → Answer → Type 0
+  PrintsLines P N c = Prints side (AreLines P N c)
 
-abbrev pub PricesProgram : Side → Store → Text → ℕ → Prog → Answer → Type 0
-PricesProgram side store file degree P = OfPrices side store file (PricesLines side degree P)
+  abbrev pub PrintsCertificate : Certificate → Answer → Type 0
+  PrintsCertificate c = Prints side (IsTextOf c)
 
-abbrev pub SpendsWithin : Side → Store → Text → Text → Text → Limits → Prog → Answer → Type 0
-SpendsWithin side store file name input limits P =
-    OfPrices side store file (λ prices. OfCall side store P name input (λ f args. Spends side prices P f args limits))
+  -- The lines of the certificate of the course of its analysis, and the certificate.
+  abbrev pub Analyses : ℕ → Rule → Prog → Answer → Type 0
+  Analyses degree rule P = OfNormal P (λ N. OfCourse side analysed.Program P N degree rule (PrintsLines P N))
 
--- How the bounds of a program stand to those of another. The program is analysed before the other is read.
-abbrev pub ComparesWith : Side → ℕ → Prog → Program → Certificate → Prog → Answer → Type 0
-ComparesWith side degree P N c Q = OfNormal Q (λ M.
-    OfCourse side analysed.Other Q M degree rule.Least (λ e. Prints side (AreComparisons P N c Q M e)))
+  abbrev pub Certifies : ℕ → Rule → Prog → Answer → Type 0
+  Certifies degree rule P = OfNormal P (λ N. OfCourse side analysed.Program P N degree rule PrintsCertificate)
 
-abbrev pub Compares : Side → Store → Text → ℕ → Prog → Answer → Type 0
-Compares side store file degree P = OfNormal P (λ N. OfCourse side analysed.Program P N degree rule.Least (λ c.
-    OfProgram side store analysed.Other file (ComparesWith side degree P N c)))
+  -- A run with its bounds at the arguments, which tell how many cells it may take where the words do not.
+  abbrev pub RunsBounded : Prog → Placed → List Value → ℕ → Option ℕ → Floors → Answer → Type 0
+  RunsBounded P f args steps cells floors =
+      Runs side P f args (record { steps = steps; cells = cells_or cells (floors Cells) }) [] (bound_lines floors)
 
--- The bounds of flat functions as powers of element counts.
-abbrev pub PrintsPowers : Side → Prog → Program → Certificate → Answer → Type 0
-PrintsPowers side P N c = Test (names_of P N) (PowersRefuse P N c) (ArePowersFitting P N c) (Prints side (ArePowerLines P N c))
+  abbrev pub BoundedCall : ℕ → Option ℕ → ℕ → Prog → Placed → List Value → Answer → Type 0
+  BoundedCall steps cells degree P f args = OfNormal P (λ N. OfCourse side analysed.Program P N degree rule.Least (λ c.
+      OfFloors side P N c f args (RunsBounded P f args steps cells)))
 
-abbrev pub ShowsPowers : Side → ℕ → Prog → Answer → Type 0
-ShowsPowers side degree P = OfNormal P (λ N. OfCourse side analysed.Program P N degree rule.Least (PrintsPowers side P N))
+  -- The lines of ticks of a program under a table of prices.
+  abbrev pub PricesLines : ℕ → Prog → Prices → Answer → Type 0
+  PricesLines degree P prices = OfNormal (applied_program prices P) (λ N.
+      OfCourse side analysed.Program (applied_program prices P) N degree rule.Least (λ c. Prints side (ArePricedLines prices P N c)))
 
--- The verdicts of the bounds that a file declares. The file is read before the program is analysed.
-abbrev pub ChecksBounds : Side → Store → Text → ℕ → Prog → Answer → Type 0
-ChecksBounds side store file degree P = OfBounds side store file P degree (λ declared.
-    OfNormal P (λ N. OfCourse side analysed.Program P N degree rule.Least (PrintsVerdicts side P N declared.lines)))
+  -- How the bounds of a program stand to those of another.
+  abbrev pub ComparesWith : ℕ → Prog → Program → Certificate → Prog → Answer → Type 0
+  ComparesWith degree P N c Q = OfNormal Q (λ M.
+      OfCourse side analysed.Other Q M degree rule.Least (λ e. Prints side (AreComparisons P N c Q M e)))
 
--- Of a made program: how many functions it has, the lines of the last one, and its run.
-abbrev pub RunsTrial : Side → ℕ → Prog → Program → Certificate → Placed → List Value → Answer → Type 0
-RunsTrial side count P N c f args =
-    Runs side P f args (record { steps = 10000000; cells = 1048576 }) (functions_line count ++ lines_text P (lines_of N c f.0)) []
+  -- The bounds of flat functions as powers of element counts.
+  abbrev pub PrintsPowers : Prog → Program → Certificate → Answer → Type 0
+  PrintsPowers P N c = Test (names_of P N) (PowersRefuse P N c) (ArePowersFitting P N c) (Prints side (ArePowerLines P N c))
 
-abbrev pub TriesCall : Side → ℕ → Prog → Program → Certificate → Answer → Type 0
-TriesCall side count P N c =
-    OfFunction P (trial_function count) (λ f. OfArguments trial_data f.1 (λ args. RunsTrial side count P N c f args))
+  abbrev pub ShowsPowers : ℕ → Prog → Answer → Type 0
+  ShowsPowers degree P = OfNormal P (λ N. OfCourse side analysed.Program P N degree rule.Least (PrintsPowers P N))
 
-abbrev pub Tries : Side → ℕ → Prog → Answer → Type 0
-Tries side count P = OfNormal P (λ N. OfCourse side analysed.Program P N 1 rule.Least (λ c. TriesCall side count P N c))
+  -- Of a made program: how many functions it has, the lines of the last one, and its run.
+  abbrev pub RunsTrial : ℕ → Prog → Program → Certificate → Placed → List Value → Answer → Type 0
+  RunsTrial count P N c f args = Runs side P f args trial_limits (functions_line count ++ lines_text P (lines_of N c f.0)) []
 
--- what a request asks for
-abbrev pub Answers : Side → Store → Request → Answer → Type 0
-Answers side store (w.Types file) = OfProgram side store analysed.Program file (ListsTypes side)
-Answers side store (w.Code file) = OfProgram side store analysed.Program file (ListsCode side)
-Answers side store (w.Analyse file degree rule) = OfProgram side store analysed.Program file (Analyses side degree rule)
-Answers side store (w.Certify file degree rule) = OfProgram side store analysed.Program file (Certifies side degree rule)
-Answers side store (w.Verify file certificate) = OfProgram side store analysed.Program file (Verifies side store certificate)
-Answers side store (w.Run file name input steps cells None) =
-    OfProgram side store analysed.Program file (RunsWithin side store name input (record { steps = steps; cells = cells_or cells None }))
-Answers side store (w.Run file name input steps cells (Some degree)) =
-    OfProgram side store analysed.Program file (RunsWithBounds side store name input steps cells degree)
-Answers side store (w.Priced file prices degree) = OfProgram side store analysed.Program file (PricesProgram side store prices degree)
-Answers side store (w.Spend file prices name input steps cells) =
-    OfProgram side store analysed.Program file
-    (SpendsWithin side store prices name input (record { steps = steps; cells = cells_or cells None }))
-Answers side store (w.Compare file other degree) = OfProgram side store analysed.Program file (Compares side store other degree)
-Answers side store (w.Powers file degree) = OfProgram side store analysed.Program file (ShowsPowers side degree)
-Answers side store (w.Contract file bounds degree) = OfProgram side store analysed.Program file (ChecksBounds side store bounds degree)
-Answers side store (w.Trial count) =
-    OfShort which.Program (trial_text count) (OfSource analysed.Program (trial_text count) (Tries side count))
+  abbrev pub TriesCall : ℕ → Prog → Program → Certificate → Answer → Type 0
+  TriesCall count P N c = OfFunction P (trial_function count) (λ f. OfArguments trial_data f.1 (RunsTrial count P N c f))
 
--- what words ask for
-abbrev pub WordsAnswer : Side → List Text → Store → Answer → Type 0
-WordsAnswer side words store = Step no_names (λ e. (e ≡ Usage) × AsksNothing words) (Asks words) (λ request. Answers side store request)
+  abbrev pub Tries : ℕ → Prog → Answer → Type 0
+  Tries count P = OfNormal P (λ N. OfCourse side analysed.Program P N 1 rule.Least (TriesCall count P N))
 
-abbrev pub Comes : Side → Outside → Answer → Type 0
-Comes side o = WordsAnswer side o.words o.store
+  -- Of files in a store.
+  module _ (store : Store) where
+    -- The lines of a certificate that is read.
+    abbrev pub Verifies : Text → Prog → Answer → Type 0
+    Verifies file P = OfCertificate side store file (λ c. OfNormal P (λ N. OfCheck side P N c (PrintsLines P N c)))
+
+    -- A run within limits; and one with its bounds.
+    abbrev pub RunsWithin : Text → Text → Limits → Prog → Answer → Type 0
+    RunsWithin name file limits P = OfCall side store P name file (λ f args. Runs side P f args limits [] [])
+
+    abbrev pub RunsWithBounds : Text → Text → ℕ → Option ℕ → ℕ → Prog → Answer → Type 0
+    RunsWithBounds name file steps cells degree P = OfCall side store P name file (BoundedCall steps cells degree P)
+
+    -- The lines under a table of prices; and a run of the program, whose ticks are its cost under the prices.
+    abbrev pub PricesProgram : Text → ℕ → Prog → Answer → Type 0
+    PricesProgram file degree P = OfPrices side store file (PricesLines degree P)
+
+    abbrev pub SpendsWithin : Text → Text → Text → Limits → Prog → Answer → Type 0
+    SpendsWithin file name input limits P =
+        OfPrices side store file (λ prices. OfCall side store P name input (λ f args. Spends side prices P f args limits))
+
+    -- The program is analysed before the other is read.
+    abbrev pub Compares : Text → ℕ → Prog → Answer → Type 0
+    Compares file degree P = OfNormal P (λ N. OfCourse side analysed.Program P N degree rule.Least (λ c.
+        OfProgram side store analysed.Other file (ComparesWith degree P N c)))
+
+    -- The verdicts of the bounds that a file declares. The file is read before the program is analysed.
+    abbrev pub ChecksBounds : Text → ℕ → Prog → Answer → Type 0
+    ChecksBounds file degree P = OfBounds side store file P degree (λ declared.
+        OfNormal P (λ N. OfCourse side analysed.Program P N degree rule.Least (PrintsVerdicts side P N declared.lines)))
+
+    -- A file spells a typed program.
+    abbrev pub OfFileOf : Text → (Prog → Answer → Type 0) → Answer → Type 0
+    OfFileOf = OfProgram side store analysed.Program
+
+    -- what a request asks for
+    abbrev pub Answers : Request → Answer → Type 0
+    Answers (w.Types file) = OfFileOf file ListsTypes
+    Answers (w.Code file) = OfFileOf file ListsCode
+    Answers (w.Analyse file degree rule) = OfFileOf file (Analyses degree rule)
+    Answers (w.Certify file degree rule) = OfFileOf file (Certifies degree rule)
+    Answers (w.Verify file certificate) = OfFileOf file (Verifies certificate)
+    Answers (w.Run file name input steps cells None) = OfFileOf file (RunsWithin name input (run_limits steps cells))
+    Answers (w.Run file name input steps cells (Some degree)) = OfFileOf file (RunsWithBounds name input steps cells degree)
+    Answers (w.Priced file prices degree) = OfFileOf file (PricesProgram prices degree)
+    Answers (w.Spend file prices name input steps cells) = OfFileOf file (SpendsWithin prices name input (run_limits steps cells))
+    Answers (w.Compare file other degree) = OfFileOf file (Compares other degree)
+    Answers (w.Powers file degree) = OfFileOf file (ShowsPowers degree)
+    Answers (w.Contract file bounds degree) = OfFileOf file (ChecksBounds bounds degree)
+    Answers (w.Trial count) = OfShort which.Program (trial_text count) (OfSource analysed.Program (trial_text count) (Tries count))
+
+  -- what words ask for
+  abbrev pub WordsAnswer : List Text → Store → Answer → Type 0
+  WordsAnswer words store = Step no_names (λ e. (e ≡ Usage) × AsksNothing words) (Asks words) (Answers store)
+
+  abbrev pub Comes : Outside → Answer → Type 0
+  Comes o = WordsAnswer o.words o.store
 
 -- ---- how a call ends
 

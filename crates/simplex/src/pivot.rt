@@ -14,6 +14,9 @@ use std::mem;
 /// A row keeps a place for each column once it has numbers in more than one of so many.
 const SPARSE: usize = 8;
 
+/// Up to so many numbers a row is a list, however few columns there are.
+const SHORT: usize = 16;
+
 /// The row that exits the basis at a pivot, and the column that enters it.
 #[derive(Clone, Copy)]
 pub(crate) struct Place {
@@ -66,7 +69,8 @@ pub(crate) fn pivot(
         Ok(lead) => lead,
         Err(fault) => return Err(in_row(row, fault)),
     };
-    sweep_rows(rows, touching, column, &lead, width / SPARSE, scratch)?;
+    let most = SHORT.max(width / SPARSE);
+    sweep_rows(rows, touching, column, &lead, most, scratch)?;
     if let Err(fault) = gains.sweep(column, &lead, width, scratch) {
         return Err(in_row(rows.len(), fault));
     }
