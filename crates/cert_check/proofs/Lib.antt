@@ -23,6 +23,7 @@ pub mod Walking
 pub mod Terms
 pub mod Signed
 pub mod Listing
+mod Little
 pub mod Staying
 pub mod Proper
 pub mod Few

@@ -1,12 +1,13 @@
 -- Certificates of small numbers.
-use Rattle.std.specs.Prelude.{◌≤◌, ℕ, ◌+◌, ◌*◌, ◌^◌, unsigned_abs, List, [], ◌∷◌, length}
+use Rattle.std.specs.Prelude.{◌≡◌, ◌≤◌, ◌⊎◌, ℕ, ◌+◌, ◌*◌, ◌^◌, unsigned_abs, List, [], ◌∷◌, length, map}
 use Rattle.annot_types.specs.Certificate.{Entries, Sig, Hint, Let, Share, Call, Body, Solved, Block, Certificate}
 use Rattle.annot_types.specs.Held.{scale_of, IfSolved}
 use Rattle.annot_types.specs.Holds.{budget_of}
 use Rattle.annot_types.specs.Program.{Program}
 use Rattle.cost_free.specs.declared.task.Meter.TheVariants.{Ticks, Cells, Work}
 use Rattle.rules_spec.specs.Small.{GrowthsWithin}
-use Rattle.rules_plan.specs.Read.{group_bodies}
+use Rattle.rules_plan.specs.Read.{group_bodies, function_of}
+use Rattle.rules_plan.specs.declared.body.GroupPlans.{GroupPlans}
 
 -- what small numbers are at most
 abbrev pub most : ℕ
@@ -61,6 +62,15 @@ factor = 1 + most * most
 -- what plans make of small numbers stays in the range, where it is at most this many times these
 abbrev pub greatest : ℕ
 greatest = 2 ^ 110
+
+-- what these plans make of small numbers does
+abbrev pub MakeLittle : GroupPlans → Type 0
+MakeLittle plans = GrowthsWithin factor greatest (map function_of plans.functions.items)
+
+-- plans of the group at the budget are among these
+abbrev pub IsAmong : ℕ → ℕ → List GroupPlans → Type 0
+IsAmong group budget [] = ⊥
+IsAmong group budget (plans ∷ rest) = ((plans.group ≡ group) × (plans.budget ≡ budget)) ⊎ IsAmong group budget rest
 
 -- The plans of a block's group stay within it, where the block is solved.
 abbrev pub PlansStay : Program → ℕ → Block → Type 0

@@ -1,15 +1,15 @@
 // Certificates of small numbers, no total of which can leave 127 bits.
-ghost use Rattle.std.specs.Prelude.{◌≡◌, ◌≤◌, IsTrue, IfSome, map};
+ghost use Rattle.std.specs.Prelude.{◌≡◌, ◌≤◌, IsTrue, All, map};
 ghost use Rattle.annot_types.specs.Held.{IfSolved};
 ghost use Rattle.annot_types.specs.Program.{Program};
 ghost use Rattle.annot_types.specs.Read as a;
 ghost use Rattle.annot_types.specs.Read.{certificate_of, blocks_of};
 ghost use Rattle.cost_free.specs.Read.{kind_of};
 ghost use Rattle.annot_types.specs.Holds as h;
-ghost use Rattle.rules_plan.specs.Read.{function_of, ArePlansOf, AreKept};
+ghost use Rattle.rules_plan.specs.Read.{function_of, AreKept};
 ghost use Rattle.rules_spec.specs.Small.{GrowthsWithin};
 ghost use Rattle.cert_check.specs.Limits.{factor, greatest, EntriesSmall, AnnotsSmall, SigSmall, SigsSmall, HintSmall, HintsSmall};
-ghost use Rattle.cert_check.specs.Limits.{AllHintsSmall, BodySmall, BlocksSmall, ScalesSmall, StaysSmall, PlansStay, AllStay};
+ghost use Rattle.cert_check.specs.Limits.{AllHintsSmall, BodySmall, BlocksSmall, ScalesSmall, StaysSmall, AllStay, MakeLittle, IsAmong};
 
 use crate::at::budget_of;
 use annot_types::{Annot, Block, BlockBody, Certificate, Hint, Sig};
@@ -139,37 +139,54 @@ fn functions_stay(alloc: Global, functions: &[FunctionPlan]) -> bool
     true
 }
 
-// The plans of a group at a budget, where they are kept.
-fn plans_for(kept: &KeptPlans, group: u32, budget: u8) -> Option<&GroupPlans>
-    ensures { (P : Program) → AreKept P kept.now → IfSome result (λ made. ArePlansOf P group budget made.now) }
+// What all of these plans make of small numbers does.
+fn plans_stay(alloc: Global, made: &[GroupPlans]) -> bool
+    ensures { IsTrue result → All MakeLittle made.now }
 {
-    for made in &kept.made {
-        if made.group == group && made.budget == budget {
-            return Some(made);
+    for plans in made {
+        if !functions_stay(alloc, &plans.functions) {
+            return false;
         }
     }
-    None
+    true
 }
 
-fn block_stays(alloc: Global, kept: &KeptPlans, d: u8, block: &Block) -> bool
-    ensures { IsTrue result → (P : Program) → AreKept P kept.now → PlansStay P d (a.block_of block.now) }
+// The plans of a group at a budget are among these.
+fn are_among(made: &[GroupPlans], group: u32, budget: u8) -> bool
+    ensures { IsTrue result → IsAmong group budget made.now }
+{
+    for plans in made {
+        if plans.group == group && plans.budget == budget {
+            return true;
+        }
+    }
+    false
+}
+
+// They are kept. Plans are mostly kept in the order of their groups.
+fn are_kept(kept: &KeptPlans, group: u32, budget: u8) -> bool
+    ensures { IsTrue result → IsAmong group budget kept.now.made.items }
+{
+    let first = kept.made.partition_point(|plans| plans.group < group);
+    are_among(&kept.made[first..], group, budget) || are_among(&kept.made, group, budget)
+}
+
+// The plans of a block that is solved are kept.
+fn has_plans(kept: &KeptPlans, d: u8, block: &Block) -> bool
+    ensures { IsTrue result → IfSolved (a.block_of block.now).body
+        (IsAmong block.now.task.group (h.budget_of d (kind_of block.now.task.kind)) kept.now.made.items) }
 {
     match block.body {
-        BlockBody::Solved { .. } => {
-            match plans_for(kept, block.task.group, budget_of(d, block.task.kind)) {
-                Some(plans) => functions_stay(alloc, &plans.functions),
-                None => false,
-            }
-        }
+        BlockBody::Solved { .. } => are_kept(kept, block.task.group, budget_of(d, block.task.kind)),
         BlockBody::Refuted { .. } | BlockBody::Calls { .. } => true,
     }
 }
 
-fn blocks_stay(alloc: Global, kept: &KeptPlans, d: u8, blocks: &[Block]) -> bool
-    ensures { IsTrue result → (P : Program) → AreKept P kept.now → AllStay P d (blocks_of blocks.now) }
+fn blocks_stay(kept: &KeptPlans, d: u8, blocks: &[Block]) -> bool
+    ensures { IsTrue result → All MakeLittle kept.now.made.items → (P : Program) → AreKept P kept.now → AllStay P d (blocks_of blocks.now) }
 {
     for block in blocks {
-        if !block_stays(alloc, kept, d, block) {
+        if !has_plans(kept, d, block) {
             return false;
         }
     }
@@ -183,5 +200,6 @@ pub fn stays_small(alloc: Global, certificate: &Certificate, kept: &KeptPlans) -
 {
     scales_small(certificate)
         && blocks_small(&certificate.blocks)
-        && blocks_stay(alloc, kept, certificate.degree, &certificate.blocks)
+        && plans_stay(alloc, &kept.made)
+        && blocks_stay(kept, certificate.degree, &certificate.blocks)
 }
