@@ -51,19 +51,13 @@ fun f (x : int) : int = x + 1 * 2 - x => 0 f 7:x int : int = (24 Sub (24 Add 24:
 fun f (x : int) : bool = x div 2 mod 3 <= ((x)) => 0 f 7:x int : bool = (25 AtMost (25 Mod (25 Div 25:x 31:2) 37:3) 44:x);
 fun f (x : int) : int list = x :: x + 1 :: nil => 0 f 7:x int : (list int) = (29 cons 29:x (34 cons (34 Add 34:x 38:1) 43:nil));
 fun f (x : int) : int = ((x)) + not true => 0 f 7:x int : int = (24 Add 26:x (32 not 36:true));
-fun f (x : int) : int = let (a, b) = (x, 2) in if a = b then g(a, b) else (nil : int list) => 0 f 7:x int : int =
-    (24 let 29:a 32:b (37 pair 38:x 41:2) (47 if (50 Equal 50:a 54:b) (61 call g 63:a 66:b) (74 typed 75:nil (list int))));
-fun f (x : int tree) : int = let y = leaf in match x with leaf -> 0 | node(a, l, r) -> node(a, l, r) => 0 f 7:x (tree int) : int =
-    (29 let 33:y 37:leaf (45 match 51:x 66:0 75:a 78:l 81:r (87 node 92:a 95:l 98:r)));
-fun f (x : int list) : int = match x with nil -> 0 | h :: t -> f(t) fun g(x:int):int = x < 1 => 0 f 7:x (list int) : int =
-    (29 match 35:x 49:0 53:h 58:t (63 call f 65:t));68 g 74:x int : int = (87 Less 87:x 91:1);
+fun f (x : int) : int = let (a, b) = (x, 2) in if a = b then g(a, b) else (nil : int list) => 0 f 7:x int : int = (24 let 29:a 32:b (37 pair 38:x 41:2) (47 if (50 Equal 50:a 54:b) (61 call g 63:a 66:b) (74 typed 75:nil (list int))));
+fun f (x : int tree) : int = let y = leaf in match x with leaf -> 0 | node(a, l, r) -> node(a, l, r) => 0 f 7:x (tree int) : int = (29 let 33:y 37:leaf (45 match 51:x 66:0 75:a 78:l 81:r (87 node 92:a 95:l 98:r)));
+fun f (x : int list) : int = match x with nil -> 0 | h :: t -> f(t) fun g(x:int):int = x < 1 => 0 f 7:x (list int) : int = (29 match 35:x 49:0 53:h 58:t (63 call f 65:t));68 g 74:x int : int = (87 Less 87:x 91:1);
 fun f (x : int list option) : int option tree option = none => 0 f 7:x (option (list int)) : (option (tree (option int))) = 55:none;
-fun f (x : (int * bool) option) : int = some(x) :: some(none) :: nil => 0 f 7:x (option (* int bool)) : int =
-    (40 cons (40 some 45:x) (51 cons (51 some 56:none) 65:nil));
-fun f (x : int option) : int = match x with none -> 0 | some(y) -> y + 1 => 0 f 7:x
-    (option int) : int = (31 match 37:x 52:0 61:y (67 Add 67:y 71:1));
-fun f (x : int * int option) : int = not some((none : int option)) + nones => 0 f 7:x (* int (option int)) : int =
-    (37 Add (37 not (41 some (46 typed 47:none (option int)))) 69:nones);
+fun f (x : (int * bool) option) : int = some(x) :: some(none) :: nil => 0 f 7:x (option (* int bool)) : int = (40 cons (40 some 45:x) (51 cons (51 some 56:none) 65:nil));
+fun f (x : int option) : int = match x with none -> 0 | some(y) -> y + 1 => 0 f 7:x (option int) : int = (31 match 37:x 52:0 61:y (67 Add 67:y 71:1));
+fun f (x : int * int option) : int = not some((none : int option)) + nones => 0 f 7:x (* int (option int)) : int = (37 Add (37 not (41 some (46 typed 47:none (option int)))) 69:nones);
 fun f (x : int) : int = g(x,x,x,x,x,x,x,x) => 0 f 7:x int : int = (24 call g 26:x 28:x 30:x 32:x 34:x 36:x 38:x 40:x);";
 
 #[test]

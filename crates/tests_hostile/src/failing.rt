@@ -75,8 +75,7 @@ fn each_read_of_each_command_fails_in_turn(rt: HostRuntime) -> Result<(), Fail> 
 
 const QUICKSORT: &str = "\
 fun append (x : int list, y : int list) : int list = match x with nil -> y | h :: t -> h :: append(t, y)
-fun part (p : int, l : int list) : int list * int list = match l with nil -> (nil, nil) | h :: t -> let
-    (a, b) = part(p, t) in tick 1 in if h < p then (h :: a, b) else (a, h :: b)
+fun part (p : int, l : int list) : int list * int list = match l with nil -> (nil, nil) | h :: t -> let (a, b) = part(p, t) in tick 1 in if h < p then (h :: a, b) else (a, h :: b)
 fun qsort (l : int list) : int list = match l with nil -> nil | h :: t -> let (a, b) = part(h, t) in append(qsort(a), h :: qsort(b))";
 
 const QUICKSORT_LINES: &str = "\

@@ -80,18 +80,12 @@ fn program(alloc: Global, text: &str) -> Result<String, Fail> {
 // call, and one for the last call. (As a gain that product is a fraction over 3^64, and so it is 3^12 times less;
 // and 3^12 times 2^107, which stand behind the third, are below 2^127.)
 const INFERRED: &str = "\
-1 => G H fun v (x : int list) : int = g(h6(h5(h4(h3(h1(h0(x))))))) fun big
-    (x : int) : int = tick 15 in x => 0| => big ticks <= 15; big cells <= 0; big work <= 3
-1 => G H fun v (x : int list) : int = g(h6(h5(h4(h3(h1(h0(x))))))) fun big
-    (x : int) : int = tick 16 in x => 9|| => raml: overflow: row big ticks row 0
-1 => G H K fun v (x : int list) : int = g(h6(h5(h4(h3(h1(h0(x))))))) fun third
-    (x : int list) : int = g(k1(x)) => 0| => third ticks <= 1/9*<[_]>; third cells no bound: calls k1; third work no bound: calls k1
-1 => G H K fun v (x : int list) : int = g(h6(h5(h4(h3(h1(h0(x))))))) fun third
-    (x : int list) : int = g(k1(k0(x))) => 9|| => raml: overflow: scale third ticks entry 4
-1 => G fun big (x : int) : int = tick 5 in x H K fun v (x : int list) : int = g(h6(h5(h4(h3(h1(h0(x))))))) fun third
-    (x : int list) : int = g(k0(x)) => 0| => third ticks <= 1/3*<[_]>; third cells no bound: calls k0; third work no bound: calls k0
-1 => G fun big (x : int) : int = tick 6 in x H K fun v (x : int list) : int = g(h6(h5(h4(h3(h1(h0(x))))))) fun third
-    (x : int list) : int = g(k0(x)) => 9|| => raml: overflow: rescale third ticks block 5
+1 => G H fun v (x : int list) : int = g(h6(h5(h4(h3(h1(h0(x))))))) fun big (x : int) : int = tick 15 in x => 0| => big ticks <= 15; big cells <= 0; big work <= 3
+1 => G H fun v (x : int list) : int = g(h6(h5(h4(h3(h1(h0(x))))))) fun big (x : int) : int = tick 16 in x => 9|| => raml: overflow: row big ticks row 0
+1 => G H K fun v (x : int list) : int = g(h6(h5(h4(h3(h1(h0(x))))))) fun third (x : int list) : int = g(k1(x)) => 0| => third ticks <= 1/9*<[_]>; third cells no bound: calls k1; third work no bound: calls k1
+1 => G H K fun v (x : int list) : int = g(h6(h5(h4(h3(h1(h0(x))))))) fun third (x : int list) : int = g(k1(k0(x))) => 9|| => raml: overflow: scale third ticks entry 4
+1 => G fun big (x : int) : int = tick 5 in x H K fun v (x : int list) : int = g(h6(h5(h4(h3(h1(h0(x))))))) fun third (x : int list) : int = g(k0(x)) => 0| => third ticks <= 1/3*<[_]>; third cells no bound: calls k0; third work no bound: calls k0
+1 => G fun big (x : int) : int = tick 6 in x H K fun v (x : int list) : int = g(h6(h5(h4(h3(h1(h0(x))))))) fun third (x : int list) : int = g(k0(x)) => 9|| => raml: overflow: rescale third ticks block 5
 2 => G J fun v (x : int list) : int = g(h5(h5(h5(h4(h3(x)))))) => 0| => v ticks <= 1/1329227995784915872903807060280344576*<[_]>; v cells no bound: calls h3; v work no bound: calls h3
 2 => G J fun v (x : int list) : int = g(h5(h5(h5(h4(h3(h0(x))))))) => 9|| => raml: overflow: least v ticks column 2
 1 => K D fun f (x : int list) : int = match x with nil -> 0 | h :: t -> tick 531441 in f(d6(d5(d3(k6(d1(d0(t))))))) => 0| => f ticks no bound; f cells no bound: calls k6; f work no bound: calls k6

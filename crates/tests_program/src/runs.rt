@@ -32,18 +32,11 @@ fun main (x : int) : int = let x = x + 1 in let x = x + x in x; main; 1; 4; 0; 0
 fun main (x : int) : int = (tick 1 in x) + (tick 2 in x); main; -0; 0; 3; 0; 6
 fun main (a : int, b : int, c : int, d : int, e : int, f : int, g : int, h : int) : int = h - a; main; (1, 2, 3, 4, 5, 6, 7, 8); 7; 0; 0; 4
 fun append (x : int list, y : int list) : int list = match x with nil -> y | h :: t -> h :: append(t, y); append; ([1, 2, 3], [4]); [1, 2, 3, 4]; 0; 3; 34
-fun append (x : int list, y : int list) : int list = match x with nil -> y | h :: t -> h :: append(t, y) fun part
-    (p : int, l : int list) : int list * int list = match l with nil -> (nil, nil) | h :: t -> let
-    (a, b) = part(p, t) in tick 1 in if h < p then (h :: a, b) else (a, h :: b) fun qsort
-    (l : int list) : int list = match l with nil -> nil | h :: t -> let
-    (a, b) = part(h, t) in append(qsort(a), h :: qsort(b)); qsort; [3, 2, 1]; [1, 2, 3]; 3; 15; 190
-fun append (x : int list, y : int list) : int list = match x with nil -> y | h :: t -> h :: append(t, y) fun flat
-    (x : int list list) : int list = match x with nil -> nil | h :: t -> append(h, flat(t)); flat; [[1, 2], [], [3]]; [1, 2, 3]; 0; 3; 73
-fun append (x : int list, y : int list) : int list = match x with nil -> y | h :: t -> h :: append(t, y) fun flat
-    (x : int list list) : int list = match x with nil -> nil | h :: t -> append(h, flat(t)); flat; []; []; 0; 0; 4
+fun append (x : int list, y : int list) : int list = match x with nil -> y | h :: t -> h :: append(t, y) fun part (p : int, l : int list) : int list * int list = match l with nil -> (nil, nil) | h :: t -> let (a, b) = part(p, t) in tick 1 in if h < p then (h :: a, b) else (a, h :: b) fun qsort (l : int list) : int list = match l with nil -> nil | h :: t -> let (a, b) = part(h, t) in append(qsort(a), h :: qsort(b)); qsort; [3, 2, 1]; [1, 2, 3]; 3; 15; 190
+fun append (x : int list, y : int list) : int list = match x with nil -> y | h :: t -> h :: append(t, y) fun flat (x : int list list) : int list = match x with nil -> nil | h :: t -> append(h, flat(t)); flat; [[1, 2], [], [3]]; [1, 2, 3]; 0; 3; 73
+fun append (x : int list, y : int list) : int list = match x with nil -> y | h :: t -> h :: append(t, y) fun flat (x : int list list) : int list = match x with nil -> nil | h :: t -> append(h, flat(t)); flat; []; []; 0; 0; 4
 fun append (x : int list, y : int list) : int list = match x with nil -> y | h :: t -> h :: append(t, y) fun flatten (t : int tree) : int list = match t with leaf -> nil | node(a, l, r) -> append(flatten(l), a :: flatten(r)); flatten; node(2, node(1, leaf, leaf), node(3, leaf, leaf)); [1, 2, 3]; 0; 4; 74
-fun append (x : int list, y : int list) : int list = match x with nil -> y | h :: t -> h :: append(t, y) fun flatten
-    (t : int tree) : int list = match t with leaf -> nil | node(a, l, r) -> append(flatten(l), a :: flatten(r)); flatten; leaf; []; 0; 0; 4
+fun append (x : int list, y : int list) : int list = match x with nil -> y | h :: t -> h :: append(t, y) fun flatten (t : int tree) : int list = match t with leaf -> nil | node(a, l, r) -> append(flatten(l), a :: flatten(r)); flatten; leaf; []; 0; 0; 4
 fun half (x : int list) : int = match x with nil -> 0 | h :: t -> match t with nil -> 0 | k :: u -> tick 1 in half(u); half; [1, 2, 3]; 0; 1; 0; 20
 fun first (x : int list) : int option = match x with nil -> none | h :: t -> some(h); first; [7, 8]; some(7); 0; 1; 7
 fun first (x : int list) : int option = match x with nil -> none | h :: t -> some(h); first; []; none; 0; 0; 4
@@ -155,15 +148,12 @@ const ENDS: &str = "\
 fun append (x : int list, y : int list) : int list = match x with nil -> y | h :: t -> h :: append(t, y); append d --cells 2; ([1, 2, 3], [4]); 11 heap full / ticks 0 / cells 2 / instructions 30
 fun loop (x : int) : int = loop(x); loop d --steps 1000; 5; 10 stopped / ticks 0 / cells 0 / instructions 1000
 fun spin (x : int) : int = tick 1 in spin(x); spin d --steps 10; 5; 10 stopped / ticks 4 / cells 0 / instructions 10
-fun grow (n : int, t : int tree) : int tree = if n <= 0 then t else grow(n - 1, node(0, t, t)); grow d;
-    (2, leaf); 0 value node(0, node(0, leaf, leaf), node(0, leaf, leaf)) / ticks 0 / cells 2 / instructions 33
-fun grow (n : int, t : int tree) : int tree = if n <= 0 then t else grow(n - 1, node(0, t, t)); grow d;
-    (21, leaf); 0 value longer than 16777216 bytes / ticks 0 / cells 21 / instructions 280
+fun grow (n : int, t : int tree) : int tree = if n <= 0 then t else grow(n - 1, node(0, t, t)); grow d; (2, leaf); 0 value node(0, node(0, leaf, leaf), node(0, leaf, leaf)) / ticks 0 / cells 2 / instructions 33
+fun grow (n : int, t : int tree) : int tree = if n <= 0 then t else grow(n - 1, node(0, t, t)); grow d; (21, leaf); 0 value longer than 16777216 bytes / ticks 0 / cells 21 / instructions 280
 fun f (x : int list) : int = 0; f d; [1, 2; 5 raml: data: shape at 5
 fun f (x : int list) : int = 0; f d; ; 5 raml: data: shape at 0
 fun f (x : int) : int = x; f d; 9223372036854775808; 5 raml: data: shape at 0
-fun f (x : int option) : bool = match x with none -> false | some(i) -> true; f d; some
-    (-3); 0 value true / ticks 0 / cells 0 / instructions 6
+fun f (x : int option) : bool = match x with none -> false | some(i) -> true; f d; some (-3); 0 value true / ticks 0 / cells 0 / instructions 6
 fun f (x : int option) : bool = match x with none -> false | some(i) -> true; f d; some; 5 raml: data: shape at 4
 fun f (x : int option) : bool = match x with none -> false | some(i) -> true; f d; nil; 5 raml: data: shape at 0";
 

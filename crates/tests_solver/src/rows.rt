@@ -130,13 +130,13 @@ const SWEEPS: [Sweep; 6] = [
         listed: 2,
         placed: 10,
     },
-    // no number in the lead's column
+    // no number in the lead's column: the row is left as it is
     Sweep {
         row: &[(1, 4), (3, 1)],
         leads: &[(0, &[(0, 6), (3, 5)])],
         left: " 1:4 3:1",
         listed: 2,
-        placed: 4,
+        placed: 2,
     },
     // no number is left
     Sweep {

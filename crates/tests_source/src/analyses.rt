@@ -81,14 +81,10 @@ fn programs_have_their_bounds(rt: HostRuntime) -> Result<(), Fail> {
 
 // A program, the words of a run behind its file, data, and what is printed.
 const RUNS: &str = "\
-A => append d --degree 1 =>
-    ([1, 2, 3], [4]) => 0 value [1, 2, 3, 4]; ticks 0; cells 3; instructions 34; ticks bound 0; cells bound 3; work bound 25
-A => append d --degree 1 --steps 100 =>
-    ([1, 2, 3], [4]) => 0 value [1, 2, 3, 4]; ticks 0; cells 3; instructions 34; ticks bound 0; cells bound 3; work bound 25
-A => append d --degree 1 --steps 33 =>
-    ([1, 2, 3], [4]) => 10 stopped; ticks 0; cells 3; instructions 33; ticks bound 0; cells bound 3; work bound 25
-A => append d --degree 1 --cells 2 =>
-    ([1, 2, 3], [4]) => 11 heap full; ticks 0; cells 2; instructions 30; ticks bound 0; cells bound 3; work bound 25
+A => append d --degree 1 => ([1, 2, 3], [4]) => 0 value [1, 2, 3, 4]; ticks 0; cells 3; instructions 34; ticks bound 0; cells bound 3; work bound 25
+A => append d --degree 1 --steps 100 => ([1, 2, 3], [4]) => 0 value [1, 2, 3, 4]; ticks 0; cells 3; instructions 34; ticks bound 0; cells bound 3; work bound 25
+A => append d --degree 1 --steps 33 => ([1, 2, 3], [4]) => 10 stopped; ticks 0; cells 3; instructions 33; ticks bound 0; cells bound 3; work bound 25
+A => append d --degree 1 --cells 2 => ([1, 2, 3], [4]) => 11 heap full; ticks 0; cells 2; instructions 30; ticks bound 0; cells bound 3; work bound 25
 A fun part (p : int, l : int list) : int list * int list = match l with nil -> (nil, nil) | h :: t -> let (a, b) = part(p, t) in tick 1 in if h < p then (h :: a, b) else (a, h :: b) fun qsort (l : int list) : int list = match l with nil -> nil | h :: t -> let (a, b) = part(h, t) in append(qsort(a), h :: qsort(b)) => qsort d --degree 2 => [3, 2, 1] => 0 value [1, 2, 3]; ticks 3; cells 15; instructions 190; ticks bound 3; cells bound 15; work bound 145
 fun half (x : int list) : int = match x with nil -> 0 | h :: t -> match t with nil -> 0 | k :: u -> tick 1 in half(u) => half d --degree 1 => [1, 2, 3] => 0 value 0; ticks 1; cells 0; instructions 20; ticks bound 1; cells bound 0; work bound 14
 S => spin d --degree 1 --steps 10 => 5 => 10 stopped; ticks 4; cells 0; instructions 10; ticks bound none; cells bound 0; work bound none";

@@ -147,8 +147,7 @@ fun f (a : int) : int = f(a, a, a, a, a, a, a, a^, a) => too many at ^";
 pub(super) const TYPED: &str = "\
 fun f (x : int) : int = x => f (int) : int
 fun f (x : bool, y : int) : bool = x => f (bool, int) : bool
-fun f (a : int, b : int, c : int, d : int, e : int, g : int, h : int, i : bool) : bool = i => f
-    (int, int, int, int, int, int, int, bool) : bool
+fun f (a : int, b : int, c : int, d : int, e : int, g : int, h : int, i : bool) : bool = i => f (int, int, int, int, int, int, int, bool) : bool
 fun f (x : int * int) : int * int = x => f (int * int) : int * int
 fun f (x : (int * int) option list) : int option tree = leaf => f ((int * int) option list) : int option tree
 fun f (x : int list option option) : int option * int = (none, 0) => f (int list option option) : int option * int
@@ -203,8 +202,7 @@ fun f (x : int) : bool = x + 1 <= x * 2 => f (int) : bool
 fun f (x : int) : bool list = (x = 0) :: (x < 0) :: nil => f (int) : bool list
 fun f (x : int) : int = if if true then true else false then 1 else 2 => f (int) : int
 fun f (x : int list list) : int list = match x with nil -> nil | h :: t -> h => f (int list list) : int list
-fun f (x : int) : int = let y = (x, (true, x :: nil)) in let (a, b) = y in let
-    (c, d) = b in match d with nil -> a | h :: t -> h => f (int) : int
+fun f (x : int) : int = let y = (x, (true, x :: nil)) in let (a, b) = y in let (c, d) = b in match d with nil -> a | h :: t -> h => f (int) : int
 fun f' (x' : int) : int = x' => f' (int) : int
 fun fUN_2 (x : int) : int = x => fUN_2 (int) : int
 fun append (x : int list, y : int list) : int list = match x with nil -> y | h :: t -> h :: append(t, y) => append (int list, int list) : int list
