@@ -25,7 +25,7 @@ use Rattle.bound_compare.proofs.Weights.{has}
 
 -- the tuples of lists of integers pick elements
 
-index_picks : (n : ℕ) → IsIndex (picks n) (ListOf Integer)
+pub index_picks : (n : ℕ) → IsIndex (picks n) (ListOf Integer)
 index_picks zero = tt
 index_picks (suc n) = (tt, index_picks n)
 
@@ -37,7 +37,7 @@ count_picks : (n : ℕ) → entry_count (picks n) ≡ n
 count_picks zero = refl
 count_picks (suc n) = ap suc (count_picks n)
 
-counts_picks : (es : List ℕ) → counts (map picks es) ≡ es
+pub counts_picks : (es : List ℕ) → counts (map picks es) ≡ es
 counts_picks [] = refl
 counts_picks (e ∷ es) = λ i. count_picks e i ∷ counts_picks es i
 

@@ -1,6 +1,6 @@
 // Bounds as powers of element counts.
 ghost use Rattle.std.specs.Prelude.{◌≡◌, ◌≤◌, ◌<◌, ◌*◌, ◌^◌, ◌-ℤ◌, ◌≤ℤ◌, ◌<ℤ◌, ℕ, ℤ, pos, length, All, [], map, unsigned_abs, FitsSigned};
-ghost use Rattle.std.specs.Prelude.{IfOk, OnOk, IsErrOf, IsTrue};
+ghost use Rattle.std.specs.Prelude.{IfOk, OnOk, IsErrOf};
 ghost use Rattle.std.specs.Int.{w128};
 ghost use Rattle.std.specs.Option.{SomeIff};
 ghost use Rattle.std.specs.Str.{bytes_eq};
@@ -55,14 +55,13 @@ fn is_scalar(ty: &Ty) -> bool
     matches!(ty, Ty::Int | Ty::Bool)
 }
 
-/// The polynomial of a flat function in powers of its arguments' element counts, over 24 times its
-/// denominator.
+/// The polynomial in powers of its arguments' element counts, over 24 times its denominator. It is worth as much as
+/// the polynomial where the function is flat.
 ///
 /// `Leaves` where that does not fit 128 bits, or at some exponents the total of the numbers above 0 or
 /// of those below does not.
 pub fn powers(alloc: Global, poly: &Poly, params: &[Ty]) -> Result<PowerForm, PowerFault>
     requires poly { IsPoly poly.now }
-    requires flat { IsTrue (are_flat (context_of params.now)) }
     requires tuples { All (λ t. AreIndices t.0 (context_of params.now)) poly.now.terms.items }
     requires low { All (λ t. degrees t.0 ≤ 4) poly.now.terms.items }
     ensures den { IfOk result (λ form. form.den ≡ pos (24 * den_of poly.now)) }
