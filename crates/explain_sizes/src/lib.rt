@@ -13,7 +13,7 @@ mod tests;
 mod value;
 mod within;
 
-pub use open_size::OpenSize;
+pub use open_size::{OpenSize, fill_all};
 pub use size::Size;
 pub use value::value_at;
 pub use within::{Within, greatest_within};
