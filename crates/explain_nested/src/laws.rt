@@ -1,0 +1,7 @@
+// Laws: each is the contract of a function that does nothing.
+ghost use Rattle.explain_nested.specs.Laws.{MeansWhatCounts};
+
+/// A reading means what the base polynomial counts.
+pub fn means_what_counts()
+    ensures { MeansWhatCounts }
+{}

@@ -1,0 +1,4 @@
+//! Bounds of functions on nested data, as sums over elements of products of sizes.
+#![tactic(auto)]
+
+pub mod laws;
