@@ -1,5 +1,8 @@
 -- Sums over choices of elements that have a type.
 use Rattle.std.proofs.Common.{◌≡◌, ◌≤◌, ℕ, zero, suc, ◌+◌, ◌*◌, List, [], ◌∷◌, ◌++◌, map, length, refl, sym, ap, ◌∙◌, arith}
+use Rattle.std.specs.Prelude.{◌==◌, Bool, true}
+use Rattle.std.proofs.lemmas.Bool.{and_parts}
+use Rattle.std.proofs.lemmas.Bool.Decides.{nat_tests}
 use Rattle.raml_syntax.specs.Tree.{Type', ListOf, TreeOf}
 use Rattle.raml_syntax.specs.Value.{Value, Has, Empty, Cons, Node}
 use Rattle.base_poly.specs.Plain.{Plain, Unit', Pair, End, Then, NoEntry, OneEntry, deg, entry_count}
@@ -8,6 +11,7 @@ use Rattle.base_poly.specs.Base.{total, elements, choices, base, over}
 use Rattle.base_poly.specs.Laws.{choose}
 use Rattle.base_poly.proofs.Recursion.{types_have_zero}
 use Rattle.base_poly.proofs.Sums.{over_more, total_joined, total_map}
+use Rattle.explain_nested.specs.Reading.{are_zero}
 
 module _ (A : Type') where
   abbrev pub Have : List Value → Type 0
@@ -45,24 +49,19 @@ module _ (A : Type') where
 
   -- entries of degree 0
 
-  few_entries : (r : Plain) → entry_count r ≤ deg r
-  few_entries (Then i r) = let more = few_entries r in omega (arith, more)
-  few_entries Unit' = omega arith
-  few_entries (Pair i j) = omega arith
-  few_entries End = omega arith
-  few_entries NoEntry = omega arith
-  few_entries (OneEntry i) = omega arith
+  is_zero : (n : ℕ) → (n == 0) ≡ true → n ≡ 0
+  is_zero n h = grind (arith, nat_tests, h)
 
   is_one : (i : Plain) (v : Value) → IsIndex i A → Has v A → deg i ≡ 0 → base i v ≡ 1
   is_one i v m t d = let zero = types_have_zero A in ap (λ j. base j v) (zero.only i m d) ∙ zero.one v t
 
-  pub over_plain : (r : Plain) (vs : List Value) → IsIndex r (ListOf A) → Have vs → deg r ≡ entry_count r → over r vs ≡ choose (length vs) (entry_count r)
+  pub over_plain : (r : Plain) (vs : List Value) → IsIndex r (ListOf A) → Have vs → are_zero r ≡ true → over r vs ≡ choose (length vs) (entry_count r)
   over_plain End vs m t d = refl
   over_plain (Then i r) [] m t d = refl
   over_plain (Then i r) (v ∷ vs) m t d =
-      let few = few_entries r in
-      let here = is_one i v m.0 t.0 (omega (arith, d, few)) in
-      let others = over_plain r vs m.1 t.1 (omega (arith, d, few)) in
+      let zero = and_parts (deg i == 0) (are_zero r) d in
+      let here = is_one i v m.0 t.0 (is_zero (deg i) zero.0) in
+      let others = over_plain r vs m.1 t.1 zero.1 in
       let later = over_plain (Then i r) vs m t.1 d in
       let unit : 1 * choose (length vs) (entry_count r) ≡ choose (length vs) (entry_count r) = omega arith in
       over_more i r v vs ∙ (λ n. here n * others n + later n) ∙ ap (λ n. n + choose (length vs) (suc (entry_count r))) unit

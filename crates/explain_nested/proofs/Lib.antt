@@ -1,2 +1,3 @@
 mod Chosen
 mod Meaning
+mod Walking

@@ -12,7 +12,7 @@ use Rattle.base_poly.specs.Laws.{choose}
 use Rattle.base_poly.specs.Poly.{Term}
 use Rattle.base_poly.proofs.Sums.{total_scaled}
 use Rattle.poly_point.specs.Point.{worth}
-use Rattle.explain_nested.specs.Reading.{Place, Named, First, Second, Piece, Choices, Elements, Held, first_part, second_part, numbered, value_at, meaning, names_in, both, reading, entries_reading, tuple_reading}
+use Rattle.explain_nested.specs.Reading.{Place, Named, First, Second, Piece, Choices, Elements, Held, first_part, second_part, numbered, value_at, meaning, names_in, both, are_zero, reading, entries_reading, tuple_reading}
 use Rattle.explain_nested.specs.Laws.{MeansWhatCounts}
 use Rattle.explain_nested.proofs.Chosen.{Have, list_has, tree_has, total_chosen, over_plain}
 
@@ -57,7 +57,7 @@ stand_behind (x ∷ xs) vs m e =
 
 -- Readings one behind the other
 
-names_joined : (a b : List Piece) → names_in (a ++ b) ≡ names_in a + names_in b
+pub names_joined : (a b : List Piece) → names_in (a ++ b) ≡ names_in a + names_in b
 names_joined [] b = omega arith
 names_joined (Choices p k ∷ a) b = names_joined a b
 names_joined (Elements p k ∷ a) b = let more = names_joined a b in omega (arith, more)
@@ -155,15 +155,12 @@ module _ (i r : Plain) (reads : IndexReads i) (entries : EntriesRead r) where
     list_read : (p : Place) (vs : List Value) → IsIndex (Then i r) (ListOf A) → Have A (elements (value_at p vs)) →
         (n : ℕ) (rest : List Piece) (K : ℕ) → n ≡ length vs → Rests (names_in (reading (Then i r) p n)) rest K vs →
         meaning (reading (Then i r) p n ++ rest) vs ≡ over (Then i r) (elements (value_at p vs)) * K
-    list_read p vs m t n rest K e h = by (deg (Then i r) == suc (entry_count r)) (λ d. is_plain d) h
+    list_read p vs m t n rest K e h = by (are_zero (Then i r)) (λ d. d) h
       where
-        is_plain : (deg (Then i r) == suc (entry_count r)) ≡ true → deg (Then i r) ≡ suc (entry_count r)
-        is_plain d = grind (arith, nat_tests, d)
-
         behind : List Piece
         behind = both (reading i (Named n)) (entries_reading r (suc n)) (n + suc (entry_count r))
 
-        by : (b : Bool) → (b ≡ true → deg (Then i r) ≡ suc (entry_count r)) →
+        by : (b : Bool) → (b ≡ true → are_zero (Then i r) ≡ true) →
             Rests (names_in (cond b (Choices p (suc (entry_count r)) ∷ []) (Elements p (suc (entry_count r)) ∷ behind))) rest K vs →
             meaning (cond b (Choices p (suc (entry_count r)) ∷ []) (Elements p (suc (entry_count r)) ∷ behind) ++ rest) vs
             ≡ over (Then i r) (elements (value_at p vs)) * K
@@ -272,7 +269,7 @@ sum_means (t ∷ ts) As vs m h =
 -- How many elements are named
 
 mutual
-  few_named : (i : Plain) (p : Place) (n : ℕ) → names_in (reading i p n) ≤ deg i
+  pub few_named : (i : Plain) (p : Place) (n : ℕ) → names_in (reading i p n) ≤ deg i
   few_named Unit' p n = omega arith
   few_named (Pair i j) p n =
       let joined = names_joined (reading i (First p) n) (reading j (Second p) (n + names_in (reading i (First p) n))) in
@@ -280,7 +277,7 @@ mutual
       let second = few_named j (Second p) (n + names_in (reading i (First p) n)) in
       omega (arith, joined, first, second)
   few_named End p n = omega arith
-  few_named (Then i r) p n = by (deg (Then i r) == suc (entry_count r)) joined (few_named i (Named n) m) (few_in_entries r (suc n) (m + names_in (reading i (Named n) m)))
+  few_named (Then i r) p n = by (are_zero (Then i r)) joined (few_named i (Named n) m) (few_in_entries r (suc n) (m + names_in (reading i (Named n) m)))
     where
       m : ℕ
       m = n + suc (entry_count r)
@@ -296,7 +293,7 @@ mutual
   few_named NoEntry p n = omega arith
   few_named (OneEntry i) p n = let more = few_named i (Named n) (suc n) in omega (arith, more)
 
-  few_in_entries : (r : Plain) (m n : ℕ) → names_in (entries_reading r m n) + entry_count r ≤ deg r
+  pub few_in_entries : (r : Plain) (m n : ℕ) → names_in (entries_reading r m n) + entry_count r ≤ deg r
   few_in_entries (Then i r) m n =
       let joined = names_joined (reading i (Named m) n) (entries_reading r (suc m) (n + names_in (reading i (Named m) n))) in
       let first = few_named i (Named m) n in
@@ -304,7 +301,7 @@ mutual
       omega (arith, joined, first, second)
   few_in_entries r m n = omega arith
 
-many_degree : (is : List Plain) → deg (many is) ≡ degrees is + entry_count (many is)
+pub many_degree : (is : List Plain) → deg (many is) ≡ degrees is + entry_count (many is)
 many_degree [] = refl
 many_degree (i ∷ is) = let more = many_degree is in omega (arith, more)
 

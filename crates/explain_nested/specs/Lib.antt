@@ -1,2 +1,4 @@
 pub mod Reading
 pub mod Laws
+pub mod Read
+pub mod Text

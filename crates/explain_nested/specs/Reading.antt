@@ -1,5 +1,5 @@
 -- What a base polynomial counts, as a sum over elements of products of sizes.
-use Rattle.std.specs.Prelude.{ℕ, zero, suc, ◌+◌, ◌*◌, ◌==◌, cond, List, [], ◌∷◌, ◌++◌, length}
+use Rattle.std.specs.Prelude.{ℕ, zero, suc, ◌+◌, ◌*◌, ◌==◌, ◌&&◌, Bool, true, cond, List, [], ◌∷◌, ◌++◌, length}
 use Rattle.raml_syntax.specs.Value.{Value, Both, Empty}
 use Rattle.base_poly.specs.Plain.{Plain, Unit', Pair, End, Then, NoEntry, OneEntry, many, deg, entry_count}
 use Rattle.base_poly.specs.Base.{total, elements, choices, on_content}
@@ -55,6 +55,11 @@ names_in (Held p ∷ rest) = 1 + names_in rest
 abbrev pub both : (ℕ → List Piece) → (ℕ → List Piece) → ℕ → List Piece
 both first second n = first n ++ second (n + names_in (first n))
 
+-- each entry of a list index has degree 0
+abbrev pub are_zero : Plain → Bool
+are_zero (Then i r) = (deg i == 0) && are_zero r
+are_zero _ = true
+
 abbrev mutual
   -- The reading of an index at a value, where n is the next number. Entries of degree 0 count 1 at each element, so where a list index has
   -- no others it counts the ways to choose as many elements.
@@ -63,7 +68,7 @@ abbrev mutual
   reading (Pair i j) p n = both (reading i (First p)) (reading j (Second p)) n
   reading End p n = []
   reading (Then i r) p n =
-      cond (deg (Then i r) == suc (entry_count r)) (Choices p (suc (entry_count r)) ∷ [])
+      cond (are_zero (Then i r)) (Choices p (suc (entry_count r)) ∷ [])
       (Elements p (suc (entry_count r)) ∷ both (reading i (Named n)) (entries_reading r (suc n)) (n + suc (entry_count r)))
   reading NoEntry p n = []
   reading (OneEntry i) p n = Held p ∷ reading i (Named n) (suc n)

@@ -2,3 +2,7 @@
 #![tactic(auto)]
 
 pub mod laws;
+mod piece;
+mod reading;
+
+pub use piece::{Piece, Place};
