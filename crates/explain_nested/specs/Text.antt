@@ -1,6 +1,7 @@
 -- The text of a bound on nested data, such as `2·Σ(x in l) |x| + |l| + 1`.
-use Rattle.std.specs.Prelude.{◌≡◌, ℕ, ◌==◌, ◌&&◌, not, Bool, true, false, cond, List, [], ◌∷◌, ◌++◌, length, take, drop, filter, reverse, codes, decimal, slice_index_or}
+use Rattle.std.specs.Prelude.{◌≡◌, ℕ, ◌==◌, ◌&&◌, not, Bool, true, false, cond, List, [], ◌∷◌, ◌++◌, map, length, take, drop, filter, reverse, codes, decimal, slice_index_or}
 use Rattle.std.specs.Prelude.{IsSortedByKey, IsPermutation}
+use Rattle.std.specs.Borrow.{Bor}
 use Rattle.std.specs.List.{list_any}
 use Rattle.std.specs.Str.{bytes_eq}
 use Rattle.raml_syntax.specs.Tree.{Text}
@@ -8,6 +9,10 @@ use Rattle.base_poly.specs.Indices.{tuple_order}
 use Rattle.base_poly.specs.Poly.{Term}
 use Rattle.poly_text.specs.Text.{coefficient_text}
 use Rattle.explain_nested.specs.Reading.{Place, Named, First, Second, Piece, Choices, Elements, Held, tuple_reading}
+
+-- the texts that are lent
+abbrev pub texts : List (Bor (List ℕ)) → List Text
+texts = map (λ (text : Bor (List ℕ)). text.now)
 
 -- the letters that name elements
 abbrev pub letters : List Text

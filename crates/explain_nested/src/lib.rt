@@ -2,7 +2,11 @@
 #![tactic(auto)]
 
 pub mod laws;
+mod names;
+mod sums;
 mod piece;
 mod reading;
+mod text;
 
-pub use piece::{Piece, Place};
+pub use names::value_names;
+pub use sums::nested_sum;
