@@ -1,3 +1,4 @@
 pub mod Computed
 pub mod Counting
 pub mod Naming
+pub mod Worth

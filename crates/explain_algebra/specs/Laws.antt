@@ -1,13 +1,15 @@
 -- What holds nothing that has a size counts as a number does, and no power is left out.
-use Rattle.std.specs.Prelude.{◌≡◌, ◌≢◌, ◌≤◌, ◌&&◌, ℕ, pos, Bool, true, false, None, List, length, All, slice_index_or}
+use Rattle.std.specs.Prelude.{◌≡◌, ◌≢◌, ◌≤◌, ◌*◌, ◌&&◌, ℕ, pos, Bool, true, false, None, List, length, All, slice_index_or}
+use Rattle.std.specs.List.{list_all}
 use Rattle.raml_syntax.specs.Tree.{Type', Integer, Boolean, PairOf, ListOf, TreeOf}
-use Rattle.raml_syntax.specs.Value.{Value, Has}
-use Rattle.base_poly.specs.Plain.{Plain, deg, entry_count}
+use Rattle.raml_syntax.specs.Value.{Value, Has, HaveTypes}
+use Rattle.base_poly.specs.Plain.{Plain, deg, degrees, entry_count}
 use Rattle.base_poly.specs.Indices.{IsIndex, AreIndices, zero_of}
 use Rattle.base_poly.specs.Base.{base}
 use Rattle.base_poly.specs.Poly.{Term}
 use Rattle.bound_compare.specs.Laws.{picks}
-use Rattle.bound_compare.specs.Powers.{are_flat, power_at}
+use Rattle.poly_point.specs.Point.{worth}
+use Rattle.bound_compare.specs.Powers.{Powers, ArePowers, power_at, powers_worth, element_counts}
 use Rattle.explain_algebra.specs.Algebra.{size_names, name_at}
 
 -- a number, a truth value, or a pair of these
@@ -33,8 +35,23 @@ pub record CountAsNumbers : Type 0 where
   pub lists : (A : Type') → holds_no_size A ≡ true → CountsByEntries (ListOf A)
   pub trees : (A : Type') → holds_no_size A ≡ true → CountsByEntries (TreeOf A)
 
--- Each power that a flat function's polynomial has is written: at exponents of which one stands at a parameter without
--- a name, there is nothing.
+-- nothing in it has a size but the list or tree that it may be itself
+abbrev pub is_shallow : Type' → Bool
+is_shallow (ListOf A) = holds_no_size A
+is_shallow (TreeOf A) = holds_no_size A
+is_shallow A = holds_no_size A
+
+abbrev pub are_shallow : List Type' → Bool
+are_shallow As = list_all is_shallow As
+
+-- The powers of a polynomial over shallow parameters are worth, at the element counts of any arguments, 24 times what its
+-- terms are.
+abbrev pub PowersAreWorth : Type 0
+PowersAreWorth = (As : List Type') (ts : List Term) (ps : Powers) → are_shallow As ≡ true → All (λ t. AreIndices t.0 As) ts →
+    All (λ t. degrees t.0 ≤ 4) ts → ArePowers ts ps → (vs : List Value) → HaveTypes vs As →
+    powers_worth (element_counts vs) ps ≡ pos (24 * worth ts vs)
+
+-- Each power that it has is written: at exponents of which one stands at a parameter without a name, there is nothing.
 abbrev pub NoneIsUnnamed : Type 0
-NoneIsUnnamed = (As : List Type') (ts : List Term) → are_flat As ≡ true → length As ≤ 8 → All (λ t. AreIndices t.0 As) ts →
+NoneIsUnnamed = (As : List Type') (ts : List Term) → are_shallow As ≡ true → length As ≤ 8 → All (λ t. AreIndices t.0 As) ts →
     (es : List ℕ) (j : ℕ) → name_at (size_names As) j ≡ None → slice_index_or es j 0 ≢ 0 → power_at es ts ≡ pos 0

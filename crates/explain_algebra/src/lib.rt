@@ -8,4 +8,4 @@ mod names;
 
 pub use algebra::push_algebra;
 pub use legend::push_legend;
-pub use names::size_names;
+pub use names::{are_shallow, size_names};

@@ -3,6 +3,7 @@ ghost use Rattle.std.specs.Prelude.{◌≡◌, codes, IfOk};
 ghost use Rattle.raml_syntax.specs.Read.{ty_of};
 ghost use Rattle.base_poly.specs.Read.{context_of};
 ghost use Rattle.explain_algebra.specs.Algebra.{has_size, letter, name_at, size_names};
+ghost use Rattle.explain_algebra.specs.Laws.{holds_no_size, is_shallow, are_shallow};
 
 use raml_syntax::Ty;
 use std::alloc::{AllocError, Global};
@@ -25,6 +26,37 @@ pub fn size_names(alloc: Global, params: &[Ty]) -> Result<Vec<Option<char>>, All
         }
     }
     Ok(names)
+}
+
+/// Whether nothing in the parameters has a size but lists and trees that they are themselves.
+pub fn are_shallow(params: &[Ty]) -> bool
+    ensures { result ≡ are_shallow (context_of params.now) }
+{
+    for param in params {
+        if !is_shallow(param) {
+            return false;
+        }
+    }
+    true
+}
+
+fn is_shallow(ty: &Ty) -> bool
+    ensures { result ≡ is_shallow (ty_of ty.now) }
+{
+    match ty {
+        Ty::List(element) | Ty::Tree(element) => holds_no_size(element),
+        Ty::Int | Ty::Bool | Ty::Pair(..) | Ty::Opt(_) => holds_no_size(ty),
+    }
+}
+
+fn holds_no_size(ty: &Ty) -> bool
+    ensures { result ≡ holds_no_size (ty_of ty.now) }
+{
+    match ty {
+        Ty::Int | Ty::Bool => true,
+        Ty::Pair(first, second) => holds_no_size(first) && holds_no_size(second),
+        Ty::List(_) | Ty::Tree(_) | Ty::Opt(_) => false,
+    }
 }
 
 // The letter at this place, where there is one.

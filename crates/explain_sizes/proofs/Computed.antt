@@ -23,4 +23,11 @@ examples_hold = record {
   nothing_within = tt;
   longer_is_not_within = λ h. omega (arith, h.1);
   none_is_not_exact = λ h. h;
+  at_most = (omega arith, (omega arith, tt));
+  more_is_not_at_most = λ h. omega (arith, h.1.0);
+  outer_filled = refl;
+  inner_filled = refl;
+  kept_at_99 = refl;
+  all_at_20 = refl;
+  all_at_21 = refl;
 }

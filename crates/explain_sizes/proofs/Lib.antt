@@ -5,5 +5,7 @@ mod Told
 mod Computed
 mod Chosen
 mod Exactly
-mod Within
+mod Bounds
 mod Uniform
+mod Rising
+mod Keeping

@@ -4,7 +4,7 @@ use Rattle.raml_syntax.specs.Value.{Value}
 use Rattle.base_poly.specs.Poly.{Term, den_of, terms_of}
 use Rattle.base_poly.specs.declared.tuple.Poly.{Poly}
 use Rattle.poly_point.specs.Point.{worth}
-use Rattle.explain_sizes.specs.Sizes.{Sizes, HasExactly, AreWithin, HaveExactly}
+use Rattle.explain_sizes.specs.Sizes.{Sizes, HasExactly, AreWithin, HaveExactly, AreAtMost}
 use Rattle.explain_sizes.specs.Counts.{worth_at, whole_at}
 
 -- What a polynomial is at sizes is its worth at all values that have exactly these, and so is its whole part.
@@ -21,3 +21,8 @@ pub record BoundsWorthWithinSizes : Type 0 where
 -- Some value has exactly the sizes.
 abbrev pub SizesAreMet : Type 0
 SizesAreMet = (s : Sizes) → (v : Value) × HasExactly s v
+
+-- A polynomial rises with the sizes, and so does its whole part.
+pub record RisesWithSizes : Type 0 where
+  pub sum : (ts : List Term) (ss us : List Sizes) → AreAtMost ss us → worth_at ts ss ≤ worth_at ts us
+  pub whole : (p : Poly) (ss us : List Sizes) → 0 < den_of p → AreAtMost ss us → whole_at p ss ≤ whole_at p us

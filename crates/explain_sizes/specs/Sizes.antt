@@ -48,3 +48,17 @@ abbrev pub HaveExactly : List Sizes → List Value → Type 0
 HaveExactly [] [] = Unit {0}
 HaveExactly (s ∷ ss) (v ∷ vs) = HasExactly s v × HaveExactly ss vs
 HaveExactly _ _ = ⊥
+
+-- The sizes are of one form, and the first have at most as many elements as the second everywhere.
+abbrev pub IsAtMost : Sizes → Sizes → Type 0
+IsAtMost NoSize NoSize = Unit {0}
+IsAtMost (Parts s t) (Parts u v) = IsAtMost s u × IsAtMost t v
+IsAtMost (Content s) (Content u) = IsAtMost s u
+IsAtMost (Elements m s) (Elements n u) = (m ≤ n) × IsAtMost s u
+IsAtMost _ _ = ⊥
+
+-- one by one
+abbrev pub AreAtMost : List Sizes → List Sizes → Type 0
+AreAtMost [] [] = Unit {0}
+AreAtMost (s ∷ ss) (u ∷ us) = IsAtMost s u × AreAtMost ss us
+AreAtMost _ _ = ⊥

@@ -1,5 +1,5 @@
 // Laws of sizes: each is the contract of a function that does nothing.
-ghost use Rattle.explain_sizes.specs.Laws.{IsWorthAtExactSizes, BoundsWorthWithinSizes, SizesAreMet};
+ghost use Rattle.explain_sizes.specs.Laws.{IsWorthAtExactSizes, BoundsWorthWithinSizes, SizesAreMet, RisesWithSizes};
 ghost use Rattle.explain_sizes.specs.Example.{Examples};
 
 /// A polynomial at sizes is its worth where each list has exactly its size.
@@ -15,6 +15,11 @@ pub fn bounds_worth_within_sizes()
 /// Some value has exactly the sizes.
 pub fn sizes_are_met()
     ensures { SizesAreMet }
+{}
+
+/// A polynomial is no less at greater sizes.
+pub fn rises_with_sizes()
+    ensures { RisesWithSizes }
 {}
 
 /// Small sizes count what was worked out by hand.

@@ -5,7 +5,7 @@ ghost use Rattle.base_poly.specs.Poly.{IsPoly};
 ghost use Rattle.base_poly.specs.Read.{index_of};
 ghost use Rattle.poly_point.specs.Point.{AreLow};
 
-use crate::{Size, value_at};
+use crate::{OpenSize, Size, Within, greatest_within, value_at};
 use base_poly::{Index, Poly, Tuple};
 use std::alloc::{AllocError, Global};
 use std::test::Fail;
@@ -102,5 +102,62 @@ fn at_lists(alloc: Global, lists: u64, each: u64) -> Result<Option<u128>, AllocE
 #[test]
 fn lists_of_lists(rt: HostRuntime) -> Result<(), Fail> {
     assert_eq!(rt; at_lists(rt.alloc(), 10, 20)?, Some(900));
+    Ok(())
+}
+
+// At which lengths of a list of numbers the value is at most `most`.
+fn within_numbers(
+    alloc: Global,
+    number: u64,
+    few: usize,
+    den: u32,
+    most: u64,
+) -> Result<Within, AllocError>
+    requires { 0 < den }
+{
+    let poly = of_one(alloc, number, entries(alloc, few)?, den)?;
+    let open = OpenSize::List(None, Box::new(alloc, OpenSize::Unit)?);
+    let sizes = vec![in alloc; open]?;
+    greatest_within(alloc, &poly, &sizes, u128::from(most))
+}
+
+#[test]
+fn open_lists_of_numbers(rt: HostRuntime) -> Result<(), Fail> {
+    for (number, few, den, most, want) in [
+        (1, 2, 1, 4950, Within::UpTo(100)),
+        (1, 2, 1, 4949, Within::UpTo(99)),
+        (1, 1, 2, 3, Within::UpTo(7)),
+        (5, 0, 1, 5, Within::Any),
+        (5, 0, 1, 4, Within::Never),
+        (1, 1, 1, 9_999_999_999, Within::Any),
+        (1, 1, 1, 9_999_999_998, Within::UpTo(9_999_999_998)),
+        (1, 1, 1, 0, Within::UpTo(0)),
+        (u64::MAX, 1, 1, u64::MAX, Within::UpTo(0)),
+    ] {
+        assert!(rt; den > 0);
+        assert_eq!(rt; within_numbers(rt.alloc(), number, few, den, most)?, want);
+    }
+    Ok(())
+}
+
+// At which numbers in the open places an element of one list and a later list are at most 900.
+fn within_lists(
+    alloc: Global,
+    lists: Option<u64>,
+    each: Option<u64>,
+) -> Result<Within, AllocError> {
+    let first = entries(alloc, 1)?;
+    let later = entries(alloc, 0)?;
+    let poly = of_one(alloc, 1, Index::List(vec![in alloc; first, later]?), 1)?;
+    let inner = OpenSize::List(each, Box::new(alloc, OpenSize::Unit)?);
+    let sizes = vec![in alloc; OpenSize::List(lists, Box::new(alloc, inner)?)]?;
+    greatest_within(alloc, &poly, &sizes, 900)
+}
+
+#[test]
+fn open_lists_of_lists(rt: HostRuntime) -> Result<(), Fail> {
+    assert_eq!(rt; within_lists(rt.alloc(), None, Some(20))?, Within::UpTo(10));
+    assert_eq!(rt; within_lists(rt.alloc(), Some(10), None)?, Within::UpTo(20));
+    assert_eq!(rt; within_lists(rt.alloc(), Some(1), None)?, Within::Any);
     Ok(())
 }

@@ -1,4 +1,4 @@
-use Rattle.explain_sizes.proofs.Within.{bounds_worth}
+use Rattle.explain_sizes.proofs.Bounds.{bounds_worth}
 use Rattle.explain_sizes.proofs.laws.bounds_worth_within_sizes.Goals as goal
 
 pub returns : goal.returns

@@ -13,13 +13,13 @@ use Rattle.explain_sizes.specs.Counts.{counts, each_counts, tuple_counts, worth_
 use Rattle.explain_sizes.specs.Laws.{BoundsWorthWithinSizes}
 use Rattle.explain_sizes.proofs.Chosen.{choose_grows, one_entry_more}
 
-no_more : (m : ℕ) → m ≤ m
+pub no_more : (m : ℕ) → m ≤ m
 no_more m = omega arith
 
 least : (m : ℕ) → 0 ≤ m
 least m = omega arith
 
-products : (a b c d : ℕ) → a ≤ b → c ≤ d → a * c ≤ b * d
+pub products : (a b c d : ℕ) → a ≤ b → c ≤ d → a * c ≤ b * d
 products a b c d p q = grind (arith, p, q)
 
 module _ (s : Sizes) (i r : Plain) where

@@ -1,0 +1,5 @@
+mod Cuts
+mod Numbers
+mod Computed
+mod Open
+mod Reading

@@ -1,0 +1,6 @@
+pub mod Words
+pub mod Asked
+pub mod Read
+pub mod Text
+pub mod Laws
+pub mod Example

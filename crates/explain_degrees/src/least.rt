@@ -1,0 +1,112 @@
+// The analyses of a program from degree 1 on.
+ghost use Rattle.bound_infer.specs.declared.refusal.InferFault.TheVariants.{NoMemory};
+ghost use Rattle.std.specs.Prelude.{◌≡◌, ◌≢◌, ◌≤◌, ◌-◌, length, IfOk, OnOk, IsTrue};
+ghost use Rattle.annot_types.specs.Program.{Program};
+ghost use Rattle.share_normal.specs.Program.{source_in};
+ghost use Rattle.rules_plan.specs.Read.{program_in};
+ghost use Rattle.explain_degrees.specs.Degrees.{AreFindings, AreLeast, AllBounded};
+
+use crate::analysis::analyse;
+use crate::finding::Findings;
+use crate::noted::note_functions;
+use bound_infer::InferFault;
+use share_normal::NormProgram;
+use std::alloc::{AllocError, Global};
+
+/// A degree whose analysis was refused, and why.
+#[derive(Debug, Drop)]
+pub struct RefusedDegree {
+    pub degree: u8,
+    pub fault: InferFault,
+}
+
+/// What analyses up to a degree find.
+#[derive(Debug, Drop)]
+pub struct LeastBounds {
+    /// For each function, in the order of the source, what they find of it.
+    pub functions: Vec<Findings>,
+    /// The degrees whose analyses were refused.
+    pub refused: Vec<RefusedDegree>,
+}
+
+/// For each function of a program and each meter the bound of the least degree up to `most` at which there is one. A
+/// degree whose analysis a limit refuses does not hide the others.
+pub fn least_bounds(
+    alloc: Global,
+    program: &NormProgram<'_>,
+    most: u8,
+) -> Result<LeastBounds, AllocError>
+    requires { most ≤ 4 }
+    ensures { IfOk result (AreLeast (program_in program.now) (length (source_in program.now)) most) }
+{
+    let mut found = LeastBounds {
+        functions: nothing_found(alloc, program.functions().len())?,
+        refused: Vec::new(alloc),
+    };
+    let mut degree = 0;
+    while degree < most && !are_bounded(&found.functions) {
+        degree += 1;
+        add_degree(alloc, program, degree, &mut found)?;
+    }
+    Ok(found)
+}
+
+/// Adds what the analysis of one more degree finds.
+fn add_degree(
+    alloc: Global,
+    program: &NormProgram<'_>,
+    degree: u8,
+    found: &mut LeastBounds,
+) -> Result<(), AllocError>
+    requires least_degree { 1 ≤ degree }
+    requires most_degree { degree ≤ 4 }
+    requires before { AreLeast (program_in program.now) (length (source_in program.now)) (degree - 1) found.old }
+    ensures { OnOk result (AreLeast (program_in program.now) (length (source_in program.now)) degree found.new) }
+{
+    let _source = program.source();
+    match analyse(alloc, program, degree) {
+        Ok(verified) => note_functions(alloc, &mut found.functions, &verified, degree),
+        Err(fault) => {
+            found.refused.push(refused(degree, fault)?)?;
+            Ok(())
+        }
+    }
+}
+
+/// The degree with what refuses its analysis, unless memory was wanting.
+fn refused(degree: u8, fault: InferFault) -> Result<RefusedDegree, AllocError>
+    ensures degree { IfOk result (λ r. r.degree ≡ degree) }
+    ensures fault { IfOk result (λ r. r.fault ≡ fault) }
+    ensures refused { IfOk result (λ r. r.fault ≢ NoMemory) }
+{
+    match fault {
+        InferFault::NoMemory => Err(AllocError),
+        InferFault::TooLarge { task, what } => Ok(RefusedDegree {
+            degree,
+            fault: InferFault::TooLarge { task, what },
+        }),
+        InferFault::Leaves(at) => Ok(RefusedDegree {
+            degree,
+            fault: InferFault::Leaves(at),
+        }),
+    }
+}
+
+/// So many functions, of which nothing is found yet.
+fn nothing_found(alloc: Global, count: usize) -> Result<Vec<Findings>, AllocError>
+    ensures count { IfOk result (λ all. length all.items ≡ count) }
+    ensures found { (N : Program) → IfOk result (λ all. AreFindings N 0 all.items) }
+{
+    let mut functions = Vec::with_capacity(alloc, count)?;
+    for _ in 0..count {
+        functions.push(Findings::none())?;
+    }
+    Ok(functions)
+}
+
+/// Whether a bound is found of each function and meter.
+fn are_bounded(functions: &[Findings]) -> bool
+    ensures { IsTrue result → AllBounded functions.now }
+{
+    functions.iter().all(|findings| findings.are_bounded())
+}

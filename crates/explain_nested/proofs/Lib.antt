@@ -1,0 +1,5 @@
+mod Chosen
+mod Meaning
+mod Walking
+mod Ordering
+mod Computed
