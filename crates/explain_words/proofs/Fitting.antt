@@ -12,7 +12,7 @@ use Rattle.clap.specs.declared.error.kind.ErrorKind.TheVariants as kind
 use Rattle.clap.specs.declared.parser.matches.ArgMatches.{ArgMatches}
 use Rattle.clap.proofs.OnLiterals.{clap_on_literals}
 use Rattle.explain_words.specs.Apps.{app}
-use Rattle.explain_words.specs.Asking.{Means, Asks, IsMistake, GivesNone, IsTold, MeansNothing}
+use Rattle.explain_words.specs.Asking.{Means, Asks, IsMistake, GivesNone, IsTold, RefusesAll}
 use Rattle.explain_words.specs.declared.request.Request.{Request}
 use Rattle.explain_words.specs.declared.request.WordsFault.{WordsFault}
 use Rattle.explain_words.specs.declared.request.WordsFault.TheVariants.{Shown, Refused, NoMemory}
@@ -41,10 +41,10 @@ module _ (a : App) (words : List Text) (is : a ≡ app) where
   asks m (Err fault) kinds has means = tt
 
   pub asks_nothing : (m : ArgMatches) (r : Result Request WordsFault) → (is_simple_and_free a ≡ true → fault_of a words ≡ []) → HasMatchesOf a words m
-      → IfErr r (MeansNothing (subcommand_rows_of m)) → IfErr r (GivesNone words)
+      → IfErr r (RefusesAll (Means (subcommand_rows_of m))) → IfErr r (GivesNone words)
   asks_nothing m (Ok request) kinds has means = tt
   asks_nothing m (Err (Shown text)) kinds has means = absurd means
-  asks_nothing m (Err (Refused text)) kinds has means = inr (fits kinds, subst (λ command. MeansNothing command (Refused text)) (met m has) means)
+  asks_nothing m (Err (Refused text)) kinds has means = inr (fits kinds, subst (λ command. RefusesAll (Means command) (Refused text)) (met m has) means)
   asks_nothing m (Err NoMemory) kinds has means = tt
 
   pub refused : (e : Error) (fault : WordsFault) → (is_simple_and_free a ≡ true → HasKind (fault_of a words) e) → IsTold (kind_of e) fault → GivesNone words fault

@@ -19,8 +19,16 @@ files_rule = record (new_rule (codes "file")) {
   required = true;
 }
 
+-- `--data` with two values
+abbrev pub data_rule : Rule
+data_rule = record (new_rule (codes "data")) {
+  long = Some (codes "data");
+  range = Some (record { start_inclusive = 2; end_inclusive = 2 });
+  value_names = 2;
+}
+
 abbrev pub check_app : App
-check_app = with_rule (new_app (codes "check")) files_rule
+check_app = with_rule (with_rule (new_app (codes "check")) files_rule) data_rule
 
 -- the program before it has commands
 abbrev pub bare : App

@@ -1,5 +1,5 @@
 -- What words ask for, by what `clap` promises of the commands.
-use Rattle.std.specs.Prelude.{◌≡◌, ◌⊎◌, List, [], map, Option, Some, None, unwrap_or, codes}
+use Rattle.std.specs.Prelude.{◌≡◌, ◌⊎◌, List, [], ◌∷◌, map, Option, Some, None, unwrap_or, codes}
 use Rattle.std.specs.Borrow.{Bor}
 use Rattle.clap.specs.Kinds.{IsAmong}
 use Rattle.clap.specs.Walk.{Row, all_of}
@@ -10,7 +10,7 @@ use Rattle.clap.specs.declared.error.kind.ErrorKind.TheVariants as kind
 use Rattle.clap.specs.Walk.{Text}
 use Rattle.explain_words.specs.Apps.{app}
 use Rattle.explain_words.specs.declared.request.Request.{Request}
-use Rattle.explain_words.specs.declared.request.Request.TheVariants.{Check}
+use Rattle.explain_words.specs.declared.request.Request.TheVariants.{Check, CheckData}
 use Rattle.explain_words.specs.declared.request.WordsFault.{WordsFault}
 use Rattle.explain_words.specs.declared.request.WordsFault.TheVariants.{Shown, Refused, NoMemory}
 
@@ -22,9 +22,15 @@ texts = map (λ (text : Bor Text). text.now)
 abbrev pub values : Text → List Row → List Text
 values id rows = unwrap_or (all_of id rows) []
 
+-- what `check` asks for with these files, and with these words behind `--data`
+abbrev pub MeansCheck : List Text → List Text → Request → Type 0
+MeansCheck files behind (Check names) = (files ≡ texts names.items) × (behind ≡ [])
+MeansCheck files behind (CheckData file name input) = (files ≡ file.now ∷ []) × (behind ≡ name.now ∷ input.now ∷ [])
+
 -- what a command asks for with these values of its arguments
 abbrev pub Means : Option (Text × List Row) → Request → Type 0
-Means (Some command) (Check files) = (command.0 ≡ codes "check") × (values (codes "file") command.1 ≡ texts files.items)
+Means (Some command) request =
+    (command.0 ≡ codes "check") × MeansCheck (values (codes "file") command.1) (values (codes "data") command.1) request
 Means None request = ⊥
 
 -- a mistake, and no wish to see help or the version
@@ -60,8 +66,14 @@ IsTold k (Shown text) = (k ≡ kind.DisplayHelp) ⊎ (k ≡ kind.DisplayVersion)
 IsTold k (Refused text) = IsMistake k
 IsTold k NoMemory = Unit {0}
 
--- a command that asks for nothing is refused
-abbrev pub MeansNothing : Option (Text × List Row) → WordsFault → Type 0
-MeansNothing command (Refused text) = (request : Request) → Means command request → ⊥
-MeansNothing command (Shown text) = ⊥
-MeansNothing command NoMemory = Unit {0}
+-- what means nothing is refused
+abbrev pub RefusesAll : (Request → Type 0) → WordsFault → Type 0
+RefusesAll Means (Refused text) = (request : Request) → Means request → ⊥
+RefusesAll Means (Shown text) = ⊥
+RefusesAll Means NoMemory = Unit {0}
+
+-- a mistake is told, or memory ran out
+abbrev pub IsRefusal : WordsFault → Type 0
+IsRefusal (Refused text) = Unit {0}
+IsRefusal (Shown text) = ⊥
+IsRefusal NoMemory = Unit {0}

@@ -2,7 +2,7 @@
 ghost use Rattle.std.specs.Prelude.{◌≡◌, false, IfOk};
 ghost use Rattle.clap.specs.Simple.{app_of};
 ghost use Rattle.clap.specs.declared.builder.command.Command.TheViews.{out-Command as fields_of};
-ghost use Rattle.explain_words.specs.Apps.{bare, app, check_app, files_rule, IsArg};
+ghost use Rattle.explain_words.specs.Apps.{bare, app, check_app, files_rule, data_rule, IsArg};
 
 use clap::{Arg, ArgAction, Command};
 use std::alloc::{AllocError, Global};
@@ -38,9 +38,10 @@ fn check<'a>(alloc: Global) -> Result<Command<'a>, AllocError>
             "Says of each source what is wrong first, with line and column, and nothing where all are typed",
         )
         .after_help(
-            "Statuses: 0 where all are typed, 1 where one is not, 2 where a file can't be read.",
+            "Statuses: 0 where nothing is wrong, 1 where a source is not typed, 2 where a file can't be read or data is faulty.",
         );
-    command.arg(files(alloc))
+    let with_files = command.arg(files(alloc))?;
+    with_files.arg(data(alloc))
 }
 
 fn files<'a>(alloc: Global) -> Arg<'a>
@@ -52,4 +53,14 @@ fn files<'a>(alloc: Global) -> Arg<'a>
         .action(ArgAction::Append)
         .num_args(1..)
         .required(true)
+}
+
+fn data<'a>(alloc: Global) -> Arg<'a>
+    ensures { IsArg data_rule result }
+{
+    Arg::new(alloc, "data")
+        .long("data")
+        .value_names(&["NAME", "DATA"])
+        .help("Says what is wrong with the file DATA as arguments of the function NAME of one FILE")
+        .num_args(2)
 }

@@ -1,10 +1,10 @@
 // What a call may ask for.
-ghost use Rattle.std.specs.Prelude.{◌≡◌, IfOk, IfErr};
+ghost use Rattle.std.specs.Prelude.{◌≡◌, [], ◌∷◌, IfOk, IfErr};
 ghost use Rattle.clap.specs.Values.{kind_of};
 ghost use Rattle.clap.specs.Walk.{rows_of};
 ghost use Rattle.clap.specs.Matches.{found_of};
 ghost use Rattle.clap.specs.Simple.{subcommand_rows_of};
-ghost use Rattle.explain_words.specs.Asking.{texts, values, Means, Asks, GivesNone, IsTold, MeansNothing};
+ghost use Rattle.explain_words.specs.Asking.{texts, values, Means, Asks, MeansCheck, GivesNone, IsTold, IsRefusal, RefusesAll};
 
 use crate::commands::program;
 use clap::error::ErrorKind;
@@ -15,7 +15,15 @@ use std::alloc::{AllocError, Global};
 #[derive(Debug, Drop)]
 pub enum Request<'a> {
     /// Say what is wrong with the sources in these files.
-    Check { files: Vec<&'a str> },
+    Check {
+        files: Vec<&'a str>,
+    },
+    /// Say what is wrong with the data of the file `input`, as arguments of the function of this name in `file`.
+    CheckData {
+        file: &'a str,
+        name: &'a str,
+        input: &'a str,
+    },
 }
 
 /// Why words give no request.
@@ -69,15 +77,63 @@ fn fault_of(alloc: Global, error: &Error) -> WordsFault
 // The command that was met. There is one, since the program requires it.
 fn asked_by<'a>(alloc: Global, matches: &ArgMatches<'a>) -> Result<Request<'a>, WordsFault>
     ensures ok { IfOk result (Means (subcommand_rows_of matches.now)) }
-    ensures err { IfErr result (MeansNothing (subcommand_rows_of matches.now)) }
+    ensures err { IfErr result (RefusesAll (Means (subcommand_rows_of matches.now))) }
 {
     match matches.subcommand() {
-        Some(("check", found)) => Ok(Request::Check {
-            files: texts_of(alloc, found, "file")?,
+        Some(("check", found)) => {
+            let files = texts_of(alloc, found, "file")?;
+            let behind = texts_of(alloc, found, "data")?;
+            check_asked(alloc, files, &behind)
+        }
+        _ => Err(refusal(alloc, "error: no command is given\n")),
+    }
+}
+
+// What `check` asks for with these files, and with these words behind `--data`.
+fn check_asked<'a>(
+    alloc: Global,
+    files: Vec<&'a str>,
+    behind: &[&'a str],
+) -> Result<Request<'a>, WordsFault>
+    ensures ok { IfOk result (MeansCheck (texts files.entry.items) (texts behind.now)) }
+    ensures err { IfErr result (RefusesAll (MeansCheck (texts files.entry.items) (texts behind.now))) }
+{
+    match behind {
+        [] => Ok(Request::Check { files }),
+        [name, input] => data_asked(alloc, &files, *name, *input),
+        _ => Err(refusal(alloc, DATA_WORDS)),
+    }
+}
+
+// What `check` asks for with these files, and with a name and a file of data.
+fn data_asked<'a>(
+    alloc: Global,
+    files: &[&'a str],
+    name: &'a str,
+    input: &'a str,
+) -> Result<Request<'a>, WordsFault>
+    ensures ok { IfOk result (MeansCheck (texts files.now) (name.entry.now ∷ input.entry.now ∷ [])) }
+    ensures err { IfErr result (RefusesAll (MeansCheck (texts files.now) (name.entry.now ∷ input.entry.now ∷ []))) }
+{
+    match files {
+        [file] => Ok(Request::CheckData {
+            file: *file,
+            name,
+            input,
         }),
-        _ => Err(WordsFault::Refused {
-            text: String::from_str(alloc, "error: no command is given\n")?,
-        }),
+        _ => Err(refusal(alloc, DATA_WORDS)),
+    }
+}
+
+/// What is said of words that `--data` can't stand with.
+const DATA_WORDS: &str = "error: '--data <NAME> <DATA>' stands with one file\n";
+
+fn refusal(alloc: Global, text: &str) -> WordsFault
+    ensures { IsRefusal result }
+{
+    match String::from_str(alloc, text) {
+        Ok(text) => WordsFault::Refused { text },
+        Err(AllocError) => WordsFault::NoMemory,
     }
 }
 
