@@ -6,9 +6,12 @@ use Rattle.explain_check.specs.Checks.{FilesAre, texts}
 use Rattle.explain_check.specs.Stores.{Store}
 use Rattle.explain_check.specs.declared.verdict.Verdict.{Verdict}
 use Rattle.explain_check.specs.declared.verdict.Verdict.TheVariants as v
+use Rattle.explain_data.specs.Data.{CallIs}
+use Rattle.explain_data.specs.declared.finding.Finding.{Finding}
+use Rattle.explain_data.specs.declared.finding.Finding.TheVariants as f
 use Rattle.explain_words.specs.Asking.{Asks, AsksToShow, AsksNothing}
 use Rattle.explain_words.specs.declared.request.Request.{Request}
-use Rattle.explain_words.specs.declared.request.Request.TheVariants.{Check}
+use Rattle.explain_words.specs.declared.request.Request.TheVariants.{Check, CheckData}
 use Rattle.explain_top.specs.Sinks.{Sink, GainsNothing, Gains, GainsFront, Writes}
 use Rattle.explain_top.specs.declared.status.Status.{Status}
 use Rattle.explain_top.specs.declared.status.Status.TheVariants as s
@@ -25,6 +28,11 @@ status_of v.Typed = s.Done
 status_of v.Faulty = s.Faulty
 status_of v.Unread = s.Refused
 
+abbrev pub status_for : Finding → Status
+status_for f.Fits = s.Done
+status_for f.Untyped = s.Faulty
+status_for f.Refused = s.Refused
+
 -- memory ran out, and that is told
 abbrev pub LacksMemory : Sink → Status → Type 0
 LacksMemory err status = (status ≡ s.NoMemory) × Writes (codes "explain: out of memory\n") err
@@ -35,9 +43,16 @@ IsChecked store names err status =
     LacksMemory err status ⊎ ((verdict : Verdict) × (report : Text)
     × FilesAre store (texts names) verdict report × (status ≡ status_of verdict) × Writes report err)
 
+-- what is found of the data for a function, with a report of it; or memory ran out
+abbrev pub IsDataChecked : Store → Text → Text → Text → Sink → Status → Type 0
+IsDataChecked store file name input err status =
+    LacksMemory err status ⊎ ((finding : Finding) × (report : Text)
+    × CallIs store file name input finding report × (status ≡ status_for finding) × Writes report err)
+
 -- what a request asks for is done
 abbrev pub IsAnswer : Store → Request → Sink → Status → Type 0
 IsAnswer store (Check names) err status = IsChecked store names.items err status
+IsAnswer store (CheckData file name input) err status = IsDataChecked store file.now name.now input.now err status
 
 -- ---- whole calls
 

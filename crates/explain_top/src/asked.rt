@@ -2,11 +2,12 @@
 ghost use Rattle.std.specs.Prelude.{◌≡◌, ◌≤◌};
 ghost use Rattle.raml_syntax.specs.Tree.{Text};
 ghost use Rattle.explain_check.specs.Stores.{store_of};
-ghost use Rattle.explain_top.specs.Answers.{IsAnswer, IsChecked, LacksMemory};
+ghost use Rattle.explain_top.specs.Answers.{IsAnswer, IsChecked, IsDataChecked, LacksMemory};
 ghost use Rattle.explain_top.specs.Sinks.{sink_of};
 
 use crate::status::Status;
 use explain_check::{Verdict, check_files};
+use explain_data::check_call;
 use explain_words::Request;
 use raml_io::{Sink, Store, put_all};
 use std::alloc::{AllocError, Global};
@@ -28,6 +29,9 @@ pub fn answer<S: Store, E: Sink>(
 {
     match request {
         Request::Check { files } => check(alloc, files, store, err),
+        Request::CheckData { file, name, input } => {
+            check_data(alloc, *file, *name, *input, store, err)
+        }
     }
 }
 
@@ -43,6 +47,30 @@ fn check<S: Store, E: Sink>(alloc: Global, names: &[&str], store: &mut S, err: &
         Ok(verdict) => {
             let _ = put_all(err, report.as_bytes());
             Status::from(verdict)
+        }
+        Err(AllocError) => no_memory(err),
+    }
+}
+
+/// Checks the data in the file `input` for the function of this name in `file`, and writes what is wrong to `err`.
+fn check_data<S: Store, E: Sink>(
+    alloc: Global,
+    file: &str,
+    name: &str,
+    input: &str,
+    store: &mut S,
+    err: &mut E,
+) -> Status
+    ensures checked { IsDataChecked (store_of (S.holds store.old) (S.faults store.old) (S.faults store.new)) file.now name.now input.now
+        (sink_of (E.faults err.old) (E.faults err.new) (E.written err.old) (E.written err.new)) result }
+    ensures kept { S.holds store.new ≡ S.holds store.old }
+    ensures later { (name : Text) → S.faults store.old name ≤ S.faults store.new name }
+{
+    let mut report = String::new(alloc);
+    match check_call(alloc, store, file, name, input, &mut report) {
+        Ok(finding) => {
+            let _ = put_all(err, report.as_bytes());
+            Status::from(finding)
         }
         Err(AllocError) => no_memory(err),
     }
