@@ -52,7 +52,8 @@ fn check_in_program<S: Store>(
 ) -> Result<Finding, AllocError>
     requires parameters { HaveSomeParameters (program_of program.now) }
     ensures told { IfOk result (λ finding. (part : Text)
-        × ProgramIs (store_of (S.holds store.old) (S.faults store.old) (S.faults store.new)) (program_of program.now) file.now name.now data.now finding part
+        × ProgramIs (store_of (S.holds store.old) (S.faults store.old) (S.faults store.new)) (program_of program.now)
+        file.now name.now data.now finding part
         × (string_bytes report.new ≡ string_bytes report.old ++ part)) }
     ensures kept { S.holds store.new ≡ S.holds store.old }
     ensures later { (other : Text) → S.faults store.old other ≤ S.faults store.new other }
