@@ -1,39 +1,56 @@
 -- What is told of a file, and of several.
-use Rattle.std.proofs.Common.{◌≡◌, refl, sym, ap, ◌∙◌, ◌<◌, ◌≤◌, List, [], ◌∷◌, ◌++◌, length, take, Some, Result, Ok, Err, IfOk, arith}
+use Rattle.std.proofs.Common.{◌≡◌, refl, sym, ap, subst, ◌∙◌, ◌<◌, ◌≤◌, inl, inr, ⊎_elim, ℕ, ◌+◌, List, [], ◌∷◌, ◌++◌, length, take, Option, Some, None, IfSome, arith}
+use Rattle.std.proofs.lemmas.Bool.{cases_lt}
 use Rattle.std.proofs.lemmas.List.{append-nil, append_assoc, length-take, take_all}
 use Rattle.std.specs.Borrow.{Bor}
+use Rattle.raml_io.specs.Faults.{Rose}
 use Rattle.raml_io.specs.Files.{Files, IsFront}
 use Rattle.raml_syntax.specs.Tree.{Text}
-use Rattle.explain_check.specs.Checks.{FaultIs, FileIs, FilesAre, most_bytes, texts, worse}
+use Rattle.explain_check.specs.Checks.{FileIs, FilesAre, texts, worse}
+use Rattle.explain_check.specs.Stores.{store_of, Holds}
 use Rattle.explain_check.specs.declared.verdict.Verdict.{Verdict}
 use Rattle.explain_check.specs.declared.verdict.Verdict.TheVariants.{Typed, Faulty, Unread}
 
+-- what is told of the front of a file
+abbrev Fronts : Option Files → ℕ → Text → Text → Type 0
+Fronts holds most name bytes = IfSome holds (λ files. IsFront files name (most + 1) bytes)
+
 -- a front that is longer than the limit is one of a longer file
-pub too_long : (files : Files) (name bytes : Text) → IsFront files name 1048577 bytes → 1048576 < length bytes → (source : Text) × (files name ≡ Some source) × (most_bytes < length source)
-too_long files name bytes front h =
-    let cut : length bytes ≡ length (take 1048577 front.content) = ap length front.front in
-    let short = length-take 1048577 front.content in
+pub too_long : (holds : Option Files) (before after : Text → ℕ) (most : ℕ) (name bytes : Text) → Fronts holds most name bytes → most < length bytes
+    → (content : Text) × Holds (store_of holds before after) name content × (most < length content)
+too_long None before after most name bytes front h = (bytes, tt, h)
+too_long (Some files) before after most name bytes front h =
+    let cut : length bytes ≡ length (take (most + 1) front.content) = ap length front.front in
+    let short = length-take (most + 1) front.content in
     (front.content, front.held, omega arith)
 
 -- a front that is no longer is the whole file
-pub whole : (files : Files) (name bytes : Text) → IsFront files name 1048577 bytes → length bytes ≤ 1048576 → files name ≡ Some bytes
-whole files name bytes front h =
-    let cut : length bytes ≡ length (take 1048577 front.content) = ap length front.front in
-    let short = length-take 1048577 front.content in
-    let few : length front.content ≤ 1048577 = omega arith in
-    front.held ∙ ap Some (sym (take_all 1048577 front.content few) ∙ sym front.front)
+pub whole : (holds : Option Files) (before after : Text → ℕ) (most : ℕ) (name bytes : Text) → Fronts holds most name bytes → length bytes ≤ most
+    → Holds (store_of holds before after) name bytes
+whole None before after most name bytes front h = tt
+whole (Some files) before after most name bytes front h =
+    let cut : length bytes ≡ length (take (most + 1) front.content) = ap length front.front in
+    let short = length-take (most + 1) front.content in
+    let few : length front.content ≤ most + 1 = omega arith in
+    front.held ∙ ap Some (sym (take_all (most + 1) front.content few) ∙ sym front.front)
 
-of_source : (files : Files) (name source : Text) (verdict : Verdict) (part : Text) → files name ≡ Some source → length source ≤ most_bytes → FaultIs name source verdict part → FileIs files name verdict part
-of_source files name source Typed part held short is = (source, held, short, is)
-of_source files name source Faulty part held short is = (source, held, short, is)
-of_source files name source Unread part held short is = absurd is
+-- ---- over a longer time
 
--- what is told of the source of a file is told of the file
-pub of_file : {E : Type 0} (files : Files) (name source old new : Text) (result : Result Verdict E) → files name ≡ Some source → length source ≤ most_bytes
-    → IfOk result (λ verdict. (part : Text) × FaultIs name source verdict part × (new ≡ old ++ part))
-    → IfOk result (λ verdict. (part : Text) × FileIs files name verdict part × (new ≡ old ++ part))
-of_file files name source old new (Ok verdict) held short told = (told.0, of_source files name source verdict told.0 held short told.1, told.2)
-of_file files name source old new (Err e) held short told = tt
+-- no count falls
+abbrev pub Later : (Text → ℕ) → (Text → ℕ) → Type 0
+Later before after = (name : Text) → before name ≤ after name
+
+-- a count that rose in between rose
+rose : (a b c d : ℕ) → a ≤ b → b ≤ c → c ≤ d → Rose b c → Rose a d
+rose a b c d early mid late (inl less) = inl (omega arith)
+rose a b c d early mid late (inr last) = ⊎_elim (λ less. inl less) (λ more. inr (omega (arith, last))) (cases_lt a d)
+
+pub for_longer : (holds same : Option Files) (a b c d : Text → ℕ) (name : Text) (verdict : Verdict) (part : Text) → same ≡ holds → Later a b → Later b c → Later c d
+    → FileIs (store_of same b c) name verdict part → FileIs (store_of holds a d) name verdict part
+for_longer holds same a b c d name Typed part e early mid late told = subst (λ holds. FileIs (store_of holds a d) name Typed part) e told
+for_longer holds same a b c d name Faulty part e early mid late told = subst (λ holds. FileIs (store_of holds a d) name Faulty part) e told
+for_longer holds same a b c d name Unread part e early mid late (inl long) = subst (λ holds. FileIs (store_of holds a d) name Unread part) e (inl long)
+for_longer holds same a b c d name Unread part e early mid late (inr fails) = inr (rose (a name) (b name) (c name) (d name) (early name) (mid name) (late name) fails.0, fails.1)
 
 worse_typed : (v : Verdict) → worse v Typed ≡ v
 worse_typed Typed = refl
@@ -49,18 +66,23 @@ worse_assoc Faulty Faulty Unread = refl
 worse_assoc Faulty Unread w = refl
 worse_assoc Unread v w = refl
 
--- the files before these are told as `verdict` and `part`
-abbrev pub AreSoFar : Files → List (Bor Text) → List (Bor Text) → Verdict → Text → Type 0
-AreSoFar files all left verdict part = (others : Verdict) (rest : Text) → FilesAre files (texts left) others rest → FilesAre files (texts all) (worse verdict others) (part ++ rest)
+-- the files before these are told as `verdict` and `part`, whatever else is read later
+abbrev pub AreSoFar : Option Files → (Text → ℕ) → (Text → ℕ) → List (Bor Text) → List (Bor Text) → Verdict → Text → Type 0
+AreSoFar holds before now all left verdict part =
+    (after : Text → ℕ) → Later now after → (others : Verdict) (rest : Text) → FilesAre (store_of holds before after) (texts left) others rest
+    → FilesAre (store_of holds before after) (texts all) (worse verdict others) (part ++ rest)
 
-pub one_more : (files : Files) (all left later : List (Bor Text)) (name : Bor Text) (verdict next : Verdict) (part more : Text) → left ≡ name ∷ later
-    → AreSoFar files all left verdict part → FileIs files name.now next more → AreSoFar files all later (worse verdict next) (part ++ more)
-one_more files all left later name verdict next part more is so_far told others rest are =
+pub one_more : (holds same : Option Files) (before now next : Text → ℕ) (all left later : List (Bor Text)) (name : Bor Text) (verdict found : Verdict) (part more : Text) → left ≡ name ∷ later
+    → same ≡ holds → Later before now → Later now next → AreSoFar holds before now all left verdict part → FileIs (store_of same now next) name.now found more
+    → AreSoFar holds before next all later (worse verdict found) (part ++ more)
+one_more holds same before now next all left later name verdict found part more is e early mid so_far told after late others rest are =
     let from = rw is at so_far in
-    let step = from (worse next others) (more ++ rest) (next, others, more, rest, told, are, refl, refl) in
-    rw (← worse_assoc verdict next others, append_assoc part more rest) step
+    let first = for_longer holds same before now next after name.now found more e early mid late told in
+    let step = from after (λ n. omega (arith, mid n, late n)) (worse found others) (more ++ rest) (found, others, more, rest, first, are, refl, refl) in
+    rw (← worse_assoc verdict found others, append_assoc part more rest) step
 
-pub all_told : (files : Files) (all left : List (Bor Text)) (verdict : Verdict) (part : Text) → left ≡ [] → AreSoFar files all left verdict part → FilesAre files (texts all) verdict part
-all_told files all left verdict part is so_far =
+pub all_told : (holds : Option Files) (before now : Text → ℕ) (all left : List (Bor Text)) (verdict : Verdict) (part : Text) → left ≡ [] → AreSoFar holds before now all left verdict part
+    → FilesAre (store_of holds before now) (texts all) verdict part
+all_told holds before now all left verdict part is so_far =
     let from = rw is at so_far in
-    rw (worse_typed verdict, append-nil part) at (from Typed [] (refl, refl))
+    rw (worse_typed verdict, append-nil part) at (from now (λ n. omega arith) Typed [] (refl, refl))

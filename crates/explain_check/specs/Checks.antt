@@ -1,9 +1,12 @@
 -- What checks of sources and files tell.
-use Rattle.std.specs.Prelude.{◌≡◌, ℕ, ◌<◌, ◌≤◌, ◌⊎◌, List, [], ◌∷◌, ◌++◌, map, length, Some, Err, codes}
+use Rattle.std.specs.Prelude.{◌≡◌, ℕ, ◌≤◌, ◌⊎◌, List, [], ◌∷◌, ◌++◌, map, length, Option, Some, None, Err, codes}
 use Rattle.std.specs.Fmt.{decimal}
 use Rattle.std.specs.Borrow.{Bor}
-use Rattle.raml_io.specs.Files.{Files}
-use Rattle.raml_syntax.specs.Tree.{Text, Prog}
+use Rattle.std.specs.List.{All}
+use Rattle.raml_syntax.specs.Tree.{Text, Function, Prog}
+use Rattle.raml_syntax.specs.Node.{WithinLimits}
+use Rattle.raml_syntax.specs.Read.{program_of}
+use Rattle.raml_syntax.specs.declared.program.Program.{Program}
 use Rattle.raml_syntax.specs.Types.{Typed}
 use Rattle.raml_parse.specs.Spelling.{Spells, FirstFault}
 use Rattle.raml_parse.specs.declared.fault.ParseFault.{ParseFault}
@@ -13,6 +16,7 @@ use Rattle.simple_types.specs.Walk.{walk_program}
 use Rattle.simple_types.specs.declared.fault.TypeFault.{TypeFault}
 use Rattle.explain_messages.specs.Places.{syntax_place, type_place}
 use Rattle.explain_places.specs.Places.{line, column}
+use Rattle.explain_check.specs.Stores.{Store, Holds, Unread}
 use Rattle.explain_check.specs.declared.verdict.Verdict.{Verdict}
 use Rattle.explain_check.specs.declared.verdict.Verdict.TheVariants as v
 
@@ -38,10 +42,6 @@ abbrev pub fault_head : Text → Text → ℕ → Text
 fault_head name source at =
     name ++ (codes ":" ++ (decimal (line source at) ++ (codes ":" ++ (decimal (column source at) ++ codes ": error: "))))
 
--- NAME: error: WHY
-abbrev pub error_line : Text → Text → Text
-error_line name why = name ++ (codes ": error: " ++ (why ++ codes "\n"))
-
 abbrev pub worse : Verdict → Verdict → Verdict
 worse v.Unread other = v.Unread
 worse v.Faulty v.Unread = v.Unread
@@ -54,6 +54,18 @@ FaultIs name source v.Typed part = IsTypedSource source × (part ≡ [])
 FaultIs name source v.Faulty part = (at : ℕ) × (rest : Text) × RefusedAt source at × (part ≡ fault_head name source at ++ rest)
 FaultIs name source v.Unread part = ⊥
 
+-- the source spells this typed program, which keeps the limits of programs
+pub record IsProgramOf (source : Text) (P : Prog) : Type 0 where
+  pub spelled : Spells source P
+  pub typed : Typed P
+  pub limits : WithinLimits P
+  pub parameters : All (λ (g : Function). 1 ≤ length g.params) P
+
+-- a source that spells a typed program, of which nothing is told, or that spells none
+abbrev pub SourceGives : Text → Text → Option Program → Text → Type 0
+SourceGives name source (Some program) part = IsProgramOf source (program_of program) × (part ≡ [])
+SourceGives name source None part = FaultIs name source v.Faulty part
+
 abbrev pub most_bytes : ℕ
 most_bytes = 1048576
 
@@ -61,17 +73,15 @@ most_bytes = 1048576
 abbrev pub texts : List (Bor Text) → List Text
 texts = map (λ (name : Bor Text). name.now)
 
--- what is told of a file: that of its source, or that it is longer than a source may be, or that the store failed
-abbrev pub FileIs : Files → Text → Verdict → Text → Type 0
-FileIs files name v.Unread part =
-    ((source : Text) × (files name ≡ Some source) × (most_bytes < length source)
-    × (part ≡ error_line name (codes "longer than 1048576 bytes"))) ⊎ (part ≡ error_line name (codes "cannot be read"))
-FileIs files name verdict part =
-    (source : Text) × (files name ≡ Some source) × (length source ≤ most_bytes) × FaultIs name source verdict part
+-- what is told of a file: that of its source, or that it is not read
+abbrev pub FileIs : Store → Text → Verdict → Text → Type 0
+FileIs store name v.Unread part = Unread store most_bytes name part
+FileIs store name verdict part =
+    (source : Text) × Holds store name source × (length source ≤ most_bytes) × FaultIs name source verdict part
 
 -- what is told of files: the worst, and all parts in order
-abbrev pub FilesAre : Files → List Text → Verdict → Text → Type 0
-FilesAre files [] verdict parts = (verdict ≡ v.Typed) × (parts ≡ [])
-FilesAre files (name ∷ names) verdict parts =
-    (first : Verdict) × (others : Verdict) × (part : Text) × (rest : Text) × FileIs files name first part
-    × FilesAre files names others rest × (verdict ≡ worse first others) × (parts ≡ part ++ rest)
+abbrev pub FilesAre : Store → List Text → Verdict → Text → Type 0
+FilesAre store [] verdict parts = (verdict ≡ v.Typed) × (parts ≡ [])
+FilesAre store (name ∷ names) verdict parts =
+    (first : Verdict) × (others : Verdict) × (part : Text) × (rest : Text) × FileIs store name first part
+    × FilesAre store names others rest × (verdict ≡ worse first others) × (parts ≡ part ++ rest)

@@ -1,17 +1,18 @@
 // Checks of files.
-ghost use Rattle.std.specs.Prelude.{◌≡◌, ◌++◌, Some, IfOk, string_bytes};
-ghost use Rattle.raml_io.specs.Files.{Files};
+ghost use Rattle.std.specs.Prelude.{◌≡◌, ◌≤◌, ◌++◌, IfOk, string_bytes};
 ghost use Rattle.raml_syntax.specs.Tree.{Text};
 ghost use Rattle.explain_check.specs.Checks.{FileIs, FilesAre, texts};
+ghost use Rattle.explain_check.specs.Stores.{store_of};
 
+use crate::read::read_file;
 use crate::report::push_error;
 use crate::source::check_source;
 use crate::verdict::Verdict;
-use raml_io::{Store, StoreFault};
+use raml_io::Store;
 use std::alloc::{AllocError, Global};
 
 /// The limit of a source, in bytes.
-const MOST: u64 = 1_048_576;
+pub const MOST_BYTES: u64 = 1_048_576;
 
 /// Checks the files of these names, one by one, and gives the worst that is found. What is wrong with them is appended
 /// to the report, in order.
@@ -21,10 +22,11 @@ pub fn check_files<S: Store>(
     names: &[&str],
     report: &mut String,
 ) -> Result<Verdict, AllocError>
-    ensures told { (files : Files) → S.holds store.old ≡ Some files →
-        IfOk result (λ verdict. (part : Text) × FilesAre files (texts names.now) verdict part
+    ensures told { IfOk result (λ verdict. (part : Text)
+        × FilesAre (store_of (S.holds store.old) (S.faults store.old) (S.faults store.new)) (texts names.now) verdict part
         × (string_bytes report.new ≡ string_bytes report.old ++ part)) }
     ensures kept { S.holds store.new ≡ S.holds store.old }
+    ensures later { (name : Text) → S.faults store.old name ≤ S.faults store.new name }
 {
     let mut verdict = Verdict::Typed;
     for name in names {
@@ -41,23 +43,14 @@ fn check_file<S: Store>(
     name: &str,
     report: &mut String,
 ) -> Result<Verdict, AllocError>
-    ensures told { (files : Files) → S.holds store.old ≡ Some files →
-        IfOk result (λ verdict. (part : Text) × FileIs files name.now verdict part
+    ensures told { IfOk result (λ verdict. (part : Text)
+        × FileIs (store_of (S.holds store.old) (S.faults store.old) (S.faults store.new)) name.now verdict part
         × (string_bytes report.new ≡ string_bytes report.old ++ part)) }
     ensures kept { S.holds store.new ≡ S.holds store.old }
+    ensures later { (other : Text) → S.faults store.old other ≤ S.faults store.new other }
 {
-    match store.read(alloc, name, MOST + 1) {
-        Ok(source) => {
-            if source.len() as u64 > MOST {
-                push_error(name, "longer than 1048576 bytes", report)?;
-                return Ok(Verdict::Unread);
-            }
-            check_source(alloc, name, &source, report)
-        }
-        Err(StoreFault::Failed) => {
-            push_error(name, "cannot be read", report)?;
-            Ok(Verdict::Unread)
-        }
-        Err(StoreFault::NoMemory) => Err(AllocError),
+    match read_file(alloc, store, name, MOST_BYTES, report)? {
+        Some(source) => check_source(alloc, name, &source, report),
+        None => Ok(Verdict::Unread),
     }
 }

@@ -2,10 +2,13 @@
 #![tactic(auto)]
 
 mod files;
+mod read;
 mod report;
 mod source;
 mod verdict;
 
-pub use files::check_files;
-pub use source::check_source;
+pub use files::{MOST_BYTES, check_files};
+pub use read::read_file;
+pub use report::{push_error, push_fault};
+pub use source::{check_source, typed_source};
 pub use verdict::Verdict;

@@ -1,9 +1,10 @@
 // The report of a fault: its place and what is wrong, the line, a caret below the place, and a hint.
 ghost use Rattle.std.specs.Prelude.{◌≡◌, ◌++◌, OnOk, string_bytes};
 ghost use Rattle.raml_syntax.specs.Tree.{Text};
-ghost use Rattle.explain_check.specs.Checks.{fault_head, error_line};
+ghost use Rattle.explain_check.specs.Checks.{fault_head};
+ghost use Rattle.explain_check.specs.Stores.{error_line, length_line};
 
-use explain_messages::Message;
+use explain_messages::{Hint, Message};
 use explain_places::{Place, caret, line_at};
 use std::alloc::{AllocError, Global};
 use std::fmt::Write;
@@ -11,7 +12,7 @@ use std::fmt::Write;
 /// What stands for a character that can't be shown.
 const NOT_SHOWN: char = '\u{fffd}';
 
-/// Appends the report of a fault of the source of this name.
+/// Appends the report of a fault of the source of this name, with its hint.
 pub(crate) fn push_message(
     alloc: Global,
     name: &str,
@@ -22,41 +23,62 @@ pub(crate) fn push_message(
     ensures { OnOk result ((rest : Text)
         × (string_bytes report.new ≡ string_bytes report.old ++ (fault_head name.now source.now message.now ++ rest))) }
 {
-    push_head(name, source, message.at(), report)?;
-    push_body(alloc, source, message, report)
+    push_fault(alloc, name, source, message.at(), message.text(), report)?;
+    match message.hint() {
+        Some(hint) => push_hint(hint, report),
+        None => Ok(()),
+    }
+}
+
+/// Appends what is wrong at a byte of the text of this name: the place, a message of one line, and the line with a caret
+/// below the place.
+pub fn push_fault(
+    alloc: Global,
+    name: &str,
+    text: &[u8],
+    at: usize,
+    message: &str,
+    report: &mut String,
+) -> Result<(), AllocError>
+    ensures { OnOk result ((rest : Text)
+        × (string_bytes report.new ≡ string_bytes report.old ++ (fault_head name.now text.now at ++ rest))) }
+{
+    push_head(name, text, at, report)?;
+    push_body(alloc, text, at, message, report)
 }
 
 /// Appends where the fault stands, as `NAME:LINE:COLUMN: error: `.
-fn push_head(name: &str, source: &[u8], at: usize, report: &mut String) -> Result<(), AllocError>
-    ensures { OnOk result (string_bytes report.new ≡ string_bytes report.old ++ fault_head name.now source.now at) }
+fn push_head(name: &str, text: &[u8], at: usize, report: &mut String) -> Result<(), AllocError>
+    ensures { OnOk result (string_bytes report.new ≡ string_bytes report.old ++ fault_head name.now text.now at) }
 {
-    let place = Place::of(source, at);
+    let place = Place::of(text, at);
     write!(report, "{name}:{place}: error: ")
 }
 
-/// Appends what is wrong, the line with a caret below the place, and the hint.
+/// Appends what is wrong, and the line with a caret below the place.
 fn push_body(
     alloc: Global,
-    source: &[u8],
-    message: &Message,
+    text: &[u8],
+    at: usize,
+    message: &str,
     report: &mut String,
 ) -> Result<(), AllocError>
     ensures { OnOk result ((rest : Text) × (string_bytes report.new ≡ string_bytes report.old ++ rest)) }
 {
-    report.push_str(message.text())?;
+    report.push_str(message)?;
     report.push('\n')?;
-    push_line(line_at(source, message.at()), report)?;
+    push_line(line_at(text, at), report)?;
     report.push('\n')?;
-    report.push_str(caret(alloc, source, message.at())?.as_str())?;
-    report.push('\n')?;
-    match message.hint() {
-        Some(hint) => {
-            report.push_str("hint: ")?;
-            report.push_str(hint.text())?;
-            report.push('\n')
-        }
-        None => Ok(()),
-    }
+    report.push_str(caret(alloc, text, at)?.as_str())?;
+    report.push('\n')
+}
+
+fn push_hint(hint: Hint, report: &mut String) -> Result<(), AllocError>
+    ensures { OnOk result ((rest : Text) × (string_bytes report.new ≡ string_bytes report.old ++ rest)) }
+{
+    report.push_str("hint: ")?;
+    report.push_str(hint.text())?;
+    report.push('\n')
 }
 
 /// Appends a line of a source, as a terminal can show it.
@@ -94,9 +116,16 @@ fn push_bytes(line: &[u8], report: &mut String) -> Result<(), AllocError>
     Ok(())
 }
 
-/// Appends that a file is refused as a whole, as `NAME: error: WHY`.
-pub(crate) fn push_error(name: &str, why: &str, report: &mut String) -> Result<(), AllocError>
+/// Appends what is wrong with a file as a whole, as `NAME: error: WHY`.
+pub fn push_error(name: &str, why: &str, report: &mut String) -> Result<(), AllocError>
     ensures { OnOk result (string_bytes report.new ≡ string_bytes report.old ++ error_line name.now why.now) }
 {
     write!(report, "{name}: error: {why}\n")
+}
+
+/// Appends that a file is longer than it may be.
+pub(crate) fn push_too_long(name: &str, most: u64, report: &mut String) -> Result<(), AllocError>
+    ensures { OnOk result (string_bytes report.new ≡ string_bytes report.old ++ length_line name.now most) }
+{
+    write!(report, "{name}: error: longer than {most} bytes\n")
 }

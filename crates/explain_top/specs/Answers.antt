@@ -1,14 +1,18 @@
 -- How calls of `explain` end, and what they write.
-use Rattle.std.specs.Prelude.{◌≡◌, ℕ, ◌⊎◌, List, Option}
-use Rattle.raml_io.specs.Files.{Files}
-use Rattle.raml_io.specs.Written.{grown, GrewByFront}
-use Rattle.raml_syntax.specs.Tree.{Text}
+use Rattle.std.specs.Prelude.{◌≡◌, ◌⊎◌, ℕ, List, codes}
 use Rattle.std.specs.Borrow.{Bor}
+use Rattle.raml_syntax.specs.Tree.{Text}
 use Rattle.explain_check.specs.Checks.{FilesAre, texts}
+use Rattle.explain_check.specs.Stores.{Store}
 use Rattle.explain_check.specs.declared.verdict.Verdict.{Verdict}
 use Rattle.explain_check.specs.declared.verdict.Verdict.TheVariants as v
+use Rattle.explain_data.specs.Data.{CallIs}
+use Rattle.explain_data.specs.declared.finding.Finding.{Finding}
+use Rattle.explain_data.specs.declared.finding.Finding.TheVariants as f
+use Rattle.explain_words.specs.Asking.{Asks, AsksToShow, AsksNothing}
 use Rattle.explain_words.specs.declared.request.Request.{Request}
-use Rattle.explain_words.specs.declared.request.Request.TheVariants.{Check}
+use Rattle.explain_words.specs.declared.request.Request.TheVariants.{Check, CheckData}
+use Rattle.explain_top.specs.Sinks.{Sink, GainsNothing, Gains, GainsFront, Writes}
 use Rattle.explain_top.specs.declared.status.Status.{Status}
 use Rattle.explain_top.specs.declared.status.Status.TheVariants as s
 
@@ -24,15 +28,52 @@ status_of v.Typed = s.Done
 status_of v.Faulty = s.Faulty
 status_of v.Unread = s.Refused
 
--- all of a text was written, or a front of it, where the sink failed
-abbrev pub Writes : Option Text → Option Text → Text → Type 0
-Writes old new text = (new ≡ grown old text) ⊎ GrewByFront old new text
+abbrev pub status_for : Finding → Status
+status_for f.Fits = s.Done
+status_for f.Untyped = s.Faulty
+status_for f.Refused = s.Refused
+
+-- memory ran out, and that is told
+abbrev pub LacksMemory : Sink → Status → Type 0
+LacksMemory err status = (status ≡ s.NoMemory) × Writes (codes "explain: out of memory\n") err
 
 -- the worst of what is found in the files, with a report of it; or memory ran out
-abbrev pub IsChecked : Files → List (Bor Text) → Option Text → Option Text → Status → Type 0
-IsChecked files names old new status =
-    (status ≡ s.NoMemory) ⊎ ((verdict : Verdict) × (report : Text)
-    × FilesAre files (texts names) verdict report × (status ≡ status_of verdict) × Writes old new report)
+abbrev pub IsChecked : Store → List (Bor Text) → Sink → Status → Type 0
+IsChecked store names err status =
+    LacksMemory err status ⊎ ((verdict : Verdict) × (report : Text)
+    × FilesAre store (texts names) verdict report × (status ≡ status_of verdict) × Writes report err)
 
-abbrev pub IsAnswer : Files → Request → Option Text → Option Text → Status → Type 0
-IsAnswer files (Check names) old new status = IsChecked files names.items old new status
+-- what is found of the data for a function, with a report of it; or memory ran out
+abbrev pub IsDataChecked : Store → Text → Text → Text → Sink → Status → Type 0
+IsDataChecked store file name input err status =
+    LacksMemory err status ⊎ ((finding : Finding) × (report : Text)
+    × CallIs store file name input finding report × (status ≡ status_for finding) × Writes report err)
+
+-- what a request asks for is done
+abbrev pub IsAnswer : Store → Request → Sink → Status → Type 0
+IsAnswer store (Check names) err status = IsChecked store names.items err status
+IsAnswer store (CheckData file name input) err status = IsDataChecked store file.now name.now input.now err status
+
+-- ---- whole calls
+
+-- the words ask for something, and that is done
+abbrev pub Answered : List Text → Store → Sink → Sink → Status → Type 0
+Answered words store out err status =
+    (request : Request) × Asks words request × IsAnswer store request err status × GainsNothing out
+
+-- the words ask for help or for the version, which is written to out, or not as a whole
+abbrev pub Showed : List Text → Sink → Sink → Status → Type 0
+Showed words out err status =
+    AsksToShow words × GainsNothing err × ((text : Text)
+    × (((status ≡ s.Done) × Gains text out) ⊎ ((status ≡ s.WriteFault) × GainsFront text out)))
+
+-- the words ask for nothing, and that is told
+abbrev pub RefusedWords : List Text → Sink → Sink → Status → Type 0
+RefusedWords words out err status =
+    AsksNothing words × (status ≡ s.Refused) × GainsNothing out × ((text : Text) × Writes text err)
+
+-- why a call ends so, and what it writes
+abbrev pub Cause : List Text → Store → Sink → Sink → Status → Type 0
+Cause words store out err status =
+    (LacksMemory err status × GainsNothing out) ⊎ (Answered words store out err status
+    ⊎ (Showed words out err status ⊎ RefusedWords words out err status))

@@ -1,11 +1,13 @@
 // What a request asks for.
-ghost use Rattle.std.specs.Prelude.{◌≡◌, Some};
-ghost use Rattle.raml_io.specs.Files.{Files};
+ghost use Rattle.std.specs.Prelude.{◌≡◌, ◌≤◌};
 ghost use Rattle.raml_syntax.specs.Tree.{Text};
-ghost use Rattle.explain_top.specs.Answers.{IsAnswer, IsChecked};
+ghost use Rattle.explain_check.specs.Stores.{store_of};
+ghost use Rattle.explain_top.specs.Answers.{IsAnswer, IsChecked, IsDataChecked, LacksMemory};
+ghost use Rattle.explain_top.specs.Sinks.{sink_of};
 
 use crate::status::Status;
 use explain_check::{Verdict, check_files};
+use explain_data::check_call;
 use explain_words::Request;
 use raml_io::{Sink, Store, put_all};
 use std::alloc::{AllocError, Global};
@@ -20,20 +22,25 @@ pub fn answer<S: Store, E: Sink>(
     store: &mut S,
     err: &mut E,
 ) -> Status
-    ensures checked { (files : Files) → S.holds store.old ≡ Some files →
-        IsAnswer files request.now (E.written err.old) (E.written err.new) result }
+    ensures done { IsAnswer (store_of (S.holds store.old) (S.faults store.old) (S.faults store.new)) request.now
+        (sink_of (E.faults err.old) (E.faults err.new) (E.written err.old) (E.written err.new)) result }
     ensures kept { S.holds store.new ≡ S.holds store.old }
+    ensures later { (name : Text) → S.faults store.old name ≤ S.faults store.new name }
 {
     match request {
         Request::Check { files } => check(alloc, files, store, err),
+        Request::CheckData { file, name, input } => {
+            check_data(alloc, *file, *name, *input, store, err)
+        }
     }
 }
 
 /// Checks the files of these names, and writes what is wrong with them to `err`.
 fn check<S: Store, E: Sink>(alloc: Global, names: &[&str], store: &mut S, err: &mut E) -> Status
-    ensures checked { (files : Files) → S.holds store.old ≡ Some files →
-        IsChecked files names.now (E.written err.old) (E.written err.new) result }
+    ensures checked { IsChecked (store_of (S.holds store.old) (S.faults store.old) (S.faults store.new)) names.now
+        (sink_of (E.faults err.old) (E.faults err.new) (E.written err.old) (E.written err.new)) result }
     ensures kept { S.holds store.new ≡ S.holds store.old }
+    ensures later { (name : Text) → S.faults store.old name ≤ S.faults store.new name }
 {
     let mut report = String::new(alloc);
     match check_files(alloc, store, names, &mut report) {
@@ -45,9 +52,33 @@ fn check<S: Store, E: Sink>(alloc: Global, names: &[&str], store: &mut S, err: &
     }
 }
 
+/// Checks the data in the file `input` for the function of this name in `file`, and writes what is wrong to `err`.
+fn check_data<S: Store, E: Sink>(
+    alloc: Global,
+    file: &str,
+    name: &str,
+    input: &str,
+    store: &mut S,
+    err: &mut E,
+) -> Status
+    ensures checked { IsDataChecked (store_of (S.holds store.old) (S.faults store.old) (S.faults store.new)) file.now name.now input.now
+        (sink_of (E.faults err.old) (E.faults err.new) (E.written err.old) (E.written err.new)) result }
+    ensures kept { S.holds store.new ≡ S.holds store.old }
+    ensures later { (name : Text) → S.faults store.old name ≤ S.faults store.new name }
+{
+    let mut report = String::new(alloc);
+    match check_call(alloc, store, file, name, input, &mut report) {
+        Ok(finding) => {
+            let _ = put_all(err, report.as_bytes());
+            Status::from(finding)
+        }
+        Err(AllocError) => no_memory(err),
+    }
+}
+
 /// Says that no memory is left.
 pub(crate) fn no_memory<E: Sink>(err: &mut E) -> Status
-    ensures { result ≡ Status.NoMemory }
+    ensures { LacksMemory (sink_of (E.faults err.old) (E.faults err.new) (E.written err.old) (E.written err.new)) result }
 {
     let _ = put_all(err, NO_MEMORY.as_bytes());
     Status::NoMemory

@@ -1,8 +1,9 @@
 // How a call ends.
 ghost use Rattle.std.specs.Prelude.{◌≡◌};
-ghost use Rattle.explain_top.specs.Answers.{code_of, status_of};
+ghost use Rattle.explain_top.specs.Answers.{code_of, status_of, status_for};
 
 use explain_check::Verdict;
+use explain_data::Finding;
 
 /// How a call ends.
 #[derive(Clone, Copy, Debug, PartialEq, Eq)]
@@ -11,7 +12,7 @@ pub enum Status {
     Done,
     /// A source spells no typed program.
     Faulty,
-    /// The words ask for nothing that there is, or a file can't be read.
+    /// The words ask for nothing that there is, a file can't be read, or data is faulty.
     Refused,
     /// Out was not written as a whole.
     WriteFault,
@@ -42,6 +43,18 @@ impl From<Verdict> for Status {
             Verdict::Typed => Status::Done,
             Verdict::Faulty => Status::Faulty,
             Verdict::Unread => Status::Refused,
+        }
+    }
+}
+
+impl From<Finding> for Status {
+    ghost from_gives = { λ finding status. status ≡ status_for finding };
+
+    fn from(finding: Finding) -> Status {
+        match finding {
+            Finding::Fits => Status::Done,
+            Finding::Untyped => Status::Faulty,
+            Finding::Refused => Status::Refused,
         }
     }
 }

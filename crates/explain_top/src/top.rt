@@ -1,4 +1,11 @@
 // The top call.
+ghost use Rattle.std.specs.Prelude.{◌≡◌, ◌≤◌};
+ghost use Rattle.raml_syntax.specs.Tree.{Text};
+ghost use Rattle.explain_check.specs.Checks.{texts};
+ghost use Rattle.explain_check.specs.Stores.{store_of};
+ghost use Rattle.explain_top.specs.Answers.{Cause};
+ghost use Rattle.explain_top.specs.Sinks.{sink_of};
+
 use crate::asked::{answer, no_memory};
 use crate::status::Status;
 use explain_words::{WordsFault, read_words};
@@ -13,7 +20,16 @@ pub fn explain<S: Store, O: Sink, E: Sink>(
     store: &mut S,
     out: &mut O,
     err: &mut E,
-) -> Status {
+) -> Status
+    // Each status comes by its cause alone.
+    ensures cause { Cause (texts words.now) (store_of (S.holds store.old) (S.faults store.old) (S.faults store.new))
+        (sink_of (O.faults out.old) (O.faults out.new) (O.written out.old) (O.written out.new))
+        (sink_of (E.faults err.old) (E.faults err.new) (E.written err.old) (E.written err.new)) result }
+
+    // What the store holds stays, and no count falls.
+    ensures kept { S.holds store.new ≡ S.holds store.old }
+    ensures later { (name : Text) → S.faults store.old name ≤ S.faults store.new name }
+{
     match read_words(alloc, words) {
         Ok(request) => answer(alloc, &request, store, err),
         Err(WordsFault::Shown { text }) => match put_all(out, text.as_bytes()) {

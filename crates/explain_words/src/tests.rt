@@ -22,3 +22,32 @@ fn shows_its_version(rt: HostRuntime) -> Result<(), Fail> {
     }
     Ok(())
 }
+
+#[test]
+fn asks_for_checks_of_data(rt: HostRuntime) -> Result<(), Fail> {
+    for words in [
+        ["check", "one.raml", "--data", "f", "in.txt"],
+        ["check", "--data", "f", "in.txt", "one.raml"],
+    ] {
+        match read_words(rt.alloc(), &words) {
+            Ok(Request::CheckData { file, name, input }) => {
+                assert!(rt; file == "one.raml" && name == "f" && input == "in.txt");
+            }
+            _ => return Err(Fail::new("no request")),
+        }
+    }
+    Ok(())
+}
+
+#[test]
+fn takes_data_for_one_file_alone(rt: HostRuntime) -> Result<(), Fail> {
+    let alloc = rt.alloc();
+    assert!(rt; is_refused(&read_words(alloc, &["check", "one.raml", "two.raml", "--data", "f", "in.txt"])));
+    assert!(rt; is_refused(&read_words(alloc, &["check", "one.raml", "--data", "f"])));
+    assert!(rt; is_refused(&read_words(alloc, &["check", "--data", "f", "in.txt"])));
+    Ok(())
+}
+
+fn is_refused(read: &Result<Request, WordsFault>) -> bool {
+    matches!(read, Err(WordsFault::Refused { .. }))
+}

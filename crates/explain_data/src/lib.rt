@@ -1,0 +1,14 @@
+//! Checks of data: whether it spells the arguments of a function, and where it does not, its first fault in words.
+#![tactic(auto)]
+
+mod call;
+mod data;
+mod finding;
+mod here;
+mod message;
+mod need;
+mod report;
+mod token;
+
+pub use call::check_call;
+pub use finding::Finding;
