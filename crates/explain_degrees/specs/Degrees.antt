@@ -52,7 +52,8 @@ Between low high Said = (d : ℕ) → low < d → d ≤ high → Said d
 -- highest certificate says; or that there is no certificate.
 abbrev pub IsFinding : Program → ℕ → ℕ → Meter → Finding → Type 0
 IsFinding N most f meter (finding.Bound d poly) =
-    (d ≤ most) × TellsAt N d f meter (Bound (den_of poly) (terms_of poly)) × IsPoly poly × ((e : ℕ) → 1 ≤ e → e < d → HasNoBoundAt N f meter e)
+    (d ≤ most) × TellsAt N d f meter (Bound (den_of poly) (terms_of poly)) × IsPoly poly
+    × ((e : ℕ) → 1 ≤ e → e < d → HasNoBoundAt N f meter e)
 IsFinding N most f meter (finding.NoBound d) =
     (d ≤ most) × TellsAt N d f meter NoBound × Between 0 most (HasNoBoundAt N f meter) × Between d most (IsRefused N)
 IsFinding N most f meter (finding.Calls d g) =
@@ -72,7 +73,8 @@ finding_of findings Work = findings.work
 
 -- Of functions, in the order of the source: what the analyses up to a degree find of each meter.
 abbrev pub AreFindings : Program → ℕ → List Findings → Type 0
-AreFindings N most all = (f : ℕ) (findings : Findings) (meter : Meter) → slice_get all f ≡ Some findings → IsFinding N most f meter (finding_of findings meter)
+AreFindings N most all =
+    (f : ℕ) (findings : Findings) (meter : Meter) → slice_get all f ≡ Some findings → IsFinding N most f meter (finding_of findings meter)
 
 -- each fault is why the analysis at its degree has no certificate
 abbrev pub AreRefused : Program → List RefusedDegree → Type 0

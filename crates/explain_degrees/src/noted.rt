@@ -49,8 +49,10 @@ fn note_function(
     requires inferred { IsInferred (analysis_at (program_in verified.now.program) degree) verified.now.certificate }
     requires fun { fun.0 < length (source_in verified.now.program) }
     requires degree { 1 ≤ degree }
-    requires found { (meter : Meter) → IsFinding (program_in verified.now.program) (degree - 1) fun.0 meter (finding_of findings.old meter) }
-    ensures { OnOk result ((meter : Meter) → IsFinding (program_in verified.now.program) degree fun.0 meter (finding_of findings.new meter)) }
+    requires found { (meter : Meter) →
+        IsFinding (program_in verified.now.program) (degree - 1) fun.0 meter (finding_of findings.old meter) }
+    ensures { OnOk result ((meter : Meter) →
+        IsFinding (program_in verified.now.program) degree fun.0 meter (finding_of findings.new meter)) }
 {
     note(
         alloc,
