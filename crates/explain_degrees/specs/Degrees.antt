@@ -1,6 +1,10 @@
 -- What analyses of a program find of a function and a meter, degree by degree.
 use Rattle.std.specs.Prelude.{◌≡◌, ◌≢◌, ◌≤◌, ◌<◌, ◌⊎◌, ℕ, List, [], ◌∷◌, length, All, slice_get, Some}
-use Rattle.base_poly.specs.Poly.{den_of, terms_of, IsPoly}
+use Rattle.raml_syntax.specs.Tree.{Function, Prog}
+use Rattle.raml_syntax.specs.Types.{types_of}
+use Rattle.base_poly.specs.Indices.{AreIndices}
+use Rattle.base_poly.specs.Plain.{degrees}
+use Rattle.base_poly.specs.Poly.{Term, den_of, terms_of, IsPoly}
 use Rattle.cost_free.specs.declared.task.Meter.{Meter}
 use Rattle.cost_free.specs.declared.task.Meter.TheVariants.{Ticks, Cells, Work}
 use Rattle.annot_types.specs.Program.{Program}
@@ -48,17 +52,21 @@ HasNoBoundAt N f meter d = TellsAt N d f meter NoBound ⊎ (((g : ℕ) × TellsA
 abbrev pub Between : ℕ → ℕ → (ℕ → Type 0) → Type 0
 Between low high Said = (d : ℕ) → low < d → d ≤ high → Said d
 
+-- The terms are over tuples of indices of the function's parameters, of a degree of at most 4.
+abbrev pub IsOverParameters : Prog → ℕ → List Term → Type 0
+IsOverParameters P f terms = (g : Function) → slice_get P f ≡ Some g → All (λ t. AreIndices t.0 (types_of g) × (degrees t.0 ≤ 4)) terms
+
 -- Of the analyses up to a degree: the bound of the least degree at which there is one; where there is none, what the
 -- highest certificate says; or that there is no certificate.
-abbrev pub IsFinding : Program → ℕ → ℕ → Meter → Finding → Type 0
-IsFinding N most f meter (finding.Bound d poly) =
-    (d ≤ most) × TellsAt N d f meter (Bound (den_of poly) (terms_of poly)) × IsPoly poly
+abbrev pub IsFinding : Prog → Program → ℕ → ℕ → Meter → Finding → Type 0
+IsFinding P N most f meter (finding.Bound d poly) =
+    (d ≤ most) × TellsAt N d f meter (Bound (den_of poly) (terms_of poly)) × IsPoly poly × IsOverParameters P f (terms_of poly)
     × ((e : ℕ) → 1 ≤ e → e < d → HasNoBoundAt N f meter e)
-IsFinding N most f meter (finding.NoBound d) =
+IsFinding P N most f meter (finding.NoBound d) =
     (d ≤ most) × TellsAt N d f meter NoBound × Between 0 most (HasNoBoundAt N f meter) × Between d most (IsRefused N)
-IsFinding N most f meter (finding.Calls d g) =
+IsFinding P N most f meter (finding.Calls d g) =
     (d ≤ most) × TellsAt N d f meter (CallsUnbounded g.0) × Between 0 most (HasNoBoundAt N f meter) × Between d most (IsRefused N)
-IsFinding N most f meter finding.Refused = Between 0 most (IsRefused N)
+IsFinding P N most f meter finding.Refused = Between 0 most (IsRefused N)
 
 -- what is found where the certificate of a degree has this line, and no bound was found before
 abbrev pub found_at : ℕ → Line → Finding
@@ -72,18 +80,18 @@ finding_of findings Cells = findings.cells
 finding_of findings Work = findings.work
 
 -- Of functions, in the order of the source: what the analyses up to a degree find of each meter.
-abbrev pub AreFindings : Program → ℕ → List Findings → Type 0
-AreFindings N most all =
-    (f : ℕ) (findings : Findings) (meter : Meter) → slice_get all f ≡ Some findings → IsFinding N most f meter (finding_of findings meter)
+abbrev pub AreFindings : Prog → Program → ℕ → List Findings → Type 0
+AreFindings P N most all =
+    (f : ℕ) (findings : Findings) (meter : Meter) → slice_get all f ≡ Some findings → IsFinding P N most f meter (finding_of findings meter)
 
 -- each fault is why the analysis at its degree has no certificate
 abbrev pub AreRefused : Program → List RefusedDegree → Type 0
 AreRefused N refused = All (λ r. RefusedAt N r.degree r.fault) refused
 
--- Of n functions: what the analyses up to a degree find, and which of them are refused.
-pub record AreLeast (N : Program) (n most : ℕ) (found : LeastBounds) : Type 0 where
-  pub count : length found.functions.items ≡ n
-  pub functions : AreFindings N most found.functions.items
+-- Of all functions what the analyses up to a degree find, and which of them are refused.
+pub record AreLeast (P : Prog) (N : Program) (most : ℕ) (found : LeastBounds) : Type 0 where
+  pub count : length found.functions.items ≡ length P
+  pub functions : AreFindings P N most found.functions.items
   pub refused : AreRefused N found.refused.items
 
 -- a bound is found

@@ -1,6 +1,7 @@
 // The analyses of a program from degree 1 on.
 ghost use Rattle.bound_infer.specs.declared.refusal.InferFault.TheVariants.{NoMemory};
 ghost use Rattle.std.specs.Prelude.{◌≡◌, ◌≢◌, ◌≤◌, ◌-◌, length, IfOk, OnOk, IsTrue};
+ghost use Rattle.raml_syntax.specs.Tree.{Prog};
 ghost use Rattle.annot_types.specs.Program.{Program};
 ghost use Rattle.share_normal.specs.Program.{source_in};
 ghost use Rattle.rules_plan.specs.Read.{program_in};
@@ -37,7 +38,7 @@ pub fn least_bounds(
     most: u8,
 ) -> Result<LeastBounds, AllocError>
     requires { most ≤ 4 }
-    ensures { IfOk result (AreLeast (program_in program.now) (length (source_in program.now)) most) }
+    ensures { IfOk result (AreLeast (source_in program.now) (program_in program.now) most) }
 {
     let mut found = LeastBounds {
         functions: nothing_found(alloc, program.functions().len())?,
@@ -60,8 +61,8 @@ fn add_degree(
 ) -> Result<(), AllocError>
     requires least_degree { 1 ≤ degree }
     requires most_degree { degree ≤ 4 }
-    requires before { AreLeast (program_in program.now) (length (source_in program.now)) (degree - 1) found.old }
-    ensures { OnOk result (AreLeast (program_in program.now) (length (source_in program.now)) degree found.new) }
+    requires before { AreLeast (source_in program.now) (program_in program.now) (degree - 1) found.old }
+    ensures { OnOk result (AreLeast (source_in program.now) (program_in program.now) degree found.new) }
 {
     let _source = program.source();
     match analyse(alloc, program, degree) {
@@ -95,7 +96,7 @@ fn refused(degree: u8, fault: InferFault) -> Result<RefusedDegree, AllocError>
 /// So many functions, of which nothing is found yet.
 fn nothing_found(alloc: Global, count: usize) -> Result<Vec<Findings>, AllocError>
     ensures count { IfOk result (λ all. length all.items ≡ count) }
-    ensures found { (N : Program) → IfOk result (λ all. AreFindings N 0 all.items) }
+    ensures found { (P : Prog) (N : Program) → IfOk result (λ all. AreFindings P N 0 all.items) }
 {
     let mut functions = Vec::with_capacity(alloc, count)?;
     for _ in 0..count {

@@ -6,6 +6,7 @@ ghost use Rattle.bound_infer.specs.Inferred.{IsInferred};
 ghost use Rattle.explain_degrees.specs.Degrees.{analysis_at, finding_of, found_at, IsFinding, AreFindings};
 
 use crate::finding::{Finding, Findings};
+use analysis_report::laws::bounds_are_of_parameters;
 use bound_infer::{Line, Verified};
 use cost_free::Meter;
 use raml_syntax::FunId;
@@ -22,9 +23,9 @@ pub(crate) fn note_functions(
     requires count { length functions.old ≤ length (source_in verified.now.program) }
     requires few { length functions.old ≤ 256 }
     requires degree { 1 ≤ degree }
-    requires found { AreFindings (program_in verified.now.program) (degree - 1) functions.old }
+    requires found { AreFindings (source_in verified.now.program) (program_in verified.now.program) (degree - 1) functions.old }
     ensures count { length functions.new ≡ length functions.old }
-    ensures found { OnOk result (AreFindings (program_in verified.now.program) degree functions.new) }
+    ensures found { OnOk result (AreFindings (source_in verified.now.program) (program_in verified.now.program) degree functions.new) }
 {
     for place in 0..functions.len() {
         note_function(
@@ -50,9 +51,9 @@ fn note_function(
     requires fun { fun.0 < length (source_in verified.now.program) }
     requires degree { 1 ≤ degree }
     requires found { (meter : Meter) →
-        IsFinding (program_in verified.now.program) (degree - 1) fun.0 meter (finding_of findings.old meter) }
+        IsFinding (source_in verified.now.program) (program_in verified.now.program) (degree - 1) fun.0 meter (finding_of findings.old meter) }
     ensures { OnOk result ((meter : Meter) →
-        IsFinding (program_in verified.now.program) degree fun.0 meter (finding_of findings.new meter)) }
+        IsFinding (source_in verified.now.program) (program_in verified.now.program) degree fun.0 meter (finding_of findings.new meter)) }
 {
     note(
         alloc,
@@ -92,12 +93,15 @@ fn note(
     requires inferred { IsInferred (analysis_at (program_in verified.now.program) degree) verified.now.certificate }
     requires fun { fun.0 < length (source_in verified.now.program) }
     requires degree { 1 ≤ degree }
-    requires found { IsFinding (program_in verified.now.program) (degree - 1) fun.0 meter finding.old }
-    ensures { OnOk result (IsFinding (program_in verified.now.program) degree fun.0 meter finding.new) }
+    requires found { IsFinding (source_in verified.now.program) (program_in verified.now.program) (degree - 1) fun.0 meter finding.old }
+    ensures { OnOk result (IsFinding (source_in verified.now.program) (program_in verified.now.program) degree fun.0 meter finding.new) }
 {
     if finding.is_bound() {
         return Ok(());
     }
+    bounds_are_of_parameters();
+    let _functions = verified.checked().program().functions();
+    let _certificate = verified.certificate();
     *finding = found_at(degree, verified.line(alloc, fun, meter)?);
     Ok(())
 }

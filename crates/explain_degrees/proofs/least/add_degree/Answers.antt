@@ -1,4 +1,5 @@
 use Rattle.std.proofs.Common.{subst, sym}
+use Rattle.share_normal.specs.Program.{source_in}
 use Rattle.rules_plan.specs.Read.{program_in}
 use Rattle.annot_types.specs.Program.{Program}
 use Rattle.bound_infer.specs.Inferred.{InferCause}
@@ -14,7 +15,7 @@ returns-in_ok-push-in-Err c =
     let why : RefusedAt N c.args.degree at.fault = record { refused = told.refused; cause = subst (InferCause (analysis_at N c.args.degree)) (sym told.fault) c.in-Err.ensures.fault } in
     record {
       count = c.requires.before.count;
-      functions = all_refused_found N c.args.degree c.args.found.now.functions.items c.requires.before.functions (at.fault, why);
+      functions = all_refused_found (source_in c.args.program.now) N c.args.degree c.args.found.now.functions.items c.requires.before.functions (at.fault, why);
       refused = rw c.in_ok-push-in-Err.ensures.items
           (refused_more N c.args.found.now.refused.items at c.requires.before.refused (subst (λ d. RefusedAt N d at.fault) (sym told.degree) why));
     }

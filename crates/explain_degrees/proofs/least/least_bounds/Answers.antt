@@ -1,4 +1,5 @@
 use Rattle.std.proofs.Common.{arith, ◌∙◌}
+use Rattle.share_normal.specs.Program.{source_in}
 use Rattle.rules_plan.specs.Read.{program_in}
 use Rattle.explain_degrees.proofs.least.least_bounds.Goals as goal
 
@@ -8,7 +9,7 @@ loop-degree-init c =
       omega arith,
       record {
         count = c.in_ok-nothing_found.ensures.count ∙ c.len.ensures ∙ c.functions.ensures.count;
-        functions = c.in_ok-nothing_found.ensures.found (program_in c.args.program.now);
+        functions = c.in_ok-nothing_found.ensures.found (source_in c.args.program.now) (program_in c.args.program.now);
         refused = rw none (λ k d low. absurd (omega (arith, low)));
       },
     )

@@ -1,4 +1,4 @@
-use Rattle.std.proofs.Common.{◌≤◌, ◌-◌, length}
+use Rattle.std.proofs.Common.{◌≤◌, ◌-◌}
 use Rattle.share_normal.specs.Program.{source_in}
 use Rattle.rules_plan.specs.Read.{program_in}
 use Rattle.explain_degrees.specs.Degrees.{AreLeast}
@@ -8,4 +8,4 @@ abbrev pub decreases-loop-degree : goal.decreases-loop-degree
 decreases-loop-degree l = l.most - l.degree
 
 abbrev pub invariant-loop-degree : goal.invariant-loop-degree
-invariant-loop-degree l = (l.degree ≤ l.most) × AreLeast (program_in l.program) (length (source_in l.program)) l.degree l.found
+invariant-loop-degree l = (l.degree ≤ l.most) × AreLeast (source_in l.program) (program_in l.program) l.degree l.found
