@@ -11,8 +11,6 @@ mod needs;
 mod shown;
 mod signs;
 mod syntax;
-#[cfg(test)]
-mod tests;
 mod types;
 mod word;
 

@@ -1,6 +1,6 @@
 // Habits of other languages.
-use crate::tests::{Case, assert_told};
-use crate::{CaseHint, FormHint, Hint, PairHint, SignHint, TypeHint, WordHint};
+use crate::messages::{Case, assert_told};
+use explain_messages::{CaseHint, FormHint, Hint, PairHint, SignHint, TypeHint, WordHint};
 use std::test::Fail;
 
 // Each with its hint.

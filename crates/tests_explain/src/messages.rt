@@ -1,9 +1,5 @@
 // Messages and hints of faulty sources.
-mod faulty;
-mod habits;
-mod typed;
-
-use crate::{Hint, Message, syntax_message, type_message};
+use explain_messages::{Hint, Message, syntax_message, type_message};
 use raml_parse::{ParseFault, parse};
 use raml_syntax::Pos;
 use simple_types::check;
@@ -13,11 +9,11 @@ use std::test::Fail;
 
 /// A faulty source, and what is to be told of it.
 #[derive(Clone, Copy)]
-struct Case {
-    source: &'static str,
-    at: usize,
-    text: &'static str,
-    hint: Option<Hint>,
+pub struct Case {
+    pub source: &'static str,
+    pub at: usize,
+    pub text: &'static str,
+    pub hint: Option<Hint>,
 }
 
 // What is told of the source; nothing where it is a typed program.
@@ -34,7 +30,8 @@ fn told(alloc: Global, source: &[u8]) -> Result<Option<Message>, AllocError> {
     }
 }
 
-fn assert_told(rt: &impl Abort, alloc: Global, case: Case) -> Result<(), Fail> {
+/// Asserts that this is told of the source.
+pub fn assert_told(rt: &impl Abort, alloc: Global, case: Case) -> Result<(), Fail> {
     let source = case.source;
     match told(alloc, source.as_bytes())? {
         None => Err(Fail::from("nothing is told")),

@@ -1,6 +1,6 @@
 // Programs that are not typed, or that are too long in something.
-use crate::tests::{Case, assert_told};
-use crate::{CaseHint, Hint, PairHint, TypeHint};
+use crate::messages::{Case, assert_told};
+use explain_messages::{CaseHint, Hint, PairHint, TypeHint};
 use std::test::Fail;
 
 // Each with its message.
