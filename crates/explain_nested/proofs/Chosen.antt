@@ -1,12 +1,12 @@
 -- Sums over choices of elements that have a type.
-use Rattle.std.proofs.Common.{◌≡◌, ◌≤◌, ℕ, zero, suc, ◌+◌, ◌*◌, List, [], ◌∷◌, ◌++◌, map, length, refl, sym, ap, ◌∙◌, arith}
-use Rattle.std.specs.Prelude.{◌==◌, Bool, true}
+use Rattle.std.proofs.Common.{◌≡◌, ℕ, zero, suc, ◌+◌, ◌*◌, List, [], ◌∷◌, ◌++◌, map, length, refl, sym, ap, ◌∙◌, arith}
+use Rattle.std.specs.Prelude.{◌==◌, true}
 use Rattle.std.proofs.lemmas.Bool.{and_parts}
 use Rattle.std.proofs.lemmas.Bool.Decides.{nat_tests}
 use Rattle.raml_syntax.specs.Tree.{Type', ListOf, TreeOf}
 use Rattle.raml_syntax.specs.Value.{Value, Has, Empty, Cons, Node}
-use Rattle.base_poly.specs.Plain.{Plain, Unit', Pair, End, Then, NoEntry, OneEntry, deg, entry_count}
-use Rattle.base_poly.specs.Indices.{IsIndex, zero_of}
+use Rattle.base_poly.specs.Plain.{Plain, End, Then, deg, entry_count}
+use Rattle.base_poly.specs.Indices.{IsIndex}
 use Rattle.base_poly.specs.Base.{total, elements, choices, base, over}
 use Rattle.base_poly.specs.Laws.{choose}
 use Rattle.base_poly.proofs.Recursion.{types_have_zero}

@@ -1,8 +1,11 @@
 -- The examples compute.
 use Rattle.std.proofs.Common.{refl}
+use Rattle.std.specs.Fmt.{digits}
+use lib.Utf8.{encode}
 use Rattle.explain_nested.specs.Example.{Examples}
 
 pub examples_hold : Examples
+unfolding digits encode
 examples_hold = record {
   sum_sign = refl;
   dot = refl;

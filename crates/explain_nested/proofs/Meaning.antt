@@ -1,14 +1,11 @@
 -- A reading means what the base polynomial counts.
-use Rattle.std.proofs.Common.{◌≡◌, ◌≢◌, ◌≤◌, ◌<◌, ℕ, zero, suc, ◌+◌, ◌*◌, Bool, true, false, cond, List, [], ◌∷◌, ◌++◌, length, All, refl, sym, ap, subst, ◌∙◌, arith, length-append, append_assoc, append-nil}
-use Rattle.std.specs.Prelude.{◌==◌}
+use Rattle.std.proofs.Common.{◌≡◌, ◌≤◌, ◌<◌, ℕ, zero, suc, ◌+◌, ◌*◌, Bool, true, false, cond, List, [], ◌∷◌, ◌++◌, length, All, refl, sym, ap, subst, ◌∙◌, arith, length-append, append_assoc, append-nil}
 use Rattle.std.proofs.lemmas.List.Elements.{All-head, All-tail}
-use Rattle.std.proofs.lemmas.Bool.Decides.{nat_tests}
-use Rattle.raml_syntax.specs.Tree.{Type', Integer, Boolean, PairOf, ListOf, TreeOf, OptionOf}
-use Rattle.raml_syntax.specs.Value.{Value, Has, HaveTypes, Number, Truth, Both, Empty, Cons, Node, Just}
+use Rattle.raml_syntax.specs.Tree.{Type', PairOf, ListOf, TreeOf, OptionOf}
+use Rattle.raml_syntax.specs.Value.{Value, Has, HaveTypes, Both, Empty, Just}
 use Rattle.base_poly.specs.Plain.{Plain, Unit', Pair, End, Then, NoEntry, OneEntry, many, deg, degrees, entry_count}
 use Rattle.base_poly.specs.Indices.{IsIndex, AreIndices}
 use Rattle.base_poly.specs.Base.{total, elements, choices, base, along, over, bases, on_content}
-use Rattle.base_poly.specs.Laws.{choose}
 use Rattle.base_poly.specs.Poly.{Term}
 use Rattle.base_poly.proofs.Sums.{total_scaled}
 use Rattle.poly_point.specs.Point.{worth}
@@ -75,7 +72,6 @@ rests_more a b rest K vs xs h e = λ ys f.
     let long = length-append xs ys in
     ap (meaning rest) (append_assoc vs xs ys) ∙ h (xs ++ ys) (omega (arith, long, e, f))
 
-
 module _ (r s : ℕ → List Piece) (a b : ℕ) (vs : List Value)
     (first : (n : ℕ) (rest : List Piece) (K : ℕ) → n ≡ length vs → Rests (names_in (r n)) rest K vs → meaning (r n ++ rest) vs ≡ a * K)
     (second : (xs : List Value) (n : ℕ) (rest : List Piece) (K : ℕ) → n ≡ length (vs ++ xs) → Rests (names_in (s n)) rest K (vs ++ xs) → meaning (s n ++ rest) (vs ++ xs) ≡ b * K) where
@@ -88,7 +84,7 @@ module _ (r s : ℕ → List Piece) (a b : ℕ) (vs : List Value)
           let long = length-append vs xs in
           second xs (n + names_in (r n)) rest K (omega (arith, e, l, long))
           (rests_more (names_in (r n)) (names_in (s (n + names_in (r n)))) rest K vs xs
-              (subst (λ k. Rests k rest K vs) (names_joined (r n) (s (n + names_in (r n)))) h) l)
+          (subst (λ k. Rests k rest K vs) (names_joined (r n) (s (n + names_in (r n)))) h) l)
 
 -- The reading of an index at a value means what its base polynomial counts there, times what stands behind it.
 abbrev IndexReads : Plain → Type 0
@@ -209,9 +205,9 @@ pair_read i j reads_i reads_j A B p vs mi mj t s n rest K e h =
     both_are (reading i (First p)) (reading j (Second p)) (base i (value_at (First p) vs)) (base j (value_at (Second p) vs)) vs
     (λ n rest K e h. reads_i A (First p) vs mi pair.first s n rest K e h)
     (λ xs n rest K e h.
-        let long = length-append vs xs in
-        let same = stays (Second p) vs xs s in
-        reads_j B (Second p) (vs ++ xs) mj (subst (λ v. Has v B) (sym same) pair.second) (omega (arith, long, s)) n rest K e h ∙ ap (λ v. base j v * K) same)
+    let long = length-append vs xs in
+    let same = stays (Second p) vs xs s in
+    reads_j B (Second p) (vs ++ xs) mj (subst (λ v. Has v B) (sym same) pair.second) (omega (arith, long, s)) n rest K e h ∙ ap (λ v. base j v * K) same)
     n rest K e h
     ∙ ap (λ k. k * K) pair.counts
 

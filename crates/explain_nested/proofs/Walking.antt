@@ -1,8 +1,7 @@
 -- Readings as they are appended.
-use Rattle.std.proofs.Common.{◌≡◌, ◌≤◌, ◌<◌, ◌^◌, ◌≢◌, ℕ, suc, ◌+◌, Bool, true, false, cond, List, [], ◌∷◌, ◌++◌, Box, Global, length, drop, get_or, map, refl, sym, ap, subst, ◌∙◌, arith, append_assoc, append-nil}
-use Rattle.std.specs.Prelude.{◌==◌}
+use Rattle.std.proofs.Common.{◌≡◌, ◌≤◌, ◌<◌, ◌^◌, ◌≢◌, ℕ, suc, ◌+◌, true, false, cond, List, [], ◌∷◌, ◌++◌, Box, Global, length, drop, get_or, refl, sym, ap, ◌∙◌, arith, append_assoc}
 use Rattle.std.proofs.lemmas.List.{drop_more}
-use Rattle.base_poly.specs.Plain.{Plain, Pair, Then, OneEntry, many, deg, degrees, entry_count}
+use Rattle.base_poly.specs.Plain.{Plain, Pair, OneEntry, many, deg, degrees, entry_count}
 use Rattle.base_poly.specs.Read.{index_of, plains_of}
 use Rattle.base_poly.specs.declared.index.Index.{Index}
 use Rattle.base_poly.specs.declared.index.Index.TheVariants as v

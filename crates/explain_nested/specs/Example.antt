@@ -1,10 +1,10 @@
 -- Small bounds, worked out by hand.
-use Rattle.std.specs.Prelude.{◌≡◌, ℕ, zero, suc, pos, List, [], ◌∷◌, ◌++◌, length, codes, encode_utf8_all}
+use Rattle.std.specs.Prelude.{◌≡◌, ℕ, zero, suc, pos, List, [], ◌∷◌, codes, encode_utf8_all}
 use Rattle.raml_syntax.specs.Tree.{Text}
-use Rattle.raml_syntax.specs.Value.{Value, Number, Both, Empty, Cons, Just}
-use Rattle.base_poly.specs.Plain.{Plain, Unit', Pair, End, Then, NoEntry, OneEntry, many}
+use Rattle.raml_syntax.specs.Value.{Value, Number, Empty, Cons}
+use Rattle.base_poly.specs.Plain.{Plain, Unit', Pair, End, Then, OneEntry, many}
 use Rattle.base_poly.specs.Poly.{Term}
-use Rattle.explain_nested.specs.Reading.{Named, First, Second, Choices, Elements, Held, meaning, tuple_reading}
+use Rattle.explain_nested.specs.Reading.{Named, Choices, Elements, meaning, tuple_reading}
 use Rattle.explain_nested.specs.Text.{value_names, sum_over, times, sum_text}
 
 -- as many entries of degree 0

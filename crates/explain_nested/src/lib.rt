@@ -3,9 +3,9 @@
 
 pub mod laws;
 mod names;
-mod sums;
 mod piece;
 mod reading;
+mod sums;
 mod text;
 
 pub use names::value_names;
