@@ -17,5 +17,6 @@ size_text (size.Unknown name) = codes "no parameter has a size '" ++ (name.now +
 size_text (size.NotGiven name) = codes "the size of '" ++ (string_bytes name ++ codes "' is not given")
 size_text size.NoneOpen = codes "all sizes are given, and one is to be left open"
 size_text (size.TwoOpen name other) =
-    codes "the sizes of '" ++ (string_bytes name ++ (codes "' and of '" ++ (string_bytes other ++ codes "' are not given, and one may be left open")))
+    codes "the sizes of '" ++
+        (string_bytes name ++ (codes "' and of '" ++ (string_bytes other ++ codes "' are not given, and one may be left open")))
 size_text size.NoMemory = codes "no memory is left"

@@ -49,7 +49,8 @@ pub record Examples : Type 0 where
   pub numbers_of_two : meaning (tuple_reading (in_two ∷ [])) lists ≡ 6
   pub pairs_of_numbers : meaning (tuple_reading (two_in_one ∷ [])) lists ≡ 4
   pub pairs_of_lists : meaning (tuple_reading (two_lists ∷ [])) lists ≡ 3
-  pub flat : bound (codes "l" ∷ []) 2 (((units 2 ∷ []), 3) ∷ ((units 1 ∷ []), 2) ∷ ((End ∷ []), 4) ∷ []) ≡ encode_utf8_all (codes "3/2·C(|l|,2) + |l| + 2")
+  pub flat : bound (codes "l" ∷ []) 2
+      (((units 2 ∷ []), 3) ∷ ((units 1 ∷ []), 2) ∷ ((End ∷ []), 4) ∷ []) ≡ encode_utf8_all (codes "3/2·C(|l|,2) + |l| + 2")
   pub once : bound (codes "l" ∷ []) 1 (((numbers ∷ []), 1) ∷ []) ≡ encode_utf8_all (codes "Σ(x in l) |x|")
   pub twice : bound (codes "l" ∷ []) 1 (((in_two ∷ []), 2) ∷ []) ≡ encode_utf8_all (codes "2·Σ(x before y in l) |x|·|y|")
   pub within_one : bound (codes "l" ∷ []) 1 (((two_in_one ∷ []), 5) ∷ []) ≡ encode_utf8_all (codes "5·Σ(x in l) C(|x|,2)")
@@ -59,13 +60,17 @@ pub record Examples : Type 0 where
   -- lists of lists of lists
   pub deeper : bound (codes "l" ∷ []) 1 (((many (numbers ∷ []) ∷ []), 7) ∷ []) ≡ encode_utf8_all (codes "7·Σ(x in l) Σ(y in x) |y|")
   -- two parameters, of which one has the name of the first letter
-  pub two_parameters : bound (codes "x" ∷ codes "l" ∷ []) 1 (((units 1 ∷ numbers ∷ []), 4) ∷ []) ≡ encode_utf8_all (codes "4·|x|·Σ(y in l) |y|")
-  pub both_nested : bound (codes "l" ∷ codes "r" ∷ []) 1 (((numbers ∷ numbers ∷ []), 1) ∷ []) ≡ encode_utf8_all (codes "Σ(x in l) |x|·Σ(y in r) |y|")
+  pub two_parameters : bound (codes "x" ∷ codes "l" ∷ []) 1 (((units 1 ∷ numbers ∷ []), 4) ∷ [])
+      ≡ encode_utf8_all (codes "4·|x|·Σ(y in l) |y|")
+  pub both_nested : bound (codes "l" ∷ codes "r" ∷ []) 1 (((numbers ∷ numbers ∷ []), 1) ∷ [])
+      ≡ encode_utf8_all (codes "Σ(x in l) |x|·Σ(y in r) |y|")
   -- a list of pairs of a list and a number, and a pair of lists
   pub pairs : bound (codes "l" ∷ []) 1 (((many (Pair (units 1) Unit' ∷ []) ∷ []), 3) ∷ []) ≡ encode_utf8_all (codes "3·Σ(x in l) |x.first|")
   pub parts : bound (codes "p" ∷ []) 1 (((Pair (units 1) (units 2) ∷ []), 3) ∷ []) ≡ encode_utf8_all (codes "3·|p.first|·C(|p.second|,2)")
   -- options of a list, and a list of options of numbers
-  pub option : bound (codes "o" ∷ []) 1 (((OneEntry (units 1) ∷ []), 1) ∷ ((OneEntry End ∷ []), 6) ∷ []) ≡ encode_utf8_all (codes "Σ(x held by o) |x| + 6·Σ(x held by o) 1")
-  pub options : bound (codes "l" ∷ []) 1 (((many (OneEntry Unit' ∷ []) ∷ []), 1) ∷ []) ≡ encode_utf8_all (codes "Σ(x in l) Σ(y held by x) 1")
+  pub option : bound (codes "o" ∷ []) 1 (((OneEntry (units 1) ∷ []), 1) ∷ ((OneEntry End ∷ []), 6) ∷ [])
+      ≡ encode_utf8_all (codes "Σ(x held by o) |x| + 6·Σ(x held by o) 1")
+  pub options : bound (codes "l" ∷ []) 1 (((many (OneEntry Unit' ∷ []) ∷ []), 1) ∷ [])
+      ≡ encode_utf8_all (codes "Σ(x in l) Σ(y held by x) 1")
   pub nothing : bound (codes "l" ∷ []) 1 [] ≡ codes "0"
   pub one : bound [] 1 (([], 1) ∷ []) ≡ codes "1"

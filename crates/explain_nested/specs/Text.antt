@@ -1,5 +1,6 @@
 -- The text of a bound on nested data, such as `2·Σ(x in l) |x| + |l| + 1`.
-use Rattle.std.specs.Prelude.{◌≡◌, ℕ, ◌==◌, ◌&&◌, not, Bool, true, false, cond, List, [], ◌∷◌, ◌++◌, map, length, take, drop, filter, reverse, codes, decimal, slice_index_or}
+use Rattle.std.specs.Prelude.{◌≡◌, ℕ, ◌==◌, ◌&&◌, not, Bool, true, false, cond, List, [], ◌∷◌, ◌++◌, map, length, take, drop, filter}
+use Rattle.std.specs.Prelude.{reverse, codes, decimal, slice_index_or}
 use Rattle.std.specs.Prelude.{IsSortedByKey, IsPermutation}
 use Rattle.std.specs.Borrow.{Bor}
 use Rattle.std.specs.List.{list_any}
@@ -16,7 +17,9 @@ texts = map (λ (text : Bor (List ℕ)). text.now)
 
 -- the letters that name elements
 abbrev pub letters : List Text
-letters = codes "x" ∷ codes "y" ∷ codes "z" ∷ codes "w" ∷ codes "u" ∷ codes "v" ∷ codes "s" ∷ codes "t" ∷ codes "p" ∷ codes "q" ∷ codes "r" ∷ codes "h" ∷ []
+letters =
+    codes "x" ∷ codes "y" ∷ codes "z" ∷ codes "w" ∷ codes "u" ∷ codes "v" ∷ codes "s" ∷ codes "t"
+        ∷ codes "p" ∷ codes "q" ∷ codes "r" ∷ codes "h" ∷ []
 
 -- the names of the parameters, and behind them the letters that are no parameter's name
 abbrev pub value_names : List Text → List Text
@@ -57,11 +60,15 @@ dot is_behind = cond is_behind times []
 -- The pieces from left to right, at names of values and those of them that are next, behind a factor or not.
 abbrev pub pieces_text : List Text → List Text → Bool → List Piece → Text
 pieces_text names next is_behind [] = cond is_behind [] (codes "1")
-pieces_text names next is_behind (Choices p k ∷ ps) = dot is_behind ++ (choices_text (place_text names p) k ++ pieces_text names next true ps)
+pieces_text names next is_behind (Choices p k ∷ ps) =
+    dot is_behind ++ (choices_text (place_text names p) k ++ pieces_text names next true ps)
 pieces_text names next is_behind (Elements p k ∷ ps) =
-    dot is_behind ++ (sum_over ++ (in_order (take k next) ++ (codes " in " ++ (place_text names p ++ (codes ") " ++ pieces_text names (drop k next) false ps)))))
+    dot is_behind ++ (sum_over
+        ++ (in_order (take k next) ++ (codes " in " ++ (place_text names p ++ (codes ") " ++ pieces_text names (drop k next) false ps)))))
 pieces_text names next is_behind (Held p ∷ ps) =
-    dot is_behind ++ (sum_over ++ (in_order (take 1 next) ++ (codes " held by " ++ (place_text names p ++ (codes ") " ++ pieces_text names (drop 1 next) false ps)))))
+    dot is_behind ++ (sum_over
+        ++ (in_order (take 1 next)
+        ++ (codes " held by " ++ (place_text names p ++ (codes ") " ++ pieces_text names (drop 1 next) false ps)))))
 
 abbrev pub has_any : List Piece → Bool
 has_any [] = false

@@ -31,7 +31,8 @@ fn append(
 ) -> Result<usize, AllocError>
     requires low { deg (index_of index.now) ≤ 4 }
     requires few { next + deg (index_of index.now) < 2 ^ 64 }
-    ensures pieces { OnOk result (pieces_of pieces.new.items ≡ pieces_of pieces.old.items ++ reading (index_of index.now) (place_of place.now) next) }
+    ensures pieces { OnOk result
+        (pieces_of pieces.new.items ≡ pieces_of pieces.old.items ++ reading (index_of index.now) (place_of place.now) next) }
     ensures next { IfOk result (λ after. after ≡ next + names_in (reading (index_of index.now) (place_of place.now) next)) }
     ensures low { IfOk result (λ after. after ≤ next + deg (index_of index.now)) }
 {
@@ -82,7 +83,8 @@ fn append_list(
 ) -> Result<usize, AllocError>
     requires low { deg (many (plains_of entries.now)) ≤ 4 }
     requires few { next + deg (many (plains_of entries.now)) < 2 ^ 64 }
-    ensures pieces { OnOk result (pieces_of pieces.new.items ≡ pieces_of pieces.old.items ++ reading (many (plains_of entries.now)) (place_of place.now) next) }
+    ensures pieces { OnOk result
+        (pieces_of pieces.new.items ≡ pieces_of pieces.old.items ++ reading (many (plains_of entries.now)) (place_of place.now) next) }
     ensures next { IfOk result (λ after. after ≡ next + names_in (reading (many (plains_of entries.now)) (place_of place.now) next)) }
     ensures low { IfOk result (λ after. after ≤ next + deg (many (plains_of entries.now))) }
 {
@@ -110,7 +112,8 @@ fn append_entries(
     requires elements { first + length entries.now ≤ next }
     requires low { degrees (plains_of entries.now) ≤ 4 }
     requires few { next + degrees (plains_of entries.now) < 2 ^ 64 }
-    ensures pieces { OnOk result (pieces_of pieces.new.items ≡ pieces_of pieces.old.items ++ entries_reading (many (plains_of entries.now)) first next) }
+    ensures pieces { OnOk result
+        (pieces_of pieces.new.items ≡ pieces_of pieces.old.items ++ entries_reading (many (plains_of entries.now)) first next) }
     ensures next { IfOk result (λ after. after ≡ next + names_in (entries_reading (many (plains_of entries.now)) first next)) }
     ensures low { IfOk result (λ after. after ≤ next + degrees (plains_of entries.now)) }
 {

@@ -78,7 +78,8 @@ fn push_choices<'a>(
     place: &Place,
     count: usize,
 ) -> Result<(), AllocError>
-    ensures { OnOk result (string_bytes text.new ≡ string_bytes text.old ++ choices_text (place_text (texts names.now) (place_of place.now)) count) }
+    ensures { OnOk result (string_bytes text.new ≡ string_bytes text.old
+        ++ choices_text (place_text (texts names.now) (place_of place.now)) count) }
 {
     if count == 1 {
         text.push_str("|")?;
