@@ -1,6 +1,7 @@
 -- Pieces and breaks behind what is wrapped.
 use Rattle.std.proofs.Common.{◌≡◌, ℕ, Bool, false, List, [], ◌∷◌, ◌++◌, refl, sym, ap, subst, ◌∙◌, append_assoc, append-nil}
-use Rattle.explain_text.specs.Wrapped.{led, lead, space, IsWrapped}
+use Rattle.explain_text.specs.Steps.{HasRead}
+use Rattle.explain_text.specs.Wrapped.{led, lead, space, break_of, IsWrapped}
 
 -- the texts, of which the last has the piece behind it
 longer : List ℕ → List ℕ → List (List ℕ) → List (List ℕ)
@@ -32,19 +33,22 @@ piece_behind mark line text piece h = at h.others h.line_is h.text_is
   where
     at : (others : List (List ℕ)) → line ≡ h.first ++ led space others → text ≡ h.first ++ led mark others → IsWrapped mark (line ++ piece) (text ++ piece)
     at [] e f = record {
-      first = h.first ++ piece; others = [];
+      first = h.first ++ piece;
+      others = [];
       line_is = ap (λ l. l ++ piece) (e ∙ append-nil h.first) ∙ sym (append-nil (h.first ++ piece));
       text_is = ap (λ l. l ++ piece) (f ∙ append-nil h.first) ∙ sym (append-nil (h.first ++ piece));
     }
     at (next ∷ others) e f = record {
-      first = h.first; others = longer piece next others;
+      first = h.first;
+      others = longer piece next others;
       line_is = ap (λ l. l ++ piece) e ∙ append_assoc h.first (led space (next ∷ others)) piece ∙ ap (λ l. h.first ++ l) (sym (led_longer space piece next others));
       text_is = ap (λ l. l ++ piece) f ∙ append_assoc h.first (led mark (next ∷ others)) piece ∙ ap (λ l. h.first ++ l) (sym (led_longer mark piece next others));
     }
 
 pub break_behind : (mark line text : List ℕ) → IsWrapped mark line text → IsWrapped mark (line ++ space) (text ++ mark)
 break_behind mark line text h = record {
-  first = h.first; others = h.others ++ [] ∷ [];
+  first = h.first;
+  others = h.others ++ [] ∷ [];
   line_is = ap (λ l. l ++ space) h.line_is ∙ append_assoc h.first (led space h.others) space ∙ ap (λ l. h.first ++ l) (sym (led_more space h.others));
   text_is = ap (λ l. l ++ mark) h.text_is ∙ append_assoc h.first (led mark h.others) mark ∙ ap (λ l. h.first ++ l) (sym (led_more mark h.others));
 }
@@ -58,3 +62,23 @@ space_leads mark line text new is_first e h w =
 pub break_leads : (mark line text new : List ℕ) (is_first : Bool) → is_first ≡ false → new ≡ text ++ mark → IsWrapped mark line text → IsWrapped mark (line ++ lead is_first) new
 break_leads mark line text new is_first e h w =
     subst (λ t. IsWrapped mark (line ++ lead is_first) t) (sym h) (subst (λ b. IsWrapped mark (line ++ lead b) (text ++ mark)) (sym e) (break_behind mark line text w))
+
+-- the piece that waits is written with its last word
+pub piece_put : (mark line text piece word whole mid new : List ℕ) (is_first : Bool) → HasRead mark line text piece is_first → whole ≡ piece ++ word →
+    ((written : List ℕ) → IsWrapped mark written text → IsWrapped mark (written ++ lead is_first) mid) → new ≡ mid ++ whole → IsWrapped mark (line ++ word) new
+piece_put mark line text piece word whole mid new is_first h e leads f =
+    subst (λ t. IsWrapped mark (line ++ word) t) (sym (f ∙ ap (λ l. mid ++ l) e))
+    (subst (λ l. IsWrapped mark l (mid ++ (piece ++ word))) (sym regrouped) (piece_behind mark (h.written ++ lead is_first) mid (piece ++ word) (leads h.written h.wrapped)))
+  where
+    regrouped : line ++ word ≡ (h.written ++ lead is_first) ++ (piece ++ word)
+    regrouped =
+        ap (λ l. l ++ word) (h.is ∙ sym (append_assoc h.written (lead is_first) piece))
+        ∙ append_assoc (h.written ++ lead is_first) piece word
+
+-- what is read of a line with one word more
+pub word_more : (line rest word behind whole : List ℕ) → rest ≡ word ++ 32 ∷ behind → line ++ rest ≡ whole → (line ++ (word ++ space)) ++ behind ≡ whole
+word_more line rest word behind whole e h =
+    append_assoc line (word ++ space) behind ∙ ap (λ l. line ++ l) (append_assoc word space behind ∙ sym e) ∙ h
+
+pub same_indent : (m n : ℕ) (line text piece : List ℕ) (is_first : Bool) → m ≡ n → HasRead (break_of m) line text piece is_first → HasRead (break_of n) line text piece is_first
+same_indent m n line text piece is_first e h = subst (λ k. HasRead (break_of k) line text piece is_first) e h

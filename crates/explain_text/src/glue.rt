@@ -17,14 +17,15 @@ impl Glue {
     }
 
     /// Behind one word more, which these words follow. A sign stays with what it stands before, an
-    /// equation is not broken, nor are words in brackets, which stay with the word behind them.
+    /// equation is not broken, nor are words in brackets, which stay with the word behind them. More
+    /// than one space is broken at the first.
     pub fn behind(self, word: &str, next: &str) -> Glue {
         let open = open_behind(self.open, word);
         let is_sign = matches!(word.as_bytes(), b"+" | b"-" | b"=");
         let is_equation = next.starts_with("= ");
         Glue {
             open,
-            stays: self.open > 0 || open > 0 || is_sign || is_equation,
+            stays: self.open > 0 || open > 0 || is_sign || is_equation || word.is_empty(),
         }
     }
 }

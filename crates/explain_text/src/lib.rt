@@ -3,6 +3,8 @@
 
 mod glue;
 mod lines;
+#[cfg(test)]
+mod tests;
 mod wrap;
 
 pub use wrap::wrapped;

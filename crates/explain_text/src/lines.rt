@@ -78,10 +78,10 @@ impl Lines {
         ensures indent { OnOk result (self.new.indent ≡ self.old.indent) }
     {
         let mut piece = mem::replace(&mut self.piece, String::new(alloc));
-        piece.push_str(word)?;
+        append(&mut piece, word)?;
         self.lead(piece.width())?;
         self.is_first = false;
-        self.text.push_str(&piece)
+        append(&mut self.text, &piece)
     }
 
     // Writes what stands before a piece of this width: nothing before the first, and before another
@@ -98,12 +98,18 @@ impl Lines {
             Ok(())
         } else if end <= self.width {
             self.column = end;
-            self.text.push_str(" ")
+            append(&mut self.text, " ")
         } else {
             self.column = self.indent.saturating_add(wide);
             push_break(&mut self.text, self.indent)
         }
     }
+}
+
+fn append(text: &mut String, more: &str) -> Result<(), AllocError>
+    ensures { OnOk result (string_bytes text.new ≡ string_bytes text.old ++ more.now) }
+{
+    text.push_str(more)
 }
 
 // Appends a newline and so many spaces.

@@ -1,4 +1,4 @@
-use Rattle.std.proofs.Common.{◌≡◌, ◌++◌, ◌∷◌, ◌-◌, replicate, string_bytes}
+use Rattle.std.proofs.Common.{◌≡◌, ◌++◌, ◌-◌, replicate, string_bytes}
 use Rattle.explain_text.specs.Wrapped.{break_of}
 use Rattle.explain_text.proofs.lines.push_break.Given as goal
 
