@@ -18,5 +18,5 @@ size_text (size.NotGiven name) = codes "the size of '" ++ (string_bytes name ++ 
 size_text size.NoneOpen = codes "all sizes are given, and one is to be left open"
 size_text (size.TwoOpen name other) =
     codes "the sizes of '" ++
-        (string_bytes name ++ (codes "' and of '" ++ (string_bytes other ++ codes "' are not given, and one may be left open")))
+    (string_bytes name ++ (codes "' and of '" ++ (string_bytes other ++ codes "' are not given, and one may be left open")))
 size_text size.NoMemory = codes "no memory is left"

@@ -3,3 +3,4 @@ mod Meaning
 mod Walking
 mod Ordering
 mod Computed
+mod Naming

@@ -301,7 +301,7 @@ pub many_degree : (is : List Plain) → deg (many is) ≡ degrees is + entry_cou
 many_degree [] = refl
 many_degree (i ∷ is) = let more = many_degree is in omega (arith, more)
 
-few_in_tuple : (is : List Plain) → names_in (tuple_reading is) ≤ degrees is
+pub few_in_tuple : (is : List Plain) → names_in (tuple_reading is) ≤ degrees is
 few_in_tuple is = let few = few_in_entries (many is) 0 (length is) in let same = many_degree is in omega (arith, few, same)
 
 pub means_what_counts : MeansWhatCounts

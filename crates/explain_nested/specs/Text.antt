@@ -19,7 +19,7 @@ texts = map (λ (text : Bor (List ℕ)). text.now)
 abbrev pub letters : List Text
 letters =
     codes "x" ∷ codes "y" ∷ codes "z" ∷ codes "w" ∷ codes "u" ∷ codes "v" ∷ codes "s" ∷ codes "t"
-        ∷ codes "p" ∷ codes "q" ∷ codes "r" ∷ codes "h" ∷ []
+    ∷ codes "p" ∷ codes "q" ∷ codes "r" ∷ codes "h" ∷ []
 
 -- the names of the parameters, and behind them the letters that are no parameter's name
 abbrev pub value_names : List Text → List Text
@@ -64,11 +64,11 @@ pieces_text names next is_behind (Choices p k ∷ ps) =
     dot is_behind ++ (choices_text (place_text names p) k ++ pieces_text names next true ps)
 pieces_text names next is_behind (Elements p k ∷ ps) =
     dot is_behind ++ (sum_over
-        ++ (in_order (take k next) ++ (codes " in " ++ (place_text names p ++ (codes ") " ++ pieces_text names (drop k next) false ps)))))
+    ++ (in_order (take k next) ++ (codes " in " ++ (place_text names p ++ (codes ") " ++ pieces_text names (drop k next) false ps)))))
 pieces_text names next is_behind (Held p ∷ ps) =
     dot is_behind ++ (sum_over
-        ++ (in_order (take 1 next)
-        ++ (codes " held by " ++ (place_text names p ++ (codes ") " ++ pieces_text names (drop 1 next) false ps)))))
+    ++ (in_order (take 1 next)
+    ++ (codes " held by " ++ (place_text names p ++ (codes ") " ++ pieces_text names (drop 1 next) false ps)))))
 
 abbrev pub has_any : List Piece → Bool
 has_any [] = false
