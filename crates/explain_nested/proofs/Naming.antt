@@ -1,12 +1,11 @@
 -- There are letters enough.
-use Rattle.std.proofs.Common.{◌≡◌, ◌≤◌, ℕ, suc, ◌+◌, ◌&&◌, ◌||◌, not, cond, filter, Bool, true, false, List, [], ◌∷◌, ◌++◌, length, refl, sym, ap, ◌∙◌, arith, length-append}
+use Rattle.std.proofs.Common.{◌≡◌, ◌≤◌, suc, ◌+◌, ◌&&◌, ◌||◌, not, cond, filter, Bool, true, false, List, [], ◌∷◌, length, refl, sym, ap, ◌∙◌, arith, length-append}
 use Rattle.std.specs.List.{list_any}
 use Rattle.std.specs.Str.{bytes_eq}
 use Rattle.std.proofs.lemmas.Bool.{and_parts}
 use Rattle.std.specs.Cmp.Lexicographic.{bytes_decides}
 use Rattle.raml_syntax.specs.Tree.{Text}
-use Rattle.base_poly.specs.Plain.{Plain, degrees}
-use Rattle.explain_nested.specs.Text.{letters, value_names}
+use Rattle.explain_nested.specs.Text.{letters}
 use Rattle.explain_nested.specs.Laws.{NamesSuffice}
 use Rattle.explain_nested.proofs.Meaning.{few_in_tuple}
 
