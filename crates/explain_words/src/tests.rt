@@ -42,7 +42,12 @@ fn asks_for_checks_of_data(rt: HostRuntime) -> Result<(), Fail> {
 #[test]
 fn takes_data_for_one_file_alone(rt: HostRuntime) -> Result<(), Fail> {
     let alloc = rt.alloc();
-    assert!(rt; is_refused(&read_words(alloc, &["check", "one.raml", "two.raml", "--data", "f", "in.txt"])));
+    assert!(rt;
+        is_refused(&read_words(
+            alloc,
+            &["check", "one.raml", "two.raml", "--data", "f", "in.txt"]
+        ))
+    );
     assert!(rt; is_refused(&read_words(alloc, &["check", "one.raml", "--data", "f"])));
     assert!(rt; is_refused(&read_words(alloc, &["check", "--data", "f", "in.txt"])));
     Ok(())
