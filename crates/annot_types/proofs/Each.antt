@@ -1,6 +1,7 @@
 -- Blocks in their places, one by one.
 use Rattle.std.proofs.Common.{◌≡◌, ◌<ℤ◌, ℕ, zero, suc, ◌+◌, pos, List, [], ◌∷◌, slice_get, Some, None, arith, subst}
 use Rattle.std.proofs.lemmas.Int.{ints}
+use Rattle.std.proofs.lemmas.Option.{same_Some}
 use Rattle.cost_free.specs.declared.task.Meter.{Meter}
 use Rattle.cost_free.specs.declared.task.Meter.TheVariants.{Ticks, Cells, Work}
 use Rattle.annot_types.specs.Program.{Program}
@@ -13,14 +14,11 @@ abbrev pub EachInPlace : Program → Certificate → ℕ → List Block → Type
 EachInPlace P c place [] = Unit {0}
 EachInPlace P c place (b ∷ bs) = IsInPlace P c place b × EachInPlace P c (suc place) bs
 
-pub some_is : {A : Type 0} (x y : A) → Some x ≡ Some y → x ≡ y
-some_is x y e = cc
-
 in_place : (P : Program) (c : Certificate) (first : ℕ) (bs : List Block) → EachInPlace P c first bs → (k : ℕ) (block : Block) → slice_get bs k ≡ Some block →
     IsInPlace P c (first + k) block
 in_place P c first [] each k block there = absurd (cc)
 in_place P c first (b ∷ bs) each zero block there =
-    subst (λ n. IsInPlace P c n block) (omega arith) (subst (IsInPlace P c first) (some_is b block there) each.0)
+    subst (λ n. IsInPlace P c n block) (omega arith) (subst (IsInPlace P c first) (same_Some b block there) each.0)
 in_place P c first (b ∷ bs) each (suc k) block there =
     let moved : suc first + k ≡ first + suc k = omega arith in subst (λ n. IsInPlace P c n block) moved (in_place P c (suc first) bs each.1 k block there)
 

@@ -1,7 +1,7 @@
 -- Evaluations beside those of normal forms.
-use Rattle.std.proofs.Common.{◌≡◌, ◌≤◌, ◌+◌, ℕ, zero, suc, true, Option, Some, None, refl, sym, ap, subst, ◌∙◌, arith}
+use Rattle.std.proofs.Common.{◌≡◌, ◌+◌, ℕ, true, Option, Some, None, refl, sym, subst, ◌∙◌, arith}
 use Rattle.raml_syntax.specs.Value.{Value, Truth, Both, Cons, Node, Just}
-use Rattle.raml_syntax.specs.Eval.{Run, done, cut, costs, goes_on, and_then, node, branch, pair_case, list_case, tree_case, option_case}
+use Rattle.raml_syntax.specs.Eval.{Run, costs, goes_on, and_then, node, branch, pair_case, list_case, tree_case, option_case}
 use Rattle.normal_spec.specs.Norm as n
 use Rattle.normal_spec.specs.Norm.{carries}
 use Rattle.normal_spec.specs.Run.{NormEnv, NormCalls, spend, walk_norm}

@@ -1,33 +1,13 @@
 -- Slots, and the variables that stand for those of step one.
-use Rattle.std.proofs.Common.{◌≡◌, ◌≤◌, ◌<◌, ◌+◌, ℕ, zero, suc, List, [], ◌∷◌, ◌++◌, Bool, true, false, cond, refl, sym, ap, subst, ◌∙◌, arith}
-use Rattle.std.proofs.lemmas.Bool.{eqb-true}
-use Rattle.std.specs.Prelude.{nat_eq, not, ◌||◌, ◌&&◌}
+use Rattle.std.proofs.Common.{◌≡◌, ◌≤◌, ◌<◌, ◌+◌, ℕ, List, [], ◌∷◌, ◌++◌, Bool, true, false, cond, refl, sym, ap, subst, ◌∙◌, arith}
+use Rattle.std.proofs.lemmas.Bool.{eqb-true, or_left, or_right}
+use Rattle.std.specs.Prelude.{nat_eq}
 use Rattle.raml_syntax.specs.Value.{Value}
 use Rattle.normal_spec.specs.Norm as n
-use Rattle.normal_spec.specs.Run.{NormEnv, value_at, values_at, NormCalls, spend, walk_norm}
-use Rattle.normal_spec.specs.Two.{Shared, among, free_in, Slots, slot, copy_of, put, used, unused, drop_all, share_all, Taken, take_slot, AllTaken, take_all, behind, Parted, to_first, to_second, to_both, part}
+use Rattle.normal_spec.specs.Run.{NormEnv, value_at, values_at, NormCalls, walk_norm}
+use Rattle.normal_spec.specs.Two.{Shared, among, free_in, Slots, slot, copy_of, put, used, drop_all, share_all, take_slot, take_all, Parted, to_first, to_second, to_both, part}
 use Rattle.normal_spec.proofs.Ahead.{spend_none}
 use Rattle.normal_spec.proofs.StepOne.{same_number, other_number, Kept, kept_same, kept_more, kept_on, value_newest, value_older}
-
-pub or_left : (p q : Bool) → p ≡ true → (p || q) ≡ true
-or_left true q h = refl
-or_left false q h = absurd (cc)
-
-pub or_right : (p q : Bool) → q ≡ true → (p || q) ≡ true
-or_right true q h = refl
-or_right false q h = h
-
-pub and_both : (p q : Bool) → p ≡ true → q ≡ true → (p && q) ≡ true
-and_both true q h i = i
-and_both false q h i = absurd (cc)
-
-pub not_false : (p : Bool) → p ≡ false → not p ≡ true
-not_false true h = absurd (cc)
-not_false false h = refl
-
-pub or_false : (p q : Bool) → p ≡ false → q ≡ false → (p || q) ≡ false
-or_false true q h i = absurd (cc)
-or_false false q h i = i
 
 abbrev pub Below : ℕ → Slots → Type 0
 Below j [] = Unit {0}

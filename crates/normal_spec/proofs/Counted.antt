@@ -1,10 +1,10 @@
 -- The first form that counts stays first.
-use Rattle.std.proofs.Common.{◌≡◌, ◌<◌, ◌≤◌, ◌+◌, ℕ, zero, suc, List, [], ◌∷◌, length, refl, sym, ap, subst, ◌∙◌, arith}
+use Rattle.std.proofs.Common.{◌≡◌, ◌<◌, ℕ, List, [], ◌∷◌, refl, arith}
 use Rattle.std.specs.Prelude.{◌||◌}
 use Rattle.normal_spec.specs.Norm as n
 use Rattle.normal_spec.specs.Norm.{carries}
 use Rattle.normal_spec.specs.Levels.{Levels}
-use Rattle.normal_spec.specs.Two.{free_in, Shared, Slots, share_all, drop_all, unused, used, take_slot, take_all, part, of_one, of_two, of_three, over, around, two}
+use Rattle.normal_spec.specs.Two.{free_in, Shared, Slots, share_all, drop_all, unused, used, take_slot, take_all, part, of_one, around, two}
 use Rattle.normal_spec.specs.Uses.{first_nodes}
 
 -- a form of step one that has nodes

@@ -1,16 +1,15 @@
 -- The forms of step two evaluate as those of step one.
-use Rattle.std.proofs.Common.{◌≡◌, ◌≤◌, ◌<◌, ◌+◌, ℕ, zero, suc, List, [], ◌∷◌, ◌++◌, Bool, true, false, cond, refl, sym, ap, subst, ◌∙◌, arith}
-use Rattle.std.proofs.lemmas.Bool.{eqb-true}
-use Rattle.std.specs.Prelude.{nat_eq, not, ◌||◌, ◌&&◌}
-use Rattle.raml_syntax.specs.Value.{Value, Number, Truth, Both, Empty, Cons, Node, Just}
+use Rattle.std.proofs.Common.{◌≡◌, ◌≤◌, ◌<◌, ◌+◌, ℕ, List, [], ◌∷◌, ◌++◌, Bool, true, false, cond, refl, sym, ap, ◌∙◌, arith}
+use Rattle.std.proofs.lemmas.Bool.{or_left, or_right, and_from, not_from_false, or_from}
+use Rattle.std.specs.Prelude.{nat_eq, ◌||◌}
+use Rattle.raml_syntax.specs.Value.{Value, Both, Empty, Cons, Node, Just}
 use Rattle.raml_syntax.specs.Eval.{Run, done, cut, costs, and_then, new_cell, arith as calculate, compare, negation, branch, pair_case, list_case, tree_case, option_case}
 use Rattle.normal_spec.specs.Norm as n
-use Rattle.normal_spec.specs.Run.{NormEnv, value_at, values_at, NormCalls, spend, walk_norm}
-use Rattle.normal_spec.specs.Levels.{AllBelow, Levels}
-use Rattle.normal_spec.specs.Two.{Shared, among, free_in, Slots, slot, copy_of, put, used, unused, drop_all, share_all, Taken, Made, take_slot, take_all, behind, Parted, part, of_one, of_two, of_three, over, around, two}
-use Rattle.normal_spec.proofs.Ahead.{spend_none}
-use Rattle.normal_spec.proofs.StepOne.{same_number, other_number, Kept, kept_same, kept_more, kept_on, value_newest, value_older}
-use Rattle.normal_spec.proofs.Copies.{or_left, or_right, and_both, not_false, or_false, Below, below_more, below_append, below_put, below_used, put_new, append_new, used_copy, At, at_more, at_kept, at_is, at_bound, swap, after_shares, shares_walk, drops_walk, Took, took, TookAll, took_all, Halves, halves}
+use Rattle.normal_spec.specs.Run.{NormEnv, values_at, NormCalls, spend, walk_norm}
+use Rattle.normal_spec.specs.Levels.{Levels}
+use Rattle.normal_spec.specs.Two.{among, free_in, Slots, slot, copy_of, put, used, unused, take_slot, take_all, part, of_one, of_two, of_three, over, around, two}
+use Rattle.normal_spec.proofs.StepOne.{same_number}
+use Rattle.normal_spec.proofs.Copies.{Below, below_more, below_append, below_put, below_used, put_new, append_new, used_copy, At, at_more, at_is, at_bound, swap, after_shares, shares_walk, drops_walk, took, took_all, halves}
 
 -- the free variables of a form have variables that stand for them
 pub record Agrees (o : n.Norm) (G : Slots) (k : ℕ) (e f : NormEnv) : Type 0 where
@@ -161,7 +160,7 @@ module _ (d : NormCalls) where
         at = λ y m.
             at_more (r.1 + 1) ra.1 y _ _ _ (two_grows a (used a r.0.first) (r.1 + 1))
             (at_is (r.1 + 1) y _ _ _ _ (append_new j y x r.1 r.0.second (h.below_second j below) lv.0)
-            (at_bound r.1 r.1 y x _ v e g (omega arith) (λ ne. h.second y m (ag.at y (or_right (free_in y a) _ (and_both _ _ (not_false _ ne) m))))));
+            (at_bound r.1 r.1 y x _ v e g (omega arith) (λ ne. h.second y m (ag.at y (or_right (free_in y a) _ (and_from _ _ (not_from_false _ ne) m))))));
       }) in
       shares_walk d r.0.shares (n.Let i r.1 A ra.0 (around b (two b) (r.0.second ++ slot x r.1 ∷ []) ra.1).0) f
       ∙ (λ z. spend i (and_then (first z) (λ v. second v z)))
@@ -177,7 +176,7 @@ module _ (d : NormCalls) where
       (below_put (q + 1) x (slot p c ∷ slot q (c + 1) ∷ t.0.stay) G (omega (arith, lv.2), (omega arith, below_stay again (q + 1) x G k (omega (arith, lv.0, lv.1, lv.2)))) (below_more j (q + 1) G (omega (arith, lv.1, lv.2)) below))
       (record {
         at = λ y m. two_put j c y x p q c t.0.stay G v w e g below lv.1 lv.2 (omega arith)
-            (λ hp hq. tk.others y (λ s. ap (λ z. free_in z a) (sym s) ∙ m) (ag.at y (or_right (nat_eq y x) _ (and_both _ _ (not_false _ (or_false _ _ hp hq)) m))));
+            (λ hp hq. tk.others y (λ s. ap (λ z. free_in z a) (sym s) ∙ m) (ag.at y (or_right (nat_eq y x) _ (and_from _ _ (not_from_false _ (or_from _ _ hp hq)) m))));
       }) in
       shares_walk d t.0.shares (n.Split i t.0.name c (c + 1) (around a (two a) H (c + 2)).0) f
       ∙ (λ z. spend i (pair_case (tk.value z) cut (λ v w. inner v w z)))
@@ -211,7 +210,7 @@ module _ (d : NormCalls) where
       (below_put (l + 1) x (slot h c ∷ slot l (c + 1) ∷ t.0.stay) G (omega (arith, lv.3), (omega arith, below_stay again (l + 1) x G k (omega (arith, lv.0, lv.2, lv.3)))) (below_more j (l + 1) G (omega (arith, lv.2, lv.3)) below))
       (record {
         at = λ y m. at_more (c + 2) ra.1 y _ _ _ (two_grows a (used a H) (c + 2)) (two_put j c y x h l c t.0.stay G v w e g below lv.2 lv.3 (omega arith)
-            (λ hp hq. tk.others y (λ s. or_right (free_in x a) _ (ap (λ z. free_in z b) (sym s) ∙ m)) (ag.at y (or_right (nat_eq y x) _ (or_right (free_in y a) _ (and_both _ _ (not_false _ (or_false _ _ hp hq)) m))))));
+            (λ hp hq. tk.others y (λ s. or_right (free_in x a) _ (ap (λ z. free_in z b) (sym s) ∙ m)) (ag.at y (or_right (nat_eq y x) _ (or_right (free_in y a) _ (and_from _ _ (not_from_false _ (or_from _ _ hp hq)) m))))));
       }) in
       shares_walk d t.0.shares (n.CaseList i t.0.name ra.0 c (c + 1) (around b (two b) I ra.1).0) f
       ∙ (λ z. spend i (list_case (tk.value z) (first z) (λ v w. second v w z)))
@@ -231,7 +230,7 @@ module _ (d : NormCalls) where
       (below_put (r + 1) x (slot h c ∷ slot l (c + 1) ∷ slot r (c + 2) ∷ t.0.stay) G (omega (arith, lv.3, lv.4), (omega (arith, lv.4), (omega arith, below_stay again (r + 1) x G k (omega (arith, lv.0, lv.2, lv.3, lv.4))))) (below_more j (r + 1) G (omega (arith, lv.2, lv.3, lv.4)) below))
       (record {
         at = λ y m. at_more (c + 3) ra.1 y _ _ _ (two_grows a (used a H) (c + 3)) (three_put j c y x h l r c t.0.stay G u v w e g below lv.2 lv.3 lv.4 (omega arith)
-            (λ hp hq hr. tk.others y (λ s. or_right (free_in x a) _ (ap (λ z. free_in z b) (sym s) ∙ m)) (ag.at y (or_right (nat_eq y x) _ (or_right (free_in y a) _ (and_both _ _ (not_false _ (or_false _ _ hp (or_false _ _ hq hr))) m))))));
+            (λ hp hq hr. tk.others y (λ s. or_right (free_in x a) _ (ap (λ z. free_in z b) (sym s) ∙ m)) (ag.at y (or_right (nat_eq y x) _ (or_right (free_in y a) _ (and_from _ _ (not_from_false _ (or_from _ _ hp (or_from _ _ hq hr))) m))))));
       }) in
       shares_walk d t.0.shares (n.CaseTree i t.0.name ra.0 c (c + 1) (c + 2) (around b (two b) I ra.1).0) f
       ∙ (λ z. spend i (tree_case (tk.value z) (first z) (λ u v w. second u v w z)))
@@ -251,7 +250,7 @@ module _ (d : NormCalls) where
       (below_put (h + 1) x (slot h c ∷ t.0.stay) G (omega arith, below_stay again (h + 1) x G k (omega (arith, lv.0, lv.2))) (below_more j (h + 1) G (omega (arith, lv.2)) below))
       (record {
         at = λ y m. at_more (c + 1) ra.1 y _ _ _ (two_grows a (used a H) (c + 1)) (one_put j c y x h c t.0.stay G v e g below lv.2 (omega arith)
-            (λ hp. tk.others y (λ s. or_right (free_in x a) _ (ap (λ z. free_in z b) (sym s) ∙ m)) (ag.at y (or_right (nat_eq y x) _ (or_right (free_in y a) _ (and_both _ _ (not_false _ hp) m))))));
+            (λ hp. tk.others y (λ s. or_right (free_in x a) _ (ap (λ z. free_in z b) (sym s) ∙ m)) (ag.at y (or_right (nat_eq y x) _ (or_right (free_in y a) _ (and_from _ _ (not_from_false _ hp) m))))));
       }) in
       shares_walk d t.0.shares (n.CaseOption i t.0.name ra.0 c (around b (two b) I ra.1).0) f
       ∙ (λ z. spend i (option_case (tk.value z) (first z) (λ v. second v z)))

@@ -1,5 +1,5 @@
 -- Each variable of a context is used once on each path, and types fit.
-use Rattle.std.specs.Prelude.{◌≡◌, ◌≤◌, ◌<◌, ◌+◌, ℕ, nat_eq, cond, List, [], ◌∷◌, ◌++◌, map, Some, slice_get, FitsSigned}
+use Rattle.std.specs.Prelude.{◌≡◌, ◌≤◌, ◌<◌, ◌+◌, ℕ, nat_eq, cond, List, [], ◌∷◌, ◌++◌, Some, slice_get, FitsSigned}
 use Rattle.std.specs.Int.{w64}
 use Rattle.raml_syntax.specs.Tree.{Type', Integer, Boolean, PairOf, ListOf, TreeOf, OptionOf}
 use Rattle.raml_syntax.specs.Types.{IsListType, IsTreeType, IsOptionType}
