@@ -1,4 +1,3 @@
-mod Computed
 mod Least
 pub mod Components
 pub mod Sets
