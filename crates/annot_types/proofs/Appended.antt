@@ -17,191 +17,119 @@ use Rattle.annot_types.specs.Holds.{setting, Holds}
 use Rattle.annot_types.specs.Held.{Held, before}
 use Rattle.annot_types.specs.Example.{program, append, one_left, length_left, no_ticks, cells, append_with}
 use Rattle.annot_types.proofs.Small.{covered}
-use Rattle.annot_types.proofs.Each.{all_in_place, one_entry, two_entries, scales_positive}
+use Rattle.annot_types.proofs.Each.{all_in_place, one_entry, two_entries, scales_positive, one_holds}
 
 constant_holds : Holds (program append) 1 [] 1 one_left 1
-constant_holds = record {
-  positive = ltb-true 0 1 refl;
-  solved = tt;
-  functions = (
-    record {
-      fun = append;
-      there = refl;
-      args = (ltb-true 0 1 refl, tt);
-      result = (ltb-true 0 1 refl, tt);
-      fits = (
-        leb-true 0 1 refl,
+constant_holds =
+    one_holds append _ _ _ _ _ _ _ (ltb-true 0 1 refl, tt) (ltb-true 0 1 refl, tt) (
+      leb-true 0 1 refl,
+      (
+        _,
+        ((leb-true 0 1 refl, covered 1 _ _ refl), refl),
         (
-          _,
-          ((leb-true 0 1 refl, covered 1 _ _ refl), refl),
+          leb-true 0 1 refl,
           (
-            leb-true 0 1 refl,
+            _,
             (
               _,
+              (ltb-true 0 1 refl, tt),
               (
-                _,
-                (ltb-true 0 1 refl, tt),
-                (
-                  leb-true 0 1 refl,
-                  (record { fun = append; there = refl; once = _; takes = refl; multiples = []; named = tt; args = covered 1 _ _ refl; result = covered 1 _ _ refl }, refl),
-                ),
-                refl,
+                leb-true 0 1 refl,
+                (record { fun = append; there = refl; once = _; takes = refl; multiples = []; named = tt; args = covered 1 _ _ refl; result = covered 1 _ _ refl }, refl),
               ),
-              ((leb-true 0 1 refl, covered 1 _ _ refl), refl),
+              refl,
             ),
+            ((leb-true 0 1 refl, covered 1 _ _ refl), refl),
           ),
         ),
-      );
-    },
-    tt,
-  );
-  reaches = record { fun = append; there = refl; target = _; numbered = refl; sig = _; signed = refl; covers = (leb-true 1 1 refl, tt) };
-}
+      ),
+    )
+    (record { fun = append; there = refl; target = _; numbered = refl; sig = _; signed = refl; covers = (leb-true 1 1 refl, tt) })
 
 -- the first block, taken once
 abbrev one_taken : Taken
 one_taken = record { budget = 0; sig = record { args = (0, pos 1) ∷ []; result = (0, pos 1) ∷ [] }; times = 1 }
 
 length_holds : Holds (program append) 1 (one_left ∷ []) 1 length_left 1
-length_holds = record {
-  positive = ltb-true 0 1 refl;
-  solved = tt;
-  functions = (
-    record {
-      fun = append;
-      there = refl;
-      args = (ltb-true 1 3 refl, (ltb-true 2 3 refl, tt));
-      result = (ltb-true 1 2 refl, tt);
-      fits = (
-        leb-true 0 0 refl,
+length_holds =
+    one_holds append _ _ _ _ _ _ _ (ltb-true 1 3 refl, (ltb-true 2 3 refl, tt)) (ltb-true 1 2 refl, tt) (
+      leb-true 0 0 refl,
+      (
+        _,
+        ((leb-true 0 0 refl, covered 2 _ _ refl), refl),
         (
-          _,
-          ((leb-true 0 0 refl, covered 2 _ _ refl), refl),
+          leb-true 0 1 refl,
           (
-            leb-true 0 1 refl,
+            _,
             (
               _,
+              (ltb-true 0 2 refl, (ltb-true 1 2 refl, tt)),
               (
-                _,
-                (ltb-true 0 2 refl, (ltb-true 1 2 refl, tt)),
-                (
-                  leb-true 0 1 refl,
-                  (
-                    record {
-                      fun = append;
-                      there = refl;
-                      once = _;
-                      takes = refl;
-                      multiples = one_taken ∷ [];
-                      named = (record { block = one_left; there = refl; free = refl; low = leb-true 0 1 refl; sig = refl; times = refl }, tt);
-                      args = covered 3 _ _ refl;
-                      result = covered 2 _ _ refl;
-                    },
-                    refl,
-                  ),
-                ),
-                refl,
+                leb-true 0 1 refl,
+                (record { fun = append; there = refl; once = _; takes = refl; multiples = one_taken ∷ []; named = (record { block = one_left; there = refl; free = refl; low = leb-true 0 1 refl; sig = refl; times = refl }, tt); args = covered 3 _ _ refl; result = covered 2 _ _ refl }, refl),
               ),
-              ((leb-true 0 1 refl, covered 2 _ _ refl), refl),
+              refl,
             ),
+            ((leb-true 0 1 refl, covered 2 _ _ refl), refl),
           ),
         ),
-      );
-    },
-    tt,
-  );
-  reaches = record { fun = append; there = refl; target = _; numbered = refl; sig = _; signed = refl; covers = (leb-true 1 1 refl, tt) };
-}
+      ),
+    )
+    (record { fun = append; there = refl; target = _; numbered = refl; sig = _; signed = refl; covers = (leb-true 1 1 refl, tt) })
 
 ticks_hold : Holds (program append) 1 (one_left ∷ length_left ∷ []) 1 no_ticks 1
-ticks_hold = record {
-  positive = ltb-true 0 1 refl;
-  solved = tt;
-  functions = (
-    record {
-      fun = append;
-      there = refl;
-      args = tt;
-      result = tt;
-      fits = (
-        leb-true 0 0 refl,
+ticks_hold =
+    one_holds append _ _ _ _ _ _ _ tt tt (
+      leb-true 0 0 refl,
+      (
+        _,
+        ((leb-true 0 0 refl, covered 2 _ _ refl), refl),
         (
-          _,
-          ((leb-true 0 0 refl, covered 2 _ _ refl), refl),
+          leb-true 0 0 refl,
           (
-            leb-true 0 0 refl,
+            _,
             (
               _,
+              tt,
               (
-                _,
-                tt,
-                (
-                  leb-true 0 0 refl,
-                  (record { fun = append; there = refl; once = _; takes = (_, refl, refl); multiples = []; named = tt; args = covered 3 _ _ refl; result = covered 2 _ _ refl }, refl),
-                ),
-                refl,
+                leb-true 0 0 refl,
+                (record { fun = append; there = refl; once = _; takes = (_, refl, refl); multiples = []; named = tt; args = covered 3 _ _ refl; result = covered 2 _ _ refl }, refl),
               ),
-              ((leb-true 0 0 refl, covered 2 _ _ refl), refl),
+              refl,
             ),
+            ((leb-true 0 0 refl, covered 2 _ _ refl), refl),
           ),
         ),
-      );
-    },
-    tt,
-  );
-  reaches = tt;
-}
+      ),
+    )
+    tt
 
 cells_hold : Holds (program append) 1 (one_left ∷ length_left ∷ no_ticks ∷ []) 1 (cells ((2, pos 1) ∷ [])) 1
-cells_hold = record {
-  positive = ltb-true 0 1 refl;
-  solved = tt;
-  functions = (
-    record {
-      fun = append;
-      there = refl;
-      args = (ltb-true 2 3 refl, tt);
-      result = tt;
-      fits = (
-        leb-true 0 0 refl,
+cells_hold =
+    one_holds append _ _ _ _ _ _ _ (ltb-true 2 3 refl, tt) tt (
+      leb-true 0 0 refl,
+      (
+        _,
+        ((leb-true 0 0 refl, covered 2 _ _ refl), refl),
         (
-          _,
-          ((leb-true 0 0 refl, covered 2 _ _ refl), refl),
+          leb-true 0 1 refl,
           (
-            leb-true 0 1 refl,
+            _,
             (
               _,
+              (ltb-true 0 2 refl, tt),
               (
-                _,
-                (ltb-true 0 2 refl, tt),
-                (
-                  leb-true 0 1 refl,
-                  (
-                    record {
-                      fun = append;
-                      there = refl;
-                      once = _;
-                      takes = (_, refl, refl);
-                      multiples = one_taken ∷ [];
-                      named = (record { block = one_left; there = refl; free = refl; low = leb-true 0 1 refl; sig = refl; times = refl }, tt);
-                      args = covered 3 _ _ refl;
-                      result = covered 2 _ _ refl;
-                    },
-                    refl,
-                  ),
-                ),
-                refl,
+                leb-true 0 1 refl,
+                (record { fun = append; there = refl; once = _; takes = (_, refl, refl); multiples = one_taken ∷ []; named = (record { block = one_left; there = refl; free = refl; low = leb-true 0 1 refl; sig = refl; times = refl }, tt); args = covered 3 _ _ refl; result = covered 2 _ _ refl }, refl),
               ),
-              ((leb-true 1 1 refl, covered 2 _ _ refl), refl),
+              refl,
             ),
+            ((leb-true 1 1 refl, covered 2 _ _ refl), refl),
           ),
         ),
-      );
-    },
-    tt,
-  );
-  reaches = tt;
-}
+      ),
+    )
+    tt
 
 pub append_held : Held (program append) (append_with ((2, pos 1) ∷ []))
 append_held = record {

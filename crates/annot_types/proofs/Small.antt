@@ -2,7 +2,7 @@
 use Rattle.std.proofs.Common.{◌≡◌, ◌≤◌, ◌<◌, ℕ, zero, suc, nat_le, ◌&&◌, Bool, true, arith}
 use Rattle.std.proofs.lemmas.Bool.{leb-true, and_parts}
 
--- each of the (and_parts n numbers is).0 at most the other
+-- each of the first n numbers is at most the other
 abbrev pub is_covered : ℕ → (ℕ → ℕ) → (ℕ → ℕ) → Bool
 is_covered zero r q = true
 is_covered (suc n) r q = nat_le (r 0) (q 0) && is_covered n (λ k. r (suc k)) (λ k. q (suc k))

@@ -12,53 +12,29 @@ use Rattle.annot_types.specs.System.{system, IsRefutedBy, Valid}
 use Rattle.annot_types.specs.Example.{program, block}
 use Rattle.annot_types.specs.SystemExample.{SystemExamples, spin, spin_free, spin_ticks, spinning}
 use Rattle.annot_types.proofs.Small.{covered}
-use Rattle.annot_types.proofs.Each.{is_positive, all_in_place, one_entry, scales_positive}
+use Rattle.annot_types.proofs.Each.{is_positive, all_in_place, one_entry, scales_positive, one_holds}
 
 free_holds : Holds (program spin) 1 [] 1 spin_free 1
-free_holds = record {
-  positive = ltb-true 0 1 refl;
-  solved = tt;
-  functions = (
-    record {
-      fun = spin;
-      there = refl;
-      args = tt;
-      result = (ltb-true 0 1 refl, tt);
-      fits = (
+free_holds =
+    one_holds spin _ _ _ _ _ _ _ tt (ltb-true 0 1 refl, tt) (
+      leb-true 0 0 refl,
+      (
         leb-true 0 0 refl,
-        (
-          leb-true 0 0 refl,
-          (record { fun = spin; there = refl; once = _; takes = refl; multiples = []; named = tt; args = covered 1 _ _ refl; result = covered 1 _ _ refl }, refl),
-        ),
-      );
-    },
-    tt,
-  );
-  reaches = record { fun = spin; there = refl; target = _; numbered = refl; sig = _; signed = refl; covers = (leb-true 1 1 refl, tt) };
-}
+        (record { fun = spin; there = refl; once = _; takes = refl; multiples = []; named = tt; args = covered 1 _ _ refl; result = covered 1 _ _ refl }, refl),
+      ),
+    )
+    (record { fun = spin; there = refl; target = _; numbered = refl; sig = _; signed = refl; covers = (leb-true 1 1 refl, tt) })
 
 cells_hold : Holds (program spin) 1 (before spinning 2) 1 (block (With Cells) [] [] (Call [] ∷ [])) 1
-cells_hold = record {
-  positive = ltb-true 0 1 refl;
-  solved = tt;
-  functions = (
-    record {
-      fun = spin;
-      there = refl;
-      args = tt;
-      result = tt;
-      fits = (
+cells_hold =
+    one_holds spin _ _ _ _ _ _ _ tt tt (
+      leb-true 0 0 refl,
+      (
         leb-true 0 0 refl,
-        (
-          leb-true 0 0 refl,
-          (record { fun = spin; there = refl; once = _; takes = (_, refl, refl); multiples = []; named = tt; args = covered 1 _ _ refl; result = covered 1 _ _ refl }, refl),
-        ),
-      );
-    },
-    tt,
-  );
-  reaches = tt;
-}
+        (record { fun = spin; there = refl; once = _; takes = (_, refl, refl); multiples = []; named = tt; args = covered 1 _ _ refl; result = covered 1 _ _ refl }, refl),
+      ),
+    )
+    tt
 
 spin_held : Held (program spin) spinning
 spin_held = record {

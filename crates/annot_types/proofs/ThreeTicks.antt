@@ -11,54 +11,31 @@ use Rattle.annot_types.specs.Holds.{setting, Holds}
 use Rattle.annot_types.specs.Held.{Held, before}
 use Rattle.annot_types.specs.Example.{program, block, three_ticks, constant, ticks_of_three, two_of_three, work_of_three}
 use Rattle.annot_types.proofs.Small.{covered}
-use Rattle.annot_types.proofs.Each.{all_in_place, one_entry, scales_positive, work_positive}
+use Rattle.annot_types.proofs.Each.{all_in_place, one_entry, scales_positive, work_positive, one_holds}
 
 constant_holds : Holds (program three_ticks) 1 [] 1 constant 1
-constant_holds = record {
-  positive = ltb-true 0 1 refl;
-  solved = tt;
-  functions = (
-    record {
-      fun = three_ticks;
-      there = refl;
-      args = (ltb-true 0 1 refl, tt);
-      result = (ltb-true 0 1 refl, tt);
-      fits = (leb-true 0 1 refl, ((leb-true 0 1 refl, covered 1 _ _ refl), refl));
-    },
-    tt,
-  );
-  reaches = record { fun = three_ticks; there = refl; target = _; numbered = refl; sig = _; signed = refl; covers = (leb-true 1 1 refl, tt) };
-}
+constant_holds =
+    one_holds three_ticks _ _ _ _ _ _ _ (ltb-true 0 1 refl, tt) (ltb-true 0 1 refl, tt)
+    (leb-true 0 1 refl, ((leb-true 0 1 refl, covered 1 _ _ refl), refl))
+    (record { fun = three_ticks; there = refl; target = _; numbered = refl; sig = _; signed = refl; covers = (leb-true 1 1 refl, tt) })
 
 ticks_hold : (earlier : List Block) → Holds (program three_ticks) 1 earlier 1 (block (k.With Ticks) ((0, pos 3) ∷ []) [] []) 1
-ticks_hold earlier = record {
-  positive = ltb-true 0 1 refl;
-  solved = tt;
-  functions = (
-    record { fun = three_ticks; there = refl; args = (ltb-true 0 1 refl, tt); result = tt; fits = (leb-true 3 3 refl, ((leb-true 0 0 refl, covered 1 _ _ refl), refl)) },
-    tt,
-  );
-  reaches = tt;
-}
+ticks_hold earlier =
+    one_holds three_ticks _ _ _ _ _ _ _ (ltb-true 0 1 refl, tt) tt
+    (leb-true 3 3 refl, ((leb-true 0 0 refl, covered 1 _ _ refl), refl))
+    tt
 
 cells_hold : (earlier : List Block) → Holds (program three_ticks) 1 earlier 1 (block (k.With Cells) [] [] []) 1
-cells_hold earlier = record {
-  positive = ltb-true 0 1 refl;
-  solved = tt;
-  functions = (record { fun = three_ticks; there = refl; args = tt; result = tt; fits = (leb-true 0 0 refl, ((leb-true 0 0 refl, covered 1 _ _ refl), refl)) }, tt);
-  reaches = tt;
-}
+cells_hold earlier =
+    one_holds three_ticks _ _ _ _ _ _ _ tt tt
+    (leb-true 0 0 refl, ((leb-true 0 0 refl, covered 1 _ _ refl), refl))
+    tt
 
 work_holds : (earlier : List Block) → Holds (program three_ticks) 1 earlier 1 (block (k.With Work) ((0, pos 3) ∷ []) [] []) 1
-work_holds earlier = record {
-  positive = ltb-true 0 1 refl;
-  solved = tt;
-  functions = (
-    record { fun = three_ticks; there = refl; args = (ltb-true 0 1 refl, tt); result = tt; fits = (leb-true 2 3 refl, ((leb-true 1 1 refl, covered 1 _ _ refl), refl)) },
-    tt,
-  );
-  reaches = tt;
-}
+work_holds earlier =
+    one_holds three_ticks _ _ _ _ _ _ _ (ltb-true 0 1 refl, tt) tt
+    (leb-true 2 3 refl, ((leb-true 1 1 refl, covered 1 _ _ refl), refl))
+    tt
 
 pub tick_held : Held (program three_ticks) ticks_of_three
 tick_held = record {
