@@ -22,7 +22,7 @@ use Rattle.normal_spec.specs.Laws.{Ahead}
 use Rattle.normal_spec.proofs.Ahead.{run_is, walk_carries, ahead_same, ahead_is, ahead_node}
 use Rattle.normal_spec.proofs.StepOne.{other_number, kept_same, value_older, Stands, stands_on, stands_bound, walk_ahead}
 use Rattle.normal_spec.proofs.Leveled.{Low, levels_carries, levels_one}
-use Rattle.normal_spec.proofs.Copies.{Below}
+use Rattle.normal_spec.proofs.Weights.{AllLow}
 use Rattle.normal_spec.proofs.StepTwo.{Agrees, around_walks, two_walks}
 
 abbrev zero_value : Value
@@ -78,7 +78,7 @@ stands_entry (p ∷ ps) (v ∷ vs) k S env f differ free st =
     other x h false q = free.name x (contains_later x p.name (names ps) h)
 
 -- parameters stand for themselves
-below_own : (ps : List Parameter) (k j : ℕ) → k + length ps ≤ j → Below j (own (numbered ps k))
+below_own : (ps : List Parameter) (k j : ℕ) → k + length ps ≤ j → AllLow j (own (numbered ps k))
 below_own [] k j le = tt
 below_own (p ∷ ps) k j le = (omega arith, below_own ps (k + 1) j (omega arith))
 
