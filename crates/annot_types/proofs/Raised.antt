@@ -173,6 +173,9 @@ all_free_kept u P meter (b ∷ bs) = (free_kept u P meter b (is_for_meter meter 
 itself : (P : Program) (m : Mode) (b : Block) → BlockTimes 1 P m b b
 itself P m b = record { task = refl; free = λ budget free f. refl; cost = λ other e on f. sym (option_once (sig_in P b f)) }
 
+pub not_true : (b : Bool) → (b ≡ true → ⊥) → b ≡ false
+not_true = false_from_ne_true
+
 other_kept : (u t : ℕ) (P : Program) (meter other : Meter) → same_meter meter other ≡ false → (b : Block) (c : Bool) → is_for_meter meter b.task.kind ≡ c →
     BlockTimes 1 P (With other) (raised other t b) (raised other t (raised meter u b))
 other_kept u t P meter other differ b false e =
