@@ -1,12 +1,12 @@
 -- Capped sums of unknowns and their rows.
 use Rattle.std.proofs.Common.{◌≡◌, refl, ap, sym, ◌∙◌, arith, subst, inl, inr}
-use Rattle.std.specs.Prelude.{ℕ, zero, suc, ◌+◌, ◌-◌, ◌^◌, ◌<◌, ◌≤◌, ◌⊎◌, Bool, true, false, cond, not, ◌&&◌, int_le, ℤ, pos, ◌-ℤ◌, ◌≤ℤ◌, negsuc, ◌∷◌, map, filter, Some, None}
+use Rattle.std.specs.Prelude.{ℕ, zero, suc, ◌+◌, ◌*◌, ◌-◌, ◌^◌, ◌<◌, ◌≤◌, ◌⊎◌, Bool, true, false, cond, not, ◌&&◌, int_le, ℤ, pos, ◌-ℤ◌, ◌≤ℤ◌, negsuc, ◌∷◌, map, filter, Some, None}
 use Rattle.std.specs.List.{range_with_len, list_all}
 use Rattle.std.specs.Ordering.{int_eq}
 use Rattle.std.proofs.lemmas.Int.{ints}
 use Rattle.std.proofs.lemmas.Bool.{and_parts}
 use Rattle.rules_spec.proofs.Solving.{is_zero}
-use Rattle.rules_spec.proofs.Capping.{cap_times}
+use Rattle.rules_spec.proofs.Capping.{cap_times as capped_times}
 use Rattle.linear_rows.specs.Terms.{Terms, SparseRow}
 use Rattle.rules_spec.specs.Numbers.{Carries, Condition}
 use Rattle.rules_spec.specs.Kinds.{Form, forms}
@@ -15,6 +15,12 @@ use Rattle.rules_spec.specs.Solving.{row_of}
 use Rattle.rules_spec.proofs.Given.{given_carry}
 use Rattle.rules_spec.specs.CappedRows.{capped_form, capped_forms, capped_totals, fits, row_fits, RowsAgree, CappedRows}
 use Rattle.rules_spec.specs.Sure.{IsSure}
+
+pub cap_times : (n a : ℕ) → cap (n * a) ≡ cap (n * cap a)
+cap_times = capped_times
+
+pub both_true : (a b : Bool) → (a && b) ≡ true → (a ≡ true) × (b ≡ true)
+both_true = and_parts
 
 pub same_form : (f g : Form) → ((u : ℕ) → f.terms u ≡ g.terms u) → f.plus ≡ g.plus → f.minus ≡ g.minus → f ≡ g
 same_form f g t p m = λ i. record { terms = λ u. t u i; plus = p i; minus = m i }
