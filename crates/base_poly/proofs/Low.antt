@@ -1,5 +1,5 @@
 -- Of what there is up to a degree, what there is up to a lower one.
-use Rattle.std.proofs.Common.{◌≡◌, ℕ, ◌≤◌, nat_le, List, filter, ap, ◌∙◌, sym, subst, arith}
+use Rattle.std.proofs.Common.{◌≡◌, ℕ, ◌≤◌, nat_le, true, List, filter, ap, ◌∙◌, sym, subst, arith}
 use Rattle.std.specs.declared.cmp.Ordering.{Ordering}
 use Rattle.std.specs.declared.cmp.Ordering.TheVariants.{Less, Greater}
 use Rattle.std.specs.Ordering.{ordering_reverse}
@@ -11,6 +11,9 @@ use Rattle.base_poly.specs.Total.{order_many, order_total, entries_of_many}
 use Rattle.base_poly.proofs.Among.{Among, among_kept, kept_among, ascends_kept}
 use Rattle.base_poly.proofs.Exact.{sound, whole, sound_lists, whole_lists, sound_tuples, whole_tuples, lists_ascend, indices_ascend, tuples_ascend}
 use Rattle.base_poly.proofs.Only.{one_order}
+
+pub is_low : (n k : ℕ) → nat_le n k ≡ true → n ≤ k
+is_low = leb-true
 
 apart : Less ≡ Greater → ⊥
 apart e = cc
