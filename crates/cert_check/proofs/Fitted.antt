@@ -1,6 +1,7 @@
 -- Where the functions of a group hold, all conditions of the bodies are met.
 use Rattle.std.proofs.Common.{◌≡◌, ap, sym, ◌∙◌, subst, arith}
 use Rattle.std.specs.Prelude.{ℕ, suc, ◌+◌, ◌*◌, List, [], ◌∷◌, ◌++◌, slice_get, slice_index_or, Option, Some}
+use Rattle.rules_spec.proofs.Agreed.{meet_append}
 use Rattle.normal_spec.specs.Norm.{NormFun}
 use Rattle.normal_spec.specs.Context.{types}
 use Rattle.cost_free.specs.Task.{Task}
@@ -53,10 +54,6 @@ answered_fits [] (h ∷ hs) xs left a r = absurd (let no : h ∷ hs ≡ [] = a.0
 answered_fits (ask ∷ asks) [] xs left a r = absurd a
 answered_fits (ask ∷ asks) (h ∷ hs) [] left a r = absurd a
 answered_fits (ask ∷ asks) (h ∷ hs) (x ∷ xs) left a r = (fits_ask ask h x a.0 (r.0, tt), answered_fits asks hs xs left a.1 r.1)
-
-both_are_met : (cs ds : List (Condition Amount)) → AllMeet cs → AllMeet ds → AllMeet (cs ++ ds)
-both_are_met [] ds h k = k
-both_are_met (c ∷ cs) ds h k = (h.0, both_are_met cs ds h.1 k)
 
 module _ (P : Program) (proper : IsProper P) (d : ℕ) (earlier : List Block) (task : Task) (scale : ℕ) (sigs : List Sig) where
   abbrev S : Setting
@@ -122,7 +119,7 @@ module _ (P : Program) (proper : IsProper P) (d : ℕ) (earlier : List Block) (t
     functions_meet place (f ∷ fs) (s ∷ ss) [] h r at = absurd h
     functions_meet place (f ∷ fs) (s ∷ ss) (hs ∷ hss) h r at =
         let b = body_at (slice_get P.funs f) in
-        both_are_met (of_body (amounts 1) job_at all place b (hints_at (asked b.plan) hs)).found
+        meet_append (of_body (amounts 1) job_at all place b (hints_at (asked b.plan) hs)).found
         (of_bodies (amounts 1) job_at all (suc place) (bodies_at fs) (all_hints_at (bodies_at fs) hss))
         (one_meets place f s hs h.0 r.0 (ap (λ j. slice_index_or all j (none P proper d earlier task scale sigs fit)) (omega arith) ∙ at 0))
         (functions_meet (suc place) fs ss hss h.1 r.1 (λ j. ap (λ i. slice_index_or all i (none P proper d earlier task scale sigs fit)) (omega arith) ∙ at (suc j)))

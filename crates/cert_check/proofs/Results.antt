@@ -1,5 +1,5 @@
 -- The types of results, and the functions that have them.
-use Rattle.std.proofs.Common.{◌≡◌, refl, ap, sym, arith}
+use Rattle.std.proofs.Common.{◌≡◌, ◌∙◌, refl, ap, sym, arith}
 use Rattle.std.specs.Prelude.{ℕ, zero, suc, ◌≤◌, List, [], ◌∷◌, map, length, slice_get, None, Some}
 use Rattle.std.specs.Option.{option_map}
 use Rattle.std.proofs.lemmas.Option.{none-some, same_Some}
@@ -16,6 +16,13 @@ results_are [] [] e = refl
 results_are [] (g ∷ gs) e = absurd (omega (arith, e))
 results_are (A ∷ As) [] e = absurd (omega (arith, e))
 results_are (A ∷ As) (g ∷ gs) e = ap (λ l. ty_of A ∷ l) (results_are As gs (omega (arith, e)))
+
+-- what a kept program lends has a type of a result for each function
+pub each_result : {X Y : Type 0} {xs ys : List X} {fs gs : List Y} {k : ℕ} → ys ≡ xs → length ys ≡ k → gs ≡ fs → length gs ≡ k → length xs ≡ length fs
+each_result is count are many = ap length (sym is) ∙ count ∙ sym (ap length (sym are) ∙ many)
+
+pub lent_results : {As Bs : List Ty} {fs gs : List NormFun} {k : ℕ} → Bs ≡ As → length Bs ≡ k → gs ≡ fs → length gs ≡ k → context_of Bs ≡ map (λ (g : n.NormFun). g.result) (funs_of As fs)
+lent_results {As} {Bs} {fs} is count are many = ap context_of is ∙ sym (results_are As fs (each_result is count are many))
 
 pub result_at : (As : List Ty) (gs : List NormFun) (k : ℕ) (A : Ty) → length As ≡ length gs → slice_get As k ≡ Some A → HasResult (funs_of As gs) k (ty_of A)
 result_at [] gs k A e h = absurd (none-some A h)
@@ -38,9 +45,3 @@ params_at [] (x ∷ gs) k g e h = absurd (omega (arith, e))
 params_at (A ∷ As) [] k g e h = absurd (omega (arith, e))
 params_at (A ∷ As) (x ∷ gs) zero g e h = ap (λ (y : NormFun). Some (parameters_of y.params.items)) (sym (same_Some x g h))
 params_at (A ∷ As) (x ∷ gs) (suc k) g e h = params_at As gs k g (omega (arith, e)) h
-
-pub no_function : (As : List Ty) (gs : List NormFun) (k : ℕ) → length gs ≤ k → slice_get (funs_of As gs) k ≡ None
-no_function [] gs k l = refl
-no_function (A ∷ As) [] k l = refl
-no_function (A ∷ As) (g ∷ gs) zero l = absurd (omega (arith, l))
-no_function (A ∷ As) (g ∷ gs) (suc k) l = no_function As gs k (omega (arith, l))

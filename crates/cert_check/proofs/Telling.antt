@@ -15,10 +15,6 @@ pub tells_more : {X : Type 0} (r : Result X CertFault) (A B : Option f.Fault →
 tells_more (Ok x) A B h k = h None k
 tells_more (Err e) A B h k = of_fault (fault_of e) A B h k
 
-pub if_ok : {X E : Type 0} (r : Result X E) (A B : X → Type 0) → ((x : X) → A x → B x) → IfOk r A → IfOk r B
-if_ok (Ok x) A B h k = h x k
-if_ok (Err e) A B h k = tt
-
 pub at_none : {X : Type 0} (o : Option X) (A : Type 0) → o ≡ None → IfNone o A → A
 at_none None A e h = h
 at_none (Some x) A e h = absurd (none-some x (sym e))

@@ -5,6 +5,7 @@ use Rattle.std.specs.List.{AllByRecursion, IsDistinct}
 use Rattle.std.specs.declared.cmp.Ordering.TheVariants.{Less, Greater}
 use Rattle.std.specs.Ordering.{ordering_reverse}
 use Rattle.std.proofs.lemmas.Int.{ints}
+use Rattle.rules_walk.proofs.Counting.{same_default}
 use Rattle.raml_syntax.specs.Tree.{Type'}
 use Rattle.base_poly.specs.Plain.{Plain, degrees, alike}
 use Rattle.base_poly.specs.Indices.{IsBefore, Ascends, tuple_order, index_list}
@@ -29,17 +30,12 @@ pub terms_over : (As : List Type') (d : ℕ) (es : Entries) → magnitudes (over
 terms_over As d [] = refl
 terms_over As d (e ∷ es) = ap (λ ts. (slice_index_or (index_list As d) e.0 [], unsigned_abs e.1) ∷ ts) (terms_over As d es)
 
-same_at : {X : Type 0} (xs : List X) (k : ℕ) (d e : X) → k < length xs → slice_index_or xs k d ≡ slice_index_or xs k e
-same_at [] k d e l = absurd (omega (arith, l))
-same_at (x ∷ xs) zero d e l = refl
-same_at (x ∷ xs) (suc k) d e l = same_at xs k d e (omega (arith, l))
-
 -- one term more
 pub next_over : (ts : List (List Plain)) (es : Entries) (made now all : List (List Plain × ℤ)) (k : ℕ) (e : ℕ × ℤ) (t u : List Plain) → Within (length ts) es → k < length es →
     t ≡ slice_index_or ts (slice_index_or es k e).0 u → now ≡ made ++ (t, (slice_index_or es k e).1) ∷ [] → made ++ over ts (drop k es) ≡ all →
     now ++ over ts (drop (k + 1) es) ≡ all
 next_over ts es made now all k e t u within l at is done =
-    let here = at ∙ same_at ts (slice_index_or es k e).0 u [] (within_at (length ts) es within k e l) in
+    let here = at ∙ same_default ts (slice_index_or es k e).0 u [] (within_at (length ts) es within k e l) in
     ap (λ ms. ms ++ over ts (drop (k + 1) es)) is
     ∙ append_assoc made ((t, (slice_index_or es k e).1) ∷ []) (over ts (drop (k + 1) es))
     ∙ (λ i. made ++ (here i, (slice_index_or es k e).1) ∷ over ts (drop (k + 1) es))

@@ -118,8 +118,3 @@ pub got : {X : Type 0} (xs : List X) (k : ℕ) (x : X) → k < length xs → x �
 got [] k x h e = absurd (omega (arith, h))
 got (y ∷ xs) zero x h e = ap Some (sym e)
 got (y ∷ xs) (suc k) x h e = got xs k x (omega (arith, h)) e
-
-pub got_none : {X : Type 0} (xs : List X) (k : ℕ) → length xs ≤ k → slice_get xs k ≡ None
-got_none [] k h = refl
-got_none (y ∷ xs) zero h = absurd (omega (arith, h))
-got_none (y ∷ xs) (suc k) h = got_none xs k (omega (arith, h))

@@ -3,6 +3,8 @@ use Rattle.std.proofs.Common.{◌≡◌, ℕ, zero, suc, ◌+◌, ◌-◌, ◌�
 use Rattle.std.proofs.lemmas.List.{length-map, map-append}
 use Rattle.std.specs.List.{position_or_len}
 use Rattle.std.specs.declared.cmp.Ordering.TheVariants.{Less}
+use Rattle.index_shift.proofs.Tabled.{one_more}
+use Rattle.index_shift.proofs.Placed.{other}
 use Rattle.raml_syntax.specs.Tree.{Type'}
 use Rattle.base_poly.specs.Plain.{Plain, degrees, alike}
 use Rattle.base_poly.specs.Indices.{AreIndices, Ascends, each_in_turn, tuples_led, indices_up_to, tuples_up_to, index_list}
@@ -18,13 +20,6 @@ use Rattle.tuple_ranks.proofs.Ranked.{size_is}
 
 -- In order no two are the same
 
-other : (t u : List Plain) → each_in_turn t u ≡ Less → alike u t ≡ false
-other t u h = by (alike u t) refl
-  where
-    by : (b : Bool) → alike u t ≡ b → alike u t ≡ false
-    by true e = let again = ap (each_in_turn t) (sym (alike_is u t e)) ∙ h in absurd (never_turn t t again again)
-    by false e = e
-
 pub stands_at : (us : List (List Plain)) (k : ℕ) (t : List Plain) → Ascends each_in_turn us → slice_get us k ≡ Some t → position_or_len (alike t) us ≡ k
 stands_at [] k t up h = absurd (none h)
   where
@@ -37,9 +32,6 @@ stands_at (u ∷ us) zero t up h = ap (λ b. cond (not b) (1 + position_or_len (
 stands_at (u ∷ us) (suc k) t up h =
     ap (λ b. cond (not b) (1 + position_or_len (alike t) us) 0) (other u t (before_one each_in_turn u t us up.0 (got_among us k t h)))
     ∙ one_more (position_or_len (alike t) us) ∙ ap suc (stands_at us k t up.1 h)
-  where
-    one_more : (n : ℕ) → 1 + n ≡ suc n
-    one_more n = omega arith
 
 -- Tuples of one index
 

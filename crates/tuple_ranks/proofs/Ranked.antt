@@ -1,6 +1,6 @@
 -- A tuple stands where its numbers tell.
 use Rattle.std.proofs.Common.{◌≡◌, ℕ, zero, suc, ◌+◌, ◌-◌, ◌≤◌, ◌<◌, ◌⊎◌, inl, inr, Bool, true, false, not, cond, nat_lt, List, [], ◌∷◌, ◌++◌, map, flat_map, take, length, position, slice_get, slice_index_or, Option, None, Some, option_map, refl, sym, ap, ◌∙◌, subst, arith, length-append}
-use Rattle.std.proofs.lemmas.Option.{slice_get-map}
+use Rattle.std.proofs.lemmas.Option.{slice_get-map, same_Some}
 use Rattle.std.proofs.lemmas.Bool.Decides.{nat_tests}
 use Rattle.std.proofs.lemmas.List.Quantifiers.{position-Some}
 use Rattle.std.specs.List.{position_or_len}
@@ -13,7 +13,7 @@ use Rattle.base_poly.proofs.Among.{Among, among_contains}
 use Rattle.base_poly.proofs.Exact.{exact, sound_tuples, whole_tuples}
 use Rattle.index_shift.specs.Tables.{fits, listed}
 use Rattle.index_shift.proofs.Exactly.{exactly, behind_one, many_behind, ahead, lower, in_two}
-use Rattle.index_shift.proofs.Spots.{get_part, counts_behind, places_are_counted}
+use Rattle.index_shift.proofs.Spots.{get_part, counts_behind, places_are_counted, get_two}
 use Rattle.index_shift.proofs.Steps.{listed_at}
 use Rattle.index_shift.proofs.Tabled.{all_lower}
 use Rattle.index_shift.proofs.Shorter.{back_few}
@@ -86,7 +86,7 @@ found (t ∷ ts) x m = by (alike x t) refl (found ts x)
     by true e more = (λ i. slice_get (t ∷ ts) (cond (not (e i)) (1 + position_or_len (alike x) ts) 0)) ∙ ap Some (sym (alike_is x t e))
     by false e more = (λ i. slice_get (t ∷ ts) (cond (not (e i)) (1 + position_or_len (alike x) ts) 0)) ∙ ap (slice_get (t ∷ ts)) (next (position_or_len (alike x) ts)) ∙ more (later e m)
 
--- what stands at its place is the tuple
+-- what stands at its place is same_Some tuple
 is_found : (ts : List (List Plain)) (x y : List Plain) → slice_get ts (position_or_len (alike x) ts) ≡ Some y → Among x ts
 is_found [] x y h = absurd (none h)
   where
@@ -112,23 +112,9 @@ absent (t ∷ ts) x never = by (alike x t) refl (absent ts x (λ m. never (inr m
     by true e more = absurd (never (inl (sym (alike_is x t e))))
     by false e more = (λ i. cond (not (e i)) (1 + position_or_len (alike x) ts) 0) ∙ next (position_or_len (alike x) ts) ∙ ap suc more
 
--- the tuple x of As before the tuple u of exactly degree r
-get_two : (As Bs : List Type') (d : ℕ) (x : List Plain) (k r : ℕ) (u : List Plain) (y : ℕ) → degrees x + r ≤ d → slice_get (tuples_up_to As d) k ≡ Some x → slice_get (exactly Bs r) y ≡ Some u →
-    slice_get (exactly (As ++ Bs) (degrees x + r)) (ahead (many_behind Bs (degrees x + r)) (tuples_up_to As d) k + y) ≡ Some (x ++ u)
-get_two As Bs d x k r u y low at_k at_y =
-    ap (λ l. slice_get l (ahead (many_behind Bs (degrees x + r)) (tuples_up_to As d) k + y)) (in_two As Bs (degrees x + r) d low)
-    ∙ get_part (behind_one Bs (degrees x + r)) (many_behind Bs (degrees x + r)) (counts_behind Bs (degrees x + r)) (tuples_up_to As d) k y x (x ++ u) at_k
-    (ap (λ b. slice_get (cond b [] (map (λ u. x ++ u) (exactly Bs (degrees x + r - degrees x)))) y) enough
-    ∙ ap (λ n. slice_get (map (λ u. x ++ u) (exactly Bs n)) y) left
-    ∙ slice_get-map (λ u. x ++ u) (exactly Bs r) y ∙ ap (option_map (λ u. x ++ u)) at_y)
-  where
-    enough : nat_lt (degrees x + r) (degrees x) ≡ false
-    enough = grind (arith, nat_tests)
+-- same_Some tuple x of As before same_Some tuple u of exactly degree r
 
-    left : degrees x + r - degrees x ≡ r
-    left = omega arith
-
--- Where the r-th tuple of exactly its degree stands among all
+-- Where same_Some r-th tuple of exactly its degree stands among all
 spot_is : (As : List Type') (d r : ℕ) (t : List Plain) → degrees t ≤ d → slice_get (exactly As (degrees t)) r ≡ Some t →
     (spot As d t ≡ lower As (degrees t) + r) × (lower As (degrees t) + r < length (index_list As d))
 spot_is As d r t low at = (shown (nat_lt (spot As d t) (length (index_list As d))) (spot As d t) (lower As (degrees t) + r) position_is, (position-Some (alike t) (index_list As d) _ [] position_is).0)
@@ -159,7 +145,7 @@ does_stand d g n low few = (λ i. cond (not_past i) None (cond (is_few i) (Some 
     is_few : nat_lt n 65536 ≡ true
     is_few = grind (arith, nat_tests, few)
 
--- the numbers of what is behind are read from a table
+-- same_Some numbers of what is behind are read from a table
 read_is : (As : List Type') (d r : ℕ) → r ≤ d → slice_index_or (listed (count (sizes As d)) 0 (1 + d)) r 0 ≡ length (exactly As r)
 read_is As d r low = listed_at (count (sizes As d)) 0 (1 + d) r 0 (omega (arith, low)) ∙ ap (count (sizes As d)) (none_more r) ∙ count_is As d r low
 
@@ -220,7 +206,7 @@ module _ (A : Type') (As : List Type') (d : ℕ) (few : length (index_list (A �
   one_more_stands : StandsThere (A ∷ As) d (i ∷ t)
   one_more_stands = (b + r, standing_is, there)
 
--- A tuple of the context stands where its numbers tell.
+-- A tuple of same_Some context stands where its numbers tell.
 stands_there : (As : List Type') (d : ℕ) → length (index_list As d) ≤ 2000 → (t : List Plain) → AreIndices t As → degrees t ≤ d → StandsThere As d t
 stands_there [] d few [] h low = (0, refl, refl)
 stands_there [] d few (i ∷ t) h low = absurd h
@@ -229,7 +215,7 @@ stands_there (A ∷ As) d few (i ∷ t) h low =
     let more = back_few (A ∷ []) As d in
     one_more_stands A As d few i t h low (stands_there As d (omega (arith, few, more)) t h.1 (omega (arith, low)))
 
--- Numbers that stand somewhere are those of a tuple of the context.
+-- Numbers that stand somewhere are those of a tuple of same_Some context.
 is_there : (As : List Type') (d : ℕ) (t : List Plain) (s : ℕ × ℕ) → stands d (columns d (sizes As d)) (numbers As d t) ≡ Some s → AreIndices t As × (degrees t ≡ s.0) × (s.0 ≤ d)
 is_there [] d [] s h = (tt, ap (λ o. degree_in o) h, (let z : 0 ≡ s.0 = ap (λ o. degree_in o) h in omega (arith, z)))
   where
@@ -277,10 +263,7 @@ is_there (A ∷ As) d (i ∷ t) s h = by (slice_get (map degrees ts) (number A d
       where
         cut : None ≡ Some p → ⊥
         cut e = cc
-    one (Some y) e p h = (is_found ts (i ∷ []) y e, sym (the (degrees y) p h) ∙ ap degrees (is_it (found ts (i ∷ []) (is_found ts (i ∷ []) y e))))
-      where
-        the : (a b : ℕ) → Some a ≡ Some b → a ≡ b
-        the a b e = cc
+    one (Some y) e p h = (is_found ts (i ∷ []) y e, sym (same_Some (degrees y) p h) ∙ ap degrees (is_it (found ts (i ∷ []) (is_found ts (i ∷ []) y e))))
 
         they : (a b : List Plain) → Some a ≡ Some b → a ≡ b
         they a b e = cc
@@ -303,7 +286,7 @@ is_there (A ∷ As) d (i ∷ t) s h = by (slice_get (map degrees ts) (number A d
         let l = right.1 in
         ((index.0.0, rest.0), omega (arith, a, b, g), omega (arith, g, l))
 
--- So the place of its numbers is that of the tuple.
+-- So same_Some place of its numbers is that of same_Some tuple.
 pub places_are_spots : (As : List Type') (d : ℕ) → length (index_list As d) ≤ 2000 → (t : List Plain) → place (table As d) (numbers As d t) ≡ spot As d t
 places_are_spots As d few t = by (stands d (columns d (sizes As d)) (numbers As d t)) refl
   where
@@ -331,6 +314,6 @@ places_are_spots As d few t = by (stands d (columns d (sizes As d)) (numbers As 
         let v = stands_there As d few t h.0 low in
         ap (place_by (table As d)) v.1 ∙ (λ i. start (degrees t) low i + v.0) ∙ sym (spot_is As d v.0 t low v.2).0
 
--- and their degree is the tuple's
+-- and their degree is same_Some tuple's
 pub degrees_are : (As : List Type') (d : ℕ) → length (index_list As d) ≤ 2000 → (t : List Plain) → Among t (index_list As d) → degree_at (table As d) (numbers As d t) ≡ degrees t
 degrees_are As d few t m = let h = ((exact As d).exactly t).0 (among_contains t (index_list As d) m) in ap degree_by (stands_there As d few t h.0 h.1).1

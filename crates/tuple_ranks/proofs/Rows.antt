@@ -12,6 +12,7 @@ use Rattle.tuple_ranks.specs.Numbers.{numbers, all_numbered, flat, cut, table_ro
 use Rattle.tuple_ranks.specs.Slots.{chosen, half_items}
 use Rattle.tuple_ranks.specs.Spots.{IsLarge, all_counts}
 use Rattle.std.specs.List.{range_with_len}
+use Rattle.index_shift.proofs.Shorter.{more_rests}
 use Rattle.index_shift.specs.Contexts.{marked_items, other_items}
 use Rattle.index_shift.specs.Tables.{listed}
 use Rattle.index_shift.proofs.Steps.{listed_at}
@@ -123,16 +124,6 @@ counts_are t pss As d is e =
     one = omega arith
 
 -- Some variables of a context have no more tuples than all
-
-more_rests : (f g : ℕ → List (List Plain)) (d : ℕ) (is : List Plain) → ((k : ℕ) → length (f k) ≤ length (g k)) → length (joined f ◌∷◌ d is) ≤ length (joined g ◌∷◌ d is)
-more_rests f g d [] h = omega arith
-more_rests f g d (i ∷ is) h =
-    let a = length-append (map (λ r. i ∷ r) (f (d - deg i))) (joined f ◌∷◌ d is) in
-    let b = length-append (map (λ r. i ∷ r) (g (d - deg i))) (joined g ◌∷◌ d is) in
-    let c = length-map (f (d - deg i)) (λ r. i ∷ r) in
-    let e = length-map (g (d - deg i)) (λ r. i ∷ r) in
-    let one = h (d - deg i) in
-    let more = more_rests f g d is h in omega (arith, a, b, c, e, one, more)
 
 half_few : (w : Bool) (marks : List Bool) (k : ℕ) (As : List Type') (d : ℕ) → length (tuples_up_to (half_items w marks k As) d) ≤ length (tuples_up_to As d)
 half_few w marks k [] d = omega arith

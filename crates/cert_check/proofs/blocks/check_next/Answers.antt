@@ -17,6 +17,7 @@ use Rattle.cert_check.proofs.Tasks.{task_is_low}
 use Rattle.cert_check.proofs.SameTask.{true_false}
 use Rattle.cert_check.proofs.Telling.{tells_more}
 use Rattle.cert_check.proofs.Going.{next_there, blocker_there}
+use Rattle.cert_check.proofs.Results.{each_result}
 use Rattle.cert_check.proofs.blocks.check_next.Goals as goal
 
 pub check_there-requires : goal.check_there-requires
@@ -34,9 +35,7 @@ returns-then-is_scheduled-clause-tells c = λ blocks come n.
     let held = certificate_of c.args.certificate.now in
     let t = task_of c.args.block.now.task in
     let body = body_of c.args.block.now.body in
-    let count : length kept.results ≡ length kept.functions =
-    ap length (sym c.results-results.ensures.results) ∙ c.results-results.ensures.count
-    ∙ sym (ap length (sym c.functions-functions.ensures.functions) ∙ c.functions-functions.ensures.count) in
+    let count = each_result c.results-results.ensures.results c.results-results.ensures.count c.functions-functions.ensures.functions c.functions-functions.ensures.count in
     let both = c.is_scheduled.ensures.0 c.if-is_scheduled.true in
     tells_more c.check_there.result (BodyFinds (program_in kept) held blocks t body) (ScheduledFinds (program_in kept) held blocks (block_of c.args.block.now))
     (λ x h. inl (
@@ -54,9 +53,7 @@ returns-then-is_scheduled-clause-goes c = on_ok_weaker c.check_there.result
     let kept = c.args.program.now in
     let held = certificate_of c.args.certificate.now in
     let t = task_of c.args.block.now.task in
-    let count : length kept.results ≡ length kept.functions =
-    ap length (sym c.results-results.ensures.results) ∙ c.results-results.ensures.count
-    ∙ sym (ap length (sym c.functions-functions.ensures.functions) ∙ c.functions-functions.ensures.count) in
+    let count = each_result c.results-results.ensures.results c.results-results.ensures.count c.functions-functions.ensures.functions c.functions-functions.ensures.count in
     goes blocks come n (sym (next_there kept count held blocks c.args.schedule.now c.args.earlier.now come) ∙ sym c.requires.next
     ∙ task_is t (option_map task_of c.args.next) (c.is_scheduled.ensures.0 c.if-is_scheduled.true).0)) c.check_there.ensures.goes
 
@@ -66,9 +63,7 @@ returns-else-is_scheduled-clause-tells c = λ blocks come n.
     let held = certificate_of c.args.certificate.now in
     let t = task_of c.args.block.now.task in
     let body = body_of c.args.block.now.body in
-    let count : length kept.results ≡ length kept.functions =
-    ap length (sym c.results-results.ensures.results) ∙ c.results-results.ensures.count
-    ∙ sym (ap length (sym c.functions-functions.ensures.functions) ∙ c.functions-functions.ensures.count) in
+    let count = each_result c.results-results.ensures.results c.results-results.ensures.count c.functions-functions.ensures.functions c.functions-functions.ensures.count in
     inr (
       (λ s.
           let next : option_map task_of c.args.next ≡ Some t = c.requires.next ∙ next_there kept count held blocks c.args.schedule.now c.args.earlier.now come ∙ s.task in

@@ -1,9 +1,10 @@
 use Rattle.std.proofs.Common.{◌≡◌, ap, sym, ◌∙◌, length, Some, arith}
 use Rattle.std.specs.Prelude.{slice_get}
 use Rattle.std.specs.Option.{option_map}
+use Rattle.rules_plan.proofs.Grouped.{no_function}
 use Rattle.normal_spec.specs.Norm as n
 use Rattle.normal_spec.specs.Read.{parameters_of}
-use Rattle.cert_check.proofs.Results.{params_at, no_function}
+use Rattle.cert_check.proofs.Results.{params_at}
 use Rattle.cert_check.proofs.bound.params_of.Goals as goal
 
 pub returns-then-fun-len : goal.returns-then-fun-len

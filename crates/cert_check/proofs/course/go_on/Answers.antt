@@ -5,6 +5,7 @@ use Rattle.annot_types.specs.Read.{block_of}
 use Rattle.rules_walk.specs.Remembers.{Remembers}
 use Rattle.rules_plan.specs.Read.{program_in}
 use Rattle.cert_check.proofs.Going.{gone}
+use Rattle.cert_check.proofs.Results.{each_result}
 use Rattle.cert_check.proofs.course.go_on.Goals as goal
 
 pub returns-in-Ok : goal.returns-in-Ok
@@ -15,9 +16,7 @@ returns-in-Ok c = on_ok_weaker c.remember.result
     let b = block_of c.args.block.now in
     let old = c.args.earlier.now in
     let new = c.remember.new.earlier in
-    let count : length kept.results ≡ length kept.functions =
-    ap length (sym c.results-results.ensures.results) ∙ c.results-results.ensures.count
-    ∙ sym (ap length (sym c.functions-functions.ensures.functions) ∙ c.functions-functions.ensures.count) in
+    let count = each_result c.results-results.ensures.results c.results-results.ensures.count c.functions-functions.ensures.functions c.functions-functions.ensures.count in
     gone kept count held blocks b c.args.schedule.now c.record.new.self old new come next
     (c.in-Ok.ensures.done ∙ ap (λ o. gone_on o c.args.schedule.now) c.done_as.ensures)
     (subst (λ d. Remembers P d (blocks ++ b ∷ []) new) (sym degree) (all blocks (subst (λ d. Remembers P d blocks old) degree come.remembers) sizes)))

@@ -11,7 +11,7 @@ use Rattle.cert_check.specs.Fault.{TooLarge}
 use Rattle.cert_check.specs.Finds.{large_from}
 use Rattle.cert_check.proofs.Faultless.{refusal_tells}
 use Rattle.cert_check.proofs.Few.{kept_groups_few}
-use Rattle.cert_check.proofs.Results.{results_are}
+use Rattle.cert_check.proofs.Results.{lent_results}
 use Rattle.cert_check.proofs.course.refused.Goals as goal
 
 pub returns-in-Ok-Some : goal.returns-in-Ok-Some
@@ -19,10 +19,7 @@ returns-in-Ok-Some c =
     let kept = c.args.program.now in
     let P = program_in kept in
     let held = certificate_of c.args.certificate.now in
-    let count : length kept.results ≡ length kept.functions =
-    ap length (sym c.results.ensures.results) ∙ c.results.ensures.count
-    ∙ sym (ap length (sym c.functions-functions.ensures.functions) ∙ c.functions-functions.ensures.count) in
-    let types : context_of c.results.result.now ≡ results P = ap context_of c.results.ensures.results ∙ sym (results_are kept.results kept.functions count) in
+    let types = lent_results c.results.ensures.results c.results.ensures.count c.functions-functions.ensures.functions c.functions-functions.ensures.count in
     let groups = c.list.ensures ∙ ap (λ g. g.list) c.groups.ensures.groups in
     ap (option_map TooLarge)
     (ap (option_map task_of) (sym c.in-Ok-Some.field-0-is) ∙ c.in-Ok-Some.ensures P.groups (has_work held)
@@ -33,10 +30,7 @@ unreachable-requires c =
     let kept = c.args.program.now in
     let P = program_in kept in
     let held = certificate_of c.args.certificate.now in
-    let count : length kept.results ≡ length kept.functions =
-    ap length (sym c.results.ensures.results) ∙ c.results.ensures.count
-    ∙ sym (ap length (sym c.functions-functions.ensures.functions) ∙ c.functions-functions.ensures.count) in
-    let types : context_of c.results.result.now ≡ results P = ap context_of c.results.ensures.results ∙ sym (results_are kept.results kept.functions count) in
+    let types = lent_results c.results.ensures.results c.results.ensures.count c.functions-functions.ensures.functions c.functions-functions.ensures.count in
     let groups = c.list.ensures ∙ ap (λ g. g.list) c.groups.ensures.groups in
     refusal_tells P held c.requires.0 c.requires.1
     (sym (ap (option_map task_of) (sym c.in-Ok-None.field-0-is) ∙ c.in-Ok-None.ensures P.groups (has_work held)

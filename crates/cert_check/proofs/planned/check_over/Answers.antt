@@ -1,4 +1,5 @@
 use Rattle.std.proofs.Common.{ap, ◌∙◌, subst, map, inl}
+use Rattle.std.proofs.lemmas.Result.{IfOk-weaker}
 use Rattle.cost_free.specs.Read.{kind_of, task_of}
 use Rattle.annot_types.specs.Certificate.{Solved}
 use Rattle.annot_types.specs.Holds as h
@@ -7,7 +8,7 @@ use Rattle.rules_plan.specs.Read.{body_of, group_bodies, GroupWithin}
 use Rattle.cert_check.specs.At.{program_at, sizes_of}
 use Rattle.cert_check.specs.Finds.{ShapeFinds, BodyFinds}
 use Rattle.cert_check.proofs.Few.{kept_bodies_few}
-use Rattle.cert_check.proofs.Telling.{if_ok, tells_more}
+use Rattle.cert_check.proofs.Telling.{tells_more}
 use Rattle.cert_check.proofs.planned.check_over.Goals as goal
 
 pub returns-in-Ok-clause-tells : goal.returns-in-Ok-clause-tells
@@ -27,7 +28,7 @@ returns-in-Ok-clause-tells c = λ held blocks is remembers.
     ∙ ap (λ d. group_bodies P group blocks (h.budget_of d (kind_of at.task.kind))) is.degree))
 
 pub returns-in-Ok-clause-sizes : goal.returns-in-Ok-clause-sizes
-returns-in-Ok-clause-sizes c = if_ok c.check_planned.result _ _ (λ s e held blocks is remembers.
+returns-in-Ok-clause-sizes c = IfOk-weaker c.check_planned.result _ _ (λ s e held blocks is remembers.
     let at = c.args.at.now in
     let P = program_at at in
     e ∙ ap sizes_of (ap (map body_of) c.deref.ensures.value

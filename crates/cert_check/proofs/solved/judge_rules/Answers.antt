@@ -1,4 +1,5 @@
 use Rattle.std.proofs.Common.{◌≡◌, ap, ◌∙◌, map}
+use Rattle.std.proofs.lemmas.Result.{IfOk-weaker}
 use Rattle.cost_free.specs.Read.{task_of, kind_of}
 use Rattle.annot_types.specs.Read as a
 use Rattle.annot_types.specs.Holds as h
@@ -10,12 +11,11 @@ use Rattle.rules_walk.specs.Remembers.{free_at, cost_at}
 use Rattle.cert_check.specs.At.{program_at}
 use Rattle.cert_check.specs.Finds.{asks_by, hints_by, sides_at, job}
 use Rattle.cert_check.specs.Judging.{bodies_walked}
-use Rattle.cert_check.proofs.Telling.{if_ok}
 use Rattle.cert_check.proofs.Walked.{walked_fault}
 use Rattle.cert_check.proofs.solved.judge_rules.Goals as goal
 
 pub returns : goal.returns
-returns c = if_ok c.judged.result _ _ (λ judge e held blocks at eb ea.
+returns c = IfOk-weaker c.judged.result _ _ (λ judge e held blocks at eb ea.
     let here = c.args.at.now in
     let kind = here.task.kind in
     let sigs = map a.sig_of c.args.sigs.now in

@@ -1,8 +1,9 @@
 use Rattle.std.proofs.Common.{◌≡◌, ◌+◌, ◌∙◌, Some, min, take, slice_get, slice_index_or, ap, sym}
+use Rattle.std.proofs.lemmas.Option.{slice_get_past}
 use Rattle.base_poly.specs.Base.{total}
 use Rattle.index_shift.specs.Tables.{fits}
 use Rattle.tuple_ranks.specs.Columns.{Column, before, standing}
-use Rattle.tuple_ranks.proofs.Loops.{got, got_none}
+use Rattle.tuple_ranks.proofs.Loops.{got}
 use Rattle.tuple_ranks.proofs.Standing.{led_some, led_none}
 use Rattle.tuple_ranks.proofs.ranks.led_by.Goals as goal
 
@@ -23,4 +24,4 @@ returns-in-Some c =
 pub returns-in-None : goal.returns-in-None
 returns-in-None c =
     led_none c.args.d c.args.column.now c.args.number c.args.behind
-    (ap (λ (k : Column). slice_get k.sizes c.args.number) (sym c.column.view_is) ∙ got_none c.column.inside.sizes.now c.args.number c.in-None.ensures.lookup.3)
+    (ap (λ (k : Column). slice_get k.sizes c.args.number) (sym c.column.view_is) ∙ slice_get_past c.column.inside.sizes.now c.args.number c.in-None.ensures.lookup.3)

@@ -1,5 +1,0 @@
-use Rattle.cert_check.proofs.OneFault.{one_first_fault}
-use Rattle.cert_check.proofs.laws.one_first_fault.Goals as goal
-
-pub returns : goal.returns
-returns c = one_first_fault
