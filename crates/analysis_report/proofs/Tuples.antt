@@ -20,8 +20,7 @@ use Rattle.annot_types.specs.Certificate.{Entries, Annotates, Sig, Body, Solved,
 use Rattle.annot_types.specs.Signature.{sig_in}
 use Rattle.annot_types.specs.Holds.{mode_of, budget_of, setting}
 use Rattle.annot_types.specs.Held.{before, scale_of, scale_for, Claim, Bound, Line, line, terms_of, bound_of, claim_of, is_for_function, HoldsInPlace, IfSolved, Held}
-use Rattle.rules_soundness_laws.proofs.Blocks.{of_meter}
-use Rattle.cert_check.proofs.Signed.{function_of}
+use Rattle.rules_soundness_laws.proofs.Blocks.{of_meter, function_of}
 use Rattle.analysis_report.specs.Tuples.{AreOfParameters, BoundsAreOfParameters}
 
 -- what holds of the tuples of the terms as plain data holds of those of the code's

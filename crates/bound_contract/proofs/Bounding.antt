@@ -6,7 +6,7 @@ use Rattle.std.specs.Option.{option_map}
 use Rattle.std.proofs.Math.Nat.{mul-le-mul_left}
 use Rattle.std.proofs.lemmas.Int.{ints}
 use Rattle.std.proofs.lemmas.Nat.{le-div}
-use Rattle.std.proofs.lemmas.Option.{slice_get-map}
+use Rattle.std.proofs.lemmas.Option.{slice_get-map, same_Some}
 use Rattle.raml_syntax.specs.Tree.{Type', Function, Prog}
 use Rattle.raml_syntax.specs.Value.{Value, HaveTypes}
 use Rattle.raml_syntax.specs.Eval.{Run, run_of}
@@ -38,7 +38,7 @@ use Rattle.annot_types.specs.Held.{before, scale_of, scale_for, Held}
 use Rattle.rules_soundness_laws.specs.Enough.{cost}
 use Rattle.rules_soundness_laws.specs.Bounds.{BoundsNormal, BoundsState, Bounds}
 use Rattle.rules_soundness_laws.specs.Laws.{normal_of}
-use Rattle.rules_soundness_laws.proofs.Weighed.{some_is, weighed_times, weighed_covers}
+use Rattle.rules_soundness_laws.proofs.Weighed.{weighed_times, weighed_covers}
 use Rattle.rules_soundness_laws.proofs.Blocks.{KindPays, own_pays, all_before}
 use Rattle.share_normal.specs.Program.{source_in}
 use Rattle.rules_plan.specs.Read.{program_in}
@@ -144,7 +144,7 @@ both_positive a b p q = let one : a * 1 ≤ a * b = mul-le-mul_left a q in let s
 
 module _ (P : Prog) (typed : Typed P) (fit : All (λ (g : Function). AllNodes NumberFits g.body) P) where
   is_form : (f : ℕ) (g : NormFun) → slice_get (norm P) f ≡ Some g → (fun : Function) → slice_get P f ≡ Some fun → norm_fun P fun ≡ g
-  is_form f g there fun at = some_is (norm_fun P fun) g (sym (normal_forms_keep P typed fit f fun at).there ∙ there)
+  is_form f g there fun at = same_Some (norm_fun P fun) g (sym (normal_forms_keep P typed fit f fun at).there ∙ there)
 
   normal : (f : ℕ) (g : NormFun) → slice_get (norm P) f ≡ Some g → IsNormal (norm P) g
   normal f g there = by (slice_get P f) refl
@@ -184,7 +184,7 @@ kept_is_bound P typed fit groups c held line positive place block t kind keeps f
     let form : IsNormalForm P line.fun fun (norm_fun P fun) = normal_forms_keep P typed fit line.fun fun at in
     let u = keeps.under in
     let g : NormFun = norm_fun P fun in
-    let is : u.fun ≡ g = some_is u.fun g (sym u.there ∙ form.there) in
+    let is : u.fun ≡ g = same_Some u.fun g (sym u.there ∙ form.there) in
     let scale = unsigned_abs (scale_of c line.meter) in
     let pay = own_pays N (normal P typed fit) c.degree (scale_for c) (before c place) (all_before N (normal P typed fit) c held place) block.task.group block.task.kind block.body t keeps.holds in
     let some = both_positive scale t (magnitude (scale_of c line.meter) (held.scales line.meter)) keeps.holds.positive in

@@ -2,7 +2,7 @@
 use Rattle.std.proofs.Common.{◌≡◌, refl, ap, sym, ◌∙◌, inl, inr, ◌⊎◌, ⊎_elim}
 use Rattle.std.specs.Prelude.{ℕ, zero, suc, ◌<◌, nat_eq, Bool, true, false, cond, ◌&&◌, ◌||◌, List, [], ◌∷◌, ◌++◌, length, slice_get, Option, Some, None, option_map}
 use Rattle.std.specs.List.{Contains}
-use Rattle.std.proofs.lemmas.Bool.{eq-eqb}
+use Rattle.std.proofs.lemmas.Bool.{eq-eqb, and_parts}
 use Rattle.std.proofs.lemmas.Option.{same_Some, none-some}
 use Rattle.raml_syntax.specs.Tree.{Prog}
 use Rattle.call_groups.specs.Groups.{AreInOrder}
@@ -113,14 +113,10 @@ module _ (P : Program) (line : Line) where
             let same : d.task ≡ own.task = same_Some d.task own.task (task_is own.task (Some d.task) h) in
             true_false (sym is ∙ ap (λ (t : Task). is_for_meter line.meter t.kind && is_among line.fun (members P t.group)) (sym same) ∙ q)
 
-both_true : (a b : Bool) → (a && b) ≡ true → (a ≡ true) × (b ≡ true)
-both_true true b e = (refl, e)
-both_true false b e = true_false (sym e)
-
 module _ (P : Program) (c : Certificate) (line : Line) (place : ℕ) (own : Block) (h : IsOwn P c line place own) where
   pub own_is_of : IsTaskOf P line own.task
   own_is_of =
-      let both = both_true (is_for_meter line.meter own.task.kind) (is_among line.fun (members P own.task.group)) (found_own P line c.blocks place own h.first h.there).is in
+      let both = and_parts (is_for_meter line.meter own.task.kind) (is_among line.fun (members P own.task.group)) (found_own P line c.blocks place own h.first h.there).is in
       record { kind = of_meter line.meter own.task.kind both.0; has = both.1 }
 
   pub own_is_first : place_among own.task c.blocks ≡ Some place

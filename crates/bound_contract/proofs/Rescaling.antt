@@ -3,6 +3,7 @@ use Rattle.std.proofs.Common.{◌≡◌, ◌≤◌, ◌<◌, ◌*◌, ◌∙◌,
 use Rattle.std.specs.Prelude.{ℕ, true, false, nat_lt, unsigned_abs, List, take}
 use Rattle.std.proofs.lemmas.Bool.Decides.{nat_tests}
 use Rattle.std.proofs.lemmas.List.{take-map}
+use Rattle.std.proofs.lemmas.Bool.{ltb-true, ltb-false}
 use Rattle.annot_types.specs.Held.{scale_of}
 use Rattle.annot_types.specs.Read.{block_of, blocks_of}
 use Rattle.annot_types.specs.declared.block.Block.{Block as Given}
@@ -17,18 +18,12 @@ use Rattle.bound_contract.specs.declared.site.Site.{Site}
 pub before_is : (site : Site) (xs : List Given) → blocks_of xs ≡ (certificate_at site).blocks → before_at site ≡ blocks_of (take site.place xs)
 before_is site xs are = ap (take site.place) (sym are) ∙ take-map block_of site.place xs
 
-below : (m n : ℕ) → nat_lt m n ≡ true → m < n
-below m n h = grind (arith, nat_tests, h)
-
-above : (m n : ℕ) → nat_lt m n ≡ false → n ≤ m
-above m n h = grind (arith, nat_tests, h)
-
 module _ (site : Site) (t : ℕ) (none : (number : ℕ) → BlockLeaves site.meter t (state_before (certificate_at site) site.place) number → ⊥) where
   -- where no block does, but the scale, none of the meter is solved
   pub scale_leaves : nat_lt (t * unsigned_abs (scale_of (certificate_at site) site.meter)) most ≡ false → RescaleAt site t site.place
   scale_leaves test = by (first_solved site.meter (before_at site)) where
     high : most ≤ t * unsigned_abs (scale_of (certificate_at site) site.meter)
-    high = above (t * unsigned_abs (scale_of (certificate_at site) site.meter)) most test
+    high = ltb-false (t * unsigned_abs (scale_of (certificate_at site) site.meter)) most test
 
     by : (IsFirstSolved site.meter (before_at site) ⊎ NoneSolved site.meter (before_at site)) → RescaleAt site t site.place
     by (inl f) = absurd (none f.place (record {
@@ -43,6 +38,6 @@ module _ (site : Site) (t : ℕ) (none : (number : ℕ) → BlockLeaves site.met
   pub none_rescales : nat_lt (t * unsigned_abs (scale_of (certificate_at site) site.meter)) most ≡ true → (number : ℕ) → RescaleAt site t number → ⊥
   none_rescales test number (inl leaves) = none number leaves
   none_rescales test number (inr alone) =
-      let low = below (t * unsigned_abs (scale_of (certificate_at site) site.meter)) most test in
+      let low = ltb-true (t * unsigned_abs (scale_of (certificate_at site) site.meter)) most test in
       let high = alone.2 in
       omega (arith, low, high)

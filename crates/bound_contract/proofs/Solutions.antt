@@ -2,6 +2,7 @@
 use Rattle.std.proofs.Common.{◌≡◌, ap, sym, ◌∙◌, subst, arith}
 use Rattle.std.specs.Prelude.{ℕ, ◌+◌, ◌*◌, ◌<◌, ◌≤◌, true, pos, List, map, length, slice_get, Some}
 use Rattle.std.proofs.lemmas.Int.{ints}
+use Rattle.std.proofs.lemmas.List.{length-map}
 use Rattle.linear_rows.specs.Terms.{SparseRow}
 use Rattle.linear_rows.specs.Systems.{LinearSystem, IsSystem, Solves}
 use Rattle.linear_rows.proofs.Duality.{no_solution}
@@ -21,7 +22,6 @@ use Rattle.annot_types.specs.Least.{solving}
 use Rattle.annot_types.specs.System.{unsigned, args_of, system}
 use Rattle.rules_spec.specs.Systems.{IsTask}
 use Rattle.rules_spec.specs.Told.{bodies_of, sigs_told, number_in}
-use Rattle.annot_types.proofs.Lists.{length_map}
 use Rattle.rules_systems_laws.specs.Laws.{told}
 use Rattle.rules_systems_laws.proofs.Functions.{told_long}
 use Rattle.rules_systems_laws.proofs.Arguments.{ready_there, among_signed, arguments_are_unknowns}
@@ -62,7 +62,7 @@ module _ (P : Program) (d : ℕ) (earlier : List Block) (group scale : ℕ) (lin
 
     module _ (t : ℕ) (x : List ℕ) (s : Solves whole (map pos x) (pos t)) where
       length_is : length x ≡ plain.unknowns
-      length_is = sym (length_map pos x) ∙ s.one_each
+      length_is = sym (length-map x pos) ∙ s.one_each
 
       solves_plain : Solves plain (map pos x) (pos t)
       solves_plain = record { one_each = s.one_each; natural = s.natural; rows = met_front plain.unknowns (pos t) (map pos x) plain.rows more s.rows }
@@ -97,7 +97,7 @@ module _ (P : Program) (d : ℕ) (earlier : List Block) (group scale : ℕ) (lin
           let found = what_holds_solves P d earlier task scale t sigs hints is_task h.holds in
           let x = found.0 in
           let s = found.1 in
-          let e : length x ≡ plain.unknowns = sym (length_map pos x) ∙ s.one_each in
+          let e : length x ≡ plain.unknowns = sym (length-map x pos) ∙ s.one_each in
           let u = h.under in
           let numbers = found.3 line.fun u.fun u.sig u.there u.signed in (
             x,

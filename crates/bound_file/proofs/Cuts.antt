@@ -3,13 +3,11 @@ use Rattle.std.proofs.Common.{◌≡◌, ◌≢◌, ◌<◌, ◌≤◌, ◌+◌,
 use Rattle.std.specs.Prelude.{nat_eq, option_map}
 use Rattle.std.specs.Borrow.{Bor}
 use Rattle.std.proofs.lemmas.Str.Pattern.{IsSplitOnceResult, split_parts}
+use Rattle.std.proofs.lemmas.Bool.{eqb-true}
 use Rattle.raml_syntax.specs.Tree.{Text}
 use Rattle.bound_file.specs.Answers.{longer, lines_in}
 use Rattle.bound_file.specs.Reading.{with_front, cut_at, lent_parts, pieces}
 use Rattle.bound_file.specs.Lined.{first_of}
-
-pub nat_same : (a b : ℕ) → nat_eq a b ≡ true → a ≡ b
-nat_same a b e = grind (arith, e)
 
 same_byte : (c : ℕ) → nat_eq c c ≡ true
 same_byte c = grind arith
@@ -20,7 +18,7 @@ other_byte a b h = grind (arith, h)
 -- what stands on both sides of the mark makes the text
 pub cut_is : (m : ℕ) (text : Text) (parts : Text × Text) → cut_at m text ≡ Some parts → text ≡ parts.0 ++ m ∷ parts.1
 cut_is m [] parts e = absurd (cc)
-cut_is m (c ∷ text) parts e = by (nat_eq c m) (nat_same c m) (cut_at m text) (cut_is m text) e
+cut_is m (c ∷ text) parts e = by (nat_eq c m) (eqb-true c m) (cut_at m text) (cut_is m text) e
   where
     by : (b : Bool) → (b ≡ true → c ≡ m) → (r : Option (Text × Text)) → ((parts : Text × Text) → r ≡ Some parts → text ≡ parts.0 ++ m ∷ parts.1) → cond b (Some ([], text)) (option_map (with_front c) r) ≡ Some parts → c ∷ text ≡ parts.0 ++ m ∷ parts.1
     by true same r more h = let f : ([], text) ≡ parts = cc in (λ i. same refl i ∷ text) ∙ ap (λ (p : Text × Text). p.0 ++ m ∷ p.1) f
@@ -146,7 +144,7 @@ joined_longer c parts s = ap (λ ps. joined (longer c ps)) s.are ∙ at s.first 
 
 pub pieces_join : (text : Text) → joined (pieces text) ≡ text
 pieces_join [] = refl
-pieces_join (c ∷ text) = by (nat_eq c 43) (nat_same c 43) (pieces_join text)
+pieces_join (c ∷ text) = by (nat_eq c 43) (eqb-true c 43) (pieces_join text)
   where
     by : (b : Bool) → (b ≡ true → c ≡ 43) → joined (pieces text) ≡ text → joined (cond b ([] ∷ pieces text) (longer c (pieces text))) ≡ c ∷ text
     by true same e = joined_cons [] (pieces text) (some_pieces text) ∙ (λ i. sym (same refl) i ∷ e i)

@@ -5,10 +5,11 @@ use Rattle.std.specs.Str.{bytes_eq}
 use Rattle.std.specs.Option.{MatchOption}
 use Rattle.std.specs.Borrow.{Bor}
 use Rattle.std.specs.Cmp.Lexicographic.{bytes_decides}
+use Rattle.std.proofs.lemmas.Bool.{eqb-true}
 use Rattle.raml_syntax.specs.Tree.{Text}
 use Rattle.bound_file.specs.Spelling.{Term, term_text, more_terms, AreTerms, IsTerm, IsSum}
 use Rattle.bound_file.specs.Reading.{lent, lent_parts, cut_at, behind_space, before_space, and_then, term_read, last_read, inner_read, pieces, with_term, each_read, sum_read}
-use Rattle.bound_file.proofs.Cuts.{nat_same, cut_there, lacks_both, pieces_none, pieces_some, SomeParts, some_pieces, joined, pieces_join}
+use Rattle.bound_file.proofs.Cuts.{cut_there, lacks_both, pieces_none, pieces_some, SomeParts, some_pieces, joined, pieces_join}
 use Rattle.bound_file.proofs.Terms.{term_there, term_lacks, term_is}
 
 -- a text before a space
@@ -19,7 +20,7 @@ before_there (c ∷ d ∷ w) = ap (option_map (λ (front : Text). c ∷ front)) 
 
 before_is : (w front : Text) → before_space w ≡ Some front → w ≡ front ++ 32 ∷ []
 before_is [] front e = absurd (cc)
-before_is (c ∷ []) front e = by (nat_eq c 32) (nat_same c 32) e
+before_is (c ∷ []) front e = by (nat_eq c 32) (eqb-true c 32) e
   where
     by : (b : Bool) → (b ≡ true → c ≡ 32) → cond b (Some []) None ≡ Some front → c ∷ [] ≡ front ++ 32 ∷ []
     by true same e = let f : [] ≡ front = cc in (λ i. same refl i ∷ []) ∙ ap (λ w. w ++ 32 ∷ []) f
@@ -32,7 +33,7 @@ before_is (c ∷ d ∷ w) front e = by (before_space (d ∷ w)) (before_is (d �
 
 behind_is : (w rest : Text) → behind_space w ≡ Some rest → w ≡ 32 ∷ rest
 behind_is [] rest e = absurd (cc)
-behind_is (c ∷ w) rest e = by (nat_eq c 32) (nat_same c 32) e
+behind_is (c ∷ w) rest e = by (nat_eq c 32) (eqb-true c 32) e
   where
     by : (b : Bool) → (b ≡ true → c ≡ 32) → cond b (Some w) None ≡ Some rest → c ∷ w ≡ 32 ∷ rest
     by true same e = let f : w ≡ rest = cc in λ i. same refl i ∷ f i

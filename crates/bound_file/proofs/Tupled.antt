@@ -2,6 +2,7 @@
 use Rattle.std.proofs.Common.{◌≡◌, ◌+◌, ℕ, zero, suc, Bool, true, false, cond, not, List, [], ◌∷◌, ◌++◌, Option, Some, None, refl, sym, ap, subst, ◌∙◌, arith, append_assoc, append-nil}
 use Rattle.std.proofs.lemmas.Bool.Decides.{nat_tests}
 use Rattle.std.specs.Prelude.{nat_eq, nat_lt, ◌||◌, ◌&&◌, option_map, codes}
+use Rattle.std.proofs.lemmas.Bool.{eqb-true}
 use Rattle.raml_syntax.specs.Tree.{Text}
 use Rattle.base_poly.specs.Plain.{Plain, Unit', Pair, End, Then, NoEntry, OneEntry, many, deg, degrees}
 use Rattle.poly_text.specs.Text.{index_text, more_entries, entries_text}
@@ -117,9 +118,6 @@ Spelt [] text has_some = (text ≡ []) × (has_some ≡ false)
 Spelt (goal ∷ goals) text has_some =
     (first : Text) × (rest : Text) × (x : Bool) × (y : Bool) × (text ≡ first ++ rest) × Means goal first x × Spelt goals rest y × (has_some ≡ (x || y))
 
-same_byte : (a b : ℕ) → nat_eq a b ≡ true → a ≡ b
-same_byte a b e = grind (arith, e)
-
 no : {A : Type 0} → false ≡ true → A
 no e = absurd (cc)
 
@@ -156,7 +154,7 @@ module _ (goals : List Goal) (text : Text) (b : Bool) where
       (91 ∷ p.0, p.1, p.2, p.3, ap (λ w. 91 ∷ w) p.4, (many is, named, p.5.2), p.6, p.7)
 
 index_step : (goals : List Goal) (byte : ℕ) (text : Text) (more : List Goal) (b : Bool) → begin_index byte ≡ Some more → Spelt (more ++ goals) text b → Spelt (Index ∷ goals) (byte ∷ text) b
-index_step goals byte text more b e p = at (nat_eq byte 95) (nat_eq byte 40) (nat_eq byte 91) (same_byte byte 95) (same_byte byte 40) (same_byte byte 91) e
+index_step goals byte text more b e p = at (nat_eq byte 95) (nat_eq byte 40) (nat_eq byte 91) (eqb-true byte 95) (eqb-true byte 40) (eqb-true byte 91) e
   where
     at : (u v w : Bool) → (u ≡ true → byte ≡ 95) → (v ≡ true → byte ≡ 40) → (w ≡ true → byte ≡ 91) →
         cond u (Some []) (cond v (Some (Index ∷ Byte 44 ∷ Byte 32 ∷ Index ∷ Byte 41 ∷ [])) (cond w (Some (Entries ∷ [])) None)) ≡ Some more → Spelt (Index ∷ goals) (byte ∷ text) b
@@ -208,7 +206,7 @@ module _ (goals : List Goal) (text : Text) where
 
 step : (seen : Bool) (goal : Goal) (goals : List Goal) (byte : ℕ) (text : Text) (more : List Goal) → met goal byte ≡ Some more → Found (seen_by goal byte seen) (more ++ goals) text → Found seen (goal ∷ goals) (byte ∷ text)
 step seen Index goals byte text more e f = (f.0, index_step goals byte text more f.0 e f.1, f.2)
-step seen Entries goals byte text more e f = at (nat_eq byte 93) (same_byte byte 93) (begin_index byte) refl e f
+step seen Entries goals byte text more e f = at (nat_eq byte 93) (eqb-true byte 93) (begin_index byte) refl e f
   where
     at : (u : Bool) → (u ≡ true → byte ≡ 93) → (o : Option (List Goal)) → begin_index byte ≡ o → cond u (Some []) (option_map (λ (gs : List Goal). gs ++ More 93 ∷ []) o) ≡ Some more → Found (seen || not u) (more ++ goals) text → Found seen (Entries ∷ goals) (byte ∷ text)
     at true is o q e f =
@@ -217,7 +215,7 @@ step seen Entries goals byte text more e f = at (nat_eq byte 93) (same_byte byte
         let moved : more ++ goals ≡ gs ++ More 93 ∷ goals = ap (λ m. m ++ goals) (sym (some (gs ++ More 93 ∷ []) more e)) ∙ append_assoc gs (More 93 ∷ []) goals in
         entry_step goals text seen byte f.0 (index_step (More 93 ∷ goals) byte text gs f.0 q (subst (λ m. Spelt m text f.0) moved f.1))
     at false is None q e f = none more e
-step seen (More close) goals byte text more e f = at (nat_eq byte close) (same_byte byte close) (nat_eq byte 44) (same_byte byte 44) e
+step seen (More close) goals byte text more e f = at (nat_eq byte close) (eqb-true byte close) (nat_eq byte 44) (eqb-true byte 44) e
   where
     at : (u : Bool) → (u ≡ true → byte ≡ close) → (v : Bool) → (v ≡ true → byte ≡ 44) → cond u (Some []) (cond v (Some (Byte 32 ∷ Index ∷ More close ∷ [])) None) ≡ Some more → Found seen (More close ∷ goals) (byte ∷ text)
     at true is v comma e =
@@ -225,7 +223,7 @@ step seen (More close) goals byte text more e f = at (nat_eq byte close) (same_b
     at false is true comma e =
         subst (λ c. Found seen (More close ∷ goals) (c ∷ text)) (sym (comma refl)) (comma_step goals text seen close (subst (λ m. Found seen (m ++ goals) text) (sym (some (Byte 32 ∷ Index ∷ More close ∷ []) more e)) f))
     at false is false comma e = none more e
-step seen (Byte wanted) goals byte text more e f = at (nat_eq byte wanted) (same_byte byte wanted) e
+step seen (Byte wanted) goals byte text more e f = at (nat_eq byte wanted) (eqb-true byte wanted) e
   where
     at : (u : Bool) → (u ≡ true → byte ≡ wanted) → cond u (Some []) None ≡ Some more → Found seen (Byte wanted ∷ goals) (byte ∷ text)
     at true is e =
@@ -251,7 +249,7 @@ pub record IsText (text : Text) : Type 0 where
 
 pub tuple_is : (text : Text) → is_tuple text ≡ true → IsText text
 tuple_is [] e = no e
-tuple_is (byte ∷ text) e = at (nat_eq byte 60) (same_byte byte 60) e
+tuple_is (byte ∷ text) e = at (nat_eq byte 60) (eqb-true byte 60) e
   where
     at : (u : Bool) → (u ≡ true → byte ≡ 60) → (u && reads false (Index ∷ More 62 ∷ []) text) ≡ true → IsText (byte ∷ text)
     at false is e = no e

@@ -2,6 +2,8 @@
 use Rattle.std.proofs.Common.{◌≡◌, ℕ, zero, suc, ◌+◌, ◌≤◌, ◌<◌, cond, Bool, true, false, nat_eq, nat_le, List, [], ◌∷◌, ◌++◌, map, flat_map, take, drop, length, slice_get, Some, refl, sym, ap, ◌∙◌, subst, arith}
 use Rattle.std.specs.List.{range_with_len, list_any}
 use Rattle.std.proofs.lemmas.Bool.{eqb-true, eq-eqb}
+use Rattle.std.proofs.lemmas.Option.{same_Some}
+use Rattle.std.proofs.lemmas.List.{length-map}
 use Rattle.raml_syntax.specs.Tree.{Type'}
 use Rattle.cost_free.specs.declared.task.Meter.{Meter}
 use Rattle.cost_free.specs.declared.task.Meter.TheVariants.{Ticks}
@@ -12,7 +14,7 @@ use Rattle.cost_free.specs.Blocked.{row}
 use Rattle.cost_free.specs.Schedule.{meters, targets_at, tasks_for, free_tasks, group_tasks, tasks_from, is_left_out, next_of}
 use Rattle.cost_free.specs.Refused.{Plan, next_in, any_has_more, IsRefused}
 use Rattle.annot_types.specs.Certificate.{Block, outcome}
-use Rattle.annot_types.proofs.Lists.{some_is, length_map, map_inv, take_map}
+use Rattle.annot_types.proofs.Lists.{map_inv, take_map}
 use Rattle.infer_spec.proofs.Asked.{AllTasks, both, each}
 
 -- a task with cost is never left out
@@ -43,11 +45,11 @@ module _ (ys : List Task) (task u : Task) (meter : Meter) (of_meter : u.kind ≡
     where
       by : (is : Bool) → is_left_out past t.kind ≡ is → (Follows (xs ++ ys) past [] → next_of (xs ++ ys) past [] ≡ Some task → AllTasks (λ t. t ≡ task → ⊥) xs → (i : ℕ) → slice_get xs i ≡ Some u → HasCome [] u) →
           HasCome [] u
-      by false q go = absurd (none.0 (some_is t task (sym (λ i. cond (q i) (next_of (xs ++ ys) past []) (Some t)) ∙ e)))
+      by false q go = absurd (none.0 (same_Some t task (sym (λ i. cond (q i) (next_of (xs ++ ys) past []) (Some t)) ∙ e)))
       by true q go = at i there
         where
           at : (i : ℕ) → slice_get (t ∷ xs) i ≡ Some u → HasCome [] u
-          at zero there = absurd (never_left meter past t.kind (ap (λ (v : Task). v.kind) (some_is t u there) ∙ of_meter) q)
+          at zero there = absurd (never_left meter past t.kind (ap (λ (v : Task). v.kind) (same_Some t u there) ∙ of_meter) q)
           at (suc i) there = go (record { tasks = λ i o g. absurd (cc) }) (sym (λ i. cond (q i) (next_of (xs ++ ys) past []) (Some t)) ∙ e) none.1 i there
   come_before (t ∷ xs) past (o ∷ rest) h e none i there = by (is_left_out past t.kind) refl (come_before xs past (o ∷ rest)) (come_before xs (o ∷ past) rest)
     where
@@ -62,7 +64,7 @@ module _ (ys : List Task) (task u : Task) (meter : Meter) (of_meter : u.kind ≡
       later q = record { tasks = λ j out g. (λ i. cond (sym q i) (next_of (xs ++ ys) past (o ∷ take j rest)) (next_of (xs ++ ys) (o ∷ past) (take j rest))) ∙ h.tasks (suc j) out g }
 
       first : is_left_out past t.kind ≡ false → t ≡ o.0
-      first q = some_is t o.0 ((λ i. cond (sym q i) (next_of (xs ++ ys) past []) (Some t)) ∙ h.tasks zero o refl)
+      first q = same_Some t o.0 ((λ i. cond (sym q i) (next_of (xs ++ ys) past []) (Some t)) ∙ h.tasks zero o refl)
 
       by : (is : Bool) → is_left_out past t.kind ≡ is →
           (Follows (xs ++ ys) past (o ∷ rest) → next_of (xs ++ ys) past (o ∷ rest) ≡ Some task → AllTasks (λ t. t ≡ task → ⊥) xs → (i : ℕ) → slice_get xs i ≡ Some u → HasCome (o ∷ rest) u) →
@@ -70,12 +72,12 @@ module _ (ys : List Task) (task u : Task) (meter : Meter) (of_meter : u.kind ≡
       by true q go on = at i there
         where
           at : (i : ℕ) → slice_get (t ∷ xs) i ≡ Some u → HasCome (o ∷ rest) u
-          at zero there = absurd (never_left meter past t.kind (ap (λ (v : Task). v.kind) (some_is t u there) ∙ of_meter) q)
+          at zero there = absurd (never_left meter past t.kind (ap (λ (v : Task). v.kind) (same_Some t u there) ∙ of_meter) q)
           at (suc i) there = go (skipped q) (sym (λ i. cond (q i) (next_of (xs ++ ys) past (o ∷ rest)) (next_of (xs ++ ys) (o ∷ past) rest)) ∙ e) none.1 i there
       by false q go on = at i there
         where
           at : (i : ℕ) → slice_get (t ∷ xs) i ≡ Some u → HasCome (o ∷ rest) u
-          at zero there = record { place = zero; out = o; there = refl; is = sym (first q) ∙ some_is t u there }
+          at zero there = record { place = zero; out = o; there = refl; is = sym (first q) ∙ same_Some t u there }
           at (suc i) there =
               let g = on (later q) (sym (λ i. cond (q i) (next_of (xs ++ ys) past (o ∷ rest)) (next_of (xs ++ ys) (o ∷ past) rest)) ∙ e) none.1 i there in
               record { place = suc g.place; out = g.out; there = g.there; is = g.is }
@@ -203,13 +205,13 @@ first_of (x ∷ blocks) group k b e is = by (nat_eq x.task.group group) refl (fi
     by : (c : Bool) → nat_eq x.task.group group ≡ c → ((k : ℕ) (b : Block) → slice_get blocks k ≡ Some b → b.task.group ≡ group → IsFirst blocks group) →
         (k : ℕ) → slice_get (x ∷ blocks) k ≡ Some b → IsFirst (x ∷ blocks) group
     by true q rest k e = record { place = 0; block = x; there = refl; is = eqb-true x.task.group group q; before = λ m c l. absurd (omega (arith, l)) }
-    by false q rest zero e = absurd (differs x.task.group group q (ap (λ (c : Block). c.task.group) (some_is x b e) ∙ is))
+    by false q rest zero e = absurd (differs x.task.group group q (ap (λ (c : Block). c.task.group) (same_Some x b e) ∙ is))
     by false q rest (suc k) e =
         let f = rest k b e is in
         record { place = suc f.place; block = f.block; there = f.there; is = f.is; before = at f }
       where
         at : (f : IsFirst blocks group) (m : ℕ) (c : Block) → m < suc f.place → slice_get (x ∷ blocks) m ≡ Some c → c.task.group ≡ group → ⊥
-        at f zero c l g is' = differs x.task.group group q (ap (λ (c : Block). c.task.group) (some_is x c g) ∙ is')
+        at f zero c l g is' = differs x.task.group group q (ap (λ (c : Block). c.task.group) (same_Some x c g) ∙ is')
         at f (suc m) c l g is' = f.before m c (omega (arith, l)) g is'
 
 there_before : (bs : List Block) (m n : ℕ) (b : Block) → m < n → slice_get bs n ≡ Some b → (c : Block) × (slice_get bs m ≡ Some c)
@@ -253,11 +255,11 @@ none_large plan blocks h task e g l large =
       task = one.block.task;
       is_next = h.tasks one.place one.block one.there;
       is_first = λ m earlier low next same. (
-          let n = length_map outcome (take one.place blocks) in
+          let n = length-map (take one.place blocks) outcome in
           let short = take_short one.place blocks in
           let less : m < one.place = omega (arith, low, n, short) in
           let b = there_before blocks m one.place one.block less one.there in
           let here = sym (h.tasks m b.0 b.1) ∙ ap (next_in plan) (sym (take_map outcome m (take one.place blocks) ∙ ap (map outcome) (take_twice m one.place blocks (omega (arith, less))))) ∙ next in
-          one.before m b.0 less b.1 (ap (λ (t : Task). t.group) (some_is (b.0).task earlier here) ∙ same ∙ one.is));
+          one.before m b.0 less b.1 (ap (λ (t : Task). t.group) (same_Some (b.0).task earlier here) ∙ same ∙ one.is));
       is_large = ap (λ n. any_has_more 2000 plan (row plan.groups n)) one.is ∙ large;
     })

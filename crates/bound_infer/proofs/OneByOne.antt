@@ -1,6 +1,8 @@
 -- Blocks raised one after the other.
 use Rattle.std.proofs.Common.{rules, FitsSigned, ℤ, pos, ◌*ℤ◌, ◌*◌, ◌≡◌, ◌<◌, ◌≤◌, ◌⊎◌, inl, inr, ⊎_elim, ◌+◌, ℕ, zero, suc, List, [], ◌∷◌, ◌++◌, map, take, drop, length, slice_get, slice_index_or, slice_set, Some, refl, sym, ap, ◌∙◌, subst, arith}
 use Rattle.std.specs.Int.{w128}
+use Rattle.std.proofs.lemmas.Option.{same_Some}
+use Rattle.farkas_check.proofs.Walking.{earlier_or_here}
 use Rattle.cost_free.specs.declared.task.Meter.{Meter}
 use Rattle.annot_types.specs.Certificate as c
 use Rattle.annot_types.specs.Holds.{raised}
@@ -9,7 +11,6 @@ use Rattle.annot_types.specs.declared.block.Block.{Block}
 use Rattle.simplex_integers.specs.Wholes.{most}
 use Rattle.infer_spec.specs.States.{State}
 use Rattle.infer_spec.specs.Places.{BodyFits, IsOfMeter, BlockLeaves}
-use Rattle.annot_types.proofs.Lists.{some_is}
 use Rattle.bound_infer.specs.Raised.{AllFit, FirstUnfit, NoneOf}
 
 -- The blocks before a place are raised, and all their numbers fit; the others are as they were.
@@ -29,7 +30,7 @@ module _ {X : Type 0} (f : X → X) where
 
   set_next : (xs : List X) (k : ℕ) (x : X) → slice_get xs k ≡ Some x → slice_set (map f (take k xs) ++ drop k xs) k (f x) ≡ map f (take (suc k) xs) ++ drop (suc k) xs
   set_next [] k x e = absurd (cc)
-  set_next (y ∷ xs) zero x e = λ i. f (sym (some_is y x e) i) ∷ xs
+  set_next (y ∷ xs) zero x e = λ i. f (sym (same_Some y x e) i) ∷ xs
   set_next (y ∷ xs) (suc k) x e = ap (λ ys. f y ∷ ys) (set_next xs k x e)
 
   mixed_length : (xs : List X) (k : ℕ) → length (map f (take k xs) ++ drop k xs) ≡ length xs
@@ -37,11 +38,6 @@ module _ {X : Type 0} (f : X → X) where
   mixed_length [] (suc k) = refl
   mixed_length (x ∷ xs) zero = refl
   mixed_length (x ∷ xs) (suc k) = ap suc (mixed_length xs k)
-
-below_or : (i k : ℕ) → i < k + 1 → (i < k) ⊎ (i ≡ k)
-below_or i zero q = inr (omega (arith, q))
-below_or zero (suc k) q = inl (omega arith)
-below_or (suc i) (suc k) q = ⊎_elim (λ p. inl (omega (arith, p))) (λ p. inr (ap suc p)) (below_or i k (omega (arith, q)))
 
 get_read : (bs : List Block) (k : ℕ) (d : Block) → k < length bs → slice_get (blocks_of bs) k ≡ Some (block_of (slice_index_or bs k d))
 get_read [] k d l = absurd (omega (arith, l))
@@ -92,12 +88,12 @@ module _ (meter : Meter) (t k : ℕ) (old now : List Block) (d : Block) (l : k <
       next k = omega arith
 
       by : (i : ℕ) (other : c.Block) → i < k + 1 → slice_get (blocks_of old) i ≡ Some other → IsOfMeter meter other → BodyFits t other.body
-      by i other low e of = choose (below_or i k low)
+      by i other low e of = choose (earlier_or_here i k low)
         where
           choose : (i < k) ⊎ (i ≡ k) → BodyFits t other.body
           choose (inl q) = h.fit i other q e of
           choose (inr q) =
-              let same : block_of here ≡ other = some_is (block_of here) other (sym there ∙ ap (slice_get (blocks_of old)) (sym q) ∙ e) in
+              let same : block_of here ≡ other = same_Some (block_of here) other (sym there ∙ ap (slice_get (blocks_of old)) (sym q) ∙ e) in
               subst (λ (o : c.Block). BodyFits t o.body) same (fits (subst (IsOfMeter meter) (sym same) of))
 
   pub first_unfit : IsOfMeter meter (block_of here) → (BodyFits t (block_of here).body → ⊥) → FirstUnfit meter t (blocks_of old) k
@@ -110,8 +106,8 @@ NoneBefore meter place bs = (i : ℕ) (other : c.Block) → i < place → slice_
 pub none_next : (meter : Meter) (bs : List Block) (k : ℕ) (b : Block) → k < length bs → b ≡ slice_index_or bs k b → NoneBefore meter k bs → (IsOfMeter meter (block_of b) → ⊥) → NoneBefore meter (k + 1) bs
 none_next meter bs k b l at h none i other q e of = ⊎_elim
     (λ p. h i other p e of)
-    (λ p. none (subst (IsOfMeter meter) (some_is other (block_of b) (sym e ∙ ap (slice_get (blocks_of bs)) p ∙ get_read bs k b l ∙ ap (λ b. Some (block_of b)) (sym at))) of))
-    (below_or i k q)
+    (λ p. none (subst (IsOfMeter meter) (same_Some other (block_of b) (sym e ∙ ap (slice_get (blocks_of bs)) p ∙ get_read bs k b l ∙ ap (λ b. Some (block_of b)) (sym at))) of))
+    (earlier_or_here i k q)
 
 pub none_at_all : (meter : Meter) (bs : List Block) (k : ℕ) → length bs ≤ k → NoneBefore meter k bs → NoneOf meter (blocks_of bs)
 none_at_all meter bs k l h i other e of = h i other (let q = inside (blocks_of bs) i other e in let n = count bs in omega (arith, q, n, l)) e of

@@ -5,6 +5,7 @@ use Rattle.std.specs.List.{All}
 use Rattle.std.specs.Int.{w128}
 use Rattle.std.proofs.lemmas.Int.{unsigned_abs-mul}
 use Rattle.std.proofs.lemmas.List.Elements.{All-head, All-tail}
+use Rattle.std.proofs.lemmas.Option.{same_Some}
 use Rattle.cost_free.specs.declared.task.Meter.{Meter}
 use Rattle.cost_free.specs.Task as k
 use Rattle.cost_free.specs.Task.{Kind, Free}
@@ -41,16 +42,13 @@ entries_stay t k (e ∷ es) h = by (e.0 == k) (All-head (λ (x : ℕ × ℤ). Fi
 sig_stays : (t : ℕ) (s : Sig) → SigFits t s → NothingLeaves t s
 sig_stays t s h = record { args = λ k. entries_stay t k s.args h.0; result = λ k. entries_stay t k s.result h.1 }
 
-some_is : {X : Type 0} (x y : X) → Some x ≡ Some y → x ≡ y
-some_is x y e = cc
-
 among_stays : (t : ℕ) (fs : List ℕ) (ss : List Sig) (f : ℕ) (s : Sig) → All (SigFits t) ss → sig_among fs ss f ≡ Some s → NothingLeaves t s
 among_stays t [] ss f s h e = absurd (cc)
 among_stays t (g ∷ fs) [] f s h e = absurd (cc)
 among_stays t (g ∷ fs) (x ∷ ss) f s h e = by (nat_eq f g) (among_stays t fs ss f s (All-tail (SigFits t) x ss h)) e
   where
     by : (b : Bool) → (sig_among fs ss f ≡ Some s → NothingLeaves t s) → cond b (Some x) (sig_among fs ss f) ≡ Some s → NothingLeaves t s
-    by true rest e = subst (NothingLeaves t) (some_is x s e) (sig_stays t x (All-head (SigFits t) x ss h))
+    by true rest e = subst (NothingLeaves t) (same_Some x s e) (sig_stays t x (All-head (SigFits t) x ss h))
     by false rest e = rest e
 
 meter_of : (meter : Meter) (kind : Kind) → is_for_meter meter kind ≡ true → kind ≡ k.With meter

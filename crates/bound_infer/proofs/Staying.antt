@@ -3,6 +3,7 @@ use Rattle.std.proofs.Common.{◌≡◌, ℕ, zero, suc, ℤ, pos, ◌*ℤ◌, F
 use Rattle.std.specs.List.{All}
 use Rattle.std.specs.Int.{w128}
 use Rattle.std.proofs.lemmas.List.Elements.{All-nil, All-cons, All-head, All-tail, All-push, All-map, All-weaker}
+use Rattle.std.proofs.lemmas.Option.{same_Some}
 use Rattle.cost_free.specs.declared.task.Meter.{Meter}
 use Rattle.cost_free.specs.Task as k
 use Rattle.cost_free.specs.Task.{Kind, Free}
@@ -11,7 +12,6 @@ use Rattle.annot_types.specs.Certificate as c
 use Rattle.annot_types.specs.Certificate.{Entries, Sig, Body, Solved, Block}
 use Rattle.annot_types.specs.Holds.{times, times_sig, times_hint, times_body, raised}
 use Rattle.annot_types.proofs.Raised.{on, off, same_meters}
-use Rattle.annot_types.proofs.Lists.{some_is}
 use Rattle.infer_spec.specs.Places.{EntriesFit, HintFits, SigFits, BodyFits, IsOfMeter}
 use Rattle.bound_infer.specs.Raised.{AllFit, EachFits}
 use Rattle.bound_infer.proofs.Ones.{one_times}
@@ -63,7 +63,7 @@ one_more_fits bs b h fits = All-push Fits bs b h fits
 
 pub fits_at : (bs : List Block) (place : ℕ) (b : Block) → EachFits bs → slice_get bs place ≡ Some b → BodyFits 1 b.body
 fits_at [] place b h e = absurd (cc)
-fits_at (x ∷ bs) zero b h e = subst Fits (some_is x b e) (All-head Fits x bs h)
+fits_at (x ∷ bs) zero b h e = subst Fits (same_Some x b e) (All-head Fits x bs h)
 fits_at (x ∷ bs) (suc place) b h e = fits_at bs place b (All-tail Fits x bs h) e
 
 pub each_raised : (m : Meter) (t : ℕ) (bs : List Block) → AllFit m t bs → EachFits bs → EachFits (map (raised m t) bs)

@@ -33,14 +33,14 @@ LeavesAt None = Unit {0}
 LeavesAt (Some (f.Leaves path index)) = Unit {0}
 LeavesAt (Some (f.Fails path index)) = ⊥
 
-met_leaves : (c : Condition Amount) → Meets c → LeavesAt (fault_at c)
+pub met_leaves : (c : Condition Amount) → Meets c → LeavesAt (fault_at c)
 met_leaves c m = by (nat_le too_great (total_left c) || nat_le too_great (total_right c)) (nat_lt (total_left c) (total_right c)) refl where
   by : (b d : Bool) → nat_lt (total_left c) (total_right c) ≡ d → LeavesAt (cond b (Some (f.Leaves c.path c.index)) (cond d (Some (f.Fails c.path c.index)) None))
   by true d e = tt
   by false false e = tt
   by false true e = let less : total_left c < total_right c = grind (arith, nat_tests, e) in absurd (omega (arith, less, m))
 
-all_met_leave : (cs : List (Condition Amount)) → AllMeet cs → LeavesAt (first_fault cs)
+pub all_met_leave : (cs : List (Condition Amount)) → AllMeet cs → LeavesAt (first_fault cs)
 all_met_leave [] m = tt
 all_met_leave (c ∷ cs) m = by (fault_at c) (met_leaves c m.0) (all_met_leave cs m.1) where
   by : (o : Option f.Fault) → LeavesAt o → LeavesAt (first_fault cs) → LeavesAt (or_fault o (first_fault cs))

@@ -3,6 +3,7 @@ use Rattle.std.proofs.Common.{◌≡◌, refl, ap, sym, ◌∙◌, subst, arith}
 use Rattle.std.specs.Prelude.{ℕ, suc, ◌+◌, ◌*◌, ◌≤◌, ◌||◌, Bool, true, false, cond, nat_lt, nat_le, List, [], ◌∷◌, ◌++◌, map, length, slice_get, slice_index_or, Option, None, Some}
 use Rattle.std.proofs.lemmas.Option.{none-some}
 use Rattle.std.proofs.lemmas.Bool.{ltb-false}
+use Rattle.rules_spec.proofs.Refuted.{all_once}
 use Rattle.normal_spec.specs.Norm.{NormFun}
 use Rattle.normal_spec.specs.Context.{types}
 use Rattle.cost_free.specs.declared.task.Meter.{Meter}
@@ -15,7 +16,7 @@ use Rattle.annot_types.specs.Certificate.{Entries, annotation, Sig, Hint, Body, 
 use Rattle.annot_types.specs.Rules.{Setting, Ann}
 use Rattle.annot_types.specs.Holds.{mode_of, budget_of, blocks_before, raised, times, times_sig, times_hint, times_block, setting, FunctionHolds, FunctionsHold}
 use Rattle.annot_types.specs.Rows.{size as size_of}
-use Rattle.annot_types.proofs.Raised.{times_once, sig_once}
+use Rattle.annot_types.proofs.Raised.{times_once, sig_once, hint_once, hints_once, all_hints_once, sigs_once}
 use Rattle.rules_spec.specs.Numbers as n
 use Rattle.rules_spec.specs.Numbers.{Condition}
 use Rattle.rules_spec.specs.Kinds.{Amount, amounts, total_left, total_right, Meets, AllMeet}
@@ -60,38 +61,14 @@ entries_once : (rs : List Entries) → map (times 1) rs ≡ rs
 entries_once [] = refl
 entries_once (es ∷ rs) = λ i. times_once es i ∷ entries_once rs i
 
-hint_once : (h : Hint) → times_hint 1 h ≡ h
-hint_once (c.Let rs) = ap c.Let (entries_once rs)
-hint_once (c.Share p) = ap c.Share (times_once p)
-hint_once (c.Call ms) = ap c.Call (times_once ms)
-
-hints_once : (hs : List Hint) → map (times_hint 1) hs ≡ hs
-hints_once [] = refl
-hints_once (h ∷ hs) = λ i. hint_once h i ∷ hints_once hs i
-
-all_once : (hss : List (List Hint)) → map (map (times_hint 1)) hss ≡ hss
-all_once [] = refl
-all_once (hs ∷ hss) = λ i. hints_once hs i ∷ all_once hss i
-
-sigs_once : (ss : List Sig) → map (times_sig 1) ss ≡ ss
-sigs_once [] = refl
-sigs_once (s ∷ ss) = λ i. sig_once s i ∷ sigs_once ss i
-
 block_once : (task : Task) (body : Body) → times_block 1 (record { task = task; body = body }) ≡ record { task = task; body = body }
-block_once task (Solved sigs hints) = λ i. record { task = task; body = Solved (sigs_once sigs i) (all_once hints i) }
+block_once task (Solved sigs hints) = λ i. record { task = task; body = Solved (sigs_once sigs i) (all_hints_once hints i) }
 block_once task (Refuted farkas) = refl
 block_once task (Calls f) = refl
 
-raised_once : (meter : Meter) (bs : List Block) → map (raised meter 1) bs ≡ bs
-raised_once meter [] = refl
-raised_once meter (b ∷ bs) = λ i. by (is_for_meter meter b.task.kind) i ∷ raised_once meter bs i where
-  by : (t : Bool) → cond t (times_block 1 b) b ≡ b
-  by true = block_once b.task b.body
-  by false = refl
-
 pub before_once : (kind : Kind) (bs : List Block) → blocks_before kind 1 bs ≡ bs
 before_once (Free budget f target) bs = refl
-before_once (k.With meter) bs = raised_once meter bs
+before_once (k.With meter) bs = all_once meter bs
 
 module _ (P : Program) (proper : IsProper P) (d : ℕ) (earlier : List Block) (task : Task) (scale : ℕ) (sigs : List Sig) where
   abbrev pub group : List ℕ

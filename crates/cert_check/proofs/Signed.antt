@@ -4,6 +4,7 @@ use Rattle.std.specs.Prelude.{unsigned_abs, IfSome}
 use Rattle.std.specs.List.{All}
 use Rattle.std.specs.Option.{option_map}
 use Rattle.std.proofs.lemmas.Bool.{eqb-true}
+use Rattle.std.proofs.lemmas.Option.{same_Some}
 use Rattle.raml_syntax.specs.Tree.{Function, Prog}
 use Rattle.raml_syntax.specs.Types.{Typed}
 use Rattle.raml_syntax.specs.Node.{AllNodes, NumberFits}
@@ -27,26 +28,14 @@ use Rattle.annot_types.specs.Held.{before, scale_of, scale_for, terms_of, IsOne,
 use Rattle.rules_plan.specs.Within.{FunctionWithin}
 use Rattle.rules_soundness_laws.specs.Bounds.{Bounds}
 use Rattle.rules_soundness_laws.specs.Laws.{HoldsAt, Signs, normal_of}
-use Rattle.rules_soundness_laws.proofs.Blocks.{of_meter}
+use Rattle.rules_soundness_laws.proofs.Blocks.{of_meter, function_of}
 use Rattle.rules_soundness_laws.proofs.Source.{is_form, of_block}
-use Rattle.rules_soundness_laws.proofs.Weighed.{some_is}
 use Rattle.cert_check.specs.Finds.{AreWithin}
 use Rattle.cert_check.specs.Laws.{IsSmall}
 use Rattle.cert_check.specs.Bound.{Told, told_of, told_by, told}
 use Rattle.cert_check.proofs.Small.{member_within, params_within}
 
 -- the derivation of a function of a group
-pub function_of : (S : Setting) (m : Mode) (fs : List ℕ) (ss : List Sig) (hss : List (List Hint)) → FunctionsHold S m fs ss hss →
-    (f : ℕ) (s : Sig) → sig_among fs ss f ≡ Some s → (hs : List Hint) × FunctionHolds S m f s hs
-function_of S m [] ss hss h f s e = absurd (cc)
-function_of S m (g ∷ fs) [] hss h f s e = absurd (cc)
-function_of S m (g ∷ fs) (r ∷ ss) [] h f s e = absurd h
-function_of S m (g ∷ fs) (r ∷ ss) (hs ∷ hss) h f s e = by (nat_eq f g) refl e (function_of S m fs ss hss h.1 f s)
-  where
-    by : (b : Bool) → nat_eq f g ≡ b → cond b (Some r) (sig_among fs ss f) ≡ Some s → (sig_among fs ss f ≡ Some s → (hs : List Hint) × FunctionHolds S m f s hs) →
-        (hs : List Hint) × FunctionHolds S m f s hs
-    by true q e rest = (hs, subst (λ j. FunctionHolds S m j s hs) (sym (eqb-true f g q)) (subst (λ x. FunctionHolds S m g x hs) (some_is r s e) h.0))
-    by false q e rest = rest e
 
 module _ (P : Program) (c : Certificate) (held : Held P c) (meter : Meter) (f : ℕ) (s : Sig) where
   no_sig : (fs : List ℕ) (body : Body) → sigs_of body ≡ [] → sig_among fs (sigs_of body) f ≡ Some s → ⊥
@@ -95,7 +84,7 @@ module _ (P : Program) (c : Certificate) (held : Held P c) (meter : Meter) (f : 
       let b = signs e in
       let S = setting P c.degree (before c b.place) (scale_for c b.block.task.kind) b.block 1 in
       let h = (function_of S (mode_of b.block.task.kind) (members P b.block.task.group) (sigs_of b.block.body) (hints_of b.block.body) b.holds.functions f s b.sig).1 in
-      subst (λ (x : NormFun). Annotates (types x.params) c.degree s.args) (some_is h.fun g (sym h.there ∙ there))
+      subst (λ (x : NormFun). Annotates (types x.params) c.degree s.args) (same_Some h.fun g (sym h.there ∙ there))
       (subst (λ d. Annotates (types h.fun.params) d s.args) (ap (budget_of c.degree) b.kind) h.args)
 
   pub params_annotated : (params : Context) → Some params ≡ option_map (λ (g : NormFun). g.params) (slice_get P.funs f) → cost_sig P meter c.blocks f ≡ Some s →
@@ -104,7 +93,7 @@ module _ (P : Program) (c : Certificate) (held : Held P c) (meter : Meter) (f : 
     where
       by : (o : Option NormFun) → slice_get P.funs f ≡ o → Some params ≡ option_map (λ (g : NormFun). g.params) o → Annotates (types params) c.degree s.args
       by None q i = absurd (cc)
-      by (Some g) q i = subst (λ ps. Annotates (types ps) c.degree s.args) (sym (some_is params g.params i)) (annotates g q e)
+      by (Some g) q i = subst (λ ps. Annotates (types ps) c.degree s.args) (sym (same_Some params g.params i)) (annotates g q e)
 
   -- where the block is within the limits, the parameters have few tuples
   few_at : IsSmall P c → (place : ℕ) (block : Block) → slice_get c.blocks place ≡ Some block → block.task.kind ≡ k.With meter → sig_in P block f ≡ Some s →
@@ -138,7 +127,7 @@ module _ (source : Prog) (typed : Typed source) (numbers : All (λ (g : Function
       by None q (Some s) r e = absurd (cc)
       by (Some g) q None r e = absurd (cc)
       by (Some g) q (Some s) r e =
-          subst (λ (t : Told). Bounds source f fun meter t.0 t.1) (sym (some_is (den, terms) (scale, terms_of (types g.params) c.degree s.args) e))
+          subst (λ (t : Told). Bounds source f fun meter t.0 t.1) (sym (same_Some (den, terms) (scale, terms_of (types g.params) c.degree s.args) e))
           (subst (λ n. Bounds source f fun meter n (terms_of (types g.params) c.degree s.args)) once
           (subst (λ (x : NormFun). Bounds source f fun meter (scale * 1) (terms_of (types x.params) c.degree s.args)) (is_form source typed numbers f g q fun at)
           (of_block source typed numbers groups c held meter 1 f fun s at (signs (normal_of source groups) c held meter f s r))))

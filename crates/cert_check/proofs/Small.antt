@@ -3,6 +3,7 @@ use Rattle.std.proofs.Common.{◌≡◌, ◌≤◌, ℕ, suc, nat_eq, Bool, true
 use Rattle.std.specs.List.{All}
 use Rattle.std.specs.Option.{option_map}
 use Rattle.std.proofs.lemmas.Bool.{eqb-true}
+use Rattle.std.proofs.lemmas.Option.{same_Some}
 use Rattle.raml_syntax.specs.Tree.{Type'}
 use Rattle.base_poly.specs.Indices.{index_list}
 use Rattle.normal_spec.specs.Norm as n
@@ -10,7 +11,6 @@ use Rattle.normal_spec.specs.Norm.{Norm, NormFun}
 use Rattle.normal_spec.specs.Context.{Context, types}
 use Rattle.annot_types.specs.Certificate.{Sig}
 use Rattle.annot_types.specs.Signature.{sig_among}
-use Rattle.annot_types.proofs.Lists.{some_is}
 use Rattle.rules_plan.specs.Within.{AreSmall, IsWithin, FunctionWithin}
 use Rattle.cert_check.specs.Results.{HasResult}
 
@@ -41,7 +41,7 @@ pub params_within : (o : Option NormFun) (d : ℕ) (params : Context) → Some p
     length (index_list (types params) d) ≤ 2000
 params_within None d params is h = absurd (cc)
 params_within (Some g) d params is h =
-    subst (λ ps. length (index_list (types ps) d) ≤ 2000) (sym (some_is params g.params is)) (within_here 2000 g.body g.params g.result d h).0
+    subst (λ ps. length (index_list (types ps) d) ≤ 2000) (sym (same_Some params g.params is)) (within_here 2000 g.body g.params g.result d h).0
 
 pub result_within : (N : n.NormProg) (f d : ℕ) (A : Type') → HasResult N f A → FunctionWithin 2000 (slice_get N f) d → length (index_list (A ∷ []) d) ≤ 2000
 result_within N f d A r h =

@@ -2,6 +2,7 @@
 use Rattle.std.proofs.Common.{◌≡◌, refl, ap, sym, ◌∙◌, subst, arith}
 use Rattle.std.specs.Prelude.{ℕ, suc, ◌+◌, ◌≤◌, ◌<◌, nat_eq, nat_lt, Bool, true, false, cond, ◌&&◌, ◌||◌, List, [], ◌∷◌, length, slice_index_or, Option, None, Some, IfNone, IfSome}
 use Rattle.std.proofs.lemmas.Bool.Decides.{nat_tests}
+use Rattle.rules_spec.proofs.SameCalls.{and_true}
 use Rattle.raml_syntax.specs.Tree.{Type'}
 use Rattle.base_poly.specs.Plain.{Plain, alike}
 use Rattle.base_poly.specs.Indices.{index_list}
@@ -11,7 +12,7 @@ use Rattle.cert_check.specs.Finds.{missing_from}
 use Rattle.cert_check.specs.Covering.{has_from, has_all, IsReached, IsMissed}
 use Rattle.cert_check.proofs.Covered.{reached, missed}
 
--- Of m tuples those from place k on, of which one alone is alike to t: that with the place n.
+-- Of m tuples those from place k on, of which one and_true is alike to t: that with the place n.
 module _ (t : List Plain) (n m : ℕ) (q : Annotation) where
   has_one : (k : ℕ) (xs : List (List Plain)) → k + length xs ≡ m → k ≤ n → ((j p : ℕ) → k + j ≡ p → p < m → alike t (slice_index_or xs j []) ≡ nat_eq n p) →
       has_from k t xs q ≡ (nat_lt n m && nat_lt 0 (q n))
@@ -70,12 +71,8 @@ module _ (A : Type') (d budget number : ℕ) (q : Annotation) where
 
     has : has_all all q (t ∷ []) ≡ (nat_lt number (length all) && nat_lt 0 (q number))
     has =
-        alone (has_from 0 t all q)
+        and_true (has_from 0 t all q)
         ∙ has_one t number (length all) q 0 all (omega arith) (omega arith) (λ j p e l. same_place (A ∷ []) d budget number j low (omega (arith, e, l)) ∙ ap (nat_eq number) (same j p e))
-      where
-        alone : (b : Bool) → (b && true) ≡ b
-        alone true = refl
-        alone false = refl
 
     misses : (number < length all → q number ≡ 0) → missing_from 0 q (t ∷ []) all ≡ cond (nat_lt number (length all)) number 0
     misses none =

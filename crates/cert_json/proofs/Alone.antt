@@ -2,6 +2,7 @@
 use Rattle.std.proofs.Common.{◌≡◌, ℕ, suc, ◌+◌, ℤ, Bool, List, [], ◌∷◌, ◌++◌, length, map, Option, Some, None, Result, Err, refl, sym, ap, ap₂, subst, ◌∙◌, arith, codes}
 use Rattle.std.specs.Fmt.{signed_decimal}
 use Rattle.std.specs.Prelude.{option_map, nat_le, ◌&&◌}
+use Rattle.std.proofs.lemmas.List.{length-map}
 use Rattle.serde_json.specs.Data.{Data}
 use Rattle.cost_free.specs.Task.{Kind}
 use Rattle.cert_json.specs.Parts.{Entries, Sig, Hint, Let, Share, Call, Body, Solved, Refuted, Calls, Block, Head, Certificate}
@@ -10,7 +11,6 @@ use Rattle.cert_json.specs.Reading.{number_of, block_of, head_of, ascend_from}
 use Rattle.cert_json.specs.Fits.{Each, FitsList, FitsEntry, FitsAnnot, FitsSig, FitsHint, FitsBody, FitsOption, InRange}
 use Rattle.cert_json.specs.Faults.{InHead, InBlock, Fault, NotJson, Shape, Number, Any, itself, IsHead, IsLikeHead, IsBlock, IsLikeBlock, with_work, ReachesBlock, Refuses}
 use Rattle.cert_json.specs.Steps.{fault_at, read_blocks, read_certificate}
-use Rattle.cert_json.proofs.Inverses.{same_length}
 use Rattle.cert_json.proofs.Numbers.{strict, loose}
 use Rattle.cert_json.proofs.Heads.{head_sound, head_complete}
 use Rattle.cert_json.proofs.Certificates.{is_block, block_is, like_block_of, block_like}
@@ -24,7 +24,7 @@ each_map h F G k [] f = tt
 each_map h F G k (x ∷ xs) f = (k x f.0, each_map h F G k xs f.1)
 
 list_map : {A B : Type 0} (h : A → B) (F : A → Type 0) (G : B → Type 0) → ((x : A) → F x → G (h x)) → (xs : List A) → FitsList F xs → FitsList G (map h xs)
-list_map h F G k xs f = record { short = omega (arith, f.short, same_length h xs); each = each_map h F G k xs f.each }
+list_map h F G k xs f = record { short = omega (arith, f.short, length-map xs h); each = each_map h F G k xs f.each }
 
 -- the parts with their numbers as texts
 abbrev entry : ℕ × ℤ → ℕ × Text

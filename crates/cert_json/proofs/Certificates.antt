@@ -1,6 +1,7 @@
 -- What reading step by step gives is what the text is, and why it is refused.
 use Rattle.std.proofs.Common.{◌≡◌, ℕ, suc, ◌+◌, ℤ, Bool, List, [], ◌∷◌, ◌++◌, length, map, Option, Some, None, Result, Ok, Err, refl, sym, ap, ap₂, subst, ◌∙◌, arith, add-one, append_assoc}
 use Rattle.std.specs.Fmt.{signed_decimal}
+use Rattle.std.proofs.lemmas.List.{length-map}
 use Rattle.serde_json.specs.Data.{Data}
 use Rattle.cert_json.specs.Parts.{Block, Head, Certificate}
 use Rattle.cert_json.specs.Form.{Text, list_json, block_json, head_json}
@@ -8,7 +9,6 @@ use Rattle.cert_json.specs.Reading.{number_of, block_of, head_of}
 use Rattle.cert_json.specs.Fits.{Each, FitsBlock, InRange}
 use Rattle.cert_json.specs.Faults.{InHead, InBlock, Fault, IsHead, IsBlock, IsLikeBlock, with_work, HasParts, ReachesBlock, Refuses}
 use Rattle.cert_json.specs.Steps.{fault_at, then, map_ok, read_blocks, read_certificate}
-use Rattle.cert_json.proofs.Inverses.{same_length}
 use Rattle.cert_json.proofs.Numbers.{strict, loose}
 use Rattle.cert_json.proofs.Blocks.{block_inverse}
 use Rattle.cert_json.proofs.Heads.{head_sound, head_complete}
@@ -106,7 +106,7 @@ certificate_sound d c e = by (head_of number_of d) refl e
         subst (HasParts d) h (record {
           is = k.is ∙ ap (λ ds. head_json signed_decimal p.0 (list_json ds)) b.are;
           head = k.fits;
-          blocks = record { short = omega (arith, k.short, ap length b.are, same_length (block_json signed_decimal) bs); each = b.fit };
+          blocks = record { short = omega (arith, k.short, ap length b.are, length-map bs (block_json signed_decimal)); each = b.fit };
         })
 
     by : (o : Option (Head ℤ × List Data)) → head_of number_of d ≡ o
@@ -117,7 +117,7 @@ certificate_sound d c e = by (head_of number_of d) refl e
 pub certificate_complete : (d : Data) (c : Certificate ℤ) → HasParts d c → read_certificate d ≡ Ok c
 certificate_complete d c h =
     ap read_certificate h.is
-    ∙ rw (head_complete strict c.head (map (block_json signed_decimal) c.blocks) h.head (omega (arith, h.blocks.short, same_length (block_json signed_decimal) c.blocks)))
+    ∙ rw (head_complete strict c.head (map (block_json signed_decimal) c.blocks) h.head (omega (arith, h.blocks.short, length-map c.blocks (block_json signed_decimal))))
     (rw (blocks_complete (with_work c.head) 0 c.blocks h.blocks.each) refl)
 
 no_strict_head : (d : Data) → head_of number_of d ≡ None → (h : Head ℤ) (ds : List Data) → IsHead d h ds → ⊥

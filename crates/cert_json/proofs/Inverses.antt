@@ -3,6 +3,7 @@ use Rattle.std.proofs.Common.{◌≡◌, ℕ, ◌^◌, ◌<◌, true, false, con
 use Rattle.std.specs.Prelude.{nat_lt, option_map, option_and_then}
 use Rattle.std.specs.Str.{bytes_eq}
 use Rattle.std.proofs.lemmas.Bool.{ltb-true, lt-ltb, cond-true}
+use Rattle.std.proofs.lemmas.List.{length-map}
 use Rattle.serde_json.specs.Data.{Data, unsigned, negative, float, null, boolean, number, string, array, object, Items, item, no_items, Members, member, no_members}
 use Rattle.serde_json.specs.View.{items_of}
 use Rattle.cert_json.specs.Parts.{Sig, Hint, Let, Share, Call}
@@ -54,10 +55,6 @@ list_sound (object ms) ds e = absurd (cc)
 pub list_complete : (ds : List Data) → length ds < 2 ^ 31 → list_of (list_json ds) ≡ Some ds
 list_complete ds h = ap short_list (listed_items ds) ∙ cond-true (nat_lt (length ds) (2 ^ 31)) (Some ds) None (lt-ltb (length ds) (2 ^ 31) h)
 
-pub same_length : {A B : Type 0} (g : A → B) (xs : List A) → length (map g xs) ≡ length xs
-same_length g [] = refl
-same_length g (x ∷ xs) = omega (arith, same_length g xs)
-
 module _ {A : Type 0} {g : A → Data} {F : A → Type 0} {r : Data → Option A} (inv : Inverse g F r) where
   each_sound : (ds : List Data) (xs : List A) → each r ds ≡ Some xs → (ds ≡ map g xs) × Each F xs
   each_sound [] xs e = let s : [] ≡ xs = cc in subst (λ xs. ([] ≡ map g xs) × Each F xs) s (refl, tt)
@@ -78,8 +75,8 @@ module _ {A : Type 0} {g : A → Data} {F : A → Type 0} {r : Data → Option A
         let b = bind_inv (each r) (list_of d) xs e in
         let l = list_sound d b.0 b.1 in
         let h = each_sound b.0 xs b.2 in
-        (l.0 ∙ ap list_json h.0, record { short = omega (arith, l.1, ap length h.0, same_length g xs); each = h.1 });
-    complete = λ xs h. rw (list_complete (map g xs) (omega (arith, h.short, same_length g xs))) (each_complete xs h.each);
+        (l.0 ∙ ap list_json h.0, record { short = omega (arith, l.1, ap length h.0, length-map xs g); each = h.1 });
+    complete = λ xs h. rw (list_complete (map g xs) (omega (arith, h.short, length-map xs g))) (each_complete xs h.each);
   }
 
 two_in_sound : (ds : List Data) (p : Data × Data) → two_in ds ≡ Some p → ds ≡ p.0 ∷ p.1 ∷ []

@@ -35,15 +35,6 @@ result_there (B ∷ As) (x ∷ gs) zero A e h = let same : B ≡ A = some_is B A
   some_is x y e = cc
 result_there (B ∷ As) (x ∷ gs) (suc f) A e h = result_there As gs f A (omega (arith, e)) h
 
-pub none_there : (As : List Ty) (gs : List NormFun) (f : ℕ) → length gs ≤ f → slice_get (funs_of As gs) f ≡ None
-none_there As [] f h = none As f where
-  none : (As : List Ty) (f : ℕ) → slice_get (funs_of As []) f ≡ None
-  none [] f = refl
-  none (A ∷ As) f = refl
-none_there [] (x ∷ gs) f h = refl
-none_there (A ∷ As) (x ∷ gs) zero h = absurd (omega (arith, h))
-none_there (A ∷ As) (x ∷ gs) (suc f) h = none_there As gs f (omega (arith, h))
-
 -- one number more of a range
 pub filter_more : (test : ℕ → Bool) (k n : ℕ) → filter test (range_with_len k n) ++ cond (test (k + n)) ((k + n) ∷ []) [] ≡ filter test (range_with_len k (n + 1))
 filter_more test k zero = let e : k + 0 ≡ k = omega arith in ap (λ (m : ℕ). cond {A = List ℕ} (test m) (m ∷ []) []) e ∙ one (test k) where

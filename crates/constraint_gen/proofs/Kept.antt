@@ -5,6 +5,10 @@ use Rattle.std.specs.List.{range_with_len, list_all}
 use Rattle.std.specs.Ordering.{int_eq}
 use Rattle.std.proofs.lemmas.Int.{ints}
 use Rattle.std.proofs.lemmas.Bool.Decides.{nat_tests, Decides-int_eq}
+use Rattle.std.proofs.lemmas.Bool.{and_from}
+use Rattle.rules_spec.proofs.Solving.{is_zero}
+use Rattle.rules_spec.proofs.SameCalls.{and_true}
+use Rattle.share_normal.proofs.Members.{same_truth}
 use Rattle.linear_rows.specs.Terms as l
 use Rattle.linear_rows.specs.Terms.{SparseRow, coefficient, IsSparse}
 use Rattle.annot_types.specs.System.{is_kept}
@@ -18,18 +22,10 @@ use Rattle.constraint_gen.proofs.Sums.{number_there}
 
 -- Tests of all items
 
-same_bool : (a b : Bool) → (a ≡ true → b ≡ true) → (b ≡ true → a ≡ true) → a ≡ b
-same_bool true b f g = sym (f refl)
-same_bool false true f g = g refl
-same_bool false false f g = refl
-
-both : (a b : Bool) → a ≡ true → b ≡ true → (a && b) ≡ true
-both a b e h = (λ i. e i && h i)
-
 all_below : (test : ℕ → Bool) (k n : ℕ) → ((u : ℕ) → k ≤ u → u < k + n → test u ≡ true) → list_all test (range_with_len k n) ≡ true
 all_below test k zero h = refl
 all_below test k (suc n) h =
-    both (test k) (list_all test (range_with_len (k + 1) n)) (h k (omega arith) (omega arith)) (all_below test (k + 1) n (λ u a b. h u (omega (arith, a)) (omega (arith, b))))
+    and_from (test k) (list_all test (range_with_len (k + 1) n)) (h k (omega arith) (omega arith)) (all_below test (k + 1) n (λ u a b. h u (omega (arith, a)) (omega (arith, b))))
 
 pub each_below : (test : ℕ → Bool) (k n : ℕ) → list_all test (range_with_len k n) ≡ true → (u : ℕ) → k ≤ u → u < k + n → test u ≡ true
 each_below test k zero h u a b = absurd (omega (arith, a, b))
@@ -68,7 +64,7 @@ each_covered n left (t ∷ ts) h (suc i) b c = each_covered n left ts (both_true
 
 all_covered : (n : ℕ) (left : Sum) (ts : Terms) → ((i : ℕ) → i < length ts → unknown_at ts i < n → number_at ts i ≤ cap (total_of (unknown_at ts i) left.terms)) → list_all (covered n left) ts ≡ true
 all_covered n left [] h = refl
-all_covered n left (t ∷ ts) h = both (covered n left t) (list_all (covered n left) ts) (by (nat_lt t.0 n) refl (nat_lt (cap (total_of t.0 left.terms)) t.1) refl) (all_covered n left ts (λ i b c. h (suc i) (omega (arith, b)) c)) where
+all_covered n left (t ∷ ts) h = and_from (covered n left t) (list_all (covered n left) ts) (by (nat_lt t.0 n) refl (nat_lt (cap (total_of t.0 left.terms)) t.1) refl) (all_covered n left ts (λ i b c. h (suc i) (omega (arith, b)) c)) where
   by : (x : Bool) → nat_lt t.0 n ≡ x → (y : Bool) → nat_lt (cap (total_of t.0 left.terms)) t.1 ≡ y → not (x && y) ≡ true
   by false e y g = refl
   by true e false g = refl
@@ -96,7 +92,7 @@ module _ (n : ℕ) (left right : Sum) (sum : IsSum right.terms) where
 
   covers_is : list_all (covered n left) right.terms ≡ list_all (λ (t : ℕ × ℤ). int_le (pos 0) t.1) (terms_from 0 n diff)
   covers_is =
-      same_bool (list_all (covered n left) right.terms) (list_all (λ u. int_le (pos 0) (diff u)) (range_with_len 0 n))
+      same_truth (list_all (covered n left) right.terms) (list_all (λ u. int_le (pos 0) (diff u)) (range_with_len 0 n))
       (λ h. all_below (λ u. int_le (pos 0) (diff u)) 0 n (λ u a b. natural (cap (total_of u left.terms)) (cap (total_of u right.terms)) (to h u (omega (arith, b)) (place_of right.terms u))))
       (λ h. all_covered n left right.terms (λ i b c.
       let u = unknown_at right.terms i in
@@ -115,9 +111,6 @@ module _ (n : ℕ) (left right : Sum) (sum : IsSum right.terms) where
   kept_is h =
       ap not (covers_is ∙ sym (and_true (list_all (λ (t : ℕ × ℤ). int_le (pos 0) t.1) (terms_from 0 n diff)))
       ∙ ap (λ b. list_all (λ (t : ℕ × ℤ). int_le (pos 0) t.1) (terms_from 0 n diff) && b) (sym (no_more (cap (right.plus + left.minus) + 0) (cap (left.plus + right.minus) + 0) (omega (arith, h))))) where
-        and_true : (b : Bool) → (b && true) ≡ b
-        and_true true = refl
-        and_true false = refl
 
 -- Rows whose coefficients are there
 
@@ -145,9 +138,6 @@ below_none k (t ∷ ts) a = grind (arith, nat_tests, a.0, below_none k ts (climb
   climb : (k m : ℕ) (ts : l.Terms) → suc k ≤ m → Ascends (suc m) ts → Ascends (suc k) ts
   climb k m [] h a = tt
   climb k m (t ∷ ts) h a = (omega (arith, h, a.0), a.1, a.2)
-
-is_zero : (z : ℤ) → int_eq z (pos 0) ≡ true → z ≡ pos 0
-is_zero z h = (Decides-int_eq z (pos 0)).0 h
 
 not_zero : (z : ℤ) → int_eq z (pos 0) ≡ false → z ≢ pos 0
 not_zero z h e = let yes : int_eq z (pos 0) ≡ true = (Decides-int_eq z (pos 0)).1 e in let no : true ≡ false = sym yes ∙ h in absurd (cc)
@@ -239,7 +229,7 @@ module _ (n : ℕ) (left right : Sum) where
       (λ u a. let over : n ≤ u = omega (arith, a) in let d = done u in d.0 ∙ wanted_behind n left right u over) in
       let all : list_all (λ (t : ℕ × ℤ). fits t.1) (terms_from 0 n f) ≡ true =
       all_terms fits refl 0 n f ∙ all_below (λ u. fits (f u)) 0 n (λ u a b. let under : u < n = omega (arith, b) in let d = done u in sym (ap fits (wanted_below n left right u under)) ∙ d.1) in
-      ap Some (made n left right row terms is) ∙ some_within (row_of n (pair left right)) (row_fits_is n left right ∙ both _ _ all fit)
+      ap Some (made n left right row terms is) ∙ some_within (row_of n (pair left right)) (row_fits_is n left right ∙ and_from _ _ all fit)
 
   -- a coefficient does not fit
   pub row_leaves : Leaves (wanted n left right) → None ≡ within (row_of n (pair left right))

@@ -3,6 +3,7 @@ use Rattle.std.proofs.Common.{◌≡◌, ◌<◌, ℕ, zero, suc, ◌+◌, Bool,
 use Rattle.std.proofs.lemmas.Bool.Decides.{nat_tests}
 use Rattle.std.proofs.lemmas.Option.{get_or_from_slice_get}
 use Rattle.std.specs.List.{list_any, range_with_len}
+use Rattle.rules_spec.proofs.SameCalls.{or_false}
 use Rattle.raml_syntax.specs.Read.{ty_of}
 use Rattle.raml_syntax.specs.declared.ty.Ty.{Ty}
 use Rattle.base_poly.specs.Plain.{Plain, alike}
@@ -13,7 +14,7 @@ use Rattle.rules_spec.proofs.Units.{unit_is, same_place}
 use Rattle.constraint_gen.specs.Weights.{positions_in}
 use Rattle.constraint_gen.proofs.Functions.{filter_next}
 
--- Of a range is kept by a test that one number alone passes: that number, where the range has it.
+-- Of a range is kept by a test that one number or_false passes: that number, where the range has it.
 one_kept : (test : ℕ → Bool) (n m : ℕ) → ((k : ℕ) → k < m → test k ≡ nat_eq k n) → filter test (range_with_len 0 m) ≡ cond (nat_lt n m) (n ∷ []) []
 one_kept test n zero is = ap (λ b. cond {A = List ℕ} b (n ∷ []) []) (sym none)
   where
@@ -48,17 +49,13 @@ is_unit types number count e = (grind (arith, nat_tests, e), grind (arith, nat_t
 pub unit_positions : (As : List Ty) (d budget number : ℕ) → (nat_eq (length As) 1 && nat_lt number (length (index_list (context_of As) d))) ≡ true →
     cond (nat_lt number (length (index_list (context_of As) budget))) (number ∷ []) [] ≡ positions_in d budget number (context_of As)
 unit_positions As d budget number e = let u = is_unit (length As) number (length (index_list (context_of As) d)) e in by As u.0 u.1
-  where
-    alone : (b : Bool) → (b || false) ≡ b
-    alone true = refl
-    alone false = refl
 
     by : (As : List Ty) → length As ≡ 1 → number < length (index_list (context_of As) d) →
         cond (nat_lt number (length (index_list (context_of As) budget))) (number ∷ []) [] ≡ positions_in d budget number (context_of As)
     by [] one low = absurd (omega (arith, one))
     by (A ∷ B ∷ As) one low = absurd (omega (arith, one))
     by (A ∷ []) one low =
-        sym (one_kept (λ k. list_any (alike (tuple k)) (unit ∷ [])) number (length all) (λ k l. ap (λ c. c || false) (same_place (ty_of A ∷ []) budget d k number l low) ∙ alone (nat_eq k number)))
+        sym (one_kept (λ k. list_any (alike (tuple k)) (unit ∷ [])) number (length all) (λ k l. ap (λ c. c || false) (same_place (ty_of A ∷ []) budget d k number l low) ∙ or_false (nat_eq k number)))
         ∙ ap (λ (target : Target). filter (λ k. list_any (alike (tuple k)) target) (range_with_len 0 (length all)))
         (sym (get_or_from_slice_get (targets (ty_of A) d) number (unit ∷ []) [] (unit_is (ty_of A) d number low)))
       where

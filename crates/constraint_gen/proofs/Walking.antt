@@ -44,7 +44,3 @@ conditions_heard j group hss v =
 pub length_answers : {E : Type 0} (give : ℕ → E) (from : ℕ) (asks : List (List Ask)) → length (all_answers give from asks) ≡ length asks
 length_answers give from [] = refl
 length_answers give from (a ∷ asks) = ap suc (length_answers give (from + counts a) asks)
-
-pub length_map : {X Y : Type 0} (f : X → Y) (xs : List X) → length (map f xs) ≡ length xs
-length_map f [] = refl
-length_map f (x ∷ xs) = ap suc (length_map f xs)

@@ -3,6 +3,7 @@ use Rattle.std.proofs.Common.{◌≡◌, refl, ap, sym, ◌∙◌, arith, subst}
 use Rattle.std.specs.Prelude.{ℕ, zero, suc, ◌^◌, ◌<◌, ◌≤◌, ℤ, pos, ◌==◌, if◌then◌else◌, Bool, true, false, take, Result, Ok, Err, IfOk, IfErr, List, [], ◌∷◌, ◌++◌, map, length, replicate, slice_get, ◌+◌, Option, Some}
 use Rattle.std.proofs.lemmas.Int.{ints}
 use Rattle.std.proofs.lemmas.Bool.Decides.{nat_tests}
+use Rattle.std.proofs.lemmas.List.{length-map, length-append}
 use Rattle.raml_num.specs.Sums.{NoneNegative}
 use Rattle.base_poly.specs.Plain.{Plain, degrees}
 use Rattle.base_poly.specs.Indices.{index_list}
@@ -20,7 +21,6 @@ use Rattle.normal_spec.specs.Norm.{NormFun}
 use Rattle.normal_spec.specs.Context.{types}
 use Rattle.rules_spec.specs.Told.{bodies_of}
 use Rattle.rules_spec.proofs.Standing.{some_position}
-use Rattle.constraint_gen.proofs.Walking.{length_map}
 use Rattle.annot_types.specs.System.{sig_weights, args_of, result_of, unsigned}
 use Rattle.annot_types.specs.Rows.{size as size_of}
 use Rattle.rules_spec.specs.Numbers.{Sides, Signature, Hint, Condition}
@@ -30,7 +30,7 @@ use Rattle.rules_spec.specs.Tasks.{Body, Job, sides_count, sides_given, hints_gi
 use Rattle.rules_spec.specs.Jobs.{body_of, job_of}
 use Rattle.rules_spec.specs.Systems.{IsReady, AreReady, IsTask}
 use Rattle.rules_spec.specs.Solving.{rows_of}
-use Rattle.rules_spec.proofs.TaskRows.{systems_are_walked}
+use Rattle.rules_spec.proofs.TaskRows.{systems_are_walked, length_replicate}
 use Rattle.rules_spec.proofs.Given.{given_carry}
 use Rattle.rules_spec.specs.Carried.{condition_to}
 use Rattle.rules_spec.specs.Capped.{cap}
@@ -184,13 +184,6 @@ natural_front (suc n) [] h = tt
 natural_front (suc n) (x ∷ xs) h = (h.0, natural_front n xs h.1)
 
 -- The job of a task is proper.
-length_append : {X : Type 0} (xs ys : List X) → length (xs ++ ys) ≡ length xs + length ys
-length_append [] ys = omega arith
-length_append (x ∷ xs) ys = omega (arith, length_append xs ys)
-
-length_replicate : {X : Type 0} (n : ℕ) (x : X) → length (replicate n x) ≡ n
-length_replicate zero x = refl
-length_replicate (suc n) x = ap suc (length_replicate n x)
 
 module _ (S : Setting) (mode : Mode) (P : Program) (all : List ℕ) (blocks : List Block) (budget : ℕ) (same : S.program ≡ P) where
   abbrev bodies_at : List ℕ → List Body
@@ -216,8 +209,8 @@ module _ (S : Setting) (mode : Mode) (P : Program) (all : List ℕ) (blocks : Li
       let As = args_of (slice_get P.funs f) in
       let n = size_of (result_of (slice_get P.funs f)) budget in
       let rest = sig_weights P budget fs in
-      length_append (map (λ t. pos (10 ^ degrees t)) (index_list As budget)) (replicate n (pos 0) ++ rest)
-      ∙ (λ i. length_map (λ t. pos (10 ^ degrees t)) (index_list As budget) i + length_append (replicate n (pos 0)) rest i)
+      length-append (map (λ t. pos (10 ^ degrees t)) (index_list As budget)) (replicate n (pos 0) ++ rest)
+      ∙ (λ i. length-map (index_list As budget) (λ t. pos (10 ^ degrees t)) i + length-append (replicate n (pos 0)) rest i)
       ∙ (λ i. size_of As budget + (length_replicate n (pos 0) i + few_weights fs h.2 i))
       ∙ omega (arith, (one_body f h.0).1)
 
@@ -271,10 +264,6 @@ is_cause P d blocks task scale j (Leaves row) within e r h =
     let at = subst (λ (rows : List SparseRow). (length rows ≤ 2000) × LeavesFirst rows row) r (h.1, h.2) in
     (within, subst (λ n. n ≤ 2000) e h.0, at.0, at.1)
 is_cause P d blocks task scale j NoMemory within e r h = tt
-
-pub if_ok : {X E : Type 0} (r : Result X E) (A B : X → Type 0) → ((x : X) → A x → B x) → IfOk r A → IfOk r B
-if_ok (Ok x) A B f h = f x h
-if_ok (Err e) A B f h = tt
 
 pub if_err : {X E : Type 0} (r : Result X E) (A B : E → Type 0) → ((e : E) → A e → B e) → IfErr r A → IfErr r B
 if_err (Ok x) A B f h = tt

@@ -2,6 +2,7 @@
 use Rattle.std.proofs.Common.{◌≡◌, refl, sym, ap, ◌∙◌, subst, ℕ, zero, suc, ◌+◌, ◌<◌, ◌≤◌, length, List, [], ◌∷◌, get_or, drop, drop-cons, ℤ, pos, ◌+ℤ◌, ◌*ℤ◌, arith, ◌⊎◌, inl, inr}
 use Rattle.std.proofs.lemmas.Int.{ints}
 use Rattle.std.proofs.lemmas.Bool.Decides.{nat_tests}
+use Rattle.std.proofs.lemmas.Bool.{cases_lt}
 use Rattle.linear_rows.specs.Terms.{SparseRow, Terms, coefficient, unknown_at, IsSparse, IsAt}
 use Rattle.linear_rows.specs.Systems.{IsBelow, numbers_from}
 use Rattle.linear_rows.proofs.Places.{coefficient_at}
@@ -10,10 +11,7 @@ use Rattle.farkas_check.specs.Sides.{sparse_products, AllInside}
 
 -- a term that stands has a number, so its unknown is one of the system's
 pub all_inside : (n : ℕ) (r : SparseRow) → IsSparse r.terms → IsBelow n r → AllInside r.terms n
-all_inside n r s b i h = inside (unknown_at r.terms i < n) (below_or_not (unknown_at r.terms i) n)
-  where
-    below_or_not : (m n : ℕ) → (m < n) ⊎ (n ≤ m)
-    below_or_not m n = grind arith
+all_inside n r s b i h = inside (unknown_at r.terms i < n) (cases_lt (unknown_at r.terms i) n)
 
     inside : (P : Type 0) → P ⊎ (n ≤ unknown_at r.terms i) → P
     inside P (inl p) = p

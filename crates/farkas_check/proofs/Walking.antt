@@ -72,7 +72,7 @@ pub record Walked (y : ℤ) (ts : Terms) (k : ℕ) (old new : List (Option Total
 pub none_walked : (y : ℤ) (ts : Terms) (totals : List (Option Totals)) → Walked y ts 0 totals totals
 none_walked y ts totals = record { count = refl; done = λ i h. absurd (omega arith); rest = λ u n. refl }
 
-earlier_or_here : (i k : ℕ) → i < k + 1 → (i < k) ⊎ (i ≡ k)
+pub earlier_or_here : (i k : ℕ) → i < k + 1 → (i < k) ⊎ (i ≡ k)
 earlier_or_here i k h = grind arith
 
 pub walked_more : (y : ℤ) (ts : Terms) (k : ℕ) (old new : List (Option Totals)) (o : Option Totals) → IsSparse ts → k < length ts → unknown_at ts k < length old

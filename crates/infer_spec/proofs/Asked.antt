@@ -1,6 +1,7 @@
 -- A task of the meter of work comes only where work is asked for.
 use Rattle.std.proofs.Common.{refl, ◌≡◌, ℕ, suc, nat_le, cond, Bool, true, false, List, [], ◌∷◌, ◌++◌, map, flat_map, slice_get, Some, sym, ◌∙◌, subst}
 use Rattle.std.specs.List.{range_with_len}
+use Rattle.std.proofs.lemmas.Option.{same_Some}
 use Rattle.raml_syntax.specs.Tree.{Type'}
 use Rattle.cost_free.specs.declared.task.Meter.TheVariants.{Ticks, Cells, Work}
 use Rattle.cost_free.specs.Target.{Target, degree_of}
@@ -11,7 +12,7 @@ use Rattle.annot_types.specs.Program.{Program, next_task, results}
 use Rattle.annot_types.specs.Certificate.{has_work}
 use Rattle.annot_types.specs.Held.{scale_for}
 use Rattle.infer_spec.specs.States.{State, scale_at, certificate_of}
-use Rattle.annot_types.proofs.Lists.{some_is}
+
 
 -- each of the tasks has a property
 abbrev pub AllTasks : (Task → Type 0) → List Task → Type 0
@@ -34,7 +35,7 @@ module _ (Q : Task → Type 0) where
     where
       by : (is : Bool) → is_left_out past t.kind ≡ is → (next_of ts past [] ≡ Some task → Q task) → Q task
       by true q go = go (sym (λ i. cond (q i) (next_of ts past []) (Some t)) ∙ e)
-      by false q go = subst Q (some_is t task (sym (λ i. cond (q i) (next_of ts past []) (Some t)) ∙ e)) h.0
+      by false q go = subst Q (same_Some t task (sym (λ i. cond (q i) (next_of ts past []) (Some t)) ∙ e)) h.0
   next_has (t ∷ ts) past (o ∷ done) task h e = by (is_left_out past t.kind) refl (next_has ts past (o ∷ done) task h.1) (next_has ts (o ∷ past) done task h.1)
     where
       by : (is : Bool) → is_left_out past t.kind ≡ is → (next_of ts past (o ∷ done) ≡ Some task → Q task) → (next_of ts (o ∷ past) done ≡ Some task → Q task) → Q task

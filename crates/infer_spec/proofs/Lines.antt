@@ -1,6 +1,7 @@
 -- What the lines of a certificate tell.
 use Rattle.std.proofs.Common.{◌≡◌, ⊎_elim, ℕ, suc, Bool, true, false, ◌&&◌, flat_map, List, [], ◌∷◌, slice_get, Option, Some, None, refl, sym, ap, subst}
 use Rattle.std.specs.Prelude.{unsigned_abs}
+use Rattle.std.proofs.lemmas.Bool.{and_parts}
 use Rattle.base_poly.proofs.Among.{Among, contains_among, among_kept, among_mapped, among_part}
 use Rattle.normal_spec.specs.Norm.{NormFun}
 use Rattle.cost_free.specs.declared.task.Meter.{Meter}
@@ -21,10 +22,6 @@ among_place : {X : Type 0} (x : X) (xs : List X) → Among x xs → (place : ℕ
 among_place x [] m = absurd m
 among_place x (y ∷ ys) m = ⊎_elim (λ e. (0, ap Some e)) (λ g. let r = among_place x ys g in (suc r.0, r.1)) m
 
-both_true : (a b : Bool) → (a && b) ≡ true → (a ≡ true) × (b ≡ true)
-both_true true b e = (refl, e)
-both_true false b e = absurd (cc)
-
 of_meter : (meter : Meter) (kind : Kind) → is_for_meter meter kind ≡ true → kind ≡ k.With meter
 of_meter meter (Free budget fun target) e = absurd (cc)
 of_meter meter (k.With other) e = λ i. k.With (sym (same_meters meter other e) i)
@@ -42,7 +39,7 @@ module _ (P : Program) (certificate : Certificate) (held : Held P certificate) (
       Among claim (claim_of P certificate meter block f block.body) → Tells P certificate f meter claim
   claim_tells f meter claim block there on m =
       let at = among_place block certificate.blocks there in
-      let both = both_true _ _ on in
+      let both = and_parts _ _ on in
       by at.0 at.1 (record { there = at.1; kind = of_meter meter block.task.kind both.0; has = both.1 }) block.body refl m
     where
       same : {x : Claim} → Tells P certificate f meter x → Among claim (x ∷ []) → Tells P certificate f meter claim

@@ -1,13 +1,14 @@
 -- Lists of blocks, each over those before it.
 use Rattle.std.proofs.Common.{◌≡◌, ◌⊎◌, inl, inr, ⊎_elim, ℕ, zero, suc, List, [], ◌∷◌, ◌++◌, map, take, slice_get, Some, refl, sym, ap, subst}
+use Rattle.std.proofs.lemmas.Option.{same_Some}
 use Rattle.annot_types.specs.Certificate.{Block}
 use Rattle.infer_spec.specs.Good.{AllAt}
-use Rattle.annot_types.proofs.Lists.{some_is, map_inv, take_map}
+use Rattle.annot_types.proofs.Lists.{map_inv, take_map}
 
 -- an item of a list with one more at its end: one of the list, with what was before it, or the last
 last_or : {X : Type 0} (xs : List X) (x : X) (k : ℕ) (y : X) → slice_get (xs ++ x ∷ []) k ≡ Some y →
     ((slice_get xs k ≡ Some y) × (take k xs ≡ take k (xs ++ x ∷ []))) ⊎ ((x ≡ y) × (xs ≡ take k (xs ++ x ∷ [])))
-last_or [] x zero y e = inr (some_is x y e, refl)
+last_or [] x zero y e = inr (same_Some x y e, refl)
 last_or [] x (suc k) y e = absurd (cc)
 last_or (z ∷ xs) x zero y e = inl (e, refl)
 last_or (z ∷ xs) x (suc k) y e =

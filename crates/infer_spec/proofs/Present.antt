@@ -1,6 +1,7 @@
 -- Each group has a block for each meter.
 use Rattle.std.proofs.Common.{◌≡◌, ℕ, zero, suc, ◌+◌, cond, Bool, true, false, List, [], ◌∷◌, ◌++◌, map, take, slice_get, Option, Some, None, refl, sym, ap, ◌∙◌, arith}
 use Rattle.std.specs.Option.{unwrap_or}
+use Rattle.std.proofs.lemmas.Option.{same_Some}
 use Rattle.raml_syntax.specs.Tree.{Type'}
 use Rattle.cost_free.specs.declared.task.Meter.{Meter}
 use Rattle.cost_free.specs.Task as k
@@ -10,7 +11,7 @@ use Rattle.cost_free.specs.Blocked.{is_among}
 use Rattle.annot_types.specs.Program.{members, results}
 use Rattle.annot_types.specs.Certificate.{Block, has_work, outcome}
 use Rattle.infer_spec.specs.Lines.{IsBlockOf, BlocksAreThere}
-use Rattle.annot_types.proofs.Lists.{some_is, map_get, map_inv, take_map}
+use Rattle.annot_types.proofs.Lists.{map_get, map_inv, take_map}
 
 -- a task with cost is never left out
 never_left : (meter : Meter) (past : List Outcome) (kind : Kind) → kind ≡ k.With meter → is_left_out past kind ≡ true → ⊥
@@ -36,7 +37,7 @@ module _ (meter : Meter) where
   -- a task that is left out is not the one
   past_it : (t : Task) (ts : List Task) (past : List Outcome) (i : ℕ) (task : Task) → is_left_out past t.kind ≡ true → slice_get (t ∷ ts) i ≡ Some task → task.kind ≡ k.With meter →
       (j : ℕ) × (slice_get ts j ≡ Some task)
-  past_it t ts past zero task q e kind = absurd (never_left meter past t.kind (ap (λ (v : Task). v.kind) (some_is t task e) ∙ kind) q)
+  past_it t ts past zero task q e kind = absurd (never_left meter past t.kind (ap (λ (v : Task). v.kind) (same_Some t task e) ∙ kind) q)
   past_it t ts past (suc i) task q e kind = (i, e)
 
   -- so each task with cost has come
@@ -65,10 +66,10 @@ module _ (meter : Meter) where
       }
 
       first : is_left_out past t.kind ≡ false → t ≡ o.0
-      first q = some_is t o.0 ((λ i. cond (sym q i) (next_of ts past []) (Some t)) ∙ h.tasks zero o refl)
+      first q = same_Some t o.0 ((λ i. cond (sym q i) (next_of ts past []) (Some t)) ∙ h.tasks zero o refl)
 
       from : is_left_out past t.kind ≡ false → ((i : ℕ) (task : Task) → slice_get ts i ≡ Some task → task.kind ≡ k.With meter → HasCome rest task) → (i : ℕ) → slice_get (t ∷ ts) i ≡ Some task → HasCome (o ∷ rest) task
-      from q go zero e = record { place = zero; out = o; there = refl; is = sym (first q) ∙ some_is t task e }
+      from q go zero e = record { place = zero; out = o; there = refl; is = sym (first q) ∙ same_Some t task e }
       from q go (suc i) e = let g = go i task e kind in record { place = suc g.place; out = g.out; there = g.there; is = g.is }
 
       by : (is : Bool) → is_left_out past t.kind ≡ is →

@@ -1,6 +1,7 @@
 -- Systems whose right sides are raised.
 use Rattle.std.proofs.Common.{◌≡◌, ◌<◌, ℕ, nat_lt, not, cond, Some, None, ℤ, pos, ◌*ℤ◌, ◌<ℤ◌, ◌≤ℤ◌, List, length, sym, ap, ◌∙◌, subst, arith}
 use Rattle.std.proofs.lemmas.Int.{ints}
+use Rattle.std.proofs.lemmas.List.{length-map}
 use Rattle.raml_num.proofs.Signed.{le_mul}
 use Rattle.linear_rows.specs.Terms.{SparseRow}
 use Rattle.linear_rows.specs.Systems.{LinearSystem, matrix, right_sides, numbers_from}
@@ -8,7 +9,6 @@ use Rattle.linear_rows.specs.Vectors.{dot, scale, mix, zeros, AtMost}
 use Rattle.linear_rows.proofs.Products.{dot-scale, dot-comm}
 use Rattle.cost_free.specs.Task.{Task}
 use Rattle.infer_spec.specs.Generator.{Indices, Unknowns, Rows, Generator, most_allowed, limit_of, AreRaised}
-use Rattle.annot_types.proofs.Lists.{length_map}
 use Rattle.infer_spec.specs.Laws.{RaisedRowsAreRefuted}
 
 positive_times : (r : ℕ) (v : ℤ) → 0 < r → pos 0 <ℤ v → pos 0 <ℤ (pos r *ℤ v)
@@ -17,7 +17,7 @@ positive_times r v pr pv =
     let one : pos r *ℤ pos 1 ≡ pos r = omega (arith, ints) in omega (arith, ints)
 
 pub same_count : (s u : LinearSystem) (r : ℕ) → AreRaised r s u → length s.rows ≡ length u.rows
-same_count s u r rows = sym (length_map (λ (row : SparseRow). numbers_from 0 s.unknowns row.terms) s.rows) ∙ ap (λ (rows : List (List ℤ)). length rows) rows.coefficients ∙ length_map (λ (row : SparseRow). numbers_from 0 u.unknowns row.terms) u.rows
+same_count s u r rows = sym (length-map s.rows (λ (row : SparseRow). numbers_from 0 s.unknowns row.terms)) ∙ ap (λ (rows : List (List ℤ)). length rows) rows.coefficients ∙ length-map u.rows (λ (row : SparseRow). numbers_from 0 u.unknowns row.terms)
 
 pub limit_same : (G : Generator) (task : Task) (s u : LinearSystem) (r : ℕ) → AreRaised r s u → limit_of G task u ≡ limit_of G task s
 limit_same G task s u r rows = λ i.

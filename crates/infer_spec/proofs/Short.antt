@@ -1,5 +1,6 @@
 -- Courses are no longer than the schedule.
 use Rattle.std.proofs.Common.{◌≡◌, ◌≤◌, ◌<◌, ℕ, suc, cond, Bool, true, false, List, [], ◌∷◌, ◌++◌, map, length, Some, refl, sym, ap, ◌∙◌, subst, arith}
+use Rattle.std.proofs.lemmas.List.{length-map}
 use Rattle.cost_free.specs.Task as k
 use Rattle.cost_free.specs.Task.{Kind, Free, Task, Outcome}
 use Rattle.cost_free.specs.Schedule.{is_left_out, next_of, tasks_from}
@@ -9,7 +10,6 @@ use Rattle.annot_types.specs.Holds.{raised, blocks_before}
 use Rattle.infer_spec.specs.States.{State}
 use Rattle.infer_spec.specs.Generator.{Analysis}
 use Rattle.infer_spec.specs.Courses.{Finding, Waits, Has, HasNone, after}
-use Rattle.annot_types.proofs.Lists.{length_map}
 use Rattle.infer_spec.specs.Laws.{CoursesEnd}
 
 -- where there is a next task, fewer are done than there are
@@ -29,7 +29,7 @@ length_more (z ∷ xs) x = ap suc (length_more xs x)
 
 length_before : (kind : Kind) (t : ℕ) (bs : List Block) → length (blocks_before kind t bs) ≡ length bs
 length_before (Free budget fun target) t bs = refl
-length_before (k.With m) t bs = length_map (raised m t) bs
+length_before (k.With m) t bs = length-map bs (raised m t)
 
 pub one_block : (A : Analysis) (task : Task) (finding : Finding) (st : State) → length (after A task finding st).blocks ≡ suc (length st.blocks)
 one_block A task (Waits f) st = length_more st.blocks _
@@ -40,6 +40,6 @@ pub courses_end : CoursesEnd
 courses_end A [] st h = subst (λ v. length v.blocks ≤ length (tasks_from (results A.program) A.degree A.work 0 A.program.groups)) (sym h) (omega arith)
 courses_end A (f ∷ fs) st h =
     let low = next_short (tasks_from (results A.program) A.degree A.work 0 A.program.groups) [] (map outcome h.0.blocks) h.2.task h.2.is_next in
-    let count = length_map outcome h.0.blocks in
+    let count = length-map h.0.blocks outcome in
     let more : length st.blocks ≡ suc (length h.0.blocks) = ap (λ v. length v.blocks) h.2.is ∙ one_block A h.2.task f h.0 in
     omega (arith, low, count, more)

@@ -1,6 +1,7 @@
 -- By a rule that is a function there is one course.
 use Rattle.std.proofs.Common.{◌≡◌, ◌≤◌, ◌<◌, ◌⊎◌, ⊎_elim, slice_get, ℕ, ℤ, pos, ◌<ℤ◌, List, [], ◌∷◌, map, length, Option, Some, None, refl, sym, ap, ◌∙◌, subst, arith}
 use Rattle.std.proofs.lemmas.Int.{ints}
+use Rattle.std.proofs.lemmas.Option.{same_Some}
 use Rattle.raml_num.proofs.Signed.{cancelled}
 use Rattle.linear_rows.specs.Systems.{LinearSystem, IsSystem}
 use Rattle.linear_rows.specs.Vectors.{scale}
@@ -19,7 +20,7 @@ use Rattle.simplex_integers.specs.Reading.{ReadsSolution, ReadsVector}
 use Rattle.infer_spec.specs.Places.{Place, stage, Comes, IsPlace}
 use Rattle.infer_spec.specs.Courses.{Finding, Waits, Has, HasNone, after, ComesOut, Step, Course, IsOver, OnTask, large_of, OnGroup}
 use Rattle.infer_spec.specs.Laws.{OneCertificate, EndsOrStops, OnePlace}
-use Rattle.annot_types.proofs.Lists.{some_is, some_none}
+use Rattle.annot_types.proofs.Lists.{some_none}
 use Rattle.infer_spec.proofs.Running.{Runs, runs, stands_of}
 
 -- Least whole numbers are one list over one number.
@@ -73,7 +74,7 @@ module _ (paths : OneCourse) (A : Analysis) (g : Generates A) where
       system_of w = g.system st task (stands_of A st runs task e w)
 
       by : (f k : Finding) → ComesOut A st task f → ComesOut A st task k → f ≡ k
-      by (Waits f) (Waits h) a c = ap Waits (some_is f h (sym a ∙ c))
+      by (Waits f) (Waits h) a c = ap Waits (same_Some f h (sym a ∙ c))
       by (Waits f) (Has t x) a c = absurd (some_none f (blocker_at A st task) a c.0)
       by (Waits f) (HasNone y) a c = absurd (some_none f (blocker_at A st task) a c.0)
       by (Has t x) (Waits f) a c = absurd (some_none f (blocker_at A st task) c a.0)
@@ -91,7 +92,7 @@ module _ (paths : OneCourse) (A : Analysis) (g : Generates A) where
   same_courses (f ∷ fs) (x ∷ ks) st other e h k =
       let before = same_courses fs ks h.0 k.0 (omega (arith, e)) h.1 k.1 in
       let step : Step A h.0 x other = subst (λ v. Step A v x other) (sym before.1) k.2 in
-      let task : step.task ≡ h.2.task = some_is step.task h.2.task (sym step.is_next ∙ h.2.is_next) in
+      let task : step.task ≡ h.2.task = same_Some step.task h.2.task (sym step.is_next ∙ h.2.is_next) in
       let same = one_finding h.0 (runs A g fs h.0 h.1) h.2.task h.2.is_next f x h.2.comes (subst (λ v. ComesOut A h.0 v x) task step.comes) in
       (λ i. same i ∷ before.0 i, h.2.is ∙ (λ i. after A (sym task i) (same i) h.0) ∙ sym step.is)
 
@@ -104,7 +105,7 @@ module _ (paths : OneCourse) (A : Analysis) (g : Generates A) where
 
   task_halts : (st : State) (task : Task) (p : Place) → OnTask A st task p → Halts st
   task_halts st task p h finding new step =
-      let same : task ≡ step.task = some_is task step.task (sym h.is_next ∙ step.is_next) in
+      let same : task ≡ step.task = same_Some task step.task (sym h.is_next ∙ step.is_next) in
       step.clear (subst (λ v. blocker_at A st v ≡ None) same h.place.tried) p (subst (λ v. Comes A st v p) same h.place.comes)
 
   stop_halts : (st : State) (task : Task) (p : Place) → OnTask A st task p ⊎ OnGroup A st task p → Halts st
@@ -138,7 +139,7 @@ ends_or_stops paths A g c st task p h k =
 module _ (A : Analysis) (st : State) (task last : Task) (p q : Place) where
   one_task : OnTask A st task p → OnTask A st last q → (task ≡ last) × (stage p ≡ stage q)
   one_task h k =
-      let tasks : task ≡ last = some_is task last (sym h.is_next ∙ k.is_next) in
+      let tasks : task ≡ last = same_Some task last (sym h.is_next ∙ k.is_next) in
       let place : IsPlace A st task q = subst (λ v. IsPlace A st v q) (sym tasks) k.place in
       (tasks, level (stage p) (stage q) (λ l. h.place.first q l place.comes) (λ l. place.first p l h.place.comes))
     where
@@ -147,8 +148,8 @@ module _ (A : Analysis) (st : State) (task last : Task) (p q : Place) where
 
   one_group : OnGroup A st task p → OnGroup A st last q → (task ≡ last) × (stage p ≡ stage q)
   one_group h k =
-      let same : h.refused.task ≡ k.refused.task = some_is h.refused.task k.refused.task (sym h.refused.is_next ∙ k.refused.is_next) in
-      let funs : h.fun ≡ k.fun = some_is h.fun k.fun (sym h.first ∙ (λ i. slice_get (large_of A (members A.program (same i).group)) 0) ∙ k.first) in
+      let same : h.refused.task ≡ k.refused.task = same_Some h.refused.task k.refused.task (sym h.refused.is_next ∙ k.refused.is_next) in
+      let funs : h.fun ≡ k.fun = same_Some h.fun k.fun (sym h.first ∙ (λ i. slice_get (large_of A (members A.program (same i).group)) 0) ∙ k.first) in
       (h.is ∙ (λ i. record { group = (same i).group; kind = Free A.degree (funs i) 0 }) ∙ sym k.is, ap stage h.place ∙ sym (ap stage k.place))
 
   one_stop : OnTask A st task p ⊎ OnGroup A st task p → OnTask A st last q ⊎ OnGroup A st last q → (task ≡ last) × (stage p ≡ stage q)

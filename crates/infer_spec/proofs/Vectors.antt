@@ -3,10 +3,10 @@ use Rattle.std.proofs.Common.{◌≡◌, ◌≤◌, ◌<◌, ℕ, zero, suc, ◌
 use Rattle.std.specs.List.{range_with_len}
 use Rattle.std.proofs.lemmas.Int.{ints}
 use Rattle.std.proofs.lemmas.Bool.Decides.{nat_tests}
+use Rattle.std.proofs.lemmas.List.{length-map}
 use Rattle.linear_rows.specs.Systems.{LinearSystem, Refutes}
 use Rattle.annot_types.specs.Certificate.{Entries, number_at, RiseFrom, Rise}
 use Rattle.annot_types.specs.System.{AreRows, IsRefutedBy}
-use Rattle.annot_types.proofs.Lists.{length_map}
 use Rattle.infer_spec.specs.Listed.{listed}
 use Rattle.infer_spec.specs.Verifying.{vector_of}
 
@@ -54,7 +54,7 @@ listed_inside (suc m ∷ ys) from n l = (omega (arith, l), listed_inside ys (fro
 
 pub refutes_listed : (s : LinearSystem) (y : List ℕ) → Refutes s (map pos y) → IsRefutedBy s (listed 0 y)
 refutes_listed s y h =
-    let count : length y ≡ length s.rows = sym (length_map pos y) ∙ h.one_each in
+    let count : length y ≡ length s.rows = sym (length-map y pos) ∙ h.one_each in
     let same : vector_of s (listed 0 y) ≡ map pos y = (λ i. map (λ k. number_at k (listed 0 y)) (range_with_len 0 (sym count i))) ∙ numbers_listed y 0 in
     record { rows = listed_inside y 0 (length s.rows) (omega (arith, count)); refutes = subst (Refutes s) (sym same) h }
 

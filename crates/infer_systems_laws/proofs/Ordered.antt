@@ -6,6 +6,8 @@ use Rattle.std.specs.Option.{unwrap_or}
 use Rattle.std.proofs.lemmas.Bool.Decides.{nat_tests}
 use Rattle.std.proofs.lemmas.List.Elements.{Contains-append_cases}
 use Rattle.std.proofs.lemmas.Option.{slice_get_within}
+use Rattle.std.proofs.lemmas.List.{length-map}
+use Rattle.std.proofs.lemmas.Bool.{or_cases, and_parts, or_right, or_left, eqb-true, eq-eqb}
 use Rattle.raml_syntax.specs.Tree.{Type', Function, Prog}
 use Rattle.normal_spec.specs.Norm as n
 use Rattle.normal_spec.specs.Norm.{Norm, NormFun, NormProg}
@@ -21,62 +23,41 @@ use Rattle.cost_free.specs.Task.{With, Task}
 use Rattle.cost_free.specs.Blocked.{is_among, row, in_any, blocks, blocked}
 use Rattle.cost_free.specs.Laws.{BlockersAreLeast}
 use Rattle.annot_types.specs.Program.{called_in}
-use Rattle.annot_types.proofs.Lists.{length_map, map_get, map_inv}
+use Rattle.annot_types.proofs.Lists.{map_get, map_inv}
 use Rattle.rules_systems_laws.specs.Ordered.{AreApart}
 use Rattle.rules_spec.proofs.SameCalls.{same_blocker}
 use Rattle.infer_systems_laws.specs.Laws.{NormalsAreOrdered}
 
 -- Truths
 
-either : (a b : Bool) → (a || b) ≡ true → (a ≡ true) ⊎ (b ≡ true)
-either true b e = inl refl
-either false b e = inr e
-
-both : (a b : Bool) → (a && b) ≡ true → (a ≡ true) × (b ≡ true)
-both true b e = (refl, e)
-both false b e = absurd (cc)
-
-or_right : (a b : Bool) → b ≡ true → (a || b) ≡ true
-or_right true b e = refl
-or_right false b e = e
-
-or_left : (a b : Bool) → a ≡ true → (a || b) ≡ true
-or_left a b e = (λ i. e i || b)
-
-same_of : (f g : ℕ) → nat_eq f g ≡ true → f ≡ g
-same_of f g e = grind (arith, nat_tests, e)
-
 differ : (f g : ℕ) → f < g → nat_eq f g ≡ false
 differ f g l = grind (arith, nat_tests, l)
-
-same_is : (f g : ℕ) → f ≡ g → nat_eq f g ≡ true
-same_is f g e = grind (arith, nat_tests, e)
 
 -- Members of lists
 
 any_append : (f : ℕ) (xs ys : List ℕ) → is_among f (xs ++ ys) ≡ true → (is_among f xs ≡ true) ⊎ (is_among f ys ≡ true)
 any_append f [] ys e = inr e
 any_append f (x ∷ xs) ys e = ⊎_elim (λ h. inl (or_left (nat_eq f x) (is_among f xs) h))
-    (λ h. ⊎_elim (λ g. inl (or_right (nat_eq f x) (is_among f xs) g)) (λ g. inr g) (any_append f xs ys h)) (either (nat_eq f x) (is_among f (xs ++ ys)) e)
+    (λ h. ⊎_elim (λ g. inl (or_right (nat_eq f x) (is_among f xs) g)) (λ g. inr g) (any_append f xs ys h)) (or_cases (nat_eq f x) (is_among f (xs ++ ys)) e)
 
 among_contains : (f : ℕ) (fs : List ℕ) → is_among f fs ≡ true → Contains fs f
 among_contains f [] e = absurd (cc)
 among_contains f (g ∷ fs) e = ⊎_elim
-    (λ h. (0, omega arith, sym (same_of f g h)))
-    (λ h. let c = among_contains f fs h in (suc c.0, omega (arith, c.1), c.2)) (either (nat_eq f g) (is_among f fs) e)
+    (λ h. (0, omega arith, sym (eqb-true f g h)))
+    (λ h. let c = among_contains f fs h in (suc c.0, omega (arith, c.1), c.2)) (or_cases (nat_eq f g) (is_among f fs) e)
 
 contains_among : (f : ℕ) (fs : List ℕ) → Contains fs f → is_among f fs ≡ true
 contains_among f fs c = at fs c.0 c.1 c.2 where
   at : (fs : List ℕ) (k : ℕ) → k < length fs → slice_index_or fs k f ≡ f → is_among f fs ≡ true
   at [] k l e = absurd (omega (arith, l))
-  at (g ∷ fs) zero l e = or_left (nat_eq f g) (is_among f fs) (same_is f g (sym e))
+  at (g ∷ fs) zero l e = or_left (nat_eq f g) (is_among f fs) (eq-eqb f g (sym e))
   at (g ∷ fs) (suc k) l e = or_right (nat_eq f g) (is_among f fs) (at fs k (omega (arith, l)) e)
 
 kept : (p : ℕ → Bool) (f : ℕ) (fs : List ℕ) → is_among f (filter p fs) ≡ true → p f ≡ true
 kept p f [] e = absurd (cc)
 kept p f (g ∷ fs) e = by (p g) refl e (kept p f fs) where
   by : (b : Bool) → p g ≡ b → is_among f (cond b (g ∷ filter p fs) (filter p fs)) ≡ true → (is_among f (filter p fs) ≡ true → p f ≡ true) → p f ≡ true
-  by true h e go = ⊎_elim (λ s. ap p (same_of f g s) ∙ h) go (either (nat_eq f g) (is_among f (filter p fs)) e)
+  by true h e go = ⊎_elim (λ s. ap p (eqb-true f g s) ∙ h) go (or_cases (nat_eq f g) (is_among f (filter p fs)) e)
   by false h e go = go e
 
 -- What a body calls is there
@@ -89,7 +70,7 @@ module _ (N : NormProg) (f : ℕ) where
   two a b h g e = ⊎_elim h g (any_append f (called_in a) (called_in b) e)
 
   called_there : (e : Norm) (C : Context) (T : Type') → Uses N C e T → is_among f (called_in e) ≡ true → IsThere
-  called_there (n.Call k g xs) C T u h = (u.0, ap (slice_get N) (⊎_elim (λ s. same_of f g s) (λ z. absurd (cc)) (either (nat_eq f g) false h)) ∙ u.1)
+  called_there (n.Call k g xs) C T u h = (u.0, ap (slice_get N) (⊎_elim (λ s. eqb-true f g s) (λ z. absurd (cc)) (or_cases (nat_eq f g) false h)) ∙ u.1)
   called_there (n.Let k x A a b) C T u h = two a b (called_there a (inners a C) A u.1) (called_there b (others a C ++ (x, A) ∷ []) T u.2) h
   called_there (n.Split k x p q a) C T u h = called_there a _ T u.4 h
   called_there (n.If k x a b) C T u h = two a b (called_there a _ T u.1) (called_there b _ T u.2) h
@@ -125,7 +106,7 @@ apart callee f = (callee ∷ []) ∷ (f ∷ []) ∷ []
 module _ (least : BlockersAreLeast) (f callee : ℕ) where
   waits : (rows : List (List ℕ)) → callee < length rows → is_among callee (row rows f) ≡ true → blocked (apart callee f) rows waiting [] ≡ None → ⊥
   waits rows l e none =
-      let self : nat_eq callee callee ≡ true = same_is callee callee refl in
+      let self : nat_eq callee callee ≡ true = eq-eqb callee callee refl in
       let in_the_way : blocks (apart callee f) rows 1 Ticks [] callee ≡ true = (λ i. ((e i || false) && ((self i || false) || false)) && true) in
       let not_there = least.none (apart callee f) rows 1 Ticks [] callee none l in
       absurd (let wrong : true ≡ false = sym in_the_way ∙ not_there in cc)
@@ -133,9 +114,9 @@ module _ (least : BlockersAreLeast) (f callee : ℕ) where
   waited : (rows : List (List ℕ)) (b : ℕ) → blocked (apart callee f) rows waiting [] ≡ Some b → is_among callee (row rows f) ≡ true
   waited rows b e =
       let way = (least.some (apart callee f) rows 1 Ticks [] b e).in_the_way in
-      let parts : ((is_among b (row rows f) || false) ≡ true) × (((nat_eq b callee || false) || false) ≡ true) = both _ _ (both _ _ way).0 in
-      let same = same_of b callee (⊎_elim (λ s. ⊎_elim (λ t. t) (λ z. absurd (cc)) (either (nat_eq b callee) false s)) (λ z. absurd (cc)) (either (nat_eq b callee || false) false parts.1)) in
-      let called = ⊎_elim (λ s. s) (λ z. absurd (cc)) (either (is_among b (row rows f)) false parts.0) in
+      let parts : ((is_among b (row rows f) || false) ≡ true) × (((nat_eq b callee || false) || false) ≡ true) = and_parts _ _ (and_parts _ _ way).0 in
+      let same = eqb-true b callee (⊎_elim (λ s. ⊎_elim (λ t. t) (λ z. absurd (cc)) (or_cases (nat_eq b callee) false s)) (λ z. absurd (cc)) (or_cases (nat_eq b callee || false) false parts.1)) in
+      let called = ⊎_elim (λ s. s) (λ z. absurd (cc)) (or_cases (is_among b (row rows f)) false parts.0) in
       ap (λ g. is_among g (row rows f)) (sym same) ∙ called
 
   same_called : (P : Prog) → callee < length P → is_among callee (row (map (λ (g : NormFun). called_in g.body) (norm P)) f) ≡ true → is_among callee (row (calls_of P) f) ≡ true
@@ -144,7 +125,7 @@ module _ (least : BlockersAreLeast) (f callee : ℕ) where
     rows = map (λ (g : NormFun). called_in g.body) (norm P)
 
     long : callee < length rows
-    long = subst (λ n. callee < n) (sym (length_map (λ (g : NormFun). called_in g.body) (norm P) ∙ length_map (norm_fun P) P)) l
+    long = subst (λ n. callee < n) (sym (length-map (norm P) (λ (g : NormFun). called_in g.body) ∙ length-map P (norm_fun P))) l
 
     by : (o : Option ℕ) → blocked (apart callee f) rows waiting [] ≡ o → is_among callee (row (calls_of P) f) ≡ true
     by None none = absurd (waits rows long e none)
@@ -197,7 +178,7 @@ pub normals_are_ordered : BlockersAreLeast → NormalsAreOrdered
 normals_are_ordered least P typed numbers groups grouping =
     record {
       uses = λ f g e. uses f g e;
-      there = λ group f m. get_at (norm P) f (subst (λ n. f < n) (sym (length_map (norm_fun P) P)) ((grouped P [] groups.list grouping.in_order group).0 f m));
+      there = λ group f m. get_at (norm P) f (subst (λ n. f < n) (sym (length-map P (norm_fun P))) ((grouped P [] groups.list grouping.in_order group).0 f m));
       apart = λ group. (grouped P [] groups.list grouping.in_order group).1;
       callees_first = λ group f g callee m e c.
           let source = map_inv (norm_fun P) P f g e in

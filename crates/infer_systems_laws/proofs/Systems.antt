@@ -4,6 +4,7 @@ use Rattle.std.specs.List.{range_with_len}
 use Rattle.std.specs.Ordering.{int_eq}
 use Rattle.std.proofs.lemmas.Int.{ints}
 use Rattle.std.proofs.lemmas.Bool.Decides.{nat_tests}
+use Rattle.std.proofs.lemmas.List.{length-map}
 use Rattle.raml_num.specs.Sums.{NoneNegative}
 use Rattle.linear_rows.specs.Terms.{SparseRow, coefficient}
 use Rattle.linear_rows.specs.Systems.{LinearSystem, AllBelow}
@@ -23,7 +24,6 @@ use Rattle.rules_spec.specs.Systems.{AreReady, SystemsAreWalked}
 use Rattle.cost_free.specs.Task.{Task}
 use Rattle.rules_systems_laws.specs.Shaped.{ShapedAreTasks}
 use Rattle.infer_spec.specs.States.{scale_at}
-use Rattle.annot_types.proofs.Lists.{length_map}
 use Rattle.infer_systems_laws.specs.Tried.{TriedHaveSystems}
 use Rattle.infer_systems_laws.proofs.Tried.{tried_are_tasks}
 
@@ -101,7 +101,7 @@ weights_count P group earlier budget S mode same (f ∷ fs) h =
         let zeros = replicate (size (result_of (Some g)) budget) (pos 0) in
         let a = length_append args (zeros ++ sig_weights P budget fs) in
         let b = length_append zeros (sig_weights P budget fs) in
-        let c = length_map (λ t. pos (10 ^ degrees t)) (index_list (args_of (Some g)) budget) in
+        let c = length-map (index_list (args_of (Some g)) budget) (λ t. pos (10 ^ degrees t)) in
         let e = length_zeros (size (result_of (Some g)) budget) in
         let whole : length (args ++ (zeros ++ sig_weights P budget fs)) ≡ (size (args_of (Some g)) budget + size (result_of (Some g)) budget) + sides_count (map (λ f. body_of P group earlier budget (slice_get P.funs f)) fs) = omega (arith, a, b, c, e, rest) in
         (λ i. length (map (λ t. pos (10 ^ degrees t)) (index_list (args_of (there i)) budget) ++ (replicate (size (result_of (there i)) budget) (pos 0) ++ sig_weights P budget fs))) ∙ whole

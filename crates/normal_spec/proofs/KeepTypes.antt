@@ -5,6 +5,7 @@ use Rattle.std.specs.Prelude.{nat_eq, slice_get, not, ◌||◌, ◌&&◌}
 use Rattle.std.proofs.lemmas.Bool.{eqb-true, or_parts}
 use Rattle.std.proofs.lemmas.Int.{SFits-int_wrap}
 use Rattle.std.proofs.lemmas.Option.{same_Some}
+use Rattle.raml_syntax.proofs.Keep.{then_inv, negation_has}
 use Rattle.raml_syntax.specs.Tree.{Type', Integer, Boolean, PairOf, ListOf, TreeOf, OptionOf}
 use Rattle.raml_syntax.specs.Value.{Value, Number, Truth, Both, Empty, Cons, Node, Just, Has, HaveTypes}
 use Rattle.raml_syntax.specs.Eval.{Run, cut, goes_on, and_then, branch, negation, pair_case, list_case, tree_case, option_case}
@@ -138,19 +139,9 @@ holds_three x C env p q r A B D u v w d new hu hv hw h = record {
     all y T false ep false eq false er g = absurd (cc)
 
 -- a value of a run in two parts comes from a value of the first
-then_inv : {A B : Type 0} (r : Run A) (f : A → Run B) (y : B) → (and_then r f).out ≡ Some y → (x : A) × (r.out ≡ Some x) × ((f x).out ≡ Some y)
-then_inv {A} {B} r f y e = by r.out refl e
-  where
-    by : (o : Option A) → r.out ≡ o → (goes_on o f).out ≡ Some y → (x : A) × (r.out ≡ Some x) × ((f x).out ≡ Some y)
-    by None q e = absurd (cc)
-    by (Some x) q e = (x, q, e)
 
 gives : (T : Type') (v w : Value) → Some v ≡ Some w → Has v T → Has w T
 gives T v w e h = subst (λ x. Has x T) (same_Some v w e) h
-
-pub negation_has : (v : Value) → Has (negation v) Boolean
-negation_has (Truth true) = tt
-negation_has _ = tt
 
 new_two_distinct : (x p q : ℕ) (A B : Type') (C : Context) → Distinct C → AreNew (p ∷ q ∷ []) C → Distinct (put x ((p, A) ∷ (q, B) ∷ []) C)
 new_two_distinct x p q A B C d new = distinct_put x ((p, A) ∷ (q, B) ∷ []) C d (new.1, (refl, tt)) (λ z ne h. new_apart (p ∷ q ∷ []) C z new h)

@@ -4,6 +4,7 @@ use Rattle.std.specs.Prelude.{unsigned_abs}
 use Rattle.std.specs.List.{All}
 use Rattle.std.specs.Option.{option_map}
 use Rattle.std.proofs.lemmas.Option.{none-some, same_Some}
+use Rattle.rules_soundness_laws.proofs.Blocks.{function_of}
 use Rattle.raml_syntax.specs.Tree.{Function, Prog}
 use Rattle.base_poly.specs.Indices.{index_list}
 use Rattle.raml_syntax.specs.Types.{Typed}
@@ -26,7 +27,6 @@ use Rattle.rules_soundness_laws.proofs.Source.{is_form, of_block}
 use Rattle.rules_plan.specs.Read.{program_in}
 use Rattle.rules_plan.specs.Within.{FunctionWithin}
 use Rattle.cert_check.specs.Bound.{Told, told_by}
-use Rattle.cert_check.proofs.Signed.{function_of}
 use Rattle.cert_check.proofs.Small.{member_within, params_within}
 use Rattle.other_blocks.specs.Other.{place}
 use Rattle.other_blocks.specs.Over.{Over, IsOver}

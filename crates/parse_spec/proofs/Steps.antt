@@ -1,7 +1,7 @@
 -- What the reader answers, in the steps in which code reads.
 use Rattle.std.proofs.Common.{◌≡◌, ◌≤◌, ◌+◌, ◌-◌, ℕ, zero, suc, List, [], ◌∷◌, ◌++◌, refl, sym, ap, ◌∙◌, arith}
 use Rattle.std.specs.Prelude.{max, Option, Some, None, Bool, true, false, Ok, Err, nat_le, nat_eq, if◌then◌else◌}
-use Rattle.std.proofs.lemmas.Bool.{leb-true, leb-false}
+use Rattle.std.proofs.lemmas.Bool.{leb-true, leb-false, le-leb}
 use Rattle.parse_spec.specs.Rules.{Rule, Grammar, opening}
 use Rattle.parse_spec.specs.Derives.{Syntax, TooDeep, TooMany}
 use Rattle.parse_spec.specs.Reading.{Answer, Fault, ◌>>=◌, taken, rest_of, pick, formed, items_of, goes_here, goes_at, starts_at, full_of, again_of, more_of, chain_of, parts, rule_of, form_of, start_of, level_of, read}
@@ -39,13 +39,6 @@ nat_le_no n m h = go (nat_le n m) refl
     go : (b : Bool) → nat_le n m ≡ b → b ≡ false
     go true q = absurd (h (leb-true n m q))
     go false q = refl
-
-nat_le_yes : (n m : ℕ) → n ≤ m → nat_le n m ≡ true
-nat_le_yes n m h = go (nat_le n m) refl
-  where
-    go : (b : Bool) → nat_le n m ≡ b → b ≡ true
-    go true q = refl
-    go false q = absurd (let p = leb-false n m q in omega (arith, p, h))
 
 module _ {T V C : Type 0} (g : Grammar T V C) (sub : C → ℕ → List T → Answer T V) (x d : ℕ) where
   -- the form that begins with a token, where it is of the level
@@ -145,4 +138,4 @@ module _ {T V C : Type 0} (g : Grammar T V C) (sub : C → ℕ → List T → An
     chain_goes e h s r q le =
         chain_step e h s
         ∙ ap (λ o. more (again_of (g.chains c n) chain) o e h s) q
-        ∙ ap (λ b. if b then (rule_of g sub x d r (e ∷ w) (rest_of s) >>= after h chain) else Err (TooDeep, s)) (nat_le_yes h d le)
+        ∙ ap (λ b. if b then (rule_of g sub x d r (e ∷ w) (rest_of s) >>= after h chain) else Err (TooDeep, s)) (le-leb h d le)

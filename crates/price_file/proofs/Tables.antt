@@ -3,6 +3,7 @@ use Rattle.std.proofs.Common.{◌≡◌, ◌≢◌, ◌≤◌, ◌<◌, ◌+◌,
 use Rattle.std.specs.Prelude.{nat_eq, is_some, slice_set}
 use Rattle.std.specs.Str.{IsUtf8, IsValidUpTo}
 use Rattle.std.proofs.lemmas.Str.{utf8_valid_len-IsUtf8, utf8_valid_len-IsValidUpTo}
+use Rattle.std.proofs.lemmas.Bool.{eqb-true}
 use Rattle.raml_syntax.specs.Tree.{Text}
 use Rattle.price_file.specs.Construct.{Construct, place, Number, Truth, Var, Nil, Leaf, Nothing, Arith, Compare, Not, Pair, Cons, Node, Just, Call, Let, If, Match, Tick}
 use Rattle.price_file.specs.Listed.{Listed, nothing_listed, listed_at, listing, or_free}
@@ -10,7 +11,6 @@ use Rattle.price_file.specs.Spelling.{lines_of, Sets, Table, listed, SetEach, Ea
 use Rattle.price_file.specs.Reading.{entry_of, with_entry, read_lines}
 use Rattle.price_file.specs.declared.fault.PriceFault.{PriceFault}
 use Rattle.price_file.specs.declared.fault.PriceFault.TheVariants.{NotUtf8, Shape, Twice}
-use Rattle.price_file.proofs.Cuts.{nat_same}
 use Rattle.price_file.proofs.Entries.{is_set, is_read}
 
 -- what is listed, by places and by lines
@@ -66,9 +66,6 @@ listed_by_place (entry ∷ table) c d e = rw e (ap (cond (nat_eq (place d) (plac
 nat_other : (a b : ℕ) → nat_eq a b ≡ false → a ≢ b
 nat_other a b e = grind (arith, e)
 
-nat_equal : (a b : ℕ) → a ≡ b → nat_eq a b ≡ true
-nat_equal a b e = grind (arith, e)
-
 nat_turned : (a b : ℕ) → nat_eq a b ≡ nat_eq b a
 nat_turned a b = grind arith
 
@@ -80,7 +77,7 @@ holds_more list table c n h fresh = record {
   where
     by : (d : Construct) (b : Bool) → nat_eq (place d) (place c) ≡ b → listed_at (listing list c n) d ≡ listed (table ++ (c, n) ∷ []) d
     by d true q =
-        let same : place d ≡ place c = nat_same (place d) (place c) q in
+        let same : place d ≡ place c = eqb-true (place d) (place c) q in
         let within : place c < length list = omega (arith, place_within c, h.size) in
         let there : get_or (slice_set list (place c) (Some n)) (place d) None ≡ Some n = ap (λ k. get_or (slice_set list (place c) (Some n)) k None) same ∙ get_or-set_same list (place c) (Some n) None within in
         let none : listed table d ≡ None = listed_by_place table d c same ∙ fresh in

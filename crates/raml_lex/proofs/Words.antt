@@ -9,6 +9,7 @@ use Rattle.std.proofs.lemmas.List.Folds.{length-prefix_len, list_any_at}
 use Rattle.std.proofs.lemmas.Slice.Eq.{bytes_eq-Decides}
 use Rattle.std.specs.Cmp.Lexicographic.{same_text}
 use Rattle.std.proofs.lemmas.Map.Views.{Contains-from_any}
+use Rattle.std.proofs.lemmas.Bool.{and_parts}
 use Rattle.raml_syntax.specs.Tree.{Text}
 use Rattle.raml_lex.specs.declared.token.TokenKind.{TokenKind}
 use Rattle.raml_lex.specs.declared.token.TokenKind.TheVariants.{Name, Keyword, Number, Symbol}
@@ -69,17 +70,9 @@ abbrev symbol_like : Text → Bool
 symbol_like [] = false
 symbol_like (c ∷ s) = is_symbol_byte c
 
-and_left : (a b : Bool) → (a && b) ≡ true → a ≡ true
-and_left true b e = refl
-and_left false b e = e
-
-and_right : (a b : Bool) → (a && b) ≡ true → b ≡ true
-and_right true b e = e
-and_right false b e = absurd (clash e refl)
-
 word_from_like : (w : Text) → word_like w ≡ true → IsWord w
 word_from_like [] e = absurd (clash e refl)
-word_from_like (c ∷ s) e = (and_left _ _ e, AllPass-from_list_all is_name_part s (and_right _ _ e))
+word_from_like (c ∷ s) e = ((and_parts _ _ e).0, AllPass-from_list_all is_name_part s (and_parts _ _ e).1)
 
 pub keyword_is_word : (w : Text) → Contains keywords w → IsWord w
 keyword_is_word w h = word_from_like w (contains_passes word_like keywords w h refl)

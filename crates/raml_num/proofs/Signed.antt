@@ -1,6 +1,7 @@
 -- The order of whole numbers under products.
 use Rattle.std.proofs.Common.{◌≡◌, refl, ℕ, zero, suc, ◌+◌, ◌<◌, ◌≤◌, ◌⊎◌, inl, inr, ℤ, pos, ◌<ℤ◌, ◌+ℤ◌, ◌-ℤ◌, ◌*ℤ◌, ◌≤ℤ◌, arith}
 use Rattle.std.proofs.lemmas.Int.{ints}
+use Rattle.std.proofs.lemmas.Bool.{cases_lt}
 use lib.IntN.{negsuc}
 use Rattle.raml_num.proofs.Differences.{mul_over, mul_over_minus}
 use borrow.Author.Differences.{up, down}
@@ -40,11 +41,8 @@ lt_mul a b k p h =
     let e : pos k *ℤ (a +ℤ pos 1) ≡ pos k *ℤ a +ℤ pos k *ℤ pos 1 = mul_over (pos k) a (pos 1) in
     omega (arith, ints)
 
-less_or_not : (m n : ℕ) → (m < n) ⊎ (n ≤ m)
-less_or_not m n = grind arith
-
 below : (a b : ℤ) → (b ≤ℤ a → ⊥) → a <ℤ b
-below a b n = elim (less_or_not (up a + down b) (up b + down a)) [ inl h ↦ omega (arith, ints) | inr h ↦ absurd (n (omega (arith, ints))) ]
+below a b n = elim (cases_lt (up a + down b) (up b + down a)) [ inl h ↦ omega (arith, ints) | inr h ↦ absurd (n (omega (arith, ints))) ]
 
 pub lt_cancel : (a b : ℤ) (k : ℕ) → (pos k *ℤ a) <ℤ (pos k *ℤ b) → a <ℤ b
 lt_cancel a b k h = below a b (λ g. let m : (pos k *ℤ b) ≤ℤ (pos k *ℤ a) = le_mul b a (pos k) g (omega (arith, ints)) in omega (arith, ints))

@@ -37,7 +37,7 @@ place_from_before f funs i j item within next read =
     by false None = refl
     by false (Some n) = ap Some (up n)
 
-bytes_same : (x y : Text) → bytes_eq x y ≡ bytes_eq y x
+pub bytes_same : (x y : Text) → bytes_eq x y ≡ bytes_eq y x
 bytes_same x y = by (bytes_eq x y) (bytes_eq y x) refl refl
   where
     by : (a b : Bool) → bytes_eq x y ≡ a → bytes_eq y x ≡ b → a ≡ b

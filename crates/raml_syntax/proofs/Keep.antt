@@ -16,7 +16,7 @@ use Rattle.raml_syntax.specs.Node.{AllNodes, AllOf, NumberFits}
 use Rattle.raml_syntax.specs.Laws.{Keeps, Holds, TypedRunsKeepTypes}
 
 -- a value of a run in two parts comes from a value of the first
-then_inv : {A B : Type 0} (r : Run A) (f : A → Run B) (y : B) → (and_then r f).out ≡ Some y → (x : A) × (r.out ≡ Some x) × ((f x).out ≡ Some y)
+pub then_inv : {A B : Type 0} (r : Run A) (f : A → Run B) (y : B) → (and_then r f).out ≡ Some y → (x : A) × (r.out ≡ Some x) × ((f x).out ≡ Some y)
 then_inv {A} {B} r f y e = by r.out refl e
   where
     by : (o : Option A) → r.out ≡ o → (goes_on o f).out ≡ Some y → (x : A) × (r.out ≡ Some x) × ((f x).out ≡ Some y)
@@ -57,7 +57,7 @@ truth_is : (v : Value) → Has v Boolean → IsTruth v
 truth_is (Truth b) h = tt
 truth_is _ h = absurd h
 
-negation_has : (v : Value) → Has (negation v) Boolean
+pub negation_has : (v : Value) → Has (negation v) Boolean
 negation_has (Truth true) = tt
 negation_has _ = tt
 

@@ -1,6 +1,7 @@
 -- Functions by their places, places in groups, and numbers at each budget.
 use Rattle.std.proofs.Common.{◌≡◌, ◌≤◌, ◌<◌, ℕ, zero, suc, ◌+◌, Bool, true, false, cond, nat_le, List, [], ◌∷◌, ◌++◌, map, filter, length, slice_get, slice_index_or, Some, refl, sym, ap, ◌∙◌, arith}
 use Rattle.std.specs.List.{range_with_len}
+use Rattle.std.proofs.lemmas.Option.{same_Some}
 use Rattle.raml_syntax.specs.Tree.{Type'}
 use Rattle.base_poly.specs.Plain.{degrees}
 use Rattle.base_poly.specs.Indices.{tuples_up_to}
@@ -14,13 +15,10 @@ use Rattle.annot_types.specs.System.{args_of}
 use Rattle.annot_types.specs.Rows.{size as size_of}
 use Rattle.rules_plan.specs.Down.{up, many_low}
 
-the_some : {X : Type 0} (x y : X) → Some x ≡ Some y → x ≡ y
-the_some x y h = cc
-
 pub args_there : (As : List Ty) (gs : List NormFun) (k : ℕ) (g : NormFun) → k < length As → slice_get gs k ≡ Some g → args_of (slice_get (funs_of As gs) k) ≡ types (parameters_of g.params.items)
 args_there [] gs k g h there = absurd (omega (arith, h))
 args_there (A ∷ As) [] k g h there = absurd (cc)
-args_there (A ∷ As) (f ∷ gs) zero g h there = ap (λ (g : NormFun). types (parameters_of g.params.items)) (the_some f g there)
+args_there (A ∷ As) (f ∷ gs) zero g h there = ap (λ (g : NormFun). types (parameters_of g.params.items)) (same_Some f g there)
 args_there (A ∷ As) (f ∷ gs) (suc k) g h there = args_there As gs k g (omega (arith, h)) there
 
 pub no_function : (As : List Ty) (gs : List NormFun) (k : ℕ) → length gs ≤ k → args_of (slice_get (funs_of As gs) k) ≡ []

@@ -2,6 +2,9 @@
 use Rattle.std.proofs.Common.{◌≡◌, ◌≤◌, ◌<◌, ℕ, zero, suc, ◌+◌, ◌-◌, Bool, true, false, not, cond, if◌then◌else◌, nat_eq, nat_lt, ◌&&◌, List, [], ◌∷◌, ◌++◌, map, filter, length, position, slice_get, Some, None, refl, sym, ap, ◌∙◌, arith, append_assoc}
 use Rattle.std.specs.List.{position_or_len, range_with_len}
 use Rattle.std.proofs.lemmas.Bool.Decides.{nat_tests}
+use Rattle.std.proofs.lemmas.Option.{same_Some}
+use Rattle.std.proofs.lemmas.Bool.{eqb-true, lt-ltb, le-ltb, ltb-true, ltb-false}
+use Rattle.rules_plan.proofs.Lower.{front_length}
 use Rattle.raml_syntax.specs.Tree.{Type'}
 use Rattle.base_poly.specs.Plain.{Plain, alike}
 use Rattle.base_poly.specs.Indices.{Ascends, tuple_order, index_list}
@@ -60,14 +63,11 @@ itself_placed k (suc n) (t ∷ ts) us at up e =
 
 -- Where a tuple stands.
 
-the_same : (x y : ℕ) → Some x ≡ Some y → x ≡ y
-the_same x y h = cc
-
 apart : {n : ℕ} → None ≡ Some n → ⊥
 apart e = cc
 
 shown : (b : Bool) (s q : ℕ) → cond b (Some s) None ≡ Some q → s ≡ q
-shown true s q h = the_same s q h
+shown true s q h = same_Some s q h
 shown false s q h = absurd (apart h)
 
 passes : (p : List Plain → Bool) (xs : List (List Plain)) (q : ℕ) (x : List Plain) → position_or_len p xs ≡ q → slice_get xs q ≡ Some x → p x ≡ true
@@ -93,15 +93,12 @@ is_spot js q j o up there = by (alike o j) refl
     equal : (m n : ℕ) → m ≡ n → true ≡ nat_eq m n
     equal m n h = grind (arith, nat_tests, h)
 
-    is_equal : (m n : ℕ) → nat_eq m n ≡ true → m ≡ n
-    is_equal m n h = grind (arith, nat_tests, h)
-
     clash : true ≡ false → ⊥
     clash h = cc
 
     test : (b : Bool) → nat_eq (spot js o) q ≡ b → alike o j ≡ false → false ≡ nat_eq (spot js o) q
     test false e f = sym e
-    test true e f = absurd (clash (sym (passes (alike o) js q j (is_equal (spot js o) q e) there) ∙ f))
+    test true e f = absurd (clash (sym (passes (alike o) js q j (eqb-true (spot js o) q e) there) ∙ f))
 
     by : (b : Bool) → alike o j ≡ b → alike o j ≡ nat_eq (spot js o) q
     by true e =
@@ -157,26 +154,6 @@ high_spot p (u ∷ us) vs h = by (p u) h (high_spot p us vs)
     by true l more = absurd (omega (arith, l))
     by false l more = let h = more (omega (arith, l)) in omega (arith, h)
 
-below : (m n : ℕ) → m < n → nat_lt m n ≡ true
-below m n h = grind (arith, nat_tests, h)
-
-above : (m n : ℕ) → n ≤ m → nat_lt m n ≡ false
-above m n h = grind (arith, nat_tests, h)
-
-is_below : (m n : ℕ) → nat_lt m n ≡ true → m < n
-is_below m n h = grind (arith, nat_tests, h)
-
-is_above : (m n : ℕ) → nat_lt m n ≡ false → n ≤ m
-is_above m n h = grind (arith, nat_tests, h)
-
-longer : {X : Type 0} (xs ys : List X) → length xs ≤ length (xs ++ ys)
-longer [] ys = omega arith
-longer (x ∷ xs) ys = let h = longer xs ys in omega (arith, h)
-
-joined_length : {X : Type 0} (xs ys : List X) → length (xs ++ ys) ≡ length xs + length ys
-joined_length [] ys = omega arith
-joined_length (x ∷ xs) ys = let h = joined_length xs ys in omega (arith, h)
-
 -- one entry, kept or not
 kept : (n m k x s : ℕ) (b : Bool) → restricted n m (entry_to k x (cond b (Some s) None)) ≡ cond b (cond (nat_lt k n && nat_lt s m) (record { from = k; to = s; times = x } ∷ []) []) []
 kept n m k x s true = refl
@@ -198,18 +175,18 @@ module _ (us vs : List (List Plain)) (n k : ℕ) (low : k < n) where
 
       by : (b : Bool) → nat_lt (position_or_len p us) (length us) ≡ b → restricted n (length us) (entry_to k x (position p (us ++ vs))) ≡ entry_to k x (position p us)
       by true e =
-          let in_us = is_below (position_or_len p us) (length us) e in
+          let in_us = ltb-true (position_or_len p us) (length us) e in
           let same = low_spot p us vs in_us in
-          let long = longer us vs in
+          let long = front_length us vs in
           let inside : s < length (us ++ vs) = omega (arith, in_us, same, long) in
           let near : s < length us = omega (arith, in_us, same) in
           kept n (length us) k x s big
-          ∙ (λ i. cond (below s (length (us ++ vs)) inside i) (cond (below k n low i && below s (length us) near i) (record { from = k; to = same i; times = x } ∷ []) []) [])
+          ∙ (λ i. cond (lt-ltb s (length (us ++ vs)) inside i) (cond (lt-ltb k n low i && lt-ltb s (length us) near i) (record { from = k; to = same i; times = x } ∷ []) []) [])
           ∙ (λ i. entry_to k x (cond (sym e i) (Some (position_or_len p us)) None))
       by false e =
-          let out = high_spot p us vs (is_above (position_or_len p us) (length us) e) in
+          let out = high_spot p us vs (ltb-false (position_or_len p us) (length us) e) in
           kept n (length us) k x s big
-          ∙ (λ i. cond big (cond (below k n low i && above s (length us) out i) (record { from = k; to = s; times = x } ∷ []) []) [])
+          ∙ (λ i. cond big (cond (lt-ltb k n low i && le-ltb s (length us) out i) (record { from = k; to = s; times = x } ∷ []) []) [])
           ∙ no_entry big
           ∙ (λ i. entry_to k x (cond (sym e i) (Some (position_or_len p us)) None))
 
@@ -224,7 +201,7 @@ module _ (us : List (List Plain)) (n m : ℕ) where
   gone : (k x s : ℕ) (high : n ≤ k) (b : Bool) → restricted n m (entry_to k x (cond b (Some s) None)) ≡ []
   gone k x s high true =
       let one : Entry = record { from = k; to = s; times = x } in
-      (λ i. cond {A = List Entry} (above k n high i && nat_lt s m) (one ∷ []) [])
+      (λ i. cond {A = List Entry} (le-ltb k n high i && nat_lt s m) (one ∷ []) [])
   gone k x s high false = refl
 
   dropped : (k : ℕ) (high : n ≤ k) (es : List (List Plain × ℕ)) → restricted n m (placed us k es) ≡ []

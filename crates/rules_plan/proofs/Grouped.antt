@@ -2,6 +2,7 @@
 use Rattle.std.proofs.Common.{◌≡◌, ◌≤◌, ◌<◌, ℕ, zero, suc, ◌+◌, List, [], ◌∷◌, ◌++◌, map, take, length, slice_get, slice_index_or, Some, None, refl, sym, ap, ◌∙◌, subst, arith}
 use Rattle.std.specs.List.{All}
 use Rattle.std.proofs.lemmas.List.Elements.{All-append}
+use Rattle.std.proofs.lemmas.Option.{same_Some}
 use Rattle.raml_syntax.specs.declared.program.FunId.{FunId}
 use Rattle.call_groups.specs.Read.{ids_of}
 use Rattle.raml_syntax.specs.Tree.{Type'}
@@ -22,13 +23,10 @@ use Rattle.share_normal.specs.Program.{Kept, norm_in}
 use Rattle.rules_plan.specs.Read.{program_in, function_of, group_bodies, IsBody, AreBodies}
 use Rattle.rules_plan.proofs.Downed.{first_reached}
 
-the_some : {X : Type 0} (x y : X) → Some x ≡ Some y → x ≡ y
-the_some x y h = cc
-
 pub function_there : (As : List Ty) (gs : List NormFun) (k : ℕ) (g : NormFun) (d : Ty) → k < length As → slice_get gs k ≡ Some g → slice_get (funs_of As gs) k ≡ Some (fun_of (slice_index_or As k d) g)
 function_there [] gs k g d h there = absurd (omega (arith, h))
 function_there (A ∷ As) [] k g d h there = absurd (cc)
-function_there (A ∷ As) (f ∷ gs) zero g d h there = ap (λ g. Some (fun_of A g)) (the_some f g there)
+function_there (A ∷ As) (f ∷ gs) zero g d h there = ap (λ g. Some (fun_of A g)) (same_Some f g there)
 function_there (A ∷ As) (f ∷ gs) (suc k) g d h there = function_there As gs k g d (omega (arith, h)) there
 
 pub no_function : (As : List Ty) (gs : List NormFun) (k : ℕ) → length gs ≤ k → slice_get (funs_of As gs) k ≡ None
@@ -51,7 +49,7 @@ pub some_is : (G : Given) (A : Ty) (g : NormFun) (b : FunctionPlan) (N : Context
 some_is G A g b N T made n r' are first args result = record {
   is = λ P e.
       let plan : (function_of b).plan ≡ (j.body_of P G.group [] G.top (Some (fun_of A g))).plan =
-      the_some _ _ (sym first ∙ ap (λ l. slice_get l 0) (are.are P e) ∙ first_reached G.reach (planned G (fun_of A g).body N T P) G.top
+      same_Some _ _ (sym first ∙ ap (λ l. slice_get l 0) (are.are P e) ∙ first_reached G.reach (planned G (fun_of A g).body N T P) G.top
       ∙ (λ i. Some (plan_in P G.group [] G.top (fun_of A g).body (n i) (r' i) G.top))) in
       λ i. record { plan = plan i; args = args i; result = result i };
 }

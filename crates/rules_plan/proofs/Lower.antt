@@ -15,7 +15,7 @@ use Rattle.annot_types.specs.Carried.{tuples}
 use Rattle.annot_types.specs.Rows.{size as size_of}
 use Rattle.rules_plan.specs.Within.{AreSmall, IsWithin, BoundWithin, LowerAreWithin}
 
-front_length : {X : Type 0} (xs ys : List X) → length xs ≤ length (xs ++ ys)
+pub front_length : {X : Type 0} (xs ys : List X) → length xs ≤ length (xs ++ ys)
 front_length [] ys = omega arith
 front_length (x ∷ xs) ys = let more = front_length xs ys in omega (arith, more)
 

@@ -11,10 +11,6 @@ use Rattle.rules_walk.specs.declared.plan.Plan.TheVariants.{Lets, rolls-Lets}
 use Rattle.rules_walk.specs.declared.plan.Plan.TheOpen as f
 use Rattle.rules_walk.specs.declared.plan.Plan.TheFolds.{fold-roll-Plan}
 
-pub of_lets : (n size : ℕ) (parts : List p.Part) (firsts : Vec (Rc Plan Global) Global) (rest : Box Plan Global) →
-    plan_of (Lets n parts firsts size rest) ≡ p.Lets n parts (plans_of firsts.items) size (plan_of rest.value)
-of_lets n size parts firsts rest = ap plan_of (sym (rolls-Lets n parts firsts size rest)) ∙ fold-roll-Plan p.Plan plan_step (f.Lets n parts firsts size rest)
-
 all_values : (es : List (Rc Plan Global)) → map rc_value (map shared_of es) ≡ map plan_of (map rc_value es)
 all_values [] = refl
 all_values (e ∷ es) = ap (λ l. plan_of e.value ∷ l) (all_values es)

@@ -1,6 +1,7 @@
 -- What is made once for all budgets gives each budget's.
 use Rattle.std.proofs.Common.{◌≡◌, ◌≤◌, ◌<◌, ℕ, zero, suc, ◌+◌, ◌-◌, Bool, true, false, cond, List, [], ◌∷◌, ◌++◌, map, take, drop, length, slice_get, Some, refl, sym, ap, ◌∙◌, append-nil, arith}
 use Rattle.std.specs.List.{range_with_len}
+use Rattle.tuple_ranks.proofs.Behind.{take_front}
 use Rattle.raml_syntax.specs.Tree.{Type', Integer, Boolean, PairOf, ListOf, TreeOf, OptionOf}
 use Rattle.base_poly.specs.Plain.{Plain, degrees}
 use Rattle.base_poly.specs.Indices.{index_list}
@@ -107,11 +108,6 @@ other_is a (s ∷ C) = by (free_in s.0 a) refl (other_is a C)
 pub bound_types : (O : Context) (x : ℕ) (A : Type') → types (O ++ (x, A) ∷ []) ≡ types O ++ A ∷ []
 bound_types [] x A = refl
 bound_types (s ∷ O) x A = ap (λ l. s.1 ∷ l) (bound_types O x A)
-
-take_front : {X Y : Type 0} (f : X → Y) (xs ys : List X) → take (length xs) (map f (xs ++ ys)) ≡ map f xs
-take_front f [] [] = refl
-take_front f [] (y ∷ ys) = refl
-take_front f (x ∷ xs) ys = ap (λ l. f x ∷ l) (take_front f xs ys)
 
 take_listed : {Y : Type 0} (f : List Plain → Y) (As : List Type') (low d : ℕ) → low ≤ d → take (size_of As low) (map f (index_list As d)) ≡ map f (index_list As low)
 take_listed f As low d h = let m = lower_stand_first As low d h in ap (λ l. take (size_of As low) (map f l)) m.1 ∙ take_front f (index_list As low) m.0

@@ -5,6 +5,7 @@ use Rattle.std.specs.Option.{option_map, option_to_list}
 use Rattle.std.specs.Prelude.{zip}
 use Rattle.std.proofs.Math.Nat.{mul-le-mul_left}
 use Rattle.std.proofs.lemmas.Bool.{eqb-true}
+use Rattle.std.proofs.lemmas.Option.{same_Some}
 use Rattle.raml_syntax.specs.Value.{Value, HaveTypes}
 use Rattle.raml_syntax.specs.Eval.{Run}
 use Rattle.base_poly.specs.Indices.{index_list}
@@ -32,7 +33,7 @@ use Rattle.annot_types.proofs.Linear.{annotation_mul}
 use Rattle.annot_types.proofs.Raised.{sig_in_times, on, off, same_meters}
 use Rattle.rules_soundness_laws.specs.Enough.{cost, owed, values, Enough}
 use Rattle.rules_soundness_laws.specs.Laws.{FormsPay}
-use Rattle.rules_soundness_laws.proofs.Weighed.{some_is, weighed_times}
+use Rattle.rules_soundness_laws.proofs.Weighed.{weighed_times}
 use Rattle.rules_soundness_laws.proofs.Contexts.{Even, values_new}
 use Rattle.rules_soundness_laws.proofs.Pays.{asks, leaves, OnceEnough, CallsPay, past_pays, StandsAt}
 use Rattle.rules_soundness_laws.proofs.Walk.{Pay, sound}
@@ -135,7 +136,7 @@ module _ (P : Program) (t : ℕ) where
       never (k.With other) e free = cc
 
       by : (c : Bool) → is_for_meter meter b.task.kind ≡ c → Some b ≡ Some block
-      by true e = absurd (never b.task.kind e (ap (λ (x : Block). free_budget x.task.kind) (sym (on meter t b e) ∙ some_is (raised meter t b) block there) ∙ free))
+      by true e = absurd (never b.task.kind e (ap (λ (x : Block). free_budget x.task.kind) (sym (on meter t b e) ∙ same_Some (raised meter t b) block there) ∙ free))
       by false e = ap Some (sym (off meter t b e)) ∙ there
 
 pub of_meter : (meter : Meter) (kind : Kind) → is_for_meter meter kind ≡ true → kind ≡ k.With meter
@@ -164,7 +165,7 @@ cost_block P meter (b ∷ bs) f s e = by (is_for_meter meter b.task.kind) refl (
     by false q o sig e rest = rest e
 
 -- the derivation of a function of a group
-function_of : (S : Setting) (m : Mode) (fs : List ℕ) (ss : List Sig) (hss : List (List Hint)) → FunctionsHold S m fs ss hss →
+pub function_of : (S : Setting) (m : Mode) (fs : List ℕ) (ss : List Sig) (hss : List (List Hint)) → FunctionsHold S m fs ss hss →
     (f : ℕ) (s : Sig) → sig_among fs ss f ≡ Some s → (hs : List Hint) × FunctionHolds S m f s hs
 function_of S m [] ss hss h f s e = absurd (cc)
 function_of S m (g ∷ fs) [] hss h f s e = absurd (cc)
@@ -173,7 +174,7 @@ function_of S m (g ∷ fs) (r ∷ ss) (hs ∷ hss) h f s e = by (nat_eq f g) ref
   where
     by : (c : Bool) → nat_eq f g ≡ c → cond c (Some r) (sig_among fs ss f) ≡ Some s → (sig_among fs ss f ≡ Some s → (hs : List Hint) × FunctionHolds S m f s hs) →
         (hs : List Hint) × FunctionHolds S m f s hs
-    by true q e rest = (hs, subst (λ j. FunctionHolds S m j s hs) (sym (eqb-true f g q)) (subst (λ x. FunctionHolds S m g x hs) (some_is r s e) h.0))
+    by true q e rest = (hs, subst (λ j. FunctionHolds S m j s hs) (sym (eqb-true f g q)) (subst (λ x. FunctionHolds S m g x hs) (same_Some r s e) h.0))
     by false q e rest = rest e
 
 -- What pays for a body pays for a call of it.
@@ -199,7 +200,7 @@ module _ (P : Program) (normal : (f : ℕ) (g : NormFun) → slice_get P.funs f 
       by None q e = absurd (cc)
       by (Some u) q e =
           let b = cost_block P meter earlier f u q in
-          subst (SigPays P (scales (k.With meter) * t) (With meter) d limit g) (some_is (times_sig t u) s e)
+          subst (SigPays P (scales (k.With meter) * t) (With meter) d limit g) (same_Some (times_sig t u) s e)
           (times_pay P t (scales (k.With meter)) meter d limit g u
           (subst (λ kind. KindPays P d (scales kind) kind limit g u) b.kind (pay b.place b.block b.there limit f g u there b.sig)))
 
@@ -216,7 +217,7 @@ module _ (P : Program) (normal : (f : ℕ) (g : NormFun) → slice_get P.funs f 
       by : (kind : Kind) → free_budget kind ≡ Some budget →
           owed (scales kind) (mode_of kind) (run_norm P.funs g vs limit) + leaves g (run_norm P.funs g vs limit).out (budget_of d kind) s ≤ asks g vs (budget_of d kind) s →
           leaves g (run_norm P.funs g vs limit).out budget s ≤ asks g vs budget s
-      by (Free own fun target) e h = subst (λ b. leaves g (run_norm P.funs g vs limit).out b s ≤ asks g vs b s) (some_is own budget e) (omega (arith, h))
+      by (Free own fun target) e h = subst (λ b. leaves g (run_norm P.funs g vs limit).out b s ≤ asks g vs b s) (same_Some own budget e) (omega (arith, h))
       by (k.With meter) e h = absurd (cc)
 
   module _ (group : ℕ) (kind : Kind) (body : Body) (t : ℕ) where
@@ -291,7 +292,7 @@ module _ (P : Program) (normal : (f : ℕ) (g : NormFun) → slice_get P.funs f 
           let S = here group kind body t in
           let found = function_of S (mode_of kind) (members P group) (sigs_of body) (hints_of body) holds.functions f s sig in
           let function = found.1 in
-          let same = some_is function.fun g (sym function.there ∙ there) in
+          let same = same_Some function.fun g (sym function.there ∙ there) in
           let is = normal f g there in
           let bound = args_bound g.params is.params vs typed in
           subst (λ us. owed S.scale (mode_of kind) (run_norm P.funs g vs limit) + leaves g (run_norm P.funs g vs limit).out S.budget s

@@ -5,6 +5,7 @@ use Rattle.std.specs.Prelude.{zip}
 use Rattle.std.proofs.lemmas.Bool.{eqb-true}
 use Rattle.std.proofs.lemmas.Bool.Decides.{nat_tests}
 use Rattle.std.proofs.lemmas.List.{map-append}
+use Rattle.std.proofs.lemmas.Option.{same_Some}
 use Rattle.raml_syntax.specs.Tree.{Type'}
 use Rattle.raml_syntax.specs.Value.{Value, Has, HaveTypes}
 use Rattle.index_shift.specs.Maps.{in_place}
@@ -16,7 +17,7 @@ use Rattle.normal_spec.proofs.Runs.{value_bind}
 use Rattle.normal_spec.proofs.Weights.{find_has, distinct_put}
 use Rattle.normal_spec.proofs.FreeUses.{new_apart}
 use Rattle.rules_soundness_laws.specs.Enough.{values, IsTyped}
-use Rattle.rules_soundness_laws.proofs.Weighed.{some_is}
+
 
 pub types_joined : (vs ws : List Value) (As Bs : List Type') → HaveTypes vs As → HaveTypes ws Bs → HaveTypes (vs ++ ws) (As ++ Bs)
 types_joined [] ws [] Bs h g = g
@@ -29,7 +30,7 @@ types_joined (v ∷ vs) ws (A ∷ As) Bs h g = (h.0, types_joined vs ws As Bs h.
 type_at : (k : ℕ) (As : List Type') (vs : List Value) (A : Type') (v : Value) → slice_get As k ≡ Some A → slice_get vs k ≡ Some v → HaveTypes vs As → Has v A
 type_at k [] vs A v there value typed = absurd (cc)
 type_at k (B ∷ As) [] A v there value typed = absurd (cc)
-type_at zero (B ∷ As) (w ∷ vs) A v there value typed = subst (Has v) (some_is B A there) (subst (λ u. Has u B) (some_is w v value) typed.0)
+type_at zero (B ∷ As) (w ∷ vs) A v there value typed = subst (Has v) (same_Some B A there) (subst (λ u. Has u B) (same_Some w v value) typed.0)
 type_at (suc k) (B ∷ As) (w ∷ vs) A v there value typed = type_at k As vs A v there value typed.1
 
 typed_in_place : (f : Type' → List Type') (h : Value → List Value) (k : ℕ) (As : List Type') (vs : List Value) (A : Type') (v : Value) →
@@ -38,14 +39,14 @@ typed_in_place f h k [] vs A v there value has typed = absurd (cc)
 typed_in_place f h k (B ∷ As) [] A v there value has typed = absurd (cc)
 typed_in_place f h zero (B ∷ As) (w ∷ vs) A v there value has typed =
     types_joined (h w) vs (f B) As
-    (subst (λ u. HaveTypes (h u) (f B)) (sym (some_is w v value)) (subst (λ D. HaveTypes (h v) (f D)) (sym (some_is B A there)) has)) typed.1
+    (subst (λ u. HaveTypes (h u) (f B)) (sym (same_Some w v value)) (subst (λ D. HaveTypes (h v) (f D)) (sym (same_Some B A there)) has)) typed.1
 typed_in_place f h (suc k) (B ∷ As) (w ∷ vs) A v there value has typed = (typed.0, typed_in_place f h k As vs A v there value has typed.1)
 
 -- A variable that is there
 
 module _ {X : Type 0} (f : ℕ × Type' → X) (x : ℕ) (A : Type') where
   pub the_variable : (b : ℕ × Type') → nat_eq x b.0 ≡ true → Some b.1 ≡ Some A → f (x, A) ≡ f b
-  the_variable b q e = λ i. f (eqb-true x b.0 q i, sym (some_is b.1 A e) i)
+  the_variable b q e = λ i. f (eqb-true x b.0 q i, sym (same_Some b.1 A e) i)
 
   pub found_at : (C : Context) → IsIn x A C → slice_get (map f C) (place x C) ≡ Some (f (x, A))
   found_at [] there = absurd (cc)

@@ -2,6 +2,7 @@
 use Rattle.std.proofs.Common.{◌≡◌, ⊎_elim, ℕ, suc, ◌*◌, Bool, true, false, ◌&&◌, flat_map, List, [], ◌∷◌, slice_get, Option, Some, None, refl, ap, ◌∙◌, subst, arith}
 use Rattle.std.specs.Prelude.{unsigned_abs}
 use Rattle.std.specs.List.{All}
+use Rattle.std.proofs.lemmas.Bool.{and_parts}
 use Rattle.raml_syntax.specs.Tree.{Function, Prog}
 use Rattle.raml_syntax.specs.Types.{Typed}
 use Rattle.raml_syntax.specs.Node.{AllNodes, NumberFits}
@@ -26,10 +27,6 @@ among_place : {X : Type 0} (x : X) (xs : List X) → Among x xs → (place : ℕ
 among_place x [] m = absurd m
 among_place x (y ∷ ys) m = ⊎_elim (λ e. (0, ap Some e)) (λ g. let r = among_place x ys g in (suc r.0, r.1)) m
 
-both_true : (a b : Bool) → (a && b) ≡ true → a ≡ true
-both_true true b e = refl
-both_true false b e = absurd (cc)
-
 module _ (P : Prog) (typed : Typed P) (numbers : All (λ (g : Function). AllNodes NumberFits g.body) P)
     (groups : List (List ℕ)) (certificate : Certificate) (held : Held (normal_of P groups) certificate) where
   -- what a block claims of a function of its group
@@ -43,7 +40,7 @@ module _ (P : Prog) (typed : Typed P) (numbers : All (λ (g : Function). AllNode
       same h m = ⊎_elim (λ e. subst (IsTrue P f meter) e h) (λ none. absurd none) m
 
       kind : block.task.kind ≡ k.With meter
-      kind = of_meter meter block.task.kind (both_true _ _ on)
+      kind = of_meter meter block.task.kind (and_parts _ _ on).0
 
       is_one : (kind : Kind) (t : ℕ) → kind ≡ k.With meter → IsOne kind t → t ≡ 1
       is_one (Free budget fun target) t e one = absurd (cc)

@@ -6,7 +6,7 @@ use Rattle.std.specs.Option.{option_map}
 use Rattle.std.proofs.Math.Nat.{mul-le-mul_left}
 use Rattle.std.proofs.lemmas.Int.{ints}
 use Rattle.std.proofs.lemmas.Nat.{le-div}
-use Rattle.std.proofs.lemmas.Option.{slice_get-map}
+use Rattle.std.proofs.lemmas.Option.{slice_get-map, same_Some}
 use Rattle.raml_syntax.specs.Tree.{Function, Prog}
 use Rattle.raml_syntax.specs.Value.{Value, HaveTypes}
 use Rattle.raml_syntax.specs.Eval.{Run, run_of}
@@ -30,7 +30,6 @@ use Rattle.annot_types.specs.Held.{scale_of, terms_of, Held}
 use Rattle.rules_soundness_laws.specs.Enough.{cost}
 use Rattle.rules_soundness_laws.specs.Bounds.{BoundsNormal, BoundsState, Bounds}
 use Rattle.rules_soundness_laws.specs.Laws.{Signs, normal_of, SourcesAreBounded, CellsStayBelow}
-use Rattle.rules_soundness_laws.proofs.Weighed.{some_is}
 use Rattle.rules_soundness_laws.proofs.Bound.{runs_of_block}
 
 cost_less : (meter : Meter) (r s : Run Value) → RunsAlike r s → cost meter r ≤ cost meter s
@@ -45,7 +44,7 @@ within den n most positive low = le-div n most den positive (let same : n * den 
 module _ (P : Prog) (typed : Typed P) (numbers : All (λ (g : Function). AllNodes NumberFits g.body) P) where
   -- what is in normal form is the normal form of a function
   pub is_form : (f : ℕ) (g : NormFun) → slice_get (norm P) f ≡ Some g → (fun : Function) → slice_get P f ≡ Some fun → norm_fun P fun ≡ g
-  is_form f g there fun at = some_is (norm_fun P fun) g (sym (normal_forms_keep P typed numbers f fun at).there ∙ there)
+  is_form f g there fun at = same_Some (norm_fun P fun) g (sym (normal_forms_keep P typed numbers f fun at).there ∙ there)
 
   normal : (f : ℕ) (g : NormFun) → slice_get (norm P) f ≡ Some g → IsNormal (norm P) g
   normal f g there = by (slice_get P f) refl

@@ -3,6 +3,7 @@ use Rattle.std.proofs.Common.{◌≡◌, ◌≢◌, ◌≤◌, ◌<◌, ◌⊎�
 use Rattle.std.proofs.Common.{refl, sym, ap, ◌∙◌, subst, arith}
 use Rattle.std.specs.Prelude.{zip}
 use Rattle.std.specs.declared.cmp.Ordering.TheVariants.{Less}
+use Rattle.std.proofs.lemmas.Option.{same_Some}
 use Rattle.raml_syntax.specs.Tree.{Type', Integer, Boolean, PairOf, ListOf, TreeOf, OptionOf}
 use Rattle.raml_syntax.specs.Value.{Value, Truth, Both, Empty, Cons, Node, Just, Has, HaveTypes}
 use Rattle.raml_syntax.specs.Eval.{Run, branch, pair_case, list_case, tree_case, option_case}
@@ -26,7 +27,7 @@ use Rattle.normal_spec.specs.Uses.{Takes}
 use Rattle.normal_spec.proofs.Opened.{opened_is}
 use Rattle.annot_types.specs.Carried.{Covers, at_parts}
 use Rattle.rules_soundness_laws.specs.Enough.{values, IsTyped}
-use Rattle.rules_soundness_laws.proofs.Weighed.{some_is, weighed_nothing}
+use Rattle.rules_soundness_laws.proofs.Weighed.{weighed_nothing}
 use Rattle.rules_soundness_laws.proofs.Carried.{listed, zeros_worth, covers_less, first_less}
 use Rattle.rules_soundness_laws.proofs.Contexts.{Even, type_there, value_there, has_there, of_put, typed_put}
 use Rattle.rules_soundness_laws.proofs.Operands.{operands_keep}
@@ -142,7 +143,7 @@ module _ (T : Type') (v : Value) (has : Has v T) (nothing : (i : Plain) → IsIn
           weighed (λ t. bases t (v ∷ [])) ts r ≡ r 0
       by [] first up fits = absurd (cc)
       by (t ∷ ts) first up fits =
-          let same = some_is t (map zero_of (T ∷ [])) first in
+          let same = same_Some t (map zero_of (T ∷ [])) first in
           let one : bases t (v ∷ []) ≡ 1 = ap (λ u. bases u (v ∷ [])) same ∙ zeros_worth (T ∷ []) (v ∷ []) (has, tt) in
           let none = weighed_nothing (λ t. bases t (v ∷ [])) ts (λ k. r (suc k))
           (rest_nothing ts (λ u m. fits u (inr m)) (subst (λ u. IsBefore tuple_order u ts) same up.0)) in

@@ -4,6 +4,8 @@ use Rattle.std.proofs.Common.{refl, sym, ap, ◌∙◌, subst, arith}
 use Rattle.std.proofs.Math.Nat.{mul-le-mul_left}
 use Rattle.std.specs.Int.{w64}
 use Rattle.std.proofs.lemmas.Int.{SFits-int_wrap}
+use Rattle.std.proofs.lemmas.Option.{same_Some}
+use Rattle.raml_syntax.proofs.Keep.{negation_has}
 use Rattle.raml_syntax.specs.Tree.{Type', Integer, Boolean, PairOf, ListOf, TreeOf, OptionOf}
 use Rattle.raml_syntax.specs.Value.{Value, Number, Truth, Both, Empty, Cons, Node, Just, Has}
 use Rattle.raml_syntax.specs.Eval.{Run, done, new_cell, goes_on, and_then, cut, negation, arith as arith_value, compare}
@@ -21,12 +23,11 @@ use Rattle.normal_spec.specs.Free.{has}
 use Rattle.normal_spec.specs.Run.{NormEnv, value_at, values_at, NormCalls, spend, walk_norm}
 use Rattle.normal_spec.specs.Context.{Context, types, place, without, opened, parts_of, copies_of, inners, others}
 use Rattle.normal_spec.specs.Uses.{Takes, Uses, types_of}
-use Rattle.normal_spec.proofs.KeepTypes.{walk_keeps, negation_has}
+use Rattle.normal_spec.proofs.KeepTypes.{walk_keeps}
 use Rattle.annot_types.specs.Certificate.{Entries, annotation, Annotates, Hint, Let, Share, Call}
 use Rattle.annot_types.specs.Carried.{Covers, less, at_parts, tuples, part, joined}
 use Rattle.annot_types.specs.Rules.{Mode, Past, Setting, price, TakesLet, TakesShare, TakesCall, CallRule, Parts, left, all_taken, Ann}
 use Rattle.rules_soundness_laws.specs.Enough.{owed, remaining, values, IsTyped, Enough}
-use Rattle.rules_soundness_laws.proofs.Weighed.{some_is}
 use Rattle.rules_soundness_laws.proofs.Carried.{zeros_worth, all_fit}
 use Rattle.rules_soundness_laws.proofs.Contexts.{has_there}
 use Rattle.rules_soundness_laws.proofs.Operands.{values_taken, alone_less}
@@ -58,7 +59,7 @@ module _ (S : Setting) (d : ℕ) (A : Type') (ra : Run Value) (worth share : Lis
   all_parts m pay past stands z one none [] first rs hs out h = absurd (cc)
   all_parts m pay past stands z one none (j ∷ js) first [] hs out h = absurd h
   all_parts m pay past stands z one none (j ∷ js) first (s ∷ rs) hs out h =
-      let same = some_is j z first in
+      let same = same_Some j z first in
       let is_one : worth j ≡ 1 = ap worth same ∙ one in
       let here : d ≡ d - degrees j = let zero = ap degrees same ∙ none in omega (arith, zero) in
       let low = pay j (annotation s) hs h.0 (subst (StandsAt S m) here stands) h.2 in
@@ -190,7 +191,7 @@ module _ (S : Setting) (call : NormCalls) where
       by (Call ms ∷ hs) h =
           let rule = h.0 in
           let g = rule.fun in
-          let same = some_is u.0 g (sym u.1 ∙ rule.there) in
+          let same = same_Some u.0 g (sym u.1 ∙ rule.there) in
           let type : T ≡ g.result = u.2 ∙ ap (λ (c : NormFun). c.result) same in
           subst (λ D. Enough S.scale m d C env (less (price S m k 0 0) q) D r (call f (values_at xs env))) (sym type)
           (call_pays S m call calls f g rule.there d stands C env typed.typed (less (price S m k 0 0) q) xs (subst (λ c. Takes C xs (types_of c)) same u.3) r

@@ -1,13 +1,11 @@
 -- Weighed sums.
 use Rattle.std.proofs.Common.{◌≡◌, ◌≤◌, ◌<◌, ℕ, suc, ◌+◌, ◌-◌, ◌*◌, List, [], ◌∷◌, length, slice_get, Some, refl, ap, ◌∙◌, arith}
 use Rattle.std.proofs.Math.Nat.{mul-le-mul_right}
+use Rattle.std.proofs.lemmas.Option.{same_Some}
 use Rattle.base_poly.specs.Base.{total}
 use Rattle.index_shift.specs.Potential.{Annotation, weighed}
 use Rattle.index_shift.proofs.Brought.{Each, weighed_none, weighed_sum}
 use Rattle.annot_types.specs.Carried.{less, more}
-
-pub some_is : {X : Type 0} (x y : X) → Some x ≡ Some y → x ≡ y
-some_is x y e = cc
 
 module _ {X : Type 0} (f : X → ℕ) where
   pub weighed_times : (xs : List X) (n : ℕ) (q : Annotation) → weighed f xs (λ k. n * q k) ≡ n * weighed f xs q
@@ -38,7 +36,7 @@ module _ {X : Type 0} (f : X → ℕ) where
   -- Where the first item counts 1, the first number counts as it is.
   module _ (z : X) (one : f z ≡ 1) where
     is_one : (x : X) → Some x ≡ Some z → f x ≡ 1
-    is_one x first = ap f (some_is x z first) ∙ one
+    is_one x first = ap f (same_Some x z first) ∙ one
 
     pub weighed_less : (xs : List X) (n : ℕ) (q : Annotation) → slice_get xs 0 ≡ Some z → n ≤ q 0 → weighed f xs q ≡ n + weighed f xs (less n q)
     weighed_less [] n q first h = absurd (cc)

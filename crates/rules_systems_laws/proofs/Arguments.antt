@@ -2,6 +2,7 @@
 use Rattle.std.proofs.Common.{◌≡◌, refl, ap, sym, ◌∙◌, arith, subst}
 use Rattle.std.specs.Prelude.{ℕ, ◌+◌, ◌<◌, nat_eq, Bool, true, false, cond, ◌||◌, List, [], ◌∷◌, length, slice_get, Option, Some}
 use Rattle.std.proofs.lemmas.Bool.Decides.{nat_tests}
+use Rattle.std.proofs.lemmas.Option.{same_Some}
 use Rattle.rules_systems_laws.proofs.Weights.{given_are}
 use Rattle.linear_rows.specs.Systems.{LinearSystem}
 use Rattle.normal_spec.specs.Norm.{NormFun}
@@ -14,7 +15,6 @@ use Rattle.annot_types.specs.Signature.{sig_among}
 use Rattle.annot_types.specs.Rules.{Mode, Setting}
 use Rattle.annot_types.specs.Rows.{size as size_of}
 use Rattle.annot_types.specs.System.{args_of, result_of}
-use Rattle.annot_types.proofs.Lists.{some_is}
 use Rattle.rules_spec.specs.Numbers.{Sides}
 use Rattle.rules_spec.specs.Kinds.{Amount}
 use Rattle.rules_spec.specs.Asked.{given}
@@ -116,7 +116,7 @@ module _ (P : Program) (d : ℕ) (earlier : List Block) (task : Task) (scale : �
               let same : f ≡ h = grind (arith, nat_tests, q) in
               let at_h : slice_get P.funs h ≡ Some g = ap (slice_get P.funs) (sym same) ∙ there in
               given_are x from (size_of (types g.params) within) (annotation sig.args)
-              (subst (λ r. given (amount x) from (size_of (types g.params) within) ≡ amounts_of (listed (size_of (types g.params) within) (annotation r.args))) (some_is s sig j)
+              (subst (λ r. given (amount x) from (size_of (types g.params) within) ≡ amounts_of (listed (size_of (types g.params) within) (annotation r.args))) (same_Some s sig j)
               (subst (λ o. given (amount x) from (body P d earlier task scale o).args ≡ (sides (signature o within (Some s))).args) at_h (ap (λ (a : Sides Amount). a.args) head))) k low
           by false q j later =
               subst (λ n. number_in x (first_from P within (from + n) fs f + k) ≡ annotation sig.args k) (same_sizes (slice_get P.funs h) ready.0.fun ready.0.there)

@@ -1,6 +1,7 @@
 -- The functions of a group hold exactly where the conditions of its bodies are met.
 use Rattle.std.proofs.Common.{◌≡◌, refl, ap, sym, ◌∙◌, subst, arith}
 use Rattle.std.specs.Prelude.{ℕ, suc, ◌+◌, List, [], ◌∷◌, map, length, slice_get, slice_index_or, Option, None, Some}
+use Rattle.std.proofs.lemmas.Option.{same_Some}
 use Rattle.normal_spec.specs.Norm.{NormFun}
 use Rattle.normal_spec.specs.Context.{types}
 use Rattle.normal_spec.specs.Uses.{Uses}
@@ -31,7 +32,6 @@ use Rattle.rules_spec.proofs.Covering.{all_are_given}
 use Rattle.rules_spec.proofs.Finding.{amounts_stand, reads_there}
 use Rattle.rules_spec.proofs.Ruled.{annotates_within, within_annotates}
 use Rattle.rules_spec.specs.Told.{entries, sig, hint, number_in, sigs_told, hints_told}
-use Rattle.annot_types.proofs.Lists.{some_is}
 use Rattle.rules_systems_laws.proofs.Alike.{BodiesAlike, bodies_same}
 use Rattle.rules_systems_laws.proofs.Told.{told_within, told_amounts, AllSuit, suiting_answer, answered_suit, told_suit, told_alike, full_hints, full_alike, full_of, amounts_of_size}
 
@@ -176,7 +176,7 @@ module _ (P : Program) (d : ℕ) (earlier : List Block) (task : Task) (scale : �
     functions_meet place (f ∷ fs) (s ∷ ss) (hs ∷ hss) ready hf at h =
         let one = h.0 in
         let known = ready.0 in
-        let same = some_is known.fun one.fun (sym known.there ∙ one.there) in
+        let same = same_Some known.fun one.fun (sym known.there ∙ one.there) in
         let b = body (slice_get P.funs f) in
         meet_append (of_body (amounts 1) J whole place b (hints_at (asked b.plan) hs)).found (of_bodies (amounts 1) J whole (suc place) (bodies fs) (walked_hints (bodies fs) hss))
         (subst (λ o. AllMeet (of_body (amounts 1) J whole place (body o) (hints_at (asked (body o).plan) hs)).found) (sym one.there)

@@ -1,6 +1,7 @@
 -- What solves the system of a task meets its conditions, with the blocks of its meter and its scale raised.
 use Rattle.std.proofs.Common.{◌≡◌, refl, ap, sym, ◌∙◌, arith, subst}
 use Rattle.std.specs.Prelude.{ℕ, ◌*◌, ◌<◌, cond, pos, List, map, length}
+use Rattle.std.proofs.lemmas.List.{length-map}
 use Rattle.linear_rows.specs.Systems.{Solves}
 use Rattle.cost_free.specs.declared.task.Meter.{Meter}
 use Rattle.cost_free.specs.Task as k
@@ -22,7 +23,6 @@ use Rattle.rules_spec.proofs.TaskRows.{systems_are_walked}
 use Rattle.rules_spec.specs.Raised.{times_right}
 use Rattle.rules_spec.specs.Told.{bodies_of}
 use Rattle.rules_spec.proofs.Refuted.{blocks_raised, rows_are_raised, solves_raised, solves_lowered}
-use Rattle.annot_types.proofs.Lists.{length_map}
 use Rattle.rules_systems_laws.proofs.Priceless.{bodies_free}
 use Rattle.rules_spec.proofs.Planning.{bodies_kept, ready_kept, cost_raised}
 
@@ -75,7 +75,7 @@ module _ (P : Program) (d : ℕ) (earlier : List Block) (group scale t : ℕ) (x
       let j = job (Free budget f number) in
       let weights = (system P d earlier (task (Free budget f number)) scale).weights in
       let solved = subst (λ z. Solves z (map pos x) (pos t)) walked s in
-      let count = sym (length_map pos x) ∙ solved.one_each in
+      let count = sym (length-map x pos) ∙ solved.one_each in
       let all = (rows_are_conditions j weights t x count).0 solved in
       let target = of_target (amounts t) j (sides_given (amount x) 0 j.bodies) j.target in
       let rest = of_bodies (amounts t) j (sides_given (amount x) 0 j.bodies) 0 j.bodies (hints_given (amount x) (sides_count j.bodies) j.bodies) in
@@ -90,7 +90,7 @@ module _ (P : Program) (d : ℕ) (earlier : List Block) (group scale t : ℕ) (x
       let R = system P d (map (raised meter t) earlier) (task kind) (scale * t) in
       let at_one = subst (λ z. Solves z (map pos x) (pos 1)) (sym (raised_is meter h)) (solves_raised t (system P d earlier (task kind) scale) (map pos x) s) in
       let solved = subst (λ z. Solves z (map pos x) (pos 1)) (systems_are_walked P d (map (raised meter t) earlier) (task kind) (scale * t) (raised_task kind is_task)) at_one in
-      let count = sym (length_map pos x) ∙ solved.one_each in
+      let count = sym (length-map x pos) ∙ solved.one_each in
       record { count = count; target = tt; bodies = (rows_are_conditions j R.weights 1 x count).0 solved }
 
   pub meets_solves : (kind : Kind) → IsTask P d earlier (task kind) scale → 0 < t → Meets kind → Solves (system P d earlier (task kind) scale) (map pos x) (pos t)

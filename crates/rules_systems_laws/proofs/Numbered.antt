@@ -5,8 +5,9 @@ use Rattle.std.specs.List.{All}
 use Rattle.std.specs.Ordering.{is_lt}
 use Rattle.std.proofs.lemmas.Bool.Decides.{nat_tests}
 use Rattle.std.proofs.lemmas.List.Elements.{All-nil, All-cons}
-use Rattle.std.proofs.lemmas.Option.{slice_get-get_or}
+use Rattle.std.proofs.lemmas.Option.{slice_get-get_or, same_Some}
 use Rattle.std.proofs.lemmas.Bool.{and_parts}
+use Rattle.std.proofs.lemmas.List.{length-map}
 use Rattle.raml_syntax.specs.Tree.{Type', Integer, Boolean, PairOf, ListOf, TreeOf, OptionOf}
 use Rattle.base_poly.specs.Plain.{Plain, entries_of, deg, degrees, alike}
 use Rattle.base_poly.specs.Indices.{IsIndex, AreIndices, index_list}
@@ -15,7 +16,6 @@ use Rattle.base_poly.proofs.Exact.{exact}
 use Rattle.index_shift.proofs.Spots.{got_among, position_there}
 use Rattle.cost_free.specs.Target.{Target, degree_of, unit_targets, components, Holder, holder_at, holders, subsets, hold, have_one_element, can_join, same_type, joined_sets, pieces, piece_at, filled}
 use Rattle.cost_free.specs.Target.{Joined, joined, cut_lists, joined_over, joined_order, put, in_order, joined_targets, targets}
-use Rattle.annot_types.proofs.Lists.{some_is, length_map}
 use Rattle.rules_systems_laws.proofs.Filled.{degree, degree_all, AllIndices, AllAll, entries_index, are_pieces, Fits, size_of, sum_from, AllFit, piece, filled_fits}
 
 -- Holders
@@ -107,8 +107,8 @@ pieces_fit Cs E from (x ∷ hs) (is ∷ xs) h a b k C e = by (nat_eq k x.place) 
   by false s rest = rest
   by true s rest =
       let same : k ≡ x.place = grind (arith, nat_tests, s) in
-      ⊎_elim (λ l. list_fits x.element a.0 (some_is (ListOf x.element) C (sym l ∙ ap (slice_get Cs) (sym same) ∙ e)))
-      (λ l. tree_fits x.element a.0 (some_is (TreeOf x.element) C (sym l ∙ ap (slice_get Cs) (sym same) ∙ e))) h.2
+      ⊎_elim (λ l. list_fits x.element a.0 (same_Some (ListOf x.element) C (sym l ∙ ap (slice_get Cs) (sym same) ∙ e)))
+      (λ l. tree_fits x.element a.0 (same_Some (TreeOf x.element) C (sym l ∙ ap (slice_get Cs) (sym same) ∙ e))) h.2
 
 -- all pieces are put somewhere, and once
 sum_one : (f g : ℕ → ℕ) (p a from n : ℕ) → from ≤ p → p < from + n → f p ≡ a → g p ≡ 0 → ((k : ℕ) → nat_eq k p ≡ false → f k ≡ g k) → sum_from f from n ≡ a + sum_from g from n
@@ -182,7 +182,7 @@ filled_is A E hs is h a b xs m =
     let p = are_pieces E (length (map (λ (h : Holder). h.place) hs)) is xs m in
     let r = filled_fits (map (λ (h : Holder). h.place) hs) xs A 0
     (λ i C e. subst (λ j. Fits C (piece_at j (map (λ (h : Holder). h.place) hs) xs)) (let z : i ≡ 0 + i = omega arith in z) (pieces_fit (components A) E 0 hs xs h a (p.indices b) i C e)) in
-    (r.0, r.1 ∙ all_put (components A) 0 hs xs h (p.many ∙ length_map (λ (h : Holder). h.place) hs) ∙ p.sum)
+    (r.0, r.1 ∙ all_put (components A) 0 hs xs h (p.many ∙ length-map hs (λ (h : Holder). h.place)) ∙ p.sum)
 
 one_plus : (n : ℕ) → n + 0 ≡ n
 one_plus n = omega arith

@@ -3,6 +3,7 @@ use Rattle.std.proofs.Common.{◌≡◌, ◌<◌, inl, ⊎_elim, ℕ, zero, suc,
 use Rattle.std.specs.Option.{option_map, unwrap_or}
 use Rattle.std.specs.List.{list_any}
 use Rattle.std.proofs.lemmas.Bool.{and_parts, or_cases, eqb-true}
+use Rattle.std.proofs.lemmas.Option.{same_Some}
 use Rattle.normal_spec.specs.Norm.{NormFun}
 use Rattle.cost_free.specs.declared.task.Meter.{Meter}
 use Rattle.cost_free.specs.declared.task.Done.{Done}
@@ -20,7 +21,7 @@ use Rattle.annot_types.specs.Holds.{mode_of}
 use Rattle.annot_types.specs.System.{unsigned}
 use Rattle.rules_spec.specs.Planned.{place_in}
 use Rattle.rules_spec.specs.Systems.{PaidFor, AllPaid, IsReady, AreReady, HasTarget}
-use Rattle.annot_types.proofs.Lists.{some_is, some_none, map_get, map_inv}
+use Rattle.annot_types.proofs.Lists.{some_none, map_get, map_inv}
 use Rattle.rules_systems_laws.specs.Ordered.{AreApart, IsOrdered}
 use Rattle.rules_systems_laws.specs.Shaped.{HasNumber, IsSigned, AreSigned, ShapedAreTasks}
 use Rattle.rules_systems_laws.proofs.Scheduled.{among_is, targets_are_numbered, numbered}
@@ -85,7 +86,7 @@ cost_there : (P : Program) (meter : Meter) (f : ℕ) (bs : List Block) (place : 
     sig_in P block f ≡ Some s → (t : Sig) × (cost_sig P meter bs f ≡ Some t)
 cost_there P meter f [] place block s e of sig = absurd (cc)
 cost_there P meter f (b ∷ bs) zero block s e of sig =
-    let same = some_is b block e in (
+    let same = same_Some b block e in (
       s,
       (λ i. or_else (cond (is_for_meter meter (same i).task.kind) (sig_in P (same i) f) None) (cost_sig P meter bs f)) ∙ (λ i. or_else (cond (of i) (sig_in P block f) None) (cost_sig P meter bs f))
           ∙ (λ i. or_else (sig i) (cost_sig P meter bs f)),

@@ -3,6 +3,7 @@ use Rattle.std.proofs.Common.{◌≡◌, ◌≤◌, ℕ, suc, ◌+◌, nat_le, n
 use Rattle.std.specs.Option.{unwrap_or}
 use Rattle.std.specs.List.{list_any, range_with_len}
 use Rattle.std.proofs.lemmas.Bool.Decides.{nat_tests}
+use Rattle.std.proofs.lemmas.Option.{same_Some}
 use Rattle.rules_systems_laws.proofs.Targets.{range_below}
 use Rattle.base_poly.proofs.Among.{Among, among_either, among_mapped, among_part}
 use Rattle.normal_spec.specs.Norm.{NormFun}
@@ -12,7 +13,7 @@ use Rattle.cost_free.specs.Task.{Kind, Free, Task, Outcome}
 use Rattle.cost_free.specs.Blocked.{is_among}
 use Rattle.cost_free.specs.Schedule.{meters, targets_at, tasks_for, free_tasks, group_tasks, tasks_from, is_left_out, next_of}
 use Rattle.annot_types.specs.Program.{Program, members, results}
-use Rattle.annot_types.proofs.Lists.{some_is, map_get}
+use Rattle.annot_types.proofs.Lists.{map_get}
 use Rattle.rules_systems_laws.specs.Laws.{IsNumbered}
 use Rattle.rules_systems_laws.specs.Shaped.{HasNumber, TargetsAreNumbered}
 use Rattle.rules_systems_laws.proofs.Numbered.{have_positions}
@@ -26,7 +27,7 @@ next_among (t ∷ ts) past [] task e = by (is_left_out past t.kind) e (next_amon
   where
     by : (b : Bool) → cond b (next_of ts past []) (Some t) ≡ Some task → (next_of ts past [] ≡ Some task → Among task ts) → Among task (t ∷ ts)
     by true e go = inr (go e)
-    by false e go = inl (some_is t task e)
+    by false e go = inl (same_Some t task e)
 next_among (t ∷ ts) past (o ∷ done) task e = by (is_left_out past t.kind) e (next_among ts past (o ∷ done) task) (next_among ts (o ∷ past) done task)
   where
     by : (b : Bool) → cond b (next_of ts past (o ∷ done)) (next_of ts (o ∷ past) done) ≡ Some task → (next_of ts past (o ∷ done) ≡ Some task → Among task ts) →

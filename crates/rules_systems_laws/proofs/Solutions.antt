@@ -3,7 +3,7 @@ use Rattle.std.proofs.Common.{◌≡◌, refl, ap, sym, ◌∙◌, subst}
 use Rattle.std.specs.Prelude.{ℕ, ◌-◌, ◌*◌, ◌<◌, pos, List, [], ◌∷◌, map, length, slice_get, slice_index_or, position, Some, IsSome}
 use Rattle.std.specs.List.{All}
 use Rattle.std.specs.Option.{unwrap_or}
-use Rattle.std.proofs.lemmas.Option.{get_or_from_slice_get}
+use Rattle.std.proofs.lemmas.Option.{get_or_from_slice_get, same_Some}
 use Rattle.base_poly.specs.Plain.{alike}
 use Rattle.base_poly.specs.Indices.{index_list}
 use Rattle.linear_rows.specs.Vectors.{dot}
@@ -28,7 +28,6 @@ use Rattle.rules_spec.specs.Stand.{Stands, SidesStand}
 use Rattle.rules_spec.specs.Systems.{IsTask}
 use Rattle.rules_spec.specs.Found.{group_from}
 use Rattle.rules_spec.specs.Told.{bodies_of, sigs_told, hints_told}
-use Rattle.annot_types.proofs.Lists.{some_is}
 use Rattle.rules_systems_laws.specs.Arguments.{TellsArguments}
 use Rattle.rules_systems_laws.specs.Laws.{IsNumbered, told, NumbersAreTold, SolutionsHold, SolutionsWeigh, WhatHoldsSolves}
 use Rattle.rules_systems_laws.proofs.Functions.{here, J, none, whole, reads, sides_told, told_long, told_hold, held_come}
@@ -76,7 +75,7 @@ module _ (P : Program) (d : ℕ) (earlier : List Block) (group scale t : ℕ) (x
       meets_target : (hints : List (List c.Hint)) (r : Reaches P d budget f number (solving task sigs hints) t) → r.fun ≡ g → r.target ≡ target →
           AllMeet (of_target (amounts t) (J P d earlier task scale) (sides_given (amount x) 0 (bodies_of P d earlier task)) (positions_of d budget number (slice_get P.funs f)))
       meets_target hints r e h =
-          let same_sig = some_is r.sig of_function.0 (sym r.signed ∙ of_function.1) in
+          let same_sig = same_Some r.sig of_function.0 (sym r.signed ∙ of_function.1) in
           subst AllMeet (sym conditions) (covers_meet g.result budget t (J P d earlier task scale) (whole P d earlier task scale sigs long) (annotation of_function.0.result) stands target
           (subst (λ u. CoversTarget g.result budget (annotation of_function.0.result) t u) h (subst (λ g. CoversTarget g.result budget (annotation of_function.0.result) t r.target) e
           (subst (λ s. CoversTarget r.fun.result budget (annotation s.result) t r.target) same_sig r.covers))))

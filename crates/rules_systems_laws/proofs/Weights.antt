@@ -2,6 +2,7 @@
 use Rattle.std.proofs.Common.{◌≡◌, refl, ap, sym, ◌∙◌, arith, subst}
 use Rattle.std.specs.Prelude.{ℕ, zero, suc, ◌+◌, ◌*◌, ◌^◌, ◌<◌, ℤ, pos, ◌+ℤ◌, ◌*ℤ◌, List, [], ◌∷◌, ◌++◌, map, length, replicate, slice_get, Option, Some}
 use Rattle.std.proofs.lemmas.Int.{ints}
+use Rattle.std.proofs.lemmas.List.{length-map}
 use Rattle.linear_rows.specs.Vectors.{dot}
 use Rattle.base_poly.specs.Plain.{Plain, degrees}
 use Rattle.base_poly.specs.Indices.{index_list}
@@ -23,7 +24,6 @@ use Rattle.rules_spec.specs.Solving.{amount}
 use Rattle.rules_spec.specs.Found.{listed, amounts_of, signature, sides, group_from}
 use Rattle.rules_spec.proofs.Finding.{amounts_stand}
 use Rattle.rules_spec.specs.Told.{number_in}
-use Rattle.annot_types.proofs.Lists.{length_map}
 use Rattle.rules_systems_laws.proofs.Functions.{budget, here, body, bodies, Ready}
 
 -- the products with the numbers in order, summed up
@@ -118,7 +118,7 @@ module _ (P : Program) (d : ℕ) (earlier : List Block) (task : Task) (scale : �
       ∙ (λ i. (by_tuples of_rank ts (numbers_from from) ∙ ap pos (weighed_same of_rank ts (numbers_from from) (annotation s.args) (given_are x from (length ts) (annotation s.args) e))) i
       +ℤ (by_append zeros rest (λ k. number_in x (from + (length args + k)))
       ∙ (λ j. by_zeros (size_of (g.result ∷ []) within) (λ k. number_in x (from + (length args + k))) j
-      +ℤ by_numbers rest (λ k. number_in x (place (length args) (length zeros) k (length_map (λ t. pos (of_rank t)) ts) (length_zeros (size_of (g.result ∷ []) within)) j)))
+      +ℤ by_numbers rest (λ k. number_in x (place (length args) (length zeros) k (length-map ts (λ t. pos (of_rank t))) (length_zeros (size_of (g.result ∷ []) within)) j)))
       ∙ ap (λ z. pos 0 +ℤ z) h) i)
       ∙ ap (λ n. pos (weighed of_rank ts (annotation s.args) + n)) (let z : 0 + others ≡ others = omega arith in z) where
         place : (m n k : ℕ) → m ≡ size_of (types g.params) within → n ≡ size_of (g.result ∷ []) within →

@@ -3,7 +3,7 @@ pub mod Bringing
 pub mod AskedAt
 mod Short
 pub mod Filling
-mod Shared
+pub mod Shared
 pub mod Unpaid
 pub mod Counting
 pub mod Remembering

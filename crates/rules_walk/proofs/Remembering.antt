@@ -6,6 +6,7 @@ use Rattle.std.proofs.lemmas.Bool.{eqb-true, eq-eqb}
 use Rattle.std.proofs.lemmas.Option.{slice_get_within}
 use Rattle.std.proofs.lemmas.List.Elements.{filter-append}
 use Rattle.std.proofs.lemmas.List.{length-replicate, map-append, length-append, length-map, append-nil, length-set, get_or-set_same, get_or-set_other}
+use Rattle.annot_types.proofs.Raised.{same_meters}
 use Rattle.normal_spec.specs.Norm.{NormFun}
 use Rattle.cost_free.specs.declared.task.Meter.{Meter}
 use Rattle.cost_free.specs.declared.task.Meter.TheVariants.{Ticks, Cells, Work}
@@ -368,20 +369,9 @@ module _ (P : Program) (d : ℕ) (earlier : List Block) (group : ℕ) (body : Bo
       all : List (ℕ × Signature)
       all = signatures d (members P group) sizes (sigs_of body)
 
-      meters_same : (m n : Meter) → same_meter m n ≡ true → m ≡ n
-      meters_same Ticks Ticks e = refl
-      meters_same Cells Cells e = refl
-      meters_same Work Work e = refl
-      meters_same Ticks Cells e = absurd (true_false (sym e))
-      meters_same Ticks Work e = absurd (true_false (sym e))
-      meters_same Cells Ticks e = absurd (true_false (sym e))
-      meters_same Cells Work e = absurd (true_false (sym e))
-      meters_same Work Ticks e = absurd (true_false (sym e))
-      meters_same Work Cells e = absurd (true_false (sym e))
-
       by_length : (m : Meter) (b : Bool) → same_meter m meter ≡ b → length (costs new m) ≡ length P.funs
       by_length m false e = ap length (g.others m e) ∙ h.paying m
-      by_length m true e = ap (λ m. length (costs new m)) (meters_same m meter e)
+      by_length m true e = ap (λ m. length (costs new m)) (same_meters m meter e)
           ∙ sym (length-map (costs new meter) (option_map signature_of)) ∙ ap length g.paying ∙ length_filled all (table meter old)
           ∙ length-map (costs old meter) (option_map signature_of) ∙ h.paying meter
 
@@ -404,7 +394,7 @@ module _ (P : Program) (d : ℕ) (earlier : List Block) (group : ℕ) (body : Bo
       by_cost m f false e = ap (λ l. slice_index_or (map (option_map signature_of) l) f None) (g.others m e) ∙ h.cost m f
           ∙ ap (at_budget (over P d earlier) (slice_get P.funs f)) (plain (cost_sig P m earlier f)
           ∙ ap (λ b. or_else (cost_sig P m earlier f) (cond b (sig_among (members P group) (sigs_of body) f) None)) (sym e))
-      by_cost m f true e = let is : m ≡ meter = meters_same m meter e in
+      by_cost m f true e = let is : m ≡ meter = same_meters m meter e in
           ap (λ m. cost_at new m f) is ∙ ap (λ l. slice_index_or l f None) g.paying ∙ filled_at all (table meter old) f once
           ∙ (λ i. or_signature (h.cost meter f i) (all_found P d (members P group) sizes (sigs_of body) f fits i))
           ∙ both (slice_get P.funs f) (cost_sig P meter earlier f) (sig_among (members P group) (sigs_of body) f)

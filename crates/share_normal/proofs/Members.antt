@@ -31,7 +31,7 @@ among_contains : (x : ℕ) (ys : List ℕ) → among x ys ≡ true → Contains 
 among_contains x ys h = Contains-from_any eqb-true x ys (among_is x ys ∙ h)
 
 -- two truths, of which each follows from the other
-same_truth : (a b : Bool) → (a ≡ true → b ≡ true) → (b ≡ true → a ≡ true) → a ≡ b
+pub same_truth : (a b : Bool) → (a ≡ true → b ≡ true) → (b ≡ true → a ≡ true) → a ≡ b
 same_truth true b f g = sym (f refl)
 same_truth false true f g = g refl
 same_truth false false f g = refl

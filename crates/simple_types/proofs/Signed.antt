@@ -7,6 +7,7 @@ use Rattle.std.specs.Map.{update}
 use Rattle.std.specs.Cmp.Lexicographic.{bytes_decides}
 use Rattle.std.proofs.Math.Seq.{drop-cons}
 use Rattle.std.proofs.lemmas.List.{take_more}
+use Rattle.raml_syntax.proofs.FromLast.{bytes_same}
 use Rattle.raml_syntax.specs.Tree.{Text, Function}
 use Rattle.raml_syntax.specs.Read.{function_of}
 use Rattle.raml_syntax.specs.declared.program.Fun.{Fun}
@@ -17,15 +18,6 @@ use Rattle.simple_types.specs.Numbered.{Sig, Sigs, or_else, signature, signed, s
 
 abbrev pub function_texts : List Fun → List Text
 function_texts funs = map (λ (g : Function). g.name) (map function_of funs)
-
-bytes_same : (x y : Text) → bytes_eq x y ≡ bytes_eq y x
-bytes_same x y = by (bytes_eq x y) (bytes_eq y x) refl refl
-  where
-    by : (a b : Bool) → bytes_eq x y ≡ a → bytes_eq y x ≡ b → a ≡ b
-    by true true p q = refl
-    by false false p q = refl
-    by true false p q = let self : bytes_eq y x ≡ true = (bytes_decides y x).1 (sym ((bytes_decides x y).0 p)) in absurd (cc)
-    by false true p q = let self : bytes_eq x y ≡ true = (bytes_decides x y).1 (sym ((bytes_decides y x).0 q)) in absurd (cc)
 
 or_none : (o : Option Sig) → o ≡ or_else o None
 or_none None = refl

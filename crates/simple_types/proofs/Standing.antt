@@ -2,7 +2,7 @@
 use Rattle.std.proofs.Common.{◌≡◌, ◌∙◌, ℕ, zero, suc, ◌+◌, ◌<◌, [], ◌∷◌, ◌++◌, length, slice_get, Bool, true, false, ◌||◌, cond, not, nat_eq, Some, ◌⊎◌, inl, inr, refl, sym, ap, subst, arith}
 use Rattle.std.specs.List.{list_any, position_or_len}
 use Rattle.std.proofs.lemmas.Bool.{and_parts, and_from, eqb-true, eq-eqb}
-use Rattle.std.proofs.lemmas.Option.{slice_get_within, get_or_from_slice_get}
+use Rattle.std.proofs.lemmas.Option.{slice_get_within, get_or_from_slice_get, same_Some}
 use Rattle.raml_syntax.specs.Tree.{Type', Integer, Boolean, PairOf, ListOf, TreeOf, OptionOf}
 use Rattle.simple_types.specs.Table.{Table, base, integer, boolean, same_node, node_at, placed, made_from, types_before, type_of, numbered}
 use Rattle.simple_types.specs.declared.types.TypeId.{TypeId}
@@ -44,9 +44,6 @@ later_refl good = record { good = good; kept = λ i A s. s }
 
 pub later_then : {u v w : Table} → Later u v → Later v w → Later u w
 later_then l m = record { good = m.good; kept = λ i A s. m.kept i A (l.kept i A s) }
-
-some_is : {A : Type 0} (x y : A) → Some x ≡ Some y → x ≡ y
-some_is x y e = cc
 
 pub node_is : (u : Table) (i : TypeId) (n : Node) → slice_get u i.0 ≡ Some n → node_at u i ≡ n
 node_is u i n e = get_or_from_slice_get u i.0 n Int e
@@ -145,12 +142,12 @@ stands_nowhere n (m ∷ u) h i e = by (same_node n m) refl h (stands_nowhere n u
   where
     by : (b : Bool) → same_node n m ≡ b → (b || list_any (same_node n) u) ≡ false → (list_any (same_node n) u ≡ false → (i : ℕ) → slice_get u i ≡ Some n → ⊥) → (i : ℕ) → slice_get (m ∷ u) i ≡ Some n → ⊥
     by true s h rest i e = absurd (cc)
-    by false s h rest zero e = let self : same_node n m ≡ true = subst (λ x. same_node n x ≡ true) (sym (some_is m n e)) (same_node_self n) in absurd (cc)
+    by false s h rest zero e = let self : same_node n m ≡ true = subst (λ x. same_node n x ≡ true) (sym (same_Some m n e)) (same_node_self n) in absurd (cc)
     by false s h rest (suc i) e = rest h i e
 
 -- the nodes of a table with one more
 pushed : (u : Table) (n m : Node) (i : ℕ) → slice_get (u ++ n ∷ []) i ≡ Some m → (slice_get u i ≡ Some m) ⊎ ((i ≡ length u) × (n ≡ m))
-pushed [] n m zero e = inr (refl, some_is n m e)
+pushed [] n m zero e = inr (refl, same_Some n m e)
 pushed [] n m (suc i) e = absurd (cc)
 pushed (x ∷ u) n m zero e = inl e
 pushed (x ∷ u) n m (suc i) e = up (pushed u n m i e)
@@ -274,6 +271,6 @@ base_good = record {
     once (suc (suc i)) j n e f = absurd (cc)
 
     parts : (i : ℕ) (n : Node) → slice_get base i ≡ Some n → PartsBefore n i
-    parts zero n e = subst (λ x. PartsBefore x 0) (some_is Int n e) tt
-    parts (suc zero) n e = subst (λ x. PartsBefore x 1) (some_is Truth n e) tt
+    parts zero n e = subst (λ x. PartsBefore x 0) (same_Some Int n e) tt
+    parts (suc zero) n e = subst (λ x. PartsBefore x 1) (same_Some Truth n e) tt
     parts (suc (suc i)) n e = absurd (cc)

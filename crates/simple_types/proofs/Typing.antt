@@ -12,6 +12,7 @@ use Rattle.simple_types.specs.Fault.{Fault, Wanted, Is, SomeList, SomeTree, Some
 use Rattle.simple_types.specs.Walk.{and_then, or_fault, same_type, pair_parts, list_element, tree_element, option_content, place, distinct, settle, arity, walk, walk_each, checks, parameter_name, function_name, walk_headers, walk_bodies, walk_program}
 use Rattle.simple_types.specs.Laws.{WalksAreTypings}
 use Rattle.std.specs.Option.{IsSome}
+use Rattle.std.proofs.lemmas.Option.{same_Some}
 use Rattle.simple_types.specs.Read.{fault_of, EndsWith}
 use Rattle.simple_types.specs.declared.fault.TypeFault.{TypeFault}
 use Rattle.simple_types.proofs.Same.{same_self, same_is}
@@ -46,23 +47,20 @@ or_ok None f x e = absurd (cc)
 or_is : {A : Type 0} (o : Option A) (f : Fault) (x : A) → o ≡ Some x → or_fault o f ≡ Ok x
 or_is o f x e = ap (λ q. or_fault q f) e
 
-some_is : {A : Type 0} (x y : A) → Some x ≡ Some y → x ≡ y
-some_is x y e = cc
-
 list_is : (T A : Type') → list_element T ≡ Some A → T ≡ ListOf A
-list_is (ListOf B) A e = ap ListOf (some_is B A e)
+list_is (ListOf B) A e = ap ListOf (same_Some B A e)
 list_is _ A e = absurd (cc)
 
 tree_is : (T A : Type') → tree_element T ≡ Some A → T ≡ TreeOf A
-tree_is (TreeOf B) A e = ap TreeOf (some_is B A e)
+tree_is (TreeOf B) A e = ap TreeOf (same_Some B A e)
 tree_is _ A e = absurd (cc)
 
 option_is : (T A : Type') → option_content T ≡ Some A → T ≡ OptionOf A
-option_is (OptionOf B) A e = ap OptionOf (some_is B A e)
+option_is (OptionOf B) A e = ap OptionOf (same_Some B A e)
 option_is _ A e = absurd (cc)
 
 pair_is : (T : Type') (S : Type' × Type') → pair_parts T ≡ Some S → T ≡ PairOf S.0 S.1
-pair_is (PairOf A B) S e = ap (λ (p : Type' × Type'). PairOf p.0 p.1) (some_is (A, B) S e)
+pair_is (PairOf A B) S e = ap (λ (p : Type' × Type'). PairOf p.0 p.1) (same_Some (A, B) S e)
 pair_is _ S e = absurd (cc)
 
 settle_ok : (want : Option Type') (p : ℕ) (A B : Type') → settle want p A ≡ Ok B → Meets want B × (B ≡ A)

@@ -1,5 +1,7 @@
 -- Two lists of fractions over one number, one behind the other.
 use Rattle.std.proofs.Common.{◌≡◌, ◌<◌, ◌+◌, ℕ, zero, suc, ℤ, pos, ◌*ℤ◌, List, [], ◌∷◌, ◌++◌, map, length, take, drop, refl, sym, ap, ◌∙◌, arith}
+use Rattle.std.proofs.lemmas.List.{length-map}
+use Rattle.simplex_spec.proofs.Reading.{natural-append}
 use Rattle.raml_num.specs.Sums.{NoneNegative}
 use Rattle.linear_rows.specs.Vectors.{scale}
 use Rattle.linear_rows.specs.Laws.{InProportion}
@@ -10,17 +12,9 @@ use Rattle.simplex.specs.Reading.{AreOver, frac_at}
 use Rattle.simplex_integers.specs.Denominators.{over, all_over}
 use Rattle.simplex_integers.specs.Laws.{AreNatural}
 
-pub length_map : {X Y : Type 0} (f : X → Y) (xs : List X) → length (map f xs) ≡ length xs
-length_map f [] = refl
-length_map f (x ∷ xs) = ap suc (length_map f xs)
-
 pub map_both : {X Y : Type 0} (f : X → Y) (xs ys : List X) → map f (xs ++ ys) ≡ map f xs ++ map f ys
 map_both f [] ys = refl
 map_both f (x ∷ xs) ys = ap (λ zs. f x ∷ zs) (map_both f xs ys)
-
-pub length_both : {X : Type 0} (xs ys : List X) → length (xs ++ ys) ≡ length xs + length ys
-length_both [] ys = omega arith
-length_both (x ∷ xs) ys = let e = length_both xs ys in omega (arith, e)
 
 pub take_first : {X : Type 0} (xs ys : List X) (n : ℕ) → n ≡ length xs → take n (xs ++ ys) ≡ xs
 take_first [] ys zero e = refl
@@ -57,10 +51,6 @@ length_scale : (k : ℤ) (xs : List ℤ) → length (scale k xs) ≡ length xs
 length_scale k [] = refl
 length_scale k (x ∷ xs) = ap suc (length_scale k xs)
 
-natural_both : (xs ys : List ℤ) → NoneNegative xs → NoneNegative ys → NoneNegative (xs ++ ys)
-natural_both [] ys h k = k
-natural_both (x ∷ xs) ys h k = (h.0, natural_both xs ys h.1 k)
-
 over_both : (d : ℤ) (xs ys : List ℤ) (x y : List Frac) → AreOver d xs x → AreOver d ys y → AreOver d (xs ++ ys) (x ++ y)
 over_both d [] ys [] y h k = k
 over_both d [] ys (f ∷ x) y h k = absurd (let c = h.count in omega (arith, c))
@@ -78,7 +68,7 @@ over_both d (n ∷ xs) ys (f ∷ x) y h k = more (h.each 0 (omega arith)) (over_
         by (suc i) q = h.each i (omega (arith, q))
 
 pub both_natural : (d : ℤ) (xs ys : List ℤ) (x y : List Frac) → AreNatural d xs x → AreNatural d ys y → AreNatural d (xs ++ ys) (x ++ y)
-both_natural d xs ys x y h k = record { positive = h.positive; natural = natural_both xs ys h.natural k.natural; are = over_both d xs ys x y h.are k.are }
+both_natural d xs ys x y h k = record { positive = h.positive; natural = natural-append xs ys h.natural k.natural; are = over_both d xs ys x y h.are k.are }
 
 -- numbers over l are those of both parts
 pub over_parts : (l : ℕ) (x y : List Frac) → all_over l (x ++ y) ≡ all_over l x ++ all_over l y
@@ -90,6 +80,6 @@ pub parts_are : (d : ℤ) (l : ℕ) (xs ys : List ℤ) (x y : List Frac) → len
 parts_are d l xs ys x y e h =
     let numbers = ap (map pos) (over_parts l x y) ∙ map_both pos (all_over l x) (all_over l y) in
     let count : length (scale (pos l) xs) ≡ length (scale d (map pos (all_over l x))) =
-    length_scale (pos l) xs ∙ sym e ∙ sym (length_map (over l) x) ∙ sym (length_map pos (all_over l x)) ∙ sym (length_scale d (map pos (all_over l x))) in
+    length_scale (pos l) xs ∙ sym e ∙ sym (length-map x (over l)) ∙ sym (length-map (all_over l x) pos) ∙ sym (length_scale d (map pos (all_over l x))) in
     split (scale (pos l) xs) (scale (pos l) ys) (scale d (map pos (all_over l x))) (scale d (map pos (all_over l y))) count
     (sym (scale_both (pos l) xs ys) ∙ h ∙ ap (scale d) numbers ∙ scale_both d (map pos (all_over l x)) (map pos (all_over l y)))

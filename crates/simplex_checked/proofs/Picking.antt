@@ -5,6 +5,7 @@ use Rattle.std.proofs.lemmas.Bool.Decides.{Decides-int_eq}
 use Rattle.std.specs.Prelude.{int_lt, IfSome, IfNone}
 use Rattle.std.specs.Int.{int_max}
 use Rattle.std.specs.Ordering.{int_eq}
+use Rattle.farkas_check.proofs.Walking.{earlier_or_here}
 use lib.IntN.{negsuc, *ℤ_comm}
 use Rattle.raml_num.proofs.Differences.{diffs, diff-pos, is_diff, diff_same}
 use Rattle.raml_num.proofs.Signed.{none_mul, lt_mul, lt_cancel}
@@ -176,11 +177,6 @@ begins gains most e = record {
   };
 }
 
-one_of : (k c : ℕ) → k < c + 1 → (k < c) ⊎ (k ≡ c)
-one_of k zero l = inr (omega (arith, l))
-one_of zero (suc c) l = inl (omega arith)
-one_of (suc k) (suc c) l = ⊎_elim (λ q. inl (omega (arith, q))) (λ q. inr (omega (arith, q))) (one_of k c (omega (arith, l)))
-
 positive_factor : (n : ℤ) (k : ℕ) → pos 0 <ℤ (n *ℤ pos k) → pos 0 <ℤ n
 positive_factor n k p = lt_cancel (pos 0) n k (let e = *ℤ_comm n (pos k) in omega (arith, ints))
 
@@ -230,7 +226,7 @@ module _ (gains : List Frac) (c : ℕ) (most : Frac) (found : Option ℕ) (h : I
             m = at ns c;
             is = stands;
             natural = omega (arith, ints);
-            each = λ i q. ⊎_elim (λ b. (let low = below i b in omega (arith, ints))) (λ b. subst (λ j. at ns j ≤ℤ at ns c) (sym b) (omega (arith, ints))) (one_of i c q);
+            each = λ i q. ⊎_elim (λ b. (let low = below i b in omega (arith, ints))) (λ b. subst (λ j. at ns j ≤ℤ at ns c) (sym b) (omega (arith, ints))) (earlier_or_here i c q);
             some = λ i q. subst (λ j. (j < c + 1) × (at ns j ≡ at ns c) × (pos 0 <ℤ at ns c) × ((k : ℕ) → k < j → at ns k <ℤ at ns c)) (same c i q) (omega arith, refl, positive, below);
             none = λ q. absurd (cc);
           }
@@ -242,14 +238,14 @@ module _ (gains : List Frac) (c : ℕ) (most : Frac) (found : Option ℕ) (h : I
     some = h.some;
     none = λ q.
         let r = h.none q in
-        (r.0, λ k b. ⊎_elim (r.1 k) (λ s. subst (λ j. numerator (frac_at gains j) ≤ℤ pos 0) (sym s) (subst (λ (y : Frac). numerator y ≤ℤ pos 0) here (passed_is_not x most r.0 g))) (one_of k c b));
+        (r.0, λ k b. ⊎_elim (r.1 k) (λ s. subst (λ j. numerator (frac_at gains j) ≤ℤ pos 0) (sym s) (subst (λ (y : Frac). numerator y ≤ℤ pos 0) here (passed_is_not x most r.0 g))) (earlier_or_here k c b));
     whole = λ ns d pd k.
         let r = h.whole ns d pd k in
         let stands : Stands d (at ns c) x = subst (Stands d (at ns c)) (sym here) (stands_at d ns gains c k l) in record {
           m = r.m;
           is = r.is;
           natural = r.natural;
-          each = λ i q. ⊎_elim (r.each i) (λ s. subst (λ j. at ns j ≤ℤ r.m) (sym s) (order_not d (at ns c) r.m x most pd stands r.is g)) (one_of i c q);
+          each = λ i q. ⊎_elim (r.each i) (λ s. subst (λ j. at ns j ≤ℤ r.m) (sym s) (order_not d (at ns c) r.m x most pd stands r.is g)) (earlier_or_here i c q);
           some = λ i q. let o = r.some i q in (omega (arith, o.0), o.1, o.2, o.3);
           none = r.none;
         };

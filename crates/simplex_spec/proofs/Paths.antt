@@ -1,6 +1,7 @@
 -- Courses by one rule, side by side.
 use Rattle.std.proofs.Common.{◌≡◌, refl, sym, ap, subst, ◌∙◌, ℕ, ◌<◌, ℤ, pos, ◌≤ℤ◌, ◌<ℤ◌, arith, List, [], ◌∷◌, length, Option, Some, unwrap_or}
 use Rattle.std.proofs.lemmas.Int.{ints}
+use Rattle.std.proofs.lemmas.Option.{same_Some}
 use Rattle.linear_rows.specs.Systems.{LinearSystem, IsSystem}
 use Rattle.simplex_spec.specs.Places.{at, row_at}
 use Rattle.simplex_spec.specs.Tableaux.{Tableau, opening, pivot, Exits}
@@ -8,9 +9,6 @@ use Rattle.simplex_spec.specs.Refusals.{Refused, InSearch, InExitingRow, InProdu
 use Rattle.simplex_spec.specs.Courses.{Rule, Enters, IsPivot, Leads, Course, Ends, Rises, Follows, FollowsFrom, Answers, AnswersOnce, Refuses, AtOpening, AtPivot, rule_by}
 use Rattle.simplex_spec.proofs.Ending.{Good, good_opening, good_pivot, good_course, one_row_exits}
 use Rattle.simplex_spec.specs.Laws.{OneCourse}
-
-some_is : (a b : ℕ) → Some a ≡ Some b → a ≡ b
-some_is a b e = ap (λ (o : Option ℕ). unwrap_or o 0) e
 
 low_high : (z : ℤ) → z ≤ℤ pos 0 → pos 0 <ℤ z → ⊥
 low_high z h k = omega (arith, ints)
@@ -24,7 +22,7 @@ module _ (rule : Rule) (once : AnswersOnce rule) (s : LinearSystem) where
   over_positive ps t h k = let g = good_course s ps t h k in g.sound.positive
 
   one_answer : (t : Tableau) (c e : ℕ) → pos 0 <ℤ t.over → Answers rule s t c → Answers rule s t e → c ≡ e
-  one_answer t c e p a b = some_is c e (once _ _ _ _ p a b)
+  one_answer t c e p a b = same_Some c e (once _ _ _ _ p a b)
 
   end_stops : (ps : List (ℕ × ℕ)) (t : Tableau) → Ends s ps t → Stops t
   unfolding Stops

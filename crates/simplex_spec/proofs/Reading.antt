@@ -47,7 +47,7 @@ natural-spread n [] zs h = natural-zeros n
 natural-spread n (c ∷ cs) [] h = natural-zeros n
 natural-spread n (c ∷ cs) (z ∷ zs) h = natural-plus (only n c z) (spread n cs zs) (natural-only n c z h.0) (natural-spread n cs zs h.1)
 
-natural-append : (xs ys : List ℤ) → NoneNegative xs → NoneNegative ys → NoneNegative (xs ++ ys)
+pub natural-append : (xs ys : List ℤ) → NoneNegative xs → NoneNegative ys → NoneNegative (xs ++ ys)
 natural-append [] ys h k = k
 natural-append (x ∷ xs) ys h k = (h.0, natural-append xs ys h.1 k)
 

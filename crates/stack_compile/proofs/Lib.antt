@@ -5,4 +5,4 @@ mod Walk
 pub mod Linked
 mod Computed
 mod Patch
-mod Places
+pub mod Places

@@ -23,7 +23,7 @@ width_is d (A ∷ As) = ap suc (of (sizes As d) ∙ length-map As _)
     of [] = refl
     of (ps ∷ pss) = ap suc (of pss)
 
-take_front : {X Y : Type 0} (f : X → Y) (xs ys : List X) → take (length xs) (map f (xs ++ ys)) ≡ map f xs
+pub take_front : {X Y : Type 0} (f : X → Y) (xs ys : List X) → take (length xs) (map f (xs ++ ys)) ≡ map f xs
 take_front f [] [] = refl
 take_front f [] (y ∷ ys) = refl
 take_front f (x ∷ xs) ys = ap (λ l. f x ∷ l) (take_front f xs ys)

@@ -1,7 +1,8 @@
 use Rattle.std.proofs.Common.{true, refl, sym, subst}
+use Rattle.std.proofs.lemmas.Result.{IfOk-weaker}
 use Rattle.rules_plan.specs.Read.{program_in}
 use Rattle.cert_check.specs.Checked.{Checking}
-use Rattle.constraint_gen.proofs.Whole.{if_ok, if_err}
+use Rattle.constraint_gen.proofs.Whole.{if_err}
 use Rattle.infer_spec.specs.Good.{AllLeast}
 use Rattle.infer_spec.specs.States.{certificate_of}
 use Rattle.bound_infer.specs.Keeping.{state_of, analysis_in}
@@ -59,7 +60,7 @@ returns-in-Ok-clause-least g c =
     let g' = c.systems_generate.ensures P c.ordered.ensures c.args.d one.pick in
     let cert = certificate_of c.args.d true (state_of c.in-Ok.run') in
     let certifies = c.courses_certify.ensures A g' c.requires.least_degree c.requires.most_degree cert (c.in-Ok.ensures.ends one.pick one.answers) in
-    if_ok c.ended.result _ _ (λ verified e. subst (λ (x : Checking). AllLeast P x.certificate) (sym e) certifies.least) c.ended.ensures.certificate
+    IfOk-weaker c.ended.result _ _ (λ verified e. subst (λ (x : Checking). AllLeast P x.certificate) (sym e) certifies.least) c.ended.ensures.certificate
 
 pub returns-in-Ok-clause-fault : goal.returns-in-Ok-clause-fault
 returns-in-Ok-clause-fault g c = if_err c.ended.result _ _

@@ -1,8 +1,7 @@
 use Rattle.std.proofs.Common.{◌≡◌, sym, ap, ◌∙◌, length}
-use Rattle.std.proofs.lemmas.Result.{on_ok_weaker}
+use Rattle.std.proofs.lemmas.Result.{on_ok_weaker, IfOk-weaker}
 use Rattle.annot_types.specs.Read.{blocks_of}
 use Rattle.cert_check.proofs.Going.{next_there, goes_there}
-use Rattle.constraint_gen.proofs.Whole.{if_ok}
 use Rattle.bound_infer.specs.Keeping.{first_of}
 use Rattle.bound_infer.proofs.Kept.{refused_is}
 use Rattle.bound_infer.proofs.run.current.Goals as goal
@@ -14,7 +13,7 @@ returns-clause-next c =
     let count : length kept.results ≡ length kept.functions =
     ap length (sym c.results-results.ensures.results) ∙ c.results-results.ensures.count
     ∙ sym (ap length (sym c.functions-functions.ensures.functions) ∙ c.functions-functions.ensures.count) in
-    if_ok c.current.result _ _ (λ task e. e ∙ next_there kept count (first_of c.args.d) (blocks_of run.blocks.items) run.schedule run.earlier c.requires.keeps.come) c.current.ensures.next
+    IfOk-weaker c.current.result _ _ (λ task e. e ∙ next_there kept count (first_of c.args.d) (blocks_of run.blocks.items) run.schedule run.earlier c.requires.keeps.come) c.current.ensures.next
 
 pub returns-clause-goes_on : goal.returns-clause-goes_on
 returns-clause-goes_on c =

@@ -1,4 +1,5 @@
 use Rattle.std.proofs.Common.{◌≡◌, ◌≤◌, ◌<◌, ◌+◌, ◌∙◌, ap, subst, map, arith, rules}
+use Rattle.std.proofs.lemmas.Result.{IfOk-weaker}
 use Rattle.cost_free.specs.Read.{task_of, kind_of}
 use Rattle.annot_types.specs.Holds.{budget_of}
 use Rattle.annot_types.specs.Program.{members}
@@ -12,7 +13,7 @@ use Rattle.constraint_gen.specs.Given.{all_counts, unknowns_of}
 use Rattle.constraint_gen.specs.Made.{HasRows, IsProper, JobMade, RowCause, JobCause}
 use Rattle.constraint_gen.specs.Walked.{job_in}
 use Rattle.constraint_gen.proofs.Giving.{counts_are}
-use Rattle.constraint_gen.proofs.Whole.{job_cause, if_ok, if_err}
+use Rattle.constraint_gen.proofs.Whole.{job_cause, if_err}
 use Rattle.constraint_gen.proofs.system.of_plans.Goals as goal
 
 pub of_bodies-requires-clause-counted : goal.of_bodies-requires-clause-counted
@@ -30,7 +31,7 @@ returns-in-Some-clause-made c =
     let counted : c.in-Some.count ≡ sides_count bs + all_counts (map (λ a. asks_of a.items) c.in_ok-asks.asks.items) = search rules in
     let count : c.in-Some.count ≡ unknowns j = counted ∙ ap (λ n. sides_count bs + n) (ap all_counts c.in_ok-asks.ensures ∙ counts_are bs) in
     let low : c.in-Some.count ≤ 2000 = search rules in
-    if_ok c.of_bodies.result (λ made. IsProper j weights → HasRows c.in-Some.count (rows_of c.in-Some.count (given_conditions forms unknown j)) weights made) (λ made. IsProper j weights → JobMade j weights made)
+    IfOk-weaker c.of_bodies.result (λ made. IsProper j weights → HasRows c.in-Some.count (rows_of c.in-Some.count (given_conditions forms unknown j)) weights made) (λ made. IsProper j weights → JobMade j weights made)
     (λ made h proper. record { few = omega (arith, count, low); has = subst (λ n. HasRows n (rows_of n (given_conditions forms unknown j)) weights made) count (h proper) })
     c.of_bodies.ensures.made
 
@@ -58,4 +59,4 @@ returns-in-Some-clause-unknowns c =
     let bs = map body_of c.args.planned.now in
     let counted : c.in-Some.count ≡ sides_count bs + all_counts (map (λ a. asks_of a.items) c.in_ok-asks.asks.items) = search rules in
     let count : c.in-Some.count ≡ unknowns_of bs = counted ∙ ap (λ n. sides_count bs + n) (ap all_counts c.in_ok-asks.ensures ∙ counts_are bs) in
-    if_ok c.of_bodies.result _ _ (λ made e. e ∙ count) c.of_bodies.ensures.unknowns
+    IfOk-weaker c.of_bodies.result _ _ (λ made e. e ∙ count) c.of_bodies.ensures.unknowns

@@ -2,6 +2,7 @@ use Rattle.std.proofs.Common.{◌≡◌, ◌<◌, ◌^◌, ℤ, pos, ◌≤ℤ�
 use Rattle.std.specs.Prelude.{IfOk, IfErr}
 use Rattle.std.specs.Int.{w128}
 use Rattle.std.proofs.lemmas.Int.{ints, to_z-of_z}
+use Rattle.std.proofs.lemmas.Result.{IfOk-weaker}
 use Rattle.cost_free.specs.Read.{task_of}
 use Rattle.annot_types.specs.Holds.{budget_of}
 use Rattle.annot_types.specs.Program.{members}
@@ -9,7 +10,7 @@ use Rattle.annot_types.specs.System.{sig_weights}
 use Rattle.rules_plan.specs.Read.{program_in, body_of}
 use Rattle.constraint_gen.specs.Made.{IsProper, JobMade, JobCause}
 use Rattle.constraint_gen.specs.Walked.{job_in}
-use Rattle.constraint_gen.proofs.Whole.{unknowns_are, rows_are, system_is, is_cause, proper_is, if_ok, if_err}
+use Rattle.constraint_gen.proofs.Whole.{unknowns_are, rows_are, system_is, is_cause, proper_is, if_err}
 use Rattle.constraint_gen.proofs.system.rows_by.Goals as goal
 
 small : (z : ℤ) → FitsSigned w128 z → pos 0 ≤ℤ z → unsigned_abs z < 2 ^ 127
@@ -26,7 +27,7 @@ returns-clause-made c =
     let within = c.requires.indices in
     let low = small c.args.scale c.ranges.scale c.requires.natural in
     let scale_is : c.unsigned_abs-prices.result ≡ scale = simp (to_z-of_z w128 _ c.ranges.scale) at c.unsigned_abs-prices.ensures.value in
-    if_ok c.of_plans.result (λ made. IsProper (job_in P d c.args.earlier.now bs task scale) weights → JobMade (job_in P d c.args.earlier.now bs task scale) weights made) _
+    IfOk-weaker c.of_plans.result (λ made. IsProper (job_in P d c.args.earlier.now bs task scale) weights → JobMade (job_in P d c.args.earlier.now bs task scale) weights made) _
     (λ made job blocks remembers bodies is. let h = job (proper_is P d blocks c.args.earlier.now task scale bs bodies is low) in
     record {
       is = system_is c.walks_without_cost.ensures P d blocks c.args.earlier.now remembers task scale bs bodies is made h.has;

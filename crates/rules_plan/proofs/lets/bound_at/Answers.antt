@@ -1,10 +1,11 @@
 use Rattle.std.proofs.Common.{◌≡◌, ◌∙◌, ◌-◌, ap, map, drop}
 use Rattle.std.proofs.lemmas.Result.{IfOk-weaker}
 use Rattle.std.specs.Rc.{rc_value}
+use Rattle.rules_walk.proofs.Shared.{of_lets}
 use Rattle.rules_spec.specs.Plan as p
 use Rattle.rules_walk.specs.Read.{plan_of, plans}
 use Rattle.rules_plan.specs.Wide.{at_budget, parts_at}
-use Rattle.rules_plan.proofs.Rcs.{of_lets, tail_is}
+use Rattle.rules_plan.proofs.Rcs.{tail_is}
 use Rattle.rules_plan.proofs.lets.bound_at.Goals as goal
 
 pub returns : goal.returns
