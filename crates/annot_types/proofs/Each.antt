@@ -1,26 +1,30 @@
 -- Blocks in their places, one by one.
-use Rattle.std.proofs.Common.{◌≡◌, ◌<ℤ◌, ℕ, zero, suc, ◌+◌, pos, List, [], ◌∷◌, slice_get, Some, None, arith, subst}
+use Rattle.std.proofs.Common.{◌≡◌, ◌<ℤ◌, ℕ, zero, suc, ◌+◌, pos, List, [], ◌∷◌, slice_get, Some, None, refl, arith, subst}
 use Rattle.std.proofs.lemmas.Int.{ints}
+use Rattle.std.proofs.lemmas.Bool.{ltb-true}
+use Rattle.std.proofs.lemmas.Option.{same_Some}
 use Rattle.cost_free.specs.declared.task.Meter.{Meter}
 use Rattle.cost_free.specs.declared.task.Meter.TheVariants.{Ticks, Cells, Work}
+use Rattle.cost_free.specs.Task.{Kind}
+use Rattle.normal_spec.specs.Norm.{NormFun}
+use Rattle.normal_spec.specs.Context.{types}
 use Rattle.annot_types.specs.Program.{Program}
-use Rattle.annot_types.specs.Certificate.{Rise, RiseFrom, Block, Certificate}
+use Rattle.annot_types.specs.Certificate.{Rise, RiseFrom, Entries, Hint, Block, Certificate, Annotates, annotation}
+use Rattle.annot_types.specs.Rules.{Ann}
+use Rattle.annot_types.specs.Holds.{setting, mode_of, budget_of, ReachesTarget, Holds}
 use Rattle.annot_types.specs.Held.{IsInPlace, scale_of}
-use Rattle.annot_types.specs.Example.{certificate}
+use Rattle.annot_types.specs.Example.{program, block, certificate}
 
 -- each block of a list is in its place, the first at this place
 abbrev pub EachInPlace : Program → Certificate → ℕ → List Block → Type 0
 EachInPlace P c place [] = Unit {0}
 EachInPlace P c place (b ∷ bs) = IsInPlace P c place b × EachInPlace P c (suc place) bs
 
-pub some_is : {A : Type 0} (x y : A) → Some x ≡ Some y → x ≡ y
-some_is x y e = cc
-
 in_place : (P : Program) (c : Certificate) (first : ℕ) (bs : List Block) → EachInPlace P c first bs → (k : ℕ) (block : Block) → slice_get bs k ≡ Some block →
     IsInPlace P c (first + k) block
 in_place P c first [] each k block there = absurd (cc)
 in_place P c first (b ∷ bs) each zero block there =
-    subst (λ n. IsInPlace P c n block) (omega arith) (subst (IsInPlace P c first) (some_is b block there) each.0)
+    subst (λ n. IsInPlace P c n block) (omega arith) (subst (IsInPlace P c first) (same_Some b block there) each.0)
 in_place P c first (b ∷ bs) each (suc k) block there =
     let moved : suc first + k ≡ first + suc k = omega arith in subst (λ n. IsInPlace P c n block) moved (in_place P c (suc first) bs each.1 k block there)
 
@@ -50,3 +54,15 @@ pub work_positive : (blocks : List Block) (m : Meter) → pos 0 <ℤ scale_of (c
 work_positive blocks Ticks = is_positive 0
 work_positive blocks Cells = is_positive 0
 work_positive blocks Work = is_positive 0
+
+-- a block of the one function of a program holds, where its body fits the rules and its target is reached
+pub one_holds : (fun : NormFun) (d scale : ℕ) (earlier : List Block) (kind : Kind) (args result : Entries) (hints : List Hint) →
+    Annotates (types fun.params) (budget_of d kind) args → Annotates (fun.result ∷ []) (budget_of d kind) result →
+    Ann (setting (program fun) d earlier scale (block kind args result hints) 1) (mode_of kind) (budget_of d kind) fun.params (annotation args) fun.body fun.result (annotation result) hints [] →
+    ReachesTarget (program fun) d (block kind args result hints) 1 kind → Holds (program fun) d earlier scale (block kind args result hints) 1
+one_holds fun d scale earlier kind args result hints at_args at_result fits reaches = record {
+  positive = ltb-true 0 1 refl;
+  solved = tt;
+  functions = (record { fun = fun; there = refl; args = at_args; result = at_result; fits = fits }, tt);
+  reaches = reaches;
+}

@@ -4,6 +4,7 @@ use Rattle.std.proofs.Common.{arith, ap, sym, ◌∙◌, subst}
 use Rattle.std.specs.Option.{option_map}
 use Rattle.std.proofs.lemmas.Int.{ints}
 use Rattle.std.proofs.Math.IntN.{*ℤ_comm}
+use Rattle.std.proofs.lemmas.Bool.{false_from_ne_true}
 use Rattle.raml_num.proofs.Differences.{mul_assoc}
 use Rattle.cost_free.specs.declared.task.Meter.{Meter}
 use Rattle.cost_free.specs.declared.task.Meter.TheVariants.{Ticks, Cells, Work}
@@ -173,15 +174,14 @@ itself : (P : Program) (m : Mode) (b : Block) → BlockTimes 1 P m b b
 itself P m b = record { task = refl; free = λ budget free f. refl; cost = λ other e on f. sym (option_once (sig_in P b f)) }
 
 pub not_true : (b : Bool) → (b ≡ true → ⊥) → b ≡ false
-not_true true h = absurd (h refl)
-not_true false h = refl
+not_true = false_from_ne_true
 
 other_kept : (u t : ℕ) (P : Program) (meter other : Meter) → same_meter meter other ≡ false → (b : Block) (c : Bool) → is_for_meter meter b.task.kind ≡ c →
     BlockTimes 1 P (With other) (raised other t b) (raised other t (raised meter u b))
 other_kept u t P meter other differ b false e =
     subst (λ x. BlockTimes 1 P (With other) (raised other t b) (raised other t x)) (sym (off meter u b e)) (itself P (With other) (raised other t b))
 other_kept u t P meter other differ b true e =
-    let no : is_for_meter other b.task.kind ≡ false = not_true (is_for_meter other b.task.kind) (not_both meter other b.task.kind differ e) in
+    let no : is_for_meter other b.task.kind ≡ false = false_from_ne_true (is_for_meter other b.task.kind) (not_both meter other b.task.kind differ e) in
     subst (λ x. BlockTimes 1 P (With other) x (raised other t (raised meter u b))) (sym (off other t b no))
     (subst (BlockTimes 1 P (With other) b) (sym (ap (raised other t) (on meter u b e) ∙ off other t (times_block u b) no))
     (record {
@@ -197,7 +197,7 @@ all_other_kept u t P meter other differ (b ∷ bs) = (other_kept u t P meter oth
 
 -- a block with its numbers as they are
 
-hint_once : (h : Hint) → times_hint 1 h ≡ h
+pub hint_once : (h : Hint) → times_hint 1 h ≡ h
 hint_once (Let rs) = ap Let (list rs)
   where
     list : (rs : List Entries) → map (times 1) rs ≡ rs
@@ -206,15 +206,15 @@ hint_once (Let rs) = ap Let (list rs)
 hint_once (Share p) = ap Share (times_once p)
 hint_once (Call ms) = ap Call (times_once ms)
 
-hints_once : (hs : List Hint) → map (times_hint 1) hs ≡ hs
+pub hints_once : (hs : List Hint) → map (times_hint 1) hs ≡ hs
 hints_once [] = refl
 hints_once (h ∷ hs) = λ i. hint_once h i ∷ hints_once hs i
 
-all_hints_once : (hss : List (List Hint)) → map (map (times_hint 1)) hss ≡ hss
+pub all_hints_once : (hss : List (List Hint)) → map (map (times_hint 1)) hss ≡ hss
 all_hints_once [] = refl
 all_hints_once (hs ∷ hss) = λ i. hints_once hs i ∷ all_hints_once hss i
 
-sigs_once : (ss : List Sig) → map (times_sig 1) ss ≡ ss
+pub sigs_once : (ss : List Sig) → map (times_sig 1) ss ≡ ss
 sigs_once [] = refl
 sigs_once (s ∷ ss) = λ i. sig_once s i ∷ sigs_once ss i
 

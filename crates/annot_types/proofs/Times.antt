@@ -4,6 +4,7 @@ use Rattle.std.proofs.Common.{◌∷◌, ◌++◌, map, slice_get, Option, None,
 use Rattle.std.specs.Option.{option_map, option_to_list}
 use Rattle.std.proofs.Math.Nat.{mul-le-mul_left}
 use Rattle.std.proofs.lemmas.Int.{unsigned_abs-mul}
+use Rattle.std.proofs.lemmas.Option.{same_Some}
 use Rattle.raml_syntax.specs.Tree.{Type'}
 use Rattle.base_poly.specs.Plain.{Plain, degrees}
 use Rattle.base_poly.specs.Base.{total}
@@ -79,7 +80,7 @@ or_else_times : (u : ℕ) (a b : Option Sig) → or_else (option_map (times_sig 
 or_else_times u None b = refl
 or_else_times u (Some s) b = refl
 
-cost_times : (u : ℕ) (P : Program) (meter : Meter) (bs cs : List Block) → BlocksTimes u P (With meter) bs cs → (f : ℕ) →
+pub cost_times : (u : ℕ) (P : Program) (meter : Meter) (bs cs : List Block) → BlocksTimes u P (With meter) bs cs → (f : ℕ) →
     cost_sig P meter cs f ≡ option_map (times_sig u) (cost_sig P meter bs f)
 cost_times u P meter [] [] h f = refl
 cost_times u P meter [] (c ∷ cs) h f = absurd h
@@ -98,13 +99,10 @@ pub record Found (u : ℕ) (P : Program) (m : Mode) (cs : List Block) (k : ℕ) 
   pub there : slice_get cs k ≡ Some block
   pub times : BlockTimes u P m b block
 
-some_is : {A : Type 0} (x y : A) → Some x ≡ Some y → x ≡ y
-some_is x y e = cc
-
 found : (u : ℕ) (P : Program) (m : Mode) (bs cs : List Block) → BlocksTimes u P m bs cs → (k : ℕ) (b : Block) → slice_get bs k ≡ Some b → Found u P m cs k b
 found u P m [] cs h k b there = absurd (cc)
 found u P m (x ∷ bs) [] h k b there = absurd h
-found u P m (x ∷ bs) (c ∷ cs) h zero b there = subst (Found u P m (c ∷ cs) 0) (some_is x b there) (record { block = c; there = refl; times = h.0 })
+found u P m (x ∷ bs) (c ∷ cs) h zero b there = subst (Found u P m (c ∷ cs) 0) (same_Some x b there) (record { block = c; there = refl; times = h.0 })
 found u P m (x ∷ bs) (c ∷ cs) h (suc k) b there = let f = found u P m bs cs h.1 k b there in record { block = f.block; there = f.there; times = f.times }
 
 -- a multiple that is taken u times as often

@@ -9,11 +9,13 @@ pub fn multiples_hold()
 {}
 
 /// What holds still holds where the blocks of a meter and its scale are raised.
+#[tactic(auto, using(crate::proofs::Multiples::raising_keeps))]
 pub fn raising_keeps()
     ensures { RaisingKeeps }
 {}
 
 /// Each solved block of a certificate that is held holds over the blocks before it.
+#[tactic(auto, using(crate::proofs::Multiples::solved_blocks_hold))]
 pub fn solved_blocks_hold()
     ensures { SolvedBlocksHold }
 {}
@@ -24,6 +26,7 @@ pub fn small_certificates()
 {}
 
 /// The systems of small tasks are as they were worked out.
+#[tactic(auto, using(crate::proofs::Systems::systems_hold))]
 pub fn small_systems()
     ensures { SystemExamples }
 {}

@@ -4,6 +4,7 @@ use Rattle.std.specs.declared.cmp.Ordering.{Ordering}
 use Rattle.std.specs.declared.cmp.Ordering.TheVariants.{Less, Greater}
 use Rattle.std.specs.Ordering.{ordering_then, nat_cmp}
 use Rattle.std.proofs.lemmas.Bool.Decides.{nat_tests}
+use Rattle.std.proofs.lemmas.Bool.{leb-true, le-leb}
 use Rattle.base_poly.specs.Plain.{Plain, degrees}
 use Rattle.base_poly.specs.Indices.{Ascends, tuple_order, each_in_turn, index_list}
 use Rattle.base_poly.proofs.Among.{Among, contains_among, among_contains, kept_among, among_kept, ascends_kept, before_one}
@@ -22,12 +23,6 @@ above m n h = grind (arith, nat_tests, h)
 
 no_lower : (m n : ℕ) (o : Ordering) → ordering_then (nat_cmp m n) o ≡ Less → m ≤ n
 no_lower m n o h = ⊎_elim (λ le. le) (λ gt. absurd (apart (sym h ∙ ap (λ p. ordering_then p o) (above m n gt)))) (either m n)
-
-is_low : (m b : ℕ) → nat_le m b ≡ true → m ≤ b
-is_low m b h = grind (arith, nat_tests, h)
-
-low_is : (m b : ℕ) → m ≤ b → nat_le m b ≡ true
-low_is m b h = grind (arith, nat_tests, h)
 
 high_is : (m n b : ℕ) → nat_le m b ≡ false → m ≤ n → nat_le n b ≡ false
 high_is m n b h le = grind (arith, nat_tests, h, le)
@@ -64,8 +59,8 @@ lower_stand_first As b d h =
     (λ t m.
     let r = among_kept low t (index_list As d) m in
     let f = (all.exactly t).0 (among_contains t (index_list As d) r.0) in
-    contains_among t (index_list As b) ((some.exactly t).1 (f.0, is_low (degrees t) b r.1)))
+    contains_among t (index_list As b) ((some.exactly t).1 (f.0, leb-true (degrees t) b r.1)))
     (λ t m.
     let f = (some.exactly t).0 (among_contains t (index_list As b) m) in
-    kept_among low t (index_list As d) (low_is (degrees t) b f.1) (contains_among t (index_list As d) ((all.exactly t).1 (f.0, (let g = f.1 in omega (arith, g, h)))))) in
+    kept_among low t (index_list As d) (le-leb (degrees t) b f.1) (contains_among t (index_list As d) ((all.exactly t).1 (f.0, (let g = f.1 in omega (arith, g, h)))))) in
     (filter (λ x. not (low x)) (index_list As d), whole ∙ ap (λ l. l ++ filter (λ x. not (low x)) (index_list As d)) same)

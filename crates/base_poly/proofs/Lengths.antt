@@ -3,13 +3,13 @@ use Rattle.std.proofs.Common.{◌≡◌, ◌≤◌, ◌<◌, ℕ, zero, suc, ◌
 use Rattle.std.specs.List.{range_with_len}
 use Rattle.std.proofs.lemmas.List.{length-map}
 use Rattle.std.proofs.lemmas.List.FromFn.{length-range_with_len}
+use Rattle.std.proofs.lemmas.Bool.{le-leb}
 use Rattle.raml_syntax.specs.declared.ty.Ty.{Ty}
 use Rattle.raml_syntax.specs.Tree.{Type'}
 use Rattle.base_poly.specs.Plain.{Plain, Unit', many, deg, degrees}
 use Rattle.base_poly.specs.Indices.{tuples_led, lists, indices_up_to, tuples_up_to}
 use Rattle.base_poly.specs.Read.{context_of}
 use Rattle.base_poly.specs.Sizes.{sums_behind, list_sums}
-use Rattle.base_poly.proofs.Low.{low_is}
 use Rattle.base_poly.proofs.Sized.{list_indices_sized}
 
 -- one more of a range
@@ -52,7 +52,7 @@ range_ended found k n h done =
 one_behind : (d s n : ℕ) → s + n ≤ d → sums_behind 1 d (range_with_len s n) ≡ range_with_len (s + 1) n
 one_behind d s zero h = refl
 one_behind d s (suc n) h =
-    (λ i. cond (low_is (1 + s) d (omega (arith, h)) i) ((1 + s) ∷ one_behind d (s + 1) n (omega (arith, h)) i) (one_behind d (s + 1) n (omega (arith, h)) i))
+    (λ i. cond (le-leb (1 + s) d (omega (arith, h)) i) ((1 + s) ∷ one_behind d (s + 1) n (omega (arith, h)) i) (one_behind d (s + 1) n (omega (arith, h)) i))
     ∙ ap (λ k. k ∷ range_with_len (s + 1 + 1) n) next
   where
     next : 1 + s ≡ s + 1

@@ -14,7 +14,6 @@ pub mod Low
 pub mod Sized
 pub mod Lengths
 pub mod Capped
-pub mod Computed
 pub mod Bounded
 pub mod Least
 pub mod Behind

@@ -1,9 +1,9 @@
 -- Of what there is up to a degree, what there is up to a lower one.
-use Rattle.std.proofs.Common.{◌≡◌, ℕ, ◌≤◌, true, nat_le, List, filter, ap, ◌∙◌, sym, subst, arith}
+use Rattle.std.proofs.Common.{◌≡◌, ℕ, ◌≤◌, nat_le, true, List, filter, ap, ◌∙◌, sym, subst, arith}
 use Rattle.std.specs.declared.cmp.Ordering.{Ordering}
 use Rattle.std.specs.declared.cmp.Ordering.TheVariants.{Less, Greater}
 use Rattle.std.specs.Ordering.{ordering_reverse}
-use Rattle.std.proofs.lemmas.Bool.Decides.{nat_tests}
+use Rattle.std.proofs.lemmas.Bool.{leb-true, le-leb}
 use Rattle.raml_syntax.specs.Tree.{Type', ListOf}
 use Rattle.base_poly.specs.Plain.{Plain, many, deg, degrees, order}
 use Rattle.base_poly.specs.Indices.{IsIndex, Ascends, each_in_turn, lists, indices_up_to, tuples_up_to}
@@ -11,6 +11,9 @@ use Rattle.base_poly.specs.Total.{order_many, order_total, entries_of_many}
 use Rattle.base_poly.proofs.Among.{Among, among_kept, kept_among, ascends_kept}
 use Rattle.base_poly.proofs.Exact.{sound, whole, sound_lists, whole_lists, sound_tuples, whole_tuples, lists_ascend, indices_ascend, tuples_ascend}
 use Rattle.base_poly.proofs.Only.{one_order}
+
+pub is_low : (n k : ℕ) → nat_le n k ≡ true → n ≤ k
+is_low = leb-true
 
 apart : Less ≡ Greater → ⊥
 apart e = cc
@@ -21,19 +24,13 @@ never_order x y h g = apart (sym h ∙ order_total.antisymm x y ∙ ap ordering_
 pub never_turn : (x y : List Plain) → each_in_turn x y ≡ Less → each_in_turn y x ≡ Less → ⊥
 never_turn x y h g = never_order (many x) (many y) (order_many x y ∙ h) (order_many y x ∙ g)
 
-pub is_low : (n k : ℕ) → nat_le n k ≡ true → n ≤ k
-is_low n k h = grind (arith, nat_tests, h)
-
-pub low_is : (n k : ℕ) → n ≤ k → nat_le n k ≡ true
-low_is n k h = grind (arith, nat_tests, h)
-
 module _ {X : Type 0} (by : X → X → Ordering) (never : (x y : X) → by x y ≡ Less → by y x ≡ Less → ⊥) (size : X → ℕ) where
   low_of : (k : ℕ) (all some : List X) → Ascends by all → Ascends by some → ((x : X) → Among x some → size x ≤ k) → ((x : X) → Among x some → Among x all) → ((x : X) → Among x all → size x ≤ k → Among x some) →
       filter (λ x. nat_le (size x) k) all ≡ some
   low_of k all some up up_some low there back =
       one_order by never (filter (λ x. nat_le (size x) k) all) some (ascends_kept by (λ x. nat_le (size x) k) all up) up_some
-      (λ x m. let p = among_kept (λ x. nat_le (size x) k) x all m in back x p.0 (is_low (size x) k p.1))
-      (λ x m. kept_among (λ x. nat_le (size x) k) x all (low_is (size x) k (low x m)) (there x m))
+      (λ x m. let p = among_kept (λ x. nat_le (size x) k) x all m in back x p.0 (leb-true (size x) k p.1))
+      (λ x m. kept_among (λ x. nat_le (size x) k) x all (le-leb (size x) k (low x m)) (there x m))
 
 pub low_indices : (A : Type') (k d : ℕ) → k ≤ d → filter (λ i. nat_le (deg i) k) (indices_up_to A d) ≡ indices_up_to A k
 low_indices A k d h =

@@ -3,6 +3,7 @@ use Rattle.std.proofs.Common.{◌≡◌, ◌≤◌, ◌<◌, ℕ, zero, suc, ◌
 use Rattle.std.proofs.lemmas.List.{length-map, map-append}
 use Rattle.std.proofs.lemmas.Simd.{map-map}
 use Rattle.std.proofs.lemmas.Bool.Decides.{nat_tests}
+use Rattle.std.proofs.lemmas.Bool.{le-leb}
 use Rattle.raml_syntax.specs.Tree.{Type'}
 use Rattle.base_poly.specs.Plain.{Plain, Pair, OneEntry, many, deg, degrees}
 use Rattle.base_poly.specs.Indices.{tuples_led, pairs_led, lists, options, indices_up_to, tuples_up_to, zero_of}
@@ -10,7 +11,7 @@ use Rattle.base_poly.specs.Sizes.{sums_behind, all_sums, list_sums}
 use Rattle.base_poly.proofs.Among.{Among}
 use Rattle.base_poly.proofs.Exact.{sound, whole}
 use Rattle.base_poly.proofs.Longer.{zero_is_index, zero_degree, some_list, joined, longer, enough_entries, lists_step}
-use Rattle.base_poly.proofs.Low.{low_is, low_indices, low_lists, low_tuples}
+use Rattle.base_poly.proofs.Low.{low_indices, low_lists, low_tuples}
 
 -- Kept items
 
@@ -183,7 +184,7 @@ one_within first d others k found old h low done =
     let c = ap length done in
     let f = ap (λ l. length (sums_behind first d l)) (drop-cons others k 0 h) in
     let g : length (sums_behind first d (get_or others k 0 ∷ drop (suc k) others)) ≡ suc (length (sums_behind first d (drop (suc k) others))) =
-    λ i. length (cond (low_is (first + get_or others k 0) d low i) ((first + get_or others k 0) ∷ sums_behind first d (drop (suc k) others)) (sums_behind first d (drop (suc k) others))) in
+    λ i. length (cond (le-leb (first + get_or others k 0) d low i) ((first + get_or others k 0) ∷ sums_behind first d (drop (suc k) others)) (sums_behind first d (drop (suc k) others))) in
     omega (arith, a, b, c, f, g)
 
 pub all_within : (more d : ℕ) (firsts others : List ℕ) (k first : ℕ) (found old : List ℕ) → k < length firsts → first ≡ get_or firsts k 0 →

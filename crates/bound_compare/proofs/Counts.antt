@@ -1,10 +1,10 @@
 -- Numbers of entries, and how small what is made of them is.
-use Rattle.std.proofs.Common.{◌≡◌, ◌≤◌, ◌<◌, ◌+◌, ◌*◌, ◌/◌, ◌-◌, ◌^◌, ℕ, zero, suc, ℤ, pos, negsuc, ◌*ℤ◌, List, [], ◌∷◌, ◌++◌, flat_map, take, drop, drop-cons, add-one, length, get_or, All, refl, sym, ap, ◌∙◌, subst, arith}
+use Rattle.std.proofs.Common.{◌≡◌, ◌≤◌, ◌<◌, ◌+◌, ◌*◌, ◌/◌, ◌-◌, ◌^◌, ℕ, zero, suc, ℤ, pos, ◌*ℤ◌, List, [], ◌∷◌, ◌++◌, flat_map, take, drop, drop-cons, add-one, length, get_or, All, refl, sym, ap, ◌∙◌, subst, arith}
 use Rattle.std.specs.Prelude.{unsigned_abs, FitsSigned}
 use Rattle.std.specs.Int.{w128}
 use Rattle.std.proofs.Math.IntN.{neg_ℤ}
 use Rattle.std.proofs.Math.Nat.{mul-le-mul_left, mul-le-mul_right, mul-div_cancel_left, div-div-eq-div-mul, div-le_self}
-use Rattle.std.proofs.lemmas.Int.{fits_signed_from_abs}
+use Rattle.std.proofs.lemmas.Int.{fits_signed_from_abs, unsigned_abs-mul}
 use Rattle.std.proofs.lemmas.List.{take_all}
 use Rattle.std.proofs.lemmas.List.Elements.{All-nil, All-cons}
 use Rattle.base_poly.specs.declared.index.Index.{Index}
@@ -31,14 +31,8 @@ size_negated : (m : ℕ) → unsigned_abs (neg_ℤ (pos m)) ≡ m
 size_negated zero = refl
 size_negated (suc m) = refl
 
-sizes : (a b : ℤ) → unsigned_abs (a *ℤ b) ≡ unsigned_abs a * unsigned_abs b
-sizes (pos m) (pos n) = refl
-sizes (pos m) (negsuc n) = size_negated (m * suc n)
-sizes (negsuc m) (pos n) = size_negated (suc m * n)
-sizes (negsuc m) (negsuc n) = refl
-
 pub product_fits : (a b : ℤ) → unsigned_abs a ≤ 24 → unsigned_abs b ≤ 24 → FitsSigned w128 (a *ℤ b)
-product_fits a b f g = fits_signed_from_abs w128 (a *ℤ b) (subst (λ n. n < 2 ^ 127) (sym (sizes a b)) (small (unsigned_abs a) (unsigned_abs b) f g))
+product_fits a b f g = fits_signed_from_abs w128 (a *ℤ b) (subst (λ n. n < 2 ^ 127) (sym (unsigned_abs-mul a b)) (small (unsigned_abs a) (unsigned_abs b) f g))
   where
     small : (m n : ℕ) → m ≤ 24 → n ≤ 24 → m * n < 2 ^ 127
     small m n f g = let most = mul-le-mul_left m g in let more = mul-le-mul_right 24 f in omega (arith, most, more)
@@ -133,7 +127,7 @@ IsWithin n p = unsigned_abs p.1 ≤ n
 
 led_within : (a b : ℕ) (f : ℕ × ℤ) (ps : Powers) → unsigned_abs f.1 ≤ a → Each (IsWithin b) ps → Each (IsWithin (a * b)) (led ps f)
 led_within a b f [] h g = tt
-led_within a b f (p ∷ ps) h g = (subst (λ n. n ≤ a * b) (sym (sizes f.1 p.1)) (product (unsigned_abs f.1) (unsigned_abs p.1) a b h g.0), led_within a b f ps h g.1)
+led_within a b f (p ∷ ps) h g = (subst (λ n. n ≤ a * b) (sym (unsigned_abs-mul f.1 p.1)) (product (unsigned_abs f.1) (unsigned_abs p.1) a b h g.0), led_within a b f ps h g.1)
   where
     product : (m n a b : ℕ) → m ≤ a → n ≤ b → m * n ≤ a * b
     product m n a b f g = let most = mul-le-mul_left m g in let more = mul-le-mul_right b f in omega (arith, most, more)

@@ -1,11 +1,11 @@
 -- The tests of a comparison decide what it defines.
-use Rattle.std.proofs.Common.{◌≡◌, ◌≤◌, ◌*◌, ℕ, Bool, true, false, ◌&&◌, cond, Some, List, [], ◌∷◌, refl, sym, subst, arith, unwrap_or}
+use Rattle.std.proofs.Common.{◌≡◌, ◌≤◌, ◌*◌, ℕ, Bool, true, false, cond, Some, List, [], ◌∷◌, refl, sym, subst, arith, unwrap_or}
 use Rattle.std.specs.Prelude.{nat_le}
 use Rattle.std.specs.Bool.{Decides}
 use Rattle.std.specs.List.{IsDistinct}
 use Rattle.std.specs.Map.{keys_of}
 use Rattle.std.proofs.lemmas.Map.Keys.{IsDistinct-tail}
-use Rattle.std.proofs.lemmas.Bool.Decides.{nat_tests}
+use Rattle.std.proofs.lemmas.Bool.{and_from, and_parts, leb-true, le-leb}
 use Rattle.base_poly.specs.Plain.{Plain, alike}
 use Rattle.base_poly.specs.Poly.{Term, den_of, terms_of, IsPoly}
 use Rattle.base_poly.specs.declared.tuple.Poly.{Poly}
@@ -17,26 +17,13 @@ use Rattle.bound_compare.specs.declared.relation.Relation.{Relation}
 use Rattle.bound_compare.specs.declared.relation.Relation.TheVariants.{Equal, Below, Above, Mixed}
 use Rattle.bound_compare.proofs.Numbers.{same_keys, term_at_head, others_at_most}
 
-both : (a b : Bool) → a ≡ true → b ≡ true → (a && b) ≡ true
-both a b p q = cc
-
-parts : (a b : Bool) → (a && b) ≡ true → (a ≡ true) × (b ≡ true)
-parts true b h = (refl, h)
-parts false b h = cc
-
-below : (m n : ℕ) → nat_le m n ≡ true → m ≤ n
-below m n h = grind (arith, nat_tests)
-
-tested : (m n : ℕ) → m ≤ n → nat_le m n ≡ true
-tested m n h = grind (arith, nat_tests)
-
 module _ (d : ℕ) (us : List Term) (e : ℕ) where
   -- the test holds of each term, and so of each tuple's number
   from_test : (ts : List Term) → all_at_most ts d us e ≡ true → (t : List Plain) → number_at t ts * e ≤ number_at t us * d
   from_test [] h t = omega arith
   from_test (x ∷ ts) h t =
-      let now = parts (nat_le (x.1 * e) (number_at x.0 us * d)) (all_at_most ts d us e) h in
-      at (below (x.1 * e) (number_at x.0 us * d) now.0) (from_test ts now.1 t) (alike t x.0) refl
+      let now = and_parts (nat_le (x.1 * e) (number_at x.0 us * d)) (all_at_most ts d us e) h in
+      at (leb-true (x.1 * e) (number_at x.0 us * d) now.0) (from_test ts now.1 t) (alike t x.0) refl
     where
       at : x.1 * e ≤ number_at x.0 us * d → number_at t ts * e ≤ number_at t us * d → (b : Bool) → alike t x.0 ≡ b → unwrap_or (cond b (Some x.1) (term_at t ts)) 0 * e ≤ number_at t us * d
       at now more true q = subst (λ k. x.1 * e ≤ number_at k us * d) (sym (alike_is t x.0 q)) now
@@ -46,8 +33,8 @@ module _ (d : ℕ) (us : List Term) (e : ℕ) where
   to_test : (ts : List Term) → IsDistinct alike (keys_of ts) → ((t : List Plain) → number_at t ts * e ≤ number_at t us * d) → all_at_most ts d us e ≡ true
   to_test [] apart h = refl
   to_test (x ∷ ts) apart h =
-      both (nat_le (x.1 * e) (number_at x.0 us * d)) (all_at_most ts d us e)
-      (tested (x.1 * e) (number_at x.0 us * d) (subst (λ n. n * e ≤ number_at x.0 us * d) (term_at_head x ts) (h x.0)))
+      and_from (nat_le (x.1 * e) (number_at x.0 us * d)) (all_at_most ts d us e)
+      (le-leb (x.1 * e) (number_at x.0 us * d) (subst (λ n. n * e ≤ number_at x.0 us * d) (term_at_head x ts) (h x.0)))
       (to_test ts (IsDistinct-tail alike x.0 (keys_of ts) apart) (others_at_most x ts (λ t. number_at t us * d) e apart h))
 
 pub at_most_decided : (p q : Sum) → IsDistinct alike (keys_of p.terms) → Decides (all_at_most p.terms p.den q.terms q.den) (AtMost p q)

@@ -1,11 +1,12 @@
 -- The powers of a polynomial are worth what it is.
-use Rattle.std.proofs.Common.{◌≡◌, ◌≤◌, ◌+◌, ◌*◌, ◌/◌, ℕ, zero, suc, ℤ, pos, negsuc, ◌-ℤ◌, ◌*ℤ◌, Bool, true, false, ◌&&◌, cond, List, [], ◌∷◌, ◌++◌, map, flat_map, length, replicate, All, refl, sym, ap, ◌∙◌, subst, arith}
+use Rattle.std.proofs.Common.{◌≡◌, ◌≤◌, ◌+◌, ◌*◌, ◌/◌, ℕ, zero, suc, ℤ, pos, negsuc, ◌-ℤ◌, ◌*ℤ◌, Bool, true, false, cond, List, [], ◌∷◌, ◌++◌, map, flat_map, length, replicate, All, refl, sym, ap, ◌∙◌, subst, arith}
 use Rattle.std.specs.Ordering.{is_eq}
 use Rattle.std.specs.Str.{bytes_eq}
 use Rattle.std.proofs.Math.IntN.{neg_ℤ}
 use Rattle.std.proofs.lemmas.Int.{ints}
 use Rattle.std.proofs.lemmas.List.Elements.{All-head, All-tail}
 use Rattle.std.proofs.lemmas.Slice.Eq.{bytes_eq-Decides}
+use Rattle.std.proofs.lemmas.Bool.{and_parts}
 use Rattle.raml_syntax.specs.Tree.{Type', Integer, Boolean, PairOf, ListOf, TreeOf, OptionOf}
 use Rattle.raml_syntax.specs.Value.{Value}
 use Rattle.base_poly.specs.Plain.{Plain, Unit', End, Then, many, degrees, entry_count}
@@ -141,10 +142,6 @@ flat_base (ListOf A) i v f h = ap (λ r. base r v) (list_units A i f h) ∙ bino
 flat_base (TreeOf A) i v f h = ap (λ r. base r v) (tree_units A i f h) ∙ binomials (entry_count i) v
 flat_base (OptionOf A) i v f h = no f
 
-both_true : (a b : Bool) → (a && b) ≡ true → (a ≡ true) × (b ≡ true)
-both_true true b h = (refl, h)
-both_true false b h = no h
-
 flat_fallen : (As : List Type') (t : List Plain) (vs : List Value) → are_flat As ≡ true → AreIndices t As → length vs ≡ length As → fallen (element_counts vs) (counts t) ≡ factorials (counts t) * bases t vs
 flat_fallen [] [] [] f h l = refl
 flat_fallen [] [] (v ∷ vs) f h l = absurd (omega (arith, l))
@@ -152,7 +149,7 @@ flat_fallen [] (i ∷ t) vs f h l = absurd h
 flat_fallen (A ∷ As) [] vs f h l = absurd h
 flat_fallen (A ∷ As) (i ∷ t) [] f h l = absurd (omega (arith, l))
 flat_fallen (A ∷ As) (i ∷ t) (v ∷ vs) f h l =
-    let flat = both_true (is_flat A) (are_flat As) f in
+    let flat = and_parts (is_flat A) (are_flat As) f in
     let one = flat_base A i v flat.0 h.0 in
     let more = flat_fallen As t vs flat.1 h.1 (omega (arith, l)) in
     (λ n. factorial (entry_count i) * sym one n * more n) ∙ ring (factorial (entry_count i)) (base i v) (factorials (counts t)) (bases t vs)

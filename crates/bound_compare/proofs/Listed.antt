@@ -3,10 +3,10 @@ use Rattle.std.proofs.Common.{◌≡◌, ◌≤◌, ◌<◌, ◌/◌, ℕ, zero,
 use Rattle.std.specs.Prelude.{nat_le}
 use Rattle.std.specs.declared.cmp.Ordering.{Ordering}
 use Rattle.std.specs.Str.{bytes_eq}
-use Rattle.std.proofs.lemmas.Bool.Decides.{nat_tests}
 use Rattle.std.proofs.lemmas.List.Elements.{All-nil, All-cons, All-head, All-tail}
 use Rattle.std.proofs.lemmas.List.Recursion.{is_sum_by}
 use Rattle.std.proofs.lemmas.Slice.Eq.{bytes_eq-Decides}
+use Rattle.std.proofs.lemmas.Bool.{leb-true, leb-false}
 use Rattle.raml_syntax.specs.Tree.{Type', Integer, ListOf}
 use Rattle.base_poly.specs.Plain.{Plain, degrees, entry_count}
 use Rattle.base_poly.specs.Indices.{IsIndex, AreIndices, Ascends, tuple_order, index_list}
@@ -143,12 +143,6 @@ falling_none (suc k) (suc e) l =
     let next = falling_none k (suc e) (omega (arith, l)) in
     (λ i. one i -ℤ pos k *ℤ next i) ∙ ap (λ x. pos 0 -ℤ x) (times_zero (pos k))
 
-at_most : (m n : ℕ) → nat_le m n ≡ true → m ≤ n
-at_most m n h = grind (arith, nat_tests)
-
-more_than : (m n : ℕ) → nat_le m n ≡ false → n < m
-more_than m n h = grind (arith, nat_tests)
-
 fallings_none : (ks es : List ℕ) → (length es ≡ length ks → adds ks < adds es) → fallings ks es ≡ pos 0
 fallings_none [] [] h = absurd (let no = h refl in omega (arith, no))
 fallings_none [] (e ∷ es) h = refl
@@ -157,9 +151,9 @@ fallings_none (k ∷ ks) (e ∷ es) h = by (fallings_none ks es) (nat_le e k) re
   where
     by : ((length es ≡ length ks → adds ks < adds es) → fallings ks es ≡ pos 0) → (b : Bool) → nat_le e k ≡ b → falling k e *ℤ fallings ks es ≡ pos 0
     by more true q =
-        let low = at_most e k q in
+        let low = leb-true e k q in
         ap (λ x. falling k e *ℤ x) (more (λ s. let less = h (ap suc s) in omega (arith, less, low))) ∙ times_zero (falling k e)
-    by more false q = ap (λ x. x *ℤ fallings ks es) (falling_none k e (more_than e k q)) ∙ zero_times (fallings ks es)
+    by more false q = ap (λ x. x *ℤ fallings ks es) (falling_none k e (leb-false e k q)) ∙ zero_times (fallings ks es)
 
 counts_long : (As : List Type') (t : List Plain) → AreIndices t As → length (counts t) ≡ length As
 counts_long [] [] h = refl
@@ -191,8 +185,8 @@ outside As es h s = by (nat_le (adds es) 4) refl
     no q = cc
 
     by : (b : Bool) → nat_le (adds es) 4 ≡ b → 4 < adds es
-    by true q = absurd (no (sym (has_among es (exponents_of (length As)) (among (length As) es s (at_most (adds es) 4 q))) ∙ h))
-    by false q = more_than (adds es) 4 q
+    by true q = absurd (no (sym (has_among es (exponents_of (length As)) (among (length As) es s (leb-true (adds es) 4 q))) ∙ h))
+    by false q = leb-false (adds es) 4 q
 
 pub powers_are_these : PowersAreThese
 powers_are_these As ts own low = record {

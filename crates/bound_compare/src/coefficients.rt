@@ -99,6 +99,7 @@ fn quotient_at_most(a: u128, b: u128, c: u128, d: u128) -> bool
 }
 
 // The number in the tuple's term, and the place behind it.
+#[tactic(auto, using(crate::proofs::Numbers::found_later, crate::proofs::Numbers::found_early))]
 fn find(terms: &[(Tuple, i128)], from: usize, tuple: &Tuple) -> Option<(usize, u128)>
     requires from { from ≤ length terms.now }
     requires distinct { IsDistinct alike (map (λ t. t.0) terms.now) }

@@ -1,13 +1,14 @@
 -- What a function leads to is what it reaches.
-use Rattle.std.proofs.Common.{◌≡◌, ◌<◌, ◌≤◌, ◌+◌, ℕ, zero, suc, List, [], ◌∷◌, map, length, Bool, true, false, cond, ◌⊎◌, inl, inr, refl, sym, ap, subst, ◌∙◌, arith}
-use Rattle.std.proofs.lemmas.Bool.{eqb-true, eqb-false, ne_eqb}
+use Rattle.std.proofs.Common.{◌≡◌, ◌<◌, ◌≤◌, ◌+◌, ℕ, zero, suc, [], ◌∷◌, map, length, Bool, true, false, cond, ◌⊎◌, inl, inr, refl, sym, ap, subst, ◌∙◌, arith}
+use Rattle.std.proofs.lemmas.Bool.{eqb-true, eqb-false, ne_eqb, or_left, or_right, or_cases, and_from, and_parts}
 use Rattle.std.specs.Prelude.{nat_eq, ◌||◌, ◌&&◌}
+use Rattle.std.proofs.lemmas.List.{length-map}
 use Rattle.raml_syntax.specs.Tree.{Prog}
 use Rattle.call_groups.specs.Groups.{Reaches, here, there}
 use Rattle.call_groups.specs.Sets.{Members, with_one, joined}
 use Rattle.call_groups.specs.Table.{Table, row_at, through_row, through, through_all, call_table}
 use Rattle.call_groups.proofs.Marks.{table_calls, table_count, calls_low}
-use Rattle.call_groups.proofs.Truths.{same, or_none, or_left, or_right, or_cases, and_both, and_left, and_right}
+use Rattle.call_groups.proofs.Truths.{same, or_none}
 
 row_through : (k : ℕ) (middle : Members) (rows : Table) (i : ℕ) → row_at (map (through_row k middle) rows) i ≡ through_row k middle (row_at rows i)
 row_through k middle [] i = refl
@@ -21,13 +22,9 @@ at_through k rows i j = ap (λ r. r j) (row_through k (row_at rows k) rows i) �
     by true = refl
     by false = or_none (row_at rows i j)
 
-length_map : {A B : Type 0} (f : A → B) (xs : List A) → length (map f xs) ≡ length xs
-length_map f [] = refl
-length_map f (x ∷ xs) = ap suc (length_map f xs)
-
 through_count : (k : ℕ) (rows : Table) → length (through_all k rows) ≡ length rows
 through_count zero rows = refl
-through_count (suc k) rows = length_map (through_row k (row_at (through_all k rows) k)) (through_all k rows) ∙ through_count k rows
+through_count (suc k) rows = length-map (through_all k rows) (through_row k (row_at (through_all k rows) k)) ∙ through_count k rows
 
 -- the set has those of the first k functions that lead to this one
 pub record Leading (rows : Table) (f k : ℕ) (set : Members) : Type 0 where
@@ -82,13 +79,13 @@ module _ (P : Prog) where
     where
       by : (R k i j ≡ true) ⊎ ((R k i k && R k k j) ≡ true) → (R k i j ≡ true) ⊎ ((R k i k ≡ true) × (R k k j ≡ true))
       by (inl e) = inl e
-      by (inr e) = inr (and_left (R k i k) (R k k j) e, and_right (R k i k) (R k k j) e)
+      by (inr e) = inr ((and_parts (R k i k) (R k k j) e).0, (and_parts (R k i k) (R k k j) e).1)
 
   step_stay : (k i j : ℕ) → R k i j ≡ true → R (suc k) i j ≡ true
   step_stay k i j h = step k i j ∙ or_left (R k i j) (R k i k && R k k j) h
 
   step_over : (k i j : ℕ) → R k i k ≡ true → R k k j ≡ true → R (suc k) i j ≡ true
-  step_over k i j h g = step k i j ∙ or_right (R k i j) (R k i k && R k k j) (and_both (R k i k) (R k k j) h g)
+  step_over k i j h g = step k i j ∙ or_right (R k i j) (R k i k && R k k j) (and_from (R k i k) (R k k j) h g)
 
   to_last : (k i : ℕ) → R (suc k) i k ≡ true → R k i k ≡ true
   to_last k i h = by (step_in k i k h)

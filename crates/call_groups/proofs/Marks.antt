@@ -1,6 +1,6 @@
 -- What is marked.
 use Rattle.std.proofs.Common.{◌≡◌, ◌<◌, ℕ, zero, suc, [], ◌∷◌, map, length, Bool, true, false, cond, Option, Some, None, ◌⊎◌, inl, inr, refl, ap, ◌∙◌, arith}
-use Rattle.std.proofs.lemmas.Bool.{eqb-true}
+use Rattle.std.proofs.lemmas.Bool.{eqb-true, or_cases}
 use Rattle.std.specs.Prelude.{◌||◌, slice_get}
 use Rattle.std.specs.List.{filter, range_with_len}
 use Rattle.std.specs.Option.{option_map}
@@ -11,7 +11,7 @@ use Rattle.raml_syntax.specs.Place.{place_of}
 use Rattle.call_groups.specs.Calls.{is_place, is_called, is_called_in, callees, calls_of, calls_from, calls}
 use Rattle.call_groups.specs.Sets.{Members, none, below}
 use Rattle.call_groups.specs.Table.{row_at, marked_place, marked, marked_in, call_table}
-use Rattle.call_groups.proofs.Truths.{or_none, or_or, or_cases}
+use Rattle.call_groups.proofs.Truths.{or_none, or_or}
 
 pub place_low : (f : Text) (P : Prog) (k : ℕ) → place_of f P ≡ Some k → k < length P
 place_low f [] k h = absurd (cc)

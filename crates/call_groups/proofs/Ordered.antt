@@ -1,6 +1,6 @@
 -- Groups that are placed one after the other are in order.
 use Rattle.std.proofs.Common.{◌≡◌, ◌≤◌, ◌<◌, ◌+◌, ◌⊎◌, inl, inr, ℕ, zero, suc, List, [], ◌∷◌, ◌++◌, length, Contains, Bool, true, false, cond, refl, sym, ap, subst, ◌∙◌, arith}
-use Rattle.std.proofs.lemmas.Bool.{eqb-true, ltb-true, ltb-false}
+use Rattle.std.proofs.lemmas.Bool.{eqb-true, ltb-true, ltb-false, or_left, or_right, or_cases, and_from, and_parts, not-true, not_from_false, cases_Bool}
 use Rattle.std.proofs.lemmas.List.Elements.{Contains-append_left, Contains-append_right, Contains-append_cases}
 use Rattle.std.specs.Prelude.{nat_eq, nat_lt, not, ◌||◌, ◌&&◌}
 use Rattle.std.specs.List.{filter, range_with_len}
@@ -12,7 +12,7 @@ use Rattle.call_groups.specs.Sets.{Members, none, joined, below}
 use Rattle.call_groups.specs.Table.{Table, row_at, waits, group, Waiting, IsReady, IsNext, NoneIsReady, Front, Placed}
 use Rattle.call_groups.proofs.Leads.{led, led_sound, led_complete, leads, leads_sound, leads_complete, reaches_low, reaches_more}
 use Rattle.call_groups.proofs.Lists.{rows_length}
-use Rattle.call_groups.proofs.Truths.{same, clash, or_left, or_right, or_cases, and_both, and_left, and_right, not_true, true_not, which}
+use Rattle.call_groups.proofs.Truths.{same, clash}
 
 contains_none : {X : Type 0} (x : X) → Contains [] x → ⊥
 contains_none x h = absurd (omega (arith, h.1))
@@ -121,7 +121,7 @@ record Missing (a b : Members) : Type 0 where
 
 missing_or : (n : ℕ) (a b : Members) → ((f : ℕ) → f < n → a f ≡ true → b f ≡ true) ⊎ Missing a b
 missing_or zero a b = inl (λ f lt h. absurd (omega arith))
-missing_or (suc n) a b = by (which (a n)) (which (b n)) (missing_or n a b)
+missing_or (suc n) a b = by (cases_Bool (a n)) (cases_Bool (b n)) (missing_or n a b)
   where
     below_or : (f : ℕ) → f < suc n → (f ≡ n → ⊥) → f < n
     below_or f lt ne = grind (arith, lt, ne)
@@ -216,7 +216,7 @@ module _ (rows : Table) (n : ℕ) where
       let own : group rows f f ≡ true = or_right (row_at rows f f && row_at rows f f) (nat_eq f f) (same f) in
       let gone : not (joined placed (group rows f) f) ≡ false = ap not (or_right (placed f) (group rows f f) own) in
       subst (λ p. open_count p n < open_count placed n) (sym e)
-      (count_less (λ j. not (joined placed (group rows f) j)) (λ j. not (placed j)) n f (λ j h. kept (placed j) (group rows f j) h) next.low gone (true_not (placed f) next.ready.new))
+      (count_less (λ j. not (joined placed (group rows f) j)) (λ j. not (placed j)) n f (λ j h. kept (placed j) (group rows f j) h) next.low gone (not_from_false (placed f) next.ready.new))
     where
       kept : (a b : Bool) → not (a || b) ≡ true → not a ≡ true
       kept true b h = h
@@ -227,16 +227,16 @@ module _ (rows : Table) (n : ℕ) where
 module _ (P : Prog) where
   -- a function waits for what it reaches and what does not reach it
   waits_reached : (f g : ℕ) → waits (led P) f g ≡ true → Reaches P f g
-  waits_reached f g h = led_sound P f g (and_left (row_at (led P) f g) (not (row_at (led P) g f)) h)
+  waits_reached f g h = led_sound P f g (and_parts (row_at (led P) f g) (not (row_at (led P) g f)) h).0
 
   waits_apart : (f g : ℕ) → waits (led P) f g ≡ true → Reaches P g f → ⊥
   waits_apart f g h r = by (led_complete P r)
     where
       to : row_at (led P) f g ≡ true
-      to = and_left (row_at (led P) f g) (not (row_at (led P) g f)) h
+      to = (and_parts (row_at (led P) f g) (not (row_at (led P) g f)) h).0
 
       back : row_at (led P) g f ≡ false
-      back = not_true (row_at (led P) g f) (and_right (row_at (led P) f g) (not (row_at (led P) g f)) h)
+      back = not-true (row_at (led P) g f) (and_parts (row_at (led P) f g) (not (row_at (led P) g f)) h).1
 
       by : (g ≡ f) ⊎ (row_at (led P) g f ≡ true) → ⊥
       by (inl e) = clash (row_at (led P) f f) (subst (λ z. row_at (led P) f z ≡ true) e to) (subst (λ z. row_at (led P) z f ≡ false) e back)
@@ -251,13 +251,13 @@ module _ (P : Prog) where
 
       by : (f ≡ g) ⊎ (row_at (led P) f g ≡ true) → waits (led P) f g ≡ true
       by (inl e) = absurd (no_ (subst (λ z. Reaches P z f) e here))
-      by (inr e) = and_both (row_at (led P) f g) (not (row_at (led P) g f)) e (true_not (row_at (led P) g f) (off (row_at (led P) g f) refl))
+      by (inr e) = and_from (row_at (led P) f g) (not (row_at (led P) g f)) e (not_from_false (row_at (led P) g f) (off (row_at (led P) g f) refl))
 
   group_sound : (f g : ℕ) → group (led P) f g ≡ true → Together P f g
   group_sound f g h = by (or_cases (row_at (led P) f g && row_at (led P) g f) (nat_eq g f) h)
     where
       by : ((row_at (led P) f g && row_at (led P) g f) ≡ true) ⊎ (nat_eq g f ≡ true) → Together P f g
-      by (inl e) = (led_sound P f g (and_left (row_at (led P) f g) (row_at (led P) g f) e), led_sound P g f (and_right (row_at (led P) f g) (row_at (led P) g f) e))
+      by (inl e) = (led_sound P f g (and_parts (row_at (led P) f g) (row_at (led P) g f) e).0, led_sound P g f (and_parts (row_at (led P) f g) (row_at (led P) g f) e).1)
       by (inr e) = let i = eqb-true g f e in (subst (λ z. Reaches P f z) (sym i) here, subst (λ z. Reaches P z f) (sym i) here)
 
   group_complete : (f g : ℕ) → Together P f g → group (led P) f g ≡ true
@@ -269,14 +269,14 @@ module _ (P : Prog) where
       by : (f ≡ g) ⊎ (row_at (led P) f g ≡ true) → (g ≡ f) ⊎ (row_at (led P) g f ≡ true) → group (led P) f g ≡ true
       by (inl e) back = is_same e
       by (inr e) (inl i) = is_same (sym i)
-      by (inr e) (inr i) = or_left (row_at (led P) f g && row_at (led P) g f) (nat_eq g f) (and_both (row_at (led P) f g) (row_at (led P) g f) e i)
+      by (inr e) (inr i) = or_left (row_at (led P) f g && row_at (led P) g f) (nat_eq g f) (and_from (row_at (led P) f g) (row_at (led P) g f) e i)
 
   -- a function that is ready may come next
   may_come : (placed : Members) (before : List ℕ) (f : ℕ) → Lists placed before → f < length P → IsReady (waits (led P)) placed f → MayCome P before f
   may_come placed before f l lt ready = record {
     is_function = lt;
     new = λ c. clash (placed f) (l.complete f c) ready.new;
-    ready = λ g r. by g r (which (placed g)) (which (leads (led P) g f));
+    ready = λ g r. by g r (cases_Bool (placed g)) (cases_Bool (leads (led P) g f));
   }
     where
       by : (g : ℕ) → Reaches P f g → (placed g ≡ true) ⊎ (placed g ≡ false) → (leads (led P) g f ≡ true) ⊎ (leads (led P) g f ≡ false) → Contains before g ⊎ Reaches P g f
@@ -339,7 +339,7 @@ module _ (P : Prog) where
           by false q = ltb-false g f q
 
   in_order : (gs : List (List ℕ)) (placed last : Members) (before : List ℕ) → Lists placed before → Front (led P) (length P) placed gs last → NoneIsReady (waits (led P)) (length P) last → AreInOrder P before gs
-  in_order [] placed last before l h none_left = λ f lt. by f lt (which (placed f))
+  in_order [] placed last before l h none_left = λ f lt. by f lt (cases_Bool (placed f))
     where
       by : (f : ℕ) → f < length P → (placed f ≡ true) ⊎ (placed f ≡ false) → Contains before f
       by f lt (inl q) = l.sound f q

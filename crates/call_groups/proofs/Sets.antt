@@ -1,11 +1,11 @@
 -- Sets of functions by their words of bits.
 use Rattle.std.proofs.Common.{◌≡◌, ◌<◌, ◌≤◌, ◌+◌, ◌-◌, ◌*◌, ◌/◌, ◌%◌, ◌^◌, ℕ, zero, suc, min, max, Bool, true, false, cond, not, ◌||◌, ◌&&◌, nat_eq, nat_lt, bit_and, bit_or, refl, sym, ap, ◌∙◌, arith}
-use Rattle.std.proofs.lemmas.Bool.{eqb-true, eqb-false, ltb-true, ltb-false, lt-ltb, le-ltb}
+use Rattle.std.proofs.lemmas.Bool.{eqb-true, eqb-false, ltb-true, ltb-false, lt-ltb, le-ltb, and_from, not_from_false}
 use Rattle.std.proofs.lemmas.Nat.Bits.{bit_at_or, bit_at_and, bit_at_not, bit_at-lt, bit_at-zero, bit_at_set_same, bit_at_set_other, shr_and_one, same_from_bits_below}
 use Rattle.std.specs.Int.{bit_at, bit_not, w128}
 use Rattle.call_groups.specs.declared.function_set.FunctionSet.{FunctionSet}
 use Rattle.call_groups.specs.Sets.{Members, has_bit, has, none, with_one, joined, shared, without, IsSubset}
-use Rattle.call_groups.proofs.Truths.{same, clash, or_none, and_both, true_not}
+use Rattle.call_groups.proofs.Truths.{same, clash, or_none}
 
 -- One word
 
@@ -220,7 +220,7 @@ subset_from_words a b rest e p q f h = by (has b f) refl
     by : (x : Bool) → has b f ≡ x → has b f ≡ true
     by true w = w
     by false w =
-        let left : without (has a) (has b) f ≡ true = and_both (has a f) (not (has b f)) h (true_not (has b f) w) in
+        let left : without (has a) (has b) f ≡ true = and_from (has a f) (not (has b f)) h (not_from_false (has b f) w) in
         let gone : without (has a) (has b) f ≡ false = sym (ap (λ z. z f) e) ∙ ap (λ z. z f) (has_none rest p q) in
         absurd (clash (without (has a) (has b) f) left gone)
 

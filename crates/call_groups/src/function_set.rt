@@ -18,6 +18,7 @@ pub struct FunctionSet {
 
 impl FunctionSet {
     /// The set of no functions.
+    #[tactic(auto, using(crate::proofs::Sets::has_none))]
     pub fn empty() -> FunctionSet
         ensures { has result ≡ none }
     {
@@ -48,6 +49,7 @@ impl FunctionSet {
     }
 
     /// Adds the functions of another set.
+    #[tactic(auto, using(crate::proofs::Sets::has_joined))]
     pub fn insert_all(&mut self, other: &FunctionSet)
         ensures { has self.new ≡ joined (has self.old) (has other.now) }
     {
@@ -56,6 +58,7 @@ impl FunctionSet {
     }
 
     /// The functions of both sets.
+    #[tactic(auto, using(crate::proofs::Sets::has_shared))]
     pub fn intersection(&self, other: &FunctionSet) -> FunctionSet
         ensures { has result ≡ shared (has self.now) (has other.now) }
     {

@@ -1,4 +1,3 @@
-mod Computed
 mod Least
 mod Called
 pub mod Components

@@ -13,6 +13,7 @@ use base_poly::{Index, Tuple};
 use std::alloc::{AllocError, Global};
 
 /// The entries of a list index; none of another one.
+#[tactic(auto, using(crate::proofs::Low::entries_read))]
 pub fn entries(index: &Index) -> &[Index]
     ensures { plains_of result.now ≡ entries_of (index_of index.now) }
 {

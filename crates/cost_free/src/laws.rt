@@ -14,6 +14,7 @@ pub fn small_schedules()
 
 /// What a task waits for is in its way, and is the least such function; a task that waits for none has
 /// none in its way.
+#[tactic(auto, using(crate::proofs::Least::blockers_are_least))]
 pub fn blockers_are_least()
     ensures { BlockersAreLeast }
 {}

@@ -115,6 +115,7 @@ fn enter(
     }
 }
 
+#[tactic(auto, using(crate::proofs::Steps::stepped))]
 fn step(tasks: &[Task], place: &mut usize)
     ensures { tasks_of (drop place.new tasks.now) ≡ drop 1 (tasks_of (drop place.old tasks.now)) }
 {

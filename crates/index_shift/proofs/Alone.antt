@@ -2,6 +2,7 @@
 use Rattle.std.proofs.Common.{◌≡◌, ℕ, zero, suc, ◌+◌, ◌≤◌, inl, inr, ⊎_elim, Bool, true, false, not, cond, if◌then◌else◌, ◌==◌, List, [], ◌∷◌, ◌++◌, map, slice_get, slice_index_or, None, Some, All, Bor, Contains, refl, sym, ap, ◌∙◌, subst, arith, append-nil}
 use Rattle.std.proofs.lemmas.List.Elements.{All-weaker, All-contains_itself}
 use Rattle.std.specs.List.{position_or_len}
+use Rattle.index_shift.proofs.Tabled.{one_more}
 use Rattle.raml_syntax.specs.declared.ty.Ty.{Ty}
 use Rattle.raml_syntax.specs.Tree.{Type'}
 use Rattle.base_poly.specs.Plain.{Plain, deg, degrees, alike}
@@ -34,9 +35,6 @@ stands_at t (u ∷ us) m = by (alike t u) refl (stands_at t us)
     by true e more = ap (λ b. slice_get (u ∷ us) (cond (not b) (1 + position_or_len (alike t) us) 0)) e ∙ ap Some (sym (alike_is t u e))
     by false e more =
         ap (λ b. slice_get (u ∷ us) (cond (not b) (1 + position_or_len (alike t) us) 0)) e ∙ ap (slice_get (u ∷ us)) (one_more (position_or_len (alike t) us)) ∙ more (later e)
-      where
-        one_more : (n : ℕ) → 1 + n ≡ suc n
-        one_more n = omega arith
 
 abbrev spread : List Plain → List Plain × ℕ → List Plain × ℕ
 spread u e = (e.0 ++ u, e.1)

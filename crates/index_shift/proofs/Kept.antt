@@ -1,6 +1,7 @@
 -- The maps keep potential.
 use Rattle.std.proofs.Common.{◌≡◌, ◌≤◌, ◌==◌, ℕ, zero, suc, ◌*◌, Bool, true, false, if◌then◌else◌, List, [], ◌∷◌, ◌++◌, map, slice_get, slice_index_or, Some, refl, sym, ap, ◌∙◌, subst, arith}
 use Rattle.std.proofs.Math.Nat.{mul-le-mul_left}
+use Rattle.std.proofs.lemmas.Option.{same_Some}
 use Rattle.raml_syntax.specs.Tree.{Type'}
 use Rattle.raml_syntax.specs.Value.{Value, Has, Empty}
 use Rattle.base_poly.specs.Plain.{Plain, Unit', deg, degrees}
@@ -23,9 +24,6 @@ in_place_one at [] = refl
 in_place_one zero (x ∷ xs) = refl
 in_place_one (suc k) (x ∷ xs) = ap (λ l. x ∷ l) (in_place_one k xs)
 
-the_some : {X : Type 0} (x y : X) → Some x ≡ Some y → x ≡ y
-the_some x y h = cc
-
 -- one more index before each, at one more value
 led : (i : Plain) (w : Value) (ws : List Value) (es : List (List Plain × ℕ)) → carried_at (w ∷ ws) (map (λ e. (i ∷ e.0, e.1)) es) ≡ base i w * carried_at ws es
 led i w ws [] = grind arith
@@ -38,7 +36,7 @@ module _ (c : Carry) (f g : Type' → List Type') (A : Type') where
       (at : ℕ) (As : List Type') → slice_get As at ≡ Some A → (t : List Plain) → AreIndices t (in_place at f As) → Each (λ e. Fits (in_place at g As) (degrees t) e.0) (behind at c t)
   behind_fits head at [] there t h = absurd (cc)
   behind_fits head zero (B ∷ As) there t h =
-      let same = the_some B A there in
+      let same = same_Some B A there in
       subst (λ D. Each (λ e. Fits (g D ++ As) (degrees t) e.0) (c t)) (sym same) (head As t (subst (λ D. AreIndices t (f D ++ As)) same h))
   behind_fits head (suc k) (B ∷ As) there [] h = absurd h
   behind_fits head (suc k) (B ∷ As) there (i ∷ t) h =
@@ -53,8 +51,8 @@ module _ (c : Carry) (f g : Type' → List Type') (A : Type') where
     behind_worth head at [] vs there value t h = absurd (cc)
     behind_worth head zero (B ∷ As) [] there value t h = absurd (cc)
     behind_worth head zero (B ∷ As) (w ∷ vs) there value t h =
-        let same = the_some B A there in
-        subst (λ u. R (carried_at (after u ++ vs) (c t)) (bases t (before u ++ vs))) (sym (the_some w v value)) (head As t vs (subst (λ D. AreIndices t (f D ++ As)) same h))
+        let same = same_Some B A there in
+        subst (λ u. R (carried_at (after u ++ vs) (c t)) (bases t (before u ++ vs))) (sym (same_Some w v value)) (head As t vs (subst (λ D. AreIndices t (f D ++ As)) same h))
     behind_worth head (suc k) (B ∷ As) [] there value t h = absurd (cc)
     behind_worth head (suc k) (B ∷ As) (w ∷ vs) there value [] h = absurd h
     behind_worth head (suc k) (B ∷ As) (w ∷ vs) there value (i ∷ t) h =
@@ -103,7 +101,7 @@ to_one P at xs h = subst P (sym (in_place_one at xs)) h
 
 the_type : (As : List Type') (at : ℕ) (A : Type') → slice_get As at ≡ Some A → variable_type As at ≡ A
 the_type [] at A h = absurd (cc)
-the_type (B ∷ As) zero A h = the_some B A h
+the_type (B ∷ As) zero A h = same_Some B A h
 the_type (B ∷ As) (suc k) A h = the_type As k A h
 
 pub opening_keeps : OpeningKeeps
@@ -134,7 +132,7 @@ leaves_behind at [] vs A v there value has t h = absurd (cc)
 leaves_behind at (B ∷ As) [] A v there value has t h = absurd (cc)
 leaves_behind at (B ∷ As) (w ∷ vs) A v there value has [] h = absurd h
 leaves_behind zero (B ∷ As) (w ∷ vs) A v there value has (i ∷ t) h =
-    leaves_zero B As w i t vs (subst (λ u. Has u B) (sym (the_some w v value)) (subst (Has v) (sym (the_some B A there)) has)) h.0
+    leaves_zero B As w i t vs (subst (λ u. Has u B) (sym (same_Some w v value)) (subst (Has v) (sym (same_Some B A there)) has)) h.0
 leaves_behind (suc k) (B ∷ As) (w ∷ vs) A v there value has (i ∷ t) h =
     led i w (in_place k none vs) (behind k leaves t)
     ∙ ap (λ n. base i w * n) (leaves_behind k As vs A v there value has t h.1)

@@ -3,7 +3,6 @@ pub mod Carried
 pub mod Kept
 pub mod Split
 pub mod Permuted
-pub mod Computed
 pub mod Readings
 pub mod Placed
 pub mod Cuts

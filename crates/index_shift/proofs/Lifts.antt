@@ -2,6 +2,7 @@
 use Rattle.std.proofs.Common.{◌≡◌, ℕ, zero, suc, ◌+◌, ◌-◌, ◌≤◌, Bool, true, false, cond, nat_lt, fold, List, [], ◌∷◌, ◌++◌, map, flat_map, length, position, slice_get, Some, refl, sym, ap, ◌∙◌, subst, arith, append_assoc, append-nil}
 use Rattle.std.proofs.lemmas.List.Sums.{fold-append}
 use Rattle.std.proofs.lemmas.Bool.Decides.{nat_tests}
+use Rattle.std.proofs.lemmas.Bool.{ltb-false}
 use Rattle.raml_syntax.specs.Tree.{Type'}
 use Rattle.base_poly.specs.Plain.{Plain, degrees, alike}
 use Rattle.base_poly.specs.Indices.{tuples_up_to, index_list}
@@ -111,9 +112,6 @@ module _ (c : Carry) (As Fs Ts Bs : List Type') (d : ℕ) (counts : Counts) (are
   none_kept : (left n : ℕ) → nat_lt left n ≡ true → (n ≤ left → ⊥)
   none_kept left n h g = grind (arith, nat_tests)
 
-  all_kept : (left n : ℕ) → nat_lt left n ≡ false → n ≤ left
-  all_kept left n h = grind (arith, nat_tests)
-
   middle_step : (x : List Plain) (k left : ℕ) (m : List Plain) (w : Middle) (s : State) → degrees x + left ≤ d → slice_get (tuples_up_to As d) k ≡ Some x → IsMiddle c Ts d m w →
       fold (λ s t. go s (x ++ t)) s (behind_one Bs left m) ≡ of_middle counts left (degrees x) k s w
   middle_step x k left m w s low at_k h =
@@ -128,7 +126,7 @@ module _ (c : Carry) (As Fs Ts Bs : List Type') (d : ℕ) (counts : Counts) (are
           (λ n. fold (λ s t. go s (x ++ t)) s (cond (e n) [] (map (λ u. m ++ u) (exactly Bs (left - degrees m)))))
           ∙ fold_mapped (λ s t. go s (x ++ t)) (λ u. m ++ u) s (exactly Bs (left - degrees m))
           ∙ fold_rows (λ s u. go s (x ++ (m ++ u))) (one_row counts (degrees x) k (left - degrees m) w.targets) (exactly Bs (left - degrees m)) 0 s
-          (λ j u s at_j. let kept = all_kept left (degrees m) e in
+          (λ j u s at_j. let kept = ltb-false left (degrees m) e in
           one_step x k m w (left - degrees m) u j s (omega (arith, low, kept)) at_k at_j h ∙ ap (λ n. one_row counts (degrees x) k (left - degrees m) w.targets n s) (first j))
           ∙ (λ n. cond (sym e n) s (rows (one_row counts (degrees x) k (left - degrees m) w.targets) 0 (sym (are_counts.after (left - degrees m) (omega (arith, low))) n) s))
         where
@@ -153,7 +151,7 @@ module _ (c : Carry) (As Fs Ts Bs : List Type') (d : ℕ) (counts : Counts) (are
             fold go s (cond b [] (map (λ u. x ++ u) (exactly (Fs ++ Bs) (g - degrees x)))) ≡ cond b s (fold (of_middle counts (g - degrees x) (degrees x) k) s ws)
         at true e = refl
         at false e =
-            let kept = all_kept g (degrees x) e in
+            let kept = ltb-false g (degrees x) e in
             fold_mapped go (λ u. x ++ u) s (exactly (Fs ++ Bs) (g - degrees x))
             ∙ ap (fold (λ s t. go s (x ++ t)) s) (in_two Fs Bs (g - degrees x) d (omega (arith, low)))
             ∙ fold_parts (λ s t. go s (x ++ t)) (behind_one Bs (g - degrees x)) s (tuples_up_to Fs d)

@@ -16,7 +16,7 @@ pub one_inserted : (ks : List (List Plain)) (ts : List (List Plain)) (t : List P
 one_inserted ks ts t = fold-append (insert_key alike) ks ts (t ∷ [])
 
 -- what is before another is not alike to it
-other : (t u : List Plain) → each_in_turn t u ≡ Less → alike u t ≡ false
+pub other : (t u : List Plain) → each_in_turn t u ≡ Less → alike u t ≡ false
 other t u h = by (alike u t) refl
   where
     by : (b : Bool) → alike u t ≡ b → alike u t ≡ false

@@ -9,7 +9,7 @@ use Rattle.base_poly.proofs.Longer.{joined, some_tuple}
 use Rattle.base_poly.proofs.Sized.{as_long_as_rests}
 use Rattle.index_shift.specs.Maps.{IsTooLarge}
 
-more_rests : (f g : ℕ → List (List Plain)) (d : ℕ) (is : List Plain) → ((k : ℕ) → length (f k) ≤ length (g k)) → length (joined f ◌∷◌ d is) ≤ length (joined g ◌∷◌ d is)
+pub more_rests : (f g : ℕ → List (List Plain)) (d : ℕ) (is : List Plain) → ((k : ℕ) → length (f k) ≤ length (g k)) → length (joined f ◌∷◌ d is) ≤ length (joined g ◌∷◌ d is)
 more_rests f g d [] h = omega arith
 more_rests f g d (i ∷ is) h =
     let a = length-append (map (λ r. i ∷ r) (f (d - deg i))) (joined f ◌∷◌ d is) in

@@ -107,7 +107,7 @@ counts_behind Bs g x = at (nat_lt g (degrees x))
     at true = refl
     at false = length-map (exactly Bs (g - degrees x)) (λ u. x ++ u)
 
-get_two : (As Bs : List Type') (d : ℕ) (x : List Plain) (k r : ℕ) (u : List Plain) (y : ℕ) → degrees x + r ≤ d → slice_get (tuples_up_to As d) k ≡ Some x → slice_get (exactly Bs r) y ≡ Some u →
+pub get_two : (As Bs : List Type') (d : ℕ) (x : List Plain) (k r : ℕ) (u : List Plain) (y : ℕ) → degrees x + r ≤ d → slice_get (tuples_up_to As d) k ≡ Some x → slice_get (exactly Bs r) y ≡ Some u →
     slice_get (exactly (As ++ Bs) (degrees x + r)) (ahead (many_behind Bs (degrees x + r)) (tuples_up_to As d) k + y) ≡ Some (x ++ u)
 get_two As Bs d x k r u y low at_k at_y =
     ap (λ l. slice_get l (ahead (many_behind Bs (degrees x + r)) (tuples_up_to As d) k + y)) (in_two As Bs (degrees x + r) d low)

@@ -107,7 +107,7 @@ lower_grows As h (suc k) low = ⊎_elim
     split : h ≤ suc k → (h ≡ suc k) ⊎ (h ≤ k)
     split g = grind arith
 
-one_more : (n : ℕ) → 1 + n ≡ suc n
+pub one_more : (n : ℕ) → 1 + n ≡ suc n
 one_more n = omega arith
 
 between_long : (As : List Type') (n from : ℕ) → lower As from + length (each_degree As n from) ≡ lower As (n + from)

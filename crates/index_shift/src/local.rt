@@ -297,6 +297,7 @@ fn degree_at(degrees: &[u8], place: usize) -> u8
 }
 
 // The place of the tuple, or the number of all where it has none.
+#[tactic(auto, using(crate::proofs::Placed::none_placed))]
 fn place_of(places: &IndexSet<Tuple>, tuple: &Tuple) -> usize
     ensures { result ≡ position_or_len (alike tuple.now) places.now.keys }
 {

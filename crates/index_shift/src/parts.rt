@@ -23,6 +23,7 @@ pub fn index_parts(alloc: Global, ty: &Ty, index: &Index) -> Result<Vec<Tuple>, 
 }
 
 // The entries of a list index.
+#[tactic(auto, using(crate::proofs::Readings::entries_read))]
 fn list_entries(index: &Index) -> &[Index]
     ensures { plains_of result.now ≡ entries_of (index_of index.now) }
 {
@@ -33,6 +34,7 @@ fn list_entries(index: &Index) -> &[Index]
 }
 
 // Both parts of a pair.
+#[tactic(auto, using(crate::proofs::Readings::no_parts))]
 fn pair_parts(alloc: Global, index: &Index) -> Result<Vec<Tuple>, AllocError>
     ensures { IfOk result (λ found. found.items ≡ pair_parts (index_of index.now)) }
 {
@@ -46,6 +48,7 @@ fn pair_parts(alloc: Global, index: &Index) -> Result<Vec<Tuple>, AllocError>
 }
 
 // The entry of an option index, or `none` for it.
+#[tactic(auto, using(crate::proofs::Readings::no_content))]
 fn option_parts(alloc: Global, none: &Index, index: &Index) -> Result<Vec<Tuple>, AllocError>
     ensures { IfOk result (λ found. found.items ≡ option_parts (index_of none.now) (index_of index.now)) }
 {

@@ -13,6 +13,7 @@ pub fn raised_stay_good()
 {}
 
 /// The whole numbers that are read where pivots end stand for a block that holds and is least.
+#[tactic(auto, using(crate::proofs::Certifying::found_is_least))]
 pub fn found_is_least()
     ensures { FoundIsLeast }
 {}
@@ -23,6 +24,7 @@ pub fn found_is_refuted()
 {}
 
 /// Every block of a course is good at the scales that are then held.
+#[tactic(auto, using(crate::proofs::Certifying::courses_are_good))]
 pub fn courses_are_good()
     ensures { CoursesAreGood }
 {}
@@ -34,6 +36,7 @@ pub fn courses_certify()
 
 /// At no place of a course's certificate does the schedule refuse to go on, and no task that is tried
 /// exceeds a limit.
+#[tactic(auto, using(crate::proofs::Certifying::courses_stay_within))]
 pub fn courses_stay_within()
     ensures { CoursesStayWithin }
 {}
@@ -70,16 +73,19 @@ pub fn one_place()
 }
 
 /// A meter of which no block is solved has the scale 1.
+#[tactic(auto, using(crate::proofs::Beginning::scales_begin))]
 pub fn scales_begin()
     ensures { ScalesBegin }
 {}
 
 /// A course has no more blocks than there are tasks that may be tried.
+#[tactic(auto, using(crate::proofs::Short::courses_end))]
 pub fn courses_end()
     ensures { CoursesEnd }
 {}
 
 /// Where all that is computed for a task fits, no place comes on it.
+#[tactic(auto, using(crate::proofs::Clear::fine_is_clear))]
 pub fn fine_is_clear()
     ensures { FineIsClear }
 {
@@ -87,6 +93,7 @@ pub fn fine_is_clear()
 }
 
 /// A place that is seen after all that is tried before it was fine comes first.
+#[tactic(auto, using(crate::proofs::Clear::seen_is_first))]
 pub fn seen_is_first()
     ensures { SeenIsFirst }
 {
@@ -99,6 +106,7 @@ pub fn lines_tell()
 {}
 
 /// A certificate that is held has a block for each meter and each group.
+#[tactic(auto, using(crate::proofs::Present::blocks_are_there))]
 pub fn blocks_are_there()
     ensures { BlocksAreThere }
 {}

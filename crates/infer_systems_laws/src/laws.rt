@@ -16,11 +16,13 @@ pub fn systems_generate()
 }
 
 /// The limits of indices are told as they are.
+#[tactic(auto, using(crate::proofs::Limits::limits_are_told))]
 pub fn limits_are_told()
     ensures { LimitsAreTold }
 {}
 
 /// The normal form of a typed program is ordered.
+#[tactic(auto, using(crate::proofs::Ordered::normals_are_ordered))]
 pub fn normals_are_ordered()
     ensures { NormalsAreOrdered }
 {
@@ -28,11 +30,13 @@ pub fn normals_are_ordered()
 }
 
 /// A program that is ordered is proper.
+#[tactic(auto, using(crate::proofs::Proper::ordered_are_proper))]
 pub fn ordered_are_proper()
     ensures { OrderedAreProper }
 {}
 
 /// The next task of a course, where it is tried, is a task over the blocks before it.
+#[tactic(auto, using(crate::proofs::Tried::tried_are_tasks))]
 pub fn tried_are_tasks()
     ensures { TriedAreTasks }
 {

@@ -61,9 +61,7 @@ pub fn pair_parts(heap: &DataHeap, word: Word) -> (Word, Word)
     match word {
         Word::Cell(number) => match heap.get(number) {
             Cell::Pair(first, second) => (first, second),
-            Cell::Cons(_, _) => unreachable!(),
-            Cell::Node(_, _, _) => unreachable!(),
-            Cell::Just(_) => unreachable!(),
+            _ => unreachable!(),
         },
         _ => unreachable!(),
     }
@@ -78,9 +76,7 @@ pub fn list_parts(heap: &DataHeap, word: Word) -> Option<(Word, Word)>
     match word {
         Word::Cell(number) => match heap.get(number) {
             Cell::Cons(head, tail) => Some((head, tail)),
-            Cell::Pair(_, _) => unreachable!(),
-            Cell::Node(_, _, _) => unreachable!(),
-            Cell::Just(_) => unreachable!(),
+            _ => unreachable!(),
         },
         Word::Empty => None,
         _ => unreachable!(),
@@ -96,9 +92,7 @@ pub fn tree_parts(heap: &DataHeap, word: Word) -> Option<(Word, Word, Word)>
     match word {
         Word::Cell(number) => match heap.get(number) {
             Cell::Node(element, left, right) => Some((element, left, right)),
-            Cell::Cons(_, _) => unreachable!(),
-            Cell::Pair(_, _) => unreachable!(),
-            Cell::Just(_) => unreachable!(),
+            _ => unreachable!(),
         },
         Word::Empty => None,
         _ => unreachable!(),
@@ -114,9 +108,7 @@ pub fn content(heap: &DataHeap, word: Word) -> Option<Word>
     match word {
         Word::Cell(number) => match heap.get(number) {
             Cell::Just(content) => Some(content),
-            Cell::Cons(_, _) => unreachable!(),
-            Cell::Pair(_, _) => unreachable!(),
-            Cell::Node(_, _, _) => unreachable!(),
+            _ => unreachable!(),
         },
         Word::Empty => None,
         _ => unreachable!(),

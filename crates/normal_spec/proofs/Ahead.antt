@@ -1,7 +1,7 @@
 -- Evaluations beside those of normal forms.
-use Rattle.std.proofs.Common.{◌≡◌, ◌≤◌, ◌+◌, ℕ, zero, suc, true, Option, Some, None, refl, sym, ap, subst, ◌∙◌, arith}
+use Rattle.std.proofs.Common.{◌≡◌, ◌+◌, ℕ, true, Option, Some, None, refl, sym, subst, ◌∙◌, arith}
 use Rattle.raml_syntax.specs.Value.{Value, Truth, Both, Cons, Node, Just}
-use Rattle.raml_syntax.specs.Eval.{Run, done, cut, costs, goes_on, and_then, node, branch, pair_case, list_case, tree_case, option_case}
+use Rattle.raml_syntax.specs.Eval.{Run, costs, goes_on, and_then, node, branch, pair_case, list_case, tree_case, option_case}
 use Rattle.normal_spec.specs.Norm as n
 use Rattle.normal_spec.specs.Norm.{carries}
 use Rattle.normal_spec.specs.Run.{NormEnv, NormCalls, spend, walk_norm}
@@ -47,46 +47,39 @@ ahead_same r = record { out = refl; ticks = refl; cells = refl; at_least = omega
 pub ahead_is : {A : Type 0} (n : ℕ) (r s s' : Run A) → s' ≡ s → Ahead n r s → Ahead n r s'
 ahead_is n r s s' e h = subst (Ahead n r) (sym e) h
 
--- the node of the source, and what its form carries
-pub ahead_node : {A : Type 0} (n : ℕ) (r s : Run A) → Ahead n r s → Ahead 0 (node r) (spend (1 + n) s)
-ahead_node n r s h = record {
+-- work alone, and no costs
+spend_costs : {A : Type 0} (n : ℕ) (r : Run A) → spend n r ≡ costs 0 0 n r
+spend_costs n r = run_is _ _ _ _ _ _ _ (omega arith) (omega arith) refl
+
+costs_none : {A : Type 0} (r : Run A) → r ≡ costs 0 0 0 r
+costs_none r = run_is _ _ _ _ _ _ _ (omega arith) (omega arith) (omega arith)
+
+-- costs on both sides, with as much work more on the left as the lead grows
+ahead_by : {A : Type 0} (n m i j a b : ℕ) (r s : Run A) → a + n ≡ m + b → Ahead n r s → Ahead m (costs i j a r) (costs i j b s)
+ahead_by n m i j a b r s e h = record {
   out = h.out;
   ticks = omega (arith, h.ticks);
   cells = omega (arith, h.cells);
-  at_least = omega (arith, h.at_least);
-  same = λ v e. omega (arith, h.same v e);
+  at_least = omega (arith, e, h.at_least);
+  same = λ v q. omega (arith, e, h.same v q);
 }
+
+-- the node of the source, and what its form carries
+pub ahead_node : {A : Type 0} (n : ℕ) (r s : Run A) → Ahead n r s → Ahead 0 (node r) (spend (1 + n) s)
+ahead_node n r s h = ahead_is 0 (node r) (costs 0 0 (1 + n) s) (spend (1 + n) s) (spend_costs (1 + n) s) (ahead_by n 0 0 0 1 (1 + n) r s (omega arith) h)
 
 -- a part that the form has paid
 pub ahead_paid : {A : Type 0} (n : ℕ) (r s : Run A) → Ahead n r s → Ahead (1 + n) (costs 0 0 1 r) s
-ahead_paid n r s h = record {
-  out = h.out;
-  ticks = omega (arith, h.ticks);
-  cells = omega (arith, h.cells);
-  at_least = omega (arith, h.at_least);
-  same = λ v e. omega (arith, h.same v e);
-}
+ahead_paid n r s h = ahead_is (1 + n) (costs 0 0 1 r) (costs 0 0 0 s) s (costs_none s) (ahead_by n (1 + n) 0 0 1 0 r s (omega arith) h)
 
 pub ahead_costs : {A : Type 0} (n i j k : ℕ) (r s : Run A) → Ahead n r s → Ahead n (costs i j k r) (costs i j k s)
-ahead_costs n i j k r s h = record {
-  out = h.out;
-  ticks = omega (arith, h.ticks);
-  cells = omega (arith, h.cells);
-  at_least = omega (arith, h.at_least);
-  same = λ v e. omega (arith, h.same v e);
-}
+ahead_costs n i j k r s h = ahead_by n n i j k k r s (omega arith) h
 
 pub ahead_none : {A : Type 0} (n : ℕ) (r s : Run A) → Ahead n r s → Ahead n r (spend 0 s)
 ahead_none n r s h = ahead_is n r s (spend 0 s) (spend_none s) h
 
 pub ahead_left : {A : Type 0} (n : ℕ) (r s : Run A) → Ahead n r s → Ahead n (costs 0 0 0 r) s
-ahead_left n r s h = record {
-  out = h.out;
-  ticks = omega (arith, h.ticks);
-  cells = omega (arith, h.cells);
-  at_least = omega (arith, h.at_least);
-  same = λ v e. omega (arith, h.same v e);
-}
+ahead_left n r s h = ahead_is n (costs 0 0 0 r) (costs 0 0 0 s) s (costs_none s) (ahead_by n n 0 0 0 0 r s (omega arith) h)
 
 pub ahead_then : {A B : Type 0} (n : ℕ) (r s : Run A) (f g : A → Run B) → Ahead 0 r s → ((v : A) → Ahead n (f v) (g v)) → Ahead n (and_then r f) (and_then s g)
 ahead_then {A} {B} n r s f g h k = at r.out refl

@@ -1,14 +1,14 @@
 -- In the forms of step two each variable is bound once.
-use Rattle.std.proofs.Common.{◌≡◌, ◌≤◌, ◌<◌, ◌+◌, ℕ, zero, suc, List, [], ◌∷◌, ◌++◌, length, Bool, true, false, cond, refl, sym, ap, subst, ◌∙◌, ⊎_elim, arith}
+use Rattle.std.proofs.Common.{◌≡◌, ◌≤◌, ◌<◌, ◌+◌, ℕ, List, [], ◌∷◌, ◌++◌, length, Bool, true, false, cond, refl, sym, ap, subst, ⊎_elim, arith}
 use Rattle.std.proofs.lemmas.Bool.{cases_lt}
 use Rattle.std.specs.Prelude.{nat_eq, ◌||◌}
 use Rattle.raml_syntax.specs.Tree.{Parameter}
 use Rattle.normal_spec.specs.Norm as n
 use Rattle.normal_spec.specs.Levels.{Levels}
 use Rattle.normal_spec.specs.One.{numbered}
-use Rattle.normal_spec.specs.Two.{Shared, among, free_in, put, used, unused, Slots, slot, drop_all, share_all, take_slot, take_all, Parted, part, to_first, to_second, to_both, of_one, of_two, of_three, over, around, two}
+use Rattle.normal_spec.specs.Two.{Shared, among, free_in, put, used, unused, Slots, slot, drop_all, share_all, take_slot, take_all, part, to_first, to_second, to_both, of_one, of_two, of_three, over, around, two}
 use Rattle.normal_spec.specs.Uses.{once, binds, times}
-use Rattle.normal_spec.proofs.StepOne.{same_number, other_number}
+use Rattle.normal_spec.proofs.StepOne.{other_number}
 use Rattle.normal_spec.proofs.StepTwo.{take_grows, takes_grow, part_grows, two_grows}
 
 -- a number of times, which is 0 but from k to below i, and 1 at most

@@ -1,64 +1,17 @@
 -- Slots, and the variables that stand for those of step one.
-use Rattle.std.proofs.Common.{◌≡◌, ◌≤◌, ◌<◌, ◌+◌, ℕ, zero, suc, List, [], ◌∷◌, ◌++◌, Bool, true, false, cond, refl, sym, ap, subst, ◌∙◌, arith}
-use Rattle.std.proofs.lemmas.Bool.{eqb-true}
-use Rattle.std.specs.Prelude.{nat_eq, not, ◌||◌, ◌&&◌}
+use Rattle.std.proofs.Common.{◌≡◌, ◌≤◌, ◌<◌, ◌+◌, ℕ, List, [], ◌∷◌, ◌++◌, Bool, true, false, cond, refl, sym, ap, subst, ◌∙◌, arith}
+use Rattle.std.proofs.lemmas.Bool.{eqb-true, or_left, or_right}
+use Rattle.std.specs.Prelude.{nat_eq}
 use Rattle.raml_syntax.specs.Value.{Value}
 use Rattle.normal_spec.specs.Norm as n
-use Rattle.normal_spec.specs.Run.{NormEnv, value_at, values_at, NormCalls, spend, walk_norm}
-use Rattle.normal_spec.specs.Two.{Shared, among, free_in, Slots, slot, copy_of, put, used, unused, drop_all, share_all, Taken, take_slot, AllTaken, take_all, behind, Parted, to_first, to_second, to_both, part}
+use Rattle.normal_spec.specs.Run.{NormEnv, value_at, values_at, NormCalls, walk_norm}
+use Rattle.normal_spec.specs.Two.{Shared, among, free_in, Slots, slot, copy_of, put, used, drop_all, share_all, take_slot, take_all, Parted, to_first, to_second, to_both, part}
+use Rattle.normal_spec.proofs.Weights.{AllLow}
 use Rattle.normal_spec.proofs.Ahead.{spend_none}
 use Rattle.normal_spec.proofs.StepOne.{same_number, other_number, Kept, kept_same, kept_more, kept_on, value_newest, value_older}
 
-pub or_left : (p q : Bool) → p ≡ true → (p || q) ≡ true
-or_left true q h = refl
-or_left false q h = absurd (cc)
-
-pub or_right : (p q : Bool) → q ≡ true → (p || q) ≡ true
-or_right true q h = refl
-or_right false q h = h
-
-pub and_both : (p q : Bool) → p ≡ true → q ≡ true → (p && q) ≡ true
-and_both true q h i = i
-and_both false q h i = absurd (cc)
-
-pub not_false : (p : Bool) → p ≡ false → not p ≡ true
-not_false true h = absurd (cc)
-not_false false h = refl
-
-pub or_false : (p q : Bool) → p ≡ false → q ≡ false → (p || q) ≡ false
-or_false true q h i = absurd (cc)
-or_false false q h i = i
-
-abbrev pub Below : ℕ → Slots → Type 0
-Below j [] = Unit {0}
-Below j (s ∷ G) = (s.0 < j) × Below j G
-
-pub below_more : (j i : ℕ) (G : Slots) → j ≤ i → Below j G → Below i G
-below_more j i [] le h = tt
-below_more j i (s ∷ G) le h = (omega (arith, h.0), below_more j i G le h.1)
-
-pub below_append : (j : ℕ) (G H : Slots) → Below j G → Below j H → Below j (G ++ H)
-below_append j [] H h i = i
-below_append j (s ∷ G) H h i = (h.0, below_append j G H h.1 i)
-
-pub below_put : (j x : ℕ) (H G : Slots) → Below j H → Below j G → Below j (put x H G)
-below_put j x H [] h g = h
-below_put j x H (s ∷ G) h g = by (nat_eq x s.0) (below_put j x H G h g.1)
-  where
-    by : (b : Bool) → Below j (put x H G) → Below j (cond b (H ++ G) (s ∷ put x H G))
-    by true rest = below_append j H G h g.1
-    by false rest = (g.0, rest)
-
-pub below_used : (j : ℕ) (e : n.Norm) (G : Slots) → Below j G → Below j (used e G)
-below_used j e [] h = tt
-below_used j e (s ∷ G) h = by (free_in s.0 e) (below_used j e G h.1)
-  where
-    by : (b : Bool) → Below j (used e G) → Below j (cond b (s ∷ used e G) (used e G))
-    by true rest = (h.0, rest)
-    by false rest = rest
-
 -- a slot that is new stands as if it were the first
-pub put_new : (j x y p c : ℕ) (H G : Slots) → Below j G → j ≤ p → copy_of y (put x (slot p c ∷ H) G) ≡ cond (nat_eq y p) c (copy_of y (put x H G))
+pub put_new : (j x y p c : ℕ) (H G : Slots) → AllLow j G → j ≤ p → copy_of y (put x (slot p c ∷ H) G) ≡ cond (nat_eq y p) c (copy_of y (put x H G))
 put_new j x y p c H [] h le = refl
 put_new j x y p c H (s ∷ G) h le = by (nat_eq x s.0) (nat_eq y s.0) refl (nat_eq y p) refl (put_new j x y p c H G h.1 le)
   where
@@ -92,7 +45,7 @@ put_same x c (s ∷ G) = by (nat_eq x s.0) refl (put_same x c G)
     by true e rest = ap (λ q. cond q c (copy_of x G)) (same_number x)
     by false e rest = ap (λ q. cond q s.1 (copy_of x (put x (slot x c ∷ []) G))) e ∙ rest
 
-pub append_new : (j y p c : ℕ) (G : Slots) → Below j G → j ≤ p → copy_of y (G ++ slot p c ∷ []) ≡ cond (nat_eq y p) c (copy_of y G)
+pub append_new : (j y p c : ℕ) (G : Slots) → AllLow j G → j ≤ p → copy_of y (G ++ slot p c ∷ []) ≡ cond (nat_eq y p) c (copy_of y G)
 append_new j y p c [] h le = refl
 append_new j y p c (s ∷ G) h le = by (nat_eq y s.0) refl (nat_eq y p) refl (append_new j y p c G h.1 le)
   where
@@ -226,8 +179,8 @@ pub record Halves (a b : n.Norm) (G : Slots) (k : ℕ) (e f : NormEnv) (r : Part
   pub second : (y : ℕ) → free_in y b ≡ true → At k y (copy_of y G) e f → At r.1 y (copy_of y r.0.second) e (after_shares r.0.shares f)
   pub kept : Kept k f (after_shares r.0.shares f)
   pub grows : k ≤ r.1
-  pub below_first : (j : ℕ) → Below j G → Below j r.0.first
-  pub below_second : (j : ℕ) → Below j G → Below j r.0.second
+  pub below_first : (j : ℕ) → AllLow j G → AllLow j r.0.first
+  pub below_second : (j : ℕ) → AllLow j G → AllLow j r.0.second
 
 -- where the slot is that of the variable, and where it is another's
 at_cases : (i : ℕ) (y x c c' : ℕ) (e f : NormEnv) → (nat_eq y x ≡ true → At i y c e f) → (nat_eq y x ≡ false → At i y c' e f) → At i y (cond (nat_eq y x) c c') e f

@@ -1,37 +1,11 @@
 -- The first form that counts stays first.
-use Rattle.std.proofs.Common.{◌≡◌, ◌<◌, ◌≤◌, ◌+◌, ℕ, zero, suc, List, [], ◌∷◌, length, refl, sym, ap, subst, ◌∙◌, arith}
+use Rattle.std.proofs.Common.{◌≡◌, ◌<◌, ℕ, List, [], ◌∷◌, refl, arith}
 use Rattle.std.specs.Prelude.{◌||◌}
 use Rattle.normal_spec.specs.Norm as n
-use Rattle.normal_spec.specs.Norm.{carries}
+use Rattle.normal_spec.specs.Norm.{carries, nodes_of}
 use Rattle.normal_spec.specs.Levels.{Levels}
-use Rattle.normal_spec.specs.Two.{free_in, Shared, Slots, share_all, drop_all, unused, used, take_slot, take_all, part, of_one, of_two, of_three, over, around, two}
+use Rattle.normal_spec.specs.Two.{free_in, Shared, Slots, share_all, drop_all, unused, used, take_slot, take_all, part, of_one, around, two}
 use Rattle.normal_spec.specs.Uses.{first_nodes}
-
--- a form of step one that has nodes
-abbrev pub nodes_of : n.Norm → ℕ
-nodes_of (n.Var k x) = k
-nodes_of (n.Number k i) = k
-nodes_of (n.Truth k b) = k
-nodes_of (n.Nil k) = k
-nodes_of (n.Leaf k) = k
-nodes_of (n.Nothing k) = k
-nodes_of (n.Arith k op x y) = k
-nodes_of (n.Compare k op x y) = k
-nodes_of (n.Not k x) = k
-nodes_of (n.Pair k x y) = k
-nodes_of (n.Cons k x y) = k
-nodes_of (n.Node k x y z) = k
-nodes_of (n.Just k x) = k
-nodes_of (n.Call k f xs) = k
-nodes_of (n.Let k x A a b) = k
-nodes_of (n.Split k x p q a) = k
-nodes_of (n.If k x a b) = k
-nodes_of (n.CaseList k x a h t b) = k
-nodes_of (n.CaseTree k x a h l r b) = k
-nodes_of (n.CaseOption k x a w b) = k
-nodes_of (n.Tick k i a) = k
-nodes_of (n.Share k x p q a) = k
-nodes_of (n.Drop k x a) = k
 
 pub counts_carries : (m : ℕ) (e : n.Norm) → 0 < m → 0 < nodes_of (carries m e)
 counts_carries m (n.Var k x) lt = omega arith

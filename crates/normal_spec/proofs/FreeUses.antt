@@ -1,5 +1,5 @@
 -- A form that uses a context has the context's variables free, and no others.
-use Rattle.std.proofs.Common.{◌≡◌, ◌≤◌, ◌<◌, ◌+◌, ℕ, zero, suc, List, [], ◌∷◌, ◌++◌, Bool, true, false, cond, Option, Some, None, refl, sym, ap, subst, ◌∙◌, arith}
+use Rattle.std.proofs.Common.{◌≡◌, ℕ, List, [], ◌∷◌, ◌++◌, Bool, true, false, Some, refl, sym, ap, ◌∙◌}
 use Rattle.std.proofs.lemmas.Bool.{eqb-true}
 use Rattle.std.specs.Prelude.{nat_eq, not, ◌||◌, ◌&&◌}
 use Rattle.raml_syntax.specs.Tree.{Type', Integer, Boolean, PairOf, ListOf, TreeOf, OptionOf}
@@ -7,7 +7,6 @@ use Rattle.normal_spec.specs.Norm as n
 use Rattle.normal_spec.specs.Norm.{NormProg}
 use Rattle.normal_spec.specs.Two.{among, free_in, find, has, put, used, unused}
 use Rattle.normal_spec.specs.Uses.{Context, AreNew, Distinct, Takes, types_of, parts_of, copies_of, Uses}
-use Rattle.normal_spec.proofs.StepOne.{same_number, other_number}
 use Rattle.normal_spec.proofs.Opened.{as_put}
 use Rattle.normal_spec.proofs.Weights.{has_append, has_put, find_has, distinct_append, distinct_put, has_used, has_unused, distinct_used, distinct_unused}
 

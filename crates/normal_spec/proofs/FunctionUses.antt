@@ -1,13 +1,11 @@
 -- The normal forms of a typed program's functions use their parameters.
-use Rattle.std.proofs.Common.{◌≡◌, ◌≤◌, ◌<◌, ◌+◌, ℕ, zero, suc, List, [], ◌∷◌, ◌++◌, map, length, Bool, true, false, cond, Option, Some, None, refl, sym, ap, subst, ◌∙◌, arith}
-use Rattle.std.proofs.lemmas.Bool.{eqb-true}
+use Rattle.std.proofs.Common.{◌≡◌, ◌≤◌, ◌<◌, ◌+◌, ℕ, List, [], ◌∷◌, map, length, Bool, true, false, cond, Option, Some, None, refl, sym, ap, subst, ◌∙◌, arith}
+use Rattle.std.proofs.lemmas.Bool.{eqb-true, and_parts, not-true, or_parts}
 use Rattle.std.proofs.lemmas.Option.{slice_get-map}
-use Rattle.std.proofs.lemmas.List.Elements.{All-head, All-tail}
-use Rattle.std.specs.Prelude.{nat_eq, not, slice_get, ◌||◌, ◌&&◌}
-use Rattle.std.specs.List.{All}
+use Rattle.std.specs.Prelude.{nat_eq, slice_get, ◌||◌}
 use Rattle.std.specs.Option.{option_map}
 use Rattle.raml_syntax.specs.Tree.{Text, Type', Integer, Boolean, PairOf, ListOf, TreeOf, OptionOf, Parameter, Function, Prog}
-use Rattle.raml_syntax.specs.Eval.{find as find_function, names_of}
+use Rattle.raml_syntax.specs.Eval.{find as find_function}
 use Rattle.raml_syntax.specs.Place.{place_of}
 use Rattle.raml_syntax.specs.Node.{AllNodes, NumberFits}
 use Rattle.raml_syntax.specs.Types as ty
@@ -15,18 +13,18 @@ use Rattle.raml_syntax.specs.Types.{type_at, bind_types, Checking, Checks, Diffe
 use Rattle.raml_syntax.proofs.Places.{functions_have_places}
 use Rattle.normal_spec.specs.Norm as n
 use Rattle.normal_spec.specs.Norm.{carries, NormFun, NormProg}
-use Rattle.normal_spec.specs.One.{Scope, number_of, types_in, bound, place_or, one, scope_of, numbered, body_of}
-use Rattle.normal_spec.specs.Two.{among, free_in, find, has, put, used, slot, around, two, own, norm_fun, norm}
-use Rattle.normal_spec.specs.Uses.{Context, Distinct, types_of, times, first_nodes, Uses, IsNormal}
-use Rattle.normal_spec.proofs.StepOne.{same_number, other_number}
+use Rattle.normal_spec.specs.One.{Scope, types_in, bound, place_or, one, scope_of, numbered, body_of}
+use Rattle.normal_spec.specs.Two.{among, free_in, has, used, around, two, own, norm_fun, norm}
+use Rattle.normal_spec.specs.Uses.{Distinct, types_of, times, Uses, IsNormal}
+use Rattle.normal_spec.proofs.StepOne.{other_number}
 use Rattle.normal_spec.proofs.Leveled.{Low, levels_carries, levels_one}
 use Rattle.normal_spec.proofs.Runs.{low_entry}
 use Rattle.normal_spec.proofs.TypedOne.{Given, more, AllGiven, OfType, type_carries, Scoped, scoped_bound, one_types}
-use Rattle.normal_spec.proofs.Weights.{AllLow, low_absent}
+use Rattle.normal_spec.proofs.Weights.{AllLow}
 use Rattle.normal_spec.proofs.StepTwo.{two_grows}
 use Rattle.normal_spec.proofs.Counted.{counts_carries, counts_around}
-use Rattle.normal_spec.proofs.BoundOnce.{InRange, range_join, around_range, numbered_range}
-use Rattle.normal_spec.proofs.Linear.{TypedSlots, slots_of, load, Same, TypedAt, Ready, serves, exact_uses, more_low, more_is}
+use Rattle.normal_spec.proofs.BoundOnce.{range_join, around_range, numbered_range}
+use Rattle.normal_spec.proofs.Linear.{TypedSlots, slots_of, Same, TypedAt, serves, exact_uses, more_low, more_is}
 
 abbrev known : Option Type' → Bool
 known None = false
@@ -35,26 +33,6 @@ known (Some A) = true
 or_case : (a b : Bool) (G : Type 0) → (a ≡ true → G) → (b ≡ true → G) → (a || b) ≡ true → G
 or_case true b G f g h = f refl
 or_case false b G f g h = g h
-
-and_left : (a b : Bool) → (a && b) ≡ true → a ≡ true
-and_left true b h = refl
-and_left false b h = absurd (cc)
-
-and_right : (a b : Bool) → (a && b) ≡ true → b ≡ true
-and_right true b h = h
-and_right false b h = absurd (cc)
-
-not_true : (a : Bool) → not a ≡ true → a ≡ false
-not_true true h = absurd (cc)
-not_true false h = refl
-
-or_false_l : (a b : Bool) → (a || b) ≡ false → a ≡ false
-or_false_l true b h = absurd (cc)
-or_false_l false b h = refl
-
-or_false_r : (a b : Bool) → (a || b) ≡ false → b ≡ false
-or_false_r true b h = absurd (cc)
-or_false_r false b h = h
 
 known_at : (V : Given) (x y : ℕ) (A : Type') → V x ≡ Some A → nat_eq y x ≡ true → known (V y) ≡ true
 known_at V x y A h q = ap (λ z. known (V z)) (eqb-true y x q) ∙ ap known h
@@ -86,12 +64,12 @@ module _ (N : NormProg) where
   type_free (n.Call k g xs) V T y h f = all_known V xs (types_of h.0) y h.3 f
   type_free (n.Let k x A a b) V T y h f =
       or_case (free_in y a) _ (known (V y) ≡ true) (type_free a V A y h.0)
-      (λ q. known_less V x y A (not_true (nat_eq y x) (and_left _ _ q)) (type_free b (more V x A) T y h.1 (and_right _ _ q))) f
+      (λ q. known_less V x y A (not-true (nat_eq y x) (and_parts _ _ q).0) (type_free b (more V x A) T y h.1 (and_parts _ _ q).1)) f
   type_free (n.Split k x p q a) V T y h f =
       or_case (nat_eq y x) _ (known (V y) ≡ true) (known_at V x y (PairOf h.0 h.1) h.2)
       (λ s.
-      let ne = not_true (nat_eq y p || nat_eq y q) (and_left _ _ s) in
-      known_less V p y h.0 (or_false_l _ _ ne) (known_less (more V p h.0) q y h.1 (or_false_r _ _ ne) (type_free a (more (more V p h.0) q h.1) T y h.3 (and_right _ _ s)))) f
+      let ne = not-true (nat_eq y p || nat_eq y q) (and_parts _ _ s).0 in
+      known_less V p y h.0 (or_parts _ _ ne).0 (known_less (more V p h.0) q y h.1 (or_parts _ _ ne).1 (type_free a (more (more V p h.0) q h.1) T y h.3 (and_parts _ _ s).1))) f
   type_free (n.If k x a b) V T y h f =
       or_case (nat_eq y x) _ (known (V y) ≡ true) (known_at V x y Boolean h.0)
       (or_case (free_in y a) (free_in y b) (known (V y) ≡ true) (type_free a V T y h.1) (type_free b V T y h.2)) f
@@ -99,20 +77,20 @@ module _ (N : NormProg) where
       or_case (nat_eq y x) _ (known (V y) ≡ true) (known_at V x y (ListOf h.0) h.1)
       (or_case (free_in y a) _ (known (V y) ≡ true) (type_free a V T y h.2)
       (λ s.
-      let ne = not_true (nat_eq y p || nat_eq y q) (and_left _ _ s) in
-      known_less V p y h.0 (or_false_l _ _ ne) (known_less (more V p h.0) q y (ListOf h.0) (or_false_r _ _ ne) (type_free b (more (more V p h.0) q (ListOf h.0)) T y h.3 (and_right _ _ s))))) f
+      let ne = not-true (nat_eq y p || nat_eq y q) (and_parts _ _ s).0 in
+      known_less V p y h.0 (or_parts _ _ ne).0 (known_less (more V p h.0) q y (ListOf h.0) (or_parts _ _ ne).1 (type_free b (more (more V p h.0) q (ListOf h.0)) T y h.3 (and_parts _ _ s).1)))) f
   type_free (n.CaseTree k x a p q r b) V T y h f =
       let B = TreeOf h.0 in
       or_case (nat_eq y x) _ (known (V y) ≡ true) (known_at V x y B h.1)
       (or_case (free_in y a) _ (known (V y) ≡ true) (type_free a V T y h.2)
       (λ s.
-      let ne = not_true (nat_eq y p || (nat_eq y q || nat_eq y r)) (and_left _ _ s) in
-      let ne' = or_false_r (nat_eq y p) _ ne in
-      known_less V p y h.0 (or_false_l _ _ ne) (known_less (more V p h.0) q y B (or_false_l _ _ ne') (known_less (more (more V p h.0) q B) r y B (or_false_r _ _ ne') (type_free b (more (more (more V p h.0) q B) r B) T y h.3 (and_right _ _ s)))))) f
+      let ne = not-true (nat_eq y p || (nat_eq y q || nat_eq y r)) (and_parts _ _ s).0 in
+      let ne' = (or_parts (nat_eq y p) _ ne).1 in
+      known_less V p y h.0 (or_parts _ _ ne).0 (known_less (more V p h.0) q y B (or_parts _ _ ne').0 (known_less (more (more V p h.0) q B) r y B (or_parts _ _ ne').1 (type_free b (more (more (more V p h.0) q B) r B) T y h.3 (and_parts _ _ s).1))))) f
   type_free (n.CaseOption k x a p b) V T y h f =
       or_case (nat_eq y x) _ (known (V y) ≡ true) (known_at V x y (OptionOf h.0) h.1)
       (or_case (free_in y a) _ (known (V y) ≡ true) (type_free a V T y h.2)
-      (λ s. known_less V p y h.0 (not_true (nat_eq y p) (and_left _ _ s)) (type_free b (more V p h.0) T y h.3 (and_right _ _ s)))) f
+      (λ s. known_less V p y h.0 (not-true (nat_eq y p) (and_parts _ _ s).0) (type_free b (more V p h.0) T y h.3 (and_parts _ _ s).1))) f
   type_free (n.Tick k i a) V T y h f = type_free a V T y h f
   type_free (n.Share k x p q a) V T y h f = absurd h
   type_free (n.Drop k x a) V T y h f = absurd h

@@ -1,5 +1,5 @@
 -- Normal forms keep runs, and use their contexts.
-use Rattle.std.proofs.Common.{◌≡◌, ◌+◌, ℕ, zero, suc, List, [], ◌∷◌, Some, refl, sym, ap, subst, ◌∙◌, arith}
+use Rattle.std.proofs.Common.{◌≡◌, ℕ, zero, suc, [], ◌∷◌, Some, refl, ap, subst, ◌∙◌, arith}
 use Rattle.std.proofs.lemmas.List.Elements.{All-head, All-tail}
 use Rattle.std.proofs.lemmas.Option.{slice_get-map}
 use Rattle.std.specs.List.{All}
@@ -9,8 +9,8 @@ use Rattle.raml_syntax.specs.Tree.{Function, Prog}
 use Rattle.raml_syntax.specs.Node.{AllNodes, NumberFits}
 use Rattle.raml_syntax.specs.Value.{Value}
 use Rattle.raml_syntax.specs.Eval.{Run, names_of}
-use Rattle.raml_syntax.specs.Types.{bind_types, Checks, Differ, Typed}
-use Rattle.normal_spec.specs.Two.{norm_fun, norm}
+use Rattle.raml_syntax.specs.Types.{bind_types, Checks, Differ}
+use Rattle.normal_spec.specs.Two.{norm_fun}
 use Rattle.normal_spec.specs.Laws.{Ahead, RunsAlike, NormalFormsKeep}
 use Rattle.normal_spec.proofs.Runs.{runs_ahead}
 use Rattle.normal_spec.proofs.FunctionUses.{function_normal, numbered_types}

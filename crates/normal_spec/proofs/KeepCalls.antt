@@ -1,5 +1,5 @@
 -- Calls of typed normal forms give values of the result types.
-use Rattle.std.proofs.Common.{◌≡◌, ◌+◌, ℕ, zero, suc, List, [], ◌∷◌, map, Bool, true, false, cond, Option, Some, None, refl, sym, ap, subst, ◌∙◌, arith}
+use Rattle.std.proofs.Common.{◌≡◌, ℕ, zero, suc, List, [], ◌∷◌, map, Bool, true, false, cond, Some, refl, sym, ap, subst, ◌∙◌}
 use Rattle.std.proofs.lemmas.Bool.{eqb-true}
 use Rattle.std.specs.Prelude.{nat_eq, slice_get, ◌||◌}
 use Rattle.raml_syntax.specs.Tree.{Type'}
@@ -8,7 +8,7 @@ use Rattle.normal_spec.specs.Norm.{NormFun, NormProg}
 use Rattle.normal_spec.specs.Run.{NormEnv, value_at, bind_norm, walk_norm, enter_norm, norm_calls_at}
 use Rattle.normal_spec.specs.Laws.{NormalRunsKeepTypes}
 use Rattle.normal_spec.specs.Two.{among, find, has}
-use Rattle.normal_spec.specs.Uses.{Context, Distinct, types_of, Uses, IsNormal}
+use Rattle.normal_spec.specs.Uses.{Context, Distinct, types_of, IsNormal}
 use Rattle.std.specs.List.{All}
 use Rattle.std.proofs.lemmas.List.Elements.{All-head, All-tail}
 use Rattle.normal_spec.proofs.StepOne.{value_newest}

@@ -1,19 +1,19 @@
 -- Normal forms that use contexts of typed values give values of their types.
-use Rattle.std.proofs.Common.{◌≡◌, ◌≤◌, ◌+◌, ℕ, zero, suc, List, [], ◌∷◌, ◌++◌, Bool, true, false, cond, Option, Some, None, refl, sym, ap, subst, ◌∙◌, arith}
+use Rattle.std.proofs.Common.{◌≡◌, ℕ, List, [], ◌∷◌, ◌++◌, Bool, true, false, cond, Option, Some, None, refl, sym, ap, subst, ◌∙◌}
 use Rattle.std.specs.Int.{w64}
-use Rattle.std.specs.Prelude.{nat_eq, slice_get, not, ◌||◌, ◌&&◌, FitsSigned}
-use Rattle.std.proofs.lemmas.Bool.{eqb-true}
+use Rattle.std.specs.Prelude.{nat_eq, slice_get, not, ◌||◌, ◌&&◌}
+use Rattle.std.proofs.lemmas.Bool.{eqb-true, or_parts}
 use Rattle.std.proofs.lemmas.Int.{SFits-int_wrap}
+use Rattle.std.proofs.lemmas.Option.{same_Some}
 use Rattle.raml_syntax.specs.Tree.{Type', Integer, Boolean, PairOf, ListOf, TreeOf, OptionOf}
-use Rattle.raml_syntax.specs.Types.{IsListType, IsTreeType, IsOptionType}
 use Rattle.raml_syntax.specs.Value.{Value, Number, Truth, Both, Empty, Cons, Node, Just, Has, HaveTypes}
 use Rattle.raml_syntax.specs.Eval.{Run, cut, goes_on, and_then, branch, negation, pair_case, list_case, tree_case, option_case}
 use Rattle.normal_spec.specs.Norm as n
 use Rattle.normal_spec.specs.Norm.{NormFun, NormProg}
 use Rattle.normal_spec.specs.Run.{NormEnv, value_at, values_at, NormCalls, spend, walk_norm}
-use Rattle.normal_spec.specs.Two.{among, free_in, find, has, put, used, unused}
+use Rattle.normal_spec.specs.Two.{free_in, find, has, put, used, unused}
 use Rattle.normal_spec.specs.Uses.{Context, AreNew, Distinct, Takes, types_of, parts_of, copies_of, Uses}
-use Rattle.normal_spec.proofs.StepOne.{same_number, other_number, value_newest, value_older}
+use Rattle.normal_spec.proofs.StepOne.{value_older}
 use Rattle.normal_spec.proofs.Weights.{find_has, distinct_append, distinct_put, distinct_used, distinct_unused, has_unused}
 use Rattle.normal_spec.proofs.Opened.{as_put}
 use Rattle.normal_spec.proofs.FreeUses.{new_apart}
@@ -21,9 +21,6 @@ use Rattle.normal_spec.proofs.FreeUses.{new_apart}
 -- each variable of the context has a value of its type
 pub record Holds (C : Context) (env : NormEnv) : Type 0 where
   pub at : (x : ℕ) (A : Type') → find x C ≡ Some A → Has (value_at x env) A
-
-some_is : {A : Type 0} (x y : A) → Some x ≡ Some y → x ≡ y
-some_is x y e = cc
 
 -- what is found in a list with an entry replaced
 find_append : (y : ℕ) (A : Type') (G H : Context) → find y (G ++ H) ≡ Some A → (P : Type 0) → (find y G ≡ Some A → P) → (find y H ≡ Some A → P) → P
@@ -80,7 +77,7 @@ here_one : (p : ℕ) (A : Type') (v : Value) (env : NormEnv) (y : ℕ) (B : Type
 here_one p A v env y B hv e = by (nat_eq y p) e
   where
     by : (b : Bool) → cond b (Some A) None ≡ Some B → Has (cond b v (value_at y env)) B
-    by true e = subst (Has v) (some_is A B e) hv
+    by true e = subst (Has v) (same_Some A B e) hv
     by false e = absurd (cc)
 
 holds_one : (x : ℕ) (C : Context) (env : NormEnv) (p : ℕ) (A : Type') (v : Value) → Distinct C → AreNew (p ∷ []) C → Has v A → Holds C env → Holds (put x ((p, A) ∷ []) C) ((p, v) ∷ env)
@@ -104,8 +101,8 @@ holds_two x C env p q A B v w d new hv hw h = record {
         two_apart true h = absurd (cc)
         two_apart false h = refl
     both y T true e false f g =
-        subst (λ u. Has u T) (sym (ap (λ b. cond b w (value_at y ((p, v) ∷ env))) f ∙ ap (λ b. cond b v (value_at y env)) e)) (subst (Has v) (some_is A T g) hv)
-    both y T false e true f g = subst (λ u. Has u T) (sym (ap (λ b. cond b w (value_at y ((p, v) ∷ env))) f)) (subst (Has w) (some_is B T g) hw)
+        subst (λ u. Has u T) (sym (ap (λ b. cond b w (value_at y ((p, v) ∷ env))) f ∙ ap (λ b. cond b v (value_at y env)) e)) (subst (Has v) (same_Some A T g) hv)
+    both y T false e true f g = subst (λ u. Has u T) (sym (ap (λ b. cond b w (value_at y ((p, v) ∷ env))) f)) (subst (Has w) (same_Some B T g) hw)
     both y T false e false f g = absurd (cc)
 
 takes_have : (C : Context) (xs : List ℕ) (As : List Type') (env : NormEnv) → Distinct C → Takes C xs As → Holds C env → HaveTypes (values_at xs env) As
@@ -117,14 +114,6 @@ takes_have C (x ∷ xs) (A ∷ As) env d t h = (h.at x A t.0, takes_have (put x 
 two_apart : (a : Bool) → (a || false) ≡ false → a ≡ false
 two_apart true h = absurd (cc)
 two_apart false h = refl
-
-first_apart : (a b : Bool) → (a || b) ≡ false → a ≡ false
-first_apart true b h = absurd (cc)
-first_apart false b h = refl
-
-last_apart : (a b : Bool) → (a || b) ≡ false → b ≡ false
-last_apart true b h = absurd (cc)
-last_apart false b h = h
 
 holds_three : (x : ℕ) (C : Context) (env : NormEnv) (p q r : ℕ) (A B D : Type') (u v w : Value) → Distinct C → AreNew (p ∷ q ∷ r ∷ []) C → Has u A → Has v B → Has w D → Holds C env → Holds (put x ((p, A) ∷ (q, B) ∷ (r, D) ∷ []) C) ((r, w) ∷ (q, v) ∷ (p, u) ∷ env)
 holds_three x C env p q r A B D u v w d new hu hv hw h = record {
@@ -138,14 +127,14 @@ holds_three x C env p q r A B D u v w d new hu hv hw h = record {
     meet a b y ne e f = let z : nat_eq a b ≡ true = ap (λ z. nat_eq z b) (sym (eqb-true y a e)) ∙ f in absurd (cc)
 
     all : (y : ℕ) (T : Type') (a : Bool) → nat_eq y p ≡ a → (b : Bool) → nat_eq y q ≡ b → (c : Bool) → nat_eq y r ≡ c → cond a (Some A) (cond b (Some B) (cond c (Some D) None)) ≡ Some T → Has (value_at y ((r, w) ∷ (q, v) ∷ (p, u) ∷ env)) T
-    all y T true ep true eq c er g = absurd (meet p q y (first_apart _ _ new.1) ep eq)
-    all y T true ep false eq true er g = absurd (meet p r y (two_apart _ (last_apart (nat_eq p q) _ new.1)) ep er)
+    all y T true ep true eq c er g = absurd (meet p q y (or_parts _ _ new.1).0 ep eq)
+    all y T true ep false eq true er g = absurd (meet p r y (two_apart _ (or_parts (nat_eq p q) _ new.1).1) ep er)
     all y T true ep false eq false er g =
-        subst (λ z. Has z T) (sym (ap (λ b. cond b w (value_at y ((q, v) ∷ (p, u) ∷ env))) er ∙ ap (λ b. cond b v (value_at y ((p, u) ∷ env))) eq ∙ ap (λ b. cond b u (value_at y env)) ep)) (subst (Has u) (some_is A T g) hu)
+        subst (λ z. Has z T) (sym (ap (λ b. cond b w (value_at y ((q, v) ∷ (p, u) ∷ env))) er ∙ ap (λ b. cond b v (value_at y ((p, u) ∷ env))) eq ∙ ap (λ b. cond b u (value_at y env)) ep)) (subst (Has u) (same_Some A T g) hu)
     all y T false ep true eq true er g = absurd (meet q r y (two_apart _ new.2.1) eq er)
     all y T false ep true eq false er g =
-        subst (λ z. Has z T) (sym (ap (λ b. cond b w (value_at y ((q, v) ∷ (p, u) ∷ env))) er ∙ ap (λ b. cond b v (value_at y ((p, u) ∷ env))) eq)) (subst (Has v) (some_is B T g) hv)
-    all y T false ep false eq true er g = subst (λ z. Has z T) (sym (ap (λ b. cond b w (value_at y ((q, v) ∷ (p, u) ∷ env))) er)) (subst (Has w) (some_is D T g) hw)
+        subst (λ z. Has z T) (sym (ap (λ b. cond b w (value_at y ((q, v) ∷ (p, u) ∷ env))) er ∙ ap (λ b. cond b v (value_at y ((p, u) ∷ env))) eq)) (subst (Has v) (same_Some B T g) hv)
+    all y T false ep false eq true er g = subst (λ z. Has z T) (sym (ap (λ b. cond b w (value_at y ((q, v) ∷ (p, u) ∷ env))) er)) (subst (Has w) (same_Some D T g) hw)
     all y T false ep false eq false er g = absurd (cc)
 
 -- a value of a run in two parts comes from a value of the first
@@ -157,7 +146,7 @@ then_inv {A} {B} r f y e = by r.out refl e
     by (Some x) q e = (x, q, e)
 
 gives : (T : Type') (v w : Value) → Some v ≡ Some w → Has v T → Has w T
-gives T v w e h = subst (λ x. Has x T) (some_is v w e) h
+gives T v w e h = subst (λ x. Has x T) (same_Some v w e) h
 
 pub negation_has : (v : Value) → Has (negation v) Boolean
 negation_has (Truth true) = tt

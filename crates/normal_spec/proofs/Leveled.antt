@@ -1,5 +1,5 @@
 -- In the forms of step one no variable hides another.
-use Rattle.std.proofs.Common.{◌≡◌, ◌≤◌, ◌<◌, ◌+◌, ℕ, zero, suc, List, [], ◌∷◌, map, length, Option, Some, None, refl, sym, ap, subst, ◌∙◌, arith}
+use Rattle.std.proofs.Common.{◌≡◌, ◌≤◌, ◌<◌, ◌+◌, ℕ, List, [], ◌∷◌, map, length, Option, Some, None, subst, arith}
 use Rattle.std.specs.Str.{bytes_eq}
 use Rattle.std.specs.Prelude.{Bool, true, false, cond}
 use Rattle.raml_syntax.specs.Tree as t
@@ -9,7 +9,7 @@ use Rattle.raml_syntax.specs.Place.{place_of}
 use Rattle.normal_spec.specs.Norm as n
 use Rattle.normal_spec.specs.Norm.{carries}
 use Rattle.normal_spec.specs.Levels.{AllBelow, Levels}
-use Rattle.normal_spec.specs.One.{Scope, number_of, types_in, bound, bound_two, bound_three, first_part, second_part, element, part_of, place_or, plain, parameters_or, first_of_types, rest_of, Operand, Is, Binds, name, after, bare, bare_all, wrap, wrap_all, operand, operands, norm_one, norm_two, norm_three, split_form, if_form, list_form, tree_form, option_form, one, found, type_of}
+use Rattle.normal_spec.specs.One.{Scope, number_of, types_in, bound, bound_two, bound_three, first_part, second_part, element, part_of, place_or, plain, parameters_or, first_of_types, rest_of, Operand, name, after, bare, bare_all, wrap, wrap_all, operand, operands, norm_one, norm_two, norm_three, split_form, if_form, list_form, tree_form, option_form, one, found, type_of}
 
 pub levels_carries : (j m : ℕ) (e : n.Norm) → Levels j e → Levels j (carries m e)
 levels_carries j m (n.Var k x) h = h

@@ -15,4 +15,3 @@ pub mod FunctionUses
 pub mod Keep
 pub mod KeepTypes
 pub mod KeepCalls
-mod Computed

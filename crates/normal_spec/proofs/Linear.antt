@@ -1,17 +1,17 @@
 -- The forms of step two use each variable of their contexts once on each path, and have the types of those of step one.
-use Rattle.std.proofs.Common.{◌≡◌, ◌≤◌, ◌<◌, ◌+◌, ℕ, zero, suc, List, [], ◌∷◌, ◌++◌, Bool, true, false, cond, Option, Some, None, refl, sym, ap, subst, ◌∙◌, ⊎_elim, arith}
-use Rattle.std.proofs.lemmas.Bool.{eqb-true, cases_lt}
+use Rattle.std.proofs.Common.{◌≡◌, ◌≤◌, ◌<◌, ◌+◌, ℕ, List, [], ◌∷◌, ◌++◌, Bool, true, false, cond, Some, refl, sym, ap, subst, ◌∙◌, ⊎_elim, arith}
+use Rattle.std.proofs.lemmas.Bool.{eqb-true, cases_lt, and_right, or_right, or_left, and_from}
 use Rattle.std.specs.Prelude.{nat_eq, not, ◌||◌, ◌&&◌}
 use Rattle.raml_syntax.specs.Tree.{Type', Integer, Boolean, PairOf, ListOf, TreeOf, OptionOf}
 use Rattle.normal_spec.specs.Norm as n
 use Rattle.normal_spec.specs.Norm.{NormProg}
-use Rattle.normal_spec.specs.Levels.{AllBelow, Levels}
-use Rattle.normal_spec.specs.Two.{Shared, among, free_in, find, has, put, used, unused, Slots, slot, copy_of, drop_all, share_all, Taken, take_slot, take_all, Parted, to_first, to_second, to_both, part, of_one, of_two, of_three, over, around, two}
+use Rattle.normal_spec.specs.Levels.{Levels}
+use Rattle.normal_spec.specs.Two.{Shared, among, free_in, find, has, put, used, unused, Slots, slot, copy_of, drop_all, share_all, take_slot, take_all, Parted, to_first, to_second, to_both, part, of_one, of_two, of_three, over, around, two}
 use Rattle.normal_spec.specs.Uses.{Context, AreNew, Distinct, Takes, types_of, parts_of, copies_of, Uses}
 use Rattle.normal_spec.proofs.StepOne.{same_number, other_number}
 use Rattle.normal_spec.proofs.TypedOne.{Given, more, AllGiven, OfType}
-use Rattle.normal_spec.proofs.StepTwo.{take_grows, two_grows, part_grows}
-use Rattle.normal_spec.proofs.Weights.{same_type, same_refl, same_is, has_append, has_put, find_has, has_find, distinct_append, distinct_put, has_used, has_unused, distinct_used, distinct_unused, AllLow, low_more, low_append, low_put, low_used, low_unused, low_absent, weigh, weigh_append, weigh_put, weigh_used, weigh_unused}
+use Rattle.normal_spec.proofs.StepTwo.{two_grows}
+use Rattle.normal_spec.proofs.Weights.{same_type, same_refl, same_is, has_append, has_put, has_find, distinct_append, distinct_put, has_used, distinct_used, distinct_unused, AllLow, low_more, low_append, low_put, low_used, low_unused, low_absent, weigh, weigh_append, weigh_put, weigh_used, weigh_unused}
 use Rattle.normal_spec.proofs.Opened.{as_opened}
 use Rattle.normal_spec.proofs.FreeUses.{uses_free}
 
@@ -389,10 +389,6 @@ module _ (N : NormProg) where
   bool_out true false h q = refl
   bool_out false f h q = refl
 
-  and_none : (f h : Bool) → h ≡ false → (f && h) ≡ false
-  and_none true h q = q
-  and_none false h q = refl
-
   second_bool : Bool → Bool → Bool
   second_bool fb fa = fb || not fa
 
@@ -405,8 +401,8 @@ module _ (N : NormProg) where
     S = [];
     first = refl;
     second = refl;
-    has_first = λ y. sym (and_none (free_in y a) false refl);
-    has_second = λ y. sym (and_none (free_in y b || not (free_in y a)) false refl);
+    has_first = λ y. sym (and_right (free_in y a) false refl);
+    has_second = λ y. sym (and_right (free_in y b || not (free_in y a)) false refl);
     distinct_first = tt;
     distinct_second = tt;
     typed_first = tt;
@@ -433,8 +429,8 @@ module _ (N : NormProg) where
             second = ap (λ G. (t.0, k + 1) ∷ G) shared.second;
             has_first = λ y. ap (λ z. nat_eq y t.0 || z) (shared.has_first y) ∙ bool_in (nat_eq y t.0) (free_in y a) (has y T) (at y a true pa);
             has_second = λ y. ap (λ z. nat_eq y t.0 || z) (shared.has_second y) ∙ bool_in (nat_eq y t.0) (free_in y b || not (free_in y a)) (has y T) (at2 y true true pa pb);
-            distinct_first = (shared.has_first t.0 ∙ and_none (free_in t.0 a) (has t.0 T) d.0, shared.distinct_first);
-            distinct_second = (shared.has_second t.0 ∙ and_none (free_in t.0 b || not (free_in t.0 a)) (has t.0 T) d.0, shared.distinct_second);
+            distinct_first = (shared.has_first t.0 ∙ and_right (free_in t.0 a) (has t.0 T) d.0, shared.distinct_first);
+            distinct_second = (shared.has_second t.0 ∙ and_right (free_in t.0 b || not (free_in t.0 a)) (has t.0 T) d.0, shared.distinct_second);
             typed_first = (ty.0, ty.1, shared.typed_first);
             typed_second = (ty.0, ty.1, shared.typed_second);
             grows = omega (arith, shared.grows);
@@ -463,7 +459,7 @@ module _ (N : NormProg) where
             second = plain.second;
             has_first = λ y. ap (λ z. nat_eq y t.0 || z) (plain.has_first y) ∙ bool_in (nat_eq y t.0) (free_in y a) (has y T) (at y a true pa);
             has_second = λ y. plain.has_second y ∙ bool_out (nat_eq y t.0) (free_in y b || not (free_in y a)) (has y T) (at2 y true false pa pb);
-            distinct_first = (plain.has_first t.0 ∙ and_none (free_in t.0 a) (has t.0 T) d.0, plain.distinct_first);
+            distinct_first = (plain.has_first t.0 ∙ and_right (free_in t.0 a) (has t.0 T) d.0, plain.distinct_first);
             distinct_second = plain.distinct_second;
             typed_first = (ty.0, ty.1, plain.typed_first);
             typed_second = plain.typed_second;
@@ -482,7 +478,7 @@ module _ (N : NormProg) where
             has_first = λ y. plain.has_first y ∙ bool_out (nat_eq y t.0) (free_in y a) (has y T) (at y a false pa);
             has_second = λ y. ap (λ z. nat_eq y t.0 || z) (plain.has_second y) ∙ bool_in (nat_eq y t.0) (free_in y b || not (free_in y a)) (has y T) (λ s. at2 y false fb pa pb s ∙ last fb);
             distinct_first = plain.distinct_first;
-            distinct_second = (plain.has_second t.0 ∙ and_none (free_in t.0 b || not (free_in t.0 a)) (has t.0 T) d.0, plain.distinct_second);
+            distinct_second = (plain.has_second t.0 ∙ and_right (free_in t.0 b || not (free_in t.0 a)) (has t.0 T) d.0, plain.distinct_second);
             typed_first = plain.typed_first;
             typed_second = (ty.0, ty.1, plain.typed_second);
             grows = plain.grows;
@@ -579,26 +575,6 @@ module _ (N : NormProg) where
   none_use : (j k : ℕ) (V : Given) (T : TypedSlots) (C : Context) → Ready j k V T C → ((y : ℕ) → has y T ≡ false) → Takes C [] []
   none_use j k V T C r h = empty_is C (r.same.at (λ e. 1) ∙ ap (load (λ e. 1)) (none_empty T h))
 
-  or_r : (a b : Bool) → b ≡ true → (a || b) ≡ true
-  or_r true b h = refl
-  or_r false b h = h
-
-  or_l : (a b : Bool) → a ≡ true → (a || b) ≡ true
-  or_l true b h = refl
-  or_l false b h = absurd (cc)
-
-  and_t : (a b : Bool) → a ≡ true → b ≡ true → (a && b) ≡ true
-  and_t true b h i = i
-  and_t false b h i = absurd (cc)
-
-  or_false_l : (a b : Bool) → (a || b) ≡ false → a ≡ false
-  or_false_l true b h = absurd (cc)
-  or_false_l false b h = refl
-
-  or_false_r : (a b : Bool) → (a || b) ≡ false → b ≡ false
-  or_false_r true b h = absurd (cc)
-  or_false_r false b h = h
-
   not_or : (a b : Bool) → a ≡ false → b ≡ false → not (a || b) ≡ true
   not_or true b h i = absurd (cc)
   not_or false true h i = absurd (cc)
@@ -623,23 +599,23 @@ module _ (N : NormProg) where
   load_in : (P : ℕ → Bool) (w : ℕ × Type' → ℕ) (F : TypedSlots) → ((c : ℕ) → has c (context_of F) ≡ true → P c ≡ true) → load (λ s. cond (P s.0) (w s) 0) F ≡ load w F
   load_in P w [] h = refl
   load_in P w (t ∷ F) h =
-      (λ i. cond (h t.1.0 (ap (λ b. b || has t.1.0 (context_of F)) (same_number t.1.0)) i) (w t.1) 0 + load_in P w F (λ c q. h c (or_r (nat_eq c t.1.0) (has c (context_of F)) q)) i)
+      (λ i. cond (h t.1.0 (ap (λ b. b || has t.1.0 (context_of F)) (same_number t.1.0)) i) (w t.1) 0 + load_in P w F (λ c q. h c (or_right (nat_eq c t.1.0) (has c (context_of F)) q)) i)
 
   load_out : (P : ℕ → Bool) (w : ℕ × Type' → ℕ) (F : TypedSlots) → ((c : ℕ) → has c (context_of F) ≡ true → P c ≡ false) → load (λ s. cond (P s.0) (w s) 0) F ≡ 0
   load_out P w [] h = refl
   load_out P w (t ∷ F) h =
-      (λ i. cond (h t.1.0 (ap (λ b. b || has t.1.0 (context_of F)) (same_number t.1.0)) i) (w t.1) 0 + load_out P w F (λ c q. h c (or_r (nat_eq c t.1.0) (has c (context_of F)) q)) i)
+      (λ i. cond (h t.1.0 (ap (λ b. b || has t.1.0 (context_of F)) (same_number t.1.0)) i) (w t.1) 0 + load_out P w F (λ c q. h c (or_right (nat_eq c t.1.0) (has c (context_of F)) q)) i)
 
   -- the same for those that are not asked for
   load_kept : (P : ℕ → Bool) (w : ℕ × Type' → ℕ) (F : TypedSlots) → ((c : ℕ) → has c (context_of F) ≡ true → P c ≡ false) → load (λ s. cond (P s.0) 0 (w s)) F ≡ load w F
   load_kept P w [] h = refl
   load_kept P w (t ∷ F) h =
-      (λ i. cond (h t.1.0 (ap (λ b. b || has t.1.0 (context_of F)) (same_number t.1.0)) i) 0 (w t.1) + load_kept P w F (λ c q. h c (or_r (nat_eq c t.1.0) (has c (context_of F)) q)) i)
+      (λ i. cond (h t.1.0 (ap (λ b. b || has t.1.0 (context_of F)) (same_number t.1.0)) i) 0 (w t.1) + load_kept P w F (λ c q. h c (or_right (nat_eq c t.1.0) (has c (context_of F)) q)) i)
 
   load_gone : (P : ℕ → Bool) (w : ℕ × Type' → ℕ) (F : TypedSlots) → ((c : ℕ) → has c (context_of F) ≡ true → P c ≡ true) → load (λ s. cond (P s.0) 0 (w s)) F ≡ 0
   load_gone P w [] h = refl
   load_gone P w (t ∷ F) h =
-      (λ i. cond (h t.1.0 (ap (λ b. b || has t.1.0 (context_of F)) (same_number t.1.0)) i) 0 (w t.1) + load_gone P w F (λ c q. h c (or_r (nat_eq c t.1.0) (has c (context_of F)) q)) i)
+      (λ i. cond (h t.1.0 (ap (λ b. b || has t.1.0 (context_of F)) (same_number t.1.0)) i) 0 (w t.1) + load_gone P w F (λ c q. h c (or_right (nat_eq c t.1.0) (has c (context_of F)) q)) i)
 
   -- The two parts of a context at a Let: what is free in the form of the first part, and the rest.
   record Divided (a : n.Norm) (D : Context) (k j : ℕ) (V : Given) (F S : TypedSlots) : Type 0 where
@@ -764,7 +740,7 @@ module _ (N : NormProg) where
       let p = parts a b T k j V r.slots r.typed in
       let c = (part a b (slots_of T) k).1 in
       let ra = around a (two a) (part a b (slots_of T) k).0.first (c + 1) in
-      let covers_a : (y : ℕ) → free_in y a ≡ true → has y p.F ≡ true = λ y f. p.has_first y ∙ and_t _ _ f (h y ∙ or_l _ _ f) in
+      let covers_a : (y : ℕ) → free_in y a ≡ true → has y p.F ≡ true = λ y f. p.has_first y ∙ and_from _ _ f (h y ∙ or_left _ _ f) in
       let serve_a : (E : Context) → Ready j (c + 1) V p.F E → Uses N E ra.0 B =
       λ E rE. subst (λ G. Uses N E (around a (two a) G (c + 1)).0 B) p.first (serves a (exact_uses a) j (c + 1) V p.F E B lv.1 ot.0 rE covers_a) in
       let W = more V x B in
@@ -790,13 +766,13 @@ module _ (N : NormProg) where
       ))
     where
       covers_b : (y : ℕ) → free_in y b ≡ true → (e : Bool) → nat_eq y x ≡ e → {s : Bool} → s ≡ ((free_in y b || not (free_in y a)) && has y T) → has y T ≡ (free_in y a || (not e && free_in y b)) → (s || (e || false)) ≡ true
-      covers_b y f true q {s} u v = or_r s (true || false) refl
-      covers_b y f false q {s} u v = or_l s (false || false) (u ∙ and_t _ _ (or_l _ _ f) (v ∙ or_r (free_in y a) (not false && free_in y b) f))
+      covers_b y f true q {s} u v = or_right s (true || false) refl
+      covers_b y f false q {s} u v = or_left s (false || false) (u ∙ and_from _ _ (or_left _ _ f) (v ∙ or_right (free_in y a) (not false && free_in y b) f))
   exact_uses (n.Split i x p q a) j k V T C A lv ot r h =
       let again = free_in x a in
       let t = take_slot again x (slots_of T) k in
       let B = PairOf ot.0 ot.1 in
-      let e = entry_of x T j V B r.typed (h x ∙ or_l (nat_eq x x) _ (same_number x)) ot.2 in
+      let e = entry_of x T j V B r.typed (h x ∙ or_left (nat_eq x x) _ (same_number x)) ot.2 in
       let c = t.1 in
       let H : TypedSlots = (p, (c, ot.0)) ∷ ((q, (c + 1, ot.1)) ∷ []) in
       let U = put x (H ++ stay again x k B) T in
@@ -812,12 +788,12 @@ module _ (N : NormProg) where
             (subst (λ G. Uses N (put t.0.name ((c, ot.0) ∷ (c + 1, ot.1) ∷ []) D) (around a (two a) G (c + 2)).0 A) slots
             (serves a (exact_uses a) (q + 1) (c + 2) (more (more V p ot.0) q ot.1) U (put t.0.name ((c, ot.0) ∷ (c + 1, ot.1) ∷ []) D) A lv.3 ot.3 g.1
             (λ y f. covers_put again x k B H T y r.slots (λ s. ap (λ z. free_in z a) (sym (eqb-true y x s)) ∙ f)
-            (λ hn ne. h y ∙ or_r (nat_eq y x) _ (and_t _ _ (not_or_two (nat_eq y p) (nat_eq y q) hn) f))))),
+            (λ hn ne. h y ∙ or_right (nat_eq y x) _ (and_from _ _ (not_or_two (nat_eq y p) (nat_eq y q) hn) f))))),
       ))
   exact_uses (n.If i x a b) j k V T C A lv ot r h =
       let again = free_in x a || free_in x b in
       let t = take_slot again x (slots_of T) k in
-      let e = entry_of x T j V Boolean r.typed (h x ∙ or_l (nat_eq x x) _ (same_number x)) ot.0 in
+      let e = entry_of x T j V Boolean r.typed (h x ∙ or_left (nat_eq x x) _ (same_number x)) ot.0 in
       let U = put x (stay again x k Boolean) T in
       let slots : slots_of U ≡ put x t.0.stay (slots_of T) = slots_put x (stay again x k Boolean) T ∙ ap (λ G. put x G (slots_of T)) (stay_slots again x T k Boolean) in
       let ra = around a (two a) (put x t.0.stay (slots_of T)) t.1 in
@@ -829,16 +805,16 @@ module _ (N : NormProg) where
         g.0,
         subst (λ G. Uses N (put t.0.name [] D) (around a (two a) G t.1).0 A) slots
             (serves a (exact_uses a) j t.1 V U (put t.0.name [] D) A lv.1 ot.1 g.1
-            (λ y f. covers_put again x k Boolean [] T y r.slots (λ s. or_l _ _ (ap (λ z. free_in z a) (sym (eqb-true y x s)) ∙ f)) (λ hn ne. h y ∙ or_r (nat_eq y x) _ (or_l _ _ f)))),
+            (λ y f. covers_put again x k Boolean [] T y r.slots (λ s. or_left _ _ (ap (λ z. free_in z a) (sym (eqb-true y x s)) ∙ f)) (λ hn ne. h y ∙ or_right (nat_eq y x) _ (or_left _ _ f)))),
         subst (λ G. Uses N (put t.0.name [] D) (around b (two b) G ra.1).0 A) slots
             (serves b (exact_uses b) j ra.1 V U (put t.0.name [] D) A lv.2 ot.2 g'.1
-            (λ y f. covers_put again x k Boolean [] T y r.slots (λ s. or_r (free_in x a) _ (ap (λ z. free_in z b) (sym (eqb-true y x s)) ∙ f)) (λ hn ne. h y ∙ or_r (nat_eq y x) _ (or_r (free_in y a) _ f)))),
+            (λ y f. covers_put again x k Boolean [] T y r.slots (λ s. or_right (free_in x a) _ (ap (λ z. free_in z b) (sym (eqb-true y x s)) ∙ f)) (λ hn ne. h y ∙ or_right (nat_eq y x) _ (or_right (free_in y a) _ f)))),
       ))
   exact_uses (n.CaseList i x a p q b) j k V T C A lv ot r h =
       let again = free_in x a || free_in x b in
       let t = take_slot again x (slots_of T) k in
       let B = ListOf ot.0 in
-      let e = entry_of x T j V B r.typed (h x ∙ or_l (nat_eq x x) _ (same_number x)) ot.1 in
+      let e = entry_of x T j V B r.typed (h x ∙ or_left (nat_eq x x) _ (same_number x)) ot.1 in
       let c = t.1 in
       let H : TypedSlots = (p, (c, ot.0)) ∷ ((q, (c + 1, B)) ∷ []) in
       let U = put x (stay again x k B) T in
@@ -857,18 +833,18 @@ module _ (N : NormProg) where
         new_two c D lD,
         subst (λ G. Uses N (put t.0.name [] D) (around a (two a) G (c + 2)).0 A) slots
             (serves a (exact_uses a) j (c + 2) V U (put t.0.name [] D) A lv.1 ot.2 g.1
-            (λ y f. covers_put again x k B [] T y r.slots (λ s. or_l _ _ (ap (λ z. free_in z a) (sym (eqb-true y x s)) ∙ f)) (λ hn ne. h y ∙ or_r (nat_eq y x) _ (or_l _ _ f)))),
+            (λ y f. covers_put again x k B [] T y r.slots (λ s. or_left _ _ (ap (λ z. free_in z a) (sym (eqb-true y x s)) ∙ f)) (λ hn ne. h y ∙ or_right (nat_eq y x) _ (or_left _ _ f)))),
         as_opened N t.0.name (c ∷ (c + 1) ∷ []) parts_of B D g.0 (around b (two b) (put x (slot p c ∷ slot q (c + 1) ∷ t.0.stay) (slots_of T)) ra.1).0 A
             (subst (λ G. Uses N (put t.0.name K D) (around b (two b) G ra.1).0 A) slots'
             (serves b (exact_uses b) (q + 1) ra.1 (more (more V p ot.0) q B) I (put t.0.name K D) A lv.4 ot.3 g'.1
-            (λ y f. covers_put again x k B H T y r.slots (λ s. or_r (free_in x a) _ (ap (λ z. free_in z b) (sym (eqb-true y x s)) ∙ f))
-            (λ hn ne. h y ∙ or_r (nat_eq y x) _ (or_r (free_in y a) _ (and_t _ _ (not_or_two (nat_eq y p) (nat_eq y q) hn) f)))))),
+            (λ y f. covers_put again x k B H T y r.slots (λ s. or_right (free_in x a) _ (ap (λ z. free_in z b) (sym (eqb-true y x s)) ∙ f))
+            (λ hn ne. h y ∙ or_right (nat_eq y x) _ (or_right (free_in y a) _ (and_from _ _ (not_or_two (nat_eq y p) (nat_eq y q) hn) f)))))),
       ))
   exact_uses (n.CaseTree i x a p q u b) j k V T C A lv ot r h =
       let again = free_in x a || free_in x b in
       let t = take_slot again x (slots_of T) k in
       let B = TreeOf ot.0 in
-      let e = entry_of x T j V B r.typed (h x ∙ or_l (nat_eq x x) _ (same_number x)) ot.1 in
+      let e = entry_of x T j V B r.typed (h x ∙ or_left (nat_eq x x) _ (same_number x)) ot.1 in
       let c = t.1 in
       let H : TypedSlots = (p, (c, ot.0)) ∷ ((q, (c + 1, B)) ∷ ((u, (c + 2, B)) ∷ [])) in
       let U = put x (stay again x k B) T in
@@ -887,18 +863,18 @@ module _ (N : NormProg) where
         new_three c D lD,
         subst (λ G. Uses N (put t.0.name [] D) (around a (two a) G (c + 3)).0 A) slots
             (serves a (exact_uses a) j (c + 3) V U (put t.0.name [] D) A lv.1 ot.2 g.1
-            (λ y f. covers_put again x k B [] T y r.slots (λ s. or_l _ _ (ap (λ z. free_in z a) (sym (eqb-true y x s)) ∙ f)) (λ hn ne. h y ∙ or_r (nat_eq y x) _ (or_l _ _ f)))),
+            (λ y f. covers_put again x k B [] T y r.slots (λ s. or_left _ _ (ap (λ z. free_in z a) (sym (eqb-true y x s)) ∙ f)) (λ hn ne. h y ∙ or_right (nat_eq y x) _ (or_left _ _ f)))),
         as_opened N t.0.name (c ∷ (c + 1) ∷ (c + 2) ∷ []) parts_of B D g.0 (around b (two b) (put x (slot p c ∷ slot q (c + 1) ∷ slot u (c + 2) ∷ t.0.stay) (slots_of T)) ra.1).0 A
             (subst (λ G. Uses N (put t.0.name K D) (around b (two b) G ra.1).0 A) slots'
             (serves b (exact_uses b) (u + 1) ra.1 (more (more (more V p ot.0) q B) u B) I (put t.0.name K D) A lv.5 ot.3 g'.1
-            (λ y f. covers_put again x k B H T y r.slots (λ s. or_r (free_in x a) _ (ap (λ z. free_in z b) (sym (eqb-true y x s)) ∙ f))
-            (λ hn ne. h y ∙ or_r (nat_eq y x) _ (or_r (free_in y a) _ (and_t _ _ (not_or_three (nat_eq y p) (nat_eq y q) (nat_eq y u) hn) f)))))),
+            (λ y f. covers_put again x k B H T y r.slots (λ s. or_right (free_in x a) _ (ap (λ z. free_in z b) (sym (eqb-true y x s)) ∙ f))
+            (λ hn ne. h y ∙ or_right (nat_eq y x) _ (or_right (free_in y a) _ (and_from _ _ (not_or_three (nat_eq y p) (nat_eq y q) (nat_eq y u) hn) f)))))),
       ))
   exact_uses (n.CaseOption i x a p b) j k V T C A lv ot r h =
       let again = free_in x a || free_in x b in
       let t = take_slot again x (slots_of T) k in
       let B = OptionOf ot.0 in
-      let e = entry_of x T j V B r.typed (h x ∙ or_l (nat_eq x x) _ (same_number x)) ot.1 in
+      let e = entry_of x T j V B r.typed (h x ∙ or_left (nat_eq x x) _ (same_number x)) ot.1 in
       let c = t.1 in
       let H : TypedSlots = (p, (c, ot.0)) ∷ [] in
       let U = put x (stay again x k B) T in
@@ -917,12 +893,12 @@ module _ (N : NormProg) where
         new_one c D lD,
         subst (λ G. Uses N (put t.0.name [] D) (around a (two a) G (c + 1)).0 A) slots
             (serves a (exact_uses a) j (c + 1) V U (put t.0.name [] D) A lv.1 ot.2 g.1
-            (λ y f. covers_put again x k B [] T y r.slots (λ s. or_l _ _ (ap (λ z. free_in z a) (sym (eqb-true y x s)) ∙ f)) (λ hn ne. h y ∙ or_r (nat_eq y x) _ (or_l _ _ f)))),
+            (λ y f. covers_put again x k B [] T y r.slots (λ s. or_left _ _ (ap (λ z. free_in z a) (sym (eqb-true y x s)) ∙ f)) (λ hn ne. h y ∙ or_right (nat_eq y x) _ (or_left _ _ f)))),
         as_opened N t.0.name (c ∷ []) parts_of B D g.0 (around b (two b) (put x (slot p c ∷ t.0.stay) (slots_of T)) ra.1).0 A
             (subst (λ G. Uses N (put t.0.name K D) (around b (two b) G ra.1).0 A) slots'
             (serves b (exact_uses b) (p + 1) ra.1 (more V p ot.0) I (put t.0.name K D) A lv.3 ot.3 g'.1
-            (λ y f. covers_put again x k B H T y r.slots (λ s. or_r (free_in x a) _ (ap (λ z. free_in z b) (sym (eqb-true y x s)) ∙ f))
-            (λ hn ne. h y ∙ or_r (nat_eq y x) _ (or_r (free_in y a) _ (and_t _ _ (not_or_one (nat_eq y p) hn) f)))))),
+            (λ y f. covers_put again x k B H T y r.slots (λ s. or_right (free_in x a) _ (ap (λ z. free_in z b) (sym (eqb-true y x s)) ∙ f))
+            (λ hn ne. h y ∙ or_right (nat_eq y x) _ (or_right (free_in y a) _ (and_from _ _ (not_or_one (nat_eq y p) hn) f)))))),
       ))
   exact_uses (n.Tick i m a) j k V T C A lv ot r h = exact_uses a j k V T C A lv ot r h
   exact_uses (n.Share i x p q a) j k V T C A lv ot r h = absurd lv

@@ -1,5 +1,5 @@
 -- New variables in place of one whose type is known.
-use Rattle.std.proofs.Common.{◌≡◌, ℕ, List, Some, sym, ap, subst}
+use Rattle.std.proofs.Common.{◌≡◌, ℕ, List, sym, ap, subst}
 use Rattle.std.specs.Prelude.{zip}
 use Rattle.raml_syntax.specs.Tree.{Type'}
 use Rattle.normal_spec.specs.Norm as n

@@ -1,30 +1,28 @@
 -- Runs of normal forms beside those of the source.
-use Rattle.std.proofs.Common.{◌≡◌, ◌≤◌, ◌<◌, ◌+◌, ◌-◌, ℕ, zero, suc, List, [], ◌∷◌, map, length, Bool, true, false, cond, Option, Some, None, refl, sym, ap, subst, ◌∙◌, arith}
+use Rattle.std.proofs.Common.{◌≡◌, ◌≤◌, ◌<◌, ◌+◌, ℕ, zero, suc, List, [], ◌∷◌, map, length, Bool, true, false, cond, Option, Some, None, refl, sym, ap, subst, ◌∙◌, arith}
 use Rattle.std.proofs.lemmas.Bool.{eqb-true}
 use Rattle.std.proofs.lemmas.Option.{slice_get-map, slice_get_past}
 use Rattle.std.specs.Prelude.{pos, nat_eq, slice_get, ◌||◌}
-use Rattle.std.specs.List.{All, Contains}
+use Rattle.std.specs.List.{Contains}
 use Rattle.std.specs.Option.{option_map}
 use Rattle.std.specs.Str.{bytes_eq}
 use Rattle.std.specs.Cmp.Lexicographic.{bytes_decides}
-use Rattle.raml_syntax.specs.Tree as t
 use Rattle.raml_syntax.specs.Tree.{Text, Type', Parameter, Function, Prog}
 use Rattle.raml_syntax.specs.Value.{Value, Number}
-use Rattle.raml_syntax.specs.Eval.{Run, cut, costs, node, Env, look, bind_all, names_of, find, enter, Calls, walk, calls_at, eval, run_of}
+use Rattle.raml_syntax.specs.Eval.{Run, cut, Env, look, bind_all, names_of, find, enter, Calls, walk, calls_at, run_of}
 use Rattle.raml_syntax.specs.Types.{Differ}
 use Rattle.raml_syntax.specs.Place.{place_of}
 use Rattle.raml_syntax.proofs.Places.{functions_have_places}
 use Rattle.normal_spec.specs.Norm as n
 use Rattle.normal_spec.specs.Norm.{carries, NormFun, NormProg}
-use Rattle.normal_spec.specs.Run.{NormEnv, value_at, bind_norm, spend, NormCalls, walk_norm, less_one, variables_of, enter_norm, norm_calls_at, eval_norm, run_norm}
+use Rattle.normal_spec.specs.Run.{NormEnv, value_at, bind_norm, spend, NormCalls, walk_norm, less_one, enter_norm, norm_calls_at, run_norm}
 use Rattle.normal_spec.specs.One.{Scope, number_of, bound, place_or, one, scope_of, numbered, body_of}
-use Rattle.normal_spec.specs.Levels.{Levels}
-use Rattle.normal_spec.specs.Two.{among, free_in, Slots, slot, copy_of, around, two, own, norm_fun, norm}
+use Rattle.normal_spec.specs.Two.{among, copy_of, own, norm_fun, norm}
 use Rattle.normal_spec.specs.Laws.{Ahead}
 use Rattle.normal_spec.proofs.Ahead.{run_is, walk_carries, ahead_same, ahead_is, ahead_node}
-use Rattle.normal_spec.proofs.StepOne.{same_number, other_number, Kept, kept_same, value_newest, value_older, Stands, stands_on, stands_bound, walk_ahead}
+use Rattle.normal_spec.proofs.StepOne.{other_number, kept_same, value_older, Stands, stands_on, stands_bound, walk_ahead}
 use Rattle.normal_spec.proofs.Leveled.{Low, levels_carries, levels_one}
-use Rattle.normal_spec.proofs.Copies.{Below, At}
+use Rattle.normal_spec.proofs.Weights.{AllLow}
 use Rattle.normal_spec.proofs.StepTwo.{Agrees, around_walks, two_walks}
 
 abbrev zero_value : Value
@@ -80,7 +78,7 @@ stands_entry (p ∷ ps) (v ∷ vs) k S env f differ free st =
     other x h false q = free.name x (contains_later x p.name (names ps) h)
 
 -- parameters stand for themselves
-below_own : (ps : List Parameter) (k j : ℕ) → k + length ps ≤ j → Below j (own (numbered ps k))
+below_own : (ps : List Parameter) (k j : ℕ) → k + length ps ≤ j → AllLow j (own (numbered ps k))
 below_own [] k j le = tt
 below_own (p ∷ ps) k j le = (omega arith, below_own ps (k + 1) j (omega arith))
 

@@ -1,17 +1,17 @@
 -- The forms of step one evaluate as the expressions that they are made from.
-use Rattle.std.proofs.Common.{◌≡◌, ◌≤◌, ◌<◌, ◌+◌, ℕ, zero, suc, List, [], ◌∷◌, map, length, Bool, true, false, cond, Option, Some, None, refl, sym, ap, subst, ◌∙◌, arith}
+use Rattle.std.proofs.Common.{◌≡◌, ◌≤◌, ◌<◌, ◌+◌, ℕ, List, [], ◌∷◌, map, length, Bool, true, false, cond, Option, Some, None, refl, sym, ap, subst, ◌∙◌, arith}
 use Rattle.std.proofs.lemmas.Bool.{eqb-true, eq-eqb, false_from_ne_true}
 use Rattle.std.specs.Prelude.{nat_eq}
 use Rattle.std.specs.Str.{bytes_eq}
 use Rattle.raml_syntax.specs.Tree as t
 use Rattle.raml_syntax.specs.Tree.{Text, Type', Integer, Boolean, ListOf, TreeOf, OptionOf, Bound, Function, Prog}
-use Rattle.raml_syntax.specs.Value.{Value, Number, Truth, Both, Empty, Cons, Node, Just}
+use Rattle.raml_syntax.specs.Value.{Value, Both, Cons, Node, Just}
 use Rattle.raml_syntax.specs.Eval.{Run, done, cut, costs, goes_on, and_then, node, new_cell, Env, look, arith as calculate, compare, negation, branch, pair_case, list_case, tree_case, option_case, Calls, walk, walk_all, find}
 use Rattle.raml_syntax.specs.Place.{place_of}
 use Rattle.normal_spec.specs.Norm as n
 use Rattle.normal_spec.specs.Norm.{carries}
 use Rattle.normal_spec.specs.Run.{NormEnv, value_at, values_at, NormCalls, spend, walk_norm}
-use Rattle.normal_spec.specs.One.{Scope, Named, number_of, types_in, bound, first_part, second_part, element, part_of, place_or, plain, parameters_or, first_of_types, rest_of, Operand, Is, Binds, name, after, bare, bare_all, wrap, wrap_all, operand, operands, with_one, with_two, with_three, with_all, norm_one, norm_two, norm_three, split_form, if_form, list_form, tree_form, option_form, bound_two, bound_three, one, found, type_of}
+use Rattle.normal_spec.specs.One.{Scope, number_of, types_in, bound, first_part, second_part, element, part_of, place_or, plain, parameters_or, first_of_types, rest_of, Operand, name, after, bare, bare_all, wrap, wrap_all, operand, operands, norm_one, norm_two, norm_three, split_form, if_form, list_form, tree_form, option_form, bound_two, one, found, type_of}
 use Rattle.normal_spec.specs.Laws.{Ahead}
 use Rattle.normal_spec.proofs.Ahead.{run_is, spend_none, walk_carries, ahead_same, ahead_is, ahead_node, ahead_paid, ahead_costs, ahead_none, ahead_left, ahead_then, ahead_branch, ahead_pair, ahead_list, ahead_tree, ahead_option}
 

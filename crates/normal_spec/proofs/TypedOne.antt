@@ -1,10 +1,8 @@
 -- The forms of step one have the types of their expressions.
-use Rattle.std.proofs.Common.{◌≡◌, ◌≤◌, ◌<◌, ◌+◌, ℕ, zero, suc, List, [], ◌∷◌, map, length, Bool, true, false, cond, Option, Some, None, refl, sym, ap, subst, ◌∙◌, arith}
+use Rattle.std.proofs.Common.{◌≡◌, ◌≤◌, ◌<◌, ◌+◌, ℕ, List, [], ◌∷◌, map, length, Bool, true, false, cond, Option, Some, None, refl, sym, ap, subst, ◌∙◌, arith}
 use Rattle.std.specs.Prelude.{nat_eq, slice_get, FitsSigned}
 use Rattle.std.specs.Int.{w64}
-use Rattle.std.specs.Option.{option_map}
 use Rattle.std.specs.Str.{bytes_eq}
-use Rattle.std.proofs.lemmas.Option.{slice_get-map}
 use Rattle.raml_syntax.specs.Tree as t
 use Rattle.raml_syntax.specs.Tree.{Text, Type', Integer, Boolean, PairOf, ListOf, TreeOf, OptionOf, Bound, Parameter, Function, Prog}
 use Rattle.raml_syntax.specs.Eval.{find}
@@ -12,13 +10,10 @@ use Rattle.raml_syntax.specs.Place.{place_of}
 use Rattle.raml_syntax.specs.Node.{AllNodes, AllOf, NumberFits}
 use Rattle.raml_syntax.specs.Types as ty
 use Rattle.raml_syntax.specs.Types.{type_at, IsListType, IsTreeType, IsOptionType, Way, Finding, Checking, OnlyChecked, HasType, CheckEach}
-use Rattle.raml_syntax.proofs.Places.{functions_have_places}
 use Rattle.normal_spec.specs.Norm as n
 use Rattle.normal_spec.specs.Norm.{carries, NormFun, NormProg}
 use Rattle.normal_spec.specs.Uses.{types_of}
-use Rattle.normal_spec.specs.One.{Scope, number_of, types_in, bound, bound_two, bound_three, first_part, second_part, element, part_of, type_or, result_or, place_or, plain, parameters_or, first_of_types, rest_of, Operand, Is, Binds, name, after, bare, bare_all, wrap, wrap_all, operand, operands, norm_one, norm_two, norm_three, split_form, if_form, list_form, tree_form, option_form, one, found, type_of, numbered}
-use Rattle.normal_spec.specs.Two.{norm_fun, norm}
-use Rattle.normal_spec.proofs.Leveled.{Low}
+use Rattle.normal_spec.specs.One.{Scope, number_of, types_in, bound, bound_two, bound_three, first_part, second_part, element, part_of, type_or, result_or, place_or, plain, parameters_or, Operand, name, after, bare, bare_all, wrap, wrap_all, operand, operands, norm_one, norm_two, norm_three, split_form, if_form, list_form, tree_form, option_form, one, found, type_of}
 use Rattle.normal_spec.proofs.StepOne.{same_number, other_number}
 
 -- the types of variables

@@ -1,10 +1,10 @@
 -- Lists by numbers: what they have, and what they weigh.
-use Rattle.std.proofs.Common.{◌≡◌, ◌≤◌, ◌<◌, ◌+◌, ℕ, zero, suc, List, [], ◌∷◌, ◌++◌, Bool, true, false, cond, Option, Some, None, refl, sym, ap, subst, ◌∙◌, arith}
-use Rattle.std.proofs.lemmas.Bool.{eqb-true}
+use Rattle.std.proofs.Common.{◌≡◌, ◌≤◌, ◌<◌, ◌+◌, ℕ, List, [], ◌∷◌, ◌++◌, Bool, true, false, cond, Some, refl, sym, ap, ◌∙◌, arith}
+use Rattle.std.proofs.lemmas.Bool.{eqb-true, and_parts, or_from, or_right, and_right}
 use Rattle.std.specs.Prelude.{nat_eq, not, ◌||◌, ◌&&◌}
 use Rattle.raml_syntax.specs.Tree.{Type', Integer, Boolean, PairOf, ListOf, TreeOf, OptionOf}
 use Rattle.normal_spec.specs.Norm as n
-use Rattle.normal_spec.specs.Two.{among, free_in, find, has, put, used, unused}
+use Rattle.normal_spec.specs.Two.{free_in, find, has, put, used, unused}
 use Rattle.normal_spec.specs.Uses.{Distinct}
 use Rattle.normal_spec.proofs.StepOne.{same_number, other_number}
 
@@ -25,14 +25,10 @@ same_refl (ListOf A) = same_refl A
 same_refl (TreeOf A) = same_refl A
 same_refl (OptionOf A) = same_refl A
 
-and_true : (a b : Bool) → (a && b) ≡ true → (a ≡ true) × (b ≡ true)
-and_true true b h = (refl, h)
-and_true false b h = absurd (cc)
-
 pub same_is : (A B : Type') → same_type A B ≡ true → A ≡ B
 same_is Integer Integer h = refl
 same_is Boolean Boolean h = refl
-same_is (PairOf A B) (PairOf C D) h = let q = and_true (same_type A C) (same_type B D) h in (λ i. PairOf (same_is A C q.0 i) (same_is B D q.1 i))
+same_is (PairOf A B) (PairOf C D) h = let q = and_parts (same_type A C) (same_type B D) h in (λ i. PairOf (same_is A C q.0 i) (same_is B D q.1 i))
 same_is (ListOf A) (ListOf B) h = ap ListOf (same_is A B h)
 same_is (TreeOf A) (TreeOf B) h = ap TreeOf (same_is A B h)
 same_is (OptionOf A) (OptionOf B) h = ap OptionOf (same_is A B h)
@@ -97,32 +93,16 @@ has_find {B} x (s ∷ G) h = by (has_find x G) (nat_eq x s.0) h
     by rest true h = (s.1, refl)
     by rest false h = rest h
 
-or_false_left : (a b : Bool) → (a || b) ≡ false → a ≡ false
-or_false_left true b h = absurd (cc)
-or_false_left false b h = refl
-
-or_false_right : (a b : Bool) → (a || b) ≡ false → b ≡ false
-or_false_right true b h = absurd (cc)
-or_false_right false b h = h
-
-or_false_both : (a b : Bool) → a ≡ false → b ≡ false → (a || b) ≡ false
-or_false_both true b h i = absurd (cc)
-or_false_both false b h i = i
-
-or_true_right : (a b : Bool) → b ≡ true → (a || b) ≡ true
-or_true_right true b h = refl
-or_true_right false b h = h
-
 pub distinct_append : {B : Type 0} (G H : List (ℕ × B)) → Distinct G → Distinct H → ((y : ℕ) → has y G ≡ true → has y H ≡ false) → Distinct (G ++ H)
 distinct_append [] H d e apart = e
 distinct_append (s ∷ G) H d e apart = (
-  has_append s.0 G H ∙ or_false_both (has s.0 G) (has s.0 H) d.0 (apart s.0 (ap (λ b. b || has s.0 G) (same_number s.0))),
-  distinct_append G H d.1 e (λ y h. apart y (or_true_right (nat_eq y s.0) (has y G) h)),
+  has_append s.0 G H ∙ or_from (has s.0 G) (has s.0 H) d.0 (apart s.0 (ap (λ b. b || has s.0 G) (same_number s.0))),
+  distinct_append G H d.1 e (λ y h. apart y (or_right (nat_eq y s.0) (has y G) h)),
 )
 
 pub distinct_put : {B : Type 0} (x : ℕ) (H G : List (ℕ × B)) → Distinct G → Distinct H → ((y : ℕ) → nat_eq y x ≡ false → has y G ≡ true → has y H ≡ false) → Distinct (put x H G)
 distinct_put x H [] d e apart = e
-distinct_put x H (s ∷ G) d e apart = by (nat_eq x s.0) refl (distinct_put x H G d.1 e (λ y ne h. apart y ne (or_true_right (nat_eq y s.0) (has y G) h)))
+distinct_put x H (s ∷ G) d e apart = by (nat_eq x s.0) refl (distinct_put x H G d.1 e (λ y ne h. apart y ne (or_right (nat_eq y s.0) (has y G) h)))
   where
     by : (b : Bool) → nat_eq x s.0 ≡ b → Distinct (put x H G) → Distinct (cond b (H ++ G) (s ∷ put x H G))
     by true q rest =
@@ -132,12 +112,12 @@ distinct_put x H (s ∷ G) d e apart = by (nat_eq x s.0) refl (distinct_put x H 
         away : (y : ℕ) → has y H ≡ true → (g : Bool) → has y G ≡ g → g ≡ false
         away y h true g =
             let here : nat_eq y x ≡ false = other_number y x (λ w. let z : has y G ≡ false = ap (λ z. has z G) (w ∙ eqb-true x s.0 q) ∙ d.0 in absurd (cc)) in
-            let none = apart y here (or_true_right (nat_eq y s.0) (has y G) g) in
+            let none = apart y here (or_right (nat_eq y s.0) (has y G) g) in
             absurd (cc)
         away y h false g = refl
     by false q rest =
         let ne : nat_eq s.0 x ≡ false = other_number s.0 x (λ w. let z : nat_eq x s.0 ≡ true = ap (λ z. nat_eq x z) w ∙ same_number x in absurd (cc)) in
-        (has_put x s.0 H G d.1 ∙ or_false_both (has s.0 H) _ (apart s.0 ne (ap (λ b. b || has s.0 G) (same_number s.0))) (ap (λ g. not (nat_eq s.0 x) && g) d.0 ∙ none (nat_eq s.0 x)), rest)
+        (has_put x s.0 H G d.1 ∙ or_from (has s.0 H) _ (apart s.0 ne (ap (λ b. b || has s.0 G) (same_number s.0))) (ap (λ g. not (nat_eq s.0 x) && g) d.0 ∙ none (nat_eq s.0 x)), rest)
       where
         none : (b : Bool) → (not b && false) ≡ false
         none true = refl
@@ -195,16 +175,12 @@ has_unused e y (s ∷ G) = by (free_in s.0 e) refl (nat_eq y s.0) refl (has_unus
     by true q true i rest = rest ∙ gone (free_in y e) (has y G) (ap (λ z. free_in z e) (eqb-true y s.0 i) ∙ q)
     by true q false i rest = rest ∙ bool (free_in y e) (has y G)
 
-and_false : (f g : Bool) → g ≡ false → (f && g) ≡ false
-and_false true g h = h
-and_false false g h = refl
-
 pub distinct_used : {B : Type 0} (e : n.Norm) (G : List (ℕ × B)) → Distinct G → Distinct (used e G)
 distinct_used e [] d = tt
 distinct_used e (s ∷ G) d = by (free_in s.0 e) (distinct_used e G d.1)
   where
     by : (b : Bool) → Distinct (used e G) → Distinct (cond b (s ∷ used e G) (used e G))
-    by true rest = (has_used e s.0 G ∙ and_false (free_in s.0 e) (has s.0 G) d.0, rest)
+    by true rest = (has_used e s.0 G ∙ and_right (free_in s.0 e) (has s.0 G) d.0, rest)
     by false rest = rest
 
 pub distinct_unused : {B : Type 0} (e : n.Norm) (G : List (ℕ × B)) → Distinct G → Distinct (unused e G)
@@ -212,7 +188,7 @@ distinct_unused e [] d = tt
 distinct_unused e (s ∷ G) d = by (free_in s.0 e) (distinct_unused e G d.1)
   where
     by : (b : Bool) → Distinct (unused e G) → Distinct (cond b (unused e G) (s ∷ unused e G))
-    by false rest = (has_unused e s.0 G ∙ and_false (not (free_in s.0 e)) (has s.0 G) d.0, rest)
+    by false rest = (has_unused e s.0 G ∙ and_right (not (free_in s.0 e)) (has s.0 G) d.0, rest)
     by true rest = rest
 
 -- the numbers are below k
@@ -254,7 +230,7 @@ low_unused k e (s ∷ G) g = by (free_in s.0 e) (low_unused k e G g.1)
 
 pub low_absent : {B : Type 0} (k y : ℕ) (G : List (ℕ × B)) → AllLow k G → k ≤ y → has y G ≡ false
 low_absent k y [] g le = refl
-low_absent k y (s ∷ G) g le = or_false_both (nat_eq y s.0) (has y G) (other_number y s.0 (λ q. let l = g.0 in omega arith)) (low_absent k y G g.1 le)
+low_absent k y (s ∷ G) g le = or_from (nat_eq y s.0) (has y G) (other_number y s.0 (λ q. let l = g.0 in omega arith)) (low_absent k y G g.1 le)
 
 -- the sum of the weights of the entries
 abbrev pub weigh : {B : Type 0} → (ℕ × B → ℕ) → List (ℕ × B) → ℕ

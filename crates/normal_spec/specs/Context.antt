@@ -1,5 +1,5 @@
 -- Contexts: the variables that a form is to use up, in order, with their types.
-use Rattle.std.specs.Prelude.{◌≡◌, ℕ, suc, nat_eq, cond, List, [], ◌∷◌, map, zip, Bool, false, Option, Some}
+use Rattle.std.specs.Prelude.{◌≡◌, ℕ, suc, nat_eq, cond, List, [], ◌∷◌, map, zip, false, Some}
 use Rattle.raml_syntax.specs.Tree.{Type', PairOf, ListOf, TreeOf, OptionOf}
 use Rattle.normal_spec.specs.Norm as n
 use Rattle.normal_spec.specs.One.{type_or}

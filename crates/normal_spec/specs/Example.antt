@@ -1,5 +1,5 @@
 -- Worked normal forms.
-use Rattle.std.specs.Prelude.{◌≡◌, ℕ, pos, [], ◌∷◌, Some, None}
+use Rattle.std.specs.Prelude.{◌≡◌, pos, [], ◌∷◌, Some, None}
 use Rattle.raml_syntax.specs.declared.tree.ArithOp.TheVariants.{Add}
 use Rattle.raml_syntax.specs.Tree as t
 use Rattle.raml_syntax.specs.Tree.{Text, Type', Integer, ListOf, PairOf, OptionOf, Bound, Parameter, Function, Prog}

@@ -1,5 +1,5 @@
 -- Free variables, and lists by variables.
-use Rattle.std.specs.Prelude.{ℕ, nat_eq, List, [], ◌∷◌, ◌++◌, Bool, true, false, cond, not, ◌||◌, ◌&&◌, Option, Some, None}
+use Rattle.std.specs.Prelude.{ℕ, nat_eq, List, [], ◌∷◌, ◌++◌, Bool, false, cond, not, ◌||◌, ◌&&◌, Option, Some, None}
 use Rattle.normal_spec.specs.Norm as n
 
 abbrev pub among : ℕ → List ℕ → Bool

@@ -66,6 +66,32 @@ carries n (Tick k i a) = Tick (n + k) i a
 carries n (Share k x p q a) = Share (n + k) x p q a
 carries n (Drop k x a) = Drop (n + k) x a
 
+-- the nodes that the form itself has
+abbrev pub nodes_of : Norm → ℕ
+nodes_of (Var k x) = k
+nodes_of (Number k i) = k
+nodes_of (Truth k b) = k
+nodes_of (Nil k) = k
+nodes_of (Leaf k) = k
+nodes_of (Nothing k) = k
+nodes_of (Arith k op x y) = k
+nodes_of (Compare k op x y) = k
+nodes_of (Not k x) = k
+nodes_of (Pair k x y) = k
+nodes_of (Cons k x y) = k
+nodes_of (Node k x y z) = k
+nodes_of (Just k x) = k
+nodes_of (Call k f xs) = k
+nodes_of (Let k x A a b) = k
+nodes_of (Split k x p q a) = k
+nodes_of (If k x a b) = k
+nodes_of (CaseList k x a h t b) = k
+nodes_of (CaseTree k x a h l r b) = k
+nodes_of (CaseOption k x a w b) = k
+nodes_of (Tick k i a) = k
+nodes_of (Share k x p q a) = k
+nodes_of (Drop k x a) = k
+
 -- what a recursion on a form goes down in
 abbrev pub size : Norm → ℕ
 size (Let k x A a b) = 2 + size a + size b

@@ -1,10 +1,10 @@
 -- Each variable of a context is used once on each path, and types fit.
-use Rattle.std.specs.Prelude.{◌≡◌, ◌≤◌, ◌<◌, ◌+◌, ℕ, nat_eq, cond, List, [], ◌∷◌, ◌++◌, map, Some, slice_get, FitsSigned}
+use Rattle.std.specs.Prelude.{◌≡◌, ◌≤◌, ◌<◌, ◌+◌, ℕ, nat_eq, cond, List, [], ◌∷◌, ◌++◌, Some, slice_get, FitsSigned}
 use Rattle.std.specs.Int.{w64}
 use Rattle.raml_syntax.specs.Tree.{Type', Integer, Boolean, PairOf, ListOf, TreeOf, OptionOf}
 use Rattle.raml_syntax.specs.Types.{IsListType, IsTreeType, IsOptionType}
 use Rattle.normal_spec.specs.Norm as n
-use Rattle.normal_spec.specs.Norm.{NormFun, NormProg}
+use Rattle.normal_spec.specs.Norm.{NormFun, NormProg, nodes_of}
 pub use Rattle.normal_spec.specs.Context.{Context, types, IsIn, without, opened, parts_of, copies_of, inners, others, AreNew, Distinct}
 
 -- the operands, of these types, are the whole context
@@ -40,27 +40,7 @@ times c (b ∷ C) = once c b.0 + times c C
 abbrev pub first_nodes : n.Norm → ℕ
 first_nodes (n.Share k x p q a) = first_nodes a
 first_nodes (n.Drop k x a) = first_nodes a
-first_nodes (n.Var k x) = k
-first_nodes (n.Number k i) = k
-first_nodes (n.Truth k b) = k
-first_nodes (n.Nil k) = k
-first_nodes (n.Leaf k) = k
-first_nodes (n.Nothing k) = k
-first_nodes (n.Arith k op x y) = k
-first_nodes (n.Compare k op x y) = k
-first_nodes (n.Not k x) = k
-first_nodes (n.Pair k x y) = k
-first_nodes (n.Cons k x y) = k
-first_nodes (n.Node k x y z) = k
-first_nodes (n.Just k x) = k
-first_nodes (n.Call k f xs) = k
-first_nodes (n.Let k x A a b) = k
-first_nodes (n.Split k x p q a) = k
-first_nodes (n.If k x a b) = k
-first_nodes (n.CaseList k x a h t b) = k
-first_nodes (n.CaseTree k x a h l r b) = k
-first_nodes (n.CaseOption k x a w b) = k
-first_nodes (n.Tick k i a) = k
+first_nodes e = nodes_of e
 
 module _ (N : NormProg) where
   -- the form uses each variable of the context once on each path, and has the type

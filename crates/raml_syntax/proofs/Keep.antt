@@ -5,6 +5,7 @@ use Rattle.std.specs.List.{All}
 use Rattle.std.specs.Str.{bytes_eq}
 use Rattle.std.proofs.lemmas.Int.{SFits-int_wrap}
 use Rattle.std.proofs.lemmas.List.Elements.{All-head, All-tail}
+use Rattle.std.proofs.lemmas.Option.{same_Some}
 use Rattle.raml_syntax.specs.Tree as t
 use Rattle.raml_syntax.specs.Tree.{Text, Type', Integer, Boolean, PairOf, ListOf, TreeOf, OptionOf, ArithOp, CompareOp, Bound, Parameter, Function, Prog}
 use Rattle.raml_syntax.specs.Value.{Value, Number, Truth, Both, Empty, Cons, Node, Just, Has, HaveTypes}
@@ -13,9 +14,6 @@ use Rattle.raml_syntax.specs.Types.{Context, type_at, bind_types, types_of, IsLi
 use Rattle.raml_syntax.specs.Default.{IsNumber, IsTruth, IsBound, Taken, TakenPair, TakenList, TakenTree, TakenOption, Asked, NoDefault, NoDefaults, Enters, CallMeetsNone}
 use Rattle.raml_syntax.specs.Node.{AllNodes, AllOf, NumberFits}
 use Rattle.raml_syntax.specs.Laws.{Keeps, Holds, TypedRunsKeepTypes}
-
-some_is : {A : Type 0} (x y : A) → Some x ≡ Some y → x ≡ y
-some_is x y e = cc
 
 -- a value of a run in two parts comes from a value of the first
 then_inv : {A B : Type 0} (r : Run A) (f : A → Run B) (y : B) → (and_then r f).out ≡ Some y → (x : A) × (r.out ≡ Some x) × ((f x).out ≡ Some y)
@@ -27,13 +25,13 @@ then_inv {A} {B} r f y e = by r.out refl e
 
 -- the value that a finished run gives
 gives : (T : Type') (v w : Value) → Some v ≡ Some w → Has v T → Has w T
-gives T v w e h = subst (λ x. Has x T) (some_is v w e) h
+gives T v w e h = subst (λ x. Has x T) (same_Some v w e) h
 
 holds_more : (x : Text) (A : Type') (v : Value) (G : Context) (env : Env) → Has v A → Holds G env → Holds ((x, A) ∷ G) ((x, v) ∷ env)
 holds_more x A v G env h k = record { at = λ y B. by y B (bytes_eq y x) }
   where
     by : (y : Text) (B : Type') (c : Bool) → cond c (Some A) (type_at y G) ≡ Some B → Has (cond c v (look y env)) B × cond c (Unit {0}) (IsBound y env)
-    by y B true e = (subst (Has v) (some_is A B e) h, tt)
+    by y B true e = (subst (Has v) (same_Some A B e) h, tt)
     by y B false e = k.at y B e
 
 holds_bound : (ps : List Parameter) (vs : List Value) (G : Context) (env : Env) → HaveTypes vs (map (λ (p : Parameter). p.type) ps) → Holds G env → Holds (bind_types G ps) (bind_all env (map (λ (p : Parameter). p.name) ps) vs)
@@ -275,7 +273,7 @@ module _ (P : Prog) (call : Calls) (asked : Asked) (calls : CallsKeep P call ask
         record { value = λ v e. subst (Has v) (sym h.0) (ka.value v e); no_default = ka.no_default }
 
     all_keep : (es : t.Terms) (G : Context) (env : Env) (As : List Type') → AllOf NumberFits es → CheckEach P G es As → Holds G env → KeepsAll As (walk_all call es env) (NoDefaults call asked es env)
-    all_keep t.None G env [] fits h k = record { values = λ vs e. subst (λ ws. HaveTypes ws []) (some_is _ _ e) tt; no_default = tt }
+    all_keep t.None G env [] fits h k = record { values = λ vs e. subst (λ ws. HaveTypes ws []) (same_Some _ _ e) tt; no_default = tt }
     all_keep t.None G env (A ∷ As) fits h k = absurd h
     all_keep (t.More a es) G env [] fits h k = absurd h
     all_keep (t.More a es) G env (A ∷ As) fits h k =
@@ -285,7 +283,7 @@ module _ (P : Prog) (call : Calls) (asked : Asked) (calls : CallsKeep P call ask
           values = λ vs e.
               let p = then_inv (walk call a env) _ vs e in
               let q = then_inv (walk_all call es env) _ vs p.2 in
-              subst (λ ws. HaveTypes ws (A ∷ As)) (some_is _ _ q.2) (ka.value p.0 p.1, ks.values q.0 q.1);
+              subst (λ ws. HaveTypes ws (A ∷ As)) (same_Some _ _ q.2) (ka.value p.0 p.1, ks.values q.0 q.1);
           no_default = (ka.no_default, ks.no_default);
         }
 
@@ -295,7 +293,7 @@ found_is Q f g [] all e = absurd (cc)
 found_is Q f g (d ∷ P) all e = by (λ h. found_is Q f g P (All-tail Q d P all) h) (bytes_eq f d.name) e
   where
     by : (find f P ≡ Some g → Q g) → (c : Bool) → cond c (Some d) (find f P) ≡ Some g → Q g
-    by later true e = subst Q (some_is d g e) (All-head Q d P all)
+    by later true e = subst Q (same_Some d g e) (All-head Q d P all)
     by later false e = later e
 
 module _ (P : Prog) (typed : Typed P) (fits : All (λ (g : Function). AllNodes NumberFits g.body) P) where

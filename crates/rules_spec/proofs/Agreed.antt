@@ -1,40 +1,20 @@
 -- The rules hold exactly where the conditions do.
-use Rattle.std.proofs.Common.{◌≡◌, refl, ap, sym, ◌∙◌, arith, inl, inr, subst}
-use Rattle.std.specs.Prelude.{ℕ, zero, suc, ◌+◌, ◌-◌, ◌*◌, ◌<◌, ◌≤◌, Bool, true, false, cond, List, [], ◌∷◌, ◌++◌, map, zip, length, slice_get, slice_index_or, Option, None, Some, All}
-use Rattle.std.proofs.lemmas.List.{map-append}
-use Rattle.std.proofs.lemmas.List.Elements.{All-head, All-tail}
-use Rattle.raml_syntax.specs.Tree.{Type', Integer, Boolean, PairOf, ListOf, TreeOf}
-use Rattle.base_poly.specs.Plain.{Plain, degrees}
-use Rattle.base_poly.specs.Indices.{index_list}
-use Rattle.base_poly.proofs.Exact.{each_listed}
+use Rattle.std.proofs.Common.{◌≡◌, refl, sym, arith, subst}
+use Rattle.std.specs.Prelude.{ℕ, zero, suc, ◌+◌, ◌*◌, ◌<◌, ◌≤◌, List, [], ◌∷◌, ◌++◌, Option}
 use Rattle.index_shift.specs.Potential.{Annotation}
-use Rattle.index_shift.specs.Potential as i
-use Rattle.index_shift.specs.Parts.{type_parts}
-use Rattle.index_shift.specs.Maps.{in_place, none, twice, Carry, entries_from, opening, leaving, sharing, variable_type, behind, opens, leaves, joins}
-use Rattle.normal_spec.specs.Norm as n
-use Rattle.normal_spec.specs.Norm.{Norm, NormFun}
-use Rattle.normal_spec.specs.Context.{Context, types, place, without, opened, parts_of, copies_of, IsIn, inners, others, type_in}
-use Rattle.annot_types.specs.Carried as m
-use Rattle.annot_types.specs.Carried.{Covers, less, more, to, operand_places, tuples, marks, part}
-use Rattle.annot_types.specs.Program.{Program}
+use Rattle.annot_types.specs.Carried.{less, more}
 use Rattle.annot_types.specs.Certificate as cert
 use Rattle.annot_types.specs.Certificate.{Entries, annotation, Annotates}
 use Rattle.cost_free.specs.declared.task.Meter.{Meter}
 use Rattle.cost_free.specs.declared.task.Meter.TheVariants.{Ticks, Cells, Work}
 use Rattle.annot_types.specs.Rules.{Mode, With, Own, Past, Setting, CallRule, Parts, Ann}
 use Rattle.annot_types.specs.Rules as r
-use Rattle.normal_spec.specs.Uses.{Takes, Uses}
-use Rattle.annot_types.specs.Rows.{size as size_of}
-use Rattle.rules_spec.specs.Plan as p
-use Rattle.rules_spec.specs.Plan.{Plan, Step, Part, Called}
-use Rattle.rules_spec.specs.Numbers.{Sides, Signature, Known, Hint, Results, Copies, Multiples, Condition, Walked}
-use Rattle.rules_spec.specs.Kinds.{Amount, amounts, Meets, AllMeet}
-use Rattle.rules_spec.specs.Walk.{Walk, only, behind as before, and_then, numbered, later, still, mode_at, charge, at, at_zero, moved, all_moved, against, brought, joined, begun, each, walk, walks, call_pairs, sums}
-use Rattle.rules_spec.specs.Asked.{Ask, ResultsOf, CopiesOf, MultiplesOf, asked, all_asked, each_asked, behind_asked}
-use Rattle.rules_spec.specs.Planned.{entries_of, step, zero_alone, part_steps, operand_entries, lower, let_part, plan, called}
-use Rattle.rules_spec.specs.Stand.{known_in, Within, StandFor, Stands, StandForEach, Answers, Answered, Tells, Ranged}
-use Rattle.rules_spec.proofs.Standing.{some_position, ranged, same_annotation, brought_stands, nothing_stands, moved_stands, less_stands, more_stands, covers_to, covers_from}
-use Rattle.rules_spec.proofs.Left.{left_of, behind_append}
+use Rattle.rules_spec.specs.Numbers.{Sides, Signature, Hint, Condition, Walked}
+use Rattle.rules_spec.specs.Kinds.{Amount, amounts, AllMeet}
+use Rattle.rules_spec.specs.Walk.{only, and_then, numbered, charge, at, at_zero, against, begun}
+use Rattle.rules_spec.specs.Asked.{Ask, behind_asked}
+use Rattle.rules_spec.specs.Stand.{known_in, Stands, Answered, Tells}
+use Rattle.rules_spec.proofs.Standing.{same_annotation, less_stands, more_stands, covers_to, covers_from}
 
 -- conditions one after the other
 pub meet_append : (cs ds : List (Condition Amount)) → AllMeet cs → AllMeet ds → AllMeet (cs ++ ds)

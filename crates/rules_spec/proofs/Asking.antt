@@ -1,18 +1,16 @@
 -- What the rules take of the hints is what the plan asks for.
 use Rattle.std.proofs.Common.{◌≡◌, refl, ap, sym, ◌∙◌, arith, subst}
-use Rattle.std.specs.Prelude.{ℕ, unsigned_abs, nat_le, zero, suc, ◌+◌, ◌-◌, ◌<◌, ◌≤◌, Bool, true, false, cond, is_some, List, [], ◌∷◌, ◌++◌, map, length, slice_get, slice_index_or, Option, None, Some, All, Contains}
+use Rattle.std.specs.Prelude.{ℕ, unsigned_abs, nat_le, zero, suc, ◌+◌, ◌-◌, ◌<◌, ◌≤◌, Bool, true, false, cond, List, [], ◌∷◌, ◌++◌, map, slice_get, Option, None, Some, All, Contains}
 use Rattle.std.proofs.lemmas.List.Elements.{All-head, All-tail}
 use Rattle.std.proofs.lemmas.Bool.Decides.{nat_tests}
 use Rattle.raml_syntax.specs.Tree.{Type'}
 use Rattle.base_poly.specs.Plain.{Plain, degrees}
 use Rattle.base_poly.specs.Indices.{index_list}
 use Rattle.index_shift.specs.Potential.{Annotation}
-use Rattle.index_shift.specs.Parts.{type_parts}
-use Rattle.index_shift.specs.Maps.{twice}
 use Rattle.normal_spec.specs.Norm as n
 use Rattle.normal_spec.specs.Norm.{Norm}
-use Rattle.normal_spec.specs.Context.{Context, types, place, without, opened, parts_of, copies_of, IsIn, inners, others, type_in}
-use Rattle.annot_types.specs.Carried.{Covers, less, more, to, operand_places, tuples, marks, part}
+use Rattle.normal_spec.specs.Context.{Context, types, without, opened, parts_of, copies_of, inners, others}
+use Rattle.annot_types.specs.Carried.{less, part}
 use Rattle.annot_types.specs.Program.{Program}
 use Rattle.annot_types.specs.Certificate as cert
 use Rattle.annot_types.specs.Certificate.{Entries, annotation, Annotates}
@@ -20,13 +18,13 @@ use Rattle.annot_types.specs.Signature.{sig_in, free_budget}
 use Rattle.annot_types.specs.Rows.{size as size_of}
 use Rattle.annot_types.specs.Rules.{Mode, Past, Setting, Taken, CallRule, AreMultiples, Parts, Ann}
 use Rattle.annot_types.specs.Rules as r
-use Rattle.rules_spec.specs.Plan.{Plan, Part, Called}
+use Rattle.rules_spec.specs.Plan.{Plan, Part}
 use Rattle.rules_spec.specs.Numbers.{Hint, Results, Copies, Multiples}
 use Rattle.rules_spec.specs.Kinds.{Amount, amounts}
 use Rattle.rules_spec.specs.Walk.{at}
 use Rattle.rules_spec.specs.Asked.{Ask, ResultsOf, CopiesOf, MultiplesOf, asked, all_asked, each_asked}
 use Rattle.rules_spec.specs.Planned.{is_usable, usable_from, lower, let_part, plan, called}
-use Rattle.rules_spec.specs.Stand.{known_in, Within, StandFor, Stands, StandForEach, AreMultiplesOf, Answered}
+use Rattle.rules_spec.specs.Stand.{Stands, StandForEach, AreMultiplesOf, Answered}
 use Rattle.rules_spec.specs.Laws.{RulesAsk}
 use Rattle.rules_spec.proofs.Ruled.{lower_asked, low_degrees, annotates_within}
 

@@ -1,22 +1,20 @@
 -- The rule of a call holds exactly where its conditions do.
-use Rattle.std.proofs.Common.{◌≡◌, refl, ap, sym, ◌∙◌, arith, inl, inr, subst}
-use Rattle.std.specs.Prelude.{ℕ, max, unsigned_abs, zero, suc, ◌+◌, ◌-◌, ◌*◌, ◌<◌, ◌≤◌, ◌==◌, if◌then◌else◌, Bool, true, false, cond, is_some, List, [], ◌∷◌, ◌++◌, map, length, slice_get, slice_index_or, Option, None, Some, Contains, option_to_list}
+use Rattle.std.proofs.Common.{◌≡◌, refl, ap, sym, ◌∙◌, arith, subst}
+use Rattle.std.specs.Prelude.{ℕ, max, unsigned_abs, zero, suc, ◌+◌, ◌*◌, ◌<◌, ◌≤◌, ◌==◌, if◌then◌else◌, Bool, true, false, cond, List, [], ◌∷◌, ◌++◌, map, length, slice_get, slice_index_or, Option, None, Some, Contains, option_to_list}
 use Rattle.std.specs.List.{range_with_len}
 use Rattle.std.proofs.lemmas.Int.{clamps}
 use Rattle.std.proofs.lemmas.Bool.Decides.{nat_tests}
+use Rattle.annot_types.proofs.Linear.{total_append}
 use Rattle.raml_syntax.specs.Tree.{Type'}
 use Rattle.base_poly.specs.Base.{total}
 use Rattle.base_poly.specs.Indices.{index_list}
 use Rattle.index_shift.specs.Potential.{Annotation}
 use Rattle.index_shift.specs.Potential as i
-use Rattle.index_shift.specs.Maps.{entries_from}
 use Rattle.index_shift.specs.Contexts.{permutes}
 use Rattle.index_shift.specs.declared.entry.Entry.{Entry}
-use Rattle.normal_spec.specs.Norm as norm
 use Rattle.normal_spec.specs.Norm.{Norm, NormFun}
-use Rattle.normal_spec.specs.Context.{Context, types, place, without, opened, parts_of, copies_of, IsIn, inners, others, type_in}
-use Rattle.annot_types.specs.Carried as m
-use Rattle.annot_types.specs.Carried.{Covers, less, more, to, operand_places, tuples, marks, part}
+use Rattle.normal_spec.specs.Context.{Context, types}
+use Rattle.annot_types.specs.Carried.{Covers, more, to, operand_places}
 use Rattle.annot_types.specs.Program.{Program}
 use Rattle.annot_types.specs.Certificate as cert
 use Rattle.annot_types.specs.Certificate.{Entries, annotation, Annotates}
@@ -24,21 +22,18 @@ use Rattle.cost_free.specs.declared.task.Meter.{Meter}
 use Rattle.cost_free.specs.declared.task.Meter.TheVariants.{Ticks, Cells, Work}
 use Rattle.annot_types.specs.Rules.{Mode, With, Own, Past, Setting, Taken, CallRule, Ann, own_sig, paid_sig, TakesOnce, IsMultiple, AreMultiples, all_taken}
 use Rattle.annot_types.specs.Rules as r
-use Rattle.normal_spec.specs.Uses.{Takes, Uses}
 use Rattle.annot_types.specs.Rows.{size as size_of}
-use Rattle.rules_spec.specs.Plan as p
-use Rattle.rules_spec.specs.Plan.{Plan, Step, Called}
-use Rattle.rules_spec.specs.Numbers.{Sides, Signature, Known, Hint, Results, Copies, Multiples, Condition, Walked}
-use Rattle.rules_spec.specs.Kinds.{Amount, amounts, Meets, AllMeet}
+use Rattle.rules_spec.specs.Plan.{Called}
+use Rattle.rules_spec.specs.Numbers.{Sides, Signature, Results, Copies, Multiples}
+use Rattle.rules_spec.specs.Kinds.{Amount, amounts, AllMeet}
 use Rattle.rules_spec.specs.Walk as w
 use Rattle.rules_spec.specs.Walk.{only, numbered, at, at_zero, nothing, brought, multiples, numbers, against, walk}
-use Rattle.rules_spec.specs.Asked.{Ask, MultiplesOf, asked}
 use Rattle.annot_types.specs.Signature.{sig_in, free_budget, or_else, cost_sig}
 use Rattle.annot_types.specs.System.{args_of}
-use Rattle.rules_spec.specs.Planned.{entries_of, operand_entries, place_in, is_usable, usable_from, called, plan}
-use Rattle.rules_spec.specs.Stand.{known_in, Within, StandFor, Stands, AreMultiplesOf, Answered, Tells, Ranged, Numbered, SidesStand, SidesNumbered, Reads}
+use Rattle.rules_spec.specs.Planned.{entries_of, operand_entries, place_in, is_usable, usable_from, called}
+use Rattle.rules_spec.specs.Stand.{known_in, Stands, AreMultiplesOf, Numbered, SidesStand, Reads}
 use Rattle.rules_spec.proofs.Standing.{some_position, ranged, same_annotation, brought_stands, nothing_stands, covers_to, covers_from, behind_stands}
-use Rattle.rules_spec.proofs.Agreed.{begun_tells, meet_append, meet_front, meet_back}
+use Rattle.rules_spec.proofs.Agreed.{begun_tells}
 use Rattle.rules_spec.proofs.Ruled.{Agrees, CallsTell, agree}
 
 numbered_append : (path : List ℕ) (j : ℕ) (es fs : List (Amount × Amount)) → AllMeet (numbered path j es) → ((k : ℕ) → AllMeet (numbered path k fs)) → AllMeet (numbered path j (es ++ fs))
@@ -151,10 +146,6 @@ low_low a b d h = omega (arith, clamps, h)
 more_none : (q : Annotation) (k : ℕ) → more 0 q k ≡ q k
 more_none q zero = omega arith
 more_none q (suc k) = refl
-
-pub total_append : {X : Type 0} (f : X → ℕ) (xs ys : List X) → total f (xs ++ ys) ≡ total f xs + total f ys
-total_append f [] ys = omega arith
-total_append f (x ∷ xs) ys = omega (arith, total_append f xs ys)
 
 same_some : {X : Type 0} (o : Option X) (x y : X) → o ≡ Some x → o ≡ Some y → x ≡ y
 same_some o x y e f = cc

@@ -1,10 +1,10 @@
 -- Capped amounts.
 use Rattle.std.proofs.Common.{◌≡◌, refl, ap, sym, ◌∙◌, arith, inl, inr}
-use Rattle.std.specs.Prelude.{ℕ, zero, suc, ◌+◌, ◌*◌, ◌-◌, ◌^◌, ◌<◌, ◌≤◌, ◌⊎◌, min, Bool, true, false, cond, nat_lt, nat_le, ◌||◌, List, [], ◌∷◌, map, Option, None, Some}
+use Rattle.std.specs.Prelude.{ℕ, zero, suc, ◌+◌, ◌*◌, ◌-◌, ◌^◌, ◌≤◌, ◌⊎◌, Bool, true, false, cond, nat_lt, nat_le, ◌||◌, [], ◌∷◌, None, Some}
 use Rattle.std.proofs.lemmas.Bool.Decides.{nat_tests}
 use Rattle.rules_spec.specs.Numbers.{Carries, Condition}
 use Rattle.rules_spec.specs.Kinds.{Amount, amounts}
-use Rattle.rules_spec.specs.Faults.{Fault, Leaves, Fails, too_great, fault_at, or_fault, first_fault}
+use Rattle.rules_spec.specs.Faults.{Leaves, Fails, fault_at, or_fault}
 use Rattle.rules_spec.specs.Carried.{condition_to}
 use Rattle.rules_spec.specs.Capped.{cap, capped, capped_amount, CappedWalks, CappedFaults}
 use Rattle.rules_spec.proofs.Carrying.{walks_carry}
@@ -13,10 +13,10 @@ use Rattle.rules_spec.proofs.Values.{amount_of}
 cap_plus : (a b : ℕ) → cap (a + b) ≡ cap (cap a + cap b)
 cap_plus a b = omega arith
 
-cap_big : (a x : ℕ) → a ≤ x → 2 ^ 128 - 1 ≤ a → cap x ≡ 2 ^ 128 - 1
+pub cap_big : (a x : ℕ) → a ≤ x → 2 ^ 128 - 1 ≤ a → cap x ≡ 2 ^ 128 - 1
 cap_big a x h g = omega arith
 
-cap_times : (n a : ℕ) → cap (n * a) ≡ cap (n * cap a)
+pub cap_times : (n a : ℕ) → cap (n * a) ≡ cap (n * cap a)
 cap_times zero a = ap cap (omega arith)
 cap_times (suc n) a = by (small a) where
   small : (a : ℕ) → (a ≤ 2 ^ 128 - 1) ⊎ (2 ^ 128 - 1 ≤ a)

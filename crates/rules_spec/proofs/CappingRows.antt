@@ -4,7 +4,9 @@ use Rattle.std.specs.Prelude.{ℕ, zero, suc, ◌+◌, ◌*◌, ◌-◌, ◌^◌
 use Rattle.std.specs.List.{range_with_len, list_all}
 use Rattle.std.specs.Ordering.{int_eq}
 use Rattle.std.proofs.lemmas.Int.{ints}
-use Rattle.std.proofs.lemmas.Bool.Decides.{Decides-int_eq}
+use Rattle.std.proofs.lemmas.Bool.{and_parts}
+use Rattle.rules_spec.proofs.Solving.{is_zero}
+use Rattle.rules_spec.proofs.Capping.{cap_times as capped_times}
 use Rattle.linear_rows.specs.Terms.{Terms, SparseRow}
 use Rattle.rules_spec.specs.Numbers.{Carries, Condition}
 use Rattle.rules_spec.specs.Kinds.{Form, forms}
@@ -14,26 +16,20 @@ use Rattle.rules_spec.proofs.Given.{given_carry}
 use Rattle.rules_spec.specs.CappedRows.{capped_form, capped_forms, capped_totals, fits, row_fits, RowsAgree, CappedRows}
 use Rattle.rules_spec.specs.Sure.{IsSure}
 
+pub cap_times : (n a : ℕ) → cap (n * a) ≡ cap (n * cap a)
+cap_times = capped_times
+
+pub both_true : (a b : Bool) → (a && b) ≡ true → (a ≡ true) × (b ≡ true)
+both_true = and_parts
+
 pub same_form : (f g : Form) → ((u : ℕ) → f.terms u ≡ g.terms u) → f.plus ≡ g.plus → f.minus ≡ g.minus → f ≡ g
 same_form f g t p m = λ i. record { terms = λ u. t u i; plus = p i; minus = m i }
 
 pub cap_plus : (a b : ℕ) → cap (a + b) ≡ cap (cap a + cap b)
 cap_plus a b = omega arith
 
-cap_great : (a x : ℕ) → a ≤ x → 2 ^ 128 - 1 ≤ a → cap x ≡ 2 ^ 128 - 1
-cap_great a x h g = omega arith
-
 either_side : (a : ℕ) → (a ≤ 2 ^ 128 - 1) ⊎ (2 ^ 128 - 1 ≤ a)
 either_side a = grind arith
-
-pub cap_times : (n a : ℕ) → cap (n * a) ≡ cap (n * cap a)
-cap_times zero a = ap cap (omega arith)
-cap_times (suc n) a = by (either_side a) where
-  by : (a ≤ 2 ^ 128 - 1) ⊎ (2 ^ 128 - 1 ≤ a) → cap (suc n * a) ≡ cap (suc n * cap a)
-  by (inl h) = let e : a ≡ cap a = omega arith in ap (λ z. cap (suc n * z)) e
-  by (inr h) =
-      let e : cap a ≡ 2 ^ 128 - 1 = omega arith in
-      cap_great a (suc n * a) (omega arith) h ∙ sym (cap_great (cap a) (suc n * cap a) (omega arith) (omega (arith, e)))
 
 carries : Carries forms capped_forms capped_form
 carries = record {
@@ -121,9 +117,6 @@ agree_on test s x y (inr (inr g)) = s.small x g.0 ∙ sym (s.small y g.1)
 unfoldable pub terms_from : ℕ → ℕ → (ℕ → ℤ) → Terms
 terms_from k n f = filter (λ (t : ℕ × ℤ). not (int_eq t.1 (pos 0))) (map (λ u. (u, f u)) (range_with_len k n))
 
-is_zero : (z : ℤ) → int_eq z (pos 0) ≡ true → z ≡ pos 0
-is_zero z h = (Decides-int_eq z (pos 0)).0 h
-
 -- a test that 0 passes is one of all numbers
 pub all_terms : (test : ℤ → Bool) → test (pos 0) ≡ true → (k n : ℕ) (f : ℕ → ℤ) →
     list_all (λ (t : ℕ × ℤ). test t.1) (terms_from k n f) ≡ list_all (λ u. test (f u)) (range_with_len k n)
@@ -134,11 +127,6 @@ all_terms test z k (suc n) f = by (all_terms test z (k + 1) n f) (int_eq (f k) (
       list_all (λ (t : ℕ × ℤ). test t.1) (cond (not b) ((k, f k) ∷ terms_from (k + 1) n f) (terms_from (k + 1) n f)) ≡ (test (f k) && list_all (λ u. test (f u)) (range_with_len (k + 1) n))
   by go true e = go ∙ sym (ap (λ b. b && list_all (λ u. test (f u)) (range_with_len (k + 1) n)) (ap test (is_zero (f k) e) ∙ z))
   by go false e = ap (λ b. test (f k) && b) go
-
-pub both_true : (a b : Bool) → (a && b) ≡ true → (a ≡ true) × (b ≡ true)
-both_true true true h = (refl, refl)
-both_true true false h = absurd (cc)
-both_true false b h = absurd (cc)
 
 AllAlike : ℕ → ℕ → (ℕ → ℤ) → (ℕ → ℤ) → Type 0
 AllAlike k zero f g = Unit {0}
@@ -160,7 +148,7 @@ same_terms : (k n : ℕ) (f g : ℕ → ℤ) → AllAlike k n f g → list_all (
 unfolding AllAlike terms_from
 same_terms k zero f g a h = refl
 same_terms k (suc n) f g a h =
-    let both = both_true (fits (f k)) (list_all (λ u. fits (f u)) (range_with_len (k + 1) n)) h in
+    let both = and_parts (fits (f k)) (list_all (λ u. fits (f u)) (range_with_len (k + 1) n)) h in
     let e = same_where_fits (f k) (g k) a.0 both.0 in
     let rest = same_terms (k + 1) n f g a.1 both.1 in
     λ i. cond (not (int_eq (e i) (pos 0))) ((k, e i) ∷ rest i) (rest i)
@@ -204,7 +192,7 @@ rows_agree n c sure =
       within = some_row (row_fits (row_of n (capped_totals c))) (row_fits (row_of n c)) (row_of n (capped_totals c)) (row_of n c)
           (λ i. same fits refl fits_settled i && agree_on fits fits_settled x y right i)
           (λ e.
-          let both = both_true (list_all (λ (t : ℕ × ℤ). fits t.1) (terms_from 0 n f)) (fits x) e in
+          let both = and_parts (list_all (λ (t : ℕ × ℤ). fits t.1) (terms_from 0 n f)) (fits x) e in
           let terms = same_terms 0 n f g alike (sym (all_terms fits refl 0 n f) ∙ both.0) in
           let rights = same_where_fits x y right both.1 in
           λ i. record { terms = terms i; right = rights i });

@@ -1,12 +1,11 @@
 -- What is carried may be carried before the walk or behind it.
 use Rattle.std.proofs.Common.{◌≡◌, refl, ap, sym, ◌∙◌}
-use Rattle.std.specs.Prelude.{ℕ, zero, suc, ◌+◌, ◌*◌, List, [], ◌∷◌, ◌++◌, map, length, slice_index_or, slice_set, Option, None, Some}
+use Rattle.std.specs.Prelude.{ℕ, zero, suc, ◌*◌, List, [], ◌∷◌, ◌++◌, map, length, slice_index_or, slice_set, Option, None, Some}
 use Rattle.std.proofs.Math.ListN.{get_or-map}
 use Rattle.std.proofs.lemmas.List.{map-set, map-append}
 use Rattle.index_shift.specs.declared.entry.Entry.{Entry}
 use Rattle.rules_spec.specs.Plan as p
 use Rattle.rules_spec.specs.Plan.{Plan, Step, Part, Called}
-use Rattle.cost_free.specs.declared.task.Meter.{Meter}
 use Rattle.cost_free.specs.declared.task.Meter.TheVariants.{Ticks, Cells, Work}
 use Rattle.annot_types.specs.Rules.{Mode, With, Own, Past}
 use Rattle.rules_spec.specs.Numbers.{Numbers, Sides, Signature, Known, Hint, Results, Copies, Multiples, Condition, Walked, Carries}

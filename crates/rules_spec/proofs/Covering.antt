@@ -1,10 +1,10 @@
 -- All signatures and hints of the right sizes are given by numbers in the order of unknowns.
 use Rattle.std.proofs.Common.{◌≡◌, refl, ap, sym, ◌∙◌, arith, append_assoc, append-nil, length-append, subst}
-use Rattle.std.specs.Prelude.{ℕ, zero, suc, ◌+◌, ◌<◌, List, [], ◌∷◌, ◌++◌, map, length, slice_index_or}
+use Rattle.std.specs.Prelude.{ℕ, suc, ◌+◌, List, [], ◌∷◌, ◌++◌, map, length, slice_index_or}
 use Rattle.rules_spec.specs.Numbers.{Sides, Hint, Results, Copies, Multiples}
 use Rattle.rules_spec.specs.Kinds.{Amount}
 use Rattle.rules_spec.specs.Asked.{Ask, ResultsOf, CopiesOf, MultiplesOf, asked, sum_of, count, counts, given, given_each, given_blocks, answer, answers}
-use Rattle.rules_spec.specs.Tasks.{Body, Job, unknowns, sides_count, hints_count, sides_given, hints_given}
+use Rattle.rules_spec.specs.Tasks.{Body, sides_count, hints_count, sides_given, hints_given}
 use Rattle.rules_spec.specs.Solving.{amount}
 use Rattle.rules_spec.specs.Covered.{Plain, OfSizes, OfBlocks, OfAsk, OfAsks, OfHints, OfGroup, AllAreGiven}
 

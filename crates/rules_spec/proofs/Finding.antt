@@ -1,24 +1,22 @@
 -- The signatures that a walk finds are those of the rules.
 use Rattle.std.proofs.Common.{◌≡◌, refl, ap, sym, ◌∙◌, arith, subst}
-use Rattle.std.specs.Prelude.{ℕ, zero, suc, ◌+◌, ◌<◌, Bool, true, false, cond, nat_eq, nat_le, List, [], ◌∷◌, length, slice_get, slice_index_or, Option, None, Some, option_map}
+use Rattle.std.specs.Prelude.{ℕ, zero, suc, ◌<◌, Bool, true, false, cond, nat_eq, List, [], ◌∷◌, length, slice_get, slice_index_or, Option, None, Some, option_map}
 use Rattle.std.proofs.lemmas.Bool.Decides.{nat_tests}
+use Rattle.std.proofs.lemmas.Option.{same_Some}
 use Rattle.index_shift.specs.Potential.{Annotation}
 use Rattle.normal_spec.specs.Norm.{NormFun}
-use Rattle.normal_spec.specs.Context.{Context, types, place, without, opened, parts_of, copies_of, IsIn, inners, others, type_in}
-use Rattle.annot_types.specs.Program.{Program}
+use Rattle.normal_spec.specs.Context.{types}
 use Rattle.annot_types.specs.Certificate as cert
 use Rattle.annot_types.specs.Certificate.{Entries, annotation, Annotates}
-use Rattle.annot_types.specs.Program.{Program}
-use Rattle.cost_free.specs.declared.task.Meter.{Meter}
 use Rattle.annot_types.specs.Signature.{sig_among, sig_in, free_budget, cost_sig}
 use Rattle.annot_types.specs.Rows.{size as size_of}
-use Rattle.annot_types.specs.Rules.{Setting, own_sig}
-use Rattle.rules_spec.specs.Numbers.{Sides, Signature}
-use Rattle.rules_spec.specs.Kinds.{Amount, amounts}
+use Rattle.annot_types.specs.Rules.{Setting}
+use Rattle.rules_spec.specs.Numbers.{Signature}
+use Rattle.rules_spec.specs.Kinds.{amounts}
 use Rattle.rules_spec.specs.Walk.{at}
 use Rattle.rules_spec.specs.Planned.{place_in}
-use Rattle.rules_spec.specs.Stand.{known_in, Within, StandFor, Stands, Numbered, SidesStand, SidesNumbered, Reads}
-use Rattle.rules_spec.specs.Found.{listed, amounts_of, signature, free_signature, sides, group_from, free_in, free_from, at_budget, cost_from, ReadsThere}
+use Rattle.rules_spec.specs.Stand.{Stands, Numbered, SidesStand, SidesNumbered}
+use Rattle.rules_spec.specs.Found.{listed, amounts_of, signature, free_signature, sides, group_from, free_in, at_budget, ReadsThere}
 
 pub listed_is : (k : ℕ) (q : Annotation) → Numbered k (listed k q) q
 listed_is zero q = record { len = refl; is = λ j h. absurd (omega (arith, h)) }
@@ -50,9 +48,6 @@ stood : (o : Option NormFun) (g : NormFun) (budget : ℕ) (s : cert.Sig) → o �
 stood o g budget s e = subst (λ o. SidesStand g budget (sides (signature o budget (Some s))) s) (sym e)
     (record { args = amounts_stand (size_of (types g.params) budget) (annotation s.args); result = amounts_stand (size_of (g.result ∷ []) budget) (annotation s.result) })
 
-some_same : (m k : ℕ) → Some m ≡ Some k → m ≡ k
-some_same m k e = cc
-
 module _ (S : Setting) where
   own_there : (fs : List ℕ) (ss : List cert.Sig) → length ss ≡ length fs → (f k : ℕ) (g : NormFun) → slice_get S.program.funs f ≡ Some g → place_in fs f ≡ Some k →
       (s : cert.Sig) × (sig_among fs ss f ≡ Some s) × SidesStand g S.budget (slice_index_or (group_from S fs ss) k (record { args = []; result = [] })) s
@@ -63,7 +58,7 @@ module _ (S : Setting) where
         (c : Bool) → nat_eq f x ≡ c → cond c (Some 0) (option_map suc (place_in fs f)) ≡ Some k →
         (t : cert.Sig) × (cond c (Some s) (sig_among fs ss f) ≡ Some t) × SidesStand g S.budget (slice_index_or (group_from S (x ∷ fs) (s ∷ ss)) k (record { args = []; result = [] })) t
     by go true t e =
-        let same : f ≡ x = grind (arith, nat_tests, t) in let zero_is : 0 ≡ k = some_same 0 k e in (
+        let same : f ≡ x = grind (arith, nat_tests, t) in let zero_is : 0 ≡ k = same_Some 0 k e in (
           s,
           refl,
           subst (λ k. SidesStand g S.budget (slice_index_or (group_from S (x ∷ fs) (s ∷ ss)) k (record { args = []; result = [] })) s) zero_is
@@ -74,7 +69,7 @@ module _ (S : Setting) where
           (t : cert.Sig) × (sig_among fs ss f ≡ Some t) × SidesStand g S.budget (slice_index_or (group_from S (x ∷ fs) (s ∷ ss)) k (record { args = []; result = [] })) t
       deep None p e = let no : ◌≡◌ {A = Option ℕ} None (Some k) = e in absurd (cc)
       deep (Some j) p e =
-          let next : suc j ≡ k = some_same (suc j) k e in let y = go j g there p in
+          let next : suc j ≡ k = same_Some (suc j) k e in let y = go j g there p in
           (y.0, y.1, subst (λ k. SidesStand g S.budget (slice_index_or (group_from S (x ∷ fs) (s ∷ ss)) k (record { args = []; result = [] })) y.0) next y.2)
 
   none_there : (fs : List ℕ) (ss : List cert.Sig) (f : ℕ) → place_in fs f ≡ None → sig_among fs ss f ≡ None

@@ -1,14 +1,12 @@
 -- What is given in the order of unknowns, carried.
 use Rattle.std.proofs.Common.{◌≡◌, refl, ap, sym, ◌∙◌}
-use Rattle.std.specs.Prelude.{ℕ, zero, suc, ◌+◌, List, [], ◌∷◌, ◌++◌, map, slice_index_or}
-use Rattle.std.proofs.Math.ListN.{get_or-map}
+use Rattle.std.specs.Prelude.{ℕ, zero, suc, ◌+◌, List, [], ◌∷◌, ◌++◌, map}
 use Rattle.std.proofs.lemmas.List.{map-append}
-use Rattle.rules_spec.specs.Plan.{Plan}
-use Rattle.rules_spec.specs.Numbers.{Numbers, Sides, Hint, Results, Copies, Multiples, Condition, Walked, Carries}
+use Rattle.rules_spec.specs.Numbers.{Numbers, Sides, Hint, Results, Copies, Multiples, Walked, Carries}
 use Rattle.rules_spec.specs.Walk.{at, walk, group_sides}
 use Rattle.rules_spec.specs.Asked.{Ask, ResultsOf, CopiesOf, MultiplesOf, asked, count, counts, given, given_each, given_blocks, answer, answers}
-use Rattle.rules_spec.specs.Tasks.{Body, Job, known_by, of_body, sides_count, sides_given, hints_given, of_bodies, of_target, conditions, given_conditions}
-use Rattle.rules_spec.specs.Carried.{sides_to, known_to, multiple_to, hint_to, condition_to, walked_to, GivenCarry}
+use Rattle.rules_spec.specs.Tasks.{Body, Job, known_by, sides_count, sides_given, hints_given, of_bodies, of_target, conditions}
+use Rattle.rules_spec.specs.Carried.{sides_to, multiple_to, hint_to, condition_to, GivenCarry}
 use Rattle.rules_spec.proofs.Carrying.{walks_carry, at_to, group_to}
 
 module _ {E F : Type 0} (f : E → F) (give : ℕ → E) where

@@ -1,12 +1,11 @@
 -- A walk leaves the hints behind those that its plan asks for.
 use Rattle.std.proofs.Common.{◌≡◌, refl, ap, sym, ◌∙◌}
-use Rattle.std.specs.Prelude.{Option, ℕ, zero, suc, List, [], ◌∷◌, ◌++◌, map, length, slice_index_or}
-use Rattle.cost_free.specs.declared.task.Meter.{Meter}
+use Rattle.std.specs.Prelude.{ℕ, zero, suc, List, [], ◌∷◌, ◌++◌, map, slice_index_or}
 use Rattle.cost_free.specs.declared.task.Meter.TheVariants.{Ticks, Cells, Work}
 use Rattle.annot_types.specs.Rules.{Mode, With, Own, Past}
 use Rattle.rules_spec.specs.Plan as p
 use Rattle.rules_spec.specs.Plan.{Plan, Part, Called}
-use Rattle.rules_spec.specs.Numbers.{Numbers, Sides, Signature, Known, Hint, Walked}
+use Rattle.rules_spec.specs.Numbers.{Numbers, Known, Hint, Walked}
 use Rattle.rules_spec.specs.Walk.{Walk, later, still, mode_at, moved, begun, each, walk, walks}
 use Rattle.rules_spec.specs.Asked.{Ask, ResultsOf, CopiesOf, MultiplesOf, asked, all_asked, each_asked, behind_asked}
 

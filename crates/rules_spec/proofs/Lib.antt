@@ -16,7 +16,6 @@ pub mod Summed
 pub mod Rowed
 pub mod RowedCalls
 pub mod TaskRows
-mod Computed
 pub mod CappingRows
 pub mod Raised
 pub mod Refuted

@@ -15,13 +15,12 @@ use Rattle.annot_types.specs.Carried.{tuples}
 use Rattle.annot_types.specs.Holds.{times_sig, budget_of}
 use Rattle.annot_types.specs.Rules.{Mode, With, Setting}
 use Rattle.annot_types.specs.Rows.{size as size_of}
-use Rattle.annot_types.proofs.Times.{BlocksTimes}
+use Rattle.annot_types.proofs.Times.{BlocksTimes, cost_times}
 use Rattle.rules_spec.specs.Plan.{Moves, Pays, Forks, Shares, Calls, Lets}
 use Rattle.rules_spec.specs.Planned.{is_usable, usable_from, lower, let_part, leaving_step, opening_step, sharing_step, called, plan}
 use Rattle.rules_spec.specs.Jobs.{body_of}
 use Rattle.rules_spec.specs.Systems.{PaidFor, AllPaid, AreReady}
 use Rattle.rules_spec.specs.Told.{bodies_of}
-use Rattle.rules_spec.proofs.Raised.{cost_times}
 
 module _ (P : Program) (u : ℕ) (m : Mode) where
   usable_kept : (d f k : ℕ) (bs cs : List Block) → BlocksTimes u P m bs cs → usable_from k P d f cs ≡ usable_from k P d f bs

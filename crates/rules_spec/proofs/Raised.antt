@@ -18,13 +18,11 @@ use Rattle.normal_spec.specs.Norm.{Norm, NormFun}
 use Rattle.index_shift.specs.Contexts.{projection}
 use Rattle.index_shift.specs.Maps.{opening, leaving, sharing}
 use Rattle.normal_spec.specs.Context.{Context, types, place, without, opened, parts_of, copies_of, inners, others}
-use Rattle.cost_free.specs.declared.task.Meter.{Meter}
 use Rattle.cost_free.specs.declared.task.Meter.TheVariants.{Ticks, Cells, Work}
 use Rattle.cost_free.specs.Task.{Task, Kind}
 use Rattle.annot_types.specs.Program.{Program}
 use Rattle.annot_types.specs.Certificate.{annotation, Sig, Block}
-use Rattle.cost_free.specs.Blocked.{is_for_meter}
-use Rattle.annot_types.specs.Signature.{sig_in, free_budget, or_else, cost_sig}
+use Rattle.annot_types.specs.Signature.{sig_in, free_budget, cost_sig}
 use Rattle.annot_types.specs.Carried.{more, rebudgeted, at_operands, marks, part, tuples, joined}
 use Rattle.annot_types.specs.Rules.{Mode, With, Own, Past, Setting, Taken, price, refund, asked, left}
 use Rattle.annot_types.specs.Holds.{times_sig, mode_of}
@@ -33,26 +31,10 @@ use Rattle.annot_types.specs.Rows.{Assignment, Row, Made, Unsolved, rows_only, b
 use Rattle.annot_types.specs.System as s
 use Rattle.annot_types.specs.System.{unsigned, is_kept}
 use Rattle.annot_types.proofs.Linear.{mul, moved_mul, more_mul, annotation_mul, at_operands_mul, rebudgeted_mul}
-use Rattle.annot_types.proofs.Times.{BlocksTimes, times_setting, SettingTimes, past_times}
+use Rattle.annot_types.proofs.Times.{BlocksTimes, times_setting, SettingTimes, past_times, cost_times}
 use Rattle.rules_spec.specs.Raised.{times_right}
 
 -- the signature with cost is raised with the blocks
-pub cost_times : (u : ℕ) (P : Program) (meter : Meter) (bs cs : List Block) → BlocksTimes u P (With meter) bs cs → (f : ℕ) →
-    cost_sig P meter cs f ≡ option_map (times_sig u) (cost_sig P meter bs f)
-cost_times u P meter [] [] h f = refl
-cost_times u P meter [] (c ∷ cs) h f = absurd h
-cost_times u P meter (b ∷ bs) [] h f = absurd h
-cost_times u P meter (b ∷ bs) (c ∷ cs) h f =
-    (λ i. or_else (cond (is_for_meter meter (h.0.task i).kind) (sig_in P c f) None) (cost_times u P meter bs cs h.1 f i))
-    ∙ by (is_for_meter meter b.task.kind) refl where
-      other : (o : Option Sig) → or_else (option_map (times_sig u) o) (option_map (times_sig u) (cost_sig P meter bs f)) ≡ option_map (times_sig u) (or_else o (cost_sig P meter bs f))
-      other None = refl
-      other (Some s) = refl
-
-      by : (on : Bool) → is_for_meter meter b.task.kind ≡ on →
-          or_else (cond on (sig_in P c f) None) (option_map (times_sig u) (cost_sig P meter bs f)) ≡ option_map (times_sig u) (or_else (cond on (sig_in P b f) None) (cost_sig P meter bs f))
-      by true e = ap (λ o. or_else o (option_map (times_sig u) (cost_sig P meter bs f))) (h.0.cost meter refl e f) ∙ other (sig_in P b f)
-      by false e = refl
 
 -- a row with its right side u times
 abbrev pub row_times : ℕ → Row → Row

@@ -1,7 +1,8 @@
 -- Where the blocks of a meter and its scale are raised, what refutes a task still does.
 use Rattle.std.proofs.Common.{◌≡◌, refl, ap, sym, ◌∙◌, arith, subst}
-use Rattle.std.specs.Prelude.{ℕ, suc, ◌*◌, ◌<◌, Bool, true, false, cond, ℤ, pos, ◌*ℤ◌, ◌≤ℤ◌, ◌<ℤ◌, List, [], ◌∷◌, map, length}
+use Rattle.std.specs.Prelude.{ℕ, ◌*◌, ◌<◌, Bool, true, false, cond, ℤ, pos, ◌*ℤ◌, ◌≤ℤ◌, ◌<ℤ◌, List, [], ◌∷◌, map, length}
 use Rattle.std.proofs.lemmas.Int.{ints}
+use Rattle.std.proofs.lemmas.List.{length-map}
 use Rattle.raml_num.proofs.Signed.{le_mul}
 use Rattle.linear_rows.specs.Terms.{SparseRow}
 use Rattle.linear_rows.specs.Systems.{LinearSystem, Solves, Refutes, matrix, right_sides, numbers_from}
@@ -33,7 +34,7 @@ raised_once meter b = by (is_for_meter meter b.task.kind) where
   by true = λ i. record { task = b.task; body = body_once b.body i }
   by false = refl
 
-all_once : (meter : Meter) (bs : List Block) → map (raised meter 1) bs ≡ bs
+pub all_once : (meter : Meter) (bs : List Block) → map (raised meter 1) bs ≡ bs
 all_once meter [] = refl
 all_once meter (b ∷ bs) = λ i. raised_once meter b i ∷ all_once meter bs i
 
@@ -122,10 +123,6 @@ rights_rise : (u : ℕ) (rows : List SparseRow) →
 rights_rise u [] = refl
 rights_rise u (row ∷ rows) = ap (λ l. (pos u *ℤ row.right) ∷ l) (rights_rise u rows)
 
-length_map : {X Y : Type 0} (f : X → Y) (xs : List X) → length (map f xs) ≡ length xs
-length_map f [] = refl
-length_map f (x ∷ xs) = ap suc (length_map f xs)
-
 positive_times : (r : ℕ) (v : ℤ) → 0 < r → pos 0 <ℤ v → pos 0 <ℤ (pos r *ℤ v)
 positive_times r v pr pv =
     let low : (pos r *ℤ pos 1) ≤ℤ (pos r *ℤ v) = le_mul (pos 1) v (pos r) (omega (arith, ints)) (omega (arith, ints)) in
@@ -136,7 +133,7 @@ still_refutes u t y h r =
     let sum : dot y (right_sides (times_right u t)) ≡ pos u *ℤ dot y (right_sides t) =
     ap (dot y) (rights_rise u t.rows) ∙ dot-comm y (scale (pos u) (right_sides t)) ∙ dot-scale (pos u) (right_sides t) y ∙ ap (λ (v : ℤ). pos u *ℤ v) (dot-comm (right_sides t) y) in
     record {
-      one_each = r.one_each ∙ sym (length_map (λ (row : SparseRow). record { terms = row.terms; right = pos u *ℤ row.right }) t.rows);
+      one_each = r.one_each ∙ sym (length-map t.rows (λ (row : SparseRow). record { terms = row.terms; right = pos u *ℤ row.right }));
       natural = r.natural;
       columns = subst (λ (rows : List (List ℤ)). AtMost (mix t.unknowns y rows) (zeros t.unknowns)) (sym (same_matrix u t.unknowns t.rows)) r.columns;
       right = subst (λ (v : ℤ). pos 0 <ℤ v) (sym sum) (positive_times u (dot y (right_sides t)) h r.right);

@@ -1,12 +1,11 @@
 -- The rows of a form are those of its walk over sums.
 use Rattle.std.proofs.Common.{append-nil, append_assoc, ◌≡◌, refl, ap, sym, ◌∙◌, arith, subst}
-use Rattle.std.specs.Prelude.{ℕ, zero, suc, ◌+◌, ◌-◌, ◌*◌, ◌<◌, ◌≤◌, ℤ, pos, ◌-ℤ◌, List, [], ◌∷◌, ◌++◌, map, length, slice_index_or, Option, None, Some, All}
+use Rattle.std.specs.Prelude.{ℕ, zero, suc, ◌+◌, ◌-◌, ◌*◌, ◌<◌, ◌≤◌, pos, List, [], ◌∷◌, ◌++◌, map, length, slice_index_or, All}
 use Rattle.std.specs.List.{range_with_len}
 use Rattle.std.proofs.lemmas.List.{map-append}
 use Rattle.std.proofs.lemmas.List.Elements.{All-head, All-tail}
 use Rattle.raml_syntax.specs.Tree.{Type', PairOf, ListOf, TreeOf, OptionOf}
 use Rattle.base_poly.specs.Plain.{Plain, degrees}
-use Rattle.base_poly.specs.Base.{total}
 use Rattle.base_poly.specs.Indices.{index_list}
 use Rattle.index_shift.specs.Potential.{Annotation}
 use Rattle.index_shift.specs.Potential as i
@@ -34,12 +33,12 @@ use Rattle.rules_spec.specs.Asked.{Ask, asked, all_asked, each_asked, behind_ask
 use Rattle.rules_spec.specs.Planned.{entries_of, step, zero_alone, part_steps, operand_entries, lower, let_part, plan}
 use Rattle.rules_spec.specs.Found.{free_from, cost_from}
 use Rattle.rules_spec.specs.Stand.{Ranged}
-use Rattle.rules_spec.specs.Systems.{Sum, sums, told_at, row_at, PaidFor, AllPaid}
+use Rattle.rules_spec.specs.Systems.{Sum, sums, told_at, row_at, AllPaid}
 use Rattle.rules_spec.proofs.Standing.{some_position, ranged}
-use Rattle.rules_spec.proofs.Left.{left_of, each_left, all_left, behind_append}
+use Rattle.rules_spec.proofs.Left.{left_of, each_left, all_left}
 use Rattle.rules_spec.proofs.Agreed.{tick_price, cell_price}
 use Rattle.rules_spec.proofs.Ruled.{types_without, takes_one, types_opened, types_used, ranged_to, lower_asked, low_degrees}
-use Rattle.rules_spec.proofs.Summed.{Full, full_same, brought_full, nothing_full, moved_full, moved_none, less_full, more_full, pairs_rows, pair_row, map_same, owed_right, given_full, sum_of as same_sum}
+use Rattle.rules_spec.proofs.Summed.{Full, full_same, brought_full, nothing_full, moved_full, moved_none, less_full, more_full, pairs_rows, pair_row, map_same, owed_right, given_full}
 
 answers_append : {E : Type 0} (give : ℕ → E) (from : ℕ) (ks ls : List Ask) → answers give from (ks ++ ls) ≡ answers give from ks ++ answers give (from + counts ks) ls
 answers_append give from [] ls = ap (λ k. answers give k ls) (omega arith)

@@ -1,9 +1,8 @@
 -- The rows of a call are those of its walk over sums.
 use Rattle.std.proofs.Common.{◌≡◌, refl, ap, sym, ◌∙◌, arith, subst}
-use Rattle.std.specs.Prelude.{ℕ, zero, suc, max, ◌+◌, ◌-◌, ◌*◌, ◌<◌, ◌≤◌, nat_eq, nat_le, Bool, true, false, cond, ◌||◌, ℤ, pos, ◌-ℤ◌, List, [], ◌∷◌, ◌++◌, map, filter, flat_map, length, slice_get, slice_index_or, option_map, Option, None, Some}
-use Rattle.std.specs.List.{range_with_len, list_any}
+use Rattle.std.specs.Prelude.{ℕ, zero, suc, max, ◌+◌, ◌*◌, ◌≤◌, nat_eq, nat_le, Bool, true, false, cond, ◌||◌, pos, ◌-ℤ◌, List, [], ◌∷◌, ◌++◌, map, filter, flat_map, length, slice_get, slice_index_or, option_map, Option, None, Some}
+use Rattle.std.specs.List.{list_any}
 use Rattle.std.proofs.lemmas.Int.{ints}
-use Rattle.std.proofs.lemmas.List.{map-append}
 use Rattle.std.proofs.lemmas.Bool.Decides.{nat_tests}
 use Rattle.raml_syntax.specs.Tree.{Type'}
 use Rattle.base_poly.specs.Base.{total}
@@ -26,19 +25,19 @@ use Rattle.annot_types.specs.Carried.{more, to, operand_places, at_operands, reb
 use Rattle.annot_types.specs.Rows as w
 use Rattle.annot_types.specs.Rows.{size as size_of, Assignment, Row, Unsolved, none, rows_only, taking}
 use Rattle.rules_spec.specs.Plan.{Called}
-use Rattle.rules_spec.specs.Numbers.{Sides, Signature, Hint, Walked}
+use Rattle.rules_spec.specs.Numbers.{Sides, Signature}
 use Rattle.rules_spec.specs.Walk as k
 use Rattle.rules_spec.specs.Walk.{only, numbered, at, at_zero, nothing, brought, multiples, numbers, against}
-use Rattle.rules_spec.specs.Asked.{given, given_blocks, answers}
+use Rattle.rules_spec.specs.Asked.{given, given_blocks}
 use Rattle.rules_spec.specs.Planned.{entries_of, operand_entries, place_in, is_usable, usable_from, called}
 use Rattle.rules_spec.specs.Found.{signature, free_signature, free_in, free_from, at_budget, cost_from}
 use Rattle.rules_spec.specs.Stand.{Numbered}
 use Rattle.rules_spec.specs.Systems.{Sum, sums, told_at, row_at, PaidFor}
 use Rattle.rules_spec.proofs.Standing.{some_position, ranged}
-use Rattle.rules_spec.proofs.Calls.{moved_times, get_at, own_low, low_low, total_append}
+use Rattle.rules_spec.proofs.Calls.{moved_times, get_at, own_low, low_low}
 use Rattle.rules_spec.proofs.Finding.{listed_is}
-use Rattle.rules_spec.proofs.Summed.{Full, full_same, brought_full, nothing_full, moved_none, less_full, pairs_rows, pair_row, map_same, given_full, sum_of as same_sum}
-use Rattle.rules_spec.proofs.Rowed.{Says, G, P, Walks, CallsSay, begun_says, take_says, only_says, zero_plus, plus_zero'}
+use Rattle.rules_spec.proofs.Summed.{Full, full_same, brought_full, nothing_full, moved_none, less_full, pairs_rows, map_same, given_full, sum_of as same_sum}
+use Rattle.rules_spec.proofs.Rowed.{Says, G, P, CallsSay, begun_says, take_says, only_says, zero_plus, plus_zero'}
 
 -- the functions of a group, as its unknowns and as its sides
 module _ (S : Setting) (x : Assignment) where

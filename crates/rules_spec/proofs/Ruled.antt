@@ -1,44 +1,43 @@
 -- The rules hold exactly where the conditions do, form by form.
-use Rattle.std.proofs.Common.{append-nil, ◌≡◌, refl, ap, sym, ◌∙◌, arith, inl, inr, subst}
-use Rattle.std.specs.Prelude.{ℕ, zero, suc, ◌+◌, ◌-◌, ◌*◌, ◌<◌, ◌≤◌, Bool, true, false, cond, List, [], ◌∷◌, ◌++◌, map, zip, length, nat_eq, slice_get, slice_index_or, Option, None, Some, All}
+use Rattle.std.proofs.Common.{append-nil, ◌≡◌, refl, ap, sym, ◌∙◌, arith, subst}
+use Rattle.std.specs.Prelude.{ℕ, zero, suc, ◌+◌, ◌-◌, ◌<◌, ◌≤◌, Bool, true, false, cond, List, [], ◌∷◌, ◌++◌, map, zip, length, nat_eq, slice_index_or, Option, None, Some, All}
 use Rattle.std.proofs.lemmas.List.{map-append}
 use Rattle.std.proofs.lemmas.List.Elements.{All-head, All-tail}
-use Rattle.raml_syntax.specs.Tree.{Type', Integer, Boolean, PairOf, ListOf, TreeOf, OptionOf}
+use Rattle.raml_syntax.specs.Tree.{Type', PairOf, ListOf, TreeOf, OptionOf}
 use Rattle.base_poly.specs.Plain.{Plain, degrees}
 use Rattle.base_poly.specs.Indices.{index_list}
 use Rattle.base_poly.proofs.Exact.{each_listed}
 use Rattle.index_shift.specs.Potential.{Annotation}
 use Rattle.index_shift.specs.Potential as i
 use Rattle.index_shift.specs.Parts.{type_parts}
-use Rattle.index_shift.specs.Maps.{in_place, none, twice, Carry, entries_from, opening, leaving, sharing, variable_type, behind, opens, leaves, joins}
+use Rattle.index_shift.specs.Maps.{in_place, none, twice, Carry, opening, sharing, variable_type, behind, opens, leaves, joins}
 use Rattle.normal_spec.specs.Norm as n
 use Rattle.normal_spec.specs.Norm.{Norm, NormFun}
 use Rattle.normal_spec.specs.One.{type_or}
 use Rattle.normal_spec.specs.Free.{find, put, free_in}
-use Rattle.index_shift.specs.Contexts.{marked_items, projects, projection, permutes}
+use Rattle.index_shift.specs.Contexts.{marked_items, projects, permutes}
 use Rattle.normal_spec.specs.Context.{Context, types, place, without, opened, parts_of, copies_of, IsIn, inners, others, type_in}
 use Rattle.annot_types.specs.Carried as m
 use Rattle.annot_types.specs.Carried.{Covers, less, more, to, operand_places, tuples, marks, part}
-use Rattle.annot_types.specs.Program.{Program}
 use Rattle.annot_types.specs.Certificate as cert
 use Rattle.annot_types.specs.Certificate.{Entries, annotation, Annotates}
 use Rattle.cost_free.specs.declared.task.Meter.{Meter}
-use Rattle.cost_free.specs.declared.task.Meter.TheVariants.{Ticks, Cells, Work}
+use Rattle.cost_free.specs.declared.task.Meter.TheVariants.{Ticks}
 use Rattle.annot_types.specs.Rules.{Mode, With, Own, Past, Setting, CallRule, Parts, Ann}
 use Rattle.annot_types.specs.Rules as r
 use Rattle.normal_spec.specs.Uses.{Takes, Uses}
 use Rattle.annot_types.specs.Rows.{size as size_of}
 use Rattle.rules_spec.specs.Plan as p
 use Rattle.rules_spec.specs.Plan.{Plan, Step, Part, Called}
-use Rattle.rules_spec.specs.Numbers.{Sides, Signature, Known, Hint, Results, Copies, Multiples, Condition, Walked}
-use Rattle.rules_spec.specs.Kinds.{Amount, amounts, Meets, AllMeet}
-use Rattle.rules_spec.specs.Walk.{Walk, only, behind as before, and_then, numbered, later, still, mode_at, charge, nothing, at, at_zero, moved, all_moved, against, brought, joined, begun, each, walk, walks, call_pairs, sums}
+use Rattle.rules_spec.specs.Numbers.{Sides, Signature, Hint, Results, Copies, Multiples, Walked}
+use Rattle.rules_spec.specs.Kinds.{Amount, amounts}
+use Rattle.rules_spec.specs.Walk.{Walk, and_then, numbered, still, mode_at, charge, nothing, at_zero, moved, against, brought, joined, each, walk, walks}
 use Rattle.rules_spec.specs.Asked.{Ask, ResultsOf, CopiesOf, MultiplesOf, asked, all_asked, each_asked, behind_asked}
 use Rattle.rules_spec.specs.Planned.{entries_of, step, zero_alone, part_steps, operand_entries, lower, let_part, plan, called}
-use Rattle.rules_spec.specs.Stand.{known_in, Within, StandFor, Stands, StandForEach, Answers, Answered, Tells, Ranged}
-use Rattle.rules_spec.proofs.Standing.{some_position, ranged, same_annotation, brought_stands, nothing_stands, moved_stands, less_stands, more_stands, covers_to, covers_from}
+use Rattle.rules_spec.specs.Stand.{known_in, Within, Stands, StandForEach, Answered, Tells, Ranged}
+use Rattle.rules_spec.proofs.Standing.{some_position, ranged, same_annotation, brought_stands, nothing_stands, moved_stands, less_stands, covers_to, covers_from}
 use Rattle.rules_spec.proofs.Left.{left_of, each_left, all_left, behind_append}
-use Rattle.rules_spec.proofs.Agreed.{Spends, meet_append, meet_front, meet_back, answered_left, answered_out, answered_front, answered_back, row_to, row_from, split_to, split_from, nodes_first, tick_price, begins, begun_tells, ends_tells, then_tells}
+use Rattle.rules_spec.proofs.Agreed.{Spends, meet_append, meet_front, meet_back, answered_front, answered_back, row_to, row_from, split_to, split_from, nodes_first, tick_price, begun_tells, ends_tells, then_tells}
 
 -- types of contexts
 types_zip : (x : ℕ) (new C : Context) (A : Type') (g : Type' → List Type') → find x C ≡ Some A → types new ≡ g A → types (put x new C) ≡ in_place (place x C) g (types C)

@@ -157,7 +157,7 @@ carries_calls i (n.Tick k j a) = refl
 carries_calls i (n.Share k x p q a) = refl
 carries_calls i (n.Drop k x a) = refl
 
-or_false : (a : Bool) → (a || false) ≡ a
+pub or_false : (a : Bool) → (a || false) ≡ a
 or_false true = refl
 or_false false = refl
 
@@ -320,7 +320,7 @@ in_range f a (suc count) low high = by (nat_eq f a) refl (in_range f (a + 1) cou
       let other : f ≡ a → ⊥ = λ k. true_false (sym (eq-eqb f a k) ∙ e) in
       h (omega (arith, low, other)) (omega (arith, high))
 
-and_true : (b : Bool) → (b && true) ≡ b
+pub and_true : (b : Bool) → (b && true) ≡ b
 and_true true = refl
 and_true false = refl
 

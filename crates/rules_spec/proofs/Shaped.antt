@@ -1,20 +1,20 @@
 -- Hints of the right shape answer all that is asked for.
-use Rattle.std.proofs.Common.{◌≡◌, refl}
+use Rattle.std.proofs.Common.{refl}
 use Rattle.std.specs.Prelude.{ℕ, List, [], ◌∷◌}
 use Rattle.annot_types.specs.Certificate as c
 use Rattle.annot_types.specs.Certificate.{Entries, annotation}
-use Rattle.rules_spec.specs.Asked.{Ask, ResultsOf, CopiesOf, MultiplesOf}
-use Rattle.rules_spec.specs.Stand.{StandForEach, AreMultiplesOf, Answers}
-use Rattle.rules_spec.specs.Shape.{EachWithin, AreAmong, FitsAsk, each_amounts, multiples_at, hints_at, FittingAnswer}
+use Rattle.rules_spec.specs.Asked.{ResultsOf, CopiesOf, MultiplesOf}
+use Rattle.rules_spec.specs.Stand.{StandForEach, AreMultiplesOf}
+use Rattle.rules_spec.specs.Shape.{EachWithin, AreAmong, each_amounts, multiples_at, FittingAnswer}
 use Rattle.rules_spec.proofs.Finding.{amounts_stand}
 
-each_stands : (ns : List ℕ) (ess : List Entries) → EachWithin ns ess → StandForEach ns (each_amounts ns ess) ess
+pub each_stands : (ns : List ℕ) (ess : List Entries) → EachWithin ns ess → StandForEach ns (each_amounts ns ess) ess
 each_stands [] [] h = tt
 each_stands [] (es ∷ ess) h = absurd h
 each_stands (n ∷ ns) [] h = absurd h
 each_stands (n ∷ ns) (es ∷ ess) h = ((h.0, amounts_stand n (annotation es)), each_stands ns ess h.1)
 
-are_multiples : (blocks : List ℕ) (ms : Entries) → AreAmong blocks ms → AreMultiplesOf blocks (multiples_at ms) ms
+pub are_multiples : (blocks : List ℕ) (ms : Entries) → AreAmong blocks ms → AreMultiplesOf blocks (multiples_at ms) ms
 are_multiples blocks [] h = tt
 are_multiples blocks (m ∷ ms) h = (h.0, refl, are_multiples blocks ms h.1)
 

@@ -1,20 +1,21 @@
 -- Numbers solve the rows exactly where what they stand for meets all conditions.
-use Rattle.std.proofs.Common.{◌≡◌, refl, ap, sym, ◌∙◌, arith, inl, inr, subst}
-use Rattle.std.specs.Prelude.{ℕ, zero, suc, ◌+◌, ◌*◌, ◌<◌, ◌≤◌, ◌↔◌, ◌⊎◌, cond, Bool, true, false, not, ◌&&◌, int_le, ℤ, pos, negsuc, ◌+ℤ◌, ◌-ℤ◌, ◌*ℤ◌, ◌≤ℤ◌, List, [], ◌∷◌, map, filter, length, slice_index_or}
+use Rattle.std.proofs.Common.{◌≡◌, refl, ap, sym, ◌∙◌, arith, subst}
+use Rattle.std.specs.Prelude.{ℕ, zero, suc, ◌+◌, ◌*◌, ◌<◌, ◌≤◌, cond, Bool, true, false, not, int_le, ℤ, pos, ◌+ℤ◌, ◌-ℤ◌, ◌*ℤ◌, ◌≤ℤ◌, List, [], ◌∷◌, map, filter, length, slice_index_or}
 use Rattle.std.specs.List.{range_with_len, list_all}
 use Rattle.std.specs.Ordering.{int_eq}
 use Rattle.std.proofs.lemmas.Int.{ints}
 use Rattle.std.proofs.lemmas.Bool.Decides.{nat_tests, Decides-int_eq}
+use Rattle.std.proofs.lemmas.Bool.{and_parts, not-false}
 use Rattle.raml_num.proofs.Differences.{diff, diffs, diff-pos, diff_same}
 use Rattle.raml_num.specs.Sums.{NoneNegative}
 use Rattle.linear_rows.specs.Terms.{Terms, SparseRow, coefficient}
 use Rattle.linear_rows.specs.Vectors.{dot, scale, times, AtMost}
-use Rattle.linear_rows.specs.Systems.{LinearSystem, Solves, numbers_from}
+use Rattle.linear_rows.specs.Systems.{numbers_from}
 use Rattle.annot_types.specs.System.{is_kept}
 use Rattle.rules_spec.specs.Numbers.{Condition}
-use Rattle.rules_spec.specs.Kinds.{Amount, amounts, Form, forms, unknown, one_at, weigh, value, Meets, AllMeet}
+use Rattle.rules_spec.specs.Kinds.{amounts, Form, forms, unknown, one_at, weigh, value, Meets, AllMeet}
 use Rattle.rules_spec.specs.Carried.{condition_to}
-use Rattle.rules_spec.specs.Solving.{terms_of, row_of, rows_of, amount, RowsAreConditions, FormsWalkAsAmounts}
+use Rattle.rules_spec.specs.Solving.{row_of, rows_of, amount, RowsAreConditions, FormsWalkAsAmounts}
 use Rattle.rules_spec.specs.Tasks.{Job, unknowns, given_conditions}
 use Rattle.rules_spec.proofs.Values.{forms_carry, amount_of, weigh_none}
 use Rattle.rules_spec.proofs.Given.{given_carry}
@@ -32,7 +33,7 @@ unknown_is t x u = amount_of _ _ _ _ (omega (arith, weigh_one x u)) (omega arith
 terms_from : ℕ → ℕ → (ℕ → ℤ) → Terms
 terms_from k n f = filter (λ (t : ℕ × ℤ). not (int_eq t.1 (pos 0))) (map (λ u. (u, f u)) (range_with_len k n))
 
-is_zero : (z : ℤ) → int_eq z (pos 0) ≡ true → z ≡ pos 0
+pub is_zero : (z : ℤ) → int_eq z (pos 0) ≡ true → z ≡ pos 0
 is_zero z h = (Decides-int_eq z (pos 0)).0 h
 
 least_zero : (z : ℤ) → int_le (pos 0) z ≡ true → pos 0 ≤ℤ z
@@ -40,15 +41,6 @@ least_zero z h = grind (arith, ints, h)
 
 most_zero : (z : ℤ) → int_le z (pos 0) ≡ true → z ≤ℤ pos 0
 most_zero z h = grind (arith, ints, h)
-
-both_true : (a b : Bool) → (a && b) ≡ true → (a ≡ true) × (b ≡ true)
-both_true true true h = (refl, refl)
-both_true true false h = let no : false ≡ true = h in absurd (cc)
-both_true false b h = let no : false ≡ true = h in absurd (cc)
-
-not_false : (b : Bool) → not b ≡ false → b ≡ true
-not_false true h = refl
-not_false false h = let no : true ≡ false = h in absurd (cc)
 
 none_before : (n k u : ℕ) (f : ℕ → ℤ) → u < k → coefficient u (terms_from k n f) ≡ pos 0
 unfolding terms_from
@@ -85,7 +77,7 @@ all_natural (suc n) k zero f e h = by (int_eq (f k) (pos 0)) refl e where
 
   by : (b : Bool) → int_eq (f k) (pos 0) ≡ b → list_all (λ (t : ℕ × ℤ). int_le (pos 0) t.1) (cond (not b) ((k, f k) ∷ terms_from (k + 1) n f) (terms_from (k + 1) n f)) ≡ true → pos 0 ≤ℤ f (k + 0)
   by true z l = subst (λ j. pos 0 ≤ℤ f j) (sym same) (let at : f k ≡ pos 0 = is_zero (f k) z in omega (arith, ints, at))
-  by false z l = subst (λ j. pos 0 ≤ℤ f j) (sym same) (least_zero (f k) (both_true (int_le (pos 0) (f k)) _ l).0)
+  by false z l = subst (λ j. pos 0 ≤ℤ f j) (sym same) (least_zero (f k) (and_parts (int_le (pos 0) (f k)) _ l).0)
 all_natural (suc n) k (suc i) f e h = subst (λ j. pos 0 ≤ℤ f j) next (by (all_natural n (k + 1) i f) (int_eq (f k) (pos 0)) e) where
   next : k + 1 + i ≡ k + suc i
   next = omega arith
@@ -93,7 +85,7 @@ all_natural (suc n) k (suc i) f e h = subst (λ j. pos 0 ≤ℤ f j) next (by (a
   by : (list_all (λ (t : ℕ × ℤ). int_le (pos 0) t.1) (terms_from (k + 1) n f) ≡ true → i < n → pos 0 ≤ℤ f (k + 1 + i)) → (b : Bool) →
       list_all (λ (t : ℕ × ℤ). int_le (pos 0) t.1) (cond (not b) ((k, f k) ∷ terms_from (k + 1) n f) (terms_from (k + 1) n f)) ≡ true → pos 0 ≤ℤ f (k + 1 + i)
   by go true l = go l (omega (arith, h))
-  by go false l = go (both_true (int_le (pos 0) (f k)) _ l).1 (omega (arith, h))
+  by go false l = go (and_parts (int_le (pos 0) (f k)) _ l).1 (omega (arith, h))
 
 -- a row's product with numbers
 step_diff : (a b x p q : ℕ) → diff a b *ℤ pos x +ℤ diff p q ≡ diff (a * x + p) (b * x + q)
@@ -165,7 +157,7 @@ module _ (t : ℕ) (x : List ℕ) (n : ℕ) (len : length x ≡ n) where
   left_out : (c : Condition Form) → is_kept (row_of n c) ≡ false → Meets (condition_to (value t x) c)
   unfolding terms_from
   left_out c e =
-      let both = both_true (list_all (λ (t : ℕ × ℤ). int_le (pos 0) t.1) (row_of n c).terms) (int_le (row_of n c).right (pos 0)) (not_false _ e) in
+      let both = and_parts (list_all (λ (t : ℕ × ℤ). int_le (pos 0) t.1) (row_of n c).terms) (int_le (row_of n c).right (pos 0)) (not-false _ e) in
       let f = λ (u : ℕ). pos (c.left.terms u) -ℤ pos (c.right.terms u) in
       let w : weigh c.right.terms x ≤ weigh c.left.terms x = weigh_le c.right.terms c.left.terms x
       (λ u b. natural_diff (c.left.terms u) (c.right.terms u) (subst (λ j. pos 0 ≤ℤ f j) (omega arith) (all_natural n 0 u f both.0 (omega (arith, b, len))))) in

@@ -1,12 +1,11 @@
 -- What is done to entries over amounts is done to the annotations for which they stand.
 use Rattle.std.proofs.Common.{◌≡◌, refl, ap, sym, ◌∙◌, arith, inl, inr, subst}
-use Rattle.std.specs.Prelude.{ℕ, zero, suc, ◌+◌, ◌-◌, ◌*◌, ◌<◌, ◌≤◌, ◌≢◌, ◌==◌, ◌⊎◌, Bool, true, false, cond, if◌then◌else◌, List, [], ◌∷◌, ◌++◌, map, length, position, slice_index_or, slice_set, Option, None, Some}
+use Rattle.std.specs.Prelude.{ℕ, zero, suc, ◌+◌, ◌*◌, ◌<◌, ◌≤◌, ◌≢◌, ◌==◌, ◌⊎◌, if◌then◌else◌, List, [], ◌∷◌, ◌++◌, length, position, slice_set, Option, None, Some}
 use Rattle.std.proofs.lemmas.List.{get_or-set_same, get_or-set_other, length-set}
 use Rattle.std.proofs.lemmas.List.Quantifiers.{position-Some}
 use Rattle.std.proofs.lemmas.Bool.Decides.{nat_tests}
 use Rattle.raml_syntax.specs.Tree.{Type'}
 use Rattle.base_poly.specs.Plain.{Plain, alike}
-use Rattle.base_poly.specs.Base.{total}
 use Rattle.base_poly.specs.Indices.{index_list}
 use Rattle.base_poly.proofs.Graded.{as_many}
 use Rattle.base_poly.proofs.Longer.{some_tuple}
@@ -14,13 +13,11 @@ use Rattle.index_shift.specs.Potential.{Annotation}
 use Rattle.index_shift.specs.Potential as i
 use Rattle.index_shift.specs.Maps.{Carry, entry_to, placed, entries_from}
 use Rattle.index_shift.specs.declared.entry.Entry.{Entry}
-use Rattle.annot_types.specs.Carried.{Covers, less, more, to, operand_places, tuples, marks, part}
-use Rattle.annot_types.specs.Rules.{Mode}
+use Rattle.annot_types.specs.Carried.{less, more, to}
 use Rattle.rules_spec.specs.Plan.{Step}
-use Rattle.rules_spec.specs.Numbers.{Condition}
-use Rattle.rules_spec.specs.Kinds.{Amount, amounts, Meets, AllMeet, total_left, total_right}
+use Rattle.rules_spec.specs.Kinds.{Amount, amounts, AllMeet}
 use Rattle.rules_spec.specs.Walk.{at, added, brought, nothing, moved, against, numbered, at_zero}
-use Rattle.rules_spec.specs.Stand.{known_in, Within, StandFor, Stands, Ranged}
+use Rattle.rules_spec.specs.Stand.{Stands, Ranged}
 
 -- a context has a position
 pub some_position : (As : List Type') (d : ℕ) → 0 < length (index_list As d)

@@ -1,6 +1,6 @@
 -- Entries over sums, as annotations with what is owed.
 use Rattle.std.proofs.Common.{◌≡◌, refl, ap, sym, ◌∙◌, arith, inl, inr, subst}
-use Rattle.std.specs.Prelude.{ℕ, zero, suc, ◌+◌, ◌*◌, ◌<◌, ◌≤◌, ◌≢◌, ◌==◌, ◌⊎◌, Bool, true, false, if◌then◌else◌, ℤ, pos, ◌-ℤ◌, List, [], ◌∷◌, map, length, slice_index_or, slice_set}
+use Rattle.std.specs.Prelude.{ℕ, zero, suc, ◌+◌, ◌*◌, ◌<◌, ◌≤◌, ◌≢◌, ◌==◌, ◌⊎◌, Bool, true, false, if◌then◌else◌, pos, ◌-ℤ◌, List, [], ◌∷◌, map, length, slice_set}
 use Rattle.std.specs.List.{range_with_len}
 use Rattle.std.proofs.lemmas.Int.{ints}
 use Rattle.std.proofs.lemmas.List.{get_or-set_same, get_or-set_other, length-set}
@@ -8,8 +8,7 @@ use Rattle.index_shift.specs.Potential.{Annotation}
 use Rattle.index_shift.specs.Potential as i
 use Rattle.index_shift.specs.declared.entry.Entry.{Entry}
 use Rattle.annot_types.specs.Carried.{more}
-use Rattle.annot_types.specs.Rows.{Assignment, Row, none, unknown}
-use Rattle.annot_types.specs.Rules.{Setting}
+use Rattle.annot_types.specs.Rows.{Assignment, Row, none}
 use Rattle.rules_spec.specs.Plan.{Step}
 use Rattle.rules_spec.specs.Walk.{at, added, brought, nothing, moved, against, numbered, at_zero}
 use Rattle.rules_spec.specs.Asked.{given}

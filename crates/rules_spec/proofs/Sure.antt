@@ -1,6 +1,7 @@
 -- The walks of a task's bodies subtract little.
 use Rattle.std.proofs.Common.{◌≡◌, refl, ap, sym, ◌∙◌, arith, subst, inl, inr, append-nil}
 use Rattle.std.specs.Prelude.{ℕ, zero, suc, ◌+◌, ◌*◌, ◌^◌, ◌<◌, ◌≤◌, ◌⊎◌, ◌≢◌, List, [], ◌∷◌, ◌++◌, map, length, slice_get, slice_index_or, slice_set, position, Option, None, Some}
+use Rattle.std.proofs.lemmas.Bool.{cases_lt}
 use Rattle.index_shift.specs.declared.entry.Entry.{Entry}
 use Rattle.rules_spec.specs.Plan as p
 use Rattle.rules_spec.specs.Plan.{Plan, Step, Part, Called}
@@ -271,9 +272,6 @@ module _ (u : ℕ) where
     by (inl h) = inl (g q h)
     by (inr h) = inr h
 
-  below_or : (a b : ℕ) → (a < b) ⊎ (b ≤ a)
-  below_or a b = grind arith
-
   -- what is given for a hint is of the unknown only where it is among these
   given_apart : (k n : ℕ) (from next : ℕ) → from ≤ k → k + n ≤ next → (u < from) ⊎ (next ≤ u) → Every Free (given unknown k n)
   given_apart k n from next a b (inl h) = given_free k n (inl (omega (arith, a, h)))
@@ -334,21 +332,21 @@ module _ (u : ℕ) where
         SureAt (numbered path i (against forms q (moved forms step (given unknown from size))))
     shares_sure path i size step q r from h a =
         let ys = moved forms step (given unknown from size) in
-        sure_numbered path i (against forms q ys) (pairs_apart q ys h (every_moved NoMinus no_minus step (given unknown from size) (given_no_minus from size)) (by (below_or u from))) where
+        sure_numbered path i (against forms q ys) (pairs_apart q ys h (every_moved NoMinus no_minus step (given unknown from size) (given_no_minus from size)) (by (cases_lt u from))) where
           by : (u < from) ⊎ (from ≤ u) → Every Free q ⊎ Every Free (moved forms step (given unknown from size))
           by (inl b) = inr (every_moved Free free step (given unknown from size) (given_free from size (inl b)))
           by (inr b) = inl (a.fresh b).0
 
     -- what is given anew, beside a result from before
     fresh_apart : (q r : List Form) (from next : ℕ) (old : List Form) → from ≤ next → Apart old r from → ((u < from) ⊎ (next ≤ u) → Every Free q) → Apart q r next
-    fresh_apart q r from next old le a f = record { sides = by (below_or u from); fresh = λ h. (f (inr h), (a.fresh (omega (arith, le, h))).1) } where
+    fresh_apart q r from next old le a f = record { sides = by (cases_lt u from); fresh = λ h. (f (inr h), (a.fresh (omega (arith, le, h))).1) } where
       by : (u < from) ⊎ (from ≤ u) → Every Free q ⊎ Every Free r
       by (inl b) = inl (f (inl b))
       by (inr b) = inr (a.fresh b).1
 
     -- a result that is given anew, beside a context from before
     asked_apart : (q r : List Form) (from next at_least : ℕ) (old : List Form) → from ≤ at_least → next ≤ at_least → from ≤ next → Apart q old from → ((u < from) ⊎ (next ≤ u) → Every Free r) → Apart q r at_least
-    asked_apart q r from next at_least old le lf lg a f = record { sides = by (below_or u from); fresh = λ h. ((a.fresh (omega (arith, le, h))).0, f (inr (omega (arith, lf, h)))) } where
+    asked_apart q r from next at_least old le lf lg a f = record { sides = by (cases_lt u from); fresh = λ h. ((a.fresh (omega (arith, le, h))).0, f (inr (omega (arith, lf, h)))) } where
       by : (u < from) ⊎ (from ≤ u) → Every Free q ⊎ Every Free r
       by (inl b) = inr (f (inl b))
       by (inr b) = inl (a.fresh b).0
@@ -518,7 +516,7 @@ module _ (u : ℕ) where
           let s = used forms G c (given_blocks unknown from c.usable) start in
           let asks = used_asks (u < from) c from c.usable start (λ b. b) (once_asks (u < from) mode c c.own single) in
           let all = refunded forms G mode s in
-          let args = args_sure q all.args h (refund_little mode s asks.minus) (by (below_or u from) asks) in
+          let args = args_sure q all.args h (refund_little mode s asks.minus) (by (cases_lt u from) asks) in
           let result = result_sure all.result r (subst (Every NoMinus) (sym (refund_result mode s)) asks.result) res in
           sure_numbered path i (missing forms G mode c c.own ++ call_pairs forms G q r all)
           (pairs_append (missing forms G mode c c.own) (call_pairs forms G q r all) (missing_sure mode c c.own) (pairs_append (against forms q all.args) (against forms all.result r) args result)) where
@@ -659,7 +657,7 @@ module _ (u : ℕ) where
 
     apart : Apart (given unknown is.from is.args) (given unknown (is.from + is.args) is.result) from
     apart = record {
-      sides = by (below_or u (is.from + is.args));
+      sides = by (cases_lt u (is.from + is.args));
       fresh = λ h. (given_free is.from is.args (inr (omega (arith, h, low, is.below))), given_free (is.from + is.args) is.result (inr (omega (arith, h, low, is.below))));
     }
 

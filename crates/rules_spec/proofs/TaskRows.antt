@@ -1,19 +1,16 @@
 -- The system of a task is that of its job.
 use Rattle.std.proofs.Common.{append-nil, length-append, ◌≡◌, refl, ap, sym, ◌∙◌, arith, subst}
-use Rattle.std.specs.Prelude.{ℕ, zero, suc, ◌+◌, ◌-◌, ◌^◌, ◌<◌, ◌≤◌, ◌==◌, if◌then◌else◌, nat_eq, Bool, true, false, not, cond, ℤ, pos, ◌-ℤ◌, List, [], ◌∷◌, ◌++◌, map, filter, length, replicate, slice_get, slice_index_or, Option, None, Some}
+use Rattle.std.specs.Prelude.{ℕ, zero, suc, ◌+◌, ◌^◌, ◌≤◌, ◌==◌, if◌then◌else◌, Bool, true, false, cond, pos, ◌-ℤ◌, List, [], ◌∷◌, ◌++◌, map, filter, length, replicate, slice_get, slice_index_or, Option, Some}
 use Rattle.std.specs.Option.{unwrap_or}
 use Rattle.std.specs.List.{range_with_len, list_any}
-use Rattle.std.specs.Ordering.{int_eq}
 use Rattle.std.proofs.lemmas.Int.{ints}
-use Rattle.std.proofs.lemmas.List.{map-append}
+use Rattle.std.proofs.lemmas.List.{map-append, length-map}
 use Rattle.std.proofs.lemmas.Bool.Decides.{nat_tests}
-use Rattle.raml_syntax.specs.Tree.{Type'}
 use Rattle.base_poly.specs.Plain.{alike, degrees}
 use Rattle.base_poly.specs.Indices.{index_list}
-use Rattle.linear_rows.specs.Terms.{SparseRow}
 use Rattle.normal_spec.specs.Norm.{NormFun}
 use Rattle.normal_spec.specs.Context.{types}
-use Rattle.cost_free.specs.Target.{Target, targets}
+use Rattle.cost_free.specs.Target.{targets}
 use Rattle.cost_free.specs.Task as t
 use Rattle.cost_free.specs.Task.{Task, Kind, Free}
 use Rattle.annot_types.specs.Program.{Program, members}
@@ -24,30 +21,21 @@ use Rattle.annot_types.specs.Rows as w
 use Rattle.annot_types.specs.Rows.{size as size_of, Assignment, Row, Unsolved, none}
 use Rattle.annot_types.specs.System as s
 use Rattle.annot_types.specs.System.{args_of, result_of, unsolved, sig_weights, unsigned, is_kept}
-use Rattle.rules_spec.specs.Numbers.{Sides, Hint, Condition, Carries}
+use Rattle.rules_spec.specs.Numbers.{Sides, Condition, Carries}
 use Rattle.rules_spec.specs.Walk.{at, walk, group_sides}
 use Rattle.rules_spec.specs.Asked.{asked, counts, given, answers}
-use Rattle.rules_spec.specs.Tasks as j
-use Rattle.rules_spec.specs.Tasks.{Body, Job, sides_count, hints_count, unknowns, sides_given, hints_given, known_by, of_body, of_bodies, of_target, given_conditions}
+use Rattle.rules_spec.specs.Tasks.{Body, Job, sides_count, hints_count, unknowns, sides_given, hints_given, known_by, of_bodies, of_target, given_conditions}
 use Rattle.rules_spec.specs.Kinds.{Form, forms, unknown, one_at}
 use Rattle.rules_spec.specs.Carried.{condition_to}
-use Rattle.rules_spec.specs.Planned.{place_in}
 use Rattle.rules_spec.specs.Solving.{terms_of, row_of, system_of}
-use Rattle.rules_spec.specs.Jobs.{body_of, positions, positions_of, target_place, target_positions, job_of}
-use Rattle.rules_spec.specs.Systems.{Sum, sums, told_at, row_at, AreReady, IsReady, HasTarget, IsTask, SystemsAreWalked}
+use Rattle.rules_spec.specs.Jobs.{body_of, positions_of, target_place, target_positions, job_of}
+use Rattle.rules_spec.specs.Systems.{Sum, sums, told_at, row_at, AreReady, HasTarget, IsTask, SystemsAreWalked}
 use Rattle.rules_spec.proofs.Given.{given_carry}
 use Rattle.rules_spec.proofs.Summed.{Full, given_full, sum_of as same_sum}
-use Rattle.rules_spec.proofs.Rowed.{Says, walks_say, zero_plus}
-use Rattle.rules_spec.proofs.RowedCalls.{AreSides, Once, One, one_of, calls_say}
+use Rattle.rules_spec.proofs.Rowed.{walks_say, zero_plus}
+use Rattle.rules_spec.proofs.RowedCalls.{AreSides, Once, one_of, calls_say}
 
-some_same : {X : Type 0} (a b : X) → Some a ≡ Some b → a ≡ b
-some_same a b e = cc
-
-length_map : {X Y : Type 0} (f : X → Y) (xs : List X) → length (map f xs) ≡ length xs
-length_map f [] = refl
-length_map f (x ∷ xs) = ap suc (length_map f xs)
-
-length_replicate : {X : Type 0} (n : ℕ) (x : X) → length (replicate n x) ≡ n
+pub length_replicate : {X : Type 0} (n : ℕ) (x : X) → length (replicate n x) ≡ n
 length_replicate zero x = refl
 length_replicate (suc n) x = ap suc (length_replicate n x)
 
@@ -87,7 +75,7 @@ module _ (P : Program) (d : ℕ) (earlier : List Block) (task : Task) (scale : �
             ≡ size_of (types g.params) budget + size_of (g.result ∷ []) budget + sides_count (map body fs)
         at g =
             let ws = map (λ t. pos (10 ^ degrees t)) (index_list (types g.params) budget) in let zs = replicate (size_of (g.result ∷ []) budget) (pos 0) in
-            omega (arith, length-append ws (zs ++ sig_weights P budget fs), length-append zs (sig_weights P budget fs), length_map (λ t. pos (10 ^ degrees t)) (index_list (types g.params) budget), length_replicate (size_of (g.result ∷ []) budget) (pos 0), go)
+            omega (arith, length-append ws (zs ++ sig_weights P budget fs), length-append zs (sig_weights P budget fs), length-map (index_list (types g.params) budget) (λ t. pos (10 ^ degrees t)), length_replicate (size_of (g.result ∷ []) budget) (pos 0), go)
 
   sides_are : (x : Assignment) (fs : List ℕ) (next : ℕ) → AreReady S mode fs → AreSides S x fs (unsolved P budget fs next) (sides_given (told_at x) next (map body fs))
   sides_are x [] next h = tt

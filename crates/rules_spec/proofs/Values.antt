@@ -1,8 +1,7 @@
 -- The value of a form carries sums and multiples.
-use Rattle.std.proofs.Common.{◌≡◌, refl, ap, sym, ◌∙◌, arith}
-use Rattle.std.specs.Prelude.{ℕ, zero, suc, ◌+◌, ◌*◌, List, [], ◌∷◌}
-use Rattle.rules_spec.specs.Numbers.{Carries}
-use Rattle.rules_spec.specs.Kinds.{Amount, amounts, Form, forms, unknown, weigh, value}
+use Rattle.std.proofs.Common.{◌≡◌, refl, arith}
+use Rattle.std.specs.Prelude.{ℕ, suc, ◌+◌, ◌*◌, List, [], ◌∷◌}
+use Rattle.rules_spec.specs.Kinds.{Amount, weigh}
 use Rattle.rules_spec.specs.Solving.{FormsCarry}
 
 pub weigh_none : (x : List ℕ) → weigh (λ u. 0) x ≡ 0

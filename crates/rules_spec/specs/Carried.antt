@@ -2,7 +2,7 @@
 use Rattle.std.specs.Prelude.{◌≡◌, ℕ, List, map}
 use Rattle.annot_types.specs.Rules.{Mode}
 use Rattle.rules_spec.specs.Plan.{Plan}
-use Rattle.rules_spec.specs.Numbers.{Numbers, Sides, Known, Hint, Results, Copies, Multiples, Condition, Walked, Carries}
+use Rattle.rules_spec.specs.Numbers.{Numbers, Sides, Known, Hint, Results, Copies, Multiples, Condition, Walked}
 use Rattle.rules_spec.specs.Walk.{Walk, walk}
 use Rattle.rules_spec.specs.Tasks.{Job, given_conditions}
 

@@ -1,13 +1,11 @@
 -- Jobs of small programs, worked out by hand.
-use Rattle.std.specs.Prelude.{◌≡◌, ℕ, ℤ, pos, List, [], ◌∷◌, Option, None, Some}
+use Rattle.std.specs.Prelude.{◌≡◌, ℕ, pos, List, [], ◌∷◌, Option, None, Some}
 use Rattle.raml_syntax.specs.Tree.{Integer, OptionOf}
-use Rattle.linear_rows.specs.Systems.{LinearSystem}
 use Rattle.normal_spec.specs.Norm as n
 use Rattle.normal_spec.specs.Norm.{NormFun}
 use Rattle.cost_free.specs.declared.task.Meter.TheVariants.{Ticks, Cells, Work}
 use Rattle.cost_free.specs.Task.{Kind, Free, With}
 use Rattle.annot_types.specs.Certificate.{Block}
-use Rattle.annot_types.specs.System as s
 use Rattle.annot_types.specs.Example.{program, three_ticks, constant, append, one_left, length_left, no_ticks, cells}
 use Rattle.annot_types.specs.SystemExample.{spin, spin_free}
 use Rattle.annot_types.specs.SystemExample as e

@@ -1,5 +1,5 @@
 -- The signatures of a setting, as a walk knows them.
-use Rattle.std.specs.Prelude.{◌≡◌, ℕ, zero, suc, List, [], ◌∷◌, length, slice_get, Option, None, Some, option_map}
+use Rattle.std.specs.Prelude.{◌≡◌, ℕ, zero, suc, List, [], ◌∷◌, length, slice_get, Option, None, Some}
 use Rattle.index_shift.specs.Potential.{Annotation}
 use Rattle.normal_spec.specs.Norm.{NormFun}
 use Rattle.normal_spec.specs.Context.{types}

@@ -1,6 +1,6 @@
 -- The two kinds of number: exact amounts, and sums of unknowns.
-use Rattle.std.specs.Prelude.{◌≡◌, ℕ, zero, suc, ◌+◌, ◌*◌, ◌≤◌, List, [], ◌∷◌}
-use Rattle.rules_spec.specs.Numbers.{Numbers, Condition, Carries}
+use Rattle.std.specs.Prelude.{ℕ, zero, suc, ◌+◌, ◌*◌, ◌≤◌, List, [], ◌∷◌}
+use Rattle.rules_spec.specs.Numbers.{Numbers, Condition}
 
 -- a number less the prices that were taken from it
 pub record Amount : Type 0 where

@@ -1,5 +1,5 @@
 -- The hints of a certificate that are those that a plan asks for.
-use Rattle.std.specs.Prelude.{◌<◌, ℕ, zero, suc, unsigned_abs, List, [], ◌∷◌, ◌++◌, Contains}
+use Rattle.std.specs.Prelude.{ℕ, unsigned_abs, List, [], ◌∷◌, ◌++◌, Contains}
 use Rattle.annot_types.specs.Certificate as c
 use Rattle.annot_types.specs.Certificate.{Entries, annotation, Rise}
 use Rattle.rules_spec.specs.Numbers.{Hint, Results, Copies, Multiples}

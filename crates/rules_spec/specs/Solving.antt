@@ -1,5 +1,5 @@
 -- The rows of a job, and what it is to solve them.
-use Rattle.std.specs.Prelude.{◌≡◌, ℕ, ◌+◌, ◌*◌, ◌↔◌, ℤ, pos, ◌-ℤ◌, not, List, [], ◌∷◌, map, filter, length, slice_index_or}
+use Rattle.std.specs.Prelude.{◌≡◌, ℕ, ◌+◌, ◌↔◌, ℤ, pos, ◌-ℤ◌, not, List, map, filter, length, slice_index_or}
 use Rattle.std.specs.List.{range_with_len}
 use Rattle.std.specs.Ordering.{int_eq}
 use Rattle.linear_rows.specs.Terms.{Terms, SparseRow}

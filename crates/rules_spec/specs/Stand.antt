@@ -1,5 +1,5 @@
 -- Entries over amounts, as the annotations of the rules.
-use Rattle.std.specs.Prelude.{◌≡◌, ℕ, ℤ, ◌+◌, ◌<◌, unsigned_abs, List, [], ◌∷◌, length, slice_get, slice_index_or, Contains, Option, None}
+use Rattle.std.specs.Prelude.{◌≡◌, ℕ, ◌+◌, ◌<◌, unsigned_abs, List, [], ◌∷◌, length, slice_get, slice_index_or, Contains, Option, None}
 use Rattle.std.specs.Prelude.{Some}
 use Rattle.index_shift.specs.Potential.{Annotation}
 use Rattle.index_shift.specs.declared.entry.Entry.{Entry}

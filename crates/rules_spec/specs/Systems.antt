@@ -1,7 +1,7 @@
 -- The systems of tasks, by the walks over plans.
-use Rattle.std.specs.Prelude.{◌≡◌, ℕ, ◌+◌, ◌*◌, pos, ◌-ℤ◌, nat_eq, Bool, false, List, [], ◌∷◌, map, slice_get, Option, None, Some}
+use Rattle.std.specs.Prelude.{◌≡◌, ℕ, ◌+◌, ◌*◌, pos, ◌-ℤ◌, nat_eq, false, List, [], ◌∷◌, slice_get, None, Some}
 use Rattle.std.specs.List.{list_any}
-use Rattle.normal_spec.specs.Norm.{Norm, NormFun}
+use Rattle.normal_spec.specs.Norm.{NormFun}
 use Rattle.normal_spec.specs.Uses.{Uses}
 use Rattle.cost_free.specs.Task as k
 use Rattle.cost_free.specs.Task.{Task, Kind, Free}
@@ -11,9 +11,8 @@ use Rattle.annot_types.specs.Signature.{cost_sig}
 use Rattle.annot_types.specs.Rules.{Mode, With, Setting}
 use Rattle.annot_types.specs.Holds.{mode_of}
 use Rattle.annot_types.specs.Rows.{Assignment, Row}
-use Rattle.annot_types.specs.System.{unsigned, made, system}
+use Rattle.annot_types.specs.System.{unsigned, system}
 use Rattle.rules_spec.specs.Numbers.{Numbers, Condition}
-use Rattle.rules_spec.specs.Tasks.{unknowns, given_conditions}
 use Rattle.rules_spec.specs.Planned.{place_in}
 use Rattle.rules_spec.specs.Solving.{system_of}
 use Rattle.rules_spec.specs.Jobs.{job_of}

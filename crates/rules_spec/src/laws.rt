@@ -24,16 +24,19 @@ pub fn rows_are_conditions()
 {}
 
 /// The system of a task is that of its job.
+#[tactic(auto, using(crate::proofs::TaskRows::systems_are_walked))]
 pub fn systems_are_walked()
     ensures { SystemsAreWalked }
 {}
 
 /// All signatures and hints of the right sizes are given by some numbers, in the order of unknowns.
+#[tactic(auto, using(crate::proofs::Covering::all_are_given))]
 pub fn all_are_given()
     ensures { AllAreGiven }
 {}
 
 /// The rules hold exactly where all conditions of the walk are met.
+#[tactic(auto, using(crate::proofs::Calls::rules_are_conditions))]
 pub fn rules_are_conditions()
     ensures { RulesAreConditions }
 {}
@@ -44,21 +47,25 @@ pub fn rules_ask()
 {}
 
 /// Hints of the shape that is asked for answer all that is asked for.
+#[tactic(auto, using(crate::proofs::Shaped::fitting_answer))]
 pub fn fitting_hints_answer()
     ensures { FittingAnswer }
 {}
 
 /// What a walk knows of signatures can be listed, for each setting, as the rules find them.
+#[tactic(auto, using(crate::proofs::Finding::reads_there))]
 pub fn reads_there()
     ensures { ReadsThere }
 {}
 
 /// A walk over capped amounts is the walk over exact ones, capped.
+#[tactic(auto, using(crate::proofs::Capping::capped_walks))]
 pub fn capped_walks()
     ensures { CappedWalks }
 {}
 
 /// The first fault of capped amounts is that of the exact ones.
+#[tactic(auto, using(crate::proofs::Capping::capped_faults))]
 pub fn capped_faults()
     ensures { CappedFaults }
 {}
@@ -69,16 +76,19 @@ pub fn small_jobs()
 {}
 
 /// The rows of capped sums are those of exact ones, or leave as these do, where they are sure.
+#[tactic(auto, using(crate::proofs::CappingRows::capped_rows))]
 pub fn capped_rows()
     ensures { CappedRows }
 {}
 
 /// Those of a task are.
+#[tactic(auto, using(crate::proofs::Sure::tasks_are_sure))]
 pub fn tasks_are_sure()
     ensures { TasksAreSure }
 {}
 
 /// Where the blocks of a meter and its scale are raised, only right sides are raised.
+#[tactic(auto, using(crate::proofs::Refuted::rows_are_raised))]
 pub fn rows_are_raised()
     ensures { RowsAreRaised }
 {}

@@ -1,8 +1,8 @@
 -- Where the unknowns of a function's arguments stand, and what their numbers are.
 use Rattle.std.proofs.Common.{◌≡◌, refl, ap, sym, ◌∙◌, arith, subst}
-use Rattle.std.specs.Prelude.{ℕ, zero, suc, ◌+◌, ◌<◌, nat_eq, Bool, true, false, cond, ◌||◌, List, [], ◌∷◌, length, slice_get, Option, Some}
+use Rattle.std.specs.Prelude.{ℕ, ◌+◌, ◌<◌, nat_eq, Bool, true, false, cond, ◌||◌, List, [], ◌∷◌, length, slice_get, Option, Some}
 use Rattle.std.proofs.lemmas.Bool.Decides.{nat_tests}
-use Rattle.index_shift.specs.Potential.{Annotation}
+use Rattle.rules_systems_laws.proofs.Weights.{given_are}
 use Rattle.linear_rows.specs.Systems.{LinearSystem}
 use Rattle.normal_spec.specs.Norm.{NormFun}
 use Rattle.normal_spec.specs.Context.{types}
@@ -16,33 +16,19 @@ use Rattle.annot_types.specs.Rows.{size as size_of}
 use Rattle.annot_types.specs.System.{args_of, result_of}
 use Rattle.annot_types.proofs.Lists.{some_is}
 use Rattle.rules_spec.specs.Numbers.{Sides}
-use Rattle.rules_spec.specs.Kinds.{Amount, amounts}
-use Rattle.rules_spec.specs.Walk.{at}
+use Rattle.rules_spec.specs.Kinds.{Amount}
 use Rattle.rules_spec.specs.Asked.{given}
 use Rattle.rules_spec.specs.Tasks.{Body, sides_count, sides_given}
 use Rattle.rules_spec.specs.Solving.{amount}
 use Rattle.rules_spec.specs.Found.{listed, amounts_of, signature, sides, group_from}
 use Rattle.rules_spec.specs.Systems.{AreReady}
 use Rattle.rules_spec.specs.Told.{number_in}
-use Rattle.rules_spec.proofs.Finding.{amounts_stand}
 use Rattle.rules_spec.proofs.TaskRows.{systems_are_walked}
 use Rattle.rules_systems_laws.specs.Arguments.{first_from}
 use Rattle.rules_systems_laws.specs.Laws.{ArgumentsAreUnknowns}
 use Rattle.rules_systems_laws.proofs.Functions.{budget, here, body, bodies, Ready}
 
-given_at : (x : List ℕ) (from n k : ℕ) → k < n → at (amounts 1) (given (amount x) from n) k ≡ amount x (from + k)
-given_at x from zero k h = absurd (omega (arith, h))
-given_at x from (suc n) zero h = ap (amount x) (omega arith)
-given_at x from (suc n) (suc k) h = given_at x (suc from) n k (omega (arith, h)) ∙ ap (amount x) (omega arith)
-
 -- numbers that give the entries of an annotation
-given_are : (x : List ℕ) (from n : ℕ) (q : Annotation) → given (amount x) from n ≡ amounts_of (listed n q) → (k : ℕ) → k < n → number_in x (from + k) ≡ q k
-given_are x from n q e k h =
-    let s = (amounts_stand n q).is k h in
-    let z = sym (given_at x from n k h) ∙ ap (λ l. at (amounts 1) l k) e in
-    let p = ap (λ (a : Amount). a.plus) z in
-    let m = ap (λ (a : Amount). a.minus) z in
-    omega (arith, s, p, m)
 
 cons_head : {X : Type 0} (x y : X) (xs ys : List X) → x ∷ xs ≡ y ∷ ys → x ≡ y
 cons_head x y xs ys e = cc

@@ -1,6 +1,7 @@
 -- Lists that are cut, and put at components.
 use Rattle.std.proofs.Common.{◌≡◌, refl, ap, sym, ◌∙◌, arith, ⊎_elim, subst}
 use Rattle.std.specs.Prelude.{ℕ, zero, suc, ◌+◌, List, [], ◌∷◌, ◌++◌, map, length, slice_get, Option, None, Some}
+use Rattle.std.proofs.lemmas.List.{length-append}
 use Rattle.raml_syntax.specs.Tree.{Type', Integer, Boolean, PairOf, ListOf, TreeOf, OptionOf}
 use Rattle.base_poly.specs.Plain.{Plain, End, Then, many, entries_of, deg}
 use Rattle.base_poly.specs.Indices.{IsIndex}
@@ -123,10 +124,6 @@ sum_split f from (suc m) n =
       next : (a b : ℕ) → suc a + b ≡ a + suc b
       next a b = omega arith
 
-length_append : {X : Type 0} (xs ys : List X) → length (xs ++ ys) ≡ length xs + length ys
-length_append [] ys = omega arith
-length_append (x ∷ xs) ys = let h = length_append xs ys in omega (arith, h)
-
 get_front : {X : Type 0} (xs ys : List X) (k : ℕ) (x : X) → slice_get xs k ≡ Some x → slice_get (xs ++ ys) k ≡ Some x
 get_front [] ys k x e = absurd (cc)
 get_front (y ∷ xs) ys zero x e = e
@@ -165,7 +162,7 @@ module _ (places : List ℕ) (xs : List (List Plain)) where
       (h (length (components A) + i) C (get_behind (components A) (components B) i ∙ e))) in (
         (a.0, b.0),
         (λ i. a.1 i + b.1 i) ∙ sym (sum_split (λ j. size_of (piece_at j places xs)) k (length (components A)) (length (components B)))
-            ∙ ap (sum_from (λ j. size_of (piece_at j places xs)) k) (sym (length_append (components A) (components B))),
+            ∙ ap (sum_from (λ j. size_of (piece_at j places xs)) k) (sym (length-append (components A) (components B))),
       )
   filled_fits Integer k h = alone Integer k (h 0 Integer refl)
   filled_fits Boolean k h = alone Boolean k (h 0 Boolean refl)

@@ -1,11 +1,12 @@
 -- The tuples of a target have positions, wherever its degree fits.
 use Rattle.std.proofs.Common.{◌≡◌, refl, ap, sym, ◌∙◌, arith, inl, inr, ⊎_elim, subst}
-use Rattle.std.specs.Prelude.{ℕ, zero, suc, ◌+◌, ◌<◌, ◌≤◌, ◌⊎◌, ◌&&◌, nat_eq, nat_lt, Bool, true, false, cond, List, [], ◌∷◌, ◌++◌, map, flat_map, take, length, position, slice_get, None, Some, IsSome}
+use Rattle.std.specs.Prelude.{ℕ, zero, suc, ◌+◌, ◌<◌, ◌≤◌, ◌⊎◌, nat_eq, nat_lt, Bool, true, false, cond, List, [], ◌∷◌, ◌++◌, map, flat_map, take, length, position, slice_get, None, Some, IsSome}
 use Rattle.std.specs.List.{All}
 use Rattle.std.specs.Ordering.{is_lt}
 use Rattle.std.proofs.lemmas.Bool.Decides.{nat_tests}
 use Rattle.std.proofs.lemmas.List.Elements.{All-nil, All-cons}
 use Rattle.std.proofs.lemmas.Option.{slice_get-get_or}
+use Rattle.std.proofs.lemmas.Bool.{and_parts}
 use Rattle.raml_syntax.specs.Tree.{Type', Integer, Boolean, PairOf, ListOf, TreeOf, OptionOf}
 use Rattle.base_poly.specs.Plain.{Plain, entries_of, deg, degrees, alike}
 use Rattle.base_poly.specs.Indices.{IsIndex, AreIndices, index_list}
@@ -16,10 +17,6 @@ use Rattle.cost_free.specs.Target.{Target, degree_of, unit_targets, components, 
 use Rattle.cost_free.specs.Target.{Joined, joined, cut_lists, joined_over, joined_order, put, in_order, joined_targets, targets}
 use Rattle.annot_types.proofs.Lists.{some_is, length_map}
 use Rattle.rules_systems_laws.proofs.Filled.{degree, degree_all, AllIndices, AllAll, entries_index, are_pieces, Fits, size_of, sum_from, AllFit, piece, filled_fits}
-
-pub both_true : (a b : Bool) → (a && b) ≡ true → (a ≡ true) × (b ≡ true)
-both_true true b e = (refl, e)
-both_true false b e = absurd (cc)
 
 -- Holders
 
@@ -76,7 +73,7 @@ AllHold E (h ∷ hs) = (h.element ≡ E) × AllHold E hs
 same_is : (A B : Type') → same_type A B ≡ true → A ≡ B
 same_is Integer Integer e = refl
 same_is Boolean Boolean e = refl
-same_is (PairOf A B) (PairOf C D) e = let b = both_true (same_type A C) (same_type B D) e in λ i. PairOf (same_is A C b.0 i) (same_is B D b.1 i)
+same_is (PairOf A B) (PairOf C D) e = let b = and_parts (same_type A C) (same_type B D) e in λ i. PairOf (same_is A C b.0 i) (same_is B D b.1 i)
 same_is (ListOf A) (ListOf B) e = ap ListOf (same_is A B e)
 same_is (TreeOf A) (TreeOf B) e = ap TreeOf (same_is A B e)
 same_is (OptionOf A) (OptionOf B) e = ap OptionOf (same_is A B e)
@@ -86,7 +83,7 @@ all_hold : (E : Type') (hs : List Holder) → hold E hs ≡ true → AllHold E h
 unfolding AllHold
 all_hold E [] e = tt
 all_hold E (h ∷ hs) e =
-    let b = both_true (same_type E h.element) (hold h.element hs) e in
+    let b = and_parts (same_type E h.element) (hold h.element hs) e in
     let same = same_is E h.element b.0 in
     (sym same, all_hold E hs (ap (λ A. hold A hs) same ∙ b.1))
 
@@ -246,7 +243,7 @@ joined_targets_are A d target m =
     let whole = all_holders (components A) 0 (components A) (λ i. ap (slice_get (components A)) (let e : 0 + i ≡ i = omega arith in e)) (omega arith) in
     subst (IsTarget A) j.2 (over_is A d hs j.0
     (some_holders (components A) 0 (take 8 (holders 0 (components A))) hs (first_holders (components A) 0 8 (holders 0 (components A)) whole) kept.0)
-    (both_true _ (have_one_element hs) kept.1).1 part.2)
+    (and_parts _ (have_one_element hs) kept.1).1 part.2)
 
 pub targets_are : (A : Type') (d : ℕ) (target : Target) → Among target (targets A d) → IsTarget A target
 targets_are A d target m = ⊎_elim (unit_is A d target) (joined_targets_are A d target) (among_either target (unit_targets A d) (joined_targets A d) m)

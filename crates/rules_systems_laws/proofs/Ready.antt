@@ -1,8 +1,8 @@
 -- What the system of a task asks for is there, over blocks of the right shape.
-use Rattle.std.proofs.Common.{◌≡◌, ◌<◌, ◌⊎◌, inl, inr, ⊎_elim, ℕ, zero, suc, nat_eq, cond, not, ◌||◌, ◌&&◌, Bool, true, false, List, [], ◌∷◌, map, length, take, slice_get, Option, Some, None, refl, sym, ap, ◌∙◌, subst, arith}
+use Rattle.std.proofs.Common.{◌≡◌, ◌<◌, inl, ⊎_elim, ℕ, zero, suc, nat_eq, cond, not, ◌||◌, ◌&&◌, Bool, true, false, List, [], ◌∷◌, map, length, take, slice_get, Option, Some, None, refl, sym, ap, ◌∙◌, subst, arith}
 use Rattle.std.specs.Option.{option_map, unwrap_or}
 use Rattle.std.specs.List.{list_any}
-use Rattle.std.proofs.lemmas.Bool.Decides.{nat_tests}
+use Rattle.std.proofs.lemmas.Bool.{and_parts, or_cases, eqb-true}
 use Rattle.normal_spec.specs.Norm.{NormFun}
 use Rattle.cost_free.specs.declared.task.Meter.{Meter}
 use Rattle.cost_free.specs.declared.task.Done.{Done}
@@ -23,14 +23,9 @@ use Rattle.rules_spec.specs.Systems.{PaidFor, AllPaid, IsReady, AreReady, HasTar
 use Rattle.annot_types.proofs.Lists.{some_is, some_none, map_get, map_inv}
 use Rattle.rules_systems_laws.specs.Ordered.{AreApart, IsOrdered}
 use Rattle.rules_systems_laws.specs.Shaped.{HasNumber, IsSigned, AreSigned, ShapedAreTasks}
-use Rattle.rules_systems_laws.proofs.Numbered.{both_true}
 use Rattle.rules_systems_laws.proofs.Scheduled.{among_is, targets_are_numbered, numbered}
 
 -- Truths
-
-either : (a b : Bool) → (a || b) ≡ true → (a ≡ true) ⊎ (b ≡ true)
-either true b e = inl refl
-either false b e = inr e
 
 -- of three truths, the first two of which hold, and which do not all hold
 last_false : (a b e : Bool) → a ≡ true → b ≡ true → ((a && b) && not e) ≡ false → e ≡ true
@@ -39,16 +34,13 @@ last_false true true false p q r = absurd (cc)
 last_false true false e p q r = absurd (cc)
 last_false false b e p q r = absurd (cc)
 
-same_of : (f g : ℕ) → nat_eq f g ≡ true → f ≡ g
-same_of f g e = grind (arith, nat_tests, e)
-
 -- Lists
 
 any_true : (p : ℕ → Bool) (f : ℕ) (gs : List ℕ) → is_among f gs ≡ true → p f ≡ true → list_any p gs ≡ true
 any_true p f [] e h = absurd (cc)
 any_true p f (g ∷ gs) e h = ⊎_elim
-    (λ s. (λ i. p (sym (same_of f g s) i) || list_any p gs) ∙ (λ i. h i || list_any p gs))
-    (λ r. by (p g) (any_true p f gs r h)) (either (nat_eq f g) (is_among f gs) e)
+    (λ s. (λ i. p (sym (eqb-true f g s) i) || list_any p gs) ∙ (λ i. h i || list_any p gs))
+    (λ r. by (p g) (any_true p f gs r h)) (or_cases (nat_eq f g) (is_among f gs) e)
   where
     by : (b : Bool) → list_any p gs ≡ true → (b || list_any p gs) ≡ true
     by true q = refl
@@ -56,7 +48,7 @@ any_true p f (g ∷ gs) e h = ⊎_elim
 
 any_place : {X : Type 0} (p : X → Bool) (xs : List X) → list_any p xs ≡ true → (place : ℕ) × (x : X) × (slice_get xs place ≡ Some x) × (p x ≡ true)
 any_place p [] e = absurd (cc)
-any_place p (x ∷ xs) e = ⊎_elim (λ h. (0, x, refl, h)) (λ r. let q = any_place p xs r in (suc q.0, q.1, q.2, q.3)) (either (p x) (list_any p xs) e)
+any_place p (x ∷ xs) e = ⊎_elim (λ h. (0, x, refl, h)) (λ r. let q = any_place p xs r in (suc q.0, q.1, q.2, q.3)) (or_cases (p x) (list_any p xs) e)
 
 taken_there : {X : Type 0} (xs : List X) (n k : ℕ) (x : X) → slice_get (take n xs) k ≡ Some x → slice_get xs k ≡ Some x
 taken_there xs zero k x e = absurd (cc)
@@ -128,7 +120,7 @@ module _ (least : BlockersAreLeast) (P : Program) (degree : ℕ) (earlier : List
   bound_sig meter f e =
       let o = any_place (λ (o : Outcome). pays_for meter o && is_among f (row P.groups o.0.group)) (map outcome earlier) e in
       let b = map_inv outcome earlier o.0 o.1 o.2 in
-      let both = both_true _ _ (subst (λ (o : Outcome). (pays_for meter o && is_among f (row P.groups o.0.group)) ≡ true) (sym b.2) o.3) in
+      let both = and_parts _ _ (subst (λ (o : Outcome). (pays_for meter o && is_among f (row P.groups o.0.group)) ≡ true) (sym b.2) o.3) in
       let pays = paying meter b.0.task (done_as b.0.body) both.0 in
       let sig = solved_sig P f b.0.task b.0.body (signed o.0 b.0 b.1) pays.1 both.1 in
       cost_there P meter f earlier o.0 b.0 sig.0 b.1 pays.0 sig.1

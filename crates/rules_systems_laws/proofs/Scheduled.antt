@@ -1,8 +1,9 @@
 -- The tasks of the schedule are of targets.
-use Rattle.std.proofs.Common.{◌≡◌, ◌≤◌, ◌<◌, ℕ, zero, suc, ◌+◌, nat_le, nat_eq, cond, ◌||◌, Bool, true, false, List, [], ◌∷◌, map, flat_map, slice_get, Some, refl, sym, ap, ◌∙◌, ⊎_elim, inl, inr, subst, arith}
+use Rattle.std.proofs.Common.{◌≡◌, ◌≤◌, ℕ, suc, ◌+◌, nat_le, nat_eq, cond, ◌||◌, Bool, true, false, List, [], ◌∷◌, map, flat_map, slice_get, Some, refl, sym, ap, ◌∙◌, ⊎_elim, inl, inr, subst, arith}
 use Rattle.std.specs.Option.{unwrap_or}
 use Rattle.std.specs.List.{list_any, range_with_len}
 use Rattle.std.proofs.lemmas.Bool.Decides.{nat_tests}
+use Rattle.rules_systems_laws.proofs.Targets.{range_below}
 use Rattle.base_poly.proofs.Among.{Among, among_either, among_mapped, among_part}
 use Rattle.normal_spec.specs.Norm.{NormFun}
 use Rattle.cost_free.specs.Target.{Target, degree_of, targets}
@@ -45,10 +46,6 @@ among_is (g ∷ fs) f h = ⊎_elim
     by : (b : Bool) → is_among f fs ≡ true → (b || list_any (nat_eq f) fs) ≡ true
     by true q = refl
     by false q = q
-
-range_low : (from n x : ℕ) → Among x (range_with_len from n) → x < from + n
-range_low from zero x h = absurd h
-range_low from (suc n) x h = ⊎_elim (λ e. omega (arith, e)) (λ m. let l = range_low (from + 1) n x m in omega (arith, l)) h
 
 module _ (P : Program) (d : ℕ) (work : Bool) where
   abbrev Q : Task → Type 0
@@ -95,7 +92,7 @@ module _ (P : Program) (d : ℕ) (work : Bool) where
       free m =
           let b = among_part (λ budget. flat_map (λ f. tasks_for (results P) d work group budget f 0 (targets_at (slice_get (results P) f) d)) funs) task (range_with_len 0 (suc d)) m in
           let f = among_part (λ f. tasks_for (results P) d work group b.0 f 0 (targets_at (slice_get (results P) f) d)) task funs b.2 in
-          let low = range_low 0 (suc d) b.0 b.1 in
+          let low = range_below 0 (suc d) b.0 b.1 in
           for_function group b.0 f.0 (ap (λ o. is_among f.0 (unwrap_or o [])) here ∙ among_is funs f.0 f.1) (omega (arith, low)) task f.2
 
       paid : Among task (map (λ meter. record { group = group; kind = k.With meter }) (meters work)) → Q task

@@ -31,7 +31,7 @@ among_range from (suc n) k l h = ⊎_elim (λ e. inl e) (λ g. inr (among_range 
   either (suc a) zero l = absurd (omega (arith, l))
   either (suc a) (suc b) l = ⊎_elim (λ e. inl (ap suc e)) (λ g. inr (omega (arith, g))) (either a b (omega (arith, l)))
 
-range_below : (from n k : ℕ) → Among k (range_with_len from n) → k < from + n
+pub range_below : (from n k : ℕ) → Among k (range_with_len from n) → k < from + n
 range_below from zero k h = absurd h
 range_below from (suc n) k h = ⊎_elim (λ e. omega (arith, e)) (λ g. let l = range_below (from + 1) n k g in omega (arith, l)) h
 

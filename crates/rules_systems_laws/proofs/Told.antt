@@ -2,6 +2,7 @@
 use Rattle.std.proofs.Common.{◌≡◌, refl, ap, sym, ◌∙◌, arith, subst}
 use Rattle.std.specs.Prelude.{ℕ, zero, suc, ◌+◌, ◌*◌, ◌<◌, ◌≤◌, nat_eq, unsigned_abs, pos, Bool, true, false, cond, List, [], ◌∷◌, ◌++◌, map, length, slice_index_or, Contains}
 use Rattle.std.proofs.lemmas.Bool.Decides.{nat_tests}
+use Rattle.rules_spec.proofs.Shaped.{each_stands, are_multiples}
 use Rattle.base_poly.specs.Base.{total}
 use Rattle.index_shift.specs.Potential.{Annotation}
 use Rattle.annot_types.specs.Certificate as c
@@ -110,16 +111,6 @@ abbrev pub AllSuit : List Ask → List c.Hint → Type 0
 AllSuit [] [] = Unit {0}
 AllSuit (ask ∷ asks) (h ∷ hs) = Suits ask h × AllSuit asks hs
 AllSuit _ _ = ⊥
-
-each_stands : (ns : List ℕ) (ess : List Entries) → EachWithin ns ess → StandForEach ns (each_amounts ns ess) ess
-each_stands [] [] h = tt
-each_stands [] (es ∷ ess) h = absurd h
-each_stands (n ∷ ns) [] h = absurd h
-each_stands (n ∷ ns) (es ∷ ess) h = ((h.0, amounts_stand n (annotation es)), each_stands ns ess h.1)
-
-are_multiples : (blocks : List ℕ) (ms : Entries) → AreAmong blocks ms → AreMultiplesOf blocks (multiples_at ms) ms
-are_multiples blocks [] h = tt
-are_multiples blocks (m ∷ ms) h = (h.0, refl, are_multiples blocks ms h.1)
 
 pub suiting_answer : (asks : List Ask) (hs : List c.Hint) → AllSuit asks hs → Answered asks hs (hints_at asks hs) [] []
 suiting_answer [] [] h = (refl, refl)

@@ -74,13 +74,13 @@ length_zeros : (n : ℕ) → length (replicate n (pos 0)) ≡ n
 length_zeros zero = refl
 length_zeros (suc n) = ap suc (length_zeros n)
 
-given_at : (x : List ℕ) (from n k : ℕ) → k < n → at (amounts 1) (given (amount x) from n) k ≡ amount x (from + k)
+pub given_at : (x : List ℕ) (from n k : ℕ) → k < n → at (amounts 1) (given (amount x) from n) k ≡ amount x (from + k)
 given_at x from zero k h = absurd (omega (arith, h))
 given_at x from (suc n) zero h = ap (amount x) (omega arith)
 given_at x from (suc n) (suc k) h = given_at x (suc from) n k (omega (arith, h)) ∙ ap (amount x) (omega arith)
 
 -- numbers that give the entries of an annotation
-given_are : (x : List ℕ) (from n : ℕ) (q : Annotation) → given (amount x) from n ≡ amounts_of (listed n q) → (k : ℕ) → k < n → number_in x (from + k) ≡ q k
+pub given_are : (x : List ℕ) (from n : ℕ) (q : Annotation) → given (amount x) from n ≡ amounts_of (listed n q) → (k : ℕ) → k < n → number_in x (from + k) ≡ q k
 given_are x from n q e k h =
     let s = (amounts_stand n q).is k h in
     let z = sym (given_at x from n k h) ∙ ap (λ l. at (amounts 1) l k) e in

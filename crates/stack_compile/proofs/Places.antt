@@ -14,7 +14,7 @@ use Rattle.stack_compile.specs.declared.scope.Scope.TheVariants.{Bound, rolls-Bo
 use Rattle.stack_compile.specs.declared.scope.Scope.TheOpen as o
 use Rattle.stack_compile.specs.declared.scope.Scope.TheFolds.{fold-roll-Scope}
 
-newest_behind : (x y : Text) (xs : List Text) (i found : ℕ) → newest x (xs ++ y ∷ []) i found ≡ cond (bytes_eq x y) (i + length xs) (newest x xs i found)
+pub newest_behind : (x y : Text) (xs : List Text) (i found : ℕ) → newest x (xs ++ y ∷ []) i found ≡ cond (bytes_eq x y) (i + length xs) (newest x xs i found)
 newest_behind x y [] i found = ap (λ n. cond (bytes_eq x y) n found) (omega arith)
 newest_behind x y (z ∷ xs) i found =
     newest_behind x y xs (i + 1) (cond (bytes_eq x z) i found)

@@ -5,11 +5,12 @@ use Rattle.std.specs.Str.{bytes_eq}
 use Rattle.std.proofs.Math.Seq.{get_or-append_seam, take-append_seam}
 use Rattle.std.proofs.lemmas.List.{append-nil}
 use Rattle.std.proofs.lemmas.Option.{slice_get-get_or}
+use Rattle.stack_compile.proofs.Places.{newest_behind}
 use Rattle.raml_syntax.specs.Tree.{Text}
 use Rattle.raml_syntax.specs.Value.{Value}
 use Rattle.raml_syntax.specs.Eval.{Env, look, bind_all}
 use Rattle.raml_syntax.specs.Default.{IsBound}
-use Rattle.stack_compile.specs.Code.{Code, fork, newest, local_of}
+use Rattle.stack_compile.specs.Code.{Code, fork, local_of}
 use Rattle.stack_compile.specs.Machine.{local, popped, left, unbind}
 use Rattle.stack_compile.specs.declared.instr.Instr.{Instr}
 use Rattle.stack_compile.specs.declared.instr.Instr.TheVariants.{Jump}
@@ -86,12 +87,6 @@ lengths : (env : Env) → length (names env) ≡ length (values env)
 lengths [] = refl
 lengths (b ∷ env) = omega (arith, lengths env, length-append (names env) (b.0 ∷ []), length-append (values env) (b.1 ∷ []))
 
-newest_snoc : (x y : Text) (ys : List Text) (i found : ℕ) → newest x (ys ++ y ∷ []) i found ≡ cond (bytes_eq x y) (i + length ys) (newest x ys i found)
-newest_snoc x y [] i found = let e : i ≡ i + 0 = omega arith in ap (λ n. cond (bytes_eq x y) n found) e
-newest_snoc x y (z ∷ ys) i found =
-    let e : i + 1 + length ys ≡ i + length (z ∷ ys) = omega arith in
-    newest_snoc x y ys (i + 1) (cond (bytes_eq x z) i found) ∙ ap (λ n. cond (bytes_eq x y) n (newest x ys (i + 1) (cond (bytes_eq x z) i found))) e
-
 local_here : (vs : List Value) (w : Value) → local (vs ++ w ∷ []) (length vs) ≡ w
 local_here [] w = refl
 local_here (v ∷ vs) w = local_here vs w
@@ -104,7 +99,7 @@ local_before (v ∷ vs) w (suc i) h = local_before vs w i (omega arith)
 -- where a variable is bound, its local is there and holds its value
 pub look_is : (x : Text) (env : Env) → IsBound x env → (local_of x (names env) < length (values env)) × (local (values env) (local_of x (names env)) ≡ look x env)
 look_is x [] h = absurd h
-look_is x (b ∷ env) h = by (bytes_eq x b.0) (newest_snoc x b.0 (names env) 0 0) h (look_is x env)
+look_is x (b ∷ env) h = by (bytes_eq x b.0) (newest_behind x b.0 (names env) 0 0) h (look_is x env)
   where
     by : (c : Bool) → local_of x (names env ++ b.0 ∷ []) ≡ cond c (0 + length (names env)) (local_of x (names env)) → cond c (Unit {0}) (IsBound x env) → (IsBound x env → (local_of x (names env) < length (values env)) × (local (values env) (local_of x (names env)) ≡ look x env)) → (local_of x (names env ++ b.0 ∷ []) < length (values env ++ b.1 ∷ [])) × (local (values env ++ b.1 ∷ []) (local_of x (names env ++ b.0 ∷ [])) ≡ cond c b.1 (look x env))
     by true e h before =

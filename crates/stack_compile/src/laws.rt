@@ -6,6 +6,7 @@ ghost use Rattle.stack_compile.specs.Example.{Examples};
 /// and cells, in at most 4 instructions a unit of work. After some instructions it costs no more than
 /// evaluation at any depth limit that is no less, and where it goes on, evaluation at the next limit has more
 /// than a quarter as much work. No instruction misses what it takes.
+#[tactic(auto, using(crate::proofs::Linked::machine_is_linked))]
 pub fn machine_is_linked()
     ensures { MachineIsLinked }
 {}
