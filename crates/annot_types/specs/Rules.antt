@@ -133,27 +133,34 @@ module _ (S : Setting) where
     pub args : Covers (types C) d (more (refund mode) q) (asked C xs (types fun.params) d (all_taken once multiples))
     pub result : Covers (T ∷ []) d (left T d (all_taken once multiples)) r
 
+  -- The result has the zero index alone, or is empty, where the base polynomials of all other indices are 0.
+  abbrev pub AtZero : Mode → ℕ → Annotation → Annotation → List Hint → List Hint → Type 0
+  AtZero m k q r hs out = Pays m k 0 0 q (λ q. r 0 ≤ q 0) × (hs ≡ out)
+
+  -- A cell is built of these variables, which have what taking the result apart would give them.
+  abbrev pub Builds : Mode → ℕ → Context → Annotation → ℕ → List ℕ → Type' → Annotation → List Hint → List Hint → Type 0
+  Builds m d C q k xs T r hs out = Pays m k 0 1 q (λ q. Covers (types C) d q (at_parts C xs T d r)) × (hs ≡ out)
+
   -- In this mode and at budget d, the annotation q of the context C and the annotation r of the form's result, of type
   -- T, fit the form. Its hints are taken from the front of `hs`, in the order of the walk, and `out` is what is left of
   -- them.
   abbrev pub Ann : Mode → ℕ → Context → Annotation → Norm → Type' → Annotation → List Hint → List Hint → Type 0
   -- the variable is the whole context
   Ann m d C q (n.Var k x) T r hs out = Pays m k 0 0 q (λ q. Covers (types C) d q r) × (hs ≡ out)
-  -- numbers, truths and operators: their results have the zero index alone
-  Ann m d C q (n.Number k i) T r hs out = Pays m k 0 0 q (λ q. r 0 ≤ q 0) × (hs ≡ out)
-  Ann m d C q (n.Truth k b) T r hs out = Pays m k 0 0 q (λ q. r 0 ≤ q 0) × (hs ≡ out)
-  Ann m d C q (n.Arith k op x y) T r hs out = Pays m k 0 0 q (λ q. r 0 ≤ q 0) × (hs ≡ out)
-  Ann m d C q (n.Compare k op x y) T r hs out = Pays m k 0 0 q (λ q. r 0 ≤ q 0) × (hs ≡ out)
-  Ann m d C q (n.Not k x) T r hs out = Pays m k 0 0 q (λ q. r 0 ≤ q 0) × (hs ≡ out)
-  -- empty values: the base polynomials of all other indices are 0 there
-  Ann m d C q (n.Nil k) T r hs out = Pays m k 0 0 q (λ q. r 0 ≤ q 0) × (hs ≡ out)
-  Ann m d C q (n.Leaf k) T r hs out = Pays m k 0 0 q (λ q. r 0 ≤ q 0) × (hs ≡ out)
-  Ann m d C q (n.Nothing k) T r hs out = Pays m k 0 0 q (λ q. r 0 ≤ q 0) × (hs ≡ out)
-  -- constructors with a cell: the parts have what taking the result apart would give them
-  Ann m d C q (n.Pair k x y) T r hs out = Pays m k 0 1 q (λ q. Covers (types C) d q (at_parts C (x ∷ y ∷ []) T d r)) × (hs ≡ out)
-  Ann m d C q (n.Cons k x y) T r hs out = Pays m k 0 1 q (λ q. Covers (types C) d q (at_parts C (x ∷ y ∷ []) T d r)) × (hs ≡ out)
-  Ann m d C q (n.Node k x y z) T r hs out = Pays m k 0 1 q (λ q. Covers (types C) d q (at_parts C (x ∷ y ∷ z ∷ []) T d r)) × (hs ≡ out)
-  Ann m d C q (n.Just k x) T r hs out = Pays m k 0 1 q (λ q. Covers (types C) d q (at_parts C (x ∷ []) T d r)) × (hs ≡ out)
+  -- numbers, truths, operators and empty values
+  Ann m d C q (n.Number k i) T r hs out = AtZero m k q r hs out
+  Ann m d C q (n.Truth k b) T r hs out = AtZero m k q r hs out
+  Ann m d C q (n.Arith k op x y) T r hs out = AtZero m k q r hs out
+  Ann m d C q (n.Compare k op x y) T r hs out = AtZero m k q r hs out
+  Ann m d C q (n.Not k x) T r hs out = AtZero m k q r hs out
+  Ann m d C q (n.Nil k) T r hs out = AtZero m k q r hs out
+  Ann m d C q (n.Leaf k) T r hs out = AtZero m k q r hs out
+  Ann m d C q (n.Nothing k) T r hs out = AtZero m k q r hs out
+  -- constructors
+  Ann m d C q (n.Pair k x y) T r hs out = Builds m d C q k (x ∷ y ∷ []) T r hs out
+  Ann m d C q (n.Cons k x y) T r hs out = Builds m d C q k (x ∷ y ∷ []) T r hs out
+  Ann m d C q (n.Node k x y z) T r hs out = Builds m d C q k (x ∷ y ∷ z ∷ []) T r hs out
+  Ann m d C q (n.Just k x) T r hs out = Builds m d C q k (x ∷ []) T r hs out
   Ann m d C q (n.Call k f xs) T r hs out = Pays m k 0 0 q (λ q. TakesCall hs (λ hint rest. CallRule m d C q f xs T r hint × (rest ≡ out)))
   -- The bound form is walked once for each tuple of the other variables, and then the rest.
   Ann m d C q (n.Let k x A a b) T r hs out = Pays m k 0 0 q (λ q. TakesLet hs (λ rs rest. (between : List Hint)

@@ -1,8 +1,8 @@
 //! For each column, marks at the blocks of rows that may have a number there, so that a pivot looks at no other
 //! row. They stand in one vector, column after column.
 
-ghost use Rattle.std.specs.Prelude.{IsTrue, ◌≡◌, ◌<◌, ◌≤◌, ◌+◌, ◌*◌, ◌^◌, [], ◌∷◌, true, length, map, take, slice_index_or, slice_set, replicate};
-ghost use Rattle.std.specs.Prelude.{IfOk, OnOk};
+ghost use Rattle.std.specs.Prelude.{IsTrue, ◌≡◌, ◌<◌, ◌≤◌, ◌+◌, ◌*◌, ◌^◌, [], ◌∷◌, true, length, map, take, slice_index_or, slice_set};
+ghost use Rattle.std.specs.Prelude.{replicate, IfOk, OnOk};
 ghost use Rattle.std.specs.Option.{SomeIff};
 ghost use Rattle.simplex.specs.Among.{Among};
 ghost use Rattle.simplex.specs.Standing.{AreTouching};
