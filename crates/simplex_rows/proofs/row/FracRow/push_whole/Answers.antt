@@ -24,7 +24,7 @@ returns-then-n-eq0-clause-before c k h = before_up_to c.args.column k c.args.sel
 pub push_fraction-requires : goal.push_fraction-requires
 push_fraction-requires c = elim c.match-self.branch [
   | in-Short+in_ok-push_whole+else-branch w ↦
-    let before : EndsBefore c.args.column (fractions_of (row_of w.in-Short.row)) = rw w.in-Short.is at (subst (EndsBefore c.args.column) (sym c.self.view_is) c.requires) in
-    rw (w.self-inside-is, w.in_ok-push_whole.ensures.kept (ap Ok w.if-branch.false)) before
+      let before : EndsBefore c.args.column (fractions_of (row_of w.in-Short.row)) = rw w.in-Short.is at (subst (EndsBefore c.args.column) (sym c.self.view_is) c.requires) in
+      rw (w.self-inside-is, w.in_ok-push_whole.ensures.kept (ap Ok w.if-branch.false)) before
   | in_default w ↦ rw (w.self-inside-is, c.self.view_is) c.requires
 ]
