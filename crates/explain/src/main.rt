@@ -4,11 +4,18 @@
 use explain_top::{Status, explain};
 use raml_io::{DirStore, StdSink};
 use std::process::ExitCode;
+use std::io::IsTerminal;
 use std::{env, io};
 
 /// The status where the runtime refuses the words for another cause than want of memory, as where one
 /// is no UTF-8.
 const NO_WORDS: u8 = 71;
+
+/// The columns of a terminal where it is not told how many it has.
+const DEFAULT: u32 = 80;
+
+/// The fewest columns to which lines are broken.
+const LEAST: u32 = 20;
 
 fn main(rt: HostRuntime) -> ExitCode {
     match run(&rt) {
@@ -27,5 +34,25 @@ fn run(rt: &HostRuntime) -> io::Result<Status> {
     let mut store = DirStore::new(rt);
     let mut out = StdSink::new(rt.stdout());
     let mut err = StdSink::new(rt.stderr());
-    Ok(explain(rt.alloc(), &words, &mut store, &mut out, &mut err))
+    let columns = columns_of(rt);
+    Ok(explain(
+        rt.alloc(),
+        &words,
+        columns,
+        &mut store,
+        &mut out,
+        &mut err,
+    ))
+}
+
+// How many columns lines may have: what `COLUMNS` says where that is a number of a terminal's columns, and else 80. None
+// where standard output goes to no terminal.
+fn columns_of(rt: &HostRuntime) -> Option<u32> {
+    if !rt.stdout().is_terminal() {
+        return None;
+    }
+    match env::var(rt, "COLUMNS") {
+        Ok(text) => Some(text.parse::<u32>().ok().filter(|columns| *columns >= LEAST).unwrap_or(DEFAULT)),
+        Err(_) => Some(DEFAULT),
+    }
 }

@@ -2,27 +2,34 @@
 ghost use Rattle.std.specs.Prelude.{◌≡◌, ◌≤◌};
 ghost use Rattle.raml_syntax.specs.Tree.{Text};
 ghost use Rattle.explain_check.specs.Stores.{store_of};
-ghost use Rattle.explain_top.specs.Answers.{IsAnswer, IsChecked, IsDataChecked, LacksMemory};
+ghost use Rattle.explain_calls.specs.Calls.{AreFit};
+ghost use Rattle.explain_top.specs.Answers.{CanBeAnswered, IsAnswer, AreBoundsTold, IsChecked, IsDataChecked, LacksMemory};
 ghost use Rattle.explain_top.specs.Sinks.{sink_of};
 
 use crate::status::Status;
-use explain_check::{Verdict, check_files};
+use explain_calls::tell_bounds;
+use explain_check::check_files;
 use explain_data::check_call;
-use explain_words::Request;
+use explain_words::{BoundsWords, Request};
 use raml_io::{Sink, Store, put_all};
 use std::alloc::{AllocError, Global};
 
 /// The line where no memory is left.
 const NO_MEMORY: &str = "explain: out of memory\n";
 
-/// Does what a request asks for, and writes to `err` what is wrong.
-pub fn answer<S: Store, E: Sink>(
+/// Does what a request asks for: writes what is told to `out`, where lines have at most so many columns, and to `err` what
+/// is wrong.
+pub fn answer<S: Store, O: Sink, E: Sink>(
     alloc: Global,
     request: &Request,
+    columns: Option<u32>,
     store: &mut S,
+    out: &mut O,
     err: &mut E,
 ) -> Status
-    ensures done { IsAnswer (store_of (S.holds store.old) (S.faults store.old) (S.faults store.new)) request.now
+    requires { CanBeAnswered request.now }
+    ensures done { IsAnswer (store_of (S.holds store.old) (S.faults store.old) (S.faults store.new)) request.now columns
+        (sink_of (O.faults out.old) (O.faults out.new) (O.written out.old) (O.written out.new))
         (sink_of (E.faults err.old) (E.faults err.new) (E.written err.old) (E.written err.new)) result }
     ensures kept { S.holds store.new ≡ S.holds store.old }
     ensures later { (name : Text) → S.faults store.old name ≤ S.faults store.new name }
@@ -32,6 +39,38 @@ pub fn answer<S: Store, E: Sink>(
         Request::CheckData { file, name, input } => {
             check_data(alloc, *file, *name, *input, store, err)
         }
+        Request::Bounds(words) => bounds(alloc, words, columns, store, out, err),
+    }
+}
+
+/// Tells the bounds of a program on `out`, and on `err` what is wrong.
+fn bounds<S: Store, O: Sink, E: Sink>(
+    alloc: Global,
+    words: &BoundsWords<'_>,
+    columns: Option<u32>,
+    store: &mut S,
+    out: &mut O,
+    err: &mut E,
+) -> Status
+    requires { AreFit words.now }
+    ensures told { AreBoundsTold (store_of (S.holds store.old) (S.faults store.old) (S.faults store.new)) words.now columns
+        (sink_of (O.faults out.old) (O.faults out.new) (O.written out.old) (O.written out.new))
+        (sink_of (E.faults err.old) (E.faults err.new) (E.written err.old) (E.written err.new)) result }
+    ensures kept { S.holds store.new ≡ S.holds store.old }
+    ensures later { (name : Text) → S.faults store.old name ≤ S.faults store.new name }
+{
+    let mut text = String::new(alloc);
+    let mut report = String::new(alloc);
+    let width = words.width.or(columns);
+    match tell_bounds(alloc, store, words, width, &mut text, &mut report) {
+        Ok(end) => {
+            let _ = put_all(err, report.as_bytes());
+            match put_all(out, text.as_bytes()) {
+                Ok(()) => Status::from(end),
+                Err(_) => Status::WriteFault,
+            }
+        }
+        Err(AllocError) => no_memory(err),
     }
 }
 

@@ -1,7 +1,8 @@
 // How a call ends.
 ghost use Rattle.std.specs.Prelude.{◌≡◌};
-ghost use Rattle.explain_top.specs.Answers.{code_of, status_of, status_for};
+ghost use Rattle.explain_top.specs.Answers.{code_of, status_of, status_for, status_at};
 
+use explain_calls::End;
 use explain_check::Verdict;
 use explain_data::Finding;
 
@@ -14,6 +15,8 @@ pub enum Status {
     Faulty,
     /// The words ask for nothing that there is, a file can't be read, or data is faulty.
     Refused,
+    /// The analysis could not be made.
+    NotAnalysed,
     /// Out was not written as a whole.
     WriteFault,
     /// No memory was left.
@@ -21,7 +24,7 @@ pub enum Status {
 }
 
 impl Status {
-    /// The status of the process: 0, 1, 2, 12 or 70.
+    /// The status of the process: 0, 1, 2, 3, 12 or 70.
     pub fn code(self) -> u8
         ensures { result ≡ code_of self }
     {
@@ -29,6 +32,7 @@ impl Status {
             Status::Done => 0,
             Status::Faulty => 1,
             Status::Refused => 2,
+            Status::NotAnalysed => 3,
             Status::WriteFault => 12,
             Status::NoMemory => 70,
         }
@@ -55,6 +59,18 @@ impl From<Finding> for Status {
             Finding::Fits => Status::Done,
             Finding::Untyped => Status::Faulty,
             Finding::Refused => Status::Refused,
+        }
+    }
+}
+
+impl From<End> for Status {
+    ghost from_gives = { λ end status. status ≡ status_at end };
+
+    fn from(end: End) -> Status {
+        match end {
+            End::Told => Status::Done,
+            End::Refused => Status::Refused,
+            End::NotAnalysed => Status::NotAnalysed,
         }
     }
 }

@@ -38,7 +38,7 @@ fn told(alloc: Global, words: &[&str]) -> Result<String, Fail> {
     let mut store = store_of(alloc)?;
     let mut out = sink_of(alloc)?;
     let mut err = sink_of(alloc)?;
-    let status = explain(alloc, words, &mut store, &mut out, &mut err);
+    let status = explain(alloc, words, None, &mut store, &mut out, &mut err);
     let mut text = String::new(alloc);
     write!(text, "{} ", status.code())?;
     text.push_str(std::str::from_utf8(out.bytes())?)?;
@@ -136,7 +136,7 @@ fn tells_that_out_was_not_written(rt: HostRuntime) -> Result<(), Fail> {
     let mut store = store_of(alloc)?;
     let mut out = MemSink::new(alloc, 100_000, 10, Vec::from_slice(alloc, &[0])?)?;
     let mut err = sink_of(alloc)?;
-    let status = explain(alloc, &["--version"], &mut store, &mut out, &mut err);
+    let status = explain(alloc, &["--version"], None, &mut store, &mut out, &mut err);
     assert!(rt; status == Status::WriteFault);
     Ok(())
 }

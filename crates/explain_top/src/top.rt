@@ -13,16 +13,18 @@ use raml_io::{Sink, Store, put_all};
 use std::alloc::Global;
 
 /// Does what the words ask for: reads from `store`, writes what was asked for to `out`, and what is wrong to `err`. The
-/// words are those of the command line, without the program's name.
+/// words are those of the command line, without the program's name. Lines that go to `out` have at most so many columns,
+/// unless the words tell a width.
 pub fn explain<S: Store, O: Sink, E: Sink>(
     alloc: Global,
     words: &[&str],
+    columns: Option<u32>,
     store: &mut S,
     out: &mut O,
     err: &mut E,
 ) -> Status
     // Each status comes by its cause alone.
-    ensures cause { Cause (texts words.now) (store_of (S.holds store.old) (S.faults store.old) (S.faults store.new))
+    ensures cause { Cause (texts words.now) columns (store_of (S.holds store.old) (S.faults store.old) (S.faults store.new))
         (sink_of (O.faults out.old) (O.faults out.new) (O.written out.old) (O.written out.new))
         (sink_of (E.faults err.old) (E.faults err.new) (E.written err.old) (E.written err.new)) result }
 
@@ -31,7 +33,7 @@ pub fn explain<S: Store, O: Sink, E: Sink>(
     ensures later { (name : Text) → S.faults store.old name ≤ S.faults store.new name }
 {
     match read_words(alloc, words) {
-        Ok(request) => answer(alloc, &request, store, err),
+        Ok(request) => answer(alloc, &request, columns, store, out, err),
         Err(WordsFault::Shown { text }) => match put_all(out, text.as_bytes()) {
             Ok(()) => Status::Done,
             Err(_) => Status::WriteFault,

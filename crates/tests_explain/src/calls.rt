@@ -26,7 +26,7 @@ pub fn told(alloc: Global, words: &[&str], files: &[(&str, &[u8])]) -> Result<St
     let mut store = store_of(alloc, files)?;
     let mut out = sink_of(alloc)?;
     let mut err = sink_of(alloc)?;
-    let status = explain(alloc, words, &mut store, &mut out, &mut err);
+    let status = explain(alloc, words, None, &mut store, &mut out, &mut err);
     let mut text = String::new(alloc);
     write!(text, "{} ", status.code())?;
     text.push_str(std::str::from_utf8(out.bytes())?)?;

@@ -4,7 +4,7 @@ use Rattle.explain_words.specs.Asking.{AsksToShow, GivesNone}
 use Rattle.explain_top.proofs.top.explain.Goals as goal
 
 pub returns-in-Ok-clause-cause : goal.returns-in-Ok-clause-cause
-returns-in-Ok-clause-cause g c = inr (inl (c.in-Ok.request, c.in-Ok.ensures.ok, c.answer.ensures.done, refl))
+returns-in-Ok-clause-cause g c = inr (inl (c.in-Ok.request, c.in-Ok.ensures.ok, c.answer.ensures.done))
 
 pub returns-in-Err-Shown-clause-cause : goal.returns-in-Err-Shown-clause-cause
 returns-in-Err-Shown-clause-cause g c =

@@ -1,0 +1,4 @@
+pub mod Sizes
+pub mod Told
+pub mod Calls
+pub mod Read

@@ -1,0 +1,9 @@
+-- How bounds are shown, as the code has it.
+use Rattle.std.specs.Prelude.{ℕ}
+use Rattle.explain_bounds.specs.Told.{told}
+use Rattle.explain_words.specs.Commands.{lent}
+use Rattle.explain_calls.specs.Told as t
+use Rattle.explain_calls.specs.declared.parts.Showing.{Showing}
+
+abbrev pub showing_in : Showing → t.Showing
+showing_in showing = record { name = lent showing.name; fit = told showing.asked; width = showing.width }

@@ -1,0 +1,11 @@
+//! Calls of `explain` that analyse a program: what they tell, and how they end.
+#![tactic(auto)]
+
+mod analysed;
+mod call;
+mod end;
+mod fitting;
+mod parts;
+
+pub use call::tell_bounds;
+pub use end::End;
