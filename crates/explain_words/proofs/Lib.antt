@@ -1,2 +1,5 @@
 mod Fitting
 mod Values
+mod Numbers
+mod Cuts
+mod Computed

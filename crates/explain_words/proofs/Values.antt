@@ -6,7 +6,7 @@ use Rattle.clap.specs.Matches.{matched_of, raw_values}
 use Rattle.clap.specs.Walk.{Text, rows_of}
 use Rattle.clap.specs.declared.parser.matches.Found.{Found}
 use Rattle.clap.proofs.WalkLemmas.{raw_values-rows}
-use Rattle.explain_words.specs.Asking.{texts, values}
+use Rattle.explain_words.specs.Commands.{texts, values}
 
 -- the values that are found, or none
 pub found_values : (f : Found) (id : Text) (found : Option (Bor (List (Bor Text)))) → option_map (λ (s : Bor (List (Bor Text))). texts s.now) found ≡ option_map raw_values (matched_of f id)

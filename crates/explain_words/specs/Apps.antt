@@ -1,14 +1,35 @@
 -- The commands as `clap` has them.
 use Rattle.std.specs.Prelude.{◌≡◌, true, false, Some, codes}
 use Rattle.clap.specs.Lexer.{usize_max}
-use Rattle.clap.specs.Walk.{Rule, rule_of}
+use Rattle.clap.specs.Walk.{Rule, Text, rule_of}
 use Rattle.clap.specs.Simple.{App, new_app, new_rule, with_rule, with_subcommand, on_top}
 use Rattle.clap.specs.declared.builder.arg.Arg.{Arg}
-use Rattle.clap.specs.declared.builder.action.ArgAction.TheVariants.{Append}
+use Rattle.clap.specs.declared.builder.action.ArgAction.TheVariants.{Append, SetTrue}
 
 -- an argument with this rule, which is that of one command
 abbrev pub IsArg : Rule → Arg → Type 0
 IsArg rule arg = (rule_of arg ≡ rule) × (arg.global ≡ false)
+
+-- an operand that must be there
+abbrev pub operand_rule : Text → Rule
+operand_rule id = record (new_rule id) {
+  value_names = 1;
+  required = true;
+}
+
+-- an option with one value, by its long name
+abbrev pub option_rule : Text → Rule
+option_rule id = record (new_rule id) {
+  long = Some id;
+  value_names = 1;
+}
+
+-- an option that is there or not
+abbrev pub flag_rule : Text → Rule
+flag_rule id = record (new_rule id) {
+  long = Some id;
+  action = Some SetTrue;
+}
 
 -- one file or more
 abbrev pub files_rule : Rule
@@ -30,6 +51,18 @@ data_rule = record (new_rule (codes "data")) {
 abbrev pub check_app : App
 check_app = with_rule (with_rule (new_app (codes "check")) files_rule) data_rule
 
+-- how the bounds of a program are asked for, and at which sizes
+abbrev pub bounds_chosen : App
+bounds_chosen =
+    with_rule (with_rule (with_rule (new_app (codes "bounds")) (operand_rule (codes "file")))
+    (option_rule (codes "degree"))) (option_rule (codes "function"))
+
+abbrev pub bounds_sized : App
+bounds_sized = with_rule (with_rule bounds_chosen (option_rule (codes "at"))) (option_rule (codes "within"))
+
+abbrev pub bounds_app : App
+bounds_app = with_rule (with_rule bounds_sized (option_rule (codes "width"))) (flag_rule (codes "json"))
+
 -- the program before it has commands
 abbrev pub bare : App
 bare = on_top (λ s. record s {
@@ -40,4 +73,4 @@ bare = on_top (λ s. record s {
 }) (new_app (codes "explain"))
 
 abbrev pub app : App
-app = with_subcommand bare check_app.top
+app = with_subcommand (with_subcommand bare check_app.top) bounds_app.top

@@ -1,36 +1,36 @@
 -- What words ask for, by what `clap` promises of the commands.
-use Rattle.std.specs.Prelude.{◌≡◌, ◌⊎◌, List, [], ◌∷◌, map, Option, Some, None, unwrap_or, codes}
-use Rattle.std.specs.Borrow.{Bor}
+use Rattle.std.specs.Prelude.{◌≡◌, ◌⊎◌, cond, List, [], Option, Some, None, codes}
+use Rattle.std.specs.Str.{bytes_eq}
 use Rattle.clap.specs.Kinds.{IsAmong}
-use Rattle.clap.specs.Walk.{Row, all_of}
+use Rattle.clap.specs.Walk.{Row, Text}
 use Rattle.clap.specs.Simple.{subcommand_of}
 use Rattle.clap.specs.Faults.{fault_of}
 use Rattle.clap.specs.declared.error.kind.ErrorKind.{ErrorKind}
 use Rattle.clap.specs.declared.error.kind.ErrorKind.TheVariants as kind
-use Rattle.clap.specs.Walk.{Text}
 use Rattle.explain_words.specs.Apps.{app}
+use Rattle.explain_words.specs.Commands.{values, MeansCheck, MeansBounds}
 use Rattle.explain_words.specs.declared.request.Request.{Request}
-use Rattle.explain_words.specs.declared.request.Request.TheVariants.{Check, CheckData}
 use Rattle.explain_words.specs.declared.request.WordsFault.{WordsFault}
 use Rattle.explain_words.specs.declared.request.WordsFault.TheVariants.{Shown, Refused, NoMemory}
 
--- the texts that are lent
-abbrev pub texts : List (Bor Text) → List Text
-texts = map (λ (text : Bor Text). text.now)
+pub data Command : Type 0 where
+  OfCheck : Command
+  OfBounds : Command
 
--- the values of an argument
-abbrev pub values : Text → List Row → List Text
-values id rows = unwrap_or (all_of id rows) []
+abbrev pub command_named : Text → Option Command
+command_named name =
+    cond (bytes_eq name (codes "check")) (Some OfCheck)
+    (cond (bytes_eq name (codes "bounds")) (Some OfBounds) None)
 
--- what `check` asks for with these files, and with these words behind `--data`
-abbrev pub MeansCheck : List Text → List Text → Request → Type 0
-MeansCheck files behind (Check names) = (files ≡ texts names.items) × (behind ≡ [])
-MeansCheck files behind (CheckData file name input) = (files ≡ file.now ∷ []) × (behind ≡ name.now ∷ input.now ∷ [])
+-- what a command asks for with what is found for its arguments
+abbrev pub MeansBy : Option Command → List Row → Request → Type 0
+MeansBy (Some OfCheck) rows request = MeansCheck (values (codes "file") rows) (values (codes "data") rows) request
+MeansBy (Some OfBounds) rows request = MeansBounds rows request
+MeansBy None rows request = ⊥
 
--- what a command asks for with these values of its arguments
+-- the same of a command by its name
 abbrev pub Means : Option (Text × List Row) → Request → Type 0
-Means (Some command) request =
-    (command.0 ≡ codes "check") × MeansCheck (values (codes "file") command.1) (values (codes "data") command.1) request
+Means (Some command) request = MeansBy (command_named command.0) command.1 request
 Means None request = ⊥
 
 -- a mistake, and no wish to see help or the version

@@ -1,2 +1,5 @@
+pub mod Spelled
 pub mod Apps
+pub mod Commands
 pub mod Asking
+pub mod Example

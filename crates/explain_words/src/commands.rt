@@ -1,8 +1,10 @@
 // The commands, as `clap` has them.
-ghost use Rattle.std.specs.Prelude.{◌≡◌, false, IfOk};
+ghost use Rattle.std.specs.Prelude.{◌≡◌, IfOk};
 ghost use Rattle.clap.specs.Simple.{app_of};
-ghost use Rattle.clap.specs.declared.builder.command.Command.TheViews.{out-Command as fields_of};
-ghost use Rattle.explain_words.specs.Apps.{bare, app, check_app, files_rule, data_rule, IsArg};
+ghost use Rattle.explain_words.specs.Apps.{bare, app, operand_rule, option_rule, flag_rule, IsArg};
+
+mod bounds;
+mod check;
 
 use clap::{Arg, ArgAction, Command};
 use std::alloc::{AllocError, Global};
@@ -15,7 +17,8 @@ pub fn program<'a>(alloc: Global) -> Result<Command<'a>, AllocError>
     ensures { IfOk result (λ command. app_of command ≡ app) }
 {
     let command = bare(alloc);
-    command.subcommand(check(alloc)?)
+    let with_check = command.subcommand(check::command(alloc)?)?;
+    with_check.subcommand(bounds::command(alloc)?)
 }
 
 fn bare<'a>(alloc: Global) -> Command<'a>
@@ -29,38 +32,29 @@ fn bare<'a>(alloc: Global) -> Command<'a>
         .arg_required_else_help(true)
 }
 
-fn check<'a>(alloc: Global) -> Result<Command<'a>, AllocError>
-    ensures app { IfOk result (λ command. app_of command ≡ check_app) }
-    ensures local { IfOk result (λ command. (fields_of command).has_globals ≡ false) }
+/// An operand that must be there.
+fn operand<'a>(alloc: Global, id: &'a str, name: &'a str, help: &'a str) -> Arg<'a>
+    ensures { IsArg (operand_rule id.entry.now) result }
 {
-    let command = Command::new(alloc, "check")
-        .about(
-            "Says of each source what is wrong first, with line and column, and nothing where all are typed",
-        )
-        .after_help(
-            "Statuses: 0 where nothing is wrong, 1 where a source is not typed, 2 where a file can't be read or data is faulty.",
-        );
-    let with_files = command.arg(files(alloc))?;
-    with_files.arg(data(alloc))
-}
-
-fn files<'a>(alloc: Global) -> Arg<'a>
-    ensures { IsArg files_rule result }
-{
-    Arg::new(alloc, "file")
-        .value_name("FILE")
-        .help("A source of a program, of at most 1048576 bytes")
-        .action(ArgAction::Append)
-        .num_args(1..)
+    Arg::new(alloc, id)
+        .value_name(name)
+        .help(help)
         .required(true)
 }
 
-fn data<'a>(alloc: Global) -> Arg<'a>
-    ensures { IsArg data_rule result }
+/// An option with one value, by its long name.
+fn option<'a>(alloc: Global, id: &'a str, name: &'a str, help: &'a str) -> Arg<'a>
+    ensures { IsArg (option_rule id.entry.now) result }
 {
-    Arg::new(alloc, "data")
-        .long("data")
-        .value_names(&["NAME", "DATA"])
-        .help("Says what is wrong with the file DATA as arguments of the function NAME of one FILE")
-        .num_args(2)
+    Arg::new(alloc, id).long(id).value_name(name).help(help)
+}
+
+/// An option that is there or not.
+fn flag<'a>(alloc: Global, id: &'a str, help: &'a str) -> Arg<'a>
+    ensures { IsArg (flag_rule id.entry.now) result }
+{
+    Arg::new(alloc, id)
+        .long(id)
+        .help(help)
+        .action(ArgAction::SetTrue)
 }

@@ -2,9 +2,16 @@
 #![tactic(auto)]
 
 mod commands;
+mod given;
+pub mod laws;
+mod mistake;
+mod number;
 mod request;
 #[cfg(test)]
 mod tests;
+mod within;
 
 pub use commands::VERSION;
+pub use request::bounds::BoundsWords;
 pub use request::{Request, WordsFault, read_words};
+pub use within::{Meter, Within};

@@ -1,12 +1,18 @@
 // What a call may ask for.
-ghost use Rattle.std.specs.Prelude.{◌≡◌, [], ◌∷◌, IfOk, IfErr};
+ghost use Rattle.std.specs.Prelude.{◌≡◌, IfOk, IfErr};
 ghost use Rattle.clap.specs.Values.{kind_of};
 ghost use Rattle.clap.specs.Walk.{rows_of};
 ghost use Rattle.clap.specs.Matches.{found_of};
 ghost use Rattle.clap.specs.Simple.{subcommand_rows_of};
-ghost use Rattle.explain_words.specs.Asking.{texts, values, Means, Asks, MeansCheck, GivesNone, IsTold, IsRefusal, RefusesAll};
+ghost use Rattle.explain_words.specs.Commands.{texts};
+ghost use Rattle.explain_words.specs.Asking.{command_named, MeansBy, Means, Asks, GivesNone, IsTold, RefusesAll};
+
+pub mod bounds;
+mod check;
 
 use crate::commands::program;
+use crate::mistake::Mistake;
+use bounds::BoundsWords;
 use clap::error::ErrorKind;
 use clap::{ArgMatches, Error};
 use std::alloc::{AllocError, Global};
@@ -24,6 +30,8 @@ pub enum Request<'a> {
         name: &'a str,
         input: &'a str,
     },
+    /// Say what bounds the functions of a program have.
+    Bounds(BoundsWords<'a>),
 }
 
 /// Why words give no request.
@@ -80,73 +88,23 @@ fn asked_by<'a>(alloc: Global, matches: &ArgMatches<'a>) -> Result<Request<'a>, 
     ensures err { IfErr result (RefusesAll (Means (subcommand_rows_of matches.now))) }
 {
     match matches.subcommand() {
-        Some(("check", found)) => {
-            let files = texts_of(alloc, found, "file")?;
-            let behind = texts_of(alloc, found, "data")?;
-            check_asked(alloc, files, &behind)
-        }
-        _ => Err(refusal(alloc, "error: no command is given\n")),
+        Some((name, found)) => asked_of(alloc, name, found),
+        None => Err(Mistake::NoCommand.told(alloc)),
     }
 }
 
-// What `check` asks for with these files, and with these words behind `--data`.
-fn check_asked<'a>(
+// What the command of this name asks for.
+fn asked_of<'a>(
     alloc: Global,
-    files: Vec<&'a str>,
-    behind: &[&'a str],
+    name: &str,
+    found: &ArgMatches<'a>,
 ) -> Result<Request<'a>, WordsFault>
-    ensures ok { IfOk result (MeansCheck (texts files.entry.items) (texts behind.now)) }
-    ensures err { IfErr result (RefusesAll (MeansCheck (texts files.entry.items) (texts behind.now))) }
+    ensures ok { IfOk result (MeansBy (command_named name.now) (rows_of (found_of found.now))) }
+    ensures err { IfErr result (RefusesAll (MeansBy (command_named name.now) (rows_of (found_of found.now)))) }
 {
-    match behind {
-        [] => Ok(Request::Check { files }),
-        [name, input] => data_asked(alloc, &files, *name, *input),
-        _ => Err(refusal(alloc, DATA_WORDS)),
-    }
-}
-
-// What `check` asks for with these files, and with a name and a file of data.
-fn data_asked<'a>(
-    alloc: Global,
-    files: &[&'a str],
-    name: &'a str,
-    input: &'a str,
-) -> Result<Request<'a>, WordsFault>
-    ensures ok { IfOk result (MeansCheck (texts files.now) (name.entry.now ∷ input.entry.now ∷ [])) }
-    ensures err { IfErr result (RefusesAll (MeansCheck (texts files.now) (name.entry.now ∷ input.entry.now ∷ []))) }
-{
-    match files {
-        [file] => Ok(Request::CheckData {
-            file: *file,
-            name,
-            input,
-        }),
-        _ => Err(refusal(alloc, DATA_WORDS)),
-    }
-}
-
-/// What is said of words that `--data` can't stand with.
-const DATA_WORDS: &str = "error: '--data <NAME> <DATA>' stands with one file\n";
-
-fn refusal(alloc: Global, text: &str) -> WordsFault
-    ensures { IsRefusal result }
-{
-    match String::from_str(alloc, text) {
-        Ok(text) => WordsFault::Refused { text },
-        Err(AllocError) => WordsFault::NoMemory,
-    }
-}
-
-// The values of an argument, in order.
-fn texts_of<'a>(
-    alloc: Global,
-    matches: &ArgMatches<'a>,
-    id: &str,
-) -> Result<Vec<&'a str>, AllocError>
-    ensures { IfOk result (λ found. values id.now (rows_of (found_of matches.now)) ≡ texts found.items) }
-{
-    match matches.get_strs(id) {
-        Some(texts) => Vec::from_slice(alloc, texts),
-        None => Ok(Vec::new(alloc)),
+    match name {
+        "check" => check::asked(alloc, found),
+        "bounds" => bounds::asked(alloc, found),
+        _ => Err(Mistake::NoCommand.told(alloc)),
     }
 }

@@ -1,3 +1,5 @@
+mod bounds;
+
 use crate::{Request, VERSION, WordsFault, read_words};
 use std::test::Fail;
 

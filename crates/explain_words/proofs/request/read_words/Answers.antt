@@ -1,5 +1,5 @@
 use Rattle.clap.specs.Simple.{app_of}
-use Rattle.explain_words.specs.Asking.{texts}
+use Rattle.explain_words.specs.Commands.{texts}
 use Rattle.explain_words.proofs.Fitting.{asks, asks_nothing, refused}
 use Rattle.explain_words.proofs.request.read_words.Goals as goal
 

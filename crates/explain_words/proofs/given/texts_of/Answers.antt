@@ -2,9 +2,9 @@ use Rattle.std.proofs.Common.{List, [], option_map, ap, ◌∙◌}
 use Rattle.std.specs.Prelude.{unwrap_or}
 use Rattle.std.specs.Borrow.{Bor}
 use Rattle.clap.specs.Matches.{found_of}
-use Rattle.explain_words.specs.Asking.{texts}
+use Rattle.explain_words.specs.Commands.{texts}
 use Rattle.explain_words.proofs.Values.{found_values, copied}
-use Rattle.explain_words.proofs.request.texts_of.Goals as goal
+use Rattle.explain_words.proofs.given.texts_of.Goals as goal
 
 pub returns-in-Some : goal.returns-in-Some
 returns-in-Some c =

@@ -1,0 +1,62 @@
+-- What each command asks for, with what `clap` finds for its arguments.
+use Rattle.std.specs.Prelude.{◌≡◌, ℕ, Bool, false, List, [], ◌∷◌, map, Option, Some, None, option_map, unwrap_or, Result, Ok, Err, codes}
+use Rattle.std.specs.Option.{option_map_or}
+use Rattle.std.specs.Str.{bytes_eq}
+use Rattle.std.specs.Borrow.{Bor}
+use Rattle.clap.specs.Walk.{Row, Text, all_of, first_of}
+use Rattle.explain_words.specs.Spelled.{lent, degree_in, width_in, within_in}
+use Rattle.explain_words.specs.declared.request.Request.{Request}
+use Rattle.explain_words.specs.declared.request.Request.TheVariants.{Check, CheckData, Bounds}
+use Rattle.explain_words.specs.declared.request.bounds.BoundsWords.{BoundsWords}
+
+-- the texts that are lent
+abbrev pub texts : List (Bor Text) → List Text
+texts = map (λ (text : Bor Text). text.now)
+
+-- the values of an argument
+abbrev pub values : Text → List Row → List Text
+values id rows = unwrap_or (all_of id rows) []
+
+-- a flag stands among the words
+abbrev pub is_set : Text → List Row → Bool
+is_set id rows = option_map_or (λ text. bytes_eq text (codes "true")) (first_of id rows) false
+
+-- what a word gives, where there is one
+abbrev pub optional : {A : Type 0} → (Text → Option A) → Option Text → Option (Option A)
+optional read None = Some None
+optional read (Some word) = option_map Some (read word)
+
+-- the degree that is given, or 4
+abbrev pub degree_or_4 : Option Text → Option ℕ
+degree_or_4 None = Some 4
+degree_or_4 (Some word) = degree_in word
+
+-- what is read, where nothing is wrong
+abbrev pub right : {A E : Type 0} → Result A E → Option A
+right (Ok value) = Some value
+right (Err mistake) = None
+
+-- it is what is meant, or nothing is meant
+abbrev pub Tells : {A E : Type 0} → (A → Type 0) → Result A E → Type 0
+Tells Means (Ok value) = Means value
+Tells {A} Means (Err mistake) = (value : A) → Means value → ⊥
+
+-- what `check` asks for with these files, and with these words behind `--data`
+abbrev pub MeansCheck : List Text → List Text → Request → Type 0
+MeansCheck files behind (Check names) = (files ≡ texts names.items) × (behind ≡ [])
+MeansCheck files behind (CheckData file name input) = (files ≡ file.now ∷ []) × (behind ≡ name.now ∷ input.now ∷ [])
+MeansCheck files behind other = ⊥
+
+-- what `bounds` asks for
+pub record AreBounds (rows : List Row) (asked : BoundsWords) : Type 0 where
+  pub file : first_of (codes "file") rows ≡ Some asked.file.now
+  pub degree : degree_or_4 (first_of (codes "degree") rows) ≡ Some asked.degree
+  pub function : first_of (codes "function") rows ≡ lent asked.function
+  pub at : first_of (codes "at") rows ≡ lent asked.at
+  pub within : optional within_in (first_of (codes "within") rows) ≡ Some asked.within
+  pub width : optional width_in (first_of (codes "width") rows) ≡ Some asked.width
+  pub json : is_set (codes "json") rows ≡ asked.json
+
+abbrev pub MeansBounds : List Row → Request → Type 0
+MeansBounds rows (Bounds asked) = AreBounds rows asked
+MeansBounds rows other = ⊥
