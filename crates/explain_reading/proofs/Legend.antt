@@ -1,13 +1,13 @@
 -- The sum is the same where only the names of the legend are told.
-use Rattle.std.proofs.Common.{◌≡◌, ◌+◌, ◌==◌, ◌++◌, ℕ, zero, suc, Bool, true, false, cond, not, Option, Some, None, List, [], ◌∷◌, reverse, refl, sym, ap, ◌∙◌, All, arith}
-use Rattle.std.specs.Prelude.{ℤ, unsigned_abs, slice_index_or}
+use Rattle.std.proofs.Common.{◌≡◌, ◌+◌, ◌==◌, ◌++◌, ℕ, zero, suc, Bool, true, false, cond, not, Option, Some, None, List, [], ◌∷◌, reverse, refl, ap, ◌∙◌, All, arith}
+use Rattle.std.specs.Prelude.{ℤ, unsigned_abs, encode_utf8, slice_index_or}
 use Rattle.std.proofs.lemmas.List.Elements.{All-head, All-tail}
 use Rattle.std.proofs.lemmas.List.Folds.{list_any_at}
 use Rattle.std.proofs.lemmas.List.Sorted.{All-permutation, IsPermutation-reverse}
 use Rattle.poly_text.specs.Text.{coefficient_text}
 use Rattle.bound_compare.specs.Powers.{Powers}
 use Rattle.bound_compare.specs.Text.{sign_text, joint_text}
-use Rattle.explain_algebra.specs.Algebra.{joined, times, with_coefficient, name_at, factor, factors, term_text, more_terms, sum_text}
+use Rattle.explain_algebra.specs.Algebra.{joined, times, with_coefficient, exponent_text, name_at, factor, factors, term_text, more_terms, sum_text}
 use Rattle.explain_reading.specs.Reading.{occurs, used_from, used_names}
 use Rattle.explain_reading.specs.Laws.{LegendSuffices}
 
@@ -29,8 +29,11 @@ kept_at ps (name ∷ names) i (suc j) k e = kept_at ps names (suc i) j k (omega 
 same_factor : (b : Bool) (name : Option ℕ) (e : ℕ) → ((e == 0) ≡ false → b ≡ true) → factor (cond b name None) e ≡ factor name e
 same_factor true name e h = refl
 same_factor false None e h = refl
-same_factor false (Some c) zero h = refl
-same_factor false (Some c) (suc e) h = let f : false ≡ true = h refl in absurd (cc)
+same_factor false (Some c) e h = by (e == 0) h
+  where
+    by : (t : Bool) → (t ≡ false → false ≡ true) → [] ≡ cond t [] ((encode_utf8 c ++ exponent_text e) ∷ [])
+    by true h = refl
+    by false h = let f : false ≡ true = h refl in absurd (cc)
 
 -- each power with an exponent that is not 0 occurs
 abbrev Shown : Powers → List ℕ × ℤ → Type 0
@@ -50,7 +53,7 @@ same_factors ps names j (e ∷ es) h =
 
 same_term : (den : ℕ) (ps : Powers) (names : List (Option ℕ)) (q : List ℕ × ℤ) → Shown ps q → term_text den (used_names ps names) q ≡ term_text den names q
 same_term den ps names q h =
-    ap (λ fs. joined times (with_coefficient (unsigned_abs q.1 == den) (coefficient_text (unsigned_abs q.1) den) fs)) (same_factors ps names 0 q.0 h)
+    ap (λ fs. joined times (with_coefficient (unsigned_abs q.1 == den) (coefficient_text (unsigned_abs q.1) den) fs)) (same_factors ps names 0 q.0 (λ k f. ap (λ k. occurs k ps) (omega arith) ∙ h k f))
 
 same_more : (den : ℕ) (ps : Powers) (names : List (Option ℕ)) (qs : Powers) → All (Shown ps) qs → more_terms den (used_names ps names) qs ≡ more_terms den names qs
 same_more den ps names [] h = refl

@@ -1,5 +1,5 @@
 -- Small cases, worked out by hand.
-use Rattle.std.specs.Prelude.{◌≡◌, ◌*◌, ℕ, true, false, Option, Some, None, List, [], ◌∷◌, length, codes, encode_utf8_all}
+use Rattle.std.specs.Prelude.{◌≡◌, ◌*◌, true, false, Some, None, List, [], ◌∷◌, length, codes, encode_utf8_all}
 use Rattle.raml_syntax.specs.Tree.{Text, Type', Integer, ListOf, TreeOf}
 use Rattle.base_poly.specs.Plain.{Unit'}
 use Rattle.base_poly.specs.Poly.{Term}
