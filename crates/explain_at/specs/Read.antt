@@ -1,8 +1,8 @@
 -- What the code's sizes, faults and parameters are as plain data.
 use Rattle.std.specs.Prelude.{◌≡◌, ℕ, Option, Some, List, map, Result, Ok, Err, String, string_bytes}
 use Rattle.std.specs.Global.{Global}
-use Rattle.raml_syntax.specs.Tree.{Text, Type'}
-use Rattle.raml_syntax.specs.Read.{ty_of}
+use Rattle.raml_syntax.specs.Tree.{Text, Type', Parameter}
+use Rattle.raml_syntax.specs.Read.{parameter_of}
 use Rattle.raml_syntax.specs.declared.program.Param.{Param}
 use Rattle.explain_sizes.specs.Sizes.{Sizes}
 use Rattle.explain_sizes.specs.Open.{OpenSizes, all_filled}
@@ -23,8 +23,12 @@ all_given gs = map given_of gs
 abbrev pub texts : List (String Global) → List Text
 texts ss = map string_bytes ss
 
+-- names and types of parameters, also of the code's
+abbrev pub names_and_types : List Parameter → List (Text × Type')
+names_and_types ps = map (λ (p : Parameter). (p.name, p.type)) ps
+
 abbrev pub parameters : List Param → List (Text × Type')
-parameters ps = map (λ (p : Param). (p.name, ty_of p.ty)) ps
+parameters ps = names_and_types (map parameter_of ps)
 
 -- it is the fault of the result, or memory ran out
 abbrev pub IsWordFault : {A : Type 0} → Result A w.Fault → WordFault → Type 0

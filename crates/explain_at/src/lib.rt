@@ -13,6 +13,6 @@ mod tests;
 mod word;
 
 pub use fault::{SizeFault, WordFault};
-pub use given::{Given, read};
+pub use given::{Given, number_for, read};
 pub use named::size_names;
 pub use sizes::{sizes_at, sizes_within};

@@ -1,0 +1,3 @@
+mod Computed
+mod Found
+mod Three

@@ -1,0 +1,5 @@
+pub mod Told
+pub mod Lines
+pub mod Read
+pub mod Written
+pub mod Example

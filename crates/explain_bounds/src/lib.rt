@@ -1,0 +1,14 @@
+//! The lines of `explain bounds`: for each function and meter of a program its bound in algebra.
+#![tactic(auto)]
+
+mod asked;
+mod bound;
+mod fitted;
+pub mod laws;
+mod line;
+mod tail;
+#[cfg(test)]
+mod tests;
+
+pub use asked::Asked;
+pub use line::push_function;

@@ -1,0 +1,10 @@
+//! A bound in algebra, and what the names in it mean.
+#![tactic(auto)]
+
+pub mod laws;
+mod reading;
+#[cfg(test)]
+mod tests;
+mod used;
+
+pub use reading::{Reading, read_bound};
