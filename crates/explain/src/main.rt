@@ -3,8 +3,8 @@
 
 use explain_top::{Status, explain};
 use raml_io::{DirStore, StdSink};
-use std::process::ExitCode;
 use std::io::IsTerminal;
+use std::process::ExitCode;
 use std::{env, io};
 
 /// The status where the runtime refuses the words for another cause than want of memory, as where one
@@ -35,14 +35,7 @@ fn run(rt: &HostRuntime) -> io::Result<Status> {
     let mut out = StdSink::new(rt.stdout());
     let mut err = StdSink::new(rt.stderr());
     let columns = columns_of(rt);
-    Ok(explain(
-        rt.alloc(),
-        &words,
-        columns,
-        &mut store,
-        &mut out,
-        &mut err,
-    ))
+    Ok(explain(rt.alloc(), &words, columns, &mut store, &mut out, &mut err))
 }
 
 // How many columns lines may have: what `COLUMNS` says where that is a number of a terminal's columns, and else 80. None
@@ -52,7 +45,12 @@ fn columns_of(rt: &HostRuntime) -> Option<u32> {
         return None;
     }
     match env::var(rt, "COLUMNS") {
-        Ok(text) => Some(text.parse::<u32>().ok().filter(|columns| *columns >= LEAST).unwrap_or(DEFAULT)),
+        Ok(text) => Some(
+            text.parse::<u32>()
+                .ok()
+                .filter(|columns| *columns >= LEAST)
+                .unwrap_or(DEFAULT),
+        ),
         Err(_) => Some(DEFAULT),
     }
 }

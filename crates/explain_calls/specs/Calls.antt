@@ -1,5 +1,5 @@
 -- What a call of `explain bounds` tells.
-use Rattle.std.specs.Prelude.{◌≡◌, ◌≤◌, ◌^◌, ◌⊎◌, IfSome, ℕ, Bool, true, false, Option, Some, None, List, [], ◌∷◌, ◌++◌, Ok, codes}
+use Rattle.std.specs.Prelude.{◌≡◌, ◌⊎◌, ℕ, Bool, true, false, Option, Some, None, List, [], ◌∷◌, ◌++◌, Ok, codes}
 use Rattle.raml_syntax.specs.Tree.{Text, Prog}
 use Rattle.raml_syntax.specs.Eval.{find}
 use Rattle.call_groups.specs.Groups.{Grouping, IsGrouping}
@@ -17,16 +17,12 @@ use Rattle.explain_at.specs.Words.{Given}
 use Rattle.explain_at.specs.Read.{IsWordFault}
 use Rattle.explain_at.specs.Text.{word_text}
 use Rattle.explain_at.specs.declared.fault.WordFault.{WordFault}
-use Rattle.explain_words.specs.Commands.{lent}
+use Rattle.explain_words.specs.Spelled.{lent}
 use Rattle.explain_words.specs.declared.request.bounds.BoundsWords.{BoundsWords}
 use Rattle.explain_calls.specs.Sizes.{given_in, fit, fits_some}
 use Rattle.explain_calls.specs.Told.{Showing, AreParts, notes}
 use Rattle.explain_calls.specs.declared.end.End.{End}
 use Rattle.explain_calls.specs.declared.end.End.TheVariants as e
-
--- the words tell a degree from 1 to 4, and at most 2^127 may be spent
-abbrev pub AreFit : BoundsWords → Type 0
-AreFit words = (1 ≤ words.degree) × (words.degree ≤ 4) × IfSome words.within (λ within. within.most ≤ 2 ^ 127)
 
 -- The program in normal form, and what its analyses up to a degree find.
 pub record Analysed (P : Prog) (most : ℕ) : Type 0 where

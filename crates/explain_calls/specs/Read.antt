@@ -1,7 +1,7 @@
 -- How bounds are shown, as the code has it.
 use Rattle.std.specs.Prelude.{ℕ}
 use Rattle.explain_bounds.specs.Told.{told}
-use Rattle.explain_words.specs.Commands.{lent}
+use Rattle.explain_words.specs.Spelled.{lent}
 use Rattle.explain_calls.specs.Told as t
 use Rattle.explain_calls.specs.declared.parts.Showing.{Showing}
 

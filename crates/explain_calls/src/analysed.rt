@@ -88,6 +88,11 @@ fn push_note(
     let refusal = course_refusal(alloc, Analysed::Program, program, refused.fault);
     match refusal.status {
         Status::NoMemory => Err(AllocError),
-        _ => write!(report, "explain: degree {}: {}", refused.degree, refusal.line.text()),
+        _ => write!(
+            report,
+            "explain: degree {}: {}",
+            refused.degree,
+            refusal.line.text()
+        ),
     }
 }

@@ -1,11 +1,12 @@
 // What `explain bounds` tells of a program.
-ghost use Rattle.std.specs.Prelude.{◌≡◌, ◌≤◌, ◌++◌, ◌^◌, Ok, IfOk, IfErr, IfSome, string_bytes};
+ghost use Rattle.std.specs.Prelude.{◌≡◌, ◌≤◌, ◌++◌, Ok, IfOk, IfErr, string_bytes};
 ghost use Rattle.raml_syntax.specs.Tree.{Text};
 ghost use Rattle.raml_syntax.specs.Read.{program_of};
 ghost use Rattle.explain_at.specs.Read.{all_given, IsWordFault};
 ghost use Rattle.explain_check.specs.Stores.{store_of};
-ghost use Rattle.explain_words.specs.Commands.{lent};
-ghost use Rattle.explain_calls.specs.Calls.{CallIs, ProgramIs, AreFit};
+ghost use Rattle.explain_words.specs.Spelled.{lent};
+ghost use Rattle.explain_words.specs.Laws.{AreInRange};
+ghost use Rattle.explain_calls.specs.Calls.{CallIs, ProgramIs};
 ghost use Rattle.explain_calls.specs.Sizes.{given_in};
 
 use crate::analysed::tell_analysed;
@@ -14,7 +15,7 @@ use crate::fitting::{asked_of, misfit};
 use crate::parts::Showing;
 use explain_at::{Given, WordFault, read};
 use explain_check::{MOST_BYTES, push_error, read_file, typed_source};
-use explain_data::push_no_function;
+use explain_data::{function_named, push_no_function};
 use explain_words::BoundsWords;
 use raml_io::Store;
 use simple_types::Typed;
@@ -32,7 +33,7 @@ pub fn tell_bounds<S: Store>(
     text: &mut String,
     report: &mut String,
 ) -> Result<End, AllocError>
-    requires words { AreFit words.now }
+    requires range { AreInRange words.now }
     ensures told { IfOk result (λ end. (shown part : Text)
         × CallIs (store_of (S.holds store.old) (S.faults store.old) (S.faults store.new)) words.now width end shown part
         × (string_bytes text.new ≡ string_bytes text.old ++ shown)
@@ -58,14 +59,14 @@ fn tell_program(
     text: &mut String,
     report: &mut String,
 ) -> Result<End, AllocError>
-    requires words { AreFit words.now }
+    requires range { AreInRange words.now }
     ensures { IfOk result (λ end. (shown part : Text) × ProgramIs (program_of typed.now) words.now width end shown part
         × (string_bytes text.new ≡ string_bytes text.old ++ shown)
         × (string_bytes report.new ≡ string_bytes report.old ++ part)) }
 {
     let program = typed.program();
     match words.function {
-        Some(name) if program.find(name).is_none() => {
+        Some(name) if function_named(program, name).is_none() => {
             push_no_function(words.file, name, report)?;
             Ok(End::Refused)
         }
@@ -101,7 +102,7 @@ fn tell_at(
     text: &mut String,
     report: &mut String,
 ) -> Result<End, AllocError>
-    requires words { AreFit words.now }
+    requires range { AreInRange words.now }
     requires given { given_in (lent words.now.at) ≡ Ok (all_given given.now) }
     ensures { IfOk result (λ end. (shown part : Text) × ProgramIs (program_of typed.now) words.now width end shown part
         × (string_bytes text.new ≡ string_bytes text.old ++ shown)
@@ -114,7 +115,11 @@ fn tell_at(
             Ok(End::Refused)
         }
         None => {
-            let showing = Showing { name: words.function, asked, width };
+            let showing = Showing {
+                name: words.function,
+                asked,
+                width,
+            };
             tell_analysed(alloc, typed, words.degree, &showing, text, report)
         }
     }

@@ -6,7 +6,7 @@ ghost use Rattle.raml_syntax.specs.Read.{program_of, function_of};
 ghost use Rattle.explain_at.specs.Read.{all_given};
 ghost use Rattle.explain_bounds.specs.Told.{told};
 ghost use Rattle.explain_bounds.specs.Written.{CanBeAsked};
-ghost use Rattle.explain_words.specs.Commands.{lent};
+ghost use Rattle.explain_words.specs.Spelled.{lent};
 ghost use Rattle.explain_calls.specs.Sizes.{meter_of, fit, is_asked, fits_some};
 
 use cost_free::Meter;

@@ -8,7 +8,7 @@ ghost use Rattle.explain_bounds.specs.Lines.{AreLines};
 ghost use Rattle.explain_bounds.specs.Told.{Nothing, told};
 ghost use Rattle.explain_bounds.specs.Written.{AllCanBeTold, CanBeAsked};
 ghost use Rattle.explain_calls.specs.Told.{told_or_nothing, AreShown, IsPart, AreParts};
-ghost use Rattle.explain_words.specs.Commands.{lent};
+ghost use Rattle.explain_words.specs.Spelled.{lent};
 ghost use Rattle.explain_calls.specs.Sizes.{is_asked};
 ghost use Rattle.explain_calls.specs.Read.{showing_in};
 

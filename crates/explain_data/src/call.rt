@@ -15,18 +15,18 @@ use raml_syntax::{Fun, Program, Ty};
 use std::alloc::{AllocError, Global};
 use std::fmt::Write;
 
-/// Checks that the file `data` spells arguments of the function of this name, which stands in `file`, as a run would read
+/// Checks that the file `input` spells arguments of the function of this name, which stands in `file`, as a run would read
 /// them. What is wrong first is appended to the report.
 pub fn check_call<S: Store>(
     alloc: Global,
     store: &mut S,
     file: &str,
     name: &str,
-    data: &str,
+    input: &str,
     report: &mut String,
 ) -> Result<Finding, AllocError>
     ensures told { IfOk result (λ finding. (part : Text)
-        × CallIs (store_of (S.holds store.old) (S.faults store.old) (S.faults store.new)) file.now name.now data.now finding part
+        × CallIs (store_of (S.holds store.old) (S.faults store.old) (S.faults store.new)) file.now name.now input.now finding part
         × (string_bytes report.new ≡ string_bytes report.old ++ part)) }
     ensures kept { S.holds store.new ≡ S.holds store.old }
     ensures later { (other : Text) → S.faults store.old other ≤ S.faults store.new other }
@@ -37,23 +37,23 @@ pub fn check_call<S: Store>(
     let Some(typed) = typed_source(alloc, file, &source, report)? else {
         return Ok(Finding::Untyped);
     };
-    check_in_program(alloc, store, typed.program(), file, name, data, report)
+    check_in_program(alloc, store, typed.program(), file, name, input, report)
 }
 
-/// Checks that the file `data` spells arguments of the function of this name in the program of `file`.
+/// Checks that the file `input` spells arguments of the function of this name in the program of `file`.
 fn check_in_program<S: Store>(
     alloc: Global,
     store: &mut S,
     program: &Program,
     file: &str,
     name: &str,
-    data: &str,
+    input: &str,
     report: &mut String,
 ) -> Result<Finding, AllocError>
     requires parameters { HaveSomeParameters (program_of program.now) }
     ensures told { IfOk result (λ finding. (part : Text)
         × ProgramIs (store_of (S.holds store.old) (S.faults store.old) (S.faults store.new)) (program_of program.now)
-        file.now name.now data.now finding part
+        file.now name.now input.now finding part
         × (string_bytes report.new ≡ string_bytes report.old ++ part)) }
     ensures kept { S.holds store.new ≡ S.holds store.old }
     ensures later { (other : Text) → S.faults store.old other ≤ S.faults store.new other }
@@ -61,7 +61,7 @@ fn check_in_program<S: Store>(
     match function_named(program, name) {
         Some(function) => {
             let types = parameter_types(alloc, function)?;
-            check_data_file(alloc, store, data, &types, report)
+            check_data_file(alloc, store, input, &types, report)
         }
         None => {
             push_no_function(file, name, report)?;
@@ -71,7 +71,7 @@ fn check_in_program<S: Store>(
 }
 
 /// The first function of this name.
-fn function_named<'a>(program: &'a Program, name: &str) -> Option<&'a Fun>
+pub fn function_named<'a>(program: &'a Program, name: &str) -> Option<&'a Fun>
     ensures { option_map (λ function. function_of function.now) result ≡ find name.now (program_of program.now) }
 {
     for function in &program.funs {
@@ -93,7 +93,8 @@ fn parameter_types(alloc: Global, function: &Fun) -> Result<Vec<Ty>, AllocError>
     Ok(types)
 }
 
-fn push_no_function(file: &str, name: &str, report: &mut String) -> Result<(), AllocError>
+/// Appends that the program of this file has no function of this name.
+pub fn push_no_function(file: &str, name: &str, report: &mut String) -> Result<(), AllocError>
     ensures { OnOk result (string_bytes report.new ≡ string_bytes report.old ++ no_function_line file.now name.now) }
 {
     write!(report, "{file}: error: no function is named {name}\n")

@@ -38,24 +38,24 @@ pub fn check_data_file<S: Store>(
     }
 }
 
-/// Checks that data spells arguments of the types.
+/// Checks that bytes spell arguments of the types.
 fn check_data(
     alloc: Global,
     name: &str,
-    data: &[u8],
+    bytes: &[u8],
     types: &[Ty],
     report: &mut String,
 ) -> Result<Finding, AllocError>
     requires types { (1 ≤ length types.now) × (length types.now ≤ 8) }
-    requires short { length data.now ≤ 4194304 }
-    ensures { IfOk result (λ finding. (part : Text) × DataIs name.now data.now (map ty_of types.now) finding part
+    requires short { length bytes.now ≤ 4194304 }
+    ensures { IfOk result (λ finding. (part : Text) × DataIs name.now bytes.now (map ty_of types.now) finding part
         × (string_bytes report.new ≡ string_bytes report.old ++ part)) }
 {
     let mut heap = DataHeap::new(alloc);
-    match read_args(alloc, data, types, &mut heap) {
+    match read_args(alloc, bytes, types, &mut heap) {
         Ok(_) => Ok(Finding::Fits),
         Err(fault) => {
-            push_data_fault(alloc, name, data, types, fault, report)?;
+            push_data_fault(alloc, name, bytes, types, fault, report)?;
             Ok(Finding::Refused)
         }
     }

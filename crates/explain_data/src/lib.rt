@@ -10,5 +10,5 @@ mod need;
 mod report;
 mod token;
 
-pub use call::check_call;
+pub use call::{check_call, function_named, push_no_function};
 pub use finding::Finding;

@@ -13,28 +13,28 @@ use value_text::DataFault;
 pub fn push_data_fault(
     alloc: Global,
     name: &str,
-    data: &[u8],
+    bytes: &[u8],
     types: &[Ty],
     fault: DataFault,
     report: &mut String,
 ) -> Result<(), AllocError>
-    ensures told { OnOk result ((part : Text) × ToldAt name.now data.now (data_place fault) part
+    ensures told { OnOk result ((part : Text) × ToldAt name.now bytes.now (data_place fault) part
         × (string_bytes report.new ≡ string_bytes report.old ++ part)) }
     ensures memory { OnOk result (fault ≡ DataFault.NoMemory → ⊥) }
 {
     match fault {
         DataFault::NotUtf8 { at } => {
             let at = at.0 as usize;
-            let text = not_utf8(alloc, data, at)?;
-            push_fault(alloc, name, data, at, text.as_str(), report)
+            let text = not_utf8(alloc, bytes, at)?;
+            push_fault(alloc, name, bytes, at, text.as_str(), report)
         }
         DataFault::Shape { at } => {
             let at = at.0 as usize;
-            let text = wrong_shape(alloc, data, types, at)?;
-            push_fault(alloc, name, data, at, text.as_str(), report)
+            let text = wrong_shape(alloc, bytes, types, at)?;
+            push_fault(alloc, name, bytes, at, text.as_str(), report)
         }
         DataFault::TooDeep { at } => {
-            push_fault(alloc, name, data, at.0 as usize, TOO_DEEP, report)
+            push_fault(alloc, name, bytes, at.0 as usize, TOO_DEEP, report)
         }
         DataFault::TooManyCells => push_error(name, "more than 1048576 cells", report),
         DataFault::NoMemory => Err(AllocError),

@@ -2,8 +2,8 @@
 ghost use Rattle.std.specs.Prelude.{◌≡◌, ◌≤◌};
 ghost use Rattle.raml_syntax.specs.Tree.{Text};
 ghost use Rattle.explain_check.specs.Stores.{store_of};
-ghost use Rattle.explain_calls.specs.Calls.{AreFit};
-ghost use Rattle.explain_top.specs.Answers.{CanBeAnswered, IsAnswer, AreBoundsTold, IsChecked, IsDataChecked, LacksMemory};
+ghost use Rattle.explain_words.specs.Laws.{AreInRange, IsInRange};
+ghost use Rattle.explain_top.specs.Answers.{IsAnswer, AreBoundsTold, IsChecked, IsDataChecked, LacksMemory};
 ghost use Rattle.explain_top.specs.Sinks.{sink_of};
 
 use crate::status::Status;
@@ -27,7 +27,7 @@ pub fn answer<S: Store, O: Sink, E: Sink>(
     out: &mut O,
     err: &mut E,
 ) -> Status
-    requires { CanBeAnswered request.now }
+    requires { IsInRange request.now }
     ensures done { IsAnswer (store_of (S.holds store.old) (S.faults store.old) (S.faults store.new)) request.now columns
         (sink_of (O.faults out.old) (O.faults out.new) (O.written out.old) (O.written out.new))
         (sink_of (E.faults err.old) (E.faults err.new) (E.written err.old) (E.written err.new)) result }
@@ -52,7 +52,7 @@ fn bounds<S: Store, O: Sink, E: Sink>(
     out: &mut O,
     err: &mut E,
 ) -> Status
-    requires { AreFit words.now }
+    requires { AreInRange words.now }
     ensures told { AreBoundsTold (store_of (S.holds store.old) (S.faults store.old) (S.faults store.new)) words.now columns
         (sink_of (O.faults out.old) (O.faults out.new) (O.written out.old) (O.written out.new))
         (sink_of (E.faults err.old) (E.faults err.new) (E.written err.old) (E.written err.new)) result }

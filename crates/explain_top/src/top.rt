@@ -8,6 +8,7 @@ ghost use Rattle.explain_top.specs.Sinks.{sink_of};
 
 use crate::asked::{answer, no_memory};
 use crate::status::Status;
+use explain_words::laws::asked_is_in_range;
 use explain_words::{WordsFault, read_words};
 use raml_io::{Sink, Store, put_all};
 use std::alloc::Global;
@@ -33,7 +34,10 @@ pub fn explain<S: Store, O: Sink, E: Sink>(
     ensures later { (name : Text) → S.faults store.old name ≤ S.faults store.new name }
 {
     match read_words(alloc, words) {
-        Ok(request) => answer(alloc, &request, columns, store, out, err),
+        Ok(request) => {
+            asked_is_in_range();
+            answer(alloc, &request, columns, store, out, err)
+        }
         Err(WordsFault::Shown { text }) => match put_all(out, text.as_bytes()) {
             Ok(()) => Status::Done,
             Err(_) => Status::WriteFault,

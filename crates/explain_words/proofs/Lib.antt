@@ -3,3 +3,4 @@ mod Values
 mod Numbers
 mod Cuts
 mod Computed
+mod Ranges

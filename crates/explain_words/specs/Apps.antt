@@ -4,7 +4,7 @@ use Rattle.clap.specs.Lexer.{usize_max}
 use Rattle.clap.specs.Walk.{Rule, Text, rule_of}
 use Rattle.clap.specs.Simple.{App, new_app, new_rule, with_rule, with_subcommand, on_top}
 use Rattle.clap.specs.declared.builder.arg.Arg.{Arg}
-use Rattle.clap.specs.declared.builder.action.ArgAction.TheVariants.{Append, SetTrue}
+use Rattle.clap.specs.declared.builder.action.ArgAction.TheVariants.{Append}
 
 -- an argument with this rule, which is that of one command
 abbrev pub IsArg : Rule → Arg → Type 0
@@ -22,13 +22,6 @@ abbrev pub option_rule : Text → Rule
 option_rule id = record (new_rule id) {
   long = Some id;
   value_names = 1;
-}
-
--- an option that is there or not
-abbrev pub flag_rule : Text → Rule
-flag_rule id = record (new_rule id) {
-  long = Some id;
-  action = Some SetTrue;
 }
 
 -- one file or more
@@ -61,7 +54,7 @@ abbrev pub bounds_sized : App
 bounds_sized = with_rule (with_rule bounds_chosen (option_rule (codes "at"))) (option_rule (codes "within"))
 
 abbrev pub bounds_app : App
-bounds_app = with_rule (with_rule bounds_sized (option_rule (codes "width"))) (flag_rule (codes "json"))
+bounds_app = with_rule bounds_sized (option_rule (codes "width"))
 
 -- the program before it has commands
 abbrev pub bare : App

@@ -1,7 +1,5 @@
 -- What each command asks for, with what `clap` finds for its arguments.
-use Rattle.std.specs.Prelude.{◌≡◌, ℕ, Bool, false, List, [], ◌∷◌, map, Option, Some, None, option_map, unwrap_or, Result, Ok, Err, codes}
-use Rattle.std.specs.Option.{option_map_or}
-use Rattle.std.specs.Str.{bytes_eq}
+use Rattle.std.specs.Prelude.{◌≡◌, ℕ, List, [], ◌∷◌, map, Option, Some, None, option_map, unwrap_or, Result, Ok, Err, codes}
 use Rattle.std.specs.Borrow.{Bor}
 use Rattle.clap.specs.Walk.{Row, Text, all_of, first_of}
 use Rattle.explain_words.specs.Spelled.{lent, degree_in, width_in, within_in}
@@ -16,10 +14,6 @@ texts = map (λ (text : Bor Text). text.now)
 -- the values of an argument
 abbrev pub values : Text → List Row → List Text
 values id rows = unwrap_or (all_of id rows) []
-
--- a flag stands among the words
-abbrev pub is_set : Text → List Row → Bool
-is_set id rows = option_map_or (λ text. bytes_eq text (codes "true")) (first_of id rows) false
 
 -- what a word gives, where there is one
 abbrev pub optional : {A : Type 0} → (Text → Option A) → Option Text → Option (Option A)
@@ -55,7 +49,6 @@ pub record AreBounds (rows : List Row) (asked : BoundsWords) : Type 0 where
   pub at : first_of (codes "at") rows ≡ lent asked.at
   pub within : optional within_in (first_of (codes "within") rows) ≡ Some asked.within
   pub width : optional width_in (first_of (codes "width") rows) ≡ Some asked.width
-  pub json : is_set (codes "json") rows ≡ asked.json
 
 abbrev pub MeansBounds : List Row → Request → Type 0
 MeansBounds rows (Bounds asked) = AreBounds rows asked

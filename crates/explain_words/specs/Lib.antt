@@ -3,3 +3,4 @@ pub mod Apps
 pub mod Commands
 pub mod Asking
 pub mod Example
+pub mod Laws

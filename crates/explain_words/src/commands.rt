@@ -1,12 +1,12 @@
 // The commands, as `clap` has them.
 ghost use Rattle.std.specs.Prelude.{◌≡◌, IfOk};
 ghost use Rattle.clap.specs.Simple.{app_of};
-ghost use Rattle.explain_words.specs.Apps.{bare, app, operand_rule, option_rule, flag_rule, IsArg};
+ghost use Rattle.explain_words.specs.Apps.{bare, app, operand_rule, option_rule, IsArg};
 
 mod bounds;
 mod check;
 
-use clap::{Arg, ArgAction, Command};
+use clap::{Arg, Command};
 use std::alloc::{AllocError, Global};
 
 /// The version of the program.
@@ -47,14 +47,4 @@ fn option<'a>(alloc: Global, id: &'a str, name: &'a str, help: &'a str) -> Arg<'
     ensures { IsArg (option_rule id.entry.now) result }
 {
     Arg::new(alloc, id).long(id).value_name(name).help(help)
-}
-
-/// An option that is there or not.
-fn flag<'a>(alloc: Global, id: &'a str, help: &'a str) -> Arg<'a>
-    ensures { IsArg (flag_rule id.entry.now) result }
-{
-    Arg::new(alloc, id)
-        .long(id)
-        .help(help)
-        .action(ArgAction::SetTrue)
 }
