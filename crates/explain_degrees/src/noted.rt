@@ -51,7 +51,8 @@ fn note_function(
     requires fun { fun.0 < length (source_in verified.now.program) }
     requires degree { 1 ≤ degree }
     requires found { (meter : Meter) →
-        IsFinding (source_in verified.now.program) (program_in verified.now.program) (degree - 1) fun.0 meter (finding_of findings.old meter) }
+        IsFinding (source_in verified.now.program) (program_in verified.now.program) (degree - 1) fun.0 meter
+        (finding_of findings.old meter) }
     ensures { OnOk result ((meter : Meter) →
         IsFinding (source_in verified.now.program) (program_in verified.now.program) degree fun.0 meter (finding_of findings.new meter)) }
 {
