@@ -15,8 +15,8 @@ use Rattle.explain_bounds.specs.Written.{CanBeTold, FindingsCanBeTold}
 of_finding : (P : Prog) (N : Program) (most f : ℕ) (g : Function) (meter : Meter) (found : Finding) → slice_get P f ≡ Some g → IsFinding P N most f meter found →
     CanBeTold (types_of g) found
 of_finding P N most f g meter (finding.Bound d poly) there h =
-    let both = h.1.1.1.0 g there in (
-      h.1.1.0,
+    let both = h.3 g there in (
+      h.2,
       of_terms (λ t. AreIndices t (types_of g)) poly.terms.items (λ k d l. (both k d l).0),
       of_terms (λ t. degrees t ≤ 4) poly.terms.items (λ k d l. (both k d l).1),
     )

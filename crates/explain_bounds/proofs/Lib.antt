@@ -1,3 +1,3 @@
 mod Computed
+mod Fitting
 mod Found
-mod Three

@@ -7,7 +7,7 @@ use Rattle.explain_algebra.specs.Algebra.{joined}
 use Rattle.explain_sizes.specs.Sizes.{Sizes}
 use Rattle.explain_sizes.specs.Counts.{whole_at}
 use Rattle.explain_sizes.specs.Open.{OpenSizes, all_filled, KeepsWithin}
-use Rattle.explain_sizes.specs.declared.within.Within.{Within}
+use Rattle.explain_sizes.specs.declared.within.Within as sizes
 use Rattle.explain_sizes.specs.declared.within.Within.TheVariants.{Any, UpTo, Never}
 use Rattle.explain_at.specs.Words.{Given, given_for}
 use Rattle.explain_at.specs.Asked.{Fault, asked, asked_open}
@@ -53,7 +53,7 @@ abbrev pub value_text : ℕ → Text
 value_text n = cond (nat_le n (2 ^ 127)) (codes " = " ++ decimal n) (codes " is more than 2^127")
 
 -- up to which number
-abbrev pub within_text : List Given → List Text → Within → Text
+abbrev pub within_text : List Given → List Text → sizes.Within → Text
 within_text gs names Any = codes "any size"
 within_text gs names (UpTo n) = sizes_text gs names n
 within_text gs names Never = codes "none"
@@ -64,5 +64,5 @@ IsTail Nothing names meter poly tail = tail ≡ []
 IsTail (At gs ss) names meter poly tail = tail ≡ value_text (whole_at poly ss) ++ (codes " at " ++ given_text gs)
 IsTail (Within one most gs os) names meter poly tail =
     ((meter ≢ one) × (tail ≡ []))
-    ⊎ ((meter ≡ one) × (within : Within) × KeepsWithin poly os most within
+    ⊎ ((meter ≡ one) × (within : sizes.Within) × KeepsWithin poly os most within
     × (tail ≡ codes "; at most " ++ (decimal most ++ (codes ": " ++ within_text gs names within))))

@@ -9,5 +9,5 @@ use Rattle.explain_bounds.proofs.tail.push_sizes.Given as goal
 abbrev pub invariant-loop-name : goal.invariant-loop-name
 invariant-loop-name l =
     string_bytes l.text
-    ++ marked l.is_first (codes ", ") (map (λ x. size_text x (unwrap_or (given_for x (all_given l.given)) l.number)) (texts (drop l.name-index l.names)))
-    ≡ string_bytes l.fn.text ++ sizes_text (all_given l.given) (texts l.names) l.number
+    ++ marked l.is_first (codes ", ") (map (λ x. size_text x (unwrap_or (given_for x (all_given l.given)) l.number)) (texts (drop l.name-index l.name-items)))
+    ≡ string_bytes l.fn.text ++ sizes_text (all_given l.given) (texts l.name-items) l.number
