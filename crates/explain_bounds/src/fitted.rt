@@ -1,5 +1,5 @@
 // What is told behind the bounds of a function.
-ghost use Rattle.std.specs.Prelude.{◌≡◌, Ok, IfOk, IfErr};
+ghost use Rattle.std.specs.Prelude.{◌≡◌, Ok, true, is_ok, IfOk, IfErr, OnOk};
 ghost use Rattle.explain_at.specs.Read.{parameters, IsSizeFault};
 ghost use Rattle.explain_bounds.specs.Told.{told};
 ghost use Rattle.explain_bounds.specs.Read.{told_of, CanBeFitted};
@@ -29,6 +29,20 @@ pub(crate) enum Fitted<'a> {
         given: &'a [Given<'a>],
         sizes: Vec<OpenSize>,
     },
+}
+
+/// Whether the sizes that are asked for are those of these parameters.
+pub fn check_sizes<'a>(
+    alloc: Global,
+    asked: &Asked<'a>,
+    params: &[Param],
+) -> Result<(), SizeFault<'a>>
+    requires { CanBeAsked asked.now }
+    ensures fits { OnOk result (is_ok (told asked.now (parameters params.now)) ≡ true) }
+    ensures fault { IfErr result (IsSizeFault (told asked.now (parameters params.now))) }
+{
+    let _fitted = fit(alloc, asked, params)?;
+    Ok(())
 }
 
 /// What is asked, of a function with these parameters.

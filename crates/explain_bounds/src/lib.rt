@@ -11,4 +11,5 @@ mod tail;
 mod tests;
 
 pub use asked::Asked;
+pub use fitted::check_sizes;
 pub use line::push_function;

@@ -11,7 +11,7 @@ ghost use Rattle.explain_calls.specs.Sizes.{meter_of, fit, is_asked, fits_some};
 
 use cost_free::Meter;
 use explain_at::{Given, SizeFault};
-use explain_bounds::{Asked, fits};
+use explain_bounds::{Asked, check_sizes};
 use explain_words::{BoundsWords, Meter as WordsMeter};
 use raml_syntax::{Fun, Program};
 use std::alloc::{AllocError, Global};
@@ -68,7 +68,7 @@ pub(crate) fn misfit(
     let mut why = String::from_str(alloc, "there is no function")?;
     for fun in &program.funs {
         if is_asked(name, fun) {
-            match fits(alloc, asked, &fun.params) {
+            match check_sizes(alloc, asked, &fun.params) {
                 Ok(()) => return Ok(None),
                 Err(SizeFault::NoMemory) => return Err(AllocError),
                 Err(fault) => why = format!(in alloc; "{}: {fault}", fun.name.text())?,
