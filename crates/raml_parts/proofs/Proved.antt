@@ -4,7 +4,6 @@ use Rattle.std.specs.List.{All, Contains}
 use Rattle.raml_syntax.specs.Tree.{Function, Prog}
 use Rattle.raml_syntax.specs.Types.{Typed}
 use Rattle.raml_syntax.specs.Node.{AllNodes, NumberFits}
-use Rattle.normal_spec.specs.Norm.{NormProg}
 use Rattle.normal_spec.specs.Two.{norm}
 use Rattle.share_normal.specs.Program.{Kept, source_in, norm_in}
 use Rattle.rules_plan.specs.Read.{program_in}
@@ -13,6 +12,7 @@ use Rattle.annot_types.specs.Certificate.{Certificate}
 use Rattle.annot_types.specs.System.{Valid}
 use Rattle.annot_types.specs.Held.{Line, lines, Held}
 use Rattle.rules_soundness_laws.specs.Laws.{normal_of, LinesAreTrue, IsTrue}
+use Rattle.normal_program.proofs.Normal.{normal_is}
 use Rattle.infer_spec.specs.Good.{AllRefuted, AllLeast}
 use Rattle.infer_spec.specs.Lines.{LinesTell}
 use Rattle.std.proofs.Common.{Result, Err, true}
@@ -35,10 +35,6 @@ use Rattle.raml_parts.specs.Parts.{Gives, Refuses}
 use Rattle.raml_parts.proofs.Stepping.{normal_gives, step_goes, step_refused}
 use Rattle.raml_promise.specs.Analysis.{analysis, CourseRefuses, IsCourse, OfCourse, IsProved}
 
--- the code's program is the normal form of its source, with its groups
-pub normal_is : (kept : Kept) → norm_in kept ≡ norm (source_in kept) → program_in kept ≡ normal_of (source_in kept) kept.groups.list
-normal_is kept same = ap (λ (funs : NormProg). record { funs = funs; groups = kept.groups.list }) same
-
 pub is_proved : LinesAreTrue → LinesTell → (kept : Kept) → Typed (source_in kept) → All (λ (g : Function). AllNodes NumberFits g.body) (source_in kept) →
     norm_in kept ≡ norm (source_in kept) → (c : Certificate) → Valid (program_in kept) c → AllRefuted (program_in kept) c → IsProved (source_in kept) (program_in kept) c
 is_proved are_true tell kept typed numbers same c valid refuted =
@@ -53,9 +49,6 @@ is_proved are_true tell kept typed numbers same c valid refuted =
       refuted = refuted;
       lines = record { bounds = bounds; tell = tell N c valid.held refuted };
     }
-
-pub kept_normal : (kept : Kept) (typed : TheProgram) → kept.source ≡ typed → norm_in kept ≡ norm (source_in kept) → program_in kept ≡ normal_of (program_of typed) kept.groups.list
-kept_normal kept typed source same = normal_is kept same ∙ ap (λ s. normal_of (program_of s) kept.groups.list) source
 
 -- what is given over the code's program is given over the normal form
 pub kept_gives : (typed : TheProgram) (kept : Kept) → kept.source ≡ typed → IsGrouping (program_of typed) kept.groups → program_in kept ≡ normal_of (program_of typed) kept.groups.list →

@@ -1,8 +1,5 @@
 // The analysis of a program.
-ghost use Rattle.std.specs.Prelude.{◌≡◌, ◌≤◌, length, IfOk, IfErr};
-ghost use Rattle.raml_syntax.specs.Read.{program_of};
-ghost use Rattle.rules_soundness_laws.specs.Laws.{normal_of};
-ghost use Rattle.call_groups.specs.Groups.{IsGrouping};
+ghost use Rattle.std.specs.Prelude.{◌≡◌, ◌≤◌, IfOk, IfErr};
 ghost use Rattle.infer_spec.specs.Good.{AllLeast};
 ghost use Rattle.infer_systems_laws.specs.Analysed.{analysis_of};
 ghost use Rattle.share_normal.specs.Program.{source_in};
@@ -15,31 +12,16 @@ ghost use Rattle.raml_promise.specs.Steps.{RefusedOf};
 ghost use Rattle.raml_parts.specs.Parts.{Refuses};
 
 use bound_infer::{InferFault, Verified, infer};
-use call_groups::group_calls;
 use frac128::Frac;
 use infer_spec::laws::lines_tell;
 use raml_words::Rule;
 use refusal_text::Analysed;
 use refusals::{Refusal, course_refusal};
 use rules_soundness_laws::laws::lines_are_true;
-use share_normal::{NormProgram, normalise};
-use simple_types::Typed;
+use share_normal::NormProgram;
 use simplex::Chooser;
 use simplex_checked::{greatest_column, least_column};
-use std::alloc::{AllocError, Global};
-
-/// The normal form of a program, with the groups of its functions.
-pub fn normal_form<'a>(alloc: Global, typed: &'a Typed) -> Result<NormProgram<'a>, AllocError>
-    requires { length (program_of typed.now) ≤ 256 }
-    ensures source { IfOk result (λ made. made.source ≡ typed.now) }
-    ensures groups { IfOk result (λ made. IsGrouping (program_of typed.now) made.groups) }
-    ensures normal { IfOk result (λ made. program_in made ≡ normal_of (program_of typed.now) made.groups.list) }
-{
-    let groups = group_calls(alloc, typed.program())?;
-    let program = normalise(alloc, typed, groups)?;
-    let _functions = program.functions();
-    Ok(program)
-}
+use std::alloc::Global;
 
 /// The certificate of the course of its analysis, by the rule.
 pub fn analyse<'p, 'a>(

@@ -9,7 +9,7 @@ mod run;
 mod source;
 mod verification;
 
-pub use analysis::{analyse, normal_form};
+pub use analysis::analyse;
 pub use call::{Arguments, Call, read_arguments, read_call};
 pub use file::{most_bytes, read_file};
 pub use run::{Limits, execute};

@@ -15,8 +15,9 @@ ghost use Rattle.raml_parts.specs.Parts.{Before, IsReady, Gives};
 
 use analysis_report::comparison_lines;
 use bound_infer::Verified;
+use normal_program::normal_form;
 use raml_io::Store;
-use raml_parts::{analyse, normal_form, read_program};
+use raml_parts::{analyse, read_program};
 use raml_words::Rule;
 use refusal_text::Analysed;
 use refusals::{Refusal, Report};

@@ -19,8 +19,9 @@ ghost use Rattle.raml_parts.specs.Parts.{Before, IsReady, Gives, IsCallOf, Floor
 
 use analysis_report::{FloorFault, Floors, floors_at};
 use bound_infer::Verified;
+use normal_program::normal_form;
 use raml_io::Store;
-use raml_parts::{Call, Limits, analyse, execute, normal_form, read_call};
+use raml_parts::{Call, Limits, analyse, execute, read_call};
 use raml_words::Rule;
 use refusal_text::Analysed;
 use refusals::{Refusal, Report, point_refusal};

@@ -18,9 +18,8 @@ ghost use Rattle.refusal_text.specs.declared.plain.Which.TheVariants as which;
 
 use analysis_report::function_lines;
 use bound_infer::Verified;
-use raml_parts::{
-    Arguments, Limits, analyse, execute, most_bytes, normal_form, read_arguments, typed_program,
-};
+use normal_program::normal_form;
+use raml_parts::{Arguments, Limits, analyse, execute, most_bytes, read_arguments, typed_program};
 use raml_syntax::FunId;
 use raml_words::Rule;
 use refusal_text::{Analysed, Which};

@@ -136,11 +136,23 @@ impl FracRow {
         if n == 0 {
             return Ok(());
         }
+        if let Numbers::Short(row) = &mut self.numbers {
+            if row.push_whole(column, n)? {
+                return Ok(());
+            }
+        }
+        self.push_fraction(column, n)
+    }
+
+    /// Adds it among fractions.
+    fn push_fraction(&mut self, column: u32, n: i128) -> Result<(), RowFault>
+        requires { EndsBefore column self.old }
+        ensures added { OnOk result (AddsWhole column n self.old self.new) }
+        ensures before { (c : ℕ) → column < c → OnOk result (EndsBefore c self.new) }
+        ensures leaves { (c : ℕ) → result ≡ Err (RowFault.Leaves c) → (c ≡ column) × (n ≡ neg_ℤ (pos (2 ^ 127))) }
+    {
         match &mut self.numbers {
             Numbers::Short(row) => {
-                if row.push_whole(column, n)? {
-                    return Ok(());
-                }
                 let mut wide = row.widened(self.alloc)?;
                 wide.push_whole(column, n)?;
                 self.numbers = Numbers::Wide(wide);
@@ -177,8 +189,8 @@ impl FracRow {
         }
     }
 
-    /// Takes the row's fraction at a column times the lead from it. Where the row has more than `most` short
-    /// numbers, it keeps a place for each column from then on.
+    /// Takes the row's fraction at a column times the lead from it, unless that is 0. Where the row then has more than
+    /// `most` short numbers, it keeps a place for each column from then on.
     pub fn sweep(
         &mut self,
         column: u32,

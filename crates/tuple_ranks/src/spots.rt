@@ -353,9 +353,9 @@ impl<'s> Contexts<'s> {
                   (picked self.now.marked.slots.items ns),
             )) self.now.whole.numbers) }
         ensures joined { IfOk result
-           (λ cut. cut.joined.items ≡ map
-           (behind_at self.now.others.ranks self.now.bound.ranks self.now.rest self.now.bound.numbers)
-           (table_rows self.now.others.ranks)) }
+            (λ cut. cut.joined.items ≡ map
+            (behind_at self.now.others.ranks self.now.bound.ranks self.now.rest self.now.bound.numbers)
+            (table_rows self.now.others.ranks)) }
         ensures whole { IfOk result (λ cut. cut.whole.items ≡ listed (up_to self.now.whole.ranks) 0 (1 + self.now.whole.ranks.degree)) }
         ensures marked { IfOk result (λ cut. cut.marked.items ≡ listed (up_to self.now.marked.ranks) 0 (1 + self.now.marked.ranks.degree)) }
         ensures others { IfOk result (λ cut. cut.others.items ≡ listed (up_to self.now.others.ranks) 0 (1 + self.now.others.ranks.degree)) }
