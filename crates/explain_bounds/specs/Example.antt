@@ -1,5 +1,5 @@
 -- Small texts, worked out by hand.
-use Rattle.std.specs.Prelude.{◌≡◌, ◌^◌, ◌+◌, List, [], ◌∷◌, Ok, Err, codes, encode_utf8_all}
+use Rattle.std.specs.Prelude.{◌≡◌, ◌^◌, ◌+◌, List, [], ◌∷◌, codes, encode_utf8_all}
 use Rattle.raml_syntax.specs.Tree.{Text}
 use Rattle.explain_at.specs.Words.{Given}
 use Rattle.explain_sizes.specs.declared.within.Within.TheVariants.{Any, UpTo, Never}

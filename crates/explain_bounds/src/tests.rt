@@ -134,6 +134,22 @@ fn lines(
     }
 }
 
+// Those of the function at this place of the program.
+fn lines_at(
+    alloc: Global,
+    program: &Program,
+    number: usize,
+    place: usize,
+    asked: &Asked<'_>,
+) -> Result<String, Fail>
+    requires { CanBeAsked asked.now }
+{
+    match program.funs.get(number) {
+        Some(fun) => lines(alloc, program, fun, place, asked),
+        None => Ok(String::from_str(alloc, "no function")?),
+    }
+}
+
 // The line of ticks of f where this is asked at sizes, or the fault.
 fn ticks_of(
     alloc: Global,
@@ -154,20 +170,20 @@ fn ticks_of(
             given: &given,
         },
     };
-    let text = lines(alloc, program, &program.funs[0], place, &asked)?;
+    let text = lines_at(alloc, program, 0, place, &asked)?;
     Ok(String::from_str(alloc, text.lines().next().unwrap_or(""))?)
 }
 
 #[test]
 fn three_lines(rt: HostRuntime) -> Result<(), Fail> {
     let program = program(rt.alloc())?;
-    let text = lines(rt.alloc(), &program, &program.funs[0], 4, &Asked::Nothing)?;
+    let text = lines_at(rt.alloc(), &program, 0, 4, &Asked::Nothing)?;
     assert_eq!(rt;
         text.as_str(),
         "f ticks ≤ 3/2·n·m   n = |l|, m = |r|\n\
         f cells no bound up to degree 2\nf work no bound up to degree 2: calls g, which has none\n"
     );
-    let text = lines(rt.alloc(), &program, &program.funs[1], 3, &Asked::Nothing)?;
+    let text = lines_at(rt.alloc(), &program, 1, 3, &Asked::Nothing)?;
     assert_eq!(rt; text.lines().next(), Some("g ticks ≤ 3/2·Σ(y in x) |y|"));
     Ok(())
 }
