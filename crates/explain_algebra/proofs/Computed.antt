@@ -8,6 +8,7 @@ pub examples : Examples
 unfolding digits encode
 examples = record {
   names = refl;
+  taken = refl;
   dot = refl;
   square = refl;
   cube = refl;

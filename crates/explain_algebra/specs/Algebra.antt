@@ -1,7 +1,9 @@
 -- The bound of a flat function in algebra, such as `3/2·n² + 1/2·n`.
-use Rattle.std.specs.Prelude.{ℕ, suc, ◌==◌, ◌&&◌, ℤ, unsigned_abs, Bool, true, false, cond, Option, Some, None, List, [], ◌∷◌, ◌++◌, map}
-use Rattle.std.specs.Prelude.{reverse, codes, decimal, encode_utf8, slice_get, slice_index_or}
+use Rattle.std.specs.Prelude.{ℕ, suc, ◌==◌, ◌&&◌, not, ℤ, unsigned_abs, Bool, true, false, cond, Option, Some, None, List, [], ◌∷◌, ◌++◌}
+use Rattle.std.specs.Prelude.{map, filter, reverse, codes, decimal, encode_utf8, slice_get, slice_index_or}
 use Rattle.std.specs.Borrow.{Bor}
+use Rattle.std.specs.List.{list_any}
+use Rattle.std.specs.Str.{bytes_eq}
 use Rattle.raml_syntax.specs.Tree.{Text, Type', ListOf, TreeOf}
 use Rattle.poly_text.specs.Text.{coefficient_text}
 use Rattle.bound_compare.specs.Powers.{Powers}
@@ -13,17 +15,22 @@ has_size (ListOf A) = true
 has_size (TreeOf A) = true
 has_size A = false
 
--- the j-th of the letters that name sizes, counted from 0: parameters are at most eight
-abbrev pub letter : ℕ → Option ℕ
-letter j = slice_get (codes "nmkjihgf") j
+-- the letters that name sizes; `l` and `o` are left out, which look like digits
+abbrev pub letters : List ℕ
+letters = codes "nmkjihgfedcbaqpr"
+
+-- those that are no parameter's name
+abbrev pub free_letters : List Text → List ℕ
+free_letters params = filter (λ x. not (list_any (bytes_eq (x ∷ [])) params)) letters
 
 -- the name of each parameter's size: the letters in turn, from the j-th on, for those that have one, and none for the others
-abbrev pub named_from : ℕ → List Type' → List (Option ℕ)
-named_from j [] = []
-named_from j (A ∷ As) = cond (has_size A) (letter j ∷ named_from (suc j) As) (None ∷ named_from j As)
+abbrev pub named_from : List ℕ → ℕ → List Type' → List (Option ℕ)
+named_from xs j [] = []
+named_from xs j (A ∷ As) = cond (has_size A) (slice_get xs j ∷ named_from xs (suc j) As) (None ∷ named_from xs j As)
 
-abbrev pub size_names : List Type' → List (Option ℕ)
-size_names As = named_from 0 As
+-- of parameters with these names and types
+abbrev pub size_names : List Text → List Type' → List (Option ℕ)
+size_names params As = named_from (free_letters params) 0 As
 
 -- the name of the size of parameter j, counted from 0
 abbrev pub name_at : List (Option ℕ) → ℕ → Option ℕ

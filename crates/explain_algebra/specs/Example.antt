@@ -9,7 +9,7 @@ use Rattle.explain_algebra.specs.Algebra.{size_names, times, exponent_text, alge
 
 -- the polynomial with these terms over a denominator, of a function with parameters of these types, in algebra
 abbrev bound : List Type' → ℕ → List Term → Text
-bound As den terms = algebra_text (24 * den) (size_names As) (powers_of (length As) terms)
+bound As den terms = algebra_text (24 * den) (size_names [] As) (powers_of (length As) terms)
 
 abbrev numbers : Type'
 numbers = ListOf Integer
@@ -30,8 +30,10 @@ abbrev behind_number : List Term
 behind_number = (Unit' ∷ picks 0 ∷ [], 1) ∷ (Unit' ∷ picks 2 ∷ [], 2) ∷ []
 
 pub record Examples : Type 0 where
-  pub names : size_names (Boolean ∷ numbers ∷ Integer ∷ TreeOf Boolean ∷ OptionOf numbers ∷ PairOf numbers numbers
+  pub names : size_names [] (Boolean ∷ numbers ∷ Integer ∷ TreeOf Boolean ∷ OptionOf numbers ∷ PairOf numbers numbers
       ∷ numbers ∷ []) ≡ None ∷ n ∷ None ∷ Some 109 ∷ None ∷ None ∷ Some 107 ∷ []
+  -- a parameter that is called n takes the letter, whatever its type
+  pub taken : size_names (codes "x" ∷ codes "n" ∷ codes "room" ∷ []) (Integer ∷ Integer ∷ ListOf Boolean ∷ []) ≡ None ∷ None ∷ Some 109 ∷ []
   pub dot : times ≡ encode_utf8_all (codes "·")
   pub square : exponent_text 2 ≡ encode_utf8_all (codes "²")
   pub cube : exponent_text 3 ≡ encode_utf8_all (codes "³")

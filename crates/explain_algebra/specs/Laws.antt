@@ -1,7 +1,7 @@
 -- What holds nothing that has a size counts as a number does, and no power is left out.
 use Rattle.std.specs.Prelude.{◌≡◌, ◌≢◌, ◌≤◌, ◌*◌, ◌&&◌, ℕ, pos, Bool, true, false, None, List, length, All, slice_index_or}
 use Rattle.std.specs.List.{list_all}
-use Rattle.raml_syntax.specs.Tree.{Type', Integer, Boolean, PairOf, ListOf, TreeOf}
+use Rattle.raml_syntax.specs.Tree.{Text, Type', Integer, Boolean, PairOf, ListOf, TreeOf}
 use Rattle.raml_syntax.specs.Value.{Value, Has, HaveTypes}
 use Rattle.base_poly.specs.Plain.{Plain, deg, degrees, entry_count}
 use Rattle.base_poly.specs.Indices.{IsIndex, AreIndices, zero_of}
@@ -51,7 +51,9 @@ PowersAreWorth = (As : List Type') (ts : List Term) (ps : Powers) → are_shallo
     All (λ t. degrees t.0 ≤ 4) ts → ArePowers ts ps → (vs : List Value) → HaveTypes vs As →
     powers_worth (element_counts vs) ps ≡ pos (24 * worth ts vs)
 
--- Each power that it has is written: at exponents of which one stands at a parameter without a name, there is nothing.
+-- Each power that it has is written: at exponents of which one stands at a parameter without a name, there is nothing. At most
+-- eight names take at most eight of the sixteen letters.
 abbrev pub NoneIsUnnamed : Type 0
-NoneIsUnnamed = (As : List Type') (ts : List Term) → are_shallow As ≡ true → length As ≤ 8 → All (λ t. AreIndices t.0 As) ts →
-    (es : List ℕ) (j : ℕ) → name_at (size_names As) j ≡ None → slice_index_or es j 0 ≢ 0 → power_at es ts ≡ pos 0
+NoneIsUnnamed = (params : List Text) (As : List Type') (ts : List Term) → length params ≤ 8 → are_shallow As ≡ true → length As ≤ 8 →
+    All (λ t. AreIndices t.0 As) ts → (es : List ℕ) (j : ℕ) → name_at (size_names params As) j ≡ None → slice_index_or es j 0 ≢ 0 →
+    power_at es ts ≡ pos 0

@@ -1,31 +1,70 @@
 // The names of sizes.
-ghost use Rattle.std.specs.Prelude.{◌≡◌, codes, IfOk};
+ghost use Rattle.std.specs.Prelude.{◌≡◌, not, [], ◌∷◌, filter, slice_get, IfOk};
+ghost use Rattle.std.specs.List.{list_any};
+ghost use Rattle.std.specs.Str.{bytes_eq};
 ghost use Rattle.raml_syntax.specs.Read.{ty_of};
 ghost use Rattle.base_poly.specs.Read.{context_of};
-ghost use Rattle.explain_algebra.specs.Algebra.{has_size, letter, name_at, size_names};
+ghost use Rattle.explain_algebra.specs.Algebra.{has_size, name_at, size_names, texts};
 ghost use Rattle.explain_algebra.specs.Laws.{holds_no_size, is_shallow, are_shallow};
 
 use raml_syntax::Ty;
 use std::alloc::{AllocError, Global};
 
-/// The letters that name sizes, in the order of the parameters.
-const LETTERS: [char; 8] = ['n', 'm', 'k', 'j', 'i', 'h', 'g', 'f'];
+/// The letters that name sizes, in this order.
+const LETTERS: &[u8] = b"nmkjihgfedcbaqpr";
 
-/// The name of each parameter's size, where it has one: lists and trees do.
-pub fn size_names(alloc: Global, params: &[Ty]) -> Result<Vec<Option<char>>, AllocError>
-    ensures { IfOk result (λ names. names.items ≡ size_names (context_of params.now)) }
+/// The name of each parameter's size, where it has one: lists and trees do. Each is a letter that is
+/// no parameter's name.
+pub fn size_names(
+    alloc: Global,
+    types: &[Ty],
+    params: &[&str],
+) -> Result<Vec<Option<char>>, AllocError>
+    ensures { IfOk result (λ names. names.items ≡ size_names (texts params.now) (context_of types.now)) }
 {
+    let letters = free_letters(alloc, LETTERS, params)?;
     let mut names = Vec::new(alloc);
     let mut named = 0;
-    for param in params {
-        if has_size(param) {
-            names.push(letter(named))?;
+    for ty in types {
+        if has_size(ty) {
+            names.push(letter(&letters, named))?;
             named += 1;
         } else {
             names.push(None)?;
         }
     }
     Ok(names)
+}
+
+// Those of the letters that are no parameter's name.
+fn free_letters(alloc: Global, letters: &[u8], params: &[&str]) -> Result<Vec<u8>, AllocError>
+    ensures { IfOk result (λ free. free.items ≡ filter (λ x. not (list_any (bytes_eq (x ∷ [])) (texts params.now))) letters.now) }
+{
+    let mut free = Vec::with_capacity(alloc, letters.len())?;
+    for letter in letters {
+        if !is_among(params, *letter) {
+            free.push(*letter)?;
+        }
+    }
+    Ok(free)
+}
+
+// Whether a parameter is called by the letter.
+fn is_among(params: &[&str], letter: u8) -> bool
+    ensures { result ≡ list_any (bytes_eq (letter ∷ [])) (texts params.now) }
+{
+    for param in params {
+        if is_letter(param, letter) {
+            return true;
+        }
+    }
+    false
+}
+
+fn is_letter(param: &str, letter: u8) -> bool
+    ensures { result ≡ bytes_eq (letter ∷ []) param.now }
+{
+    [letter].as_slice() == param.as_bytes()
 }
 
 /// Whether nothing in the parameters has a size but lists and trees that they are themselves.
@@ -60,10 +99,10 @@ fn holds_no_size(ty: &Ty) -> bool
 }
 
 // The letter at this place, where there is one.
-fn letter(place: usize) -> Option<char>
-    ensures { result ≡ letter place }
+fn letter(letters: &[u8], place: usize) -> Option<char>
+    ensures { result ≡ slice_get letters.now place }
 {
-    LETTERS.get(place).copied()
+    letters.get(place).map(|letter| char::from(*letter))
 }
 
 fn has_size(ty: &Ty) -> bool

@@ -9,12 +9,12 @@ use Rattle.explain_algebra.specs.Algebra.{size_names, algebra_text, legend_text}
 use Rattle.explain_algebra.specs.Laws.{are_shallow}
 use Rattle.explain_reading.specs.Reading.{used_names}
 
--- a list, a number, a tree and a list
+-- a list, a number that is called by a letter of sizes, a tree and a list
 abbrev types : List Type'
 types = ListOf Integer ∷ Integer ∷ TreeOf Integer ∷ ListOf Integer ∷ []
 
 abbrev params : List Text
-params = codes "l" ∷ codes "x" ∷ codes "t" ∷ codes "r" ∷ []
+params = codes "l" ∷ codes "m" ∷ codes "t" ∷ codes "r" ∷ []
 
 -- 3*<[], _, [_], [_]> + 2*<[], _, [], [_]> + 1, over 2: no power of the first list occurs
 abbrev terms : List Term
@@ -28,7 +28,7 @@ powers = powers_of (length types) terms
 pub record Examples : Type 0 where
   pub shallow : are_shallow types ≡ true
   pub deep : are_shallow (ListOf (ListOf Integer) ∷ []) ≡ false
-  pub occur : used_names powers (size_names types) ≡ None ∷ None ∷ Some 109 ∷ Some 107 ∷ []
-  pub sum : algebra_text (24 * 2) (size_names types) powers ≡ encode_utf8_all (codes "3/2·m·k + k + 1/2")
-  pub legend : legend_text (used_names powers (size_names types)) params ≡ codes "m = |t|, k = |r|"
-  pub constant : legend_text (used_names (powers_of 1 ((picks 0 ∷ [], 7) ∷ [])) (size_names (ListOf Integer ∷ []))) params ≡ []
+  pub occur : used_names powers (size_names params types) ≡ None ∷ None ∷ Some 107 ∷ Some 106 ∷ []
+  pub sum : algebra_text (24 * 2) (size_names params types) powers ≡ encode_utf8_all (codes "3/2·k·j + j + 1/2")
+  pub legend : legend_text (used_names powers (size_names params types)) params ≡ codes "k = |t|, j = |r|"
+  pub constant : legend_text (used_names (powers_of 1 ((picks 0 ∷ [], 7) ∷ [])) (size_names [] (ListOf Integer ∷ []))) params ≡ []

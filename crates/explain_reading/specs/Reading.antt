@@ -27,8 +27,8 @@ used_names ps names = used_from 0 ps names
 pub record IsInPowers (As : List Type') (params : List Text) (poly : Poly) (text meaning : Text) : Type 0 where
   pub shallow : are_shallow As ≡ true
   pub fits : Fits (den_of poly) (terms_of poly)
-  pub sum : text ≡ algebra_text (24 * den_of poly) (size_names As) (powers_of (length As) (terms_of poly))
-  pub legend : meaning ≡ legend_text (used_names (powers_of (length As) (terms_of poly)) (size_names As)) params
+  pub sum : text ≡ algebra_text (24 * den_of poly) (size_names params As) (powers_of (length As) (terms_of poly))
+  pub legend : meaning ≡ legend_text (used_names (powers_of (length As) (terms_of poly)) (size_names params As)) params
 
 -- It as a sum over elements, where something that they hold has a size or a number leaves 128 bits. Such a sum needs no legend.
 pub record IsOverElements (As : List Type') (params : List Text) (poly : Poly) (text meaning : Text) : Type 0 where

@@ -60,11 +60,11 @@ fn in_powers(
 ) -> Result<Reading, AllocError>
     requires { pos 0 <ℤ form.now.den }
     ensures sum { IfOk result (λ reading. string_bytes reading.sum
-        ≡ algebra_text (unsigned_abs form.now.den) (size_names (context_of types.now)) form.now.terms.items) }
+        ≡ algebra_text (unsigned_abs form.now.den) (size_names (texts params.now) (context_of types.now)) form.now.terms.items) }
     ensures legend { IfOk result (λ reading. string_bytes reading.legend
-        ≡ legend_text (used_names form.now.terms.items (size_names (context_of types.now))) (texts params.now)) }
+        ≡ legend_text (used_names form.now.terms.items (size_names (texts params.now) (context_of types.now))) (texts params.now)) }
 {
-    let names = size_names(alloc, types)?;
+    let names = size_names(alloc, types, params)?;
     let mut sum = String::new(alloc);
     push_algebra(&mut sum, form, &names)?;
     let used = used_names(alloc, &form.terms, &names)?;

@@ -66,6 +66,16 @@ fn list_of_numbers(rt: HostRuntime) -> Result<(), Fail> {
 }
 
 #[test]
+fn list_called_by_a_letter(rt: HostRuntime) -> Result<(), Fail> {
+    let types = vec![in rt.alloc(); list(rt.alloc(), Ty::Int)?]?;
+    assert_eq!(rt;
+        readings(rt.alloc(), &types, "n")?.as_str(),
+        "3/2 ()\n3/2·m (m = |n|)\n3/4·m² - 3/4·m (m = |n|)\n"
+    );
+    Ok(())
+}
+
+#[test]
 fn list_of_lists(rt: HostRuntime) -> Result<(), Fail> {
     let types = vec![in rt.alloc(); list(rt.alloc(), list(rt.alloc(), Ty::Int)?)?]?;
     assert_eq!(rt;
