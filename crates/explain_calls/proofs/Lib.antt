@@ -1,2 +1,4 @@
-mod Parts
+mod Behind
 mod Same
+mod Places
+mod Analysing

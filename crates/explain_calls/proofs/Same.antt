@@ -1,6 +1,9 @@
 -- What fits alike is told alike.
-use Rattle.std.proofs.Common.{◌≡◌, refl, ℕ, Bool, true, false, List, [], ◌∷◌, Option, Result}
+use Rattle.std.proofs.Common.{◌≡◌, ◌<◌, refl, arith, ℕ, zero, suc, Bool, true, false, List, [], ◌∷◌, length, map, Option, Result}
+use Rattle.std.specs.Prelude.{◌&&◌, ◌||◌, is_ok, slice_index_or}
 use Rattle.raml_syntax.specs.Tree.{Text, Type', Function, Prog}
+use Rattle.raml_syntax.specs.Read.{function_of}
+use Rattle.raml_syntax.specs.declared.program.Fun.{Fun}
 use Rattle.explain_at.specs.Asked.{Fault}
 use Rattle.explain_at.specs.Read.{names_and_types}
 use Rattle.explain_bounds.specs.Told.{Told}
@@ -24,3 +27,24 @@ module _ (P : Prog) (name : Option Text) (width : Option ℕ) (fit other : List 
   pub same_fits : (gs : Prog) → fits_some name fit gs ≡ fits_some name other gs
   same_fits [] = refl
   same_fits (g ∷ gs) = rw (e (names_and_types g.params), same_fits gs) refl
+
+either : (b c : Bool) → c ≡ true → (b || c) ≡ true
+either true c is = refl
+either false c is = is
+
+first_of : (b c : Bool) → b ≡ true → (b || c) ≡ true
+first_of true c is = refl
+first_of false c is = absurd (cc is)
+
+both : (b c : Bool) → b ≡ true → c ≡ true → (b && c) ≡ true
+both true c is also = also
+both false c is also = absurd (cc is)
+
+-- a function that is asked for has sizes that fit
+pub fits_at : (name : Option Text) (fit : List (Text × Type') → Result Told Fault) (funs : List Fun) (i : ℕ) (fun : Fun) → fun ≡ slice_index_or funs i fun → i < length funs →
+    is_asked name (function_of fun) ≡ true → is_ok (fit (names_and_types (function_of fun).params)) ≡ true → fits_some name fit (map function_of funs) ≡ true
+fits_at name fit [] i fun is below asked fits = absurd (omega (arith, below))
+fits_at name fit (x ∷ funs) zero fun is below asked fits =
+    first_of _ (fits_some name fit (map function_of funs)) (both _ _ (rw is at asked) (rw is at fits))
+fits_at name fit (x ∷ funs) (suc i) fun is below asked fits =
+    either _ _ (fits_at name fit funs i fun is (omega (arith, below)) asked fits)

@@ -1,5 +1,5 @@
 // The analyses of a program, and what they find.
-ghost use Rattle.std.specs.Prelude.{◌≡◌, ◌≤◌, ◌++◌, ◌×◌, Result, Option, true, false, List, IfOk, OnOk, string_bytes};
+ghost use Rattle.std.specs.Prelude.{◌≡◌, ◌≤◌, ◌++◌, Result, Option, true, false, List, IfOk, OnOk, string_bytes};
 ghost use Rattle.raml_syntax.specs.Tree.{Text, Type'};
 ghost use Rattle.raml_syntax.specs.Read.{program_of};
 ghost use Rattle.refusals.specs.Refusals.{names_in};
