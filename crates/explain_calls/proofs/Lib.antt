@@ -2,3 +2,4 @@ mod Behind
 mod Same
 mod Places
 mod Analysing
+mod Calling

@@ -1,5 +1,4 @@
 -- How bounds are shown, as the code has it.
-use Rattle.std.specs.Prelude.{ℕ}
 use Rattle.explain_bounds.specs.Told.{told}
 use Rattle.explain_words.specs.Spelled.{lent}
 use Rattle.explain_calls.specs.Told as t

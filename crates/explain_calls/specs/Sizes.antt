@@ -1,5 +1,5 @@
 -- The sizes that are asked for, and the functions that have them.
-use Rattle.std.specs.Prelude.{◌≡◌, ◌&&◌, Bool, true, Option, Some, None, List, [], Result, Ok, is_ok, map}
+use Rattle.std.specs.Prelude.{◌&&◌, Bool, true, Option, Some, None, List, [], Result, Ok, is_ok}
 use Rattle.std.specs.List.{list_any}
 use Rattle.std.specs.Str.{bytes_eq}
 use Rattle.raml_syntax.specs.Tree.{Text, Type', Function, Prog}

@@ -1,5 +1,5 @@
 -- The text of `explain bounds`.
-use Rattle.std.specs.Prelude.{◌≡◌, ℕ, Bool, true, false, cond, Option, Some, None, List, [], ◌∷◌, ◌++◌, Result, Ok, Err, codes, decimal}
+use Rattle.std.specs.Prelude.{◌≡◌, ℕ, Bool, true, false, Option, Some, None, List, [], ◌∷◌, ◌++◌, Result, Ok, Err, codes, decimal}
 use Rattle.raml_syntax.specs.Tree.{Text, Type', Function, Prog}
 use Rattle.explain_at.specs.Asked.{Fault}
 use Rattle.explain_at.specs.Read.{names_and_types}

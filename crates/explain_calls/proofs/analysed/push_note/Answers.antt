@@ -1,4 +1,3 @@
-use Rattle.std.proofs.Common.{◌∙◌}
 use Rattle.refusals.specs.Refusals.{names_in}
 use Rattle.explain_calls.proofs.Behind.{line_is}
 use Rattle.explain_calls.proofs.analysed.push_note.Goals as goal

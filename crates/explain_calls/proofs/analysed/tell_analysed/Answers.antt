@@ -1,4 +1,4 @@
-use Rattle.std.proofs.Common.{refl, sym, [], ◌++◌}
+use Rattle.std.proofs.Common.{refl, sym, []}
 use Rattle.std.proofs.lemmas.List.{append-nil}
 use Rattle.refusals.specs.Refusals.{names_in}
 use Rattle.share_normal.specs.Program.{source_in}

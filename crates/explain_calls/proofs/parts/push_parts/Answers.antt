@@ -1,4 +1,4 @@
-use Rattle.std.proofs.Common.{◌≡◌, ◌<◌, ◌≤◌, refl, sym, ap, ◌∙◌, [], ◌∷◌, ◌++◌, ◌+◌, drop, length, string_bytes, arith}
+use Rattle.std.proofs.Common.{◌<◌, ◌≤◌, sym, ap, ◌∙◌, [], ◌∷◌, ◌++◌, ◌+◌, drop, length, string_bytes, arith}
 use Rattle.std.proofs.lemmas.List.{drop_all, drop_more, append_assoc, append-nil, length-map, map-id}
 use Rattle.raml_syntax.specs.Read.{program_of, function_of}
 use Rattle.explain_calls.specs.Read.{showing_in}
@@ -32,7 +32,7 @@ loop-place-preserved c =
     let below : i < length funs = omega (arith, c.loop-place-test.true, c.requires.count, long) in
     let next = drop_more all i found c.loop-place-test.true ∙ ap (λ first. first ∷ drop (i + 1) all) (sym c.index-findings-place.is) in
     let are = one_more P (showing_in c.args.showing.now) P (drop i P) (drop (i + 1) P) all (drop i all) (drop (i + 1) all) (function_of fun) found so_far.0 told.0
-        (from_place function_of funs i fun c.index-fun.ensures below) next so_far.1 told.1 in
+    (from_place function_of funs i fun c.index-fun.ensures below) next so_far.1 told.1 in
     (so_far.0 ++ told.0, are, told.2 ∙ ap (λ text. text ++ told.0) so_far.2 ∙ append_assoc (string_bytes c.args.text.now) so_far.0 told.0)
 
 pub returns : goal.returns

@@ -1,4 +1,4 @@
-use Rattle.std.proofs.Common.{refl, sym, ap, ◌∙◌, [], ◌∷◌, ◌++◌, ◌+◌, drop, string_bytes, arith}
+use Rattle.std.proofs.Common.{sym, ap, ◌∙◌, [], ◌∷◌, ◌++◌, ◌+◌, drop, string_bytes}
 use Rattle.std.proofs.lemmas.List.{drop_all, drop_more, append_assoc, append-nil}
 use Rattle.explain_at.specs.Read.{texts}
 use Rattle.explain_calls.proofs.Behind.{is_shown, one_shown, all_shown}
@@ -19,7 +19,7 @@ loop-line-preserved c =
     let shown = rw c.deref.ensures at (is_shown c.args.width c.map-columns.result c.deref.result.now broken c.map-columns.ensures.variant c.in_ok-broken.ensures.wrapped c.in_ok-broken.ensures.whole) in
     let pushed = rw c.deref-in-loop-line.ensures at c.in_ok-push_str.ensures.bytes in
     let text = c.in_ok-push.ensures.bytes ∙ ap (λ text. text ++ 10 ∷ []) (pushed ∙ ap (λ text. text ++ broken) so_far.2)
-        ∙ append_assoc (string_bytes c.args.text.now ++ so_far.0) broken (10 ∷ []) ∙ append_assoc (string_bytes c.args.text.now) so_far.0 (broken ++ 10 ∷ []) in
+    ∙ append_assoc (string_bytes c.args.text.now ++ so_far.0) broken (10 ∷ []) ∙ append_assoc (string_bytes c.args.text.now) so_far.0 (broken ++ 10 ∷ []) in
     (so_far.0 ++ (broken ++ 10 ∷ []), one_shown c.args.width (texts lines) (texts (drop i lines)) (texts (drop (i + 1) lines)) (string_bytes line) so_far.0 broken (ap texts next) so_far.1 shown, text)
 
 pub returns : goal.returns
