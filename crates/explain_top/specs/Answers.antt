@@ -9,7 +9,7 @@ use Rattle.explain_check.specs.declared.verdict.Verdict.TheVariants as v
 use Rattle.explain_data.specs.Data.{CallIs}
 use Rattle.explain_data.specs.declared.finding.Finding.{Finding}
 use Rattle.explain_data.specs.declared.finding.Finding.TheVariants as f
-use Rattle.explain_calls.specs.Calls.{CallIs}
+use Rattle.explain_calls.specs.Calls as calls
 use Rattle.explain_calls.specs.declared.end.End.{End}
 use Rattle.explain_calls.specs.declared.end.End.TheVariants as e
 use Rattle.explain_words.specs.Asking.{Asks, AsksToShow, AsksNothing}
@@ -72,7 +72,7 @@ width_or None columns = columns
 abbrev pub AreBoundsTold : Store → BoundsWords → Option ℕ → Sink → Sink → Status → Type 0
 AreBoundsTold store words columns out err status =
     (LacksMemory err status × GainsNothing out)
-    ⊎ ((end : End) × (text : Text) × (report : Text) × CallIs store words (width_or words.width columns) end text report
+    ⊎ ((end : End) × (text : Text) × (report : Text) × calls.CallIs store words (width_or words.width columns) end text report
     × Puts text out (status_at end) status × Writes report err)
 
 -- what a request asks for is done, where lines that go to out have at most so many columns

@@ -3,8 +3,8 @@ ghost use Rattle.std.specs.Prelude.{◌≡◌, ◌≤◌};
 ghost use Rattle.raml_syntax.specs.Tree.{Text};
 ghost use Rattle.explain_check.specs.Stores.{store_of};
 ghost use Rattle.explain_words.specs.Laws.{AreInRange, IsInRange};
-ghost use Rattle.explain_top.specs.Answers.{IsAnswer, AreBoundsTold, IsChecked, IsDataChecked, LacksMemory};
-ghost use Rattle.explain_top.specs.Sinks.{sink_of};
+ghost use Rattle.explain_top.specs.Answers.{width_or, IsAnswer, AreBoundsTold, IsChecked, IsDataChecked, LacksMemory, Puts};
+ghost use Rattle.explain_top.specs.Sinks.{sink_of, Writes};
 
 use crate::status::Status;
 use explain_calls::tell_bounds;
@@ -61,16 +61,37 @@ fn bounds<S: Store, O: Sink, E: Sink>(
 {
     let mut text = String::new(alloc);
     let mut report = String::new(alloc);
-    let width = words.width.or(columns);
+    let width = width_or(words.width, columns);
     match tell_bounds(alloc, store, words, width, &mut text, &mut report) {
         Ok(end) => {
-            let _ = put_all(err, report.as_bytes());
-            match put_all(out, text.as_bytes()) {
-                Ok(()) => Status::from(end),
-                Err(_) => Status::WriteFault,
-            }
+            write_report(err, &report);
+            put_text(out, &text, Status::from(end))
         }
         Err(AllocError) => no_memory(err),
+    }
+}
+
+/// The width that the words tell, or else that of the terminal.
+fn width_or(width: Option<u32>, columns: Option<u32>) -> Option<u32>
+    ensures { result ≡ width_or width columns }
+{
+    width.or(columns)
+}
+
+/// Writes a report of what is wrong.
+fn write_report<E: Sink>(err: &mut E, report: &str)
+    ensures { Writes report.now (sink_of (E.faults err.old) (E.faults err.new) (E.written err.old) (E.written err.new)) }
+{
+    let _ = put_all(err, report.as_bytes());
+}
+
+/// Writes what was asked for. The status is that of the call, or that out was not written as a whole.
+pub(crate) fn put_text<O: Sink>(out: &mut O, text: &str, done: Status) -> Status
+    ensures { Puts text.now (sink_of (O.faults out.old) (O.faults out.new) (O.written out.old) (O.written out.new)) done result }
+{
+    match put_all(out, text.as_bytes()) {
+        Ok(()) => done,
+        Err(_) => Status::WriteFault,
     }
 }
 
