@@ -1,9 +1,10 @@
 // The commands, as `clap` has them.
 ghost use Rattle.std.specs.Prelude.{◌≡◌, IfOk};
 ghost use Rattle.clap.specs.Simple.{app_of};
-ghost use Rattle.explain_words.specs.Apps.{bare, app, operand_rule, option_rule, flag_rule, IsArg};
+ghost use Rattle.explain_words.specs.Apps.{bare, app, operand_rule, perhaps_rule, option_rule, flag_rule, IsArg};
 
 mod bounds;
+mod budget;
 mod check;
 
 use clap::{Arg, ArgAction, Command};
@@ -18,7 +19,8 @@ pub fn program<'a>(alloc: Global) -> Result<Command<'a>, AllocError>
 {
     let command = bare(alloc);
     let with_check = command.subcommand(check::command(alloc)?)?;
-    with_check.subcommand(bounds::command(alloc)?)
+    let with_bounds = with_check.subcommand(bounds::command(alloc)?)?;
+    with_bounds.subcommand(budget::command(alloc)?)
 }
 
 fn bare<'a>(alloc: Global) -> Command<'a>
@@ -40,6 +42,13 @@ fn operand<'a>(alloc: Global, id: &'a str, name: &'a str, help: &'a str) -> Arg<
         .value_name(name)
         .help(help)
         .required(true)
+}
+
+/// An operand that may be left out.
+fn perhaps<'a>(alloc: Global, id: &'a str, name: &'a str, help: &'a str) -> Arg<'a>
+    ensures { IsArg (perhaps_rule id.entry.now) result }
+{
+    Arg::new(alloc, id).value_name(name).help(help)
 }
 
 /// An option with one value, by its long name.

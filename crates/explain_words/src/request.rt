@@ -8,6 +8,7 @@ ghost use Rattle.explain_words.specs.Commands.{texts};
 ghost use Rattle.explain_words.specs.Asking.{command_named, MeansBy, Means, Asks, GivesNone, IsTold, RefusesAll};
 
 pub mod bounds;
+mod budget;
 mod check;
 
 use crate::commands::program;
@@ -32,6 +33,20 @@ pub enum Request<'a> {
     },
     /// Say what bounds the functions of a program have.
     Bounds(BoundsWords<'a>),
+    /// Say which of the bounds that the file `bounds` declares of the program in `file` are kept.
+    Budget {
+        file: &'a str,
+        bounds: &'a str,
+        degree: Option<u8>,
+        json: bool,
+    },
+    /// Write the bounds of the program in `file` to the file `bounds`, over one that is there only where `force` is set.
+    WriteBudget {
+        file: &'a str,
+        bounds: &'a str,
+        degree: Option<u8>,
+        force: bool,
+    },
 }
 
 /// Why words give no request.
@@ -105,6 +120,7 @@ fn asked_of<'a>(
     match name {
         "check" => check::asked(alloc, found),
         "bounds" => bounds::asked(alloc, found),
+        "budget" => budget::asked(alloc, found),
         _ => Err(Mistake::NoCommand.told(alloc)),
     }
 }

@@ -1,4 +1,5 @@
 mod bounds;
+mod budget;
 
 use crate::{Request, VERSION, WordsFault, read_words};
 use std::test::Fail;
