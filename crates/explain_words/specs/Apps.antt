@@ -78,6 +78,9 @@ budget_app =
     with_rule (with_rule (with_rule budget_files (option_rule (codes "degree")))
     (flag_rule (codes "json"))) (flag_rule (codes "force"))
 
+abbrev pub verify_app : App
+verify_app = with_rule (with_rule (new_app (codes "verify")) (operand_rule (codes "file"))) (operand_rule (codes "certificate"))
+
 -- the program before it has commands
 abbrev pub bare : App
 bare = on_top (λ s. record s {
@@ -87,5 +90,9 @@ bare = on_top (λ s. record s {
   subcommand_required = true;
 }) (new_app (codes "explain"))
 
+-- with its first commands
+abbrev pub begun : App
+begun = with_subcommand (with_subcommand bare check_app.top) bounds_app.top
+
 abbrev pub app : App
-app = with_subcommand (with_subcommand (with_subcommand bare check_app.top) bounds_app.top) budget_app.top
+app = with_subcommand (with_subcommand begun budget_app.top) verify_app.top

@@ -6,7 +6,7 @@ use Rattle.std.specs.Borrow.{Bor}
 use Rattle.clap.specs.Walk.{Row, Text, all_of, first_of}
 use Rattle.explain_words.specs.Spelled.{lent, degree_in, width_in, within_in}
 use Rattle.explain_words.specs.declared.request.Request.{Request}
-use Rattle.explain_words.specs.declared.request.Request.TheVariants.{Check, CheckData, Bounds, Budget, WriteBudget}
+use Rattle.explain_words.specs.declared.request.Request.TheVariants.{Check, CheckData, Bounds, Budget, WriteBudget, Verify}
 use Rattle.explain_words.specs.declared.request.bounds.BoundsWords.{BoundsWords}
 use Rattle.explain_words.specs.declared.request.budget.Aim.{Aim as Aim'}
 use Rattle.explain_words.specs.declared.request.budget.Aim.TheVariants as aim
@@ -93,3 +93,9 @@ abbrev pub MeansBudget : List Row → Request → Type 0
 MeansBudget rows (Budget file bounds degree json) = AreBudget rows file.now degree (Keep bounds.now json)
 MeansBudget rows (WriteBudget file bounds degree force) = AreBudget rows file.now degree (Write bounds.now force)
 MeansBudget rows other = ⊥
+
+-- what `verify` asks for
+abbrev pub MeansVerify : List Row → Request → Type 0
+MeansVerify rows (Verify file certificate) =
+    (first_of (codes "file") rows ≡ Some file.now) × (first_of (codes "certificate") rows ≡ Some certificate.now)
+MeansVerify rows other = ⊥

@@ -1,11 +1,12 @@
 // The commands, as `clap` has them.
 ghost use Rattle.std.specs.Prelude.{◌≡◌, IfOk};
 ghost use Rattle.clap.specs.Simple.{app_of};
-ghost use Rattle.explain_words.specs.Apps.{bare, app, operand_rule, perhaps_rule, option_rule, flag_rule, IsArg};
+ghost use Rattle.explain_words.specs.Apps.{bare, begun, app, operand_rule, perhaps_rule, option_rule, flag_rule, IsArg};
 
 mod bounds;
 mod budget;
 mod check;
+mod verify;
 
 use clap::{Arg, ArgAction, Command};
 use std::alloc::{AllocError, Global};
@@ -17,10 +18,18 @@ pub const VERSION: &str = "1.0.0";
 pub fn program<'a>(alloc: Global) -> Result<Command<'a>, AllocError>
     ensures { IfOk result (λ command. app_of command ≡ app) }
 {
+    let command = begun(alloc)?;
+    let with_budget = command.subcommand(budget::command(alloc)?)?;
+    with_budget.subcommand(verify::command(alloc)?)
+}
+
+// With its first commands.
+fn begun<'a>(alloc: Global) -> Result<Command<'a>, AllocError>
+    ensures { IfOk result (λ command. app_of command ≡ begun) }
+{
     let command = bare(alloc);
     let with_check = command.subcommand(check::command(alloc)?)?;
-    let with_bounds = with_check.subcommand(bounds::command(alloc)?)?;
-    with_bounds.subcommand(budget::command(alloc)?)
+    with_check.subcommand(bounds::command(alloc)?)
 }
 
 fn bare<'a>(alloc: Global) -> Command<'a>

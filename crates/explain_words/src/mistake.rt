@@ -27,6 +27,8 @@ pub enum Mistake {
     Force,
     /// `--json` stands where a file is to be written.
     Json,
+    /// There is no certificate.
+    NoCertificate,
 }
 
 impl Mistake {
@@ -56,6 +58,7 @@ impl Mistake {
                 "error: '--write <BOUNDS>' can't stand with another file BOUNDS\n",
             Mistake::Force => "error: '--force' stands with '--write <BOUNDS>' alone\n",
             Mistake::Json => "error: '--json' can't stand with '--write <BOUNDS>'\n",
+            Mistake::NoCertificate => "error: no certificate is given\n",
         }
     }
 }

@@ -10,6 +10,7 @@ ghost use Rattle.explain_words.specs.Asking.{command_named, MeansBy, Means, Asks
 pub mod bounds;
 mod budget;
 mod check;
+mod verify;
 
 use crate::commands::program;
 use crate::mistake::Mistake;
@@ -46,6 +47,11 @@ pub enum Request<'a> {
         bounds: &'a str,
         degree: Option<u8>,
         force: bool,
+    },
+    /// Say whether the certificate in a file holds of the program in `file`.
+    Verify {
+        file: &'a str,
+        certificate: &'a str,
     },
 }
 
@@ -121,6 +127,7 @@ fn asked_of<'a>(
         "check" => check::asked(alloc, found),
         "bounds" => bounds::asked(alloc, found),
         "budget" => budget::asked(alloc, found),
+        "verify" => verify::asked(alloc, found),
         _ => Err(Mistake::NoCommand.told(alloc)),
     }
 }
