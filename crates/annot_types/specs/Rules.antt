@@ -15,15 +15,15 @@ use Rattle.annot_types.specs.Certificate.{Entries, annotation, Annotates, Sig, H
 use Rattle.annot_types.specs.Signature.{sig_among, sig_in, free_budget, or_else, cost_sig}
 use Rattle.annot_types.specs.Carried.{Covers, less, more, rebudgeted, at_operands, at_parts, tuples, part, joined}
 
--- With a meter prices are paid. In the other two modes none are: in mode Own a call of the present block's group takes
--- the block's signature, and in mode Past no call does.
+-- A form is typed with costs, those of a meter, or cost-free. Of the two cost-free modes, in Own a call of a function of the
+-- present group takes the present block's signature, and in Past it takes none.
 pub data Mode : Type 0 where
   With : Meter → Mode
   Own : Mode
   Past : Mode
 
--- where a rule is used: the program, the blocks before the present one, the present group's functions with their
--- signatures, the present block's budget, and the scale of the prices
+-- What all rules of a block share: the program, the blocks before the present one, the functions of the present group with
+-- their signatures, the present block's budget, and the scale of the prices.
 pub record Setting : Type 0 where
   pub program : Program
   pub earlier : List Block
@@ -38,7 +38,7 @@ pub record Taken : Type 0 where
   pub sig : Sig
   pub times : ℕ
 
--- The next hint is a Let's, a Share's or a Call's, and then come the rest.
+-- The first hint is that of a Let, a Share or a Call, and the rule is about it and the hints behind it.
 abbrev pub TakesLet : List Hint → (List Entries → List Hint → Type 0) → Type 0
 TakesLet (Let rs ∷ rest) rule = rule rs rest
 TakesLet _ rule = ⊥
@@ -51,8 +51,8 @@ abbrev pub TakesCall : List Hint → (Entries → List Hint → Type 0) → Type
 TakesCall (Call multiples ∷ rest) rule = rule multiples rest
 TakesCall _ rule = ⊥
 
--- Of a Let's bound form, whose type is A: for each tuple of the other variables there is a hint, an annotation of its
--- result. The first tuple, that of zero indices, is in the mode, and all others are in mode Past.
+-- The bound form of a Let, of type A, is typed once for each tuple of the other variables, and a hint gives the annotation
+-- of its result. For the first tuple, that of zero indices, it is typed in the given mode, and for all others in mode Past.
 abbrev pub Parts : Type' → ℕ → (Mode → List Plain → Annotation → List Hint → List Hint → Type 0) → Mode → List (List Plain) → List Entries →
     List Hint → List Hint → Type 0
 Parts A d child mode [] [] hs out = hs ≡ out
@@ -64,7 +64,7 @@ Parts A d child mode (j ∷ js) (r ∷ rs) hs out =
 Parts A d child mode _ _ hs out = ⊥
 
 module _ (S : Setting) where
-  -- what a form with so many nodes, ticks and cells has to pay
+  -- the price of a form with so many nodes, ticks and cells
   abbrev pub price : Mode → ℕ → ℕ → ℕ → ℕ
   price (With Ticks) nodes ticks cells = ticks * S.scale
   price (With Cells) nodes ticks cells = cells * S.scale
@@ -72,11 +72,12 @@ module _ (S : Setting) where
   price Own nodes ticks cells = 0
   price Past nodes ticks cells = 0
 
-  -- The number of the zero index pays the price, and the rule speaks of what is left.
+  -- The coefficient of the zero index, which is constant potential, pays the price, and the rule is about what is left.
   abbrev pub Pays : Mode → ℕ → ℕ → ℕ → Annotation → (Annotation → Type 0) → Type 0
   Pays mode nodes ticks cells q rule = (price mode nodes ticks cells ≤ q 0) × rule (less (price mode nodes ticks cells) q)
 
-  -- What a call gets back: a signature pays for a run, and that counts one unit of work more than the body's nodes.
+  -- What a call gets back of its price. The callee's signature pays for a whole run, whose work is one unit more than the nodes
+  -- of the body, and that unit is the node of the call itself.
   abbrev pub refund : Mode → ℕ
   refund (With Work) = S.scale
   refund mode = 0
@@ -85,12 +86,12 @@ module _ (S : Setting) where
   abbrev pub own_sig : ℕ → Option Sig
   own_sig f = sig_among S.group S.sigs f
 
-  -- The signature with cost: the present block's for a function of its group, and for any other that of an earlier block of the meter.
+  -- the signature with costs: that of the present block for a function of its group, and else that of the meter's earlier block
   abbrev pub paid_sig : Meter → ℕ → Option Sig
   paid_sig meter f = or_else (own_sig f) (cost_sig S.program meter S.earlier f)
 
-  -- the signatures that a call takes once: exactly one with cost; in mode Own that of its own group, if it is of the
-  -- group; in mode Past none
+  -- The signatures that a call takes once: with costs exactly one, in mode Own that of the present block if the function is of
+  -- the group, and in mode Past none.
   abbrev pub TakesOnce : Mode → ℕ → List Sig → Type 0
   TakesOnce (With meter) f sigs = (s : Sig) × (paid_sig meter f ≡ Some s) × (sigs ≡ s ∷ [])
   TakesOnce Own f sigs = sigs ≡ option_to_list (own_sig f)
@@ -110,11 +111,11 @@ module _ (S : Setting) where
   AreMultiples d f (m ∷ ms) (taken ∷ more) = IsMultiple d f m taken × AreMultiples d f ms more
   AreMultiples d f _ _ = ⊥
 
-  -- all signatures that a call takes; those of the present block and those with cost stand at the block's budget
+  -- all signatures that a call takes; those that it takes once stand at the block's budget
   abbrev pub all_taken : List Sig → List Taken → List Taken
   all_taken sigs multiples = map (λ s. record { budget = S.budget; sig = s; times = 1 }) sigs ++ multiples
 
-  -- what they ask of the operands, as an annotation of the context, and what they leave of the result
+  -- the potential that they ask of the operands, as an annotation of the context, and the one that they give to the result
   abbrev pub asked : Context → List ℕ → List Type' → ℕ → List Taken → Annotation
   asked C xs As d all k = total (λ (t : Taken). t.times * at_operands C xs As t.budget d (annotation t.sig.args) k) all
 
@@ -133,17 +134,16 @@ module _ (S : Setting) where
     pub args : Covers (types C) d (more (refund mode) q) (asked C xs (types fun.params) d (all_taken once multiples))
     pub result : Covers (T ∷ []) d (left T d (all_taken once multiples)) r
 
-  -- The result has the zero index alone, or is empty, where the base polynomials of all other indices are 0.
+  -- The form gives a number, a truth value or an empty value: there all base polynomials but that of the zero index are 0.
   abbrev pub AtZero : Mode → ℕ → Annotation → Annotation → List Hint → List Hint → Type 0
   AtZero m k q r hs out = Pays m k 0 0 q (λ q. r 0 ≤ q 0) × (hs ≡ out)
 
-  -- A cell is built of these variables, which have what taking the result apart would give them.
+  -- The form builds a cell of these variables, and their potential is what they would get if the result were taken apart.
   abbrev pub Builds : Mode → ℕ → Context → Annotation → ℕ → List ℕ → Type' → Annotation → List Hint → List Hint → Type 0
   Builds m d C q k xs T r hs out = Pays m k 0 1 q (λ q. Covers (types C) d q (at_parts C xs T d r)) × (hs ≡ out)
 
-  -- In this mode and at budget d, the annotation q of the context C and the annotation r of the form's result, of type
-  -- T, fit the form. Its hints are taken from the front of `hs`, in the order of the walk, and `out` is what is left of
-  -- them.
+  -- The typing judgement. In this mode and at budget d, q is an annotation of the context C, and r one of the form's result, of
+  -- type T. The form takes its hints from the front of `hs`, in the order of the walk, and leaves `out`.
   abbrev pub Ann : Mode → ℕ → Context → Annotation → Norm → Type' → Annotation → List Hint → List Hint → Type 0
   -- the variable is the whole context
   Ann m d C q (n.Var k x) T r hs out = Pays m k 0 0 q (λ q. Covers (types C) d q r) × (hs ≡ out)
@@ -162,7 +162,7 @@ module _ (S : Setting) where
   Ann m d C q (n.Node k x y z) T r hs out = Builds m d C q k (x ∷ y ∷ z ∷ []) T r hs out
   Ann m d C q (n.Just k x) T r hs out = Builds m d C q k (x ∷ []) T r hs out
   Ann m d C q (n.Call k f xs) T r hs out = Pays m k 0 0 q (λ q. TakesCall hs (λ hint rest. CallRule m d C q f xs T r hint × (rest ≡ out)))
-  -- The bound form is walked once for each tuple of the other variables, and then the rest.
+  -- the bound form, once for each tuple of the other variables, and then the rest
   Ann m d C q (n.Let k x A a b) T r hs out = Pays m k 0 0 q (λ q. TakesLet hs (λ rs rest. (between : List Hint)
       × Parts A d (λ m j s hs out. Ann m (d - degrees j) (inners a C)
       (part a C d j q) a A s hs out) m (tuples (others a C) d) rs rest between
@@ -173,7 +173,8 @@ module _ (S : Setting) where
   Ann m d C q (n.If k x a b) T r hs out = Pays m k 0 0 q (λ q. (between : List Hint)
       × Ann m d (without x C) (moved (leaving (types C) (place x C) d) q) a T r hs between
       × Ann m d (without x C) (moved (leaving (types C) (place x C) d) q) b T r between out)
-  -- Of a match, the branch of the empty value has the entries of its zero index, and the other branch those of the parts.
+  -- In a match, the branch of the empty value gets the potential at the zero index of the subject, and the other branch that
+  -- of its parts.
   Ann m d C q (n.CaseList k x a h t b) T r hs out = Pays m k 0 0 q (λ q. (between : List Hint)
       × Ann m d (without x C) (moved (leaving (types C) (place x C) d) q) a T r hs between
       × Ann m d (opened x (h ∷ t ∷ []) parts_of C) (moved (opening (types C) (place x C) d) q) b T r between out)
@@ -184,7 +185,8 @@ module _ (S : Setting) where
       × Ann m d (without x C) (moved (leaving (types C) (place x C) d) q) a T r hs between
       × Ann m d (opened x (y ∷ []) parts_of C) (moved (opening (types C) (place x C) d) q) b T r between out)
   Ann m d C q (n.Tick k i a) T r hs out = Pays m k i 0 q (λ q. Ann m d C q a T r hs out)
-  -- The hint is an annotation of the context with both copies, which the old one covers as products of indices are counted.
+  -- The hint is an annotation of the context with both copies. Products of their base polynomials are sums of those of the
+  -- variable, and so the old annotation covers it.
   Ann m d C q (n.Share k x y z a) T r hs out = Pays m k 0 0 q (λ q. TakesShare hs (λ p rest.
       Annotates (types (opened x (y ∷ z ∷ []) copies_of C)) d p
       × Covers (types C) d q (moved (sharing (types C) (place x C) d) (annotation p))

@@ -52,35 +52,35 @@ trial_limits = record { steps = 10000000; cells = usual_cells }
 abbrev pub IsTextOf : Certificate → Text → Type 0
 IsTextOf c text = (text ≡ text_of c ++ codes "\n") × (length text ≤ most_bytes which.Certificate → IsFile text c)
 
--- the bounds of a run at its arguments
+-- the lines of a run's bounds, which are numbers at its arguments
 abbrev pub bound_lines : Floors → Text
 bound_lines floors = run_bound_lines (floors Ticks) (floors Cells) (floors Work)
 
--- ---- the commands, each of a program: what a side promises of them
+-- ---- what each command answers for a program; one definition for both sides, soundness and completeness
 
 module _ (side : Side) where
-  -- the types of its functions, and their code
+  -- the types of its functions; and their code
   abbrev pub ListsTypes : Prog → Answer → Type 0
   ListsTypes P = Prints side (λ text. text ≡ type_lines P)
 
   abbrev pub ListsCode : Prog → Answer → Type 0
   ListsCode P = Prints side (λ text. text ≡ code_text P)
 
-  -- the lines of a certificate, each function's in the order of the source; and its text
+  -- the lines of a certificate, function by function in the order of the source; and its text
   abbrev pub PrintsLines : Prog → Program → Certificate → Answer → Type 0
   PrintsLines P N c = Prints side (AreLines P N c)
 
   abbrev pub PrintsCertificate : Certificate → Answer → Type 0
   PrintsCertificate c = Prints side (IsTextOf c)
 
-  -- The lines of the certificate of the course of its analysis, and the certificate.
+  -- `analyse` prints the lines of the certificate with which the analysis ends, and `certify` the certificate.
   abbrev pub Analyses : ℕ → Rule → Prog → Answer → Type 0
   Analyses degree rule P = OfNormal P (λ N. OfCourse side analysed.Program P N degree rule (PrintsLines P N))
 
   abbrev pub Certifies : ℕ → Rule → Prog → Answer → Type 0
   Certifies degree rule P = OfNormal P (λ N. OfCourse side analysed.Program P N degree rule PrintsCertificate)
 
-  -- A run with its bounds at the arguments, which tell how many cells it may take where the words do not.
+  -- A run, with its bounds at the arguments. Where the words do not limit its cells, the bound of cells does.
   abbrev pub RunsBounded : Prog → Placed → List Value → ℕ → Option ℕ → Floors → Answer → Type 0
   RunsBounded P f args steps cells floors =
       Runs side P f args (record { steps = steps; cells = cells_or cells (floors Cells) }) [] (bound_lines floors)
@@ -89,24 +89,24 @@ module _ (side : Side) where
   BoundedCall steps cells degree P f args = OfNormal P (λ N. OfCourse side analysed.Program P N degree rule.Least (λ c.
       OfFloors side P N c f args (RunsBounded P f args steps cells)))
 
-  -- The lines of ticks of a program under a table of prices.
+  -- the bounds of ticks of a program under a table of prices
   abbrev pub PricesLines : ℕ → Prog → Prices → Answer → Type 0
   PricesLines degree P prices = OfNormal (applied_program prices P) (λ N.
       OfCourse side analysed.Program (applied_program prices P) N degree rule.Least (λ c. Prints side (ArePricedLines prices P N c)))
 
-  -- How the bounds of a program stand to those of another.
+  -- the bounds of a program compared with those of another one
   abbrev pub ComparesWith : ℕ → Prog → Program → Certificate → Prog → Answer → Type 0
   ComparesWith degree P N c Q = OfNormal Q (λ M.
       OfCourse side analysed.Other Q M degree rule.Least (λ e. Prints side (AreComparisons P N c Q M e)))
 
-  -- The bounds of flat functions as powers of element counts.
+  -- the bounds of flat functions, in powers of numbers of elements
   abbrev pub PrintsPowers : Prog → Program → Certificate → Answer → Type 0
   PrintsPowers P N c = Test (names_of P N) (PowersRefuse P N c) (ArePowersFitting P N c) (Prints side (ArePowerLines P N c))
 
   abbrev pub ShowsPowers : ℕ → Prog → Answer → Type 0
   ShowsPowers degree P = OfNormal P (λ N. OfCourse side analysed.Program P N degree rule.Least (PrintsPowers P N))
 
-  -- Of a made program: how many functions it has, the lines of the last one, and its run.
+  -- `trial` makes a program, and prints how many functions it has, the lines of the last one, and a run of that.
   abbrev pub RunsTrial : ℕ → Prog → Program → Certificate → Placed → List Value → Answer → Type 0
   RunsTrial count P N c f args = Runs side P f args trial_limits (functions_line count ++ lines_text P (lines_of N c f.0)) []
 
@@ -116,20 +116,20 @@ module _ (side : Side) where
   abbrev pub Tries : ℕ → Prog → Answer → Type 0
   Tries count P = OfNormal P (λ N. OfCourse side analysed.Program P N 1 rule.Least (TriesCall count P N))
 
-  -- Of files in a store.
+  -- commands that read more files than the program
   module _ (store : Store) where
-    -- The lines of a certificate that is read.
+    -- the lines of a certificate that a file has
     abbrev pub Verifies : Text → Prog → Answer → Type 0
     Verifies file P = OfCertificate side store file (λ c. OfNormal P (λ N. OfCheck side P N c (PrintsLines P N c)))
 
-    -- A run within limits; and one with its bounds.
+    -- a run within limits; and one with its bounds
     abbrev pub RunsWithin : Text → Text → Limits → Prog → Answer → Type 0
     RunsWithin name file limits P = OfCall side store P name file (λ f args. Runs side P f args limits [] [])
 
     abbrev pub RunsWithBounds : Text → Text → ℕ → Option ℕ → ℕ → Prog → Answer → Type 0
     RunsWithBounds name file steps cells degree P = OfCall side store P name file (BoundedCall steps cells degree P)
 
-    -- The lines under a table of prices; and a run of the program, whose ticks are its cost under the prices.
+    -- the bounds under a table of prices; and a run, with its cost under the prices in the place of ticks
     abbrev pub PricesProgram : Text → ℕ → Prog → Answer → Type 0
     PricesProgram file degree P = OfPrices side store file (PricesLines degree P)
 
@@ -137,17 +137,17 @@ module _ (side : Side) where
     SpendsWithin file name input limits P =
         OfPrices side store file (λ prices. OfCall side store P name input (λ f args. Spends side prices P f args limits))
 
-    -- The program is analysed before the other is read.
+    -- The program is analysed before the other one is read.
     abbrev pub Compares : Text → ℕ → Prog → Answer → Type 0
     Compares file degree P = OfNormal P (λ N. OfCourse side analysed.Program P N degree rule.Least (λ c.
         OfProgram side store analysed.Other file (ComparesWith degree P N c)))
 
-    -- The verdicts of the bounds that a file declares. The file is read before the program is analysed.
+    -- Which of the bounds that a file declares are kept. The file is read before the program is analysed.
     abbrev pub ChecksBounds : Text → ℕ → Prog → Answer → Type 0
     ChecksBounds file degree P = OfBounds side store file P degree (λ declared.
         OfNormal P (λ N. OfCourse side analysed.Program P N degree rule.Least (PrintsVerdicts side P N declared.lines)))
 
-    -- A file spells a typed program.
+    -- of the typed program that a file spells
     abbrev pub OfFileOf : Text → (Prog → Answer → Type 0) → Answer → Type 0
     OfFileOf = OfProgram side store analysed.Program
 
@@ -176,27 +176,28 @@ module _ (side : Side) where
 
 -- ---- how a call ends
 
--- the line is written on err, or a front of it where err's count rises
+-- the line of a status is written to the error stream, or a prefix of it where writing fails there
 abbrev pub Tells : Names → Status → Sink → Type 0
 Tells names status err = Gains (line_of names status) err ⊎ GainsFront (line_of names status) err
 
--- A report is written whole on out, or a front of it where out's count rises. Of a refusal nothing is written there, but its line on err.
+-- A report is written whole to the output, or a prefix of it where writing fails there, which is an ending of its own. A refusal
+-- writes nothing there, and its line to the error stream.
 abbrev pub EndsBy : Outside → Answer → Status → Type 0
 EndsBy o (Report e text) status =
     ((ending_of status ≡ Some e) × Gains text o.out × GainsNothing o.err)
     ⊎ ((status ≡ WriteFault) × GainsFront text o.out × Tells no_names WriteFault o.err)
 EndsBy o (Refusal names e) status = (ending_of status ≡ Some e) × GainsNothing o.out × Tells names status o.err
 
--- Memory was wanting.
+-- memory ran out
 abbrev pub LacksMemory : Outside → Status → Type 0
 LacksMemory o status = (status ≡ NoMemory) × GainsNothing o.out × Tells no_names NoMemory o.err
 
--- Why a call ends so, and what it writes: an answer that is promised, or want of memory.
+-- Soundness: a call that ends with this status, and writes this, ends by an answer that is promised, or memory ran out.
 abbrev pub Cause : Outside → Status → Type 0
 Cause o status = LacksMemory o status ⊎ ((a : Answer) × Comes Sound o a × EndsBy o a status)
 
--- The same ending. Where several numbers are refused at once any one of them may be told: then it is the same task, and
--- the same kind of place.
+-- The same ending. Only where a number overflows is less said: where several would, any one of them may be told, but it is of
+-- the same task and at the same kind of place.
 abbrev pub Alike : Ending → Ending → Type 0
 Alike (Overflows (OnTask task place)) (Overflows (OnTask other last)) = (task ≡ other) × (stage place ≡ stage last)
 Alike (OfOther e) (OfOther other) = Alike e other
@@ -205,15 +206,15 @@ Alike e other = e ≡ other
 abbrev pub EndsAlike : Ending → Status → Type 0
 EndsAlike e status = (other : Ending) × (ending_of status ≡ Some other) × Alike e other
 
--- out's count does not rise, where a report is to be written
+-- the output does not fail, where a report is to be written
 abbrev pub IsWritable : Sink → Answer → Type 0
 IsWritable out (Report e text) = ¬ (Rises out.count)
 IsWritable out (Refusal names e) = Unit {0}
 
--- What is needed for an answer brings it, or want of memory.
+-- Completeness: where all is there that an answer needs, the call ends by that answer, or memory runs out.
 abbrev pub Forced : Outside → Status → Type 0
 Forced o status = (a : Answer) → Comes Complete o a → IsWritable o.out a → (status ≡ NoMemory) ⊎ EndsAlike (ending_in a) status
 
--- Of each call: where its cause is known, what is needed for an answer brings it.
+-- soundness gives completeness: two answers of one call, one promised and one due, end alike
 abbrev pub CausesForce : Type 0
 CausesForce = (o : Outside) (status : Status) → Cause o status → Forced o status
