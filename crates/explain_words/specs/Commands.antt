@@ -1,11 +1,15 @@
 -- What each command asks for, with what `clap` finds for its arguments.
-use Rattle.std.specs.Prelude.{◌≡◌, ℕ, List, [], ◌∷◌, map, Option, Some, None, option_map, unwrap_or, Result, Ok, Err, codes}
+use Rattle.std.specs.Prelude.{◌≡◌, ℕ, Bool, false, List, [], ◌∷◌, map, Option, Some, None, option_map, unwrap_or, Result, Ok, Err, codes}
+use Rattle.std.specs.Option.{option_map_or}
+use Rattle.std.specs.Str.{bytes_eq}
 use Rattle.std.specs.Borrow.{Bor}
 use Rattle.clap.specs.Walk.{Row, Text, all_of, first_of}
 use Rattle.explain_words.specs.Spelled.{lent, degree_in, width_in, within_in}
 use Rattle.explain_words.specs.declared.request.Request.{Request}
-use Rattle.explain_words.specs.declared.request.Request.TheVariants.{Check, CheckData, Bounds}
+use Rattle.explain_words.specs.declared.request.Request.TheVariants.{Check, CheckData, Bounds, Budget, WriteBudget, Verify}
 use Rattle.explain_words.specs.declared.request.bounds.BoundsWords.{BoundsWords}
+use Rattle.explain_words.specs.declared.request.budget.Aim.{Aim as Aim'}
+use Rattle.explain_words.specs.declared.request.budget.Aim.TheVariants as aim
 
 -- the texts that are lent
 abbrev pub texts : List (Bor Text) → List Text
@@ -14,6 +18,10 @@ texts = map (λ (text : Bor Text). text.now)
 -- the values of an argument
 abbrev pub values : Text → List Row → List Text
 values id rows = unwrap_or (all_of id rows) []
+
+-- a flag stands among the words
+abbrev pub is_set : Text → List Row → Bool
+is_set id rows = option_map_or (λ text. bytes_eq text (codes "true")) (first_of id rows) false
 
 -- what a word gives, where there is one
 abbrev pub optional : {A : Type 0} → (Text → Option A) → Option Text → Option (Option A)
@@ -49,7 +57,45 @@ pub record AreBounds (rows : List Row) (asked : BoundsWords) : Type 0 where
   pub at : first_of (codes "at") rows ≡ lent asked.at
   pub within : optional within_in (first_of (codes "within") rows) ≡ Some asked.within
   pub width : optional width_in (first_of (codes "width") rows) ≡ Some asked.width
+  pub json : is_set (codes "json") rows ≡ asked.json
 
 abbrev pub MeansBounds : List Row → Request → Type 0
 MeansBounds rows (Bounds asked) = AreBounds rows asked
 MeansBounds rows other = ⊥
+
+-- it is said which bounds of a file are kept, or they are written to it
+pub data Aim : Type 0 where
+  Keep : Text → Bool → Aim
+  Write : Text → Bool → Aim
+
+abbrev pub plain_aim : Aim' → Aim
+plain_aim (aim.Keep bounds json) = Keep bounds.now json
+plain_aim (aim.Write bounds force) = Write bounds.now force
+
+-- by an operand, the value of `--write`, `--json` and `--force`
+abbrev pub aim_of : Option Text → Option Text → Bool → Bool → Option Aim
+aim_of (Some bounds) None json false = Some (Keep bounds json)
+aim_of None (Some bounds) false force = Some (Write bounds force)
+aim_of operand written json force = None
+
+abbrev pub aim_in : List Row → Option Aim
+aim_in rows =
+    aim_of (first_of (codes "bounds") rows) (first_of (codes "write") rows) (is_set (codes "json") rows) (is_set (codes "force") rows)
+
+-- what is asked for by the file, the degree if one is given, and the aim
+pub record AreBudget (rows : List Row) (source : Text) (most : Option ℕ) (kept : Aim) : Type 0 where
+  pub file : first_of (codes "file") rows ≡ Some source
+  pub degree : optional degree_in (first_of (codes "degree") rows) ≡ Some most
+  pub aimed : aim_in rows ≡ Some kept
+
+-- what `budget` asks for
+abbrev pub MeansBudget : List Row → Request → Type 0
+MeansBudget rows (Budget file bounds degree json) = AreBudget rows file.now degree (Keep bounds.now json)
+MeansBudget rows (WriteBudget file bounds degree force) = AreBudget rows file.now degree (Write bounds.now force)
+MeansBudget rows other = ⊥
+
+-- what `verify` asks for
+abbrev pub MeansVerify : List Row → Request → Type 0
+MeansVerify rows (Verify file certificate) =
+    (first_of (codes "file") rows ≡ Some file.now) × (first_of (codes "certificate") rows ≡ Some certificate.now)
+MeansVerify rows other = ⊥

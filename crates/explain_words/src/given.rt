@@ -2,7 +2,7 @@
 ghost use Rattle.std.specs.Prelude.{◌≡◌, IfOk};
 ghost use Rattle.clap.specs.Walk.{first_of, rows_of};
 ghost use Rattle.clap.specs.Matches.{found_of};
-ghost use Rattle.explain_words.specs.Commands.{texts, values};
+ghost use Rattle.explain_words.specs.Commands.{texts, values, is_set};
 ghost use Rattle.explain_words.specs.Spelled.{lent};
 
 use clap::ArgMatches;
@@ -27,4 +27,14 @@ pub fn text_of<'a>(matches: &ArgMatches<'a>, id: &str) -> Option<&'a str>
     ensures { first_of id.now (rows_of (found_of matches.now)) ≡ lent result }
 {
     matches.get_str(id)
+}
+
+/// Whether a flag stands among the words.
+pub fn is_set(matches: &ArgMatches, id: &str) -> bool
+    ensures { is_set id.now (rows_of (found_of matches.now)) ≡ result }
+{
+    match text_of(matches, id) {
+        Some(text) => text == "true",
+        None => false,
+    }
 }

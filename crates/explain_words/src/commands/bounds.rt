@@ -4,7 +4,7 @@ ghost use Rattle.clap.specs.Simple.{app_of};
 ghost use Rattle.clap.specs.declared.builder.command.Command.TheViews.{out-Command as fields_of};
 ghost use Rattle.explain_words.specs.Apps.{bounds_app, bounds_chosen, bounds_sized};
 
-use super::{operand, option};
+use super::{flag, operand, option};
 use clap::Command;
 use std::alloc::{AllocError, Global};
 
@@ -13,7 +13,13 @@ pub fn command<'a>(alloc: Global) -> Result<Command<'a>, AllocError>
     ensures local { IfOk result (λ command. (fields_of command).has_globals ≡ false) }
 {
     let command = sized(alloc)?;
-    command.arg(option(alloc, "width", "N", "Wraps lines at N columns, 20 to 99999"))
+    let with_width = command.arg(option(
+        alloc,
+        "width",
+        "N",
+        "Wraps lines at N columns, 20 to 99999",
+    ))?;
+    with_width.arg(flag(alloc, "json", "Prints an object of JSON a line"))
 }
 
 // With what is asked at sizes.

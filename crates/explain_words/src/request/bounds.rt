@@ -7,7 +7,7 @@ ghost use Rattle.explain_words.specs.Commands.{AreBounds, MeansBounds, Tells, de
 ghost use Rattle.explain_words.specs.Asking.{RefusesAll};
 
 use super::{Request, WordsFault};
-use crate::given::text_of;
+use crate::given::{is_set, text_of};
 use crate::mistake::Mistake;
 use crate::number::{degree_in, number_in};
 use crate::within::Within;
@@ -29,6 +29,8 @@ pub struct BoundsWords<'a> {
     pub within: Option<Within>,
     /// The width of lines, 20 to 99999.
     pub width: Option<u32>,
+    /// Objects of JSON are printed.
+    pub json: bool,
 }
 
 /// What `bounds` asks for with what is found for its arguments.
@@ -56,6 +58,7 @@ fn words_of<'a>(found: &ArgMatches<'a>) -> Result<BoundsWords<'a>, Mistake>
         at: text_of(found, "at"),
         within,
         width,
+        json: is_set(found, "json"),
     })
 }
 

@@ -9,7 +9,9 @@ fn asks_for_bounds(rt: HostRuntime) -> Result<(), Fail> {
         return Err(Fail::new("no request"));
     };
     assert!(rt; asked.file == "one.raml" && asked.degree == 4 && asked.function.is_none());
-    assert!(rt; asked.at.is_none() && asked.within.is_none() && asked.width.is_none());
+    assert!(rt;
+        asked.at.is_none() && asked.within.is_none() && asked.width.is_none() && !asked.json
+    );
     Ok(())
 }
 
@@ -27,12 +29,13 @@ fn asks_for_bounds_by_options(rt: HostRuntime) -> Result<(), Fail> {
         "cells=170141183460469231731687303715884105728",
         "--width",
         "00080",
+        "--json",
     ];
     let Some(asked) = bounds_asked(rt.alloc(), &words) else {
         return Err(Fail::new("no request"));
     };
     assert!(rt; asked.file == "one.raml" && asked.degree == 2 && asked.function == Some("f"));
-    assert!(rt; asked.at == Some("l=10") && asked.width == Some(80));
+    assert!(rt; asked.at == Some("l=10") && asked.width == Some(80) && asked.json);
     assert!(rt;
         asked.within
             == Some(Within {
@@ -69,6 +72,7 @@ fn refuses_other_words_of_bounds(rt: HostRuntime) -> Result<(), Fail> {
         "--width=19",
         "--width=100000",
         "--width=000080",
+        "--json=true",
         "--other",
         "two.raml",
     ] {
