@@ -6,9 +6,8 @@ use Rattle.call_groups.specs.Groups.{Grouping, IsGrouping}
 use Rattle.rules_soundness_laws.specs.Laws.{normal_of}
 use Rattle.refusals.specs.Line.{Names}
 use Rattle.explain_check.specs.Stores.{Store, error_line}
-use Rattle.explain_check.specs.Checks.{FileIs}
-use Rattle.explain_check.specs.declared.verdict.Verdict.TheVariants as v
-use Rattle.explain_data.specs.Data.{HoldsProgram, no_function_line}
+use Rattle.explain_check.specs.Checks.{HoldsProgram, LacksProgram}
+use Rattle.explain_data.specs.Data.{no_function_line}
 use Rattle.explain_degrees.specs.Degrees.{AreLeast, Between, IsRefused}
 use Rattle.explain_degrees.specs.declared.least.LeastBounds.{LeastBounds}
 use Rattle.explain_degrees.specs.declared.finding.Findings.{Findings}
@@ -88,10 +87,6 @@ ProgramIs P words width e.Refused text report =
 ProgramIs P words width end text report =
     (gs : List Given) × (given_in (lent words.at) ≡ Ok gs) × (fits_some_of P words gs ≡ true)
     × AnalysedIs P words.degree (showing_of words width gs) end text report
-
--- the source is not read, or spells no typed program
-abbrev pub LacksProgram : Store → Text → Text → Type 0
-LacksProgram store file report = FileIs store file v.Unread report ⊎ FileIs store file v.Faulty report
 
 -- what is told of a call
 abbrev pub CallIs : Store → BoundsWords → Option ℕ → End → Text → Text → Type 0

@@ -14,7 +14,7 @@ use crate::end::End;
 use crate::fitting::{asked_of, misfit};
 use crate::parts::Showing;
 use explain_at::{Given, WordFault, read};
-use explain_check::{MOST_BYTES, push_error, read_file, typed_source};
+use explain_check::{push_error, read_program};
 use explain_data::{function_named, push_no_function};
 use explain_words::BoundsWords;
 use raml_io::Store;
@@ -41,13 +41,10 @@ pub fn tell_bounds<S: Store>(
     ensures kept { S.holds store.new ≡ S.holds store.old }
     ensures later { (other : Text) → S.faults store.old other ≤ S.faults store.new other }
 {
-    let Some(source) = read_file(alloc, store, words.file, MOST_BYTES, report)? else {
-        return Ok(End::Refused);
-    };
-    let Some(typed) = typed_source(alloc, words.file, &source, report)? else {
-        return Ok(End::Refused);
-    };
-    tell_program(alloc, &typed, words, width, text, report)
+    match read_program(alloc, store, words.file, report)? {
+        Some(typed) => tell_program(alloc, &typed, words, width, text, report),
+        None => Ok(End::Refused),
+    }
 }
 
 /// Tells what is asked for of a typed program.

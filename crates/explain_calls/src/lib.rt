@@ -3,9 +3,11 @@
 
 mod analysed;
 mod call;
+mod draft;
 mod end;
 mod fitting;
 mod parts;
 
 pub use call::tell_bounds;
+pub use draft::{Draft, draft_bounds};
 pub use end::End;

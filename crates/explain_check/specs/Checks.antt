@@ -85,3 +85,18 @@ FilesAre store [] verdict parts = (verdict ≡ v.Typed) × (parts ≡ [])
 FilesAre store (name ∷ names) verdict parts =
     (first : Verdict) × (others : Verdict) × (part : Text) × (rest : Text) × FileIs store name first part
     × FilesAre store names others rest × (verdict ≡ worse first others) × (parts ≡ part ++ rest)
+
+-- ---- a file that holds a program
+
+-- the file holds a source that spells this typed program
+abbrev pub HoldsProgram : Store → Text → Prog → Type 0
+HoldsProgram store file P = (source : Text) × Holds store file source × IsProgramOf source P
+
+-- the source is not read, or spells no typed program
+abbrev pub LacksProgram : Store → Text → Text → Type 0
+LacksProgram store file report = FileIs store file v.Unread report ⊎ FileIs store file v.Faulty report
+
+-- a file that holds a typed program, of which nothing is told, or that holds none
+abbrev pub ProgramGives : Store → Text → Option Program → Text → Type 0
+ProgramGives store file (Some program) part = HoldsProgram store file (program_of program) × (part ≡ [])
+ProgramGives store file None part = LacksProgram store file part

@@ -9,7 +9,7 @@ use Rattle.value_text.specs.Reading.{Answers}
 use Rattle.value_text.specs.declared.fault.DataFault.{DataFault}
 use Rattle.value_text.specs.declared.fault.DataFault.TheVariants.{NotUtf8, Shape, TooDeep, TooManyCells, NoMemory}
 use Rattle.explain_check.specs.Stores.{Store, Holds, Unread, error_line}
-use Rattle.explain_check.specs.Checks.{FileIs, IsProgramOf, fault_head}
+use Rattle.explain_check.specs.Checks.{FileIs, HoldsProgram, fault_head}
 use Rattle.explain_check.specs.declared.verdict.Verdict.TheVariants as v
 use Rattle.explain_data.specs.declared.finding.Finding.{Finding}
 use Rattle.explain_data.specs.declared.finding.Finding.TheVariants as f
@@ -57,10 +57,6 @@ abbrev pub ProgramIs : Store → Prog → Text → Text → Text → Finding →
 ProgramIs store P file name data' finding part =
     ((find name P ≡ None) × (finding ≡ f.Refused) × (part ≡ no_function_line file name))
     ⊎ ((g : Function) × (find name P ≡ Some g) × DataFileIs store data' (types_of g) finding part)
-
--- the file holds a source that spells this typed program
-abbrev pub HoldsProgram : Store → Text → Prog → Type 0
-HoldsProgram store file P = (source : Text) × Holds store file source × IsProgramOf source P
 
 -- what is told of a call: that of its source where it is not read or not typed, else that of its function
 abbrev pub CallIs : Store → Text → Text → Text → Finding → Text → Type 0

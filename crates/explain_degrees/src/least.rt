@@ -75,7 +75,7 @@ fn add_degree(
 }
 
 /// The degree with what refuses its analysis, unless memory was wanting.
-fn refused(degree: u8, fault: InferFault) -> Result<RefusedDegree, AllocError>
+pub fn refused(degree: u8, fault: InferFault) -> Result<RefusedDegree, AllocError>
     ensures degree { IfOk result (λ r. r.degree ≡ degree) }
     ensures fault { IfOk result (λ r. r.fault ≡ fault) }
     ensures refused { IfOk result (λ r. r.fault ≢ NoMemory) }
