@@ -2,10 +2,12 @@
 #![tactic(auto)]
 
 mod asked;
+mod behind;
 mod bound;
 mod fitted;
 pub mod laws;
 mod line;
+mod object;
 mod tail;
 #[cfg(test)]
 mod tests;
@@ -13,3 +15,4 @@ mod tests;
 pub use asked::Asked;
 pub use fitted::check_sizes;
 pub use line::push_function;
+pub use object::push_objects;

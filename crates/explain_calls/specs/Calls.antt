@@ -1,5 +1,5 @@
 -- What a call of `explain bounds` tells.
-use Rattle.std.specs.Prelude.{◌≡◌, ◌⊎◌, ℕ, Bool, true, false, Option, Some, None, List, [], ◌∷◌, ◌++◌, Ok, codes}
+use Rattle.std.specs.Prelude.{◌≡◌, ◌⊎◌, ℕ, Bool, true, false, cond, Option, Some, None, List, [], ◌∷◌, ◌++◌, Ok, codes}
 use Rattle.raml_syntax.specs.Tree.{Text, Prog}
 use Rattle.raml_syntax.specs.Eval.{find}
 use Rattle.call_groups.specs.Groups.{Grouping, IsGrouping}
@@ -19,7 +19,7 @@ use Rattle.explain_at.specs.declared.fault.WordFault.{WordFault}
 use Rattle.explain_words.specs.Spelled.{lent}
 use Rattle.explain_words.specs.declared.request.bounds.BoundsWords.{BoundsWords}
 use Rattle.explain_calls.specs.Sizes.{given_in, fit, fits_some}
-use Rattle.explain_calls.specs.Told.{Showing, AreParts, notes}
+use Rattle.explain_calls.specs.Told.{Layout, Lines, Objects, Showing, AreParts, notes}
 use Rattle.explain_calls.specs.declared.end.End.{End}
 use Rattle.explain_calls.specs.declared.end.End.TheVariants as e
 
@@ -34,8 +34,15 @@ abbrev pub names_for : Prog → Grouping → Names
 names_for P groups = record { program = P; groups = groups.list }
 
 -- how the words have bounds shown, with these sizes
+abbrev pub layout_of : Bool → Option ℕ → Layout
+layout_of json width = cond json Objects (Lines width)
+
 abbrev pub showing_of : BoundsWords → Option ℕ → List Given → Showing
-showing_of words width gs = record { name = lent words.function; fit = fit words.within (lent words.at) gs; width = width }
+showing_of words width gs = record {
+  name = lent words.function;
+  fit = fit words.within (lent words.at) gs;
+  layout = layout_of words.json width;
+}
 
 -- the bounds are told, and of which degrees the analysis is refused
 pub record BoundsAreTold (P : Prog) (most : ℕ) (showing : Showing) (text report : Text) : Type 0 where

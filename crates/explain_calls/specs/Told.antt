@@ -8,6 +8,7 @@ use Rattle.explain_degrees.specs.declared.finding.Findings.{Findings}
 use Rattle.explain_degrees.specs.declared.least.RefusedDegree.{RefusedDegree}
 use Rattle.explain_bounds.specs.Told.{Told, Nothing}
 use Rattle.explain_bounds.specs.Lines.{AreLines}
+use Rattle.explain_bounds.specs.Objects.{AreObjects}
 use Rattle.refusal_text.specs.declared.task.Analysed.TheVariants.{Program}
 use Rattle.refusals.specs.Line.{Names, course_line}
 use Rattle.explain_calls.specs.Sizes.{is_asked}
@@ -28,17 +29,25 @@ abbrev pub told_or_nothing : Result Told Fault → Told
 told_or_nothing (Ok told) = told
 told_or_nothing (Err fault) = Nothing
 
--- how bounds are shown: of which function, or of all; what is told behind them; and the width of lines, where there is one
+-- lines, of this width where there is one, or objects of JSON
+pub data Layout : Type 0 where
+  Lines : Option ℕ → Layout
+  Objects : Layout
+
+-- how bounds are shown: of which function, or of all; what is told behind them; and the layout
 pub record Showing : Type 0 where
   pub name : Option Text
   pub fit : List (Text × Type') → Result Told Fault
-  pub width : Option ℕ
+  pub layout : Layout
 
--- the text of a function: its lines, or nothing where it is not asked for
+-- what is told of a function, laid out
+abbrev pub IsLaidOut : Layout → Prog → Function → Told → Findings → Text → Type 0
+IsLaidOut (Lines width) P g told found text = (lines : List Text) × AreLines P g told found lines × AreShown width lines text
+IsLaidOut Objects P g told found text = AreObjects P g told found text
+
+-- the text of a function, or nothing where it is not asked for
 abbrev pub IsPart : Prog → Showing → Bool → Function → Findings → Text → Type 0
-IsPart P showing true g found text =
-    (lines : List Text) × AreLines P g (told_or_nothing (showing.fit (names_and_types g.params))) found lines
-    × AreShown showing.width lines text
+IsPart P showing true g found text = IsLaidOut showing.layout P g (told_or_nothing (showing.fit (names_and_types g.params))) found text
 IsPart P showing false g found text = text ≡ []
 
 -- the texts of functions, in order

@@ -6,13 +6,14 @@ ghost use Rattle.explain_at.specs.Read.{all_given, IsWordFault};
 ghost use Rattle.explain_check.specs.Stores.{store_of};
 ghost use Rattle.explain_words.specs.Spelled.{lent};
 ghost use Rattle.explain_words.specs.Laws.{AreInRange};
-ghost use Rattle.explain_calls.specs.Calls.{CallIs, ProgramIs};
+ghost use Rattle.explain_calls.specs.Read.{layout_in};
+ghost use Rattle.explain_calls.specs.Calls.{CallIs, ProgramIs, layout_of};
 ghost use Rattle.explain_calls.specs.Sizes.{given_in};
 
 use crate::analysed::tell_analysed;
 use crate::end::End;
 use crate::fitting::{asked_of, misfit};
-use crate::parts::Showing;
+use crate::parts::{Layout, Showing};
 use explain_at::{Given, WordFault, read};
 use explain_check::{push_error, read_program};
 use explain_data::{function_named, push_no_function};
@@ -115,9 +116,20 @@ fn tell_at(
             let showing = Showing {
                 name: words.function,
                 asked,
-                width,
+                layout: layout_of(words.json, width),
             };
             tell_analysed(alloc, typed, words.degree, &showing, text, report)
         }
+    }
+}
+
+/// The layout of what is told: objects of JSON, or lines of this width.
+fn layout_of(json: bool, width: Option<u32>) -> Layout
+    ensures { layout_in result ≡ layout_of json width }
+{
+    if json {
+        Layout::Objects
+    } else {
+        Layout::Lines { width }
     }
 }

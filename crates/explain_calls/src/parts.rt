@@ -1,11 +1,12 @@
 // The texts of functions.
-ghost use Rattle.std.specs.Prelude.{◌≡◌, ◌++◌, ℕ, length, slice_get, Some, true, IfOk, OnOk, string_bytes};
+ghost use Rattle.std.specs.Prelude.{◌≡◌, ◌++◌, ℕ, length, slice_get, Some, Ok, true, IfOk, OnOk, string_bytes};
 ghost use Rattle.raml_syntax.specs.Tree.{Text, Function};
 ghost use Rattle.raml_syntax.specs.Types.{types_of};
 ghost use Rattle.raml_syntax.specs.Read.{program_of, function_of};
 ghost use Rattle.explain_at.specs.Read.{parameters, texts};
 ghost use Rattle.explain_bounds.specs.Lines.{AreLines};
-ghost use Rattle.explain_bounds.specs.Told.{Nothing, told};
+ghost use Rattle.explain_bounds.specs.Objects.{AreObjects};
+ghost use Rattle.explain_bounds.specs.Told.{Told, told};
 ghost use Rattle.explain_bounds.specs.Written.{AllCanBeTold, CanBeAsked};
 ghost use Rattle.explain_calls.specs.Told.{told_or_nothing, AreShown, IsPart, AreParts};
 ghost use Rattle.explain_words.specs.Spelled.{lent};
@@ -14,7 +15,7 @@ ghost use Rattle.explain_calls.specs.Read.{showing_in};
 
 use crate::fitting::is_asked;
 use explain_at::SizeFault;
-use explain_bounds::{Asked, push_function};
+use explain_bounds::{Asked, check_sizes, push_function, push_objects};
 use explain_degrees::Findings;
 use explain_text::wrapped;
 use raml_syntax::{Fun, Program};
@@ -23,6 +24,15 @@ use std::alloc::{AllocError, Global};
 /// By how many columns a line that is broken goes on.
 const INDENT: usize = 4;
 
+/// How what is told of a function is laid out.
+#[derive(Clone, Copy, Debug)]
+pub(crate) enum Layout {
+    /// In lines, which are broken where they have a width.
+    Lines { width: Option<u32> },
+    /// In objects of JSON.
+    Objects,
+}
+
 /// How bounds are shown.
 #[derive(Clone, Copy, Debug)]
 pub(crate) struct Showing<'a> {
@@ -30,8 +40,7 @@ pub(crate) struct Showing<'a> {
     pub(crate) name: Option<&'a str>,
     /// What is told behind a bound.
     pub(crate) asked: Asked<'a>,
-    /// The width of lines, where they are broken.
-    pub(crate) width: Option<u32>,
+    pub(crate) layout: Layout,
 }
 
 /// Appends the texts of the functions of a program that are asked for, in the order of the source.
@@ -95,8 +104,28 @@ fn push_part(
         × IsPart (program_of program.now) (showing_in showing.now) true (function_of fun.now) found.now shown
         × (string_bytes text.new ≡ string_bytes text.old ++ shown)) }
 {
-    let lines = lines_of(alloc, program, fun, found, &showing.asked)?;
-    push_shown(alloc, text, &lines, showing.width)
+    let asked = fitting(alloc, fun, showing.asked)?;
+    match showing.layout {
+        Layout::Lines { width } => {
+            let lines = lines_of(alloc, program, fun, found, &asked)?;
+            push_shown(alloc, text, &lines, width)
+        }
+        Layout::Objects => add_objects(alloc, text, program, fun, found, &asked),
+    }
+}
+
+/// What is asked, where the function has the sizes that are given, and else nothing.
+fn fitting<'a>(alloc: Global, fun: &Fun, asked: Asked<'a>) -> Result<Asked<'a>, AllocError>
+    requires { CanBeAsked asked }
+    ensures asked { IfOk result CanBeAsked }
+    ensures fits { IfOk result (λ fitting. told fitting (parameters fun.now.params.items)
+        ≡ Ok (told_or_nothing (told asked (parameters fun.now.params.items)))) }
+{
+    match check_sizes(alloc, &asked, &fun.params) {
+        Ok(()) => Ok(asked),
+        Err(SizeFault::NoMemory) => Err(AllocError),
+        Err(_) => Ok(Asked::Nothing),
+    }
 }
 
 /// The lines of a function.
@@ -109,30 +138,33 @@ fn lines_of(
 ) -> Result<Vec<String>, AllocError>
     requires found { AllCanBeTold (types_of (function_of fun.now)) found.now }
     requires asked { CanBeAsked asked.now }
-    ensures { IfOk result (λ lines. AreLines (program_of program.now) (function_of fun.now)
-        (told_or_nothing (told asked.now (parameters fun.now.params.items))) found.now (texts lines.items)) }
+    ensures { IfOk result (λ lines. (behind : Told) × (told asked.now (parameters fun.now.params.items) ≡ Ok behind)
+        × AreLines (program_of program.now) (function_of fun.now) behind found.now (texts lines.items)) }
 {
     let mut lines = Vec::new(alloc);
     match push_function(alloc, &mut lines, program, fun, found, asked) {
         Ok(()) => Ok(lines),
-        Err(SizeFault::NoMemory) => Err(AllocError),
-        Err(_) => bare_lines(alloc, program, fun, found),
+        Err(_) => Err(AllocError),
     }
 }
 
-/// The lines of a function, with nothing behind the bounds.
-fn bare_lines(
+/// Appends the objects of a function.
+fn add_objects(
     alloc: Global,
+    text: &mut String,
     program: &Program,
     fun: &Fun,
     found: &Findings,
-) -> Result<Vec<String>, AllocError>
+    asked: &Asked<'_>,
+) -> Result<(), AllocError>
     requires found { AllCanBeTold (types_of (function_of fun.now)) found.now }
-    ensures { IfOk result (λ lines. AreLines (program_of program.now) (function_of fun.now) Nothing found.now (texts lines.items)) }
+    requires asked { CanBeAsked asked.now }
+    ensures { OnOk result ((behind : Told) × (told asked.now (parameters fun.now.params.items) ≡ Ok behind)
+        × (added : Text) × AreObjects (program_of program.now) (function_of fun.now) behind found.now added
+        × (string_bytes text.new ≡ string_bytes text.old ++ added)) }
 {
-    let mut lines = Vec::new(alloc);
-    match push_function(alloc, &mut lines, program, fun, found, &Asked::Nothing) {
-        Ok(()) => Ok(lines),
+    match push_objects(alloc, text, program, fun, found, asked) {
+        Ok(()) => Ok(()),
         Err(_) => Err(AllocError),
     }
 }
