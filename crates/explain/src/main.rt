@@ -37,7 +37,15 @@ fn run(rt: &HostRuntime) -> io::Result<Status> {
     let mut out = StdSink::new(rt.stdout());
     let mut err = StdSink::new(rt.stderr());
     let columns = columns_of(rt);
-    Ok(explain(rt.alloc(), &words, columns, &mut store, &mut shelf, &mut out, &mut err))
+    Ok(explain(
+        rt.alloc(),
+        &words,
+        columns,
+        &mut store,
+        &mut shelf,
+        &mut out,
+        &mut err,
+    ))
 }
 
 // How many columns lines may have: what `COLUMNS` says where that is a number of a terminal's columns, and else 80. None

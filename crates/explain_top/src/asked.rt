@@ -50,7 +50,9 @@ pub fn answer<S: Store, W: Shelf, O: Sink, E: Sink>(
             bounds,
             degree,
             json,
-        } => budget(alloc, *file, *bounds, *degree, *json, columns, store, out, err),
+        } => budget(
+            alloc, *file, *bounds, *degree, *json, columns, store, out, err,
+        ),
         Request::WriteBudget {
             file,
             bounds,

@@ -4,8 +4,6 @@
 #[cfg(test)]
 mod bounds;
 #[cfg(test)]
-mod calls;
-#[cfg(test)]
 mod data;
 #[cfg(test)]
 mod faulty;

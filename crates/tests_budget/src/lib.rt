@@ -1,0 +1,7 @@
+//! Tests of `explain budget`, of `explain verify` and of objects of JSON, as whole calls.
+#![tactic(auto)]
+
+#[cfg(test)]
+mod drafts;
+#[cfg(test)]
+mod objects;
