@@ -43,7 +43,7 @@ pub fn tell_bounds<S: Store>(
     ensures later { (other : Text) → S.faults store.old other ≤ S.faults store.new other }
 {
     match read_program(alloc, store, words.file, report)? {
-        Some(typed) => tell_program(alloc, &typed, words, width, text, report),
+        Some(source) => tell_program(alloc, &source.typed, words, width, text, report),
         None => Ok(End::Refused),
     }
 }

@@ -58,10 +58,10 @@ pub fn draft_bounds<S: Store>(
     ensures kept { S.holds store.new ≡ S.holds store.old }
     ensures later { (other : Text) → S.faults store.old other ≤ S.faults store.new other }
 {
-    let Some(typed) = read_program(alloc, store, file, report)? else {
+    let Some(source) = read_program(alloc, store, file, report)? else {
         return Ok(Draft::Refused);
     };
-    let program = normal_form(alloc, &typed)?;
+    let program = normal_form(alloc, &source.typed)?;
     draft_down(
         alloc,
         &program,

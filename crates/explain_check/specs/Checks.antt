@@ -17,6 +17,7 @@ use Rattle.simple_types.specs.declared.fault.TypeFault.{TypeFault}
 use Rattle.explain_messages.specs.Places.{syntax_place, type_place}
 use Rattle.explain_places.specs.Places.{line, column}
 use Rattle.explain_check.specs.Stores.{Store, Holds, Unread}
+use Rattle.explain_check.specs.declared.program.Source.{Source}
 use Rattle.explain_check.specs.declared.verdict.Verdict.{Verdict}
 use Rattle.explain_check.specs.declared.verdict.Verdict.TheVariants as v
 
@@ -96,7 +97,9 @@ HoldsProgram store file P = (source : Text) × Holds store file source × IsProg
 abbrev pub LacksProgram : Store → Text → Text → Type 0
 LacksProgram store file report = FileIs store file v.Unread report ⊎ FileIs store file v.Faulty report
 
--- a file that holds a typed program, of which nothing is told, or that holds none
-abbrev pub ProgramGives : Store → Text → Option Program → Text → Type 0
-ProgramGives store file (Some program) part = HoldsProgram store file (program_of program) × (part ≡ [])
+-- a file whose source spells a typed program, of which nothing is told, or that holds none
+abbrev pub ProgramGives : Store → Text → Option Source → Text → Type 0
+ProgramGives store file (Some source) part =
+    Holds store file source.bytes.items × (length source.bytes.items ≤ most_bytes)
+    × IsProgramOf source.bytes.items (program_of source.typed) × (part ≡ [])
 ProgramGives store file None part = LacksProgram store file part

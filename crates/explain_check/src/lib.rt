@@ -9,7 +9,7 @@ mod source;
 mod verdict;
 
 pub use files::{MOST_BYTES, check_files};
-pub use program::read_program;
+pub use program::{Source, read_program};
 pub use read::read_file;
 pub use report::{push_error, push_fault};
 pub use source::{check_source, typed_source};
