@@ -2,6 +2,8 @@
 ghost use Rattle.std.specs.Prelude.{◌≡◌, ◌≤◌, ◌++◌, Result, Option, true, false, List, IfOk, OnOk, string_bytes};
 ghost use Rattle.raml_syntax.specs.Tree.{Text, Type'};
 ghost use Rattle.raml_syntax.specs.Read.{program_of};
+ghost use Rattle.refusal_text.specs.declared.task.Analysed.TheVariants as TheAnalysed;
+ghost use Rattle.refusals.specs.Line.{course_line};
 ghost use Rattle.refusals.specs.Refusals.{names_in};
 ghost use Rattle.explain_at.specs.Asked.{Fault};
 ghost use Rattle.explain_bounds.specs.Told.{Told, told};
@@ -12,6 +14,7 @@ ghost use Rattle.explain_calls.specs.Calls.{AnalysedIs, TicksAreRefused};
 
 use crate::end::End;
 use crate::parts::{Showing, push_parts};
+use bound_infer::InferFault;
 use explain_bounds::laws::findings_can_be_told;
 use explain_degrees::{Finding, Findings, LeastBounds, RefusedDegree, least_bounds};
 use normal_program::normal_form;
@@ -77,7 +80,7 @@ fn push_notes(
 }
 
 /// Appends that a degree could not be analysed, with the line of `raml`.
-fn push_note(
+pub(crate) fn push_note(
     alloc: Global,
     report: &mut String,
     program: &NormProgram<'_>,
@@ -85,14 +88,21 @@ fn push_note(
 ) -> Result<(), AllocError>
     ensures { OnOk result (string_bytes report.new ≡ string_bytes report.old ++ note (names_in program.now) refused) }
 {
-    let refusal = course_refusal(alloc, Analysed::Program, program, refused.fault);
+    let line = refusal_line(alloc, program, refused.fault)?;
+    write!(report, "explain: degree {}: {line}", refused.degree)
+}
+
+/// The line of `raml` for what refuses an analysis of the program, or the check of a certificate.
+pub fn refusal_line(
+    alloc: Global,
+    program: &NormProgram<'_>,
+    fault: InferFault,
+) -> Result<String, AllocError>
+    ensures { IfOk result (λ line. string_bytes line ≡ course_line TheAnalysed.Program (names_in program.now) fault) }
+{
+    let refusal = course_refusal(alloc, Analysed::Program, program, fault);
     match refusal.status {
         Status::NoMemory => Err(AllocError),
-        _ => write!(
-            report,
-            "explain: degree {}: {}",
-            refused.degree,
-            refusal.line.text()
-        ),
+        _ => String::from_str(alloc, refusal.line.text()),
     }
 }

@@ -8,6 +8,7 @@ mod end;
 mod fitting;
 mod parts;
 
+pub use analysed::refusal_line;
 pub use call::tell_bounds;
 pub use draft::{Draft, draft_bounds};
 pub use end::End;
