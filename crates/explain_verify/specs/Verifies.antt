@@ -18,7 +18,7 @@ use Rattle.bound_infer.specs.declared.refusal.InferFault.{InferFault}
 use Rattle.bound_infer.specs.declared.refusal.InferFault.TheVariants as infer
 use Rattle.bound_infer.specs.declared.refusal.VerifyFault.{VerifyFault}
 use Rattle.bound_infer.specs.declared.refusal.VerifyFault.TheVariants as fault
-use Rattle.constraint_gen.specs.declared.what.What.TheVariants.{Indices}
+use Rattle.constraint_gen.specs.declared.fault.What.TheVariants.{Indices}
 use Rattle.report_text.specs.Names.{meter_text, name_at}
 use Rattle.refusal_text.specs.declared.task.Analysed.TheVariants.{Program as Program'}
 use Rattle.refusals.specs.Line.{course_line}
