@@ -7,5 +7,7 @@ mod end;
 mod fitting;
 mod parts;
 
+pub use analysed::push_note;
 pub use call::tell_bounds;
 pub use end::End;
+pub use parts::push_shown;

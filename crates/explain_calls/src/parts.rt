@@ -138,7 +138,7 @@ fn bare_lines(
 }
 
 /// Appends lines, broken at the width where there is one, each with a newline behind it.
-fn push_shown(
+pub fn push_shown(
     alloc: Global,
     text: &mut String,
     lines: &[String],

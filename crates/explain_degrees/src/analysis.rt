@@ -13,7 +13,7 @@ use std::alloc::Global;
 
 /// The analysis of a program at a degree, by the rule that `raml analyse` takes where none is told: the least
 /// column of positive gain enters.
-pub(crate) fn analyse<'p, 'a>(
+pub fn analyse<'p, 'a>(
     alloc: Global,
     program: &'p NormProgram<'a>,
     degree: u8,

@@ -6,5 +6,6 @@ mod finding;
 mod least;
 mod noted;
 
+pub use analysis::analyse;
 pub use finding::{Finding, Findings};
 pub use least::{LeastBounds, RefusedDegree, least_bounds};

@@ -98,8 +98,8 @@ fn push_verdict(
     )
 }
 
-// The word for a verdict.
-fn verdict_name(verdict: &Verdict) -> &'static str
+/// The word for a verdict.
+pub(crate) fn verdict_name(verdict: &Verdict) -> &'static str
     ensures { result.now ≡ verdict_text (is_kept verdict.now) }
 {
     if is_kept(verdict) { "kept" } else { "not kept" }
