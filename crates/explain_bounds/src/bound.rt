@@ -36,8 +36,8 @@ pub(crate) fn push_bound(
     ensures { OnOk result ((told : Text) × TellsBound (function_of fun.now) (told_of fitted.now) meter poly.now told
         × (string_bytes text.new ≡ string_bytes text.old ++ told)) }
 {
-    let types = types(alloc, &fun.params)?;
-    let names = names(alloc, &fun.params)?;
+    let types = parameter_types(alloc, &fun.params)?;
+    let names = parameter_names(alloc, &fun.params)?;
     let reading = read_bound(alloc, poly, &types, &names)?;
     text.push_str(" ≤ ")?;
     text.push_str(&reading.sum)?;
@@ -45,8 +45,8 @@ pub(crate) fn push_bound(
     push_legend(text, &reading.legend)
 }
 
-// Appends what the names mean, where something has to be said.
-fn push_legend(text: &mut String, legend: &str) -> Result<(), AllocError>
+/// Appends what the names mean behind three spaces, where something has to be said.
+pub fn push_legend(text: &mut String, legend: &str) -> Result<(), AllocError>
     ensures { OnOk result (string_bytes text.new ≡ string_bytes text.old ++ legend_behind legend.now) }
 {
     if legend.is_empty() {
@@ -58,7 +58,7 @@ fn push_legend(text: &mut String, legend: &str) -> Result<(), AllocError>
 }
 
 /// The types of parameters.
-pub(crate) fn types(alloc: Global, params: &[Param]) -> Result<Vec<Ty>, AllocError>
+pub fn parameter_types(alloc: Global, params: &[Param]) -> Result<Vec<Ty>, AllocError>
     ensures { IfOk result (λ types. context_of types.items ≡ types_in params.now) }
 {
     let mut types = Vec::with_capacity(alloc, params.len())?;
@@ -68,8 +68,11 @@ pub(crate) fn types(alloc: Global, params: &[Param]) -> Result<Vec<Ty>, AllocErr
     Ok(types)
 }
 
-// The names of parameters.
-fn names<'a>(alloc: Global, params: &'a [Param]) -> Result<Vec<&'a str>, AllocError>
+/// The names of parameters.
+pub fn parameter_names<'a>(
+    alloc: Global,
+    params: &'a [Param],
+) -> Result<Vec<&'a str>, AllocError>
     ensures { IfOk result (λ names. texts names.items ≡ names_in params.now) }
 {
     let mut names = Vec::with_capacity(alloc, params.len())?;

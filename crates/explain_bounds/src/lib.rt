@@ -13,6 +13,7 @@ mod tail;
 mod tests;
 
 pub use asked::Asked;
+pub use bound::{parameter_names, parameter_types, push_legend};
 pub use fitted::check_sizes;
 pub use line::push_function;
 pub use object::push_objects;

@@ -9,8 +9,7 @@ ghost use Rattle.base_poly.specs.Read.{context_of};
 ghost use Rattle.poly_point.specs.Point.{AreLow};
 ghost use Rattle.explain_bounds.specs.Written.{CanBeTold, AllCanBeTold, CanBeAsked};
 
-use crate::bound::types;
-use crate::{Asked, push_function};
+use crate::{Asked, parameter_types, push_function};
 use base_poly::{Poly, Tuple, indices};
 use cost_free::Meter;
 use explain_at::read;
@@ -85,7 +84,7 @@ fn of_one(alloc: Global, types: &[Ty], tuple: &Tuple) -> Result<Poly, AllocError
 fn bound(alloc: Global, fun: &Fun, place: usize) -> Result<Finding, Fail>
     ensures { IfOk result (CanBeTold (types_of (function_of fun.now))) }
 {
-    let types = types(alloc, &fun.params)?;
+    let types = parameter_types(alloc, &fun.params)?;
     let tuples = tuples(alloc, &types)?;
     if place < tuples.len() {
         let poly = of_one(alloc, &types, &tuples[place])?;

@@ -80,7 +80,7 @@ fn push_notes(
 }
 
 /// Appends that a degree could not be analysed, with the line of `raml`.
-pub(crate) fn push_note(
+pub fn push_note(
     alloc: Global,
     report: &mut String,
     program: &NormProgram<'_>,

@@ -8,7 +8,8 @@ mod end;
 mod fitting;
 mod parts;
 
-pub use analysed::refusal_line;
+pub use analysed::{push_note, refusal_line};
 pub use call::tell_bounds;
 pub use draft::{Draft, draft_bounds};
 pub use end::End;
+pub use parts::push_shown;

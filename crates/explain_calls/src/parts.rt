@@ -170,7 +170,7 @@ fn add_objects(
 }
 
 /// Appends lines, broken at the width where there is one, each with a newline behind it.
-fn push_shown(
+pub fn push_shown(
     alloc: Global,
     text: &mut String,
     lines: &[String],

@@ -15,7 +15,8 @@ use std::alloc::{AllocError, Global};
 /// Writes the terms of a polynomial as they stand: an array with `{"index":"<[_, _]>","coefficient":"3/2"}` for each.
 pub fn write_poly(alloc: Global, writer: &mut Writer, poly: &Poly) -> Result<(), AllocError>
     requires { IsPoly poly.now }
-    ensures written { OnOk result (writer.new.tokens ≡ writer.old.tokens ++ json_tokens (terms_json (den_of poly.now) (terms_of poly.now))) }
+    ensures written { OnOk result (writer.new.tokens
+        ≡ writer.old.tokens ++ json_tokens (terms_json (den_of poly.now) (terms_of poly.now))) }
     ensures before { writer.new.before ≡ writer.old.before }
 {
     let den = poly.den.unsigned_abs();

@@ -1,0 +1,3 @@
+mod Multiples
+mod Terms
+mod Placing
