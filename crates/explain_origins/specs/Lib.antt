@@ -1,3 +1,7 @@
 pub mod Origins
 pub mod Kinds
 pub mod Fits
+pub mod Paths
+pub mod Cursors
+pub mod ReadCursors
+pub mod ReadSpots
