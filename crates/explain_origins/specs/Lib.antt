@@ -5,3 +5,4 @@ pub mod Paths
 pub mod Cursors
 pub mod ReadCursors
 pub mod ReadSpots
+pub mod Walked

@@ -27,10 +27,13 @@ plan_at NoPlans k = None
 plan_at (More e es) zero = Some e
 plan_at (More e es) (suc k) = plan_at es k
 
--- Of a Let, the tuple of the number, or whether the number is the count of tuples: a tuple leads to the bound form at the budget that it
--- leaves, and the count to the rest.
-abbrev pub let_turn : Option Part → Bool → Plans → Plan → Option (Turn × Plan)
-let_turn (Some part) is_count firsts rest = option_map (λ e. (First, e)) (plan_at firsts part.degree)
+-- the degree of the tuple of this number
+abbrev pub degree_at : List Part → ℕ → Option ℕ
+degree_at parts j = option_map (λ (part : Part). part.degree) (slice_get parts j)
+
+-- Of a Let: a number that has a tuple leads to the bound form, at the budget that the tuple leaves, and the count of tuples to the rest.
+abbrev pub let_turn : Option ℕ → Bool → Plans → Plan → Option (Turn × Plan)
+let_turn (Some degree) is_count firsts rest = option_map (λ e. (First, e)) (plan_at firsts degree)
 let_turn None true firsts rest = Some (Second, rest)
 let_turn None false firsts rest = None
 
@@ -42,7 +45,7 @@ below (p.Moves n step e) j = only e j
 below (p.Forks n step a other b) j = fork a b j
 below (p.Shares n size step e) j = only e j
 below (p.Calls n c) j = None
-below (p.Lets n parts firsts size e) j = let_turn (slice_get parts j) (nat_eq j (length parts)) firsts e
+below (p.Lets n parts firsts size e) j = let_turn (degree_at parts j) (nat_eq j (length parts)) firsts e
 
 -- the form to which a turn leads
 abbrev pub in_two : Norm → Norm → Turn → Option Norm
