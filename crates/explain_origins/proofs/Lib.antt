@@ -1,0 +1,4 @@
+mod Fitting
+mod Operands
+mod Forms
+mod Walking
