@@ -4,9 +4,8 @@ use Rattle.raml_syntax.specs.Tree.{Text, Prog}
 use Rattle.call_groups.specs.Groups.{Grouping, IsGrouping}
 use Rattle.rules_soundness_laws.specs.Laws.{normal_of}
 use Rattle.explain_check.specs.Stores.{Store, Holds, Unread}
-use Rattle.explain_check.specs.Checks.{most_bytes}
-use Rattle.explain_data.specs.Data.{HoldsProgram}
-use Rattle.explain_calls.specs.Calls.{names_for, LacksProgram}
+use Rattle.explain_check.specs.Checks.{HoldsProgram, LacksProgram, most_bytes}
+use Rattle.explain_calls.specs.Calls.{names_for}
 use Rattle.explain_budget.specs.Degrees.{Asking, TellsFrom}
 use Rattle.explain_budget.specs.declared.end.BudgetEnd.{BudgetEnd}
 use Rattle.explain_budget.specs.declared.end.BudgetEnd.TheVariants as e
