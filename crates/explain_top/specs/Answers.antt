@@ -1,9 +1,9 @@
 -- How calls of `explain` end, and what they write.
-use Rattle.std.specs.Prelude.{◌≡◌, ◌⊎◌, ℕ, List, Option, Some, None, codes}
+use Rattle.std.specs.Prelude.{◌≡◌, ◌⊎◌, ◌++◌, ℕ, Bool, List, [], Option, Some, None, codes, string_bytes}
 use Rattle.std.specs.Borrow.{Bor}
 use Rattle.raml_syntax.specs.Tree.{Text}
 use Rattle.explain_check.specs.Checks.{FilesAre, texts}
-use Rattle.explain_check.specs.Stores.{Store}
+use Rattle.explain_check.specs.Stores.{Store, error_line}
 use Rattle.explain_check.specs.declared.verdict.Verdict.{Verdict}
 use Rattle.explain_check.specs.declared.verdict.Verdict.TheVariants as v
 use Rattle.explain_data.specs.Data.{CallIs}
@@ -12,10 +12,21 @@ use Rattle.explain_data.specs.declared.finding.Finding.TheVariants as f
 use Rattle.explain_calls.specs.Calls as calls
 use Rattle.explain_calls.specs.declared.end.End.{End}
 use Rattle.explain_calls.specs.declared.end.End.TheVariants as e
+use Rattle.explain_calls.specs.Draft.{DraftIs}
+use Rattle.explain_calls.specs.declared.draft.Draft.{Draft}
+use Rattle.explain_calls.specs.declared.draft.Draft.TheVariants as draft
+use Rattle.explain_budget.specs.Calls as budget
+use Rattle.explain_budget.specs.Calls.{words_of}
+use Rattle.explain_budget.specs.declared.end.BudgetEnd.{BudgetEnd}
+use Rattle.explain_budget.specs.declared.end.BudgetEnd.TheVariants as b
+use Rattle.explain_verify.specs.Verifies as verify
+use Rattle.explain_verify.specs.declared.outcome.Outcome.{Outcome}
+use Rattle.explain_verify.specs.declared.outcome.Outcome.TheVariants as o
 use Rattle.explain_words.specs.Asking.{Asks, AsksToShow, AsksNothing}
 use Rattle.explain_words.specs.declared.request.Request.{Request}
-use Rattle.explain_words.specs.declared.request.Request.TheVariants.{Check, CheckData, Bounds}
+use Rattle.explain_words.specs.declared.request.Request.TheVariants.{Check, CheckData, Bounds, Budget, WriteBudget, Verify}
 use Rattle.explain_words.specs.declared.request.bounds.BoundsWords.{BoundsWords}
+use Rattle.explain_top.specs.Shelves.{Shelf, KeepsFiles, LeavesFile, HasFile, FailsToLeave}
 use Rattle.explain_top.specs.Sinks.{Sink, GainsNothing, Gains, GainsFront, Writes}
 use Rattle.explain_top.specs.declared.status.Status.{Status}
 use Rattle.explain_top.specs.declared.status.Status.TheVariants as s
@@ -42,6 +53,18 @@ abbrev pub status_at : End → Status
 status_at e.Told = s.Done
 status_at e.Refused = s.Refused
 status_at e.NotAnalysed = s.NotAnalysed
+
+abbrev pub status_of_budget : BudgetEnd → Status
+status_of_budget b.AllKept = s.Done
+status_of_budget b.Broken = s.Faulty
+status_of_budget b.Refused = s.Refused
+status_of_budget b.NotAnalysed = s.NotAnalysed
+
+abbrev pub status_of_outcome : Outcome → Status
+status_of_outcome o.Holds = s.Done
+status_of_outcome o.Refused = s.Faulty
+status_of_outcome o.Unread = s.Refused
+status_of_outcome o.NotVerified = s.NotAnalysed
 
 -- a text is written to out, and the status is this one; or not as a whole, since out failed
 abbrev pub Puts : Text → Sink → Status → Status → Type 0
@@ -78,6 +101,15 @@ Tells {End} Is status_by out err status =
 abbrev pub AreBoundsTold : Store → BoundsWords → Option ℕ → Sink → Sink → Status → Type 0
 AreBoundsTold store words columns out err status =
     Tells (calls.CallIs store words (width_or words.width columns)) status_at out err status
+
+-- which of the bounds that a file declares a program keeps
+abbrev pub IsBudgetTold : Store → Text → Text → Option ℕ → Bool → Option ℕ → Sink → Sink → Status → Type 0
+IsBudgetTold store file bounds degree json columns out err status =
+    Tells (budget.CallIs store (words_of file bounds degree columns json)) status_of_budget out err status
+
+-- whether a certificate holds of a program
+abbrev pub IsVerified : Store → Text → Text → Sink → Sink → Status → Type 0
+IsVerified store file certificate out err status = Tells (verify.CallIs store file certificate) status_of_outcome out err status
 
 -- ---- a file of bounds that is left
 

@@ -1,18 +1,20 @@
 // What a request asks for.
-ghost use Rattle.std.specs.Prelude.{◌≡◌, ◌≤◌};
+ghost use Rattle.std.specs.Prelude.{◌≡◌, ◌≤◌, IfSome};
 ghost use Rattle.raml_syntax.specs.Tree.{Text};
 ghost use Rattle.explain_check.specs.Stores.{store_of};
-ghost use Rattle.explain_words.specs.Laws.{AreInRange, IsInRange};
-ghost use Rattle.explain_top.specs.Answers.{width_or, IsAnswer, AreBoundsTold, IsChecked, IsDataChecked, LacksMemory, Puts};
+ghost use Rattle.explain_words.specs.Laws.{AreInRange, IsDegree, IsInRange};
+ghost use Rattle.explain_top.specs.Answers.{width_or, IsAnswer, AreBoundsTold, IsBudgetTold, IsVerified, IsChecked, IsDataChecked, LacksMemory, Puts};
 ghost use Rattle.explain_top.specs.Shelves.{shelf_of};
 ghost use Rattle.explain_top.specs.Sinks.{sink_of, Writes};
 
 use crate::draft::leave_draft;
 use crate::status::Status;
+use explain_budget::tell_budget;
 use explain_calls::tell_bounds;
 use explain_check::check_files;
 use explain_data::check_call;
 use explain_files::Shelf;
+use explain_verify::verify_certificate;
 use explain_words::{BoundsWords, Request};
 use raml_io::{Sink, Store, put_all};
 use std::alloc::{AllocError, Global};
@@ -88,6 +90,73 @@ fn bounds<S: Store, O: Sink, E: Sink>(
         Ok(end) => {
             write_report(err, &report);
             put_text(out, &text, Status::from(end))
+        }
+        Err(AllocError) => no_memory(err),
+    }
+}
+
+/// Tells which declared bounds a program keeps on `out`, and on `err` what is wrong.
+fn budget<S: Store, O: Sink, E: Sink>(
+    alloc: Global,
+    file: &str,
+    bounds: &str,
+    degree: Option<u8>,
+    json: bool,
+    columns: Option<u32>,
+    store: &mut S,
+    out: &mut O,
+    err: &mut E,
+) -> Status
+    requires { IfSome degree IsDegree }
+    ensures told { IsBudgetTold (store_of (S.holds store.old) (S.faults store.old) (S.faults store.new))
+        file.now bounds.now degree json columns
+        (sink_of (O.faults out.old) (O.faults out.new) (O.written out.old) (O.written out.new))
+        (sink_of (E.faults err.old) (E.faults err.new) (E.written err.old) (E.written err.new)) result }
+    ensures kept { S.holds store.new ≡ S.holds store.old }
+    ensures later { (name : Text) → S.faults store.old name ≤ S.faults store.new name }
+{
+    let mut text = String::new(alloc);
+    let mut report = String::new(alloc);
+    match tell_budget(
+        alloc,
+        store,
+        file,
+        bounds,
+        degree,
+        columns,
+        json,
+        &mut text,
+        &mut report,
+    ) {
+        Ok(end) => {
+            write_report(err, &report);
+            put_text(out, &text, Status::from(end))
+        }
+        Err(AllocError) => no_memory(err),
+    }
+}
+
+/// Tells on `out` that a certificate holds of a program, and on `err` where it does not, or what is wrong.
+fn verify<S: Store, O: Sink, E: Sink>(
+    alloc: Global,
+    file: &str,
+    certificate: &str,
+    store: &mut S,
+    out: &mut O,
+    err: &mut E,
+) -> Status
+    ensures told { IsVerified (store_of (S.holds store.old) (S.faults store.old) (S.faults store.new)) file.now certificate.now
+        (sink_of (O.faults out.old) (O.faults out.new) (O.written out.old) (O.written out.new))
+        (sink_of (E.faults err.old) (E.faults err.new) (E.written err.old) (E.written err.new)) result }
+    ensures kept { S.holds store.new ≡ S.holds store.old }
+    ensures later { (name : Text) → S.faults store.old name ≤ S.faults store.new name }
+{
+    let mut text = String::new(alloc);
+    let mut report = String::new(alloc);
+    match verify_certificate(alloc, store, file, certificate, &mut text, &mut report) {
+        Ok(outcome) => {
+            write_report(err, &report);
+            put_text(out, &text, Status::from(outcome))
         }
         Err(AllocError) => no_memory(err),
     }

@@ -1,8 +1,7 @@
-// Whole calls of `explain budget`: programs, files of bounds and texts, worked out by hand. For tests_explain; `told` is
-// that of calls.rt, which gives `STATUS OUT|ERR`. A line that is not kept ends the call with 1 here.
-use crate::calls::told;
+// Whole calls of `explain budget`: programs, files of bounds and texts, worked out by hand.
 use std::alloc::Global;
 use std::test::Fail;
+use tests_explain_calls::told;
 
 // A tick for each element; 7 units of work for each, and 4 more; no cells.
 const LEN: &str =
@@ -13,16 +12,12 @@ const DOWN: &str = "fun down (x : int) : int = if x = 0 then 0 else tick 1 in do
     fun main (x : int) : int = down(x)\n";
 
 // A tick for each element of each list.
-const ALL: &str = "fun len (l : int list) : int = match l with nil -> 0 | h :: t -> tick 1 in 1 + len(t)\n\
+const ALL: &str =
+    "fun len (l : int list) : int = match l with nil -> 0 | h :: t -> tick 1 in 1 + len(t)\n\
     fun all (x : int list list) : int = match x with nil -> 0 | h :: t -> len(h) + all(t)\n";
 
 // What `budget` tells of the program and these bounds, with these words behind the names of the files.
-fn told_of(
-    alloc: Global,
-    source: &str,
-    bounds: &[u8],
-    words: &[&str],
-) -> Result<String, Fail> {
+fn told_of(alloc: Global, source: &str, bounds: &[u8], words: &[&str]) -> Result<String, Fail> {
     let mut all = Vec::new(alloc);
     all.push("budget")?;
     all.push("p")?;
@@ -91,11 +86,23 @@ fn tells_that_there_is_no_bound(rt: HostRuntime) -> Result<(), Fail> {
 #[test]
 fn tells_sums_over_elements(rt: HostRuntime) -> Result<(), Fail> {
     assert_eq!(rt;
-        told_of(rt.alloc(), ALL, b"all ticks <= 2*<[[_]]>\n", &["--degree", "2"])?.as_str(),
+        told_of(
+            rt.alloc(),
+            ALL,
+            b"all ticks <= 2*<[[_]]>\n",
+            &["--degree", "2"]
+        )?
+        .as_str(),
         "0 all ticks kept: ≤ 2·Σ(y in x) |y| declared, ≤ Σ(y in x) |y| found\n|"
     );
     assert_eq!(rt;
-        told_of(rt.alloc(), ALL, b"all ticks <= 1*<[_]>\n", &["--degree", "2"])?.as_str(),
+        told_of(
+            rt.alloc(),
+            ALL,
+            b"all ticks <= 1*<[_]>\n",
+            &["--degree", "2"]
+        )?
+        .as_str(),
         "1 all ticks not kept: ≤ |x| declared, ≤ Σ(y in x) |y| found; exceeding: Σ(y in x) |y| (declared 0)\n|"
     );
     Ok(())
@@ -104,7 +111,8 @@ fn tells_sums_over_elements(rt: HostRuntime) -> Result<(), Fail> {
 // 2^126 + 1 and 2^126 - 1 have no common multiple below 2^127, so the bound stands as in the file.
 #[test]
 fn tells_bounds_without_a_common_denominator(rt: HostRuntime) -> Result<(), Fail> {
-    let bounds = "len cells <= 1/85070591730234615865843651857942052865 + 1/85070591730234615865843651857942052863*<[_]>";
+    let bounds =
+        "len cells <= 1/85070591730234615865843651857942052865 + 1/85070591730234615865843651857942052863*<[_]>";
     assert_eq!(rt;
         told_of(rt.alloc(), LEN, bounds.as_bytes(), &["--degree", "1"])?.as_str(),
         "0 len cells kept: ≤ 1/85070591730234615865843651857942052865 \
@@ -114,19 +122,16 @@ fn tells_bounds_without_a_common_denominator(rt: HostRuntime) -> Result<(), Fail
 }
 
 #[test]
-fn breaks_lines_at_a_width(rt: HostRuntime) -> Result<(), Fail> {
-    assert_eq!(rt;
-        told_of(rt.alloc(), LEN, b"len ticks <= 1*<[_]>", &["--width", "40"])?.as_str(),
-        "0 len ticks kept: ≤ n declared, ≤ n found\n      n = |l|\n|"
-    );
-    Ok(())
-}
-
-#[test]
 fn tells_objects(rt: HostRuntime) -> Result<(), Fail> {
     let bounds = "len work <= 3 + 10*<[_]>\nlen cells <= 4/2*<[_]>\n";
     assert_eq!(rt;
-        told_of(rt.alloc(), LEN, bounds.as_bytes(), &["--json", "--degree", "1"])?.as_str(),
+        told_of(
+            rt.alloc(),
+            LEN,
+            bounds.as_bytes(),
+            &["--json", "--degree", "1"]
+        )?
+        .as_str(),
         "1 {\"function\":\"len\",\"meter\":\"work\",\"degree\":1,\"verdict\":\"not kept\",\
         \"declared\":[{\"index\":\"<[]>\",\"coefficient\":\"3\"},{\"index\":\"<[_]>\",\"coefficient\":\"10\"}],\
         \"found\":[{\"index\":\"<[]>\",\"coefficient\":\"4\"},{\"index\":\"<[_]>\",\"coefficient\":\"7\"}]}\n\
@@ -134,7 +139,13 @@ fn tells_objects(rt: HostRuntime) -> Result<(), Fail> {
         \"declared\":[{\"index\":\"<[_]>\",\"coefficient\":\"2\"}],\"found\":[]}\n|"
     );
     assert_eq!(rt;
-        told_of(rt.alloc(), DOWN, b"main ticks <= 5\ndown ticks <= 0", &["--json"])?.as_str(),
+        told_of(
+            rt.alloc(),
+            DOWN,
+            b"main ticks <= 5\ndown ticks <= 0",
+            &["--json"]
+        )?
+        .as_str(),
         "1 {\"function\":\"main\",\"meter\":\"ticks\",\"degree\":4,\"verdict\":\"not kept\",\
         \"declared\":[{\"index\":\"<_>\",\"coefficient\":\"5\"}],\"found\":null,\"calls\":\"down\"}\n\
         {\"function\":\"down\",\"meter\":\"ticks\",\"degree\":4,\"verdict\":\"not kept\",\"declared\":[],\"found\":null}\n|"
