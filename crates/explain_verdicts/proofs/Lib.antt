@@ -1,3 +1,4 @@
 mod Multiples
 mod Terms
 mod Placing
+mod Declaring

@@ -108,15 +108,17 @@ fn tells_sums_over_elements(rt: HostRuntime) -> Result<(), Fail> {
     Ok(())
 }
 
-// 2^126 + 1 and 2^126 - 1 have no common multiple below 2^127, so the bound stands as in the file.
+// 2^126 + 1 and 2^126 - 1 have no common multiple below 2^127, so the bound stands as in the file. Nothing is solved for it.
 #[test]
 fn tells_bounds_without_a_common_denominator(rt: HostRuntime) -> Result<(), Fail> {
+    let source = "fun down (x : int) : int = if x = 0 then 0 else tick 1 in down(x - 1)\n\
+        fun main (l : int list) : int = down(1)\n";
     let bounds =
-        "len cells <= 1/85070591730234615865843651857942052865 + 1/85070591730234615865843651857942052863*<[_]>";
+        "main ticks <= 1/85070591730234615865843651857942052865 + 1/85070591730234615865843651857942052863*<[_]>";
     assert_eq!(rt;
-        told_of(rt.alloc(), LEN, bounds.as_bytes(), &["--degree", "1"])?.as_str(),
-        "0 len cells kept: ≤ 1/85070591730234615865843651857942052865 \
-        + 1/85070591730234615865843651857942052863*<[_]> declared, ≤ 0 found\n|"
+        told_of(rt.alloc(), source, bounds.as_bytes(), &["--degree", "1"])?.as_str(),
+        "1 main ticks not kept: ≤ 1/85070591730234615865843651857942052865 \
+        + 1/85070591730234615865843651857942052863*<[_]> declared, no bound of degree 1: calls down, which has none\n|"
     );
     Ok(())
 }
