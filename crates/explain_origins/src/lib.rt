@@ -8,4 +8,4 @@ mod parts;
 mod spot;
 mod turn;
 
-pub use body::origin;
+pub use body::{origin, place_of};
