@@ -2,3 +2,4 @@ mod Fitting
 mod Operands
 mod Forms
 mod Walking
+mod Bodies

@@ -1,11 +1,11 @@
 //! For each form of a program's normal form the expression of the source for which it stands.
 #![tactic(auto)]
 
+mod body;
 mod cursor;
 pub mod laws;
-mod origin;
 mod parts;
 mod spot;
 mod turn;
 
-pub use origin::origin;
+pub use body::{origin, place_of};

@@ -11,7 +11,7 @@ ghost use Rattle.explain_verify.specs.Read.{plain_site};
 
 use cert_check::{budget_of, members};
 use cost_free::{Task, TaskKind};
-use explain_origins::origin;
+use explain_origins::{origin, place_of};
 use raml_syntax::{FunId, Pos, Program};
 use rules_plan::{GroupPlans, PlanFault, group_plans};
 use share_normal::NormProgram;
@@ -65,7 +65,8 @@ fn path_site(
             let fun = *members(program, task.group).get(*number as usize)?;
             let function = plans.functions.get(*number as usize)?;
             let expr = origin(program, fun, &function.plan, rest)?;
-            Some(Site { fun, at: expr.at })
+            let at = place_of(expr);
+            Some(Site { fun, at })
         }
     }
 }

@@ -3,11 +3,12 @@ ghost use Rattle.std.specs.Prelude.{◌≡◌, option_map};
 ghost use Rattle.raml_syntax.specs.Read.{term_of};
 ghost use Rattle.rules_walk.specs.Read.{plan_of};
 ghost use Rattle.share_normal.specs.Program.{source_in};
+ghost use Rattle.simple_types.specs.Walk.{place};
 ghost use Rattle.explain_origins.specs.Paths.{origin_in};
 
 use crate::cursor::Cursor;
 use crate::spot::Spot;
-use raml_syntax::{Expr, FunId};
+use raml_syntax::{Expr, FunId, Pos};
 use rules_walk::Plan;
 use share_normal::NormProgram;
 
@@ -28,4 +29,12 @@ pub fn origin<'p>(
         cursor: Cursor::of(&function.body),
     };
     spot.origin(path)
+}
+
+/// Where an expression stands.
+#[tactic(auto, using(crate::proofs::Forms::term_place))]
+pub fn place_of(expr: &Expr) -> Pos
+    ensures { result.0 ≡ place (term_of expr.now) }
+{
+    expr.at
 }
