@@ -19,9 +19,9 @@ use Rattle.explain_budget.specs.Calls as budget
 use Rattle.explain_budget.specs.Calls.{words_of}
 use Rattle.explain_budget.specs.declared.end.BudgetEnd.{BudgetEnd}
 use Rattle.explain_budget.specs.declared.end.BudgetEnd.TheVariants as b
-use Rattle.explain_verify.specs.Verifies as verify
-use Rattle.explain_verify.specs.declared.outcome.Outcome.{Outcome}
-use Rattle.explain_verify.specs.declared.outcome.Outcome.TheVariants as o
+use Rattle.explain_verify.specs.Verified as verify
+use Rattle.explain_verify.specs.declared.verification.Verification.{Verification}
+use Rattle.explain_verify.specs.declared.verification.Verification.TheVariants as o
 use Rattle.explain_words.specs.Asking.{Asks, AsksToShow, AsksNothing}
 use Rattle.explain_words.specs.declared.request.Request.{Request}
 use Rattle.explain_words.specs.declared.request.Request.TheVariants.{Check, CheckData, Bounds, Budget, WriteBudget, Verify}
@@ -60,11 +60,11 @@ status_of_budget b.Broken = s.Faulty
 status_of_budget b.Refused = s.Refused
 status_of_budget b.NotAnalysed = s.NotAnalysed
 
-abbrev pub status_of_outcome : Outcome → Status
-status_of_outcome o.Holds = s.Done
-status_of_outcome o.Refused = s.Faulty
-status_of_outcome o.Unread = s.Refused
-status_of_outcome o.NotVerified = s.NotAnalysed
+abbrev pub status_of_verification : Verification → Status
+status_of_verification o.Holds = s.Done
+status_of_verification o.Fails = s.Faulty
+status_of_verification o.Refused = s.Refused
+status_of_verification o.NotAnalysed = s.NotAnalysed
 
 -- a text is written to out, and the status is this one; or not as a whole, since out failed
 abbrev pub Puts : Text → Sink → Status → Status → Type 0
@@ -109,7 +109,7 @@ IsBudgetTold store file bounds degree json columns out err status =
 
 -- whether a certificate holds of a program
 abbrev pub IsVerified : Store → Text → Text → Sink → Sink → Status → Type 0
-IsVerified store file certificate out err status = Tells (verify.CallIs store file certificate) status_of_outcome out err status
+IsVerified store file certificate out err status = Tells (verify.CallIs store file certificate) status_of_verification out err status
 
 -- ---- a file of bounds that is left
 

@@ -154,9 +154,9 @@ fn verify<S: Store, O: Sink, E: Sink>(
     let mut text = String::new(alloc);
     let mut report = String::new(alloc);
     match verify_certificate(alloc, store, file, certificate, &mut text, &mut report) {
-        Ok(outcome) => {
+        Ok(end) => {
             write_report(err, &report);
-            put_text(out, &text, Status::from(outcome))
+            put_text(out, &text, Status::from(end))
         }
         Err(AllocError) => no_memory(err),
     }

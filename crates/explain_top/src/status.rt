@@ -1,12 +1,12 @@
 // How a call ends.
 ghost use Rattle.std.specs.Prelude.{◌≡◌};
-ghost use Rattle.explain_top.specs.Answers.{code_of, status_of, status_for, status_at, status_of_budget, status_of_outcome};
+ghost use Rattle.explain_top.specs.Answers.{code_of, status_of, status_for, status_at, status_of_budget, status_of_verification};
 
 use explain_budget::BudgetEnd;
 use explain_calls::End;
 use explain_check::Verdict;
 use explain_data::Finding;
-use explain_verify::Outcome;
+use explain_verify::Verification;
 
 /// How a call ends.
 #[derive(Clone, Copy, Debug, PartialEq, Eq)]
@@ -90,15 +90,15 @@ impl From<BudgetEnd> for Status {
     }
 }
 
-impl From<Outcome> for Status {
-    ghost from_gives = { λ outcome status. status ≡ status_of_outcome outcome };
+impl From<Verification> for Status {
+    ghost from_gives = { λ end status. status ≡ status_of_verification end };
 
-    fn from(outcome: Outcome) -> Status {
-        match outcome {
-            Outcome::Holds => Status::Done,
-            Outcome::Refused => Status::Faulty,
-            Outcome::Unread => Status::Refused,
-            Outcome::NotVerified => Status::NotAnalysed,
+    fn from(end: Verification) -> Status {
+        match end {
+            Verification::Holds => Status::Done,
+            Verification::Fails => Status::Faulty,
+            Verification::Refused => Status::Refused,
+            Verification::NotAnalysed => Status::NotAnalysed,
         }
     }
 }

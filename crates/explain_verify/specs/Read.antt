@@ -1,21 +1,3 @@
-<<<<<<< HEAD
--- What the code's sites and outlines are as plain data.
-use Rattle.std.specs.Prelude.{◌≡◌, map}
-use Rattle.cost_free.specs.Read.{outcomes_of}
-use Rattle.annot_types.specs.Certificate.{Certificate, has_work, outcome}
-use Rattle.explain_verify.specs.Sites as s
-use Rattle.explain_verify.specs.declared.refused.Outline.{Outline}
-use Rattle.explain_verify.specs.declared.site.Site.{Site}
-
-abbrev pub plain_site : Site → s.Site
-plain_site site = record { fun = site.fun.0; at = site.at.0 }
-
--- the outline has what it keeps of the certificate
-pub record IsOutlineOf (c : Certificate) (outline : Outline) : Type 0 where
-  pub degree : outline.degree ≡ c.degree
-  pub work : outline.work ≡ has_work c
-  pub done : outcomes_of outline.done.items ≡ map outcome c.blocks
-=======
 -- What the code keeps, as plain data.
 use Rattle.std.specs.Prelude.{◌≡◌, ℕ, List, map, Option, option_map}
 use Rattle.cost_free.specs.Read.{task_of, outcomes_of}
@@ -47,4 +29,3 @@ subject_in s = record {
   work = s.outline.now.work;
   done = outcomes_of s.outline.now.done.items;
 }
->>>>>>> 3d04d5a95d46edb516e9352272403aef876cdb59

@@ -1,18 +1,20 @@
-// Whether a certificate holds of a program.
-ghost use Rattle.std.specs.Prelude.{◌≡◌, ◌≤◌, ◌++◌, IfOk, OnOk, option_map, string_bytes};
+// The call.
+ghost use Rattle.std.specs.Prelude.{◌≡◌, ◌≤◌, ◌++◌, length, IfOk, OnOk, string_bytes};
 ghost use Rattle.raml_syntax.specs.Tree.{Text};
 ghost use Rattle.raml_syntax.specs.Read.{program_of};
-ghost use Rattle.call_groups.specs.Groups.{Grouping, IsGrouping};
 ghost use Rattle.annot_types.specs.Read.{certificate_of};
-ghost use Rattle.explain_check.specs.Stores.{store_of};
-ghost use Rattle.explain_verify.specs.Verifies.{CallIs, CertificateGives, OutcomeIs, holds_line};
+ghost use Rattle.explain_check.specs.Stores.{store_of, error_line};
+ghost use Rattle.explain_verify.specs.Read.{subject_in};
+ghost use Rattle.explain_verify.specs.Verified.{CallIs, ProgramIs, CertificateIs, holds_line, functions_text};
 
-use crate::outcome::Outcome;
-use crate::refused::{Files, Outline, outcomes, tell_fault};
+use crate::fault::push_fault;
+use crate::message::Subject;
+use crate::outline::Outline;
+use crate::verification::Verification;
 use annot_types::Certificate;
 use bound_infer::verify;
 use cert_json::{JsonFault, Place, read};
-use explain_check::{push_error, read_file, read_program};
+use explain_check::{MOST_BYTES, push_error, read_file, typed_source};
 use normal_program::normal_form;
 use raml_io::Store;
 use simple_types::Typed;
@@ -20,10 +22,10 @@ use std::alloc::{AllocError, Global};
 use std::fmt::Write;
 
 /// The limit of a certificate, in bytes.
-const MOST_BYTES: u64 = 16_777_216;
+const MOST_CERTIFICATE_BYTES: u64 = 16_777_216;
 
-/// Verifies that the certificate in a file holds of the program in another. That it holds is appended to `text`; where it
-/// does not, the function, the meter and the place in the source to the report, and otherwise what is wrong.
+/// Verifies that the file `certificate` is a certificate of the program of `file`. That it holds is appended to `text`, and
+/// what is wrong to the report: where it does not hold, the place in the source, and of which function and meter.
 pub fn verify_certificate<S: Store>(
     alloc: Global,
     store: &mut S,
@@ -31,110 +33,137 @@ pub fn verify_certificate<S: Store>(
     certificate: &str,
     text: &mut String,
     report: &mut String,
-) -> Result<Outcome, AllocError>
-    ensures told { IfOk result (λ outcome. (shown part : Text)
-        × CallIs (store_of (S.holds store.old) (S.faults store.old) (S.faults store.new)) file.now certificate.now outcome shown part
+) -> Result<Verification, AllocError>
+    ensures told { IfOk result (λ end. (shown part : Text)
+        × CallIs (store_of (S.holds store.old) (S.faults store.old) (S.faults store.new)) file.now certificate.now end shown part
         × (string_bytes text.new ≡ string_bytes text.old ++ shown)
         × (string_bytes report.new ≡ string_bytes report.old ++ part)) }
     ensures kept { S.holds store.new ≡ S.holds store.old }
     ensures later { (other : Text) → S.faults store.old other ≤ S.faults store.new other }
 {
-    let Some(source) = read_program(alloc, store, file, report)? else {
-        return Ok(Outcome::Unread);
+    let Some(source) = read_file(alloc, store, file, MOST_BYTES, report)? else {
+        return Ok(Verification::Refused);
     };
-    let Some(found) = read_certificate(alloc, store, certificate, report)? else {
-        return Ok(Outcome::Unread);
+    let Some(typed) = typed_source(alloc, file, &source, report)? else {
+        return Ok(Verification::Refused);
     };
     let files = Files {
         file,
-        source: &source.bytes,
+        source: &source,
         certificate,
     };
-    verify_read(alloc, files, &source.typed, found, text, report)
+    verify_for(alloc, store, &typed, files, text, report)
 }
 
-/// The certificate that the file of this name holds. Where it can't be read, or is none, this is appended to the report.
-fn read_certificate<S: Store>(
+/// The names of both files, and the bytes of the source.
+#[derive(Clone, Copy)]
+struct Files<'s> {
+    file: &'s str,
+    source: &'s [u8],
+    certificate: &'s str,
+}
+
+/// Verifies that the file is a certificate of a typed program.
+fn verify_for<S: Store>(
     alloc: Global,
     store: &mut S,
-    name: &str,
+    typed: &Typed,
+    files: Files<'_>,
+    text: &mut String,
     report: &mut String,
-) -> Result<Option<Certificate>, AllocError>
-    ensures told { IfOk result (λ found. (part : Text)
-        × CertificateGives (store_of (S.holds store.old) (S.faults store.old) (S.faults store.new)) name.now
-        (option_map certificate_of found) part
+) -> Result<Verification, AllocError>
+    requires few { length (program_of typed.now) ≤ 256 }
+    ensures told { IfOk result (λ end. (shown part : Text)
+        × ProgramIs (store_of (S.holds store.old) (S.faults store.old) (S.faults store.new)) files.entry.file.now files.entry.source.now
+        files.entry.certificate.now (program_of typed.now) end shown part
+        × (string_bytes text.new ≡ string_bytes text.old ++ shown)
         × (string_bytes report.new ≡ string_bytes report.old ++ part)) }
     ensures kept { S.holds store.new ≡ S.holds store.old }
     ensures later { (other : Text) → S.faults store.old other ≤ S.faults store.new other }
 {
-    let Some(bytes) = read_file(alloc, store, name, MOST_BYTES, report)? else {
-        return Ok(None);
+    let name = files.certificate;
+    let Some(bytes) = read_file(alloc, store, name, MOST_CERTIFICATE_BYTES, report)? else {
+        return Ok(Verification::Refused);
     };
     match read(alloc, &bytes) {
-        Ok(found) => Ok(Some(found)),
+        Ok(certificate) => verify_read(alloc, typed, certificate, files, text, report),
         Err(JsonFault::NoMemory) => Err(AllocError),
         Err(fault) => {
-            push_error(name, &why_none(alloc, fault)?, report)?;
-            Ok(None)
+            push_error(name, no_certificate(fault), report)?;
+            Ok(Verification::Refused)
         }
     }
 }
 
-/// Why a text is no certificate.
-fn why_none(alloc: Global, fault: JsonFault) -> Result<String, AllocError> {
+/// Why a file is no certificate.
+fn no_certificate(fault: JsonFault) -> &'static str {
     match fault {
-        JsonFault::NotJson | JsonFault::NoMemory => String::from_str(alloc, "this is no JSON"),
-        JsonFault::Shape { place } => part_text(alloc, "this is no certificate", place),
-        JsonFault::Number { place } => part_text(alloc, "a number is out of range", place),
+        JsonFault::NotJson => "it is no certificate: it is not JSON",
+        JsonFault::Shape { place: Place::Head } => "it is no certificate: it does not begin as one",
+        JsonFault::Shape {
+            place: Place::Block(_),
+        } => "it is no certificate: one of its blocks has another form",
+        JsonFault::Number { .. } => "it is no certificate: one of its numbers is none",
+        JsonFault::NoMemory => "",
     }
 }
 
-fn part_text(alloc: Global, why: &str, place: Place) -> Result<String, AllocError> {
-    match place {
-        Place::Head => format!(in alloc; "{why}, in its head"),
-        Place::Block(number) => format!(in alloc; "{why}, in its block {number}"),
-    }
-}
-
-/// Verifies a certificate that is read.
+/// Verifies a certificate for a typed program.
 fn verify_read(
     alloc: Global,
-    files: Files<'_>,
     typed: &Typed,
-    found: Certificate,
+    certificate: Certificate,
+    files: Files<'_>,
     text: &mut String,
     report: &mut String,
-) -> Result<Outcome, AllocError>
-    ensures { IfOk result (λ outcome. (shown part : Text) × (groups : Grouping) × IsGrouping (program_of typed.now) groups
-        × OutcomeIs files.file.now files.source.now files.certificate.now (program_of typed.now) groups.list (certificate_of found)
-        outcome shown part
+) -> Result<Verification, AllocError>
+    requires few { length (program_of typed.now) ≤ 256 }
+    ensures { IfOk result (λ end. (shown part : Text)
+        × CertificateIs files.entry.file.now files.entry.source.now files.entry.certificate.now (program_of typed.now)
+        (certificate_of certificate) end shown part
         × (string_bytes text.new ≡ string_bytes text.old ++ shown)
         × (string_bytes report.new ≡ string_bytes report.old ++ part)) }
 {
-    let _program = typed.program();
     let program = normal_form(alloc, typed)?;
-    let outline = Outline {
-        degree: found.degree,
-        work: found.work_scale.is_some(),
-        done: outcomes(alloc, &found.blocks)?,
+    let outline = Outline::of(alloc, &certificate)?;
+    let subject = Subject {
+        file: files.file,
+        source: files.source,
+        certificate: files.certificate,
+        program: &program,
+        outline: &outline,
     };
-    match verify(alloc, &program, found) {
+    match verify(alloc, &program, certificate) {
         Ok(_) => {
-            push_holds(files, outline.degree, text)?;
-            Ok(Outcome::Holds)
+            push_holds(&subject, text)?;
+            Ok(Verification::Holds)
         }
-        Err(fault) => tell_fault(alloc, files, &program, &outline, fault, report),
+        Err(fault) => push_fault(alloc, &subject, fault, report),
     }
 }
 
-/// Appends that the certificate holds.
-fn push_holds(files: Files<'_>, degree: u8, text: &mut String) -> Result<(), AllocError>
-    ensures { OnOk result (string_bytes text.new
-        ≡ string_bytes text.old ++ holds_line files.certificate.now files.file.now degree) }
+/// Appends that it holds, up to which degree and of how many functions.
+fn push_holds(subject: &Subject<'_, '_>, text: &mut String) -> Result<(), AllocError>
+    ensures { OnOk result (string_bytes text.new ≡ string_bytes text.old ++ holds_line (subject_in subject.now)) }
 {
+    let certificate = subject.certificate;
+    let file = subject.file;
+    let degree = subject.outline.degree;
     write!(
         text,
-        "{} holds of {} at degree {degree}\n",
-        files.certificate, files.file
-    )
+        "{certificate} holds of {file}: bounds up to degree {degree} of "
+    )?;
+    push_functions(subject.program.source().funs.len(), text)?;
+    text.push('\n')
+}
+
+/// Appends how many functions there are.
+fn push_functions(count: usize, text: &mut String) -> Result<(), AllocError>
+    ensures { OnOk result (string_bytes text.new ≡ string_bytes text.old ++ functions_text count) }
+{
+    if count == 1 {
+        text.push_str("1 function")
+    } else {
+        write!(text, "{count} functions")
+    }
 }

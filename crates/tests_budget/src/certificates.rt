@@ -48,7 +48,13 @@ fn tells_that_certificates_hold(rt: HostRuntime) -> Result<(), Fail> {
     for source in [LEN, LONGER, DOWN] {
         let certificate = certificate_of(alloc, source)?;
         let text = told_of(alloc, source, &certificate)?;
-        assert_eq!(rt; text.as_str(), "0 c holds of p at degree 1\n|");
+        assert!(rt;
+            text.as_str()
+                .starts_with("0 c holds of p: bounds up to degree 1 of ")
+        );
+        assert!(rt;
+            text.as_str().ends_with(" function\n|") || text.as_str().ends_with(" 2 functions\n|")
+        );
     }
     Ok(())
 }
@@ -60,7 +66,7 @@ fn tells_where_a_condition_fails(rt: HostRuntime) -> Result<(), Fail> {
     assert_eq!(rt;
         text.as_str(),
         format!(in alloc;
-            "1 |p:1:66: error: len ticks: c does not hold here\n{DEARER}{:>66}\n",
+            "1 |p:1:66: error: len ticks: the certificate c is not one of this source: it fails here\n{DEARER}{:>66}\n",
             "^"
         )?
         .as_str()
@@ -75,7 +81,7 @@ fn tells_what_is_not_proved(rt: HostRuntime) -> Result<(), Fail> {
     assert_eq!(rt;
         text.as_str(),
         format!(in alloc;
-            "1 |p:1:1: error: down ticks: c does not prove that there is no bound\n{FREE}^\n"
+            "1 |p:1:1: error: down ticks: the certificate c does not prove that there is no bound\n{FREE}^\n"
         )?.as_str()
     );
     Ok(())
@@ -87,7 +93,8 @@ fn tells_that_certificates_are_others(rt: HostRuntime) -> Result<(), Fail> {
     let text = told_of(alloc, LONGER, &certificate_of(alloc, LEN)?)?;
     assert_eq!(rt;
         text.as_str(),
-        "1 |p:2:1: error: one, without costs: c is of another program, or of other bounds\n\
+        "1 |p:2:1: error: a part of the result of one, without costs: the certificate c is not one of this source: \
+        it has something else in this place\n\
         fun one (x : int) : int = 1\n^\n"
     );
     let text = told_of(alloc, LEN, &certificate_of(alloc, LONGER)?)?;
@@ -102,8 +109,11 @@ fn tells_that_certificates_are_others(rt: HostRuntime) -> Result<(), Fail> {
 fn tells_that_files_are_no_certificates(rt: HostRuntime) -> Result<(), Fail> {
     let alloc = rt.alloc();
     for (certificate, want) in [
-        ("{", "2 |c: error: this is no JSON\n"),
-        ("{}", "2 |c: error: this is no certificate, in its head\n"),
+        ("{", "2 |c: error: it is no certificate: it is not JSON\n"),
+        (
+            "{}",
+            "2 |c: error: it is no certificate: it does not begin as one\n",
+        ),
     ] {
         assert_eq!(rt; told_of(alloc, LEN, certificate)?.as_str(), want);
     }
