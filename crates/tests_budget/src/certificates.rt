@@ -98,10 +98,7 @@ fn tells_that_certificates_are_others(rt: HostRuntime) -> Result<(), Fail> {
         fun one (x : int) : int = 1\n^\n"
     );
     let text = told_of(alloc, LEN, &certificate_of(alloc, LONGER)?)?;
-    assert_eq!(rt;
-        text.as_str(),
-        "1 |c: error: is of another program, or of other bounds\n"
-    );
+    assert_eq!(rt; text.as_str(), "1 |c: error: it is of another program\n");
     Ok(())
 }
 
