@@ -119,11 +119,7 @@ fn write_fractions(
 }
 
 // Writes the bound that was found, or null.
-fn write_found(
-    alloc: Global,
-    writer: &mut Writer,
-    found: &Option<Poly>,
-) -> Result<(), AllocError>
+fn write_found(alloc: Global, writer: &mut Writer, found: &Option<Poly>) -> Result<(), AllocError>
     requires { IfSome found.now IsPoly }
     ensures written { OnOk result (writer.new.tokens ≡ writer.old.tokens ++ json_tokens (found_json (option_map bound_of found.now))) }
     ensures before { writer.new.before ≡ writer.old.before }
@@ -135,11 +131,7 @@ fn write_found(
 }
 
 // Writes the member for the function that is called and has no bound, where the verdict is that.
-fn write_calls(
-    writer: &mut Writer,
-    program: &Program,
-    verdict: &Verdict,
-) -> Result<(), AllocError>
+fn write_calls(writer: &mut Writer, program: &Program, verdict: &Verdict) -> Result<(), AllocError>
     ensures written { OnOk result (writer.new.tokens ≡ writer.old.tokens ++ calls_tokens (program_of program.now) verdict.now) }
     ensures before { writer.new.before ≡ writer.old.before }
 {
