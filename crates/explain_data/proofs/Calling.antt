@@ -9,9 +9,9 @@ use Rattle.raml_syntax.specs.Eval.{find}
 use Rattle.raml_syntax.specs.Read.{program_of}
 use Rattle.raml_syntax.specs.Types.{types_of}
 use Rattle.raml_syntax.specs.declared.program.Program.{Program}
-use Rattle.explain_check.specs.Checks.{SourceGives, IsProgramOf, most_bytes}
+use Rattle.explain_check.specs.Checks.{SourceGives, IsProgramOf, most_bytes, HoldsProgram}
 use Rattle.explain_check.specs.Stores.{Store, store_of, FileGives}
-use Rattle.explain_data.specs.Data.{ProgramIs, HoldsProgram, CallIs, HaveSomeParameters}
+use Rattle.explain_data.specs.Data.{ProgramIs, CallIs, HaveSomeParameters}
 use Rattle.explain_data.specs.declared.finding.Finding.{Finding}
 use Rattle.explain_data.specs.declared.finding.Finding.TheVariants.{Fits, Untyped, Refused}
 use Rattle.explain_data.proofs.Telling.{since_before}
