@@ -141,13 +141,17 @@ module _ {E : Type 0} (A : Numbers E) (G : Known E) where
     moves {u} = record { finds = λ mode path q r hs. finds_begun _ A G k mode path q _ (here e o s path) (λ i q. seen e a o b s t 0 path same (below.finds mode (path ++ 0 ∷ []) (moved A u q) r hs)) }
 
     pays : {ticks : ℕ} → Leads (p.Pays k ticks w) s e o
-    pays {ticks} = record { finds = λ mode path q r hs. finds_begun _ A G k mode path q _ (here e o s path)
-        (λ i q. let price = charge G.scale mode Ticks ticks in
-        finds_behind _ path i ((at A q 0, A.number price) ∷ []) _ (here e o s path) (seen e a o b s t 0 path same (below.finds mode (path ++ 0 ∷ []) (at_zero (A.less price) q) r hs))) }
+    pays {ticks} = record {
+      finds = λ mode path q r hs. finds_begun _ A G k mode path q _ (here e o s path)
+          (λ i q. let price = charge G.scale mode Ticks ticks in
+          finds_behind _ path i ((at A q 0, A.number price) ∷ []) _ (here e o s path) (seen e a o b s t 0 path same (below.finds mode (path ++ 0 ∷ []) (at_zero (A.less price) q) r hs)));
+    }
 
     shares : {size : ℕ} {u : Step} → Leads (p.Shares k size u w) s e o
-    shares {size} {u} = record { finds = λ mode path q r hs. finds_begun _ A G k mode path q _ (here e o s path)
-        (λ i q. finds_behind _ path i (against A q (moved A u (walking.copies_of hs))) _ (here e o s path) (seen e a o b s t 0 path same (below.finds mode (path ++ 0 ∷ []) (walking.copies_of hs) r (later hs)))) }
+    shares {size} {u} = record {
+      finds = λ mode path q r hs. finds_begun _ A G k mode path q _ (here e o s path)
+          (λ i q. finds_behind _ path i (against A q (moved A u (walking.copies_of hs))) _ (here e o s path) (seen e a o b s t 0 path same (below.finds mode (path ++ 0 ∷ []) (walking.copies_of hs) r (later hs))));
+    }
 
   forks : {e a b : Norm} {all o rest : Origins} {s t t' w w' : Plan} {k : ℕ} {u v : Step} →
       ((more : List ℕ) → origin_at s e all (0 ∷ more) ≡ origin_at t a o more) → ((more : List ℕ) → origin_at s e all (1 ∷ more) ≡ origin_at t' b rest more) →
