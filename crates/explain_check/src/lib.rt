@@ -9,6 +9,6 @@ mod verdict;
 
 pub use files::{MOST_BYTES, check_files};
 pub use read::read_file;
-pub use report::{push_error, push_fault};
+pub use report::{push_error, push_fault, push_told_fault};
 pub use source::{check_source, typed_source};
 pub use verdict::Verdict;

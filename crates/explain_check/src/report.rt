@@ -43,6 +43,21 @@ pub fn push_fault(
     ensures { OnOk result ((rest : Text)
         × (string_bytes report.new ≡ string_bytes report.old ++ (fault_head name.now text.now at ++ rest))) }
 {
+    push_told_fault(alloc, name, text, at, message, report)
+}
+
+/// The same, where it counts that the message stands behind the place.
+pub fn push_told_fault(
+    alloc: Global,
+    name: &str,
+    text: &[u8],
+    at: usize,
+    message: &str,
+    report: &mut String,
+) -> Result<(), AllocError>
+    ensures { OnOk result ((rest : Text)
+        × (string_bytes report.new ≡ string_bytes report.old ++ (fault_head name.now text.now at ++ (message.now ++ rest)))) }
+{
     push_head(name, text, at, report)?;
     push_body(alloc, text, at, message, report)
 }
@@ -63,7 +78,7 @@ fn push_body(
     message: &str,
     report: &mut String,
 ) -> Result<(), AllocError>
-    ensures { OnOk result ((rest : Text) × (string_bytes report.new ≡ string_bytes report.old ++ rest)) }
+    ensures { OnOk result ((rest : Text) × (string_bytes report.new ≡ string_bytes report.old ++ (message.now ++ rest))) }
 {
     report.push_str(message)?;
     report.push('\n')?;

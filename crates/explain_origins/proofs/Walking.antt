@@ -1,10 +1,9 @@
 -- The paths of a walk lead to origins.
-use Rattle.std.proofs.Common.{◌≡◌, ◌⊎◌, ◌+◌, ◌-◌, ◌*◌, ℕ, zero, suc, nat_eq, List, [], ◌∷◌, ◌++◌, map, drop, length, slice_get, slice_index_or, Option, Some, None, option_map, refl, sym, ap, ◌∙◌, subst, inl, inr, Bool, true, false, arith}
+use Rattle.std.proofs.Common.{◌≡◌, ◌⊎◌, ◌+◌, ◌*◌, ℕ, zero, suc, nat_eq, List, [], ◌∷◌, ◌++◌, map, length, slice_get, slice_index_or, Option, Some, None, option_map, refl, sym, ap, ◌∙◌, subst, inl, inr, arith}
 use Rattle.std.proofs.lemmas.List.{append-nil, append_assoc}
 use Rattle.std.proofs.lemmas.Bool.{eq-eqb}
 use Rattle.std.specs.List.{AllByRecursion}
-use Rattle.raml_syntax.specs.Tree.{Type', Function, Prog}
-use Rattle.base_poly.specs.Plain.{Plain, degrees}
+use Rattle.raml_syntax.specs.Tree.{Type'}
 use Rattle.normal_spec.specs.Norm as n
 use Rattle.normal_spec.specs.Norm.{Norm}
 use Rattle.normal_spec.specs.Two.{norm_fun}
@@ -23,9 +22,9 @@ use Rattle.rules_spec.specs.Walk as walking
 use Rattle.rules_spec.specs.Walk.{Walk, charge, at, at_zero, only, behind, and_then, numbered, begun, against, results_of, later, joined, nothing, each, mode_at, moved, still, walk, walks}
 use Rattle.explain_origins.specs.Origins.{Origins, Ends, Goes, Forks, source, origins}
 use Rattle.explain_origins.specs.Fits.{Fits}
-use Rattle.explain_origins.specs.Paths.{plan_at, degree_at, let_turn, below, form_at, origins_at, ◌>>=◌, origin_at}
+use Rattle.explain_origins.specs.Paths.{plan_at, degree_at, let_turn, form_at, origins_at, ◌>>=◌, origin_at}
 use Rattle.explain_origins.specs.declared.turn.Turn.{Turn}
-use Rattle.explain_origins.specs.declared.turn.Turn.TheVariants.{Only, First, Second}
+use Rattle.explain_origins.specs.declared.turn.Turn.TheVariants.{First, Second}
 use Rattle.explain_origins.specs.Walked.{LeadsOn, BodyLeads}
 use Rattle.explain_origins.proofs.Fitting.{origins_fit}
 
@@ -141,13 +140,17 @@ module _ {E : Type 0} (A : Numbers E) (G : Known E) where
     moves {u} = record { finds = λ mode path q r hs. finds_begun _ A G k mode path q _ (here e o s path) (λ i q. seen e a o b s t 0 path same (below.finds mode (path ++ 0 ∷ []) (moved A u q) r hs)) }
 
     pays : {ticks : ℕ} → Leads (p.Pays k ticks w) s e o
-    pays {ticks} = record { finds = λ mode path q r hs. finds_begun _ A G k mode path q _ (here e o s path)
-        (λ i q. let price = charge G.scale mode Ticks ticks in
-        finds_behind _ path i ((at A q 0, A.number price) ∷ []) _ (here e o s path) (seen e a o b s t 0 path same (below.finds mode (path ++ 0 ∷ []) (at_zero (A.less price) q) r hs))) }
+    pays {ticks} = record {
+      finds = λ mode path q r hs. finds_begun _ A G k mode path q _ (here e o s path)
+          (λ i q. let price = charge G.scale mode Ticks ticks in
+          finds_behind _ path i ((at A q 0, A.number price) ∷ []) _ (here e o s path) (seen e a o b s t 0 path same (below.finds mode (path ++ 0 ∷ []) (at_zero (A.less price) q) r hs)));
+    }
 
     shares : {size : ℕ} {u : Step} → Leads (p.Shares k size u w) s e o
-    shares {size} {u} = record { finds = λ mode path q r hs. finds_begun _ A G k mode path q _ (here e o s path)
-        (λ i q. finds_behind _ path i (against A q (moved A u (walking.copies_of hs))) _ (here e o s path) (seen e a o b s t 0 path same (below.finds mode (path ++ 0 ∷ []) (walking.copies_of hs) r (later hs)))) }
+    shares {size} {u} = record {
+      finds = λ mode path q r hs. finds_begun _ A G k mode path q _ (here e o s path)
+          (λ i q. finds_behind _ path i (against A q (moved A u (walking.copies_of hs))) _ (here e o s path) (seen e a o b s t 0 path same (below.finds mode (path ++ 0 ∷ []) (walking.copies_of hs) r (later hs))));
+    }
 
   forks : {e a b : Norm} {all o rest : Origins} {s t t' w w' : Plan} {k : ℕ} {u v : Step} →
       ((more : List ℕ) → origin_at s e all (0 ∷ more) ≡ origin_at t a o more) → ((more : List ℕ) → origin_at s e all (1 ∷ more) ≡ origin_at t' b rest more) →
