@@ -100,7 +100,9 @@ fn no_certificate(fault: JsonFault) -> &'static str {
     match fault {
         JsonFault::NotJson => "it is no certificate: it is not JSON",
         JsonFault::Shape { place: Place::Head } => "it is no certificate: it does not begin as one",
-        JsonFault::Shape { place: Place::Block(_) } => "it is no certificate: one of its blocks has another form",
+        JsonFault::Shape {
+            place: Place::Block(_),
+        } => "it is no certificate: one of its blocks has another form",
         JsonFault::Number { .. } => "it is no certificate: one of its numbers is none",
         JsonFault::NoMemory => "",
     }
@@ -147,7 +149,10 @@ fn push_holds(subject: &Subject<'_, '_>, text: &mut String) -> Result<(), AllocE
     let certificate = subject.certificate;
     let file = subject.file;
     let degree = subject.outline.degree;
-    write!(text, "{certificate} holds of {file}: bounds up to degree {degree} of ")?;
+    write!(
+        text,
+        "{certificate} holds of {file}: bounds up to degree {degree} of "
+    )?;
     push_functions(subject.program.source().funs.len(), text)?;
     text.push('\n')
 }

@@ -22,12 +22,7 @@ pub(crate) fn function_place(program: &Program, fun: FunId) -> usize
 }
 
 /// The byte of the expression for which the form stands to which a path leads; that of the function where it leads to none.
-pub(crate) fn form_place(
-    program: &NormProgram<'_>,
-    fun: FunId,
-    plan: &Plan,
-    path: &[u32],
-) -> usize
+pub(crate) fn form_place(program: &NormProgram<'_>, fun: FunId, plan: &Plan, path: &[u32]) -> usize
     ensures { result ≡ place_or (function_place (source_in program.now) fun.0)
         (origin_in (source_in program.now) fun.0 (walk.plan_of plan.now) path.now) }
 {
