@@ -1,8 +1,8 @@
 -- Functions of a program, and their normal forms.
-use Rattle.std.proofs.Common.{◌≡◌, ◌∙◌, ◌<◌, ℕ, zero, suc, List, [], ◌∷◌, map, length, slice_get, slice_index_or, Some, sym, ap, subst, arith}
+use Rattle.std.proofs.Common.{◌≡◌, ◌∙◌, ◌<◌, ℕ, zero, suc, List, [], ◌∷◌, map, length, slice_get, slice_index_or, Some, sym, ap, arith}
 use Rattle.std.proofs.lemmas.Option.{slice_get-map}
 use Rattle.std.specs.Option.{option_map}
-use Rattle.raml_syntax.specs.Tree.{Term, Function, Prog}
+use Rattle.raml_syntax.specs.Tree.{Function, Prog}
 use Rattle.raml_syntax.specs.declared.ty.Ty.{Ty}
 use Rattle.normal_spec.specs.Norm as n
 use Rattle.normal_spec.specs.Read.{norm_of, fun_of, funs_of}

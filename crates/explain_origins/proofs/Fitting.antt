@@ -1,5 +1,5 @@
 -- The origins of an expression fit its normal form.
-use Rattle.std.proofs.Common.{◌≡◌, ◌+◌, ◌<◌, ℕ, List, [], ◌∷◌, ◌++◌, ◌||◌, map, length, Option, Some, None, refl, inr, inl, arith}
+use Rattle.std.proofs.Common.{◌+◌, ℕ, List, [], ◌∷◌, ◌++◌, ◌||◌, map, length, Option, Some, None, refl, inr, inl, arith}
 use Rattle.raml_syntax.specs.Tree as t
 use Rattle.raml_syntax.specs.Tree.{Text, Type', Integer, Boolean, ListOf, TreeOf, Function, Prog}
 use Rattle.raml_syntax.specs.Eval.{find}
@@ -7,7 +7,7 @@ use Rattle.raml_syntax.specs.Place.{place_of}
 use Rattle.normal_spec.specs.Norm as n
 use Rattle.normal_spec.specs.Norm.{carries}
 use Rattle.normal_spec.specs.Levels.{Levels}
-use Rattle.normal_spec.specs.One.{Scope, types_in, bound, bound_two, bound_three, first_part, second_part, element, part_of, found, type_of, split_form, if_form, list_form, tree_form, option_form, place_or, plain, parameters_or, first_of_types, rest_of, Operand, name, bare_all, after, wrap, wrap_all, operand, operands, norm_one, norm_two, norm_three, one, scope_of, numbered, body_of}
+use Rattle.normal_spec.specs.One.{Scope, types_in, bound, bound_two, bound_three, first_part, second_part, element, part_of, found, type_of, split_form, if_form, list_form, tree_form, option_form, place_or, plain, parameters_or, rest_of, name, bare_all, after, wrap, wrap_all, operand, operands, norm_one, norm_two, norm_three, one, scope_of, numbered, body_of}
 use Rattle.normal_spec.specs.Two.{Shared, Slots, Made, free_in, slot, put, drop_all, share_all, used, unused, take_slot, take_all, part, of_one, of_two, of_three, over, around, two, norm_fun, own}
 use Rattle.normal_spec.proofs.Leveled.{Low, levels_one, levels_carries}
 use Rattle.normal_spec.proofs.Runs.{low_entry}

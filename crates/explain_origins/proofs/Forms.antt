@@ -1,5 +1,5 @@
 -- Expressions of the code, and the terms that they are.
-use Rattle.std.proofs.Common.{◌≡◌, ◌∙◌, ℕ, zero, suc, nat_eq, List, [], ◌∷◌, map, length, ◌<◌, ◌≤◌, slice_get, slice_index_or, Option, Some, None, option_map, refl, sym, ap, Vec, Box, Global, arith}
+use Rattle.std.proofs.Common.{◌≡◌, ◌∙◌, ℕ, zero, suc, nat_eq, List, [], ◌∷◌, map, length, ◌<◌, ◌≤◌, slice_get, slice_index_or, Some, None, option_map, refl, sym, ap, Vec, Box, Global, arith}
 use Rattle.std.specs.declared.rc.Rc.{Rc}
 use Rattle.std.proofs.lemmas.List.{length-map}
 use Rattle.raml_syntax.specs.Tree as t
@@ -9,7 +9,6 @@ use Rattle.raml_syntax.specs.declared.tree.Form.{Form}
 use Rattle.raml_syntax.specs.declared.tree.Form.TheVariants.{Call, rolls-Call}
 use Rattle.raml_syntax.specs.declared.tree.Form.TheOpen as o
 use Rattle.raml_syntax.specs.declared.tree.Form.TheFolds.{fold-roll-Form, fold_out-Form, fold_out-Expr}
-use Rattle.normal_spec.specs.Norm.{Norm}
 use Rattle.normal_spec.specs.Read.{const_form, op_form}
 use Rattle.normal_spec.specs.declared.form.Const.{Const}
 use Rattle.normal_spec.specs.declared.form.Const.TheVariants as const

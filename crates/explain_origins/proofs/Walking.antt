@@ -1,10 +1,9 @@
 -- The paths of a walk lead to origins.
-use Rattle.std.proofs.Common.{◌≡◌, ◌⊎◌, ◌+◌, ◌-◌, ◌*◌, ℕ, zero, suc, nat_eq, List, [], ◌∷◌, ◌++◌, map, drop, length, slice_get, slice_index_or, Option, Some, None, option_map, refl, sym, ap, ◌∙◌, subst, inl, inr, Bool, true, false, arith}
+use Rattle.std.proofs.Common.{◌≡◌, ◌⊎◌, ◌+◌, ◌*◌, ℕ, zero, suc, nat_eq, List, [], ◌∷◌, ◌++◌, map, length, slice_get, slice_index_or, Option, Some, None, option_map, refl, sym, ap, ◌∙◌, subst, inl, inr, arith}
 use Rattle.std.proofs.lemmas.List.{append-nil, append_assoc}
 use Rattle.std.proofs.lemmas.Bool.{eq-eqb}
 use Rattle.std.specs.List.{AllByRecursion}
-use Rattle.raml_syntax.specs.Tree.{Type', Function, Prog}
-use Rattle.base_poly.specs.Plain.{Plain, degrees}
+use Rattle.raml_syntax.specs.Tree.{Type'}
 use Rattle.normal_spec.specs.Norm as n
 use Rattle.normal_spec.specs.Norm.{Norm}
 use Rattle.normal_spec.specs.Two.{norm_fun}
@@ -23,9 +22,9 @@ use Rattle.rules_spec.specs.Walk as walking
 use Rattle.rules_spec.specs.Walk.{Walk, charge, at, at_zero, only, behind, and_then, numbered, begun, against, results_of, later, joined, nothing, each, mode_at, moved, still, walk, walks}
 use Rattle.explain_origins.specs.Origins.{Origins, Ends, Goes, Forks, source, origins}
 use Rattle.explain_origins.specs.Fits.{Fits}
-use Rattle.explain_origins.specs.Paths.{plan_at, degree_at, let_turn, below, form_at, origins_at, ◌>>=◌, origin_at}
+use Rattle.explain_origins.specs.Paths.{plan_at, degree_at, let_turn, form_at, origins_at, ◌>>=◌, origin_at}
 use Rattle.explain_origins.specs.declared.turn.Turn.{Turn}
-use Rattle.explain_origins.specs.declared.turn.Turn.TheVariants.{Only, First, Second}
+use Rattle.explain_origins.specs.declared.turn.Turn.TheVariants.{First, Second}
 use Rattle.explain_origins.specs.Walked.{LeadsOn, BodyLeads}
 use Rattle.explain_origins.proofs.Fitting.{origins_fit}
 

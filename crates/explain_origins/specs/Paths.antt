@@ -1,5 +1,6 @@
 -- To which forms the paths of a walk lead, and for which expressions these stand.
-use Rattle.std.specs.Prelude.{ℕ, zero, suc, nat_eq, Bool, true, false, List, [], ◌∷◌, length, slice_get, Option, Some, None, option_map, option_and_then}
+use Rattle.std.specs.Prelude.{ℕ, zero, suc, nat_eq, Bool, true, false, List, [], ◌∷◌, length, slice_get}
+use Rattle.std.specs.Prelude.{Option, Some, None, option_map, option_and_then}
 use Rattle.raml_syntax.specs.Tree as t
 use Rattle.raml_syntax.specs.Tree.{Function, Prog}
 use Rattle.normal_spec.specs.Norm as n
@@ -7,7 +8,7 @@ use Rattle.normal_spec.specs.Norm.{Norm}
 use Rattle.normal_spec.specs.Two.{norm_fun}
 use Rattle.rules_spec.specs.Plan as p
 use Rattle.rules_spec.specs.Plan.{Plan, Plans, NoPlans, More, Part}
-use Rattle.explain_origins.specs.Origins.{Origins, Ends, Goes, Forks, source, origins}
+use Rattle.explain_origins.specs.Origins.{Origins, Goes, Forks, source, origins}
 use Rattle.explain_origins.specs.declared.turn.Turn.{Turn}
 use Rattle.explain_origins.specs.declared.turn.Turn.TheVariants.{Only, First, Second}
 

@@ -1,5 +1,5 @@
 -- What walks find is found at forms that have origins.
-use Rattle.std.specs.Prelude.{◌≡◌, ℕ, List, [], ◌∷◌, ◌++◌, Some}
+use Rattle.std.specs.Prelude.{◌≡◌, ℕ, List, [], ◌++◌, Some}
 use Rattle.std.specs.List.{AllByRecursion}
 use Rattle.raml_syntax.specs.Tree.{Term, Function, Prog}
 use Rattle.normal_spec.specs.Norm.{Norm}
@@ -11,7 +11,7 @@ use Rattle.rules_spec.specs.Plan.{Plan}
 use Rattle.rules_spec.specs.Planned.{plan}
 use Rattle.rules_spec.specs.Numbers.{Numbers, Known, Hint, Condition}
 use Rattle.rules_spec.specs.Walk.{walk}
-use Rattle.rules_spec.specs.Kinds.{Amount, Form, amounts, forms}
+use Rattle.rules_spec.specs.Kinds.{amounts, forms}
 use Rattle.explain_origins.specs.Origins.{Origins, origins}
 use Rattle.explain_origins.specs.Paths.{origin_at}
 
@@ -26,10 +26,12 @@ pub record LeadsOn (e : Norm) (o : Origins) (plan : Plan) (front path : List ℕ
 -- these are told is over no blocks.
 abbrev pub BodyLeads : {E : Type 0} → Numbers E → Type 0
 BodyLeads {E} A =
-    (P : Prog) (g : Function) (N : Program) (group : List ℕ) (earlier : List Block) (top budget : ℕ) (known : Known E) (mode : Mode) (front : List ℕ) (q r : List E) (hs : List (Hint E)) →
+    (P : Prog) (g : Function) (N : Program) (group : List ℕ) (earlier : List Block) (top budget : ℕ) (known : Known E) (mode : Mode)
+    (front : List ℕ) (q r : List E) (hs : List (Hint E)) →
     let h = norm_fun P g in
     let walked = walk A known (plan N group earlier top h.body h.params h.result budget) mode front q r hs in
-    AllByRecursion (λ (c : Condition E). LeadsOn h.body (origins g.body) (plan N group [] top h.body h.params h.result budget) front c.path) walked.found
+    let seen = plan N group [] top h.body h.params h.result budget in
+    AllByRecursion (λ (c : Condition E). LeadsOn h.body (origins g.body) seen front c.path) walked.found
 
 abbrev pub WalksLeadToOrigins : Type 0
 WalksLeadToOrigins = BodyLeads (amounts 1) × BodyLeads forms

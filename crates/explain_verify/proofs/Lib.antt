@@ -1,0 +1,4 @@
+mod Lists
+mod Scheduling
+mod Calling
+mod Verifying

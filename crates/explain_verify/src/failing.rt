@@ -25,7 +25,7 @@ pub(crate) struct Failing<'f> {
 }
 
 /// The condition at a path in a block.
-pub(crate) fn failing<'f>(
+pub(crate) fn condition_at<'f>(
     subject: &Subject<'_, '_>,
     block: usize,
     path: &'f [u32],
@@ -96,8 +96,9 @@ fn stands_at(
 
 /// The byte of the form, where these are the plans of the functions of its group.
 fn planned_place(subject: &Subject<'_, '_>, failing: &Failing<'_>, plans: &[FunctionPlan]) -> usize
-    requires member { slice_get (members (program_in subject.now.program.now) failing.now.task.group) failing.now.number ≡ Some failing.now.fun.0 }
-    ensures { (budget : ℕ) → map function_of plans.now ≡ group_bodies (program_in subject.now.program.now) failing.now.task.group [] budget →
+    requires { slice_get (members (program_in subject.now.program.now) failing.now.task.group) failing.now.number ≡ Some failing.now.fun.0 }
+    ensures { (budget : ℕ) →
+        map function_of plans.now ≡ group_bodies (program_in subject.now.program.now) failing.now.task.group [] budget →
         result ≡ told.form_place (subject_in subject.now) failing.now.task.group budget failing.now.fun.0 failing.now.path.now }
 {
     match plans.get(failing.number as usize) {

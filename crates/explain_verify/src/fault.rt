@@ -6,7 +6,7 @@ ghost use Rattle.explain_verify.specs.Told as told;
 ghost use Rattle.explain_verify.specs.Verified.{CheckIs, FaultIs, LimitIs};
 ghost use Rattle.explain_verify.specs.Read.{subject_in};
 
-use crate::failing::{failing, fails_at};
+use crate::failing::{condition_at, fails_at};
 use crate::limit::push_limit;
 use crate::message::{Subject, Why, push_of_task, push_other_program, push_told};
 use crate::scheduled::task_at;
@@ -90,7 +90,7 @@ fn push_failing(
     ensures { OnOk result ((part : Text) × OfFailing (subject_in subject.now) (told.failing (subject_in subject.now) block path.now) part
         × (string_bytes report.new ≡ string_bytes report.old ++ part)) }
 {
-    match failing(subject, block, path) {
+    match condition_at(subject, block, path) {
         Some(failing) => {
             let at = fails_at(alloc, subject, &failing)?;
             let kind = failing.task.kind;

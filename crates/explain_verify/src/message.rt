@@ -51,7 +51,7 @@ pub(crate) fn push_told(
     ensures { OnOk result ((part : Text) × IsToldAt (subject_in subject.now) (kind_of kind) fun.0 at part
         × (string_bytes report.new ≡ string_bytes report.old ++ part)) }
 {
-    let message = message(alloc, subject, kind, fun, why)?;
+    let message = message_text(alloc, subject, kind, fun, why)?;
     push_told_fault(
         alloc,
         subject.file,
@@ -63,7 +63,7 @@ pub(crate) fn push_told(
 }
 
 /// Of what it is told, and why.
-fn message(
+fn message_text(
     alloc: Global,
     subject: &Subject<'_, '_>,
     kind: TaskKind,

@@ -35,7 +35,8 @@ pub(crate) fn task_at(
         outline.before(block),
     ) {
         Ok(Some(task)) => Ok(Some(task)),
-        Ok(None) | Err(IndexFault::TooMany) => Ok(outline.task(block)),
+        Ok(None) => Ok(outline.task(block)),
+        Err(IndexFault::TooMany) => Ok(outline.task(block)),
         Err(IndexFault::NoMemory) => Err(AllocError),
     }
 }

@@ -1,5 +1,4 @@
 use Rattle.std.proofs.Common.{◌≡◌, ◌∙◌, Some, slice_get, map, ap, subst}
-use Rattle.raml_syntax.specs.Tree.{Term}
 use Rattle.raml_syntax.specs.Read.{function_of}
 use Rattle.raml_syntax.specs.declared.program.Program.{Program}
 use Rattle.rules_walk.specs.Read.{plan_of}
