@@ -1,27 +1,21 @@
 -- Where a fault of declared bounds is shown.
-use Rattle.std.specs.Prelude.{ℕ, zero, suc, ◌+◌, ◌-◌, cond, nat_eq, List, [], ◌∷◌, length, Option, Some, None, codes}
+use Rattle.std.specs.Prelude.{ℕ, zero, suc, ◌+◌, ◌-◌, cond, nat_eq, List, [], ◌∷◌, length, codes}
 use Rattle.std.specs.List.{starts_with}
 use Rattle.raml_syntax.specs.Tree.{Text}
-use Rattle.bound_file.specs.Reading.{cut_at}
 use Rattle.bound_file.specs.declared.fault.LineFault.{LineFault}
 use Rattle.bound_file.specs.declared.fault.LineFault.TheVariants.{Shape, Number, Unknown, Index, Twice}
 use Rattle.bound_file.specs.declared.fault.DeclFault.{DeclFault}
 use Rattle.bound_file.specs.declared.fault.DeclFault.TheVariants as f
 
-abbrev pub before : Text → Option (Text × Text) → Text
-before text None = text
-before text (Some parts) = parts.0
-
-abbrev pub behind : Option (Text × Text) → Text
-behind None = []
-behind (Some parts) = parts.1
-
--- what stands before the first such byte of a text, or the text, and what stands behind it, or nothing
+-- what stands before the first such byte of a text, or the whole text
 abbrev pub before_mark : ℕ → Text → Text
-before_mark mark text = before text (cut_at mark text)
+before_mark mark [] = []
+before_mark mark (byte ∷ text) = cond (nat_eq byte mark) [] (byte ∷ before_mark mark text)
 
+-- what stands behind the first such byte, or nothing
 abbrev pub behind_mark : ℕ → Text → Text
-behind_mark mark text = behind (cut_at mark text)
+behind_mark mark [] = []
+behind_mark mark (byte ∷ text) = cond (nat_eq byte mark) text (behind_mark mark text)
 
 -- what stands behind so many line feeds
 abbrev pub behind_lines : ℕ → Text → Text

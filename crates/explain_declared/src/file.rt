@@ -1,5 +1,5 @@
 // Declared bounds from the bytes of a file.
-ghost use Rattle.std.specs.Prelude.{◌≡◌, ◌<◌, ◌^◌, ◌++◌, length, IfOk, OnOk, string_bytes};
+ghost use Rattle.std.specs.Prelude.{◌≡◌, ◌≤◌, ◌<◌, ◌^◌, ◌++◌, length, IfOk, IfSome, OnOk, string_bytes};
 ghost use Rattle.raml_syntax.specs.Tree.{Text};
 ghost use Rattle.raml_syntax.specs.Read.{program_of};
 ghost use Rattle.bound_file.specs.Answers.{FirstFault};
@@ -29,8 +29,9 @@ pub fn declared_in(
 ) -> Result<Option<Declared>, AllocError>
     requires short { length bytes.now < 2 ^ 31 }
     requires few { length (program_of program.now) < 2 ^ 31 }
-    ensures { IfOk result (λ found. (part : Text) × BytesGive (program_of program.now) degree name.now bytes.now found part
+    ensures told { IfOk result (λ found. (part : Text) × BytesGive (program_of program.now) degree name.now bytes.now found part
         × (string_bytes report.new ≡ string_bytes report.old ++ part)) }
+    ensures few { IfOk result (λ found. IfSome found (λ declared. length declared.lines ≤ length bytes.now)) }
 {
     match read(alloc, bytes, program, degree) {
         Ok(declared) => Ok(Some(declared)),

@@ -2,3 +2,8 @@ mod Multiples
 mod Terms
 mod Placing
 mod Declaring
+mod Reading
+mod Excesses
+mod Alone
+mod Appended
+mod Beside

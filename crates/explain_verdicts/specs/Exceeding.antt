@@ -49,4 +49,5 @@ AreExcesses As params fs den ts texts = ⊥
 -- what is told behind a bound that is not kept: the terms that exceed what is declared
 abbrev pub TellsExceeding : List Type' → List Text → List Fraction → Bound → Text → Type 0
 TellsExceeding As params fs b text =
-    (texts : List Text) × AreExcesses As params fs b.den (exceeding fs b) texts × (text ≡ codes "; exceeding: " ++ joined (codes ", ") texts)
+    (texts : List Text) × AreExcesses As params fs b.den (exceeding fs b) texts
+    × (text ≡ codes "; exceeding: " ++ joined (codes ", ") texts)

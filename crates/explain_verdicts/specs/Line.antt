@@ -1,5 +1,5 @@
 -- The lines of verdicts.
-use Rattle.std.specs.Prelude.{◌≡◌, ◌||◌, ℕ, cond, Bool, true, false, Option, Some, None, List, [], ◌∷◌, ◌++◌, codes, decimal}
+use Rattle.std.specs.Prelude.{◌≡◌, ◌||◌, ◌==◌, ℕ, cond, length, Bool, true, false, Option, Some, None, List, [], ◌∷◌, ◌++◌, codes, decimal}
 use Rattle.std.specs.Str.{bytes_eq}
 use Rattle.raml_syntax.specs.Tree.{Text, Type', Function, Prog}
 use Rattle.raml_syntax.specs.Types.{types_of}
@@ -28,11 +28,10 @@ verdict_text false = codes "not kept"
 abbrev pub all_sizes : List Type' → List Text → Text
 all_sizes As params = legend_text (size_names params As) params
 
--- What the names of two texts mean: what those of one of them do, where the other has none or the same, and else all names.
+-- What the names of two bounds mean: those of the other where one has none, those of one where the other has none or the same, and else
+-- all names.
 abbrev pub shared : Text → Text → Text → Text
-shared all [] other = other
-shared all (c ∷ one) [] = c ∷ one
-shared all (c ∷ one) (d ∷ other) = cond (bytes_eq (c ∷ one) (d ∷ other)) (c ∷ one) all
+shared all one other = cond (length one == 0) other (cond ((length other == 0) || bytes_eq one other) one all)
 
 -- no bound of degree D
 abbrev pub no_bound : ℕ → Text
@@ -48,7 +47,8 @@ TellsExcess true As params fs b text = text ≡ []
 TellsExcess false As params fs b text = TellsExceeding As params fs b text
 
 -- What is told of the bound that was found, and what the names in the line mean, of which those of what is declared mean this.
-pub record TellsBound (As : List Type') (params : List Text) (fs : List Fraction) (meaning : Text) (kept : Bool) (b : Bound) (text : Text) : Type 0 where
+pub record TellsBound (As : List Type') (params : List Text) (fs : List Fraction) (meaning : Text) (kept : Bool) (b : Bound)
+    (text : Text) : Type 0 where
   pub sum : Text
   pub means : Text
   pub excess : Text
@@ -73,7 +73,8 @@ pub record TellsVerdict (P : Prog) (As : List Type') (params : List Text) (d : �
   pub is : text ≡ codes " " ++ (verdict_text (is_kept verdict) ++ (codes ":" ++ (at_most ++ (declared ++ (codes " declared," ++ behind)))))
 
 -- NAME METER, and the verdict
-pub record IsVerdictLine (P : Prog) (g : Function) (d : ℕ) (line : Line) (verdict : Verdict) (found : Option Bound) (text : Text) : Type 0 where
+pub record IsVerdictLine (P : Prog) (g : Function) (d : ℕ) (line : Line) (verdict : Verdict) (found : Option Bound)
+    (text : Text) : Type 0 where
   pub behind : Text
   pub tells : TellsVerdict P (types_of g) (names_of g) d (fractions_of (types_of g) d line.bound) verdict found behind
   pub is : text ≡ g.name ++ (codes " " ++ (meter_text line.meter ++ behind))

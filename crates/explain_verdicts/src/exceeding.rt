@@ -1,5 +1,6 @@
 // Where the bound that was found exceeds what is declared.
-ghost use Rattle.std.specs.Prelude.{◌≡◌, ◌<◌, ◌≤◌, ◌++◌, ◌<ℤ◌, ◌≤ℤ◌, pos, unsigned_abs, IfOk, IfSome, OnOk, List, Some, option_map, string_bytes};
+ghost use Rattle.std.specs.Prelude.{◌≡◌, ◌<◌, ◌≤◌, ◌++◌, ◌<ℤ◌, ◌≤ℤ◌, pos, unsigned_abs, List, Some, option_map};
+ghost use Rattle.std.specs.Prelude.{IfOk, IfSome, OnOk, string_bytes};
 ghost use Rattle.std.specs.List.{All};
 ghost use Rattle.raml_syntax.specs.Tree.{Text, Type'};
 ghost use Rattle.base_poly.specs.Plain.{degrees};
@@ -98,16 +99,31 @@ fn push_excess(
         (option_map (λ f. f.now) declared.entry) told
         × (string_bytes text.new ≡ string_bytes text.old ++ told)) }
 {
-    text.push_str(&read_alone(alloc, found, params)?)?;
+    let sum = read_alone(alloc, found, params)?;
+    let beside = read_beside(alloc, declared, params)?;
+    text.push_str(&sum)?;
     text.push_str(" (declared ")?;
-    match declared {
-        None => text.push_str("0")?,
-        Some(fraction) => text.push_str(&read_fraction(alloc, fraction, params)?)?,
-    }
+    text.push_str(&beside)?;
     text.push_str(")")
 }
 
-// What is declared at a tuple, in algebra.
+// What is declared at a tuple, in algebra; 0 where nothing is.
+fn read_beside(
+    alloc: Global,
+    declared: Option<&Fraction>,
+    params: Params<'_>,
+) -> Result<String, AllocError>
+    requires { IfSome declared (λ f. IsFraction (context_of params.types.now) f.now) }
+    ensures { IfOk result (λ text. ReadsAt (context_of params.entry.types.now) (texts params.entry.names.now)
+        (option_map (λ f. f.now) declared.entry) (string_bytes text)) }
+{
+    match declared {
+        None => String::from_str(alloc, "0"),
+        Some(fraction) => read_fraction(alloc, fraction, params),
+    }
+}
+
+// A fraction in algebra.
 fn read_fraction(
     alloc: Global,
     fraction: &Fraction,

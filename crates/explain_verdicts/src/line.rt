@@ -1,5 +1,6 @@
 // The lines of verdicts.
 ghost use Rattle.std.specs.Prelude.{◌≡◌, ◌≤◌, ◌++◌, IfOk, IfSome, OnOk, option_map, string_bytes};
+ghost use Rattle.std.specs.List.{All};
 ghost use Rattle.raml_syntax.specs.Tree.{Text};
 ghost use Rattle.raml_syntax.specs.Types.{types_of};
 ghost use Rattle.raml_syntax.specs.Read.{program_of, function_of};
@@ -161,9 +162,21 @@ fn push_calls(
     ensures { OnOk result (string_bytes text.new ≡ string_bytes text.old
         ++ (calls_unbounded degree (name_at (program_of program.now) callee.0) ++ legend_behind legend.now)) }
 {
-    write!(text, " no bound of degree {degree}")?;
-    write!(text, ": calls {}, which has none", name_at(program, callee))?;
+    push_unbounded(text, program, degree, callee)?;
     push_legend(text, legend)
+}
+
+fn push_unbounded(
+    text: &mut String,
+    program: &Program,
+    degree: u8,
+    callee: FunId,
+) -> Result<(), AllocError>
+    ensures { OnOk result (string_bytes text.new
+        ≡ string_bytes text.old ++ calls_unbounded degree (name_at (program_of program.now) callee.0)) }
+{
+    write!(text, " no bound of degree {degree}")?;
+    write!(text, ": calls {}, which has none", name_at(program, callee))
 }
 
 // Appends the bound that was found, and where the line is not kept what exceeds.
@@ -179,7 +192,8 @@ fn push_bound(
     requires fractions { AreFractions (context_of params.types.now) fractions.now }
     requires found { IsFound (context_of params.types.now) found.now }
     ensures { OnOk result ((told : Text)
-        × TellsBound (context_of params.entry.types.now) (texts params.entry.names.now) fractions.now legend.now kept (bound_of found.now) told
+        × TellsBound (context_of params.entry.types.now) (texts params.entry.names.now) fractions.now legend.now kept
+        (bound_of found.now) told
         × (string_bytes text.new ≡ string_bytes text.old ++ told)) }
 {
     let reading = read_bound(alloc, found, params.types, params.names)?;
@@ -228,8 +242,17 @@ fn push_shared(
     } else if other.is_empty() || one == other {
         push_legend(text, one)
     } else {
-        push_legend(text, &all_sizes(alloc, params)?)
+        push_all_sizes(alloc, text, params)
     }
+}
+
+// Appends what the names of all sizes mean.
+fn push_all_sizes(alloc: Global, text: &mut String, params: Params<'_>) -> Result<(), AllocError>
+    ensures { OnOk result (string_bytes text.new ≡ string_bytes text.old
+        ++ legend_behind (all_sizes (context_of params.entry.types.now) (texts params.entry.names.now))) }
+{
+    let legend = all_sizes(alloc, params)?;
+    push_legend(text, &legend)
 }
 
 // What the names of all sizes mean.

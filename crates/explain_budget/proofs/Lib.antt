@@ -1,0 +1,3 @@
+mod Judging
+mod Telling
+mod Placed
