@@ -15,6 +15,6 @@ returns c =
       sum ++ (codes " (declared " ++ (beside ++ codes ")")),
       record { sum = sum; meaning = reads.0; beside = beside; reads = reads.1; reads_declared = c.in_ok-beside.ensures; is = refl },
       four (string_bytes c.args.text.now) (string_bytes c.push_str.new.self) (string_bytes c.push_str-2.new.self) (string_bytes c.push_str-3.new.self) (string_bytes c.push_str-4.new.self)
-      sum (codes " (declared ") beside (codes ")") one c.in_ok-push_str-2.ensures.bytes three last,
+          sum (codes " (declared ") beside (codes ")") one c.in_ok-push_str-2.ensures.bytes three last,
     ))
     c.push_str-4.ensures.bytes
