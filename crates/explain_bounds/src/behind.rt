@@ -57,8 +57,10 @@ pub(crate) fn write_behind(
                 let within = greatest_within(alloc, poly, sizes, *most)?;
                 write_most(writer, *most)?;
                 write_within(alloc, writer, params, given, within)?;
+                writer.end_object()
+            } else {
+                writer.end_object()
             }
-            writer.end_object()
         }
     }
 }

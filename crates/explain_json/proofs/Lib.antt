@@ -1,2 +1,2 @@
-mod Appended
+pub mod Appended
 mod Computed
