@@ -1,7 +1,8 @@
-use Rattle.std.proofs.Common.{refl, arith, codes}
+use Rattle.std.proofs.Common.{refl, arith, [], ◌∷◌, ◌++◌, codes, decimal}
 use Rattle.std.proofs.lemmas.Grind.{common_steps}
 use Rattle.std.proofs.lemmas.Result.{on_ok_weaker}
 use Rattle.json.specs.Json.{null, member, no_members}
+use Rattle.json.specs.Token as token
 use Rattle.raml_syntax.specs.Read.{program_of}
 use Rattle.base_poly.specs.Poly.{den_of, terms_of}
 use Rattle.report_text.specs.Names.{name_at}
@@ -38,11 +39,20 @@ returns-in_ok-write_text-in-Calls-clause-written c =
     let bound = c.in_ok-write_null-in-Calls.ensures.written in
     let calls = rw c.name_at.ensures at c.in_ok-write_text-in-Calls.ensures.written in
     let name = name_at (program_of c.args.program.now) c.in-Calls.callee.0 in
+    let t0 = c.args.writer.now.tokens in
+    let t1 = c.write_degree-in-Calls.new.writer.tokens in
+    let t2 = c.write_null-in-Calls.new.writer.tokens in
+    let t3 = c.write_text.new.writer.tokens in
+    let t4 = c.end_object-in-Calls.new.self.tokens in
+    let a = token.key (codes "degree") ∷ token.number (decimal c.in-Calls.degree) ∷ [] in
+    let b = token.key (codes "bound") ∷ token.null ∷ [] in
+    let d = token.key (codes "calls") ∷ token.string name ∷ [] in
+    let e = token.end_object ∷ [] in
     on_ok_weaker c.end_object-in-Calls.result
     (λ last. (
       unbounded c.in-Calls.degree (named (codes "calls") name no_members),
       rw c.in-Calls.is refl,
-      more _ _ _ _ _ (more _ _ _ _ _ (more _ _ _ _ _ degree bound) calls) last,
+      more t0 t1 t4 a (b ++ (d ++ e)) degree (more t1 t2 t4 b (d ++ e) bound (more t2 t3 t4 d e calls last)),
     ))
     c.end_object-in-Calls.ensures.ok
 
