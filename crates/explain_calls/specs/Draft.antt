@@ -1,5 +1,5 @@
 -- The bounds of a program, as a file that declares them.
-use Rattle.std.specs.Prelude.{◌≡◌, ◌≤◌, ◌⊎◌, ◌-◌, Option, Some, None, ℕ, zero, suc, Bool, true, false, cond, List, [], ◌∷◌, map, length, flat_map}
+use Rattle.std.specs.Prelude.{◌≡◌, ◌≤◌, ◌⊎◌, ◌-◌, Option, Some, None, ℕ, zero, suc, Bool, true, false, cond, List, [], ◌∷◌, map, length, flat_map, string_bytes}
 use Rattle.std.specs.List.{range_with_len}
 use Rattle.raml_syntax.specs.Tree.{Text, Prog}
 use Rattle.call_groups.specs.Groups.{Grouping, IsGrouping}
@@ -64,7 +64,7 @@ pub record AreRefusedAt (N : Program) (degrees : List ℕ) (refused : List Refus
 abbrev pub IsDrafted : Prog → Grouping → ℕ → ℕ → Draft → Text → Type 0
 IsDrafted P groups high low (draft.Made d text) report =
     (refused : List RefusedDegree) × (low ≤ d) × (d ≤ high)
-    × AreRefusedAt (normal_of P groups.list) (down (high - d) high) refused × IsDraft P (normal_of P groups.list) d text
+    × AreRefusedAt (normal_of P groups.list) (down (high - d) high) refused × IsDraft P (normal_of P groups.list) d (string_bytes text)
     × (report ≡ notes (names_for P groups) refused)
 IsDrafted P groups high low draft.NotAnalysed report =
     (refused : List RefusedDegree) × AreRefusedAt (normal_of P groups.list) (down (suc high - low) high) refused

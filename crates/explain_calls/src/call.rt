@@ -113,10 +113,11 @@ fn tell_at(
             Ok(End::Refused)
         }
         None => {
+            let layout = layout_of(words.json, width);
             let showing = Showing {
                 name: words.function,
                 asked,
-                layout: layout_of(words.json, width),
+                layout,
             };
             tell_analysed(alloc, typed, words.degree, &showing, text, report)
         }

@@ -1,5 +1,5 @@
 // The bounds of a program, as a file that declares them.
-ghost use Rattle.std.specs.Prelude.{◌≡◌, ◌≤◌, ◌++◌, ℕ, length, true, List, IfOk, OnOk, IfSome, string_bytes};
+ghost use Rattle.std.specs.Prelude.{◌≡◌, ◌≤◌, ◌<◌, ◌++◌, ℕ, length, true, List, IfOk, OnOk, IfSome, string_bytes};
 ghost use Rattle.std.specs.List.{Contains};
 ghost use Rattle.raml_syntax.specs.Tree.{Text};
 ghost use Rattle.raml_syntax.specs.Read.{program_of};
@@ -98,6 +98,7 @@ fn draft_down(
         × IsDrafted (source_in program.now) program.now.groups degree lowest draft part
         × (string_bytes report.new ≡ string_bytes report.old ++ part)) }
 {
+    let _functions = program.functions();
     match analyse(alloc, program, degree) {
         Ok(verified) => Ok(Draft::Made {
             degree,
@@ -125,6 +126,7 @@ fn bounds_text(
     requires inferred { IsInferred (analysis_at (program_in program.now) degree) verified.now.certificate }
     ensures { IfOk result (λ text. IsDraft (source_in program.now) (program_in program.now) degree (string_bytes text)) }
 {
+    let _source = program.source();
     let count = program.functions().len();
     let mut text = String::new(alloc);
     for place in 0..count {

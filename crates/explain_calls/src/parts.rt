@@ -119,7 +119,7 @@ fn fitting<'a>(alloc: Global, fun: &Fun, asked: Asked<'a>) -> Result<Asked<'a>, 
     requires { CanBeAsked asked }
     ensures asked { IfOk result CanBeAsked }
     ensures fits { IfOk result (λ fitting. told fitting (parameters fun.now.params.items)
-        ≡ Ok (told_or_nothing (told asked (parameters fun.now.params.items)))) }
+        ≡ Ok (told_or_nothing (told asked.entry (parameters fun.now.params.items)))) }
 {
     match check_sizes(alloc, &asked, &fun.params) {
         Ok(()) => Ok(asked),

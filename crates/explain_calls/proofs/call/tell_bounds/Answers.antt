@@ -1,47 +1,13 @@
-use Rattle.std.proofs.Common.{[], ◌++◌, ◌∙◌, ap, sym, string_bytes, vec_items, option_map, Option, Vec, Global, ℕ, subst}
+use Rattle.std.proofs.Common.{[], refl, sym, inl, string_bytes}
 use Rattle.std.proofs.lemmas.List.{append-nil}
-use Rattle.raml_syntax.specs.declared.program.Program.{Program}
-use Rattle.explain_check.specs.Checks.{SourceGives, most_bytes}
-use Rattle.explain_check.specs.Stores.{store_of, FileGives}
-use Rattle.explain_calls.proofs.Calling.{unread, untyped, typed}
+use Rattle.explain_check.specs.Checks.{LacksProgram}
+use Rattle.explain_check.specs.Stores.{store_of}
+use Rattle.explain_calls.proofs.Calling.{told_of}
 use Rattle.explain_calls.proofs.call.tell_bounds.Goals as goal
 
-pub returns-in_default-clause-told : goal.returns-in_default-clause-told
-returns-in_default-clause-told g c =
-    let read = c.in_ok-source.ensures.told in (
-      [],
-      read.0,
-      unread (g.S.Store.holds c.args.store.now) (g.S.Store.faults c.args.store.now) (g.S.Store.faults c.read_file.new.store) c.args.words.now c.args.width c.in_ok-source.field-0 read.0 c.in_default.not-Some read.1,
-      sym (append-nil _),
-      read.2,
-    )
-
-pub returns-in_default-2-clause-told : goal.returns-in_default-2-clause-told
-returns-in_default-2-clause-told g c =
-    let holds = g.S.Store.holds c.args.store.now in
-    let before = g.S.Store.faults c.args.store.now in
-    let after = g.S.Store.faults c.read_file.new.store in
-    let old = string_bytes c.args.report.now in
+pub returns-in-None-clause-told : goal.returns-in-None-clause-told
+returns-in-None-clause-told g c =
     let read = c.in_ok-source.ensures.told in
-    let told = c.in_ok-typed.ensures.told in
-    let gives = subst (λ (found : Option (Vec ℕ Global)). FileGives (store_of holds before after) most_bytes c.args.words.now.file.now (option_map vec_items found) read.0) c.in-Some.is read.1 in
-    let once = read.2 ∙ ap (λ part. old ++ part) gives.2 ∙ append-nil old in (
-      [],
-      told.0,
-      untyped holds before after c.args.words.now c.args.width c.in-Some.source c.in_ok-typed.field-0 read.0 told.0 c.in_default-2.not-Some gives (rw c.deref.ensures.value at told.1),
-      sym (append-nil _),
-      told.2 ∙ ap (λ report. report ++ told.0) once,
-    )
-
-pub returns-clause-told : goal.returns-clause-told
-returns-clause-told g c =
-    let holds = g.S.Store.holds c.args.store.now in
-    let before = g.S.Store.faults c.args.store.now in
-    let after = g.S.Store.faults c.read_file.new.store in
-    let read = c.in_ok-source.ensures.told in
-    let told = c.in_ok-typed.ensures.told in
-    let gives = subst (λ (found : Option (Vec ℕ Global)). FileGives (store_of holds before after) most_bytes c.args.words.now.file.now (option_map vec_items found) read.0) c.in-Some.is read.1 in
-    let spelled = subst (λ (found : Option Program). SourceGives c.args.words.now.file.now c.deref.result.now found told.0) c.in-Some-2.is told.1 in
-    typed holds before after c.args.words.now c.args.width c.in-Some.source c.in-Some-2.typed read.0 told.0 (string_bytes c.args.text.now) (string_bytes c.args.report.now)
-    (string_bytes c.read_file.new.report) (string_bytes c.typed_source.new.report) (string_bytes c.tell_program.new.text) (string_bytes c.tell_program.new.report) c.tell_program.result
-    gives (rw c.deref.ensures.value at spelled) read.2 told.2 c.tell_program.ensures
+    let store = store_of (g.S.Store.holds c.args.store.now) (g.S.Store.faults c.args.store.now) (g.S.Store.faults c.read_program.new.store) in
+    let lacks : LacksProgram store c.args.words.now.file.now read.0 = rw c.in-None.is at read.1 in
+    ([], read.0, inl (refl, refl, lacks), sym (append-nil _), read.2)
