@@ -53,6 +53,9 @@ of_certificate store file source name P bytes c first old_text new_text old read
 rises : (before mid after : ℕ) → before ≤ mid → Rose mid after → Rose before after
 rises before mid after early h = ⊎_elim (λ less. inl (omega (arith, less, early))) (λ last. inr last) h
 
+abbrev HoldsThen : (Text → ℕ) → (Text → ℕ) → Text → Text → Option Files → Type 0
+HoldsThen before after name bytes holds = Holds (store_of holds before after) name bytes
+
 -- what is told for the program of a source is told of the call
 pub of_call : {E : Type 0} (holds same : Option Files) (before mid after : Text → ℕ) (file name source seen : Text) (program : Program) (old_text new_text old read typed new first second : Text) (result : Result Verification E) →
     same ≡ holds → ((name : Text) → before name ≤ mid name) → FileGives (store_of holds before mid) most_bytes file (Some source) first → read ≡ old ++ first → seen ≡ source → SourceGives file seen (Some program) second → typed ≡ read ++ second →
@@ -63,17 +66,14 @@ of_call holds same before mid after file name source seen program old_text new_t
     let here = subst (λ seen. IsProgramOf seen (program_of program) × ProgramIs (store_of holds before after) file seen name (program_of program) end told.0 told.1) is (spelled.0, longer told.2) in
     (told.0, told.1, inr (source, program_of program, gives.0, here.0, here.1), told.3, told_behind old read new first told.1 read_is gives.2 behind)
   where
-    abbrev HoldsThen : Option Files → Text → Type 0
-    HoldsThen holds bytes = Holds (store_of holds before after) name bytes
-
     unread_then : {part : Text} → Unread (store_of same mid after) most_certificate_bytes name part → LacksCertificate (store_of holds before after) name part
-    unread_then (inl long) = inl (inl (long.0, subst (λ holds. HoldsThen holds long.0) e long.1, long.2, long.3))
+    unread_then (inl long) = inl (inl (long.0, subst (HoldsThen before after name long.0) e long.1, long.2, long.3))
     unread_then (inr fails) = inl (inr (rises (before name) (mid name) (after name) (early name) fails.0, fails.1))
 
     faulty_then : {part : Text} → ((bytes : Text) × (fault : JsonFault) × (why : Text) × Holds (store_of same mid after) name bytes × Cause bytes fault × (fault ≢ NoMemory) × (part ≡ error_line name why)) → LacksCertificate (store_of holds before after) name part
-    faulty_then is = inr (is.0, is.1, is.2, subst (λ holds. HoldsThen holds is.0) e is.3, is.4, is.5, is.6)
+    faulty_then is = inr (is.0, is.1, is.2, subst (HoldsThen before after name is.0) e is.3, is.4, is.5, is.6)
 
     longer : {shown part : Text} → ProgramIs (store_of same mid after) file seen name (program_of program) end shown part → ProgramIs (store_of holds before after) file seen name (program_of program) end shown part
     longer (inl lacks) = inl (lacks.0, lacks.1, ⊎_elim unread_then faulty_then lacks.2)
-    longer (inr told) = inr (told.0, told.1, subst (λ holds. HoldsThen holds told.0) e told.2, told.3, told.4)
+    longer (inr told) = inr (told.0, told.1, subst (HoldsThen before after name told.0) e told.2, told.3, told.4)
 of_call holds same before mid after file name source seen program old_text new_text old read typed new first second (Err x) e early gives read_is is spelled typed_is told = tt

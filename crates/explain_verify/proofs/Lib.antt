@@ -2,3 +2,4 @@ mod Lists
 mod Scheduling
 mod Calling
 mod Verifying
+mod Limits

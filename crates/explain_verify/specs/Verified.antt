@@ -59,11 +59,14 @@ FaultIs s verify.NoMemory end report = ⊥
 abbrev pub functions_text : ℕ → Text
 functions_text n = cond (nat_eq n 1) (codes "1 function") (decimal n ++ codes " functions")
 
--- CERT holds of FILE: bounds up to degree D of F functions
+-- CERT holds of FILE: bounds up to degree D of FUNCTIONS
+abbrev pub line_text : Text → Text → ℕ → Text → Text
+line_text name file degree functions =
+    name ++ (codes " holds of " ++ (file ++ (codes ": bounds up to degree " ++ (decimal degree
+    ++ (codes " of " ++ (functions ++ codes "\n"))))))
+
 abbrev pub holds_line : Subject → Text
-holds_line s =
-    s.certificate ++ (codes " holds of " ++ (s.file ++ (codes ": bounds up to degree " ++ (decimal s.degree
-    ++ (codes " of " ++ (functions_text (length s.program) ++ codes "\n"))))))
+holds_line s = line_text s.certificate s.file s.degree (functions_text (length s.program))
 
 -- ---- a certificate for a program
 

@@ -5,7 +5,7 @@ ghost use Rattle.raml_syntax.specs.Read.{program_of};
 ghost use Rattle.annot_types.specs.Read.{certificate_of};
 ghost use Rattle.explain_check.specs.Stores.{store_of, error_line};
 ghost use Rattle.explain_verify.specs.Read.{subject_in};
-ghost use Rattle.explain_verify.specs.Verified.{CallIs, ProgramIs, CertificateIs, holds_line, functions_text};
+ghost use Rattle.explain_verify.specs.Verified.{CallIs, ProgramIs, CertificateIs, holds_line, line_text, functions_text};
 
 use crate::fault::push_fault;
 use crate::message::Subject;
@@ -135,7 +135,7 @@ fn verify_read(
     };
     match verify(alloc, &program, certificate) {
         Ok(_) => {
-            push_holds(&subject, text)?;
+            push_holds(alloc, &subject, text)?;
             Ok(Verification::Holds)
         }
         Err(fault) => push_fault(alloc, &subject, fault, report),
@@ -143,27 +143,42 @@ fn verify_read(
 }
 
 /// Appends that it holds, up to which degree and of how many functions.
-fn push_holds(subject: &Subject<'_, '_>, text: &mut String) -> Result<(), AllocError>
+fn push_holds(alloc: Global, subject: &Subject<'_, '_>, text: &mut String) -> Result<(), AllocError>
     ensures { OnOk result (string_bytes text.new ≡ string_bytes text.old ++ holds_line (subject_in subject.now)) }
 {
-    let certificate = subject.certificate;
-    let file = subject.file;
-    let degree = subject.outline.degree;
-    write!(
+    let functions = functions_text(alloc, subject.program.functions().len())?;
+    push_line(
+        subject.certificate,
+        subject.file,
+        subject.outline.degree,
+        functions.as_str(),
         text,
-        "{certificate} holds of {file}: bounds up to degree {degree} of "
-    )?;
-    push_functions(subject.program.source().funs.len(), text)?;
-    text.push('\n')
+    )
 }
 
-/// Appends how many functions there are.
-fn push_functions(count: usize, text: &mut String) -> Result<(), AllocError>
-    ensures { OnOk result (string_bytes text.new ≡ string_bytes text.old ++ functions_text count) }
+fn push_line(
+    certificate: &str,
+    file: &str,
+    degree: u8,
+    functions: &str,
+    text: &mut String,
+) -> Result<(), AllocError>
+    ensures { OnOk result (string_bytes text.new ≡ string_bytes text.old
+        ++ line_text certificate.now file.now degree functions.now) }
+{
+    write!(
+        text,
+        "{certificate} holds of {file}: bounds up to degree {degree} of {functions}\n"
+    )
+}
+
+/// How many functions there are.
+fn functions_text(alloc: Global, count: usize) -> Result<String, AllocError>
+    ensures { IfOk result (λ text. string_bytes text ≡ functions_text count) }
 {
     if count == 1 {
-        text.push_str("1 function")
+        String::from_str(alloc, "1 function")
     } else {
-        write!(text, "{count} functions")
+        format!(in alloc; "{count} functions")
     }
 }
