@@ -69,10 +69,7 @@ pub fn parameter_types(alloc: Global, params: &[Param]) -> Result<Vec<Ty>, Alloc
 }
 
 /// The names of parameters.
-pub fn parameter_names<'a>(
-    alloc: Global,
-    params: &'a [Param],
-) -> Result<Vec<&'a str>, AllocError>
+pub fn parameter_names<'a>(alloc: Global, params: &'a [Param]) -> Result<Vec<&'a str>, AllocError>
     ensures { IfOk result (λ names. texts names.items ≡ names_in params.now) }
 {
     let mut names = Vec::with_capacity(alloc, params.len())?;

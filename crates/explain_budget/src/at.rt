@@ -66,12 +66,7 @@ pub(crate) fn tell_from(
 }
 
 // Appends that a lower degree than the first one is the highest that no limit refuses, where lines are told at it.
-fn push_lower(
-    report: &mut String,
-    first: u8,
-    degree: u8,
-    end: BudgetEnd,
-) -> Result<(), AllocError>
+fn push_lower(report: &mut String, first: u8, degree: u8, end: BudgetEnd) -> Result<(), AllocError>
     ensures { OnOk result (string_bytes report.new ≡ string_bytes report.old ++ lower first degree end) }
 {
     match end {

@@ -54,14 +54,7 @@ fn lines(
     for place in 0..judged.len() {
         let line = &declared.lines()[place];
         let fun = &program.funs[line.fun.0 as usize];
-        lines.push(verdict_line(
-            alloc,
-            program,
-            fun,
-            degree,
-            line,
-            &judged[place],
-        )?)?;
+        lines.push(verdict_line(alloc, program, fun, degree, line, &judged[place])?)?;
     }
     Ok(lines)
 }

@@ -105,7 +105,8 @@ next_left items zero x some below is = absurd (omega (arith, some))
 next_left items (suc i) x some below is =
     let same : suc i - 1 ≡ i = omega arith in
     let low : i < length items = omega (arith, below) in
-    let long = length-map items (λ (t : List Plain × ℤ). (t.0, unsigned_abs t.1)) in
+    let magnitude : List Plain × ℤ → Term = λ t. (t.0, unsigned_abs t.1) in
+    let long = length-map items magnitude in
     let here : x ≡ slice_index_or items i x = subst (λ k. x ≡ slice_index_or items k x) same is in
     let t : Term = (x.0, unsigned_abs x.1) in
     ap reverse (take-suc (magnitudes items) i t (omega (arith, low, long)) ∙ ap (λ y. take i (magnitudes items) ++ y ∷ []) (at_magnitude items i x t here low))

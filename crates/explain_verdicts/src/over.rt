@@ -87,9 +87,7 @@ fn number_over(fraction: &Fraction, den: u128) -> Option<i128>
     ensures some { IfSome result (λ number. number ≡ pos (fraction.now.numerator * (den / fraction.now.denominator))) }
     ensures below { IfSome result (λ _. fraction.now.numerator * (den / fraction.now.denominator) < 2 ^ 127) }
 {
-    let number = fraction
-        .numerator
-        .checked_mul(den / fraction.denominator)?;
+    let number = fraction.numerator.checked_mul(den / fraction.denominator)?;
     if number > i128::MAX as u128 {
         None
     } else {

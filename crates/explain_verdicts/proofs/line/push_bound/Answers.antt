@@ -19,6 +19,6 @@ returns c =
       at_most ++ (sum ++ (codes " found" ++ (excess.0 ++ legend))),
       record { sum = sum; means = means; excess = excess.0; reads = record { poly = c.args.found.now; is = refl; reading = c.in_ok-reading.ensures }; exceeds = excess.1; is = refl },
       five (string_bytes c.args.text.now) (string_bytes c.push_str.new.self) (string_bytes c.push_str-2.new.self) (string_bytes c.push_str-3.new.self) (string_bytes c.push_excess.new.text) (string_bytes c.push_shared.new.text)
-      at_most sum (codes " found") excess.0 legend c.in_ok-push_str.ensures.bytes two c.in_ok-push_str-3.ensures.bytes excess.2 (rw c.deref-2.ensures at last),
+          at_most sum (codes " found") excess.0 legend c.in_ok-push_str.ensures.bytes two c.in_ok-push_str-3.ensures.bytes excess.2 (rw c.deref-2.ensures at last),
     ))
     c.push_shared.ensures
