@@ -1,3 +1,5 @@
 mod Judging
 mod Telling
 mod Placed
+mod Degrees
+mod Calling

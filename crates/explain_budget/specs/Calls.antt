@@ -28,7 +28,8 @@ IsInRange (Some d) = (1 ≤ d) × (d ≤ 4)
 abbrev pub ProgramIs : Prog → Option ℕ → Asking → BudgetEnd → Text → Text → Type 0
 ProgramIs P degree asking end text report =
     (groups : Grouping) × IsGrouping P groups
-    × TellsFrom P (normal_of P groups.list) (names_for P groups) asking (first_degree degree) (tries degree) (first_degree degree) end text report
+    × TellsFrom P (normal_of P groups.list) (names_for P groups) asking
+    (first_degree degree) (tries degree) (first_degree degree) end text report
 
 -- what a call asks for
 pub record Words : Type 0 where

@@ -32,45 +32,37 @@ use share_normal::NormProgram;
 use std::alloc::{AllocError, Global};
 use std::fmt::Write;
 
-/// Tells declared bounds in so many tries, from a degree down, where `first` was the first one: at the highest degree at
-/// which no limit refuses the analysis or a decision.
+/// Tells declared bounds in so many tries, from the first degree down: at the highest degree at which no limit refuses the
+/// analysis or a decision.
 pub(crate) fn tell_from(
     alloc: Global,
     asked: &Asked<'_>,
     program: &NormProgram<'_>,
     first: u8,
     tries: u8,
-    degree: u8,
     text: &mut String,
     report: &mut String,
 ) -> Result<BudgetEnd, AllocError>
-    requires tries { tries ≤ degree }
-    requires most { degree ≤ 4 }
+    requires tries { tries ≤ first }
+    requires most { first ≤ 4 }
     requires short { length asked.now.bytes.now < 2 ^ 31 }
     ensures { IfOk result (λ end. (shown part : Text)
-        × TellsFrom (source_in program.now) (program_in program.now) (names_in program.now) (asking_in asked.now) first tries degree end shown part
+        × TellsFrom (source_in program.now) (program_in program.now) (names_in program.now) (asking_in asked.now)
+        first tries first end shown part
         × (string_bytes text.new ≡ string_bytes text.old ++ shown)
         × (string_bytes report.new ≡ string_bytes report.old ++ part)) }
 {
-    if tries == 0 {
-        return Ok(BudgetEnd::NotAnalysed);
-    }
-    match tell_at(alloc, asked, program, degree, text, report)? {
-        Some(end) => {
+    let mut degree = first;
+    let mut left = tries;
+    while left > 0 {
+        if let Some(end) = tell_at(alloc, asked, program, degree, text, report)? {
             push_lower(report, first, degree, end)?;
-            Ok(end)
+            return Ok(end);
         }
-        None => tell_from(
-            alloc,
-            asked,
-            program,
-            first,
-            tries - 1,
-            degree - 1,
-            text,
-            report,
-        ),
+        left -= 1;
+        degree -= 1;
     }
+    Ok(BudgetEnd::NotAnalysed)
 }
 
 // Appends that a lower degree than the first one is the highest that no limit refuses, where lines are told at it.

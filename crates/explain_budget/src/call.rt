@@ -1,9 +1,9 @@
 // What `explain budget` tells of a program and a file of bounds.
 ghost use Rattle.std.specs.Prelude.{◌≡◌, ◌≤◌, ◌<◌, ◌^◌, ◌++◌, length, IfOk, string_bytes};
-ghost use Rattle.raml_syntax.specs.Tree.{Text, Prog};
+ghost use Rattle.raml_syntax.specs.Tree.{Text};
 ghost use Rattle.raml_syntax.specs.Read.{program_of};
 ghost use Rattle.explain_check.specs.Stores.{store_of};
-ghost use Rattle.explain_budget.specs.Calls.{words_of, BoundsAre, CallIs, IsInRange, ProgramIs};
+ghost use Rattle.explain_budget.specs.Calls.{words_of, first_degree, tries, BoundsAre, CallIs, IsInRange, ProgramIs};
 ghost use Rattle.explain_budget.specs.Read.{asking_in};
 
 use crate::asked::Asked;
@@ -103,9 +103,27 @@ fn tell_program(
 {
     let _program = typed.program();
     let program = normal_form(alloc, typed)?;
-    let (first, tries) = match degree {
-        Some(degree) => (degree, 1),
-        None => (HIGHEST, HIGHEST),
-    };
-    tell_from(alloc, asked, &program, first, tries, first, text, report)
+    let first = first_degree(degree);
+    tell_from(alloc, asked, &program, first, tries(degree), text, report)
+}
+
+// The degree that is tried first: the one that is told, or the highest.
+fn first_degree(degree: Option<u8>) -> u8
+    requires { IsInRange degree }
+    ensures is { result ≡ first_degree degree }
+    ensures most { result ≤ 4 }
+{
+    degree.unwrap_or(HIGHEST)
+}
+
+// How many degrees are tried: the one that is told, or the highest and all lower ones.
+fn tries(degree: Option<u8>) -> u8
+    requires { IsInRange degree }
+    ensures is { result ≡ tries degree }
+    ensures most { result ≤ first_degree degree }
+{
+    match degree {
+        Some(_) => 1,
+        None => HIGHEST,
+    }
 }

@@ -1,5 +1,6 @@
 // Declared bounds, line by line: what is decided of each, and what the analysis found.
-ghost use Rattle.std.specs.Prelude.{◌≡◌, ◌<◌, ◌^◌, ℕ, ℤ, suc, true, List, [], ◌∷◌, length, slice_get, Option, Some, option_map, IfOk, IfErr, IfSome, OnOk};
+ghost use Rattle.std.specs.Prelude.{◌≡◌, ◌<◌, ◌^◌, ℕ, ℤ, suc, true, List, [], ◌∷◌, length, slice_get, Option, Some, option_map};
+ghost use Rattle.std.specs.Prelude.{IfOk, IfErr, IfSome, OnOk};
 ghost use Rattle.share_normal.specs.Program.{source_in};
 ghost use Rattle.rules_plan.specs.Read.{program_in};
 ghost use Rattle.annot_types.specs.Certificate.{has_work};

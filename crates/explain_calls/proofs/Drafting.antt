@@ -1,5 +1,5 @@
 -- Drafts of declared bounds.
-use Rattle.std.proofs.Common.{◌≡◌, ◌≤◌, ◌<◌, ◌-◌, ◌+◌, ◌∙◌, ℕ, zero, suc, Bool, true, false, cond, List, [], ◌∷◌, ◌++◌, map, String, Global, refl, sym, ap, subst, arith, string_bytes}
+use Rattle.std.proofs.Common.{◌≡◌, ◌≢◌, ◌≤◌, ◌<◌, ◌-◌, ◌+◌, ◌∙◌, ℕ, zero, suc, Bool, true, false, cond, List, [], ◌∷◌, ◌++◌, map, String, Global, refl, sym, ap, subst, arith, string_bytes}
 use Rattle.std.proofs.lemmas.List.{append-nil, append_assoc}
 use Rattle.std.proofs.lemmas.List.Elements.{All-cons}
 use Rattle.raml_syntax.specs.Tree.{Text, Prog}
@@ -11,7 +11,10 @@ use Rattle.annot_types.specs.Held.{Line, lines_for}
 use Rattle.rules_soundness_laws.specs.Laws.{normal_of}
 use Rattle.report_text.specs.Claims.{lines_text}
 use Rattle.analysis_report.proofs.Listed.{lines_append}
-use Rattle.explain_degrees.specs.Degrees.{RefusedAt, AreRefused}
+use Rattle.bound_infer.specs.Inferred.{InferCause}
+use Rattle.bound_infer.specs.declared.refusal.InferFault.{InferFault}
+use Rattle.bound_infer.specs.declared.refusal.InferFault.TheVariants.{NoMemory}
+use Rattle.explain_degrees.specs.Degrees.{analysis_at, RefusedAt, AreRefused}
 use Rattle.explain_degrees.specs.declared.least.RefusedDegree.{RefusedDegree}
 use Rattle.explain_calls.specs.Told.{note, notes}
 use Rattle.explain_calls.specs.Calls.{names_for}
@@ -52,6 +55,14 @@ module _ (P : Prog) (N : Program) (c : Certificate) (f : ℕ) where
       last ∙ ap (λ t. t ++ d) cells ∙ append_assoc t1 b d ∙ ap (λ t. t ++ (b ++ d)) ticks ∙ append_assoc t0 a (b ++ d) ∙ ap (λ t. t0 ++ t) whole
 
 -- ---- the degree
+
+-- what refuses the analysis of the normal form
+pub refused_at : (N' N : Program) (d : ℕ) (r : RefusedDegree) (fault : InferFault) → N' ≡ N → r.fault ≡ fault → r.fault ≢ NoMemory →
+    InferCause (analysis_at N' d) fault → RefusedAt N d r.fault
+refused_at N' N d r fault same is memory cause = record {
+  refused = memory;
+  cause = subst (λ fault. InferCause (analysis_at N d) fault) (sym is) (subst (λ N. InferCause (analysis_at N d) fault) same cause);
+}
 
 down_none : (d : ℕ) → down (d - d) d ≡ []
 down_none d = let none : d - d ≡ 0 = omega arith in rw none refl

@@ -9,11 +9,11 @@ use Rattle.explain_verdicts.specs.declared.fraction.Fraction.{Fraction}
 
 declared_is : (As : List Type') (t : List Plain) (fs : List Fraction) → All (IsFraction As) fs → IfSome (declared_at t fs) (IsFraction As)
 declared_is As t [] h = tt
-declared_is As t (f ∷ fs) h = by (alike f.tuple t)
+declared_is As t (f ∷ fs) h = by (alike f.tuple t) (declared_is As t fs (All-tail (IsFraction As) f fs h))
   where
-    by : (b : Bool) → IfSome (cond b (Some f) (declared_at t fs)) (IsFraction As)
-    by true = All-head (IsFraction As) f fs h
-    by false = declared_is As t fs (All-tail (IsFraction As) f fs h)
+    by : (b : Bool) → IfSome (declared_at t fs) (IsFraction As) → IfSome (cond b (Some f) (declared_at t fs)) (IsFraction As)
+    by true later = All-head (IsFraction As) f fs h
+    by false later = later
 
 lent_is : (P : Fraction → Type 0) (lent : Option (Bor Fraction)) → IfSome (option_map (λ (f : Bor Fraction). f.now) lent) P → IfSome lent (λ f. P f.now)
 lent_is P None h = tt

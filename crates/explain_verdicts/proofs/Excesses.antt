@@ -1,8 +1,8 @@
 -- Terms that exceed, one after the other.
-use Rattle.std.proofs.Common.{◌≡◌, ◌<◌, ◌+◌, ℕ, zero, suc, ℤ, Bool, true, false, cond, List, [], ◌∷◌, ◌++◌, length, take, reverse, filter, map, codes, refl, sym, ap, ◌∙◌, subst, arith}
+use Rattle.std.proofs.Common.{◌≡◌, ◌<◌, ◌+◌, ◌-◌, ℕ, zero, suc, ℤ, Bool, true, false, cond, List, [], ◌∷◌, ◌++◌, length, take, reverse, filter, map, codes, refl, sym, ap, ◌∙◌, subst, arith}
 use Rattle.std.specs.Prelude.{slice_index_or, unsigned_abs}
 use Rattle.std.proofs.Math.Seq.{take-suc}
-use Rattle.std.proofs.lemmas.List.{append-nil, append_assoc}
+use Rattle.std.proofs.lemmas.List.{append-nil, append_assoc, length-map, reverse-append}
 use Rattle.raml_syntax.specs.Tree.{Text, Type'}
 use Rattle.base_poly.specs.Plain.{Plain}
 use Rattle.base_poly.specs.Poly.{Term, magnitudes}
@@ -22,8 +22,7 @@ led_more mark (x ∷ ts) t =
 
 -- what stands before the next text
 abbrev pub lead : Bool → Text
-lead true = []
-lead false = comma
+lead is_first = cond is_first [] comma
 
 abbrev pub is_none : List Text → Bool
 is_none [] = true
@@ -91,3 +90,25 @@ module _ (As : List Type') (params : List Text) (fs : List Fraction) (den : ℕ)
         (h.are [] (subst (λ ts. AreExcesses As params fs den (chosen ts) []) (sym is) tt));
     is = h.is;
   }
+
+-- ---- terms from the last to the first
+
+at_magnitude : (items : List (List Plain × ℤ)) (i : ℕ) (x : List Plain × ℤ) (d : Term) → x ≡ slice_index_or items i x → i < length items →
+    slice_index_or (magnitudes items) i d ≡ (x.0, unsigned_abs x.1)
+at_magnitude [] i x d is below = absurd (omega (arith, below))
+at_magnitude (y ∷ items) zero x d is below = ap (λ (y : List Plain × ℤ). (y.0, unsigned_abs y.1)) (sym is)
+at_magnitude (y ∷ items) (suc i) x d is below = at_magnitude items i x d is (omega (arith, below))
+
+pub next_left : (items : List (List Plain × ℤ)) (n : ℕ) (x : List Plain × ℤ) → 0 < n → n - 1 < length items → x ≡ slice_index_or items (n - 1) x →
+    reverse (take n (magnitudes items)) ≡ (x.0, unsigned_abs x.1) ∷ reverse (take (n - 1) (magnitudes items))
+next_left items zero x some below is = absurd (omega (arith, some))
+next_left items (suc i) x some below is =
+    let same : suc i - 1 ≡ i = omega arith in
+    let low : i < length items = omega (arith, below) in
+    let magnitude : List Plain × ℤ → Term = λ t. (t.0, unsigned_abs t.1) in
+    let long = length-map items magnitude in
+    let here : x ≡ slice_index_or items i x = subst (λ k. x ≡ slice_index_or items k x) same is in
+    let t : Term = (x.0, unsigned_abs x.1) in
+    ap reverse (take-suc (magnitudes items) i t (omega (arith, low, long)) ∙ ap (λ y. take i (magnitudes items) ++ y ∷ []) (at_magnitude items i x t here low))
+    ∙ reverse-append (take i (magnitudes items)) (t ∷ [])
+    ∙ ap (λ k. t ∷ reverse (take k (magnitudes items))) (sym same)

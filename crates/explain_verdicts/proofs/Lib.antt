@@ -7,3 +7,5 @@ mod Excesses
 mod Alone
 mod Appended
 mod Beside
+mod Lines
+mod Tokens

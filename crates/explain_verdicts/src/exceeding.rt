@@ -1,5 +1,5 @@
 // Where the bound that was found exceeds what is declared.
-ghost use Rattle.std.specs.Prelude.{◌≡◌, ◌<◌, ◌≤◌, ◌++◌, ◌<ℤ◌, ◌≤ℤ◌, pos, unsigned_abs, List, Some, option_map};
+ghost use Rattle.std.specs.Prelude.{◌≡◌, ◌<◌, ◌≤◌, ◌++◌, ◌<ℤ◌, ◌≤ℤ◌, [], pos, unsigned_abs, cond, codes, List, Some, option_map};
 ghost use Rattle.std.specs.Prelude.{IfOk, IfSome, OnOk, string_bytes};
 ghost use Rattle.std.specs.List.{All};
 ghost use Rattle.raml_syntax.specs.Tree.{Text, Type'};
@@ -45,13 +45,20 @@ pub(crate) fn push_exceeding(
         let (tuple, number) = &found.terms[place];
         let declared = declared_at(fractions, tuple);
         if exceeds(found.den, *number, declared) {
-            text.push_str(if is_first { "" } else { ", " })?;
+            push_lead(text, is_first)?;
             let term = alone(alloc, tuple, *number, found.den)?;
             push_excess(alloc, text, &term, declared, params)?;
             is_first = false;
         }
     }
     Ok(())
+}
+
+// Appends what stands before a term.
+fn push_lead(text: &mut String, is_first: bool) -> Result<(), AllocError>
+    ensures { OnOk result (string_bytes text.new ≡ string_bytes text.old ++ cond is_first [] (codes ", ")) }
+{
+    text.push_str(if is_first { "" } else { ", " })
 }
 
 // What is declared at a tuple.
@@ -104,7 +111,8 @@ fn push_excess(
     text.push_str(&sum)?;
     text.push_str(" (declared ")?;
     text.push_str(&beside)?;
-    text.push_str(")")
+    text.push_str(")")?;
+    Ok(())
 }
 
 // What is declared at a tuple, in algebra; 0 where nothing is.

@@ -1,15 +1,15 @@
 // The lines of verdicts.
-ghost use Rattle.std.specs.Prelude.{◌≡◌, ◌≤◌, ◌++◌, IfOk, IfSome, OnOk, option_map, string_bytes};
+ghost use Rattle.std.specs.Prelude.{◌≡◌, ◌≤◌, ◌++◌, IfOk, IfSome, OnOk, codes, string_bytes};
 ghost use Rattle.std.specs.List.{All};
 ghost use Rattle.raml_syntax.specs.Tree.{Text};
 ghost use Rattle.raml_syntax.specs.Types.{types_of};
 ghost use Rattle.raml_syntax.specs.Read.{program_of, function_of};
 ghost use Rattle.base_poly.specs.Read.{context_of};
 ghost use Rattle.bound_file.specs.Read.{line_of, IsSound};
-ghost use Rattle.report_text.specs.Names.{name_at};
+ghost use Rattle.report_text.specs.Names.{meter_text, name_at};
 ghost use Rattle.explain_algebra.specs.Algebra.{texts};
 ghost use Rattle.explain_bounds.specs.Lines.{names_of, legend_behind};
-ghost use Rattle.explain_verdicts.specs.Fractions.{fractions_of, ArePlaced};
+ghost use Rattle.explain_verdicts.specs.Fractions.{ArePlaced};
 ghost use Rattle.explain_verdicts.specs.Reads.{bound_of, ReadsDeclared};
 ghost use Rattle.explain_verdicts.specs.Line.{is_kept, verdict_text, all_sizes, shared, no_bound, calls_unbounded};
 ghost use Rattle.explain_verdicts.specs.Line.{TellsExcess, TellsBound, TellsFound, TellsVerdict, IsVerdictLine};
@@ -18,11 +18,11 @@ ghost use Rattle.explain_verdicts.specs.Written.{IsFraction, AreFractions, IsFou
 
 use crate::declared::read_declared;
 use crate::exceeding::{Params, push_exceeding};
-use crate::fraction::{Fraction, fractions};
+use crate::fraction::{Fraction, fractions_of};
 use crate::judged::{Judged, Verdict};
-use crate::laws::lines_have_fractions;
 use base_poly::Poly;
 use bound_file::DeclLine;
+use cost_free::Meter;
 use explain_algebra::size_names;
 use explain_bounds::{parameter_names, parameter_types, push_legend};
 use explain_reading::read_bound;
@@ -49,21 +49,26 @@ pub fn verdict_line(
         IsVerdictLine (program_of program.now) (function_of fun.now) degree (line_of line.now) judged.now.verdict
         (found_of judged.now) (string_bytes text)) }
 {
-    lines_have_fractions();
     let types = parameter_types(alloc, &fun.params)?;
     let names = parameter_names(alloc, &fun.params)?;
-    let fractions = fractions(alloc, &types, degree, &line.bound)?;
+    let fractions = fractions_of(alloc, fun, degree, line)?;
     let params = Params {
         types: &types,
         names: &names,
     };
-    let mut text = String::from_str(alloc, fun.name.text())?;
-    text.push(' ')?;
-    text.push_str(meter_name(line.meter))?;
+    let mut text = both_names(alloc, fun, line.meter)?;
     push_verdict(
         alloc, &mut text, program, degree, &fractions, judged, params,
     )?;
     Ok(text)
+}
+
+// The names of a function and a meter.
+fn both_names(alloc: Global, fun: &Fun, meter: Meter) -> Result<String, AllocError>
+    ensures { IfOk result (λ text. string_bytes text ≡ (function_of fun.now).name ++ (codes " " ++ meter_text meter)) }
+{
+    let name = fun.name.text();
+    format!(in alloc; "{name} {}", meter_name(meter))
 }
 
 // Appends the verdict and both bounds, behind both names.

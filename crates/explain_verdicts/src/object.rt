@@ -16,14 +16,12 @@ ghost use Rattle.explain_verdicts.specs.Tokens.{head_tokens, bounds_tokens, call
 ghost use Rattle.explain_verdicts.specs.Read.{found_of};
 ghost use Rattle.explain_verdicts.specs.Written.{IsFound};
 
-use crate::fraction::{Fraction, fractions};
+use crate::fraction::{Fraction, fractions_of};
 use crate::judged::{Judged, Verdict};
-use crate::laws::lines_have_fractions;
 use crate::line::verdict_name;
 use base_poly::Poly;
 use bound_file::DeclLine;
 use cost_free::Meter;
-use explain_bounds::parameter_types;
 use explain_json::{write_poly, write_term, write_text};
 use json::Writer;
 use raml_syntax::{Fun, Program};
@@ -49,9 +47,7 @@ pub fn write_verdict(
         (verdict_json (program_of program.now) (function_of fun.now) degree (line_of line.now) judged.now.verdict (found_of judged.now))) }
     ensures before { writer.new.before ≡ writer.old.before }
 {
-    lines_have_fractions();
-    let types = parameter_types(alloc, &fun.params)?;
-    let fractions = fractions(alloc, &types, degree, &line.bound)?;
+    let fractions = fractions_of(alloc, fun, degree, line)?;
     writer.begin_object()?;
     write_head(writer, fun.name.text(), line.meter, degree, &judged.verdict)?;
     write_bounds(alloc, writer, &fractions, &judged.found)?;
