@@ -48,8 +48,7 @@ returns-else-degree-lowest t c =
     let r = c.in_ok-refused-in-Err.field-0 in
     let is = c.in_ok-refused-in-Err.ensures in
     let at = refused_at (program_in kept) (normal_of P kept.groups.list) c.args.degree r c.in-Err.fault
-    (normal_is kept c.functions-functions.ensures.norm) is.fault is.refused c.in-Err.ensures.fault in
-    (
+    (normal_is kept c.functions-functions.ensures.norm) is.fault is.refused c.in-Err.ensures.fault in (
       note (names_for P kept.groups) r,
       refused_here P kept.groups c.args.degree c.args.lowest r is.degree at (omega (arith, c.requires.order, c.if-degree-lowest.false)),
       c.in_ok-push_note-in-Err.ensures,
