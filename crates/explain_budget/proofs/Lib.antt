@@ -1,5 +1,5 @@
-mod Judging
-mod Telling
+mod Decided
+mod Lined
 mod Placed
 mod Degrees
 mod Calling

@@ -55,4 +55,6 @@ behind_split m ascii text (Some x) h =
 -- one line further
 pub next_line : (n : ℕ) (text : Text) → 0 < n → behind_lines n text ≡ behind_lines (n - 1) (behind_mark 10 text)
 next_line zero text h = absurd (omega (arith, h))
-next_line (suc n) text h = ap (λ k. behind_lines k (behind_mark 10 text)) (omega arith)
+next_line (suc n) text h =
+    let same : n ≡ suc n - 1 = omega arith in
+    ap (λ k. behind_lines k (behind_mark 10 text)) same

@@ -4,7 +4,7 @@ use Rattle.rules_plan.specs.Read.{program_in}
 use Rattle.bound_contract.specs.Asked.{BoundsWhereKept}
 use Rattle.bound_contract.specs.Read.{decided_of, place_of}
 use Rattle.contract_report.specs.Told.{VerdictsRefused}
-use Rattle.explain_budget.proofs.Judging.{there_is, line_there, of_place, clear_next, refused, decides, holds}
+use Rattle.explain_budget.proofs.Decided.{there_is, line_there, of_place, clear_next, refused, decides, holds}
 use Rattle.explain_budget.proofs.judging.judge_line.Goals as goal
 
 pub returns-in-Err-clause-fault : goal.returns-in-Err-clause-fault

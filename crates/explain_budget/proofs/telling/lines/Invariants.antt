@@ -1,7 +1,7 @@
 use Rattle.std.proofs.Common.{drop}
 use Rattle.raml_syntax.specs.Read.{program_of}
 use Rattle.explain_at.specs.Read.{texts}
-use Rattle.explain_budget.proofs.Telling.{ToldSoFar}
+use Rattle.explain_budget.proofs.Lined.{ToldSoFar}
 use Rattle.explain_budget.proofs.telling.lines.Given as goal
 
 abbrev pub invariant-loop-place : goal.invariant-loop-place

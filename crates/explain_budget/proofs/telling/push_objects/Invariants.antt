@@ -1,7 +1,7 @@
 use Rattle.std.proofs.Common.{◌≡◌, ◌++◌, drop, string_bytes}
 use Rattle.raml_syntax.specs.Tree.{Text}
 use Rattle.raml_syntax.specs.Read.{program_of}
-use Rattle.explain_budget.proofs.Telling.{WrittenSoFar}
+use Rattle.explain_budget.proofs.Lined.{WrittenSoFar}
 use Rattle.explain_budget.proofs.telling.push_objects.Given as goal
 
 abbrev pub invariant-loop-place : goal.invariant-loop-place
