@@ -1,3 +1,2 @@
-pub mod Sinks
-pub mod Shelves
 pub mod Answers
+pub mod Sinks

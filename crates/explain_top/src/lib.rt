@@ -1,8 +1,7 @@
-//! What the program `explain` does: what the words of a call ask for, on a store, a shelf and two sinks.
+//! What the program `explain` does: what the words of a call ask for, on a store and two sinks.
 #![tactic(auto)]
 
 mod asked;
-mod draft;
 mod status;
 #[cfg(test)]
 mod tests;

@@ -1,8 +1,7 @@
 // How a call ends.
 ghost use Rattle.std.specs.Prelude.{◌≡◌};
-ghost use Rattle.explain_top.specs.Answers.{code_of, status_of, status_for, status_at, status_of_budget, status_of_verification};
+ghost use Rattle.explain_top.specs.Answers.{code_of, status_of, status_for, status_at, status_of_verification};
 
-use explain_budget::BudgetEnd;
 use explain_calls::End;
 use explain_check::Verdict;
 use explain_data::Finding;
@@ -13,7 +12,7 @@ use explain_verify::Verification;
 pub enum Status {
     /// What was asked for is done, and nothing is wrong.
     Done,
-    /// What was checked has a fault: a source spells no typed program, a declared bound is not kept, or a certificate is refused.
+    /// What was checked has a fault: a source spells no typed program, or a certificate is refused.
     Faulty,
     /// The words ask for nothing that there is, a file can't be read, or one beside what is checked is faulty.
     Refused,
@@ -73,19 +72,6 @@ impl From<End> for Status {
             End::Told => Status::Done,
             End::Refused => Status::Refused,
             End::NotAnalysed => Status::NotAnalysed,
-        }
-    }
-}
-
-impl From<BudgetEnd> for Status {
-    ghost from_gives = { λ end status. status ≡ status_of_budget end };
-
-    fn from(end: BudgetEnd) -> Status {
-        match end {
-            BudgetEnd::AllKept => Status::Done,
-            BudgetEnd::Broken => Status::Faulty,
-            BudgetEnd::Refused => Status::Refused,
-            BudgetEnd::NotAnalysed => Status::NotAnalysed,
         }
     }
 }

@@ -8,7 +8,6 @@ ghost use Rattle.explain_words.specs.Commands.{texts};
 ghost use Rattle.explain_words.specs.Asking.{command_named, MeansBy, Means, Asks, GivesNone, IsTold, RefusesAll};
 
 pub mod bounds;
-mod budget;
 mod check;
 mod verify;
 
@@ -34,20 +33,6 @@ pub enum Request<'a> {
     },
     /// Say what bounds the functions of a program have.
     Bounds(BoundsWords<'a>),
-    /// Say which of the bounds that the file `bounds` declares of the program in `file` are kept.
-    Budget {
-        file: &'a str,
-        bounds: &'a str,
-        degree: Option<u8>,
-        json: bool,
-    },
-    /// Write the bounds of the program in `file` to the file `bounds`, over one that is there only where `force` is set.
-    WriteBudget {
-        file: &'a str,
-        bounds: &'a str,
-        degree: Option<u8>,
-        force: bool,
-    },
     /// Say whether the certificate in a file holds of the program in `file`.
     Verify {
         file: &'a str,
@@ -126,7 +111,6 @@ fn asked_of<'a>(
     match name {
         "check" => check::asked(alloc, found),
         "bounds" => bounds::asked(alloc, found),
-        "budget" => budget::asked(alloc, found),
         "verify" => verify::asked(alloc, found),
         _ => Err(Mistake::NoCommand.told(alloc)),
     }

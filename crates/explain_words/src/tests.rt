@@ -1,5 +1,4 @@
 mod bounds;
-mod budget;
 mod verify;
 
 use crate::{Request, VERSION, WordsFault, read_words};

@@ -4,6 +4,10 @@
 #[cfg(test)]
 mod bounds;
 #[cfg(test)]
+mod calls;
+#[cfg(test)]
+mod certificates;
+#[cfg(test)]
 mod data;
 #[cfg(test)]
 mod faulty;
@@ -11,5 +15,7 @@ mod faulty;
 mod habits;
 #[cfg(test)]
 mod messages;
+#[cfg(test)]
+mod objects;
 #[cfg(test)]
 mod typed;

@@ -1,5 +1,0 @@
-mod Decided
-mod Lined
-mod Placed
-mod Degrees
-mod Calling

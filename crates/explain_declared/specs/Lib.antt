@@ -1,3 +1,0 @@
-pub mod Places
-pub mod Messages
-pub mod Told
