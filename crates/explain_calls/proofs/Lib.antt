@@ -3,4 +3,3 @@ mod Same
 mod Places
 mod Analysing
 mod Calling
-mod Drafting
