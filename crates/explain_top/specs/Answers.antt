@@ -12,12 +12,9 @@ use Rattle.explain_data.specs.declared.finding.Finding.TheVariants as f
 use Rattle.explain_calls.specs.Calls as calls
 use Rattle.explain_calls.specs.declared.end.End.{End}
 use Rattle.explain_calls.specs.declared.end.End.TheVariants as e
-use Rattle.explain_verify.specs.Verified as verify
-use Rattle.explain_verify.specs.declared.verification.Verification.{Verification}
-use Rattle.explain_verify.specs.declared.verification.Verification.TheVariants as o
 use Rattle.explain_words.specs.Asking.{Asks, AsksToShow, AsksNothing}
 use Rattle.explain_words.specs.declared.request.Request.{Request}
-use Rattle.explain_words.specs.declared.request.Request.TheVariants.{Check, CheckData, Bounds, Verify}
+use Rattle.explain_words.specs.declared.request.Request.TheVariants.{Check, CheckData, Bounds}
 use Rattle.explain_words.specs.declared.request.bounds.BoundsWords.{BoundsWords}
 use Rattle.explain_top.specs.Sinks.{Sink, GainsNothing, Gains, GainsFront, Writes}
 use Rattle.explain_top.specs.declared.status.Status.{Status}
@@ -46,12 +43,6 @@ status_at e.Told = s.Done
 status_at e.Refused = s.Refused
 status_at e.NotAnalysed = s.NotAnalysed
 
-abbrev pub status_of_verification : Verification → Status
-status_of_verification o.Holds = s.Done
-status_of_verification o.Fails = s.Faulty
-status_of_verification o.Refused = s.Refused
-status_of_verification o.NotAnalysed = s.NotAnalysed
-
 -- a text is written to out, and the status is this one; or not as a whole, since out failed
 abbrev pub Puts : Text → Sink → Status → Status → Type 0
 Puts text out done status = ((status ≡ done) × Gains text out) ⊎ ((status ≡ s.WriteFault) × GainsFront text out)
@@ -77,20 +68,12 @@ abbrev pub width_or : Option ℕ → Option ℕ → Option ℕ
 width_or (Some width) columns = Some width
 width_or None columns = columns
 
--- what is told is written: a text to out, and a report of what is wrong to err, with the status of how the call ends; or memory ran out
-abbrev pub Tells : {End : Type 0} → (End → Text → Text → Type 0) → (End → Status) → Sink → Sink → Status → Type 0
-Tells {End} Is status_by out err status =
-    (LacksMemory err status × GainsNothing out)
-    ⊎ ((end : End) × (text : Text) × (report : Text) × Is end text report × Puts text out (status_by end) status × Writes report err)
-
--- the bounds of a program
+-- what is told of the bounds of a program is written to out, and what is wrong to err; or memory ran out
 abbrev pub AreBoundsTold : Store → BoundsWords → Option ℕ → Sink → Sink → Status → Type 0
 AreBoundsTold store words columns out err status =
-    Tells (calls.CallIs store words (width_or words.width columns)) status_at out err status
-
--- whether a certificate holds of a program
-abbrev pub IsVerified : Store → Text → Text → Sink → Sink → Status → Type 0
-IsVerified store file certificate out err status = Tells (verify.CallIs store file certificate) status_of_verification out err status
+    (LacksMemory err status × GainsNothing out)
+    ⊎ ((end : End) × (text : Text) × (report : Text) × calls.CallIs store words (width_or words.width columns) end text report
+    × Puts text out (status_at end) status × Writes report err)
 
 -- what a request asks for is done, where lines that go to out have at most so many columns
 abbrev pub IsAnswer : Store → Request → Option ℕ → Sink → Sink → Status → Type 0
@@ -98,7 +81,6 @@ IsAnswer store (Check names) columns out err status = IsChecked store names.item
 IsAnswer store (CheckData file name input) columns out err status =
     IsDataChecked store file.now name.now input.now err status × GainsNothing out
 IsAnswer store (Bounds words) columns out err status = AreBoundsTold store words columns out err status
-IsAnswer store (Verify file certificate) columns out err status = IsVerified store file.now certificate.now out err status
 
 -- ---- whole calls
 

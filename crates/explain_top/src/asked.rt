@@ -3,14 +3,13 @@ ghost use Rattle.std.specs.Prelude.{◌≡◌, ◌≤◌};
 ghost use Rattle.raml_syntax.specs.Tree.{Text};
 ghost use Rattle.explain_check.specs.Stores.{store_of};
 ghost use Rattle.explain_words.specs.Laws.{AreInRange, IsInRange};
-ghost use Rattle.explain_top.specs.Answers.{width_or, IsAnswer, AreBoundsTold, IsVerified, IsChecked, IsDataChecked, LacksMemory, Puts};
+ghost use Rattle.explain_top.specs.Answers.{width_or, IsAnswer, AreBoundsTold, IsChecked, IsDataChecked, LacksMemory, Puts};
 ghost use Rattle.explain_top.specs.Sinks.{sink_of, Writes};
 
 use crate::status::Status;
 use explain_calls::tell_bounds;
 use explain_check::check_files;
 use explain_data::check_call;
-use explain_verify::verify_certificate;
 use explain_words::{BoundsWords, Request};
 use raml_io::{Sink, Store, put_all};
 use std::alloc::{AllocError, Global};
@@ -41,9 +40,6 @@ pub fn answer<S: Store, O: Sink, E: Sink>(
             check_data(alloc, *file, *name, *input, store, err)
         }
         Request::Bounds(words) => bounds(alloc, words, columns, store, out, err),
-        Request::Verify { file, certificate } => {
-            verify(alloc, *file, *certificate, store, out, err)
-        }
     }
 }
 
@@ -67,32 +63,6 @@ fn bounds<S: Store, O: Sink, E: Sink>(
     let mut report = String::new(alloc);
     let width = width_or(words.width, columns);
     match tell_bounds(alloc, store, words, width, &mut text, &mut report) {
-        Ok(end) => {
-            write_report(err, &report);
-            put_text(out, &text, Status::from(end))
-        }
-        Err(AllocError) => no_memory(err),
-    }
-}
-
-/// Tells on `out` that a certificate holds of a program, and on `err` where it does not, or what is wrong.
-fn verify<S: Store, O: Sink, E: Sink>(
-    alloc: Global,
-    file: &str,
-    certificate: &str,
-    store: &mut S,
-    out: &mut O,
-    err: &mut E,
-) -> Status
-    ensures told { IsVerified (store_of (S.holds store.old) (S.faults store.old) (S.faults store.new)) file.now certificate.now
-        (sink_of (O.faults out.old) (O.faults out.new) (O.written out.old) (O.written out.new))
-        (sink_of (E.faults err.old) (E.faults err.new) (E.written err.old) (E.written err.new)) result }
-    ensures kept { S.holds store.new ≡ S.holds store.old }
-    ensures later { (name : Text) → S.faults store.old name ≤ S.faults store.new name }
-{
-    let mut text = String::new(alloc);
-    let mut report = String::new(alloc);
-    match verify_certificate(alloc, store, file, certificate, &mut text, &mut report) {
         Ok(end) => {
             write_report(err, &report);
             put_text(out, &text, Status::from(end))
@@ -135,7 +105,7 @@ fn check<S: Store, E: Sink>(alloc: Global, names: &[&str], store: &mut S, err: &
     let mut report = String::new(alloc);
     match check_files(alloc, store, names, &mut report) {
         Ok(verdict) => {
-            write_report(err, &report);
+            let _ = put_all(err, report.as_bytes());
             Status::from(verdict)
         }
         Err(AllocError) => no_memory(err),
@@ -159,7 +129,7 @@ fn check_data<S: Store, E: Sink>(
     let mut report = String::new(alloc);
     match check_call(alloc, store, file, name, input, &mut report) {
         Ok(finding) => {
-            write_report(err, &report);
+            let _ = put_all(err, report.as_bytes());
             Status::from(finding)
         }
         Err(AllocError) => no_memory(err),

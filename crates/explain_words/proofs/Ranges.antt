@@ -6,12 +6,12 @@ use Rattle.std.specs.Str.Parse.{digits_value}
 use Rattle.clap.specs.Simple.{subcommand_of}
 use Rattle.explain_words.specs.Apps.{app}
 use Rattle.clap.specs.Walk.{Text, Row, first_of}
-use Rattle.explain_words.specs.Asking.{Command, OfCheck, OfBounds, OfVerify, command_named, MeansBy, Means}
+use Rattle.explain_words.specs.Asking.{Command, OfCheck, OfBounds, command_named, MeansBy, Means}
 use Rattle.explain_words.specs.Commands.{AreBounds, degree_or_4, optional}
 use Rattle.explain_words.specs.Laws.{AreInRange, IsInRange, AskedIsInRange}
 use Rattle.explain_words.specs.Spelled.{degree_in, is_numeral, meter_named, number_in, ranged, within_in, within_of, cut_at}
 use Rattle.explain_words.specs.declared.request.Request.{Request}
-use Rattle.explain_words.specs.declared.request.Request.TheVariants.{Check, CheckData, Bounds, Verify}
+use Rattle.explain_words.specs.declared.request.Request.TheVariants.{Check, CheckData, Bounds}
 use Rattle.explain_words.specs.declared.request.bounds.BoundsWords.{BoundsWords}
 use Rattle.explain_words.specs.declared.within.Meter.{Meter}
 use Rattle.explain_words.specs.declared.within.Within.{Within}
@@ -67,18 +67,16 @@ bounds_are_in_range rows words are = let degree = degree_in_range (first_of (cod
   within = within_in_range (first_of (codes "within") rows) words.within are.within;
 }
 
-meant_is_in_range : (command : Option Command) (rows : List Row) (request : Request) → MeansBy command rows request → IsInRange request
-meant_is_in_range command rows (Check names) means = tt
-meant_is_in_range command rows (CheckData file name input) means = tt
-meant_is_in_range command rows (Verify file certificate) means = tt
-meant_is_in_range (Some OfBounds) rows (Bounds asked) means = bounds_are_in_range rows asked means
-meant_is_in_range (Some OfCheck) rows (Bounds asked) means = absurd means
-meant_is_in_range (Some OfVerify) rows (Bounds asked) means = absurd means
-meant_is_in_range None rows (Bounds asked) means = absurd means
-
 pub asked_is_in_range : AskedIsInRange
-asked_is_in_range words request asks = by (subcommand_of app words) asks.1
+asked_is_in_range words (Check names) asks = tt
+asked_is_in_range words (CheckData file name input) asks = tt
+asked_is_in_range words (Bounds asked) asks = by (subcommand_of app words) asks.1
   where
-    by : (found : Option (Text × List Row)) → Means found request → IsInRange request
-    by (Some command) means = meant_is_in_range (command_named command.0) command.1 request means
+    of_command : (command : Option Command) (rows : List Row) → MeansBy command rows (Bounds asked) → AreInRange asked
+    of_command (Some OfCheck) rows means = absurd means
+    of_command (Some OfBounds) rows means = bounds_are_in_range rows asked means
+    of_command None rows means = absurd means
+
+    by : (found : Option (Text × List Row)) → Means found (Bounds asked) → AreInRange asked
+    by (Some command) means = of_command (command_named command.0) command.1 means
     by None means = absurd means

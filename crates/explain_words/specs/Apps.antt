@@ -63,9 +63,6 @@ bounds_sized = with_rule (with_rule bounds_chosen (option_rule (codes "at"))) (o
 abbrev pub bounds_app : App
 bounds_app = with_rule (with_rule bounds_sized (option_rule (codes "width"))) (flag_rule (codes "json"))
 
-abbrev pub verify_app : App
-verify_app = with_rule (with_rule (new_app (codes "verify")) (operand_rule (codes "file"))) (operand_rule (codes "certificate"))
-
 -- the program before it has commands
 abbrev pub bare : App
 bare = on_top (λ s. record s {
@@ -75,9 +72,5 @@ bare = on_top (λ s. record s {
   subcommand_required = true;
 }) (new_app (codes "explain"))
 
--- with its first commands
-abbrev pub begun : App
-begun = with_subcommand (with_subcommand bare check_app.top) bounds_app.top
-
 abbrev pub app : App
-app = with_subcommand begun verify_app.top
+app = with_subcommand (with_subcommand bare check_app.top) bounds_app.top

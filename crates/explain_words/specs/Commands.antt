@@ -6,7 +6,7 @@ use Rattle.std.specs.Borrow.{Bor}
 use Rattle.clap.specs.Walk.{Row, Text, all_of, first_of}
 use Rattle.explain_words.specs.Spelled.{lent, degree_in, width_in, within_in}
 use Rattle.explain_words.specs.declared.request.Request.{Request}
-use Rattle.explain_words.specs.declared.request.Request.TheVariants.{Check, CheckData, Bounds, Verify}
+use Rattle.explain_words.specs.declared.request.Request.TheVariants.{Check, CheckData, Bounds}
 use Rattle.explain_words.specs.declared.request.bounds.BoundsWords.{BoundsWords}
 
 -- the texts that are lent
@@ -60,9 +60,3 @@ pub record AreBounds (rows : List Row) (asked : BoundsWords) : Type 0 where
 abbrev pub MeansBounds : List Row → Request → Type 0
 MeansBounds rows (Bounds asked) = AreBounds rows asked
 MeansBounds rows other = ⊥
-
--- what `verify` asks for
-abbrev pub MeansVerify : List Row → Request → Type 0
-MeansVerify rows (Verify file certificate) =
-    (first_of (codes "file") rows ≡ Some file.now) × (first_of (codes "certificate") rows ≡ Some certificate.now)
-MeansVerify rows other = ⊥

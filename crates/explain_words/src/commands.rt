@@ -1,11 +1,10 @@
 // The commands, as `clap` has them.
 ghost use Rattle.std.specs.Prelude.{◌≡◌, IfOk};
 ghost use Rattle.clap.specs.Simple.{app_of};
-ghost use Rattle.explain_words.specs.Apps.{bare, begun, app, operand_rule, option_rule, flag_rule, IsArg};
+ghost use Rattle.explain_words.specs.Apps.{bare, app, operand_rule, option_rule, flag_rule, IsArg};
 
 mod bounds;
 mod check;
-mod verify;
 
 use clap::{Arg, ArgAction, Command};
 use std::alloc::{AllocError, Global};
@@ -16,14 +15,6 @@ pub const VERSION: &str = "1.0.0";
 /// The program, with all its commands. Its words are those behind its name.
 pub fn program<'a>(alloc: Global) -> Result<Command<'a>, AllocError>
     ensures { IfOk result (λ command. app_of command ≡ app) }
-{
-    let command = begun(alloc)?;
-    command.subcommand(verify::command(alloc)?)
-}
-
-// With its first commands.
-fn begun<'a>(alloc: Global) -> Result<Command<'a>, AllocError>
-    ensures { IfOk result (λ command. app_of command ≡ begun) }
 {
     let command = bare(alloc);
     let with_check = command.subcommand(check::command(alloc)?)?;

@@ -19,8 +19,6 @@ pub enum Mistake {
     Within,
     /// The word is no width of lines.
     Width,
-    /// There is no certificate.
-    NoCertificate,
 }
 
 impl Mistake {
@@ -44,7 +42,6 @@ impl Mistake {
                 "error: '--within <METER=N>' takes ticks=N, cells=N or work=N, with a whole number N of at most 2^127\n"
             }
             Mistake::Width => "error: '--width <N>' takes a whole number from 20 to 99999\n",
-            Mistake::NoCertificate => "error: no certificate is given\n",
         }
     }
 }

@@ -9,7 +9,6 @@ ghost use Rattle.explain_words.specs.Asking.{command_named, MeansBy, Means, Asks
 
 pub mod bounds;
 mod check;
-mod verify;
 
 use crate::commands::program;
 use crate::mistake::Mistake;
@@ -33,11 +32,6 @@ pub enum Request<'a> {
     },
     /// Say what bounds the functions of a program have.
     Bounds(BoundsWords<'a>),
-    /// Say whether the certificate in a file holds of the program in `file`.
-    Verify {
-        file: &'a str,
-        certificate: &'a str,
-    },
 }
 
 /// Why words give no request.
@@ -111,7 +105,6 @@ fn asked_of<'a>(
     match name {
         "check" => check::asked(alloc, found),
         "bounds" => bounds::asked(alloc, found),
-        "verify" => verify::asked(alloc, found),
         _ => Err(Mistake::NoCommand.told(alloc)),
     }
 }

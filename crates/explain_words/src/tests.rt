@@ -1,5 +1,4 @@
 mod bounds;
-mod verify;
 
 use crate::{Request, VERSION, WordsFault, read_words};
 use std::test::Fail;

@@ -6,8 +6,6 @@ mod bounds;
 #[cfg(test)]
 mod calls;
 #[cfg(test)]
-mod certificates;
-#[cfg(test)]
 mod data;
 #[cfg(test)]
 mod faulty;

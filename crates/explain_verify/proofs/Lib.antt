@@ -1,5 +1,0 @@
-mod Lists
-mod Scheduling
-mod Calling
-mod Verifying
-mod Limits
