@@ -1,5 +1,6 @@
 -- The bounds of a program, as a file that declares them.
-use Rattle.std.specs.Prelude.{◌≡◌, ◌≤◌, ◌⊎◌, ◌-◌, Option, Some, None, ℕ, zero, suc, Bool, true, false, cond, List, [], ◌∷◌, map, length, flat_map, string_bytes}
+use Rattle.std.specs.Prelude.{◌≡◌, ◌≤◌, ◌⊎◌, ◌-◌, Option, Some, None, ℕ, zero, suc, Bool, true, false, cond, List, [], ◌∷◌, map, length}
+use Rattle.std.specs.Prelude.{flat_map, string_bytes}
 use Rattle.std.specs.List.{range_with_len}
 use Rattle.raml_syntax.specs.Tree.{Text, Prog}
 use Rattle.call_groups.specs.Groups.{Grouping, IsGrouping}

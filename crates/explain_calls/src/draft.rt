@@ -14,7 +14,8 @@ ghost use Rattle.report_text.specs.Claims.{lines_text};
 ghost use Rattle.explain_check.specs.Stores.{store_of};
 ghost use Rattle.explain_degrees.specs.Degrees.{analysis_at};
 ghost use Rattle.explain_words.specs.Laws.{IsDegree};
-ghost use Rattle.explain_calls.specs.Draft.{DraftIs, IsDrafted, IsDraft, bounds_among, bounds_text, first_bounds_text, highest_of, lowest_of};
+ghost use Rattle.explain_calls.specs.Draft.{DraftIs, IsDrafted, IsDraft, bounds_among, bounds_text, first_bounds_text, highest_of};
+ghost use Rattle.explain_calls.specs.Draft.{lowest_of};
 
 use crate::analysed::push_note;
 use bound_infer::{Line, Verified};
