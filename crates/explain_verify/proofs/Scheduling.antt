@@ -30,5 +30,6 @@ module _ (s : Subject) (block count : ℕ) (results : List Ty) (functions : List
   pub refused_is : IsRefused 2000 (record { results = context_of results; groups = groups.list; degree = s.outline.now.degree; work = s.outline.now.work }) before → DoesNotGoOn (subject_in s) block
   refused_is h =
       let plan : List Type' → Grouping → Plan = λ As g. record { results = As; groups = g.list; degree = s.outline.now.degree; work = s.outline.now.work } in
-      subst (λ done. IsRefused 2000 (plan _ s.program.now.groups) done) before_is
-      (subst (λ g. IsRefused 2000 (plan _ g) before) groups_is (subst (λ As. IsRefused 2000 (plan As groups) before) types_are h))
+      let all = map (λ (g : n.NormFun). g.result) (funs_of s.program.now.results s.program.now.functions) in
+      subst (λ done. IsRefused 2000 (plan all s.program.now.groups) done) before_is
+      (subst (λ g. IsRefused 2000 (plan all g) before) groups_is (subst (λ As. IsRefused 2000 (plan As groups) before) types_are h))
