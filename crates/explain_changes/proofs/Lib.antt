@@ -1,0 +1,3 @@
+pub mod Rebuilt
+pub mod Stands
+pub mod Keep

@@ -1,0 +1,4 @@
+pub mod Built
+pub mod Scope
+pub mod Sites
+pub mod Laws
