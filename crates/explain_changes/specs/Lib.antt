@@ -1,4 +1,5 @@
 pub mod Built
 pub mod Scope
 pub mod Sites
+pub mod Read
 pub mod Laws

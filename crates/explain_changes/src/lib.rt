@@ -1,4 +1,14 @@
-//! Mechanical changes of a program that keep its meaning.
+//! Mechanical changes of a program that keep its meaning, each in files of its own: *rebuild*, where a variable's value is
+//! built again from its parts.
 #![tactic(auto)]
 
+mod built;
+mod kind;
 pub mod laws;
+mod scope;
+mod site;
+mod uses;
+
+pub use built::Built;
+pub use site::Site;
+pub use uses::sites;
