@@ -1,3 +1,4 @@
 pub mod Rebuilt
 pub mod Stands
 pub mod Keep
+pub mod Each

@@ -1,5 +1,7 @@
 pub mod Built
 pub mod Scope
 pub mod Sites
+pub mod Edits
 pub mod Read
 pub mod Laws
+pub mod Example

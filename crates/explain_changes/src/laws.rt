@@ -1,7 +1,13 @@
 // Laws of changes: each is the contract of a function that does nothing.
+ghost use Rattle.explain_changes.specs.Example.{Examples};
 ghost use Rattle.explain_changes.specs.Laws.{RebuildingKeeps};
 
 /// Where values are built again from their parts, runs give the same at the same ticks.
 pub fn rebuilding_keeps()
     ensures { RebuildingKeeps }
+{}
+
+/// Small programs have the sites that were worked out by hand, and are changed so.
+pub fn small_examples()
+    ensures { Examples }
 {}

@@ -3,6 +3,7 @@
 #![tactic(auto)]
 
 mod built;
+mod edits;
 mod kind;
 pub mod laws;
 mod scope;
@@ -10,5 +11,6 @@ mod site;
 mod uses;
 
 pub use built::Built;
+pub use edits::changed_text;
 pub use site::Site;
 pub use uses::sites;
