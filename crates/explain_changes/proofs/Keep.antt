@@ -18,7 +18,9 @@ use Rattle.explain_changes.specs.Built as m
 use Rattle.explain_changes.specs.Built.{Built, expression}
 use Rattle.explain_changes.specs.Scope.{Scope, Bound, variable, built_at, kind, in_function}
 use Rattle.explain_changes.specs.Sites.{is_chosen, rebuilt, unless, changed, changed_all, changed_function, changed_program}
-use Rattle.explain_changes.specs.Laws.{RunsRebuilt, RebuildingKeeps}
+use Rattle.explain_changes.specs.Same.{SameProgram, SameFunction}
+use Rattle.explain_changes.specs.Laws.{RunsRebuilt, RebuildingKeeps, IsRebuilt, WrittenKeeps}
+use Rattle.explain_changes.proofs.SameRuns.{SameFound, types_same, find_same, run_same}
 use Rattle.explain_changes.proofs.Rebuilt.{rebuilt_same, rebuilt_costs, rebuilt_node, rebuilt_then, rebuilt_two, rebuilt_branch, rebuilt_pair, rebuilt_list, rebuilt_tree, rebuilt_option}
 use Rattle.explain_changes.proofs.Stands.{value, Stands, IsSubject, stands_bound, stands_pair, stands_empty, stands_list, stands_tree, stands_option, stands_at_start}
 
@@ -135,3 +137,18 @@ rebuilding_keeps P typed fits chosen f g found args n has =
     let entered : Enters (NoDefault (calls_at P n) (CallMeetsNone P n)) (Some g) args =
     subst (λ o. Enters (NoDefault (calls_at P n) (CallMeetsNone P n)) o args) found meets in
     rebuilt_node (enter_rebuilt P chosen _ _ (CallMeetsNone P n) (calls_rebuilt P chosen n) (Some g) args entered)
+
+pub written_keeps : WrittenKeeps
+written_keeps P typed fits chosen Q same f g found = by (find f Q) refl
+    (subst (λ o. SameFound o (find f Q)) (find_changed P chosen f P ∙ ap (option_map (changed_function P chosen)) found) (find_same f (changed_program P chosen) Q same))
+  where
+    by : (o : Option Function) → find f Q ≡ o → SameFound (Some (changed_function P chosen g)) o → IsRebuilt P Q f g
+    by None e h = absurd h
+    by (Some k) e h = record {
+      other = k;
+      found = e;
+      params = sym (types_same g.params k.params h.1);
+      result = sym h.2;
+      runs = λ args n has. subst (RunsRebuilt (run_of P g args n)) (run_same (changed_program P chosen) Q same (changed_function P chosen g) k h args n)
+          (rebuilding_keeps P typed fits chosen f g found args n has);
+    }

@@ -2,3 +2,4 @@ pub mod Rebuilt
 pub mod Stands
 pub mod Keep
 pub mod Each
+pub mod SameRuns

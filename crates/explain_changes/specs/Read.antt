@@ -1,5 +1,5 @@
 -- What sites and scopes are as plain data.
-use Rattle.std.specs.Prelude.{◌≡◌, List, [], ◌∷◌, ◌++◌, Option, map}
+use Rattle.std.specs.Prelude.{ℕ, ◌≡◌, List, [], ◌∷◌, ◌++◌, Option, map}
 use Rattle.std.specs.Option.{option_map}
 use Rattle.std.specs.Borrow.{Bor}
 use Rattle.raml_syntax.specs.Tree as t
@@ -16,6 +16,7 @@ use Rattle.explain_changes.specs.declared.scope.Scope.TheOpen as o
 use Rattle.explain_changes.specs.declared.scope.Scope.TheFolds.{fold-Scope}
 use Rattle.explain_changes.specs.declared.site.Site.{Site}
 use Rattle.explain_changes.specs.declared.uses.Place.{Place}
+use Rattle.explain_changes.specs.declared.compare.Changing.{Changing}
 
 abbrev pub built_of : Built → b.Built
 built_of d.Nil = b.Nil
@@ -51,3 +52,11 @@ Adds old new sites = sites_of new ≡ sites_of old ++ sites
 -- the sites of an expression where it stands
 abbrev pub sites_at : Place → t.Term → List p.Site
 sites_at place e = p.sites (program_of place.program.now) place.function.now (scope_in place.scope.now) e
+
+-- the bytes of sites
+abbrev pub bytes_of : List Site → List ℕ
+bytes_of = map (λ (s : Site). s.at.0)
+
+-- the changed expression where it stands
+abbrev pub changed_at : Changing → t.Term → t.Term
+changed_at place e = p.changed (program_of place.program.now) (bytes_of place.chosen.now) (scope_in place.scope.now) e

@@ -2,7 +2,6 @@
 use Rattle.std.specs.Prelude.{ℕ, List, [], ◌∷◌, ◌++◌, Bool, false, cond, ◌||◌, nat_eq, map, Option, Some, None}
 use Rattle.raml_syntax.specs.Tree as t
 use Rattle.raml_syntax.specs.Tree.{Text, Bound, Function, Prog}
-
 use Rattle.explain_changes.specs.Built.{Built, Nil, Leaf, Nothing, expression}
 use Rattle.explain_changes.specs.Scope as s
 use Rattle.explain_changes.specs.Scope.{Scope, kind, variable, built_at, in_pair, in_empty, in_list, in_tree, in_option, in_function}

@@ -9,11 +9,7 @@ use std::alloc::{AllocError, Global};
 
 /// The source in which the values at some of its sites, in their order, are built again. All else is kept, layout and comments
 /// too.
-pub fn changed_text(
-    alloc: Global,
-    source: &[u8],
-    chosen: &[Site],
-) -> Result<Vec<u8>, AllocError>
+pub fn changed_text(alloc: Global, source: &[u8], chosen: &[Site]) -> Result<Vec<u8>, AllocError>
     ensures { IfOk result (λ text. text.items ≡ with_edits source.now (map edit (sites_of chosen.now))) }
 {
     let mut changed = Vec::new(alloc);

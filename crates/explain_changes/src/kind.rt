@@ -11,11 +11,7 @@ use crate::scope::Scope;
 use raml_syntax::{Expr, Form, Program, Ty};
 
 /// The type of an expression, where its first token tells it or it is written.
-pub fn kind<'s, 'a>(
-    program: &'a Program,
-    scope: &Scope<'s, 'a>,
-    e: &'a Expr,
-) -> Option<&'a Ty>
+pub fn kind<'s, 'a>(program: &'a Program, scope: &Scope<'s, 'a>, e: &'a Expr) -> Option<&'a Ty>
     ensures { lent result ≡ s.kind (program_of program.now) (scope_in scope.now) (term_of e.now) }
 {
     match &e.form {

@@ -3,6 +3,7 @@
 #![tactic(auto)]
 
 mod built;
+mod compare;
 mod edits;
 mod kind;
 pub mod laws;
@@ -11,6 +12,7 @@ mod site;
 mod uses;
 
 pub use built::Built;
+pub use compare::is_changed;
 pub use edits::changed_text;
 pub use site::Site;
 pub use uses::sites;

@@ -54,7 +54,9 @@ impl<'s, 'a> Scope<'s, 'a> {
         match self {
             Scope::Empty => None,
             Scope::Bound {
-                name: bound, outer, ..
+                name: bound,
+                outer,
+                ..
             } => {
                 if name == bound.text() {
                     None
