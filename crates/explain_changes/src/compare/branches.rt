@@ -3,9 +3,8 @@ ghost use Rattle.std.specs.Prelude.{◌∷◌, ◌↔◌, IsTrue};
 ghost use Rattle.raml_syntax.specs.Tree as t;
 ghost use Rattle.raml_syntax.specs.Read.{program_of, term_of, bound_of};
 ghost use Rattle.explain_changes.specs.Scope as s;
-ghost use Rattle.explain_changes.specs.Sites as p;
 ghost use Rattle.explain_changes.specs.Same.{Same};
-ghost use Rattle.explain_changes.specs.Read.{built_of, scope_in, bytes_of, changed_at};
+ghost use Rattle.explain_changes.specs.Read.{built_of, scope_in, changed_in, changed_at};
 
 use crate::built::Built;
 use crate::compare::leaves::same_name;
@@ -22,8 +21,9 @@ fn same_below_let<'s, 'a>(
     e: &'a Expr,
     other: &Expr,
 ) -> bool
-    ensures { IsTrue result ↔ Same (p.changed (program_of place.entry.program.now) (bytes_of place.entry.chosen.now)
-        (s.Bound x.now.name (s.kind (program_of place.entry.program.now) (scope_in place.entry.scope.now) (term_of bound.now)) ∷ scope_in place.entry.scope.now)
+    ensures { IsTrue result ↔ Same (changed_in place.entry
+        (s.Bound x.now.name (s.kind (program_of place.entry.program.now) (scope_in place.entry.scope.now)
+        (term_of bound.now)) ∷ scope_in place.entry.scope.now)
         (term_of e.now)) (term_of other.now) }
 {
     let ty = kind(place.program, place.scope, bound);
@@ -45,8 +45,9 @@ fn same_below_pair<'s, 'a>(
     e: &'a Expr,
     other: &Expr,
 ) -> bool
-    ensures { IsTrue result ↔ Same (p.changed (program_of place.entry.program.now) (bytes_of place.entry.chosen.now)
-        (s.in_pair (program_of place.entry.program.now) (scope_in place.entry.scope.now) (term_of subject.now) x.now.name y.now.name) (term_of e.now)) (term_of other.now) }
+    ensures { IsTrue result ↔ Same (changed_in place.entry
+        (s.in_pair (program_of place.entry.program.now) (scope_in place.entry.scope.now)
+        (term_of subject.now) x.now.name y.now.name) (term_of e.now)) (term_of other.now) }
 {
     let ty = kind(place.program, place.scope, subject);
     let one = place.scope.with_name(&x.name, first(ty));
@@ -76,7 +77,7 @@ fn same_empty<'s, 'a>(
     e: &'a Expr,
     other: &Expr,
 ) -> bool
-    ensures { IsTrue result ↔ Same (p.changed (program_of place.entry.program.now) (bytes_of place.entry.chosen.now)
+    ensures { IsTrue result ↔ Same (changed_in place.entry
         (s.in_empty (scope_in place.entry.scope.now) (term_of subject.now) (built_of built.entry)) (term_of e.now)) (term_of other.now) }
 {
     let scope = place.scope.with_apart(subject, built);
@@ -97,8 +98,9 @@ fn same_below_list<'s, 'a>(
     e: &'a Expr,
     other: &Expr,
 ) -> bool
-    ensures { IsTrue result ↔ Same (p.changed (program_of place.entry.program.now) (bytes_of place.entry.chosen.now)
-        (s.in_list (program_of place.entry.program.now) (scope_in place.entry.scope.now) (term_of subject.now) x.now.name y.now.name) (term_of e.now)) (term_of other.now) }
+    ensures { IsTrue result ↔ Same (changed_in place.entry
+        (s.in_list (program_of place.entry.program.now) (scope_in place.entry.scope.now)
+        (term_of subject.now) x.now.name y.now.name) (term_of e.now)) (term_of other.now) }
 {
     let ty = kind(place.program, place.scope, subject);
     let one = place.scope.with_name(&x.name, element(ty));
@@ -122,8 +124,9 @@ fn same_below_tree<'s, 'a>(
     e: &'a Expr,
     other: &Expr,
 ) -> bool
-    ensures { IsTrue result ↔ Same (p.changed (program_of place.entry.program.now) (bytes_of place.entry.chosen.now)
-        (s.in_tree (program_of place.entry.program.now) (scope_in place.entry.scope.now) (term_of subject.now) x.now.name y.now.name z.now.name) (term_of e.now)) (term_of other.now) }
+    ensures { IsTrue result ↔ Same (changed_in place.entry
+        (s.in_tree (program_of place.entry.program.now) (scope_in place.entry.scope.now)
+        (term_of subject.now) x.now.name y.now.name z.now.name) (term_of e.now)) (term_of other.now) }
 {
     let ty = kind(place.program, place.scope, subject);
     let one = place.scope.with_name(&x.name, element(ty));
@@ -146,8 +149,9 @@ fn same_below_option<'s, 'a>(
     e: &'a Expr,
     other: &Expr,
 ) -> bool
-    ensures { IsTrue result ↔ Same (p.changed (program_of place.entry.program.now) (bytes_of place.entry.chosen.now)
-        (s.in_option (program_of place.entry.program.now) (scope_in place.entry.scope.now) (term_of subject.now) x.now.name) (term_of e.now)) (term_of other.now) }
+    ensures { IsTrue result ↔ Same (changed_in place.entry
+        (s.in_option (program_of place.entry.program.now) (scope_in place.entry.scope.now)
+        (term_of subject.now) x.now.name) (term_of e.now)) (term_of other.now) }
 {
     let ty = kind(place.program, place.scope, subject);
     let content = place.scope.with_name(&x.name, element(ty));
@@ -168,7 +172,8 @@ pub fn same_let<'s, 'a>(
     rest: &'a Expr,
     other: &Expr,
 ) -> bool
-    ensures { IsTrue result ↔ Same (changed_at place.entry (t.Let 0 (bound_of x.now) (term_of bound.now) (term_of rest.now))) (term_of other.now) }
+    ensures { IsTrue result ↔ Same
+        (changed_at place.entry (t.Let 0 (bound_of x.now) (term_of bound.now) (term_of rest.now))) (term_of other.now) }
 {
     match &other.form {
         Form::Let(y, c, d) => {
@@ -190,7 +195,9 @@ pub fn same_let_pair<'s, 'a>(
     rest: &'a Expr,
     other: &Expr,
 ) -> bool
-    ensures { IsTrue result ↔ Same (changed_at place.entry (t.LetPair 0 (bound_of x.now) (bound_of y.now) (term_of subject.now) (term_of rest.now))) (term_of other.now) }
+    ensures { IsTrue result ↔ Same
+        (changed_at place.entry (t.LetPair 0 (bound_of x.now) (bound_of y.now)
+        (term_of subject.now) (term_of rest.now))) (term_of other.now) }
 {
     match &other.form {
         Form::LetPair(u, v, c, d) => {
@@ -214,7 +221,9 @@ pub fn same_match_list<'s, 'a>(
     rest: &'a Expr,
     other: &Expr,
 ) -> bool
-    ensures { IsTrue result ↔ Same (changed_at place.entry (t.MatchList 0 (term_of subject.now) (term_of empty.now) (bound_of x.now) (bound_of y.now) (term_of rest.now))) (term_of other.now) }
+    ensures { IsTrue result ↔ Same
+        (changed_at place.entry (t.MatchList 0 (term_of subject.now) (term_of empty.now) (bound_of x.now)
+        (bound_of y.now) (term_of rest.now))) (term_of other.now) }
 {
     match &other.form {
         Form::MatchList(c, d, u, v, f) => {
@@ -240,7 +249,9 @@ pub fn same_match_tree<'s, 'a>(
     rest: &'a Expr,
     other: &Expr,
 ) -> bool
-    ensures { IsTrue result ↔ Same (changed_at place.entry (t.MatchTree 0 (term_of subject.now) (term_of empty.now) (bound_of x.now) (bound_of y.now) (bound_of z.now) (term_of rest.now))) (term_of other.now) }
+    ensures { IsTrue result ↔ Same
+        (changed_at place.entry (t.MatchTree 0 (term_of subject.now) (term_of empty.now) (bound_of x.now)
+        (bound_of y.now) (bound_of z.now) (term_of rest.now))) (term_of other.now) }
 {
     match &other.form {
         Form::MatchTree(c, d, u, v, w, f) => {
@@ -265,7 +276,9 @@ pub fn same_match_option<'s, 'a>(
     rest: &'a Expr,
     other: &Expr,
 ) -> bool
-    ensures { IsTrue result ↔ Same (changed_at place.entry (t.MatchOption 0 (term_of subject.now) (term_of empty.now) (bound_of x.now) (term_of rest.now))) (term_of other.now) }
+    ensures { IsTrue result ↔ Same
+        (changed_at place.entry (t.MatchOption 0 (term_of subject.now) (term_of empty.now)
+        (bound_of x.now) (term_of rest.now))) (term_of other.now) }
 {
     match &other.form {
         Form::MatchOption(c, d, u, f) => {
