@@ -49,20 +49,14 @@ sites_of = map site_of
 abbrev pub Adds : List Site → List Site → List p.Site → Type 0
 Adds old new sites = sites_of new ≡ sites_of old ++ sites
 
--- the sites of an expression in a scope, and where it stands
-abbrev pub sites_in : Place → s.Scope → t.Term → List p.Site
-sites_in place S e = p.sites (program_of place.program.now) place.function.now S e
-
+-- the sites of an expression where it stands
 abbrev pub sites_at : Place → t.Term → List p.Site
-sites_at place e = sites_in place (scope_in place.scope.now) e
+sites_at place e = p.sites (program_of place.program.now) place.function.now (scope_in place.scope.now) e
 
 -- the bytes of sites
 abbrev pub bytes_of : List Site → List ℕ
 bytes_of = map (λ (s : Site). s.at.0)
 
--- the changed expression in a scope, and where it stands
-abbrev pub changed_in : Changing → s.Scope → t.Term → t.Term
-changed_in place S e = p.changed (program_of place.program.now) (bytes_of place.chosen.now) S e
-
+-- the changed expression where it stands
 abbrev pub changed_at : Changing → t.Term → t.Term
-changed_at place e = changed_in place (scope_in place.scope.now) e
+changed_at place e = p.changed (program_of place.program.now) (bytes_of place.chosen.now) (scope_in place.scope.now) e

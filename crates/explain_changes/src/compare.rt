@@ -4,7 +4,7 @@ ghost use Rattle.raml_syntax.specs.Read.{program_of, function_of, parameter_of, 
 ghost use Rattle.explain_changes.specs.Scope as s;
 ghost use Rattle.explain_changes.specs.Sites as p;
 ghost use Rattle.explain_changes.specs.Same.{Same, SameAll, SameParameters, SameFunction, SameProgram};
-ghost use Rattle.explain_changes.specs.Read.{scope_in, bytes_of, changed_in, changed_at};
+ghost use Rattle.explain_changes.specs.Read.{scope_in, bytes_of, changed_at};
 
 mod branches;
 mod leaves;
@@ -100,7 +100,7 @@ fn same_below<'s, 'a>(
     e: &'a Expr,
     other: &Expr,
 ) -> bool
-    ensures { IsTrue result ↔ Same (changed_in place.entry
+    ensures { IsTrue result ↔ Same (p.changed (program_of place.entry.program.now) (bytes_of place.entry.chosen.now)
         (s.in_function (scope_in place.entry.scope.now) (map parameter_of params.now)) (term_of e.now)) (term_of other.now) }
 {
     match params {

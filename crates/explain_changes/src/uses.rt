@@ -1,10 +1,10 @@
 // The sites of a program.
 ghost use Rattle.std.specs.Prelude.{◌≡◌, [], IfOk, OnOk, map};
-ghost use Rattle.raml_syntax.specs.Read.{program_of, function_of, parameter_of, term_of, terms_of};
+ghost use Rattle.raml_syntax.specs.Read.{program_of, function_of, parameter_of, term_of, terms_of, bound_of};
 ghost use Rattle.raml_syntax.specs.Tree as t;
 ghost use Rattle.explain_changes.specs.Scope as s;
 ghost use Rattle.explain_changes.specs.Sites as p;
-ghost use Rattle.explain_changes.specs.Read.{sites_of, scope_in, Adds, sites_in, sites_at};
+ghost use Rattle.explain_changes.specs.Read.{sites_of, scope_in, Adds, sites_at};
 
 mod branches;
 
@@ -127,8 +127,8 @@ fn walk_below<'s, 'a>(
     e: &'a Expr,
     found: &mut Vec<Site<'a>>,
 ) -> Result<(), AllocError>
-    ensures { OnOk result (Adds found.old.items found.new.items (sites_in place.entry
-        (s.in_function (scope_in place.entry.scope.now) (map parameter_of params.now)) (term_of e.now))) }
+    ensures { OnOk result (Adds found.old.items found.new.items (p.sites (program_of place.entry.program.now)
+        place.entry.function.now (s.in_function (scope_in place.entry.scope.now) (map parameter_of params.now)) (term_of e.now))) }
 {
     match params {
         [] => walk(place, e, found),

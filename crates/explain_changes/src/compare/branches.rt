@@ -3,8 +3,9 @@ ghost use Rattle.std.specs.Prelude.{◌∷◌, ◌↔◌, IsTrue};
 ghost use Rattle.raml_syntax.specs.Tree as t;
 ghost use Rattle.raml_syntax.specs.Read.{program_of, term_of, bound_of};
 ghost use Rattle.explain_changes.specs.Scope as s;
+ghost use Rattle.explain_changes.specs.Sites as p;
 ghost use Rattle.explain_changes.specs.Same.{Same};
-ghost use Rattle.explain_changes.specs.Read.{built_of, scope_in, changed_in, changed_at};
+ghost use Rattle.explain_changes.specs.Read.{built_of, scope_in, bytes_of, changed_at};
 
 use crate::built::Built;
 use crate::compare::leaves::same_name;
@@ -21,7 +22,7 @@ fn same_below_let<'s, 'a>(
     e: &'a Expr,
     other: &Expr,
 ) -> bool
-    ensures { IsTrue result ↔ Same (changed_in place.entry
+    ensures { IsTrue result ↔ Same (p.changed (program_of place.entry.program.now) (bytes_of place.entry.chosen.now)
         (s.Bound x.now.name (s.kind (program_of place.entry.program.now) (scope_in place.entry.scope.now)
         (term_of bound.now)) ∷ scope_in place.entry.scope.now)
         (term_of e.now)) (term_of other.now) }
@@ -45,7 +46,7 @@ fn same_below_pair<'s, 'a>(
     e: &'a Expr,
     other: &Expr,
 ) -> bool
-    ensures { IsTrue result ↔ Same (changed_in place.entry
+    ensures { IsTrue result ↔ Same (p.changed (program_of place.entry.program.now) (bytes_of place.entry.chosen.now)
         (s.in_pair (program_of place.entry.program.now) (scope_in place.entry.scope.now)
         (term_of subject.now) x.now.name y.now.name) (term_of e.now)) (term_of other.now) }
 {
@@ -77,7 +78,7 @@ fn same_empty<'s, 'a>(
     e: &'a Expr,
     other: &Expr,
 ) -> bool
-    ensures { IsTrue result ↔ Same (changed_in place.entry
+    ensures { IsTrue result ↔ Same (p.changed (program_of place.entry.program.now) (bytes_of place.entry.chosen.now)
         (s.in_empty (scope_in place.entry.scope.now) (term_of subject.now) (built_of built.entry)) (term_of e.now)) (term_of other.now) }
 {
     let scope = place.scope.with_apart(subject, built);
@@ -98,7 +99,7 @@ fn same_below_list<'s, 'a>(
     e: &'a Expr,
     other: &Expr,
 ) -> bool
-    ensures { IsTrue result ↔ Same (changed_in place.entry
+    ensures { IsTrue result ↔ Same (p.changed (program_of place.entry.program.now) (bytes_of place.entry.chosen.now)
         (s.in_list (program_of place.entry.program.now) (scope_in place.entry.scope.now)
         (term_of subject.now) x.now.name y.now.name) (term_of e.now)) (term_of other.now) }
 {
@@ -124,7 +125,7 @@ fn same_below_tree<'s, 'a>(
     e: &'a Expr,
     other: &Expr,
 ) -> bool
-    ensures { IsTrue result ↔ Same (changed_in place.entry
+    ensures { IsTrue result ↔ Same (p.changed (program_of place.entry.program.now) (bytes_of place.entry.chosen.now)
         (s.in_tree (program_of place.entry.program.now) (scope_in place.entry.scope.now)
         (term_of subject.now) x.now.name y.now.name z.now.name) (term_of e.now)) (term_of other.now) }
 {
@@ -149,7 +150,7 @@ fn same_below_option<'s, 'a>(
     e: &'a Expr,
     other: &Expr,
 ) -> bool
-    ensures { IsTrue result ↔ Same (changed_in place.entry
+    ensures { IsTrue result ↔ Same (p.changed (program_of place.entry.program.now) (bytes_of place.entry.chosen.now)
         (s.in_option (program_of place.entry.program.now) (scope_in place.entry.scope.now)
         (term_of subject.now) x.now.name) (term_of e.now)) (term_of other.now) }
 {

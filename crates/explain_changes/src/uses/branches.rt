@@ -1,9 +1,10 @@
 // Sites below names that are bound.
 ghost use Rattle.std.specs.Prelude.{OnOk};
-ghost use Rattle.raml_syntax.specs.Read.{term_of, bound_of};
+ghost use Rattle.raml_syntax.specs.Read.{program_of, term_of, bound_of};
 ghost use Rattle.raml_syntax.specs.Tree as t;
 ghost use Rattle.explain_changes.specs.Scope as s;
-ghost use Rattle.explain_changes.specs.Read.{built_of, scope_in, Adds, sites_in, sites_at};
+ghost use Rattle.explain_changes.specs.Sites as p;
+ghost use Rattle.explain_changes.specs.Read.{built_of, scope_in, Adds, sites_at};
 
 use crate::built::Built;
 use crate::kind::{element, first, is_known_sized, kind, second};
@@ -76,7 +77,8 @@ fn walk_empty<'s, 'a>(
     e: &'a Expr,
     found: &mut Vec<Site<'a>>,
 ) -> Result<(), AllocError>
-    ensures { OnOk result (Adds found.old.items found.new.items (sites_in place.entry
+    ensures { OnOk result (Adds found.old.items found.new.items (p.sites (program_of place.entry.program.now)
+        place.entry.function.now
         (s.in_empty (scope_in place.entry.scope.now) (term_of subject.now) (built_of built.entry)) (term_of e.now))) }
 {
     let scope = place.scope.with_apart(subject, built);
