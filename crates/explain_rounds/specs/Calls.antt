@@ -5,8 +5,8 @@ use Rattle.raml_syntax.specs.Tree.{Text, Type', Bound, Function, Prog}
 use Rattle.raml_syntax.specs.Types.{types_of}
 use Rattle.raml_syntax.specs.Place.{place_of}
 use Rattle.explain_rounds.specs.Classes.{Variables, is_sized, is_part, is_made, taken_out, class_of, bind, bind_parameters}
-pub use Rattle.explain_rounds.specs.declared.calls.Kind.{Kind}
-pub use Rattle.explain_rounds.specs.declared.calls.Kind.TheVariants.{Smaller, Computed, Stuck}
+pub use Rattle.explain_rounds.specs.declared.idle.Kind.{Kind}
+pub use Rattle.explain_rounds.specs.declared.idle.Kind.TheVariants.{Smaller, Computed, Stuck}
 
 -- a call of a function of the group: its place, the place of the function in the program, and how it goes down
 pub record Call : Type 0 where

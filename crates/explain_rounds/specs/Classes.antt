@@ -77,9 +77,12 @@ holds_call vs (t.Tick p k a) = holds_call vs a
 holds_call vs (t.Typed p a A) = holds_call vs a
 holds_call vs _ = false
 
+abbrev pub made_or_other : Variables → t.Term → Class
+made_or_other vs e = cond (holds_call vs e) Made Other
+
 -- what an expression is: a variable is what it was bound as, a pair goes by its parts, and all else comes from a call or does not
 abbrev pub class_of : Variables → t.Term → Class
 class_of vs (t.Var p x) = class_at x vs
 class_of vs (t.Pair p a b) = paired (class_of vs a) (class_of vs b)
 class_of vs (t.Typed p a A) = class_of vs a
-class_of vs e = cond (holds_call vs e) Made Other
+class_of vs e = made_or_other vs e

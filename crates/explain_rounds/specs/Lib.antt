@@ -1,3 +1,4 @@
 pub mod Calls
 pub mod Classes
 pub mod Count
+pub mod Read

@@ -3,5 +3,9 @@
 
 mod calls;
 mod class;
+mod holds;
+mod idle;
+mod scope;
 
-pub use calls::{GroupCall, Kind};
+pub use calls::{GroupCall, group_calls};
+pub use idle::Kind;

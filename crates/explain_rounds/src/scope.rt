@@ -1,0 +1,42 @@
+// The variables at hand.
+ghost use Rattle.std.specs.Prelude.{◌≡◌};
+ghost use Rattle.explain_rounds.specs.Classes as c;
+ghost use Rattle.explain_rounds.specs.Read.{variables_in};
+
+use crate::class::Class;
+use raml_syntax::{Name, Pos};
+
+/// The variables at hand, each with what it is, the newest outermost.
+#[derive(Clone, Copy)]
+pub enum Scope<'s, 'a> {
+    Empty,
+    Bound {
+        at: Pos,
+        name: &'a Name,
+        class: Class,
+        outer: &'s Scope<'s, 'a>,
+    },
+}
+
+impl<'s, 'a> Scope<'s, 'a> {
+    /// What the newest variable of this name is.
+    pub fn class_at(&self, wanted: &str) -> Class
+        ensures { result ≡ c.class_at wanted.now (variables_in self.now) }
+    {
+        match self {
+            Scope::Empty => Class::Other,
+            Scope::Bound {
+                at: _,
+                name,
+                class,
+                outer,
+            } => {
+                if wanted == name.text() {
+                    *class
+                } else {
+                    outer.class_at(wanted)
+                }
+            }
+        }
+    }
+}
