@@ -1,0 +1,3 @@
+pub mod CountsRounds
+pub mod Kept
+mod Copies

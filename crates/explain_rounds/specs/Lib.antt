@@ -1,4 +1,6 @@
 pub mod Calls
 pub mod Classes
 pub mod Count
+pub mod Laws
 pub mod Read
+pub mod Rounds

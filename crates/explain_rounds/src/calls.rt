@@ -234,7 +234,30 @@ fn find_body<'s, 'a>(
     }
 }
 
-/// The calls of functions of the group in a function, in the order of the source.
+/// Adds those in a function.
+fn find_in_function<'a>(
+    found: &mut Vec<GroupCall>,
+    functions: &FunctionNames<'a>,
+    group: &[FunId],
+    fun: FunId,
+) -> Result<(), AllocError>
+    ensures { OnOk result (calls_of found.new.items
+        ≡ calls_of found.old.items ++ group_calls (program_of functions.now.program.now) (ids_of group.now) fun.0) }
+{
+    let scope = Scope::Empty;
+    let env = Env {
+        functions,
+        group,
+        scope: &scope,
+    };
+    match functions.program.funs.get(fun.0 as usize) {
+        Some(fun) => find_body(found, env, &fun.params, &fun.body),
+        None => Ok(()),
+    }
+}
+
+/// The calls of functions of the group in a function, in the order of the source; none where there is
+/// no such function.
 pub fn group_calls(
     alloc: Global,
     program: &Program,
@@ -246,14 +269,6 @@ pub fn group_calls(
 {
     let functions = FunctionNames::new(alloc, program)?;
     let mut found = Vec::new(alloc);
-    let scope = Scope::Empty;
-    let env = Env {
-        functions: &functions,
-        group,
-        scope: &scope,
-    };
-    if let Some(fun) = program.funs.get(fun.0 as usize) {
-        find_body(&mut found, env, &fun.params, &fun.body)?;
-    }
+    find_in_function(&mut found, &functions, group, fun)?;
     Ok(found)
 }

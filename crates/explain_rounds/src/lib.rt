@@ -3,9 +3,14 @@
 
 mod calls;
 mod class;
+mod copied;
+mod count;
 mod holds;
 mod idle;
+pub mod laws;
 mod scope;
+mod tickless;
 
 pub use calls::{GroupCall, group_calls};
+pub use count::count_program;
 pub use idle::Kind;
