@@ -83,7 +83,7 @@ module _ (call under : Calls) (same : (f : Text) (vs : List Value) → ComesToSa
         same_node (same_then _ _ _ _ (walk_same d env) (λ v. same_tree v _ _ _ _ (walk_same a env) (λ e l r. walk_same b ((z.name, r) ∷ (y.name, l) ∷ (x.name, e) ∷ env))))
     walk_same (t.MatchOption p d a x b) env =
         same_node (same_then _ _ _ _ (walk_same d env) (λ v. same_option v _ _ _ _ (walk_same a env) (λ w. walk_same b ((x.name, w) ∷ env))))
-    walk_same (t.Tick p k a) env = let h = walk_same a env in record { out = h.out; cells = h.cells }
+    walk_same (t.Tick p k a) env = let h = walk_same a env in record { out = h.out; cells = omega (arith, h.cells) }
     walk_same (t.Typed p a A) env = walk_same a env
 
     all_same : (es : t.Terms) (env : Env) → ComesToSame (walk_all call (all_without_ticks es) env) (walk_all under es env)
@@ -113,7 +113,7 @@ place_is k group [] f = refl
 place_is k group (g ∷ P) f = by (bytes_eq f g.name) (place_of f P) (place_is (suc k) group P f)
   where
     by : (b : Bool) (o : Option ℕ) → place_from (suc k) group f P ≡ is_counted group (later_by (suc k) o) → cond b (is_in k group) (place_from (suc k) group f P) ≡ is_counted group (later_by k (cond b (Some zero) (option_map suc o)))
-    by true o e = refl
+    by true o e = ap (λ n. is_in n group) (let s : k ≡ zero + k = omega arith in s)
     by false None e = e
     by false (Some j) e = e ∙ ap (λ n. is_in n group) (let s : j + suc k ≡ suc j + k = omega arith in s)
 
@@ -153,7 +153,7 @@ calls_are group P (suc n) f vs =
 
 -- a round comes to the same
 round_same : (b : Bool) (r s : Run Value) → ComesToSame r s → ComesToSame (round b r) s
-round_same true r s h = record { out = h.out; cells = h.cells }
+round_same true r s h = record { out = h.out; cells = omega (arith, h.cells) }
 round_same false r s h = h
 
 enter_same : (run under : t.Term → Env → Run Value) → ((e : t.Term) (env : Env) → ComesToSame (run (without_ticks e) env) (under e env)) → (o : Option Function) (vs : List Value) → ComesToSame (enter (λ e. run (without_ticks e)) o vs) (enter under o vs)
@@ -200,7 +200,7 @@ pub counts_rounds : CountProgramsCountRounds
 counts_rounds group P =
     let below : (n : ℕ) → calls_at (count_program group P) n ≡ rounds_at P group n = λ n i h ws. calls_are group P n h ws i in
     let run : (k : ℕ) (g : Function) (args : List Value) (n : ℕ) → walk (calls_at (count_program group P) n) (counting (is_in k group) g).body (bind_all [] (names_of g) args) ≡ round (is_in k group) (walk (rounds_at P group n) (without_ticks g.body) (bind_all [] (names_of g) args)) =
-        λ k g args n. ap (λ (call : Calls). walk call (counting (is_in k group) g).body (bind_all [] (names_of g) args)) (below n) ∙ counting_is (rounds_at P group n) (is_in k group) g (bind_all [] (names_of g) args) in
+    λ k g args n. ap (λ (call : Calls). walk call (counting (is_in k group) g).body (bind_all [] (names_of g) args)) (below n) ∙ counting_is (rounds_at P group n) (is_in k group) g (bind_all [] (names_of g) args) in
     record {
       values = λ k g args n at.
           subst (λ (r : Run Value). ComesToSame (node r) (node (walk (calls_at P n) g.body (bind_all [] (names_of g) args)))) (sym (run k g args n))

@@ -1,6 +1,7 @@
 pub mod Calls
 pub mod Classes
 pub mod Count
+pub mod Example
 pub mod Laws
 pub mod Read
 pub mod Rounds

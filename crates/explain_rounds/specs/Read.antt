@@ -1,11 +1,13 @@
 -- What the code's scopes, calls and copies are as plain data.
 use Rattle.std.specs.Prelude.{ℕ, List, [], ◌∷◌, map, Option}
 use Rattle.std.specs.Borrow.{Bor}
+use Rattle.std.specs.Option.{option_map}
 use Rattle.std.specs.Global.{Box}
 use Rattle.raml_syntax.specs.Tree as t
-use Rattle.raml_syntax.specs.Tree.{Type', Bound, Parameter, Prog}
-use Rattle.raml_syntax.specs.Read.{bound_of, parameter_of, program_of, term_of}
+use Rattle.raml_syntax.specs.Tree.{Type', Bound, Parameter, Function, Prog}
+use Rattle.raml_syntax.specs.Read.{bound_of, parameter_of, function_of, program_of, term_of}
 use Rattle.raml_syntax.specs.declared.program.Param.{Param}
+use Rattle.raml_syntax.specs.declared.program.Fun.{Fun}
 use Rattle.raml_syntax.specs.declared.tree.Binder.{Binder}
 use Rattle.raml_syntax.specs.declared.tree.Expr.{Expr}
 use Rattle.call_groups.specs.Read.{ids_of}
@@ -30,6 +32,9 @@ binders xs = map (λ (x : Bor Binder). bound_of x.now) xs
 
 abbrev pub types_in : List Param → List Type'
 types_in params = map (λ (p : Parameter). p.type) (map parameter_of params)
+
+abbrev pub function_in : Option (Bor Fun) → Option Function
+function_in = option_map (λ (g : Bor Fun). function_of g.now)
 
 abbrev pub plain_call : GroupCall → Call
 plain_call c = record { at = c.at.0; callee = c.callee.0; kind = c.kind }

@@ -13,9 +13,9 @@ abbrev pub is_counted : List ℕ → Option ℕ → Bool
 is_counted group None = false
 is_counted group (Some k) = is_in k group
 
--- one tick, and one unit of work for its node
+-- one tick
 abbrev pub round : Bool → Run Value → Run Value
-round true r = costs 1 0 1 r
+round true r = node (costs 1 0 0 r)
 round false r = r
 
 module _ (P : Prog) (group : List ℕ) where

@@ -1,18 +1,18 @@
 // The calls inside a group of functions.
-ghost use Rattle.std.specs.Prelude.{◌≡◌, ◌<◌, ◌^◌, ◌++◌, OnOk, IfOk, length, map};
+ghost use Rattle.std.specs.Prelude.{◌≡◌, ◌<◌, ◌^◌, ◌++◌, OnOk, IfOk, Some, length, map};
 ghost use Rattle.raml_syntax.specs.Tree as t;
 ghost use Rattle.raml_syntax.specs.Place.{place_of};
-ghost use Rattle.raml_syntax.specs.Read.{program_of, term_of, terms_of, parameter_of};
+ghost use Rattle.raml_syntax.specs.Read.{program_of, function_of, term_of, terms_of, parameter_of};
 ghost use Rattle.call_groups.specs.Read.{ids_of};
 ghost use Rattle.explain_rounds.specs.Classes as c;
-ghost use Rattle.explain_rounds.specs.Calls.{group_calls};
+ghost use Rattle.explain_rounds.specs.Calls.{calls_from, group_calls};
 ghost use Rattle.explain_rounds.specs.Read.{calls_of, program_in, variables_at, binders, call_by, calls_by};
 ghost use Rattle.explain_rounds.specs.Read.{calls_below, all_calls_by, body_calls_by};
 
 use crate::class::{Class, class_of, class_of_type};
-use crate::idle::{Kind, is_in, kind_of};
+use crate::idle::{Kind, function_at, is_in, kind_of};
 use crate::scope::Scope;
-use raml_syntax::{Binder, Expr, Form, FunId, FunctionNames, Name, Param, Pos, Program};
+use raml_syntax::{Binder, Expr, Form, Fun, FunId, FunctionNames, Name, Param, Pos, Program};
 use std::alloc::{AllocError, Global};
 
 /// A call of a function of the group, with its place.
@@ -64,9 +64,8 @@ fn find_calls<'s, 'a>(
     ensures { OnOk result (calls_of found.new.items ≡ calls_of found.old.items ++ calls_by env.entry (term_of e.now)) }
 {
     match &e.form {
-        Form::Number(_) | Form::Truth(_) | Form::Nil | Form::Leaf | Form::Nothing | Form::Var(_) => {
-            Ok(())
-        }
+        Form::Number(_) | Form::Truth(_) | Form::Nil | Form::Leaf | Form::Nothing | Form::Var(_) =>
+            { Ok(()) }
         Form::Not(a) | Form::Just(a) | Form::Tick(_, a) | Form::Typed(a, _) => {
             find_calls(found, env, a)
         }
@@ -235,7 +234,27 @@ fn find_body<'s, 'a>(
 }
 
 /// Adds those in a function.
-fn find_in_function<'a>(
+fn find_in<'a>(
+    found: &mut Vec<GroupCall>,
+    functions: &FunctionNames<'a>,
+    group: &[FunId],
+    fun: &'a Fun,
+) -> Result<(), AllocError>
+    ensures { OnOk result (calls_of found.new.items
+        ≡ calls_of found.old.items
+        ++ calls_from (program_of functions.now.program.now) (ids_of group.now) (Some (function_of fun.now))) }
+{
+    let scope = Scope::Empty;
+    let env = Env {
+        functions,
+        group,
+        scope: &scope,
+    };
+    find_body(found, env, &fun.params, &fun.body)
+}
+
+/// Adds those in the function at a place.
+fn find_at<'a>(
     found: &mut Vec<GroupCall>,
     functions: &FunctionNames<'a>,
     group: &[FunId],
@@ -244,14 +263,11 @@ fn find_in_function<'a>(
     ensures { OnOk result (calls_of found.new.items
         ≡ calls_of found.old.items ++ group_calls (program_of functions.now.program.now) (ids_of group.now) fun.0) }
 {
-    let scope = Scope::Empty;
-    let env = Env {
-        functions,
-        group,
-        scope: &scope,
-    };
-    match functions.program.funs.get(fun.0 as usize) {
-        Some(fun) => find_body(found, env, &fun.params, &fun.body),
+    match function_at(functions.program, fun) {
+        Some(fun) => {
+            find_in(found, functions, group, fun)?;
+            Ok(())
+        }
         None => Ok(()),
     }
 }
@@ -269,6 +285,6 @@ pub fn group_calls(
 {
     let functions = FunctionNames::new(alloc, program)?;
     let mut found = Vec::new(alloc);
-    find_in_function(&mut found, &functions, group, fun)?;
+    find_at(&mut found, &functions, group, fun)?;
     Ok(found)
 }

@@ -3,11 +3,11 @@ ghost use Rattle.std.specs.Prelude.{◌≡◌, slice_get};
 ghost use Rattle.raml_syntax.specs.Read.{program_of, terms_of};
 ghost use Rattle.call_groups.specs.Read.{ids_of};
 ghost use Rattle.explain_rounds.specs.Calls as c;
-ghost use Rattle.explain_rounds.specs.Read.{variables_in, types_in};
+ghost use Rattle.explain_rounds.specs.Read.{variables_in, types_in, function_in};
 
 use crate::class::{class_of, is_sized};
 use crate::scope::Scope;
-use raml_syntax::{Expr, FunId, Param, Program};
+use raml_syntax::{Expr, Fun, FunId, Param, Program};
 
 /// How a call of a function of the group goes down.
 #[derive(Clone, Copy, PartialEq, Eq, Debug)]
@@ -58,11 +58,18 @@ fn hands_made(scope: &Scope, params: &[Param], args: &[Expr]) -> bool
     }
 }
 
+/// The function at a place.
+pub fn function_at(program: &Program, fun: FunId) -> Option<&Fun>
+    ensures { function_in result ≡ slice_get (program_of program.now) fun.0 }
+{
+    program.funs.get(fun.0 as usize)
+}
+
 /// The parameters of a function.
-fn params_of(program: &Program, fun: FunId) -> &[Param]
+pub fn params_of(program: &Program, fun: FunId) -> &[Param]
     ensures { types_in result.now ≡ c.types_at (slice_get (program_of program.now) fun.0) }
 {
-    match program.funs.get(fun.0 as usize) {
+    match function_at(program, fun) {
         Some(fun) => &fun.params,
         None => &[],
     }

@@ -57,12 +57,7 @@ fn variable(alloc: Global, at: Pos, name: &Name) -> Result<Box<Expr>, AllocError
     node(alloc, at, Form::Var(name))
 }
 
-fn made_call(
-    alloc: Global,
-    at: Pos,
-    name: &Name,
-    args: Vec<Expr>,
-) -> Result<Box<Expr>, AllocError>
+fn made_call(alloc: Global, at: Pos, name: &Name, args: Vec<Expr>) -> Result<Box<Expr>, AllocError>
     ensures { IfOk result (λ made. term_in made ≡ t.Call at.0 name.now (terms_of args.items)) }
 {
     let name = copy_name(alloc, name)?;

@@ -57,7 +57,11 @@ fn made_match_tree(
     let element = copy_binder(alloc, element)?;
     let left = copy_binder(alloc, left)?;
     let right = copy_binder(alloc, right)?;
-    node(alloc, at, Form::MatchTree(subject, empty, element, left, right, rest))
+    node(
+        alloc,
+        at,
+        Form::MatchTree(subject, empty, element, left, right, rest),
+    )
 }
 
 fn made_match_option(

@@ -41,11 +41,7 @@ pub fn compare(
 }
 
 #[cycle(tickless)]
-pub fn not(
-    alloc: Global,
-    at: Pos,
-    operand: &Expr,
-) -> Result<Box<Expr>, AllocError>
+pub fn not(alloc: Global, at: Pos, operand: &Expr) -> Result<Box<Expr>, AllocError>
     ensures { IfOk result (λ made. term_in made ≡ without_ticks (t.Not at.0 (term_of operand.now))) }
 {
     let operand = without_ticks(alloc, operand)?;

@@ -11,12 +11,7 @@ use raml_syntax::{Expr, Form, Pos};
 use std::alloc::{AllocError, Global};
 
 #[cycle(tickless)]
-pub fn pair(
-    alloc: Global,
-    at: Pos,
-    first: &Expr,
-    second: &Expr,
-) -> Result<Box<Expr>, AllocError>
+pub fn pair(alloc: Global, at: Pos, first: &Expr, second: &Expr) -> Result<Box<Expr>, AllocError>
     ensures { IfOk result (λ made. term_in made ≡ without_ticks (t.Pair at.0 (term_of first.now) (term_of second.now))) }
 {
     let first = without_ticks(alloc, first)?;
@@ -25,12 +20,7 @@ pub fn pair(
 }
 
 #[cycle(tickless)]
-pub fn cons(
-    alloc: Global,
-    at: Pos,
-    head: &Expr,
-    tail: &Expr,
-) -> Result<Box<Expr>, AllocError>
+pub fn cons(alloc: Global, at: Pos, head: &Expr, tail: &Expr) -> Result<Box<Expr>, AllocError>
     ensures { IfOk result (λ made. term_in made ≡ without_ticks (t.Cons at.0 (term_of head.now) (term_of tail.now))) }
 {
     let head = without_ticks(alloc, head)?;
@@ -55,11 +45,7 @@ pub fn tree_node(
 }
 
 #[cycle(tickless)]
-pub fn just(
-    alloc: Global,
-    at: Pos,
-    content: &Expr,
-) -> Result<Box<Expr>, AllocError>
+pub fn just(alloc: Global, at: Pos, content: &Expr) -> Result<Box<Expr>, AllocError>
     ensures { IfOk result (λ made. term_in made ≡ without_ticks (t.Just at.0 (term_of content.now))) }
 {
     let content = without_ticks(alloc, content)?;
