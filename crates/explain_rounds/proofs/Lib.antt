@@ -2,3 +2,4 @@ mod Computed
 mod Copies
 pub mod CountsRounds
 pub mod Kept
+pub mod Pairs

@@ -5,12 +5,16 @@ mod calls;
 mod class;
 mod copied;
 mod count;
+mod handed;
 mod holds;
 mod idle;
 pub mod laws;
 mod scope;
 mod tickless;
+mod twice;
 
 pub use calls::{GroupCall, group_calls};
 pub use count::count_program;
+pub use handed::SamePart;
 pub use idle::Kind;
+pub use twice::calls_with_same_part;

@@ -1,7 +1,9 @@
 // The variables at hand.
 ghost use Rattle.std.specs.Prelude.{◌≡◌};
 ghost use Rattle.explain_rounds.specs.Classes as c;
+ghost use Rattle.explain_rounds.specs.Twice as w;
 ghost use Rattle.explain_rounds.specs.Read.{variables_in};
+ghost use Rattle.explain_rounds.specs.Found.{place_in};
 
 use crate::class::Class;
 use raml_syntax::{Name, Pos};
@@ -35,6 +37,29 @@ impl<'s, 'a> Scope<'s, 'a> {
                     *class
                 } else {
                     outer.class_at(wanted)
+                }
+            }
+        }
+    }
+
+    /// Where the name of the newest variable of this name stands, if it is a part.
+    pub fn part_at(&self, wanted: &str) -> Option<Pos>
+        ensures { place_in result ≡ w.part_at wanted.now (variables_in self.now) }
+    {
+        match self {
+            Scope::Empty => None,
+            Scope::Bound {
+                at,
+                name,
+                class,
+                outer,
+            } => {
+                if wanted != name.text() {
+                    outer.part_at(wanted)
+                } else if class.is_part() {
+                    Some(*at)
+                } else {
+                    None
                 }
             }
         }
