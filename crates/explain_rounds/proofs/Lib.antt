@@ -2,4 +2,3 @@ mod Computed
 mod Copies
 pub mod CountsRounds
 pub mod Kept
-pub mod Pairs

@@ -1,5 +1,5 @@
 -- What the code finds of calls that get the same part, as plain data.
-use Rattle.std.specs.Prelude.{◌≡◌, ℕ, List, [], map, ◌++◌, Option}
+use Rattle.std.specs.Prelude.{ℕ, List, [], map, Option}
 use Rattle.std.specs.Option.{option_map}
 use Rattle.raml_syntax.specs.Tree as t
 use Rattle.raml_syntax.specs.Tree.{Bound, Parameter}
@@ -41,7 +41,5 @@ found_below env c xs = found_in (program_in env) (ids_of env.group.now) (bind c 
 abbrev pub body_found_by : Env → List Parameter → t.Term → w.Found
 body_found_by env params = found_in (program_in env) (ids_of env.group.now) (bind_parameters params (variables_at env))
 
--- these were added
-pub record Adds (r : w.Found) (old new : Found) : Type 0 where
-  pub handed : new.handed.items ≡ old.handed.items ++ r.handed
-  pub pairs : pairs_of new.pairs.items ≡ pairs_of old.pairs.items ++ r.pairs
+abbrev pub found_of : Found → w.Found
+found_of found = record { handed = found.handed.items; pairs = pairs_of found.pairs.items }

@@ -96,10 +96,10 @@ module _ (P : Prog) (group : List ℕ) where
     found_in_all vs t.None = nothing
     found_in_all vs (t.More a rest) = both (found_in vs a) (found_in_all vs rest)
 
-  abbrev pub pairs_from : Option Function → List TwoCalls
-  pairs_from None = []
-  pairs_from (Some g) = (found_in (bind_parameters g.params []) g.body).pairs
+  abbrev pub found_from : Option Function → Found
+  found_from None = nothing
+  found_from (Some g) = found_in (bind_parameters g.params []) g.body
 
   -- the pairs of calls in the function at a place
   abbrev pub calls_with_same_part : ℕ → List TwoCalls
-  calls_with_same_part f = pairs_from (slice_get P f)
+  calls_with_same_part f = (found_from (slice_get P f)).pairs

@@ -1,12 +1,12 @@
 // Calls of a group that get the same part.
-ghost use Rattle.std.specs.Prelude.{◌≡◌, ◌≤◌, ◌<◌, ◌^◌, ◌++◌, OnOk, IfOk, Some, length, map, take, drop};
+ghost use Rattle.std.specs.Prelude.{◌≡◌, ◌<◌, ◌^◌, IfOk, Some, length, map, slice_get};
 ghost use Rattle.raml_syntax.specs.Place.{place_of};
 ghost use Rattle.raml_syntax.specs.Read.{program_of, function_of, term_of, terms_of, parameter_of};
 ghost use Rattle.call_groups.specs.Read.{ids_of};
 ghost use Rattle.explain_rounds.specs.Classes as c;
-ghost use Rattle.explain_rounds.specs.Twice.{both, either, crossed, pairs_from, calls_with_same_part};
+ghost use Rattle.explain_rounds.specs.Twice.{nothing, both, either, found_from, calls_with_same_part};
 ghost use Rattle.explain_rounds.specs.Read.{program_in, variables_at, binders};
-ghost use Rattle.explain_rounds.specs.Found.{pairs_of, handed_at, found_by, all_found_by, found_below, body_found_by, call_found, Adds};
+ghost use Rattle.explain_rounds.specs.Found.{pairs_of, found_of, found_by, all_found_by, found_below, body_found_by, call_found};
 
 use crate::calls::Env;
 use crate::class::{Class, class_of, class_of_type};
@@ -23,176 +23,196 @@ struct Found {
     pairs: Vec<SamePart>,
 }
 
-/// Adds the pairs of calls of which the first stands from a place on and the second from a later one.
-fn cross(found: &mut Found, start: usize, middle: usize) -> Result<(), AllocError>
-    requires order { start ≤ middle }
-    requires within { middle ≤ length found.old.handed.items }
-    ensures handed { OnOk result (found.new.handed.items ≡ found.old.handed.items) }
-    ensures pairs { OnOk result (pairs_of found.new.pairs.items
-        ≡ pairs_of found.old.pairs.items ++ crossed (drop start (take middle found.old.handed.items)) (drop middle found.old.handed.items)) }
+fn nothing(alloc: Global) -> Found
+    ensures { found_of result ≡ nothing }
 {
-    let (earlier, later) = found.handed.split_at(middle);
-    add_crossed(&mut found.pairs, &earlier[start..], later)
+    let handed = Vec::new(alloc);
+    let pairs = Vec::new(alloc);
+    Found { handed, pairs }
 }
 
-/// Adds what the call of a function hands on, where that is of the group.
+/// Of branches, of which one is evaluated.
+fn either(first: Found, second: Found) -> Result<Found, AllocError>
+    ensures { IfOk result (λ found. found_of found ≡ either (found_of first) (found_of second)) }
+{
+    let mut handed = first.handed;
+    let mut pairs = first.pairs;
+    handed.extend_from_slice(&second.handed)?;
+    pairs.extend_from_slice(&second.pairs)?;
+    Ok(Found { handed, pairs })
+}
+
+/// Of parts that both are evaluated.
+fn both(first: Found, second: Found) -> Result<Found, AllocError>
+    ensures { IfOk result (λ found. found_of found ≡ both (found_of first) (found_of second)) }
+{
+    let mut handed = first.handed;
+    let mut pairs = first.pairs;
+    pairs.extend_from_slice(&second.pairs)?;
+    add_crossed(&mut pairs, &handed, &second.handed)?;
+    handed.extend_from_slice(&second.handed)?;
+    Ok(Found { handed, pairs })
+}
+
+/// What the call of a function hands on, where that is of the group.
 fn find_call<'s, 'a>(
-    found: &mut Found,
+    alloc: Global,
     env: Env<'s, 'a>,
     at: Pos,
     name: &Name,
     args: &[Expr],
-) -> Result<(), AllocError>
-    ensures { OnOk result (Adds (call_found env.entry at.0 (terms_of args.now) (place_of name.now (program_in env.entry))) found.old found.new) }
+) -> Result<Found, AllocError>
+    ensures { IfOk result (λ found. found_of found
+        ≡ call_found env.entry at.0 (terms_of args.now) (place_of name.now (program_in env.entry))) }
 {
-    match env.functions.find(name.text()) {
-        Some(callee) => {
-            if is_in(callee, env.group) {
-                let params = params_of(env.functions.program, callee);
-                hand_all(&mut found.handed, env.scope, at, params, args)?;
-            }
-            Ok(())
+    let mut handed = Vec::new(alloc);
+    if let Some(callee) = env.functions.find(name.text()) {
+        if is_in(callee, env.group) {
+            let params = params_of(env.functions.program, callee);
+            hand_all(&mut handed, env.scope, at, params, args)?;
         }
-        None => Ok(()),
     }
+    let pairs = Vec::new(alloc);
+    Ok(Found { handed, pairs })
 }
 
-/// Adds those in an expression.
+/// What is found in an expression.
 #[cycle(twice)]
-fn find<'s, 'a>(found: &mut Found, env: Env<'s, 'a>, e: &'a Expr) -> Result<(), AllocError>
-    ensures { OnOk result (Adds (found_by env.entry (term_of e.now)) found.old found.new) }
+fn find<'s, 'a>(alloc: Global, env: Env<'s, 'a>, e: &'a Expr) -> Result<Found, AllocError>
+    ensures { IfOk result (λ found. found_of found ≡ found_by env.entry (term_of e.now)) }
 {
     match &e.form {
         Form::Number(_) | Form::Truth(_) | Form::Nil | Form::Leaf | Form::Nothing | Form::Var(_) => {
-            Ok(())
+            Ok(nothing(alloc))
         }
-        Form::Not(a) | Form::Just(a) | Form::Tick(_, a) | Form::Typed(a, _) => find(found, env, a),
+        Form::Not(a) | Form::Just(a) | Form::Tick(_, a) | Form::Typed(a, _) => find(alloc, env, a),
         Form::Arith(_, a, b) | Form::Compare(_, a, b) | Form::Pair(a, b) | Form::Cons(a, b) => {
-            find_both(found, env, a, b)
+            find_both(alloc, env, a, b)
         }
-        Form::Node(a, b, c) => find_three(found, env, a, b, c),
-        Form::If(c, a, b) => find_branches(found, env, c, a, b),
-        Form::Call(name, args) => find_arguments(found, env, e.at, name, args),
-        Form::Let(x, a, b) => find_let(found, env, a, &[x], b),
-        Form::LetPair(x, y, a, b) => find_let(found, env, a, &[x, y], b),
-        Form::MatchList(c, a, x, y, b) => find_match(found, env, c, a, &[x, y], b),
-        Form::MatchTree(c, a, x, y, z, b) => find_match(found, env, c, a, &[x, y, z], b),
-        Form::MatchOption(c, a, x, b) => find_match(found, env, c, a, &[x], b),
+        Form::Node(a, b, c) => find_three(alloc, env, a, b, c),
+        Form::If(c, a, b) => find_branches(alloc, env, c, a, b),
+        Form::Call(name, args) => find_arguments(alloc, env, e.at, name, args),
+        Form::Let(x, a, b) => find_let(alloc, env, a, &[x], b),
+        Form::LetPair(x, y, a, b) => find_let(alloc, env, a, &[x, y], b),
+        Form::MatchList(c, a, x, y, b) => find_match(alloc, env, c, a, &[x, y], b),
+        Form::MatchTree(c, a, x, y, z, b) => find_match(alloc, env, c, a, &[x, y, z], b),
+        Form::MatchOption(c, a, x, b) => find_match(alloc, env, c, a, &[x], b),
     }
 }
 
 #[cycle(twice)]
-#[tactic(auto, using(crate::proofs::Pairs::both_added, crate::proofs::Pairs::grown))]
 fn find_both<'s, 'a>(
-    found: &mut Found,
+    alloc: Global,
     env: Env<'s, 'a>,
     first: &'a Expr,
     second: &'a Expr,
-) -> Result<(), AllocError>
-    ensures { OnOk result (Adds (both (found_by env.entry (term_of first.now)) (found_by env.entry (term_of second.now)))
-        found.old found.new) }
+) -> Result<Found, AllocError>
+    ensures { IfOk result (λ found. found_of found
+        ≡ both (found_by env.entry (term_of first.now)) (found_by env.entry (term_of second.now))) }
 {
-    let start = found.handed.len();
-    find(found, env, first)?;
-    let middle = found.handed.len();
-    find(found, env, second)?;
-    cross(found, start, middle)
+    let first = find(alloc, env, first)?;
+    let second = find(alloc, env, second)?;
+    both(first, second)
 }
 
 #[cycle(twice)]
-#[tactic(auto, using(crate::proofs::Pairs::both_added, crate::proofs::Pairs::grown))]
 fn find_three<'s, 'a>(
-    found: &mut Found,
+    alloc: Global,
     env: Env<'s, 'a>,
     first: &'a Expr,
     second: &'a Expr,
     third: &'a Expr,
-) -> Result<(), AllocError>
-    ensures { OnOk result (Adds (both (found_by env.entry (term_of first.now))
-        (both (found_by env.entry (term_of second.now)) (found_by env.entry (term_of third.now)))) found.old found.new) }
+) -> Result<Found, AllocError>
+    ensures { IfOk result (λ found. found_of found
+        ≡ both (found_by env.entry (term_of first.now)) (both (found_by env.entry (term_of second.now)) (found_by env.entry (term_of third.now)))) }
 {
-    let start = found.handed.len();
-    find(found, env, first)?;
-    let middle = found.handed.len();
-    find_both(found, env, second, third)?;
-    cross(found, start, middle)
+    let first = find(alloc, env, first)?;
+    let others = find_both(alloc, env, second, third)?;
+    both(first, others)
 }
 
-/// Of two branches only one is evaluated.
 #[cycle(twice)]
-#[tactic(auto, using(crate::proofs::Pairs::both_added, crate::proofs::Pairs::either_added, crate::proofs::Pairs::grown))]
+fn find_either<'s, 'a>(
+    alloc: Global,
+    env: Env<'s, 'a>,
+    first: &'a Expr,
+    second: &'a Expr,
+) -> Result<Found, AllocError>
+    ensures { IfOk result (λ found. found_of found
+        ≡ either (found_by env.entry (term_of first.now)) (found_by env.entry (term_of second.now))) }
+{
+    let first = find(alloc, env, first)?;
+    let second = find(alloc, env, second)?;
+    either(first, second)
+}
+
+#[cycle(twice)]
 fn find_branches<'s, 'a>(
-    found: &mut Found,
+    alloc: Global,
     env: Env<'s, 'a>,
     condition: &'a Expr,
     first: &'a Expr,
     second: &'a Expr,
-) -> Result<(), AllocError>
-    ensures { OnOk result (Adds (both (found_by env.entry (term_of condition.now))
-        (either (found_by env.entry (term_of first.now)) (found_by env.entry (term_of second.now)))) found.old found.new) }
+) -> Result<Found, AllocError>
+    ensures { IfOk result (λ found. found_of found
+        ≡ both (found_by env.entry (term_of condition.now)) (either (found_by env.entry (term_of first.now)) (found_by env.entry (term_of second.now)))) }
 {
-    let start = found.handed.len();
-    find(found, env, condition)?;
-    let middle = found.handed.len();
-    find(found, env, first)?;
-    find(found, env, second)?;
-    cross(found, start, middle)
+    let condition = find(alloc, env, condition)?;
+    let branches = find_either(alloc, env, first, second)?;
+    both(condition, branches)
 }
 
 #[cycle(twice)]
-#[tactic(auto, using(crate::proofs::Pairs::both_added, crate::proofs::Pairs::grown))]
 fn find_all<'s, 'a>(
-    found: &mut Found,
+    alloc: Global,
     env: Env<'s, 'a>,
     args: &'a [Expr],
-) -> Result<(), AllocError>
-    ensures { OnOk result (Adds (all_found_by env.entry (terms_of args.now)) found.old found.new) }
+) -> Result<Found, AllocError>
+    ensures { IfOk result (λ found. found_of found
+        ≡ all_found_by env.entry (terms_of args.now)) }
 {
     match args {
-        [] => Ok(()),
+        [] => Ok(nothing(alloc)),
         [arg, rest @ ..] => {
-            let start = found.handed.len();
-            find(found, env, arg)?;
-            let middle = found.handed.len();
-            find_all(found, env, rest)?;
-            cross(found, start, middle)
+            let first = find(alloc, env, arg)?;
+            let others = find_all(alloc, env, rest)?;
+            both(first, others)
         }
     }
 }
 
-/// Adds what a call hands on, and those in its arguments.
+/// What a call hands on, and what is found in its arguments.
 #[cycle(twice)]
-#[tactic(auto, using(crate::proofs::Pairs::both_added, crate::proofs::Pairs::grown))]
 fn find_arguments<'s, 'a>(
-    found: &mut Found,
+    alloc: Global,
     env: Env<'s, 'a>,
     at: Pos,
     name: &Name,
     args: &'a [Expr],
-) -> Result<(), AllocError>
-    ensures { OnOk result (Adds (both (call_found env.entry at.0 (terms_of args.now) (place_of name.now (program_in env.entry)))
-        (all_found_by env.entry (terms_of args.now))) found.old found.new) }
+) -> Result<Found, AllocError>
+    ensures { IfOk result (λ found. found_of found
+        ≡ both (call_found env.entry at.0 (terms_of args.now) (place_of name.now (program_in env.entry)))
+        (all_found_by env.entry (terms_of args.now))) }
 {
-    let start = found.handed.len();
-    find_call(found, env, at, name, args)?;
-    let middle = found.handed.len();
-    find_all(found, env, args)?;
-    cross(found, start, middle)
+    let call = find_call(alloc, env, at, name, args)?;
+    let others = find_all(alloc, env, args)?;
+    both(call, others)
 }
 
-/// Adds those in an expression below more names of one class.
+/// What is found in an expression below more names of one class.
 #[cycle(twice)]
 fn find_below<'s, 'a>(
-    found: &mut Found,
+    alloc: Global,
     env: Env<'s, 'a>,
     class: Class,
     names: &[&'a Binder],
     e: &'a Expr,
-) -> Result<(), AllocError>
-    ensures { OnOk result (Adds (found_below env.entry class (binders names.now) (term_of e.now)) found.old found.new) }
+) -> Result<Found, AllocError>
+    ensures { IfOk result (λ found. found_of found
+        ≡ found_below env.entry class (binders names.now) (term_of e.now)) }
 {
     match names {
-        [] => find(found, env, e),
+        [] => find(alloc, env, e),
         [first, rest @ ..] => {
             let scope = Scope::Bound {
                 at: first.at,
@@ -207,68 +227,81 @@ fn find_below<'s, 'a>(
                 group,
                 scope: &scope,
             };
-            find_below(found, inner, class, rest, e)
+            find_below(alloc, inner, class, rest, e)
         }
     }
 }
 
-/// Adds those in what is bound, and below its names, which are what it is.
+/// What is found in what is bound, and below its names, which are what it is.
 #[cycle(twice)]
-#[tactic(auto, using(crate::proofs::Pairs::both_added, crate::proofs::Pairs::grown))]
 fn find_let<'s, 'a>(
-    found: &mut Found,
+    alloc: Global,
     env: Env<'s, 'a>,
     bound: &'a Expr,
     names: &[&'a Binder],
     rest: &'a Expr,
-) -> Result<(), AllocError>
-    ensures { OnOk result (Adds (both (found_by env.entry (term_of bound.now))
-        (found_below env.entry (c.class_of (variables_at env.entry) (term_of bound.now)) (binders names.now) (term_of rest.now)))
-        found.old found.new) }
+) -> Result<Found, AllocError>
+    ensures { IfOk result (λ found. found_of found
+        ≡ both (found_by env.entry (term_of bound.now))
+        (found_below env.entry (c.class_of (variables_at env.entry) (term_of bound.now)) (binders names.now) (term_of rest.now))) }
 {
-    let start = found.handed.len();
-    find(found, env, bound)?;
-    let middle = found.handed.len();
-    find_below(found, env, class_of(env.scope, bound), names, rest)?;
-    cross(found, start, middle)
+    let class = class_of(env.scope, bound);
+    let bound = find(alloc, env, bound)?;
+    let rest = find_below(alloc, env, class, names, rest)?;
+    both(bound, rest)
 }
 
-/// Adds those in a subject, where it is empty, and below the names of its parts.
+/// What is found where a subject is empty, and below the names of its parts.
 #[cycle(twice)]
-#[tactic(auto, using(crate::proofs::Pairs::both_added, crate::proofs::Pairs::either_added, crate::proofs::Pairs::grown))]
+fn find_cases<'s, 'a>(
+    alloc: Global,
+    env: Env<'s, 'a>,
+    class: Class,
+    empty: &'a Expr,
+    names: &[&'a Binder],
+    rest: &'a Expr,
+) -> Result<Found, AllocError>
+    ensures { IfOk result (λ found. found_of found
+        ≡ either (found_by env.entry (term_of empty.now)) (found_below env.entry class (binders names.now) (term_of rest.now))) }
+{
+    let empty = find(alloc, env, empty)?;
+    let rest = find_below(alloc, env, class, names, rest)?;
+    either(empty, rest)
+}
+
+/// What is found in a match.
+#[cycle(twice)]
 fn find_match<'s, 'a>(
-    found: &mut Found,
+    alloc: Global,
     env: Env<'s, 'a>,
     subject: &'a Expr,
     empty: &'a Expr,
     names: &[&'a Binder],
     rest: &'a Expr,
-) -> Result<(), AllocError>
-    ensures { OnOk result (Adds (both (found_by env.entry (term_of subject.now))
+) -> Result<Found, AllocError>
+    ensures { IfOk result (λ found. found_of found
+        ≡ both (found_by env.entry (term_of subject.now))
         (either (found_by env.entry (term_of empty.now))
         (found_below env.entry (c.taken_out (c.class_of (variables_at env.entry) (term_of subject.now))) (binders names.now)
-        (term_of rest.now)))) found.old found.new) }
+        (term_of rest.now)))) }
 {
-    let start = found.handed.len();
-    find(found, env, subject)?;
-    let middle = found.handed.len();
-    find(found, env, empty)?;
     let class = class_of(env.scope, subject).taken_out();
-    find_below(found, env, class, names, rest)?;
-    cross(found, start, middle)
+    let subject = find(alloc, env, subject)?;
+    let cases = find_cases(alloc, env, class, empty, names, rest)?;
+    both(subject, cases)
 }
 
-/// Adds those in a body below parameters, of which some are bound already.
+/// What is found in a body below parameters, of which some are bound already.
 fn find_body<'s, 'a>(
-    found: &mut Found,
+    alloc: Global,
     env: Env<'s, 'a>,
     params: &'a [Param],
     body: &'a Expr,
-) -> Result<(), AllocError>
-    ensures { OnOk result (Adds (body_found_by env.entry (map parameter_of params.now) (term_of body.now)) found.old found.new) }
+) -> Result<Found, AllocError>
+    ensures { IfOk result (λ found. found_of found ≡ body_found_by env.entry (map parameter_of params.now) (term_of body.now)) }
 {
     match params {
-        [] => find(found, env, body),
+        [] => find(alloc, env, body),
         [param, rest @ ..] => {
             let scope = Scope::Bound {
                 at: param.at,
@@ -283,21 +316,20 @@ fn find_body<'s, 'a>(
                 group,
                 scope: &scope,
             };
-            find_body(found, inner, rest, body)
+            find_body(alloc, inner, rest, body)
         }
     }
 }
 
-/// Adds those in a function.
+/// What is found in a function.
 fn find_in<'a>(
-    found: &mut Found,
+    alloc: Global,
     functions: &FunctionNames<'a>,
     group: &[FunId],
     fun: &'a Fun,
-) -> Result<(), AllocError>
-    ensures { OnOk result (pairs_of found.new.pairs.items
-        ≡ pairs_of found.old.pairs.items
-        ++ pairs_from (program_of functions.now.program.now) (ids_of group.now) (Some (function_of fun.now))) }
+) -> Result<Found, AllocError>
+    ensures { IfOk result (λ found. found_of found
+        ≡ found_from (program_of functions.now.program.now) (ids_of group.now) (Some (function_of fun.now))) }
 {
     let scope = Scope::Empty;
     let env = Env {
@@ -305,25 +337,23 @@ fn find_in<'a>(
         group,
         scope: &scope,
     };
-    find_body(found, env, &fun.params, &fun.body)
+    find_body(alloc, env, &fun.params, &fun.body)
 }
 
-/// Adds those in the function at a place.
+/// What is found in the function at a place.
 fn find_at<'a>(
-    found: &mut Found,
+    alloc: Global,
     functions: &FunctionNames<'a>,
     group: &[FunId],
     fun: FunId,
-) -> Result<(), AllocError>
-    ensures { OnOk result (pairs_of found.new.pairs.items
-        ≡ pairs_of found.old.pairs.items ++ calls_with_same_part (program_of functions.now.program.now) (ids_of group.now) fun.0) }
+) -> Result<Found, AllocError>
+    ensures { IfOk result (λ found. found_of found
+        ≡ found_from (program_of functions.now.program.now) (ids_of group.now)
+        (slice_get (program_of functions.now.program.now) fun.0)) }
 {
     match function_at(functions.program, fun) {
-        Some(fun) => {
-            find_in(found, functions, group, fun)?;
-            Ok(())
-        }
-        None => Ok(()),
+        Some(fun) => Ok(find_in(alloc, functions, group, fun)?),
+        None => Ok(nothing(alloc)),
     }
 }
 
@@ -339,9 +369,6 @@ pub fn calls_with_same_part(
     ensures { IfOk result (λ pairs. pairs_of pairs.items ≡ calls_with_same_part (program_of program.now) (ids_of group.now) fun.0) }
 {
     let functions = FunctionNames::new(alloc, program)?;
-    let handed = Vec::new(alloc);
-    let pairs = Vec::new(alloc);
-    let mut found = Found { handed, pairs };
-    find_at(&mut found, &functions, group, fun)?;
+    let found = find_at(alloc, &functions, group, fun)?;
     Ok(found.pairs)
 }
