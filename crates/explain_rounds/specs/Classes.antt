@@ -56,7 +56,8 @@ abbrev pub bind_parameters : List Parameter → Variables → Variables
 bind_parameters [] vs = vs
 bind_parameters (p ∷ ps) vs = bind_parameters ps ((record { at = p.at; name = p.name }, class_of_type p.type) ∷ vs)
 
--- the expression holds a call, or a variable that comes from one
+-- The expression holds a call, or a variable that comes from one. What it binds itself hides other names; where a name is bound to
+-- what comes from a call, the expression holds a call already.
 abbrev pub holds_call : Variables → t.Term → Bool
 holds_call vs (t.Var p x) = is_made (class_at x vs)
 holds_call vs (t.Arith p op a b) = holds_call vs a || holds_call vs b

@@ -7,6 +7,7 @@ use Rattle.raml_syntax.specs.Tree.{Text, Type', Integer, PairOf, ListOf, Bound, 
 use Rattle.raml_syntax.specs.Value.{Empty, Cons}
 use Rattle.raml_syntax.specs.Eval.{run_of}
 use Rattle.explain_rounds.specs.Calls.{Smaller, Computed, Stuck, group_calls}
+use Rattle.explain_rounds.specs.Twice.{calls_with_same_part}
 use Rattle.explain_rounds.specs.Count.{counting, count_program}
 
 -- names
@@ -154,6 +155,16 @@ bound_again e = record {
   body = taken (var l) (t.Nil 0) (t.Let 0 (bound r) e (call 9 g (var r)));
 } ∷ []
 
+-- fun f (x : int list) : int = match x with nil -> 1 | h :: r -> f(r) + f(r)
+abbrev on_tail : (t.Term → t.Term → t.Term) → Prog
+on_tail both = record {
+  at = 0;
+  name = f;
+  params = param x integers ∷ [];
+  result = Integer;
+  body = t.MatchList 0 (var x) (num 1) (bound h) (record { at = 58; name = r }) (both (call 63 f (var r)) (call 70 f (var r)));
+} ∷ []
+
 -- fun l (x : int list) : int list = tick 5 in match x with nil -> nil | h :: r -> l(r)
 abbrev to_end : Function
 to_end = record {
@@ -181,6 +192,11 @@ pub record Examples : Type 0 where
   pub hidden : group_calls (bound_again (t.Nil 0)) (0 ∷ []) 0 ≡ record { at = 9; callee = 0; kind = Stuck } ∷ []
   pub made_within : group_calls (bound_again (t.Cons 0 (var h) (call 5 f (var r)))) (0 ∷ []) 0
       ≡ record { at = 9; callee = 0; kind = Computed } ∷ []
+  pub same_tail : calls_with_same_part (on_tail (t.Arith 0 Add)) (0 ∷ []) 0 ≡ record { first = 63; second = 70; part = 58 } ∷ []
+  -- only one of two branches is evaluated
+  pub in_branches : calls_with_same_part (on_tail (t.If 0 (t.Truth 0 true))) (0 ∷ []) 0 ≡ []
+  -- but a condition is evaluated before each of them
+  pub in_condition : calls_with_same_part (on_tail (λ d e. t.If 0 d e (num 0))) (0 ∷ []) 0 ≡ record { first = 63; second = 70; part = 58 } ∷ []
   pub one_tick_a_round : count_program (0 ∷ []) (repeat ∷ []) ≡ counted_repeat ∷ []
   pub none_where_not_counted : count_program [] (repeat ∷ []) ≡ repeat_with (tested repeated) ∷ []
   -- the end of a list of two elements is there in the third round

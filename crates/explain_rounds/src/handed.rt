@@ -107,11 +107,7 @@ pub fn hand_all(
 }
 
 /// Adds the later calls that get the same part as one.
-fn add_again(
-    pairs: &mut Vec<SamePart>,
-    one: Handed,
-    later: &[Handed],
-) -> Result<(), AllocError>
+fn add_again(pairs: &mut Vec<SamePart>, one: Handed, later: &[Handed]) -> Result<(), AllocError>
     ensures { OnOk result (pairs_of pairs.new.items ≡ pairs_of pairs.old.items ++ w.again one later.now) }
 {
     for other in later {

@@ -82,9 +82,8 @@ fn find<'s, 'a>(alloc: Global, env: Env<'s, 'a>, e: &'a Expr) -> Result<Found, A
     ensures { IfOk result (λ found. found_of found ≡ found_by env.entry (term_of e.now)) }
 {
     match &e.form {
-        Form::Number(_) | Form::Truth(_) | Form::Nil | Form::Leaf | Form::Nothing | Form::Var(_) => {
-            Ok(nothing(alloc))
-        }
+        Form::Number(_) | Form::Truth(_) | Form::Nil | Form::Leaf | Form::Nothing | Form::Var(_) =>
+            { Ok(nothing(alloc)) }
         Form::Not(a) | Form::Just(a) | Form::Tick(_, a) | Form::Typed(a, _) => find(alloc, env, a),
         Form::Arith(_, a, b) | Form::Compare(_, a, b) | Form::Pair(a, b) | Form::Cons(a, b) => {
             find_both(alloc, env, a, b)
@@ -163,11 +162,7 @@ fn find_branches<'s, 'a>(
 }
 
 #[cycle(twice)]
-fn find_all<'s, 'a>(
-    alloc: Global,
-    env: Env<'s, 'a>,
-    args: &'a [Expr],
-) -> Result<Found, AllocError>
+fn find_all<'s, 'a>(alloc: Global, env: Env<'s, 'a>, args: &'a [Expr]) -> Result<Found, AllocError>
     ensures { IfOk result (λ found. found_of found
         ≡ all_found_by env.entry (terms_of args.now)) }
 {
