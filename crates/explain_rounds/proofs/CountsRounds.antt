@@ -1,12 +1,11 @@
 -- The count program comes to what the program comes to, and its ticks are rounds.
 use Rattle.std.proofs.Common.{◌≡◌, ◌+◌, ℕ, zero, suc, List, [], ◌∷◌, Bool, true, false, cond, Option, Some, None, refl, sym, ap, subst, ◌∙◌, arith}
-use Rattle.std.specs.Prelude.{slice_get}
 use Rattle.std.specs.Option.{option_map}
 use Rattle.std.specs.Str.{bytes_eq}
 use Rattle.raml_syntax.specs.Tree as t
 use Rattle.raml_syntax.specs.Tree.{Text, Bound, Function, Prog}
 use Rattle.raml_syntax.specs.Value.{Value, Truth, Both, Cons, Node, Just}
-use Rattle.raml_syntax.specs.Eval.{Run, done, cut, costs, goes_on, and_then, node, Env, branch, pair_case, list_case, tree_case, option_case, Calls, walk, walk_all, find, names_of, bind_all, enter, calls_at}
+use Rattle.raml_syntax.specs.Eval.{Run, cut, costs, goes_on, and_then, node, Env, branch, pair_case, list_case, tree_case, option_case, Calls, walk, walk_all, find, names_of, bind_all, enter, calls_at}
 use Rattle.raml_syntax.specs.Node.{AllNodes, AllOf}
 use Rattle.raml_syntax.specs.Place.{place_of}
 use Rattle.explain_rounds.specs.Calls.{is_in}

@@ -1,7 +1,7 @@
 -- The calls inside a group of functions that call each other, and how each of them goes down.
 use Rattle.std.specs.Prelude.{ℕ, nat_eq, List, [], ◌∷◌, ◌++◌, Bool, false, cond, ◌||◌, ◌&&◌, Option, Some, None, slice_get}
 use Rattle.raml_syntax.specs.Tree as t
-use Rattle.raml_syntax.specs.Tree.{Text, Type', Bound, Function, Prog}
+use Rattle.raml_syntax.specs.Tree.{Type', Function, Prog}
 use Rattle.raml_syntax.specs.Types.{types_of}
 use Rattle.raml_syntax.specs.Place.{place_of}
 use Rattle.explain_rounds.specs.Classes.{Variables, is_sized, is_part, is_made, taken_out, class_of, bind, bind_parameters}

@@ -196,7 +196,8 @@ pub record Examples : Type 0 where
   -- only one of two branches is evaluated
   pub in_branches : calls_with_same_part (on_tail (t.If 0 (t.Truth 0 true))) (0 ∷ []) 0 ≡ []
   -- but a condition is evaluated before each of them
-  pub in_condition : calls_with_same_part (on_tail (λ d e. t.If 0 d e (num 0))) (0 ∷ []) 0 ≡ record { first = 63; second = 70; part = 58 } ∷ []
+  pub in_condition : calls_with_same_part (on_tail (λ d e. t.If 0 d e (num 0))) (0 ∷ []) 0
+      ≡ record { first = 63; second = 70; part = 58 } ∷ []
   pub one_tick_a_round : count_program (0 ∷ []) (repeat ∷ []) ≡ counted_repeat ∷ []
   pub none_where_not_counted : count_program [] (repeat ∷ []) ≡ repeat_with (tested repeated) ∷ []
   -- the end of a list of two elements is there in the third round

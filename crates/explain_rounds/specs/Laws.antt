@@ -3,7 +3,7 @@ use Rattle.std.specs.Prelude.{◌≡◌, ◌≤◌, ◌+◌, ℕ, List, length, 
 use Rattle.raml_syntax.specs.Tree as t
 use Rattle.raml_syntax.specs.Tree.{Text, Type', Function, Prog}
 use Rattle.raml_syntax.specs.Value.{Value}
-use Rattle.raml_syntax.specs.Eval.{Run, Env, calls_at, run_of}
+use Rattle.raml_syntax.specs.Eval.{Run, calls_at, run_of}
 use Rattle.raml_syntax.specs.Types.{Context, Way, HasType, Typed}
 use Rattle.raml_syntax.specs.Node.{AllNodes, WithinLimits, program_nodes}
 use Rattle.explain_rounds.specs.Calls.{is_in}

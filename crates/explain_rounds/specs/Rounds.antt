@@ -1,9 +1,8 @@
 -- Evaluation that counts rounds: each call of a function of the group costs one tick as it enters, and nothing else costs ticks.
-use Rattle.std.specs.Prelude.{ℕ, zero, suc, List, [], Bool, true, false, cond, Option, Some, None}
-use Rattle.raml_syntax.specs.Tree as t
-use Rattle.raml_syntax.specs.Tree.{Text, Function, Prog}
+use Rattle.std.specs.Prelude.{ℕ, zero, suc, List, [], Bool, true, false, Option, Some, None}
+use Rattle.raml_syntax.specs.Tree.{Function, Prog}
 use Rattle.raml_syntax.specs.Value.{Value}
-use Rattle.raml_syntax.specs.Eval.{Run, Env, Calls, cut, costs, node, walk, find, names_of, bind_all, enter}
+use Rattle.raml_syntax.specs.Eval.{Run, Calls, cut, costs, node, walk, find, names_of, bind_all, enter}
 use Rattle.raml_syntax.specs.Place.{place_of}
 use Rattle.explain_rounds.specs.Calls.{is_in}
 use Rattle.explain_rounds.specs.Count.{without_ticks}

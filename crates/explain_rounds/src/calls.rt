@@ -109,7 +109,8 @@ fn find_three<'s, 'a>(
 ) -> Result<(), AllocError>
     ensures { OnOk result (calls_of found.new.items
         ≡ calls_of found.old.items
-        ++ (calls_by env.entry (term_of first.now) ++ (calls_by env.entry (term_of second.now) ++ calls_by env.entry (term_of third.now)))) }
+        ++ (calls_by env.entry (term_of first.now)
+        ++ (calls_by env.entry (term_of second.now) ++ calls_by env.entry (term_of third.now)))) }
 {
     find_calls(found, env, first)?;
     find_two(found, env, second, third)

@@ -2,7 +2,7 @@
 ghost use Rattle.std.specs.Prelude.{◌≡◌, ◌<◌, ◌^◌, IfOk, length};
 ghost use Rattle.raml_syntax.specs.Read.{function_of, program_of};
 ghost use Rattle.call_groups.specs.Read.{ids_of};
-ghost use Rattle.explain_rounds.specs.Count.{with_body, counting, counting_body, counting_from, count_program};
+ghost use Rattle.explain_rounds.specs.Count.{with_body, counting, counting_body, count_program};
 ghost use Rattle.explain_rounds.specs.Read.{term_in};
 
 use crate::copied::{copy_name, copy_params, node};

@@ -123,7 +123,8 @@ fn find_three<'s, 'a>(
     third: &'a Expr,
 ) -> Result<Found, AllocError>
     ensures { IfOk result (λ found. found_of found
-        ≡ both (found_by env.entry (term_of first.now)) (both (found_by env.entry (term_of second.now)) (found_by env.entry (term_of third.now)))) }
+        ≡ both (found_by env.entry (term_of first.now))
+        (both (found_by env.entry (term_of second.now)) (found_by env.entry (term_of third.now)))) }
 {
     let first = find(alloc, env, first)?;
     let others = find_both(alloc, env, second, third)?;
@@ -154,7 +155,8 @@ fn find_branches<'s, 'a>(
     second: &'a Expr,
 ) -> Result<Found, AllocError>
     ensures { IfOk result (λ found. found_of found
-        ≡ both (found_by env.entry (term_of condition.now)) (either (found_by env.entry (term_of first.now)) (found_by env.entry (term_of second.now)))) }
+        ≡ both (found_by env.entry (term_of condition.now))
+        (either (found_by env.entry (term_of first.now)) (found_by env.entry (term_of second.now)))) }
 {
     let condition = find(alloc, env, condition)?;
     let branches = find_either(alloc, env, first, second)?;

@@ -31,7 +31,8 @@ fn made_let_pair(
     bound: Box<Expr>,
     rest: Box<Expr>,
 ) -> Result<Box<Expr>, AllocError>
-    ensures { IfOk result (λ made. term_in made ≡ t.LetPair at.0 (bound_of x.now) (bound_of y.now) (term_in bound) (term_in rest)) }
+    ensures { IfOk result (λ made. term_in made
+        ≡ t.LetPair at.0 (bound_of x.now) (bound_of y.now) (term_in bound) (term_in rest)) }
 {
     let x = copy_binder(alloc, x)?;
     let y = copy_binder(alloc, y)?;
@@ -46,7 +47,8 @@ pub fn let_one(
     bound: &Expr,
     rest: &Expr,
 ) -> Result<Box<Expr>, AllocError>
-    ensures { IfOk result (λ made. term_in made ≡ without_ticks (t.Let at.0 (bound_of x.now) (term_of bound.now) (term_of rest.now))) }
+    ensures { IfOk result (λ made. term_in made
+        ≡ without_ticks (t.Let at.0 (bound_of x.now) (term_of bound.now) (term_of rest.now))) }
 {
     let bound = without_ticks(alloc, bound)?;
     let rest = without_ticks(alloc, rest)?;
@@ -62,7 +64,8 @@ pub fn let_pair(
     bound: &Expr,
     rest: &Expr,
 ) -> Result<Box<Expr>, AllocError>
-    ensures { IfOk result (λ made. term_in made ≡ without_ticks (t.LetPair at.0 (bound_of x.now) (bound_of y.now) (term_of bound.now) (term_of rest.now))) }
+    ensures { IfOk result (λ made. term_in made
+        ≡ without_ticks (t.LetPair at.0 (bound_of x.now) (bound_of y.now) (term_of bound.now) (term_of rest.now))) }
 {
     let bound = without_ticks(alloc, bound)?;
     let rest = without_ticks(alloc, rest)?;

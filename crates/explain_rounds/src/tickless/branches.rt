@@ -18,7 +18,8 @@ pub fn branch(
     first: &Expr,
     second: &Expr,
 ) -> Result<Box<Expr>, AllocError>
-    ensures { IfOk result (λ made. term_in made ≡ without_ticks (t.If at.0 (term_of condition.now) (term_of first.now) (term_of second.now))) }
+    ensures { IfOk result (λ made. term_in made
+        ≡ without_ticks (t.If at.0 (term_of condition.now) (term_of first.now) (term_of second.now))) }
 {
     let condition = without_ticks(alloc, condition)?;
     let first = without_ticks(alloc, first)?;
@@ -35,7 +36,8 @@ fn made_match_list(
     tail: &Binder,
     rest: Box<Expr>,
 ) -> Result<Box<Expr>, AllocError>
-    ensures { IfOk result (λ made. term_in made ≡ t.MatchList at.0 (term_in subject) (term_in empty) (bound_of head.now) (bound_of tail.now) (term_in rest)) }
+    ensures { IfOk result (λ made. term_in made
+        ≡ t.MatchList at.0 (term_in subject) (term_in empty) (bound_of head.now) (bound_of tail.now) (term_in rest)) }
 {
     let head = copy_binder(alloc, head)?;
     let tail = copy_binder(alloc, tail)?;
@@ -52,7 +54,9 @@ fn made_match_tree(
     right: &Binder,
     rest: Box<Expr>,
 ) -> Result<Box<Expr>, AllocError>
-    ensures { IfOk result (λ made. term_in made ≡ t.MatchTree at.0 (term_in subject) (term_in empty) (bound_of element.now) (bound_of left.now) (bound_of right.now) (term_in rest)) }
+    ensures { IfOk result (λ made. term_in made
+        ≡ t.MatchTree at.0 (term_in subject) (term_in empty) (bound_of element.now) (bound_of left.now) (bound_of right.now)
+        (term_in rest)) }
 {
     let element = copy_binder(alloc, element)?;
     let left = copy_binder(alloc, left)?;
@@ -72,7 +76,8 @@ fn made_match_option(
     content: &Binder,
     rest: Box<Expr>,
 ) -> Result<Box<Expr>, AllocError>
-    ensures { IfOk result (λ made. term_in made ≡ t.MatchOption at.0 (term_in subject) (term_in empty) (bound_of content.now) (term_in rest)) }
+    ensures { IfOk result (λ made. term_in made
+        ≡ t.MatchOption at.0 (term_in subject) (term_in empty) (bound_of content.now) (term_in rest)) }
 {
     let content = copy_binder(alloc, content)?;
     node(alloc, at, Form::MatchOption(subject, empty, content, rest))
@@ -88,7 +93,9 @@ pub fn match_list(
     tail: &Binder,
     rest: &Expr,
 ) -> Result<Box<Expr>, AllocError>
-    ensures { IfOk result (λ made. term_in made ≡ without_ticks (t.MatchList at.0 (term_of subject.now) (term_of empty.now) (bound_of head.now) (bound_of tail.now) (term_of rest.now))) }
+    ensures { IfOk result (λ made. term_in made
+        ≡ without_ticks (t.MatchList at.0 (term_of subject.now) (term_of empty.now) (bound_of head.now) (bound_of tail.now)
+        (term_of rest.now))) }
 {
     let subject = without_ticks(alloc, subject)?;
     let empty = without_ticks(alloc, empty)?;
@@ -107,7 +114,9 @@ pub fn match_tree(
     right: &Binder,
     rest: &Expr,
 ) -> Result<Box<Expr>, AllocError>
-    ensures { IfOk result (λ made. term_in made ≡ without_ticks (t.MatchTree at.0 (term_of subject.now) (term_of empty.now) (bound_of element.now) (bound_of left.now) (bound_of right.now) (term_of rest.now))) }
+    ensures { IfOk result (λ made. term_in made
+        ≡ without_ticks (t.MatchTree at.0 (term_of subject.now) (term_of empty.now) (bound_of element.now) (bound_of left.now)
+        (bound_of right.now) (term_of rest.now))) }
 {
     let subject = without_ticks(alloc, subject)?;
     let empty = without_ticks(alloc, empty)?;
@@ -124,7 +133,8 @@ pub fn match_option(
     content: &Binder,
     rest: &Expr,
 ) -> Result<Box<Expr>, AllocError>
-    ensures { IfOk result (λ made. term_in made ≡ without_ticks (t.MatchOption at.0 (term_of subject.now) (term_of empty.now) (bound_of content.now) (term_of rest.now))) }
+    ensures { IfOk result (λ made. term_in made
+        ≡ without_ticks (t.MatchOption at.0 (term_of subject.now) (term_of empty.now) (bound_of content.now) (term_of rest.now))) }
 {
     let subject = without_ticks(alloc, subject)?;
     let empty = without_ticks(alloc, empty)?;

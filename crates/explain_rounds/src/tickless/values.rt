@@ -36,7 +36,8 @@ pub fn tree_node(
     left: &Expr,
     right: &Expr,
 ) -> Result<Box<Expr>, AllocError>
-    ensures { IfOk result (λ made. term_in made ≡ without_ticks (t.Node at.0 (term_of element.now) (term_of left.now) (term_of right.now))) }
+    ensures { IfOk result (λ made. term_in made
+        ≡ without_ticks (t.Node at.0 (term_of element.now) (term_of left.now) (term_of right.now))) }
 {
     let element = without_ticks(alloc, element)?;
     let left = without_ticks(alloc, left)?;
