@@ -4,12 +4,12 @@
 mod declared;
 mod exceeding;
 mod fraction;
-mod json;
 mod judged;
 pub mod laws;
 mod line;
+mod object;
 mod over;
 
-pub use json::write_verdict;
 pub use judged::{Judged, Verdict};
 pub use line::verdict_line;
+pub use object::write_verdict;

@@ -2,7 +2,7 @@ use Rattle.std.proofs.Common.{◌≡◌, ◌++◌, drop, map}
 use Rattle.json.specs.Tree.{json_tokens, items_tokens}
 use Rattle.json.specs.Value.{items_of}
 use Rattle.explain_verdicts.specs.Json.{fraction_json, fractions_json}
-use Rattle.explain_verdicts.proofs.json.write_fractions.Given as goal
+use Rattle.explain_verdicts.proofs.object.write_fractions.Given as goal
 
 abbrev pub invariant-loop-fraction : goal.invariant-loop-fraction
 invariant-loop-fraction l = record {

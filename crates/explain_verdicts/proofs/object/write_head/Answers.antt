@@ -1,7 +1,7 @@
 use Rattle.std.proofs.Common.{arith}
 use Rattle.std.proofs.lemmas.Grind.{common_steps}
 use Rattle.std.proofs.lemmas.Result.{on_ok_weaker}
-use Rattle.explain_verdicts.proofs.json.write_head.Goals as goal
+use Rattle.explain_verdicts.proofs.object.write_head.Goals as goal
 
 pub returns-clause-written : goal.returns-clause-written
 returns-clause-written c =

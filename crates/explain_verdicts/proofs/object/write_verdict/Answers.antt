@@ -11,7 +11,7 @@ use Rattle.explain_verdicts.specs.declared.fraction.Fraction.{Fraction}
 use Rattle.explain_verdicts.proofs.Appended.{five}
 use Rattle.explain_verdicts.proofs.Reading.{denominators}
 use Rattle.explain_verdicts.proofs.Tokens.{object_tokens}
-use Rattle.explain_verdicts.proofs.json.write_verdict.Goals as goal
+use Rattle.explain_verdicts.proofs.object.write_verdict.Goals as goal
 
 pub write_bounds-requires-clause-denominators : goal.write_bounds-requires-clause-denominators
 write_bounds-requires-clause-denominators c =
