@@ -1,6 +1,7 @@
 //! The program `explain`: what the words of the command line ask for, on the real files and streams.
 #![tactic(auto)]
 
+use explain_files::DirShelf;
 use explain_top::{Status, explain};
 use raml_io::{DirStore, StdSink};
 use std::io::IsTerminal;
@@ -32,10 +33,19 @@ fn run(rt: &HostRuntime) -> io::Result<Status> {
     let args: Vec<String> = env::args(rt)?.skip(1).collect(rt.alloc())?;
     let words: Vec<&str> = args.iter().map(|word| word.as_str()).collect(rt.alloc())?;
     let mut store = DirStore::new(rt);
+    let mut shelf = DirShelf::new(rt);
     let mut out = StdSink::new(rt.stdout());
     let mut err = StdSink::new(rt.stderr());
     let columns = columns_of(rt);
-    Ok(explain(rt.alloc(), &words, columns, &mut store, &mut out, &mut err))
+    Ok(explain(
+        rt.alloc(),
+        &words,
+        columns,
+        &mut store,
+        &mut shelf,
+        &mut out,
+        &mut err,
+    ))
 }
 
 // How many columns lines may have: what `COLUMNS` says where that is a number of a terminal's columns, and else 80. None

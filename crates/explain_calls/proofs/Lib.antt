@@ -3,3 +3,4 @@ mod Same
 mod Places
 mod Analysing
 mod Calling
+mod Drafting

@@ -1,4 +1,5 @@
 pub mod Sizes
 pub mod Told
 pub mod Calls
+pub mod Draft
 pub mod Read

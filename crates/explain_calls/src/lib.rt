@@ -3,11 +3,13 @@
 
 mod analysed;
 mod call;
+mod draft;
 mod end;
 mod fitting;
 mod parts;
 
 pub use analysed::{push_note, refusal_line};
 pub use call::tell_bounds;
+pub use draft::{Draft, draft_bounds};
 pub use end::End;
 pub use parts::push_shown;

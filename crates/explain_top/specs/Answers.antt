@@ -1,9 +1,9 @@
 -- How calls of `explain` end, and what they write.
-use Rattle.std.specs.Prelude.{◌≡◌, ◌⊎◌, ℕ, List, Option, Some, None, codes}
+use Rattle.std.specs.Prelude.{◌≡◌, ◌⊎◌, ◌++◌, ℕ, Bool, List, [], Option, Some, None, codes, string_bytes}
 use Rattle.std.specs.Borrow.{Bor}
 use Rattle.raml_syntax.specs.Tree.{Text}
 use Rattle.explain_check.specs.Checks.{FilesAre, texts}
-use Rattle.explain_check.specs.Stores.{Store}
+use Rattle.explain_check.specs.Stores.{Store, error_line}
 use Rattle.explain_check.specs.declared.verdict.Verdict.{Verdict}
 use Rattle.explain_check.specs.declared.verdict.Verdict.TheVariants as v
 use Rattle.explain_data.specs.Data.{CallIs}
@@ -12,10 +12,21 @@ use Rattle.explain_data.specs.declared.finding.Finding.TheVariants as f
 use Rattle.explain_calls.specs.Calls as calls
 use Rattle.explain_calls.specs.declared.end.End.{End}
 use Rattle.explain_calls.specs.declared.end.End.TheVariants as e
+use Rattle.explain_calls.specs.Draft.{DraftIs}
+use Rattle.explain_calls.specs.declared.draft.Draft.{Draft}
+use Rattle.explain_calls.specs.declared.draft.Draft.TheVariants as draft
+use Rattle.explain_budget.specs.Calls as budget
+use Rattle.explain_budget.specs.Calls.{words_of}
+use Rattle.explain_budget.specs.declared.end.BudgetEnd.{BudgetEnd}
+use Rattle.explain_budget.specs.declared.end.BudgetEnd.TheVariants as b
+use Rattle.explain_verify.specs.Verified as verify
+use Rattle.explain_verify.specs.declared.verification.Verification.{Verification}
+use Rattle.explain_verify.specs.declared.verification.Verification.TheVariants as o
 use Rattle.explain_words.specs.Asking.{Asks, AsksToShow, AsksNothing}
 use Rattle.explain_words.specs.declared.request.Request.{Request}
-use Rattle.explain_words.specs.declared.request.Request.TheVariants.{Check, CheckData, Bounds}
+use Rattle.explain_words.specs.declared.request.Request.TheVariants.{Check, CheckData, Bounds, Budget, WriteBudget, Verify}
 use Rattle.explain_words.specs.declared.request.bounds.BoundsWords.{BoundsWords}
+use Rattle.explain_top.specs.Shelves.{Shelf, KeepsFiles, LeavesFile, HasFile, FailsToLeave}
 use Rattle.explain_top.specs.Sinks.{Sink, GainsNothing, Gains, GainsFront, Writes}
 use Rattle.explain_top.specs.declared.status.Status.{Status}
 use Rattle.explain_top.specs.declared.status.Status.TheVariants as s
@@ -43,6 +54,18 @@ status_at e.Told = s.Done
 status_at e.Refused = s.Refused
 status_at e.NotAnalysed = s.NotAnalysed
 
+abbrev pub status_of_budget : BudgetEnd → Status
+status_of_budget b.AllKept = s.Done
+status_of_budget b.Broken = s.Faulty
+status_of_budget b.Refused = s.Refused
+status_of_budget b.NotAnalysed = s.NotAnalysed
+
+abbrev pub status_of_verification : Verification → Status
+status_of_verification o.Holds = s.Done
+status_of_verification o.Fails = s.Faulty
+status_of_verification o.Refused = s.Refused
+status_of_verification o.NotAnalysed = s.NotAnalysed
+
 -- a text is written to out, and the status is this one; or not as a whole, since out failed
 abbrev pub Puts : Text → Sink → Status → Status → Type 0
 Puts text out done status = ((status ≡ done) × Gains text out) ⊎ ((status ≡ s.WriteFault) × GainsFront text out)
@@ -68,26 +91,77 @@ abbrev pub width_or : Option ℕ → Option ℕ → Option ℕ
 width_or (Some width) columns = Some width
 width_or None columns = columns
 
--- what is told of the bounds of a program is written to out, and what is wrong to err; or memory ran out
+-- what is told is written: a text to out, and a report of what is wrong to err, with the status of how the call ends; or memory ran out
+abbrev pub Tells : {End : Type 0} → (End → Text → Text → Type 0) → (End → Status) → Sink → Sink → Status → Type 0
+Tells {End} Is status_by out err status =
+    (LacksMemory err status × GainsNothing out)
+    ⊎ ((end : End) × (text : Text) × (report : Text) × Is end text report × Puts text out (status_by end) status × Writes report err)
+
+-- the bounds of a program
 abbrev pub AreBoundsTold : Store → BoundsWords → Option ℕ → Sink → Sink → Status → Type 0
 AreBoundsTold store words columns out err status =
-    (LacksMemory err status × GainsNothing out)
-    ⊎ ((end : End) × (text : Text) × (report : Text) × calls.CallIs store words (width_or words.width columns) end text report
-    × Puts text out (status_at end) status × Writes report err)
+    Tells (calls.CallIs store words (width_or words.width columns)) status_at out err status
 
--- what a request asks for is done, where lines that go to out have at most so many columns
-abbrev pub IsAnswer : Store → Request → Option ℕ → Sink → Sink → Status → Type 0
-IsAnswer store (Check names) columns out err status = IsChecked store names.items err status × GainsNothing out
-IsAnswer store (CheckData file name input) columns out err status =
-    IsDataChecked store file.now name.now input.now err status × GainsNothing out
-IsAnswer store (Bounds words) columns out err status = AreBoundsTold store words columns out err status
+-- which of the bounds that a file declares a program keeps
+abbrev pub IsBudgetTold : Store → Text → Text → Option ℕ → Bool → Option ℕ → Sink → Sink → Status → Type 0
+IsBudgetTold store file bounds degree json columns out err status =
+    Tells (budget.CallIs store (words_of file bounds degree columns json)) status_of_budget out err status
+
+-- whether a certificate holds of a program
+abbrev pub IsVerified : Store → Text → Text → Sink → Sink → Status → Type 0
+IsVerified store file certificate out err status = Tells (verify.CallIs store file certificate) status_of_verification out err status
+
+-- ---- a file of bounds that is left
+
+-- the file of bounds would be the source
+abbrev pub IsSourceRefused : Text → Sink → Status → Type 0
+IsSourceRefused bounds err status =
+    LacksMemory err status ⊎ ((status ≡ s.Refused) × Writes (error_line bounds (codes "is the source itself")) err)
+
+-- a text is left as this file; or there is one, which may not be written over; or it could not be written
+abbrev pub IsTextLeft : Shelf → Text → Bool → Text → Status → Text → Type 0
+IsTextLeft shelf bounds force text status part =
+    (LeavesFile shelf bounds text force × (status ≡ s.Done) × (part ≡ []))
+    ⊎ ((KeepsFiles shelf × HasFile shelf bounds force × (status ≡ s.Refused)
+    × (part ≡ error_line bounds (codes "is there already; --force writes over it")))
+    ⊎ (KeepsFiles shelf × FailsToLeave shelf × (status ≡ s.WriteFault) × (part ≡ error_line bounds (codes "cannot be written"))))
+
+-- how the call ends by a draft
+abbrev pub EndsBy : Shelf → Text → Bool → Draft → Status → Text → Type 0
+EndsBy shelf bounds force (draft.Made degree text) status part = IsTextLeft shelf bounds force (string_bytes text) status part
+EndsBy shelf bounds force draft.Refused status part = KeepsFiles shelf × (status ≡ s.Refused) × (part ≡ [])
+EndsBy shelf bounds force draft.NotAnalysed status part = KeepsFiles shelf × (status ≡ s.NotAnalysed) × (part ≡ [])
+
+-- The bounds of the program in a file are left as another file, or that is not done, and why is written to err; or memory ran out.
+abbrev pub IsDraftLeft : Store → Shelf → Text → Text → Option ℕ → Bool → Sink → Status → Type 0
+IsDraftLeft store shelf file bounds degree force err status =
+    (LacksMemory err status × KeepsFiles shelf)
+    ⊎ (((file ≡ bounds) × KeepsFiles shelf × IsSourceRefused bounds err status)
+    ⊎ ((made : Draft) × (report : Text) × (part : Text) × DraftIs store file degree made report
+    × EndsBy shelf bounds force made status part × Writes (report ++ part) err))
+
+-- ---- requests
+
+-- what a request asks for is done, where lines that go to out have at most so many columns; no other than this leaves a file
+abbrev pub IsAnswer : Store → Shelf → Request → Option ℕ → Sink → Sink → Status → Type 0
+IsAnswer store shelf (Check names) columns out err status =
+    IsChecked store names.items err status × GainsNothing out × KeepsFiles shelf
+IsAnswer store shelf (CheckData file name input) columns out err status =
+    IsDataChecked store file.now name.now input.now err status × GainsNothing out × KeepsFiles shelf
+IsAnswer store shelf (Bounds words) columns out err status = AreBoundsTold store words columns out err status × KeepsFiles shelf
+IsAnswer store shelf (Budget file bounds degree json) columns out err status =
+    IsBudgetTold store file.now bounds.now degree json columns out err status × KeepsFiles shelf
+IsAnswer store shelf (WriteBudget file bounds degree force) columns out err status =
+    IsDraftLeft store shelf file.now bounds.now degree force err status × GainsNothing out
+IsAnswer store shelf (Verify file certificate) columns out err status =
+    IsVerified store file.now certificate.now out err status × KeepsFiles shelf
 
 -- ---- whole calls
 
 -- the words ask for something, and that is done
-abbrev pub Answered : List Text → Option ℕ → Store → Sink → Sink → Status → Type 0
-Answered words columns store out err status =
-    (request : Request) × Asks words request × IsAnswer store request columns out err status
+abbrev pub Answered : List Text → Option ℕ → Store → Shelf → Sink → Sink → Status → Type 0
+Answered words columns store shelf out err status =
+    (request : Request) × Asks words request × IsAnswer store shelf request columns out err status
 
 -- the words ask for help or for the version, which is written to out, or not as a whole
 abbrev pub Showed : List Text → Sink → Sink → Status → Type 0
@@ -100,7 +174,7 @@ RefusedWords words out err status =
     AsksNothing words × (status ≡ s.Refused) × GainsNothing out × ((text : Text) × Writes text err)
 
 -- why a call ends so, and what it writes
-abbrev pub Cause : List Text → Option ℕ → Store → Sink → Sink → Status → Type 0
-Cause words columns store out err status =
-    (LacksMemory err status × GainsNothing out) ⊎ (Answered words columns store out err status
-    ⊎ (Showed words out err status ⊎ RefusedWords words out err status))
+abbrev pub Cause : List Text → Option ℕ → Store → Shelf → Sink → Sink → Status → Type 0
+Cause words columns store shelf out err status =
+    Answered words columns store shelf out err status
+    ⊎ (KeepsFiles shelf × ((LacksMemory err status × GainsNothing out) ⊎ (Showed words out err status ⊎ RefusedWords words out err status)))

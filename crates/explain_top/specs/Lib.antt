@@ -1,2 +1,3 @@
-pub mod Answers
 pub mod Sinks
+pub mod Shelves
+pub mod Answers

@@ -1,7 +1,8 @@
-//! What the program `explain` does: what the words of a call ask for, on a store and two sinks.
+//! What the program `explain` does: what the words of a call ask for, on a store, a shelf and two sinks.
 #![tactic(auto)]
 
 mod asked;
+mod draft;
 mod status;
 #[cfg(test)]
 mod tests;

@@ -1,19 +1,21 @@
 // How a call ends.
 ghost use Rattle.std.specs.Prelude.{◌≡◌};
-ghost use Rattle.explain_top.specs.Answers.{code_of, status_of, status_for, status_at};
+ghost use Rattle.explain_top.specs.Answers.{code_of, status_of, status_for, status_at, status_of_budget, status_of_verification};
 
+use explain_budget::BudgetEnd;
 use explain_calls::End;
 use explain_check::Verdict;
 use explain_data::Finding;
+use explain_verify::Verification;
 
 /// How a call ends.
 #[derive(Clone, Copy, Debug, PartialEq, Eq)]
 pub enum Status {
     /// What was asked for is done, and nothing is wrong.
     Done,
-    /// A source spells no typed program.
+    /// What was checked has a fault: a source spells no typed program, a declared bound is not kept, or a certificate is refused.
     Faulty,
-    /// The words ask for nothing that there is, a file can't be read, or data is faulty.
+    /// The words ask for nothing that there is, a file can't be read, or one beside what is checked is faulty.
     Refused,
     /// The analysis could not be made.
     NotAnalysed,
@@ -71,6 +73,32 @@ impl From<End> for Status {
             End::Told => Status::Done,
             End::Refused => Status::Refused,
             End::NotAnalysed => Status::NotAnalysed,
+        }
+    }
+}
+
+impl From<BudgetEnd> for Status {
+    ghost from_gives = { λ end status. status ≡ status_of_budget end };
+
+    fn from(end: BudgetEnd) -> Status {
+        match end {
+            BudgetEnd::AllKept => Status::Done,
+            BudgetEnd::Broken => Status::Faulty,
+            BudgetEnd::Refused => Status::Refused,
+            BudgetEnd::NotAnalysed => Status::NotAnalysed,
+        }
+    }
+}
+
+impl From<Verification> for Status {
+    ghost from_gives = { λ end status. status ≡ status_of_verification end };
+
+    fn from(end: Verification) -> Status {
+        match end {
+            Verification::Holds => Status::Done,
+            Verification::Fails => Status::Faulty,
+            Verification::Refused => Status::Refused,
+            Verification::NotAnalysed => Status::NotAnalysed,
         }
     }
 }

@@ -6,12 +6,12 @@ use Rattle.std.specs.Str.Parse.{digits_value}
 use Rattle.clap.specs.Simple.{subcommand_of}
 use Rattle.explain_words.specs.Apps.{app}
 use Rattle.clap.specs.Walk.{Text, Row, first_of}
-use Rattle.explain_words.specs.Asking.{Command, OfCheck, OfBounds, command_named, MeansBy, Means}
-use Rattle.explain_words.specs.Commands.{AreBounds, degree_or_4, optional}
-use Rattle.explain_words.specs.Laws.{AreInRange, IsInRange, AskedIsInRange}
+use Rattle.explain_words.specs.Asking.{Command, OfCheck, OfBounds, OfBudget, OfVerify, command_named, MeansBy, Means}
+use Rattle.explain_words.specs.Commands.{AreBounds, AreBudget, Keep, Write, degree_or_4, optional}
+use Rattle.explain_words.specs.Laws.{IsDegree, AreInRange, IsInRange, AskedIsInRange}
 use Rattle.explain_words.specs.Spelled.{degree_in, is_numeral, meter_named, number_in, ranged, within_in, within_of, cut_at}
 use Rattle.explain_words.specs.declared.request.Request.{Request}
-use Rattle.explain_words.specs.declared.request.Request.TheVariants.{Check, CheckData, Bounds}
+use Rattle.explain_words.specs.declared.request.Request.TheVariants.{Check, CheckData, Bounds, Budget, WriteBudget, Verify}
 use Rattle.explain_words.specs.declared.request.bounds.BoundsWords.{BoundsWords}
 use Rattle.explain_words.specs.declared.within.Meter.{Meter}
 use Rattle.explain_words.specs.declared.within.Within.{Within}
@@ -37,6 +37,15 @@ in_range digits least most word n is = by (is_numeral digits word) is
 degree_in_range : (word : Option Text) (degree : ℕ) → degree_or_4 word ≡ Some degree → (1 ≤ degree) × (degree ≤ 4)
 degree_in_range None degree is = let e : 4 ≡ degree = cc is in subst (λ n. (1 ≤ n) × (n ≤ 4)) e (omega arith, omega arith)
 degree_in_range (Some word) degree is = in_range 1 1 4 word degree is
+
+optional_in_range : (word : Option Text) (degree : Option ℕ) → optional degree_in word ≡ Some degree → IfSome degree IsDegree
+optional_in_range word None is = tt
+optional_in_range None (Some degree) is = absurd (cc is)
+optional_in_range (Some word) (Some degree) is = in_range 1 1 4 word degree (unmapped (degree_in word) is)
+  where
+    unmapped : (read : Option ℕ) → option_map Some read ≡ Some (Some degree) → read ≡ Some degree
+    unmapped None is = absurd (cc is)
+    unmapped (Some other) is = cc is
 
 most_of : (meter : Option Meter) (most : Option ℕ) (within : Within) → within_of meter most ≡ Some within → most ≡ Some within.most
 most_of (Some meter) (Some most) within is =
@@ -67,16 +76,33 @@ bounds_are_in_range rows words are = let degree = degree_in_range (first_of (cod
   within = within_in_range (first_of (codes "within") rows) words.within are.within;
 }
 
-pub asked_is_in_range : AskedIsInRange
-asked_is_in_range words (Check names) asks = tt
-asked_is_in_range words (CheckData file name input) asks = tt
-asked_is_in_range words (Bounds asked) asks = by (subcommand_of app words) asks.1
-  where
-    of_command : (command : Option Command) (rows : List Row) → MeansBy command rows (Bounds asked) → AreInRange asked
-    of_command (Some OfCheck) rows means = absurd means
-    of_command (Some OfBounds) rows means = bounds_are_in_range rows asked means
-    of_command None rows means = absurd means
+meant_is_in_range : (command : Option Command) (rows : List Row) (request : Request) → MeansBy command rows request → IsInRange request
+meant_is_in_range command rows (Check names) means = tt
+meant_is_in_range command rows (CheckData file name input) means = tt
+meant_is_in_range command rows (Verify file certificate) means = tt
+meant_is_in_range (Some OfBounds) rows (Bounds asked) means = bounds_are_in_range rows asked means
+meant_is_in_range (Some OfCheck) rows (Bounds asked) means = absurd means
+meant_is_in_range (Some OfBudget) rows (Bounds asked) means = absurd means
+meant_is_in_range (Some OfVerify) rows (Bounds asked) means = absurd means
+meant_is_in_range None rows (Bounds asked) means = absurd means
+meant_is_in_range (Some OfBudget) rows (Budget file bounds degree json) means =
+    let are : AreBudget rows file.now degree (Keep bounds.now json) = means in
+    optional_in_range (first_of (codes "degree") rows) degree are.degree
+meant_is_in_range (Some OfCheck) rows (Budget file bounds degree json) means = absurd means
+meant_is_in_range (Some OfBounds) rows (Budget file bounds degree json) means = absurd means
+meant_is_in_range (Some OfVerify) rows (Budget file bounds degree json) means = absurd means
+meant_is_in_range None rows (Budget file bounds degree json) means = absurd means
+meant_is_in_range (Some OfBudget) rows (WriteBudget file bounds degree force) means =
+    let are : AreBudget rows file.now degree (Write bounds.now force) = means in
+    optional_in_range (first_of (codes "degree") rows) degree are.degree
+meant_is_in_range (Some OfCheck) rows (WriteBudget file bounds degree force) means = absurd means
+meant_is_in_range (Some OfBounds) rows (WriteBudget file bounds degree force) means = absurd means
+meant_is_in_range (Some OfVerify) rows (WriteBudget file bounds degree force) means = absurd means
+meant_is_in_range None rows (WriteBudget file bounds degree force) means = absurd means
 
-    by : (found : Option (Text × List Row)) → Means found (Bounds asked) → AreInRange asked
-    by (Some command) means = of_command (command_named command.0) command.1 means
+pub asked_is_in_range : AskedIsInRange
+asked_is_in_range words request asks = by (subcommand_of app words) asks.1
+  where
+    by : (found : Option (Text × List Row)) → Means found request → IsInRange request
+    by (Some command) means = meant_is_in_range (command_named command.0) command.1 request means
     by None means = absurd means

@@ -17,6 +17,10 @@ operand_rule id = record (new_rule id) {
   required = true;
 }
 
+-- an operand that may be left out
+abbrev pub perhaps_rule : Text → Rule
+perhaps_rule id = record (new_rule id) { value_names = 1 }
+
 -- an option with one value, by its long name
 abbrev pub option_rule : Text → Rule
 option_rule id = record (new_rule id) {
@@ -63,6 +67,20 @@ bounds_sized = with_rule (with_rule bounds_chosen (option_rule (codes "at"))) (o
 abbrev pub bounds_app : App
 bounds_app = with_rule (with_rule bounds_sized (option_rule (codes "width"))) (flag_rule (codes "json"))
 
+-- the file of bounds is an operand, or it is to be written
+abbrev pub budget_files : App
+budget_files =
+    with_rule (with_rule (with_rule (new_app (codes "budget")) (operand_rule (codes "file")))
+    (perhaps_rule (codes "bounds"))) (option_rule (codes "write"))
+
+abbrev pub budget_app : App
+budget_app =
+    with_rule (with_rule (with_rule budget_files (option_rule (codes "degree")))
+    (flag_rule (codes "json"))) (flag_rule (codes "force"))
+
+abbrev pub verify_app : App
+verify_app = with_rule (with_rule (new_app (codes "verify")) (operand_rule (codes "file"))) (operand_rule (codes "certificate"))
+
 -- the program before it has commands
 abbrev pub bare : App
 bare = on_top (λ s. record s {
@@ -72,5 +90,9 @@ bare = on_top (λ s. record s {
   subcommand_required = true;
 }) (new_app (codes "explain"))
 
+-- with its first commands
+abbrev pub begun : App
+begun = with_subcommand (with_subcommand bare check_app.top) bounds_app.top
+
 abbrev pub app : App
-app = with_subcommand (with_subcommand bare check_app.top) bounds_app.top
+app = with_subcommand (with_subcommand begun budget_app.top) verify_app.top

@@ -6,8 +6,10 @@ use Rattle.std.specs.Borrow.{Bor}
 use Rattle.clap.specs.Walk.{Row, Text, all_of, first_of}
 use Rattle.explain_words.specs.Spelled.{lent, degree_in, width_in, within_in}
 use Rattle.explain_words.specs.declared.request.Request.{Request}
-use Rattle.explain_words.specs.declared.request.Request.TheVariants.{Check, CheckData, Bounds}
+use Rattle.explain_words.specs.declared.request.Request.TheVariants.{Check, CheckData, Bounds, Budget, WriteBudget, Verify}
 use Rattle.explain_words.specs.declared.request.bounds.BoundsWords.{BoundsWords}
+use Rattle.explain_words.specs.declared.request.budget.Aim.{Aim as Aim'}
+use Rattle.explain_words.specs.declared.request.budget.Aim.TheVariants as aim
 
 -- the texts that are lent
 abbrev pub texts : List (Bor Text) → List Text
@@ -60,3 +62,40 @@ pub record AreBounds (rows : List Row) (asked : BoundsWords) : Type 0 where
 abbrev pub MeansBounds : List Row → Request → Type 0
 MeansBounds rows (Bounds asked) = AreBounds rows asked
 MeansBounds rows other = ⊥
+
+-- it is said which bounds of a file are kept, or they are written to it
+pub data Aim : Type 0 where
+  Keep : Text → Bool → Aim
+  Write : Text → Bool → Aim
+
+abbrev pub plain_aim : Aim' → Aim
+plain_aim (aim.Keep bounds json) = Keep bounds.now json
+plain_aim (aim.Write bounds force) = Write bounds.now force
+
+-- by an operand, the value of `--write`, `--json` and `--force`
+abbrev pub aim_of : Option Text → Option Text → Bool → Bool → Option Aim
+aim_of (Some bounds) None json false = Some (Keep bounds json)
+aim_of None (Some bounds) false force = Some (Write bounds force)
+aim_of operand written json force = None
+
+abbrev pub aim_in : List Row → Option Aim
+aim_in rows =
+    aim_of (first_of (codes "bounds") rows) (first_of (codes "write") rows) (is_set (codes "json") rows) (is_set (codes "force") rows)
+
+-- what is asked for by the file, the degree if one is given, and the aim
+pub record AreBudget (rows : List Row) (source : Text) (most : Option ℕ) (kept : Aim) : Type 0 where
+  pub file : first_of (codes "file") rows ≡ Some source
+  pub degree : optional degree_in (first_of (codes "degree") rows) ≡ Some most
+  pub aimed : aim_in rows ≡ Some kept
+
+-- what `budget` asks for
+abbrev pub MeansBudget : List Row → Request → Type 0
+MeansBudget rows (Budget file bounds degree json) = AreBudget rows file.now degree (Keep bounds.now json)
+MeansBudget rows (WriteBudget file bounds degree force) = AreBudget rows file.now degree (Write bounds.now force)
+MeansBudget rows other = ⊥
+
+-- what `verify` asks for
+abbrev pub MeansVerify : List Row → Request → Type 0
+MeansVerify rows (Verify file certificate) =
+    (first_of (codes "file") rows ≡ Some file.now) × (first_of (codes "certificate") rows ≡ Some certificate.now)
+MeansVerify rows other = ⊥

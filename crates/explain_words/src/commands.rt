@@ -1,10 +1,12 @@
 // The commands, as `clap` has them.
 ghost use Rattle.std.specs.Prelude.{◌≡◌, IfOk};
 ghost use Rattle.clap.specs.Simple.{app_of};
-ghost use Rattle.explain_words.specs.Apps.{bare, app, operand_rule, option_rule, flag_rule, IsArg};
+ghost use Rattle.explain_words.specs.Apps.{bare, begun, app, operand_rule, perhaps_rule, option_rule, flag_rule, IsArg};
 
 mod bounds;
+mod budget;
 mod check;
+mod verify;
 
 use clap::{Arg, ArgAction, Command};
 use std::alloc::{AllocError, Global};
@@ -15,6 +17,15 @@ pub const VERSION: &str = "1.0.0";
 /// The program, with all its commands. Its words are those behind its name.
 pub fn program<'a>(alloc: Global) -> Result<Command<'a>, AllocError>
     ensures { IfOk result (λ command. app_of command ≡ app) }
+{
+    let command = begun(alloc)?;
+    let with_budget = command.subcommand(budget::command(alloc)?)?;
+    with_budget.subcommand(verify::command(alloc)?)
+}
+
+// With its first commands.
+fn begun<'a>(alloc: Global) -> Result<Command<'a>, AllocError>
+    ensures { IfOk result (λ command. app_of command ≡ begun) }
 {
     let command = bare(alloc);
     let with_check = command.subcommand(check::command(alloc)?)?;
@@ -40,6 +51,13 @@ fn operand<'a>(alloc: Global, id: &'a str, name: &'a str, help: &'a str) -> Arg<
         .value_name(name)
         .help(help)
         .required(true)
+}
+
+/// An operand that may be left out.
+fn perhaps<'a>(alloc: Global, id: &'a str, name: &'a str, help: &'a str) -> Arg<'a>
+    ensures { IsArg (perhaps_rule id.entry.now) result }
+{
+    Arg::new(alloc, id).value_name(name).help(help)
 }
 
 /// An option with one value, by its long name.

@@ -19,6 +19,16 @@ pub enum Mistake {
     Within,
     /// The word is no width of lines.
     Width,
+    /// There is no file of bounds.
+    NoBounds,
+    /// A file of bounds stands beside one that is to be written.
+    TwoBounds,
+    /// `--force` stands where nothing is to be written.
+    Force,
+    /// `--json` stands where a file is to be written.
+    Json,
+    /// There is no certificate.
+    NoCertificate,
 }
 
 impl Mistake {
@@ -42,6 +52,13 @@ impl Mistake {
                 "error: '--within <METER=N>' takes ticks=N, cells=N or work=N, with a whole number N of at most 2^127\n"
             }
             Mistake::Width => "error: '--width <N>' takes a whole number from 20 to 99999\n",
+            Mistake::NoBounds =>
+                "error: no file of bounds is given: BOUNDS, or '--write <BOUNDS>'\n",
+            Mistake::TwoBounds =>
+                "error: '--write <BOUNDS>' can't stand with another file BOUNDS\n",
+            Mistake::Force => "error: '--force' stands with '--write <BOUNDS>' alone\n",
+            Mistake::Json => "error: '--json' can't stand with '--write <BOUNDS>'\n",
+            Mistake::NoCertificate => "error: no certificate is given\n",
         }
     }
 }

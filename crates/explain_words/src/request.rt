@@ -8,7 +8,9 @@ ghost use Rattle.explain_words.specs.Commands.{texts};
 ghost use Rattle.explain_words.specs.Asking.{command_named, MeansBy, Means, Asks, GivesNone, IsTold, RefusesAll};
 
 pub mod bounds;
+mod budget;
 mod check;
+mod verify;
 
 use crate::commands::program;
 use crate::mistake::Mistake;
@@ -32,6 +34,25 @@ pub enum Request<'a> {
     },
     /// Say what bounds the functions of a program have.
     Bounds(BoundsWords<'a>),
+    /// Say which of the bounds that the file `bounds` declares of the program in `file` are kept.
+    Budget {
+        file: &'a str,
+        bounds: &'a str,
+        degree: Option<u8>,
+        json: bool,
+    },
+    /// Write the bounds of the program in `file` to the file `bounds`, over one that is there only where `force` is set.
+    WriteBudget {
+        file: &'a str,
+        bounds: &'a str,
+        degree: Option<u8>,
+        force: bool,
+    },
+    /// Say whether the certificate in a file holds of the program in `file`.
+    Verify {
+        file: &'a str,
+        certificate: &'a str,
+    },
 }
 
 /// Why words give no request.
@@ -105,6 +126,8 @@ fn asked_of<'a>(
     match name {
         "check" => check::asked(alloc, found),
         "bounds" => bounds::asked(alloc, found),
+        "budget" => budget::asked(alloc, found),
+        "verify" => verify::asked(alloc, found),
         _ => Err(Mistake::NoCommand.told(alloc)),
     }
 }

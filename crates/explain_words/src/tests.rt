@@ -1,4 +1,6 @@
 mod bounds;
+mod budget;
+mod verify;
 
 use crate::{Request, VERSION, WordsFault, read_words};
 use std::test::Fail;

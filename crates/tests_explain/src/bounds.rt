@@ -1,7 +1,7 @@
 // Whole calls of `explain bounds`.
-use crate::calls::told;
 use std::alloc::Global;
 use std::test::Fail;
+use tests_explain_calls::told;
 
 // A tick for each element; 7 units of work for each, and 4 more.
 const LEN: &str =

@@ -1,9 +1,9 @@
 // Data for functions, with what is told of it.
-use crate::calls::told;
 use std::alloc::Global;
 use std::fmt::Write;
 use std::process::Abort;
 use std::test::Fail;
+use tests_explain_calls::told;
 
 const SOURCE: &str = "\
 fun number (x : int) : int = x

@@ -1,9 +1,9 @@
 // The 34 faulty sources of people who were new to the language, by their names.
-use crate::calls::told;
 use std::alloc::Global;
 use std::fmt::Write;
 use std::process::Abort;
 use std::test::Fail;
+use tests_explain_calls::told;
 
 // Each source, and the whole text that `explain check` writes of it: the place where the rules of the language stop, what
 // stands there, the line with a caret below the place, and the hint.

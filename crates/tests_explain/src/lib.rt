@@ -4,8 +4,6 @@
 #[cfg(test)]
 mod bounds;
 #[cfg(test)]
-mod calls;
-#[cfg(test)]
 mod data;
 #[cfg(test)]
 mod faulty;
@@ -13,7 +11,5 @@ mod faulty;
 mod habits;
 #[cfg(test)]
 mod messages;
-#[cfg(test)]
-mod objects;
 #[cfg(test)]
 mod typed;

@@ -1,0 +1,5 @@
+mod Decided
+mod Lined
+mod Placed
+mod Degrees
+mod Calling

@@ -1,0 +1,11 @@
+mod Multiples
+mod Terms
+mod Placing
+mod Declaring
+mod Reading
+mod Excesses
+mod Alone
+mod Appended
+mod Beside
+mod Lines
+mod Tokens

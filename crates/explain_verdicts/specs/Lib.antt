@@ -1,0 +1,10 @@
+pub mod Fractions
+pub mod Over
+pub mod Reads
+pub mod Exceeding
+pub mod Line
+pub mod Json
+pub mod Tokens
+pub mod Written
+pub mod Read
+pub mod Laws

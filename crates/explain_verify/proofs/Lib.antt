@@ -1,0 +1,5 @@
+mod Lists
+mod Scheduling
+mod Calling
+mod Verifying
+mod Limits
