@@ -8,8 +8,6 @@ mod named;
 mod numeral;
 mod part;
 mod sizes;
-#[cfg(test)]
-mod tests;
 mod word;
 
 pub use fault::{SizeFault, WordFault};

@@ -9,8 +9,6 @@ pub mod laws;
 mod line;
 mod object;
 mod tail;
-#[cfg(test)]
-mod tests;
 
 pub use asked::Asked;
 pub use bound::{parameter_names, parameter_types, push_legend};

@@ -9,7 +9,7 @@ ghost use Rattle.explain_budget.specs.Read.{asking_in};
 use crate::asked::Asked;
 use crate::at::tell_from;
 use crate::end::BudgetEnd;
-use explain_check::{MOST_BYTES, read_file, typed_source};
+use explain_check::{MOST_BYTES, read_file, read_program};
 use normal_program::normal_form;
 use raml_io::Store;
 use simple_types::Typed;
@@ -41,15 +41,20 @@ pub fn tell_budget<S: Store>(
     ensures kept { S.holds store.new ≡ S.holds store.old }
     ensures later { (other : Text) → S.faults store.old other ≤ S.faults store.new other }
 {
-    let Some(source) = read_file(alloc, store, file, MOST_BYTES, report)? else {
-        return Ok(BudgetEnd::Refused);
-    };
-    let Some(typed) = typed_source(alloc, file, &source, report)? else {
-        return Ok(BudgetEnd::Refused);
-    };
-    tell_bounds(
-        alloc, store, &typed, bounds, degree, width, json, text, report,
-    )
+    match read_program(alloc, store, file, report)? {
+        Some(source) => tell_bounds(
+            alloc,
+            store,
+            &source.typed,
+            bounds,
+            degree,
+            width,
+            json,
+            text,
+            report,
+        ),
+        None => Ok(BudgetEnd::Refused),
+    }
 }
 
 // Tells which bounds of the file a typed program keeps.
@@ -73,16 +78,18 @@ fn tell_bounds<S: Store>(
     ensures kept { S.holds store.new ≡ S.holds store.old }
     ensures later { (other : Text) → S.faults store.old other ≤ S.faults store.new other }
 {
-    let Some(bytes) = read_file(alloc, store, bounds, MOST_BYTES, report)? else {
-        return Ok(BudgetEnd::Refused);
-    };
-    let asked = Asked {
-        name: bounds,
-        bytes: &bytes,
-        width,
-        json,
-    };
-    tell_program(alloc, typed, &asked, degree, text, report)
+    match read_file(alloc, store, bounds, MOST_BYTES, report)? {
+        Some(bytes) => {
+            let asked = Asked {
+                name: bounds,
+                bytes: &bytes,
+                width,
+                json,
+            };
+            tell_program(alloc, typed, &asked, degree, text, report)
+        }
+        None => Ok(BudgetEnd::Refused),
+    }
 }
 
 // Tells what is asked of a typed program.

@@ -1,1 +1,2 @@
+pub mod Longer
 mod Telling

@@ -6,10 +6,11 @@ use Rattle.std.specs.Borrow.{Bor}
 use Rattle.raml_io.specs.Faults.{Rose}
 use Rattle.raml_io.specs.Files.{Files, IsFront}
 use Rattle.raml_syntax.specs.Tree.{Text}
-use Rattle.explain_check.specs.Checks.{FileIs, FilesAre, texts, worse}
+use Rattle.explain_check.specs.Checks.{FileIs, FilesAre, texts, worse, most_bytes}
 use Rattle.explain_check.specs.Stores.{store_of, Holds}
 use Rattle.explain_check.specs.declared.verdict.Verdict.{Verdict}
 use Rattle.explain_check.specs.declared.verdict.Verdict.TheVariants.{Typed, Faulty, Unread}
+use Rattle.explain_check.proofs.Longer.{Later, unread_for_longer}
 
 -- what is told of the front of a file
 abbrev Fronts : Option Files → ℕ → Text → Text → Type 0
@@ -34,23 +35,11 @@ whole (Some files) before after most name bytes front h =
     let few : length front.content ≤ most + 1 = omega arith in
     front.held ∙ ap Some (sym (take_all (most + 1) front.content few) ∙ sym front.front)
 
--- ---- over a longer time
-
--- no count falls
-abbrev pub Later : (Text → ℕ) → (Text → ℕ) → Type 0
-Later before after = (name : Text) → before name ≤ after name
-
--- a count that rose in between rose
-rose : (a b c d : ℕ) → a ≤ b → b ≤ c → c ≤ d → Rose b c → Rose a d
-rose a b c d early mid late (inl less) = inl (omega arith)
-rose a b c d early mid late (inr last) = ⊎_elim (λ less. inl less) (λ more. inr (omega (arith, last))) (cases_lt a d)
-
 pub for_longer : (holds same : Option Files) (a b c d : Text → ℕ) (name : Text) (verdict : Verdict) (part : Text) → same ≡ holds → Later a b → Later b c → Later c d
     → FileIs (store_of same b c) name verdict part → FileIs (store_of holds a d) name verdict part
 for_longer holds same a b c d name Typed part e early mid late told = subst (λ holds. FileIs (store_of holds a d) name Typed part) e told
 for_longer holds same a b c d name Faulty part e early mid late told = subst (λ holds. FileIs (store_of holds a d) name Faulty part) e told
-for_longer holds same a b c d name Unread part e early mid late (inl long) = subst (λ holds. FileIs (store_of holds a d) name Unread part) e (inl long)
-for_longer holds same a b c d name Unread part e early mid late (inr fails) = inr (rose (a name) (b name) (c name) (d name) (early name) (mid name) (late name) fails.0, fails.1)
+for_longer holds same a b c d name Unread part e early mid late told = unread_for_longer holds same a b c d most_bytes name part e early mid late told
 
 worse_typed : (v : Verdict) → worse v Typed ≡ v
 worse_typed Typed = refl

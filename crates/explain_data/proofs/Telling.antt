@@ -1,13 +1,13 @@
 -- What is told of data, and of a file of it.
-use Rattle.std.proofs.Common.{◌≡◌, ◌≤◌, ℕ, List, ◌++◌, Option, Some, Result, Ok, Err, IfOk, refl, ap, subst, ◌∙◌, inl, inr, ⊎_elim, arith}
+use Rattle.std.proofs.Common.{◌≡◌, ◌≤◌, ℕ, List, ◌++◌, Option, Some, Result, Ok, Err, IfOk, refl, ap, subst, ◌∙◌, inl, inr}
 use Rattle.std.proofs.lemmas.List.{append-nil}
-use Rattle.raml_io.specs.Faults.{Rose}
 use Rattle.raml_io.specs.Files.{Files}
 use Rattle.raml_syntax.specs.Tree.{Text, Type'}
 use Rattle.value_text.specs.Reading.{Answers, FirstFault}
 use Rattle.value_text.specs.declared.fault.DataFault.{DataFault}
 use Rattle.value_text.specs.declared.fault.DataFault.TheVariants.{NotUtf8, Shape, TooDeep, TooManyCells, NoMemory}
-use Rattle.explain_check.specs.Stores.{Store, store_of, Holds, Unread, FileGives}
+use Rattle.explain_check.specs.Stores.{Store, store_of, Holds, FileGives}
+use Rattle.explain_check.proofs.Longer.{unread_since}
 use Rattle.explain_data.specs.Data.{DataIs, DataFileIs, most_data_bytes}
 use Rattle.explain_data.specs.declared.finding.Finding.{Finding}
 use Rattle.explain_data.specs.declared.finding.Finding.TheVariants.{Fits, Untyped, Refused}
@@ -36,17 +36,9 @@ of_file store name data' seen types old read new part (Err e) gives same is told
 
 -- ---- since an earlier time
 
--- a count that rose since then rose since before
-rises : (before mid after : ℕ) → before ≤ mid → Rose mid after → Rose before after
-rises before mid after early h = ⊎_elim (λ less. inl (omega (arith, less, early))) (λ last. inr last) h
-
 module _ (holds same : Option Files) (before mid after : Text → ℕ) (e : same ≡ holds) (early : (name : Text) → before name ≤ mid name) where
-  unread : (most : ℕ) (name part : Text) → Unread (store_of same mid after) most name part → Unread (store_of holds before after) most name part
-  unread most name part (inl long) = subst (λ holds. Unread (store_of holds before after) most name part) e (inl long)
-  unread most name part (inr fails) = inr (rises (before name) (mid name) (after name) (early name) fails.0, fails.1)
-
   pub since_before : (name : Text) (types : List Type') (finding : Finding) (part : Text) → DataFileIs (store_of same mid after) name types finding part → DataFileIs (store_of holds before after) name types finding part
   since_before name types Fits part told = subst (λ holds. DataFileIs (store_of holds before after) name types Fits part) e told
-  since_before name types Refused part (inl long) = inl (unread most_data_bytes name part long)
+  since_before name types Refused part (inl long) = inl (unread_since holds same before mid after most_data_bytes name part e early long)
   since_before name types Refused part (inr faulty) = subst (λ holds. DataFileIs (store_of holds before after) name types Refused part) e (inr faulty)
   since_before name types Untyped part told = absurd told

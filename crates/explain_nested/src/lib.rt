@@ -6,8 +6,6 @@ mod names;
 mod piece;
 mod reading;
 mod sums;
-#[cfg(test)]
-mod tests;
 mod text;
 
 pub use names::value_names;

@@ -5,8 +5,6 @@ mod below;
 pub mod laws;
 mod lines;
 mod place;
-#[cfg(test)]
-mod tests;
 
 pub use below::caret;
 pub use lines::line_at;

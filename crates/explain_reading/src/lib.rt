@@ -3,8 +3,6 @@
 
 pub mod laws;
 mod reading;
-#[cfg(test)]
-mod tests;
 mod used;
 
 pub use reading::{Reading, read_bound};

@@ -8,8 +8,6 @@ mod open_size;
 mod share;
 mod share_type;
 mod size;
-#[cfg(test)]
-mod tests;
 mod value;
 mod within;
 

@@ -3,8 +3,6 @@
 
 mod glue;
 mod lines;
-#[cfg(test)]
-mod tests;
 mod wrap;
 
 pub use wrap::wrapped;

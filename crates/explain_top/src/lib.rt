@@ -4,8 +4,6 @@
 mod asked;
 mod draft;
 mod status;
-#[cfg(test)]
-mod tests;
 mod top;
 
 pub use asked::answer;

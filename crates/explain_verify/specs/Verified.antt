@@ -19,8 +19,7 @@ use Rattle.bound_infer.specs.declared.refusal.VerifyFault.TheVariants as verify
 use Rattle.refusal_text.specs.declared.task.Analysed.TheVariants as analysed
 use Rattle.refusals.specs.Line.{Names, course_line}
 use Rattle.explain_check.specs.Stores.{Store, Holds, Unread, error_line}
-use Rattle.explain_check.specs.Checks.{FileIs, IsProgramOf, most_bytes}
-use Rattle.explain_check.specs.declared.verdict.Verdict.TheVariants as verdict
+use Rattle.explain_check.specs.Checks.{LacksProgram, IsProgramOf}
 use Rattle.explain_verify.specs.Told.{Subject, task_in, failing, OfTask, OfFailing, IsTaskAt}
 use Rattle.explain_verify.specs.declared.verification.Verification.{Verification}
 use Rattle.explain_verify.specs.declared.verification.Verification.TheVariants as v
@@ -98,21 +97,21 @@ pub record CertificateIs (file source name : Text) (P : Prog) (c : Certificate) 
 abbrev pub most_certificate_bytes : ℕ
 most_certificate_bytes = 16777216
 
--- the certificate is not read, or the file is none
-abbrev pub LacksCertificate : Store → Text → Text → Type 0
-LacksCertificate store name report =
-    Unread store most_certificate_bytes name report
-    ⊎ ((bytes : Text) × (fault : JsonFault) × (why : Text) × Holds store name bytes × Cause bytes fault × (fault ≢ json.NoMemory)
-    × (report ≡ error_line name why))
+-- what is told for a program and the bytes of a file: why they are no certificate, else of the certificate that they are
+abbrev pub BytesAre : Text → Text → Text → Prog → Text → Verification → Text → Text → Type 0
+BytesAre file source name P bytes end text report =
+    ((fault : JsonFault) × (why : Text) × Cause bytes fault × (fault ≢ json.NoMemory)
+    × (end ≡ v.Refused) × (text ≡ []) × (report ≡ error_line name why))
+    ⊎ ((c : Certificate) × IsFile bytes c × CertificateIs file source name P c end text report)
 
--- what is told for a program: that there is no certificate, else of the certificate
+-- what is told for a program: that the certificate is not read, else of its bytes
 abbrev pub ProgramIs : Store → Text → Text → Text → Prog → Verification → Text → Text → Type 0
 ProgramIs store file source name P end text report =
-    ((end ≡ v.Refused) × (text ≡ []) × LacksCertificate store name report)
-    ⊎ ((bytes : Text) × (c : Certificate) × Holds store name bytes × IsFile bytes c × CertificateIs file source name P c end text report)
+    ((end ≡ v.Refused) × (text ≡ []) × Unread store most_certificate_bytes name report)
+    ⊎ ((bytes : Text) × Holds store name bytes × BytesAre file source name P bytes end text report)
 
 -- what is told of a call: that there is no typed source, else for its program
 abbrev pub CallIs : Store → Text → Text → Verification → Text → Text → Type 0
 CallIs store file name end text report =
-    ((end ≡ v.Refused) × (text ≡ []) × (FileIs store file verdict.Unread report ⊎ FileIs store file verdict.Faulty report))
+    ((end ≡ v.Refused) × (text ≡ []) × LacksProgram store file report)
     ⊎ ((source : Text) × (P : Prog) × Holds store file source × IsProgramOf source P × ProgramIs store file source name P end text report)

@@ -1,11 +1,11 @@
 // The call.
-ghost use Rattle.std.specs.Prelude.{◌≡◌, ◌≤◌, ◌++◌, length, IfOk, OnOk, string_bytes};
+ghost use Rattle.std.specs.Prelude.{◌≡◌, ◌≤◌, ◌++◌, IfOk, OnOk, string_bytes};
 ghost use Rattle.raml_syntax.specs.Tree.{Text};
 ghost use Rattle.raml_syntax.specs.Read.{program_of};
 ghost use Rattle.annot_types.specs.Read.{certificate_of};
-ghost use Rattle.explain_check.specs.Stores.{store_of, error_line};
+ghost use Rattle.explain_check.specs.Stores.{store_of};
 ghost use Rattle.explain_verify.specs.Read.{subject_in};
-ghost use Rattle.explain_verify.specs.Verified.{CallIs, ProgramIs, CertificateIs, holds_line, line_text, functions_text};
+ghost use Rattle.explain_verify.specs.Verified.{CallIs, ProgramIs, BytesAre, CertificateIs, holds_line, line_text, functions_text};
 
 use crate::fault::push_fault;
 use crate::message::Subject;
@@ -14,10 +14,9 @@ use crate::verification::Verification;
 use annot_types::Certificate;
 use bound_infer::verify;
 use cert_json::{JsonFault, Place, read};
-use explain_check::{MOST_BYTES, push_error, read_file, typed_source};
+use explain_check::{Source, push_error, read_file, read_program};
 use normal_program::normal_form;
 use raml_io::Store;
-use simple_types::Typed;
 use std::alloc::{AllocError, Global};
 use std::fmt::Write;
 
@@ -41,55 +40,69 @@ pub fn verify_certificate<S: Store>(
     ensures kept { S.holds store.new ≡ S.holds store.old }
     ensures later { (other : Text) → S.faults store.old other ≤ S.faults store.new other }
 {
-    let Some(source) = read_file(alloc, store, file, MOST_BYTES, report)? else {
-        return Ok(Verification::Refused);
-    };
-    let Some(typed) = typed_source(alloc, file, &source, report)? else {
-        return Ok(Verification::Refused);
-    };
-    let files = Files {
-        file,
-        source: &source,
-        certificate,
-    };
-    verify_for(alloc, store, &typed, files, text, report)
+    match read_program(alloc, store, file, report)? {
+        Some(source) => {
+            let files = Files {
+                file,
+                source: &source,
+                certificate,
+            };
+            verify_for(alloc, store, files, text, report)
+        }
+        None => Ok(Verification::Refused),
+    }
 }
 
-/// The names of both files, and the bytes of the source.
+/// The names of both files, and the source of the program.
 #[derive(Clone, Copy)]
 struct Files<'s> {
     file: &'s str,
-    source: &'s [u8],
+    source: &'s Source,
     certificate: &'s str,
 }
 
-/// Verifies that the file is a certificate of a typed program.
+/// Verifies that the file is a certificate of the program.
 fn verify_for<S: Store>(
     alloc: Global,
     store: &mut S,
-    typed: &Typed,
     files: Files<'_>,
     text: &mut String,
     report: &mut String,
 ) -> Result<Verification, AllocError>
-    requires few { length (program_of typed.now) ≤ 256 }
     ensures told { IfOk result (λ end. (shown part : Text)
-        × ProgramIs (store_of (S.holds store.old) (S.faults store.old) (S.faults store.new)) files.entry.file.now files.entry.source.now
-        files.entry.certificate.now (program_of typed.now) end shown part
+        × ProgramIs (store_of (S.holds store.old) (S.faults store.old) (S.faults store.new)) files.entry.file.now
+        files.entry.source.now.bytes.items files.entry.certificate.now (program_of files.entry.source.now.typed) end shown part
         × (string_bytes text.new ≡ string_bytes text.old ++ shown)
         × (string_bytes report.new ≡ string_bytes report.old ++ part)) }
     ensures kept { S.holds store.new ≡ S.holds store.old }
     ensures later { (other : Text) → S.faults store.old other ≤ S.faults store.new other }
 {
     let name = files.certificate;
-    let Some(bytes) = read_file(alloc, store, name, MOST_CERTIFICATE_BYTES, report)? else {
-        return Ok(Verification::Refused);
-    };
-    match read(alloc, &bytes) {
-        Ok(certificate) => verify_read(alloc, typed, certificate, files, text, report),
+    match read_file(alloc, store, name, MOST_CERTIFICATE_BYTES, report)? {
+        Some(bytes) => verify_bytes(alloc, &bytes, files, text, report),
+        None => Ok(Verification::Refused),
+    }
+}
+
+/// Verifies that these bytes are a certificate of the program.
+fn verify_bytes(
+    alloc: Global,
+    bytes: &[u8],
+    files: Files<'_>,
+    text: &mut String,
+    report: &mut String,
+) -> Result<Verification, AllocError>
+    ensures { IfOk result (λ end. (shown part : Text)
+        × BytesAre files.entry.file.now files.entry.source.now.bytes.items files.entry.certificate.now
+        (program_of files.entry.source.now.typed) bytes.now end shown part
+        × (string_bytes text.new ≡ string_bytes text.old ++ shown)
+        × (string_bytes report.new ≡ string_bytes report.old ++ part)) }
+{
+    match read(alloc, bytes) {
+        Ok(certificate) => verify_read(alloc, certificate, files, text, report),
         Err(JsonFault::NoMemory) => Err(AllocError),
         Err(fault) => {
-            push_error(name, no_certificate(fault), report)?;
+            push_error(files.certificate, no_certificate(fault), report)?;
             Ok(Verification::Refused)
         }
     }
@@ -108,27 +121,25 @@ fn no_certificate(fault: JsonFault) -> &'static str {
     }
 }
 
-/// Verifies a certificate for a typed program.
+/// Verifies a certificate of the program.
 fn verify_read(
     alloc: Global,
-    typed: &Typed,
     certificate: Certificate,
     files: Files<'_>,
     text: &mut String,
     report: &mut String,
 ) -> Result<Verification, AllocError>
-    requires few { length (program_of typed.now) ≤ 256 }
     ensures { IfOk result (λ end. (shown part : Text)
-        × CertificateIs files.entry.file.now files.entry.source.now files.entry.certificate.now (program_of typed.now)
-        (certificate_of certificate) end shown part
+        × CertificateIs files.entry.file.now files.entry.source.now.bytes.items files.entry.certificate.now
+        (program_of files.entry.source.now.typed) (certificate_of certificate) end shown part
         × (string_bytes text.new ≡ string_bytes text.old ++ shown)
         × (string_bytes report.new ≡ string_bytes report.old ++ part)) }
 {
-    let program = normal_form(alloc, typed)?;
+    let program = normal_form(alloc, &files.source.typed)?;
     let outline = Outline::of(alloc, &certificate)?;
     let subject = Subject {
         file: files.file,
-        source: files.source,
+        source: &files.source.bytes,
         certificate: files.certificate,
         program: &program,
         outline: &outline,

@@ -7,8 +7,6 @@ pub mod laws;
 mod mistake;
 mod number;
 mod request;
-#[cfg(test)]
-mod tests;
 mod within;
 
 pub use commands::VERSION;

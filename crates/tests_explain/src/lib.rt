@@ -13,3 +13,5 @@ mod habits;
 mod messages;
 #[cfg(test)]
 mod typed;
+#[cfg(test)]
+mod whole;

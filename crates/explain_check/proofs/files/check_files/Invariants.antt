@@ -1,6 +1,7 @@
 use Rattle.std.proofs.Common.{◌≡◌, ◌++◌, string_bytes, drop}
 use Rattle.raml_syntax.specs.Tree.{Text}
-use Rattle.explain_check.proofs.Telling.{AreSoFar, Later}
+use Rattle.explain_check.proofs.Longer.{Later}
+use Rattle.explain_check.proofs.Telling.{AreSoFar}
 use Rattle.explain_check.proofs.files.check_files.Given as goal
 
 abbrev pub invariant-loop-name : goal.invariant-loop-name

@@ -1,6 +1,6 @@
 // Whole calls of `explain bounds --json`.
-use crate::calls::told;
 use std::test::Fail;
+use tests_explain_calls::told;
 
 // A tick for each element; 7 units of work for each, and 4 more.
 const LEN: &str =

@@ -9,10 +9,10 @@ ghost use Rattle.base_poly.specs.Read.{context_of};
 ghost use Rattle.poly_point.specs.Point.{AreLow};
 ghost use Rattle.explain_bounds.specs.Written.{CanBeTold, AllCanBeTold, CanBeAsked};
 
-use crate::{Asked, parameter_types, push_function};
 use base_poly::{Poly, Tuple, indices};
 use cost_free::Meter;
 use explain_at::read;
+use explain_bounds::{Asked, parameter_types, push_function};
 use explain_degrees::{Finding, Findings};
 use raml_syntax::{Expr, Form, Fun, FunId, Name, Param, Pos, Program, Ty};
 use std::alloc::{AllocError, Global};

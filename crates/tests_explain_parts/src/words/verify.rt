@@ -1,5 +1,5 @@
 use super::is_refused;
-use crate::{Request, read_words};
+use explain_words::{Request, read_words};
 use std::test::Fail;
 
 #[test]

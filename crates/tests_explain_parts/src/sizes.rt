@@ -5,8 +5,8 @@ ghost use Rattle.base_poly.specs.Poly.{IsPoly};
 ghost use Rattle.base_poly.specs.Read.{index_of};
 ghost use Rattle.poly_point.specs.Point.{AreLow};
 
-use crate::{OpenSize, Size, Within, greatest_within, value_at};
 use base_poly::{Index, Poly, Tuple};
+use explain_sizes::{OpenSize, Size, Within, greatest_within, value_at};
 use std::alloc::{AllocError, Global};
 use std::test::Fail;
 

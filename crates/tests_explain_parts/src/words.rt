@@ -2,7 +2,7 @@ mod bounds;
 mod budget;
 mod verify;
 
-use crate::{Request, VERSION, WordsFault, read_words};
+use explain_words::{Request, VERSION, WordsFault, read_words};
 use std::test::Fail;
 
 #[test]

@@ -1,5 +1,5 @@
 // What words give for two parameters, a list of lists and a number, which was worked out apart.
-use crate::{read, sizes_at, sizes_within};
+use explain_at::{read, sizes_at, sizes_within};
 use raml_syntax::{Name, Param, Pos, Ty};
 use std::alloc::{AllocError, Global};
 use std::test::Fail;

@@ -5,8 +5,8 @@ ghost use Rattle.base_poly.specs.Poly.{IsPoly};
 ghost use Rattle.base_poly.specs.Read.{index_of};
 ghost use Rattle.poly_point.specs.Point.{AreLow};
 
-use crate::{nested_sum, value_names};
 use base_poly::{Index, Poly, Tuple};
+use explain_nested::{nested_sum, value_names};
 use std::alloc::{AllocError, Global};
 use std::test::Fail;
 

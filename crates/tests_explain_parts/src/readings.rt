@@ -6,8 +6,8 @@ ghost use Rattle.base_poly.specs.Poly.{IsPoly};
 ghost use Rattle.base_poly.specs.Read.{context_of};
 ghost use Rattle.poly_point.specs.Point.{AreLow};
 
-use crate::read_bound;
 use base_poly::{Poly, Tuple, indices};
+use explain_reading::read_bound;
 use raml_syntax::Ty;
 use std::alloc::{AllocError, Global};
 use std::test::Fail;

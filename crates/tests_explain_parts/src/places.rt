@@ -1,5 +1,5 @@
 // Texts, carets and the text of a place.
-use crate::{Place, caret, line_at};
+use explain_places::{Place, caret, line_at};
 use std::test::Fail;
 
 const TEXT: &[u8] = b"let\tx = 1 in\n  f(\xC3\xA9, \xE4\xB8\xAD) >\n";

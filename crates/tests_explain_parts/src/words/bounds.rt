@@ -1,5 +1,5 @@
 use super::is_refused;
-use crate::{BoundsWords, Meter, Request, Within, read_words};
+use explain_words::{BoundsWords, Meter, Request, Within, read_words};
 use std::alloc::Global;
 use std::test::Fail;
 

@@ -1,50 +1,21 @@
-// Whole calls over files and streams in memory.
-use crate::{Status, explain};
+// Whole calls: what they write, and where.
+use explain_files::MemShelf;
+use explain_top::{Status, explain};
 use raml_io::{MemSink, MemStore};
-use std::alloc::{AllocError, Global};
-use std::fmt::Write;
+use std::alloc::Global;
 use std::test::Fail;
+use tests_explain_calls::told as told_of;
 
-const TYPED: &str = "fun f (x : int) : int = x\n";
+const FILES: [(&str, &[u8]); 4] = [
+    ("typed", b"fun f (x : int) : int = x\n"),
+    ("greater", b"fun f (x : int) : bool =\n\tx > 1\n"),
+    ("untyped", b"fun f (x : int) : bool = x\n"),
+    ("bell", b"fun f (x : int) : int = \x07\n"),
+];
 
-const GREATER: &str = "fun f (x : int) : bool =\n\tx > 1\n";
-
-const UNTYPED: &str = "fun f (x : int) : bool = x\n";
-
-const BELL: &str = "fun f (x : int) : int = \u{7}\n";
-
-fn store_of(alloc: Global) -> Result<MemStore, AllocError> {
-    let mut held = Vec::new(alloc);
-    for (name, source) in [
-        ("typed", TYPED),
-        ("greater", GREATER),
-        ("untyped", UNTYPED),
-        ("bell", BELL),
-    ] {
-        held.push((
-            String::from_str(alloc, name)?,
-            Vec::from_slice(alloc, source.as_bytes())?,
-        ))?;
-    }
-    Ok(MemStore::new(held, Vec::new(alloc)))
-}
-
-fn sink_of(alloc: Global) -> Result<MemSink, AllocError> {
-    MemSink::new(alloc, 100_000, 10, Vec::new(alloc))
-}
-
-// The code of the status, and what is written: on out, a bar, and on err.
+// What a call does over these files.
 fn told(alloc: Global, words: &[&str]) -> Result<String, Fail> {
-    let mut store = store_of(alloc)?;
-    let mut out = sink_of(alloc)?;
-    let mut err = sink_of(alloc)?;
-    let status = explain(alloc, words, None, &mut store, &mut out, &mut err);
-    let mut text = String::new(alloc);
-    write!(text, "{} ", status.code())?;
-    text.push_str(std::str::from_utf8(out.bytes())?)?;
-    text.push('|')?;
-    text.push_str(std::str::from_utf8(err.bytes())?)?;
-    Ok(text)
+    told_of(alloc, words, &FILES)
 }
 
 #[test]
@@ -133,10 +104,19 @@ fn refuses_other_words(rt: HostRuntime) -> Result<(), Fail> {
 #[test]
 fn tells_that_out_was_not_written(rt: HostRuntime) -> Result<(), Fail> {
     let alloc = rt.alloc();
-    let mut store = store_of(alloc)?;
+    let mut store = MemStore::new(Vec::new(alloc), Vec::new(alloc));
+    let mut shelf = MemShelf::new(Vec::new(alloc), Vec::new(alloc));
     let mut out = MemSink::new(alloc, 100_000, 10, Vec::from_slice(alloc, &[0])?)?;
-    let mut err = sink_of(alloc)?;
-    let status = explain(alloc, &["--version"], None, &mut store, &mut out, &mut err);
+    let mut err = MemSink::new(alloc, 100_000, 10, Vec::new(alloc))?;
+    let status = explain(
+        alloc,
+        &["--version"],
+        None,
+        &mut store,
+        &mut shelf,
+        &mut out,
+        &mut err,
+    );
     assert!(rt; status == Status::WriteFault);
     Ok(())
 }

@@ -1,5 +1,5 @@
 // Wrapped lines, which were worked out by hand.
-use crate::wrapped;
+use explain_text::wrapped;
 use std::test::Fail;
 
 const QUICKSORT: &str = "qsort cells ≤ 3/2·n² + 1/2·n   n = |l|";
