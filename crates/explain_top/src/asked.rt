@@ -3,7 +3,8 @@ ghost use Rattle.std.specs.Prelude.{◌≡◌, ◌≤◌, IfSome};
 ghost use Rattle.raml_syntax.specs.Tree.{Text};
 ghost use Rattle.explain_check.specs.Stores.{store_of};
 ghost use Rattle.explain_words.specs.Laws.{AreInRange, IsDegree, IsInRange};
-ghost use Rattle.explain_top.specs.Answers.{width_or, IsAnswer, AreBoundsTold, IsBudgetTold, IsVerified, IsChecked, IsDataChecked, LacksMemory, Puts};
+ghost use Rattle.explain_top.specs.Answers.{width_or, IsAnswer, AreBoundsTold, IsBudgetTold, IsVerified, IsChecked, IsDataChecked};
+ghost use Rattle.explain_top.specs.Answers.{LacksMemory, Puts};
 ghost use Rattle.explain_top.specs.Shelves.{shelf_of};
 ghost use Rattle.explain_top.specs.Sinks.{sink_of, Writes};
 
@@ -24,6 +25,7 @@ const NO_MEMORY: &str = "explain: out of memory\n";
 
 /// Does what a request asks for: writes what is told to `out`, where lines have at most so many columns, what is wrong to
 /// `err`, and leaves a file on the shelf where that is asked for.
+#[tactic(auto, using(crate::proofs::Shelves::untouched))]
 pub fn answer<S: Store, W: Shelf, O: Sink, E: Sink>(
     alloc: Global,
     request: &Request,

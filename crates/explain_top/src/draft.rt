@@ -17,6 +17,7 @@ use std::alloc::{AllocError, Global};
 
 /// Leaves the bounds of the program in `file` as the file `bounds`, which is written over only where `force` is set. What is
 /// wrong is written to `err`.
+#[tactic(auto, using(crate::proofs::Shelves::untouched))]
 pub(crate) fn leave_draft<S: Store, W: Shelf, E: Sink>(
     alloc: Global,
     file: &str,
@@ -66,6 +67,7 @@ fn refuse_source<E: Sink>(alloc: Global, bounds: &str, err: &mut E) -> Status
 }
 
 // Leaves the text of a draft. Where it can't be left, that is appended to the report.
+#[tactic(auto, using(crate::proofs::Shelves::untouched))]
 fn leave<W: Shelf>(
     alloc: Global,
     shelf: &mut W,
@@ -75,7 +77,8 @@ fn leave<W: Shelf>(
     report: &mut String,
 ) -> Result<Status, AllocError>
     ensures ends { IfOk result (λ status. (part : Text)
-        × EndsBy (shelf_of (W.faults shelf.old) (W.faults shelf.new) (W.holds shelf.old) (W.holds shelf.new)) bounds.now force draft.now status part
+        × EndsBy (shelf_of (W.faults shelf.old) (W.faults shelf.new) (W.holds shelf.old) (W.holds shelf.new)) bounds.now force draft.now
+        status part
         × (string_bytes report.new ≡ string_bytes report.old ++ part)) }
     ensures nothing { OnErr result
         (KeepsFiles (shelf_of (W.faults shelf.old) (W.faults shelf.new) (W.holds shelf.old) (W.holds shelf.new))) }
@@ -88,6 +91,7 @@ fn leave<W: Shelf>(
 }
 
 // Leaves a text. Where it can't be left, that is appended to the report.
+#[tactic(auto, using(crate::proofs::Shelves::leaves))]
 fn leave_text<W: Shelf>(
     alloc: Global,
     shelf: &mut W,
@@ -97,7 +101,8 @@ fn leave_text<W: Shelf>(
     report: &mut String,
 ) -> Result<Status, AllocError>
     ensures ends { IfOk result (λ status. (part : Text)
-        × IsTextLeft (shelf_of (W.faults shelf.old) (W.faults shelf.new) (W.holds shelf.old) (W.holds shelf.new)) bounds.now force text.now status part
+        × IsTextLeft (shelf_of (W.faults shelf.old) (W.faults shelf.new) (W.holds shelf.old) (W.holds shelf.new)) bounds.now force text.now
+        status part
         × (string_bytes report.new ≡ string_bytes report.old ++ part)) }
     ensures nothing { OnErr result
         (KeepsFiles (shelf_of (W.faults shelf.old) (W.faults shelf.new) (W.holds shelf.old) (W.holds shelf.new))) }

@@ -18,6 +18,7 @@ use std::alloc::Global;
 /// Does what the words ask for: reads from `store`, writes what was asked for to `out`, and what is wrong to `err`, and
 /// leaves a file on `shelf` where the words ask for one. The words are those of the command line, without the program's
 /// name. Lines that go to `out` have at most so many columns, unless the words tell a width.
+#[tactic(auto, using(crate::proofs::Shelves::untouched))]
 pub fn explain<S: Store, W: Shelf, O: Sink, E: Sink>(
     alloc: Global,
     words: &[&str],

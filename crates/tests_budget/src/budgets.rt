@@ -99,7 +99,7 @@ fn tells_sums_over_elements(rt: HostRuntime) -> Result<(), Fail> {
         told_of(
             rt.alloc(),
             ALL,
-            b"all ticks <= 1*<[_]>\n",
+            b"all ticks <= 1*<[[]]>\n",
             &["--degree", "2"]
         )?
         .as_str(),
