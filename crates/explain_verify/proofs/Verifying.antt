@@ -32,8 +32,8 @@ ends s (verify.Leaves at) end report is = inr is.0
 ends s verify.NoMemory end report is = absurd is
 
 fault_told : (s : t.Subject) (c : Certificate) (fault : VerifyFault) (end : Verification) (report : Text) → VerifyCause s.normal c fault → FaultIs s fault end report → Told s c end [] report
-fault_told s c fault Fails report cause is = (refl, fault, cause, is)
-fault_told s c fault NotAnalysed report cause is = (refl, fault, cause, is)
+fault_told s c fault Fails report cause is = (refl, (fault, cause, is))
+fault_told s c fault NotAnalysed report cause is = (refl, (fault, cause, is))
 fault_told s c fault Holds report cause is = absurd (by (ends s fault Holds report is))
   where
     by : (Holds ≡ Fails) ⊎ (Holds ≡ NotAnalysed) → ⊥

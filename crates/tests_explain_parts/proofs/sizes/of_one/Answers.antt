@@ -1,13 +1,8 @@
-use Rattle.std.proofs.Common.{rules, ◌<ℤ◌, List, [], ◌∷◌, pos, to_z, of_z, arith}
+use Rattle.std.proofs.Common.{rules, ◌<ℤ◌, pos, to_z, of_z, arith}
 use Rattle.std.specs.Int.{w128}
-use Rattle.std.specs.List.{AllByRecursion, IsDistinct}
 use Rattle.std.proofs.lemmas.Int.{ints, to_z-of_z}
-use Rattle.base_poly.specs.Plain.{Plain, alike}
-use Rattle.explain_sizes.proofs.tests.of_one.Goals as goal
-
-one_alone : (t : List Plain) → IsDistinct alike (t ∷ [])
-unfolding IsDistinct
-one_alone t = (tt, tt)
+use Rattle.tests_explain_parts.proofs.Alone.{one_alone}
+use Rattle.tests_explain_parts.proofs.sizes.of_one.Goals as goal
 
 pub returns-clause-poly : goal.returns-clause-poly
 returns-clause-poly c =

@@ -1,12 +1,8 @@
-use Rattle.std.proofs.Common.{rules, ◌<◌, ◌^◌, List, [], ◌∷◌, ap, arith}
-use Rattle.std.specs.List.{IsDistinct}
+use Rattle.std.proofs.Common.{rules, ◌<◌, ◌^◌, ap, arith}
 use Rattle.std.proofs.lemmas.Int.{ints}
-use Rattle.base_poly.specs.Plain.{Plain, alike, degrees}
-use Rattle.explain_bounds.proofs.tests.of_one.Goals as goal
-
-one_alone : (t : List Plain) → IsDistinct alike (t ∷ [])
-unfolding IsDistinct
-one_alone t = (tt, tt)
+use Rattle.base_poly.specs.Plain.{degrees}
+use Rattle.tests_explain_parts.proofs.Alone.{one_alone}
+use Rattle.tests_explain_parts.proofs.readings.of_one.Goals as goal
 
 pub returns-clause-poly : goal.returns-clause-poly
 returns-clause-poly c =
