@@ -1,5 +1,6 @@
 // The call.
-ghost use Rattle.std.specs.Prelude.{◌≡◌, ◌≤◌, ◌++◌, IfOk, OnOk, string_bytes};
+ghost use Rattle.std.specs.Prelude.{◌≡◌, ◌≢◌, ◌≤◌, ◌++◌, IfOk, OnOk, IfSome, string_bytes};
+ghost use Rattle.cert_json.specs.declared.whole.JsonFault.TheVariants.{NoMemory};
 ghost use Rattle.raml_syntax.specs.Tree.{Text};
 ghost use Rattle.raml_syntax.specs.Read.{program_of};
 ghost use Rattle.annot_types.specs.Read.{certificate_of};
@@ -100,24 +101,30 @@ fn verify_bytes(
 {
     match read(alloc, bytes) {
         Ok(certificate) => verify_read(alloc, certificate, files, text, report),
-        Err(JsonFault::NoMemory) => Err(AllocError),
-        Err(fault) => {
-            push_error(files.certificate, no_certificate(fault), report)?;
-            Ok(Verification::Refused)
-        }
+        Err(fault) => match no_certificate(fault) {
+            Some(why) => {
+                push_error(files.certificate, why, report)?;
+                Ok(Verification::Refused)
+            }
+            None => Err(AllocError),
+        },
     }
 }
 
-/// Why a file is no certificate.
-fn no_certificate(fault: JsonFault) -> &'static str {
+/// Why a file is no certificate. None where memory ran out.
+fn no_certificate(fault: JsonFault) -> Option<&'static str>
+    ensures { IfSome result (λ why. fault ≢ NoMemory) }
+{
     match fault {
-        JsonFault::NotJson => "it is no certificate: it is not JSON",
-        JsonFault::Shape { place: Place::Head } => "it is no certificate: it does not begin as one",
+        JsonFault::NotJson => Some("it is no certificate: it is not JSON"),
+        JsonFault::Shape { place: Place::Head } => {
+            Some("it is no certificate: it does not begin as one")
+        }
         JsonFault::Shape {
             place: Place::Block(_),
-        } => "it is no certificate: one of its blocks has another form",
-        JsonFault::Number { .. } => "it is no certificate: one of its numbers is none",
-        JsonFault::NoMemory => "",
+        } => Some("it is no certificate: one of its blocks has another form"),
+        JsonFault::Number { .. } => Some("it is no certificate: one of its numbers is none"),
+        JsonFault::NoMemory => None,
     }
 }
 
@@ -135,6 +142,7 @@ fn verify_read(
         × (string_bytes text.new ≡ string_bytes text.old ++ shown)
         × (string_bytes report.new ≡ string_bytes report.old ++ part)) }
 {
+    let _program = files.source.typed.program();
     let program = normal_form(alloc, &files.source.typed)?;
     let outline = Outline::of(alloc, &certificate)?;
     let subject = Subject {

@@ -1,7 +1,8 @@
-use Rattle.std.proofs.Common.{[], refl, sym, inl, string_bytes}
+use Rattle.std.proofs.Common.{[], Option, refl, sym, subst, inl, string_bytes}
 use Rattle.std.proofs.lemmas.List.{append-nil}
 use Rattle.explain_check.specs.Checks.{LacksProgram, ProgramGives}
 use Rattle.explain_check.specs.Stores.{store_of}
+use Rattle.explain_check.specs.declared.program.Source.{Source}
 use Rattle.explain_verify.proofs.Calling.{of_call}
 use Rattle.explain_verify.proofs.call.verify_certificate.Goals as goal
 
@@ -13,4 +14,13 @@ returns-in-None-clause-told g c =
     ([], read.0, inl (refl, refl, lacks), sym (append-nil _), read.2)
 
 pub returns-in-Some-clause-told : goal.returns-in-Some-clause-told
-returns-in-Some-clause-told g c = ?
+returns-in-Some-clause-told g c =
+    let holds = g.S.Store.holds c.args.store.now in
+    let before = g.S.Store.faults c.args.store.now in
+    let mid = g.S.Store.faults c.read_program.new.store in
+    let file = c.args.file.now in
+    let read = c.in_ok-source.ensures.told in
+    let gives = subst (λ (found : Option Source). ProgramGives (store_of holds before mid) file found read.0) c.in-Some.is read.1 in
+    of_call holds (g.S.Store.holds c.read_program.new.store) before mid (g.S.Store.faults c.verify_for.new.store) c.read_program.ensures.kept c.read_program.ensures.later
+    file c.args.certificate.now c.in-Some.source read.0 (string_bytes c.args.text.now) (string_bytes c.verify_for.new.text) (string_bytes c.args.report.now)
+    (string_bytes c.read_program.new.report) (string_bytes c.verify_for.new.report) c.verify_for.result gives read.2 c.verify_for.ensures.told

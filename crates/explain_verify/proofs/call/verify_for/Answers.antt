@@ -1,6 +1,7 @@
-use Rattle.std.proofs.Common.{[], refl, sym, inl, string_bytes}
+use Rattle.std.proofs.Common.{[], ℕ, Option, Vec, Global, refl, sym, subst, inl, option_map, string_bytes, vec_items}
 use Rattle.std.proofs.lemmas.List.{append-nil}
-use Rattle.explain_check.specs.Stores.{store_of, Unread}
+use Rattle.raml_syntax.specs.Read.{program_of}
+use Rattle.explain_check.specs.Stores.{store_of, FileGives, Unread}
 use Rattle.explain_verify.specs.Verified.{most_certificate_bytes}
 use Rattle.explain_verify.proofs.Calling.{of_bytes}
 use Rattle.explain_verify.proofs.call.verify_for.Goals as goal
@@ -8,9 +9,17 @@ use Rattle.explain_verify.proofs.call.verify_for.Goals as goal
 pub returns-in-None-clause-told : goal.returns-in-None-clause-told
 returns-in-None-clause-told g c =
     let store = store_of (g.S.Store.holds c.args.store.now) (g.S.Store.faults c.args.store.now) (g.S.Store.faults c.read_file.new.store) in
-    let read = ? in
+    let read = c.in_ok-bytes.ensures.told in
     let unread : Unread store most_certificate_bytes c.args.files.certificate.now read.0 = rw c.in-None.is at read.1 in
     ([], read.0, inl (refl, refl, unread), sym (append-nil _), read.2)
 
 pub returns-in-Some-clause-told : goal.returns-in-Some-clause-told
-returns-in-Some-clause-told g c = ?
+returns-in-Some-clause-told g c =
+    let store = store_of (g.S.Store.holds c.args.store.now) (g.S.Store.faults c.args.store.now) (g.S.Store.faults c.read_file.new.store) in
+    let files = c.args.files in
+    let name = files.certificate.now in
+    let read = c.in_ok-bytes.ensures.told in
+    let gives = subst (λ (found : Option (Vec ℕ Global)). FileGives store most_certificate_bytes name (option_map vec_items found) read.0) c.in-Some.is read.1 in
+    of_bytes store files.file.now files.source.now.bytes.items name (program_of files.source.now.typed) c.in-Some.bytes.items c.deref.result.now read.0
+    (string_bytes c.args.text.now) (string_bytes c.verify_bytes.new.text) (string_bytes c.args.report.now) (string_bytes c.read_file.new.report) (string_bytes c.verify_bytes.new.report) c.verify_bytes.result
+    gives read.2 c.deref.ensures.value c.verify_bytes.ensures

@@ -8,5 +8,7 @@ pub returns : goal.returns
 returns c =
     let files = c.args.files in
     let normal = c.in_ok-program.ensures in
-    fails_told files.file.now files.source.now files.certificate.now c.in_ok-program.program c.in_ok-outline.outline (program_of c.args.typed.now) (certificate_of c.args.certificate)
-    (ap program_of normal.source) normal.groups normal.normal c.in_ok-outline.ensures c.in-Err.fault (string_bytes c.args.text.now) _ (string_bytes c.args.report.now) _ c.push_fault.result c.in-Err.ensures.fault refl c.push_fault.ensures
+    rw c.deref.ensures.value at
+    (fails_told files.file.now c.deref.result.now files.certificate.now c.in_ok-program.program c.in_ok-outline.outline (program_of files.source.now.typed) (certificate_of c.args.certificate)
+    (ap program_of normal.source) normal.groups normal.normal c.in_ok-outline.ensures c.in-Err.fault (string_bytes c.args.text.now) _ (string_bytes c.args.report.now) _ c.push_fault.result
+    c.in-Err.ensures.fault refl c.push_fault.ensures)

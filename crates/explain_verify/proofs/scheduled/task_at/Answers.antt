@@ -1,4 +1,4 @@
-use Rattle.std.proofs.Common.{◌≡◌, ◌∙◌, length, Some, None, option_map, ap, sym, refl, inl, inr}
+use Rattle.std.proofs.Common.{◌≡◌, ◌∙◌, length, Some, None, Err, option_map, ap, sym, refl, inl, inr}
 use Rattle.cost_free.specs.Read.{task_of, outcomes_of}
 use Rattle.share_normal.specs.Program.{source_in}
 use Rattle.explain_verify.proofs.Scheduling.{next_is, refused_is}
@@ -27,4 +27,4 @@ returns-in-Err-TooMany c =
     let s = c.args.subject.now in
     let is = refused_is s c.args.block (length (source_in s.program.now)) c.results.result.now c.functions-functions.result.now c.groups.result.now (outcomes_of c.before-2.result.now)
     c.results.ensures.results c.results.ensures.count c.functions-functions.ensures.functions c.functions-functions.ensures.count c.groups.ensures.groups c.before-2.ensures in
-    inr (inr (is c.in-Err-TooMany.ensures.many), c.task.ensures)
+    inr (inr (is (c.in-Err-TooMany.ensures.many (ap Err c.in-Err-TooMany.field-0-is))), c.task-in-Err-TooMany.ensures)
