@@ -20,16 +20,16 @@ module _ (P : Prog) (N : Program) (names : Names) (asking : Asking) (first tries
   none_yet end text rest told = told
 
   pub one_more : (left degree : ℕ) (part own : Text) → 0 < left → TellsAt P N names asking degree None [] own → AreRefused left degree part → AreRefused (left - 1) (degree - 1) (part ++ own)
-  one_more zero degree part own some at before = absurd (omega (arith, some))
+  one_more zero degree part own some at before end text rest told = absurd (omega (arith, some))
   one_more (suc left) degree part own some at before end text rest told =
       let same : suc left - 1 ≡ left = omega arith in
       subst (Tells tries first end text) (sym (append_assoc part own rest))
       (before end text (own ++ rest) (inr (own, rest, at, subst (λ n. Tells n (degree - 1) end text rest) same told, refl)))
 
   pub ends : (left degree : ℕ) (part own : Text) (end : BudgetEnd) (text : Text) → 0 < left → EndsAt P N names asking degree end text own → AreRefused left degree part →
-      Tells tries first end text (part ++ (own ++ lower P N names asking first degree end))
+      Tells tries first end text (part ++ (own ++ lower first degree end))
   ends zero degree part own end text some at before = absurd (omega (arith, some))
-  ends (suc left) degree part own end text some at before = before end text (own ++ lower P N names asking first degree end) (inl (own, at, refl))
+  ends (suc left) degree part own end text some at before = before end text (own ++ lower first degree end) (inl (own, at, refl))
 
   pub all_refused : (left degree : ℕ) (part : Text) → left ≡ 0 → AreRefused left degree part → Tells tries first NotAnalysed [] part
   all_refused left degree part is before =

@@ -3,3 +3,4 @@ mod Lined
 mod Placed
 mod Degrees
 mod Calling
+mod Claimed

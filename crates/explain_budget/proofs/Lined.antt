@@ -2,7 +2,7 @@
 use Rattle.std.proofs.Common.{◌≡◌, ◌<◌, ◌+◌, ◌++◌, ℕ, zero, suc, length, map, drop, List, [], ◌∷◌, Some, IfSome, refl, sym, ap, subst, ◌∙◌, arith}
 use Rattle.std.specs.Prelude.{slice_get, slice_index_or, codes}
 use Rattle.std.specs.List.{All}
-use Rattle.std.proofs.lemmas.List.{append-nil, append_assoc, drop_more}
+use Rattle.std.proofs.lemmas.List.{append-nil, append_assoc, drop_more, drop-map}
 use Rattle.std.proofs.lemmas.List.Elements.{All-head, All-tail}
 use Rattle.std.proofs.lemmas.Option.{slice_get_within, same_Some}
 use Rattle.raml_syntax.specs.Tree.{Text, Function, Prog}
@@ -22,9 +22,7 @@ from_place xs i x is below = drop_more xs i x below ∙ ap (λ first. first ∷ 
 
 module _ {A B : Type 0} (f : A → B) where
   pub from_mapped : (xs : List A) (i : ℕ) (x : A) → x ≡ slice_index_or xs i x → i < length xs → drop i (map f xs) ≡ f x ∷ drop (i + 1) (map f xs)
-  from_mapped [] i x is below = absurd (omega (arith, below))
-  from_mapped (y ∷ ys) zero x is below = ap (λ z. f z ∷ map f ys) (sym is)
-  from_mapped (y ∷ ys) (suc i) x is below = from_mapped ys i x is (omega (arith, below))
+  from_mapped xs i x is below = drop-map f i xs ∙ ap (map f) (from_place xs i x is below) ∙ ap (λ rest. f x ∷ rest) (sym (drop-map f (i + 1) xs))
 
   pub at_mapped : (xs : List A) (i : ℕ) (x : A) → x ≡ slice_index_or xs i x → i < length xs → slice_get (map f xs) i ≡ Some (f x)
   at_mapped [] i x is below = absurd (omega (arith, below))

@@ -21,12 +21,12 @@ use Rattle.explain_budget.specs.Judging.{IsFoundOf, IsJudged, AreJudged}
 use Rattle.explain_budget.specs.Written.{LineCanBeTold, LinesCanBeTold, CanBeTold}
 
 no_term : (t : Term) → Contains [] t → ⊥
-no_term t there = let low = there.1.0 in omega (arith, low)
+no_term t there = omega (arith, there.1)
 
 -- no term, no coefficient
 none_declared : (As : List Type') (d : ℕ) (cs : List Coefficient) → IsBound As d [] cs → cs ≡ []
 none_declared As d [] bound = refl
-none_declared As d (c ∷ cs) bound = let from = (bound.exactly c).0 (0, omega arith, refl) in absurd (no_term from.0 from.1.0)
+none_declared As d (c ∷ cs) bound = let from = (bound.exactly c).0 (0, omega arith, refl) in absurd (no_term from.0 from.1)
 
 placed : (As : List Type') (d : ℕ) (ts : List Term) (cs : List Coefficient) → IsBound As d ts cs → AreBelow (length (index_list As d)) cs → ArePlaced As d cs
 placed As d ts cs bound below = by bound.places

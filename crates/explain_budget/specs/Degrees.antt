@@ -40,6 +40,16 @@ undecided_line NoMemory = []
 abbrev pub undecided_note : ℕ → VerdictsFault → Text
 undecided_note d fault = codes "explain: degree " ++ (decimal d ++ (codes ": " ++ undecided_line fault))
 
+-- explain: degree D is the highest that no limit refuses
+abbrev pub lower_note : ℕ → Text
+lower_note d = codes "explain: degree " ++ (decimal d ++ codes " is the highest that no limit refuses\n")
+
+-- where lines are told at a lower degree than the first one, this is said
+abbrev pub lower : ℕ → ℕ → BudgetEnd → Text
+lower first d e.AllKept = cond (d == first) [] (lower_note d)
+lower first d e.Broken = cond (d == first) [] (lower_note d)
+lower first d end = []
+
 -- Of a program and its normal form, whose functions `raml` names so:
 module _ (P : Prog) (N : Program) (names : Names) (asking : Asking) where
   -- The file declares bounds at the degree, and the analysis has a certificate.
@@ -86,16 +96,6 @@ module _ (P : Prog) (N : Program) (names : Names) (asking : Asking) where
   abbrev pub TellsAt : ℕ → Option BudgetEnd → Text → Text → Type 0
   TellsAt d (Some end) text part = EndsAt d end text part
   TellsAt d None text part = (text ≡ []) × (AnalysisIsRefused d part ⊎ DecisionIsRefused d part)
-
-  -- explain: degree D is the highest that no limit refuses
-  abbrev pub lower_note : ℕ → Text
-  lower_note d = codes "explain: degree " ++ (decimal d ++ codes " is the highest that no limit refuses\n")
-
-  -- where lines are told at a lower degree than the first one, this is said
-  abbrev pub lower : ℕ → ℕ → BudgetEnd → Text
-  lower first d e.AllKept = cond (d == first) [] (lower_note d)
-  lower first d e.Broken = cond (d == first) [] (lower_note d)
-  lower first d end = []
 
   -- what is told in so many tries from a degree down, where this was the first
   abbrev pub TellsFrom : ℕ → ℕ → ℕ → BudgetEnd → Text → Text → Type 0

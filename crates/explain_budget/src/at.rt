@@ -10,7 +10,7 @@ ghost use Rattle.bound_contract.specs.Asked.{MayBeAsked};
 ghost use Rattle.bound_infer.specs.Inferred.{IsInferred};
 ghost use Rattle.refusals.specs.Refusals.{names_in};
 ghost use Rattle.explain_degrees.specs.Degrees.{analysis_at};
-ghost use Rattle.explain_budget.specs.Degrees.{undecided_note, lower, TellsAt, TellsFrom};
+ghost use Rattle.explain_budget.specs.Degrees.{lower, undecided_line, undecided_note, TellsAt, TellsFrom};
 ghost use Rattle.explain_budget.specs.Steps.{AllAreOver};
 ghost use Rattle.explain_budget.specs.Read.{asking_in};
 
@@ -27,7 +27,7 @@ use explain_declared::declared_in;
 use explain_degrees::{RefusedDegree, analyse};
 use infer_spec::laws::courses_stay_within;
 use infer_systems_laws::laws::{normals_are_ordered, systems_generate};
-use refusals::{Status, declared_leaves, declared_too_large};
+use refusal_text::{declared_leaves_line, declared_too_large_line};
 use share_normal::NormProgram;
 use std::alloc::{AllocError, Global};
 use std::fmt::Write;
@@ -182,13 +182,18 @@ fn push_undecided(
     ensures told { OnOk result (string_bytes report.new ≡ string_bytes report.old ++ undecided_note degree fault) }
     ensures memory { OnOk result (fault ≢ VerdictsFault.NoMemory) }
 {
-    let refusal = match fault {
-        VerdictsFault::TooLarge { line } => declared_too_large(alloc, line),
-        VerdictsFault::Leaves { line } => declared_leaves(alloc, line),
-        VerdictsFault::NoMemory => return Err(AllocError),
-    };
-    match refusal.status {
-        Status::NoMemory => Err(AllocError),
-        _ => write!(report, "explain: degree {degree}: {}", refusal.line.text()),
+    let line = undecided_line(alloc, fault)?;
+    write!(report, "explain: degree {degree}: {line}")
+}
+
+// The line of `raml` for a bound that is not decided.
+fn undecided_line(alloc: Global, fault: VerdictsFault) -> Result<String, AllocError>
+    ensures is { IfOk result (λ line. string_bytes line ≡ undecided_line fault) }
+    ensures memory { OnOk result (fault ≢ VerdictsFault.NoMemory) }
+{
+    match fault {
+        VerdictsFault::TooLarge { line } => declared_too_large_line(alloc, line),
+        VerdictsFault::Leaves { line } => declared_leaves_line(alloc, line),
+        VerdictsFault::NoMemory => Err(AllocError),
     }
 }

@@ -4,7 +4,8 @@ ghost use Rattle.std.specs.Prelude.{IfOk, IfErr, IfSome, OnOk};
 ghost use Rattle.share_normal.specs.Program.{source_in};
 ghost use Rattle.rules_plan.specs.Read.{program_in};
 ghost use Rattle.annot_types.specs.Certificate.{has_work};
-ghost use Rattle.annot_types.specs.Held.{Claim, lines_for, line};
+ghost use Rattle.annot_types.specs.Held as held;
+ghost use Rattle.annot_types.specs.Held.{Claim, lines_for};
 ghost use Rattle.simplex.specs.Choosing.{IsChooser};
 ghost use Rattle.simplex_checked.specs.Choosing.{AnswersBy, AnswersByOne};
 ghost use Rattle.simplex_checked.specs.Rules.{least_pick};
@@ -23,7 +24,7 @@ use base_poly::Poly;
 use bound_contract::laws::owns_are_there;
 use bound_contract::{DecideFault, Decider, Decision};
 use bound_file::{DeclLine, Declared};
-use bound_infer::{Line, Verified};
+use bound_infer::Verified;
 use contract_report::VerdictsFault;
 use explain_verdicts::{Judged, Verdict};
 use frac128::Frac;
@@ -154,13 +155,13 @@ fn found(
     requires over { AllAreOver verified.now }
     ensures { IfOk result (λ found. (claim : Claim)
         × (lines_for (program_in verified.now.program) verified.now.certificate line.now.fun.0 line.now.meter
-        ≡ line line.now.fun.0 line.now.meter claim ∷ [])
+        ≡ held.line line.now.fun.0 line.now.meter claim ∷ [])
         × (option_map bound_of found ≡ bound_in claim)
         × IfSome found (IsFoundOf (source_in verified.now.program) line.now.fun.0)) }
 {
     match verified.line(alloc, line.fun, line.meter)? {
-        Line::Bound(poly) => Ok(Some(poly)),
-        Line::NoBound | Line::Calls(_) => Ok(None),
+        bound_infer::Line::Bound(poly) => Ok(Some(poly)),
+        bound_infer::Line::NoBound | bound_infer::Line::Calls(_) => Ok(None),
     }
 }
 

@@ -7,8 +7,8 @@ use Rattle.explain_budget.specs.Read.{asking_in}
 use Rattle.explain_budget.proofs.Degrees.{AreRefused}
 use Rattle.explain_budget.proofs.at.tell_from.Given as goal
 
-abbrev pub invariant-loop : goal.invariant-loop
-invariant-loop l = record {
+abbrev pub invariant-loop-left : goal.invariant-loop-left
+invariant-loop-left l = record {
   left : l.left ≤ l.degree;
   most : l.degree ≤ 4;
   text : string_bytes l.text ≡ string_bytes l.fn.text;
@@ -16,5 +16,5 @@ invariant-loop l = record {
       × (string_bytes l.report ≡ string_bytes l.fn.report ++ part);
 }
 
-abbrev pub decreases-loop : goal.decreases-loop
-decreases-loop l = l.left
+abbrev pub decreases-loop-left : goal.decreases-loop-left
+decreases-loop-left l = l.left

@@ -20,11 +20,11 @@ loop-number-preserved g c =
     let K = c.args.verified.now in
     let n = c.loop-number.number in
     let one : suc n ≡ n + 1 = omega arith in
-    let long : length lines ≡ length c.lines.result.now = ap length (sym c.lines.ensures.lines) ∙ length-map c.lines.result.now line_of in
+    let long : length lines ≡ length c.lines-number-end.result.now = ap length (sym c.lines-number-end.ensures.lines) ∙ length-map c.lines-number-end.result.now line_of in
     record {
       same = c.in_ok-judged.ensures.same;
       judged = subst (λ n. JudgedBelow K lines n c.push.new.self.items) one
-          (judged_next K lines n c.loop-number.all.items c.push.new.self.items c.in_ok-judged.judged (omega (arith, long, c.loop-number-test.true)) ? c.loop-number.invariant.judged c.in_ok-judged.ensures.judged);
+          (judged_next K lines n c.loop-number.all.items c.push.new.self.items c.in_ok-judged.judged (omega (arith, long, c.loop-number-test.true)) c.in-Ok.ensures.items c.loop-number.invariant.judged c.in_ok-judged.ensures.judged);
       clear = λ pick answers. subst (λ n. ClearBelow K lines pick n) one (c.in_ok-judged.ensures.clear pick answers);
     }
 

@@ -15,7 +15,8 @@ each_line-requires-clause-asked c number line there =
     let K = c.args.verified.now in
     let asked = c.requires.asked number line there in
     let in_order = subst (λ (k : Kept). AreInOrder (source_in k) [] (program_in k).groups) c.program.ensures c.groups-groups.ensures.grouping.in_order in
-    let own = c.owns_are_there.ensures (source_in K.program) (program_in K.program) in_order K.certificate c.certificate-certificate.ensures.held c.requires.work line asked.fun in
+    let same = c.checked-checked.ensures in
+    let own = c.owns_are_there.ensures (source_in K.program) (program_in K.program) (rw same at in_order) K.certificate (rw same at c.certificate-certificate.ensures.held) c.requires.work line asked.fun in
     record { asked = asked; place = own.0; own = own.1; is = own.2 }
 
 pub returns-clause-fault : goal.returns-clause-fault
