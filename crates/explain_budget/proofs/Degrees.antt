@@ -1,10 +1,11 @@
 -- Degrees that are tried, one after the other.
-use Rattle.std.proofs.Common.{◌≡◌, ◌<◌, ◌-◌, ◌++◌, ℕ, zero, suc, List, [], None, refl, sym, ap, subst, inl, inr, arith}
+use Rattle.std.proofs.Common.{◌≡◌, ◌<◌, ◌-◌, ◌++◌, ◌∙◌, ℕ, zero, suc, Bool, true, false, List, [], None, refl, sym, ap, subst, inl, inr, arith}
 use Rattle.std.proofs.lemmas.List.{append-nil, append_assoc}
 use Rattle.raml_syntax.specs.Tree.{Text, Prog}
 use Rattle.annot_types.specs.Program.{Program}
 use Rattle.refusals.specs.Line.{Names}
-use Rattle.explain_budget.specs.Degrees.{Asking, EndsAt, TellsAt, TellsFrom, lower}
+use Rattle.explain_budget.specs.Degrees.{Asking, EndsAt, IsDecidedAt, TellsAt, TellsFrom, lower}
+use Rattle.explain_budget.specs.Written.{end_of}
 use Rattle.explain_budget.specs.declared.end.BudgetEnd.{BudgetEnd}
 use Rattle.explain_budget.specs.declared.end.BudgetEnd.TheVariants.{NotAnalysed}
 
@@ -35,3 +36,14 @@ module _ (P : Prog) (N : Program) (names : Names) (asking : Asking) (first tries
   all_refused left degree part is before =
       subst (Tells tries first NotAnalysed []) (append-nil part)
       (before NotAnalysed [] [] (subst (λ n. Tells n degree NotAnalysed [] []) (sym is) (refl, refl, refl)))
+
+-- three parts appended, one after the other
+pub three_appended : (new mid read old part own low : Text) → new ≡ mid ++ low → mid ≡ read ++ own → read ≡ old ++ part → new ≡ old ++ (part ++ (own ++ low))
+three_appended new mid read old part own low last then first =
+    last ∙ ap (λ t. t ++ low) (then ∙ ap (λ t. t ++ own) first) ∙ append_assoc (old ++ part) own low ∙ append_assoc old part (own ++ low)
+
+-- lines that are decided and told end as they are kept
+pub decided : (P : Prog) (N : Program) (names : Names) (asking : Asking) (d : ℕ) (kept : Bool) (end : BudgetEnd) (text : Text) → end ≡ end_of kept → IsDecidedAt P N names asking d kept text →
+    EndsAt P N names asking d end text []
+decided P N names asking d true end text e is = subst (λ end. EndsAt P N names asking d end text []) (sym e) (is, refl)
+decided P N names asking d false end text e is = subst (λ end. EndsAt P N names asking d end text []) (sym e) (is, refl)

@@ -2,9 +2,9 @@
 use Rattle.std.proofs.Common.{◌≡◌, ◌<◌, ◌+◌, ◌++◌, ℕ, zero, suc, length, map, drop, List, [], ◌∷◌, Some, IfSome, refl, sym, ap, subst, ◌∙◌, arith}
 use Rattle.std.specs.Prelude.{slice_get, slice_index_or, codes}
 use Rattle.std.specs.List.{All}
-use Rattle.std.proofs.lemmas.List.{append-nil, append_assoc, drop_more, drop-map}
+use Rattle.std.proofs.lemmas.List.{append-nil, append_assoc, drop_more}
 use Rattle.std.proofs.lemmas.List.Elements.{All-head, All-tail}
-use Rattle.std.proofs.lemmas.Option.{slice_get_within, same_Some}
+use Rattle.std.proofs.lemmas.Option.{slice_get_within, get_or_from_slice_get, same_Some}
 use Rattle.raml_syntax.specs.Tree.{Text, Function, Prog}
 use Rattle.raml_syntax.specs.Types.{types_of}
 use Rattle.raml_syntax.specs.Read.{function_of}
@@ -12,6 +12,8 @@ use Rattle.raml_syntax.specs.declared.program.Fun.{Fun}
 use Rattle.bound_file.specs.Lines.{Line}
 use Rattle.bound_file.specs.Read.{line_of, lines_of}
 use Rattle.bound_file.specs.declared.declaration.DeclLine.{DeclLine}
+use Rattle.explain_verdicts.specs.Fractions.{ArePlaced}
+use Rattle.explain_verdicts.specs.Written.{IsFound}
 use Rattle.explain_verdicts.specs.declared.judged.Judged.{Judged}
 use Rattle.explain_budget.specs.Telling.{IsTold, AreTold, IsObject, AreObjects}
 use Rattle.explain_budget.specs.Written.{LineCanBeTold, LinesCanBeTold}
@@ -20,10 +22,10 @@ use Rattle.explain_budget.specs.Written.{LineCanBeTold, LinesCanBeTold}
 pub from_place : {A : Type 0} (xs : List A) (i : ℕ) (x : A) → x ≡ slice_index_or xs i x → i < length xs → drop i xs ≡ x ∷ drop (i + 1) xs
 from_place xs i x is below = drop_more xs i x below ∙ ap (λ first. first ∷ drop (i + 1) xs) (sym is)
 
-module _ {A B : Type 0} (f : A → B) where
-  pub from_mapped : (xs : List A) (i : ℕ) (x : A) → x ≡ slice_index_or xs i x → i < length xs → drop i (map f xs) ≡ f x ∷ drop (i + 1) (map f xs)
-  from_mapped xs i x is below = drop-map f i xs ∙ ap (map f) (from_place xs i x is below) ∙ ap (λ rest. f x ∷ rest) (sym (drop-map f (i + 1) xs))
+pub from_there : {A : Type 0} (xs : List A) (i : ℕ) (x : A) → slice_get xs i ≡ Some x → drop i xs ≡ x ∷ drop (i + 1) xs
+from_there xs i x there = from_place xs i x (sym (get_or_from_slice_get xs i x x there)) (slice_get_within xs i x there)
 
+module _ {A B : Type 0} (f : A → B) where
   pub at_mapped : (xs : List A) (i : ℕ) (x : A) → x ≡ slice_index_or xs i x → i < length xs → slice_get (map f xs) i ≡ Some (f x)
   at_mapped [] i x is below = absurd (omega (arith, below))
   at_mapped (y ∷ ys) zero x is below = ap (λ z. Some (f z)) (sym is)
@@ -43,6 +45,28 @@ module _ (P : Prog) (d : ℕ) where
   can_at (l ∷ lines) [] i line j h there is = absurd h
   can_at (l ∷ lines) (x ∷ all) zero line j h there is = subst (λ x. LineCanBeTold P line d x) (sym is) (subst (λ l. LineCanBeTold P l d x) (same_Some l line there) h.0)
   can_at (l ∷ lines) (x ∷ all) (suc i) line j h there is = can_at lines all i line j h.1 there is
+
+  -- what stands at a place
+  at_place : (all : List Judged) (i : ℕ) → i < length all → (j : Judged) × (j ≡ slice_index_or all i j)
+  at_place [] i low = absurd (omega (arith, low))
+  at_place (j ∷ all) zero low = (j, refl)
+  at_place (j ∷ all) (suc i) low = at_place all i (omega (arith, low))
+
+  module _ (lines : List Line) (all : List Judged) (i : ℕ) (line : Line) (h : LinesCanBeTold P d lines all) (there : slice_get lines i ≡ Some line) (low : i < length all) where
+    here : LineCanBeTold P line d (at_place all i low).0
+    here = can_at lines all i line (at_place all i low).0 h there (at_place all i low).1
+
+    pub fun_there : line.fun < length P
+    fun_there = slice_get_within P line.fun here.fun here.there
+
+    module _ (g : Function) (named : slice_get P line.fun ≡ Some g) where
+      pub placed_at : ArePlaced (types_of g) d line.bound
+      placed_at = subst (λ (g : Function). ArePlaced (types_of g) d line.bound) (same_Some here.fun g (sym here.there ∙ named)) here.placed
+
+      pub found_at : (j : Judged) → j ≡ slice_index_or all i j → IfSome j.found (IsFound (types_of g))
+      found_at j is =
+          let can = can_at lines all i line j h there is in
+          subst (λ (g : Function). IfSome j.found (IsFound (types_of g))) (same_Some can.fun g (sym can.there ∙ named)) can.found
 
   -- ---- in words
 
@@ -77,13 +101,3 @@ module _ (P : Prog) (d : ℕ) where
   all_written lines left all more part is same so_far =
       subst (AreObjects P d lines all) (append-nil part)
       (so_far [] (subst (λ left. AreObjects P d left more []) (sym is) (subst (λ more. AreObjects P d [] more []) (sym same) refl)))
-
--- the line that the code has at a place is the one there
-pub line_at : (lines : List DeclLine) (i : ℕ) (x : DeclLine) → x ≡ slice_index_or lines i x → i < length lines → slice_get (lines_of lines) i ≡ Some (line_of x)
-line_at lines i x is below = at_mapped line_of lines i x is below
-
--- the function that the code has at the place of one that is there
-pub function_at : (funs : List Fun) (f : ℕ) (x : Fun) (g : Function) → x ≡ slice_index_or funs f x → slice_get (map function_of funs) f ≡ Some g → function_of x ≡ g
-function_at [] f x g is there = absurd (cc there)
-function_at (y ∷ funs) zero x g is there = ap function_of is ∙ same_Some (function_of y) g there
-function_at (y ∷ funs) (suc f) x g is there = function_at funs f x g is there

@@ -2,8 +2,8 @@
 use Rattle.std.proofs.Common.{◌≡◌, ◌≤◌, ◌<◌, ◌⊎◌, inl, inr, ℕ, zero, suc, length, List, [], ◌∷◌, Some, IfSome, Option, None, refl, sym, subst, ◌∙◌, arith}
 use Rattle.std.specs.Prelude.{slice_get, Contains}
 use Rattle.std.specs.List.{All}
-use Rattle.std.proofs.lemmas.List.Elements.{All-head, All-tail}
-use Rattle.std.proofs.lemmas.Option.{same_Some}
+use Rattle.std.proofs.lemmas.List.Elements.{All-head, All-tail, All-get_or}
+use Rattle.std.proofs.lemmas.Option.{same_Some, slice_get_within, get_or_from_slice_get}
 use Rattle.raml_syntax.specs.Tree.{Text, Type', Function, Prog}
 use Rattle.raml_syntax.specs.Types.{types_of}
 use Rattle.base_poly.specs.Indices.{index_list}
@@ -35,8 +35,13 @@ placed As d ts cs bound below = by bound.places
     by (inl none) = inl (none_declared As d cs (subst (λ ts. IsBound As d ts cs) none bound))
     by (inr few) = inr (few.0, below)
 
-abbrev Within : Prog → ℕ → Line → Type 0
+abbrev pub Within : Prog → ℕ → Line → Type 0
 Within P d line = (fun : Function) × (slice_get P line.fun ≡ Some fun) × AreBelow (length (index_list (types_of fun) d)) line.bound
+
+-- a line at a place is within
+pub within_at : (P : Prog) (d : ℕ) (lines : List Line) (n : ℕ) (line : Line) → All (Within P d) lines → slice_get lines n ≡ Some line → Within P d line
+within_at P d lines n line within there =
+    subst (Within P d) (get_or_from_slice_get lines n line line there) (All-get_or (Within P d) lines n line (slice_get_within lines n line there) within)
 
 found_of : (P : Prog) (f : ℕ) (g : Function) (found : Option Poly) → slice_get P f ≡ Some g → IfSome found (IsFoundOf P f) → IfSome found (IsFound (types_of g))
 found_of P f g None there h = tt

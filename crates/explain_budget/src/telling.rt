@@ -1,19 +1,23 @@
 // What is told of declared bounds that are decided.
-ghost use Rattle.std.specs.Prelude.{◌≡◌, ◌≤◌, ◌++◌, List, length, slice_get, Some, IfOk, IfSome, OnOk, string_bytes};
+ghost use Rattle.std.specs.Prelude.{◌≡◌, ◌≤◌, ◌<◌, ◌++◌, List, length, slice_get, slice_index_or, Some, IfOk, IfSome, OnOk, string_bytes};
 ghost use Rattle.raml_syntax.specs.Tree.{Text};
-ghost use Rattle.raml_syntax.specs.Read.{program_of};
+ghost use Rattle.raml_syntax.specs.Read.{function_of, program_of};
+ghost use Rattle.raml_syntax.specs.Types.{types_of};
+ghost use Rattle.bound_file.specs.Read.{line_of, IsSound};
+ghost use Rattle.explain_verdicts.specs.Fractions.{ArePlaced};
+ghost use Rattle.explain_verdicts.specs.Written.{IsFound};
 ghost use Rattle.explain_at.specs.Read.{texts};
 ghost use Rattle.explain_budget.specs.Telling.{all_kept, AreObjects, AreTold, TellsJudged};
 ghost use Rattle.explain_budget.specs.Written.{CanBeTold, end_of};
 
 use crate::asked::Asked;
 use crate::end::BudgetEnd;
-use bound_file::Declared;
+use bound_file::{DeclLine, Declared};
 use explain_calls::push_shown;
 use explain_json::push_line;
 use explain_verdicts::{Judged, Verdict, verdict_line, write_verdict};
 use json::Writer;
-use raml_syntax::Program;
+use raml_syntax::{Fun, Program};
 use std::alloc::{AllocError, Global};
 
 /// Appends what is told of lines that are decided: in words, broken at the width where there is one, or as JSON.
@@ -52,8 +56,7 @@ fn lines(
     let degree = declared.degree();
     let mut lines = Vec::with_capacity(alloc, judged.len())?;
     for place in 0..judged.len() {
-        let line = &declared.lines()[place];
-        let fun = &program.funs[line.fun.0 as usize];
+        let (line, fun) = line_at(program, declared, judged, place);
         lines.push(verdict_line(alloc, program, fun, degree, line, &judged[place])?)?;
     }
     Ok(lines)
@@ -74,8 +77,7 @@ fn push_objects(
 {
     let degree = declared.degree();
     for place in 0..judged.len() {
-        let line = &declared.lines()[place];
-        let fun = &program.funs[line.fun.0 as usize];
+        let (line, fun) = line_at(program, declared, judged, place);
         let mut writer = Writer::new(Vec::new(alloc));
         write_verdict(
             alloc,
@@ -89,6 +91,26 @@ fn push_objects(
         push_line(text, writer)?;
     }
     Ok(())
+}
+
+// The line at a place, and its function.
+fn line_at<'p, 'd>(
+    program: &'p Program,
+    declared: &'d Declared,
+    judged: &[Judged],
+    place: usize,
+) -> (&'d DeclLine, &'p Fun)
+    requires can { CanBeTold (program_of program.now) declared.now judged.now }
+    requires below { place < length judged.now }
+    ensures line { slice_get declared.now.lines place ≡ Some (line_of result.0.now) }
+    ensures sound { IsSound result.0.now }
+    ensures fun { slice_get (program_of program.now) result.0.now.fun.0 ≡ Some (function_of result.1.now) }
+    ensures placed { ArePlaced (types_of (function_of result.1.now)) declared.now.degree (line_of result.0.now).bound }
+    ensures found { (one : Judged) → one ≡ slice_index_or judged.now place one →
+        IfSome one.found (IsFound (types_of (function_of result.1.now))) }
+{
+    let line = &declared.lines()[place];
+    (line, &program.funs[line.fun.0 as usize])
 }
 
 /// How a call ends of which these lines are told.
