@@ -1,5 +1,5 @@
-use Rattle.std.proofs.Common.{◌≡◌, ◌++◌, ◌∷◌, ◌+◌, [], drop, sym, ap, subst, arith, string_bytes}
-use Rattle.std.proofs.lemmas.List.{drop_all}
+use Rattle.std.proofs.Common.{◌≡◌, ◌++◌, ◌∷◌, ◌+◌, ◌∙◌, [], drop, sym, ap, subst, arith, string_bytes}
+use Rattle.std.proofs.lemmas.List.{drop_all, map-append}
 use Rattle.raml_syntax.specs.Read.{function_of, program_of}
 use Rattle.bound_file.specs.Read.{line_of}
 use Rattle.explain_at.specs.Read.{texts}
@@ -15,7 +15,7 @@ loop-place-preserved c =
     let i = c.loop-place.place in
     let line = line_of c.line_at.result.0.now in
     let told : IsTold P D.degree line c.index-judged-place.result (string_bytes c.in_ok-verdict_line.field-0) = record { fun = function_of c.line_at.result.1.now; there = c.line_at.ensures.fun; is = rw c.degree-degree.ensures at c.in_ok-verdict_line.ensures } in
-    subst (ToldSoFar P D.degree D.lines all (drop (i + 1) D.lines) (drop (i + 1) all)) (sym (ap texts c.in_ok-push.ensures.items))
+    subst (ToldSoFar P D.degree D.lines all (drop (i + 1) D.lines) (drop (i + 1) all)) (sym (ap texts c.in_ok-push.ensures.items ∙ map-append string_bytes c.loop-place.lines.items (c.in_ok-verdict_line.field-0 ∷ [])))
     (one_told P D.degree D.lines (drop i D.lines) (drop (i + 1) D.lines) all (drop i all) (drop (i + 1) all) line c.index-judged-place.result (texts c.loop-place.lines.items)
     (string_bytes c.in_ok-verdict_line.field-0) (from_there D.lines i line c.line_at.ensures.line) (from_place all i c.index-judged-place.result c.index-judged-place.is c.loop-place-test.true) told c.loop-place.invariant)
 

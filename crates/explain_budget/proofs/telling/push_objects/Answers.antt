@@ -1,6 +1,7 @@
-use Rattle.std.proofs.Common.{◌≡◌, ◌++◌, ◌∷◌, [], ◌∙◌, ◌+◌, drop, sym, ap, subst, arith, refl, string_bytes}
+use Rattle.std.proofs.Common.{◌≡◌, ℕ, List, ◌++◌, ◌∷◌, [], ◌∙◌, ◌+◌, drop, sym, ap, subst, arith, refl, string_bytes}
 use Rattle.std.proofs.lemmas.List.{append_assoc, drop_all}
 use Rattle.json.specs.Print.{print}
+use Rattle.json.specs.Token.{Token}
 use Rattle.json.specs.Tree.{json_tokens}
 use Rattle.raml_syntax.specs.Read.{function_of, program_of}
 use Rattle.bound_file.specs.Read.{line_of}
@@ -20,12 +21,17 @@ loop-place-preserved c =
     let one = c.index-judged-place.result in
     let g = function_of c.line_at.result.1.now in
     let before = c.loop-place.invariant in
-    let text = print (json_tokens (verdict_json P g D.degree line one.verdict (found_of one))) ++ 10 ∷ [] in
+    let at : ℕ → List Token = λ d. json_tokens (verdict_json P g d line one.verdict (found_of one)) in
+    let tokens = at D.degree in
+    let text = print tokens ++ 10 ∷ [] in
+    let degreed = subst (λ d. c.write_verdict.new.writer.tokens ≡ c.new-writer.result.tokens ++ at d) c.degree-degree.ensures c.in_ok-write_verdict.ensures.written in
+    let written : c.write_verdict.new.writer.tokens ≡ tokens = degreed ∙ ap (λ before. before ++ tokens) c.new-writer.ensures.tokens in
     let told : IsObject P D.degree line one text = record { fun = g; there = c.line_at.ensures.fun; is = refl } in (
       before.0 ++ text,
       one_written P D.degree D.lines (drop i D.lines) (drop (i + 1) D.lines) all (drop i all) (drop (i + 1) all) line one before.0 text
           (from_there D.lines i line c.line_at.ensures.line) (from_place all i one c.index-judged-place.is c.loop-place-test.true) told before.1,
-      ?,
+      c.in_ok-push_line.ensures ∙ ap (λ tokens. string_bytes c.loop-place.text ++ (print tokens ++ 10 ∷ [])) written ∙ ap (λ old. old ++ text) before.2
+          ∙ append_assoc (string_bytes c.args.text.now) before.0 text,
     )
 
 pub returns : goal.returns
