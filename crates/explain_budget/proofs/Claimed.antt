@@ -1,5 +1,5 @@
 -- Meters that a certificate counts.
-use Rattle.std.proofs.Common.{◌≡◌, Bool, true, ℕ, refl, subst, sym, arith}
+use Rattle.std.proofs.Common.{◌≡◌, Bool, true, refl, subst, sym, arith}
 use Rattle.std.specs.List.{Contains}
 use Rattle.cost_free.specs.Schedule.{meters}
 use Rattle.cost_free.specs.declared.task.Meter.{Meter}

@@ -1,5 +1,5 @@
 -- Lines one after the other: what is decided of them, and the first that is not decided.
-use Rattle.std.proofs.Common.{◌≡◌, ◌<◌, ◌≤◌, ◌⊎◌, ◌++◌, ℕ, ℤ, zero, suc, length, List, [], ◌∷◌, Option, Some, None, get_or, take, refl, sym, ap, subst, ◌∙◌, inl, inr, ⊎_elim, arith}
+use Rattle.std.proofs.Common.{◌≡◌, ◌<◌, ◌≤◌, ◌⊎◌, ◌++◌, ℕ, ℤ, zero, suc, length, List, [], ◌∷◌, Option, Some, None, get_or, take, refl, sym, ap, subst, ◌∙◌, ⊎_elim, arith}
 use Rattle.std.specs.Prelude.{slice_get, Result, Ok, Err, IfErr}
 use Rattle.std.specs.Result.{IsErrAnd}
 use Rattle.std.proofs.Math.Seq.{take-suc}
@@ -33,7 +33,7 @@ use Rattle.contract_report.specs.declared.fault.VerdictsFault.{VerdictsFault}
 use Rattle.contract_report.specs.Steps.{verdict_of, fault_at, CanBeAsked, ClearBelow}
 use Rattle.explain_verdicts.specs.declared.judged.Judged.{Judged}
 use Rattle.explain_budget.specs.Judging.{IsJudged, AreJudged}
-use Rattle.explain_budget.specs.Steps.{IsJudgedLine, JudgedBelow, JudgedAt}
+use Rattle.explain_budget.specs.Steps.{JudgedBelow, JudgedAt}
 
 take_next : (lines : List Line) (n : ℕ) (line : Line) → slice_get lines n ≡ Some line → take (suc n) lines ≡ take n lines ++ (line ∷ [])
 take_next lines n line there =

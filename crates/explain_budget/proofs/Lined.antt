@@ -1,17 +1,11 @@
 -- What is told of lines, one after the other.
 use Rattle.std.proofs.Common.{◌≡◌, ◌<◌, ◌+◌, ◌++◌, ℕ, zero, suc, length, map, drop, List, [], ◌∷◌, Some, IfSome, refl, sym, ap, subst, ◌∙◌, arith}
-use Rattle.std.specs.Prelude.{slice_get, slice_index_or, codes}
-use Rattle.std.specs.List.{All}
+use Rattle.std.specs.Prelude.{slice_get, slice_index_or}
 use Rattle.std.proofs.lemmas.List.{append-nil, append_assoc, drop_more}
-use Rattle.std.proofs.lemmas.List.Elements.{All-head, All-tail}
 use Rattle.std.proofs.lemmas.Option.{slice_get_within, get_or_from_slice_get, same_Some}
 use Rattle.raml_syntax.specs.Tree.{Text, Function, Prog}
 use Rattle.raml_syntax.specs.Types.{types_of}
-use Rattle.raml_syntax.specs.Read.{function_of}
-use Rattle.raml_syntax.specs.declared.program.Fun.{Fun}
 use Rattle.bound_file.specs.Lines.{Line}
-use Rattle.bound_file.specs.Read.{line_of, lines_of}
-use Rattle.bound_file.specs.declared.declaration.DeclLine.{DeclLine}
 use Rattle.explain_verdicts.specs.Fractions.{ArePlaced}
 use Rattle.explain_verdicts.specs.Written.{IsFound}
 use Rattle.explain_verdicts.specs.declared.judged.Judged.{Judged}

@@ -1,5 +1,5 @@
 -- What a call of `explain budget` tells.
-use Rattle.std.specs.Prelude.{◌≡◌, ◌≤◌, ◌⊎◌, ℕ, Bool, Option, Some, None, List, [], length}
+use Rattle.std.specs.Prelude.{◌≡◌, ◌≤◌, ◌⊎◌, ℕ, Bool, Option, Some, None, [], length}
 use Rattle.raml_syntax.specs.Tree.{Text, Prog}
 use Rattle.call_groups.specs.Groups.{Grouping, IsGrouping}
 use Rattle.rules_soundness_laws.specs.Laws.{normal_of}

@@ -5,7 +5,7 @@ use Rattle.raml_syntax.specs.Tree.{Text, Prog}
 use Rattle.annot_types.specs.Program.{Program}
 use Rattle.annot_types.specs.Certificate.{Certificate}
 use Rattle.simplex_checked.specs.Rules.{least_pick}
-use Rattle.bound_file.specs.Lines.{Line, Declaration}
+use Rattle.bound_file.specs.Lines.{Declaration}
 use Rattle.bound_file.specs.Answers.{Spells}
 use Rattle.bound_infer.specs.Inferred.{IsInferred}
 use Rattle.bound_infer.specs.declared.refusal.InferFault.{InferFault}

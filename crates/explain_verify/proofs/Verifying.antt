@@ -1,5 +1,5 @@
 -- What is told of a certificate.
-use Rattle.std.proofs.Common.{◌≡◌, ◌≢◌, ◌⊎◌, ℕ, [], ◌++◌, map, Result, Ok, Err, IfOk, refl, sym, ap, subst, ◌∙◌, inl, inr}
+use Rattle.std.proofs.Common.{◌≡◌, ◌⊎◌, [], ◌++◌, Result, Ok, Err, IfOk, refl, sym, subst, ◌∙◌, inl, inr}
 use Rattle.std.proofs.lemmas.List.{append-nil}
 use Rattle.raml_syntax.specs.Tree.{Text, Prog}
 use Rattle.call_groups.specs.Groups.{IsGrouping}

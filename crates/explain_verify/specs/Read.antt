@@ -1,5 +1,5 @@
 -- What the code keeps, as plain data.
-use Rattle.std.specs.Prelude.{◌≡◌, ℕ, List, map, Option, option_map}
+use Rattle.std.specs.Prelude.{◌≡◌, map}
 use Rattle.cost_free.specs.Read.{task_of, outcomes_of}
 use Rattle.share_normal.specs.Program.{source_in}
 use Rattle.annot_types.specs.Certificate.{Certificate, outcome, has_work}

@@ -1,5 +1,5 @@
 -- What is told of a certificate that does not hold: the function, what is counted, and where it stands in the source.
-use Rattle.std.specs.Prelude.{◌≡◌, ◌⊎◌, ◌≤◌, ℕ, Bool, List, [], ◌∷◌, ◌++◌, take, map, slice_get, Option, Some, None, option_map, codes}
+use Rattle.std.specs.Prelude.{◌≡◌, ◌⊎◌, ◌≤◌, ℕ, Bool, List, [], ◌∷◌, ◌++◌, take, slice_get, Option, Some, None, option_map, codes}
 use Rattle.raml_syntax.specs.Tree.{Text, Term, Function, Prog}
 use Rattle.simple_types.specs.Walk.{place}
 use Rattle.cost_free.specs.Task.{Task, Outcome, Kind, Free, With}

@@ -1,5 +1,5 @@
 -- What is told of a verification, and how it ends.
-use Rattle.std.specs.Prelude.{◌≡◌, ◌≢◌, ◌≤◌, ◌⊎◌, ℕ, nat_eq, cond, List, [], ◌∷◌, ◌++◌, length, map, codes, decimal}
+use Rattle.std.specs.Prelude.{◌≡◌, ◌≢◌, ◌⊎◌, ℕ, nat_eq, cond, [], ◌++◌, length, map, codes, decimal}
 use Rattle.raml_syntax.specs.Tree.{Text, Prog}
 use Rattle.call_groups.specs.Groups.{Grouping, IsGrouping}
 use Rattle.rules_soundness_laws.specs.Laws.{normal_of}

@@ -1,10 +1,9 @@
-use Rattle.std.proofs.Common.{◌≡◌, ◌≤◌, ◌<◌, ◌+◌, suc, length, sym, subst, ap, ◌∙◌, arith}
+use Rattle.std.proofs.Common.{◌≡◌, ◌+◌, suc, length, sym, subst, ap, ◌∙◌, arith}
 use Rattle.std.proofs.lemmas.List.{length-map}
-use Rattle.cert_check.specs.Checked.{Checking}
 use Rattle.bound_file.specs.Read.{line_of}
 use Rattle.contract_report.specs.Steps.{ClearBelow}
 use Rattle.explain_budget.specs.Steps.{JudgedBelow}
-use Rattle.explain_budget.proofs.Decided.{judged_next, all_judged, fault_on}
+use Rattle.explain_budget.proofs.Decided.{judged_next, all_judged}
 use Rattle.explain_budget.proofs.judging.each_line.Goals as goal
 
 pub loop-number-init : goal.loop-number-init

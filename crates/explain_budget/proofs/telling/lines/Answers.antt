@@ -1,4 +1,4 @@
-use Rattle.std.proofs.Common.{◌≡◌, ◌++◌, ◌∷◌, ◌+◌, ◌∙◌, [], drop, sym, ap, subst, arith, string_bytes}
+use Rattle.std.proofs.Common.{◌∷◌, ◌+◌, ◌∙◌, [], drop, sym, ap, subst, arith, string_bytes}
 use Rattle.std.proofs.lemmas.List.{drop_all, map-append}
 use Rattle.raml_syntax.specs.Read.{function_of, program_of}
 use Rattle.bound_file.specs.Read.{line_of}

@@ -1,4 +1,4 @@
-use Rattle.std.proofs.Common.{◌≡◌, ℕ, List, ◌++◌, ◌∷◌, [], ◌∙◌, ◌+◌, drop, sym, ap, subst, arith, refl, string_bytes}
+use Rattle.std.proofs.Common.{◌≡◌, ℕ, List, ◌++◌, ◌∷◌, [], ◌∙◌, ◌+◌, drop, ap, subst, arith, refl, string_bytes}
 use Rattle.std.proofs.lemmas.List.{append_assoc, drop_all}
 use Rattle.json.specs.Print.{print}
 use Rattle.json.specs.Token.{Token}

@@ -1,5 +1,4 @@
 use Rattle.std.proofs.Common.{[], ◌∙◌, ap, slice_get}
-use Rattle.raml_syntax.specs.Read.{program_of}
 use Rattle.annot_types.specs.Program.{members}
 use Rattle.rules_spec.specs.Jobs.{body_of}
 use Rattle.rules_spec.specs.Plan.{Plan}
