@@ -1,1 +1,2 @@
 mod Shelves
+mod Telling

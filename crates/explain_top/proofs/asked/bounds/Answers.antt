@@ -1,12 +1,14 @@
-use Rattle.std.proofs.Common.{◌≡◌, ◌++◌, ◌∙◌, ap, inr, string_bytes}
+use Rattle.std.proofs.Common.{string_bytes}
+use Rattle.explain_check.specs.Stores.{store_of}
+use Rattle.explain_calls.specs.Calls.{CallIs}
+use Rattle.explain_top.specs.Answers.{status_at, width_or}
+use Rattle.explain_top.proofs.Telling.{tells}
 use Rattle.explain_top.proofs.asked.bounds.Goals as goal
 
 pub returns-in-Ok-clause-told : goal.returns-in-Ok-clause-told
 returns-in-Ok-clause-told g c =
+    let store = store_of (g.S.Store.holds c.args.store.now) (g.S.Store.faults c.args.store.now) (g.S.Store.faults c.tell_bounds.new.store) in
     let told = c.in-Ok.ensures.told in
-    let text : string_bytes c.tell_bounds.new.text ≡ told.0 = told.3 ∙ ap (λ old. old ++ told.0) c.new-text.ensures.bytes in
-    let report : string_bytes c.tell_bounds.new.report ≡ told.1 = told.4 ∙ ap (λ old. old ++ told.1) c.new-report.ensures.bytes in
-    let call = rw c.width_or-width.ensures at told.2 in
-    let puts = rw (c.deref-in-Ok.ensures, text, c.from.ensures) at c.put_text.ensures in
-    let writes = rw (c.deref.ensures, report) at c.write_report.ensures in
-    inr (c.in-Ok.end, told.0, told.1, call, puts, writes)
+    tells (CallIs store c.args.words.now (width_or c.args.words.now.width c.args.columns)) status_at _ _ c.in-Ok.end c.from.result c.put_text.result c.deref-in-Ok.result.now (string_bytes c.tell_bounds.new.text) (string_bytes c.new-text.result) told.0
+    c.deref.result.now (string_bytes c.tell_bounds.new.report) (string_bytes c.new-report.result) told.1 (rw c.width_or-width.ensures at told.2) c.from.ensures
+    c.deref-in-Ok.ensures told.3 c.new-text.ensures.bytes c.deref.ensures told.4 c.new-report.ensures.bytes c.put_text.ensures c.write_report.ensures

@@ -1,0 +1,14 @@
+use Rattle.std.proofs.Common.{string_bytes}
+use Rattle.explain_check.specs.Stores.{store_of}
+use Rattle.explain_budget.specs.Calls.{CallIs, words_of}
+use Rattle.explain_top.specs.Answers.{status_of_budget}
+use Rattle.explain_top.proofs.Telling.{tells}
+use Rattle.explain_top.proofs.asked.budget.Goals as goal
+
+pub returns-in-Ok-clause-told : goal.returns-in-Ok-clause-told
+returns-in-Ok-clause-told g c =
+    let store = store_of (g.S.Store.holds c.args.store.now) (g.S.Store.faults c.args.store.now) (g.S.Store.faults c.tell_budget.new.store) in
+    let told = c.in-Ok.ensures.told in
+    tells (CallIs store (words_of c.args.file.now c.args.bounds.now c.args.degree c.args.columns c.args.json)) status_of_budget _ _ c.in-Ok.end c.from.result c.put_text.result c.deref-in-Ok.result.now (string_bytes c.tell_budget.new.text) (string_bytes c.new-text.result) told.0
+    c.deref.result.now (string_bytes c.tell_budget.new.report) (string_bytes c.new-report.result) told.1 told.2 c.from.ensures
+    c.deref-in-Ok.ensures told.3 c.new-text.ensures.bytes c.deref.ensures told.4 c.new-report.ensures.bytes c.put_text.ensures c.write_report.ensures
