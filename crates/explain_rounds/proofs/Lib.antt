@@ -1,0 +1,4 @@
+mod Computed
+mod Copies
+pub mod CountsRounds
+pub mod Kept
