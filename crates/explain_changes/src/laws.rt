@@ -3,11 +3,13 @@ ghost use Rattle.explain_changes.specs.Example.{Examples};
 ghost use Rattle.explain_changes.specs.Laws.{RebuildingKeeps, WrittenKeeps};
 
 /// Where values are built again from their parts, runs give the same at the same ticks.
+#[tactic(auto, using(crate::proofs::Keep::rebuilding_keeps))]
 pub fn rebuilding_keeps()
     ensures { RebuildingKeeps }
 {}
 
 /// So do those of a program that is found to be the changed one.
+#[tactic(auto, using(crate::proofs::Keep::written_keeps))]
 pub fn written_keeps()
     ensures { WrittenKeeps }
 {}

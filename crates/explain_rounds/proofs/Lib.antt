@@ -1,4 +1,0 @@
-mod Computed
-mod Copies
-pub mod CountsRounds
-pub mod Kept

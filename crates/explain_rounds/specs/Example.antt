@@ -4,11 +4,8 @@ use Rattle.raml_syntax.specs.declared.tree.ArithOp.TheVariants.{Add, Sub}
 use Rattle.raml_syntax.specs.declared.tree.CompareOp.TheVariants.{Equal}
 use Rattle.raml_syntax.specs.Tree as t
 use Rattle.raml_syntax.specs.Tree.{Text, Type', Integer, PairOf, ListOf, Bound, Parameter, Function, Prog}
-use Rattle.raml_syntax.specs.Value.{Empty, Cons}
-use Rattle.raml_syntax.specs.Eval.{run_of}
 use Rattle.explain_rounds.specs.Calls.{Smaller, Computed, Stuck, group_calls}
 use Rattle.explain_rounds.specs.Twice.{calls_with_same_part}
-use Rattle.explain_rounds.specs.Count.{counting, count_program}
 
 -- names
 abbrev x : Text
@@ -68,17 +65,14 @@ taken subject empty rest = t.MatchList 0 subject empty (bound h) (bound r) rest
 abbrev repeated : t.Term
 repeated = t.Cons 0 (var x) (call_two 76 r (var x) (t.Arith 0 Sub (var n) (num 1)))
 
-abbrev tested : t.Term → t.Term
-tested e = t.If 0 (t.Compare 0 Equal (var n) (num 0)) (t.Nil 0) e
-
-abbrev repeat_with : t.Term → Function
-repeat_with e = record { at = 0; name = r; params = param x Integer ∷ param n Integer ∷ []; result = integers; body = e }
-
 abbrev repeat : Function
-repeat = repeat_with (t.Tick 0 3 (tested repeated))
-
-abbrev counted_repeat : Function
-counted_repeat = repeat_with (t.Tick 0 1 (tested repeated))
+repeat = record {
+  at = 0;
+  name = r;
+  params = param x Integer ∷ param n Integer ∷ [];
+  result = integers;
+  body = t.Tick 0 3 (t.If 0 (t.Compare 0 Equal (var n) (num 0)) (t.Nil 0) repeated);
+}
 
 -- fun l (x : int list) : int = match x with nil -> 0 | h :: r -> 1 + l(r)
 abbrev length_of : Function
@@ -165,16 +159,6 @@ on_tail both = record {
   body = t.MatchList 0 (var x) (num 1) (bound h) (record { at = 58; name = r }) (both (call 63 f (var r)) (call 70 f (var r)));
 } ∷ []
 
--- fun l (x : int list) : int list = tick 5 in match x with nil -> nil | h :: r -> l(r)
-abbrev to_end : Function
-to_end = record {
-  at = 0;
-  name = l;
-  params = param x integers ∷ [];
-  result = integers;
-  body = t.Tick 0 5 (taken (var x) (t.Nil 0) (call 80 l (var r)));
-}
-
 pub record Examples : Type 0 where
   pub a_number_has_no_size : group_calls (repeat ∷ []) (0 ∷ []) 0 ≡ record { at = 76; callee = 0; kind = Stuck } ∷ []
   pub a_tail_is_a_part : group_calls (length_of ∷ []) (0 ∷ []) 0 ≡ record { at = 67; callee = 0; kind = Smaller } ∷ []
@@ -198,7 +182,3 @@ pub record Examples : Type 0 where
   -- but a condition is evaluated before each of them
   pub in_condition : calls_with_same_part (on_tail (λ d e. t.If 0 d e (num 0))) (0 ∷ []) 0
       ≡ record { first = 63; second = 70; part = 58 } ∷ []
-  pub one_tick_a_round : count_program (0 ∷ []) (repeat ∷ []) ≡ counted_repeat ∷ []
-  pub none_where_not_counted : count_program [] (repeat ∷ []) ≡ repeat_with (tested repeated) ∷ []
-  -- the end of a list of two elements is there in the third round
-  pub three_rounds : (run_of (count_program (0 ∷ []) (to_end ∷ [])) (counting true to_end) (Cons Empty (Cons Empty Empty) ∷ []) 2).ticks ≡ 3

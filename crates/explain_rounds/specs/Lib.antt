@@ -1,9 +1,6 @@
 pub mod Calls
 pub mod Classes
-pub mod Count
 pub mod Example
 pub mod Found
-pub mod Laws
 pub mod Read
-pub mod Rounds
 pub mod Twice

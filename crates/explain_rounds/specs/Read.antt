@@ -1,15 +1,13 @@
--- What the code's scopes, calls and copies are as plain data.
+-- What the code's scopes and calls are as plain data.
 use Rattle.std.specs.Prelude.{ℕ, List, [], ◌∷◌, map, Option}
 use Rattle.std.specs.Borrow.{Bor}
 use Rattle.std.specs.Option.{option_map}
-use Rattle.std.specs.Global.{Box}
 use Rattle.raml_syntax.specs.Tree as t
 use Rattle.raml_syntax.specs.Tree.{Type', Bound, Parameter, Function, Prog}
-use Rattle.raml_syntax.specs.Read.{bound_of, parameter_of, function_of, program_of, term_of}
+use Rattle.raml_syntax.specs.Read.{bound_of, parameter_of, function_of, program_of}
 use Rattle.raml_syntax.specs.declared.program.Param.{Param}
 use Rattle.raml_syntax.specs.declared.program.Fun.{Fun}
 use Rattle.raml_syntax.specs.declared.tree.Binder.{Binder}
-use Rattle.raml_syntax.specs.declared.tree.Expr.{Expr}
 use Rattle.call_groups.specs.Read.{ids_of}
 use Rattle.explain_rounds.specs.Classes.{Class, Variables, bind, bind_parameters}
 use Rattle.explain_rounds.specs.Calls.{Call, call_of, calls_in, calls_in_all}
@@ -65,7 +63,3 @@ calls_below env c xs = calls_in (program_in env) (ids_of env.group.now) (bind c 
 
 abbrev pub body_calls_by : Env → List Parameter → t.Term → List Call
 body_calls_by env params = calls_in (program_in env) (ids_of env.group.now) (bind_parameters params (variables_at env))
-
--- the expression in a box
-abbrev pub term_in : Box Expr → t.Term
-term_in e = term_of e.value

@@ -151,12 +151,9 @@ fn find_below<'s, 'a>(
                 class,
                 outer: env.scope,
             };
-            let functions = env.functions;
-            let group = env.group;
             let inner = Env {
-                functions,
-                group,
                 scope: &scope,
+                ..env
             };
             find_below(found, inner, class, rest, e)
         }
@@ -222,12 +219,9 @@ fn find_body<'s, 'a>(
                 class: class_of_type(&param.ty),
                 outer: env.scope,
             };
-            let functions = env.functions;
-            let group = env.group;
             let inner = Env {
-                functions,
-                group,
                 scope: &scope,
+                ..env
             };
             find_body(found, inner, rest, body)
         }

@@ -217,12 +217,9 @@ fn find_below<'s, 'a>(
                 class,
                 outer: env.scope,
             };
-            let functions = env.functions;
-            let group = env.group;
             let inner = Env {
-                functions,
-                group,
                 scope: &scope,
+                ..env
             };
             find_below(alloc, inner, class, rest, e)
         }
@@ -306,12 +303,9 @@ fn find_body<'s, 'a>(
                 class: class_of_type(&param.ty),
                 outer: env.scope,
             };
-            let functions = env.functions;
-            let group = env.group;
             let inner = Env {
-                functions,
-                group,
                 scope: &scope,
+                ..env
             };
             find_body(alloc, inner, rest, body)
         }

@@ -1,5 +1,0 @@
-use Rattle.explain_rounds.proofs.Kept.{keeps_programs}
-use Rattle.explain_rounds.proofs.laws.count_programs_keep_programs.Goals as goal
-
-pub returns : goal.returns
-returns c = keeps_programs

@@ -1,5 +1,0 @@
-use Rattle.explain_rounds.proofs.Computed.{examples_hold}
-use Rattle.explain_rounds.proofs.laws.small_examples.Goals as goal
-
-pub returns : goal.returns
-returns c = examples_hold
