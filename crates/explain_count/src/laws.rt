@@ -11,7 +11,6 @@ pub fn count_programs_count_rounds()
 
 /// It is typed and within the limits where the program is, and has at most one node more for each
 /// function.
-#[tactic(auto, using(crate::proofs::Kept::keeps_programs))]
 pub fn count_programs_keep_programs()
     ensures { CountProgramsKeepPrograms }
 {}
