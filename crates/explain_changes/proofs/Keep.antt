@@ -1,24 +1,18 @@
 -- Rebuilding keeps values and ticks.
 use Rattle.std.proofs.Common.{◌≡◌, ◌∙◌, ℕ, zero, suc, List, [], ◌∷◌, map, Bool, true, false, cond, Option, Some, None, refl, sym, ap, subst, arith}
-use Rattle.std.proofs.lemmas.List.Elements.{All-head, All-tail}
 use Rattle.std.proofs.lemmas.Option.{same_Some}
-use Rattle.std.specs.List.{All}
 use Rattle.std.specs.Option.{option_map}
-use Rattle.std.specs.Prelude.{slice_get}
 use Rattle.std.specs.Str.{bytes_eq}
 use Rattle.raml_syntax.specs.Tree as t
 use Rattle.raml_syntax.specs.Tree.{Text, Function, Prog}
-use Rattle.raml_syntax.specs.Value.{Value, Both, Empty, Cons, Node, Just, HaveTypes}
-use Rattle.raml_syntax.specs.Eval.{Run, done, cut, and_then, node, Env, look, Calls, walk, walk_all, find, names_of, bind_all, enter, calls_at, run_of}
-use Rattle.raml_syntax.specs.Types.{types_of, Typed}
-use Rattle.raml_syntax.specs.Node.{AllNodes, NumberFits}
-use Rattle.raml_syntax.specs.Default.{Each, Asked, NoDefault, NoDefaults, Enters, CallMeetsNone}
+use Rattle.raml_syntax.specs.Value.{Value}
+use Rattle.raml_syntax.specs.Eval.{done, cut, node, Env, look, Calls, walk, walk_all, find, enter, calls_at, run_of}
+use Rattle.raml_syntax.specs.Default.{Asked, NoDefault, NoDefaults, Enters, CallMeetsNone}
 use Rattle.raml_syntax.proofs.Keep.{typed_runs_keep}
 use Rattle.explain_changes.specs.Built as m
 use Rattle.explain_changes.specs.Built.{Built, expression}
-use Rattle.explain_changes.specs.Scope.{Scope, Bound, variable, built_at, kind, in_function}
+use Rattle.explain_changes.specs.Scope.{Scope, variable, built_at, kind}
 use Rattle.explain_changes.specs.Sites.{is_chosen, rebuilt, unless, changed, changed_all, changed_function, changed_program}
-use Rattle.explain_changes.specs.Same.{SameProgram, SameFunction}
 use Rattle.explain_changes.specs.Laws.{RunsRebuilt, RebuildingKeeps, IsRebuilt, WrittenKeeps}
 use Rattle.explain_changes.proofs.SameRuns.{SameFound, types_same, find_same, run_same}
 use Rattle.explain_changes.proofs.Rebuilt.{rebuilt_same, rebuilt_costs, rebuilt_node, rebuilt_then, rebuilt_two, rebuilt_branch, rebuilt_pair, rebuilt_list, rebuilt_tree, rebuilt_option}

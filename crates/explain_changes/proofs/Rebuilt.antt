@@ -1,5 +1,5 @@
 -- Runs of which the second makes values again: how they are put together.
-use Rattle.std.proofs.Common.{◌≡◌, ◌≤◌, ℕ, true, false, Option, Some, None, refl, sym, subst, arith}
+use Rattle.std.proofs.Common.{◌≡◌, ℕ, true, false, Option, Some, None, refl, sym, subst, arith}
 use Rattle.raml_syntax.specs.Value.{Value, Truth, Both, Empty, Cons, Node, Just}
 use Rattle.raml_syntax.specs.Eval.{Run, cut, costs, goes_on, and_then, branch, pair_case, list_case, tree_case, option_case}
 use Rattle.raml_syntax.specs.Default.{Taken, TakenPair, TakenList, TakenTree, TakenOption}

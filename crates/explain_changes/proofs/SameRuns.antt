@@ -1,12 +1,11 @@
 -- Programs that are equal, their places aside, run alike.
-use Rattle.std.proofs.Common.{◌≡◌, ◌∙◌, ℕ, zero, suc, List, [], ◌∷◌, map, Bool, true, false, cond, Option, Some, None, refl, ap, subst}
+use Rattle.std.proofs.Common.{◌≡◌, ℕ, zero, suc, List, [], ◌∷◌, map, Bool, true, false, cond, Option, Some, None, refl, ap, subst}
 use Rattle.std.specs.Str.{bytes_eq}
 use Rattle.raml_syntax.specs.Tree as t
 use Rattle.raml_syntax.specs.Tree.{Text, Parameter, Function, Prog}
 use Rattle.raml_syntax.specs.Value as v
 use Rattle.raml_syntax.specs.Value.{Value, Both, Cons, Node, Just}
-use Rattle.raml_syntax.specs.Eval.{Run, done, cut, costs, and_then, node, new_cell, arith, compare, negation, branch, pair_case, list_case, tree_case, option_case, Env, look, Calls, walk, walk_all, find, names_of, bind_all, enter, calls_at}
-use Rattle.raml_syntax.specs.Types.{types_of}
+use Rattle.raml_syntax.specs.Eval.{done, cut, costs, and_then, node, new_cell, arith, compare, negation, branch, pair_case, list_case, tree_case, option_case, Env, look, Calls, walk, walk_all, find, names_of, bind_all, enter, calls_at}
 use Rattle.explain_changes.specs.Same.{Same, SameAll, SameParameters, SameFunction, SameProgram}
 
 module _ (c d : Calls) (calls : (f : Text) (vs : List Value) → c f vs ≡ d f vs) where

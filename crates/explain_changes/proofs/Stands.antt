@@ -9,7 +9,7 @@ use Rattle.raml_syntax.specs.Value as v
 use Rattle.raml_syntax.specs.Value.{Value}
 use Rattle.raml_syntax.specs.Eval.{Env, look, bind_all}
 use Rattle.explain_changes.specs.Built.{Built, Nil, Leaf, Nothing, Pair, Cons, Node, Just, parts}
-use Rattle.explain_changes.specs.Scope.{Scope, Bound, Apart, is_among, differ, without, built_at, kind, first, second, element, is_known_sized, variable, apart, in_pair, in_empty, in_list, in_tree, in_option, in_function}
+use Rattle.explain_changes.specs.Scope.{Scope, Bound, Apart, is_among, differ, without, built_at, kind, first, second, is_known_sized, variable, apart, in_pair, in_empty, in_list, in_tree, in_option, in_function}
 
 -- the value that is built so
 abbrev pub value : Built → Env → Value

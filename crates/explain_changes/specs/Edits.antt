@@ -1,5 +1,5 @@
 -- Texts in which some bytes are replaced.
-use Rattle.std.specs.Prelude.{ℕ, ◌+◌, ◌-◌, List, [], ◌∷◌, ◌++◌, take, drop, length, map}
+use Rattle.std.specs.Prelude.{ℕ, ◌+◌, ◌-◌, List, [], ◌∷◌, ◌++◌, take, drop, length}
 use Rattle.raml_syntax.specs.Tree.{Text}
 use Rattle.explain_changes.specs.Built.{text}
 use Rattle.explain_changes.specs.Sites.{Site}

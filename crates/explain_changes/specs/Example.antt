@@ -1,5 +1,5 @@
 -- Sites and changed programs, worked out by hand.
-use Rattle.std.specs.Prelude.{◌≡◌, pos, ℕ, List, [], ◌∷◌, codes}
+use Rattle.std.specs.Prelude.{◌≡◌, pos, ℕ, [], ◌∷◌, codes}
 use Rattle.raml_syntax.specs.Tree as t
 use Rattle.raml_syntax.specs.Tree.{Text, Type', Integer, PairOf, ListOf, Bound, Parameter, Function, Prog}
 use Rattle.explain_changes.specs.Built as b

@@ -1,6 +1,5 @@
 // Whether a program is the changed one, places aside.
 ghost use Rattle.std.specs.Prelude.{◌↔◌, IsTrue, map};
-ghost use Rattle.raml_syntax.specs.Tree as t;
 ghost use Rattle.raml_syntax.specs.Read.{program_of, function_of, parameter_of, term_of, terms_of};
 ghost use Rattle.explain_changes.specs.Scope as s;
 ghost use Rattle.explain_changes.specs.Sites as p;
@@ -71,25 +70,14 @@ fn same_all<'s, 'a>(place: Changing<'s, 'a>, args: &'a [Expr], others: &[Expr]) 
         (scope_in place.entry.scope.now) (terms_of args.now)) (terms_of others.now) }
 {
     match args {
-        [] => others.is_empty(),
-        [arg, rest @ ..] => same_more(place, arg, rest, others),
-    }
-}
-
-/// Whether the other arguments are the changed one and those behind it.
-#[cycle(same)]
-fn same_more<'s, 'a>(
-    place: Changing<'s, 'a>,
-    arg: &'a Expr,
-    rest: &'a [Expr],
-    others: &[Expr],
-) -> bool
-    ensures { IsTrue result ↔ SameAll (p.changed_all (program_of place.entry.program.now) (bytes_of place.entry.chosen.now)
-        (scope_in place.entry.scope.now) (t.More (term_of arg.now) (terms_of rest.now))) (terms_of others.now) }
-{
-    match others {
-        [] => false,
-        [other, more @ ..] => same(place, arg, other) && same_all(place, rest, more),
+        [] => match others {
+            [] => true,
+            [_, ..] => false,
+        },
+        [arg, rest @ ..] => match others {
+            [] => false,
+            [other, more @ ..] => same(place, arg, other) && same_all(place, rest, more),
+        },
     }
 }
 

@@ -3,7 +3,6 @@ ghost use Rattle.explain_changes.specs.Example.{Examples};
 ghost use Rattle.explain_changes.specs.Laws.{RebuildingKeeps, WrittenKeeps};
 
 /// Where values are built again from their parts, runs give the same at the same ticks.
-#[tactic(auto, using(crate::proofs::Keep::rebuilding_keeps))]
 pub fn rebuilding_keeps()
     ensures { RebuildingKeeps }
 {}

@@ -159,26 +159,13 @@ fn walk_function<'a>(
     walk_below(place, &fun.params, &fun.body, found)
 }
 
-/// Adds the sites of functions.
-fn walk_functions<'a>(
-    program: &'a Program,
-    funs: &'a [Fun],
-    found: &mut Vec<Site<'a>>,
-) -> Result<(), AllocError>
-    ensures { OnOk result (Adds found.old.items found.new.items
-        (p.sites_of_each (program_of program.now) (map function_of funs.now))) }
-{
-    for fun in funs {
-        walk_function(program, fun, found)?;
-    }
-    Ok(())
-}
-
 /// The sites of a program, in the order of the source.
 pub fn sites<'a>(alloc: Global, program: &'a Program) -> Result<Vec<Site<'a>>, AllocError>
     ensures { IfOk result (λ sites. sites_of sites.items ≡ p.program_sites (program_of program.now)) }
 {
     let mut found = Vec::new(alloc);
-    walk_functions(program, &program.funs, &mut found)?;
+    for fun in &program.funs {
+        walk_function(program, fun, &mut found)?;
+    }
     Ok(found)
 }

@@ -6,8 +6,8 @@ ghost use Rattle.explain_count.specs.Count.{with_body, counting, counting_body, 
 ghost use Rattle.explain_count.specs.Read.{term_in};
 
 use crate::copied::{copy_name, copy_params, node};
-use explain_rounds::is_in;
 use crate::tickless::without_ticks;
+use explain_rounds::is_in;
 use raml_syntax::{Expr, Form, Fun, FunId, Program};
 use std::alloc::{AllocError, Global};
 

@@ -32,7 +32,10 @@ const SOURCES: [(&str, bool); 20] = [
     ("fun g (y : bool) : bool = let (z, w) = 3 in w", false),
     ("fun g (y : bool) : bool = g(y, y)", false),
     ("fun g (y : bool) : bool = g(y)", false),
-    ("fun g (y : bool) : bool = g(y) fun f (x : int) : int = x", false),
+    (
+        "fun g (y : bool) : bool = g(y) fun f (x : int) : int = x",
+        false,
+    ),
 ];
 
 #[test]

@@ -31,7 +31,10 @@ struct Case {
 fn assert_all(rt: &impl Abort, alloc: Global, cases: &[Case]) -> Result<(), Fail> {
     for case in cases {
         for (fun, calls) in case.group.iter().zip(case.calls) {
-            assert_eq!(rt; told(alloc, case.source, case.group, *fun)?.as_str(), *calls);
+            assert_eq!(rt;
+                told(alloc, case.source, case.group, *fun)?.as_str(),
+                *calls
+            );
         }
     }
     Ok(())
