@@ -1,14 +1,13 @@
 // Programs that are equal, their places aside.
-use crate::read::read;
-use explain_changes::is_changed;
+use crate::read::{read, same};
 use std::alloc::Global;
 use std::test::Fail;
 
-// Whether the second program is the first one, with nothing changed.
-fn same(alloc: Global, first: &str, second: &str) -> Result<bool, Fail> {
-    let program = read(alloc, first.as_bytes())?;
-    let other = read(alloc, second.as_bytes())?;
-    Ok(is_changed(&program, &[], &other))
+// Whether the sources are those of one program.
+fn are_same(alloc: Global, first: &str, second: &str) -> Result<bool, Fail> {
+    let first = read(alloc, first.as_bytes())?;
+    let second = read(alloc, second.as_bytes())?;
+    Ok(same(alloc, &first, &second))
 }
 
 // Each differs from the line before it in one thing, or in layout alone.
@@ -42,9 +41,15 @@ const SOURCES: [(&str, bool); 20] = [
 fn one_difference_is_found(rt: HostRuntime) -> Result<(), Fail> {
     let mut before = SOURCES[0].0;
     for (source, want) in SOURCES {
-        assert!(rt; same(rt.alloc(), before, source)? == want, "of {source}");
-        assert!(rt; same(rt.alloc(), source, before)? == want, "of {source}");
-        assert!(rt; same(rt.alloc(), source, source)?, "of {source}");
+        assert!(rt;
+            are_same(rt.alloc(), before, source)? == want,
+            "of {source}"
+        );
+        assert!(rt;
+            are_same(rt.alloc(), source, before)? == want,
+            "of {source}"
+        );
+        assert!(rt; are_same(rt.alloc(), source, source)?, "of {source}");
         before = source;
     }
     Ok(())

@@ -1,8 +1,9 @@
-// Sources that are read.
+// Sources that are read, and whether two programs are equal.
 ghost use Rattle.std.specs.Prelude.{IfOk};
 ghost use Rattle.raml_syntax.specs.Node.{WithinLimits};
 ghost use Rattle.raml_syntax.specs.Read.{program_of};
 
+use explain_changes::is_changed;
 use raml_parse::parse;
 use raml_syntax::Program;
 use std::alloc::Global;
@@ -19,4 +20,10 @@ pub fn read(alloc: Global, source: &[u8]) -> Result<Program, Fail>
         Ok(program) => Ok(program),
         Err(_) => Err(Fail::from("the source is no program")),
     }
+}
+
+/// Whether both are one program, places aside.
+pub fn same(alloc: Global, first: &Program, second: &Program) -> bool {
+    let none = Vec::new(alloc);
+    is_changed(first, &none, second)
 }

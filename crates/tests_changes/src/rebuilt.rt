@@ -1,5 +1,5 @@
 // Sources with their sites, and with values built again at some of them.
-use crate::read::read;
+use crate::read::{read, same};
 use explain_changes::{Site, changed_text, is_changed, sites};
 use explain_places::Place;
 use simple_types::check;
@@ -52,7 +52,7 @@ fn is_read(alloc: Global, source: &str, left: &str, text: &[u8]) -> Result<bool,
     let all = sites(alloc, &program)?;
     let chosen = chosen(alloc, &all, left)?;
     let other = read(alloc, text)?;
-    Ok(is_changed(&program, &chosen, &other) && !is_changed(&program, &[], &other))
+    Ok(is_changed(&program, &chosen, &other) && !same(alloc, &program, &other))
 }
 
 fn is_typed(alloc: Global, source: &[u8]) -> Result<bool, Fail> {
