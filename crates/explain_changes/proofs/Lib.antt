@@ -1,0 +1,6 @@
+pub mod Rebuilt
+pub mod Stands
+pub mod Keep
+pub mod Each
+pub mod Arguments
+pub mod SameRuns

@@ -1,0 +1,3 @@
+mod Copies
+pub mod CountsRounds
+pub mod Kept

@@ -1,0 +1,5 @@
+pub mod Count
+pub mod Example
+pub mod Laws
+pub mod Read
+pub mod Rounds
