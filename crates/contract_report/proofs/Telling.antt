@@ -49,7 +49,7 @@ module _ (P : Prog) (N : Program) (c : Certificate) where
     with_line ls line verdict h.1 h.5 decides holds,
   )
 
-take_next : (lines : List Line) (n : ℕ) (line : Line) → slice_get lines n ≡ Some line → take (suc n) lines ≡ take n lines ++ (line ∷ [])
+pub take_next : (lines : List Line) (n : ℕ) (line : Line) → slice_get lines n ≡ Some line → take (suc n) lines ≡ take n lines ++ (line ∷ [])
 take_next lines n line there =
     take-suc lines n line (slice_get_within lines n line there) ∙ ap (λ (l : Line). take n lines ++ (l ∷ [])) (get_or_from_slice_get lines n line line there)
 

@@ -5,4 +5,4 @@ mod fault;
 mod verdicts;
 
 pub use fault::VerdictsFault;
-pub use verdicts::verdict_lines;
+pub use verdicts::{line_fault, verdict_lines};

@@ -134,8 +134,8 @@ fn push_line<F: Fn(&[Frac]) -> Option<usize>>(
     }
 }
 
-// Why the bound on the line of this number, counted from 0, is not decided.
-fn line_fault(fault: &DecideFault, number: usize) -> VerdictsFault
+/// Why the bound on the line of this number, counted from 0, is not decided.
+pub fn line_fault(fault: &DecideFault, number: usize) -> VerdictsFault
     requires { number < 2 ^ 31 }
     ensures { result ≡ fault_at number fault.now }
 {

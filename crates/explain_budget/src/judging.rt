@@ -15,17 +15,17 @@ ghost use Rattle.bound_contract.specs.Asked.{MayBeAsked};
 ghost use Rattle.bound_contract.specs.Read.{decided_of};
 ghost use Rattle.contract_report.specs.Told.{VerdictsRefused};
 ghost use Rattle.contract_report.specs.Steps as contract;
-ghost use Rattle.contract_report.specs.Steps.{fault_at, AllCanBeAsked, ClearBelow};
+ghost use Rattle.contract_report.specs.Steps.{AllCanBeAsked, ClearBelow};
 ghost use Rattle.explain_verdicts.specs.Reads.{bound_of};
 ghost use Rattle.explain_budget.specs.Judging.{bound_in, verdict_of, AreJudged, IsFoundOf};
 ghost use Rattle.explain_budget.specs.Steps.{AllAreOver, JudgedAt};
 
 use base_poly::Poly;
 use bound_contract::laws::owns_are_there;
-use bound_contract::{DecideFault, Decider, Decision};
+use bound_contract::{Decider, Decision};
 use bound_file::{DeclLine, Declared};
 use bound_infer::Verified;
-use contract_report::VerdictsFault;
+use contract_report::{VerdictsFault, line_fault};
 use explain_verdicts::{Judged, Verdict};
 use frac128::Frac;
 use simplex::Chooser;
@@ -162,18 +162,5 @@ fn found(
     match verified.line(alloc, line.fun, line.meter)? {
         bound_infer::Line::Bound(poly) => Ok(Some(poly)),
         bound_infer::Line::NoBound | bound_infer::Line::Calls(_) => Ok(None),
-    }
-}
-
-// Why the bound on the line of this number, counted from 0, is not decided.
-fn line_fault(fault: &DecideFault, number: usize) -> VerdictsFault
-    requires { number < 2 ^ 31 }
-    ensures { result ≡ fault_at number fault.now }
-{
-    let line = number as u32 + 1;
-    match fault {
-        DecideFault::TooLarge => VerdictsFault::TooLarge { line },
-        DecideFault::Leaves(_) => VerdictsFault::Leaves { line },
-        DecideFault::NoMemory => VerdictsFault::NoMemory,
     }
 }

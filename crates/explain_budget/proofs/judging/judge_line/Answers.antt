@@ -11,7 +11,7 @@ use Rattle.bound_contract.specs.Read.{decided_of, place_of}
 use Rattle.contract_report.specs.Verdicts.{Decides, VerdictHolds}
 use Rattle.contract_report.specs.Told.{VerdictsRefused}
 use Rattle.explain_budget.specs.Judging.{IsFoundOf}
-use Rattle.explain_budget.proofs.Decided.{there_is, line_there, of_place, clear_next, refused, decides, holds}
+use Rattle.contract_report.proofs.Telling.{there_is, line_there, of_place, clear_next, refused, decides, holds}
 use Rattle.explain_budget.proofs.judging.judge_line.Goals as goal
 
 pub decide-requires-clause-asked : goal.decide-requires-clause-asked
