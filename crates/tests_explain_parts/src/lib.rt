@@ -2,18 +2,8 @@
 #![tactic(auto)]
 
 #[cfg(test)]
-mod at;
-#[cfg(test)]
-mod lines;
-#[cfg(test)]
-mod nested;
-#[cfg(test)]
 mod places;
-#[cfg(test)]
-mod readings;
 #[cfg(test)]
 mod sizes;
 #[cfg(test)]
 mod text;
-#[cfg(test)]
-mod words;
