@@ -4,3 +4,4 @@ pub mod Keep
 pub mod Each
 pub mod Arguments
 pub mod SameRuns
+mod Only

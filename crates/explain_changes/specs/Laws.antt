@@ -1,13 +1,22 @@
--- What rebuilding keeps.
-use Rattle.std.specs.Prelude.{◌≡◌, ◌≤◌, ℕ, List, Some}
+-- What rebuilding changes, and what it keeps.
+use Rattle.std.specs.Prelude.{◌≡◌, ◌≤◌, ℕ, List, [], ◌∷◌, false, Some}
 use Rattle.std.specs.List.{All}
 use Rattle.raml_syntax.specs.Tree.{Text, Function, Prog}
 use Rattle.raml_syntax.specs.Value.{Value, HaveTypes}
 use Rattle.raml_syntax.specs.Eval.{Run, find, run_of}
 use Rattle.raml_syntax.specs.Types.{types_of, Typed}
 use Rattle.raml_syntax.specs.Node.{AllNodes, NumberFits}
-use Rattle.explain_changes.specs.Sites.{changed_function, changed_program}
+use Rattle.explain_changes.specs.Sites.{Site, is_chosen, program_sites, changed_function, changed_program}
 use Rattle.explain_changes.specs.Same.{SameProgram}
+
+-- none of these sites is at a chosen byte
+abbrev pub NoneIsChosen : List ℕ → List Site → Type 0
+NoneIsChosen chosen [] = Unit {0}
+NoneIsChosen chosen (s ∷ sites) = (is_chosen chosen s.at ≡ false) × NoneIsChosen chosen sites
+
+-- nothing changes where none of a program's sites is
+abbrev pub OnlySitesChange : Type 0
+OnlySitesChange = (P : Prog) (chosen : List ℕ) → NoneIsChosen chosen (program_sites P) → changed_program P chosen ≡ P
 
 -- a run, and one that gives the same, or is cut where the first is, with the same ticks and with no fewer cells and no less work
 pub record RunsRebuilt {A : Type 0} (r s : Run A) : Type 0 where

@@ -1,6 +1,12 @@
 // Laws of changes: each is the contract of a function that does nothing.
 ghost use Rattle.explain_changes.specs.Example.{Examples};
-ghost use Rattle.explain_changes.specs.Laws.{RebuildingKeeps, WrittenKeeps};
+ghost use Rattle.explain_changes.specs.Laws.{OnlySitesChange, RebuildingKeeps, WrittenKeeps};
+
+/// A program in which no site is chosen is as it was.
+#[tactic(auto, using(crate::proofs::Only::only_sites_change))]
+pub fn only_sites_change()
+    ensures { OnlySitesChange }
+{}
 
 /// Where values are built again from their parts, runs give the same at the same ticks.
 pub fn rebuilding_keeps()
