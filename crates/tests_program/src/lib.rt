@@ -1,4 +1,4 @@
-//! Tests of whole calls of the program, their statuses and their runs, over files and streams in memory.
+//! Tests of statuses, of whole calls over files and streams in memory that fail, and of lines that few calls write.
 //! They stand in a crate of their own, so that the crate that they test is proved once.
 #![tactic(auto)]
 
@@ -6,5 +6,3 @@
 mod calls;
 #[cfg(test)]
 mod lines;
-#[cfg(test)]
-mod runs;
