@@ -1,0 +1,12 @@
+//! Values that are built again so that functions get bounds: all that may be, and then as few as that takes.
+#![tactic(auto)]
+
+mod changed;
+mod mending;
+mod original;
+mod reach;
+mod reduce;
+
+pub use mending::{Rebuilt, rebuild};
+pub use original::Original;
+pub use reach::{callees, reached_sites};
