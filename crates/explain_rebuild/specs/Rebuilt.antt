@@ -12,14 +12,16 @@ use Rattle.explain_rebuild.specs.declared.mending.Rebuilt.{Rebuilt}
 
 -- The values at `all` sites were built again, which mends the lines that are told. At the sites that are told, which are some of these,
 -- they keep bounds of all these lines.
-pub record IsMended (source : Text) (P : Prog) (old : List Findings) (most : ℕ) (all : List Site) (first : Trial) (rebuilt : Rebuilt) : Type 0 where
+pub record IsMended (source : Text) (P : Prog) (old : List Findings) (most : ℕ) (all : List Site)
+    (first : Trial) (rebuilt : Rebuilt) : Type 0 where
   pub lines : lines_of rebuilt.lines.items ≡ mended_lines old (findings_in first)
   pub chosen : AreAmong all rebuilt.sites.items
   pub keeps : Keeps source P most (lines_of rebuilt.lines.items) rebuilt.sites.items rebuilt.trial
 
 -- Of the source of a program, of which analyses found this before: they were built again at some of the sites first, and so each function
 -- of the group has bounds.
-pub record IsRebuilt (source : Text) (P : Prog) (old : List Findings) (most : ℕ) (sites : List Site) (group : List ℕ) (rebuilt : Rebuilt) : Type 0 where
+pub record IsRebuilt (source : Text) (P : Prog) (old : List Findings) (most : ℕ) (sites : List Site)
+    (group : List ℕ) (rebuilt : Rebuilt) : Type 0 where
   pub all : List Site
   pub among : AreAmong sites all
   pub first : Trial

@@ -1,0 +1,9 @@
+pub mod Waits
+pub mod Rounds
+pub mod Calls
+pub mod Degrees
+pub mod Notes
+pub mod Asked
+pub mod Read
+pub mod Reasons
+pub mod Explanation

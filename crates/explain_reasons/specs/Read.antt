@@ -1,0 +1,18 @@
+-- What the code has of functions that are called.
+use Rattle.std.specs.Prelude.{◌≡◌, ℕ, List, true}
+use Rattle.std.specs.List.{Contains}
+use Rattle.raml_syntax.specs.declared.program.FunId.{FunId}
+use Rattle.explain_degrees.specs.declared.finding.Findings.{Findings}
+use Rattle.explain_lines.specs.Lines.{lacks_at}
+use Rattle.explain_reasons.specs.Degrees.{meets_at}
+
+-- one of the functions that has no bound and is not of the group
+pub record IsLackingOutside (found : List Findings) (group funs : List FunId) (fun : FunId) : Type 0 where
+  pub one : Contains funs fun
+  pub lacks : lacks_at found fun.0 ≡ true
+  pub outside : Contains group fun → ⊥
+
+-- one that has a bound of the degree of a meter of which the caller has none
+pub record IsOfDegree (found : List Findings) (caller : FunId) (funs : List FunId) (degree : ℕ) (fun : FunId) : Type 0 where
+  pub one : Contains funs fun
+  pub meets : meets_at found degree caller.0 fun.0 ≡ true

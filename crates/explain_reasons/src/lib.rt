@@ -1,0 +1,15 @@
+//! Why functions have no bound, as far as it is found by trying.
+#![tactic(auto)]
+
+mod asked;
+mod calls;
+mod degree;
+mod note;
+mod program;
+mod reason;
+mod rounds;
+mod waits;
+
+pub use note::Note;
+pub use program::{Explanation, explain};
+pub use reason::{Explained, Reason};

@@ -1,0 +1,41 @@
+// Reasons.
+use explain_rebuild::Rebuilt;
+use explain_rounds::{GroupCall, SamePart};
+use raml_syntax::FunId;
+
+/// Why a group of functions has no bound. Reasons that no trial finds yet get a place here: a value that is used twice, and
+/// changes of other kinds.
+#[derive(Drop)]
+pub enum Reason<'a> {
+    /// It calls a function that has no bound. Calls inside the group, where that is so, at which nothing gets smaller, while
+    /// no bound of the number of such calls is found.
+    Waits {
+        callee: FunId,
+        stuck: Vec<GroupCall>,
+    },
+    /// It has bounds once values are built again.
+    Rebuild(Rebuilt<'a>),
+    /// The number of calls inside the group has no bound, and at these nothing gets smaller.
+    Stuck(Vec<GroupCall>),
+    /// The number of calls inside the group has no bound, and two that both happen get the same part.
+    Twice(Vec<SamePart>),
+    /// The number of calls inside the group has no bound, and these get what other calls made.
+    Computed(Vec<GroupCall>),
+    /// The number of calls inside the group has a bound, and a function that it calls has one of this degree, the highest
+    /// that is tried.
+    DegreeTooLow {
+        callee: FunId,
+        degree: u8,
+    },
+    /// None was found.
+    NotFound,
+}
+
+/// A group of functions that has no bound, and why.
+#[derive(Drop)]
+pub struct Explained<'a> {
+    pub group: Vec<FunId>,
+    /// The first of them that has no bound.
+    pub fun: FunId,
+    pub reason: Reason<'a>,
+}

@@ -1,0 +1,9 @@
+//! Tests of `explain_reasons`: why functions of six natural programs have no bounds.
+#![tactic(auto)]
+
+#[cfg(test)]
+mod reasons;
+#[cfg(test)]
+mod shown;
+#[cfg(test)]
+mod sources;

@@ -1,0 +1,37 @@
+// Reasons of six natural programs. The places are those that a person had changed to give them bounds.
+use crate::shown::shown;
+use crate::sources::{CRC, GROUPBY, JOIN, LEDGER, MERGESORT, RLE};
+use std::test::Fail;
+
+#[test]
+fn rebuilt(rt: HostRuntime) -> Result<(), Fail> {
+    for (source, want) in [
+        (GROUPBY, " report: rebuild for 2 lines 8:51 (key, vs);"),
+        (
+            JOIN,
+            " join: rebuild for 3 lines 13:37 (a :: lt) 14:39 (a :: lt);",
+        ),
+        (
+            MERGESORT,
+            " merge: rebuild for 6 lines 13:14 (x :: at) 18:60 (x :: at); sort: waits for merge;",
+        ),
+    ] {
+        assert_eq!(rt; shown(rt.alloc(), source, 4)?.as_str(), want);
+    }
+    Ok(())
+}
+
+#[test]
+fn calls(rt: HostRuntime) -> Result<(), Fail> {
+    for (source, want) in [
+        (
+            CRC,
+            " xor: stuck 5:17; bits: waits for xor 13:23 13:44; crc8: waits for xor; ok: waits for crc8;",
+        ),
+        (RLE, " repeat: stuck 13:33; unpack: waits for repeat;"),
+        (LEDGER, " apply: not found;"),
+    ] {
+        assert_eq!(rt; shown(rt.alloc(), source, 4)?.as_str(), want);
+    }
+    Ok(())
+}
