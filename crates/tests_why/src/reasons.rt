@@ -9,7 +9,7 @@ fn rebuilt(rt: HostRuntime) -> Result<(), Fail> {
         (GROUPBY, " report: rebuild for 2 lines 8:51 (key, vs);"),
         (
             JOIN,
-            " join: rebuild for 3 lines 13:37 (a :: lt) 14:39 (a :: lt);",
+            " join: rebuild for 3 lines 12:36 (b :: rt) 13:37 (a :: lt) 14:39 (a :: lt);",
         ),
         (
             MERGESORT,
