@@ -13,7 +13,7 @@ fn rebuilt(rt: HostRuntime) -> Result<(), Fail> {
         ),
         (
             MERGESORT,
-            " merge: rebuild for 6 lines 13:14 (x :: at) 18:60 (x :: at); sort: waits for merge;",
+            " merge: rebuild for 6 lines 13:14 (x :: at) 18:41 (y :: bt) 18:60 (x :: at); sort: waits for merge;",
         ),
     ] {
         assert_eq!(rt; shown(rt.alloc(), source, 4)?.as_str(), want);
