@@ -35,3 +35,29 @@ fn calls(rt: HostRuntime) -> Result<(), Fail> {
     }
     Ok(())
 }
+
+/// A list is summed twice in each round.
+const TWICE: &str =
+    "fun f (l : int list) : int = match l with nil -> 1 | h :: t -> tick 1 in f(t) + f(t)";
+
+/// A list is handed on as another function gives it back.
+const COMPUTED: &str = "fun g (l : int list) : int list = l\n\
+    fun f (l : int list) : int = match l with nil -> 0 | h :: t -> tick 1 in f(g(l))";
+
+/// In each round the rest of a list is counted.
+const SQUARE: &str =
+    "fun len (l : int list) : int = match l with nil -> 0 | h :: t -> tick 1 in 1 + len(t)\n\
+    fun sq (l : int list) : int = match l with nil -> 0 | h :: t -> len(t) + sq(t)";
+
+#[test]
+fn small(rt: HostRuntime) -> Result<(), Fail> {
+    for (source, degree, want) in [
+        (TWICE, 4, " f: twice 1:74 1:81;"),
+        (COMPUTED, 4, " f: computed 2:74;"),
+        (SQUARE, 2, ""),
+        (SQUARE, 1, " sq from degree 2; sq from degree 2;"),
+    ] {
+        assert_eq!(rt; shown(rt.alloc(), source, degree)?.as_str(), want);
+    }
+    Ok(())
+}

@@ -4,6 +4,7 @@ use explain_reasons::explain;
 use explain_trials::typed_text;
 use explain_why::push_why;
 use std::alloc::{AllocError, Global};
+use std::process::Abort;
 use std::test::Fail;
 
 /// What is told of the program in the file `it`.
@@ -33,8 +34,7 @@ const MEANING: &str = "\
 ";
 
 /// Asserts what is told of the program in the file `it`, before what 'no bound' means.
-fn told_is(rt: HostRuntime, source: &str, expected: &str) -> Result<(), Fail> {
-    let alloc = rt.alloc();
+fn told_is(rt: &impl Abort, alloc: Global, source: &str, expected: &str) -> Result<(), Fail> {
     let mut text = String::new(alloc);
     text.push_str(expected)?;
     text.push_str(MEANING)?;
@@ -46,10 +46,11 @@ fn told_is(rt: HostRuntime, source: &str, expected: &str) -> Result<(), Fail> {
 #[test]
 fn grouped(rt: HostRuntime) -> Result<(), Fail> {
     told_is(
-        rt,
+        &rt,
+        rt.alloc(),
         GROUPBY,
         "\
-it:8:51: `report` has no bound: `g` is used whole here, after it was taken apart; write `(key, vs)` for it
+it:8:51: `report` has no bound: `g` of `add` is used whole here, after it was taken apart; write `(key, vs)` for it
       if key = k then (key, v :: vs) :: rest else g :: add(k, v, rest)
                                                   ^
 Both uses must be paid for, and what is set aside for an element pays once.
@@ -63,16 +64,17 @@ report work ≤ 17/2·n² + 61/2·n + 10   n = |rows|
 #[test]
 fn joined(rt: HostRuntime) -> Result<(), Fail> {
     told_is(
-        rt,
+        &rt,
+        rt.alloc(),
         JOIN,
         "\
-it:12:36: `join` has no bound: `r` is used whole here, after it was taken apart; write `(b :: rt)` for it
+it:12:36: `join` has no bound: `r` of `join` is used whole here, after it was taken apart; write `(b :: rt)` for it
           if ka < kb then join(lt, r)
                                    ^
-it:13:37: `join` has no bound: `l` is used whole here, after it was taken apart; write `(a :: lt)` for it
+it:13:37: `join` has no bound: `l` of `join` is used whole here, after it was taken apart; write `(a :: lt)` for it
           else if kb < ka then join(l, rt)
                                     ^
-it:14:39: `join` has no bound: `l` is used whole here, after it was taken apart; write `(a :: lt)` for it
+it:14:39: `join` has no bound: `l` of `join` is used whole here, after it was taken apart; write `(a :: lt)` for it
           else (ka, (va, vb)) :: join(l, rt)
                                       ^
 Both uses must be paid for, and what is set aside for an element pays once.
@@ -87,7 +89,8 @@ join work ≤ 18·n + 28·m + 4   n = |l|, m = |r|
 #[test]
 fn packed(rt: HostRuntime) -> Result<(), Fail> {
     told_is(
-        rt,
+        &rt,
+        rt.alloc(),
         RLE,
         "\
 it:13:33: `repeat` has no bound: `repeat` is called here, and no list or tree gets smaller by that
@@ -104,7 +107,8 @@ fun unpack (l : (int * int) list) : int list =
 #[test]
 fn ledger(rt: HostRuntime) -> Result<(), Fail> {
     told_is(
-        rt,
+        &rt,
+        rt.alloc(),
         LEDGER,
         "\
 it:25:1: `apply` has no bound: no reason was found
@@ -117,7 +121,8 @@ fun apply (txs : (int * (int * int)) list, book : (int * int) list, failed : int
 #[test]
 fn checksum(rt: HostRuntime) -> Result<(), Fail> {
     told_is(
-        rt,
+        &rt,
+        rt.alloc(),
         CRC,
         "\
 it:5:17: `xor` has no bound: `xor` is called here, and no list or tree gets smaller by that
