@@ -1,0 +1,3 @@
+pub mod Sentences
+pub mod Read
+pub mod Reasons

@@ -1,0 +1,92 @@
+-- What is said of functions that have no bound, each sentence at a byte of the source.
+use Rattle.std.specs.Prelude.{ℕ, List, [], ◌∷◌, ◌++◌, Option, Some, None, slice_get, codes, decimal}
+use Rattle.raml_syntax.specs.Tree.{Text, Function, Prog}
+use Rattle.report_text.specs.Names.{name_at}
+use Rattle.explain_changes.specs.Built.{text}
+use Rattle.explain_changes.specs.Sites.{Site}
+use Rattle.explain_rounds.specs.declared.idle.Kind.{Kind}
+use Rattle.explain_rounds.specs.declared.idle.Kind.TheVariants.{Smaller, Computed, Stuck}
+use Rattle.explain_rounds.specs.Calls.{Call}
+use Rattle.explain_rounds.specs.Twice.{TwoCalls}
+
+pub record Sentence : Type 0 where
+  pub at : ℕ
+  pub text : Text
+
+-- where a function begins
+abbrev pub begin_in : Option Function → ℕ
+begin_in None = 0
+begin_in (Some g) = g.at
+
+abbrev pub begin_of : Prog → ℕ → ℕ
+begin_of P f = begin_in (slice_get P f)
+
+-- the function has no bound, and why
+abbrev pub unbounded : Prog → ℕ → ℕ → Text → Sentence
+unbounded P f p why = record { at = p; text = codes "`" ++ (name_at P f ++ (codes "` has no bound: " ++ why)) }
+
+abbrev pub at_function : Prog → ℕ → Text → List Sentence
+at_function P f why = unbounded P f (begin_of P f) why ∷ []
+
+-- ---- calls
+
+abbrev pub manner : Kind → Text
+manner Smaller = codes ", with a part of what was given"
+manner Computed = codes " with what another call made, which may not be smaller"
+manner Stuck = codes ", and no list or tree gets smaller by that"
+
+abbrev pub of_call : Prog → ℕ → Call → Sentence
+of_call P f call = unbounded P f call.at (codes "`" ++ (name_at P call.callee ++ (codes "` is called here" ++ manner call.kind)))
+
+abbrev pub of_calls : Prog → ℕ → List Call → List Sentence
+of_calls P f [] = []
+of_calls P f (call ∷ calls) = of_call P f call ∷ of_calls P f calls
+
+-- two calls that get the same part
+abbrev pub of_pair : Prog → ℕ → TwoCalls → List Sentence
+of_pair P f pair =
+    unbounded P f pair.first (codes "this is one of two calls that both happen and get the same part")
+    ∷ unbounded P f pair.second (codes "this is the other one of the two") ∷ []
+
+abbrev pub of_pairs : Prog → ℕ → List TwoCalls → List Sentence
+of_pairs P f [] = []
+of_pairs P f (pair ∷ pairs) = of_pair P f pair ++ of_pairs P f pairs
+
+-- ---- values that are built again
+
+-- this expression builds the value of the variable again
+abbrev pub why_text : Text → Text → Text
+why_text variable built =
+    codes "`" ++ (variable ++ (codes "` is used whole here, after it was taken apart; write `" ++ (built ++ codes "` for it")))
+
+abbrev pub why_site : Site → Text
+why_site site = why_text site.variable (text site.built)
+
+abbrev pub of_site : Prog → ℕ → Site → Sentence
+of_site P f site = unbounded P f site.at (why_site site)
+
+abbrev pub of_sites : Prog → ℕ → List Site → List Sentence
+of_sites P f [] = []
+of_sites P f (site ∷ sites) = of_site P f site ∷ of_sites P f sites
+
+-- ---- other functions
+
+abbrev pub why_waiting : Prog → ℕ → Text
+why_waiting P callee = codes "it calls `" ++ (name_at P callee ++ codes "`, which has none")
+
+abbrev pub of_waiting : Prog → ℕ → ℕ → List Sentence
+of_waiting P f callee = at_function P f (why_waiting P callee)
+
+abbrev pub why_degree : Prog → ℕ → ℕ → Text
+why_degree P callee degree =
+    codes "it calls `" ++ (name_at P callee ++ (codes "`, whose bound has degree " ++ (decimal degree
+    ++ codes " already, so its own has probably a higher degree than is tried")))
+
+abbrev pub of_degree : Prog → ℕ → ℕ → ℕ → List Sentence
+of_degree P f callee degree = at_function P f (why_degree P callee degree)
+
+-- behind stuck calls, where there are some
+abbrev pub closing_of_stuck : {A : Type 0} → List A → Text
+closing_of_stuck [] = []
+closing_of_stuck (call ∷ calls) =
+    codes "A number has no size, so it cannot pay for the rounds; a list with an entry for each round can.\n"

@@ -1,0 +1,100 @@
+// Sentences on calls.
+ghost use Rattle.std.specs.Prelude.{◌≡◌, ◌++◌, [], ◌∷◌, OnOk};
+ghost use Rattle.raml_syntax.specs.Read.{program_of};
+ghost use Rattle.explain_rounds.specs.Read.{calls_of, plain_call};
+ghost use Rattle.explain_rounds.specs.Found.{pairs_of, plain_pair};
+ghost use Rattle.explain_sentences.specs.Sentences as s;
+ghost use Rattle.explain_sentences.specs.Read.{sentences_of};
+
+use crate::sentence::{Sentence, unbounded};
+use explain_rounds::{GroupCall, Kind, SamePart};
+use raml_syntax::{FunId, Program};
+use report_text::name_at;
+use std::alloc::{AllocError, Global};
+
+/// How a call goes down.
+fn manner(kind: Kind) -> &'static str
+    ensures { result.now ≡ s.manner kind }
+{
+    match kind {
+        Kind::Smaller => ", with a part of what was given",
+        Kind::Computed => " with what another call made, which may not be smaller",
+        Kind::Stuck => ", and no list or tree gets smaller by that",
+    }
+}
+
+/// Adds the sentence on a call inside the group of a function.
+fn add_call(
+    alloc: Global,
+    sentences: &mut Vec<Sentence>,
+    program: &Program,
+    fun: FunId,
+    call: GroupCall,
+) -> Result<(), AllocError>
+    ensures { OnOk result (sentences_of sentences.new.items
+        ≡ sentences_of sentences.old.items ++ s.of_calls (program_of program.now) fun.0 (plain_call call ∷ [])) }
+{
+    let callee = name_at(program, call.callee);
+    let manner = manner(call.kind);
+    let why = format!(in alloc; "`{callee}` is called here{manner}")?;
+    sentences.push(unbounded(alloc, program, fun, call.at, &why)?)?;
+    Ok(())
+}
+
+/// Adds those on calls.
+pub(crate) fn add_calls(
+    alloc: Global,
+    sentences: &mut Vec<Sentence>,
+    program: &Program,
+    fun: FunId,
+    calls: &[GroupCall],
+) -> Result<(), AllocError>
+    ensures { OnOk result (sentences_of sentences.new.items
+        ≡ sentences_of sentences.old.items ++ s.of_calls (program_of program.now) fun.0 (calls_of calls.now)) }
+{
+    match calls {
+        [] => Ok(()),
+        [call, rest @ ..] => {
+            add_call(alloc, sentences, program, fun, *call)?;
+            add_calls(alloc, sentences, program, fun, rest)
+        }
+    }
+}
+
+/// Adds the sentences on two calls that get the same part.
+fn add_pair(
+    alloc: Global,
+    sentences: &mut Vec<Sentence>,
+    program: &Program,
+    fun: FunId,
+    pair: SamePart,
+) -> Result<(), AllocError>
+    ensures { OnOk result (sentences_of sentences.new.items
+        ≡ sentences_of sentences.old.items ++ s.of_pair (program_of program.now) fun.0 (plain_pair pair)) }
+{
+    let first = "this is one of two calls that both happen and get the same part";
+    let second = "this is the other one of the two";
+    sentences.push(unbounded(alloc, program, fun, pair.first, first)?)?;
+    sentences.push(unbounded(alloc, program, fun, pair.second, second)?)?;
+    Ok(())
+}
+
+/// Adds those on pairs of calls.
+pub(crate) fn add_pairs(
+    alloc: Global,
+    sentences: &mut Vec<Sentence>,
+    program: &Program,
+    fun: FunId,
+    pairs: &[SamePart],
+) -> Result<(), AllocError>
+    ensures { OnOk result (sentences_of sentences.new.items
+        ≡ sentences_of sentences.old.items ++ s.of_pairs (program_of program.now) fun.0 (pairs_of pairs.now)) }
+{
+    match pairs {
+        [] => Ok(()),
+        [pair, rest @ ..] => {
+            add_pair(alloc, sentences, program, fun, *pair)?;
+            add_pairs(alloc, sentences, program, fun, rest)
+        }
+    }
+}

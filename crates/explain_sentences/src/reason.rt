@@ -1,0 +1,132 @@
+// The sentences of a reason.
+ghost use Rattle.std.specs.Prelude.{◌≡◌, ◌++◌, IfOk, OnOk, string_bytes};
+ghost use Rattle.raml_syntax.specs.Read.{program_of};
+ghost use Rattle.explain_sentences.specs.Sentences as s;
+ghost use Rattle.explain_sentences.specs.Read.{sentences_of};
+ghost use Rattle.explain_sentences.specs.Reasons.{of_reason};
+
+use crate::call::{add_calls, add_pairs};
+use crate::sentence::{Sentence, begin_of, unbounded};
+use crate::site::add_sites;
+use explain_reasons::{Explained, Reason};
+use raml_syntax::{FunId, Program};
+use report_text::name_at;
+use std::alloc::{AllocError, Global};
+
+/// Adds a sentence at the beginning of a function.
+fn add_at_function(
+    alloc: Global,
+    sentences: &mut Vec<Sentence>,
+    program: &Program,
+    fun: FunId,
+    why: &str,
+) -> Result<(), AllocError>
+    ensures { OnOk result (sentences_of sentences.new.items
+        ≡ sentences_of sentences.old.items ++ s.at_function (program_of program.now) fun.0 why.now) }
+{
+    sentences.push(unbounded(alloc, program, fun, begin_of(program, fun), why)?)?;
+    Ok(())
+}
+
+/// Why a function that calls another one without a bound has none.
+fn why_waiting(alloc: Global, program: &Program, callee: FunId) -> Result<String, AllocError>
+    ensures { IfOk result (λ why. string_bytes why ≡ s.why_waiting (program_of program.now) callee.0) }
+{
+    let callee = name_at(program, callee);
+    format!(in alloc; "it calls `{callee}`, which has none")
+}
+
+/// Why one that calls another one with a bound of a high degree has none.
+fn why_degree(
+    alloc: Global,
+    program: &Program,
+    callee: FunId,
+    degree: u8,
+) -> Result<String, AllocError>
+    ensures { IfOk result (λ why. string_bytes why ≡ s.why_degree (program_of program.now) callee.0 degree) }
+{
+    let callee = name_at(program, callee);
+    format!(in alloc;
+        "it calls `{callee}`, whose bound has degree {degree} already, so its own has probably a higher degree than is tried"
+    )
+}
+
+/// Adds that the function waits for another one.
+fn add_waits(
+    alloc: Global,
+    sentences: &mut Vec<Sentence>,
+    program: &Program,
+    fun: FunId,
+    callee: FunId,
+) -> Result<(), AllocError>
+    ensures { OnOk result (sentences_of sentences.new.items
+        ≡ sentences_of sentences.old.items ++ s.of_waiting (program_of program.now) fun.0 callee.0) }
+{
+    let why = why_waiting(alloc, program, callee)?;
+    add_at_function(alloc, sentences, program, fun, &why)
+}
+
+/// Adds that another function has a bound of a high degree.
+fn add_degree(
+    alloc: Global,
+    sentences: &mut Vec<Sentence>,
+    program: &Program,
+    fun: FunId,
+    callee: FunId,
+    degree: u8,
+) -> Result<(), AllocError>
+    ensures { OnOk result (sentences_of sentences.new.items
+        ≡ sentences_of sentences.old.items ++ s.of_degree (program_of program.now) fun.0 callee.0 degree) }
+{
+    let why = why_degree(alloc, program, callee, degree)?;
+    add_at_function(alloc, sentences, program, fun, &why)
+}
+
+/// Adds the sentences of a reason of a function.
+fn add_reason(
+    alloc: Global,
+    sentences: &mut Vec<Sentence>,
+    program: &Program,
+    fun: FunId,
+    reason: &Reason<'_>,
+) -> Result<(), AllocError>
+    ensures { OnOk result (sentences_of sentences.new.items
+        ≡ sentences_of sentences.old.items ++ of_reason (program_of program.now) fun.0 reason.now) }
+{
+    match reason {
+        Reason::Waits { callee, stuck } => {
+            add_waits(alloc, sentences, program, fun, *callee)?;
+            add_calls(alloc, sentences, program, fun, stuck)
+        }
+        Reason::Rebuild(rebuilt) => add_sites(alloc, sentences, program, fun, &rebuilt.sites),
+        Reason::Stuck(calls) => add_calls(alloc, sentences, program, fun, calls),
+        Reason::Twice(pairs) => add_pairs(alloc, sentences, program, fun, pairs),
+        Reason::Computed(calls) => add_calls(alloc, sentences, program, fun, calls),
+        Reason::DegreeTooLow { callee, degree } => {
+            add_degree(alloc, sentences, program, fun, *callee, *degree)
+        }
+        Reason::NotFound => {
+            add_at_function(alloc, sentences, program, fun, "no reason was found")
+        }
+    }
+}
+
+/// The sentences of a group that has no bound.
+pub fn sentences(
+    alloc: Global,
+    program: &Program,
+    explained: &Explained<'_>,
+) -> Result<Vec<Sentence>, AllocError>
+    ensures { IfOk result (λ sentences. sentences_of sentences.items
+        ≡ of_reason (program_of program.now) explained.now.fun.0 explained.now.reason) }
+{
+    let mut sentences = Vec::new(alloc);
+    add_reason(
+        alloc,
+        &mut sentences,
+        program,
+        explained.fun,
+        &explained.reason,
+    )?;
+    Ok(sentences)
+}

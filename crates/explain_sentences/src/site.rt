@@ -1,0 +1,68 @@
+// Sentences on values that are built again.
+ghost use Rattle.std.specs.Prelude.{◌≡◌, ◌++◌, [], ◌∷◌, IfOk, OnOk, string_bytes};
+ghost use Rattle.raml_syntax.specs.Read.{program_of};
+ghost use Rattle.explain_changes.specs.Read.{built_of, site_of, sites_of};
+ghost use Rattle.explain_changes.specs.Built.{text};
+ghost use Rattle.explain_sentences.specs.Sentences as s;
+ghost use Rattle.explain_sentences.specs.Read.{sentences_of};
+
+use crate::sentence::{Sentence, unbounded};
+use explain_changes::{Built, Site};
+use raml_syntax::{FunId, Program};
+use std::alloc::{AllocError, Global};
+
+/// The expression that builds a value.
+fn expression(alloc: Global, built: Built<'_>) -> Result<String, AllocError>
+    ensures { IfOk result (λ expression. string_bytes expression ≡ text (built_of built.entry)) }
+{
+    format!(in alloc; "{built}")
+}
+
+/// Why a use of a variable is told whose value this expression builds again.
+fn why_text(alloc: Global, variable: &str, built: &str) -> Result<String, AllocError>
+    ensures { IfOk result (λ why. string_bytes why ≡ s.why_text variable.now built.now) }
+{
+    format!(in alloc;
+        "`{variable}` is used whole here, after it was taken apart; write `{built}` for it"
+    )
+}
+
+fn why(alloc: Global, site: Site<'_>) -> Result<String, AllocError>
+    ensures { IfOk result (λ why. string_bytes why ≡ s.why_site (site_of site.entry)) }
+{
+    let built = expression(alloc, site.built)?;
+    why_text(alloc, site.variable.text(), &built)
+}
+
+/// Adds the sentence on it.
+fn add_site(
+    alloc: Global,
+    sentences: &mut Vec<Sentence>,
+    program: &Program,
+    fun: FunId,
+    site: Site<'_>,
+) -> Result<(), AllocError>
+    ensures { OnOk result (sentences_of sentences.new.items
+        ≡ sentences_of sentences.old.items ++ s.of_sites (program_of program.now) fun.0 (site_of site.entry ∷ [])) }
+{
+    let why = why(alloc, site)?;
+    sentences.push(unbounded(alloc, program, fun, site.at, &why)?)?;
+    Ok(())
+}
+
+/// Adds those on all uses.
+pub(crate) fn add_sites(
+    alloc: Global,
+    sentences: &mut Vec<Sentence>,
+    program: &Program,
+    fun: FunId,
+    sites: &[Site<'_>],
+) -> Result<(), AllocError>
+    ensures { OnOk result (sentences_of sentences.new.items
+        ≡ sentences_of sentences.old.items ++ s.of_sites (program_of program.now) fun.0 (sites_of sites.now)) }
+{
+    for site in sites {
+        add_site(alloc, sentences, program, fun, *site)?;
+    }
+    Ok(())
+}

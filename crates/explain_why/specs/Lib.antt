@@ -1,0 +1,4 @@
+pub mod Shown
+pub mod Bounds
+pub mod Notes
+pub mod Why
