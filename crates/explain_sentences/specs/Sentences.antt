@@ -54,13 +54,14 @@ of_pairs P f (pair ∷ pairs) = of_pair P f pair ++ of_pairs P f pairs
 
 -- ---- values that are built again
 
--- this expression builds the value of the variable again
-abbrev pub why_text : Text → Text → Text
-why_text variable built =
-    codes "`" ++ (variable ++ (codes "` is used whole here, after it was taken apart; write `" ++ (built ++ codes "` for it")))
+-- the value of the variable of a function is built again by this expression
+abbrev pub why_text : Text → Text → Text → Text
+why_text variable function built =
+    codes "`" ++ (variable ++ (codes "` of `" ++ (function
+    ++ (codes "` is used whole here, after it was taken apart; write `" ++ (built ++ codes "` for it")))))
 
 abbrev pub why_site : Site → Text
-why_site site = why_text site.variable (text site.built)
+why_site site = why_text site.variable site.function (text site.built)
 
 abbrev pub of_site : Prog → ℕ → Site → Sentence
 of_site P f site = unbounded P f site.at (why_site site)

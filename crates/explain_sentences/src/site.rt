@@ -18,12 +18,17 @@ fn expression(alloc: Global, built: Built<'_>) -> Result<String, AllocError>
     format!(in alloc; "{built}")
 }
 
-/// Why a use of a variable is told whose value this expression builds again.
-fn why_text(alloc: Global, variable: &str, built: &str) -> Result<String, AllocError>
-    ensures { IfOk result (λ why. string_bytes why ≡ s.why_text variable.now built.now) }
+/// Why a use of a variable of a function is told whose value this expression builds again.
+fn why_text(
+    alloc: Global,
+    variable: &str,
+    function: &str,
+    built: &str,
+) -> Result<String, AllocError>
+    ensures { IfOk result (λ why. string_bytes why ≡ s.why_text variable.now function.now built.now) }
 {
     format!(in alloc;
-        "`{variable}` is used whole here, after it was taken apart; write `{built}` for it"
+        "`{variable}` of `{function}` is used whole here, after it was taken apart; write `{built}` for it"
     )
 }
 
@@ -31,7 +36,7 @@ fn why(alloc: Global, site: Site<'_>) -> Result<String, AllocError>
     ensures { IfOk result (λ why. string_bytes why ≡ s.why_site (site_of site.entry)) }
 {
     let built = expression(alloc, site.built)?;
-    why_text(alloc, site.variable.text(), &built)
+    why_text(alloc, site.variable.text(), site.function.text(), &built)
 }
 
 /// Adds the sentence on it.

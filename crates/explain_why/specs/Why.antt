@@ -51,7 +51,7 @@ AreGroups name source P (e ∷ es) part =
 abbrev pub meaning : List Explained → Text
 meaning [] = []
 meaning (e ∷ es) =
-    codes "'no bound' means that no annotation of a degree that was analysed exists over the schedule's earlier blocks; the reason is what was found by trying.\n"
+    codes "'no bound': no annotation of an analysed degree exists over the schedule's earlier blocks. Reasons were found by trying.\n"
 
 -- what is said of functions that have bounds, then why groups have none, and what that means
 pub record IsWhy (name source : Text) (P : Prog) (explanation : Explanation) (part : Text) : Type 0 where

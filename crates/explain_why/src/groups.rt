@@ -98,7 +98,7 @@ fn meaning(reasons: &[Explained<'_>]) -> &'static str
     match reasons {
         [] => "",
         [_, ..] =>
-            "'no bound' means that no annotation of a degree that was analysed exists over the schedule's earlier blocks; the reason is what was found by trying.\n",
+            "'no bound': no annotation of an analysed degree exists over the schedule's earlier blocks. Reasons were found by trying.\n",
     }
 }
 

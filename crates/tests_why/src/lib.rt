@@ -1,4 +1,4 @@
-//! Tests of `explain_reasons`: why functions of six natural programs have no bounds.
+//! Tests of `explain_reasons` and of `explain_why`: why functions of six natural programs have no bounds.
 #![tactic(auto)]
 
 #[cfg(test)]
@@ -7,3 +7,5 @@ mod reasons;
 mod shown;
 #[cfg(test)]
 mod sources;
+#[cfg(test)]
+mod words;

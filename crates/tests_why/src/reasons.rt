@@ -9,11 +9,11 @@ fn rebuilt(rt: HostRuntime) -> Result<(), Fail> {
         (GROUPBY, " report: rebuild for 2 lines 8:51 (key, vs);"),
         (
             JOIN,
-            " join: rebuild for 3 lines 13:37 (a :: lt) 14:39 (a :: lt);",
+            " join: rebuild for 3 lines 12:36 (b :: rt) 13:37 (a :: lt) 14:39 (a :: lt);",
         ),
         (
             MERGESORT,
-            " merge: rebuild for 6 lines 13:14 (x :: at) 18:60 (x :: at); sort: waits for merge;",
+            " merge: rebuild for 6 lines 13:14 (x :: at) 18:41 (y :: bt) 18:60 (x :: at); sort: waits for merge;",
         ),
     ] {
         assert_eq!(rt; shown(rt.alloc(), source, 4)?.as_str(), want);
@@ -32,6 +32,32 @@ fn calls(rt: HostRuntime) -> Result<(), Fail> {
         (LEDGER, " apply: not found;"),
     ] {
         assert_eq!(rt; shown(rt.alloc(), source, 4)?.as_str(), want);
+    }
+    Ok(())
+}
+
+/// A list is summed twice in each round.
+const TWICE: &str =
+    "fun f (l : int list) : int = match l with nil -> 1 | h :: t -> tick 1 in f(t) + f(t)";
+
+/// A list is handed on as another function gives it back.
+const COMPUTED: &str = "fun g (l : int list) : int list = l\n\
+    fun f (l : int list) : int = match l with nil -> 0 | h :: t -> tick 1 in f(g(l))";
+
+/// In each round the rest of a list is counted.
+const SQUARE: &str =
+    "fun len (l : int list) : int = match l with nil -> 0 | h :: t -> tick 1 in 1 + len(t)\n\
+    fun sq (l : int list) : int = match l with nil -> 0 | h :: t -> len(t) + sq(t)";
+
+#[test]
+fn small(rt: HostRuntime) -> Result<(), Fail> {
+    for (source, degree, want) in [
+        (TWICE, 4, " f: twice 1:74 1:81;"),
+        (COMPUTED, 4, " f: computed 2:74;"),
+        (SQUARE, 2, ""),
+        (SQUARE, 1, " sq from degree 2; sq from degree 2;"),
+    ] {
+        assert_eq!(rt; shown(rt.alloc(), source, degree)?.as_str(), want);
     }
     Ok(())
 }
