@@ -7,3 +7,4 @@ pub mod Asked
 pub mod Read
 pub mod Reasons
 pub mod Explanation
+pub mod Laws

@@ -1,5 +1,5 @@
 -- Why a group of functions has no bound.
-use Rattle.std.specs.Prelude.{◌≡◌, ℕ, List, Some}
+use Rattle.std.specs.Prelude.{◌≡◌, ◌⊎◌, ℕ, List, Some}
 use Rattle.std.specs.List.{All}
 use Rattle.raml_syntax.specs.Tree.{Text, Prog}
 use Rattle.call_groups.specs.Read.{ids_of}
@@ -14,7 +14,7 @@ use Rattle.explain_lines.specs.Lines.{first_lacking}
 use Rattle.explain_rebuild.specs.Reached.{IsReachedSite, AreAmong}
 use Rattle.explain_rebuild.specs.Rebuilt.{IsRebuilt}
 use Rattle.explain_rebuild.specs.declared.mending.Rebuilt.{Rebuilt}
-use Rattle.explain_reasons.specs.Waits.{WaitsFor}
+use Rattle.explain_reasons.specs.Waits.{WaitsFor, WaitsForNone}
 use Rattle.explain_reasons.specs.Rounds.{RoundsBounded}
 use Rattle.explain_reasons.specs.Calls.{AreCallsOf, ArePairs, AreStuck, AreStuckOrNone}
 use Rattle.explain_reasons.specs.Degrees.{CallsOfDegree}
@@ -42,6 +42,15 @@ IsReason source P found most group (r.Computed calls) = AreCallsOf Computed P gr
 IsReason source P found most group (r.DegreeTooLow callee degree) = RoundsBounded P group most × CallsOfDegree P found group callee.0 degree
 IsReason source P found most group r.NotFound = Unit {0}
 
+-- the reason is that the group waits for another one
+abbrev pub IsWaiting : Reason → Type 0
+IsWaiting (r.Waits callee stuck) = Unit {0}
+IsWaiting _ = ⊥
+
+-- each other reason is one of a group that waits for none
+abbrev pub IsRoot : Prog → List Findings → List ℕ → Reason → Type 0
+IsRoot P found group reason = IsWaiting reason ⊎ WaitsForNone P found group
+
 abbrev pub group_in : Explained → List ℕ
 group_in explained = ids_of explained.group.items
 
@@ -49,3 +58,4 @@ group_in explained = ids_of explained.group.items
 pub record IsExplained (source : Text) (P : Prog) (found : List Findings) (most : ℕ) (explained : Explained) : Type 0 where
   pub function : first_lacking found (group_in explained) ≡ Some explained.fun.0
   pub reason : IsReason source P found most (group_in explained) explained.reason
+  pub root : IsRoot P found (group_in explained) explained.reason

@@ -4,6 +4,7 @@
 mod asked;
 mod calls;
 mod degree;
+pub mod laws;
 mod note;
 mod program;
 mod reason;

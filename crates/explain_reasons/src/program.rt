@@ -9,7 +9,7 @@ ghost use Rattle.explain_reasons.specs.Asked.{IsAsked, source_in, program_in, fo
 ghost use Rattle.explain_rounds.specs.declared.idle.Kind.TheVariants.{Stuck};
 ghost use Rattle.explain_reasons.specs.Calls.{calls_of_kind, AreStuckOrNone};
 ghost use Rattle.explain_reasons.specs.Rounds.{RoundsUnbounded, RoundsBounded};
-ghost use Rattle.explain_reasons.specs.Reasons.{RebuildHelps, IsReason, IsExplained, group_in};
+ghost use Rattle.explain_reasons.specs.Reasons.{RebuildHelps, IsReason, IsRoot, IsExplained, group_in};
 ghost use Rattle.explain_reasons.specs.Explanation.{is_lacking, AreReasons, IsExplanation};
 
 use crate::asked::Asked;
@@ -183,8 +183,9 @@ fn reason<'s, 'a>(
     group: &[FunId],
 ) -> Result<Reason<'a>, AllocError>
     requires { IsAsked asked }
-    ensures { IfOk result (IsReason (source_in asked.entry) (program_in asked.entry) (found_in asked.entry) asked.entry.original.most
+    ensures reason { IfOk result (IsReason (source_in asked.entry) (program_in asked.entry) (found_in asked.entry) asked.entry.original.most
         (ids_of group.now)) }
+    ensures root { IfOk result (IsRoot (program_in asked.entry) (found_in asked.entry) (ids_of group.now)) }
 {
     match waits_for(asked, group) {
         Some(callee) => {
