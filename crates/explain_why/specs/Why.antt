@@ -1,5 +1,5 @@
 -- What is told of a program: why functions have no bounds.
-use Rattle.std.specs.Prelude.{◌≡◌, List, [], ◌∷◌, ◌++◌, map, codes}
+use Rattle.std.specs.Prelude.{◌≡◌, List, [], ◌∷◌, ◌++◌, map, Bool, true, false, cond, Option, Some, None, codes}
 use Rattle.raml_syntax.specs.Tree.{Text, Prog}
 use Rattle.raml_syntax.specs.Read.{program_of}
 use Rattle.explain_trials.specs.declared.trial.Trial.{Trial}
@@ -15,6 +15,7 @@ use Rattle.explain_sentences.specs.Reasons.{of_reason, closing}
 use Rattle.explain_why.specs.Shown.{AreShown}
 use Rattle.explain_why.specs.Bounds.{AllCanBeToldOf, AreBoundLines}
 use Rattle.explain_why.specs.Notes.{notes_text}
+use Rattle.explain_why.specs.Chosen.{Asking, is_told, some_told, is_noted}
 
 -- what was found of a program that was tried can be told
 abbrev pub TrialCanBeTold : Trial → Type 0
@@ -42,19 +43,49 @@ pub record IsGroup (name source : Text) (P : Prog) (explained : Explained) (part
   pub are : BoundsAre explained.reason bounds
   pub is : part ≡ shown ++ (closing explained.reason ++ bounds)
 
-abbrev pub AreGroups : Text → Text → Prog → List Explained → Text → Type 0
-AreGroups name source P [] part = part ≡ []
-AreGroups name source P (e ∷ es) part =
-    (first : Text) × (others : Text) × IsGroup name source P e first × AreGroups name source P es others × (part ≡ first ++ others)
+-- of a group that is told
+abbrev pub IsGroupIf : Bool → Text → Text → Prog → Explained → Text → Type 0
+IsGroupIf true name source P e part = IsGroup name source P e part
+IsGroupIf false name source P e part = part ≡ []
 
--- what 'no bound' means, where that is said
-abbrev pub meaning : List Explained → Text
-meaning [] = []
-meaning (e ∷ es) =
-    codes "'no bound': no annotation of an analysed degree exists over the schedule's earlier blocks. Reasons were found by trying.\n"
+-- of those of the groups that the test takes
+abbrev pub AreGroups : (Explained → Bool) → Text → Text → Prog → List Explained → Text → Type 0
+AreGroups test name source P [] part = part ≡ []
+AreGroups test name source P (e ∷ es) part =
+    (first : Text) × (others : Text) × IsGroupIf (test e) name source P e first × AreGroups test name source P es others
+    × (part ≡ first ++ others)
+
+-- what 'no bound' means, where that is said of some group
+abbrev pub meaning : Bool → Text
+meaning false = codes "no bound is missing\n"
+meaning true =
+    codes "No bound: that is proved for each degree that was analysed, given what was found of the functions that are called. "
+    ++ codes "The reasons were found by trying.\n"
+
+-- the groups that are told of
+abbrev pub told_of : Asking → Explanation → Explained → Bool
+told_of asking x = is_told asking x.found.functions.items x.reasons.items
+
+abbrev pub told_some : Asking → Explanation → Bool
+told_some asking x = some_told asking x.found.functions.items x.reasons.items x.reasons.items
 
 -- what is said of functions that have bounds, then why groups have none, and what that means
-pub record IsWhy (name source : Text) (P : Prog) (explanation : Explanation) (part : Text) : Type 0 where
+pub record IsWhy (name source : Text) (P : Prog) (asking : Asking) (explanation : Explanation) (part : Text) : Type 0 where
   pub groups : Text
-  pub are : AreGroups name source P explanation.reasons.items groups
-  pub is : part ≡ notes_text P (map note_in explanation.notes.items) ++ (groups ++ meaning explanation.reasons.items)
+  pub are : AreGroups (told_of asking explanation) name source P explanation.reasons.items groups
+  pub is : part ≡ notes_text P (is_noted asking) (map note_in explanation.notes.items) ++ (groups ++ meaning (told_some asking explanation))
+
+-- ---- the first change
+
+abbrev pub change_of : Reason → Option Text
+change_of (r.Rebuild rebuilt) = Some rebuilt.trial.text.items
+change_of _ = None
+
+abbrev pub first_of : Option Text → Option Text → Option Text
+first_of (Some change) later = Some change
+first_of None later = later
+
+-- the source that is changed so that the first of the groups gets its bounds, of those that the test takes
+abbrev pub first_change : (Explained → Bool) → List Explained → Option Text
+first_change test [] = None
+first_change test (e ∷ es) = first_of (cond (test e) (change_of e.reason) None) (first_change test es)

@@ -5,9 +5,11 @@ ghost use Rattle.raml_syntax.specs.Tree.{Text};
 ghost use Rattle.raml_syntax.specs.Read.{program_of};
 ghost use Rattle.explain_reasons.specs.Explanation.{IsExplanation};
 ghost use Rattle.explain_why.specs.Why as w;
-ghost use Rattle.explain_why.specs.Why.{ReasonCanBeTold, BoundsAre, IsGroup, AreGroups, IsWhy};
+ghost use Rattle.explain_why.specs.Why.{ReasonCanBeTold, BoundsAre, IsGroup, IsGroupIf, AreGroups, IsWhy, told_of, told_some};
+ghost use Rattle.explain_why.specs.Chosen.{asking_in};
 
 use crate::bounds::push_bounds;
+use crate::chosen::Asking;
 use crate::notes::push_notes;
 use crate::shown::push_sentences;
 use explain_bounds::laws::findings_can_be_told;
@@ -51,72 +53,119 @@ fn push_tried(alloc: Global, text: &mut String, reason: &Reason<'_>) -> Result<(
     }
 }
 
+/// What is told of: a program, with the name of its file and its source, and what is asked about.
+#[derive(Clone, Copy)]
+pub struct Subject<'s> {
+    pub name: &'s str,
+    pub source: &'s [u8],
+    pub program: &'s Program,
+    pub asking: Asking,
+}
+
+impl<'s> Subject<'s> {
+    /// Whether a group is told of.
+    pub(crate) fn tells(self, explanation: &Explanation<'_>, explained: &Explained<'_>) -> bool
+        ensures { result ≡ told_of (asking_in self.entry.asking) explanation.now explained.now }
+    {
+        let found = &explanation.found.functions;
+        self.asking.tells(found, &explanation.reasons, explained)
+    }
+
+    fn tells_some(self, explanation: &Explanation<'_>) -> bool
+        ensures { result ≡ told_some (asking_in self.entry.asking) explanation.now }
+    {
+        let found = &explanation.found.functions;
+        let reasons = &explanation.reasons;
+        self.asking.tells_some(found, reasons, reasons)
+    }
+}
+
 /// Appends why a group has no bound.
 fn push_group(
     alloc: Global,
     text: &mut String,
-    name: &str,
-    source: &[u8],
-    program: &Program,
+    subject: Subject<'_>,
     explained: &Explained<'_>,
 ) -> Result<(), AllocError>
     requires { ReasonCanBeTold explained.now.reason }
-    ensures { OnOk result ((part : Text) × IsGroup name.now source.now (program_of program.now) explained.now part
+    ensures { OnOk result ((part : Text) × IsGroup subject.entry.name.now subject.entry.source.now
+        (program_of subject.entry.program.now) explained.now part
         × (string_bytes text.new ≡ string_bytes text.old ++ part)) }
 {
-    let sentences = sentences(alloc, program, explained)?;
-    push_sentences(alloc, text, name, source, &sentences)?;
+    let sentences = sentences(alloc, subject.program, explained)?;
+    push_sentences(alloc, text, subject.name, subject.source, &sentences)?;
     text.push_str(closing(&explained.reason))?;
     push_tried(alloc, text, &explained.reason)
 }
 
+/// Appends it, where the group is told of.
+fn push_group_if(
+    alloc: Global,
+    text: &mut String,
+    subject: Subject<'_>,
+    explained: &Explained<'_>,
+    is_told: bool,
+) -> Result<(), AllocError>
+    requires { ReasonCanBeTold explained.now.reason }
+    ensures { OnOk result ((part : Text) × IsGroupIf is_told subject.entry.name.now subject.entry.source.now
+        (program_of subject.entry.program.now) explained.now part
+        × (string_bytes text.new ≡ string_bytes text.old ++ part)) }
+{
+    if is_told {
+        push_group(alloc, text, subject, explained)
+    } else {
+        Ok(())
+    }
+}
+
+/// Appends it of those of the groups that are told of.
 fn push_groups(
     alloc: Global,
     text: &mut String,
-    name: &str,
-    source: &[u8],
-    program: &Program,
+    subject: Subject<'_>,
+    explanation: &Explanation<'_>,
     reasons: &[Explained<'_>],
 ) -> Result<(), AllocError>
     requires { All (λ e. ReasonCanBeTold e.reason) reasons.now }
-    ensures { OnOk result ((part : Text) × AreGroups name.now source.now (program_of program.now) reasons.now part
+    ensures { OnOk result ((part : Text) × AreGroups (told_of (asking_in subject.entry.asking) explanation.now)
+        subject.entry.name.now subject.entry.source.now (program_of subject.entry.program.now) reasons.now part
         × (string_bytes text.new ≡ string_bytes text.old ++ part)) }
 {
     match reasons {
         [] => Ok(()),
         [first, rest @ ..] => {
-            push_group(alloc, text, name, source, program, first)?;
-            push_groups(alloc, text, name, source, program, rest)
+            let is_told = subject.tells(explanation, first);
+            push_group_if(alloc, text, subject, first, is_told)?;
+            push_groups(alloc, text, subject, explanation, rest)
         }
     }
 }
 
 /// What 'no bound' means, where that is said.
-fn meaning(reasons: &[Explained<'_>]) -> &'static str
-    ensures { result.now ≡ w.meaning reasons.now }
+fn meaning(told_some: bool) -> &'static str
+    ensures { result.now ≡ w.meaning told_some }
 {
-    match reasons {
-        [] => "",
-        [_, ..] =>
-            "'no bound': no annotation of an analysed degree exists over the schedule's earlier blocks. Reasons were found by trying.\n",
+    if told_some {
+        "No bound: that is proved for each degree that was analysed, given what was found of the functions that are called. The reasons were found by trying.\n"
+    } else {
+        "no bound is missing\n"
     }
 }
 
-/// Appends why functions of the program in the source of this name have no bounds, and what is said of the others.
+/// Appends why functions of a program have no bounds, and what is said of the others.
 pub fn push_why(
     alloc: Global,
     text: &mut String,
-    name: &str,
-    source: &[u8],
-    program: &Program,
+    subject: Subject<'_>,
     explanation: &Explanation<'_>,
 ) -> Result<(), AllocError>
-    requires { (degree : ℕ) × IsExplanation source.now (program_of program.now) degree explanation.now }
-    ensures { OnOk result ((part : Text) × IsWhy name.now source.now (program_of program.now) explanation.now part
+    requires { (degree : ℕ) × IsExplanation subject.source.now (program_of subject.program.now) degree explanation.now }
+    ensures { OnOk result ((part : Text) × IsWhy subject.entry.name.now subject.entry.source.now
+        (program_of subject.entry.program.now) (asking_in subject.entry.asking) explanation.now part
         × (string_bytes text.new ≡ string_bytes text.old ++ part)) }
 {
     findings_can_be_told();
-    push_notes(text, program, &explanation.notes)?;
-    push_groups(alloc, text, name, source, program, &explanation.reasons)?;
-    text.push_str(meaning(&explanation.reasons))
+    push_notes(text, subject.program, subject.asking, &explanation.notes)?;
+    push_groups(alloc, text, subject, explanation, &explanation.reasons)?;
+    text.push_str(meaning(subject.tells_some(explanation)))
 }

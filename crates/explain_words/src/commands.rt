@@ -7,6 +7,7 @@ mod bounds;
 mod budget;
 mod check;
 mod verify;
+mod why;
 
 use clap::{Arg, ArgAction, Command};
 use std::alloc::{AllocError, Global};
@@ -20,7 +21,8 @@ pub fn program<'a>(alloc: Global) -> Result<Command<'a>, AllocError>
 {
     let command = begun(alloc)?;
     let with_budget = command.subcommand(budget::command(alloc)?)?;
-    with_budget.subcommand(verify::command(alloc)?)
+    let with_verify = with_budget.subcommand(verify::command(alloc)?)?;
+    with_verify.subcommand(why::command(alloc)?)
 }
 
 // With its first commands.
