@@ -4,6 +4,7 @@ use Rattle.raml_syntax.specs.Tree.{Text, Function, Prog}
 use Rattle.report_text.specs.Names.{name_at}
 use Rattle.explain_changes.specs.Built.{text}
 use Rattle.explain_changes.specs.Sites.{Site}
+use Rattle.explain_uses.specs.Uses.{LaterUse}
 use Rattle.explain_rounds.specs.declared.idle.Kind.{Kind}
 use Rattle.explain_rounds.specs.declared.idle.Kind.TheVariants.{Smaller, Computed, Stuck}
 use Rattle.explain_rounds.specs.Calls.{Call}
@@ -78,6 +79,13 @@ why_waiting P callee = codes "it calls `" ++ (name_at P callee ++ codes "`, whic
 abbrev pub of_waiting : Prog → ℕ → ℕ → List Sentence
 of_waiting P f callee = at_function P f (why_waiting P callee)
 
+-- its calls of another one are written out
+abbrev pub why_inlined : Prog → ℕ → Text
+why_inlined P callee = codes "it has one where its calls of `" ++ (name_at P callee ++ codes "` are written out")
+
+abbrev pub of_inlined : Prog → ℕ → ℕ → ℕ → List Sentence
+of_inlined P f caller callee = unbounded P f (begin_of P caller) (why_inlined P callee) ∷ []
+
 abbrev pub why_degree : Prog → ℕ → ℕ → Text
 why_degree P callee degree =
     codes "it calls `" ++ (name_at P callee ++ (codes "`, whose bound has degree " ++ (decimal degree
@@ -85,6 +93,23 @@ why_degree P callee degree =
 
 abbrev pub of_degree : Prog → ℕ → ℕ → ℕ → List Sentence
 of_degree P f callee degree = at_function P f (why_degree P callee degree)
+
+-- ---- values that are used twice
+
+abbrev pub why_first : Text → Text → Text
+why_first variable function = codes "`" ++ (variable ++ (codes "` of `" ++ (function ++ codes "` is used here")))
+
+abbrev pub why_again : Text → Text → Text
+why_again variable function =
+    codes "`" ++ (variable ++ (codes "` of `" ++ (function ++ codes "` is used here again, and both uses must be paid for")))
+
+abbrev pub of_use : Prog → ℕ → LaterUse → List Sentence
+of_use P f u =
+    unbounded P f u.first (why_first u.variable u.function) ∷ unbounded P f u.at (why_again u.variable u.function) ∷ []
+
+abbrev pub of_uses : Prog → ℕ → List LaterUse → List Sentence
+of_uses P f [] = []
+of_uses P f (u ∷ us) = of_use P f u ++ of_uses P f us
 
 -- behind stuck calls, where there are some
 abbrev pub closing_of_stuck : {A : Type 0} → List A → Text

@@ -24,12 +24,15 @@ pub fn closing(reason: &Reason<'_>) -> &'static str
         Reason::Waits { callee: _, stuck } => of_stuck(stuck),
         Reason::Rebuild(_) =>
             "Both uses must be paid for, and what is set aside for an element pays once.\n",
-        Reason::Stuck(calls) => of_stuck(calls),
+        Reason::Inline(_) => "What they give is then known where it is used.\n",
+        Reason::Stuck { calls, .. } => of_stuck(calls),
         Reason::Twice(_) =>
             "The number of calls doubles with each part, and no polynomial bounds that.\n",
-        Reason::Computed(_) =>
-            "A list with an entry for each round, handed on beside, would bound the rounds.\n",
+        Reason::Computed { .. } =>
+            "What another call made is not known to be smaller, so it cannot pay for the rounds.\n",
         Reason::DegreeTooLow { .. } => "",
+        Reason::PaidTwice(_) =>
+            "What is set aside for a value pays once; a function that gets it can give it back, and then it is used once.\n",
         Reason::NotFound => "",
     }
 }

@@ -1,11 +1,12 @@
 -- What is told of a program: why functions have no bounds.
-use Rattle.std.specs.Prelude.{◌≡◌, List, [], ◌∷◌, ◌++◌, map, Bool, true, false, cond, Option, Some, None, codes}
+use Rattle.std.specs.Prelude.{◌≡◌, List, [], ◌∷◌, ◌++◌, map, Bool, true, false, cond, Option, Some, None, IfSome, codes, string_bytes}
 use Rattle.raml_syntax.specs.Tree.{Text, Prog}
 use Rattle.raml_syntax.specs.Read.{program_of}
 use Rattle.explain_trials.specs.declared.trial.Trial.{Trial}
 use Rattle.explain_lines.specs.Read.{lines_of}
 use Rattle.explain_rebuild.specs.Sources.{findings_in}
-use Rattle.explain_rebuild.specs.declared.mending.Rebuilt.{Rebuilt}
+use Rattle.explain_lines.specs.declared.bounds.Line.{Line}
+use Rattle.explain_supply.specs.declared.supply.Supplied.{Supplied}
 use Rattle.explain_reasons.specs.Explanation.{note_in}
 use Rattle.explain_reasons.specs.declared.reason.Explained.{Explained}
 use Rattle.explain_reasons.specs.declared.reason.Reason.{Reason}
@@ -21,18 +22,42 @@ use Rattle.explain_why.specs.Chosen.{Asking, is_told, some_told, is_noted}
 abbrev pub TrialCanBeTold : Trial → Type 0
 TrialCanBeTold trial = AllCanBeToldOf (program_of trial.typed) (findings_in trial)
 
+abbrev pub SupplyCanBeTold : Option Supplied → Type 0
+SupplyCanBeTold supplied = IfSome supplied (λ s. TrialCanBeTold s.trial)
+
 abbrev pub ReasonCanBeTold : Reason → Type 0
 ReasonCanBeTold (r.Rebuild rebuilt) = TrialCanBeTold rebuilt.trial
+ReasonCanBeTold (r.Inline inlined) = TrialCanBeTold inlined.trial
+ReasonCanBeTold (r.Stuck calls supplied) = SupplyCanBeTold supplied
+ReasonCanBeTold (r.Computed calls supplied) = SupplyCanBeTold supplied
 ReasonCanBeTold _ = Unit {0}
 
--- The bounds that there are once values are built again: those that analyses find of the program that the changed text spells.
-pub record RebuiltIs (rebuilt : Rebuilt) (part : Text) : Type 0 where
+-- The bounds of these lines in a program that was tried, behind a line that says what was changed.
+pub record TrialIs (head : Text) (trial : Trial) (lines : List Line) (part : Text) : Type 0 where
   pub bounds : Text
-  pub are : AreBoundLines (program_of rebuilt.trial.typed) (findings_in rebuilt.trial) (lines_of rebuilt.lines.items) bounds
-  pub is : part ≡ codes "Each such place makes at most one more cell when it runs. With this there are these bounds:\n" ++ bounds
+  pub are : AreBoundLines (program_of trial.typed) (findings_in trial) (lines_of lines) bounds
+  pub is : part ≡ head ++ bounds
 
+abbrev pub rebuilt_head : Text
+rebuilt_head = codes "Each such place makes at most one more cell when it runs. With this there are these bounds:\n"
+
+abbrev pub inlined_head : Text
+inlined_head = codes "`--write OTHER.raml` leaves the source so. With this there are these bounds:\n"
+
+abbrev pub supplied_head : Text → Text
+supplied_head name =
+    codes "If a list `" ++ (name ++ codes "` with an entry for each round came as one more parameter, there would be these bounds:\n")
+
+abbrev pub SupplyIs : Option Supplied → Text → Type 0
+SupplyIs None part = part ≡ []
+SupplyIs (Some s) part = TrialIs (supplied_head (string_bytes s.name)) s.trial s.lines.items part
+
+-- the bounds of what was tried for a reason
 abbrev pub BoundsAre : Reason → Text → Type 0
-BoundsAre (r.Rebuild rebuilt) part = RebuiltIs rebuilt part
+BoundsAre (r.Rebuild rebuilt) part = TrialIs rebuilt_head rebuilt.trial rebuilt.lines.items part
+BoundsAre (r.Inline inlined) part = TrialIs inlined_head inlined.trial inlined.lines.items part
+BoundsAre (r.Stuck calls supplied) part = SupplyIs supplied part
+BoundsAre (r.Computed calls supplied) part = SupplyIs supplied part
 BoundsAre _ part = part ≡ []
 
 -- of a group: the sentences of its reason, each at its place, what is said behind them, and the bounds of what was tried
@@ -79,6 +104,7 @@ pub record IsWhy (name source : Text) (P : Prog) (asking : Asking) (explanation 
 
 abbrev pub change_of : Reason → Option Text
 change_of (r.Rebuild rebuilt) = Some rebuilt.trial.text.items
+change_of (r.Inline inlined) = Some inlined.trial.text.items
 change_of _ = None
 
 abbrev pub first_of : Option Text → Option Text → Option Text

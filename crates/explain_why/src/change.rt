@@ -16,11 +16,13 @@ fn change_of<'e>(reason: &'e Reason<'_>) -> Option<&'e [u8]>
 {
     match reason {
         Reason::Rebuild(rebuilt) => Some(&rebuilt.trial.text),
+        Reason::Inline(inlined) => Some(&inlined.trial.text),
         Reason::Waits { .. }
-        | Reason::Stuck(_)
+        | Reason::Stuck { .. }
         | Reason::Twice(_)
-        | Reason::Computed(_)
+        | Reason::Computed { .. }
         | Reason::DegreeTooLow { .. }
+        | Reason::PaidTwice(_)
         | Reason::NotFound => None,
     }
 }

@@ -58,10 +58,12 @@ fn callee_of(reason: &Reason<'_>) -> Option<FunId>
     match reason {
         Reason::Waits { callee, .. } => Some(*callee),
         Reason::Rebuild(_)
-        | Reason::Stuck(_)
+        | Reason::Inline(_)
+        | Reason::Stuck { .. }
         | Reason::Twice(_)
-        | Reason::Computed(_)
+        | Reason::Computed { .. }
         | Reason::DegreeTooLow { .. }
+        | Reason::PaidTwice(_)
         | Reason::NotFound => None,
     }
 }

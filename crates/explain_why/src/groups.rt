@@ -1,5 +1,5 @@
 // What is told of a program.
-ghost use Rattle.std.specs.Prelude.{◌≡◌, ◌++◌, ℕ, OnOk, string_bytes};
+ghost use Rattle.std.specs.Prelude.{◌≡◌, ◌++◌, ℕ, IfOk, OnOk, string_bytes};
 ghost use Rattle.std.specs.List.{All};
 ghost use Rattle.raml_syntax.specs.Tree.{Text};
 ghost use Rattle.raml_syntax.specs.Read.{program_of};
@@ -14,27 +14,62 @@ use crate::notes::push_notes;
 use crate::shown::push_sentences;
 use explain_bounds::laws::findings_can_be_told;
 use explain_reasons::{Explained, Explanation, Reason};
-use explain_rebuild::Rebuilt;
+use explain_lines::Line;
 use explain_sentences::{closing, sentences};
+use explain_supply::Supplied;
+use explain_trials::Trial;
 use raml_syntax::Program;
 use std::alloc::{AllocError, Global};
 
-/// Appends the bounds that there are once values are built again.
-fn push_rebuilt(alloc: Global, text: &mut String, rebuilt: &Rebuilt<'_>) -> Result<(), AllocError>
-    requires { w.TrialCanBeTold rebuilt.now.trial }
-    ensures { OnOk result ((part : Text) × w.RebuiltIs rebuilt.now part × (string_bytes text.new ≡ string_bytes text.old ++ part)) }
+/// What is said before bounds that values that are built again give.
+const REBUILT: &str =
+    "Each such place makes at most one more cell when it runs. With this there are these bounds:\n";
+
+/// What is said before those that calls that are written out give.
+const INLINED: &str =
+    "`--write OTHER.raml` leaves the source so. With this there are these bounds:\n";
+
+/// Appends the bounds of these lines in a program that was tried, behind a line that says what was changed.
+fn push_trial(
+    alloc: Global,
+    text: &mut String,
+    head: &str,
+    trial: &Trial,
+    lines: &[Line],
+) -> Result<(), AllocError>
+    requires { w.TrialCanBeTold trial.now }
+    ensures { OnOk result ((part : Text) × w.TrialIs head.now trial.now lines.now part × (string_bytes text.new ≡ string_bytes text.old ++ part)) }
 {
-    text.push_str(
-        "Each such place makes at most one more cell when it runs. With this there are these bounds:\n",
-    )?;
-    let program = rebuilt.trial.typed.program();
-    push_bounds(
-        alloc,
-        text,
-        program,
-        &rebuilt.trial.found.functions,
-        &rebuilt.lines,
+    text.push_str(head)?;
+    let program = trial.typed.program();
+    push_bounds(alloc, text, program, &trial.found.functions, lines)
+}
+
+/// What is said before the bounds that a list which pays for the rounds gives.
+fn supplied_head(alloc: Global, name: &str) -> Result<String, AllocError>
+    ensures { IfOk result (λ head. string_bytes head ≡ w.supplied_head name.now) }
+{
+    format!(in alloc;
+        "If a list `{name}` with an entry for each round came as one more parameter, there would be these bounds:\n"
     )
+}
+
+/// Appends these bounds, where there are any.
+fn push_supplied(
+    alloc: Global,
+    text: &mut String,
+    supplied: &Option<Supplied>,
+) -> Result<(), AllocError>
+    requires { w.SupplyCanBeTold supplied.now }
+    ensures { OnOk result ((part : Text) × w.SupplyIs supplied.now part × (string_bytes text.new ≡ string_bytes text.old ++ part)) }
+{
+    match supplied {
+        Some(supplied) => {
+            let head = supplied_head(alloc, &supplied.name)?;
+            push_trial(alloc, text, &head, &supplied.trial, &supplied.lines)
+        }
+        None => Ok(()),
+    }
 }
 
 /// Appends the bounds of a program that was tried, where there is one.
@@ -43,12 +78,18 @@ fn push_tried(alloc: Global, text: &mut String, reason: &Reason<'_>) -> Result<(
     ensures { OnOk result ((part : Text) × BoundsAre reason.now part × (string_bytes text.new ≡ string_bytes text.old ++ part)) }
 {
     match reason {
-        Reason::Rebuild(rebuilt) => push_rebuilt(alloc, text, rebuilt),
+        Reason::Rebuild(rebuilt) => {
+            push_trial(alloc, text, REBUILT, &rebuilt.trial, &rebuilt.lines)
+        }
+        Reason::Inline(inlined) => {
+            push_trial(alloc, text, INLINED, &inlined.trial, &inlined.lines)
+        }
+        Reason::Stuck { supplied, .. } => push_supplied(alloc, text, supplied),
+        Reason::Computed { supplied, .. } => push_supplied(alloc, text, supplied),
         Reason::Waits { .. }
-        | Reason::Stuck(_)
         | Reason::Twice(_)
-        | Reason::Computed(_)
         | Reason::DegreeTooLow { .. }
+        | Reason::PaidTwice(_)
         | Reason::NotFound => Ok(()),
     }
 }

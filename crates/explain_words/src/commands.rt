@@ -13,7 +13,7 @@ use clap::{Arg, ArgAction, Command};
 use std::alloc::{AllocError, Global};
 
 /// The version of the program.
-pub const VERSION: &str = "1.0.0";
+pub const VERSION: &str = "1.1.0";
 
 /// The program, with all its commands. Its words are those behind its name.
 pub fn program<'a>(alloc: Global) -> Result<Command<'a>, AllocError>

@@ -9,7 +9,7 @@ use Rattle.explain_rebuild.specs.Rebuilt.{IsRebuilt}
 use Rattle.explain_rebuild.proofs.Adding.{from_some}
 use Rattle.explain_reasons.specs.Asked.{source_in, program_in, found_in}
 use Rattle.explain_reasons.specs.Reasons.{RebuildHelps}
-use Rattle.explain_reasons.proofs.program.by_rebuilding.Goals as goal
+use Rattle.explain_reasons.proofs.trying.by_rebuilding.Goals as goal
 
 pub returns : goal.returns
 returns c =

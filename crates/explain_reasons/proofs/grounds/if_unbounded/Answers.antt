@@ -1,5 +1,5 @@
 use Rattle.std.proofs.Common.{inr, sym, ◌∙◌}
-use Rattle.explain_reasons.proofs.program.if_unbounded.Goals as goal
+use Rattle.explain_reasons.proofs.grounds.if_unbounded.Goals as goal
 
 pub returns-then-some_unbounded : goal.returns-then-some_unbounded
 returns-then-some_unbounded c =
