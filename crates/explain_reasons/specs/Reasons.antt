@@ -14,7 +14,6 @@ use Rattle.explain_lines.specs.Lines.{first_lacking}
 use Rattle.explain_rebuild.specs.Reached.{IsReachedSite, AreAmong}
 use Rattle.explain_rebuild.specs.Rebuilt.{IsRebuilt}
 use Rattle.explain_rebuild.specs.declared.mending.Rebuilt.{Rebuilt}
-use Rattle.explain_inline.specs.Inlined.{IsInlined}
 use Rattle.explain_supply.specs.Supply.{IsSupplied}
 use Rattle.explain_uses.specs.Uses.{program_uses}
 use Rattle.explain_uses.specs.Read.{uses_of}
@@ -49,7 +48,6 @@ abbrev pub IsReason : Text → Prog → List Findings → ℕ → List ℕ → R
 IsReason source P found most group (r.Waits callee stuck) =
     WaitsFor P found group callee.0 × AreStuckOrNone P group most (calls_of stuck.items)
 IsReason source P found most group (r.Rebuild rebuilt) = RebuildHelps source P found most group rebuilt
-IsReason source P found most group (r.Inline inlined) = IsInlined source found most group inlined
 IsReason source P found most group (r.Stuck calls supplied) =
     AreStuck P group most (calls_of calls.items) × IfSome supplied (IsSupplied source P most group)
 IsReason source P found most group (r.Twice pairs) = ArePairs P group most (pairs_of pairs.items)

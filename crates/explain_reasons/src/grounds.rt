@@ -14,7 +14,7 @@ use crate::degree::callee_of_degree;
 use crate::program::HIGHEST;
 use crate::reason::Reason;
 use crate::rounds::{all_bounded, rounds_found, some_unbounded};
-use crate::trying::{by_rebuilding, by_uses, by_writing_out, supplied};
+use crate::trying::{by_rebuilding, by_uses, supplied};
 use crate::waits::waits_for;
 use explain_rounds::{GroupCall, Kind};
 use raml_syntax::FunId;
@@ -98,23 +98,6 @@ fn by_parts<'s, 'a>(
     }
 }
 
-/// The same of calls at which something may get smaller: calls that are written out are tried first.
-fn by_moving_calls<'s, 'a>(
-    alloc: Global,
-    asked: Asked<'s, 'a>,
-    group: &[FunId],
-) -> Result<Reason<'a>, AllocError>
-    requires asked { IsAsked asked }
-    requires rounds { RoundsUnbounded (program_in asked) (ids_of group.now) asked.original.most }
-    ensures { IfOk result (IsReason (source_in asked.entry) (program_in asked.entry) (found_in asked.entry) asked.entry.original.most
-        (ids_of group.now)) }
-{
-    match by_writing_out(alloc, asked, group)? {
-        Some(inlined) => Ok(Reason::Inline(inlined)),
-        None => by_parts(alloc, asked, group),
-    }
-}
-
 /// What the calls inside a group tell, where their number has no bound.
 fn by_calls<'s, 'a>(
     alloc: Global,
@@ -128,7 +111,7 @@ fn by_calls<'s, 'a>(
 {
     let calls = calls_of_kind(alloc, asked.typed.program(), group, Kind::Stuck)?;
     if calls.is_empty() {
-        by_moving_calls(alloc, asked, group)
+        by_parts(alloc, asked, group)
     } else {
         let supplied = supplied(alloc, asked, group)?;
         Ok(Reason::Stuck { calls, supplied })
@@ -171,23 +154,6 @@ fn by_degree<'s, 'a>(
     }
 }
 
-/// What is told where the number of calls has a bound: calls that are written out are tried first.
-fn by_price<'s, 'a>(
-    alloc: Global,
-    asked: Asked<'s, 'a>,
-    group: &[FunId],
-) -> Result<Reason<'a>, AllocError>
-    requires asked { IsAsked asked }
-    requires rounds { RoundsBounded (program_in asked) (ids_of group.now) asked.original.most }
-    ensures { IfOk result (IsReason (source_in asked.entry) (program_in asked.entry) (found_in asked.entry) asked.entry.original.most
-        (ids_of group.now)) }
-{
-    match by_writing_out(alloc, asked, group)? {
-        Some(inlined) => Ok(Reason::Inline(inlined)),
-        None => by_degree(alloc, asked, group),
-    }
-}
-
 /// What the number of calls inside a group tells.
 fn by_rounds<'s, 'a>(
     alloc: Global,
@@ -202,7 +168,7 @@ fn by_rounds<'s, 'a>(
     if some_unbounded(&rounds.functions, group) {
         by_calls(alloc, asked, group)
     } else if all_bounded(&rounds.functions, group) {
-        by_price(alloc, asked, group)
+        by_degree(alloc, asked, group)
     } else {
         Ok(Reason::NotFound)
     }

@@ -1,13 +1,11 @@
 // Changes that are tried for a group.
 ghost use Rattle.std.specs.Prelude.{IfOk, IfSome};
 ghost use Rattle.call_groups.specs.Read.{ids_of};
-ghost use Rattle.explain_inline.specs.Inlined.{IsInlined};
 ghost use Rattle.explain_supply.specs.Supply.{IsSupplied};
 ghost use Rattle.explain_reasons.specs.Asked.{IsAsked, source_in, program_in, found_in};
 ghost use Rattle.explain_reasons.specs.Reasons.{RebuildHelps, UsesArePaid};
 
 use crate::asked::Asked;
-use explain_inline::{Inlined, inline};
 use explain_rebuild::{Rebuilt, reached_sites, rebuild};
 use explain_supply::{Supplied, supply};
 use explain_uses::{PaidTwice, paid_twice};
@@ -27,19 +25,6 @@ pub(crate) fn by_rebuilding<'s, 'a>(
     let program = asked.typed.program();
     let sites = reached_sites(alloc, program, asked.groups, group, asked.sites)?;
     rebuild(alloc, asked.original, &sites, group)
-}
-
-/// Calls that are written out so that it has bounds.
-pub(crate) fn by_writing_out<'s, 'a>(
-    alloc: Global,
-    asked: Asked<'s, 'a>,
-    group: &[FunId],
-) -> Result<Option<Inlined>, AllocError>
-    requires { IsAsked asked }
-    ensures { IfOk result (λ inlined. IfSome inlined (IsInlined (source_in asked.entry) (found_in asked.entry)
-        asked.entry.original.most (ids_of group.now))) }
-{
-    inline(alloc, asked.original, asked.groups, group)
 }
 
 /// Later uses without which it has bounds.

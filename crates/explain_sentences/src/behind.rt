@@ -24,7 +24,6 @@ pub fn closing(reason: &Reason<'_>) -> &'static str
         Reason::Waits { callee: _, stuck } => of_stuck(stuck),
         Reason::Rebuild(_) =>
             "Both uses must be paid for, and what is set aside for an element pays once.\n",
-        Reason::Inline(_) => "What they give is then known where it is used.\n",
         Reason::Stuck { calls, .. } => of_stuck(calls),
         Reason::Twice(_) =>
             "The number of calls doubles with each part, and no polynomial bounds that.\n",
