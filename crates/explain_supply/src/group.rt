@@ -73,14 +73,14 @@ impl<'g, 'a> Group<'g, 'a> {
     }
 
     /// What is inserted right behind a token at a place.
-    pub(crate) fn inserted(self, place: Place<'_>, piece: &Piece<'_>) -> Option<Insertion<'a>>
+    pub(crate) fn inserted(self, place: Place<'_>, token: &Piece<'_>) -> Option<Insertion<'a>>
         requires { length (program_of self.program.now) < 2 ^ 32 }
         ensures { option_map insertion_of result ≡
-            i.inserted (program_of self.entry.program.now) (ids_of self.entry.funs.now) (place_of place.entry) (token_of piece.now) }
+            i.inserted (program_of self.entry.program.now) (ids_of self.entry.funs.now) (place_of place.entry) (token_of token.now) }
     {
-        if piece.is(Sign::Open) {
+        if token.is(Sign::Open) {
             self.at_open(place)
-        } else if piece.is(Sign::Equal) {
+        } else if token.is(Sign::Equal) {
             self.at_equal(place)
         } else {
             None

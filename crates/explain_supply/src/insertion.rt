@@ -7,7 +7,6 @@ ghost use Rattle.explain_supply.specs.Read.{names_of, insertion_of};
 use crate::names::Names;
 use raml_syntax::Ty;
 use std::alloc::{AllocError, Global};
-use std::fmt::Write;
 
 /// What is inserted so that each round takes an entry of a list.
 #[derive(Clone, Copy)]
@@ -41,12 +40,18 @@ impl<'a> Insertion<'a> {
 fn match_text(alloc: Global, names: &Names, ty: &Ty) -> Result<String, AllocError>
     ensures { IfOk result (λ text. string_bytes text ≡ i.text (names_of names.now) (i.Match (ty_of ty.now))) }
 {
+    let value = value_text(alloc, ty)?;
     let rounds = names.rounds.as_str();
     let round = names.round.as_str();
+    format!(in alloc; " match {rounds} with nil -> {value} | {round} :: {rounds} ->")
+}
+
+/// A value of a type.
+fn value_text(alloc: Global, ty: &Ty) -> Result<String, AllocError>
+    ensures { IfOk result (λ text. string_bytes text ≡ i.value (ty_of ty.now)) }
+{
     let mut text = String::new(alloc);
-    write!(text, " match {rounds} with nil -> ")?;
     push_value(&mut text, ty)?;
-    write!(text, " | {round} :: {rounds} ->")?;
     Ok(text)
 }
 
@@ -57,20 +62,15 @@ fn push_value(text: &mut String, ty: &Ty) -> Result<(), AllocError>
     match ty {
         Ty::Int => text.push_str("0"),
         Ty::Bool => text.push_str("false"),
-        Ty::Pair(first, second) => push_pair(text, first, second),
+        Ty::Pair(first, second) => {
+            text.push_str("(")?;
+            push_value(text, first)?;
+            text.push_str(", ")?;
+            push_value(text, second)?;
+            text.push_str(")")
+        }
         Ty::List(_) => text.push_str("nil"),
         Ty::Tree(_) => text.push_str("leaf"),
         Ty::Opt(_) => text.push_str("none"),
     }
-}
-
-/// Appends a pair of values of two types.
-fn push_pair(text: &mut String, first: &Ty, second: &Ty) -> Result<(), AllocError>
-    ensures { OnOk result (string_bytes text.new ≡ string_bytes text.old ++ i.value (i.PairOf (ty_of first.now) (ty_of second.now))) }
-{
-    text.push_str("(")?;
-    push_value(text, first)?;
-    text.push_str(", ")?;
-    push_value(text, second)?;
-    text.push_str(")")
 }

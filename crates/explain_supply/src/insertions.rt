@@ -20,18 +20,18 @@ use std::alloc::{AllocError, Global};
 fn push_behind(
     alloc: Global,
     names: &Names,
-    piece: &Piece<'_>,
+    token: &Piece<'_>,
     insertion: Option<Insertion<'_>>,
     edits: &mut Vec<Edit>,
 ) -> Result<(), AllocError>
     ensures { OnOk result (edits_of edits.new.items ≡ edits_of edits.old.items
-        ++ i.edit_behind (names_of names.now) (token_of piece.now) (option_map insertion_of insertion.entry)) }
+        ++ i.edit_behind (names_of names.now) (token_of token.now) (option_map insertion_of insertion.entry)) }
 {
     match insertion {
         Some(insertion) => {
             let text = insertion.text(alloc, names)?;
             edits.push(Edit {
-                at: piece.at.0 as usize + 1,
+                at: token.at.0 as usize + 1,
                 length: 0,
                 text,
             })?;
@@ -46,23 +46,23 @@ pub(crate) fn insertions(
     alloc: Global,
     group: Group<'_, '_>,
     names: &Names,
-    pieces: &[Piece<'_>],
+    tokens: &[Piece<'_>],
 ) -> Result<Vec<Edit>, AllocError>
     requires { length (program_of group.program.now) < 2 ^ 32 }
     ensures { IfOk result (λ edits. edits_of edits.items ≡ i.edits (program_of group.entry.program.now) (ids_of group.entry.funs.now)
-        (names_of names.now) (pieces pieces.now)) }
+        (names_of names.now) (pieces tokens.now)) }
 {
     let mut edits = Vec::new(alloc);
     let mut place = Place::Outside;
-    for piece in pieces {
+    for token in tokens {
         push_behind(
             alloc,
             names,
-            piece,
-            group.inserted(place, piece),
+            token,
+            group.inserted(place, token),
             &mut edits,
         )?;
-        place = place.next(piece);
+        place = place.next(token);
     }
     Ok(edits)
 }

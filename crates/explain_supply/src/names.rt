@@ -1,5 +1,5 @@
 // Names that no token of a source has.
-ghost use Rattle.std.specs.Prelude.{◌≡◌, ◌×◌, ℕ, IfOk, IfSome, string_bytes};
+ghost use Rattle.std.specs.Prelude.{◌≡◌, ℕ, IfOk, IfSome, IsTrue, string_bytes};
 ghost use Rattle.parse_table.specs.Read.{pieces, token_of};
 ghost use Rattle.explain_supply.specs.Names as n;
 ghost use Rattle.explain_supply.specs.Read.{names_of};
@@ -29,20 +29,20 @@ impl Names {
     }
 
     /// Whether no token is one of them.
-    fn are_fresh(&self, pieces: &[Piece<'_>]) -> bool
-        ensures { IsTrue result → n.AreFresh (pieces pieces.now) (names_of self.now) }
+    fn are_fresh(&self, tokens: &[Piece<'_>]) -> bool
+        ensures { IsTrue result → n.AreFresh (pieces tokens.now) (names_of self.now) }
     {
-        !is_used(&self.rounds, pieces) && !is_used(&self.round, pieces)
+        !is_used(&self.rounds, tokens) && !is_used(&self.round, tokens)
     }
 
     /// The first of these names that no token has.
-    pub(crate) fn fresh(alloc: Global, pieces: &[Piece<'_>]) -> Result<Option<Names>, AllocError>
+    pub(crate) fn fresh(alloc: Global, tokens: &[Piece<'_>]) -> Result<Option<Names>, AllocError>
         ensures { IfOk result (λ names. IfSome names (λ found. (number : ℕ) × (names_of found ≡ n.names_at number)
-            × n.AreFresh (pieces pieces.now) (names_of found))) }
+            × n.AreFresh (pieces tokens.now) (names_of found))) }
     {
         for number in 1..MOST_NAMES {
             let names = Names::at(alloc, number)?;
-            if names.are_fresh(pieces) {
+            if names.are_fresh(tokens) {
                 return Ok(Some(names));
             }
         }
@@ -62,15 +62,20 @@ fn numbered(alloc: Global, name: &str, number: u32) -> Result<String, AllocError
 }
 
 /// Whether the token is this name.
-fn is_name(name: &str, piece: &Piece<'_>) -> bool
-    ensures { result ≡ n.is_name name.now (token_of piece.now) }
+fn is_name(name: &str, token: &Piece<'_>) -> bool
+    ensures { result ≡ n.is_name name.now (token_of token.now) }
 {
-    matches!(piece.word, Word::Name(found) if found == name)
+    matches!(token.word, Word::Name(found) if found == name)
 }
 
 /// Whether some token is this name.
-fn is_used(name: &str, pieces: &[Piece<'_>]) -> bool
-    ensures { result ≡ n.is_used name.now (pieces pieces.now) }
+fn is_used(name: &str, tokens: &[Piece<'_>]) -> bool
+    ensures { result ≡ n.is_used name.now (pieces tokens.now) }
 {
-    pieces.iter().any(|piece| is_name(name, piece))
+    for token in tokens {
+        if is_name(name, token) {
+            return true;
+        }
+    }
+    false
 }

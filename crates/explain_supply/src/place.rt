@@ -23,50 +23,50 @@ pub(crate) enum Place<'a> {
 
 impl<'a> Place<'a> {
     /// Where the token behind this one stands.
-    pub(crate) fn next(self, piece: &Piece<'a>) -> Place<'a>
-        ensures { place_of result ≡ i.next (place_of self.entry) (token_of piece.now) }
+    pub(crate) fn next(self, token: &Piece<'a>) -> Place<'a>
+        ensures { place_of result ≡ i.next (place_of self.entry) (token_of token.now) }
     {
-        if piece.is(Sign::Fun) {
+        if token.is(Sign::Fun) {
             Place::Outside
         } else {
-            self.moved(piece)
+            self.moved(token)
         }
     }
 
     /// The same behind a token that begins no function.
-    fn moved(self, piece: &Piece<'a>) -> Place<'a>
-        ensures { place_of result ≡ i.moved (place_of self.entry) (token_of piece.now) }
+    fn moved(self, token: &Piece<'a>) -> Place<'a>
+        ensures { place_of result ≡ i.moved (place_of self.entry) (token_of token.now) }
     {
         match self {
-            Place::Outside => named(piece),
+            Place::Outside => named(token),
             Place::Named(fun) => Place::Header(fun),
             Place::Header(fun) => {
-                if piece.is(Sign::Equal) {
+                if token.is(Sign::Equal) {
                     Place::Body(fun)
                 } else {
                     Place::Header(fun)
                 }
             }
-            Place::Body(fun) | Place::Behind(fun, _) => in_body(fun, piece),
+            Place::Body(fun) | Place::Behind(fun, _) => in_body(fun, token),
         }
     }
 }
 
 /// Behind a token before which no function's name stands.
-fn named<'a>(piece: &Piece<'a>) -> Place<'a>
-    ensures { place_of result ≡ i.named (token_of piece.now) }
+fn named<'a>(token: &Piece<'a>) -> Place<'a>
+    ensures { place_of result ≡ i.named (token_of token.now) }
 {
-    match piece.word {
+    match token.word {
         Word::Name(fun) => Place::Named(fun),
         Word::Number(_) | Word::Sign(_) => Place::Outside,
     }
 }
 
 /// Behind a token of the body of a function.
-fn in_body<'a>(fun: &'a str, piece: &Piece<'a>) -> Place<'a>
-    ensures { place_of result ≡ i.in_body fun.now (token_of piece.now) }
+fn in_body<'a>(fun: &'a str, token: &Piece<'a>) -> Place<'a>
+    ensures { place_of result ≡ i.in_body fun.now (token_of token.now) }
 {
-    match piece.word {
+    match token.word {
         Word::Name(name) => Place::Behind(fun, name),
         Word::Number(_) | Word::Sign(_) => Place::Body(fun),
     }

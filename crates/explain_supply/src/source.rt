@@ -64,16 +64,16 @@ fn with_tokens(
     alloc: Global,
     source: &[u8],
     group: Group<'_, '_>,
-    pieces: &[Piece<'_>],
+    tokens: &[Piece<'_>],
 ) -> Result<Option<SuppliedSource>, AllocError>
     requires few { length (program_of group.program.now) < 2 ^ 32 }
-    requires tokens { HasTokens source.now (pieces pieces.now) }
+    requires has { HasTokens source.now (pieces tokens.now) }
     ensures { IfOk result (λ supplied. IfSome supplied (λ s. IsSuppliedSource source.now (program_of group.entry.program.now)
         (ids_of group.entry.funs.now) (string_bytes s.name) s.text.items)) }
 {
-    match Names::fresh(alloc, pieces)? {
+    match Names::fresh(alloc, tokens)? {
         Some(names) => {
-            let edits = insertions(alloc, group, &names, pieces)?;
+            let edits = insertions(alloc, group, &names, tokens)?;
             let text = edited(alloc, source, &edits)?;
             Ok(Some(SuppliedSource {
                 name: names.rounds,
