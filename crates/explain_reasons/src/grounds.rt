@@ -208,4 +208,3 @@ pub(crate) fn reason<'s, 'a>(
         None => by_itself(alloc, asked, group),
     }
 }
-

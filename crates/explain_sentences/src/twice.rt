@@ -21,7 +21,9 @@ fn why_first(alloc: Global, variable: &str, function: &str) -> Result<String, Al
 fn why_again(alloc: Global, variable: &str, function: &str) -> Result<String, AllocError>
     ensures { IfOk result (λ why. string_bytes why ≡ s.why_again variable.now function.now) }
 {
-    format!(in alloc; "`{variable}` of `{function}` is used here again, and both uses must be paid for")
+    format!(in alloc;
+        "`{variable}` of `{function}` is used here again, and both uses must be paid for"
+    )
 }
 
 /// Adds the sentences on both uses.

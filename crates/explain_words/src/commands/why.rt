@@ -17,7 +17,7 @@ pub fn command<'a>(alloc: Global) -> Result<Command<'a>, AllocError>
         alloc,
         "write",
         "OTHER",
-        "Writes the source with the changes that give bounds to the file OTHER",
+        "Writes the source with the first change that gives bounds to the file OTHER",
     ))?;
     with_write.arg(flag(
         alloc,
@@ -36,13 +36,13 @@ fn chosen<'a>(alloc: Global) -> Result<Command<'a>, AllocError>
         alloc,
         "degree",
         "D",
-        "The greatest degree to try, 1 to 4; 4 where none is told",
+        "The degree of the bounds that are wanted, 1 to 4; 4 where none is told",
     ))?;
     let with_function = with_degree.arg(option(
         alloc,
         "function",
         "F",
-        "Says why the function F alone has no bound",
+        "Says why the function F has no bound, and those for which it waits",
     ))?;
     with_function.arg(option(
         alloc,
