@@ -1,16 +1,13 @@
 // What `explain why` tells of a file.
-ghost use Rattle.std.specs.Prelude.{◌≡◌, ◌≤◌, ◌++◌, ℕ, IfOk, OnOk, string_bytes, Some, None};
+ghost use Rattle.std.specs.Prelude.{◌≡◌, ◌≤◌, ◌++◌, ℕ, [], IfOk, OnOk, string_bytes};
 ghost use Rattle.raml_syntax.specs.Tree.{Text};
-ghost use Rattle.raml_syntax.specs.Place.{place_of};
-ghost use Rattle.raml_syntax.specs.Read.{place_in, program_of};
+ghost use Rattle.raml_syntax.specs.Read.{program_of};
 ghost use Rattle.explain_check.specs.Checks.{IsProgramOf};
 ghost use Rattle.explain_check.specs.Stores.{store_of};
-ghost use Rattle.explain_data.specs.Data.{no_function_line};
-ghost use Rattle.explain_words.specs.Spelled.{lent};
 ghost use Rattle.explain_reasons.specs.Explanation.{IsExplanation};
 ghost use Rattle.explain_why.specs.Calls as calls;
-ghost use Rattle.explain_why.specs.Calls.{CallIs, EndsBy, IsExplained, IsRefusal, ProgramIs, outcome};
-ghost use Rattle.explain_why.specs.Chosen.{Asking as Asked, asking_in};
+ghost use Rattle.explain_why.specs.Calls.{CallIs, EndsBy, IsExplained, IsRefusal, ProgramIs};
+ghost use Rattle.explain_why.specs.Chosen.{asking_in};
 ghost use Rattle.explain_why.specs.Read.{bytes_in, outcome_of};
 
 use crate::change::changed;
@@ -38,7 +35,7 @@ pub struct Told {
 impl Told {
     /// A call that is refused.
     fn refused() -> Told
-        ensures { (text : Text) → (report : Text) → IsRefusal (outcome_of result text report) report }
+        ensures { (report : Text) → IsRefusal (outcome_of result [] report) report }
     {
         Told {
             end: End::Refused,

@@ -148,23 +148,6 @@ impl Asking {
             && some_lacks(self.meter, found, &explained.group)
     }
 
-    /// Whether some of these is.
-    pub(crate) fn tells_some(
-        self,
-        found: &[Findings],
-        reasons: &[Explained<'_>],
-        some: &[Explained<'_>],
-    ) -> bool
-        ensures { result ≡ c.some_told (asking_in self) found.now reasons.now some.now }
-    {
-        match some {
-            [] => false,
-            [first, rest @ ..] => {
-                self.tells(found, reasons, first) || self.tells_some(found, reasons, rest)
-            }
-        }
-    }
-
     fn is_line(self, line: Line) -> bool
         ensures { result ≡ c.is_line (asking_in self) (line_of line) }
     {
@@ -178,6 +161,23 @@ impl Asking {
         match note {
             Note::FromDegree { line, .. } => self.is_line(line),
             Note::AtLowerDegreeAlone { line, .. } => self.is_line(line),
+        }
+    }
+}
+
+/// Whether some of these groups is told of.
+pub(crate) fn tells_some(
+    asking: Asking,
+    found: &[Findings],
+    reasons: &[Explained<'_>],
+    some: &[Explained<'_>],
+) -> bool
+    ensures { result ≡ c.some_told (asking_in asking) found.now reasons.now some.now }
+{
+    match some {
+        [] => false,
+        [first, rest @ ..] => {
+            asking.tells(found, reasons, first) || tells_some(asking, found, reasons, rest)
         }
     }
 }

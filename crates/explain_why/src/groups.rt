@@ -9,7 +9,7 @@ ghost use Rattle.explain_why.specs.Why.{ReasonCanBeTold, BoundsAre, IsGroup, IsG
 ghost use Rattle.explain_why.specs.Chosen.{asking_in};
 
 use crate::bounds::push_bounds;
-use crate::chosen::Asking;
+use crate::chosen::{Asking, tells_some};
 use crate::notes::push_notes;
 use crate::shown::push_sentences;
 use explain_bounds::laws::findings_can_be_told;
@@ -110,7 +110,7 @@ impl<'s> Subject<'s> {
     {
         let found = &explanation.found.functions;
         let reasons = &explanation.reasons;
-        self.asking.tells_some(found, reasons, reasons)
+        tells_some(self.asking, found, reasons, reasons)
     }
 }
 
