@@ -24,7 +24,7 @@ begin_of P f = begin_in (slice_get P f)
 
 -- the function has no bound, and why
 abbrev pub unbounded : Prog → ℕ → ℕ → Text → Sentence
-unbounded P f p why = record { at = p; text = codes "`" ++ (name_at P f ++ (codes "` has no bound: " ++ why)) }
+unbounded P f p why = record { at = p; text = codes "`" ++ (name_at P f ++ (codes "` lacks a bound: " ++ why)) }
 
 abbrev pub at_function : Prog → ℕ → Text → List Sentence
 at_function P f why = unbounded P f (begin_of P f) why ∷ []
@@ -74,7 +74,7 @@ of_sites P f (site ∷ sites) = of_site P f site ∷ of_sites P f sites
 -- ---- other functions
 
 abbrev pub why_waiting : Prog → ℕ → Text
-why_waiting P callee = codes "it calls `" ++ (name_at P callee ++ codes "`, which has none")
+why_waiting P callee = codes "it calls `" ++ (name_at P callee ++ codes "`, which lacks one; look at that one first")
 
 abbrev pub of_waiting : Prog → ℕ → ℕ → List Sentence
 of_waiting P f callee = at_function P f (why_waiting P callee)
@@ -94,7 +94,7 @@ why_first variable function = codes "`" ++ (variable ++ (codes "` of `" ++ (func
 
 abbrev pub why_again : Text → Text → Text
 why_again variable function =
-    codes "`" ++ (variable ++ (codes "` of `" ++ (function ++ codes "` is used here again, and both uses must be paid for")))
+    codes "`" ++ (variable ++ (codes "` of `" ++ (function ++ codes "` is used here again, and there would be a bound without this use")))
 
 abbrev pub of_use : Prog → ℕ → LaterUse → List Sentence
 of_use P f u =
@@ -104,8 +104,14 @@ abbrev pub of_uses : Prog → ℕ → List LaterUse → List Sentence
 of_uses P f [] = []
 of_uses P f (u ∷ us) = of_use P f u ++ of_uses P f us
 
+-- ---- no reason
+
+abbrev pub why_not_found : Text
+why_not_found = codes "no reason was found; perhaps a value grows from call to call, or is not given back in every case"
+
 -- behind stuck calls, where there are some
 abbrev pub closing_of_stuck : {A : Type 0} → List A → Text
 closing_of_stuck [] = []
 closing_of_stuck (call ∷ calls) =
-    codes "A number has no size, so it cannot pay for the rounds; a list with an entry for each round can.\n"
+    codes "The analysis bounds such calls by a list or tree that gets smaller. It does not follow numbers, which may never reach their end; "
+    ++ codes "a list with an entry for each call can take their place.\n"

@@ -34,7 +34,7 @@ fn why_waiting(alloc: Global, program: &Program, callee: FunId) -> Result<String
     ensures { IfOk result (λ why. string_bytes why ≡ s.why_waiting (program_of program.now) callee.0) }
 {
     let callee = name_at(program, callee);
-    format!(in alloc; "it calls `{callee}`, which has none")
+    format!(in alloc; "it calls `{callee}`, which lacks one; look at that one first")
 }
 
 /// Why one that calls another one with a bound of a high degree has none.
@@ -108,7 +108,13 @@ fn add_reason(
         }
         Reason::PaidTwice(paid) => add_uses(alloc, sentences, program, fun, &paid.uses),
         Reason::NotFound => {
-            add_at_function(alloc, sentences, program, fun, "no reason was found")
+            add_at_function(
+                alloc,
+                sentences,
+                program,
+                fun,
+                "no reason was found; perhaps a value grows from call to call, or is not given back in every case",
+            )
         }
     }
 }

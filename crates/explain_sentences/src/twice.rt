@@ -22,7 +22,7 @@ fn why_again(alloc: Global, variable: &str, function: &str) -> Result<String, Al
     ensures { IfOk result (λ why. string_bytes why ≡ s.why_again variable.now function.now) }
 {
     format!(in alloc;
-        "`{variable}` of `{function}` is used here again, and both uses must be paid for"
+        "`{variable}` of `{function}` is used here again, and there would be a bound without this use"
     )
 }
 

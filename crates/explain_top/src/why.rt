@@ -119,7 +119,7 @@ fn leave_change<W: Shelf>(
         None => {
             push_error(
                 written.name,
-                "is not written: no change gives bounds",
+                "is not written: no change was found that gives bounds",
                 report,
             )?;
             Ok(Status::Refused)

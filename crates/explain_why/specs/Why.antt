@@ -38,11 +38,11 @@ pub record TrialIs (head : Text) (trial : Trial) (lines : List Line) (part : Tex
   pub is : part ≡ head ++ bounds
 
 abbrev pub rebuilt_head : Text
-rebuilt_head = codes "Each such place makes at most one more cell when it runs. With this there are these bounds:\n"
+rebuilt_head = codes "Each such place makes at most one more cell when it runs, so bounds of cells may rise. With this there are these bounds:\n"
 
 abbrev pub supplied_head : Text → Text
 supplied_head name =
-    codes "If a list `" ++ (name ++ codes "` with an entry for each round came as one more parameter, there would be these bounds:\n")
+    codes "If a list `" ++ (name ++ codes "` with an entry for each call came as one more parameter, there would be these bounds:\n")
 
 abbrev pub SupplyIs : Option Supplied → Text → Type 0
 SupplyIs None part = part ≡ []
@@ -77,10 +77,10 @@ AreGroups test name source P (e ∷ es) part =
 
 -- what 'no bound' means, where that is said of some group
 abbrev pub meaning : Bool → Text
-meaning false = codes "no bound is missing\n"
+meaning false = codes "all functions that were asked about have their bounds\n"
 meaning true =
-    codes "No bound: that is proved for each degree that was analysed, given what was found of the functions that are called. "
-    ++ codes "The reasons were found by trying.\n"
+    codes "That a bound is missing does not mean that the cost is unlimited. It is proved that the analysis has none of the degrees "
+    ++ codes "that were tried, with what it found of called functions. The places above are likely causes, found by trying changes.\n"
 
 -- the groups that are told of
 abbrev pub told_of : Asking → Explanation → Explained → Bool

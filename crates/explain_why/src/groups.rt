@@ -23,7 +23,7 @@ use std::alloc::{AllocError, Global};
 
 /// What is said before bounds that values that are built again give.
 const REBUILT: &str =
-    "Each such place makes at most one more cell when it runs. With this there are these bounds:\n";
+    "Each such place makes at most one more cell when it runs, so bounds of cells may rise. With this there are these bounds:\n";
 
 /// Appends the bounds of these lines in a program that was tried, behind a line that says what was changed.
 fn push_trial(
@@ -46,7 +46,7 @@ fn supplied_head(alloc: Global, name: &str) -> Result<String, AllocError>
     ensures { IfOk result (λ head. string_bytes head ≡ w.supplied_head name.now) }
 {
     format!(in alloc;
-        "If a list `{name}` with an entry for each round came as one more parameter, there would be these bounds:\n"
+        "If a list `{name}` with an entry for each call came as one more parameter, there would be these bounds:\n"
     )
 }
 
@@ -180,9 +180,9 @@ fn meaning(told_some: bool) -> &'static str
     ensures { result.now ≡ w.meaning told_some }
 {
     if told_some {
-        "No bound: that is proved for each degree that was analysed, given what was found of the functions that are called. The reasons were found by trying.\n"
+        "That a bound is missing does not mean that the cost is unlimited. It is proved that the analysis has none of the degrees that were tried, with what it found of called functions. The places above are likely causes, found by trying changes.\n"
     } else {
-        "no bound is missing\n"
+        "all functions that were asked about have their bounds\n"
     }
 }
 
