@@ -14,11 +14,7 @@ use std::alloc::{AllocError, Global};
 
 /// The source in which some uses, in their order, are emptied: an empty value of its type stands in place of each variable. All
 /// else is kept, layout and comments too.
-pub fn emptied_text(
-    alloc: Global,
-    source: &[u8],
-    uses: &[LaterUse],
-) -> Result<Vec<u8>, AllocError>
+pub fn emptied_text(alloc: Global, source: &[u8], uses: &[LaterUse]) -> Result<Vec<u8>, AllocError>
     ensures { IfOk result (λ text. text.items ≡ with_edits source.now (map e.edit (uses_of uses.now))) }
 {
     edited(alloc, source, &emptying(alloc, uses)?)

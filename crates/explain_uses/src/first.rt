@@ -62,7 +62,10 @@ pub fn first_use(variable: &str, e: &Expr) -> Option<Pos>
         }
         Form::LetPair(x, y, subject, rest) => {
             let inner = unless_bound(variable, y, first_use(variable, rest));
-            either(first_use(variable, subject), unless_bound(variable, x, inner))
+            either(
+                first_use(variable, subject),
+                unless_bound(variable, x, inner),
+            )
         }
         Form::MatchList(subject, empty, x, y, rest) => {
             let inner = unless_bound(variable, y, first_use(variable, rest));

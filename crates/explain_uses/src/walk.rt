@@ -132,9 +132,9 @@ fn walk_both_behind<'s, 'a>(
 ) -> Result<(), AllocError>
     ensures { OnOk result (Adds found.old.items found.new.items
         (u.later (program_of place.entry.program.now) place.entry.function.now
-            (u.passed (term_of passed.now) (way place.entry)) (term_of first.now)
+        (u.passed (term_of passed.now) (way place.entry)) (term_of first.now)
         ++ u.later (program_of place.entry.program.now) place.entry.function.now
-            (u.passed (term_of first.now) (u.passed (term_of passed.now) (way place.entry))) (term_of second.now))) }
+        (u.passed (term_of first.now) (u.passed (term_of passed.now) (way place.entry))) (term_of second.now))) }
 {
     let before = place.before.with_passed(passed);
     let inner = Place {

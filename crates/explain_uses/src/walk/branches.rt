@@ -23,7 +23,9 @@ pub fn walk_let<'s, 'a>(
         (later_at place.entry (t.Let 0 (bound_of x.now) (term_of bound.now) (term_of rest.now)))) }
 {
     walk(place, bound, found)?;
-    let types = place.types.with_name(&x.name, kind(place.program, place.types, bound));
+    let types = place
+        .types
+        .with_name(&x.name, kind(place.program, place.types, bound));
     let passed = place.before.with_passed(bound);
     let before = passed.with_name(&x.name);
     let inner = Place {
@@ -50,8 +52,14 @@ pub fn walk_let_pair<'s, 'a>(
     walk(place, subject, found)?;
     let ty = kind(place.program, place.types, subject);
     let passed = place.before.with_passed(subject);
-    let (one, one_before) = (place.types.with_name(&x.name, first(ty)), passed.with_name(&x.name));
-    let (both, both_before) = (one.with_name(&y.name, second(ty)), one_before.with_name(&y.name));
+    let (one, one_before) = (
+        place.types.with_name(&x.name, first(ty)),
+        passed.with_name(&x.name),
+    );
+    let (both, both_before) = (
+        one.with_name(&y.name, second(ty)),
+        one_before.with_name(&y.name),
+    );
     let inner = Place {
         types: &both,
         before: &both_before,
@@ -78,7 +86,10 @@ pub fn walk_match_list<'s, 'a>(
     walk_behind(place, subject, empty, found)?;
     let ty = kind(place.program, place.types, subject);
     let passed = place.before.with_passed(subject);
-    let (one, one_before) = (place.types.with_name(&x.name, element(ty)), passed.with_name(&x.name));
+    let (one, one_before) = (
+        place.types.with_name(&x.name, element(ty)),
+        passed.with_name(&x.name),
+    );
     let (both, both_before) = (one.with_name(&y.name, ty), one_before.with_name(&y.name));
     let inner = Place {
         types: &both,
@@ -107,7 +118,10 @@ pub fn walk_match_tree<'s, 'a>(
     walk_behind(place, subject, empty, found)?;
     let ty = kind(place.program, place.types, subject);
     let passed = place.before.with_passed(subject);
-    let (one, one_before) = (place.types.with_name(&x.name, element(ty)), passed.with_name(&x.name));
+    let (one, one_before) = (
+        place.types.with_name(&x.name, element(ty)),
+        passed.with_name(&x.name),
+    );
     let (two, two_before) = (one.with_name(&y.name, ty), one_before.with_name(&y.name));
     let (all, all_before) = (two.with_name(&z.name, ty), two_before.with_name(&z.name));
     let inner = Place {
