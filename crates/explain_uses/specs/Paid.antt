@@ -4,6 +4,7 @@ use Rattle.std.specs.List.{All}
 use Rattle.std.specs.Str.{bytes_eq}
 use Rattle.raml_syntax.specs.Tree.{Text, Prog}
 use Rattle.raml_syntax.specs.Read.{program_of}
+use Rattle.explain_check.specs.Checks.{IsProgramOf}
 use Rattle.explain_edits.specs.Edits.{with_edits}
 use Rattle.explain_trials.specs.Read.{IsTrialOf}
 use Rattle.explain_trials.specs.declared.trial.Trial.{Trial}
@@ -22,11 +23,15 @@ same_names [] [] = true
 same_names (g ∷ gs) (h ∷ hs) = bytes_eq g.name h.name && same_names gs hs
 same_names _ _ = false
 
--- The text of the trial is the source in which these uses are emptied. It spells the trial's program, which has functions of the same
--- names, and was analysed up to this degree.
+-- The text is the source in which these uses are emptied, and it spells a program of functions of the same names.
+pub record IsEmptied (source : Text) (P : Prog) (uses : List LaterUse) (text : Text) (Q : Prog) : Type 0 where
+  pub edited : text ≡ with_edits source (map edit (uses_of uses))
+  pub spelled : IsProgramOf text Q
+  pub named : same_names P Q ≡ true
+
+-- it was analysed up to this degree
 pub record IsTried (source : Text) (P : Prog) (most : ℕ) (uses : List LaterUse) (trial : Trial) : Type 0 where
-  pub edited : trial.text.items ≡ with_edits source (map edit (uses_of uses))
-  pub named : same_names P (program_of trial.typed) ≡ true
+  pub emptied : IsEmptied source P uses trial.text.items (program_of trial.typed)
   pub analysed : IsTrialOf most trial
 
 abbrev pub findings_in : Trial → List Findings
@@ -47,7 +52,9 @@ pub record IsMended (source : Text) (P : Prog) (old : List Findings) (most : ℕ
 
 -- and each function of the group has bounds so
 pub record IsPaid (source : Text) (P : Prog) (old : List Findings) (most : ℕ) (all : List LaterUse)
-    (group : List ℕ) (first : Trial) (paid : PaidTwice) : Type 0 where
+    (group : List ℕ) (paid : PaidTwice) : Type 0 where
+  pub first : Trial
+  pub tried : IsTried source P most all first
   pub mended : IsMended source P old most all first paid
   pub mends : mends_group old (findings_in paid.trial) group ≡ true
 
@@ -58,6 +65,4 @@ pub record IsPaidTwice (source : Text) (P : Prog) (old : List Findings) (most : 
   pub all : List LaterUse
   pub among : AreAmong uses all
   pub reached : All (IsReachedUse P group) all
-  pub first : Trial
-  pub tried : IsTried source P most all first
-  pub is_paid : IsPaid source P old most all group first paid
+  pub is_paid : IsPaid source P old most all group paid

@@ -47,11 +47,27 @@ pub fn paid_twice<'s, 'a>(
         original.entry.found.now original.entry.most uses.now (ids_of group.now))) }
 {
     let all = reached_uses(alloc, original.program, groups, group, uses)?;
+    paid_among(alloc, original, group, &all)
+}
+
+/// The same where all of these may be emptied.
+fn paid_among<'s, 'a>(
+    alloc: Global,
+    original: Original<'s, 'a>,
+    group: &[FunId],
+    all: &[LaterUse<'a>],
+) -> Result<Option<PaidTwice<'a>>, AllocError>
+    requires most { original.most ≤ 4 }
+    requires count { length original.found.now ≡ length (program_of original.program.now) }
+    requires few { length original.found.now ≤ 256 }
+    ensures { IfOk result (λ paid. IfSome paid (IsPaid original.entry.source.now (program_of original.entry.program.now)
+        original.entry.found.now original.entry.most all.now (ids_of group.now))) }
+{
     if all.is_empty() {
         return Ok(None);
     }
-    match try_uses(alloc, original, &all)? {
-        Some(trial) => if_mended(alloc, original, group, &all, trial),
+    match try_uses(alloc, original, all)? {
+        Some(trial) => if_mended(alloc, original, group, all, trial),
         None => Ok(None),
     }
 }
@@ -69,7 +85,7 @@ fn if_mended<'s, 'a>(
     requires few { length original.found.now ≤ 256 }
     requires tried { IsTried original.source.now (program_of original.program.now) original.most all.now trial }
     ensures { IfOk result (λ paid. IfSome paid (IsPaid original.entry.source.now (program_of original.entry.program.now)
-        original.entry.found.now original.entry.most all.now (ids_of group.now) trial)) }
+        original.entry.found.now original.entry.most all.now (ids_of group.now))) }
 {
     mended_lines_have_bounds();
     groups_stay_mended();

@@ -1,5 +1,5 @@
 // The later uses of a program.
-ghost use Rattle.std.specs.Prelude.{◌≡◌, IfOk, OnOk, map};
+ghost use Rattle.std.specs.Prelude.{◌≡◌, ◌++◌, IfOk, OnOk, map};
 ghost use Rattle.raml_syntax.specs.Read.{program_of, function_of, parameter_of, term_of, terms_of};
 ghost use Rattle.raml_syntax.specs.Tree as t;
 ghost use Rattle.explain_uses.specs.Uses as u;
