@@ -25,11 +25,14 @@ value (ListOf A) = codes "nil"
 value (TreeOf A) = codes "leaf"
 value (OptionOf A) = codes "none"
 
+-- a match that takes an entry of the list, up to its last arrow; it gives a value where the list is empty
+abbrev pub match_on : Text → Text → Text → Text
+match_on rounds round value =
+    codes " match " ++ (rounds ++ (codes " with nil -> " ++ (value ++ (codes " | " ++ (round ++ (codes " :: " ++ (rounds ++ codes " ->")))))))
+
 abbrev pub text : Names → Insertion → Text
 text names Parameter = names.rounds ++ codes " : bool list, "
-text names (Match A) =
-    codes " match " ++ (names.rounds ++ (codes " with nil -> " ++ (value A ++ (codes " | " ++ (names.round ++ (codes " :: "
-    ++ (names.rounds ++ codes " ->")))))))
+text names (Match A) = match_on names.rounds names.round (value A)
 text names Rest = names.rounds ++ codes ", "
 text names Empty = codes "nil, "
 
