@@ -1,10 +1,10 @@
 -- What is inserted in a source so that each round of a group of functions takes an entry of a list.
-use Rattle.std.specs.Prelude.{ℕ, ◌+◌, List, [], ◌∷◌, ◌++◌, Bool, true, false, cond, Option, Some, None, slice_get, nat_eq, ◌||◌, codes}
+use Rattle.std.specs.Prelude.{ℕ, ◌+◌, List, [], ◌∷◌, ◌++◌, Bool, false, cond, Option, Some, None, slice_get, nat_eq, ◌||◌, codes}
 use Rattle.std.specs.Option.{option_map}
 use Rattle.raml_syntax.specs.Tree.{Text, Type', Integer, Boolean, PairOf, ListOf, TreeOf, OptionOf, Function, Prog}
 use Rattle.raml_syntax.specs.Place.{place_of}
 use Rattle.raml_parse.specs.Spelling as p
-use Rattle.parse_table.specs.Tokens.{Token, Name, Number, Key, is_key}
+use Rattle.parse_table.specs.Tokens.{Token, Name, is_key}
 use Rattle.parse_table.specs.declared.token.Sign.TheVariants as s
 use Rattle.explain_edits.specs.Edits.{Edit}
 use Rattle.explain_supply.specs.Names.{Names}
