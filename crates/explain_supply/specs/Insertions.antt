@@ -75,26 +75,28 @@ if_among P group (Some f) = cond (is_among f group) (slice_get P f) None
 abbrev pub member : Prog → List ℕ → Text → Option Function
 member P group f = if_among P group (place_of f P)
 
--- at a function of the group
+-- this, where there is such a function
 abbrev pub if_member : {A : Type 0} → Option Function → A → Option A
 if_member None a = None
 if_member (Some g) a = Some a
 
--- the list that a function hands on
+-- what a caller hands on: it has a list where it is a function of the group
 abbrev pub handed : Option Function → Insertion
 handed None = Empty
 handed (Some g) = Rest
 
--- what is inserted right behind a token, where something is
+-- what is inserted right behind an opening parenthesis
 abbrev pub at_open : Prog → List ℕ → Place → Option Insertion
 at_open P group (Named f) = if_member (member P group f) Parameter
 at_open P group (Behind f g) = if_member (member P group g) (handed (member P group f))
 at_open P group _ = None
 
+-- and right behind a `=`
 abbrev pub at_equal : Prog → List ℕ → Place → Option Insertion
 at_equal P group (Header f) = option_map (λ (g : Function). Match g.result) (member P group f)
 at_equal P group _ = None
 
+-- and right behind any token
 abbrev pub inserted : Prog → List ℕ → Place → Token → Option Insertion
 inserted P group place t = cond (is_key s.Open t) (at_open P group place) (cond (is_key s.Equal t) (at_equal P group place) None)
 

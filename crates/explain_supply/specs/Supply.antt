@@ -15,13 +15,13 @@ use Rattle.explain_supply.specs.declared.supply.Supplied.{Supplied}
 
 -- The edits are those by which each round of the group takes an entry of a list of this name. No token of the source is the name of
 -- the list or of its entries.
-pub record AreSupply (source : Text) (P : Prog) (group : List ℕ) (name : Text) (list : List Edit) : Type 0 where
+pub record AreRoundEdits (source : Text) (P : Prog) (group : List ℕ) (name : Text) (made : List Edit) : Type 0 where
   pub tokens : List Token
   pub has : HasTokens source tokens
   pub number : ℕ
   pub named : name ≡ (names_at number).rounds
   pub fresh : AreFresh tokens (names_at number)
-  pub are : list ≡ edits P group (names_at number) tokens
+  pub are : made ≡ edits P group (names_at number) tokens
 
 -- all lines of the functions of a group
 abbrev pub group_lines : List ℕ → List Line
@@ -32,9 +32,9 @@ group_lines (f ∷ group) =
 -- The source so edited spells a typed program, and analyses of it up to a degree find bounds of all functions of the group and all
 -- meters.
 pub record IsSupplied (source : Text) (P : Prog) (most : ℕ) (group : List ℕ) (supplied : Supplied) : Type 0 where
-  pub list : List Edit
-  pub supply : AreSupply source P group (string_bytes supplied.name) list
-  pub text : supplied.trial.text.items ≡ with_edits source list
+  pub made : List Edit
+  pub rounds : AreRoundEdits source P group (string_bytes supplied.name) made
+  pub text : supplied.trial.text.items ≡ with_edits source made
   pub analysed : IsTrialOf most supplied.trial
   pub lines : lines_of supplied.lines.items ≡ group_lines group
   pub bounds : has_bounds (findings_in supplied.trial) (group_lines group) ≡ true

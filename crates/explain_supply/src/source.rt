@@ -6,7 +6,7 @@ ghost use Rattle.call_groups.specs.Read.{ids_of};
 ghost use Rattle.raml_parse.specs.Spelling.{HasTokens};
 ghost use Rattle.parse_table.specs.Read.{pieces};
 ghost use Rattle.explain_edits.specs.Read.{edits_of};
-ghost use Rattle.explain_supply.specs.Supply.{AreSupply};
+ghost use Rattle.explain_supply.specs.Supply.{AreRoundEdits};
 
 use crate::group::Group;
 use crate::insertions::insertions;
@@ -20,7 +20,7 @@ use std::alloc::{AllocError, Global};
 
 /// The name of a list, and the edits by which each round takes an entry of it.
 #[derive(Drop)]
-pub(crate) struct Supply {
+pub(crate) struct RoundEdits {
     pub(crate) name: String,
     pub(crate) edits: Vec<Edit>,
 }
@@ -39,31 +39,35 @@ fn pieces_in<'a>(alloc: Global, text: &'a str) -> Result<Option<Vec<Piece<'a>>>,
 }
 
 /// The edits by which each round of the group takes an entry of a list. None where the source is no text, or no name is fresh.
-pub(crate) fn supply_of(
+pub(crate) fn round_edits(
     alloc: Global,
     source: &[u8],
     group: Group<'_, '_>,
-) -> Result<Option<Supply>, AllocError>
+) -> Result<Option<RoundEdits>, AllocError>
     requires { length (program_of group.program.now) < 2 ^ 32 }
-    ensures { IfOk result (λ supply. IfSome supply (λ s. AreSupply source.now (program_of group.entry.program.now)
-        (ids_of group.entry.funs.now) (string_bytes s.name) (edits_of s.edits.items))) }
+    ensures { IfOk result (λ found. IfSome found (λ rounds. AreRoundEdits source.now (program_of group.entry.program.now)
+        (ids_of group.entry.funs.now) (string_bytes rounds.name) (edits_of rounds.edits.items))) }
 {
     if source.len() as u64 > MOST_BYTES {
         return Ok(None);
     }
     match std::str::from_utf8(source) {
-        Ok(text) => supply_in(alloc, text, group),
+        Ok(text) => edits_in_text(alloc, text, group),
         Err(_) => Ok(None),
     }
 }
 
 /// The same of a text.
-fn supply_in(alloc: Global, text: &str, group: Group<'_, '_>) -> Result<Option<Supply>, AllocError>
+fn edits_in_text(
+    alloc: Global,
+    text: &str,
+    group: Group<'_, '_>,
+) -> Result<Option<RoundEdits>, AllocError>
     requires utf8 { IsUtf8 text.now }
     requires short { length text.now < 2 ^ 31 }
     requires few { length (program_of group.program.now) < 2 ^ 32 }
-    ensures { IfOk result (λ supply. IfSome supply (λ s. AreSupply text.now (program_of group.entry.program.now)
-        (ids_of group.entry.funs.now) (string_bytes s.name) (edits_of s.edits.items))) }
+    ensures { IfOk result (λ found. IfSome found (λ rounds. AreRoundEdits text.now (program_of group.entry.program.now)
+        (ids_of group.entry.funs.now) (string_bytes rounds.name) (edits_of rounds.edits.items))) }
 {
     let Some(pieces) = pieces_in(alloc, text)? else {
         return Ok(None);
@@ -71,7 +75,7 @@ fn supply_in(alloc: Global, text: &str, group: Group<'_, '_>) -> Result<Option<S
     match Names::fresh(alloc, &pieces)? {
         Some(names) => {
             let edits = insertions(alloc, group, &names, &pieces)?;
-            Ok(Some(Supply {
+            Ok(Some(RoundEdits {
                 name: names.rounds,
                 edits,
             }))

@@ -4,10 +4,10 @@ ghost use Rattle.raml_syntax.specs.Read.{program_of};
 ghost use Rattle.call_groups.specs.Read.{ids_of};
 ghost use Rattle.explain_edits.specs.Read.{edits_of};
 ghost use Rattle.explain_lines.specs.Read.{lines_of};
-ghost use Rattle.explain_supply.specs.Supply.{IsSupplied, AreSupply, group_lines};
+ghost use Rattle.explain_supply.specs.Supply.{IsSupplied, AreRoundEdits, group_lines};
 
 use crate::group::Group;
-use crate::source::{Supply, supply_of};
+use crate::source::{RoundEdits, round_edits};
 use cost_free::Meter;
 use explain_lines::{Line, has_bounds};
 use explain_rebuild::Original;
@@ -68,26 +68,26 @@ pub fn supply<'s, 'a>(
         program: original.program,
         funs: group,
     };
-    match supply_of(alloc, original.source, functions)? {
-        Some(supply) => try_supply(alloc, original, group, supply),
+    match round_edits(alloc, original.source, functions)? {
+        Some(rounds) => try_round_edits(alloc, original, group, rounds),
         None => Ok(None),
     }
 }
 
 /// The trial of these edits, where all functions of the group have bounds in it.
-fn try_supply<'s, 'a>(
+fn try_round_edits<'s, 'a>(
     alloc: Global,
     original: Original<'s, 'a>,
     group: &[FunId],
-    supply: Supply,
+    rounds: RoundEdits,
 ) -> Result<Option<Supplied>, AllocError>
     requires most { original.most ≤ 4 }
-    requires supply { AreSupply original.source.now (program_of original.program.now) (ids_of group.now) (string_bytes supply.name)
-        (edits_of supply.edits.items) }
+    requires rounds { AreRoundEdits original.source.now (program_of original.program.now) (ids_of group.now) (string_bytes rounds.name)
+        (edits_of rounds.edits.items) }
     ensures { IfOk result (λ supplied. IfSome supplied (IsSupplied original.entry.source.now (program_of original.entry.program.now)
         original.entry.most (ids_of group.now))) }
 {
-    let Supply { name, edits } = supply;
+    let RoundEdits { name, edits } = rounds;
     let Some(trial) = try_edits(alloc, original.source, &edits, original.most)? else {
         return Ok(None);
     };
