@@ -28,7 +28,8 @@ value (OptionOf A) = codes "none"
 -- a match that takes an entry of the list, up to its last arrow; it gives a value where the list is empty
 abbrev pub match_on : Text → Text → Text → Text
 match_on rounds round value =
-    codes " match " ++ (rounds ++ (codes " with nil -> " ++ (value ++ (codes " | " ++ (round ++ (codes " :: " ++ (rounds ++ codes " ->")))))))
+    codes " match " ++ (rounds ++ (codes " with nil -> " ++ (value ++ (codes " | " ++ (round ++ (codes " :: "
+    ++ (rounds ++ codes " ->")))))))
 
 abbrev pub text : Names → Insertion → Text
 text names Parameter = names.rounds ++ codes " : bool list, "

@@ -11,7 +11,7 @@ use Rattle.explain_trials.specs.Read.{IsTrialOf}
 use Rattle.explain_rebuild.specs.Sources.{findings_in}
 use Rattle.explain_supply.specs.Names.{names_at, AreFresh}
 use Rattle.explain_supply.specs.Insertions.{edits}
-use Rattle.explain_supply.specs.declared.supply.Supplied.{Supplied}
+use Rattle.explain_supply.specs.declared.supplying.Supplied.{Supplied}
 
 -- The edits are those by which each round of the group takes an entry of a list of this name. No token of the source is the name of
 -- the list or of its entries.
