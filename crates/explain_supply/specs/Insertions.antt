@@ -1,10 +1,10 @@
 -- What is inserted in a source so that each round of a group of functions takes an entry of a list.
-use Rattle.std.specs.Prelude.{ℕ, ◌+◌, List, [], ◌∷◌, ◌++◌, Bool, true, false, cond, Option, Some, None, slice_get, nat_eq, ◌||◌, codes}
+use Rattle.std.specs.Prelude.{ℕ, ◌+◌, List, [], ◌∷◌, ◌++◌, Bool, false, cond, Option, Some, None, slice_get, nat_eq, ◌||◌, codes}
 use Rattle.std.specs.Option.{option_map}
 use Rattle.raml_syntax.specs.Tree.{Text, Type', Integer, Boolean, PairOf, ListOf, TreeOf, OptionOf, Function, Prog}
 use Rattle.raml_syntax.specs.Place.{place_of}
 use Rattle.raml_parse.specs.Spelling as p
-use Rattle.parse_table.specs.Tokens.{Token, Name, Number, Key, is_key}
+use Rattle.parse_table.specs.Tokens.{Token, Name, is_key}
 use Rattle.parse_table.specs.declared.token.Sign.TheVariants as s
 use Rattle.explain_edits.specs.Edits.{Edit}
 use Rattle.explain_supply.specs.Names.{Names}
@@ -25,11 +25,15 @@ value (ListOf A) = codes "nil"
 value (TreeOf A) = codes "leaf"
 value (OptionOf A) = codes "none"
 
+-- a match that takes an entry of the list, up to its last arrow; it gives a value where the list is empty
+abbrev pub match_on : Text → Text → Text → Text
+match_on rounds round value =
+    codes " match " ++ (rounds ++ (codes " with nil -> " ++ (value ++ (codes " | " ++ (round ++ (codes " :: "
+    ++ (rounds ++ codes " ->")))))))
+
 abbrev pub text : Names → Insertion → Text
 text names Parameter = names.rounds ++ codes " : bool list, "
-text names (Match A) =
-    codes " match " ++ (names.rounds ++ (codes " with nil -> " ++ (value A ++ (codes " | " ++ (names.round ++ (codes " :: "
-    ++ (names.rounds ++ codes " ->")))))))
+text names (Match A) = match_on names.rounds names.round (value A)
 text names Rest = names.rounds ++ codes ", "
 text names Empty = codes "nil, "
 
@@ -72,26 +76,28 @@ if_among P group (Some f) = cond (is_among f group) (slice_get P f) None
 abbrev pub member : Prog → List ℕ → Text → Option Function
 member P group f = if_among P group (place_of f P)
 
--- at a function of the group
+-- this, where there is such a function
 abbrev pub if_member : {A : Type 0} → Option Function → A → Option A
 if_member None a = None
 if_member (Some g) a = Some a
 
--- the list that a function hands on
+-- what a caller hands on: it has a list where it is a function of the group
 abbrev pub handed : Option Function → Insertion
 handed None = Empty
 handed (Some g) = Rest
 
--- what is inserted right behind a token, where something is
+-- what is inserted right behind an opening parenthesis
 abbrev pub at_open : Prog → List ℕ → Place → Option Insertion
 at_open P group (Named f) = if_member (member P group f) Parameter
 at_open P group (Behind f g) = if_member (member P group g) (handed (member P group f))
 at_open P group _ = None
 
+-- and right behind a `=`
 abbrev pub at_equal : Prog → List ℕ → Place → Option Insertion
 at_equal P group (Header f) = option_map (λ (g : Function). Match g.result) (member P group f)
 at_equal P group _ = None
 
+-- and right behind any token
 abbrev pub inserted : Prog → List ℕ → Place → Token → Option Insertion
 inserted P group place t = cond (is_key s.Open t) (at_open P group place) (cond (is_key s.Equal t) (at_equal P group place) None)
 

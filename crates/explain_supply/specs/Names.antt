@@ -1,9 +1,9 @@
 -- Names that no token of a source has.
-use Rattle.std.specs.Prelude.{◌≡◌, ℕ, ◌≤◌, List, [], ◌∷◌, ◌++◌, Bool, false, cond, ◌||◌, nat_le, codes}
+use Rattle.std.specs.Prelude.{◌≡◌, ℕ, List, [], ◌∷◌, ◌++◌, Bool, false, cond, ◌||◌, nat_le, codes}
 use Rattle.std.specs.Str.{bytes_eq}
 use Rattle.std.specs.Fmt.{decimal}
 use Rattle.raml_syntax.specs.Tree.{Text}
-use Rattle.parse_table.specs.Tokens.{Token, Name, Number, Key}
+use Rattle.parse_table.specs.Tokens.{Token, Name}
 
 -- of the list that pays for rounds, and of its entries
 pub record Names : Type 0 where

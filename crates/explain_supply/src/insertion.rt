@@ -29,20 +29,20 @@ impl<'a> Insertion<'a> {
         let rounds = names.rounds.as_str();
         match self {
             Insertion::Parameter => format!(in alloc; "{rounds} : bool list, "),
-            Insertion::Match(ty) => match_text(alloc, names, ty),
+            Insertion::Match(ty) => {
+                let value = value_text(alloc, ty)?;
+                match_text(alloc, rounds, &names.round, &value)
+            }
             Insertion::Rest => format!(in alloc; "{rounds}, "),
             Insertion::Empty => String::from_str(alloc, "nil, "),
         }
     }
 }
 
-/// A match that takes an entry of the list, up to its last arrow. Where the list is empty, it gives a value of this type.
-fn match_text(alloc: Global, names: &Names, ty: &Ty) -> Result<String, AllocError>
-    ensures { IfOk result (λ text. string_bytes text ≡ i.text (names_of names.now) (i.Match (ty_of ty.now))) }
+/// A match that takes an entry of the list, up to its last arrow. Where the list is empty, it gives this value.
+fn match_text(alloc: Global, rounds: &str, round: &str, value: &str) -> Result<String, AllocError>
+    ensures { IfOk result (λ text. string_bytes text ≡ i.match_on rounds.now round.now value.now) }
 {
-    let value = value_text(alloc, ty)?;
-    let rounds = names.rounds.as_str();
-    let round = names.round.as_str();
     format!(in alloc; " match {rounds} with nil -> {value} | {round} :: {rounds} ->")
 }
 

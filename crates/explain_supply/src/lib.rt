@@ -7,6 +7,6 @@ mod insertions;
 mod names;
 mod place;
 mod source;
-mod supply;
+mod supplying;
 
-pub use supply::{Supplied, supply};
+pub use supplying::{Supplied, supply};

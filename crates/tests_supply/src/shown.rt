@@ -1,4 +1,7 @@
 // Programs in which a list pays for rounds, in short.
+ghost use Rattle.std.specs.Prelude.{◌≤◌, length};
+ghost use Rattle.raml_syntax.specs.Read.{program_of};
+
 use explain_degrees::{Finding, Findings};
 use explain_lines::Line;
 use explain_rebuild::Original;
@@ -49,20 +52,18 @@ fn push_supplied(text: &mut String, supplied: &Supplied) -> Result<(), Fail> {
     }
 }
 
-fn typed(alloc: Global, source: &str) -> Result<Typed, Fail> {
-    match typed_text(alloc, source.as_bytes())? {
-        Some(typed) => Ok(typed),
-        None => Err(Fail::from("the source is no typed program")),
-    }
-}
-
-/// What is given of a group of functions, where changed programs are analysed up to this degree.
-pub fn shown(alloc: Global, source: &str, group: &[FunId], most: u8) -> Result<String, Fail> {
-    if most > 4 {
-        return Err(Fail::from("the degree is too high"));
-    }
-    let typed = typed(alloc, source)?;
-    let found = found_of(alloc, &typed, most)?;
+/// What is given of a group of functions of a typed program, where changed programs are analysed up to this degree.
+fn shown_of(
+    alloc: Global,
+    source: &str,
+    typed: &Typed,
+    group: &[FunId],
+    most: u8,
+) -> Result<String, Fail>
+    requires most { most ≤ 4 }
+    requires few { length (program_of typed.now) ≤ 256 }
+{
+    let found = found_of(alloc, typed, most)?;
     let original = Original {
         source: source.as_bytes(),
         program: typed.program(),
@@ -75,4 +76,15 @@ pub fn shown(alloc: Global, source: &str, group: &[FunId], most: u8) -> Result<S
         None => text.push_str("none")?,
     }
     Ok(text)
+}
+
+/// What is given of a group of functions of a source, where changed programs are analysed up to this degree.
+pub fn shown(alloc: Global, source: &str, group: &[FunId], most: u8) -> Result<String, Fail> {
+    if most > 4 {
+        return Err(Fail::from("the degree is too high"));
+    }
+    match typed_text(alloc, source.as_bytes())? {
+        Some(typed) => shown_of(alloc, source, &typed, group, most),
+        None => Err(Fail::from("the source is no typed program")),
+    }
 }

@@ -2,15 +2,16 @@
 ghost use Rattle.std.specs.Prelude.{◌≡◌, ◌<◌, ◌≤◌, ◌^◌, ◌++◌, length, true, IfOk, IfSome, OnOk, string_bytes};
 ghost use Rattle.raml_syntax.specs.Read.{program_of};
 ghost use Rattle.call_groups.specs.Read.{ids_of};
+ghost use Rattle.explain_edits.specs.Read.{edits_of};
 ghost use Rattle.explain_lines.specs.Read.{lines_of};
-ghost use Rattle.explain_supply.specs.Supply.{IsSupplied, IsSuppliedSource, group_lines};
+ghost use Rattle.explain_supply.specs.Supply.{IsSupplied, AreRoundEdits, group_lines};
 
 use crate::group::Group;
-use crate::source::{SuppliedSource, supplied_source};
+use crate::source::{RoundEdits, round_edits};
 use cost_free::Meter;
 use explain_lines::{Line, has_bounds};
 use explain_rebuild::Original;
-use explain_trials::{Trial, trial_of, typed_text};
+use explain_trials::{Trial, try_edits};
 use raml_syntax::FunId;
 use std::alloc::{AllocError, Global};
 
@@ -67,30 +68,29 @@ pub fn supply<'s, 'a>(
         program: original.program,
         funs: group,
     };
-    match supplied_source(alloc, original.source, functions)? {
-        Some(source) => try_source(alloc, original, group, source),
+    match round_edits(alloc, original.source, functions)? {
+        Some(rounds) => try_round_edits(alloc, original, group, rounds),
         None => Ok(None),
     }
 }
 
-/// The trial of such a source, where all functions of the group have bounds.
-fn try_source<'s, 'a>(
+/// The trial of these edits, where all functions of the group have bounds in it.
+fn try_round_edits<'s, 'a>(
     alloc: Global,
     original: Original<'s, 'a>,
     group: &[FunId],
-    source: SuppliedSource,
+    rounds: RoundEdits,
 ) -> Result<Option<Supplied>, AllocError>
     requires most { original.most ≤ 4 }
-    requires source { IsSuppliedSource original.source.now (program_of original.program.now) (ids_of group.now)
-        (string_bytes source.name) source.text.items }
+    requires rounds { AreRoundEdits original.source.now (program_of original.program.now) (ids_of group.now) (string_bytes rounds.name)
+        (edits_of rounds.edits.items) }
     ensures { IfOk result (λ supplied. IfSome supplied (IsSupplied original.entry.source.now (program_of original.entry.program.now)
         original.entry.most (ids_of group.now))) }
 {
-    let SuppliedSource { name, text } = source;
-    let Some(typed) = typed_text(alloc, &text)? else {
+    let RoundEdits { name, edits } = rounds;
+    let Some(trial) = try_edits(alloc, original.source, &edits, original.most)? else {
         return Ok(None);
     };
-    let trial = trial_of(alloc, text, typed, original.most)?;
     let lines = group_lines(alloc, group)?;
     if has_bounds(&trial.found.functions, &lines) {
         Ok(Some(Supplied { trial, name, lines }))
