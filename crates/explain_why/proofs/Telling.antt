@@ -12,7 +12,7 @@ use Rattle.explain_reasons.specs.declared.reason.Explained.{Explained}
 use Rattle.explain_reasons.specs.declared.reason.Reason.{Reason}
 use Rattle.explain_reasons.specs.declared.reason.Reason.TheVariants as r
 use Rattle.explain_supply.specs.Supply.{IsSupplied}
-use Rattle.explain_supply.specs.declared.supply.Supplied.{Supplied}
+use Rattle.explain_supply.specs.declared.supplying.Supplied.{Supplied}
 use Rattle.explain_why.specs.Why.{TrialCanBeTold, SupplyCanBeTold, ReasonCanBeTold}
 
 trial_told : FindingsCanBeTold → (most : ℕ) (trial : Trial) → IsTrialOf most trial → TrialCanBeTold trial

@@ -6,7 +6,7 @@ use Rattle.explain_trials.specs.declared.trial.Trial.{Trial}
 use Rattle.explain_lines.specs.Read.{lines_of}
 use Rattle.explain_rebuild.specs.Sources.{findings_in}
 use Rattle.explain_lines.specs.declared.bounds.Line.{Line}
-use Rattle.explain_supply.specs.declared.supply.Supplied.{Supplied}
+use Rattle.explain_supply.specs.declared.supplying.Supplied.{Supplied}
 use Rattle.explain_reasons.specs.Explanation.{note_in}
 use Rattle.explain_reasons.specs.declared.reason.Explained.{Explained}
 use Rattle.explain_reasons.specs.declared.reason.Reason.{Reason}
