@@ -46,11 +46,11 @@ impl<'g, 'a> Group<'g, 'a> {
     {
         match place {
             Place::Named(fun) => {
-                let _member = self.member(fun)?;
+                self.member(fun)?;
                 Some(Insertion::Parameter)
             }
             Place::Behind(fun, callee) => {
-                let _member = self.member(callee)?;
+                self.member(callee)?;
                 Some(handed(self.member(fun)))
             }
             Place::Outside | Place::Header(_) | Place::Body(_) => None,
