@@ -41,7 +41,7 @@ pub record RebuildHelps (source : Text) (P : Prog) (found : List Findings) (most
 pub record UsesArePaid (source : Text) (P : Prog) (found : List Findings) (most : ℕ) (group : List ℕ) (paid : PaidTwice) : Type 0 where
   pub uses : List LaterUse
   pub are : uses_of uses ≡ program_uses P
-  pub paid : IsPaidTwice source P found most uses group paid
+  pub is_paid : IsPaidTwice source P found most uses group paid
 
 -- The reason why a group has no bound, where analyses found this of all functions, and trials go up to this degree.
 abbrev pub IsReason : Text → Prog → List Findings → ℕ → List ℕ → Reason → Type 0

@@ -16,5 +16,5 @@ returns c =
     (λ paid h. record {
       uses = asked.uses.now;
       are = c.requires.are_uses;
-      paid = subst (λ (P : Program). IsPaidTwice (source_in asked) (program_of P) (found_in asked) asked.original.most asked.uses.now group paid) c.requires.program h;
+      is_paid = subst (λ (P : Program). IsPaidTwice (source_in asked) (program_of P) (found_in asked) asked.original.most asked.uses.now group paid) c.requires.program h;
     }) c.paid_twice.ensures
