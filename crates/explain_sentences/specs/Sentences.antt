@@ -96,13 +96,15 @@ abbrev pub why_again : Text → Text → Text
 why_again variable function =
     codes "`" ++ (variable ++ (codes "` of `" ++ (function ++ codes "` is used here again, and there would be a bound without this use")))
 
-abbrev pub of_use : Prog → ℕ → LaterUse → List Sentence
-of_use P f u =
-    unbounded P f u.first (why_first u.variable u.function) ∷ unbounded P f u.at (why_again u.variable u.function) ∷ []
+abbrev pub at_first : Prog → ℕ → LaterUse → Sentence
+at_first P f u = unbounded P f u.first (why_first u.variable u.function)
+
+abbrev pub at_again : Prog → ℕ → LaterUse → Sentence
+at_again P f u = unbounded P f u.at (why_again u.variable u.function)
 
 abbrev pub of_uses : Prog → ℕ → List LaterUse → List Sentence
 of_uses P f [] = []
-of_uses P f (u ∷ us) = of_use P f u ++ of_uses P f us
+of_uses P f (u ∷ us) = at_first P f u ∷ (at_again P f u ∷ of_uses P f us)
 
 -- ---- no reason
 
