@@ -1,7 +1,7 @@
 use Rattle.std.proofs.Common.{sym, ◌∙◌, subst}
 use Rattle.raml_syntax.specs.Read.{program_of}
 use Rattle.call_groups.specs.Read.{ids_of}
-use Rattle.explain_uses.proofs.Trying.{paid_from}
+use Rattle.explain_uses.proofs.Trials.{paid_from}
 use Rattle.explain_uses.proofs.paid.if_mended.Goals as goal
 
 pub returns-then-mends_group : goal.returns-then-mends_group

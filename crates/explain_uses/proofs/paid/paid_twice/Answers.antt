@@ -1,7 +1,7 @@
 use Rattle.raml_syntax.specs.Read.{program_of}
 use Rattle.call_groups.specs.Read.{ids_of}
 use Rattle.explain_rebuild.proofs.Adding.{from_some}
-use Rattle.explain_uses.proofs.Trying.{paid_twice_from}
+use Rattle.explain_uses.proofs.Trials.{paid_twice_from}
 use Rattle.explain_uses.proofs.paid.paid_twice.Goals as goal
 
 pub returns : goal.returns
