@@ -11,7 +11,8 @@ const SOURCES: [(&str, &str); 12] = [
     ),
     // a condition comes before both
     (
-        "fun g (l : int list) : int = match l with nil -> 0 | h :: t -> 1\nfun f (l : int list) : int list =\n  if g(l) = 0 then l else l\n",
+        "fun g (l : int list) : int = match l with nil -> 0 | h :: t -> 1\n\
+         fun f (l : int list) : int list =\n  if g(l) = 0 then l else l\n",
         "l 3:20 after 3:8\nl 3:27 after 3:8\n",
     ),
     // a name that is bound again is another variable
@@ -30,7 +31,8 @@ const SOURCES: [(&str, &str); 12] = [
     ),
     // a subject may be a later use
     (
-        "fun g (l : int list) : int = match l with nil -> 0 | h :: t -> 1\nfun f (l : int list) : int =\n  let n = g(l) in match l with nil -> n | h :: t -> n\n",
+        "fun g (l : int list) : int = match l with nil -> 0 | h :: t -> 1\n\
+         fun f (l : int list) : int =\n  let n = g(l) in match l with nil -> n | h :: t -> n\n",
         "l 3:25 after 3:13\n",
     ),
     // what has no size is not told
@@ -76,10 +78,7 @@ fn later(rt: HostRuntime) -> Result<(), Fail> {
 fn programs(rt: HostRuntime) -> Result<(), Fail> {
     for (source, want) in [
         (APPEND, "acc 4:53 after 4:48\n"),
-        (
-            LEDGER,
-            "book 23:57 after 22:19\nbook 31:29 after 30:25\n",
-        ),
+        (LEDGER, "book 23:57 after 22:19\nbook 31:29 after 30:25\n"),
     ] {
         assert_eq!(rt; shown(rt.alloc(), source)?.as_str(), want);
     }
