@@ -1,5 +1,6 @@
 -- What the code has of texts that may be there.
-use Rattle.std.specs.Prelude.{ℕ, List, Option, Vec, Global, option_map, vec_items}
+use Rattle.std.specs.Prelude.{ℕ, Option, option_map}
+use Rattle.std.specs.Global.{Vec}
 use Rattle.std.specs.Borrow.{Bor}
 use Rattle.raml_syntax.specs.Tree.{Text}
 use Rattle.explain_why.specs.Outcome.{Outcome, outcome}
@@ -10,8 +11,8 @@ abbrev pub text_in : Option (Bor Text) → Option Text
 text_in = option_map (λ (text : Bor Text). text.now)
 
 -- bytes that are kept
-abbrev pub bytes_in : Option (Vec ℕ Global) → Option Text
-bytes_in = option_map vec_items
+abbrev pub bytes_in : Option (Vec ℕ) → Option Text
+bytes_in = option_map (λ (bytes : Vec ℕ). bytes.items)
 
 -- what a call comes to, with what it appends to both texts
 abbrev pub outcome_of : Told → Text → Text → Outcome

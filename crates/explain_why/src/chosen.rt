@@ -85,9 +85,9 @@ fn waited_by(reasons: &[Explained<'_>], fun: FunId) -> Option<FunId>
 
 /// Whether the function is of the group, or its group waits for a function of which that is so. What is left bounds the
 /// steps.
-fn leads_to(
-    reasons: &[Explained<'_>],
-    left: &[Explained<'_>],
+fn leads_to<'a>(
+    reasons: &[Explained<'a>],
+    left: &[Explained<'a>],
     fun: Option<FunId>,
     group: &[FunId],
 ) -> bool
@@ -136,11 +136,11 @@ fn is_meter(asked: Option<Meter>, meter: Meter) -> bool
 impl Asking {
     /// Whether a group is told of: that of the function that is asked about, and those for which that waits, where a bound
     /// of the meter is missing.
-    pub(crate) fn tells(
+    pub(crate) fn tells<'a>(
         self,
         found: &[Findings],
-        reasons: &[Explained<'_>],
-        explained: &Explained<'_>,
+        reasons: &[Explained<'a>],
+        explained: &Explained<'a>,
     ) -> bool
         ensures { result ≡ c.is_told (asking_in self) found.now reasons.now explained.now }
     {
@@ -166,11 +166,11 @@ impl Asking {
 }
 
 /// Whether some of these groups is told of.
-pub(crate) fn tells_some(
+pub(crate) fn tells_some<'a>(
     asking: Asking,
     found: &[Findings],
-    reasons: &[Explained<'_>],
-    some: &[Explained<'_>],
+    reasons: &[Explained<'a>],
+    some: &[Explained<'a>],
 ) -> bool
     ensures { result ≡ c.some_told (asking_in asking) found.now reasons.now some.now }
 {
