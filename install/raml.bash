@@ -47,13 +47,15 @@ _raml() {
 _explain() {
   local word=${COMP_WORDS[COMP_CWORD]} before=${COMP_WORDS[COMP_CWORD - 1]} words=''
   if [ "$COMP_CWORD" -eq 1 ]; then
-    words='check bounds budget verify help --help --version'
+    words='check bounds budget verify why help --help --version'
   elif [ "${COMP_WORDS[1]}" = help ]; then
-    words='check bounds budget verify help'
+    words='check bounds budget verify why help'
   elif [ "$before" = --degree ]; then
     words='1 2 3 4'
   elif [[ $before == @(--function|--data) ]]; then
     words=$(_raml_functions)
+  elif [ "$before" = --meter ]; then
+    words='ticks cells work'
   elif [ "$before" = --within ]; then
     words='ticks= cells= work='
     compopt -o nospace
@@ -63,6 +65,7 @@ _explain() {
       bounds) words='--degree --function --at --within --width --json --help' ;;
       budget) words='--write --degree --json --force --help' ;;
       verify) words='--help' ;;
+      why) words='--function --meter --degree --write --force --help' ;;
     esac
   fi
   mapfile -t COMPREPLY < <(compgen -W "$words" -- "$word")

@@ -16,7 +16,7 @@ use Rattle.explain_degrees.specs.declared.least.LeastBounds.{LeastBounds}
 use Rattle.explain_calls.specs.Told.{Showing, AreParts, notes}
 use Rattle.explain_calls.specs.Calls.{Analysed, BoundsAreTold, NoneIsAnalysed, TicksAreRefused, names_for}
 
-first_refused : (P : Prog) (N : Program) (most : ℕ) (all : List Findings) → AreFindings P N most all → TicksAreRefused all → Between 0 most (IsRefused N)
+pub first_refused : (P : Prog) (N : Program) (most : ℕ) (all : List Findings) → AreFindings P N most all → TicksAreRefused all → Between 0 most (IsRefused N)
 first_refused P N most [] found refused = absurd refused
 first_refused P N most (findings ∷ more) found refused = subst (IsFinding P N most 0 Ticks) refused (found 0 findings Ticks refl)
 

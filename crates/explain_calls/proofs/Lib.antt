@@ -1,6 +1,6 @@
 mod Behind
 mod Same
 mod Places
-mod Analysing
+pub mod Analysing
 mod Calling
 mod Drafting

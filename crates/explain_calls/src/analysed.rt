@@ -55,7 +55,7 @@ pub(crate) fn tell_analysed(
 }
 
 /// Whether no analysis found anything of the first function.
-fn is_unanalysed(functions: &[Findings]) -> bool
+pub fn is_unanalysed(functions: &[Findings]) -> bool
     ensures { result ≡ true → TicksAreRefused functions.now }
 {
     match functions {

@@ -33,7 +33,8 @@ pub(crate) fn asked_of<'a>(words: &BoundsWords<'_>, given: &'a [Given<'a>]) -> A
     }
 }
 
-fn meter_of(meter: WordsMeter) -> Meter
+/// The meter that a word names.
+pub fn meter_of(meter: WordsMeter) -> Meter
     ensures { result ≡ meter_of meter }
 {
     match meter {

@@ -8,8 +8,9 @@ mod end;
 mod fitting;
 mod parts;
 
-pub use analysed::{push_note, refusal_line};
+pub use analysed::{is_unanalysed, push_note, refusal_line};
 pub use call::tell_bounds;
 pub use draft::{Draft, draft_bounds};
 pub use end::End;
+pub use fitting::meter_of;
 pub use parts::push_shown;

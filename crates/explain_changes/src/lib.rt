@@ -5,9 +5,9 @@
 mod built;
 mod compare;
 mod edits;
-mod kind;
+pub mod kind;
 pub mod laws;
-mod scope;
+pub mod scope;
 mod site;
 mod uses;
 

@@ -6,6 +6,8 @@ use Rattle.raml_syntax.specs.Read.{program_of}
 use Rattle.call_groups.specs.Groups.{IsGrouping}
 use Rattle.explain_changes.specs.Sites.{program_sites}
 use Rattle.explain_changes.specs.Read.{sites_of}
+use Rattle.explain_uses.specs.Uses.{program_uses}
+use Rattle.explain_uses.specs.Read.{uses_of}
 use Rattle.explain_degrees.specs.declared.finding.Findings.{Findings}
 use Rattle.explain_reasons.specs.declared.asked.Asked.{Asked}
 
@@ -26,3 +28,4 @@ pub record IsAsked (asked : Asked) : Type 0 where
   pub degree : asked.original.most ≤ 4
   pub grouping : IsGrouping (program_in asked) asked.groups.now
   pub are_sites : sites_of asked.sites.now ≡ program_sites (program_in asked)
+  pub are_uses : uses_of asked.uses.now ≡ program_uses (program_in asked)

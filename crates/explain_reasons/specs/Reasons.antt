@@ -1,5 +1,5 @@
 -- Why a group of functions has no bound.
-use Rattle.std.specs.Prelude.{◌≡◌, ℕ, List, Some}
+use Rattle.std.specs.Prelude.{◌≡◌, ℕ, List, Some, IfSome}
 use Rattle.std.specs.List.{All}
 use Rattle.raml_syntax.specs.Tree.{Text, Prog}
 use Rattle.call_groups.specs.Read.{ids_of}
@@ -14,6 +14,12 @@ use Rattle.explain_lines.specs.Lines.{first_lacking}
 use Rattle.explain_rebuild.specs.Reached.{IsReachedSite, AreAmong}
 use Rattle.explain_rebuild.specs.Rebuilt.{IsRebuilt}
 use Rattle.explain_rebuild.specs.declared.mending.Rebuilt.{Rebuilt}
+use Rattle.explain_supply.specs.Supply.{IsSupplied}
+use Rattle.explain_uses.specs.Uses.{program_uses}
+use Rattle.explain_uses.specs.Read.{uses_of}
+use Rattle.explain_uses.specs.Paid.{IsPaidTwice}
+use Rattle.explain_uses.specs.declared.later.LaterUse.{LaterUse}
+use Rattle.explain_uses.specs.declared.paid.PaidTwice.{PaidTwice}
 use Rattle.explain_reasons.specs.Waits.{WaitsFor}
 use Rattle.explain_reasons.specs.Rounds.{RoundsBounded}
 use Rattle.explain_reasons.specs.Calls.{AreCallsOf, ArePairs, AreStuck, AreStuckOrNone}
@@ -31,15 +37,24 @@ pub record RebuildHelps (source : Text) (P : Prog) (found : List Findings) (most
   pub reached : All (IsReachedSite P group) sites
   pub helps : IsRebuilt source P found most sites group rebuilt
 
+-- later uses of the program have to be paid for, in functions that the group reaches by calls
+pub record UsesArePaid (source : Text) (P : Prog) (found : List Findings) (most : ℕ) (group : List ℕ) (paid : PaidTwice) : Type 0 where
+  pub uses : List LaterUse
+  pub are : uses_of uses ≡ program_uses P
+  pub is_paid : IsPaidTwice source P found most uses group paid
+
 -- The reason why a group has no bound, where analyses found this of all functions, and trials go up to this degree.
 abbrev pub IsReason : Text → Prog → List Findings → ℕ → List ℕ → Reason → Type 0
 IsReason source P found most group (r.Waits callee stuck) =
     WaitsFor P found group callee.0 × AreStuckOrNone P group most (calls_of stuck.items)
 IsReason source P found most group (r.Rebuild rebuilt) = RebuildHelps source P found most group rebuilt
-IsReason source P found most group (r.Stuck calls) = AreStuck P group most (calls_of calls.items)
+IsReason source P found most group (r.Stuck calls supplied) =
+    AreStuck P group most (calls_of calls.items) × IfSome supplied (IsSupplied source P most group)
 IsReason source P found most group (r.Twice pairs) = ArePairs P group most (pairs_of pairs.items)
-IsReason source P found most group (r.Computed calls) = AreCallsOf Computed P group most (calls_of calls.items)
+IsReason source P found most group (r.Computed calls supplied) =
+    AreCallsOf Computed P group most (calls_of calls.items) × IfSome supplied (IsSupplied source P most group)
 IsReason source P found most group (r.DegreeTooLow callee degree) = RoundsBounded P group most × CallsOfDegree P found group callee.0 degree
+IsReason source P found most group (r.PaidTwice paid) = UsesArePaid source P found most group paid
 IsReason source P found most group r.NotFound = Unit {0}
 
 abbrev pub group_in : Explained → List ℕ

@@ -4,10 +4,12 @@
 mod asked;
 mod calls;
 mod degree;
+mod grounds;
 mod note;
 mod program;
 mod reason;
 mod rounds;
+mod trying;
 mod waits;
 
 pub use note::Note;

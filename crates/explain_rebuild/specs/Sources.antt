@@ -5,7 +5,8 @@ use Rattle.raml_syntax.specs.Read.{program_of}
 use Rattle.explain_check.specs.Checks.{IsProgramOf}
 use Rattle.explain_trials.specs.Read.{IsTrialOf}
 use Rattle.explain_trials.specs.declared.trial.Trial.{Trial}
-use Rattle.explain_changes.specs.Edits.{with_edits, edit}
+use Rattle.explain_edits.specs.Edits.{with_edits}
+use Rattle.explain_changes.specs.Edits.{edit}
 use Rattle.explain_changes.specs.Sites.{changed_program}
 use Rattle.explain_changes.specs.Same.{SameProgram}
 use Rattle.explain_changes.specs.Read.{sites_of, bytes_of}

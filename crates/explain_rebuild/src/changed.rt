@@ -2,7 +2,8 @@
 ghost use Rattle.std.specs.Prelude.{◌≡◌, ◌≤◌, map, IfOk, IfSome};
 ghost use Rattle.raml_syntax.specs.Read.{program_of};
 ghost use Rattle.explain_check.specs.Checks.{IsProgramOf};
-ghost use Rattle.explain_changes.specs.Edits.{with_edits, edit};
+ghost use Rattle.explain_edits.specs.Edits.{with_edits};
+ghost use Rattle.explain_changes.specs.Edits.{edit};
 ghost use Rattle.explain_changes.specs.Read.{sites_of};
 ghost use Rattle.explain_rebuild.specs.Sources.{IsChangedSource, IsTried};
 

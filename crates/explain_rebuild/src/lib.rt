@@ -9,4 +9,4 @@ mod reduce;
 
 pub use mending::{Rebuilt, rebuild};
 pub use original::Original;
-pub use reach::{callees, reached_sites};
+pub use reach::{callees, reached, reached_sites};

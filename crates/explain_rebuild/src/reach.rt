@@ -57,7 +57,7 @@ fn add_called(groups: &Groups, place: usize, found: &mut Vec<FunId>) -> Result<(
 }
 
 /// The functions of a group and those that they reach by calls.
-fn reached(alloc: Global, groups: &Groups, group: &[FunId]) -> Result<Vec<FunId>, AllocError>
+pub fn reached(alloc: Global, groups: &Groups, group: &[FunId]) -> Result<Vec<FunId>, AllocError>
     ensures { IfOk result (λ found. (P : Prog) → IsGrouping P groups.now → AreReached P (ids_of group.now) found.items) }
 {
     let mut found = Vec::from_slice(alloc, group)?;

@@ -4,7 +4,7 @@ use Rattle.raml_syntax.specs.Tree as t
 use Rattle.raml_syntax.specs.Tree.{Type', Function, Prog}
 use Rattle.raml_syntax.specs.Types.{types_of}
 use Rattle.raml_syntax.specs.Place.{place_of}
-use Rattle.explain_rounds.specs.Classes.{Variables, is_sized, is_part, is_made, taken_out, class_of, bind, bind_parameters}
+use Rattle.explain_rounds.specs.Classes.{Class, Variables, is_sized, is_part, is_made, taken_out, class_of, bind, bind_parameters}
 pub use Rattle.explain_rounds.specs.declared.idle.Kind.{Kind}
 pub use Rattle.explain_rounds.specs.declared.idle.Kind.TheVariants.{Smaller, Computed, Stuck}
 
@@ -19,19 +19,14 @@ abbrev pub is_in : ℕ → List ℕ → Bool
 is_in f [] = false
 is_in f (g ∷ group) = nat_eq f g || is_in f group
 
--- some argument is a part, or a pair that holds one
-abbrev pub hands_part : Variables → t.Terms → Bool
-hands_part vs t.None = false
-hands_part vs (t.More a rest) = is_part (class_of vs a) || hands_part vs rest
+-- some argument of a sized type is of such a class
+abbrev pub hands : (Class → Bool) → Variables → List Type' → t.Terms → Bool
+hands test vs (T ∷ Ts) (t.More a rest) = (is_sized T && test (class_of vs a)) || hands test vs Ts rest
+hands test vs _ _ = false
 
--- some argument of a sized type holds a call, or a variable that comes from one
-abbrev pub hands_made : Variables → List Type' → t.Terms → Bool
-hands_made vs (T ∷ Ts) (t.More a rest) = (is_sized T && is_made (class_of vs a)) || hands_made vs Ts rest
-hands_made vs _ _ = false
-
--- A call that hands on no part is idle: it gets what another call made, or it is stuck.
+-- A call that hands on no part that has a size is idle: it gets what another call made, or it is stuck.
 abbrev pub kind_of : Variables → List Type' → t.Terms → Kind
-kind_of vs types args = cond (hands_part vs args) Smaller (cond (hands_made vs types args) Computed Stuck)
+kind_of vs types args = cond (hands is_part vs types args) Smaller (cond (hands is_made vs types args) Computed Stuck)
 
 -- the types of the parameters of a function
 abbrev pub types_at : Option Function → List Type'

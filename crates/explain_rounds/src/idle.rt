@@ -3,6 +3,7 @@ ghost use Rattle.std.specs.Prelude.{◌≡◌, slice_get};
 ghost use Rattle.raml_syntax.specs.Read.{program_of, terms_of};
 ghost use Rattle.call_groups.specs.Read.{ids_of};
 ghost use Rattle.explain_rounds.specs.Calls as c;
+ghost use Rattle.explain_rounds.specs.Classes.{is_part, is_made};
 ghost use Rattle.explain_rounds.specs.Read.{variables_in, types_in, function_in};
 
 use crate::class::{class_of, is_sized};
@@ -12,11 +13,11 @@ use raml_syntax::{Expr, Fun, FunId, Param, Program};
 /// How a call of a function of the group goes down.
 #[derive(Clone, Copy, PartialEq, Eq, Debug)]
 pub enum Kind {
-    /// Some argument is a part of a parameter, or a pair that holds one.
+    /// Some argument of a sized type is a part of a parameter, or a pair that holds one.
     Smaller,
-    /// No argument is a part, and some argument of a sized type holds a call, or what comes from one.
+    /// No such argument is a part, and some holds a call, or what comes from one.
     Computed,
-    /// No argument is a part, and none of a sized type comes from a call.
+    /// No such argument is a part, and none comes from a call.
     Stuck,
 }
 
@@ -32,19 +33,25 @@ pub fn is_in(fun: FunId, group: &[FunId]) -> bool
     false
 }
 
-/// Whether some argument is a part, or a pair that holds one.
-fn hands_part(scope: &Scope, args: &[Expr]) -> bool
-    ensures { result ≡ c.hands_part (variables_in scope.now) (terms_of args.now) }
+/// Whether some argument of a sized type is a part, or a pair that holds one.
+fn hands_part(scope: &Scope, params: &[Param], args: &[Expr]) -> bool
+    ensures { result ≡ c.hands is_part (variables_in scope.now) (types_in params.now) (terms_of args.now) }
 {
-    match args {
+    match params {
         [] => false,
-        [arg, rest @ ..] => class_of(scope, arg).is_part() || hands_part(scope, rest),
+        [param, params @ ..] => match args {
+            [] => false,
+            [arg, args @ ..] => {
+                is_sized(&param.ty) && class_of(scope, arg).is_part()
+                    || hands_part(scope, params, args)
+            }
+        },
     }
 }
 
 /// Whether some argument of a sized type holds a call, or a variable that comes from one.
 fn hands_made(scope: &Scope, params: &[Param], args: &[Expr]) -> bool
-    ensures { result ≡ c.hands_made (variables_in scope.now) (types_in params.now) (terms_of args.now) }
+    ensures { result ≡ c.hands is_made (variables_in scope.now) (types_in params.now) (terms_of args.now) }
 {
     match params {
         [] => false,
@@ -80,9 +87,10 @@ pub fn kind_of(scope: &Scope, program: &Program, fun: FunId, args: &[Expr]) -> K
     ensures { result
         ≡ c.kind_of (variables_in scope.now) (c.types_at (slice_get (program_of program.now) fun.0)) (terms_of args.now) }
 {
-    if hands_part(scope, args) {
+    let params = params_of(program, fun);
+    if hands_part(scope, params, args) {
         Kind::Smaller
-    } else if hands_made(scope, params_of(program, fun), args) {
+    } else if hands_made(scope, params, args) {
         Kind::Computed
     } else {
         Kind::Stuck

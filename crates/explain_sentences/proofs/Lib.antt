@@ -1,1 +1,1 @@
-mod Sites
+mod Listed

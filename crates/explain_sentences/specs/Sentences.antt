@@ -4,6 +4,7 @@ use Rattle.raml_syntax.specs.Tree.{Text, Function, Prog}
 use Rattle.report_text.specs.Names.{name_at}
 use Rattle.explain_changes.specs.Built.{text}
 use Rattle.explain_changes.specs.Sites.{Site}
+use Rattle.explain_uses.specs.Uses.{LaterUse}
 use Rattle.explain_rounds.specs.declared.idle.Kind.{Kind}
 use Rattle.explain_rounds.specs.declared.idle.Kind.TheVariants.{Smaller, Computed, Stuck}
 use Rattle.explain_rounds.specs.Calls.{Call}
@@ -23,7 +24,7 @@ begin_of P f = begin_in (slice_get P f)
 
 -- the function has no bound, and why
 abbrev pub unbounded : Prog → ℕ → ℕ → Text → Sentence
-unbounded P f p why = record { at = p; text = codes "`" ++ (name_at P f ++ (codes "` has no bound: " ++ why)) }
+unbounded P f p why = record { at = p; text = codes "`" ++ (name_at P f ++ (codes "` lacks a bound: " ++ why)) }
 
 abbrev pub at_function : Prog → ℕ → Text → List Sentence
 at_function P f why = unbounded P f (begin_of P f) why ∷ []
@@ -73,7 +74,7 @@ of_sites P f (site ∷ sites) = of_site P f site ∷ of_sites P f sites
 -- ---- other functions
 
 abbrev pub why_waiting : Prog → ℕ → Text
-why_waiting P callee = codes "it calls `" ++ (name_at P callee ++ codes "`, which has none")
+why_waiting P callee = codes "it calls `" ++ (name_at P callee ++ codes "`, which lacks one; look at that one first")
 
 abbrev pub of_waiting : Prog → ℕ → ℕ → List Sentence
 of_waiting P f callee = at_function P f (why_waiting P callee)
@@ -86,8 +87,33 @@ why_degree P callee degree =
 abbrev pub of_degree : Prog → ℕ → ℕ → ℕ → List Sentence
 of_degree P f callee degree = at_function P f (why_degree P callee degree)
 
+-- ---- values that are used twice
+
+abbrev pub why_first : Text → Text → Text
+why_first variable function = codes "`" ++ (variable ++ (codes "` of `" ++ (function ++ codes "` is used here")))
+
+abbrev pub why_again : Text → Text → Text
+why_again variable function =
+    codes "`" ++ (variable ++ (codes "` of `" ++ (function ++ codes "` is used here again, and there would be a bound without this use")))
+
+abbrev pub at_first : Prog → ℕ → LaterUse → Sentence
+at_first P f u = unbounded P f u.first (why_first u.variable u.function)
+
+abbrev pub at_again : Prog → ℕ → LaterUse → Sentence
+at_again P f u = unbounded P f u.at (why_again u.variable u.function)
+
+abbrev pub of_uses : Prog → ℕ → List LaterUse → List Sentence
+of_uses P f [] = []
+of_uses P f (u ∷ us) = at_first P f u ∷ (at_again P f u ∷ of_uses P f us)
+
+-- ---- no reason
+
+abbrev pub why_not_found : Text
+why_not_found = codes "no reason was found; perhaps a value grows from call to call, or is not given back in every case"
+
 -- behind stuck calls, where there are some
 abbrev pub closing_of_stuck : {A : Type 0} → List A → Text
 closing_of_stuck [] = []
 closing_of_stuck (call ∷ calls) =
-    codes "A number has no size, so it cannot pay for the rounds; a list with an entry for each round can.\n"
+    codes "The analysis bounds such calls by a list or tree that gets smaller. It does not follow numbers, which may never reach their end; "
+    ++ codes "a list with an entry for each call can take their place.\n"

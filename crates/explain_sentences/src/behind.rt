@@ -12,7 +12,7 @@ fn of_stuck(calls: &[GroupCall]) -> &'static str
     match calls {
         [] => "",
         [_, ..] =>
-            "A number has no size, so it cannot pay for the rounds; a list with an entry for each round can.\n",
+            "The analysis bounds such calls by a list or tree that gets smaller. It does not follow numbers, which may never reach their end; a list with an entry for each call can take their place.\n",
     }
 }
 
@@ -23,13 +23,15 @@ pub fn closing(reason: &Reason<'_>) -> &'static str
     match reason {
         Reason::Waits { callee: _, stuck } => of_stuck(stuck),
         Reason::Rebuild(_) =>
-            "Both uses must be paid for, and what is set aside for an element pays once.\n",
-        Reason::Stuck(calls) => of_stuck(calls),
+            "The analysis loses track of a value that is used whole beside its parts.\n",
+        Reason::Stuck { calls, .. } => of_stuck(calls),
         Reason::Twice(_) =>
             "The number of calls doubles with each part, and no polynomial bounds that.\n",
-        Reason::Computed(_) =>
-            "A list with an entry for each round, handed on beside, would bound the rounds.\n",
+        Reason::Computed { .. } =>
+            "What another call made is not known to be smaller, so the number of calls has no bound.\n",
         Reason::DegreeTooLow { .. } => "",
+        Reason::PaidTwice(_) =>
+            "The analysis loses track of a value that is handed on and used again. Let the function that gets it give it back in every case, and go on with what it gave.\n",
         Reason::NotFound => "",
     }
 }

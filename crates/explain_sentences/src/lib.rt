@@ -6,6 +6,7 @@ mod call;
 mod reason;
 mod sentence;
 mod site;
+mod twice;
 
 pub use behind::closing;
 pub use reason::sentences;

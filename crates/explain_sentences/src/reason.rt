@@ -8,6 +8,7 @@ ghost use Rattle.explain_sentences.specs.Reasons.{of_reason};
 use crate::call::{add_calls, add_pairs};
 use crate::sentence::{Sentence, begin_of, unbounded};
 use crate::site::add_sites;
+use crate::twice::add_uses;
 use explain_reasons::{Explained, Reason};
 use raml_syntax::{FunId, Program};
 use report_text::name_at;
@@ -33,7 +34,7 @@ fn why_waiting(alloc: Global, program: &Program, callee: FunId) -> Result<String
     ensures { IfOk result (λ why. string_bytes why ≡ s.why_waiting (program_of program.now) callee.0) }
 {
     let callee = name_at(program, callee);
-    format!(in alloc; "it calls `{callee}`, which has none")
+    format!(in alloc; "it calls `{callee}`, which lacks one; look at that one first")
 }
 
 /// Why one that calls another one with a bound of a high degree has none.
@@ -99,14 +100,21 @@ fn add_reason(
             add_calls(alloc, sentences, program, fun, stuck)
         }
         Reason::Rebuild(rebuilt) => add_sites(alloc, sentences, program, fun, &rebuilt.sites),
-        Reason::Stuck(calls) => add_calls(alloc, sentences, program, fun, calls),
+        Reason::Stuck { calls, .. } => add_calls(alloc, sentences, program, fun, calls),
         Reason::Twice(pairs) => add_pairs(alloc, sentences, program, fun, pairs),
-        Reason::Computed(calls) => add_calls(alloc, sentences, program, fun, calls),
+        Reason::Computed { calls, .. } => add_calls(alloc, sentences, program, fun, calls),
         Reason::DegreeTooLow { callee, degree } => {
             add_degree(alloc, sentences, program, fun, *callee, *degree)
         }
+        Reason::PaidTwice(paid) => add_uses(alloc, sentences, program, fun, &paid.uses),
         Reason::NotFound => {
-            add_at_function(alloc, sentences, program, fun, "no reason was found")
+            add_at_function(
+                alloc,
+                sentences,
+                program,
+                fun,
+                "no reason was found; perhaps a value grows from call to call, or is not given back in every case",
+            )
         }
     }
 }

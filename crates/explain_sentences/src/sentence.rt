@@ -26,7 +26,7 @@ pub(crate) fn unbounded(
     ensures { IfOk result (λ sentence. sentence_of sentence ≡ s.unbounded (program_of program.now) fun.0 at.0 why.now) }
 {
     let name = name_at(program, fun);
-    let text = format!(in alloc; "`{name}` has no bound: {why}")?;
+    let text = format!(in alloc; "`{name}` lacks a bound: {why}")?;
     Ok(Sentence { at, text })
 }
 

@@ -24,8 +24,12 @@ use Rattle.explain_verify.specs.declared.verification.Verification.{Verification
 use Rattle.explain_verify.specs.declared.verification.Verification.TheVariants as o
 use Rattle.explain_words.specs.Asking.{Asks, AsksToShow, AsksNothing}
 use Rattle.explain_words.specs.declared.request.Request.{Request}
-use Rattle.explain_words.specs.declared.request.Request.TheVariants.{Check, CheckData, Bounds, Budget, WriteBudget, Verify}
+use Rattle.explain_words.specs.declared.request.Request.TheVariants.{Check, CheckData, Bounds, Budget, WriteBudget, Verify, Why}
 use Rattle.explain_words.specs.declared.request.bounds.BoundsWords.{BoundsWords}
+use Rattle.explain_words.specs.declared.request.why.WhyWords.{WhyWords}
+use Rattle.explain_words.specs.declared.request.why.Written.{Written}
+use Rattle.explain_why.specs.Calls as why
+use Rattle.explain_why.specs.Outcome.{Outcome}
 use Rattle.explain_top.specs.Shelves.{Shelf, KeepsFiles, LeavesFile, HasFile, FailsToLeave}
 use Rattle.explain_top.specs.Sinks.{Sink, GainsNothing, Gains, GainsFront, Writes}
 use Rattle.explain_top.specs.declared.status.Status.{Status}
@@ -140,9 +144,39 @@ IsDraftLeft store shelf file bounds degree force err status =
     ⊎ ((made : Draft) × (report : Text) × (part : Text) × DraftIs store file degree made report
     × EndsBy shelf bounds force made status part × Writes (report ++ part) err))
 
+-- ---- why functions have no bounds
+
+-- the source that the first change gives is left as the file that is named; or there is no change
+abbrev pub LeavesWritten : Shelf → Written → Option Text → Status → Text → Type 0
+LeavesWritten shelf written (Some text) status part = IsTextLeft shelf written.name.now written.force text status part
+LeavesWritten shelf written None status part =
+    KeepsFiles shelf × (status ≡ s.Refused) × (part ≡ error_line written.name.now (codes "is not written: no change was found that gives bounds"))
+
+-- what is left by a call that ends so
+abbrev pub LeavesChange : Shelf → Option Written → End → Option Text → Status → Text → Type 0
+LeavesChange shelf (Some written) e.Told changed status part = LeavesWritten shelf written changed status part
+LeavesChange shelf written end changed status part = KeepsFiles shelf × (status ≡ status_at end) × (part ≡ [])
+
+-- it is told, and a file is left where the words name one
+abbrev pub TellsWhy : Store → Shelf → WhyWords → Sink → Sink → Status → Type 0
+TellsWhy store shelf words out err status =
+    (told : Outcome) × (part : Text) × (done : Status) × why.CallIs store words told
+    × LeavesChange shelf words.written told.end told.changed done part
+    × Puts told.text out done status × Writes (told.report ++ part) err
+
+-- the file that is to be written would be the source
+abbrev pub NamesSource : WhyWords → Sink → Status → Type 0
+NamesSource words err status =
+    (written : Written) × (words.written ≡ Some written) × (written.name.now ≡ words.file.now) × IsSourceRefused written.name.now err status
+
+abbrev pub IsWhyTold : Store → Shelf → WhyWords → Sink → Sink → Status → Type 0
+IsWhyTold store shelf words out err status =
+    (KeepsFiles shelf × GainsNothing out × (LacksMemory err status ⊎ NamesSource words err status))
+    ⊎ TellsWhy store shelf words out err status
+
 -- ---- requests
 
--- what a request asks for is done, where lines that go to out have at most so many columns; no other than this leaves a file
+-- what a request asks for is done, where lines that go to out have at most so many columns; no others than these leave a file
 abbrev pub IsAnswer : Store → Shelf → Request → Option ℕ → Sink → Sink → Status → Type 0
 IsAnswer store shelf (Check names) columns out err status =
     IsChecked store names.items err status × GainsNothing out × KeepsFiles shelf
@@ -155,6 +189,7 @@ IsAnswer store shelf (WriteBudget file bounds degree force) columns out err stat
     IsDraftLeft store shelf file.now bounds.now degree force err status × GainsNothing out
 IsAnswer store shelf (Verify file certificate) columns out err status =
     IsVerified store file.now certificate.now out err status × KeepsFiles shelf
+IsAnswer store shelf (Why words) columns out err status = IsWhyTold store shelf words out err status
 
 -- ---- whole calls
 

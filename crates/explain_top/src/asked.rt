@@ -10,6 +10,7 @@ ghost use Rattle.explain_top.specs.Sinks.{sink_of, Writes};
 
 use crate::draft::leave_draft;
 use crate::status::Status;
+use crate::why::why;
 use explain_budget::tell_budget;
 use explain_calls::tell_bounds;
 use explain_check::check_files;
@@ -66,6 +67,7 @@ pub fn answer<S: Store, W: Shelf, O: Sink, E: Sink>(
         Request::Verify { file, certificate } => {
             verify(alloc, *file, *certificate, store, out, err)
         }
+        Request::Why(words) => why(alloc, words, store, shelf, out, err),
     }
 }
 

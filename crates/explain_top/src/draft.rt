@@ -52,8 +52,8 @@ pub(crate) fn leave_draft<S: Store, W: Shelf, E: Sink>(
     }
 }
 
-// Says that the file of bounds would be the source.
-fn refuse_source<E: Sink>(alloc: Global, bounds: &str, err: &mut E) -> Status
+/// Says that the file that is to be left would be the source.
+pub(crate) fn refuse_source<E: Sink>(alloc: Global, bounds: &str, err: &mut E) -> Status
     ensures { IsSourceRefused bounds.now (sink_of (E.faults err.old) (E.faults err.new) (E.written err.old) (E.written err.new)) result }
 {
     let mut report = String::new(alloc);
@@ -84,19 +84,26 @@ fn leave<W: Shelf>(
         (KeepsFiles (shelf_of (W.faults shelf.old) (W.faults shelf.new) (W.holds shelf.old) (W.holds shelf.new))) }
 {
     match draft {
-        Draft::Made { text, .. } => leave_text(alloc, shelf, bounds, text, force, report),
+        Draft::Made { text, .. } => leave_text(
+            alloc,
+            shelf,
+            bounds,
+            text.as_bytes(),
+            force,
+            report,
+        ),
         Draft::Refused => Ok(Status::Refused),
         Draft::NotAnalysed => Ok(Status::NotAnalysed),
     }
 }
 
-// Leaves a text. Where it can't be left, that is appended to the report.
+/// Leaves a text. Where it can't be left, that is appended to the report.
 #[tactic(auto, using(crate::proofs::Shelves::leaves))]
-fn leave_text<W: Shelf>(
+pub(crate) fn leave_text<W: Shelf>(
     alloc: Global,
     shelf: &mut W,
     bounds: &str,
-    text: &str,
+    text: &[u8],
     force: bool,
     report: &mut String,
 ) -> Result<Status, AllocError>
@@ -107,7 +114,7 @@ fn leave_text<W: Shelf>(
     ensures nothing { OnErr result
         (KeepsFiles (shelf_of (W.faults shelf.old) (W.faults shelf.new) (W.holds shelf.old) (W.holds shelf.new))) }
 {
-    match shelf.leave(alloc, bounds, text.as_bytes(), force) {
+    match shelf.leave(alloc, bounds, text, force) {
         Ok(()) => Ok(Status::Done),
         Err(ShelfFault::Taken) => {
             push_error(bounds, "is there already; --force writes over it", report)?;

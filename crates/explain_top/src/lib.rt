@@ -5,6 +5,7 @@ mod asked;
 mod draft;
 mod status;
 mod top;
+mod why;
 
 pub use asked::answer;
 pub use status::Status;

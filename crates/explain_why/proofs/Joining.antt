@@ -3,13 +3,20 @@ use Rattle.std.proofs.Common.{◌≡◌, refl, subst, ap, ◌∙◌, ◌≤◌, 
 use Rattle.std.proofs.lemmas.List.{append_assoc, take_all}
 use Rattle.raml_syntax.specs.Tree.{Text, Prog}
 use Rattle.explain_reasons.specs.declared.reason.Explained.{Explained}
-use Rattle.explain_why.specs.Why.{IsGroup, AreGroups}
+use Rattle.std.specs.Prelude.{Bool}
+use Rattle.explain_why.specs.Why.{IsGroupIf, AreGroups}
 
-pub groups_next : (name source : Text) (P : Prog) (reasons : List Explained) (e : Explained) (first others : Text) → 1 ≤ length reasons → e ≡ slice_index_or reasons 0 e →
-    IsGroup name source P e first → AreGroups name source P (take (length reasons - 1) (drop 1 reasons)) others → AreGroups name source P reasons (first ++ others)
-groups_next name source P [] e first others some is here are = absurd (omega (arith, some))
-groups_next name source P (x ∷ xs) e first others some is here are =
-    (first, others, subst (λ e. IsGroup name source P e first) is here, subst (λ es. AreGroups name source P es others) (take_all (length (x ∷ xs) - 1) xs (omega arith)) are, refl)
+pub groups_next : (test : Explained → Bool) (name source : Text) (P : Prog) (reasons : List Explained) (e : Explained) (first others : Text) →
+    1 ≤ length reasons → e ≡ slice_index_or reasons 0 e → IsGroupIf (test e) name source P e first →
+    AreGroups test name source P (take (length reasons - 1) (drop 1 reasons)) others → AreGroups test name source P reasons (first ++ others)
+groups_next test name source P [] e first others some is here are = absurd (omega (arith, some))
+groups_next test name source P (x ∷ xs) e first others some is here are = (
+  first,
+  others,
+  subst (λ e. IsGroupIf (test e) name source P e first) is here,
+  subst (λ es. AreGroups test name source P es others) (take_all (length (x ∷ xs) - 1) xs (omega arith)) are,
+  refl,
+)
 
 -- one text behind another one
 pub behind : (old mid new first others : Text) → mid ≡ old ++ first → new ≡ mid ++ others → new ≡ old ++ (first ++ others)

@@ -1,4 +1,8 @@
+pub mod Outcome
+pub mod Read
 pub mod Shown
 pub mod Bounds
 pub mod Notes
+pub mod Chosen
 pub mod Why
+pub mod Calls

@@ -2,8 +2,13 @@
 #![tactic(auto)]
 
 mod bounds;
+mod call;
+mod change;
+mod chosen;
 mod groups;
 mod notes;
 mod shown;
 
-pub use groups::push_why;
+pub use call::{Told, tell_why};
+pub use chosen::Asking;
+pub use groups::{Subject, push_why};

@@ -81,6 +81,17 @@ budget_app =
 abbrev pub verify_app : App
 verify_app = with_rule (with_rule (new_app (codes "verify")) (operand_rule (codes "file"))) (operand_rule (codes "certificate"))
 
+abbrev pub why_file : App
+why_file = with_rule (new_app (codes "why")) (operand_rule (codes "file"))
+
+-- what is asked about
+abbrev pub why_chosen : App
+why_chosen =
+    with_rule (with_rule (with_rule why_file (option_rule (codes "degree"))) (option_rule (codes "function"))) (option_rule (codes "meter"))
+
+abbrev pub why_app : App
+why_app = with_rule (with_rule why_chosen (option_rule (codes "write"))) (flag_rule (codes "force"))
+
 -- the program before it has commands
 abbrev pub bare : App
 bare = on_top (λ s. record s {
@@ -95,4 +106,4 @@ abbrev pub begun : App
 begun = with_subcommand (with_subcommand bare check_app.top) bounds_app.top
 
 abbrev pub app : App
-app = with_subcommand (with_subcommand begun budget_app.top) verify_app.top
+app = with_subcommand (with_subcommand (with_subcommand begun budget_app.top) verify_app.top) why_app.top

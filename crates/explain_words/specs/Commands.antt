@@ -1,15 +1,17 @@
 -- What each command asks for, with what `clap` finds for its arguments.
-use Rattle.std.specs.Prelude.{◌≡◌, ℕ, Bool, false, List, [], ◌∷◌, map, Option, Some, None, option_map, unwrap_or, Result, Ok, Err, codes}
+use Rattle.std.specs.Prelude.{◌≡◌, ℕ, Bool, true, false, List, [], ◌∷◌, map, Option, Some, None, option_map, unwrap_or, Result, Ok, Err, codes}
 use Rattle.std.specs.Option.{option_map_or}
 use Rattle.std.specs.Str.{bytes_eq}
 use Rattle.std.specs.Borrow.{Bor}
 use Rattle.clap.specs.Walk.{Row, Text, all_of, first_of}
-use Rattle.explain_words.specs.Spelled.{lent, degree_in, width_in, within_in}
+use Rattle.explain_words.specs.Spelled.{lent, degree_in, width_in, meter_named, within_in}
 use Rattle.explain_words.specs.declared.request.Request.{Request}
-use Rattle.explain_words.specs.declared.request.Request.TheVariants.{Check, CheckData, Bounds, Budget, WriteBudget, Verify}
+use Rattle.explain_words.specs.declared.request.Request.TheVariants.{Check, CheckData, Bounds, Budget, WriteBudget, Verify, Why}
 use Rattle.explain_words.specs.declared.request.bounds.BoundsWords.{BoundsWords}
 use Rattle.explain_words.specs.declared.request.budget.Aim.{Aim as Aim'}
 use Rattle.explain_words.specs.declared.request.budget.Aim.TheVariants as aim
+use Rattle.explain_words.specs.declared.request.why.WhyWords.{WhyWords}
+use Rattle.explain_words.specs.declared.request.why.Written.{Written}
 
 -- the texts that are lent
 abbrev pub texts : List (Bor Text) → List Text
@@ -99,3 +101,24 @@ abbrev pub MeansVerify : List Row → Request → Type 0
 MeansVerify rows (Verify file certificate) =
     (first_of (codes "file") rows ≡ Some file.now) × (first_of (codes "certificate") rows ≡ Some certificate.now)
 MeansVerify rows other = ⊥
+
+-- the file that is to be written, by the value of `--write` and `--force`
+abbrev pub written_of : Option Text → Bool → Option (Option (Text × Bool))
+written_of (Some name) force = Some (Some (name, force))
+written_of None true = None
+written_of None false = Some None
+
+abbrev pub plain_written : Written → Text × Bool
+plain_written written = (written.name.now, written.force)
+
+-- what `why` asks for
+pub record AreWhy (rows : List Row) (asked : WhyWords) : Type 0 where
+  pub file : first_of (codes "file") rows ≡ Some asked.file.now
+  pub degree : degree_or_4 (first_of (codes "degree") rows) ≡ Some asked.degree
+  pub function : first_of (codes "function") rows ≡ lent asked.function
+  pub meter : optional meter_named (first_of (codes "meter") rows) ≡ Some asked.meter
+  pub written : written_of (first_of (codes "write") rows) (is_set (codes "force") rows) ≡ Some (option_map plain_written asked.written)
+
+abbrev pub MeansWhy : List Row → Request → Type 0
+MeansWhy rows (Why asked) = AreWhy rows asked
+MeansWhy rows other = ⊥

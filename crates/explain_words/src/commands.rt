@@ -7,12 +7,13 @@ mod bounds;
 mod budget;
 mod check;
 mod verify;
+mod why;
 
 use clap::{Arg, ArgAction, Command};
 use std::alloc::{AllocError, Global};
 
 /// The version of the program.
-pub const VERSION: &str = "1.0.0";
+pub const VERSION: &str = "1.1.0";
 
 /// The program, with all its commands. Its words are those behind its name.
 pub fn program<'a>(alloc: Global) -> Result<Command<'a>, AllocError>
@@ -20,7 +21,8 @@ pub fn program<'a>(alloc: Global) -> Result<Command<'a>, AllocError>
 {
     let command = begun(alloc)?;
     let with_budget = command.subcommand(budget::command(alloc)?)?;
-    with_budget.subcommand(verify::command(alloc)?)
+    let with_verify = with_budget.subcommand(verify::command(alloc)?)?;
+    with_verify.subcommand(why::command(alloc)?)
 }
 
 // With its first commands.

@@ -15,6 +15,8 @@ pub enum Mistake {
     Data,
     /// The word is no degree.
     Degree,
+    /// The word is no meter.
+    Meter,
     /// The word is no meter with a number.
     Within,
     /// The word is no width of lines.
@@ -25,6 +27,8 @@ pub enum Mistake {
     TwoBounds,
     /// `--force` stands where nothing is to be written.
     Force,
+    /// `--force` stands without the file that it writes over.
+    Unwritten,
     /// `--json` stands where a file is to be written.
     Json,
     /// There is no certificate.
@@ -48,6 +52,7 @@ impl Mistake {
             Mistake::NoFile => "error: no file is given\n",
             Mistake::Data => "error: '--data <NAME> <DATA>' stands with one file\n",
             Mistake::Degree => "error: '--degree <D>' takes 1, 2, 3 or 4\n",
+            Mistake::Meter => "error: '--meter <METER>' takes ticks, cells or work\n",
             Mistake::Within => {
                 "error: '--within <METER=N>' takes ticks=N, cells=N or work=N, with a whole number N of at most 2^127\n"
             }
@@ -57,6 +62,7 @@ impl Mistake {
             Mistake::TwoBounds =>
                 "error: '--write <BOUNDS>' can't stand with another file BOUNDS\n",
             Mistake::Force => "error: '--force' stands with '--write <BOUNDS>' alone\n",
+            Mistake::Unwritten => "error: '--force' stands with '--write <OTHER>' alone\n",
             Mistake::Json => "error: '--json' can't stand with '--write <BOUNDS>'\n",
             Mistake::NoCertificate => "error: no certificate is given\n",
         }

@@ -4,20 +4,24 @@ ghost use Rattle.clap.specs.Values.{kind_of};
 ghost use Rattle.clap.specs.Walk.{rows_of};
 ghost use Rattle.clap.specs.Matches.{found_of};
 ghost use Rattle.clap.specs.Simple.{subcommand_rows_of};
-ghost use Rattle.explain_words.specs.Commands.{texts};
+ghost use Rattle.explain_words.specs.Spelled.{lent};
+ghost use Rattle.explain_words.specs.Commands.{degree_or_4, right, texts};
 ghost use Rattle.explain_words.specs.Asking.{command_named, MeansBy, Means, Asks, GivesNone, IsTold, RefusesAll};
 
 pub mod bounds;
 mod budget;
 mod check;
 mod verify;
+pub mod why;
 
 use crate::commands::program;
 use crate::mistake::Mistake;
+use crate::number::degree_in;
 use bounds::BoundsWords;
 use clap::error::ErrorKind;
 use clap::{ArgMatches, Error};
 use std::alloc::{AllocError, Global};
+use why::WhyWords;
 
 /// What a call is asked to do.
 #[derive(Debug, Drop)]
@@ -53,6 +57,8 @@ pub enum Request<'a> {
         file: &'a str,
         certificate: &'a str,
     },
+    /// Say why functions of a program have no bound.
+    Why(WhyWords<'a>),
 }
 
 /// Why words give no request.
@@ -128,6 +134,17 @@ fn asked_of<'a>(
         "bounds" => bounds::asked(alloc, found),
         "budget" => budget::asked(alloc, found),
         "verify" => verify::asked(alloc, found),
+        "why" => why::asked(alloc, found),
         _ => Err(Mistake::NoCommand.told(alloc)),
+    }
+}
+
+// The degree that is given, or 4.
+fn degree_or_4(word: Option<&str>) -> Result<u8, Mistake>
+    ensures { right result ≡ degree_or_4 (lent word.entry) }
+{
+    match word {
+        Some(word) => degree_in(word).ok_or(Mistake::Degree),
+        None => Ok(4),
     }
 }

@@ -25,7 +25,7 @@ const MOST: u128 = 1 << 127;
 
 impl Meter {
     /// The meter of this name.
-    fn named(name: &str) -> Option<Meter>
+    pub fn named(name: &str) -> Option<Meter>
         ensures { result ≡ meter_named name.now }
     {
         match name {

@@ -41,7 +41,7 @@ fn told(alloc: Global, words: &[&str], puts: &[u64], writes: &[u64]) -> Result<S
     Ok(text)
 }
 
-// The version is `explain 1.0.0` and the end of its line; a put takes ten bytes, and the second one fails.
+// The version is `explain 1.1.0` and the end of its line; a put takes ten bytes, and the second one fails.
 #[test]
 fn tells_that_out_was_not_written(rt: HostRuntime) -> Result<(), Fail> {
     let alloc = rt.alloc();

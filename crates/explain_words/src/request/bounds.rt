@@ -3,13 +3,13 @@ ghost use Rattle.std.specs.Prelude.{◌≡◌, IfOk, IfErr};
 ghost use Rattle.clap.specs.Walk.{rows_of};
 ghost use Rattle.clap.specs.Matches.{found_of};
 ghost use Rattle.explain_words.specs.Spelled.{lent, width_in, within_in};
-ghost use Rattle.explain_words.specs.Commands.{AreBounds, MeansBounds, Tells, degree_or_4, optional, right};
+ghost use Rattle.explain_words.specs.Commands.{AreBounds, MeansBounds, Tells, optional, right};
 ghost use Rattle.explain_words.specs.Asking.{RefusesAll};
 
-use super::{Request, WordsFault};
+use super::{Request, WordsFault, degree_or_4};
 use crate::given::{is_set, text_of};
 use crate::mistake::Mistake;
-use crate::number::{degree_in, number_in};
+use crate::number::number_in;
 use crate::within::Within;
 use clap::ArgMatches;
 use std::alloc::Global;
@@ -60,16 +60,6 @@ fn words_of<'a>(found: &ArgMatches<'a>) -> Result<BoundsWords<'a>, Mistake>
         width,
         json: is_set(found, "json"),
     })
-}
-
-// The degree that is given, or 4.
-fn degree_or_4(word: Option<&str>) -> Result<u8, Mistake>
-    ensures { right result ≡ degree_or_4 (lent word.entry) }
-{
-    match word {
-        Some(word) => degree_in(word).ok_or(Mistake::Degree),
-        None => Ok(4),
-    }
 }
 
 // How much may be spent, where it is given.

@@ -14,3 +14,6 @@ pub returns-in-Verify-clause-done : goal.returns-in-Verify-clause-done
 returns-in-Verify-clause-done g c =
     let faults = g.W.Shelf.faults c.args.shelf.now in
     rw c.in-Verify.is (c.verify.ensures.told, untouched faults faults (g.W.Shelf.holds c.args.shelf.now))
+
+pub returns-in-Why-clause-done : goal.returns-in-Why-clause-done
+returns-in-Why-clause-done g c = rw c.in-Why.is c.why.ensures.told

@@ -8,8 +8,8 @@ use Rattle.explain_why.proofs.groups.push_why.Goals as goal
 
 pub push_groups-requires : goal.push_groups-requires
 push_groups-requires c =
-    let source = c.args.source.now in
-    let P = program_of c.args.program.now in
+    let source = c.args.subject.source.now in
+    let P = program_of c.args.subject.program.now in
     let explanation = c.args.explanation.now in
     let found = explanation.found.functions.items in
     All-same (λ (e : Explained). ReasonCanBeTold e.reason) c.deref-2.result.now explanation.reasons.items c.deref-2.ensures.value

@@ -1,0 +1,4 @@
+pub mod Names
+pub mod Insertions
+pub mod Supply
+pub mod Read
