@@ -1,6 +1,6 @@
 // The source in which calls are written out.
-ghost use Rattle.std.specs.Prelude.{◌≡◌, ◌++◌, take, drop, IfOk, IfSome};
-ghost use Rattle.explain_inline.specs.Texts.{IsReplaced};
+ghost use Rattle.std.specs.Prelude.{◌≡◌, IfOk, IfSome};
+ghost use Rattle.explain_inline.specs.Texts.{IsReplaced, with_stretch};
 
 use crate::numbers::greatest_number;
 use crate::stretch::{Stretch, body_stretch, ending_at, starting};
@@ -86,8 +86,8 @@ fn with_new_body(
         return Ok(None);
     }
     match body_stretch(source, &tokens, caller.at) {
-        Some(body) => match written_out(alloc, callee, &caller.body, number)? {
-            Some(text) => Ok(Some(replaced(alloc, source, body, text.as_bytes())?)),
+        Some(stretch) => match written_out(alloc, callee, &caller.body, number)? {
+            Some(text) => Ok(Some(with_text(alloc, source, stretch, text.as_bytes())?)),
             None => Ok(None),
         },
         None => Ok(None),
@@ -95,7 +95,7 @@ fn with_new_body(
 }
 
 /// The source with another text, on a line of its own, in the place of a stretch.
-fn replaced(
+fn with_text(
     alloc: Global,
     source: &[u8],
     stretch: Stretch,
@@ -103,10 +103,30 @@ fn replaced(
 ) -> Result<Vec<u8>, AllocError>
     ensures { IfOk result (λ made. IsReplaced source.now made.items) }
 {
+    let by = on_its_line(alloc, text)?;
+    replaced(alloc, source, stretch, &by)
+}
+
+/// A text on a line of its own.
+fn on_its_line(alloc: Global, text: &[u8]) -> Result<Vec<u8>, AllocError> {
+    let mut line = Vec::new(alloc);
+    line.extend_from_slice(b"\n  ")?;
+    line.extend_from_slice(text)?;
+    Ok(line)
+}
+
+/// The source with another text in the place of a stretch.
+fn replaced(
+    alloc: Global,
+    source: &[u8],
+    stretch: Stretch,
+    by: &[u8],
+) -> Result<Vec<u8>, AllocError>
+    ensures { IfOk result (λ made. made.items ≡ with_stretch source.now stretch.from stretch.to by.now) }
+{
     let mut made = Vec::new(alloc);
     made.extend_from_slice(ending_at(source, stretch.from))?;
-    made.extend_from_slice(b"\n  ")?;
-    made.extend_from_slice(text)?;
+    made.extend_from_slice(by)?;
     made.extend_from_slice(starting(source, stretch.to))?;
     Ok(made)
 }

@@ -43,8 +43,29 @@ fun apply (txs : (int * (int * int)) list, book : (int * int) list, failed : int
       | some(b2) -> apply(rest, b2, failed)
 ";
 
-// The text in which calls are written out so that the function gets bounds up to this degree, and how many lines that mends.
-fn mended(alloc: Global, source: &str, fun: FunId, most: u8) -> Result<String, Fail> {
+// As `apply` is once `transfer` is written out in it.
+const APPLY: &str = "\
+    : (int * int) list * int =
+  match txs with
+    nil -> (book, failed)
+  | t :: rest ->
+      let (src4, rest4) = t in
+      let (dst4, amount4) = rest4 in
+      tick 21 in
+      if balance(src4, book) < amount4 then apply(rest, book, failed + 1)
+      else
+        let b2 = credit(dst4, amount4, credit(src4, 0 - amount4, book)) in
+        apply(rest, b2, failed)
+";
+
+// How many lines are mended up to this degree where a function is to get bounds, and whether the text ends so.
+fn mended(
+    alloc: Global,
+    source: &str,
+    fun: FunId,
+    most: u8,
+    end: &str,
+) -> Result<Option<(usize, bool)>, Fail> {
     let Some(typed) = typed_text(alloc, source.as_bytes())? else {
         return Err(Fail::from("the source is not typed"));
     };
@@ -58,16 +79,19 @@ fn mended(alloc: Global, source: &str, fun: FunId, most: u8) -> Result<String, F
     };
     let groups = group_calls(alloc, program)?;
     match inline(alloc, original, &groups, &[fun])? {
-        Some(inlined) => match std::str::from_utf8(&inlined.trial.text) {
-            Ok(text) => Ok(String::from_str(alloc, text)?),
-            Err(_) => Err(Fail::from("this is no text")),
-        },
-        None => Ok(String::new(alloc)),
+        Some(inlined) => Ok(Some((
+            inlined.lines.len(),
+            inlined.trial.text.ends_with(end.as_bytes()),
+        ))),
+        None => Ok(None),
     }
 }
 
+// Of ticks, cells and work there is no bound before, and at degree 1 none after.
 #[test]
 fn ledger(rt: HostRuntime) -> Result<(), Fail> {
-    assert_eq!(rt; mended(rt.alloc(), LEDGER, FunId(3), 2)?.as_str(), "");
+    for (most, want) in [(1, None), (2, Some((3, true))), (3, Some((3, true)))] {
+        assert_eq!(rt; mended(rt.alloc(), LEDGER, FunId(3), most, APPLY)?, want);
+    }
     Ok(())
 }

@@ -19,7 +19,14 @@ fn changed(alloc: Global, source: &str) -> Result<String, Fail> {
         Some(typed) => {
             let program = typed.program();
             let groups = group_calls(alloc, program)?;
-            match inlined_text(alloc, source.as_bytes(), program, &groups, FunId(1), FunId(0))? {
+            match inlined_text(
+                alloc,
+                source.as_bytes(),
+                program,
+                &groups,
+                FunId(1),
+                FunId(0),
+            )? {
                 Some(text) => match std::str::from_utf8(&text) {
                     Ok(text) => Ok(String::from_str(alloc, text)?),
                     Err(_) => Err(Fail::from("this is no text")),
@@ -38,19 +45,39 @@ fn is_typed(alloc: Global, source: &str) -> Result<bool, Fail> {
 fn assert_changed(rt: &impl Abort, alloc: Global, case: &Case) -> Result<(), Fail> {
     let text = changed(alloc, case.source)?;
     assert_eq!(rt; text.as_str(), case.changed);
-    assert!(rt; case.changed.is_empty() || is_typed(alloc, case.changed)?, "it is not typed");
+    assert!(rt;
+        case.changed.is_empty() || is_typed(alloc, case.changed)?,
+        "it is not typed"
+    );
     Ok(())
 }
 
-const SMALL: [Case; 2] = [
-    // it calls itself
-    Case {
-        source: "fun g (n : int) : int = g(n)\nfun f (n : int) : int = g(n)\n",
-        changed: "",
-    },
+const SMALL: [Case; 4] = [
     // comments elsewhere stay
     Case {
-        source: "(* = fun *) fun g (n : int) : int = n (* end *)\nfun (* one *) f (n : int (* two *)) : int = (* three *) g(n) (* four *)\n(* five *) fun h (n : int) : int = f(n) (* six *)",
+        source: "\
+(* = fun *) fun g (n : int) : int = n (* end *)
+fun (* one *) f (n : int (* two *)) : int = (* three *) g(n) (* four *)
+(* five *) fun h (n : int) : int = f(n) (* six *)",
+        changed: "\
+(* = fun *) fun g (n : int) : int = n (* end *)
+fun (* one *) f (n : int (* two *)) : int =
+  n (* four *)
+(* five *) fun h (n : int) : int = f(n) (* six *)",
+    },
+    // the callee calls itself
+    Case {
+        source: "fun g (n : int) : int = g(n) fun f (n : int) : int = g(n)",
+        changed: "",
+    },
+    // it is called by what it calls
+    Case {
+        source: "fun g (n : int) : int = h(n) fun f (n : int) : int = g(n) fun h (n : int) : int = g(n)",
+        changed: "",
+    },
+    // there is no call
+    Case {
+        source: "fun g (n : int) : int = n fun f (n : int) : int = n",
         changed: "",
     },
 ];

@@ -12,7 +12,8 @@ struct Case {
     written: &'static str,
 }
 
-const HEADER: &str = "fun f (x : int, b : bool, l : int list, t : int tree, o : int option) : int =";
+const HEADER: &str =
+    "fun f (x : int, b : bool, l : int list, t : int tree, o : int option) : int =";
 
 fn with_header(alloc: Global, body: &str) -> Result<String, Fail> {
     let mut source = String::from_str(alloc, HEADER)?;
@@ -46,7 +47,10 @@ fn are_same(alloc: Global, body: &str, other: &str) -> Result<bool, Fail> {
 fn assert_written(rt: &impl Abort, alloc: Global, case: &Case) -> Result<(), Fail> {
     let text = written(alloc, case.body)?;
     assert_eq!(rt; text.as_str(), case.written);
-    assert!(rt; are_same(alloc, case.body, text.as_str())?, "it is read as another body");
+    assert!(rt;
+        are_same(alloc, case.body, text.as_str())?,
+        "it is read as another body"
+    );
     Ok(())
 }
 
@@ -61,65 +65,106 @@ const CASES: [Case; 14] = [
     },
     Case {
         body: "if (x = 1 + 2) then (x) else if ((x < 1)) then 2 else 3",
-        written: "if x = 1 + 2 then 1 else 1",
+        written: "\
+if x = 1 + 2 then x
+  else if x < 1 then 2
+  else 3",
     },
     Case {
         body: "(x :: (l)) :: ((1 + 2 :: nil) :: nil)",
-        written: "",
+        written: "(x :: l) :: (1 + 2 :: nil) :: nil",
     },
     Case {
         body: "f(1, not not (x <= 1), ((x = 1) = (x = 2)), node(1, leaf, t), some((1, 2)))",
-        written: "",
+        written: "f(1, not not (x <= 1), (x = 1) = (x = 2), node(1, leaf, t), some((1, 2)))",
     },
     Case {
         body: "let y = let z = 1 in z in let (u, v) = (y, (nil : int list)) in u",
-        written: "",
+        written: "\
+let y = (let z = 1 in
+    z) in
+  let (u, v) = (y, (nil : int list)) in
+  u",
     },
     Case {
         body: "match l with nil -> match l with nil -> 1 | h :: s -> 2 | h :: s -> match o with none -> 3 | some(y) -> y",
-        written: "",
+        written: "\
+match l with
+    nil -> (
+      match l with
+        nil -> 1
+      | h :: s -> 2)
+  | h :: s ->
+      match o with
+        none -> 3
+      | some(y) -> y",
     },
     Case {
         body: "match l with nil -> let y = 1 in match t with leaf -> 1 | node(a, c, d) -> 2 | h :: s -> h + 1",
-        written: "",
+        written: "\
+match l with
+    nil -> (
+      let y = 1 in
+      match t with
+        leaf -> 1
+      | node(a, c, d) -> 2)
+  | h :: s -> h + 1",
     },
     Case {
         body: "1 + (if b then 1 else tick 2 in x) * (tick 3 in let y = 2 in y)",
-        written: "",
+        written: "\
+1 + (if b then 1
+    else
+      tick 2 in x) * (tick 3 in
+    let y = 2 in
+    y)",
     },
     Case {
         body: "tick 1 in tick 2 in if b then tick 3 in 1 else let y = 1 in y",
-        written: "",
+        written: "\
+tick 1 in
+  tick 2 in
+  if b then
+    tick 3 in 1
+  else
+    let y = 1 in
+    y",
     },
     Case {
         body: "match (match o with none -> nil | some(z) -> z :: nil) with nil -> true | h :: s -> false",
-        written: "",
+        written: "\
+match (match o with
+      none -> nil
+    | some(z) -> z :: nil) with
+    nil -> true
+  | h :: s -> false",
     },
     Case {
         body: "((let y = x in (y : int)) : int)",
-        written: "",
+        written: "\
+((let y = x in
+    (y : int)) : int)",
     },
     Case {
         body: "if (if b then false else true) then (x, 1) else (1, (2, 3))",
-        written: "",
+        written: "\
+if (if b then false
+    else true) then (x, 1)
+  else (1, (2, 3))",
     },
     Case {
         body: "let (p, q) = if b then (1, 2) else (2, 1) in 9223372036854775807 - p",
-        written: "",
+        written: "\
+let (p, q) = (if b then (1, 2)
+    else (2, 1)) in
+  9223372036854775807 - p",
     },
 ];
 
 #[test]
 fn bodies_are_read_again(rt: HostRuntime) -> Result<(), Fail> {
-    let mut all = String::new(rt.alloc());
     for case in &CASES {
-        let text = written(rt.alloc(), case.body)?;
-        all.push_str("\n#### ")?;
-        all.push_str(case.body)?;
-        all.push_str("\n")?;
-        all.push_str(text.as_str())?;
-        if !are_same(rt.alloc(), case.body, text.as_str())? { all.push_str("\n!!!! DIFFERENT")?; }
+        assert_written(&rt, rt.alloc(), case)?;
     }
-    assert_eq!(rt; all.as_str(), "");
     Ok(())
 }

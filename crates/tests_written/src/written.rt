@@ -48,54 +48,150 @@ fn assert_written(rt: &impl Abort, alloc: Global, case: &Case) -> Result<(), Fai
     Ok(())
 }
 
-const SMALL: [Case; 7] = [
+const SMALL: [Case; 9] = [
     // names of the caller that the callee binds, too
     Case {
-        source: "fun g (x : int, y : int) : int = let z = x + y in let x = z * y in x + z\nfun f (z : int, x : int) : int = let y = g(z, x + 1) in y + z + x\n",
-        body: "",
+        source: "\
+fun g (x : int, y : int) : int = let z = x + y in let x = z * y in x + z
+fun f (z : int, x : int) : int = let y = g(z, x + 1) in y + z + x
+",
+        body: "\
+let y = (let y3 = x + 1 in
+    let z3 = z + y3 in
+    let x3 = z3 * y3 in
+    x3 + z3) in
+  y + z + x",
     },
     // a parameter is bound again below, and arguments are calls, from left to right
     Case {
-        source: "fun g (a : int, b : int) : int * int = (b, a)\nfun f (a : int, b : int) : int = let (b, a) = g(h(b), h(a)) in a - b\nfun h (n : int) : int = tick 1 in n\n",
-        body: "",
+        source: "\
+fun g (a : int, b : int) : int * int = (b, a)
+fun f (a : int, b : int) : int = let (b, a) = g(h(b), h(a)) in a - b
+fun h (n : int) : int = tick 1 in n
+",
+        body: "\
+let a4 = h(b) in
+  let b4 = h(a) in
+  let b5 = b4 in
+  let a = a4 in
+  a - b5",
     },
     // the branch binds a name that the part uses
     Case {
-        source: "fun g (h : int) : int list = 1 :: h :: nil\nfun f (h : int, t : int) : int list = match g(h) with nil -> nil | h :: t -> h :: t\n",
-        body: "",
+        source: "\
+fun g (h : int) : int list = 1 :: h :: nil
+fun f (h : int, t : int) : int list = match g(h) with nil -> nil | h :: t -> h :: t
+",
+        body: "\
+let h5 = 1 in
+  let t = h :: nil in
+  h5 :: t",
     },
     // one in another, and in the middle of an operation
     Case {
-        source: "fun g (x : int) : int = if x < 0 then 0 - x else x\nfun f (x : int, x2 : int) : int = 1 + g(g(x) * x2)\n",
-        body: "",
+        source: "\
+fun g (x : int) : int = if x < 0 then 0 - x else x
+fun f (x : int, x2 : int) : int = 1 + g(g(x) * x2)
+",
+        body: "\
+1 + (let x3 = (if x < 0 then 0 - x
+      else x) * x2 in
+    if x3 < 0 then 0 - x3
+    else x3)",
     },
     // parts need types
     Case {
-        source: "fun g (l : int list) : (int list * int) option = match l with nil -> none | h :: t -> some((nil, h))\nfun f (l : int list) : int list = match g(l) with none -> l | some(p) -> let (u, v) = p in v :: u\n",
-        body: "",
+        source: "\
+fun g (l : int list) : (int list * int) option = match l with nil -> none | h :: t -> some((nil, h))
+fun f (l : int list) : int list = match g(l) with none -> l | some(p) -> let (u, v) = p in v :: u
+",
+        body: "\
+match l with
+    nil -> l
+  | h4 :: t4 ->
+      let p = ((nil, h4) : int list * int) in
+      let (u, v) = p in
+      v :: u",
     },
     // a value that is needed whole
     Case {
-        source: "fun g (b : bool) : int option = if b then none else some(1)\nfun f (b : bool) : int option * bool = let o = g(not b) in (o, b)\n",
-        body: "",
+        source: "\
+fun g (b : bool) : int option = if b then none else some(1)
+fun f (b : bool) : int option * bool = let o = g(not b) in (o, b)
+",
+        body: "\
+let o = ((let b3 = not b in
+    if b3 then none
+    else some(1) : int option)) in
+  (o, b)",
     },
     // it is called behind a let of the caller, whose name the branch uses
     Case {
-        source: "fun g (n : int) : int option = if n < 1 then none else some(n)\nfun f (n : int, m : int) : int = match let m = n * 2 in g(m) with none -> m | some(k) -> k + m\n",
-        body: "",
+        source: "\
+fun g (n : int) : int option = if n < 1 then none else some(n)
+fun f (n : int, m : int) : int = match let m = n * 2 in g(m) with none -> m | some(k) -> k + m
+",
+        body: "\
+let m3 = n * 2 in
+  if m3 < 1 then m
+  else
+    let k = m3 in
+    k + m",
+    },
+    // trees, some of which are built
+    Case {
+        source: "\
+fun g (t : int tree) : int tree =
+  match t with leaf -> node(0, leaf, leaf) | node(x, l, r) -> if x < 0 then leaf else t
+fun f (t : int tree) : int =
+  match g(t) with leaf -> 0 | node(x, l, r) -> tick 1 in match l with leaf -> x | node(y, a, b) -> y
+",
+        body: "\
+match t with
+    leaf -> (
+      let x5 = 0 in
+      let l6 = (leaf : int tree) in
+      let r = (leaf : int tree) in
+      tick 1 in
+      match l6 with
+        leaf -> x5
+      | node(y, a, b) -> y)
+  | node(x4, l4, r4) ->
+      if x4 < 0 then 0
+      else
+        match t with
+          leaf -> 0
+        | node(x, l, r) ->
+            tick 1 in
+            match l with
+              leaf -> x
+            | node(y, a, b) -> y",
+    },
+    // a pair that is built in one branch, and the names of its parts are bound in the caller, too
+    Case {
+        source: "\
+fun g (b : bool, n : int) : int * int = tick 3 in if b then (n, 1) else h(n)
+fun f (n : int, b : bool) : int = let (b, m) = g(b, n) in let n = b in n + m
+fun h (n : int) : int * int = (n, n)
+",
+        body: "\
+tick 3 in
+  if b then
+    let b5 = n in
+    let m = 1 in
+    let n = b5 in
+    n + m
+  else
+    let (b, m) = h(n) in
+    let n = b in
+    n + m",
     },
 ];
 
 #[test]
 fn calls_are_written_out(rt: HostRuntime) -> Result<(), Fail> {
-    let mut all = String::new(rt.alloc());
     for case in &SMALL {
-        let text = body(rt.alloc(), case.source)?;
-        all.push_str("\n#### ")?;
-        all.push_str(case.source)?;
-        all.push_str("\n==== ")?;
-        all.push_str(text.as_str())?;
+        assert_written(&rt, rt.alloc(), case)?;
     }
-    assert_eq!(rt; all.as_str(), "");
     Ok(())
 }
