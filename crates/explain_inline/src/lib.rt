@@ -2,6 +2,7 @@
 //! ends where these are built.
 #![tactic(auto)]
 
+mod headers;
 mod mending;
 mod numbers;
 mod stretch;

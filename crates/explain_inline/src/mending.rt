@@ -6,6 +6,7 @@ ghost use Rattle.explain_check.specs.Checks.{IsProgramOf};
 ghost use Rattle.explain_inline.specs.Texts.{IsReplaced};
 ghost use Rattle.explain_inline.specs.Inlined.{IsInlined};
 
+use crate::headers::same_headers;
 use crate::text::inlined_text;
 use call_groups::Groups;
 use explain_lines::{Line, mended_lines, mends_group};
@@ -39,7 +40,8 @@ pub fn inline<'s, 'a>(
     requires most { original.most ≤ 4 }
     requires few { length original.found.now ≤ 256 }
     ensures { IfOk result (λ inlined. IfSome inlined
-        (IsInlined original.entry.source.now original.entry.found.now original.entry.most (ids_of group.now))) }
+        (IsInlined original.entry.source.now (program_of original.entry.program.now)
+        original.entry.found.now original.entry.most (ids_of group.now))) }
 {
     for caller in group {
         match inline_in(alloc, original, groups, group, *caller)? {
@@ -61,7 +63,8 @@ fn inline_in<'s, 'a>(
     requires most { original.most ≤ 4 }
     requires few { length original.found.now ≤ 256 }
     ensures { IfOk result (λ inlined. IfSome inlined
-        (IsInlined original.entry.source.now original.entry.found.now original.entry.most (ids_of group.now))) }
+        (IsInlined original.entry.source.now (program_of original.entry.program.now)
+        original.entry.found.now original.entry.most (ids_of group.now))) }
 {
     for callee in callees(groups, caller) {
         match try_inlined(alloc, original, groups, group, caller, *callee)? {
@@ -84,7 +87,8 @@ fn try_inlined<'s, 'a>(
     requires most { original.most ≤ 4 }
     requires few { length original.found.now ≤ 256 }
     ensures { IfOk result (λ inlined. IfSome inlined
-        (IsInlined original.entry.source.now original.entry.found.now original.entry.most (ids_of group.now))) }
+        (IsInlined original.entry.source.now (program_of original.entry.program.now)
+        original.entry.found.now original.entry.most (ids_of group.now))) }
 {
     match inlined_text(
         alloc,
@@ -102,7 +106,8 @@ fn try_inlined<'s, 'a>(
     }
 }
 
-/// What a text gives in which calls are written out, where all functions of the group get bounds.
+/// What a text gives in which calls are written out, where all functions of the group get bounds. None where it spells functions
+/// with other headers.
 fn mending<'s, 'a>(
     alloc: Global,
     original: Original<'s, 'a>,
@@ -117,8 +122,12 @@ fn mending<'s, 'a>(
     requires replaced { IsReplaced original.source.now text.items }
     requires spelled { IsProgramOf text.items (program_of typed) }
     ensures { IfOk result (λ inlined. IfSome inlined
-        (IsInlined original.entry.source.now original.entry.found.now original.entry.most (ids_of group.now))) }
+        (IsInlined original.entry.source.now (program_of original.entry.program.now)
+        original.entry.found.now original.entry.most (ids_of group.now))) }
 {
+    if !same_headers(&original.program.funs, &typed.program().funs) {
+        return Ok(None);
+    }
     let trial = trial_of(alloc, text, typed, original.most)?;
     if !mends_group(original.found, &trial.found.functions, group) {
         return Ok(None);
