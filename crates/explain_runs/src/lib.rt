@@ -1,15 +1,10 @@
-//! Made arguments of functions, and their runs on the machine.
+//! Runs of functions on data, measured.
 #![tactic(auto)]
 
-mod agree;
-mod made;
-mod maker;
-mod measure;
+mod agreement;
+mod measuring;
 mod outcome;
-mod values;
 
-pub use agree::agree;
-pub use made::{made_arguments, made_texts};
-pub use maker::Shape;
-pub use measure::measure;
+pub use agreement::agree;
+pub use measuring::measure;
 pub use outcome::{Limits, Measured, Outcome};

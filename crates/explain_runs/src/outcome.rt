@@ -8,7 +8,7 @@ pub struct Limits {
 }
 
 /// How a run ends.
-#[derive(PartialEq, Eq, Debug, Drop)]
+#[derive(Drop)]
 pub enum Outcome {
     /// It has halted with the value of this text.
     Halted { value: String },
@@ -21,7 +21,7 @@ pub enum Outcome {
 }
 
 /// A run, and its meters at its end.
-#[derive(Debug, Drop)]
+#[derive(Drop)]
 pub struct Measured {
     pub outcome: Outcome,
     pub ticks: u64,

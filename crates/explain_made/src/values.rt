@@ -1,4 +1,9 @@
 // The texts of made values.
+ghost use Rattle.std.specs.Prelude.{OnOk, string_bytes};
+ghost use Rattle.raml_syntax.specs.Tree.{Integer, Boolean, PairOf, ListOf, TreeOf, OptionOf};
+ghost use Rattle.raml_syntax.specs.Read.{ty_of};
+ghost use Rattle.explain_made.specs.Made.{AddsValue, AddsItems};
+
 use crate::maker::{Maker, inner_size};
 use itoa::Buffer;
 use raml_syntax::Ty;
@@ -13,9 +18,11 @@ pub fn push_value(
     ty: &Ty,
     size: u32,
     before: u32,
-) -> Result<(), AllocError> {
+) -> Result<(), AllocError>
+    ensures { OnOk result (AddsValue (ty_of ty.now) (string_bytes text.old) (string_bytes text.new)) }
+{
     match ty {
-        Ty::Int => push_number(text, maker.number(before)),
+        Ty::Int => push_number(text, i64::from(maker.number(before))),
         Ty::Bool => push_truth(text, maker.up_to(1) == 1),
         Ty::Pair(first, second) => push_pair(text, maker, first, second, size, before),
         Ty::List(element) => push_list(text, maker, element, size),
@@ -25,13 +32,21 @@ pub fn push_value(
 }
 
 /// Appends a number.
-fn push_number(text: &mut String, number: u32) -> Result<(), AllocError> {
-    text.push_str(Buffer::new().format(i64::from(number)))
+fn push_number(text: &mut String, number: i64) -> Result<(), AllocError>
+    ensures { OnOk result (AddsValue Integer (string_bytes text.old) (string_bytes text.new)) }
+{
+    text.push_str(Buffer::new().format(number))
 }
 
 /// Appends a truth.
-fn push_truth(text: &mut String, truth: bool) -> Result<(), AllocError> {
-    text.push_str(if truth { "true" } else { "false" })
+fn push_truth(text: &mut String, truth: bool) -> Result<(), AllocError>
+    ensures { OnOk result (AddsValue Boolean (string_bytes text.old) (string_bytes text.new)) }
+{
+    if truth {
+        text.push_str("true")
+    } else {
+        text.push_str("false")
+    }
 }
 
 /// Appends a pair, both of whose parts are elements with so many before them.
@@ -43,7 +58,9 @@ fn push_pair(
     second: &Ty,
     size: u32,
     before: u32,
-) -> Result<(), AllocError> {
+) -> Result<(), AllocError>
+    ensures { OnOk result (AddsValue (PairOf (ty_of first.now) (ty_of second.now)) (string_bytes text.old) (string_bytes text.new)) }
+{
     let _ = maker.takes_cell();
     text.push_str("(")?;
     push_value(text, maker, first, size, before)?;
@@ -59,18 +76,39 @@ fn push_list(
     maker: &mut Maker,
     element: &Ty,
     count: u32,
-) -> Result<(), AllocError> {
+) -> Result<(), AllocError>
+    ensures { OnOk result (AddsValue (ListOf (ty_of element.now)) (string_bytes text.old) (string_bytes text.new)) }
+{
+    if count == 0 {
+        return text.push_str("[]");
+    }
+    if !maker.takes_cell() {
+        return text.push_str("[]");
+    }
     text.push_str("[")?;
-    for before in 0..count {
+    push_value(text, maker, element, inner_size(count), 0)?;
+    push_others(text, maker, element, count)?;
+    text.push_str("]")
+}
+
+/// Appends the elements of a list of so many behind its first, each behind a comma.
+#[cycle(values)]
+fn push_others(
+    text: &mut String,
+    maker: &mut Maker,
+    element: &Ty,
+    count: u32,
+) -> Result<(), AllocError>
+    ensures { OnOk result (AddsItems (ty_of element.now) (string_bytes text.old) (string_bytes text.new)) }
+{
+    'elements: for before in 1..count {
         if !maker.takes_cell() {
-            break;
+            return Ok(());
         }
-        if before > 0 {
-            text.push_str(", ")?;
-        }
+        text.push_str(", ")?;
         push_value(text, maker, element, inner_size(count), before)?;
     }
-    text.push_str("]")
+    Ok(())
 }
 
 /// Appends a balanced tree of so many elements, or of fewer where no more cells may be made. So many elements
@@ -82,8 +120,13 @@ fn push_tree(
     element: &Ty,
     count: u32,
     before: u32,
-) -> Result<(), AllocError> {
-    if count == 0 || !maker.takes_cell() {
+) -> Result<(), AllocError>
+    ensures { OnOk result (AddsValue (TreeOf (ty_of element.now)) (string_bytes text.old) (string_bytes text.new)) }
+{
+    if count == 0 {
+        return text.push_str("leaf");
+    }
+    if !maker.takes_cell() {
         return text.push_str("leaf");
     }
     let left = (count - 1) / 2;
@@ -105,8 +148,13 @@ fn push_option(
     content: &Ty,
     size: u32,
     before: u32,
-) -> Result<(), AllocError> {
-    if maker.up_to(7) == 0 || !maker.takes_cell() {
+) -> Result<(), AllocError>
+    ensures { OnOk result (AddsValue (OptionOf (ty_of content.now)) (string_bytes text.old) (string_bytes text.new)) }
+{
+    if maker.up_to(7) == 0 {
+        return text.push_str("none");
+    }
+    if !maker.takes_cell() {
         return text.push_str("none");
     }
     text.push_str("some(")?;

@@ -1,4 +1,10 @@
 // Made arguments.
+ghost use Rattle.std.specs.Prelude.{◌≡◌, ◌*◌, ◌+◌, IfOk, OnOk, map, length, string_bytes, vec_len};
+ghost use Rattle.std.specs.List.{All};
+ghost use Rattle.raml_syntax.specs.Read.{ty_of, function_of};
+ghost use Rattle.raml_syntax.specs.Types.{types_of};
+ghost use Rattle.explain_made.specs.Made.{types_in, AreArguments, AddsValue, AddsMore, AddsArguments};
+
 use crate::maker::{Maker, Shape};
 use crate::values::push_value;
 use raml_syntax::{Fun, Param};
@@ -12,7 +18,9 @@ pub fn made_arguments(
     size: u32,
     shape: Shape,
     seed: u64,
-) -> Result<String, AllocError> {
+) -> Result<String, AllocError>
+    ensures { IfOk result (λ text. AreArguments (types_of (function_of function.now)) (string_bytes text)) }
+{
     let mut text = String::new(alloc);
     let mut maker = Maker::new(size, shape, seed);
     push_arguments(&mut text, &mut maker, &function.params)?;
@@ -24,7 +32,9 @@ fn push_arguments(
     text: &mut String,
     maker: &mut Maker,
     params: &[Param],
-) -> Result<(), AllocError> {
+) -> Result<(), AllocError>
+    ensures { OnOk result (AddsArguments (types_in params.now) (string_bytes text.old) (string_bytes text.new)) }
+{
     match params {
         [] => Ok(()),
         [one] => push_argument(text, maker, one),
@@ -37,14 +47,18 @@ fn push_arguments(
 }
 
 /// Appends an argument of the parameter.
-fn push_argument(text: &mut String, maker: &mut Maker, param: &Param) -> Result<(), AllocError> {
+fn push_argument(text: &mut String, maker: &mut Maker, param: &Param) -> Result<(), AllocError>
+    ensures { OnOk result (AddsValue (ty_of param.now.ty) (string_bytes text.old) (string_bytes text.new)) }
+{
     let size = maker.size();
     let before = maker.up_to(size);
     push_value(text, maker, &param.ty, size, before)
 }
 
 /// Appends the arguments behind the first of several.
-fn push_more(text: &mut String, maker: &mut Maker, params: &[Param]) -> Result<(), AllocError> {
+fn push_more(text: &mut String, maker: &mut Maker, params: &[Param]) -> Result<(), AllocError>
+    ensures { OnOk result (AddsMore (types_in params.now) (string_bytes text.old) (string_bytes text.new)) }
+{
     match params {
         [] => text.push_str(")"),
         [first, rest @ ..] => {
@@ -61,7 +75,11 @@ pub fn made_texts(
     function: &Fun,
     sizes: &[u32],
     seed: u64,
-) -> Result<Vec<String>, AllocError> {
+) -> Result<Vec<String>, AllocError>
+    ensures arguments { IfOk result
+        (λ texts. All (λ text. AreArguments (types_of (function_of function.now)) (string_bytes text)) texts.items) }
+    ensures count { IfOk result (λ texts. length texts.items ≡ 3 * length sizes.now) }
+{
     let mut texts = Vec::new(alloc);
     for size in sizes {
         push_texts(alloc, &mut texts, function, *size, seed)?;
@@ -76,7 +94,11 @@ fn push_texts(
     function: &Fun,
     size: u32,
     seed: u64,
-) -> Result<(), AllocError> {
+) -> Result<(), AllocError>
+    requires { All (λ text. AreArguments (types_of (function_of function.now)) (string_bytes text)) texts.old.items }
+    ensures arguments { OnOk result (All (λ text. AreArguments (types_of (function_of function.now)) (string_bytes text)) texts.new.items) }
+    ensures count { OnOk result (length texts.new.items ≡ length texts.old.items + 3) }
+{
     for shape in [Shape::Random, Shape::Ascending, Shape::Descending] {
         texts.push(made_arguments(alloc, function, size, shape, seed)?)?;
     }

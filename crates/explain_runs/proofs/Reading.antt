@@ -1,0 +1,42 @@
+-- Data that is read, and data that is refused.
+use Rattle.std.proofs.Common.{◌≡◌, ◌≤◌, ◌<◌, ◌+◌, ◌^◌, length, ℕ, List, Some, Ok, Err, refl, sym, ap, subst, ◌∙◌, arith}
+use Rattle.std.proofs.lemmas.List.{length-append}
+use Rattle.std.specs.Prelude.{slice_get}
+use Rattle.raml_syntax.specs.Tree.{Text, Type', Function, Prog}
+use Rattle.raml_syntax.specs.Value.{Value}
+use Rattle.raml_syntax.specs.Types.{types_of}
+use Rattle.value_text.specs.Reading.{Answers, AreRead, FirstFault, HasOneAnswer, most_cells}
+use Rattle.value_text.specs.declared.word.Word.{Word}
+use Rattle.value_text.specs.declared.word.Cell.{Cell}
+use Rattle.value_text.specs.declared.fault.DataFault.{DataFault}
+use Rattle.value_text.specs.declared.fault.DataFault.TheVariants as d
+use Rattle.explain_runs.specs.Measure.{HasArguments}
+use Rattle.explain_runs.specs.Told.{IsRefusal}
+
+-- what is read of data are arguments
+pub read_arguments : (P : Prog) (f : ℕ) (g : Function) (data' : Text) (cells new : List Cell) (words : List Word) → slice_get P f ≡ Some g →
+    (read : AreRead cells new data' (types_of g) words) → length cells ≡ 0 → HasArguments P f new words g read.values
+read_arguments P f g data' cells new words there read empty = record {
+  there = there;
+  stand = read.stand;
+  types = read.spelled.spelled.typed;
+  few_cells = few;
+}
+  where
+    long : length new ≡ length cells + length read.more
+    long = ap length read.grows ∙ length-append cells read.more
+
+    few : length new < 2 ^ 31
+    few = let small : length read.more ≤ 1048576 = read.few in omega (arith, long, empty, small)
+
+-- and they are what it spells
+pub are_spelled : (types : List Type') (data' : Text) (cells new : List Cell) (words : List Word) → (read : AreRead cells new data' types words) → Answers data' types (Ok read.values)
+are_spelled types data' cells new words read = (read.spelled, subst (λ n. n ≤ most_cells) read.count read.few)
+
+-- data that is refused spells none
+pub none_spelled : (data' : Text) (types : List Type') (fault : DataFault) → IsRefusal fault → FirstFault data' types fault → HasOneAnswer data' types → (args : List Value) → Answers data' types (Ok args) → ⊥
+none_spelled data' types (d.NotUtf8 at) refused first one args spelled = let e = one (Ok args) (Err (d.NotUtf8 at)) spelled first in absurd (cc)
+none_spelled data' types (d.Shape at) refused first one args spelled = let e = one (Ok args) (Err (d.Shape at)) spelled first in absurd (cc)
+none_spelled data' types (d.TooDeep at) refused first one args spelled = let e = one (Ok args) (Err (d.TooDeep at)) spelled first in absurd (cc)
+none_spelled data' types d.TooManyCells refused first one args spelled = let e = one (Ok args) (Err d.TooManyCells) spelled first in absurd (cc)
+none_spelled data' types d.NoMemory refused first one args spelled = absurd refused
