@@ -88,3 +88,4 @@ IsMeasure P f data' limits (Some m) = IsMeasuredOn P f data' limits m
 pub record CanRun (P : Prog) : Type 0 where
   pub few_nodes : program_nodes P < 2 ^ 28
   pub parameters : All (λ (g : Function). 1 ≤ length g.params) P
+  pub few_parameters : All (λ (g : Function). length g.params ≤ 8) P

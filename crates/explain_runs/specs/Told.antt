@@ -1,6 +1,6 @@
 -- What is told of the end of a machine.
-use Rattle.std.specs.Prelude.{◌≡◌, ◌<◌, List, length, string_bytes}
-use Rattle.raml_syntax.specs.Tree.{Type'}
+use Rattle.std.specs.Prelude.{◌≡◌, ◌<◌, ℕ, List, length, Option, Some, None, string_bytes}
+use Rattle.raml_syntax.specs.Tree.{Type', Function, Prog}
 use Rattle.raml_syntax.specs.Value.{Value}
 use Rattle.value_text.specs.Stands.{StandsFor}
 use Rattle.value_text.specs.Printing.{StandsForSome, printed, most_text}
@@ -10,6 +10,9 @@ use Rattle.value_text.specs.declared.fault.DataFault.{DataFault}
 use Rattle.value_text.specs.declared.fault.DataFault.TheVariants.{NoMemory}
 use Rattle.metered_vm.specs.declared.end.End.{End}
 use Rattle.metered_vm.specs.declared.end.End.TheVariants as e
+use Rattle.explain_runs.specs.declared.outcome.Limits.{Limits}
+use Rattle.explain_runs.specs.declared.outcome.Measured.{Measured}
+use Rattle.explain_runs.specs.Measure.{HasArguments, IsMeasured}
 use Rattle.explain_runs.specs.declared.outcome.Outcome.{Outcome}
 use Rattle.explain_runs.specs.declared.outcome.Outcome.TheVariants as o
 
@@ -33,3 +36,14 @@ Tells cells A e.HeapFull outcome = outcome ≡ o.HeapFull
 abbrev pub HasWord : List Cell → Type' → End → Type 0
 HasWord cells A (e.Halted word) = StandsForSome cells word A
 HasWord cells A end = Unit {0}
+
+-- nothing is measured, as the data was refused
+abbrev pub IsNone : DataFault → Option Measured → Type 0
+IsNone fault None = IsRefusal fault
+IsNone fault (Some m) = ⊥
+
+-- it is measured on the arguments for which the words stand
+abbrev pub IsRunOn : Prog → ℕ → List Cell → List Word → Limits → Option Measured → Type 0
+IsRunOn P f cells words limits None = ⊥
+IsRunOn P f cells words limits (Some m) =
+    (g : Function) (args : List Value) → HasArguments P f cells words g args → IsMeasured P f g args limits m

@@ -1,5 +1,5 @@
 // Runs on data, measured.
-ghost use Rattle.std.specs.Prelude.{◌≡◌, ◌≤◌, ◌<◌, ◌^◌, List, IfOk, OnOk, Some, Ok, map, length, slice_get};
+ghost use Rattle.std.specs.Prelude.{◌≡◌, ◌≤◌, ◌<◌, ◌^◌, List, IfOk, Some, Ok, map, length, slice_get};
 ghost use Rattle.raml_syntax.specs.Tree.{Function};
 ghost use Rattle.raml_syntax.specs.Value.{Value};
 ghost use Rattle.raml_syntax.specs.Read.{ty_of, program_of, function_of};
@@ -7,7 +7,7 @@ ghost use Rattle.raml_syntax.specs.Types.{types_of};
 ghost use Rattle.value_text.specs.Printing.{StandsForSome};
 ghost use Rattle.metered_vm.specs.Seen.{cells_in};
 ghost use Rattle.explain_runs.specs.Measure.{CanRun, IsMeasure, IsMeasured, HasArguments};
-ghost use Rattle.explain_runs.specs.Told.{IsRefusal, HasWord, Tells, TellsValue};
+ghost use Rattle.explain_runs.specs.Told.{IsNone, IsRunOn, HasWord, Tells, TellsValue};
 
 use crate::outcome::{Limits, Measured, Outcome};
 use metered_vm::{End, Vm};
@@ -38,27 +38,42 @@ pub fn measure(
     if data.len() as u64 > MOST_DATA {
         return Ok(None);
     }
+    measure_short(alloc, typed, fun, data, limits)
+}
+
+/// Runs the function on the arguments that data which is not too long spells.
+fn measure_short(
+    alloc: Global,
+    typed: &Typed,
+    fun: FunId,
+    data: &[u8],
+    limits: Limits,
+) -> Result<Option<Measured>, AllocError>
+    requires runs { CanRun (program_of typed.now) }
+    requires fun { fun.0 < length (program_of typed.now) }
+    requires steps { limits.steps ≤ 1000000000 }
+    requires cells { limits.cells ≤ 16777216 }
+    requires short { length data.now ≤ 4194304 }
+    ensures { IfOk result (IsMeasure (program_of typed.now) fun.0 data.now limits) }
+{
     let types = parameter_types(alloc, &typed.program().funs[fun.0 as usize])?;
     let mut heap = DataHeap::new(alloc);
     match read_args(alloc, data, &types, &mut heap) {
-        Ok(words) => Ok(Some(run(alloc, typed, fun, heap, words, limits)?)),
-        Err(fault) => {
-            is_refused(fault)?;
-            Ok(None)
-        }
+        Ok(words) => run_read(alloc, typed, fun, heap, words, limits),
+        Err(fault) => none_read(fault),
     }
 }
 
-/// That data is refused, and memory did not run out.
-fn is_refused(fault: DataFault) -> Result<(), AllocError>
-    ensures { OnOk result (IsRefusal fault) }
+/// Nothing is measured where data is refused.
+fn none_read(fault: DataFault) -> Result<Option<Measured>, AllocError>
+    ensures { IfOk result (IsNone fault) }
 {
     match fault {
         DataFault::NoMemory => Err(AllocError),
-        DataFault::NotUtf8 { .. } => Ok(()),
-        DataFault::Shape { .. } => Ok(()),
-        DataFault::TooDeep { .. } => Ok(()),
-        DataFault::TooManyCells => Ok(()),
+        DataFault::NotUtf8 { .. } => Ok(None),
+        DataFault::Shape { .. } => Ok(None),
+        DataFault::TooDeep { .. } => Ok(None),
+        DataFault::TooManyCells => Ok(None),
     }
 }
 
@@ -71,6 +86,26 @@ fn parameter_types(alloc: Global, function: &Fun) -> Result<Vec<Ty>, AllocError>
         types.push(param.ty.copy(alloc)?)?;
     }
     Ok(types)
+}
+
+/// Runs the function on the arguments that were read.
+fn run_read(
+    alloc: Global,
+    typed: &Typed,
+    fun: FunId,
+    heap: DataHeap,
+    words: Vec<Word>,
+    limits: Limits,
+) -> Result<Option<Measured>, AllocError>
+    requires runs { CanRun (program_of typed.now) }
+    requires steps { limits.steps ≤ 1000000000 }
+    requires cells { limits.cells ≤ 16777216 }
+    requires arguments { (g : Function) × (args : List Value)
+        × HasArguments (program_of typed.now) fun.0 heap.cells words.items g args }
+    ensures { IfOk result (IsRunOn (program_of typed.now) fun.0 heap.cells words.items limits) }
+{
+    let measured = run(alloc, typed, fun, heap, words, limits)?;
+    Ok(Some(measured))
 }
 
 /// Runs the function on the arguments for which the words stand.
