@@ -28,11 +28,7 @@ pub fn made_arguments(
 }
 
 /// Appends arguments of these parameters: a value, or several in parentheses.
-fn push_arguments(
-    text: &mut String,
-    maker: &mut Maker,
-    params: &[Param],
-) -> Result<(), AllocError>
+fn push_arguments(text: &mut String, maker: &mut Maker, params: &[Param]) -> Result<(), AllocError>
     ensures { OnOk result (AddsArguments (types_in params.now) (string_bytes text.old) (string_bytes text.new)) }
 {
     match params {

@@ -136,7 +136,13 @@ fn push_tree(
     text.push_str(", ")?;
     push_tree(text, maker, element, left, before)?;
     text.push_str(", ")?;
-    push_tree(text, maker, element, count - 1 - left, place.saturating_add(1))?;
+    push_tree(
+        text,
+        maker,
+        element,
+        count - 1 - left,
+        place.saturating_add(1),
+    )?;
     text.push_str(")")
 }
 

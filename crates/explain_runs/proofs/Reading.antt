@@ -36,12 +36,16 @@ read_arguments P f g data' cells new words there read empty = record {
 pub are_spelled : (types : List Type') (data' : Text) (cells new : List Cell) (words : List Word) → (read : AreRead cells new data' types words) → Answers data' types (Ok read.values)
 are_spelled types data' cells new words read = (read.spelled, subst (λ n. n ≤ most_cells) read.count read.few)
 
+-- stated apart, where no facts stand beside it
+ok_is_no_err : (xs : List Value) (fault : DataFault) → Ok xs ≡ Err fault → ⊥
+ok_is_no_err xs fault e = cc
+
 -- data that is refused spells none
 pub none_spelled : (data' : Text) (types : List Type') (fault : DataFault) → IsRefusal fault → FirstFault data' types fault → HasOneAnswer data' types → (args : List Value) → Answers data' types (Ok args) → ⊥
-none_spelled data' types (d.NotUtf8 at) refused first one args spelled = let e = one (Ok args) (Err (d.NotUtf8 at)) spelled first in absurd (cc)
-none_spelled data' types (d.Shape at) refused first one args spelled = let e = one (Ok args) (Err (d.Shape at)) spelled first in absurd (cc)
-none_spelled data' types (d.TooDeep at) refused first one args spelled = let e = one (Ok args) (Err (d.TooDeep at)) spelled first in absurd (cc)
-none_spelled data' types d.TooManyCells refused first one args spelled = let e = one (Ok args) (Err d.TooManyCells) spelled first in absurd (cc)
+none_spelled data' types (d.NotUtf8 at) refused first one args spelled = absurd (ok_is_no_err args (d.NotUtf8 at) (one (Ok args) (Err (d.NotUtf8 at)) spelled first))
+none_spelled data' types (d.Shape at) refused first one args spelled = absurd (ok_is_no_err args (d.Shape at) (one (Ok args) (Err (d.Shape at)) spelled first))
+none_spelled data' types (d.TooDeep at) refused first one args spelled = absurd (ok_is_no_err args (d.TooDeep at) (one (Ok args) (Err (d.TooDeep at)) spelled first))
+none_spelled data' types d.TooManyCells refused first one args spelled = absurd (ok_is_no_err args d.TooManyCells (one (Ok args) (Err d.TooManyCells) spelled first))
 none_spelled data' types d.NoMemory refused first one args spelled = absurd refused
 
 -- nothing is measured where the data is refused
