@@ -1,6 +1,7 @@
 // Made arguments.
 use crate::programs::{last, typed_program};
-use explain_runs::{Limits, Shape, made_arguments, measure};
+use explain_made::{Shape, made_arguments};
+use explain_runs::{Limits, measure};
 use std::alloc::Global;
 use std::fmt::Write;
 use std::test::Fail;

@@ -1,6 +1,7 @@
 // Runs, and programs that agree.
 use crate::programs::{QUICKSORT, last, typed_program};
-use explain_runs::{Limits, Outcome, agree, made_texts, measure};
+use explain_made::made_texts;
+use explain_runs::{Limits, Outcome, agree, measure};
 use std::alloc::Global;
 use std::fmt::Write;
 use std::test::Fail;
