@@ -29,7 +29,7 @@ run_read-requires-clause-arguments c =
     let types = ap (map ty_of) c.deref.ensures.value ∙ c.in_ok-types.ensures ∙ ap types_of read in
     let all : AreRead c.new-heap.result.cells c.read_args.new.heap.cells c.args.data.now (types_of is.0) c.in-Ok.words.items =
     subst (λ As. AreRead c.new-heap.result.cells c.read_args.new.heap.cells c.args.data.now As c.in-Ok.words.items) types c.in-Ok.ensures.ok in
-    (is.0, (all.values, read_arguments P k is.0 c.args.data.now c.new-heap.result.cells c.read_args.new.heap.cells c.in-Ok.words.items is.1 all (ap length c.new-heap.ensures.cells)))
+    (is.0, all.values, read_arguments P k is.0 c.args.data.now c.new-heap.result.cells c.read_args.new.heap.cells c.in-Ok.words.items is.1 all (ap length c.new-heap.ensures.cells))
 
 pub returns-in-Ok : goal.returns-in-Ok
 returns-in-Ok c =
