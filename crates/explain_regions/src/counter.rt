@@ -7,7 +7,6 @@ ghost use Rattle.explain_edits.specs.Read.{edits_of};
 ghost use Rattle.explain_regions.specs.Counter as c;
 ghost use Rattle.explain_regions.specs.Counter.{AreCounterEdits};
 
-use explain_check::MOST_BYTES;
 use explain_edits::Edit;
 use parse_table::pieces::pieces_of;
 use parse_table::token::{Piece, Sign};
@@ -94,7 +93,7 @@ fn pieces_in<'a>(alloc: Global, text: &'a str) -> Result<Option<Vec<Piece<'a>>>,
 }
 
 /// The edits by which each entry of the region that begins there costs one tick, and nothing else costs any. None where the
-/// source is no text of tokens, or longer than a source may be.
+/// source is no text of tokens, or has 2^31 bytes.
 pub fn counter_edits(
     alloc: Global,
     source: &[u8],
@@ -102,7 +101,7 @@ pub fn counter_edits(
 ) -> Result<Option<Vec<Edit>>, AllocError>
     ensures { IfOk result (λ found. IfSome found (λ edits. AreCounterEdits source.now region.0 (edits_of edits.items))) }
 {
-    if source.len() as u64 > MOST_BYTES {
+    if source.len() >= 1 << 31 {
         return Ok(None);
     }
     match std::str::from_utf8(source) {

@@ -24,10 +24,12 @@ use Rattle.explain_verify.specs.declared.verification.Verification.{Verification
 use Rattle.explain_verify.specs.declared.verification.Verification.TheVariants as o
 use Rattle.explain_words.specs.Asking.{Asks, AsksToShow, AsksNothing}
 use Rattle.explain_words.specs.declared.request.Request.{Request}
-use Rattle.explain_words.specs.declared.request.Request.TheVariants.{Check, CheckData, Bounds, Budget, WriteBudget, Verify, Why}
+use Rattle.explain_words.specs.declared.request.Request.TheVariants.{Check, CheckData, Bounds, Budget, WriteBudget, Verify, Why, Profile}
 use Rattle.explain_words.specs.declared.request.bounds.BoundsWords.{BoundsWords}
+use Rattle.explain_words.specs.declared.request.profile.ProfileWords.{ProfileWords}
 use Rattle.explain_words.specs.declared.request.why.WhyWords.{WhyWords}
 use Rattle.explain_words.specs.declared.request.why.Written.{Written}
+use Rattle.explain_profile.specs.Calls as profile
 use Rattle.explain_why.specs.Calls as why
 use Rattle.explain_why.specs.Outcome.{Outcome}
 use Rattle.explain_top.specs.Shelves.{Shelf, KeepsFiles, LeavesFile, HasFile, FailsToLeave}
@@ -115,6 +117,10 @@ IsBudgetTold store file bounds degree json columns out err status =
 abbrev pub IsVerified : Store → Text → Text → Sink → Sink → Status → Type 0
 IsVerified store file certificate out err status = Tells (verify.CallIs store file certificate) status_of_verification out err status
 
+-- how often lines of a program are run at most
+abbrev pub IsProfileTold : Store → ProfileWords → Sink → Sink → Status → Type 0
+IsProfileTold store words out err status = Tells (profile.CallIs store words) status_at out err status
+
 -- ---- a file of bounds that is left
 
 -- the file of bounds would be the source
@@ -190,6 +196,7 @@ IsAnswer store shelf (WriteBudget file bounds degree force) columns out err stat
 IsAnswer store shelf (Verify file certificate) columns out err status =
     IsVerified store file.now certificate.now out err status × KeepsFiles shelf
 IsAnswer store shelf (Why words) columns out err status = IsWhyTold store shelf words out err status
+IsAnswer store shelf (Profile words) columns out err status = IsProfileTold store words out err status × KeepsFiles shelf
 
 -- ---- whole calls
 

@@ -6,10 +6,11 @@ use Rattle.std.specs.Borrow.{Bor}
 use Rattle.clap.specs.Walk.{Row, Text, all_of, first_of}
 use Rattle.explain_words.specs.Spelled.{lent, degree_in, width_in, meter_named, within_in}
 use Rattle.explain_words.specs.declared.request.Request.{Request}
-use Rattle.explain_words.specs.declared.request.Request.TheVariants.{Check, CheckData, Bounds, Budget, WriteBudget, Verify, Why}
+use Rattle.explain_words.specs.declared.request.Request.TheVariants.{Check, CheckData, Bounds, Budget, WriteBudget, Verify, Why, Profile}
 use Rattle.explain_words.specs.declared.request.bounds.BoundsWords.{BoundsWords}
 use Rattle.explain_words.specs.declared.request.budget.Aim.{Aim as Aim'}
 use Rattle.explain_words.specs.declared.request.budget.Aim.TheVariants as aim
+use Rattle.explain_words.specs.declared.request.profile.ProfileWords.{ProfileWords}
 use Rattle.explain_words.specs.declared.request.why.WhyWords.{WhyWords}
 use Rattle.explain_words.specs.declared.request.why.Written.{Written}
 
@@ -122,3 +123,14 @@ pub record AreWhy (rows : List Row) (asked : WhyWords) : Type 0 where
 abbrev pub MeansWhy : List Row → Request → Type 0
 MeansWhy rows (Why asked) = AreWhy rows asked
 MeansWhy rows other = ⊥
+
+-- what `profile` asks for
+pub record AreProfile (rows : List Row) (asked : ProfileWords) : Type 0 where
+  pub file : first_of (codes "file") rows ≡ Some asked.file.now
+  pub function : first_of (codes "function") rows ≡ Some asked.function.now
+  pub degree : degree_or_4 (first_of (codes "degree") rows) ≡ Some asked.degree
+  pub at : first_of (codes "at") rows ≡ lent asked.at
+
+abbrev pub MeansProfile : List Row → Request → Type 0
+MeansProfile rows (Profile asked) = AreProfile rows asked
+MeansProfile rows other = ⊥

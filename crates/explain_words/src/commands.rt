@@ -6,6 +6,7 @@ ghost use Rattle.explain_words.specs.Apps.{bare, begun, app, operand_rule, perha
 mod bounds;
 mod budget;
 mod check;
+mod profile;
 mod verify;
 mod why;
 
@@ -22,7 +23,8 @@ pub fn program<'a>(alloc: Global) -> Result<Command<'a>, AllocError>
     let command = begun(alloc)?;
     let with_budget = command.subcommand(budget::command(alloc)?)?;
     let with_verify = with_budget.subcommand(verify::command(alloc)?)?;
-    with_verify.subcommand(why::command(alloc)?)
+    let with_why = with_verify.subcommand(why::command(alloc)?)?;
+    with_why.subcommand(profile::command(alloc)?)
 }
 
 // With its first commands.

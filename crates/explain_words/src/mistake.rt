@@ -33,6 +33,8 @@ pub enum Mistake {
     Json,
     /// There is no certificate.
     NoCertificate,
+    /// There is no function.
+    NoFunction,
 }
 
 impl Mistake {
@@ -65,6 +67,7 @@ impl Mistake {
             Mistake::Unwritten => "error: '--force' stands with '--write <OTHER>' alone\n",
             Mistake::Json => "error: '--json' can't stand with '--write <BOUNDS>'\n",
             Mistake::NoCertificate => "error: no certificate is given\n",
+            Mistake::NoFunction => "error: no function is given: '--function <F>'\n",
         }
     }
 }
