@@ -55,10 +55,10 @@ EndsBy source P f g words ss e.Refused text report = ⊥
 
 -- the sizes of the parameters, where some are given
 abbrev pub AreSizes : Option Text → Function → Option (List Sizes) → Type 0
-AreSizes None g ss = ss ≡ None
-AreSizes (Some words) g ss =
-    (gs : List Given) × (given_in (Some words) ≡ Ok gs)
-    × ((filled : List Sizes) × AreFilled (asked gs (names_and_types g.params)) filled × (ss ≡ Some filled))
+AreSizes words g ss =
+    ((words ≡ None) × (ss ≡ None))
+    ⊎ ((gs : List Given) × (filled : List Sizes) × (given_in words ≡ Ok gs)
+    × AreFilled (asked gs (names_and_types g.params)) filled × (ss ≡ Some filled))
 
 -- the words give no sizes, or none of the parameters
 abbrev pub LackSizes : ProfileWords → Function → Text → Type 0

@@ -1,8 +1,8 @@
 // What `explain profile` tells of a file.
-ghost use Rattle.std.specs.Prelude.{◌≡◌, ◌≤◌, ◌++◌, Ok, IfOk, IsSome, string_bytes};
+ghost use Rattle.std.specs.Prelude.{◌≡◌, ◌≤◌, ◌++◌, Ok, IfOk, IfErr, string_bytes};
 ghost use Rattle.raml_syntax.specs.Tree.{Text};
 ghost use Rattle.raml_syntax.specs.Read.{program_of, function_of};
-ghost use Rattle.explain_at.specs.Read.{all_given};
+ghost use Rattle.explain_at.specs.Read.{all_given, IsWordFault};
 ghost use Rattle.explain_calls.specs.Sizes.{given_in};
 ghost use Rattle.explain_calls.specs.declared.end.End.TheVariants as e;
 ghost use Rattle.explain_data.specs.Data.{no_function_line};
@@ -84,6 +84,17 @@ fn refuse_function(words: &ProfileWords<'_>, report: &mut String) -> Result<End,
     Ok(End::Refused)
 }
 
+/// The sizes that the words behind `--at` give; none where it does not stand.
+fn given_by<'a>(alloc: Global, words: Option<&'a str>) -> Result<Vec<Given<'a>>, WordFault<'a>>
+    ensures given { IfOk result (λ given. given_in (lent words.entry) ≡ Ok (all_given given.items)) }
+    ensures fault { IfErr result (IsWordFault (given_in (lent words.entry))) }
+{
+    match words {
+        Some(words) => read(alloc, words),
+        None => Ok(Vec::new(alloc)),
+    }
+}
+
 /// Tells it of a function.
 fn tell_function(
     alloc: Global,
@@ -100,16 +111,13 @@ fn tell_function(
         × (string_bytes text.new ≡ string_bytes text.old ++ shown)
         × (string_bytes report.new ≡ string_bytes report.old ++ part)) }
 {
-    match words.at {
-        Some(at) => match read(alloc, at) {
-            Ok(given) => tell_given(alloc, source, words, fun, function, &given, text, report),
-            Err(WordFault::NoMemory) => Err(AllocError),
-            Err(fault) => {
-                write!(report, "error: '--at': {fault}\n")?;
-                Ok(End::Refused)
-            }
-        },
-        None => tell_sized(alloc, source, words, fun, function, None, text, report),
+    match given_by(alloc, words.at) {
+        Ok(given) => tell_given(alloc, source, words, fun, function, &given, text, report),
+        Err(WordFault::NoMemory) => Err(AllocError),
+        Err(fault) => {
+            write!(report, "error: '--at': {fault}\n")?;
+            Ok(End::Refused)
+        }
     }
 }
 
@@ -125,30 +133,26 @@ fn tell_given(
     report: &mut String,
 ) -> Result<End, AllocError>
     requires degree { IsDegree words.now.degree }
-    requires at { IsSome words.now.at }
     requires given { given_in (lent words.now.at) ≡ Ok (all_given given.now) }
     ensures { IfOk result (λ end. (shown part : Text)
         × FunctionIs source.now.bytes.items (program_of source.now.typed) words.now fun.0 (function_of function.now) end shown part
         × (string_bytes text.new ≡ string_bytes text.old ++ shown)
         × (string_bytes report.new ≡ string_bytes report.old ++ part)) }
 {
-    match sizes_at(alloc, given, &function.params) {
-        Ok(sizes) => tell_sized(
-            alloc,
-            source,
-            words,
-            fun,
-            function,
-            Some(sizes.as_slice()),
-            text,
-            report,
-        ),
-        Err(SizeFault::NoMemory) => Err(AllocError),
-        Err(fault) => {
-            let why = format!(in alloc; "{}: {fault}", function.name.text())?;
-            push_error(words.file, &why, report)?;
-            Ok(End::Refused)
-        }
+    match words.at {
+        Some(_) => match sizes_at(alloc, given, &function.params) {
+            Ok(sizes) => {
+                let sizes = Some(sizes.as_slice());
+                tell_sized(alloc, source, words, fun, function, sizes, text, report)
+            }
+            Err(SizeFault::NoMemory) => Err(AllocError),
+            Err(fault) => {
+                let why = format!(in alloc; "{}: {fault}", function.name.text())?;
+                push_error(words.file, &why, report)?;
+                Ok(End::Refused)
+            }
+        },
+        None => tell_sized(alloc, source, words, fun, function, None, text, report),
     }
 }
 

@@ -13,7 +13,7 @@ impl Runs {
         ensures { result.now ≡ r.runs_text self.now }
     {
         match self {
-            Runs::AtMost { sum, .. } => sum,
+            Runs::AtMost { sum, .. } => sum.as_str(),
             Runs::NoBound => "no bound",
             Runs::NotAnalysed => "not analysed",
         }

@@ -9,6 +9,15 @@ use std::alloc::{AllocError, Global};
 /// What stands for a character that can't be shown.
 const NOT_SHOWN: char = '\u{fffd}';
 
+/// How many characters a text has.
+fn width(text: &str) -> usize {
+    let mut count: usize = 0;
+    for _ in text.chars() {
+        count = count.saturating_add(1);
+    }
+    count
+}
+
 /// How wide the cells of columns are, from the first on.
 #[derive(Drop)]
 pub(crate) struct Columns {
@@ -20,7 +29,7 @@ impl Columns {
     pub(crate) fn of(alloc: Global, cells: &[String]) -> Result<Columns, AllocError> {
         let mut widths = Vec::new(alloc);
         for cell in cells {
-            widths.push(cell.chars().count())?;
+            widths.push(width(cell))?;
         }
         Ok(Columns { widths })
     }
@@ -30,7 +39,7 @@ impl Columns {
         let mut place = 0;
         for cell in cells {
             if place < self.widths.len() {
-                self.widths[place] = self.widths[place].max(cell.chars().count());
+                self.widths[place] = self.widths[place].max(width(cell));
                 place += 1;
             }
         }
@@ -39,7 +48,7 @@ impl Columns {
     /// How many spaces a cell of a column needs.
     fn pad(&self, place: usize, cell: &str) -> usize {
         match self.widths.get(place) {
-            Some(width) => width.saturating_sub(cell.chars().count()),
+            Some(width) => width.saturating_sub(width(cell)),
             None => 0,
         }
     }
@@ -92,16 +101,24 @@ fn push_characters(line: &str, text: &mut String) -> Result<(), AllocError>
     Ok(())
 }
 
+/// Appends a line behind two spaces, where it is not empty.
+fn push_shown(line: &str, text: &mut String) -> Result<(), AllocError>
+    ensures { OnOk result ((rest : Text) × (string_bytes text.new ≡ string_bytes text.old ++ rest)) }
+{
+    if line.is_empty() {
+        Ok(())
+    } else {
+        text.push_str("  ")?;
+        push_characters(line, text)
+    }
+}
+
 /// Appends a line of a source, as a terminal can show it, behind two spaces.
 fn push_source(line: &[u8], text: &mut String) -> Result<(), AllocError>
     ensures { OnOk result ((rest : Text) × (string_bytes text.new ≡ string_bytes text.old ++ rest)) }
 {
     match std::str::from_utf8(line) {
-        Ok("") => Ok(()),
-        Ok(line) => {
-            text.push_str("  ")?;
-            push_characters(line, text)
-        }
+        Ok(line) => push_shown(line, text),
         Err(_) => text.push(NOT_SHOWN),
     }
 }

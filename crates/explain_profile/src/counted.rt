@@ -21,7 +21,7 @@ pub(crate) fn find(counted: &[Counted], region: Pos) -> Option<&Counted>
     ensures { IfSome result (λ found. IsAmong counted.now region.0 found.now) }
 {
     for one in counted {
-        if one.region == region {
+        if one.region.0 == region.0 {
             return Some(one);
         }
     }

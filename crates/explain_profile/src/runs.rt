@@ -47,7 +47,7 @@ pub(crate) struct Case<'a> {
 }
 
 /// The value of a bound at sizes that are given.
-fn at(poly: &Poly, sizes: Option<&[Size]>) -> Option<u128>
+fn value(poly: &Poly, sizes: Option<&[Size]>) -> Option<u128>
     requires poly { IsPoly poly.now }
     requires low { AreLow poly.now }
     ensures { IsAt (sizes_in sizes.entry) poly.now result }
@@ -75,12 +75,12 @@ fn at_most(
     let reading = read_bound(alloc, poly, &types, &names)?;
     Ok(Runs::AtMost {
         sum: reading.sum,
-        at: at(poly, sizes),
+        at: value(poly, sizes),
     })
 }
 
 /// What is found of the ticks of a function.
-fn runs(
+fn runs_for(
     alloc: Global,
     fun: &Fun,
     finding: &Finding,
@@ -154,7 +154,7 @@ fn runs_at(
 {
     match fun_at(program, fun) {
         Some(function) => match findings_at(found, fun) {
-            Some(findings) => runs(alloc, function, &findings.ticks, sizes),
+            Some(findings) => runs_for(alloc, function, &findings.ticks, sizes),
             None => Ok(Runs::NotAnalysed),
         },
         None => Ok(Runs::NotAnalysed),

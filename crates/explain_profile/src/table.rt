@@ -53,7 +53,7 @@ fn row(
 }
 
 /// Columns as wide as the cells of all lines and those above them.
-fn columns(
+fn columns_for(
     alloc: Global,
     case: Case<'_>,
     counted: &[Counted],
@@ -148,8 +148,8 @@ pub(crate) fn push_table(
         × (string_bytes text.new ≡ string_bytes text.old ++ part)) }
 {
     let heading = heading(alloc, sizes)?;
-    let columns = columns(alloc, case, counted, lines, &heading)?;
-    push_cells(text, &columns, 0, &heading, b"")?;
+    let columns = columns_for(alloc, case, counted, lines, &heading)?;
+    push_cells(text, &columns, 0, &heading, &[])?;
     push_rows(alloc, text, case, counted, &columns, lines)?;
     push_meaning(alloc, text, fun)
 }

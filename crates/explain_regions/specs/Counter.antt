@@ -10,10 +10,13 @@ use Rattle.explain_edits.specs.Edits.{Edit}
 abbrev pub insertion : ℕ → Token → List Edit
 insertion region t = cond (nat_eq (place_of t) region) (record { at = region; length = 0; text = codes " tick 1 in " } ∷ []) []
 
--- `tick`, the number and the `in` behind it make place for a space
+-- a space in place of what begins there and ends with the `in` that stands there
+abbrev pub removed : ℕ → ℕ → Edit
+removed from last = record { at = from; length = (last + 2) - from; text = codes " " }
+
+-- `tick`, the number and the `in` behind it are taken out
 abbrev pub removal : Token → List Token → List Edit
-removal t (n ∷ i ∷ ts) =
-    cond (is_key s.Tick t) (record { at = place_of t; length = (place_of i + 2) - place_of t; text = codes " " } ∷ []) []
+removal t (n ∷ i ∷ ts) = cond (is_key s.Tick t) (removed (place_of t) (place_of i) ∷ []) []
 removal t _ = []
 
 abbrev pub edits : ℕ → List Token → List Edit

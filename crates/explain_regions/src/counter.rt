@@ -1,9 +1,9 @@
 // A source with a counter in a region.
 ghost use Rattle.std.specs.Prelude.{◌≡◌, ◌<◌, ◌^◌, ◌++◌, length, IfOk, IfSome, OnOk};
 ghost use Rattle.std.specs.Str.{IsUtf8};
-ghost use Rattle.raml_parse.specs.Spelling.{HasTokens};
+ghost use Rattle.raml_parse.specs.Spelling.{HasTokens, place_of};
 ghost use Rattle.parse_table.specs.Read.{pieces, token_of};
-ghost use Rattle.explain_edits.specs.Read.{edits_of};
+ghost use Rattle.explain_edits.specs.Read.{edit_of, edits_of};
 ghost use Rattle.explain_regions.specs.Counter as c;
 ghost use Rattle.explain_regions.specs.Counter.{AreCounterEdits};
 
@@ -23,7 +23,7 @@ fn push_insertion(
 ) -> Result<(), AllocError>
     ensures { OnOk result (edits_of edits.new.items ≡ edits_of edits.old.items ++ c.insertion region.0 (token_of token.now)) }
 {
-    if token.at == region {
+    if token.at.0 == region.0 {
         edits.push(Edit {
             at: region.0 as usize,
             length: 0,
@@ -45,7 +45,7 @@ fn push_removal(
     match rest {
         [_, last, ..] => {
             if token.is(Sign::Tick) {
-                edits.push(removal_up_to(alloc, token, last)?)?;
+                edits.push(removed(alloc, token, last)?)?;
             }
             Ok(())
         }
@@ -54,7 +54,9 @@ fn push_removal(
 }
 
 /// A space in the place of these tokens and what is between them.
-fn removal_up_to(alloc: Global, first: &Piece<'_>, last: &Piece<'_>) -> Result<Edit, AllocError> {
+fn removed(alloc: Global, first: &Piece<'_>, last: &Piece<'_>) -> Result<Edit, AllocError>
+    ensures { IfOk result (λ edit. edit_of edit ≡ c.removed (place_of (token_of first.now)) (place_of (token_of last.now))) }
+{
     let at = first.at.0 as usize;
     Ok(Edit {
         at,
