@@ -4,7 +4,7 @@ use Rattle.std.specs.Fmt.{decimal}
 use Rattle.std.specs.Borrow.{Bor}
 use Rattle.std.specs.List.{All}
 use Rattle.raml_syntax.specs.Tree.{Text, Function, Prog}
-use Rattle.raml_syntax.specs.Node.{WithinLimits}
+use Rattle.raml_syntax.specs.Node.{WithinLimits, program_nodes}
 use Rattle.raml_syntax.specs.Read.{program_of}
 use Rattle.raml_syntax.specs.declared.program.Program.{Program}
 use Rattle.raml_syntax.specs.Types.{Typed}
@@ -55,12 +55,13 @@ FaultIs name source v.Typed part = IsTypedSource source × (part ≡ [])
 FaultIs name source v.Faulty part = (at : ℕ) × (rest : Text) × RefusedAt source at × (part ≡ fault_head name source at ++ rest)
 FaultIs name source v.Unread part = ⊥
 
--- the source spells this typed program, which keeps the limits of programs
+-- the source spells this typed program, which keeps the limits of programs and has at most as many nodes as the source has bytes
 pub record IsProgramOf (source : Text) (P : Prog) : Type 0 where
   pub spelled : Spells source P
   pub typed : Typed P
   pub limits : WithinLimits P
   pub parameters : All (λ (g : Function). 1 ≤ length g.params) P
+  pub few_nodes : program_nodes P ≤ length source
 
 -- a source that spells a typed program, of which nothing is told, or that spells none
 abbrev pub SourceGives : Text → Text → Option Program → Text → Type 0

@@ -1,7 +1,7 @@
 // Checks of the bytes of a source.
 ghost use Rattle.std.specs.Prelude.{◌≡◌, ◌<◌, ◌≤◌, ◌^◌, ◌++◌, ℕ, length, string_bytes, IfOk};
 ghost use Rattle.std.specs.List.{All};
-ghost use Rattle.raml_syntax.specs.Node.{WithinLimits};
+ghost use Rattle.raml_syntax.specs.Node.{WithinLimits, program_nodes};
 ghost use Rattle.raml_syntax.specs.Read.{program_of};
 ghost use Rattle.raml_syntax.specs.Tree.{Text, Function};
 ghost use Rattle.raml_parse.specs.Spelling.{Spells};
@@ -83,6 +83,7 @@ fn typed_in(alloc: Global, source: &[u8], program: Program) -> Result<Found, All
     requires spelled { Spells source.now (program_of program) }
     requires limits { WithinLimits (program_of program) }
     requires parameters { All (λ (g : Function). 1 ≤ length g.params) (program_of program) }
+    requires few_nodes { program_nodes (program_of program) ≤ length source.now }
     ensures { IfOk result (FoundIn source.now) }
 {
     match check(alloc, program) {
