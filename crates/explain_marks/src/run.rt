@@ -14,9 +14,6 @@ use raml_syntax::FunId;
 use simple_types::Typed;
 use std::alloc::{AllocError, Global};
 
-/// Arguments of runs have fewer cells.
-const MOST_CELLS: u32 = 20000;
-
 /// How many cells a run may take.
 const MOST_TAKEN: u32 = 16_777_216;
 
@@ -50,18 +47,15 @@ pub(crate) fn run_on(
     ensures { IfOk result (λ run. IfSome run
         (λ run. IsRun (program_of typed.now) (program_in verified.now.program) verified.now.certificate fun.0 meter data.now run.cost run.bound)) }
 {
-    let Some(read) = reading(alloc, typed, verified, fun, meter, data)? else {
-        return Ok(None);
-    };
-    if read.cells >= MOST_CELLS {
-        return Ok(None);
-    }
     let limits = Limits {
         steps,
         cells: MOST_TAKEN,
     };
-    match measure(alloc, typed, fun, data, limits)? {
-        Some(measured) => Ok(ended(meter, &measured, read.bound)),
+    match reading(alloc, typed, verified, fun, meter, data)? {
+        Some(read) => match measure(alloc, typed, fun, data, limits)? {
+            Some(measured) => Ok(ended(meter, &measured, read.bound)),
+            None => Ok(None),
+        },
         None => Ok(None),
     }
 }

@@ -19,3 +19,13 @@ read_args-requires-clause-types c =
     let some = each_at (λ (f : Function). 1 ≤ length f.params) P k is.0 c.requires.runs.parameters is.1 in
     let few = each_at (λ (f : Function). length f.params ≤ 8) P k is.0 c.requires.runs.few_parameters is.1 in
     (omega (arith, long, some), omega (arith, long, few))
+
+pub read_bound-requires-clause-args : goal.read_bound-requires-clause-args
+read_bound-requires-clause-args c =
+    rw (c.deref-in-Ok.ensures.value) (arguments_read c.new-heap.result.cells c.read_args.new.heap.cells c.args.data.now (map ty_of c.deref.result.now) c.in-Ok.words.items c.in-Ok.ensures.ok)
+
+pub returns-in-Ok : goal.returns-in-Ok
+returns-in-Ok c g args there spelled = ?
+
+pub returns : goal.returns
+returns c g args there spelled = ?
