@@ -1,6 +1,8 @@
 -- What is drawn by the analysis that tells most.
-use Rattle.std.proofs.Common.{◌≡◌, ◌≤◌, ◌<◌, ◌++◌, ◌∙◌, ℕ, max, List, Some, Result, Ok, Err, IfOk, refl, sym, ap, subst, arith}
-use Rattle.std.proofs.lemmas.List.{append_assoc}
+use Rattle.std.proofs.Common.{◌≡◌, ◌≢◌, ◌≤◌, ◌<◌, ◌++◌, ◌∙◌, ℕ, max, List, [], ◌∷◌, map, Option, Some, None, Result, Ok, Err, IfOk, String, Global, string_bytes, refl, sym, ap, subst, arith}
+use Rattle.std.specs.List.{All}
+use Rattle.std.proofs.lemmas.List.{append_assoc, append-nil}
+use Rattle.std.proofs.lemmas.List.Elements.{All-cons, All-head, All-tail}
 use Rattle.std.specs.Prelude.{slice_get, option_map}
 use Rattle.raml_syntax.specs.Tree.{Text, Prog}
 use Rattle.raml_syntax.specs.Read.{program_of}
@@ -12,14 +14,24 @@ use Rattle.rules_plan.specs.Read.{program_in}
 use Rattle.rules_soundness_laws.specs.Laws.{normal_of}
 use Rattle.cost_free.specs.declared.task.Meter.{Meter}
 use Rattle.refusals.specs.Refusals.{names_in}
-use Rattle.explain_degrees.specs.Degrees.{AreLeast, IsFinding, finding_of}
+use Rattle.explain_degrees.specs.Degrees.{AreLeast, IsFinding, analysis_at, finding_of}
 use Rattle.explain_degrees.specs.declared.finding.Finding.{Finding}
 use Rattle.explain_degrees.specs.declared.finding.Finding.TheVariants as finding
 use Rattle.explain_degrees.specs.declared.finding.Findings.{Findings}
 use Rattle.explain_degrees.specs.declared.least.LeastBounds.{LeastBounds}
 use Rattle.explain_calls.specs.Told.{notes}
 use Rattle.explain_calls.proofs.Analysing.{analysed, noted}
-use Rattle.explain_plot.specs.Calls.{EndsAt, IsDrawn, degree_of}
+use Rattle.annot_types.specs.Certificate.{Certificate}
+use Rattle.bound_infer.specs.Inferred.{InferCause}
+use Rattle.bound_infer.specs.declared.refusal.InferFault.{InferFault}
+use Rattle.bound_infer.specs.declared.refusal.InferFault.TheVariants.{NoMemory}
+use Rattle.explain_calls.specs.declared.end.End.TheVariants as e
+use Rattle.explain_chart.specs.Chart.{Draws}
+use Rattle.explain_chart.specs.Read.{mark_in, marks_in}
+use Rattle.explain_chart.specs.declared.mark.Mark.{Mark}
+use Rattle.explain_marks.specs.Marks.{IsMark}
+use Rattle.explain_plot.specs.Table.{table}
+use Rattle.explain_plot.specs.Calls.{Drawn, EndsAt, IsDrawn, cut_text, degree_of}
 use Rattle.explain_plot.specs.Read.{outcome_of, text_in}
 use Rattle.explain_plot.specs.declared.call.Told.{Told}
 use Rattle.explain_plot.proofs.Calling.{Tells}
@@ -67,3 +79,42 @@ module _ (kept : Kept) (typed : Source) (source : kept.source ≡ typed) (groupi
         ends.4 ∙ ap (λ t. t ++ ends.1) before ∙ append_assoc old names ends.1,
       )
   of_degree f meter findings d old_text new_text old read new (Err e) there best before ends = tt
+
+-- ---- runs that are drawn
+
+all_mapped : {X Y : Type 0} (f : X → Y) (Q : Y → Type 0) (xs : List X) → All (λ x. Q (f x)) xs → All Q (map f xs)
+all_mapped f Q [] all = all
+all_mapped f Q (x ∷ xs) all = All-cons Q (f x) (map f xs) (All-head (λ x. Q (f x)) x xs all) (all_mapped f Q xs (All-tail (λ x. Q (f x)) x xs all))
+
+pub pictured : {E : Type 0} (r : Result (String Global) E) (P : Prog) (N : Program) (c : Certificate) (f : ℕ) (meter : Meter) (xs : List Mark) (cut : Option ℕ) (old_text new_text old new : Text) →
+    All (λ m. IsMark P N c f meter (mark_in m)) xs → new_text ≡ old_text ++ table (marks_in xs) → new ≡ old ++ cut_text cut →
+    IfOk r (λ svg. Draws (marks_in xs) (string_bytes svg)) →
+    IfOk r (λ svg. (shown : Text) × (part : Text) × Drawn P N c f meter (string_bytes svg) shown part × (new_text ≡ old_text ++ shown) × (new ≡ old ++ part))
+pictured (Ok svg) P N c f meter xs cut old_text new_text old new runs told behind draws =
+    (
+      table (marks_in xs),
+      cut_text cut,
+      record {
+        marks = marks_in xs;
+        runs = all_mapped mark_in (IsMark P N c f meter) xs runs;
+        draws = draws;
+        told = refl;
+        cut = cut;
+        cut_told = refl;
+      },
+      told,
+      behind,
+    )
+pictured (Err e) P N c f meter xs cut old_text new_text old new runs told behind draws = tt
+
+-- ---- analyses that are refused
+
+pub refused_at : {E : Type 0} (r : Result Told E) (fault : InferFault) (P : Prog) (N : Program) (f d : ℕ) (meter : Meter) (old_text new_text old new : Text) → InferCause (analysis_at N d) fault →
+    new_text ≡ old_text → new ≡ old →
+    IfOk r (λ told. told.end ≡ e.NotAnalysed) → IfOk r (λ told. told.picture ≡ None) → IfOk r (λ told. fault ≢ NoMemory) →
+    IfOk r (λ told. (shown : Text) × (part : Text) × EndsAt told.end P N f d meter (text_in told.picture) shown part × (new_text ≡ old_text ++ shown) × (new ≡ old ++ part))
+refused_at (Ok told) fault P N f d meter old_text new_text old new cause same_text same ends none refused =
+    let is = (fault, record { refused = refused; cause = cause }) in
+    let at : EndsAt e.NotAnalysed P N f d meter (text_in told.picture) [] [] = (is, ap text_in none, refl, refl) in
+    ([], [], subst (λ end. EndsAt end P N f d meter (text_in told.picture) [] []) (sym ends) at, same_text ∙ sym (append-nil old_text), same ∙ sym (append-nil old))
+refused_at (Err e) fault P N f d meter old_text new_text old new cause same_text same ends none refused = tt

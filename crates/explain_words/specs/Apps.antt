@@ -125,5 +125,9 @@ bare = on_top (λ s. record s {
 abbrev pub begun : App
 begun = with_subcommand (with_subcommand bare check_app.top) bounds_app.top
 
+-- with more of them
+abbrev pub grown : App
+grown = with_subcommand (with_subcommand begun budget_app.top) verify_app.top
+
 abbrev pub app : App
-app = with_subcommand (with_subcommand (with_subcommand (with_subcommand begun budget_app.top) verify_app.top) why_app.top) plot_app.top
+app = with_subcommand (with_subcommand grown why_app.top) plot_app.top

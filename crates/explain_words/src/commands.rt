@@ -1,7 +1,7 @@
 // The commands, as `clap` has them.
 ghost use Rattle.std.specs.Prelude.{◌≡◌, IfOk};
 ghost use Rattle.clap.specs.Simple.{app_of};
-ghost use Rattle.explain_words.specs.Apps.{bare, begun, app, operand_rule, perhaps_rule, option_rule, needed_rule, flag_rule, IsArg};
+ghost use Rattle.explain_words.specs.Apps.{bare, begun, grown, app, operand_rule, perhaps_rule, option_rule, needed_rule, flag_rule, IsArg};
 
 mod bounds;
 mod budget;
@@ -20,11 +20,18 @@ pub const VERSION: &str = "1.1.0";
 pub fn program<'a>(alloc: Global) -> Result<Command<'a>, AllocError>
     ensures { IfOk result (λ command. app_of command ≡ app) }
 {
+    let command = grown(alloc)?;
+    let with_why = command.subcommand(why::command(alloc)?)?;
+    with_why.subcommand(plot::command(alloc)?)
+}
+
+// With more of them.
+fn grown<'a>(alloc: Global) -> Result<Command<'a>, AllocError>
+    ensures { IfOk result (λ command. app_of command ≡ grown) }
+{
     let command = begun(alloc)?;
     let with_budget = command.subcommand(budget::command(alloc)?)?;
-    let with_verify = with_budget.subcommand(verify::command(alloc)?)?;
-    let with_why = with_verify.subcommand(why::command(alloc)?)?;
-    with_why.subcommand(plot::command(alloc)?)
+    with_budget.subcommand(verify::command(alloc)?)
 }
 
 // With its first commands.

@@ -1,11 +1,15 @@
-use Rattle.std.proofs.Common.{◌≤◌, ◌∙◌, ap, sym, subst, length, map, arith}
+use Rattle.std.proofs.Common.{◌≤◌, ◌∙◌, ap, sym, subst, length, map, Ok, IfOk, arith}
 use Rattle.std.proofs.lemmas.List.{length-map}
 use Rattle.raml_syntax.specs.Tree.{Parameter, Function}
 use Rattle.raml_syntax.specs.Types.{types_of}
 use Rattle.raml_syntax.specs.Read.{ty_of, program_of}
-use Rattle.value_text.specs.Reading.{AreRead, HasOneAnswer}
+use Rattle.raml_syntax.specs.declared.program.Program.{Program}
+use Rattle.rules_plan.specs.Read.{program_in}
+use Rattle.value_text.specs.Reading.{Answers, AreRead, HasOneAnswer}
+use Rattle.value_text.specs.Stands.{StandForAll}
 use Rattle.explain_runs.proofs.Placing.{each_at, read_at, some_at}
-use Rattle.explain_marks.proofs.Spelled.{arguments_read, only_read}
+use Rattle.explain_marks.specs.Marks.{AreReadAs}
+use Rattle.explain_marks.proofs.Spelled.{arguments_read, none_fit, only_read}
 use Rattle.explain_marks.proofs.reading.reading.Goals as goal
 
 pub read_args-requires-clause-types : goal.read_args-requires-clause-types
@@ -25,7 +29,18 @@ read_bound-requires-clause-args c =
     rw (c.deref-in-Ok.ensures.value) (arguments_read c.new-heap.result.cells c.read_args.new.heap.cells c.args.data.now (map ty_of c.deref.result.now) c.in-Ok.words.items c.in-Ok.ensures.ok)
 
 pub returns-in-Ok : goal.returns-in-Ok
-returns-in-Ok c g args there spelled = ?
+returns-in-Ok c g args there spelled =
+    let k = c.args.fun.0 in
+    let kept = c.args.verified.now.program in
+    let read = read_at c.program.result.now (program_of c.args.typed.now) k c.index.result.now g (ap program_of c.program.ensures.program) c.index.ensures there in
+    let types = ap (map ty_of) c.deref.ensures.value ∙ c.in_ok-types.ensures ∙ ap types_of read in
+    let same = subst (λ As. Answers c.args.data.now As (Ok args)) (sym types) spelled in
+    let new = c.read_args.new.heap.cells in
+    let stand : StandForAll new c.deref-in-Ok.result.now args = rw (c.deref-in-Ok.ensures.value)
+    (only_read c.new-heap.result.cells new c.args.data.now (map ty_of c.deref.result.now) c.in-Ok.words.items args c.in-Ok.ensures.ok c.in-Ok.ensures.one_answer same) in
+    subst (λ (s : Program). IfOk c.read_bound.result (AreReadAs (program_of s) (program_in kept) c.args.verified.now.certificate k c.args.meter args)) c.requires.source
+    (c.read_bound.ensures args stand)
 
 pub returns : goal.returns
-returns c g args there spelled = ?
+returns c g args there spelled =
+    none_fit c.none_read.result (program_of c.args.typed.now) (program_in c.args.verified.now.program) c.args.verified.now.certificate c.args.fun.0 c.args.meter args c.none_read.ensures
