@@ -63,8 +63,7 @@ module _ (kept : Kept) (typed : Source) (source : kept.source ≡ typed) (groupi
   of_degree f meter findings d old_text new_text old read new (Ok told) there best before ends =
       let names = notes (names_in kept) found.refused.items in
       let at = subst (λ d. EndsAt told.end (program_of typed) (program_in kept) f d meter (text_in told.picture) ends.0 ends.1) best ends.2 in
-      let all = subst (λ (N : Program). EndsAt told.end (program_of typed) N f (degree_of (finding_of findings meter)) meter (text_in told.picture) ends.0 ends.1) normal at in
-      (
+      let all = subst (λ (N : Program). EndsAt told.end (program_of typed) N f (degree_of (finding_of findings meter)) meter (text_in told.picture) ends.0 ends.1) normal at in (
         ends.0,
         names ++ ends.1,
         record {
@@ -90,21 +89,20 @@ pub pictured : {E : Type 0} (r : Result (String Global) E) (P : Prog) (N : Progr
     All (λ m. IsMark P N c f meter (mark_in m)) xs → new_text ≡ old_text ++ table (marks_in xs) → new ≡ old ++ cut_text cut →
     IfOk r (λ svg. Draws (marks_in xs) (string_bytes svg)) →
     IfOk r (λ svg. (shown : Text) × (part : Text) × Drawn P N c f meter (string_bytes svg) shown part × (new_text ≡ old_text ++ shown) × (new ≡ old ++ part))
-pictured (Ok svg) P N c f meter xs cut old_text new_text old new runs told behind draws =
-    (
-      table (marks_in xs),
-      cut_text cut,
-      record {
-        marks = marks_in xs;
-        runs = all_mapped mark_in (IsMark P N c f meter) xs runs;
-        draws = draws;
-        told = refl;
-        cut = cut;
-        cut_told = refl;
-      },
-      told,
-      behind,
-    )
+pictured (Ok svg) P N c f meter xs cut old_text new_text old new runs told behind draws = (
+  table (marks_in xs),
+  cut_text cut,
+  record {
+    marks = marks_in xs;
+    runs = all_mapped mark_in (IsMark P N c f meter) xs runs;
+    draws = draws;
+    told = refl;
+    cut = cut;
+    cut_told = refl;
+  },
+  told,
+  behind,
+)
 pictured (Err e) P N c f meter xs cut old_text new_text old new runs told behind draws = tt
 
 -- ---- analyses that are refused

@@ -55,7 +55,9 @@ pub(crate) fn tell_degree(
 {
     match analyse(alloc, program, degree) {
         Ok(verified) => {
-            let picture = picture(alloc, typed, &verified, asked, findings, sizes, text, report)?;
+            let picture = picture(
+                alloc, typed, &verified, asked, findings, sizes, text, report,
+            )?;
             Ok(Told {
                 end: End::Told,
                 picture: Some(picture),
@@ -103,7 +105,12 @@ fn picture(
         × (string_bytes text.new ≡ string_bytes text.old ++ shown)
         × (string_bytes report.new ≡ string_bytes report.old ++ part)) }
 {
-    let Asked { fun, meter, seed, .. } = asked;
+    let Asked {
+        fun,
+        meter,
+        seed,
+        ..
+    } = asked;
     let found = marks_at(alloc, typed, verified, fun, meter, sizes, seed)?;
     push_table(text, &found.marks)?;
     push_cut(report, found.cut)?;
@@ -175,7 +182,9 @@ fn drawn(
     let name = function.name.text();
     let costs = meter_name(meter);
     let title = format!(in alloc; "Measured runs of {name}: {costs}")?;
-    let description = format!(in alloc; "A point for what each run of {name} cost in {costs}, by the size of its arguments, below a line for the bound at these arguments. Both axes are logarithmic. The title of a point tells its numbers.")?;
+    let description = format!(in alloc;
+        "A point for what each run of {name} cost in {costs}, by the size of its arguments, below a line for the bound at these arguments. Both axes are logarithmic. The title of a point tells its numbers."
+    )?;
     draw(
         alloc,
         &Chart {
