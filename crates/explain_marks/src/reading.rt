@@ -36,7 +36,7 @@ pub(crate) struct Reading {
 }
 
 /// What is read of the data; none where it spells no arguments of the function that have few cells.
-pub(crate) fn reading(
+pub(crate) fn read_data(
     alloc: Global,
     typed: &Typed,
     verified: &Verified<'_, '_>,

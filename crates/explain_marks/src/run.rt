@@ -6,7 +6,7 @@ ghost use Rattle.rules_plan.specs.Read.{program_in};
 ghost use Rattle.explain_runs.specs.Measure.{CanRun};
 ghost use Rattle.explain_marks.specs.Marks.{HasEnded, IsRun, cost_of};
 
-use crate::reading::reading;
+use crate::reading::read_data;
 use bound_infer::Verified;
 use cost_free::Meter;
 use explain_runs::{Limits, Measured, Outcome, measure};
@@ -51,7 +51,7 @@ pub(crate) fn run_on(
         steps,
         cells: MOST_TAKEN,
     };
-    match reading(alloc, typed, verified, fun, meter, data)? {
+    match read_data(alloc, typed, verified, fun, meter, data)? {
         Some(read) => match measure(alloc, typed, fun, data, limits)? {
             Some(measured) => Ok(ended(meter, &measured, read.bound)),
             None => Ok(None),

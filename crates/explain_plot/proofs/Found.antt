@@ -1,9 +1,9 @@
 -- What is drawn by the analysis that tells most.
-use Rattle.std.proofs.Common.{◌≡◌, ◌≢◌, ◌≤◌, ◌<◌, ◌++◌, ◌∙◌, ℕ, max, List, [], ◌∷◌, map, Option, Some, None, Result, Ok, Err, IfOk, String, Global, string_bytes, refl, sym, ap, subst, arith}
+use Rattle.std.proofs.Common.{◌≡◌, ◌≢◌, ◌≤◌, ◌<◌, ◌++◌, ◌∙◌, ℕ, zero, suc, max, List, length, [], ◌∷◌, map, Option, Some, None, Result, Ok, Err, IfOk, String, Global, string_bytes, refl, sym, ap, subst, arith}
 use Rattle.std.specs.List.{All}
 use Rattle.std.proofs.lemmas.List.{append_assoc, append-nil}
 use Rattle.std.proofs.lemmas.List.Elements.{All-cons, All-head, All-tail}
-use Rattle.std.specs.Prelude.{slice_get, option_map}
+use Rattle.std.specs.Prelude.{slice_get, slice_index_or}
 use Rattle.raml_syntax.specs.Tree.{Text, Prog}
 use Rattle.raml_syntax.specs.Read.{program_of}
 use Rattle.raml_syntax.specs.declared.program.Program.{Program as Source}
@@ -35,6 +35,12 @@ use Rattle.explain_plot.specs.Calls.{Drawn, EndsAt, IsDrawn, cut_text, degree_of
 use Rattle.explain_plot.specs.Read.{outcome_of, text_in}
 use Rattle.explain_plot.specs.declared.call.Told.{Told}
 use Rattle.explain_plot.proofs.Calling.{Tells}
+
+-- what is read at a place stands there
+pub got : {X : Type 0} (xs : List X) (i : ℕ) (x : X) → x ≡ slice_index_or xs i x → i < length xs → slice_get xs i ≡ Some x
+got [] i x is below = absurd (omega (arith, below))
+got (y ∷ ys) zero x is below = ap Some (sym is)
+got (y ∷ ys) (suc i) x is below = got ys i x is (omega (arith, below))
 
 -- the degree that is analysed again is in range
 pub least_degree : (x : Finding) → 1 ≤ degree_of x

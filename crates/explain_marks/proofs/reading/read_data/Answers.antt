@@ -10,7 +10,7 @@ use Rattle.value_text.specs.Stands.{StandForAll}
 use Rattle.explain_runs.proofs.Placing.{each_at, read_at, some_at}
 use Rattle.explain_marks.specs.Marks.{AreReadAs}
 use Rattle.explain_marks.proofs.Spelled.{arguments_read, none_fit, only_read}
-use Rattle.explain_marks.proofs.reading.reading.Goals as goal
+use Rattle.explain_marks.proofs.reading.read_data.Goals as goal
 
 pub read_args-requires-clause-types : goal.read_args-requires-clause-types
 read_args-requires-clause-types c =
