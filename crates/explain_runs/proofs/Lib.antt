@@ -1,0 +1,4 @@
+pub mod Placing
+pub mod Running
+pub mod Reading
+pub mod Texts
