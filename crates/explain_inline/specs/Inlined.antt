@@ -6,7 +6,7 @@ use Rattle.explain_degrees.specs.declared.finding.Findings.{Findings}
 use Rattle.explain_lines.specs.Mended.{mended_lines, mends_group}
 use Rattle.explain_lines.specs.Read.{lines_of}
 use Rattle.explain_trials.specs.Read.{IsTrialOf}
-use Rattle.explain_rebuild.specs.Sources.{findings_in}
+use Rattle.explain_mending.specs.Mended.{findings_in}
 use Rattle.explain_inline.specs.Headers.{SameHeaders}
 use Rattle.explain_inline.specs.Texts.{IsReplaced}
 use Rattle.explain_inline.specs.declared.mending.Inlined.{Inlined}

@@ -12,7 +12,8 @@ use Rattle.explain_rounds.specs.Found.{pairs_of}
 use Rattle.explain_rounds.specs.declared.idle.Kind.TheVariants.{Computed}
 use Rattle.explain_degrees.specs.declared.finding.Findings.{Findings}
 use Rattle.explain_lines.specs.Lines.{first_lacking}
-use Rattle.explain_rebuild.specs.Reached.{IsReachedSite, AreAmong}
+use Rattle.explain_mending.specs.Mended.{AreAmong}
+use Rattle.explain_rebuild.specs.Reached.{IsReachedSite}
 use Rattle.explain_rebuild.specs.Rebuilt.{IsRebuilt}
 use Rattle.explain_rebuild.specs.declared.mending.Rebuilt.{Rebuilt}
 use Rattle.explain_inline.specs.Inlined.{IsInlined}

@@ -3,7 +3,8 @@ use Rattle.std.proofs.Common.{◌≡◌, sym, subst, inl, inr, ◌<◌, ℕ, Lis
 use Rattle.std.specs.List.{All, Contains}
 use Rattle.std.proofs.lemmas.List.Elements.{All-push, All-same, Contains-get_or}
 use Rattle.explain_changes.specs.declared.site.Site.{Site}
-use Rattle.explain_rebuild.specs.Reached.{AreAmong, MayAdd}
+use Rattle.explain_mending.specs.Mended.{AreAmong}
+use Rattle.explain_rebuild.specs.Reached.{MayAdd}
 
 -- what holds of all holds of one more
 pub all_with : {A : Type 0} (P : A → Type 0) (IsSo : Type 0) (x : A) (old new : List A) → All P old → (IsSo → P x) → MayAdd IsSo x old new → All P new

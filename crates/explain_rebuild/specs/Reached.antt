@@ -19,10 +19,6 @@ pub record IsReachedSite (P : Prog) (group : List ℕ) (site : Site) : Type 0 wh
   pub named : place_of site.function.now P ≡ Some fun
   pub reached : IsReached P group fun
 
--- all of the sites that are chosen are among these
-abbrev pub AreAmong : List Site → List Site → Type 0
-AreAmong sites chosen = All (Contains sites) chosen
-
 -- ---- what the code has
 
 abbrev pub or_none : Option (List ℕ) → List ℕ

@@ -5,7 +5,6 @@ mod changed;
 mod mending;
 mod original;
 mod reach;
-mod reduce;
 
 pub use mending::{Rebuilt, rebuild};
 pub use original::Original;

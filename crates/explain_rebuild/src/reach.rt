@@ -5,7 +5,8 @@ ghost use Rattle.raml_syntax.specs.Tree.{Prog};
 ghost use Rattle.raml_syntax.specs.Read.{program_of};
 ghost use Rattle.call_groups.specs.Groups.{IsGrouping};
 ghost use Rattle.call_groups.specs.Read.{ids_of};
-ghost use Rattle.explain_rebuild.specs.Reached.{callees_at, IsReachedSite, AreReached, AreOfBoth, AreAmong, MayAdd, NamesOneOf};
+ghost use Rattle.explain_mending.specs.Mended.{AreAmong};
+ghost use Rattle.explain_rebuild.specs.Reached.{callees_at, IsReachedSite, AreReached, AreOfBoth, MayAdd, NamesOneOf};
 
 use call_groups::Groups;
 use explain_changes::Site;

@@ -4,7 +4,7 @@ use Rattle.raml_syntax.specs.Tree.{Text, Prog}
 use Rattle.raml_syntax.specs.Read.{program_of}
 use Rattle.explain_trials.specs.declared.trial.Trial.{Trial}
 use Rattle.explain_lines.specs.Read.{lines_of}
-use Rattle.explain_rebuild.specs.Sources.{findings_in}
+use Rattle.explain_mending.specs.Mended.{findings_in}
 use Rattle.explain_lines.specs.declared.bounds.Line.{Line}
 use Rattle.explain_supply.specs.declared.supplying.Supplied.{Supplied}
 use Rattle.explain_reasons.specs.Explanation.{note_in}
