@@ -33,7 +33,7 @@ use Rattle.explain_reasons.specs.declared.reason.Reason.{Reason}
 use Rattle.explain_reasons.specs.declared.reason.Reason.TheVariants as r
 use Rattle.explain_reasons.specs.declared.reason.Explained.{Explained}
 
--- values are built again at sites of the program, in functions that the group reaches by calls, and the group's values stay
+-- values are built again at sites of the program, in functions that the group reaches by calls
 pub record RebuildHelps (source : Text) (P : Prog) (found : List Findings) (most : ℕ) (group : List ℕ) (rebuilt : Rebuilt) : Type 0 where
   pub all : List Site
   pub are : sites_of all ≡ program_sites P
@@ -41,9 +41,8 @@ pub record RebuildHelps (source : Text) (P : Prog) (found : List Findings) (most
   pub among : AreAmong all sites
   pub reached : All (IsReachedSite P group) sites
   pub helps : IsRebuilt source P found most sites group rebuilt
-  pub kept : KeepValues P (program_of rebuilt.trial.typed) group
 
--- calls are written out, and the group's values stay
+-- calls are written out, and the functions of the group keep their values on made runs
 pub record InliningHelps (source : Text) (P : Prog) (found : List Findings) (most : ℕ) (group : List ℕ) (inlined : Inlined) : Type 0 where
   pub helps : IsInlined source P found most group inlined
   pub kept : KeepValues P (program_of inlined.trial.typed) group

@@ -14,7 +14,7 @@ use explain_uses::{PaidTwice, paid_twice};
 use raml_syntax::FunId;
 use std::alloc::{AllocError, Global};
 
-/// Values that are built again so that the group has bounds, where its values stay.
+/// Values that are built again so that the group has bounds.
 pub(crate) fn by_rebuilding<'s, 'a>(
     alloc: Global,
     asked: Asked<'s, 'a>,
@@ -26,16 +26,10 @@ pub(crate) fn by_rebuilding<'s, 'a>(
 {
     let program = asked.typed.program();
     let sites = reached_sites(alloc, program, asked.groups, group, asked.sites)?;
-    match rebuild(alloc, asked.original, &sites, group)? {
-        Some(rebuilt) => {
-            let kept = keeps_values(alloc, asked, &rebuilt.trial, group)?;
-            Ok(if kept { Some(rebuilt) } else { None })
-        }
-        None => Ok(None),
-    }
+    rebuild(alloc, asked.original, &sites, group)
 }
 
-/// Calls that are written out so that the group has bounds, where its values stay.
+/// Calls that are written out so that the group has bounds, where its functions keep their values on made runs.
 pub(crate) fn by_inlining<'s, 'a>(
     alloc: Global,
     asked: Asked<'s, 'a>,
