@@ -11,7 +11,7 @@ pub enum Shape {
 }
 
 /// How many cells made arguments have at most, but for the pairs of one more element.
-const MOST_CELLS: u32 = 16000;
+const MOST_CELLS: u32 = 20000;
 
 /// The most elements of an inner list or tree.
 const MOST_INNER: u32 = 8;

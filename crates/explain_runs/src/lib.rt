@@ -6,5 +6,5 @@ mod measuring;
 mod outcome;
 
 pub use agreement::agree;
-pub use measuring::measure;
+pub use measuring::{measure, parameter_types};
 pub use outcome::{Limits, Measured, Outcome};

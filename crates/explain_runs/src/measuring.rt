@@ -78,7 +78,7 @@ fn none_read(fault: DataFault) -> Result<Option<Measured>, AllocError>
 }
 
 /// The types of a function's parameters.
-fn parameter_types(alloc: Global, function: &Fun) -> Result<Vec<Ty>, AllocError>
+pub fn parameter_types(alloc: Global, function: &Fun) -> Result<Vec<Ty>, AllocError>
     ensures { IfOk result (λ types. map ty_of types.items ≡ types_of (function_of function.now)) }
 {
     let mut types = Vec::new(alloc);
