@@ -3,6 +3,7 @@
 
 mod asked;
 mod draft;
+mod plot;
 mod status;
 mod top;
 mod why;

@@ -92,6 +92,26 @@ why_chosen =
 abbrev pub why_app : App
 why_app = with_rule (with_rule why_chosen (option_rule (codes "write"))) (flag_rule (codes "force"))
 
+-- an option with one value that must be there, by its long name
+abbrev pub needed_rule : Text → Rule
+needed_rule id = record (option_rule id) { required = true }
+
+-- `-o` or `--output`, which must be there
+abbrev pub output_rule : Rule
+output_rule = record (needed_rule (codes "output")) { short = Some 111 }
+
+-- what is drawn
+abbrev pub plot_drawn : App
+plot_drawn =
+    with_rule (with_rule (with_rule (new_app (codes "plot")) (operand_rule (codes "file"))) (operand_rule (codes "name"))) (needed_rule (codes "sizes"))
+
+abbrev pub plot_chosen : App
+plot_chosen =
+    with_rule (with_rule (with_rule plot_drawn (option_rule (codes "seed"))) (option_rule (codes "degree"))) (option_rule (codes "meter"))
+
+abbrev pub plot_app : App
+plot_app = with_rule (with_rule plot_chosen output_rule) (flag_rule (codes "force"))
+
 -- the program before it has commands
 abbrev pub bare : App
 bare = on_top (λ s. record s {
@@ -106,4 +126,4 @@ abbrev pub begun : App
 begun = with_subcommand (with_subcommand bare check_app.top) bounds_app.top
 
 abbrev pub app : App
-app = with_subcommand (with_subcommand (with_subcommand begun budget_app.top) verify_app.top) why_app.top
+app = with_subcommand (with_subcommand (with_subcommand (with_subcommand begun budget_app.top) verify_app.top) why_app.top) plot_app.top

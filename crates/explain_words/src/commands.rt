@@ -1,11 +1,12 @@
 // The commands, as `clap` has them.
 ghost use Rattle.std.specs.Prelude.{◌≡◌, IfOk};
 ghost use Rattle.clap.specs.Simple.{app_of};
-ghost use Rattle.explain_words.specs.Apps.{bare, begun, app, operand_rule, perhaps_rule, option_rule, flag_rule, IsArg};
+ghost use Rattle.explain_words.specs.Apps.{bare, begun, app, operand_rule, perhaps_rule, option_rule, needed_rule, flag_rule, IsArg};
 
 mod bounds;
 mod budget;
 mod check;
+mod plot;
 mod verify;
 mod why;
 
@@ -22,7 +23,8 @@ pub fn program<'a>(alloc: Global) -> Result<Command<'a>, AllocError>
     let command = begun(alloc)?;
     let with_budget = command.subcommand(budget::command(alloc)?)?;
     let with_verify = with_budget.subcommand(verify::command(alloc)?)?;
-    with_verify.subcommand(why::command(alloc)?)
+    let with_why = with_verify.subcommand(why::command(alloc)?)?;
+    with_why.subcommand(plot::command(alloc)?)
 }
 
 // With its first commands.
@@ -67,6 +69,17 @@ fn option<'a>(alloc: Global, id: &'a str, name: &'a str, help: &'a str) -> Arg<'
     ensures { IsArg (option_rule id.entry.now) result }
 {
     Arg::new(alloc, id).long(id).value_name(name).help(help)
+}
+
+/// An option with one value that must be there, by its long name.
+fn needed<'a>(alloc: Global, id: &'a str, name: &'a str, help: &'a str) -> Arg<'a>
+    ensures { IsArg (needed_rule id.entry.now) result }
+{
+    Arg::new(alloc, id)
+        .long(id)
+        .value_name(name)
+        .help(help)
+        .required(true)
 }
 
 /// An option that is there or not.
