@@ -7,6 +7,7 @@ mod bounds;
 mod budget;
 mod check;
 mod plot;
+mod profile;
 mod verify;
 mod why;
 
@@ -24,7 +25,8 @@ pub fn program<'a>(alloc: Global) -> Result<Command<'a>, AllocError>
     let with_budget = command.subcommand(budget::command(alloc)?)?;
     let with_verify = with_budget.subcommand(verify::command(alloc)?)?;
     let with_why = with_verify.subcommand(why::command(alloc)?)?;
-    with_why.subcommand(plot::command(alloc)?)
+    let with_plot = with_why.subcommand(plot::command(alloc)?)?;
+    with_plot.subcommand(profile::command(alloc)?)
 }
 
 // With its first commands.
