@@ -1,8 +1,7 @@
 -- Functions that give the same values in two programs, on made arguments.
-use Rattle.std.specs.Prelude.{◌≡◌, ℕ, List, Some, map, length, slice_get, string_bytes}
+use Rattle.std.specs.Prelude.{◌≡◌, ℕ, List, Some, length, slice_get}
 use Rattle.std.specs.List.{All}
-use Rattle.std_alloc.specs.declared.string.String.{String}
-use Rattle.raml_syntax.specs.Tree.{Function, Prog}
+use Rattle.raml_syntax.specs.Tree.{Text, Function, Prog}
 use Rattle.raml_syntax.specs.Types.{types_of}
 use Rattle.explain_made.specs.Made.{AreArguments}
 use Rattle.explain_runs.specs.Agree.{AgreeOnAll}
@@ -17,10 +16,10 @@ run_limits = record { steps = 100000; cells = 100000 }
 pub record KeepsValue (P Q : Prog) (f : ℕ) : Type 0 where
   pub function : Function
   pub there : slice_get P f ≡ Some function
-  pub texts : List String
+  pub texts : List Text
   pub count : length texts ≡ 51
-  pub made : All (λ text. AreArguments (types_of function) (string_bytes text)) texts
-  pub agree : AgreeOnAll P Q f run_limits (map string_bytes texts)
+  pub made : All (AreArguments (types_of function)) texts
+  pub agree : AgreeOnAll P Q f run_limits texts
 
 -- each of the functions does
 abbrev pub KeepValues : Prog → Prog → List ℕ → Type 0

@@ -1,13 +1,13 @@
 // Functions that give the same values in two programs, on made arguments.
-ghost use Rattle.std.specs.Prelude.{◌≡◌, IfOk, true};
-ghost use Rattle.raml_syntax.specs.Read.{program_of};
+ghost use Rattle.std.specs.Prelude.{◌≡◌, Some, IfOk, IfSome, slice_get, true};
+ghost use Rattle.raml_syntax.specs.Read.{program_of, function_of};
 ghost use Rattle.call_groups.specs.Read.{ids_of};
 ghost use Rattle.explain_runs.specs.Measure.{CanRun};
 ghost use Rattle.explain_kept.specs.Kept.{KeepsValue, KeepValues};
 
 use explain_made::made_texts;
 use explain_runs::{Limits, agree};
-use raml_syntax::FunId;
+use raml_syntax::{Fun, FunId};
 use simple_types::Typed;
 use std::alloc::{AllocError, Global};
 
@@ -39,6 +39,13 @@ pub fn keep_values(
     }
 }
 
+/// The function at a place.
+fn function_at(typed: &Typed, fun: FunId) -> Option<&Fun>
+    ensures { IfSome result (λ function. slice_get (program_of typed.now) fun.0 ≡ Some (function_of function.now)) }
+{
+    typed.program().funs.get(fun.0 as usize)
+}
+
 /// Whether a function does so. Runs that do not end within the limits are not compared.
 fn keeps_value(
     alloc: Global,
@@ -50,7 +57,7 @@ fn keeps_value(
     requires second { CanRun (program_of second.now) }
     ensures { IfOk result (λ kept. kept ≡ true → KeepsValue (program_of first.now) (program_of second.now) fun.0) }
 {
-    let Some(function) = first.program().funs.get(fun.0 as usize) else {
+    let Some(function) = function_at(first, fun) else {
         return Ok(false);
     };
     if fun.0 as usize >= second.program().funs.len() {
