@@ -4,6 +4,7 @@ use crate::mark::Mark;
 
 /// The left and the right end of the axis of sizes.
 pub(crate) const LEFT: u32 = 660;
+
 pub(crate) const RIGHT: u32 = 5840;
 
 /// How far the first and the last size stand from these ends.
@@ -17,6 +18,7 @@ const UP: u32 = 2600;
 
 /// How far the logarithmic ranges stand from the places of zero.
 const GAP_ACROSS: u32 = 420;
+
 const GAP_UP: u32 = 220;
 
 /// Where sizes and costs stand.
@@ -40,9 +42,7 @@ impl Frame {
 
     /// How far to the right a size stands.
     pub(crate) fn x(self, size: u32) -> u32 {
-        self.sizes
-            .at(u128::from(size))
-            .saturating_add(LEFT + INSET)
+        self.sizes.at(u128::from(size)).saturating_add(LEFT + INSET)
     }
 
     /// How far down a cost stands.

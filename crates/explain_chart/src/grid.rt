@@ -20,7 +20,10 @@ pub(crate) fn push_grid(
 ) -> Result<(), AllocError> {
     push_costs(text, frame)?;
     let bottom = frame.bottom;
-    write!(text, "<path class=\"axis\" d=\"M{LEFT} {bottom}H{RIGHT}\"/>\n")?;
+    write!(
+        text,
+        "<path class=\"axis\" d=\"M{LEFT} {bottom}H{RIGHT}\"/>\n"
+    )?;
     push_sizes(text, frame, marks)?;
     let low = bottom.saturating_add(340);
     write!(

@@ -75,11 +75,7 @@ fn push_path(text: &mut String, frame: Frame, knots: &[Knot]) -> Result<(), Allo
 }
 
 /// Appends the last bound, at its place.
-pub(crate) fn push_last(
-    text: &mut String,
-    frame: Frame,
-    knots: &[Knot],
-) -> Result<(), AllocError> {
+pub(crate) fn push_last(text: &mut String, frame: Frame, knots: &[Knot]) -> Result<(), AllocError> {
     let Some(last) = knots.last() else {
         return Ok(());
     };

@@ -36,7 +36,12 @@ fn push_point(
     ensures { OnOk result ((part : Text) × IsPoint (mark_in mark.now) part × (string_bytes text.new ≡ string_bytes text.old ++ part)) }
 {
     let title = title_of(alloc, mark)?;
-    push_circle(text, frame.x(mark.size), frame.y(u128::from(mark.cost)), &title)
+    push_circle(
+        text,
+        frame.x(mark.size),
+        frame.y(u128::from(mark.cost)),
+        &title,
+    )
 }
 
 /// Appends a point with a title.
@@ -60,9 +65,7 @@ fn title_of(alloc: Global, mark: &Mark<'_>) -> Result<String, AllocError>
         bound,
     } = *mark;
     match bound {
-        Some(bound) => {
-            format!(in alloc; "size {size}, {kind}: measured {cost}, bound {bound}")
-        }
+        Some(bound) => { format!(in alloc; "size {size}, {kind}: measured {cost}, bound {bound}") }
         None => format!(in alloc; "size {size}, {kind}: measured {cost}, no bound"),
     }
 }

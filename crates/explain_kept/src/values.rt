@@ -47,12 +47,7 @@ fn function_at(typed: &Typed, fun: FunId) -> Option<&Fun>
 }
 
 /// Whether a function does so. Runs that do not end within the limits are not compared.
-fn keeps_value(
-    alloc: Global,
-    first: &Typed,
-    second: &Typed,
-    fun: FunId,
-) -> Result<bool, AllocError>
+fn keeps_value(alloc: Global, first: &Typed, second: &Typed, fun: FunId) -> Result<bool, AllocError>
     requires first { CanRun (program_of first.now) }
     requires second { CanRun (program_of second.now) }
     ensures { IfOk result (λ kept. kept ≡ true → KeepsValue (program_of first.now) (program_of second.now) fun.0) }

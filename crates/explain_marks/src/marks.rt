@@ -57,9 +57,7 @@ pub fn marks_at(
     };
     for size in sizes {
         if found.cut.is_none() {
-            add_size(
-                alloc, typed, verified, fun, meter, *size, seed, &mut found,
-            )?;
+            add_size(alloc, typed, verified, fun, meter, *size, seed, &mut found)?;
         }
     }
     Ok(found)
@@ -89,9 +87,7 @@ fn add_size(
         found.new.marks.items) }
 {
     for shape in [Shape::Random, Shape::Ascending, Shape::Descending] {
-        add_run(
-            alloc, typed, verified, fun, meter, size, shape, seed, found,
-        )?;
+        add_run(alloc, typed, verified, fun, meter, size, shape, seed, found)?;
     }
     Ok(())
 }

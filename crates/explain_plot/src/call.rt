@@ -122,4 +122,5 @@ fn tell_function(
 }
 
 /// What is said where the words give no sizes.
-const NO_SIZES: &str = "error: '--sizes <SIZES>' takes whole numbers of at most 100000 in ascending order, as 1,2,4,8\n";
+const NO_SIZES: &str =
+    "error: '--sizes <SIZES>' takes whole numbers of at most 100000 in ascending order, as 1,2,4,8\n";

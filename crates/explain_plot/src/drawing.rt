@@ -54,7 +54,9 @@ pub(crate) fn tell_degree(
 {
     match analyse(alloc, program, degree) {
         Ok(verified) => {
-            let picture = picture(alloc, typed, &verified, asked, findings, sizes, text, report)?;
+            let picture = picture(
+                alloc, typed, &verified, asked, findings, sizes, text, report,
+            )?;
             Ok(Told {
                 end: End::Told,
                 picture: Some(picture),
@@ -91,7 +93,12 @@ fn picture(
         × (string_bytes text.new ≡ string_bytes text.old ++ shown)
         × (string_bytes report.new ≡ string_bytes report.old ++ part)) }
 {
-    let Asked { fun, meter, seed, .. } = asked;
+    let Asked {
+        fun,
+        meter,
+        seed,
+        ..
+    } = asked;
     let found = marks_at(alloc, typed, verified, fun, meter, sizes, seed)?;
     push_table(text, &found.marks)?;
     push_cut(report, found.cut)?;
@@ -125,7 +132,16 @@ fn lead(
     requires { AllCanBeTold (types_of (function_of function.now)) findings.now }
 {
     let mut lines = Vec::new(alloc);
-    if push_function(alloc, &mut lines, program, function, findings, &AskedSizes::Nothing).is_err() {
+    if push_function(
+        alloc,
+        &mut lines,
+        program,
+        function,
+        findings,
+        &AskedSizes::Nothing,
+    )
+    .is_err()
+    {
         return Err(AllocError);
     }
     let place = match meter {
@@ -152,7 +168,9 @@ fn drawn(
     let name = function.name.text();
     let costs = meter_name(meter);
     let title = format!(in alloc; "Measured runs of {name}: {costs}")?;
-    let description = format!(in alloc; "A point for what each run of {name} cost in {costs}, by the size of its arguments, below a line for the bound at these arguments. Both axes are logarithmic. The title of a point tells its numbers.")?;
+    let description = format!(in alloc;
+        "A point for what each run of {name} cost in {costs}, by the size of its arguments, below a line for the bound at these arguments. Both axes are logarithmic. The title of a point tells its numbers."
+    )?;
     draw(
         alloc,
         &Chart {

@@ -31,7 +31,12 @@ fn push_rows(text: &mut String, marks: &[Mark<'_>]) -> Result<(), AllocError>
 fn push_row(text: &mut String, mark: &Mark<'_>) -> Result<(), AllocError>
     ensures { OnOk result (string_bytes text.new ≡ string_bytes text.old ++ row (mark_in mark.now)) }
 {
-    let Mark { size, kind, cost, bound } = *mark;
+    let Mark {
+        size,
+        kind,
+        cost,
+        bound,
+    } = *mark;
     write!(text, "{size}\t{cost}\t")?;
     push_bound(text, bound)?;
     push_ratio(text, bound, u128::from(cost))?;

@@ -189,7 +189,9 @@ fn tell_sized(
     let mut lines = reached_lines(alloc, &source.bytes, source.typed.program(), fun)?;
     let counted = count(alloc, case, &lines)?;
     if are_unanalysed(&counted) {
-        report.push_str("explain: no line can be counted, since a limit refuses the analyses: `explain bounds` says which\n")?;
+        report.push_str(
+            "explain: no line can be counted, since a limit refuses the analyses: `explain bounds` says which\n",
+        )?;
         return Ok(End::NotAnalysed);
     }
     if sizes.is_some() {

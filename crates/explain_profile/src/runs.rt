@@ -179,11 +179,7 @@ fn runs_in(alloc: Global, case: Case<'_>, typed: &Typed) -> Result<Runs, AllocEr
 }
 
 /// How often the region that begins there is run at most.
-pub(crate) fn runs_of_region(
-    alloc: Global,
-    case: Case<'_>,
-    region: Pos,
-) -> Result<Runs, AllocError>
+pub(crate) fn runs_of_region(alloc: Global, case: Case<'_>, region: Pos) -> Result<Runs, AllocError>
     requires least { 1 ≤ case.most }
     requires most { case.most ≤ 4 }
     ensures { IfOk result (AreRunsAt (case_of case.entry) region.0) }

@@ -103,11 +103,13 @@ pub fn rebuild<'s, 'a>(
     let sites = first_sites(alloc, original, sites)?;
     let rebuilding = Rebuilding { original };
     match mend(alloc, &rebuilding, original.found, group, &sites)? {
-        Some(Mended {
-            changes: sites,
-            trial,
-            lines,
-        }) => Ok(Some(Rebuilt {
+        Some(
+            Mended {
+                changes: sites,
+                trial,
+                lines,
+            },
+        ) => Ok(Some(Rebuilt {
             sites,
             trial,
             lines,

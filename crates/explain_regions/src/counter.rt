@@ -66,11 +66,7 @@ fn removed(alloc: Global, first: &Piece<'_>, last: &Piece<'_>) -> Result<Edit, A
 }
 
 /// The edits that put a counter in the region that begins there.
-fn edits_for(
-    alloc: Global,
-    region: Pos,
-    tokens: &[Piece<'_>],
-) -> Result<Vec<Edit>, AllocError>
+fn edits_for(alloc: Global, region: Pos, tokens: &[Piece<'_>]) -> Result<Vec<Edit>, AllocError>
     ensures { IfOk result (λ edits. edits_of edits.items ≡ c.edits region.0 (pieces tokens.now)) }
 {
     let mut edits = Vec::new(alloc);
@@ -113,11 +109,7 @@ pub fn counter_edits(
 }
 
 /// The same of a text.
-fn edits_in_text(
-    alloc: Global,
-    text: &str,
-    region: Pos,
-) -> Result<Option<Vec<Edit>>, AllocError>
+fn edits_in_text(alloc: Global, text: &str, region: Pos) -> Result<Option<Vec<Edit>>, AllocError>
     requires utf8 { IsUtf8 text.now }
     requires short { length text.now < 2 ^ 31 }
     ensures { IfOk result (λ found. IfSome found (λ edits. AreCounterEdits text.now region.0 (edits_of edits.items))) }

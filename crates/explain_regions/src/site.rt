@@ -150,12 +150,7 @@ fn push_node(
 
 /// Adds a call.
 #[cycle(push_sites)]
-fn push_call(
-    found: &mut Vec<Site>,
-    at: Pos,
-    region: Pos,
-    args: &[Expr],
-) -> Result<(), AllocError>
+fn push_call(found: &mut Vec<Site>, at: Pos, region: Pos, args: &[Expr]) -> Result<(), AllocError>
     ensures { OnOk result (sites_of found.new.items
         ≡ sites_of found.old.items ++ (r.site at.0 region.0 0 0 ∷ all_sites region.0 (terms_of args.now))) }
 {

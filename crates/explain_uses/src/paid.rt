@@ -62,11 +62,13 @@ pub fn paid_twice<'s, 'a>(
     let all = reached_uses(alloc, original.program, groups, group, uses)?;
     let emptying = Emptying { original };
     match mend(alloc, &emptying, original.found, group, &all)? {
-        Some(Mended {
-            changes: uses,
-            trial,
-            lines,
-        }) => Ok(Some(PaidTwice { uses, trial, lines })),
+        Some(
+            Mended {
+                changes: uses,
+                trial,
+                lines,
+            },
+        ) => Ok(Some(PaidTwice { uses, trial, lines })),
         None => Ok(None),
     }
 }

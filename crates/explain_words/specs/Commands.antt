@@ -151,6 +151,7 @@ pub record ArePlot (rows : List Row) (asked : PlotWords) : Type 0 where
 abbrev pub MeansPlot : List Row → Request → Type 0
 MeansPlot rows (Plot asked) = ArePlot rows asked
 MeansPlot rows other = ⊥
+
 -- what `profile` asks for
 pub record AreProfile (rows : List Row) (asked : ProfileWords) : Type 0 where
   pub function : first_of (codes "function") rows ≡ Some asked.function.now

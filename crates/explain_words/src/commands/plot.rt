@@ -13,15 +13,13 @@ pub fn command<'a>(alloc: Global) -> Result<Command<'a>, AllocError>
     ensures local { IfOk result (λ command. (fields_of command).has_globals ≡ false) }
 {
     let command = chosen(alloc)?;
-    let with_output = command.arg(
-        needed(
-            alloc,
-            "output",
-            "FILE.svg",
-            "Writes the picture to this file",
-        )
-        .short('o'),
-    )?;
+    let with_output = command.arg(needed(
+        alloc,
+        "output",
+        "FILE.svg",
+        "Writes the picture to this file",
+    )
+    .short('o'))?;
     with_output.arg(flag(
         alloc,
         "force",
@@ -71,12 +69,7 @@ fn drawn<'a>(alloc: Global) -> Result<Command<'a>, AllocError>
         "FILE",
         "The source of a program, of at most 1048576 bytes",
     ))?;
-    let with_name = with_file.arg(operand(
-        alloc,
-        "name",
-        "NAME",
-        "The function that is run",
-    ))?;
+    let with_name = with_file.arg(operand(alloc, "name", "NAME", "The function that is run"))?;
     with_name.arg(needed(
         alloc,
         "sizes",
