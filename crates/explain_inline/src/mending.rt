@@ -10,7 +10,7 @@ use crate::headers::same_headers;
 use crate::text::inlined_text;
 use call_groups::Groups;
 use explain_lines::{Line, mended_lines, mends_group};
-use explain_rebuild::{Original, callees};
+use explain_mending::{Original, callees};
 use explain_trials::{Trial, trial_of, typed_text};
 use raml_syntax::FunId;
 use simple_types::Typed;

@@ -6,7 +6,7 @@ use crate::numbers::greatest_number;
 use crate::stretch::{Stretch, body_stretch, ending_at, starting};
 use call_groups::Groups;
 use explain_check::MOST_BYTES;
-use explain_rebuild::callees;
+use explain_mending::callees;
 use explain_written::written_out;
 use raml_lex::{LexFault, Token, tokens};
 use raml_syntax::{Fun, FunId, Program};

@@ -4,6 +4,10 @@
 mod attempt;
 mod fewer;
 mod mended;
+mod original;
+mod reach;
 
 pub use attempt::Attempt;
 pub use mended::{Mended, mend};
+pub use original::Original;
+pub use reach::{callees, reached};

@@ -17,7 +17,7 @@ use Rattle.explain_at.specs.declared.fault.WordFault.{WordFault}
 use Rattle.explain_calls.specs.Sizes.{given_in}
 use Rattle.explain_calls.specs.declared.end.End.{End}
 use Rattle.explain_calls.specs.declared.end.End.TheVariants as e
-use Rattle.explain_rebuild.specs.Reached.{AreReached}
+use Rattle.explain_mending.specs.Reached.{AreReached}
 use Rattle.explain_regions.specs.Lines as l
 use Rattle.explain_regions.specs.declared.line.Line.{Line}
 use Rattle.explain_regions.specs.Read.{plain_lines}

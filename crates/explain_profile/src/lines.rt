@@ -7,7 +7,7 @@ ghost use Rattle.explain_profile.specs.Rows.{lines_if, lines_of};
 ghost use Rattle.explain_profile.specs.Calls.{AreReachedLines};
 
 use call_groups::group_calls;
-use explain_rebuild::reached;
+use explain_mending::reached;
 use explain_regions::{Line, lines};
 use explain_rounds::is_in;
 use raml_syntax::{Fun, FunId, Program};

@@ -3,15 +3,14 @@ ghost use Rattle.std.specs.Prelude.{◌≡◌, ◌≤◌, length, IfOk, IfSome, 
 ghost use Rattle.raml_syntax.specs.Read.{program_of};
 ghost use Rattle.call_groups.specs.Read.{ids_of};
 ghost use Rattle.explain_mending.specs.Mended.{AreAmong};
-ghost use Rattle.explain_rebuild.specs.Reached.{MayAdd};
+ghost use Rattle.explain_mending.specs.Reached.{MayAdd};
 ghost use Rattle.explain_rebuild.specs.Rebuilt.{IsRebuilt};
 ghost use Rattle.explain_rebuild.specs.Sources.{IsTried};
 
 use crate::changed::{changed_source, try_sites};
-use crate::original::Original;
 use explain_changes::Site;
 use explain_lines::Line;
-use explain_mending::{Attempt, Mended, mend};
+use explain_mending::{Attempt, Mended, Original, mend};
 use explain_trials::Trial;
 use raml_syntax::FunId;
 use std::alloc::{AllocError, Global};

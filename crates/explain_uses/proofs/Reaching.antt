@@ -3,7 +3,7 @@ use Rattle.std.proofs.Common.{ℕ, List}
 use Rattle.std.proofs.lemmas.List.Elements.{All-contains}
 use Rattle.raml_syntax.specs.Tree.{Prog}
 use Rattle.raml_syntax.specs.declared.program.FunId.{FunId}
-use Rattle.explain_rebuild.specs.Reached.{IsReached, AreReached}
+use Rattle.explain_mending.specs.Reached.{IsReached, AreReached}
 use Rattle.explain_uses.specs.Reached.{IsReachedUse, NamesOneOf}
 use Rattle.explain_uses.specs.declared.later.LaterUse.{LaterUse}
 

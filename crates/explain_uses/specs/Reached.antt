@@ -4,7 +4,7 @@ use Rattle.std.specs.List.{Contains}
 use Rattle.raml_syntax.specs.Tree.{Prog}
 use Rattle.raml_syntax.specs.Place.{place_of}
 use Rattle.raml_syntax.specs.declared.program.FunId.{FunId}
-use Rattle.explain_rebuild.specs.Reached.{IsReached}
+use Rattle.explain_mending.specs.Reached.{IsReached}
 use Rattle.explain_uses.specs.declared.later.LaterUse.{LaterUse}
 
 -- the use is in a function of the group, or in one that it reaches by calls

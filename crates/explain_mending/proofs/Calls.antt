@@ -3,14 +3,13 @@ use Rattle.std.proofs.Common.{◌≡◌, sym, ap, ◌∙◌, ◌⊎◌, ⊎_elim
 use Rattle.std.proofs.lemmas.List.{length-map, get_or-map}
 use Rattle.std.specs.List.{All, Contains, range_with_len}
 use Rattle.std.proofs.lemmas.List.Elements.{All-weaker, All-contains, All-contains_itself, All-nil, All-cons, All-head, All-tail, All-same, filter_passes}
-use Rattle.explain_changes.specs.declared.site.Site.{Site}
 use Rattle.raml_syntax.specs.Tree.{Function, Prog}
 use Rattle.raml_syntax.specs.declared.program.FunId.{FunId}
 use Rattle.call_groups.specs.Calls.{calls, calls_from, calls_of, callees, is_called}
 use Rattle.call_groups.specs.Groups.{here, there, Grouping, IsGrouping}
 use Rattle.call_groups.specs.Read.{ids_of}
 use Rattle.call_groups.proofs.Leads.{reaches_more}
-use Rattle.explain_rebuild.specs.Reached.{callees_at, IsReached, IsReachedSite, NamesOneOf, AreReached, AreOfBoth}
+use Rattle.explain_mending.specs.Reached.{callees_at, IsReached, AreReached, AreOfBoth}
 
 -- what stands among the callees of a function is called by it
 called_at : (P : Prog) (all : List Function) (f : ℕ) → All (λ g. calls_from P (slice_get all f) g ≡ true) (callees_at (map (λ (h : Function). callees P h.body) all) f)
@@ -66,7 +65,3 @@ reached_more P group groups old fun funs new is are one same both =
     All-weaker (λ f. Contains old f ⊎ Contains funs f) (λ (f : FunId). IsReached P group f.0)
     (λ f c. ⊎_elim (λ o. All-contains (λ (f : FunId). IsReached P group f.0) old f are o)
     (λ n. reached_next P group fun.0 f.0 here (called_one P groups fun.0 funs f is same n)) c) new both
-
-pub site_reached : (P : Prog) (group : List ℕ) (funs : List FunId) (site : Site) → AreReached P group funs → NamesOneOf P site funs → IsReachedSite P group site
-site_reached P group funs site are names =
-    record { fun = names.fun.0; named = names.named; reached = All-contains (λ (f : FunId). IsReached P group f.0) funs names.fun are names.one }

@@ -1,8 +1,8 @@
 use Rattle.std.proofs.Common.{subst, sym}
 use Rattle.call_groups.specs.Read.{ids_of}
-use Rattle.explain_rebuild.specs.Reached.{AreReached}
-use Rattle.explain_rebuild.proofs.Calls.{of_group}
-use Rattle.explain_rebuild.proofs.reach.reached.Goals as goal
+use Rattle.explain_mending.specs.Reached.{AreReached}
+use Rattle.explain_mending.proofs.Calls.{of_group}
+use Rattle.explain_mending.proofs.reach.reached.Goals as goal
 
 pub loop-place-init : goal.loop-place-init
 loop-place-init c P is = subst (AreReached P (ids_of c.args.group.now)) (sym c.in_ok-found.ensures.items) (of_group P c.args.group.now)

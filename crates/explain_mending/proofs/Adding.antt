@@ -2,9 +2,7 @@
 use Rattle.std.proofs.Common.{◌≡◌, sym, subst, inl, inr, ◌<◌, ℕ, List, [], ◌∷◌, ◌++◌, length, Option, Some, None, Result, Ok, Err, IfOk, IfSome, slice_index_or}
 use Rattle.std.specs.List.{All, Contains}
 use Rattle.std.proofs.lemmas.List.Elements.{All-push, All-same, Contains-get_or}
-use Rattle.explain_changes.specs.declared.site.Site.{Site}
-use Rattle.explain_mending.specs.Mended.{AreAmong}
-use Rattle.explain_rebuild.specs.Reached.{MayAdd}
+use Rattle.explain_mending.specs.Reached.{MayAdd}
 
 -- what holds of all holds of one more
 pub all_with : {A : Type 0} (P : A → Type 0) (IsSo : Type 0) (x : A) (old new : List A) → All P old → (IsSo → P x) → MayAdd IsSo x old new → All P new
@@ -14,13 +12,6 @@ all_with P IsSo x old new are so (inr added) = All-same P new (old ++ x ∷ []) 
 -- an item at a place of a list
 pub at_place : {A : Type 0} (all : List A) (k : ℕ) (x : A) → k < length all → x ≡ slice_index_or all k x → Contains all x
 at_place all k x within is = subst (Contains all) (sym is) (Contains-get_or all k x within)
-
--- what has these items has those that are among others
-pub some_among : (sites items : List Site) {S E : Type 0} (r : Result (Option S) E) (read : S → List Site) → AreAmong sites items →
-    IfOk r (λ o. IfSome o (λ s. read s ≡ items)) → IfOk r (λ o. IfSome o (λ s. AreAmong sites (read s)))
-some_among sites items (Ok (Some s)) read are same = All-same (Contains sites) (read s) items same are
-some_among sites items (Ok None) read are same = tt
-some_among sites items (Err e) read are same = tt
 
 -- of what there may be
 pub from_some : {S E : Type 0} (r : Result (Option S) E) (P Q : S → Type 0) → ((s : S) → P s → Q s) → IfOk r (λ o. IfSome o P) → IfOk r (λ o. IfSome o Q)

@@ -1,8 +1,8 @@
 use Rattle.std.proofs.Common.{◌⊎◌, inl, inr}
 use Rattle.std.specs.List.{Contains}
 use Rattle.std.proofs.lemmas.List.Elements.{All-weaker, All-contains_itself, Contains-get_or}
-use Rattle.explain_rebuild.proofs.Adding.{all_with}
-use Rattle.explain_rebuild.proofs.reach.add_all_new.Goals as goal
+use Rattle.explain_mending.proofs.Adding.{all_with}
+use Rattle.explain_mending.proofs.reach.add_all_new.Goals as goal
 
 pub loop-fun-init : goal.loop-fun-init
 loop-fun-init c =

@@ -1,9 +1,9 @@
 use Rattle.std.proofs.Common.{subst}
 use Rattle.std.specs.List.{Contains}
 use Rattle.std.proofs.lemmas.Result.{on_ok_weaker}
-use Rattle.explain_rebuild.proofs.Calls.{reached_more}
-use Rattle.explain_rebuild.proofs.Adding.{at_place}
-use Rattle.explain_rebuild.proofs.reach.add_called.Goals as goal
+use Rattle.explain_mending.proofs.Calls.{reached_more}
+use Rattle.explain_mending.proofs.Adding.{at_place}
+use Rattle.explain_mending.proofs.reach.add_called.Goals as goal
 
 pub returns-in-Some : goal.returns-in-Some
 returns-in-Some c =

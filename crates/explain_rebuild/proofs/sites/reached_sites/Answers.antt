@@ -3,9 +3,9 @@ use Rattle.std.specs.List.{Contains}
 use Rattle.raml_syntax.specs.Read.{program_of}
 use Rattle.call_groups.specs.Read.{ids_of}
 use Rattle.explain_rebuild.specs.Reached.{IsReachedSite, NamesOneOf}
-use Rattle.explain_rebuild.proofs.Adding.{all_with, at_place}
-use Rattle.explain_rebuild.proofs.Calls.{site_reached}
-use Rattle.explain_rebuild.proofs.reach.reached_sites.Goals as goal
+use Rattle.explain_mending.proofs.Adding.{all_with, at_place}
+use Rattle.explain_rebuild.proofs.Reaching.{site_reached}
+use Rattle.explain_rebuild.proofs.sites.reached_sites.Goals as goal
 
 pub loop-site-preserved : goal.loop-site-preserved
 loop-site-preserved c =
