@@ -132,7 +132,9 @@ bare = on_top (λ s. record s {
 abbrev pub begun : App
 begun = with_subcommand (with_subcommand bare check_app.top) bounds_app.top
 
+-- with those that compare what is found with a file
+abbrev pub comparing : App
+comparing = with_subcommand (with_subcommand begun budget_app.top) verify_app.top
+
 abbrev pub app : App
-app =
-    with_subcommand (with_subcommand (with_subcommand (with_subcommand (with_subcommand begun budget_app.top) verify_app.top) why_app.top) plot_app.top)
-    profile_app.top
+app = with_subcommand (with_subcommand (with_subcommand comparing why_app.top) plot_app.top) profile_app.top

@@ -154,7 +154,9 @@ MeansPlot rows other = ⊥
 
 -- what `profile` asks for
 pub record AreProfile (rows : List Row) (asked : ProfileWords) : Type 0 where
+  pub file : first_of (codes "file") rows ≡ Some asked.file.now
   pub function : first_of (codes "function") rows ≡ Some asked.function.now
+  pub degree : degree_or_4 (first_of (codes "degree") rows) ≡ Some asked.degree
   pub at : first_of (codes "at") rows ≡ lent asked.at
 
 abbrev pub MeansProfile : List Row → Request → Type 0
