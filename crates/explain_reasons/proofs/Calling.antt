@@ -7,8 +7,8 @@ use Rattle.raml_syntax.specs.declared.program.FunId.{FunId}
 use Rattle.call_groups.specs.Groups.{Grouping, IsGrouping}
 use Rattle.call_groups.specs.Read.{ids_of}
 use Rattle.explain_degrees.specs.declared.finding.Findings.{Findings}
-use Rattle.explain_rebuild.specs.Reached.{callees_at}
-use Rattle.explain_rebuild.proofs.Calls.{called_one, contains_id, contains_of_id}
+use Rattle.explain_mending.specs.Reached.{callees_at}
+use Rattle.explain_mending.proofs.Calls.{called_one, contains_id, contains_of_id}
 use Rattle.explain_reasons.specs.Waits.{WaitsFor}
 use Rattle.explain_reasons.specs.Degrees.{CallsOfDegree}
 use Rattle.explain_reasons.specs.Read.{IsLackingOutside, IsOfDegree}

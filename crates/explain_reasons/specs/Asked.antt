@@ -1,9 +1,9 @@
 -- What the code has of what is asked about, as plain data.
 use Rattle.std.specs.Prelude.{◌≡◌, ◌≤◌, List, length}
 use Rattle.raml_syntax.specs.Tree.{Text, Prog}
-use Rattle.raml_syntax.specs.Node.{WithinLimits}
 use Rattle.raml_syntax.specs.Read.{program_of}
 use Rattle.call_groups.specs.Groups.{IsGrouping}
+use Rattle.explain_check.specs.Checks.{IsProgramOf}
 use Rattle.explain_changes.specs.Sites.{program_sites}
 use Rattle.explain_changes.specs.Read.{sites_of}
 use Rattle.explain_uses.specs.Uses.{program_uses}
@@ -23,7 +23,7 @@ found_in asked = asked.original.found.now
 -- the parts fit each other
 pub record IsAsked (asked : Asked) : Type 0 where
   pub program : asked.original.program.now ≡ asked.typed.now
-  pub limits : WithinLimits (program_in asked)
+  pub spelled : IsProgramOf (source_in asked) (program_in asked)
   pub count : length (found_in asked) ≡ length (program_in asked)
   pub degree : asked.original.most ≤ 4
   pub grouping : IsGrouping (program_in asked) asked.groups.now

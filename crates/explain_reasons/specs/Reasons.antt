@@ -2,6 +2,7 @@
 use Rattle.std.specs.Prelude.{◌≡◌, ℕ, List, Some, IfSome}
 use Rattle.std.specs.List.{All}
 use Rattle.raml_syntax.specs.Tree.{Text, Prog}
+use Rattle.raml_syntax.specs.Read.{program_of}
 use Rattle.call_groups.specs.Read.{ids_of}
 use Rattle.explain_changes.specs.Sites.{program_sites}
 use Rattle.explain_changes.specs.Read.{sites_of}
@@ -11,9 +12,13 @@ use Rattle.explain_rounds.specs.Found.{pairs_of}
 use Rattle.explain_rounds.specs.declared.idle.Kind.TheVariants.{Computed}
 use Rattle.explain_degrees.specs.declared.finding.Findings.{Findings}
 use Rattle.explain_lines.specs.Lines.{first_lacking}
-use Rattle.explain_rebuild.specs.Reached.{IsReachedSite, AreAmong}
+use Rattle.explain_mending.specs.Mended.{AreAmong}
+use Rattle.explain_rebuild.specs.Reached.{IsReachedSite}
 use Rattle.explain_rebuild.specs.Rebuilt.{IsRebuilt}
 use Rattle.explain_rebuild.specs.declared.mending.Rebuilt.{Rebuilt}
+use Rattle.explain_inline.specs.Inlined.{IsInlined}
+use Rattle.explain_inline.specs.declared.mending.Inlined.{Inlined}
+use Rattle.explain_kept.specs.Kept.{KeepValues}
 use Rattle.explain_supply.specs.Supply.{IsSupplied}
 use Rattle.explain_uses.specs.Uses.{program_uses}
 use Rattle.explain_uses.specs.Read.{uses_of}
@@ -37,6 +42,11 @@ pub record RebuildHelps (source : Text) (P : Prog) (found : List Findings) (most
   pub reached : All (IsReachedSite P group) sites
   pub helps : IsRebuilt source P found most sites group rebuilt
 
+-- calls are written out, and the functions of the group keep their values on made runs
+pub record InliningHelps (source : Text) (P : Prog) (found : List Findings) (most : ℕ) (group : List ℕ) (inlined : Inlined) : Type 0 where
+  pub helps : IsInlined source P found most group inlined
+  pub kept : KeepValues P (program_of inlined.trial.typed) group
+
 -- later uses of the program have to be paid for, in functions that the group reaches by calls
 pub record UsesArePaid (source : Text) (P : Prog) (found : List Findings) (most : ℕ) (group : List ℕ) (paid : PaidTwice) : Type 0 where
   pub uses : List LaterUse
@@ -48,6 +58,7 @@ abbrev pub IsReason : Text → Prog → List Findings → ℕ → List ℕ → R
 IsReason source P found most group (r.Waits callee stuck) =
     WaitsFor P found group callee.0 × AreStuckOrNone P group most (calls_of stuck.items)
 IsReason source P found most group (r.Rebuild rebuilt) = RebuildHelps source P found most group rebuilt
+IsReason source P found most group (r.Inline inlined) = InliningHelps source P found most group inlined
 IsReason source P found most group (r.Stuck calls supplied) =
     AreStuck P group most (calls_of calls.items) × IfSome supplied (IsSupplied source P most group)
 IsReason source P found most group (r.Twice pairs) = ArePairs P group most (pairs_of pairs.items)

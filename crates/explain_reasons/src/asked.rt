@@ -1,7 +1,7 @@
 // What is asked about.
 use call_groups::Groups;
 use explain_changes::Site;
-use explain_rebuild::Original;
+use explain_mending::Original;
 use explain_uses::LaterUse;
 use simple_types::Typed;
 

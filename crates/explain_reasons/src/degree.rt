@@ -9,7 +9,7 @@ ghost use Rattle.explain_reasons.specs.Read.{IsOfDegree};
 use crate::asked::Asked;
 use explain_degrees::{Finding, Findings};
 use explain_lines::is_unbounded;
-use explain_rebuild::callees;
+use explain_mending::callees;
 use raml_syntax::FunId;
 
 /// Whether there is a bound of this degree.

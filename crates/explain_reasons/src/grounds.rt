@@ -1,5 +1,5 @@
 // Why a group has no bound.
-ghost use Rattle.std.specs.Prelude.{◌≡◌, ◌<◌, length, IfOk};
+ghost use Rattle.std.specs.Prelude.{◌≡◌, ◌<◌, length, IfOk, IfSome};
 ghost use Rattle.call_groups.specs.Read.{ids_of};
 ghost use Rattle.explain_rounds.specs.Read.{calls_of};
 ghost use Rattle.explain_rounds.specs.declared.idle.Kind.TheVariants.{Stuck};
@@ -14,7 +14,7 @@ use crate::degree::callee_of_degree;
 use crate::program::HIGHEST;
 use crate::reason::Reason;
 use crate::rounds::{all_bounded, rounds_found, some_unbounded};
-use crate::trying::{by_rebuilding, by_uses, supplied};
+use crate::trying::{by_inlining, by_rebuilding, by_uses, supplied};
 use crate::waits::waits_for;
 use explain_rounds::{GroupCall, Kind};
 use raml_syntax::FunId;
@@ -98,6 +98,39 @@ fn by_parts<'s, 'a>(
     }
 }
 
+/// A change of calls by which the group has bounds.
+fn by_changes<'s, 'a>(
+    alloc: Global,
+    asked: Asked<'s, 'a>,
+    group: &[FunId],
+) -> Result<Option<Reason<'a>>, AllocError>
+    requires { IsAsked asked }
+    ensures { IfOk result (λ reason. IfSome reason (IsReason (source_in asked.entry) (program_in asked.entry) (found_in asked.entry)
+        asked.entry.original.most (ids_of group.now))) }
+{
+    match by_inlining(alloc, asked, group)? {
+        Some(inlined) => Ok(Some(Reason::Inline(inlined))),
+        None => Ok(None),
+    }
+}
+
+/// What calls at which something may get smaller tell, where their number has no bound and no change helps.
+fn by_moving_calls<'s, 'a>(
+    alloc: Global,
+    asked: Asked<'s, 'a>,
+    group: &[FunId],
+) -> Result<Reason<'a>, AllocError>
+    requires asked { IsAsked asked }
+    requires rounds { RoundsUnbounded (program_in asked) (ids_of group.now) asked.original.most }
+    ensures { IfOk result (IsReason (source_in asked.entry) (program_in asked.entry) (found_in asked.entry) asked.entry.original.most
+        (ids_of group.now)) }
+{
+    match by_changes(alloc, asked, group)? {
+        Some(reason) => Ok(reason),
+        None => by_parts(alloc, asked, group),
+    }
+}
+
 /// What the calls inside a group tell, where their number has no bound.
 fn by_calls<'s, 'a>(
     alloc: Global,
@@ -111,7 +144,7 @@ fn by_calls<'s, 'a>(
 {
     let calls = calls_of_kind(alloc, asked.typed.program(), group, Kind::Stuck)?;
     if calls.is_empty() {
-        by_parts(alloc, asked, group)
+        by_moving_calls(alloc, asked, group)
     } else {
         let supplied = supplied(alloc, asked, group)?;
         Ok(Reason::Stuck { calls, supplied })
@@ -154,6 +187,23 @@ fn by_degree<'s, 'a>(
     }
 }
 
+/// What is told where the number of calls has a bound: a change that helps, or else what they cost.
+fn by_price<'s, 'a>(
+    alloc: Global,
+    asked: Asked<'s, 'a>,
+    group: &[FunId],
+) -> Result<Reason<'a>, AllocError>
+    requires asked { IsAsked asked }
+    requires rounds { RoundsBounded (program_in asked) (ids_of group.now) asked.original.most }
+    ensures { IfOk result (IsReason (source_in asked.entry) (program_in asked.entry) (found_in asked.entry) asked.entry.original.most
+        (ids_of group.now)) }
+{
+    match by_changes(alloc, asked, group)? {
+        Some(reason) => Ok(reason),
+        None => by_degree(alloc, asked, group),
+    }
+}
+
 /// What the number of calls inside a group tells.
 fn by_rounds<'s, 'a>(
     alloc: Global,
@@ -168,7 +218,7 @@ fn by_rounds<'s, 'a>(
     if some_unbounded(&rounds.functions, group) {
         by_calls(alloc, asked, group)
     } else if all_bounded(&rounds.functions, group) {
-        by_degree(alloc, asked, group)
+        by_price(alloc, asked, group)
     } else {
         Ok(Reason::NotFound)
     }

@@ -5,6 +5,7 @@ mod asked;
 mod calls;
 mod degree;
 mod grounds;
+mod kept;
 mod note;
 mod program;
 mod reason;

@@ -16,7 +16,7 @@ use call_groups::group_calls;
 use explain_changes::sites;
 use explain_degrees::{Findings, LeastBounds};
 use explain_lines::first_lacking;
-use explain_rebuild::Original;
+use explain_mending::Original;
 use explain_trials::found_of;
 use explain_uses::later_uses;
 use raml_syntax::FunId;

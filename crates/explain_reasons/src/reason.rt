@@ -1,4 +1,5 @@
 // Reasons.
+use explain_inline::Inlined;
 use explain_rebuild::Rebuilt;
 use explain_rounds::{GroupCall, SamePart};
 use explain_supply::Supplied;
@@ -16,6 +17,8 @@ pub enum Reason<'a> {
     },
     /// It has bounds once values are built again.
     Rebuild(Rebuilt<'a>),
+    /// It has bounds once calls are written out.
+    Inline(Inlined),
     /// The number of calls inside the group has no bound, and at these nothing gets smaller. The program in which a list pays
     /// for the rounds, where that gives bounds.
     Stuck {

@@ -3,9 +3,11 @@ ghost use Rattle.std.specs.Prelude.{IfOk, IfSome};
 ghost use Rattle.call_groups.specs.Read.{ids_of};
 ghost use Rattle.explain_supply.specs.Supply.{IsSupplied};
 ghost use Rattle.explain_reasons.specs.Asked.{IsAsked, source_in, program_in, found_in};
-ghost use Rattle.explain_reasons.specs.Reasons.{RebuildHelps, UsesArePaid};
+ghost use Rattle.explain_reasons.specs.Reasons.{RebuildHelps, InliningHelps, UsesArePaid};
 
 use crate::asked::Asked;
+use crate::kept::keeps_values;
+use explain_inline::{Inlined, inline};
 use explain_rebuild::{Rebuilt, reached_sites, rebuild};
 use explain_supply::{Supplied, supply};
 use explain_uses::{PaidTwice, paid_twice};
@@ -25,6 +27,25 @@ pub(crate) fn by_rebuilding<'s, 'a>(
     let program = asked.typed.program();
     let sites = reached_sites(alloc, program, asked.groups, group, asked.sites)?;
     rebuild(alloc, asked.original, &sites, group)
+}
+
+/// Calls that are written out so that the group has bounds, where its functions keep their values on made runs.
+pub(crate) fn by_inlining<'s, 'a>(
+    alloc: Global,
+    asked: Asked<'s, 'a>,
+    group: &[FunId],
+) -> Result<Option<Inlined>, AllocError>
+    requires { IsAsked asked }
+    ensures { IfOk result (λ inlined. IfSome inlined (InliningHelps (source_in asked.entry) (program_in asked.entry)
+        (found_in asked.entry) asked.entry.original.most (ids_of group.now))) }
+{
+    match inline(alloc, asked.original, asked.groups, group)? {
+        Some(inlined) => {
+            let kept = keeps_values(alloc, asked, &inlined.trial, group)?;
+            Ok(if kept { Some(inlined) } else { None })
+        }
+        None => Ok(None),
+    }
 }
 
 /// Later uses without which it has bounds.

@@ -8,7 +8,7 @@ ghost use Rattle.explain_reasons.specs.Waits.{WaitsFor};
 use crate::asked::Asked;
 use explain_degrees::Findings;
 use explain_lines::lacks_at;
-use explain_rebuild::callees;
+use explain_mending::callees;
 use raml_syntax::FunId;
 
 /// The first of the functions that has no bound and is not of the group.

@@ -1,3 +1,1 @@
-pub mod Adding
-pub mod Calls
-mod Trying
+mod Reaching

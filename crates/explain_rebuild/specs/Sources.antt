@@ -1,5 +1,5 @@
 -- Sources in which values are built again.
-use Rattle.std.specs.Prelude.{◌≡◌, ℕ, List, map, true}
+use Rattle.std.specs.Prelude.{◌≡◌, ℕ, List, map}
 use Rattle.raml_syntax.specs.Tree.{Text, Prog}
 use Rattle.raml_syntax.specs.Read.{program_of}
 use Rattle.explain_check.specs.Checks.{IsProgramOf}
@@ -11,8 +11,6 @@ use Rattle.explain_changes.specs.Sites.{changed_program}
 use Rattle.explain_changes.specs.Same.{SameProgram}
 use Rattle.explain_changes.specs.Read.{sites_of, bytes_of}
 use Rattle.explain_changes.specs.declared.site.Site.{Site}
-use Rattle.explain_degrees.specs.declared.finding.Findings.{Findings}
-use Rattle.explain_lines.specs.Mended.{Line, has_bounds}
 
 -- The text is the source in which the values at these sites are built again, and it spells the program that is meant, places
 -- aside.
@@ -25,11 +23,3 @@ pub record IsChangedSource (source : Text) (P : Prog) (sites : List Site) (text 
 pub record IsTried (source : Text) (P : Prog) (most : ℕ) (sites : List Site) (trial : Trial) : Type 0 where
   pub changed : IsChangedSource source P sites trial.text.items (program_of trial.typed)
   pub analysed : IsTrialOf most trial
-
-abbrev pub findings_in : Trial → List Findings
-findings_in trial = trial.found.functions.items
-
--- and there are bounds of all these lines
-pub record Keeps (source : Text) (P : Prog) (most : ℕ) (lines : List Line) (sites : List Site) (trial : Trial) : Type 0 where
-  pub tried : IsTried source P most sites trial
-  pub bounds : has_bounds (findings_in trial) lines ≡ true

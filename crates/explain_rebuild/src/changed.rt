@@ -7,8 +7,8 @@ ghost use Rattle.explain_changes.specs.Edits.{edit};
 ghost use Rattle.explain_changes.specs.Read.{sites_of};
 ghost use Rattle.explain_rebuild.specs.Sources.{IsChangedSource, IsTried};
 
-use crate::original::Original;
 use explain_changes::{Site, changed_text, is_changed};
+use explain_mending::Original;
 use explain_trials::{Trial, trial_of, typed_text};
 use simple_types::Typed;
 use std::alloc::{AllocError, Global};

@@ -3,10 +3,7 @@
 
 mod changed;
 mod mending;
-mod original;
-mod reach;
-mod reduce;
+mod sites;
 
 pub use mending::{Rebuilt, rebuild};
-pub use original::Original;
-pub use reach::{callees, reached, reached_sites};
+pub use sites::reached_sites;

@@ -79,6 +79,13 @@ why_waiting P callee = codes "it calls `" ++ (name_at P callee ++ codes "`, whic
 abbrev pub of_waiting : Prog → ℕ → ℕ → List Sentence
 of_waiting P f callee = at_function P f (why_waiting P callee)
 
+-- its calls of another one are written out
+abbrev pub why_inlined : Prog → ℕ → Text
+why_inlined P callee = codes "there is a bound once its calls of `" ++ (name_at P callee ++ codes "` are written out")
+
+abbrev pub of_inlined : Prog → ℕ → ℕ → ℕ → List Sentence
+of_inlined P f caller callee = unbounded P f (begin_of P caller) (why_inlined P callee) ∷ []
+
 abbrev pub why_degree : Prog → ℕ → ℕ → Text
 why_degree P callee degree =
     codes "it calls `" ++ (name_at P callee ++ (codes "`, whose bound has degree " ++ (decimal degree

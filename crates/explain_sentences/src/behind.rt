@@ -24,6 +24,8 @@ pub fn closing(reason: &Reason<'_>) -> &'static str
         Reason::Waits { callee: _, stuck } => of_stuck(stuck),
         Reason::Rebuild(_) =>
             "The analysis loses track of a value that is used whole beside its parts.\n",
+        Reason::Inline(_) =>
+            "A result that hides which value it holds, as an option may, is paid for in every case; written out, each case pays for its own.\n",
         Reason::Stuck { calls, .. } => of_stuck(calls),
         Reason::Twice(_) =>
             "The number of calls doubles with each part, and no polynomial bounds that.\n",

@@ -9,6 +9,7 @@ use crate::call::{add_calls, add_pairs};
 use crate::sentence::{Sentence, begin_of, unbounded};
 use crate::site::add_sites;
 use crate::twice::add_uses;
+use explain_inline::Inlined;
 use explain_reasons::{Explained, Reason};
 use raml_syntax::{FunId, Program};
 use report_text::name_at;
@@ -83,6 +84,31 @@ fn add_degree(
     add_at_function(alloc, sentences, program, fun, &why)
 }
 
+/// Why one has a bound once its calls of another one are written out.
+fn why_inlined(alloc: Global, program: &Program, callee: FunId) -> Result<String, AllocError>
+    ensures { IfOk result (λ why. string_bytes why ≡ s.why_inlined (program_of program.now) callee.0) }
+{
+    let callee = name_at(program, callee);
+    format!(in alloc; "there is a bound once its calls of `{callee}` are written out")
+}
+
+/// Adds that calls are written out in one function of the group.
+fn add_inlined(
+    alloc: Global,
+    sentences: &mut Vec<Sentence>,
+    program: &Program,
+    fun: FunId,
+    inlined: &Inlined,
+) -> Result<(), AllocError>
+    ensures { OnOk result (sentences_of sentences.new.items ≡ sentences_of sentences.old.items
+        ++ s.of_inlined (program_of program.now) fun.0 inlined.now.caller.0 inlined.now.callee.0) }
+{
+    let why = why_inlined(alloc, program, inlined.callee)?;
+    let begin = begin_of(program, inlined.caller);
+    sentences.push(unbounded(alloc, program, fun, begin, &why)?)?;
+    Ok(())
+}
+
 /// Adds the sentences of a reason of a function.
 fn add_reason(
     alloc: Global,
@@ -100,6 +126,7 @@ fn add_reason(
             add_calls(alloc, sentences, program, fun, stuck)
         }
         Reason::Rebuild(rebuilt) => add_sites(alloc, sentences, program, fun, &rebuilt.sites),
+        Reason::Inline(inlined) => add_inlined(alloc, sentences, program, fun, inlined),
         Reason::Stuck { calls, .. } => add_calls(alloc, sentences, program, fun, calls),
         Reason::Twice(pairs) => add_pairs(alloc, sentences, program, fun, pairs),
         Reason::Computed { calls, .. } => add_calls(alloc, sentences, program, fun, calls),

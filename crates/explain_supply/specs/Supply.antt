@@ -8,7 +8,7 @@ use Rattle.explain_edits.specs.Edits.{Edit, with_edits}
 use Rattle.explain_lines.specs.Mended.{Line, has_bounds}
 use Rattle.explain_lines.specs.Read.{lines_of}
 use Rattle.explain_trials.specs.Read.{IsTrialOf}
-use Rattle.explain_rebuild.specs.Sources.{findings_in}
+use Rattle.explain_mending.specs.Mended.{findings_in}
 use Rattle.explain_supply.specs.Names.{names_at, AreFresh}
 use Rattle.explain_supply.specs.Insertions.{edits}
 use Rattle.explain_supply.specs.declared.supplying.Supplied.{Supplied}

@@ -10,7 +10,7 @@ use crate::group::Group;
 use crate::source::{RoundEdits, round_edits};
 use cost_free::Meter;
 use explain_lines::{Line, has_bounds};
-use explain_rebuild::Original;
+use explain_mending::Original;
 use explain_trials::{Trial, try_edits};
 use raml_syntax::FunId;
 use std::alloc::{AllocError, Global};

@@ -24,12 +24,14 @@ use Rattle.explain_verify.specs.declared.verification.Verification.{Verification
 use Rattle.explain_verify.specs.declared.verification.Verification.TheVariants as o
 use Rattle.explain_words.specs.Asking.{Asks, AsksToShow, AsksNothing}
 use Rattle.explain_words.specs.declared.request.Request.{Request}
-use Rattle.explain_words.specs.declared.request.Request.TheVariants.{Check, CheckData, Bounds, Budget, WriteBudget, Verify, Why, Plot}
+use Rattle.explain_words.specs.declared.request.Request.TheVariants.{Check, CheckData, Bounds, Budget, WriteBudget, Verify, Why, Plot, Profile}
 use Rattle.explain_words.specs.declared.request.bounds.BoundsWords.{BoundsWords}
 use Rattle.explain_words.specs.declared.request.plot.PlotWords.{PlotWords}
 use Rattle.explain_words.specs.declared.request.why.WhyWords.{WhyWords}
 use Rattle.explain_words.specs.declared.request.why.Written.{Written}
 use Rattle.explain_plot.specs.Calls as plot
+use Rattle.explain_words.specs.declared.request.profile.ProfileWords.{ProfileWords}
+use Rattle.explain_profile.specs.Calls as profile
 use Rattle.explain_why.specs.Calls as why
 use Rattle.explain_why.specs.Outcome.{Outcome}
 use Rattle.explain_top.specs.Shelves.{Shelf, KeepsFiles, LeavesFile, HasFile, FailsToLeave}
@@ -116,6 +118,10 @@ IsBudgetTold store file bounds degree json columns out err status =
 -- whether a certificate holds of a program
 abbrev pub IsVerified : Store → Text → Text → Sink → Sink → Status → Type 0
 IsVerified store file certificate out err status = Tells (verify.CallIs store file certificate) status_of_verification out err status
+
+-- how often lines of a program are run at most
+abbrev pub IsProfileTold : Store → ProfileWords → Sink → Sink → Status → Type 0
+IsProfileTold store words out err status = Tells (profile.CallIs store words) status_at out err status
 
 -- ---- a file of bounds that is left
 
@@ -216,6 +222,7 @@ IsAnswer store shelf (Verify file certificate) columns out err status =
     IsVerified store file.now certificate.now out err status × KeepsFiles shelf
 IsAnswer store shelf (Why words) columns out err status = IsWhyTold store shelf words out err status
 IsAnswer store shelf (Plot words) columns out err status = IsPlotTold store shelf words out err status
+IsAnswer store shelf (Profile words) columns out err status = IsProfileTold store words out err status × KeepsFiles shelf
 
 -- ---- whole calls
 

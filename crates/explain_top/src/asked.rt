@@ -10,6 +10,7 @@ ghost use Rattle.explain_top.specs.Sinks.{sink_of, Writes};
 
 use crate::draft::leave_draft;
 use crate::plot::plot;
+use crate::profile::profile;
 use crate::status::Status;
 use crate::why::why;
 use explain_budget::tell_budget;
@@ -70,6 +71,7 @@ pub fn answer<S: Store, W: Shelf, O: Sink, E: Sink>(
         }
         Request::Why(words) => why(alloc, words, store, shelf, out, err),
         Request::Plot(words) => plot(alloc, words, store, shelf, out, err),
+        Request::Profile(words) => profile(alloc, words, store, out, err),
     }
 }
 

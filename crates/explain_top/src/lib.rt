@@ -4,6 +4,7 @@
 mod asked;
 mod draft;
 mod plot;
+mod profile;
 mod status;
 mod top;
 mod why;

@@ -7,7 +7,6 @@ mod first;
 mod later;
 mod paid;
 mod reach;
-mod reduce;
 mod trying;
 mod walk;
 

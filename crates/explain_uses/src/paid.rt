@@ -1,19 +1,16 @@
 // Values that are used twice.
-ghost use Rattle.std.specs.Prelude.{◌≡◌, ◌≤◌, length, IfOk, IfSome, true};
+ghost use Rattle.std.specs.Prelude.{◌≡◌, ◌≤◌, length, IfOk, IfSome};
 ghost use Rattle.raml_syntax.specs.Read.{program_of};
 ghost use Rattle.call_groups.specs.Groups.{IsGrouping};
 ghost use Rattle.call_groups.specs.Read.{ids_of};
-ghost use Rattle.explain_lines.specs.Mended.{has_bounds, mended_lines};
-ghost use Rattle.explain_uses.specs.Paid.{IsTried, IsMended, IsPaid, IsPaidTwice, findings_in};
+ghost use Rattle.explain_uses.specs.Paid.{IsTried, IsPaidTwice};
 
 use crate::later::LaterUse;
 use crate::reach::reached_uses;
-use crate::reduce::reduce;
 use crate::trying::try_uses;
 use call_groups::Groups;
-use explain_lines::laws::{groups_stay_mended, mended_lines_have_bounds};
-use explain_lines::{Line, mended_lines, mends_group};
-use explain_rebuild::Original;
+use explain_lines::Line;
+use explain_mending::{Attempt, Mended, Original, mend};
 use explain_trials::Trial;
 use raml_syntax::FunId;
 use std::alloc::{AllocError, Global};
@@ -27,6 +24,21 @@ pub struct PaidTwice<'a> {
     pub trial: Trial,
     /// The functions and meters that had no bound, and have one so.
     pub lines: Vec<Line>,
+}
+
+/// A program in which later uses may be emptied.
+struct Emptying<'s, 'a> {
+    original: Original<'s, 'a>,
+}
+
+impl<'s, 'a> Attempt<LaterUse<'a>> for Emptying<'s, 'a> {
+    ghost is_ready = { λ e. e.original.most ≤ 4 };
+
+    ghost tried = { λ e. IsTried e.original.source.now (program_of e.original.program.now) e.original.most };
+
+    fn attempt(&self, alloc: Global, uses: &[LaterUse<'a>]) -> Result<Option<Trial>, AllocError> {
+        try_uses(alloc, self.original, uses)
+    }
 }
 
 /// Later uses that have to be paid for: where all of those in the group, and in what it reaches by calls, are emptied, each
@@ -47,74 +59,15 @@ pub fn paid_twice<'s, 'a>(
         original.entry.found.now original.entry.most uses.now (ids_of group.now))) }
 {
     let all = reached_uses(alloc, original.program, groups, group, uses)?;
-    paid_among(alloc, original, group, &all)
-}
-
-/// The same where all of these may be emptied.
-fn paid_among<'s, 'a>(
-    alloc: Global,
-    original: Original<'s, 'a>,
-    group: &[FunId],
-    all: &[LaterUse<'a>],
-) -> Result<Option<PaidTwice<'a>>, AllocError>
-    requires most { original.most ≤ 4 }
-    requires count { length original.found.now ≡ length (program_of original.program.now) }
-    requires few { length original.found.now ≤ 256 }
-    ensures { IfOk result (λ paid. IfSome paid (IsPaid original.entry.source.now (program_of original.entry.program.now)
-        original.entry.found.now original.entry.most all.now (ids_of group.now))) }
-{
-    if all.is_empty() {
-        return Ok(None);
-    }
-    match try_uses(alloc, original, all)? {
-        Some(trial) => if_mended(alloc, original, group, all, trial),
+    let emptying = Emptying { original };
+    match mend(alloc, &emptying, original.found, group, &all)? {
+        Some(
+            Mended {
+                changes: uses,
+                trial,
+                lines,
+            },
+        ) => Ok(Some(PaidTwice { uses, trial, lines })),
         None => Ok(None),
     }
-}
-
-/// The uses that are kept, where the group has bounds with all of these emptied.
-fn if_mended<'s, 'a>(
-    alloc: Global,
-    original: Original<'s, 'a>,
-    group: &[FunId],
-    all: &[LaterUse<'a>],
-    trial: Trial,
-) -> Result<Option<PaidTwice<'a>>, AllocError>
-    requires most { original.most ≤ 4 }
-    requires count { length original.found.now ≡ length (program_of original.program.now) }
-    requires few { length original.found.now ≤ 256 }
-    requires tried { IsTried original.source.now (program_of original.program.now) original.most all.now trial }
-    ensures { IfOk result (λ paid. IfSome paid (IsPaid original.entry.source.now (program_of original.entry.program.now)
-        original.entry.found.now original.entry.most all.now (ids_of group.now))) }
-{
-    mended_lines_have_bounds();
-    groups_stay_mended();
-    if mends_group(original.found, &trial.found.functions, group) {
-        Ok(Some(mended(alloc, original, all, trial)?))
-    } else {
-        Ok(None)
-    }
-}
-
-/// The uses that are kept, where all of these were emptied.
-fn mended<'s, 'a>(
-    alloc: Global,
-    original: Original<'s, 'a>,
-    all: &[LaterUse<'a>],
-    trial: Trial,
-) -> Result<PaidTwice<'a>, AllocError>
-    requires most { original.most ≤ 4 }
-    requires few { length original.found.now ≤ 256 }
-    requires tried { IsTried original.source.now (program_of original.program.now) original.most all.now trial }
-    requires bounds { has_bounds (findings_in trial) (mended_lines original.found.now (findings_in trial)) ≡ true }
-    ensures { IfOk result (IsMended original.entry.source.now (program_of original.entry.program.now)
-        original.entry.found.now original.entry.most all.now trial) }
-{
-    let lines = mended_lines(alloc, original.found, &trial.found.functions)?;
-    let reduced = reduce(alloc, original, &lines, all, trial)?;
-    Ok(PaidTwice {
-        uses: reduced.kept,
-        trial: reduced.trial,
-        lines,
-    })
 }

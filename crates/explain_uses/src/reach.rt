@@ -4,12 +4,13 @@ ghost use Rattle.std.specs.List.{All};
 ghost use Rattle.raml_syntax.specs.Read.{program_of};
 ghost use Rattle.call_groups.specs.Groups.{IsGrouping};
 ghost use Rattle.call_groups.specs.Read.{ids_of};
-ghost use Rattle.explain_rebuild.specs.Reached.{MayAdd};
-ghost use Rattle.explain_uses.specs.Reached.{IsReachedUse, AreAmong, NamesOneOf};
+ghost use Rattle.explain_mending.specs.Mended.{AreAmong};
+ghost use Rattle.explain_mending.specs.Reached.{MayAdd};
+ghost use Rattle.explain_uses.specs.Reached.{IsReachedUse, NamesOneOf};
 
 use crate::later::LaterUse;
 use call_groups::Groups;
-use explain_rebuild::reached;
+use explain_mending::reached;
 use raml_syntax::{FunId, Program};
 use std::alloc::{AllocError, Global};
 

@@ -10,7 +10,7 @@ ghost use Rattle.explain_uses.specs.Read.{uses_of};
 
 use crate::emptied::emptying;
 use crate::later::LaterUse;
-use explain_rebuild::Original;
+use explain_mending::Original;
 use explain_trials::{EditedSource, Trial, trial_of, typed_edits};
 use raml_syntax::{Fun, Program};
 use std::alloc::{AllocError, Global};

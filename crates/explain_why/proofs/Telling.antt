@@ -29,6 +29,7 @@ supply_told can source P most group (Some s) is = trial_told can most s.trial is
 reason_told : FindingsCanBeTold → (source : Text) (P : Prog) (found : List Findings) (most : ℕ) (group : List ℕ) (reason : Reason) →
     IsReason source P found most group reason → ReasonCanBeTold reason
 reason_told can source P found most group (r.Rebuild rebuilt) is = trial_told can most rebuilt.trial is.helps.mended.keeps.tried.analysed
+reason_told can source P found most group (r.Inline inlined) is = trial_told can most inlined.trial is.helps.analysed
 reason_told can source P found most group (r.Waits callee stuck) is = tt
 reason_told can source P found most group (r.Stuck calls supplied) is = supply_told can source P most group supplied is.1
 reason_told can source P found most group (r.Twice pairs) is = tt

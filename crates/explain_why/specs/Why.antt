@@ -4,7 +4,7 @@ use Rattle.raml_syntax.specs.Tree.{Text, Prog}
 use Rattle.raml_syntax.specs.Read.{program_of}
 use Rattle.explain_trials.specs.declared.trial.Trial.{Trial}
 use Rattle.explain_lines.specs.Read.{lines_of}
-use Rattle.explain_rebuild.specs.Sources.{findings_in}
+use Rattle.explain_mending.specs.Mended.{findings_in}
 use Rattle.explain_lines.specs.declared.bounds.Line.{Line}
 use Rattle.explain_supply.specs.declared.supplying.Supplied.{Supplied}
 use Rattle.explain_reasons.specs.Explanation.{note_in}
@@ -27,6 +27,7 @@ SupplyCanBeTold supplied = IfSome supplied (λ s. TrialCanBeTold s.trial)
 
 abbrev pub ReasonCanBeTold : Reason → Type 0
 ReasonCanBeTold (r.Rebuild rebuilt) = TrialCanBeTold rebuilt.trial
+ReasonCanBeTold (r.Inline inlined) = TrialCanBeTold inlined.trial
 ReasonCanBeTold (r.Stuck calls supplied) = SupplyCanBeTold supplied
 ReasonCanBeTold (r.Computed calls supplied) = SupplyCanBeTold supplied
 ReasonCanBeTold _ = Unit {0}
@@ -40,6 +41,9 @@ pub record TrialIs (head : Text) (trial : Trial) (lines : List Line) (part : Tex
 abbrev pub rebuilt_head : Text
 rebuilt_head = codes "Each such place makes at most one more cell when it runs, so bounds of cells may rise. With this there are these bounds:\n"
 
+abbrev pub inlined_head : Text
+inlined_head = codes "`--write OTHER.raml` leaves the source so. With this there are these bounds:\n"
+
 abbrev pub supplied_head : Text → Text
 supplied_head name =
     codes "If a list `" ++ (name ++ codes "` with an entry for each call came as one more parameter, there would be these bounds:\n")
@@ -51,6 +55,7 @@ SupplyIs (Some s) part = TrialIs (supplied_head (string_bytes s.name)) s.trial s
 -- the bounds of what was tried for a reason
 abbrev pub BoundsAre : Reason → Text → Type 0
 BoundsAre (r.Rebuild rebuilt) part = TrialIs rebuilt_head rebuilt.trial rebuilt.lines.items part
+BoundsAre (r.Inline inlined) part = TrialIs inlined_head inlined.trial inlined.lines.items part
 BoundsAre (r.Stuck calls supplied) part = SupplyIs supplied part
 BoundsAre (r.Computed calls supplied) part = SupplyIs supplied part
 BoundsAre _ part = part ≡ []
@@ -99,6 +104,7 @@ pub record IsWhy (name source : Text) (P : Prog) (asking : Asking) (explanation 
 
 abbrev pub change_of : Reason → Option Text
 change_of (r.Rebuild rebuilt) = Some rebuilt.trial.text.items
+change_of (r.Inline inlined) = Some inlined.trial.text.items
 change_of _ = None
 
 abbrev pub first_of : Option Text → Option Text → Option Text

@@ -58,6 +58,7 @@ fn callee_of(reason: &Reason<'_>) -> Option<FunId>
     match reason {
         Reason::Waits { callee, .. } => Some(*callee),
         Reason::Rebuild(_)
+        | Reason::Inline(_)
         | Reason::Stuck { .. }
         | Reason::Twice(_)
         | Reason::Computed { .. }

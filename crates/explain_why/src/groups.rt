@@ -25,6 +25,10 @@ use std::alloc::{AllocError, Global};
 const REBUILT: &str =
     "Each such place makes at most one more cell when it runs, so bounds of cells may rise. With this there are these bounds:\n";
 
+/// What is said before bounds that calls which are written out give.
+const INLINED: &str =
+    "`--write OTHER.raml` leaves the source so. With this there are these bounds:\n";
+
 /// Appends the bounds of these lines in a program that was tried, behind a line that says what was changed.
 fn push_trial(
     alloc: Global,
@@ -76,6 +80,9 @@ fn push_tried(alloc: Global, text: &mut String, reason: &Reason<'_>) -> Result<(
     match reason {
         Reason::Rebuild(rebuilt) => {
             push_trial(alloc, text, REBUILT, &rebuilt.trial, &rebuilt.lines)
+        }
+        Reason::Inline(inlined) => {
+            push_trial(alloc, text, INLINED, &inlined.trial, &inlined.lines)
         }
         Reason::Stuck { supplied, .. } => push_supplied(alloc, text, supplied),
         Reason::Computed { supplied, .. } => push_supplied(alloc, text, supplied),

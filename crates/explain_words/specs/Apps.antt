@@ -112,6 +112,13 @@ plot_chosen =
 abbrev pub plot_app : App
 plot_app = with_rule (with_rule plot_chosen output_rule) (flag_rule (codes "force"))
 
+abbrev pub profile_file : App
+profile_file = with_rule (new_app (codes "profile")) (operand_rule (codes "file"))
+
+abbrev pub profile_app : App
+profile_app =
+    with_rule (with_rule (with_rule profile_file (option_rule (codes "function"))) (option_rule (codes "degree"))) (option_rule (codes "at"))
+
 -- the program before it has commands
 abbrev pub bare : App
 bare = on_top (λ s. record s {
@@ -125,9 +132,9 @@ bare = on_top (λ s. record s {
 abbrev pub begun : App
 begun = with_subcommand (with_subcommand bare check_app.top) bounds_app.top
 
--- with more of them
-abbrev pub grown : App
-grown = with_subcommand (with_subcommand begun budget_app.top) verify_app.top
+-- with those that compare what is found with a file
+abbrev pub comparing : App
+comparing = with_subcommand (with_subcommand begun budget_app.top) verify_app.top
 
 abbrev pub app : App
-app = with_subcommand (with_subcommand grown why_app.top) plot_app.top
+app = with_subcommand (with_subcommand (with_subcommand comparing why_app.top) plot_app.top) profile_app.top

@@ -8,11 +8,12 @@ use Rattle.explain_words.specs.Spelled.{lent, degree_in, seed_in, width_in, mete
 use Rattle.explain_words.specs.declared.within.Meter.{Meter}
 use Rattle.explain_words.specs.declared.within.Meter.TheVariants.{Work}
 use Rattle.explain_words.specs.declared.request.Request.{Request}
-use Rattle.explain_words.specs.declared.request.Request.TheVariants.{Check, CheckData, Bounds, Budget, WriteBudget, Verify, Why, Plot}
+use Rattle.explain_words.specs.declared.request.Request.TheVariants.{Check, CheckData, Bounds, Budget, WriteBudget, Verify, Why, Plot, Profile}
 use Rattle.explain_words.specs.declared.request.bounds.BoundsWords.{BoundsWords}
 use Rattle.explain_words.specs.declared.request.budget.Aim.{Aim as Aim'}
 use Rattle.explain_words.specs.declared.request.budget.Aim.TheVariants as aim
 use Rattle.explain_words.specs.declared.request.plot.PlotWords.{PlotWords}
+use Rattle.explain_words.specs.declared.request.profile.ProfileWords.{ProfileWords}
 use Rattle.explain_words.specs.declared.request.why.WhyWords.{WhyWords}
 use Rattle.explain_words.specs.declared.request.why.Written.{Written}
 
@@ -150,3 +151,14 @@ pub record ArePlot (rows : List Row) (asked : PlotWords) : Type 0 where
 abbrev pub MeansPlot : List Row → Request → Type 0
 MeansPlot rows (Plot asked) = ArePlot rows asked
 MeansPlot rows other = ⊥
+
+-- what `profile` asks for
+pub record AreProfile (rows : List Row) (asked : ProfileWords) : Type 0 where
+  pub file : first_of (codes "file") rows ≡ Some asked.file.now
+  pub function : first_of (codes "function") rows ≡ Some asked.function.now
+  pub degree : degree_or_4 (first_of (codes "degree") rows) ≡ Some asked.degree
+  pub at : first_of (codes "at") rows ≡ lent asked.at
+
+abbrev pub MeansProfile : List Row → Request → Type 0
+MeansProfile rows (Profile asked) = AreProfile rows asked
+MeansProfile rows other = ⊥

@@ -1,12 +1,13 @@
 // The commands, as `clap` has them.
 ghost use Rattle.std.specs.Prelude.{◌≡◌, IfOk};
 ghost use Rattle.clap.specs.Simple.{app_of};
-ghost use Rattle.explain_words.specs.Apps.{bare, begun, grown, app, operand_rule, perhaps_rule, option_rule, needed_rule, flag_rule, IsArg};
+ghost use Rattle.explain_words.specs.Apps.{bare, begun, comparing, app, operand_rule, perhaps_rule, option_rule, needed_rule, flag_rule, IsArg};
 
 mod bounds;
 mod budget;
 mod check;
 mod plot;
+mod profile;
 mod verify;
 mod why;
 
@@ -20,14 +21,15 @@ pub const VERSION: &str = "1.1.0";
 pub fn program<'a>(alloc: Global) -> Result<Command<'a>, AllocError>
     ensures { IfOk result (λ command. app_of command ≡ app) }
 {
-    let command = grown(alloc)?;
+    let command = comparing(alloc)?;
     let with_why = command.subcommand(why::command(alloc)?)?;
-    with_why.subcommand(plot::command(alloc)?)
+    let with_plot = with_why.subcommand(plot::command(alloc)?)?;
+    with_plot.subcommand(profile::command(alloc)?)
 }
 
-// With more of them.
-fn grown<'a>(alloc: Global) -> Result<Command<'a>, AllocError>
-    ensures { IfOk result (λ command. app_of command ≡ grown) }
+// With those commands that compare what is found with a file.
+fn comparing<'a>(alloc: Global) -> Result<Command<'a>, AllocError>
+    ensures { IfOk result (λ command. app_of command ≡ comparing) }
 {
     let command = begun(alloc)?;
     let with_budget = command.subcommand(budget::command(alloc)?)?;

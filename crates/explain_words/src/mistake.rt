@@ -41,6 +41,8 @@ pub enum Mistake {
     NoOutput,
     /// The word is no seed.
     Seed,
+    /// There is no function.
+    NoFunction,
 }
 
 impl Mistake {
@@ -77,6 +79,7 @@ impl Mistake {
             Mistake::NoSizes => "error: no sizes are given\n",
             Mistake::NoOutput => "error: no file for the picture is given\n",
             Mistake::Seed => "error: '--seed <N>' takes a whole number below 2^64\n",
+            Mistake::NoFunction => "error: no function is given: '--function <F>'\n",
         }
     }
 }

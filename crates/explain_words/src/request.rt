@@ -12,6 +12,7 @@ pub mod bounds;
 mod budget;
 mod check;
 pub mod plot;
+pub mod profile;
 mod verify;
 pub mod why;
 
@@ -22,6 +23,7 @@ use bounds::BoundsWords;
 use clap::error::ErrorKind;
 use clap::{ArgMatches, Error};
 use plot::PlotWords;
+use profile::ProfileWords;
 use std::alloc::{AllocError, Global};
 use why::WhyWords;
 
@@ -63,6 +65,8 @@ pub enum Request<'a> {
     Why(WhyWords<'a>),
     /// Draw what runs of a function cost, and the bound above them.
     Plot(PlotWords<'a>),
+    /// Say how often lines of a program are run at most by a call of a function.
+    Profile(ProfileWords<'a>),
 }
 
 /// Why words give no request.
@@ -140,6 +144,7 @@ fn asked_of<'a>(
         "verify" => verify::asked(alloc, found),
         "why" => why::asked(alloc, found),
         "plot" => plot::asked(alloc, found),
+        "profile" => profile::asked(alloc, found),
         _ => Err(Mistake::NoCommand.told(alloc)),
     }
 }

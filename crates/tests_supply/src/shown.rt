@@ -4,7 +4,7 @@ ghost use Rattle.raml_syntax.specs.Read.{program_of};
 
 use explain_degrees::{Finding, Findings};
 use explain_lines::Line;
-use explain_rebuild::Original;
+use explain_mending::Original;
 use explain_supply::{Supplied, supply};
 use explain_trials::{found_of, typed_text};
 use raml_syntax::{FunId, Program};

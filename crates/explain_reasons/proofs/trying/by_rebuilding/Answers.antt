@@ -6,7 +6,7 @@ use Rattle.call_groups.specs.Read.{ids_of}
 use Rattle.explain_changes.specs.declared.site.Site.{Site}
 use Rattle.explain_rebuild.specs.Reached.{IsReachedSite}
 use Rattle.explain_rebuild.specs.Rebuilt.{IsRebuilt}
-use Rattle.explain_rebuild.proofs.Adding.{from_some}
+use Rattle.explain_mending.proofs.Adding.{from_some}
 use Rattle.explain_reasons.specs.Asked.{source_in, program_in, found_in}
 use Rattle.explain_reasons.specs.Reasons.{RebuildHelps}
 use Rattle.explain_reasons.proofs.trying.by_rebuilding.Goals as goal

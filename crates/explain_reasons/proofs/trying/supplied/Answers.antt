@@ -3,7 +3,7 @@ use Rattle.raml_syntax.specs.Read.{program_of}
 use Rattle.raml_syntax.specs.declared.program.Program.{Program}
 use Rattle.call_groups.specs.Read.{ids_of}
 use Rattle.explain_supply.specs.Supply.{IsSupplied}
-use Rattle.explain_rebuild.proofs.Adding.{from_some}
+use Rattle.explain_mending.proofs.Adding.{from_some}
 use Rattle.explain_reasons.specs.Asked.{source_in, program_in}
 use Rattle.explain_reasons.proofs.trying.supplied.Goals as goal
 

@@ -1,5 +1,5 @@
 use Rattle.std.specs.List.{Contains}
-use Rattle.explain_rebuild.proofs.Adding.{all_with, at_place}
+use Rattle.explain_mending.proofs.Adding.{all_with, at_place}
 use Rattle.explain_rebuild.proofs.mending.usable.Goals as goal
 
 pub loop-site-preserved : goal.loop-site-preserved

@@ -1,4 +1,4 @@
-use Rattle.explain_rebuild.specs.Reached.{AreAmong}
+use Rattle.explain_mending.specs.Mended.{AreAmong}
 use Rattle.explain_rebuild.proofs.mending.usable.Given as goal
 
 abbrev pub invariant-loop-site : goal.invariant-loop-site

@@ -3,8 +3,8 @@ use Rattle.std.specs.List.{Contains}
 use Rattle.raml_syntax.specs.Read.{program_of}
 use Rattle.call_groups.specs.Read.{ids_of}
 use Rattle.explain_uses.specs.Reached.{IsReachedUse, NamesOneOf}
-use Rattle.explain_rebuild.proofs.Adding.{all_with, at_place}
-use Rattle.explain_uses.proofs.Trials.{use_reached}
+use Rattle.explain_mending.proofs.Adding.{all_with, at_place}
+use Rattle.explain_uses.proofs.Reaching.{use_reached}
 use Rattle.explain_uses.proofs.reach.reached_uses.Goals as goal
 
 pub loop-later-preserved : goal.loop-later-preserved

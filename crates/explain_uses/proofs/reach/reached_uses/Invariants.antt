@@ -1,7 +1,8 @@
 use Rattle.std.specs.List.{All}
 use Rattle.raml_syntax.specs.Read.{program_of}
 use Rattle.call_groups.specs.Read.{ids_of}
-use Rattle.explain_uses.specs.Reached.{AreAmong, IsReachedUse}
+use Rattle.explain_mending.specs.Mended.{AreAmong}
+use Rattle.explain_uses.specs.Reached.{IsReachedUse}
 use Rattle.explain_uses.proofs.reach.reached_uses.Given as goal
 
 abbrev pub invariant-loop-later : goal.invariant-loop-later

@@ -1,5 +1,0 @@
-use Rattle.explain_rebuild.specs.Reached.{AreOfBoth}
-use Rattle.explain_rebuild.proofs.reach.add_all_new.Given as goal
-
-abbrev pub invariant-loop-fun : goal.invariant-loop-fun
-invariant-loop-fun l = AreOfBoth l.fn.found.items l.funs l.found.items
