@@ -1,6 +1,8 @@
 -- Costs of runs lie below what is drawn of their bounds.
-use Rattle.std.proofs.Common.{◌≡◌, ◌≤◌, ◌<◌, ◌*◌, ◌^◌, ◌∙◌, ℕ, List, Option, Some, None, Result, Ok, Err, IfOk, IfSome, refl, sym, ap, subst, inl, inr, arith}
+use Rattle.std.proofs.Common.{◌≡◌, ◌≤◌, ◌<◌, ◌*◌, ◌^◌, ◌∙◌, ℕ, List, [], ◌∷◌, ◌++◌, Option, Some, None, Result, Ok, Err, IfOk, IfSome, refl, sym, ap, subst, inl, inr, arith}
 use Rattle.std.specs.Prelude.{slice_get, SomeIff}
+use Rattle.std.specs.List.{All}
+use Rattle.std.proofs.lemmas.List.Elements.{All-push}
 use Rattle.raml_syntax.specs.Tree.{Text, Function, Prog}
 use Rattle.raml_syntax.specs.Value.{Value, HaveTypes}
 use Rattle.raml_syntax.specs.Types.{types_of}
@@ -12,7 +14,7 @@ use Rattle.annot_types.specs.Certificate.{Certificate}
 use Rattle.stack_compile.specs.Laws.{at}
 use Rattle.rules_soundness_laws.specs.Enough.{cost}
 use Rattle.value_text.specs.Reading.{Answers}
-use Rattle.analysis_report.specs.Floors as f
+use Rattle.analysis_report.specs.Floors as fl
 use Rattle.analysis_report.specs.Told.{AllHold, FloorsRefused}
 use Rattle.analysis_report.specs.declared.bounds.FloorFault.{FloorFault}
 use Rattle.analysis_report.specs.declared.bounds.FloorFault.TheVariants as x
@@ -26,7 +28,7 @@ use Rattle.explain_marks.specs.declared.run.Run.{Run}
 
 -- ---- what is drawn holds
 
-module _ (P : Prog) (f : ℕ) (args : List Value) (floors : f.Floors) (hold : AllHold P f args floors) where
+module _ (P : Prog) (f : ℕ) (args : List Value) (floors : fl.Floors) (hold : AllHold P f args floors) where
   four_times : (n b work : ℕ) → work ≤ n → b ≡ n * 4 → 4 * work ≤ b
   four_times n b work few is = omega (arith, few, is)
 
@@ -36,12 +38,12 @@ module _ (P : Prog) (f : ℕ) (args : List Value) (floors : f.Floors) (hold : Al
       subst (λ o. IfSome o (λ n. (m : ℕ) → (at P f args m).ticks ≤ n)) (sym is) (hold g there types).ticks
   upheld Cells (Some n) is = λ g there types.
       subst (λ o. IfSome o (λ n. (m : ℕ) → (at P f args m).cells ≤ n)) (sym is) (hold g there types).cells
-  upheld Work (Some b) is = λ g there types. by (floors Work) is ((hold g there types).runs Work)
+  upheld Work (Some b) is = λ g there types. by g (floors Work) is ((hold g there types).runs Work)
     where
-      by : {g : Function} → (floor : Option ℕ) → IsDrawn Work floor (Some b) → IfSome floor (λ n. (limit : ℕ) → cost Work (run_of P g args limit) ≤ n) →
+      by : (g : Function) (floor : Option ℕ) → IsDrawn Work floor (Some b) → IfSome floor (λ n. (limit : ℕ) → cost Work (run_of P g args limit) ≤ n) →
           (limit : ℕ) → 4 * (run_of P g args limit).work ≤ b
-      by {g} (Some n) drawn costs limit = four_times n b (run_of P g args limit).work (costs limit) (sym drawn.1)
-      by {g} None drawn costs limit = absurd (cc)
+      by g (Some n) drawn costs limit = four_times n b (run_of P g args limit).work (costs limit) (sym drawn.1)
+      by g None drawn costs limit = absurd (cc)
 
 -- ---- what is too large is not drawn
 
@@ -83,6 +85,10 @@ module _ (P : Prog) (f : ℕ) (g : Function) (args : List Value) (limits : Limit
   drawn_below meter m (Some n) there types is ended holds = measured_below meter m n is ended (holds g there types)
 
 -- ---- runs
+
+-- one more behind others
+pub one_more : {X : Type 0} (Q : X → Type 0) (xs new : List X) (x : X) → new ≡ xs ++ x ∷ [] → All Q xs → Q x → All Q new
+one_more Q xs new x is all one = subst (All Q) (sym is) (All-push Q xs x all one)
 
 pub run_given : (r : Option Run) (P : Prog) (N : Program) (c : Certificate) (f : ℕ) (meter : Meter) (data' : Text) (limits : Limits) (m : Measured) (bound : Option ℕ) →
     IsMeasuredOn P f data' limits m →

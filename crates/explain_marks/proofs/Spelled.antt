@@ -30,13 +30,13 @@ arguments_read cells new data' types words read = record {
 }
 
 -- arguments are the answer that the data has
-ok_injective : {E : Type 0} (xs ys : List Value) → Ok {E = E} xs ≡ Ok ys → xs ≡ ys
-ok_injective xs ys e = cc
+ok_injective : (xs ys : List Value) (r : Result (List Value) DataFault) → r ≡ Ok xs → r ≡ Ok ys → xs ≡ ys
+ok_injective xs ys r e h = cc
 
 pub only_read : (cells new : List Cell) (data' : Text) (types : List Type') (words : List Word) (args : List Value) → (read : AreRead cells new data' types words) →
     HasOneAnswer data' types → Answers data' types (Ok args) → StandForAll new words args
 only_read cells new data' types words args read one spelled =
-    let same : read.values ≡ args = ok_injective read.values args (one (Ok read.values) (Ok args) (are_spelled types data' cells new words read) spelled) in
+    let same : read.values ≡ args = ok_injective read.values args (Ok read.values) refl (one (Ok read.values) (Ok args) (are_spelled types data' cells new words read) spelled) in
     subst (StandForAll new words) same read.stand
 
 -- nothing that is read is fit

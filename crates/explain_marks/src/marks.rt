@@ -56,8 +56,9 @@ pub fn marks_at(
         steps: MOST_STEPS,
     };
     for size in sizes {
-        if found.cut.is_none() {
-            add_size(alloc, typed, verified, fun, meter, *size, seed, &mut found)?;
+        add_size(alloc, typed, verified, fun, meter, *size, seed, &mut found)?;
+        if found.cut.is_some() {
+            return Ok(found);
         }
     }
     Ok(found)
@@ -118,7 +119,7 @@ fn add_run(
 {
     let function = &typed.program().funs[fun.0 as usize];
     let data = made_arguments(alloc, function, size, shape, seed)?;
-    match run_on(
+    let run = match run_on(
         alloc,
         typed,
         verified,
@@ -127,17 +128,19 @@ fn add_run(
         data.as_bytes(),
         found.steps,
     )? {
-        Some(run) => {
-            found.steps = found.steps.saturating_sub(run.steps);
-            found.marks.push(Mark {
-                size,
-                kind: kind_of(shape),
-                cost: run.cost,
-                bound: run.bound,
-            })?;
+        Some(run) => run,
+        None => {
+            found.cut = Some(size);
+            return Ok(());
         }
-        None => found.cut = Some(size),
-    }
+    };
+    found.steps = found.steps.saturating_sub(run.steps);
+    found.marks.push(Mark {
+        size,
+        kind: kind_of(shape),
+        cost: run.cost,
+        bound: run.bound,
+    })?;
     Ok(())
 }
 
