@@ -42,7 +42,7 @@ module _ (P : Prog) (f : ℕ) (args : List Value) (floors : fl.Floors) (hold : A
     where
       by : (g : Function) (floor : Option ℕ) → IsDrawn Work floor (Some b) → IfSome floor (λ n. (limit : ℕ) → cost Work (run_of P g args limit) ≤ n) →
           (limit : ℕ) → 4 * (run_of P g args limit).work ≤ b
-      by g (Some n) drawn costs limit = four_times n b (run_of P g args limit).work (costs limit) (sym drawn.1)
+      by g (Some n) drawn costs limit = four_times n b (run_of P g args limit).work (costs limit) drawn.1
       by g None drawn costs limit = absurd (cc)
 
 -- ---- what is too large is not drawn

@@ -1,5 +1,5 @@
-use Rattle.std.proofs.Common.{string_bytes, subst}
-use Rattle.std.specs.Prelude.{IfSome}
+use Rattle.std.proofs.Common.{IfSome, subst}
+
 use Rattle.raml_syntax.specs.Read.{program_of}
 use Rattle.rules_plan.specs.Read.{program_in}
 use Rattle.explain_chart.specs.Read.{mark_in}

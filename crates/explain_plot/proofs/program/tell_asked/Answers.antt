@@ -1,13 +1,14 @@
-use Rattle.std.proofs.Common.{◌<◌, ◌∙◌, ap, sym, length, arith}
+use Rattle.std.proofs.Common.{◌<◌, ◌∙◌, ap, sym, subst, length, arith}
 use Rattle.raml_syntax.specs.Read.{program_of}
 use Rattle.share_normal.specs.Program.{source_in}
 use Rattle.rules_plan.specs.Read.{program_in}
+use Rattle.explain_degrees.specs.Degrees.{finding_of}
 use Rattle.explain_plot.specs.Calls.{degree_of}
 use Rattle.explain_plot.proofs.Found.{got, least_degree, most_degree, of_degree}
 use Rattle.explain_plot.proofs.program.tell_asked.Goals as goal
 
 pub tell_degree-requires-clause-least : goal.tell_degree-requires-clause-least
-tell_degree-requires-clause-least c = rw c.degree_of-degree.ensures (least_degree c.of.result.now)
+tell_degree-requires-clause-least c = subst (λ d. 1 ≤ d) (sym c.degree_of-degree.ensures) (least_degree c.of.result.now)
 
 pub tell_degree-requires-clause-most : goal.tell_degree-requires-clause-most
 tell_degree-requires-clause-most c = ?
