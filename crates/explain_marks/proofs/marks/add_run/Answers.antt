@@ -1,5 +1,4 @@
 use Rattle.std.proofs.Common.{IfSome, subst}
-
 use Rattle.raml_syntax.specs.Read.{program_of}
 use Rattle.rules_plan.specs.Read.{program_in}
 use Rattle.explain_chart.specs.Read.{mark_in}
