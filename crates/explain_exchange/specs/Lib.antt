@@ -1,0 +1,4 @@
+pub mod Example
+pub mod Exchange
+pub mod Laws
+pub mod Read
