@@ -1,5 +1,6 @@
 // What can be tried.
 ghost use Rattle.std.specs.Prelude.{List, IfOk, IfSome};
+ghost use Rattle.explain_trials.specs.declared.trial.Trial.{Trial};
 
 use explain_trials::Trial;
 use std::alloc::{AllocError, Global};
