@@ -1,5 +1,5 @@
 -- Data that is read for the bound at the arguments that it spells.
-use Rattle.std.proofs.Common.{◌≡◌, ◌≤◌, ◌<◌, ◌+◌, ◌^◌, ◌∙◌, ℕ, List, [], ◌∷◌, Option, Result, Ok, Err, IfOk, length, refl, sym, ap, subst, arith}
+use Rattle.std.proofs.Common.{◌≡◌, ◌≤◌, ◌<◌, ◌+◌, ◌^◌, ◌∙◌, ℕ, List, [], ◌∷◌, Option, None, Result, Ok, Err, IfOk, length, refl, sym, ap, subst, arith}
 use Rattle.raml_syntax.specs.Tree.{Text, Type', Prog}
 use Rattle.raml_syntax.specs.Value.{Value, size}
 use Rattle.base_poly.specs.Base.{total}
@@ -38,3 +38,9 @@ pub only_read : (cells new : List Cell) (data' : Text) (types : List Type') (wor
 only_read cells new data' types words args read one spelled =
     let same : read.values ≡ args = ok_injective read.values args (one (Ok read.values) (Ok args) (are_spelled types data' cells new words read) spelled) in
     subst (StandForAll new words) same read.stand
+
+-- nothing that is read is fit
+pub none_fit : {E : Type 0} (r : Result (Option Reading) E) (P : Prog) (N : Program) (c : Certificate) (f : ℕ) (meter : Meter) (args : List Value) →
+    IfOk r (λ read. read ≡ None) → IfOk r (AreReadAs P N c f meter args)
+none_fit (Ok read) P N c f meter args is = subst (AreReadAs P N c f meter args) (sym is) tt
+none_fit (Err e) P N c f meter args is = tt

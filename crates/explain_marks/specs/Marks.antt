@@ -11,6 +11,8 @@ use Rattle.annot_types.specs.Certificate.{Certificate}
 use Rattle.stack_compile.specs.Laws.{at}
 use Rattle.value_text.specs.Reading.{Answers}
 use Rattle.analysis_report.specs.Floors.{IsFloor, Leaves}
+use Rattle.analysis_report.specs.declared.bounds.FloorFault.{FloorFault}
+use Rattle.analysis_report.specs.declared.bounds.FloorFault.TheVariants as fault
 use Rattle.explain_runs.specs.declared.outcome.Limits.{Limits}
 use Rattle.explain_runs.specs.declared.outcome.Measured.{Measured}
 use Rattle.explain_runs.specs.declared.outcome.Outcome.{Outcome}
@@ -31,6 +33,11 @@ abbrev pub BoundIs : Program → Certificate → ℕ → List Value → Meter �
 BoundIs N c f args meter drawn =
     ((floor : Option ℕ) × IsFloor N c f args meter floor × IsDrawn meter floor drawn)
     ⊎ ((other : Meter) × Leaves N c f args other × (drawn ≡ None))
+
+-- a bound is too large
+abbrev pub IsLeaving : FloorFault → Type 0
+IsLeaving (fault.Leaves meter) = Unit {0}
+IsLeaving fault.NoMemory = ⊥
 
 -- no state of the machine, and no evaluation, costs more than the number
 abbrev pub CostsAtMost : Meter → Prog → ℕ → Function → List Value → ℕ → Type 0

@@ -1,5 +1,5 @@
 // Bounds at arguments, as they are drawn.
-ghost use Rattle.std.specs.Prelude.{◌≡◌, ◌<◌, true, List, length, IfOk, IfSome};
+ghost use Rattle.std.specs.Prelude.{◌≡◌, ◌<◌, true, List, None, length, IfOk, IfSome};
 ghost use Rattle.raml_syntax.specs.Value.{Value};
 ghost use Rattle.annot_types.specs.Certificate.{has_work};
 ghost use Rattle.share_normal.specs.Program.{source_in};
@@ -7,7 +7,7 @@ ghost use Rattle.rules_plan.specs.Read.{program_in};
 ghost use Rattle.value_text.specs.Stands.{StandForAll};
 ghost use Rattle.poly_point.specs.Point.{AreArguments};
 ghost use Rattle.analysis_report.specs.Told.{floors_of};
-ghost use Rattle.explain_marks.specs.Marks.{BoundIs, IsDrawn, IsUpheld};
+ghost use Rattle.explain_marks.specs.Marks.{BoundIs, IsDrawn, IsLeaving, IsUpheld};
 ghost use Rattle.cost_free.specs.declared.task.Meter.TheVariants.{Work};
 
 use analysis_report::{FloorFault, Floors, floors_at};
@@ -36,8 +36,17 @@ pub(crate) fn bound_at(
 {
     match floors_at(alloc, verified, fun, heap, args) {
         Ok(floors) => Ok(drawn(meter, floor_of(floors, meter))),
-        Err(FloorFault::Leaves { .. }) => Ok(None),
-        Err(FloorFault::NoMemory) => Err(AllocError),
+        Err(fault) => none_drawn(fault),
+    }
+}
+
+/// Nothing is drawn where a bound is too large.
+fn none_drawn(fault: FloorFault) -> Result<Option<u128>, AllocError>
+    ensures { IfOk result (λ drawn. (drawn ≡ None) × IsLeaving fault) }
+{
+    match fault {
+        FloorFault::Leaves { .. } => Ok(None),
+        FloorFault::NoMemory => Err(AllocError),
     }
 }
 

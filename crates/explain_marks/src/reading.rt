@@ -1,5 +1,5 @@
 // Data, read for the bound at the arguments that it spells.
-ghost use Rattle.std.specs.Prelude.{◌≡◌, ◌<◌, ◌≤◌, ◌^◌, true, List, Ok, Some, length, slice_get, IfOk};
+ghost use Rattle.std.specs.Prelude.{◌≡◌, ◌<◌, ◌≤◌, ◌^◌, true, List, None, Ok, Some, length, slice_get, IfOk};
 ghost use Rattle.raml_syntax.specs.Tree.{Function};
 ghost use Rattle.raml_syntax.specs.Value.{Value};
 ghost use Rattle.raml_syntax.specs.Types.{types_of};
@@ -25,17 +25,18 @@ use value_text::{DataFault, DataHeap, Word, read_args};
 /// The longest data that is read, in bytes.
 const MOST_DATA: u64 = 4_194_304;
 
+/// Arguments have fewer cells.
+const MOST_CELLS: u32 = 20000;
+
 /// Arguments that were read.
 #[derive(Clone, Copy)]
 pub(crate) struct Reading {
-    /// How many cells they have.
-    pub(crate) cells: u32,
     /// The bound at them, as it is drawn.
     pub(crate) bound: Option<u128>,
 }
 
-/// What is read of the data; none where it spells no arguments of the function.
-pub(crate) fn reading(
+/// What is read of the data; none where it spells no arguments of the function that have few cells.
+pub(crate) fn read_data(
     alloc: Global,
     typed: &Typed,
     verified: &Verified<'_, '_>,
@@ -57,8 +58,20 @@ pub(crate) fn reading(
     let mut heap = DataHeap::new(alloc);
     match read_args(alloc, data, &types, &mut heap) {
         Ok(words) => read_bound(alloc, verified, fun, meter, &heap, &words),
-        Err(DataFault::NoMemory) => Err(AllocError),
-        Err(_) => Ok(None),
+        Err(fault) => none_read(fault),
+    }
+}
+
+/// Nothing is read where data is refused.
+fn none_read(fault: DataFault) -> Result<Option<Reading>, AllocError>
+    ensures { IfOk result (λ read. read ≡ None) }
+{
+    match fault {
+        DataFault::NoMemory => Err(AllocError),
+        DataFault::NotUtf8 { .. } => Ok(None),
+        DataFault::Shape { .. } => Ok(None),
+        DataFault::TooDeep { .. } => Ok(None),
+        DataFault::TooManyCells => Ok(None),
     }
 }
 
@@ -77,7 +90,9 @@ fn read_bound(
     ensures { (vs : List Value) → StandForAll heap.now.cells args.now vs →
         IfOk result (AreReadAs (source_in verified.now.program) (program_in verified.now.program) verified.now.certificate fun.0 meter vs) }
 {
-    let cells = heap.len();
+    if heap.len() >= MOST_CELLS {
+        return Ok(None);
+    }
     let bound = bound_at(alloc, verified, fun, meter, heap, args)?;
-    Ok(Some(Reading { cells, bound }))
+    Ok(Some(Reading { bound }))
 }

@@ -6,16 +6,13 @@ ghost use Rattle.rules_plan.specs.Read.{program_in};
 ghost use Rattle.explain_runs.specs.Measure.{CanRun};
 ghost use Rattle.explain_marks.specs.Marks.{HasEnded, IsRun, cost_of};
 
-use crate::reading::reading;
+use crate::reading::read_data;
 use bound_infer::Verified;
 use cost_free::Meter;
 use explain_runs::{Limits, Measured, Outcome, measure};
 use raml_syntax::FunId;
 use simple_types::Typed;
 use std::alloc::{AllocError, Global};
-
-/// Arguments of runs have fewer cells.
-const MOST_CELLS: u32 = 20000;
 
 /// How many cells a run may take.
 const MOST_TAKEN: u32 = 16_777_216;
@@ -50,18 +47,15 @@ pub(crate) fn run_on(
     ensures { IfOk result (λ run. IfSome run
         (λ run. IsRun (program_of typed.now) (program_in verified.now.program) verified.now.certificate fun.0 meter data.now run.cost run.bound)) }
 {
-    let Some(read) = reading(alloc, typed, verified, fun, meter, data)? else {
-        return Ok(None);
-    };
-    if read.cells >= MOST_CELLS {
-        return Ok(None);
-    }
     let limits = Limits {
         steps,
         cells: MOST_TAKEN,
     };
-    match measure(alloc, typed, fun, data, limits)? {
-        Some(measured) => Ok(ended(meter, &measured, read.bound)),
+    match read_data(alloc, typed, verified, fun, meter, data)? {
+        Some(read) => match measure(alloc, typed, fun, data, limits)? {
+            Some(measured) => Ok(ended(meter, &measured, read.bound)),
+            None => Ok(None),
+        },
         None => Ok(None),
     }
 }

@@ -1,10 +1,11 @@
 // Pictures and tables by the analysis of one degree.
-ghost use Rattle.std.specs.Prelude.{◌≡◌, ◌≤◌, ◌<◌, ◌++◌, Some, true, length, slice_get, IfOk, OnOk, string_bytes};
+ghost use Rattle.std.specs.Prelude.{◌≡◌, ◌≢◌, ◌≤◌, ◌<◌, ◌++◌, Some, None, true, length, slice_get, IfOk, OnOk, string_bytes};
 ghost use Rattle.raml_syntax.specs.Tree.{Text, Function};
 ghost use Rattle.raml_syntax.specs.Types.{types_of};
 ghost use Rattle.raml_syntax.specs.Read.{program_of, function_of};
 ghost use Rattle.annot_types.specs.Certificate.{has_work};
 ghost use Rattle.rules_plan.specs.Read.{program_in};
+ghost use Rattle.bound_infer.specs.declared.refusal.InferFault.TheVariants.{NoMemory};
 ghost use Rattle.explain_bounds.specs.Written.{AllCanBeTold};
 ghost use Rattle.explain_chart.specs.Chart.{Draws};
 ghost use Rattle.explain_chart.specs.Read.{marks_in};
@@ -15,12 +16,12 @@ ghost use Rattle.explain_plot.specs.Read.{text_in};
 use crate::call::Told;
 use crate::program::Asked;
 use crate::table::push_table;
-use bound_infer::Verified;
+use bound_infer::{InferFault, Verified};
 use cost_free::Meter;
 use explain_bounds::{Asked as AskedSizes, push_function};
 use explain_calls::End;
 use explain_chart::{Chart, Mark, draw};
-use explain_degrees::{Findings, analyse, refused};
+use explain_degrees::{Findings, analyse};
 use explain_marks::marks_at;
 use raml_syntax::{Fun, Program};
 use report_text::meter_name;
@@ -62,13 +63,24 @@ pub(crate) fn tell_degree(
                 picture: Some(picture),
             })
         }
-        Err(fault) => {
-            let _refused = refused(degree, fault)?;
-            Ok(Told {
-                end: End::NotAnalysed,
-                picture: None,
-            })
-        }
+        Err(fault) => undrawn(fault),
+    }
+}
+
+/// Nothing is drawn where the analysis is refused.
+fn undrawn(fault: InferFault) -> Result<Told, AllocError>
+    ensures told { IfOk result (λ told. told.end ≡ End.NotAnalysed) }
+    ensures none { IfOk result (λ told. told.picture ≡ None) }
+    ensures refused { IfOk result (λ told. fault ≢ NoMemory) }
+{
+    let told = Told {
+        end: End::NotAnalysed,
+        picture: None,
+    };
+    match fault {
+        InferFault::NoMemory => Err(AllocError),
+        InferFault::TooLarge { .. } => Ok(told),
+        InferFault::Leaves(_) => Ok(told),
     }
 }
 
@@ -132,26 +144,28 @@ fn lead(
     requires { AllCanBeTold (types_of (function_of function.now)) findings.now }
 {
     let mut lines = Vec::new(alloc);
-    if push_function(
+    match push_function(
         alloc,
         &mut lines,
         program,
         function,
         findings,
         &AskedSizes::Nothing,
-    )
-    .is_err()
-    {
-        return Err(AllocError);
+    ) {
+        Ok(()) => match lines.get(place_of(meter)) {
+            Some(line) => String::from_str(alloc, line),
+            None => Ok(String::new(alloc)),
+        },
+        Err(_) => Err(AllocError),
     }
-    let place = match meter {
+}
+
+/// Which of the lines of a function is that of the meter.
+fn place_of(meter: Meter) -> usize {
+    match meter {
         Meter::Ticks => 0,
         Meter::Cells => 1,
         Meter::Work => 2,
-    };
-    match lines.get(place) {
-        Some(line) => String::from_str(alloc, line),
-        None => Ok(String::new(alloc)),
     }
 }
 

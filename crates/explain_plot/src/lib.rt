@@ -3,6 +3,7 @@
 
 mod call;
 mod drawing;
+pub mod laws;
 mod program;
 mod sizes;
 mod table;
