@@ -15,7 +15,7 @@ ghost use Rattle.explain_profile.specs.Read.{sizes_in};
 use crate::counted::{Counted, count};
 use crate::lines::reached_lines;
 use crate::runs::{Case, Runs};
-use crate::table::{push_table, rank};
+use crate::table::{arrange, push_table};
 use explain_at::{Given, SizeFault, WordFault, read, sizes_at};
 use explain_calls::End;
 use explain_check::{Source, push_error, read_program};
@@ -194,9 +194,7 @@ fn tell_sized(
         )?;
         return Ok(End::NotAnalysed);
     }
-    if sizes.is_some() {
-        rank(&counted, &mut lines)?;
-    }
+    arrange(&counted, sizes.is_some(), &mut lines)?;
     push_table(alloc, text, case, function, words.at, &counted, &lines)?;
     Ok(End::Told)
 }

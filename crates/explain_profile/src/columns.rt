@@ -48,7 +48,7 @@ impl Columns {
     /// How many spaces a cell of a column needs.
     fn pad(&self, place: usize, cell: &str) -> usize {
         match self.widths.get(place) {
-            Some(width) => width.saturating_sub(width(cell)),
+            Some(wide) => wide.saturating_sub(width(cell)),
             None => 0,
         }
     }

@@ -25,7 +25,8 @@ fn add_lines(
         ≡ plain_lines found.old.items ++ lines_if is_told source.now (function_of fun.now)) }
 {
     if is_told {
-        found.extend_from_slice(&lines(alloc, source, &fun.body)?)?;
+        let more = lines(alloc, source, &fun.body)?;
+        found.extend_from_slice(&more)?;
     }
     Ok(())
 }

@@ -17,14 +17,23 @@ use explain_regions::Line;
 use raml_syntax::Fun;
 use std::alloc::{AllocError, Global};
 
-/// Puts the lines first whose runs cost most work in all; a line of which that is not known comes before all others.
-pub(crate) fn rank(counted: &[Counted], lines: &mut Vec<Line>) -> Result<(), AllocError>
+/// Puts the lines in the order of a table: where sizes are given, those first whose runs cost most work in all, and before
+/// them those of which that is not known.
+pub(crate) fn arrange(
+    counted: &[Counted],
+    is_sized: bool,
+    lines: &mut Vec<Line>,
+) -> Result<(), AllocError>
     ensures { OnOk result (IsPermutation lines.old.items lines.new.items) }
 {
-    lines.sort_by_key(|line| rank_of(counted, line))
+    if is_sized {
+        lines.sort_by_key(|line| rank(counted, line))
+    } else {
+        Ok(())
+    }
 }
 
-fn rank_of(counted: &[Counted], line: &Line) -> u128 {
+fn rank(counted: &[Counted], line: &Line) -> u128 {
     match find(counted, line.region) {
         Some(found) => match in_all(found.runs.number(), line.work) {
             Some(work) => u128::MAX - work,
@@ -48,7 +57,10 @@ fn row(
     let is_sized = case.sizes.is_some();
     match find(counted, line.region) {
         Some(found) => cells(alloc, is_sized, number, line, &found.runs),
-        None => cells(alloc, is_sized, number, line, &Runs::NotAnalysed),
+        None => {
+            let unknown = Runs::NotAnalysed;
+            cells(alloc, is_sized, number, line, &unknown)
+        }
     }
 }
 
@@ -64,7 +76,8 @@ fn columns_for(
 {
     let mut columns = Columns::of(alloc, heading)?;
     for line in lines {
-        columns.widen(&row(alloc, case, counted, line)?);
+        let cells = row(alloc, case, counted, line)?;
+        columns.widen(&cells);
     }
     Ok(columns)
 }
