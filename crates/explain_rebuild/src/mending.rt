@@ -27,6 +27,7 @@ pub struct Rebuilt<'a> {
 }
 
 /// A program in which values may be built again.
+#[derive(Clone, Copy)]
 struct Rebuilding<'s, 'a> {
     original: Original<'s, 'a>,
 }

@@ -27,6 +27,7 @@ pub struct PaidTwice<'a> {
 }
 
 /// A program in which later uses may be emptied.
+#[derive(Clone, Copy)]
 struct Emptying<'s, 'a> {
     original: Original<'s, 'a>,
 }
