@@ -11,7 +11,7 @@ pub returns-in-Some : goal.returns-in-Some
 returns-in-Some c =
     let original = c.args.original in
     let found = c.in-Some.field-0 in
-    let mended = rw c.in-Some.is at c.in_ok-all-2.ensures in
+    let mended = rw c.in-Some.is at c.in_ok-uses.ensures in
     record {
       all = c.in_ok-all.all.items;
       among = c.in_ok-all.ensures.among;
