@@ -1,12 +1,17 @@
 -- Groups that are explained, one after the other.
-use Rattle.std.proofs.Common.{◌≡◌, sym, ap, ◌∙◌, ◌<◌, ◌+◌, ℕ, List, [], ◌∷◌, ◌++◌, length, drop}
+use Rattle.std.proofs.Common.{◌≡◌, sym, ap, ◌∙◌, ◌<◌, ◌+◌, ℕ, List, [], ◌∷◌, ◌++◌, length, drop, subst, Some}
 use Rattle.std.specs.Prelude.{Bool}
 use Rattle.std.specs.List.{filter}
 use Rattle.std.proofs.lemmas.List.{append_assoc, append-nil}
 use Rattle.std.proofs.lemmas.List.Elements.{filter-append}
 use Rattle.std.specs.Global.{Vec}
 use Rattle.raml_syntax.specs.declared.program.FunId.{FunId}
+use Rattle.raml_syntax.specs.Tree.{Text, Prog}
 use Rattle.call_groups.specs.Read.{ids_of, lists_of}
+use Rattle.explain_degrees.specs.declared.finding.Findings.{Findings}
+use Rattle.explain_lines.specs.Lines.{first_lacking}
+use Rattle.explain_reasons.specs.Reasons.{IsReason, IsExplained, group_in}
+use Rattle.explain_reasons.specs.declared.reason.Explained.{Explained}
 
 -- the groups before these are done, and these are left
 abbrev pub AreDone : (List ℕ → Bool) → List (List ℕ) → List (Vec FunId) → List (Vec FunId) → Type 0
@@ -23,3 +28,9 @@ one_done test done more all k group within next adds so_far =
 
 pub all_done : (test : List ℕ → Bool) (done : List (List ℕ)) (left all : List (Vec FunId)) → left ≡ [] → AreDone test done left all → done ≡ filter test (lists_of all)
 all_done test done left all none so_far = sym (append-nil done) ∙ ap (λ gs. done ++ filter test (lists_of gs)) (sym none) ∙ so_far
+
+-- the first function of a group that lacks a bound, and why
+pub is_explained : (source : Text) (P : Prog) (found : List Findings) (most : ℕ) (group : List ℕ) (e : Explained) → group_in e ≡ group →
+    Some e.fun.0 ≡ first_lacking found group → IsReason source P found most group e.reason → IsExplained source P found most e
+is_explained source P found most group e same first reason =
+    record { function = ap (first_lacking found) same ∙ sym first; reason = subst (λ funs. IsReason source P found most funs e.reason) (sym same) reason }
