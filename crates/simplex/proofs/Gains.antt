@@ -1,6 +1,8 @@
 -- The gains in the places of their columns, as a pivot leaves them.
-use Rattle.std.proofs.Common.{◌≡◌, ◌≢◌, refl, sym, ap, subst, ◌∙◌, ℕ, ◌+◌, ◌*◌, ◌<◌, ◌≤◌, ℤ, pos, ◌-ℤ◌, ◌*ℤ◌, ◌<ℤ◌, arith, List, [], ◌∷◌, length, get_or, set, take, false, ◌==◌, inl, inr}
+use Rattle.std.proofs.Common.{◌≡◌, ◌≢◌, refl, sym, ap, subst, ◌∙◌, ℕ, ◌+◌, ◌*◌, ◌<◌, ◌≤◌, ℤ, pos, neg_ℤ, ◌-ℤ◌, ◌*ℤ◌, ◌<ℤ◌, arith, List, [], ◌∷◌, length, get_or, set, take, drop, length-drop, ◌-◌, false, ◌==◌, inl, inr}
 use Rattle.std.proofs.lemmas.Int.{ints}
+use Rattle.std.proofs.lemmas.List.{get_or-drop}
+use Rattle.std.proofs.Math.Seq.{take-length}
 use Rattle.std.proofs.lemmas.Bool.Decides.{nat_tests}
 use Rattle.std.proofs.Math.Nat.{mul-pos}
 use lib.IntN.{*ℤ_comm}
@@ -116,3 +118,24 @@ written_after n s lead gains new xs ys h swept w = record {
   where
     same : (c : ℕ) → (Among c (columns_of lead) → ⊥) → ((at c new).num ≡ (at c gains).num) × ((at c new).den ≡ (at c gains).den)
     same c m = less_same (at c gains) (at s gains) (at c lead) (at c new) (swept.each c) (ap numerator (none_elsewhere lead c m))
+
+pub to_end : (n : ℕ) (xs : List Frac) → take (length xs - n) (drop n xs) ≡ drop n xs
+to_end n xs = ap (λ (m : ℕ). take m (drop n xs)) (sym (length-drop n xs)) ∙ take-length (drop n xs)
+
+-- what is read behind the first n of a list is read from there on
+pub behind : (n k : ℕ) (gains xs : List Frac) → length gains ≡ n + k → HaveParts (length (drop n gains)) (λ i. neg_ℤ (numerator (frac_at (drop n gains) i))) (λ i. denominator (frac_at (drop n gains) i)) xs → HaveParts k (λ i. neg_ℤ (numerator (frac_at gains (n + i)))) (λ i. denominator (frac_at gains (n + i))) xs
+behind n k gains xs e h =
+    let long : length (drop n gains) ≡ k = length-drop n gains ∙ omega (arith, e) in
+    record {
+      count = h.count ∙ long;
+      nums = λ i l. h.nums i (subst (λ (m : ℕ). i < m) (sym long) l) ∙ ap (λ (x : Frac). neg_ℤ (numerator x)) (get_or-drop n gains i nought);
+      dens = λ i l. h.dens i (subst (λ (m : ℕ). i < m) (sym long) l) ∙ ap denominator (get_or-drop n gains i nought);
+    }
+
+-- the numbers of the gains in the places of their columns are those of the row
+pub of_row : (n k : ℕ) (row : Entries) (gains xs : List Frac) → AreOf (n + k) row gains → HaveParts k (λ i. neg_ℤ (numerator (frac_at gains (n + i)))) (λ i. denominator (frac_at gains (n + i))) xs → HaveParts k (λ i. neg_ℤ (numerator (at (n + i) row))) (λ i. denominator (at (n + i) row)) xs
+of_row n k row gains xs seen h = record {
+  count = h.count;
+  nums = λ i l. h.nums i l ∙ ap neg_ℤ (seen.nums (n + i) (omega (arith, l)));
+  dens = λ i l. h.dens i l ∙ seen.dens (n + i) (omega (arith, l));
+}

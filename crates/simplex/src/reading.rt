@@ -1,6 +1,6 @@
 //! Numbers that are read from rows.
 
-ghost use Rattle.std.specs.Prelude.{◌≡◌, ◌<◌, ◌+◌, ◌^◌, ℕ, length, pos, neg_ℤ, IfOk};
+ghost use Rattle.std.specs.Prelude.{◌≡◌, ℕ, length, pos, neg_ℤ, IfOk};
 ghost use Rattle.frac128.specs.Values.{numerator, denominator};
 ghost use Rattle.simplex_rows.specs.Entries.{at};
 ghost use Rattle.simplex.specs.Standing.{entries_at};
@@ -34,24 +34,6 @@ pub(crate) fn negated(alloc: Global, numbers: &[Frac]) -> Result<Vec<Frac>, Allo
     let mut all = Vec::with_capacity(alloc, numbers.len())?;
     for i in 0..numbers.len() {
         all.push(numbers[i].neg())?;
-    }
-    Ok(all)
-}
-
-/// The row's fractions at `count` columns from `first` on, with the other sign.
-pub(crate) fn negated_at(
-    alloc: Global,
-    row: &FracRow,
-    first: u32,
-    count: u32,
-) -> Result<Vec<Frac>, AllocError>
-    requires { first + count < 2 ^ 32 }
-    ensures { IfOk result (λ xs. HaveParts count (λ i. neg_ℤ (numerator (at (first + i) row.now)))
-        (λ i. denominator (at (first + i) row.now)) xs.items) }
-{
-    let mut all = Vec::with_capacity(alloc, count as usize)?;
-    for i in 0..count {
-        all.push(row.at(first + i).neg())?;
     }
     Ok(all)
 }

@@ -154,6 +154,7 @@ pub(crate) fn make_step<F: Fn(&[Frac]) -> Option<usize>>(
     requires limit { UpTo most (length table.old.pivots.items) }
     ensures step { IfOk result (IsStep (rule_of F.Fn chooser.now) system.now most table.old table.new) }
     ensures ready { result ≡ Ok Step.Pivot → IsReady (right system.now) table.new scratch.new }
+    ensures kept { result ≡ Ok Step.Best → IsReady (right system.now) table.new scratch.new }
 {
     let column = match entering(chooser, &scratch.gains) {
         Some(column) => column,
@@ -186,7 +187,7 @@ pub(crate) fn new_scratch(
 ) -> Result<Scratch, AllocError>
     ensures { IfOk result (IsReady columns table.now) }
 {
-    let mut of_row = Vec::new(alloc);
+    let mut of_row = Vec::with_capacity(alloc, columns)?;
     Ok(Scratch {
         rows: RowScratch::new(alloc),
         marks: covering(alloc, &table.rows, columns, &mut of_row)?,
@@ -219,7 +220,7 @@ fn run<F: Fn(&[Frac]) -> Option<usize>>(
         match make_step(alloc, system, chooser, most, &mut table, &mut scratch)? {
             Step::Pivot => {}
             Step::Best => {
-                let x = solution(alloc, system, &table)?;
+                let x = solution(alloc, system, &scratch.gains)?;
                 let dual = dual(alloc, system, &table)?;
                 return Ok(Within::Answered(Answer::Best {
                     x,

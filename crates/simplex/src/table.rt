@@ -1,17 +1,18 @@
 //! The table that the solver keeps, and the numbers that are read there.
 
-ghost use Rattle.std.specs.Prelude.{◌≡◌, ◌+◌, ◌<◌, ◌≤◌, ◌^◌, ◌∷◌, ℕ, length, IfOk, pos, ◌<ℤ◌};
+ghost use Rattle.std.specs.Prelude.{◌≡◌, ◌+◌, ◌<◌, ◌≤◌, ◌^◌, ◌∷◌, ℕ, length, IfOk, pos, neg_ℤ, ◌<ℤ◌};
 ghost use Rattle.linear_rows.specs.Systems.{IsSystem};
-ghost use Rattle.simplex_spec.specs.Tableaux.{Tableau, opening, right, solution, dual, ray, entry};
+ghost use Rattle.simplex_spec.specs.Tableaux.{Tableau, opening, right, dual, ray, entry};
 ghost use Rattle.simplex_spec.specs.Places.{counted};
 ghost use Rattle.simplex_spec.specs.Places as places;
 ghost use Rattle.simplex_spec.specs.Refusals.{least_number};
-ghost use Rattle.simplex.specs.Reading.{NoneTwice, AreOver};
+ghost use Rattle.frac128.specs.Values.{numerator, denominator};
+ghost use Rattle.simplex.specs.Reading.{HaveParts, NoneTwice, AreOver, frac_at};
 ghost use Rattle.simplex.specs.Solving.{IsOpening, IsAt};
 
 use crate::fault::Fault;
 use crate::opening::{opening_gains, opening_rows};
-use crate::reading::{column_of, negated, negated_at, spread};
+use crate::reading::{column_of, negated, spread};
 use frac128::Frac;
 use linear_rows::System;
 use simplex_rows::FracRow;
@@ -37,11 +38,12 @@ pub(crate) fn opening(alloc: Global, system: &System) -> Result<Table, Fault>
     let rows = opening_rows(alloc, system)?;
     let gains = opening_gains(alloc, system)?;
     let basis = counted(alloc, system.rows().len() as u32, system.unknowns())?;
+    let pivots = Vec::with_capacity(alloc, system.unknowns() as usize)?;
     Ok(Table {
         rows,
         gains,
         basis,
-        pivots: Vec::new(alloc),
+        pivots,
     })
 }
 
@@ -57,17 +59,18 @@ fn counted(alloc: Global, first: u32, count: u32) -> Result<Vec<u32>, AllocError
     Ok(all)
 }
 
-/// The solution, with one number for each unknown.
+/// The solution, with one number for each unknown, by the gains in the places of their columns.
 pub(crate) fn solution(
     alloc: Global,
     system: &System,
-    table: &Table,
+    gains: &[Frac],
 ) -> Result<Vec<Frac>, AllocError>
-    requires { right system.now < 2 ^ 32 }
-    ensures { (t : Tableau) → IsAt system.now table.now t → IfOk result (λ x. AreOver t.over (solution system.now t) x.items) }
+    requires { length gains.now ≡ right system.now }
+    ensures { IfOk result (λ x. HaveParts system.now.unknowns
+        (λ i. neg_ℤ (numerator (frac_at gains.now (length system.now.rows + i))))
+        (λ i. denominator (frac_at gains.now (length system.now.rows + i))) x.items) }
 {
-    let slack = system.rows().len() as u32;
-    negated_at(alloc, &table.gains, slack, system.unknowns())
+    negated(alloc, &gains[system.rows().len()..])
 }
 
 /// The dual solution, with one number for each row of the system.

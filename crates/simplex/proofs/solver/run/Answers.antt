@@ -1,9 +1,10 @@
-use Rattle.std.proofs.Common.{sym, length, ◌^◌}
+use Rattle.std.proofs.Common.{sym, ap, length, ◌^◌, Ok}
 use Rattle.simplex_spec.specs.Tableaux.{right}
 use Rattle.simplex.specs.Solving.{rule_of}
 use Rattle.simplex.proofs.Limits.{none_yet, says_not, says_cut, end_not_cut, rise_not_cut, refusal_not_cut}
 use Rattle.simplex.proofs.Solves.{basis_long}
-use Rattle.simplex.proofs.Tables.{opened_reached, fewer_pivots, shrinks, differ_at, differ_rising, best_of, refuted_of}
+use Rattle.simplex.proofs.Gains.{of_row}
+use Rattle.simplex.proofs.Tables.{reads_solution, opened_reached, fewer_pivots, shrinks, differ_at, differ_rising, best_of, refuted_of}
 use Rattle.simplex.proofs.solver.run.Goals as goal
 
 pub loop-scratch-init : goal.loop-scratch-init
@@ -13,6 +14,9 @@ pub loop-scratch-smaller : goal.loop-scratch-smaller
 loop-scratch-smaller g c =
     let r = rw c.in-Pivot.is at c.in_ok-make_step.ensures.step in
     shrinks (2 ^ right c.args.system.now) (length c.loop-scratch.table.pivots.items) (length c.make_step.new.table.pivots.items) r.1 (fewer_pivots (rule_of g.F.Fn c.args.chooser.now) c.args.system.now c.make_step.new.table c.rows.ensures.sound r.0)
+
+pub solution-requires : goal.solution-requires
+solution-requires g c = rw c.deref.ensures.value (c.in_ok-make_step.ensures.kept (ap Ok c.in-Best.is)).seen.count
 
 pub dual-requires-clause-one_each : goal.dual-requires-clause-one_each
 dual-requires-clause-one_each g c =
@@ -37,7 +41,14 @@ ray-requires-clause-once g c =
 pub returns-in-Best-clause-within : goal.returns-in-Best-clause-within
 returns-in-Best-clause-within g c =
     let r = rw c.in-Best.is at c.in_ok-make_step.ensures.step in
-    best_of (rule_of g.F.Fn c.args.chooser.now) c.args.system.now c.make_step.new.table c.in_ok-x-in-Best.x.items c.in_ok-dual-in-Best.dual.items c.rows.ensures.sound r.0 c.in_ok-x-in-Best.ensures c.in_ok-dual-in-Best.ensures
+    let s = c.args.system.now in
+    let table = c.make_step.new.table in
+    let seen = (c.in_ok-make_step.ensures.kept (ap Ok c.in-Best.is)).seen in
+    let read = rw c.deref.ensures.value at c.in_ok-x-in-Best.ensures in
+    best_of (rule_of g.F.Fn c.args.chooser.now) s table c.in_ok-x-in-Best.x.items c.in_ok-dual-in-Best.dual.items c.rows.ensures.sound r.0
+    (λ t after. reads_solution s c.rows.ensures.sound table.pivots.items table.basis.items table.rows.items table.gains t after c.in_ok-x-in-Best.x.items
+    (of_row (length s.rows) s.unknowns table.gains c.make_step.new.scratch.gains.items c.in_ok-x-in-Best.x.items seen read))
+    c.in_ok-dual-in-Best.ensures
 
 pub returns-in-Rises-clause-within : goal.returns-in-Rises-clause-within
 returns-in-Rises-clause-within g c =
