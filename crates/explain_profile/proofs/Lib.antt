@@ -1,2 +1,2 @@
-mod Calling
 mod Laid
+mod Spaces

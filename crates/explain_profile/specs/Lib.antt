@@ -1,4 +1,4 @@
 pub mod Runs
 pub mod Rows
 pub mod Read
-pub mod Calls
+pub mod Profile

@@ -4,7 +4,7 @@ ghost use Rattle.raml_syntax.specs.Read.{program_of, function_of};
 ghost use Rattle.call_groups.specs.Read.{ids_of};
 ghost use Rattle.explain_regions.specs.Read.{plain_lines};
 ghost use Rattle.explain_profile.specs.Rows.{lines_if, lines_of};
-ghost use Rattle.explain_profile.specs.Calls.{AreReachedLines};
+ghost use Rattle.explain_profile.specs.Profile.{AreReachedLines};
 
 use call_groups::group_calls;
 use explain_mending::reached;

@@ -37,13 +37,13 @@ pub(crate) enum Runs {
 
 /// Whose calls are profiled: a function of the program that this source spells.
 #[derive(Clone, Copy)]
-pub(crate) struct Case<'a> {
-    pub(crate) source: &'a [u8],
-    pub(crate) name: &'a str,
+pub struct Case<'a> {
+    pub source: &'a [u8],
+    pub name: &'a str,
     /// The greatest degree to try.
-    pub(crate) most: u8,
+    pub most: u8,
     /// The sizes of the function's parameters, where they are given.
-    pub(crate) sizes: Option<&'a [Size]>,
+    pub sizes: Option<&'a [Size]>,
 }
 
 /// The value of a bound at sizes that are given.

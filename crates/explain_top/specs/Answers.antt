@@ -31,7 +31,7 @@ use Rattle.explain_words.specs.declared.request.why.WhyWords.{WhyWords}
 use Rattle.explain_words.specs.declared.request.why.Written.{Written}
 use Rattle.explain_plot.specs.Calls as plot
 use Rattle.explain_words.specs.declared.request.profile.ProfileWords.{ProfileWords}
-use Rattle.explain_profile.specs.Calls as profile
+use Rattle.explain_profile_call.specs.Calls as profile
 use Rattle.explain_why.specs.Calls as why
 use Rattle.explain_why.specs.Outcome.{Outcome}
 use Rattle.explain_top.specs.Shelves.{Shelf, KeepsFiles, LeavesFile, HasFile, FailsToLeave}

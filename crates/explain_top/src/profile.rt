@@ -8,7 +8,7 @@ ghost use Rattle.explain_top.specs.Sinks.{sink_of};
 
 use crate::asked::{no_memory, put_text, write_report};
 use crate::status::Status;
-use explain_profile::tell_profile;
+use explain_profile_call::tell_profile;
 use explain_words::ProfileWords;
 use raml_io::{Sink, Store};
 use std::alloc::{AllocError, Global};

@@ -1,6 +1,6 @@
 use Rattle.std.proofs.Common.{string_bytes}
 use Rattle.explain_check.specs.Stores.{store_of}
-use Rattle.explain_profile.specs.Calls.{CallIs}
+use Rattle.explain_profile_call.specs.Calls.{CallIs}
 use Rattle.explain_top.specs.Answers.{status_at}
 use Rattle.explain_top.proofs.Telling.{tells}
 use Rattle.explain_top.proofs.profile.profile.Goals as goal

@@ -9,17 +9,14 @@ ghost use Rattle.explain_data.specs.Data.{no_function_line};
 ghost use Rattle.explain_check.specs.Stores.{store_of};
 ghost use Rattle.explain_words.specs.Laws.{IsDegree};
 ghost use Rattle.explain_words.specs.Spelled.{lent};
-ghost use Rattle.explain_profile.specs.Calls.{CallIs, EndsBy, FunctionIs, ProgramIs};
+ghost use Rattle.explain_profile_call.specs.Calls.{CallIs, EndsBy, FunctionIs, ProgramIs};
 ghost use Rattle.explain_profile.specs.Read.{sizes_in};
 
-use crate::counted::{Counted, count};
-use crate::lines::reached_lines;
-use crate::runs::{Case, Runs};
-use crate::table::{arrange, push_table};
 use explain_at::{Given, SizeFault, WordFault, read, sizes_at};
 use explain_calls::End;
 use explain_check::{Source, push_error, read_program};
 use explain_data::push_no_function;
+use explain_profile::{Case, push_profile};
 use explain_sizes::Size;
 use explain_words::ProfileWords;
 use raml_io::Store;
@@ -156,13 +153,6 @@ fn tell_given(
     }
 }
 
-/// Whether no region could be analysed.
-fn are_unanalysed(counted: &[Counted]) -> bool {
-    counted
-        .iter()
-        .all(|one| matches!(one.runs, Runs::NotAnalysed))
-}
-
 /// Tells it at sizes, where they are given.
 fn tell_sized(
     alloc: Global,
@@ -180,21 +170,19 @@ fn tell_sized(
         × (string_bytes text.new ≡ string_bytes text.old ++ shown)
         × (string_bytes report.new ≡ string_bytes report.old ++ part)) }
 {
+    let program = source.typed.program();
     let case = Case {
         source: &source.bytes,
         name: words.function,
         most: words.degree,
         sizes,
     };
-    let mut lines = reached_lines(alloc, &source.bytes, source.typed.program(), fun)?;
-    let counted = count(alloc, case, &lines)?;
-    if are_unanalysed(&counted) {
+    if push_profile(alloc, text, case, program, fun, function, words.at)? {
+        Ok(End::Told)
+    } else {
         report.push_str(
             "explain: no line can be counted, since a limit refuses the analyses: `explain bounds` says which\n",
         )?;
-        return Ok(End::NotAnalysed);
+        Ok(End::NotAnalysed)
     }
-    arrange(&counted, sizes.is_some(), &mut lines)?;
-    push_table(alloc, text, case, function, words.at, &counted, &lines)?;
-    Ok(End::Told)
 }

@@ -1,9 +1,7 @@
 -- What a call of `explain profile` tells.
-use Rattle.std.specs.Prelude.{◌≡◌, ◌⊎◌, ℕ, List, [], ◌∷◌, ◌++◌, Option, Some, None, Ok, IsPermutation, slice_get, codes}
+use Rattle.std.specs.Prelude.{◌≡◌, ◌⊎◌, ℕ, List, [], ◌∷◌, ◌++◌, Option, Some, None, Ok, slice_get, codes}
 use Rattle.raml_syntax.specs.Tree.{Text, Function, Prog}
 use Rattle.raml_syntax.specs.Place.{place_of}
-use Rattle.raml_syntax.specs.declared.program.FunId.{FunId}
-use Rattle.call_groups.specs.Read.{ids_of}
 use Rattle.explain_check.specs.Checks.{IsProgramOf, LacksProgram}
 use Rattle.explain_check.specs.Stores.{Store, Holds, error_line}
 use Rattle.explain_data.specs.Data.{no_function_line}
@@ -17,28 +15,10 @@ use Rattle.explain_at.specs.declared.fault.WordFault.{WordFault}
 use Rattle.explain_calls.specs.Sizes.{given_in}
 use Rattle.explain_calls.specs.declared.end.End.{End}
 use Rattle.explain_calls.specs.declared.end.End.TheVariants as e
-use Rattle.explain_mending.specs.Reached.{AreReached}
-use Rattle.explain_regions.specs.Lines as l
-use Rattle.explain_regions.specs.declared.line.Line.{Line}
-use Rattle.explain_regions.specs.Read.{plain_lines}
 use Rattle.explain_words.specs.Spelled.{lent}
 use Rattle.explain_words.specs.declared.request.profile.ProfileWords.{ProfileWords}
 use Rattle.explain_profile.specs.Runs.{Case}
-use Rattle.explain_profile.specs.Rows.{IsTable, lines_of}
-
--- the lines of functions that a function reaches by calls, in the order of the source
-pub record AreReachedLines (source : Text) (P : Prog) (f : ℕ) (lines : List l.Line) : Type 0 where
-  pub funs : List FunId
-  pub reached : AreReached P (f ∷ []) funs
-  pub are : lines ≡ lines_of source (ids_of funs) 0 P
-
--- A table with all these lines, in some order.
-pub record IsProfile (case : Case) (P : Prog) (f : ℕ) (g : Function) (text : Text) : Type 0 where
-  pub lines : List Line
-  pub reached : AreReachedLines case.source P f (plain_lines lines)
-  pub rows : List Line
-  pub same : IsPermutation lines rows
-  pub table : IsTable case g rows text
+use Rattle.explain_profile.specs.Profile.{IsProfile}
 
 -- no line is counted, and that is told
 abbrev pub not_counted : Text

@@ -13,7 +13,7 @@ use Rattle.explain_words.specs.declared.request.profile.ProfileWords.{ProfileWor
 use Rattle.explain_calls.specs.declared.end.End.TheVariants as e
 use Rattle.explain_sizes.specs.Sizes.{Sizes}
 use Rattle.explain_words.specs.Spelled.{lent}
-use Rattle.explain_profile.specs.Calls.{AreSizes, CallIs, EndsBy, FunctionIs, ProgramIs, function_at}
+use Rattle.explain_profile_call.specs.Calls.{AreSizes, CallIs, EndsBy, FunctionIs, ProgramIs, function_at}
 
 -- what is told by a call that appends to two texts
 abbrev pub Tells : {E : Type 0} → (End → Text → Text → Type 0) → Text → Text → Text → Text → Result End E → Type 0

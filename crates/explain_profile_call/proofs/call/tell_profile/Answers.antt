@@ -3,8 +3,8 @@ use Rattle.std.proofs.lemmas.List.{append-nil}
 use Rattle.explain_check.specs.Checks.{LacksProgram, ProgramGives}
 use Rattle.explain_check.specs.Stores.{store_of}
 use Rattle.explain_check.specs.declared.program.Source.{Source}
-use Rattle.explain_profile.proofs.Calling.{of_call}
-use Rattle.explain_profile.proofs.call.tell_profile.Goals as goal
+use Rattle.explain_profile_call.proofs.Calling.{of_call}
+use Rattle.explain_profile_call.proofs.call.tell_profile.Goals as goal
 
 pub returns-in-None-clause-told : goal.returns-in-None-clause-told
 returns-in-None-clause-told g c =
