@@ -31,7 +31,7 @@ pub fn pieces_of<'a>(
     requires { All (StandsIn text.now) tokens.now }
     ensures { IfOk result (λ ps. pieces ps.items ≡ map (as_token text.now) tokens.now) }
 {
-    let mut pieces = Vec::new(alloc);
+    let mut pieces = Vec::with_capacity(alloc, tokens.len())?;
     for token in tokens {
         pieces.push(piece_of(text, *token))?;
     }

@@ -73,8 +73,27 @@ impl<'a> Piece<'a> {
     }
 }
 
-/// The keyword or symbol that a word spells.
+/// The keyword or symbol that a word spells. Most are symbols or types, which are told by their bytes.
 pub fn sign_named(word: &str) -> Sign
+    ensures { result ≡ sign_of word.now }
+{
+    match word.as_bytes() {
+        [b'('] => Sign::Open,
+        [b')'] => Sign::Close,
+        [b','] => Sign::Comma,
+        [b':'] => Sign::Colon,
+        [b'='] => Sign::Equal,
+        [b'|'] => Sign::Bar,
+        [b':', b':'] => Sign::Cons,
+        [b'-', b'>'] => Sign::Arrow,
+        [b'i', b'n', b't'] => Sign::Int,
+        [b'l', b'i', b's', b't'] => Sign::List,
+        _ => sign_by_name(word),
+    }
+}
+
+// The same by one look after the other.
+fn sign_by_name(word: &str) -> Sign
     ensures { result ≡ sign_of word.now }
 {
     match word {

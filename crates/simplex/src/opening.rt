@@ -15,7 +15,7 @@ use simplex_rows::{FracRow, RowFault};
 use std::alloc::{AllocError, Global};
 
 /// So many fractions a row has room for from the start.
-pub(crate) const ROOM: usize = 8;
+pub(crate) const ROOM: usize = 10;
 
 /// `count` rows in which each number is 0.
 fn empty_rows(alloc: Global, count: u32) -> Result<Vec<FracRow>, AllocError>

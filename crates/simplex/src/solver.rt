@@ -186,7 +186,7 @@ pub(crate) fn new_scratch(
 ) -> Result<Scratch, AllocError>
     ensures { IfOk result (IsReady columns table.now) }
 {
-    let mut of_row = Vec::new(alloc);
+    let mut of_row = Vec::with_capacity(alloc, columns)?;
     Ok(Scratch {
         rows: RowScratch::new(alloc),
         marks: covering(alloc, &table.rows, columns, &mut of_row)?,

@@ -37,11 +37,12 @@ pub(crate) fn opening(alloc: Global, system: &System) -> Result<Table, Fault>
     let rows = opening_rows(alloc, system)?;
     let gains = opening_gains(alloc, system)?;
     let basis = counted(alloc, system.rows().len() as u32, system.unknowns())?;
+    let pivots = Vec::with_capacity(alloc, system.unknowns() as usize)?;
     Ok(Table {
         rows,
         gains,
         basis,
-        pivots: Vec::new(alloc),
+        pivots,
     })
 }
 
