@@ -1,10 +1,11 @@
 -- A row that is made column by column.
-use Rattle.std.proofs.Common.{◌*ℤ◌, ◌≡◌, ◌≢◌, refl, sym, ap, subst, ◌∙◌, ℕ, zero, suc, ◌+◌, ◌-◌, ◌<◌, ◌≤◌, ◌==◌, false, ℤ, pos, arith, List, [], ◌∷◌, ◌++◌, length, map, get_or, slice_set, take, Result, Ok, Err, OnOk, IsErrAnd, ◌⊎◌, inl, inr}
+use Rattle.std.proofs.Common.{◌*ℤ◌, ◌≡◌, ◌≢◌, refl, sym, ap, subst, ◌∙◌, ℕ, zero, suc, ◌+◌, ◌-◌, ◌<◌, ◌≤◌, ℤ, pos, arith, List, [], ◌∷◌, ◌++◌, length, map, get_or, slice_set, take, Result, Ok, Err, OnOk, IsErrAnd, ◌⊎◌, inl, inr}
 use Rattle.frac128.specs.declared.Frac.{Frac}
 use Rattle.frac128.specs.Nought.{nought}
 use Rattle.frac128.specs.Values.{numerator, denominator}
 use Rattle.simplex_rows.specs.Entries.{Entries, at, EndsBefore}
 use Rattle.simplex_rows.specs.Sweeping.{AddsWhole}
+use Rattle.simplex_rows.proofs.Appending.{none_from, before_up_to}
 use Rattle.linear_rows.specs.Terms.{Terms, SparseRow, coefficient, unknown_at, number_at, IsSparse}
 use Rattle.linear_rows.proofs.Places.{coefficient_at as coefficient_of}
 use Rattle.simplex_spec.specs.Places as places
@@ -46,14 +47,6 @@ pub coefficient_at : (u : ℕ) (rows : List SparseRow) (j : ℕ) (d : SparseRow)
 coefficient_at u [] j d h e = absurd (omega arith)
 coefficient_at u (r ∷ rows) zero d h e = ap (λ (row : SparseRow). coefficient u row.terms) e
 coefficient_at u (r ∷ rows) (suc j) d h e = coefficient_at u rows j d (omega arith) e
-
--- nothing stands past the last column
-none_from : (c k : ℕ) (es : Entries) → EndsBefore c es → c ≤ k → at k es ≡ nought
-none_from c k [] e h = refl
-none_from c k (d ∷ es) e h =
-    let l = e.0 in
-    let t : (d.0 == k) ≡ false = grind (arith, nat_tests) in
-    rw t (none_from c k es e.1 h)
 
 -- a row has no number past its end
 past : (xs : List ℤ) (c : ℕ) → length xs ≤ c → places.at xs c ≡ pos 0
@@ -98,10 +91,6 @@ module _ (s : LinearSystem) (i : ℕ) (inside : i < s.unknowns) (es one new : En
       ]
     ];
   }
-
-pub ends_later : (c k : ℕ) (es : Entries) → EndsBefore c es → c ≤ k → EndsBefore k es
-ends_later c k [] e h = tt
-ends_later c k (d ∷ es) e h = (let l = e.0 in omega arith, ends_later c k es e.1 h)
 
 -- rows without numbers
 empty_appended : (rows : List Entries) → ((i : ℕ) → entries_at rows i ≡ []) → (i : ℕ) → entries_at (rows ++ [] ∷ []) i ≡ []
@@ -171,7 +160,7 @@ pub no_term : (c : ℕ) (rows : List Entries) → ((i : ℕ) → i < length rows
 no_term c rows h = record {
   count = refl;
   added = λ i q. no_number c (entries_at rows i) (h i q);
-  before = λ i q. ends_later c (c + 1) (entries_at rows i) (h i q) (omega arith);
+  before = λ i q. before_up_to c (c + 1) (entries_at rows i) (h i q) (omega arith);
   kept = λ i e. refl;
 }
 
