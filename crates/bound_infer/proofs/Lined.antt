@@ -1,6 +1,7 @@
 -- The line of a function and a meter.
 use Rattle.std.proofs.Common.{◌≡◌, refl, ap, sym, ◌∙◌, subst, arith}
-use Rattle.std.specs.Prelude.{ℕ, zero, suc, ◌<◌, Bool, true, false, cond, ◌&&◌, List, [], ◌∷◌, ◌++◌, map, flat_map, filter, length, unsigned_abs, slice_get, Option, None, Some, IsSome, IfSome}
+use Rattle.std.proofs.lemmas.Bool.{and_parts}
+use Rattle.std.specs.Prelude.{ℕ, zero, suc, ◌<◌, Bool, true, false, cond, List, [], ◌∷◌, ◌++◌, map, flat_map, filter, length, unsigned_abs, slice_get, Option, None, Some, IsSome, IfSome}
 use Rattle.std.specs.Option.{option_map}
 use Rattle.std.proofs.lemmas.Option.{none-some, same_Some}
 use Rattle.raml_syntax.specs.Tree.{Function, Prog}
@@ -43,10 +44,6 @@ one_place p (y ∷ xs) x e = by (p y) refl e (one_place p xs x) where
   by true q e go = let same = head (filter p xs) e in (0, ap Some same, ap p (sym same) ∙ q)
   by false q e go = let r = go e in (suc r.0, r.1, r.2)
 
-both_true : (a b : Bool) → (a && b) ≡ true → (a ≡ true) × (b ≡ true)
-both_true true b e = (refl, e)
-both_true false b e = absurd (cc)
-
 of_meter : (meter : Meter) (kind : Kind) → is_for_meter meter kind ≡ true → kind ≡ k.With meter
 of_meter meter (Free budget fun target) e = absurd (cc)
 of_meter meter (k.With other) e = λ i. k.With (sym (same_meters meter other e) i)
@@ -80,7 +77,7 @@ module _ (P : Program) (cert : Certificate) (held : Held P cert) (f : ℕ) (mete
   place = one_place (is_for_function P meter f) cert.blocks b one
 
   is_of : IsBlockOf P cert f meter place.0 b
-  is_of = let both = both_true (is_for_meter meter b.task.kind) (is_among f (members P b.task.group)) place.2 in
+  is_of = let both = and_parts (is_for_meter meter b.task.kind) (is_among f (members P b.task.group)) place.2 in
       record { there = place.1; kind = of_meter meter b.task.kind both.0; has = both.1 }
 
   cost_is : cost_sig P meter cert.blocks f ≡ sig_in P b f
