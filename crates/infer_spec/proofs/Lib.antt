@@ -2,7 +2,7 @@ pub mod Lists
 mod Vectors
 pub mod Found
 mod RaisedRows
-mod Raising
+pub mod Raising
 pub mod Running
 pub mod Asked
 mod Certifying
