@@ -9,6 +9,6 @@ mod Certifying
 pub mod Single
 pub mod Short
 pub mod Clear
-mod Lines
+pub mod Lines
 pub mod Beginning
-mod Present
+pub mod Present
