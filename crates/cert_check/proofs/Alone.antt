@@ -28,7 +28,7 @@ use Rattle.cert_check.proofs.Fitted.{Tried, block_meets}
 
 -- Conditions that are met have no fault but a total that leaves, and none where all totals fit.
 
-abbrev LeavesAt : Option f.Fault → Type 0
+abbrev pub LeavesAt : Option f.Fault → Type 0
 LeavesAt None = Unit {0}
 LeavesAt (Some (f.Leaves path index)) = Unit {0}
 LeavesAt (Some (f.Fails path index)) = ⊥
@@ -40,7 +40,7 @@ met_leaves c m = by (nat_le too_great (total_left c) || nat_le too_great (total_
   by false false e = tt
   by false true e = let less : total_left c < total_right c = grind (arith, nat_tests, e) in absurd (omega (arith, less, m))
 
-all_met_leave : (cs : List (Condition Amount)) → AllMeet cs → LeavesAt (first_fault cs)
+pub all_met_leave : (cs : List (Condition Amount)) → AllMeet cs → LeavesAt (first_fault cs)
 all_met_leave [] m = tt
 all_met_leave (c ∷ cs) m = by (fault_at c) (met_leaves c m.0) (all_met_leave cs m.1) where
   by : (o : Option f.Fault) → LeavesAt o → LeavesAt (first_fault cs) → LeavesAt (or_fault o (first_fault cs))

@@ -13,7 +13,7 @@ use Rattle.infer_spec.specs.Lines.{IsBlockOf, BlocksAreThere}
 use Rattle.annot_types.proofs.Lists.{some_is, map_get, map_inv, take_map}
 
 -- a task with cost is never left out
-never_left : (meter : Meter) (past : List Outcome) (kind : Kind) → kind ≡ k.With meter → is_left_out past kind ≡ true → ⊥
+pub never_left : (meter : Meter) (past : List Outcome) (kind : Kind) → kind ≡ k.With meter → is_left_out past kind ≡ true → ⊥
 never_left meter past kind e h = by past (sym (ap (is_left_out past) e) ∙ h)
   where
     by : (past : List Outcome) → is_left_out past (k.With meter) ≡ true → ⊥
@@ -26,11 +26,11 @@ record IsWhole (ts : List Task) (past rest : List Outcome) : Type 0 where
   over : next_of ts past rest ≡ None
 
 -- an outcome of the task
-record HasCome (rest : List Outcome) (task : Task) : Type 0 where
-  place : ℕ
-  out : Outcome
-  there : slice_get rest place ≡ Some out
-  is : out.0 ≡ task
+pub record HasCome (rest : List Outcome) (task : Task) : Type 0 where
+  pub place : ℕ
+  pub out : Outcome
+  pub there : slice_get rest place ≡ Some out
+  pub is : out.0 ≡ task
 
 module _ (meter : Meter) where
   -- a task that is left out is not the one
@@ -77,12 +77,12 @@ module _ (meter : Meter) where
       by true q go on = let at = past_it t ts past i task q e kind in go (skipped q) at.0 task at.1 kind
       by false q go on = from q (on (later q)) i e
 
-in_left : {X : Type 0} (xs ys : List X) (x : X) (i : ℕ) → slice_get xs i ≡ Some x → (j : ℕ) × (slice_get (xs ++ ys) j ≡ Some x)
+pub in_left : {X : Type 0} (xs ys : List X) (x : X) (i : ℕ) → slice_get xs i ≡ Some x → (j : ℕ) × (slice_get (xs ++ ys) j ≡ Some x)
 in_left [] ys x i e = absurd (cc)
 in_left (z ∷ xs) ys x zero e = (zero, e)
 in_left (z ∷ xs) ys x (suc i) e = let r = in_left xs ys x i e in (suc r.0, r.1)
 
-in_right : {X : Type 0} (xs ys : List X) (x : X) (i : ℕ) → slice_get ys i ≡ Some x → (j : ℕ) × (slice_get (xs ++ ys) j ≡ Some x)
+pub in_right : {X : Type 0} (xs ys : List X) (x : X) (i : ℕ) → slice_get ys i ≡ Some x → (j : ℕ) × (slice_get (xs ++ ys) j ≡ Some x)
 in_right [] ys x i e = (i, e)
 in_right (z ∷ xs) ys x i e = let r = in_right xs ys x i e in (suc r.0, r.1)
 

@@ -1,5 +1,5 @@
 mod Same
-mod Forms
+pub mod Forms
 mod Names
 pub mod Places
 mod Counted
