@@ -16,8 +16,10 @@ use Rattle.poly_text.specs.Text.{index_text, more_entries, entries_text}
 use Rattle.bound_file.specs.Spelling.{Term, behind, term_text, IsNumber, tuple_text, IsTuple, IsTerm}
 use Rattle.bound_file.specs.Digits.{is_number}
 use Rattle.bound_file.specs.Tuples.{is_tuple}
-use Rattle.bound_file.specs.Reading.{in_range, cut_at, quotient_from, quotient_read, term_from, term_read}
-use Rattle.bound_file.proofs.Cuts.{cut_is, cut_there, no_cut, lacks_both}
+use Rattle.raml_syntax.specs.Cut.{cut_at}
+use Rattle.bound_file.specs.Reading.{in_range, quotient_from, quotient_read, term_from, term_read}
+use Rattle.raml_syntax.proofs.Cuts.{cut_is, cut_there, no_cut}
+use Rattle.bound_file.proofs.Cuts.{lacks_both}
 use Rattle.bound_file.proofs.Tupled.{some_have, tuple_read, tuple_is}
 
 pub ascii : IsNumeralModel (λ ds. all_ascii_digits ds ≡ true) (digits_value 10)

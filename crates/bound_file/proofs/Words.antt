@@ -14,7 +14,8 @@ use Rattle.raml_lex.specs.declared.token.TokenKind.TheVariants.{Name}
 use Rattle.raml_lex.specs.Lexemes.{is_lower, is_name_part, keywords, IsWord, IsLexeme}
 use Rattle.raml_lex.proofs.Words.{word_passes}
 use Rattle.raml_lex.proofs.Runs.{passes-head, passes-tail}
-use Rattle.bound_file.specs.Reading.{cut_at, with_front, is_word, is_name}
+use Rattle.raml_syntax.specs.Cut.{cut_at, with_front}
+use Rattle.bound_file.specs.Reading.{is_word, is_name}
 
 no : {A : Type 0} → false ≡ true → A
 no e = absurd (cc)

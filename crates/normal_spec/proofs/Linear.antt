@@ -11,7 +11,9 @@ use Rattle.normal_spec.specs.Uses.{Context, AreNew, Distinct, Takes, types_of, p
 use Rattle.normal_spec.proofs.StepOne.{same_number, other_number}
 use Rattle.normal_spec.proofs.TypedOne.{Given, more, AllGiven, OfType}
 use Rattle.normal_spec.proofs.StepTwo.{two_grows}
-use Rattle.normal_spec.proofs.Weights.{same_type, same_refl, same_is, has_append, has_put, has_find, distinct_append, distinct_put, has_used, distinct_used, distinct_unused, AllLow, low_more, low_append, low_put, low_used, low_unused, low_absent, weigh, weigh_append, weigh_put, weigh_used, weigh_unused}
+use Rattle.raml_syntax.specs.SameType.{same_type}
+use Rattle.raml_syntax.proofs.SameType.{same_self, same_is}
+use Rattle.normal_spec.proofs.Weights.{has_append, has_put, has_find, distinct_append, distinct_put, has_used, distinct_used, distinct_unused, AllLow, low_more, low_append, low_put, low_used, low_unused, low_absent, weigh, weigh_append, weigh_put, weigh_used, weigh_unused}
 use Rattle.normal_spec.proofs.Opened.{as_opened}
 use Rattle.normal_spec.proofs.FreeUses.{uses_free}
 
@@ -105,7 +107,7 @@ abbrev hit : ℕ → Type' → ℕ × Type' → ℕ
 hit c B e = cond (nat_eq c e.0 && same_type e.1 B) 1 0
 
 hit_self : (c : ℕ) (B : Type') → hit c B (c, B) ≡ 1
-hit_self c B = (λ i. cond (same_number c i && same_type B B) 1 0) ∙ ap (λ b. cond b 1 0) (same_refl B)
+hit_self c B = (λ i. cond (same_number c i && same_type B B) 1 0) ∙ ap (λ b. cond b 1 0) (same_self B)
 
 hit_absent : (c : ℕ) (B : Type') (C : Context) → has c C ≡ false → weigh (hit c B) C ≡ 0
 hit_absent c B [] h = refl

@@ -1,4 +1,3 @@
-mod Same
 pub mod Forms
 mod Names
 pub mod Places
