@@ -2,6 +2,7 @@ mod Same
 pub mod Forms
 mod Names
 pub mod Places
+pub mod Placing
 mod Counted
 mod Tables
 mod Standing
