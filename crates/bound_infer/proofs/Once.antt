@@ -1,7 +1,7 @@
 -- In a whole run of the schedule a task with cost comes once.
 use Rattle.std.proofs.Common.{◌≡◌, refl, ap, sym, ◌∙◌, arith, inl, inr, ◌⊎◌, ⊎_elim}
 use Rattle.std.proofs.lemmas.List.Elements.{filter-append}
-use Rattle.std.specs.Prelude.{ℕ, zero, suc, ◌+◌, ◌<◌, nat_eq, nat_le, Bool, true, false, cond, ◌&&◌, ◌||◌, List, [], ◌∷◌, ◌++◌, map, flat_map, filter, take, length, slice_get, None, Some}
+use Rattle.std.specs.Prelude.{ℕ, zero, suc, ◌+◌, ◌<◌, nat_eq, nat_le, Bool, true, false, cond, ◌&&◌, ◌||◌, List, [], ◌∷◌, ◌++◌, map, flat_map, filter, take, length, slice_get, Some}
 use Rattle.std.specs.List.{range_with_len, Contains}
 use Rattle.std.proofs.lemmas.Bool.{eqb-true, eq-eqb}
 use Rattle.std.proofs.lemmas.Option.{none-some, same_Some}
@@ -16,11 +16,7 @@ use Rattle.cost_free.specs.Task as k
 use Rattle.cost_free.specs.Task.{Kind, Free, Task, Outcome, same_meter}
 use Rattle.cost_free.specs.Schedule.{meters, targets_at, tasks_for, free_tasks, group_tasks, tasks_from, is_left_out, next_of}
 use Rattle.cost_free.specs.Blocked.{row, is_among, is_for_meter}
-
--- Each outcome is of the schedule's next task, and after all of them there is none.
-pub record IsWhole (ts : List Task) (past rest : List Outcome) : Type 0 where
-  pub tasks : (i : ℕ) (o : Outcome) → slice_get rest i ≡ Some o → next_of ts past (take i rest) ≡ Some o.0
-  pub over : next_of ts past rest ≡ None
+use Rattle.infer_spec.proofs.Present.{IsWhole}
 
 apart : true ≡ false → ⊥
 apart e = cc

@@ -1,6 +1,7 @@
 pub mod Forms
 mod Names
 pub mod Places
+pub mod Placing
 mod Counted
 mod Tables
 mod Standing
