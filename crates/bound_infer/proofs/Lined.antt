@@ -1,7 +1,8 @@
 -- The line of a function and a meter.
 use Rattle.std.proofs.Common.{◌≡◌, refl, ap, sym, ◌∙◌, subst, arith}
+use Rattle.std.proofs.lemmas.List.{append-nil}
 use Rattle.std.proofs.lemmas.Bool.{and_parts}
-use Rattle.std.specs.Prelude.{ℕ, zero, suc, ◌<◌, Bool, true, false, cond, List, [], ◌∷◌, ◌++◌, map, flat_map, filter, length, unsigned_abs, slice_get, Option, None, Some, IsSome, IfSome}
+use Rattle.std.specs.Prelude.{ℕ, zero, suc, ◌<◌, Bool, true, false, cond, List, [], ◌∷◌, map, flat_map, filter, length, unsigned_abs, slice_get, Option, None, Some, IsSome, IfSome}
 use Rattle.std.specs.Option.{option_map}
 use Rattle.std.proofs.lemmas.Option.{none-some, same_Some}
 use Rattle.raml_syntax.specs.Tree.{Function, Prog}
@@ -104,14 +105,10 @@ module _ (P : Program) (cert : Certificate) (held : Held P cert) (f : ℕ) (mete
     claims NoBound body q h = ap (claim_of P cert meter b f) h.1
     claims (Calls fun) body q h = ap (claim_of P cert meter b f) h
 
-    append_none : {X : Type 0} (xs : List X) → xs ++ [] ≡ xs
-    append_none [] = refl
-    append_none (x ∷ xs) = ap (λ l. x ∷ l) (append_none xs)
-
     pub one_line : (l : Line) → IsToldBy bound b.body l → lines_for P cert f meter ≡ line f meter (t.claim_of l) ∷ []
     one_line l h =
         ap (λ bs. map (line f meter) (flat_map (λ (b : Block). claim_of P cert meter b f b.body) bs)) one
-        ∙ ap (map (line f meter)) (append_none (claim_of P cert meter b f b.body) ∙ claims l b.body refl h)
+        ∙ ap (map (line f meter)) (append-nil (claim_of P cert meter b f b.body) ∙ claims l b.body refl h)
 
     pub is_written : (l : Line) → IsToldBy bound b.body l → IfSome bound IsPoly → IsWritten l
     is_written (Bound poly) h w = subst (λ o. IfSome o IsPoly) h.0 w

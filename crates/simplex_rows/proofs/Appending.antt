@@ -1,5 +1,6 @@
 -- A fraction after the others.
 use Rattle.std.proofs.Common.{◌≡◌, ◌≢◌, refl, sym, ap, subst, ◌∙◌, ℕ, suc, ◌<◌, ◌≤◌, [], ◌∷◌, ◌++◌, arith, pos, Bool, true, false, ◌==◌, if◌then◌else◌, Result, Ok, Err, OnOk}
+use Rattle.std.proofs.lemmas.List.{append-nil}
 use Rattle.std.specs.declared.alloc.AllocError.{AllocError}
 use Rattle.std.specs.Ordering.{int_eq}
 use Rattle.std.proofs.lemmas.Bool.Decides.{nat_tests}
@@ -40,10 +41,6 @@ pub before_up_to : (c k : ℕ) (es : Entries) → EndsBefore c es → c ≤ k �
 before_up_to c k [] e h = tt
 before_up_to c k (d ∷ es) e h = (let l = e.0 in omega arith, before_up_to c k es e.1 h)
 
-pub none_after : (o : Entries) → o ++ [] ≡ o
-none_after [] = refl
-none_after (x ∷ o) = ap (λ (es : Entries). x ∷ es) (none_after o)
-
 pub snoc : (es : Entries) (x : ℕ × Frac) (rest : Entries) → (es ++ x ∷ []) ++ rest ≡ es ++ x ∷ rest
 snoc [] x rest = refl
 snoc (e ∷ es) x rest = ap (λ (ds : Entries). e ∷ ds) (snoc es x rest)
@@ -61,7 +58,7 @@ pushed c x es e = by (int_eq x.num (pos 0)) refl
     by true z =
         let n : x.num ≡ pos 0 = grind (arith, nat_tests) in
         let a = none_from c c es e (omega arith) in
-        subst (Pushed c x es) (sym (none_after es)) (record {
+        subst (Pushed c x es) (sym (append-nil es)) (record {
           sparse = λ s. s;
           adds = record { num = ap (λ (y : Frac). y.num) a ∙ sym n; den = ap (λ (y : Frac). y.den) a ∙ sym (over_one x n); others = λ k m. refl };
           before = λ k h. before_up_to c k es e (omega arith);

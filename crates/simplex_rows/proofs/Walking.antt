@@ -1,5 +1,6 @@
 -- A walk over two rows, step by step.
 use Rattle.std.proofs.Common.{◌≡◌, refl, sym, ap, subst, ◌∙◌, ℕ, suc, ◌<◌, ◌≤◌, min, [], ◌∷◌, ◌++◌, arith, pos, Bool, true, false, Some, ◌==◌, if◌then◌else◌}
+use Rattle.std.proofs.lemmas.List.{append-nil}
 use Rattle.std.proofs.lemmas.Bool.Decides.{nat_tests}
 use Rattle.std.specs.Ordering.{int_eq}
 use Rattle.frac128.specs.declared.Frac.{Frac}
@@ -8,7 +9,7 @@ use Rattle.simplex_rows.specs.Entries.{Entries, IsLess, LessLeaves, SparseFrom, 
 use Rattle.simplex_rows.specs.Merging.{least_column, Takes, put, Steps, Merges, End, Step, MergeLeaves, Here, There}
 use Rattle.simplex_rows.proofs.Differing.{less_nothing}
 use Rattle.simplex_rows.proofs.Pointwise.{both_from, takes_sparse}
-use Rattle.simplex_rows.proofs.Appending.{none_after, snoc, whole_put, before_up_to, pushed_to}
+use Rattle.simplex_rows.proofs.Appending.{snoc, whole_put, before_up_to, pushed_to}
 
 -- after a front of the walk: what ends the rest, ends all, and what leaves in the rest, leaves in all
 pub record Reached (f : Frac) (xs qs rest_x rest_q out : Entries) : Type 0 where
@@ -24,7 +25,7 @@ append_put : (c : ℕ) (r : Frac) (out rs : Entries) → (out ++ put c r []) ++ 
 append_put c r out rs = by (int_eq r.num (pos 0))
   where
     by : (b : Bool) → (out ++ (if b then [] else (c, r) ∷ [])) ++ rs ≡ out ++ (if b then rs else (c, r) ∷ rs)
-    by true = ap (λ (es : Entries). es ++ rs) (none_after out)
+    by true = ap (λ (es : Entries). es ++ rs) (append-nil out)
     by false = snoc out (c, r) rs
 
 stepped : (f : Frac) (xs qs rest_x rest_q out : Entries) (c : ℕ) (x q r : Frac) (xs' qs' new : Entries) → Reached f xs qs rest_x rest_q out → Steps rest_x rest_q c x q xs' qs' → IsLess x f q r → new ≡ out ++ put c r []
@@ -63,7 +64,7 @@ AllStartAfter (e ∷ es) qs = StartsAfter e.0 qs × AllStartAfter es qs
 
 -- the walk past fractions that only the first row has
 passes : (f : Frac) (xs qs front rest_x rest_q out : Entries) → Reached f xs qs (front ++ rest_x) rest_q out → AllStartAfter front rest_q → Reached f xs qs rest_x rest_q (out ++ front)
-passes f xs qs [] rest_x rest_q out reached h = rw (none_after out) reached
+passes f xs qs [] rest_x rest_q out reached h = rw (append-nil out) reached
 passes f xs qs ((k, x) ∷ front) rest_x rest_q out reached h =
     let next = stepped f xs qs ((k, x) ∷ (front ++ rest_x)) rest_q out k x nought x (front ++ rest_x) rest_q (out ++ (k, x) ∷ []) reached
     (only_row k x (front ++ rest_x) rest_q h.0) (less_nothing x f nought refl) (ap (λ (es : Entries). out ++ es) (sym (whole_put k x reached.row.1))) in
@@ -112,10 +113,10 @@ module _ (f : Frac) (xs qs row lead out : Entries) (reached : Reached f xs qs ro
 -- the end of the walk, where the lead has no more
 module _ (f : Frac) (xs qs row lead out : Entries) (reached : Reached f xs qs row lead out) (lead_is : lead ≡ []) where
   all_passed : Reached f xs qs [] [] (out ++ row)
-  all_passed = passes f xs qs row [] [] out (rw (none_after row, ← lead_is) reached) (none_after_none row)
+  all_passed = passes f xs qs row [] [] out (rw (append-nil row, ← lead_is) reached) (none_after_none row)
 
   pub last_room : IsSparse (out ++ row)
   last_room = all_passed.made
 
   pub ended : Merges f xs qs (out ++ row)
-  ended = subst (λ (es : Entries). Merges f xs qs es) (none_after (out ++ row)) (all_passed.ends [] (End refl refl))
+  ended = subst (λ (es : Entries). Merges f xs qs es) (append-nil (out ++ row)) (all_passed.ends [] (End refl refl))
