@@ -1,5 +1,6 @@
 -- In a certificate that is held and small nothing is found but a total that leaves its range.
 use Rattle.std.proofs.Common.{◌≡◌, refl, ap, sym, ◌∙◌, subst, arith, inl, inr}
+use Rattle.std.proofs.Math.Seq.{take-append_seam}
 use Rattle.std.specs.Prelude.{ℕ, ◌*◌, ◌<◌, ◌≤◌, ◌||◌, Bool, true, false, cond, nat_lt, nat_le, List, [], ◌∷◌, ◌++◌, length, take, slice_get, Option, None, Some}
 use Rattle.std.specs.Option.{option_map}
 use Rattle.std.proofs.lemmas.Bool.Decides.{nat_tests}
@@ -186,16 +187,12 @@ module _ (P : Program) (proper : IsProper P) (c : Certificate) (held : Held P c)
   abbrev Rest : List Block → List Block → Type 0
   Rest earlier bs = (earlier ++ bs) ≡ c.blocks
 
-  took : (earlier bs : List Block) → take (length earlier) (earlier ++ bs) ≡ earlier
-  took [] bs = refl
-  took (b ∷ earlier) bs = ap (◌∷◌ b) (took earlier bs)
-
   first_there : (earlier : List Block) (b : Block) (bs : List Block) → slice_get (earlier ++ b ∷ bs) (length earlier) ≡ Some b
   first_there [] b bs = refl
   first_there (x ∷ earlier) b bs = first_there earlier b bs
 
   is_before : (earlier bs : List Block) → Rest earlier bs → before c (length earlier) ≡ earlier
-  is_before earlier bs e = ap (take (length earlier)) (sym e) ∙ took earlier bs
+  is_before earlier bs e = ap (take (length earlier)) (sym e) ∙ take-append_seam earlier bs
 
   is_at : (earlier : List Block) (b : Block) (bs : List Block) → Rest earlier (b ∷ bs) → IsAt (length earlier) b
   is_at earlier b bs e = ap (λ xs. slice_get xs (length earlier)) (sym e) ∙ first_there earlier b bs

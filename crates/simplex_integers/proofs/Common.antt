@@ -1,5 +1,6 @@
 -- Common multiples of lists.
 use Rattle.std.proofs.Common.{rules, FitsSigned, ◌≡◌, ◌≤◌, ◌<◌, ◌+◌, ◌*◌, ◌/◌, ℕ, zero, suc, ℤ, pos, List, [], ◌∷◌, ◌++◌, map, take, length, slice_index_or, refl, sym, ap, ◌∙◌, subst, arith}
+use Rattle.std.proofs.Math.Seq.{take-length}
 use Rattle.std.proofs.lemmas.List.{length-map}
 use Rattle.std.specs.Int.{w128}
 use Rattle.std.proofs.lemmas.Nat.Gcd.{dvd_refl, dvd_trans, le_of_dvd}
@@ -65,10 +66,6 @@ take_next f [] k d l = absurd (omega (arith, l))
 take_next f (x ∷ xs) zero d l = refl
 take_next f (x ∷ xs) (suc k) d l = ap (λ ys. f x ∷ ys) (take_next f xs k d (omega (arith, l)))
 
-pub take_all : {X : Type 0} (xs : List X) → take (length xs) xs ≡ xs
-take_all [] = refl
-take_all (x ∷ xs) = ap (λ ys. x ∷ ys) (take_all xs)
-
 -- there is a least common multiple of two positive numbers
 some_lcm : (a n : ℕ) → 0 < n → (m : ℕ) × IsLcm a n m
 some_lcm a n pn = let g = through (a + n) a n 1 1 (omega arith) (one-dvd (a * 1)) (one-dvd (n * 1)) in (a / g.0 * n, is_lcm a n g.0 pn g.1)
@@ -114,7 +111,7 @@ leaves_at fs k l d inside h n = record {
 }
 
 pub all_of : (fs : List Frac) (k l : ℕ) → k ≡ length fs → IsDenominator (take k (denominators fs)) l → IsDenominator (denominators fs) l
-all_of fs k l e h = subst (λ ns. IsDenominator ns l) ((λ i. take ((e ∙ sym (length-map fs denominator)) i) (denominators fs)) ∙ take_all (denominators fs)) h
+all_of fs k l e h = subst (λ ns. IsDenominator ns l) ((λ i. take ((e ∙ sym (length-map fs denominator)) i) (denominators fs)) ∙ take-length (denominators fs)) h
 
 -- Numbers
 
@@ -160,7 +157,7 @@ number_leaves fs l k d inside h high = record {
     before (x ∷ xs) (suc k) (suc i) q = before xs k i (omega (arith, q))
 
 pub numbers_all : (fs : List Frac) (l k : ℕ) → k ≡ length fs → take k (all_over l fs) ≡ all_over l fs
-numbers_all fs l k e = (λ i. take ((e ∙ sym (length-map fs (over l))) i) (all_over l fs)) ∙ take_all (all_over l fs)
+numbers_all fs l k e = (λ i. take ((e ∙ sym (length-map fs (over l))) i) (all_over l fs)) ∙ take-length (all_over l fs)
 
 pub number_fits : (n : ℕ) (z : ℤ) → IsNumber n z → FitsSigned w128 z
 number_fits n z h = subst (FitsSigned w128) (sym h.is) (let l = h.fits in search rules)
