@@ -150,7 +150,8 @@ IsDraftLeft store shelf file bounds degree force err status =
 abbrev pub LeavesWritten : Shelf → Written → Option Text → Status → Text → Type 0
 LeavesWritten shelf written (Some text) status part = IsTextLeft shelf written.name.now written.force text status part
 LeavesWritten shelf written None status part =
-    KeepsFiles shelf × (status ≡ s.Refused) × (part ≡ error_line written.name.now (codes "is not written: no change was found that gives bounds"))
+    KeepsFiles shelf × (status ≡ s.Refused)
+    × (part ≡ error_line written.name.now (codes "is not written: no change was found that gives bounds"))
 
 -- what is left by a call that ends so
 abbrev pub LeavesChange : Shelf → Option Written → End → Option Text → Status → Text → Type 0
