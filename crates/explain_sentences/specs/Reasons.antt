@@ -27,7 +27,8 @@ abbrev pub closing : Reason → Text
 closing (r.Waits callee stuck) = closing_of_stuck stuck.items
 closing (r.Rebuild rebuilt) = codes "The analysis loses track of a value that is used whole beside its parts.\n"
 closing (r.Inline inlined) =
-    codes "A result that hides which value it holds, as an option may, is paid for in every case; written out, each case pays for its own.\n"
+    codes "A result that hides which value it holds, as an option may, is paid for in every case; "
+    ++ codes "written out, each case pays for its own.\n"
 closing (r.Stuck calls supplied) = closing_of_stuck calls.items
 closing (r.Twice pairs) = codes "The number of calls doubles with each part, and no polynomial bounds that.\n"
 closing (r.Computed calls supplied) = codes "What another call made is not known to be smaller, so the number of calls has no bound.\n"
