@@ -1,5 +1,5 @@
 // Numbers at the ends of names.
-use crate::stretch::word;
+use explain_tokens::word;
 use raml_lex::{Token, TokenKind};
 
 /// The number of the digits at the end of a word, 0 where there are none.

@@ -1,35 +1,7 @@
 // Where a function's body stands in its source.
-ghost use Rattle.std.specs.Prelude.{◌≡◌, take, drop};
-
+use explain_tokens::{Stretch, word};
 use raml_lex::Token;
 use raml_syntax::Pos;
-
-/// Bytes of a source, from one on and before another.
-#[derive(Clone, Copy, PartialEq, Eq, Debug)]
-pub struct Stretch {
-    pub from: usize,
-    pub to: usize,
-}
-
-/// The source from a byte on.
-pub fn starting(source: &[u8], from: usize) -> &[u8]
-    ensures { result.now ≡ drop from source.now }
-{
-    &source[from.min(source.len())..]
-}
-
-/// The source before a byte.
-pub fn ending_at(source: &[u8], to: usize) -> &[u8]
-    ensures { result.now ≡ take to source.now }
-{
-    &source[..to.min(source.len())]
-}
-
-/// The bytes of a token.
-pub fn word<'s>(source: &'s [u8], token: &Token) -> &'s [u8] {
-    let begun = ending_at(source, token.end.0 as usize);
-    starting(begun, token.at.0 as usize)
-}
 
 /// The body of the function whose `fun` stands at this place: from behind the `=` of its header to the end of its last token.
 pub fn body_stretch(source: &[u8], tokens: &[Token], fun: Pos) -> Option<Stretch> {

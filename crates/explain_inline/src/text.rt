@@ -2,13 +2,13 @@
 ghost use Rattle.std.specs.Prelude.{◌≡◌, IfOk, IfSome};
 ghost use Rattle.explain_inline.specs.Texts.{IsReplaced, with_stretch};
 
+use crate::how::How;
 use crate::numbers::greatest_number;
-use crate::stretch::{Stretch, body_stretch, ending_at, starting};
+use crate::stretch::body_stretch;
 use call_groups::Groups;
-use explain_check::MOST_BYTES;
 use explain_mending::callees;
-use explain_written::written_out;
-use raml_lex::{LexFault, Token, tokens};
+use explain_tokens::{Stretch, ending_at, source_tokens, starting};
+use explain_written::{unfolded, written_out};
 use raml_syntax::{Fun, FunId, Program};
 use std::alloc::{AllocError, Global};
 
@@ -42,37 +42,67 @@ pub fn inlined_text(
 ) -> Result<Option<Vec<u8>>, AllocError>
     ensures { IfOk result (λ text. IfSome text (λ t. IsReplaced source.now t.items)) }
 {
-    if !callees(groups, caller).contains(&callee) || !is_alone(groups, callee) {
+    if !is_alone(groups, callee) {
+        return Ok(None);
+    }
+    changed_text(alloc, source, program, groups, How::Inlined, caller, callee)
+}
+
+/// The source in which those calls of `callee` are unfolded in `caller` of an argument of which it is known of what it is built, as
+/// `x :: l`: its body stands there once, and what takes the argument apart is settled. All else of the source is kept, comments
+/// and layout too, but for comments in the caller's body.
+///
+/// None where there are no such calls, and where the body becomes too large.
+pub fn unfolded_text(
+    alloc: Global,
+    source: &[u8],
+    program: &Program,
+    groups: &Groups,
+    caller: FunId,
+    callee: FunId,
+) -> Result<Option<Vec<u8>>, AllocError>
+    ensures { IfOk result (λ text. IfSome text (λ t. IsReplaced source.now t.items)) }
+{
+    changed_text(
+        alloc,
+        source,
+        program,
+        groups,
+        How::Unfolded,
+        caller,
+        callee,
+    )
+}
+
+/// The source in which calls of `callee` are changed in `caller`.
+fn changed_text(
+    alloc: Global,
+    source: &[u8],
+    program: &Program,
+    groups: &Groups,
+    how: How,
+    caller: FunId,
+    callee: FunId,
+) -> Result<Option<Vec<u8>>, AllocError>
+    ensures { IfOk result (λ text. IfSome text (λ t. IsReplaced source.now t.items)) }
+{
+    if !callees(groups, caller).contains(&callee) {
         return Ok(None);
     }
     match program.funs.get(caller.0 as usize) {
         Some(caller) => match program.funs.get(callee.0 as usize) {
-            Some(callee) => with_new_body(alloc, source, caller, callee),
+            Some(callee) => with_new_body(alloc, source, how, caller, callee),
             None => Ok(None),
         },
         None => Ok(None),
     }
 }
 
-/// The tokens of a source. None where it has none, or is too long.
-fn source_tokens(alloc: Global, source: &[u8]) -> Result<Option<Vec<Token>>, AllocError> {
-    if source.len() as u64 > MOST_BYTES {
-        return Ok(None);
-    }
-    match std::str::from_utf8(source) {
-        Ok(text) => match tokens(alloc, text) {
-            Ok(tokens) => Ok(Some(tokens)),
-            Err(LexFault::NoMemory) => Err(AllocError),
-            Err(_) => Ok(None),
-        },
-        Err(_) => Ok(None),
-    }
-}
-
-/// The source with another body of the caller, in which the calls of the callee are written out.
+/// The source with another body of the caller, in which calls of the callee are changed.
 fn with_new_body(
     alloc: Global,
     source: &[u8],
+    how: How,
     caller: &Fun,
     callee: &Fun,
 ) -> Result<Option<Vec<u8>>, AllocError>
@@ -86,11 +116,25 @@ fn with_new_body(
         return Ok(None);
     }
     match body_stretch(source, &tokens, caller.at) {
-        Some(stretch) => match written_out(alloc, callee, &caller.body, number)? {
+        Some(stretch) => match new_body(alloc, how, caller, callee, number)? {
             Some(text) => Ok(Some(with_text(alloc, source, stretch, text.as_bytes())?)),
             None => Ok(None),
         },
         None => Ok(None),
+    }
+}
+
+/// The body of the caller in which calls of the callee are changed. New names end in numbers above the one given.
+fn new_body(
+    alloc: Global,
+    how: How,
+    caller: &Fun,
+    callee: &Fun,
+    number: u32,
+) -> Result<Option<String>, AllocError> {
+    match how {
+        How::Inlined => written_out(alloc, callee, &caller.body, number),
+        How::Unfolded => unfolded(alloc, callee, &caller.body, number),
     }
 }
 

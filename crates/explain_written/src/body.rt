@@ -1,4 +1,5 @@
 // The texts of bodies.
+use crate::callee::{Callee, Calls};
 use crate::names::Names;
 use crate::place::{Place, Rest};
 use crate::writer::Writer;
@@ -22,15 +23,47 @@ pub fn written_out(
     body: &Expr,
     number: u32,
 ) -> Result<Option<String>, AllocError> {
+    let callee = Callee {
+        fun: callee,
+        calls: Calls::All,
+    };
     text_with(alloc, Some(callee), body, number)
 }
 
-fn text_with(
+/// The text of an expression in which calls of a function are unfolded: its body stands for each call with an argument of which it
+/// is known of what it is built, as `x :: l`, and what takes that apart is settled. Calls in the body stay calls. New names end in
+/// numbers above the one given. None where there is no such call, and where the text is too large.
+pub fn unfolded(
     alloc: Global,
-    callee: Option<&Fun>,
+    callee: &Fun,
     body: &Expr,
     number: u32,
 ) -> Result<Option<String>, AllocError> {
+    let callee = Callee {
+        fun: callee,
+        calls: Calls::OfKnown,
+    };
+    let out = written_with(alloc, Some(callee), body, number);
+    let is_unfolded = out.has_new_since(number);
+    let text = out.finish()?;
+    Ok(if is_unfolded { text } else { None })
+}
+
+fn text_with<'a>(
+    alloc: Global,
+    callee: Option<Callee<'a>>,
+    body: &'a Expr,
+    number: u32,
+) -> Result<Option<String>, AllocError> {
+    written_with(alloc, callee, body, number).finish()
+}
+
+fn written_with<'a>(
+    alloc: Global,
+    callee: Option<Callee<'a>>,
+    body: &'a Expr,
+    number: u32,
+) -> Writer {
     let mut out = Writer::new(alloc, number);
     let place = Place {
         callee,
@@ -42,5 +75,5 @@ fn text_with(
         depth: MOST_DEPTH,
     };
     write_block(&mut out, place, body);
-    out.finish()
+    out
 }

@@ -2,12 +2,15 @@
 #![tactic(auto)]
 
 mod body;
+mod callee;
 mod infix;
+mod known;
 mod names;
 mod place;
 mod settled;
 mod shape;
+mod uses;
 mod writer;
 mod writing;
 
-pub use body::{body_text, written_out};
+pub use body::{body_text, unfolded, written_out};

@@ -1,5 +1,5 @@
 // Names as they are written.
-use raml_syntax::Name;
+use raml_syntax::{Expr, Name, Ty};
 
 /// A name as it is written: with a number behind it, or with none where that is 0.
 #[derive(Clone, Copy)]
@@ -18,6 +18,23 @@ pub enum Names<'s, 'a> {
         written: Written<'a>,
         outer: &'s Names<'s, 'a>,
     },
+    /// A name of which it is known of what its value is built, where other names are at hand.
+    Known {
+        name: &'a Name,
+        written: Written<'a>,
+        value: &'a Expr,
+        ty: Option<&'a Ty>,
+        at: &'s Names<'s, 'a>,
+        outer: &'s Names<'s, 'a>,
+    },
+}
+
+/// Of what a value is built, which type it has where that is known, and what stands there for names.
+#[derive(Clone, Copy)]
+pub struct Known<'s, 'a> {
+    pub value: &'a Expr,
+    pub ty: Option<&'a Ty>,
+    pub names: &'s Names<'s, 'a>,
 }
 
 impl<'s, 'a> Names<'s, 'a> {
@@ -29,6 +46,12 @@ impl<'s, 'a> Names<'s, 'a> {
                 name: bound,
                 written,
                 outer,
+            }
+            | Names::Known {
+                name: bound,
+                written,
+                outer,
+                ..
             } => {
                 if name.text() == bound.text() {
                     *written
@@ -39,11 +62,62 @@ impl<'s, 'a> Names<'s, 'a> {
         }
     }
 
+    /// Of what the value of the variable of this name is built, where that is known.
+    pub fn known(&self, name: &Name) -> Option<Known<'s, 'a>> {
+        match self {
+            Names::Empty => None,
+            Names::Bound {
+                name: bound, outer, ..
+            } => {
+                if name.text() == bound.text() {
+                    None
+                } else {
+                    outer.known(name)
+                }
+            }
+            Names::Known {
+                name: bound,
+                value,
+                ty,
+                at,
+                outer,
+                ..
+            } => {
+                if name.text() == bound.text() {
+                    Some(Known {
+                        value: *value,
+                        ty: *ty,
+                        names: *at,
+                    })
+                } else {
+                    outer.known(name)
+                }
+            }
+        }
+    }
+
     /// One more name, for which another stands.
     pub fn with(&'s self, name: &'a Name, written: Written<'a>) -> Names<'s, 'a> {
         Names::Bound {
             name,
             written,
+            outer: self,
+        }
+    }
+
+    /// One more name, for which another stands, and of which it is known of what its value is built.
+    pub fn with_known(
+        &'s self,
+        name: &'a Name,
+        written: Written<'a>,
+        known: Known<'s, 'a>,
+    ) -> Names<'s, 'a> {
+        Names::Known {
+            name,
+            written,
+            value: known.value,
+            ty: known.ty,
+            at: known.names,
             outer: self,
         }
     }

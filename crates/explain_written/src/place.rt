@@ -1,9 +1,10 @@
 // Where expressions are written.
 ghost use Rattle.std.specs.Prelude.{◌≡◌, ◌<◌, IfSome};
 
+use crate::callee::Callee;
 use crate::names::Names;
 use crate::writer::Writer;
-use raml_syntax::{Binder, Expr, Fun, Name, Ty};
+use raml_syntax::{Binder, Expr, Name, Ty};
 
 /// How a value is taken apart, and what follows.
 #[derive(Clone, Copy)]
@@ -41,6 +42,7 @@ pub enum Rest<'s, 'a> {
     /// It is taken apart, by code in which names stand for these, and with whose value the rest behind it is done.
     Apart {
         by: Apart<'a>,
+        callee: Option<Callee<'a>>,
         names: &'s Names<'s, 'a>,
         number: u32,
         ty: Option<&'a Ty>,
@@ -52,7 +54,7 @@ pub enum Rest<'s, 'a> {
 #[derive(Clone, Copy)]
 pub struct Place<'s, 'a> {
     /// The function whose calls are written out.
-    pub callee: Option<&'a Fun>,
+    pub callee: Option<Callee<'a>>,
     /// What stands for names.
     pub names: &'s Names<'s, 'a>,
     /// With which number the names that are bound are written.
@@ -106,12 +108,12 @@ impl<'s, 'a> Place<'s, 'a> {
         }
     }
 
-    /// The function whose calls are written out, where that is the one of this name.
-    pub fn called(&self, name: &Name) -> Option<&'a Fun> {
+    /// The function, where a call of this name with these arguments is one that is written out.
+    pub fn called(&self, name: &Name, args: &[Expr]) -> Option<Callee<'a>> {
         match self.callee {
-            Some(fun) => {
-                if fun.name.text() == name.text() {
-                    Some(fun)
+            Some(callee) => {
+                if callee.is_called(name, args) {
+                    Some(callee)
                 } else {
                     None
                 }

@@ -1,18 +1,19 @@
 // Shapes of expressions.
+use crate::callee::Callee;
 use crate::place::{Place, Rest};
 use crate::settled::{Settled, settle};
-use raml_syntax::{Expr, Form, Fun, Name};
+use raml_syntax::{Expr, Form, Name};
 
-/// Whether calls of this name are those of the function.
-fn is_call_of(callee: Option<&Fun>, name: &Name) -> bool {
+/// Whether a call of this name is written out.
+fn is_call_of<'a>(callee: Option<Callee<'a>>, name: &Name, args: &[Expr]) -> bool {
     match callee {
-        Some(fun) => fun.name.text() == name.text(),
+        Some(callee) => callee.is_called(name, args),
         None => false,
     }
 }
 
 /// Whether the expression goes over lines: a `let`, an `if`, a `match`, a `tick`, or a call that is written out.
-fn is_block(callee: Option<&Fun>, e: &Expr) -> bool {
+fn is_block<'a>(callee: Option<Callee<'a>>, e: &Expr) -> bool {
     match &e.form {
         Form::Let(..)
         | Form::LetPair(..)
@@ -21,7 +22,7 @@ fn is_block(callee: Option<&Fun>, e: &Expr) -> bool {
         | Form::MatchTree(..)
         | Form::MatchOption(..)
         | Form::Tick(..) => true,
-        Form::Call(name, _) => is_call_of(callee, name),
+        Form::Call(name, args) => is_call_of(callee, name, args),
         _ => false,
     }
 }
@@ -30,10 +31,10 @@ fn is_block(callee: Option<&Fun>, e: &Expr) -> bool {
 pub fn is_short<'s, 'a>(place: Place<'s, 'a>, e: &'a Expr) -> bool {
     match place.rest {
         Rest::Whole => !is_block(place.callee, e),
-        Rest::Apart { by, behind, .. } => match settle(by, None, e) {
-            Settled::Empty(body) => {
-                matches!(behind, Rest::Whole) && !is_block(place.callee, body)
-            }
+        Rest::Apart {
+            by, callee, behind, ..
+        } => match settle(by, None, e) {
+            Settled::Empty(body) => matches!(behind, Rest::Whole) && !is_block(callee, body),
             Settled::No | Settled::One(..) | Settled::Two(..) | Settled::Three(..) => false,
         },
     }
@@ -48,19 +49,19 @@ pub fn may_end_in_match<'s, 'a>(place: Place<'s, 'a>, e: &'a Expr) -> bool {
 }
 
 /// Whether a match stands at the right end, or may once calls are written out.
-fn ends_in_match(callee: Option<&Fun>, e: &Expr) -> bool {
+fn ends_in_match<'a>(callee: Option<Callee<'a>>, e: &Expr) -> bool {
     match &e.form {
         Form::MatchList(..) | Form::MatchTree(..) | Form::MatchOption(..) => true,
         Form::Let(_, _, b) | Form::LetPair(_, _, _, b) | Form::If(_, _, b) | Form::Tick(_, b) => {
             ends_in_match(callee, b)
         }
-        Form::Call(name, _) => is_call_of(callee, name),
+        Form::Call(name, args) => is_call_of(callee, name, args),
         _ => false,
     }
 }
 
 /// Whether a value is built at one of the ends, so that a match on it is settled there.
-pub fn is_built(callee: Option<&Fun>, e: &Expr) -> bool {
+pub fn is_built<'a>(callee: Option<Callee<'a>>, e: &Expr) -> bool {
     match &e.form {
         Form::Nil
         | Form::Leaf
@@ -75,15 +76,15 @@ pub fn is_built(callee: Option<&Fun>, e: &Expr) -> bool {
         | Form::MatchList(_, a, _, _, b)
         | Form::MatchTree(_, a, _, _, _, b)
         | Form::MatchOption(_, a, _, b) => is_built(callee, a) || is_built(callee, b),
-        Form::Call(name, _) => is_call_of(callee, name) && gives_built(callee),
+        Form::Call(name, args) => is_call_of(callee, name, args) && gives_built(callee),
         _ => false,
     }
 }
 
 /// Whether the function builds its value at one of its ends.
-fn gives_built(callee: Option<&Fun>) -> bool {
+fn gives_built<'a>(callee: Option<Callee<'a>>) -> bool {
     match callee {
-        Some(fun) => builds(&fun.body),
+        Some(callee) => builds(&callee.fun.body),
         None => false,
     }
 }

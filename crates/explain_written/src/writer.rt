@@ -116,6 +116,11 @@ impl Writer {
         self.number
     }
 
+    /// Whether new names were given since this number was the last.
+    pub fn has_new_since(&self, number: u32) -> bool {
+        self.number > number
+    }
+
     /// The text; None where it became too large.
     pub fn finish(self) -> Result<Option<String>, AllocError> {
         let Writer { text, state, .. } = self;

@@ -3,15 +3,18 @@ mod calls;
 mod ends;
 mod operands;
 mod parts;
+mod settling;
 mod taken;
 
-use crate::names::Written;
+use crate::known::variable;
+use crate::names::{Known, Written};
 use crate::place::{Apart, Place, Rest};
 use crate::shape::{is_built, is_short};
 use crate::writer::Writer;
 use crate::writing::calls::write_call;
 use crate::writing::ends::write_end;
 use crate::writing::operands::{write_any, write_value};
+use crate::writing::settling::write_known;
 use crate::writing::taken::write_taken;
 use raml_syntax::{Binder, Expr, Form, Ty};
 
@@ -74,6 +77,11 @@ fn taken_apart(e: &Expr) -> Option<(&Expr, Apart<'_>)> {
         )),
         _ => None,
     }
+}
+
+/// Of what the subject is built, where it is a variable of which that is known.
+fn known_subject<'s, 'a>(place: Place<'s, 'a>, subject: &Expr) -> Option<Known<'s, 'a>> {
+    place.names.known(variable(subject)?)
 }
 
 #[cycle(writing)]
@@ -185,6 +193,9 @@ fn write_typed<'s, 'a>(
 /// Writes what takes a value apart: at the ends of its subject, where values are built there.
 #[cycle(writing)]
 fn write_apart<'s, 'a>(out: &mut Writer, place: Place<'s, 'a>, subject: &'a Expr, by: Apart<'a>) {
+    if let Some(known) = known_subject(place, subject) {
+        return write_known(out, place, known, by);
+    }
     if place.callee.is_none() || !is_built(place.callee, subject) {
         let inner = Place { ty: None, ..place };
         return write_taken(out, inner, place, by, subject);
@@ -192,6 +203,7 @@ fn write_apart<'s, 'a>(out: &mut Writer, place: Place<'s, 'a>, subject: &'a Expr
     let behind = place.rest;
     let rest = Rest::Apart {
         by,
+        callee: place.callee,
         names: place.names,
         number: place.number,
         ty: place.ty,

@@ -1,12 +1,15 @@
 // Calls that are written out.
-use crate::names::{Names, Written};
+use crate::callee::Callee;
+use crate::known::{bare, is_known, variable};
+use crate::names::{Known, Names, Written};
 use crate::place::{Place, Rest};
 use crate::shape::needs_type;
+use crate::uses::{is_used_whole, known_name};
 use crate::writer::Writer;
 use crate::writing::ends::write_end;
 use crate::writing::operands::write_value;
 use crate::writing::write_block;
-use raml_syntax::{Expr, Form, Fun, Name, Param};
+use raml_syntax::{Expr, Name, Param};
 
 /// Writes a call, which is written out where it is one of the function.
 #[cycle(writing)]
@@ -17,17 +20,24 @@ pub fn write_call<'s, 'a>(
     name: &Name,
     args: &'a [Expr],
 ) {
-    match place.called(name) {
-        Some(fun) => write_out(out, place, fun, args),
+    match place.called(name, args) {
+        Some(callee) => write_out(out, place, callee, args),
         None => write_end(out, place, e),
     }
 }
 
 /// Writes the body of a function for a call, with its type where that is needed.
 #[cycle(writing)]
-fn write_out<'s, 'a>(out: &mut Writer, place: Place<'s, 'a>, fun: &'a Fun, args: &'a [Expr]) {
+fn write_out<'s, 'a>(
+    out: &mut Writer,
+    place: Place<'s, 'a>,
+    callee: Callee<'a>,
+    args: &'a [Expr],
+) {
+    let fun = callee.fun;
     let number = out.new_number();
     let inner = Place {
+        callee: callee.inside(),
         names: &Names::Empty,
         number,
         ty: Some(&fun.result),
@@ -66,8 +76,8 @@ fn write_arguments<'s, 'a>(
                     depth: inner.depth,
                     ..place
                 };
-                let written = write_argument(out, place, inner.number, param, arg);
-                let names = inner.names.with(&param.name, written);
+                let written = write_argument(out, place, inner.number, param, arg, body);
+                let names = with_argument(inner.names, param, written, arg, place.names);
                 let inner = Place {
                     names: &names,
                     ..inner
@@ -78,7 +88,27 @@ fn write_arguments<'s, 'a>(
     }
 }
 
-/// What stands for a parameter: the variable that is its argument, or a new name, to which the argument is bound.
+/// One more parameter, for which a name stands, and of which it may be known of what it is built.
+fn with_argument<'s, 'a>(
+    names: &'s Names<'s, 'a>,
+    param: &'a Param,
+    written: Written<'a>,
+    arg: &'a Expr,
+    at: &'s Names<'s, 'a>,
+) -> Names<'s, 'a> {
+    if !is_known(arg) {
+        return names.with(&param.name, written);
+    }
+    let known = Known {
+        value: bare(arg),
+        ty: Some(&param.ty),
+        names: at,
+    };
+    names.with_known(&param.name, written, known)
+}
+
+/// What stands for a parameter: the variable that is its argument, or a new name, to which the argument is bound. It is not bound
+/// where it is only taken apart, and it is known of what it is built.
 #[cycle(writing)]
 fn write_argument<'s, 'a>(
     out: &mut Writer,
@@ -86,6 +116,7 @@ fn write_argument<'s, 'a>(
     number: u32,
     param: &'a Param,
     arg: &'a Expr,
+    body: &'a Expr,
 ) -> Written<'a> {
     if let Some(name) = variable(arg) {
         return place.names.find(name);
@@ -94,6 +125,9 @@ fn write_argument<'s, 'a>(
         name: &param.name,
         number,
     };
+    if is_known(arg) && !is_used_whole(known_name(&param.name, arg), body) {
+        return written;
+    }
     out.push("let ");
     out.push_name(written);
     out.push(" = ");
@@ -101,13 +135,4 @@ fn write_argument<'s, 'a>(
     out.push(" in");
     out.line(place.indent);
     written
-}
-
-/// The variable that an expression is, annotations aside.
-fn variable(e: &Expr) -> Option<&Name> {
-    match &e.form {
-        Form::Var(name) => Some(name),
-        Form::Typed(part, _) => variable(part),
-        _ => None,
-    }
 }

@@ -17,12 +17,14 @@ pub fn write_end<'s, 'a>(out: &mut Writer, place: Place<'s, 'a>, e: &'a Expr) {
         Rest::Whole => write_any(out, place, e),
         Rest::Apart {
             by,
+            callee,
             names,
             number,
             ty,
             behind,
         } => {
             let behind = Place {
+                callee,
                 names,
                 number,
                 ty,

@@ -141,7 +141,7 @@ fn write_call_operand<'s, 'a>(
     name: &Name,
     args: &'a [Expr],
 ) {
-    if place.called(name).is_some() {
+    if place.called(name, args).is_some() {
         return write_grouped(out, place, e);
     }
     out.push(name.text());

@@ -24,7 +24,7 @@ abbrev pub decreases-write_typed : goal.decreases-write_typed
 decreases-write_typed l = 16 * l.place.depth + 2
 
 abbrev pub decreases-write_apart : goal.decreases-write_apart
-decreases-write_apart l = 16 * l.place.depth + 6
+decreases-write_apart l = 16 * l.place.depth + 10
 
 abbrev pub decreases-calls::write_call : goal.decreases-calls::write_call
 decreases-calls::write_call l = 16 * l.place.depth + 11
@@ -97,3 +97,12 @@ decreases-taken::write_option_arm l = 16 * l.behind.depth + 2
 
 abbrev pub decreases-parts::write_parts : goal.decreases-parts::write_parts
 decreases-parts::write_parts l = 16 * l.place.depth + (5 + length l.parts.now)
+
+abbrev pub decreases-settling::write_known : goal.decreases-settling::write_known
+decreases-settling::write_known l = 16 * l.place.depth + 5 + 4
+
+abbrev pub decreases-settling::write_known_parts : goal.decreases-settling::write_known_parts
+decreases-settling::write_known_parts l = 16 * l.place.depth + (5 + length l.parts.now)
+
+abbrev pub decreases-settling::write_part : goal.decreases-settling::write_part
+decreases-settling::write_part l = 16 * l.place.depth + 5

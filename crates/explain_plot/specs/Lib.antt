@@ -1,0 +1,5 @@
+pub mod Sizes
+pub mod Example
+pub mod Table
+pub mod Calls
+pub mod Read
