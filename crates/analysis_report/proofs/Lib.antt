@@ -6,4 +6,4 @@ pub mod Compared
 pub mod Tuples
 pub mod Places
 pub mod Powered
-mod Limits
+pub mod Limits

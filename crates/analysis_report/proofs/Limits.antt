@@ -22,7 +22,8 @@ takes_one code (Some instr.Node) f p st ls fs h = refl
 takes_one code (Some instr.Some) f p st ls fs h = refl
 takes_one code _ f p st ls fs h = absurd h
 
-moves_one : (code : List Body) (c : Config) → TakesCell (next_of code c) → (move code c).cells ≡ 1
+-- an instruction that takes a cell takes one
+pub moves_one : (code : List Body) (c : Config) → TakesCell (next_of code c) → (move code c).cells ≡ 1
 moves_one code (Going f p st ls fs) h = takes_one code (fetch code f p) f p st ls fs h
 moves_one code (Halted v) h = absurd h
 

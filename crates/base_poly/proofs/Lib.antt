@@ -17,3 +17,5 @@ pub mod Capped
 pub mod Bounded
 pub mod Least
 pub mod Behind
+pub mod CutsFrom
+pub mod Ordered

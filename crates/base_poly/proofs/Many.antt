@@ -1,5 +1,6 @@
 -- Where list indices stand among the others.
 use Rattle.std.proofs.Common.{◌≡◌, ◌⊎◌, ℕ, suc, Option, None, Some, ◌-◌, ◌≤◌, ◌<◌, List, [], ◌∷◌, ◌++◌, map, flat_map, length, get_or, take, drop, arith, append_assoc, Box, Vec, Global, ⊎_elim, refl, sym, ap, ◌∙◌}
+use Rattle.std.proofs.Math.Seq.{take-length}
 use Rattle.std.proofs.lemmas.List.{map-append}
 use Rattle.std.specs.declared.cmp.Ordering.TheVariants.{Less, Greater}
 use Rattle.std.specs.Ordering.{nat_cmp}
@@ -178,17 +179,13 @@ gathered i j none first second third mine theirs tails heads a b c d =
     ∙ ap (λ l. map many (map (λ r. i ∷ r) mine) ++ l) (map-append many (map (λ r. j ∷ r) theirs) (flat_map (λ h. map (λ r. h ∷ r) tails) heads))
     ∙ (λ n. map_many i mine n ++ (map_many j theirs n ++ each_many heads tails n))
 
-all_taken : (xs : List Index) → take (length xs) xs ≡ xs
-all_taken [] = refl
-all_taken (x ∷ xs) = ap (λ l. x ∷ l) (all_taken xs)
-
 -- a slice of at least one is its first and its rest
 pub slice_parts : (xs : List Index) (x : Index) → 1 ≤ length xs → x ≡ get_or xs 0 x → x ∷ take (length xs - 1) (drop 1 xs) ≡ xs
 slice_parts [] x h e = absurd (omega (arith, h))
 slice_parts (y ∷ xs) x h e = λ i. e i ∷ whole xs i
   where
     whole : (xs : List Index) → take (suc (length xs) - 1) xs ≡ xs
-    whole xs = ap (λ n. take n xs) less ∙ all_taken xs
+    whole xs = ap (λ n. take n xs) less ∙ take-length xs
       where
         less : suc (length xs) - 1 ≡ length xs
         less = omega arith

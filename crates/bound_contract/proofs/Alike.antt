@@ -1,56 +1,25 @@
 -- What is decided stays where the blocks of the meter and its scale are raised.
-use Rattle.std.proofs.Common.{◌≡◌, refl, ap, sym, ◌∙◌, subst, arith}
-use Rattle.std.specs.Prelude.{ℕ, ◌*◌, ◌<◌, ◌≤◌, ◌↔◌, Bool, true, false, cond, List, [], ◌∷◌, map}
+use Rattle.std.proofs.Common.{◌≡◌, ap, sym, ◌∙◌, subst, arith}
+use Rattle.std.specs.Prelude.{ℕ, ◌*◌, ◌<◌, ◌≤◌, ◌↔◌, cond, List, map}
 use Rattle.std.specs.Option.{option_map}
 use Rattle.std.proofs.Math.Nat.{mul-le-mul_left}
 use Rattle.index_shift.specs.Potential.{Annotation}
 use Rattle.cost_free.specs.declared.task.Meter.{Meter}
 use Rattle.cost_free.specs.Task as k
 use Rattle.cost_free.specs.Task.{Task, Kind}
-use Rattle.cost_free.specs.Blocked.{is_for_meter}
 use Rattle.annot_types.specs.Program.{Program, members}
-use Rattle.annot_types.specs.Certificate.{Sig, Hint, Let, Share, Call, Body, Solved, Refuted, Calls, Block, annotation}
+use Rattle.annot_types.specs.Certificate.{Sig, Hint, Block, annotation}
 use Rattle.annot_types.specs.Rules.{With}
-use Rattle.annot_types.specs.Holds.{times, times_sig, times_hint, times_body, times_block, raised, FunctionsHold, Holds}
+use Rattle.annot_types.specs.Holds.{times, times_sig, times_hint, raised, FunctionsHold, Holds}
 use Rattle.annot_types.specs.Least.{solving}
 use Rattle.annot_types.proofs.Linear.{annotation_mul}
-use Rattle.annot_types.proofs.Raised.{times_product, on, off, same_self, sig_in_times}
+use Rattle.annot_types.proofs.Raised.{on, same_self, sig_in_times}
 use Rattle.annot_types.proofs.Multiples.{raising_keeps}
 use Rattle.bound_file.specs.Lines.{Line, numerator_at, denominator_at}
+use Rattle.infer_spec.proofs.Raising.{all_product}
 use Rattle.bound_contract.specs.Under.{IsUnder}
 use Rattle.bound_contract.specs.Kept.{Keeps, NoneKeeps}
 use Rattle.bound_contract.specs.Laws.{RaisedDecideAlike}
-
--- Raised twice
-
-map_product : {X : Type 0} (f g h : X → X) → ((x : X) → h x ≡ f (g x)) → (xs : List X) → map h xs ≡ map f (map g xs)
-map_product f g h e [] = refl
-map_product f g h e (x ∷ xs) = λ i. e x i ∷ map_product f g h e xs i
-
-sig_product : (u t : ℕ) (s : Sig) → times_sig (u * t) s ≡ times_sig u (times_sig t s)
-sig_product u t s = λ i. record { args = times_product u t s.args i; result = times_product u t s.result i }
-
-hint_product : (u t : ℕ) (h : Hint) → times_hint (u * t) h ≡ times_hint u (times_hint t h)
-hint_product u t (Let rs) = ap Let (map_product (times u) (times t) (times (u * t)) (times_product u t) rs)
-hint_product u t (Share p) = ap Share (times_product u t p)
-hint_product u t (Call ms) = ap Call (times_product u t ms)
-
-body_product : (u t : ℕ) (body : Body) → times_body (u * t) body ≡ times_body u (times_body t body)
-body_product u t (Solved sigs hints) = λ i. Solved
-    (map_product (times_sig u) (times_sig t) (times_sig (u * t)) (sig_product u t) sigs i)
-    (map_product (map (times_hint u)) (map (times_hint t)) (map (times_hint (u * t)))
-    (map_product (times_hint u) (times_hint t) (times_hint (u * t)) (hint_product u t)) hints i)
-body_product u t (Refuted farkas) = refl
-body_product u t (Calls fun) = refl
-
-block_product : (meter : Meter) (u t : ℕ) (block : Block) (is : Bool) → is_for_meter meter block.task.kind ≡ is → raised meter (u * t) block ≡ raised meter u (raised meter t block)
-block_product meter u t block true e =
-    on meter (u * t) block e ∙ (λ i. record { task = block.task; body = body_product u t block.body i })
-    ∙ sym (ap (raised meter u) (on meter t block e) ∙ on meter u (times_block t block) e)
-block_product meter u t block false e = off meter (u * t) block e ∙ sym (ap (raised meter u) (off meter t block e) ∙ off meter u block e)
-
-all_product : (meter : Meter) (u t : ℕ) (bs : List Block) → map (raised meter (u * t)) bs ≡ map (raised meter u) (map (raised meter t) bs)
-all_product meter u t bs = map_product (raised meter u) (raised meter t) (raised meter (u * t)) (λ b. block_product meter u t b (is_for_meter meter b.task.kind) refl) bs
 
 module _ (P : Program) (d : ℕ) (bs : List Block) (group scale : ℕ) (line : Line) (r : ℕ) (positive : 0 < r) where
   abbrev meter : Meter

@@ -1,45 +1,34 @@
 -- What is kept is a bound.
-use Rattle.std.proofs.Common.{◌≡◌, ◌≤◌, ◌<◌, ◌⊎◌, inl, inr, ℕ, suc, ◌+◌, ◌*◌, ◌/◌, ℤ, pos, ◌<ℤ◌, nat_eq, Bool, true, false, cond, List, [], ◌∷◌, slice_get, Option, None, Some, refl, sym, ap, ◌∙◌, subst, arith}
+use Rattle.std.proofs.Common.{◌≡◌, ◌≤◌, ◌<◌, ◌⊎◌, inl, inr, ℕ, suc, ◌+◌, ◌*◌, ℤ, pos, ◌<ℤ◌, nat_eq, Bool, true, false, cond, List, [], ◌∷◌, refl, sym, ap, ◌∙◌, subst, arith}
 use Rattle.std.specs.Prelude.{unsigned_abs}
-use Rattle.std.specs.List.{All}
-use Rattle.std.specs.Option.{option_map}
 use Rattle.std.proofs.Math.Nat.{mul-le-mul_left}
 use Rattle.std.proofs.lemmas.Int.{ints}
-use Rattle.std.proofs.lemmas.Nat.{le-div}
-use Rattle.std.proofs.lemmas.Option.{slice_get-map}
-use Rattle.raml_syntax.specs.Tree.{Type', Function, Prog}
-use Rattle.raml_syntax.specs.Value.{Value, HaveTypes}
-use Rattle.raml_syntax.specs.Eval.{Run, run_of}
+use Rattle.raml_syntax.specs.Tree.{Type'}
+use Rattle.raml_syntax.specs.Value.{Value}
 use Rattle.raml_syntax.specs.Types as source
-use Rattle.raml_syntax.specs.Types.{Typed}
-use Rattle.raml_syntax.specs.Node.{AllNodes, NumberFits}
 use Rattle.base_poly.specs.Plain.{Plain}
 use Rattle.base_poly.specs.Base.{bases}
 use Rattle.base_poly.specs.Indices.{index_list}
-use Rattle.base_poly.specs.Poly.{Term}
 use Rattle.poly_point.specs.Point.{worth}
 use Rattle.index_shift.specs.Potential.{Annotation, weighed, potential}
 use Rattle.normal_spec.specs.Norm.{NormFun, NormProg}
 use Rattle.normal_spec.specs.Run.{run_norm}
 use Rattle.normal_spec.specs.Two.{norm_fun, norm}
 use Rattle.normal_spec.specs.Context.{types}
-use Rattle.normal_spec.specs.Uses.{IsNormal}
-use Rattle.normal_spec.specs.Laws.{RunsAlike, IsNormalForm}
+use Rattle.normal_spec.specs.Laws.{IsNormalForm}
 use Rattle.normal_spec.proofs.Keep.{normal_forms_keep}
-use Rattle.stack_compile.specs.Laws.{at, Linked}
-use Rattle.stack_compile.proofs.Linked.{machine_is_linked}
 use Rattle.cost_free.specs.declared.task.Meter.{Meter}
-use Rattle.cost_free.specs.declared.task.Meter.TheVariants.{Ticks, Cells, Work}
 use Rattle.cost_free.specs.Task as k
 use Rattle.annot_types.specs.Program.{Program}
 use Rattle.annot_types.specs.Certificate.{annotation}
 use Rattle.annot_types.specs.Rows.{size}
 use Rattle.annot_types.specs.Held.{before, scale_of, scale_for, Held}
 use Rattle.rules_soundness_laws.specs.Enough.{cost}
-use Rattle.rules_soundness_laws.specs.Bounds.{BoundsNormal, BoundsState, Bounds}
+use Rattle.rules_soundness_laws.specs.Bounds.{Bounds}
 use Rattle.rules_soundness_laws.specs.Laws.{normal_of}
 use Rattle.rules_soundness_laws.proofs.Weighed.{some_is, weighed_times, weighed_covers}
 use Rattle.rules_soundness_laws.proofs.Blocks.{KindPays, own_pays, all_before}
+use Rattle.rules_soundness_laws.proofs.Source.{normal, of_normal}
 use Rattle.share_normal.specs.Program.{source_in}
 use Rattle.rules_plan.specs.Read.{program_in}
 use Rattle.bound_file.specs.Lines.{Coefficient, ArePositive, numerator_at, denominator_at}
@@ -128,55 +117,11 @@ module _ (bound : List Coefficient) (positive : ArePositive bound) (As : List Ty
 
 -- From the normal form to the source and the machine
 
-cost_less : (meter : Meter) (r s : Run Value) → RunsAlike r s → cost meter r ≤ cost meter s
-cost_less Ticks r s h = let same = h.ticks in omega (arith, same)
-cost_less Cells r s h = let same = h.cells in omega (arith, same)
-cost_less Work r s h = h.work_at_least
-
-within : (den n most : ℕ) → 0 < den → den * n ≤ most → n ≤ most / den
-within den n most positive low = le-div n most den positive (let same : n * den ≡ den * n = grind arith in omega (arith, low, same))
-
 magnitude : (z : ℤ) → pos 0 <ℤ z → 0 < unsigned_abs z
 magnitude z h = grind (arith, ints, h)
 
 both_positive : (a b : ℕ) → 0 < a → 0 < b → 0 < a * b
 both_positive a b p q = let one : a * 1 ≤ a * b = mul-le-mul_left a q in let same : a * 1 ≡ a = grind arith in omega (arith, one, same, p)
-
-module _ (P : Prog) (typed : Typed P) (fit : All (λ (g : Function). AllNodes NumberFits g.body) P) where
-  is_form : (f : ℕ) (g : NormFun) → slice_get (norm P) f ≡ Some g → (fun : Function) → slice_get P f ≡ Some fun → norm_fun P fun ≡ g
-  is_form f g there fun at = some_is (norm_fun P fun) g (sym (normal_forms_keep P typed fit f fun at).there ∙ there)
-
-  normal : (f : ℕ) (g : NormFun) → slice_get (norm P) f ≡ Some g → IsNormal (norm P) g
-  normal f g there = by (slice_get P f) refl
-    where
-      by : (o : Option Function) → slice_get P f ≡ o → IsNormal (norm P) g
-      by None q = absurd (let none = slice_get-map (norm_fun P) P f ∙ ap (option_map (norm_fun P)) q in cc)
-      by (Some fun) q = subst (IsNormal (norm P)) (is_form f g there fun q) (normal_forms_keep P typed fit f fun q).normal
-
-  of_normal : (f : ℕ) (fun : Function) → slice_get P f ≡ Some fun → (meter : Meter) (den : ℕ) (terms : List Term) → 0 < den →
-      BoundsNormal (norm P) (norm_fun P fun) meter den terms → Bounds P f fun meter den terms
-  of_normal f fun there meter den terms positive h = record { runs = runs; machine = λ args m has. by meter runs args m has (machine_is_linked P typed fit f fun args there has) }
-    where
-      form : IsNormalForm P f fun (norm_fun P fun)
-      form = normal_forms_keep P typed fit f fun there
-
-      runs : (args : List Value) (limit : ℕ) → HaveTypes args (source.types_of fun) → den * cost meter (run_of P fun args limit) ≤ worth terms args
-      runs args limit has =
-          let low = h args limit (subst (HaveTypes args) (sym form.params) has) in
-          let less = mul-le-mul_left den (cost_less meter (run_of P fun args limit) (run_norm (norm P) (norm_fun P fun) args limit) (form.runs args limit)) in
-          omega (arith, low, less)
-
-      by : (meter : Meter) → ((args : List Value) (limit : ℕ) → HaveTypes args (source.types_of fun) → den * cost meter (run_of P fun args limit) ≤ worth terms args) →
-          (args : List Value) (m : ℕ) → HaveTypes args (source.types_of fun) → Linked P f fun args → BoundsState meter den (worth terms args) m (at P f args m)
-      by Ticks runs args m has linked =
-          let low = runs args m has in let less = mul-le-mul_left den (linked.at_most m m (omega arith)).0 in omega (arith, low, less)
-      by Cells runs args m has linked =
-          let low = runs args m has in let less = mul-le-mul_left den (linked.at_most m m (omega arith)).1 in omega (arith, low, less)
-      by Work runs args m has linked = λ going.
-          let low = runs args (suc m) has in
-          let few = linked.goes_on m going in
-          let work = within den (run_of P fun args (suc m)).work (worth terms args) positive low in
-          omega (arith, few, work)
 
 pub kept_is_bound : KeptIsBound
 kept_is_bound P typed fit groups c held line positive place block t kind keeps fun at den p q declared =

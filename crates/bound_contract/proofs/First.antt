@@ -12,10 +12,10 @@ use Rattle.annot_types.specs.Program.{Program}
 use Rattle.annot_types.specs.Certificate.{Certificate}
 use Rattle.annot_types.specs.Held.{before}
 use Rattle.simplex_integers.specs.Wholes.{most, ScaleLeaves}
-use Rattle.simplex_integers.specs.Reading.{ReadsSolution, ReadsVector, VectorIsFine, IsPassed}
+use Rattle.simplex_integers.specs.Reading.{ReadsSolution, ReadsVector, Vector, VectorIsFine, IsPassed}
 use Rattle.simplex_checked.specs.Alone.{ReadAlone, OfSolution, OfVector, SolutionFits}
 use Rattle.infer_spec.proofs.Single.{one_solution, one_vector, never_both}
-use Rattle.infer_spec.proofs.Clear.{none_leaves, none_scale}
+use Rattle.infer_spec.proofs.Clear.{none_leaves, none_scale, vector_scale as either_scale}
 use Rattle.rules_systems_laws.specs.Laws.{told}
 use Rattle.cert_check.specs.Fault as f
 use Rattle.other_blocks.specs.Laws.{OneOtherFault}
@@ -41,13 +41,7 @@ module _ (paths : OneCourse) (pick : List ℤ → ℤ → Option ℕ) (s : Linea
       (d : ℤ) (ns : List ℤ) → ReadAlone (rule_by pick) s d ns → (entry : ℕ) → ScaleLeaves d ns entry → ⊥
   vector_scale y h low each d ns (OfSolution ps v ends follows is are) entry leaves = not_both s ps h.pivots v h.table h.column system ends h.rises
   vector_scale y h low each d ns (OfVector ps v c rises follows answers is are) entry leaves =
-      let same = paths.one_rise pick s h.pivots ps h.table v h.column c system h.rises h.follows h.answers rises follows answers in
-      let good = good_course s h.pivots h.table system h.rises.course in
-      let place : ScaleLeaves h.table.over (ray s h.column h.table) entry =
-      subst (λ k. ScaleLeaves h.table.over (ray s k h.table) entry) (sym same.2)
-      (subst (λ (w : Tableau). ScaleLeaves w.over (ray s c w) entry) (sym same.1)
-      (subst (λ n. ScaleLeaves n (ray s c v) entry) is (subst (λ l. ScaleLeaves d l entry) are leaves))) in
-      none_scale h.table.over good.sound.positive (ray s h.column h.table) h.t y h.whole low each entry place
+      either_scale paths pick s system y h low each d ns (Vector ps v c rises follows answers is are) entry leaves
 
   no_refusal : (d : ℤ) (ns : List ℤ) → ReadAlone (rule_by pick) s d ns → (ps : List (ℕ × ℕ)) (i k : ℕ) → Refuses (rule_by pick) s ps i k → ⊥
   no_refusal d ns (OfSolution qs t ends follows is are) ps i k c = paths.end_or_refusal pick s qs ps t i k system ends follows c

@@ -8,7 +8,8 @@ use Rattle.bound_file.specs.Lines.{Line, Declaration, IsProper}
 use Rattle.bound_file.specs.Answers.{lines_in, AreDeclared, Spells, FirstFault, Answers, AreWithin, OfFault}
 use Rattle.bound_file.specs.Laws.{FilesHaveOneAnswer}
 use Rattle.bound_file.specs.Read.{line_of, lines_of, IsSigned, IsSound}
-use Rattle.bound_file.specs.Reading.{cut_at, line_added}
+use Rattle.raml_syntax.specs.Cut.{cut_at}
+use Rattle.bound_file.specs.Reading.{line_added}
 use Rattle.bound_file.specs.Lined.{Lines, first_of, numbered, read_lines, Reads, Leaves, at_line}
 use Rattle.bound_file.specs.declared.declaration.DeclLine.{DeclLine}
 use Rattle.bound_file.specs.declared.fault.DeclFault.{DeclFault}

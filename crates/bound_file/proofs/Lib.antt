@@ -14,3 +14,4 @@ mod Bounds
 mod Told
 mod Answered
 mod Computed
+pub mod Few

@@ -14,8 +14,9 @@ use Rattle.raml_lex.specs.declared.token.TokenKind.TheVariants.{Name}
 use Rattle.cost_free.specs.declared.task.Meter.{Meter}
 use Rattle.cost_free.specs.declared.task.Meter.TheVariants.{Ticks, Cells, Work}
 use Rattle.bound_file.specs.Spelling.{Term, meter_text, Written, IsLine}
-use Rattle.bound_file.specs.Reading.{cut_at, and_then, meter_read, is_name, distinct, Parts, at_sign, parts_read, with_terms, sum_read, line_from, line_read}
-use Rattle.bound_file.proofs.Cuts.{cut_is, cut_there}
+use Rattle.raml_syntax.specs.Cut.{cut_at}
+use Rattle.bound_file.specs.Reading.{and_then, meter_read, is_name, distinct, Parts, at_sign, parts_read, with_terms, sum_read, line_from, line_read}
+use Rattle.raml_syntax.proofs.Cuts.{cut_is, cut_there}
 use Rattle.bound_file.proofs.Sums.{sum_there, IsSumRead, sum_is}
 use Rattle.bound_file.proofs.Words.{name_is, name_told, name_lacks}
 

@@ -1,5 +1,6 @@
 -- One token that is a name is a name, and a name is one token.
 use Rattle.std.proofs.Common.{◌≡◌, ◌-◌, ℕ, Bool, true, false, List, [], ◌∷◌, length, take, ◌⊎◌, inl, inr, Ok, Err, refl, sym, ap, subst, ◌∙◌, arith, append-nil, length-append}
+use Rattle.std.proofs.Math.Seq.{take-length}
 use Rattle.std.proofs.lemmas.Bool.{and_parts, eqb-true, eq-eqb}
 use Rattle.std.specs.Prelude.{◌&&◌, ◌==◌, All, slice_range}
 use Rattle.raml_syntax.specs.Tree.{Text}
@@ -22,12 +23,8 @@ no e = absurd (cc)
 abbrev whole : Text → Token
 whole text = record { at = record { 0 = 0 }; end = record { 0 = length text }; kind = Name }
 
-taken : (text : Text) → take (length text) text ≡ text
-taken [] = refl
-taken (c ∷ text) = ap (λ w. c ∷ w) (taken text)
-
 word_is : (text : Text) → word text (whole text) ≡ text
-word_is text = ap (λ n. take n text) (let e : length text - 0 ≡ length text = omega arith in e) ∙ taken text
+word_is text = ap (λ n. take n text) (let e : length text - 0 ≡ length text = omega arith in e) ∙ take-length text
 
 -- a name is spelled by its token
 spelled : (text : Text) → IsLexeme Name text → Spelled text (whole text ∷ [])

@@ -7,8 +7,10 @@ use Rattle.std.specs.Borrow.{Bor}
 use Rattle.std.specs.Cmp.Lexicographic.{bytes_decides}
 use Rattle.raml_syntax.specs.Tree.{Text}
 use Rattle.bound_file.specs.Spelling.{Term, term_text, more_terms, AreTerms, IsTerm, IsSum}
-use Rattle.bound_file.specs.Reading.{lent, lent_parts, cut_at, behind_space, before_space, and_then, term_read, last_read, inner_read, pieces, with_term, each_read, sum_read}
-use Rattle.bound_file.proofs.Cuts.{nat_same, cut_there, lacks_both, pieces_none, pieces_some, SomeParts, some_pieces, joined, pieces_join}
+use Rattle.raml_syntax.specs.Cut.{lent_parts, cut_at}
+use Rattle.bound_file.specs.Reading.{lent, behind_space, before_space, and_then, term_read, last_read, inner_read, pieces, with_term, each_read, sum_read}
+use Rattle.raml_syntax.proofs.Cuts.{nat_same, cut_there}
+use Rattle.bound_file.proofs.Cuts.{lacks_both, pieces_none, pieces_some, SomeParts, some_pieces, joined, pieces_join}
 use Rattle.bound_file.proofs.Terms.{term_there, term_lacks, term_is}
 
 -- a text before a space

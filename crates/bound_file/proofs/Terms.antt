@@ -1,6 +1,6 @@
 -- What is read as a term is one.
 use Rattle.std.proofs.Common.{◌≡◌, ◌<◌, ◌^◌, ℕ, ℤ, pos, Result, Ok, Err, Bool, true, false, cond, not, List, [], ◌∷◌, ◌++◌, length, Option, Some, None, refl, sym, ap, subst, ◌∙◌, arith, append_assoc, append-nil}
-use Rattle.std.proofs.lemmas.Bool.{and_parts, eqb-true, eqb-false, eq-eqb, ne_eqb}
+use Rattle.std.proofs.lemmas.Bool.{and_parts, eqb-true, eqb-false, eq-eqb, ne_eqb, and_from}
 use Rattle.std.proofs.lemmas.Bool.Decides.{nat_tests}
 use Rattle.std.proofs.lemmas.Str.Parse.{IsNumeralModel, numerals_by_value, tells_digits, tells_all_ascii_digits, not_in_digits, parse_signed_digits}
 use Rattle.std.specs.Prelude.{nat_eq, nat_lt, ◌||◌, ◌&&◌, ◌==◌, ◌⊎◌, codes}
@@ -16,8 +16,10 @@ use Rattle.poly_text.specs.Text.{index_text, more_entries, entries_text}
 use Rattle.bound_file.specs.Spelling.{Term, behind, term_text, IsNumber, tuple_text, IsTuple, IsTerm}
 use Rattle.bound_file.specs.Digits.{is_number}
 use Rattle.bound_file.specs.Tuples.{is_tuple}
-use Rattle.bound_file.specs.Reading.{in_range, cut_at, quotient_from, quotient_read, term_from, term_read}
-use Rattle.bound_file.proofs.Cuts.{cut_is, cut_there, no_cut, lacks_both}
+use Rattle.raml_syntax.specs.Cut.{cut_at}
+use Rattle.bound_file.specs.Reading.{in_range, quotient_from, quotient_read, term_from, term_read}
+use Rattle.raml_syntax.proofs.Cuts.{cut_is, cut_there, no_cut}
+use Rattle.bound_file.proofs.Cuts.{lacks_both}
 use Rattle.bound_file.proofs.Tupled.{some_have, tuple_read, tuple_is}
 
 pub ascii : IsNumeralModel (λ ds. all_ascii_digits ds ≡ true) (digits_value 10)
@@ -42,13 +44,9 @@ number_is (c ∷ s) e =
         let none = eqb-true (length s) 0 r in
         omega (arith, none)
 
-both : (a b : Bool) → a ≡ true → b ≡ true → (a && b) ≡ true
-both true b e f = f
-both false b e f = no e
-
 pub number_told : (w : Text) → IsNumber w → is_number w ≡ true
 number_told [] h = absurd (let some = h.numeral.0 in omega (arith, some))
-number_told (c ∷ s) h = both _ _ (at (nat_eq c 48) (λ q. zero q)) (ascii.from (c ∷ s) h.numeral.1)
+number_told (c ∷ s) h = and_from _ _ (at (nat_eq c 48) (λ q. zero q)) (ascii.from (c ∷ s) h.numeral.1)
   where
     zero : nat_eq c 48 ≡ true → (length s == 0) ≡ true
     zero q =
@@ -148,7 +146,7 @@ quotient_there n [] u h k =
 quotient_there n (c ∷ s) u h (inl e) = absurd (let l = ap length e in omega (arith, l))
 quotient_there n (c ∷ s) u h (inr k) =
     ap (quotient_from (n ++ 47 ∷ c ∷ s) u) (cut_there 47 n (c ∷ s) (number_lacks 47 not_stroke n h))
-    ∙ ap (λ b. cond b (Some (term_with n (c ∷ s) u)) None) (both (is_number n) (is_number (c ∷ s)) (number_told n h) (number_told (c ∷ s) k))
+    ∙ ap (λ b. cond b (Some (term_with n (c ∷ s) u)) None) (and_from (is_number n) (is_number (c ∷ s)) (number_told n h) (number_told (c ∷ s) k))
 
 term_with_there : (n d u : Text) → IsNumber n → (d ≡ []) ⊎ IsNumber d → IsTuple u → term_read (n ++ (behind 47 d ++ behind 42 u)) ≡ Some (term_with n d u)
 term_with_there n d [] h k i =

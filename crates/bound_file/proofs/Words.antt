@@ -1,6 +1,6 @@
 -- What is told of names.
 use Rattle.std.proofs.Common.{◌≡◌, ℕ, Bool, true, false, cond, not, [], ◌∷◌, Some, None, refl, sym, ap, ◌∙◌, arith}
-use Rattle.std.proofs.lemmas.Bool.{and_parts}
+use Rattle.std.proofs.lemmas.Bool.{and_parts, and_from}
 use Rattle.std.specs.Prelude.{Contains, ◌&&◌, bytes_eq, nat_eq, option_map}
 use Rattle.std.proofs.lemmas.Bool.Decides.{nat_tests}
 use Rattle.std.specs.List.{AllPass, list_all, list_any}
@@ -14,26 +14,19 @@ use Rattle.raml_lex.specs.declared.token.TokenKind.TheVariants.{Name}
 use Rattle.raml_lex.specs.Lexemes.{is_lower, is_name_part, keywords, IsWord, IsLexeme}
 use Rattle.raml_lex.proofs.Words.{word_passes}
 use Rattle.raml_lex.proofs.Runs.{passes-head, passes-tail}
-use Rattle.bound_file.specs.Reading.{cut_at, with_front, is_word, is_name}
+use Rattle.raml_syntax.specs.Cut.{cut_at, with_front}
+use Rattle.bound_file.specs.Reading.{is_word, is_name}
 
 no : {A : Type 0} → false ≡ true → A
 no e = absurd (cc)
 
 all_told : (p : ℕ → Bool) (s : Text) → AllPass p s → list_all p s ≡ true
 all_told p [] h = refl
-all_told p (c ∷ s) h = both (p c) (list_all p s) (passes-head p c s h) (all_told p s (passes-tail p c s h))
-  where
-    both : (a b : Bool) → a ≡ true → b ≡ true → (a && b) ≡ true
-    both true b e f = f
-    both false b e f = no e
+all_told p (c ∷ s) h = and_from (p c) (list_all p s) (passes-head p c s h) (all_told p s (passes-tail p c s h))
 
 word_told : (w : Text) → IsWord w → is_word w ≡ true
 word_told [] h = absurd h
-word_told (c ∷ s) h = both (is_lower c) (list_all is_name_part s) h.0 (all_told is_name_part s h.1)
-  where
-    both : (a b : Bool) → a ≡ true → b ≡ true → (a && b) ≡ true
-    both true b e f = f
-    both false b e f = no e
+word_told (c ∷ s) h = and_from (is_lower c) (list_all is_name_part s) h.0 (all_told is_name_part s h.1)
 
 word_is : (w : Text) → is_word w ≡ true → IsWord w
 word_is [] e = no e

@@ -5,6 +5,7 @@ use Rattle.std.specs.List.{list_all, list_any}
 use Rattle.std.specs.Str.{bytes_eq}
 use Rattle.std.specs.Borrow.{Bor}
 use Rattle.raml_syntax.specs.Tree.{Text, Type', Function, Prog}
+use Rattle.raml_syntax.specs.Cut.{cut_at}
 use Rattle.raml_syntax.specs.Types.{types_of}
 use Rattle.raml_syntax.specs.Place.{place_of}
 use Rattle.raml_lex.specs.Lexemes.{is_lower, is_name_part, keywords}
@@ -20,18 +21,6 @@ use Rattle.bound_file.specs.Digits.{is_number}
 use Rattle.bound_file.specs.Tuples.{is_tuple}
 use Rattle.bound_file.specs.declared.fault.LineFault.{LineFault}
 use Rattle.bound_file.specs.declared.fault.LineFault.TheVariants.{Shape, Number, Unknown, Index, Twice}
-
--- with the byte at the front of the first part
-abbrev pub with_front : ℕ → Text × Text → Text × Text
-with_front byte parts = (byte ∷ parts.0, parts.1)
-
--- what stands before the first such byte of a text, and behind it
-abbrev pub cut_at : ℕ → Text → Option (Text × Text)
-cut_at mark [] = None
-cut_at mark (byte ∷ text) = cond (nat_eq byte mark) (Some ([], text)) (option_map (with_front byte) (cut_at mark text))
-
-abbrev pub lent_parts : Option (Bor Text × Bor Text) → Option (Text × Text)
-lent_parts = option_map (λ (p : Bor Text × Bor Text). (p.0.now, p.1.now))
 
 abbrev pub lent : Option (Bor Text) → Option Text
 lent = option_map (λ (t : Bor Text). t.now)

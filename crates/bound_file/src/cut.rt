@@ -1,6 +1,7 @@
 // Texts cut in two.
 ghost use Rattle.std.specs.Prelude.{◌≡◌, ◌<◌};
-ghost use Rattle.bound_file.specs.Reading.{lent, lent_parts, cut_at, behind_space, before_space};
+ghost use Rattle.raml_syntax.specs.Cut.{lent_parts, cut_at};
+ghost use Rattle.bound_file.specs.Reading.{lent, behind_space, before_space};
 
 /// What stands before the first such character of a text, and behind it. The character is of ASCII.
 pub fn cut_at<'a>(text: &'a str, mark: char) -> Option<(&'a str, &'a str)>

@@ -4,7 +4,8 @@ ghost use Rattle.std.specs.List.{All};
 ghost use Rattle.raml_syntax.specs.Read.{program_of};
 ghost use Rattle.bound_file.specs.Read.{lines_of, IsSigned};
 ghost use Rattle.bound_file.specs.Answers.{lines_in, is_declared, Spells, AreWithin, FirstFault, HasOneAnswer, OfFault};
-ghost use Rattle.bound_file.specs.Reading.{cut_at, line_added};
+ghost use Rattle.raml_syntax.specs.Cut.{cut_at};
+ghost use Rattle.bound_file.specs.Reading.{line_added};
 ghost use Rattle.bound_file.specs.Lined.{first_of, read_lines, Reads, Leaves, at_line, ItemsOf};
 
 use crate::cut::cut_at;

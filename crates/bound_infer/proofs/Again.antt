@@ -1,14 +1,10 @@
 -- The certificate in which an analysis ends is verified, unless a number leaves its range.
 use Rattle.std.proofs.Common.{◌≡◌, refl, ap, sym, subst}
-use Rattle.std.specs.Prelude.{ℕ, ℤ, ◌≢◌, Bool, true, false, cond, not, nat_eq, ◌||◌, List, [], ◌∷◌, slice_get, Option, None, Some}
+use Rattle.std.specs.Prelude.{ℕ, ℤ, ◌≢◌, Bool, true, false, cond, not, List, slice_get, Option, None, Some}
 use Rattle.std.proofs.lemmas.Option.{none-some}
-use Rattle.std.proofs.lemmas.Bool.Decides.{nat_tests}
-use Rattle.std.proofs.Common.{arith}
 use Rattle.linear_rows.specs.Systems.{LinearSystem}
-use Rattle.normal_spec.specs.Norm.{NormFun}
 use Rattle.cost_free.specs.Task.{Task}
-use Rattle.cost_free.specs.Blocked.{is_among}
-use Rattle.annot_types.specs.Program.{Program, members, blocker_of}
+use Rattle.annot_types.specs.Program.{Program, blocker_of}
 use Rattle.annot_types.specs.Certificate as c
 use Rattle.annot_types.specs.Certificate.{Body, Solved, Sig, Hint, Block, Certificate}
 use Rattle.annot_types.specs.Held.{before, done_before, scale_for, IfSolved, NamesBlocker}
@@ -21,9 +17,10 @@ use Rattle.infer_spec.specs.Verifying as v
 use Rattle.infer_systems_laws.specs.Analysed.{analysis_of, generator_of}
 use Rattle.infer_systems_laws.specs.Laws.{SystemsGenerate, LimitsAreTold}
 use Rattle.infer_systems_laws.specs.Tried.{IsOrdered}
+use Rattle.infer_systems_laws.proofs.Proper.{ordered_are_proper}
 use Rattle.cert_check.specs.Fault as f
 use Rattle.cert_check.specs.Finds.{AreWithin, FirstFault}
-use Rattle.cert_check.specs.Laws.{AllThere, IsProper, IsLeaving, IsSmall, HeldLeavesAlone}
+use Rattle.cert_check.specs.Laws.{IsLeaving, IsSmall, HeldLeavesAlone}
 use Rattle.cert_check.specs.Read.{fault_of}
 use Rattle.cert_check.specs.declared.fault.CertFault.{CertFault}
 use Rattle.cert_check.specs.declared.fault.CertFault.TheVariants as h
@@ -32,21 +29,6 @@ use Rattle.bound_infer.specs.Inferred.{VerifyCause, SystemsAreSmall, VerifiesAga
 use Rattle.bound_infer.specs.declared.refusal.VerifyFault.{VerifyFault}
 use Rattle.bound_infer.specs.declared.refusal.VerifyFault.TheVariants as r
 use Rattle.bound_infer.proofs.NeverNo.{never_no}
-
-all_there : (P : Program) (fs : List ℕ) → ((x : ℕ) → is_among x fs ≡ true → (g : NormFun) × (slice_get P.funs x ≡ Some g)) → AllThere P fs
-all_there P [] h = tt
-all_there P (x ∷ fs) h = (h x first, all_there P fs (λ y e. h y (more y e))) where
-  first : is_among x (x ∷ fs) ≡ true
-  first = let same : nat_eq x x ≡ true = grind (arith, nat_tests) in ap (λ b. b || is_among x fs) same
-
-  more : (y : ℕ) → is_among y fs ≡ true → is_among y (x ∷ fs) ≡ true
-  more y e = by (nat_eq y x) where
-    by : (b : Bool) → (b || is_among y fs) ≡ true
-    by true = refl
-    by false = e
-
-is_proper : (P : Program) → IsOrdered P → IsProper P
-is_proper P h = record { uses = h.uses; there = λ group. all_there P (members P group) (h.there group) }
 
 not_blocked : (o : Option ℕ) (sigs : List Sig) (hints : List (List Hint)) → NamesBlocker o (Solved sigs hints) → o ≡ None
 not_blocked None sigs hints h = refl
@@ -88,7 +70,7 @@ module _ (told : LimitsAreTold) (alone : HeldLeavesAlone) (large : NoneTooLarge)
 
   pub only_leaves : (fault : VerifyFault) → VerifyCause P cert fault → OnlyLeaves fault
   only_leaves (r.Cert fault) h = only fault
-      (λ x e. alone P (is_proper P ordered) cert certifies.valid.held small x (subst (FirstFault P cert) e h.1)) h.0
+      (λ x e. alone P (ordered_are_proper P ordered) cert certifies.valid.held small x (subst (FirstFault P cert) e h.1)) h.0
   only_leaves (r.NotRefuted block) h = unrefuted never_no P (generator_of P cert.degree) cert certifies.valid block h.first.is
   only_leaves (r.TooLarge task what) h = none_too_large h.place _ h.has.first.is
   only_leaves (r.Leaves at) h = tt

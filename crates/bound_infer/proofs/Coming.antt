@@ -6,7 +6,7 @@ use Rattle.raml_syntax.specs.Tree.{Type'}
 use Rattle.cost_free.specs.declared.task.Meter.{Meter}
 use Rattle.cost_free.specs.declared.task.Meter.TheVariants.{Ticks}
 use Rattle.cost_free.specs.Task as k
-use Rattle.cost_free.specs.Task.{Kind, Free, Task, Outcome}
+use Rattle.cost_free.specs.Task.{Free, Task, Outcome}
 use Rattle.cost_free.specs.Target.{Target, degree_of}
 use Rattle.cost_free.specs.Blocked.{row}
 use Rattle.cost_free.specs.Schedule.{meters, targets_at, tasks_for, free_tasks, group_tasks, tasks_from, is_left_out, next_of}
@@ -14,25 +14,11 @@ use Rattle.cost_free.specs.Refused.{Plan, next_in, any_has_more, IsRefused}
 use Rattle.annot_types.specs.Certificate.{Block, outcome}
 use Rattle.annot_types.proofs.Lists.{some_is, length_map, map_inv, take_map}
 use Rattle.infer_spec.proofs.Asked.{AllTasks, both, each}
-
--- a task with cost is never left out
-never_left : (meter : Meter) (past : List Outcome) (kind : Kind) → kind ≡ k.With meter → is_left_out past kind ≡ true → ⊥
-never_left meter past kind e h = by past (sym (ap (is_left_out past) e) ∙ h)
-  where
-    by : (past : List Outcome) → is_left_out past (k.With meter) ≡ true → ⊥
-    by [] h = cc
-    by (o ∷ past) h = cc
+use Rattle.infer_spec.proofs.Present.{HasCome, never_left, in_left, in_right}
 
 -- each outcome is of the schedule's next task
 pub record Follows (ts : List Task) (past rest : List Outcome) : Type 0 where
   pub tasks : (i : ℕ) (o : Outcome) → slice_get rest i ≡ Some o → next_of ts past (take i rest) ≡ Some o.0
-
--- an outcome of the task
-pub record HasCome (rest : List Outcome) (task : Task) : Type 0 where
-  pub place : ℕ
-  pub out : Outcome
-  pub there : slice_get rest place ≡ Some out
-  pub is : out.0 ≡ task
 
 module _ (ys : List Task) (task u : Task) (meter : Meter) (of_meter : u.kind ≡ k.With meter) where
   -- the next task stands behind these, so each of them that has cost has come
@@ -79,15 +65,6 @@ module _ (ys : List Task) (task u : Task) (meter : Meter) (of_meter : u.kind ≡
           at (suc i) there =
               let g = on (later q) (sym (λ i. cond (q i) (next_of (xs ++ ys) past (o ∷ rest)) (next_of (xs ++ ys) (o ∷ past) rest)) ∙ e) none.1 i there in
               record { place = suc g.place; out = g.out; there = g.there; is = g.is }
-
-in_left : {X : Type 0} (xs ys : List X) (x : X) (i : ℕ) → slice_get xs i ≡ Some x → (j : ℕ) × (slice_get (xs ++ ys) j ≡ Some x)
-in_left [] ys x i e = absurd (cc)
-in_left (z ∷ xs) ys x zero e = (zero, e)
-in_left (z ∷ xs) ys x (suc i) e = let r = in_left xs ys x i e in (suc r.0, r.1)
-
-in_right : {X : Type 0} (xs ys : List X) (x : X) (i : ℕ) → slice_get ys i ≡ Some x → (j : ℕ) × (slice_get (xs ++ ys) j ≡ Some x)
-in_right [] ys x i e = (i, e)
-in_right (z ∷ xs) ys x i e = let r = in_right xs ys x i e in (suc r.0, r.1)
 
 append_assoc : {X : Type 0} (xs ys zs : List X) → (xs ++ ys) ++ zs ≡ xs ++ (ys ++ zs)
 append_assoc [] ys zs = refl

@@ -1,6 +1,6 @@
 -- The line of a function and a meter.
 use Rattle.std.proofs.Common.{◌≡◌, refl, ap, sym, ◌∙◌, subst, arith}
-use Rattle.std.specs.Prelude.{ℕ, zero, suc, ◌<◌, Bool, true, false, cond, ◌&&◌, List, [], ◌∷◌, ◌++◌, map, flat_map, filter, length, unsigned_abs, slice_get, Option, None, Some, IsSome, IfSome}
+use Rattle.std.specs.Prelude.{ℕ, zero, suc, ◌<◌, Bool, true, false, cond, List, [], ◌∷◌, ◌++◌, map, flat_map, filter, length, unsigned_abs, slice_get, Option, None, Some, IsSome, IfSome}
 use Rattle.std.specs.Option.{option_map}
 use Rattle.std.proofs.lemmas.Option.{none-some, same_Some}
 use Rattle.raml_syntax.specs.Tree.{Function, Prog}
@@ -9,8 +9,6 @@ use Rattle.normal_spec.specs.Context.{types}
 use Rattle.base_poly.specs.declared.tuple.Poly.{Poly}
 use Rattle.base_poly.specs.Poly.{den_of, terms_of, IsPoly}
 use Rattle.cost_free.specs.declared.task.Meter.{Meter}
-use Rattle.cost_free.specs.Task as k
-use Rattle.cost_free.specs.Task.{Kind, Free}
 use Rattle.cost_free.specs.Blocked.{is_among, is_for_meter}
 use Rattle.annot_types.specs.Program.{Program, members, blocker_of}
 use Rattle.annot_types.specs.Certificate as c
@@ -18,11 +16,11 @@ use Rattle.annot_types.specs.Certificate.{Sig, Body, Solved, Block, Certificate}
 use Rattle.annot_types.specs.Signature.{sig_in, cost_sig}
 use Rattle.annot_types.specs.Held as h
 use Rattle.annot_types.specs.Held.{IfSolved, NamesBlocker, done_before, scale_of, claim_of, bound_of, is_for_function, line, lines_for, Held, HoldsInPlace}
-use Rattle.annot_types.proofs.Raised.{same_meters}
 use Rattle.rules_soundness_laws.specs.Bounds.{Bounds}
 use Rattle.rules_soundness_laws.specs.Laws.{IsTrue}
 use Rattle.infer_spec.specs.Good.{AllRefuted}
 use Rattle.infer_spec.specs.Lines.{IsBlockOf, Tells}
+use Rattle.infer_spec.proofs.Lines.{both_true, of_meter, named}
 use Rattle.cert_check.specs.Bound.{told, told_by, told_of}
 use Rattle.bound_infer.specs.declared.line.Line.{Line}
 use Rattle.bound_infer.specs.declared.line.Line.TheVariants.{Bound, NoBound, Calls}
@@ -42,20 +40,6 @@ one_place p (y ∷ xs) x e = by (p y) refl e (one_place p xs x) where
       (filter p xs ≡ x ∷ [] → (place : ℕ) × (slice_get xs place ≡ Some x) × (p x ≡ true)) → (place : ℕ) × (slice_get (y ∷ xs) place ≡ Some x) × (p x ≡ true)
   by true q e go = let same = head (filter p xs) e in (0, ap Some same, ap p (sym same) ∙ q)
   by false q e go = let r = go e in (suc r.0, r.1, r.2)
-
-both_true : (a b : Bool) → (a && b) ≡ true → (a ≡ true) × (b ≡ true)
-both_true true b e = (refl, e)
-both_true false b e = absurd (cc)
-
-of_meter : (meter : Meter) (kind : Kind) → is_for_meter meter kind ≡ true → kind ≡ k.With meter
-of_meter meter (Free budget fun target) e = absurd (cc)
-of_meter meter (k.With other) e = λ i. k.With (sym (same_meters meter other e) i)
-
-named : (o : Option ℕ) (fun : ℕ) → NamesBlocker o (c.Calls fun) → o ≡ Some fun
-named None fun h = absurd h
-named (Some f) fun h = ap Some (same f fun h) where
-  same : (f g : ℕ) → c.Calls g ≡ c.Calls f → f ≡ g
-  same f g e = cc
 
 pub fun_there : (N : List NormFun) (f : ℕ) → f < length N → (g : NormFun) × (slice_get N f ≡ Some g)
 fun_there [] f h = absurd (omega (arith, h))

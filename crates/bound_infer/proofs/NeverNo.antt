@@ -6,14 +6,9 @@ use Rattle.linear_rows.specs.Terms.{SparseRow, coefficient}
 use Rattle.linear_rows.specs.Systems.{numbers_from, right_sides}
 use Rattle.linear_rows.specs.Vectors.{dot, scale, plus, zeros, mix, AtMost}
 use Rattle.farkas_check.specs.declared.Verdict.TheVariants.{No}
-use Rattle.farkas_check.specs.Totals.{products}
 use Rattle.farkas_check.specs.Checks.{Check, Meets, IsFirstFault, column, refuting_columns, refuting}
+use Rattle.farkas_check.proofs.Meaning.{total_products}
 use Rattle.infer_spec.specs.Laws.{NeverNo}
-
-total_products : (xs ys : List ℤ) → total (products xs ys) ≡ dot xs ys
-total_products [] ys = refl
-total_products (x ∷ xs) [] = refl
-total_products (x ∷ xs) (y ∷ ys) = ap (λ (v : ℤ). x *ℤ y +ℤ v) (total_products xs ys)
 
 -- the products of y and each column from this one on
 abbrev dots : ℕ → ℕ → List ℤ → List SparseRow → List ℤ

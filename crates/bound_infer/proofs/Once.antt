@@ -1,6 +1,7 @@
 -- In a whole run of the schedule a task with cost comes once.
 use Rattle.std.proofs.Common.{◌≡◌, refl, ap, sym, ◌∙◌, arith, inl, inr, ◌⊎◌, ⊎_elim}
-use Rattle.std.specs.Prelude.{ℕ, zero, suc, ◌+◌, ◌<◌, nat_eq, nat_le, Bool, true, false, cond, ◌&&◌, ◌||◌, List, [], ◌∷◌, ◌++◌, map, flat_map, filter, take, length, slice_get, None, Some}
+use Rattle.std.proofs.lemmas.List.Elements.{filter-append}
+use Rattle.std.specs.Prelude.{ℕ, zero, suc, ◌+◌, ◌<◌, nat_eq, nat_le, Bool, true, false, cond, ◌&&◌, ◌||◌, List, [], ◌∷◌, ◌++◌, map, flat_map, filter, take, length, slice_get, Some}
 use Rattle.std.specs.List.{range_with_len, Contains}
 use Rattle.std.proofs.lemmas.Bool.{eqb-true, eq-eqb}
 use Rattle.std.proofs.lemmas.Option.{none-some, same_Some}
@@ -15,11 +16,7 @@ use Rattle.cost_free.specs.Task as k
 use Rattle.cost_free.specs.Task.{Kind, Free, Task, Outcome, same_meter}
 use Rattle.cost_free.specs.Schedule.{meters, targets_at, tasks_for, free_tasks, group_tasks, tasks_from, is_left_out, next_of}
 use Rattle.cost_free.specs.Blocked.{row, is_among, is_for_meter}
-
--- Each outcome is of the schedule's next task, and after all of them there is none.
-pub record IsWhole (ts : List Task) (past rest : List Outcome) : Type 0 where
-  pub tasks : (i : ℕ) (o : Outcome) → slice_get rest i ≡ Some o → next_of ts past (take i rest) ≡ Some o.0
-  pub over : next_of ts past rest ≡ None
+use Rattle.infer_spec.proofs.Present.{IsWhole}
 
 apart : true ≡ false → ⊥
 apart e = cc
@@ -62,16 +59,9 @@ module _ (Q : Task → Bool) (never : (t : Task) (past : List Outcome) → is_le
     by true e go next = go (skipped e) ∙ sym (kept_first t ts (Q t) refl (never t past e))
     by false e go next = λ i. cond (Q (sym (first e) i)) (sym (first e) i ∷ next (later e) i) (next (later e) i)
 
-filter_append : {X : Type 0} (Q : X → Bool) (xs ys : List X) → filter Q (xs ++ ys) ≡ filter Q xs ++ filter Q ys
-filter_append Q [] ys = refl
-filter_append Q (x ∷ xs) ys = by (Q x) (filter_append Q xs ys) where
-  by : (b : Bool) → filter Q (xs ++ ys) ≡ filter Q xs ++ filter Q ys → cond b (x ∷ filter Q (xs ++ ys)) (filter Q (xs ++ ys)) ≡ cond b (x ∷ filter Q xs) (filter Q xs) ++ filter Q ys
-  by true e = ap (λ l. x ∷ l) e
-  by false e = e
-
 filter_flat : {X Y : Type 0} (Q : Y → Bool) (f : X → List Y) (xs : List X) → ((x : X) → filter Q (f x) ≡ []) → filter Q (flat_map f xs) ≡ []
 filter_flat Q f [] h = refl
-filter_flat Q f (x ∷ xs) h = filter_append Q (f x) (flat_map f xs) ∙ (λ i. h x i ++ filter_flat Q f xs h i)
+filter_flat Q f (x ∷ xs) h = filter-append Q (f x) (flat_map f xs) ∙ (λ i. h x i ++ filter_flat Q f xs h i)
 
 -- The tasks of a meter for the groups with a function are one.
 module _ (groups : List (List ℕ)) (meter : Meter) (f : ℕ) where
@@ -120,7 +110,7 @@ module _ (groups : List (List ℕ)) (meter : Meter) (f : ℕ) where
       by Work false m = absurd (no_work m)
 
     of_group : (group : ℕ) (fs : List ℕ) → filter is_it (group_tasks rs d work group fs) ≡ cond (is_among f (row groups group)) (task group ∷ []) []
-    of_group group fs = filter_append is_it (free_tasks rs d work group fs) (map (λ other. record { group = group; kind = k.With other }) (meters work))
+    of_group group fs = filter-append is_it (free_tasks rs d work group fs) (map (λ other. record { group = group; kind = k.With other }) (meters work))
         ∙ (λ i. no_free group fs i ++ of_meters group i)
 
     -- the groups from a place on that have the function, as tasks
@@ -130,7 +120,7 @@ module _ (groups : List (List ℕ)) (meter : Meter) (f : ℕ) where
 
     of_all : (start : ℕ) (rest : List (List ℕ)) → filter is_it (tasks_from rs d work start rest) ≡ ones start rest
     of_all start [] = refl
-    of_all start (fs ∷ rest) = filter_append is_it (group_tasks rs d work start fs) (tasks_from rs d work (suc start) rest)
+    of_all start (fs ∷ rest) = filter-append is_it (group_tasks rs d work start fs) (tasks_from rs d work (suc start) rest)
         ∙ (λ i. of_group start fs i ++ of_all (suc start) rest i)
 
     module _ (P : Prog) where

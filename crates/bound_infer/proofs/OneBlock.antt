@@ -5,8 +5,7 @@ use Rattle.std.specs.List.{Contains}
 use Rattle.raml_syntax.specs.Tree.{Prog}
 use Rattle.call_groups.specs.Groups.{AreInOrder}
 use Rattle.cost_free.specs.declared.task.Meter.{Meter}
-use Rattle.cost_free.specs.Task.{Outcome}
-use Rattle.cost_free.specs.Schedule.{meters, next_of, tasks_from}
+use Rattle.cost_free.specs.Schedule.{meters, tasks_from}
 use Rattle.cost_free.specs.Blocked.{is_among, is_for_meter}
 use Rattle.annot_types.specs.Program.{Program, members, results}
 use Rattle.annot_types.specs.Certificate.{Sig, Hint, Block, Certificate, has_work, outcome, sigs_of}
@@ -14,8 +13,8 @@ use Rattle.annot_types.specs.Signature.{sig_among, sig_in, or_else, cost_sig}
 use Rattle.annot_types.specs.Rules.{Mode, Setting}
 use Rattle.annot_types.specs.Holds.{FunctionsHold}
 use Rattle.annot_types.specs.Held.{is_for_function, Held}
-use Rattle.annot_types.proofs.Lists.{map_inv, take_map}
-use Rattle.bound_infer.proofs.Once.{IsWhole, tasks_of, is_it, never_left, all_come, one_task}
+use Rattle.infer_spec.proofs.Present.{whole}
+use Rattle.bound_infer.proofs.Once.{tasks_of, is_it, never_left, all_come, one_task}
 
 filter_map_is : {X Y : Type 0} (Q : Y → Bool) (g : X → Y) (xs : List X) → filter Q (map g xs) ≡ map g (filter (λ x. Q (g x)) xs)
 filter_map_is Q g [] = refl
@@ -33,16 +32,6 @@ one_mapped g (x ∷ z ∷ xs) y e = absurd (cc)
 tasks_mapped : (bs : List Block) → tasks_of (map outcome bs) ≡ map (λ (b : Block). b.task) bs
 tasks_mapped [] = refl
 tasks_mapped (b ∷ bs) = ap (λ l. b.task ∷ l) (tasks_mapped bs)
-
--- the blocks of a held certificate are a whole run
-whole : (P : Program) (c : Certificate) → Held P c → IsWhole (tasks_from (results P) c.degree (has_work c) 0 P.groups) [] (map outcome c.blocks)
-whole P c held = record {
-  tasks = λ i o g.
-      let b = map_inv outcome c.blocks i o g in
-      ap (next_of (tasks_from (results P) c.degree (has_work c) 0 P.groups) []) (take_map outcome i c.blocks) ∙ (let placed = held.blocks i b.0 b.1 in placed.task)
-      ∙ ap (λ (o : Outcome). Some o.0) b.2;
-  over = held.ended;
-}
 
 module _ (S : Prog) (P : Program) (order : AreInOrder S [] P.groups) (c : Certificate) (held : Held P c) (f : ℕ) (low : f < length S) (meter : Meter) (counted : Contains (meters (has_work c)) meter) where
   pub one_block : (b : Block) × (filter (is_for_function P meter f) c.blocks ≡ b ∷ [])

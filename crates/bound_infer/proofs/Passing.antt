@@ -1,5 +1,5 @@
 -- What is raised of a meter is of 128 bits in the tables, too.
-use Rattle.std.proofs.Common.{rules, ◌≡◌, refl, ap, sym, subst, arith}
+use Rattle.std.proofs.Common.{rules, ◌≡◌, refl, sym, subst, arith}
 use Rattle.std.specs.Prelude.{ℕ, suc, ◌*◌, ◌^◌, ◌<◌, ◌==◌, if◌then◌else◌, nat_eq, ℤ, pos, ◌*ℤ◌, unsigned_abs, Bool, true, false, cond, FitsSigned, List, [], ◌∷◌, slice_get, Option, None, Some}
 use Rattle.std.specs.List.{All}
 use Rattle.std.specs.Int.{w128}
@@ -7,15 +7,14 @@ use Rattle.std.proofs.lemmas.Int.{unsigned_abs-mul}
 use Rattle.std.proofs.lemmas.List.Elements.{All-head, All-tail}
 use Rattle.cost_free.specs.declared.task.Meter.{Meter}
 use Rattle.cost_free.specs.Task as k
-use Rattle.cost_free.specs.Task.{Kind, Free}
 use Rattle.cost_free.specs.Blocked.{is_for_meter}
 use Rattle.annot_types.specs.Program.{Program, members}
 use Rattle.annot_types.specs.Certificate as c
 use Rattle.annot_types.specs.Certificate.{Entries, number_at, annotation, Sig, Body, Solved, IsSolved, Block, sigs_of}
 use Rattle.annot_types.specs.Signature.{sig_among, sig_in, or_else, cost_sig}
-use Rattle.annot_types.proofs.Raised.{same_meters}
 use Rattle.rules_walk.specs.Raised.{NothingLeaves, NonePasses}
 use Rattle.infer_spec.specs.Places.{EntriesFit, SigFits, BodyFits, IsOfMeter}
+use Rattle.infer_spec.proofs.Lines.{of_meter}
 
 product_fits : (t : ℕ) (z : ℤ) → FitsSigned w128 (pos t *ℤ z) → unsigned_abs z * t < 2 ^ 128
 product_fits t z h =
@@ -53,10 +52,6 @@ among_stays t (g ∷ fs) (x ∷ ss) f s h e = by (nat_eq f g) (among_stays t fs 
     by true rest e = subst (NothingLeaves t) (some_is x s e) (sig_stays t x (All-head (SigFits t) x ss h))
     by false rest e = rest e
 
-meter_of : (meter : Meter) (kind : Kind) → is_for_meter meter kind ≡ true → kind ≡ k.With meter
-meter_of meter (Free n f t) e = absurd (cc)
-meter_of meter (k.With other) e = ap k.With (sym (same_meters meter other e))
-
 no_sigs : (fs : List ℕ) (f : ℕ) (s : Sig) → sig_among fs [] f ≡ Some s → ⊥
 no_sigs [] f s e = cc
 no_sigs (g ∷ fs) f s e = cc
@@ -69,7 +64,7 @@ none_passes P meter t (b ∷ bs) h f s e =
   where
     here : (body : Body) → is_for_meter meter b.task.kind ≡ true → b.body ≡ body → sig_among (members P b.task.group) (sigs_of body) f ≡ Some s → NothingLeaves t s
     here (Solved sigs hints) on is e =
-        let fits = h 0 b refl (record { kind = meter_of meter b.task.kind on; solved = subst IsSolved (sym is) tt }) in
+        let fits = h 0 b refl (record { kind = of_meter meter b.task.kind on; solved = subst IsSolved (sym is) tt }) in
         among_stays t (members P b.task.group) sigs f s (subst (BodyFits t) is fits).0 e
     here (c.Refuted farkas) on is e = absurd (no_sigs (members P b.task.group) f s e)
     here (c.Calls fun) on is e = absurd (no_sigs (members P b.task.group) f s e)

@@ -13,6 +13,8 @@ use Rattle.cost_free.specs.Blocked.{is_among}
 use Rattle.annot_types.specs.Program.{Program, members}
 use Rattle.rules_walk.specs.Sizes.{AreSizes}
 use Rattle.rules_systems_laws.specs.Ordered.{AreApart, IsOrdered}
+use Rattle.rules_systems_laws.proofs.Ready.{is_later}
+use Rattle.infer_systems_laws.proofs.Proper.{is_first}
 use Rattle.bound_infer.specs.Sized.{sizes_in}
 
 pub function_there : (As : List Ty) (gs : List NormFun) (k : ℕ) (g : NormFun) (d : Ty) → k < length As → slice_get gs k ≡ Some g →
@@ -26,19 +28,11 @@ pub are_sizes : (P : Program) (budget : ℕ) (fs : List ℕ) → AreApart fs →
     AreSizes P budget fs (map (λ f. sizes_in budget (slice_get P.funs f)) fs)
 are_sizes P budget [] h there = tt
 are_sizes P budget (f ∷ fs) h there =
-    let g = there f (first f fs) in (
+    let g = there f (is_first f fs) in (
       record { fun = g.0; there = g.1; args = ap (λ o. (sizes_in budget o).0) g.1; result = ap (λ o. (sizes_in budget o).1) g.1 },
       h.0,
-      are_sizes P budget fs h.1 (λ x e. there x (more x e)),
-    ) where
-      first : (f : ℕ) (fs : List ℕ) → is_among f (f ∷ fs) ≡ true
-      first f fs = let same : nat_eq f f ≡ true = grind (arith, nat_tests) in ap (λ b. b || is_among f fs) same
-
-      more : (x : ℕ) → is_among x fs ≡ true → is_among x (f ∷ fs) ≡ true
-      more x e = by (nat_eq x f) where
-        by : (b : Bool) → (b || is_among x fs) ≡ true
-        by true = refl
-        by false = e
+      are_sizes P budget fs h.1 (λ x e. there x (is_later x f fs e)),
+    )
 
 member_among : (group : List FunId) (k : ℕ) (d : FunId) → k < length group → is_among (slice_index_or group k d).0 (ids_of group) ≡ true
 member_among [] k d h = absurd (omega (arith, h))

@@ -1,18 +1,17 @@
 -- Blocks whose numbers are of 128 bits, also where they are raised.
-use Rattle.std.proofs.Common.{◌≡◌, ℕ, zero, suc, ℤ, pos, ◌*ℤ◌, FitsSigned, Bool, true, false, List, [], ◌∷◌, ◌++◌, map, slice_get, Some, refl, sym, ap, subst}
+use Rattle.std.proofs.Common.{◌≡◌, ℕ, zero, suc, ℤ, pos, ◌*ℤ◌, FitsSigned, Bool, true, false, List, [], ◌∷◌, ◌++◌, map, slice_get, Some, refl, sym, subst}
 use Rattle.std.specs.List.{All}
 use Rattle.std.specs.Int.{w128}
 use Rattle.std.proofs.lemmas.List.Elements.{All-nil, All-cons, All-head, All-tail, All-push, All-map, All-weaker}
 use Rattle.cost_free.specs.declared.task.Meter.{Meter}
-use Rattle.cost_free.specs.Task as k
-use Rattle.cost_free.specs.Task.{Kind, Free}
 use Rattle.cost_free.specs.Blocked.{is_for_meter}
 use Rattle.annot_types.specs.Certificate as c
 use Rattle.annot_types.specs.Certificate.{Entries, Sig, Body, Solved, Block}
 use Rattle.annot_types.specs.Holds.{times, times_sig, times_hint, times_body, raised}
-use Rattle.annot_types.proofs.Raised.{on, off, same_meters}
+use Rattle.annot_types.proofs.Raised.{on, off}
 use Rattle.annot_types.proofs.Lists.{some_is}
 use Rattle.infer_spec.specs.Places.{EntriesFit, HintFits, SigFits, BodyFits, IsOfMeter}
+use Rattle.infer_spec.proofs.Lines.{of_meter}
 use Rattle.bound_infer.specs.Raised.{AllFit, EachFits}
 use Rattle.bound_infer.proofs.Ones.{one_times}
 
@@ -40,12 +39,8 @@ body_stays t (c.Refuted farkas) h = tt
 body_stays t (c.Calls fun) h = tt
 
 -- what a solved block of the meter is, is nothing for others
-of_kind : (m : Meter) (kind : Kind) → is_for_meter m kind ≡ true → kind ≡ k.With m
-of_kind m (Free n f u) e = absurd (cc)
-of_kind m (k.With other) e = ap k.With (sym (same_meters m other e))
-
 raised_fits : (m : Meter) (t : ℕ) (b : Block) → is_for_meter m b.task.kind ≡ true → (IsOfMeter m b → BodyFits t b.body) → BodyFits t b.body
-raised_fits m t b e h = by b.body (λ solved. h (record { kind = of_kind m b.task.kind e; solved = solved }))
+raised_fits m t b e h = by b.body (λ solved. h (record { kind = of_meter m b.task.kind e; solved = solved }))
   where
     by : (body : Body) → (c.IsSolved body → BodyFits t body) → BodyFits t body
     by (Solved sigs hints) h = h tt

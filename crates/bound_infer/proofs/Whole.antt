@@ -1,48 +1,24 @@
 -- The end of a course.
 use Rattle.std.specs.Prelude.{◌↔◌, IsTrue}
-use Rattle.std.proofs.Common.{◌≡◌, ℕ, ℤ, true, false, Bool, nat_eq, nat_lt, not, cond, ◌||◌, List, [], ◌∷◌, length, slice_get, Option, Some, None, refl, sym, ap, ◌∙◌, subst}
-use Rattle.std.proofs.lemmas.Bool.{eq-eqb}
-use Rattle.normal_spec.specs.Norm.{NormFun}
+use Rattle.std.proofs.Common.{◌≡◌, ℕ, ℤ, true, false, Bool, nat_lt, not, cond, List, length, slice_get, Option, Some, None, refl, sym, ◌∙◌, subst}
 use Rattle.cost_free.specs.Task.{Task}
-use Rattle.cost_free.specs.Blocked.{is_among}
-use Rattle.annot_types.specs.Program.{Program, members, blocker_of}
+use Rattle.annot_types.specs.Program.{Program, blocker_of}
 use Rattle.annot_types.specs.Certificate as c
 use Rattle.annot_types.specs.Certificate.{Body, Solved, Block, Certificate}
 use Rattle.annot_types.specs.Held.{Held, IfSolved, NamesBlocker, before, done_before, scale_for}
 use Rattle.annot_types.specs.System.{system}
 use Rattle.cert_check.specs.Fault.{Fault}
 use Rattle.cert_check.specs.Finds.{AreWithin}
-use Rattle.cert_check.specs.Laws.{AllThere, IsProper, IsSmall}
+use Rattle.cert_check.specs.Laws.{IsSmall}
 use Rattle.cert_check.specs.Read.{OfFault}
 use Rattle.constraint_gen.specs.Cause.{IsWithin}
 use Rattle.infer_spec.specs.Generator.{What, Indices, Unknowns, Rows, Generator, limit_of}
 use Rattle.linear_rows.specs.Systems.{LinearSystem}
 use Rattle.infer_spec.specs.Laws.{StaysWithin}
-use Rattle.infer_systems_laws.specs.Tried.{IsOrdered}
 use Rattle.infer_systems_laws.specs.Analysed.{analysis_of}
 
 pub found_there : (claim : Option Fault → Type 0) (o : Option Fault) (fault : Fault) → o ≡ Some fault → OfFault o claim → claim (Some fault)
 found_there claim o fault e h = subst (λ o. OfFault o claim) e h
-
-proper_of : (P : Program) → IsOrdered P → (fs all : List ℕ) → ((f : ℕ) → is_among f fs ≡ true → is_among f all ≡ true) → ((f : ℕ) → is_among f all ≡ true → (g : NormFun) × (slice_get P.funs f ≡ Some g)) → AllThere P fs
-proper_of P h [] all sub there = tt
-proper_of P h (f ∷ fs) all sub there = (there f (sub f (here f fs)), proper_of P h fs all (λ g e. sub g (later g f fs e)) there)
-  where
-    self : (n : ℕ) → nat_eq n n ≡ true
-    self n = eq-eqb n n refl
-
-    here : (f : ℕ) (fs : List ℕ) → is_among f (f ∷ fs) ≡ true
-    here f fs = ap (λ b. b || is_among f fs) (self f)
-
-    later : (g f : ℕ) (fs : List ℕ) → is_among g fs ≡ true → is_among g (f ∷ fs) ≡ true
-    later g f fs e = by (nat_eq g f)
-      where
-        by : (b : Bool) → (b || is_among g fs) ≡ true
-        by true = refl
-        by false = e
-
-pub proper : (P : Program) → IsOrdered P → IsProper P
-proper P h = record { uses = h.uses; there = λ group. proper_of P h (members P group) (members P group) (λ f e. e) (h.there group) }
 
 within_is : (G : Generator) (task : Task) (s : LinearSystem) → limit_of G task s ≡ None → G.within task ≡ true
 within_is G task s e = by (G.within task) refl

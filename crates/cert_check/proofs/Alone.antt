@@ -1,5 +1,6 @@
 -- In a certificate that is held and small nothing is found but a total that leaves its range.
 use Rattle.std.proofs.Common.{◌≡◌, refl, ap, sym, ◌∙◌, subst, arith, inl, inr}
+use Rattle.std.proofs.Math.Seq.{take-append_seam}
 use Rattle.std.specs.Prelude.{ℕ, ◌*◌, ◌<◌, ◌≤◌, ◌||◌, Bool, true, false, cond, nat_lt, nat_le, List, [], ◌∷◌, ◌++◌, length, take, slice_get, Option, None, Some}
 use Rattle.std.specs.Option.{option_map}
 use Rattle.std.proofs.lemmas.Bool.Decides.{nat_tests}
@@ -28,7 +29,7 @@ use Rattle.cert_check.proofs.Fitted.{Tried, block_meets}
 
 -- Conditions that are met have no fault but a total that leaves, and none where all totals fit.
 
-abbrev LeavesAt : Option f.Fault → Type 0
+abbrev pub LeavesAt : Option f.Fault → Type 0
 LeavesAt None = Unit {0}
 LeavesAt (Some (f.Leaves path index)) = Unit {0}
 LeavesAt (Some (f.Fails path index)) = ⊥
@@ -40,7 +41,7 @@ met_leaves c m = by (nat_le too_great (total_left c) || nat_le too_great (total_
   by false false e = tt
   by false true e = let less : total_left c < total_right c = grind (arith, nat_tests, e) in absurd (omega (arith, less, m))
 
-all_met_leave : (cs : List (Condition Amount)) → AllMeet cs → LeavesAt (first_fault cs)
+pub all_met_leave : (cs : List (Condition Amount)) → AllMeet cs → LeavesAt (first_fault cs)
 all_met_leave [] m = tt
 all_met_leave (c ∷ cs) m = by (fault_at c) (met_leaves c m.0) (all_met_leave cs m.1) where
   by : (o : Option f.Fault) → LeavesAt o → LeavesAt (first_fault cs) → LeavesAt (or_fault o (first_fault cs))
@@ -186,16 +187,12 @@ module _ (P : Program) (proper : IsProper P) (c : Certificate) (held : Held P c)
   abbrev Rest : List Block → List Block → Type 0
   Rest earlier bs = (earlier ++ bs) ≡ c.blocks
 
-  took : (earlier bs : List Block) → take (length earlier) (earlier ++ bs) ≡ earlier
-  took [] bs = refl
-  took (b ∷ earlier) bs = ap (◌∷◌ b) (took earlier bs)
-
   first_there : (earlier : List Block) (b : Block) (bs : List Block) → slice_get (earlier ++ b ∷ bs) (length earlier) ≡ Some b
   first_there [] b bs = refl
   first_there (x ∷ earlier) b bs = first_there earlier b bs
 
   is_before : (earlier bs : List Block) → Rest earlier bs → before c (length earlier) ≡ earlier
-  is_before earlier bs e = ap (take (length earlier)) (sym e) ∙ took earlier bs
+  is_before earlier bs e = ap (take (length earlier)) (sym e) ∙ take-append_seam earlier bs
 
   is_at : (earlier : List Block) (b : Block) (bs : List Block) → Rest earlier (b ∷ bs) → IsAt (length earlier) b
   is_at earlier b bs e = ap (λ xs. slice_get xs (length earlier)) (sym e) ∙ first_there earlier b bs

@@ -6,7 +6,7 @@ use Rattle.normal_spec.specs.Context.{types}
 use Rattle.cost_free.specs.Task.{Task}
 use Rattle.annot_types.specs.Program.{Program, members}
 use Rattle.annot_types.specs.Certificate as c
-use Rattle.annot_types.specs.Certificate.{Entries, annotation, Rise, Sig, Hint, Solved, Block}
+use Rattle.annot_types.specs.Certificate.{annotation, Rise, Sig, Hint, Solved, Block}
 use Rattle.annot_types.specs.Rules.{Setting}
 use Rattle.annot_types.specs.Held.{HintsRise, AllHintsRise}
 use Rattle.annot_types.specs.Holds.{mode_of, budget_of, setting, FunctionHolds, FunctionsHold}
@@ -17,30 +17,17 @@ use Rattle.rules_spec.specs.Tasks as t
 use Rattle.rules_spec.specs.Tasks.{of_body, of_bodies}
 use Rattle.rules_spec.specs.Jobs.{job_of}
 use Rattle.rules_spec.specs.Asked.{Ask, ResultsOf, CopiesOf, MultiplesOf, asked}
-use Rattle.rules_spec.specs.Stand.{Within, StandForEach, AreMultiplesOf, Answers, Answered}
-use Rattle.rules_spec.specs.Shape.{EachWithin, AreAmong, FitsAsk, FitAsks, hints_at}
+use Rattle.rules_spec.specs.Stand.{Within, Answers, Answered}
+use Rattle.rules_spec.specs.Shape.{FitsAsk, FitAsks, hints_at}
 use Rattle.rules_spec.specs.Found.{signature, sides, group_from}
 use Rattle.rules_spec.proofs.Ruled.{annotates_within}
 use Rattle.rules_spec.proofs.Asking.{rules_ask}
+use Rattle.rules_spec.proofs.Shaped.{each_within, are_among}
 use Rattle.cert_check.specs.Finds.{SigsFit, HintsFit, all_hints_at, job_conditions}
 use Rattle.cert_check.specs.Laws.{IsProper}
 use Rattle.cert_check.proofs.Fitting.{here, J, body, bodies, whole, none, tells, found_with, before_once, sides_are}
 
 -- Hints that answer what is asked for, and whose numbers rise, fit it.
-each_within : (ns : List ℕ) (qs : List (List Amount)) (ess : List Entries) → StandForEach ns qs ess → EachWithin ns ess
-each_within [] [] [] h = tt
-each_within [] [] (es ∷ ess) h = absurd h
-each_within [] (q ∷ qs) ess h = absurd h
-each_within (n ∷ ns) [] ess h = absurd h
-each_within (n ∷ ns) (q ∷ qs) [] h = absurd h
-each_within (n ∷ ns) (q ∷ qs) (es ∷ ess) h = (h.0.0, each_within ns qs ess h.1)
-
-are_among : (blocks : List ℕ) (xs : List (ℕ × Amount)) (ms : Entries) → AreMultiplesOf blocks xs ms → AreAmong blocks ms
-are_among blocks [] [] h = tt
-are_among blocks [] (m ∷ ms) h = absurd h
-are_among blocks (x ∷ xs) [] h = absurd h
-are_among blocks (x ∷ xs) (m ∷ ms) h = (h.0, are_among blocks xs ms h.2)
-
 fits_ask : (ask : Ask) (h : Hint) (x : n.Hint Amount) → Answers ask h x → HintsRise (h ∷ []) → FitsAsk ask h
 fits_ask (ResultsOf sizes) (c.Let results) (n.Results qs) a r = each_within sizes qs results a
 fits_ask (CopiesOf size) (c.Share copies) (n.Copies q) a r = a.0

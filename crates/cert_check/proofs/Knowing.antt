@@ -1,6 +1,6 @@
 -- A walk over capped amounts hears the same of numbers that are capped before.
-use Rattle.std.proofs.Common.{◌≡◌, refl, ap, sym, ◌∙◌, arith, inl, inr}
-use Rattle.std.specs.Prelude.{ℕ, zero, suc, ◌+◌, ◌*◌, ◌-◌, ◌^◌, ◌≤◌, ◌⊎◌, List, [], ◌∷◌, ◌++◌, length, map, slice_index_or, Option, None, Some}
+use Rattle.std.proofs.Common.{◌≡◌, refl, ap, sym, ◌∙◌, arith}
+use Rattle.std.specs.Prelude.{ℕ, zero, suc, ◌+◌, ◌*◌, List, [], ◌∷◌, ◌++◌, length, map, slice_index_or, Option, None, Some}
 use Rattle.std.specs.Option.{option_map}
 use Rattle.cost_free.specs.declared.task.Meter.{Meter}
 use Rattle.cost_free.specs.declared.task.Meter.TheVariants.{Ticks, Cells, Work}
@@ -11,6 +11,7 @@ use Rattle.rules_spec.specs.Numbers.{Sides, Known, Signature, Hint, Walked}
 use Rattle.rules_spec.specs.Kinds.{Amount}
 use Rattle.rules_spec.specs.Capped.{cap, capped}
 use Rattle.rules_spec.specs.Walk.{Walk, charge, behind, and_then, still, mode_at, moved, all_moved, joined, nothing, at_zero, at, numbered, numbers, against, only, results_of, copies_of, multiples_of, later, begun, each, walk, walks, used, once, paid, unpaid, missing, refunded, sums, none_taken, taken, free_sides, call_pairs}
+use Rattle.rules_spec.proofs.Capping.{cap_times}
 use Rattle.annot_types.specs.Program.{Program}
 use Rattle.annot_types.specs.Certificate.{Block}
 use Rattle.rules_walk.specs.Remembers.{Tables, Remembers, capped_signature, Knows}
@@ -26,21 +27,6 @@ cap_plus : (a x y : ℕ) → cap x ≡ cap y → cap (a + x) ≡ cap (a + y)
 cap_plus a x y e = right a x ∙ ap (λ n. cap (a + n)) e ∙ sym (right a y) where
   right : (a x : ℕ) → cap (a + x) ≡ cap (a + cap x)
   right a x = omega arith
-
-cap_big : (a x : ℕ) → a ≤ x → 2 ^ 128 - 1 ≤ a → cap x ≡ 2 ^ 128 - 1
-cap_big a x h g = omega arith
-
-cap_times : (n a : ℕ) → cap (n * a) ≡ cap (n * cap a)
-cap_times zero a = ap cap (omega arith)
-cap_times (suc n) a = by (small a) where
-  small : (a : ℕ) → (a ≤ 2 ^ 128 - 1) ⊎ (2 ^ 128 - 1 ≤ a)
-  small a = grind arith
-
-  by : (a ≤ 2 ^ 128 - 1) ⊎ (2 ^ 128 - 1 ≤ a) → cap (suc n * a) ≡ cap (suc n * cap a)
-  by (inl h) = let e : a ≡ cap a = omega arith in ap (λ z. cap (suc n * z)) e
-  by (inr h) =
-      let e : cap a ≡ 2 ^ 128 - 1 = omega arith in
-      cap_big a (suc n * a) (omega arith) h ∙ sym (cap_big (cap a) (suc n * cap a) (omega arith) (omega (arith, e)))
 
 number_by : (x y : ℕ) → cap x ≡ cap y → capped.number x ≡ capped.number y
 number_by x y e = λ i. record { plus = e i; minus = 0 }

@@ -1,16 +1,14 @@
 -- The terms of an annotation are those of a polynomial.
-use Rattle.std.proofs.Common.{◌≡◌, ◌≤◌, ◌<◌, ◌^◌, ℕ, zero, suc, ℤ, pos, ◌≤ℤ◌, Bool, true, false, List, [], ◌∷◌, ◌++◌, ◌+◌, map, length, drop, drop-cons, append_assoc, All, refl, sym, ap, ◌∙◌, arith}
+use Rattle.std.proofs.Common.{◌≡◌, ◌≤◌, ◌<◌, ◌^◌, ℕ, zero, suc, ℤ, pos, ◌≤ℤ◌, false, List, [], ◌∷◌, ◌++◌, ◌+◌, map, length, drop, drop-cons, append_assoc, All, refl, sym, ap, ◌∙◌, arith}
 use Rattle.std.specs.Prelude.{slice_index_or, unsigned_abs}
 use Rattle.std.specs.List.{AllByRecursion, IsDistinct}
-use Rattle.std.specs.declared.cmp.Ordering.TheVariants.{Less, Greater}
-use Rattle.std.specs.Ordering.{ordering_reverse}
 use Rattle.std.proofs.lemmas.Int.{ints}
 use Rattle.raml_syntax.specs.Tree.{Type'}
 use Rattle.base_poly.specs.Plain.{Plain, degrees, alike}
-use Rattle.base_poly.specs.Indices.{IsBefore, Ascends, tuple_order, index_list}
+use Rattle.base_poly.specs.Indices.{Ascends, tuple_order, index_list}
 use Rattle.base_poly.specs.Poly.{magnitudes, AreTerms}
-use Rattle.base_poly.specs.Total.{tuple_total, alike_is}
 use Rattle.base_poly.proofs.Exact.{exact, each_listed}
+use Rattle.base_poly.proofs.Ordered.{same_at, ordered, differ}
 use Rattle.annot_types.specs.Certificate.{Entries, RiseFrom, Rise, Annotates}
 use Rattle.annot_types.specs.Held.{terms_of}
 use Rattle.rules_spec.specs.Stand.{Within}
@@ -29,11 +27,6 @@ pub terms_over : (As : List Type') (d : ℕ) (es : Entries) → magnitudes (over
 terms_over As d [] = refl
 terms_over As d (e ∷ es) = ap (λ ts. (slice_index_or (index_list As d) e.0 [], unsigned_abs e.1) ∷ ts) (terms_over As d es)
 
-same_at : {X : Type 0} (xs : List X) (k : ℕ) (d e : X) → k < length xs → slice_index_or xs k d ≡ slice_index_or xs k e
-same_at [] k d e l = absurd (omega (arith, l))
-same_at (x ∷ xs) zero d e l = refl
-same_at (x ∷ xs) (suc k) d e l = same_at xs k d e (omega (arith, l))
-
 -- one term more
 pub next_over : (ts : List (List Plain)) (es : Entries) (made now all : List (List Plain × ℤ)) (k : ℕ) (e : ℕ × ℤ) (t u : List Plain) → Within (length ts) es → k < length es →
     t ≡ slice_index_or ts (slice_index_or es k e).0 u → now ≡ made ++ (t, (slice_index_or es k e).1) ∷ [] → made ++ over ts (drop k es) ≡ all →
@@ -50,28 +43,6 @@ next_over ts es made now all k e t u within l at is done =
 
     first_left : drop k es ≡ slice_index_or es k e ∷ drop (k + 1) es
     first_left = drop-cons es k e l ∙ (λ i. slice_index_or es k e ∷ drop (next i) es)
-
--- of tuples in order, a later one is another one
-before_at : (t : List Plain) (ts : List (List Plain)) → IsBefore tuple_order t ts → (k : ℕ) → k < length ts → tuple_order t (slice_index_or ts k []) ≡ Less
-before_at t [] h k l = absurd (omega (arith, l))
-before_at t (u ∷ ts) h zero l = h.0
-before_at t (u ∷ ts) h (suc k) l = before_at t ts h.1 k (omega (arith, l))
-
-ordered : (ts : List (List Plain)) → Ascends tuple_order ts → (j k : ℕ) → j < k → k < length ts → tuple_order (slice_index_or ts j []) (slice_index_or ts k []) ≡ Less
-ordered [] h j k l m = absurd (omega (arith, m))
-ordered (t ∷ ts) h j zero l m = absurd (omega (arith, l))
-ordered (t ∷ ts) h zero (suc k) l m = before_at t ts h.0 k (omega (arith, m))
-ordered (t ∷ ts) h (suc j) (suc k) l m = ordered ts h.1 j k (omega (arith, l)) (omega (arith, m))
-
-differ : (t u : List Plain) → tuple_order t u ≡ Less → alike t u ≡ false
-differ t u less = by (alike t u) refl
-  where
-    never : tuple_order t t ≡ Less → ⊥
-    never e = let turned : Less ≡ Greater = sym e ∙ tuple_total.antisymm t t ∙ ap ordering_reverse e in cc
-
-    by : (b : Bool) → alike t u ≡ b → alike t u ≡ false
-    by true e = absurd (never (ap (tuple_order t) (alike_is t u e) ∙ less))
-    by false e = e
 
 module _ (ts : List (List Plain)) where
   natural : (least : ℕ) (es : Entries) → RiseFrom least es → All (λ t. pos 0 ≤ℤ t.1) (over ts es)

@@ -1,5 +1,6 @@
 -- The rows of a task, from what was heard.
 use Rattle.std.proofs.Common.{◌≡◌, refl, ap, sym, ◌∙◌, arith, subst, inl, inr, append-nil, append_assoc}
+use Rattle.std.proofs.lemmas.List.{length-map}
 use Rattle.std.specs.Prelude.{ℕ, zero, suc, ◌+◌, ◌<◌, ◌≤◌, ◌⊎◌, Bool, true, false, cond, not, ◌&&◌, nat_lt, ◌==◌, if◌then◌else◌, is_none, ℤ, pos, ◌-ℤ◌, slice_index_or, List, [], ◌∷◌, ◌++◌, map, take, length, slice_get, Option, None, Some}
 use Rattle.std.specs.List.{All}
 use Rattle.std.specs.Ordering.{int_eq}
@@ -19,7 +20,6 @@ use Rattle.constraint_gen.specs.Heard.{Heard, pair, hear_all}
 use Rattle.constraint_gen.specs.Finished.{AreBelow, FirstNone, AllThere, Finished, present}
 use Rattle.constraint_gen.specs.Cause.{LeavesFirst}
 use Rattle.rules_spec.proofs.CappingRows.{terms_from, cap_plus}
-use Rattle.constraint_gen.proofs.Walking.{length_map}
 
 -- rows that are all there
 pub present_all : (rows : List (Option SparseRow)) → AllThere rows → map Some (present rows) ≡ rows
@@ -155,10 +155,10 @@ finished_is rows v made e h =
     let short : length (take 2001 (map within rows)) < 2001 = omega (arith, ap length e, h.few) in
     let whole = e ∙ take_short 2001 (map within rows) short in
     let all = all_within made rows (h.same ∙ whole) in
-    (all.0, omega (arith, ap length h.same, length_map Some made, h.few), all.1)
+    (all.0, omega (arith, ap length h.same, length-map made Some, h.few), all.1)
 
 pub large_is : (rows : List SparseRow) (v : List (Option SparseRow)) → v ≡ take 2001 (map within rows) → 2000 < length v → 2000 < length rows
-large_is rows v e h = omega (arith, ap length e, take_length 2001 (map within rows), length_map within rows, h)
+large_is rows v e h = omega (arith, ap length e, take_length 2001 (map within rows), length-map rows within, h)
 
 -- a row leaves
 leaving_at : (rows : List SparseRow) (k : ℕ) → slice_get (map within rows) k ≡ Some None → (row : SparseRow) × (slice_get rows k ≡ Some row) × (row_fits row ≡ true → ⊥)
@@ -184,7 +184,7 @@ leaves_is rows v place e low h =
     let short : length (take 2001 (map within rows)) < 2001 = omega (arith, ap length e, low) in
     let whole = e ∙ take_short 2001 (map within rows) short in
     let at = leaving_at rows place (ap (λ l. slice_get l place) (sym whole) ∙ h.there) in (
-      omega (arith, ap length whole, length_map within rows, low),
+      omega (arith, ap length whole, length-map rows within, low),
       record {
         row = at.0;
         there = at.1;

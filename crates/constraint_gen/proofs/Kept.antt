@@ -1,5 +1,6 @@
 -- Rows of capped sums.
 use Rattle.std.proofs.Common.{◌≡◌, refl, ap, sym, ◌∙◌, arith, inl, inr, subst}
+use Rattle.std.proofs.lemmas.Bool.{and_from}
 use Rattle.std.specs.Prelude.{ℕ, zero, suc, ◌+◌, ◌<◌, ◌≤◌, ◌≢◌, ◌==◌, ◌⊎◌, if◌then◌else◌, Bool, true, false, cond, not, ◌&&◌, nat_lt, int_le, ℤ, pos, ◌-ℤ◌, [], ◌∷◌, length, None, Some}
 use Rattle.std.specs.List.{range_with_len, list_all}
 use Rattle.std.specs.Ordering.{int_eq}
@@ -23,13 +24,10 @@ same_bool true b f g = sym (f refl)
 same_bool false true f g = g refl
 same_bool false false f g = refl
 
-both : (a b : Bool) → a ≡ true → b ≡ true → (a && b) ≡ true
-both a b e h = (λ i. e i && h i)
-
 all_below : (test : ℕ → Bool) (k n : ℕ) → ((u : ℕ) → k ≤ u → u < k + n → test u ≡ true) → list_all test (range_with_len k n) ≡ true
 all_below test k zero h = refl
 all_below test k (suc n) h =
-    both (test k) (list_all test (range_with_len (k + 1) n)) (h k (omega arith) (omega arith)) (all_below test (k + 1) n (λ u a b. h u (omega (arith, a)) (omega (arith, b))))
+    and_from (test k) (list_all test (range_with_len (k + 1) n)) (h k (omega arith) (omega arith)) (all_below test (k + 1) n (λ u a b. h u (omega (arith, a)) (omega (arith, b))))
 
 pub each_below : (test : ℕ → Bool) (k n : ℕ) → list_all test (range_with_len k n) ≡ true → (u : ℕ) → k ≤ u → u < k + n → test u ≡ true
 each_below test k zero h u a b = absurd (omega (arith, a, b))
@@ -68,7 +66,7 @@ each_covered n left (t ∷ ts) h (suc i) b c = each_covered n left ts (both_true
 
 all_covered : (n : ℕ) (left : Sum) (ts : Terms) → ((i : ℕ) → i < length ts → unknown_at ts i < n → number_at ts i ≤ cap (total_of (unknown_at ts i) left.terms)) → list_all (covered n left) ts ≡ true
 all_covered n left [] h = refl
-all_covered n left (t ∷ ts) h = both (covered n left t) (list_all (covered n left) ts) (by (nat_lt t.0 n) refl (nat_lt (cap (total_of t.0 left.terms)) t.1) refl) (all_covered n left ts (λ i b c. h (suc i) (omega (arith, b)) c)) where
+all_covered n left (t ∷ ts) h = and_from (covered n left t) (list_all (covered n left) ts) (by (nat_lt t.0 n) refl (nat_lt (cap (total_of t.0 left.terms)) t.1) refl) (all_covered n left ts (λ i b c. h (suc i) (omega (arith, b)) c)) where
   by : (x : Bool) → nat_lt t.0 n ≡ x → (y : Bool) → nat_lt (cap (total_of t.0 left.terms)) t.1 ≡ y → not (x && y) ≡ true
   by false e y g = refl
   by true e false g = refl
@@ -239,7 +237,7 @@ module _ (n : ℕ) (left right : Sum) where
       (λ u a. let over : n ≤ u = omega (arith, a) in let d = done u in d.0 ∙ wanted_behind n left right u over) in
       let all : list_all (λ (t : ℕ × ℤ). fits t.1) (terms_from 0 n f) ≡ true =
       all_terms fits refl 0 n f ∙ all_below (λ u. fits (f u)) 0 n (λ u a b. let under : u < n = omega (arith, b) in let d = done u in sym (ap fits (wanted_below n left right u under)) ∙ d.1) in
-      ap Some (made n left right row terms is) ∙ some_within (row_of n (pair left right)) (row_fits_is n left right ∙ both _ _ all fit)
+      ap Some (made n left right row terms is) ∙ some_within (row_of n (pair left right)) (row_fits_is n left right ∙ and_from _ _ all fit)
 
   -- a coefficient does not fit
   pub row_leaves : Leaves (wanted n left right) → None ≡ within (row_of n (pair left right))

@@ -1,6 +1,6 @@
 -- The conditions of a task, body by body.
 use Rattle.std.proofs.Common.{◌≡◌, refl, ap, sym, ◌∙◌, arith}
-use Rattle.std.specs.Prelude.{ℕ, suc, ◌+◌, List, [], ◌∷◌, ◌++◌, map, length, slice_index_or}
+use Rattle.std.specs.Prelude.{ℕ, suc, ◌+◌, List, [], ◌∷◌, ◌++◌, length, slice_index_or}
 use Rattle.annot_types.specs.Rules.{Mode}
 use Rattle.rules_spec.specs.Numbers.{Known, Sides, Hint}
 use Rattle.rules_spec.specs.Walk.{at}
@@ -44,7 +44,3 @@ conditions_heard j group hss v =
 pub length_answers : {E : Type 0} (give : ℕ → E) (from : ℕ) (asks : List (List Ask)) → length (all_answers give from asks) ≡ length asks
 length_answers give from [] = refl
 length_answers give from (a ∷ asks) = ap suc (length_answers give (from + counts a) asks)
-
-pub length_map : {X Y : Type 0} (f : X → Y) (xs : List X) → length (map f xs) ≡ length xs
-length_map f [] = refl
-length_map f (x ∷ xs) = ap suc (length_map f xs)

@@ -1,5 +1,6 @@
 -- The system of a task, from what the code makes.
 use Rattle.std.proofs.Common.{◌≡◌, refl, ap, sym, ◌∙◌, arith, subst}
+use Rattle.std.proofs.lemmas.List.{length-append, length-replicate, length-map}
 use Rattle.std.specs.Prelude.{ℕ, zero, suc, ◌^◌, ◌<◌, ◌≤◌, ℤ, pos, ◌==◌, if◌then◌else◌, Bool, true, false, take, Result, Ok, Err, IfOk, IfErr, List, [], ◌∷◌, ◌++◌, map, length, replicate, slice_get, ◌+◌, Option, Some}
 use Rattle.std.proofs.lemmas.Int.{ints}
 use Rattle.std.proofs.lemmas.Bool.Decides.{nat_tests}
@@ -20,7 +21,6 @@ use Rattle.normal_spec.specs.Norm.{NormFun}
 use Rattle.normal_spec.specs.Context.{types}
 use Rattle.rules_spec.specs.Told.{bodies_of}
 use Rattle.rules_spec.proofs.Standing.{some_position}
-use Rattle.constraint_gen.proofs.Walking.{length_map}
 use Rattle.annot_types.specs.System.{sig_weights, args_of, result_of, unsigned}
 use Rattle.annot_types.specs.Rows.{size as size_of}
 use Rattle.rules_spec.specs.Numbers.{Sides, Signature, Hint, Condition}
@@ -183,15 +183,6 @@ natural_front zero xs h = tt
 natural_front (suc n) [] h = tt
 natural_front (suc n) (x ∷ xs) h = (h.0, natural_front n xs h.1)
 
--- The job of a task is proper.
-length_append : {X : Type 0} (xs ys : List X) → length (xs ++ ys) ≡ length xs + length ys
-length_append [] ys = omega arith
-length_append (x ∷ xs) ys = omega (arith, length_append xs ys)
-
-length_replicate : {X : Type 0} (n : ℕ) (x : X) → length (replicate n x) ≡ n
-length_replicate zero x = refl
-length_replicate (suc n) x = ap suc (length_replicate n x)
-
 module _ (S : Setting) (mode : Mode) (P : Program) (all : List ℕ) (blocks : List Block) (budget : ℕ) (same : S.program ≡ P) where
   abbrev bodies_at : List ℕ → List Body
   bodies_at fs = map (λ f. body_of P all blocks budget (slice_get P.funs f)) fs
@@ -216,9 +207,9 @@ module _ (S : Setting) (mode : Mode) (P : Program) (all : List ℕ) (blocks : Li
       let As = args_of (slice_get P.funs f) in
       let n = size_of (result_of (slice_get P.funs f)) budget in
       let rest = sig_weights P budget fs in
-      length_append (map (λ t. pos (10 ^ degrees t)) (index_list As budget)) (replicate n (pos 0) ++ rest)
-      ∙ (λ i. length_map (λ t. pos (10 ^ degrees t)) (index_list As budget) i + length_append (replicate n (pos 0)) rest i)
-      ∙ (λ i. size_of As budget + (length_replicate n (pos 0) i + few_weights fs h.2 i))
+      length-append (map (λ t. pos (10 ^ degrees t)) (index_list As budget)) (replicate n (pos 0) ++ rest)
+      ∙ (λ i. length-map (index_list As budget) (λ t. pos (10 ^ degrees t)) i + length-append (replicate n (pos 0)) rest i)
+      ∙ (λ i. size_of As budget + (length-replicate n (pos 0) i + few_weights fs h.2 i))
       ∙ omega (arith, (one_body f h.0).1)
 
 pub proper_is : (P : Program) (d : ℕ) (blocks : List Block) (t : Tables) (task : Task) (scale : ℕ) (bodies : List Body) → bodies ≡ bodies_of P d blocks task → IsTask P d blocks task scale → scale < 2 ^ 127 →

@@ -1,36 +1,16 @@
 -- Types that are the same, and the components of pairs.
 use Rattle.std.proofs.Common.{◌≡◌, ◌↔◌, ℕ, suc, ◌+◌, length, length-append, Bool, true, false, ◌&&◌, IsTrue, List, [], ◌∷◌, ◌++◌, refl, sym, ap, ◌∙◌, subst, arith, append_assoc}
 use Rattle.raml_syntax.specs.Tree.{Type', Integer, Boolean, PairOf, ListOf, TreeOf, OptionOf}
-use Rattle.cost_free.specs.Target.{Holder, same_type, holder_at, holders, components}
-
-both : (a b : Bool) → a && b ≡ true → (a ≡ true) × (b ≡ true)
-both true true h = (refl, refl)
-both true false h = absurd (cc)
-both false b h = absurd (cc)
-
-same_true : (A B : Type') → same_type A B ≡ true → A ≡ B
-same_true Integer Integer h = refl
-same_true Boolean Boolean h = refl
-same_true (PairOf A B) (PairOf C D) h = let e = both _ _ h in λ n. PairOf (same_true A C e.0 n) (same_true B D e.1 n)
-same_true (ListOf A) (ListOf C) h = ap ListOf (same_true A C h)
-same_true (TreeOf A) (TreeOf C) h = ap TreeOf (same_true A C h)
-same_true (OptionOf A) (OptionOf C) h = ap OptionOf (same_true A C h)
-same_true A B h = absurd (cc)
-
-same_refl : (A : Type') → same_type A A ≡ true
-same_refl Integer = refl
-same_refl Boolean = refl
-same_refl (PairOf A B) = λ n. same_refl A n && same_refl B n
-same_refl (ListOf A) = same_refl A
-same_refl (TreeOf A) = same_refl A
-same_refl (OptionOf A) = same_refl A
+use Rattle.raml_syntax.specs.SameType.{same_type}
+use Rattle.raml_syntax.proofs.SameType.{same_self, same_is}
+use Rattle.cost_free.specs.Target.{Holder, holder_at, holders, components}
 
 pub is_same : (r : Bool) (A B : Type') → IsTrue r ↔ (A ≡ B) → r ≡ same_type A B
-is_same true A B h = sym (subst (λ C. same_type A C ≡ true) (h.0 refl) (same_refl A))
+is_same true A B h = sym (subst (λ C. same_type A C ≡ true) (h.0 refl) (same_self A))
 is_same false A B h = at (same_type A B) refl
   where
     at : (b : Bool) → same_type A B ≡ b → false ≡ b
-    at true e = absurd (let t : false ≡ true = h.1 (same_true A B e) in cc)
+    at true e = absurd (let t : false ≡ true = h.1 (same_is A B e) in cc)
     at false e = refl
 
 holders_append : (k : ℕ) (As Bs : List Type') → holders k (As ++ Bs) ≡ holders k As ++ holders (k + length As) Bs

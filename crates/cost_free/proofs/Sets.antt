@@ -1,16 +1,8 @@
 -- Lists that are taken some of.
-use Rattle.std.proofs.Common.{◌≡◌, ◌-◌, ◌≤◌, take, drop, slice_index_or, Bool, true, false, cond, List, [], ◌∷◌, ◌++◌, map, filter, length, refl, sym, ap, ◌∙◌, arith, append_assoc}
+use Rattle.std.proofs.Common.{◌≡◌, ◌-◌, ◌≤◌, take, drop, slice_index_or, Bool, List, [], ◌∷◌, ◌++◌, map, filter, length, refl, sym, ap, ◌∙◌, arith, append_assoc}
 use Rattle.std.proofs.lemmas.List.{map-append}
+use Rattle.std.proofs.lemmas.List.Elements.{filter-append}
 use Rattle.std.proofs.Math.Seq.{take-length}
-
-module _ {X : Type 0} (p : List X → Bool) where
-  add : (b : Bool) (x : List X) (all xs ys : List (List X)) → all ≡ xs ++ ys → cond b (x ∷ all) all ≡ cond b (x ∷ xs) xs ++ ys
-  add true x all xs ys e = ap (λ l. x ∷ l) e
-  add false x all xs ys e = e
-
-  filter-append : (xs ys : List (List X)) → filter p (xs ++ ys) ≡ filter p xs ++ filter p ys
-  filter-append [] ys = refl
-  filter-append (x ∷ xs) ys = add (p x) x (filter p (xs ++ ys)) (filter p xs) (filter p ys) (filter-append xs ys)
 
 pub behind : {X : Type 0} (pre : List X) (x : X) (ss : List (List X)) → map (λ s. (pre ++ x ∷ []) ++ s) ss ≡ map (λ s. pre ++ s) (map (λ s. x ∷ s) ss)
 behind pre x [] = refl

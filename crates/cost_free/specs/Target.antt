@@ -5,6 +5,7 @@ use Rattle.std.specs.declared.cmp.Ordering.{Ordering}
 use Rattle.std.specs.Ordering.{ordering_then, nat_cmp, is_lt}
 use Rattle.std.specs.Cmp.Lexicographic.{slice_cmp}
 use Rattle.raml_syntax.specs.Tree.{Type', Integer, Boolean, PairOf, ListOf, TreeOf, OptionOf}
+use Rattle.raml_syntax.specs.SameType.{same_type}
 use Rattle.base_poly.specs.Plain.{Plain, Pair, many, entries_of, deg, degrees, order}
 use Rattle.base_poly.specs.Laws.{cuts}
 use Rattle.base_poly.specs.Indices.{zero_of, index_list}
@@ -45,15 +46,6 @@ holders k (A ∷ As) = holder_at k A ++ holders (suc k) As
 abbrev pub subsets : {X : Type 0} → List X → List (List X)
 subsets [] = [] ∷ []
 subsets (x ∷ xs) = map (λ s. x ∷ s) (subsets xs) ++ subsets xs
-
-abbrev pub same_type : Type' → Type' → Bool
-same_type Integer Integer = true
-same_type Boolean Boolean = true
-same_type (PairOf A B) (PairOf C D) = same_type A C && same_type B D
-same_type (ListOf A) (ListOf B) = same_type A B
-same_type (TreeOf A) (TreeOf B) = same_type A B
-same_type (OptionOf A) (OptionOf B) = same_type A B
-same_type _ _ = false
 
 -- they hold elements of this type
 abbrev pub hold : Type' → List Holder → Bool

@@ -1,7 +1,8 @@
 // The components of a type that are lists or trees, and the sets of them that are joined.
 ghost use Rattle.std.specs.Prelude.{◌≡◌, ◌+◌, ◌∷◌, [], ◌++◌, map, filter, take, length, cond, IfOk, OnOk};
 ghost use Rattle.raml_syntax.specs.Read.{ty_of};
-ghost use Rattle.cost_free.specs.Target.{components, holders, subsets, same_type, hold, have_one_element, can_join, joined_sets};
+ghost use Rattle.raml_syntax.specs.SameType.{same_type};
+ghost use Rattle.cost_free.specs.Target.{components, holders, subsets, hold, have_one_element, can_join, joined_sets};
 ghost use Rattle.cost_free.specs.Read.{holder_of, holders_of, sets_of};
 
 use raml_syntax::Ty;

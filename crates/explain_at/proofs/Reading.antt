@@ -3,7 +3,8 @@ use Rattle.std.proofs.Common.{◌≡◌, true, false, List, [], ◌∷◌, Resul
 use Rattle.std.specs.Prelude.{IfErr}
 use Rattle.std.specs.Result.{IsErr, IsErrAnd}
 use Rattle.raml_syntax.specs.Tree.{Text}
-use Rattle.explain_at.specs.Words.{Given, Fault, cut_at, words_of, with_word, words_read}
+use Rattle.raml_syntax.specs.Cut.{cut_at}
+use Rattle.explain_at.specs.Words.{Given, Fault, words_of, with_word, words_read}
 use Rattle.explain_at.specs.Read.{IsWordFault}
 use Rattle.explain_at.specs.declared.fault.WordFault.{WordFault}
 use Rattle.explain_at.specs.declared.fault.WordFault.TheVariants.{Shape, Long, Twice, NoMemory}

@@ -1,11 +1,11 @@
 -- What words such as `l=100,l.each=20` say.
-use Rattle.std.specs.Prelude.{ℕ, Bool, not, ◌&&◌, ◌||◌, cond, nat_eq, nat_le, List, [], ◌∷◌, ◌++◌, length, Option, Some, None, option_map}
+use Rattle.std.specs.Prelude.{ℕ, Bool, not, ◌&&◌, ◌||◌, cond, nat_eq, nat_le, List, [], ◌∷◌, ◌++◌, length, Option, Some, None}
 use Rattle.std.specs.Prelude.{is_some}
 use Rattle.std.specs.Prelude.{Result, Ok, Err}
 use Rattle.std.specs.Str.{bytes_eq, all_ascii_digits}
 use Rattle.std.specs.Str.Parse.{digits_value}
-use Rattle.std.specs.Borrow.{Bor}
 use Rattle.raml_syntax.specs.Tree.{Text}
+use Rattle.raml_syntax.specs.Cut.{cut_at}
 
 -- a size by its name: how many elements there are
 abbrev pub Given : Type 0
@@ -16,18 +16,6 @@ pub data Fault : Type 0 where
   Shape : Text → Fault
   Long : Text → Fault
   Twice : Text → Fault
-
--- with the byte at the front of the first part
-abbrev pub with_front : ℕ → Text × Text → Text × Text
-with_front byte parts = (byte ∷ parts.0, parts.1)
-
--- what stands before the first such byte of a text, and behind it
-abbrev pub cut_at : ℕ → Text → Option (Text × Text)
-cut_at mark [] = None
-cut_at mark (byte ∷ text) = cond (nat_eq byte mark) (Some ([], text)) (option_map (with_front byte) (cut_at mark text))
-
-abbrev pub lent_parts : Option (Bor Text × Bor Text) → Option (Text × Text)
-lent_parts = option_map (λ (p : Bor Text × Bor Text). (p.0.now, p.1.now))
 
 -- with the byte at the front of the first text
 abbrev pub longer : ℕ → List Text → List Text

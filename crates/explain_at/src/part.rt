@@ -1,6 +1,6 @@
 // Parts of names.
 ghost use Rattle.std.specs.Prelude.{◌≡◌, ◌++◌, ◌<◌, IfOk, string_bytes};
-ghost use Rattle.explain_at.specs.Words.{cut_at, lent_parts};
+ghost use Rattle.raml_syntax.specs.Cut.{cut_at, lent_parts};
 
 use std::alloc::{AllocError, Global};
 

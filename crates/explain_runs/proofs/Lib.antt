@@ -1,4 +1,3 @@
-pub mod Placing
 pub mod Running
 pub mod Reading
 pub mod Texts

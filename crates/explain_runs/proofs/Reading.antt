@@ -14,7 +14,10 @@ use Rattle.explain_runs.specs.declared.outcome.Limits.{Limits}
 use Rattle.explain_runs.specs.declared.outcome.Measured.{Measured}
 use Rattle.explain_runs.specs.Measure.{HasArguments, IsMeasure, SpellsNone, most_data}
 use Rattle.explain_runs.specs.Told.{IsRefusal, IsNone, IsRunOn}
-use Rattle.explain_runs.proofs.Placing.{one_at}
+
+-- one function alone stands at a place
+one_at : (P : Prog) (k : ℕ) (f g : Function) → slice_get P k ≡ Some f → slice_get P k ≡ Some g → f ≡ g
+one_at P k f g here there = cc
 
 -- what is read of data are arguments
 pub read_arguments : (P : Prog) (f : ℕ) (g : Function) (data' : Text) (cells new : List Cell) (words : List Word) → slice_get P f ≡ Some g →

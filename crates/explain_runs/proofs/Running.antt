@@ -4,11 +4,9 @@ use Rattle.std.specs.Prelude.{slice_get}
 use Rattle.std.specs.List.{All}
 use Rattle.raml_syntax.specs.Tree.{Function, Prog}
 use Rattle.raml_syntax.specs.Value.{Value}
-use Rattle.raml_syntax.specs.Eval.{find}
 use Rattle.raml_syntax.specs.Types.{Typed}
 use Rattle.raml_syntax.specs.Node.{AllNodes, NumberFits}
 use Rattle.raml_syntax.proofs.Keep.{typed_runs_keep}
-use Rattle.raml_syntax.proofs.Places.{functions_have_places}
 use Rattle.stack_compile.specs.Code.{bodies_of}
 use Rattle.stack_compile.specs.Machine.{State}
 use Rattle.stack_compile.specs.Laws.{at, IsGoing, Gives}
@@ -20,6 +18,7 @@ use Rattle.metered_vm.specs.Seen.{Seen, HaveArguments, program_in, fun_in, args_
 use Rattle.metered_vm.specs.Ending.{Ended, HasHalted, HasStopped, IsFull, next_of}
 use Rattle.metered_vm.specs.declared.end.End.{End}
 use Rattle.metered_vm.specs.declared.end.End.TheVariants as e
+use Rattle.simple_types.proofs.Placing.{found}
 use Rattle.explain_runs.specs.Measure as m
 use Rattle.explain_runs.specs.Measure.{HasArguments, EndsAs, IsMeasured}
 use Rattle.explain_runs.specs.Told.{HasWord, Tells, TellsValue}
@@ -31,14 +30,6 @@ use Rattle.explain_runs.specs.declared.outcome.Outcome.TheVariants as o
 -- the machine's premise
 pub have_arguments : (P : Prog) (f : ℕ) (cells : List Cell) (words : List Word) (g : Function) (args : List Value) → HasArguments P f cells words g args → HaveArguments P f cells words
 have_arguments P f cells words g args h = record { function = g; there = h.there; values = args; stand = h.stand; types = h.types }
-
--- the function at a place is found by its name
-found : (P : Prog) → Typed P → (f : ℕ) (g : Function) → slice_get P f ≡ Some g → find g.name P ≡ Some g
-found P typed f g there =
-    let places = functions_have_places P in
-    let placed = places.placed g.name f (places.own typed.functions f g there) in
-    let same : placed.0 ≡ g = let e = sym placed.1 ∙ there in cc in
-    subst (λ h. find g.name P ≡ Some h) same placed.3
 
 module _ (P : Prog) (f : ℕ) (g : Function) (cells : List Cell) (words : List Word) (args : List Value) (r : HasArguments P f cells words g args) (limits : Limits) (old new : Seen)
     (begins : Begins P f cells words limits.cells old) (goes : GoesOn limits.steps old new) (kept : Kept new) where

@@ -1,42 +1,18 @@
 -- What a line declares are fractions at tuples, each once.
-use Rattle.std.proofs.Common.{◌≡◌, ◌≤◌, ◌<◌, ◌^◌, ◌⊎◌, inl, inr, ℕ, zero, suc, Bool, true, false, List, [], ◌∷◌, map, length, All, refl, sym, ap, ◌∙◌, subst, arith}
+use Rattle.std.proofs.Common.{◌≡◌, ◌≤◌, ◌<◌, ◌^◌, ◌⊎◌, inl, inr, ℕ, suc, false, List, [], ◌∷◌, map, length, All, sym, subst, arith}
 use Rattle.std.specs.Prelude.{slice_index_or}
 use Rattle.std.specs.List.{AllByRecursion, IsDistinct}
-use Rattle.std.specs.declared.cmp.Ordering.TheVariants.{Less, Greater}
-use Rattle.std.specs.Ordering.{ordering_reverse}
 use Rattle.std.proofs.lemmas.List.Elements.{All-nil, All-cons}
 use Rattle.raml_syntax.specs.Tree.{Type'}
 use Rattle.base_poly.specs.Plain.{Plain, degrees, alike}
-use Rattle.base_poly.specs.Indices.{IsBefore, Ascends, AreIndices, tuple_order, index_list}
-use Rattle.base_poly.specs.Total.{tuple_total, alike_is}
+use Rattle.base_poly.specs.Indices.{Ascends, AreIndices, tuple_order, index_list}
 use Rattle.base_poly.proofs.Exact.{exact, each_listed}
+use Rattle.base_poly.proofs.Ordered.{ordered, differ}
 use Rattle.bound_file.specs.Lines.{Coefficient, Line, IsProper, AscendFrom, AreInRange, AreBelow}
 use Rattle.explain_verdicts.specs.Fractions.{fraction_at, fractions_of, ArePlaced}
 use Rattle.explain_verdicts.specs.Laws.{LinesHaveFractions}
 use Rattle.explain_verdicts.specs.Written.{IsFraction, AreFractions}
 use Rattle.explain_verdicts.specs.declared.fraction.Fraction.{Fraction}
-
--- of tuples in order, a later one is another one
-before_at : (t : List Plain) (ts : List (List Plain)) → IsBefore tuple_order t ts → (k : ℕ) → k < length ts → tuple_order t (slice_index_or ts k []) ≡ Less
-before_at t [] h k l = absurd (omega (arith, l))
-before_at t (u ∷ ts) h zero l = h.0
-before_at t (u ∷ ts) h (suc k) l = before_at t ts h.1 k (omega (arith, l))
-
-ordered : (ts : List (List Plain)) → Ascends tuple_order ts → (j k : ℕ) → j < k → k < length ts → tuple_order (slice_index_or ts j []) (slice_index_or ts k []) ≡ Less
-ordered [] h j k l m = absurd (omega (arith, m))
-ordered (t ∷ ts) h j zero l m = absurd (omega (arith, l))
-ordered (t ∷ ts) h zero (suc k) l m = before_at t ts h.0 k (omega (arith, m))
-ordered (t ∷ ts) h (suc j) (suc k) l m = ordered ts h.1 j k (omega (arith, l)) (omega (arith, m))
-
-differ : (t u : List Plain) → tuple_order t u ≡ Less → alike t u ≡ false
-differ t u less = by (alike t u) refl
-  where
-    never : tuple_order t t ≡ Less → ⊥
-    never e = let turned : Less ≡ Greater = sym e ∙ tuple_total.antisymm t t ∙ ap ordering_reverse e in cc
-
-    by : (b : Bool) → alike t u ≡ b → alike t u ≡ false
-    by true e = absurd (never (ap (tuple_order t) (alike_is t u e) ∙ less))
-    by false e = e
 
 abbrev tuples_of : List (List Plain) → List Coefficient → List (List Plain)
 tuples_of ts cs = map (λ (f : Fraction). f.tuple) (map (fraction_at ts) cs)

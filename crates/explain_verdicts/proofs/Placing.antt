@@ -1,8 +1,9 @@
 -- Coefficients with the tuples at their positions.
-use Rattle.std.proofs.Common.{◌≡◌, ◌<◌, ℕ, zero, suc, ℤ, List, [], ◌∷◌, ◌++◌, map, length, refl, sym, ap, ◌∙◌, subst, arith}
+use Rattle.std.proofs.Common.{◌≡◌, ◌<◌, ℕ, ℤ, List, [], ◌∷◌, ◌++◌, map, length, sym, ap, ◌∙◌, subst}
 use Rattle.std.specs.Prelude.{slice_index_or, unsigned_abs}
 use Rattle.std.proofs.lemmas.List.{append-nil, append_assoc}
 use Rattle.base_poly.specs.Plain.{Plain}
+use Rattle.base_poly.proofs.Ordered.{same_at}
 use Rattle.bound_file.specs.Lines.{AreBelow}
 use Rattle.bound_file.specs.Read.{coefficients_of}
 use Rattle.explain_verdicts.specs.Fractions.{fraction_at}
@@ -18,11 +19,6 @@ placed tuples cs = map (fraction_at tuples) (coefficients_of cs)
 pub record IsPlacing (tuples : List (List Plain)) (all left : List Entry) (items : List Fraction) : Type 0 where
   pub made : items ++ placed tuples left ≡ placed tuples all
   pub below : AreBelow (length tuples) (coefficients_of left)
-
-same_at : {X : Type 0} (xs : List X) (k : ℕ) (d e : X) → k < length xs → slice_index_or xs k d ≡ slice_index_or xs k e
-same_at [] k d e l = absurd (omega (arith, l))
-same_at (x ∷ xs) zero d e l = refl
-same_at (x ∷ xs) (suc k) d e l = same_at xs k d e (omega (arith, l))
 
 -- the first of those to come has a tuple
 pub first_below : (tuples : List (List Plain)) (all left later : List Entry) (items : List Fraction) (c : Entry) → left ≡ c ∷ later → IsPlacing tuples all left items → c.0 < length tuples

@@ -119,7 +119,7 @@ one_fault k (Leaves c) Yes f g = absurd g
 one_fault k (Leaves c) (No d) f g = absurd (f.1 g.1)
 one_fault k (Leaves c) (Leaves d) f g = ap (λ (n : ℕ). Leaves n) (f.0 ∙ sym g.0)
 
-one_first : (ks : List Check) (v w : Verdict) → IsFirstFault ks v → IsFirstFault ks w → v ≡ w
+pub one_first : (ks : List Check) (v w : Verdict) → IsFirstFault ks v → IsFirstFault ks w → v ≡ w
 one_first [] v w f g = absurd f
 one_first (k ∷ ks) v w (inl f) (inl g) = one_fault k v w f g
 one_first (k ∷ ks) v w (inl f) (inr q) = absurd (fails_not k v q.0 f)

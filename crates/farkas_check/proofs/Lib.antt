@@ -3,9 +3,9 @@ mod Carrying
 mod Unrolling
 mod Judging
 mod Joining
-mod Firsts
+pub mod Firsts
 mod Checklists
 mod Spreading
-mod Meaning
+pub mod Meaning
 mod Walking
 mod Short

@@ -9,7 +9,7 @@ use Rattle.farkas_check.specs.Totals.{products}
 use Rattle.farkas_check.specs.Checks.{Check, column, refuting_columns, refuting, solving_rows, dual_columns, proving_least}
 use Rattle.farkas_check.proofs.Firsts.{EachMeets}
 
-total_products : (xs ys : List ℤ) → total (products xs ys) ≡ dot xs ys
+pub total_products : (xs ys : List ℤ) → total (products xs ys) ≡ dot xs ys
 total_products [] ys = refl
 total_products (x ∷ xs) [] = refl
 total_products (x ∷ xs) (y ∷ ys) = ap (λ (v : ℤ). x *ℤ y +ℤ v) (total_products xs ys)

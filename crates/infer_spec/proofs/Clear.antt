@@ -87,7 +87,7 @@ module _ (paths : OneCourse) (pick : List ℤ → ℤ → Option ℕ) (s : Linea
       none_scale h.table.over (both_positive t x y h) (solution s h.table ++ dual s h.table) t (x ++ y) h.whole low each entry place
   both_scale t x y h low each d ns (Vector ps v c rises follows answers is are) entry leaves = not_both s h.pivots ps h.table v c system h.ends rises
 
-  vector_scale : (y : List ℕ) (h : ReadsVector (rule_by pick) s y) → h.t < most → ((i : ℕ) → slice_index_or y i 0 < most) →
+  pub vector_scale : (y : List ℕ) (h : ReadsVector (rule_by pick) s y) → h.t < most → ((i : ℕ) → slice_index_or y i 0 < most) →
       (d : ℤ) (ns : List ℤ) → Read (rule_by pick) s d ns → (entry : ℕ) → ScaleLeaves d ns entry → ⊥
   vector_scale y h low each d ns (Both ps v ends follows is are) entry leaves = not_both s ps h.pivots v h.table h.column system ends h.rises
   vector_scale y h low each d ns (Vector ps v c rises follows answers is are) entry leaves =

@@ -2,13 +2,13 @@ pub mod Lists
 mod Vectors
 pub mod Found
 mod RaisedRows
-mod Raising
+pub mod Raising
 pub mod Running
 pub mod Asked
 mod Certifying
 pub mod Single
 pub mod Short
 pub mod Clear
-mod Lines
+pub mod Lines
 pub mod Beginning
-mod Present
+pub mod Present

@@ -21,15 +21,15 @@ among_place : {X : Type 0} (x : X) (xs : List X) → Among x xs → (place : ℕ
 among_place x [] m = absurd m
 among_place x (y ∷ ys) m = ⊎_elim (λ e. (0, ap Some e)) (λ g. let r = among_place x ys g in (suc r.0, r.1)) m
 
-both_true : (a b : Bool) → (a && b) ≡ true → (a ≡ true) × (b ≡ true)
+pub both_true : (a b : Bool) → (a && b) ≡ true → (a ≡ true) × (b ≡ true)
 both_true true b e = (refl, e)
 both_true false b e = absurd (cc)
 
-of_meter : (meter : Meter) (kind : Kind) → is_for_meter meter kind ≡ true → kind ≡ k.With meter
+pub of_meter : (meter : Meter) (kind : Kind) → is_for_meter meter kind ≡ true → kind ≡ k.With meter
 of_meter meter (Free budget fun target) e = absurd (cc)
 of_meter meter (k.With other) e = λ i. k.With (sym (same_meters meter other e) i)
 
-named : (o : Option ℕ) (fun : ℕ) → NamesBlocker o (c.Calls fun) → o ≡ Some fun
+pub named : (o : Option ℕ) (fun : ℕ) → NamesBlocker o (c.Calls fun) → o ≡ Some fun
 named None fun h = absurd h
 named (Some f) fun h = ap Some (same f fun h)
   where

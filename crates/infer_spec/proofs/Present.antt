@@ -7,13 +7,14 @@ use Rattle.cost_free.specs.Task as k
 use Rattle.cost_free.specs.Task.{Kind, Task, Outcome}
 use Rattle.cost_free.specs.Schedule.{meters, free_tasks, group_tasks, tasks_from, is_left_out, next_of}
 use Rattle.cost_free.specs.Blocked.{is_among}
-use Rattle.annot_types.specs.Program.{members, results}
-use Rattle.annot_types.specs.Certificate.{Block, has_work, outcome}
+use Rattle.annot_types.specs.Program.{Program, members, results}
+use Rattle.annot_types.specs.Certificate.{Block, Certificate, has_work, outcome}
+use Rattle.annot_types.specs.Held.{Held}
 use Rattle.infer_spec.specs.Lines.{IsBlockOf, BlocksAreThere}
 use Rattle.annot_types.proofs.Lists.{some_is, map_get, map_inv, take_map}
 
 -- a task with cost is never left out
-never_left : (meter : Meter) (past : List Outcome) (kind : Kind) → kind ≡ k.With meter → is_left_out past kind ≡ true → ⊥
+pub never_left : (meter : Meter) (past : List Outcome) (kind : Kind) → kind ≡ k.With meter → is_left_out past kind ≡ true → ⊥
 never_left meter past kind e h = by past (sym (ap (is_left_out past) e) ∙ h)
   where
     by : (past : List Outcome) → is_left_out past (k.With meter) ≡ true → ⊥
@@ -21,16 +22,16 @@ never_left meter past kind e h = by past (sym (ap (is_left_out past) e) ∙ h)
     by (o ∷ past) h = cc
 
 -- Each outcome is of the schedule's next task, and after all of them there is none.
-record IsWhole (ts : List Task) (past rest : List Outcome) : Type 0 where
-  tasks : (i : ℕ) (o : Outcome) → slice_get rest i ≡ Some o → next_of ts past (take i rest) ≡ Some o.0
-  over : next_of ts past rest ≡ None
+pub record IsWhole (ts : List Task) (past rest : List Outcome) : Type 0 where
+  pub tasks : (i : ℕ) (o : Outcome) → slice_get rest i ≡ Some o → next_of ts past (take i rest) ≡ Some o.0
+  pub over : next_of ts past rest ≡ None
 
 -- an outcome of the task
-record HasCome (rest : List Outcome) (task : Task) : Type 0 where
-  place : ℕ
-  out : Outcome
-  there : slice_get rest place ≡ Some out
-  is : out.0 ≡ task
+pub record HasCome (rest : List Outcome) (task : Task) : Type 0 where
+  pub place : ℕ
+  pub out : Outcome
+  pub there : slice_get rest place ≡ Some out
+  pub is : out.0 ≡ task
 
 module _ (meter : Meter) where
   -- a task that is left out is not the one
@@ -77,12 +78,12 @@ module _ (meter : Meter) where
       by true q go on = let at = past_it t ts past i task q e kind in go (skipped q) at.0 task at.1 kind
       by false q go on = from q (on (later q)) i e
 
-in_left : {X : Type 0} (xs ys : List X) (x : X) (i : ℕ) → slice_get xs i ≡ Some x → (j : ℕ) × (slice_get (xs ++ ys) j ≡ Some x)
+pub in_left : {X : Type 0} (xs ys : List X) (x : X) (i : ℕ) → slice_get xs i ≡ Some x → (j : ℕ) × (slice_get (xs ++ ys) j ≡ Some x)
 in_left [] ys x i e = absurd (cc)
 in_left (z ∷ xs) ys x zero e = (zero, e)
 in_left (z ∷ xs) ys x (suc i) e = let r = in_left xs ys x i e in (suc r.0, r.1)
 
-in_right : {X : Type 0} (xs ys : List X) (x : X) (i : ℕ) → slice_get ys i ≡ Some x → (j : ℕ) × (slice_get (xs ++ ys) j ≡ Some x)
+pub in_right : {X : Type 0} (xs ys : List X) (x : X) (i : ℕ) → slice_get ys i ≡ Some x → (j : ℕ) × (slice_get (xs ++ ys) j ≡ Some x)
 in_right [] ys x i e = (i, e)
 in_right (z ∷ xs) ys x i e = let r = in_right xs ys x i e in (suc r.0, r.1)
 
@@ -106,12 +107,22 @@ group_has rs d work start (gs ∷ groups) (suc n) fs there i meter e =
     same : (m n : ℕ) → suc m + n ≡ m + suc n
     same m n = omega arith
 
+-- the blocks of a held certificate are a whole run
+pub whole : (P : Program) (c : Certificate) → Held P c → IsWhole (tasks_from (results P) c.degree (has_work c) 0 P.groups) [] (map outcome c.blocks)
+whole P c held = record {
+  tasks = λ i o g.
+      let b = map_inv outcome c.blocks i o g in
+      ap (next_of (tasks_from (results P) c.degree (has_work c) 0 P.groups) []) (take_map outcome i c.blocks) ∙ (let placed = held.blocks i b.0 b.1 in placed.task)
+      ∙ ap (λ (o : Outcome). Some o.0) b.2;
+  over = held.ended;
+}
+
 pub blocks_are_there : BlocksAreThere
 blocks_are_there P c held group f member i meter e =
     let fs = group_there (slice_get P.groups group) refl member in
     let one = group_has (results P) c.degree (has_work c) 0 P.groups group fs.0 fs.1 i meter e in
     let task : Task = record { group = group; kind = k.With meter } in
-    let come = all_come meter (tasks_from (results P) c.degree (has_work c) 0 P.groups) [] (map outcome c.blocks) whole one.0 task (one.1 ∙ (λ j. Some (record { group = zero_plus group j; kind = k.With meter }))) refl in
+    let come = all_come meter (tasks_from (results P) c.degree (has_work c) 0 P.groups) [] (map outcome c.blocks) (whole P c held) one.0 task (one.1 ∙ (λ j. Some (record { group = zero_plus group j; kind = k.With meter }))) refl in
     let found = map_inv outcome c.blocks come.place come.out come.there in
     told come.place found.0 found.1 (ap (λ (o : Outcome). o.0) found.2 ∙ come.is)
   where
@@ -130,12 +141,3 @@ blocks_are_there P c held group f member i meter e =
     group_there : (o : Option (List ℕ)) → slice_get P.groups group ≡ o → is_among f (unwrap_or o []) ≡ true → (fs : List ℕ) × (slice_get P.groups group ≡ Some fs)
     group_there None e h = absurd (cc)
     group_there (Some fs) e h = (fs, e)
-
-    whole : IsWhole (tasks_from (results P) c.degree (has_work c) 0 P.groups) [] (map outcome c.blocks)
-    whole = record {
-      tasks = λ i o g.
-          let b = map_inv outcome c.blocks i o g in
-          ap (next_of (tasks_from (results P) c.degree (has_work c) 0 P.groups) []) (take_map outcome i c.blocks) ∙ (let placed = held.blocks i b.0 b.1 in placed.task)
-          ∙ ap (λ (o : Outcome). Some o.0) b.2;
-      over = held.ended;
-    }

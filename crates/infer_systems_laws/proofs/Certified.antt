@@ -25,17 +25,17 @@ positive z h = grind (arith, ints, h)
 
 module _ (P : Program) (cert : Certificate) (held : Held P cert) where
   -- no rule of the entering column is asked here
-  abbrev analysed : Analysis
+  abbrev pub analysed : Analysis
   analysed = record { program = P; degree = cert.degree; work = has_work cert; generator = generator_of P cert.degree; pick = λ numbers number. None }
 
-  abbrev scales : Meter → ℕ
+  abbrev pub scales : Meter → ℕ
   scales meter = unsigned_abs (scale_of cert meter)
 
-  scale_is : (kind : Kind) → scale_for cert kind ≡ scale_at scales kind
+  pub scale_is : (kind : Kind) → scale_for cert kind ≡ scale_at scales kind
   scale_is (Free budget f number) = refl
   scale_is (k.With meter) = refl
 
-  abbrev state : ℕ → State
+  abbrev pub state : ℕ → State
   state place = record { blocks = before cert place; scales = scales }
 
   hold : (place : ℕ) → AllHold P cert.degree (state place)
@@ -47,7 +47,7 @@ module _ (P : Program) (cert : Certificate) (held : Held P cert) where
         by i block (c.Refuted farkas) h = tt
         by i block (c.Calls fun) h = tt
 
-  stands : (place : ℕ) (block : Block) → slice_get cert.blocks place ≡ Some block → blocker_of P block.task (done_before cert place) ≡ None → Stands analysed (state place) block.task
+  pub stands : (place : ℕ) (block : Block) → slice_get cert.blocks place ≡ Some block → blocker_of P block.task (done_before cert place) ≡ None → Stands analysed (state place) block.task
   stands place block there tried = record {
     positive = λ meter. positive (scale_of cert meter) (held.scales meter);
     hold = hold place;

@@ -6,7 +6,7 @@ use Rattle.std.specs.Int.{w128}
 use Rattle.std.specs.Ordering.{int_eq}
 use Rattle.std.proofs.lemmas.Int.{ints}
 use Rattle.std.proofs.lemmas.Option.{none-some, same_Some}
-use Rattle.std.proofs.lemmas.Bool.{eqb-true}
+use Rattle.std.proofs.lemmas.Bool.{eqb-true, and_parts}
 use Rattle.std.proofs.lemmas.Bool.Decides.{nat_tests}
 use Rattle.linear_rows.specs.Terms.{Terms, SparseRow, coefficient}
 use Rattle.annot_types.specs.Rows.{Row}
@@ -18,12 +18,8 @@ use Rattle.cost_free.specs.Task.{Task}
 use Rattle.rules_spec.specs.CappedRows.{fits, row_fits}
 use Rattle.infer_spec.specs.Places.{RowFits}
 
-both_true : (a b : Bool) → (a && b) ≡ true → (a ≡ true) × (b ≡ true)
-both_true true b e = (refl, e)
-both_true false b e = absurd (cc)
-
 pub fits_so : (z : ℤ) → fits z ≡ true → FitsSigned w128 z
-fits_so z e = let b = both_true (int_le (negsuc (2 ^ 127 - 1)) z) (int_le z (pos (2 ^ 127 - 1))) e in grind (arith, ints, b.0, b.1)
+fits_so z e = let b = and_parts (int_le (negsuc (2 ^ 127 - 1)) z) (int_le z (pos (2 ^ 127 - 1))) e in grind (arith, ints, b.0, b.1)
 
 pub so_fits : (z : ℤ) → FitsSigned w128 z → fits z ≡ true
 so_fits z h = grind (arith, ints, h)
@@ -31,14 +27,14 @@ so_fits z h = grind (arith, ints, h)
 -- the terms of a row, and so its coefficients, fit
 terms_fit : (ts : Terms) → list_all (λ (t : ℕ × ℤ). fits t.1) ts ≡ true → (u : ℕ) → FitsSigned w128 (coefficient u ts)
 terms_fit [] e u = fits_so (pos 0) refl
-terms_fit ((v, z) ∷ ts) e u = by (v == u) (terms_fit ts (both_true (fits z) _ e).1 u) where
+terms_fit ((v, z) ∷ ts) e u = by (v == u) (terms_fit ts (and_parts (fits z) _ e).1 u) where
   by : (b : Bool) → FitsSigned w128 (coefficient u ts) → FitsSigned w128 (if b then z else coefficient u ts)
-  by true h = fits_so z (both_true (fits z) _ e).0
+  by true h = fits_so z (and_parts (fits z) _ e).0
   by false h = h
 
 pub row_fits_so : (row : SparseRow) → row_fits row ≡ true → RowFits row
 row_fits_so row e =
-    let both = both_true (list_all (λ (t : ℕ × ℤ). fits t.1) row.terms) (fits row.right) e in
+    let both = and_parts (list_all (λ (t : ℕ × ℤ). fits t.1) row.terms) (fits row.right) e in
     record { terms = terms_fit row.terms both.0; right = fits_so row.right both.1 }
 
 -- Terms that are made of coefficients.

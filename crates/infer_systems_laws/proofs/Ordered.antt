@@ -1,5 +1,6 @@
 -- The normal form of a typed program, with its groups, is ordered.
 use Rattle.std.proofs.Common.{◌≡◌, refl, ap, sym, ◌∙◌, arith, inl, inr, ⊎_elim, subst}
+use Rattle.std.proofs.lemmas.Bool.{and_parts, or_cases, or_right, or_left}
 use Rattle.std.specs.Prelude.{ℕ, zero, suc, ◌<◌, ◌⊎◌, ◌||◌, ◌&&◌, nat_eq, Bool, true, false, cond, List, [], ◌∷◌, ◌++◌, map, take, length, slice_get, slice_index_or, Option, None, Some}
 use Rattle.std.specs.List.{Contains, filter, range_with_len}
 use Rattle.std.specs.Option.{unwrap_or}
@@ -28,21 +29,6 @@ use Rattle.infer_systems_laws.specs.Laws.{NormalsAreOrdered}
 
 -- Truths
 
-either : (a b : Bool) → (a || b) ≡ true → (a ≡ true) ⊎ (b ≡ true)
-either true b e = inl refl
-either false b e = inr e
-
-both : (a b : Bool) → (a && b) ≡ true → (a ≡ true) × (b ≡ true)
-both true b e = (refl, e)
-both false b e = absurd (cc)
-
-or_right : (a b : Bool) → b ≡ true → (a || b) ≡ true
-or_right true b e = refl
-or_right false b e = e
-
-or_left : (a b : Bool) → a ≡ true → (a || b) ≡ true
-or_left a b e = (λ i. e i || b)
-
 same_of : (f g : ℕ) → nat_eq f g ≡ true → f ≡ g
 same_of f g e = grind (arith, nat_tests, e)
 
@@ -57,13 +43,13 @@ same_is f g e = grind (arith, nat_tests, e)
 any_append : (f : ℕ) (xs ys : List ℕ) → is_among f (xs ++ ys) ≡ true → (is_among f xs ≡ true) ⊎ (is_among f ys ≡ true)
 any_append f [] ys e = inr e
 any_append f (x ∷ xs) ys e = ⊎_elim (λ h. inl (or_left (nat_eq f x) (is_among f xs) h))
-    (λ h. ⊎_elim (λ g. inl (or_right (nat_eq f x) (is_among f xs) g)) (λ g. inr g) (any_append f xs ys h)) (either (nat_eq f x) (is_among f (xs ++ ys)) e)
+    (λ h. ⊎_elim (λ g. inl (or_right (nat_eq f x) (is_among f xs) g)) (λ g. inr g) (any_append f xs ys h)) (or_cases (nat_eq f x) (is_among f (xs ++ ys)) e)
 
 among_contains : (f : ℕ) (fs : List ℕ) → is_among f fs ≡ true → Contains fs f
 among_contains f [] e = absurd (cc)
 among_contains f (g ∷ fs) e = ⊎_elim
     (λ h. (0, omega arith, sym (same_of f g h)))
-    (λ h. let c = among_contains f fs h in (suc c.0, omega (arith, c.1), c.2)) (either (nat_eq f g) (is_among f fs) e)
+    (λ h. let c = among_contains f fs h in (suc c.0, omega (arith, c.1), c.2)) (or_cases (nat_eq f g) (is_among f fs) e)
 
 contains_among : (f : ℕ) (fs : List ℕ) → Contains fs f → is_among f fs ≡ true
 contains_among f fs c = at fs c.0 c.1 c.2 where
@@ -76,7 +62,7 @@ kept : (p : ℕ → Bool) (f : ℕ) (fs : List ℕ) → is_among f (filter p fs)
 kept p f [] e = absurd (cc)
 kept p f (g ∷ fs) e = by (p g) refl e (kept p f fs) where
   by : (b : Bool) → p g ≡ b → is_among f (cond b (g ∷ filter p fs) (filter p fs)) ≡ true → (is_among f (filter p fs) ≡ true → p f ≡ true) → p f ≡ true
-  by true h e go = ⊎_elim (λ s. ap p (same_of f g s) ∙ h) go (either (nat_eq f g) (is_among f (filter p fs)) e)
+  by true h e go = ⊎_elim (λ s. ap p (same_of f g s) ∙ h) go (or_cases (nat_eq f g) (is_among f (filter p fs)) e)
   by false h e go = go e
 
 -- What a body calls is there
@@ -89,7 +75,7 @@ module _ (N : NormProg) (f : ℕ) where
   two a b h g e = ⊎_elim h g (any_append f (called_in a) (called_in b) e)
 
   called_there : (e : Norm) (C : Context) (T : Type') → Uses N C e T → is_among f (called_in e) ≡ true → IsThere
-  called_there (n.Call k g xs) C T u h = (u.0, ap (slice_get N) (⊎_elim (λ s. same_of f g s) (λ z. absurd (cc)) (either (nat_eq f g) false h)) ∙ u.1)
+  called_there (n.Call k g xs) C T u h = (u.0, ap (slice_get N) (⊎_elim (λ s. same_of f g s) (λ z. absurd (cc)) (or_cases (nat_eq f g) false h)) ∙ u.1)
   called_there (n.Let k x A a b) C T u h = two a b (called_there a (inners a C) A u.1) (called_there b (others a C ++ (x, A) ∷ []) T u.2) h
   called_there (n.Split k x p q a) C T u h = called_there a _ T u.4 h
   called_there (n.If k x a b) C T u h = two a b (called_there a _ T u.1) (called_there b _ T u.2) h
@@ -133,9 +119,9 @@ module _ (least : BlockersAreLeast) (f callee : ℕ) where
   waited : (rows : List (List ℕ)) (b : ℕ) → blocked (apart callee f) rows waiting [] ≡ Some b → is_among callee (row rows f) ≡ true
   waited rows b e =
       let way = (least.some (apart callee f) rows 1 Ticks [] b e).in_the_way in
-      let parts : ((is_among b (row rows f) || false) ≡ true) × (((nat_eq b callee || false) || false) ≡ true) = both _ _ (both _ _ way).0 in
-      let same = same_of b callee (⊎_elim (λ s. ⊎_elim (λ t. t) (λ z. absurd (cc)) (either (nat_eq b callee) false s)) (λ z. absurd (cc)) (either (nat_eq b callee || false) false parts.1)) in
-      let called = ⊎_elim (λ s. s) (λ z. absurd (cc)) (either (is_among b (row rows f)) false parts.0) in
+      let parts : ((is_among b (row rows f) || false) ≡ true) × (((nat_eq b callee || false) || false) ≡ true) = and_parts _ _ (and_parts _ _ way).0 in
+      let same = same_of b callee (⊎_elim (λ s. ⊎_elim (λ t. t) (λ z. absurd (cc)) (or_cases (nat_eq b callee) false s)) (λ z. absurd (cc)) (or_cases (nat_eq b callee || false) false parts.1)) in
+      let called = ⊎_elim (λ s. s) (λ z. absurd (cc)) (or_cases (is_among b (row rows f)) false parts.0) in
       ap (λ g. is_among g (row rows f)) (sym same) ∙ called
 
   same_called : (P : Prog) → callee < length P → is_among callee (row (map (λ (g : NormFun). called_in g.body) (norm P)) f) ≡ true → is_among callee (row (calls_of P) f) ≡ true

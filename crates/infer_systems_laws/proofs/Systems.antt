@@ -1,5 +1,6 @@
 -- The system of a task that is tried.
 use Rattle.std.proofs.Common.{◌≡◌, ◌≤◌, ◌<◌, ℕ, zero, suc, ◌+◌, ◌-◌, ◌^◌, ◌==◌, if◌then◌else◌, cond, not, Bool, true, false, ℤ, pos, ◌≤ℤ◌, List, [], ◌∷◌, ◌++◌, map, filter, length, replicate, slice_get, Some, refl, sym, ap, ◌∙◌, arith}
+use Rattle.std.proofs.lemmas.List.{length-append, length-replicate}
 use Rattle.std.specs.List.{range_with_len}
 use Rattle.std.specs.Ordering.{int_eq}
 use Rattle.std.proofs.lemmas.Int.{ints}
@@ -78,14 +79,6 @@ weights_natural P budget (f ∷ fs) =
     append_natural (map (λ t. pos (10 ^ degrees t)) (index_list (args_of (slice_get P.funs f)) budget)) _ (map_natural (λ (t : List Plain). 10 ^ degrees t) (index_list (args_of (slice_get P.funs f)) budget))
     (append_natural (replicate (size (result_of (slice_get P.funs f)) budget) (pos 0)) (sig_weights P budget fs) (zeros_natural (size (result_of (slice_get P.funs f)) budget)) (weights_natural P budget fs))
 
-length_append : (xs ys : List ℤ) → length (xs ++ ys) ≡ length xs + length ys
-length_append [] ys = omega arith
-length_append (x ∷ xs) ys = let h = length_append xs ys in omega (arith, h)
-
-length_zeros : (n : ℕ) → length (replicate n (pos 0)) ≡ n
-length_zeros zero = refl
-length_zeros (suc n) = ap suc (length_zeros n)
-
 -- there is a weight for each number of the signatures
 weights_count : (P : Program) (group : List ℕ) (earlier : List Block) (budget : ℕ) (S : Setting) (mode : Mode) → S.program ≡ P → (fs : List ℕ) → AreReady S mode fs →
     length (sig_weights P budget fs) ≡ sides_count (map (λ f. body_of P group earlier budget (slice_get P.funs f)) fs)
@@ -99,10 +92,10 @@ weights_count P group earlier budget S mode same (f ∷ fs) h =
     one g there rest =
         let args = map (λ t. pos (10 ^ degrees t)) (index_list (args_of (Some g)) budget) in
         let zeros = replicate (size (result_of (Some g)) budget) (pos 0) in
-        let a = length_append args (zeros ++ sig_weights P budget fs) in
-        let b = length_append zeros (sig_weights P budget fs) in
+        let a = length-append args (zeros ++ sig_weights P budget fs) in
+        let b = length-append zeros (sig_weights P budget fs) in
         let c = length_map (λ t. pos (10 ^ degrees t)) (index_list (args_of (Some g)) budget) in
-        let e = length_zeros (size (result_of (Some g)) budget) in
+        let e = length-replicate (size (result_of (Some g)) budget) (pos 0) in
         let whole : length (args ++ (zeros ++ sig_weights P budget fs)) ≡ (size (args_of (Some g)) budget + size (result_of (Some g)) budget) + sides_count (map (λ f. body_of P group earlier budget (slice_get P.funs f)) fs) = omega (arith, a, b, c, e, rest) in
         (λ i. length (map (λ t. pos (10 ^ degrees t)) (index_list (args_of (there i)) budget) ++ (replicate (size (result_of (there i)) budget) (pos 0) ++ sig_weights P budget fs))) ∙ whole
         ∙ (λ i. sides_count (body_of P group earlier budget (sym there i) ∷ map (λ f. body_of P group earlier budget (slice_get P.funs f)) fs))
@@ -122,8 +115,8 @@ tried_have_systems tasks walked A ordered st task stands =
     record {
       below = kept_below n is_kept _ (rows_below A.program A.degree st.blocks task scale 0 (at_zero A.program A.degree st.blocks task scale).0);
       one_each =
-          let a = length_append w (replicate (n - length w) (pos 0)) in
-          let b = length_zeros (n - length w) in
+          let a = length-append w (replicate (n - length w) (pos 0)) in
+          let b = length-replicate (n - length w) (pos 0) in
           let few : length w ≤ n = omega (arith, count, all) in
           let full = filled_up (length w) n few in
           omega (arith, a, b, full);

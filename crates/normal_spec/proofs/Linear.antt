@@ -11,7 +11,9 @@ use Rattle.normal_spec.specs.Uses.{Context, AreNew, Distinct, Takes, types_of, p
 use Rattle.normal_spec.proofs.StepOne.{same_number, other_number}
 use Rattle.normal_spec.proofs.TypedOne.{Given, more, AllGiven, OfType}
 use Rattle.normal_spec.proofs.StepTwo.{two_grows}
-use Rattle.normal_spec.proofs.Weights.{same_type, same_refl, same_is, has_append, has_put, has_find, distinct_append, distinct_put, has_used, distinct_used, distinct_unused, AllLow, low_more, low_append, low_put, low_used, low_unused, low_absent, weigh, weigh_append, weigh_put, weigh_used, weigh_unused}
+use Rattle.raml_syntax.specs.SameType.{same_type}
+use Rattle.raml_syntax.proofs.SameType.{same_self, same_is}
+use Rattle.normal_spec.proofs.Weights.{has_append, has_put, has_find, distinct_append, distinct_put, has_used, distinct_used, distinct_unused, AllLow, low_more, low_append, low_put, low_used, low_unused, low_absent, weigh, weigh_append, weigh_put, weigh_used, weigh_unused}
 use Rattle.normal_spec.proofs.Opened.{as_opened}
 use Rattle.normal_spec.proofs.FreeUses.{uses_free}
 
@@ -105,7 +107,7 @@ abbrev hit : ℕ → Type' → ℕ × Type' → ℕ
 hit c B e = cond (nat_eq c e.0 && same_type e.1 B) 1 0
 
 hit_self : (c : ℕ) (B : Type') → hit c B (c, B) ≡ 1
-hit_self c B = (λ i. cond (same_number c i && same_type B B) 1 0) ∙ ap (λ b. cond b 1 0) (same_refl B)
+hit_self c B = (λ i. cond (same_number c i && same_type B B) 1 0) ∙ ap (λ b. cond b 1 0) (same_self B)
 
 hit_absent : (c : ℕ) (B : Type') (C : Context) → has c C ≡ false → weigh (hit c B) C ≡ 0
 hit_absent c B [] h = refl
@@ -234,6 +236,9 @@ stay_typed : (again : Bool) (x k j : ℕ) (V : Given) (B : Type') → x < j → 
 stay_typed false x k j V B lt h = tt
 stay_typed true x k j V B lt h = (lt, h, tt)
 
+sum_two : (w : ℕ × Type' → ℕ) (F S : TypedSlots) → load w (F ++ S) ≡ load w F + load w S
+sum_two w F S = weigh_append (λ (z : ℕ × (ℕ × Type')). w z.1) F S
+
 module _ (N : NormProg) where
   -- A use of a variable. Behind its share the context has the copy that is used, the slot that stays, and the others. L: what else it has.
   take_uses : (again : Bool) (x : ℕ) (T : TypedSlots) (k c : ℕ) (B : Type') → find x T ≡ Some (c, B) → (L : TypedSlots) (C : Context) (m : n.Norm) (A : Type') → Distinct C → AllLow k C → Same C (L ++ T) →
@@ -243,12 +248,12 @@ module _ (N : NormProg) where
       next C d low (record {
         at = λ w.
             let name : w (copy_of x (slots_of T), B) ≡ w (c, B) = ap (λ z. w (z, B)) (find_copy x (c, B) T f) in
-            omega (arith, same.at w, weigh_append (λ (t : ℕ × (ℕ × Type')). w t.1) L T, weigh_append (λ (t : ℕ × (ℕ × Type')). w t.1) L ((0, (copy_of x (slots_of T), B)) ∷ put x [] T), weigh_put (λ (t : ℕ × (ℕ × Type')). w t.1) x (c, B) [] T f, name);
+            omega (arith, same.at w, sum_two w L T, sum_two w L ((0, (copy_of x (slots_of T), B)) ∷ put x [] T), weigh_put (λ (t : ℕ × (ℕ × Type')). w t.1) x (c, B) [] T f, name);
       })
   take_uses true x T k c B f L C m A d low same next =
       let is = find_copy x (c, B) T f in
       let K : Context = (k, B) ∷ (k + 1, B) ∷ [] in
-      let one : 1 ≤ weigh (hit c B) C = omega (arith, same.at (hit c B), weigh_append (λ (t : ℕ × (ℕ × Type')). hit c B t.1) L T, weigh_put (λ (t : ℕ × (ℕ × Type')). hit c B t.1) x (c, B) [] T f, hit_self c B) in
+      let one : 1 ≤ weigh (hit c B) C = omega (arith, same.at (hit c B), sum_two (hit c B) L T, weigh_put (λ (t : ℕ × (ℕ × Type')). hit c B t.1) x (c, B) [] T f, hit_self c B) in
       let there : find c C ≡ Some B = find_hit c B C d one in
       let D = put c K C in
       let dD : Distinct D = distinct_put c K C d (ap (λ b. b || false) (other_number k (k + 1) (λ q. omega arith)), (refl, tt)) (λ y ne h. apart_low k y K C low (new_entries_two k B B) h) in
@@ -259,7 +264,7 @@ module _ (N : NormProg) where
         new_two k C low,
         as_opened N c (k ∷ (k + 1) ∷ []) copies_of B C there m A (next D dD lD (record {
           at = λ w.
-              omega (arith, same.at w, weigh_append (λ (t : ℕ × (ℕ × Type')). w t.1) L T, weigh_append (λ (t : ℕ × (ℕ × Type')). w t.1) L ((0, (k, B)) ∷ ((x, (k + 1, B)) ∷ put x [] T)), weigh_put (λ (t : ℕ × (ℕ × Type')). w t.1) x (c, B) [] T f, weigh_put w c B K C there);
+              omega (arith, same.at w, sum_two w L T, sum_two w L ((0, (k, B)) ∷ ((x, (k + 1, B)) ∷ put x [] T)), weigh_put (λ (t : ℕ × (ℕ × Type')). w t.1) x (c, B) [] T f, weigh_put w c B K C there);
         })),
       )
 
@@ -329,11 +334,11 @@ module _ (N : NormProg) where
       (λ y. has_behind again x k B T y dT ∙ which y (nat_eq y x) refl (h y)) dD lD
       (record {
         at = λ w.
-            omega (arith, sD.at w, weigh_append (λ (z : ℕ × (ℕ × Type')). w z.1) L ((0, (t.0.name, B)) ∷ (S ++ put x [] T)), weigh_append (λ (z : ℕ × (ℕ × Type')). w z.1) S (put x [] T), weigh_append (λ (z : ℕ × (ℕ × Type')). w z.1) L U, weigh_put (λ (z : ℕ × (ℕ × Type')). w z.1) x (e.0.0, B) S T entry, weigh_put (λ (z : ℕ × (ℕ × Type')). w z.1) x (e.0.0, B) [] T entry);
+            omega (arith, sD.at w, sum_two w L ((0, (t.0.name, B)) ∷ (S ++ put x [] T)), sum_two w S (put x [] T), sum_two w L U, weigh_put (λ (z : ℕ × (ℕ × Type')). w z.1) x (e.0.0, B) S T entry, weigh_put (λ (z : ℕ × (ℕ × Type')). w z.1) x (e.0.0, B) [] T entry);
       }))
       (λ E dE mE sE. next E dE mE (record {
         at = λ w.
-            omega (arith, sE.at w, weigh_append (λ (z : ℕ × (ℕ × Type')). w z.1) L (zip (take_all xs (put x t.0.stay (slots_of T)) t.1).0.names Bs), weigh_append (λ (z : ℕ × (ℕ × Type')). w z.1) L ((0, (t.0.name, B)) ∷ zip (take_all xs (put x t.0.stay (slots_of T)) t.1).0.names Bs));
+            omega (arith, sE.at w, sum_two w L (zip (take_all xs (put x t.0.stay (slots_of T)) t.1).0.names Bs), sum_two w L ((0, (t.0.name, B)) ∷ zip (take_all xs (put x t.0.stay (slots_of T)) t.1).0.names Bs));
       })) in
       subst (λ z. Uses N C z A) (sym (share_append t.0.shares (take_all xs (put x t.0.stay (slots_of T)) t.1).0.shares m))
       (take_uses again x T k e.0.0 B entry L C (share_all (take_all xs (put x t.0.stay (slots_of T)) t.1).0.shares m) A d low same rest)
@@ -351,16 +356,16 @@ module _ (N : NormProg) where
           ((D : Context) → Distinct D → AllLow k D → Same D (L ++ cond b (t ∷ used e T) (used e T)) → Uses N D m A) → Uses N C (drop_all (cond b (unused e (slots_of T)) ((t.0, t.1.0) ∷ unused e (slots_of T))) m) A
       by true rest next =
           rest (t ∷ L) k C m A d low
-          (record { at = λ w. omega (arith, same.at w, weigh_append (λ (z : ℕ × (ℕ × Type')). w z.1) L (t ∷ T), weigh_append (λ (z : ℕ × (ℕ × Type')). w z.1) L T) })
-          (λ D dD lD sD. next D dD lD (record { at = λ w. omega (arith, sD.at w, weigh_append (λ (z : ℕ × (ℕ × Type')). w z.1) L (t ∷ used e T), weigh_append (λ (z : ℕ × (ℕ × Type')). w z.1) L (used e T)) }))
+          (record { at = λ w. omega (arith, same.at w, sum_two w L (t ∷ T), sum_two w L T) })
+          (λ D dD lD sD. next D dD lD (record { at = λ w. omega (arith, sD.at w, sum_two w L (t ∷ used e T), sum_two w L (used e T)) }))
       by false rest next =
           let c = t.1.0 in
           let B = t.1.1 in
-          let there : find c C ≡ Some B = find_hit c B C d (omega (arith, same.at (hit c B), weigh_append (λ (z : ℕ × (ℕ × Type')). hit c B z.1) L (t ∷ T), hit_self c B)) in (
+          let there : find c C ≡ Some B = find_hit c B C d (omega (arith, same.at (hit c B), sum_two (hit c B) L (t ∷ T), hit_self c B)) in (
             B,
             there,
             rest L k (put c [] C) m A (distinct_put c [] C d tt (λ y ne q. refl)) (low_put k c [] C tt low)
-                (record { at = λ w. omega (arith, same.at w, weigh_append (λ (z : ℕ × (ℕ × Type')). w z.1) L (t ∷ T), weigh_append (λ (z : ℕ × (ℕ × Type')). w z.1) L T, weigh_put w c B [] C there) })
+                (record { at = λ w. omega (arith, same.at w, sum_two w L (t ∷ T), sum_two w L T, weigh_put w c B [] C there) })
                 next,
           )
 
@@ -391,9 +396,6 @@ module _ (N : NormProg) where
 
   second_bool : Bool → Bool → Bool
   second_bool fb fa = fb || not fa
-
-  sum_two : (w : ℕ × Type' → ℕ) (F S : TypedSlots) → load w (F ++ S) ≡ load w F + load w S
-  sum_two w F S = weigh_append (λ (z : ℕ × (ℕ × Type')). w z.1) F S
 
   parts : (a b : n.Norm) (T : TypedSlots) (k j : ℕ) (V : Given) → Distinct T → TypedAt j V T → Parts a b T k j V (part a b (slots_of T) k)
   parts a b [] k j V d ty = record {
@@ -596,26 +598,14 @@ module _ (N : NormProg) where
       let own : one_at s.0 s ≡ 1 = ap (λ b. cond b 1 0) (same_number s.0) in
       (⊎_elim (λ lt. lt) (λ le. let none = h s.0 le in absurd (omega (arith, own))) (cases_lt s.0 k), low_of k C (λ c le. omega (arith, h c le)))
 
-  load_in : (P : ℕ → Bool) (w : ℕ × Type' → ℕ) (F : TypedSlots) → ((c : ℕ) → has c (context_of F) ≡ true → P c ≡ true) → load (λ s. cond (P s.0) (w s) 0) F ≡ load w F
-  load_in P w [] h = refl
-  load_in P w (t ∷ F) h =
-      (λ i. cond (h t.1.0 (ap (λ b. b || has t.1.0 (context_of F)) (same_number t.1.0)) i) (w t.1) 0 + load_in P w F (λ c q. h c (or_right (nat_eq c t.1.0) (has c (context_of F)) q)) i)
+  load_as : (v w : ℕ × Type' → ℕ) (F : TypedSlots) → ((s : ℕ × Type') → has s.0 (context_of F) ≡ true → v s ≡ w s) → load v F ≡ load w F
+  load_as v w [] h = refl
+  load_as v w (t ∷ F) h =
+      (λ i. h t.1 (ap (λ b. b || has t.1.0 (context_of F)) (same_number t.1.0)) i + load_as v w F (λ s q. h s (or_right (nat_eq s.0 t.1.0) (has s.0 (context_of F)) q)) i)
 
-  load_out : (P : ℕ → Bool) (w : ℕ × Type' → ℕ) (F : TypedSlots) → ((c : ℕ) → has c (context_of F) ≡ true → P c ≡ false) → load (λ s. cond (P s.0) (w s) 0) F ≡ 0
-  load_out P w [] h = refl
-  load_out P w (t ∷ F) h =
-      (λ i. cond (h t.1.0 (ap (λ b. b || has t.1.0 (context_of F)) (same_number t.1.0)) i) (w t.1) 0 + load_out P w F (λ c q. h c (or_right (nat_eq c t.1.0) (has c (context_of F)) q)) i)
-
-  -- the same for those that are not asked for
-  load_kept : (P : ℕ → Bool) (w : ℕ × Type' → ℕ) (F : TypedSlots) → ((c : ℕ) → has c (context_of F) ≡ true → P c ≡ false) → load (λ s. cond (P s.0) 0 (w s)) F ≡ load w F
-  load_kept P w [] h = refl
-  load_kept P w (t ∷ F) h =
-      (λ i. cond (h t.1.0 (ap (λ b. b || has t.1.0 (context_of F)) (same_number t.1.0)) i) 0 (w t.1) + load_kept P w F (λ c q. h c (or_right (nat_eq c t.1.0) (has c (context_of F)) q)) i)
-
-  load_gone : (P : ℕ → Bool) (w : ℕ × Type' → ℕ) (F : TypedSlots) → ((c : ℕ) → has c (context_of F) ≡ true → P c ≡ true) → load (λ s. cond (P s.0) 0 (w s)) F ≡ 0
-  load_gone P w [] h = refl
-  load_gone P w (t ∷ F) h =
-      (λ i. cond (h t.1.0 (ap (λ b. b || has t.1.0 (context_of F)) (same_number t.1.0)) i) 0 (w t.1) + load_gone P w F (λ c q. h c (or_right (nat_eq c t.1.0) (has c (context_of F)) q)) i)
+  load_zero : (F : TypedSlots) → load (λ s. 0) F ≡ 0
+  load_zero [] = refl
+  load_zero (t ∷ F) = (λ i. 0 + load_zero F i)
 
   -- The two parts of a context at a Let: what is free in the form of the first part, and the rest.
   record Divided (a : n.Norm) (D : Context) (k j : ℕ) (V : Given) (F S : TypedSlots) : Type 0 where
@@ -640,8 +630,8 @@ module _ (N : NormProg) where
           low = low_used k a D lD;
           same = record {
             at = λ w.
-                let f = load_in (λ c. free_in c a) w F yes in
-                let s = load_out (λ c. free_in c a) w S no' in
+                let f = load_as (λ s. cond (free_in s.0 a) (w s) 0) w F (λ s q. ap (λ b. cond b (w s) 0) (yes s.0 q)) in
+                let s = load_as (λ s. cond (free_in s.0 a) (w s) 0) (λ s. 0) S (λ s q. ap (λ b. cond b (w s) 0) (no' s.0 q)) ∙ load_zero S in
                 omega (arith, weigh_used w a D, sD.at (λ s. cond (free_in s.0 a) (w s) 0), sum_two (λ s. cond (free_in s.0 a) (w s) 0) F S, f, s);
           };
         };
@@ -652,8 +642,8 @@ module _ (N : NormProg) where
           low = low_unused k a D lD;
           same = record {
             at = λ w.
-                let f = load_gone (λ c. free_in c a) w F yes in
-                let s = load_kept (λ c. free_in c a) w S no' in
+                let f = load_as (λ s. cond (free_in s.0 a) 0 (w s)) (λ s. 0) F (λ s q. ap (λ b. cond b 0 (w s)) (yes s.0 q)) ∙ load_zero F in
+                let s = load_as (λ s. cond (free_in s.0 a) 0 (w s)) w S (λ s q. ap (λ b. cond b 0 (w s)) (no' s.0 q)) in
                 omega (arith, weigh_unused w a D, sD.at (λ s. cond (free_in s.0 a) 0 (w s)), sum_two (λ s. cond (free_in s.0 a) 0 (w s)) F S, f, s);
           };
         };

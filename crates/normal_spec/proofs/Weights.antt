@@ -8,32 +8,6 @@ use Rattle.normal_spec.specs.Two.{free_in, find, has, put, used, unused}
 use Rattle.normal_spec.specs.Uses.{Distinct}
 use Rattle.normal_spec.proofs.StepOne.{same_number, other_number}
 
-abbrev pub same_type : Type' → Type' → Bool
-same_type Integer Integer = true
-same_type Boolean Boolean = true
-same_type (PairOf A B) (PairOf C D) = same_type A C && same_type B D
-same_type (ListOf A) (ListOf B) = same_type A B
-same_type (TreeOf A) (TreeOf B) = same_type A B
-same_type (OptionOf A) (OptionOf B) = same_type A B
-same_type _ _ = false
-
-pub same_refl : (A : Type') → same_type A A ≡ true
-same_refl Integer = refl
-same_refl Boolean = refl
-same_refl (PairOf A B) = ap (λ b. b && same_type B B) (same_refl A) ∙ same_refl B
-same_refl (ListOf A) = same_refl A
-same_refl (TreeOf A) = same_refl A
-same_refl (OptionOf A) = same_refl A
-
-pub same_is : (A B : Type') → same_type A B ≡ true → A ≡ B
-same_is Integer Integer h = refl
-same_is Boolean Boolean h = refl
-same_is (PairOf A B) (PairOf C D) h = let q = and_parts (same_type A C) (same_type B D) h in (λ i. PairOf (same_is A C q.0 i) (same_is B D q.1 i))
-same_is (ListOf A) (ListOf B) h = ap ListOf (same_is A B h)
-same_is (TreeOf A) (TreeOf B) h = ap TreeOf (same_is A B h)
-same_is (OptionOf A) (OptionOf B) h = ap OptionOf (same_is A B h)
-same_is _ _ h = absurd (cc)
-
 pub has_append : {B : Type 0} (y : ℕ) (G H : List (ℕ × B)) → has y (G ++ H) ≡ (has y G || has y H)
 has_append y [] H = refl
 has_append y (s ∷ G) H = by (nat_eq y s.0) (has_append y G H)

@@ -1,5 +1,6 @@
 -- Which blocks leave 127 bits where their numbers are multiplied: the test and the claim.
 use Rattle.std.proofs.Common.{◌≡◌, ◌<◌, ◌⊎◌, inl, inr, refl, sym, ap, ◌∙◌, subst, arith}
+use Rattle.std.proofs.lemmas.Bool.{and_from, and_parts}
 use Rattle.std.specs.Prelude.{ℕ, zero, suc, ◌-◌, ◌*◌, ℤ, pos, negsuc, ◌*ℤ◌, ◌<ℤ◌, unsigned_abs, int_le, ◌^◌, Bool, true, false, cond, not, ◌&&◌, nat_lt, List, [], ◌∷◌, slice_get, Option, None, Some, option_map, FitsSigned, IfSome, IfNone}
 use Rattle.std.specs.List.{All, list_all}
 use Rattle.std.specs.Int.{w128}
@@ -19,26 +20,18 @@ use Rattle.infer_spec.specs.States.{State}
 use Rattle.infer_spec.specs.Places.{EntriesFit, SigFits, HintFits, BodyFits, IsOfMeter, RaisedFits, BlockLeaves}
 use Rattle.other_blocks.specs.Leaving.{entries_fit, sig_fits, hint_fits, body_fits, is_solved, is_leaving, first_leaving}
 
-both_true : (a b : Bool) → (a && b) ≡ true → (a ≡ true) × (b ≡ true)
-both_true true b e = (refl, e)
-both_true false b e = absurd (cc)
-
-true_both : (a b : Bool) → a ≡ true → b ≡ true → (a && b) ≡ true
-true_both true b e h = h
-true_both false b e h = absurd (cc)
-
 -- a test of all items, where the test of one means P
 module _ {X : Type 0} (p : X → Bool) (P : X → Type 0) where
   all_so : ((x : X) → p x ≡ true → P x) → (xs : List X) → list_all p xs ≡ true → All P xs
   all_so f [] e = All-nil P
-  all_so f (x ∷ xs) e = let both = both_true (p x) (list_all p xs) e in All-cons P x xs (f x both.0) (all_so f xs both.1)
+  all_so f (x ∷ xs) e = let both = and_parts (p x) (list_all p xs) e in All-cons P x xs (f x both.0) (all_so f xs both.1)
 
   so_all : ((x : X) → P x → p x ≡ true) → (xs : List X) → All P xs → list_all p xs ≡ true
   so_all f [] h = refl
-  so_all f (x ∷ xs) h = true_both (p x) (list_all p xs) (f x (All-head P x xs h)) (so_all f xs (All-tail P x xs h))
+  so_all f (x ∷ xs) h = and_from (p x) (list_all p xs) (f x (All-head P x xs h)) (so_all f xs (All-tail P x xs h))
 
 fits_so : (z : ℤ) → fits z ≡ true → FitsSigned w128 z
-fits_so z e = let b = both_true (int_le (negsuc (2 ^ 127 - 1)) z) (int_le z (pos (2 ^ 127 - 1))) e in grind (arith, ints, b.0, b.1)
+fits_so z e = let b = and_parts (int_le (negsuc (2 ^ 127 - 1)) z) (int_le z (pos (2 ^ 127 - 1))) e in grind (arith, ints, b.0, b.1)
 
 so_fits : (z : ℤ) → FitsSigned w128 z → fits z ≡ true
 so_fits z h = grind (arith, ints, h)
@@ -57,10 +50,10 @@ module _ (t : ℕ) where
   so_entries es h = so_all number_fits NumberFits (λ x. so_fits (pos t *ℤ x.1)) es h
 
   sig_so : (s : Sig) → sig_fits (pos t) s ≡ true → SigFits t s
-  sig_so s e = let both = both_true (entries_fit (pos t) s.args) (entries_fit (pos t) s.result) e in (entries_so s.args both.0, entries_so s.result both.1)
+  sig_so s e = let both = and_parts (entries_fit (pos t) s.args) (entries_fit (pos t) s.result) e in (entries_so s.args both.0, entries_so s.result both.1)
 
   so_sig : (s : Sig) → SigFits t s → sig_fits (pos t) s ≡ true
-  so_sig s h = true_both (entries_fit (pos t) s.args) (entries_fit (pos t) s.result) (so_entries s.args h.0) (so_entries s.result h.1)
+  so_sig s h = and_from (entries_fit (pos t) s.args) (entries_fit (pos t) s.result) (so_entries s.args h.0) (so_entries s.result h.1)
 
   hint_so : (h : Hint) → hint_fits (pos t) h ≡ true → HintFits t h
   hint_so (c.Let rs) e = all_so (entries_fit (pos t)) (EntriesFit t) entries_so rs e
@@ -74,7 +67,7 @@ module _ (t : ℕ) where
 
   body_so : (body : Body) → body_fits (pos t) body ≡ true → BodyFits t body
   body_so (Solved sigs hints) e =
-      let both = both_true (list_all (sig_fits (pos t)) sigs) (list_all (list_all (hint_fits (pos t))) hints) e in (
+      let both = and_parts (list_all (sig_fits (pos t)) sigs) (list_all (list_all (hint_fits (pos t))) hints) e in (
         all_so (sig_fits (pos t)) (SigFits t) sig_so sigs both.0,
         all_so (list_all (hint_fits (pos t))) (All (HintFits t)) (all_so (hint_fits (pos t)) (HintFits t) hint_so) hints both.1,
       )
@@ -83,7 +76,7 @@ module _ (t : ℕ) where
 
   so_body : (body : Body) → BodyFits t body → body_fits (pos t) body ≡ true
   so_body (Solved sigs hints) h =
-      true_both (list_all (sig_fits (pos t)) sigs) (list_all (list_all (hint_fits (pos t))) hints)
+      and_from (list_all (sig_fits (pos t)) sigs) (list_all (list_all (hint_fits (pos t))) hints)
       (so_all (sig_fits (pos t)) (SigFits t) so_sig sigs h.0)
       (so_all (list_all (hint_fits (pos t))) (All (HintFits t)) (so_all (hint_fits (pos t)) (HintFits t) so_hint) hints h.1)
   so_body (c.Refuted farkas) h = refl
@@ -106,12 +99,12 @@ is_meters meter block = is_for_meter meter block.task.kind && is_solved block.bo
 
 meter_so : (meter : Meter) (block : Block) → is_meters meter block ≡ true → IsOfMeter meter block
 meter_so meter block e =
-    let both = both_true (is_for_meter meter block.task.kind) (is_solved block.body) e in
+    let both = and_parts (is_for_meter meter block.task.kind) (is_solved block.body) e in
     record { kind = of_meter meter block.task.kind both.0; solved = solved_so block.body both.1 }
 
 so_meter : (meter : Meter) (block : Block) → IsOfMeter meter block → is_meters meter block ≡ true
 so_meter meter block h =
-    true_both (is_for_meter meter block.task.kind) (is_solved block.body) (ap (is_for_meter meter) h.kind ∙ same_self meter) (so_solved block.body h.solved)
+    and_from (is_for_meter meter block.task.kind) (is_solved block.body) (ap (is_for_meter meter) h.kind ∙ same_self meter) (so_solved block.body h.solved)
 
 pub of_meter_or : (meter : Meter) (block : Block) → IsOfMeter meter block ⊎ (IsOfMeter meter block → ⊥)
 of_meter_or meter block = by (is_meters meter block) refl where
@@ -142,9 +135,9 @@ module _ (meter : Meter) (t scale : ℕ) where
   -- a block that leaves is of the meter and does not fit; one that does not fits where it is of the meter
   leaving_so : (block : Block) → leaving block ≡ true → IsOfMeter meter block × (Fit block → ⊥)
   leaving_so block e =
-      let both = both_true (is_meters meter block) (not (scale_fits && body_fits (pos t) block.body)) e in (
+      let both = and_parts (is_meters meter block) (not (scale_fits && body_fits (pos t) block.body)) e in (
         meter_so meter block both.0,
-        λ f. no (scale_fits && body_fits (pos t) block.body) (true_both scale_fits (body_fits (pos t) block.body) (so_scale f.low) (so_body t block.body f.numbers)) both.1,
+        λ f. no (scale_fits && body_fits (pos t) block.body) (and_from scale_fits (body_fits (pos t) block.body) (so_scale f.low) (so_body t block.body f.numbers)) both.1,
       )
     where
       no : (b : Bool) → b ≡ true → not b ≡ true → ⊥
@@ -157,7 +150,7 @@ module _ (meter : Meter) (t scale : ℕ) where
       by : (a b : Bool) → (scale_fits && body_fits (pos t) block.body) ≡ b → a ≡ true → (a && not b) ≡ false → Fit block
       by false b q m s = absurd (cc)
       by true false q m s = absurd (cc)
-      by true true q m s = let both = both_true scale_fits (body_fits (pos t) block.body) q in record { numbers = body_so t block.body both.1; low = scale_so both.0 }
+      by true true q m s = let both = and_parts scale_fits (body_fits (pos t) block.body) q in record { numbers = body_so t block.body both.1; low = scale_so both.0 }
 
   record IsFirst (bs : List Block) (place : ℕ) : Type 0 where
     block : Block

@@ -1,8 +1,7 @@
 -- A block that holds is refused for a total alone.
-use Rattle.std.proofs.Common.{◌≡◌, refl, ap, sym, ◌∙◌, subst, arith, inl, inr}
-use Rattle.std.specs.Prelude.{ℕ, ◌<◌, ◌≤◌, ◌||◌, Bool, true, false, cond, nat_lt, nat_le, List, [], ◌∷◌, map, length, Option, None, Some}
+use Rattle.std.proofs.Common.{◌≡◌, refl, ap, sym, ◌∙◌, subst, inl, inr}
+use Rattle.std.specs.Prelude.{ℕ, ◌<◌, ◌≤◌, List, map, length, Option, None, Some}
 use Rattle.std.specs.Option.{option_map}
-use Rattle.std.proofs.lemmas.Bool.Decides.{nat_tests}
 use Rattle.std.proofs.lemmas.List.{length-map, length-take-le}
 use Rattle.std.proofs.lemmas.Option.{none-some}
 use Rattle.cost_free.specs.declared.task.Meter.{Meter}
@@ -14,38 +13,17 @@ use Rattle.annot_types.specs.Rules.{With}
 use Rattle.annot_types.specs.Holds.{raised, FunctionsHold}
 use Rattle.annot_types.specs.Held.{before, scale_for, SigsRise, AllHintsRise}
 use Rattle.rules_soundness_laws.specs.Laws.{HoldsAt}
-use Rattle.rules_spec.specs.Numbers.{Condition}
-use Rattle.rules_spec.specs.Kinds.{Amount, total_left, total_right, Meets, AllMeet}
 use Rattle.rules_spec.specs.Faults as f
-use Rattle.rules_spec.specs.Faults.{too_great, fault_at, or_fault, first_fault}
+use Rattle.rules_spec.specs.Faults.{first_fault}
 use Rattle.cert_check.specs.Fault.{Fault, Leaves, Unless}
 use Rattle.cert_check.specs.Finds.{at_block, job, job_conditions, job_fault, AreWithin}
 use Rattle.cert_check.specs.Laws.{IsProper}
 use Rattle.cert_check.proofs.Fitted.{block_meets}
+use Rattle.cert_check.proofs.Alone.{LeavesAt, all_met_leave}
 use Rattle.other_blocks.specs.Raised.{raised_for}
 use Rattle.other_blocks.specs.Other.{place, OwnIsTried, ScaleFits, OtherFinds, RaisedFinds, ThereFinds}
 use Rattle.other_blocks.specs.Laws.{IsTotal, HoldsLeavesAlone}
 use Rattle.other_blocks.proofs.Raised.{same_setting}
-
--- conditions that are met leave or are fine
-abbrev LeavesAt : Option f.Fault → Type 0
-LeavesAt None = Unit {0}
-LeavesAt (Some (f.Leaves path index)) = Unit {0}
-LeavesAt (Some (f.Fails path index)) = ⊥
-
-met_leaves : (c : Condition Amount) → Meets c → LeavesAt (fault_at c)
-met_leaves c m = by (nat_le too_great (total_left c) || nat_le too_great (total_right c)) (nat_lt (total_left c) (total_right c)) refl where
-  by : (b d : Bool) → nat_lt (total_left c) (total_right c) ≡ d → LeavesAt (cond b (Some (f.Leaves c.path c.index)) (cond d (Some (f.Fails c.path c.index)) None))
-  by true d e = tt
-  by false false e = tt
-  by false true e = let less : total_left c < total_right c = grind (arith, nat_tests, e) in absurd (omega (arith, less, m))
-
-all_met_leave : (cs : List (Condition Amount)) → AllMeet cs → LeavesAt (first_fault cs)
-all_met_leave [] m = tt
-all_met_leave (c ∷ cs) m = by (fault_at c) (met_leaves c m.0) (all_met_leave cs m.1) where
-  by : (o : Option f.Fault) → LeavesAt o → LeavesAt (first_fault cs) → LeavesAt (or_fault o (first_fault cs))
-  by None h k = k
-  by (Some x) h k = h
 
 kept : (good : Type 0) (fault found : Option Fault) (A : Type 0) → good → Unless good fault found A → A
 kept good fault found A g (inl h) = h.1

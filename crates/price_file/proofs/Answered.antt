@@ -6,7 +6,8 @@ use Rattle.std.specs.Str.{IsUtf8}
 use Rattle.raml_syntax.specs.Tree.{Text}
 use Rattle.price_file.specs.Spelling.{lines_of, Table, prices_in, Spells, FirstFault}
 use Rattle.price_file.specs.Listed.{Listed, or_free}
-use Rattle.price_file.specs.Reading.{cut_at, first_of, entry_of, with_entry, read_lines}
+use Rattle.raml_syntax.specs.Cut.{cut_at}
+use Rattle.price_file.specs.Reading.{first_of, entry_of, with_entry, read_lines}
 use Rattle.price_file.specs.Read.{prices_of, Reads}
 use Rattle.price_file.specs.declared.prices.Prices as p
 use Rattle.price_file.specs.declared.fault.PriceFault.{PriceFault}

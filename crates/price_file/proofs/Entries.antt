@@ -9,8 +9,9 @@ use Rattle.std.specs.Cmp.Lexicographic.{bytes_decides}
 use Rattle.raml_syntax.specs.Tree.{Text}
 use Rattle.price_file.specs.Construct.{Construct, name_of, constructs, Number, Truth, Var, Nil, Leaf, Nothing, Arith, Compare, Not, Pair, Cons, Node, Just, Call, Let, If, Match, Tick}
 use Rattle.price_file.specs.Spelling.{Sets}
-use Rattle.price_file.specs.Reading.{cut_at, named_among, named, is_short, price_read, entry_with, entry_from, entry_of}
-use Rattle.price_file.proofs.Cuts.{cut_is}
+use Rattle.raml_syntax.specs.Cut.{cut_at}
+use Rattle.price_file.specs.Reading.{named_among, named, is_short, price_read, entry_with, entry_from, entry_of}
+use Rattle.raml_syntax.proofs.Cuts.{cut_is}
 
 -- no name has a space
 cut_name : (c : Construct) (rest : Text) → cut_at 32 (name_of c ++ 32 ∷ rest) ≡ Some (name_of c, rest)

@@ -10,7 +10,7 @@ use Rattle.price_file.specs.Spelling.{lines_of, Sets, Table, listed, SetEach, Ea
 use Rattle.price_file.specs.Reading.{entry_of, with_entry, read_lines}
 use Rattle.price_file.specs.declared.fault.PriceFault.{PriceFault}
 use Rattle.price_file.specs.declared.fault.PriceFault.TheVariants.{NotUtf8, Shape, Twice}
-use Rattle.price_file.proofs.Cuts.{nat_same}
+use Rattle.raml_syntax.proofs.Cuts.{nat_same}
 use Rattle.price_file.proofs.Entries.{is_set, is_read}
 
 -- what is listed, by places and by lines

@@ -1,26 +1,14 @@
 -- How a text of prices is read, line by line.
-use Rattle.std.specs.Prelude.{ℕ, suc, Bool, nat_eq, nat_le, ◌&&◌, List, [], ◌∷◌, length, cond, Option, Some, None, option_map, is_some}
+use Rattle.std.specs.Prelude.{ℕ, suc, Bool, nat_le, ◌&&◌, List, [], ◌∷◌, length, cond, Option, Some, None, is_some}
 use Rattle.std.specs.Prelude.{Result, Ok, Err}
 use Rattle.std.specs.Str.{bytes_eq, all_ascii_digits}
 use Rattle.std.specs.Str.Parse.{digits_value}
-use Rattle.std.specs.Borrow.{Bor}
 use Rattle.raml_syntax.specs.Tree.{Text}
+use Rattle.raml_syntax.specs.Cut.{cut_at}
 use Rattle.price_file.specs.Construct.{Construct, name_of, constructs}
 use Rattle.price_file.specs.Listed.{Listed, listed_at, listing}
 use Rattle.price_file.specs.declared.fault.PriceFault.{PriceFault}
 use Rattle.price_file.specs.declared.fault.PriceFault.TheVariants.{Shape, Twice}
-
--- with the byte at the front of the first part
-abbrev pub with_front : ℕ → Text × Text → Text × Text
-with_front byte parts = (byte ∷ parts.0, parts.1)
-
--- what stands before the first such byte of a text, and behind it
-abbrev pub cut_at : ℕ → Text → Option (Text × Text)
-cut_at mark [] = None
-cut_at mark (byte ∷ text) = cond (nat_eq byte mark) (Some ([], text)) (option_map (with_front byte) (cut_at mark text))
-
-abbrev pub lent_parts : Option (Bor Text × Bor Text) → Option (Text × Text)
-lent_parts = option_map (λ (p : Bor Text × Bor Text). (p.0.now, p.1.now))
 
 -- the first of the constructs with this name
 abbrev pub named_among : Text → List Construct → Option Construct

@@ -1,7 +1,8 @@
 // Lines of a table of prices.
 ghost use Rattle.std.specs.Prelude.{◌≡◌, ◌≤◌, IfSome};
 ghost use Rattle.std.specs.Str.{all_ascii_digits};
-ghost use Rattle.price_file.specs.Reading.{lent_parts, cut_at, is_short, price_read, entry_of};
+ghost use Rattle.raml_syntax.specs.Cut.{lent_parts, cut_at};
+ghost use Rattle.price_file.specs.Reading.{is_short, price_read, entry_of};
 
 use crate::construct::Construct;
 

@@ -2,7 +2,8 @@
 ghost use Rattle.std.specs.Prelude.{◌≡◌, ◌<◌, ◌^◌, [], Ok, length, IfOk, IfErr};
 ghost use Rattle.price_file.specs.Listed.{nothing_listed};
 ghost use Rattle.price_file.specs.Read.{prices_of, Reads, Leaves};
-ghost use Rattle.price_file.specs.Reading.{cut_at, first_of, entry_of, with_entry, read_lines};
+ghost use Rattle.raml_syntax.specs.Cut.{cut_at};
+ghost use Rattle.price_file.specs.Reading.{first_of, entry_of, with_entry, read_lines};
 ghost use Rattle.price_file.specs.Spelling.{Table, lines_of, prices_in, Spells, FirstFault, HasOneAnswer};
 
 use crate::fault::PriceFault;

@@ -4,11 +4,10 @@ use Rattle.std.specs.Prelude.{slice_get, IfOk}
 use Rattle.std.specs.List.{All}
 use Rattle.raml_syntax.specs.Tree.{Type', Function, Prog}
 use Rattle.raml_syntax.specs.Value.{Value}
-use Rattle.raml_syntax.specs.Eval.{find, run_of}
+use Rattle.raml_syntax.specs.Eval.{run_of}
 use Rattle.raml_syntax.specs.Types.{Typed}
 use Rattle.raml_syntax.specs.Node.{AllNodes, NumberFits}
 use Rattle.raml_syntax.proofs.Keep.{typed_runs_keep}
-use Rattle.raml_syntax.proofs.Places.{functions_have_places}
 use Rattle.stack_compile.specs.Code.{bodies_of}
 use Rattle.stack_compile.specs.Machine.{State}
 use Rattle.stack_compile.specs.Laws.{at, IsGoing, Gives}
@@ -26,15 +25,8 @@ use Rattle.refusals.specs.declared.answer.Report.{Report}
 use Rattle.refusals.specs.declared.status.Status.TheVariants.{Done, Stopped, HeapFull}
 use Rattle.raml_promise.specs.Outside.{Sound}
 use Rattle.raml_promise.specs.Call.{Placed, Limits, Finishes, Stops, Fills, NoWorkWithin}
+use Rattle.simple_types.proofs.Placing.{found}
 use Rattle.raml_parts.specs.Parts.{HasArguments, RanOn}
-
--- the function at a place is found by its name
-found : (P : Prog) → Typed P → (f : ℕ) (g : Function) → slice_get P f ≡ Some g → find g.name P ≡ Some g
-found P typed f g there =
-    let places = functions_have_places P in
-    let placed = places.placed g.name f (places.own typed.functions f g there) in
-    let same : placed.0 ≡ g = let e = sym placed.1 ∙ there in cc in
-    subst (λ h. find g.name P ≡ Some h) same placed.3
 
 module _ (P : Prog) (f : Placed) (cells : List Cell) (words : List Word) (args : List Value) (r : HasArguments P f cells words args) (limits : Limits) (old new : Seen)
     (begins : Begins P f.0 cells words limits.cells old) (goes : GoesOn limits.steps old new) (kept : Kept new) where

@@ -1,5 +1,5 @@
 -- A file is one certificate, and its check comes to one end.
-use Rattle.std.proofs.Common.{◌≡◌, ◌<◌, ℕ, ℤ, List, [], ◌∷◌, Option, Some, None, Result, Ok, Err, refl, sym, ap, subst, ◌∙◌, arith, inl, inr, ⊎_elim}
+use Rattle.std.proofs.Common.{◌≡◌, ◌<◌, ℕ, ℤ, List, Option, Some, None, Result, Ok, Err, refl, sym, ap, subst, ◌∙◌, arith, inl, inr, ⊎_elim}
 use Rattle.std.specs.Prelude.{slice_get}
 use Rattle.serde_json.specs.Data.{Data}
 use Rattle.serde_json.specs.Read.{read}
@@ -7,9 +7,9 @@ use Rattle.raml_syntax.specs.Tree.{Text, Prog}
 use Rattle.cost_free.specs.Task.{Task}
 use Rattle.linear_rows.specs.Terms.{SparseRow}
 use Rattle.linear_rows.specs.Systems.{LinearSystem}
-use Rattle.farkas_check.specs.Checks.{Check, Passes, IsFault, IsFirstFault, IsVerdict, refuting}
-use Rattle.farkas_check.specs.declared.Verdict.{Verdict}
-use Rattle.farkas_check.specs.declared.Verdict.TheVariants.{Yes, No, Leaves}
+use Rattle.farkas_check.specs.Checks.{Check, IsVerdict, refuting}
+use Rattle.farkas_check.specs.declared.Verdict.TheVariants.{No, Leaves}
+use Rattle.farkas_check.proofs.Firsts.{one_first}
 use Rattle.annot_types.specs.Program.{Program}
 use Rattle.annot_types.specs.Certificate.{Entries, Refuted, Body, Block, Certificate}
 use Rattle.annot_types.specs.Held.{before, scale_for}
@@ -117,28 +117,6 @@ certificate_same store file Q T rest =
 
 -- ---- the check
 
--- the first check that fails, fails in one way
-fault_one : (k : Check) (x y : Verdict) → IsFault k x → IsFault k y → x ≡ y
-fault_one k (No a) (No b) h g = ap No (h.0 ∙ sym g.0)
-fault_one k (No a) (Leaves b) h g = absurd (g.1 h.1)
-fault_one k (Leaves a) (No b) h g = absurd (h.1 g.1)
-fault_one k (Leaves a) (Leaves b) h g = ap Leaves (h.0 ∙ sym g.0)
-fault_one k Yes y h g = absurd h
-fault_one k (No a) Yes h g = absurd g
-fault_one k (Leaves a) Yes h g = absurd g
-
-fails_or_passes : (k : Check) (x : Verdict) → IsFault k x → Passes k → ⊥
-fails_or_passes k (No a) h g = h.2 g.meets
-fails_or_passes k (Leaves a) h g = h.1 g.fit
-fails_or_passes k Yes h g = h
-
-verdict_one : (ks : List Check) (x y : Verdict) → IsFirstFault ks x → IsFirstFault ks y → x ≡ y
-verdict_one [] x y h g = absurd h
-verdict_one (k ∷ ks) x y (inl h) (inl g) = fault_one k x y h g
-verdict_one (k ∷ ks) x y (inl h) (inr g) = absurd (fails_or_passes k x h g.0)
-verdict_one (k ∷ ks) x y (inr h) (inl g) = absurd (fails_or_passes k y g h.0)
-verdict_one (k ∷ ks) x y (inr h) (inr g) = verdict_one ks x y h.1 g.1
-
 -- of two places the first is one
 one_place : (i k : ℕ) → (i < k → ⊥) → (k < i → ⊥) → i ≡ k
 one_place i k a b = omega (arith, a, b)
@@ -157,10 +135,10 @@ module _ (limit : Option What) (s : LinearSystem) (farkas : Entries) where
   same_what x y h k = cc
 
   no_or_leaves : (a b : ℕ) → IsVerdict (refuting s (v.vector_of s farkas)) (No a) → IsVerdict (refuting s (v.vector_of s farkas)) (Leaves b) → ⊥
-  no_or_leaves a b h k = let same = verdict_one (refuting s (v.vector_of s farkas)) (No a) (Leaves b) h k in absurd (cc)
+  no_or_leaves a b h k = let same = one_first (refuting s (v.vector_of s farkas)) (No a) (Leaves b) h k in absurd (cc)
 
   same_column : (a b : ℕ) → IsVerdict (refuting s (v.vector_of s farkas)) (Leaves a) → IsVerdict (refuting s (v.vector_of s farkas)) (Leaves b) → a ≡ b
-  same_column a b h k = let same = verdict_one (refuting s (v.vector_of s farkas)) (Leaves a) (Leaves b) h k in cc
+  same_column a b h k = let same = one_first (refuting s (v.vector_of s farkas)) (Leaves a) (Leaves b) h k in cc
 
   one_vector_fault : (x y : v.Fault) → Has x → Has y → x ≡ y
   one_vector_fault (v.TooLarge a) (v.TooLarge b) h k = ap v.TooLarge (same_what a b h k)

@@ -1,14 +1,12 @@
 -- A call is of one function on one list of arguments, its bounds are one each, and its run has one end.
-use Rattle.std.proofs.Common.{◌≡◌, ◌≤◌, ◌<◌, ◌+◌, ℕ, List, [], ◌∷◌, Option, Some, None, Result, Ok, Err, refl, sym, ap, subst, ◌∙◌, arith}
+use Rattle.std.proofs.Common.{◌≡◌, ◌≤◌, ◌<◌, ◌+◌, ℕ, List, [], ◌∷◌, Option, None, Result, Ok, Err, refl, sym, ap, subst, ◌∙◌, arith}
 use Rattle.raml_syntax.specs.Tree.{Text, Function, Prog}
 use Rattle.raml_syntax.specs.Value.{Value}
 use Rattle.raml_syntax.specs.Types.{types_of}
 use Rattle.raml_syntax.specs.Place.{place_of}
-use Rattle.stack_compile.specs.Code.{Body, bodies_of}
+use Rattle.stack_compile.specs.Code.{bodies_of}
 use Rattle.stack_compile.specs.Laws.{at, IsGoing}
-use Rattle.stack_compile.specs.Machine.{Config, Going, Halted, Frame, State, act, fetch, move, start}
-use Rattle.stack_compile.specs.declared.instr.Instr.{Instr}
-use Rattle.stack_compile.specs.declared.instr.Instr.TheVariants as instr
+use Rattle.stack_compile.specs.Machine.{Halted, State, move, start}
 use Rattle.stack_compile.proofs.After.{stays, after_add, later_grows}
 use Rattle.metered_vm.specs.Moving.{TakesCell}
 use Rattle.metered_vm.specs.Ending.{next_of}
@@ -22,6 +20,7 @@ use Rattle.annot_types.specs.Certificate.{Certificate}
 use Rattle.annot_types.specs.Held.{Claim, Bound, NoBound, CallsUnbounded, Line, line}
 use Rattle.analysis_report.specs.Lines.{Claims}
 use Rattle.analysis_report.specs.Floors.{Floors, FloorOf, IsFloor, rank, Leaves}
+use Rattle.analysis_report.proofs.Limits.{moves_one}
 use Rattle.refusal_text.specs.declared.plain.Which.TheVariants as w
 use Rattle.refusals.specs.Ending.{Ending, Done, Stopped, HeapFull, BadData, Overflows, AtPoint}
 use Rattle.refusals.specs.Line.{no_names}
@@ -161,18 +160,6 @@ module _ (P : Prog) (N : Program) (c : Certificate) (f : Placed) (args : List Va
 
 -- ---- runs
 
--- an instruction that takes a cell takes one
-takes_one : (code : List Body) (o : Option Instr) (f p : ℕ) (st ls : List Value) (fs : List Frame) → TakesCell o → (act code o f p st ls fs).cells ≡ 1
-takes_one code (Some instr.Pair) f p st ls fs h = refl
-takes_one code (Some instr.Cons) f p st ls fs h = refl
-takes_one code (Some instr.Node) f p st ls fs h = refl
-takes_one code (Some instr.Some) f p st ls fs h = refl
-takes_one code _ f p st ls fs h = absurd h
-
-move_takes : (code : List Body) (c : Config) → TakesCell (next_of code c) → (move code c).cells ≡ 1
-move_takes code (Going f p st ls fs) h = takes_one code (fetch code f p) f p st ls fs h
-move_takes code (Halted v) h = absurd h
-
 module _ (P : Prog) (f : Placed) (args : List Value) (limits : Limits) where
   -- after more instructions a machine that asks for one cell too many has taken it
   overfull : (made m : ℕ) → (at P f.0 args made).cells ≡ limits.cells → TakesCell (next_of (bodies_of P) (at P f.0 args made).at) → made < m → (at P f.0 args m).cells ≤ limits.cells → ⊥
@@ -182,7 +169,7 @@ module _ (P : Prog) (f : Placed) (args : List Value) (limits : Limits) where
       let one = after_add code made 1 begun in
       let next : (at P f.0 args (made + 1)).cells ≡ (at P f.0 args made).cells + (move code (at P f.0 args made).at).cells = ap (λ (s : State). s.cells) one in
       let grows = later_grows code (made + 1) m begun (omega (arith, more)) in
-      absurd (omega (arith, next, move_takes code (at P f.0 args made).at takes, all, grows.cells, few))
+      absurd (omega (arith, next, moves_one code (at P f.0 args made).at takes, all, grows.cells, few))
 
   -- a machine that has halted is the same after all the steps
   halts_within : (made : ℕ) (v : Value) → made ≤ limits.steps → (at P f.0 args made).at ≡ Halted v → at P f.0 args limits.steps ≡ at P f.0 args made

@@ -1,4 +1,6 @@
 pub mod Tree
+pub mod Cut
+pub mod SameType
 pub mod Value
 pub mod Read
 pub mod Eval

@@ -1,16 +1,14 @@
--- Declared bounds: how many there are, and the reports of what is decided of them.
-use Rattle.std.proofs.Common.{◌≡◌, ◌+◌, ◌≤◌, ℕ, Bool, true, false, cond, List, [], ◌∷◌, length, Some, Ok, Err, refl, subst, inl, arith}
-use Rattle.std.specs.Prelude.{nat_eq, slice_get}
+-- Declared bounds: the reports of what is decided of them.
+use Rattle.std.proofs.Common.{◌≡◌, ℕ, List, Some, Ok, Err, refl, subst, inl}
+use Rattle.std.specs.Prelude.{slice_get}
 use Rattle.std.specs.List.{All}
 use Rattle.std.proofs.lemmas.Option.{slice_get_within, get_or_from_slice_get}
-use Rattle.raml_syntax.specs.Tree.{Text, Prog}
 use Rattle.share_normal.specs.Program.{Kept, source_in}
 use Rattle.rules_plan.specs.Read.{program_in}
 use Rattle.cert_check.specs.Checked.{Checking}
 use Rattle.annot_types.specs.Certificate.{Certificate}
 use Rattle.simplex_checked.specs.Rules.{least_pick}
-use Rattle.bound_file.specs.Lines.{Line, Declaration}
-use Rattle.bound_file.specs.Answers.{longer, lines_in, DeclareEach, Spells}
+use Rattle.bound_file.specs.Lines.{Line}
 use Rattle.contract_report.specs.Verdicts.{AreVerdictLines}
 use Rattle.contract_report.specs.Refused.{AllLinesClear}
 use Rattle.contract_report.specs.Told.{VerdictsRefused}
@@ -29,29 +27,6 @@ use Rattle.raml_promise.specs.DeclaredBounds.{LinesRefuse, PrintsVerdicts}
 use Rattle.raml_parts.specs.Parts.{Gives, VerdictRefusal}
 use Rattle.raml_parts.proofs.Stepping.{step_refused}
 use Rattle.raml_parts.proofs.Refusing.{told_refuses}
-
--- ---- a file has no more lines than bytes
-
-longer_by_one : (byte : ℕ) (lines : List Text) → length (longer byte lines) ≤ 1 + length lines
-longer_by_one byte [] = omega arith
-longer_by_one byte (line ∷ lines) = omega arith
-
-lines_are_fewer : (bytes : Text) → length (lines_in bytes) ≤ length bytes
-lines_are_fewer [] = omega arith
-lines_are_fewer (byte ∷ bytes) = by (nat_eq byte 10) (lines_are_fewer bytes) where
-  by : (b : Bool) → length (lines_in bytes) ≤ length bytes → length (cond b ([] ∷ lines_in bytes) (longer byte (lines_in bytes))) ≤ length (byte ∷ bytes)
-  by true h = omega (arith, h)
-  by false h = omega (arith, h, longer_by_one byte (lines_in bytes))
-
-module _ (P : Prog) (degree : ℕ) where
-  as_many : (texts : List Text) (lines : List Line) → DeclareEach P degree texts lines → length lines ≡ length texts
-  as_many [] [] h = refl
-  as_many [] (line ∷ lines) h = absurd h
-  as_many (text ∷ texts) [] h = absurd h
-  as_many (text ∷ texts) (line ∷ lines) h = omega (arith, as_many texts lines h.1)
-
-  pub declared_are_few : (bytes : Text) (D : Declaration) → Spells P degree bytes D → length D.lines ≤ length bytes
-  declared_are_few bytes D h = omega (arith, lines_are_fewer bytes, as_many (lines_in bytes) D.lines h.lines.each)
 
 -- what is claimed of each line
 pub all_there : (Q : Line → Type 0) (lines : List Line) → All Q lines → (number : ℕ) (line : Line) → slice_get lines number ≡ Some line → Q line

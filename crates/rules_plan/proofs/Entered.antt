@@ -1,5 +1,6 @@
 -- Entries by positions are those tuple by tuple.
-use Rattle.std.proofs.Common.{◌≡◌, ◌≤◌, ◌<◌, ℕ, zero, suc, ◌+◌, ◌-◌, Bool, true, false, not, cond, if◌then◌else◌, nat_eq, nat_lt, ◌&&◌, List, [], ◌∷◌, ◌++◌, map, filter, length, position, slice_get, Some, None, refl, sym, ap, ◌∙◌, arith, append_assoc}
+use Rattle.std.proofs.Common.{◌≡◌, ◌≤◌, ◌<◌, ℕ, zero, suc, ◌+◌, ◌-◌, Bool, true, false, not, cond, if◌then◌else◌, nat_eq, nat_lt, ◌&&◌, List, [], ◌∷◌, ◌++◌, map, length, position, slice_get, Some, None, refl, sym, ap, ◌∙◌, arith, append_assoc}
+use Rattle.std.proofs.lemmas.List.Elements.{filter-append}
 use Rattle.std.specs.List.{position_or_len, range_with_len}
 use Rattle.std.proofs.lemmas.Bool.Decides.{nat_tests}
 use Rattle.raml_syntax.specs.Tree.{Type'}
@@ -131,14 +132,6 @@ projects_picked marks js us q j up there k (t ∷ ts) =
 
 -- Restricted to lower budgets.
 
-pub filter_append : {X : Type 0} (p : X → Bool) (xs ys : List X) → filter p (xs ++ ys) ≡ filter p xs ++ filter p ys
-filter_append p [] ys = refl
-filter_append p (x ∷ xs) ys = by (p x) (filter_append p xs ys)
-  where
-    by : (b : Bool) → filter p (xs ++ ys) ≡ filter p xs ++ filter p ys → cond b (x ∷ filter p (xs ++ ys)) (filter p (xs ++ ys)) ≡ cond b (x ∷ filter p xs) (filter p xs) ++ filter p ys
-    by true h = ap (λ l. x ∷ l) h
-    by false h = h
-
 low_spot : (p : List Plain → Bool) (us vs : List (List Plain)) → position_or_len p us < length us → position_or_len p (us ++ vs) ≡ position_or_len p us
 low_spot p [] vs h = absurd (omega (arith, h))
 low_spot p (u ∷ us) vs h = by (p u) h (low_spot p us vs)
@@ -172,10 +165,6 @@ is_above m n h = grind (arith, nat_tests, h)
 longer : {X : Type 0} (xs ys : List X) → length xs ≤ length (xs ++ ys)
 longer [] ys = omega arith
 longer (x ∷ xs) ys = let h = longer xs ys in omega (arith, h)
-
-joined_length : {X : Type 0} (xs ys : List X) → length (xs ++ ys) ≡ length xs + length ys
-joined_length [] ys = omega arith
-joined_length (x ∷ xs) ys = let h = joined_length xs ys in omega (arith, h)
 
 -- one entry, kept or not
 kept : (n m k x s : ℕ) (b : Bool) → restricted n m (entry_to k x (cond b (Some s) None)) ≡ cond b (cond (nat_lt k n && nat_lt s m) (record { from = k; to = s; times = x } ∷ []) []) []
@@ -216,7 +205,7 @@ module _ (us vs : List (List Plain)) (n k : ℕ) (low : k < n) where
   all_restricted : (es : List (List Plain × ℕ)) → restricted n (length us) (placed (us ++ vs) k es) ≡ placed us k es
   all_restricted [] = refl
   all_restricted (e ∷ es) =
-      filter_append _ (entry_to k e.1 (position (alike e.0) (us ++ vs))) (placed (us ++ vs) k es)
+      filter-append _ (entry_to k e.1 (position (alike e.0) (us ++ vs))) (placed (us ++ vs) k es)
       ∙ (λ i. one_restricted (alike e.0) e.1 i ++ all_restricted es i)
 
 -- positions past the limit go nowhere
@@ -231,18 +220,18 @@ module _ (us : List (List Plain)) (n m : ℕ) where
   dropped k high [] = refl
   dropped k high (e ∷ es) =
       let s = position_or_len (alike e.0) us in
-      filter_append _ (entry_to k e.1 (position (alike e.0) us)) (placed us k es) ∙ (λ i. gone k e.1 s high (nat_lt s (length us)) i ++ dropped k high es i)
+      filter-append _ (entry_to k e.1 (position (alike e.0) us)) (placed us k es) ∙ (λ i. gone k e.1 s high (nat_lt s (length us)) i ++ dropped k high es i)
 
   all_dropped : (c : Carry) (k : ℕ) (high : n ≤ k) (ts : List (List Plain)) → restricted n m (entries_from k c ts us) ≡ []
   all_dropped c k high [] = refl
   all_dropped c k high (t ∷ ts) =
-      filter_append _ (placed us k (c t)) (entries_from (suc k) c ts us) ∙ (λ i. dropped k high (c t) i ++ all_dropped c (suc k) (omega (arith, high)) ts i)
+      filter-append _ (placed us k (c t)) (entries_from (suc k) c ts us) ∙ (λ i. dropped k high (c t) i ++ all_dropped c (suc k) (omega (arith, high)) ts i)
 
 front_restricted : (c : Carry) (ts ts' us vs : List (List Plain)) (n k : ℕ) → n ≡ k + length ts → restricted n (length us) (entries_from k c (ts ++ ts') (us ++ vs)) ≡ entries_from k c ts us
 front_restricted c [] ts' us vs n k h = let e = h in all_dropped (us ++ vs) n (length us) c k (omega (arith, e)) ts'
 front_restricted c (t ∷ ts) ts' us vs n k h =
     let e = h in
-    filter_append _ (placed (us ++ vs) k (c t)) (entries_from (suc k) c (ts ++ ts') (us ++ vs))
+    filter-append _ (placed (us ++ vs) k (c t)) (entries_from (suc k) c (ts ++ ts') (us ++ vs))
     ∙ (λ i. all_restricted us vs n k (omega (arith, e)) (c t) i ++ front_restricted c ts ts' us vs n (suc k) (omega (arith, e)) i)
 
 -- From a context and to another at lower budgets go the entries between lower positions.

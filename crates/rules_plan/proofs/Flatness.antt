@@ -2,7 +2,7 @@
 use Rattle.std.proofs.Common.{◌≡◌, ◌≢◌, ◌≤◌, ◌⊎◌, inl, inr, ℕ, zero, suc, ◌+◌, ◌-◌, nat_eq, nat_le, Bool, true, false, cond, ◌&&◌, List, [], ◌∷◌, ◌++◌, map, zip, length, Some, refl, sym, ap, ◌∙◌, subst, arith}
 use Rattle.std.specs.List.{range_with_len}
 use Rattle.std.proofs.Math.Nat.{le_trans}
-use Rattle.std.proofs.lemmas.Bool.{cases_eq}
+use Rattle.std.proofs.lemmas.Bool.{cases_eq, and_parts}
 use Rattle.std.proofs.lemmas.List.{length-append, length-map}
 use Rattle.raml_syntax.specs.Tree.{Type', Integer, Boolean, PairOf, ListOf, TreeOf, OptionOf}
 use Rattle.base_poly.specs.Base.{total}
@@ -229,10 +229,6 @@ longer n (suc m) d h = by (cases_eq n (suc m)) (λ k. longer n m d k)
     by (inl e) more = let same = ap (λ k. flat_size k d) e in omega (arith, same)
     by (inr ne) more = le_trans (more (omega (arith, h, ne))) (one_longer m d)
 
-both : (a b : Bool) → (a && b) ≡ true → (a ≡ true) × (b ≡ true)
-both true b h = (refl, h)
-both false b h = absurd (cc)
-
 module _ (d room : ℕ) (ten : room ≤ 10) (few : flat_size room d ≤ 2000) where
   size_few : (As : List Type') → all_holders As ≤ room → size_of As d ≤ 2000
   size_few As h =
@@ -245,8 +241,8 @@ module _ (d room : ℕ) (ten : room ≤ 10) (few : flat_size room d ≤ 2000) wh
 
   pub flat_within : (e : Norm) (C : Context) (T : Type') (left : ℕ) → is_flat e left ≡ true → held C + left ≤ room → holders T ≤ room → IsWithin 2000 e C T d
   flat_within (n.Let k x A a b) C T left f h t =
-      let p = both (nat_le (holders A) left) (is_flat a left && is_flat b (left - holders A)) f in
-      let q = both (is_flat a left) (is_flat b (left - holders A)) p.1 in
+      let p = and_parts (nat_le (holders A) left) (is_flat a left && is_flat b (left - holders A)) f in
+      let q = and_parts (is_flat a left) (is_flat b (left - holders A)) p.1 in
       let fits = is_low (holders A) left p.0 in
       let inside = used_holders a C in
       let outside = unused_holders a C in
@@ -259,29 +255,29 @@ module _ (d room : ℕ) (ten : room ≤ 10) (few : flat_size room d ≤ 2000) wh
       let less = two_within x C (omega (arith, h, ten)) y z in
       (small C T (omega (arith, h)) t, flat_within a _ T left f (omega (arith, less, h)) t)
   flat_within (n.If k x a b) C T left f h t =
-      let p = both (is_flat a left) (is_flat b left) f in
+      let p = and_parts (is_flat a left) (is_flat b left) f in
       let less = without_within x C in
       (small C T (omega (arith, h)) t, flat_within a _ T left p.0 (omega (arith, less, h)) t, flat_within b _ T left p.1 (omega (arith, less, h)) t)
   flat_within (n.CaseList k x a y z b) C T left f h t =
-      let p = both (is_flat a left) (is_flat b left) f in
+      let p = and_parts (is_flat a left) (is_flat b left) f in
       let less = without_within x C in
       let same = two_within x C (omega (arith, h, ten)) y z in
       (small C T (omega (arith, h)) t, flat_within a _ T left p.0 (omega (arith, less, h)) t, flat_within b _ T left p.1 (omega (arith, same, h)) t)
   flat_within (n.CaseTree k x a e y z b) C T left f h t =
-      let p = both (nat_le 1 left) (is_flat a left && is_flat b (left - 1)) f in
-      let q = both (is_flat a left) (is_flat b (left - 1)) p.1 in
+      let p = and_parts (nat_le 1 left) (is_flat a left && is_flat b (left - 1)) f in
+      let q = and_parts (is_flat a left) (is_flat b (left - 1)) p.1 in
       let some = is_low 1 left p.0 in
       let less = without_within x C in
       let more = three_within x C (omega (arith, h, ten)) e y z in
       (small C T (omega (arith, h)) t, flat_within a _ T left q.0 (omega (arith, less, h)) t, flat_within b _ T (left - 1) q.1 (omega (arith, more, some, h)) t)
   flat_within (n.CaseOption k x a y b) C T left f h t =
-      let p = both (is_flat a left) (is_flat b left) f in
+      let p = and_parts (is_flat a left) (is_flat b left) f in
       let less = without_within x C in
       let same = one_within x C (omega (arith, h, ten)) y in
       (small C T (omega (arith, h)) t, flat_within a _ T left p.0 (omega (arith, less, h)) t, flat_within b _ T left p.1 (omega (arith, same, h)) t)
   flat_within (n.Tick k i a) C T left f h t = (small C T (omega (arith, h)) t, flat_within a C T left f h t)
   flat_within (n.Share k x y z a) C T left f h t =
-      let p = both (nat_le 1 left) (is_flat a (left - 1)) f in
+      let p = and_parts (nat_le 1 left) (is_flat a (left - 1)) f in
       let some = is_low 1 left p.0 in
       let more = copies_within x C (omega (arith, h, ten)) y z in
       (small C T (omega (arith, h)) t, flat_within a _ T (left - 1) p.1 (omega (arith, more, some, h)) t)

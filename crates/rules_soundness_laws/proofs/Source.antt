@@ -47,7 +47,7 @@ module _ (P : Prog) (typed : Typed P) (numbers : All (λ (g : Function). AllNode
   pub is_form : (f : ℕ) (g : NormFun) → slice_get (norm P) f ≡ Some g → (fun : Function) → slice_get P f ≡ Some fun → norm_fun P fun ≡ g
   is_form f g there fun at = some_is (norm_fun P fun) g (sym (normal_forms_keep P typed numbers f fun at).there ∙ there)
 
-  normal : (f : ℕ) (g : NormFun) → slice_get (norm P) f ≡ Some g → IsNormal (norm P) g
+  pub normal : (f : ℕ) (g : NormFun) → slice_get (norm P) f ≡ Some g → IsNormal (norm P) g
   normal f g there = by (slice_get P f) refl
     where
       by : (o : Option Function) → slice_get P f ≡ o → IsNormal (norm P) g
@@ -55,7 +55,7 @@ module _ (P : Prog) (typed : Typed P) (numbers : All (λ (g : Function). AllNode
       by (Some fun) q = subst (IsNormal (norm P)) (is_form f g there fun q) (normal_forms_keep P typed numbers f fun q).normal
 
   -- a bound of the normal form's runs is one of the source and of the machine
-  of_normal : (f : ℕ) (fun : Function) → slice_get P f ≡ Some fun → (meter : Meter) (den : ℕ) (terms : List Term) → 0 < den →
+  pub of_normal : (f : ℕ) (fun : Function) → slice_get P f ≡ Some fun → (meter : Meter) (den : ℕ) (terms : List Term) → 0 < den →
       BoundsNormal (norm P) (norm_fun P fun) meter den terms → Bounds P f fun meter den terms
   of_normal f fun there meter den terms positive h = record { runs = runs; machine = λ args m has. by meter runs args m has (machine_is_linked P typed numbers f fun args there has) }
     where

@@ -28,7 +28,7 @@ use Rattle.annot_types.specs.Rows.{size as size_of, Assignment, Row, Made, rows_
 use Rattle.rules_spec.specs.Plan as p
 use Rattle.rules_spec.specs.Plan.{Plan, Step, Part}
 use Rattle.rules_spec.specs.Numbers.{Sides, Known, Hint, Condition, Walked}
-use Rattle.rules_spec.specs.Walk.{Walk, only, behind as before, and_then, numbered, charge, at, at_zero, moved, against, brought, joined, nothing, begun, mode_at, still, each, walk, walks}
+use Rattle.rules_spec.specs.Walk.{Walk, only, behind as before, and_then, numbered, charge, at, at_zero, moved, against, brought, joined, nothing, begun, mode_at, each, walk, walks}
 use Rattle.rules_spec.specs.Asked.{Ask, asked, all_asked, each_asked, behind_asked, sum_of, count, counts, given, given_each, answers}
 use Rattle.rules_spec.specs.Planned.{entries_of, step, zero_alone, part_steps, operand_entries, lower, let_part, plan}
 use Rattle.rules_spec.specs.Found.{free_from, cost_from}
@@ -37,7 +37,7 @@ use Rattle.rules_spec.specs.Systems.{Sum, sums, told_at, row_at, AllPaid}
 use Rattle.rules_spec.proofs.Standing.{some_position, ranged}
 use Rattle.rules_spec.proofs.Left.{left_of, each_left, all_left}
 use Rattle.rules_spec.proofs.Agreed.{tick_price, cell_price}
-use Rattle.rules_spec.proofs.Ruled.{types_without, takes_one, types_opened, types_used, ranged_to, lower_asked, low_degrees}
+use Rattle.rules_spec.proofs.Ruled.{types_without, takes_one, types_opened, types_used, ranged_to, lower_asked, lower_walks, low_degrees}
 use Rattle.rules_spec.proofs.Summed.{Full, full_same, brought_full, nothing_full, moved_full, moved_none, less_full, more_full, pairs_rows, pair_row, map_same, owed_right, given_full}
 
 answers_append : {E : Type 0} (give : ℕ → E) (from : ℕ) (ks ls : List Ask) → answers give from (ks ++ ls) ≡ answers give from ks ++ answers give (from + counts ks) ls
@@ -300,12 +300,6 @@ module _ (S : Setting) (own : List Unsolved) (x : Assignment) (group : List (Sid
   abbrev sizes : Norm → Context → Type' → ℕ → List (List Plain) → List ℕ
   sizes a C A d js = map (λ (pt : Part). pt.size) (map (let_part a C A d) js)
 
-  lower_walks : (f : ℕ → Plan) (d g : ℕ) → g ≤ d → slice_index_or (walks sums G (lower f d)) g still ≡ W (f (d - g))
-  lower_walks f zero zero h = ap (λ k. W (f k)) (omega arith)
-  lower_walks f zero (suc g) h = absurd (omega (arith, h))
-  lower_walks f (suc d) zero h = ap (λ k. W (f k)) (omega arith)
-  lower_walks f (suc d) (suc g) h = lower_walks f d g (omega (arith, h)) ∙ ap (λ k. W (f k)) (omega arith)
-
   each_says : (a₁ : Norm) → Walks a₁ → (C : Context) (A : Type') (d : ℕ) → Uses S.program.funs (inners a₁ C) a₁ A → (q o : Annotation) (a : List Sum) → Full (size_of (types C) d) a q none o →
       (mode m₁ : Mode) → AllPaid S m₁ (called_in a₁) → (path : List ℕ) (all : List (List Sum)) (k : ℕ) → mode_at k mode ≡ m₁ → (js : List (List Plain)) (first next : ℕ) (hs rest : List (Hint Sum)) →
       ((j : ℕ) → slice_index_or all (k + j) [] ≡ slice_index_or (given_each (told_at x) first (sizes a₁ C A d js)) j []) → All (λ j. degrees j ≤ d) js →
@@ -336,7 +330,7 @@ module _ (S : Setting) (own : List Unsolved) (x : Assignment) (group : List (Sid
       (All-tail (λ j. degrees j ≤ d) j js low) refl) in
       let walker = λ (v : Walk Sum) (mm : Mode) (s : List Sum). and_then (v mm (path ++ k ∷ []) b s hs) go in
       subst (λ (v : Walked Sum). Says v (w.let_parts S own x (child a₁ C A d q o) m₁ (j ∷ js) (w.let_results S own x A d first (j ∷ js))) next (counts (asks a₁ C A d (j ∷ js))))
-      (λ i. walker (sym (lower_walks (P a₁ (inners a₁ C) A) d g lowj) i) (sym em i) (sym at_k i))
+      (λ i. walker (sym (lower_walks sums G (P a₁ (inners a₁ C) A) d g lowj) i) (sym em i) (sym at_k i))
       (recount _ _ next (counts ks + counts ls) (counts (asks a₁ C A d (j ∷ js))) (sym count_is) all_of)
 
   joined_full : (a₁ : Norm) (C : Context) (A : Type') (d : ℕ) (all : List (List Sum)) (k : ℕ) (js : List (List Plain)) (first : ℕ) (c : List Sum) (p : Annotation) →

@@ -29,7 +29,7 @@ use Rattle.normal_spec.specs.Uses.{Takes, Uses}
 use Rattle.annot_types.specs.Rows.{size as size_of}
 use Rattle.rules_spec.specs.Plan as p
 use Rattle.rules_spec.specs.Plan.{Plan, Step, Part, Called}
-use Rattle.rules_spec.specs.Numbers.{Sides, Signature, Hint, Results, Copies, Multiples, Walked}
+use Rattle.rules_spec.specs.Numbers.{Numbers, Known, Sides, Signature, Hint, Results, Copies, Multiples, Walked}
 use Rattle.rules_spec.specs.Kinds.{Amount, amounts}
 use Rattle.rules_spec.specs.Walk.{Walk, and_then, numbered, still, mode_at, charge, nothing, at_zero, moved, against, brought, joined, each, walk, walks}
 use Rattle.rules_spec.specs.Asked.{Ask, ResultsOf, CopiesOf, MultiplesOf, asked, all_asked, each_asked, behind_asked}
@@ -99,6 +99,12 @@ lower_asked f zero (suc g) h = absurd (omega (arith, h))
 lower_asked f (suc d) zero h = ap (λ k. asked (f k)) (omega arith)
 lower_asked f (suc d) (suc g) h = lower_asked f d g (omega (arith, h)) ∙ ap (λ k. asked (f k)) (omega arith)
 
+pub lower_walks : {E : Type 0} (A : Numbers E) (K : Known E) (f : ℕ → Plan) (d g : ℕ) → g ≤ d → slice_index_or (walks A K (lower f d)) g still ≡ walk A K (f (d - g))
+lower_walks A K f zero zero h = ap (λ k. walk A K (f k)) (omega arith)
+lower_walks A K f zero (suc g) h = absurd (omega (arith, h))
+lower_walks A K f (suc d) zero h = ap (λ k. walk A K (f k)) (omega arith)
+lower_walks A K f (suc d) (suc g) h = lower_walks A K f d g (omega (arith, h)) ∙ ap (λ k. walk A K (f k)) (omega arith)
+
 pub low_degrees : (As : List Type') (d : ℕ) → All (λ j. degrees j ≤ d) (index_list As d)
 low_degrees As d = each_listed (λ j. degrees j ≤ d) As d (λ t h l. l)
 
@@ -111,12 +117,6 @@ module _ (S : Setting) (group : List (Sides Amount)) (free : ℕ → ℕ → Sig
 
   abbrev Ws : p.Plans → List (Walk Amount)
   Ws = walks (amounts 1) (known_in S group free cost)
-
-  lower_walks : (f : ℕ → Plan) (d g : ℕ) → g ≤ d → slice_index_or (Ws (lower f d)) g still ≡ W (f (d - g))
-  lower_walks f zero zero h = ap (λ k. W (f k)) (omega arith)
-  lower_walks f zero (suc g) h = absurd (omega (arith, h))
-  lower_walks f (suc d) zero h = ap (λ k. W (f k)) (omega arith)
-  lower_walks f (suc d) (suc g) h = lower_walks f d g (omega (arith, h)) ∙ ap (λ k. W (f k)) (omega arith)
 
   -- what is left of the hints by the rules
   abbrev pub Outs : Norm → Type 0
@@ -348,7 +348,7 @@ module _ (S : Setting) (group : List (Sides Amount)) (free : ℕ → ℕ → Sig
       (each_tells a₁ ih x C A d us q a u mode Past path all (suc k) refl js os rs m' mid l' left (λ i. ap (λ z. slice_index_or all z []) (omega arith) ∙ same (suc i)) (All-tail (λ j. degrees j ≤ d) j js low) st.1
       (answered_back (asked e) (asks a₁ C A d js) hs xs mid left h')) in
       subst (λ (y : Walked Amount). Tells y (Parts A d (child a₁ C A d q) m₁ (j ∷ js) (s ∷ rs) hs mid))
-      (λ i. walker (sym (lower_walks f d g lowj) i) (sym em i) (sym at_k i))
+      (λ i. walker (sym (lower_walks (amounts 1) (known_in S group free cost) f d g lowj) i) (sym em i) (sym at_k i))
       (record {
         to = λ z. let left_is = sym (outs a₁ m₁ (d - g) (inners a₁ C) p A (annotation s) hs z.0 z.2) in
             t.to (subst (λ l. child a₁ C A d q m₁ j (annotation s) hs l) left_is z.2, subst (λ l. Parts A d (child a₁ C A d q) Past js rs l mid) left_is z.3);

@@ -15,6 +15,7 @@ use Rattle.index_shift.specs.Maps.{Carry, entry_to, placed, entries_from}
 use Rattle.index_shift.specs.declared.entry.Entry.{Entry}
 use Rattle.annot_types.specs.Carried.{less, more, to}
 use Rattle.rules_spec.specs.Plan.{Step}
+use Rattle.rules_spec.specs.Numbers.{Numbers}
 use Rattle.rules_spec.specs.Kinds.{Amount, amounts, AllMeet}
 use Rattle.rules_spec.specs.Walk.{at, added, brought, nothing, moved, against, numbered, at_zero}
 use Rattle.rules_spec.specs.Stand.{Stands, Ranged}
@@ -92,17 +93,21 @@ brought_stands n m a q (e ∷ es) out p r s o =
     (brought_stands n m a q es (added (amounts 1) out e.to e.times (get a e.from)) next r.2 s (added_stands m out p e.to e.times (get a e.from) (q e.from) o r.1 (s.is e.from r.0)))
     (λ k b. omega arith)
 
-nothing_at : (n k : ℕ) → get (nothing (amounts 1) n) k ≡ record { plus = 0; minus = 0 }
-nothing_at zero k = refl
-nothing_at (suc n) zero = refl
-nothing_at (suc n) (suc k) = nothing_at n k
+pub nothing_at : {E : Type 0} (A : Numbers E) (n k : ℕ) → at A (nothing A n) k ≡ A.none
+nothing_at A zero k = refl
+nothing_at A (suc n) zero = refl
+nothing_at A (suc n) (suc k) = nothing_at A n k
 
-nothing_len : (n : ℕ) → length (nothing (amounts 1) n) ≡ n
-nothing_len zero = refl
-nothing_len (suc n) = ap suc (nothing_len n)
+pub nothing_len : {E : Type 0} (A : Numbers E) (n : ℕ) → length (nothing A n) ≡ n
+nothing_len A zero = refl
+nothing_len A (suc n) = ap suc (nothing_len A n)
 
 pub nothing_stands : (n : ℕ) → Stands n (nothing (amounts 1) n) (λ k. 0)
-nothing_stands n = record { len = nothing_len n; is = λ k b. omega (arith, ap (λ (z : Amount). z.plus) (nothing_at n k), ap (λ (z : Amount). z.minus) (nothing_at n k)) }
+nothing_stands n = record {
+  len = nothing_len (amounts 1) n;
+  is = λ k b. let same : get (nothing (amounts 1) n) k ≡ record { plus = 0; minus = 0 } = nothing_at (amounts 1) n k in
+      omega (arith, ap (λ (z : Amount). z.plus) same, ap (λ (z : Amount). z.minus) same);
+}
 
 pub moved_stands : (n : ℕ) (a : List Amount) (q : Annotation) (s : Step) → Ranged n s.size s.entries → Stands n a q → Stands s.size (moved (amounts 1) s a) (i.moved s.entries q)
 moved_stands n a q s r h =

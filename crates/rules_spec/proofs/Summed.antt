@@ -14,7 +14,7 @@ use Rattle.rules_spec.specs.Walk.{at, added, brought, nothing, moved, against, n
 use Rattle.rules_spec.specs.Asked.{given}
 use Rattle.rules_spec.specs.Stand.{Ranged}
 use Rattle.rules_spec.specs.Systems.{Sum, sums, told_at, row_at}
-use Rattle.rules_spec.proofs.Standing.{at_place, place_same, place_other, same_or}
+use Rattle.rules_spec.proofs.Standing.{at_place, place_same, place_other, same_or, nothing_at, nothing_len}
 
 pub sum_of : (a b c d e f : ℕ) → a ≡ b → c ≡ d → e ≡ f → ◌≡◌ {A = Sum} (record { has = a; plus = c; minus = e }) (record { has = b; plus = d; minus = f })
 sum_of a b c d e f x y z = λ j. record { has = x j; plus = y j; minus = z j }
@@ -62,17 +62,8 @@ brought_full n m a q p o (e ∷ es) out q' p' o' r f g =
     full_same m _ _ _ _ _ _ _ (brought_full n m a q p o es (added sums out e.to e.times (at sums a e.from)) _ _ _ r.2 f next)
     (λ k. regroup (q' k) (at_place e.to k (e.times * q e.from)) (i.moved es q k)) (λ k. regroup (p' k) (at_place e.to k (e.times * p e.from)) (i.moved es p k)) (λ k. regroup (o' k) (at_place e.to k (e.times * o e.from)) (i.moved es o k))
 
-nothing_at : (n k : ℕ) → at sums (nothing sums n) k ≡ sums.none
-nothing_at zero k = refl
-nothing_at (suc n) zero = refl
-nothing_at (suc n) (suc k) = nothing_at n k
-
-nothing_len : (n : ℕ) → length (nothing sums n) ≡ n
-nothing_len zero = refl
-nothing_len (suc n) = ap suc (nothing_len n)
-
 pub nothing_full : (n : ℕ) → Full n (nothing sums n) none none none
-nothing_full n = record { len = nothing_len n; is = λ k b. nothing_at n k }
+nothing_full n = record { len = nothing_len sums n; is = λ k b. nothing_at sums n k }
 
 pub moved_full : (n : ℕ) (a : List Sum) (q p o : Annotation) (s : Step) → Ranged n s.size s.entries → Full n a q p o → Full s.size (moved sums s a) (i.moved s.entries q) (i.moved s.entries p) (i.moved s.entries o)
 moved_full n a q p o s r f = full_same s.size _ _ _ _ _ _ _ (brought_full n s.size a q p o s.entries (nothing sums s.size) none none none r f (nothing_full s.size)) (λ k. zero_plus (i.moved s.entries q k)) (λ k. zero_plus (i.moved s.entries p k)) (λ k. zero_plus (i.moved s.entries o k))

@@ -13,7 +13,9 @@ use Rattle.base_poly.specs.Indices.{IsIndex, AreIndices, index_list}
 use Rattle.base_poly.proofs.Among.{Among, among_contains, among_either, among_kept, among_mapped, among_part}
 use Rattle.base_poly.proofs.Exact.{exact}
 use Rattle.index_shift.proofs.Spots.{got_among, position_there}
-use Rattle.cost_free.specs.Target.{Target, degree_of, unit_targets, components, Holder, holder_at, holders, subsets, hold, have_one_element, can_join, same_type, joined_sets, pieces, piece_at, filled}
+use Rattle.raml_syntax.specs.SameType.{same_type}
+use Rattle.raml_syntax.proofs.SameType.{same_is}
+use Rattle.cost_free.specs.Target.{Target, degree_of, unit_targets, components, Holder, holder_at, holders, subsets, hold, have_one_element, can_join, joined_sets, pieces, piece_at, filled}
 use Rattle.cost_free.specs.Target.{Joined, joined, cut_lists, joined_over, joined_order, put, in_order, joined_targets, targets}
 use Rattle.annot_types.proofs.Lists.{some_is, length_map}
 use Rattle.rules_systems_laws.proofs.Filled.{degree, degree_all, AllIndices, AllAll, entries_index, are_pieces, Fits, size_of, sum_from, AllFit, piece, filled_fits}
@@ -69,15 +71,6 @@ some_holders Cs from (x ∷ hs) some h m = ⊎_elim
 AllHold : Type' → List Holder → Type 0
 AllHold E [] = Unit {0}
 AllHold E (h ∷ hs) = (h.element ≡ E) × AllHold E hs
-
-same_is : (A B : Type') → same_type A B ≡ true → A ≡ B
-same_is Integer Integer e = refl
-same_is Boolean Boolean e = refl
-same_is (PairOf A B) (PairOf C D) e = let b = and_parts (same_type A C) (same_type B D) e in λ i. PairOf (same_is A C b.0 i) (same_is B D b.1 i)
-same_is (ListOf A) (ListOf B) e = ap ListOf (same_is A B e)
-same_is (TreeOf A) (TreeOf B) e = ap TreeOf (same_is A B e)
-same_is (OptionOf A) (OptionOf B) e = ap OptionOf (same_is A B e)
-same_is A B e = absurd (cc)
 
 all_hold : (E : Type') (hs : List Holder) → hold E hs ≡ true → AllHold E hs
 unfolding AllHold

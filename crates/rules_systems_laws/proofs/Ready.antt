@@ -36,6 +36,12 @@ last_false false b e p q r = absurd (cc)
 
 -- Lists
 
+pub is_later : (y x : ℕ) (fs : List ℕ) → is_among y fs ≡ true → is_among y (x ∷ fs) ≡ true
+is_later y x fs e = by (nat_eq y x) where
+  by : (b : Bool) → (b || is_among y fs) ≡ true
+  by true = refl
+  by false = e
+
 any_true : (p : ℕ → Bool) (f : ℕ) (gs : List ℕ) → is_among f gs ≡ true → p f ≡ true → list_any p gs ≡ true
 any_true p f [] e h = absurd (cc)
 any_true p f (g ∷ gs) e h = ⊎_elim
@@ -149,15 +155,8 @@ module _ (least : BlockersAreLeast) (P : Program) (degree : ℕ) (earlier : List
   all_paid : (mode : Mode) → mode_of task.kind ≡ mode → (f : ℕ) (g : NormFun) → is_among f group ≡ true → slice_get P.funs f ≡ Some g →
       (cs : List ℕ) → ((callee : ℕ) → is_among callee cs ≡ true → is_among callee (called_in g.body) ≡ true) → AllPaid setting mode cs
   all_paid mode e f g member there [] sub = tt
-  all_paid mode e f g member there (x ∷ cs) sub = (of_mode mode e, all_paid mode e f g member there cs (λ callee h. sub callee (later callee h)))
+  all_paid mode e f g member there (x ∷ cs) sub = (of_mode mode e, all_paid mode e f g member there cs (λ callee h. sub callee (is_later callee x cs h)))
     where
-      later : (callee : ℕ) → is_among callee cs ≡ true → is_among callee (x ∷ cs) ≡ true
-      later callee h = by (nat_eq callee x)
-        where
-          by : (b : Bool) → (b || is_among callee cs) ≡ true
-          by true = refl
-          by false = h
-
       kind_of : (kind : Kind) (meter : Meter) → mode_of kind ≡ With meter → kind ≡ k.With meter
       kind_of (Free budget f number) meter e = absurd (cc)
       kind_of (k.With other) meter e = ap k.With (same other meter e)
@@ -177,14 +176,7 @@ module _ (least : BlockersAreLeast) (P : Program) (degree : ℕ) (earlier : List
 
   are_ready : (fs : List ℕ) → AreApart fs → ((f : ℕ) → is_among f fs ≡ true → is_among f group ≡ true) → AreReady setting (mode_of task.kind) fs
   are_ready [] apart sub = tt
-  are_ready (f ∷ fs) apart sub = (is_ready f (sub f (among_is (f ∷ fs) f (inl refl))), apart.0, are_ready fs apart.1 (λ g h. sub g (later g h)))
-    where
-      later : (g : ℕ) → is_among g fs ≡ true → is_among g (f ∷ fs) ≡ true
-      later g h = by (nat_eq g f)
-        where
-          by : (b : Bool) → (b || is_among g fs) ≡ true
-          by true = refl
-          by false = h
+  are_ready (f ∷ fs) apart sub = (is_ready f (sub f (among_is (f ∷ fs) f (inl refl))), apart.0, are_ready fs apart.1 (λ g h. sub g (is_later g f fs h)))
 
   has_target : (kind : Kind) → HasNumber P degree task.group kind → HasTarget P group kind
   has_target (Free budget f number) h =

@@ -2,7 +2,7 @@
 use Rattle.std.proofs.Common.{◌≡◌, refl, ap, sym, ◌∙◌, arith, subst}
 use Rattle.std.specs.Prelude.{ℕ, zero, suc, ◌+◌, ◌*◌, ◌<◌, ◌≤◌, nat_eq, unsigned_abs, pos, Bool, true, false, cond, List, [], ◌∷◌, ◌++◌, map, length, slice_index_or, Contains}
 use Rattle.std.proofs.lemmas.Bool.Decides.{nat_tests}
-use Rattle.rules_spec.proofs.Shaped.{each_stands, are_multiples}
+use Rattle.rules_spec.proofs.Shaped.{each_stands, are_multiples, each_within as stands_within, are_among}
 use Rattle.base_poly.specs.Base.{total}
 use Rattle.index_shift.specs.Potential.{Annotation}
 use Rattle.annot_types.specs.Certificate as c
@@ -11,7 +11,7 @@ use Rattle.rules_spec.specs.Numbers.{Known, Hint, Results, Copies, Multiples}
 use Rattle.rules_spec.specs.Kinds.{Amount, amounts}
 use Rattle.rules_spec.specs.Asked.{Ask, ResultsOf, CopiesOf, MultiplesOf, count, given, given_each, given_blocks, answers}
 use Rattle.rules_spec.specs.Solving.{amount}
-use Rattle.rules_spec.specs.Stand.{Within, StandForEach, AreMultiplesOf, Answered}
+use Rattle.rules_spec.specs.Stand.{Within, Answered}
 use Rattle.rules_spec.specs.Covered.{Plain, OfSize, OfSizes, OfBlocks, OfAsks}
 use Rattle.rules_spec.specs.Shape.{EachWithin, AreAmong, amounts_at, each_amounts, multiples_at, hints_at}
 use Rattle.rules_spec.specs.Found.{listed, amounts_of}
@@ -121,28 +121,14 @@ suiting_answer (CopiesOf size ∷ asks) (c.Share copies ∷ hs) h = ((h.0, amoun
 suiting_answer (MultiplesOf blocks ∷ asks) (c.Call multiples ∷ hs) h = (are_multiples blocks multiples h.0, suiting_answer asks hs h.1)
 suiting_answer (ask ∷ asks) (x ∷ hs) h = absurd h.0
 
-stood_within : (ns : List ℕ) (qs : List (List Amount)) (ess : List Entries) → StandForEach ns qs ess → EachWithin ns ess
-stood_within [] [] [] h = tt
-stood_within (n ∷ ns) (q ∷ qs) (es ∷ ess) h = (h.0.0, stood_within ns qs ess h.1)
-stood_within [] [] (es ∷ ess) h = absurd h
-stood_within [] (q ∷ qs) ess h = absurd h
-stood_within (n ∷ ns) [] ess h = absurd h
-stood_within (n ∷ ns) (q ∷ qs) [] h = absurd h
-
-multiples_among : (blocks : List ℕ) (xs : List (ℕ × Amount)) (ms : Entries) → AreMultiplesOf blocks xs ms → AreAmong blocks ms
-multiples_among blocks [] [] h = tt
-multiples_among blocks (x ∷ xs) (m ∷ ms) h = (h.0, multiples_among blocks xs ms h.2)
-multiples_among blocks [] (m ∷ ms) h = absurd h
-multiples_among blocks (x ∷ xs) [] h = absurd h
-
 pub answered_suit : (asks : List Ask) (hs : List c.Hint) (xs : List (Hint Amount)) → Answered asks hs xs [] [] → AllSuit asks hs
 answered_suit [] [] xs h = tt
 answered_suit [] (y ∷ hs) xs h = let no : y ∷ hs ≡ [] = h.0 in absurd (cc)
 answered_suit (ask ∷ asks) [] xs h = absurd h
 answered_suit (ask ∷ asks) (y ∷ hs) [] h = absurd h
-answered_suit (ResultsOf sizes ∷ asks) (c.Let results ∷ hs) (Results qs ∷ xs) h = (stood_within sizes qs results h.0, answered_suit asks hs xs h.1)
+answered_suit (ResultsOf sizes ∷ asks) (c.Let results ∷ hs) (Results qs ∷ xs) h = (stands_within sizes qs results h.0, answered_suit asks hs xs h.1)
 answered_suit (CopiesOf size ∷ asks) (c.Share copies ∷ hs) (Copies q ∷ xs) h = (h.0.0, answered_suit asks hs xs h.1)
-answered_suit (MultiplesOf blocks ∷ asks) (c.Call multiples ∷ hs) (Multiples ms ∷ xs) h = (multiples_among blocks ms multiples h.0, answered_suit asks hs xs h.1)
+answered_suit (MultiplesOf blocks ∷ asks) (c.Call multiples ∷ hs) (Multiples ms ∷ xs) h = (are_among blocks ms multiples h.0, answered_suit asks hs xs h.1)
 answered_suit (ask ∷ asks) (y ∷ hs) (x ∷ xs) h = absurd h.0
 
 contains_more : (b k : ℕ) (bs : List ℕ) → Contains bs k → Contains (b ∷ bs) k

@@ -14,7 +14,7 @@ use Rattle.raml_syntax.specs.declared.tree.Form.TheVariants.{Arith, Compare, Jus
 use Rattle.raml_syntax.specs.declared.tree.Form.TheOpen as o
 use Rattle.raml_syntax.specs.declared.tree.Form.TheFolds.{fold-roll-Form, fold_out-Form, fold_out-Expr}
 
-term_is : (e : Expr) (f : Form) → e.form ≡ f → term_of e ≡ form_of f e.at.0
+pub term_is : (e : Expr) (f : Form) → e.form ≡ f → term_of e ≡ form_of f e.at.0
 term_is e f h = fold_out-Expr (ℕ → t.Term) t.Term form_step expr_step e ∙ ap (λ g. form_of g e.at.0) h
 
 step_place : (f : o.Form-F (ℕ → t.Term) t.Term) (p : ℕ) → place (form_step f p) ≡ p

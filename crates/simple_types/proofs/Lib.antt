@@ -1,7 +1,7 @@
-mod Same
-mod Forms
+pub mod Forms
 mod Names
 pub mod Places
+pub mod Placing
 mod Counted
 mod Tables
 mod Standing

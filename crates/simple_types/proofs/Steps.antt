@@ -6,14 +6,15 @@ use Rattle.raml_syntax.specs.Tree.{Text, Type', Integer, Boolean, PairOf, ListOf
 use Rattle.raml_syntax.specs.Types.{Context, type_at, types_of}
 use Rattle.simple_types.specs.Fault.{Fault, Wanted, Is}
 use Rattle.simple_types.specs.Walk as w
-use Rattle.simple_types.specs.Walk.{and_then, or_fault, same_type, place, distinct, arity, function_name, walk_headers}
+use Rattle.simple_types.specs.Walk.{and_then, or_fault, place, distinct, arity, function_name, walk_headers}
 use Rattle.simple_types.specs.Table as k
 use Rattle.simple_types.specs.Table.{Table, base, integer, boolean, node_at, type_of, numbered, numbered_all}
 use Rattle.simple_types.specs.Numbered as n
 use Rattle.simple_types.specs.Numbered.{Ids, Sig, Sigs, Found, id_at, or_else, signature, signed, signatures, no_sigs}
 use Rattle.simple_types.specs.declared.types.TypeId.{TypeId}
 use Rattle.simple_types.specs.declared.types.Node.TheVariants.{Int, Bool as Truth, Pair, List as ListAt, Tree, Opt}
-use Rattle.simple_types.proofs.Same.{same_self, same_is}
+use Rattle.raml_syntax.specs.SameType.{same_type}
+use Rattle.raml_syntax.proofs.SameType.{same_self, same_is}
 use Rattle.simple_types.proofs.Standing.{Stands, Good, Later, later_refl, later_then, IsNumbered, node_is, stands_type, one_place}
 
 -- the two walks end with the same fault, or with a type and its place in a later table

@@ -9,12 +9,13 @@ use Rattle.raml_syntax.specs.Eval.{find, names_of}
 use Rattle.raml_syntax.specs.Types.{Context, type_at, bind_types, types_of, Differ, Way, Finding, Checking, HasType, CheckEach, Checks, Typed}
 use Rattle.raml_syntax.specs.Node.{count}
 use Rattle.simple_types.specs.Fault.{Fault, Wanted, Is, SomeList, SomeTree, SomeOption, SomePair, Unknown, Arity}
-use Rattle.simple_types.specs.Walk.{and_then, or_fault, same_type, pair_parts, list_element, tree_element, option_content, place, distinct, settle, arity, walk, walk_each, checks, parameter_name, function_name, walk_headers, walk_bodies, walk_program}
+use Rattle.simple_types.specs.Walk.{and_then, or_fault, pair_parts, list_element, tree_element, option_content, place, distinct, settle, arity, walk, walk_each, checks, parameter_name, function_name, walk_headers, walk_bodies, walk_program}
 use Rattle.simple_types.specs.Laws.{WalksAreTypings}
 use Rattle.std.specs.Option.{IsSome}
 use Rattle.simple_types.specs.Read.{fault_of, EndsWith}
 use Rattle.simple_types.specs.declared.fault.TypeFault.{TypeFault}
-use Rattle.simple_types.proofs.Same.{same_self, same_is}
+use Rattle.raml_syntax.specs.SameType.{same_type}
+use Rattle.raml_syntax.proofs.SameType.{same_self, same_is}
 use Rattle.simple_types.proofs.Names.{distinct_differ, differ_distinct}
 
 -- the type is the one that is wanted, if one is

@@ -5,6 +5,7 @@ use Rattle.std.specs.List.{list_any}
 use Rattle.std.specs.Str.{bytes_eq}
 use Rattle.raml_syntax.specs.Tree as t
 use Rattle.raml_syntax.specs.Tree.{Text, Type', Integer, Boolean, PairOf, ListOf, TreeOf, OptionOf, Bound, Parameter, Function, Prog}
+use Rattle.raml_syntax.specs.SameType.{same_type}
 use Rattle.raml_syntax.specs.Eval.{find}
 use Rattle.raml_syntax.specs.Types.{Context, type_at, bind_types, types_of}
 use Rattle.raml_syntax.specs.Node.{count}
@@ -30,15 +31,6 @@ both first second rest = do
 abbrev pub or_fault : {A : Type 0} → Option A → Fault → Result A Fault
 or_fault (Some x) fault = Ok x
 or_fault None fault = Err fault
-
-abbrev pub same_type : Type' → Type' → Bool
-same_type Integer Integer = true
-same_type Boolean Boolean = true
-same_type (PairOf A B) (PairOf C D) = same_type A C && same_type B D
-same_type (ListOf A) (ListOf B) = same_type A B
-same_type (TreeOf A) (TreeOf B) = same_type A B
-same_type (OptionOf A) (OptionOf B) = same_type A B
-same_type _ _ = false
 
 -- the parts of a type, where it is of that kind
 abbrev pub pair_parts : Type' → Option (Type' × Type')

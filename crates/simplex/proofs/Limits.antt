@@ -1,6 +1,5 @@
 -- Where a course is cut.
-use Rattle.std.proofs.Common.{◌≡◌, sym, ap, subst, ◌∙◌, ℕ, ◌≤◌, ℤ, pos, ◌≤ℤ◌, ◌<ℤ◌, arith, List, [], ◌∷◌, length, Option, Some, None, unwrap_or, Result, Ok, Err, IfOk, ◌↔◌}
-use Rattle.std.proofs.lemmas.Int.{ints}
+use Rattle.std.proofs.Common.{◌≡◌, sym, ap, subst, ◌∙◌, ℕ, ◌≤◌, pos, ◌≤ℤ◌, arith, List, [], ◌∷◌, length, Option, Some, None, Result, Ok, Err, IfOk, ◌↔◌}
 use Rattle.std.specs.declared.alloc.AllocError.{AllocError}
 use Rattle.linear_rows.specs.Systems.{LinearSystem, IsSystem}
 use Rattle.simplex_spec.specs.Places as places
@@ -8,23 +7,15 @@ use Rattle.simplex_spec.specs.Places.{row_at}
 use Rattle.simplex_spec.specs.Tableaux.{Tableau, opening, pivot, entry, Exits}
 use Rattle.simplex_spec.specs.Refusals.{Refused, least_number}
 use Rattle.simplex_spec.specs.Courses.{Rule, Enters, IsPivot, Leads, Course, Ends, Rises, Follows, FollowsFrom, Answers, AnswersOnce, RisesBy, Refuses, AtOpening, AtPivot}
-use Rattle.simplex_spec.proofs.Ending.{Good, good_opening, good_pivot, good_course, one_row_exits}
+use Rattle.simplex_spec.proofs.Ending.{Good, good_opening, good_pivot, one_row_exits}
+use Rattle.simplex_spec.proofs.Paths.{low_high, one_answer, over_positive}
 use Rattle.simplex.specs.declared.answer.Answer.{Answer}
 use Rattle.simplex.specs.declared.answer.Within.{Within}
 use Rattle.simplex.specs.declared.answer.Within.TheVariants.{Answered, Cut}
 use Rattle.simplex.specs.Solving.{SaysNone, Bounds, IsCut, IsWithin, SaysCut, CutsBy, UpTo, Below}
 use Rattle.simplex.proofs.Agreement.{none_where_risen}
 
-some_is : (a b : ℕ) → Some a ≡ Some b → a ≡ b
-some_is a b e = ap (λ (o : Option ℕ). unwrap_or o 0) e
-
-low_high : (z : ℤ) → z ≤ℤ pos 0 → pos 0 <ℤ z → ⊥
-low_high z h k = omega (arith, ints)
-
 module _ (rule : Rule) (once : AnswersOnce rule) (s : LinearSystem) where
-  one_answer : (t : Tableau) (c e : ℕ) → pos 0 <ℤ t.over → Answers rule s t c → Answers rule s t e → c ≡ e
-  one_answer t c e p a b = some_is c e (once _ _ _ _ p a b)
-
   -- no course by the rule goes on after one that stops
   none_longer : (v : Tableau) (ps qs : List (ℕ × ℕ)) (t u : Tableau) → Good s v → Leads s v ps t → FollowsFrom rule s v ps → ((l c : ℕ) → IsPivot s t l c → Answers rule s t c → ⊥) → Leads s v qs u → FollowsFrom rule s v qs
       → (length qs ≤ length ps) × (length ps ≤ length qs → t ≡ u)
@@ -32,7 +23,7 @@ module _ (rule : Rule) (once : AnswersOnce rule) (s : LinearSystem) where
   none_longer v [] ((m, e) ∷ qs) t u g h f stops k j = absurd (stops m e (subst (λ (w : Tableau). IsPivot s w m e) h k.0) (subst (λ (w : Tableau). Answers rule s w e) h j.0))
   none_longer v ((l, c) ∷ ps) [] t u g h f stops k j = (omega arith, λ e. absurd (omega arith))
   none_longer v ((l, c) ∷ ps) ((m, e) ∷ qs) t u g h f stops k j =
-      let a : c ≡ e = one_answer v c e g.sound.positive f.0 j.0 in
+      let a : c ≡ e = one_answer rule once s v c e g.sound.positive f.0 j.0 in
       let b : l ≡ m = one_row_exits s v c l m g h.0.exits (subst (λ (z : ℕ). Exits s z v m) (sym a) k.0.exits) in
       let k' : Leads s (pivot l c v) qs u = rw (a, b) k.1 in
       let j' : FollowsFrom rule s (pivot l c v) qs = rw (a, b) j.1 in
@@ -51,9 +42,6 @@ module _ (rule : Rule) (once : AnswersOnce rule) (s : LinearSystem) where
       let count = b.cut.count in
       omega arith
 
-  over_positive : (ps : List (ℕ × ℕ)) (t : Tableau) → IsSystem s → Course s ps t → pos 0 <ℤ t.over
-  over_positive ps t h course = let g = good_course s ps t h course in g.sound.positive
-
   -- where the course stops at the limit, it is cut there
   stops_there : (ps : List (ℕ × ℕ)) (t : Tableau) (most : Option ℕ) → IsSystem s → Course s ps t → Follows rule s ps → ((l c : ℕ) → IsPivot s t l c → Answers rule s t c → ⊥) → UpTo most (length ps) → (b : CutsBy rule s most) → t ≡ b.cut.t
   stops_there ps t most h course f stops up b =
@@ -70,7 +58,7 @@ module _ (rule : Rule) (once : AnswersOnce rule) (s : LinearSystem) where
   -- no row bounds the rule's column where the course rises
   none_bounds : (ps : List (ℕ × ℕ)) (t : Tableau) (e c i : ℕ) → IsSystem s → Rises s ps t e → Answers rule s t e → Answers rule s t c → Bounds t c i → ⊥
   none_bounds ps t e c i h r answers a bounds =
-      let same : c ≡ e = one_answer t c e (over_positive ps t h r.course) a answers in
+      let same : c ≡ e = one_answer rule once s t c e (over_positive rule once s ps t h r.course) a answers in
       low_high (places.at (row_at t.rows i) c) (subst (λ (k : ℕ). places.at (row_at t.rows i) k ≤ℤ pos 0) (sym same) (r.none i bounds.inside)) bounds.positive
 
   pub rise_not_cut : (ps : List (ℕ × ℕ)) (t : Tableau) (e : ℕ) (most : Option ℕ) → IsSystem s → Rises s ps t e → Follows rule s ps → Answers rule s t e → UpTo most (length ps) → CutsBy rule s most → ⊥
@@ -81,7 +69,7 @@ module _ (rule : Rule) (once : AnswersOnce rule) (s : LinearSystem) where
   pub refusal_not_cut : (ps : List (ℕ × ℕ)) (i k : ℕ) (most : Option ℕ) → IsSystem s → Refuses rule s ps i k → Below most (length ps) → CutsBy rule s most → ⊥
   refusal_not_cut ps i k most h (AtOpening n o) below b = b.cut.course.opens i k o
   refusal_not_cut ps i k most h (AtPivot t e course f enters answers r) below b =
-      stops_before ps t most h course f (λ l c p a. p.whole i k (subst (λ (z : ℕ). Refused s t z i k) (sym (one_answer t c e (over_positive ps t h course) a answers)) r)) below b
+      stops_before ps t most h course f (λ l c p a. p.whole i k (subst (λ (z : ℕ). Refused s t z i k) (sym (one_answer rule once s t c e (over_positive rule once s ps t h course) a answers)) r)) below b
 
 pub opening_not_cut : (rule : Rule) (s : LinearSystem) (i k : ℕ) (most : Option ℕ) → entry (opening s) i k ≡ least_number → CutsBy rule s most → ⊥
 opening_not_cut rule s i k most o b = b.cut.course.opens i k o

@@ -1,10 +1,12 @@
 -- A row that is made column by column.
-use Rattle.std.proofs.Common.{◌*ℤ◌, ◌≡◌, ◌≢◌, refl, sym, ap, subst, ◌∙◌, ℕ, zero, suc, ◌+◌, ◌-◌, ◌<◌, ◌≤◌, ◌==◌, false, ℤ, pos, arith, List, [], ◌∷◌, ◌++◌, length, map, get_or, slice_set, take, Result, Ok, Err, OnOk, IsErrAnd, ◌⊎◌, inl, inr}
+use Rattle.std.proofs.Common.{◌*ℤ◌, ◌≡◌, ◌≢◌, refl, sym, ap, subst, ◌∙◌, ℕ, zero, suc, ◌+◌, ◌-◌, ◌<◌, ◌≤◌, ℤ, pos, arith, List, [], ◌∷◌, ◌++◌, length, map, get_or, slice_set, take, Result, Ok, Err, OnOk, IsErrAnd, ◌⊎◌, inl, inr}
+use Rattle.std.proofs.lemmas.List.{length-map}
 use Rattle.frac128.specs.declared.Frac.{Frac}
 use Rattle.frac128.specs.Nought.{nought}
 use Rattle.frac128.specs.Values.{numerator, denominator}
 use Rattle.simplex_rows.specs.Entries.{Entries, at, EndsBefore}
 use Rattle.simplex_rows.specs.Sweeping.{AddsWhole}
+use Rattle.simplex_rows.proofs.Appending.{none_from, before_up_to}
 use Rattle.linear_rows.specs.Terms.{Terms, SparseRow, coefficient, unknown_at, number_at, IsSparse}
 use Rattle.linear_rows.proofs.Places.{coefficient_at as coefficient_of}
 use Rattle.simplex_spec.specs.Places as places
@@ -13,7 +15,7 @@ use Rattle.linear_rows.specs.Systems.{LinearSystem, AllBelow}
 use lib.ListN.{length-append}
 use Rattle.simplex_spec.specs.Tableaux.{right, opening_row, opening, entry}
 use Rattle.simplex_spec.specs.Refusals.{least_number}
-use Rattle.simplex_spec.proofs.Opening.{coefficients, at_slack, at_right, only_here, only_there, at-front, length-map, length-opening_row, length-opened, row_opened, value_at_slack}
+use Rattle.simplex_spec.proofs.Opening.{coefficients, at_slack, at_right, only_here, only_there, at-front, length-opening_row, length-opened, row_opened, value_at_slack}
 use Rattle.simplex.specs.Standing.{Stands, RowStands, RowsStand, entries_at}
 use Rattle.simplex.proofs.Steps.{entry_in, entry_last}
 use Rattle.simplex.proofs.Lifting.{stands_with}
@@ -46,14 +48,6 @@ pub coefficient_at : (u : ℕ) (rows : List SparseRow) (j : ℕ) (d : SparseRow)
 coefficient_at u [] j d h e = absurd (omega arith)
 coefficient_at u (r ∷ rows) zero d h e = ap (λ (row : SparseRow). coefficient u row.terms) e
 coefficient_at u (r ∷ rows) (suc j) d h e = coefficient_at u rows j d (omega arith) e
-
--- nothing stands past the last column
-none_from : (c k : ℕ) (es : Entries) → EndsBefore c es → c ≤ k → at k es ≡ nought
-none_from c k [] e h = refl
-none_from c k (d ∷ es) e h =
-    let l = e.0 in
-    let t : (d.0 == k) ≡ false = grind (arith, nat_tests) in
-    rw t (none_from c k es e.1 h)
 
 -- a row has no number past its end
 past : (xs : List ℤ) (c : ℕ) → length xs ≤ c → places.at xs c ≡ pos 0
@@ -91,17 +85,13 @@ module _ (s : LinearSystem) (i : ℕ) (inside : i < s.unknowns) (es one new : En
             (stands_still b (length s.rows + i) (λ q. omega arith)
             (whole_stands (at (length s.rows + i) one) (places.at (opening_row s i) (length s.rows + i)) (a.num ∙ sym (at_slack s i i inside ∙ only_here s.unknowns i (pos 1) inside)) a.den))
         | inr n ↦ elim (front_or_back c (length s.rows)) [
-          | inl h ↦ unchanged c n m (subst (λ (z : ℤ). Stands (pos 1) z (at c es)) (sym (at-front (coefficients s i) _ c (let l = length-map (λ (row : SparseRow). coefficient i row.terms) s.rows in omega arith))) (o.each c h))
+          | inl h ↦ unchanged c n m (subst (λ (z : ℤ). Stands (pos 1) z (at c es)) (sym (at-front (coefficients s i) _ c (let l = length-map s.rows (λ (row : SparseRow). coefficient i row.terms) in omega arith))) (o.each c h))
           | inr h ↦ unchanged c n m (subst (Stands (pos 1) (places.at (opening_row s i) c)) (sym (none_from (length s.rows) c es o.before (let e = h.1 in omega arith)))
               (subst (λ (z : ℤ). Stands (pos 1) z nought) (sym (ap (places.at (opening_row s i)) h.1 ∙ no_slack h.0 (λ e. n (h.1 ∙ ap (λ (z : ℕ). length s.rows + z) e)) (λ e. m (h.1 ∙ ap (λ (z : ℕ). length s.rows + z) e)))) nought_stands))
         ]
       ]
     ];
   }
-
-pub ends_later : (c k : ℕ) (es : Entries) → EndsBefore c es → c ≤ k → EndsBefore k es
-ends_later c k [] e h = tt
-ends_later c k (d ∷ es) e h = (let l = e.0 in omega arith, ends_later c k es e.1 h)
 
 -- rows without numbers
 empty_appended : (rows : List Entries) → ((i : ℕ) → entries_at rows i ≡ []) → (i : ℕ) → entries_at (rows ++ [] ∷ []) i ≡ []
@@ -171,7 +161,7 @@ pub no_term : (c : ℕ) (rows : List Entries) → ((i : ℕ) → i < length rows
 no_term c rows h = record {
   count = refl;
   added = λ i q. no_number c (entries_at rows i) (h i q);
-  before = λ i q. ends_later c (c + 1) (entries_at rows i) (h i q) (omega arith);
+  before = λ i q. before_up_to c (c + 1) (entries_at rows i) (h i q) (omega arith);
   kept = λ i e. refl;
 }
 
@@ -264,7 +254,7 @@ rows_open k s rows g o = record {
 
 -- where a number of the opening leaves the range
 pub coefficient_leaves : (s : LinearSystem) (i c : ℕ) → c < length s.rows → OpeningLeaves (coefficients s i) c → OpeningLeaves (opening_row s i) c
-coefficient_leaves s i c h o = record { is = at-front (coefficients s i) _ c (let l = length-map (λ (row : SparseRow). coefficient i row.terms) s.rows in omega arith) ∙ o.is }
+coefficient_leaves s i c h o = record { is = at-front (coefficients s i) _ c (let l = length-map s.rows (λ (row : SparseRow). coefficient i row.terms) in omega arith) ∙ o.is }
 
 pub weight_leaves : (s : LinearSystem) (i c : ℕ) → c ≡ right s → places.at s.weights i ≡ least_number → OpeningLeaves (opening_row s i) c
 weight_leaves s i c e h = record { is = ap (places.at (opening_row s i)) e ∙ at_right s i ∙ h }
@@ -273,7 +263,7 @@ pub row_leaves : (s : LinearSystem) (i j c : ℕ) → i < s.unknowns → j ≡ i
 row_leaves s i j c h e o = ap (λ (z : ℕ). entry (opening s) z c) e ∙ entry_in (opening s) i c (let l = length-opened s in omega arith) ∙ ap (λ (ns : List ℤ). places.at ns c) (row_opened s i h) ∙ o.is
 
 pub gains_leave : (s : LinearSystem) (i c : ℕ) → i ≡ s.unknowns → c < length s.rows → OpeningLeaves (map (λ row. row.right) s.rows) c → entry (opening s) i c ≡ least_number
-gains_leave s i c e h o = entry_last (opening s) i c (e ∙ sym (length-opened s)) ∙ at-front (map (λ (row : SparseRow). row.right) s.rows) _ c (let l = length-map (λ (row : SparseRow). row.right) s.rows in omega arith) ∙ o.is
+gains_leave s i c e h o = entry_last (opening s) i c (e ∙ sym (length-opened s)) ∙ at-front (map (λ (row : SparseRow). row.right) s.rows) _ c (let l = length-map s.rows (λ (row : SparseRow). row.right) in omega arith) ∙ o.is
 
 -- the right sides
 pub at_take : (xs : List ℤ) (n i : ℕ) → i < n → places.at (take n xs) i ≡ places.at xs i
@@ -290,7 +280,7 @@ right_at (r ∷ rows) (suc j) d h e = right_at rows j d (omega arith) e
 -- the gains after the right sides are 0
 gains_at : (s : LinearSystem) (c : ℕ) → places.at (opening s).gains c ≡ places.at (map (λ row. row.right) s.rows) c
 gains_at s c =
-    let long = length-map (λ (row : SparseRow). row.right) s.rows in
+    let long = length-map s.rows (λ (row : SparseRow). row.right) in
     elim (front_or_back c (length s.rows)) [
       | inl h ↦ at-front (map (λ (row : SparseRow). row.right) s.rows) _ c (omega arith)
       | inr h ↦ ap (places.at (opening s).gains) h.1 ∙ value_at_slack s h.0 ∙ sym (past (map (λ (row : SparseRow). row.right) s.rows) c (let e = h.1 in omega arith))
@@ -304,7 +294,7 @@ gains_open s es o = record {
   each = λ c. rw (gains_at s c) (elim (front_or_back c (length s.rows)) [
     | inl l ↦ o.each c l
     | inr g ↦
-        let long = length-map (λ (row : SparseRow). row.right) s.rows in
+        let long = length-map s.rows (λ (row : SparseRow). row.right) in
         let e = g.1 in
         rw (none_from (length s.rows) c es o.before (omega arith), past (map (λ row. row.right) s.rows) c (omega arith)) (record { is = refl })
   ]);

@@ -1,5 +1,6 @@
 -- Solutions, dual solutions and vectors that refute, as they are read from a table.
 use Rattle.std.proofs.Common.{◌≡◌, ◌≢◌, refl, sym, ap, subst, ◌∙◌, ℕ, zero, suc, ◌+◌, ◌-◌, ◌^◌, ◌<◌, ℤ, pos, neg_ℤ, ◌+ℤ◌, ◌*ℤ◌, ◌<ℤ◌, arith, List, [], ◌∷◌, ◌++◌, length, map, ◌⊎◌, inl, inr}
+use Rattle.std.proofs.lemmas.List.{length-map}
 use Rattle.std.proofs.lemmas.Int.{ints}
 use Rattle.raml_num.proofs.Differences.{diffs, diff-pos, is_diff, diff_same}
 use Rattle.frac128.specs.declared.Frac.{Frac}
@@ -12,7 +13,7 @@ use Rattle.simplex_spec.specs.Places.{row_at, at_each, column, counted, only, sp
 use Rattle.simplex_spec.specs.Places as places
 use Rattle.simplex_spec.specs.Tableaux.{Tableau, right, opening, solution, dual, ray}
 use Rattle.simplex_spec.proofs.Rows.{at-zeros, length-column}
-use Rattle.simplex_spec.proofs.Opening.{length-only, only_here, only_there, length-map, length-counted}
+use Rattle.simplex_spec.proofs.Opening.{length-only, only_here, only_there, length-counted}
 use Rattle.simplex_spec.proofs.Reading.{length-spread}
 use Rattle.linear_rows.proofs.Duality.{least}
 use Rattle.linear_rows.proofs.Proportions.{agree as proportional}
@@ -107,8 +108,8 @@ at-neg (n ∷ ns) (suc i) = at-neg ns i
 
 pub neg_over : (d : ℤ) (ns : List ℤ) (xs ys : List Frac) → AreOver d ns xs → HaveParts (length xs) (λ i. neg_ℤ (numerator (frac_at xs i))) (λ i. denominator (frac_at xs i)) ys → AreOver d (map neg_ℤ ns) ys
 neg_over d ns xs ys o h = record {
-  count = h.count ∙ o.count ∙ sym (length-map neg_ℤ ns);
-  each = λ i q. let q' : i < length ns = (let l = length-map neg_ℤ ns in omega arith) in let q'' : i < length xs = (let l = o.count in omega arith) in
+  count = h.count ∙ o.count ∙ sym (length-map ns neg_ℤ);
+  each = λ i q. let q' : i < length ns = (let l = length-map ns neg_ℤ in omega arith) in let q'' : i < length xs = (let l = o.count in omega arith) in
       subst (λ (z : ℤ). Stands d z (frac_at ys i)) (sym (at-neg ns i)) (neg_stands d (places.at ns i) (frac_at xs i) (frac_at ys i) (h.nums i q'') (h.dens i q'') (o.each i q'));
 }
 
@@ -129,7 +130,7 @@ at-column c (r ∷ rows) (suc i) h = at-column c rows i (omega arith)
 
 pub counted_over : (d : ℤ) (ns : List ℤ) (es : Entries) (k n : ℕ) (xs : List Frac) → RowStands d ns es → HaveParts n (λ i. neg_ℤ (numerator (at (k + i) es))) (λ i. denominator (at (k + i) es)) xs → AreOver d (map neg_ℤ (at_each ns (counted k n))) xs
 counted_over d ns es k n xs r h =
-    let l : length (map neg_ℤ (at_each ns (counted k n))) ≡ n = length-map neg_ℤ (at_each ns (counted k n)) ∙ length-at_each ns (counted k n) ∙ length-counted k n in
+    let l : length (map neg_ℤ (at_each ns (counted k n))) ≡ n = length-map (at_each ns (counted k n)) neg_ℤ ∙ length-at_each ns (counted k n) ∙ length-counted k n in
     record {
       count = h.count ∙ sym l;
       each = λ i q. let q' : i < n = omega arith in
@@ -204,7 +205,7 @@ module _ (s : LinearSystem) (system : IsSystem s) (pivots : List (ℕ × ℕ)) (
       → HaveParts (length xs) (λ i. neg_ℤ (numerator (frac_at xs i))) (λ i. denominator (frac_at xs i)) ns → numerator one ≡ pos 1 → denominator one ≡ 1
       → IsSpreadTo (length (c ∷ basis)) (length s.rows) (c ∷ basis) (one ∷ ns) ys → AreOver t.over (ray s c t) ys
   reads_ray c xs ns one ys p h k e f w = subst (λ (bs : List ℕ). AreOver t.over (spread (length s.rows) (c ∷ bs) (t.over ∷ map neg_ℤ (column c t.rows))) ys) (sym after.basis_is)
-      (spread_over t.over (length s.rows) (c ∷ basis) (t.over ∷ map neg_ℤ (column c t.rows)) (one ∷ ns) ys (still_once c p) (ap suc (length-map neg_ℤ (column c t.rows) ∙ length-column c t.rows ∙ sym long))
+      (spread_over t.over (length s.rows) (c ∷ basis) (t.over ∷ map neg_ℤ (column c t.rows)) (one ∷ ns) ys (still_once c p) (ap suc (length-map (column c t.rows) neg_ℤ ∙ length-column c t.rows ∙ sym long))
       (first_over t.over (map neg_ℤ (column c t.rows)) one ns e f (neg_over t.over (column c t.rows) xs ns (column_over t rows c xs after.stand.rows_stand h) k)) w)
     where
       whole_stands : (d : ℤ) (x : Frac) → numerator x ≡ pos 1 → denominator x ≡ 1 → Stands d d x

@@ -1,5 +1,6 @@
 -- What is told of fractions is an answer, by the rule that is named.
 use Rattle.std.proofs.Common.{◌≡◌, ◌<◌, ℕ, ℤ, pos, ◌*ℤ◌, ◌<ℤ◌, List, [], ◌∷◌, ◌++◌, slice_index_or, Option, refl, sym, ◌∙◌, subst, arith}
+use Rattle.std.proofs.lemmas.List.{length-map}
 use Rattle.std.proofs.lemmas.Int.{ints}
 use Rattle.std.specs.Prelude.{Result, Ok, Err, IfOk, IfErr, IsErrAnd}
 use lib.IntN.{negsuc}
@@ -21,7 +22,7 @@ use Rattle.simplex_checked.specs.Wholes.{AreLeast, AreRefuting, AreTaken, EntryL
 use Rattle.simplex_checked.specs.Outcomes.{NoOutcome}
 use Rattle.simplex_checked.specs.Answers.{IsSolution, IsAnswer, Stops}
 use Rattle.simplex_checked.specs.Alone.{OfSolution, OfVector, IsAlone, StopsAlone}
-use Rattle.simplex_checked.proofs.Joining.{length_map, over_parts, both_natural}
+use Rattle.simplex_checked.proofs.Joining.{over_parts, both_natural}
 
 -- By a function of the gains that answers as the rule does
 
@@ -117,7 +118,7 @@ module _ (law : LeastDenominators) (rule : Rule) (s : LinearSystem) (ps : List (
       follows = h.follows;
       whole = subst (AreLeastWholes h.t.over (solution s h.t ++ dual s h.t) l) (over_parts l x y)
           (law h.t.over (solution s h.t ++ dual s h.t) (x ++ y) both l taken.denominator.is);
-      unknowns = length_map (over l) x ∙ h.x_is.count ∙ proof.solves.one_each;
+      unknowns = length-map x (over l) ∙ h.x_is.count ∙ proof.solves.one_each;
     };
     denominator = taken.denominator.fits;
     numbers = subst (λ ns. (i : ℕ) → slice_index_or ns i 0 < most) (over_parts l x y) taken.numbers;

@@ -1,5 +1,6 @@
 -- Two lists of fractions over one number, one behind the other.
 use Rattle.std.proofs.Common.{◌≡◌, ◌<◌, ◌+◌, ℕ, zero, suc, ℤ, pos, ◌*ℤ◌, List, [], ◌∷◌, ◌++◌, map, length, take, drop, refl, sym, ap, ◌∙◌, arith}
+use Rattle.std.proofs.lemmas.List.{length-map, map-append}
 use Rattle.raml_num.specs.Sums.{NoneNegative}
 use Rattle.linear_rows.specs.Vectors.{scale}
 use Rattle.linear_rows.specs.Laws.{InProportion}
@@ -9,18 +10,6 @@ use Rattle.simplex.specs.Standing.{Stands}
 use Rattle.simplex.specs.Reading.{AreOver, frac_at}
 use Rattle.simplex_integers.specs.Denominators.{over, all_over}
 use Rattle.simplex_integers.specs.Laws.{AreNatural}
-
-pub length_map : {X Y : Type 0} (f : X → Y) (xs : List X) → length (map f xs) ≡ length xs
-length_map f [] = refl
-length_map f (x ∷ xs) = ap suc (length_map f xs)
-
-pub map_both : {X Y : Type 0} (f : X → Y) (xs ys : List X) → map f (xs ++ ys) ≡ map f xs ++ map f ys
-map_both f [] ys = refl
-map_both f (x ∷ xs) ys = ap (λ zs. f x ∷ zs) (map_both f xs ys)
-
-pub length_both : {X : Type 0} (xs ys : List X) → length (xs ++ ys) ≡ length xs + length ys
-length_both [] ys = omega arith
-length_both (x ∷ xs) ys = let e = length_both xs ys in omega (arith, e)
 
 pub take_first : {X : Type 0} (xs ys : List X) (n : ℕ) → n ≡ length xs → take n (xs ++ ys) ≡ xs
 take_first [] ys zero e = refl
@@ -82,14 +71,14 @@ both_natural d xs ys x y h k = record { positive = h.positive; natural = natural
 
 -- numbers over l are those of both parts
 pub over_parts : (l : ℕ) (x y : List Frac) → all_over l (x ++ y) ≡ all_over l x ++ all_over l y
-over_parts l x y = map_both (over l) x y
+over_parts l x y = map-append (over l) x y
 
 -- and both are in proportion where all are
 pub parts_are : (d : ℤ) (l : ℕ) (xs ys : List ℤ) (x y : List Frac) → length x ≡ length xs → InProportion d (pos l) (xs ++ ys) (map pos (all_over l (x ++ y))) →
     InProportion d (pos l) xs (map pos (all_over l x)) × InProportion d (pos l) ys (map pos (all_over l y))
 parts_are d l xs ys x y e h =
-    let numbers = ap (map pos) (over_parts l x y) ∙ map_both pos (all_over l x) (all_over l y) in
+    let numbers = ap (map pos) (over_parts l x y) ∙ map-append pos (all_over l x) (all_over l y) in
     let count : length (scale (pos l) xs) ≡ length (scale d (map pos (all_over l x))) =
-    length_scale (pos l) xs ∙ sym e ∙ sym (length_map (over l) x) ∙ sym (length_map pos (all_over l x)) ∙ sym (length_scale d (map pos (all_over l x))) in
+    length_scale (pos l) xs ∙ sym e ∙ sym (length-map x (over l)) ∙ sym (length-map (all_over l x) pos) ∙ sym (length_scale d (map pos (all_over l x))) in
     split (scale (pos l) xs) (scale (pos l) ys) (scale d (map pos (all_over l x))) (scale d (map pos (all_over l y))) count
     (sym (scale_both (pos l) xs ys) ∙ h ∙ ap (scale d) numbers ∙ scale_both d (map pos (all_over l x)) (map pos (all_over l y)))

@@ -1,5 +1,6 @@
 -- Numbers that fit over some denominator leave at no entry.
 use Rattle.std.proofs.Common.{◌≡◌, ◌≤◌, ◌<◌, ◌*◌, ◌^◌, ℕ, zero, suc, ℤ, pos, ◌*ℤ◌, ◌<ℤ◌, List, [], ◌∷◌, ◌++◌, map, take, drop, length, slice_index_or, refl, sym, ap, ◌∙◌, subst, arith}
+use Rattle.std.proofs.lemmas.List.{length-map, map-append, length-append}
 use Rattle.std.proofs.lemmas.Int.{ints}
 use Rattle.raml_num.proofs.Differences.{diffs, diff-pos, is_diff, diff_same}
 use Rattle.raml_num.proofs.Signed.{cancelled}
@@ -13,7 +14,7 @@ use Rattle.simplex_integers.specs.Wholes.{most, AreWholes, ScaleLeaves, InDenomi
 use Rattle.simplex_integers.specs.Denominators.{denominators, IsDenominator, DenominatorLeaves, over, all_over, NumberLeaves}
 use Rattle.simplex_integers.specs.Laws.{AreNatural, LeastDenominators, RefusedEntriesLeave}
 use Rattle.simplex_checked.specs.Wholes.{AreLeast, AreRefuting, AreTaken, HaveWholes}
-use Rattle.simplex_checked.proofs.Joining.{length_map, map_both, length_both, take_first, drop_first, over_parts, both_natural, parts_are}
+use Rattle.simplex_checked.proofs.Joining.{take_first, drop_first, over_parts, both_natural, parts_are}
 
 -- the same front of both lists
 take_scale : (t : ℤ) (ns : List ℤ) (n : ℕ) → scale t (take n ns) ≡ take n (scale t ns)
@@ -98,10 +99,10 @@ positive_pos t h = omega (arith, ints)
 -- numbers of both, and those in front
 
 both_numbers : (l : ℕ) (x y : List Frac) (numbers : List ℤ) → numbers ≡ map pos (all_over l (x ++ y)) → numbers ≡ map pos (all_over l x) ++ map pos (all_over l y)
-both_numbers l x y numbers e = e ∙ ap (map pos) (over_parts l x y) ∙ map_both pos (all_over l x) (all_over l y)
+both_numbers l x y numbers e = e ∙ ap (map pos) (over_parts l x y) ∙ map-append pos (all_over l x) (all_over l y)
 
 count_numbers : (l : ℕ) (x : List Frac) → length x ≡ length (map pos (all_over l x))
-count_numbers l x = sym (length_map (over l) x) ∙ sym (length_map pos (all_over l x))
+count_numbers l x = sym (length-map x (over l)) ∙ sym (length-map (all_over l x) pos)
 
 pub front_is : (l : ℕ) (x y : List Frac) (numbers front : List ℤ) → numbers ≡ map pos (all_over l (x ++ y)) → front ≡ take (length x) numbers → front ≡ map pos (all_over l x)
 front_is l x y numbers front e p =
@@ -118,7 +119,7 @@ module _ (s : LinearSystem) (x y : List Frac) (h : AreLeast s x y) where
 
   pub few_both : right s < 2 ^ 32 → (both : List Frac) → both ≡ x ++ y → length both < 2 ^ 32
   few_both low both e =
-      let all = ap length e ∙ length_both x y in
+      let all = ap length e ∙ length-append x y in
       let columns = h.x_are.count ∙ h.proves.solves.one_each in
       let rows = h.y_are.count ∙ h.proves.dual.one_each in
       omega (arith, low, all, columns, rows)
@@ -126,7 +127,7 @@ module _ (s : LinearSystem) (x y : List Frac) (h : AreLeast s x y) where
   pub few_first : right s < 2 ^ 32 → length x < 2 ^ 32
   few_first low =
       let all = few_both low (x ++ y) refl in
-      let both = length_both x y in
+      let both = length-append x y in
       omega (arith, all, both)
 
   module _ (law : LeastDenominators) (l : ℕ) (taken : AreTaken (x ++ y) l) where

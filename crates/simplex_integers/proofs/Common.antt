@@ -1,5 +1,7 @@
 -- Common multiples of lists.
 use Rattle.std.proofs.Common.{rules, FitsSigned, ◌≡◌, ◌≤◌, ◌<◌, ◌+◌, ◌*◌, ◌/◌, ℕ, zero, suc, ℤ, pos, List, [], ◌∷◌, ◌++◌, map, take, length, slice_index_or, refl, sym, ap, ◌∙◌, subst, arith}
+use Rattle.std.proofs.Math.Seq.{take-length}
+use Rattle.std.proofs.lemmas.List.{length-map}
 use Rattle.std.specs.Int.{w128}
 use Rattle.std.proofs.lemmas.Nat.Gcd.{dvd_refl, dvd_trans, le_of_dvd}
 use Rattle.std.proofs.Math.Nat.{one-dvd, dvd-mul_right, dvd-mul_left, eq-zero_of_zero-dvd}
@@ -64,14 +66,6 @@ take_next f [] k d l = absurd (omega (arith, l))
 take_next f (x ∷ xs) zero d l = refl
 take_next f (x ∷ xs) (suc k) d l = ap (λ ys. f x ∷ ys) (take_next f xs k d (omega (arith, l)))
 
-pub length_map : {X Y : Type 0} (f : X → Y) (xs : List X) → length (map f xs) ≡ length xs
-length_map f [] = refl
-length_map f (x ∷ xs) = ap suc (length_map f xs)
-
-pub take_all : {X : Type 0} (xs : List X) → take (length xs) xs ≡ xs
-take_all [] = refl
-take_all (x ∷ xs) = ap (λ ys. x ∷ ys) (take_all xs)
-
 -- there is a least common multiple of two positive numbers
 some_lcm : (a n : ℕ) → 0 < n → (m : ℕ) × IsLcm a n m
 some_lcm a n pn = let g = through (a + n) a n 1 1 (omega arith) (one-dvd (a * 1)) (one-dvd (n * 1)) in (a / g.0 * n, is_lcm a n g.0 pn g.1)
@@ -110,14 +104,14 @@ one_more fs k l m d inside h n = subst (λ i. IsDenominator (take i (denominator
 pub leaves_at : (fs : List Frac) (k l : ℕ) (d : Frac) → k < length fs → IsDenominator (take k (denominators fs)) l → NoNext l (denominator (slice_index_or fs k d)) →
     DenominatorLeaves (denominators fs) k
 leaves_at fs k l d inside h n = record {
-  inside = (let c = length_map denominator fs in omega (arith, c, inside));
+  inside = (let c = length-map fs denominator in omega (arith, c, inside));
   before = l;
   is = h;
   leaves = λ m g. n m g.positive (lcm_last (take k (denominators fs)) (denominator (slice_index_or fs k d)) l m h.is (subst (λ ns. IsLcmOf ns m) (take_next denominator fs k d inside) g));
 }
 
 pub all_of : (fs : List Frac) (k l : ℕ) → k ≡ length fs → IsDenominator (take k (denominators fs)) l → IsDenominator (denominators fs) l
-all_of fs k l e h = subst (λ ns. IsDenominator ns l) ((λ i. take ((e ∙ sym (length_map denominator fs)) i) (denominators fs)) ∙ take_all (denominators fs)) h
+all_of fs k l e h = subst (λ ns. IsDenominator ns l) ((λ i. take ((e ∙ sym (length-map fs denominator)) i) (denominators fs)) ∙ take-length (denominators fs)) h
 
 -- Numbers
 
@@ -163,7 +157,7 @@ number_leaves fs l k d inside h high = record {
     before (x ∷ xs) (suc k) (suc i) q = before xs k i (omega (arith, q))
 
 pub numbers_all : (fs : List Frac) (l k : ℕ) → k ≡ length fs → take k (all_over l fs) ≡ all_over l fs
-numbers_all fs l k e = (λ i. take ((e ∙ sym (length_map (over l) fs)) i) (all_over l fs)) ∙ take_all (all_over l fs)
+numbers_all fs l k e = (λ i. take ((e ∙ sym (length-map fs (over l))) i) (all_over l fs)) ∙ take-length (all_over l fs)
 
 pub number_fits : (n : ℕ) (z : ℤ) → IsNumber n z → FitsSigned w128 z
 number_fits n z h = subst (FitsSigned w128) (sym h.is) (let l = h.fits in search rules)

@@ -1,5 +1,6 @@
 -- The least denominator that serves is the least common multiple.
 use Rattle.std.proofs.Common.{◌≡◌, ◌<◌, ◌/◌, ◌*◌, ℕ, zero, suc, ℤ, pos, ◌*ℤ◌, ◌≤ℤ◌, ◌<ℤ◌, List, [], ◌∷◌, map, take, length, refl, sym, ap, ◌∙◌, subst, arith}
+use Rattle.std.proofs.lemmas.List.{length-map}
 use Rattle.std.proofs.lemmas.Int.{ints}
 use Rattle.std.specs.Int.RustNames.{unsigned_abs}
 use Rattle.std.proofs.lemmas.Nat.Gcd.{le_of_dvd}
@@ -19,7 +20,7 @@ use Rattle.simplex.specs.Reading.{frac_at, AreOver}
 use Rattle.simplex_integers.specs.Wholes.{AreLeastWholes, InDenominator, InNumber}
 use Rattle.simplex_integers.specs.Denominators.{EachDivides, IsLcmOf, denominators, over, all_over}
 use Rattle.simplex_integers.specs.Laws.{AreNatural, LeastDenominators, RefusedEntriesLeave}
-use Rattle.simplex_integers.proofs.Common.{length_map, next_lcm}
+use Rattle.simplex_integers.proofs.Common.{next_lcm}
 
 -- Fractions over a number, one by one
 
@@ -151,7 +152,7 @@ pub refused_entries_leave : RefusedEntriesLeave
 refused_entries_leave = record {
   denominator = λ d ns fs h entry r.
       let count = h.are.count in
-      let same = length_map denominator fs in
+      let same = length-map fs denominator in
       let inside = r.inside in
       let m = next_lcm fs entry r.before inside r.is.is in
       InDenominator (omega (arith, count, same, inside)) m.0 r.before _ _ (first_wholes d ns fs (suc entry) h m.0 m.1) (r.leaves m.0 m.1) (first_wholes d ns fs entry h r.before r.is.is) r.is.fits;

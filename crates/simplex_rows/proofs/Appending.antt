@@ -14,7 +14,7 @@ pub append_sparse : (b c : ℕ) (x : Frac) (es : Entries) → SparseFrom b es �
 append_sparse b c x [] s e l n = (l, n, tt)
 append_sparse b c x (d ∷ es) s e l n = (s.0, s.1, append_sparse (suc d.0) c x es s.2 e.1 (let h = e.0 in omega arith) n)
 
-none_from : (c k : ℕ) (es : Entries) → EndsBefore c es → c ≤ k → at k es ≡ nought
+pub none_from : (c k : ℕ) (es : Entries) → EndsBefore c es → c ≤ k → at k es ≡ nought
 none_from c k [] e h = refl
 none_from c k (d ∷ es) e h =
     let l = e.0 in

@@ -9,7 +9,7 @@ mod FewMerging
 mod FewCombining
 mod Divisors
 mod FewDividing
-mod Appending
+pub mod Appending
 mod Walking
 mod Quotients
 mod Products

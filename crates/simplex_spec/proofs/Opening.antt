@@ -1,5 +1,6 @@
 -- The opening tableau is sound.
 use Rattle.std.proofs.Common.{◌≡◌, refl, sym, ap, subst, ◌∙◌, ℕ, zero, suc, ◌+◌, ◌<◌, ◌≤◌, ◌≢◌, ℤ, pos, ◌*ℤ◌, ◌≤ℤ◌, arith, List, [], ◌∷◌, ◌++◌, length, map, inl, inr}
+use Rattle.std.proofs.lemmas.List.{length-map}
 use Rattle.std.proofs.lemmas.Int.{ints, by_lt_z}
 use Rattle.raml_num.specs.Sums.{NoneNegative}
 use lib.ListN.{length-append}
@@ -22,10 +23,6 @@ pub at-back : (xs ys : List ℤ) (c i : ℕ) → c ≡ length xs + i → at (xs 
 at-back [] ys c i e = ap (at ys) (let q : c ≡ i = omega arith in q)
 at-back (x ∷ xs) ys zero i e = absurd (omega arith)
 at-back (x ∷ xs) ys (suc c) i e = at-back xs ys c i (omega arith)
-
-pub length-map : {X Y : Type 0} (f : X → Y) (xs : List X) → length (map f xs) ≡ length xs
-length-map f [] = refl
-length-map f (x ∷ xs) = omega (arith, length-map f xs)
 
 pub length-counted : (k n : ℕ) → length (counted k n) ≡ n
 length-counted k zero = refl
@@ -121,30 +118,30 @@ module _ (s : LinearSystem) where
   length-opening_row i =
       let a = length-append (coefficients i) (only s.unknowns i (pos 1) ++ at s.weights i ∷ []) in
       let b = length-append (only s.unknowns i (pos 1)) (at s.weights i ∷ []) in
-      omega (arith, length-map (λ (row : SparseRow). coefficient i row.terms) s.rows, length-only s.unknowns i (pos 1))
+      omega (arith, length-map s.rows (λ (row : SparseRow). coefficient i row.terms), length-only s.unknowns i (pos 1))
 
   pub length-values : length values ≡ width
   length-values =
       let a = length-append (right_sides s) (zeros s.unknowns ++ pos 0 ∷ []) in
       let b = length-append (zeros s.unknowns) (pos 0 ∷ []) in
-      omega (arith, length-map (λ (row : SparseRow). row.right) s.rows, length-zeros s.unknowns)
+      omega (arith, length-map s.rows (λ (row : SparseRow). row.right), length-zeros s.unknowns)
 
   -- its number at a slack, and at the right side
   pub at_slack : (i j : ℕ) → j < s.unknowns → at (opening_row s i) (length s.rows + j) ≡ at (only s.unknowns i (pos 1)) j
   at_slack i j h =
-      let l : length (coefficients i) ≡ length s.rows = length-map (λ (row : SparseRow). coefficient i row.terms) s.rows in
+      let l : length (coefficients i) ≡ length s.rows = length-map s.rows (λ (row : SparseRow). coefficient i row.terms) in
       let m = length-only s.unknowns i (pos 1) in
       at-back (coefficients i) _ (length s.rows + j) j (omega arith) ∙ at-front (only s.unknowns i (pos 1)) (at s.weights i ∷ []) j (omega arith)
 
   pub at_right : (i : ℕ) → at (opening_row s i) (right s) ≡ at s.weights i
   at_right i =
-      let l : length (coefficients i) ≡ length s.rows = length-map (λ (row : SparseRow). coefficient i row.terms) s.rows in
+      let l : length (coefficients i) ≡ length s.rows = length-map s.rows (λ (row : SparseRow). coefficient i row.terms) in
       let m = length-only s.unknowns i (pos 1) in
       at-back (coefficients i) _ (right s) s.unknowns (omega arith) ∙ at-back (only s.unknowns i (pos 1)) (at s.weights i ∷ []) s.unknowns 0 (omega arith)
 
   pub value_at_slack : (j : ℕ) → at values (length s.rows + j) ≡ pos 0
   value_at_slack j =
-      at-back (right_sides s) _ (length s.rows + j) j (let l = length-map (λ (row : SparseRow). row.right) s.rows in omega arith) ∙ zeros_on s.unknowns j
+      at-back (right_sides s) _ (length s.rows + j) j (let l = length-map s.rows (λ (row : SparseRow). row.right) in omega arith) ∙ zeros_on s.unknowns j
     where
       zeros_on : (n j : ℕ) → at (zeros n ++ pos 0 ∷ []) j ≡ pos 0
       zeros_on zero zero = refl
@@ -162,7 +159,7 @@ module _ (s : LinearSystem) where
   wide_opened = wide-mapped width (opening_row s) 0 s.unknowns length-opening_row
 
   pub length-opened : length opened ≡ s.unknowns
-  length-opened = length-map (opening_row s) (counted 0 s.unknowns) ∙ length-counted 0 s.unknowns
+  length-opened = length-map (counted 0 s.unknowns) (opening_row s) ∙ length-counted 0 s.unknowns
 
   pub row_opened : (i : ℕ) → i < s.unknowns → row_at opened i ≡ opening_row s i
   row_opened i h = row_at-mapped (opening_row s) 0 s.unknowns i h ∙ ap (opening_row s) (let e : 0 + i ≡ i = omega arith in e)

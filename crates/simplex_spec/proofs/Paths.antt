@@ -12,7 +12,7 @@ use Rattle.simplex_spec.specs.Laws.{OneCourse}
 some_is : (a b : ℕ) → Some a ≡ Some b → a ≡ b
 some_is a b e = ap (λ (o : Option ℕ). unwrap_or o 0) e
 
-low_high : (z : ℤ) → z ≤ℤ pos 0 → pos 0 <ℤ z → ⊥
+pub low_high : (z : ℤ) → z ≤ℤ pos 0 → pos 0 <ℤ z → ⊥
 low_high z h k = omega (arith, ints)
 
 module _ (rule : Rule) (once : AnswersOnce rule) (s : LinearSystem) where
@@ -20,10 +20,10 @@ module _ (rule : Rule) (once : AnswersOnce rule) (s : LinearSystem) where
   Stops : Tableau → Type 0
   Stops t = (l c : ℕ) → IsPivot s t l c → Answers rule s t c → ⊥
 
-  over_positive : (ps : List (ℕ × ℕ)) (t : Tableau) → IsSystem s → Course s ps t → pos 0 <ℤ t.over
+  pub over_positive : (ps : List (ℕ × ℕ)) (t : Tableau) → IsSystem s → Course s ps t → pos 0 <ℤ t.over
   over_positive ps t h k = let g = good_course s ps t h k in g.sound.positive
 
-  one_answer : (t : Tableau) (c e : ℕ) → pos 0 <ℤ t.over → Answers rule s t c → Answers rule s t e → c ≡ e
+  pub one_answer : (t : Tableau) (c e : ℕ) → pos 0 <ℤ t.over → Answers rule s t c → Answers rule s t e → c ≡ e
   one_answer t c e p a b = some_is c e (once _ _ _ _ p a b)
 
   end_stops : (ps : List (ℕ × ℕ)) (t : Tableau) → Ends s ps t → Stops t

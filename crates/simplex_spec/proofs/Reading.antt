@@ -1,5 +1,6 @@
 -- What an end of a course tells of the system.
 use Rattle.std.proofs.Common.{◌≡◌, refl, sym, ap, ◌∙◌, ℕ, zero, suc, ◌+◌, ◌<◌, ℤ, pos, neg_ℤ, ◌+ℤ◌, ◌*ℤ◌, ◌≤ℤ◌, ◌<ℤ◌, arith, List, [], ◌∷◌, ◌++◌, length, map, ◌⊎◌, inl, inr}
+use Rattle.std.proofs.lemmas.List.{length-map}
 use Rattle.std.proofs.lemmas.Int.{ints}
 use lib.IntN.{*ℤ_comm}
 use Rattle.raml_num.specs.Sums.{NoneNegative}
@@ -13,7 +14,7 @@ use Rattle.linear_rows.proofs.Duality.{all_wide}
 use Rattle.simplex_spec.specs.Places.{at, row_at, at_each, column, counted, only, spread}
 use Rattle.simplex_spec.specs.Tableaux.{Tableau, right, slacks, opening_row, solution, dual, ray}
 use Rattle.simplex_spec.proofs.Rows.{at-mix, at-scale, at-column, length-at_each, length-column, at-zeros, wide_at}
-use Rattle.simplex_spec.proofs.Opening.{width, opened, values, coefficients, at-front, at-back, length-map, length-counted, length-only, dot-only, at_right, value_at_slack, wide_opened, length-opened, column-mapped, natural_at, one_of}
+use Rattle.simplex_spec.proofs.Opening.{width, opened, values, coefficients, at-front, at-back, length-counted, length-only, dot-only, at_right, value_at_slack, wide_opened, length-opened, column-mapped, natural_at, one_of}
 use Rattle.simplex_spec.proofs.Invariant.{LexPositive}
 use Rattle.simplex_spec.proofs.Ending.{Good}
 
@@ -172,7 +173,7 @@ module _ (s : LinearSystem) (h : IsSystem s) (t : Tableau) (g : Good s t) where
   natural_back i = natural-append (only s.unknowns i (pos 1)) (at s.weights i ∷ []) (natural-only s.unknowns i (pos 1) (omega (arith, ints))) (natural_at s.weights i h.natural, tt)
 
   length-coefficients : (i : ℕ) → length (coefficients s i) ≡ length s.rows
-  length-coefficients i = length-map (λ (row : SparseRow). coefficient i row.terms) s.rows
+  length-coefficients i = length-map s.rows (λ (row : SparseRow). coefficient i row.terms)
 
   -- what a vector gives at an unknown
   at-vector : (y : List ℤ) (i : ℕ) → i < s.unknowns → at (mix s.unknowns y (matrix s)) i ≡ dot y (coefficients s i)
@@ -183,7 +184,7 @@ module _ (s : LinearSystem) (h : IsSystem s) (t : Tableau) (g : Good s t) where
 
   -- the values at and past the slacks are 0
   back_is_zero : (i : ℕ) → at (zeros s.unknowns ++ pos 0 ∷ []) i ≡ pos 0
-  back_is_zero i = sym (at-back (right_sides s) (zeros s.unknowns ++ pos 0 ∷ []) (length s.rows + i) i (let l = length-map (λ (row : SparseRow). row.right) s.rows in omega arith)) ∙ value_at_slack s i
+  back_is_zero i = sym (at-back (right_sides s) (zeros s.unknowns ++ pos 0 ∷ []) (length s.rows + i) i (let l = length-map s.rows (λ (row : SparseRow). row.right) in omega arith)) ∙ value_at_slack s i
 
   no_right : at (values s) (right s) ≡ pos 0
   no_right = value_at_slack s s.unknowns
@@ -195,7 +196,7 @@ module _ (s : LinearSystem) (h : IsSystem s) (t : Tableau) (g : Good s t) where
       column-mapped (right s) (opening_row s) 0 s.unknowns i i' ∙ ap (λ (m : ℕ). at (opening_row s m) (right s)) (let z : 0 + i ≡ i = omega arith in z) ∙ at_right s i)
 
   length-matrix : length (matrix s) ≡ length s.rows
-  length-matrix = length-map (λ (row : SparseRow). numbers_from 0 s.unknowns row.terms) s.rows
+  length-matrix = length-map s.rows (λ (row : SparseRow). numbers_from 0 s.unknowns row.terms)
 
   column_row : (j : ℕ) → j < length s.rows → column j (opened s) ≡ row_at (matrix s) j
   column_row j q = same_lists _ _ (length-column j (opened s) ∙ length-opened s ∙ sym (wide_at s.unknowns j (matrix s) (all_wide s.unknowns s.rows) (let m = length-matrix in omega arith))) (λ i p.
@@ -232,7 +233,7 @@ module _ (s : LinearSystem) (h : IsSystem s) (t : Tableau) (g : Good s t) where
       let z : t.over *ℤ at (values s) (right s) ≡ t.over *ℤ pos 0 = ap (λ (z : ℤ). t.over *ℤ z) no_right in
       let zero : t.over *ℤ pos 0 ≡ pos 0 = omega (arith, ints) in
       let y : dot (dual s t) (right_sides s) ≡ dot (at_each (values s) t.basis) (column (right s) t.rows) =
-      spread_same (length s.rows) (right_sides s) (zeros s.unknowns ++ pos 0 ∷ []) t.basis (column (right s) t.rows) (length-map (λ (row : SparseRow). row.right) s.rows) back_is_zero in
+      spread_same (length s.rows) (right_sides s) (zeros s.unknowns ++ pos 0 ∷ []) t.basis (column (right s) t.rows) (length-map s.rows (λ (row : SparseRow). row.right)) back_is_zero in
       let x : dot s.weights (solution s t) ≡ neg_ℤ (dot s.weights (at_each t.gains (slacks s))) = dot-neg s.weights (at_each t.gains (slacks s)) in
       let c : dot (at_each t.gains (slacks s)) (column (right s) (opened s)) ≡ dot s.weights (at_each t.gains (slacks s)) = ap (dot (at_each t.gains (slacks s))) column_right ∙ dot-comm (at_each t.gains (slacks s)) s.weights in
       omega (arith, ints)
@@ -255,9 +256,9 @@ module _ (s : LinearSystem) (h : IsSystem s) (t : Tableau) (g : Good s t) where
         rw (at-slacks i i') (none (length s.rows + i) (omega arith)))
 
     pub solution_rows : AtMost (scale t.over (right_sides s)) (times (matrix s) (solution s t))
-    solution_rows = at_most _ _ (length-scale t.over (right_sides s) ∙ length-map (λ (row : SparseRow). row.right) s.rows ∙ sym (length-times (matrix s) (solution s t) ∙ length-matrix)) (λ j q.
+    solution_rows = at_most _ _ (length-scale t.over (right_sides s) ∙ length-map s.rows (λ (row : SparseRow). row.right) ∙ sym (length-times (matrix s) (solution s t) ∙ length-matrix)) (λ j q.
         let l = length-scale t.over (right_sides s) in
-        let l2 = length-map (λ (row : SparseRow). row.right) s.rows in
+        let l2 = length-map s.rows (λ (row : SparseRow). row.right) in
         let m = length-matrix in
         let j' : j < length s.rows = omega arith in
         let a : at (scale t.over (right_sides s)) j ≡ t.over *ℤ at (right_sides s) j = at-scale t.over (right_sides s) j in
@@ -272,7 +273,7 @@ module _ (s : LinearSystem) (h : IsSystem s) (t : Tableau) (g : Good s t) where
     pub proves_least : ProvesLeast s (solution s t) (dual s t) t.over
     proves_least = record {
       positive = g.sound.positive;
-      solves = record { one_each = length-map neg_ℤ (at_each t.gains (slacks s)) ∙ length-slacks; natural = solution_natural; rows = solution_rows };
+      solves = record { one_each = length-map (at_each t.gains (slacks s)) neg_ℤ ∙ length-slacks; natural = solution_natural; rows = solution_rows };
       dual = record { one_each = length-spread (length s.rows) t.basis (column (right s) t.rows); natural = natural-spread (length s.rows) t.basis (column (right s) t.rows) right_natural; columns = dual_columns };
       equal = equal_sums;
     }
@@ -305,6 +306,6 @@ module _ (s : LinearSystem) (h : IsSystem s) (t : Tableau) (g : Good s t) where
           let e : dot (at_each (values s) t.basis) (map neg_ℤ (column c t.rows)) ≡ neg_ℤ (dot (at_each (values s) t.basis) (column c t.rows)) = dot-neg _ (column c t.rows) in
           let m : at (values s) c *ℤ t.over ≡ t.over *ℤ at (values s) c = *ℤ_comm (at (values s) c) t.over in
           let y : dot (ray s c t) (right_sides s) ≡ at (values s) c *ℤ t.over +ℤ dot (at_each (values s) t.basis) (map neg_ℤ (column c t.rows)) =
-          spread_same (length s.rows) (right_sides s) (zeros s.unknowns ++ pos 0 ∷ []) (c ∷ t.basis) (t.over ∷ map neg_ℤ (column c t.rows)) (length-map (λ (row : SparseRow). row.right) s.rows) back_is_zero in
+          spread_same (length s.rows) (right_sides s) (zeros s.unknowns ++ pos 0 ∷ []) (c ∷ t.basis) (t.over ∷ map neg_ℤ (column c t.rows)) (length-map s.rows (λ (row : SparseRow). row.right)) back_is_zero in
           omega (arith, ints);
     }

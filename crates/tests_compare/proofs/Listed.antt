@@ -1,31 +1,19 @@
 -- Terms of the tuples of a context.
-use Rattle.std.proofs.Common.{◌≡◌, ◌≤◌, ◌<◌, ◌^◌, ℕ, zero, suc, ℤ, ◌≤ℤ◌, pos, Bool, true, false, List, [], ◌∷◌, map, length, All, refl, sym, ap, ◌∙◌, subst, arith}
+use Rattle.std.proofs.Common.{◌≡◌, ◌≤◌, ◌<◌, ◌^◌, ℕ, zero, suc, ℤ, ◌≤ℤ◌, pos, false, List, [], ◌∷◌, map, length, All, refl, sym, ◌∙◌, subst, arith}
 use Rattle.std.specs.List.{AllByRecursion, IsDistinct}
-use Rattle.std.specs.declared.cmp.Ordering.TheVariants.{Less, Greater}
-use Rattle.std.specs.Ordering.{ordering_reverse}
 use Rattle.raml_syntax.specs.Tree.{Type'}
 use Rattle.std.proofs.lemmas.Int.{ints}
 use Rattle.base_poly.specs.Plain.{Plain, Unit', End, Then, degrees, alike}
 use Rattle.base_poly.specs.Indices.{AreIndices, IsBefore, Ascends, tuple_order, index_list}
 use Rattle.base_poly.specs.Poly.{AreTerms}
-use Rattle.base_poly.specs.Total.{tuple_total, alike_is}
 use Rattle.base_poly.proofs.Exact.{exact, each_listed}
+use Rattle.base_poly.proofs.Ordered.{differ}
 
 -- what holds of the tuples holds of those of terms
 by_tuple : (P : List Plain → Type 0) (ts : List (List Plain × ℤ)) → All P (map (λ (t : List Plain × ℤ). t.0) ts) → All (λ (t : List Plain × ℤ). P t.0) ts
 by_tuple P [] h k d below = absurd (omega (arith, below))
 by_tuple P (t ∷ ts) h zero d below = h 0 t.0 (omega arith)
 by_tuple P (t ∷ ts) h (suc k) d below = by_tuple P ts (λ j e less. h (suc j) e (omega (arith, less))) k d (omega (arith, below))
-
-differ : (t u : List Plain) → tuple_order t u ≡ Less → alike t u ≡ false
-differ t u less = by (alike t u) refl
-  where
-    never : tuple_order t t ≡ Less → ⊥
-    never e = let turned : Less ≡ Greater = sym e ∙ tuple_total.antisymm t t ∙ ap ordering_reverse e in cc
-
-    by : (b : Bool) → alike t u ≡ b → alike t u ≡ false
-    by true e = absurd (never (ap (tuple_order t) (alike_is t u e) ∙ less))
-    by false e = e
 
 apart : (t : List Plain) (ts : List (List Plain)) → IsBefore tuple_order t ts → AllByRecursion (λ u. alike t u ≡ false) ts
 apart t [] h = tt

@@ -1,5 +1,6 @@
 -- The numbers of all tuples of a context, in order.
 use Rattle.std.proofs.Common.{◌≡◌, ℕ, zero, suc, ◌+◌, ◌-◌, ◌≤◌, inl, inr, Bool, true, false, not, cond, nat_lt, List, [], ◌∷◌, ◌++◌, map, flat_map, take, drop, length, slice_get, None, Some, refl, sym, ap, ◌∙◌, subst, arith}
+use Rattle.std.proofs.Math.Seq.{take-append_seam, drop-append_seam}
 use Rattle.std.proofs.lemmas.List.{length-map, map-append}
 use Rattle.std.specs.List.{position_or_len}
 use Rattle.std.specs.declared.cmp.Ordering.TheVariants.{Less}
@@ -122,22 +123,12 @@ as_many [] d (i ∷ t) h = absurd h
 as_many (A ∷ As) d [] h = absurd h
 as_many (A ∷ As) d (i ∷ t) h = ap suc (as_many As d t h.1)
 
-take_all : (ns rest : List ℕ) → take (length ns) (ns ++ rest) ≡ ns
-take_all [] [] = refl
-take_all [] (n ∷ rest) = refl
-take_all (n ∷ ns) rest = ap (λ l. n ∷ l) (take_all ns rest)
-
-drop_all : (ns rest : List ℕ) → drop (length ns) (ns ++ rest) ≡ rest
-drop_all [] [] = refl
-drop_all [] (n ∷ rest) = refl
-drop_all (n ∷ ns) rest = drop_all ns rest
-
 cut_flat : (rows : List (List ℕ)) (width : ℕ) → ((ns : List ℕ) → Among ns rows → length ns ≡ width) → cut (length rows) width (flat rows) ≡ rows
 cut_flat [] width long = refl
 cut_flat (ns ∷ rows) width long =
     let same = long ns (inl refl) in
     (λ i. take (sym same i) (ns ++ flat rows) ∷ cut (length rows) width (drop (sym same i) (ns ++ flat rows)))
-    ∙ (λ i. take_all ns (flat rows) i ∷ cut (length rows) width (drop_all ns (flat rows) i))
+    ∙ (λ i. take-append_seam ns (flat rows) i ∷ cut (length rows) width (drop-append_seam ns (flat rows) i))
     ∙ ap (λ l. ns ∷ l) (cut_flat rows width (λ ms m. long ms (inr m)))
 
 mapped : {X Y : Type 0} (f : X → Y) (P : Y → Type 0) (xs : List X) → ((x : X) → Among x xs → P (f x)) → (y : Y) → Among y (map f xs) → P y

@@ -1,5 +1,5 @@
 -- A tuple stands where its numbers tell.
-use Rattle.std.proofs.Common.{◌≡◌, ℕ, zero, suc, ◌+◌, ◌-◌, ◌≤◌, ◌<◌, ◌⊎◌, inl, inr, Bool, true, false, not, cond, nat_lt, List, [], ◌∷◌, ◌++◌, map, flat_map, take, length, position, slice_get, slice_index_or, Option, None, Some, option_map, refl, sym, ap, ◌∙◌, subst, arith, length-append}
+use Rattle.std.proofs.Common.{◌≡◌, ℕ, zero, suc, ◌+◌, ◌-◌, ◌≤◌, ◌<◌, ◌⊎◌, inl, inr, Bool, true, false, not, cond, nat_lt, List, [], ◌∷◌, map, flat_map, take, length, position, slice_get, slice_index_or, Option, None, Some, option_map, refl, sym, ap, ◌∙◌, subst, arith, length-append}
 use Rattle.std.proofs.lemmas.Option.{slice_get-map}
 use Rattle.std.proofs.lemmas.Bool.Decides.{nat_tests}
 use Rattle.std.proofs.lemmas.List.Quantifiers.{position-Some}
@@ -13,7 +13,7 @@ use Rattle.base_poly.proofs.Among.{Among, among_contains}
 use Rattle.base_poly.proofs.Exact.{exact, sound_tuples, whole_tuples}
 use Rattle.index_shift.specs.Tables.{fits, listed}
 use Rattle.index_shift.proofs.Exactly.{exactly, behind_one, many_behind, ahead, lower, in_two}
-use Rattle.index_shift.proofs.Spots.{get_part, counts_behind, places_are_counted}
+use Rattle.index_shift.proofs.Spots.{counts_behind, get_two, places_are_counted}
 use Rattle.index_shift.proofs.Steps.{listed_at}
 use Rattle.index_shift.proofs.Tabled.{all_lower}
 use Rattle.index_shift.proofs.Shorter.{back_few}
@@ -111,22 +111,6 @@ absent (t ∷ ts) x never = by (alike x t) refl (absent ts x (λ m. never (inr m
     by : (b : Bool) → alike x t ≡ b → position_or_len (alike x) ts ≡ length ts → cond (not (alike x t)) (1 + position_or_len (alike x) ts) 0 ≡ length (t ∷ ts)
     by true e more = absurd (never (inl (sym (alike_is x t e))))
     by false e more = (λ i. cond (not (e i)) (1 + position_or_len (alike x) ts) 0) ∙ next (position_or_len (alike x) ts) ∙ ap suc more
-
--- the tuple x of As before the tuple u of exactly degree r
-get_two : (As Bs : List Type') (d : ℕ) (x : List Plain) (k r : ℕ) (u : List Plain) (y : ℕ) → degrees x + r ≤ d → slice_get (tuples_up_to As d) k ≡ Some x → slice_get (exactly Bs r) y ≡ Some u →
-    slice_get (exactly (As ++ Bs) (degrees x + r)) (ahead (many_behind Bs (degrees x + r)) (tuples_up_to As d) k + y) ≡ Some (x ++ u)
-get_two As Bs d x k r u y low at_k at_y =
-    ap (λ l. slice_get l (ahead (many_behind Bs (degrees x + r)) (tuples_up_to As d) k + y)) (in_two As Bs (degrees x + r) d low)
-    ∙ get_part (behind_one Bs (degrees x + r)) (many_behind Bs (degrees x + r)) (counts_behind Bs (degrees x + r)) (tuples_up_to As d) k y x (x ++ u) at_k
-    (ap (λ b. slice_get (cond b [] (map (λ u. x ++ u) (exactly Bs (degrees x + r - degrees x)))) y) enough
-    ∙ ap (λ n. slice_get (map (λ u. x ++ u) (exactly Bs n)) y) left
-    ∙ slice_get-map (λ u. x ++ u) (exactly Bs r) y ∙ ap (option_map (λ u. x ++ u)) at_y)
-  where
-    enough : nat_lt (degrees x + r) (degrees x) ≡ false
-    enough = grind (arith, nat_tests)
-
-    left : degrees x + r - degrees x ≡ r
-    left = omega arith
 
 -- Where the r-th tuple of exactly its degree stands among all
 spot_is : (As : List Type') (d r : ℕ) (t : List Plain) → degrees t ≤ d → slice_get (exactly As (degrees t)) r ≡ Some t →

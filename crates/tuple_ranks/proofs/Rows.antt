@@ -1,11 +1,9 @@
 -- Rows of numbers, one after the other.
-use Rattle.std.proofs.Common.{◌≡◌, ◌≤◌, ◌<◌, ℕ, zero, suc, ◌+◌, ◌-◌, Bool, true, false, cond, min, List, [], ◌∷◌, ◌++◌, map, take, drop, length, slice_get, refl, sym, ap, ◌∙◌, arith, append_assoc, append-nil, length-append}
+use Rattle.std.proofs.Common.{◌≡◌, ◌≤◌, ◌<◌, ℕ, zero, suc, ◌+◌, ◌-◌, Bool, true, false, cond, min, List, [], ◌∷◌, ◌++◌, map, take, drop, length, slice_get, refl, sym, ap, ◌∙◌, arith, append_assoc, append-nil}
 use Rattle.std.proofs.lemmas.List.{length-map, map-append}
 use Rattle.raml_syntax.specs.Tree.{Type'}
-use Rattle.base_poly.specs.Plain.{Plain, deg}
 use Rattle.base_poly.specs.Indices.{indices_up_to, tuples_up_to, index_list}
 use Rattle.base_poly.proofs.Graded.{as_many}
-use Rattle.base_poly.proofs.Longer.{joined}
 use Rattle.base_poly.proofs.Sized.{as_long_as_rests}
 use Rattle.tuple_ranks.specs.Columns.{Table, sizes, sizes_in, columns, table, table_by, lower_count, up_to}
 use Rattle.tuple_ranks.specs.Numbers.{numbers, all_numbered, flat, cut, table_rows, all_rows}
@@ -14,6 +12,7 @@ use Rattle.tuple_ranks.specs.Spots.{IsLarge, all_counts}
 use Rattle.std.specs.List.{range_with_len}
 use Rattle.index_shift.specs.Contexts.{marked_items, other_items}
 use Rattle.index_shift.specs.Tables.{listed}
+use Rattle.index_shift.proofs.Shorter.{more_rests}
 use Rattle.index_shift.proofs.Steps.{listed_at}
 use Rattle.tuple_ranks.proofs.Picked.{marked_half, other_half}
 use Rattle.tuple_ranks.proofs.Ranked.{up_to_is}
@@ -123,16 +122,6 @@ counts_are t pss As d is e =
     one = omega arith
 
 -- Some variables of a context have no more tuples than all
-
-more_rests : (f g : ℕ → List (List Plain)) (d : ℕ) (is : List Plain) → ((k : ℕ) → length (f k) ≤ length (g k)) → length (joined f ◌∷◌ d is) ≤ length (joined g ◌∷◌ d is)
-more_rests f g d [] h = omega arith
-more_rests f g d (i ∷ is) h =
-    let a = length-append (map (λ r. i ∷ r) (f (d - deg i))) (joined f ◌∷◌ d is) in
-    let b = length-append (map (λ r. i ∷ r) (g (d - deg i))) (joined g ◌∷◌ d is) in
-    let c = length-map (f (d - deg i)) (λ r. i ∷ r) in
-    let e = length-map (g (d - deg i)) (λ r. i ∷ r) in
-    let one = h (d - deg i) in
-    let more = more_rests f g d is h in omega (arith, a, b, c, e, one, more)
 
 half_few : (w : Bool) (marks : List Bool) (k : ℕ) (As : List Type') (d : ℕ) → length (tuples_up_to (half_items w marks k As) d) ≤ length (tuples_up_to As d)
 half_few w marks k [] d = omega arith

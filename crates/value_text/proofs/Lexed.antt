@@ -1,5 +1,6 @@
 -- Tokens one after the other.
 use Rattle.std.proofs.Common.{◌≡◌, ◌≤◌, ◌<◌, ◌+◌, ◌-◌, ℕ, zero, suc, [], ◌∷◌, length, take, drop, get_or, Bool, true, false, refl, sym, ap, subst, ◌∙◌, arith, pos, neg_ℤ}
+use Rattle.std.proofs.Math.Seq.{take-length}
 use Rattle.std.proofs.lemmas.Int.{ints}
 use Rattle.std.specs.Prelude.{if◌then◌else◌, ◌==◌, codes, bytes_eq, nat_lt, nat_le}
 use Rattle.std.specs.List.{prefix_len}
@@ -100,11 +101,7 @@ begun_sane c s = go (is_lower c) (is_digit c) (c == 45)
 -- CODE
 
 take_all : (n : ℕ) (s : Text) → n ≡ length s → take n s ≡ s
-take_all n s e = ap (λ n. take n s) e ∙ go s
-  where
-    go : (s : Text) → take (length s) s ≡ s
-    go [] = refl
-    go (c ∷ s) = ap (λ t. c ∷ t) (go s)
+take_all n s e = ap (λ n. take n s) e ∙ take-length s
 
 pub cut : (s : Text) → 1 ≤ length s → s ≡ get_or s 0 0 ∷ take (length s - 1) (drop 1 s)
 cut [] le = absurd (omega (arith, le))

@@ -1,5 +1,6 @@
 -- What the functions that take tokens return.
 use Rattle.std.proofs.Common.{◌≡◌, ◌≢◌, ◌≤◌, ◌<◌, ◌+◌, ℕ, suc, List, [], ◌∷◌, ◌++◌, length, map, refl, sym, ap, subst, ◌∙◌, arith, Result, Ok, Err, IfOk, take, drop, get_or, ◌-◌}
+use Rattle.std.proofs.Math.Seq.{take-length}
 use Rattle.std.specs.Borrow.{Bor}
 use Rattle.std.specs.declared.alloc.AllocError.{AllocError}
 use Rattle.raml_syntax.specs.Tree.{Type'}
@@ -63,12 +64,8 @@ pub types_cut : (ts : List Ty) (x : Ty) → 1 ≤ length ts → x ≡ get_or ts 
 types_cut [] x le e = absurd (omega (arith, le))
 types_cut (y ∷ ts) x le e = (λ i. ty_of (sym e i) ∷ map ty_of (sym (take_all (length (y ∷ ts) - 1) ts (omega arith)) i))
   where
-    all : (ts : List Ty) → take (length ts) ts ≡ ts
-    all [] = refl
-    all (x ∷ ts) = ap (λ l. x ∷ l) (all ts)
-
     take_all : (n : ℕ) (ts : List Ty) → n ≡ length ts → take n ts ≡ ts
-    take_all n ts e = ap (λ n. take n ts) e ∙ all ts
+    take_all n ts e = ap (λ n. take n ts) e ∙ take-length ts
 
 pub types_none : (ts : List Ty) → length ts < 1 → map ty_of ts ≡ []
 types_none [] le = refl

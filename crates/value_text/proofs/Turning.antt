@@ -1,5 +1,5 @@
 -- Goals that are met as far as they go.
-use Rattle.std.proofs.Common.{◌≡◌, ◌+◌, ℕ, suc, List, [], ◌∷◌, length, refl, sym, ap, subst, arith}
+use Rattle.std.proofs.Common.{◌≡◌, ◌≤◌, ◌+◌, ℕ, suc, List, [], ◌∷◌, length, refl, sym, ap, subst, arith}
 use Rattle.raml_syntax.specs.Tree.{Type', Text}
 use Rattle.raml_syntax.specs.Value.{Value}
 use Rattle.value_text.specs.declared.goal.Goal as d
@@ -11,9 +11,9 @@ use Rattle.value_text.specs.declared.fault.Stop.TheVariants as f
 use Rattle.value_text.specs.declared.token.Token as n
 use Rattle.value_text.specs.Spelling.{Token, spell_more, sizes}
 use Rattle.value_text.specs.Lexing.{Placed, placed, kinds, left_of}
-use Rattle.value_text.specs.Goals.{Goal, Value', First, Tail, Sign', More, Pair, Node, Just, Stops, FitAll, paired, noded, justed}
+use Rattle.value_text.specs.Goals.{Goal, Value', First, Tail, Sign', More, Pair, Node, Just, Moves, Stops, FitAll, paired, noded, justed}
 use Rattle.value_text.specs.Tokens.{token_of, IsNext}
-use Rattle.value_text.specs.State.{TakesToken, goal_of, Takes, Taken, Turned, Fails}
+use Rattle.value_text.specs.State.{TakesToken, goal_of, owed, Takes, Taken, Turned, Fails}
 use Rattle.value_text.proofs.Moves.{pair_moves, node_moves, just_moves}
 use Rattle.value_text.proofs.Stops.{value_stops_end, first_stops_end, tail_stops, sign_stops}
 
@@ -32,50 +32,27 @@ sizes_justed : (V : List Value) → sizes (justed V) ≡ suc (sizes V)
 sizes_justed [] = refl
 sizes_justed (x ∷ V) = omega arith
 
-pub pair_turned : (goal : d.Goal) (G : List Goal) (V V' : List Value) (s : List Placed) (n : ℕ) → goal ≡ o.Pair → FitAll (goal_of goal ∷ G) → V' ≡ paired V → Turned (goal_of goal) G V s n G V' s n
-pair_turned goal G V V' s n at fits e =
-    let z = sizes_paired V in
-    subst (λ g. Turned (goal_of g) G V s n G V' s n) (sym at) (subst (λ V'. Turned Pair G V s n G V' s n) (sym e) (record {
+-- a goal that makes one value of those in front, and takes no token
+made_turned : (goal : d.Goal) (g : Goal) (G : List Goal) (V V' W : List Value) (s : List Placed) (n : ℕ) → goal_of goal ≡ g → Moves (g ∷ G) V [] G W → sizes W ≤ owed g + sizes V →
+    FitAll (goal_of goal ∷ G) → V' ≡ W → Turned (goal_of goal) G V s n G V' s n
+made_turned goal g G V V' W s n at moves few fits e =
+    subst (λ g. Turned g G V s n G V' s n) (sym at) (subst (λ V'. Turned g G V s n G V' s n) (sym e) (record {
       taken = [];
       split = refl;
-      moves = pair_moves G V;
+      moves = moves;
       fits = fits.1;
-      cost = omega (arith, z);
+      cost = omega (arith, few);
       less = omega arith;
     }))
+
+pub pair_turned : (goal : d.Goal) (G : List Goal) (V V' : List Value) (s : List Placed) (n : ℕ) → goal ≡ o.Pair → FitAll (goal_of goal ∷ G) → V' ≡ paired V → Turned (goal_of goal) G V s n G V' s n
+pair_turned goal G V V' s n at fits e = made_turned goal Pair G V V' (paired V) s n (ap goal_of at) (pair_moves G V) (let z = sizes_paired V in omega (arith, z)) fits e
 
 pub node_turned : (goal : d.Goal) (G : List Goal) (V V' : List Value) (s : List Placed) (n : ℕ) → goal ≡ o.Node → FitAll (goal_of goal ∷ G) → V' ≡ noded V → Turned (goal_of goal) G V s n G V' s n
-node_turned goal G V V' s n at fits e =
-    let z = sizes_noded V in
-    subst (λ g. Turned (goal_of g) G V s n G V' s n) (sym at) (subst (λ V'. Turned Node G V s n G V' s n) (sym e) (record {
-      taken = [];
-      split = refl;
-      moves = node_moves G V;
-      fits = fits.1;
-      cost = omega (arith, z);
-      less = omega arith;
-    }))
+node_turned goal G V V' s n at fits e = made_turned goal Node G V V' (noded V) s n (ap goal_of at) (node_moves G V) (let z = sizes_noded V in omega (arith, z)) fits e
 
 pub just_turned : (goal : d.Goal) (G : List Goal) (V V' : List Value) (s : List Placed) (n : ℕ) → goal ≡ o.Just → FitAll (goal_of goal ∷ G) → V' ≡ justed V → Turned (goal_of goal) G V s n G V' s n
-just_turned goal G V V' s n at fits e =
-    let z = sizes_justed V in
-    subst (λ g. Turned (goal_of g) G V s n G V' s n) (sym at) (subst (λ V'. Turned Just G V s n G V' s n) (sym e) (record {
-      taken = [];
-      split = refl;
-      moves = just_moves G V;
-      fits = fits.1;
-      cost = omega (arith, z);
-      less = omega arith;
-    }))
-
-pub pair_count : (V V' : List Value) (n m : ℕ) → V' ≡ paired V → m ≡ n + 1 → m + sizes V ≡ n + sizes V'
-pair_count V V' n m e d = let z = sizes_paired V in let s = ap sizes e in omega (arith, z, s, d)
-
-pub node_count : (V V' : List Value) (n m : ℕ) → V' ≡ noded V → m ≡ n + 1 → m + sizes V ≡ n + sizes V'
-node_count V V' n m e d = let z = sizes_noded V in let s = ap sizes e in omega (arith, z, s, d)
-
-pub just_count : (V V' : List Value) (n m : ℕ) → V' ≡ justed V → m ≡ n + 1 → m + sizes V ≡ n + sizes V'
-just_count V V' n m e d = let z = sizes_justed V in let s = ap sizes e in omega (arith, z, s, d)
+just_turned goal G V V' s n at fits e = made_turned goal Just G V V' (justed V) s n (ap goal_of at) (just_moves G V) (let z = sizes_justed V in omega (arith, z)) fits e
 
 pub token_turned : (g : Goal) (t : n.Token) (left : ℕ) (G : List Goal) (V : List Value) (G' : List Goal) (V' : List Value) (s rest : Text) (v : Verdict) → v ≡ a.Fits → IsNext s t left rest → Taken v g (token_of t) G V G' V' → Turned g G V (placed s) (length s) G' V' (placed rest) (length rest)
 token_turned g t left G V G' V' s rest v ev is y =

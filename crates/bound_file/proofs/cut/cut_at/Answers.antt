@@ -1,4 +1,4 @@
-use Rattle.bound_file.proofs.Cuts.{cut_from}
+use Rattle.raml_syntax.proofs.Cuts.{cut_from}
 use Rattle.bound_file.proofs.cut.cut_at.Goals as goal
 
 pub returns : goal.returns

@@ -4,13 +4,14 @@ use Rattle.cert_check.specs.Checked.{Checking}
 use Rattle.constraint_gen.proofs.Whole.{if_ok, if_err}
 use Rattle.infer_spec.specs.Good.{AllLeast}
 use Rattle.infer_spec.specs.States.{certificate_of}
+use Rattle.infer_systems_laws.proofs.Proper.{ordered_are_proper}
 use Rattle.bound_infer.specs.Keeping.{state_of, analysis_in}
 use Rattle.bound_infer.proofs.Leading.{check_cause}
-use Rattle.bound_infer.proofs.Whole.{proper, small}
+use Rattle.bound_infer.proofs.Whole.{small}
 use Rattle.bound_infer.proofs.inference.infer.Goals as goal
 
 pub ended-requires-clause-proper : goal.ended-requires-clause-proper
-ended-requires-clause-proper g c = proper (program_in c.args.program.now) c.ordered.ensures
+ended-requires-clause-proper g c = ordered_are_proper (program_in c.args.program.now) c.ordered.ensures
 
 pub ended-requires-clause-small : goal.ended-requires-clause-small
 ended-requires-clause-small g c =

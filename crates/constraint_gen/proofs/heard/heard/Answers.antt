@@ -1,4 +1,5 @@
 use Rattle.std.proofs.Common.{◌≡◌, ◌∙◌, [], ap, sym, map, length, slice_index_or, arith, rules}
+use Rattle.std.proofs.lemmas.List.{length-map}
 use Rattle.cost_free.specs.Read.{task_of}
 use Rattle.rules_spec.specs.Asked.{asked}
 use Rattle.rules_spec.specs.Tasks as t
@@ -11,7 +12,7 @@ use Rattle.constraint_gen.specs.Heard.{Heard, hear_all}
 use Rattle.constraint_gen.specs.Given.{all_counts, all_answers}
 use Rattle.constraint_gen.specs.Walked.{job_in, reached, bodies_walked}
 use Rattle.constraint_gen.proofs.Giving.{counts_are, answers_are}
-use Rattle.constraint_gen.proofs.Walking.{conditions_heard, length_answers, length_map}
+use Rattle.constraint_gen.proofs.Walking.{conditions_heard, length_answers}
 use Rattle.constraint_gen.proofs.Collected.{same_unknowns}
 use Rattle.constraint_gen.proofs.heard.heard.Goals as goal
 
@@ -26,12 +27,12 @@ hear_all-requires c =
     let bs = map body_of c.args.bodies.now in
     record {
       hints = ap length c.deref-2.ensures.value
-          ∙ sym (length_map (λ h. hints_of h.items) c.in_ok-hints.hints.items)
+          ∙ sym (length-map c.in_ok-hints.hints.items (λ h. hints_of h.items))
           ∙ ap length c.in_ok-hints.ensures.given
           ∙ length_answers unknown c.sides.new.next (map (λ a. asks_of a.items) c.args.asks.now)
           ∙ ap length c.requires.asked
-          ∙ length_map (λ (b : t.Body). asked b.plan) bs
-          ∙ length_map body_of c.args.bodies.now;
+          ∙ length-map bs (λ (b : t.Body). asked b.plan)
+          ∙ length-map c.args.bodies.now body_of;
       few = c.requires.few;
     }
 

@@ -2,7 +2,8 @@ use Rattle.std.proofs.Common.{◌≡◌, ◌++◌, ◌+◌, ◌*◌, ◌-◌, ma
 use Rattle.raml_syntax.specs.Read.{ty_of}
 use Rattle.cost_free.specs.Cut.{cut_pieces}
 use Rattle.cost_free.specs.Read.{pieces_of}
-use Rattle.cost_free.proofs.Cuts.{cuts_from, tuple_with}
+use Rattle.base_poly.proofs.CutsFrom.{cuts_from}
+use Rattle.cost_free.proofs.Cuts.{tuple_with}
 use Rattle.cost_free.proofs.fill.+cuts.Given as goal
 
 abbrev pub decreases-append_filled : goal.decreases-append_filled

@@ -1,4 +1,4 @@
-use Rattle.explain_at.proofs.Cuts.{cut_from}
+use Rattle.raml_syntax.proofs.Cuts.{cut_from}
 use Rattle.explain_at.proofs.part.cut_at.Goals as goal
 
 pub returns : goal.returns

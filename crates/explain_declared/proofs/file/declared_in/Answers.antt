@@ -1,5 +1,5 @@
 use Rattle.raml_syntax.specs.Read.{program_of}
-use Rattle.explain_declared.proofs.Few.{declared_are_few}
+use Rattle.bound_file.proofs.Few.{declared_are_few}
 use Rattle.explain_declared.proofs.file.declared_in.Goals as goal
 
 pub returns-in-Ok-clause-few : goal.returns-in-Ok-clause-few

@@ -4,7 +4,7 @@ use Rattle.raml_syntax.specs.Tree.{Parameter, Function}
 use Rattle.raml_syntax.specs.Types.{types_of}
 use Rattle.raml_syntax.specs.Read.{ty_of, program_of}
 use Rattle.value_text.specs.Reading.{AreRead, FirstFault, HasOneAnswer}
-use Rattle.explain_runs.proofs.Placing.{each_at, read_at, some_at}
+use Rattle.simple_types.proofs.Placing.{each_at, read_at, some_at}
 use Rattle.explain_runs.proofs.Reading.{read_arguments, none_measured, run_measured}
 use Rattle.explain_runs.proofs.measuring.measure_short.Goals as goal
 

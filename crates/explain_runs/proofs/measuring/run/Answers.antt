@@ -3,7 +3,7 @@ use Rattle.raml_syntax.specs.Tree.{Function}
 use Rattle.raml_syntax.specs.Read.{program_of}
 use Rattle.metered_vm.specs.Seen.{Begins, cells_in}
 use Rattle.explain_runs.specs.Told.{HasWord, Tells}
-use Rattle.explain_runs.proofs.Placing.{read_at}
+use Rattle.simple_types.proofs.Placing.{read_at}
 use Rattle.explain_runs.proofs.Running.{has_word, is_measured}
 use Rattle.explain_runs.proofs.measuring.run.Goals as goal
 

@@ -1,6 +1,7 @@
 use Rattle.std.proofs.Common.{◌≡◌, ◌+◌, ◌-◌, ◌++◌, length, map}
 use Rattle.base_poly.specs.Read.{index_of}
-use Rattle.index_shift.proofs.Cuts.{cuts_from, trees_of}
+use Rattle.base_poly.proofs.CutsFrom.{cuts_from}
+use Rattle.index_shift.proofs.Cuts.{trees_of}
 use Rattle.index_shift.proofs.parts.append_trees.Given as goal
 
 abbrev pub invariant-loop-cut : goal.invariant-loop-cut

@@ -1,5 +1,5 @@
 use Rattle.std.proofs.Common.{arith}
-use Rattle.price_file.proofs.Cuts.{cut_from}
+use Rattle.raml_syntax.proofs.Cuts.{cut_from}
 use Rattle.price_file.proofs.line.cut_line.Goals as goal
 
 pub returns : goal.returns

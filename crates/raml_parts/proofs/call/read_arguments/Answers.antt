@@ -8,7 +8,7 @@ use Rattle.report_text.specs.Report.{types_in}
 use Rattle.refusals.specs.Line.{no_names}
 use Rattle.raml_promise.specs.Call.{DataRefuses}
 use Rattle.raml_parts.specs.Parts.{ArgumentsRefuse}
-use Rattle.raml_parts.proofs.Placing.{each_at, read_at, some_at}
+use Rattle.simple_types.proofs.Placing.{each_at, read_at, some_at}
 use Rattle.raml_parts.proofs.Stepping.{refuses_map}
 use Rattle.raml_parts.proofs.Refusing.{data_refuses}
 use Rattle.raml_parts.proofs.Calling.{read_arguments}

@@ -6,7 +6,7 @@ use Rattle.metered_vm.specs.Seen.{Begins, cells_in}
 use Rattle.metered_vm.specs.Ending.{Ended}
 use Rattle.value_text.specs.Printing.{StandsForSome}
 use Rattle.raml_parts.specs.Parts.{limits_of}
-use Rattle.raml_parts.proofs.Placing.{read_at}
+use Rattle.simple_types.proofs.Placing.{read_at}
 use Rattle.raml_parts.proofs.Running.{halted_word, halted_ran, stopped_ran, full_ran}
 use Rattle.raml_parts.proofs.run.execute.Goals as goal
 

@@ -1,6 +1,7 @@
 use Rattle.std.proofs.Common.{◌<◌, ◌^◌, length, sym, subst, arith}
 use Rattle.raml_syntax.specs.Read.{program_of}
 use Rattle.bound_file.specs.Answers.{AreWithin, Spells, FirstFault, OfFault}
+use Rattle.bound_file.proofs.Few.{declared_are_few}
 use Rattle.refusal_text.specs.declared.plain.Which.TheVariants as w
 use Rattle.refusals.specs.Line.{no_names}
 use Rattle.raml_promise.specs.Outside.{store_of}
@@ -8,7 +9,6 @@ use Rattle.raml_promise.specs.DeclaredBounds.{BoundsRefuse}
 use Rattle.raml_parts.specs.Parts.{FileRefuses, BoundsFileRefuses}
 use Rattle.raml_parts.proofs.Stepping.{refuses_map, by_file, by_bytes}
 use Rattle.raml_parts.proofs.Refusing.{bounds_refuse}
-use Rattle.raml_top.proofs.Declaring.{declared_are_few}
 use Rattle.raml_top.proofs.contract.read_bounds.Goals as goal
 
 pub read-requires-clause-short : goal.read-requires-clause-short

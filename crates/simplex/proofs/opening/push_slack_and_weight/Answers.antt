@@ -1,11 +1,12 @@
 use Rattle.std.proofs.Common.{refl, ◌∙◌, rules, FitsSigned, ◌+◌, arith, length, get_or, pos}
 use Rattle.std.proofs.lemmas.Int.{to_z-of_z}
 use Rattle.std.specs.Int.{w128}
-use Rattle.simplex.proofs.Opens.{ends_later, opens_row, weight_leaves, on_ok}
+use Rattle.simplex_rows.proofs.Appending.{before_up_to}
+use Rattle.simplex.proofs.Opens.{opens_row, weight_leaves, on_ok}
 use Rattle.simplex.proofs.opening.push_slack_and_weight.Goals as goal
 
 pub push_whole-requires : goal.push_whole-requires
-push_whole-requires c = rw c.rows.ensures.all (ends_later (length c.args.system.now.rows) (length c.args.system.now.rows + c.args.unknown) c.args.row.now c.requires.opened.before (omega arith))
+push_whole-requires c = rw c.rows.ensures.all (before_up_to (length c.args.system.now.rows) (length c.args.system.now.rows + c.args.unknown) c.args.row.now c.requires.opened.before (omega arith))
 
 pub returns-clause-row : goal.returns-clause-row
 returns-clause-row c =

@@ -2,7 +2,7 @@
 use Rattle.std.proofs.Common.{◌≡◌, true, refl, ap}
 use Rattle.std.proofs.lemmas.Bool.{and_parts, and_from}
 use Rattle.raml_syntax.specs.Tree.{Type', Integer, Boolean, PairOf, ListOf, TreeOf, OptionOf}
-use Rattle.simple_types.specs.Walk.{same_type}
+use Rattle.raml_syntax.specs.SameType.{same_type}
 
 pub same_self : (A : Type') → same_type A A ≡ true
 same_self Integer = refl

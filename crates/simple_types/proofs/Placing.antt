@@ -1,9 +1,11 @@
 -- Functions at places.
-use Rattle.std.proofs.Common.{◌≡◌, ◌<◌, ◌≤◌, ℕ, zero, suc, List, [], ◌∷◌, length, Some, refl, sym, subst, ap, ◌∙◌, arith}
+use Rattle.std.proofs.Common.{◌≡◌, ◌<◌, ℕ, zero, suc, List, [], ◌∷◌, length, Some, refl, sym, subst, ap, ◌∙◌, arith}
 use Rattle.std.specs.Prelude.{slice_get, slice_index_or, map}
 use Rattle.std.specs.List.{All}
 use Rattle.std.proofs.lemmas.List.Elements.{All-head, All-tail}
 use Rattle.raml_syntax.specs.Tree.{Function, Prog}
+use Rattle.raml_syntax.specs.Eval.{find}
+use Rattle.raml_syntax.specs.Types.{Typed}
 use Rattle.raml_syntax.specs.Read.{function_of, program_of}
 use Rattle.raml_syntax.specs.declared.program.Program.{Program}
 use Rattle.raml_syntax.specs.declared.program.Fun.{Fun}
@@ -30,6 +32,10 @@ some_at [] k below = absurd (omega (arith, below))
 some_at (g ∷ P) zero below = (g, refl)
 some_at (g ∷ P) (suc k) below = some_at P k (omega (arith, below))
 
--- and one alone
-pub one_at : (P : Prog) (k : ℕ) (f g : Function) → slice_get P k ≡ Some f → slice_get P k ≡ Some g → f ≡ g
-one_at P k f g here there = cc
+-- the function at a place is found by its name
+pub found : (P : Prog) → Typed P → (f : ℕ) (g : Function) → slice_get P f ≡ Some g → find g.name P ≡ Some g
+found P typed f g there =
+    let places = functions_have_places P in
+    let placed = places.placed g.name f (places.own typed.functions f g there) in
+    let same : placed.0 ≡ g = let e = sym placed.1 ∙ there in cc in
+    subst (λ h. find g.name P ≡ Some h) same placed.3
