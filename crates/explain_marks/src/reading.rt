@@ -14,6 +14,7 @@ ghost use Rattle.explain_runs.specs.Measure.{CanRun};
 ghost use Rattle.explain_marks.specs.Marks.{AreReadAs};
 
 use crate::bound::bound_at;
+use crate::elements::size_at;
 use bound_infer::Verified;
 use cost_free::Meter;
 use explain_runs::parameter_types;
@@ -33,6 +34,8 @@ const MOST_CELLS: u32 = 20000;
 pub(crate) struct Reading {
     /// The bound at them, as it is drawn.
     pub(crate) bound: Option<u128>,
+    /// How many elements the one at the place has.
+    pub(crate) size: u32,
 }
 
 /// What is read of the data; none where it spells no arguments of the function that have few cells.
@@ -42,6 +45,7 @@ pub(crate) fn read_data(
     verified: &Verified<'_, '_>,
     fun: FunId,
     meter: Meter,
+    place: usize,
     data: &[u8],
 ) -> Result<Option<Reading>, AllocError>
     requires source { verified.now.program.source ≡ typed.now }
@@ -49,7 +53,7 @@ pub(crate) fn read_data(
     requires fun { fun.0 < length (program_of typed.now) }
     requires work { has_work verified.now.certificate ≡ true }
     ensures { (g : Function) (args : List Value) → slice_get (program_of typed.now) fun.0 ≡ Some g → Answers data.now (types_of g) (Ok args) →
-        IfOk result (AreReadAs (program_of typed.now) (program_in verified.now.program) verified.now.certificate fun.0 meter args) }
+        IfOk result (AreReadAs (program_of typed.now) (program_in verified.now.program) verified.now.certificate fun.0 meter place args) }
 {
     if data.len() as u64 > MOST_DATA {
         return Ok(None);
@@ -57,7 +61,7 @@ pub(crate) fn read_data(
     let types = parameter_types(alloc, &typed.program().funs[fun.0 as usize])?;
     let mut heap = DataHeap::new(alloc);
     match read_args(alloc, data, &types, &mut heap) {
-        Ok(words) => read_bound(alloc, verified, fun, meter, &heap, &words),
+        Ok(words) => read_bound(alloc, verified, fun, meter, place, &heap, &words),
         Err(fault) => none_read(fault),
     }
 }
@@ -81,6 +85,7 @@ fn read_bound(
     verified: &Verified<'_, '_>,
     fun: FunId,
     meter: Meter,
+    place: usize,
     heap: &DataHeap,
     args: &[Word],
 ) -> Result<Option<Reading>, AllocError>
@@ -88,11 +93,12 @@ fn read_bound(
     requires work { has_work verified.now.certificate ≡ true }
     requires args { AreArguments heap.now.cells args.now }
     ensures { (vs : List Value) → StandForAll heap.now.cells args.now vs →
-        IfOk result (AreReadAs (source_in verified.now.program) (program_in verified.now.program) verified.now.certificate fun.0 meter vs) }
+        IfOk result (AreReadAs (source_in verified.now.program) (program_in verified.now.program) verified.now.certificate fun.0 meter place vs) }
 {
     if heap.len() >= MOST_CELLS {
         return Ok(None);
     }
     let bound = bound_at(alloc, verified, fun, meter, heap, args)?;
-    Ok(Some(Reading { bound }))
+    let size = size_at(heap, args, place);
+    Ok(Some(Reading { bound, size }))
 }

@@ -4,9 +4,9 @@ ghost use Rattle.raml_syntax.specs.Read.{program_of};
 ghost use Rattle.annot_types.specs.Certificate.{has_work};
 ghost use Rattle.rules_plan.specs.Read.{program_in};
 ghost use Rattle.explain_runs.specs.Measure.{CanRun};
-ghost use Rattle.explain_marks.specs.Marks.{HasEnded, IsRun, cost_of};
+ghost use Rattle.explain_marks.specs.Marks.{HasEnded, IsRunOf, cost_of};
 
-use crate::reading::read_data;
+use crate::reading::{Reading, read_data};
 use bound_infer::Verified;
 use cost_free::Meter;
 use explain_runs::{Limits, Measured, Outcome, measure};
@@ -26,6 +26,8 @@ pub(crate) struct Run {
     pub(crate) steps: u64,
     /// The bound at its arguments, as it is drawn.
     pub(crate) bound: Option<u128>,
+    /// How many elements the one at the place has.
+    pub(crate) size: u32,
 }
 
 /// The run on the data. None where that spells no arguments of few cells, or where the run goes on after so many
@@ -36,6 +38,7 @@ pub(crate) fn run_on(
     verified: &Verified<'_, '_>,
     fun: FunId,
     meter: Meter,
+    place: usize,
     data: &[u8],
     steps: u64,
 ) -> Result<Option<Run>, AllocError>
@@ -45,15 +48,15 @@ pub(crate) fn run_on(
     requires work { has_work verified.now.certificate ≡ true }
     requires steps { steps ≤ 2000000 }
     ensures { IfOk result (λ run. IfSome run
-        (λ run. IsRun (program_of typed.now) (program_in verified.now.program) verified.now.certificate fun.0 meter data.now run.cost run.bound)) }
+        (IsRunOf (program_of typed.now) (program_in verified.now.program) verified.now.certificate fun.0 meter place data.now)) }
 {
     let limits = Limits {
         steps,
         cells: MOST_TAKEN,
     };
-    match read_data(alloc, typed, verified, fun, meter, data)? {
+    match read_data(alloc, typed, verified, fun, meter, place, data)? {
         Some(read) => match measure(alloc, typed, fun, data, limits)? {
-            Some(measured) => Ok(ended(meter, &measured, read.bound)),
+            Some(measured) => Ok(ended(meter, &measured, read)),
             None => Ok(None),
         },
         None => Ok(None),
@@ -61,15 +64,17 @@ pub(crate) fn run_on(
 }
 
 /// The run that was measured, where it has ended.
-fn ended(meter: Meter, measured: &Measured, bound: Option<u128>) -> Option<Run>
+fn ended(meter: Meter, measured: &Measured, read: Reading) -> Option<Run>
     ensures ended { IfSome result (λ run. HasEnded measured.now.outcome) }
     ensures cost { IfSome result (λ run. run.cost ≡ cost_of meter measured.now) }
-    ensures bound { IfSome result (λ run. run.bound ≡ bound) }
+    ensures bound { IfSome result (λ run. run.bound ≡ read.bound) }
+    ensures size { IfSome result (λ run. run.size ≡ read.size) }
 {
     let run = Run {
         cost: cost_of(meter, measured),
         steps: measured.instructions,
-        bound,
+        bound: read.bound,
+        size: read.size,
     };
     match measured.outcome {
         Outcome::Halted { .. } => Some(run),

@@ -1,5 +1,5 @@
 // Pictures and tables by the analysis of one degree.
-ghost use Rattle.std.specs.Prelude.{◌≡◌, ◌≢◌, ◌≤◌, ◌<◌, ◌++◌, Some, None, true, length, slice_get, IfOk, OnOk, string_bytes};
+ghost use Rattle.std.specs.Prelude.{◌≡◌, ◌≢◌, ◌≤◌, ◌<◌, ◌++◌, Some, None, true, length, slice_get, option_map, IfOk, OnOk, string_bytes};
 ghost use Rattle.raml_syntax.specs.Tree.{Text, Function};
 ghost use Rattle.raml_syntax.specs.Types.{types_of};
 ghost use Rattle.raml_syntax.specs.Read.{program_of, function_of};
@@ -10,8 +10,9 @@ ghost use Rattle.explain_bounds.specs.Written.{AllCanBeTold};
 ghost use Rattle.explain_chart.specs.Chart.{Draws};
 ghost use Rattle.explain_chart.specs.Read.{marks_in};
 ghost use Rattle.explain_runs.specs.Measure.{CanRun};
+ghost use Rattle.explain_marks.specs.Marks.{origin_of};
 ghost use Rattle.explain_plot.specs.Calls.{Drawn, EndsAt, cut_text};
-ghost use Rattle.explain_plot.specs.Read.{text_in};
+ghost use Rattle.explain_plot.specs.Read.{cut_in, text_in};
 
 use crate::call::Told;
 use crate::program::Asked;
@@ -22,7 +23,7 @@ use explain_bounds::{Asked as AskedSizes, push_function};
 use explain_calls::End;
 use explain_chart::{Chart, Mark, draw};
 use explain_degrees::{Findings, analyse};
-use explain_marks::marks_at;
+use explain_marks::{Cut, Runs, marks_of};
 use raml_syntax::{Fun, Program};
 use report_text::meter_name;
 use share_normal::NormProgram;
@@ -30,7 +31,7 @@ use simple_types::Typed;
 use std::alloc::{AllocError, Global};
 use std::fmt::Write;
 
-/// Draws runs of these sizes, with the bounds of the analysis of the degree, where that is not refused.
+/// Draws these runs, with the bounds of the analysis of the degree, where that is not refused.
 pub(crate) fn tell_degree(
     alloc: Global,
     typed: &Typed,
@@ -38,7 +39,7 @@ pub(crate) fn tell_degree(
     asked: Asked,
     degree: u8,
     findings: &Findings,
-    sizes: &[u32],
+    runs: &Runs<'_>,
     text: &mut String,
     report: &mut String,
 ) -> Result<Told, AllocError>
@@ -49,14 +50,14 @@ pub(crate) fn tell_degree(
     requires most { degree ≤ 4 }
     requires findings { (g : Function) → slice_get (program_of typed.now) asked.fun.0 ≡ Some g → AllCanBeTold (types_of g) findings.now }
     ensures { IfOk result (λ told. (shown part : Text)
-        × EndsAt told.end (program_of typed.now) (program_in program.now) asked.fun.0 degree asked.meter (text_in told.picture) shown part
+        × EndsAt told.end (program_of typed.now) (program_in program.now) asked.fun.0 degree asked.meter (origin_of runs.now) (text_in told.picture) shown part
         × (string_bytes text.new ≡ string_bytes text.old ++ shown)
         × (string_bytes report.new ≡ string_bytes report.old ++ part)) }
 {
     match analyse(alloc, program, degree) {
         Ok(verified) => {
             let picture = picture(
-                alloc, typed, &verified, asked, findings, sizes, text, report,
+                alloc, typed, &verified, asked, findings, runs, text, report,
             )?;
             Ok(Told {
                 end: End::Told,
@@ -84,14 +85,14 @@ fn undrawn(fault: InferFault) -> Result<Told, AllocError>
     }
 }
 
-/// The picture of runs of these sizes, with the bounds of the certificate.
+/// The picture of these runs, with the bounds of the certificate.
 fn picture(
     alloc: Global,
     typed: &Typed,
     verified: &Verified<'_, '_>,
     asked: Asked,
     findings: &Findings,
-    sizes: &[u32],
+    runs: &Runs<'_>,
     text: &mut String,
     report: &mut String,
 ) -> Result<String, AllocError>
@@ -101,17 +102,12 @@ fn picture(
     requires work { has_work verified.now.certificate ≡ true }
     requires findings { (g : Function) → slice_get (program_of typed.now) asked.fun.0 ≡ Some g → AllCanBeTold (types_of g) findings.now }
     ensures { IfOk result (λ svg. (shown part : Text)
-        × Drawn (program_of typed.now) (program_in verified.now.program) verified.now.certificate asked.fun.0 asked.meter (string_bytes svg) shown part
+        × Drawn (program_of typed.now) (program_in verified.now.program) verified.now.certificate asked.fun.0 asked.meter (origin_of runs.now) (string_bytes svg) shown part
         × (string_bytes text.new ≡ string_bytes text.old ++ shown)
         × (string_bytes report.new ≡ string_bytes report.old ++ part)) }
 {
-    let Asked {
-        fun,
-        meter,
-        seed,
-        ..
-    } = asked;
-    let found = marks_at(alloc, typed, verified, fun, meter, sizes, seed)?;
+    let Asked { fun, meter, .. } = asked;
+    let found = marks_of(alloc, typed, verified, fun, meter, runs)?;
     push_table(text, &found.marks)?;
     push_cut(report, found.cut)?;
     let program = typed.program();
@@ -120,14 +116,18 @@ fn picture(
     drawn(alloc, function, meter, &lead, &found.marks)
 }
 
-/// Appends from which size on some runs are not drawn.
-fn push_cut(report: &mut String, cut: Option<u32>) -> Result<(), AllocError>
-    ensures { OnOk result (string_bytes report.new ≡ string_bytes report.old ++ cut_text cut) }
+/// Appends where runs end, where they do.
+fn push_cut(report: &mut String, cut: Option<Cut<'_>>) -> Result<(), AllocError>
+    ensures { OnOk result (string_bytes report.new ≡ string_bytes report.old ++ cut_text (option_map cut_in cut.entry)) }
 {
     match cut {
-        Some(size) => write!(
+        Some(Cut::Size(size)) => write!(
             report,
             "explain: some runs of size {size}, and all of greater ones, are not drawn: they need more than 2000000 instructions together, or arguments of 20000 cells\n"
+        ),
+        Some(Cut::File(name)) => write!(
+            report,
+            "explain: the run on {name}, and those on all files behind it, are not drawn: they need more than 2000000 instructions together, or arguments of 20000 cells\n"
         ),
         None => Ok(()),
     }

@@ -3,6 +3,7 @@ ghost use Rattle.std.specs.Prelude.{◌≡◌, ◌≤◌, ◌<◌, ◌++◌, IfO
 ghost use Rattle.raml_syntax.specs.Tree.{Text};
 ghost use Rattle.raml_syntax.specs.Read.{program_of};
 ghost use Rattle.explain_runs.specs.Measure.{CanRun};
+ghost use Rattle.explain_marks.specs.Marks.{origin_of};
 ghost use Rattle.explain_words.specs.Laws.{IsDegree};
 ghost use Rattle.explain_plot.specs.Calls.{IsDrawn, degree_of};
 ghost use Rattle.explain_plot.specs.Read.{outcome_of};
@@ -13,6 +14,7 @@ use cost_free::Meter;
 use explain_bounds::laws::findings_can_be_told;
 use explain_calls::push_notes;
 use explain_degrees::{Finding, LeastBounds, least_bounds};
+use explain_marks::Runs;
 use normal_program::normal_form;
 use raml_syntax::FunId;
 use simple_types::Typed;
@@ -23,18 +25,17 @@ use std::alloc::{AllocError, Global};
 pub(crate) struct Asked {
     pub(crate) fun: FunId,
     pub(crate) meter: Meter,
-    pub(crate) seed: u64,
     /// The greatest degree to try.
     pub(crate) most: u8,
 }
 
-/// Draws runs of these sizes, by the analysis that tells most. The table is appended to `text`; which degrees could not be
-/// analysed, and which sizes are not drawn, to the report.
+/// Draws these runs, by the analysis that tells most. The table is appended to `text`; which degrees could not be
+/// analysed, and what is not drawn, to the report.
 pub(crate) fn tell_asked(
     alloc: Global,
     typed: &Typed,
     asked: Asked,
-    sizes: &[u32],
+    runs: &Runs<'_>,
     text: &mut String,
     report: &mut String,
 ) -> Result<Told, AllocError>
@@ -42,7 +43,7 @@ pub(crate) fn tell_asked(
     requires fun { asked.fun.0 < length (program_of typed.now) }
     requires range { IsDegree asked.most }
     ensures { IfOk result (λ told. (shown part : Text)
-        × IsDrawn (program_of typed.now) asked.fun.0 asked.most asked.meter (outcome_of told shown part)
+        × IsDrawn (program_of typed.now) asked.fun.0 asked.most asked.meter (origin_of runs.now) (outcome_of told shown part)
         × (string_bytes text.new ≡ string_bytes text.old ++ shown)
         × (string_bytes report.new ≡ string_bytes report.old ++ part)) }
 {
@@ -54,7 +55,7 @@ pub(crate) fn tell_asked(
     let findings = &functions[asked.fun.0 as usize];
     let degree = degree_of(findings.of(asked.meter));
     tell_degree(
-        alloc, typed, &program, asked, degree, findings, sizes, text, report,
+        alloc, typed, &program, asked, degree, findings, runs, text, report,
     )
 }
 
