@@ -25,6 +25,8 @@ pub struct Chart<'a> {
     pub lead: &'a str,
     /// What the chart shows, for those who do not see it.
     pub description: &'a str,
+    /// What the sizes are.
+    pub sizes: &'a str,
     /// What the points are.
     pub measured: &'a str,
     /// What the line is.
@@ -42,7 +44,8 @@ pub fn draw(alloc: Global, chart: &Chart<'_>) -> Result<String, AllocError>
     let below = push_lead(alloc, &mut body, chart, knots.is_empty())?;
     push_key(alloc, &mut body, chart, knots.is_empty(), below)?;
     let frame = Frame::below(below.saturating_add(360), chart.marks);
-    push_grid(&mut body, frame, chart.marks)?;
+    let sizes = escaped(alloc, chart.sizes)?;
+    push_grid(&mut body, frame, &sizes, chart.marks)?;
     push_line(alloc, &mut body, frame, &knots)?;
     let mut svg = opening(alloc, chart, frame.height())?;
     svg.push_str(&body)?;

@@ -12,10 +12,11 @@ const APART: u32 = 420;
 /// At most so many powers of 10 stand at the axis of costs.
 const MOST_POWERS: u32 = 5;
 
-/// Appends the lines of round costs, and both axes.
+/// Appends the lines of round costs, and both axes; that of sizes has this name.
 pub(crate) fn push_grid(
     text: &mut String,
     frame: Frame,
+    sizes: &str,
     marks: &[Mark<'_>],
 ) -> Result<(), AllocError> {
     push_costs(text, frame)?;
@@ -28,7 +29,7 @@ pub(crate) fn push_grid(
     let low = bottom.saturating_add(340);
     write!(
         text,
-        "<text class=\"soft\" x=\"{RIGHT}\" y=\"{low}\" text-anchor=\"end\">size</text>\n"
+        "<text class=\"soft\" x=\"{RIGHT}\" y=\"{low}\" text-anchor=\"end\">{sizes}</text>\n"
     )
 }
 

@@ -1,2 +1,3 @@
 mod Below
+mod Counted
 mod Spelled

@@ -16,27 +16,27 @@ pub(crate) fn size_at(heap: &DataHeap, args: &[Word], place: usize) -> u32
     ensures { (vs : List Value) → StandForAll heap.now.cells args.now vs → result ≡ size_at place vs }
 {
     match args.get(place) {
-        Some(word) => elements(heap, *word),
+        Some(word) => count_elements(heap, *word),
         None => 0,
     }
 }
 
 /// How many elements the list or the tree of a word has.
-fn elements(heap: &DataHeap, word: Word) -> u32
+fn count_elements(heap: &DataHeap, word: Word) -> u32
     requires there { IsBelow (length heap.now.cells) word }
     requires small { size (value heap.now.cells word) ≤ 2 ^ 20 }
     ensures { result ≡ length (elements (value heap.now.cells word)) }
 {
     let mut count = 0;
     let mut rest = word;
-    while let Word::Cell(number) = rest {
+    'rest: while let Word::Cell(number) = rest {
         match heap.get(number) {
             Cell::Cons(_, tail) => {
                 count += 1;
                 rest = tail;
             }
             Cell::Node(_, left, right) => {
-                count += 1 + elements(heap, left);
+                count += 1 + count_elements(heap, left);
                 rest = right;
             }
             Cell::Pair(..) | Cell::Just(_) => return count,

@@ -113,7 +113,23 @@ fn picture(
     let program = typed.program();
     let function = &program.funs[fun.0 as usize];
     let lead = lead(alloc, program, function, findings, meter)?;
-    drawn(alloc, function, meter, &lead, &found.marks)
+    let sizes = sizes(alloc, function, runs)?;
+    drawn(alloc, function, meter, &lead, &sizes, &found.marks)
+}
+
+/// What the sizes are.
+fn sizes(alloc: Global, function: &Fun, runs: &Runs<'_>) -> Result<String, AllocError> {
+    let place = match runs {
+        Runs::Made(made) => made.along,
+        Runs::Given { place, .. } => Some(*place),
+    };
+    match place.and_then(|place| function.params.get(place)) {
+        Some(param) => {
+            let name = param.name.text();
+            format!(in alloc; "size of {name}")
+        }
+        None => String::from_str(alloc, "size"),
+    }
 }
 
 /// Appends where runs end, where they do.
@@ -175,6 +191,7 @@ fn drawn(
     function: &Fun,
     meter: Meter,
     lead: &str,
+    sizes: &str,
     marks: &[Mark<'_>],
 ) -> Result<String, AllocError>
     ensures { IfOk result (λ svg. Draws (marks_in marks.now) (string_bytes svg)) }
@@ -191,6 +208,7 @@ fn drawn(
             title: &title,
             lead,
             description: &description,
+            sizes,
             measured: measured(meter),
             promised: promised(meter),
             marks,

@@ -7,7 +7,7 @@ use Rattle.raml_syntax.specs.declared.program.Program.{Program}
 use Rattle.rules_plan.specs.Read.{program_in}
 use Rattle.value_text.specs.Reading.{Answers, AreRead, HasOneAnswer}
 use Rattle.value_text.specs.Stands.{StandForAll}
-use Rattle.explain_runs.proofs.Placing.{each_at, read_at, some_at}
+use Rattle.simple_types.proofs.Placing.{each_at, read_at, some_at}
 use Rattle.explain_marks.specs.Marks.{AreReadAs}
 use Rattle.explain_marks.proofs.Spelled.{arguments_read, none_fit, only_read}
 use Rattle.explain_marks.proofs.reading.read_data.Goals as goal
