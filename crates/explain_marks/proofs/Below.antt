@@ -21,7 +21,8 @@ use Rattle.explain_runs.specs.declared.outcome.Measured.{Measured}
 use Rattle.explain_runs.specs.declared.outcome.Outcome.{Outcome}
 use Rattle.explain_runs.specs.declared.outcome.Outcome.TheVariants as o
 use Rattle.explain_runs.specs.Measure.{EndsAs, HasHalted, IsMeasured, IsMeasuredOn}
-use Rattle.explain_marks.specs.Marks.{BoundIs, IsDrawn, IsLeaving, CostsAtMost, IsUpheld, HasEnded, IsRun, cost_of}
+use Rattle.explain_marks.specs.Marks.{AreReadAs, BoundIs, IsDrawn, IsLeaving, CostsAtMost, IsUpheld, HasEnded, IsRunOf, cost_of}
+use Rattle.explain_marks.specs.declared.reading.Reading.{Reading}
 use Rattle.explain_marks.specs.declared.run.Run.{Run}
 
 -- ---- what is drawn holds
@@ -84,25 +85,27 @@ module _ (P : Prog) (f : ℕ) (g : Function) (args : List Value) (limits : Limit
 
 -- ---- runs
 
-pub run_given : (r : Option Run) (P : Prog) (N : Program) (c : Certificate) (f : ℕ) (meter : Meter) (data' : Text) (limits : Limits) (m : Measured) (bound : Option ℕ) →
+pub run_given : (r : Option Run) (P : Prog) (N : Program) (c : Certificate) (f : ℕ) (meter : Meter) (place : ℕ) (data' : Text) (limits : Limits) (m : Measured) (read : Reading) →
     IsMeasuredOn P f data' limits m →
-    ((g : Function) (args : List Value) → slice_get P f ≡ Some g → Answers data' (types_of g) (Ok args) → BoundIs N c f args meter bound × IfSome bound (IsUpheld P f args meter)) →
-    IfSome r (λ run. HasEnded m.outcome) → IfSome r (λ run. run.cost ≡ cost_of meter m) → IfSome r (λ run. run.bound ≡ bound) →
-    IfSome r (λ run. IsRun P N c f meter data' run.cost run.bound)
-run_given None P N c f meter data' limits m bound on read ended costs same = tt
-run_given (Some run) P N c f meter data' limits m bound on read ended costs same =
-    let told = read on.function on.args on.there on.spelled in
-    let below = drawn_below P f on.function on.args limits meter m bound on.there on.spelled.0.spelled.typed on.measured ended told.1 in
-    record {
-      function = on.function;
-      there = on.there;
-      args = on.args;
-      spelled = on.spelled;
-      limits = limits;
-      measured = m;
-      is = on.measured;
-      ended = ended;
-      costs = costs;
-      bounded = subst (BoundIs N c f on.args meter) (sym same) told.0;
-      below = subst (λ b. IfSome b (λ n. run.cost ≤ n)) (sym same) (subst (λ k. IfSome bound (λ n. k ≤ n)) (sym costs) below);
-    }
+    ((g : Function) (args : List Value) → slice_get P f ≡ Some g → Answers data' (types_of g) (Ok args) → AreReadAs P N c f meter place args (Some read)) →
+    IfSome r (λ run. HasEnded m.outcome) → IfSome r (λ run. run.cost ≡ cost_of meter m) → IfSome r (λ run. run.bound ≡ read.bound) → IfSome r (λ run. run.size ≡ read.size) →
+    IfSome r (IsRunOf P N c f meter place data')
+run_given None P N c f meter place data' limits m read on told ended costs same sized = tt
+run_given (Some run) P N c f meter place data' limits m read on told ended costs same sized =
+    let at = told on.function on.args on.there on.spelled in
+    let below = drawn_below P f on.function on.args limits meter m read.bound on.there on.spelled.0.spelled.typed on.measured ended at.1 in (
+      record {
+        function = on.function;
+        there = on.there;
+        args = on.args;
+        spelled = on.spelled;
+        limits = limits;
+        measured = m;
+        is = on.measured;
+        ended = ended;
+        costs = costs;
+        bounded = subst (BoundIs N c f on.args meter) (sym same) at.0;
+        below = subst (λ b. IfSome b (λ n. run.cost ≤ n)) (sym same) (subst (λ k. IfSome read.bound (λ n. k ≤ n)) (sym costs) below);
+      },
+      sized ∙ at.2,
+    )

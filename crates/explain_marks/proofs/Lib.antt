@@ -1,3 +1,5 @@
+mod Added
 mod Below
 mod Counted
+mod Sized
 mod Spelled

@@ -40,7 +40,7 @@ only_read cells new data' types words args read one spelled =
     subst (StandForAll new words) same read.stand
 
 -- nothing that is read is fit
-pub none_fit : {E : Type 0} (r : Result (Option Reading) E) (P : Prog) (N : Program) (c : Certificate) (f : ℕ) (meter : Meter) (args : List Value) →
-    IfOk r (λ read. read ≡ None) → IfOk r (AreReadAs P N c f meter args)
-none_fit (Ok read) P N c f meter args is = subst (AreReadAs P N c f meter args) (sym is) tt
-none_fit (Err e) P N c f meter args is = tt
+pub none_fit : {E : Type 0} (r : Result (Option Reading) E) (P : Prog) (N : Program) (c : Certificate) (f : ℕ) (meter : Meter) (place : ℕ) (args : List Value) →
+    IfOk r (λ read. read ≡ None) → IfOk r (AreReadAs P N c f meter place args)
+none_fit (Ok read) P N c f meter place args is = subst (AreReadAs P N c f meter place args) (sym is) tt
+none_fit (Err e) P N c f meter place args is = tt

@@ -2,7 +2,7 @@
 ghost use Rattle.std.specs.Prelude.{◌≡◌, ◌≤◌, ◌^◌, List, length};
 ghost use Rattle.raml_syntax.specs.Value.{Value, size};
 ghost use Rattle.base_poly.specs.Base.{elements};
-ghost use Rattle.value_text.specs.Heap.{IsBelow};
+ghost use Rattle.value_text.specs.Heap.{IsBelow, NameEarlier};
 ghost use Rattle.value_text.specs.Stands.{StandForAll};
 ghost use Rattle.poly_point.specs.Point.{AreArguments};
 ghost use Rattle.poly_point.specs.Walk.{value};
@@ -15,10 +15,18 @@ pub(crate) fn size_at(heap: &DataHeap, args: &[Word], place: usize) -> u32
     requires { AreArguments heap.now.cells args.now }
     ensures { (vs : List Value) → StandForAll heap.now.cells args.now vs → result ≡ size_at place vs }
 {
+    names_earlier(heap);
     match args.get(place) {
         Some(word) => count_elements(heap, *word),
         None => 0,
     }
+}
+
+/// Tells that each cell of the heap names only cells before it.
+fn names_earlier(heap: &DataHeap)
+    ensures { NameEarlier heap.now.cells }
+{
+    heap.len();
 }
 
 /// How many elements the list or the tree of a word has.

@@ -38,9 +38,9 @@ returns-in-Ok c g args there spelled =
     let new = c.read_args.new.heap.cells in
     let stand : StandForAll new c.deref-in-Ok.result.now args = rw (c.deref-in-Ok.ensures.value)
     (only_read c.new-heap.result.cells new c.args.data.now (map ty_of c.deref.result.now) c.in-Ok.words.items args c.in-Ok.ensures.ok c.in-Ok.ensures.one_answer same) in
-    subst (λ (s : Program). IfOk c.read_bound.result (AreReadAs (program_of s) (program_in kept) c.args.verified.now.certificate k c.args.meter args)) c.requires.source
+    subst (λ (s : Program). IfOk c.read_bound.result (AreReadAs (program_of s) (program_in kept) c.args.verified.now.certificate k c.args.meter c.args.place args)) c.requires.source
     (c.read_bound.ensures args stand)
 
 pub returns : goal.returns
 returns c g args there spelled =
-    none_fit c.none_read.result (program_of c.args.typed.now) (program_in c.args.verified.now.program) c.args.verified.now.certificate c.args.fun.0 c.args.meter args c.none_read.ensures
+    none_fit c.none_read.result (program_of c.args.typed.now) (program_in c.args.verified.now.program) c.args.verified.now.certificate c.args.fun.0 c.args.meter c.args.place args c.none_read.ensures
