@@ -1,3 +1,4 @@
 mod Calling
 mod Computed
 mod Found
+mod Held

@@ -1,8 +1,8 @@
 // What is drawn of a function, by the arguments that are asked for.
-ghost use Rattle.std.specs.Prelude.{◌≡◌, ◌≤◌, ◌++◌, Some, length, IfOk, string_bytes};
+ghost use Rattle.std.specs.Prelude.{◌≡◌, ◌≤◌, ◌++◌, Some, length, slice_get, IfOk, string_bytes};
 ghost use Rattle.raml_syntax.specs.Place.{place_of};
 ghost use Rattle.raml_syntax.specs.Tree.{Text};
-ghost use Rattle.raml_syntax.specs.Read.{program_of};
+ghost use Rattle.raml_syntax.specs.Read.{function_of, program_of};
 ghost use Rattle.explain_check.specs.Checks.{IsProgramOf};
 ghost use Rattle.explain_calls.specs.Sizes.{meter_of};
 ghost use Rattle.explain_words.specs.Laws.{IsDegree};
@@ -20,7 +20,7 @@ use explain_check::Source;
 use explain_marks::{Given, Made, Runs};
 use explain_runs::parameter_types;
 use explain_words::{Arguments, PlotWords};
-use raml_syntax::FunId;
+use raml_syntax::{Fun, FunId};
 use std::alloc::{AllocError, Global};
 
 /// What is said where the words give no sizes.
@@ -47,11 +47,14 @@ pub(crate) fn tell_function(
         × (string_bytes text.new ≡ string_bytes text.old ++ shown)
         × (string_bytes report.new ≡ string_bytes report.old ++ part)) }
 {
+    let function = &source.typed.program().funs[fun.0 as usize];
     match &words.arguments {
-        Arguments::Made { sizes, seed } => {
-            tell_made(alloc, source, fun, words, *sizes, *seed, text, report)
-        }
-        Arguments::Given { .. } => tell_given(alloc, source, fun, words, files, text, report),
+        Arguments::Made { sizes, seed } => tell_made(
+            alloc, source, fun, function, words, *sizes, *seed, text, report,
+        ),
+        Arguments::Given { .. } => tell_given(
+            alloc, source, fun, function, words, files, text, report,
+        ),
     }
 }
 
@@ -60,6 +63,7 @@ fn tell_made(
     alloc: Global,
     source: &Source,
     fun: FunId,
+    function: &Fun,
     words: &PlotWords<'_>,
     sizes: &str,
     seed: u64,
@@ -69,14 +73,16 @@ fn tell_made(
     requires program { IsProgramOf source.now.bytes.items (program_of source.now.typed) }
     requires few { length source.now.bytes.items ≤ 1048576 }
     requires range { IsDegree words.now.degree }
-    requires there { place_of words.now.name.now (program_of source.now.typed) ≡ Some fun.0 }
+    requires there { slice_get (program_of source.now.typed) fun.0 ≡ Some (function_of function.now) }
     ensures { IfOk result (λ told. (shown part : Text)
         × MadeIs (program_of source.now.typed) fun.0 words.now sizes.now (outcome_of told shown part)
         × (string_bytes text.new ≡ string_bytes text.old ++ shown)
         × (string_bytes report.new ≡ string_bytes report.old ++ part)) }
 {
     match read_sizes(alloc, sizes)? {
-        Some(sizes) => tell_along(alloc, source, fun, words, &sizes, seed, text, report),
+        Some(sizes) => tell_along(
+            alloc, source, fun, function, words, &sizes, seed, text, report,
+        ),
         None => {
             report.push_str(NO_SIZES)?;
             Ok(Told::refused())
@@ -89,6 +95,7 @@ fn tell_along(
     alloc: Global,
     source: &Source,
     fun: FunId,
+    function: &Fun,
     words: &PlotWords<'_>,
     sizes: &[u32],
     seed: u64,
@@ -98,21 +105,25 @@ fn tell_along(
     requires program { IsProgramOf source.now.bytes.items (program_of source.now.typed) }
     requires few { length source.now.bytes.items ≤ 1048576 }
     requires range { IsDegree words.now.degree }
-    requires there { place_of words.now.name.now (program_of source.now.typed) ≡ Some fun.0 }
+    requires there { slice_get (program_of source.now.typed) fun.0 ≡ Some (function_of function.now) }
     ensures { IfOk result (λ told. (shown part : Text)
         × ParameterIs (program_of source.now.typed) fun.0 words.now (outcome_of told shown part)
         × (string_bytes text.new ≡ string_bytes text.old ++ shown)
         × (string_bytes report.new ≡ string_bytes report.old ++ part)) }
 {
-    let along = match words.parameter {
-        Some(_) => sized(&source.typed.program().funs[fun.0 as usize].params, words.parameter),
-        None => None,
+    let mut made = Made {
+        sizes,
+        along: None,
+        seed,
     };
-    if along.is_none() && words.parameter.is_some() {
-        push_no_parameter(words, report)?;
-        return Ok(Told::refused());
+    if words.parameter.is_some() {
+        let Some(place) = sized(&function.params, words.parameter) else {
+            push_no_parameter(words, report)?;
+            return Ok(Told::refused());
+        };
+        made.along = Some(place);
     }
-    let runs = Runs::Made(Made { sizes, along, seed });
+    let runs = Runs::Made(made);
     tell_asked(alloc, &source.typed, asked_of(fun, words), &runs, text, report)
 }
 
@@ -121,6 +132,7 @@ fn tell_given(
     alloc: Global,
     source: &Source,
     fun: FunId,
+    function: &Fun,
     words: &PlotWords<'_>,
     files: &[Given<'_>],
     text: &mut String,
@@ -130,13 +142,12 @@ fn tell_given(
     requires few { length source.now.bytes.items ≤ 1048576 }
     requires short { AreShort files.now }
     requires range { IsDegree words.now.degree }
-    requires there { place_of words.now.name.now (program_of source.now.typed) ≡ Some fun.0 }
+    requires there { slice_get (program_of source.now.typed) fun.0 ≡ Some (function_of function.now) }
     ensures { IfOk result (λ told. (shown part : Text)
         × GivenIs (program_of source.now.typed) fun.0 words.now files.now (outcome_of told shown part)
         × (string_bytes text.new ≡ string_bytes text.old ++ shown)
         × (string_bytes report.new ≡ string_bytes report.old ++ part)) }
 {
-    let function = &source.typed.program().funs[fun.0 as usize];
     let Some(place) = sized(&function.params, words.parameter) else {
         push_no_parameter(words, report)?;
         return Ok(Told::refused());
