@@ -62,3 +62,16 @@ module _ (holds same : Option Files) (before mid after : Text → ℕ) (kept : s
       let same_text : read ≡ text = once ∙ ap (λ part. text ++ part) gives.2 ∙ append-nil text in
       (reads.0, reads_more file ok old pushed new reads.0 named gives.0 gives.1 is reads.1, reads.2 ∙ ap (λ text. text ++ reads.0) same_text)
   reads_on file old pushed new first text read all (Err e) named gives is once reads = tt
+
+-- all of them, behind none
+pub all_read : (store : Store) (names : List Text) (ok : Bool) (old new : List Given) (part : Text) → ok ≡ true → old ≡ [] → ReadsOn store names ok old new part →
+    AreHeld store names new × (part ≡ [])
+all_read store names true old new part yes none reads =
+    let is : new ≡ reads.0 = reads.2 ∙ ap (λ files. files ++ reads.0) none in
+    (subst (AreHeld store names) (sym is) reads.1, reads.3)
+all_read store names false old new part yes none reads = absurd (cc yes)
+
+-- one of them is not
+pub one_lacks : (store : Store) (names : List Text) (ok : Bool) (old new : List Given) (part : Text) → ok ≡ false → ReadsOn store names ok old new part → LacksFile store names part
+one_lacks store names false old new part no reads = reads
+one_lacks store names true old new part no reads = absurd (cc no)

@@ -1,5 +1,5 @@
 // The parameter whose size is drawn.
-ghost use Rattle.std.specs.Prelude.{◌≡◌, ◌++◌, OnOk, string_bytes};
+ghost use Rattle.std.specs.Prelude.{◌≡◌, ◌<◌, ◌++◌, length, IfSome, OnOk, string_bytes};
 ghost use Rattle.raml_syntax.specs.Read.{parameter_of, ty_of};
 ghost use Rattle.explain_words.specs.Spelled.{lent};
 ghost use Rattle.explain_plot.specs.Along.{has_size, is_named, no_parameter, parameters_of, sized};
@@ -11,7 +11,8 @@ use std::fmt::Write;
 
 /// The place of the first parameter of the name, or of any where there is none, that is a list or a tree.
 pub(crate) fn sized(params: &[Param], name: Option<&str>) -> Option<usize>
-    ensures { result ≡ sized (lent name.entry) (parameters_of params.now) }
+    ensures place { result ≡ sized (lent name.entry) (parameters_of params.now) }
+    ensures within { IfSome result (λ place. place < length params.now) }
 {
     match params {
         [] => None,

@@ -28,13 +28,31 @@ pub(crate) fn read_files<'a, S: Store>(
     ensures kept { S.holds store.new ≡ S.holds store.old }
     ensures later { (other : Text) → S.faults store.old other ≤ S.faults store.new other }
 {
-    let mut read = Vec::new(alloc);
-    if let Arguments::Given { files } = arguments {
-        if !read_on(alloc, store, files, &mut read, report)? {
-            return Ok(None);
-        }
+    match arguments {
+        Arguments::Made { .. } => Ok(Some(Vec::new(alloc))),
+        Arguments::Given { files } => read_all(alloc, store, files, report),
     }
-    Ok(Some(read))
+}
+
+/// What these files hold.
+fn read_all<'a, S: Store>(
+    alloc: Global,
+    store: &mut S,
+    names: &[&'a str],
+    report: &mut String,
+) -> Result<Option<Vec<Given<'a>>>, AllocError>
+    ensures told { IfOk result (λ found. (part : Text)
+        × AreRead (store_of (S.holds store.old) (S.faults store.old) (S.faults store.new)) (texts names.now) found part
+        × (string_bytes report.new ≡ string_bytes report.old ++ part)) }
+    ensures kept { S.holds store.new ≡ S.holds store.old }
+    ensures later { (other : Text) → S.faults store.old other ≤ S.faults store.new other }
+{
+    let mut read = Vec::new(alloc);
+    if read_on(alloc, store, names, &mut read, report)? {
+        Ok(Some(read))
+    } else {
+        Ok(None)
+    }
 }
 
 /// Appends what these files hold, and tells whether all were read.
