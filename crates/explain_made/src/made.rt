@@ -109,9 +109,7 @@ fn push_texts(
     ensures count { OnOk result (length texts.new.items ≡ length texts.old.items + 3) }
 {
     for shape in [Shape::Random, Shape::Ascending, Shape::Descending] {
-        texts.push(made_arguments(
-            alloc, function, None, size, shape, seed,
-        )?)?;
+        texts.push(made_arguments(alloc, function, None, size, shape, seed)?)?;
     }
     Ok(())
 }

@@ -56,9 +56,7 @@ pub(crate) fn tell_degree(
 {
     match analyse(alloc, program, degree) {
         Ok(verified) => {
-            let picture = picture(
-                alloc, typed, &verified, asked, findings, runs, text, report,
-            )?;
+            let picture = picture(alloc, typed, &verified, asked, findings, runs, text, report)?;
             Ok(Told {
                 end: End::Told,
                 picture: Some(picture),

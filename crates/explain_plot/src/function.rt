@@ -124,7 +124,14 @@ fn tell_along(
         made.along = Some(place);
     }
     let runs = Runs::Made(made);
-    tell_asked(alloc, &source.typed, asked_of(fun, words), &runs, text, report)
+    tell_asked(
+        alloc,
+        &source.typed,
+        asked_of(fun, words),
+        &runs,
+        text,
+        report,
+    )
 }
 
 /// Draws runs on the arguments of files.
@@ -157,7 +164,14 @@ fn tell_given(
         return Ok(Told::refused());
     }
     let runs = Runs::Given { place, files };
-    tell_asked(alloc, &source.typed, asked_of(fun, words), &runs, text, report)
+    tell_asked(
+        alloc,
+        &source.typed,
+        asked_of(fun, words),
+        &runs,
+        text,
+        report,
+    )
 }
 
 /// What is asked for.
