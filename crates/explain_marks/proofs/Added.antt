@@ -1,5 +1,5 @@
 -- Runs that are added.
-use Rattle.std.proofs.Common.{◌≡◌, List, ◌∷◌, inl, inr}
+use Rattle.std.proofs.Common.{List, ◌∷◌, inl, inr}
 use Rattle.std.specs.List.{All, insert}
 use Rattle.std.proofs.lemmas.List.Elements.{All-cons, All-same}
 use Rattle.std.proofs.lemmas.List.Sorted.{All-permutation, IsPermutation-insert}

@@ -1,5 +1,5 @@
 -- How many elements the lists and trees of words have.
-use Rattle.std.proofs.Common.{◌≡◌, ◌⊎◌, ⊎_elim, ◌≤◌, ◌<◌, ◌+◌, ◌^◌, ◌∙◌, ℕ, zero, suc, List, [], ◌∷◌, ◌++◌, length, Some, refl, sym, ap, arith}
+use Rattle.std.proofs.Common.{◌≡◌, ◌⊎◌, ⊎_elim, ◌≤◌, ◌<◌, ◌+◌, ◌∙◌, ℕ, suc, List, length, Some, refl, ap, arith}
 use Rattle.std.specs.Prelude.{slice_get}
 use Rattle.std.proofs.lemmas.List.{length-append}
 use Rattle.std.proofs.lemmas.Option.{slice_get_within}
@@ -10,7 +10,7 @@ use Rattle.value_text.specs.declared.word.Word.{Word}
 use Rattle.value_text.specs.declared.word.Word.TheVariants.{Int, Bool, Empty, Cell}
 use Rattle.value_text.specs.declared.word.Cell as c
 use Rattle.value_text.specs.declared.word.Cell.TheVariants.{Cons, Pair, Node, Just}
-use Rattle.value_text.specs.Heap.{IsBelow, NamesBelow, NameEarlier}
+use Rattle.value_text.specs.Heap.{IsBelow, NameEarlier}
 use Rattle.value_text.specs.Held.{value_held, held_of, held}
 use Rattle.value_text.proofs.Earlier.{below_more, names_earlier}
 use Rattle.value_text.proofs.Holding.{held_is}
@@ -72,11 +72,11 @@ module _ (cells : List c.Cell) (earlier : NameEarlier cells) (word : Word) (i : 
   pub right_part : (a b d : Word) → slice_get cells i ≡ Some (Node a b d) → IsPart cells word d
   right_part a b d is = part_of (Node a b d) d is (names_earlier cells i (Node a b d) earlier is).2 (omega arith)
 
-  pub list_counted : (a b : Word) → slice_get cells i ≡ Some (Cons a b) → length (elements (value cells word)) ≡ 1 + length (elements (value cells b))
+  pub list_counted : (a b : Word) → slice_get cells i ≡ Some (Cons a b) → length (elements (value cells word)) ≡ suc (length (elements (value cells b)))
   list_counted a b is = ap (λ v. length (elements v)) (held_there (Cons a b) is)
 
   pub tree_counted : (a b d : Word) → slice_get cells i ≡ Some (Node a b d) →
-      length (elements (value cells word)) ≡ 1 + (length (elements (value cells b)) + length (elements (value cells d)))
+      length (elements (value cells word)) ≡ suc (length (elements (value cells b)) + length (elements (value cells d)))
   tree_counted a b d is = ap (λ v. length (elements v)) (held_there (Node a b d) is) ∙ ap suc (length-append (elements (value cells b)) (elements (value cells d)))
 
   pub none_counted : (cell : c.Cell) → slice_get cells i ≡ Some cell → ((a : Word) × (b : Word) × (cell ≡ Pair a b)) ⊎ ((a : Word) × (cell ≡ Just a)) →

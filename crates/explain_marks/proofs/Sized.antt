@@ -1,6 +1,6 @@
 -- The size of the argument at a place.
-use Rattle.std.proofs.Common.{◌≡◌, ◌≤◌, ◌+◌, ◌^◌, ◌∙◌, ℕ, zero, suc, List, [], ◌∷◌, length, Option, Some, None, refl, sym, ap, subst, arith}
-use Rattle.std.specs.Prelude.{slice_get}
+use Rattle.std.proofs.Common.{◌≡◌, ◌≤◌, ◌<◌, ◌^◌, ◌∙◌, ℕ, zero, suc, List, [], ◌∷◌, length, Some, refl, sym, ap, subst, arith}
+use Rattle.std.specs.Prelude.{slice_get, slice_index_or}
 use Rattle.raml_syntax.specs.Value.{Value, size}
 use Rattle.base_poly.specs.Base.{elements, total}
 use Rattle.value_text.specs.declared.word.Word.{Word}
@@ -32,14 +32,20 @@ stands_at cells (w ∷ words) (v ∷ vs) (suc place) word stand is =
     let few = later.few in
     record { one = later.one; there = later.there; stands = later.stands; few = omega (arith, few); sized = later.sized }
 
--- without a word there is no argument
-pub none_sized : (cells : List c.Cell) (words : List Word) (vs : List Value) (place : ℕ) → StandForAll cells words vs → slice_get words place ≡ None → size_at place vs ≡ 0
-none_sized cells [] [] zero stand is = refl
-none_sized cells [] [] (suc place) stand is = refl
-none_sized cells [] (v ∷ vs) place stand is = absurd stand
-none_sized cells (w ∷ words) [] place stand is = absurd stand
-none_sized cells (w ∷ words) (v ∷ vs) zero stand is = absurd (cc is)
-none_sized cells (w ∷ words) (v ∷ vs) (suc place) stand is = none_sized cells words vs place stand.1 is
+-- behind the last word there is no argument
+pub none_sized : (cells : List c.Cell) (words : List Word) (vs : List Value) (place : ℕ) → StandForAll cells words vs → length words ≤ place → 0 ≡ size_at place vs
+none_sized cells [] [] zero stand behind = refl
+none_sized cells [] [] (suc place) stand behind = refl
+none_sized cells [] (v ∷ vs) place stand behind = absurd stand
+none_sized cells (w ∷ words) [] place stand behind = absurd stand
+none_sized cells (w ∷ words) (v ∷ vs) zero stand behind = absurd (omega (arith, behind))
+none_sized cells (w ∷ words) (v ∷ vs) (suc place) stand behind = none_sized cells words vs place stand.1 (omega (arith, behind))
+
+-- what is read at a place stands there
+pub got : {X : Type 0} (xs : List X) (i : ℕ) (x : X) → x ≡ slice_index_or xs i x → i < length xs → slice_get xs i ≡ Some x
+got [] i x is below = absurd (omega (arith, below))
+got (y ∷ ys) zero x is below = ap Some (sym is)
+got (y ∷ ys) (suc i) x is below = got ys i x is (omega (arith, below))
 
 module _ (cells : List c.Cell) (earlier : NameEarlier cells) (words : List Word) (place : ℕ) (word : Word) (is : slice_get words place ≡ Some word) where
   value_at : (vs : List Value) → StandForAll cells words vs → (at : StandsAt cells word vs place) × (at.one ≡ value cells word)

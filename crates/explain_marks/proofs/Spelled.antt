@@ -1,5 +1,5 @@
 -- Data that is read for the bound at the arguments that it spells.
-use Rattle.std.proofs.Common.{◌≡◌, ◌≤◌, ◌<◌, ◌+◌, ◌^◌, ◌∙◌, ℕ, List, [], ◌∷◌, Option, None, Result, Ok, Err, IfOk, length, refl, sym, ap, subst, arith}
+use Rattle.std.proofs.Common.{◌≡◌, ◌+◌, ℕ, List, [], ◌∷◌, Option, None, Result, Ok, Err, IfOk, refl, sym, ap, subst, arith}
 use Rattle.raml_syntax.specs.Tree.{Text, Type', Prog}
 use Rattle.raml_syntax.specs.Value.{Value, size}
 use Rattle.base_poly.specs.Base.{total}
@@ -8,7 +8,6 @@ use Rattle.annot_types.specs.Program.{Program}
 use Rattle.annot_types.specs.Certificate.{Certificate}
 use Rattle.value_text.specs.declared.word.Word.{Word}
 use Rattle.value_text.specs.declared.word.Cell.{Cell}
-use Rattle.value_text.specs.declared.fault.DataFault.{DataFault}
 use Rattle.value_text.specs.Reading.{Answers, AreRead, HasOneAnswer}
 use Rattle.value_text.specs.Spelling.{sizes}
 use Rattle.value_text.specs.Stands.{StandForAll}

@@ -32,7 +32,7 @@ use Rattle.explain_chart.specs.declared.mark.Mark.{Mark}
 use Rattle.explain_marks.specs.Marks.{Origin, IsMarkOf}
 use Rattle.explain_plot.specs.Table.{table}
 use Rattle.explain_plot.specs.Calls.{Cut, Drawn, EndsAt, IsDrawn, cut_text, degree_of}
-use Rattle.explain_plot.specs.Read.{outcome_of, text_in}
+use Rattle.explain_plot.specs.Read.{text_in}
 use Rattle.explain_plot.specs.declared.call.Told.{Told}
 use Rattle.explain_plot.proofs.Calling.{Tells}
 

@@ -1,5 +1,5 @@
 -- What the code has of what a call comes to.
-use Rattle.std.specs.Prelude.{ℕ, Option, option_map, String, string_bytes}
+use Rattle.std.specs.Prelude.{Option, option_map, String, string_bytes}
 use Rattle.std.specs.Global.{Global}
 use Rattle.raml_syntax.specs.Tree.{Text}
 use Rattle.explain_marks.specs.declared.marks.Cut.{Cut as Cut'}

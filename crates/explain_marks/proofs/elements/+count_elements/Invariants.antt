@@ -9,13 +9,13 @@ use Rattle.explain_marks.proofs.elements.+count_elements.Given as goal
 abbrev pub decreases-count_elements : goal.decreases-count_elements
 decreases-count_elements l = rank l.word
 
-abbrev pub invariant-count_elements-rest : goal.invariant-count_elements-rest
-invariant-count_elements-rest l = record {
+abbrev pub invariant-rest : goal.invariant-rest
+invariant-rest l = record {
   there : IsBelow (length l.heap.cells) l.rest;
-  earlier : rank l.rest ≤ rank l.word;
+  earlier : rank l.rest ≤ rank l.fn.word;
   small : size (value l.heap.cells l.rest) ≤ 2 ^ 20;
-  counted : l.count + length (elements (value l.heap.cells l.rest)) ≡ length (elements (value l.heap.cells l.word));
+  counted : l.count + length (elements (value l.heap.cells l.rest)) ≡ length (elements (value l.heap.cells l.fn.word));
 }
 
-abbrev pub decreases-count_elements-rest : goal.decreases-count_elements-rest
-decreases-count_elements-rest l = rank l.rest
+abbrev pub decreases-rest : goal.decreases-rest
+decreases-rest l = rank l.rest

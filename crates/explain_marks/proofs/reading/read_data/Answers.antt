@@ -5,7 +5,7 @@ use Rattle.raml_syntax.specs.Types.{types_of}
 use Rattle.raml_syntax.specs.Read.{ty_of, program_of}
 use Rattle.raml_syntax.specs.declared.program.Program.{Program}
 use Rattle.rules_plan.specs.Read.{program_in}
-use Rattle.value_text.specs.Reading.{Answers, AreRead, HasOneAnswer}
+use Rattle.value_text.specs.Reading.{Answers}
 use Rattle.value_text.specs.Stands.{StandForAll}
 use Rattle.simple_types.proofs.Placing.{each_at, read_at, some_at}
 use Rattle.explain_marks.specs.Marks.{AreReadAs}

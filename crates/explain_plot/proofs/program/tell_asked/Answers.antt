@@ -1,9 +1,4 @@
-use Rattle.std.proofs.Common.{◌<◌, ◌∙◌, ap, sym, length, arith}
-use Rattle.raml_syntax.specs.Read.{program_of}
-use Rattle.share_normal.specs.Program.{source_in}
-use Rattle.rules_plan.specs.Read.{program_in}
-use Rattle.explain_plot.specs.Calls.{degree_of}
-use Rattle.explain_plot.proofs.Found.{got, least_degree, most_degree, of_degree}
+use Rattle.explain_plot.proofs.Found.{least_degree}
 use Rattle.explain_plot.proofs.program.tell_asked.Goals as goal
 
 pub tell_degree-requires-clause-least : goal.tell_degree-requires-clause-least
