@@ -1,9 +1,11 @@
 -- Files that are read, one after another.
-use Rattle.std.proofs.Common.{◌≡◌, ◌≤◌, ◌++◌, ◌∙◌, ℕ, Bool, true, false, List, [], ◌∷◌, length, Option, Some, Result, Ok, Err, IfOk, sym, ap, subst, inl, inr}
-use Rattle.std.proofs.lemmas.List.{append-nil, append_assoc}
+use Rattle.std.proofs.Common.{refl, arith, ◌-◌, take, drop, get_or, option_map, vec_items, Vec, Global, ◌≡◌, ◌≤◌, ◌++◌, ◌∙◌, ℕ, Bool, true, false, List, [], ◌∷◌, length, Option, Some, Result, Ok, Err, IfOk, sym, ap, subst, inl, inr}
+use Rattle.std.specs.Borrow.{Bor}
+use Rattle.std.proofs.lemmas.List.{append-nil, append_assoc, take_all}
 use Rattle.std.proofs.lemmas.List.Elements.{All-cons, All-nil}
 use Rattle.raml_io.specs.Files.{Files}
 use Rattle.raml_syntax.specs.Tree.{Text}
+use Rattle.explain_words.specs.Commands.{texts}
 use Rattle.explain_check.specs.Stores.{Store, Holds, FileGives, store_of}
 use Rattle.explain_check.proofs.Longer.{Later, unread_since}
 use Rattle.explain_data.specs.Data.{most_data_bytes}
@@ -38,6 +40,11 @@ held_short store (name ∷ names) (file ∷ files) held =
 held_short store [] (file ∷ files) held = absurd held
 held_short store (name ∷ names) [] held = absurd held
 
+-- a slice of at least one is its first and its rest
+whole : {X : Type 0} (xs : List X) (d : X) → 1 ≤ length xs → xs ≡ get_or xs 0 d ∷ take (length xs - 1) (drop 1 xs)
+whole [] d h = absurd (omega (arith, h))
+whole (x ∷ xs) d h = ap (λ l. x ∷ l) (sym (take_all (length (x ∷ xs) - 1) xs (omega arith)))
+
 -- ---- one file, and those behind it
 
 module _ (holds same : Option Files) (before mid after : Text → ℕ) (kept : same ≡ holds) (early : Later before mid) (name : Text) (names : List Text) where
@@ -62,15 +69,30 @@ module _ (holds same : Option Files) (before mid after : Text → ℕ) (kept : s
       (reads.0, reads_more file ok old pushed new reads.0 named gives.0 gives.1 is reads.1, reads.2 ∙ ap (λ text. text ++ reads.0) same_text)
   reads_on file old pushed new first text read all (Err e) named gives is once reads = tt
 
+-- by the code's words: the first of several names, and the bytes that were read
+pub read_step : {E : Type 0} (holds same : Option Files) (before mid after : Text → ℕ) (kept : same ≡ holds) (early : Later before mid) (all : List (Bor Text)) (len : 1 ≤ length all)
+    (d : Bor Text) (found : Option (Vec ℕ Global)) (bytes : Vec ℕ Global) (old pushed new : List Given) (first text read end : Text) (result : Result Bool E) → found ≡ Some bytes →
+    FileGives (store_of holds before mid) most_data_bytes (get_or all 0 d).now (option_map vec_items found) first →
+    pushed ≡ old ++ record { name = get_or all 0 d; bytes = bytes } ∷ [] → read ≡ text ++ first →
+    IfOk result (λ ok. (part : Text) × ReadsOn (store_of same mid after) (texts (take (length all - 1) (drop 1 all))) ok pushed new part × (end ≡ read ++ part)) →
+    IfOk result (λ ok. (part : Text) × ReadsOn (store_of holds before after) (texts all) ok old new part × (end ≡ text ++ part))
+read_step holds same before mid after kept early all len d found bytes old pushed new first text read end result is gives pushed_is once reads =
+    let name = get_or all 0 d in
+    let rest = take (length all - 1) (drop 1 all) in
+    let file : Given = record { name = name; bytes = bytes } in
+    let gives' = subst (λ (found : Option (Vec ℕ Global)). FileGives (store_of holds before mid) most_data_bytes name.now (option_map vec_items found) first) is gives in
+    let step = reads_on holds same before mid after kept early name.now (texts rest) file old pushed new first text read end result refl gives' pushed_is once reads in
+    subst (λ (names : List Text). IfOk result (λ ok. (part : Text) × ReadsOn (store_of holds before after) names ok old new part × (end ≡ text ++ part))) (sym (ap texts (whole all d len))) step
+
 -- all of them, behind none
 pub all_read : (store : Store) (names : List Text) (ok : Bool) (old new : List Given) (part : Text) → ok ≡ true → old ≡ [] → ReadsOn store names ok old new part →
     AreHeld store names new × (part ≡ [])
-all_read store names true old new part yes none reads =
+all_read store names true old new part held none reads =
     let is : new ≡ reads.0 = reads.2 ∙ ap (λ files. files ++ reads.0) none in
     (subst (AreHeld store names) (sym is) reads.1, reads.3)
-all_read store names false old new part yes none reads = absurd (cc yes)
+all_read store names false old new part held none reads = absurd (cc held)
 
 -- one of them is not
 pub one_lacks : (store : Store) (names : List Text) (ok : Bool) (old new : List Given) (part : Text) → ok ≡ false → ReadsOn store names ok old new part → LacksFile store names part
-one_lacks store names false old new part no reads = reads
-one_lacks store names true old new part no reads = absurd (cc no)
+one_lacks store names false old new part lacks reads = reads
+one_lacks store names true old new part lacks reads = absurd (cc lacks)

@@ -40,7 +40,14 @@ fn is_named(param: &Param, name: Option<&str>) -> bool
 fn has_size(ty: &Ty) -> bool
     ensures { result ≡ has_size (ty_of ty.now) }
 {
-    matches!(ty, Ty::List(_) | Ty::Tree(_))
+    match ty {
+        Ty::List(_) => true,
+        Ty::Tree(_) => true,
+        Ty::Int => false,
+        Ty::Bool => false,
+        Ty::Pair(..) => false,
+        Ty::Opt(_) => false,
+    }
 }
 
 /// Appends that the function has no such parameter.
