@@ -12,7 +12,7 @@ use Rattle.annot_types.specs.Certificate.{Certificate}
 use Rattle.stack_compile.specs.Laws.{at}
 use Rattle.rules_soundness_laws.specs.Enough.{cost}
 use Rattle.value_text.specs.Reading.{Answers}
-use Rattle.analysis_report.specs.Floors as f
+use Rattle.analysis_report.specs.Floors.{Floors}
 use Rattle.analysis_report.specs.Told.{AllHold, FloorsRefused}
 use Rattle.analysis_report.specs.declared.bounds.FloorFault.{FloorFault}
 use Rattle.analysis_report.specs.declared.bounds.FloorFault.TheVariants as x
@@ -27,7 +27,7 @@ use Rattle.explain_marks.specs.declared.run.Run.{Run}
 
 -- ---- what is drawn holds
 
-module _ (P : Prog) (f : ℕ) (args : List Value) (floors : f.Floors) (hold : AllHold P f args floors) where
+module _ (P : Prog) (f : ℕ) (args : List Value) (floors : Floors) (hold : AllHold P f args floors) where
   four_times : (n b work : ℕ) → work ≤ n → b ≡ n * 4 → 4 * work ≤ b
   four_times n b work few is = omega (arith, few, is)
 
@@ -37,12 +37,12 @@ module _ (P : Prog) (f : ℕ) (args : List Value) (floors : f.Floors) (hold : Al
       subst (λ o. IfSome o (λ n. (m : ℕ) → (at P f args m).ticks ≤ n)) (sym is) (hold g there types).ticks
   upheld Cells (Some n) is = λ g there types.
       subst (λ o. IfSome o (λ n. (m : ℕ) → (at P f args m).cells ≤ n)) (sym is) (hold g there types).cells
-  upheld Work (Some b) is = λ g there types. by (floors Work) is ((hold g there types).runs Work)
+  upheld Work (Some b) is = λ g there types. by g (floors Work) is ((hold g there types).runs Work)
     where
-      by : {g : Function} → (floor : Option ℕ) → IsDrawn Work floor (Some b) → IfSome floor (λ n. (limit : ℕ) → cost Work (run_of P g args limit) ≤ n) →
+      by : (g : Function) → (floor : Option ℕ) → IsDrawn Work floor (Some b) → IfSome floor (λ n. (limit : ℕ) → cost Work (run_of P g args limit) ≤ n) →
           (limit : ℕ) → 4 * (run_of P g args limit).work ≤ b
-      by {g} (Some n) drawn costs limit = four_times n b (run_of P g args limit).work (costs limit) (sym drawn.1)
-      by {g} None drawn costs limit = absurd (cc)
+      by g (Some n) drawn costs limit = four_times n b (run_of P g args limit).work (costs limit) drawn.1
+      by g None drawn costs limit = absurd (cc)
 
 -- ---- what is too large is not drawn
 

@@ -29,13 +29,13 @@ arguments_read cells new data' types words read = record {
 }
 
 -- arguments are the answer that the data has
-ok_injective : {E : Type 0} (xs ys : List Value) → Ok {E = E} xs ≡ Ok ys → xs ≡ ys
-ok_injective xs ys e = cc
+ok_injective : {E : Type 0} (r s : Result (List Value) E) (xs ys : List Value) → r ≡ s → r ≡ Ok xs → s ≡ Ok ys → xs ≡ ys
+ok_injective r s xs ys e f g = cc
 
 pub only_read : (cells new : List Cell) (data' : Text) (types : List Type') (words : List Word) (args : List Value) → (read : AreRead cells new data' types words) →
     HasOneAnswer data' types → Answers data' types (Ok args) → StandForAll new words args
 only_read cells new data' types words args read one spelled =
-    let same : read.values ≡ args = ok_injective read.values args (one (Ok read.values) (Ok args) (are_spelled types data' cells new words read) spelled) in
+    let same : read.values ≡ args = ok_injective _ _ read.values args (one (Ok read.values) (Ok args) (are_spelled types data' cells new words read) spelled) refl refl in
     subst (StandForAll new words) same read.stand
 
 -- nothing that is read is fit

@@ -86,10 +86,10 @@ pub fn marks_of<'a>(
         (λ m. IsMarkOf (program_of typed.now) (program_in verified.now.program) verified.now.certificate fun.0 meter (origin_of runs.now) (mark_in m))
         found.marks.items) }
 {
-    match runs {
-        Runs::Made(made) => marks_made(alloc, typed, verified, fun, meter, made),
+    match *runs {
+        Runs::Made(made) => marks_made(alloc, typed, verified, fun, meter, &made),
         Runs::Given { place, files } => {
-            marks_given(alloc, typed, verified, fun, meter, *place, *files)
+            marks_given(alloc, typed, verified, fun, meter, place, files)
         }
     }
 }

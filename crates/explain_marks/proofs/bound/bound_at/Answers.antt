@@ -16,10 +16,3 @@ returns-in-Ok-clause-upheld c vs stand =
     let floors = floors_of c.in-Ok.floors in
     upheld (source_in c.args.verified.now.program) c.args.fun.0 vs floors (c.in-Ok.ensures.hold vs stand) c.args.meter c.drawn.result
     (subst (λ floor. IsDrawn c.args.meter floor c.drawn.result) c.floor_of.ensures c.drawn.ensures)
-
-pub returns-clause-bound : goal.returns-clause-bound
-returns-clause-bound c vs stand =
-    left c.none_drawn.result c.in-Err.fault (program_in c.args.verified.now.program) c.args.verified.now.certificate c.args.fun.0 vs c.args.meter (c.in-Err.ensures.err vs stand) c.none_drawn.ensures
-
-pub returns-clause-upheld : goal.returns-clause-upheld
-returns-clause-upheld c vs stand = none_upheld c.none_drawn.result c.in-Err.fault (source_in c.args.verified.now.program) c.args.fun.0 vs c.args.meter c.none_drawn.ensures

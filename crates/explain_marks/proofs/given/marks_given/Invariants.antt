@@ -1,14 +1,8 @@
-use Rattle.std.proofs.Common.{◌≤◌}
-use Rattle.std.specs.List.{All}
 use Rattle.raml_syntax.specs.Read.{program_of}
 use Rattle.rules_plan.specs.Read.{program_in}
-use Rattle.explain_chart.specs.Read.{mark_in}
-use Rattle.explain_chart.specs.declared.mark.Mark.{Mark}
 use Rattle.explain_marks.specs.Marks.{IsGivenMark}
+use Rattle.explain_marks.proofs.Added.{AreSoFar}
 use Rattle.explain_marks.proofs.given.marks_given.Given as goal
 
 abbrev pub invariant-loop-file : goal.invariant-loop-file
-invariant-loop-file l = record {
-  steps : l.found.steps ≤ 2000000;
-  marks : All (λ (m : Mark). IsGivenMark (program_of l.typed) (program_in l.verified.program) l.verified.certificate l.fun.0 l.meter l.place l.files (mark_in m)) l.found.marks.items;
-}
+invariant-loop-file l = AreSoFar (IsGivenMark (program_of l.typed) (program_in l.verified.program) l.verified.certificate l.fun.0 l.meter l.place l.files) l.found
