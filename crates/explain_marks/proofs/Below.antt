@@ -1,5 +1,5 @@
 -- Costs of runs lie below what is drawn of their bounds.
-use Rattle.std.proofs.Common.{◌≡◌, ◌≤◌, ◌*◌, ◌∙◌, ℕ, List, Option, Some, None, Result, Ok, Err, IfOk, IfSome, sym, subst, inr, arith}
+use Rattle.std.proofs.Common.{◌≡◌, ◌≤◌, ◌*◌, ◌∙◌, ℕ, List, Option, Some, None, Ok, IfSome, sym, subst, arith}
 use Rattle.std.specs.Prelude.{slice_get}
 use Rattle.raml_syntax.specs.Tree.{Text, Function, Prog}
 use Rattle.raml_syntax.specs.Value.{Value, HaveTypes}
@@ -13,15 +13,14 @@ use Rattle.stack_compile.specs.Laws.{at}
 use Rattle.rules_soundness_laws.specs.Enough.{cost}
 use Rattle.value_text.specs.Reading.{Answers}
 use Rattle.analysis_report.specs.Floors.{Floors}
-use Rattle.analysis_report.specs.Told.{AllHold, FloorsRefused}
-use Rattle.analysis_report.specs.declared.bounds.FloorFault.{FloorFault}
+use Rattle.analysis_report.specs.Told.{AllHold}
 use Rattle.analysis_report.specs.declared.bounds.FloorFault.TheVariants as x
 use Rattle.explain_runs.specs.declared.outcome.Limits.{Limits}
 use Rattle.explain_runs.specs.declared.outcome.Measured.{Measured}
 use Rattle.explain_runs.specs.declared.outcome.Outcome.{Outcome}
 use Rattle.explain_runs.specs.declared.outcome.Outcome.TheVariants as o
 use Rattle.explain_runs.specs.Measure.{EndsAs, HasHalted, IsMeasured, IsMeasuredOn}
-use Rattle.explain_marks.specs.Marks.{AreReadAs, BoundIs, IsDrawn, IsLeaving, CostsAtMost, IsUpheld, HasEnded, IsRunOf, cost_of}
+use Rattle.explain_marks.specs.Marks.{AreReadAs, BoundIs, IsDrawn, CostsAtMost, IsUpheld, HasEnded, IsRunOf, cost_of}
 use Rattle.explain_marks.specs.declared.reading.Reading.{Reading}
 use Rattle.explain_marks.specs.declared.run.Run.{Run}
 
@@ -43,19 +42,6 @@ module _ (P : Prog) (f : ℕ) (args : List Value) (floors : Floors) (hold : AllH
           (limit : ℕ) → 4 * (run_of P g args limit).work ≤ b
       by g (Some n) drawn costs limit = four_times n b (run_of P g args limit).work (costs limit) drawn.1
       by g None drawn costs limit = absurd (cc)
-
--- ---- what is too large is not drawn
-
-pub left : {E : Type 0} (r : Result (Option ℕ) E) (fault : FloorFault) (N : Program) (c : Certificate) (f : ℕ) (args : List Value) (meter : Meter) →
-    FloorsRefused N c f args fault → IfOk r (λ drawn. (drawn ≡ None) × IsLeaving fault) → IfOk r (BoundIs N c f args meter)
-left (Ok drawn) (x.Leaves other) N c f args meter refused is = inr (other, refused, is.0)
-left (Ok drawn) x.NoMemory N c f args meter refused is = absurd is.1
-left (Err e) fault N c f args meter refused is = tt
-
-pub none_upheld : {E : Type 0} (r : Result (Option ℕ) E) (fault : FloorFault) (P : Prog) (f : ℕ) (args : List Value) (meter : Meter) →
-    IfOk r (λ drawn. (drawn ≡ None) × IsLeaving fault) → IfOk r (λ drawn. IfSome drawn (IsUpheld P f args meter))
-none_upheld (Ok drawn) fault P f args meter is = subst (λ drawn. IfSome drawn (IsUpheld P f args meter)) (sym is.0) tt
-none_upheld (Err e) fault P f args meter is = tt
 
 -- ---- what was measured lies below
 

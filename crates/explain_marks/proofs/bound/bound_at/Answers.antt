@@ -1,9 +1,8 @@
 use Rattle.std.proofs.Common.{inl, subst}
 use Rattle.share_normal.specs.Program.{source_in}
-use Rattle.rules_plan.specs.Read.{program_in}
 use Rattle.analysis_report.specs.Told.{floors_of}
 use Rattle.explain_marks.specs.Marks.{IsDrawn}
-use Rattle.explain_marks.proofs.Below.{left, none_upheld, upheld}
+use Rattle.explain_marks.proofs.Below.{upheld}
 use Rattle.explain_marks.proofs.bound.bound_at.Goals as goal
 
 pub returns-in-Ok-clause-bound : goal.returns-in-Ok-clause-bound

@@ -3,7 +3,6 @@ use Rattle.std.proofs.lemmas.Bool.Decides.{nat_tests}
 use Rattle.raml_syntax.specs.Read.{program_of}
 use Rattle.rules_plan.specs.Read.{program_in}
 use Rattle.explain_marks.specs.Marks.{IsFileMark, IsGivenMark}
-use Rattle.explain_marks.specs.declared.marks.Marks.{Marks}
 use Rattle.explain_marks.proofs.Added.{AreSoFar, all_added, of_files}
 use Rattle.explain_marks.proofs.given.marks_given.Goals as goal
 use Rattle.explain_marks.proofs.given.marks_given.Goals.{then-is_none+in_ok-add_file, else-is_none}
