@@ -18,7 +18,7 @@ loop-file-preserved c =
     let Is = IsGivenMark P N certificate c.args.fun.0 c.args.meter c.args.place files in
     let below : k < length files = grind (arith, nat_tests, c.loop-file-test.true) in
     elim c.if-is_none.branch [
-      then-is_none+in_ok-add_file w ↦ subst (AreSoFar Is) (sym w.found-is) (record {
+      | then-is_none+in_ok-add_file w ↦ subst (AreSoFar Is) (sym w.found-is) (record {
         steps = w.add_file.ensures.steps;
         marks = all_added (IsFileMark P N certificate c.args.fun.0 c.args.meter c.args.place file) Is _ _
             (of_files P N certificate c.args.fun.0 c.args.meter c.args.place files k file below (sym c.file-item.is)) w.in_ok-add_file.ensures.marks c.loop-file.invariant.marks;

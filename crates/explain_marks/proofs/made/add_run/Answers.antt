@@ -20,7 +20,7 @@ returns-clause-marks c =
     let data' = c.as_bytes.result.now in
     let Is = IsMark P N certificate c.args.fun.0 c.args.meter in
     elim c.match-branch-3.branch [
-      in-Some+in_ok-push-in-Some w ↦
+      | in-Some+in_ok-push-in-Some w ↦
           let run = subst (λ (run : Option Run). IfSome run (IsRunOf P N certificate c.args.fun.0 c.args.meter c.unwrap_or.result data')) w.in-Some.is c.in_ok-run.ensures in
           subst (λ (found : Marks). All (λ (m : Mark). Is (mark_in m)) found.marks.items) (sym w.found-is)
           (one_pushed Is _ _ _ (data', run.0) w.in_ok-push-in-Some.ensures.items c.requires.before)
