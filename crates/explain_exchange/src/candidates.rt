@@ -1,7 +1,8 @@
 // The pairs of parameters that are tried.
 use call_groups::Groups;
 use explain_mending::reached;
-use raml_syntax::{Fun, FunId, Param, Program, Ty};
+use explain_rounds::is_sized;
+use raml_syntax::{Fun, FunId, Param, Program};
 use std::alloc::{AllocError, Global};
 
 /// How many exchanges are tried for a group at most.
@@ -25,12 +26,11 @@ pub(crate) fn candidates(
 ) -> Result<Vec<Candidate>, AllocError> {
     let funs = reached(alloc, groups, group)?;
     let mut found = Vec::new(alloc);
-    let mut id = FunId(0);
-    for fun in &program.funs {
-        if funs.contains(&id) {
-            add_of(id, fun, &mut found)?;
+    for place in 0..program.funs.len() {
+        let fun = FunId(place as u32);
+        if funs.contains(&fun) {
+            add_of(fun, &program.funs[place], &mut found)?;
         }
-        id = FunId(id.0.saturating_add(1));
     }
     Ok(found)
 }
@@ -58,13 +58,4 @@ fn add_with(
         }
     }
     Ok(())
-}
-
-/// Whether the type holds a list, a tree or an option.
-fn is_sized(ty: &Ty) -> bool {
-    match ty {
-        Ty::Int | Ty::Bool => false,
-        Ty::Pair(first, second) => is_sized(first) || is_sized(second),
-        _ => true,
-    }
 }

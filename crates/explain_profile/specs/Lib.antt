@@ -1,0 +1,4 @@
+pub mod Runs
+pub mod Rows
+pub mod Read
+pub mod Profile
