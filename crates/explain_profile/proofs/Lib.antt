@@ -1,2 +1,4 @@
 mod Laid
 mod Spaces
+mod Walking
+mod Unspelled
