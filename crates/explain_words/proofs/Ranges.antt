@@ -7,7 +7,7 @@ use Rattle.clap.specs.Simple.{subcommand_of}
 use Rattle.explain_words.specs.Apps.{app}
 use Rattle.clap.specs.Walk.{Text, Row, first_of}
 use Rattle.explain_words.specs.Asking.{Command, OfCheck, OfBounds, OfBudget, OfVerify, OfWhy, OfPlot, command_named, MeansBy, Means, OfProfile}
-use Rattle.explain_words.specs.Commands.{AreBounds, AreBudget, ArePlot, AreWhy, Keep, Write, degree_or_4, optional, AreProfile}
+use Rattle.explain_words.specs.Commands.{AreBounds, AreBudget, ArePlot, AreWhy, Keep, Write, degree_or_4, optional, values, AreProfile}
 use Rattle.explain_words.specs.Laws.{IsDegree, AreInRange, IsInRange, AskedIsInRange}
 use Rattle.explain_words.specs.Spelled.{degree_in, is_numeral, meter_named, number_in, ranged, within_in, within_of, cut_at}
 use Rattle.explain_words.specs.declared.request.Request.{Request}
@@ -92,7 +92,7 @@ meant_is_in_range (Some OfWhy) rows (Why asked) means =
     let are : AreWhy rows asked = means in
     degree_in_range (first_of (codes "degree") rows) asked.degree are.degree
 meant_is_in_range (Some OfPlot) rows (Plot asked) means =
-    let are : ArePlot rows asked = means in
+    let are : ArePlot rows (values (codes "data") rows) asked = means in
     degree_in_range (first_of (codes "degree") rows) asked.degree are.degree
 meant_is_in_range (Some OfProfile) rows (Profile asked) means =
     let are : AreProfile rows asked = means in

@@ -100,14 +100,28 @@ needed_rule id = record (option_rule id) { required = true }
 abbrev pub output_rule : Rule
 output_rule = record (needed_rule (codes "output")) { short = Some 111 }
 
--- what is drawn
-abbrev pub plot_drawn : App
-plot_drawn =
-    with_rule (with_rule (with_rule (new_app (codes "plot")) (operand_rule (codes "file"))) (operand_rule (codes "name"))) (needed_rule (codes "sizes"))
+-- `--data` with one file or more
+abbrev pub given_rule : Rule
+given_rule = record (new_rule (codes "data")) {
+  long = Some (codes "data");
+  range = Some (record { start_inclusive = 1; end_inclusive = usize_max });
+  value_names = 1;
+}
 
+-- what is run
+abbrev pub plot_run : App
+plot_run = with_rule (with_rule (new_app (codes "plot")) (operand_rule (codes "file"))) (operand_rule (codes "name"))
+
+-- on which arguments
+abbrev pub plot_made : App
+plot_made = with_rule (with_rule plot_run (option_rule (codes "sizes"))) (option_rule (codes "seed"))
+
+abbrev pub plot_given : App
+plot_given = with_rule (with_rule plot_made given_rule) (option_rule (codes "of"))
+
+-- what is drawn
 abbrev pub plot_chosen : App
-plot_chosen =
-    with_rule (with_rule (with_rule plot_drawn (option_rule (codes "seed"))) (option_rule (codes "degree"))) (option_rule (codes "meter"))
+plot_chosen = with_rule (with_rule plot_given (option_rule (codes "degree"))) (option_rule (codes "meter"))
 
 abbrev pub plot_app : App
 plot_app = with_rule (with_rule plot_chosen output_rule) (flag_rule (codes "force"))

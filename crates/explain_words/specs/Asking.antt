@@ -38,7 +38,7 @@ MeansBy (Some OfBounds) rows request = MeansBounds rows request
 MeansBy (Some OfBudget) rows request = MeansBudget rows request
 MeansBy (Some OfVerify) rows request = MeansVerify rows request
 MeansBy (Some OfWhy) rows request = MeansWhy rows request
-MeansBy (Some OfPlot) rows request = MeansPlot rows request
+MeansBy (Some OfPlot) rows request = MeansPlot rows (values (codes "data") rows) request
 MeansBy (Some OfProfile) rows request = MeansProfile rows request
 MeansBy None rows request = ⊥
 

@@ -12,6 +12,8 @@ use Rattle.explain_words.specs.declared.request.Request.TheVariants.{Check, Chec
 use Rattle.explain_words.specs.declared.request.bounds.BoundsWords.{BoundsWords}
 use Rattle.explain_words.specs.declared.request.budget.Aim.{Aim as Aim'}
 use Rattle.explain_words.specs.declared.request.budget.Aim.TheVariants as aim
+use Rattle.explain_words.specs.declared.request.plot.Arguments.{Arguments as Arguments'}
+use Rattle.explain_words.specs.declared.request.plot.Arguments.TheVariants as arguments
 use Rattle.explain_words.specs.declared.request.plot.PlotWords.{PlotWords}
 use Rattle.explain_words.specs.declared.request.profile.ProfileWords.{ProfileWords}
 use Rattle.explain_words.specs.declared.request.why.WhyWords.{WhyWords}
@@ -137,20 +139,35 @@ abbrev pub meter_or_work : Option Text → Option Meter
 meter_or_work None = Some Work
 meter_or_work (Some word) = meter_named word
 
--- what `plot` asks for
-pub record ArePlot (rows : List Row) (asked : PlotWords) : Type 0 where
+-- a function is run on arguments that are made of these sizes, by a seed, or on those of files
+pub data Arguments : Type 0 where
+  Made : Text → ℕ → Arguments
+  Given : List Text → Arguments
+
+abbrev pub plain_arguments : Arguments' → Arguments
+plain_arguments (arguments.Made sizes seed) = Made sizes.now seed
+plain_arguments (arguments.Given files) = Given (texts files.items)
+
+-- by the sizes and the seed, where they are given, and the files
+abbrev pub arguments_of : Option Text → Option Text → List Text → Option Arguments
+arguments_of (Some sizes) seed [] = option_map (Made sizes) (seed_or_1 seed)
+arguments_of None None (file ∷ files) = Some (Given (file ∷ files))
+arguments_of sizes seed files = None
+
+-- what `plot` asks for with these files behind `--data`
+pub record ArePlot (rows : List Row) (behind : List Text) (asked : PlotWords) : Type 0 where
   pub file : first_of (codes "file") rows ≡ Some asked.file.now
   pub name : first_of (codes "name") rows ≡ Some asked.name.now
-  pub sizes : first_of (codes "sizes") rows ≡ Some asked.sizes.now
-  pub seed : seed_or_1 (first_of (codes "seed") rows) ≡ Some asked.seed
+  pub run_on : arguments_of (first_of (codes "sizes") rows) (first_of (codes "seed") rows) behind ≡ Some (plain_arguments asked.arguments)
+  pub parameter : first_of (codes "of") rows ≡ lent asked.parameter
   pub degree : degree_or_4 (first_of (codes "degree") rows) ≡ Some asked.degree
   pub meter : meter_or_work (first_of (codes "meter") rows) ≡ Some asked.meter
   pub output : first_of (codes "output") rows ≡ Some asked.output.now
   pub force : is_set (codes "force") rows ≡ asked.force
 
-abbrev pub MeansPlot : List Row → Request → Type 0
-MeansPlot rows (Plot asked) = ArePlot rows asked
-MeansPlot rows other = ⊥
+abbrev pub MeansPlot : List Row → List Text → Request → Type 0
+MeansPlot rows behind (Plot asked) = ArePlot rows behind asked
+MeansPlot rows behind other = ⊥
 
 -- what `profile` asks for
 pub record AreProfile (rows : List Row) (asked : ProfileWords) : Type 0 where

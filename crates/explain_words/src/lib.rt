@@ -11,7 +11,7 @@ mod within;
 
 pub use commands::VERSION;
 pub use request::bounds::BoundsWords;
-pub use request::plot::PlotWords;
+pub use request::plot::{Arguments, PlotWords};
 pub use request::profile::ProfileWords;
 pub use request::why::{WhyWords, Written};
 pub use request::{Request, WordsFault, read_words};

@@ -1,30 +1,39 @@
 // What `plot` asks for.
-ghost use Rattle.std.specs.Prelude.{◌≡◌, IfOk, IfErr};
+ghost use Rattle.std.specs.Prelude.{◌≡◌, codes, option_map, IfOk, IfErr};
 ghost use Rattle.clap.specs.Walk.{rows_of};
 ghost use Rattle.clap.specs.Matches.{found_of};
 ghost use Rattle.explain_words.specs.Spelled.{lent};
-ghost use Rattle.explain_words.specs.Commands.{ArePlot, MeansPlot, Tells, meter_or_work, right, seed_or_1};
+ghost use Rattle.explain_words.specs.Commands.{ArePlot, MeansPlot, Tells, arguments_of, meter_or_work, plain_arguments, right, seed_or_1, texts, values};
 ghost use Rattle.explain_words.specs.Asking.{RefusesAll};
 
 use super::{Request, WordsFault, degree_or_4};
-use crate::given::{is_set, text_of};
+use crate::given::{is_set, text_of, texts_of};
 use crate::mistake::Mistake;
 use crate::number::seed_in;
 use crate::within::Meter;
 use clap::ArgMatches;
 use std::alloc::Global;
 
+/// The arguments that a function is run on.
+#[derive(Debug, Drop)]
+pub enum Arguments<'a> {
+    /// They are made of these sizes, as they stand behind `--sizes`; random ones from this seed.
+    Made { sizes: &'a str, seed: u64 },
+    /// They stand in these files, of which there is one at least.
+    Given { files: Vec<&'a str> },
+}
+
 /// What `plot` is asked to draw.
-#[derive(Clone, Copy, Debug)]
+#[derive(Debug, Drop)]
 pub struct PlotWords<'a> {
     /// The source of a program.
     pub file: &'a str,
     /// The function that is run.
     pub name: &'a str,
-    /// The sizes of its arguments, as they stand behind `--sizes`.
-    pub sizes: &'a str,
-    /// What random arguments are made from.
-    pub seed: u64,
+    /// Its arguments.
+    pub arguments: Arguments<'a>,
+    /// The parameter whose size is drawn.
+    pub parameter: Option<&'a str>,
     /// The greatest degree to try, 1 to 4.
     pub degree: u8,
     /// What is measured.
@@ -37,35 +46,67 @@ pub struct PlotWords<'a> {
 
 /// What `plot` asks for with what is found for its arguments.
 pub fn asked<'a>(alloc: Global, found: &ArgMatches<'a>) -> Result<Request<'a>, WordsFault>
-    ensures ok { IfOk result (MeansPlot (rows_of (found_of found.now))) }
-    ensures err { IfErr result (RefusesAll (MeansPlot (rows_of (found_of found.now)))) }
+    ensures ok { IfOk result (MeansPlot (rows_of (found_of found.now)) (values (codes "data") (rows_of (found_of found.now)))) }
+    ensures err { IfErr result (RefusesAll (MeansPlot (rows_of (found_of found.now)) (values (codes "data") (rows_of (found_of found.now))))) }
 {
-    match words_of(found) {
+    let files = texts_of(alloc, found, "data")?;
+    of_files(alloc, found, files)
+}
+
+// With these files behind `--data`.
+fn of_files<'a>(
+    alloc: Global,
+    found: &ArgMatches<'a>,
+    files: Vec<&'a str>,
+) -> Result<Request<'a>, WordsFault>
+    ensures ok { IfOk result (MeansPlot (rows_of (found_of found.now)) (texts files.entry.items)) }
+    ensures err { IfErr result (RefusesAll (MeansPlot (rows_of (found_of found.now)) (texts files.entry.items))) }
+{
+    match words_of(found, files) {
         Ok(words) => Ok(Request::Plot(words)),
         Err(mistake) => Err(mistake.told(alloc)),
     }
 }
 
-fn words_of<'a>(found: &ArgMatches<'a>) -> Result<PlotWords<'a>, Mistake>
-    ensures { Tells (ArePlot (rows_of (found_of found.now))) result }
+fn words_of<'a>(found: &ArgMatches<'a>, files: Vec<&'a str>) -> Result<PlotWords<'a>, Mistake>
+    ensures { Tells (ArePlot (rows_of (found_of found.now)) (texts files.entry.items)) result }
 {
     let file = text_of(found, "file").ok_or(Mistake::NoFile)?;
     let name = text_of(found, "name").ok_or(Mistake::NoName)?;
-    let sizes = text_of(found, "sizes").ok_or(Mistake::NoSizes)?;
     let output = text_of(found, "output").ok_or(Mistake::NoOutput)?;
-    let seed = seed_or_1(text_of(found, "seed"))?;
     let degree = degree_or_4(text_of(found, "degree"))?;
     let meter = meter_or_work(text_of(found, "meter"))?;
+    let arguments = arguments_of(text_of(found, "sizes"), text_of(found, "seed"), files)?;
     Ok(PlotWords {
         file,
         name,
-        sizes,
-        seed,
+        arguments,
+        parameter: text_of(found, "of"),
         degree,
         meter,
         output,
         force: is_set(found, "force"),
     })
+}
+
+// The arguments that are made, or those of files.
+fn arguments_of<'a>(
+    sizes: Option<&'a str>,
+    seed: Option<&'a str>,
+    files: Vec<&'a str>,
+) -> Result<Arguments<'a>, Mistake>
+    ensures { option_map plain_arguments (right result) ≡ arguments_of (lent sizes.entry) (lent seed.entry) (texts files.entry.items) }
+{
+    match sizes {
+        Some(_) if !files.is_empty() => Err(Mistake::TwoArguments),
+        Some(sizes) => Ok(Arguments::Made {
+            sizes,
+            seed: seed_or_1(seed)?,
+        }),
+        None if seed.is_some() => Err(Mistake::SeedOfData),
+        None if files.is_empty() => Err(Mistake::NoArguments),
+        None => Ok(Arguments::Given { files }),
+    }
 }
 
 // The seed that is given, or 1.
