@@ -75,11 +75,7 @@ fn runs_for(
 }
 
 /// The rows of lines. Each region is counted once.
-pub(crate) fn rows_of(
-    alloc: Global,
-    case: Case<'_>,
-    lines: &[Line],
-) -> Result<Vec<Row>, AllocError>
+pub(crate) fn rows_of(alloc: Global, case: Case<'_>, lines: &[Line]) -> Result<Vec<Row>, AllocError>
     requires least { 1 ≤ case.most }
     requires most { case.most ≤ 4 }
     requires lexed { IsLexed case.source.now }
