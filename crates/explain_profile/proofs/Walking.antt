@@ -1,17 +1,20 @@
 -- A walk through what a function reaches by calls.
-use Rattle.std.proofs.Common.{◌≡◌, ◌≢◌, ◌<◌, ◌≤◌, ◌+◌, ◌∙◌, ◌↔◌, ℕ, zero, suc, nat_eq, List, [], ◌∷◌, ◌++◌, map, take, length, Bool, true, false, cond, ◌||◌, ◌&&◌, ◌⊎◌, inl, inr, ⊎_elim, refl, ap, sym, subst, slice_get, Some, None, arith}
+use Rattle.std.proofs.Common.{◌≡◌, ◌≢◌, ◌<◌, ◌≤◌, ◌+◌, ◌∙◌, ◌↔◌, ℕ, zero, suc, nat_eq, List, [], ◌∷◌, ◌++◌, map, take, length, ◌-◌, slice_index_or, Bool, true, false, cond, ◌||◌, ◌&&◌, ◌⊎◌, inl, inr, ⊎_elim, refl, ap, sym, subst, slice_get, Some, None, arith}
 use Rattle.std.proofs.lemmas.Bool.{eqb-true, eqb-false, ne_eqb, or_left, or_right, or_cases, and_from, and_parts}
-use Rattle.std.proofs.lemmas.List.{append_assoc, append-nil, length-append}
+use Rattle.std.proofs.lemmas.List.{append_assoc, append-nil, length-append, length-map, get_or-map, take_more, take_all, take-append-le}
 use Rattle.std.specs.List.{filter, range_with_len}
 use Rattle.raml_syntax.specs.Tree.{Function, Prog}
 use Rattle.call_groups.specs.Calls.{calls, calls_from, calls_of, callees, is_called}
 use Rattle.call_groups.specs.Groups.{Reaches, here, there, Grouping, IsGrouping}
+use Rattle.raml_syntax.specs.declared.program.FunId.{FunId}
+use Rattle.call_groups.specs.Read.{ids_of}
 use Rattle.call_groups.proofs.Leads.{reaches_more}
+use Rattle.call_groups.proofs.Lists.{ids_push}
 use Rattle.call_groups.proofs.Marks.{calls_low}
 use Rattle.call_groups.proofs.Truths.{same, or_none, or_or}
+use Rattle.explain_profile.specs.Walk.{MayAddOne, missing, AddsAll, Walked}
 use Rattle.explain_rounds.specs.Calls.{is_in}
 use Rattle.explain_mending.specs.Reached.{callees_at}
-use Rattle.explain_profile.specs.Walk.{MayAddOne, missing, AddsAll, Walked}
 
 -- ---- members of lists
 
@@ -132,6 +135,22 @@ adds_more f funs old new newer adds (inr (was, is)) = record {
       ap (λ (xs : List ℕ). missing n xs + length xs) is ∙ grind (arith, rest, less, long);
 }
 
+-- the next one of a list
+pub adds_next : (funs : List FunId) (i : ℕ) (d : FunId) (old new newer : List ℕ) → i < length funs → AddsAll (ids_of (take i funs)) old new →
+    MayAddOne (slice_index_or funs i d).0 new newer → AddsAll (ids_of (take (i + 1) funs)) old newer
+adds_next funs i d old new newer within adds may =
+    let next = slice_index_or funs i d in
+    let is : ids_of (take (i + 1) funs) ≡ ids_of (take i funs) ++ next.0 ∷ [] = ap ids_of (take_more funs i d within) ∙ ids_push (take i funs) next in
+    subst (λ fs. AddsAll fs old newer) (sym is) (adds_more next.0 (ids_of (take i funs)) old new newer adds may)
+
+pub in_at : (xs : List ℕ) (i d : ℕ) → i < length xs → is_in (slice_index_or xs i d) xs ≡ true
+in_at [] i d within = absurd (omega arith)
+in_at (x ∷ xs) zero d within = or_left (nat_eq x x) (is_in x xs) (same x)
+in_at (x ∷ xs) (suc i) d within = let f = slice_index_or xs i d in or_right (nat_eq f x) (is_in f xs) (in_at xs i d (omega arith))
+
+abbrev id : FunId → ℕ
+id f = f.0
+
 -- ---- what is called
 
 module _ (P : Prog) where
@@ -161,7 +180,7 @@ module _ (P : Prog) where
 
     -- ---- the walk
 
-    pub walks_on : (f next : ℕ) (first found more : List ℕ) → Walked P f first found → is_in next found ≡ true → AddsAll (callees_at groups.calls next) found more →
+    walks_on : (f next : ℕ) (first found more : List ℕ) → Walked P f first found → is_in next found ≡ true → AddsAll (callees_at groups.calls next) found more →
         Walked P f (first ++ next ∷ []) more
     walks_on f next first found more walked at adds = record {
       begun = kept f walked.begun;
@@ -173,6 +192,27 @@ module _ (P : Prog) where
       where
         kept : (g : ℕ) → is_in g found ≡ true → is_in g more ≡ true
         kept g old = ap (is_in g) adds.behind ∙ in_first g found adds.more old
+
+    -- the next one of those that are found
+    pub walk_next : (f place : ℕ) (found more : List FunId) (d : FunId) → place < length found → Walked P f (take place (ids_of found)) (ids_of found) →
+        AddsAll (callees_at groups.calls (slice_index_or found place d).0) (ids_of found) (ids_of more) →
+        Walked P f (take (place + 1) (ids_of more)) (ids_of more) × (place + 1 ≤ length more)
+        × (missing (length P) (ids_of more) + (length more - (place + 1)) < missing (length P) (ids_of found) + (length found - place))
+    walk_next f place found more d within walked adds =
+        let old = ids_of found in
+        let new = ids_of more in
+        let next = slice_index_or found place d in
+        let old_length : length old ≡ length found = length-map found id in
+        let new_length : length new ≡ length more = length-map more id in
+        let there : place < length old = omega (arith, within, old_length) in
+        let at : slice_index_or old place d.0 ≡ next.0 = get_or-map id found place d d.0 within in
+        let first : take (place + 1) old ≡ take place old ++ next.0 ∷ [] = take_more old place d.0 there ∙ ap (λ x. take place old ++ x ∷ []) at in
+        let kept : take (place + 1) new ≡ take (place + 1) old = ap (take (place + 1)) adds.behind ∙ take-append-le (place + 1) old adds.more (omega (arith, there)) in
+        let here : is_in next.0 old ≡ true = ap (λ x. is_in x old) (sym at) ∙ in_at old place d.0 there in
+        let grows : length new ≡ length old + length adds.more = ap length adds.behind ∙ length-append old adds.more in
+        let fewer : missing (length P) new + length new ≡ missing (length P) old + length old = adds.fewer (length P) (callees_low next.0) in
+        (subst (λ fs. Walked P f fs new) (sym (kept ∙ first)) (walks_on f next.0 (take place old) old new walked here adds),
+        omega (arith, there, grows, new_length), omega (arith, fewer, there, grows, old_length, new_length))
 
   pub walk_begins : (f : ℕ) → Walked P f [] (f ∷ [])
   walk_begins f = record {
@@ -187,5 +227,12 @@ module _ (P : Prog) where
     reached_from g h is here = is
     reached_from g h is (there {g = next} called rest) = reached_from next h (walked.called g next is called) rest
 
-    pub all_reached : (g : ℕ) → (is_in g found ≡ true) ↔ Reaches P f g
+    all_reached : (g : ℕ) → (is_in g found ≡ true) ↔ Reaches P f g
     all_reached g = (walked.reached g, λ reaches. reached_from f g walked.begun reaches)
+
+  -- the walk has come to the end
+  pub walk_ends : (f place : ℕ) (found : List FunId) → length found ≤ place → Walked P f (take place (ids_of found)) (ids_of found) →
+      (g : ℕ) → (is_in g (ids_of found) ≡ true) ↔ Reaches P f g
+  walk_ends f place found over walked =
+      let all : take place (ids_of found) ≡ ids_of found = take_all place (ids_of found) (omega (arith, over, length-map found id)) in
+      all_reached f (ids_of found) (subst (λ fs. Walked P f fs (ids_of found)) all walked)

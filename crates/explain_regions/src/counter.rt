@@ -84,7 +84,9 @@ fn pieces_in<'a>(alloc: Global, text: &'a str) -> Result<Vec<Piece<'a>>, AllocEr
     match tokens(alloc, text) {
         Ok(tokens) => pieces_of(alloc, text, &tokens),
         Err(LexFault::NoMemory) => Err(AllocError),
-        Err(_) => unreachable!(),
+        Err(LexFault::BadChar { .. }) => unreachable!(),
+        Err(LexFault::NumberTooWide { .. }) => unreachable!(),
+        Err(LexFault::OpenComment { .. }) => unreachable!(),
     }
 }
 

@@ -6,7 +6,7 @@ use Rattle.explain_profile.proofs.reach.reached.Given as goal
 
 abbrev pub invariant-loop-place : goal.invariant-loop-place
 invariant-loop-place l = record {
-  walked : Walked (program_of l.program) l.fn.fun.0 (ids_of (take l.place l.found.items)) (ids_of l.found.items);
+  walked : Walked (program_of l.program) l.fn.fun.0 (take l.place (ids_of l.found.items)) (ids_of l.found.items);
   place : l.place ≤ length l.found.items;
 }
 
