@@ -1,3 +1,4 @@
+mod Found
 mod Laid
 mod Spaces
 mod Walking

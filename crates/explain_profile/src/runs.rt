@@ -170,11 +170,12 @@ fn runs_in(alloc: Global, case: Case<'_>, typed: &Typed) -> Result<Runs, AllocEr
     ensures { IfOk result (AreFound (program_of typed.now) case.entry.most (sizes_in case.entry.sizes)
         (place_of case.entry.name.now (program_of typed.now))) }
 {
-    match typed.program().find(case.name) {
+    let program = typed.program();
+    match program.find(case.name) {
         Some(fun) => {
             let found = found_from(alloc, typed, fun, 1, case.most)?;
             findings_can_be_told();
-            runs_at(alloc, typed.program(), &found.functions, fun, case.sizes)
+            runs_at(alloc, program, &found.functions, fun, case.sizes)
         }
         None => Ok(Runs::NotAnalysed),
     }

@@ -1,5 +1,5 @@
 -- What is told of a source that is read, of its program, and of a function.
-use Rattle.std.proofs.Common.{◌≡◌, ◌≤◌, ◌++◌, [], ℕ, Option, List, Some, None, Result, Ok, Err, IfOk, length, ap, refl, sym, subst, ◌∙◌, inl, inr, slice_get, arith}
+use Rattle.std.proofs.Common.{◌≡◌, ◌≤◌, ◌++◌, [], ◌∷◌, ℕ, zero, suc, Option, List, Some, None, Result, Ok, Err, IfOk, length, ap, refl, sym, subst, ◌∙◌, inl, inr, slice_get, arith}
 use Rattle.std.proofs.lemmas.List.{append-nil}
 use Rattle.raml_syntax.specs.Tree.{Text, Function, Prog}
 use Rattle.raml_syntax.specs.Place.{place_of}
@@ -47,6 +47,12 @@ of_call store words source first old_text new_text old read new (Ok end) gives o
     let same : read ≡ old = once ∙ ap (λ part. old ++ part) gives.3 ∙ append-nil old in
     (told.0, told.1, inr (source.bytes.items, program_of source.typed, gives.0, gives.2, told.2), told.3, told.4 ∙ ap (λ read. read ++ told.1) same)
 of_call store words source first old_text new_text old read new (Err x) gives once told = tt
+
+-- behind the end of a list is nothing
+pub past : {A : Type 0} (xs : List A) (i : ℕ) → length xs ≤ i → slice_get xs i ≡ None
+past [] i over = refl
+past (x ∷ xs) zero over = absurd (omega (arith, over))
+past (x ∷ xs) (suc i) over = past xs i (omega (arith, over))
 
 -- there is no function of the name
 pub of_none : {E : Type 0} (source : Text) (P : Prog) (words : ProfileWords) (text old new : Text) (result : Result End E) →

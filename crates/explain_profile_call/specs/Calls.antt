@@ -40,17 +40,24 @@ EndsBy c ss e.Told text report = IsProfile (case_for c ss) c.program c.place c.f
 EndsBy c ss e.NotAnalysed text report = CannotBeCounted (case_for c ss) c.program c.place × (text ≡ []) × (report ≡ not_counted)
 EndsBy c ss e.Refused text report = ⊥
 
+-- why words are no sizes
+abbrev pub no_sizes_line : WordFault → Text
+no_sizes_line fault = codes "error: '--at': " ++ (word_text fault ++ codes "\n")
+
+-- why sizes are not those of the parameters of the function of this name
+abbrev pub misfit_line : Text → Text → SizeFault → Text
+misfit_line file name fault = error_line file (name ++ (codes ": " ++ size_text fault))
+
 -- the words behind `--at` are no sizes: that is told
 abbrev pub AreNoSizes : Text → Text → Type 0
 AreNoSizes at report =
-    (fault : WordFault) × IsWordFault (words_read (Ok []) (words_of at)) fault
-    × (report ≡ codes "error: '--at': " ++ (word_text fault ++ codes "\n"))
+    (fault : WordFault) × IsWordFault (words_read (Ok []) (words_of at)) fault × (report ≡ no_sizes_line fault)
 
 -- sizes that are not those of the parameters: that is told
 abbrev pub DoNotFit : Callee → List Given → Text → Type 0
 DoNotFit c gs report =
     (fault : SizeFault) × IsSizeFault (asked gs (names_and_types c.function.params)) fault
-    × (report ≡ error_line c.words.file.now (c.function.name ++ (codes ": " ++ size_text fault)))
+    × (report ≡ misfit_line c.words.file.now c.function.name fault)
 
 -- with sizes that are given, where they are those of the parameters
 abbrev pub GivenIs : Callee → List Given → End → Text → Text → Type 0

@@ -10,7 +10,7 @@ ghost use Rattle.explain_words.specs.Laws.{IsDegree};
 ghost use Rattle.explain_words.specs.Spelled.{lent};
 ghost use Rattle.explain_regions.specs.Counter.{IsLexed};
 ghost use Rattle.explain_profile.specs.Read.{sizes_in};
-ghost use Rattle.explain_profile_call.specs.Calls.{CallIs, EndsBy, FunctionIs, GivenIs, ProgramIs};
+ghost use Rattle.explain_profile_call.specs.Calls.{CallIs, EndsBy, FunctionIs, GivenIs, ProgramIs, misfit_line, no_sizes_line};
 ghost use Rattle.explain_profile_call.specs.Read.{callee_of};
 
 use explain_at::{Given, SizeFault, WordFault, read, sizes_at};
@@ -138,11 +138,17 @@ fn tell_words(
     match read(alloc, at) {
         Ok(given) => tell_given(alloc, callee, &given, text, report),
         Err(WordFault::NoMemory) => Err(AllocError),
-        Err(fault) => {
-            write!(report, "error: '--at': {fault}\n")?;
-            Ok(End::Refused)
-        }
+        Err(fault) => refuse_words(&fault, report),
     }
+}
+
+/// Refuses words that are no sizes.
+fn refuse_words(fault: &WordFault<'_>, report: &mut String) -> Result<End, AllocError>
+    ensures end { IfOk result (λ end. end ≡ e.Refused) }
+    ensures report { IfOk result (λ end. string_bytes report.new ≡ string_bytes report.old ++ no_sizes_line fault.now) }
+{
+    write!(report, "error: '--at': {fault}\n")?;
+    Ok(End::Refused)
 }
 
 /// Tells it at sizes that are given, where they are those of the parameters.
@@ -164,11 +170,27 @@ fn tell_given(
         Ok(sizes) => tell_at(alloc, callee, Some(&sizes), text, report),
         Err(SizeFault::NoMemory) => Err(AllocError),
         Err(fault) => {
-            let why = format!(in alloc; "{}: {fault}", callee.function.name.text())?;
-            push_error(callee.words.file, &why, report)?;
-            Ok(End::Refused)
+            let name = callee.function.name.text();
+            refuse_sizes(alloc, callee.words.file, name, &fault, report)
         }
     }
+}
+
+/// Refuses sizes that are not those of the parameters of this function.
+fn refuse_sizes(
+    alloc: Global,
+    file: &str,
+    name: &str,
+    fault: &SizeFault<'_>,
+    report: &mut String,
+) -> Result<End, AllocError>
+    ensures end { IfOk result (λ end. end ≡ e.Refused) }
+    ensures report { IfOk result (λ end. string_bytes report.new
+        ≡ string_bytes report.old ++ misfit_line file.now name.now fault.now) }
+{
+    let why = format!(in alloc; "{name}: {fault}")?;
+    push_error(file, &why, report)?;
+    Ok(End::Refused)
 }
 
 /// Tells it at the sizes of the parameters, where they are given.
