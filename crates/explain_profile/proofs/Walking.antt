@@ -210,9 +210,11 @@ module _ (P : Prog) where
         let kept : take (place + 1) new ≡ take (place + 1) old = ap (take (place + 1)) adds.behind ∙ take-append-le (place + 1) old adds.more (omega (arith, there)) in
         let here : is_in next.0 old ≡ true = ap (λ x. is_in x old) (sym at) ∙ in_at old place d.0 there in
         let grows : length new ≡ length old + length adds.more = ap length adds.behind ∙ length-append old adds.more in
-        let fewer : missing (length P) new + length new ≡ missing (length P) old + length old = adds.fewer (length P) (callees_low next.0) in
-        (subst (λ fs. Walked P f fs new) (sym (kept ∙ first)) (walks_on f next.0 (take place old) old new walked here adds),
-        omega (arith, there, grows, new_length), omega (arith, fewer, there, grows, old_length, new_length))
+        let fewer : missing (length P) new + length new ≡ missing (length P) old + length old = adds.fewer (length P) (callees_low next.0) in (
+          subst (λ fs. Walked P f fs new) (sym (kept ∙ first)) (walks_on f next.0 (take place old) old new walked here adds),
+          omega (arith, there, grows, new_length),
+          omega (arith, fewer, there, grows, old_length, new_length),
+        )
 
   pub walk_begins : (f : ℕ) → Walked P f [] (f ∷ [])
   walk_begins f = record {

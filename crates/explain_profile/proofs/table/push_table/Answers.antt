@@ -14,6 +14,9 @@ returns c =
     let last = line_with (meaning (function_of c.args.fun.now)) in
     let before = rows.2 ∙ ap (λ (text : Text). text ++ rows.0) heading.2 in
     on_ok_weaker c.push_meaning.result
-    (λ told. (heading.0 ++ (rows.0 ++ last), record { above = heading.0; shown = rows.0; are = rows.1; is = refl },
-    told ∙ ap (λ (text : Text). text ++ last) before ∙ append_assoc (old ++ heading.0) rows.0 last ∙ append_assoc old heading.0 (rows.0 ++ last)))
+    (λ told. (
+      heading.0 ++ (rows.0 ++ last),
+      record { above = heading.0; shown = rows.0; are = rows.1; is = refl },
+      told ∙ ap (λ (text : Text). text ++ last) before ∙ append_assoc (old ++ heading.0) rows.0 last ∙ append_assoc old heading.0 (rows.0 ++ last),
+    ))
     c.push_meaning.ensures
