@@ -1,3 +1,4 @@
+mod Counted
 mod Found
 mod Laid
 mod Spaces
