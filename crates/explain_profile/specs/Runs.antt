@@ -1,12 +1,12 @@
 -- How often a region of a program is run at most by a call of a function.
-use Rattle.std.specs.Prelude.{◌≡◌, ◌≤◌, ◌⊎◌, ℕ, ◌^◌, List, Option, Some, None, SomeIff, slice_get, string_bytes}
+use Rattle.std.specs.Prelude.{◌≡◌, ◌≤◌, ◌<◌, ◌⊎◌, ℕ, length, ◌^◌, List, Option, Some, None, SomeIff, slice_get, string_bytes}
 use Rattle.raml_syntax.specs.Tree.{Text, Function, Prog}
 use Rattle.raml_syntax.specs.Types.{types_of}
 use Rattle.raml_syntax.specs.Place.{place_of}
 use Rattle.base_poly.specs.declared.tuple.Poly.{Poly}
 use Rattle.explain_sizes.specs.Sizes.{Sizes}
 use Rattle.explain_sizes.specs.Counts.{whole_at}
-use Rattle.explain_check.specs.Checks.{IsProgramOf}
+use Rattle.explain_check.specs.Checks.{IsProgramOf, RefusedAt, most_bytes}
 use Rattle.explain_edits.specs.Edits.{Edit, with_edits}
 use Rattle.explain_regions.specs.Counter.{AreCounterEdits}
 use Rattle.explain_trials.specs.Trials.{FindsUpTo}
@@ -75,14 +75,18 @@ AreFound P most ss None runs = runs ≡ r.NotAnalysed
 AreFound P most ss (Some f) runs =
     (found : LeastBounds) × FindsTicks P f most found × AreRunsOf ss (slice_get P f) (slice_get found.functions.items f) runs
 
--- The source with a counter in the region spells a program, in which the ticks of the function are bounded so.
-pub record AreCounted (case : Case) (region : ℕ) (runs : Runs) : Type 0 where
+-- `raml` refuses the text, at some byte, or it is longer than a source may be
+abbrev pub IsNoSource : Text → Type 0
+IsNoSource text = (most_bytes < length text) ⊎ ((at : ℕ) × RefusedAt text at)
+
+-- what is found of the program that a text spells; or it is not analysed, since it spells none
+abbrev pub AreRunsIn : Case → Text → Runs → Type 0
+AreRunsIn case text runs =
+    ((P : Prog) × IsProgramOf text P × AreFound P case.most case.sizes (place_of case.name P) runs)
+    ⊎ (IsNoSource text × (runs ≡ r.NotAnalysed))
+
+-- How often the region that begins at this byte is run at most: what is found of the source with a counter in it.
+pub record AreRunsAt (case : Case) (region : ℕ) (runs : Runs) : Type 0 where
   pub edits : List Edit
   pub counter : AreCounterEdits case.source region edits
-  pub program : Prog
-  pub spelled : IsProgramOf (with_edits case.source edits) program
-  pub found : AreFound program case.most case.sizes (place_of case.name program) runs
-
--- how often the region that begins at this byte is run at most; it is not analysed where the changed source breaks a limit of programs
-abbrev pub AreRunsAt : Case → ℕ → Runs → Type 0
-AreRunsAt case region runs = AreCounted case region runs ⊎ (runs ≡ r.NotAnalysed)
+  pub are : AreRunsIn case (with_edits case.source edits) runs

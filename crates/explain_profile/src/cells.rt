@@ -1,9 +1,11 @@
 // The cells of the row of a line.
-ghost use Rattle.std.specs.Prelude.{◌≡◌, [], ◌∷◌, ◌++◌, IfOk, OnOk, decimal, codes, string_bytes};
+ghost use Rattle.std.specs.Prelude.{◌≡◌, [], ◌∷◌, ◌++◌, IfOk, IsTrue, OnOk, decimal, codes, string_bytes};
 ghost use Rattle.explain_at.specs.Read.{texts};
 ghost use Rattle.explain_regions.specs.Read.{plain_line};
 ghost use Rattle.explain_profile.specs.Rows as r;
+ghost use Rattle.explain_profile.specs.declared.runs.Runs.TheVariants as v;
 
+use crate::rows::in_all;
 use crate::runs::Runs;
 use explain_regions::Line;
 use std::alloc::{AllocError, Global};
@@ -19,6 +21,13 @@ impl Runs {
         }
     }
 
+    /// Whether no analysis could be made.
+    pub(crate) fn are_unknown(&self) -> bool
+        ensures { IsTrue result → self.now ≡ v.NotAnalysed }
+    {
+        matches!(self, Runs::NotAnalysed)
+    }
+
     /// How many there are at the sizes that are given, where that is known.
     pub(crate) fn number(&self) -> Option<u128>
         ensures { result ≡ r.number_at self.now }
@@ -28,16 +37,6 @@ impl Runs {
             Runs::NoBound => None,
             Runs::NotAnalysed => None,
         }
-    }
-}
-
-/// What so many runs cost.
-pub(crate) fn in_all(number: Option<u128>, cost: u128) -> Option<u128>
-    ensures { result ≡ r.in_all number cost }
-{
-    match number {
-        Some(number) => number.checked_mul(cost),
-        None => None,
     }
 }
 

@@ -3,9 +3,10 @@
 
 mod cells;
 mod columns;
-mod counted;
 mod lines;
 mod profile;
+mod reach;
+mod rows;
 mod runs;
 mod table;
 

@@ -3,17 +3,15 @@ ghost use Rattle.std.specs.Prelude.{◌≡◌, ◌<◌, ◌≤◌, ◌^◌, ◌+
 ghost use Rattle.raml_syntax.specs.Read.{program_of, function_of};
 ghost use Rattle.call_groups.specs.Read.{ids_of};
 ghost use Rattle.explain_regions.specs.Read.{plain_lines};
-ghost use Rattle.explain_profile.specs.Rows.{lines_if, lines_of};
-ghost use Rattle.explain_profile.specs.Profile.{AreReachedLines};
+ghost use Rattle.explain_profile.specs.Reached.{AreReachedLines, lines_if, lines_of};
 
-use call_groups::group_calls;
-use explain_mending::reached;
+use crate::reach::reached;
 use explain_regions::{Line, lines};
 use explain_rounds::is_in;
 use raml_syntax::{Fun, FunId, Program};
 use std::alloc::{AllocError, Global};
 
-/// Adds the lines of a function, where it is among these.
+/// Adds the lines of a function, where it is told of.
 fn add_lines(
     alloc: Global,
     source: &[u8],
@@ -60,7 +58,6 @@ pub(crate) fn reached_lines(
     requires { length (program_of program.now) ≤ 256 }
     ensures { IfOk result (λ found. AreReachedLines source.now (program_of program.now) fun.0 (plain_lines found.items)) }
 {
-    let groups = group_calls(alloc, program)?;
-    let funs = reached(alloc, &groups, &[fun])?;
+    let funs = reached(alloc, program, fun)?;
     lines_in(alloc, source, program, &funs)
 }

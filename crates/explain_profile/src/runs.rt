@@ -7,19 +7,21 @@ ghost use Rattle.base_poly.specs.Indices.{AreIndices};
 ghost use Rattle.base_poly.specs.Poly.{IsPoly};
 ghost use Rattle.poly_point.specs.Point.{AreLow};
 ghost use Rattle.explain_bounds.specs.Written.{CanBeTold};
-ghost use Rattle.explain_check.specs.Checks.{IsProgramOf};
+ghost use Rattle.explain_regions.specs.Counter.{IsLexed};
 ghost use Rattle.explain_profile.specs.Runs as r;
-ghost use Rattle.explain_profile.specs.Runs.{AreFound, AreRuns, AreRunsAt, AreRunsOf, FindsTicks, IsAt, IsAtMost, IsBoundedAt};
-ghost use Rattle.explain_profile.specs.Read.{case_of, function_in, lent, sizes_in};
+ghost use Rattle.explain_profile.specs.Runs.{AreFound, AreRuns, AreRunsAt, AreRunsIn, AreRunsOf, FindsTicks, IsAt, IsAtMost, IsBoundedAt};
+ghost use Rattle.explain_profile.specs.Read.{case_of, function_in, lent, sizes_in, SpellsIt};
 
 use base_poly::Poly;
 use explain_bounds::laws::findings_can_be_told;
 use explain_bounds::{parameter_names, parameter_types};
+use explain_check::{MOST_BYTES, typed_source};
 use explain_degrees::{Finding, Findings, LeastBounds};
+use explain_edits::edited;
 use explain_reading::read_bound;
 use explain_regions::counter_edits;
 use explain_sizes::{Size, value_at};
-use explain_trials::{found_of, typed_edits};
+use explain_trials::found_of;
 use raml_syntax::{Fun, FunId, Pos, Program};
 use simple_types::Typed;
 use std::alloc::{AllocError, Global};
@@ -168,12 +170,36 @@ fn runs_in(alloc: Global, case: Case<'_>, typed: &Typed) -> Result<Runs, AllocEr
     ensures { IfOk result (AreFound (program_of typed.now) case.entry.most (sizes_in case.entry.sizes)
         (place_of case.entry.name.now (program_of typed.now))) }
 {
-    match typed.program().find(case.name) {
+    let program = typed.program();
+    match program.find(case.name) {
         Some(fun) => {
             let found = found_from(alloc, typed, fun, 1, case.most)?;
             findings_can_be_told();
-            runs_at(alloc, typed.program(), &found.functions, fun, case.sizes)
+            runs_at(alloc, program, &found.functions, fun, case.sizes)
         }
+        None => Ok(Runs::NotAnalysed),
+    }
+}
+
+/// The typed program that a text spells. None where `raml` refuses the text, or it is longer than a source may be.
+fn program_in(alloc: Global, text: &[u8]) -> Result<Option<Typed>, AllocError>
+    ensures { IfOk result (SpellsIt text.now) }
+{
+    if text.len() as u64 > MOST_BYTES {
+        return Ok(None);
+    }
+    let mut report = String::new(alloc);
+    typed_source(alloc, "", text, &mut report)
+}
+
+/// How often a region is run at most, by the source with a counter in it.
+fn runs_by(alloc: Global, case: Case<'_>, changed: &[u8]) -> Result<Runs, AllocError>
+    requires least { 1 ≤ case.most }
+    requires most { case.most ≤ 4 }
+    ensures { IfOk result (AreRunsIn (case_of case.entry) changed.now) }
+{
+    match program_in(alloc, changed)? {
+        Some(typed) => runs_in(alloc, case, &typed),
         None => Ok(Runs::NotAnalysed),
     }
 }
@@ -182,13 +208,10 @@ fn runs_in(alloc: Global, case: Case<'_>, typed: &Typed) -> Result<Runs, AllocEr
 pub(crate) fn runs_of_region(alloc: Global, case: Case<'_>, region: Pos) -> Result<Runs, AllocError>
     requires least { 1 ≤ case.most }
     requires most { case.most ≤ 4 }
+    requires lexed { IsLexed case.source.now }
     ensures { IfOk result (AreRunsAt (case_of case.entry) region.0) }
 {
-    match counter_edits(alloc, case.source, region)? {
-        Some(edits) => match typed_edits(alloc, case.source, &edits)? {
-            Some(changed) => runs_in(alloc, case, &changed.typed),
-            None => Ok(Runs::NotAnalysed),
-        },
-        None => Ok(Runs::NotAnalysed),
-    }
+    let edits = counter_edits(alloc, case.source, region)?;
+    let changed = edited(alloc, case.source, &edits)?;
+    runs_by(alloc, case, &changed)
 }

@@ -1,5 +1,5 @@
 -- A source with a counter in a region: there is no tick but one that is paid whenever the region is entered.
-use Rattle.std.specs.Prelude.{◌≡◌, ℕ, ◌+◌, ◌-◌, nat_eq, List, [], ◌∷◌, ◌++◌, cond, codes}
+use Rattle.std.specs.Prelude.{◌≡◌, ◌<◌, ◌^◌, ℕ, length, ◌+◌, ◌-◌, nat_eq, List, [], ◌∷◌, ◌++◌, cond, codes}
 use Rattle.raml_syntax.specs.Tree.{Text}
 use Rattle.raml_parse.specs.Spelling.{HasTokens, place_of}
 use Rattle.parse_table.specs.Tokens.{Token, is_key}
@@ -22,6 +22,12 @@ removal t _ = []
 abbrev pub edits : ℕ → List Token → List Edit
 edits region [] = []
 edits region (t ∷ ts) = insertion region t ++ (removal t ts ++ edits region ts)
+
+-- a source of fewer than 2^31 bytes, which has tokens
+pub record IsLexed (source : Text) : Type 0 where
+  pub short : length source < 2 ^ 31
+  pub tokens : List Token
+  pub has : HasTokens source tokens
 
 -- The edits of a source that put a counter in the region that begins there.
 pub record AreCounterEdits (source : Text) (region : ℕ) (made : List Edit) : Type 0 where

@@ -15,28 +15,27 @@ pub record Line : Type 0 where
   pub cells : ℕ
   pub work : ℕ
 
--- the line of its first form
-abbrev pub line_of : Site → Line
-line_of s = record { at = s.at; region = s.region; ticks = s.ticks; cells = s.cells; work = 1 }
+-- the line of a form, where no other one begins on it
+abbrev pub alone : Site → Line
+alone s = record { at = s.at; region = s.region; ticks = s.ticks; cells = s.cells; work = 1 }
 
--- with one form more
-abbrev pub with_site : Line → Site → Line
-with_site l s =
-    record { at = l.at; region = l.region; ticks = l.ticks + s.ticks; cells = l.cells + s.cells; work = l.work + 1 }
+-- two parts of a line
+abbrev pub joined : Line → Line → Line
+joined l m = record { at = l.at; region = l.region; ticks = l.ticks + m.ticks; cells = l.cells + m.cells; work = l.work + m.work }
 
 -- a line ends between these bytes
 abbrev pub ends_between : Text → ℕ → ℕ → Bool
 ends_between source from to = list_any is_newline (take (to - from) (drop from source))
 
--- this line, on which the last form so far begins there, and those of these forms
-abbrev pub lines_from : Text → Line → ℕ → List Site → List Line
-lines_from source l last [] = l ∷ []
-lines_from source l last (s ∷ ss) =
-    cond (ends_between source last s.at) (l ∷ lines_from source (line_of s) s.at ss) (lines_from source (with_site l s) s.at ss)
+-- lines behind forms of a line, the last of which begins at this byte: the first goes on with it, unless it ends between
+abbrev pub before : Text → Line → ℕ → List Line → List Line
+before source l last [] = l ∷ []
+before source l last (m ∷ ms) = cond (ends_between source last m.at) (l ∷ m ∷ ms) (joined l m ∷ ms)
 
+-- the lines on which these forms begin
 abbrev pub lines_in : Text → List Site → List Line
 lines_in source [] = []
-lines_in source (s ∷ ss) = lines_from source (line_of s) s.at ss
+lines_in source (s ∷ ss) = before source (alone s) s.at (lines_in source ss)
 
 -- the lines of a body
 abbrev pub lines : Text → t.Term → List Line

@@ -1,6 +1,7 @@
 -- The regions of a function: what is run together. A region is a body, or a branch of an `if` or of a `match`, without the branches in it.
 use Rattle.std.specs.Prelude.{ℕ, List, [], ◌∷◌, ◌++◌}
 use Rattle.raml_syntax.specs.Tree as t
+use Rattle.simple_types.specs.Walk.{place}
 
 -- A form, by the byte where it begins, with the byte where its region begins. It costs so many ticks and cells beside its parts, and one
 -- unit of work.
@@ -12,31 +13,6 @@ pub record Site : Type 0 where
 
 abbrev pub site : ℕ → ℕ → ℕ → ℕ → Site
 site at region ticks cells = record { at = at; region = region; ticks = ticks; cells = cells }
-
--- where an expression begins
-abbrev pub start : t.Term → ℕ
-start (t.Number p n) = p
-start (t.Truth p b) = p
-start (t.Nil p) = p
-start (t.Leaf p) = p
-start (t.Nothing p) = p
-start (t.Var p x) = p
-start (t.Arith p op a b) = p
-start (t.Compare p op a b) = p
-start (t.Not p a) = p
-start (t.Pair p a b) = p
-start (t.Cons p a b) = p
-start (t.Node p a b c) = p
-start (t.Just p a) = p
-start (t.Call p f args) = p
-start (t.Let p x a b) = p
-start (t.LetPair p x y a b) = p
-start (t.If p c a b) = p
-start (t.MatchList p c a x y b) = p
-start (t.MatchTree p c a x y z b) = p
-start (t.MatchOption p c a x b) = p
-start (t.Tick p k a) = p
-start (t.Typed p a A) = p
 
 abbrev mutual
   -- the forms of an expression of a region, in the order of the source; an annotation costs nothing
@@ -57,10 +33,10 @@ abbrev mutual
   sites r (t.Call p f args) = site p r 0 0 ∷ all_sites r args
   sites r (t.Let p x a b) = site p r 0 0 ∷ (sites r a ++ sites r b)
   sites r (t.LetPair p x y a b) = site p r 0 0 ∷ (sites r a ++ sites r b)
-  sites r (t.If p c a b) = site p r 0 0 ∷ (sites r c ++ (sites (start a) a ++ sites (start b) b))
-  sites r (t.MatchList p c a x y b) = site p r 0 0 ∷ (sites r c ++ (sites (start a) a ++ sites (start b) b))
-  sites r (t.MatchTree p c a x y z b) = site p r 0 0 ∷ (sites r c ++ (sites (start a) a ++ sites (start b) b))
-  sites r (t.MatchOption p c a x b) = site p r 0 0 ∷ (sites r c ++ (sites (start a) a ++ sites (start b) b))
+  sites r (t.If p c a b) = site p r 0 0 ∷ (sites r c ++ (sites (place a) a ++ sites (place b) b))
+  sites r (t.MatchList p c a x y b) = site p r 0 0 ∷ (sites r c ++ (sites (place a) a ++ sites (place b) b))
+  sites r (t.MatchTree p c a x y z b) = site p r 0 0 ∷ (sites r c ++ (sites (place a) a ++ sites (place b) b))
+  sites r (t.MatchOption p c a x b) = site p r 0 0 ∷ (sites r c ++ (sites (place a) a ++ sites (place b) b))
   sites r (t.Tick p k a) = site p r k 0 ∷ sites r a
   sites r (t.Typed p a A) = sites r a
 
@@ -70,4 +46,4 @@ abbrev mutual
 
 -- those of a body
 abbrev pub body_sites : t.Term → List Site
-body_sites body = sites (start body) body
+body_sites body = sites (place body) body

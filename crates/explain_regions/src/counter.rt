@@ -1,11 +1,10 @@
 // A source with a counter in a region.
-ghost use Rattle.std.specs.Prelude.{◌≡◌, ◌<◌, ◌^◌, ◌++◌, length, IfOk, IfSome, OnOk};
-ghost use Rattle.std.specs.Str.{IsUtf8};
+ghost use Rattle.std.specs.Prelude.{◌≡◌, ◌++◌, IfOk, OnOk};
 ghost use Rattle.raml_parse.specs.Spelling.{HasTokens, place_of};
 ghost use Rattle.parse_table.specs.Read.{pieces, token_of};
 ghost use Rattle.explain_edits.specs.Read.{edit_of, edits_of};
 ghost use Rattle.explain_regions.specs.Counter as c;
-ghost use Rattle.explain_regions.specs.Counter.{AreCounterEdits};
+ghost use Rattle.explain_regions.specs.Counter.{AreCounterEdits, IsLexed};
 
 use explain_edits::Edit;
 use parse_table::pieces::pieces_of;
@@ -77,45 +76,36 @@ fn edits_for(alloc: Global, region: Pos, tokens: &[Piece<'_>]) -> Result<Vec<Edi
     Ok(edits)
 }
 
-/// The tokens of a text, where it has no lexical fault.
-fn pieces_in<'a>(alloc: Global, text: &'a str) -> Result<Option<Vec<Piece<'a>>>, AllocError>
-    requires utf8 { IsUtf8 text.now }
-    requires short { length text.now < 2 ^ 31 }
-    ensures { IfOk result (λ found. IfSome found (λ ps. HasTokens text.now (pieces ps.items))) }
+/// The tokens of a text.
+fn pieces_in<'a>(alloc: Global, text: &'a str) -> Result<Vec<Piece<'a>>, AllocError>
+    requires { IsLexed text.now }
+    ensures { IfOk result (λ found. HasTokens text.now (pieces found.items)) }
 {
     match tokens(alloc, text) {
-        Ok(tokens) => Ok(Some(pieces_of(alloc, text, &tokens)?)),
+        Ok(tokens) => pieces_of(alloc, text, &tokens),
         Err(LexFault::NoMemory) => Err(AllocError),
-        Err(_) => Ok(None),
+        Err(LexFault::BadChar { .. }) => unreachable!(),
+        Err(LexFault::NumberTooWide { .. }) => unreachable!(),
+        Err(LexFault::OpenComment { .. }) => unreachable!(),
     }
 }
 
-/// The edits by which each entry of the region that begins there costs one tick, and nothing else costs any. None where the
-/// source is no text of tokens, or has 2^31 bytes.
-pub fn counter_edits(
-    alloc: Global,
-    source: &[u8],
-    region: Pos,
-) -> Result<Option<Vec<Edit>>, AllocError>
-    ensures { IfOk result (λ found. IfSome found (λ edits. AreCounterEdits source.now region.0 (edits_of edits.items))) }
+/// The edits of a text by which each entry of the region that begins there costs one tick.
+fn edits_in_text(alloc: Global, text: &str, region: Pos) -> Result<Vec<Edit>, AllocError>
+    requires { IsLexed text.now }
+    ensures { IfOk result (λ edits. AreCounterEdits text.now region.0 (edits_of edits.items)) }
 {
-    if source.len() >= 1 << 31 {
-        return Ok(None);
-    }
+    let tokens = pieces_in(alloc, text)?;
+    edits_for(alloc, region, &tokens)
+}
+
+/// The edits of a source by which each entry of the region that begins there costs one tick, and nothing else costs any.
+pub fn counter_edits(alloc: Global, source: &[u8], region: Pos) -> Result<Vec<Edit>, AllocError>
+    requires { IsLexed source.now }
+    ensures { IfOk result (λ edits. AreCounterEdits source.now region.0 (edits_of edits.items)) }
+{
     match std::str::from_utf8(source) {
         Ok(text) => edits_in_text(alloc, text, region),
-        Err(_) => Ok(None),
-    }
-}
-
-/// The same of a text.
-fn edits_in_text(alloc: Global, text: &str, region: Pos) -> Result<Option<Vec<Edit>>, AllocError>
-    requires utf8 { IsUtf8 text.now }
-    requires short { length text.now < 2 ^ 31 }
-    ensures { IfOk result (λ found. IfSome found (λ edits. AreCounterEdits text.now region.0 (edits_of edits.items))) }
-{
-    match pieces_in(alloc, text)? {
-        Some(pieces) => Ok(Some(edits_for(alloc, region, &pieces)?)),
-        None => Ok(None),
+        Err(_) => unreachable!(),
     }
 }

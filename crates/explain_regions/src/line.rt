@@ -24,9 +24,9 @@ pub struct Line {
 }
 
 impl Line {
-    /// The line of its first form.
+    /// The line of a form.
     fn of(site: Site) -> Line
-        ensures { plain_line result ≡ l.line_of (site_of site) }
+        ensures { plain_line result ≡ l.alone (site_of site) }
     {
         Line {
             at: site.at,
@@ -42,7 +42,7 @@ impl Line {
         requires ticks { self.ticks < 2 ^ 127 }
         requires cells { self.cells < 2 ^ 127 }
         requires work { self.work < 2 ^ 127 }
-        ensures { plain_line result ≡ l.with_site (plain_line self) (site_of site) }
+        ensures { plain_line result ≡ l.joined (plain_line self) (l.alone (site_of site)) }
     {
         Line {
             ticks: self.ticks + site.ticks as u128,
@@ -84,9 +84,10 @@ fn go_on(
     requires ticks { line.old.ticks < 2 ^ 127 }
     requires cells { line.old.cells < 2 ^ 127 }
     requires work { line.old.work < 2 ^ 127 }
-    ensures lines { OnOk result ((sites : List r.Site) →
-        plain_lines found.new.items ++ l.lines_from source.now (plain_line line.new) site.at.0 sites
-        ≡ plain_lines found.old.items ++ l.lines_from source.now (plain_line line.old) last.0 (site_of site ∷ sites)) }
+    ensures lines { OnOk result ((lines : List l.Line) →
+        plain_lines found.new.items ++ l.before source.now (plain_line line.new) site.at.0 lines
+        ≡ plain_lines found.old.items ++ l.before source.now (plain_line line.old) last.0
+        (l.before source.now (l.alone (site_of site)) site.at.0 lines)) }
     ensures ticks { line.new.ticks ≤ line.old.ticks + 2 ^ 32 }
     ensures cells { line.new.cells ≤ line.old.cells + 2 ^ 32 }
     ensures work { line.new.work ≤ line.old.work + 1 }
@@ -108,7 +109,7 @@ fn lines_from(
     rest: &[Site],
 ) -> Result<Vec<Line>, AllocError>
     ensures { IfOk result (λ found. plain_lines found.items
-        ≡ l.lines_from source.now (l.line_of (site_of first)) first.at.0 (sites_of rest.now)) }
+        ≡ l.lines_in source.now (site_of first ∷ sites_of rest.now)) }
 {
     let mut found = Vec::new(alloc);
     let mut line = Line::of(first);

@@ -1,7 +1,8 @@
 // The forms of a body, each with its region.
 ghost use Rattle.std.specs.Prelude.{◌≡◌, [], ◌∷◌, ◌++◌, OnOk, IfOk};
 ghost use Rattle.raml_syntax.specs.Read.{term_of, terms_of};
-ghost use Rattle.explain_regions.specs.Regions.{start, sites, all_sites, body_sites};
+ghost use Rattle.simple_types.specs.Walk.{place};
+ghost use Rattle.explain_regions.specs.Regions.{sites, all_sites, body_sites};
 ghost use Rattle.explain_regions.specs.Regions as r;
 ghost use Rattle.explain_regions.specs.Read.{site_of, sites_of};
 
@@ -20,34 +21,10 @@ pub(crate) struct Site {
 }
 
 /// Where an expression begins.
-fn start(e: &Expr) -> Pos
-    ensures { result.0 ≡ start (term_of e.now) }
+fn place(e: &Expr) -> Pos
+    ensures { result.0 ≡ place (term_of e.now) }
 {
-    let at = e.at;
-    match &e.form {
-        Form::Number(_) => at,
-        Form::Truth(_) => at,
-        Form::Nil => at,
-        Form::Leaf => at,
-        Form::Nothing => at,
-        Form::Var(_) => at,
-        Form::Arith(_, _, _) => at,
-        Form::Compare(_, _, _) => at,
-        Form::Not(_) => at,
-        Form::Pair(_, _) => at,
-        Form::Cons(_, _) => at,
-        Form::Node(_, _, _) => at,
-        Form::Just(_) => at,
-        Form::Call(_, _) => at,
-        Form::Let(_, _, _) => at,
-        Form::LetPair(_, _, _, _) => at,
-        Form::If(_, _, _) => at,
-        Form::MatchList(_, _, _, _, _) => at,
-        Form::MatchTree(_, _, _, _, _, _) => at,
-        Form::MatchOption(_, _, _, _) => at,
-        Form::Tick(_, _) => at,
-        Form::Typed(_, _) => at,
-    }
+    e.at
 }
 
 /// Adds a form that costs so much.
@@ -181,11 +158,11 @@ fn push_branches(
     ensures { OnOk result (sites_of found.new.items
         ≡ sites_of found.old.items
         ++ (r.site at.0 region.0 0 0 ∷ (sites region.0 (term_of subject.now)
-        ++ (sites (start (term_of first.now)) (term_of first.now) ++ sites (start (term_of second.now)) (term_of second.now))))) }
+        ++ (sites (place (term_of first.now)) (term_of first.now) ++ sites (place (term_of second.now)) (term_of second.now))))) }
 {
     push_one(found, at, region, 0, 0, subject)?;
-    push_sites(found, start(first), first)?;
-    push_sites(found, start(second), second)
+    push_sites(found, place(first), first)?;
+    push_sites(found, place(second), second)
 }
 
 /// The forms of a body.
@@ -193,6 +170,6 @@ pub(crate) fn body_sites(alloc: Global, body: &Expr) -> Result<Vec<Site>, AllocE
     ensures { IfOk result (λ found. sites_of found.items ≡ body_sites (term_of body.now)) }
 {
     let mut found = Vec::new(alloc);
-    push_sites(&mut found, start(body), body)?;
+    push_sites(&mut found, place(body), body)?;
     Ok(found)
 }

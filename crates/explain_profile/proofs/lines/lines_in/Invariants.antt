@@ -2,7 +2,7 @@ use Rattle.std.proofs.Common.{◌≡◌, ◌++◌, map, drop}
 use Rattle.raml_syntax.specs.Read.{function_of}
 use Rattle.call_groups.specs.Read.{ids_of}
 use Rattle.explain_regions.specs.Read.{plain_lines}
-use Rattle.explain_profile.specs.Rows.{lines_of}
+use Rattle.explain_profile.specs.Reached.{lines_of}
 use Rattle.explain_profile.proofs.lines.lines_in.Given as goal
 
 abbrev pub invariant-loop-fun : goal.invariant-loop-fun

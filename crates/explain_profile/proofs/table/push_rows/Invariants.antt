@@ -4,6 +4,6 @@ use Rattle.explain_profile.specs.Read.{case_of}
 use Rattle.explain_profile.proofs.Laid.{EndsRows}
 use Rattle.explain_profile.proofs.table.push_rows.Given as goal
 
-abbrev pub invariant-loop-line : goal.invariant-loop-line
-invariant-loop-line l =
-    (part : Text) × EndsRows (case_of l.case) (drop l.line-index l.lines) l.lines part × (string_bytes l.text ≡ string_bytes l.fn.text ++ part)
+abbrev pub invariant-loop-row : goal.invariant-loop-row
+invariant-loop-row l =
+    (part : Text) × EndsRows (case_of l.case) (drop l.row-index l.rows) l.rows part × (string_bytes l.text ≡ string_bytes l.fn.text ++ part)
