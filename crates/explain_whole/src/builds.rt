@@ -16,7 +16,7 @@ use crate::builds::branches::{
 };
 use crate::builds::parts::{walk_cons, walk_just, walk_node, walk_pair};
 use crate::place::Place;
-use crate::whole::whole;
+use crate::wholes::whole;
 use explain_changes::Built;
 use explain_changes::scope::Scope;
 use raml_syntax::{Expr, Form, Fun, Name, Param, Pos, Program};
@@ -64,12 +64,8 @@ fn walk<'s, 'a>(
     ensures { OnOk result (Adds found.old.items found.new.items (places_at spot.entry (term_of e.now))) }
 {
     match &e.form {
-        Form::Number(_)
-        | Form::Truth(_)
-        | Form::Nil
-        | Form::Leaf
-        | Form::Nothing
-        | Form::Var(_) => Ok(()),
+        Form::Number(_) | Form::Truth(_) | Form::Nil | Form::Leaf | Form::Nothing | Form::Var(_) =>
+            Ok(()),
         Form::Not(a) | Form::Tick(_, a) | Form::Typed(a, _) => walk(spot, a, found),
         Form::Arith(_, a, b) | Form::Compare(_, a, b) => {
             walk(spot, a, found)?;

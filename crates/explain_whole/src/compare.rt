@@ -84,12 +84,7 @@ fn same_all<'s, 'a>(spot: Handing<'s, 'a>, args: &'a [Expr], others: &[Expr]) ->
 }
 
 /// Whether the other expression is the changed one below parameters.
-fn same_below<'s, 'a>(
-    spot: Handing<'s, 'a>,
-    params: &'a [Param],
-    e: &'a Expr,
-    other: &Expr,
-) -> bool
+fn same_below<'s, 'a>(spot: Handing<'s, 'a>, params: &'a [Param], e: &'a Expr, other: &Expr) -> bool
     ensures { IsTrue result ↔ Same (h.handed (bytes_of spot.entry.chosen.now)
         (s.in_function (scope_in spot.entry.scope.now) (map parameter_of params.now)) (term_of e.now)) (term_of other.now) }
 {

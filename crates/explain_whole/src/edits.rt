@@ -74,12 +74,7 @@ fn edit(
 }
 
 /// A name, with spaces around it where it needs them.
-fn spaced(
-    alloc: Global,
-    before: bool,
-    behind: bool,
-    name: &Name,
-) -> Result<String, AllocError>
+fn spaced(alloc: Global, before: bool, behind: bool, name: &Name) -> Result<String, AllocError>
     ensures { IfOk result (λ text. string_bytes text ≡ spaced before behind name.now) }
 {
     let (before, name, behind) = (space(before), name.text(), space(behind));

@@ -7,7 +7,7 @@ mod edits;
 mod extent;
 pub mod laws;
 mod place;
-mod whole;
+mod wholes;
 
 pub use builds::places;
 pub use compare::is_handed;

@@ -6,7 +6,7 @@ ghost use Rattle.explain_whole.specs.Read.{Adds, places_at};
 
 use crate::builds::{Spot, add, walk};
 use crate::place::Place;
-use crate::whole::{cons, just, node, pair};
+use crate::wholes::{cons, just, node, pair};
 use raml_syntax::{Expr, Pos};
 use std::alloc::AllocError;
 

@@ -16,12 +16,7 @@ use raml_syntax::{Binder, Expr, Form};
 
 /// Whether the other expression is the changed one below a name.
 #[cycle(same)]
-fn same_below_let<'s, 'a>(
-    spot: Handing<'s, 'a>,
-    x: &'a Binder,
-    e: &'a Expr,
-    other: &Expr,
-) -> bool
+fn same_below_let<'s, 'a>(spot: Handing<'s, 'a>, x: &'a Binder, e: &'a Expr, other: &Expr) -> bool
     ensures { IsTrue result ↔ Same (h.handed (bytes_of spot.entry.chosen.now)
         (s.Bound x.now.name None ∷ scope_in spot.entry.scope.now) (term_of e.now)) (term_of other.now) }
 {
@@ -139,9 +134,7 @@ pub fn same_let<'s, 'a>(
 {
     match &other.form {
         Form::Let(y, c, d) => {
-            same_name(&x.name, &y.name)
-                && same(spot, bound, c)
-                && same_below_let(spot, x, rest, d)
+            same_name(&x.name, &y.name) && same(spot, bound, c) && same_below_let(spot, x, rest, d)
         }
         _ => false,
     }

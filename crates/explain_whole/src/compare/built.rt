@@ -12,7 +12,7 @@ ghost use Rattle.explain_whole.specs.Read.{if_built, bytes_of, handed_at};
 use crate::compare::leaves::is_variable;
 use crate::compare::{Handing, same};
 use crate::place::Place;
-use crate::whole::{cons, just, node, pair, whole};
+use crate::wholes::{cons, just, node, pair, whole};
 use explain_changes::Built;
 use raml_syntax::{Expr, Form, Name, Pos};
 
@@ -29,11 +29,7 @@ fn has_place(chosen: &[Place], at: Pos) -> bool
 }
 
 /// The variable that is handed on in place of what stands there.
-fn handed_on<'s, 'a>(
-    spot: Handing<'s, 'a>,
-    at: Pos,
-    built: Option<Built<'a>>,
-) -> Option<&'a Name>
+fn handed_on<'s, 'a>(spot: Handing<'s, 'a>, at: Pos, built: Option<Built<'a>>) -> Option<&'a Name>
     ensures { option_map (λ name. name.now) result
         ≡ h.handed_on (bytes_of spot.entry.chosen.now) at.0 (if_built built.entry) (scope_in spot.entry.scope.now) }
 {

@@ -38,9 +38,7 @@ pub fn same_compare<'s, 'a>(
     ensures { IsTrue result ↔ Same (handed_at spot.entry (t.Compare 0 op (term_of a.now) (term_of b.now))) (term_of other.now) }
 {
     match &other.form {
-        Form::Compare(other_op, c, d) => {
-            op == *other_op && same(spot, a, c) && same(spot, b, d)
-        }
+        Form::Compare(other_op, c, d) => { op == *other_op && same(spot, a, c) && same(spot, b, d) }
         _ => false,
     }
 }

@@ -78,7 +78,9 @@ fn newest<'s, 'a>(
         Scope::Empty => None,
         Scope::Bound { outer, .. } => newest(built, all, outer),
         Scope::Apart {
-            variable, outer, ..
+            variable,
+            outer,
+            ..
         } => {
             if is_built(all, variable, built) {
                 Some(*variable)

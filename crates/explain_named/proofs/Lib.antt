@@ -1,0 +1,5 @@
+pub mod Runs
+pub mod Atoms
+pub mod Certain
+pub mod Inside
+pub mod Keep
