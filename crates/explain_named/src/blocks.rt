@@ -31,7 +31,8 @@ pub fn blocks<'a>(alloc: Global, body: &'a Expr) -> Result<Blocks<'a>, AllocErro
 #[cycle(add)]
 fn add_block<'a>(e: &'a Expr, found: &mut Blocks<'a>) -> Result<(), AllocError> {
     add(e, found)?;
-    found.blocks.push(e)
+    found.blocks.push(e)?;
+    Ok(())
 }
 
 /// Adds what is in an expression.
@@ -71,7 +72,8 @@ fn add_call<'a>(
     found: &mut Blocks<'a>,
 ) -> Result<(), AllocError> {
     if are_plain(args) {
-        found.calls.push(PlainCall { function, args })
+        found.calls.push(PlainCall { function, args })?;
+        Ok(())
     } else {
         add_all(args, found)
     }

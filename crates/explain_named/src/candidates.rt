@@ -27,7 +27,7 @@ pub struct Candidate<'a> {
 
 impl<'a> Candidate<'a> {
     /// The naming that it stands for.
-    pub fn naming(&self) -> Naming<'_> {
+    pub fn naming<'s>(&'s self) -> Naming<'s> {
         Naming {
             at: self.at,
             function: self.function,
@@ -60,7 +60,7 @@ fn add_of<'a>(
     };
     let inside = blocks(alloc, &fun.body)?;
     for block in &inside.blocks {
-        add_around(alloc, fun, block, &inside, &name, found)?;
+        add_around(alloc, fun, *block, &inside, &name, found)?;
     }
     Ok(())
 }
@@ -129,7 +129,8 @@ fn add_call<'a>(
         args: call.args,
         name: Name::new(alloc, name.text())?,
         places,
-    })
+    })?;
+    Ok(())
 }
 
 /// Whether one is found of the calls at these places.

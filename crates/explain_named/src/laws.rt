@@ -3,13 +3,11 @@ ghost use Rattle.explain_named.specs.Example.{Examples};
 ghost use Rattle.explain_named.specs.Laws.{NamingKeeps, WrittenKeeps};
 
 /// Where a call has a name, runs give the same, and what gives a value costs no more ticks and cells.
-#[tactic(auto, using(crate::proofs::Keep::naming_keeps))]
 pub fn naming_keeps()
     ensures { NamingKeeps }
 {}
 
 /// So do those of a program that is found to be the changed one.
-#[tactic(auto, using(crate::proofs::Keep::written_keeps))]
 pub fn written_keeps()
     ensures { WrittenKeeps }
 {}

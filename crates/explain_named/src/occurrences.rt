@@ -35,7 +35,8 @@ fn add<'a>(naming: Naming<'a>, on: bool, e: &Expr, found: &mut Vec<Pos>) -> Resu
         }
         Form::Call(function, args) => {
             if on && is_named_call(naming, function, args) {
-                found.push(e.at)
+                found.push(e.at)?;
+                Ok(())
             } else {
                 add_all(naming, on, args, found)
             }

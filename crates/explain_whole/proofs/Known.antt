@@ -9,7 +9,7 @@ use Rattle.raml_syntax.specs.Value as v
 use Rattle.raml_syntax.specs.Value.{Value}
 use Rattle.raml_syntax.specs.Eval.{Env, Calls, walk, look}
 use Rattle.explain_changes.specs.Built.{Built, Pair, Cons, Node, Just, parts}
-use Rattle.explain_changes.specs.Scope.{Scope, Bound, Apart, differ, without, built_at, variable, apart, in_function}
+use Rattle.explain_changes.specs.Scope.{Scope, Bound, Apart, differ, without, built_at, kind, element, variable, apart, in_function}
 use Rattle.explain_changes.proofs.Stands.{Stands, IsSubject, stands_bound, stands_pair, stands_list, stands_tree, stands_option}
 use Rattle.explain_whole.specs.Whole.{is_same, is_built, newest, in_pair, in_list, in_tree, in_option}
 
@@ -44,16 +44,16 @@ abbrev some_type : Type'
 some_type = PairOf (ListOf Integer) Integer
 
 pub known_pair : (S : Scope) (env : Env) (c : t.Term) (x y : Text) (a b : Value) → Stands S env → IsSubject c env (v.Both a b) → Stands (in_pair S c x y) ((y, b) ∷ (x, a) ∷ env)
-known_pair S env c x y a b k h = untyped_two (variable c) (Pair x y) x y _ _ S _ (stands_pair [] S env (t.Typed 0 c some_type) x y a b k h)
+known_pair S env c x y a b k h = untyped_two (variable c) (Pair x y) x y (Some (ListOf Integer)) (Some Integer) S ((y, b) ∷ (x, a) ∷ env) (stands_pair [] S env (t.Typed 0 c some_type) x y a b k h)
 
 pub known_list : (S : Scope) (env : Env) (c : t.Term) (x y : Text) (a b : Value) → Stands S env → IsSubject c env (v.Cons a b) → Stands (in_list S c x y) ((y, b) ∷ (x, a) ∷ env)
-known_list S env c x y a b k h = untyped_two (variable c) (Cons x y) x y _ _ S _ (stands_list [] S env c x y a b k h)
+known_list S env c x y a b k h = untyped_two (variable c) (Cons x y) x y (element (kind [] S c)) (kind [] S c) S ((y, b) ∷ (x, a) ∷ env) (stands_list [] S env c x y a b k h)
 
 pub known_tree : (S : Scope) (env : Env) (c : t.Term) (x y z : Text) (a b d : Value) → Stands S env → IsSubject c env (v.Node a b d) → Stands (in_tree S c x y z) ((z, d) ∷ (y, b) ∷ (x, a) ∷ env)
-known_tree S env c x y z a b d k h = untyped_three (variable c) (Node x y z) x y z _ _ _ S _ (stands_tree [] S env c x y z a b d k h)
+known_tree S env c x y z a b d k h = untyped_three (variable c) (Node x y z) x y z (element (kind [] S c)) (kind [] S c) (kind [] S c) S ((z, d) ∷ (y, b) ∷ (x, a) ∷ env) (stands_tree [] S env c x y z a b d k h)
 
 pub known_option : (S : Scope) (env : Env) (c : t.Term) (x : Text) (a : Value) → Stands S env → IsSubject c env (v.Just a) → Stands (in_option S c x) ((x, a) ∷ env)
-known_option S env c x a k h = untyped_one (variable c) (Just x) x _ S _ (stands_option [] S env c x a k h)
+known_option S env c x a k h = untyped_one (variable c) (Just x) x (element (kind [] S c)) S ((x, a) ∷ env) (stands_option [] S env c x a k h)
 
 -- ---- where no variable is taken apart, nothing is told
 

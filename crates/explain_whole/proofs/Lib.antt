@@ -4,4 +4,4 @@ pub mod Keep
 pub mod Each
 pub mod Arguments
 pub mod Appended
-mod Only
+pub mod Only

@@ -47,8 +47,8 @@ at_byte p = record { at = p; function = f; built = b.Cons h s; whole = x }
 abbrev copied : t.Term
 copied = matched (t.Nil 3) (cons 4)
 
-abbrev whole : t.Term
-whole = matched (t.Nil 3) (t.Var 4 x)
+abbrev kept : t.Term
+kept = matched (t.Nil 3) (t.Var 4 x)
 
 abbrev seven : List v.Value
 seven = v.Cons (v.Number (pos 7)) v.Empty ∷ []
@@ -75,5 +75,5 @@ pub record Examples : Type 0 where
   pub no_place : handed_program (3 ∷ []) (program (matched (cons 3) (cons 4))) ≡ program (matched (cons 3) (cons 4))
   -- [7] is made of its parts for one cell and 6 units of work, and handed on for 4 units
   pub made : run_of (program copied) (function copied) seven 1 ≡ record { out = Some (v.Cons (v.Number (pos 7)) v.Empty); ticks = 0; cells = 1; work = 6 }
-  pub handed_on : run_of (program whole) (function whole) seven 1 ≡ record { out = Some (v.Cons (v.Number (pos 7)) v.Empty); ticks = 0; cells = 0; work = 4 }
-  pub change : handed_program (4 ∷ []) (program copied) ≡ program whole
+  pub handed_on : run_of (program kept) (function kept) seven 1 ≡ record { out = Some (v.Cons (v.Number (pos 7)) v.Empty); ticks = 0; cells = 0; work = 4 }
+  pub change : handed_program (4 ∷ []) (program copied) ≡ program kept

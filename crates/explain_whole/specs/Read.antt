@@ -3,8 +3,6 @@ use Rattle.std.specs.Prelude.{ℕ, ◌≡◌, List, ◌++◌, map, Option}
 use Rattle.std.specs.Option.{option_map}
 use Rattle.std.specs.Borrow.{Bor}
 use Rattle.raml_syntax.specs.Tree as t
-use Rattle.raml_syntax.specs.Tree.{Text}
-use Rattle.raml_syntax.specs.declared.name.Name.{Name}
 use Rattle.explain_changes.specs.Built as b
 use Rattle.explain_changes.specs.Read.{built_of, scope_in}
 use Rattle.explain_changes.specs.declared.built.Built.{Built}

@@ -39,17 +39,17 @@ fn add<'s, 'a>(
     ensures { OnOk result (Adds found.old.items found.new.items (h.place spot.entry.function.now at.0 (if_built built.entry)
         (w.whole (if_built built.entry) (scope_in spot.entry.scope.now)))) }
 {
-    let Some(built) = built else {
+    let Some(known) = built else {
         return Ok(());
     };
-    let Some(whole) = whole(Some(built), spot.scope) else {
+    let Some(owner) = whole(built, spot.scope) else {
         return Ok(());
     };
     found.push(Place {
         at,
         function: spot.function,
-        built,
-        whole,
+        built: known,
+        whole: owner,
     })?;
     Ok(())
 }

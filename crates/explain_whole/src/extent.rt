@@ -25,7 +25,7 @@ pub fn end_of(source: &[u8], tokens: &[Token], place: &Place) -> Option<usize> {
 /// Which token begins where the place does.
 fn token_at(tokens: &[Token], place: &Place) -> Option<usize> {
     for first in 0..tokens.len() {
-        if tokens[first].at == place.at {
+        if tokens[first].at.0 == place.at.0 {
             return Some(first);
         }
     }

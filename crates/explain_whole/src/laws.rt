@@ -3,19 +3,16 @@ ghost use Rattle.explain_whole.specs.Example.{Examples};
 ghost use Rattle.explain_whole.specs.Laws.{OnlyPlacesChange, HandingKeeps, WrittenKeeps};
 
 /// A program in which no place is chosen is as it was.
-#[tactic(auto, using(crate::proofs::Only::only_places_change))]
 pub fn only_places_change()
     ensures { OnlyPlacesChange }
 {}
 
 /// Where variables are handed on whole, runs give the same at the same ticks, with no more cells and no more work.
-#[tactic(auto, using(crate::proofs::Keep::handing_keeps))]
 pub fn handing_keeps()
     ensures { HandingKeeps }
 {}
 
 /// So do those of a program that is found to be the changed one.
-#[tactic(auto, using(crate::proofs::Keep::written_keeps))]
 pub fn written_keeps()
     ensures { WrittenKeeps }
 {}

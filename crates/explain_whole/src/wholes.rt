@@ -43,23 +43,34 @@ pub fn just<'a>(a: &'a Expr) -> Option<Built<'a>>
 fn is_same(built: Built, other: Built) -> bool
     ensures { result ≡ w.is_same (built_of built.entry) (built_of other.entry) }
 {
-    match (built, other) {
-        (Built::Pair(x, y), Built::Pair(u, v)) | (Built::Cons(x, y), Built::Cons(u, v)) => {
-            x.text() == u.text() && y.text() == v.text()
-        }
-        (Built::Node(x, y, z), Built::Node(u, v, w)) => {
-            x.text() == u.text() && y.text() == v.text() && z.text() == w.text()
-        }
-        (Built::Just(x), Built::Just(u)) => x.text() == u.text(),
-        _ => false,
+    match built {
+        Built::Pair(x, y) => match other {
+            Built::Pair(u, v) => x.text() == u.text() && y.text() == v.text(),
+            _ => false,
+        },
+        Built::Cons(x, y) => match other {
+            Built::Cons(u, v) => x.text() == u.text() && y.text() == v.text(),
+            _ => false,
+        },
+        Built::Node(x, y, z) => match other {
+            Built::Node(u, v, w) => {
+                x.text() == u.text() && y.text() == v.text() && z.text() == w.text()
+            }
+            _ => false,
+        },
+        Built::Just(x) => match other {
+            Built::Just(u) => x.text() == u.text(),
+            _ => false,
+        },
+        Built::Nil | Built::Leaf | Built::Nothing => false,
     }
 }
 
-/// Whether the variable's value is built so, by what the scope tells.
-fn is_built<'s, 'a>(scope: &'s Scope<'s, 'a>, variable: &Name, built: Built<'a>) -> bool
-    ensures { result ≡ w.is_built (built_of built.entry) (s.built_at variable.now (scope_in scope.now)) }
+/// Whether the value of the variable of this name is built so, by what the scope tells.
+fn is_built<'s, 'a>(scope: &'s Scope<'s, 'a>, name: &Name, built: Built<'a>) -> bool
+    ensures { result ≡ w.is_built (built_of built.entry) (s.built_at name.now (scope_in scope.now)) }
 {
-    match scope.built(variable.text()) {
+    match scope.built(name.text()) {
         Some(other) => is_same(built, other),
         None => false,
     }
