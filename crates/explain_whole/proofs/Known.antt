@@ -107,8 +107,8 @@ built_is b (Some d) h = ap Some (sym (same_is b d h))
 pub newest_is : (b : Built) (all S : Scope) (x : Text) → newest b all S ≡ Some x → built_at x all ≡ Some b
 newest_is b all [] x h = absurd (cc)
 newest_is b all (Bound y A ∷ S) x h = newest_is b all S x h
-newest_is b all (Apart y d ∷ S) x h = by (is_built b (built_at y all)) refl h
+newest_is b all (Apart y d ∷ S) x h = by (is_built b (built_at y all)) refl (newest_is b all S x) h
   where
-    by : (c : Bool) → is_built b (built_at y all) ≡ c → cond c (Some y) (newest b all S) ≡ Some x → built_at x all ≡ Some b
-    by true e q = subst (λ z. built_at z all ≡ Some b) (same_Some y x q) (built_is b (built_at y all) e)
-    by false e q = newest_is b all S x q
+    by : (c : Bool) → is_built b (built_at y all) ≡ c → (newest b all S ≡ Some x → built_at x all ≡ Some b) → cond c (Some y) (newest b all S) ≡ Some x → built_at x all ≡ Some b
+    by true e later q = subst (λ z. built_at z all ≡ Some b) (same_Some y x q) (built_is b (built_at y all) e)
+    by false e later q = later q
