@@ -9,7 +9,7 @@ use Rattle.raml_syntax.specs.Eval.{Run, done, node, and_then, Env, look, Calls, 
 use Rattle.explain_named.specs.Naming.{Naming, is_named_call, still, certain, one_certain, mentions, one_mentions}
 use Rattle.explain_named.specs.Named.{Inside, named, all_named}
 use Rattle.explain_named.specs.Laws.{RunsNamed}
-use Rattle.explain_named.proofs.Atoms.{no, both, neither, name_is, look_past, AsWere, were_bound, call_run}
+use Rattle.explain_named.proofs.Plain.{no, both, neither, name_is, look_past, AsWere, were_bound, call_run}
 use Rattle.explain_named.proofs.Runs.{Cost, Saves, saves_same, saves_costs, saves_node, saves_then, saves_end, saves_two, saves_or_false, saves_branch, saves_pair, saves_list, saves_tree, saves_option}
 
 pub from_named : {A : Type 0} (C : Cost) {r s : Run A} → RunsNamed r s → Saves C false r s

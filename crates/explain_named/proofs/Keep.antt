@@ -11,8 +11,8 @@ use Rattle.explain_changes.proofs.SameRuns.{SameFound, types_same, find_same, ru
 use Rattle.explain_named.specs.Naming.{Naming, are_plain, has_argument, certain, mentions, may_name}
 use Rattle.explain_named.specs.Named.{Outside, Inside, bound, begin, is_place, mode_at, with_let, named, all_named, named_function, named_program}
 use Rattle.explain_named.specs.Laws.{CostsNamed, RunsNamed, NamingKeeps, IsNamed, WrittenKeeps}
-use Rattle.explain_named.proofs.Atoms.{both, is_not, atoms_run, plain_is_same, plain_work}
-use Rattle.explain_named.proofs.Certain.{certain_runs}
+use Rattle.explain_named.proofs.Plain.{both, is_not, atoms_run, plain_is_same, plain_work}
+use Rattle.explain_named.proofs.Surely.{certain_runs}
 use Rattle.explain_named.proofs.Inside.{from_named, cost_of, inside_at_start}
 use Rattle.explain_named.proofs.Runs.{Cost, Saves, no_value, saves_same, saves_costs, saves_node, saves_then, saves_end, saves_two, saves_branch, saves_pair, saves_list, saves_tree, saves_option}
 

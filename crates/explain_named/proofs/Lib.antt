@@ -1,5 +1,6 @@
 pub mod Runs
-pub mod Atoms
-pub mod Certain
+pub mod Plain
+pub mod Surely
 pub mod Inside
 pub mod Keep
+pub mod Arguments

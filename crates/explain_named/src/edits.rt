@@ -1,5 +1,5 @@
 // The text of a changed program.
-use crate::candidates::Candidate;
+use crate::finding::Candidate;
 use explain_edits::{Edit, edited};
 use explain_tokens::{source_tokens, word};
 use raml_lex::Token;

@@ -4,17 +4,17 @@
 
 mod atoms;
 mod blocks;
-mod candidates;
 mod certain;
 mod compare;
 mod edits;
+mod finding;
 pub mod laws;
 mod mentions;
 mod naming;
 mod occurrences;
 mod place;
 
-pub use candidates::{Candidate, candidates};
 pub use compare::is_named;
 pub use edits::named_text;
+pub use finding::{Candidate, candidates};
 pub use naming::Naming;

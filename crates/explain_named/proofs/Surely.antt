@@ -5,7 +5,7 @@ use Rattle.raml_syntax.specs.Tree.{Text}
 use Rattle.raml_syntax.specs.Value.{Value, Truth, Both, Cons, Node, Just}
 use Rattle.raml_syntax.specs.Eval.{Run, cut, costs, goes_on, and_then, branch, pair_case, list_case, tree_case, option_case, Env, Calls, walk, walk_all}
 use Rattle.explain_named.specs.Naming.{Naming, is_named_call, still, certain, one_certain}
-use Rattle.explain_named.proofs.Atoms.{no, both, AsWere, were_bound, call_run}
+use Rattle.explain_named.proofs.Plain.{no, both, AsWere, were_bound, call_run}
 use Rattle.explain_named.proofs.Runs.{no_value}
 
 -- ---- how runs that need another are put together
