@@ -51,6 +51,7 @@ fn is_typed(alloc: Global, source: &[u8]) -> Result<bool, Fail> {
 }
 
 /// A source, its places, and the source once variables are handed on at all of them.
+#[derive(Clone, Copy)]
 struct Case {
     source: &'static str,
     places: &'static str,
