@@ -1,6 +1,9 @@
 //! The program `explain`: what the words of the command line ask for, on the real files and streams.
 #![tactic(auto)]
 
+mod waiting;
+
+use crate::waiting::Waiting;
 use explain_files::DirShelf;
 use explain_top::{Status, explain};
 use raml_io::{DirStore, StdSink};
@@ -36,6 +39,11 @@ fn run(rt: &HostRuntime) -> io::Result<Status> {
     let mut shelf = DirShelf::new(rt);
     let mut out = StdSink::new(rt.stdout());
     let mut err = StdSink::new(rt.stderr());
+    let mut waiting = Waiting::new(
+        rt.alloc(),
+        StdSink::new(rt.stderr()),
+        rt.stderr().is_terminal(),
+    );
     let columns = columns_of(rt);
     Ok(explain(
         rt.alloc(),
@@ -43,6 +51,7 @@ fn run(rt: &HostRuntime) -> io::Result<Status> {
         columns,
         &mut store,
         &mut shelf,
+        &mut waiting,
         &mut out,
         &mut err,
     ))

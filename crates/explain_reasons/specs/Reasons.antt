@@ -16,6 +16,7 @@ use Rattle.explain_mending.specs.Mended.{AreAmong}
 use Rattle.explain_rebuild.specs.Reached.{IsReachedSite}
 use Rattle.explain_rebuild.specs.Rebuilt.{IsRebuilt}
 use Rattle.explain_rebuild.specs.declared.mending.Rebuilt.{Rebuilt}
+use Rattle.explain_exchange.specs.Exchanged.{IsExchanged}
 use Rattle.explain_inline.specs.Inlined.{IsInlined}
 use Rattle.explain_inline.specs.declared.mending.Inlined.{Inlined}
 use Rattle.explain_kept.specs.Kept.{KeepValues}
@@ -59,6 +60,7 @@ IsReason source P found most group (r.Waits callee stuck) =
     WaitsFor P found group callee.0 × AreStuckOrNone P group most (calls_of stuck.items)
 IsReason source P found most group (r.Rebuild rebuilt) = RebuildHelps source P found most group rebuilt
 IsReason source P found most group (r.Inline inlined) = InliningHelps source P found most group inlined
+IsReason source P found most group (r.Exchange exchanged) = IsExchanged P found most group exchanged
 IsReason source P found most group (r.Stuck calls supplied) =
     AreStuck P group most (calls_of calls.items) × IfSome supplied (IsSupplied source P most group)
 IsReason source P found most group (r.Twice pairs) = ArePairs P group most (pairs_of pairs.items)

@@ -14,7 +14,7 @@ use crate::degree::callee_of_degree;
 use crate::program::HIGHEST;
 use crate::reason::Reason;
 use crate::rounds::{all_bounded, rounds_found, some_unbounded};
-use crate::trying::{by_inlining, by_rebuilding, by_uses, supplied};
+use crate::trying::{by_exchanging, by_inlining, by_rebuilding, by_uses, supplied};
 use crate::waits::waits_for;
 use explain_rounds::{GroupCall, Kind};
 use raml_syntax::FunId;
@@ -98,6 +98,22 @@ fn by_parts<'s, 'a>(
     }
 }
 
+/// An order of parameters by which the group has bounds.
+fn by_order<'s, 'a>(
+    alloc: Global,
+    asked: Asked<'s, 'a>,
+    group: &[FunId],
+) -> Result<Option<Reason<'a>>, AllocError>
+    requires { IsAsked asked }
+    ensures { IfOk result (λ reason. IfSome reason (IsReason (source_in asked.entry) (program_in asked.entry) (found_in asked.entry)
+        asked.entry.original.most (ids_of group.now))) }
+{
+    match by_exchanging(alloc, asked, group)? {
+        Some(exchanged) => Ok(Some(Reason::Exchange(exchanged))),
+        None => Ok(None),
+    }
+}
+
 /// A change of calls by which the group has bounds.
 fn by_changes<'s, 'a>(
     alloc: Global,
@@ -110,7 +126,7 @@ fn by_changes<'s, 'a>(
 {
     match by_inlining(alloc, asked, group)? {
         Some(inlined) => Ok(Some(Reason::Inline(inlined))),
-        None => Ok(None),
+        None => by_order(alloc, asked, group),
     }
 }
 

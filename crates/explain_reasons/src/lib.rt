@@ -8,6 +8,7 @@ mod grounds;
 mod kept;
 mod note;
 mod program;
+mod progress;
 mod reason;
 mod rounds;
 mod trying;
@@ -15,4 +16,5 @@ mod waits;
 
 pub use note::Note;
 pub use program::{Explanation, explain};
+pub use progress::{Progress, Silent};
 pub use reason::{Explained, Reason};

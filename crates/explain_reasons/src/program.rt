@@ -11,6 +11,7 @@ ghost use Rattle.explain_reasons.specs.Explanation.{is_lacking, AreReasons, IsEx
 use crate::asked::Asked;
 use crate::grounds::reason;
 use crate::note::{Note, notes_of};
+use crate::progress::Progress;
 use crate::reason::Explained;
 use call_groups::group_calls;
 use explain_changes::sites;
@@ -64,8 +65,24 @@ fn add_explained<'s, 'a>(
     }
 }
 
-/// Of each group that has no bound why, callees first.
-fn explained<'s, 'a>(alloc: Global, asked: Asked<'s, 'a>) -> Result<Vec<Explained<'a>>, AllocError>
+/// How many of the groups have no bound.
+fn count_lacking(found: &[Findings], groups: &[Vec<FunId>]) -> u32 {
+    let mut count: u32 = 0;
+    for group in groups {
+        if first_lacking(found, group).is_some() {
+            count = count.saturating_add(1);
+        }
+    }
+    count
+}
+
+/// Of each group that has no bound why, callees first. After each group it is told how many are done, of so many.
+fn each_explained<'s, 'a, P: Progress>(
+    alloc: Global,
+    asked: Asked<'s, 'a>,
+    all: u32,
+    progress: &mut P,
+) -> Result<Vec<Explained<'a>>, AllocError>
     requires { IsAsked asked }
     ensures { IfOk result (λ reasons. AreReasons (source_in asked.entry) (program_in asked.entry) (found_in asked.entry)
         asked.entry.original.most reasons.items) }
@@ -73,16 +90,35 @@ fn explained<'s, 'a>(alloc: Global, asked: Asked<'s, 'a>) -> Result<Vec<Explaine
     let mut reasons = Vec::new(alloc);
     for group in asked.groups.list() {
         add_explained(alloc, asked, group, &mut reasons)?;
+        progress.tells(reasons.len() as u32, all);
     }
     Ok(reasons)
 }
 
+/// Of each group that has no bound why, callees first.
+fn explained<'s, 'a, P: Progress>(
+    alloc: Global,
+    asked: Asked<'s, 'a>,
+    progress: &mut P,
+) -> Result<Vec<Explained<'a>>, AllocError>
+    requires { IsAsked asked }
+    ensures { IfOk result (λ reasons. AreReasons (source_in asked.entry) (program_in asked.entry) (found_in asked.entry)
+        asked.entry.original.most reasons.items) }
+{
+    let all = count_lacking(asked.original.found, asked.groups.list());
+    progress.tells(0, all);
+    let reasons = each_explained(alloc, asked, all, progress);
+    progress.tells(all, all);
+    reasons
+}
+
 /// The same of a program of which analyses found this.
-fn reasons_of<'a>(
+fn reasons_of<'a, P: Progress>(
     alloc: Global,
     source: &[u8],
     typed: &'a Typed,
     found: &[Findings],
+    progress: &mut P,
 ) -> Result<Vec<Explained<'a>>, AllocError>
     requires spelled { IsProgramOf source.now (program_of typed.now) }
     requires count { length found.now ≡ length (program_of typed.now) }
@@ -105,22 +141,23 @@ fn reasons_of<'a>(
         sites: &sites,
         uses: &uses,
     };
-    explained(alloc, asked)
+    explained(alloc, asked, progress)
 }
 
 /// What analyses find of a program up to degree 4, and why functions have no bound. What is said of the others is said for
-/// the degree that is asked for.
-pub fn explain<'a>(
+/// the degree that is asked for. How many groups are done, of those that have no bound, is told as it goes on.
+pub fn explain<'a, P: Progress>(
     alloc: Global,
     source: &[u8],
     typed: &'a Typed,
     degree: u8,
+    progress: &mut P,
 ) -> Result<Explanation<'a>, AllocError>
     requires { IsProgramOf source.now (program_of typed.now) }
     ensures { IfOk result (IsExplanation source.now (program_of typed.now) degree) }
 {
     let found = found_of(alloc, typed, HIGHEST)?;
-    let reasons = reasons_of(alloc, source, typed, &found.functions)?;
+    let reasons = reasons_of(alloc, source, typed, &found.functions, progress)?;
     let notes = notes_of(alloc, &found, degree)?;
     Ok(Explanation {
         found,

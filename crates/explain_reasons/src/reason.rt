@@ -1,4 +1,5 @@
 // Reasons.
+use explain_exchange::Exchanged;
 use explain_inline::Inlined;
 use explain_rebuild::Rebuilt;
 use explain_rounds::{GroupCall, SamePart};
@@ -19,6 +20,8 @@ pub enum Reason<'a> {
     Rebuild(Rebuilt<'a>),
     /// It has bounds once calls are written out.
     Inline(Inlined),
+    /// It has bounds once two parameters change places.
+    Exchange(Exchanged),
     /// The number of calls inside the group has no bound, and at these nothing gets smaller. The program in which a list pays
     /// for the rounds, where that gives bounds.
     Stuck {

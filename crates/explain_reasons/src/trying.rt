@@ -1,12 +1,14 @@
 // Changes that are tried for a group.
 ghost use Rattle.std.specs.Prelude.{IfOk, IfSome};
 ghost use Rattle.call_groups.specs.Read.{ids_of};
+ghost use Rattle.explain_exchange.specs.Exchanged.{IsExchanged};
 ghost use Rattle.explain_supply.specs.Supply.{IsSupplied};
 ghost use Rattle.explain_reasons.specs.Asked.{IsAsked, source_in, program_in, found_in};
 ghost use Rattle.explain_reasons.specs.Reasons.{RebuildHelps, InliningHelps, UsesArePaid};
 
 use crate::asked::Asked;
 use crate::kept::keeps_values;
+use explain_exchange::{Exchanged, exchange};
 use explain_inline::{Inlined, inline};
 use explain_rebuild::{Rebuilt, reached_sites, rebuild};
 use explain_supply::{Supplied, supply};
@@ -46,6 +48,19 @@ pub(crate) fn by_inlining<'s, 'a>(
         }
         None => Ok(None),
     }
+}
+
+/// Two parameters that are exchanged so that the group has bounds. By a law each function keeps its values so.
+pub(crate) fn by_exchanging<'s, 'a>(
+    alloc: Global,
+    asked: Asked<'s, 'a>,
+    group: &[FunId],
+) -> Result<Option<Exchanged>, AllocError>
+    requires { IsAsked asked }
+    ensures { IfOk result (λ exchanged. IfSome exchanged (IsExchanged (program_in asked.entry) (found_in asked.entry)
+        asked.entry.original.most (ids_of group.now))) }
+{
+    exchange(alloc, asked.original, asked.groups, group)
 }
 
 /// Later uses without which it has bounds.

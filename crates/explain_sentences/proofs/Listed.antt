@@ -1,7 +1,6 @@
 -- Sentences on items of a list, one after the other.
 use Rattle.std.proofs.Common.{◌≡◌, refl, sym, ap, ◌∙◌, ◌<◌, ◌+◌, ℕ, List, [], ◌∷◌, ◌++◌, length, drop, map, slice_index_or}
 use Rattle.std.proofs.lemmas.List.{append_assoc, drop_more}
-use Rattle.raml_syntax.specs.Tree.{Prog}
 use Rattle.explain_changes.specs.Read.{site_of}
 use Rattle.explain_changes.specs.declared.site.Site.{Site}
 use Rattle.explain_uses.specs.Read.{use_of}
@@ -18,12 +17,12 @@ module _ {A B : Type 0} (read : A → B) (told : List B → List Sentence) (cut 
       ap (λ ss. ss ++ told rest) added ∙ append_assoc before (told (read item ∷ [])) (told rest)
       ∙ ap (λ ss. before ++ ss) (sym (cut (read item) rest)) ∙ ap (λ xs. before ++ told (map read xs)) (sym here) ∙ so_far
 
-pub site_next : (P : Prog) (f : ℕ) (sites : List Site) (k : ℕ) (site : Site) (before after goal : List Sentence) → k < length sites → site ≡ slice_index_or sites k site →
-    after ≡ before ++ of_sites P f (site_of site ∷ []) → before ++ of_sites P f (map site_of (drop k sites)) ≡ goal →
-    after ++ of_sites P f (map site_of (drop (k + 1) sites)) ≡ goal
-site_next P f = next site_of (of_sites P f) (λ x xs. refl)
+pub site_next : (sites : List Site) (k : ℕ) (site : Site) (before after goal : List Sentence) → k < length sites → site ≡ slice_index_or sites k site →
+    after ≡ before ++ of_sites (site_of site ∷ []) → before ++ of_sites (map site_of (drop k sites)) ≡ goal →
+    after ++ of_sites (map site_of (drop (k + 1) sites)) ≡ goal
+site_next = next site_of of_sites (λ x xs. refl)
 
-pub use_next : (P : Prog) (f : ℕ) (uses : List LaterUse) (k : ℕ) (later : LaterUse) (before after goal : List Sentence) → k < length uses → later ≡ slice_index_or uses k later →
-    after ≡ before ++ of_uses P f (use_of later ∷ []) → before ++ of_uses P f (map use_of (drop k uses)) ≡ goal →
-    after ++ of_uses P f (map use_of (drop (k + 1) uses)) ≡ goal
-use_next P f = next use_of (of_uses P f) (λ x xs. refl)
+pub use_next : (uses : List LaterUse) (k : ℕ) (later : LaterUse) (before after goal : List Sentence) → k < length uses → later ≡ slice_index_or uses k later →
+    after ≡ before ++ of_uses (use_of later ∷ []) → before ++ of_uses (map use_of (drop k uses)) ≡ goal →
+    after ++ of_uses (map use_of (drop (k + 1) uses)) ≡ goal
+use_next = next use_of of_uses (λ x xs. refl)

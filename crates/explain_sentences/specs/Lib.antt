@@ -1,3 +1,5 @@
+pub mod Heads
 pub mod Sentences
+pub mod Changes
 pub mod Read
 pub mod Reasons

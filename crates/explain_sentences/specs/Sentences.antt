@@ -10,9 +10,13 @@ use Rattle.explain_rounds.specs.declared.idle.Kind.TheVariants.{Smaller, Compute
 use Rattle.explain_rounds.specs.Calls.{Call}
 use Rattle.explain_rounds.specs.Twice.{TwoCalls}
 
+-- why a function has no bound
 pub record Sentence : Type 0 where
   pub at : ℕ
   pub text : Text
+
+abbrev pub sentence : ℕ → Text → Sentence
+sentence p why = record { at = p; text = why }
 
 -- where a function begins
 abbrev pub begin_in : Option Function → ℕ
@@ -22,12 +26,8 @@ begin_in (Some g) = g.at
 abbrev pub begin_of : Prog → ℕ → ℕ
 begin_of P f = begin_in (slice_get P f)
 
--- the function has no bound, and why
-abbrev pub unbounded : Prog → ℕ → ℕ → Text → Sentence
-unbounded P f p why = record { at = p; text = codes "`" ++ (name_at P f ++ (codes "` lacks a bound: " ++ why)) }
-
 abbrev pub at_function : Prog → ℕ → Text → List Sentence
-at_function P f why = unbounded P f (begin_of P f) why ∷ []
+at_function P f why = sentence (begin_of P f) why ∷ []
 
 -- ---- calls
 
@@ -36,22 +36,22 @@ manner Smaller = codes ", with a part of what was given"
 manner Computed = codes " with what another call made, which may not be smaller"
 manner Stuck = codes ", and no list or tree gets smaller by that"
 
-abbrev pub of_call : Prog → ℕ → Call → Sentence
-of_call P f call = unbounded P f call.at (codes "`" ++ (name_at P call.callee ++ (codes "` is called here" ++ manner call.kind)))
+abbrev pub of_call : Prog → Call → Sentence
+of_call P call = sentence call.at (codes "`" ++ (name_at P call.callee ++ (codes "` is called here" ++ manner call.kind)))
 
-abbrev pub of_calls : Prog → ℕ → List Call → List Sentence
-of_calls P f [] = []
-of_calls P f (call ∷ calls) = of_call P f call ∷ of_calls P f calls
+abbrev pub of_calls : Prog → List Call → List Sentence
+of_calls P [] = []
+of_calls P (call ∷ calls) = of_call P call ∷ of_calls P calls
 
 -- two calls that get the same part
-abbrev pub of_pair : Prog → ℕ → TwoCalls → List Sentence
-of_pair P f pair =
-    unbounded P f pair.first (codes "this is one of two calls that both happen and get the same part")
-    ∷ unbounded P f pair.second (codes "this is the other one of the two") ∷ []
+abbrev pub of_pair : TwoCalls → List Sentence
+of_pair pair =
+    sentence pair.first (codes "this is one of two calls that both happen and get the same part")
+    ∷ sentence pair.second (codes "this is the other one of the two") ∷ []
 
-abbrev pub of_pairs : Prog → ℕ → List TwoCalls → List Sentence
-of_pairs P f [] = []
-of_pairs P f (pair ∷ pairs) = of_pair P f pair ++ of_pairs P f pairs
+abbrev pub of_pairs : List TwoCalls → List Sentence
+of_pairs [] = []
+of_pairs (pair ∷ pairs) = of_pair pair ++ of_pairs pairs
 
 -- ---- values that are built again
 
@@ -64,12 +64,12 @@ why_text variable function built =
 abbrev pub why_site : Site → Text
 why_site site = why_text site.variable site.function (text site.built)
 
-abbrev pub of_site : Prog → ℕ → Site → Sentence
-of_site P f site = unbounded P f site.at (why_site site)
+abbrev pub of_site : Site → Sentence
+of_site site = sentence site.at (why_site site)
 
-abbrev pub of_sites : Prog → ℕ → List Site → List Sentence
-of_sites P f [] = []
-of_sites P f (site ∷ sites) = of_site P f site ∷ of_sites P f sites
+abbrev pub of_sites : List Site → List Sentence
+of_sites [] = []
+of_sites (site ∷ sites) = of_site site ∷ of_sites sites
 
 -- ---- other functions
 
@@ -78,13 +78,6 @@ why_waiting P callee = codes "it calls `" ++ (name_at P callee ++ codes "`, whic
 
 abbrev pub of_waiting : Prog → ℕ → ℕ → List Sentence
 of_waiting P f callee = at_function P f (why_waiting P callee)
-
--- its calls of another one are written out
-abbrev pub why_inlined : Prog → ℕ → Text
-why_inlined P callee = codes "there is a bound once its calls of `" ++ (name_at P callee ++ codes "` are written out")
-
-abbrev pub of_inlined : Prog → ℕ → ℕ → ℕ → List Sentence
-of_inlined P f caller callee = unbounded P f (begin_of P caller) (why_inlined P callee) ∷ []
 
 abbrev pub why_degree : Prog → ℕ → ℕ → Text
 why_degree P callee degree =
@@ -103,15 +96,15 @@ abbrev pub why_again : Text → Text → Text
 why_again variable function =
     codes "`" ++ (variable ++ (codes "` of `" ++ (function ++ codes "` is used here again, and there would be a bound without this use")))
 
-abbrev pub at_first : Prog → ℕ → LaterUse → Sentence
-at_first P f u = unbounded P f u.first (why_first u.variable u.function)
+abbrev pub at_first : LaterUse → Sentence
+at_first u = sentence u.first (why_first u.variable u.function)
 
-abbrev pub at_again : Prog → ℕ → LaterUse → Sentence
-at_again P f u = unbounded P f u.at (why_again u.variable u.function)
+abbrev pub at_again : LaterUse → Sentence
+at_again u = sentence u.at (why_again u.variable u.function)
 
-abbrev pub of_uses : Prog → ℕ → List LaterUse → List Sentence
-of_uses P f [] = []
-of_uses P f (u ∷ us) = at_first P f u ∷ (at_again P f u ∷ of_uses P f us)
+abbrev pub of_uses : List LaterUse → List Sentence
+of_uses [] = []
+of_uses (u ∷ us) = at_first u ∷ (at_again u ∷ of_uses us)
 
 -- ---- no reason
 

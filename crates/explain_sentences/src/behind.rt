@@ -3,6 +3,7 @@ ghost use Rattle.std.specs.Prelude.{◌≡◌};
 ghost use Rattle.explain_sentences.specs.Reasons as r;
 ghost use Rattle.explain_sentences.specs.Sentences as s;
 
+use crate::change::closing_of_inlined;
 use explain_reasons::Reason;
 use explain_rounds::GroupCall;
 
@@ -24,8 +25,9 @@ pub fn closing(reason: &Reason<'_>) -> &'static str
         Reason::Waits { callee: _, stuck } => of_stuck(stuck),
         Reason::Rebuild(_) =>
             "The analysis loses track of a value that is used whole beside its parts.\n",
-        Reason::Inline(_) =>
-            "A result that hides which value it holds, as an option may, is paid for in every case; written out, each case pays for its own.\n",
+        Reason::Inline(inlined) => closing_of_inlined(inlined.how),
+        Reason::Exchange(_) =>
+            "Where a result can be paid for from either of two values, the analysis settles on one of them for all calls; in another order it settles on the other one.\n",
         Reason::Stuck { calls, .. } => of_stuck(calls),
         Reason::Twice(_) =>
             "The number of calls doubles with each part, and no polynomial bounds that.\n",

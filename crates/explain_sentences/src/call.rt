@@ -6,9 +6,9 @@ ghost use Rattle.explain_rounds.specs.Found.{pairs_of, plain_pair};
 ghost use Rattle.explain_sentences.specs.Sentences as s;
 ghost use Rattle.explain_sentences.specs.Read.{sentences_of};
 
-use crate::sentence::{Sentence, unbounded};
+use crate::sentence::Sentence;
 use explain_rounds::{GroupCall, Kind, SamePart};
-use raml_syntax::{FunId, Program};
+use raml_syntax::Program;
 use report_text::name_at;
 use std::alloc::{AllocError, Global};
 
@@ -23,21 +23,20 @@ fn manner(kind: Kind) -> &'static str
     }
 }
 
-/// Adds the sentence on a call inside the group of a function.
+/// Adds the sentence on a call inside the group.
 fn add_call(
     alloc: Global,
     sentences: &mut Vec<Sentence>,
     program: &Program,
-    fun: FunId,
     call: GroupCall,
 ) -> Result<(), AllocError>
     ensures { OnOk result (sentences_of sentences.new.items
-        ≡ sentences_of sentences.old.items ++ s.of_calls (program_of program.now) fun.0 (plain_call call ∷ [])) }
+        ≡ sentences_of sentences.old.items ++ s.of_calls (program_of program.now) (plain_call call ∷ [])) }
 {
     let callee = name_at(program, call.callee);
     let manner = manner(call.kind);
-    let why = format!(in alloc; "`{callee}` is called here{manner}")?;
-    sentences.push(unbounded(alloc, program, fun, call.at, &why)?)?;
+    let text = format!(in alloc; "`{callee}` is called here{manner}")?;
+    sentences.push(Sentence { at: call.at, text })?;
     Ok(())
 }
 
@@ -46,36 +45,38 @@ pub(crate) fn add_calls(
     alloc: Global,
     sentences: &mut Vec<Sentence>,
     program: &Program,
-    fun: FunId,
     calls: &[GroupCall],
 ) -> Result<(), AllocError>
     ensures { OnOk result (sentences_of sentences.new.items
-        ≡ sentences_of sentences.old.items ++ s.of_calls (program_of program.now) fun.0 (calls_of calls.now)) }
+        ≡ sentences_of sentences.old.items ++ s.of_calls (program_of program.now) (calls_of calls.now)) }
 {
     match calls {
         [] => Ok(()),
         [call, rest @ ..] => {
-            add_call(alloc, sentences, program, fun, *call)?;
-            add_calls(alloc, sentences, program, fun, rest)
+            add_call(alloc, sentences, program, *call)?;
+            add_calls(alloc, sentences, program, rest)
         }
     }
 }
 
 /// Adds the sentences on two calls that get the same part.
-fn add_pair(
-    alloc: Global,
-    sentences: &mut Vec<Sentence>,
-    program: &Program,
-    fun: FunId,
-    pair: SamePart,
-) -> Result<(), AllocError>
+fn add_pair(alloc: Global, sentences: &mut Vec<Sentence>, pair: SamePart) -> Result<(), AllocError>
     ensures { OnOk result (sentences_of sentences.new.items
-        ≡ sentences_of sentences.old.items ++ s.of_pair (program_of program.now) fun.0 (plain_pair pair)) }
+        ≡ sentences_of sentences.old.items ++ s.of_pair (plain_pair pair)) }
 {
-    let first = "this is one of two calls that both happen and get the same part";
-    let second = "this is the other one of the two";
-    sentences.push(unbounded(alloc, program, fun, pair.first, first)?)?;
-    sentences.push(unbounded(alloc, program, fun, pair.second, second)?)?;
+    let first = String::from_str(
+        alloc,
+        "this is one of two calls that both happen and get the same part",
+    )?;
+    let second = String::from_str(alloc, "this is the other one of the two")?;
+    sentences.push(Sentence {
+        at: pair.first,
+        text: first,
+    })?;
+    sentences.push(Sentence {
+        at: pair.second,
+        text: second,
+    })?;
     Ok(())
 }
 
@@ -83,18 +84,16 @@ fn add_pair(
 pub(crate) fn add_pairs(
     alloc: Global,
     sentences: &mut Vec<Sentence>,
-    program: &Program,
-    fun: FunId,
     pairs: &[SamePart],
 ) -> Result<(), AllocError>
     ensures { OnOk result (sentences_of sentences.new.items
-        ≡ sentences_of sentences.old.items ++ s.of_pairs (program_of program.now) fun.0 (pairs_of pairs.now)) }
+        ≡ sentences_of sentences.old.items ++ s.of_pairs (pairs_of pairs.now)) }
 {
     match pairs {
         [] => Ok(()),
         [pair, rest @ ..] => {
-            add_pair(alloc, sentences, program, fun, *pair)?;
-            add_pairs(alloc, sentences, program, fun, rest)
+            add_pair(alloc, sentences, *pair)?;
+            add_pairs(alloc, sentences, rest)
         }
     }
 }

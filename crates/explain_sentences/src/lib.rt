@@ -3,11 +3,14 @@
 
 mod behind;
 mod call;
+mod change;
+mod head;
 mod reason;
 mod sentence;
 mod site;
 mod twice;
 
 pub use behind::closing;
+pub use head::{first_head, next_head};
 pub use reason::sentences;
 pub use sentence::Sentence;

@@ -1,15 +1,15 @@
 // The sentences of a reason.
-ghost use Rattle.std.specs.Prelude.{◌≡◌, ◌++◌, IfOk, OnOk, string_bytes};
+ghost use Rattle.std.specs.Prelude.{◌≡◌, ◌<◌, ◌^◌, ◌++◌, length, IfOk, OnOk, string_bytes};
 ghost use Rattle.raml_syntax.specs.Read.{program_of};
 ghost use Rattle.explain_sentences.specs.Sentences as s;
 ghost use Rattle.explain_sentences.specs.Read.{sentences_of};
 ghost use Rattle.explain_sentences.specs.Reasons.{of_reason};
 
 use crate::call::{add_calls, add_pairs};
-use crate::sentence::{Sentence, begin_of, unbounded};
+use crate::change::{add_exchanged, add_inlined};
+use crate::sentence::{Sentence, begin_of};
 use crate::site::add_sites;
 use crate::twice::add_uses;
-use explain_inline::Inlined;
 use explain_reasons::{Explained, Reason};
 use raml_syntax::{FunId, Program};
 use report_text::name_at;
@@ -17,16 +17,16 @@ use std::alloc::{AllocError, Global};
 
 /// Adds a sentence at the beginning of a function.
 fn add_at_function(
-    alloc: Global,
     sentences: &mut Vec<Sentence>,
     program: &Program,
     fun: FunId,
-    why: &str,
+    text: String,
 ) -> Result<(), AllocError>
     ensures { OnOk result (sentences_of sentences.new.items
-        ≡ sentences_of sentences.old.items ++ s.at_function (program_of program.now) fun.0 why.now) }
+        ≡ sentences_of sentences.old.items ++ s.at_function (program_of program.now) fun.0 (string_bytes text)) }
 {
-    sentences.push(unbounded(alloc, program, fun, begin_of(program, fun), why)?)?;
+    let at = begin_of(program, fun);
+    sentences.push(Sentence { at, text })?;
     Ok(())
 }
 
@@ -65,7 +65,7 @@ fn add_waits(
         ≡ sentences_of sentences.old.items ++ s.of_waiting (program_of program.now) fun.0 callee.0) }
 {
     let why = why_waiting(alloc, program, callee)?;
-    add_at_function(alloc, sentences, program, fun, &why)
+    add_at_function(sentences, program, fun, why)
 }
 
 /// Adds that another function has a bound of a high degree.
@@ -81,32 +81,24 @@ fn add_degree(
         ≡ sentences_of sentences.old.items ++ s.of_degree (program_of program.now) fun.0 callee.0 degree) }
 {
     let why = why_degree(alloc, program, callee, degree)?;
-    add_at_function(alloc, sentences, program, fun, &why)
+    add_at_function(sentences, program, fun, why)
 }
 
-/// Why one has a bound once its calls of another one are written out.
-fn why_inlined(alloc: Global, program: &Program, callee: FunId) -> Result<String, AllocError>
-    ensures { IfOk result (λ why. string_bytes why ≡ s.why_inlined (program_of program.now) callee.0) }
-{
-    let callee = name_at(program, callee);
-    format!(in alloc; "there is a bound once its calls of `{callee}` are written out")
-}
-
-/// Adds that calls are written out in one function of the group.
-fn add_inlined(
+/// Adds that no reason was found.
+fn add_not_found(
     alloc: Global,
     sentences: &mut Vec<Sentence>,
     program: &Program,
     fun: FunId,
-    inlined: &Inlined,
 ) -> Result<(), AllocError>
-    ensures { OnOk result (sentences_of sentences.new.items ≡ sentences_of sentences.old.items
-        ++ s.of_inlined (program_of program.now) fun.0 inlined.now.caller.0 inlined.now.callee.0) }
+    ensures { OnOk result (sentences_of sentences.new.items
+        ≡ sentences_of sentences.old.items ++ s.at_function (program_of program.now) fun.0 s.why_not_found) }
 {
-    let why = why_inlined(alloc, program, inlined.callee)?;
-    let begin = begin_of(program, inlined.caller);
-    sentences.push(unbounded(alloc, program, fun, begin, &why)?)?;
-    Ok(())
+    let why = String::from_str(
+        alloc,
+        "no reason was found; perhaps a value grows from call to call, or is not given back in every case",
+    )?;
+    add_at_function(sentences, program, fun, why)
 }
 
 /// Adds the sentences of a reason of a function.
@@ -117,32 +109,26 @@ fn add_reason(
     fun: FunId,
     reason: &Reason<'_>,
 ) -> Result<(), AllocError>
+    requires { length (program_of program.now) < 2 ^ 32 }
     ensures { OnOk result (sentences_of sentences.new.items
         ≡ sentences_of sentences.old.items ++ of_reason (program_of program.now) fun.0 reason.now) }
 {
     match reason {
         Reason::Waits { callee, stuck } => {
             add_waits(alloc, sentences, program, fun, *callee)?;
-            add_calls(alloc, sentences, program, fun, stuck)
+            add_calls(alloc, sentences, program, stuck)
         }
-        Reason::Rebuild(rebuilt) => add_sites(alloc, sentences, program, fun, &rebuilt.sites),
-        Reason::Inline(inlined) => add_inlined(alloc, sentences, program, fun, inlined),
-        Reason::Stuck { calls, .. } => add_calls(alloc, sentences, program, fun, calls),
-        Reason::Twice(pairs) => add_pairs(alloc, sentences, program, fun, pairs),
-        Reason::Computed { calls, .. } => add_calls(alloc, sentences, program, fun, calls),
+        Reason::Rebuild(rebuilt) => add_sites(alloc, sentences, &rebuilt.sites),
+        Reason::Inline(inlined) => add_inlined(alloc, sentences, program, inlined),
+        Reason::Exchange(exchanged) => add_exchanged(alloc, sentences, program, exchanged),
+        Reason::Stuck { calls, .. } => add_calls(alloc, sentences, program, calls),
+        Reason::Twice(pairs) => add_pairs(alloc, sentences, pairs),
+        Reason::Computed { calls, .. } => add_calls(alloc, sentences, program, calls),
         Reason::DegreeTooLow { callee, degree } => {
             add_degree(alloc, sentences, program, fun, *callee, *degree)
         }
-        Reason::PaidTwice(paid) => add_uses(alloc, sentences, program, fun, &paid.uses),
-        Reason::NotFound => {
-            add_at_function(
-                alloc,
-                sentences,
-                program,
-                fun,
-                "no reason was found; perhaps a value grows from call to call, or is not given back in every case",
-            )
-        }
+        Reason::PaidTwice(paid) => add_uses(alloc, sentences, &paid.uses),
+        Reason::NotFound => add_not_found(alloc, sentences, program, fun),
     }
 }
 
@@ -152,6 +138,7 @@ pub fn sentences(
     program: &Program,
     explained: &Explained<'_>,
 ) -> Result<Vec<Sentence>, AllocError>
+    requires { length (program_of program.now) < 2 ^ 32 }
     ensures { IfOk result (λ sentences. sentences_of sentences.items
         ≡ of_reason (program_of program.now) explained.now.fun.0 explained.now.reason) }
 {

@@ -1,14 +1,12 @@
 // Sentences on values that are built again.
 ghost use Rattle.std.specs.Prelude.{◌≡◌, ◌++◌, [], ◌∷◌, IfOk, OnOk, string_bytes};
-ghost use Rattle.raml_syntax.specs.Read.{program_of};
 ghost use Rattle.explain_changes.specs.Read.{built_of, site_of, sites_of};
 ghost use Rattle.explain_changes.specs.Built.{text};
 ghost use Rattle.explain_sentences.specs.Sentences as s;
 ghost use Rattle.explain_sentences.specs.Read.{sentences_of};
 
-use crate::sentence::{Sentence, unbounded};
+use crate::sentence::Sentence;
 use explain_changes::{Built, Site};
-use raml_syntax::{FunId, Program};
 use std::alloc::{AllocError, Global};
 
 /// The expression that builds a value.
@@ -40,18 +38,12 @@ fn why(alloc: Global, site: Site<'_>) -> Result<String, AllocError>
 }
 
 /// Adds the sentence on it.
-fn add_site(
-    alloc: Global,
-    sentences: &mut Vec<Sentence>,
-    program: &Program,
-    fun: FunId,
-    site: Site<'_>,
-) -> Result<(), AllocError>
+fn add_site(alloc: Global, sentences: &mut Vec<Sentence>, site: Site<'_>) -> Result<(), AllocError>
     ensures { OnOk result (sentences_of sentences.new.items
-        ≡ sentences_of sentences.old.items ++ s.of_sites (program_of program.now) fun.0 (site_of site.entry ∷ [])) }
+        ≡ sentences_of sentences.old.items ++ s.of_sites (site_of site.entry ∷ [])) }
 {
-    let why = why(alloc, site)?;
-    sentences.push(unbounded(alloc, program, fun, site.at, &why)?)?;
+    let text = why(alloc, site)?;
+    sentences.push(Sentence { at: site.at, text })?;
     Ok(())
 }
 
@@ -59,15 +51,13 @@ fn add_site(
 pub(crate) fn add_sites(
     alloc: Global,
     sentences: &mut Vec<Sentence>,
-    program: &Program,
-    fun: FunId,
     sites: &[Site<'_>],
 ) -> Result<(), AllocError>
     ensures { OnOk result (sentences_of sentences.new.items
-        ≡ sentences_of sentences.old.items ++ s.of_sites (program_of program.now) fun.0 (sites_of sites.now)) }
+        ≡ sentences_of sentences.old.items ++ s.of_sites (sites_of sites.now)) }
 {
     for site in sites {
-        add_site(alloc, sentences, program, fun, *site)?;
+        add_site(alloc, sentences, *site)?;
     }
     Ok(())
 }

@@ -1,13 +1,11 @@
 // Sentences on values that are used twice.
 ghost use Rattle.std.specs.Prelude.{◌≡◌, ◌++◌, [], ◌∷◌, IfOk, OnOk, string_bytes};
-ghost use Rattle.raml_syntax.specs.Read.{program_of};
 ghost use Rattle.explain_uses.specs.Read.{use_of, uses_of};
 ghost use Rattle.explain_sentences.specs.Sentences as s;
 ghost use Rattle.explain_sentences.specs.Read.{sentences_of};
 
-use crate::sentence::{Sentence, unbounded};
+use crate::sentence::Sentence;
 use explain_uses::LaterUse;
-use raml_syntax::{FunId, Program};
 use std::alloc::{AllocError, Global};
 
 fn first_text(alloc: Global, variable: &str, function: &str) -> Result<String, AllocError>
@@ -42,15 +40,16 @@ fn why_again(alloc: Global, later: LaterUse<'_>) -> Result<String, AllocError>
 fn add_first(
     alloc: Global,
     sentences: &mut Vec<Sentence>,
-    program: &Program,
-    fun: FunId,
     later: LaterUse<'_>,
 ) -> Result<(), AllocError>
     ensures { OnOk result (sentences_of sentences.new.items
-        ≡ sentences_of sentences.old.items ++ (s.at_first (program_of program.now) fun.0 (use_of later.entry) ∷ [])) }
+        ≡ sentences_of sentences.old.items ++ (s.at_first (use_of later.entry) ∷ [])) }
 {
-    let why = why_first(alloc, later)?;
-    sentences.push(unbounded(alloc, program, fun, later.first, &why)?)?;
+    let text = why_first(alloc, later)?;
+    sentences.push(Sentence {
+        at: later.first,
+        text,
+    })?;
     Ok(())
 }
 
@@ -58,15 +57,13 @@ fn add_first(
 fn add_again(
     alloc: Global,
     sentences: &mut Vec<Sentence>,
-    program: &Program,
-    fun: FunId,
     later: LaterUse<'_>,
 ) -> Result<(), AllocError>
     ensures { OnOk result (sentences_of sentences.new.items
-        ≡ sentences_of sentences.old.items ++ (s.at_again (program_of program.now) fun.0 (use_of later.entry) ∷ [])) }
+        ≡ sentences_of sentences.old.items ++ (s.at_again (use_of later.entry) ∷ [])) }
 {
-    let why = why_again(alloc, later)?;
-    sentences.push(unbounded(alloc, program, fun, later.at, &why)?)?;
+    let text = why_again(alloc, later)?;
+    sentences.push(Sentence { at: later.at, text })?;
     Ok(())
 }
 
@@ -74,30 +71,26 @@ fn add_again(
 fn add_use(
     alloc: Global,
     sentences: &mut Vec<Sentence>,
-    program: &Program,
-    fun: FunId,
     later: LaterUse<'_>,
 ) -> Result<(), AllocError>
     ensures { OnOk result (sentences_of sentences.new.items
-        ≡ sentences_of sentences.old.items ++ s.of_uses (program_of program.now) fun.0 (use_of later.entry ∷ [])) }
+        ≡ sentences_of sentences.old.items ++ s.of_uses (use_of later.entry ∷ [])) }
 {
-    add_first(alloc, sentences, program, fun, later)?;
-    add_again(alloc, sentences, program, fun, later)
+    add_first(alloc, sentences, later)?;
+    add_again(alloc, sentences, later)
 }
 
 /// Adds those on all values.
 pub(crate) fn add_uses(
     alloc: Global,
     sentences: &mut Vec<Sentence>,
-    program: &Program,
-    fun: FunId,
     uses: &[LaterUse<'_>],
 ) -> Result<(), AllocError>
     ensures { OnOk result (sentences_of sentences.new.items
-        ≡ sentences_of sentences.old.items ++ s.of_uses (program_of program.now) fun.0 (uses_of uses.now)) }
+        ≡ sentences_of sentences.old.items ++ s.of_uses (uses_of uses.now)) }
 {
     for later in uses {
-        add_use(alloc, sentences, program, fun, *later)?;
+        add_use(alloc, sentences, *later)?;
     }
     Ok(())
 }

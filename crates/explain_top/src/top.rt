@@ -10,6 +10,7 @@ ghost use Rattle.explain_top.specs.Sinks.{sink_of};
 use crate::asked::{answer, no_memory};
 use crate::status::Status;
 use explain_files::Shelf;
+use explain_reasons::Progress;
 use explain_words::laws::asked_is_in_range;
 use explain_words::{WordsFault, read_words};
 use raml_io::{Sink, Store, put_all};
@@ -17,14 +18,16 @@ use std::alloc::Global;
 
 /// Does what the words ask for: reads from `store`, writes what was asked for to `out`, and what is wrong to `err`, and
 /// leaves a file on `shelf` where the words ask for one. The words are those of the command line, without the program's
-/// name. Lines that go to `out` have at most so many columns, unless the words tell a width.
+/// name. Lines that go to `out` have at most so many columns, unless the words tell a width. How far a long call has come,
+/// `progress` hears.
 #[tactic(auto, using(crate::proofs::Shelves::untouched))]
-pub fn explain<S: Store, W: Shelf, O: Sink, E: Sink>(
+pub fn explain<S: Store, W: Shelf, P: Progress, O: Sink, E: Sink>(
     alloc: Global,
     words: &[&str],
     columns: Option<u32>,
     store: &mut S,
     shelf: &mut W,
+    progress: &mut P,
     out: &mut O,
     err: &mut E,
 ) -> Status
@@ -41,7 +44,7 @@ pub fn explain<S: Store, W: Shelf, O: Sink, E: Sink>(
     match read_words(alloc, words) {
         Ok(request) => {
             asked_is_in_range();
-            answer(alloc, &request, columns, store, shelf, out, err)
+            answer(alloc, &request, columns, store, shelf, progress, out, err)
         }
         Err(WordsFault::Shown { text }) => match put_all(out, text.as_bytes()) {
             Ok(()) => Status::Done,

@@ -13,6 +13,7 @@ use crate::status::Status;
 use explain_calls::End;
 use explain_check::push_error;
 use explain_files::Shelf;
+use explain_reasons::Progress;
 use explain_why::{Told, tell_why};
 use explain_words::{WhyWords, Written};
 use raml_io::{Sink, Store};
@@ -21,11 +22,12 @@ use std::alloc::{AllocError, Global};
 /// Tells why functions of a program have no bounds on `out`, and on `err` what is wrong. The source that the first change
 /// gives is left where the words name a file for it.
 #[tactic(auto, using(crate::proofs::Shelves::untouched))]
-pub(crate) fn why<S: Store, W: Shelf, O: Sink, E: Sink>(
+pub(crate) fn why<S: Store, W: Shelf, P: Progress, O: Sink, E: Sink>(
     alloc: Global,
     words: &WhyWords<'_>,
     store: &mut S,
     shelf: &mut W,
+    progress: &mut P,
     out: &mut O,
     err: &mut E,
 ) -> Status
@@ -38,17 +40,18 @@ pub(crate) fn why<S: Store, W: Shelf, O: Sink, E: Sink>(
 {
     match words.written {
         Some(written) if written.name == words.file => refuse_source(alloc, written.name, err),
-        _ => told(alloc, words, store, shelf, out, err),
+        _ => told(alloc, words, store, shelf, progress, out, err),
     }
 }
 
 /// Tells it, where the words name no source as the file that is left.
 #[tactic(auto, using(crate::proofs::Shelves::untouched))]
-fn told<S: Store, W: Shelf, O: Sink, E: Sink>(
+fn told<S: Store, W: Shelf, P: Progress, O: Sink, E: Sink>(
     alloc: Global,
     words: &WhyWords<'_>,
     store: &mut S,
     shelf: &mut W,
+    progress: &mut P,
     out: &mut O,
     err: &mut E,
 ) -> Status
@@ -61,7 +64,7 @@ fn told<S: Store, W: Shelf, O: Sink, E: Sink>(
 {
     let mut text = String::new(alloc);
     let mut report = String::new(alloc);
-    match tell_why(alloc, store, words, &mut text, &mut report) {
+    match tell_why(alloc, store, words, progress, &mut text, &mut report) {
         Ok(told) => match leave(alloc, shelf, words.written, &told, &mut report) {
             Ok(done) => {
                 write_report(err, &report);

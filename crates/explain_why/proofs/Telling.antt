@@ -30,6 +30,7 @@ reason_told : FindingsCanBeTold → (source : Text) (P : Prog) (found : List Fin
     IsReason source P found most group reason → ReasonCanBeTold reason
 reason_told can source P found most group (r.Rebuild rebuilt) is = trial_told can most rebuilt.trial is.helps.mended.reduced.keeps.tried.analysed
 reason_told can source P found most group (r.Inline inlined) is = trial_told can most inlined.trial is.helps.analysed
+reason_told can source P found most group (r.Exchange exchanged) is = trial_told can most exchanged.trial is.analysed
 reason_told can source P found most group (r.Waits callee stuck) is = tt
 reason_told can source P found most group (r.Stuck calls supplied) is = supply_told can source P most group supplied is.1
 reason_told can source P found most group (r.Twice pairs) is = tt

@@ -8,13 +8,14 @@ use Rattle.explain_sentences.specs.Sentences.{Sentence}
 abbrev pub place_head : Text → Text → ℕ → Text
 place_head name source at = name ++ (codes ":" ++ (decimal (line source at) ++ (codes ":" ++ (decimal (column source at) ++ codes ": "))))
 
--- A sentence behind its place; in the rest stand the line of the source and a caret.
-pub record IsShown (name source : Text) (s : Sentence) (part : Text) : Type 0 where
+-- A sentence behind its place and its head; in the rest stand the line of the source and a caret.
+pub record IsShown (name source head : Text) (s : Sentence) (part : Text) : Type 0 where
   pub rest : Text
-  pub is : part ≡ place_head name source s.at ++ (s.text ++ rest)
+  pub is : part ≡ place_head name source s.at ++ (head ++ (s.text ++ rest))
 
--- sentences, in order
-abbrev pub AreShown : Text → Text → List Sentence → Text → Type 0
-AreShown name source [] part = part ≡ []
-AreShown name source (s ∷ ss) part =
-    (first : Text) × (others : Text) × IsShown name source s first × AreShown name source ss others × (part ≡ first ++ others)
+-- sentences, in order, the first behind one head and the others behind another one
+abbrev pub AreShown : Text → Text → Text → Text → List Sentence → Text → Type 0
+AreShown name source head next [] part = part ≡ []
+AreShown name source head next (s ∷ ss) part =
+    (first : Text) × (others : Text) × IsShown name source head s first × AreShown name source next next ss others
+    × (part ≡ first ++ others)

@@ -12,6 +12,8 @@ use Rattle.explain_reasons.specs.declared.reason.Explained.{Explained}
 use Rattle.explain_reasons.specs.declared.reason.Reason.{Reason}
 use Rattle.explain_reasons.specs.declared.reason.Reason.TheVariants as r
 use Rattle.explain_reasons.specs.declared.program.Explanation.{Explanation}
+use Rattle.explain_degrees.specs.declared.finding.Findings.{Findings}
+use Rattle.explain_sentences.specs.Heads.{first_head, next_head}
 use Rattle.explain_sentences.specs.Reasons.{of_reason, closing}
 use Rattle.explain_why.specs.Shown.{AreShown}
 use Rattle.explain_why.specs.Bounds.{AllCanBeToldOf, AreBoundLines}
@@ -28,6 +30,7 @@ SupplyCanBeTold supplied = IfSome supplied (λ s. TrialCanBeTold s.trial)
 abbrev pub ReasonCanBeTold : Reason → Type 0
 ReasonCanBeTold (r.Rebuild rebuilt) = TrialCanBeTold rebuilt.trial
 ReasonCanBeTold (r.Inline inlined) = TrialCanBeTold inlined.trial
+ReasonCanBeTold (r.Exchange exchanged) = TrialCanBeTold exchanged.trial
 ReasonCanBeTold (r.Stuck calls supplied) = SupplyCanBeTold supplied
 ReasonCanBeTold (r.Computed calls supplied) = SupplyCanBeTold supplied
 ReasonCanBeTold _ = Unit {0}
@@ -41,8 +44,8 @@ pub record TrialIs (head : Text) (trial : Trial) (lines : List Line) (part : Tex
 abbrev pub rebuilt_head : Text
 rebuilt_head = codes "Each such place makes at most one more cell when it runs, so bounds of cells may rise. With this there are these bounds:\n"
 
-abbrev pub inlined_head : Text
-inlined_head = codes "`--write OTHER.raml` leaves the source so. With this there are these bounds:\n"
+abbrev pub written_head : Text
+written_head = codes "`--write OTHER.raml` leaves the source so. With this there are these bounds:\n"
 
 abbrev pub supplied_head : Text → Text
 supplied_head name =
@@ -55,29 +58,35 @@ SupplyIs (Some s) part = TrialIs (supplied_head (string_bytes s.name)) s.trial s
 -- the bounds of what was tried for a reason
 abbrev pub BoundsAre : Reason → Text → Type 0
 BoundsAre (r.Rebuild rebuilt) part = TrialIs rebuilt_head rebuilt.trial rebuilt.lines.items part
-BoundsAre (r.Inline inlined) part = TrialIs inlined_head inlined.trial inlined.lines.items part
+BoundsAre (r.Inline inlined) part = TrialIs written_head inlined.trial inlined.lines.items part
+BoundsAre (r.Exchange exchanged) part = TrialIs written_head exchanged.trial exchanged.lines.items part
 BoundsAre (r.Stuck calls supplied) part = SupplyIs supplied part
 BoundsAre (r.Computed calls supplied) part = SupplyIs supplied part
 BoundsAre _ part = part ≡ []
 
--- of a group: the sentences of its reason, each at its place, what is said behind them, and the bounds of what was tried
-pub record IsGroup (name source : Text) (P : Prog) (explained : Explained) (part : Text) : Type 0 where
+-- the sentences of the reason of a group, each at its place, where analyses found this of all functions
+abbrev pub IsReasonShown : Text → Text → Prog → List Findings → Explained → Text → Type 0
+IsReasonShown name source P found e part =
+    AreShown name source (first_head P found e.fun.0) (next_head P e.fun.0) (of_reason P e.fun.0 e.reason) part
+
+-- of a group: these, what is said behind them, and the bounds of what was tried
+pub record IsGroup (name source : Text) (P : Prog) (found : List Findings) (explained : Explained) (part : Text) : Type 0 where
   pub shown : Text
   pub bounds : Text
-  pub sentences : AreShown name source (of_reason P explained.fun.0 explained.reason) shown
+  pub sentences : IsReasonShown name source P found explained shown
   pub are : BoundsAre explained.reason bounds
   pub is : part ≡ shown ++ (closing explained.reason ++ bounds)
 
 -- of a group that is told
-abbrev pub IsGroupIf : Bool → Text → Text → Prog → Explained → Text → Type 0
-IsGroupIf true name source P e part = IsGroup name source P e part
-IsGroupIf false name source P e part = part ≡ []
+abbrev pub IsGroupIf : Bool → Text → Text → Prog → List Findings → Explained → Text → Type 0
+IsGroupIf true name source P found e part = IsGroup name source P found e part
+IsGroupIf false name source P found e part = part ≡ []
 
 -- of those of the groups that the test takes
-abbrev pub AreGroups : (Explained → Bool) → Text → Text → Prog → List Explained → Text → Type 0
-AreGroups test name source P [] part = part ≡ []
-AreGroups test name source P (e ∷ es) part =
-    (first : Text) × (others : Text) × IsGroupIf (test e) name source P e first × AreGroups test name source P es others
+abbrev pub AreGroups : (Explained → Bool) → Text → Text → Prog → List Findings → List Explained → Text → Type 0
+AreGroups test name source P found [] part = part ≡ []
+AreGroups test name source P found (e ∷ es) part =
+    (first : Text) × (others : Text) × IsGroupIf (test e) name source P found e first × AreGroups test name source P found es others
     × (part ≡ first ++ others)
 
 -- what 'no bound' means, where that is said of some group
@@ -97,7 +106,7 @@ told_some asking x = some_told asking x.found.functions.items x.reasons.items x.
 -- what is said of functions that have bounds, then why groups have none, and what that means
 pub record IsWhy (name source : Text) (P : Prog) (asking : Asking) (explanation : Explanation) (part : Text) : Type 0 where
   pub groups : Text
-  pub are : AreGroups (told_of asking explanation) name source P explanation.reasons.items groups
+  pub are : AreGroups (told_of asking explanation) name source P explanation.found.functions.items explanation.reasons.items groups
   pub is : part ≡ notes_text P (is_noted asking) (map note_in explanation.notes.items) ++ (groups ++ meaning (told_some asking explanation))
 
 -- ---- the first change
@@ -105,6 +114,7 @@ pub record IsWhy (name source : Text) (P : Prog) (asking : Asking) (explanation 
 abbrev pub change_of : Reason → Option Text
 change_of (r.Rebuild rebuilt) = Some rebuilt.trial.text.items
 change_of (r.Inline inlined) = Some inlined.trial.text.items
+change_of (r.Exchange exchanged) = Some exchanged.trial.text.items
 change_of _ = None
 
 abbrev pub first_of : Option Text → Option Text → Option Text

@@ -1,5 +1,5 @@
 // What `explain why` tells of a file.
-ghost use Rattle.std.specs.Prelude.{◌≡◌, ◌≤◌, ◌++◌, ℕ, [], IfOk, OnOk, string_bytes};
+ghost use Rattle.std.specs.Prelude.{◌≡◌, ◌≤◌, ◌<◌, ◌^◌, ◌++◌, ℕ, [], length, IfOk, OnOk, string_bytes};
 ghost use Rattle.raml_syntax.specs.Tree.{Text};
 ghost use Rattle.raml_syntax.specs.Read.{program_of};
 ghost use Rattle.explain_check.specs.Checks.{IsProgramOf};
@@ -18,7 +18,7 @@ use explain_calls::{End, is_unanalysed, meter_of};
 use explain_check::{Source, read_program};
 use explain_data::push_no_function;
 use explain_degrees::RefusedDegree;
-use explain_reasons::{Explanation, explain};
+use explain_reasons::{Explanation, Progress, explain};
 use explain_words::{Meter as WordsMeter, WhyWords};
 use raml_io::Store;
 use raml_syntax::FunId;
@@ -45,11 +45,12 @@ impl Told {
 }
 
 /// Tells why functions of the program in a file have no bounds. What was asked for is appended to `text`; what is wrong, and
-/// which degrees could not be analysed, to the report.
-pub fn tell_why<S: Store>(
+/// which degrees could not be analysed, to the report. How far it has come is told as it goes on.
+pub fn tell_why<S: Store, P: Progress>(
     alloc: Global,
     store: &mut S,
     words: &WhyWords<'_>,
+    progress: &mut P,
     text: &mut String,
     report: &mut String,
 ) -> Result<Told, AllocError>
@@ -61,16 +62,17 @@ pub fn tell_why<S: Store>(
     ensures later { (other : Text) → S.faults store.old other ≤ S.faults store.new other }
 {
     match read_program(alloc, store, words.file, report)? {
-        Some(source) => tell_program(alloc, &source, words, text, report),
+        Some(source) => tell_program(alloc, &source, words, progress, text, report),
         None => Ok(Told::refused()),
     }
 }
 
 /// Tells it of the program of a source.
-fn tell_program(
+fn tell_program<P: Progress>(
     alloc: Global,
     source: &Source,
     words: &WhyWords<'_>,
+    progress: &mut P,
     text: &mut String,
     report: &mut String,
 ) -> Result<Told, AllocError>
@@ -84,7 +86,7 @@ fn tell_program(
     match words.function {
         None => {
             let asking = Asking { fun: None, meter };
-            tell_asked(alloc, source, words, asking, text, report)
+            tell_asked(alloc, source, words, asking, progress, text, report)
         }
         Some(name) => match source.typed.program().find(name) {
             Some(fun) => {
@@ -92,7 +94,7 @@ fn tell_program(
                     fun: Some(fun),
                     meter,
                 };
-                tell_asked(alloc, source, words, asking, text, report)
+                tell_asked(alloc, source, words, asking, progress, text, report)
             }
             None => {
                 push_no_function(words.file, name, report)?;
@@ -112,11 +114,12 @@ fn meter_asked(meter: Option<WordsMeter>) -> Option<Meter>
 }
 
 /// Tells what is asked about.
-fn tell_asked(
+fn tell_asked<P: Progress>(
     alloc: Global,
     source: &Source,
     words: &WhyWords<'_>,
     asking: Asking,
+    progress: &mut P,
     text: &mut String,
     report: &mut String,
 ) -> Result<Told, AllocError>
@@ -127,7 +130,7 @@ fn tell_asked(
         × (string_bytes text.new ≡ string_bytes text.old ++ shown)
         × (string_bytes report.new ≡ string_bytes report.old ++ part)) }
 {
-    let explanation = explain(alloc, &source.bytes, &source.typed, words.degree)?;
+    let explanation = explain(alloc, &source.bytes, &source.typed, words.degree, progress)?;
     push_refused(report, &explanation.found.refused)?;
     let subject = Subject {
         name: words.file,
@@ -145,7 +148,8 @@ fn tell_explained(
     explanation: &Explanation<'_>,
     text: &mut String,
 ) -> Result<Told, AllocError>
-    requires { (degree : ℕ) × IsExplanation subject.source.now (program_of subject.program.now) degree explanation.now }
+    requires few { length (program_of subject.program.now) < 2 ^ 32 }
+    requires is { (degree : ℕ) × IsExplanation subject.source.now (program_of subject.program.now) degree explanation.now }
     ensures { IfOk result (λ told. (shown : Text)
         × EndsBy subject.entry.name.now subject.entry.source.now (program_of subject.entry.program.now) (asking_in subject.entry.asking)
         explanation.now told.end (bytes_in told.changed) shown

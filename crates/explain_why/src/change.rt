@@ -17,6 +17,7 @@ fn change_of<'e>(reason: &'e Reason<'_>) -> Option<&'e [u8]>
     match reason {
         Reason::Rebuild(rebuilt) => Some(&rebuilt.trial.text),
         Reason::Inline(inlined) => Some(&inlined.trial.text),
+        Reason::Exchange(exchanged) => Some(&exchanged.trial.text),
         Reason::Waits { .. }
         | Reason::Stuck { .. }
         | Reason::Twice(_)

@@ -59,6 +59,7 @@ fn callee_of(reason: &Reason<'_>) -> Option<FunId>
         Reason::Waits { callee, .. } => Some(*callee),
         Reason::Rebuild(_)
         | Reason::Inline(_)
+        | Reason::Exchange(_)
         | Reason::Stuck { .. }
         | Reason::Twice(_)
         | Reason::Computed { .. }

@@ -1,11 +1,12 @@
 // What is told of a program.
-ghost use Rattle.std.specs.Prelude.{◌≡◌, ◌++◌, ℕ, IfOk, OnOk, string_bytes};
+ghost use Rattle.std.specs.Prelude.{◌≡◌, ◌<◌, ◌^◌, ◌++◌, ℕ, length, IfOk, OnOk, string_bytes};
 ghost use Rattle.std.specs.List.{All};
 ghost use Rattle.raml_syntax.specs.Tree.{Text};
 ghost use Rattle.raml_syntax.specs.Read.{program_of};
 ghost use Rattle.explain_reasons.specs.Explanation.{IsExplanation};
 ghost use Rattle.explain_why.specs.Why as w;
-ghost use Rattle.explain_why.specs.Why.{ReasonCanBeTold, BoundsAre, IsGroup, IsGroupIf, AreGroups, IsWhy, told_of, told_some};
+ghost use Rattle.explain_why.specs.Why.{ReasonCanBeTold, BoundsAre, IsReasonShown, IsGroup, IsGroupIf, AreGroups, IsWhy};
+ghost use Rattle.explain_why.specs.Why.{told_of, told_some};
 ghost use Rattle.explain_why.specs.Chosen.{asking_in};
 
 use crate::bounds::push_bounds;
@@ -13,9 +14,10 @@ use crate::chosen::{Asking, tells_some};
 use crate::notes::push_notes;
 use crate::shown::push_sentences;
 use explain_bounds::laws::findings_can_be_told;
+use explain_degrees::Findings;
 use explain_lines::Line;
 use explain_reasons::{Explained, Explanation, Reason};
-use explain_sentences::{closing, sentences};
+use explain_sentences::{closing, first_head, next_head, sentences};
 use explain_supply::Supplied;
 use explain_trials::Trial;
 use raml_syntax::Program;
@@ -25,8 +27,8 @@ use std::alloc::{AllocError, Global};
 const REBUILT: &str =
     "Each such place makes at most one more cell when it runs, so bounds of cells may rise. With this there are these bounds:\n";
 
-/// What is said before bounds that calls which are written out give.
-const INLINED: &str =
+/// What is said before bounds that another change gives.
+const WRITTEN: &str =
     "`--write OTHER.raml` leaves the source so. With this there are these bounds:\n";
 
 /// Appends the bounds of these lines in a program that was tried, behind a line that says what was changed.
@@ -82,7 +84,10 @@ fn push_tried(alloc: Global, text: &mut String, reason: &Reason<'_>) -> Result<(
             push_trial(alloc, text, REBUILT, &rebuilt.trial, &rebuilt.lines)
         }
         Reason::Inline(inlined) => {
-            push_trial(alloc, text, INLINED, &inlined.trial, &inlined.lines)
+            push_trial(alloc, text, WRITTEN, &inlined.trial, &inlined.lines)
+        }
+        Reason::Exchange(exchanged) => {
+            push_trial(alloc, text, WRITTEN, &exchanged.trial, &exchanged.lines)
         }
         Reason::Stuck { supplied, .. } => push_supplied(alloc, text, supplied),
         Reason::Computed { supplied, .. } => push_supplied(alloc, text, supplied),
@@ -121,20 +126,46 @@ impl<'s> Subject<'s> {
     }
 }
 
+/// Appends the sentences of the reason of a group, each at its place.
+fn push_reason(
+    alloc: Global,
+    text: &mut String,
+    subject: Subject<'_>,
+    found: &[Findings],
+    explained: &Explained<'_>,
+) -> Result<(), AllocError>
+    requires { length (program_of subject.program.now) < 2 ^ 32 }
+    ensures { OnOk result ((part : Text) × IsReasonShown subject.entry.name.now subject.entry.source.now
+        (program_of subject.entry.program.now) found.now explained.now part
+        × (string_bytes text.new ≡ string_bytes text.old ++ part)) }
+{
+    let Subject {
+        name,
+        source,
+        program,
+        ..
+    } = subject;
+    let head = first_head(alloc, program, found, explained.fun)?;
+    let next = next_head(alloc, program, explained.fun)?;
+    let sentences = sentences(alloc, program, explained)?;
+    push_sentences(alloc, text, name, source, &head, &next, &sentences)
+}
+
 /// Appends why a group has no bound.
 fn push_group(
     alloc: Global,
     text: &mut String,
     subject: Subject<'_>,
+    found: &[Findings],
     explained: &Explained<'_>,
 ) -> Result<(), AllocError>
-    requires { ReasonCanBeTold explained.now.reason }
+    requires few { length (program_of subject.program.now) < 2 ^ 32 }
+    requires told { ReasonCanBeTold explained.now.reason }
     ensures { OnOk result ((part : Text) × IsGroup subject.entry.name.now subject.entry.source.now
-        (program_of subject.entry.program.now) explained.now part
+        (program_of subject.entry.program.now) found.now explained.now part
         × (string_bytes text.new ≡ string_bytes text.old ++ part)) }
 {
-    let sentences = sentences(alloc, subject.program, explained)?;
-    push_sentences(alloc, text, subject.name, subject.source, &sentences)?;
+    push_reason(alloc, text, subject, found, explained)?;
     text.push_str(closing(&explained.reason))?;
     push_tried(alloc, text, &explained.reason)
 }
@@ -144,16 +175,18 @@ fn push_group_if(
     alloc: Global,
     text: &mut String,
     subject: Subject<'_>,
+    found: &[Findings],
     explained: &Explained<'_>,
     is_told: bool,
 ) -> Result<(), AllocError>
-    requires { ReasonCanBeTold explained.now.reason }
+    requires few { length (program_of subject.program.now) < 2 ^ 32 }
+    requires told { ReasonCanBeTold explained.now.reason }
     ensures { OnOk result ((part : Text) × IsGroupIf is_told subject.entry.name.now subject.entry.source.now
-        (program_of subject.entry.program.now) explained.now part
+        (program_of subject.entry.program.now) found.now explained.now part
         × (string_bytes text.new ≡ string_bytes text.old ++ part)) }
 {
     if is_told {
-        push_group(alloc, text, subject, explained)
+        push_group(alloc, text, subject, found, explained)
     } else {
         Ok(())
     }
@@ -167,16 +200,19 @@ fn push_groups(
     explanation: &Explanation<'_>,
     reasons: &[Explained<'_>],
 ) -> Result<(), AllocError>
-    requires { All (λ e. ReasonCanBeTold e.reason) reasons.now }
+    requires few { length (program_of subject.program.now) < 2 ^ 32 }
+    requires told { All (λ e. ReasonCanBeTold e.reason) reasons.now }
     ensures { OnOk result ((part : Text) × AreGroups (told_of (asking_in subject.entry.asking) explanation.now)
-        subject.entry.name.now subject.entry.source.now (program_of subject.entry.program.now) reasons.now part
+        subject.entry.name.now subject.entry.source.now (program_of subject.entry.program.now) explanation.now.found.functions.items
+        reasons.now part
         × (string_bytes text.new ≡ string_bytes text.old ++ part)) }
 {
     match reasons {
         [] => Ok(()),
         [first, rest @ ..] => {
+            let found = &explanation.found.functions;
             let is_told = subject.tells(explanation, first);
-            push_group_if(alloc, text, subject, first, is_told)?;
+            push_group_if(alloc, text, subject, found, first, is_told)?;
             push_groups(alloc, text, subject, explanation, rest)
         }
     }
@@ -200,7 +236,8 @@ pub fn push_why(
     subject: Subject<'_>,
     explanation: &Explanation<'_>,
 ) -> Result<(), AllocError>
-    requires { (degree : ℕ) × IsExplanation subject.source.now (program_of subject.program.now) degree explanation.now }
+    requires few { length (program_of subject.program.now) < 2 ^ 32 }
+    requires is { (degree : ℕ) × IsExplanation subject.source.now (program_of subject.program.now) degree explanation.now }
     ensures { OnOk result ((part : Text) × IsWhy subject.entry.name.now subject.entry.source.now
         (program_of subject.entry.program.now) (asking_in subject.entry.asking) explanation.now part
         × (string_bytes text.new ≡ string_bytes text.old ++ part)) }

@@ -12,22 +12,25 @@ use std::fmt::Write;
 /// What stands for a character that can't be shown.
 const NOT_SHOWN: char = '\u{fffd}';
 
-/// Appends sentences, in order, each with its place, the line, and a caret below the place.
-pub(crate) fn push_sentences(
+/// Appends sentences, in order, each with its place, the line, and a caret below the place. The first one stands behind the head,
+/// and the others behind the next one.
+pub(crate) fn push_sentences<'h>(
     alloc: Global,
     text: &mut String,
     name: &str,
     source: &[u8],
+    head: &'h str,
+    next: &'h str,
     sentences: &[Sentence],
 ) -> Result<(), AllocError>
-    ensures { OnOk result ((part : Text) × AreShown name.now source.now (sentences_of sentences.now) part
+    ensures { OnOk result ((part : Text) × AreShown name.now source.now head.now next.now (sentences_of sentences.now) part
         × (string_bytes text.new ≡ string_bytes text.old ++ part)) }
 {
     match sentences {
         [] => Ok(()),
         [sentence, rest @ ..] => {
-            push_sentence(alloc, text, name, source, sentence)?;
-            push_sentences(alloc, text, name, source, rest)
+            push_sentence(alloc, text, name, source, head, sentence)?;
+            push_sentences(alloc, text, name, source, next, next, rest)
         }
     }
 }
@@ -37,18 +40,20 @@ fn push_sentence(
     text: &mut String,
     name: &str,
     source: &[u8],
+    head: &str,
     sentence: &Sentence,
 ) -> Result<(), AllocError>
-    ensures { OnOk result ((part : Text) × IsShown name.now source.now (sentence_of sentence.now) part
+    ensures { OnOk result ((part : Text) × IsShown name.now source.now head.now (sentence_of sentence.now) part
         × (string_bytes text.new ≡ string_bytes text.old ++ part)) }
 {
     let at = sentence.at.0 as usize;
-    push_head(text, name, source, at)?;
+    push_place(text, name, source, at)?;
+    text.push_str(head)?;
     push_body(alloc, text, source, at, &sentence.text)
 }
 
 /// Appends a place, as `NAME:LINE:COLUMN: `.
-fn push_head(text: &mut String, name: &str, source: &[u8], at: usize) -> Result<(), AllocError>
+fn push_place(text: &mut String, name: &str, source: &[u8], at: usize) -> Result<(), AllocError>
     ensures { OnOk result (string_bytes text.new ≡ string_bytes text.old ++ place_head name.now source.now at) }
 {
     let place = Place::of(source, at);

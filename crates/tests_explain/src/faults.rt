@@ -1,6 +1,7 @@
 // Streams and files that fail.
 use explain_files::MemShelf;
 use explain_messages::syntax_message;
+use explain_reasons::Silent;
 use explain_top::explain;
 use raml_io::{MemSink, MemStore};
 use raml_parse::ParseFault;
@@ -28,7 +29,14 @@ fn told(alloc: Global, words: &[&str], puts: &[u64], writes: &[u64]) -> Result<S
     let mut out = MemSink::new(alloc, 1000, 10, Vec::from_slice(alloc, puts)?)?;
     let mut err = MemSink::new(alloc, 1000, 10, Vec::new(alloc))?;
     let status = explain(
-        alloc, words, None, &mut store, &mut shelf, &mut out, &mut err,
+        alloc,
+        words,
+        None,
+        &mut store,
+        &mut shelf,
+        &mut Silent,
+        &mut out,
+        &mut err,
     );
     let mut text = String::new(alloc);
     let written = std::str::from_utf8(out.bytes())?;

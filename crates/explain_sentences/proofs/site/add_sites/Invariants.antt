@@ -1,5 +1,4 @@
 use Rattle.std.proofs.Common.{◌≡◌, ◌++◌, drop}
-use Rattle.raml_syntax.specs.Read.{program_of}
 use Rattle.explain_changes.specs.Read.{sites_of}
 use Rattle.explain_sentences.specs.Sentences.{of_sites}
 use Rattle.explain_sentences.specs.Read.{sentences_of}
@@ -7,5 +6,5 @@ use Rattle.explain_sentences.proofs.site.add_sites.Given as goal
 
 abbrev pub invariant-loop-site : goal.invariant-loop-site
 invariant-loop-site l =
-    sentences_of l.sentences.items ++ of_sites (program_of l.program) l.fun.0 (sites_of (drop l.site-index l.sites))
-    ≡ sentences_of l.fn.sentences.items ++ of_sites (program_of l.program) l.fun.0 (sites_of l.sites)
+    sentences_of l.sentences.items ++ of_sites (sites_of (drop l.site-index l.sites))
+    ≡ sentences_of l.fn.sentences.items ++ of_sites (sites_of l.sites)

@@ -4,7 +4,7 @@ use Rattle.explain_why.proofs.Calling.{of_explanation}
 use Rattle.explain_why.proofs.call.tell_asked.Goals as goal
 
 pub returns : goal.returns
-returns c =
+returns g c =
     let is = rw c.deref.ensures.value at c.in_ok-explanation.ensures in
     let refused = rw c.deref-2.ensures.value at c.in_ok-push_refused.ensures in
     let ends = rw (c.deref-3.ensures.value, c.program.ensures.program) at c.tell_explained.ensures in

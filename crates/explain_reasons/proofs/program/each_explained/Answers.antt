@@ -6,10 +6,10 @@ use Rattle.explain_reasons.specs.Asked.{found_in}
 use Rattle.explain_reasons.specs.Reasons.{group_in}
 use Rattle.explain_reasons.specs.Explanation.{is_lacking}
 use Rattle.explain_reasons.proofs.Listing.{one_done}
-use Rattle.explain_reasons.proofs.program.explained.Goals as goal
+use Rattle.explain_reasons.proofs.program.each_explained.Goals as goal
 
 pub loop-group-preserved : goal.loop-group-preserved
-loop-group-preserved c =
+loop-group-preserved g c =
     let test = is_lacking (found_in c.args.asked) in
     let all = c.list-group-items.result.now in
     let k = c.loop-group.group-index in
