@@ -4,3 +4,4 @@ pub mod Emptied
 pub mod Read
 pub mod Reached
 pub mod Paid
+pub mod Example

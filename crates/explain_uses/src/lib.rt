@@ -5,6 +5,7 @@ mod before;
 mod emptied;
 mod first;
 mod later;
+pub mod laws;
 mod paid;
 mod reach;
 mod trying;
