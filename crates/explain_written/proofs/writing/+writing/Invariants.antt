@@ -68,6 +68,9 @@ decreases-operands::write_just l = 16 * l.place.depth + 2
 abbrev pub decreases-operands::write_call_operand : goal.decreases-operands::write_call_operand
 decreases-operands::write_call_operand l = 16 * l.place.depth + 3
 
+abbrev pub decreases-operands::write_called : goal.decreases-operands::write_called
+decreases-operands::write_called l = 16 * l.place.depth + 2
+
 abbrev pub decreases-operands::write_all : goal.decreases-operands::write_all
 decreases-operands::write_all l = 16 * l.place.depth + 2
 
