@@ -90,7 +90,8 @@ fn each_explained<'s, 'a, P: Progress>(
     let mut reasons = Vec::new(alloc);
     for group in asked.groups.list() {
         add_explained(alloc, asked, group, &mut reasons)?;
-        progress.tells(reasons.len() as u32, all);
+        let done = u32::try_from(reasons.len()).unwrap_or(all);
+        progress.tells(done, all);
     }
     Ok(reasons)
 }
