@@ -36,8 +36,11 @@ manner Smaller = codes ", with a part of what was given"
 manner Computed = codes " with what another call made, which may not be smaller"
 manner Stuck = codes ", and no list or tree gets smaller by that"
 
+abbrev pub why_call : Prog → Call → Text
+why_call P call = codes "`" ++ (name_at P call.callee ++ (codes "` is called here" ++ manner call.kind))
+
 abbrev pub of_call : Prog → Call → Sentence
-of_call P call = sentence call.at (codes "`" ++ (name_at P call.callee ++ (codes "` is called here" ++ manner call.kind)))
+of_call P call = sentence call.at (why_call P call)
 
 abbrev pub of_calls : Prog → List Call → List Sentence
 of_calls P [] = []

@@ -1,12 +1,12 @@
 // Sentences on calls.
-ghost use Rattle.std.specs.Prelude.{◌≡◌, ◌++◌, [], ◌∷◌, OnOk};
+ghost use Rattle.std.specs.Prelude.{◌≡◌, ◌++◌, [], ◌∷◌, IfOk, OnOk, string_bytes};
 ghost use Rattle.raml_syntax.specs.Read.{program_of};
 ghost use Rattle.explain_rounds.specs.Read.{calls_of, plain_call};
 ghost use Rattle.explain_rounds.specs.Found.{pairs_of, plain_pair};
 ghost use Rattle.explain_sentences.specs.Sentences as s;
 ghost use Rattle.explain_sentences.specs.Read.{sentences_of};
 
-use crate::sentence::Sentence;
+use crate::sentence::{Sentence, add_text};
 use explain_rounds::{GroupCall, Kind, SamePart};
 use raml_syntax::Program;
 use report_text::name_at;
@@ -23,6 +23,15 @@ fn manner(kind: Kind) -> &'static str
     }
 }
 
+/// Why a call inside the group is told.
+fn why_call(alloc: Global, program: &Program, call: GroupCall) -> Result<String, AllocError>
+    ensures { IfOk result (λ why. string_bytes why ≡ s.why_call (program_of program.now) (plain_call call)) }
+{
+    let callee = name_at(program, call.callee);
+    let manner = manner(call.kind);
+    format!(in alloc; "`{callee}` is called here{manner}")
+}
+
 /// Adds the sentence on a call inside the group.
 fn add_call(
     alloc: Global,
@@ -33,9 +42,7 @@ fn add_call(
     ensures { OnOk result (sentences_of sentences.new.items
         ≡ sentences_of sentences.old.items ++ s.of_calls (program_of program.now) (plain_call call ∷ [])) }
 {
-    let callee = name_at(program, call.callee);
-    let manner = manner(call.kind);
-    let text = format!(in alloc; "`{callee}` is called here{manner}")?;
+    let text = why_call(alloc, program, call)?;
     sentences.push(Sentence { at: call.at, text })?;
     Ok(())
 }
@@ -64,20 +71,10 @@ fn add_pair(alloc: Global, sentences: &mut Vec<Sentence>, pair: SamePart) -> Res
     ensures { OnOk result (sentences_of sentences.new.items
         ≡ sentences_of sentences.old.items ++ s.of_pair (plain_pair pair)) }
 {
-    let first = String::from_str(
-        alloc,
-        "this is one of two calls that both happen and get the same part",
-    )?;
-    let second = String::from_str(alloc, "this is the other one of the two")?;
-    sentences.push(Sentence {
-        at: pair.first,
-        text: first,
-    })?;
-    sentences.push(Sentence {
-        at: pair.second,
-        text: second,
-    })?;
-    Ok(())
+    let first = "this is one of two calls that both happen and get the same part";
+    add_text(alloc, sentences, pair.first, first)?;
+    let second = "this is the other one of the two";
+    add_text(alloc, sentences, pair.second, second)
 }
 
 /// Adds those on pairs of calls.

@@ -7,7 +7,7 @@ ghost use Rattle.explain_sentences.specs.Reasons.{of_reason};
 
 use crate::call::{add_calls, add_pairs};
 use crate::change::{add_exchanged, add_inlined};
-use crate::sentence::{Sentence, begin_of};
+use crate::sentence::{Sentence, add_text, begin_of};
 use crate::site::add_sites;
 use crate::twice::add_uses;
 use explain_reasons::{Explained, Reason};
@@ -94,11 +94,12 @@ fn add_not_found(
     ensures { OnOk result (sentences_of sentences.new.items
         ≡ sentences_of sentences.old.items ++ s.at_function (program_of program.now) fun.0 s.why_not_found) }
 {
-    let why = String::from_str(
+    add_text(
         alloc,
+        sentences,
+        begin_of(program, fun),
         "no reason was found; perhaps a value grows from call to call, or is not given back in every case",
-    )?;
-    add_at_function(sentences, program, fun, why)
+    )
 }
 
 /// Adds the sentences of a reason of a function.
