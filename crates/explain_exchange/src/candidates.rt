@@ -26,11 +26,12 @@ pub(crate) fn candidates(
 ) -> Result<Vec<Candidate>, AllocError> {
     let funs = reached(alloc, groups, group)?;
     let mut found = Vec::new(alloc);
-    for place in 0..program.funs.len() {
-        let fun = FunId(place as u32);
-        if funs.contains(&fun) {
-            add_of(fun, &program.funs[place], &mut found)?;
+    let mut id = FunId(0);
+    for fun in &program.funs {
+        if funs.contains(&id) {
+            add_of(id, fun, &mut found)?;
         }
+        id = FunId(id.0.saturating_add(1));
     }
     Ok(found)
 }

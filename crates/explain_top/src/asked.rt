@@ -18,6 +18,7 @@ use explain_calls::tell_bounds;
 use explain_check::check_files;
 use explain_data::check_call;
 use explain_files::Shelf;
+use explain_reasons::Progress;
 use explain_verify::verify_certificate;
 use explain_words::{BoundsWords, Request};
 use raml_io::{Sink, Store, put_all};
@@ -29,12 +30,13 @@ const NO_MEMORY: &str = "explain: out of memory\n";
 /// Does what a request asks for: writes what is told to `out`, where lines have at most so many columns, what is wrong to
 /// `err`, and leaves a file on the shelf where that is asked for.
 #[tactic(auto, using(crate::proofs::Shelves::untouched))]
-pub fn answer<S: Store, W: Shelf, O: Sink, E: Sink>(
+pub fn answer<S: Store, W: Shelf, P: Progress, O: Sink, E: Sink>(
     alloc: Global,
     request: &Request,
     columns: Option<u32>,
     store: &mut S,
     shelf: &mut W,
+    progress: &mut P,
     out: &mut O,
     err: &mut E,
 ) -> Status
@@ -69,7 +71,7 @@ pub fn answer<S: Store, W: Shelf, O: Sink, E: Sink>(
         Request::Verify { file, certificate } => {
             verify(alloc, *file, *certificate, store, out, err)
         }
-        Request::Why(words) => why(alloc, words, store, shelf, out, err),
+        Request::Why(words) => why(alloc, words, store, shelf, progress, out, err),
         Request::Plot(words) => plot(alloc, words, store, shelf, out, err),
         Request::Profile(words) => profile(alloc, words, store, out, err),
     }

@@ -38,12 +38,8 @@ fn is_variable_or_literal(e: &Expr) -> bool {
 /// Whether nothing but variables and literals is put together.
 fn is_plain(e: &Expr) -> bool {
     match &e.form {
-        Form::Var(_)
-        | Form::Number(_)
-        | Form::Truth(_)
-        | Form::Nil
-        | Form::Leaf
-        | Form::Nothing => true,
+        Form::Var(_) | Form::Number(_) | Form::Truth(_) | Form::Nil | Form::Leaf | Form::Nothing =>
+            true,
         Form::Just(a) | Form::Typed(a, _) => is_plain(a),
         Form::Pair(a, b) | Form::Cons(a, b) => is_plain(a) && is_plain(b),
         Form::Node(a, b, c) => is_plain(a) && is_plain(b) && is_plain(c),

@@ -67,7 +67,9 @@ impl<'s, 'a> Names<'s, 'a> {
         match self {
             Names::Empty => None,
             Names::Bound {
-                name: bound, outer, ..
+                name: bound,
+                outer,
+                ..
             } => {
                 if name.text() == bound.text() {
                     None

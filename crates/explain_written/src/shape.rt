@@ -32,7 +32,10 @@ pub fn is_short<'s, 'a>(place: Place<'s, 'a>, e: &'a Expr) -> bool {
     match place.rest {
         Rest::Whole => !is_block(place.callee, e),
         Rest::Apart {
-            by, callee, behind, ..
+            by,
+            callee,
+            behind,
+            ..
         } => match settle(by, None, e) {
             Settled::Empty(body) => matches!(behind, Rest::Whole) && !is_block(callee, body),
             Settled::No | Settled::One(..) | Settled::Two(..) | Settled::Three(..) => false,

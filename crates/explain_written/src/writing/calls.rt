@@ -28,12 +28,7 @@ pub fn write_call<'s, 'a>(
 
 /// Writes the body of a function for a call, with its type where that is needed.
 #[cycle(writing)]
-fn write_out<'s, 'a>(
-    out: &mut Writer,
-    place: Place<'s, 'a>,
-    callee: Callee<'a>,
-    args: &'a [Expr],
-) {
+fn write_out<'s, 'a>(out: &mut Writer, place: Place<'s, 'a>, callee: Callee<'a>, args: &'a [Expr]) {
     let fun = callee.fun;
     let number = out.new_number();
     let inner = Place {

@@ -1,4 +1,5 @@
 // Operands.
+use crate::callee::Callee;
 use crate::infix::{Infix, Level, arith, compare, cons};
 use crate::place::Place;
 use crate::shape::needs_type;
@@ -141,13 +142,25 @@ fn write_call_operand<'s, 'a>(
     name: &Name,
     args: &'a [Expr],
 ) {
-    if place.called(name, args).is_some() {
-        return write_grouped(out, place, e);
+    match place.called(name, args) {
+        Some(callee) => write_called(out, place, callee, e),
+        None => {
+            out.push(name.text());
+            out.push("(");
+            write_all(out, place, args);
+            out.push(")");
+        }
     }
-    out.push(name.text());
-    out.push("(");
-    write_all(out, place, args);
-    out.push(")");
+}
+
+/// Writes a call that is written out, in parentheses: those around its type, where it stands with that.
+#[cycle(writing)]
+fn write_called<'s, 'a>(out: &mut Writer, place: Place<'s, 'a>, callee: Callee<'a>, e: &'a Expr) {
+    if needs_type(&callee.fun.body) {
+        write_block(out, place.part().indented(2), e);
+    } else {
+        write_grouped(out, place, e);
+    }
 }
 
 /// Writes arguments, with commas between them.
