@@ -61,6 +61,18 @@ most_degree P N most f meter finding.Refused is four = omega arith
 module _ (kept : Kept) (typed : Source) (source : kept.source ≡ typed) (grouping : IsGrouping (program_of typed) kept.groups)
     (normal : program_in kept ≡ normal_of (program_of typed) kept.groups.list) (most : ℕ) (found : LeastBounds)
     (least : AreLeast (source_in kept) (program_in kept) most found) where
+  -- what was found of a function stands at its place
+  pub findings_there : (f : ℕ) (findings : Findings) → f < length (program_of typed) → findings ≡ slice_index_or found.functions.items f findings →
+      slice_get found.functions.items f ≡ Some findings
+  findings_there f findings below is =
+      let count = least.count in
+      let same = ap (λ (s : Source). length (program_of s)) source in
+      got found.functions.items f findings is (omega (arith, below, count, same))
+
+  pub degree_within : (f : ℕ) (meter : Meter) (findings : Findings) → slice_get found.functions.items f ≡ Some findings → most ≤ 4 → degree_of (finding_of findings meter) ≤ 4
+  degree_within f meter findings there four =
+      most_degree (source_in kept) (program_in kept) most f meter (finding_of findings meter) (least.functions f findings meter there) four
+
   pub of_degree : {E : Type 0} (f : ℕ) (meter : Meter) (origin : Origin) (findings : Findings) (d : ℕ) (old_text new_text old read new : Text) (result : Result Told E) →
       slice_get found.functions.items f ≡ Some findings → d ≡ degree_of (finding_of findings meter) → read ≡ old ++ notes (names_in kept) found.refused.items →
       IfOk result (λ told. (shown : Text) × (part : Text) × EndsAt told.end (program_of typed) (program_in kept) f d meter origin (text_in told.picture) shown part
