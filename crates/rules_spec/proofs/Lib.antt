@@ -27,3 +27,5 @@ pub mod SmallCalls
 pub mod SmallWalks
 pub mod Planning
 pub mod SameCalls
+pub mod PaidPlans
+pub mod RaisedJobs

@@ -43,7 +43,7 @@ row_times u row = record { has = row.has; asks = row.asks; right = pos u *ℤ ro
 right_diff : (u p n : ℕ) → diff (u * p) (u * n) ≡ pos u *ℤ diff p n
 right_diff u p n = sym (simp (diffs, diff-pos) (diff_same _ _ _ _ (omega arith)))
 
-right_times : (u p n : ℕ) → pos (u * p) -ℤ pos (u * n) ≡ pos u *ℤ (pos p -ℤ pos n)
+pub right_times : (u p n : ℕ) → pos (u * p) -ℤ pos (u * n) ≡ pos u *ℤ (pos p -ℤ pos n)
 unfolding diff
 right_times u p n = right_diff u p n
 
@@ -308,7 +308,7 @@ module _ (u : ℕ) (S : Setting) (earlier : List Block) (scale : ℕ) (own : Lis
   tasks_rise d kind st h = both_rise u _ _ _ _ (rows_rise u (w.reach_rows S own x d kind) (w.reach_rows R own x d kind) h) (group_rises (mode_of kind) st own)
 
 -- a sparse row with its right side u times
-abbrev sparse_times : ℕ → SparseRow → SparseRow
+abbrev pub sparse_times : ℕ → SparseRow → SparseRow
 sparse_times u row = record { terms = row.terms; right = pos u *ℤ row.right }
 
 most_times : (u : ℕ) (z : ℤ) → int_le (pos (suc u) *ℤ z) (pos 0) ≡ int_le z (pos 0)
@@ -319,7 +319,7 @@ most_times u (negsuc k) = grind (arith, ints)
 kept_times : (u : ℕ) (row : SparseRow) → is_kept (sparse_times (suc u) row) ≡ is_kept row
 kept_times u row = ap (λ b. not (list_all (λ (t : ℕ × ℤ). int_le (pos 0) t.1) row.terms && b)) (most_times u row.right)
 
-filter_times : (u : ℕ) (rows : List SparseRow) → filter is_kept (map (sparse_times (suc u)) rows) ≡ map (sparse_times (suc u)) (filter is_kept rows)
+pub filter_times : (u : ℕ) (rows : List SparseRow) → filter is_kept (map (sparse_times (suc u)) rows) ≡ map (sparse_times (suc u)) (filter is_kept rows)
 filter_times u [] = refl
 filter_times u (row ∷ rows) =
     ap (λ b. cond b (sparse_times (suc u) row ∷ filter is_kept (map (sparse_times (suc u)) rows)) (filter is_kept (map (sparse_times (suc u)) rows))) (kept_times u row)

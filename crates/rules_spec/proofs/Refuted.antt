@@ -43,7 +43,7 @@ blocks_raised u P meter bs =
     subst (λ cs. BlocksTimes u P (With meter) cs (map (raised meter u) bs)) (all_once meter bs)
     (subst (λ n. BlocksTimes u P (With meter) (map (raised meter 1) bs) (map (raised meter n) bs)) (omega arith) (all_more_raised u 1 P meter bs))
 
-others_kept : (u : ℕ) (P : Program) (meter other : Meter) → same_meter meter other ≡ false → (bs : List Block) → BlocksTimes 1 P (With other) bs (map (raised meter u) bs)
+pub others_kept : (u : ℕ) (P : Program) (meter other : Meter) → same_meter meter other ≡ false → (bs : List Block) → BlocksTimes 1 P (With other) bs (map (raised meter u) bs)
 others_kept u P meter other differ bs =
     subst (λ cs. BlocksTimes 1 P (With other) cs (map (raised meter u) bs)) (all_once other bs)
     (subst (λ cs. BlocksTimes 1 P (With other) (map (raised other 1) bs) cs) (all_once other (map (raised meter u) bs)) (all_other_kept u 1 P meter other differ bs))

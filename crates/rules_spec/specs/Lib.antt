@@ -23,3 +23,4 @@ pub mod Raised
 pub mod Sure
 pub mod Growth
 pub mod Small
+pub mod RaisedJobs

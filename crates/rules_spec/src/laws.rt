@@ -6,6 +6,7 @@ ghost use Rattle.rules_spec.specs.Example.{Examples};
 ghost use Rattle.rules_spec.specs.Found.{ReadsThere};
 ghost use Rattle.rules_spec.specs.Laws.{RulesAreConditions, RulesAsk};
 ghost use Rattle.rules_spec.specs.Raised.{RefutedStayRefuted, RowsAreRaised};
+ghost use Rattle.rules_spec.specs.RaisedJobs.{JobRowsAreRaised};
 ghost use Rattle.rules_spec.specs.Shape.{FittingAnswer};
 ghost use Rattle.rules_spec.specs.Small.{TotalsStaySmall};
 ghost use Rattle.rules_spec.specs.Solving.{FormsWalkAsAmounts, RowsAreConditions};
@@ -91,6 +92,12 @@ pub fn tasks_are_sure()
 #[tactic(auto, using(crate::proofs::Refuted::rows_are_raised))]
 pub fn rows_are_raised()
     ensures { RowsAreRaised }
+{}
+
+/// The same of the systems of jobs.
+#[tactic(auto, using(crate::proofs::RaisedJobs::job_rows_are_raised))]
+pub fn job_rows_are_raised()
+    ensures { JobRowsAreRaised }
 {}
 
 /// What refutes a task still does where the blocks of a meter and its scale are raised.
