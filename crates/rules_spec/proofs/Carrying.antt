@@ -95,7 +95,7 @@ module _ (P : Called → Type 0) where
     EachCallOf (p.More e es) = EachCall e × EachCallOf es
 
   mutual
-    each_call : ((d : Called) → P d) → (e : Plan) → EachCall e
+    pub each_call : ((d : Called) → P d) → (e : Plan) → EachCall e
     each_call h (p.Ends n cells steps) = tt
     each_call h (p.Pays n ticks e) = each_call h e
     each_call h (p.Moves n step e) = each_call h e

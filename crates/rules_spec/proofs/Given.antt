@@ -65,7 +65,7 @@ module _ {E F : Type 0} (A : Numbers E) (B : Numbers F) (f : E → F) (j : Job) 
     abbrev J : Job
     J = at_prices j scale cost
 
-    of_bodies_to : (k : ℕ) (bs : List Body) → AllSettled bs → (hss : List (List (Hint E))) →
+    pub of_bodies_to : (k : ℕ) (bs : List Body) → AllSettled bs → (hss : List (List (Hint E))) →
         of_bodies B J (map (sides_to f) group) k bs (map (map (hint_to f)) hss) ≡ map (condition_to f) (of_bodies A j group k bs hss)
     of_bodies_to k [] settled hss = refl
     of_bodies_to k (b ∷ bs) settled [] = refl
@@ -78,7 +78,7 @@ module _ {E F : Type 0} (A : Numbers E) (B : Numbers F) (f : E → F) (j : Job) 
         (walk_to A B f c (known_by j group) scale cost j.mode b.plan settled.0 j.mode prices (k ∷ []) s.args s.result hs)
         ∙ sym (map-append (condition_to f) (walk A (known_by j group) b.plan j.mode (k ∷ []) s.args s.result hs).found (of_bodies A j group (suc k) bs hss))
 
-    of_target_to : f (A.number 1) ≡ B.number 1 → (ps : List ℕ) → of_target B J (map (sides_to f) group) ps ≡ map (condition_to f) (of_target A j group ps)
+    pub of_target_to : f (A.number 1) ≡ B.number 1 → (ps : List ℕ) → of_target B J (map (sides_to f) group) ps ≡ map (condition_to f) (of_target A j group ps)
     of_target_to one [] = refl
     of_target_to one (p ∷ ps) = λ i. record {
       path = j.function ∷ [];

@@ -29,3 +29,4 @@ pub mod Planning
 pub mod SameCalls
 pub mod PaidPlans
 pub mod RaisedJobs
+pub mod NotRaised

@@ -82,7 +82,7 @@ module _ (P : Program) (d : ℕ) (earlier : List Block) (group scale t : ℕ) (x
       record {
         count = count;
         target = meet_front target rest all;
-        bodies = subst AllMeet (bodies_free t 1 j (scale * t) tt (sides_given (amount x) 0 j.bodies) 0 j.bodies (hints_given (amount x) (sides_count j.bodies) j.bodies)) (meet_back target rest all);
+        bodies = subst AllMeet (bodies_free t 1 j (scale * t) tt (amount x)) (meet_back target rest all);
       }
   solves_meets (k.With meter) is_task h s =
       let kind = k.With meter in
@@ -102,7 +102,7 @@ module _ (P : Program) (d : ℕ) (earlier : List Block) (group scale t : ℕ) (x
       let rest = of_bodies (amounts t) j (sides_given (amount x) 0 j.bodies) 0 j.bodies (hints_given (amount x) (sides_count j.bodies) j.bodies) in
       subst (λ z. Solves z (map pos x) (pos t)) (sym walked) ((rows_are_conditions j weights t x m.count).1
       (meet_append target rest m.target
-      (subst AllMeet (sym (bodies_free t 1 j (scale * t) tt (sides_given (amount x) 0 j.bodies) 0 j.bodies (hints_given (amount x) (sides_count j.bodies) j.bodies))) m.bodies)))
+      (subst AllMeet (sym (bodies_free t 1 j (scale * t) tt (amount x))) m.bodies)))
   meets_solves (k.With meter) is_task h m =
       let kind = k.With meter in
       let j = raised_job kind in
