@@ -97,7 +97,7 @@ module _ {E F : Type 0} (A : Numbers E) (B : Numbers F) (f : E → F) (j : Job) 
         ∙ sym (map-append (condition_to f) (of_target A j group j.target) (of_bodies A j group 0 j.bodies hss))
 
 pub given_carry : {E F : Type 0} (A : Numbers E) (B : Numbers F) (f : E → F) (give : ℕ → E) → Carries A B f → GivenCarry A B f give
-given_carry A B f give c j =
+given_carry {E = E} A B f give c j =
     let group = sides_given give 0 j.bodies in let hss = hints_given give (sides_count j.bodies) j.bodies in
     let prices = prices_carried A B f c (known_by j group) j.mode in
     (λ i. conditions B j (sides_given_to f give 0 j.bodies i) (hints_given_to f give (sides_count j.bodies) j.bodies i))

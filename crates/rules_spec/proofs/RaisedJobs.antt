@@ -29,7 +29,7 @@ use Rattle.rules_spec.specs.Walk.{charge, numbers}
 use Rattle.rules_spec.specs.Tasks.{Body, Job, known_by, unknowns, sides_count, sides_given, hints_given, of_target, conditions, given_conditions}
 use Rattle.rules_spec.specs.Carried.{sides_to, condition_to}
 use Rattle.rules_spec.specs.Found.{listed, signature, free_signature, free_in, free_from, at_budget, cost_from}
-use Rattle.rules_spec.specs.Planned.{called}
+use Rattle.rules_spec.specs.Planned.{place_in, called}
 use Rattle.rules_spec.specs.Jobs.{body_of, job_of}
 use Rattle.rules_spec.specs.Solving.{row_of, system_of}
 use Rattle.rules_spec.specs.Systems.{PaidFor, AreReady, IsTask}
@@ -96,20 +96,6 @@ module _ (u : ℕ) where
         ∙ listed_rise (size_of (g.result ∷ []) S.budget) (annotation s.result) (annotation (times_sig u s).result) (annotation_mul u s.result),
   )
 
-  -- those of cost-free blocks stay
-  free_kept : (S : Setting) (later : List Block) (m : Mode) (bs cs : List Block) → BlocksTimes u S.program m bs cs → (k f : ℕ) →
-      free_in S (slice_get cs k) f ≡ free_in S (slice_get bs k) f
-  free_kept S later m [] [] h k f = refl
-  free_kept S later m [] (c ∷ cs) h k f = absurd h
-  free_kept S later m (b ∷ bs) [] h k f = absurd h
-  free_kept S later m (b ∷ bs) (c ∷ cs) h (suc k) f = free_kept S later m bs cs h.1 k f
-  free_kept S later m (b ∷ bs) (c ∷ cs) h zero f =
-      let g = slice_get S.program.funs f in
-      ap (λ (t : Task). free_signature g (free_budget t.kind) (sig_in S.program c f)) h.0.task ∙ by g (free_budget b.task.kind) refl where
-        by : (g : Option NormFun) (o : Option ℕ) → free_budget b.task.kind ≡ o → free_signature g o (sig_in S.program c f) ≡ free_signature g o (sig_in S.program b f)
-        by g None e = refl
-        by g (Some budget) e = ap (free_signature g (Some budget)) (h.0.free budget e f)
-
   -- rows
   row_rises : (n : ℕ) (cs : List (Condition Form)) → map (row_of n) (map (condition_to (rise u)) cs) ≡ map (sparse_times u) (map (row_of n) cs)
   row_rises n [] = refl
@@ -141,13 +127,26 @@ module _ (u : ℕ) (P : Program) (d : ℕ) (earlier later : List Block) (task : 
   abbrev G : Known Form
   G = known_by J group
 
+  -- the signatures of cost-free blocks stay
+  free_kept : (bs cs : List Block) → BlocksTimes u P J.mode bs cs → (k f : ℕ) → free_in R (slice_get cs k) f ≡ free_in S (slice_get bs k) f
+  free_kept [] [] h k f = refl
+  free_kept [] (c ∷ cs) h k f = absurd h
+  free_kept (b ∷ bs) [] h k f = absurd h
+  free_kept (b ∷ bs) (c ∷ cs) h (suc k) f = free_kept bs cs h.1 k f
+  free_kept (b ∷ bs) (c ∷ cs) h zero f =
+      let g = slice_get P.funs f in
+      ap (λ (t : Task). free_signature g (free_budget t.kind) (sig_in P c f)) h.0.task ∙ by g (free_budget b.task.kind) refl where
+        by : (g : Option NormFun) (o : Option ℕ) → free_budget b.task.kind ≡ o → free_signature g o (sig_in P c f) ≡ free_signature g o (sig_in P b f)
+        by g None e = refl
+        by g (Some budget) e = ap (free_signature g (Some budget)) (h.0.free budget e f)
+
   job_kept : job_of P d later task (u * scale) ≡ at_prices J (u * scale) (cost_from R)
   job_kept = λ i. record {
     bodies = bodies_kept P u J.mode d earlier later task h i;
     mode = J.mode;
     scale = u * scale;
     budget = J.budget;
-    free = λ k f. free_kept u S later J.mode earlier later h k f i;
+    free = λ k f. free_kept earlier later h k f i;
     cost = cost_from R;
     function = J.function;
     target = J.target;
@@ -170,8 +169,10 @@ module _ (u : ℕ) (P : Program) (d : ℕ) (earlier later : List Block) (task : 
 
   call_settled : (f : ℕ) → PaidFor S J.mode f → (C : Context) (xs : List ℕ) (T : Type') (b : ℕ) → Q (called P S.group earlier J.budget C f xs T b)
   call_settled f paid C xs T b meter e own none =
-      let s = subst (λ m. PaidFor S m f) e paid own in
-      let some = subst (λ o. at_budget S (slice_get P.funs f) o ≡ None) s.1 none in absurd (cc)
+      let pays : place_in S.group f ≡ None → (s : Sig) × (cost_sig P meter earlier f ≡ Some s) = subst (λ m. PaidFor S m f) e paid in
+      let s = pays own in
+      let some : at_budget S (slice_get P.funs f) (Some s.0) ≡ None = subst (λ o. at_budget S (slice_get P.funs f) o ≡ None) s.1 none in
+      absurd (cc)
 
   all_settled : (fs : List ℕ) → AreReady S J.mode fs → AllSettled forms forms (rise u) J group (map (λ f. body_of P S.group earlier J.budget (slice_get P.funs f)) fs)
   all_settled [] ready = tt

