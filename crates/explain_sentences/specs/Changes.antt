@@ -30,9 +30,11 @@ of_inlined P how caller callee = sentence (call_place P caller callee) (why_inli
 
 abbrev pub closing_of_inlined : How → Text
 closing_of_inlined Inlined =
-    codes "A result that hides which value it holds, as an option may, is paid for in every case; written out, each case pays for its own.\n"
+    codes "A result that hides which value it holds, as an option may, is paid for in every case; "
+    ++ codes "written out, each case pays for its own.\n"
 closing_of_inlined Unfolded =
-    codes "A call is paid for as if each of its cases could come; written out behind what was just built, only the one that comes is paid for.\n"
+    codes "A call is paid for as if each of its cases could come; "
+    ++ codes "written out behind what was just built, only the one that comes is paid for.\n"
 
 -- ---- parameters that change places
 

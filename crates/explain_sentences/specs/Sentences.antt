@@ -118,5 +118,5 @@ why_not_found = codes "no reason was found; perhaps a value grows from call to c
 abbrev pub closing_of_stuck : {A : Type 0} → List A → Text
 closing_of_stuck [] = []
 closing_of_stuck (call ∷ calls) =
-    codes "The analysis bounds such calls by a list or tree that gets smaller. It does not follow numbers, which may never reach their end; "
-    ++ codes "a list with an entry for each call can take their place.\n"
+    codes "The analysis bounds such calls by a list or tree that gets smaller. It does not follow numbers, which may never reach their "
+    ++ codes "end; a list with an entry for each call can take their place.\n"

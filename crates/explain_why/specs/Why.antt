@@ -42,7 +42,8 @@ pub record TrialIs (head : Text) (trial : Trial) (lines : List Line) (part : Tex
   pub is : part ≡ head ++ bounds
 
 abbrev pub rebuilt_head : Text
-rebuilt_head = codes "Each such place makes at most one more cell when it runs, so bounds of cells may rise. With this there are these bounds:\n"
+rebuilt_head =
+    codes "Each such place makes at most one more cell when it runs, so bounds of cells may rise. With this there are these bounds:\n"
 
 abbrev pub written_head : Text
 written_head = codes "`--write OTHER.raml` leaves the source so. With this there are these bounds:\n"

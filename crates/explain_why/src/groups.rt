@@ -40,7 +40,8 @@ fn push_trial(
     lines: &[Line],
 ) -> Result<(), AllocError>
     requires { w.TrialCanBeTold trial.now }
-    ensures { OnOk result ((part : Text) × w.TrialIs head.now trial.now lines.now part × (string_bytes text.new ≡ string_bytes text.old ++ part)) }
+    ensures { OnOk result ((part : Text) × w.TrialIs head.now trial.now lines.now part
+        × (string_bytes text.new ≡ string_bytes text.old ++ part)) }
 {
     text.push_str(head)?;
     let program = trial.typed.program();
