@@ -47,9 +47,9 @@ _raml() {
 _explain() {
   local word=${COMP_WORDS[COMP_CWORD]} before=${COMP_WORDS[COMP_CWORD - 1]} words=''
   if [ "$COMP_CWORD" -eq 1 ]; then
-    words='check bounds budget verify why help --help --version'
+    words='check bounds budget verify why plot profile help --help --version'
   elif [ "${COMP_WORDS[1]}" = help ]; then
-    words='check bounds budget verify why help'
+    words='check bounds budget verify why plot profile help'
   elif [ "$before" = --degree ]; then
     words='1 2 3 4'
   elif [[ $before == @(--function|--data) ]]; then
@@ -66,7 +66,11 @@ _explain() {
       budget) words='--write --degree --json --force --help' ;;
       verify) words='--help' ;;
       why) words='--function --meter --degree --write --force --help' ;;
+      plot) words='--sizes --seed --degree --meter --output --force --help' ;;
+      profile) words='--function --degree --at --help' ;;
     esac
+  elif [[ ${COMP_WORDS[1]}:$(_raml_operands) == plot:1 ]]; then
+    words=$(_raml_functions)
   fi
   mapfile -t COMPREPLY < <(compgen -W "$words" -- "$word")
 }

@@ -23,7 +23,7 @@ first_refused P N most (findings ∷ more) found refused = subst (IsFinding P N 
 module _ (kept : Kept) (typed : Source) (source : kept.source ≡ typed) (grouping : IsGrouping (program_of typed) kept.groups)
     (normal : program_in kept ≡ normal_of (program_of typed) kept.groups.list) (most : ℕ) (found : LeastBounds)
     (least : AreLeast (source_in kept) (program_in kept) most found) where
-  abbrev analysed : Analysed (program_of typed) most
+  abbrev pub analysed : Analysed (program_of typed) most
   analysed = record {
     groups = kept.groups;
     grouping = grouping;
@@ -31,7 +31,7 @@ module _ (kept : Kept) (typed : Source) (source : kept.source ≡ typed) (groupi
     least = subst (λ (N : Program). AreLeast (program_of typed) N most found) normal (subst (λ (s : Source). AreLeast (program_of s) (program_in kept) most found) source least);
   }
 
-  noted : notes (names_in kept) found.refused.items ≡ notes (names_for (program_of typed) kept.groups) found.refused.items
+  pub noted : notes (names_in kept) found.refused.items ≡ notes (names_for (program_of typed) kept.groups) found.refused.items
   noted = ap (λ (s : Source). notes (record { program = program_of s; groups = kept.groups.list }) found.refused.items) source
 
   pub none_told : TicksAreRefused found.functions.items → NoneIsAnalysed (program_of typed) most (notes (names_in kept) found.refused.items)

@@ -65,7 +65,7 @@ pub fn is_unanalysed(functions: &[Findings]) -> bool
 }
 
 /// Appends which degrees could not be analysed, each with the line of `raml`.
-fn push_notes(
+pub fn push_notes(
     alloc: Global,
     report: &mut String,
     program: &NormProgram<'_>,

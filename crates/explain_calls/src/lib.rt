@@ -8,7 +8,7 @@ mod end;
 mod fitting;
 mod parts;
 
-pub use analysed::{is_unanalysed, push_note, refusal_line};
+pub use analysed::{is_unanalysed, push_note, push_notes, refusal_line};
 pub use call::tell_bounds;
 pub use draft::{Draft, draft_bounds};
 pub use end::End;

@@ -14,7 +14,7 @@ use std::alloc::{AllocError, Global};
 use value_text::{DataHeap, read_args};
 
 /// The limit of data, in bytes.
-const MOST_BYTES: u64 = 4_194_304;
+pub const MOST_BYTES: u64 = 4_194_304;
 
 /// Checks that the file of this name holds data that spells arguments of the types. Where it does not, this is appended to
 /// the report.
@@ -38,8 +38,9 @@ pub fn check_data_file<S: Store>(
     }
 }
 
-/// Checks that bytes spell arguments of the types.
-fn check_data(
+/// Checks that these bytes of a file of this name spell arguments of the types. Where they do not, this is appended to the
+/// report.
+pub fn check_data(
     alloc: Global,
     name: &str,
     bytes: &[u8],

@@ -11,4 +11,5 @@ mod report;
 mod token;
 
 pub use call::{check_call, function_named, push_no_function};
+pub use data::{MOST_BYTES, check_data};
 pub use finding::Finding;

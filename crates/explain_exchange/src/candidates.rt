@@ -1,7 +1,8 @@
 // The pairs of parameters that are tried.
 use call_groups::Groups;
 use explain_mending::reached;
-use raml_syntax::{Fun, FunId, Param, Program, Ty};
+use explain_rounds::is_sized;
+use raml_syntax::{Fun, FunId, Param, Program};
 use std::alloc::{AllocError, Global};
 
 /// How many exchanges are tried for a group at most.
@@ -58,13 +59,4 @@ fn add_with(
         }
     }
     Ok(())
-}
-
-/// Whether the type holds a list, a tree or an option.
-fn is_sized(ty: &Ty) -> bool {
-    match ty {
-        Ty::Int | Ty::Bool => false,
-        Ty::Pair(first, second) => is_sized(first) || is_sized(second),
-        _ => true,
-    }
 }

@@ -11,10 +11,12 @@ use raml_syntax::{Fun, Param};
 use std::alloc::{AllocError, Global};
 
 /// The text of arguments of a function, as a run reads them. Its lists and trees have `size` elements at the
-/// outside, and a few inside; their numbers are at most twice `size`. The seed alone decides what is random.
+/// outside, and a few inside; their numbers are at most twice `size`. Where there is a place `along`, the parameter there
+/// alone has this size, and the others have 8 elements. The seed alone decides what is random.
 pub fn made_arguments(
     alloc: Global,
     function: &Fun,
+    along: Option<usize>,
     size: u32,
     shape: Shape,
     seed: u64,
@@ -22,7 +24,7 @@ pub fn made_arguments(
     ensures { IfOk result (λ text. AreArguments (types_of (function_of function.now)) (string_bytes text)) }
 {
     let mut text = String::new(alloc);
-    let mut maker = Maker::new(size, shape, seed);
+    let mut maker = Maker::new(along, size, shape, seed);
     push_arguments(&mut text, &mut maker, &function.params)?;
     Ok(text)
 }
@@ -33,34 +35,45 @@ fn push_arguments(text: &mut String, maker: &mut Maker, params: &[Param]) -> Res
 {
     match params {
         [] => Ok(()),
-        [one] => push_argument(text, maker, one),
+        [one] => push_argument(text, maker, one, 0),
         [first, rest @ ..] => {
             text.push_str("(")?;
-            push_argument(text, maker, first)?;
-            push_more(text, maker, rest)
+            push_argument(text, maker, first, 0)?;
+            push_more(text, maker, rest, 1)
         }
     }
 }
 
-/// Appends an argument of the parameter.
-fn push_argument(text: &mut String, maker: &mut Maker, param: &Param) -> Result<(), AllocError>
+/// Appends an argument of the parameter at the place.
+fn push_argument(
+    text: &mut String,
+    maker: &mut Maker,
+    param: &Param,
+    place: usize,
+) -> Result<(), AllocError>
     ensures { OnOk result (AddsValue (ty_of param.now.ty) (string_bytes text.old) (string_bytes text.new)) }
 {
-    let size = maker.size();
-    let before = maker.up_to(size);
+    let most = maker.size();
+    let before = maker.up_to(most);
+    let size = maker.size_at(place);
     push_value(text, maker, &param.ty, size, before)
 }
 
-/// Appends the arguments behind the first of several.
-fn push_more(text: &mut String, maker: &mut Maker, params: &[Param]) -> Result<(), AllocError>
+/// Appends the arguments from the place on, which is not the first of several.
+fn push_more(
+    text: &mut String,
+    maker: &mut Maker,
+    params: &[Param],
+    place: usize,
+) -> Result<(), AllocError>
     ensures { OnOk result (AddsMore (types_in params.now) (string_bytes text.old) (string_bytes text.new)) }
 {
     match params {
         [] => text.push_str(")"),
         [first, rest @ ..] => {
             text.push_str(", ")?;
-            push_argument(text, maker, first)?;
-            push_more(text, maker, rest)
+            push_argument(text, maker, first, place)?;
+            push_more(text, maker, rest, place.saturating_add(1))
         }
     }
 }
@@ -96,7 +109,7 @@ fn push_texts(
     ensures count { OnOk result (length texts.new.items ≡ length texts.old.items + 3) }
 {
     for shape in [Shape::Random, Shape::Ascending, Shape::Descending] {
-        texts.push(made_arguments(alloc, function, size, shape, seed)?)?;
+        texts.push(made_arguments(alloc, function, None, size, shape, seed)?)?;
     }
     Ok(())
 }

@@ -16,6 +16,9 @@ const MOST_CELLS: u32 = 20000;
 /// The most elements of an inner list or tree.
 const MOST_INNER: u32 = 8;
 
+/// How many elements the lists and trees of other parameters have, where those of one alone have as many as are asked for.
+const OTHERS: u32 = 8;
+
 /// A maker of values.
 #[derive(Drop)]
 pub struct Maker {
@@ -23,17 +26,21 @@ pub struct Maker {
     shape: Shape,
     /// How many elements the outer lists and trees have.
     size: u32,
+    /// The place of the parameter that has this size, where it is one alone.
+    along: Option<usize>,
     /// How many more cells may be made.
     spare: u32,
 }
 
 impl Maker {
-    /// A maker of values with so many elements at the outside, whose random numbers begin at the seed.
-    pub fn new(size: u32, shape: Shape, seed: u64) -> Maker {
+    /// A maker of values with so many elements at the outside, in the parameter at the place `along` alone where there is one.
+    /// Its random numbers begin at the seed.
+    pub fn new(along: Option<usize>, size: u32, shape: Shape, seed: u64) -> Maker {
         Maker {
             random: Pcg32::new(seed, 54),
             shape,
             size: size.min(MOST_CELLS),
+            along,
             spare: MOST_CELLS,
         }
     }
@@ -41,6 +48,14 @@ impl Maker {
     /// How many elements outer lists and trees have.
     pub fn size(&self) -> u32 {
         self.size
+    }
+
+    /// How many elements those of the parameter at the place have.
+    pub fn size_at(&self, place: usize) -> u32 {
+        match self.along {
+            Some(along) if along != place => OTHERS,
+            _ => self.size,
+        }
     }
 
     /// A random number from 0 to `most`.

@@ -11,6 +11,7 @@ mod scope;
 mod twice;
 
 pub use calls::{GroupCall, group_calls};
+pub use class::is_sized;
 pub use handed::SamePart;
 pub use idle::{Kind, is_in};
 pub use twice::calls_with_same_part;

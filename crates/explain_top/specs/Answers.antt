@@ -24,10 +24,14 @@ use Rattle.explain_verify.specs.declared.verification.Verification.{Verification
 use Rattle.explain_verify.specs.declared.verification.Verification.TheVariants as o
 use Rattle.explain_words.specs.Asking.{Asks, AsksToShow, AsksNothing}
 use Rattle.explain_words.specs.declared.request.Request.{Request}
-use Rattle.explain_words.specs.declared.request.Request.TheVariants.{Check, CheckData, Bounds, Budget, WriteBudget, Verify, Why}
+use Rattle.explain_words.specs.declared.request.Request.TheVariants.{Check, CheckData, Bounds, Budget, WriteBudget, Verify, Why, Plot, Profile}
 use Rattle.explain_words.specs.declared.request.bounds.BoundsWords.{BoundsWords}
+use Rattle.explain_words.specs.declared.request.plot.PlotWords.{PlotWords}
 use Rattle.explain_words.specs.declared.request.why.WhyWords.{WhyWords}
 use Rattle.explain_words.specs.declared.request.why.Written.{Written}
+use Rattle.explain_plot.specs.Calls as plot
+use Rattle.explain_words.specs.declared.request.profile.ProfileWords.{ProfileWords}
+use Rattle.explain_profile_call.specs.Calls as profile
 use Rattle.explain_why.specs.Calls as why
 use Rattle.explain_why.specs.Outcome.{Outcome}
 use Rattle.explain_top.specs.Shelves.{Shelf, KeepsFiles, LeavesFile, HasFile, FailsToLeave}
@@ -115,6 +119,10 @@ IsBudgetTold store file bounds degree json columns out err status =
 abbrev pub IsVerified : Store → Text → Text → Sink → Sink → Status → Type 0
 IsVerified store file certificate out err status = Tells (verify.CallIs store file certificate) status_of_verification out err status
 
+-- how often lines of a program are run at most
+abbrev pub IsProfileTold : Store → ProfileWords → Sink → Sink → Status → Type 0
+IsProfileTold store words out err status = Tells (profile.CallIs store words) status_at out err status
+
 -- ---- a file of bounds that is left
 
 -- the file of bounds would be the source
@@ -175,6 +183,29 @@ IsWhyTold store shelf words out err status =
     (KeepsFiles shelf × GainsNothing out × (LacksMemory err status ⊎ NamesSource words err status))
     ⊎ TellsWhy store shelf words out err status
 
+-- ---- pictures
+
+-- the picture is left as the file that is named; or there is none
+abbrev pub LeavesPicture : Shelf → PlotWords → End → Option Text → Status → Text → Type 0
+LeavesPicture shelf words end (Some svg) status part = IsTextLeft shelf words.output.now words.force svg status part
+LeavesPicture shelf words end None status part = KeepsFiles shelf × (status ≡ status_at end) × (part ≡ [])
+
+-- it is drawn and told, and the picture is left
+abbrev pub TellsPlot : Store → Shelf → PlotWords → Sink → Sink → Status → Type 0
+TellsPlot store shelf words out err status =
+    (told : plot.Outcome) × (part : Text) × (done : Status) × plot.CallIs store words told
+    × LeavesPicture shelf words told.end told.picture done part
+    × Puts told.text out done status × Writes (told.report ++ part) err
+
+-- the picture would be the source
+abbrev pub DrawsOverSource : PlotWords → Sink → Status → Type 0
+DrawsOverSource words err status = (words.output.now ≡ words.file.now) × IsSourceRefused words.output.now err status
+
+abbrev pub IsPlotTold : Store → Shelf → PlotWords → Sink → Sink → Status → Type 0
+IsPlotTold store shelf words out err status =
+    (KeepsFiles shelf × GainsNothing out × (LacksMemory err status ⊎ DrawsOverSource words err status))
+    ⊎ TellsPlot store shelf words out err status
+
 -- ---- requests
 
 -- what a request asks for is done, where lines that go to out have at most so many columns; no others than these leave a file
@@ -191,6 +222,8 @@ IsAnswer store shelf (WriteBudget file bounds degree force) columns out err stat
 IsAnswer store shelf (Verify file certificate) columns out err status =
     IsVerified store file.now certificate.now out err status × KeepsFiles shelf
 IsAnswer store shelf (Why words) columns out err status = IsWhyTold store shelf words out err status
+IsAnswer store shelf (Plot words) columns out err status = IsPlotTold store shelf words out err status
+IsAnswer store shelf (Profile words) columns out err status = IsProfileTold store words out err status × KeepsFiles shelf
 
 -- ---- whole calls
 

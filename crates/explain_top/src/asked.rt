@@ -9,6 +9,8 @@ ghost use Rattle.explain_top.specs.Shelves.{shelf_of};
 ghost use Rattle.explain_top.specs.Sinks.{sink_of, Writes};
 
 use crate::draft::leave_draft;
+use crate::plot::plot;
+use crate::profile::profile;
 use crate::status::Status;
 use crate::why::why;
 use explain_budget::tell_budget;
@@ -70,6 +72,8 @@ pub fn answer<S: Store, W: Shelf, P: Progress, O: Sink, E: Sink>(
             verify(alloc, *file, *certificate, store, out, err)
         }
         Request::Why(words) => why(alloc, words, store, shelf, progress, out, err),
+        Request::Plot(words) => plot(alloc, words, store, shelf, out, err),
+        Request::Profile(words) => profile(alloc, words, store, out, err),
     }
 }
 

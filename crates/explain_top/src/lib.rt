@@ -3,6 +3,8 @@
 
 mod asked;
 mod draft;
+mod plot;
+mod profile;
 mod status;
 mod top;
 mod why;

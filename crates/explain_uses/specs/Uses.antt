@@ -1,5 +1,5 @@
 -- Later uses: those of a variable whose value was used before, on some path.
-use Rattle.std.specs.Prelude.{ℕ, List, [], ◌∷◌, ◌++◌, cond, Option, Some, None}
+use Rattle.std.specs.Prelude.{ℕ, List, [], ◌∷◌, ◌++◌, cond, Option, Some}
 use Rattle.raml_syntax.specs.Tree as t
 use Rattle.raml_syntax.specs.Tree.{Text, Type', Function, Parameter, Prog}
 use Rattle.explain_changes.specs.Scope as s

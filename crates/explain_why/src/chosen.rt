@@ -17,9 +17,9 @@ use raml_syntax::FunId;
 
 /// What is asked about: one function, or each; one meter, or each.
 #[derive(Clone, Copy, Debug)]
-pub struct Asking {
-    pub fun: Option<FunId>,
-    pub meter: Option<Meter>,
+pub(crate) struct Asking {
+    pub(crate) fun: Option<FunId>,
+    pub(crate) meter: Option<Meter>,
 }
 
 /// Whether there is no bound of the meter that is asked about, or of some where none is.

@@ -102,11 +102,11 @@ fn push_tried(alloc: Global, text: &mut String, reason: &Reason<'_>) -> Result<(
 
 /// What is told of: a program, with the name of its file and its source, and what is asked about.
 #[derive(Clone, Copy)]
-pub struct Subject<'s> {
-    pub name: &'s str,
-    pub source: &'s [u8],
-    pub program: &'s Program,
-    pub asking: Asking,
+pub(crate) struct Subject<'s> {
+    pub(crate) name: &'s str,
+    pub(crate) source: &'s [u8],
+    pub(crate) program: &'s Program,
+    pub(crate) asking: Asking,
 }
 
 impl<'s> Subject<'s> {
@@ -231,7 +231,7 @@ fn meaning(told_some: bool) -> &'static str
 }
 
 /// Appends why functions of a program have no bounds, and what is said of the others.
-pub fn push_why(
+pub(crate) fn push_why(
     alloc: Global,
     text: &mut String,
     subject: Subject<'_>,

@@ -10,5 +10,3 @@ mod notes;
 mod shown;
 
 pub use call::{Told, tell_why};
-pub use chosen::Asking;
-pub use groups::{Subject, push_why};

@@ -6,12 +6,12 @@ use Rattle.std.specs.Str.Parse.{digits_value}
 use Rattle.clap.specs.Simple.{subcommand_of}
 use Rattle.explain_words.specs.Apps.{app}
 use Rattle.clap.specs.Walk.{Text, Row, first_of}
-use Rattle.explain_words.specs.Asking.{Command, OfCheck, OfBounds, OfBudget, OfVerify, OfWhy, command_named, MeansBy, Means}
-use Rattle.explain_words.specs.Commands.{AreBounds, AreBudget, AreWhy, Keep, Write, degree_or_4, optional}
+use Rattle.explain_words.specs.Asking.{Command, OfCheck, OfBounds, OfBudget, OfVerify, OfWhy, OfPlot, command_named, MeansBy, Means, OfProfile}
+use Rattle.explain_words.specs.Commands.{AreBounds, AreBudget, ArePlot, AreWhy, Keep, Write, degree_or_4, optional, values, AreProfile}
 use Rattle.explain_words.specs.Laws.{IsDegree, AreInRange, IsInRange, AskedIsInRange}
 use Rattle.explain_words.specs.Spelled.{degree_in, is_numeral, meter_named, number_in, ranged, within_in, within_of, cut_at}
 use Rattle.explain_words.specs.declared.request.Request.{Request}
-use Rattle.explain_words.specs.declared.request.Request.TheVariants.{Check, CheckData, Bounds, Budget, WriteBudget, Verify, Why}
+use Rattle.explain_words.specs.declared.request.Request.TheVariants.{Check, CheckData, Bounds, Budget, WriteBudget, Verify, Why, Plot, Profile}
 use Rattle.explain_words.specs.declared.request.bounds.BoundsWords.{BoundsWords}
 use Rattle.explain_words.specs.declared.request.why.WhyWords.{WhyWords}
 use Rattle.explain_words.specs.declared.within.Meter.{Meter}
@@ -82,35 +82,22 @@ meant_is_in_range command rows (Check names) means = tt
 meant_is_in_range command rows (CheckData file name input) means = tt
 meant_is_in_range command rows (Verify file certificate) means = tt
 meant_is_in_range (Some OfBounds) rows (Bounds asked) means = bounds_are_in_range rows asked means
-meant_is_in_range (Some OfCheck) rows (Bounds asked) means = absurd means
-meant_is_in_range (Some OfBudget) rows (Bounds asked) means = absurd means
-meant_is_in_range (Some OfVerify) rows (Bounds asked) means = absurd means
-meant_is_in_range (Some OfWhy) rows (Bounds asked) means = absurd means
-meant_is_in_range None rows (Bounds asked) means = absurd means
 meant_is_in_range (Some OfBudget) rows (Budget file bounds degree json) means =
     let are : AreBudget rows file.now degree (Keep bounds.now json) = means in
     optional_in_range (first_of (codes "degree") rows) degree are.degree
-meant_is_in_range (Some OfCheck) rows (Budget file bounds degree json) means = absurd means
-meant_is_in_range (Some OfBounds) rows (Budget file bounds degree json) means = absurd means
-meant_is_in_range (Some OfVerify) rows (Budget file bounds degree json) means = absurd means
-meant_is_in_range (Some OfWhy) rows (Budget file bounds degree json) means = absurd means
-meant_is_in_range None rows (Budget file bounds degree json) means = absurd means
 meant_is_in_range (Some OfBudget) rows (WriteBudget file bounds degree force) means =
     let are : AreBudget rows file.now degree (Write bounds.now force) = means in
     optional_in_range (first_of (codes "degree") rows) degree are.degree
-meant_is_in_range (Some OfCheck) rows (WriteBudget file bounds degree force) means = absurd means
-meant_is_in_range (Some OfBounds) rows (WriteBudget file bounds degree force) means = absurd means
-meant_is_in_range (Some OfVerify) rows (WriteBudget file bounds degree force) means = absurd means
-meant_is_in_range (Some OfWhy) rows (WriteBudget file bounds degree force) means = absurd means
-meant_is_in_range None rows (WriteBudget file bounds degree force) means = absurd means
 meant_is_in_range (Some OfWhy) rows (Why asked) means =
     let are : AreWhy rows asked = means in
     degree_in_range (first_of (codes "degree") rows) asked.degree are.degree
-meant_is_in_range (Some OfCheck) rows (Why asked) means = absurd means
-meant_is_in_range (Some OfBounds) rows (Why asked) means = absurd means
-meant_is_in_range (Some OfBudget) rows (Why asked) means = absurd means
-meant_is_in_range (Some OfVerify) rows (Why asked) means = absurd means
-meant_is_in_range None rows (Why asked) means = absurd means
+meant_is_in_range (Some OfPlot) rows (Plot asked) means =
+    let are : ArePlot rows (values (codes "data") rows) asked = means in
+    degree_in_range (first_of (codes "degree") rows) asked.degree are.degree
+meant_is_in_range (Some OfProfile) rows (Profile asked) means =
+    let are : AreProfile rows asked = means in
+    degree_in_range (first_of (codes "degree") rows) asked.degree are.degree
+meant_is_in_range command rows request means = absurd means
 
 pub asked_is_in_range : AskedIsInRange
 asked_is_in_range words request asks = by (subcommand_of app words) asks.1

@@ -92,6 +92,47 @@ why_chosen =
 abbrev pub why_app : App
 why_app = with_rule (with_rule why_chosen (option_rule (codes "write"))) (flag_rule (codes "force"))
 
+-- an option with one value that must be there, by its long name
+abbrev pub needed_rule : Text → Rule
+needed_rule id = record (option_rule id) { required = true }
+
+-- `-o` or `--output`, which must be there
+abbrev pub output_rule : Rule
+output_rule = record (needed_rule (codes "output")) { short = Some 111 }
+
+-- `--data` with one file or more
+abbrev pub given_rule : Rule
+given_rule = record (new_rule (codes "data")) {
+  long = Some (codes "data");
+  range = Some (record { start_inclusive = 1; end_inclusive = usize_max });
+  value_names = 1;
+}
+
+-- what is run
+abbrev pub plot_run : App
+plot_run = with_rule (with_rule (new_app (codes "plot")) (operand_rule (codes "file"))) (operand_rule (codes "name"))
+
+-- on which arguments
+abbrev pub plot_made : App
+plot_made = with_rule (with_rule plot_run (option_rule (codes "sizes"))) (option_rule (codes "seed"))
+
+abbrev pub plot_given : App
+plot_given = with_rule (with_rule plot_made given_rule) (option_rule (codes "of"))
+
+-- what is drawn
+abbrev pub plot_chosen : App
+plot_chosen = with_rule (with_rule plot_given (option_rule (codes "degree"))) (option_rule (codes "meter"))
+
+abbrev pub plot_app : App
+plot_app = with_rule (with_rule plot_chosen output_rule) (flag_rule (codes "force"))
+
+abbrev pub profile_file : App
+profile_file = with_rule (new_app (codes "profile")) (operand_rule (codes "file"))
+
+abbrev pub profile_app : App
+profile_app =
+    with_rule (with_rule (with_rule profile_file (option_rule (codes "function"))) (option_rule (codes "degree"))) (option_rule (codes "at"))
+
 -- the program before it has commands
 abbrev pub bare : App
 bare = on_top (λ s. record s {
@@ -105,5 +146,9 @@ bare = on_top (λ s. record s {
 abbrev pub begun : App
 begun = with_subcommand (with_subcommand bare check_app.top) bounds_app.top
 
+-- with those that compare what is found with a file
+abbrev pub comparing : App
+comparing = with_subcommand (with_subcommand begun budget_app.top) verify_app.top
+
 abbrev pub app : App
-app = with_subcommand (with_subcommand (with_subcommand begun budget_app.top) verify_app.top) why_app.top
+app = with_subcommand (with_subcommand (with_subcommand comparing why_app.top) plot_app.top) profile_app.top

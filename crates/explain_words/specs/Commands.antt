@@ -5,12 +5,18 @@ use Rattle.std.specs.Option.{option_map_or}
 use Rattle.std.specs.Str.{bytes_eq}
 use Rattle.std.specs.Borrow.{Bor}
 use Rattle.clap.specs.Walk.{Row, Text, all_of, first_of}
-use Rattle.explain_words.specs.Spelled.{lent, degree_in, width_in, meter_named, within_in}
+use Rattle.explain_words.specs.Spelled.{lent, degree_in, seed_in, width_in, meter_named, within_in}
+use Rattle.explain_words.specs.declared.within.Meter.{Meter}
+use Rattle.explain_words.specs.declared.within.Meter.TheVariants.{Work}
 use Rattle.explain_words.specs.declared.request.Request.{Request}
-use Rattle.explain_words.specs.declared.request.Request.TheVariants.{Check, CheckData, Bounds, Budget, WriteBudget, Verify, Why}
+use Rattle.explain_words.specs.declared.request.Request.TheVariants.{Check, CheckData, Bounds, Budget, WriteBudget, Verify, Why, Plot, Profile}
 use Rattle.explain_words.specs.declared.request.bounds.BoundsWords.{BoundsWords}
 use Rattle.explain_words.specs.declared.request.budget.Aim.{Aim as Aim'}
 use Rattle.explain_words.specs.declared.request.budget.Aim.TheVariants as aim
+use Rattle.explain_words.specs.declared.request.plot.Arguments.{Arguments as Arguments'}
+use Rattle.explain_words.specs.declared.request.plot.Arguments.TheVariants as arguments
+use Rattle.explain_words.specs.declared.request.plot.PlotWords.{PlotWords}
+use Rattle.explain_words.specs.declared.request.profile.ProfileWords.{ProfileWords}
 use Rattle.explain_words.specs.declared.request.why.WhyWords.{WhyWords}
 use Rattle.explain_words.specs.declared.request.why.Written.{Written}
 
@@ -123,3 +129,54 @@ pub record AreWhy (rows : List Row) (asked : WhyWords) : Type 0 where
 abbrev pub MeansWhy : List Row → Request → Type 0
 MeansWhy rows (Why asked) = AreWhy rows asked
 MeansWhy rows other = ⊥
+
+-- the seed that is given, or 1
+abbrev pub seed_or_1 : Option Text → Option ℕ
+seed_or_1 None = Some 1
+seed_or_1 (Some word) = seed_in word
+
+-- the meter that is given, or work
+abbrev pub meter_or_work : Option Text → Option Meter
+meter_or_work None = Some Work
+meter_or_work (Some word) = meter_named word
+
+-- a function is run on arguments that are made of these sizes, by a seed, or on those of files
+pub data Arguments : Type 0 where
+  Made : Text → ℕ → Arguments
+  Given : List Text → Arguments
+
+abbrev pub plain_arguments : Arguments' → Arguments
+plain_arguments (arguments.Made sizes seed) = Made sizes.now seed
+plain_arguments (arguments.Given files) = Given (texts files.items)
+
+-- by the sizes and the seed, where they are given, and the files
+abbrev pub arguments_of : Option Text → Option Text → List Text → Option Arguments
+arguments_of (Some sizes) seed [] = option_map (Made sizes) (seed_or_1 seed)
+arguments_of None None (file ∷ files) = Some (Given (file ∷ files))
+arguments_of sizes seed files = None
+
+-- what `plot` asks for with these files behind `--data`
+pub record ArePlot (rows : List Row) (behind : List Text) (asked : PlotWords) : Type 0 where
+  pub file : first_of (codes "file") rows ≡ Some asked.file.now
+  pub name : first_of (codes "name") rows ≡ Some asked.name.now
+  pub run_on : arguments_of (first_of (codes "sizes") rows) (first_of (codes "seed") rows) behind ≡ Some (plain_arguments asked.arguments)
+  pub parameter : first_of (codes "of") rows ≡ lent asked.parameter
+  pub degree : degree_or_4 (first_of (codes "degree") rows) ≡ Some asked.degree
+  pub meter : meter_or_work (first_of (codes "meter") rows) ≡ Some asked.meter
+  pub output : first_of (codes "output") rows ≡ Some asked.output.now
+  pub force : is_set (codes "force") rows ≡ asked.force
+
+abbrev pub MeansPlot : List Row → List Text → Request → Type 0
+MeansPlot rows behind (Plot asked) = ArePlot rows behind asked
+MeansPlot rows behind other = ⊥
+
+-- what `profile` asks for
+pub record AreProfile (rows : List Row) (asked : ProfileWords) : Type 0 where
+  pub file : first_of (codes "file") rows ≡ Some asked.file.now
+  pub function : first_of (codes "function") rows ≡ Some asked.function.now
+  pub degree : degree_or_4 (first_of (codes "degree") rows) ≡ Some asked.degree
+  pub at : first_of (codes "at") rows ≡ lent asked.at
+
+abbrev pub MeansProfile : List Row → Request → Type 0
+MeansProfile rows (Profile asked) = AreProfile rows asked
+MeansProfile rows other = ⊥

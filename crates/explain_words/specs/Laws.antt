@@ -3,7 +3,7 @@ use Rattle.std.specs.Prelude.{◌≤◌, ◌^◌, ℕ, List, IfSome}
 use Rattle.clap.specs.Walk.{Text}
 use Rattle.explain_words.specs.Asking.{Asks}
 use Rattle.explain_words.specs.declared.request.Request.{Request}
-use Rattle.explain_words.specs.declared.request.Request.TheVariants.{Bounds, Budget, WriteBudget, Why}
+use Rattle.explain_words.specs.declared.request.Request.TheVariants.{Bounds, Budget, WriteBudget, Why, Plot, Profile}
 use Rattle.explain_words.specs.declared.request.bounds.BoundsWords.{BoundsWords}
 
 abbrev pub IsDegree : ℕ → Type 0
@@ -20,6 +20,8 @@ IsInRange (Bounds words) = AreInRange words
 IsInRange (Budget file bounds degree json) = IfSome degree IsDegree
 IsInRange (WriteBudget file bounds degree force) = IfSome degree IsDegree
 IsInRange (Why words) = IsDegree words.degree
+IsInRange (Plot words) = IsDegree words.degree
+IsInRange (Profile words) = IsDegree words.degree
 IsInRange other = Unit {0}
 
 -- What words ask for is in range.

@@ -1,5 +1,5 @@
 -- What single words spell.
-use Rattle.std.specs.Prelude.{ℕ, ◌^◌, Bool, not, cond, ◌&&◌, nat_eq, nat_le, length, [], ◌∷◌, codes}
+use Rattle.std.specs.Prelude.{ℕ, ◌^◌, ◌-◌, Bool, not, cond, ◌&&◌, nat_eq, nat_le, length, [], ◌∷◌, codes}
 use Rattle.std.specs.Prelude.{Option, Some, None, option_map, option_and_then}
 use Rattle.std.specs.Str.{bytes_eq, all_ascii_digits}
 use Rattle.std.specs.Str.Parse.{digits_value}
@@ -35,6 +35,10 @@ number_in digits least most word = cond (is_numeral digits word) (ranged least m
 -- `1`, `2`, `3` or `4`
 abbrev pub degree_in : Text → Option ℕ
 degree_in = number_in 1 1 4
+
+-- at most twenty digits, and less than 2 ^ 64
+abbrev pub seed_in : Text → Option ℕ
+seed_in = number_in 20 0 (2 ^ 64 - 1)
 
 -- at most five digits, and at least 20
 abbrev pub width_in : Text → Option ℕ

@@ -1,11 +1,13 @@
 // The commands, as `clap` has them.
 ghost use Rattle.std.specs.Prelude.{◌≡◌, IfOk};
 ghost use Rattle.clap.specs.Simple.{app_of};
-ghost use Rattle.explain_words.specs.Apps.{bare, begun, app, operand_rule, perhaps_rule, option_rule, flag_rule, IsArg};
+ghost use Rattle.explain_words.specs.Apps.{bare, begun, comparing, app, operand_rule, perhaps_rule, option_rule, needed_rule, flag_rule, IsArg};
 
 mod bounds;
 mod budget;
 mod check;
+mod plot;
+mod profile;
 mod verify;
 mod why;
 
@@ -19,10 +21,19 @@ pub const VERSION: &str = "1.1.0";
 pub fn program<'a>(alloc: Global) -> Result<Command<'a>, AllocError>
     ensures { IfOk result (λ command. app_of command ≡ app) }
 {
+    let command = comparing(alloc)?;
+    let with_why = command.subcommand(why::command(alloc)?)?;
+    let with_plot = with_why.subcommand(plot::command(alloc)?)?;
+    with_plot.subcommand(profile::command(alloc)?)
+}
+
+// With those commands that compare what is found with a file.
+fn comparing<'a>(alloc: Global) -> Result<Command<'a>, AllocError>
+    ensures { IfOk result (λ command. app_of command ≡ comparing) }
+{
     let command = begun(alloc)?;
     let with_budget = command.subcommand(budget::command(alloc)?)?;
-    let with_verify = with_budget.subcommand(verify::command(alloc)?)?;
-    with_verify.subcommand(why::command(alloc)?)
+    with_budget.subcommand(verify::command(alloc)?)
 }
 
 // With its first commands.
@@ -67,6 +78,17 @@ fn option<'a>(alloc: Global, id: &'a str, name: &'a str, help: &'a str) -> Arg<'
     ensures { IsArg (option_rule id.entry.now) result }
 {
     Arg::new(alloc, id).long(id).value_name(name).help(help)
+}
+
+/// An option with one value that must be there, by its long name.
+fn needed<'a>(alloc: Global, id: &'a str, name: &'a str, help: &'a str) -> Arg<'a>
+    ensures { IsArg (needed_rule id.entry.now) result }
+{
+    Arg::new(alloc, id)
+        .long(id)
+        .value_name(name)
+        .help(help)
+        .required(true)
 }
 
 /// An option that is there or not.

@@ -11,6 +11,8 @@ mod within;
 
 pub use commands::VERSION;
 pub use request::bounds::BoundsWords;
+pub use request::plot::{Arguments, PlotWords};
+pub use request::profile::ProfileWords;
 pub use request::why::{WhyWords, Written};
 pub use request::{Request, WordsFault, read_words};
 pub use within::{Meter, Within};

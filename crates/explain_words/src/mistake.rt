@@ -33,6 +33,20 @@ pub enum Mistake {
     Json,
     /// There is no certificate.
     NoCertificate,
+    /// There is no name of a function.
+    NoName,
+    /// There are neither sizes nor files of arguments.
+    NoArguments,
+    /// Sizes stand beside files of arguments.
+    TwoArguments,
+    /// `--seed` stands where no arguments are made.
+    SeedOfData,
+    /// There is no file for a picture.
+    NoOutput,
+    /// The word is no seed.
+    Seed,
+    /// There is no function.
+    NoFunction,
 }
 
 impl Mistake {
@@ -65,6 +79,15 @@ impl Mistake {
             Mistake::Unwritten => "error: '--force' stands with '--write <OTHER>' alone\n",
             Mistake::Json => "error: '--json' can't stand with '--write <BOUNDS>'\n",
             Mistake::NoCertificate => "error: no certificate is given\n",
+            Mistake::NoName => "error: no function is given\n",
+            Mistake::NoArguments =>
+                "error: no arguments are given: '--sizes <SIZES>' or '--data <DATA>...'\n",
+            Mistake::TwoArguments =>
+                "error: '--sizes <SIZES>' can't stand with '--data <DATA>...'\n",
+            Mistake::SeedOfData => "error: '--seed <N>' stands with '--sizes <SIZES>' alone\n",
+            Mistake::NoOutput => "error: no file for the picture is given\n",
+            Mistake::Seed => "error: '--seed <N>' takes a whole number below 2^64\n",
+            Mistake::NoFunction => "error: no function is given: '--function <F>'\n",
         }
     }
 }

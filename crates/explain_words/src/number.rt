@@ -1,7 +1,7 @@
 // Numbers in words.
 ghost use Rattle.std.specs.Prelude.{◌≡◌, ◌≤◌, IfSome};
 ghost use Rattle.std.specs.Str.{all_ascii_digits};
-ghost use Rattle.explain_words.specs.Spelled.{are_digits, degree_in, is_numeral, number_in};
+ghost use Rattle.explain_words.specs.Spelled.{are_digits, degree_in, is_numeral, number_in, seed_in};
 
 /// The greatest degree that may be asked for.
 const MOST_DEGREE: u128 = 4;
@@ -12,6 +12,17 @@ pub fn degree_in(word: &str) -> Option<u8>
 {
     let degree = number_in(1, 1, MOST_DEGREE, word)?;
     Some(degree as u8)
+}
+
+/// The greatest seed.
+const MOST_SEED: u128 = 18_446_744_073_709_551_615;
+
+/// The seed that a word gives: at most twenty digits, less than 2^64.
+pub fn seed_in(word: &str) -> Option<u64>
+    ensures { result ≡ seed_in word.now }
+{
+    let seed = number_in(20, 0, MOST_SEED, word)?;
+    Some(seed as u64)
 }
 
 /// The number that digits spell, at least one and at most so many, where it is in the range.

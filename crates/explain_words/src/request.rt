@@ -11,6 +11,8 @@ ghost use Rattle.explain_words.specs.Asking.{command_named, MeansBy, Means, Asks
 pub mod bounds;
 mod budget;
 mod check;
+pub mod plot;
+pub mod profile;
 mod verify;
 pub mod why;
 
@@ -20,6 +22,8 @@ use crate::number::degree_in;
 use bounds::BoundsWords;
 use clap::error::ErrorKind;
 use clap::{ArgMatches, Error};
+use plot::PlotWords;
+use profile::ProfileWords;
 use std::alloc::{AllocError, Global};
 use why::WhyWords;
 
@@ -59,6 +63,10 @@ pub enum Request<'a> {
     },
     /// Say why functions of a program have no bound.
     Why(WhyWords<'a>),
+    /// Draw what runs of a function cost, and the bound above them.
+    Plot(PlotWords<'a>),
+    /// Say how often lines of a program are run at most by a call of a function.
+    Profile(ProfileWords<'a>),
 }
 
 /// Why words give no request.
@@ -135,6 +143,8 @@ fn asked_of<'a>(
         "budget" => budget::asked(alloc, found),
         "verify" => verify::asked(alloc, found),
         "why" => why::asked(alloc, found),
+        "plot" => plot::asked(alloc, found),
+        "profile" => profile::asked(alloc, found),
         _ => Err(Mistake::NoCommand.told(alloc)),
     }
 }

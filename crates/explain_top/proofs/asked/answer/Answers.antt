@@ -17,3 +17,8 @@ returns-in-Verify-clause-done g c =
 
 pub returns-in-Why-clause-done : goal.returns-in-Why-clause-done
 returns-in-Why-clause-done g c = rw c.in-Why.is c.why.ensures.told
+
+pub returns-in-Profile-clause-done : goal.returns-in-Profile-clause-done
+returns-in-Profile-clause-done g c =
+    let faults = g.W.Shelf.faults c.args.shelf.now in
+    rw c.in-Profile.is (c.profile.ensures.told, untouched faults faults (g.W.Shelf.holds c.args.shelf.now))

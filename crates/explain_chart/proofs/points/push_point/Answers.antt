@@ -1,0 +1,6 @@
+use Rattle.explain_chart.specs.Read.{mark_in}
+use Rattle.explain_chart.proofs.Drawn.{one_point}
+use Rattle.explain_chart.proofs.points.push_point.Goals as goal
+
+pub returns : goal.returns
+returns c = one_point c.push_circle.result (mark_in c.args.mark.now) _ _ _ _ _ _ c.deref.ensures c.in_ok-title.ensures c.push_circle.ensures

@@ -1,0 +1,5 @@
+mod Added
+mod Below
+mod Counted
+mod Sized
+mod Spelled

@@ -1,0 +1,5 @@
+pub mod Naming
+pub mod Named
+pub mod Read
+pub mod Laws
+pub mod Example

@@ -1,0 +1,144 @@
+// The calls that may be named.
+use crate::blocks::{Blocks, PlainCall, blocks};
+use crate::certain::certain;
+use crate::mentions::mentions;
+use crate::naming::Naming;
+use crate::occurrences::occurrences;
+use raml_syntax::{Expr, Fun, Name, Pos, Program};
+use std::alloc::{AllocError, Global};
+
+/// How many names are tried for a new one.
+const MOST_NAMES: u32 = 100;
+
+/// A call that stands at least twice in an expression and certainly runs there, with a name that is new in its function.
+#[derive(Drop)]
+pub struct Candidate<'a> {
+    /// The expression around which the name may be given: the smallest such that a `let` may stand there.
+    pub at: Pos,
+    /// The function in which it stands.
+    pub host: &'a Name,
+    /// The function that is called, and the arguments.
+    pub function: &'a Name,
+    pub args: &'a [Expr],
+    pub name: Name,
+    /// Where the calls stand that become the name.
+    pub places: Vec<Pos>,
+}
+
+impl<'a> Candidate<'a> {
+    /// The naming that it stands for.
+    pub fn naming<'s>(&'s self) -> Naming<'s> {
+        Naming {
+            at: self.at,
+            function: self.function,
+            args: self.args,
+            name: &self.name,
+        }
+    }
+}
+
+/// The calls of a program that may be named, those in inner expressions first.
+pub fn candidates<'a>(
+    alloc: Global,
+    program: &'a Program,
+) -> Result<Vec<Candidate<'a>>, AllocError> {
+    let mut found = Vec::new(alloc);
+    for fun in &program.funs {
+        add_of(alloc, fun, &mut found)?;
+    }
+    Ok(found)
+}
+
+/// Adds those of a function.
+fn add_of<'a>(
+    alloc: Global,
+    fun: &'a Fun,
+    found: &mut Vec<Candidate<'a>>,
+) -> Result<(), AllocError> {
+    let Some(name) = new_name(alloc, &fun.body)? else {
+        return Ok(());
+    };
+    let inside = blocks(alloc, &fun.body)?;
+    for block in &inside.blocks {
+        add_around(alloc, fun, *block, &inside, &name, found)?;
+    }
+    Ok(())
+}
+
+/// A name that does not stand in a body: `c`, or `c` with a number.
+fn new_name(alloc: Global, body: &Expr) -> Result<Option<Name>, AllocError> {
+    for number in 0..MOST_NAMES {
+        let name = numbered(alloc, number)?;
+        if !mentions(&name, body) {
+            return Ok(Some(name));
+        }
+    }
+    Ok(None)
+}
+
+fn numbered(alloc: Global, number: u32) -> Result<Name, AllocError> {
+    if number == 0 {
+        Name::new(alloc, "c")
+    } else {
+        let text = format!(in alloc; "c{number}")?;
+        Name::new(alloc, text.as_str())
+    }
+}
+
+/// Adds the calls that may be named around an expression.
+fn add_around<'a>(
+    alloc: Global,
+    fun: &'a Fun,
+    block: &'a Expr,
+    inside: &Blocks<'a>,
+    name: &Name,
+    found: &mut Vec<Candidate<'a>>,
+) -> Result<(), AllocError> {
+    for call in &inside.calls {
+        add_call(alloc, fun, block, *call, name, found)?;
+    }
+    Ok(())
+}
+
+/// Adds a call, where it stands twice in the expression, certainly runs there, and is not found in a part of it already.
+fn add_call<'a>(
+    alloc: Global,
+    fun: &'a Fun,
+    block: &'a Expr,
+    call: PlainCall<'a>,
+    name: &Name,
+    found: &mut Vec<Candidate<'a>>,
+) -> Result<(), AllocError> {
+    let naming = Naming {
+        at: block.at,
+        function: call.function,
+        args: call.args,
+        name,
+    };
+    if !certain(naming, true, block) {
+        return Ok(());
+    }
+    let places = occurrences(alloc, naming, block)?;
+    if places.len() < 2 || is_found(&places, found) {
+        return Ok(());
+    }
+    found.push(Candidate {
+        at: block.at,
+        host: &fun.name,
+        function: call.function,
+        args: call.args,
+        name: Name::new(alloc, name.text())?,
+        places,
+    })?;
+    Ok(())
+}
+
+/// Whether one is found of the calls at these places.
+fn is_found(places: &[Pos], found: &[Candidate]) -> bool {
+    for candidate in found {
+        if candidate.places.as_slice() == places {
+            return true;
+        }
+    }
+    false
+}

@@ -1,0 +1,4 @@
+mod Calling
+mod Computed
+mod Found
+mod Held

@@ -1,0 +1,22 @@
+use Rattle.std.proofs.Common.{ap, option_map}
+use Rattle.raml_syntax.specs.Read.{program_of}
+use Rattle.simple_types.proofs.Placing.{read_at, some_at}
+use Rattle.rules_plan.specs.Read.{program_in}
+use Rattle.explain_marks.specs.Marks.{origin_of}
+use Rattle.explain_plot.specs.Read.{cut_in}
+use Rattle.explain_plot.proofs.Found.{pictured}
+use Rattle.explain_plot.proofs.drawing.picture.Goals as goal
+
+pub lead-requires : goal.lead-requires
+lead-requires c =
+    let P = program_of c.args.typed.now in
+    let k = c.args.asked.fun.0 in
+    let is = some_at P k c.requires.fun in
+    let read = read_at c.program.result.now P k c.index.result.now is.0 (ap program_of c.program.ensures.program) c.index.ensures is.1 in
+    rw read (c.requires.findings is.0 is.1)
+
+pub returns : goal.returns
+returns c =
+    let found = c.in_ok-found.found in
+    pictured c.drawn.result (program_of c.args.typed.now) (program_in c.args.verified.now.program) c.args.verified.now.certificate c.args.asked.fun.0 c.args.asked.meter (origin_of c.args.runs.now)
+    found.marks.items (option_map cut_in found.cut) _ _ _ _ c.in_ok-found.ensures c.in_ok-push_table.ensures c.in_ok-push_cut.ensures c.drawn.ensures

@@ -1,0 +1,7 @@
+pub mod Sizes
+pub mod Example
+pub mod Table
+pub mod Along
+pub mod Files
+pub mod Calls
+pub mod Read

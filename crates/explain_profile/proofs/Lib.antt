@@ -1,0 +1,6 @@
+mod Counted
+mod Found
+mod Laid
+mod Spaces
+mod Walking
+mod Unspelled

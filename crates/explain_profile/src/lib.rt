@@ -1,0 +1,14 @@
+//! How often each line of a program is run at most by a call of a function, and what one run of the line costs.
+#![tactic(auto)]
+
+mod cells;
+mod columns;
+mod lines;
+mod profile;
+mod reach;
+mod rows;
+mod runs;
+mod table;
+
+pub use profile::push_profile;
+pub use runs::Case;

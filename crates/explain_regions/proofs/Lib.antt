@@ -1,0 +1,3 @@
+mod Computed
+mod Joined
+mod Lexed

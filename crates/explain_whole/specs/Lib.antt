@@ -1,0 +1,6 @@
+pub mod Whole
+pub mod Handed
+pub mod Edits
+pub mod Read
+pub mod Laws
+pub mod Example
