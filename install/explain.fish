@@ -33,4 +33,6 @@ complete -c explain -n '__fish_seen_subcommand_from budget why plot' -l force -d
 complete -c explain -n '__fish_seen_subcommand_from why plot' -l meter -x -a 'ticks cells work' -d 'one meter alone'
 complete -c explain -n '__fish_seen_subcommand_from plot' -l sizes -x -d 'sizes of arguments'
 complete -c explain -n '__fish_seen_subcommand_from plot' -l seed -x -d 'what random arguments are made from'
+complete -c explain -n '__fish_seen_subcommand_from plot' -l data -r -d 'files of arguments'
+complete -c explain -n '__fish_seen_subcommand_from plot' -l of -x -d 'the parameter whose size is drawn'
 complete -c explain -n '__fish_seen_subcommand_from plot' -l output -s o -r -d 'write the picture'

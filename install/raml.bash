@@ -52,7 +52,7 @@ _explain() {
     words='check bounds budget verify why plot profile help'
   elif [ "$before" = --degree ]; then
     words='1 2 3 4'
-  elif [[ $before == @(--function|--data) ]]; then
+  elif [ "$before" = --function ] || [[ ${COMP_WORDS[1]}:$before == check:--data ]]; then
     words=$(_raml_functions)
   elif [ "$before" = --meter ]; then
     words='ticks cells work'
@@ -66,7 +66,7 @@ _explain() {
       budget) words='--write --degree --json --force --help' ;;
       verify) words='--help' ;;
       why) words='--function --meter --degree --write --force --help' ;;
-      plot) words='--sizes --seed --degree --meter --output --force --help' ;;
+      plot) words='--sizes --seed --data --of --degree --meter --output --force --help' ;;
       profile) words='--function --degree --at --help' ;;
     esac
   elif [[ ${COMP_WORDS[1]}:$(_raml_operands) == plot:1 ]]; then
