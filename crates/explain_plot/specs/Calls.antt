@@ -29,7 +29,7 @@ use Rattle.explain_chart.specs.Chart.{Mark, Draws}
 use Rattle.explain_marks.specs.Marks.{Origin, OfSizes, OfFiles, IsMarkOf}
 use Rattle.explain_marks.specs.declared.marks.Given.{Given}
 use Rattle.explain_plot.specs.Along.{no_parameter, sized}
-use Rattle.explain_plot.specs.Files.{AreHeld, LacksFile, SomeUnfit, names_of}
+use Rattle.explain_plot.specs.Files.{AreHeld, LacksFile, SomeUnfit, SpellsArguments, names_of}
 use Rattle.explain_plot.specs.Sizes.{sizes_in}
 use Rattle.explain_plot.specs.Table.{table}
 
@@ -115,30 +115,47 @@ abbrev pub LacksParameter : Prog → ℕ → PlotWords → Outcome → Type 0
 LacksParameter P f words told =
     (g : Function) × (slice_get P f ≡ Some g) × (sized (lent words.parameter) g.params ≡ None) × IsRefusal told (no_parameter words)
 
--- it is drawn on made arguments; where the words name a parameter, it has sizes
+-- the function has it, at this place
+abbrev pub HasParameter : Prog → ℕ → PlotWords → ℕ → Type 0
+HasParameter P f words place =
+    (g : Function) × (slice_get P f ≡ Some g) × (sized (lent words.parameter) g.params ≡ Some place)
+
+-- it is drawn on made arguments
+abbrev pub AreMadeDrawn : Prog → ℕ → PlotWords → Outcome → Type 0
+AreMadeDrawn P f words told = IsDrawn P f words.degree (meter_of words.meter) OfSizes told
+
+-- where the words name a parameter, the function has it
+abbrev pub ParameterBy : Option Text → Prog → ℕ → PlotWords → Outcome → Type 0
+ParameterBy None P f words told = AreMadeDrawn P f words told
+ParameterBy (Some name) P f words told =
+    LacksParameter P f words told ⊎ ((place : ℕ) × HasParameter P f words place × AreMadeDrawn P f words told)
+
 abbrev pub ParameterIs : Prog → ℕ → PlotWords → Outcome → Type 0
-ParameterIs P f words told = LacksParameter P f words told ⊎ IsDrawn P f words.degree (meter_of words.meter) OfSizes told
+ParameterIs P f words told = ParameterBy (lent words.parameter) P f words told
 
 -- on arguments of the sizes that a text tells
 abbrev pub MadeIs : Prog → ℕ → PlotWords → Text → Outcome → Type 0
-MadeIs P f words sizes told = LacksSizes sizes told ⊎ ParameterIs P f words told
+MadeIs P f words sizes told =
+    LacksSizes sizes told ⊎ ((some : List ℕ) × (sizes_in sizes ≡ Some some) × ParameterIs P f words told)
 
 -- one of the files spells no arguments of the function
 abbrev pub LacksArguments : Prog → ℕ → List Given → Outcome → Type 0
 LacksArguments P f files told =
     (g : Function) × (slice_get P f ≡ Some g) × (report : Text) × SomeUnfit (types_of g) files report × IsRefusal told report
 
--- it is drawn on the arguments of files, by the sizes of the parameter
-pub record AreFilesDrawn (P : Prog) (f : ℕ) (words : PlotWords) (files : List Given) (told : Outcome) : Type 0 where
-  pub function : Function
-  pub there : slice_get P f ≡ Some function
-  pub place : ℕ
-  pub has_size : sized (lent words.parameter) function.params ≡ Some place
-  pub drawn : IsDrawn P f words.degree (meter_of words.meter) (OfFiles place files) told
+-- each of them spells some
+abbrev pub HasArguments : Prog → ℕ → List Given → Type 0
+HasArguments P f files = (g : Function) × (slice_get P f ≡ Some g) × All (SpellsArguments (types_of g)) files
+
+-- it is drawn on the arguments of files, by the sizes of the parameter at the place
+abbrev pub AreFilesDrawn : Prog → ℕ → PlotWords → List Given → ℕ → Outcome → Type 0
+AreFilesDrawn P f words files place told =
+    LacksArguments P f files told
+    ⊎ (HasArguments P f files × IsDrawn P f words.degree (meter_of words.meter) (OfFiles place files) told)
 
 abbrev pub GivenIs : Prog → ℕ → PlotWords → List Given → Outcome → Type 0
 GivenIs P f words files told =
-    LacksParameter P f words told ⊎ (LacksArguments P f files told ⊎ AreFilesDrawn P f words files told)
+    LacksParameter P f words told ⊎ ((place : ℕ) × HasParameter P f words place × AreFilesDrawn P f words files place told)
 
 -- what is drawn of the function at the place, where files hold these arguments
 abbrev pub FunctionBy : Arguments → Prog → ℕ → PlotWords → List Given → Outcome → Type 0

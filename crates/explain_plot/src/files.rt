@@ -97,7 +97,8 @@ pub(crate) fn all_fit(
         [] => Ok(true),
         [first, rest @ ..] => match check_data(alloc, first.name, &first.bytes, types, report)? {
             Finding::Fits => all_fit(alloc, rest, types, report),
-            Finding::Untyped | Finding::Refused => Ok(false),
+            Finding::Untyped => Ok(false),
+            Finding::Refused => Ok(false),
         },
     }
 }
