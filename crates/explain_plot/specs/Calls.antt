@@ -44,7 +44,8 @@ pub record Outcome : Type 0 where
 abbrev pub IsRefusal : Outcome → Text → Type 0
 IsRefusal told report = told ≡ record { end = e.Refused; picture = None; text = []; report = report }
 
--- the degree of the analysis that tells most of a function and a meter: the least that finds a bound, or else the highest that is not refused
+-- the degree of the analysis that tells most of a function and a meter: the least that finds a bound, or else the highest that is not
+-- refused
 abbrev pub degree_of : Finding → ℕ
 degree_of (finding.Bound d poly) = max 1 d
 degree_of (finding.NoBound d) = max 1 d
@@ -64,11 +65,12 @@ cut_text (Some (AtSize size)) =
     ++ codes ", and all of greater ones, are not drawn: they need more than 2000000 instructions together, or arguments of 20000 cells\n")
 cut_text (Some (AtFile name)) =
     codes "explain: the run on " ++ (name
-    ++ codes ", and those on all files behind it, are not drawn: they need more than 2000000 instructions together, or arguments of 20000 cells\n")
+    ++ codes ", and those on files behind it, are not drawn: they need more than 2000000 instructions together, or arguments of 20000 cells\n")
 
--- The picture draws runs of the function at the place, and the table tells them. Each is a run of the machine, and lies at or below the bound
--- at its arguments by the certificate.
-pub record Drawn (P : Prog) (N : Program) (c : Certificate) (f : ℕ) (meter : Meter) (origin : Origin) (svg text report : Text) : Type 0 where
+-- The picture draws runs of the function at the place, and the table tells them. Each is a run of the machine, and lies at or below the
+-- bound at its arguments by the certificate.
+pub record Drawn (P : Prog) (N : Program) (c : Certificate) (f : ℕ) (meter : Meter) (origin : Origin) (svg text report : Text)
+    : Type 0 where
   pub marks : List Mark
   pub runs : All (IsMarkOf P N c f meter origin) marks
   pub draws : Draws marks svg
@@ -77,7 +79,8 @@ pub record Drawn (P : Prog) (N : Program) (c : Certificate) (f : ℕ) (meter : M
   pub cut_told : report ≡ cut_text cut
 
 -- the same by the certificate of the analysis of a degree
-pub record IsDrawnAt (P : Prog) (N : Program) (f d : ℕ) (meter : Meter) (origin : Origin) (picture : Option Text) (text report : Text) : Type 0 where
+pub record IsDrawnAt (P : Prog) (N : Program) (f d : ℕ) (meter : Meter) (origin : Origin) (picture : Option Text) (text report : Text)
+    : Type 0 where
   pub certificate : Certificate
   pub inferred : IsInferred (analysis_at N d) certificate
   pub svg : Text
@@ -96,7 +99,8 @@ pub record IsDrawn (P : Prog) (f most : ℕ) (meter : Meter) (origin : Origin) (
   pub findings : Findings
   pub there : slice_get analysed.found.functions.items f ≡ Some findings
   pub part : Text
-  pub ends : EndsAt told.end P (normal_of P analysed.groups.list) f (degree_of (finding_of findings meter)) meter origin told.picture told.text part
+  pub ends :
+    EndsAt told.end P (normal_of P analysed.groups.list) f (degree_of (finding_of findings meter)) meter origin told.picture told.text part
   pub report : told.report ≡ notes (names_for P analysed.groups) analysed.found.refused.items ++ part
 
 -- the function is not there

@@ -25,7 +25,8 @@ use Rattle.explain_verify.specs.declared.verification.Verification.{Verification
 use Rattle.explain_verify.specs.declared.verification.Verification.TheVariants as o
 use Rattle.explain_words.specs.Asking.{Asks, AsksToShow, AsksNothing}
 use Rattle.explain_words.specs.declared.request.Request.{Request}
-use Rattle.explain_words.specs.declared.request.Request.TheVariants.{Check, CheckData, Bounds, Budget, WriteBudget, Verify, Why, Plot, Profile}
+use Rattle.explain_words.specs.declared.request.Request.TheVariants.{Check, CheckData, Bounds, Budget, WriteBudget, Verify}
+use Rattle.explain_words.specs.declared.request.Request.TheVariants.{Why, Plot, Profile}
 use Rattle.explain_words.specs.declared.request.bounds.BoundsWords.{BoundsWords}
 use Rattle.explain_words.specs.declared.request.plot.PlotWords.{PlotWords}
 use Rattle.explain_words.specs.declared.request.why.WhyWords.{WhyWords}
