@@ -57,15 +57,17 @@ pub data Cut : Type 0 where
   AtSize : ℕ → Cut
   AtFile : Text → Cut
 
+abbrev pub and_behind : Text
+and_behind =
+    codes ", and those on files behind it, are not drawn: they need more than 2000000 instructions together, or arguments of 20000 cells\n"
+
 -- what is not drawn
 abbrev pub cut_text : Option Cut → Text
 cut_text None = []
 cut_text (Some (AtSize size)) =
     codes "explain: some runs of size " ++ (decimal size
     ++ codes ", and all of greater ones, are not drawn: they need more than 2000000 instructions together, or arguments of 20000 cells\n")
-cut_text (Some (AtFile name)) =
-    codes "explain: the run on " ++ (name
-    ++ codes ", and those on files behind it, are not drawn: they need more than 2000000 instructions together, or arguments of 20000 cells\n")
+cut_text (Some (AtFile name)) = codes "explain: the run on " ++ (name ++ and_behind)
 
 -- The picture draws runs of the function at the place, and the table tells them. Each is a run of the machine, and lies at or below the
 -- bound at its arguments by the certificate.
