@@ -41,7 +41,7 @@ held_short store [] (file ∷ files) held = absurd held
 held_short store (name ∷ names) [] held = absurd held
 
 -- a slice of at least one is its first and its rest
-whole : {X : Type 0} (xs : List X) (d : X) → 1 ≤ length xs → xs ≡ get_or xs 0 d ∷ take (length xs - 1) (drop 1 xs)
+pub whole : {X : Type 0} (xs : List X) (d : X) → 1 ≤ length xs → xs ≡ get_or xs 0 d ∷ take (length xs - 1) (drop 1 xs)
 whole [] d h = absurd (omega (arith, h))
 whole (x ∷ xs) d h = ap (λ l. x ∷ l) (sym (take_all (length (x ∷ xs) - 1) xs (omega arith)))
 

@@ -1,4 +1,5 @@
 mod Calling
 mod Computed
+mod Fitting
 mod Found
 mod Held

@@ -29,7 +29,7 @@ use Rattle.explain_chart.specs.Chart.{Mark, Draws}
 use Rattle.explain_marks.specs.Marks.{Origin, OfSizes, OfFiles, IsMarkOf}
 use Rattle.explain_marks.specs.declared.marks.Given.{Given}
 use Rattle.explain_plot.specs.Along.{no_parameter, sized}
-use Rattle.explain_plot.specs.Files.{AreHeld, LacksFile, SomeUnfit, names_of}
+use Rattle.explain_plot.specs.Files.{AreHeld, LacksFile, SomeUnfit, SpellsArguments, names_of}
 use Rattle.explain_plot.specs.Sizes.{sizes_in}
 use Rattle.explain_plot.specs.Table.{table}
 
@@ -44,7 +44,8 @@ pub record Outcome : Type 0 where
 abbrev pub IsRefusal : Outcome → Text → Type 0
 IsRefusal told report = told ≡ record { end = e.Refused; picture = None; text = []; report = report }
 
--- the degree of the analysis that tells most of a function and a meter: the least that finds a bound, or else the highest that is not refused
+-- the degree of the analysis that tells most of a function and a meter: the least that finds a bound, or else the highest that is not
+-- refused
 abbrev pub degree_of : Finding → ℕ
 degree_of (finding.Bound d poly) = max 1 d
 degree_of (finding.NoBound d) = max 1 d
@@ -56,19 +57,22 @@ pub data Cut : Type 0 where
   AtSize : ℕ → Cut
   AtFile : Text → Cut
 
+abbrev pub and_behind : Text
+and_behind =
+    codes ", and those on files behind it, are not drawn: they need more than 2000000 instructions together, or arguments of 20000 cells\n"
+
 -- what is not drawn
 abbrev pub cut_text : Option Cut → Text
 cut_text None = []
 cut_text (Some (AtSize size)) =
     codes "explain: some runs of size " ++ (decimal size
     ++ codes ", and all of greater ones, are not drawn: they need more than 2000000 instructions together, or arguments of 20000 cells\n")
-cut_text (Some (AtFile name)) =
-    codes "explain: the run on " ++ (name
-    ++ codes ", and those on all files behind it, are not drawn: they need more than 2000000 instructions together, or arguments of 20000 cells\n")
+cut_text (Some (AtFile name)) = codes "explain: the run on " ++ (name ++ and_behind)
 
--- The picture draws runs of the function at the place, and the table tells them. Each is a run of the machine, and lies at or below the bound
--- at its arguments by the certificate.
-pub record Drawn (P : Prog) (N : Program) (c : Certificate) (f : ℕ) (meter : Meter) (origin : Origin) (svg text report : Text) : Type 0 where
+-- The picture draws runs of the function at the place, and the table tells them. Each is a run of the machine, and lies at or below the
+-- bound at its arguments by the certificate.
+pub record Drawn (P : Prog) (N : Program) (c : Certificate) (f : ℕ) (meter : Meter) (origin : Origin) (svg text report : Text)
+    : Type 0 where
   pub marks : List Mark
   pub runs : All (IsMarkOf P N c f meter origin) marks
   pub draws : Draws marks svg
@@ -77,7 +81,8 @@ pub record Drawn (P : Prog) (N : Program) (c : Certificate) (f : ℕ) (meter : M
   pub cut_told : report ≡ cut_text cut
 
 -- the same by the certificate of the analysis of a degree
-pub record IsDrawnAt (P : Prog) (N : Program) (f d : ℕ) (meter : Meter) (origin : Origin) (picture : Option Text) (text report : Text) : Type 0 where
+pub record IsDrawnAt (P : Prog) (N : Program) (f d : ℕ) (meter : Meter) (origin : Origin) (picture : Option Text) (text report : Text)
+    : Type 0 where
   pub certificate : Certificate
   pub inferred : IsInferred (analysis_at N d) certificate
   pub svg : Text
@@ -96,7 +101,8 @@ pub record IsDrawn (P : Prog) (f most : ℕ) (meter : Meter) (origin : Origin) (
   pub findings : Findings
   pub there : slice_get analysed.found.functions.items f ≡ Some findings
   pub part : Text
-  pub ends : EndsAt told.end P (normal_of P analysed.groups.list) f (degree_of (finding_of findings meter)) meter origin told.picture told.text part
+  pub ends :
+    EndsAt told.end P (normal_of P analysed.groups.list) f (degree_of (finding_of findings meter)) meter origin told.picture told.text part
   pub report : told.report ≡ notes (names_for P analysed.groups) analysed.found.refused.items ++ part
 
 -- the function is not there
@@ -115,30 +121,47 @@ abbrev pub LacksParameter : Prog → ℕ → PlotWords → Outcome → Type 0
 LacksParameter P f words told =
     (g : Function) × (slice_get P f ≡ Some g) × (sized (lent words.parameter) g.params ≡ None) × IsRefusal told (no_parameter words)
 
--- it is drawn on made arguments; where the words name a parameter, it has sizes
+-- the function has it, at this place
+abbrev pub HasParameter : Prog → ℕ → PlotWords → ℕ → Type 0
+HasParameter P f words place =
+    (g : Function) × (slice_get P f ≡ Some g) × (sized (lent words.parameter) g.params ≡ Some place)
+
+-- it is drawn on made arguments
+abbrev pub AreMadeDrawn : Prog → ℕ → PlotWords → Outcome → Type 0
+AreMadeDrawn P f words told = IsDrawn P f words.degree (meter_of words.meter) OfSizes told
+
+-- where the words name a parameter, the function has it
+abbrev pub ParameterBy : Option Text → Prog → ℕ → PlotWords → Outcome → Type 0
+ParameterBy None P f words told = AreMadeDrawn P f words told
+ParameterBy (Some name) P f words told =
+    LacksParameter P f words told ⊎ ((place : ℕ) × HasParameter P f words place × AreMadeDrawn P f words told)
+
 abbrev pub ParameterIs : Prog → ℕ → PlotWords → Outcome → Type 0
-ParameterIs P f words told = LacksParameter P f words told ⊎ IsDrawn P f words.degree (meter_of words.meter) OfSizes told
+ParameterIs P f words told = ParameterBy (lent words.parameter) P f words told
 
 -- on arguments of the sizes that a text tells
 abbrev pub MadeIs : Prog → ℕ → PlotWords → Text → Outcome → Type 0
-MadeIs P f words sizes told = LacksSizes sizes told ⊎ ParameterIs P f words told
+MadeIs P f words sizes told =
+    LacksSizes sizes told ⊎ ((some : List ℕ) × (sizes_in sizes ≡ Some some) × ParameterIs P f words told)
 
 -- one of the files spells no arguments of the function
 abbrev pub LacksArguments : Prog → ℕ → List Given → Outcome → Type 0
 LacksArguments P f files told =
     (g : Function) × (slice_get P f ≡ Some g) × (report : Text) × SomeUnfit (types_of g) files report × IsRefusal told report
 
--- it is drawn on the arguments of files, by the sizes of the parameter
-pub record AreFilesDrawn (P : Prog) (f : ℕ) (words : PlotWords) (files : List Given) (told : Outcome) : Type 0 where
-  pub function : Function
-  pub there : slice_get P f ≡ Some function
-  pub place : ℕ
-  pub has_size : sized (lent words.parameter) function.params ≡ Some place
-  pub drawn : IsDrawn P f words.degree (meter_of words.meter) (OfFiles place files) told
+-- each of them spells some
+abbrev pub HasArguments : Prog → ℕ → List Given → Type 0
+HasArguments P f files = (g : Function) × (slice_get P f ≡ Some g) × All (SpellsArguments (types_of g)) files
+
+-- it is drawn on the arguments of files, by the sizes of the parameter at the place
+abbrev pub AreFilesDrawn : Prog → ℕ → PlotWords → List Given → ℕ → Outcome → Type 0
+AreFilesDrawn P f words files place told =
+    LacksArguments P f files told
+    ⊎ (HasArguments P f files × IsDrawn P f words.degree (meter_of words.meter) (OfFiles place files) told)
 
 abbrev pub GivenIs : Prog → ℕ → PlotWords → List Given → Outcome → Type 0
 GivenIs P f words files told =
-    LacksParameter P f words told ⊎ (LacksArguments P f files told ⊎ AreFilesDrawn P f words files told)
+    LacksParameter P f words told ⊎ ((place : ℕ) × HasParameter P f words place × AreFilesDrawn P f words files place told)
 
 -- what is drawn of the function at the place, where files hold these arguments
 abbrev pub FunctionBy : Arguments → Prog → ℕ → PlotWords → List Given → Outcome → Type 0

@@ -1,8 +1,10 @@
 -- Files of arguments.
-use Rattle.std.specs.Prelude.{◌≡◌, ◌≤◌, ◌⊎◌, Bool, true, false, List, [], ◌∷◌, ◌++◌, length, Option, Some, None}
+use Rattle.std.specs.Prelude.{◌≡◌, ◌≤◌, ◌⊎◌, Bool, true, false, List, [], ◌∷◌, ◌++◌, length, Option, Some, None, Ok}
 use Rattle.std.specs.Global.{Vec}
 use Rattle.std.specs.List.{All}
 use Rattle.raml_syntax.specs.Tree.{Text, Type'}
+use Rattle.raml_syntax.specs.Value.{Value}
+use Rattle.value_text.specs.Reading.{Answers}
 use Rattle.explain_check.specs.Stores.{Store, Holds, Unread}
 use Rattle.explain_data.specs.Data.{DataFaultIs, most_data_bytes}
 use Rattle.explain_words.specs.Commands.{texts}
@@ -39,11 +41,16 @@ abbrev pub AreRead : Store → List Text → Option (Vec Given) → Text → Typ
 AreRead store names (Some files) part = AreHeld store names files.items × (part ≡ [])
 AreRead store names None part = LacksFile store names part
 
--- one of the files spells no arguments of the types
+-- the file spells arguments of the types
+abbrev pub SpellsArguments : List Type' → Given → Type 0
+SpellsArguments types file = (values : List Value) × Answers file.bytes.items types (Ok values)
+
+-- one of the files spells no arguments of the types, and those before it do
 abbrev pub SomeUnfit : List Type' → List Given → Text → Type 0
 SomeUnfit types [] part = ⊥
-SomeUnfit types (file ∷ files) part = DataFaultIs file.name.now file.bytes.items types part ⊎ SomeUnfit types files part
+SomeUnfit types (file ∷ files) part =
+    DataFaultIs file.name.now file.bytes.items types part ⊎ (SpellsArguments types file × SomeUnfit types files part)
 
 abbrev pub Fit : List Type' → List Given → Bool → Text → Type 0
-Fit types files true part = part ≡ []
+Fit types files true part = All (SpellsArguments types) files × (part ≡ [])
 Fit types files false part = SomeUnfit types files part

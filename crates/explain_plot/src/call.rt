@@ -1,8 +1,6 @@
 // What `explain plot` draws of a file.
-ghost use Rattle.std.specs.Prelude.{◌≡◌, ◌≤◌, ◌++◌, List, [], Some, length, slice_get, IfOk, string_bytes};
-ghost use Rattle.std.specs.List.{All};
-ghost use Rattle.raml_syntax.specs.Place.{place_of};
-ghost use Rattle.raml_syntax.specs.Tree.{Text, Function};
+ghost use Rattle.std.specs.Prelude.{◌≡◌, ◌≤◌, ◌++◌, [], length, IfOk, string_bytes};
+ghost use Rattle.raml_syntax.specs.Tree.{Text};
 ghost use Rattle.raml_syntax.specs.Read.{program_of};
 ghost use Rattle.explain_check.specs.Checks.{IsProgramOf};
 ghost use Rattle.explain_check.specs.Stores.{store_of};
@@ -57,11 +55,11 @@ pub fn tell_plot<S: Store>(
     ensures kept { S.holds store.new ≡ S.holds store.old }
     ensures later { (other : Text) → S.faults store.old other ≤ S.faults store.new other }
 {
-    let Some(source) = read_program(alloc, store, words.file, report)? else {
-        return Ok(Told::refused());
-    };
-    match read_files(alloc, store, &words.arguments, report)? {
-        Some(files) => tell_program(alloc, &source, words, &files, text, report),
+    match read_program(alloc, store, words.file, report)? {
+        Some(source) => match read_files(alloc, store, &words.arguments, report)? {
+            Some(files) => tell_program(alloc, &source, words, &files, text, report),
+            None => Ok(Told::refused()),
+        },
         None => Ok(Told::refused()),
     }
 }

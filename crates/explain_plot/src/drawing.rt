@@ -50,7 +50,8 @@ pub(crate) fn tell_degree(
     requires most { degree ≤ 4 }
     requires findings { (g : Function) → slice_get (program_of typed.now) asked.fun.0 ≡ Some g → AllCanBeTold (types_of g) findings.now }
     ensures { IfOk result (λ told. (shown part : Text)
-        × EndsAt told.end (program_of typed.now) (program_in program.now) asked.fun.0 degree asked.meter (origin_of runs.now) (text_in told.picture) shown part
+        × EndsAt told.end (program_of typed.now) (program_in program.now) asked.fun.0 degree asked.meter (origin_of runs.now)
+        (text_in told.picture) shown part
         × (string_bytes text.new ≡ string_bytes text.old ++ shown)
         × (string_bytes report.new ≡ string_bytes report.old ++ part)) }
 {
@@ -100,7 +101,8 @@ fn picture(
     requires work { has_work verified.now.certificate ≡ true }
     requires findings { (g : Function) → slice_get (program_of typed.now) asked.fun.0 ≡ Some g → AllCanBeTold (types_of g) findings.now }
     ensures { IfOk result (λ svg. (shown part : Text)
-        × Drawn (program_of typed.now) (program_in verified.now.program) verified.now.certificate asked.fun.0 asked.meter (origin_of runs.now) (string_bytes svg) shown part
+        × Drawn (program_of typed.now) (program_in verified.now.program) verified.now.certificate asked.fun.0 asked.meter
+        (origin_of runs.now) (string_bytes svg) shown part
         × (string_bytes text.new ≡ string_bytes text.old ++ shown)
         × (string_bytes report.new ≡ string_bytes report.old ++ part)) }
 {
@@ -137,11 +139,13 @@ fn push_cut(report: &mut String, cut: Option<Cut<'_>>) -> Result<(), AllocError>
     match cut {
         Some(Cut::Size(size)) => write!(
             report,
-            "explain: some runs of size {size}, and all of greater ones, are not drawn: they need more than 2000000 instructions together, or arguments of 20000 cells\n"
+            "explain: some runs of size {size}, and all of greater ones, are not drawn: \
+             they need more than 2000000 instructions together, or arguments of 20000 cells\n"
         ),
         Some(Cut::File(name)) => write!(
             report,
-            "explain: the run on {name}, and those on all files behind it, are not drawn: they need more than 2000000 instructions together, or arguments of 20000 cells\n"
+            "explain: the run on {name}, and those on files behind it, are not drawn: \
+             they need more than 2000000 instructions together, or arguments of 20000 cells\n"
         ),
         None => Ok(()),
     }
@@ -198,7 +202,9 @@ fn drawn(
     let costs = meter_name(meter);
     let title = format!(in alloc; "Measured runs of {name}: {costs}")?;
     let description = format!(in alloc;
-        "A point for what each run of {name} cost in {costs}, by the size of its arguments, below a line for the bound at these arguments. Both axes are logarithmic. The title of a point tells its numbers."
+        "A point for what each run of {name} cost in {costs}, by the size of its arguments, \
+         below a line for the bound at these arguments. \
+         Both axes are logarithmic. The title of a point tells its numbers."
     )?;
     draw(
         alloc,

@@ -64,7 +64,8 @@ fn read_on<'a, S: Store>(
     report: &mut String,
 ) -> Result<bool, AllocError>
     ensures told { IfOk result (λ ok. (part : Text)
-        × ReadsOn (store_of (S.holds store.old) (S.faults store.old) (S.faults store.new)) (texts names.now) ok read.old.items read.new.items part
+        × ReadsOn (store_of (S.holds store.old) (S.faults store.old) (S.faults store.new)) (texts names.now) ok
+        read.old.items read.new.items part
         × (string_bytes report.new ≡ string_bytes report.old ++ part)) }
     ensures kept { S.holds store.new ≡ S.holds store.old }
     ensures later { (other : Text) → S.faults store.old other ≤ S.faults store.new other }
@@ -97,7 +98,8 @@ pub(crate) fn all_fit(
         [] => Ok(true),
         [first, rest @ ..] => match check_data(alloc, first.name, &first.bytes, types, report)? {
             Finding::Fits => all_fit(alloc, rest, types, report),
-            Finding::Untyped | Finding::Refused => Ok(false),
+            Finding::Untyped => Ok(false),
+            Finding::Refused => Ok(false),
         },
     }
 }

@@ -1,12 +1,14 @@
 // What is drawn of a function, by the arguments that are asked for.
-ghost use Rattle.std.specs.Prelude.{◌≡◌, ◌≤◌, ◌++◌, Some, length, slice_get, IfOk, string_bytes};
+ghost use Rattle.std.specs.Prelude.{◌≡◌, ◌≤◌, ◌<◌, ◌++◌, [], Some, length, slice_get, IfOk, string_bytes};
 ghost use Rattle.raml_syntax.specs.Place.{place_of};
 ghost use Rattle.raml_syntax.specs.Tree.{Text};
 ghost use Rattle.raml_syntax.specs.Read.{function_of, program_of};
 ghost use Rattle.explain_check.specs.Checks.{IsProgramOf};
 ghost use Rattle.explain_calls.specs.Sizes.{meter_of};
+ghost use Rattle.explain_marks.specs.Marks.{OfSizes, origin_of};
 ghost use Rattle.explain_words.specs.Laws.{IsDegree};
-ghost use Rattle.explain_plot.specs.Calls.{FunctionIs, GivenIs, MadeIs, ParameterIs};
+ghost use Rattle.explain_plot.specs.Along.{no_parameter};
+ghost use Rattle.explain_plot.specs.Calls.{AreFilesDrawn, FunctionIs, GivenIs, IsDrawn, IsRefusal, MadeIs, ParameterIs};
 ghost use Rattle.explain_plot.specs.Files.{AreShort};
 ghost use Rattle.explain_plot.specs.Read.{outcome_of};
 
@@ -58,7 +60,7 @@ pub(crate) fn tell_function(
     }
 }
 
-/// Draws runs on arguments of these sizes.
+/// Draws runs on arguments of the sizes that a text spells.
 fn tell_made(
     alloc: Global,
     source: &Source,
@@ -90,7 +92,7 @@ fn tell_made(
     }
 }
 
-/// Draws them with sizes of the parameter that is asked for, or of all.
+/// Draws them with these sizes of the parameter that is asked for, or of all.
 fn tell_along(
     alloc: Global,
     source: &Source,
@@ -111,27 +113,26 @@ fn tell_along(
         × (string_bytes text.new ≡ string_bytes text.old ++ shown)
         × (string_bytes report.new ≡ string_bytes report.old ++ part)) }
 {
-    let mut made = Made {
-        sizes,
-        along: None,
-        seed,
-    };
-    if words.parameter.is_some() {
-        let Some(place) = sized(&function.params, words.parameter) else {
-            push_no_parameter(words, report)?;
-            return Ok(Told::refused());
-        };
-        made.along = Some(place);
+    match words.parameter {
+        Some(_) => match sized(&function.params, words.parameter) {
+            Some(place) => {
+                let runs = made_runs(sizes, Some(place), seed);
+                tell_runs(alloc, source, fun, words, &runs, text, report)
+            }
+            None => refuse_parameter(words, report),
+        },
+        None => {
+            let runs = made_runs(sizes, None, seed);
+            tell_runs(alloc, source, fun, words, &runs, text, report)
+        }
     }
-    let runs = Runs::Made(made);
-    tell_asked(
-        alloc,
-        &source.typed,
-        asked_of(fun, words),
-        &runs,
-        text,
-        report,
-    )
+}
+
+/// Runs on arguments that are made.
+fn made_runs(sizes: &[u32], along: Option<usize>, seed: u64) -> Runs<'_>
+    ensures { origin_of result ≡ OfSizes }
+{
+    Runs::Made(Made { sizes, along, seed })
 }
 
 /// Draws runs on the arguments of files.
@@ -155,34 +156,77 @@ fn tell_given(
         × (string_bytes text.new ≡ string_bytes text.old ++ shown)
         × (string_bytes report.new ≡ string_bytes report.old ++ part)) }
 {
-    let Some(place) = sized(&function.params, words.parameter) else {
-        push_no_parameter(words, report)?;
-        return Ok(Told::refused());
-    };
+    match sized(&function.params, words.parameter) {
+        Some(place) => tell_files(
+            alloc, source, fun, function, words, place, files, text, report,
+        ),
+        None => refuse_parameter(words, report),
+    }
+}
+
+/// Draws them by the sizes of the parameter at the place.
+fn tell_files(
+    alloc: Global,
+    source: &Source,
+    fun: FunId,
+    function: &Fun,
+    words: &PlotWords<'_>,
+    place: usize,
+    files: &[Given<'_>],
+    text: &mut String,
+    report: &mut String,
+) -> Result<Told, AllocError>
+    requires program { IsProgramOf source.now.bytes.items (program_of source.now.typed) }
+    requires few { length source.now.bytes.items ≤ 1048576 }
+    requires short { AreShort files.now }
+    requires range { IsDegree words.now.degree }
+    requires there { slice_get (program_of source.now.typed) fun.0 ≡ Some (function_of function.now) }
+    ensures { IfOk result (λ told. (shown part : Text)
+        × AreFilesDrawn (program_of source.now.typed) fun.0 words.now files.now place (outcome_of told shown part)
+        × (string_bytes text.new ≡ string_bytes text.old ++ shown)
+        × (string_bytes report.new ≡ string_bytes report.old ++ part)) }
+{
     let types = parameter_types(alloc, function)?;
     if !all_fit(alloc, files, &types, report)? {
         return Ok(Told::refused());
     }
     let runs = Runs::Given { place, files };
-    tell_asked(
-        alloc,
-        &source.typed,
-        asked_of(fun, words),
-        &runs,
-        text,
-        report,
-    )
+    tell_runs(alloc, source, fun, words, &runs, text, report)
 }
 
-/// What is asked for.
-fn asked_of(fun: FunId, words: &PlotWords<'_>) -> Asked
-    ensures fun { result.fun ≡ fun }
-    ensures meter { result.meter ≡ meter_of words.now.meter }
-    ensures most { result.most ≡ words.now.degree }
+/// Says that the function has no such parameter.
+fn refuse_parameter(words: &PlotWords<'_>, report: &mut String) -> Result<Told, AllocError>
+    ensures refused { IfOk result (λ told. IsRefusal (outcome_of told [] (no_parameter words.now)) (no_parameter words.now)) }
+    ensures report { IfOk result (λ told. string_bytes report.new ≡ string_bytes report.old ++ no_parameter words.now) }
 {
-    Asked {
+    push_no_parameter(words, report)?;
+    Ok(Told::refused())
+}
+
+/// Draws these runs.
+fn tell_runs(
+    alloc: Global,
+    source: &Source,
+    fun: FunId,
+    words: &PlotWords<'_>,
+    runs: &Runs<'_>,
+    text: &mut String,
+    report: &mut String,
+) -> Result<Told, AllocError>
+    requires program { IsProgramOf source.now.bytes.items (program_of source.now.typed) }
+    requires few { length source.now.bytes.items ≤ 1048576 }
+    requires range { IsDegree words.now.degree }
+    requires fun { fun.0 < length (program_of source.now.typed) }
+    ensures { IfOk result (λ told. (shown part : Text)
+        × IsDrawn (program_of source.now.typed) fun.0 words.now.degree (meter_of words.now.meter) (origin_of runs.now)
+        (outcome_of told shown part)
+        × (string_bytes text.new ≡ string_bytes text.old ++ shown)
+        × (string_bytes report.new ≡ string_bytes report.old ++ part)) }
+{
+    let asked = Asked {
         fun,
         meter: meter_of(words.meter),
         most: words.degree,
-    }
+    };
+    tell_asked(alloc, &source.typed, asked, runs, text, report)
 }

@@ -1,6 +1,7 @@
 -- How calls of `explain` end, and what they write.
-use Rattle.std.specs.Prelude.{◌≡◌, ◌⊎◌, ◌++◌, ℕ, Bool, List, [], Option, Some, None, codes, string_bytes}
+use Rattle.std.specs.Prelude.{◌≡◌, ◌⊎◌, ◌++◌, ◌||◌, ℕ, Bool, false, cond, List, [], ◌∷◌, Option, Some, None, codes, string_bytes}
 use Rattle.std.specs.Borrow.{Bor}
+use Rattle.std.specs.Str.{bytes_eq}
 use Rattle.raml_syntax.specs.Tree.{Text}
 use Rattle.explain_check.specs.Checks.{FilesAre, texts}
 use Rattle.explain_check.specs.Stores.{Store, error_line}
@@ -24,12 +25,14 @@ use Rattle.explain_verify.specs.declared.verification.Verification.{Verification
 use Rattle.explain_verify.specs.declared.verification.Verification.TheVariants as o
 use Rattle.explain_words.specs.Asking.{Asks, AsksToShow, AsksNothing}
 use Rattle.explain_words.specs.declared.request.Request.{Request}
-use Rattle.explain_words.specs.declared.request.Request.TheVariants.{Check, CheckData, Bounds, Budget, WriteBudget, Verify, Why, Plot, Profile}
+use Rattle.explain_words.specs.declared.request.Request.TheVariants.{Check, CheckData, Bounds, Budget, WriteBudget, Verify}
+use Rattle.explain_words.specs.declared.request.Request.TheVariants.{Why, Plot, Profile}
 use Rattle.explain_words.specs.declared.request.bounds.BoundsWords.{BoundsWords}
 use Rattle.explain_words.specs.declared.request.plot.PlotWords.{PlotWords}
 use Rattle.explain_words.specs.declared.request.why.WhyWords.{WhyWords}
 use Rattle.explain_words.specs.declared.request.why.Written.{Written}
 use Rattle.explain_plot.specs.Calls as plot
+use Rattle.explain_plot.specs.Files.{names_of}
 use Rattle.explain_words.specs.declared.request.profile.ProfileWords.{ProfileWords}
 use Rattle.explain_profile_call.specs.Calls as profile
 use Rattle.explain_why.specs.Calls as why
@@ -125,10 +128,13 @@ IsProfileTold store words out err status = Tells (profile.CallIs store words) st
 
 -- ---- a file of bounds that is left
 
+-- it is said why a file is not left; or memory ran out
+abbrev pub IsFileRefused : Text → Text → Sink → Status → Type 0
+IsFileRefused name why err status = LacksMemory err status ⊎ ((status ≡ s.Refused) × Writes (error_line name why) err)
+
 -- the file of bounds would be the source
 abbrev pub IsSourceRefused : Text → Sink → Status → Type 0
-IsSourceRefused bounds err status =
-    LacksMemory err status ⊎ ((status ≡ s.Refused) × Writes (error_line bounds (codes "is the source itself")) err)
+IsSourceRefused bounds err status = IsFileRefused bounds (codes "is the source itself") err status
 
 -- a text is left as this file; or there is one, which may not be written over; or it could not be written
 abbrev pub IsTextLeft : Shelf → Text → Bool → Text → Status → Text → Type 0
@@ -197,14 +203,26 @@ TellsPlot store shelf words out err status =
     × LeavesPicture shelf words told.end told.picture done part
     × Puts told.text out done status × Writes (told.report ++ part) err
 
--- the picture would be the source
-abbrev pub DrawsOverSource : PlotWords → Sink → Status → Type 0
-DrawsOverSource words err status = (words.output.now ≡ words.file.now) × IsSourceRefused words.output.now err status
+-- one of the names is this one
+abbrev pub is_among : List Text → Text → Bool
+is_among [] name = false
+is_among (other ∷ names) name = bytes_eq other name || is_among names name
+
+-- why the picture is not left as the file that is named: the call reads it
+abbrev pub over_read : PlotWords → Option Text
+over_read words =
+    cond (bytes_eq words.output.now words.file.now) (Some (codes "is the source itself"))
+    (cond (is_among (names_of words.arguments) words.output.now) (Some (codes "is a file of arguments itself")) None)
+
+-- the picture would be a file that the call reads
+abbrev pub DrawsOverRead : PlotWords → Sink → Status → Type 0
+DrawsOverRead words err status =
+    (why : Text) × (over_read words ≡ Some why) × IsFileRefused words.output.now why err status
 
 abbrev pub IsPlotTold : Store → Shelf → PlotWords → Sink → Sink → Status → Type 0
 IsPlotTold store shelf words out err status =
-    (KeepsFiles shelf × GainsNothing out × (LacksMemory err status ⊎ DrawsOverSource words err status))
-    ⊎ TellsPlot store shelf words out err status
+    (KeepsFiles shelf × GainsNothing out × (LacksMemory err status ⊎ DrawsOverRead words err status))
+    ⊎ ((over_read words ≡ None) × TellsPlot store shelf words out err status)
 
 -- ---- requests
 

@@ -3,7 +3,7 @@ ghost use Rattle.std.specs.Prelude.{◌≡◌, ◌≤◌, ◌++◌, Bool, IfOk, 
 ghost use Rattle.raml_syntax.specs.Tree.{Text};
 ghost use Rattle.explain_check.specs.Stores.{store_of};
 ghost use Rattle.explain_words.specs.Laws.{IsDegree};
-ghost use Rattle.explain_top.specs.Answers.{IsDraftLeft, IsSourceRefused, IsTextLeft, EndsBy};
+ghost use Rattle.explain_top.specs.Answers.{IsDraftLeft, IsFileRefused, IsSourceRefused, IsTextLeft, EndsBy};
 ghost use Rattle.explain_top.specs.Shelves.{KeepsFiles, shelf_of};
 ghost use Rattle.explain_top.specs.Sinks.{sink_of};
 
@@ -56,8 +56,16 @@ pub(crate) fn leave_draft<S: Store, W: Shelf, E: Sink>(
 pub(crate) fn refuse_source<E: Sink>(alloc: Global, bounds: &str, err: &mut E) -> Status
     ensures { IsSourceRefused bounds.now (sink_of (E.faults err.old) (E.faults err.new) (E.written err.old) (E.written err.new)) result }
 {
+    refuse_file(alloc, bounds, "is the source itself", err)
+}
+
+/// Says why a file is not left.
+pub(crate) fn refuse_file<E: Sink>(alloc: Global, name: &str, why: &str, err: &mut E) -> Status
+    ensures { IsFileRefused name.now why.now
+        (sink_of (E.faults err.old) (E.faults err.new) (E.written err.old) (E.written err.new)) result }
+{
     let mut report = String::new(alloc);
-    match push_error(bounds, "is the source itself", &mut report) {
+    match push_error(name, why, &mut report) {
         Ok(()) => {
             write_report(err, &report);
             Status::Refused

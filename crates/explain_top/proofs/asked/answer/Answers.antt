@@ -22,3 +22,6 @@ pub returns-in-Profile-clause-done : goal.returns-in-Profile-clause-done
 returns-in-Profile-clause-done g c =
     let faults = g.W.Shelf.faults c.args.shelf.now in
     rw c.in-Profile.is (c.profile.ensures.told, untouched faults faults (g.W.Shelf.holds c.args.shelf.now))
+
+pub returns-in-Plot-clause-done : goal.returns-in-Plot-clause-done
+returns-in-Plot-clause-done g c = rw c.in-Plot.is c.plot.ensures.told
