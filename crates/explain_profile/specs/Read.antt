@@ -22,6 +22,9 @@ sizes_in = option_map (λ (ss : Bor (List Size)). all_sizes ss.now)
 abbrev pub case_of : Case → r.Case
 case_of c = record { source = c.source.now; name = c.name.now; most = c.most; sizes = sizes_in c.sizes }
 
+abbrev pub text_in : Option (Bor Text) → Option Text
+text_in = option_map (λ (text : Bor Text). text.now)
+
 abbrev pub function_in : Option (Bor Fun) → Option Function
 function_in = option_map (λ (g : Bor Fun). function_of g.now)
 
