@@ -35,7 +35,6 @@ fn reached_rows(
     program: &Program,
     fun: FunId,
 ) -> Result<Vec<Row>, AllocError>
-    requires least { 1 ≤ case.most }
     requires most { case.most ≤ 4 }
     requires lexed { IsLexed case.source.now }
     requires few { length (program_of program.now) ≤ 256 }
@@ -57,7 +56,6 @@ pub fn push_profile(
     function: &Fun,
     words: Option<&str>,
 ) -> Result<bool, AllocError>
-    requires least { 1 ≤ case.most }
     requires most { case.most ≤ 4 }
     requires lexed { IsLexed case.source.now }
     requires few { length (program_of program.now) ≤ 256 }
