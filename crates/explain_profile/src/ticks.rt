@@ -71,7 +71,7 @@ fn note_degree(
     match analyse(alloc, program, degree) {
         Ok(verified) => note_line(alloc, found, &verified, degree, fun),
         Err(fault) => {
-            let _refused = refused(degree, fault)?;
+            refused(degree, fault)?;
             Ok(())
         }
     }
