@@ -1,4 +1,5 @@
 mod Counted
+mod Degrees
 mod Found
 mod Laid
 mod Spaces

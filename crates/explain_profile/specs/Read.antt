@@ -2,15 +2,13 @@
 use Rattle.std.specs.Prelude.{◌≡◌, ℕ, List, Option, Some, None, option_map}
 use Rattle.std.specs.List.{Contains}
 use Rattle.std.specs.Borrow.{Bor}
-use Rattle.raml_syntax.specs.Tree.{Text, Function}
-use Rattle.raml_syntax.specs.Read.{program_of, function_of}
-use Rattle.raml_syntax.specs.declared.program.Fun.{Fun}
+use Rattle.raml_syntax.specs.Tree.{Text}
+use Rattle.raml_syntax.specs.Read.{program_of}
 use Rattle.raml_syntax.specs.declared.program.Program.{Program}
 use Rattle.explain_check.specs.Checks.{IsProgramOf}
 use Rattle.explain_sizes.specs.Sizes.{Sizes}
 use Rattle.explain_sizes.specs.Read.{all_sizes}
 use Rattle.explain_sizes.specs.declared.size.Size.{Size}
-use Rattle.explain_degrees.specs.declared.finding.Findings.{Findings}
 use Rattle.explain_profile.specs.Runs as r
 use Rattle.explain_profile.specs.Runs.{IsNoSource}
 use Rattle.explain_profile.specs.declared.runs.Case.{Case}
@@ -22,11 +20,8 @@ sizes_in = option_map (λ (ss : Bor (List Size)). all_sizes ss.now)
 abbrev pub case_of : Case → r.Case
 case_of c = record { source = c.source.now; name = c.name.now; most = c.most; sizes = sizes_in c.sizes }
 
-abbrev pub function_in : Option (Bor Fun) → Option Function
-function_in = option_map (λ (g : Bor Fun). function_of g.now)
-
-abbrev pub lent : Option (Bor Findings) → Option Findings
-lent = option_map (λ (x : Bor Findings). x.now)
+abbrev pub text_in : Option (Bor Text) → Option Text
+text_in = option_map (λ (text : Bor Text). text.now)
 
 -- the program that a text spells, or there is none
 abbrev pub SpellsIt : Text → Option Program → Type 0

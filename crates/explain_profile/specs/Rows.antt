@@ -1,7 +1,8 @@
 -- The table of a profile: a row for each line.
-use Rattle.std.specs.Prelude.{◌≡◌, ℕ, zero, suc, ◌*◌, ◌-◌, ◌^◌, nat_le, Bool, true, false, cond, Option, Some, None, is_some, List, [], ◌∷◌, ◌++◌, map}
+use Rattle.std.specs.Prelude.{◌≡◌, ℕ, zero, suc, ◌*◌, ◌-◌, ◌^◌, nat_le, Bool, true, false, cond, Option, Some, None, is_some}
+use Rattle.std.specs.Prelude.{List, [], ◌∷◌, ◌++◌, map}
 use Rattle.std.specs.Prelude.{IsPermutation, codes, decimal, string_bytes}
-use Rattle.std.specs.List.{All}
+use Rattle.std.specs.List.{All, Contains}
 use Rattle.std.specs.List.Sorted.{IsNonDecreasingBy}
 use Rattle.std.specs.Rc.{rc_value}
 use Rattle.raml_syntax.specs.Tree.{Text, Type', Function}
@@ -26,6 +27,17 @@ runs_of row = rc_value row.runs
 
 abbrev pub all_lines : List Row → List l.Line
 all_lines = map line_of
+
+-- an analysis is made
+abbrev pub IsAnalysed : Runs → Type 0
+IsAnalysed r.NotAnalysed = ⊥
+IsAnalysed other = Unit {0}
+
+-- a line of these is analysed
+pub record HasAnalysed (rows : List Row) : Type 0 where
+  pub row : Row
+  pub there : Contains rows row
+  pub is : IsAnalysed (runs_of row)
 
 -- the row says how often the region of its line is run at most
 abbrev pub IsCounted : Case → Row → Type 0
@@ -71,6 +83,13 @@ runs_text (r.AtMost sum at) = string_bytes sum
 runs_text r.NoBound = codes "no bound"
 runs_text r.NotAnalysed = codes "not analysed"
 
+-- what stands above the cells of lines, where these words give sizes
+abbrev pub heading : Option Text → List Text
+heading None = codes "line" ∷ codes "runs at most" ∷ codes "ticks" ∷ codes "cells" ∷ codes "work" ∷ []
+heading (Some words) =
+    codes "line" ∷ codes "runs at most" ∷ (codes "at " ++ words) ∷ codes "ticks" ∷ codes "cells" ∷ codes "work"
+    ∷ codes "work in all" ∷ []
+
 abbrev pub number_text : Option ℕ → Text
 number_text None = codes "-"
 number_text (Some n) = decimal n
@@ -115,9 +134,10 @@ sizes_meaning As names = cond (are_shallow As) (legend_text (size_names names As
 abbrev pub meaning : Function → Text
 meaning g = sizes_meaning (types_of g) (names_of g)
 
--- what stands above rows, the rows, and what the names of sizes mean
-pub record IsTable (case : Case) (g : Function) (rows : List Row) (text : Text) : Type 0 where
+-- what stands above rows, where words give sizes; the rows; and what the names of sizes mean
+pub record IsTable (case : Case) (words : Option Text) (g : Function) (rows : List Row) (text : Text) : Type 0 where
   pub above : Text
   pub shown : Text
+  pub headed : AreLaidOut (heading words) above
   pub are : AreShown case rows shown
   pub is : text ≡ above ++ (shown ++ line_with (meaning g))

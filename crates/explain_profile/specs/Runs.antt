@@ -3,21 +3,20 @@ use Rattle.std.specs.Prelude.{◌≡◌, ◌≤◌, ◌<◌, ◌⊎◌, ℕ, len
 use Rattle.raml_syntax.specs.Tree.{Text, Function, Prog}
 use Rattle.raml_syntax.specs.Types.{types_of}
 use Rattle.raml_syntax.specs.Place.{place_of}
+use Rattle.call_groups.specs.Groups.{Grouping, IsGrouping}
 use Rattle.base_poly.specs.declared.tuple.Poly.{Poly}
+use Rattle.cost_free.specs.declared.task.Meter.TheVariants.{Ticks}
+use Rattle.rules_soundness_laws.specs.Laws.{normal_of}
 use Rattle.explain_sizes.specs.Sizes.{Sizes}
 use Rattle.explain_sizes.specs.Counts.{whole_at}
 use Rattle.explain_check.specs.Checks.{IsProgramOf, RefusedAt, most_bytes}
 use Rattle.explain_edits.specs.Edits.{Edit, with_edits}
 use Rattle.explain_regions.specs.Counter.{AreCounterEdits}
-use Rattle.explain_trials.specs.Trials.{FindsUpTo}
-use Rattle.explain_degrees.specs.Degrees.{IsBounded}
+use Rattle.explain_degrees.specs.Degrees.{IsFinding}
 use Rattle.explain_degrees.specs.declared.finding.Finding.{Finding}
 use Rattle.explain_degrees.specs.declared.finding.Finding.TheVariants as finding
-use Rattle.explain_degrees.specs.declared.finding.Findings.{Findings}
-use Rattle.explain_degrees.specs.declared.least.LeastBounds.{LeastBounds}
 use Rattle.explain_reading.specs.Reading.{IsReading}
 use Rattle.explain_bounds.specs.Lines.{names_of}
-use Rattle.explain_bounds.specs.Written.{CanBeTold}
 pub use Rattle.explain_profile.specs.declared.runs.Runs.{Runs}
 use Rattle.explain_profile.specs.declared.runs.Runs.TheVariants as r
 
@@ -48,32 +47,18 @@ AreRuns ss g (finding.NoBound d) runs = runs ≡ r.NoBound
 AreRuns ss g (finding.Calls d callee) runs = runs ≡ r.NoBound
 AreRuns ss g finding.Refused runs = runs ≡ r.NotAnalysed
 
--- what is found can be told
-abbrev pub AllCanBeTold : Prog → List Findings → Type 0
-AllCanBeTold P all = (f : ℕ) (g : Function) (x : Findings) → slice_get P f ≡ Some g → slice_get all f ≡ Some x → CanBeTold (types_of g) x.ticks
-
-abbrev pub IsBoundedAt : Option Findings → Type 0
-IsBoundedAt (Some x) = IsBounded x.ticks
-IsBoundedAt None = ⊥
-
--- Of a program: what analyses find up to the first degree at which the ticks of a function have a bound, and up to the greatest where they
--- have none.
-pub record FindsTicks (P : Prog) (f most : ℕ) (found : LeastBounds) : Type 0 where
-  pub degree : ℕ
-  pub fits : degree ≤ most
-  pub finds : FindsUpTo P degree found
-  pub enough : (degree ≡ most) ⊎ IsBoundedAt (slice_get found.functions.items f)
-
--- of a function that is there, and of which something is found
-abbrev pub AreRunsOf : Option (List Sizes) → Option Function → Option Findings → Runs → Type 0
-AreRunsOf ss (Some g) (Some x) runs = AreRuns ss g x.ticks runs
-AreRunsOf ss _ _ runs = runs ≡ r.NotAnalysed
+-- What analyses up to a degree find of the ticks of a function, as they are made for the normal form of its program: the bound of the least
+-- degree at which there is one.
+pub record FindsTicks (P : Prog) (f most : ℕ) (finding : Finding) : Type 0 where
+  pub groups : Grouping
+  pub grouping : IsGrouping P groups
+  pub is : IsFinding P (normal_of P groups.list) most f Ticks finding
 
 -- what is found of the ticks of the function at a place
 abbrev pub AreFound : Prog → ℕ → Option (List Sizes) → Option ℕ → Runs → Type 0
 AreFound P most ss None runs = runs ≡ r.NotAnalysed
 AreFound P most ss (Some f) runs =
-    (found : LeastBounds) × FindsTicks P f most found × AreRunsOf ss (slice_get P f) (slice_get found.functions.items f) runs
+    (g : Function) × (finding : Finding) × (slice_get P f ≡ Some g) × FindsTicks P f most finding × AreRuns ss g finding runs
 
 -- `raml` refuses the text, at some byte, or it is longer than a source may be
 abbrev pub IsNoSource : Text → Type 0

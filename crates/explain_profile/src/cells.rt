@@ -1,7 +1,8 @@
 // The cells of the row of a line.
-ghost use Rattle.std.specs.Prelude.{◌≡◌, [], ◌∷◌, ◌++◌, IfOk, IsTrue, OnOk, decimal, codes, string_bytes};
+ghost use Rattle.std.specs.Prelude.{◌≡◌, [], ◌∷◌, ◌++◌, IfOk, IsTrue, false, OnOk, decimal, codes, string_bytes};
 ghost use Rattle.explain_at.specs.Read.{texts};
 ghost use Rattle.explain_regions.specs.Read.{plain_line};
+ghost use Rattle.explain_profile.specs.Read.{text_in};
 ghost use Rattle.explain_profile.specs.Rows as r;
 ghost use Rattle.explain_profile.specs.declared.runs.Runs.TheVariants as v;
 
@@ -23,7 +24,8 @@ impl Runs {
 
     /// Whether no analysis could be made.
     pub(crate) fn are_unknown(&self) -> bool
-        ensures { IsTrue result → self.now ≡ v.NotAnalysed }
+        ensures unknown { IsTrue result → self.now ≡ v.NotAnalysed }
+        ensures analysed { result ≡ false → r.IsAnalysed self.now }
     {
         matches!(self, Runs::NotAnalysed)
     }
@@ -126,19 +128,37 @@ pub(crate) fn cells(
     Ok(cells)
 }
 
-/// The cells above those of lines.
-pub(crate) fn heading(alloc: Global, sized: Option<&str>) -> Result<Vec<String>, AllocError> {
+/// Adds what stands above the costs of one run.
+fn push_meters(alloc: Global, cells: &mut Vec<String>) -> Result<(), AllocError>
+    ensures { OnOk result (texts cells.new.items
+        ≡ texts cells.old.items ++ (codes "ticks" ∷ codes "cells" ∷ codes "work" ∷ [])) }
+{
+    push_text(alloc, cells, "ticks")?;
+    push_text(alloc, cells, "cells")?;
+    push_text(alloc, cells, "work")
+}
+
+/// Adds what stands above numbers at sizes that words give.
+fn push_sizes(alloc: Global, cells: &mut Vec<String>, words: &str) -> Result<(), AllocError>
+    ensures { OnOk result (texts cells.new.items
+        ≡ texts cells.old.items
+        ++ ((codes "at " ++ words.now) ∷ codes "ticks" ∷ codes "cells" ∷ codes "work" ∷ codes "work in all" ∷ [])) }
+{
+    cells.push(format!(in alloc; "at {words}")?)?;
+    push_meters(alloc, cells)?;
+    push_text(alloc, cells, "work in all")
+}
+
+/// The cells above those of lines, where words give sizes.
+pub(crate) fn heading(alloc: Global, words: Option<&str>) -> Result<Vec<String>, AllocError>
+    ensures { IfOk result (λ cells. texts cells.items ≡ r.heading (text_in words.entry)) }
+{
     let mut cells = Vec::with_capacity(alloc, 7)?;
     push_text(alloc, &mut cells, "line")?;
     push_text(alloc, &mut cells, "runs at most")?;
-    if let Some(sizes) = sized {
-        cells.push(format!(in alloc; "at {sizes}")?)?;
-    }
-    push_text(alloc, &mut cells, "ticks")?;
-    push_text(alloc, &mut cells, "cells")?;
-    push_text(alloc, &mut cells, "work")?;
-    if sized.is_some() {
-        push_text(alloc, &mut cells, "work in all")?;
+    match words {
+        Some(words) => push_sizes(alloc, &mut cells, words)?,
+        None => push_meters(alloc, &mut cells)?,
     }
     Ok(cells)
 }

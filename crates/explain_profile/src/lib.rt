@@ -9,6 +9,7 @@ mod reach;
 mod rows;
 mod runs;
 mod table;
+mod ticks;
 
 pub use profile::push_profile;
 pub use runs::Case;

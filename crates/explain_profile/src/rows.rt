@@ -62,7 +62,6 @@ fn runs_for(
     region: Pos,
     rows: &[Row],
 ) -> Result<Rc<Runs>, AllocError>
-    requires least { 1 ≤ case.most }
     requires most { case.most ≤ 4 }
     requires lexed { IsLexed case.source.now }
     requires counted { All (IsCounted (case_of case)) rows.now }
@@ -76,7 +75,6 @@ fn runs_for(
 
 /// The rows of lines. Each region is counted once.
 pub(crate) fn rows_of(alloc: Global, case: Case<'_>, lines: &[Line]) -> Result<Vec<Row>, AllocError>
-    requires least { 1 ≤ case.most }
     requires most { case.most ≤ 4 }
     requires lexed { IsLexed case.source.now }
     ensures lines { IfOk result (λ rows. all_lines rows.items ≡ plain_lines lines.now) }

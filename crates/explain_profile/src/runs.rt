@@ -1,5 +1,5 @@
 // How often a region is run at most.
-ghost use Rattle.std.specs.Prelude.{◌≡◌, ◌≤◌, ◌<◌, ◌^◌, length, slice_get, All, IfOk, IsTrue, string_bytes};
+ghost use Rattle.std.specs.Prelude.{◌≡◌, ◌≤◌, ◌<◌, length, slice_get, Some, All, IfOk};
 ghost use Rattle.raml_syntax.specs.Types.{types_of};
 ghost use Rattle.raml_syntax.specs.Place.{place_of};
 ghost use Rattle.raml_syntax.specs.Read.{program_of, function_of};
@@ -9,20 +9,20 @@ ghost use Rattle.poly_point.specs.Point.{AreLow};
 ghost use Rattle.explain_bounds.specs.Written.{CanBeTold};
 ghost use Rattle.explain_regions.specs.Counter.{IsLexed};
 ghost use Rattle.explain_profile.specs.Runs as r;
-ghost use Rattle.explain_profile.specs.Runs.{AreFound, AreRuns, AreRunsAt, AreRunsIn, AreRunsOf, FindsTicks, IsAt, IsAtMost, IsBoundedAt};
-ghost use Rattle.explain_profile.specs.Read.{case_of, function_in, lent, sizes_in, SpellsIt};
+ghost use Rattle.explain_profile.specs.Runs.{AreFound, AreRuns, AreRunsAt, AreRunsIn, IsAt};
+ghost use Rattle.explain_profile.specs.Read.{case_of, sizes_in, SpellsIt};
 
+use crate::ticks::ticks_of;
 use base_poly::Poly;
-use explain_bounds::laws::findings_can_be_told;
 use explain_bounds::{parameter_names, parameter_types};
 use explain_check::{MOST_BYTES, typed_source};
-use explain_degrees::{Finding, Findings, LeastBounds};
+use explain_degrees::Finding;
 use explain_edits::edited;
 use explain_reading::read_bound;
 use explain_regions::counter_edits;
 use explain_sizes::{Size, value_at};
-use explain_trials::found_of;
-use raml_syntax::{Fun, FunId, Pos, Program};
+use raml_syntax::laws::functions_have_places;
+use raml_syntax::{Fun, FunId, Pos};
 use simple_types::Typed;
 use std::alloc::{AllocError, Global};
 
@@ -99,84 +99,35 @@ fn runs_for(
     }
 }
 
-/// Whether the ticks of a function have a bound.
-fn has_bound(found: &LeastBounds, fun: FunId) -> bool
-    ensures { IsTrue result → IsBoundedAt (slice_get found.now.functions.items fun.0) }
-{
-    match found.functions.get(fun.0 as usize) {
-        Some(findings) => findings.ticks.is_bound(),
-        None => false,
-    }
-}
-
-/// What analyses find from a degree on, up to the first at which the ticks of a function have a bound.
-fn found_from(
-    alloc: Global,
-    typed: &Typed,
-    fun: FunId,
-    degree: u8,
-    most: u8,
-) -> Result<LeastBounds, AllocError>
-    requires degree { degree ≤ most }
-    requires most { most ≤ 4 }
-    ensures { IfOk result (FindsTicks (program_of typed.now) fun.0 most) }
-{
-    let found = found_of(alloc, typed, degree)?;
-    if degree == most || has_bound(&found, fun) {
-        Ok(found)
-    } else {
-        found_from(alloc, typed, fun, degree + 1, most)
-    }
-}
-
 /// The function at a place.
-fn fun_at(program: &Program, fun: FunId) -> Option<&Fun>
-    ensures { function_in result ≡ slice_get (program_of program.now) fun.0 }
+fn fun_at(typed: &Typed, fun: FunId) -> &Fun
+    requires { fun.0 < length (program_of typed.now) }
+    ensures { slice_get (program_of typed.now) fun.0 ≡ Some (function_of result.now) }
 {
-    program.funs.get(fun.0 as usize)
+    &typed.program().funs[fun.0 as usize]
 }
 
-/// What was found of it.
-fn findings_at(found: &[Findings], fun: FunId) -> Option<&Findings>
-    ensures { lent result ≡ slice_get found.now fun.0 }
+/// What analyses find of the ticks of the function at a place.
+fn runs_at(alloc: Global, case: Case<'_>, typed: &Typed, fun: FunId) -> Result<Runs, AllocError>
+    requires most { case.most ≤ 4 }
+    requires fun { fun.0 < length (program_of typed.now) }
+    ensures { IfOk result (AreFound (program_of typed.now) case.entry.most (sizes_in case.entry.sizes) (Some fun.0)) }
 {
-    found.get(fun.0 as usize)
-}
-
-/// What was found of the ticks of the function at a place.
-fn runs_at(
-    alloc: Global,
-    program: &Program,
-    found: &[Findings],
-    fun: FunId,
-    sizes: Option<&[Size]>,
-) -> Result<Runs, AllocError>
-    requires { r.AllCanBeTold (program_of program.now) found.now }
-    ensures { IfOk result (AreRunsOf (sizes_in sizes.entry) (slice_get (program_of program.now) fun.0) (slice_get found.now fun.0)) }
-{
-    match fun_at(program, fun) {
-        Some(function) => match findings_at(found, fun) {
-            Some(findings) => runs_for(alloc, function, &findings.ticks, sizes),
-            None => Ok(Runs::NotAnalysed),
-        },
-        None => Ok(Runs::NotAnalysed),
-    }
+    let function = fun_at(typed, fun);
+    let found = ticks_of(alloc, typed, fun, case.most)?;
+    runs_for(alloc, function, &found, case.sizes)
 }
 
 /// What analyses find of the ticks of the function of a program.
 fn runs_in(alloc: Global, case: Case<'_>, typed: &Typed) -> Result<Runs, AllocError>
-    requires least { 1 ≤ case.most }
-    requires most { case.most ≤ 4 }
+    requires { case.most ≤ 4 }
     ensures { IfOk result (AreFound (program_of typed.now) case.entry.most (sizes_in case.entry.sizes)
         (place_of case.entry.name.now (program_of typed.now))) }
 {
+    functions_have_places();
     let program = typed.program();
     match program.find(case.name) {
-        Some(fun) => {
-            let found = found_from(alloc, typed, fun, 1, case.most)?;
-            findings_can_be_told();
-            runs_at(alloc, program, &found.functions, fun, case.sizes)
-        }
+        Some(fun) => runs_at(alloc, case, typed, fun),
         None => Ok(Runs::NotAnalysed),
     }
 }
@@ -194,7 +145,6 @@ fn program_in(alloc: Global, text: &[u8]) -> Result<Option<Typed>, AllocError>
 
 /// How often a region is run at most, by the source with a counter in it.
 fn runs_by(alloc: Global, case: Case<'_>, changed: &[u8]) -> Result<Runs, AllocError>
-    requires least { 1 ≤ case.most }
     requires most { case.most ≤ 4 }
     ensures { IfOk result (AreRunsIn (case_of case.entry) changed.now) }
 {
@@ -206,7 +156,6 @@ fn runs_by(alloc: Global, case: Case<'_>, changed: &[u8]) -> Result<Runs, AllocE
 
 /// How often the region that begins there is run at most.
 pub(crate) fn runs_of_region(alloc: Global, case: Case<'_>, region: Pos) -> Result<Runs, AllocError>
-    requires least { 1 ≤ case.most }
     requires most { case.most ≤ 4 }
     requires lexed { IsLexed case.source.now }
     ensures { IfOk result (AreRunsAt (case_of case.entry) region.0) }

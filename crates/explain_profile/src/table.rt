@@ -7,7 +7,7 @@ ghost use Rattle.explain_algebra.specs.Algebra as a;
 ghost use Rattle.explain_at.specs.Read.{texts};
 ghost use Rattle.explain_profile.specs.Rows as r;
 ghost use Rattle.explain_profile.specs.Rows.{AreLaidOut, AreShown, IsTable, line_with, meaning, row_cells};
-ghost use Rattle.explain_profile.specs.Read.{case_of};
+ghost use Rattle.explain_profile.specs.Read.{case_of, text_in};
 
 use crate::cells::{cells, heading};
 use crate::columns::{Columns, push_cells};
@@ -109,19 +109,19 @@ fn push_meaning(alloc: Global, text: &mut String, fun: &Fun) -> Result<(), Alloc
     push_line(text, &meaning)
 }
 
-/// Appends the table of rows: what stands above them, the rows, and what the names of sizes mean.
+/// Appends the table of rows: what stands above them, where words give sizes; the rows; and what the names of sizes mean.
 pub(crate) fn push_table(
     alloc: Global,
     text: &mut String,
     case: Case<'_>,
     fun: &Fun,
-    sizes: Option<&str>,
+    words: Option<&str>,
     rows: &[Row],
 ) -> Result<(), AllocError>
-    ensures { OnOk result ((part : Text) × IsTable (case_of case.entry) (function_of fun.now) rows.now part
+    ensures { OnOk result ((part : Text) × IsTable (case_of case.entry) (text_in words.entry) (function_of fun.now) rows.now part
         × (string_bytes text.new ≡ string_bytes text.old ++ part)) }
 {
-    let heading = heading(alloc, sizes)?;
+    let heading = heading(alloc, words)?;
     let columns = columns_for(alloc, case, rows, &heading)?;
     push_cells(text, &columns, 0, &heading, &[])?;
     push_rows(alloc, text, case, &columns, rows)?;

@@ -36,7 +36,7 @@ not_counted = codes "explain: no line can be counted, since a limit refuses the 
 
 -- how often lines are run, at sizes that are given; or none of them can be counted
 abbrev pub EndsBy : Callee → Option (List Sizes) → End → Text → Text → Type 0
-EndsBy c ss e.Told text report = IsProfile (case_for c ss) c.program c.place c.function text × (report ≡ [])
+EndsBy c ss e.Told text report = IsProfile (case_for c ss) (lent c.words.at) c.program c.place c.function text × (report ≡ [])
 EndsBy c ss e.NotAnalysed text report = CannotBeCounted (case_for c ss) c.program c.place × (text ≡ []) × (report ≡ not_counted)
 EndsBy c ss e.Refused text report = ⊥
 

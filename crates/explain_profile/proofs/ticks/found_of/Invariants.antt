@@ -1,0 +1,13 @@
+use Rattle.std.proofs.Common.{◌≤◌, ◌-◌}
+use Rattle.cost_free.specs.declared.task.Meter.TheVariants.{Ticks}
+use Rattle.share_normal.specs.Program.{source_in}
+use Rattle.rules_plan.specs.Read.{program_in}
+use Rattle.explain_degrees.specs.Degrees.{IsFinding}
+use Rattle.explain_profile.proofs.ticks.found_of.Given as goal
+
+abbrev pub decreases-loop-degree : goal.decreases-loop-degree
+decreases-loop-degree l = l.most - l.degree
+
+abbrev pub invariant-loop-degree : goal.invariant-loop-degree
+invariant-loop-degree l =
+    (l.degree ≤ l.most) × IsFinding (source_in l.program) (program_in l.program) l.degree l.fun.0 Ticks l.found
