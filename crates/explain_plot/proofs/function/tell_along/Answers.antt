@@ -1,5 +1,5 @@
 use Rattle.std.proofs.Common.{◌∙◌, List, Some, refl, sym, ap, subst, inl, inr, string_bytes}
-use Rattle.std.lemmas.Option.{slice_get_within}
+use Rattle.std.proofs.lemmas.Option.{slice_get_within}
 use Rattle.raml_syntax.specs.Read.{program_of, function_of}
 use Rattle.raml_syntax.specs.declared.program.Param.{Param}
 use Rattle.explain_calls.specs.Sizes.{meter_of}
