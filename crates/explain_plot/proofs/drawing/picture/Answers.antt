@@ -12,7 +12,7 @@ lead-requires c =
     let P = program_of c.args.typed.now in
     let k = c.args.asked.fun.0 in
     let is = some_at P k c.requires.fun in
-    let read = read_at c.program.result.now P k c.index.result.now is.0 (ap program_of c.program.ensures.program) c.index.ensures is.1 in
+    let read = read_at c.program-program.result.now P k c.index-function.result.now is.0 (ap program_of c.program-program.ensures.program) c.index-function.ensures is.1 in
     rw read (c.requires.findings is.0 is.1)
 
 pub returns : goal.returns
