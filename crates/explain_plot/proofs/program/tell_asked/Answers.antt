@@ -1,4 +1,4 @@
-use Rattle.std.proofs.Common.{◌≡◌, ◌∙◌, Some, ap, sym, subst}
+use Rattle.std.proofs.Common.{◌≡◌, ◌∙◌, Some, ap, sym, subst, string_bytes}
 use Rattle.std.specs.Prelude.{slice_get}
 use Rattle.raml_syntax.specs.Read.{program_of}
 use Rattle.raml_syntax.specs.declared.program.Program.{Program}
@@ -40,4 +40,5 @@ returns c =
     let f = c.args.asked.fun.0 in
     let there = findings_there kept c.args.typed.now made.source made.groups made.normal c.args.asked.most found c.in_ok-functions.ensures f c.index-findings.result.now c.requires.fun c.index-findings.ensures in
     of_degree kept c.args.typed.now made.source made.groups made.normal c.args.asked.most found c.in_ok-functions.ensures f c.args.asked.meter (origin_of c.args.runs.now) c.index-findings.result.now
-    c.degree_of-degree.result _ _ _ _ _ c.tell_degree.result there (c.degree_of-degree.ensures ∙ ap degree_of c.of.ensures) c.in_ok-push_notes.ensures c.tell_degree.ensures
+    c.degree_of-degree.result (string_bytes c.args.text.now) (string_bytes c.tell_degree.new.text) (string_bytes c.args.report.now) (string_bytes c.push_notes.new.report)
+    (string_bytes c.tell_degree.new.report) c.tell_degree.result there (c.degree_of-degree.ensures ∙ ap degree_of c.of.ensures) c.in_ok-push_notes.ensures c.tell_degree.ensures
