@@ -1,4 +1,3 @@
-use Rattle.std.proofs.Common.{string_bytes}
 use Rattle.explain_check.specs.Stores.{store_of}
 use Rattle.explain_words.specs.Commands.{texts}
 use Rattle.explain_plot.proofs.Held.{all_read, one_lacks}
