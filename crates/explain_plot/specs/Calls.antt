@@ -102,7 +102,8 @@ pub record IsDrawn (P : Prog) (f most : ℕ) (meter : Meter) (origin : Origin) (
   pub there : slice_get analysed.found.functions.items f ≡ Some findings
   pub part : Text
   pub ends :
-    EndsAt told.end P (normal_of P analysed.groups.list) f (degree_of (finding_of findings meter)) meter origin told.picture told.text part
+      EndsAt told.end P (normal_of P analysed.groups.list) f (degree_of (finding_of findings meter)) meter origin
+      told.picture told.text part
   pub report : told.report ≡ notes (names_for P analysed.groups) analysed.found.refused.items ++ part
 
 -- the function is not there

@@ -1,5 +1,5 @@
 // Sizes in words.
-ghost use Rattle.std.specs.Prelude.{◌≡◌, ◌≤◌, ◌+◌, IfOk, IfSome, option_map};
+ghost use Rattle.std.specs.Prelude.{◌≡◌, ◌≤◌, ◌+◌, IfOk, IfSome};
 ghost use Rattle.explain_plot.specs.Sizes.{sizes_in, sizes_on, longer, with_size, after, all_in};
 
 use std::alloc::{AllocError, Global};

@@ -11,6 +11,9 @@ returns-in-Fits t c =
 
 pub returns-in-Refused : goal.returns-in-Refused
 returns-in-Refused t c =
-    let told = c.in_ok-check_data-in-len1-up.ensures in
-    (told.0, unfit_first (map ty_of c.args.types.now) c.args.files.now c.first-item.result c.in-len1-up.len_at_least c.first-item.is c.in_ok-check_data-in-len1-up.field-0 c.deref.result.now told.0
-    c.in-Refused.is c.deref.ensures.value told.1, told.2)
+    let told = c.in_ok-check_data-in-len1-up.ensures in (
+      told.0,
+      unfit_first (map ty_of c.args.types.now) c.args.files.now c.first-item.result c.in-len1-up.len_at_least c.first-item.is c.in_ok-check_data-in-len1-up.field-0 c.deref.result.now told.0
+          c.in-Refused.is c.deref.ensures.value told.1,
+      told.2,
+    )

@@ -1,9 +1,9 @@
-use Rattle.std.proofs.Common.{◌∙◌, List, Some, refl, sym, ap, subst, inl, inr, string_bytes}
-use Rattle.std.lemmas.Option.{slice_get_within}
+use Rattle.std.proofs.Common.{◌∙◌, List, Some, refl, sym, ap, inl, inr, string_bytes}
+use Rattle.std.proofs.lemmas.Option.{slice_get_within}
 use Rattle.raml_syntax.specs.Read.{program_of, function_of}
 use Rattle.raml_syntax.specs.declared.program.Param.{Param}
 use Rattle.explain_calls.specs.Sizes.{meter_of}
-use Rattle.explain_marks.specs.Marks.{OfSizes, origin_of}
+use Rattle.explain_marks.specs.Marks.{origin_of}
 use Rattle.explain_words.specs.Spelled.{lent}
 use Rattle.explain_plot.specs.Along.{no_parameter, parameters_of, sized}
 use Rattle.explain_plot.specs.Calls.{AreMadeDrawn, ParameterBy}

@@ -18,13 +18,13 @@ all_fit-requires-clause-types c =
 pub tell_runs-requires-clause-fun : goal.tell_runs-requires-clause-fun
 tell_runs-requires-clause-fun c = slice_get_within (program_of c.args.source.now.typed) c.args.fun.0 (function_of c.args.function.now) c.requires.there
 
-pub returns-then-not-all_fit : goal.returns-then-not-all_fit
-returns-then-not-all_fit c =
+pub returns-then-not-branch : goal.returns-then-not-branch
+returns-then-not-branch c =
     let told = c.in_ok-all_fit.ensures in
     let g = function_of c.args.function.now in
     let files = c.args.files.now in
     let types = ap (map ty_of) c.deref.ensures.value ∙ c.in_ok-types.ensures in
-    let unfit = one_unfit (types_of g) files c.in_ok-all_fit.field-0 told.0 c.if-not-all_fit.true (rw types at told.1) in
+    let unfit = one_unfit (types_of g) files c.in_ok-all_fit.field-0 told.0 c.if-not-branch.true (rw types at told.1) in
     tells_refused (AreFilesDrawn (program_of c.args.source.now.typed) c.args.fun.0 c.args.words.now files c.args.place) c.refused.result (string_bytes c.args.text.now)
     (string_bytes c.args.report.now) (string_bytes c.all_fit.new.report) told.0 c.refused.ensures (λ outcome is. inl (g, c.requires.there, told.0, unfit, is)) told.2
 
@@ -37,7 +37,7 @@ returns c =
     let g = function_of c.args.function.now in
     let files = c.args.files.now in
     let types = ap (map ty_of) c.deref.ensures.value ∙ c.in_ok-types.ensures in
-    let fit = all_fitting (types_of g) files c.in_ok-all_fit.field-0 told.0 c.if-not-all_fit.false (rw types at told.1) in
+    let fit = all_fitting (types_of g) files c.in_ok-all_fit.field-0 told.0 c.if-not-branch.false (rw types at told.1) in
     let report = string_bytes c.args.report.now in
     let same = told.2 ∙ ap (λ part. report ++ part) fit.1 ∙ append-nil report in
     tells_more (IsDrawn P f words.degree (meter_of words.meter) (OfFiles c.args.place files)) (AreFilesDrawn P f words files c.args.place) (string_bytes c.args.text.now)

@@ -1,18 +1,20 @@
-use Rattle.std.proofs.Common.{string_bytes}
+use Rattle.std.proofs.Common.{arith, string_bytes}
 use Rattle.raml_syntax.specs.Read.{program_of}
 use Rattle.explain_plot.proofs.Calling.{found_among, function_there, of_arguments}
 use Rattle.explain_plot.proofs.function.tell_function.Goals as goal
 
-pub index-requires : goal.index-requires
-index-requires c = found_among c.args.source.now.typed c.program.result.now c.args.words.now.name.now c.args.fun.0 c.program.ensures.program c.requires.there
+pub index-function-requires : goal.index-function-requires
+index-function-requires c =
+    let below = found_among c.args.source.now.typed c.program.result.now c.args.words.now.name.now c.args.fun.0 c.program.ensures.program c.requires.there in
+    omega (arith, below, c.program.result.now.funs.ok.0)
 
 pub tell_made-requires-clause-there : goal.tell_made-requires-clause-there
 tell_made-requires-clause-there c =
-    function_there c.args.source.now.typed c.program.result.now c.args.words.now.name.now c.args.fun.0 c.index.result.now c.program.ensures.program c.requires.there c.index.ensures
+    function_there c.args.source.now.typed c.program.result.now c.args.words.now.name.now c.args.fun.0 c.index-function.result.now c.program.ensures.program c.requires.there c.index-function.ensures
 
 pub tell_given-requires-clause-there : goal.tell_given-requires-clause-there
 tell_given-requires-clause-there c =
-    function_there c.args.source.now.typed c.program.result.now c.args.words.now.name.now c.args.fun.0 c.index.result.now c.program.ensures.program c.requires.there c.index.ensures
+    function_there c.args.source.now.typed c.program.result.now c.args.words.now.name.now c.args.fun.0 c.index-function.result.now c.program.ensures.program c.requires.there c.index-function.ensures
 
 pub returns-in-Made : goal.returns-in-Made
 returns-in-Made c =
