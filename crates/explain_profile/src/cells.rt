@@ -27,7 +27,11 @@ impl Runs {
         ensures unknown { IsTrue result → self.now ≡ v.NotAnalysed }
         ensures analysed { result ≡ false → r.IsAnalysed self.now }
     {
-        matches!(self, Runs::NotAnalysed)
+        match self {
+            Runs::AtMost { .. } => false,
+            Runs::NoBound => false,
+            Runs::NotAnalysed => true,
+        }
     }
 
     /// How many there are at the sizes that are given, where that is known.
