@@ -1,5 +1,5 @@
 -- What the analysis of one more degree adds to what was found of the ticks of a function.
-use Rattle.std.proofs.Common.{◌≡◌, ◌≤◌, ◌<◌, ◌-◌, ◌∙◌, ◌⊎◌, inl, inr, ap, refl, ℕ, sym, subst, List, slice_get, Some, All, Bool, true, false, length, arith}
+use Rattle.std.proofs.Common.{◌≡◌, ◌≤◌, ◌<◌, ◌-◌, ◌∙◌, ◌⊎◌, inl, inr, ap, refl, ℕ, sym, subst, List, slice_get, Some, Bool, true, false, arith}
 use Rattle.std.specs.List.{Contains}
 use Rattle.std.proofs.lemmas.Bool.Decides.{nat_tests}
 use Rattle.std.proofs.lemmas.Option.{same_Some}
@@ -9,7 +9,6 @@ use Rattle.base_poly.specs.Indices.{AreIndices}
 use Rattle.base_poly.specs.Plain.{degrees}
 use Rattle.base_poly.specs.Poly.{Term, den_of, terms_of}
 use Rattle.cost_free.specs.Schedule.{meters}
-use Rattle.cost_free.specs.declared.task.Meter.{Meter}
 use Rattle.cost_free.specs.declared.task.Meter.TheVariants.{Ticks}
 use Rattle.annot_types.specs.Certificate.{Certificate}
 use Rattle.annot_types.specs.Held.{Bound}

@@ -1,10 +1,10 @@
 -- A walk through what a function reaches by calls.
-use Rattle.std.proofs.Common.{◌≡◌, ◌≢◌, ◌<◌, ◌≤◌, ◌+◌, ◌∙◌, ◌↔◌, ℕ, zero, suc, nat_eq, List, [], ◌∷◌, ◌++◌, map, take, length, ◌-◌, slice_index_or, Bool, true, false, cond, ◌||◌, ◌&&◌, ◌⊎◌, inl, inr, ⊎_elim, refl, ap, sym, subst, slice_get, Some, None, arith}
+use Rattle.std.proofs.Common.{◌≡◌, ◌<◌, ◌≤◌, ◌+◌, ◌∙◌, ◌↔◌, ℕ, zero, suc, nat_eq, List, [], ◌∷◌, ◌++◌, map, take, length, ◌-◌, slice_index_or, Bool, true, false, cond, ◌||◌, ◌&&◌, ◌⊎◌, inl, inr, ⊎_elim, refl, ap, sym, subst, slice_get, arith}
 use Rattle.std.proofs.lemmas.Bool.{eqb-true, eqb-false, ne_eqb, or_left, or_right, or_cases, and_from, and_parts}
 use Rattle.std.proofs.lemmas.List.{append_assoc, append-nil, length-append, length-map, get_or-map, take_more, take_all, take-append-le}
 use Rattle.std.specs.List.{filter, range_with_len}
 use Rattle.raml_syntax.specs.Tree.{Function, Prog}
-use Rattle.call_groups.specs.Calls.{calls, calls_from, calls_of, callees, is_called}
+use Rattle.call_groups.specs.Calls.{calls, calls_from, callees, is_called}
 use Rattle.call_groups.specs.Groups.{Reaches, here, there, Grouping, IsGrouping}
 use Rattle.raml_syntax.specs.declared.program.FunId.{FunId}
 use Rattle.call_groups.specs.Read.{ids_of}

@@ -1,5 +1,5 @@
 -- The lines of a function and of those that it reaches by calls.
-use Rattle.std.specs.Prelude.{◌≡◌, ◌↔◌, ℕ, zero, suc, List, [], ◌∷◌, ◌++◌, Bool, true, cond}
+use Rattle.std.specs.Prelude.{◌≡◌, ◌↔◌, ℕ, suc, List, [], ◌∷◌, ◌++◌, Bool, true, cond}
 use Rattle.raml_syntax.specs.Tree.{Text, Function, Prog}
 use Rattle.call_groups.specs.Groups.{Reaches}
 use Rattle.explain_rounds.specs.Calls.{is_in}

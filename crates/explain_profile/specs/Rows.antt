@@ -2,7 +2,7 @@
 use Rattle.std.specs.Prelude.{◌≡◌, ℕ, zero, suc, ◌*◌, ◌-◌, ◌^◌, nat_le, Bool, true, false, cond, Option, Some, None, is_some}
 use Rattle.std.specs.Prelude.{List, [], ◌∷◌, ◌++◌, map}
 use Rattle.std.specs.Prelude.{IsPermutation, codes, decimal, string_bytes}
-use Rattle.std.specs.List.{All, Contains}
+use Rattle.std.specs.List.{Contains}
 use Rattle.std.specs.List.Sorted.{IsNonDecreasingBy}
 use Rattle.std.specs.Rc.{rc_value}
 use Rattle.raml_syntax.specs.Tree.{Text, Type', Function}

@@ -49,16 +49,16 @@ AreRuns ss g finding.Refused runs = runs ≡ r.NotAnalysed
 
 -- What analyses up to a degree find of the ticks of a function, as they are made for the normal form of its program: the bound of the least
 -- degree at which there is one.
-pub record FindsTicks (P : Prog) (f most : ℕ) (finding : Finding) : Type 0 where
+pub record FindsTicks (P : Prog) (f most : ℕ) (found : Finding) : Type 0 where
   pub groups : Grouping
   pub grouping : IsGrouping P groups
-  pub is : IsFinding P (normal_of P groups.list) most f Ticks finding
+  pub is : IsFinding P (normal_of P groups.list) most f Ticks found
 
 -- what is found of the ticks of the function at a place
 abbrev pub AreFound : Prog → ℕ → Option (List Sizes) → Option ℕ → Runs → Type 0
 AreFound P most ss None runs = runs ≡ r.NotAnalysed
 AreFound P most ss (Some f) runs =
-    (g : Function) × (finding : Finding) × (slice_get P f ≡ Some g) × FindsTicks P f most finding × AreRuns ss g finding runs
+    (g : Function) × (found : Finding) × (slice_get P f ≡ Some g) × FindsTicks P f most found × AreRuns ss g found runs
 
 -- `raml` refuses the text, at some byte, or it is longer than a source may be
 abbrev pub IsNoSource : Text → Type 0

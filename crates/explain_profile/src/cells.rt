@@ -1,5 +1,5 @@
 // The cells of the row of a line.
-ghost use Rattle.std.specs.Prelude.{◌≡◌, [], ◌∷◌, ◌++◌, IfOk, IsTrue, false, OnOk, decimal, codes, string_bytes};
+ghost use Rattle.std.specs.Prelude.{◌≡◌, [], ◌∷◌, ◌++◌, IfOk, IsTrue, false, OnOk, decimal, codes};
 ghost use Rattle.explain_at.specs.Read.{texts};
 ghost use Rattle.explain_regions.specs.Read.{plain_line};
 ghost use Rattle.explain_profile.specs.Read.{text_in};
@@ -27,7 +27,11 @@ impl Runs {
         ensures unknown { IsTrue result → self.now ≡ v.NotAnalysed }
         ensures analysed { result ≡ false → r.IsAnalysed self.now }
     {
-        matches!(self, Runs::NotAnalysed)
+        match self {
+            Runs::AtMost { .. } => false,
+            Runs::NoBound => false,
+            Runs::NotAnalysed => true,
+        }
     }
 
     /// How many there are at the sizes that are given, where that is known.

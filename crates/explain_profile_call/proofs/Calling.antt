@@ -1,7 +1,7 @@
 -- What is told of a source that is read, of its program, and of a function.
-use Rattle.std.proofs.Common.{◌≡◌, ◌≤◌, ◌++◌, [], ◌∷◌, ℕ, zero, suc, Option, List, Some, None, Result, Ok, Err, IfOk, length, ap, refl, sym, subst, ◌∙◌, inl, inr, slice_get, arith}
+use Rattle.std.proofs.Common.{◌≡◌, ◌≤◌, ◌++◌, [], ◌∷◌, ℕ, zero, suc, List, Some, None, Result, Ok, Err, IfOk, length, ap, refl, sym, subst, ◌∙◌, inl, inr, slice_get, arith}
 use Rattle.std.proofs.lemmas.List.{append-nil}
-use Rattle.raml_syntax.specs.Tree.{Text, Function, Prog}
+use Rattle.raml_syntax.specs.Tree.{Text, Prog}
 use Rattle.raml_syntax.specs.Place.{place_of}
 use Rattle.raml_syntax.specs.Read.{program_of}
 use Rattle.explain_data.specs.Data.{no_function_line}
