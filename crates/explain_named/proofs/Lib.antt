@@ -1,6 +1,0 @@
-pub mod Runs
-pub mod Plain
-pub mod Surely
-pub mod Inside
-pub mod Keep
-pub mod Arguments

@@ -1,5 +1,0 @@
-pub mod Naming
-pub mod Named
-pub mod Read
-pub mod Laws
-pub mod Example

@@ -1,7 +1,0 @@
-use Rattle.std.proofs.Common.{◌≡◌, drop}
-use Rattle.explain_changes.specs.Sites.{is_chosen}
-use Rattle.explain_whole.specs.Read.{bytes_of}
-use Rattle.explain_whole.proofs.compare.built.has_place.Given as goal
-
-abbrev pub invariant-loop-place : goal.invariant-loop-place
-invariant-loop-place l = is_chosen (bytes_of (drop l.place-index l.chosen)) l.at.0 ≡ is_chosen (bytes_of l.chosen) l.at.0

@@ -1,6 +1,0 @@
-pub mod Whole
-pub mod Handed
-pub mod Edits
-pub mod Read
-pub mod Laws
-pub mod Example
