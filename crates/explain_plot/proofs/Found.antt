@@ -2,7 +2,7 @@
 use Rattle.std.proofs.Common.{◌≡◌, ◌≢◌, ◌≤◌, ◌<◌, ◌++◌, ◌∙◌, ℕ, zero, suc, max, List, length, [], ◌∷◌, map, Option, Some, None, Result, Ok, Err, IfOk, String, Global, string_bytes, refl, sym, ap, subst, arith}
 use Rattle.std.specs.List.{All}
 use Rattle.std.proofs.lemmas.List.{append_assoc, append-nil}
-use Rattle.std.proofs.lemmas.List.Elements.{All-cons, All-head, All-tail}
+use Rattle.std.proofs.lemmas.List.Elements.{All-nil, All-cons, All-head, All-tail}
 use Rattle.std.specs.Prelude.{slice_get, slice_index_or}
 use Rattle.raml_syntax.specs.Tree.{Text, Prog}
 use Rattle.raml_syntax.specs.Read.{program_of}
@@ -14,7 +14,7 @@ use Rattle.rules_plan.specs.Read.{program_in}
 use Rattle.rules_soundness_laws.specs.Laws.{normal_of}
 use Rattle.cost_free.specs.declared.task.Meter.{Meter}
 use Rattle.refusals.specs.Refusals.{names_in}
-use Rattle.explain_degrees.specs.Degrees.{AreLeast, IsFinding, analysis_at, finding_of}
+use Rattle.explain_degrees.specs.Degrees.{AreLeast, IsFinding, IsRefused, analysis_at, finding_of}
 use Rattle.explain_degrees.specs.declared.finding.Finding.{Finding}
 use Rattle.explain_degrees.specs.declared.finding.Finding.TheVariants as finding
 use Rattle.explain_degrees.specs.declared.finding.Findings.{Findings}
@@ -100,7 +100,7 @@ module _ (kept : Kept) (typed : Source) (source : kept.source ≡ typed) (groupi
 -- ---- runs that are drawn
 
 all_mapped : {X Y : Type 0} (f : X → Y) (Q : Y → Type 0) (xs : List X) → All (λ x. Q (f x)) xs → All Q (map f xs)
-all_mapped f Q [] all = all
+all_mapped f Q [] all = All-nil Q
 all_mapped f Q (x ∷ xs) all = All-cons Q (f x) (map f xs) (All-head (λ x. Q (f x)) x xs all) (all_mapped f Q xs (All-tail (λ x. Q (f x)) x xs all))
 
 pub pictured : {E : Type 0} (r : Result (String Global) E) (P : Prog) (N : Program) (c : Certificate) (f : ℕ) (meter : Meter) (origin : Origin) (xs : List Mark) (cut : Option Cut) (old_text new_text old new : Text) →
@@ -130,7 +130,7 @@ pub refused_at : {E : Type 0} (r : Result Told E) (fault : InferFault) (P : Prog
     IfOk r (λ told. told.end ≡ e.NotAnalysed) → IfOk r (λ told. told.picture ≡ None) → IfOk r (λ told. fault ≢ NoMemory) →
     IfOk r (λ told. (shown : Text) × (part : Text) × EndsAt told.end P N f d meter origin (text_in told.picture) shown part × (new_text ≡ old_text ++ shown) × (new ≡ old ++ part))
 refused_at (Ok told) fault P N f d meter origin old_text new_text old new cause same_text same ends none refused =
-    let is = (fault, record { refused = refused; cause = cause }) in
+    let is : IsRefused N d = (fault, record { refused = refused; cause = cause }) in
     let at : EndsAt e.NotAnalysed P N f d meter origin (text_in told.picture) [] [] = (is, ap text_in none, refl, refl) in
     ([], [], subst (λ end. EndsAt end P N f d meter origin (text_in told.picture) [] []) (sym ends) at, same_text ∙ sym (append-nil old_text), same ∙ sym (append-nil old))
 refused_at (Err e) fault P N f d meter origin old_text new_text old new cause same_text same ends none refused = tt

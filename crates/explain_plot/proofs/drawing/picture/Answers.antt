@@ -1,5 +1,8 @@
-use Rattle.std.proofs.Common.{List, IfOk, ap, option_map, subst, string_bytes, ◌≡◌, ◌++◌}
+use Rattle.std.proofs.Common.{List, IfOk, ap, option_map, subst, sym, string_bytes, ◌≡◌, ◌++◌}
+use Rattle.raml_syntax.specs.Tree.{Function}
+use Rattle.raml_syntax.specs.Types.{types_of}
 use Rattle.raml_syntax.specs.Read.{program_of}
+use Rattle.explain_bounds.specs.Written.{AllCanBeTold}
 use Rattle.simple_types.proofs.Placing.{read_at, some_at}
 use Rattle.rules_plan.specs.Read.{program_in}
 use Rattle.explain_chart.specs.Chart.{Draws}
@@ -17,7 +20,7 @@ lead-requires c =
     let k = c.args.asked.fun.0 in
     let is = some_at P k c.requires.fun in
     let read = read_at c.program-program.result.now P k c.index-function.result.now is.0 (ap program_of c.program-program.ensures.program) c.index-function.ensures is.1 in
-    rw read (c.requires.findings is.0 is.1)
+    subst (λ (g : Function). AllCanBeTold (types_of g) c.args.findings.now) (sym read) (c.requires.findings is.0 is.1)
 
 pub returns : goal.returns
 returns c =

@@ -15,7 +15,7 @@ returns-in_ok-picture-in-Ok c =
     let drawn = subst (λ (N : Program). Drawn (program_of c.args.typed.now) N certificate c.args.asked.fun.0 c.args.asked.meter (origin_of c.args.runs.now) svg made.0 made.1) (ap program_in c.in-Ok.ensures.program) made.2 in
     (made.0, made.1, record { certificate = certificate; inferred = c.in-Ok.ensures.course; svg = svg; is = refl; drawn = drawn }, made.3, made.4)
 
-pub returns : goal.returns
-returns c =
+pub returns-in-Err : goal.returns-in-Err
+returns-in-Err c =
     refused_at c.undrawn.result c.in-Err.fault (program_of c.args.typed.now) (program_in c.args.program.now) c.args.asked.fun.0 c.args.degree c.args.asked.meter (origin_of c.args.runs.now) _ _ _ _
     c.in-Err.ensures.fault refl refl c.undrawn.ensures.told c.undrawn.ensures.none c.undrawn.ensures.refused
