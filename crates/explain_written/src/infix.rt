@@ -89,5 +89,6 @@ pub fn arith(op: ArithOp) -> Infix {
         ArithOp::Mul => product(" * "),
         ArithOp::Div => product(" div "),
         ArithOp::Mod => product(" mod "),
+        ArithOp::Lesser => product(" lesser "),
     }
 }

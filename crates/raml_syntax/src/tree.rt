@@ -21,6 +21,7 @@ pub enum ArithOp {
     Mul,
     Div,
     Mod,
+    Lesser,
 }
 
 /// A comparison of integers.

@@ -10,6 +10,7 @@ fn arith_word(op: ArithOp) -> &'static str {
         ArithOp::Mul => "*",
         ArithOp::Div => "div",
         ArithOp::Mod => "mod",
+        ArithOp::Lesser => "lesser",
     }
 }
 
