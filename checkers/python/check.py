@@ -47,8 +47,7 @@ def need(holds: object, reason: str) -> None:
         raise Fault(4, f"source: {reason}")
 
 
-KEYWORDS = "fun let in if then else match with nil leaf node true false not tick div mod lesser".split()
-KEYWORDS += ["int", "bool", "none", "some"]
+KEYWORDS = "fun let in if then else match with nil leaf node true false not tick div mod int bool none some".split()
 TOKEN = re.compile(r"[ \t\r\n]+|(\(\*)|([a-z][A-Za-z0-9_']*)|([0-9]+)|(::|<=|->|[(),:=<+\-*|])")
 MARK = re.compile(r"\(\*|\*\)")
 Token = namedtuple("Token", "kind text")  # the kind of a keyword and a symbol is its text
@@ -93,7 +92,7 @@ FORMS = {
     **{"leaf": "-> E | node ( name , name , name ) -> E", "node": "( E , E , E )", "some": "( E )", "not": "A"},
 }
 # the operators: the kind of their form, their level, and the level of the operand on their right
-OPERATORS = {word: ("arith", 2, 3) for word in "+-"} | {word: ("arith", 3, 4) for word in ("*", "div", "mod", "lesser")}
+OPERATORS = {word: ("arith", 2, 3) for word in "+-"} | {word: ("arith", 3, 4) for word in ("*", "div", "mod")}
 OPERATORS |= {word: ("compare", 0, 1) for word in ("=", "<", "<=")} | {"::": ("cons", 1, 1)}
 ATOM = 4  # the level of what needs no parentheses
 

@@ -324,6 +324,6 @@ fn closing(word: Word) -> Rest {
 pub fn is_operator(word: Word) -> bool {
     matches!(
         word.text,
-        "*" | "div" | "mod" | "lesser" | "+" | "-" | "::" | "=" | "<" | "<="
+        "*" | "div" | "mod" | "+" | "-" | "::" | "=" | "<" | "<="
     )
 }

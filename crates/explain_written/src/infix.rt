@@ -89,6 +89,5 @@ pub fn arith(op: ArithOp) -> Infix {
         ArithOp::Mul => product(" * "),
         ArithOp::Div => product(" div "),
         ArithOp::Mod => product(" mod "),
-        ArithOp::Lesser => product(" lesser "),
     }
 }

@@ -161,7 +161,6 @@ fn result_of(op: ArithOp, left: i64, right: i64) -> i64
             0 => left,
             _ => left.wrapping_rem(right),
         },
-        ArithOp::Lesser => left.min(right),
     }
 }
 

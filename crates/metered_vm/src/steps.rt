@@ -77,7 +77,6 @@ fn step(code: &Code, body: &[Instr], m: &mut Machine) -> Result<Outcome, AllocEr
         Instr::Mul => acts::arith(m, ArithOp::Mul),
         Instr::Div => acts::arith(m, ArithOp::Div),
         Instr::Mod => acts::arith(m, ArithOp::Mod),
-        Instr::Lesser => acts::arith(m, ArithOp::Lesser),
         Instr::Compare(op) => acts::compare(m, op),
         Instr::Not => acts::negate(m),
         Instr::Pair | Instr::Cons | Instr::Node | Instr::Some if is_full(m) => return Ok(

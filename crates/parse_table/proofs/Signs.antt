@@ -26,7 +26,6 @@ sign_back s.Not = refl
 sign_back s.Tick = refl
 sign_back s.Div = refl
 sign_back s.Mod = refl
-sign_back s.Lesser = refl
 sign_back s.Int = refl
 sign_back s.Bool = refl
 sign_back s.List = refl

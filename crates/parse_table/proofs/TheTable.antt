@@ -119,7 +119,6 @@ pub record Goings (P : Class → Token → ℕ × Rules → Type 0) : Type 0 whe
   pub times : (p : ℕ) → P Exprs (Key p s.Star) (arith_rule 0 op.Mul)
   pub quotient : (p : ℕ) → P Exprs (Key p s.Div) (arith_rule 0 op.Div)
   pub remainder : (p : ℕ) → P Exprs (Key p s.Mod) (arith_rule 0 op.Mod)
-  pub lesser : (p : ℕ) → P Exprs (Key p s.Lesser) (arith_rule 0 op.Lesser)
   pub plus : (p : ℕ) → P Exprs (Key p s.Plus) (arith_rule 1 op.Add)
   pub minus : (p : ℕ) → P Exprs (Key p s.Minus) (arith_rule 1 op.Sub)
   pub cons : (p : ℕ) → P Exprs (Key p s.Cons) (2, Sub Exprs 3 (Done cons_act))
@@ -136,7 +135,6 @@ goings P f Types _ y e = absurd (cc)
 goings P f Exprs (Key p s.Star) y e = form_at (P Exprs (Key p s.Star)) (arith_rule 0 op.Mul) y (f.times p) e
 goings P f Exprs (Key p s.Div) y e = form_at (P Exprs (Key p s.Div)) (arith_rule 0 op.Div) y (f.quotient p) e
 goings P f Exprs (Key p s.Mod) y e = form_at (P Exprs (Key p s.Mod)) (arith_rule 0 op.Mod) y (f.remainder p) e
-goings P f Exprs (Key p s.Lesser) y e = form_at (P Exprs (Key p s.Lesser)) (arith_rule 0 op.Lesser) y (f.lesser p) e
 goings P f Exprs (Key p s.Plus) y e = form_at (P Exprs (Key p s.Plus)) (arith_rule 1 op.Add) y (f.plus p) e
 goings P f Exprs (Key p s.Minus) y e = form_at (P Exprs (Key p s.Minus)) (arith_rule 1 op.Sub) y (f.minus p) e
 goings P f Exprs (Key p s.Cons) y e = form_at (P Exprs (Key p s.Cons)) (2, Sub Exprs 3 (Done cons_act)) y (f.cons p) e
@@ -188,7 +186,6 @@ filled_goes c t n r e = goings (λ c t y. Filled table y.1) (record {
   times = λ p. tt;
   quotient = λ p. tt;
   remainder = λ p. tt;
-  lesser = λ p. tt;
   plus = λ p. tt;
   minus = λ p. tt;
   cons = λ p. tt;
@@ -317,7 +314,6 @@ wf_goes c t n r e = goings (λ c t y. Wf table tails (Behind table tails (chains
   times = λ p. ((λ t w. w), tt);
   quotient = λ p. ((λ t w. w), tt);
   remainder = λ p. ((λ t w. w), tt);
-  lesser = λ p. ((λ t w. w), tt);
   plus = λ p. ((λ t w. w), tt);
   minus = λ p. ((λ t w. w), tt);
   cons = λ p. ((λ t w. w), tt);
@@ -335,7 +331,6 @@ ends c t n r e = goings (λ c t y. Ends table tails c y.0 t) (record {
   times = λ p. refl;
   quotient = λ p. refl;
   remainder = λ p. refl;
-  lesser = λ p. refl;
   plus = λ p. (refl, refl);
   minus = λ p. (refl, refl);
   cons = λ p. (refl, (refl, refl));

@@ -76,7 +76,6 @@ module _ (d : ℕ) where
       times = λ p. tt;
       quotient = λ p. tt;
       remainder = λ p. tt;
-      lesser = λ p. tt;
       plus = λ p. tt;
       minus = λ p. tt;
       cons = λ p. tt;

@@ -74,7 +74,6 @@ abbrev pub arith_level : ArithOp → ℕ
 arith_level op.Mul = 0
 arith_level op.Div = 0
 arith_level op.Mod = 0
-arith_level op.Lesser = 0
 arith_level op.Add = 1
 arith_level op.Sub = 1
 

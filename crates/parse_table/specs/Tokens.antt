@@ -31,7 +31,6 @@ spelling s.Not = codes "not"
 spelling s.Tick = codes "tick"
 spelling s.Div = codes "div"
 spelling s.Mod = codes "mod"
-spelling s.Lesser = codes "lesser"
 spelling s.Int = codes "int"
 spelling s.Bool = codes "bool"
 spelling s.List = codes "list"
@@ -77,13 +76,12 @@ word_of w =
     cond (bytes_eq w (spelling s.Tick)) s.Tick (
     cond (bytes_eq w (spelling s.Div)) s.Div (
     cond (bytes_eq w (spelling s.Mod)) s.Mod (
-    cond (bytes_eq w (spelling s.Lesser)) s.Lesser (
     cond (bytes_eq w (spelling s.Int)) s.Int (
     cond (bytes_eq w (spelling s.Bool)) s.Bool (
     cond (bytes_eq w (spelling s.List)) s.List (
     cond (bytes_eq w (spelling s.Tree)) s.Tree (
     cond (bytes_eq w (spelling s.Option)) s.Option (
-    symbol_of w))))))))))))
+    symbol_of w)))))))))))
 
 -- the same of any keyword or symbol
 abbrev pub sign_of : Text → Sign

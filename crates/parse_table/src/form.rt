@@ -126,7 +126,6 @@ impl Infix {
             Sign::Star => Some(Infix::Arith(ArithOp::Mul)),
             Sign::Div => Some(Infix::Arith(ArithOp::Div)),
             Sign::Mod => Some(Infix::Arith(ArithOp::Mod)),
-            Sign::Lesser => Some(Infix::Arith(ArithOp::Lesser)),
             Sign::Plus => Some(Infix::Arith(ArithOp::Add)),
             Sign::Minus => Some(Infix::Arith(ArithOp::Sub)),
             Sign::Cons => Some(Infix::Cons),
@@ -152,7 +151,7 @@ impl Infix {
         ensures { result ≡ infix_level self }
     {
         match self {
-            Infix::Arith(ArithOp::Mul | ArithOp::Div | ArithOp::Mod | ArithOp::Lesser) => 0,
+            Infix::Arith(ArithOp::Mul | ArithOp::Div | ArithOp::Mod) => 0,
             Infix::Arith(ArithOp::Add | ArithOp::Sub) => 1,
             Infix::Cons => 2,
             Infix::Compare(_) => 3,

@@ -35,7 +35,7 @@ keywords =
     codes "fun" ∷ codes "let" ∷ codes "in" ∷ codes "if" ∷ codes "then" ∷ codes "else" ∷ codes "match"
     ∷ codes "with" ∷ codes "nil" ∷ codes "leaf" ∷ codes "node" ∷ codes "true" ∷ codes "false"
     ∷ codes "not" ∷ codes "tick" ∷ codes "div" ∷ codes "mod" ∷ codes "int" ∷ codes "bool"
-    ∷ codes "list" ∷ codes "tree" ∷ codes "option" ∷ codes "none" ∷ codes "some" ∷ codes "lesser" ∷ []
+    ∷ codes "list" ∷ codes "tree" ∷ codes "option" ∷ codes "none" ∷ codes "some" ∷ []
 
 abbrev pub symbols : List Text
 symbols =

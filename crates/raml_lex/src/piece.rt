@@ -17,10 +17,10 @@ pub enum Piece {
     Word(TokenKind, usize),
 }
 
-const KEYWORDS: [&[u8]; 25] = [
+const KEYWORDS: [&[u8]; 24] = [
     b"fun", b"let", b"in", b"if", b"then", b"else", b"match", b"with", b"nil", b"leaf", b"node",
     b"true", b"false", b"not", b"tick", b"div", b"mod", b"int", b"bool", b"list", b"tree",
-    b"option", b"none", b"some", b"lesser",
+    b"option", b"none", b"some",
 ];
 
 fn is_space(byte: u8) -> bool

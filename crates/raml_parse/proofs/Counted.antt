@@ -155,7 +155,6 @@ goes_return c t n r e = goings (λ c t y. Returning t y.1) (record {
   times = λ p x. (x, (λ o. o, refl), part done);
   quotient = λ p x. (x, (λ o. o, refl), part done);
   remainder = λ p x. (x, (λ o. o, refl), part done);
-  lesser = λ p x. (x, (λ o. o, refl), part done);
   plus = λ p x. (x, (λ o. o, refl), part done);
   minus = λ p x. (x, (λ o. o, refl), part done);
   cons = λ p x. (x, (λ o. o, refl), part done);

@@ -4,9 +4,9 @@
 -- (`NoDefault`).
 use Rattle.std.specs.Prelude.{ℕ, zero, suc, ℤ, pos, ◌+ℤ◌, ◌-ℤ◌, ◌*ℤ◌, int_div, int_rem, int_lt, int_le, List, [], ◌∷◌, map, Bool, true}
 use Rattle.std.specs.Prelude.{false, cond, ◌&&◌, ◌+◌, Option, Some, None}
-use Rattle.std.specs.Int.{int_min, int_wrap, w64}
+use Rattle.std.specs.Int.{int_wrap, w64}
 use Rattle.std.specs.Str.{bytes_eq}
-use Rattle.raml_syntax.specs.declared.tree.ArithOp.TheVariants.{Add, Sub, Mul, Div, Mod, Lesser}
+use Rattle.raml_syntax.specs.declared.tree.ArithOp.TheVariants.{Add, Sub, Mul, Div, Mod}
 use Rattle.raml_syntax.specs.declared.tree.CompareOp.TheVariants.{Equal, Less, AtMost}
 use Rattle.raml_syntax.specs.Tree as t
 use Rattle.raml_syntax.specs.Tree.{Text, ArithOp, CompareOp, Parameter, Function, Prog}
@@ -82,7 +82,6 @@ arith_result Sub x y = x -ℤ y
 arith_result Mul x y = x *ℤ y
 arith_result Div x y = quotient x y
 arith_result Mod x y = remainder x y
-arith_result Lesser x y = int_min x y
 
 -- the result is brought into 64 bits
 abbrev pub arith : ArithOp → Value → Value → Value

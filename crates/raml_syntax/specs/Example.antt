@@ -1,6 +1,6 @@
 -- Small evaluations, worked out by hand.
 use Rattle.std.specs.Prelude.{◌≡◌, ℕ, pos, negsuc, [], ◌∷◌, true, false, Some, None}
-use Rattle.raml_syntax.specs.declared.tree.ArithOp.TheVariants.{Add, Sub, Mul, Div, Mod, Lesser}
+use Rattle.raml_syntax.specs.declared.tree.ArithOp.TheVariants.{Add, Sub, Mul, Div, Mod}
 use Rattle.raml_syntax.specs.declared.tree.CompareOp.TheVariants.{Equal, Less, AtMost}
 use Rattle.raml_syntax.specs.Tree as t
 use Rattle.raml_syntax.specs.Tree.{Text, Integer, Bound, Parameter, Function, Prog}
@@ -92,9 +92,6 @@ pub record Examples : Type 0 where
   pub remainder_by_zero : arith Mod (Number (pos 5)) (Number (pos 0)) ≡ Number (pos 5)
   pub quotient_of_least : arith Div least minus_one ≡ least
   pub remainder_of_least : arith Mod least minus_one ≡ Number (pos 0)
-  -- the lesser one, on either side
-  pub lesser_left : arith Lesser least one ≡ least
-  pub lesser_right : arith Lesser one minus_one ≡ minus_one
   -- comparisons
   pub less : compare Less least one ≡ Truth true
   pub not_less : compare Less one one ≡ Truth false

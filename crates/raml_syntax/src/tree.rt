@@ -21,7 +21,6 @@ pub enum ArithOp {
     Mul,
     Div,
     Mod,
-    Lesser,
 }
 
 /// A comparison of integers.

@@ -61,7 +61,6 @@ module _ (code : List Body) (P : Prog) (call : Calls) (asked : Asked) (n : ℕ) 
   arith_comes op.Mul v w p q st ls h both = comes_next i.Mul p q (w ∷ v ∷ st) ls (result_of op.Mul v w ∷ st) ls 0 h both refl
   arith_comes op.Div v w p q st ls h both = comes_next i.Div p q (w ∷ v ∷ st) ls (result_of op.Div v w ∷ st) ls 0 h both refl
   arith_comes op.Mod v w p q st ls h both = comes_next i.Mod p q (w ∷ v ∷ st) ls (result_of op.Mod v w ∷ st) ls 0 h both refl
-  arith_comes op.Lesser v w p q st ls h both = comes_next i.Lesser p q (w ∷ v ∷ st) ls (result_of op.Lesser v w ∷ st) ls 0 h both refl
 
   -- code under more locals, which are unbound behind it
   unbind_follows : (c : Code) (r : Run Value) (ls vs : List Value) → CodeFollows c r (append_all ls vs) → (p q : ℕ) (st : List Value) → Stands get p (seq c (one (i.Unbind (length vs))) p) q → Follows code 1 n (here p st (append_all ls vs)) r (λ v. here q (v ∷ st) ls)

@@ -10,9 +10,9 @@ use Rattle.raml_syntax.specs.declared.tree.ArithOp.TheVariants as op
 use Rattle.raml_syntax.specs.declared.program.FunId.{FunId}
 use Rattle.stack_compile.specs.declared.instr.Instr.{Instr}
 use Rattle.stack_compile.specs.declared.instr.Instr.TheVariants as instr
-use Rattle.stack_compile.specs.declared.instr.Instr.TheVariants.{Int, Bool, Empty, Load, Bind, Unbind, Add, Sub, Mul, Div, Mod, Lesser}
+use Rattle.stack_compile.specs.declared.instr.Instr.TheVariants.{Int, Bool, Empty, Load, Bind, Unbind, Add, Sub, Mul, Div, Mod, Compare}
 use Rattle.stack_compile.specs.declared.instr.Instr.TheVariants.{Not, Pair, Cons, Node, Unpair, CaseList, CaseTree, CaseOption, Branch}
-use Rattle.stack_compile.specs.declared.instr.Instr.TheVariants.{Compare, Jump, Call, Return, Tick}
+use Rattle.stack_compile.specs.declared.instr.Instr.TheVariants.{Jump, Call, Return, Tick}
 
 -- instructions, by the place at which they begin, since jumps name places
 abbrev pub Code : Type 0
@@ -49,7 +49,6 @@ arith_code op.Sub = Sub
 arith_code op.Mul = Mul
 arith_code op.Div = Div
 arith_code op.Mod = Mod
-arith_code op.Lesser = Lesser
 
 -- the names of the locals once these are bound behind them
 abbrev pub bind_one : List Text → t.Bound → List Text

@@ -5,7 +5,7 @@ use Rattle.raml_syntax.specs.Tree.{Text, Type', Integer, Boolean, PairOf, ListOf
 use Rattle.raml_syntax.specs.Value as v
 use Rattle.raml_syntax.specs.Value.{Value}
 use Rattle.raml_syntax.specs.declared.tree.ArithOp.{ArithOp}
-use Rattle.raml_syntax.specs.declared.tree.ArithOp.TheVariants.{Add, Sub, Div, Mod, Lesser}
+use Rattle.raml_syntax.specs.declared.tree.ArithOp.TheVariants.{Add, Sub, Div, Mod}
 use Rattle.raml_syntax.specs.declared.tree.CompareOp.TheVariants.{Less, AtMost}
 use Rattle.stack_compile.specs.Code.{body_of}
 use Rattle.stack_compile.specs.Machine.{Halted, State}
@@ -203,7 +203,6 @@ pub record Examples : Type 0 where
   pub quotient_by_zero : at (operator Div) 0 (number 5 ∷ number 0 ∷ []) 4 ≡ halted (number 0) 0 0 4
   pub remainder : at (operator Mod) 0 (below 6 ∷ number 2 ∷ []) 4 ≡ halted (below 0) 0 0 4
   pub remainder_by_zero : at (operator Mod) 0 (number 5 ∷ number 0 ∷ []) 4 ≡ halted (number 5) 0 0 4
-  pub lesser : at (operator Lesser) 0 (number 5 ∷ number 7 ∷ []) 4 ≡ halted (number 5) 0 0 4
   pub comparison : at greater 0 (number 5 ∷ number 7 ∷ []) 5 ≡ halted (v.Truth false) 0 0 5
   -- calls that never return
   pub loop_goes_on : Going (at loop 0 (number 5 ∷ []) 10) 0 0 10

@@ -11,9 +11,9 @@ use Rattle.raml_syntax.specs.Eval.{arith, compare, negation, branch, pair_case, 
 use Rattle.stack_compile.specs.Code.{Body}
 use Rattle.stack_compile.specs.declared.instr.Instr.{Instr}
 use Rattle.stack_compile.specs.declared.instr.Instr.TheVariants as instr
-use Rattle.stack_compile.specs.declared.instr.Instr.TheVariants.{Int, Bool, Empty, Load, Bind, Unbind, Add, Sub, Mul, Div, Mod, Lesser}
+use Rattle.stack_compile.specs.declared.instr.Instr.TheVariants.{Int, Bool, Empty, Load, Bind, Unbind, Add, Sub, Mul, Div, Mod, Compare}
 use Rattle.stack_compile.specs.declared.instr.Instr.TheVariants.{Not, Pair, Cons, Node, Unpair, CaseList, CaseTree, CaseOption, Branch}
-use Rattle.stack_compile.specs.declared.instr.Instr.TheVariants.{Compare, Jump, Call, Return, Tick}
+use Rattle.stack_compile.specs.declared.instr.Instr.TheVariants.{Jump, Call, Return, Tick}
 
 -- where a call returns to, and the locals there
 pub record Frame : Type 0 where
@@ -99,7 +99,6 @@ act code (Some Sub) f p st ls fs = goes (Going f (p + 1) (operated op.Sub st) ls
 act code (Some Mul) f p st ls fs = goes (Going f (p + 1) (operated op.Mul st) ls fs)
 act code (Some Div) f p st ls fs = goes (Going f (p + 1) (operated op.Div st) ls fs)
 act code (Some Mod) f p st ls fs = goes (Going f (p + 1) (operated op.Mod st) ls fs)
-act code (Some Lesser) f p st ls fs = goes (Going f (p + 1) (operated op.Lesser st) ls fs)
 act code (Some (Compare o)) f p st ls fs = goes (Going f (p + 1) (compare o (top (under st)) (top st) ∷ under (under st)) ls fs)
 act code (Some Not) f p st ls fs = goes (Going f (p + 1) (negation (top st) ∷ under st) ls fs)
 act code (Some Pair) f p st ls fs = goes_with_cell (Going f (p + 1) (Both (top (under st)) (top st) ∷ under (under st)) ls fs)

@@ -7,8 +7,8 @@ use Rattle.stack_compile.specs.Code.{Body}
 use Rattle.stack_compile.specs.Machine.{Config, Going, Halted, fetch}
 use Rattle.stack_compile.specs.declared.instr.Instr.{Instr}
 use Rattle.stack_compile.specs.declared.instr.Instr.TheVariants as instr
-use Rattle.stack_compile.specs.declared.instr.Instr.TheVariants.{Load, Bind, Unbind, Add, Sub, Mul, Div, Mod, Lesser, Compare, Not, Pair}
-use Rattle.stack_compile.specs.declared.instr.Instr.TheVariants.{Cons, Node, Unpair, CaseList, CaseTree, CaseOption, Branch, Call, Return}
+use Rattle.stack_compile.specs.declared.instr.Instr.TheVariants.{Load, Bind, Unbind, Add, Sub, Mul, Div, Mod, Compare, Not, Pair, Cons}
+use Rattle.stack_compile.specs.declared.instr.Instr.TheVariants.{Node, Unpair, CaseList, CaseTree, CaseOption, Branch, Call, Return}
 
 abbrev pub IsPair : Value → Type 0
 IsPair (Both v w) = Unit {0}
@@ -56,7 +56,6 @@ Finds code (Some Sub) st ls = TwoNumbers st
 Finds code (Some Mul) st ls = TwoNumbers st
 Finds code (Some Div) st ls = TwoNumbers st
 Finds code (Some Mod) st ls = TwoNumbers st
-Finds code (Some Lesser) st ls = TwoNumbers st
 Finds code (Some (Compare o)) st ls = TwoNumbers st
 Finds code (Some Not) st ls = TopIs IsTruth st
 Finds code (Some Pair) st ls = AtLeast 2 st

@@ -32,7 +32,6 @@ fn arith_code(op: ArithOp) -> Instr
         ArithOp::Mul => Instr::Mul,
         ArithOp::Div => Instr::Div,
         ArithOp::Mod => Instr::Mod,
-        ArithOp::Lesser => Instr::Lesser,
     }
 }
 

@@ -21,8 +21,6 @@ pub enum Instr {
     Mul,
     Div,
     Mod,
-    /// The lesser of two integers.
-    Lesser,
     /// Compares two integers.
     Compare(CompareOp),
     /// Negates the truth on top.

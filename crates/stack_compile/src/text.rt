@@ -79,7 +79,6 @@ fn word(instr: Instr) -> &'static str
         Instr::Mul => "Mul",
         Instr::Div => "Div",
         Instr::Mod => "Mod",
-        Instr::Lesser => "Lesser",
         Instr::Compare(_) => "Compare",
         Instr::Not => "Not",
         Instr::Pair => "Pair",

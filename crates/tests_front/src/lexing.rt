@@ -54,8 +54,8 @@ fn each_token(rt: HostRuntime) -> Result<(), Fail> {
                 "Keyword not; Keyword tick; Keyword div; Keyword mod; Keyword int; Keyword bool; Keyword list; Keyword tree; ",
             ),
             (
-                "option none some lesser",
-                "Keyword option; Keyword none; Keyword some; Keyword lesser; ",
+                "option none some",
+                "Keyword option; Keyword none; Keyword some; ",
             ),
             ("0 42 007", "Number 0; Number 42; Number 007; "),
             (

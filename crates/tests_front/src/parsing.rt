@@ -49,7 +49,6 @@ fun main (x : int) : int = tick 3 in x => 0 main 10:x int : int = (27 tick 3 37:
 (* one *)fun f(x:int,y:bool list tree):int*(int*int)=007 => 9 f 15:x int 21:y (tree (list bool)) : (* int (* int int)) = 53:7;
 fun f (x : int) : int = x + 1 * 2 - x => 0 f 7:x int : int = (24 Sub (24 Add 24:x (28 Mul 28:1 32:2)) 36:x);
 fun f (x : int) : bool = x div 2 mod 3 <= ((x)) => 0 f 7:x int : bool = (25 AtMost (25 Mod (25 Div 25:x 31:2) 37:3) 44:x);
-fun f (x : int) : int = x lesser 2 + 3 => 0 f 7:x int : int = (24 Add (24 Lesser 24:x 33:2) 37:3);
 fun f (x : int) : int list = x :: x + 1 :: nil => 0 f 7:x int : (list int) = (29 cons 29:x (34 cons (34 Add 34:x 38:1) 43:nil));
 fun f (x : int) : int = ((x)) + not true => 0 f 7:x int : int = (24 Add 26:x (32 not 36:true));
 fun f (x : int) : int = let (a, b) = (x, 2) in if a = b then g(a, b) else (nil : int list) => 0 f 7:x int : int = (24 let 29:a 32:b (37 pair 38:x 41:2) (47 if (50 Equal 50:a 54:b) (61 call g 63:a 66:b) (74 typed 75:nil (list int))));
@@ -225,7 +224,7 @@ fn faults_of_bodies(rt: HostRuntime) -> Result<(), Fail> {
 
 // All keywords.
 const KEYWORDS: &str =
-    "fun let in if then else match with nil leaf node true false not tick div mod int bool list tree option none some lesser";
+    "fun let in if then else match with nil leaf node true false not tick div mod int bool list tree option none some";
 
 // What stands in front of a name, and what behind it: of a function, a parameter, a variable, and one of a pattern.
 const NAMED: [(&str, &str); 4] = [

@@ -18,7 +18,6 @@ fn arith_word(op: ArithOp) -> &'static str {
         ArithOp::Mul => "Arith(Mul, ",
         ArithOp::Div => "Arith(Div, ",
         ArithOp::Mod => "Arith(Mod, ",
-        ArithOp::Lesser => "Arith(Lesser, ",
     }
 }
 

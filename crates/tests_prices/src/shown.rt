@@ -10,7 +10,6 @@ fn arith_word(op: ArithOp) -> &'static str {
         ArithOp::Mul => "*",
         ArithOp::Div => "div",
         ArithOp::Mod => "mod",
-        ArithOp::Lesser => "lesser",
     }
 }
 

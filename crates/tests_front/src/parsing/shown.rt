@@ -59,7 +59,6 @@ fn arith_word(op: ArithOp) -> &'static str {
         ArithOp::Mul => " Mul",
         ArithOp::Div => " Div",
         ArithOp::Mod => " Mod",
-        ArithOp::Lesser => " Lesser",
     }
 }
 
