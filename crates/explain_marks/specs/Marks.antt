@@ -1,6 +1,5 @@
 -- Runs that are drawn, each with the bound at its arguments.
-use Rattle.std.specs.Prelude.{◌≡◌, ◌≤◌, ◌<◌, ◌⊎◌, ◌*◌, ◌^◌, ℕ, zero, suc, List, [], ◌∷◌, length, Option, Some, None, Ok, IfSome, SomeIff}
-use Rattle.std.specs.Prelude.{slice_get}
+use Rattle.std.specs.Prelude.{◌≡◌, ◌≤◌, ◌<◌, ◌⊎◌, ◌*◌, ◌^◌, ℕ, zero, suc, List, [], ◌∷◌, length, Option, Some, None, Ok, IfSome, SomeIff, slice_get}
 use Rattle.std.specs.List.{Contains, insert}
 use Rattle.raml_syntax.specs.Tree.{Text, Function, Prog}
 use Rattle.raml_syntax.specs.Value.{Value, HaveTypes}
@@ -32,8 +31,7 @@ use Rattle.explain_marks.specs.declared.run.Run.{Run}
 
 -- ---- bounds
 
--- what is drawn of a bound: four times that of work, where it fits 128 bits, since a unit of work takes at most four
--- instructions; else the bound
+-- what is drawn of a bound: four times that of work, where it fits 128 bits, since a unit of work takes at most four instructions; else the bound
 abbrev pub IsDrawn : Meter → Option ℕ → Option ℕ → Type 0
 IsDrawn Work (Some n) drawn = SomeIff drawn (n * 4 < 2 ^ 128) (n * 4)
 IsDrawn meter floor drawn = drawn ≡ floor
@@ -85,8 +83,7 @@ HasEnded outcome = ⊥
 
 -- A run of the function at the place on the arguments that the data spells, which has halted, what it cost, and the bound at these
 -- arguments; it costs no more than that.
-pub record IsRun (P : Prog) (N : Program) (c : Certificate) (f : ℕ) (meter : Meter)
-    (data' : Text) (cost : ℕ) (bound : Option ℕ) : Type 0 where
+pub record IsRun (P : Prog) (N : Program) (c : Certificate) (f : ℕ) (meter : Meter) (data' : Text) (cost : ℕ) (bound : Option ℕ) : Type 0 where
   pub function : Function
   pub there : slice_get P f ≡ Some function
   pub args : List Value

@@ -32,8 +32,7 @@ pub(crate) fn marks_given<'a>(
     requires fun { fun.0 < length (program_of typed.now) }
     requires work { has_work verified.now.certificate ≡ true }
     ensures { IfOk result (λ found. All
-        (λ m. IsGivenMark (program_of typed.now)
-            (program_in verified.now.program) verified.now.certificate fun.0 meter place files.entry.now (mark_in m))
+        (λ m. IsGivenMark (program_of typed.now) (program_in verified.now.program) verified.now.certificate fun.0 meter place files.entry.now (mark_in m))
         found.marks.items) }
 {
     let mut found = Marks {

@@ -64,8 +64,7 @@ fn add_size(
     requires fun { fun.0 < length (program_of typed.now) }
     requires work { has_work verified.now.certificate ≡ true }
     requires steps { found.old.steps ≤ 2000000 }
-    requires before { All (λ m. IsMark (program_of typed.now)
-        (program_in verified.now.program) verified.now.certificate fun.0 meter (mark_in m))
+    requires before { All (λ m. IsMark (program_of typed.now) (program_in verified.now.program) verified.now.certificate fun.0 meter (mark_in m))
         found.old.marks.items }
     ensures steps { found.new.steps ≤ 2000000 }
     ensures marks { OnOk result (All
@@ -95,8 +94,7 @@ fn add_run(
     requires fun { fun.0 < length (program_of typed.now) }
     requires work { has_work verified.now.certificate ≡ true }
     requires steps { found.old.steps ≤ 2000000 }
-    requires before { All (λ m. IsMark (program_of typed.now)
-        (program_in verified.now.program) verified.now.certificate fun.0 meter (mark_in m))
+    requires before { All (λ m. IsMark (program_of typed.now) (program_in verified.now.program) verified.now.certificate fun.0 meter (mark_in m))
         found.old.marks.items }
     ensures steps { found.new.steps ≤ 2000000 }
     ensures marks { OnOk result (All

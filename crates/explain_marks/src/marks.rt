@@ -83,8 +83,7 @@ pub fn marks_of<'a>(
     requires fun { fun.0 < length (program_of typed.now) }
     requires work { has_work verified.now.certificate ≡ true }
     ensures { IfOk result (λ found. All
-        (λ m. IsMarkOf (program_of typed.now)
-            (program_in verified.now.program) verified.now.certificate fun.0 meter (origin_of runs.now) (mark_in m))
+        (λ m. IsMarkOf (program_of typed.now) (program_in verified.now.program) verified.now.certificate fun.0 meter (origin_of runs.now) (mark_in m))
         found.marks.items) }
 {
     match *runs {

@@ -52,8 +52,7 @@ pub(crate) fn read_data(
     requires runs { CanRun (program_of typed.now) }
     requires fun { fun.0 < length (program_of typed.now) }
     requires work { has_work verified.now.certificate ≡ true }
-    ensures { (g : Function) (args : List Value) →
-        slice_get (program_of typed.now) fun.0 ≡ Some g → Answers data.now (types_of g) (Ok args) →
+    ensures { (g : Function) (args : List Value) → slice_get (program_of typed.now) fun.0 ≡ Some g → Answers data.now (types_of g) (Ok args) →
         IfOk result (AreReadAs (program_of typed.now) (program_in verified.now.program) verified.now.certificate fun.0 meter place args) }
 {
     if data.len() as u64 > MOST_DATA {
@@ -94,8 +93,7 @@ fn read_bound(
     requires work { has_work verified.now.certificate ≡ true }
     requires args { AreArguments heap.now.cells args.now }
     ensures { (vs : List Value) → StandForAll heap.now.cells args.now vs →
-        IfOk result (AreReadAs (source_in verified.now.program)
-            (program_in verified.now.program) verified.now.certificate fun.0 meter place vs) }
+        IfOk result (AreReadAs (source_in verified.now.program) (program_in verified.now.program) verified.now.certificate fun.0 meter place vs) }
 {
     if heap.len() >= MOST_CELLS {
         return Ok(None);
