@@ -94,8 +94,8 @@ abbrev pub number_text : Option ℕ → Text
 number_text None = codes "-"
 number_text (Some n) = decimal n
 
--- The cells of a line: its number, how often it is run, and what one run costs in ticks, cells and work. Where sizes
--- are given, how often it is run there stands behind how often it is run, and the work of all these runs at the end.
+-- The cells of a line: its number, how often it is run, and what one run costs in ticks, cells and work. Where sizes are given, how often
+-- it is run there stands behind how often it is run, and the work of all these runs at the end.
 abbrev pub cells_of : Bool → ℕ → l.Line → Runs → List Text
 cells_of false number x runs =
     decimal number ∷ runs_text runs ∷ decimal x.ticks ∷ decimal x.cells ∷ decimal x.work ∷ []

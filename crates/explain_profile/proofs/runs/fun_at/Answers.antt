@@ -15,6 +15,6 @@ pub returns : goal.returns
 returns c =
     let program = c.program.result.now in
     let below = subst (λ (p : Program). c.args.fun.0 < length (program_of p)) (sym c.program.ensures.program) c.requires in
-    let low = omega (arith, below, length-map program.funs.items function_of) in
+    let low : c.args.fun.0 < length program.funs.items = omega (arith, below, length-map program.funs.items function_of) in
     subst (λ (p : Program). slice_get (program_of p) c.args.fun.0 ≡ Some (function_of c.index.result.now)) c.program.ensures.program
     (at_mapped function_of program.funs.items c.args.fun.0 c.index.result.now c.index.ensures low)
