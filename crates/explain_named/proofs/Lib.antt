@@ -4,3 +4,4 @@ pub mod Surely
 pub mod Inside
 pub mod Keep
 pub mod Arguments
+pub mod Appended

@@ -1,9 +1,18 @@
 // The text of a changed program.
+ghost use Rattle.std.specs.Prelude.{◌≡◌, IfOk, IfSome};
+ghost use Rattle.explain_edits.specs.Read.{edit_of, edits_of};
+ghost use Rattle.explain_spans.specs.Spans.{Spans, HasOperand};
+ghost use Rattle.explain_named.specs.Edits as d;
+ghost use Rattle.explain_named.specs.Read.{naming_of, candidate_naming, candidate_places, bytes_of};
+
 use crate::finding::Candidate;
+use crate::naming::Naming;
+use crate::text::args_text;
 use explain_edits::{Edit, edited};
-use explain_tokens::{source_tokens, word};
+use explain_spans::{begins_word, behind_word, ends_word, space, span_end, token_at};
+use explain_tokens::source_tokens;
 use raml_lex::Token;
-use raml_syntax::{Expr, Form, Pos};
+use raml_syntax::{Name, Pos};
 use std::alloc::{AllocError, Global};
 
 /// The source in which a call has a name: a `let` in front of the expression, and the name in place of the calls in it. All else
@@ -14,84 +23,71 @@ pub fn named_text<'a>(
     alloc: Global,
     source: &[u8],
     candidate: &Candidate<'a>,
-) -> Result<Option<Vec<u8>>, AllocError> {
+) -> Result<Option<Vec<u8>>, AllocError>
+    ensures { IfOk result (λ text. IfSome text (λ made. d.IsNamedText source.now (candidate_naming candidate.now)
+        (candidate_places candidate.now) made.items)) }
+{
     let Some(tokens) = source_tokens(alloc, source)? else {
         return Ok(None);
     };
+    match edits(alloc, source, &tokens, candidate.naming(), &candidate.places)? {
+        Some(edits) => Ok(Some(edited(alloc, source, &edits)?)),
+        None => Ok(None),
+    }
+}
+
+/// The `let` in front of the expression, and the name in place of each call.
+fn edits<'a>(
+    alloc: Global,
+    source: &[u8],
+    tokens: &[Token],
+    naming: Naming<'a>,
+    places: &[Pos],
+) -> Result<Option<Vec<Edit>>, AllocError>
+    ensures { IfOk result (λ edits. IfSome edits (λ made. d.AreEditsOf source.now tokens.now (naming_of naming.entry)
+        (bytes_of places.now) (edits_of made.items))) }
+{
     let mut edits = Vec::new(alloc);
-    edits.push(opening(alloc, source, candidate)?)?;
-    for place in &candidate.places {
-        match replacing(alloc, source, &tokens, *place, candidate.name.text())? {
+    edits.push(opening(alloc, source, naming)?)?;
+    for place in places {
+        match replaced(alloc, source, tokens, naming, *place)? {
             Some(edit) => edits.push(edit)?,
             None => return Ok(None),
         }
     }
-    Ok(Some(edited(alloc, source, &edits)?))
+    Ok(Some(edits))
 }
 
 /// The `let` in front of the expression.
-fn opening<'a>(
-    alloc: Global,
-    source: &[u8],
-    candidate: &Candidate<'a>,
-) -> Result<Edit, AllocError> {
-    let at = candidate.at.0 as usize;
-    let space = if ends_word(source, at) { " " } else { "" };
-    let (name, function) = (candidate.name.text(), candidate.function.text());
-    let mut text = format!(in alloc; "{space}let {name} = {function}(")?;
-    push_args(alloc, &mut text, candidate.args)?;
-    text.push_str(") in ")?;
+fn opening<'a>(alloc: Global, source: &[u8], naming: Naming<'a>) -> Result<Edit, AllocError>
+    ensures { IfOk result (λ edit. edit_of edit ≡ d.opening source.now (naming_of naming.entry)) }
+{
+    let at = naming.at.0 as usize;
+    let space = space(ends_word(source, at));
+    let (name, function) = (naming.name.text(), naming.function.text());
+    let args = args_text(alloc, naming.args)?;
     Ok(Edit {
         at,
         length: 0,
-        text,
+        text: format!(in alloc; "{space}let {name} = {function}({args}) in ")?,
     })
 }
 
-/// Adds arguments that are variables and constants.
-fn push_args(alloc: Global, text: &mut String, args: &[Expr]) -> Result<(), AllocError> {
-    let mut first = true;
-    for arg in args {
-        if !first {
-            text.push_str(", ")?;
-        }
-        first = false;
-        push_atom(alloc, text, arg)?;
-    }
-    Ok(())
-}
-
-fn push_atom(alloc: Global, text: &mut String, e: &Expr) -> Result<(), AllocError> {
-    match &e.form {
-        Form::Var(name) => text.push_str(name.text()),
-        Form::Number(number) => push_number(alloc, text, *number),
-        Form::Truth(true) => text.push_str("true"),
-        Form::Truth(false) => text.push_str("false"),
-        Form::Nil => text.push_str("nil"),
-        Form::Leaf => text.push_str("leaf"),
-        Form::Nothing => text.push_str("none"),
-        _ => Ok(()),
-    }
-}
-
-fn push_number(alloc: Global, text: &mut String, number: i64) -> Result<(), AllocError> {
-    let digits = format!(in alloc; "{number}")?;
-    text.push_str(digits.as_str())
-}
-
 /// The name in place of a call, from its first token to its last parenthesis.
-fn replacing(
+fn replaced<'a>(
     alloc: Global,
     source: &[u8],
     tokens: &[Token],
+    naming: Naming<'a>,
     place: Pos,
-    name: &str,
-) -> Result<Option<Edit>, AllocError> {
-    let Some(end) = end_of(source, tokens, place) else {
+) -> Result<Option<Edit>, AllocError>
+    ensures { IfOk result (λ edit. IfSome edit (λ made. d.IsReplaced source.now tokens.now (naming_of naming.entry) place.0 (edit_of made))) }
+{
+    let Some(end) = end_of(source, tokens, naming.function, place) else {
         return Ok(None);
     };
     let at = place.0 as usize;
-    let space = if begins_word(source, end) { " " } else { "" };
+    let (name, space) = (naming.name.text(), space(begins_word(source, end)));
     Ok(Some(Edit {
         at,
         length: end.saturating_sub(at),
@@ -100,44 +96,10 @@ fn replacing(
 }
 
 /// The byte behind the last parenthesis of the call that begins there.
-fn end_of(source: &[u8], tokens: &[Token], place: Pos) -> Option<usize> {
-    for first in 0..tokens.len() {
-        if tokens[first].at == place {
-            return end_behind(source, &tokens[first..]);
-        }
-    }
-    None
-}
-
-/// The byte behind the first parentheses that are closed.
-fn end_behind(source: &[u8], tokens: &[Token]) -> Option<usize> {
-    let mut open: usize = 0;
-    for token in tokens {
-        let text = word(source, token);
-        if text == b"(".as_slice() {
-            open = open.checked_add(1)?;
-        } else if text == b")".as_slice() {
-            if open <= 1 {
-                return Some(token.end.0 as usize);
-            }
-            open -= 1;
-        }
-    }
-    None
-}
-
-/// Whether a letter, a digit, `_` or `'` stands in front of a byte.
-fn ends_word(source: &[u8], at: usize) -> bool {
-    match at.checked_sub(1) {
-        Some(before) => begins_word(source, before),
-        None => false,
-    }
-}
-
-/// Whether a letter, a digit, `_` or `'` stands at a byte.
-fn begins_word(source: &[u8], at: usize) -> bool {
-    match source.get(at) {
-        Some(byte) => matches!(*byte, b'a'..=b'z' | b'0'..=b'9' | b'_' | b'\''),
-        None => false,
-    }
+fn end_of(source: &[u8], tokens: &[Token], function: &Name, place: Pos) -> Option<usize>
+    ensures { IfSome result (λ end. Spans source.now tokens.now place.0 end (HasOperand function.now)) }
+{
+    let from = token_at(tokens, place)?;
+    let number = behind_word(source, function.text().as_bytes(), &tokens[from..])?;
+    span_end(tokens, from, number)
 }

@@ -1,4 +1,7 @@
 // The calls that may be named.
+ghost use Rattle.std.specs.Prelude.{◌≡◌};
+ghost use Rattle.explain_named.specs.Read.{naming_of, candidate_naming};
+
 use crate::blocks::{Blocks, PlainCall, blocks};
 use crate::certain::certain;
 use crate::mentions::mentions;
@@ -27,7 +30,9 @@ pub struct Candidate<'a> {
 
 impl<'a> Candidate<'a> {
     /// The naming that it stands for.
-    pub fn naming<'s>(&'s self) -> Naming<'s> {
+    pub fn naming<'s>(&'s self) -> Naming<'s>
+        ensures { naming_of result ≡ candidate_naming self.now }
+    {
         Naming {
             at: self.at,
             function: self.function,

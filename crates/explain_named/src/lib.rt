@@ -13,6 +13,7 @@ mod mentions;
 mod naming;
 mod occurrences;
 mod place;
+mod text;
 
 pub use compare::is_named;
 pub use edits::named_text;

@@ -50,7 +50,7 @@ pair_run call p a b env d h =
     λ i. node (and_then (first i) (λ s. and_then (second i) (λ r. new_cell (v.Both s r)))) in
     subst (λ z. RunsHanded (walk call (t.Pair p a b) env) (node (done (value z env)))) k.4
     (subst (λ z. RunsHanded z (node (done (v.Both (look x env) (look y env))))) (sym run)
-    (record { out = refl; ticks = refl; times = 1; cells = omega arith; least = omega arith; most = omega arith }))
+    (record { out = refl; ticks = refl; cells = omega arith; least = omega arith; most = omega arith }))
 
 cons_run : (call : Calls) (p : ℕ) (a b : t.Term) (env : Env) (d : Built) → w.cons a b ≡ Some d → RunsHanded (walk call (t.Cons p a b) env) (node (done (value d env)))
 cons_run call p a b env d h =
@@ -63,7 +63,7 @@ cons_run call p a b env d h =
     λ i. node (and_then (first i) (λ s. and_then (second i) (λ r. new_cell (v.Cons s r)))) in
     subst (λ z. RunsHanded (walk call (t.Cons p a b) env) (node (done (value z env)))) k.4
     (subst (λ z. RunsHanded z (node (done (v.Cons (look x env) (look y env))))) (sym run)
-    (record { out = refl; ticks = refl; times = 1; cells = omega arith; least = omega arith; most = omega arith }))
+    (record { out = refl; ticks = refl; cells = omega arith; least = omega arith; most = omega arith }))
 
 three_are : (make : Text → Text → Text → Built) (o q r : Option Text) (b : Built) → of_three make o q r ≡ Some b → (x : Text) × (y : Text) × (z : Text) × (o ≡ Some x) × (q ≡ Some y) × (r ≡ Some z) × (make x y z ≡ b)
 three_are make None q r b h = absurd (no_built b h)
@@ -82,7 +82,7 @@ node_run call p a b c env d h =
     λ i. node (and_then (first i) (λ s. and_then (second i) (λ l. and_then (third i) (λ r. new_cell (v.Node s l r))))) in
     subst (λ u. RunsHanded (walk call (t.Node p a b c) env) (node (done (value u env)))) k.6
     (subst (λ u. RunsHanded u (node (done (v.Node (look x env) (look y env) (look z env))))) (sym run)
-    (record { out = refl; ticks = refl; times = 1; cells = omega arith; least = omega arith; most = omega arith }))
+    (record { out = refl; ticks = refl; cells = omega arith; least = omega arith; most = omega arith }))
 
 just_run : (call : Calls) (p : ℕ) (a : t.Term) (env : Env) (d : Built) → w.just a ≡ Some d → RunsHanded (walk call (t.Just p a) env) (node (done (value d env)))
 just_run call p a env d h =
@@ -93,7 +93,7 @@ just_run call p a env d h =
     λ i. node (and_then (first i) (λ s. new_cell (v.Just s))) in
     subst (λ z. RunsHanded (walk call (t.Just p a) env) (node (done (value z env)))) k.2
     (subst (λ z. RunsHanded z (node (done (v.Just (look x env))))) (sym run)
-    (record { out = refl; ticks = refl; times = 1; cells = omega arith; least = omega arith; most = omega arith }))
+    (record { out = refl; ticks = refl; cells = omega arith; least = omega arith; most = omega arith }))
 
 -- ---- where it may be handed on
 

@@ -5,13 +5,12 @@ use Rattle.raml_syntax.specs.Eval.{Run, cut, costs, goes_on, and_then, branch, p
 use Rattle.explain_whole.specs.Laws.{RunsHanded}
 
 pub handed_same : {A : Type 0} (r : Run A) → RunsHanded r r
-handed_same r = record { out = refl; ticks = refl; times = 0; cells = omega arith; least = omega arith; most = omega arith }
+handed_same r = record { out = refl; ticks = refl; cells = omega arith; least = omega arith; most = omega arith }
 
 pub handed_costs : {A : Type 0} (i j k : ℕ) (r s : Run A) → RunsHanded r s → RunsHanded (costs i j k r) (costs i j k s)
 handed_costs i j k r s h = record {
   out = h.out;
   ticks = omega (arith, h.ticks);
-  times = h.times;
   cells = omega (arith, h.cells);
   least = omega (arith, h.least);
   most = omega (arith, h.most);
@@ -27,7 +26,6 @@ handed_then {A} {B} r s f g h k =
     record {
       out = rest.out;
       ticks = omega (arith, h.ticks, rest.ticks);
-      times = h.times + rest.times;
       cells = omega (arith, h.cells, rest.cells);
       least = omega (arith, h.least, rest.least);
       most = omega (arith, h.most, rest.most);

@@ -1,32 +1,33 @@
 -- The text in which variables are handed on whole.
-use Rattle.std.specs.Prelude.{◌≡◌, List, [], ◌∷◌, ◌++◌, Bool, cond}
+use Rattle.std.specs.Prelude.{◌≡◌, ◌-◌, ℕ, List, [], ◌∷◌, ◌++◌, Bool, drop}
 use Rattle.raml_syntax.specs.Tree.{Text}
+use Rattle.raml_lex.specs.declared.token.Token.{Token}
 use Rattle.explain_edits.specs.Edits.{Edit, with_edits}
+use Rattle.explain_spans.specs.Spans.{Spans, space, begins_word, ends_word}
 use Rattle.explain_whole.specs.Handed.{Place}
-
--- a space, or nothing
-abbrev pub space : Bool → Text
-space is_there = cond is_there (32 ∷ []) []
+use Rattle.explain_whole.specs.Extent.{Builds}
 
 -- a name, with spaces around it where it needs them
 abbrev pub spaced : Bool → Bool → Text → Text
 spaced before behind x = space before ++ (x ++ space behind)
 
--- the edit replaces bytes from the place on by the name of the variable
-pub record IsEditAt (p : Place) (e : Edit) : Type 0 where
+-- the name of the variable replaces the expression that builds its value, with a space where it would touch a word
+pub record IsEditAt (source : Text) (tokens : List Token) (p : Place) (e : Edit) : Type 0 where
+  pub end : ℕ
+  pub spans : Spans source tokens p.at end (Builds p.built)
   pub at : e.at ≡ p.at
-  pub before : Bool
-  pub behind : Bool
-  pub text : e.text ≡ spaced before behind p.whole
+  pub length : e.length ≡ end - p.at
+  pub text : e.text ≡ spaced (ends_word source p.at) (begins_word (drop end source)) p.whole
 
 -- there is an edit for each of the places, in their order
-abbrev pub AreEditsAt : List Place → List Edit → Type 0
-AreEditsAt [] [] = Unit {0}
-AreEditsAt (p ∷ places) (e ∷ edits) = IsEditAt p e × AreEditsAt places edits
-AreEditsAt _ _ = ⊥
+abbrev pub AreEditsAt : Text → List Token → List Place → List Edit → Type 0
+AreEditsAt source tokens [] [] = Unit {0}
+AreEditsAt source tokens (p ∷ places) (e ∷ edits) = IsEditAt source tokens p e × AreEditsAt source tokens places edits
+AreEditsAt source tokens _ _ = ⊥
 
--- the text is the source with such edits
+-- the text is the source with such edits, by some tokens of it
 pub record IsEditedAt (source : Text) (places : List Place) (text : Text) : Type 0 where
+  pub tokens : List Token
   pub edits : List Edit
-  pub are : AreEditsAt places edits
+  pub are : AreEditsAt source tokens places edits
   pub made : text ≡ with_edits source edits

@@ -17,15 +17,14 @@ NoneIsChosen chosen (p ∷ places) = (is_chosen chosen p.at ≡ false) × NoneIs
 abbrev pub OnlyPlacesChange : Type 0
 OnlyPlacesChange = (P : Prog) (chosen : List ℕ) → NoneIsChosen chosen (program_places P) → handed_program chosen P ≡ P
 
--- A run, and one that gives the same, or is cut where the first is, with the same ticks. So many times it hands on a variable in
--- place of what is built, and each time it makes one cell fewer and has from one to three units less of work.
+-- A run, and one that gives the same, or is cut where the first is, with the same ticks and no more cells. It saves at least as much
+-- work as cells, and at most three times as much.
 pub record RunsHanded {A : Type 0} (r s : Run A) : Type 0 where
   pub out : s.out ≡ r.out
   pub ticks : s.ticks ≡ r.ticks
-  pub times : ℕ
-  pub cells : s.cells + times ≡ r.cells
-  pub least : s.work + times ≤ r.work
-  pub most : r.work ≤ s.work + 3 * times
+  pub cells : s.cells ≤ r.cells
+  pub least : s.work + r.cells ≤ r.work + s.cells
+  pub most : r.work + 3 * s.cells ≤ s.work + 3 * r.cells
 
 -- each function of a program, also of one without types, runs so once variables are handed on whole, on any arguments and at each
 -- limit

@@ -1,5 +1,6 @@
 pub mod Whole
 pub mod Handed
+pub mod Extent
 pub mod Edits
 pub mod Read
 pub mod Laws

@@ -1,12 +1,13 @@
 // The text of a changed program.
 ghost use Rattle.std.specs.Prelude.{◌≡◌, IfOk, IfSome, string_bytes};
 ghost use Rattle.explain_edits.specs.Read.{edit_of, edits_of};
-ghost use Rattle.explain_whole.specs.Edits.{spaced, space, IsEditAt, AreEditsAt, IsEditedAt};
+ghost use Rattle.explain_whole.specs.Edits.{spaced, IsEditAt, AreEditsAt, IsEditedAt};
 ghost use Rattle.explain_whole.specs.Read.{place_of, places_of};
 
 use crate::extent::end_of;
 use crate::place::Place;
 use explain_edits::{Edit, edited};
+use explain_spans::{begins_word, ends_word, space};
 use explain_tokens::source_tokens;
 use raml_lex::Token;
 use raml_syntax::Name;
@@ -39,7 +40,7 @@ fn edits(
     tokens: &[Token],
     chosen: &[Place],
 ) -> Result<Option<Vec<Edit>>, AllocError>
-    ensures { IfOk result (λ edits. IfSome edits (λ made. AreEditsAt (places_of chosen.now) (edits_of made.items))) }
+    ensures { IfOk result (λ edits. IfSome edits (λ made. AreEditsAt source.now tokens.now (places_of chosen.now) (edits_of made.items))) }
 {
     let mut edits = Vec::new(alloc);
     for place in chosen {
@@ -58,7 +59,7 @@ fn edit(
     tokens: &[Token],
     place: &Place,
 ) -> Result<Option<Edit>, AllocError>
-    ensures { IfOk result (λ edit. IfSome edit (λ made. IsEditAt (place_of place.now) (edit_of made))) }
+    ensures { IfOk result (λ edit. IfSome edit (λ made. IsEditAt source.now tokens.now (place_of place.now) (edit_of made))) }
 {
     let Some(end) = end_of(source, tokens, place) else {
         return Ok(None);
@@ -79,26 +80,4 @@ fn spaced(alloc: Global, before: bool, behind: bool, name: &Name) -> Result<Stri
 {
     let (before, name, behind) = (space(before), name.text(), space(behind));
     format!(in alloc; "{before}{name}{behind}")
-}
-
-fn space(is_there: bool) -> &'static str
-    ensures { result.now ≡ space is_there }
-{
-    if is_there { " " } else { "" }
-}
-
-/// Whether a letter, a digit, `_` or `'` stands in front of a byte.
-fn ends_word(source: &[u8], at: usize) -> bool {
-    match at.checked_sub(1) {
-        Some(before) => begins_word(source, before),
-        None => false,
-    }
-}
-
-/// Whether a letter, a digit, `_` or `'` stands at a byte.
-fn begins_word(source: &[u8], at: usize) -> bool {
-    match source.get(at) {
-        Some(byte) => matches!(*byte, b'a'..=b'z' | b'0'..=b'9' | b'_' | b'\''),
-        None => false,
-    }
 }

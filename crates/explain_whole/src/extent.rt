@@ -1,60 +1,43 @@
 // Where an expression that builds a value of variables ends in its source.
+ghost use Rattle.std.specs.Prelude.{◌≤◌, length, take, IfSome};
+ghost use Rattle.explain_changes.specs.Read.{built_of};
+ghost use Rattle.explain_spans.specs.Spans.{Spans, words};
+ghost use Rattle.explain_whole.specs.Extent as x;
+
 use crate::place::Place;
 use explain_changes::Built;
-use explain_tokens::word;
+use explain_spans::{behind_word, operand, span_end, token_at};
 use raml_lex::Token;
 
 /// The byte behind the last token of a place. None where the source has no such expression there.
-pub fn end_of(source: &[u8], tokens: &[Token], place: &Place) -> Option<usize> {
-    let first = token_at(tokens, place)?;
-    let behind = match place.built {
-        Built::Pair(..) => behind_operand(source, tokens, first)?,
-        Built::Cons(..) => {
-            let sign = behind_operand(source, tokens, first)?;
-            behind_operand(source, tokens, sign.checked_add(1)?)?
-        }
-        Built::Node(..) | Built::Just(_) => {
-            behind_operand(source, tokens, first.checked_add(1)?)?
-        }
-        Built::Nil | Built::Leaf | Built::Nothing => return None,
-    };
-    let last = tokens.get(behind.checked_sub(1)?)?;
-    Some(last.end.0 as usize)
+pub fn end_of(source: &[u8], tokens: &[Token], place: &Place) -> Option<usize>
+    ensures { IfSome result (λ end. Spans source.now tokens.now place.now.at.0 end (x.Builds (built_of place.now.built))) }
+{
+    let from = token_at(tokens, place.at)?;
+    let number = built(source, &tokens[from..], place.built)?;
+    span_end(tokens, from, number)
 }
 
-/// Which token begins where the place does.
-fn token_at(tokens: &[Token], place: &Place) -> Option<usize> {
-    for first in 0..tokens.len() {
-        if tokens[first].at.0 == place.at.0 {
-            return Some(first);
-        }
-    }
-    None
-}
-
-/// Which token stands behind an operand: behind one token, or behind parentheses with all that is in them.
-fn behind_operand(source: &[u8], tokens: &[Token], first: usize) -> Option<usize> {
-    let token = tokens.get(first)?;
-    if word(source, token) == b"(".as_slice() {
-        behind_parentheses(source, tokens, first)
-    } else {
-        first.checked_add(1)
+/// How many of some tokens build a value so, from the first on.
+fn built(source: &[u8], tokens: &[Token], built: Built) -> Option<usize>
+    ensures within { IfSome result (λ number. number ≤ length tokens.now) }
+    ensures builds { IfSome result (λ number. x.Builds (built_of built.entry) (words source.now (take number tokens.now))) }
+{
+    match built {
+        Built::Pair(..) => operand(source, tokens),
+        Built::Cons(..) => list(source, tokens),
+        Built::Node(..) => behind_word(source, b"node".as_slice(), tokens),
+        Built::Just(_) => behind_word(source, b"some".as_slice(), tokens),
+        Built::Nil | Built::Leaf | Built::Nothing => None,
     }
 }
 
-/// Which token stands behind the parentheses that a token opens.
-fn behind_parentheses(source: &[u8], tokens: &[Token], first: usize) -> Option<usize> {
-    let mut open: usize = 0;
-    for place in first..tokens.len() {
-        let text = word(source, &tokens[place]);
-        if text == b"(".as_slice() {
-            open = open.checked_add(1)?;
-        } else if text == b")".as_slice() {
-            open = open.checked_sub(1)?;
-        }
-        if open == 0 {
-            return Some(place + 1);
-        }
-    }
-    None
+/// How many tokens a head, `::` and a tail are.
+fn list(source: &[u8], tokens: &[Token]) -> Option<usize>
+    ensures within { IfSome result (λ number. number ≤ length tokens.now) }
+    ensures is { IfSome result (λ number. x.IsList (words source.now (take number tokens.now))) }
+{
+    let head = operand(source, tokens)?;
+    let tail = behind_word(source, b"::".as_slice(), &tokens[head..])?;
+    Some(head + tail)
 }

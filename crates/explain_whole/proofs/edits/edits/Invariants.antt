@@ -5,4 +5,4 @@ use Rattle.explain_whole.specs.Read.{places_of}
 use Rattle.explain_whole.proofs.edits.edits.Given as goal
 
 abbrev pub invariant-loop-place : goal.invariant-loop-place
-invariant-loop-place l = AreEditsAt (places_of (take l.place-index l.chosen)) (edits_of l.edits.items)
+invariant-loop-place l = AreEditsAt l.source l.tokens (places_of (take l.place-index l.chosen)) (edits_of l.edits.items)
