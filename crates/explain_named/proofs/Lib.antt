@@ -3,5 +3,7 @@ pub mod Plain
 pub mod Surely
 pub mod Inside
 pub mod Keep
+pub mod Placed
+pub mod Grown
 pub mod Arguments
 pub mod Appended

@@ -1,4 +1,8 @@
 // The calls of a function's body, and where a `let` may stand in it.
+ghost use Rattle.std.specs.Prelude.{◌≡◌, IfOk, OnOk};
+ghost use Rattle.raml_syntax.specs.Read.{term_of, terms_of};
+ghost use Rattle.explain_named.specs.Found as f;
+
 use crate::atoms::are_plain;
 use raml_syntax::{Expr, Form, Name};
 use std::alloc::{AllocError, Global};
@@ -18,7 +22,9 @@ pub struct Blocks<'a> {
 }
 
 /// Those of a body.
-pub fn blocks<'a>(alloc: Global, body: &'a Expr) -> Result<Blocks<'a>, AllocError> {
+pub fn blocks<'a>(alloc: Global, body: &'a Expr) -> Result<Blocks<'a>, AllocError>
+    ensures { IfOk result (λ found. f.lent_terms found.blocks.items ≡ f.behind (f.parts (term_of body.now)) (term_of body.now)) }
+{
     let mut found = Blocks {
         blocks: Vec::new(alloc),
         calls: Vec::new(alloc),
@@ -29,7 +35,9 @@ pub fn blocks<'a>(alloc: Global, body: &'a Expr) -> Result<Blocks<'a>, AllocErro
 
 /// Adds an expression that stands where any may, behind what is in it.
 #[cycle(add)]
-fn add_block<'a>(e: &'a Expr, found: &mut Blocks<'a>) -> Result<(), AllocError> {
+fn add_block<'a>(e: &'a Expr, found: &mut Blocks<'a>) -> Result<(), AllocError>
+    ensures { OnOk result (f.Adds found.old found.new (f.behind (f.parts (term_of e.now)) (term_of e.now))) }
+{
     add(e, found)?;
     found.blocks.push(e)?;
     Ok(())
@@ -37,7 +45,9 @@ fn add_block<'a>(e: &'a Expr, found: &mut Blocks<'a>) -> Result<(), AllocError> 
 
 /// Adds what is in an expression.
 #[cycle(add)]
-fn add<'a>(e: &'a Expr, found: &mut Blocks<'a>) -> Result<(), AllocError> {
+fn add<'a>(e: &'a Expr, found: &mut Blocks<'a>) -> Result<(), AllocError>
+    ensures { OnOk result (f.Adds found.old found.new (f.parts (term_of e.now))) }
+{
     match &e.form {
         Form::Number(_) | Form::Truth(_) | Form::Nil | Form::Leaf | Form::Nothing | Form::Var(_) =>
             Ok(()),
@@ -64,24 +74,26 @@ fn add<'a>(e: &'a Expr, found: &mut Blocks<'a>) -> Result<(), AllocError> {
     }
 }
 
-/// Adds a call, if it is one of variables and constants, and what is in its arguments.
+/// Adds a call, if it is one of variables and constants, and its arguments.
 #[cycle(add)]
 fn add_call<'a>(
     function: &'a Name,
     args: &'a [Expr],
     found: &mut Blocks<'a>,
-) -> Result<(), AllocError> {
+) -> Result<(), AllocError>
+    ensures { OnOk result (f.Adds found.old found.new (f.parts_of_all (terms_of args.now))) }
+{
     if are_plain(args) {
         found.calls.push(PlainCall { function, args })?;
-        Ok(())
-    } else {
-        add_all(args, found)
     }
+    add_all(args, found)
 }
 
 /// Adds arguments.
 #[cycle(add)]
-fn add_all<'a>(args: &'a [Expr], found: &mut Blocks<'a>) -> Result<(), AllocError> {
+fn add_all<'a>(args: &'a [Expr], found: &mut Blocks<'a>) -> Result<(), AllocError>
+    ensures { OnOk result (f.Adds found.old found.new (f.parts_of_all (terms_of args.now))) }
+{
     match args {
         [] => Ok(()),
         [arg, rest @ ..] => {

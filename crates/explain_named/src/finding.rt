@@ -1,12 +1,15 @@
 // The calls that may be named.
-ghost use Rattle.std.specs.Prelude.{◌≡◌};
+ghost use Rattle.std.specs.Prelude.{◌≡◌, IfOk, OnOk};
+ghost use Rattle.std.specs.List.{All, Contains};
+ghost use Rattle.raml_syntax.specs.Read.{program_of, function_of, term_of};
+ghost use Rattle.explain_named.specs.Found.{blocks, naming_by, IsCandidate, IsCandidateIn, Grows};
 ghost use Rattle.explain_named.specs.Read.{naming_of, candidate_naming};
 
 use crate::blocks::{Blocks, PlainCall, blocks};
-use crate::certain::certain;
 use crate::mentions::mentions;
 use crate::naming::Naming;
 use crate::occurrences::occurrences;
+use crate::place::may_name;
 use raml_syntax::{Expr, Fun, Name, Pos, Program};
 use std::alloc::{AllocError, Global};
 
@@ -46,7 +49,9 @@ impl<'a> Candidate<'a> {
 pub fn candidates<'a>(
     alloc: Global,
     program: &'a Program,
-) -> Result<Vec<Candidate<'a>>, AllocError> {
+) -> Result<Vec<Candidate<'a>>, AllocError>
+    ensures { IfOk result (λ found. All (IsCandidate (program_of program.now)) found.items) }
+{
     let mut found = Vec::new(alloc);
     for fun in &program.funs {
         add_of(alloc, fun, &mut found)?;
@@ -59,7 +64,9 @@ fn add_of<'a>(
     alloc: Global,
     fun: &'a Fun,
     found: &mut Vec<Candidate<'a>>,
-) -> Result<(), AllocError> {
+) -> Result<(), AllocError>
+    ensures { OnOk result (Grows (IsCandidateIn (function_of fun.now)) found.old.items found.new.items) }
+{
     let Some(name) = new_name(alloc, &fun.body)? else {
         return Ok(());
     };
@@ -98,7 +105,10 @@ fn add_around<'a>(
     inside: &Blocks<'a>,
     name: &Name,
     found: &mut Vec<Candidate<'a>>,
-) -> Result<(), AllocError> {
+) -> Result<(), AllocError>
+    requires { Contains (blocks (function_of fun.now)) (term_of block.now) }
+    ensures { OnOk result (Grows (IsCandidateIn (function_of fun.now)) found.old.items found.new.items) }
+{
     for call in &inside.calls {
         add_call(alloc, fun, block, *call, name, found)?;
     }
@@ -113,29 +123,48 @@ fn add_call<'a>(
     call: PlainCall<'a>,
     name: &Name,
     found: &mut Vec<Candidate<'a>>,
-) -> Result<(), AllocError> {
+) -> Result<(), AllocError>
+    requires { Contains (blocks (function_of fun.now)) (term_of block.now) }
+    ensures { OnOk result (Grows (IsCandidateIn (function_of fun.now)) found.old.items found.new.items) }
+{
     let naming = Naming {
         at: block.at,
         function: call.function,
         args: call.args,
         name,
     };
-    if !certain(naming, true, block) {
+    if !may_name(naming, block) {
         return Ok(());
     }
     let places = occurrences(alloc, naming, block)?;
     if places.len() < 2 || is_found(&places, found) {
         return Ok(());
     }
-    found.push(Candidate {
-        at: block.at,
+    found.push(candidate(alloc, fun, block.at, call, name, places)?)?;
+    Ok(())
+}
+
+/// The candidate for a call in a function.
+fn candidate<'a>(
+    alloc: Global,
+    fun: &'a Fun,
+    at: Pos,
+    call: PlainCall<'a>,
+    name: &Name,
+    places: Vec<Pos>,
+) -> Result<Candidate<'a>, AllocError>
+    ensures at { IfOk result (λ c. c.at.0 ≡ at.0) }
+    ensures host { IfOk result (λ c. c.host.now ≡ fun.now.name) }
+    ensures naming { IfOk result (λ c. candidate_naming c ≡ naming_by at.0 call.entry name.now) }
+{
+    Ok(Candidate {
+        at,
         host: &fun.name,
         function: call.function,
         args: call.args,
         name: Name::new(alloc, name.text())?,
         places,
-    })?;
-    Ok(())
+    })
 }
 
 /// Whether one is found of the calls at these places.
