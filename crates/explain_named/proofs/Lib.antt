@@ -3,6 +3,7 @@ pub mod Plain
 pub mod Surely
 pub mod Inside
 pub mod Keep
+pub mod Begins
 pub mod Placed
 pub mod Grown
 pub mod Arguments

@@ -4,4 +4,5 @@ pub mod Keep
 pub mod Each
 pub mod Arguments
 pub mod Appended
+pub mod Extents
 pub mod Only

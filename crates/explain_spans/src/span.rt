@@ -1,5 +1,5 @@
 // Operands, and words with an operand behind them.
-ghost use Rattle.std.specs.Prelude.{◌≡◌, ◌+◌, ◌-◌, ◌≤◌, ◌∷◌, [], length, take, drop, IfSome, IsTrue, Some, slice_get};
+ghost use Rattle.std.specs.Prelude.{◌≡◌, ◌+◌, ◌-◌, ◌≤◌, ◌<◌, ◌∷◌, [], length, take, drop, IfSome, IsTrue, Some, slice_get};
 ghost use Rattle.std.specs.Str.{bytes_eq};
 ghost use Rattle.explain_spans.specs.Spans as s;
 
@@ -9,7 +9,8 @@ use raml_syntax::Pos;
 
 /// Which token begins at a byte.
 pub fn token_at(tokens: &[Token], at: Pos) -> Option<usize>
-    ensures { IfSome result (s.BeginsAt tokens.now at.0) }
+    ensures within { IfSome result (λ place. place < length tokens.now) }
+    ensures begins { IfSome result (s.BeginsAt tokens.now at.0) }
 {
     for place in 0..tokens.len() {
         if tokens[place].at.0 == at.0 {
