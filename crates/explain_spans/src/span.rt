@@ -28,15 +28,15 @@ fn is_word(source: &[u8], token: &Token, text: &[u8]) -> bool
 }
 
 /// How many parentheses are open behind a token, where so many are in front of it. None where one is closed that none opened.
-fn open_behind(source: &[u8], token: &Token, open: usize) -> Option<usize>
-    ensures { IfSome result (λ now. now + s.closed (s.word source.now token.now ∷ []) ≡ open + s.opened (s.word source.now token.now ∷ [])) }
+fn open_behind(source: &[u8], token: &Token, before: usize) -> Option<usize>
+    ensures { IfSome result (λ now. now + s.closed (s.word source.now token.now ∷ []) ≡ before + s.opened (s.word source.now token.now ∷ [])) }
 {
     if is_word(source, token, b"(".as_slice()) {
-        open.checked_add(1)
+        before.checked_add(1)
     } else if is_word(source, token, b")".as_slice()) {
-        open.checked_sub(1)
+        before.checked_sub(1)
     } else {
-        Some(open)
+        Some(before)
     }
 }
 
@@ -45,10 +45,10 @@ pub fn operand(source: &[u8], tokens: &[Token]) -> Option<usize>
     ensures within { IfSome result (λ number. number ≤ length tokens.now) }
     ensures operand { IfSome result (λ number. s.IsOperand (s.words source.now (take number tokens.now))) }
 {
-    let mut open: usize = 0;
+    let mut depth: usize = 0;
     for place in 0..tokens.len() {
-        open = open_behind(source, &tokens[place], open)?;
-        if open == 0 {
+        depth = open_behind(source, &tokens[place], depth)?;
+        if depth == 0 {
             return Some(place + 1);
         }
     }

@@ -4,4 +4,4 @@ use Rattle.explain_spans.proofs.Open.{IsOpen}
 use Rattle.explain_spans.proofs.span.operand.Given as goal
 
 abbrev pub invariant-loop-place : goal.invariant-loop-place
-invariant-loop-place l = IsOpen (words l.source (take l.place l.tokens)) l.open
+invariant-loop-place l = IsOpen (words l.source (take l.place l.tokens)) l.depth
