@@ -10,7 +10,7 @@ use Rattle.explain_named.specs.Naming.{Naming, may_name}
 use Rattle.explain_named.specs.Named.{begin}
 use Rattle.explain_named.specs.Read.{candidate_naming}
 use Rattle.explain_named.specs.declared.finding.Candidate.{Candidate}
-use Rattle.explain_named.specs.declared.blocks.Blocks.{Blocks}
+use Rattle.explain_named.specs.declared.blocks.Contents.{Contents}
 use Rattle.explain_named.specs.declared.blocks.PlainCall.{PlainCall}
 
 -- an expression behind those that are in it
@@ -69,7 +69,7 @@ abbrev pub naming_by : ℕ → PlainCall → Text → Naming
 naming_by at call name = record { at = at; function = call.function.now; args = terms_of call.args.now; name = name }
 
 -- these expressions are there, behind others
-abbrev pub Adds : Blocks → Blocks → List t.Term → Type 0
+abbrev pub Adds : Contents → Contents → List t.Term → Type 0
 Adds old new es = lent_terms new.blocks.items ≡ lent_terms old.blocks.items ++ es
 
 -- all that are there behind others are so

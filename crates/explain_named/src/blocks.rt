@@ -16,16 +16,16 @@ pub struct PlainCall<'a> {
 
 /// Expressions that stand where any may, those in others before these, and calls of variables and constants.
 #[derive(Drop)]
-pub struct Blocks<'a> {
+pub struct Contents<'a> {
     pub blocks: Vec<&'a Expr>,
     pub calls: Vec<PlainCall<'a>>,
 }
 
 /// Those of a body.
-pub fn blocks<'a>(alloc: Global, body: &'a Expr) -> Result<Blocks<'a>, AllocError>
+pub fn blocks<'a>(alloc: Global, body: &'a Expr) -> Result<Contents<'a>, AllocError>
     ensures { IfOk result (λ found. f.lent_terms found.blocks.items ≡ f.behind (f.parts (term_of body.now)) (term_of body.now)) }
 {
-    let mut found = Blocks {
+    let mut found = Contents {
         blocks: Vec::new(alloc),
         calls: Vec::new(alloc),
     };
@@ -35,7 +35,7 @@ pub fn blocks<'a>(alloc: Global, body: &'a Expr) -> Result<Blocks<'a>, AllocErro
 
 /// Adds an expression that stands where any may, behind what is in it.
 #[cycle(add)]
-fn add_block<'a>(e: &'a Expr, found: &mut Blocks<'a>) -> Result<(), AllocError>
+fn add_block<'a>(e: &'a Expr, found: &mut Contents<'a>) -> Result<(), AllocError>
     ensures { OnOk result (f.Adds found.old found.new (f.behind (f.parts (term_of e.now)) (term_of e.now))) }
 {
     add(e, found)?;
@@ -45,7 +45,7 @@ fn add_block<'a>(e: &'a Expr, found: &mut Blocks<'a>) -> Result<(), AllocError>
 
 /// Adds what is in an expression.
 #[cycle(add)]
-fn add<'a>(e: &'a Expr, found: &mut Blocks<'a>) -> Result<(), AllocError>
+fn add<'a>(e: &'a Expr, found: &mut Contents<'a>) -> Result<(), AllocError>
     ensures { OnOk result (f.Adds found.old found.new (f.parts (term_of e.now))) }
 {
     match &e.form {
@@ -79,7 +79,7 @@ fn add<'a>(e: &'a Expr, found: &mut Blocks<'a>) -> Result<(), AllocError>
 fn add_call<'a>(
     function: &'a Name,
     args: &'a [Expr],
-    found: &mut Blocks<'a>,
+    found: &mut Contents<'a>,
 ) -> Result<(), AllocError>
     ensures { OnOk result (f.Adds found.old found.new (f.parts_of_all (terms_of args.now))) }
 {
@@ -91,7 +91,7 @@ fn add_call<'a>(
 
 /// Adds arguments.
 #[cycle(add)]
-fn add_all<'a>(args: &'a [Expr], found: &mut Blocks<'a>) -> Result<(), AllocError>
+fn add_all<'a>(args: &'a [Expr], found: &mut Contents<'a>) -> Result<(), AllocError>
     ensures { OnOk result (f.Adds found.old found.new (f.parts_of_all (terms_of args.now))) }
 {
     match args {

@@ -63,13 +63,13 @@ fn opening<'a>(alloc: Global, source: &[u8], naming: Naming<'a>) -> Result<Edit,
     ensures { IfOk result (λ edit. edit_of edit ≡ d.opening source.now (naming_of naming.entry)) }
 {
     let at = naming.at.0 as usize;
-    let space = space(ends_word(source, at));
+    let gap = space(ends_word(source, at));
     let (name, function) = (naming.name.text(), naming.function.text());
     let args = args_text(alloc, naming.args)?;
     Ok(Edit {
         at,
         length: 0,
-        text: format!(in alloc; "{space}let {name} = {function}({args}) in ")?,
+        text: format!(in alloc; "{gap}let {name} = {function}({args}) in ")?,
     })
 }
 
@@ -81,17 +81,18 @@ fn replaced<'a>(
     naming: Naming<'a>,
     place: Pos,
 ) -> Result<Option<Edit>, AllocError>
-    ensures { IfOk result (λ edit. IfSome edit (λ made. d.IsReplaced source.now tokens.now (naming_of naming.entry) place.0 (edit_of made))) }
+    ensures { IfOk result (λ edit. IfSome edit (λ made. d.IsReplaced source.now tokens.now (naming_of naming.entry) place.0
+        (edit_of made))) }
 {
     let Some(end) = end_of(source, tokens, naming.function, place) else {
         return Ok(None);
     };
     let at = place.0 as usize;
-    let (name, space) = (naming.name.text(), space(begins_word(source, end)));
+    let (name, gap) = (naming.name.text(), space(begins_word(source, end)));
     Ok(Some(Edit {
         at,
         length: end.saturating_sub(at),
-        text: format!(in alloc; "{name}{space}")?,
+        text: format!(in alloc; "{name}{gap}")?,
     }))
 }
 

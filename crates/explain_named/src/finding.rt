@@ -5,7 +5,7 @@ ghost use Rattle.raml_syntax.specs.Read.{program_of, function_of, term_of};
 ghost use Rattle.explain_named.specs.Found.{blocks, naming_by, IsCandidate, IsCandidateIn, Grows};
 ghost use Rattle.explain_named.specs.Read.{naming_of, candidate_naming};
 
-use crate::blocks::{Blocks, PlainCall, blocks};
+use crate::blocks::{Contents, PlainCall, blocks};
 use crate::mentions::mentions;
 use crate::naming::Naming;
 use crate::occurrences::occurrences;
@@ -102,7 +102,7 @@ fn add_around<'a>(
     alloc: Global,
     fun: &'a Fun,
     block: &'a Expr,
-    inside: &Blocks<'a>,
+    inside: &Contents<'a>,
     name: &Name,
     found: &mut Vec<Candidate<'a>>,
 ) -> Result<(), AllocError>
@@ -140,12 +140,12 @@ fn add_call<'a>(
     if places.len() < 2 || is_found(&places, found) {
         return Ok(());
     }
-    found.push(candidate(alloc, fun, block.at, call, name, places)?)?;
+    found.push(found_call(alloc, fun, block.at, call, name, places)?)?;
     Ok(())
 }
 
 /// The candidate for a call in a function.
-fn candidate<'a>(
+fn found_call<'a>(
     alloc: Global,
     fun: &'a Fun,
     at: Pos,

@@ -74,6 +74,8 @@ pub record Examples : Type 0 where
   -- where there is no such place, nothing changes
   pub no_place : handed_program (3 ∷ []) (program (matched (cons 3) (cons 4))) ≡ program (matched (cons 3) (cons 4))
   -- [7] is made of its parts for one cell and 6 units of work, and handed on for 4 units
-  pub made : run_of (program copied) (function copied) seven 1 ≡ record { out = Some (v.Cons (v.Number (pos 7)) v.Empty); ticks = 0; cells = 1; work = 6 }
-  pub handed_on : run_of (program kept) (function kept) seven 1 ≡ record { out = Some (v.Cons (v.Number (pos 7)) v.Empty); ticks = 0; cells = 0; work = 4 }
+  pub made : run_of (program copied) (function copied) seven 1
+      ≡ record { out = Some (v.Cons (v.Number (pos 7)) v.Empty); ticks = 0; cells = 1; work = 6 }
+  pub handed_on : run_of (program kept) (function kept) seven 1
+      ≡ record { out = Some (v.Cons (v.Number (pos 7)) v.Empty); ticks = 0; cells = 0; work = 4 }
   pub change : handed_program (4 ∷ []) (program copied) ≡ program kept

@@ -32,7 +32,8 @@ pub fn same_let_pair<'a>(
     b: &Expr,
     other: &Expr,
 ) -> bool
-    ensures { IsTrue result ↔ Same (named_at spot.entry (t.LetPair 0 (bound_of x.now) (bound_of y.now) (term_of a.now) (term_of b.now))) (term_of other.now) }
+    ensures { IsTrue result ↔ Same (named_at spot.entry (t.LetPair 0 (bound_of x.now) (bound_of y.now) (term_of a.now)
+        (term_of b.now))) (term_of other.now) }
 {
     match &other.form {
         Form::LetPair(u, v, c, d) => {
@@ -56,7 +57,8 @@ pub fn same_match_list<'a>(
     c: &Expr,
     other: &Expr,
 ) -> bool
-    ensures { IsTrue result ↔ Same (named_at spot.entry (t.MatchList 0 (term_of a.now) (term_of b.now) (bound_of x.now) (bound_of y.now) (term_of c.now))) (term_of other.now) }
+    ensures { IsTrue result ↔ Same (named_at spot.entry (t.MatchList 0 (term_of a.now) (term_of b.now) (bound_of x.now)
+        (bound_of y.now) (term_of c.now))) (term_of other.now) }
 {
     match &other.form {
         Form::MatchList(d, f, u, v, g) => {
@@ -82,7 +84,8 @@ pub fn same_match_tree<'a>(
     c: &Expr,
     other: &Expr,
 ) -> bool
-    ensures { IsTrue result ↔ Same (named_at spot.entry (t.MatchTree 0 (term_of a.now) (term_of b.now) (bound_of x.now) (bound_of y.now) (bound_of z.now) (term_of c.now))) (term_of other.now) }
+    ensures { IsTrue result ↔ Same (named_at spot.entry (t.MatchTree 0 (term_of a.now) (term_of b.now) (bound_of x.now)
+        (bound_of y.now) (bound_of z.now) (term_of c.now))) (term_of other.now) }
 {
     match &other.form {
         Form::MatchTree(d, f, u, v, w, g) => {
@@ -107,7 +110,8 @@ pub fn same_match_option<'a>(
     c: &Expr,
     other: &Expr,
 ) -> bool
-    ensures { IsTrue result ↔ Same (named_at spot.entry (t.MatchOption 0 (term_of a.now) (term_of b.now) (bound_of x.now) (term_of c.now))) (term_of other.now) }
+    ensures { IsTrue result ↔ Same (named_at spot.entry (t.MatchOption 0 (term_of a.now) (term_of b.now) (bound_of x.now)
+        (term_of c.now))) (term_of other.now) }
 {
     match &other.form {
         Form::MatchOption(d, f, u, g) => {

@@ -86,7 +86,8 @@ fn same_below_tree<'s, 'a>(
     other: &Expr,
 ) -> bool
     ensures { IsTrue result ↔ Same (h.handed (bytes_of spot.entry.chosen.now)
-        (w.in_tree (scope_in spot.entry.scope.now) (term_of subject.now) x.now.name y.now.name z.now.name) (term_of e.now)) (term_of other.now) }
+        (w.in_tree (scope_in spot.entry.scope.now) (term_of subject.now) x.now.name y.now.name z.now.name) (term_of e.now))
+        (term_of other.now) }
 {
     let one = spot.scope.with_name(&x.name, None);
     let two = one.with_name(&y.name, None);
