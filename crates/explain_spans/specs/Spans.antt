@@ -1,5 +1,6 @@
 -- Where an expression stands among the tokens of its source.
-use Rattle.std.specs.Prelude.{◌≡◌, ◌+◌, ◌-◌, ◌<◌, ℕ, zero, suc, List, [], ◌∷◌, Bool, false, cond, Some, length, take, drop, map, codes, slice_get}
+use Rattle.std.specs.Prelude.{◌≡◌, ◌+◌, ◌-◌, ◌<◌, ℕ, zero, suc, List, [], ◌∷◌, Bool, false, cond, Some}
+use Rattle.std.specs.Prelude.{length, take, drop, map, codes, slice_get}
 use Rattle.std.specs.Str.{bytes_eq}
 use Rattle.raml_syntax.specs.Tree.{Text}
 use Rattle.raml_lex.specs.Lexemes.{is_name_part}

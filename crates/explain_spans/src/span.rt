@@ -1,5 +1,5 @@
 // Operands, and words with an operand behind them.
-ghost use Rattle.std.specs.Prelude.{◌≡◌, ◌+◌, ◌-◌, ◌≤◌, ◌<◌, ◌∷◌, [], length, take, drop, IfSome, IsTrue, Some, slice_get};
+ghost use Rattle.std.specs.Prelude.{◌≡◌, ◌+◌, ◌-◌, ◌≤◌, ◌<◌, ◌∷◌, [], length, take, IfSome};
 ghost use Rattle.std.specs.Str.{bytes_eq};
 ghost use Rattle.explain_spans.specs.Spans as s;
 
@@ -29,7 +29,8 @@ fn is_word(source: &[u8], token: &Token, text: &[u8]) -> bool
 
 /// How many parentheses are open behind a token, where so many are in front of it. None where one is closed that none opened.
 fn open_behind(source: &[u8], token: &Token, before: usize) -> Option<usize>
-    ensures { IfSome result (λ now. now + s.closed (s.word source.now token.now ∷ []) ≡ before + s.opened (s.word source.now token.now ∷ [])) }
+    ensures { IfSome result (λ now. now + s.closed (s.word source.now token.now ∷ [])
+        ≡ before + s.opened (s.word source.now token.now ∷ [])) }
 {
     if is_word(source, token, b"(".as_slice()) {
         before.checked_add(1)
