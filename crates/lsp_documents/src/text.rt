@@ -1,8 +1,7 @@
 // A text with the starts of its lines.
-ghost use Rattle.std.specs.Prelude.{◌≡◌, ◌≤◌, Some, None, IfOk, IsErrOf, string_bytes, IsCharBoundary, option_map};
-ghost use Rattle.lsp_positions.specs.Lines.{line_starts};
+ghost use Rattle.std.specs.Prelude.{◌≡◌, Some, None, IfOk, IsErrOf, string_bytes, IsCharBoundary};
 ghost use Rattle.lsp_positions.specs.Positions.{offset_of, position_of};
-ghost use Rattle.lsp_documents.specs.Changes.{changed, changed_in, replaced, replaced_between};
+ghost use Rattle.lsp_documents.specs.Changes.{changed, changed_in, replaced};
 
 use crate::change::{Change, ChangeFault, Range};
 use lsp_positions::{Encoding, LineTable, Position};
@@ -75,11 +74,24 @@ impl LinedText {
         ensures changed { IfOk result (λ next. changed encoding self.now change.now ≡ Some next) }
         ensures refused { IsErrOf result ChangeFault.EndBeforeStart → changed encoding self.now change.now ≡ None }
     {
-        let text = match change.range {
-            None => String::from_str(alloc, change.text.as_str())?,
-            Some(range) => self.replaced(alloc, encoding, range, change.text.as_str())?,
-        };
+        let text = self.text_after(alloc, encoding, change)?;
         Ok(LinedText::new(alloc, text)?)
+    }
+
+    // The bytes once a change is made.
+    fn text_after(
+        &self,
+        alloc: Global,
+        encoding: Encoding,
+        change: &Change,
+    ) -> Result<String, ChangeFault>
+        ensures changed { IfOk result (λ text. changed encoding self.now change.now ≡ Some (string_bytes text)) }
+        ensures refused { IsErrOf result ChangeFault.EndBeforeStart → changed encoding self.now change.now ≡ None }
+    {
+        match change.range {
+            None => Ok(String::from_str(alloc, change.text.as_str())?),
+            Some(range) => self.replaced(alloc, encoding, range, change.text.as_str()),
+        }
     }
 
     // The bytes once a part is replaced.

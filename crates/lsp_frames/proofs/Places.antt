@@ -18,22 +18,15 @@ found_none mark (b ∷ bs) (suc place) before within =
     let later : first_place mark bs ≡ None = found_none mark bs place (λ k h. before (suc k) (omega (arith, h))) (omega arith) in
     (λ i. cond (first i) (Some 0) (option_map suc (later i)))
 
-pub nothing_before : (mark bytes : List ℕ) → NoneBefore mark 0 bytes
-nothing_before mark bytes k h = absurd (omega (arith, h))
-
--- the mark is not at this place either
-pub none_here : (mark bytes : List ℕ) (place : ℕ) → NoneBefore mark place bytes → begins mark (drop place bytes) ≡ false → NoneBefore mark (place + 1) bytes
-none_here mark bytes place before here k h = borrow.Author.Count.below_more (λ k. begins mark (drop k bytes) ≡ false) place before here k h
-
 moved : (k : ℕ) → suc (k + 2) ≡ suc k + 2
 moved k = omega arith
 
 -- the lines behind the first one
-pub cut_lines : List ℕ → Option ℕ → List (List ℕ)
+cut_lines : List ℕ → Option ℕ → List (List ℕ)
 cut_lines bytes None = bytes ∷ []
 cut_lines bytes (Some place) = take place bytes ∷ lines (drop (place + 2) bytes)
 
-pub lines_cut : (bytes : List ℕ) → lines bytes ≡ cut_lines bytes (first_place line_end bytes)
+lines_cut : (bytes : List ℕ) → lines bytes ≡ cut_lines bytes (first_place line_end bytes)
 unfolding cut_lines
 lines_cut [] = refl
 lines_cut (b ∷ []) = elim (nat_eq 13 b) as (λ v. (b ∷ []) ∷ [] ≡ cut_lines (b ∷ []) (cond (v && false) (Some 0) None)) [ true ↦ refl | false ↦ refl ]

@@ -12,7 +12,7 @@ use Rattle.lsp_frames.specs.Fields.{number_after, number_in, is_numeral, length_
 use Rattle.lsp_frames.specs.Frames.{Open, Bad, Told, head_of, head_at, head_told, most_header, Front, More, Faulty, Whole, front, front_by, frame}
 use Rattle.lsp_frames.specs.declared.field.FrameFault.TheVariants.{ContentTooLong, NotANumber}
 use Rattle.std.specs.Str.{bytes_eq}
-use Rattle.lsp_frames.proofs.Places.{found_first, found_none, nothing_before, lines_cut, cut_lines}
+use Rattle.lsp_frames.proofs.Places.{found_first, found_none, only_line}
 use Rattle.lsp_frames.proofs.Marks.{take_of_both}
 use Rattle.lsp_frames.proofs.Streams.{is_le}
 
@@ -80,12 +80,15 @@ same_number : (n : ℕ) (ds : List ℕ) → AllDigits 10 ds → number_after n d
 same_number n [] h = refl
 same_number n (d ∷ ds) h = ap (λ m. number_after (n * 10 + m) ds) (sym (digit_bounds d h.0).2) ∙ same_number (n * 10 + digit_value d) ds h.1
 
+not_empty : (n : ℕ) → nat_eq (suc n) 0 ≡ false
+not_empty n = grind (arith, nat_tests)
+
 numeral_read : (ds : List ℕ) → AllDigits 10 ds → 0 < length ds → number_after 0 ds ≤ most_content → number_in ds ≡ Ok (Some (number_after 0 ds))
 numeral_read [] h some few = absurd (omega (arith, some))
 numeral_read (d ∷ ds) h some few =
-    let n = number_after 0 (d ∷ ds) in
-    ap (λ t. cond t (cond (nat_le n most_content) (Ok (Some n)) (Err ContentTooLong)) (Err NotANumber)) (all_digits (d ∷ ds) h)
-    ∙ ap (λ t. cond t (Ok (Some n)) (Err ContentTooLong)) (is_le n most_content few)
+    let numeral : is_numeral (d ∷ ds) ≡ true = (λ i. not (not_empty (length ds) i) && all_digits (d ∷ ds) h i) in
+    let short : nat_le (number_after 0 (d ∷ ds)) most_content ≡ true = is_le (number_after 0 (d ∷ ds)) most_content few in
+    (λ i. cond (numeral i) (cond (short i) (Ok (Some (number_after 0 (d ∷ ds)))) (Err ContentTooLong)) (Err NotANumber))
 
 -- the header part
 
@@ -101,10 +104,9 @@ unfolding name
 field_read ds h = let first : told_by (name ++ ds) ≡ number_in (trimmed ds) = refl in first ∙ ap number_in (untrimmed ds (digits_have_no_blank ds h))
 
 one_line : (xs : List ℕ) → NoReturn xs → lines xs ≡ xs ∷ []
-unfolding cut_lines
 one_line xs h =
     let nowhere : NoneBefore line_end (length xs) xs = subst (NoneBefore line_end (length xs)) (append-nil xs) (unmarked (10 ∷ []) xs [] h) in
-    lines_cut xs ∙ ap (cut_lines xs) (found_none line_end xs (length xs) nowhere (omega arith))
+    only_line xs (sym (found_none line_end xs (length xs) nowhere (omega arith)))
 
 header_read : (ds : List ℕ) → AllDigits 10 ds → 0 < length ds → number_after 0 ds ≤ most_content → length_in (name ++ ds) ≡ Ok (number_after 0 ds)
 header_read ds h some few =

@@ -52,8 +52,8 @@ inside byte next e = record { newline = one (is_newline byte) (is_return byte) (
 
     two : (p q r : Bool) → (p || (q && not r)) ≡ false → q ≡ true → r ≡ true
     two p q true h k = refl
-    two true q false h k = absurd (let wrong : true ≡ false = h in cc no)
-    two false true false h k = absurd (let wrong : true ≡ false = h in cc no)
+    two true q false h k = absurd (let wrong : true ≡ false = h in cc wrong)
+    two false true false h k = absurd (let wrong : true ≡ false = h in cc wrong)
     two false false false h k = k
 
 inside_at : (text : List ℕ) (place line i : ℕ) → IsLine text place line → place ≤ length text → get_or (line_starts text) line 0 ≤ i → i < place → IsInside (get_or text i 0) (get_or text (suc i) 0)
@@ -70,14 +70,14 @@ no_ending text place line i h within from before last = go (is_return (get_or te
     go : (t : Bool) → is_return (get_or text i 0) ≡ t → (suc i < place) ⊎ (place ≤ suc i) → is_ending (get_or text i 0) ≡ false
     go false e side = (λ k. (inside_at text place line i h within from before).newline k || e k)
     go true e (inl more) =
-        let yes : is_newline (get_or text (suc i) 0) ≡ true = (inside_at text place line i h within from before).return e in
-        let wrong : is_newline (get_or text (suc i) 0) ≡ false = (inside_at text place line (suc i) h within (omega (arith, from)) more).newline in
-        let both : true ≡ false = sym yes ∙ no in
+        let there : is_newline (get_or text (suc i) 0) ≡ true = (inside_at text place line i h within from before).return e in
+        let gone : is_newline (get_or text (suc i) 0) ≡ false = (inside_at text place line (suc i) h within (omega (arith, from)) more).newline in
+        let both : true ≡ false = sym there ∙ gone in
         absurd (cc both)
     go true e (inr end) =
-        let yes : is_newline (get_or text (suc i) 0) ≡ true = (inside_at text place line i h within from before).return e in
-        let wrong : is_newline (get_or text (suc i) 0) ≡ false = last (omega (arith, before, end)) e in
-        let both : true ≡ false = sym yes ∙ no in
+        let there : is_newline (get_or text (suc i) 0) ≡ true = (inside_at text place line i h within from before).return e in
+        let gone : is_newline (get_or text (suc i) 0) ≡ false = last (omega (arith, before, end)) e in
+        let both : true ≡ false = sym there ∙ gone in
         absurd (cc both)
 
 -- the offset of a position in the line of a place
@@ -174,6 +174,9 @@ start_apart text place (suc line) h ending = go (cases_lt (get_or (line_starts t
             ∙ (λ i. ends_line (get_or text (sym first i) 0) (drop (sym rest i) text)) ∙ s.ends in
         absurd (cc wrong)
 
+no_ending_before : (text : List ℕ) (place : ℕ) → IsWithinEnding text place → ¬ (IsWithinEnding text (place - 1))
+no_ending_before text place ending other = let wrong : 13 ≡ 10 = sym ending.1 ∙ other.2 in omega (arith, wrong)
+
 from_ending : (encoding : Encoding) (text : List ℕ) (place line : ℕ) → IsLine text place line → place < length text → IsWithinEnding text place →
     offset_of encoding text (record { line = line; character = units encoding (drop (get_or (line_starts text) line 0) (take place text)) }) ≡ place - 1
 from_ending encoding text place line h within ending =
@@ -182,8 +185,7 @@ from_ending encoding text place line h within ending =
     let k = place - 1 - start in
     let rest = length-drop start text in
     let earlier : IsLine text (place - 1) line = record { within = h.within; start = omega (arith, apart); next = λ j more few. let later = h.next j more few in omega (arith, later) } in
-    let outside : ¬ (IsWithinEnding text (place - 1)) = λ e. let wrong : 13 ≡ 10 = sym ending.1 ∙ e.2 in absurd (omega (arith, wrong)) in
-    let free = free_before text (place - 1) line earlier (omega (arith, within)) outside in
+    let free = free_before text (place - 1) line earlier (omega (arith, within)) (no_ending_before text place ending) in
     let front = unended (drop start text) k (omega (arith, rest, within, apart)) free in
     let sum : start + k ≡ place - 1 = omega (arith, apart) in
     let last : get_or (drop start text) k 0 ≡ 13 = reads_from text start k ∙ ap (λ n. get_or text n 0) sum ∙ ending.1 in

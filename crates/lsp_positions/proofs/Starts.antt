@@ -227,7 +227,7 @@ line_before text starts place next e few below above =
   where
     at : (next : ℕ) → next ≤ length (line_starts text) → ((k : ℕ) → k < next → get_or (line_starts text) k 0 < place) →
         ((k : ℕ) → next ≤ k → k < length (line_starts text) → place < get_or (line_starts text) k 0) → (0 < next) × IsLine text place (next - 1)
-    at zero few below above = let no = above 0 (omega arith) (omega arith) in absurd (omega (arith, wrong))
+    at zero few below above = let wrong = above 0 (omega arith) (omega arith) in absurd (omega (arith, wrong))
     at (suc n) few below above =
         let last = below n (omega arith) in
         (omega arith, record { within = omega (arith, few); start = omega (arith, last); next = λ k less more. above k (omega (arith, less)) more })
